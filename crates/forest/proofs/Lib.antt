@@ -26,6 +26,9 @@ mod StraightVlx
 mod StraightWalk
 mod StraightLook
 mod StraightReads
+mod StraightSearch
+mod StraightVisit
+mod StraightValidate
 mod StraightUpdate
 mod Took
 mod Versions

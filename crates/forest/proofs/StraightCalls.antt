@@ -7,8 +7,7 @@ use Rattle.arena.specs.declared.step.Step.{Step}
 use Rattle.arena.specs.History.{History}
 use Rattle.arena.specs.Machines.{Call}
 use Rattle.arena.specs.Share.{Remaining}
-use Rattle.order.specs.Range.Known.{IsSameRange, RangeAnswers, RangeIsReady, RangeWaits}
-use Rattle.order.specs.Successor.Known.{SuccessorAnswers, SuccessorIsReady, SuccessorWaits}
+use Rattle.order.specs.Range.Known.{IsSameRange}
 use Rattle.order.specs.declared.range.RangeRun.{RangeRun}
 use Rattle.order.specs.declared.refused.Refused.{Refused}
 use Rattle.order.specs.declared.successor.SuccessorRun.{SuccessorRun}
@@ -37,7 +36,7 @@ use Rattle.dict.specs.declared.told.WordReply.{WordReply}
 use Rattle.dict.proofs.Lemmas.{insert_ends, delete_ends, successor_ends, range_ends, edit_spends, dict_ends}
 use Rattle.forest.specs.declared.view.SeatedPass.{SeatedPass}
 use Rattle.forest.specs.StraightCalls.{DictAllows, DictCallIsReady, DictCallWaits, IsSameDictCall, SeatDictBegins, SeatDictEnds, SeatWordEnds, IsFreshEdit}
-use Rattle.forest.specs.StraightReads.{IsSameSuccessor, ReaderBegins, ReaderEnds, Ranger, Searcher}
+use Rattle.forest.specs.StraightReads.{RangeReader, SearchBegins, SearchEnds, SuccessorReader, VisitBegins, VisitEnds}
 use Rattle.forest.specs.StraightUpdate.{Updater, HasGoneOn, UpdaterBegins, UpdaterEnds}
 use Rattle.forest.specs.declared.straight.calls.WordEdit.TheVariants as edits
 use Rattle.forest.proofs.StraightUpdate.{answers_there}
@@ -167,7 +166,7 @@ module _ {K V : Type 0} (valid_key : K → Type 0) (key : K → ℕ) (valid_valu
     abbrev searching : Remaining → SuccessorRun → DictRun K V
     searching share m = record machine { run = Successor m share }
 
-    pub searcher : Remaining → Searcher allows ready waits same layout number
+    pub searcher : Remaining → SuccessorReader allows ready waits same layout number
     searcher share = record {
       call = c;
       is_layout = is_layout;
@@ -181,11 +180,11 @@ module _ {K V : Type 0} (valid_key : K → Type 0) (key : K → ℕ) (valid_valu
       stays = λ old now is. (ap SuccessorCall is, refl);
     }
 
-    pub search_begins : (ps : List SeatedPass) (share : Remaining) (m : SuccessorRun) → machine.run ≡ Successor m share → SeatDictBegins valid_key key valid_value value_word c ps machine → ReaderBegins allows ready waits same SuccessorIsReady SuccessorWaits IsSameSuccessor layout number (searcher share) ps m
+    pub search_begins : (ps : List SeatedPass) (share : Remaining) (m : SuccessorRun) → machine.run ≡ Successor m share → SeatDictBegins valid_key key valid_value value_word c ps machine → SearchBegins allows ready waits same layout number (searcher share) ps m
     unfolding searcher
     search_begins ps share m is x = record { known = x.known; is = x.is; sound = x.sound; so = (subst (λ r. ready (record machine { run = r }) c (history_of c.layout.mode x.known) None) is x.so.1, begins (λ i. record machine { run = sym is i }) (sym x.so.0)) }
 
-    pub search_ended : (ps : List SeatedPass) (share : Remaining) (m : SuccessorRun) (a : Result (Option Pair) Refused) → ReaderEnds allows ready waits same SuccessorIsReady SuccessorWaits IsSameSuccessor layout number (searcher share) ps SuccessorAnswers m a → ends c ps machine (searching share m) (successor_reply a)
+    pub search_ended : (ps : List SeatedPass) (share : Remaining) (m : SuccessorRun) (a : Result (Option Pair) Refused) → SearchEnds allows ready waits same layout number (searcher share) ps m a → ends c ps machine (searching share m) (successor_reply a)
     unfolding searcher
     search_ended ps share m a x = let y = x.so in record {
       known = x.known;
@@ -205,7 +204,7 @@ module _ {K V : Type 0} (valid_key : K → Type 0) (key : K → ℕ) (valid_valu
     range_call : (old now : RangeRun) → IsSameRange old now → RangeCall now.low now.high now.most ≡ RangeCall old.low old.high old.most
     range_call old now is i = RangeCall (is.0 i) (is.1 i) (is.2 i)
 
-    pub ranger : Remaining → Ranger allows ready waits same layout number
+    pub ranger : Remaining → RangeReader allows ready waits same layout number
     ranger share = record {
       call = c;
       is_layout = is_layout;
@@ -219,11 +218,11 @@ module _ {K V : Type 0} (valid_key : K → Type 0) (key : K → ℕ) (valid_valu
       stays = λ old now is. (range_call old now is, refl);
     }
 
-    pub range_begins : (ps : List SeatedPass) (share : Remaining) (m : RangeRun) → machine.run ≡ Range m share → SeatDictBegins valid_key key valid_value value_word c ps machine → ReaderBegins allows ready waits same RangeIsReady RangeWaits IsSameRange layout number (ranger share) ps m
+    pub range_begins : (ps : List SeatedPass) (share : Remaining) (m : RangeRun) → machine.run ≡ Range m share → SeatDictBegins valid_key key valid_value value_word c ps machine → VisitBegins allows ready waits same layout number (ranger share) ps m
     unfolding ranger
     range_begins ps share m is x = record { known = x.known; is = x.is; sound = x.sound; so = (subst (λ r. ready (record machine { run = r }) c (history_of c.layout.mode x.known) None) is x.so.1, begins (λ i. record machine { run = sym is i }) (sym x.so.0)) }
 
-    pub range_ended : (ps : List SeatedPass) (share : Remaining) (m : RangeRun) (a : Result (Vec Pair Global) Refused) → ReaderEnds allows ready waits same RangeIsReady RangeWaits IsSameRange layout number (ranger share) ps RangeAnswers m a → ends c ps machine (ranging share m) (range_reply a)
+    pub range_ended : (ps : List SeatedPass) (share : Remaining) (m : RangeRun) (a : Result (Vec Pair Global) Refused) → VisitEnds allows ready waits same layout number (ranger share) ps m a → ends c ps machine (ranging share m) (range_reply a)
     unfolding ranger
     range_ended ps share m a x = let y = x.so in record {
       known = x.known;

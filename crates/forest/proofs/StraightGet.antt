@@ -3,6 +3,7 @@ use Rattle.std.proofs.Common.{◌≡◌, ℕ, List, ◌^◌, ◌<◌, Option, No
 use Rattle.std.specs.Option.{option_map}
 use Rattle.arena.specs.declared.layout.Layout.{Layout}
 use Rattle.arena.specs.declared.limits.Mode.TheVariants.{Tree}
+use Rattle.arena.specs.declared.number.NodeNo.{NodeNo}
 use Rattle.arena.specs.declared.step.Kind.TheVariants.{LoadSettled}
 use Rattle.arena.specs.declared.step.Step.{Step}
 use Rattle.arena.specs.declared.word.NodeWord.TheVariants.{Head}
@@ -60,22 +61,22 @@ module _ {K V : Type 0} (valid_key : K → Type 0) (key : K → ℕ) (valid_valu
     abbrev at : WalkRun → DictRun K V
     at = getting share tries wanted
 
-    -- a call is one of a machine that walks
+    -- a call is one of a machine that walks, and keeps no fork
     pub walker : (c : Call) (layout : Layout) (number : ℕ) → c.layout ≡ layout → c.number ≡ number → Walker allows ready waits same layout number
     walker c layout number is_layout is_number = record {
       call = c;
       is_layout = is_layout;
       is_number = is_number;
       first = at (walk_at wanted root_trail Start);
-      with_walk = at;
-      tells = λ m h v x. (c, is_layout, x.1.1.0.0);
-      turns = λ m now h v s goal turn x. (x.0, (record { mode = x.1.0.mode; small = x.1.0.small; number = x.1.0.number; spent = x.1.0.spent }, ((turn c x.1.1.0.0, goal ∙ x.1.1.0.1), x.1.1.1)));
-      stays = λ m now goal. (refl, refl);
+      with_walk = λ walk turn. at walk;
+      tells = λ m turn h v x. (c, is_layout, x.1.1.0.0);
+      turns = λ m now turn h v s goal next x. (x.0, (record { mode = x.1.0.mode; small = x.1.0.small; number = x.1.0.number; spent = x.1.0.spent }, ((next c x.1.1.0.0, goal ∙ x.1.1.0.1), x.1.1.1)));
+      stays = λ m now turn then goal. (refl, refl);
     }
 
   -- its machine waits for the head of the root
   pub get_walks : {T : Type 0} (p : Inside T) (x : IsPass allows Tree p) (tries wanted number : ℕ) (layout : Layout) (is_layout : p.layout ≡ layout) (is_number : taken_of (pass_view p) ≡ number) → wanted < 2 ^ 64
-      → WalkerWaits allows ready waits same layout number (walker p.share tries wanted (call_of p x (taken_of (pass_view p))) layout number is_layout is_number) p.seat.me.0.passes (walk_from wanted) (load LoadSettled (node 0 Head))
+      → WalkerWaits allows ready waits same layout number (walker p.share tries wanted (call_of p x (taken_of (pass_view p))) layout number is_layout is_number) p.seat.me.0.passes (walk_from wanted) record { 0 = 0 } (load LoadSettled (node 0 Head))
   unfolding walker
   get_walks p x tries wanted number layout is_layout is_number small =
       let first : DictRun K V = getting p.share tries wanted (walk_at wanted root_trail Start) in
@@ -90,11 +91,11 @@ module _ {K V : Type 0} (valid_key : K → Type 0) (key : K → ℕ) (valid_valu
   same_told (Some w) v e t = ap (λ (o : Option ℕ). Some (OneValue o)) (e t)
 
   -- what its walk finds, it answers
-  pub get_ended : (share : Remaining) (tries wanted number : ℕ) (layout : Layout) (c : Call) (is_layout : c.layout ≡ layout) (is_number : c.number ≡ number) (ps : List SeatedPass) (f : Found) (v : Option V) → c.layout.mode ≡ Tree → IfSome v valid_value → (IfSome f.value (IsWord valid_value value_word) → option_map value_word v ≡ f.value)
-      → (x : WalkerFinds allows ready waits same layout number (walker share tries wanted c layout number is_layout is_number) ps wanted f)
+  pub get_ended : (share : Remaining) (tries wanted number : ℕ) (layout : Layout) (c : Call) (is_layout : c.layout ≡ layout) (is_number : c.number ≡ number) (ps : List SeatedPass) (turn : NodeNo) (f : Found) (v : Option V) → c.layout.mode ≡ Tree → IfSome v valid_value → (IfSome f.value (IsWord valid_value value_word) → option_map value_word v ≡ f.value)
+      → (x : WalkerFinds allows ready waits same layout number (walker share tries wanted c layout number is_layout is_number) ps wanted turn f)
       → HoldsForCall allows ps c (λ h. DictAnswers valid_key key valid_value value_word (getting share tries wanted x.last) c h (replies.Value v) × Trace allows waits same c (getting share tries wanted (walk_at wanted root_trail Start)) (getting share tries wanted x.last) h)
   unfolding walker
-  get_ended share tries wanted number layout c is_layout is_number ps f v mode valid same_word x =
+  get_ended share tries wanted number layout c is_layout is_number ps turn f v mode valid same_word x =
       record { known = x.so.known; is = x.so.is; sound = x.so.sound; so = (answers _ x.so.sound x.so.so.0, x.so.so.1) }
     where
       m : GetRun
@@ -109,10 +110,10 @@ module _ {K V : Type 0} (valid_key : K → Type 0) (key : K → ℕ) (valid_valu
           (get_ends tries c h m share f.value r.1.1.1 r.1.0.spent got) valid (λ typed. same_told f.value v same_word typed) (inl refl)
 
   -- and so it has ended
-  pub get_has_ended : {T : Type 0} (p : Inside T) (x : IsPass allows Tree p) (s : Seat ℕ SeatView) (tries wanted number : ℕ) (layout : Layout) (is_layout : p.layout ≡ layout) (is_number : taken_of (pass_view p) ≡ number) (f : Found) (v : Option V) → IfSome v valid_value → (IfSome f.value (IsWord valid_value value_word) → option_map value_word v ≡ f.value)
-      → (y : WalkerFinds allows ready waits same layout number (walker p.share tries wanted (call_of p x (taken_of (pass_view p))) layout number is_layout is_number) s.me.0.passes wanted f)
+  pub get_has_ended : {T : Type 0} (p : Inside T) (x : IsPass allows Tree p) (s : Seat ℕ SeatView) (tries wanted number : ℕ) (layout : Layout) (is_layout : p.layout ≡ layout) (is_number : taken_of (pass_view p) ≡ number) (turn : NodeNo) (f : Found) (v : Option V) → IfSome v valid_value → (IfSome f.value (IsWord valid_value value_word) → option_map value_word v ≡ f.value)
+      → (y : WalkerFinds allows ready waits same layout number (walker p.share tries wanted (call_of p x (taken_of (pass_view p))) layout number is_layout is_number) s.me.0.passes wanted turn f)
       → HasEnded allows p s (taken_of (pass_view p)) (Answered valid_key key valid_value value_word p x s (getting p.share tries wanted y.last) (replies.Value v))
   unfolding walker
-  get_has_ended p x s tries wanted number layout is_layout is_number f v valid same_word y =
+  get_has_ended p x s tries wanted number layout is_layout is_number turn f v valid same_word y =
       (dict_ended valid_key key valid_value value_word p x s (getting p.share tries wanted y.last) (replies.Value v) (getting p.share tries wanted (walk_at wanted root_trail Start))
-      (get_ended p.share tries wanted number layout (call_of p x (taken_of (pass_view p))) is_layout is_number s.me.0.passes f v x.is_mode valid same_word y)).0
+      (get_ended p.share tries wanted number layout (call_of p x (taken_of (pass_view p))) is_layout is_number s.me.0.passes turn f v x.is_mode valid same_word y)).0

@@ -128,25 +128,25 @@ module _ {M E : Type 0} (allows : Layout → History → ℕ → Type 0) (ready 
   abbrev pub walking : {A : Type 0} → UpdateRun E A → WalkRun → UpdateRun E UpdateAt
   walking m walk = standing m (Walk walk)
 
-  -- a machine that updates walks
+  -- a machine that updates walks, and keeps no fork
   pub walker : {A : Type 0} → UpdateRun E A → Walker allows ready waits same layout number
   walker m = record {
     call = u.call;
     is_layout = u.is_layout;
     is_number = u.is_number;
     first = u.first;
-    with_walk = λ walk. u.with_run (walking m walk);
-    tells = λ walk h v x. let y = u.tells (walking m walk) h (Some v) x in (from u.call y.0, u.is_layout, y.3.1);
-    turns = λ walk now h v s goal turn x.
+    with_walk = λ walk turn. u.with_run (walking m walk);
+    tells = λ walk turn h v x. let y = u.tells (walking m walk) h (Some v) x in (from u.call y.0, u.is_layout, y.3.1);
+    turns = λ walk now turn h v s goal next x.
         let y = u.tells (walking m walk) h (Some v) x in
         let w = y.3.0 in
         u.turns (walking m walk) (walking m now) h (Some v) s record { edit = refl; called = refl; spends = (omega arith, omega arith) } x
-        (y.0, y.1, y.2, (record { small = w.small; rests = w.rests; quiet = w.quiet; same = goal ∙ w.same }, turn (from u.call y.0) y.3.1));
-    stays = λ walk now goal. u.stays (walking m walk) (walking m now) refl;
+        (y.0, y.1, y.2, (record { small = w.small; rests = w.rests; quiet = w.quiet; same = goal ∙ w.same }, next (from u.call y.0) y.3.1));
+    stays = λ walk now turn then goal. u.stays (walking m walk) (walking m now) refl;
   }
 
   -- an update that may begin begins its walk
-  pub walks : (ps : List SeatedPass) {A : Type 0} (m : UpdateRun E A) (key : ℕ) → e.goal m.edit ≡ ToKey key → UpdaterBegins allows ready waits same e layout number u ps m → WalkerWaits allows ready waits same layout number (walker m) ps (walk_from key) (load LoadSettled (node 0 Head))
+  pub walks : (ps : List SeatedPass) {A : Type 0} (m : UpdateRun E A) (key : ℕ) → e.goal m.edit ≡ ToKey key → UpdaterBegins allows ready waits same e layout number u ps m → WalkerWaits allows ready waits same layout number (walker m) ps (walk_from key) record { 0 = 0 } (load LoadSettled (node 0 Head))
   unfolding walker
   walks ps m key goal x = record {
     known = x.known;
@@ -202,11 +202,11 @@ module _ {M E : Type 0} (allows : Layout → History → ℕ → Type 0) (ready 
     }
 
   -- behind its walk it goes on as its try does
-  pub finds : (ps : List SeatedPass) {A : Type 0} (m now : UpdateRun E A) (key : ℕ) (f : Found) (next : Result Next Stop) → e.goal m.edit ≡ ToKey key → IsSameUpdate m now → HasSpent e m.share now f next (m.tries + 1) (m.tries + 1)
+  pub finds : (ps : List SeatedPass) {A : Type 0} (m now : UpdateRun E A) (key : ℕ) (turn : NodeNo) (f : Found) (next : Result Next Stop) → e.goal m.edit ≡ ToKey key → IsSameUpdate m now → HasSpent e m.share now f next (m.tries + 1) (m.tries + 1)
       → ((b h : History) → IsRun TreeAllows u.call.layout h → IsTry u.call b → IsUntouched u.call b m.share → Begins e m (from u.call b) h → IsQuietSince u.call.layout u.call.pass b h → HasFound (e.goal m.edit) (from u.call b) h f → GoesOn e u.call h now f next)
-      → WalkerFinds allows ready waits same layout number (walker m) ps key f → UpdaterGoesOn allows ready waits same e layout number u ps now f next
+      → WalkerFinds allows ready waits same layout number (walker m) ps key turn f → UpdaterGoesOn allows ready waits same e layout number u ps now f next
   unfolding walker
-  finds ps m now key f next goal is spent goes x =
+  finds ps m now key turn f next goal is spent goes x =
       goes_behind ps now f (walking m x.last) x.told next is spent x.so (goes y.0 _ (u.tree _ x.so.sound) y.1 y.2 record { run = w.1.run; small = w.0.small; since = own_since (from u.call y.0) _ w.1.own; rests = record { share = w.0.rests.share; over = w.0.rests.over } } w.0.quiet (rw goal (x.finds (from u.call y.0) _ w.1)))
     where
       y : UpdateIsReady e (walking m x.last) u.call (history_of u.call.layout.mode x.so.known) (Some x.told)

@@ -14,6 +14,7 @@ pub mod StraightUpdate
 pub mod StraightCalls
 pub mod StraightLook
 pub mod StraightReads
+pub mod StraightValidate
 pub mod Traces
 pub mod TableRule
 pub mod JoinedSeats

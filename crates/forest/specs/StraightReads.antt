@@ -1,14 +1,29 @@
--- Calls of ordered reads, of whatever machine reads: at a place of the machine of the read.
-use Rattle.std.specs.Prelude.{◌≡◌, ℕ, List, Option, None}
+-- Calls of ordered reads, of whatever machine reads: at a place of the machine of the read, or before
+-- what comes next.
+use Rattle.std.specs.Global.{Global}
+use Rattle.std.specs.Prelude.{◌≡◌, ℕ, suc, List, Option, None, Result, Ok, Err, Vec}
 use Rattle.arena.specs.declared.layout.Layout.{Layout}
 use Rattle.arena.specs.declared.machine.Turn.{Turn}
 use Rattle.arena.specs.declared.step.Step.{Step}
+use Rattle.arena.specs.declared.step.Kind.TheVariants.{LoadSettled}
+use Rattle.arena.specs.declared.word.NodeWord.TheVariants.{Head as HeadWord}
 use Rattle.arena.specs.History.{History}
 use Rattle.arena.specs.Machines.{Call, IsRun, MatchTurn}
-use Rattle.order.specs.Range.Known.{IsSameRange, RangeIsReady, RangeWaits}
-use Rattle.order.specs.Successor.Known.{SuccessorIsReady, SuccessorWaits}
+use Rattle.arena.specs.Words.{node}
+use Rattle.prims.specs.Llx.Known.{load}
+use Rattle.order.specs.Range.Known.{IsSameRange, RangeAnswers, RangeIsReady, RangeWaits}
+use Rattle.order.specs.Range.Next.{next_step as visit_step, placed as visit_placed}
+use Rattle.order.specs.Range.Steps.{range_left}
+use Rattle.order.specs.Successor.Known.{IsSameSuccessor, SuccessorAnswers, SuccessorIsReady, SuccessorWaits}
+use Rattle.order.specs.Successor.Next.{next_step as search_step, placed as search_placed}
+use Rattle.order.specs.Successor.Steps.{successor_left}
+use Rattle.order.specs.declared.range.RangeNext.{RangeNext}
+use Rattle.order.specs.declared.range.RangeRun.{RangeRun}
+use Rattle.order.specs.declared.refused.Refused.{Refused}
+use Rattle.order.specs.declared.successor.SuccessorNext.{SuccessorNext}
 use Rattle.order.specs.declared.successor.SuccessorRun.{SuccessorRun}
 use Rattle.spelling.specs.TreeShape.{TreeAllows}
+use Rattle.spelling.specs.declared.pair.Pair.{Pair}
 use Rattle.forest.specs.declared.view.SeatedPass.{SeatedPass}
 use Rattle.forest.specs.Traces.{Trace, HoldsForCall, Waits, Told}
 
@@ -30,8 +45,8 @@ module _ {M N : Type 0} (allows : Layout → History → ℕ → Type 0) (ready 
     pub turns : (old now : N) (h : History) (got : Option ℕ) (s : Step) → same_in old now → ready (with_run old) call h got → waits_in now call h s → waits (with_run now) call h s
     pub stays : (old now : N) → same_in old now → same (with_run old) (with_run now)
 
-  -- the machine's read as it was when it was told of the last step, behind which it has answered
-  pub record HasRead {A : Type 0} (r : Reader) (answers_in : N → Call → History → A → Type 0) (m : N) (a : A) (h : History) : Type 0 where
+  -- the machine's read as it was when it was called last, behind which it has answered
+  pub record ReadAnswers {A : Type 0} (r : Reader) (answers_in : N → Call → History → A → Type 0) (m : N) (a : A) (h : History) : Type 0 where
     pub old : N
     pub got : Option ℕ
     pub was : ready (r.with_run old) r.call h got
@@ -54,20 +69,73 @@ module _ {M N : Type 0} (allows : Layout → History → ℕ → Type 0) (ready 
 
     -- its read has answered, behind the last step that it was told of
     abbrev pub ReaderEnds : {A : Type 0} → (N → Call → History → A → Type 0) → N → A → Type 0
-    ReaderEnds answers_in m a = HoldsForCall allows ps r.call (HasRead r answers_in m a)
+    ReaderEnds answers_in m a = HoldsForCall allows ps r.call (ReadAnswers r answers_in m a)
 
     -- its read waits for the step of this turn, or has answered as the turn says
     abbrev pub ReaderStands : {A : Type 0} → (N → Call → History → A → Type 0) → N → Turn A → Type 0
     ReaderStands answers_in m turn = MatchTurn turn (ReaderWaits m) (ReaderEnds answers_in m)
 
--- the second successor is the first, further on
-abbrev pub IsSameSuccessor : SuccessorRun → SuccessorRun → Type 0
-IsSameSuccessor old now = now.key ≡ old.key
+    -- its read goes on so, as this places it at this step; or it has answered
+    abbrev pub ReaderGoesOn : {X A : Type 0} → (N → X → N) → (N → X → Step) → (N → Call → History → A → Type 0) → N → Result X A → Type 0
+    ReaderGoesOn placed step_of answers_in m (Ok next) = ReaderWaits (placed m next) (step_of m next)
+    ReaderGoesOn placed step_of answers_in m (Err a) = ReaderEnds answers_in m a
 
--- a call of a machine that makes a successor, and of one that makes a range
+-- so many steps are left then
+abbrev pub left_then : {N X A : Type 0} → (N → ℕ) → (N → X → N) → N → Result X A → ℕ
+left_then left placed m (Ok next) = suc (left (placed m next))
+left_then left placed m (Err a) = 0
+
 module _ {M : Type 0} (allows : Layout → History → ℕ → Type 0) (ready : M → Call → History → Option ℕ → Type 0) (waits : M → Call → History → Step → Type 0) (same : M → M → Type 0) (layout : Layout) (number : ℕ) where
-  abbrev pub Searcher : Type 0
-  Searcher = Reader allows ready waits same SuccessorIsReady SuccessorWaits IsSameSuccessor layout number
+  -- a call of a machine that makes a successor
+  abbrev pub SuccessorReader : Type 0
+  SuccessorReader = Reader allows ready waits same SuccessorIsReady SuccessorWaits IsSameSuccessor layout number
 
-  abbrev pub Ranger : Type 0
-  Ranger = Reader allows ready waits same RangeIsReady RangeWaits IsSameRange layout number
+  module _ (r : SuccessorReader) (ps : List SeatedPass) where
+    -- its successor has not begun
+    abbrev pub SearchBegins : SuccessorRun → Type 0
+    SearchBegins m = ReaderBegins allows ready waits same SuccessorIsReady SuccessorWaits IsSameSuccessor layout number r ps m
+
+    -- its successor has begun what comes next
+    abbrev pub SearchWaits : SuccessorRun → SuccessorNext → Type 0
+    SearchWaits m next = ReaderWaits allows ready waits same SuccessorIsReady SuccessorWaits IsSameSuccessor layout number r ps (search_placed m next) (search_step m next)
+
+    -- its successor goes on so, or has answered
+    abbrev pub SearchGoesOn : SuccessorRun → Result SuccessorNext (Result (Option Pair) Refused) → Type 0
+    SearchGoesOn m then = ReaderGoesOn allows ready waits same SuccessorIsReady SuccessorWaits IsSameSuccessor layout number r ps search_placed search_step SuccessorAnswers m then
+
+    -- its successor has answered
+    abbrev pub SearchEnds : SuccessorRun → Result (Option Pair) Refused → Type 0
+    SearchEnds m a = ReaderEnds allows ready waits same SuccessorIsReady SuccessorWaits IsSameSuccessor layout number r ps SuccessorAnswers m a
+
+  -- a call of a machine that makes a range
+  abbrev pub RangeReader : Type 0
+  RangeReader = Reader allows ready waits same RangeIsReady RangeWaits IsSameRange layout number
+
+  module _ (r : RangeReader) (ps : List SeatedPass) where
+    -- its range has not begun
+    abbrev pub VisitBegins : RangeRun → Type 0
+    VisitBegins m = ReaderBegins allows ready waits same RangeIsReady RangeWaits IsSameRange layout number r ps m
+
+    -- its range has begun a try, with the load of the root's head
+    abbrev pub VisitRoots : RangeRun → Type 0
+    VisitRoots m = ReaderWaits allows ready waits same RangeIsReady RangeWaits IsSameRange layout number r ps m (load LoadSettled (node 0 HeadWord))
+
+    -- its range has begun what comes next
+    abbrev pub VisitWaits : RangeRun → RangeNext → Type 0
+    VisitWaits m next = ReaderWaits allows ready waits same RangeIsReady RangeWaits IsSameRange layout number r ps (visit_placed m next) (visit_step m next)
+
+    -- its range goes on so, or has answered
+    abbrev pub VisitGoesOn : RangeRun → Result RangeNext (Result (Vec Pair Global) Refused) → Type 0
+    VisitGoesOn m then = ReaderGoesOn allows ready waits same RangeIsReady RangeWaits IsSameRange layout number r ps visit_placed visit_step RangeAnswers m then
+
+    -- its range has answered
+    abbrev pub VisitEnds : RangeRun → Result (Vec Pair Global) Refused → Type 0
+    VisitEnds m a = ReaderEnds allows ready waits same RangeIsReady RangeWaits IsSameRange layout number r ps RangeAnswers m a
+
+-- so many steps are left to a successor then
+abbrev pub search_left : ℕ → SuccessorRun → Result SuccessorNext (Result (Option Pair) Refused) → ℕ
+search_left nodes m then = left_then (λ n. successor_left n nodes) search_placed m then
+
+-- and to a range
+abbrev pub visit_left : ℕ → RangeRun → Result RangeNext (Result (Vec Pair Global) Refused) → ℕ
+visit_left nodes m then = left_then (λ n. range_left n nodes) visit_placed m then

@@ -104,7 +104,7 @@ impl<K: WordKey, V: WordValue> Forest<Dict<K, V>> {
         let number = pass.taken();
         let (words, layout, seat) = (&self.words, &self.layout, &mut pass.seat);
         let key = key.word();
-        let found = walk::call::<Dict<K, V>, DictRun<K, V>>(words, layout, seat, number, key);
+        let found = walk::call::<Dict<K, V>, DictRun<K, V>>(words, layout, seat, number, key).0;
         value_of(found.value)
     }
 

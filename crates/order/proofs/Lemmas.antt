@@ -2,3 +2,5 @@
 -- module of these proofs can be named outside. Declares nothing.
 pub use Rattle.order.proofs.Ready.{successor_ready_first}
 pub use Rattle.order.proofs.RangeReady.{range_ready_first}
+pub use Rattle.order.proofs.Nexts.{next_waits, placed_nearer, value_found, walk_found, walk_waits}
+pub use Rattle.order.proofs.RangeNexts.{next_waits as range_next_waits, placed_nearer as range_placed_nearer}

@@ -5,11 +5,13 @@ mod Snapping
 mod Finding
 mod Turns
 mod Nearer
+mod Nexts
 mod Undisturbed
 mod Visiting
 mod RangeVisits
 mod RangeNearer
 mod RangeTurns
+mod RangeNexts
 mod Ready
 mod RangeReady
 pub mod Lemmas

@@ -36,20 +36,11 @@ begins_walk t now left size nodes i j e = omega (arith, i, j, e)
 pub less_walk : (t now left size rest : ℕ) → now < left → t + (now + size + rest) < t + (left + size + rest)
 less_walk t now left size rest i = omega (arith, i)
 
-pub from_walk : (t left size nodes : ℕ) → t + (64 + size + 1 + 67 * (1 + nodes - 0) + 67 * (2 + nodes)) ≤ t + (left + size + 134 * (2 + nodes))
-from_walk t left size nodes = omega arith
-
-pub from_look : (t left size rest behind : ℕ) → left ≤ 64 → t + (left + size + 1 + rest + behind) ≤ t + (64 + size + 1 + rest + behind)
-from_look t left size rest behind i = omega (arith, i)
-
 pub less_look : (t now left size rest behind : ℕ) → now < left → t + (now + size + 1 + rest + behind) < t + (left + size + 1 + rest + behind)
 less_look t now left size rest behind i = omega (arith, i)
 
 pub from_looked : (t left size rest behind : ℕ) → t + (size + 1 + rest + behind) ≤ t + (left + size + 1 + rest + behind)
 from_looked t left size rest behind = omega arith
-
-pub less_head : (t size nodes above behind : ℕ) → above + 1 < 2 + nodes → t + (size + 67 * (1 + nodes - above) - 1 + behind) < t + (size + 67 * (1 + nodes - above) + behind)
-less_head t size nodes above behind i = omega (arith, i)
 
 pub from_validate : (t size : ℕ) → t + (size - 0) ≤ t + size
 from_validate t size = omega arith
@@ -57,22 +48,13 @@ from_validate t size = omega arith
 pub less_vlx : (t now left : ℕ) → now < left → t + now < t + left
 less_vlx t now left i = omega (arith, i)
 
--- from the head of a node
-pub head_to_look : (t size nodes deep behind : ℕ) → deep < 2 + nodes → t + (64 + size + 1 + 67 * (1 + nodes - deep) + behind) ≤ t + (size + 67 * (2 + nodes - deep) - 1 + behind)
-head_to_look t size nodes deep behind i = omega (arith, i)
+-- from the key of a leaf of class 0
 
-pub head_to_validate : (t size nodes deep behind : ℕ) → deep < 2 + nodes → t + size ≤ t + (size + 67 * (2 + nodes - deep) - 1 + behind)
-head_to_validate t size nodes deep behind i = omega (arith, i)
+key_to_next : (size nodes deep : ℕ) → deep < 2 + nodes → size + 67 * (1 + nodes - 0) + 0 ≤ size + 67 * (2 + nodes - deep) - 2 + 67 * (2 + nodes)
+key_to_next size nodes deep i = omega (arith, i)
 
--- from the key of one
-pub key_to_look : (t size nodes deep behind : ℕ) → deep < 2 + nodes → t + (64 + size + 1 + 67 * (1 + nodes - deep) + behind) ≤ t + (size + 67 * (2 + nodes - deep) - 2 + behind)
-key_to_look t size nodes deep behind i = omega (arith, i)
-
-key_to_next : (t size nodes deep : ℕ) → deep < 2 + nodes → t + (size + 67 * (1 + nodes - 0) + 0) ≤ t + (size + 67 * (2 + nodes - deep) - 2 + 67 * (2 + nodes))
-key_to_next t size nodes deep i = omega (arith, i)
-
-pub key_to_behind : (t size nodes deep : ℕ) (route : Route) → route ≡ Along → deep < 2 + nodes → t + (size + 67 * (1 + nodes - 0) + 0) ≤ t + (size + 67 * (2 + nodes - deep) - 2 + behind route nodes)
-key_to_behind t size nodes deep route a i = rw a (key_to_next t size nodes deep i)
+pub key_to_behind : (size nodes deep : ℕ) (route : Route) → route ≡ Along → deep < 2 + nodes → size + 67 * (1 + nodes - 0) + 0 ≤ size + 67 * (2 + nodes - deep) - 2 + behind route nodes
+key_to_behind size nodes deep route a i = rw a (key_to_next size nodes deep i)
 
 below_head : (t size nodes above deep behind : ℕ) → above < deep → t + (size + 67 * (2 + nodes - deep) - 1 + behind) ≤ t + (size + 67 * (1 + nodes - above) - 1 + behind)
 below_head t size nodes above deep behind i = omega (arith, i)

@@ -25,7 +25,7 @@ use Rattle.prims.specs.declared.vlx.Vlx.TheVariants.{Same, Changed}
 use Rattle.spelling.specs.declared.pair.Pair.{Pair}
 use Rattle.spelling.specs.OrderedMap.{range}
 use Rattle.spelling.specs.TreeShape.{TreeAllows}
-use Rattle.spelling.specs.TreeWords.{rank}
+use Rattle.spelling.specs.TreeWords.{level, rank}
 use Rattle.template.specs.Trails.{IsOwnMoment}
 use Rattle.order.specs.Reads.{from}
 use Rattle.template.specs.Blame.{IsContended}
@@ -169,6 +169,9 @@ module _ (m : RangeRun) (c : Call) (h : History) where
 module _ (m now : RangeRun) (c : Call) (h : History) (turn : Turn Told) (goes : Goes m c h) where
   pub asks_root : now ≡ record m { at = Root } → turn ≡ Ask (load LoadSettled (node 0 HeadWord)) → Visits m c h 0 → RangeTurn c h now turn
   asks_root is asked x = rw (asked, is) (goes_at m Root c h goes, (visits_at m Root c h 0 x, refl))
+
+  pub asks_head : (above : ℕ) (n : NodeNo) → now ≡ record m { at = Head above n } → turn ≡ Ask (load LoadSettled (node n.0 HeadWord)) → Visits m c h n.0 → above < level (value h) n.0 → RangeTurn c h now turn
+  asks_head above n is asked x deep = rw (asked, is) (goes_at m (Head above n) c h goes, (visits_at m (Head above n) c h n.0 x, deep, refl))
 
   pub asks_key : (head : HeadParts) (n : NodeNo) → now ≡ record m { at = Key head n } → turn ≡ Ask (load LoadSettled (node n.0 KeyWord)) → Visits m c h n.0 → HasLowHead h n.0 head → RangeTurn c h now turn
   asks_key head n is asked x has = rw (asked, is) (goes_at m (Key head n) c h goes, (visits_at m (Key head n) c h n.0 x, has, refl))

@@ -1,3 +1,4 @@
 pub mod Steps
 pub mod Known
+pub mod Next
 pub mod Laws

@@ -12,7 +12,7 @@ mod table;
 mod tests;
 
 pub use alone::alone_holds;
-pub use range::{RangeAt, RangeRun};
+pub use range::{RangeAt, RangeNext, RangeRun};
 pub use refused::Refused;
-pub use successor::{Route, SuccessorAt, SuccessorRun};
+pub use successor::{Route, SuccessorAt, SuccessorNext, SuccessorRun};
 pub use template::Tree;

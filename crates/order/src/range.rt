@@ -3,7 +3,7 @@ ghost use Rattle.std.specs.Prelude.{◌≡◌};
 
 use crate::refused::Refused;
 use arena::{Access, Head, Kind, Machine, NodeNo, NodeWord, ScxNo, Step, Turn, Word};
-use prims::{Llx, LlxRun, Snap, Vlx, VlxRun};
+use prims::{Llx, LlxAt, LlxRun, Snap, Vlx, VlxRun};
 use spelling::Pair;
 use std::alloc::Global;
 use std::mem;
@@ -48,6 +48,36 @@ pub enum RangeAt {
     },
 }
 
+/// What a range does next in its try, before it stands there.
+#[derive(Clone, Copy, Debug, PartialEq, Eq)]
+pub enum RangeNext {
+    /// The load of the head of a node that is below a fork of the level `above`.
+    Head {
+        above: u64,
+        node: NodeNo,
+    },
+    /// The load of the key of a node of class 0.
+    Key {
+        head: Head,
+        node: NodeNo,
+    },
+    /// The load of the value of a leaf with a key of the range.
+    Value {
+        key: u64,
+        node: NodeNo,
+    },
+    /// The LLX of a fork of this level, of which these children are to be visited: the left one, the
+    /// right one.
+    Look {
+        level: u64,
+        left: bool,
+        right: bool,
+        node: NodeNo,
+    },
+    /// The VLX.
+    Validate,
+}
+
 /// The first pairs by key of those with keys from `low` to `high`: visits from the root down, with an
 /// LLX of each fork, and a VLX over all nodes that were looked at. And again where such a try is
 /// lost, as long as tries are left.
@@ -74,10 +104,10 @@ pub struct RangeRun {
 }
 
 impl RangeRun {
-    ghost use Rattle.std.specs.Prelude.{◌≡◌, ℕ, Bool, ◌+◌, ◌-◌, ◌*◌, ◌<◌, ◌≤◌, length, [], None};
+    ghost use Rattle.std.specs.Prelude.{◌≡◌, ℕ, Bool, ◌+◌, ◌-◌, ◌*◌, ◌<◌, ◌≤◌, length, [], IfOk, None, Ok};
     ghost use Rattle.arena.specs.History.{History, Extends};
     ghost use Rattle.arena.specs.Machines.{MatchTurn, Call};
-    ghost use Rattle.prims.specs.Llx.Known.{IsSnapshot, LlxIsReady};
+    ghost use Rattle.prims.specs.Llx.Known.{IsSnapshot, LlxIsReady, load};
     ghost use Rattle.prims.specs.Llx.Steps.{llx_left};
     ghost use Rattle.prims.specs.Vlx.Known.{VlxIsReady};
     ghost use Rattle.prims.specs.Vlx.Steps.{vlx_left};
@@ -91,6 +121,7 @@ impl RangeRun {
     ghost use Rattle.order.specs.Successor.Steps.{HeadFits};
     ghost use Rattle.order.specs.Range.Known.{bounds_of, IsSameRange, AsksForNothing, AsksForSome, TellsNone, Visits, LooksIn, HasLowHead, HasKey, GoesBehind, Validates, Goes, HasTold, RangeIsReady, RangeTurn};
     ghost use Rattle.order.specs.Range.Steps.{try_left, leaves_left, range_left, IsNearer, RangeFits};
+    ghost use Rattle.order.specs.Range.Next.{ComesNearer, GoesOn, MayDo};
 
     /// A run that has not begun. What it keeps grows with this allocator. What is said of its turns
     /// holds for a `most` of up to 64. In each try it asks for at most 67 steps for each node that
@@ -119,25 +150,23 @@ impl RangeRun {
         }
     }
 
-    /// Asks for a load of a settled word, and stands there.
-    #[inline(always)]
-    fn load(&mut self, at: RangeAt, node: NodeNo, part: NodeWord) -> Turn<Told>
+    /// Asks for a load of a word of a node, and stands there.
+    fn load(&mut self, at: RangeAt, kind: Kind, node: NodeNo, part: NodeWord) -> Turn<Told>
         ensures stands { self.new ≡ record self.old { at = at } }
-        ensures asked { result ≡ Turn.Ask record { kind = Kind.LoadSettled; word = Word.Node node part; access = Access.Load } }
+        ensures asked { result ≡ Turn.Ask record { kind = kind; word = Word.Node node part; access = Access.Load } }
     {
         self.at = at;
-        Turn::Ask(Step {
-            kind: Kind::LoadSettled,
-            word: Word::Node(node, part),
-            access: Access::Load,
-        })
+        let (word, access) = (Word::Node(node, part), Access::Load);
+        Turn::Ask(Step { kind, word, access })
     }
 
-    /// Begins a try; of no keys, and of no pairs, it knows the answer.
-    fn begin(&mut self) -> Turn<Told>
+    /// Begins a try with the load of the root's head; of no keys, and of no pairs, it knows the
+    /// answer.
+    pub fn begin(&mut self) -> Turn<Told>
         ensures turn { (c : Call) (h : History) → Goes self.old c h → RangeTurn c h self.new result }
         ensures begins { AsksForSome self.old → MatchTurn result (λ _. Unit {0}) (λ _. ⊥) }
         ensures nothing { AsksForNothing self.old → TellsNone result }
+        ensures root { MatchTurn result (λ step. (self.new.at ≡ RangeAt.Root) × (step ≡ load Kind.LoadSettled (Word.Node record { 0 = 0 } NodeWord.Head))) (λ _. Unit {0}) }
         ensures same { IsSameRange self.old self.new }
         ensures nearer { (nodes : ℕ) → IsNearer self.new nodes result (self.old.tries * try_left self.old.most nodes + try_left self.old.most nodes) }
         ensures tries { self.new.tries ≡ self.old.tries }
@@ -152,7 +181,7 @@ impl RangeRun {
         if self.high < self.low {
             return self.tell();
         }
-        self.load(RangeAt::Root, NodeNo(0), NodeWord::Head)
+        self.load(RangeAt::Root, Kind::LoadSettled, NodeNo(0), NodeWord::Head)
     }
 
     /// Ends with the pairs that were taken.
@@ -177,93 +206,90 @@ impl RangeRun {
         self.begin()
     }
 
+    /// What is done behind the head of a node. On the right of what is above all keys there is no
+    /// pair.
     #[inline(always)]
-    fn load_head(&mut self, above: u64, node: NodeNo) -> Turn<Told>
-        ensures turn { (c : Call) (h : History) → Goes self.old c h → Visits self.old c h node.0 → above < level_at h node.0 → RangeTurn c h self.new result }
+    pub fn head_on(&mut self, head: Head, node: NodeNo) -> RangeNext
+        ensures goes_on { (c : Call) (h : History) → Goes self.old c h → IsOwnMoment c h → Visits self.old c h node.0 → head_at h node.0 ≡ head → GoesOn c h self.new (Ok result) }
         ensures same { IsSameRange self.old self.new }
-        ensures nearer { (nodes : ℕ) → above + 1 < 2 + nodes → IsNearer self.new nodes result (self.old.tries * try_left self.old.most nodes + (length self.old.snaps.items + 67 * (1 + nodes - above) + leaves_left self.old.leaves nodes)) }
+        ensures nearer { (nodes : ℕ) → HeadFits head nodes → ComesNearer self.new result nodes (length self.old.snaps.items + 67 * (2 + nodes - head.level) - 1 + leaves_left self.old.leaves nodes) }
         ensures tries { self.new.tries ≡ self.old.tries }
     {
-        self.load(RangeAt::Head { above, node }, node, NodeWord::Head)
-    }
-
-    /// Goes on with the head of a node. On the right of what is above all keys there is no pair.
-    #[inline(always)]
-    fn head_on(&mut self, head: Head, node: NodeNo) -> Turn<Told>
-        ensures turn { (c : Call) (h : History) → Goes self.old c h → IsOwnMoment c h → Visits self.old c h node.0 → head_at h node.0 ≡ head → RangeTurn c h self.new result }
-        ensures same { IsSameRange self.old self.new }
-        ensures nearer { (nodes : ℕ) → HeadFits head nodes → IsNearer self.new nodes result (self.old.tries * try_left self.old.most nodes + (length self.old.snaps.items + 67 * (2 + nodes - head.level) - 1 + leaves_left self.old.leaves nodes)) }
-        ensures tries { (c : Call) (h : History) → Goes self.old c h → IsOwnMoment c h → Visits self.old c h node.0 → head_at h node.0 ≡ head → KeepsTries c h self.old.tries self.new.tries result }
-    {
         if head.class == 0 {
-            self.load(RangeAt::Key { head, node }, node, NodeWord::Key)
+            RangeNext::Key { head, node }
         } else if head.leaf {
             self.visited()
         } else {
-            self.look(head.level, true, false, node)
+            let (level, left, right) = (head.level, true, false);
+            RangeNext::Look {
+                level,
+                left,
+                right,
+                node,
+            }
         }
     }
 
-    /// Goes on with the key of a node of class 0.
+    /// What is done behind the key of a node of class 0.
     #[inline(always)]
-    fn key_on(&mut self, head: Head, node: NodeNo, key: u64) -> Turn<Told>
-        ensures turn { (c : Call) (h : History) → Goes self.old c h → IsOwnMoment c h → Visits self.old c h node.0 → HasLowHead h node.0 head → key_at h node.0 ≡ key → RangeTurn c h self.new result }
+    pub fn key_on(&mut self, head: Head, node: NodeNo, key: u64) -> RangeNext
+        ensures goes_on { (c : Call) (h : History) → Goes self.old c h → IsOwnMoment c h → Visits self.old c h node.0 → HasLowHead h node.0 head → key_at h node.0 ≡ key → GoesOn c h self.new (Ok result) }
         ensures same { IsSameRange self.old self.new }
-        ensures nearer { (nodes : ℕ) → HeadFits head nodes → IsNearer self.new nodes result (self.old.tries * try_left self.old.most nodes + (length self.old.snaps.items + 67 * (2 + nodes - head.level) - 2 + leaves_left self.old.leaves nodes)) }
-        ensures tries { (c : Call) (h : History) → Goes self.old c h → IsOwnMoment c h → Visits self.old c h node.0 → HasLowHead h node.0 head → key_at h node.0 ≡ key → KeepsTries c h self.old.tries self.new.tries result }
+        ensures nearer { (nodes : ℕ) → HeadFits head nodes → ComesNearer self.new result nodes (length self.old.snaps.items + 67 * (2 + nodes - head.level) - 2 + leaves_left self.old.leaves nodes) }
+        ensures tries { self.new.tries ≡ self.old.tries }
     {
         if !head.leaf {
-            self.look(head.level, self.low < key, key <= self.high, node)
+            let (level, left, right) = (head.level, self.low < key, key <= self.high);
+            RangeNext::Look {
+                level,
+                left,
+                right,
+                node,
+            }
         } else if self.low > key || key > self.high {
             self.visited()
         } else {
-            self.load(RangeAt::Value { key, node }, node, NodeWord::Value)
+            RangeNext::Value { key, node }
         }
     }
 
-    /// Takes a pair.
+    /// Takes a pair, and tells what is done behind it.
+    ///
+    /// # Errors
+    ///
+    /// `NoMemory` where there is none to keep it.
     #[inline(always)]
-    fn value_on(&mut self, pair: Pair) -> Turn<Told>
-        ensures turn { (c : Call) (h : History) (n : ℕ) → Goes self.old c h → IsOwnMoment c h → HasKey self.old c h n pair.key → value_at h n ≡ pair.value → RangeTurn c h self.new result }
+    pub fn value_on(&mut self, pair: Pair) -> Result<RangeNext, Refused>
+        ensures goes_on { (c : Call) (h : History) (n : ℕ) → Goes self.old c h → IsOwnMoment c h → HasKey self.old c h n pair.key → value_at h n ≡ pair.value → GoesOn c h self.new result }
         ensures same { IsSameRange self.old self.new }
-        ensures nearer { (nodes : ℕ) → IsNearer self.new nodes result (self.old.tries * try_left self.old.most nodes + (length self.old.snaps.items + leaves_left self.old.leaves nodes)) }
-        ensures tries { (c : Call) (h : History) (n : ℕ) → Goes self.old c h → IsOwnMoment c h → HasKey self.old c h n pair.key → value_at h n ≡ pair.value → KeepsTries c h self.old.tries self.new.tries result }
+        ensures nearer { (nodes : ℕ) → IfOk result (λ next. ComesNearer self.new next nodes (length self.old.snaps.items + leaves_left self.old.leaves nodes)) }
+        ensures tries { self.new.tries ≡ self.old.tries }
     {
         if self.taken.push(pair).is_err() {
-            return Turn::Done(Err(Refused::NoMemory));
+            return Err(Refused::NoMemory);
         }
-        self.visited()
+        Ok(self.visited())
     }
 
-    /// Goes on behind a leaf.
+    /// What is done behind a leaf.
     #[inline(always)]
-    fn visited(&mut self) -> Turn<Told>
-        ensures turn { (c : Call) (h : History) → Goes self.old c h → GoesBehind self.old c h (self.old.leaves - 1) → RangeTurn c h self.new result }
+    fn visited(&mut self) -> RangeNext
+        ensures goes_on { (c : Call) (h : History) → Goes self.old c h → GoesBehind self.old c h (self.old.leaves - 1) → GoesOn c h self.new (Ok result) }
         ensures same { IsSameRange self.old self.new }
-        ensures nearer { (nodes : ℕ) → IsNearer self.new nodes result (self.old.tries * try_left self.old.most nodes + (length self.old.snaps.items + leaves_left self.old.leaves nodes)) }
-        ensures tries { (c : Call) (h : History) → Goes self.old c h → GoesBehind self.old c h (self.old.leaves - 1) → KeepsTries c h self.old.tries self.new.tries result }
+        ensures nearer { (nodes : ℕ) → ComesNearer self.new result nodes (length self.old.snaps.items + leaves_left self.old.leaves nodes) }
+        ensures tries { self.new.tries ≡ self.old.tries }
     {
         self.leaves = self.leaves.saturating_sub(1);
         if self.taken.len() >= self.most {
-            return self.validate();
+            return RangeNext::Validate;
         }
         if self.leaves == 0 {
-            return self.validate();
+            return RangeNext::Validate;
         }
         match self.waiting.pop() {
-            Some(node) => self.load_head(0, node),
-            None => self.validate(),
+            Some(node) => RangeNext::Head { above: 0, node },
+            None => RangeNext::Validate,
         }
-    }
-
-    /// Looks at a fork of this level, to visit these children of it.
-    fn look(&mut self, level: u64, left: bool, right: bool, node: NodeNo) -> Turn<Told>
-        ensures turn { (c : Call) (h : History) → Goes self.old c h → LooksIn self.old c h level left right node.0 → RangeTurn c h self.new result }
-        ensures same { IsSameRange self.old self.new }
-        ensures nearer { (nodes : ℕ) → level + 1 < 2 + nodes → IsNearer self.new nodes result (self.old.tries * try_left self.old.most nodes + (64 + length self.old.snaps.items + 1 + 67 * (1 + nodes - level) + leaves_left self.old.leaves nodes)) }
-        ensures tries { (c : Call) (h : History) → Goes self.old c h → LooksIn self.old c h level left right node.0 → KeepsTries c h self.old.tries self.new.tries result }
-    {
-        self.look_on(level, left, right, LlxRun::new(node), None)
     }
 
     /// Goes on with what the last step of an LLX found.
@@ -290,33 +316,54 @@ impl RangeRun {
                 };
                 Turn::Ask(step)
             }
-            Turn::Done(Llx::Snapshot(snap)) => self.looked(level, left, right, snap),
+            Turn::Done(Llx::Snapshot(snap)) => {
+                let next = self.looked(level, left, right, snap);
+                self.proceed(next)
+            }
             Turn::Done(Llx::Finalized { node, scx }) => self.lost(node, scx),
             Turn::Done(Llx::Fail { node, scx }) => self.lost(node, scx),
         }
     }
 
-    /// Keeps a snapshot of the fork at which it looks, and goes on to the children that are to be
-    /// visited. So may whoever has made the steps of the LLX go on.
+    /// Keeps a snapshot of the fork at which it looks, and tells which of the children that are to be
+    /// visited is the next.
+    ///
+    /// # Errors
+    ///
+    /// `NoMemory` where there is none to keep it.
     #[inline(always)]
-    pub fn looked(&mut self, level: u64, left: bool, right: bool, snap: Snap) -> Turn<Told>
-        ensures turn { (c : Call) (h : History) → Goes self.old c h → LooksIn self.old c h level left right snap.node.0 → IsSnapshot c.layout h snap.node.0 snap → RangeTurn c h self.new result }
+    pub fn looked(
+        &mut self,
+        level: u64,
+        left: bool,
+        right: bool,
+        snap: Snap,
+    ) -> Result<RangeNext, Refused>
+        ensures goes_on { (c : Call) (h : History) → Goes self.old c h → LooksIn self.old c h level left right snap.node.0 → IsSnapshot c.layout h snap.node.0 snap → GoesOn c h self.new result }
         ensures same { IsSameRange self.old self.new }
-        ensures nearer { (nodes : ℕ) → level + 1 < 2 + nodes → IsNearer self.new nodes result (self.old.tries * try_left self.old.most nodes + (length self.old.snaps.items + 1 + 67 * (1 + nodes - level) + leaves_left self.old.leaves nodes)) }
+        ensures nearer { (nodes : ℕ) → level + 1 < 2 + nodes → IfOk result (λ next. ComesNearer self.new next nodes (length self.old.snaps.items + 1 + 67 * (1 + nodes - level) + leaves_left self.old.leaves nodes)) }
         ensures tries { self.new.tries ≡ self.old.tries }
     {
         if self.snaps.push(snap).is_err() {
-            return Turn::Done(Err(Refused::NoMemory));
+            return Err(Refused::NoMemory);
         }
+        let above = level;
         match (left, right) {
             (true, true) => {
                 if self.waiting.push(snap.right).is_err() {
-                    return Turn::Done(Err(Refused::NoMemory));
+                    return Err(Refused::NoMemory);
                 }
-                self.load_head(level, snap.left)
+                let node = snap.left;
+                Ok(RangeNext::Head { above, node })
             }
-            (true, false) => self.load_head(level, snap.left),
-            (false, _) => self.load_head(level, snap.right),
+            (true, false) => {
+                let node = snap.left;
+                Ok(RangeNext::Head { above, node })
+            }
+            (false, _) => {
+                let node = snap.right;
+                Ok(RangeNext::Head { above, node })
+            }
         }
     }
 
@@ -353,10 +400,64 @@ impl RangeRun {
         }
     }
 
+    /// Begins what comes next, and stands there.
+    fn stand(&mut self, next: RangeNext) -> Turn<Told>
+        ensures turn { (c : Call) (h : History) → Goes self.old c h → MayDo self.old c h next → RangeTurn c h self.new result }
+        ensures same { IsSameRange self.old self.new }
+        ensures nearer { (nodes n : ℕ) → ComesNearer self.old next nodes n → IsNearer self.new nodes result (self.old.tries * try_left self.old.most nodes + n) }
+        ensures tries { (c : Call) (h : History) → Goes self.old c h → MayDo self.old c h next → KeepsTries c h self.old.tries self.new.tries result }
+    {
+        match next {
+            RangeNext::Head { above, node } => {
+                let at = RangeAt::Head { above, node };
+                self.load(at, Kind::LoadSettled, node, NodeWord::Head)
+            }
+            RangeNext::Key { head, node } => {
+                let at = RangeAt::Key { head, node };
+                self.load(at, Kind::LoadSettled, node, NodeWord::Key)
+            }
+            RangeNext::Value { key, node } => {
+                let at = RangeAt::Value { key, node };
+                self.load(at, Kind::LoadSettled, node, NodeWord::Value)
+            }
+            RangeNext::Look {
+                level,
+                left,
+                right,
+                node,
+            } => {
+                let llx = LlxRun {
+                    node,
+                    at: LlxAt::Marked,
+                };
+                let at = RangeAt::Look {
+                    level,
+                    left,
+                    right,
+                    llx,
+                };
+                self.load(at, Kind::LoadMarked, node, NodeWord::Marked)
+            }
+            RangeNext::Validate => self.validate(),
+        }
+    }
+
+    /// Begins what comes next, or ends where that is refused.
+    fn proceed(&mut self, next: Result<RangeNext, Refused>) -> Turn<Told>
+        ensures turn { (c : Call) (h : History) → GoesOn c h self.old next → RangeTurn c h self.new result }
+        ensures same { IsSameRange self.old self.new }
+        ensures nearer { (nodes n : ℕ) → IfOk next (λ now. ComesNearer self.old now nodes n) → IsNearer self.new nodes result (self.old.tries * try_left self.old.most nodes + n) }
+        ensures tries { (c : Call) (h : History) → GoesOn c h self.old next → KeepsTries c h self.old.tries self.new.tries result }
+    {
+        match next {
+            Ok(now) => self.stand(now),
+            Err(refused) => Turn::Done(Err(refused)),
+        }
+    }
+
     /// Goes on with what the last step found; with nothing at the first call, which asks for a step
     /// if there is something to be told, and else ends. It gives up one try at most, where an
     /// SCX-record of another pass was in the way of the call; and none as it ends.
-    #[inline(always)]
     pub fn step(&mut self, got: Option<u64>) -> Turn<Told>
         ensures turn { (c : Call) (h : History) → RangeIsReady self.old c h got → RangeTurn c h self.new result }
         ensures begins { got ≡ None → AsksForSome self.old → (c : Call) (h : History) → RangeIsReady self.old c h None → MatchTurn result (λ _. Unit {0}) (λ _. ⊥) }
@@ -368,10 +469,22 @@ impl RangeRun {
         let value = got.unwrap_or(0);
         match self.at {
             RangeAt::Start => self.begin(),
-            RangeAt::Root => self.head_on(Head::of(value), NodeNo(0)),
-            RangeAt::Head { above: _, node } => self.head_on(Head::of(value), node),
-            RangeAt::Key { head, node } => self.key_on(head, node, value),
-            RangeAt::Value { key, node: _ } => self.value_on(Pair { key, value }),
+            RangeAt::Root => {
+                let next = self.head_on(Head::of(value), NodeNo(0));
+                self.stand(next)
+            }
+            RangeAt::Head { above: _, node } => {
+                let next = self.head_on(Head::of(value), node);
+                self.stand(next)
+            }
+            RangeAt::Key { head, node } => {
+                let next = self.key_on(head, node, value);
+                self.stand(next)
+            }
+            RangeAt::Value { key, node: _ } => {
+                let next = self.value_on(Pair { key, value });
+                self.proceed(next)
+            }
             RangeAt::Look {
                 level,
                 left,
@@ -404,7 +517,6 @@ impl Machine<Tree> for RangeRun {
 
     ghost asks_first = { AsksForSome };
 
-    #[inline(always)]
     fn next(&mut self, got: Option<u64>) -> Turn<Told> {
         self.step(got)
     }

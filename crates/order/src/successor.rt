@@ -5,7 +5,7 @@ ghost use Rattle.order.specs.Successor.Steps.{last_turn};
 
 use crate::refused::Refused;
 use arena::{Access, Head, Kind, Machine, NodeNo, NodeWord, ScxNo, Side, Step, Turn, Word};
-use prims::{Llx, LlxRun, Snap, Vlx, VlxRun};
+use prims::{Llx, LlxAt, LlxRun, Snap, Vlx, VlxRun};
 use spelling::Pair;
 use std::alloc::Global;
 use template::{Goal, Tree, WalkAt, WalkRun};
@@ -21,6 +21,37 @@ pub enum Route {
 
 /// What a successor answers.
 type Told = Result<Option<Pair>, Refused>;
+
+/// What a successor does next in its try, before it stands there.
+#[derive(Clone, Copy, Debug, PartialEq, Eq)]
+pub enum SuccessorNext {
+    /// The LLX of a fork of this level, from which it goes on to this side.
+    Look {
+        route: Route,
+        level: u64,
+        side: Side,
+        node: NodeNo,
+    },
+    /// The load of the head of a node that is below a fork of the level `above`.
+    Head {
+        route: Route,
+        above: u64,
+        node: NodeNo,
+    },
+    /// The load of the key of a node of class 0.
+    Key {
+        route: Route,
+        head: Head,
+        node: NodeNo,
+    },
+    /// The load of the value of the leaf that has the key of the answer.
+    Value {
+        key: u64,
+        node: NodeNo,
+    },
+    /// The VLX, behind which this is the answer.
+    Validate(Option<Pair>),
+}
 
 /// The step that a successor has asked for.
 #[derive(Clone, Copy, Debug, PartialEq, Eq)]
@@ -82,7 +113,7 @@ pub struct SuccessorRun {
 }
 
 impl SuccessorRun {
-    ghost use Rattle.std.specs.Prelude.{◌≡◌, ℕ, ◌+◌, ◌-◌, ◌*◌, ◌<◌, ◌≤◌, cond, ltb, length, [], None};
+    ghost use Rattle.std.specs.Prelude.{◌≡◌, ℕ, ◌+◌, ◌-◌, ◌*◌, ◌<◌, ◌≤◌, cond, ltb, length, [], IfOk, None};
     ghost use Rattle.arena.specs.History.{History, Extends};
     ghost use Rattle.arena.specs.Machines.{MatchTurn, Call};
     ghost use Rattle.prims.specs.Llx.Known.{IsSnapshot, LlxIsReady};
@@ -97,8 +128,9 @@ impl SuccessorRun {
     ghost use Rattle.order.specs.Replies.{KeepsTries};
     ghost use Rattle.template.specs.Blame.{IsContended};
     ghost use Rattle.order.specs.Search.{IsNextAt};
-    ghost use Rattle.order.specs.Successor.Known.{head_at, key_at, level_at, is_answer, IsLastTurn, LooksAt, StandsAt, HasHead, Validates, Goes, SuccessorIsReady, SuccessorTurn};
+    ghost use Rattle.order.specs.Successor.Known.{head_at, key_at, level_at, is_answer, IsLastTurn, LooksAt, StandsAt, HasHead, Validates, Goes, IsSameSuccessor, SuccessorIsReady, SuccessorTurn};
     ghost use Rattle.order.specs.Successor.Steps.{behind, HeadFits, IsNearer, try_left, successor_left, SuccessorFits};
+    ghost use Rattle.order.specs.Successor.Next.{ComesNearer, GoesOn, MayDo};
 
     /// A run that has not begun. What it keeps grows with this allocator. In each try it asks for at
     /// most 137 steps for each node that has been taken when it ends, and for 274 more.
@@ -118,25 +150,21 @@ impl SuccessorRun {
         }
     }
 
-    /// Asks for a load of a settled word, and stands there.
-    #[inline(always)]
-    fn load(&mut self, at: SuccessorAt, node: NodeNo, part: NodeWord) -> Turn<Told>
+    /// Asks for a load of a word of a node, and stands there.
+    fn load(&mut self, at: SuccessorAt, kind: Kind, node: NodeNo, part: NodeWord) -> Turn<Told>
         ensures stands { self.new ≡ record self.old { at = at } }
-        ensures asked { result ≡ Turn.Ask record { kind = Kind.LoadSettled; word = Word.Node node part; access = Access.Load } }
+        ensures asked { result ≡ Turn.Ask record { kind = kind; word = Word.Node node part; access = Access.Load } }
     {
         self.at = at;
-        Turn::Ask(Step {
-            kind: Kind::LoadSettled,
-            word: Word::Node(node, part),
-            access: Access::Load,
-        })
+        let (word, access) = (Word::Node(node, part), Access::Load);
+        Turn::Ask(Step { kind, word, access })
     }
 
     /// Begins a try.
     fn begin(&mut self) -> Turn<Told>
         ensures turn { (c : Call) (h : History) → Goes self.old c h → SuccessorTurn c h self.new result }
         ensures begins { (c : Call) (h : History) → Goes self.old c h → MatchTurn result (λ _. Unit {0}) (λ _. ⊥) }
-        ensures same { self.new.key ≡ self.old.key }
+        ensures same { IsSameSuccessor self.old self.new }
         ensures nearer { (nodes : ℕ) → IsNearer self.new nodes result (self.old.tries * try_left nodes + try_left nodes) }
         ensures tries { self.new.tries ≡ self.old.tries }
     {
@@ -159,7 +187,7 @@ impl SuccessorRun {
     /// Ends a try that is lost to this SCX-record over this node, and begins the next if there is one.
     fn lost(&mut self, node: NodeNo, scx: ScxNo) -> Turn<Told>
         ensures turn { (c : Call) (h : History) → Goes self.old c h → IsContended c h node.0 scx.0 → SuccessorTurn c h self.new result }
-        ensures same { self.new.key ≡ self.old.key }
+        ensures same { IsSameSuccessor self.old self.new }
         ensures nearer { (nodes : ℕ) → IsNearer self.new nodes result (self.old.tries * try_left nodes) }
         ensures tries { (c : Call) (h : History) → Goes self.old c h → IsContended c h node.0 scx.0 → KeepsTries c h self.old.tries self.new.tries result }
     {
@@ -174,7 +202,7 @@ impl SuccessorRun {
     fn walk_on(&mut self, mut walk: WalkRun, turn: NodeNo, got: Option<u64>) -> Turn<Told>
         ensures turn { (c : Call) (h : History) → Goes self.old c h → walk.goal ≡ Goal.Key self.old.key → IsLastTurn c h self.old.key turn.0 → WalkIsReady walk c h got → SuccessorTurn c h self.new result }
         ensures begins { got ≡ None → (c : Call) (h : History) → WalkIsReady walk c h None → MatchTurn result (λ _. Unit {0}) (λ _. ⊥) }
-        ensures same { self.new.key ≡ self.old.key }
+        ensures same { IsSameSuccessor self.old self.new }
         ensures nearer { (nodes : ℕ) → WalkFits walk got nodes → IsNearer self.new nodes result (self.old.tries * try_left nodes + (walk_left walk.at nodes + length self.old.snaps.items + 134 * (2 + nodes))) }
         ensures tries { (c : Call) (h : History) → Goes self.old c h → walk.goal ≡ Goal.Key self.old.key → IsLastTurn c h self.old.key turn.0 → WalkIsReady walk c h got → KeepsTries c h self.old.tries self.new.tries result }
     {
@@ -184,18 +212,13 @@ impl SuccessorRun {
                 self.at = SuccessorAt::Walk { walk, turn };
                 Turn::Ask(step)
             }
-            Turn::Done(_) => self.look(Route::Along, 0, Side::Left, turn),
+            Turn::Done(_) => self.stand(SuccessorNext::Look {
+                route: Route::Along,
+                level: 0,
+                side: Side::Left,
+                node: turn,
+            }),
         }
-    }
-
-    /// Looks at a fork of this level, to go on to this side of it.
-    fn look(&mut self, route: Route, level: u64, side: Side, node: NodeNo) -> Turn<Told>
-        ensures turn { (c : Call) (h : History) → Goes self.old c h → LooksAt self.old c h route level side node.0 → SuccessorTurn c h self.new result }
-        ensures same { self.new.key ≡ self.old.key }
-        ensures nearer { (nodes : ℕ) → level + 1 < 2 + nodes → IsNearer self.new nodes result (self.old.tries * try_left nodes + (64 + length self.old.snaps.items + 1 + 67 * (1 + nodes - level) + behind route nodes)) }
-        ensures tries { (c : Call) (h : History) → Goes self.old c h → LooksAt self.old c h route level side node.0 → KeepsTries c h self.old.tries self.new.tries result }
-    {
-        self.look_on(route, level, side, LlxRun::new(node), None)
     }
 
     /// Goes on with what the last step of an LLX found.
@@ -208,7 +231,7 @@ impl SuccessorRun {
         got: Option<u64>,
     ) -> Turn<Told>
         ensures turn { (c : Call) (begin h : History) → Goes self.old c h → LooksAt self.old c h route level side llx.node.0 → Extends begin c.start → LlxIsReady TreeAllows llx (from c begin) h got → SuccessorTurn c h self.new result }
-        ensures same { self.new.key ≡ self.old.key }
+        ensures same { IsSameSuccessor self.old self.new }
         ensures nearer { (nodes : ℕ) → level + 1 < 2 + nodes → IsNearer self.new nodes result (self.old.tries * try_left nodes + (llx_left llx.at + length self.old.snaps.items + 1 + 67 * (1 + nodes - level) + behind route nodes)) }
         ensures tries { (c : Call) (begin h : History) → Goes self.old c h → LooksAt self.old c h route level side llx.node.0 → Extends begin c.start → LlxIsReady TreeAllows llx (from c begin) h got → KeepsTries c h self.old.tries self.new.tries result }
     {
@@ -222,80 +245,95 @@ impl SuccessorRun {
                 };
                 Turn::Ask(step)
             }
-            Turn::Done(Llx::Snapshot(snap)) => self.looked(route, level, side, snap),
+            Turn::Done(Llx::Snapshot(snap)) => {
+                let next = self.looked(route, level, side, snap);
+                self.proceed(next)
+            }
             Turn::Done(Llx::Finalized { node, scx }) => self.lost(node, scx),
             Turn::Done(Llx::Fail { node, scx }) => self.lost(node, scx),
         }
     }
 
-    /// Keeps a snapshot of the fork at which it looks, and goes on to a child of that. So may whoever
-    /// has made the steps of the LLX go on.
+    /// Keeps a snapshot of the fork at which it looks, and tells to which child of that it goes on.
+    ///
+    /// # Errors
+    ///
+    /// `NoMemory` where there is none to keep it.
     #[inline(always)]
-    pub fn looked(&mut self, route: Route, level: u64, side: Side, snap: Snap) -> Turn<Told>
-        ensures turn { (c : Call) (h : History) → Goes self.old c h → LooksAt self.old c h route level side snap.node.0 → IsSnapshot c.layout h snap.node.0 snap → SuccessorTurn c h self.new result }
-        ensures same { self.new.key ≡ self.old.key }
-        ensures nearer { (nodes : ℕ) → level + 1 < 2 + nodes → IsNearer self.new nodes result (self.old.tries * try_left nodes + (length self.old.snaps.items + 1 + 67 * (1 + nodes - level) + behind route nodes)) }
+    pub fn looked(
+        &mut self,
+        route: Route,
+        level: u64,
+        side: Side,
+        snap: Snap,
+    ) -> Result<SuccessorNext, Refused>
+        ensures goes_on { (c : Call) (h : History) → Goes self.old c h → LooksAt self.old c h route level side snap.node.0 → IsSnapshot c.layout h snap.node.0 snap → GoesOn c h self.new result }
+        ensures same { IsSameSuccessor self.old self.new }
+        ensures nearer { (nodes : ℕ) → level + 1 < 2 + nodes → IfOk result (λ next. ComesNearer self.new next nodes (length self.old.snaps.items + 1 + 67 * (1 + nodes - level) + behind route nodes)) }
         ensures tries { self.new.tries ≡ self.old.tries }
     {
         if self.snaps.push(snap).is_err() {
-            return Turn::Done(Err(Refused::NoMemory));
+            return Err(Refused::NoMemory);
         }
+        let above = level;
         match (route, side) {
             (Route::Along, Side::Left) => {
                 self.right = snap.right;
-                self.load_head(route, level, snap.left)
+                let node = snap.left;
+                Ok(SuccessorNext::Head { route, above, node })
             }
-            (Route::Along, Side::Right) => self.load_head(route, level, snap.right),
-            (Route::Beyond, _) => self.load_head(route, level, snap.left),
+            (Route::Along, Side::Right) => {
+                let node = snap.right;
+                Ok(SuccessorNext::Head { route, above, node })
+            }
+            (Route::Beyond, _) => {
+                let node = snap.left;
+                Ok(SuccessorNext::Head { route, above, node })
+            }
         }
     }
 
-    /// Asks for the head of a node below a fork of the level `above`.
+    /// What is done behind the head of a node. Above all keys there is no pair. Behind the path of
+    /// the key it always goes left.
     #[inline(always)]
-    fn load_head(&mut self, route: Route, above: u64, node: NodeNo) -> Turn<Told>
-        ensures turn { (c : Call) (h : History) → Goes self.old c h → StandsAt self.old c h route node.0 → above < level_at h node.0 → SuccessorTurn c h self.new result }
-        ensures same { self.new.key ≡ self.old.key }
-        ensures nearer { (nodes : ℕ) → above + 1 < 2 + nodes → IsNearer self.new nodes result (self.old.tries * try_left nodes + (length self.old.snaps.items + 67 * (1 + nodes - above) + behind route nodes)) }
-        ensures tries { self.new.tries ≡ self.old.tries }
-    {
-        let at = SuccessorAt::Head { route, above, node };
-        self.load(at, node, NodeWord::Head)
-    }
-
-    /// Goes on with the head of a node. Above all keys there is no pair. Behind the path of the key
-    /// it always goes left.
-    #[inline(always)]
-    fn head_on(&mut self, route: Route, head: Head, node: NodeNo) -> Turn<Told>
-        ensures turn { (c : Call) (h : History) → Goes self.old c h → IsOwnMoment c h → StandsAt self.old c h route node.0 → head_at h node.0 ≡ head → SuccessorTurn c h self.new result }
-        ensures same { self.new.key ≡ self.old.key }
-        ensures nearer { (nodes : ℕ) → HeadFits head nodes → IsNearer self.new nodes result (self.old.tries * try_left nodes + (length self.old.snaps.items + 67 * (2 + nodes - head.level) - 1 + behind route nodes)) }
-        ensures tries { (c : Call) (h : History) → Goes self.old c h → IsOwnMoment c h → StandsAt self.old c h route node.0 → head_at h node.0 ≡ head → KeepsTries c h self.old.tries self.new.tries result }
+    pub fn head_on(&self, route: Route, head: Head, node: NodeNo) -> SuccessorNext
+        ensures goes_on { (c : Call) (h : History) → Goes self.now c h → IsOwnMoment c h → StandsAt self.now c h route node.0 → head_at h node.0 ≡ head → MayDo self.now c h result }
+        ensures nearer { (nodes : ℕ) → HeadFits head nodes → ComesNearer self.now result nodes (length self.now.snaps.items + 67 * (2 + nodes - head.level) - 1 + behind route nodes) }
     {
         if asks_key(route, head) {
-            let at = SuccessorAt::Key { route, head, node };
-            self.load(at, node, NodeWord::Key)
+            SuccessorNext::Key { route, head, node }
         } else if head.leaf {
-            self.validate(None)
+            SuccessorNext::Validate(None)
         } else {
-            self.look(route, head.level, Side::Left, node)
+            let (level, side) = (head.level, Side::Left);
+            SuccessorNext::Look {
+                route,
+                level,
+                side,
+                node,
+            }
         }
     }
 
-    /// Goes on with the key of a node of class 0.
+    /// What is done behind the key of a node of class 0.
     #[inline(always)]
-    fn key_on(&mut self, route: Route, head: Head, node: NodeNo, key: u64) -> Turn<Told>
-        ensures turn { (c : Call) (h : History) → Goes self.old c h → StandsAt self.old c h route node.0 → HasHead h route node.0 head → key_at h node.0 ≡ key → SuccessorTurn c h self.new result }
-        ensures same { self.new.key ≡ self.old.key }
-        ensures nearer { (nodes : ℕ) → HeadFits head nodes → IsNearer self.new nodes result (self.old.tries * try_left nodes + (length self.old.snaps.items + 67 * (2 + nodes - head.level) - 2 + behind route nodes)) }
-        ensures tries { (c : Call) (h : History) → Goes self.old c h → StandsAt self.old c h route node.0 → HasHead h route node.0 head → key_at h node.0 ≡ key → KeepsTries c h self.old.tries self.new.tries result }
+    pub fn key_on(&self, route: Route, head: Head, node: NodeNo, key: u64) -> SuccessorNext
+        ensures goes_on { (c : Call) (h : History) → Goes self.now c h → StandsAt self.now c h route node.0 → HasHead h route node.0 head → key_at h node.0 ≡ key → MayDo self.now c h result }
+        ensures nearer { (nodes : ℕ) → HeadFits head nodes → ComesNearer self.now result nodes (length self.now.snaps.items + 67 * (2 + nodes - head.level) - 2 + behind route nodes) }
     {
         if !head.leaf {
-            self.look(route, head.level, self.side(key), node)
+            let (level, side) = (head.level, self.side(key));
+            SuccessorNext::Look {
+                route,
+                level,
+                side,
+                node,
+            }
         } else if self.is_answer(route, key) {
-            let at = SuccessorAt::Value { key, node };
-            self.load(at, node, NodeWord::Value)
+            SuccessorNext::Value { key, node }
         } else {
-            self.load_head(Route::Beyond, 0, self.right)
+            let (route, above, node) = (Route::Beyond, 0, self.right);
+            SuccessorNext::Head { route, above, node }
         }
     }
 
@@ -323,7 +361,7 @@ impl SuccessorRun {
     /// Looks whether all nodes are still as they were found.
     fn validate(&mut self, found: Option<Pair>) -> Turn<Told>
         ensures turn { (c : Call) (h : History) → Goes self.old c h → IsOwnMoment c h → 0 < length self.old.snaps.items → Whenever c.layout h self.old.snaps.items (λ b. IsNextAt c.layout b self.old.key found) → SuccessorTurn c h self.new result }
-        ensures same { self.new.key ≡ self.old.key }
+        ensures same { IsSameSuccessor self.old self.new }
         ensures nearer { (nodes : ℕ) → IsNearer self.new nodes result (self.old.tries * try_left nodes + length self.old.snaps.items) }
         ensures tries { (c : Call) (h : History) → Goes self.old c h → IsOwnMoment c h → 0 < length self.old.snaps.items → Whenever c.layout h self.old.snaps.items (λ b. IsNextAt c.layout b self.old.key found) → KeepsTries c h self.old.tries self.new.tries result }
     {
@@ -333,7 +371,7 @@ impl SuccessorRun {
     /// Goes on with what the last step of the VLX found.
     fn validate_on(&mut self, asked: usize, found: Option<Pair>, got: Option<u64>) -> Turn<Told>
         ensures turn { (c : Call) (begin h : History) → Goes self.old c h → Validates self.old c h begin found → VlxIsReady self.old.snaps.items asked (from c begin) h got → SuccessorTurn c h self.new result }
-        ensures same { self.new.key ≡ self.old.key }
+        ensures same { IsSameSuccessor self.old self.new }
         ensures nearer { (nodes : ℕ) → IsNearer self.new nodes result (self.old.tries * try_left nodes + vlx_left self.old.snaps.items asked) }
         ensures tries { (c : Call) (begin h : History) → Goes self.old c h → Validates self.old c h begin found → VlxIsReady self.old.snaps.items asked (from c begin) h got → KeepsTries c h self.old.tries self.new.tries result }
     {
@@ -353,14 +391,68 @@ impl SuccessorRun {
         }
     }
 
+    /// Begins what comes next, and stands there.
+    fn stand(&mut self, next: SuccessorNext) -> Turn<Told>
+        ensures turn { (c : Call) (h : History) → Goes self.old c h → MayDo self.old c h next → SuccessorTurn c h self.new result }
+        ensures same { IsSameSuccessor self.old self.new }
+        ensures nearer { (nodes n : ℕ) → ComesNearer self.old next nodes n → IsNearer self.new nodes result (self.old.tries * try_left nodes + n) }
+        ensures tries { (c : Call) (h : History) → Goes self.old c h → MayDo self.old c h next → KeepsTries c h self.old.tries self.new.tries result }
+    {
+        match next {
+            SuccessorNext::Look {
+                route,
+                level,
+                side,
+                node,
+            } => {
+                let llx = LlxRun {
+                    node,
+                    at: LlxAt::Marked,
+                };
+                let at = SuccessorAt::Look {
+                    route,
+                    level,
+                    side,
+                    llx,
+                };
+                self.load(at, Kind::LoadMarked, node, NodeWord::Marked)
+            }
+            SuccessorNext::Head { route, above, node } => {
+                let at = SuccessorAt::Head { route, above, node };
+                self.load(at, Kind::LoadSettled, node, NodeWord::Head)
+            }
+            SuccessorNext::Key { route, head, node } => {
+                let at = SuccessorAt::Key { route, head, node };
+                self.load(at, Kind::LoadSettled, node, NodeWord::Key)
+            }
+            SuccessorNext::Value { key, node } => {
+                let at = SuccessorAt::Value { key, node };
+                self.load(at, Kind::LoadSettled, node, NodeWord::Value)
+            }
+            SuccessorNext::Validate(found) => self.validate(found),
+        }
+    }
+
+    /// Begins what comes next, or ends where that is refused.
+    fn proceed(&mut self, next: Result<SuccessorNext, Refused>) -> Turn<Told>
+        ensures turn { (c : Call) (h : History) → GoesOn c h self.old next → SuccessorTurn c h self.new result }
+        ensures same { IsSameSuccessor self.old self.new }
+        ensures nearer { (nodes n : ℕ) → IfOk next (λ now. ComesNearer self.old now nodes n) → IsNearer self.new nodes result (self.old.tries * try_left nodes + n) }
+        ensures tries { (c : Call) (h : History) → GoesOn c h self.old next → KeepsTries c h self.old.tries self.new.tries result }
+    {
+        match next {
+            Ok(now) => self.stand(now),
+            Err(refused) => Turn::Done(Err(refused)),
+        }
+    }
+
     /// Goes on with what the last step found; with nothing at the first call, which asks for a step.
     /// It gives up one try at most, where an SCX-record of another pass was in the way of the call;
     /// and none as it ends.
-    #[inline(always)]
     pub fn step(&mut self, got: Option<u64>) -> Turn<Told>
         ensures turn { (c : Call) (h : History) → SuccessorIsReady self.old c h got → SuccessorTurn c h self.new result }
         ensures begins { got ≡ None → (c : Call) (h : History) → SuccessorIsReady self.old c h None → MatchTurn result (λ _. Unit {0}) (λ _. ⊥) }
-        ensures same { self.new.key ≡ self.old.key }
+        ensures same { IsSameSuccessor self.old self.new }
         ensures nearer { (nodes : ℕ) → SuccessorFits self.old got nodes → IsNearer self.new nodes result (successor_left self.old nodes) }
         ensures tries { (c : Call) (h : History) → SuccessorIsReady self.old c h got → KeepsTries c h self.old.tries self.new.tries result }
     {
@@ -378,8 +470,14 @@ impl SuccessorRun {
                 route,
                 above: _,
                 node,
-            } => self.head_on(route, Head::of(value), node),
-            SuccessorAt::Key { route, head, node } => self.key_on(route, head, node, value),
+            } => {
+                let next = self.head_on(route, Head::of(value), node);
+                self.stand(next)
+            }
+            SuccessorAt::Key { route, head, node } => {
+                let next = self.key_on(route, head, node, value);
+                self.stand(next)
+            }
             SuccessorAt::Value { key, node: _ } => self.validate(Some(Pair { key, value })),
             SuccessorAt::Validate { asked, found } => self.validate_on(asked, found, got),
         }
@@ -389,9 +487,8 @@ impl SuccessorRun {
 impl Machine<Tree> for SuccessorRun {
     type Answer = Result<Option<Pair>, Refused>;
 
-    ghost use Rattle.std.specs.Prelude.{◌≡◌};
     ghost use Rattle.order.specs.Successor.Steps.{successor_left, SuccessorFits};
-    ghost use Rattle.order.specs.Successor.Known.{SuccessorIsReady, SuccessorWaits, SuccessorAnswers};
+    ghost use Rattle.order.specs.Successor.Known.{IsSameSuccessor, SuccessorIsReady, SuccessorWaits, SuccessorAnswers};
     ghost use Rattle.order.specs.Successor.Laws.{successor_keeps, successor_lawful, successor_made, successor_told};
 
     ghost ready = { SuccessorIsReady };
@@ -400,7 +497,7 @@ impl Machine<Tree> for SuccessorRun {
 
     ghost answers = { SuccessorAnswers };
 
-    ghost same = { λ old now. now.key ≡ old.key };
+    ghost same = { IsSameSuccessor };
 
     ghost left = { successor_left };
 
@@ -408,7 +505,6 @@ impl Machine<Tree> for SuccessorRun {
 
     ghost asks_first = { λ _. Unit {0} };
 
-    #[inline(always)]
     fn next(&mut self, got: Option<u64>) -> Turn<Told> {
         self.step(got)
     }

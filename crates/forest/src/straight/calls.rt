@@ -15,7 +15,7 @@ ghost use Rattle.forest.specs.Traces.{seat_steps, shared_nodes};
 ghost use Rattle.forest.specs.StraightCalls.{EditHasEnded, IsFreshEdit, SeatDictBegins, SeatDictEnds, SeatWordEnds, map_edit};
 
 use crate::fault::UpdateFault;
-use crate::straight::{reading, updating};
+use crate::straight::{searching, updating, visiting};
 use crate::view::SeatView;
 use crate::words::Words;
 use arena::{Layout, Share};
@@ -102,7 +102,7 @@ fn in_words<K: WordKey, V: WordValue>(
             run: inner,
             share: _,
         } => {
-            let told = reading::successor::<Dict<K, V>, DictRun<K, V>>(
+            let told = searching::call::<Dict<K, V>, DictRun<K, V>>(
                 words, layout, seat, number, inner,
             );
             WordReply::of_successor(told)
@@ -111,11 +111,12 @@ fn in_words<K: WordKey, V: WordValue>(
             run: inner,
             share: _,
         } => {
-            let told = reading::range::<Dict<K, V>, DictRun<K, V>>(
+            let told = visiting::call::<Dict<K, V>, DictRun<K, V>>(
                 words, layout, seat, number, inner,
             );
             WordReply::of_range(told)
         }
+        // Never: its callers make ordered reads alone, by the clause `ordered`.
         MapRun::Insert(_) | MapRun::Delete(_) | MapRun::Get { .. } => unreachable!(),
     }
 }

@@ -19,7 +19,7 @@ use prims::{Llx, LlxAt, LlxRun, Snap};
 
 /// A load of this word.
 #[inline(always)]
-fn load(kind: Kind, word: Word) -> Step
+pub(crate) fn load(kind: Kind, word: Word) -> Step
     ensures { result ≡ load kind word }
 {
     let access = Access::Load;

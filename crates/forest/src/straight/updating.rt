@@ -42,7 +42,7 @@ pub(crate) fn call<S: Shape, M: Machine<S>, E: Edit + Copy>(
     ensures ends { (u : Updater S.allows M.ready M.waits M.same E.means layout.now number) → UpdaterBegins S.allows M.ready M.waits M.same E.means layout.now number u seat.old.me.0.passes run.old → UpdaterEnds S.allows M.ready M.waits M.same E.means layout.now number u seat.new.me.0.passes run.new result }
     ensures steps { seat_steps seat.new.me.0.passes ≤ seat_steps seat.old.me.0.passes + update_left E.means (standing run.old UpdateAt.Start) (shared_nodes layout.now) }
 {
-    let found = anew(&walk::call::<S, M>(words, layout, seat, number, key));
+    let found = anew(&walk::call::<S, M>(words, layout, seat, number, key).0);
     let next = run.test_share(&found);
     try_on::<S, M, E>(words, layout, seat, number, run, &found, next)
 }

@@ -1,9 +1,11 @@
 //! Walks to a key, of whatever machine walks.
-ghost use Rattle.std.specs.Prelude.{◌≡◌, ◌≢◌, ◌≤◌, ◌+◌, ◌*◌, suc, true, false, cond, ltb, IfOk, IfErr};
+ghost use Rattle.std.specs.Prelude.{◌≡◌, ◌≢◌, ◌≤◌, ◌+◌, ◌*◌, ℕ, suc, true, false, cond, ltb, IfOk, IfErr};
 ghost use Rattle.arena.specs.Heads.{head_of};
+ghost use Rattle.arena.specs.declared.number.NodeNo.{NodeNo};
 ghost use Rattle.forest.specs.TableRule.{IsTableOf};
 ghost use Rattle.forest.specs.Traces.{seat_steps, shared_nodes};
 ghost use Rattle.forest.specs.StraightWalk.{Walker, WalkerWaits, WalkerIsTold, WalkerFinds};
+ghost use Rattle.order.specs.Successor.Steps.{last_turn};
 ghost use Rattle.prims.specs.Llx.Known.{load};
 ghost use Rattle.template.specs.declared.walk.WalkRun.{WalkRun};
 ghost use Rattle.template.specs.Walk.Places.{walk_at, walk_from, LoadsHead};
@@ -27,10 +29,10 @@ fn read<S: Shape, M: Machine<S>>(
     part: NodeWord,
 ) -> u64
     requires table { IsTableOf words.now.table.shared.table_id words.now.table.shared.key layout.now × (seat.old.table_id ≡ words.now.table.shared.table_id) }
-    requires waits { (w : Walker S.allows M.ready M.waits M.same layout.now number) × (m : WalkRun) × WalkerWaits S.allows M.ready M.waits M.same layout.now number w seat.old.me.0.passes m (load kind (Word.Node node part)) }
+    requires waits { (w : Walker S.allows M.ready M.waits M.same layout.now number) × (m : WalkRun) × (turn : NodeNo) × WalkerWaits S.allows M.ready M.waits M.same layout.now number w seat.old.me.0.passes m turn (load kind (Word.Node node part)) }
     ensures table { (seat.new.table_id ≡ seat.old.table_id) × (seat.new.me.1 ≡ seat.old.me.1) }
     ensures one { seat_steps seat.new.me.0.passes ≡ suc (seat_steps seat.old.me.0.passes) }
-    ensures told { (w : Walker S.allows M.ready M.waits M.same layout.now number) (m : WalkRun) → WalkerWaits S.allows M.ready M.waits M.same layout.now number w seat.old.me.0.passes m (load kind (Word.Node node part)) → WalkerIsTold S.allows M.ready M.waits M.same layout.now number w seat.new.me.0.passes m result }
+    ensures told { (w : Walker S.allows M.ready M.waits M.same layout.now number) (m : WalkRun) (turn : NodeNo) → WalkerWaits S.allows M.ready M.waits M.same layout.now number w seat.old.me.0.passes m turn (load kind (Word.Node node part)) → WalkerIsTold S.allows M.ready M.waits M.same layout.now number w seat.new.me.0.passes m turn result }
 {
     let word = Word::Node(node, part);
     let access = Access::Load;
@@ -81,10 +83,10 @@ fn end<S: Shape, M: Machine<S>>(
 ) -> Found
     requires table { IsTableOf words.now.table.shared.table_id words.now.table.shared.key layout.now × (seat.old.table_id ≡ words.now.table.shared.table_id) }
     requires leaf { head.leaf ≡ true }
-    requires told { (w : Walker S.allows M.ready M.waits M.same layout.now number) × WalkerIsTold S.allows M.ready M.waits M.same layout.now number w seat.old.me.0.passes (walk_at wanted trail (WalkAt.Key head)) key }
+    requires told { (w : Walker S.allows M.ready M.waits M.same layout.now number) × (turn : NodeNo) × WalkerIsTold S.allows M.ready M.waits M.same layout.now number w seat.old.me.0.passes (walk_at wanted trail (WalkAt.Key head)) turn key }
     ensures table { (seat.new.table_id ≡ seat.old.table_id) × (seat.new.me.1 ≡ seat.old.me.1) }
     ensures steps { seat_steps seat.new.me.0.passes ≤ seat_steps seat.old.me.0.passes + 1 }
-    ensures finds { (w : Walker S.allows M.ready M.waits M.same layout.now number) → WalkerIsTold S.allows M.ready M.waits M.same layout.now number w seat.old.me.0.passes (walk_at wanted trail (WalkAt.Key head)) key → WalkerFinds S.allows M.ready M.waits M.same layout.now number w seat.new.me.0.passes wanted result }
+    ensures finds { (w : Walker S.allows M.ready M.waits M.same layout.now number) (turn : NodeNo) → WalkerIsTold S.allows M.ready M.waits M.same layout.now number w seat.old.me.0.passes (walk_at wanted trail (WalkAt.Key head)) turn key → WalkerFinds S.allows M.ready M.waits M.same layout.now number w seat.new.me.0.passes wanted turn result }
 {
     if wanted != key {
         return Found {
@@ -118,12 +120,12 @@ fn pass<S: Shape, M: Machine<S>>(
 ) -> Result<Side, Found>
     requires place { LoadsHead at }
     requires table { IsTableOf words.now.table.shared.table_id words.now.table.shared.key layout.now × (seat.old.table_id ≡ words.now.table.shared.table_id) }
-    requires told { (w : Walker S.allows M.ready M.waits M.same layout.now number) × WalkerIsTold S.allows M.ready M.waits M.same layout.now number w seat.old.me.0.passes (walk_at wanted trail at) word }
+    requires told { (w : Walker S.allows M.ready M.waits M.same layout.now number) × (turn : NodeNo) × WalkerIsTold S.allows M.ready M.waits M.same layout.now number w seat.old.me.0.passes (walk_at wanted trail at) turn word }
     ensures table { (seat.new.table_id ≡ seat.old.table_id) × (seat.new.me.1 ≡ seat.old.me.1) }
     ensures steps { IfOk result (λ _. seat_steps seat.new.me.0.passes ≤ seat_steps seat.old.me.0.passes + 1) }
     ensures last_steps { IfErr result (λ _. seat_steps seat.new.me.0.passes ≤ seat_steps seat.old.me.0.passes + 2) }
-    ensures down { IfOk result (λ side. (w : Walker S.allows M.ready M.waits M.same layout.now number) → WalkerIsTold S.allows M.ready M.waits M.same layout.now number w seat.old.me.0.passes (walk_at wanted trail at) word → WalkerWaits S.allows M.ready M.waits M.same layout.now number w seat.new.me.0.passes (walk_at wanted trail (WalkAt.Child (head_of word).level side)) (load Kind.LoadChild (Word.Node trail.node (NodeWord.Child side)))) }
-    ensures finds { IfErr result (λ found. (w : Walker S.allows M.ready M.waits M.same layout.now number) → WalkerIsTold S.allows M.ready M.waits M.same layout.now number w seat.old.me.0.passes (walk_at wanted trail at) word → WalkerFinds S.allows M.ready M.waits M.same layout.now number w seat.new.me.0.passes wanted found) }
+    ensures down { IfOk result (λ side. (w : Walker S.allows M.ready M.waits M.same layout.now number) (turn : NodeNo) → WalkerIsTold S.allows M.ready M.waits M.same layout.now number w seat.old.me.0.passes (walk_at wanted trail at) turn word → WalkerWaits S.allows M.ready M.waits M.same layout.now number w seat.new.me.0.passes (walk_at wanted trail (WalkAt.Child (head_of word).level side)) (last_turn (WalkAt.Child (head_of word).level side) trail.node turn) (load Kind.LoadChild (Word.Node trail.node (NodeWord.Child side)))) }
+    ensures finds { IfErr result (λ found. (w : Walker S.allows M.ready M.waits M.same layout.now number) (turn : NodeNo) → WalkerIsTold S.allows M.ready M.waits M.same layout.now number w seat.old.me.0.passes (walk_at wanted trail at) turn word → WalkerFinds S.allows M.ready M.waits M.same layout.now number w seat.new.me.0.passes wanted turn found) }
 {
     let head = Head::of(word);
     if is_high(word) {
@@ -145,7 +147,20 @@ fn pass<S: Shape, M: Machine<S>>(
     Ok(side_of(wanted, key))
 }
 
-/// The walk from the root to the leaf where a key stands, or would stand.
+/// The last fork where a walk has turned left, which was `turn` before it went on to this side of
+/// the fork `node`.
+#[inline(always)]
+fn turn_at(side: Side, node: NodeNo, turn: NodeNo) -> NodeNo
+    ensures { (level : ℕ) → result ≡ last_turn (WalkAt.Child level side) node turn }
+{
+    match side {
+        Side::Left => node,
+        Side::Right => turn,
+    }
+}
+
+/// The walk from the root to the leaf where a key stands, or would stand, and the last fork where
+/// it turned left, or the root if it turned left at none.
 #[inline(always)]
 pub(crate) fn call<S: Shape, M: Machine<S>>(
     words: &Words<S>,
@@ -153,12 +168,12 @@ pub(crate) fn call<S: Shape, M: Machine<S>>(
     seat: &mut Seat<u8, SeatView>,
     number: u64,
     wanted: u64,
-) -> Found
+) -> (Found, NodeNo)
     requires table { IsTableOf words.now.table.shared.table_id words.now.table.shared.key layout.now × (seat.old.table_id ≡ words.now.table.shared.table_id) }
-    requires waits { (w : Walker S.allows M.ready M.waits M.same layout.now number) × WalkerWaits S.allows M.ready M.waits M.same layout.now number w seat.old.me.0.passes (walk_from wanted) (load Kind.LoadSettled (Word.Node record { 0 = 0 } NodeWord.Head)) }
+    requires waits { (w : Walker S.allows M.ready M.waits M.same layout.now number) × WalkerWaits S.allows M.ready M.waits M.same layout.now number w seat.old.me.0.passes (walk_from wanted) record { 0 = 0 } (load Kind.LoadSettled (Word.Node record { 0 = 0 } NodeWord.Head)) }
     ensures table { (seat.new.table_id ≡ seat.old.table_id) × (seat.new.me.1 ≡ seat.old.me.1) }
     ensures steps { seat_steps seat.new.me.0.passes ≤ seat_steps seat.old.me.0.passes + 3 * (2 + shared_nodes layout.now) }
-    ensures finds { (w : Walker S.allows M.ready M.waits M.same layout.now number) → WalkerWaits S.allows M.ready M.waits M.same layout.now number w seat.old.me.0.passes (walk_from wanted) (load Kind.LoadSettled (Word.Node record { 0 = 0 } NodeWord.Head)) → WalkerFinds S.allows M.ready M.waits M.same layout.now number w seat.new.me.0.passes wanted result }
+    ensures finds { (w : Walker S.allows M.ready M.waits M.same layout.now number) → WalkerWaits S.allows M.ready M.waits M.same layout.now number w seat.old.me.0.passes (walk_from wanted) record { 0 = 0 } (load Kind.LoadSettled (Word.Node record { 0 = 0 } NodeWord.Head)) → WalkerFinds S.allows M.ready M.waits M.same layout.now number w seat.new.me.0.passes wanted result.1 result.0 }
 {
     let layout = *layout;
     let root = NodeNo(0);
@@ -169,7 +184,7 @@ pub(crate) fn call<S: Shape, M: Machine<S>>(
         side: Side::Left,
         node: root,
     };
-    let mut at = WalkAt::Root;
+    let (mut at, mut turn) = (WalkAt::Root, root);
     loop {
         let node = trail.node;
         let (kind, part) = (Kind::LoadSettled, NodeWord::Head);
@@ -177,10 +192,11 @@ pub(crate) fn call<S: Shape, M: Machine<S>>(
         let head = Head::of(word);
         let side = match pass::<S, M>(words, &layout, seat, number, wanted, trail, at, word) {
             Ok(side) => side,
-            Err(found) => return found,
+            Err(found) => return (found, turn),
         };
         let (kind, part) = (Kind::LoadChild, NodeWord::Child(side));
         let child = read::<S, M>(words, &layout, seat, number, kind, node, part);
+        turn = turn_at(side, node, turn);
         trail = Trail {
             grand: trail.parent,
             grand_side: trail.side,

@@ -127,6 +127,10 @@ pub record Validates (m : SuccessorRun) (c : Call) (h begin : History) (found : 
   pub then : Reads c begin m.snaps.items
   pub right : AllHold begin m.snaps.items → IsNextAt c.layout begin m.key found
 
+-- the second is the first, further on
+abbrev pub IsSameSuccessor : SuccessorRun → SuccessorRun → Type 0
+IsSameSuccessor old now = now.key ≡ old.key
+
 -- What it waits for
 
 -- what holds at any place

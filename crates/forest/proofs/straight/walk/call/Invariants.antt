@@ -15,8 +15,8 @@ invariant-loop-side g l = record {
   place : LoadsHead l.at;
   steps : seat_steps l.seat.me.0.passes + suc (walk_left l.at (shared_nodes l.layout)) ≤ seat_steps l.fn.seat.me.0.passes + 3 * (2 + shared_nodes l.layout);
   waits : (w : Walker {M = g.row.M.Denot} g.S.Shape.allows g.M.Machine.ready g.M.Machine.waits g.M.Machine.same l.layout l.number)
-      → WalkerWaits g.S.Shape.allows g.M.Machine.ready g.M.Machine.waits g.M.Machine.same l.layout l.number w l.fn.seat.me.0.passes (walk_from l.wanted) (load LoadSettled (node 0 Head))
-      → WalkerWaits g.S.Shape.allows g.M.Machine.ready g.M.Machine.waits g.M.Machine.same l.layout l.number w l.seat.me.0.passes (walk_at l.wanted l.trail l.at) (load LoadSettled (node l.trail.node.0 Head));
+      → WalkerWaits g.S.Shape.allows g.M.Machine.ready g.M.Machine.waits g.M.Machine.same l.layout l.number w l.fn.seat.me.0.passes (walk_from l.wanted) record { 0 = 0 } (load LoadSettled (node 0 Head))
+      → WalkerWaits g.S.Shape.allows g.M.Machine.ready g.M.Machine.waits g.M.Machine.same l.layout l.number w l.seat.me.0.passes (walk_at l.wanted l.trail l.at) l.turn (load LoadSettled (node l.trail.node.0 Head));
 }
 
 abbrev pub decreases-loop-side : goal.decreases-loop-side

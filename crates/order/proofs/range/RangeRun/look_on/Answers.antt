@@ -10,7 +10,7 @@ pub returns-in-Ask-clause-nearer : goal.returns-in-Ask-clause-nearer
 returns-in-Ask-clause-nearer c nodes fits = less_look _ _ _ _ _ _ (rw c.in-Ask.is at c.next.ensures.nearer nodes tt)
 
 pub returns-in-Done-Snapshot-clause-nearer : goal.returns-in-Done-Snapshot-clause-nearer
-returns-in-Done-Snapshot-clause-nearer c nodes fits = below c.looked.result _ _ _ (c.looked.ensures.nearer nodes fits) (from_looked _ _ _ _ _)
+returns-in-Done-Snapshot-clause-nearer c nodes fits = below c.proceed.result _ _ _ (rw (c.looked-next.ensures.tries, c.looked-next.ensures.same.2) at (c.proceed.ensures.nearer nodes _ (c.looked-next.ensures.nearer nodes fits))) (from_looked _ _ _ _ _)
 
 pub returns-in-Done-Finalized-clause-nearer : goal.returns-in-Done-Finalized-clause-nearer
 returns-in-Done-Finalized-clause-nearer c nodes fits = below c.lost.result _ _ _ (c.lost.ensures.nearer nodes) (to_tries _ _)
@@ -24,7 +24,12 @@ returns-in-Ask-clause-turn c d begin h goes x since ready = looks_on c.args.self
 pub returns-in-Done-Snapshot-clause-turn : goal.returns-in-Done-Snapshot-clause-turn
 returns-in-Done-Snapshot-clause-turn c d begin h goes x since ready =
     let s = snapped c.args.self.now d begin h c.args.level c.args.left c.args.right c.args.llx c.next.new.self c.next.result goes x since c.next.ensures.same (c.next.ensures.turn (from d begin) h goes.reads.run.1 ready) c.in-Done-Snapshot.snap (c.in-Done-Snapshot.is ∙ ap (λ a. Done a) c.in-Done-Snapshot.field-0-is) in
-    c.looked.ensures.turn d h goes (rw (← c.in-Done-Snapshot.snap-is) at s.0) (rw (← c.in-Done-Snapshot.snap-is) at s.1)
+    c.proceed.ensures.turn d h (c.looked-next.ensures.goes_on d h goes (rw (← c.in-Done-Snapshot.snap-is) at s.0) (rw (← c.in-Done-Snapshot.snap-is) at s.1))
+
+pub returns-in-Done-Snapshot-clause-tries : goal.returns-in-Done-Snapshot-clause-tries
+returns-in-Done-Snapshot-clause-tries c d begin h goes x since ready =
+    let s = snapped c.args.self.now d begin h c.args.level c.args.left c.args.right c.args.llx c.next.new.self c.next.result goes x since c.next.ensures.same (c.next.ensures.turn (from d begin) h goes.reads.run.1 ready) c.in-Done-Snapshot.snap (c.in-Done-Snapshot.is ∙ ap (λ a. Done a) c.in-Done-Snapshot.field-0-is) in
+    rw c.looked-next.ensures.tries at (c.proceed.ensures.tries d h (c.looked-next.ensures.goes_on d h goes (rw (← c.in-Done-Snapshot.snap-is) at s.0) (rw (← c.in-Done-Snapshot.snap-is) at s.1)))
 
 pub returns-in-Done-Finalized-clause-turn : goal.returns-in-Done-Finalized-clause-turn
 returns-in-Done-Finalized-clause-turn c d begin h goes x since ready =

@@ -22,17 +22,17 @@ returns-in-Look-clause-turn c d h r =
 pub returns-in-Head-clause-turn : goal.returns-in-Head-clause-turn
 returns-in-Head-clause-turn c d h r =
     let t = at_head c.args.self.now d h c.args.got c.in-Head.route _ c.in-Head.node c.in-Head.is r in
-    c.head_on.ensures.turn d h t.0 t.1 t.2 (ap head_of (t.3 ∙ sym c.unwrap_or-value.ensures) ∙ sym c.of.ensures)
+    c.stand.ensures.turn d h t.0 (c.head_on-next.ensures.goes_on d h t.0 t.1 t.2 (ap head_of (t.3 ∙ sym c.unwrap_or-value.ensures) ∙ sym c.of.ensures))
 
 pub returns-in-Head-clause-nearer : goal.returns-in-Head-clause-nearer
 returns-in-Head-clause-nearer c nodes fits =
     let t = head_nearer c.args.self.now c.args.got nodes c.in-Head.route _ c.in-Head.node c.of.result (c.of.ensures ∙ ap head_of c.unwrap_or-value.ensures) c.in-Head.is fits in
-    below c.head_on.result _ _ _ (c.head_on.ensures.nearer nodes t.0) t.1
+    below c.stand.result _ _ _ (c.stand.ensures.nearer nodes _ (c.head_on-next.ensures.nearer nodes t.0)) t.1
 
 pub returns-in-Key-clause-turn : goal.returns-in-Key-clause-turn
 returns-in-Key-clause-turn c d h r =
     let t = at_key c.args.self.now d h c.args.got c.in-Key.route c.in-Key.head c.in-Key.node c.in-Key.is r in
-    c.key_on.ensures.turn d h t.0 t.1 t.2 (t.3 ∙ sym c.unwrap_or-value.ensures)
+    c.stand-in-Key.ensures.turn d h t.0 (c.key_on-next.ensures.goes_on d h t.0 t.1 t.2 (t.3 ∙ sym c.unwrap_or-value.ensures))
 
 pub returns-in-Value-clause-turn : goal.returns-in-Value-clause-turn
 returns-in-Value-clause-turn c d h r =
@@ -78,12 +78,12 @@ returns-in-Look-clause-tries c d h r =
 pub returns-in-Head-clause-tries : goal.returns-in-Head-clause-tries
 returns-in-Head-clause-tries c d h r =
     let t = at_head c.args.self.now d h c.args.got c.in-Head.route _ c.in-Head.node c.in-Head.is r in
-    c.head_on.ensures.tries d h t.0 t.1 t.2 (ap head_of (t.3 ∙ sym c.unwrap_or-value.ensures) ∙ sym c.of.ensures)
+    c.stand.ensures.tries d h t.0 (c.head_on-next.ensures.goes_on d h t.0 t.1 t.2 (ap head_of (t.3 ∙ sym c.unwrap_or-value.ensures) ∙ sym c.of.ensures))
 
 pub returns-in-Key-clause-tries : goal.returns-in-Key-clause-tries
 returns-in-Key-clause-tries c d h r =
     let t = at_key c.args.self.now d h c.args.got c.in-Key.route c.in-Key.head c.in-Key.node c.in-Key.is r in
-    c.key_on.ensures.tries d h t.0 t.1 t.2 (t.3 ∙ sym c.unwrap_or-value.ensures)
+    c.stand-in-Key.ensures.tries d h t.0 (c.key_on-next.ensures.goes_on d h t.0 t.1 t.2 (t.3 ∙ sym c.unwrap_or-value.ensures))
 
 pub returns-in-Value-clause-tries : goal.returns-in-Value-clause-tries
 returns-in-Value-clause-tries c d h r =

@@ -1,0 +1,272 @@
+-- From place to place of a successor, of whatever machine makes one.
+use Rattle.std.proofs.Common.{◌≡◌, ◌∙◌, ℕ, suc, ◌+◌, ◌-◌, ◌*◌, ◌^◌, ◌<◌, ◌≤◌, Bool, List, Option, None, Some, Result, length, [], inl, refl, sym, ap, subst, arith}
+use Rattle.std.specs.Global.{Global}
+use Rattle.std.specs.Prelude.{Vec}
+use Rattle.arena.specs.declared.head.Head.{Head as HeadParts}
+use Rattle.arena.specs.declared.layout.Layout.{Layout}
+use Rattle.arena.specs.declared.machine.Turn.{Turn}
+use Rattle.arena.specs.declared.machine.Turn.TheVariants.{Ask, Done}
+use Rattle.arena.specs.declared.number.NodeNo.{NodeNo}
+use Rattle.arena.specs.declared.number.ScxNo.{ScxNo}
+use Rattle.arena.specs.declared.step.Kind.TheVariants.{LoadInfo, LoadMarked, LoadSettled, LoadState}
+use Rattle.arena.specs.declared.step.Step.{Step}
+use Rattle.arena.specs.declared.word.NodeWord.TheVariants.{Head as HeadWord}
+use Rattle.arena.specs.declared.word.Side.{Side}
+use Rattle.arena.specs.declared.word.Side.TheVariants.{Left}
+use Rattle.arena.specs.Heads.{head_of}
+use Rattle.arena.specs.History.{History}
+use Rattle.arena.specs.Machines.{Call, IsRun, MatchTurn}
+use Rattle.arena.specs.Words.{info, marked, node, state}
+use Rattle.order.specs.Reads.{from}
+use Rattle.order.specs.Successor.Known.{Goes, HasHead, IsSameSuccessor, LooksAt, StandsAt, SuccessorAnswers, SuccessorIsReady, SuccessorWaits, head_at, key_at}
+use Rattle.order.specs.Successor.Laws.{successor_told}
+use Rattle.order.specs.Successor.Next.{ComesNearer, MayDo, next_step, placed}
+use Rattle.order.specs.Successor.Steps.{HeadFits, SuccessorFits, behind, last_turn, phase_left, successor_left, try_left}
+use Rattle.order.specs.declared.refused.Refused.{Refused}
+use Rattle.order.specs.declared.successor.Route.{Route}
+use Rattle.order.specs.declared.successor.Route.TheVariants.{Along}
+use Rattle.order.specs.declared.successor.SuccessorAt.TheVariants.{Start, Look, Walk, Validate}
+use Rattle.order.specs.declared.successor.SuccessorNext.{SuccessorNext}
+use Rattle.order.specs.declared.successor.SuccessorNext.TheVariants.{Look as LookNext, Head as HeadNext, Key as KeyNext, Value as ValueNext, Validate as ValidateNext}
+use Rattle.order.specs.declared.successor.SuccessorRun.{SuccessorRun}
+use Rattle.order.proofs.Lemmas.{next_waits, placed_nearer, value_found, walk_found, walk_waits}
+use Rattle.prims.specs.Llx.Known.{load, IsSnapshot}
+use Rattle.prims.specs.Snap.{snap_at}
+use Rattle.prims.specs.Vlx.Laws.{looked_on, looks_next}
+use Rattle.prims.specs.declared.llx.LlxAt.TheVariants.{Marked, StateAgain}
+use Rattle.prims.specs.declared.llx.LlxRun.{LlxRun}
+use Rattle.prims.specs.declared.snap.Snap.{Snap}
+use Rattle.spelling.specs.TreeShape.{TreeAllows}
+use Rattle.spelling.specs.declared.pair.Pair.{Pair}
+use Rattle.template.specs.Trails.{IsOwnMoment}
+use Rattle.template.specs.Walk.Places.{walk_from}
+use Rattle.template.specs.declared.walk.Found.{Found}
+use Rattle.template.specs.declared.walk.WalkRun.{WalkRun}
+use Rattle.template.proofs.Lemmas.{walk_begins}
+use Rattle.forest.specs.declared.view.SeatedPass.{SeatedPass}
+use Rattle.forest.specs.StraightLlx.{llx_at}
+use Rattle.forest.specs.StraightLook.{Looker, LookerSnaps, LookerWaits}
+use Rattle.forest.specs.StraightReads.{ReaderIsTold, ReaderStands, ReaderWaits, SearchBegins, SearchEnds, SearchWaits, SuccessorReader}
+use Rattle.forest.specs.StraightValidate.{Validator, ValidatorIsTold, ValidatorWaits}
+use Rattle.forest.specs.StraightWalk.{Walker, WalkerFinds, WalkerWaits}
+use Rattle.forest.specs.Traces.{goes_on, shared_nodes}
+use Rattle.forest.proofs.Advances.{few_taken}
+use Rattle.forest.proofs.StraightReads.{told_on}
+
+-- what comes next changes its place alone
+same_placed : (m : SuccessorRun) (next : SuccessorNext) → IsSameSuccessor m (placed m next)
+same_placed m (LookNext route level side n) = refl
+same_placed m (HeadNext route above n) = refl
+same_placed m (KeyNext route head n) = refl
+same_placed m (ValueNext key n) = refl
+same_placed m (ValidateNext found) = refl
+
+goes_there : (m now : SuccessorRun) (c : Call) (h : History) → now.key ≡ m.key → now.snaps ≡ m.snaps → Goes m c h → Goes now c h
+goes_there m now c h k s x = record { reads = rw s x.reads; small = rw k x.small }
+
+-- so many steps are left, as this comes next
+pub steps_as : (m : SuccessorRun) (next now : SuccessorNext) (nodes a b : ℕ) → next ≡ now → a ≤ b + suc (successor_left (placed m now) nodes) → a ≤ b + suc (successor_left (placed m next) nodes)
+steps_as m next now nodes a b e i = subst (λ (k : SuccessorNext). a ≤ b + suc (successor_left (placed m k) nodes)) (sym e) i
+
+pub nearer_as : (m : SuccessorRun) (next now : SuccessorNext) (nodes a : ℕ) → next ≡ now → a < suc (successor_left (placed m now) nodes) → a < suc (successor_left (placed m next) nodes)
+nearer_as m next now nodes a e i = subst (λ (k : SuccessorNext). a < suc (successor_left (placed m k) nodes)) (sym e) i
+
+-- its walk, with which it begins, is part of its first try
+pub begins_with_walk : (old : SuccessorRun) (none : Vec Snap Global) (turn : NodeNo) (nodes before after : ℕ) → none.items ≡ [] → old.at ≡ Start → after ≤ before + 3 * (2 + nodes) → after + suc (successor_left (placed (record old { snaps = none }) (LookNext Along 0 Left turn)) nodes) ≤ before + successor_left old nodes
+begins_with_walk old none turn nodes before after empty at few = subst (λ a. after + suc (successor_left (placed (record old { snaps = none }) (LookNext Along 0 Left turn)) nodes) ≤ before + (old.tries * try_left nodes + phase_left old nodes a)) (sym at) (let e = ap length empty in omega (arith, few, e))
+
+module _ {M : Type 0} (allows : Layout → History → ℕ → Type 0) (ready : M → Call → History → Option ℕ → Type 0) (waits : M → Call → History → Step → Type 0) (same : M → M → Type 0) (layout : Layout) (number : ℕ) (r : SuccessorReader allows ready waits same layout number) where
+  -- its step has told this
+  abbrev IsTold : List SeatedPass → SuccessorRun → ℕ → Type 0
+  IsTold ps m v = ReaderIsTold allows ready waits same SuccessorIsReady SuccessorWaits IsSameSuccessor layout number r ps m v
+
+  -- what it is told takes it to what comes next
+  on_to : (ps : List SeatedPass) (old m : SuccessorRun) (next : SuccessorNext) (v : ℕ) → IsSameSuccessor old m → ((h : History) → IsRun TreeAllows r.call.layout h → SuccessorIsReady old r.call h (Some v) → Goes m r.call h × MayDo m r.call h next) → IsTold ps old v → SearchWaits allows ready waits same layout number r ps m next
+  on_to ps old m next v is know x = told_on allows ready waits same SuccessorIsReady SuccessorWaits SuccessorAnswers IsSameSuccessor layout number r ps old (placed m next) (Some v) (Ask (next_step m next)) (same_placed m next ∙ is) (λ h run y. let k = know h run y in next_waits m r.call h next k.0 k.1) x
+
+  -- behind its loads
+  pub head_goes_on : (ps : List SeatedPass) (m : SuccessorRun) (route : Route) (above : ℕ) (n : NodeNo) (v : ℕ) (next : SuccessorNext) → ((c : Call) (h : History) → Goes m c h → IsOwnMoment c h → StandsAt m c h route n.0 → head_at h n.0 ≡ head_of v → MayDo m c h next) → IsTold ps (placed m (HeadNext route above n)) v → SearchWaits allows ready waits same layout number r ps m next
+  head_goes_on ps m route above n v next goes = on_to ps (placed m (HeadNext route above n)) m next v refl
+      (λ h run y. let k = goes_there (placed m (HeadNext route above n)) m r.call h refl refl y.0 in let s = y.2.0 in (k, goes r.call h k y.1 record { stood = s.stood; some = s.some; right = s.right; on_route = s.on_route } (ap head_of y.2.2)))
+
+  pub key_goes_on : (ps : List SeatedPass) (m : SuccessorRun) (route : Route) (head : HeadParts) (n : NodeNo) (v : ℕ) (next : SuccessorNext) → ((c : Call) (h : History) → Goes m c h → StandsAt m c h route n.0 → HasHead h route n.0 head → key_at h n.0 ≡ v → MayDo m c h next) → IsTold ps (placed m (KeyNext route head n)) v → SearchWaits allows ready waits same layout number r ps m next
+  key_goes_on ps m route head n v next goes = on_to ps (placed m (KeyNext route head n)) m next v refl
+      (λ h run y. let k = goes_there (placed m (KeyNext route head n)) m r.call h refl refl y.0 in let s = y.2.0 in (k, goes r.call h k record { stood = s.stood; some = s.some; right = s.right; on_route = s.on_route } y.2.1 y.2.2))
+
+  pub value_goes_on : (ps : List SeatedPass) (m : SuccessorRun) (key : ℕ) (n : NodeNo) (v : ℕ) → IsTold ps (placed m (ValueNext key n)) v → SearchWaits allows ready waits same layout number r ps m (ValidateNext (Some record { key = key; value = v }))
+  value_goes_on ps m key n v = on_to ps (placed m (ValueNext key n)) m (ValidateNext (Some record { key = key; value = v })) v refl
+      (λ h run y. let k = goes_there (placed m (ValueNext key n)) m r.call h refl refl y.0 in let s = y.2.0 in (k, value_found m r.call h n key v k y.1 record { stood = s.stood; some = s.some; leaf = s.leaf; low = s.low; key_is = s.key_is; first = s.first } y.2.1))
+
+  -- what it is told fits the taken nodes
+  pub told_fits : (ps : List SeatedPass) (m : SuccessorRun) (v : ℕ) → IsTold ps m v → SuccessorFits m (Some v) (shared_nodes layout)
+  told_fits ps m v x = successor_told m r.call _ (Some v) (shared_nodes layout) (r.tree _ x.sound) (r.tells m _ (Some v) x.so.0) (few_taken allows layout r.call _ r.is_layout x.sound)
+
+  -- behind each it has fewer steps left
+  pub head_lighter : (ps : List SeatedPass) (m : SuccessorRun) (route : Route) (above : ℕ) (n : NodeNo) (v : ℕ) (next : SuccessorNext) → ((nodes : ℕ) → HeadFits (head_of v) nodes → ComesNearer m next nodes (length m.snaps.items + 67 * (2 + nodes - (head_of v).level) - 1 + behind route nodes)) → IsTold ps (placed m (HeadNext route above n)) v → successor_left (placed m next) (shared_nodes layout) < successor_left (placed m (HeadNext route above n)) (shared_nodes layout)
+  head_lighter ps m route above n v next near x =
+      let f = told_fits ps (placed m (HeadNext route above n)) v x in
+      let a = f.0 in let b = f.1.0 in
+      let p = placed_nearer m next (shared_nodes layout) _ (omega (arith, b)) (near (shared_nodes layout) f.1) in
+      omega (arith, a, b, p)
+
+  pub key_lighter : (ps : List SeatedPass) (m : SuccessorRun) (route : Route) (head : HeadParts) (n : NodeNo) (v : ℕ) (next : SuccessorNext) → ((nodes : ℕ) → HeadFits head nodes → ComesNearer m next nodes (length m.snaps.items + 67 * (2 + nodes - head.level) - 2 + behind route nodes)) → IsTold ps (placed m (KeyNext route head n)) v → successor_left (placed m next) (shared_nodes layout) < successor_left (placed m (KeyNext route head n)) (shared_nodes layout)
+  key_lighter ps m route head n v next near x =
+      let f = told_fits ps (placed m (KeyNext route head n)) v x in
+      let b = f.0 in
+      placed_nearer m next (shared_nodes layout) _ (omega (arith, b)) (near (shared_nodes layout) f)
+
+  pub value_lighter : (ps : List SeatedPass) (m : SuccessorRun) (key : ℕ) (n : NodeNo) (v : ℕ) (found : Option Pair) → IsTold ps (placed m (ValueNext key n)) v → successor_left (placed m (ValidateNext found)) (shared_nodes layout) < successor_left (placed m (ValueNext key n)) (shared_nodes layout)
+  value_lighter ps m key n v found x = let i = (r.tells (placed m (ValueNext key n)) _ (Some v) x.so.0).2.0.some in omega (arith, i)
+
+  -- It looks
+  module _ (m : SuccessorRun) (route : Route) (level : ℕ) (side : Side) where
+    abbrev at : LlxRun → SuccessorRun
+    at llx = record m { at = Look route level side llx }
+
+    looks_there : (old now : SuccessorRun) (c : Call) (h : History) (n : ℕ) → now.key ≡ old.key → now.snaps ≡ old.snaps → now.right ≡ old.right → LooksAt old c h route level side n → LooksAt now c h route level side n
+    looks_there old now c h n k s t x = record { stood = x.stood; fork = x.fork; deep = x.deep; side_is = rw k x.side_is; right = rw t x.right; at_fork = rw (k, s, t) x.at_fork }
+
+    pub looker : Looker allows ready waits same layout number
+    looker = record {
+      call = r.call;
+      is_layout = r.is_layout;
+      is_number = r.is_number;
+      first = r.first;
+      with_llx = λ llx. r.with_run (at llx);
+      turns = λ llx now h v s node turn run x.
+          let y = r.tells (at llx) h (Some v) x in
+          r.turns (at llx) (at now) h (Some v) s refl x (
+            record { reads = y.0.reads; small = y.0.small },
+            (
+              subst (λ (k : NodeNo). LooksAt (at now) r.call h route level side k.0) (sym node) (looks_there (at llx) (at now) r.call h llx.node.0 refl refl refl y.2.0),
+              (y.2.1.0, y.2.1.1, turn (from r.call y.2.1.0) (r.tree h run) y.2.1.2),
+            ),
+          );
+      stays = λ llx now node. r.stays (at llx) (at now) refl;
+    }
+
+    -- it begins to look
+    pub begins_look : (ps : List SeatedPass) (n : NodeNo) → SearchWaits allows ready waits same layout number r ps m (LookNext route level side n) → LookerWaits allows ready waits same layout number looker ps (llx_at n Marked) (load LoadMarked (marked n.0))
+    unfolding looker
+    begins_look ps n x = x
+
+    -- with the snapshot it goes on as its turn says
+    looked : (ps : List SeatedPass) (now : SuccessorRun) (n : NodeNo) (snap : Snap) (turn : Turn (Result (Option Pair) Refused)) → now.key ≡ m.key
+        → ((c : Call) (h : History) → Goes m c h → LooksAt m c h route level side snap.node.0 → IsSnapshot c.layout h snap.node.0 snap → MatchTurn turn (SuccessorWaits now c h) (SuccessorAnswers now c h))
+        → LookerSnaps allows ready waits same layout number looker ps n snap → ReaderStands allows ready waits same SuccessorIsReady SuccessorWaits IsSameSuccessor layout number r ps SuccessorAnswers now turn
+    unfolding looker
+    looked ps now n snap turn is goes x = told_on allows ready waits same SuccessorIsReady SuccessorWaits SuccessorAnswers IsSameSuccessor layout number r ps (at x.last) now (Some x.told) turn is next x.so
+      where
+        here : x.last.node ≡ snap.node
+        here = x.is_node ∙ sym x.of_node
+
+        next : (h : History) → IsRun TreeAllows r.call.layout h → SuccessorIsReady (at x.last) r.call h (Some x.told) → MatchTurn turn (SuccessorWaits now r.call h) (SuccessorAnswers now r.call h)
+        next h run y =
+            goes r.call h (goes_there (at x.last) m r.call h refl refl y.0) (subst (λ (k : NodeNo). LooksAt m r.call h route level side k.0) here (looks_there (at x.last) m r.call h x.last.node.0 refl refl refl y.2.0))
+            (subst (λ (k : NodeNo). IsSnapshot r.call.layout h k.0 snap) (sym x.of_node) (x.snaps (from r.call y.2.1.0) h run y.2.1.2))
+
+    pub looks_on : (ps : List SeatedPass) (now : SuccessorRun) (n : NodeNo) (snap : Snap) (next : SuccessorNext) → now.key ≡ m.key
+        → ((c : Call) (h : History) → Goes m c h → LooksAt m c h route level side snap.node.0 → IsSnapshot c.layout h snap.node.0 snap → Goes now c h × MayDo now c h next)
+        → LookerSnaps allows ready waits same layout number looker ps n snap → SearchWaits allows ready waits same layout number r ps now next
+    looks_on ps now n snap next is goes = looked ps (placed now next) n snap (Ask (next_step now next)) (same_placed now next ∙ is) (λ c h g l s. let k = goes c h g l s in next_waits now c h next k.0 k.1)
+
+    pub looks_last : (ps : List SeatedPass) (now : SuccessorRun) (n : NodeNo) (snap : Snap) (a : Result (Option Pair) Refused) → now.key ≡ m.key
+        → ((c : Call) (h : History) → Goes m c h → LooksAt m c h route level side snap.node.0 → IsSnapshot c.layout h snap.node.0 snap → SuccessorAnswers now c h a)
+        → LookerSnaps allows ready waits same layout number looker ps n snap → SearchEnds allows ready waits same layout number r ps now a
+    looks_last ps now n snap a is goes = looked ps now n snap (Done a) is goes
+
+    -- its fork is no deeper than the taken nodes allow
+    pub level_fits : (ps : List SeatedPass) (n : NodeNo) (snap : Snap) → LookerSnaps allows ready waits same layout number looker ps n snap → level + 1 < 2 + shared_nodes layout
+    unfolding looker
+    level_fits ps n snap x = told_fits ps (at x.last) x.told x.so
+
+    -- where something is in the way, it stands there
+    pub looks_again : (ps : List SeatedPass) (asked : Step) (n : NodeNo) (b : Bool) (scx : ScxNo) → asked ≡ load LoadState (state scx.0) → LookerWaits allows ready waits same layout number looker ps (llx_at n (StateAgain b scx)) (load LoadState (state scx.0)) → ReaderWaits allows ready waits same SuccessorIsReady SuccessorWaits IsSameSuccessor layout number r ps (at (llx_at n (StateAgain b scx))) asked
+    unfolding looker
+    looks_again ps asked n b scx step x = rw step x
+
+  -- It validates these snapshots
+  module _ (m : SuccessorRun) (found : Option Pair) (snaps : List Snap) (e : snaps ≡ m.snaps.items) where
+    abbrev asking : ℕ → SuccessorRun
+    asking n = record m { at = Validate n found }
+
+    pub validator : Validator allows ready waits same layout number snaps
+    validator = record {
+      call = r.call;
+      is_layout = r.is_layout;
+      is_number = r.is_number;
+      first = r.first;
+      with_vlx = λ n. r.with_run (asking n);
+      turns = λ n asked h v is found_so more x.
+          let y = r.tells (asking asked) h (Some v) x in
+          let b = y.2.0 in let s = y.2.1 in
+          rw e (r.turns (asking asked) (asking (suc asked)) h (Some v) _ refl x (
+            record { reads = y.0.reads; small = y.0.small },
+            (
+              b,
+              record { own = s.own; within = s.within; then = s.then; right = s.right },
+              looks_next (from r.call b) h m.snaps.items asked (looked_on (from r.call b) h m.snaps.items asked n v y.0.reads.run.1.lawful y.2.2 is (rw e at found_so)) (rw e at more),
+            ),
+          ));
+      stays = λ n. r.stays (asking n) (asking (suc n)) refl;
+    }
+
+    pub begins_vlx : (ps : List SeatedPass) → SearchWaits allows ready waits same layout number r ps m (ValidateNext found) → ValidatorWaits allows ready waits same layout number snaps validator ps 1 (load LoadInfo (info (snap_at snaps 0).node.0))
+    unfolding validator
+    begins_vlx ps x = subst (λ (l : List Snap). ReaderWaits allows ready waits same SuccessorIsReady SuccessorWaits IsSameSuccessor layout number r ps (asking 1) (load LoadInfo (info (snap_at l 0).node.0))) (sym e) x
+
+    pub told_vlx : (ps : List SeatedPass) (n v : ℕ) → ValidatorIsTold allows ready waits same layout number snaps validator ps n v → IsTold ps (asking n) v
+    unfolding validator
+    told_vlx ps n v x = x
+
+    pub some_snap : (ps : List SeatedPass) → SearchWaits allows ready waits same layout number r ps m (ValidateNext found) → 0 < length snaps
+    some_snap ps x = let w = r.opens (placed m (ValidateNext found)) _ _ x.so.0 in let i = w.1.2.looks.within in rw e (omega (arith, i))
+
+  -- It walks
+  module _ (m : SuccessorRun) where
+    abbrev walking : WalkRun → NodeNo → SuccessorRun
+    walking walk turn = record m { at = Walk walk turn }
+
+    pub walker : Walker allows ready waits same layout number
+    walker = record {
+      call = r.call;
+      is_layout = r.is_layout;
+      is_number = r.is_number;
+      first = r.first;
+      with_walk = λ walk turn. r.with_run (walking walk turn);
+      tells = λ walk turn h v x. let y = r.tells (walking walk turn) h (Some v) x in (r.call, r.is_layout, y.2.2);
+      turns = λ walk now turn h v s goal next x.
+          let y = r.tells (walking walk turn) h (Some v) x in
+          r.turns (walking walk turn) (walking now (last_turn now.at now.trail.node turn)) h (Some v) s refl x (walk_waits m walk now turn r.call h s (goes_there (walking walk turn) m r.call h refl refl y.0) y.2.0 y.2.1 goal (next r.call y.2.2));
+      stays = λ walk now turn then goal. r.stays (walking walk turn) (walking now then) refl;
+    }
+
+    -- it begins its walk, with no snapshot
+    pub walks : (ps : List SeatedPass) (old : SuccessorRun) → m.key ≡ old.key → m.snaps.items ≡ [] → SearchBegins allows ready waits same layout number r ps old → WalkerWaits allows ready waits same layout number walker ps (walk_from m.key) record { 0 = 0 } (load LoadSettled (node 0 HeadWord))
+    unfolding walker
+    walks ps old key none x = record {
+      known = x.known;
+      is = x.is;
+      sound = x.sound;
+      so = (
+        r.turns old (walking (walk_from m.key) record { 0 = 0 }) _ None _ key x.so.0 (waiting _ (r.tells old _ None x.so.0)),
+        goes_on (r.with_run old) (r.stays old (walking (walk_from m.key) record { 0 = 0 }) key) x.so.1,
+      );
+    }
+      where
+        waiting : (h : History) → SuccessorIsReady old r.call h None → SuccessorWaits (walking (walk_from m.key) record { 0 = 0 }) r.call h (load LoadSettled (node 0 HeadWord))
+        waiting h y =
+            let g = y.0 in
+            let small : m.key < 2 ^ 64 = rw key g.small in (
+              record {
+                reads = rw none record { run = g.reads.run; since = g.reads.since; over = g.reads.over; quiet = g.reads.quiet; snapped = λ i p. absurd (omega (arith, p)) };
+                small = small;
+              },
+              (refl, inl refl, walk_begins m.key r.call h g.reads.run small g.reads.since),
+            )
+
+    -- behind the leaf that it finds it looks at the last fork where it has turned left
+    pub walk_looks : (ps : List SeatedPass) (f : Found) (turn : NodeNo) → WalkerFinds allows ready waits same layout number walker ps m.key turn f → SearchWaits allows ready waits same layout number r ps m (LookNext Along 0 Left turn)
+    unfolding walker
+    walk_looks ps f turn x = on_to ps (walking x.last turn) m (LookNext Along 0 Left turn) x.told refl
+        (λ h run y. let k = goes_there (walking x.last turn) m r.call h refl refl y.0 in (k, walk_found m turn f r.call h k y.2.1 (x.finds r.call h y.2.2))) x.so

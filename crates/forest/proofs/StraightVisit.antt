@@ -1,0 +1,268 @@
+-- From place to place of a range, of whatever machine makes one.
+use Rattle.std.proofs.Common.{◌≡◌, ◌∙◌, ℕ, suc, ◌+◌, ◌-◌, ◌*◌, ◌<◌, ◌≤◌, Bool, List, Option, Some, Result, Ok, Err, length, refl, sym, ap, subst, arith}
+use Rattle.std.specs.Global.{Global}
+use Rattle.std.specs.Prelude.{Vec}
+use Rattle.arena.specs.declared.head.Head.{Head as HeadParts}
+use Rattle.arena.specs.declared.layout.Layout.{Layout}
+use Rattle.arena.specs.declared.machine.Turn.{Turn}
+use Rattle.arena.specs.declared.machine.Turn.TheVariants.{Ask, Done}
+use Rattle.arena.specs.declared.number.NodeNo.{NodeNo}
+use Rattle.arena.specs.declared.number.ScxNo.{ScxNo}
+use Rattle.arena.specs.declared.step.Kind.TheVariants.{LoadInfo, LoadMarked, LoadState}
+use Rattle.arena.specs.declared.step.Step.{Step}
+use Rattle.arena.specs.Heads.{head_of}
+use Rattle.arena.specs.History.{History}
+use Rattle.arena.specs.Machines.{Call, IsRun, MatchTurn}
+use Rattle.arena.specs.Words.{info, marked, state}
+use Rattle.order.specs.Range.Known.{Goes, HasKey, HasLowHead, IsSameRange, LooksIn, RangeAnswers, RangeIsReady, RangeIsToldAt, RangeWaits, Visits}
+use Rattle.order.specs.Range.Laws.{range_told}
+use Rattle.order.specs.Range.Next.{ComesNearer, GoesOn, MayDo, next_step, placed}
+use Rattle.order.specs.Range.Steps.{RangeFits, RangeFitsAt, leaves_left, phase_left, range_left, try_left}
+use Rattle.order.specs.Reads.{from}
+use Rattle.order.specs.Successor.Known.{head_at, key_at, value_at}
+use Rattle.order.specs.Successor.Steps.{HeadFits}
+use Rattle.order.specs.declared.range.RangeAt.TheVariants.{Root, Look, Validate}
+use Rattle.order.specs.declared.range.RangeNext.{RangeNext}
+use Rattle.order.specs.declared.range.RangeNext.TheVariants.{Head as HeadNext, Key as KeyNext, Value as ValueNext, Look as LookNext, Validate as ValidateNext}
+use Rattle.order.specs.declared.range.RangeRun.{RangeRun}
+use Rattle.order.specs.declared.refused.Refused.{Refused}
+use Rattle.order.proofs.Lemmas.{range_next_waits, range_placed_nearer}
+use Rattle.prims.specs.Llx.Known.{load, IsSnapshot}
+use Rattle.prims.specs.Snap.{snap_at}
+use Rattle.prims.specs.Vlx.Laws.{looked_on, looks_next}
+use Rattle.prims.specs.declared.llx.LlxAt.TheVariants.{Marked, StateAgain}
+use Rattle.prims.specs.declared.llx.LlxRun.{LlxRun}
+use Rattle.prims.specs.declared.snap.Snap.{Snap}
+use Rattle.spelling.specs.TreeShape.{TreeAllows}
+use Rattle.spelling.specs.declared.pair.Pair.{Pair}
+use Rattle.template.specs.Trails.{IsOwnMoment}
+use Rattle.forest.specs.declared.view.SeatedPass.{SeatedPass}
+use Rattle.forest.specs.StraightLlx.{llx_at}
+use Rattle.forest.specs.StraightLook.{Looker, LookerSnaps, LookerWaits}
+use Rattle.forest.specs.StraightReads.{RangeReader, ReaderIsTold, ReaderStands, ReaderWaits, VisitEnds, VisitWaits}
+use Rattle.forest.specs.StraightValidate.{Validator, ValidatorIsTold, ValidatorWaits}
+use Rattle.forest.specs.TableRule.{history_of}
+use Rattle.forest.specs.Traces.{shared_nodes}
+use Rattle.forest.proofs.Advances.{few_taken}
+use Rattle.forest.proofs.StraightReads.{told_on}
+
+-- what comes next changes its place alone
+same_placed : (m : RangeRun) (next : RangeNext) → IsSameRange m (placed m next)
+same_placed m (HeadNext above n) = (refl, refl, refl)
+same_placed m (KeyNext head n) = (refl, refl, refl)
+same_placed m (ValueNext key n) = (refl, refl, refl)
+same_placed m (LookNext level left right n) = (refl, refl, refl)
+same_placed m ValidateNext = (refl, refl, refl)
+
+-- one range further on, then another
+further : (a b c : RangeRun) → IsSameRange a b → IsSameRange b c → IsSameRange a c
+further a b c x y = (y.0 ∙ x.0, y.1 ∙ x.1, y.2 ∙ x.2)
+
+-- what it knows does not depend on where it stands
+
+goes_there : (old now : RangeRun) (c : Call) (h : History) → now ≡ record old { at = now.at } → Goes old c h → Goes now c h
+goes_there old now c h is x = rw is record { reads = x.reads; small = x.small; few = x.few }
+
+visits_there : (old now : RangeRun) (c : Call) (h : History) (n : ℕ) → now ≡ record old { at = now.at } → Visits old c h n → Visits now c h n
+visits_there old now c h n is x = rw is record { stood = x.stood; ordered = x.ordered; room = x.room; some = x.some; waits = x.waits; visiting = x.visiting }
+
+key_there : (old now : RangeRun) (c : Call) (h : History) (n key : ℕ) → now ≡ record old { at = now.at } → HasKey old c h n key → HasKey now c h n key
+key_there old now c h n key is x = rw is record {
+  visits = record { stood = x.visits.stood; ordered = x.visits.ordered; room = x.visits.room; some = x.visits.some; waits = x.visits.waits; visiting = x.visits.visiting };
+  leaf = x.leaf;
+  low = x.low;
+  key_is = x.key_is;
+  from = x.from;
+  to = x.to;
+}
+
+looks_there : (old now : RangeRun) (c : Call) (h : History) (level : ℕ) (left right : Bool) (n : ℕ) → now ≡ record old { at = now.at } → LooksIn old c h level left right n → LooksIn now c h level left right n
+looks_there old now c h level left right n is x = rw is record {
+  visits = record { stood = x.visits.stood; ordered = x.visits.ordered; room = x.visits.room; some = x.visits.some; waits = x.visits.waits; visiting = x.visits.visiting };
+  fork = x.fork;
+  deep = x.deep;
+  choice = x.choice;
+}
+
+-- so many steps are left, as this comes next
+pub steps_as : (m : RangeRun) (next now : RangeNext) (nodes a b : ℕ) → next ≡ now → a ≤ b + suc (range_left (placed m now) nodes) → a ≤ b + suc (range_left (placed m next) nodes)
+steps_as m next now nodes a b e i = subst (λ (k : RangeNext). a ≤ b + suc (range_left (placed m k) nodes)) (sym e) i
+
+pub nearer_as : (m : RangeRun) (next now : RangeNext) (nodes a : ℕ) → next ≡ now → a < suc (range_left (placed m now) nodes) → a < suc (range_left (placed m next) nodes)
+nearer_as m next now nodes a e i = subst (λ (k : RangeNext). a < suc (range_left (placed m k) nodes)) (sym e) i
+
+module _ {M : Type 0} (allows : Layout → History → ℕ → Type 0) (ready : M → Call → History → Option ℕ → Type 0) (waits : M → Call → History → Step → Type 0) (same : M → M → Type 0) (layout : Layout) (number : ℕ) (r : RangeReader allows ready waits same layout number) where
+  -- its step has told this
+  abbrev IsTold : List SeatedPass → RangeRun → ℕ → Type 0
+  IsTold ps m v = ReaderIsTold allows ready waits same RangeIsReady RangeWaits IsSameRange layout number r ps m v
+
+  -- what it is told takes it to what comes next, or to its answer
+  on_to : (ps : List SeatedPass) (old m : RangeRun) (next : RangeNext) (v : ℕ) → IsSameRange old m → ((h : History) → IsRun TreeAllows r.call.layout h → RangeIsReady old r.call h (Some v) → GoesOn r.call h m (Ok next)) → IsTold ps old v → VisitWaits allows ready waits same layout number r ps m next
+  on_to ps old m next v is know x = told_on allows ready waits same RangeIsReady RangeWaits RangeAnswers IsSameRange layout number r ps old (placed m next) (Some v) (Ask (next_step m next)) (further old m (placed m next) is (same_placed m next)) (λ h run y. let k = know h run y in range_next_waits m r.call h next k.0 k.1) x
+
+  ends_at : (ps : List SeatedPass) (old m : RangeRun) (a : Result (Vec Pair Global) Refused) (v : ℕ) → IsSameRange old m → ((h : History) → IsRun TreeAllows r.call.layout h → RangeIsReady old r.call h (Some v) → RangeAnswers m r.call h a) → IsTold ps old v → VisitEnds allows ready waits same layout number r ps m a
+  ends_at ps old m a v is know x = told_on allows ready waits same RangeIsReady RangeWaits RangeAnswers IsSameRange layout number r ps old m (Some v) (Done a) is know x
+
+  -- behind its loads
+  pub root_goes_on : (ps : List SeatedPass) (m now : RangeRun) (v : ℕ) (next : RangeNext) → m.at ≡ Root → IsSameRange m now → ((c : Call) (h : History) → Goes m c h → IsOwnMoment c h → Visits m c h 0 → head_at h 0 ≡ head_of v → GoesOn c h now (Ok next)) → IsTold ps m v → VisitWaits allows ready waits same layout number r ps now next
+  root_goes_on ps m now v next at is goes = on_to ps m now next v is (λ h run y. let t = subst (λ p. RangeIsToldAt m r.call h v p) at y.2 in goes r.call h y.0 y.1 t.0 (ap head_of t.1))
+
+  pub head_goes_on : (ps : List SeatedPass) (m now : RangeRun) (above : ℕ) (n : NodeNo) (v : ℕ) (next : RangeNext) → IsSameRange m now → ((c : Call) (h : History) → Goes m c h → IsOwnMoment c h → Visits m c h n.0 → head_at h n.0 ≡ head_of v → GoesOn c h now (Ok next)) → IsTold ps (placed m (HeadNext above n)) v → VisitWaits allows ready waits same layout number r ps now next
+  head_goes_on ps m now above n v next is goes = on_to ps (placed m (HeadNext above n)) now next v is
+      (λ h run y. goes r.call h (goes_there (placed m (HeadNext above n)) m r.call h refl y.0) y.1 (visits_there (placed m (HeadNext above n)) m r.call h n.0 refl y.2.0) (ap head_of y.2.2))
+
+  pub key_goes_on : (ps : List SeatedPass) (m now : RangeRun) (head : HeadParts) (n : NodeNo) (v : ℕ) (next : RangeNext) → IsSameRange m now → ((c : Call) (h : History) → Goes m c h → IsOwnMoment c h → Visits m c h n.0 → HasLowHead h n.0 head → key_at h n.0 ≡ v → GoesOn c h now (Ok next)) → IsTold ps (placed m (KeyNext head n)) v → VisitWaits allows ready waits same layout number r ps now next
+  key_goes_on ps m now head n v next is goes = on_to ps (placed m (KeyNext head n)) now next v is
+      (λ h run y. goes r.call h (goes_there (placed m (KeyNext head n)) m r.call h refl y.0) y.1 (visits_there (placed m (KeyNext head n)) m r.call h n.0 refl y.2.0) y.2.1 y.2.2)
+
+  pub value_goes_on : (ps : List SeatedPass) (m now : RangeRun) (key : ℕ) (n : NodeNo) (v : ℕ) (next : RangeNext) → IsSameRange m now → ((c : Call) (h : History) (k : ℕ) → Goes m c h → IsOwnMoment c h → HasKey m c h k key → value_at h k ≡ v → GoesOn c h now (Ok next)) → IsTold ps (placed m (ValueNext key n)) v → VisitWaits allows ready waits same layout number r ps now next
+  value_goes_on ps m now key n v next is goes = on_to ps (placed m (ValueNext key n)) now next v is
+      (λ h run y. goes r.call h n.0 (goes_there (placed m (ValueNext key n)) m r.call h refl y.0) y.1 (key_there (placed m (ValueNext key n)) m r.call h n.0 key refl y.2.0) y.2.1)
+
+  pub value_last : (ps : List SeatedPass) (m now : RangeRun) (key : ℕ) (n : NodeNo) (v : ℕ) (a : Refused) → IsSameRange m now → ((c : Call) (h : History) (k : ℕ) → Goes m c h → IsOwnMoment c h → HasKey m c h k key → value_at h k ≡ v → GoesOn c h now (Err a)) → IsTold ps (placed m (ValueNext key n)) v → VisitEnds allows ready waits same layout number r ps now (Err a)
+  value_last ps m now key n v a is goes = ends_at ps (placed m (ValueNext key n)) now (Err a) v is
+      (λ h run y. (goes r.call h n.0 (goes_there (placed m (ValueNext key n)) m r.call h refl y.0) y.1 (key_there (placed m (ValueNext key n)) m r.call h n.0 key refl y.2.0) y.2.1).1)
+
+  -- what it is told fits the taken nodes
+  pub told_fits : (ps : List SeatedPass) (m : RangeRun) (v : ℕ) → IsTold ps m v → RangeFits m (Some v) (shared_nodes layout)
+  told_fits ps m v x = range_told m r.call _ (Some v) (shared_nodes layout) (r.tree _ x.sound) (r.tells m _ (Some v) x.so.0) (few_taken allows layout r.call _ r.is_layout x.sound)
+
+  -- a range that goes on so has some steps left, fewer than before
+  lighter : (m now : RangeRun) (c : Call) (h : History) (next : RangeNext) (n : ℕ) → now.tries ≡ m.tries → IsSameRange m now → MayDo now c h next → ComesNearer now next (shared_nodes layout) n → range_left (placed now next) (shared_nodes layout) < m.tries * try_left m.most (shared_nodes layout) + n
+  lighter m now c h next n tries is x near = subst (λ (t : ℕ). range_left (placed now next) (shared_nodes layout) < t * try_left m.most (shared_nodes layout) + n) tries (subst (λ (t : ℕ). range_left (placed now next) (shared_nodes layout) < now.tries * try_left t (shared_nodes layout) + n) is.2 (range_placed_nearer now next (shared_nodes layout) n (some_left next x near) near))
+    where
+      some_left : (k : RangeNext) → MayDo now c h k → ComesNearer now k (shared_nodes layout) n → 0 < n
+      some_left (HeadNext above l) y e = let i = e.0 in let j = e.1 in omega (arith, i, j)
+      some_left (KeyNext head l) y e = let i = e.0 in let j = e.1 in omega (arith, i, j)
+      some_left (ValueNext key l) y e = let j = e.1 in omega (arith, j)
+      some_left (LookNext level left right l) y e = let j = e.1 in omega (arith, j)
+      some_left ValidateNext y e = let i = y.2 in let j = e.1 in omega (arith, i, j)
+
+  -- behind each load it has fewer steps left
+  pub root_lighter : (ps : List SeatedPass) (m now : RangeRun) (v : ℕ) (next : RangeNext) → m.at ≡ Root → now.tries ≡ m.tries → IsSameRange m now → ((c : Call) (h : History) → Goes m c h → IsOwnMoment c h → Visits m c h 0 → head_at h 0 ≡ head_of v → GoesOn c h now (Ok next)) → ((nodes : ℕ) → HeadFits (head_of v) nodes → ComesNearer now next nodes (length m.snaps.items + 67 * (2 + nodes - (head_of v).level) - 1 + leaves_left m.leaves nodes)) → IsTold ps m v → range_left (placed now next) (shared_nodes layout) < range_left m (shared_nodes layout)
+  root_lighter ps m now v next at tries is goes near x =
+      let h = history_of r.call.layout.mode x.known in
+      let y = r.tells m h (Some v) x.so.0 in
+      let t = subst (λ p. RangeIsToldAt m r.call h v p) at y.2 in
+      let f : RangeFitsAt m (Some v) (shared_nodes layout) Root = subst (RangeFitsAt m (Some v) (shared_nodes layout)) at (told_fits ps m v x) in
+      let p = lighter m now r.call h next _ tries is (goes r.call h y.0 y.1 t.0 (ap head_of t.1)).1 (near (shared_nodes layout) f) in
+      subst (λ a. range_left (placed now next) (shared_nodes layout) < m.tries * try_left m.most (shared_nodes layout) + phase_left m (shared_nodes layout) a) (sym at) (omega (arith, p))
+
+  pub head_lighter : (ps : List SeatedPass) (m now : RangeRun) (above : ℕ) (n : NodeNo) (v : ℕ) (next : RangeNext) → now.tries ≡ m.tries → IsSameRange m now → ((c : Call) (h : History) → Goes m c h → IsOwnMoment c h → Visits m c h n.0 → head_at h n.0 ≡ head_of v → GoesOn c h now (Ok next)) → ((nodes : ℕ) → HeadFits (head_of v) nodes → ComesNearer now next nodes (length m.snaps.items + 67 * (2 + nodes - (head_of v).level) - 1 + leaves_left m.leaves nodes)) → IsTold ps (placed m (HeadNext above n)) v → range_left (placed now next) (shared_nodes layout) < range_left (placed m (HeadNext above n)) (shared_nodes layout)
+  head_lighter ps m now above n v next tries is goes near x =
+      let y = r.tells (placed m (HeadNext above n)) _ (Some v) x.so.0 in
+      let f = told_fits ps (placed m (HeadNext above n)) v x in
+      let a = f.0 in let b = f.1.0 in
+      let p = lighter m now r.call _ next _ tries is (goes r.call _ (goes_there (placed m (HeadNext above n)) m r.call _ refl y.0) y.1 (visits_there (placed m (HeadNext above n)) m r.call _ n.0 refl y.2.0) (ap head_of y.2.2)).1 (near (shared_nodes layout) f.1) in
+      omega (arith, a, b, p)
+
+  pub key_lighter : (ps : List SeatedPass) (m now : RangeRun) (head : HeadParts) (n : NodeNo) (v : ℕ) (next : RangeNext) → now.tries ≡ m.tries → IsSameRange m now → ((c : Call) (h : History) → Goes m c h → IsOwnMoment c h → Visits m c h n.0 → HasLowHead h n.0 head → key_at h n.0 ≡ v → GoesOn c h now (Ok next)) → ((nodes : ℕ) → HeadFits head nodes → ComesNearer now next nodes (length m.snaps.items + 67 * (2 + nodes - head.level) - 2 + leaves_left m.leaves nodes)) → IsTold ps (placed m (KeyNext head n)) v → range_left (placed now next) (shared_nodes layout) < range_left (placed m (KeyNext head n)) (shared_nodes layout)
+  key_lighter ps m now head n v next tries is goes near x =
+      let y = r.tells (placed m (KeyNext head n)) _ (Some v) x.so.0 in
+      lighter m now r.call _ next _ tries is (goes r.call _ (goes_there (placed m (KeyNext head n)) m r.call _ refl y.0) y.1 (visits_there (placed m (KeyNext head n)) m r.call _ n.0 refl y.2.0) y.2.1 y.2.2).1 (near (shared_nodes layout) (told_fits ps (placed m (KeyNext head n)) v x))
+
+  pub value_lighter : (ps : List SeatedPass) (m now : RangeRun) (key : ℕ) (n : NodeNo) (v : ℕ) (next : RangeNext) → now.tries ≡ m.tries → IsSameRange m now → ((c : Call) (h : History) (k : ℕ) → Goes m c h → IsOwnMoment c h → HasKey m c h k key → value_at h k ≡ v → GoesOn c h now (Ok next)) → ((nodes : ℕ) → ComesNearer now next nodes (length m.snaps.items + leaves_left m.leaves nodes)) → IsTold ps (placed m (ValueNext key n)) v → range_left (placed now next) (shared_nodes layout) < range_left (placed m (ValueNext key n)) (shared_nodes layout)
+  value_lighter ps m now key n v next tries is goes near x =
+      let y = r.tells (placed m (ValueNext key n)) _ (Some v) x.so.0 in
+      lighter m now r.call _ next _ tries is (goes r.call _ n.0 (goes_there (placed m (ValueNext key n)) m r.call _ refl y.0) y.1 (key_there (placed m (ValueNext key n)) m r.call _ n.0 key refl y.2.0) y.2.1).1 (near (shared_nodes layout))
+
+  -- It looks
+  module _ (m : RangeRun) (level : ℕ) (left right : Bool) where
+    abbrev at : LlxRun → RangeRun
+    at llx = record m { at = Look level left right llx }
+
+    pub looker : Looker allows ready waits same layout number
+    looker = record {
+      call = r.call;
+      is_layout = r.is_layout;
+      is_number = r.is_number;
+      first = r.first;
+      with_llx = λ llx. r.with_run (at llx);
+      turns = λ llx now h v s node turn run x.
+          let y = r.tells (at llx) h (Some v) x in
+          r.turns (at llx) (at now) h (Some v) s (refl, refl, refl) x (
+            record { reads = y.0.reads; small = y.0.small; few = y.0.few },
+            (
+              subst (λ (k : NodeNo). LooksIn (at now) r.call h level left right k.0) (sym node) (looks_there (at llx) (at now) r.call h level left right llx.node.0 refl y.2.0),
+              (y.2.1.0, y.2.1.1, turn (from r.call y.2.1.0) (r.tree h run) y.2.1.2),
+            ),
+          );
+      stays = λ llx now node. r.stays (at llx) (at now) (refl, refl, refl);
+    }
+
+    -- it begins to look
+    pub begins_look : (ps : List SeatedPass) (n : NodeNo) → VisitWaits allows ready waits same layout number r ps m (LookNext level left right n) → LookerWaits allows ready waits same layout number looker ps (llx_at n Marked) (load LoadMarked (marked n.0))
+    unfolding looker
+    begins_look ps n x = x
+
+    -- with the snapshot it goes on as its turn says
+    looked : (ps : List SeatedPass) (now : RangeRun) (n : NodeNo) (snap : Snap) (turn : Turn (Result (Vec Pair Global) Refused)) → IsSameRange m now
+        → ((c : Call) (h : History) → Goes m c h → LooksIn m c h level left right snap.node.0 → IsSnapshot c.layout h snap.node.0 snap → MatchTurn turn (RangeWaits now c h) (RangeAnswers now c h))
+        → LookerSnaps allows ready waits same layout number looker ps n snap → ReaderStands allows ready waits same RangeIsReady RangeWaits IsSameRange layout number r ps RangeAnswers now turn
+    unfolding looker
+    looked ps now n snap turn is goes x = told_on allows ready waits same RangeIsReady RangeWaits RangeAnswers IsSameRange layout number r ps (at x.last) now (Some x.told) turn is next x.so
+      where
+        here : x.last.node ≡ snap.node
+        here = x.is_node ∙ sym x.of_node
+
+        next : (h : History) → IsRun TreeAllows r.call.layout h → RangeIsReady (at x.last) r.call h (Some x.told) → MatchTurn turn (RangeWaits now r.call h) (RangeAnswers now r.call h)
+        next h run y =
+            goes r.call h (goes_there (at x.last) m r.call h refl y.0) (subst (λ (k : NodeNo). LooksIn m r.call h level left right k.0) here (looks_there (at x.last) m r.call h level left right x.last.node.0 refl y.2.0))
+            (subst (λ (k : NodeNo). IsSnapshot r.call.layout h k.0 snap) (sym x.of_node) (x.snaps (from r.call y.2.1.0) h run y.2.1.2))
+
+    pub looks_on : (ps : List SeatedPass) (now : RangeRun) (n : NodeNo) (snap : Snap) (next : RangeNext) → IsSameRange m now
+        → ((c : Call) (h : History) → Goes m c h → LooksIn m c h level left right snap.node.0 → IsSnapshot c.layout h snap.node.0 snap → GoesOn c h now (Ok next))
+        → LookerSnaps allows ready waits same layout number looker ps n snap → VisitWaits allows ready waits same layout number r ps now next
+    looks_on ps now n snap next is goes = looked ps (placed now next) n snap (Ask (next_step now next)) (further m now (placed now next) is (same_placed now next)) (λ c h g l s. let k = goes c h g l s in range_next_waits now c h next k.0 k.1)
+
+    pub looks_last : (ps : List SeatedPass) (now : RangeRun) (n : NodeNo) (snap : Snap) (a : Refused) → IsSameRange m now
+        → ((c : Call) (h : History) → Goes m c h → LooksIn m c h level left right snap.node.0 → IsSnapshot c.layout h snap.node.0 snap → GoesOn c h now (Err a))
+        → LookerSnaps allows ready waits same layout number looker ps n snap → VisitEnds allows ready waits same layout number r ps now (Err a)
+    looks_last ps now n snap a is goes = looked ps now n snap (Done (Err a)) is (λ c h g l s. (goes c h g l s).1)
+
+    -- its fork is no deeper than the taken nodes allow
+    pub level_fits : (ps : List SeatedPass) (n : NodeNo) (snap : Snap) → LookerSnaps allows ready waits same layout number looker ps n snap → level + 1 < 2 + shared_nodes layout
+    unfolding looker
+    level_fits ps n snap x = told_fits ps (at x.last) x.told x.so
+
+    -- where something is in the way, it stands there
+    pub looks_again : (ps : List SeatedPass) (asked : Step) (n : NodeNo) (b : Bool) (scx : ScxNo) → asked ≡ load LoadState (state scx.0) → LookerWaits allows ready waits same layout number looker ps (llx_at n (StateAgain b scx)) (load LoadState (state scx.0)) → ReaderWaits allows ready waits same RangeIsReady RangeWaits IsSameRange layout number r ps (at (llx_at n (StateAgain b scx))) asked
+    unfolding looker
+    looks_again ps asked n b scx step x = rw step x
+
+  -- It validates these snapshots
+  module _ (m : RangeRun) (snaps : List Snap) (e : snaps ≡ m.snaps.items) where
+    abbrev asking : ℕ → RangeRun
+    asking n = record m { at = Validate n }
+
+    pub validator : Validator allows ready waits same layout number snaps
+    validator = record {
+      call = r.call;
+      is_layout = r.is_layout;
+      is_number = r.is_number;
+      first = r.first;
+      with_vlx = λ n. r.with_run (asking n);
+      turns = λ n asked h v is found_so more x.
+          let y = r.tells (asking asked) h (Some v) x in
+          let b = y.2.0 in let s = y.2.1 in
+          rw e (r.turns (asking asked) (asking (suc asked)) h (Some v) _ (refl, refl, refl) x (
+            record { reads = y.0.reads; small = y.0.small; few = y.0.few },
+            (
+              b,
+              record { own = s.own; asks = s.asks; within = s.within; then = s.then; right = s.right },
+              looks_next (from r.call b) h m.snaps.items asked (looked_on (from r.call b) h m.snaps.items asked n v y.0.reads.run.1.lawful y.2.2 is (rw e at found_so)) (rw e at more),
+            ),
+          ));
+      stays = λ n. r.stays (asking n) (asking (suc n)) (refl, refl, refl);
+    }
+
+    pub begins_vlx : (ps : List SeatedPass) → VisitWaits allows ready waits same layout number r ps m ValidateNext → ValidatorWaits allows ready waits same layout number snaps validator ps 1 (load LoadInfo (info (snap_at snaps 0).node.0))
+    unfolding validator
+    begins_vlx ps x = subst (λ (l : List Snap). ReaderWaits allows ready waits same RangeIsReady RangeWaits IsSameRange layout number r ps (asking 1) (load LoadInfo (info (snap_at l 0).node.0))) (sym e) x
+
+    pub told_vlx : (ps : List SeatedPass) (n v : ℕ) → ValidatorIsTold allows ready waits same layout number snaps validator ps n v → IsTold ps (asking n) v
+    unfolding validator
+    told_vlx ps n v x = x
+
+    pub some_snap : (ps : List SeatedPass) → VisitWaits allows ready waits same layout number r ps m ValidateNext → 0 < length snaps
+    some_snap ps x = let w = r.opens (placed m ValidateNext) _ _ x.so.0 in let i = w.1.2.looks.within in rw e (omega (arith, i))

@@ -1,0 +1,74 @@
+-- What a successor waits for once it has begun what comes next.
+use Rattle.std.proofs.Common.{◌≡◌, ℕ, ◌+◌, ◌*◌, ◌<◌, refl, arith, Some}
+use Rattle.arena.specs.declared.machine.Turn.{Turn}
+use Rattle.arena.specs.declared.machine.Turn.TheVariants.{Ask}
+use Rattle.arena.specs.declared.number.NodeNo.{NodeNo}
+use Rattle.arena.specs.declared.step.Step.{Step}
+use Rattle.arena.specs.declared.step.Kind.TheVariants.{LoadMarked}
+use Rattle.arena.specs.declared.word.Side.TheVariants.{Left}
+use Rattle.arena.specs.Words.{marked}
+use Rattle.arena.specs.History.{History}
+use Rattle.arena.specs.Machines.{Call, MatchTurn}
+use Rattle.prims.specs.Llx.Known.{load}
+use Rattle.prims.specs.Vlx.Laws.{first_looked, looks_next}
+use Rattle.prims.specs.declared.llx.LlxAt.{LlxAt}
+use Rattle.prims.specs.declared.llx.LlxAt.TheVariants.{Start, Marked}
+use Rattle.prims.specs.declared.llx.LlxRun.{LlxRun}
+use Rattle.prims.proofs.Lemmas.{turn_first}
+use Rattle.spelling.specs.TreeShape.{TreeAllows}
+use Rattle.order.specs.Reads.{from}
+use Rattle.template.specs.FoundLeaf.{HasFound}
+use Rattle.template.specs.Trails.{IsOwnMoment}
+use Rattle.template.specs.Walk.Known.{WalkWaits}
+use Rattle.template.specs.declared.walk.Found.{Found}
+use Rattle.template.specs.declared.walk.Goal.TheVariants.{Key as ToKey}
+use Rattle.template.specs.declared.walk.WalkRun.{WalkRun}
+use Rattle.order.specs.Successor.Known.{Goes, HasLeaf, IsLastTurn, SuccessorTurn, SuccessorWaits, value_at}
+use Rattle.order.specs.Successor.Next.{ComesNearer, MayDo, next_step, placed}
+use Rattle.order.specs.Successor.Steps.{last_turn, successor_left, try_left}
+use Rattle.order.specs.declared.successor.Route.TheVariants.{Along}
+use Rattle.order.specs.declared.successor.SuccessorAt.TheVariants.{Walk}
+use Rattle.order.specs.declared.successor.SuccessorNext.{SuccessorNext}
+use Rattle.order.specs.declared.successor.SuccessorNext.TheVariants.{Look, Head, Key, Value, Validate}
+use Rattle.order.specs.declared.successor.SuccessorRun.{SuccessorRun}
+use Rattle.order.proofs.Finding.{last_turned, look_ready, looks_first, tells_this, validates, vlx_ready}
+use Rattle.order.proofs.Turns.{Told, asks_head, asks_key, asks_value, looks_on, validates_on, walks_on}
+
+-- it waits for the step with which that begins
+pub next_waits : (m : SuccessorRun) (c : Call) (h : History) (next : SuccessorNext) → Goes m c h → MayDo m c h next → SuccessorWaits (placed m next) c h (next_step m next)
+next_waits m c h (Look route level side n) goes x = looks_on m c h h route level side (llx Start) (llx Marked) (Ask (load LoadMarked (marked n.0))) goes x goes.reads.since refl (turn_first TreeAllows (from c h) h goes.reads.run.1 (llx Start) (llx Marked) (Ask _) (look_ready m c h n.0 (llx Start) goes x.stood refl refl) record { stands = refl; asked = refl }) _ refl
+  where
+    llx : LlxAt → LlxRun
+    llx at = record { node = n; at = at }
+next_waits m c h (Head route above n) goes x = asks_head m (placed m (Head route above n)) c h (Ask _) goes route above n refl refl x.0 x.1
+next_waits m c h (Key route head n) goes x = asks_key m (placed m (Key route head n)) c h (Ask _) goes route head n refl refl x.0 x.1
+next_waits m c h (Value key n) goes x = asks_value m (placed m (Value key n)) c h (Ask _) goes key n refl refl x
+next_waits m c h (Validate found) goes x = validates_on m c h h 1 found (Ask _) goes (validates m c h found goes x.0 x.2) (looks_next (from c h) h m.snaps.items 0 (first_looked (from c h) h m.snaps.items 0 (vlx_ready m c h goes x.1)) x.1) _ refl
+
+pub stands_there : (m now : SuccessorRun) (c : Call) (h : History) (turn : Turn Told) (next : SuccessorNext) → now ≡ placed m next → turn ≡ Ask (next_step m next) → Goes m c h → MayDo m c h next → SuccessorTurn c h now turn
+stands_there m now c h turn next is asked goes x = rw (asked, is) (next_waits m c h next goes x)
+
+-- and has fewer steps left than before
+pub placed_nearer : (m : SuccessorRun) (next : SuccessorNext) (nodes n : ℕ) → 0 < n → ComesNearer m next nodes n → successor_left (placed m next) nodes < m.tries * try_left nodes + n
+placed_nearer m (Look route level side node) nodes n some near = let i = near.1 in omega (arith, i)
+placed_nearer m (Head route above node) nodes n some near = let i = near.0 in let j = near.1 in omega (arith, i, j)
+placed_nearer m (Key route head node) nodes n some near = let i = near.0 in let j = near.1 in omega (arith, i, j)
+placed_nearer m (Value key node) nodes n some near = let j = near.1 in omega (arith, j)
+placed_nearer m (Validate found) nodes n some near = let j = near.1 in omega (arith, j, some)
+
+pub stands_nearer : {A : Type 0} (m now : SuccessorRun) (turn : Turn A) (next : SuccessorNext) (step : Step) (nodes n : ℕ) → now ≡ placed m next → turn ≡ Ask step → 0 < n → ComesNearer m next nodes n → MatchTurn turn (λ _. successor_left now nodes < m.tries * try_left nodes + n) (λ _. Unit {0})
+stands_nearer m now turn next step nodes n is asked some near = rw (asked, is) (placed_nearer m next nodes n some near)
+
+-- behind the value of its leaf it validates that pair
+pub value_found : (m : SuccessorRun) (c : Call) (h : History) (n : NodeNo) (key v : ℕ) → Goes m c h → IsOwnMoment c h → HasLeaf m c h n.0 key → value_at h n.0 ≡ v → MayDo m c h (Validate (Some record { key = key; value = v }))
+value_found m c h n key v goes own x e = (own, x.some, tells_this m c h n.0 key v x e)
+
+-- Its walk
+
+-- a step of its walk takes it on, with the last fork where that has turned left
+pub walk_waits : (m : SuccessorRun) (walk after : WalkRun) (turn : NodeNo) (c : Call) (h : History) (step : Step) → Goes m c h → walk.goal ≡ ToKey m.key → IsLastTurn c h m.key turn.0 → after.goal ≡ walk.goal → WalkWaits after c h step → SuccessorWaits (record m { at = Walk after (last_turn after.at after.trail.node turn) }) c h step
+walk_waits m walk after turn c h step goes goal last same waits = walks_on m walk after turn c h (Ask step) goes goal last same waits step _ refl refl
+
+-- behind the leaf that its walk has found it looks at that fork
+pub walk_found : (m : SuccessorRun) (turn : NodeNo) (f : Found) (c : Call) (h : History) → Goes m c h → IsLastTurn c h m.key turn.0 → HasFound (ToKey m.key) c h f → MayDo m c h (Look Along 0 Left turn)
+walk_found m turn f c h goes last found = looks_first m c h turn.0 goes (last_turned c h m.key m.key turn.0 f goes.reads.run goes.small found last)

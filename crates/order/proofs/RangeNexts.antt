@@ -1,0 +1,51 @@
+-- What a range waits for once it has begun what comes next.
+use Rattle.std.proofs.Common.{◌≡◌, ℕ, ◌+◌, ◌*◌, ◌<◌, refl, arith}
+use Rattle.arena.specs.declared.machine.Turn.{Turn}
+use Rattle.arena.specs.declared.machine.Turn.TheVariants.{Ask}
+use Rattle.arena.specs.declared.step.Step.{Step}
+use Rattle.arena.specs.declared.step.Kind.TheVariants.{LoadMarked}
+use Rattle.arena.specs.Words.{marked}
+use Rattle.arena.specs.History.{History}
+use Rattle.arena.specs.Machines.{Call, MatchTurn}
+use Rattle.prims.specs.Llx.Known.{load}
+use Rattle.prims.specs.Vlx.Laws.{first_looked, looks_next}
+use Rattle.prims.specs.declared.llx.LlxAt.{LlxAt}
+use Rattle.prims.specs.declared.llx.LlxAt.TheVariants.{Start, Marked}
+use Rattle.prims.specs.declared.llx.LlxRun.{LlxRun}
+use Rattle.prims.proofs.Lemmas.{turn_first}
+use Rattle.spelling.specs.TreeShape.{TreeAllows}
+use Rattle.order.specs.Reads.{from}
+use Rattle.order.specs.Range.Known.{Goes, RangeTurn, RangeWaits}
+use Rattle.order.specs.Range.Next.{ComesNearer, MayDo, next_step, placed}
+use Rattle.order.specs.Range.Steps.{range_left, try_left}
+use Rattle.order.specs.declared.range.RangeNext.{RangeNext}
+use Rattle.order.specs.declared.range.RangeNext.TheVariants.{Look, Head, Key, Value, Validate}
+use Rattle.order.specs.declared.range.RangeRun.{RangeRun}
+use Rattle.order.proofs.Blaming.{first_look}
+use Rattle.order.proofs.RangeTurns.{Told, asks_head, asks_key, asks_value, looks_on, validates_on}
+use Rattle.order.proofs.RangeVisits.{look_ready, validates}
+
+-- it waits for the step with which that begins
+pub next_waits : (m : RangeRun) (c : Call) (h : History) (next : RangeNext) → Goes m c h → MayDo m c h next → RangeWaits (placed m next) c h (next_step m next)
+next_waits m c h (Head above n) goes x = asks_head m (placed m (Head above n)) c h (Ask _) goes above n refl refl x.0 x.1
+next_waits m c h (Key head n) goes x = asks_key m (placed m (Key head n)) c h (Ask _) goes head n refl refl x.0 x.1
+next_waits m c h (Value key n) goes x = asks_value m (placed m (Value key n)) c h (Ask _) goes key n refl refl x
+next_waits m c h (Look level left right n) goes x = looks_on m c h h level left right (llx Start) (llx Marked) (Ask (load LoadMarked (marked n.0))) goes x goes.reads.since refl (turn_first TreeAllows (from c h) h goes.reads.run.1 (llx Start) (llx Marked) (Ask _) (look_ready m c h n.0 (llx Start) goes x.visits.stood refl refl) record { stands = refl; asked = refl }) _ refl
+  where
+    llx : LlxAt → LlxRun
+    llx at = record { node = n; at = at }
+next_waits m c h Validate goes x = validates_on m c h h 1 (Ask _) goes (validates m c h goes x.0 x.1 x.3) (looks_next (from c h) h m.snaps.items 0 (first_looked (from c h) h m.snaps.items 0 (first_look c h m.snaps.items goes.reads x.2)) x.2) _ refl
+
+pub stands_there : (m now : RangeRun) (c : Call) (h : History) (turn : Turn Told) (next : RangeNext) → now ≡ placed m next → turn ≡ Ask (next_step m next) → Goes m c h → MayDo m c h next → RangeTurn c h now turn
+stands_there m now c h turn next is asked goes x = rw (asked, is) (next_waits m c h next goes x)
+
+-- and has fewer steps left than before
+pub placed_nearer : (m : RangeRun) (next : RangeNext) (nodes n : ℕ) → 0 < n → ComesNearer m next nodes n → range_left (placed m next) nodes < m.tries * try_left m.most nodes + n
+placed_nearer m (Head above node) nodes n some near = let i = near.0 in let j = near.1 in omega (arith, i, j)
+placed_nearer m (Key head node) nodes n some near = let i = near.0 in let j = near.1 in omega (arith, i, j)
+placed_nearer m (Value key node) nodes n some near = let j = near.1 in omega (arith, j)
+placed_nearer m (Look level left right node) nodes n some near = let i = near.1 in omega (arith, i)
+placed_nearer m Validate nodes n some near = let j = near.1 in omega (arith, j, some)
+
+pub stands_nearer : {A : Type 0} (m now : RangeRun) (turn : Turn A) (next : RangeNext) (step : Step) (nodes n : ℕ) → now ≡ placed m next → turn ≡ Ask step → 0 < n → ComesNearer m next nodes n → MatchTurn turn (λ _. range_left now nodes < m.tries * try_left m.most nodes + n) (λ _. Unit {0})
+stands_nearer m now turn next step nodes n is asked some near = rw (asked, is) (placed_nearer m next nodes n some near)

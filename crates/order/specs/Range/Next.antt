@@ -1,0 +1,71 @@
+-- What a range does next in its try, before it stands there.
+use Rattle.std.specs.Prelude.{◌≡◌, ℕ, ◌+◌, ◌-◌, ◌*◌, ◌<◌, ◌≤◌, length, Result, Ok, Err}
+use Rattle.arena.specs.declared.step.Step.{Step}
+use Rattle.arena.specs.declared.step.Kind.TheVariants.{LoadInfo, LoadMarked, LoadSettled}
+use Rattle.arena.specs.declared.word.NodeWord.TheVariants.{Head as HeadWord, Key as KeyWord, Value as ValueWord}
+use Rattle.arena.specs.Words.{info, marked, node}
+use Rattle.arena.specs.History.{History, value}
+use Rattle.arena.specs.Machines.{Call}
+use Rattle.prims.specs.Llx.Known.{load}
+use Rattle.prims.specs.Snap.{snap_at}
+use Rattle.prims.specs.declared.llx.LlxAt.TheVariants.{Marked}
+use Rattle.spelling.specs.TreeWords.{level}
+use Rattle.template.specs.Trails.{IsOwnMoment}
+use Rattle.order.specs.Range.Known.{AsksForSome, Goes, HasKey, HasLowHead, LooksIn, RangeAnswers, Visits, bounds_of}
+use Rattle.order.specs.Range.Steps.{leaves_left}
+use Rattle.order.specs.Reads.{Whenever}
+use Rattle.order.specs.Visits.{IsRangeAt}
+use Rattle.order.specs.declared.range.RangeAt.TheVariants.{Head, Key, Value, Look, Validate}
+use Rattle.order.specs.declared.range.RangeNext.{RangeNext}
+use Rattle.order.specs.declared.range.RangeNext.TheVariants.{Head as HeadNext, Key as KeyNext, Value as ValueNext, Look as LookNext, Validate as ValidateNext}
+use Rattle.order.specs.declared.range.RangeRun.{RangeRun}
+use Rattle.order.specs.declared.refused.Refused.{Refused}
+use Rattle.order.specs.declared.refused.Refused.TheVariants.{NoMemory}
+
+-- the range where it stands once this has begun
+abbrev pub placed : RangeRun → RangeNext → RangeRun
+placed m (HeadNext above n) = record m { at = Head above n }
+placed m (KeyNext head n) = record m { at = Key head n }
+placed m (ValueNext key n) = record m { at = Value key n }
+placed m (LookNext level left right n) = record m { at = Look level left right record { node = n; at = Marked } }
+placed m ValidateNext = record m { at = Validate 1 }
+
+-- the step with which it begins
+abbrev pub next_step : RangeRun → RangeNext → Step
+next_step m (HeadNext above n) = load LoadSettled (node n.0 HeadWord)
+next_step m (KeyNext head n) = load LoadSettled (node n.0 KeyWord)
+next_step m (ValueNext key n) = load LoadSettled (node n.0 ValueWord)
+next_step m (LookNext level left right n) = load LoadMarked (marked n.0)
+next_step m ValidateNext = load LoadInfo (info (snap_at m.snaps.items 0).node.0)
+
+-- what it knows when this may come next
+abbrev pub MayDo : RangeRun → Call → History → RangeNext → Type 0
+MayDo m c h (HeadNext above n) = Visits m c h n.0 × (above < level (value h) n.0)
+MayDo m c h (KeyNext head n) = Visits m c h n.0 × HasLowHead h n.0 head
+MayDo m c h (ValueNext key n) = HasKey m c h n.0 key
+MayDo m c h (LookNext low left right n) = LooksIn m c h low left right n.0
+MayDo m c h ValidateNext = AsksForSome m × IsOwnMoment c h × (0 < length m.snaps.items) × Whenever c.layout h m.snaps.items (λ b. IsRangeAt c.layout b (bounds_of m) m.taken.items)
+
+-- it goes on so; or it ends, for want of memory
+abbrev pub GoesOn : Call → History → RangeRun → Result RangeNext Refused → Type 0
+GoesOn c h m (Ok next) = Goes m c h × MayDo m c h next
+GoesOn c h m (Err refused) = (refused ≡ NoMemory) × RangeAnswers m c h (Err refused)
+
+-- how many steps are left in this try before this has begun
+abbrev pub next_left : RangeRun → ℕ → RangeNext → ℕ
+next_left m nodes (HeadNext above n) = length m.snaps.items + 67 * (1 + nodes - above) + leaves_left m.leaves nodes
+next_left m nodes (KeyNext head n) = length m.snaps.items + 67 * (2 + nodes - head.level) - 1 + leaves_left m.leaves nodes
+next_left m nodes (ValueNext key n) = length m.snaps.items + leaves_left m.leaves nodes + 1
+next_left m nodes (LookNext level left right n) = 64 + length m.snaps.items + 1 + 67 * (1 + nodes - level) + leaves_left m.leaves nodes
+next_left m nodes ValidateNext = length m.snaps.items
+
+-- the node of this is not deeper than the taken nodes allow
+abbrev pub NextFits : RangeNext → ℕ → Type 0
+NextFits (HeadNext above n) nodes = above + 1 < 2 + nodes
+NextFits (KeyNext head n) nodes = head.level < 2 + nodes
+NextFits (LookNext level left right n) nodes = level + 1 < 2 + nodes
+NextFits _ nodes = Unit {0}
+
+-- at most n steps are left then
+abbrev pub ComesNearer : RangeRun → RangeNext → ℕ → ℕ → Type 0
+ComesNearer m next nodes n = NextFits next nodes × (next_left m nodes next ≤ n)
