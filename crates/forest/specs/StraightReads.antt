@@ -81,9 +81,9 @@ module _ {M N : Type 0} (allows : Layout → History → ℕ → Type 0) (ready 
     ReaderGoesOn placed step_of answers_in m (Err a) = ReaderEnds answers_in m a
 
 -- so many steps are left then
-abbrev pub left_then : {N X A : Type 0} → (N → ℕ) → (N → X → N) → N → Result X A → ℕ
-left_then left placed m (Ok next) = suc (left (placed m next))
-left_then left placed m (Err a) = 0
+abbrev pub left_behind : {N X A : Type 0} → (N → ℕ) → (N → X → N) → N → Result X A → ℕ
+left_behind left placed m (Ok next) = suc (left (placed m next))
+left_behind left placed m (Err a) = 0
 
 module _ {M : Type 0} (allows : Layout → History → ℕ → Type 0) (ready : M → Call → History → Option ℕ → Type 0) (waits : M → Call → History → Step → Type 0) (same : M → M → Type 0) (layout : Layout) (number : ℕ) where
   -- a call of a machine that makes a successor
@@ -134,8 +134,8 @@ module _ {M : Type 0} (allows : Layout → History → ℕ → Type 0) (ready : 
 
 -- so many steps are left to a successor then
 abbrev pub search_left : ℕ → SuccessorRun → Result SuccessorNext (Result (Option Pair) Refused) → ℕ
-search_left nodes m then = left_then (λ n. successor_left n nodes) search_placed m then
+search_left nodes m then = left_behind (λ n. successor_left n nodes) search_placed m then
 
 -- and to a range
 abbrev pub visit_left : ℕ → RangeRun → Result RangeNext (Result (Vec Pair Global) Refused) → ℕ
-visit_left nodes m then = left_then (λ n. range_left n nodes) visit_placed m then
+visit_left nodes m then = left_behind (λ n. range_left n nodes) visit_placed m then

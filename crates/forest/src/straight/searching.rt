@@ -25,8 +25,8 @@ use spelling::Pair;
 /// What a successor answers.
 type Told = Result<Option<Pair>, Refused>;
 
-/// Looks at a fork, and tells what comes behind that, or what the successor has answered: where
-/// something is in the way, its machine goes on to the end.
+/// Looks at a fork, and tells what comes behind that, or what the successor has answered: that there
+/// is no memory to keep what was found, or, where something is in the way, what its machine says.
 #[inline(always)]
 fn look_on<S: Shape, M: Machine<S>>(
     words: &Words<S>,
