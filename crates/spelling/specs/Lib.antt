@@ -8,6 +8,7 @@ pub mod FillOrder
 pub mod Edits
 pub mod TreeShape
 pub mod Runs
+pub mod Tries
 pub mod Parts
 pub mod Laws
 pub mod MapLaws
