@@ -1,11 +1,10 @@
 //! The program: plays a script by a schedule, runs one with threads, or audits a report.
 #![tactic(auto)]
 
-mod args;
-mod ask;
+mod words;
 
-use crate::args::words_of;
-use crate::ask::run_words;
+use crate::words::words_of;
+use command_line::run_words;
 use std::process::ExitCode;
 
 fn main(rt: HostRuntime) -> ExitCode {
@@ -16,6 +15,3 @@ fn main(rt: HostRuntime) -> ExitCode {
     };
     ExitCode::from(status)
 }
-
-#[cfg(test)]
-mod tests;

@@ -6,10 +6,6 @@ mod alone;
 mod range;
 mod refused;
 mod successor;
-#[cfg(test)]
-mod table;
-#[cfg(test)]
-mod tests;
 
 pub use alone::alone_holds;
 pub use range::{RangeAt, RangeNext, RangeRun};

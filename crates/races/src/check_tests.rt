@@ -1,21 +1,21 @@
-//! What the check finds in a record that is right but for one thing.
+//! What the check finds in records that are right but for one thing.
 use crate::call::MapCall;
 use crate::check::check;
-use crate::edit::{Edit, are_found, edited, passes, told};
 use crate::past::{Past, Place};
 use crate::race::{Race, played};
 use crate::wrong::Wrong;
-use arena::{Kind, Resource};
 use record::Answer;
+use report::{read_record, write_record};
 use spelling::{Reply, Request};
-use std::alloc::Global;
+use std::alloc::{AllocError, Global};
 use std::test::Fail;
+use texts::Metered;
 
-const RACE: Race = (SCRIPT, SCHEDULE);
+const GETS: Race = (GETS_SCRIPT, GETS_SCHEDULE);
 
 /// Client 0 gives key 5 the value 50 and then 51. Between the mark of the leaf that goes and its
 /// update, client 1 walks down to that leaf, and loads its value when it is out of the tree.
-const SCRIPT: &str = "\
+const GETS_SCRIPT: &str = "\
 limits,2,20,20,3
 0,insert,5,50,
 0,insert,5,51,
@@ -25,7 +25,7 @@ end,4,,,
 ";
 
 /// Turns 1 to 48, 49 to 89, 90 to 95, 96 to 99 with the update at 98, 100, and 101 to 107.
-const SCHEDULE: &str = "\
+const GETS_SCHEDULE: &str = "\
 call,0,,
 until,0,mark,1
 step,1,,6
@@ -59,128 +59,203 @@ call,0,,
 end,5,,
 ";
 
-#[test]
-fn a_good_record_passes(rt: HostRuntime) -> Result<(), Fail> {
-    let replies = [
-        told((0, 0), (1, 48), Some(47), Reply::Value(None)),
-        told((0, 1), (49, 99), Some(98), Reply::Value(Some(50))),
-        told((1, 0), (90, 100), Some(97), Reply::Value(Some(50))),
-        told((1, 1), (101, 107), Some(107), Reply::Value(Some(51))),
-    ];
-    passes(&rt, rt.alloc(), RACE, &replies)
+const READS: Race = (READS_SCRIPT, READS_SCHEDULE);
+
+/// Client 0 brings in three keys. Client 1's range has taken the pair of key 5 when client 0 gives
+/// key 9 another value. It takes that too, and looks once more at all nodes but one; then client 0
+/// gives key 5 another value. So only between these changes the map was as it tells. Client 1's
+/// successor has looked once more at the node above key 5 when client 0 brings in a lesser key than
+/// the one that it tells.
+const READS_SCRIPT: &str = "\
+limits,2,20,20,3
+0,insert,5,50,
+0,insert,7,70,
+0,insert,9,90,
+0,insert,9,91,
+0,insert,5,51,
+0,insert,6,60,
+1,range,0,9,64
+1,successor,5,,
+1,range,9,5,3
+1,range,6,9,2
+end,10,,,
+";
+
+/// Turns 1 to 48, 49 to 100 and 101 to 155; 156 to 183, 184 to 234 with the update at 233, 235 to
+/// 252, 253 to 300 with the update at 299, and 301; 302 to 332, 333 to 387 with the update at 386,
+/// and 388; 389, and 390 to 443.
+const READS_SCHEDULE: &str = "\
+call,0,,
+call,0,,
+call,0,,
+step,1,,28
+call,0,,
+step,1,,18
+call,0,,
+call,1,,
+step,1,,31
+call,0,,
+call,1,,
+call,1,,
+call,1,,
+end,13,,
+";
+
+/// The race, what the check finds in its record and in which turn, and changes of the report: what
+/// stands there, and what is put in its place. A line that begins with `#` is a remark, a blank one
+/// in a report is none, and a report that cannot be read is `unread`.
+const CHANGED: &str = "\
+# The record as it is.
+gets;right;
+# Other moments.
+gets;Moment(99);reply,0,1,49,99,98,some 50;reply,0,1,49,99,97,some 50
+gets;Moment(99);reply,0,1,49,99,98,some 50;reply,0,1,49,99,99,some 50
+gets;Moment(99);reply,0,1,49,99,98,some 50;reply,0,1,49,99,,some 50
+gets;Moment(100);reply,1,0,90,100,97,some 50;reply,1,0,90,100,96,some 50
+gets;Moment(100);reply,1,0,90,100,97,some 50;reply,1,0,90,100,98,some 50
+gets;Moment(107);reply,1,1,101,107,107,some 51;reply,1,1,101,107,106,some 51
+gets;Moment(107);reply,1,1,101,107,107,some 51;reply,1,1,101,107,108,some 51
+gets;Moment(107);reply,1,1,101,107,107,some 51;reply,1,1,101,107,,some 51
+# A value that the key never had, none, one of another time, and refusals.
+gets;Answer(99);reply,0,1,49,99,98,some 50;reply,0,1,49,99,98,some 51
+gets;Answer(99);reply,0,1,49,99,98,some 50;reply,0,1,49,99,98,none
+gets;Answer(100);reply,1,0,90,100,97,some 50;reply,1,0,90,100,97,some 52
+gets;Answer(100);reply,1,0,90,100,97,some 50;reply,1,0,90,100,97,none
+gets;Moment(100);reply,1,0,90,100,97,some 50;reply,1,0,90,100,97,some 51
+gets;Answer(107);reply,1,1,101,107,107,some 51;reply,1,1,101,107,107,some 50
+gets;Entry(99);reply,0,1,49,99,98,some 50;reply,0,1,49,99,98,full nodes 2
+gets;Answer(107);reply,1,1,101,107,107,some 51;reply,1,1,101,107,107,full nodes 2
+# Lines that are left out, first and last turns, and steps: a finalized node changes, a load changes, a
+# load finds something else.
+gets;Entry(47);log,1,47,s1,0,0,;;end,107,4,2,,,;end,107,4,1,,,
+gets;Entry(98);log,2,98,s2,0,1,;;end,107,4,2,,,;end,107,4,1,,,
+gets;Turn(49);reply,0,0,1,48,47,none;;end,107,4,2,,,;end,107,3,2,,,
+gets;Turn(101);reply,1,0,90,100,97,some 50;;end,107,4,2,,,;end,107,3,2,,,
+gets;Reply(99);reply,0,1,49,99,98,some 50;reply,0,1,50,99,98,some 50
+gets;Reply(100);reply,1,0,90,100,97,some 50;reply,1,0,90,99,97,some 50
+gets;Word(101);step,101,1,settled,n0.head,2,2;step,101,1,fill,n3.value,50,51
+gets;Word(101);step,101,1,settled,n0.head,2,2;step,101,1,settled,n3.value,50,51
+gets;Word(101);step,101,1,settled,n0.head,2,2;step,101,1,settled,n3.value,51,51
+# The answers of two calls are swapped: of two changes, of a change and a look, of two looks.
+gets;Answer(48);reply,0,0,1,48,47,none;reply,0,0,1,48,47,some 50;reply,0,1,49,99,98,some 50;reply,0,1,49,99,98,none
+gets;Answer(48);reply,0,0,1,48,47,none;reply,0,0,1,48,47,some 50;reply,1,0,90,100,97,some 50;reply,1,0,90,100,97,none
+gets;Moment(100);reply,1,0,90,100,97,some 50;reply,1,0,90,100,97,some 51;reply,1,1,101,107,107,some 51;reply,1,1,101,107,107,some 50
+# The record as it is.
+deletes;right;
+# A delete that finds none takes place before the key comes in, and a done one with its entry.
+deletes;Moment(51);reply,0,0,1,51,48,none;reply,0,0,1,51,47,none
+deletes;Moment(51);reply,0,0,1,51,48,none;reply,0,0,1,51,49,none
+deletes;Moment(51);reply,0,0,1,51,48,none;reply,0,0,1,51,51,none
+deletes;Moment(51);reply,0,0,1,51,48,none;reply,0,0,1,51,,none
+deletes;Moment(168);reply,0,1,97,168,167,some 51;reply,0,1,97,168,166,some 51
+deletes;Moment(168);reply,0,1,97,168,167,some 51;reply,0,1,97,168,168,some 51
+deletes;Moment(168);reply,0,1,97,168,167,some 51;reply,0,1,97,168,,some 51
+# The value that comes in, one of another time, one that the key never had, none, and refusals; and an
+# entry is left out.
+deletes;Entry(51);reply,0,0,1,51,48,none;reply,0,0,1,51,48,some 50
+deletes;Moment(51);reply,0,0,1,51,48,none;reply,0,0,1,51,48,full scx 0
+deletes;Answer(168);reply,0,1,97,168,167,some 51;reply,0,1,97,168,167,some 50
+deletes;Answer(168);reply,0,1,97,168,167,some 51;reply,0,1,97,168,167,some 52
+deletes;Entry(168);reply,0,1,97,168,167,some 51;reply,0,1,97,168,167,none
+deletes;Entry(168);reply,0,1,97,168,167,some 51;reply,0,1,97,168,167,full scx 0
+deletes;Entry(167);log,3,167,s1,0,1,;;end,168,4,3,,,;end,168,4,2,,,
+# The record as it is.
+reads;right;
+# The pairs before both changes, and behind both, are those of other moments of the call. With 5 from
+# behind its change and 9 from before its own they are of none.
+reads;Moment(301);reply,1,0,156,301,298,pairs 5 50 7 70 9 91;reply,1,0,156,301,298,pairs 5 50 7 70 9 90
+reads;Moment(301);reply,1,0,156,301,298,pairs 5 50 7 70 9 91;reply,1,0,156,301,298,pairs 5 51 7 70 9 91
+reads;Answer(301);reply,1,0,156,301,298,pairs 5 50 7 70 9 91;reply,1,0,156,301,298,pairs 5 51 7 70 9 90
+# One pair too many, as of no moment and above `most`; too few; one below the least key, and one in its
+# place above the greatest; in another order; of a range that takes nothing; and refusals.
+reads;Answer(301);reply,1,0,156,301,298,pairs 5 50 7 70 9 91;reply,1,0,156,301,298,pairs 5 50 6 60 7 70 9 91
+reads;Answer(443);reply,1,3,390,443,443,pairs 6 60 7 70;reply,1,3,390,443,443,pairs 6 60 7 70 9 91
+reads;Answer(443);reply,1,3,390,443,443,pairs 6 60 7 70;reply,1,3,390,443,443,pairs 6 60
+reads;Answer(443);reply,1,3,390,443,443,pairs 6 60 7 70;reply,1,3,390,443,443,pairs 5 51 6 60
+reads;Answer(443);reply,1,3,390,443,443,pairs 6 60 7 70;reply,1,3,390,443,443,pairs 6 60 9 91
+reads;Answer(443);reply,1,3,390,443,443,pairs 6 60 7 70;reply,1,3,390,443,443,pairs 7 70 6 60
+reads;Answer(389);reply,1,2,389,389,389,pairs;reply,1,2,389,389,389,pairs 5 51
+reads;Answer(301);reply,1,0,156,301,298,pairs 5 50 7 70 9 91;reply,1,0,156,301,298,none
+reads;Moment(301);reply,1,0,156,301,298,pairs 5 50 7 70 9 91;reply,1,0,156,301,298,contended n0 s1
+reads;Moment(301);reply,1,0,156,301,298,pairs 5 50 7 70 9 91;reply,1,0,156,301,298,no memory
+reads;Answer(389);reply,1,2,389,389,389,pairs;reply,1,2,389,389,389,no memory
+reads;Answer(389);reply,1,2,389,389,389,pairs;reply,1,2,389,389,389,contended n0 s1
+reads;Answer(301);reply,1,0,156,301,298,pairs 5 50 7 70 9 91;reply,1,0,156,301,298,full nodes 2
+# The pair of a later moment, one with the key of one moment and the value of another, the pair behind
+# the next one, that of the key itself, none, and refusals.
+reads;Moment(388);reply,1,1,302,388,385,pair 7 70;reply,1,1,302,388,385,pair 6 60
+reads;Answer(388);reply,1,1,302,388,385,pair 7 70;reply,1,1,302,388,385,pair 6 70
+reads;Answer(388);reply,1,1,302,388,385,pair 7 70;reply,1,1,302,388,385,pair 9 91
+reads;Answer(388);reply,1,1,302,388,385,pair 7 70;reply,1,1,302,388,385,pair 5 51
+reads;Answer(388);reply,1,1,302,388,385,pair 7 70;reply,1,1,302,388,385,none
+reads;Answer(388);reply,1,1,302,388,385,pair 7 70;reply,1,1,302,388,385,pairs 7 70
+reads;Moment(388);reply,1,1,302,388,385,pair 7 70;reply,1,1,302,388,385,contended n0 s1
+reads;Answer(388);reply,1,1,302,388,385,pair 7 70;reply,1,1,302,388,385,full scx 0
+# Other moments of reads.
+reads;Moment(301);reply,1,0,156,301,298,pairs 5 50 7 70 9 91;reply,1,0,156,301,297,pairs 5 50 7 70 9 91
+reads;Moment(301);reply,1,0,156,301,298,pairs 5 50 7 70 9 91;reply,1,0,156,301,299,pairs 5 50 7 70 9 91
+reads;Moment(301);reply,1,0,156,301,298,pairs 5 50 7 70 9 91;reply,1,0,156,301,301,pairs 5 50 7 70 9 91
+reads;Moment(301);reply,1,0,156,301,298,pairs 5 50 7 70 9 91;reply,1,0,156,301,,pairs 5 50 7 70 9 91
+reads;Moment(388);reply,1,1,302,388,385,pair 7 70;reply,1,1,302,388,384,pair 7 70
+reads;Moment(388);reply,1,1,302,388,385,pair 7 70;reply,1,1,302,388,386,pair 7 70
+reads;Moment(388);reply,1,1,302,388,385,pair 7 70;reply,1,1,302,388,388,pair 7 70
+reads;Moment(389);reply,1,2,389,389,389,pairs;reply,1,2,389,389,388,pairs
+reads;Moment(389);reply,1,2,389,389,389,pairs;reply,1,2,389,389,,pairs
+reads;Moment(443);reply,1,3,390,443,443,pairs 6 60 7 70;reply,1,3,390,443,442,pairs 6 60 7 70
+# The reply of a call that answers at once stands behind its turn.
+reads;Reply(389);reply,1,2,389,389,389,pairs;;end,443,10,6,,,;end,443,9,6,,,
+reads;Reply(389);reply,1,2,389,389,389,pairs;reply,1,2,388,389,389,pairs
+reads;Reply(389);reply,1,2,389,389,389,pairs;reply,1,2,389,390,389,pairs
+reads;Turn(302);reply,1,0,156,301,298,pairs 5 50 7 70 9 91;;end,443,10,6,,,;end,443,9,6,,,
+reads;Entry(299);log,5,299,s5,0,4,;;end,443,10,6,,,;end,443,10,5,,,
+";
+
+/// The report of the race of this name.
+fn report_of(alloc: Global, race: &str) -> Result<String, Fail> {
+    let (script, schedule) = match race {
+        "gets" => GETS,
+        "deletes" => DELETES,
+        _ => READS,
+    };
+    let record = played(alloc, script, schedule)?;
+    let mut to = Metered::new(Vec::new(alloc));
+    write_record(alloc, &record, &mut to)?;
+    Ok(String::from_utf8(to.inner).map_err(|_| "no text")?)
+}
+
+/// The text with these changes.
+fn changed(alloc: Global, mut text: String, changes: &str) -> Result<String, Fail> {
+    let mut parts = changes.split(';');
+    while let (Some(old), Some(new)) = (parts.next(), parts.next()) {
+        let (front, back) = text.as_str().split_once(old).ok_or("no such row")?;
+        text = format!(in alloc; "{front}{new}{back}")?;
+    }
+    Ok(text)
+}
+
+/// What the check finds in a report.
+fn found(alloc: Global, report: &str) -> Result<String, AllocError> {
+    match read_record(alloc, &mut Metered::new(report.as_bytes())) {
+        Ok(record) => match check(alloc, &record) {
+            Ok(()) => String::from_str(alloc, "right"),
+            Err(wrong) => format!(in alloc; "{wrong:?}"),
+        },
+        Err(_) => String::from_str(alloc, "unread"),
+    }
 }
 
 #[test]
-fn a_good_record_of_deletes_passes(rt: HostRuntime) -> Result<(), Fail> {
-    let replies = [
-        told((1, 0), (3, 50), Some(49), Reply::Value(None)),
-        told((0, 0), (1, 51), Some(48), Reply::Value(None)),
-        told((1, 1), (52, 96), Some(95), Reply::Value(Some(50))),
-        told((0, 1), (97, 168), Some(167), Reply::Value(Some(51))),
-    ];
-    passes(&rt, rt.alloc(), DELETES, &replies)
-}
-
-#[test]
-fn other_moments_are_found(rt: HostRuntime) -> Result<(), Fail> {
-    let edits = [
-        (Edit::Moment((0, 1), Some(97)), Wrong::Moment(99)),
-        (Edit::Moment((0, 1), Some(99)), Wrong::Moment(99)),
-        (Edit::Moment((0, 1), None), Wrong::Moment(99)),
-        (Edit::Moment((1, 0), Some(96)), Wrong::Moment(100)),
-        (Edit::Moment((1, 0), Some(98)), Wrong::Moment(100)),
-        (Edit::Moment((1, 1), Some(106)), Wrong::Moment(107)),
-        (Edit::Moment((1, 1), Some(108)), Wrong::Moment(107)),
-        (Edit::Moment((1, 1), None), Wrong::Moment(107)),
-    ];
-    are_found(&rt, rt.alloc(), RACE, &edits)
-}
-
-/// A value that the key never had, none, one of another time, and refusals.
-#[test]
-fn other_answers_are_found(rt: HostRuntime) -> Result<(), Fail> {
-    let edits = [
-        (Edit::Value((0, 1), Some(51)), Wrong::Answer(99)),
-        (Edit::Value((0, 1), None), Wrong::Answer(99)),
-        (Edit::Value((1, 0), Some(52)), Wrong::Answer(100)),
-        (Edit::Value((1, 0), None), Wrong::Answer(100)),
-        (Edit::Value((1, 0), Some(51)), Wrong::Moment(100)),
-        (Edit::Value((1, 1), Some(50)), Wrong::Answer(107)),
-        (Edit::Full((0, 1), Resource::Nodes, 2), Wrong::Entry(99)),
-        (Edit::Full((1, 1), Resource::Nodes, 2), Wrong::Answer(107)),
-    ];
-    are_found(&rt, rt.alloc(), RACE, &edits)
-}
-
-#[test]
-fn other_lines_are_found(rt: HostRuntime) -> Result<(), Fail> {
-    let edits = [
-        (Edit::NoEntry(1), Wrong::Entry(47)),
-        (Edit::NoEntry(2), Wrong::Entry(98)),
-        (Edit::NoReply((0, 0)), Wrong::Turn(49)),
-        (Edit::NoReply((1, 0)), Wrong::Turn(101)),
-        (Edit::Begin((0, 1), 50), Wrong::Reply(99)),
-        (Edit::End((1, 0), 99), Wrong::Reply(100)),
-        // a finalized node changes, a load changes, a load finds something else
-        (Edit::OnTheLeaf(101, Kind::Fill, 50, 51), Wrong::Word(101)),
-        (
-            Edit::OnTheLeaf(101, Kind::LoadSettled, 50, 51),
-            Wrong::Word(101),
-        ),
-        (
-            Edit::OnTheLeaf(101, Kind::LoadSettled, 51, 51),
-            Wrong::Word(101),
-        ),
-    ];
-    are_found(&rt, rt.alloc(), RACE, &edits)
-}
-
-/// A delete that finds none takes place before the key comes in, and a done one with its entry.
-#[test]
-fn other_moments_of_deletes_are_found(rt: HostRuntime) -> Result<(), Fail> {
-    let edits = [
-        (Edit::Moment((0, 0), Some(47)), Wrong::Moment(51)),
-        (Edit::Moment((0, 0), Some(49)), Wrong::Moment(51)),
-        (Edit::Moment((0, 0), Some(51)), Wrong::Moment(51)),
-        (Edit::Moment((0, 0), None), Wrong::Moment(51)),
-        (Edit::Moment((0, 1), Some(166)), Wrong::Moment(168)),
-        (Edit::Moment((0, 1), Some(168)), Wrong::Moment(168)),
-        (Edit::Moment((0, 1), None), Wrong::Moment(168)),
-    ];
-    are_found(&rt, rt.alloc(), DELETES, &edits)
-}
-
-/// The value that comes in, one of another time, one that the key never had, none, and refusals;
-/// and an entry is left out.
-#[test]
-fn other_answers_of_deletes_are_found(rt: HostRuntime) -> Result<(), Fail> {
-    let edits = [
-        (Edit::Value((0, 0), Some(50)), Wrong::Entry(51)),
-        (Edit::Full((0, 0), Resource::Scx, 0), Wrong::Moment(51)),
-        (Edit::Value((0, 1), Some(50)), Wrong::Answer(168)),
-        (Edit::Value((0, 1), Some(52)), Wrong::Answer(168)),
-        (Edit::Value((0, 1), None), Wrong::Entry(168)),
-        (Edit::Full((0, 1), Resource::Scx, 0), Wrong::Entry(168)),
-        (Edit::NoEntry(3), Wrong::Entry(167)),
-    ];
-    are_found(&rt, rt.alloc(), DELETES, &edits)
-}
-
-/// The answers of two calls are swapped: of two changes, of a change and a look, of two looks.
-#[test]
-fn swapped_answers_are_found(rt: HostRuntime) -> Result<(), Fail> {
+fn changed_records_are_found(rt: HostRuntime) -> Result<(), Fail> {
     let alloc = rt.alloc();
-    let record = played(alloc, SCRIPT, SCHEDULE)?;
-    let pairs = [
-        ((0, 0), (0, 1), (Some(50), None), Wrong::Answer(48)),
-        ((0, 0), (1, 0), (Some(50), None), Wrong::Answer(48)),
-        ((1, 0), (1, 1), (Some(51), Some(50)), Wrong::Moment(100)),
-    ];
-    for (one, other, values, wrong) in pairs {
-        let first = Edit::Value(one, values.0);
-        let second = Edit::Value(other, values.1);
-        let swapped = edited(alloc, &edited(alloc, &record, first)?, second)?;
-        assert_eq!(rt; check(alloc, &swapped), Err(wrong));
+    for line in CHANGED.lines() {
+        if line.starts_with('#') {
+            continue;
+        }
+        let (race, rest) = line.split_once(';').ok_or("no race")?;
+        let (wrong, changes) = rest.split_once(';').ok_or("no change")?;
+        let report = changed(alloc, report_of(alloc, race)?, changes)?;
+        let found = found(alloc, report.as_str())?;
+        assert_eq!(rt; found.as_str(), wrong, "{line}");
     }
     Ok(())
 }

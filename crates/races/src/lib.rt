@@ -2,7 +2,7 @@
 #![tactic(auto)]
 
 #[cfg(test)]
-mod audit_tests;
+mod answered_tests;
 #[cfg(test)]
 mod call;
 #[cfg(test)]
@@ -18,8 +18,6 @@ mod check_tests;
 #[cfg(test)]
 mod counts;
 #[cfg(test)]
-mod edit;
-#[cfg(test)]
 mod past;
 #[cfg(test)]
 mod plain_map;
@@ -29,8 +27,6 @@ mod race;
 mod race_tests;
 #[cfg(test)]
 mod random;
-#[cfg(test)]
-mod read_tests;
 #[cfg(test)]
 mod replay;
 #[cfg(test)]

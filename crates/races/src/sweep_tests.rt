@@ -116,45 +116,29 @@ fn sweep(rt: &impl Abort, alloc: Global, race: Race, then: Then) -> Result<(), F
 }
 
 #[test]
-fn a_stopped_client_is_left(rt: HostRuntime) -> Result<(), Fail> {
+fn a_stopped_client_is_left_or_goes_on(rt: HostRuntime) -> Result<(), Fail> {
     for race in RACES {
         sweep(&rt, rt.alloc(), race, Then::Left)?;
-    }
-    Ok(())
-}
-
-#[test]
-fn a_stopped_client_goes_on_at_last(rt: HostRuntime) -> Result<(), Fail> {
-    for race in RACES {
         sweep(&rt, rt.alloc(), race, Then::Finishes)?;
     }
     Ok(())
 }
 
-/// The other one stops too: behind its walk, in its look at the node above, just before the update
-/// that it helps to make, behind that, and just before its own.
+/// The other one stops too. Of inserts: behind its walk, in its look at the node above, just before
+/// the update that it helps to make, behind that, and just before its own. Of a delete that is
+/// helped, or beaten: it is made in the 31st step of the insert that helps it, which makes its own in
+/// the 81st; the delete that beats makes its own in the 71st.
 #[test]
 fn each_of_two_stops(rt: HostRuntime) -> Result<(), Fail> {
-    for steps in [7, 12, 23, 26, 43] {
-        sweep(&rt, rt.alloc(), INSERTS, Then::FinishesBetween(steps))?;
-    }
-    Ok(())
-}
-
-/// The same with a delete that is helped, or beaten: it is made in the 31st step of the insert that
-/// helps it, which makes its own in the 81st; the delete that beats makes its own in the 71st.
-#[test]
-fn each_of_two_stops_around_a_delete(rt: HostRuntime) -> Result<(), Fail> {
-    for steps in [6, 12, 30, 31, 80] {
-        sweep(
-            &rt,
-            rt.alloc(),
-            DELETE_AND_INSERT,
-            Then::FinishesBetween(steps),
-        )?;
-    }
-    for steps in [7, 12, 30, 31, 70] {
-        sweep(&rt, rt.alloc(), DELETES, Then::FinishesBetween(steps))?;
+    let stops = [
+        (INSERTS, [7, 12, 23, 26, 43]),
+        (DELETE_AND_INSERT, [6, 12, 30, 31, 80]),
+        (DELETES, [7, 12, 30, 31, 70]),
+    ];
+    for (race, places) in stops {
+        for steps in places {
+            sweep(&rt, rt.alloc(), race, Then::FinishesBetween(steps))?;
+        }
     }
     Ok(())
 }

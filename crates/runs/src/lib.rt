@@ -2,6 +2,4 @@
 #![tactic(auto)]
 
 #[cfg(test)]
-mod command;
-#[cfg(test)]
 mod gates;

@@ -3,20 +3,16 @@
 #![tactic(auto)]
 
 #[cfg(test)]
+mod device_tests;
+#[cfg(test)]
 mod forest_tests;
 #[cfg(test)]
 mod judge_tests;
 #[cfg(test)]
-mod program_tests;
+mod least_tests;
 #[cfg(test)]
-mod read_tests;
+mod length_tests;
 #[cfg(test)]
-mod report_tests;
-#[cfg(test)]
-mod script_tests;
+mod memory_tests;
 #[cfg(test)]
 mod spelling_tests;
-#[cfg(test)]
-mod stories;
-#[cfg(test)]
-mod table;

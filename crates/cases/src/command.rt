@@ -1,0 +1,57 @@
+//! The commands of the program, and one that copies a report.
+use crate::copy::copy_over;
+use crate::ended::Ended;
+use anyhow::{Result, bail};
+use arena::Mode;
+use program::{audit_over, play_over, run_over};
+use std::io::{Read, Write};
+use std::sync::Wait;
+use std::thread::Threads;
+use texts::Metered;
+
+/// What is done with one text or two.
+#[derive(Clone, Copy, Debug, PartialEq, Eq)]
+pub(crate) enum Command<'a> {
+    /// To play a script by a schedule.
+    Play(Mode),
+    /// To run a script with threads, at the gate of this name.
+    Run { gate: &'a str },
+    /// To audit a report.
+    Audit,
+    /// To read a report, and write it again.
+    Copy,
+}
+
+impl<'a> Command<'a> {
+    /// The command that these words ask for.
+    pub(crate) fn of(words: &'a str) -> Result<Command<'a>> {
+        match (words, words.split_once(' ')) {
+            ("play", _) => Ok(Command::Play(Mode::Tree)),
+            ("records", _) => Ok(Command::Play(Mode::Records)),
+            ("audit", _) => Ok(Command::Audit),
+            ("copy", _) => Ok(Command::Copy),
+            (_, Some(("run", gate))) => Ok(Command::Run { gate }),
+            _ => bail!("no command: {words}"),
+        }
+    }
+
+    /// How it ends over these readers, of which only a play has two, and this writer.
+    pub(crate) fn over<R: Threads + Wait + Sync + AllocGlobal, S: Read, T: Read, O: Write>(
+        self,
+        rt: &R,
+        first: &mut S,
+        second: &mut T,
+        out: O,
+    ) -> Ended<O> {
+        let alloc = rt.alloc();
+        let (mut out, mut err) = (Metered::new(out), Vec::new(alloc));
+        let status = match self {
+            Command::Play(mode) => play_over(alloc, mode, first, second, &mut out, &mut err),
+            Command::Run { gate } => run_over(rt, alloc, gate, first, &mut out, &mut err),
+            Command::Audit => audit_over(alloc, first, &mut out, &mut err),
+            Command::Copy => copy_over(alloc, first, &mut out, &mut err),
+        };
+        let out = out.inner;
+        Ended { status, out, err }
+    }
+}

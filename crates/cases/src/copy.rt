@@ -1,0 +1,30 @@
+//! Reports that are read and written again.
+use program::Fault;
+use report::{read_record, write_record};
+use std::alloc::Global;
+use std::io::{Read, Write};
+use texts::Metered;
+
+/// Reads a report, and writes its record to `out`; a fault goes to `err` as one line. Answers the
+/// status, as the commands of the program do.
+pub(crate) fn copy_over<R: Read, O: Write, E: Write>(
+    alloc: Global,
+    report: &mut R,
+    out: &mut Metered<O>,
+    err: &mut E,
+) -> u8 {
+    match copy(alloc, report, out) {
+        Ok(()) => 0,
+        Err(fault) => fault.print(err),
+    }
+}
+
+fn copy<R: Read, O: Write>(
+    alloc: Global,
+    report: &mut R,
+    out: &mut Metered<O>,
+) -> Result<(), Fault> {
+    let record = read_record(alloc, &mut Metered::new(report))?;
+    write_record(alloc, &record, out)?;
+    Ok(())
+}

@@ -1,0 +1,9 @@
+//! How a command ends.
+
+/// The status, what went to the output, and what went to standard error.
+#[derive(Debug, Drop)]
+pub(crate) struct Ended<O> {
+    pub(crate) status: u8,
+    pub(crate) out: O,
+    pub(crate) err: Vec<u8>,
+}

@@ -1,0 +1,32 @@
+//! Gives the program the cases that lie where this one runs, and tells of each how it ends: a line a
+//! case. `cases.txt` lists those that have folders, `refused.txt` has texts that are refused,
+//! `reports.txt` reports with a change, and `words.txt` words of the command line.
+#![tactic(auto)]
+
+mod case;
+mod cases;
+mod change;
+mod command;
+mod copy;
+mod devices;
+mod ended;
+mod expected;
+mod files;
+mod finding;
+mod inputs;
+mod refusal;
+mod turns;
+mod words;
+
+use crate::cases::all;
+use anyhow::{Result, ensure};
+
+/// Ends with status 1 where a file is missing, where there are no cases, and where one does not end
+/// as it has to.
+fn main(rt: HostRuntime) -> Result<()> {
+    let told = all(&rt)?;
+    let other = told.other;
+    ensure!(told.all > 0, "no cases");
+    ensure!(other == 0, "{other} cases end otherwise");
+    Ok(())
+}

@@ -1,0 +1,65 @@
+//! Words of the command line.
+use crate::ended::Ended;
+use crate::expected::Expected;
+use crate::files::lines_of;
+use crate::finding::Finding;
+use anyhow::{Context, Result};
+use command_line::run_words;
+use std::alloc::{AllocError, Global};
+use std::rt::Files;
+use std::sync::Wait;
+use std::thread::Threads;
+
+/// The words after the program's name, which one space parts; the fault that it is to tell, if
+/// there is one; and else what it is to print, in which `|` stands for a new line.
+#[derive(Clone, Copy)]
+pub(crate) struct Words<'a> {
+    words: &'a str,
+    fault: &'a str,
+    output: &'a str,
+}
+
+impl<'a> Words<'a> {
+    /// What a line says, with a `;` between any two of these.
+    pub(crate) fn of(line: &'a str) -> Result<Words<'a>> {
+        let (words, rest) = line.split_once(';').context(line)?;
+        let (fault, output) = rest.split_once(';').context(line)?;
+        Ok(Words {
+            words,
+            fault,
+            output,
+        })
+    }
+
+    /// How the program ends with them.
+    pub(crate) fn find<R: Files + AllocGlobal + Threads + Wait + Sync>(
+        self,
+        rt: &R,
+    ) -> Result<Finding> {
+        let alloc = rt.alloc();
+        let words = with_name(alloc, self.words)?;
+        let (mut out, mut err) = (Vec::new(alloc), Vec::new(alloc));
+        let status = run_words(rt, words.as_slice(), &mut out, &mut err);
+        let ended = Ended { status, out, err };
+        Ok(self.expected(alloc)?.compare(alloc, &ended)?)
+    }
+
+    fn expected(self, alloc: Global) -> Result<Expected, AllocError> {
+        let fault = self.fault;
+        Ok(if fault.is_empty() {
+            Expected::Output(lines_of(alloc, self.output)?.into_bytes())
+        } else {
+            Expected::Fault(format!(in alloc; "{fault}\n")?.into_bytes())
+        })
+    }
+}
+
+/// These words behind the program's name.
+fn with_name(alloc: Global, words: &str) -> Result<Vec<String>, AllocError> {
+    let mut all = Vec::new(alloc);
+    all.push(String::from_str(alloc, "regnubas")?)?;
+    for word in words.split_whitespace() {
+        all.push(String::from_str(alloc, word)?)?;
+    }
+    Ok(all)
+}
