@@ -7,7 +7,7 @@ use crate::wrong::Wrong;
 use record::Answer;
 use report::{read_record, write_record};
 use spelling::{Reply, Request};
-use std::alloc::{AllocError, Global};
+use std::alloc::Global;
 use std::test::Fail;
 use texts::Metered;
 
@@ -102,8 +102,8 @@ end,13,,
 ";
 
 /// The race, what the check finds in its record and in which turn, and changes of the report: what
-/// stands there, and what is put in its place. A line that begins with `#` is a remark, a blank one
-/// in a report is none, and a report that cannot be read is `unread`.
+/// stands there, and what is put in its place. A line that begins with `#` is a remark; a blank one in
+/// a report is none.
 const CHANGED: &str = "\
 # The record as it is.
 gets;right;
@@ -129,8 +129,8 @@ gets;Answer(107);reply,1,1,101,107,107,some 51;reply,1,1,101,107,107,full nodes 
 # load finds something else.
 gets;Entry(47);log,1,47,s1,0,0,;;end,107,4,2,,,;end,107,4,1,,,
 gets;Entry(98);log,2,98,s2,0,1,;;end,107,4,2,,,;end,107,4,1,,,
-gets;Turn(49);reply,0,0,1,48,47,none;;end,107,4,2,,,;end,107,3,2,,,
-gets;Turn(101);reply,1,0,90,100,97,some 50;;end,107,4,2,,,;end,107,3,2,,,
+gets;Entry(98);reply,0,0,1,48,47,none;;end,107,4,2,,,;end,107,3,2,,,
+gets;Reply(107);reply,1,0,90,100,97,some 50;;end,107,4,2,,,;end,107,3,2,,,
 gets;Reply(99);reply,0,1,49,99,98,some 50;reply,0,1,50,99,98,some 50
 gets;Reply(100);reply,1,0,90,100,97,some 50;reply,1,0,90,99,97,some 50
 gets;Word(101);step,101,1,settled,n0.head,2,2;step,101,1,fill,n3.value,50,51
@@ -206,7 +206,7 @@ reads;Moment(443);reply,1,3,390,443,443,pairs 6 60 7 70;reply,1,3,390,443,442,pa
 reads;Reply(389);reply,1,2,389,389,389,pairs;;end,443,10,6,,,;end,443,9,6,,,
 reads;Reply(389);reply,1,2,389,389,389,pairs;reply,1,2,388,389,389,pairs
 reads;Reply(389);reply,1,2,389,389,389,pairs;reply,1,2,389,390,389,pairs
-reads;Turn(302);reply,1,0,156,301,298,pairs 5 50 7 70 9 91;;end,443,10,6,,,;end,443,9,6,,,
+reads;Reply(388);reply,1,0,156,301,298,pairs 5 50 7 70 9 91;;end,443,10,6,,,;end,443,9,6,,,
 reads;Entry(299);log,5,299,s5,0,4,;;end,443,10,6,,,;end,443,10,5,,,
 ";
 
@@ -234,14 +234,12 @@ fn changed(alloc: Global, mut text: String, changes: &str) -> Result<String, Fai
 }
 
 /// What the check finds in a report.
-fn found(alloc: Global, report: &str) -> Result<String, AllocError> {
-    match read_record(alloc, &mut Metered::new(report.as_bytes())) {
-        Ok(record) => match check(alloc, &record) {
-            Ok(()) => String::from_str(alloc, "right"),
-            Err(wrong) => format!(in alloc; "{wrong:?}"),
-        },
-        Err(_) => String::from_str(alloc, "unread"),
-    }
+fn found(alloc: Global, report: &str) -> Result<String, Fail> {
+    let record = read_record(alloc, &mut Metered::new(report.as_bytes()))?;
+    Ok(match check(alloc, &record) {
+        Ok(()) => String::from_str(alloc, "right")?,
+        Err(wrong) => format!(in alloc; "{wrong:?}")?,
+    })
 }
 
 #[test]
