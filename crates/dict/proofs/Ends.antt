@@ -49,6 +49,28 @@ range_form low high most (Ok found) = tt
 range_form low high most (Err (refused.Contended node scx)) = tt
 range_form low high most (Err refused.NoMemory) = tt
 
+-- Their way
+
+module _ (tries : ℕ) (c : Call) where
+  -- an edit that goes on is the same
+  pub insert_goes : (old now : UpdateRun Inserted UpdateAt) → Goes (Insert old) tries c → now.edit ≡ old.edit → now.call ≡ old.call → now.limit ≡ old.limit → Spends 3 old.share now.share (node_tries old old.at) (node_tries now now.at) (scx_tries old old.at) (scx_tries now now.at) → Goes (Insert now) tries c
+  insert_goes old now goes edit call limit spends = record {
+    mode = goes.mode;
+    small = rw edit goes.small;
+    number = call ∙ goes.number;
+    limit = limit ∙ goes.limit;
+    spent = edit_spends c 3 old.share now.share tries (node_tries old old.at) (node_tries now now.at) (scx_tries old old.at) (scx_tries now now.at) goes.spent spends;
+  }
+
+  pub delete_goes : (old now : UpdateRun Deleted UpdateAt) → Goes (Delete old) tries c → now.edit ≡ old.edit → now.call ≡ old.call → now.limit ≡ old.limit → Spends 1 old.share now.share (node_tries old old.at) (node_tries now now.at) (scx_tries old old.at) (scx_tries now now.at) → Goes (Delete now) tries c
+  delete_goes old now goes edit call limit spends = record {
+    mode = goes.mode;
+    small = rw edit goes.small;
+    number = call ∙ goes.number;
+    limit = limit ∙ goes.limit;
+    spent = edit_spends c 1 old.share now.share tries (node_tries old old.at) (node_tries now now.at) (scx_tries old old.at) (scx_tries now now.at) goes.spent spends;
+  }
+
 -- Their answers
 
 module _ (tries : ℕ) (c : Call) (h : History) where

@@ -61,7 +61,7 @@ module _ (c : Call) (run : IsTreeRun c.layout c.start) where
   inside : (m : MapRun) (tries : ℕ) → IsUnbegun m tries c.number → IsFewCall (call_in m) → RestsWith c c.start (share_of m) → IsReadyInside m c c.start None
   inside (Insert m) tries x few r = update_ready insert_means m x.0 r x.3 (x.4 ∙ sym x.1)
   inside (Delete m) tries x few r = update_ready delete_means m x.0 r x.3 (x.4 ∙ sym x.1)
-  inside (Get m share) tries x few r = (get_ready_first m c c.start run x.3 (ends_self c.start) x.0 x.1 x.2, rests share r)
+  inside (Get m share) tries x few r = (get_ready_first m c run x.3 r.over x.0 x.1 x.2, rests share r)
   inside (Successor m share) tries x few r = (successor_ready_first m c c.start run refl x.3 r.over x.0 x.2 (let e = x.4 in let f = x.1 in omega (arith, e, f)), rests share r)
   inside (Range m share) tries x few r = (range_ready_first m c c.start run refl x.3 few r.over x.0 x.2 (let e = x.4 in let f = x.1 in omega (arith, e, f)), rests share r)
 

@@ -27,7 +27,8 @@ DictIsReady keys values m c h got = IsTypedCall keys values (call_in m.run) × M
 abbrev pub DictWaits : {K V : Type 0} → (ℕ → Type 0) → (ℕ → Type 0) → DictRun K V → Call → History → Step → Type 0
 DictWaits keys values m c h s = IsTypedCall keys values (call_in m.run) × MapWaits m.tries m.run c h s
 
--- why a reply tells nothing of the map, where the call has this share left, and so many tries in all
+-- why a reply tells nothing of the map, where the call has this share left, and so many tries in
+-- all
 abbrev pub DictRefuses : {K V : Type 0} → Call → History → MapCall → Remaining → ℕ → Reply K V → Type 0
 DictRefuses c h call share tries (Contended node scx) = HasLost c h tries node.0 scx.0
 DictRefuses c h call share tries (Full full) = HasRunOut c h call share full

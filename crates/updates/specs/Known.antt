@@ -344,8 +344,8 @@ module _ {E : Type 0} (e : EditMeaning E) where
   FirstOrLost m c begin (Walk walk) = IsUntouched c begin m.share
   FirstOrLost m c begin _ = Unit {0}
 
-  -- the try that began at this moment is the newest and lost to nobody so far; while it waits for
-  -- the root's head it has yet to begin
+  -- the try that began at this moment is its pass's newest; while its walk waits for the root's head
+  -- it has yet to begin
   abbrev pub Tries : {A : Type 0} → UpdateRun E A → Call → History → History → UpdateAt → Type 0
   Tries m c begin h (Walk walk) = IsTryAt c begin h m.limit m.tries walk.at
   Tries m c begin h _ = IsTry c begin h m.limit m.tries

@@ -92,8 +92,8 @@ HasScxLeft m (Fill f nth part) = 0 < m.share.scx
 HasScxLeft m _ = Unit {0}
 
 -- At most so many nodes are taken for each of the tries that might take some and no longer may, and
--- at most one SCX-record. And at most so many nodes for each SCX-record that is taken: of the tries
--- that may take an SCX-record, those that no longer may take nodes have theirs.
+-- at most one SCX-record; and at most so many nodes for each SCX-record that is taken, besides
+-- those of a try that no longer may take nodes and may still take its SCX-record.
 abbrev pub Spends : ℕ → Remaining → Remaining → ℕ → ℕ → ℕ → ℕ → Type 0
 Spends most old now nodes nodes_then scx scx_then =
     (old.nodes + most * nodes_then ≤ now.nodes + most * nodes)

@@ -22,8 +22,8 @@ HasEnteredOnly lay c s h start = (row : Row) (before : History) (t : ℕ) → Ex
 abbrev pub HasEnteredNone : Layout → ℕ → History → History → Type 0
 HasEnteredNone lay c h start = (row : Row) (before : History) (t : ℕ) → Extends h (row ⊳ before) → Extends before start → IsWin before row t → ¬ IsOwnScx lay c t
 
--- A try of a call that may try `limit` times in all, behind which so many tries are left, may begin:
--- until the moment `begin` the pass has entered nothing, and all other tries are over by now.
+-- A try may begin, of a call that may try `limit` times in all, and so many are left behind it:
+-- until the moment `begin` the pass has entered nothing, and it has begun all others by now.
 pub record MayTry (c : Call) (begin now : History) (limit left : ℕ) : Type 0 where
   pub since : Extends begin c.start
   pub none : HasEnteredNone c.layout c.pass begin c.start
