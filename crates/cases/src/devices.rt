@@ -25,40 +25,68 @@ fn over<R: Threads + Wait + Sync + AllocGlobal>(
     }
 }
 
-/// Where one device fails at each place in turn, the command says so, and what has gone out is a
-/// beginning of its output: none where a read fails.
+/// Where one device fails after each number of bytes in turn, the command says so, and what has gone
+/// out is a beginning of its output: none where a read fails.
 pub(crate) fn failing<R: Threads + Wait + Sync + AllocGlobal>(
     rt: &R,
     command: Command<'_>,
     texts: &Inputs,
     whole: &[u8],
 ) -> Finding {
-    let all = usize::MAX;
-    for bytes in 0..=texts.first.len() {
-        if !has_failed(
-            &over(rt, command, texts, (bytes, all, all)),
-            b"read failed\n",
-            b"",
-        ) {
-            return Finding::Read(bytes);
-        }
-    }
-    for bytes in 0..texts.second.len() {
-        if !has_failed(
-            &over(rt, command, texts, (all, bytes, all)),
-            b"read failed\n",
-            b"",
-        ) {
-            return Finding::Read(bytes);
-        }
+    if let Some(bytes) = other_read(rt, command, texts) {
+        return Finding::Read(bytes);
     }
     for bytes in 0..whole.len() {
-        let ended = over(rt, command, texts, (all, all, bytes));
-        if !has_failed(&ended, b"write failed\n", &whole[..bytes]) {
+        if !fails_to_write(rt, command, texts, &whole[..bytes]) {
             return Finding::Write(bytes);
         }
     }
     Finding::AsExpected
+}
+
+/// The least number of bytes of a text after which a failed read is not told as such.
+fn other_read<R: Threads + Wait + Sync + AllocGlobal>(
+    rt: &R,
+    command: Command<'_>,
+    texts: &Inputs,
+) -> Option<usize> {
+    for bytes in 0..=texts.first.len() {
+        if !fails_to_read(rt, command, texts, (bytes, usize::MAX)) {
+            return Some(bytes);
+        }
+    }
+    if let Command::Play(_) = command {
+        for bytes in 0..=texts.second.len() {
+            if !fails_to_read(rt, command, texts, (usize::MAX, bytes)) {
+                return Some(bytes);
+            }
+        }
+    }
+    None
+}
+
+fn fails_to_read<R: Threads + Wait + Sync + AllocGlobal>(
+    rt: &R,
+    command: Command<'_>,
+    texts: &Inputs,
+    (first, second): (usize, usize),
+) -> bool {
+    let ended = over(rt, command, texts, (first, second, usize::MAX));
+    has_failed(&ended, b"read failed\n", b"")
+}
+
+fn fails_to_write<R: Threads + Wait + Sync + AllocGlobal>(
+    rt: &R,
+    command: Command<'_>,
+    texts: &Inputs,
+    beginning: &[u8],
+) -> bool {
+    let written = (usize::MAX, usize::MAX, beginning.len());
+    has_failed(
+        &over(rt, command, texts, written),
+        b"write failed\n",
+        beginning,
+    )
 }
 
 fn has_failed(ended: &Ended<Vec<u8>>, fault: &[u8], out: &[u8]) -> bool {
