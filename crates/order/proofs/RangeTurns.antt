@@ -31,7 +31,7 @@ use Rattle.template.specs.Trails.{IsOwnMoment}
 use Rattle.order.specs.Reads.{from}
 use Rattle.order.specs.Tries.{BeginsTry, IsInTry}
 use Rattle.template.specs.Blame.{IsContended}
-use Rattle.order.specs.Range.Known.{AsksForNothing, TellsNone, IsSameRange, Visits, IsChoice, LooksIn, HasLowHead, HasKey, Validates, Goes, HasTold, RangeIsToldAt, RangeWaits, RangeIsReady, RangeReplies, RangeTurn}
+use Rattle.order.specs.Range.Known.{AsksForNothing, TellsNone, Visits, IsChoice, LooksIn, HasLowHead, HasKey, Validates, Goes, HasTold, RangeIsToldAt, RangeWaits, RangeIsReady, RangeReplies, RangeTurn}
 use Rattle.order.specs.Range.Steps.{try_left, phase_left, range_left, IsNearer, RangeFitsAt, RangeFits}
 use Rattle.order.specs.declared.refused.Refused.{Refused}
 use Rattle.order.specs.declared.range.RangeAt.{RangeAt}

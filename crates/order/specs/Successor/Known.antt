@@ -50,9 +50,6 @@ key_at h n = value h (node n KeyWord)
 abbrev pub value_at : History → ℕ → ℕ
 value_at h n = value h (node n ValueWord)
 
-abbrev pub level_at : History → ℕ → ℕ
-level_at h n = level (value h) n
-
 -- the call has passed this fork on its way to k, which is on the left of it
 pub record HasTurnedLeft (c : Call) (h : History) (k n : ℕ) : Type 0 where
   pub passed : WasPassed c h k n

@@ -1,3 +1,4 @@
+use Rattle.std.proofs.Common.{refl}
 use Rattle.order.proofs.Nearer.{begins_walk}
 use Rattle.order.proofs.Turns.{walks_first}
 use Rattle.order.proofs.successor.SuccessorRun.begin.Goals as goal
