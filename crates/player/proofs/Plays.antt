@@ -1,6 +1,6 @@
 -- What is true of a player before its first turn and after its last.
-use Rattle.std.proofs.Common.{◌≡◌, ℕ, ◌+◌, ◌<◌, List, [], ◌∷◌, length, map, reverse, take, get_or, Option, Some, slice_get, All, inl, inr, refl, ◌∙◌, ap}
-use Rattle.std.proofs.lemmas.List.{map_more, reverse-append}
+use Rattle.std.proofs.Common.{◌≡◌, ℕ, ◌+◌, ◌<◌, List, [], ◌∷◌, length, map, reverse, take, get_or, Option, Some, slice_get, All, inl, inr, refl, sym, ◌∙◌, ap, subst}
+use Rattle.std.proofs.lemmas.List.{map_more, reverse-append, reverse-reverse}
 use Rattle.arena.specs.declared.layout.Layout.{Layout}
 use Rattle.arena.specs.PlainWords.{Contents, IsOpening}
 use Rattle.arena.specs.History.{value}
@@ -11,12 +11,14 @@ use Rattle.script.specs.declared.call.Call.{Call}
 use Rattle.script.specs.Commands.{mode_of}
 use Rattle.player.proofs.Readings.{whole}
 use Rattle.player.specs.declared.client.Client.{Client}
-use Rattle.player.specs.declared.player.Player.{Player}
+use Rattle.player.specs.declared.interleaving.Interleaving.{Interleaving}
 use Rattle.player.specs.Lines.{newest}
+use Rattle.record.specs.declared.record.Line.{Line}
 use Rattle.record.specs.Turns.{history, clients}
 use Rattle.player.specs.ClientView.{client_view, Rests}
 use Rattle.record.specs.LawfulRun.{AreLines, IsLawfulRun}
-use Rattle.player.specs.BetweenTurns.{AreBetweenTurns, IsBetweenTurns, AreWins}
+use Rattle.player.specs.BetweenTurns.{AreBetweenTurns, IsBetweenTurns, AreWins, player_view}
+use Rattle.player.specs.Player.{PlayerView, IsPlayed}
 
 -- words as they are at the start, and clients that rest, are between two turns
 pub opening_between : (lay : Layout) (tries : ℕ) (calls : List Call) (words : Contents) (all : List Client) → words.layout ≡ lay → IsOpening words → All (λ (call : Call). mode_of call.command ≡ lay.mode) calls → ((j : ℕ) (d : Client) → slice_get all j ≡ Some d → (d.pass.0 ≡ j) × Rests (client_view lay tries calls [] j) d) → AreBetweenTurns lay tries calls words all []
@@ -38,8 +40,8 @@ opening_between lay tries calls words rests same opening all each = record {
 pub no_wins : (lay : Layout) (wins : List (Option ℕ)) → AreWins lay [] wins
 no_wins lay wins c turn e = cc
 
--- the lines of a player are a lawful run of the turns that it made
-pub played_record : (p : Player) → IsBetweenTurns p → (turns : List ℕ) → clients (newest p.lines) ≡ reverse turns → IsLawfulRun p.script.layout p.script.limits.tries p.script.calls.items turns p.lines.list.items
+-- the lines of an interleaving are a lawful run of the turns that it made
+played_record : (p : Interleaving) → IsBetweenTurns p → (turns : List ℕ) → clients (newest p.lines) ≡ reverse turns → IsLawfulRun p.script.layout p.script.limits.tries p.script.calls.items turns p.lines.list.items
 played_record p x turns e = record {
   turns = e;
   in_order = x.between.so_far.in_order;
@@ -50,6 +52,15 @@ played_record p x turns e = record {
   finalized = λ past n part ends final. finalized_since p.script.layout (history p.script.layout.mode (newest p.lines)) past n part x.between.so_far.sound.lawful ends final;
   whole = whole p.script.layout p.script.limits.tries p.script.calls.items p.words (newest p.lines) x.between.so_far;
 }
+
+pub played : (p : Interleaving) → IsBetweenTurns p → IsPlayed (player_view p)
+played p x =
+    subst (λ (l : List Line). IsLawfulRun p.script.layout p.script.limits.tries p.script.calls.items (reverse (clients (newest p.lines))) l) (sym (reverse-reverse p.lines.list.items))
+    (played_record p x (reverse (clients (newest p.lines))) (sym (reverse-reverse (clients (newest p.lines)))))
+
+-- and of whatever turns are theirs
+pub asked_run : (p : PlayerView) → IsPlayed p → (asked : List ℕ) → clients p.lines ≡ reverse asked → IsLawfulRun p.script.layout p.script.limits.tries p.script.calls asked (reverse p.lines)
+asked_run p x asked e = rw (e, reverse-reverse asked) at x
 
 -- one more element comes first in the reverse
 pub reverse_map_more : {X Y : Type 0} (f : X → Y) (xs : List X) (i : ℕ) (d : X) → i < length xs → reverse (map f (take (i + 1) xs)) ≡ f (get_or xs i d) ∷ reverse (map f (take i xs))

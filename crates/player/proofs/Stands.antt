@@ -13,7 +13,7 @@ use Rattle.record.specs.declared.record.Finished.{Finished as FinishedCall}
 use Rattle.record.specs.declared.record.Answer.{Answer}
 use Rattle.player.specs.declared.client.Client.{Client}
 use Rattle.player.specs.declared.client.NextAction.TheVariants.{Finished, Answers, Asks}
-use Rattle.player.specs.declared.player.Player.{Player}
+use Rattle.player.specs.declared.interleaving.Interleaving.{Interleaving}
 use Rattle.player.specs.Lines.{newest}
 use Rattle.player.specs.Place.{IsAt}
 use Rattle.record.specs.Commands.{commands, next_command}
@@ -27,7 +27,7 @@ use Rattle.player.proofs.Middles.{turn_begins, turn_changed, finished_turn, refu
 use Rattle.player.proofs.Steps.{few_calls}
 
 -- a client of the player
-pub client_there : (p : Player) (i : ℕ) (c : Client) → i < p.script.layout.passes → c ≡ get_or p.clients.items i c → slice_get p.clients.items i ≡ Some c
+pub client_there : (p : Interleaving) (i : ℕ) (c : Client) → i < p.script.layout.passes → c ≡ get_or p.clients.items i c → slice_get p.clients.items i ≡ Some c
 client_there p i c inside e = slice_get_read p.clients.items (length p.clients.items) i c refl (omega (arith, inside, p.all_clients, p.clients.ok.0)) e
 
 -- a client at rest that has a call left has not begun it
@@ -44,7 +44,7 @@ has_begun : (v : ClientView) (began : Option ℕ) (old : Client) → IsClient v 
 has_begun v began old (inl x) d = absurd (d x.0.none)
 has_begun v began old (inr (q, runs, w, e)) d = e
 
-module _ (p : Player) (i number : ℕ) (old new : Client) (played : IsBetweenTurns p) (there : slice_get p.clients.items i ≡ Some old) where
+module _ (p : Interleaving) (i number : ℕ) (old new : Client) (played : IsBetweenTurns p) (there : slice_get p.clients.items i ≡ Some old) where
   abbrev lay : Layout
   lay = p.script.layout
 
@@ -74,7 +74,7 @@ module _ (p : Player) (i number : ℕ) (old new : Client) (played : IsBetweenTur
   new_i same = ap (λ (k : PassNo). k.0) same ∙ is_i
 
   -- it asks for a step
-  pub stood_asked : (q : Player) (step : Ask) → q.script.layout ≡ lay → q.script.limits ≡ p.script.limits → q.script.calls.items ≡ calls → q.words ≡ p.words → q.clients.items ≡ set p.clients.items i new → newest q.lines ≡ lines → q.wins.items ≡ p.wins.items → ArePlaces lay calls lines q.places → number ≡ suc (turns (newest q.lines)) → IsNextAction v number old new (Asks step) → IsAsked q i number step
+  pub stood_asked : (q : Interleaving) (step : Ask) → q.script.layout ≡ lay → q.script.limits ≡ p.script.limits → q.script.calls.items ≡ calls → q.words ≡ p.words → q.clients.items ≡ set p.clients.items i new → newest q.lines ≡ lines → q.wins.items ≡ p.wins.items → ArePlaces lay calls lines q.places → number ≡ suc (turns (newest q.lines)) → IsNextAction v number old new (Asks step) → IsAsked q i number step
   stood_asked q step a t b w d e f g n s = record {
     wins = rw (a, e, f) played.wins;
     places = rw (a, b, e) g;

@@ -46,8 +46,9 @@ use Rattle.record.specs.declared.record.Entry.{Entry}
 use Rattle.record.specs.declared.record.Answer.{Answer}
 use Rattle.player.specs.declared.client.Client.{Client}
 use Rattle.player.specs.declared.client.Running.{Running}
-use Rattle.player.specs.declared.player.Player.{Player}
+use Rattle.player.specs.declared.interleaving.Interleaving.{Interleaving}
 use Rattle.player.specs.Lines.{newest}
+use Rattle.player.specs.Player.{ScriptView, script_view}
 use Rattle.arena.specs.TakenNodes.{taken_nodes}
 use Rattle.record.specs.Turns.{history, turns, answered, clients, begin, start, won, last_client, entry_of, entry_owed}
 use Rattle.record.specs.Commands.{commands}
@@ -58,7 +59,7 @@ use Rattle.player.proofs.Placing.{done_enters}
 use Rattle.record.specs.Replies.{IsFitting, IsReplyOwed}
 use Rattle.record.specs.Entries.{IsWinOf}
 use Rattle.player.specs.ClientView.{ClientView, client_view, Tells, IsSound, Hears, IsClient, GoesOn, Ends}
-use Rattle.player.specs.BetweenTurns.{IsLawfulSoFar, IsSameScript, IsTurnOf, AreBetweenTurns, IsAsked, IsEnd, AreWins, ArePlaces, IsAtEdit}
+use Rattle.player.specs.BetweenTurns.{IsLawfulSoFar, IsTurnOf, AreBetweenTurns, IsBetweenTurns, IsAsked, IsEnd, AreWins, ArePlaces, IsAtEdit}
 use Rattle.player.proofs.Views.{own_row, step_sound, hears}
 use Rattle.player.proofs.Middles.{IsOver, get_there, others_step, others_log, so_far_same, step_made, turn_changed, turn_ends, replied}
 use Rattle.player.proofs.MayMakes.{may_make}
@@ -94,7 +95,7 @@ begun_at lines number c (inr e) = rw e refl
 row_same : (pass : PassNo) (c call call' : ℕ) (kind : Kind) (word : Word) (before before' after after' : ℕ) → pass.0 ≡ c → call ≡ call' → before ≡ before' → after ≡ after' → (let r : Row = record { pass = pass; call = call; kind = kind; word = word; before = before; after = after } in r) ≡ record { pass = record { 0 = c }; call = call'; kind = kind; word = word; before = before'; after = after' }
 row_same pass c call call' kind word before before' after after' p k b a = rw (k, b, a) (ap (λ (n : ℕ). let r : Row = record { pass = record { 0 = n }; call = call'; kind = kind; word = word; before = before'; after = after' } in r) p)
 
-module _ (p : Player) (i number : ℕ) (step : Ask) (a : IsAsked p i number step) where
+module _ (p : Interleaving) (i number : ℕ) (step : Ask) (a : IsAsked p i number step) where
   abbrev lay : Layout
   lay = p.script.layout
 
@@ -335,20 +336,15 @@ heard_end lay tries calls words all lines changes c mid new q found number answe
 
 -- What the player makes of it
 
--- the same under other names
-pub between_at : (lay lay' : Layout) (tries tries' : ℕ) (calls calls' : List Call) (words words' : Contents) (all all' : List Client) (lines lines' : List Line) → lay' ≡ lay → tries' ≡ tries → calls' ≡ calls → words' ≡ words → all' ≡ all → lines' ≡ lines → AreBetweenTurns lay tries calls words all lines → AreBetweenTurns lay' tries' calls' words' all' lines'
-between_at lay lay' tries tries' calls calls' words words' all all' lines lines' a t b c d e x = rw (a, t, b, c, d, e) x
-
--- the two scripts let a call try as often
-pub same_tries : (old new : Script) → IsSameScript old new → new.limits.tries ≡ old.limits.tries
-same_tries old new x = ap (λ (l : Limits). l.tries) x.limits
+-- an interleaving of these parts is between two turns
+pub between_at : (p : Interleaving) (script : ScriptView) (words : Contents) (all : List Client) (lines : List Line) (wins : List (Option ℕ)) (places : Places) → script_view p.script ≡ script → p.words ≡ words → p.clients.items ≡ all → newest p.lines ≡ lines → p.wins.items ≡ wins → p.places ≡ places → AreBetweenTurns script.layout script.limits.tries script.calls words all lines → AreWins script.layout lines wins → ArePlaces script.layout script.calls lines places → IsBetweenTurns p
+between_at p script words all lines wins places s b c d e f x y z =
+    subst (λ (k : ScriptView). AreBetweenTurns k.layout k.limits.tries k.calls words all lines → AreWins k.layout lines wins → ArePlaces k.layout k.calls lines places → IsBetweenTurns p) s
+    (λ x y z. record { between = rw (b, c, d) x; wins = rw (d, e) y; places = rw (d, f) z }) x y z
 
 -- what is remembered of a client is the turn that the lines say
 pub remembered : (lay : Layout) (lines : List Line) (wins : List (Option ℕ)) (k i : ℕ) (said : Option ℕ) → AreWins lay lines wins → slice_get wins k ≡ Some said → k ≡ i → (turn : ℕ) → won lay lines i ≡ Some turn → said ≡ Some turn
 remembered lay lines wins k i said x there same turn e = let y = x i turn e in let z : slice_get wins i ≡ Some said = rw same at there in cc
-
-pub wins_at : (lay lay' : Layout) (lines lines' : List Line) (wins wins' : List (Option ℕ)) → lay' ≡ lay → lines' ≡ lines → wins' ≡ wins → AreWins lay lines wins → AreWins lay' lines' wins'
-wins_at lay lay' lines lines' wins wins' a b c x = rw (a, b, c) x
 
 -- places that know at least the same keys
 pub keys_kept : (old new : Places) (calls : List Call) → ((key : ℕ) → Knows old key → Knows new key) → All (λ (call : Call). HoldsOfKey (Knows old) call.command) calls → All (λ (call : Call). HoldsOfKey (Knows new) call.command) calls
@@ -371,9 +367,6 @@ places_logged lay calls clients lines e old new owner change more p = record { e
         let c : Change = record { turn = e.step; key = edit_key x.edit; value = value_left x.edit } in
         rw (change x) ((refl, subst (λ (o : Option MapCall). IsChangeBy o c) (sym x.edits) (refl, refl)), p.entries tree)
 
-pub places_at : (lay lay' : Layout) (calls calls' : List Call) (lines lines' : List Line) (places places' : Places) → lay' ≡ lay → calls' ≡ calls → lines' ≡ lines → places' ≡ places → ArePlaces lay calls lines places → ArePlaces lay' calls' lines' places'
-places_at lay lay' calls calls' lines lines' places places' a b c d x = rw (a, b, c, d) x
-
 -- the turns are one more, whatever else is written down behind the row
 pub turns_logged : (lay : Layout) (pushed after : List Line) → MatchOption (entry_owed lay pushed) (after ≡ pushed) (λ e. after ≡ Log e ∷ pushed) → clients after ≡ clients pushed
 turns_logged lay pushed after m = go (entry_owed lay pushed) m
@@ -390,7 +383,7 @@ pub told_ends : (v : ClientView) (now c new : Client) (q : Running) (found : ℕ
 told_ends v now c new q found answer e sound runs h f = subst (λ (k : Client). Ends v k new answer) e (f v q sound (subst (λ (k : Client). k.running ≡ Some q) (sym e) runs) (subst (λ (k : Client). Hears v k q found) (sym e) h))
 
 -- a script has few calls
-pub few_calls : (p : Player) → length p.script.calls.items ≤ 65536
+pub few_calls : (p : Interleaving) → length p.script.calls.items ≤ 65536
 few_calls p = omega (arith, p.script.few, p.script.calls.ok.0)
 
 -- what is written down behind the row

@@ -2,12 +2,11 @@
 use Rattle.std.proofs.Common.{◌≡◌, ◌≢◌, ℕ, suc, ◌+◌, ◌*◌, ◌-◌, ◌<◌, ◌≤◌, ◌⊎◌, inl, inr, Bool, true, false, cond, eqb, eqb-true, eq-eqb, append_assoc, length-append, List, [], ◌∷◌, ◌++◌, length, replicate, Option, Some, None, is_some, refl, sym, ◌∙◌, ap, subst, arith}
 use Rattle.std.proofs.Math.Nat.{mul-le-mul, mul-le-mul_left}
 use Rattle.std.proofs.lemmas.Option.{slice_get_within}
-use Rattle.std.proofs.lemmas.List.{length-take}
+use Rattle.std.proofs.lemmas.List.{length-take, reverse-reverse}
 use Rattle.histories.proofs.Lemmas.{lawful_tail}
 use Rattle.arena.proofs.Lemmas.{taken_few}
 use Rattle.arena.specs.Lawful.{Lawful}
 use Rattle.arena.specs.declared.layout.Layout.{Layout}
-use Rattle.arena.specs.declared.limits.Limits.{Limits}
 use Rattle.arena.specs.declared.step.Kind.{Kind}
 use Rattle.script.specs.Commands.{AsksForFewPairs}
 use Rattle.script.specs.declared.call.Call.{Call}
@@ -19,26 +18,18 @@ use Rattle.record.specs.declared.record.Line.TheVariants.{Step, Log, Reply}
 use Rattle.record.specs.declared.record.Finished.{Finished}
 use Rattle.record.specs.declared.record.Row.{Row}
 use Rattle.record.specs.declared.record.Row.TheVariants.{Step as Made, Idle}
-use Rattle.player.specs.declared.player.Player.{Player}
-use Rattle.player.specs.Player.{calls_of, lines_of}
-use Rattle.player.specs.Lines.{newest}
+use Rattle.player.specs.Player.{PlayerView, IsPlayed, IsTurnMore}
 use Rattle.arena.specs.TakenNodes.{taken_nodes}
 use Rattle.record.specs.Turns.{history, turns, clients, client_of, answered, steps, last_client, made, is_of}
 use Rattle.record.specs.Commands.{commands, next_command}
 use Rattle.record.specs.CommandRules.{most_steps}
 use Rattle.record.specs.LawfulRun.{OwesNothing, AreLines}
 use Rattle.record.specs.Replies.{IsReply}
-use Rattle.player.specs.BetweenTurns.{IsBetweenTurns, IsSameScript, IsTurnMore, HasSameClients, HasSamePlaces}
 use Rattle.player.proofs.MapCalls.{command_few}
-use Rattle.player.proofs.Steps.{between_at, same_tries, wins_at, places_at, places_roomy}
 use Rattle.record.specs.OneClient.{HasCall, AwaitsSteps, AreMadeWhile}
 use Rattle.player.specs.TurnsMore.{AreTurnsWhile, most_of_all, to_go}
 
 -- One turn
-
--- where each turn keeps the script, all do
-same_script : (old p q : Player) → IsSameScript old.script p.script → IsSameScript p.script q.script → IsSameScript old.script q.script
-same_script old p q x y = record { limits = y.limits ∙ x.limits; layout = y.layout ∙ x.layout; calls = y.calls ∙ x.calls }
 
 -- where the turns are one more, no turn stands behind the newest, and that is the client's
 only_turn : (behind : List Line) (row : Row) (lines : List Line) (c : ℕ) → clients (behind ++ Step row ∷ lines) ≡ c ∷ clients lines → (clients behind ≡ []) × (client_of row ≡ c)
@@ -83,37 +74,36 @@ turns_are (Log entry ∷ lines) = turns_are lines
 turns_are (Reply reply ∷ lines) = turns_are lines
 
 -- each turn is one more
-pub one_more : (p q : Player) (c : ℕ) (row : Row) → IsTurnMore p q c row → turns (lines_of q) ≡ suc (turns (lines_of p))
-one_more p q c row t = turns_are (lines_of q) ∙ ap (λ (l : List ℕ). length l) t.turns ∙ ap suc (sym (turns_are (lines_of p)))
+pub one_more : (p q : PlayerView) (c : ℕ) (row : Row) → IsTurnMore p q c row → turns q.lines ≡ suc (turns p.lines)
+one_more p q c row t = turns_are q.lines ∙ ap (λ (l : List ℕ). length l) t.turns ∙ ap suc (sym (turns_are p.lines))
 
 -- before the first turn
-pub no_turns : (so : List Line → Type 0) (c : ℕ) (p : Player) → IsBetweenTurns p → AreTurnsWhile so c p p
+pub no_turns : (so : List Line → Type 0) (c : ℕ) (p : PlayerView) → AreTurnsWhile so c p p
 unfolding AreMadeWhile
-no_turns so c p played = record { played = played; script = record { limits = refl; layout = refl; calls = refl }; behind = []; lines = refl; each = tt; turns = refl }
+no_turns so c p = record { script = refl; behind = []; lines = refl; each = tt; turns = refl }
 
 -- after one more
-pub turn_more : (so : List Line → Type 0) (c : ℕ) (old p q : Player) (row : Row) → AreTurnsWhile so c old p → so (lines_of p) → IsTurnMore p q c row → AreTurnsWhile so c old q
+pub turn_more : (so : List Line → Type 0) (c : ℕ) (old p q : PlayerView) (row : Row) → AreTurnsWhile so c old p → so p.lines → IsTurnMore p q c row → AreTurnsWhile so c old q
 turn_more so c old p q row x is t = record {
-  played = t.played;
-  script = same_script old p q x.script t.script;
+  script = t.script ∙ x.script;
   behind = t.behind ++ Step row ∷ x.behind;
   lines = lines;
   each = each;
-  turns = ap (λ (l : List Line). clients l) lines ∙ clients_made so c (lines_of old) (t.behind ++ Step row ∷ x.behind) each;
+  turns = ap (λ (l : List Line). clients l) lines ∙ clients_made so c old.lines (t.behind ++ Step row ∷ x.behind) each;
 }
   where
     only : (clients t.behind ≡ []) × (client_of row ≡ c)
-    only = only_turn t.behind row (newest p.lines) c (ap (λ (l : List Line). clients l) (sym t.lines) ∙ t.turns)
+    only = only_turn t.behind row p.lines c (ap (λ (l : List Line). clients l) (sym t.lines) ∙ t.turns)
 
-    lines : newest q.lines ≡ (t.behind ++ Step row ∷ x.behind) ++ lines_of old
-    lines = t.lines ∙ ap (λ (l : List Line). t.behind ++ Step row ∷ l) x.lines ∙ sym (append_assoc t.behind (Step row ∷ x.behind) (lines_of old))
+    lines : q.lines ≡ (t.behind ++ Step row ∷ x.behind) ++ old.lines
+    lines = t.lines ∙ ap (λ (l : List Line). t.behind ++ Step row ∷ l) x.lines ∙ sym (append_assoc t.behind (Step row ∷ x.behind) old.lines)
 
-    each : AreMadeWhile so c (lines_of old) (t.behind ++ Step row ∷ x.behind)
-    each = made_more so c (lines_of old) x.behind row t.behind x.each (subst so x.lines is) only.1 only.0
+    each : AreMadeWhile so c old.lines (t.behind ++ Step row ∷ x.behind)
+    each = made_more so c old.lines x.behind row t.behind x.each (subst so x.lines is) only.1 only.0
 
 -- the test whether the client has a call left
-pub has_still : (so : List Line → Type 0) (c : ℕ) (old p : Player) (found : Bool) → AreTurnsWhile so c old p → found ≡ is_some (next_command (calls_of p) (lines_of p) c) → found ≡ true → HasCall (calls_of old) c (lines_of p)
-has_still so c old p found x e t = rw x.script.calls at (sym e ∙ t)
+pub has_still : (so : List Line → Type 0) (c : ℕ) (old p : PlayerView) (found : Bool) → AreTurnsWhile so c old p → found ≡ is_some (next_command p.script.calls p.lines c) → found ≡ true → HasCall old.script.calls c p.lines
+has_still so c old p found x e t = rw x.script at (sym e ∙ t)
 
 -- What it adds
 
@@ -221,17 +211,24 @@ nearer lay tries calls c old new has few m =
     go fits more (inl y) = rw (y.0, y.1) (less (suc (most_of_all lay tries) * answered old c) (suc (most_of_all lay tries) * length (commands calls c)) (steps old c) (most_of_all lay tries) fits few)
     go fits more (inr y) = rw (y.0, y.1, more) (next (suc (most_of_all lay tries) * answered old c) (suc (most_of_all lay tries) * length (commands calls c)) (steps old c) (most_of_all lay tries) fits few)
 
+-- what is played so far, with the newest line first
+played_lines : (p : PlayerView) → IsPlayed p → AreLines p.script.layout p.script.limits.tries p.script.calls p.lines × OwesNothing p.script.layout p.script.calls p.lines × Lawful p.script.layout (history p.script.layout.mode p.lines)
+played_lines p x = (rw (reverse-reverse p.lines) at x.in_order, rw (reverse-reverse p.lines) at x.settled, rw (reverse-reverse p.lines) at x.lawful)
+
 -- a turn of a player's client that has a call left
-pub turn_moves : (so : List Line → Type 0) (c : ℕ) (old p q : Player) (row : Row) → AreTurnsWhile so c old p → HasCall (calls_of old) c (lines_of p) → IsTurnMore p q c row → Moves c (lines_of p) (lines_of q)
-turn_moves so c old p q row x has t = subst (λ (l : List Line). Moves c (lines_of p) l) (sym t.lines) (moves p.script.layout p.script.limits.tries (calls_of p) c (lines_of p) row t.behind
-    (rw (t.script.layout, t.script.limits, t.script.calls, t.lines) at t.played.between.so_far.in_order) (rw (t.script.layout, t.script.calls, t.lines) at t.played.between.settled) only.0 only.1 (rw x.script.calls has))
+pub turn_moves : (so : List Line → Type 0) (c : ℕ) (old p q : PlayerView) (row : Row) → AreTurnsWhile so c old p → HasCall old.script.calls c p.lines → IsPlayed q → IsTurnMore p q c row → Moves c p.lines q.lines
+turn_moves so c old p q row x has played t =
+    let y = rw (t.script, t.lines) at (played_lines q played) in
+    rw t.lines (moves p.script.layout p.script.limits.tries p.script.calls c p.lines row t.behind y.0 y.1 only.0 only.1 (rw x.script has))
   where
     only : (clients t.behind ≡ []) × (client_of row ≡ c)
-    only = only_turn t.behind row (lines_of p) c (ap (λ (l : List Line). clients l) (sym t.lines) ∙ t.turns)
+    only = only_turn t.behind row p.lines c (ap (λ (l : List Line). clients l) (sym t.lines) ∙ t.turns)
 
 -- so each of its turns leaves it less to go
-pub turn_nearer : (so : List Line → Type 0) (c : ℕ) (old p q : Player) (row : Row) → AreTurnsWhile so c old p → HasCall (calls_of old) c (lines_of p) → IsTurnMore p q c row → to_go old.script.layout old.script.limits.tries (calls_of old) c (lines_of q) < to_go old.script.layout old.script.limits.tries (calls_of old) c (lines_of p)
-turn_nearer so c old p q row x has t = nearer old.script.layout old.script.limits.tries (calls_of old) c (lines_of p) (lines_of q) has (rw (sym x.script.layout, sym (ap (λ (l : Limits). l.tries) x.script.limits)) (steps_few p.script.layout p.script.limits.tries (calls_of p) (lines_of p) c x.played.between.so_far.sound.lawful x.played.between.so_far.in_order)) (turn_moves so c old p q row x has t)
+pub turn_nearer : (so : List Line → Type 0) (c : ℕ) (old p q : PlayerView) (row : Row) → AreTurnsWhile so c old p → HasCall old.script.calls c p.lines → IsPlayed p → IsPlayed q → IsTurnMore p q c row → to_go old.script.layout old.script.limits.tries old.script.calls c q.lines < to_go old.script.layout old.script.limits.tries old.script.calls c p.lines
+turn_nearer so c old p q row x has played played' t =
+    let y = rw x.script at (played_lines p played) in
+    nearer old.script.layout old.script.limits.tries old.script.calls c p.lines q.lines has (steps_few old.script.layout old.script.limits.tries old.script.calls p.lines c y.2 y.0) (turn_moves so c old p q row x has played' t)
 
 -- a client that had no reply more has at most one
 pub replies_more : (n c : ℕ) (old new : List Line) → answered old c ≡ n → Moves c old new → (answered new c ≡ n) ⊎ (answered new c ≡ suc n)
@@ -239,37 +236,22 @@ replies_more n c old new e (inl m) = inl (m.0 ∙ e)
 replies_more n c old new e (inr m) = inr (m.0 ∙ ap suc e)
 
 -- the steps of a kind are one more where the turn made one
-made_by : (p q : Player) (c : ℕ) (row : Row) (kind : Kind) → IsTurnMore p q c row → made (lines_of q) c kind ≡ cond (is_of kind row) (suc (made (lines_of p) c kind)) (made (lines_of p) c kind)
+made_by : (p q : PlayerView) (c : ℕ) (row : Row) (kind : Kind) → IsTurnMore p q c row → made q.lines c kind ≡ cond (is_of kind row) (suc (made p.lines c kind)) (made p.lines c kind)
 made_by p q c row kind t = ap (λ (l : List Line). made l c kind) t.lines ∙ quiet t.behind only.0 ∙ rw (eq-eqb (client_of row) c only.1) refl
   where
     only : (clients t.behind ≡ []) × (client_of row ≡ c)
-    only = only_turn t.behind row (lines_of p) c (ap (λ (l : List Line). clients l) (sym t.lines) ∙ t.turns)
+    only = only_turn t.behind row p.lines c (ap (λ (l : List Line). clients l) (sym t.lines) ∙ t.turns)
 
-    quiet : (behind : List Line) → clients behind ≡ [] → made (behind ++ Step row ∷ lines_of p) c kind ≡ made (Step row ∷ lines_of p) c kind
+    quiet : (behind : List Line) → clients behind ≡ [] → made (behind ++ Step row ∷ p.lines) c kind ≡ made (Step row ∷ p.lines) c kind
     quiet [] e = refl
     quiet (Step r ∷ behind) e = absurd cc
     quiet (Log entry ∷ behind) e = quiet behind e
     quiet (Reply reply ∷ behind) e = quiet behind e
 
 -- and those that are still wanted are one fewer
-pub wanted_more : (c : ℕ) (kind : Kind) (times left : ℕ) (old p q : Player) (row : Row) → 0 < left → AreTurnsWhile (AwaitsSteps (calls_of old) c kind times (lines_of old)) c old p → made (lines_of p) c kind + left ≡ made (lines_of old) c kind + times → HasCall (calls_of old) c (lines_of p) → IsTurnMore p q c row → AreTurnsWhile (AwaitsSteps (calls_of old) c kind times (lines_of old)) c old q × (made (lines_of q) c kind + cond (is_of kind row) (left - 1) left ≡ made (lines_of old) c kind + times)
+pub wanted_more : (c : ℕ) (kind : Kind) (times left : ℕ) (old p q : PlayerView) (row : Row) → 0 < left → AreTurnsWhile (AwaitsSteps old.script.calls c kind times old.lines) c old p → made p.lines c kind + left ≡ made old.lines c kind + times → HasCall old.script.calls c p.lines → IsTurnMore p q c row → AreTurnsWhile (AwaitsSteps old.script.calls c kind times old.lines) c old q × (made q.lines c kind + cond (is_of kind row) (left - 1) left ≡ made old.lines c kind + times)
 wanted_more c kind times left old p q row some x e has t = (turn_more _ c old p q row x (has, omega arith) t, go (is_of kind row) (made_by p q c row kind t))
   where
-    go : (is : Bool) → made (lines_of q) c kind ≡ cond is (suc (made (lines_of p) c kind)) (made (lines_of p) c kind) → made (lines_of q) c kind + cond is (left - 1) left ≡ made (lines_of old) c kind + times
+    go : (is : Bool) → made q.lines c kind ≡ cond is (suc (made p.lines c kind)) (made p.lines c kind) → made q.lines c kind + cond is (left - 1) left ≡ made old.lines c kind + times
     go true m = omega arith
     go false m = omega arith
-
--- a turn that is refused leaves what was played
-pub refused_more : (so : List Line → Type 0) (c : ℕ) (p old new : Player) → AreTurnsWhile so c p old → HasSameClients old new → newest new.lines ≡ newest old.lines → new.wins.items ≡ old.wins.items → HasSamePlaces old.places new.places → AreTurnsWhile so c p new
-refused_more so c p old new x same lines wins places = record {
-  played = record {
-    between = between_at _ _ _ _ _ _ _ _ _ _ _ _ same.script.layout (same_tries _ _ same.script) same.script.calls same.words same.clients lines x.played.between;
-    wins = wins_at _ _ _ _ _ _ same.script.layout lines wins x.played.wins;
-    places = places_at _ _ _ _ _ _ _ _ same.script.layout same.script.calls lines refl (places_roomy _ _ _ _ _ places.changed places.keys x.played.places);
-  };
-  script = record { limits = same.script.limits ∙ x.script.limits; layout = same.script.layout ∙ x.script.layout; calls = same.script.calls ∙ x.script.calls };
-  behind = x.behind;
-  lines = lines ∙ x.lines;
-  each = x.each;
-  turns = ap (λ (l : List Line). clients l) lines ∙ x.turns;
-}

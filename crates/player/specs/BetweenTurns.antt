@@ -1,5 +1,5 @@
--- What is true of a player between two turns, and in the middle of one.
-use Rattle.std.specs.Prelude.{◌≡◌, ◌≢◌, ℕ, suc, ◌⊎◌, List, ◌∷◌, set, Option, Some, None, slice_get, ◌++◌, All}
+-- What is true of an interleaving between two turns, and in the middle of one.
+use Rattle.std.specs.Prelude.{◌≡◌, ◌≢◌, ℕ, suc, ◌⊎◌, List, ◌∷◌, set, Option, Some, None, slice_get, All}
 use Rattle.arena.specs.declared.layout.Layout.{Layout}
 use Rattle.arena.specs.declared.word.Word.{Word}
 use Rattle.arena.specs.Layout.{IsWord}
@@ -7,13 +7,11 @@ use Rattle.arena.specs.PlainWords.{Contents, word_at}
 use Rattle.arena.specs.History.{value}
 use Rattle.arena.specs.Machines.{IsRun}
 use Rattle.script.specs.declared.call.Call.{Call}
-use Rattle.script.specs.declared.script.Script.{Script}
 use Rattle.script.specs.Commands.{mode_of}
 use Rattle.arena.specs.declared.step.Step.{Step as Ask}
 use Rattle.arena.specs.declared.step.Row.{Row}
 use Rattle.record.specs.declared.record.Line.{Line}
 use Rattle.record.specs.declared.record.Line.TheVariants.{Step, Reply as ReplyLine}
-use Rattle.record.specs.declared.record.Row.{Row as Turn}
 use Rattle.record.specs.declared.record.Row.TheVariants.{Step as Made}
 use Rattle.record.specs.declared.record.Finished.{Finished}
 use Rattle.record.specs.declared.record.Answer.{Answer}
@@ -23,8 +21,9 @@ use Rattle.arena.specs.declared.limits.Mode.TheVariants.{Tree}
 use Rattle.spelling.specs.FillOrder.{AreFilledInOrder}
 use Rattle.player.specs.Lines.{newest}
 use Rattle.player.specs.declared.client.Client.{Client}
-use Rattle.player.specs.declared.player.Player.{Player}
-use Rattle.record.specs.Turns.{history, begin, turns, clients, won}
+use Rattle.player.specs.Player.{PlayerView, script_view}
+use Rattle.player.specs.declared.interleaving.Interleaving.{Interleaving}
+use Rattle.record.specs.Turns.{history, begin, turns, won}
 use Rattle.spelling.specs.OrderedMap.{MapEdit, Edit}
 use Rattle.player.specs.EditRuns.{edit_command}
 use Rattle.record.specs.declared.record.Entry.{Entry}
@@ -54,13 +53,13 @@ abbrev pub AreOthers : Layout → ℕ → List Call → List Client → List Lin
 AreOthers lay tries calls clients lines i =
     (j : ℕ) (c : Client) → j ≢ i → slice_get clients j ≡ Some c → (c.pass.0 ≡ j) × IsClient (client_view lay tries calls lines j) (begin lines j) c
 
--- the player is in the middle of a turn of this client, whose state the lines do not say
+-- it is the middle of a turn of this client, whose state the lines do not say
 pub record IsTurnOf (lay : Layout) (tries : ℕ) (calls : List Call) (words : Contents) (clients : List Client) (lines : List Line) (c : Client) : Type 0 where
   pub so_far : IsLawfulSoFar lay tries calls words lines
   pub others : AreOthers lay tries calls clients lines c.pass.0
   pub own : slice_get clients c.pass.0 ≡ Some c
 
--- the player is between two turns: nothing is owed, and each client is as the lines say
+-- it is between two turns: nothing is owed, and each client is as the lines say
 pub record AreBetweenTurns (lay : Layout) (tries : ℕ) (calls : List Call) (words : Contents) (clients : List Client) (lines : List Line) : Type 0 where
   pub so_far : IsLawfulSoFar lay tries calls words lines
   pub settled : OwesNothing lay calls lines
@@ -75,8 +74,12 @@ pub record ArePlaces (lay : Layout) (calls : List Call) (lines : List Line) (pla
   pub entries : lay.mode ≡ Tree → AreEntries calls lines (changes places)
   pub keys : All (λ call. HoldsOfKey (Knows places) call.command) calls
 
--- what holds of a player between two turns
-pub record IsBetweenTurns (p : Player) : Type 0 where
+-- what contracts see of a player of this interleaving
+abbrev pub player_view : Interleaving → PlayerView
+player_view p = record { script = script_view p.script; lines = newest p.lines }
+
+-- what holds of an interleaving between two turns, and so of every player
+pub record IsBetweenTurns (p : Interleaving) : Type 0 where
   pub between : AreBetweenTurns p.script.layout p.script.limits.tries p.script.calls.items p.words p.clients.items (newest p.lines)
   pub wins : AreWins p.script.layout (newest p.lines) p.wins.items
   pub places : ArePlaces p.script.layout p.script.calls.items (newest p.lines) p.places
@@ -84,7 +87,7 @@ pub record IsBetweenTurns (p : Player) : Type 0 where
 -- In the middle of a turn
 
 -- the i-th client, whose turn it is, asks for this step
-pub record IsAsked (p : Player) (i number : ℕ) (step : Ask) : Type 0 where
+pub record IsAsked (p : Interleaving) (i number : ℕ) (step : Ask) : Type 0 where
   pub client : Client
   pub is : client.pass.0 ≡ i
   pub settled : OwesNothing p.script.layout p.script.calls.items (newest p.lines)
@@ -100,7 +103,7 @@ pub record IsAsked (p : Player) (i number : ℕ) (step : Ask) : Type 0 where
   pub began : ((begin (newest p.lines) client.pass.0 ≡ None) × (client.begin ≡ number)) ⊎ (begin (newest p.lines) client.pass.0 ≡ Some client.begin)
 
 -- the newest line is this step
-pub record IsMade (p : Player) (number : ℕ) (row : Row) : Type 0 where
+pub record IsMade (p : Interleaving) (number : ℕ) (row : Row) : Type 0 where
   pub older : List Line
   pub lines : newest p.lines ≡ Step (Made number row) ∷ older
   pub so_far : IsLawfulSoFar p.script.layout p.script.limits.tries p.script.calls.items p.words (newest p.lines)
@@ -128,7 +131,7 @@ pub record IsEnd (calls : List Call) (lines : List Line) (changes : List Change)
   pub behind : IsAtNextCall calls old new
 
 -- the lines have one reply more, to the call of this client, which stands at its next call then
-pub record IsReplied (old new : Player) (turn : ℕ) (answer : Answer) (c : Client) : Type 0 where
+pub record IsReplied (old new : Interleaving) (turn : ℕ) (answer : Answer) (c : Client) : Type 0 where
   pub client : Client
   pub reply : Finished
   pub won : Option ℕ
@@ -137,34 +140,14 @@ pub record IsReplied (old new : Player) (turn : ℕ) (answer : Answer) (c : Clie
   pub clients : new.clients.items ≡ set old.clients.items c.pass.0 client
   pub line : newest new.lines ≡ ReplyLine reply ∷ newest old.lines
 
--- the two scripts say the same
-pub record IsSameScript (old new : Script) : Type 0 where
-  pub limits : new.limits ≡ old.limits
-  pub layout : new.layout ≡ old.layout
-  pub calls : new.calls.items ≡ old.calls.items
-
 -- script, words and clients are as they were
-pub record HasSameClients (old new : Player) : Type 0 where
-  pub script : IsSameScript old.script new.script
+pub record HasSameClients (old new : Interleaving) : Type 0 where
+  pub script : script_view new.script ≡ script_view old.script
   pub words : new.words ≡ old.words
   pub clients : new.clients.items ≡ old.clients.items
 
--- the places are as they were, but for their room
-pub record HasSamePlaces (old new : Places) : Type 0 where
-  pub changed : changes new ≡ changes old
-  pub keys : (key : ℕ) → Knows old key → Knows new key
-
 -- script, words and the turns of winning updates are as they were
-pub record HasSameWords (old new : Player) : Type 0 where
-  pub script : IsSameScript old.script new.script
+pub record HasSameWords (old new : Interleaving) : Type 0 where
+  pub script : script_view new.script ≡ script_view old.script
   pub words : new.words ≡ old.words
   pub wins : new.wins.items ≡ old.wins.items
-
--- the lines have this one turn of the i-th client more, and the entry and
--- reply behind it; the player is between two turns
-pub record IsTurnMore (old new : Player) (i : ℕ) (row : Turn) : Type 0 where
-  pub played : IsBetweenTurns new
-  pub script : IsSameScript old.script new.script
-  pub behind : List Line
-  pub lines : newest new.lines ≡ behind ++ Step row ∷ newest old.lines
-  pub turns : clients (newest new.lines) ≡ i ∷ clients (newest old.lines)

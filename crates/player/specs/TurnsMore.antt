@@ -3,22 +3,19 @@ use Rattle.std.specs.Prelude.{◌≡◌, ℕ, suc, ◌+◌, ◌-◌, ◌*◌, Li
 use Rattle.arena.specs.declared.layout.Layout.{Layout}
 use Rattle.script.specs.declared.call.Call.{Call}
 use Rattle.record.specs.declared.record.Line.{Line}
-use Rattle.player.specs.declared.player.Player.{Player}
-use Rattle.player.specs.Player.{lines_of}
-use Rattle.player.specs.BetweenTurns.{IsBetweenTurns, IsSameScript}
+use Rattle.player.specs.Player.{PlayerView}
 use Rattle.record.specs.Turns.{turns, clients, answered, steps}
 use Rattle.record.specs.Commands.{commands}
 use Rattle.record.specs.OneClient.{AreMadeWhile}
 
 -- the new lines are turns of this client alone, each made where `so` held
 -- of the lines before it; the script is the same
-pub record AreTurnsWhile (so : List Line → Type 0) (c : ℕ) (old new : Player) : Type 0 where
-  pub played : IsBetweenTurns new
-  pub script : IsSameScript old.script new.script
+pub record AreTurnsWhile (so : List Line → Type 0) (c : ℕ) (old new : PlayerView) : Type 0 where
+  pub script : new.script ≡ old.script
   pub behind : List Line
-  pub lines : lines_of new ≡ behind ++ lines_of old
-  pub each : AreMadeWhile so c (lines_of old) behind
-  pub turns : clients (lines_of new) ≡ replicate (turns behind) c ++ clients (lines_of old)
+  pub lines : new.lines ≡ behind ++ old.lines
+  pub each : AreMadeWhile so c old.lines behind
+  pub turns : clients new.lines ≡ replicate (turns behind) c ++ clients old.lines
 
 -- no call makes more steps than these: a `set` makes 104 at most, a get three for each node of all
 -- shares and for two more, an edit in each of its tries as many and 301 others, and an ordered

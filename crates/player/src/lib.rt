@@ -3,6 +3,7 @@
 
 mod client;
 mod edit;
+mod interleaving;
 mod kept;
 mod lines;
 mod place;

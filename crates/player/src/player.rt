@@ -1,78 +1,51 @@
 //! The player.
-ghost use Rattle.std.specs.Prelude.{◌≡◌, ℕ, ◌+◌, ◌<◌, ◌≤◌, [], Some, vec_len, slice_get, map, IfOk, IfSome, All};
-ghost use Rattle.player.specs.declared.client.Client.{Client};
-ghost use Rattle.places.specs.Entries.{value_left};
-ghost use Rattle.places.specs.Changed.{changed_key};
-ghost use Rattle.player.specs.ClientView.{client_view, Rests};
-ghost use Rattle.player.specs.EditRuns.{edit_command};
+ghost use Rattle.std.specs.Prelude.{◌≡◌, ◌<◌, map, IfOk, All};
 ghost use Rattle.record.specs.LawfulRun.{IsLawfulRun};
-ghost use Rattle.spelling.specs.OrderedMap.{MapEdit, edit_key};
+ghost use Rattle.player.specs.Player.{script_view};
 
-use crate::client::{Client, NextAction};
-use crate::lines::Lines;
-use arena::{Kind, NoMemory, NodeNo, NodeWord, PassNo, PlainWords, ScxNo, ScxWord, Step, Word};
-use places::{Change, Places};
-use record::{Answer, Entry, Line, Record, Row};
-use script::{Command, Script};
-use spelling::Request;
+use crate::interleaving::Interleaving;
+use arena::{Kind, NoMemory, PassNo};
+use record::{Record, Row};
+use script::Script;
 use std::alloc::Global;
+use std::marker::Model;
 
 /// Plays a script's calls, one turn of a client at a time.
 #[derive(Drop)]
 pub struct Player {
-    script: Script,
-    words: PlainWords,
-    clients: Vec<Client>,
-    /// The turn of each client's last update that won.
-    wins: Vec<Option<u64>>,
-    lines: Lines,
-    /// The changes of the map so far.
-    places: Places,
-    ghost all_clients: { vec_len clients ≡ script.layout.passes },
-    ghost all_wins: { vec_len wins ≡ script.layout.passes },
-    ghost same_layout: { words.layout ≡ script.layout },
+    interleaving: Interleaving,
+}
+
+impl Model for Player {
+    ghost use Rattle.player.specs.Player.{PlayerView, view_code};
+
+    ghost Value = { PlayerView };
+
+    ghost coded = { view_code };
+
+    ghost use Rattle.player.specs.BetweenTurns.{player_view, IsBetweenTurns};
+
+    ghost view = { λ p. player_view p.interleaving };
+
+    ghost invariant = { λ p. IsBetweenTurns p.interleaving };
 }
 
 impl Player {
-    ghost use Rattle.std.specs.Prelude.{◌≡◌, ◌≢◌, ◌⊎◌, ℕ, suc, ◌+◌, ◌<◌, ◌≤◌, ◌∷◌, List, [], Some, None, is_some, IfOk, OnOk, IfErr, OnErr, IfSome, MatchOption, slice_get, set, reverse, All};
-    ghost use Rattle.arena.specs.declared.word.Side.{Side};
-    ghost use Rattle.arena.specs.declared.step.Kind.TheVariants.{Update};
-    ghost use Rattle.arena.specs.Layout.{IsWord, all_scx};
-    ghost use Rattle.arena.specs.Words.{child, info};
-    ghost use Rattle.arena.specs.PlainWords.{word_at};
-    ghost use Rattle.record.specs.declared.record.Line.{Line};
-    ghost use Rattle.player.specs.Player.{passes_of, calls_of, lines_of};
+    ghost use Rattle.std.specs.Prelude.{◌≡◌, ◌⊎◌, ℕ, suc, ◌+◌, ◌<◌, ◌≤◌, List, [], is_some, IfOk, OnOk, IfErr, reverse};
     ghost use Rattle.record.specs.Commands.{next_command};
     ghost use Rattle.record.specs.OneClient.{HasCall, HasNoCall, AwaitsReply, AwaitsSteps};
+    ghost use Rattle.record.specs.Turns.{clients, answered, made};
+    ghost use Rattle.record.specs.LawfulRun.{IsLawfulRun};
+    ghost use Rattle.player.specs.Player.{script_view, IsPlayed, IsTurnMore};
     ghost use Rattle.player.specs.TurnsMore.{AreTurnsWhile};
-    ghost use Rattle.player.specs.Lines.{room, newest};
-    ghost use Rattle.record.specs.Turns.{turns, clients, answered, made, entry_owed};
-    ghost use Rattle.player.specs.BetweenTurns.{IsBetweenTurns, IsAsked, IsMade, IsReplied, IsTurnMore, IsSameScript, HasSameClients, HasSameWords, HasSamePlaces, ArePlaces, IsAtEdit};
-    ghost use Rattle.arena.specs.declared.limits.Mode.TheVariants.{Tree};
-    ghost use Rattle.record.specs.declared.record.Entry.{Entry as LogEntry};
-    ghost use Rattle.places.specs.Entries.{value_left};
-    ghost use Rattle.places.specs.Places.{changes, room as places_room, Knows, HoldsOfKey};
-    ghost use Rattle.spelling.specs.OrderedMap.{edit_key};
 
     /// A player of a copy of the script, with no turn made. The only error is want of memory.
     pub fn new(alloc: Global, script: &Script) -> Result<Player, NoMemory>
-        ensures played { IfOk result IsBetweenTurns }
-        ensures limits { IfOk result (λ p. p.script.limits ≡ script.now.limits) }
-        ensures layout { IfOk result (λ p. p.script.layout ≡ script.now.layout) }
-        ensures calls { IfOk result (λ p. p.script.calls.items ≡ script.now.calls.items) }
-        ensures no_turns { IfOk result (λ p. newest p.lines ≡ []) }
+        ensures script { IfOk result (λ p. p.script ≡ script_view script.now) }
+        ensures no_turns { IfOk result (λ p. p.lines ≡ []) }
     {
-        let script = script.copy(alloc)?;
-        let words = PlainWords::new(alloc, &script.layout)?;
-        let clients = clients(alloc, &script)?;
-        let wins = vec![in alloc; None; script.layout.passes as usize]?;
         Ok(Player {
-            places: Places::new(alloc, &script.calls)?,
-            script,
-            words,
-            clients,
-            wins,
-            lines: Lines::new(alloc),
+            interleaving: Interleaving::new(alloc, script)?,
         })
     }
 
@@ -80,172 +53,39 @@ impl Player {
     /// or its call answers without a step. A refusal leaves all as it was, and the same turn can be
     /// asked again.
     pub fn step(&mut self, client: PassNo) -> Result<Row, NoMemory>
-        requires client { client.0 < passes_of self.old }
-        requires played { IsBetweenTurns self.old }
+        requires { client.0 < self.old.script.layout.passes }
         ensures turn { IfOk result (λ row. IsTurnMore self.old self.new client.0 row) }
-        ensures refused { IfErr result (λ e. HasSameClients self.old self.new × (newest self.new.lines ≡ newest self.old.lines) × (self.new.wins ≡ self.old.wins) × HasSamePlaces self.old.places self.new.places) }
+        ensures refused { IfErr result (λ _. self.new ≡ self.old) }
+        ensures lawful { IsPlayed self.new }
     {
-        self.lines.reserve()?;
-        self.places.reserve()?;
-        let number = self.lines.next_turn();
-        match self.clients[client.0 as usize].next_action(&self.script.calls, number) {
-            NextAction::Asks(step) => Ok(self.make(client, number, step)),
-            NextAction::Answers(answer) => {
-                let row = self.idle(client, number);
-                self.reply(client, number, answer);
-                Ok(row)
-            }
-            NextAction::Finished => Ok(self.idle(client, number)),
-        }
-    }
-
-    fn idle(&mut self, client: PassNo, number: u64) -> Row
-        requires { 3 ≤ room self.old.lines }
-        ensures room { 2 ≤ room self.new.lines }
-        ensures same { HasSameClients self.old self.new }
-        ensures wins { self.new.wins.items ≡ self.old.wins.items }
-        ensures places { self.new.places ≡ self.old.places }
-        ensures row { result ≡ Row.Idle number client }
-        ensures line { newest self.new.lines ≡ Line.Step result ∷ newest self.old.lines }
-    {
-        let row = Row::Idle { number, client };
-        self.lines.push_row(row);
-        row
-    }
-
-    /// Makes the step that a client has asked for.
-    fn make(&mut self, client: PassNo, number: u64, step: Step) -> Row
-        requires room { 3 ≤ room self.old.lines }
-        requires places { 1 ≤ places_room self.old.places }
-        requires client { client.0 < passes_of self.old }
-        requires asked { IsAsked self.old client.0 number step }
-        ensures { IsTurnMore self.old self.new client.0 result }
-    {
-        let before = self.words.apply(step);
-        let row = arena::Row {
-            pass: client,
-            call: self.clients[client.0 as usize].number(),
-            kind: step.kind,
-            word: step.word,
-            before,
-            after: self.words.get(step.word),
-        };
-        self.lines.push_row(Row::Step { number, row });
-        self.log(number, &row);
-        if let Some(answer) = self.clients[client.0 as usize].tell(before) {
-            self.reply(client, number, answer);
-        }
-        Row::Step { number, row }
-    }
-
-    /// Writes down what the step of this turn enters into the log.
-    fn log(&mut self, number: u64, row: &arena::Row)
-        requires room { 2 ≤ room self.old.lines }
-        requires made { IsMade self.old number row.now }
-        requires roomy { 1 ≤ places_room self.old.places }
-        requires places { ArePlaces self.old.script.layout (calls_of self.old) (newest self.old.lines) self.old.places }
-        requires owner { (e : LogEntry) → entry_owed self.old.script.layout (newest self.old.lines) ≡ Some e → self.old.script.layout.mode ≡ Tree → IsAtEdit (calls_of self.old) self.old.clients.items e }
-        ensures room { 1 ≤ room self.new.lines }
-        ensures same { HasSameClients self.old self.new }
-        ensures line { MatchOption (entry_owed self.old.script.layout (newest self.old.lines)) (newest self.new.lines ≡ newest self.old.lines) (λ e. newest self.new.lines ≡ Line.Log e ∷ newest self.old.lines) }
-        ensures wins { MatchOption (entry_owed self.old.script.layout (newest self.old.lines)) (self.new.wins.items ≡ self.old.wins.items) (λ e. (e.client.0 < passes_of self.old) × (self.new.wins.items ≡ set self.old.wins.items e.client.0 (Some number))) }
-        ensures places { ArePlaces self.new.script.layout (calls_of self.new) (newest self.new.lines) self.new.places }
-    {
-        if let Some(entry) = self.entry(number, row) {
-            self.lines.push_entry(entry);
-            self.wins[entry.client.0 as usize] = Some(number);
-            self.place(&entry);
-        }
-    }
-
-    /// Keeps the change of the map that an entry makes, if it is of an edit.
-    fn place(&mut self, entry: &Entry)
-        requires room { 1 ≤ places_room self.old.places }
-        requires client { entry.now.client.0 < passes_of self.old }
-        requires keys { All (λ call. HoldsOfKey (Knows self.old.places) call.command) (calls_of self.old) }
-        ensures same { self.new ≡ record self.old { places = self.new.places } }
-        ensures keys { (key : ℕ) → Knows self.old.places key → Knows self.new.places key }
-        ensures change { (x : IsAtEdit (calls_of self.old) self.old.clients.items entry.now) → changes self.new.places ≡ record { turn = entry.now.step; key = edit_key x.edit; value = value_left x.edit } ∷ changes self.old.places }
-    {
-        let call = self.clients[entry.client.0 as usize].call(&self.script.calls);
-        if let Some(call) = call
-            && let Some((key, value)) = edited(call.command)
-        {
-            let turn = entry.step;
-            self.places.push(Change { turn, key, value });
-        }
-    }
-
-    /// The entry of a step, if that is an update that has won: that of the SCX-record that holds
-    /// the field's node.
-    fn entry(&self, number: u64, row: &arena::Row) -> Option<Entry>
-        requires { IsMade self.now number row.now }
-        ensures owed { result ≡ entry_owed self.now.script.layout (newest self.now.lines) }
-        ensures owner { IfSome result (λ e. e.client.0 < passes_of self.now) }
-    {
-        if row.kind != Kind::Update || row.before == row.after {
-            return None;
-        }
-        let Word::Node(node, NodeWord::Child(_)) = row.word else {
-            return None;
-        };
-        let scx = ScxNo(self.words.get(Word::Node(node, NodeWord::Info)));
-        Some(Entry {
-            place: self.lines.next_entry(),
-            step: number,
-            scx,
-            client: self.script.layout.owner(scx)?,
-            call: self.words.get(Word::Scx(scx, ScxWord::Call)),
-        })
-    }
-
-    fn reply(&mut self, client: PassNo, number: u64, answer: Answer)
-        requires room { 1 ≤ room self.old.lines }
-        requires client { client.0 < passes_of self.old }
-        requires begun { (c : Client) → slice_get self.old.clients.items client.0 ≡ Some c → c.begin ≤ number }
-        ensures same { HasSameWords self.old self.new }
-        ensures places { self.new.places ≡ self.old.places }
-        ensures replied { (c : Client) → slice_get self.old.clients.items client.0 ≡ Some c → c.pass.0 ≡ client.0 → IsReplied self.old self.new number answer c }
-    {
-        let at = client.0 as usize;
-        let won = self.wins[at];
-        let moment = self.clients[at].moment(
-            &self.script.calls,
-            number,
-            &answer,
-            won,
-            &self.places,
-        );
-        let reply = self.clients[at].end(&self.script.calls, number, answer, moment);
-        self.lines.push_reply(reply);
+        self.interleaving.step(client)
     }
 
     /// Whether a client has a call left.
     fn has_call(&self, client: PassNo) -> bool
-        requires client { client.0 < passes_of self.now }
-        requires played { IsBetweenTurns self.now }
-        ensures { result ≡ is_some (next_command (calls_of self.now) (lines_of self.now) client.0) }
+        requires { client.0 < self.now.script.layout.passes }
+        ensures is { result ≡ is_some (next_command self.now.script.calls self.now.lines client.0) }
+        ensures lawful { IsPlayed self.now }
     {
-        self.clients[client.0 as usize].has_call()
+        self.interleaving.has_call(client)
     }
 
     /// How many calls of a client are answered.
     fn answered(&self, client: PassNo) -> u64
-        requires client { client.0 < passes_of self.now }
-        requires played { IsBetweenTurns self.now }
-        ensures { result ≡ answered (lines_of self.now) client.0 }
+        requires { client.0 < self.now.script.layout.passes }
+        ensures { result ≡ answered self.now.lines client.0 }
     {
-        self.clients[client.0 as usize].number()
+        self.interleaving.answered(client)
     }
 
     /// Turns of a client until it has one more reply; none if it has no call left. Turns that were
     /// made before a refusal stay made.
     pub fn call(&mut self, client: PassNo) -> Result<(), NoMemory>
-        requires client { client.0 < passes_of self.old }
-        requires played { IsBetweenTurns self.old }
-        ensures turns { AreTurnsWhile (AwaitsReply (calls_of self.old) client.0 (lines_of self.old)) client.0 self.old self.new }
-        ensures replied { OnOk result (HasCall (calls_of self.old) client.0 (lines_of self.old) → answered (lines_of self.new) client.0 ≡ suc (answered (lines_of self.old) client.0)) }
-        ensures none { HasNoCall (calls_of self.old) client.0 (lines_of self.old) → lines_of self.new ≡ lines_of self.old }
+        requires { client.0 < self.old.script.layout.passes }
+        ensures turns { AreTurnsWhile (AwaitsReply self.old.script.calls client.0 self.old.lines) client.0 self.old self.new }
+        ensures replied { OnOk result (HasCall self.old.script.calls client.0 self.old.lines → answered self.new.lines client.0 ≡ suc (answered self.old.lines client.0)) }
+        ensures none { HasNoCall self.old.script.calls client.0 self.old.lines → self.new.lines ≡ self.old.lines }
+        ensures lawful { IsPlayed self.new }
     {
         let answered = self.answered(client);
         while self.has_call(client) && self.answered(client) == answered {
@@ -257,14 +97,14 @@ impl Player {
     /// Turns of a client until it has made so many more steps of a kind, or has no call left. Turns
     /// that were made before a refusal stay made.
     pub fn run_until(&mut self, client: PassNo, kind: Kind, times: u32) -> Result<(), NoMemory>
-        requires client { client.0 < passes_of self.old }
-        requires played { IsBetweenTurns self.old }
-        ensures turns { AreTurnsWhile (AwaitsSteps (calls_of self.old) client.0 kind times (lines_of self.old)) client.0 self.old self.new }
-        ensures made { OnOk result ((made (lines_of self.new) client.0 kind ≡ made (lines_of self.old) client.0 kind + times) ⊎ HasNoCall (calls_of self.old) client.0 (lines_of self.new)) }
-        ensures at_most { made (lines_of self.new) client.0 kind ≤ made (lines_of self.old) client.0 kind + times }
+        requires { client.0 < self.old.script.layout.passes }
+        ensures turns { AreTurnsWhile (AwaitsSteps self.old.script.calls client.0 kind times self.old.lines) client.0 self.old self.new }
+        ensures made { OnOk result ((made self.new.lines client.0 kind ≡ made self.old.lines client.0 kind + times) ⊎ HasNoCall self.old.script.calls client.0 self.new.lines) }
+        ensures at_most { made self.new.lines client.0 kind ≤ made self.old.lines client.0 kind + times }
+        ensures lawful { IsPlayed self.new }
     {
         let mut left = times;
-        while left > 0 && self.has_call(client) {
+        while self.has_call(client) && left > 0 {
             let row = self.step(client)?;
             if row.kind() == Some(kind) {
                 left -= 1;
@@ -276,10 +116,10 @@ impl Player {
     /// Turns of a client until it has no call left. Turns that were made before a refusal stay
     /// made.
     pub fn finish(&mut self, client: PassNo) -> Result<(), NoMemory>
-        requires client { client.0 < passes_of self.old }
-        requires played { IsBetweenTurns self.old }
-        ensures turns { AreTurnsWhile (HasCall (calls_of self.old) client.0) client.0 self.old self.new }
-        ensures finished { OnOk result (HasNoCall (calls_of self.old) client.0 (lines_of self.new)) }
+        requires { client.0 < self.old.script.layout.passes }
+        ensures turns { AreTurnsWhile (HasCall self.old.script.calls client.0) client.0 self.old self.new }
+        ensures finished { OnOk result (HasNoCall self.old.script.calls client.0 self.new.lines) }
+        ensures lawful { IsPlayed self.new }
     {
         while self.has_call(client) {
             self.step(client)?;
@@ -287,56 +127,22 @@ impl Player {
         Ok(())
     }
 
-    /// The script and the lines of all turns.
+    /// The script and the lines of all turns: a lawful run, in which turn i was made by the client
+    /// of whom the i-th was asked.
     pub fn record(self) -> Record
-        ensures script { result.script ≡ self.script }
-        ensures lines { result.lines.items ≡ self.lines.list.items }
-        ensures lawful { IsBetweenTurns self → IsLawfulRun self.script.layout self.script.limits.tries self.script.calls.items (reverse (clients (newest self.lines))) result.lines.items }
+        ensures script { script_view result.script ≡ self.script }
+        ensures lines { result.lines.items ≡ reverse self.lines }
+        ensures lawful { (asked : List ℕ) → clients self.lines ≡ reverse asked → IsLawfulRun self.script.layout self.script.limits.tries self.script.calls asked result.lines.items }
     {
-        Record {
-            script: self.script,
-            lines: self.lines.into_list(),
-        }
+        self.interleaving.into_record()
     }
-}
-
-/// The key that a command edits, and what it leaves there.
-fn edited(command: Command) -> Option<(u64, Option<u64>)>
-    ensures edits { (e : MapEdit) → command ≡ edit_command e → result ≡ Some (edit_key e, value_left e) }
-    ensures key { IfSome result (λ r. changed_key command ≡ Some r.0) }
-{
-    match command {
-        Command::Map(Request::Insert { key, value }) => Some((key, Some(value))),
-        Command::Map(Request::Delete { key }) => Some((key, None)),
-        _ => None,
-    }
-}
-
-/// The clients of a script before their first turns.
-fn clients(alloc: Global, script: &Script) -> Result<Vec<Client>, NoMemory>
-    ensures count { IfOk result (λ c. vec_len c ≡ script.now.layout.passes) }
-    ensures each { IfOk result (λ c. (j : ℕ) (d : Client) → slice_get c.items j ≡ Some d → (d.pass.0 ≡ j) × Rests (client_view script.now.layout script.now.limits.tries script.now.calls.items [] j) d) }
-{
-    let mut clients = Vec::new(alloc);
-    for pass in 0..script.layout.passes {
-        clients.push(Client::new(
-            alloc,
-            &script.layout,
-            script.limits.tries,
-            PassNo(pass),
-            &script.calls,
-        ))?;
-    }
-    Ok(clients)
 }
 
 /// The record of a script whose clients make these turns, one after another. The only error is want
 /// of memory.
 pub fn play(alloc: Global, script: &Script, turns: &[PassNo]) -> Result<Record, NoMemory>
     requires { All (λ pass. pass.0 < script.now.layout.passes) turns.now }
-    ensures limits { IfOk result (λ r. r.script.limits ≡ script.now.limits) }
-    ensures layout { IfOk result (λ r. r.script.layout ≡ script.now.layout) }
-    ensures calls { IfOk result (λ r. r.script.calls.items ≡ script.now.calls.items) }
+    ensures script { IfOk result (λ r. script_view r.script ≡ script_view script.now) }
     ensures lawful { IfOk result (λ r. IsLawfulRun script.now.layout script.now.limits.tries script.now.calls.items (map (λ p. p.0) turns.now) r.lines.items) }
 {
     let mut player = Player::new(alloc, script)?;

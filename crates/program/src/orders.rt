@@ -1,7 +1,6 @@
 //! The run of a script by a schedule.
 ghost use Rattle.std.specs.Prelude.{◌≡◌, ◌<◌, All, IfOk, OnOk};
-ghost use Rattle.player.specs.Player.{passes_of, calls_of, lines_of};
-ghost use Rattle.player.specs.BetweenTurns.{IsBetweenTurns, IsSameScript};
+ghost use Rattle.player.specs.Player.{script_view};
 ghost use Rattle.player.specs.TurnsMore.{AreTurnsWhile};
 ghost use Rattle.record.specs.Schedules.{AsksForMore, IsObeyed, IsOrdered, IsRunOf};
 ghost use Rattle.script.specs.Orders.{IsOrder};
@@ -16,7 +15,7 @@ use std::alloc::Global;
 /// schedule means. The only error is want of memory.
 pub fn run(alloc: Global, script: &Script, schedule: &Schedule) -> Result<Record, NoMemory>
     requires { All (IsOrder script.now.layout.passes) schedule.now.orders.items }
-    ensures script { IfOk result (λ r. IsSameScript script.now r.script) }
+    ensures script { IfOk result (λ r. script_view r.script ≡ script_view script.now) }
     ensures run { IfOk result (λ r. IsRunOf script.now schedule.now r.lines.items) }
 {
     let mut player = Player::new(alloc, script)?;
@@ -28,11 +27,9 @@ pub fn run(alloc: Global, script: &Script, schedule: &Schedule) -> Result<Record
 
 /// Makes the turns that an order means.
 fn follow(player: &mut Player, order: Order) -> Result<(), NoMemory>
-    requires order { IsOrder (passes_of player.old) order }
-    requires played { IsBetweenTurns player.old }
-    ensures played { IsBetweenTurns player.new }
-    ensures script { IsSameScript player.old.script player.new.script }
-    ensures ordered { OnOk result (IsOrdered (calls_of player.old) order (lines_of player.old) (lines_of player.new)) }
+    requires { IsOrder player.old.script.layout.passes order }
+    ensures script { player.new.script ≡ player.old.script }
+    ensures ordered { OnOk result (IsOrdered player.old.script.calls order player.old.lines player.new.lines) }
 {
     match order {
         Order::Step { client, turns } => make_turns(player, client, turns),
@@ -48,12 +45,9 @@ fn follow(player: &mut Player, order: Order) -> Result<(), NoMemory>
 
 /// Makes so many turns of a client. Turns that were made before a refusal stay made.
 fn make_turns(player: &mut Player, client: PassNo, turns: u32) -> Result<(), NoMemory>
-    requires client { client.0 < passes_of player.old }
-    requires played { IsBetweenTurns player.old }
-    ensures played { IsBetweenTurns player.new }
-    ensures script { IsSameScript player.old.script player.new.script }
-    ensures turns { AreTurnsWhile (AsksForMore (calls_of player.old) (Order.Step client turns) (lines_of player.old)) client.0 player.old player.new }
-    ensures all { OnOk result (IsObeyed (calls_of player.old) (Order.Step client turns) (lines_of player.old) (lines_of player.new)) }
+    requires { client.0 < player.old.script.layout.passes }
+    ensures turns { AreTurnsWhile (AsksForMore player.old.script.calls (Order.Step client turns) player.old.lines) client.0 player.old player.new }
+    ensures all { OnOk result (IsObeyed player.old.script.calls (Order.Step client turns) player.old.lines player.new.lines) }
 {
     for _ in 0..turns {
         // By `?` the kit's checker has no proof here, since a row holds types of a crate below.

@@ -1,9 +1,9 @@
-use Rattle.std.proofs.Common.{ap, arith}
-use Rattle.player.proofs.Lemmas.{no_turns, turn_more, one_more, refused_more}
+use Rattle.std.proofs.Common.{arith}
+use Rattle.player.proofs.Lemmas.{no_turns, turn_more, one_more}
 use Rattle.program.proofs.orders.make_turns.Goals as goal
 
 pub loop-init : goal.loop-init
-loop-init c = record { asked = no_turns _ c.args.client.0 c.args.player.now c.requires.played; made = omega arith }
+loop-init c = record { asked = no_turns _ c.args.client.0 c.args.player.now; made = omega arith }
 
 pub loop-preserved : goal.loop-preserved
 loop-preserved c =
@@ -14,8 +14,3 @@ loop-preserved c =
       asked = turn_more _ c.args.client.0 c.args.player.now c.loop.player c.step.new.self c.in_default.field-0 c.loop.invariant.asked (omega arith) c.in_default.ensures.turn;
       made = omega arith;
     }
-
-pub returns-in-Err-clause-turns : goal.returns-in-Err-clause-turns
-returns-in-Err-clause-turns c =
-    let r = c.in-Err.ensures.refused in
-    refused_more _ c.args.client.0 c.args.player.now c.loop.player c.step.new.self c.loop.invariant.asked r.0 r.1 (ap (λ w. w.items) r.2) r.3

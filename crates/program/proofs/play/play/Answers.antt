@@ -1,3 +1,5 @@
+use Rattle.std.proofs.Common.{ap}
+use Rattle.player.specs.Player.{ScriptView}
 use Rattle.program.specs.Printed.{IsDeserved}
 use Rattle.program.specs.Status.{fault_of_schedule}
 use Rattle.program.proofs.Deserved.{schedule_deserves, told}
@@ -20,5 +22,5 @@ returns-clause-printed g c said ordered script_tells schedule_tells =
       says = c.in_ok-script.ensures.says said (rw c.new.ensures.inner script_tells);
       orders = c.in_ok-schedule.ensures.says ordered (rw c.new-2.ensures.inner schedule_tells);
       run = c.in_ok-record.ensures.run;
-      text = rw (same.limits, same.layout, same.calls) at c.in_ok-write_record.ensures.all;
+      text = rw (ap (λ (s : ScriptView). s.limits) same, ap (λ (s : ScriptView). s.layout) same, ap (λ (s : ScriptView). s.calls) same) at c.in_ok-write_record.ensures.all;
     }

@@ -1,10 +1,9 @@
-use Rattle.player.specs.Player.{calls_of, lines_of}
 use Rattle.record.specs.OneClient.{HasCall}
 use Rattle.player.specs.TurnsMore.{AreTurnsWhile, to_go}
 use Rattle.player.proofs.player.Player.finish.Given as goal
 
 abbrev pub invariant-loop-client : goal.invariant-loop-client
-invariant-loop-client l = AreTurnsWhile (HasCall (calls_of l.fn.self) l.client.0) l.client.0 l.fn.self l.self
+invariant-loop-client l = AreTurnsWhile (HasCall l.fn.self.script.calls l.client.0) l.client.0 l.fn.self l.self
 
 abbrev pub decreases-loop-client : goal.decreases-loop-client
-decreases-loop-client l = to_go l.fn.self.script.layout l.fn.self.script.limits.tries (calls_of l.fn.self) l.client.0 (lines_of l.self)
+decreases-loop-client l = to_go l.fn.self.script.layout l.fn.self.script.limits.tries l.fn.self.script.calls l.client.0 l.self.lines

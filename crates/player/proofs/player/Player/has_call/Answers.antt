@@ -1,9 +1,7 @@
-use Rattle.std.proofs.Common.{◌∙◌}
-use Rattle.player.proofs.Stands.{client_there, own_next}
+use Rattle.std.proofs.Common.{subst}
+use Rattle.player.specs.Player.{IsPlayed}
+use Rattle.player.proofs.Plays.{played}
 use Rattle.player.proofs.player.Player.has_call.Goals as goal
 
-pub returns : goal.returns
-returns c =
-    let p = c.args.self.now in
-    let d = c.index.result.now in
-    c.has_call.ensures ∙ own_next p c.args.client.0 0 d d c.requires.played (client_there p c.args.client.0 d c.requires.client c.index.ensures)
+pub returns-clause-lawful : goal.returns-clause-lawful
+returns-clause-lawful c = subst IsPlayed c.self.view_is (played c.self.inside.interleaving c.self.invariant)

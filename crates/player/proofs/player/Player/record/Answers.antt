@@ -1,9 +1,16 @@
-use Rattle.std.proofs.Common.{reverse, sym}
+use Rattle.std.proofs.Common.{◌≡◌, reverse, sym, ◌∙◌, ap, subst}
 use Rattle.std.proofs.lemmas.List.{reverse-reverse}
-use Rattle.player.specs.Lines.{newest}
-use Rattle.record.specs.Turns.{clients}
-use Rattle.player.proofs.Plays.{played_record}
+use Rattle.script.specs.declared.script.Script.{Script}
+use Rattle.player.specs.Player.{PlayerView, script_view, IsPlayed}
+use Rattle.player.proofs.Plays.{played, asked_run}
 use Rattle.player.proofs.player.Player.record.Goals as goal
 
-pub returns-clause-lawful : goal.returns-clause-lawful
-returns-clause-lawful c = λ x. rw c.into_list.ensures (played_record c.args.self x (reverse (clients (newest c.args.self.lines))) (sym (reverse-reverse (clients (newest c.args.self.lines)))))
+pub returns : goal.returns
+returns c =
+    let view = c.self.view_is in
+    let lines : c.into_record.result.lines.items ≡ reverse c.args.self.lines = c.into_record.ensures.lines ∙ sym (reverse-reverse c.self.inside.interleaving.lines.list.items) ∙ ap (λ (p : PlayerView). reverse p.lines) view in
+    record {
+      script = ap (λ (s : Script). script_view s) c.into_record.ensures.script ∙ ap (λ (p : PlayerView). p.script) view;
+      lines = lines;
+      lawful = λ asked e. rw lines (asked_run c.args.self (subst IsPlayed view (played c.self.inside.interleaving c.self.invariant)) asked e);
+    }

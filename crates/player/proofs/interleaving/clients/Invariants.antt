@@ -1,7 +1,7 @@
 use Rattle.std.proofs.Common.{◌≡◌, ℕ, [], Some, slice_get, vec_len}
 use Rattle.player.specs.declared.client.Client.{Client}
 use Rattle.player.specs.ClientView.{client_view, Rests}
-use Rattle.player.proofs.player.clients.Given as goal
+use Rattle.player.proofs.interleaving.clients.Given as goal
 
 abbrev pub invariant-loop-pass : goal.invariant-loop-pass
 invariant-loop-pass l = record {

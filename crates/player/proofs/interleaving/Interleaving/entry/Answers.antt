@@ -4,7 +4,7 @@ use Rattle.arena.specs.contracts.step.Kind.{the_type}
 use Rattle.arena.specs.declared.step.Kind.TheVariants.{Update}
 use Rattle.arena.specs.declared.word.NodeWord.TheVariants.{Child}
 use Rattle.player.proofs.Middles.{made_info, made_winner, made_entry}
-use Rattle.player.proofs.player.Player.entry.Goals as goal
+use Rattle.player.proofs.interleaving.Interleaving.entry.Goals as goal
 
 is_so : (b : Bool) → not b ≡ false → b ≡ true
 is_so true e = refl

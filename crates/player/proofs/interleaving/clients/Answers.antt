@@ -1,7 +1,7 @@
 use Rattle.std.proofs.Common.{rules, ◌≡◌, [], slice_get, ap, sym, ◌∙◌}
 use Rattle.player.specs.ClientView.{client_view, Rests}
 use Rattle.prims.proofs.Lemmas.{get_more}
-use Rattle.player.proofs.player.clients.Goals as goal
+use Rattle.player.proofs.interleaving.clients.Goals as goal
 
 pub loop-pass-preserved : goal.loop-pass-preserved
 loop-pass-preserved c = record {

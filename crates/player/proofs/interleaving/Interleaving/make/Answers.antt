@@ -2,19 +2,18 @@ use Rattle.std.proofs.Common.{arith, ◌≡◌, ℕ, List, ◌∷◌, ◌++◌, 
 use Rattle.record.specs.declared.record.Line.{Line}
 use Rattle.record.specs.declared.record.Line.TheVariants.{Reply}
 use Rattle.player.specs.Lines.{newest}
+use Rattle.player.specs.Player.{ScriptView, script_view}
 use Rattle.record.specs.Turns.{clients}
 use Rattle.player.specs.ClientView.{client_view}
-use Rattle.player.specs.BetweenTurns.{IsEnd}
-use Rattle.script.specs.declared.call.Call.{Call}
+use Rattle.player.specs.BetweenTurns.{IsEnd, ArePlaces}
 use Rattle.arena.specs.declared.number.PassNo.{PassNo}
-use Rattle.arena.specs.declared.layout.Layout.{Layout}
 use Rattle.places.specs.Places.{changes}
 use Rattle.player.proofs.Middles.{some_client, get_own, wins_step, wins_reply}
 use Rattle.std.proofs.lemmas.Option.{get_or_from_slice_get}
 use Rattle.player.specs.declared.client.Client.{Client}
-use Rattle.player.proofs.Steps.{IsHeard, asked_word, asked_there, asked_row, asked_changed, asked_so_far, asked_hears, heard_on, heard_end, told_goes, told_ends, between_at, same_tries, wins_at, places_at, asked_owner, begun_before, remembered, turns_logged, logged, few_calls}
-use Rattle.player.proofs.player.Player.make.Goals.{After-tell}
-use Rattle.player.proofs.player.Player.make.Goals as goal
+use Rattle.player.proofs.Steps.{IsHeard, asked_word, asked_there, asked_row, asked_changed, asked_so_far, asked_hears, heard_on, heard_end, told_goes, told_ends, between_at, asked_owner, begun_before, remembered, turns_logged, logged, few_calls}
+use Rattle.player.proofs.interleaving.Interleaving.make.Goals.{After-tell}
+use Rattle.player.proofs.interleaving.Interleaving.make.Goals as goal
 
 -- the client that makes the step, still there as it is told what the step has found
 there : (c : After-tell) → slice_get c.log.new.self.clients.items c.args.client.0 ≡ Some c.requires.asked.client
@@ -91,20 +90,22 @@ returns-in-Some c =
     let answer = c.in-Some.answer in
     let ends = told_ends v c.index_mut.result.now a.client new a.running c.apply-before.result answer (seen here) hears.turn.so_far.sound hears.runs hears.told c.in-Some.ensures in
     let r = c.reply.ensures.replied new (get_own c.log.new.self.clients.items i a.client new (there here)) (ap (λ (k : PassNo). k.0) ends.same.pass ∙ a.is) in
-    let end : IsEnd p.script.calls.items (newest c.log.new.self.lines) (changes c.log.new.self.places) new r.client c.args.number answer r.won r.reply = subst (λ (k : List Call). IsEnd k (newest c.log.new.self.lines) (changes c.log.new.self.places) new r.client c.args.number answer r.won r.reply) c.log.ensures.same.script.calls r.end in
+    let end : IsEnd p.script.calls.items (newest c.log.new.self.lines) (changes c.log.new.self.places) new r.client c.args.number answer r.won r.reply = subst (λ (k : ScriptView). IsEnd k.calls (newest c.log.new.self.lines) (changes c.log.new.self.places) new r.client c.args.number answer r.won r.reply) c.log.ensures.same.script r.end in
     let wins = wins_step p.script.layout (newest p.lines) _ (newest c.log.new.self.lines) c.args.number p.script.layout.passes _ p.wins.items c.log.new.self.wins.items (omega (arith, p.all_wins, p.wins.ok.0)) c.push_row.ensures.line c.log.ensures.line c.log.ensures.wins a.wins in
-    let between = heard_end p.script.layout p.script.limits.tries p.script.calls.items c.apply-before.new.self p.clients.items (newest c.log.new.self.lines) (changes c.log.new.self.places) a.client new r.client a.running c.apply-before.result c.args.number answer r.won r.reply (λ tree. rw c.log.ensures.same.script.calls at (c.log.ensures.places.entries (ap (λ (k : Layout). k.mode) c.log.ensures.same.script.layout ∙ tree))) (few_calls p) hears ends (remembered p.script.layout (newest c.log.new.self.lines) c.log.new.self.wins.items new.pass.0 a.client.pass.0 r.won wins r.wins (ap (λ (k : PassNo). k.0) ends.same.pass)) end in
+    let places : ArePlaces p.script.layout p.script.calls.items (newest c.log.new.self.lines) c.log.new.self.places = subst (λ (k : ScriptView). ArePlaces k.layout k.calls (newest c.log.new.self.lines) c.log.new.self.places) c.log.ensures.same.script c.log.ensures.places in
+    let between = heard_end p.script.layout p.script.limits.tries p.script.calls.items c.apply-before.new.self p.clients.items (newest c.log.new.self.lines) (changes c.log.new.self.places) a.client new r.client a.running c.apply-before.result c.args.number answer r.won r.reply places.entries (few_calls p) hears ends (remembered p.script.layout (newest c.log.new.self.lines) c.log.new.self.wins.items new.pass.0 a.client.pass.0 r.won wins r.wins (ap (λ (k : PassNo). k.0) ends.same.pass)) end in
+    let script = c.reply.ensures.same.script ∙ c.log.ensures.same.script in
+    let entry = logged p.script.layout (newest c.push_row.new.self) (newest c.log.new.self.lines) c.log.ensures.line in
     record {
-      played = record {
-        between = between_at _ _ _ _ _ _ _ _ _ _ _ _ (c.reply.ensures.same.script.layout ∙ c.log.ensures.same.script.layout) (same_tries _ _ c.reply.ensures.same.script ∙ same_tries _ _ c.log.ensures.same.script) (c.reply.ensures.same.script.calls ∙ c.log.ensures.same.script.calls) (c.reply.ensures.same.words ∙ c.log.ensures.same.words)
-            (r.clients ∙ ap (λ (l : List Client). set (set l i new) new.pass.0 r.client) c.log.ensures.same.clients ∙ ap (λ (k : ℕ). set (set p.clients.items k new) new.pass.0 r.client) (sym a.is) ∙ ap (λ (k : PassNo). set (set p.clients.items a.client.pass.0 new) k.0 r.client) ends.same.pass) r.line between;
-        wins = wins_at _ _ _ _ _ _ (c.reply.ensures.same.script.layout ∙ c.log.ensures.same.script.layout) r.line c.reply.ensures.same.wins (wins_reply p.script.layout (newest c.log.new.self.lines) r.reply c.log.new.self.wins.items wins);
-        places = places_at _ _ _ _ _ _ _ _ c.reply.ensures.same.script.layout c.reply.ensures.same.script.calls r.line c.reply.ensures.places record { entries = c.log.ensures.places.entries; keys = c.log.ensures.places.keys };
+      played = between_at c.reply.new.self (script_view p.script) _ _ _ _ _ script (c.reply.ensures.same.words ∙ c.log.ensures.same.words)
+          (r.clients ∙ ap (λ (l : List Client). set (set l i new) new.pass.0 r.client) c.log.ensures.same.clients ∙ ap (λ (k : ℕ). set (set p.clients.items k new) new.pass.0 r.client) (sym a.is) ∙ ap (λ (k : PassNo). set (set p.clients.items a.client.pass.0 new) k.0 r.client) ends.same.pass)
+          r.line c.reply.ensures.same.wins c.reply.ensures.places between (wins_reply p.script.layout (newest c.log.new.self.lines) r.reply c.log.new.self.wins.items wins) record { entries = places.entries; keys = places.keys };
+      turn = record {
+        script = script;
+        behind = Reply r.reply ∷ entry.0;
+        lines = r.line ∙ ap (λ (l : List Line). Reply r.reply ∷ l) (entry.1 ∙ ap (λ (l : List Line). entry.0 ++ l) c.push_row.ensures.line);
+        turns = ap (λ (l : List Line). clients l) r.line ∙ turns_logged p.script.layout (newest c.push_row.new.self) (newest c.log.new.self.lines) c.log.ensures.line ∙ ap (λ (l : List Line). clients l) c.push_row.ensures.line;
       };
-      script = record { limits = c.reply.ensures.same.script.limits ∙ c.log.ensures.same.script.limits; layout = c.reply.ensures.same.script.layout ∙ c.log.ensures.same.script.layout; calls = c.reply.ensures.same.script.calls ∙ c.log.ensures.same.script.calls };
-      behind = Reply r.reply ∷ (logged p.script.layout (newest c.push_row.new.self) (newest c.log.new.self.lines) c.log.ensures.line).0;
-      lines = r.line ∙ ap (λ (l : List Line). Reply r.reply ∷ l) ((logged p.script.layout (newest c.push_row.new.self) (newest c.log.new.self.lines) c.log.ensures.line).1 ∙ ap (λ (l : List Line). (logged p.script.layout (newest c.push_row.new.self) (newest c.log.new.self.lines) c.log.ensures.line).0 ++ l) c.push_row.ensures.line);
-      turns = ap (λ (l : List Line). clients l) r.line ∙ turns_logged p.script.layout (newest c.push_row.new.self) (newest c.log.new.self.lines) c.log.ensures.line ∙ ap (λ (l : List Line). clients l) c.push_row.ensures.line;
     }
 
 pub returns-in_default : goal.returns-in_default
@@ -117,14 +118,15 @@ returns-in_default c =
     let v = client_view p.script.layout p.script.limits.tries p.script.calls.items (newest c.log.new.self.lines) a.client.pass.0 in
     let goes = told_goes v c.index_mut.result.now a.client c.tell.new.self a.running c.apply-before.result (seen here) hears.turn.so_far.sound hears.runs hears.told c.in_default.ensures in
     let between = heard_on p.script.layout p.script.limits.tries p.script.calls.items c.apply-before.new.self p.clients.items (newest c.log.new.self.lines) a.client c.tell.new.self a.running c.apply-before.result c.args.number hears goes in
+    let entry = logged p.script.layout (newest c.push_row.new.self) (newest c.log.new.self.lines) c.log.ensures.line in
     record {
-      played = record {
-        between = between_at _ _ _ _ _ _ _ _ _ _ _ _ c.log.ensures.same.script.layout (same_tries _ _ c.log.ensures.same.script) c.log.ensures.same.script.calls c.log.ensures.same.words (ap (λ (l : List Client). set l i c.tell.new.self) c.log.ensures.same.clients ∙ ap (λ (k : ℕ). set p.clients.items k c.tell.new.self) (sym a.is)) refl between;
-        wins = wins_at _ _ (newest c.log.new.self.lines) (newest c.log.new.self.lines) _ _ c.log.ensures.same.script.layout refl refl (wins_step p.script.layout (newest p.lines) _ (newest c.log.new.self.lines) c.args.number p.script.layout.passes _ p.wins.items c.log.new.self.wins.items (omega (arith, p.all_wins, p.wins.ok.0)) c.push_row.ensures.line c.log.ensures.line c.log.ensures.wins a.wins);
-        places = c.log.ensures.places;
+      played = between_at _ (script_view p.script) _ _ _ _ _ c.log.ensures.same.script c.log.ensures.same.words (ap (λ (l : List Client). set l i c.tell.new.self) c.log.ensures.same.clients ∙ ap (λ (k : ℕ). set p.clients.items k c.tell.new.self) (sym a.is)) refl refl refl between
+          (wins_step p.script.layout (newest p.lines) _ (newest c.log.new.self.lines) c.args.number p.script.layout.passes _ p.wins.items c.log.new.self.wins.items (omega (arith, p.all_wins, p.wins.ok.0)) c.push_row.ensures.line c.log.ensures.line c.log.ensures.wins a.wins)
+          (subst (λ (k : ScriptView). ArePlaces k.layout k.calls (newest c.log.new.self.lines) c.log.new.self.places) c.log.ensures.same.script c.log.ensures.places);
+      turn = record {
+        script = c.log.ensures.same.script;
+        behind = entry.0;
+        lines = entry.1 ∙ ap (λ (l : List Line). entry.0 ++ l) c.push_row.ensures.line;
+        turns = turns_logged p.script.layout (newest c.push_row.new.self) (newest c.log.new.self.lines) c.log.ensures.line ∙ ap (λ (l : List Line). clients l) c.push_row.ensures.line;
       };
-      script = c.log.ensures.same.script;
-      behind = (logged p.script.layout (newest c.push_row.new.self) (newest c.log.new.self.lines) c.log.ensures.line).0;
-      lines = (logged p.script.layout (newest c.push_row.new.self) (newest c.log.new.self.lines) c.log.ensures.line).1 ∙ ap (λ (l : List Line). (logged p.script.layout (newest c.push_row.new.self) (newest c.log.new.self.lines) c.log.ensures.line).0 ++ l) c.push_row.ensures.line;
-      turns = turns_logged p.script.layout (newest c.push_row.new.self) (newest c.log.new.self.lines) c.log.ensures.line ∙ ap (λ (l : List Line). clients l) c.push_row.ensures.line;
     }

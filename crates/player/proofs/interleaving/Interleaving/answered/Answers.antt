@@ -1,6 +1,6 @@
 use Rattle.std.proofs.Common.{◌∙◌}
 use Rattle.player.proofs.Stands.{client_there, own_number}
-use Rattle.player.proofs.player.Player.answered.Goals as goal
+use Rattle.player.proofs.interleaving.Interleaving.answered.Goals as goal
 
 pub returns : goal.returns
 returns c =

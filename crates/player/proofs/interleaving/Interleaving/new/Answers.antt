@@ -6,7 +6,7 @@ use Rattle.places.specs.Entries.{AreEntries}
 use Rattle.player.specs.Lines.{newest}
 use Rattle.player.specs.BetweenTurns.{AreBetweenTurns, AreWins}
 use Rattle.player.proofs.Plays.{opening_between, no_wins}
-use Rattle.player.proofs.player.Player.new.Goals as goal
+use Rattle.player.proofs.interleaving.Interleaving.new.Goals as goal
 
 pub returns-clause-played : goal.returns-clause-played
 returns-clause-played c =

@@ -5,7 +5,7 @@ use Rattle.script.specs.declared.call.Call.{Call}
 use Rattle.places.specs.Places.{changes}
 use Rattle.player.specs.Lines.{newest}
 use Rattle.player.specs.Moments.{IsMomentBy}
-use Rattle.player.proofs.player.Player.reply.Goals as goal
+use Rattle.player.proofs.interleaving.Interleaving.reply.Goals as goal
 
 pub moment-moment-requires : goal.moment-moment-requires
 moment-moment-requires c =
@@ -13,7 +13,7 @@ moment-moment-requires c =
     c.requires.begun c.index.result.now there
 
 pub returns-clause-same : goal.returns-clause-same
-returns-clause-same c = record { script = record { limits = refl; layout = refl; calls = refl }; words = refl; wins = refl }
+returns-clause-same c = record { script = refl; words = refl; wins = refl }
 
 pub returns-clause-replied : goal.returns-clause-replied
 returns-clause-replied c d there pass =
