@@ -235,7 +235,7 @@ entry_there false (Some n) e = absurd (let z : false ≡ true = e in cc)
 
 -- what a reply asks
 pub reply_fits : (run : Run) (reply : Finished) (client : Client) (command : Command) → IsAfter run (lines_of run) → slice_get run.clients.items client.pass.0 ≡ Some client → client.pass ≡ reply.client → Some command ≡ next_command (calls_of run) (lines_of run) client.pass.0 → run.last ≡ Some reply.client → reply.call ≡ client.answered → client.begun ≡ Some reply.begin → reply.end ≡ run.turn → IsFitting (lines_of run) command reply.answer → enters command reply.answer ≡ is_some client.won → ((m : ℕ) → reply.moment ≡ Some m → (reply.begin ≤ m) × (m ≤ reply.end))
-    → IsRight (layout_of run) reply.client.0 (history (layout_of run).mode (lines_of run)) (start (layout_of run).mode (lines_of run) reply.client.0) (linked (calls_of run) (layout_of run).mode (lines_of run) reply.client.0) command reply.answer → HasTakenFew (layout_of run) (tries_of run) reply.client.0 (history (layout_of run).mode (lines_of run)) (start (layout_of run).mode (lines_of run) reply.client.0) command → IsPlaced (layout_of run) (calls_of run) (lines_of run) reply command → IsReply (layout_of run) (tries_of run) (calls_of run) (lines_of run) reply
+    → IsRight (layout_of run) (tries_of run) reply.client.0 (history (layout_of run).mode (lines_of run)) (start (layout_of run).mode (lines_of run) reply.client.0) (linked (calls_of run) (layout_of run).mode (lines_of run) reply.client.0) command reply.answer → HasTakenFew (layout_of run) (tries_of run) reply.client.0 (history (layout_of run).mode (lines_of run)) (start (layout_of run).mode (lines_of run) reply.client.0) command → IsPlaced (layout_of run) (calls_of run) (lines_of run) reply command → IsReply (layout_of run) (tries_of run) (calls_of run) (lines_of run) reply
 reply_fits run reply client command x there own is last call begun end fits enters within right took placed = record {
   client = sym x.last ∙ ap pass_number last;
   call = call ∙ y.answered;

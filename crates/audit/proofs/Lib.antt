@@ -7,6 +7,7 @@ mod MapLines
 mod FirstPairs
 mod RowMoments
 mod LeftShares
+mod CountedTries
 mod Remembering
 mod TurnMoments
 mod WonEntries

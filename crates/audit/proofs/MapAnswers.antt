@@ -19,7 +19,7 @@ use Rattle.record.specs.declared.record.Row.TheVariants.{Step as Made, Idle}
 use Rattle.record.specs.declared.record.Finished.{Finished}
 use Rattle.record.specs.declared.record.Answer.{Answer}
 use Rattle.record.specs.declared.record.Answer.TheVariants.{Map as MapAnswer}
-use Rattle.record.specs.Answers.{HasItsEntry, WasBlockedBy}
+use Rattle.record.specs.Answers.{HasItsEntry, HasLostAllTries}
 use Rattle.record.specs.CommandRules.{IsRight, IsPlaced, enters, MayAnswerAtOnce, MayAnswerAfterStep}
 use Rattle.record.specs.Edits.{HadAtKey}
 use Rattle.record.specs.Linked.{linked}
@@ -66,35 +66,35 @@ neither (inl e) = absurd e
 neither (inr e) = absurd e
 
 -- an answer that tells something of an ordered read is right
-successor_right : (lay : Layout) (c : ℕ) (now start : History) (kept : ℕ → Option History) (told : MapReply) (answer : Answer) → reply_told answer ≡ Some told → SuccessorAtOnce answer ⊎ SuccessorAfterStep answer → SuccessorIsRight lay c now start kept answer
-successor_right lay c now start kept told (MapAnswer (PairOf p)) e fits = tt
-successor_right lay c now start kept told (MapAnswer (Value v)) e fits = neither fits
-successor_right lay c now start kept told (MapAnswer (Pairs ps)) e fits = neither fits
-successor_right lay c now start kept told answer e fits = absurd (let z : None ≡ Some told = e in cc)
+successor_right : (lay : Layout) (tries c : ℕ) (now start : History) (kept : ℕ → Option History) (told : MapReply) (answer : Answer) → reply_told answer ≡ Some told → SuccessorAtOnce answer ⊎ SuccessorAfterStep answer → SuccessorIsRight lay tries c now start kept answer
+successor_right lay tries c now start kept told (MapAnswer (PairOf p)) e fits = tt
+successor_right lay tries c now start kept told (MapAnswer (Value v)) e fits = neither fits
+successor_right lay tries c now start kept told (MapAnswer (Pairs ps)) e fits = neither fits
+successor_right lay tries c now start kept told answer e fits = absurd (let z : None ≡ Some told = e in cc)
 
-range_right : (lay : Layout) (c low high most : ℕ) (now start : History) (kept : ℕ → Option History) (told : MapReply) (answer : Answer) → reply_told answer ≡ Some told → RangeAtOnce low high most answer ⊎ RangeAfterStep answer → RangeIsRight lay c now start kept answer
-range_right lay c low high most now start kept told (MapAnswer (Pairs ps)) e fits = tt
-range_right lay c low high most now start kept told (MapAnswer (Value v)) e fits = neither fits
-range_right lay c low high most now start kept told (MapAnswer (PairOf p)) e fits = neither fits
-range_right lay c low high most now start kept told answer e fits = absurd (let z : None ≡ Some told = e in cc)
+range_right : (lay : Layout) (tries c low high most : ℕ) (now start : History) (kept : ℕ → Option History) (told : MapReply) (answer : Answer) → reply_told answer ≡ Some told → RangeAtOnce low high most answer ⊎ RangeAfterStep answer → RangeIsRight lay tries c now start kept answer
+range_right lay tries c low high most now start kept told (MapAnswer (Pairs ps)) e fits = tt
+range_right lay tries c low high most now start kept told (MapAnswer (Value v)) e fits = neither fits
+range_right lay tries c low high most now start kept told (MapAnswer (PairOf p)) e fits = neither fits
+range_right lay tries c low high most now start kept told answer e fits = absurd (let z : None ≡ Some told = e in cc)
 
 -- a refusal that fits is right, if another client was in the way
-pub contended_right : (lay : Layout) (c : ℕ) (now start : History) (kept : ℕ → Option History) (lines : List Line) (command : Command) (call : MapCall) (node : NodeNo) (scx : ScxNo) → map_call (Some command) ≡ Some call → IsFitting lines command (MapAnswer (Contended node scx)) → WasBlockedBy lay c now start node.0 scx.0 → IsRight lay c now start kept command (MapAnswer (Contended node scx))
-contended_right lay c now start kept lines (Map (InsertOf key value)) call node scx of_map fits way = way
-contended_right lay c now start kept lines (Map (DeleteOf key)) call node scx of_map fits way = way
-contended_right lay c now start kept lines (Map (SuccessorOf key)) call node scx of_map fits way = way
-contended_right lay c now start kept lines (Map (RangeOf low high most)) call node scx of_map fits way = way
-contended_right lay c now start kept lines (Map (GetOf key)) call node scx of_map fits way = neither (either_fits lines (Map (GetOf key)) (MapAnswer (Contended node scx)) fits)
-contended_right lay c now start kept lines command call node scx of_map fits way = absurd (let z : None ≡ Some call = of_map in cc)
+pub contended_right : (lay : Layout) (tries c : ℕ) (now start : History) (kept : ℕ → Option History) (lines : List Line) (command : Command) (call : MapCall) (node : NodeNo) (scx : ScxNo) → map_call (Some command) ≡ Some call → IsFitting lines command (MapAnswer (Contended node scx)) → HasLostAllTries lay tries c now start node.0 scx.0 → IsRight lay tries c now start kept command (MapAnswer (Contended node scx))
+contended_right lay tries c now start kept lines (Map (InsertOf key value)) call node scx of_map fits way = way
+contended_right lay tries c now start kept lines (Map (DeleteOf key)) call node scx of_map fits way = way
+contended_right lay tries c now start kept lines (Map (SuccessorOf key)) call node scx of_map fits way = way
+contended_right lay tries c now start kept lines (Map (RangeOf low high most)) call node scx of_map fits way = way
+contended_right lay tries c now start kept lines (Map (GetOf key)) call node scx of_map fits way = neither (either_fits lines (Map (GetOf key)) (MapAnswer (Contended node scx)) fits)
+contended_right lay tries c now start kept lines command call node scx of_map fits way = absurd (let z : None ≡ Some call = of_map in cc)
 
 -- and one for want of memory is
-pub no_memory_right : (lay : Layout) (c : ℕ) (now start : History) (kept : ℕ → Option History) (lines : List Line) (command : Command) (call : MapCall) → map_call (Some command) ≡ Some call → IsFitting lines command (MapAnswer NoMemory) → IsRight lay c now start kept command (MapAnswer NoMemory)
-no_memory_right lay c now start kept lines (Map (SuccessorOf key)) call of_map fits = tt
-no_memory_right lay c now start kept lines (Map (RangeOf low high most)) call of_map fits = tt
-no_memory_right lay c now start kept lines (Map (InsertOf key value)) call of_map fits = neither (either_fits lines (Map (InsertOf key value)) (MapAnswer NoMemory) fits)
-no_memory_right lay c now start kept lines (Map (DeleteOf key)) call of_map fits = neither (either_fits lines (Map (DeleteOf key)) (MapAnswer NoMemory) fits)
-no_memory_right lay c now start kept lines (Map (GetOf key)) call of_map fits = neither (either_fits lines (Map (GetOf key)) (MapAnswer NoMemory) fits)
-no_memory_right lay c now start kept lines command call of_map fits = absurd (let z : None ≡ Some call = of_map in cc)
+pub no_memory_right : (lay : Layout) (tries c : ℕ) (now start : History) (kept : ℕ → Option History) (lines : List Line) (command : Command) (call : MapCall) → map_call (Some command) ≡ Some call → IsFitting lines command (MapAnswer NoMemory) → IsRight lay tries c now start kept command (MapAnswer NoMemory)
+no_memory_right lay tries c now start kept lines (Map (SuccessorOf key)) call of_map fits = tt
+no_memory_right lay tries c now start kept lines (Map (RangeOf low high most)) call of_map fits = tt
+no_memory_right lay tries c now start kept lines (Map (InsertOf key value)) call of_map fits = neither (either_fits lines (Map (InsertOf key value)) (MapAnswer NoMemory) fits)
+no_memory_right lay tries c now start kept lines (Map (DeleteOf key)) call of_map fits = neither (either_fits lines (Map (DeleteOf key)) (MapAnswer NoMemory) fits)
+no_memory_right lay tries c now start kept lines (Map (GetOf key)) call of_map fits = neither (either_fits lines (Map (GetOf key)) (MapAnswer NoMemory) fits)
+no_memory_right lay tries c now start kept lines command call of_map fits = absurd (let z : None ≡ Some call = of_map in cc)
 
 -- what is not there
 pub none_by : (o : Option ℕ) → is_some o ≡ false → o ≡ None
@@ -216,12 +216,12 @@ refused_placed lay tries calls lines changed client command r x none nowhere = g
     go c e = absurd (let z : None ≡ Some x.of_map.0 = e in cc)
 
 -- an answer that is right, and where it is placed
-pub record IsAnswered (lay : Layout) (calls : List Call) (lines : List Line) (r : Finished) (command : Command) : Type 0 where
-  pub right : IsRight lay r.client.0 (history lay.mode lines) (start lay.mode lines r.client.0) (linked calls lay.mode lines r.client.0) command r.answer
+pub record IsAnswered (lay : Layout) (tries : ℕ) (calls : List Call) (lines : List Line) (r : Finished) (command : Command) : Type 0 where
+  pub right : IsRight lay tries r.client.0 (history lay.mode lines) (start lay.mode lines r.client.0) (linked calls lay.mode lines r.client.0) command r.answer
   pub placed : IsPlaced lay calls lines r command
 
 module _ (lay : Layout) (tries : ℕ) (calls : List Call) (lines : List Line) (changed : List Change) (client : Client) (r : Finished) where
-  insert_answered : (key value turn : ℕ) (t : IsToldBefore calls lines (Map (InsertOf key value)) r.answer turn) → IsAsked lay tries calls lines changed client (Map (InsertOf key value)) r → won lay lines r.client.0 ≡ Some turn → r.moment ≡ Some turn → IsAnswered lay calls lines r (Map (InsertOf key value))
+  insert_answered : (key value turn : ℕ) (t : IsToldBefore calls lines (Map (InsertOf key value)) r.answer turn) → IsAsked lay tries calls lines changed client (Map (InsertOf key value)) r → won lay lines r.client.0 ≡ Some turn → r.moment ≡ Some turn → IsAnswered lay tries calls lines r (Map (InsertOf key value))
   insert_answered key value turn t x has moment =
       let same = some_edit (Insert key value) t.edit t.is in
       let had = subst (λ (e : MapEdit). get (edit_key e) (map_at calls lines (turn - 1)) ≡ t.told) (sym same) t.had in
@@ -230,7 +230,7 @@ module _ (lay : Layout) (tries : ℕ) (calls : List Call) (lines : List Line) (c
         placed = subst (λ (a : Answer). IsPlacedOnMap (reply_told a) calls lines (Edit (Insert key value)) r) (sym t.answers) (is_change lay tries calls lines changed client (Map (InsertOf key value)) r x turn (Insert key value) t.told has moment t.answers had);
       }
 
-  delete_answered : (key turn : ℕ) (t : IsToldBefore calls lines (Map (DeleteOf key)) r.answer turn) (told : Option ℕ) → t.told ≡ told → IsAsked lay tries calls lines changed client (Map (DeleteOf key)) r → won lay lines r.client.0 ≡ Some turn → r.moment ≡ Some turn → IsAnswered lay calls lines r (Map (DeleteOf key))
+  delete_answered : (key turn : ℕ) (t : IsToldBefore calls lines (Map (DeleteOf key)) r.answer turn) (told : Option ℕ) → t.told ≡ told → IsAsked lay tries calls lines changed client (Map (DeleteOf key)) r → won lay lines r.client.0 ≡ Some turn → r.moment ≡ Some turn → IsAnswered lay tries calls lines r (Map (DeleteOf key))
   delete_answered key turn t None none x has moment =
       let answers : r.answer ≡ MapAnswer (Value None) = t.answers ∙ ap of_value none in
       absurd (let z : HasItsEntry false (Some turn) = rw (answers, has) at x.entry in z)
@@ -244,7 +244,7 @@ module _ (lay : Layout) (tries : ℕ) (calls : List Call) (lines : List Line) (c
       }
 
   -- a call whose update has won
-  pub change_answered : (command : Command) (turn : ℕ) → IsAsked lay tries calls lines changed client command r → client.won ≡ Some turn → r.moment ≡ Some turn → IsToldBefore calls lines command r.answer turn → IsAnswered lay calls lines r command
+  pub change_answered : (command : Command) (turn : ℕ) → IsAsked lay tries calls lines changed client command r → client.won ≡ Some turn → r.moment ≡ Some turn → IsToldBefore calls lines command r.answer turn → IsAnswered lay tries calls lines r command
   change_answered (Map (InsertOf key value)) turn x has moment t = insert_answered key value turn t x (sym x.has_won ∙ has) moment
   change_answered (Map (DeleteOf key)) turn x has moment t = delete_answered key turn t t.told refl x (sym x.has_won ∙ has) moment
   change_answered (Map (GetOf key)) turn x has moment t = absurd (let z : Some (Get key) ≡ Some (Edit t.edit) = t.is in cc)
@@ -253,7 +253,7 @@ module _ (lay : Layout) (tries : ℕ) (calls : List Call) (lines : List Line) (c
   change_answered command turn x has moment t = absurd (let z : None ≡ Some (Edit t.edit) = t.is in cc)
 
   -- a get
-  get_answered : (key : ℕ) → IsAsked lay tries calls lines changed client (Map (GetOf key)) r → won lay lines r.client.0 ≡ None → IsValueAt calls lines key r → IsAnswered lay calls lines r (Map (GetOf key))
+  get_answered : (key : ℕ) → IsAsked lay tries calls lines changed client (Map (GetOf key)) r → won lay lines r.client.0 ≡ None → IsValueAt calls lines key r → IsAnswered lay tries calls lines r (Map (GetOf key))
   get_answered key x none v =
       let had = value_had lay tries calls lines changed client (Map (GetOf key)) r x key (λ e. e) v in
       let at = had.3 in
@@ -264,7 +264,7 @@ module _ (lay : Layout) (tries : ℕ) (calls : List Call) (lines : List Line) (c
       }
 
   -- a delete that finds nothing
-  absent_answered : (key : ℕ) (told : Option ℕ) (v : IsValueAt calls lines key r) → v.told ≡ told → IsAsked lay tries calls lines changed client (Map (DeleteOf key)) r → won lay lines r.client.0 ≡ None → IsAnswered lay calls lines r (Map (DeleteOf key))
+  absent_answered : (key : ℕ) (told : Option ℕ) (v : IsValueAt calls lines key r) → v.told ≡ told → IsAsked lay tries calls lines changed client (Map (DeleteOf key)) r → won lay lines r.client.0 ≡ None → IsAnswered lay tries calls lines r (Map (DeleteOf key))
   absent_answered key (Some old) v some x none =
       let answers : r.answer ≡ MapAnswer (Value (Some old)) = v.answers ∙ ap of_value some in
       absurd (let z : HasItsEntry true None = rw (answers, none) at x.entry in z)
@@ -272,29 +272,29 @@ module _ (lay : Layout) (tries : ℕ) (calls : List Call) (lines : List Line) (c
       let answers : r.answer ≡ MapAnswer (Value None) = v.answers ∙ ap of_value nothing in
       let had = value_had lay tries calls lines changed client (Map (DeleteOf key)) r x key (λ e. e) v in
       record {
-        right = subst (λ (a : Answer). DeleteIsRight key lay r.client.0 (history lay.mode lines) (start lay.mode lines r.client.0) (linked calls lay.mode lines r.client.0) a) (sym answers) (subst (λ (o : Option ℕ). HadAtKey lay (history lay.mode lines) (start lay.mode lines r.client.0) key o) nothing had);
+        right = subst (λ (a : Answer). DeleteIsRight key lay tries r.client.0 (history lay.mode lines) (start lay.mode lines r.client.0) (linked calls lay.mode lines r.client.0) a) (sym answers) (subst (λ (o : Option ℕ). HadAtKey lay (history lay.mode lines) (start lay.mode lines r.client.0) key o) nothing had);
         placed = subst (λ (a : Answer). IsPlacedOnMap (reply_told a) calls lines (Edit (Delete key)) r) (sym answers) (value_reading lay tries calls lines changed client (Map (DeleteOf key)) r x key (Edit (Delete key)) (λ m. refl) none v);
       }
 
   -- either of them
-  pub value_answered : (command : Command) (key : ℕ) → (command ≡ Map (GetOf key)) ⊎ (command ≡ Map (DeleteOf key)) → IsAsked lay tries calls lines changed client command r → won lay lines r.client.0 ≡ None → IsValueAt calls lines key r → IsAnswered lay calls lines r command
-  value_answered command key (inl e) x none v = subst (λ k. IsAnswered lay calls lines r k) (sym e) (get_answered key (subst (λ k. IsAsked lay tries calls lines changed client k r) e x) none v)
-  value_answered command key (inr e) x none v = subst (λ k. IsAnswered lay calls lines r k) (sym e) (absent_answered key v.told v refl (subst (λ k. IsAsked lay tries calls lines changed client k r) e x) none)
+  pub value_answered : (command : Command) (key : ℕ) → (command ≡ Map (GetOf key)) ⊎ (command ≡ Map (DeleteOf key)) → IsAsked lay tries calls lines changed client command r → won lay lines r.client.0 ≡ None → IsValueAt calls lines key r → IsAnswered lay tries calls lines r command
+  value_answered command key (inl e) x none v = subst (λ k. IsAnswered lay tries calls lines r k) (sym e) (get_answered key (subst (λ k. IsAsked lay tries calls lines changed client k r) e x) none v)
+  value_answered command key (inr e) x none v = subst (λ k. IsAnswered lay tries calls lines r k) (sym e) (absent_answered key v.told v refl (subst (λ k. IsAsked lay tries calls lines changed client k r) e x) none)
 
   -- an ordered read
-  pub read_answered : (command : Command) → IsAsked lay tries calls lines changed client command r → won lay lines r.client.0 ≡ None → IsReadAt calls lines command r → IsAnswered lay calls lines r command
+  pub read_answered : (command : Command) → IsAsked lay tries calls lines changed client command r → won lay lines r.client.0 ≡ None → IsReadAt calls lines command r → IsAnswered lay tries calls lines r command
   read_answered (Map (SuccessorOf key)) x none a =
       let same : Successor key ≡ a.call = (let z : Some (Successor key) ≡ Some a.call = a.is in cc) in
       let reading = subst (λ (m : MapCall). IsReading calls lines m r) (sym same) (ordered_placed lay tries calls lines r a.call a.turn x.in_order none x.number a.moment a.greatest) in
       record {
-        right = successor_right lay r.client.0 (history lay.mode lines) (start lay.mode lines r.client.0) (linked calls lay.mode lines r.client.0) (reply a.call (map_at calls lines a.turn)) r.answer a.greatest.holds (either_fits lines (Map (SuccessorOf key)) r.answer x.fits);
+        right = successor_right lay tries r.client.0 (history lay.mode lines) (start lay.mode lines r.client.0) (linked calls lay.mode lines r.client.0) (reply a.call (map_at calls lines a.turn)) r.answer a.greatest.holds (either_fits lines (Map (SuccessorOf key)) r.answer x.fits);
         placed = subst (λ (t : Option MapReply). IsPlacedOnMap t calls lines (Successor key) r) (sym a.greatest.holds) reading;
       }
   read_answered (Map (RangeOf low high most)) x none a =
       let same : Range low high most ≡ a.call = (let z : Some (Range low high most) ≡ Some a.call = a.is in cc) in
       let reading = subst (λ (m : MapCall). IsReading calls lines m r) (sym same) (ordered_placed lay tries calls lines r a.call a.turn x.in_order none x.number a.moment a.greatest) in
       record {
-        right = range_right lay r.client.0 low high most (history lay.mode lines) (start lay.mode lines r.client.0) (linked calls lay.mode lines r.client.0) (reply a.call (map_at calls lines a.turn)) r.answer a.greatest.holds (either_fits lines (Map (RangeOf low high most)) r.answer x.fits);
+        right = range_right lay tries r.client.0 low high most (history lay.mode lines) (start lay.mode lines r.client.0) (linked calls lay.mode lines r.client.0) (reply a.call (map_at calls lines a.turn)) r.answer a.greatest.holds (either_fits lines (Map (RangeOf low high most)) r.answer x.fits);
         placed = subst (λ (t : Option MapReply). IsPlacedOnMap t calls lines (Range low high most) r) (sym a.greatest.holds) reading;
       }
   read_answered command x none a = absurd a.ordered

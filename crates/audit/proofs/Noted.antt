@@ -1,5 +1,5 @@
 -- What is remembered of the steps, behind one more.
-use Rattle.std.proofs.Common.{◌≡◌, ◌≢◌, ℕ, zero, suc, ◌+◌, ◌<◌, ◌≤◌, ◌↔◌, ◌⊎◌, inl, inr, ⊎_elim, Bool, true, false, ◌||◌, eqb, List, [], ◌∷◌, ◌++◌, length, set, slice_get, Option, Some, None, refl, sym, ◌∙◌, ap, subst, add-one, arith}
+use Rattle.std.proofs.Common.{◌≡◌, ◌≢◌, ℕ, zero, suc, ◌+◌, ◌^◌, ◌<◌, ◌≤◌, ◌↔◌, ◌⊎◌, inl, inr, ⊎_elim, Bool, true, false, ◌||◌, eqb, List, [], ◌∷◌, ◌++◌, length, set, slice_get, Option, Some, None, refl, sym, ◌∙◌, ap, subst, add-one, arith}
 use native.Mathlib.Decide.{ℕ_discrete}
 use Rattle.arena.specs.declared.layout.Layout.{Layout}
 use Rattle.arena.specs.declared.step.Row.{Row}
@@ -21,9 +21,11 @@ use Rattle.judge.specs.Histories.{history as seen}
 use Rattle.audit.specs.declared.memory.Look.{Look}
 use Rattle.audit.specs.declared.memory.Memory.{Memory}
 use Rattle.audit.specs.declared.memory.Snapshot.{Snapshot}
+use Rattle.audit.specs.declared.memory.Tries.{Tries}
 use Rattle.audit.specs.declared.steps.Steps.{Steps}
-use Rattle.audit.specs.Remembered.{rows_of, WasRunningAt, AreStepsOf, IsLookOf, IsSnapshotOf, IsBegunWith, IsKept}
+use Rattle.audit.specs.Remembered.{rows_of, WasRunningAt, AreStepsOf, IsLookOf, IsSnapshotOf, AreTriesSince, IsBegunWith, IsKept}
 use Rattle.audit.specs.Remembering.{IsLookBy, noted, IsNoted, IsFinalBy}
+use Rattle.audit.proofs.CountedTries.{few_tries, tries_by_other, tries_by_own}
 use Rattle.audit.proofs.RowMoments.{rows_within}
 
 -- Lists with one place changed
@@ -147,40 +149,46 @@ module _ (lay : Layout) (h : History) (r : Row) where
   snapshot_more n None (Some m) x = x
 
   module _ (start : History) (linked : ℕ → Option History) (next : Option Command) (c : ℕ) where
-    begun_more : (m : Memory) → IsBegunWith lay h start linked next c m → IsBegunWith lay (r ⊳ h) start linked next c m
-    begun_more m x = record { begun = x.begun; within = inr x.within; nodes = x.nodes; scx = x.scx; same = x.same }
+    begun_more : (m : Memory) (tries : Tries) → AreTriesSince (r ⊳ h) start c tries → IsBegunWith lay h start linked next c m → IsBegunWith lay (r ⊳ h) start linked next c (record m { tries = tries })
+    begun_more m tries t x = record { begun = x.begun; within = inr x.within; nodes = x.nodes; scx = x.scx; tries = t; same = x.same }
 
     -- a row of another
     pub kept_more : (begin : Option ℕ) (m : Memory) → (r.pass.0 ≡ c → ⊥) → IsKept lay h start linked begin next c m → IsKept lay (r ⊳ h) start linked begin next c m
     kept_more begin m other x = record {
-      begins = λ some. begun_more m (x.begins some);
+      begins = λ some. let b = x.begins some in begun_more m m.tries (tries_by_other c h start r m.tries b.tries other) b;
       looks = λ look e. look_more c LoadInfo look (λ own. absurd (other own)) (x.looks look e);
       freezes = λ look e. look_more c Freeze look (λ own. absurd (other own)) (x.freezes look e);
       snapshots = λ n kept get. snapshot_more n kept (linked n) (x.snapshots n kept get);
     }
 
     -- a row of its own
-    pub kept_own : (begin now : Option ℕ) (old new : Memory) → IsLawful lay h r → r.pass.0 ≡ c → IsBegunWith lay h start linked next c old → IsKept lay h start linked begin next c old → IsNoted lay (r ⊳ h) (suc (rows_of h)) r old new → IsKept lay (r ⊳ h) start linked now next c new
-    kept_own begin now old new lawful own begun x y = subst (λ (m : Memory). IsKept lay (r ⊳ h) start linked now next c m) (sym y.is) (go r.kind refl)
+    pub kept_own : (begin now : Option ℕ) (old new : Memory) → IsLawful lay h r → suc (rows_of h) < 2 ^ 64 → r.pass.0 ≡ c → IsBegunWith lay h start linked next c old → IsKept lay h start linked begin next c old → IsNoted lay (r ⊳ h) (suc (rows_of h)) r old new → IsKept lay (r ⊳ h) start linked now next c new
+    kept_own begin now old new lawful small own begun x y = subst (λ (m : Memory). IsKept lay (r ⊳ h) start linked now next c m) (sym y.is) (go r.kind refl)
       where
         others : (kind : Kind) → (r.kind ≡ kind → ⊥) → (look : Look) → IsLookOf lay h c kind look → IsLookOf lay (r ⊳ h) c kind look
         others kind d look z = look_more c kind look (λ own. d) z
 
-        go : (kind : Kind) → r.kind ≡ kind → IsKept lay (r ⊳ h) start linked now next c (noted kind y.seen old)
+        room : old.tries.many + 1 < 2 ^ 64
+        room = let few = few_tries c h in let many = begun.tries.many in omega arith
+
+        tries : AreTriesSince (r ⊳ h) start c new.tries
+        tries = tries_by_own c h start r old.tries begun.tries new.tries begun.within own (y.tries room)
+
+        go : (kind : Kind) → r.kind ≡ kind → IsKept lay (r ⊳ h) start linked now next c (record (noted kind y.seen old) { tries = new.tries })
         go LoadInfo e = record {
-          begins = λ some. let b = begun_more old begun in record { begun = b.begun; within = b.within; nodes = b.nodes; scx = b.scx; same = b.same };
+          begins = λ some. let b = begun_more old new.tries tries begun in record { begun = b.begun; within = b.within; nodes = b.nodes; scx = b.scx; tries = b.tries; same = b.same };
           looks = λ look q. look_now c LoadInfo look lawful own e (y.by look q);
           freezes = λ look q. others Freeze (λ z. let w : LoadInfo ≡ Freeze = sym e ∙ z in absurd cc) look (x.freezes look q);
           snapshots = λ n kept get. snapshot_more n kept (linked n) (x.snapshots n kept get);
         }
         go Freeze e = record {
-          begins = λ some. let b = begun_more old begun in record { begun = b.begun; within = b.within; nodes = b.nodes; scx = b.scx; same = b.same };
+          begins = λ some. let b = begun_more old new.tries tries begun in record { begun = b.begun; within = b.within; nodes = b.nodes; scx = b.scx; tries = b.tries; same = b.same };
           looks = λ look q. others LoadInfo (λ z. let w : Freeze ≡ LoadInfo = sym e ∙ z in absurd cc) look (x.looks look q);
           freezes = λ look q. look_now c Freeze look lawful own e (y.by look q);
           snapshots = λ n kept get. snapshot_more n kept (linked n) (x.snapshots n kept get);
         }
         go _ e = record {
-          begins = λ some. begun_more old begun;
+          begins = λ some. begun_more old new.tries tries begun;
           looks = λ look q. others LoadInfo (λ z. absurd cc) look (x.looks look q);
           freezes = λ look q. others Freeze (λ z. absurd cc) look (x.freezes look q);
           snapshots = λ n kept get. snapshot_more n kept (linked n) (x.snapshots n kept get);

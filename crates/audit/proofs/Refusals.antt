@@ -1,11 +1,9 @@
 -- What is remembered of a call that is refused makes its answer right.
-use Rattle.std.proofs.Common.{◌≡◌, ℕ, ◌<◌, List, slice_get, Option, Some, IsSome, IfSome, refl, sym, ◌∙◌, ap, subst}
+use Rattle.std.proofs.Common.{◌≡◌, ℕ, List, Option, Some, IsSome, refl, sym, subst}
 use Rattle.arena.specs.declared.layout.Layout.{Layout}
 use Rattle.arena.specs.declared.fault.Resource.{Resource}
 use Rattle.arena.specs.declared.number.NodeNo.{NodeNo}
 use Rattle.arena.specs.declared.number.ScxNo.{ScxNo}
-use Rattle.arena.specs.Blame.{WasInTheWay}
-use Rattle.arena.specs.Fills.{IsOthersScx}
 use Rattle.script.specs.declared.call.Call.{Call}
 use Rattle.script.specs.declared.command.Command.{Command}
 use Rattle.spelling.specs.declared.reply.Reply.TheVariants.{Contended, Full, NoMemory}
@@ -15,27 +13,15 @@ use Rattle.record.specs.declared.record.Line.{Line}
 use Rattle.record.specs.declared.record.Finished.{Finished}
 use Rattle.record.specs.declared.record.Answer.{Answer}
 use Rattle.record.specs.declared.record.Answer.TheVariants.{Map as MapAnswer}
-use Rattle.record.specs.Answers.{WasBlockedBy}
+use Rattle.record.specs.Answers.{HasLostAllTries}
 use Rattle.record.specs.CommandRules.{IsRight, MayAnswerAtOnce}
 use Rattle.record.specs.Linked.{linked}
 use Rattle.record.specs.Replies.{IsFitting}
 use Rattle.record.specs.Turns.{history, begin, start}
 use Rattle.places.specs.declared.places.Change.{Change}
 use Rattle.audit.specs.Asked.{IsAsked, IsTooFewFor}
-use Rattle.audit.specs.Remembered.{IsMomentAt, AreRemembered}
 use Rattle.audit.specs.declared.client.Client.{Client}
-use Rattle.audit.specs.declared.memory.Memory.{Memory}
-use Rattle.audit.specs.declared.steps.Steps.{Steps}
-use Rattle.audit.proofs.AfterLines.{get_there}
 use Rattle.audit.proofs.MapAnswers.{contended_right, no_memory_right}
-
--- the call of a client began after so many steps as is remembered
-pub began_at : (lay : Layout) (calls : List Call) (lines : List Line) (all : Steps) (c : ℕ) (memory : Memory) → AreRemembered lay calls lines all → c < lay.passes → IsSome (begin lines c) → IfSome (slice_get all.memories.items c) (λ m. memory ≡ m) → IsMomentAt (history lay.mode lines) memory.begun (start lay.mode lines c)
-began_at lay calls lines all c memory kept is_pass some is =
-    let there = get_there all.memories.items c (subst (λ (n : ℕ). c < n) (sym kept.steps.all_memories) is_pass) in
-    let same : memory ≡ there.0 = rw there.1 at is in
-    let b = (kept.memories c there.0 there.1).begins some in
-    record { within = b.within; many = sym (ap (λ (m : Memory). m.begun) same ∙ b.begun) }
 
 -- no answer at once
 at_once_insert : (command : Command) (answer : Answer) (key value : ℕ) → command ≡ Map (Insert key value) → MayAnswerAtOnce command answer → ⊥
@@ -46,21 +32,18 @@ at_once_delete command answer key is may = subst (λ (k : Command). MayAnswerAtO
 
 module _ (lay : Layout) (tries : ℕ) (calls : List Call) (lines : List Line) (changed : List Change) (client : Client) (command : Command) (r : Finished) (x : IsAsked lay tries calls lines changed client command r) where
   abbrev RightIs : Command → Answer → Type 0
-  RightIs k answer = IsRight lay r.client.0 (history lay.mode lines) (start lay.mode lines r.client.0) (linked calls lay.mode lines r.client.0) k answer
+  RightIs k answer = IsRight lay tries r.client.0 (history lay.mode lines) (start lay.mode lines r.client.0) (linked calls lay.mode lines r.client.0) k answer
 
   begun_now : IsSome (begin lines client.pass.0)
   begun_now = subst (λ (n : ℕ). IsSome (begin lines n)) (sym x.pass) (rw x.begun refl)
 
-  pub right_contended : (all : Steps) (memory : Memory) (node : NodeNo) (scx : ScxNo) → AreRemembered lay calls lines all → client.pass.0 < all.judge.layout.passes → IfSome (slice_get all.memories.items client.pass.0) (λ m. memory ≡ m) → r.answer ≡ MapAnswer (Contended node scx) → IsOthersScx all.judge.layout client.pass.0 scx.0 → (IsMomentAt (history lay.mode lines) memory.begun (start lay.mode lines client.pass.0) → WasInTheWay (history lay.mode lines) (start lay.mode lines client.pass.0) node.0 scx.0) → RightIs command r.answer
-  right_contended all memory node scx kept is_pass is answers others way =
-      let small : client.pass.0 < lay.passes = subst (λ (l : Layout). client.pass.0 < l.passes) kept.steps.layout is_pass in
-      let other : IsOthersScx lay client.pass.0 scx.0 = subst (λ (l : Layout). IsOthersScx l client.pass.0 scx.0) kept.steps.layout others in
-      let blocked : WasBlockedBy lay client.pass.0 (history lay.mode lines) (start lay.mode lines client.pass.0) node.0 scx.0 = (other, way (began_at lay calls lines all client.pass.0 memory kept small begun_now is)) in
-      let own = subst (λ (n : ℕ). WasBlockedBy lay n (history lay.mode lines) (start lay.mode lines n) node.0 scx.0) x.pass blocked in
-      subst (RightIs command) (sym answers) (contended_right lay r.client.0 (history lay.mode lines) (start lay.mode lines r.client.0) (linked calls lay.mode lines r.client.0) lines command x.of_map.0 node scx x.of_map.1 (subst (IsFitting lines command) answers x.fits) own)
+  pub right_contended : (node : NodeNo) (scx : ScxNo) → r.answer ≡ MapAnswer (Contended node scx) → (IsSome (begin lines client.pass.0) → HasLostAllTries lay tries client.pass.0 (history lay.mode lines) (start lay.mode lines client.pass.0) node.0 scx.0) → RightIs command r.answer
+  right_contended node scx answers lost =
+      let own = subst (λ (n : ℕ). HasLostAllTries lay tries n (history lay.mode lines) (start lay.mode lines n) node.0 scx.0) x.pass (lost begun_now) in
+      subst (RightIs command) (sym answers) (contended_right lay tries r.client.0 (history lay.mode lines) (start lay.mode lines r.client.0) (linked calls lay.mode lines r.client.0) lines command x.of_map.0 node scx x.of_map.1 (subst (IsFitting lines command) answers x.fits) own)
 
   pub right_no_memory : r.answer ≡ MapAnswer NoMemory → RightIs command r.answer
-  right_no_memory answers = subst (RightIs command) (sym answers) (no_memory_right lay r.client.0 (history lay.mode lines) (start lay.mode lines r.client.0) (linked calls lay.mode lines r.client.0) lines command x.of_map.0 x.of_map.1 (subst (IsFitting lines command) answers x.fits))
+  right_no_memory answers = subst (RightIs command) (sym answers) (no_memory_right lay tries r.client.0 (history lay.mode lines) (start lay.mode lines r.client.0) (linked calls lay.mode lines r.client.0) lines command x.of_map.0 x.of_map.1 (subst (IsFitting lines command) answers x.fits))
 
   pub right_full_insert : (key value : ℕ) (old : Option ℕ) (what : Resource) (left : ℕ) → command ≡ Map (Insert key value) → ((MayAnswerAtOnce command r.answer → ⊥) → IsTooFewFor lay lines r key old what left) → RightIs command (MapAnswer (Full record { what = what; left = left }))
   right_full_insert key value old what left is few =

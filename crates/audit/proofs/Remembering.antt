@@ -1,5 +1,5 @@
 -- What is remembered of the steps stays what the lines say.
-use Rattle.std.proofs.Common.{◌≡◌, ◌≢◌, ℕ, suc, ◌<◌, Bool, true, false, cond, ◌||◌, eq-eqb, is_some, IsSome, IfSome, IfNone, unwrap_or, List, ◌∷◌, length, set, Option, Some, None, slice_get, refl, sym, ◌∙◌, ap, subst, arith}
+use Rattle.std.proofs.Common.{◌≡◌, ◌≢◌, ℕ, suc, ◌^◌, ◌<◌, Bool, true, false, cond, ◌||◌, eq-eqb, is_some, IsSome, IfSome, IfNone, unwrap_or, List, ◌∷◌, length, set, Option, Some, None, slice_get, refl, sym, ◌∙◌, ap, subst, arith}
 use Rattle.std.proofs.lemmas.Bool.{ne_eqb}
 use Rattle.std.proofs.lemmas.List.{length-set}
 use Rattle.std.proofs.lemmas.Option.{slice_get_within}
@@ -41,6 +41,7 @@ use Rattle.audit.specs.CellCalls.{AreSameAt}
 use Rattle.audit.specs.Remembered.{rows_of, AreSnapshotsOf, IsBegunWith, IsKept, AreStepsOf, IsMemoryOf, AreRemembered, AreBegun}
 use Rattle.audit.specs.Remembering.{IsNoted, IsFinalBy}
 use Rattle.audit.proofs.AfterLines.{get_there}
+use Rattle.audit.proofs.CountedTries.{no_tries}
 use Rattle.audit.proofs.NextCalls.{command_next}
 use Rattle.audit.proofs.Noted.{set_other, set_own, IsNewFinal, AreMore, steps_more, kept_more, kept_own, same_log_finals, same_log_stays, won_stays, won_finals}
 
@@ -49,12 +50,13 @@ abbrev IsBegunOf : Layout → List Call → List Line → ℕ → Memory → Typ
 IsBegunOf lay calls lines c memory = IsBegunWith lay (history lay.mode lines) (start lay.mode lines c) (linked calls lay.mode lines c) (next_command calls lines c) c memory
 
 -- a call that begins now
-pub begun_with : (lay : Layout) (calls : List Call) (lines : List Line) (c : ℕ) (all : Steps) (memory : Memory) → AreStepsOf lay (history lay.mode lines) all → begin lines c ≡ None → memory.begun ≡ all.count → HasNodesLeft all.judge.layout c (seen all.judge) memory.nodes → HasScxLeft all.judge.layout c (seen all.judge) memory.scx → ((cells : Cells) → next_command calls lines c ≡ Some (Vlx cells) → AreSameAt all.judge.layout (seen all.judge) (linked calls lay.mode lines c) (cells_of cells) memory.same) → IsBegunOf lay calls lines c memory
-begun_with lay calls lines c all memory x unbegun count nodes scx same = record {
+pub begun_with : (lay : Layout) (calls : List Call) (lines : List Line) (c : ℕ) (all : Steps) (memory : Memory) → AreStepsOf lay (history lay.mode lines) all → begin lines c ≡ None → memory.begun ≡ all.count → HasNodesLeft all.judge.layout c (seen all.judge) memory.nodes → HasScxLeft all.judge.layout c (seen all.judge) memory.scx → memory.tries.many ≡ 0 → ((cells : Cells) → next_command calls lines c ≡ Some (Vlx cells) → AreSameAt all.judge.layout (seen all.judge) (linked calls lay.mode lines c) (cells_of cells) memory.same) → IsBegunOf lay calls lines c memory
+begun_with lay calls lines c all memory x unbegun count nodes scx none same = record {
   begun = count ∙ x.count ∙ ap rows_of (sym moment);
   within = subst (λ (k : History). Extends (history lay.mode lines) k) (sym moment) (ends_self (history lay.mode lines));
   nodes = at (λ l k. HasNodesLeft l c k memory.nodes) nodes;
   scx = at (λ l k. HasScxLeft l c k memory.scx) scx;
+  tries = no_tries (history lay.mode lines) (start lay.mode lines c) c memory.tries moment none;
   same = λ cells e. at (λ l k. AreSameAt l k (linked calls lay.mode lines c) (cells_of cells) memory.same) (same cells e);
 }
   where
@@ -137,8 +139,8 @@ noted_as l lay k h a b row old new e f g z = subst (λ (q : ℕ). IsNoted lay h 
 abbrev KeptIf : Layout → List Call → List Line → ℕ → Row → Bool → ℕ → Memory → Type 0
 KeptIf lay calls lines number row b c m = IsKept lay (row ⊳ history lay.mode lines) (cond (b || is_some (begin lines c)) (start lay.mode lines c) (row ⊳ history lay.mode lines)) (linked calls lay.mode lines c) (cond b (Some (unwrap_or (begin lines c) number)) (begin lines c)) (next_command calls lines c) c m
 
-pub made_remembered : (lay : Layout) (calls : List Call) (lines : List Line) (number : ℕ) (row : Row) (old new : Steps) → AreBegun lay calls lines row.pass.0 old → IsLawful lay (history lay.mode lines) row → AreMore lay (history lay.mode lines) row old new → ((c : ℕ) → (c ≡ row.pass.0 → ⊥) → slice_get new.memories.items c ≡ slice_get old.memories.items c) → ((m : Memory) → slice_get new.memories.items row.pass.0 ≡ Some m → (before : Memory) × (slice_get old.memories.items row.pass.0 ≡ Some before) × IsNoted lay (row ⊳ history lay.mode lines) (suc (rows_of (history lay.mode lines))) row before m) → AreRemembered lay calls (Step (Made number row) ∷ lines) new
-made_remembered lay calls lines number row old new x lawful more others own = record {
+pub made_remembered : (lay : Layout) (calls : List Call) (lines : List Line) (number : ℕ) (row : Row) (old new : Steps) → AreBegun lay calls lines row.pass.0 old → IsLawful lay (history lay.mode lines) row → suc (rows_of (history lay.mode lines)) < 2 ^ 64 → AreMore lay (history lay.mode lines) row old new → ((c : ℕ) → (c ≡ row.pass.0 → ⊥) → slice_get new.memories.items c ≡ slice_get old.memories.items c) → ((m : Memory) → slice_get new.memories.items row.pass.0 ≡ Some m → (before : Memory) × (slice_get old.memories.items row.pass.0 ≡ Some before) × IsNoted lay (row ⊳ history lay.mode lines) (suc (rows_of (history lay.mode lines))) row before m) → AreRemembered lay calls (Step (Made number row) ∷ lines) new
+made_remembered lay calls lines number row old new x lawful small more others own = record {
   steps = steps_more lay (history lay.mode lines) row old new x.remembered.steps more;
   memories = λ c m get. go c m get (ℕ_discrete row.pass.0 c);
 }
@@ -159,7 +161,7 @@ made_remembered lay calls lines number row old new x lawful more others own = re
         here : slice_get new.memories.items row.pass.0 ≡ Some m → KeptIf lay calls lines number row true row.pass.0 m
         here get =
             let z = own m get in
-            kept_own lay (history lay.mode lines) row (start lay.mode lines row.pass.0) (linked calls lay.mode lines row.pass.0) (next_command calls lines row.pass.0) row.pass.0 (begin lines row.pass.0) (Some (unwrap_or (begin lines row.pass.0) number)) z.0 m lawful refl (x.begun z.0 z.1) (x.remembered.memories row.pass.0 z.0 z.1) z.2
+            kept_own lay (history lay.mode lines) row (start lay.mode lines row.pass.0) (linked calls lay.mode lines row.pass.0) (next_command calls lines row.pass.0) row.pass.0 (begin lines row.pass.0) (Some (unwrap_or (begin lines row.pass.0) number)) z.0 m lawful small refl (x.begun z.0 z.1) (x.remembered.memories row.pass.0 z.0 z.1) z.2
 
     go : (c : ℕ) (m : Memory) → slice_get new.memories.items c ≡ Some m → Dec (row.pass.0 ≡ c) → IsMemoryOf lay calls (Step (Made number row) ∷ lines) c m
     go c m get (yes e) = subst (λ (b : Bool). KeptIf lay calls lines number row b c m) (sym (eq-eqb row.pass.0 c e)) (mine c m e get)
@@ -204,7 +206,7 @@ module _ (old new : Steps) (pass : ℕ) (memory : Memory) (same : new ≡ record
           here q = let z = put_own m q in subst (λ (k : Memory). Q pass k) (sym z.0) (own z.1.0 z.1.1 (x pass z.1.0 z.1.1))
 
   -- the begin of a call
-  pub begun_remembered : (lay : Layout) (calls : List Call) (lines : List Line) → AreRemembered lay calls lines old → ((before : Memory) → slice_get old.memories.items pass ≡ Some before → memory ≡ record before { begun = memory.begun; nodes = memory.nodes; scx = memory.scx; same = memory.same }) → (pass < length old.memories.items → IsBegunOf lay calls lines pass memory) → AreBegun lay calls lines pass new
+  pub begun_remembered : (lay : Layout) (calls : List Call) (lines : List Line) → AreRemembered lay calls lines old → ((before : Memory) → slice_get old.memories.items pass ≡ Some before → memory ≡ record before { begun = memory.begun; nodes = memory.nodes; scx = memory.scx; tries = memory.tries; same = memory.same }) → (pass < length old.memories.items → IsBegunOf lay calls lines pass memory) → AreBegun lay calls lines pass new
   begun_remembered lay calls lines x rest begun = record {
     remembered = record {
       steps = steps_put lay (history lay.mode lines) x.steps;

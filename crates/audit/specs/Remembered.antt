@@ -1,6 +1,6 @@
 -- What an audit remembers of the steps, for the answers of calls. Lines stand here with the newest
 -- first.
-use Rattle.std.specs.Prelude.{◌≡◌, ℕ, suc, ◌<◌, ◌≤◌, ◌↔◌, List, length, slice_get, Option, Some, None, IsSome, true}
+use Rattle.std.specs.Prelude.{◌≡◌, ℕ, suc, ◌+◌, ◌<◌, ◌≤◌, ◌↔◌, List, length, slice_get, Option, Some, None, IsSome, true}
 use Rattle.arena.specs.declared.layout.Layout.{Layout}
 use Rattle.arena.specs.declared.step.Kind.{Kind}
 use Rattle.arena.specs.declared.step.Kind.TheVariants.{LoadInfo, Freeze}
@@ -11,6 +11,7 @@ use Rattle.arena.specs.History.{History, Start, ◌⊳◌, Extends, value}
 use Rattle.arena.specs.Layout.{all_nodes, all_scx}
 use Rattle.arena.specs.Log.{log, last, is_final}
 use Rattle.arena.specs.Words.{info}
+use Rattle.spelling.specs.Tries.{tries_begun, IsNewestTry}
 use Rattle.script.specs.declared.call.Call.{Call}
 use Rattle.script.specs.declared.cells.Cells.{Cells}
 use Rattle.script.specs.declared.command.Command.{Command}
@@ -26,6 +27,7 @@ use Rattle.judge.specs.Histories.{history as seen}
 use Rattle.audit.specs.declared.memory.Memory.{Memory}
 use Rattle.audit.specs.declared.memory.Look.{Look}
 use Rattle.audit.specs.declared.memory.Snapshot.{Snapshot}
+use Rattle.audit.specs.declared.memory.Tries.{Tries}
 use Rattle.audit.specs.declared.steps.Steps.{Steps}
 
 -- how many rows a history has
@@ -76,6 +78,12 @@ IsSnapshotOf lay h n _ _ = ⊥
 abbrev pub AreSnapshotsOf : Layout → History → Memory → (ℕ → Option History) → Type 0
 AreSnapshotsOf lay h memory linked = (n : ℕ) (kept : Option Snapshot) → slice_get memory.snapshots n ≡ Some kept → IsSnapshotOf lay h n kept (linked n)
 
+-- Since the moment `start` client c has begun as many tries as are remembered, the newest of them
+-- behind so many rows.
+pub record AreTriesSince (h start : History) (c : ℕ) (tries : Tries) : Type 0 where
+  pub many : tries_begun c h ≡ tries_begun c start + tries.many
+  pub newest : 0 < tries.many → (begin : History) × IsMomentAt h tries.before begin × Extends begin start × IsNewestTry c h begin
+
 -- What is remembered of the begin of a call of client c: the history was `start` then, `linked` are
 -- the moments of the snapshots that the client keeps, and `next` is the call's command.
 pub record IsBegunWith (lay : Layout) (h start : History) (linked : ℕ → Option History) (next : Option Command) (c : ℕ) (memory : Memory) : Type 0 where
@@ -83,6 +91,7 @@ pub record IsBegunWith (lay : Layout) (h start : History) (linked : ℕ → Opti
   pub within : Extends h start
   pub nodes : HasNodesLeft lay c start memory.nodes
   pub scx : HasScxLeft lay c start memory.scx
+  pub tries : AreTriesSince h start c memory.tries
   -- of each cell of a `vlx` that is said to be as its snapshot found it
   pub same : (cells : Cells) → next ≡ Some (Vlx cells) → (place n : ℕ) → slice_get (cells_of cells) place ≡ Some n → slice_get memory.same place ≡ Some true → IsAsSnapped lay start linked n
 

@@ -1,5 +1,5 @@
 -- What one step or one reply changes in what an audit remembers.
-use Rattle.std.specs.Prelude.{◌≡◌, ℕ, ◌<◌, ◌⊎◌, true, false, Option, Some}
+use Rattle.std.specs.Prelude.{◌≡◌, ℕ, suc, ◌+◌, ◌-◌, ◌^◌, ◌<◌, ◌⊎◌, Bool, true, false, Option, Some}
 use Rattle.arena.specs.declared.layout.Layout.{Layout}
 use Rattle.arena.specs.declared.step.Kind.{Kind}
 use Rattle.arena.specs.declared.step.Kind.TheVariants.{LoadInfo, Freeze}
@@ -8,8 +8,10 @@ use Rattle.arena.specs.History.{History}
 use Rattle.arena.specs.Log.{log, last, is_final}
 use Rattle.arena.specs.ScxRecords.{member}
 use Rattle.arena.specs.Words.{info}
+use Rattle.spelling.specs.Tries.{begins_try}
 use Rattle.audit.specs.declared.memory.Look.{Look}
 use Rattle.audit.specs.declared.memory.Memory.{Memory}
+use Rattle.audit.specs.declared.memory.Tries.{Tries}
 
 -- the look is what the row has found in an info word, as the last of so many rows of h
 pub record IsLookBy (lay : Layout) (h : History) (rows : ℕ) (row : Row) (look : Look) : Type 0 where
@@ -24,11 +26,18 @@ noted LoadInfo look memory = record memory { look = look }
 noted Freeze look memory = record memory { freeze = look }
 noted _ look memory = memory
 
--- it was noted what the row has found, as the last of so many rows of h
+-- what is remembered of a client's tries behind a step, the last of so many, which begins one or
+-- does not
+abbrev pub tried : Bool → ℕ → Tries → Tries
+tried true rows old = record { many = suc old.many; before = rows - 1 }
+tried false rows old = old
+
+-- it was noted what the row has found, as the last of so many rows of h, and whether it begins a try
 pub record IsNoted (lay : Layout) (h : History) (rows : ℕ) (row : Row) (old new : Memory) : Type 0 where
   pub seen : Option Look
   pub by : (look : Look) → seen ≡ Some look → IsLookBy lay h rows row look
-  pub is : new ≡ noted row.kind seen old
+  pub is : new ≡ record (noted row.kind seen old) { tries = new.tries }
+  pub tries : old.tries.many + 1 < 2 ^ 64 → new.tries ≡ tried (begins_try row.pass.0 row) rows old.tries
 
 -- what is remembered of since when node n is final, which was `before`, is so many rows after it was
 -- noted of the nodes of SCX-record s below this place

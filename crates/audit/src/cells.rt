@@ -232,7 +232,7 @@ fn is_same(judge: &Judge, memory: &Memory, cells: &[Cell], place: usize) -> bool
 pub(crate) fn is_right(steps: &Steps, client: &Client, command: &Command, reply: &Finished) -> bool
     requires pass { client.now.pass.0 < steps.now.judge.layout.passes }
     requires cells { steps.now.judge.layout.mode ≡ Records }
-    ensures right { (lay : Layout) (calls : List CallOf) (lines : List Line) → AreRemembered lay calls lines steps.now → IsSome (begin lines client.now.pass.0) → next_command calls lines client.now.pass.0 ≡ Some command.now → IsTrue result → IsRight lay client.now.pass.0 (history lay.mode lines) (start lay.mode lines client.now.pass.0) (linked calls lay.mode lines client.now.pass.0) command.now reply.now.answer }
+    ensures right { (lay : Layout) (tries : ℕ) (calls : List CallOf) (lines : List Line) → AreRemembered lay calls lines steps.now → IsSome (begin lines client.now.pass.0) → next_command calls lines client.now.pass.0 ≡ Some command.now → IsTrue result → IsRight lay tries client.now.pass.0 (history lay.mode lines) (start lay.mode lines client.now.pass.0) (linked calls lay.mode lines client.now.pass.0) command.now reply.now.answer }
     ensures placed { (lay : Layout) (calls : List CallOf) (lines : List Line) → IsClientAfter lay calls lines reply.now.client.0 client.now → IsTrue result → IsPlaced lay calls lines reply.now command.now }
 {
     reply.moment == moment_of(client, reply) && is_true(steps, client.pass, command, &reply.answer)
@@ -255,7 +255,7 @@ fn moment_of(client: &Client, reply: &Finished) -> Option<u64>
 fn is_true(steps: &Steps, pass: PassNo, command: &Command, answer: &Answer) -> bool
     requires pass { pass.0 < steps.now.judge.layout.passes }
     requires cells { steps.now.judge.layout.mode ≡ Records }
-    ensures right { (lay : Layout) (calls : List CallOf) (lines : List Line) → AreRemembered lay calls lines steps.now → IsSome (begin lines pass.0) → next_command calls lines pass.0 ≡ Some command.now → IsTrue result → IsRight lay pass.0 (history lay.mode lines) (start lay.mode lines pass.0) (linked calls lay.mode lines pass.0) command.now answer.now }
+    ensures right { (lay : Layout) (tries : ℕ) (calls : List CallOf) (lines : List Line) → AreRemembered lay calls lines steps.now → IsSome (begin lines pass.0) → next_command calls lines pass.0 ≡ Some command.now → IsTrue result → IsRight lay tries pass.0 (history lay.mode lines) (start lay.mode lines pass.0) (linked calls lay.mode lines pass.0) command.now answer.now }
     ensures placed { (lay : Layout) (calls : List CallOf) (lines : List Line) (reply : Finished) → IsTrue result → IsPlacedCell lay lines reply → IsPlaced lay calls lines reply command.now }
 {
     let memory = steps.memory(pass);

@@ -211,14 +211,14 @@ fn has_changed(request: &Request<u64, u64>, reply: &Reply<u64, u64>) -> bool
     }
 }
 
-/// How many nodes of its client's share a call may take at most.
-pub(crate) fn most_nodes(command: &Command, limits: &Limits) -> u32
-    ensures { result ≤ (rules command.now).most_nodes limits.now.tries }
+/// How many nodes of its client's share a call may take at most for each SCX-record that it takes.
+pub(crate) fn nodes_each(command: &Command) -> u32
+    ensures { result ≡ (rules command.now).nodes_each }
 {
     match command {
         Command::Scx(_) | Command::Set { .. } => 1,
-        Command::Map(Request::Insert { .. }) => limits.tries.saturating_mul(3),
-        Command::Map(Request::Delete { .. }) => limits.tries,
+        Command::Map(Request::Insert { .. }) => 3,
+        Command::Map(Request::Delete { .. }) => 1,
         _ => 0,
     }
 }

@@ -23,6 +23,9 @@ pub(crate) enum Refused {
     NoMemory,
     /// The line does not fit those before it.
     NotLawful,
+    /// The line before it, an idle turn, does not: it is the whole of a call, and this is not its
+    /// reply.
+    Unexplained,
 }
 
 impl Refused {
@@ -31,6 +34,9 @@ impl Refused {
         match self {
             Refused::NoMemory => AuditFault::NoMemory,
             Refused::NotLawful => AuditFault::NotLawful { row },
+            Refused::Unexplained => AuditFault::NotLawful {
+                row: row.saturating_sub(1),
+            },
         }
     }
 }

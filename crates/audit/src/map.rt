@@ -33,12 +33,13 @@ pub(crate) fn is_right(
     steps: &Steps,
     places: &Places,
     client: &Client,
+    tries: u32,
     command: &Command,
     reply: &Finished,
 ) -> bool
     requires { client.now.pass.0 < steps.now.judge.layout.passes }
-    ensures right { (lay : Layout) (tries : ℕ) (calls : List CallOf) (lines : List Line) → IsAsked lay tries calls lines (changes places.now) client.now command.now reply.now → AreRemembered lay calls lines steps.now → IsTrue result → IsRight lay reply.now.client.0 (history lay.mode lines) (start lay.mode lines reply.now.client.0) (linked calls lay.mode lines reply.now.client.0) command.now reply.now.answer }
-    ensures placed { (lay : Layout) (tries : ℕ) (calls : List CallOf) (lines : List Line) → IsAsked lay tries calls lines (changes places.now) client.now command.now reply.now → IsTrue result → IsPlaced lay calls lines reply.now command.now }
+    ensures right { (lay : Layout) (calls : List CallOf) (lines : List Line) → IsAsked lay tries calls lines (changes places.now) client.now command.now reply.now → AreRemembered lay calls lines steps.now → IsTrue result → IsRight lay tries reply.now.client.0 (history lay.mode lines) (start lay.mode lines reply.now.client.0) (linked calls lay.mode lines reply.now.client.0) command.now reply.now.answer }
+    ensures placed { (lay : Layout) (calls : List CallOf) (lines : List Line) → IsAsked lay tries calls lines (changes places.now) client.now command.now reply.now → IsTrue result → IsPlaced lay calls lines reply.now command.now }
 {
     let Command::Map(request) = command else {
         return false;
@@ -50,7 +51,8 @@ pub(crate) fn is_right(
         Reply::Value(_) | Reply::Pair(_) | Reply::Pairs(_) => {
             is_placed(places, client, request, told, reply)
         }
-        _ => reply.moment.is_none() && is_refused(steps, places, client, request, told, reply),
+        _ => reply.moment.is_none()
+            && is_refused(steps, places, client, tries, request, told, reply),
     }
 }
 
@@ -65,7 +67,7 @@ fn is_placed(
     reply: &Finished,
 ) -> bool
     requires { reply.now.answer ≡ MapAnswer told.now }
-    ensures right { (lay : Layout) (tries : ℕ) (calls : List CallOf) (lines : List Line) → IsAsked lay tries calls lines (changes places.now) client.now (MapCommand request.now) reply.now → IsTrue result → IsRight lay reply.now.client.0 (history lay.mode lines) (start lay.mode lines reply.now.client.0) (linked calls lay.mode lines reply.now.client.0) (MapCommand request.now) reply.now.answer }
+    ensures right { (lay : Layout) (tries : ℕ) (calls : List CallOf) (lines : List Line) → IsAsked lay tries calls lines (changes places.now) client.now (MapCommand request.now) reply.now → IsTrue result → IsRight lay tries reply.now.client.0 (history lay.mode lines) (start lay.mode lines reply.now.client.0) (linked calls lay.mode lines reply.now.client.0) (MapCommand request.now) reply.now.answer }
     ensures placed { (lay : Layout) (tries : ℕ) (calls : List CallOf) (lines : List Line) → IsAsked lay tries calls lines (changes places.now) client.now (MapCommand request.now) reply.now → IsTrue result → IsPlaced lay calls lines reply.now (MapCommand request.now) }
 {
     match client.won {
@@ -103,7 +105,7 @@ fn is_read(
     reply: &Finished,
 ) -> bool
     requires { reply.now.answer ≡ MapAnswer told.now }
-    ensures right { (lay : Layout) (tries : ℕ) (calls : List CallOf) (lines : List Line) (client : ClientOf) → IsAsked lay tries calls lines (changes places.now) client (MapCommand request.now) reply.now → won lay lines reply.now.client.0 ≡ None → IsTrue result → IsRight lay reply.now.client.0 (history lay.mode lines) (start lay.mode lines reply.now.client.0) (linked calls lay.mode lines reply.now.client.0) (MapCommand request.now) reply.now.answer }
+    ensures right { (lay : Layout) (tries : ℕ) (calls : List CallOf) (lines : List Line) (client : ClientOf) → IsAsked lay tries calls lines (changes places.now) client (MapCommand request.now) reply.now → won lay lines reply.now.client.0 ≡ None → IsTrue result → IsRight lay tries reply.now.client.0 (history lay.mode lines) (start lay.mode lines reply.now.client.0) (linked calls lay.mode lines reply.now.client.0) (MapCommand request.now) reply.now.answer }
     ensures placed { (lay : Layout) (tries : ℕ) (calls : List CallOf) (lines : List Line) (client : ClientOf) → IsAsked lay tries calls lines (changes places.now) client (MapCommand request.now) reply.now → won lay lines reply.now.client.0 ≡ None → IsTrue result → IsPlaced lay calls lines reply.now (MapCommand request.now) }
 {
     match request {
@@ -163,19 +165,19 @@ fn is_refused(
     steps: &Steps,
     places: &Places,
     client: &Client,
+    tries: u32,
     request: &Request<u64, u64>,
     told: &Reply<u64, u64>,
     reply: &Finished,
 ) -> bool
     requires pass { client.now.pass.0 < steps.now.judge.layout.passes }
     requires answer { reply.now.answer ≡ MapAnswer told.now }
-    ensures right { (lay : Layout) (tries : ℕ) (calls : List CallOf) (lines : List Line) → IsAsked lay tries calls lines (changes places.now) client.now (MapCommand request.now) reply.now → AreRemembered lay calls lines steps.now → IsTrue result → IsRight lay reply.now.client.0 (history lay.mode lines) (start lay.mode lines reply.now.client.0) (linked calls lay.mode lines reply.now.client.0) (MapCommand request.now) reply.now.answer }
+    ensures right { (lay : Layout) (calls : List CallOf) (lines : List Line) → IsAsked lay tries calls lines (changes places.now) client.now (MapCommand request.now) reply.now → AreRemembered lay calls lines steps.now → IsTrue result → IsRight lay tries reply.now.client.0 (history lay.mode lines) (start lay.mode lines reply.now.client.0) (linked calls lay.mode lines reply.now.client.0) (MapCommand request.now) reply.now.answer }
     ensures tells_nothing { IsTrue result → reply_told reply.now.answer ≡ None }
 {
     match told {
         Reply::Contended { node, scx } => {
-            let begun = steps.memory(client.pass).begun;
-            steps.was_in_the_way(client.pass, (*node, *scx), begun)
+            steps.has_lost_all_tries(client.pass, tries, (*node, *scx))
         }
         Reply::Full(full) => {
             let full = (full.what, full.left);
@@ -197,7 +199,7 @@ fn is_full(
     full: (Resource, u32),
 ) -> bool
     requires { client.now.pass.0 < steps.now.judge.layout.passes }
-    ensures { (lay : Layout) (tries : ℕ) (calls : List CallOf) (lines : List Line) → IsAsked lay tries calls lines (changes places.now) client.now (MapCommand request.now) reply.now → AreRemembered lay calls lines steps.now → IsTrue result → IsRight lay reply.now.client.0 (history lay.mode lines) (start lay.mode lines reply.now.client.0) (linked calls lay.mode lines reply.now.client.0) (MapCommand request.now) (MapAnswer (FullShare record { what = full.0; left = full.1 })) }
+    ensures { (lay : Layout) (tries : ℕ) (calls : List CallOf) (lines : List Line) → IsAsked lay tries calls lines (changes places.now) client.now (MapCommand request.now) reply.now → AreRemembered lay calls lines steps.now → IsTrue result → IsRight lay tries reply.now.client.0 (history lay.mode lines) (start lay.mode lines reply.now.client.0) (linked calls lay.mode lines reply.now.client.0) (MapCommand request.now) (MapAnswer (FullShare record { what = full.0; left = full.1 })) }
 {
     match request {
         Request::Insert { key, value: _ } => {

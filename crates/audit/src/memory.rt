@@ -1,10 +1,11 @@
 //! What is remembered of the steps of a client's call, for its answer.
-ghost use Rattle.std.specs.Prelude.{◌≡◌, ℕ, ◌<◌, true, false, set, Option, Some, None, IfSome, IfNone, slice_get};
+ghost use Rattle.std.specs.Prelude.{◌≡◌, ℕ, ◌+◌, ◌<◌, ◌^◌, true, false, set, Option, Some, None, IfSome, IfNone, IsTrue, slice_get};
 ghost use Rattle.arena.specs.Log.{has};
 ghost use Rattle.audit.specs.declared.memory.Snapshot.{Snapshot as SnapshotOf};
-ghost use Rattle.audit.specs.Remembering.{noted};
+ghost use Rattle.spelling.specs.Tries.{begins_try};
+ghost use Rattle.audit.specs.Remembering.{noted, tried};
 
-use arena::{Kind, NodeNo};
+use arena::{Kind, NodeNo, NodeWord, Row, Word};
 use script::Cell;
 
 /// A snapshot that a client keeps of a cell.
@@ -27,6 +28,51 @@ pub(crate) struct Look {
     pub(crate) last: u64,
 }
 
+/// The tries of a client's call.
+#[derive(Clone, Copy, Debug)]
+pub(crate) struct Tries {
+    /// How many it has begun.
+    pub(crate) many: u64,
+    /// How many steps there were before the newest of them, if it has begun one.
+    pub(crate) before: u64,
+}
+
+impl Tries {
+    /// Those of a call that has begun none.
+    pub(crate) const NONE: Tries = Tries { many: 0, before: 0 };
+
+    /// Whether they are so many, and one at least.
+    pub(crate) fn are(self, many: u32) -> bool
+        ensures { IsTrue result → (0 < self.many) × (self.many ≡ many) }
+    {
+        0 < many && self.many == u64::from(many)
+    }
+
+    /// The same behind a step of the client, the last of so many: with one more, if it begins one.
+    pub(crate) fn behind(self, row: &Row, steps: u64) -> Tries
+        ensures { self.many + 1 < 2 ^ 64 → result ≡ tried (begins_try row.now.pass.0 row.now) steps self }
+    {
+        if begins_try(row) {
+            Tries {
+                many: self.many.saturating_add(1),
+                before: steps.saturating_sub(1),
+            }
+        } else {
+            self
+        }
+    }
+}
+
+/// Whether a step begins a try of its client's call: it loads the root's head.
+fn begins_try(row: &Row) -> bool
+    ensures { result ≡ begins_try row.now.pass.0 row.now }
+{
+    match (row.kind, row.word) {
+        (Kind::LoadSettled, Word::Node(node, NodeWord::Head)) => node.0 == 0,
+        _ => false,
+    }
+}
+
 /// What the steps so far say of a client's call.
 #[derive(Clone, Copy, Debug)]
 pub(crate) struct Memory {
@@ -35,6 +81,8 @@ pub(crate) struct Memory {
     /// How many nodes of its share were left then, and how many SCX-records.
     pub(crate) nodes: u32,
     pub(crate) scx: u32,
+    /// The tries that it has begun.
+    pub(crate) tries: Tries,
     /// Of each cell of a `vlx`: whether it was as its snapshot says then.
     pub(crate) same: [bool; 4],
     /// Its last load of an info word.
@@ -56,6 +104,7 @@ impl Memory {
             begun: 0,
             nodes: 0,
             scx: 0,
+            tries: Tries::NONE,
             same: [false; 4],
             look: None,
             freeze: None,

@@ -120,8 +120,20 @@ impl<'a> Run<'a> {
         ensures { OnOk result (OwesNothing (layout_of self.now) (calls_of self.now) (lines_of self.now)) }
     {
         hold(self.owed.is_none())?;
-        hold(!self.awaits)?;
+        self.explain(!self.awaits)?;
         Ok(())
+    }
+
+    /// Refuses the next line, of which this does not hold; or, where the next line is to be the reply
+    /// that explains the last one, an idle turn, refuses that.
+    fn explain(&self, fits: bool) -> Result<(), Refused>
+        ensures { OnOk result (fits ≡ true) }
+    {
+        match (fits, self.awaits) {
+            (true, _) => Ok(()),
+            (false, true) => Err(Refused::Unexplained),
+            (false, false) => Err(Refused::NotLawful),
+        }
     }
 
     /// The lines are those of a lawful run, if no other line has to stand behind the last one.
@@ -478,7 +490,7 @@ impl<'a> Run<'a> {
         ensures at { self.new.at ≡ self.old.at }
         ensures record { self.new.record ≡ self.old.record }
     {
-        hold(self.owed == Some(*entry))?;
+        self.explain(self.owed == Some(*entry))?;
         hold(self.fits)?;
         self.change(entry)?;
         self.owed = None;
@@ -517,6 +529,7 @@ impl<'a> Run<'a> {
         ensures record { self.new.record ≡ self.old.record }
     {
         hold(self.owed.is_none())?;
+        self.explain(self.last == Some(reply.client))?;
         let client = self.client(reply.client)?;
         self.check_reply(&client, reply)?;
         hold(client.answered < u64::MAX)?;
@@ -536,16 +549,16 @@ impl<'a> Run<'a> {
         requires owed { entry_owed (layout_of self.now) (lines_of self.now) ≡ None }
         requires client { slice_get self.now.clients.items client.now.pass.0 ≡ Some client.now }
         requires own { client.now.pass ≡ reply.now.client }
+        requires last { self.now.last ≡ Some reply.now.client }
         ensures { OnOk result (IsReply (layout_of self.now) (tries_of self.now) (calls_of self.now) (lines_of self.now) reply.now) }
     {
         let Some(command) = self.next(client) else {
             return Err(Refused::NotLawful);
         };
-        hold(self.last == Some(reply.client))?;
         hold(reply.call == client.answered)?;
         hold(client.begun == Some(reply.begin))?;
         hold(reply.end == self.turn)?;
-        hold(self.may_answer(&command, reply))?;
+        self.explain(self.may_answer(&command, reply))?;
         hold(enters(&command, &reply.answer) == client.won.is_some())?;
         hold(is_within(reply))?;
         self.check_answer(client, &command, reply)?;
@@ -583,7 +596,7 @@ impl<'a> Run<'a> {
         requires fits { IsFitting (lines_of self.now) command.now reply.now.answer }
         requires entry { enters command.now reply.now.answer ≡ is_some client.now.won }
         requires command { next_command (calls_of self.now) (lines_of self.now) client.now.pass.0 ≡ Some command.now }
-        ensures right { OnOk result (IsRight (layout_of self.now) reply.now.client.0 (history (layout_of self.now).mode (lines_of self.now)) (start (layout_of self.now).mode (lines_of self.now) reply.now.client.0) (linked (calls_of self.now) (layout_of self.now).mode (lines_of self.now) reply.now.client.0) command.now reply.now.answer) }
+        ensures right { OnOk result (IsRight (layout_of self.now) (tries_of self.now) reply.now.client.0 (history (layout_of self.now).mode (lines_of self.now)) (start (layout_of self.now).mode (lines_of self.now) reply.now.client.0) (linked (calls_of self.now) (layout_of self.now).mode (lines_of self.now) reply.now.client.0) command.now reply.now.answer) }
         ensures took { OnOk result (HasTakenFew (layout_of self.now) (tries_of self.now) reply.now.client.0 (history (layout_of self.now).mode (lines_of self.now)) (start (layout_of self.now).mode (lines_of self.now) reply.now.client.0) command.now) }
         ensures placed { OnOk result (IsPlaced (layout_of self.now) (calls_of self.now) (lines_of self.now) reply.now command.now) }
     {
@@ -615,10 +628,11 @@ impl<'a> Run<'a> {
         requires fits { IsFitting (lines_of self.now) command.now reply.now.answer }
         requires entry { enters command.now reply.now.answer ≡ is_some client.now.won }
         requires command { next_command (calls_of self.now) (lines_of self.now) client.now.pass.0 ≡ Some command.now }
-        ensures right { OnOk result (IsRight (layout_of self.now) reply.now.client.0 (history (layout_of self.now).mode (lines_of self.now)) (start (layout_of self.now).mode (lines_of self.now) reply.now.client.0) (linked (calls_of self.now) (layout_of self.now).mode (lines_of self.now) reply.now.client.0) command.now reply.now.answer) }
+        ensures right { OnOk result (IsRight (layout_of self.now) (tries_of self.now) reply.now.client.0 (history (layout_of self.now).mode (lines_of self.now)) (start (layout_of self.now).mode (lines_of self.now) reply.now.client.0) (linked (calls_of self.now) (layout_of self.now).mode (lines_of self.now) reply.now.client.0) command.now reply.now.answer) }
         ensures placed { OnOk result (IsPlaced (layout_of self.now) (calls_of self.now) (lines_of self.now) reply.now command.now) }
     {
-        hold(map::is_right(&self.steps, &self.places, client, command, reply))?;
+        let tries = self.record.script.limits.tries;
+        hold(map::is_right(&self.steps, &self.places, client, tries, command, reply))?;
         Ok(())
     }
 
@@ -636,7 +650,7 @@ impl<'a> Run<'a> {
         requires own { client.now.pass ≡ reply.now.client }
         requires begun { client.now.begun ≡ Some reply.now.begin }
         requires command { next_command (calls_of self.now) (lines_of self.now) client.now.pass.0 ≡ Some command.now }
-        ensures right { OnOk result (IsRight (layout_of self.now) reply.now.client.0 (history (layout_of self.now).mode (lines_of self.now)) (start (layout_of self.now).mode (lines_of self.now) reply.now.client.0) (linked (calls_of self.now) (layout_of self.now).mode (lines_of self.now) reply.now.client.0) command.now reply.now.answer) }
+        ensures right { OnOk result (IsRight (layout_of self.now) (tries_of self.now) reply.now.client.0 (history (layout_of self.now).mode (lines_of self.now)) (start (layout_of self.now).mode (lines_of self.now) reply.now.client.0) (linked (calls_of self.now) (layout_of self.now).mode (lines_of self.now) reply.now.client.0) command.now reply.now.answer) }
         ensures placed { OnOk result (IsPlaced (layout_of self.now) (calls_of self.now) (lines_of self.now) reply.now command.now) }
     {
         hold(cells::is_right(&self.steps, client, command, reply))?;

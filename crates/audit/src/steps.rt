@@ -10,9 +10,9 @@ ghost use Rattle.judge.specs.Histories.{history as seen};
 
 use crate::cells::same_cells;
 use crate::client::Client;
-use crate::commands::{most_nodes, most_scx};
+use crate::commands::{most_scx, nodes_each};
 use crate::fault::{Refused, hold};
-use crate::memory::{Look, Memory, Snapshot};
+use crate::memory::{Look, Memory, Snapshot, Tries};
 use arena::{Kind, Layout, Limits, NodeNo, NodeWord, PassNo, Resource, Row, ScxNo, ScxWord, Word};
 use judge::Judge;
 use record::Answer;
@@ -50,6 +50,7 @@ impl Steps {
     ghost use Rattle.record.specs.declared.record.Line.TheVariants.{Step as Turn, Reply as ReplyLine};
     ghost use Rattle.record.specs.declared.record.Row.TheVariants.{Step as Made};
     ghost use Rattle.record.specs.declared.record.Finished.{Finished};
+    ghost use Rattle.record.specs.Answers.{HasLostAllTries};
     ghost use Rattle.record.specs.CommandRules.{HasTakenFew, linked_then};
     ghost use Rattle.record.specs.Commands.{next_command};
     ghost use Rattle.record.specs.Linked.{linked};
@@ -101,7 +102,7 @@ impl Steps {
 
     /// What is remembered of a client whose call begins now.
     fn memory_begun(&self, client: &Client, calls: &[Call]) -> Memory
-        ensures same { IfSome (slice_get self.now.memories.items client.now.pass.0) (λ m. result ≡ record m { begun = result.begun; nodes = result.nodes; scx = result.scx; same = result.same }) }
+        ensures same { IfSome (slice_get self.now.memories.items client.now.pass.0) (λ m. result ≡ record m { begun = result.begun; nodes = result.nodes; scx = result.scx; tries = result.tries; same = result.same }) }
         ensures begun { (lay : Layout) (lines : List Line) → AreRemembered lay calls.now lines self.now → IsClientAfter lay calls.now lines client.now.pass.0 client.now → client.now.begun ≡ None → client.now.pass.0 < length self.now.memories.items → IsBegunWith lay (history lay.mode lines) (start lay.mode lines client.now.pass.0) (linked calls.now lay.mode lines client.now.pass.0) (next_command calls.now lines client.now.pass.0) client.now.pass.0 result }
     {
         let memory = self.memory(client.pass);
@@ -109,6 +110,7 @@ impl Steps {
             begun: self.count,
             nodes: self.nodes_left(client.pass),
             scx: self.scx_left(client.pass),
+            tries: Tries::NONE,
             same: self.same_of(&memory, client.command(calls)),
             ..memory
         }
@@ -216,7 +218,7 @@ impl Steps {
         }
     }
 
-    /// Remembers what a step that was made has found in an info word.
+    /// Remembers what a step that was made has found in an info word, and whether it begins a try.
     fn remember(&mut self, row: &Row)
         ensures same { self.new ≡ record self.old { memories = self.new.memories } }
         ensures many { length self.new.memories.items ≡ length self.old.memories.items }
@@ -226,6 +228,7 @@ impl Steps {
         let look = self.look_by(row);
         if let Some(memory) = self.memories.get_mut(row.pass.0 as usize) {
             memory.note(row.kind, look);
+            memory.tries = memory.tries.behind(row, self.count);
         }
     }
 
@@ -315,8 +318,9 @@ impl Steps {
         ensures { (lay : Layout) (calls : List Call) (lines : List Line) → AreRemembered lay calls lines self.now → pass.0 < lay.passes → IsSome (begin lines pass.0) → IsTrue result → HasTakenFew lay limits.now.tries pass.0 (history lay.mode lines) (start lay.mode lines pass.0) command.now }
     {
         let memory = self.memory(pass);
-        memory.nodes.saturating_sub(self.nodes_left(pass)) <= most_nodes(command, limits)
-            && memory.scx.saturating_sub(self.scx_left(pass)) <= most_scx(command, limits)
+        let taken = memory.scx.saturating_sub(self.scx_left(pass));
+        let nodes = memory.nodes.saturating_sub(self.nodes_left(pass));
+        taken <= most_scx(command, limits) && nodes <= nodes_each(command).saturating_mul(taken)
     }
 
     /// How many steps there were up to the last one after which an SCX-record was in progress.
@@ -364,6 +368,21 @@ impl Steps {
         self.judge.laws_hold();
         let (node, scx) = blamed;
         after < self.last_in_progress(scx) && self.is_others(pass, scx) && self.covers(scx, node)
+    }
+
+    /// Whether the call of a client has lost all its tries: it has begun so many, and in the newest
+    /// another pass's SCX-record, which covers a node, was in progress.
+    pub(crate) fn has_lost_all_tries(
+        &self,
+        pass: PassNo,
+        tries: u32,
+        blamed: (NodeNo, ScxNo),
+    ) -> bool
+        requires { pass.0 < self.now.judge.layout.passes }
+        ensures { (lay : Layout) (calls : List Call) (lines : List Line) → AreRemembered lay calls lines self.now → IsSome (begin lines pass.0) → IsTrue result → HasLostAllTries lay tries pass.0 (history lay.mode lines) (start lay.mode lines pass.0) blamed.0.0 blamed.1.0 }
+    {
+        let of_call = self.memory(pass).tries;
+        of_call.are(tries) && self.was_in_the_way(pass, blamed, of_call.before)
     }
 
     /// Whether some SCX-record of another pass was in progress after a step behind the first so many.

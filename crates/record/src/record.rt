@@ -109,10 +109,10 @@ pub enum Answer {
     /// nothing. `successor`: `Pair`, the pair of the map with the least key above its own, if there
     /// is one, at the reply's moment. `range`: `Pairs`, the first pairs of the map between its
     /// keys, by rising key, at the reply's moment. All but `get`: `Contended`, all its tries were
-    /// lost, and `scx` was in progress over the node `node` of the tree within the call; an edit
-    /// was not made and never will be. `insert`, `delete`: `Full`, so many of the resource are left
-    /// in the client's share, too few for the call. `successor`, `range`: `NoMemory`, an allocation
-    /// was refused.
+    /// lost, and in the last of them `scx` was in progress over the node `node` of the tree; an
+    /// edit was not made and never will be. `insert`, `delete`: `Full`, so many of the resource are
+    /// left in the client's share, too few for the call. `successor`, `range`: `NoMemory`, an
+    /// allocation was refused.
     Map(Reply<u64, u64>),
     /// `scx`, `set`: `left` of the resource are left in the client's share, too few for the call.
     Full { what: Resource, left: u32 },

@@ -9,10 +9,10 @@ use Rattle.audit.proofs.Refusals.{right_contended, right_no_memory}
 use Rattle.audit.proofs.map.is_refused.Goals as goal
 
 pub returns-in-Contended-clause-right : goal.returns-in-Contended-clause-right
-returns-in-Contended-clause-right c lay tries calls lines x kept it = right_contended lay tries calls lines (changes c.args.places.now) c.args.client.now (MapCommand c.args.request.now) c.args.reply.now x c.args.steps.now c.memory-begun.result c.in-Contended.node c.in-Contended.scx kept c.requires.pass c.memory-begun.ensures (c.requires.answer ∙ ap MapAnswer c.in-Contended.is) (c.was_in_the_way.ensures.others it) (λ at. c.was_in_the_way.ensures.way lay (history lay.mode lines) (start lay.mode lines c.args.client.now.pass.0) kept.steps at it)
+returns-in-Contended-clause-right c lay calls lines x kept it = right_contended lay c.args.tries calls lines (changes c.args.places.now) c.args.client.now (MapCommand c.args.request.now) c.args.reply.now x c.in-Contended.node c.in-Contended.scx (c.requires.answer ∙ ap MapAnswer c.in-Contended.is) (λ some. c.has_lost_all_tries.ensures lay calls lines kept some it)
 
 pub returns-in-Full-clause-right : goal.returns-in-Full-clause-right
-returns-in-Full-clause-right c lay tries calls lines x kept it = subst (IsRight lay c.args.reply.now.client.0 (history lay.mode lines) (start lay.mode lines c.args.reply.now.client.0) (linked calls lay.mode lines c.args.reply.now.client.0) (MapCommand c.args.request.now)) (sym (c.requires.answer ∙ ap MapAnswer c.in-Full.is)) (c.is_full.ensures lay tries calls lines x kept it)
+returns-in-Full-clause-right c lay calls lines x kept it = subst (IsRight lay c.args.tries c.args.reply.now.client.0 (history lay.mode lines) (start lay.mode lines c.args.reply.now.client.0) (linked calls lay.mode lines c.args.reply.now.client.0) (MapCommand c.args.request.now)) (sym (c.requires.answer ∙ ap MapAnswer c.in-Full.is)) (c.is_full.ensures lay c.args.tries calls lines x kept it)
 
 pub returns-in-NoMemory-clause-right : goal.returns-in-NoMemory-clause-right
-returns-in-NoMemory-clause-right c lay tries calls lines x kept it = right_no_memory lay tries calls lines (changes c.args.places.now) c.args.client.now (MapCommand c.args.request.now) c.args.reply.now x (c.requires.answer ∙ ap MapAnswer c.in-NoMemory.is)
+returns-in-NoMemory-clause-right c lay calls lines x kept it = right_no_memory lay c.args.tries calls lines (changes c.args.places.now) c.args.client.now (MapCommand c.args.request.now) c.args.reply.now x (c.requires.answer ∙ ap MapAnswer c.in-NoMemory.is)

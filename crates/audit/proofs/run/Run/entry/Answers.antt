@@ -13,13 +13,13 @@ use Rattle.audit.proofs.run.Run.entry.Goals as goal
 pub returns-clause-after : goal.returns-clause-after
 returns-clause-after c =
     let owed : c.args.self.now.owed ≡ Some c.args.entry.now = search rules in
-    subst (λ (r : Run). IsSoFar (layout_of r) (tries_of r) (calls_of r) r.steps.judge r.clients.items r.turn c.args.entry.now.place r.last None false false false (Log c.args.entry.now ∷ lines_of c.args.self.now)) (sym c.in_ok-change.ensures.rest) (after_log _ _ _ _ _ _ _ _ _ _ _ _ _ c.requires.after c.args.entry.now false owed c.in_ok-hold-2.ensures)
+    subst (λ (r : Run). IsSoFar (layout_of r) (tries_of r) (calls_of r) r.steps.judge r.clients.items r.turn c.args.entry.now.place r.last None false false false (Log c.args.entry.now ∷ lines_of c.args.self.now)) (sym c.in_ok-change.ensures.rest) (after_log _ _ _ _ _ _ _ _ _ _ _ _ _ c.requires.after c.args.entry.now false owed c.in_ok-hold.ensures)
 
 pub returns-clause-map : goal.returns-clause-map
 returns-clause-map c =
     let run = c.args.self.now in
     let owed : run.owed ≡ Some c.args.entry.now = search rules in
-    let order = (after_log _ _ _ _ _ _ _ _ _ _ _ _ _ c.requires.after c.args.entry.now false owed c.in_ok-hold-2.ensures).in_order in
+    let order = (after_log _ _ _ _ _ _ _ _ _ _ _ _ _ c.requires.after c.args.entry.now false owed c.in_ok-hold.ensures).in_order in
     let kept = map_log _ _ _ run.record.now.script.of_mode _ _ _ c.requires.map c.change.new.self.places c.args.entry.now order c.in_ok-change.ensures.keys c.in_ok-change.ensures.change in
     subst (λ (r : Run). IsMapSoFar (layout_of r) (calls_of r) r.edits.items c.change.new.self.places (Log c.args.entry.now ∷ lines_of run)) (sym c.in_ok-change.ensures.rest) kept
 

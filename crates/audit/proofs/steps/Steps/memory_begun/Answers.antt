@@ -20,4 +20,4 @@ returns-clause-begun c lay lines x client unbegun within =
     subst (λ (l : Layout). AreSnapshotsOf l (seen c.args.self.now.judge) c.memory-memory.result kept) (sym x.steps.layout)
     (subst (λ (h : History). AreSnapshotsOf lay h c.memory-memory.result kept) (sym x.steps.is_seen)
     (subst (λ (m : Memory). AreSnapshotsOf lay (history lay.mode lines) m kept) (sym same) (x.memories c.args.client.now.pass.0 there.0 there.1).snapshots)) in
-    begun_with lay c.args.calls.now lines c.args.client.now.pass.0 c.args.self.now _ x.steps (sym client.begun ∙ unbegun) refl (c.nodes_left.ensures inside) (c.scx_left.ensures inside) (λ cells e. c.same_of.ensures cells kept (c.command.ensures ∙ sym (next_is lay c.args.calls.now lines c.args.client.now client) ∙ e) snapshots)
+    begun_with lay c.args.calls.now lines c.args.client.now.pass.0 c.args.self.now _ x.steps (sym client.begun ∙ unbegun) refl (c.nodes_left.ensures inside) (c.scx_left.ensures inside) refl (λ cells e. c.same_of.ensures cells kept (c.command.ensures ∙ sym (next_is lay c.args.calls.now lines c.args.client.now client) ∙ e) snapshots)
