@@ -15,7 +15,7 @@ use std::alloc::Global;
 pub type Numbers = Dict<u64, u64>;
 
 /// How many pairs a range tells at most.
-const MOST_PAIRS: u32 = 64;
+const MOST_PAIRS: usize = 64;
 
 /// All rounds of a thread.
 pub fn rounds(

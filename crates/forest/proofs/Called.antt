@@ -1,4 +1,4 @@
--- The rows of a call carry its number.
+-- What holds of each own row of a call, as that it carries the number of the call.
 use Rattle.std.proofs.Common.{◌≡◌, ℕ, zero, suc, ◌≤◌, inl, inr, List, [], ◌∷◌, ◌++◌, refl, sym, subst, arith}
 use Rattle.arena.specs.declared.layout.Layout.{Layout}
 use Rattle.arena.specs.declared.step.Row.{Row}
@@ -9,7 +9,7 @@ use Rattle.arena.specs.Machines.{Call}
 use Rattle.arena.proofs.Lemmas.{ends_trans}
 use Rattle.forest.specs.TableRule.{history_of, ByOthers}
 use Rattle.forest.specs.Traces.{Trace, begins, others, makes, goes_on}
-use Rattle.forest.specs.Passes.{AreOfCall}
+use Rattle.forest.specs.Passes.{AreOfCall, HoldsOfOwn}
 
 -- no history ends with a longer one
 rows_in : History → ℕ
@@ -26,22 +26,22 @@ no_longer : (h : History) (r : Row) → ¬ Extends h (r ⊳ h)
 unfolding rows_in
 no_longer h r e = let z = shorter h (r ⊳ h) e in omega arith
 
-module _ (c number : ℕ) (start : History) where
-  pub calls_start : AreOfCall c number start start
-  calls_start r before e since own = absurd (no_longer before r (ends_trans before start (r ⊳ before) since e))
+module _ (P : Row → Type 0) (c : ℕ) (start : History) where
+  pub own_start : HoldsOfOwn P c start start
+  own_start r before e since own = absurd (no_longer before r (ends_trans before start (r ⊳ before) since e))
 
-  -- a row of the call, or of another pass
-  pub calls_more : (h : History) (r : Row) → (r.pass.0 ≡ c → r.call ≡ number) → AreOfCall c number start h → AreOfCall c number start (r ⊳ h)
-  calls_more h r is x q before (inl e) since own = let same : q ≡ r = cc in rw same (is (rw same at own))
-  calls_more h r is x q before (inr e) since own = x q before e since own
+  -- a row of the pass, of which it holds, or of another pass
+  pub own_more : (h : History) (r : Row) → (r.pass.0 ≡ c → P r) → HoldsOfOwn P c start h → HoldsOfOwn P c start (r ⊳ h)
+  own_more h r is x q before (inl e) since own = let same : q ≡ r = cc in rw same (is (rw same at own))
+  own_more h r is x q before (inr e) since own = x q before e since own
 
-  pub calls_others : (mode : Mode) (rows known : List Row) → ByOthers c rows → AreOfCall c number start (history_of mode known) → AreOfCall c number start (history_of mode (rows ++ known))
-  calls_others mode [] known by x = x
-  calls_others mode (r ∷ rs) known by x = calls_more (history_of mode (rs ++ known)) r (λ e. absurd (by.0 e)) (calls_others mode rs known by.1 x)
+  pub own_others : (mode : Mode) (rows known : List Row) → ByOthers c rows → HoldsOfOwn P c start (history_of mode known) → HoldsOfOwn P c start (history_of mode (rows ++ known))
+  own_others mode [] known by x = x
+  own_others mode (r ∷ rs) known by x = own_more (history_of mode (rs ++ known)) r (λ e. absurd (by.0 e)) (own_others mode rs known by.1 x)
 
 -- what a call has come by
 pub course_calls : {M : Type 0} {allows : Layout → History → ℕ → Type 0} {waits : M → Call → History → Step → Type 0} {same : M → M → Type 0} (c : Call) {first : M} (m : M) (h : History) → Trace allows waits same c first m h → AreOfCall c.pass c.number c.start h
-course_calls c m h (begins e k) = subst (AreOfCall c.pass c.number c.start) (sym k) (calls_start c.pass c.number c.start)
-course_calls c m h (others s r g e w other run x) = subst (AreOfCall c.pass c.number c.start) (sym e) (calls_more c.pass c.number c.start g r (λ own. absurd (other own)) (course_calls c m g x))
-course_calls c m h (makes s g e w run x) = subst (AreOfCall c.pass c.number c.start) (sym e) (calls_more c.pass c.number c.start g _ (λ own. refl) (course_calls c m g x))
+course_calls c m h (begins e k) = subst (AreOfCall c.pass c.number c.start) (sym k) (own_start (λ r. r.call ≡ c.number) c.pass c.start)
+course_calls c m h (others s r g e w other run x) = subst (AreOfCall c.pass c.number c.start) (sym e) (own_more (λ r. r.call ≡ c.number) c.pass c.start g r (λ own. absurd (other own)) (course_calls c m g x))
+course_calls c m h (makes s g e w run x) = subst (AreOfCall c.pass c.number c.start) (sym e) (own_more (λ r. r.call ≡ c.number) c.pass c.start g _ (λ own. refl) (course_calls c m g x))
 course_calls c m h (goes_on old is x) = course_calls c old h x

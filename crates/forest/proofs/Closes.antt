@@ -26,16 +26,16 @@ use Rattle.forest.specs.TableRule.{history_of, seated_pass, look, after_look, Ma
 use Rattle.forest.specs.Traces.{known_of, rows_of}
 use Rattle.prims.specs.Shares.{IsShare}
 use Rattle.forest.specs.Shares.{entries_of}
-use Rattle.forest.specs.Passes.{PassView, IsOn, AreOfCall, AreBegun, HasBlamed, HaveLeftShares, IsClosed, run_of, done_of, steps_of}
+use Rattle.forest.specs.Passes.{PassView, IsOn, HoldsOfOwn, IsLook, AreBegun, HasBlamed, HaveLeftShares, IsClosed, run_of, done_of, steps_of}
 use Rattle.forest.specs.JoinedSeats.{IsFrom, IsOneOf, AreIn}
 use Rattle.forest.specs.PassInvariant.{pass_view, IsPass}
-use Rattle.forest.proofs.Called.{calls_others}
+use Rattle.forest.proofs.Called.{own_others}
 use Rattle.forest.proofs.Advances.{keeps_all, rows_by_others, same_knower}
 use Rattle.prims.proofs.Lemmas.{next_unwon}
 use Rattle.forest.proofs.Calls.{IsQuiet, quiet_start, quiet_other}
 use Rattle.forest.proofs.Blames.{blames_left}
 use Rattle.forest.proofs.Passes.{HasCalled, seated, called_pass, called_nothing}
-use Rattle.forest.proofs.Meets.{look_called, look_steps}
+use Rattle.forest.proofs.Meets.{look_called, look_looks, look_steps}
 
 -- the element of a list, by either way to read it
 pub index_is : (l : List ℕ) (i a : ℕ) → get_elem? l i ≡ some a → slice_index l i ≡ a
@@ -58,7 +58,7 @@ looked_from {allows} {mode} p x s n bare m = (
     ends = y.goes.since;
     done = (called_nothing p s 0 _ y).done;
     steps = look_steps p s (m.others ++ known_of p.seat.me.0.passes) has_looked.behind are;
-    calls = y.calls;
+    looks = look_looks p s (m.others ++ known_of p.seat.me.0.passes) has_looked.behind are;
     blamed = x.blamed;
   },
 )
@@ -112,7 +112,7 @@ record IsAtEnd (lay : Layout) (rows : List Row) (d : PassView) : Type 0 where
   ends : Extends (history_of d.layout.mode rows) (run_of d)
   done : entries_of d.number (log d.layout (history_of d.layout.mode rows)) ≡ done_of d
   steps : rows_of d.number rows ≡ suc (steps_of d)
-  calls : AreOfCall d.number 0 (run_of d) (history_of d.layout.mode rows)
+  looks : HoldsOfOwn IsLook d.number (run_of d) (history_of d.layout.mode rows)
   same : d.layout ≡ lay
   share : IsShare lay (history_of lay.mode rows) d.number d.share d.share.next_node d.share.next_scx
   blamed : HasBlamed d
@@ -129,7 +129,7 @@ one_ended {allows} d k lay run same f sound b =
       ends = ends_trans _ _ _ goes.since f.ends;
       done = none ∙ f.done;
       steps = rows_by_others d.number b.0 k.known (rw mine at b.2) ∙ f.steps;
-      calls = calls_others d.number 0 (run_of d) d.layout.mode b.0 k.known (rw mine at b.2) f.calls;
+      looks = own_others IsLook d.number (run_of d) d.layout.mode b.0 k.known (rw mine at b.2) f.looks;
       same = refl;
       share = goes.share;
       blamed = f.blamed;
@@ -144,7 +144,7 @@ all_ended id lay run owner seat ks sound o (d ∷ ds) of a =
 
 all_begun : (lay : Layout) (run : List Row) (ds : List PassView) → All (IsAtEnd lay run) ds → AreBegun ds run
 all_begun lay run [] a = tt
-all_begun lay run (d ∷ ds) a = let b = All-head (IsAtEnd lay run) d ds a in (b.ends, b.done, b.steps, b.calls, all_begun lay run ds (All-tail (IsAtEnd lay run) d ds a))
+all_begun lay run (d ∷ ds) a = let b = All-head (IsAtEnd lay run) d ds a in (b.ends, b.done, b.steps, b.looks, all_begun lay run ds (All-tail (IsAtEnd lay run) d ds a))
 
 -- what they have blamed is taken, and their shares are not
 all_left : (lay : Layout) (rows : List Row) (ds : List PassView) → Lawful lay (history_of lay.mode rows) → All (IsAtEnd lay rows) ds → HaveLeftShares ds
@@ -164,6 +164,7 @@ closes {allows} id lay ds seat v words slots of a f =
     let holds : (w : Word) → IsWord lay w → slice_index words (place lay w) ≡ value (history_of lay.mode kept.run) w = λ w i. rw (← f.2) (kept.holds w i) in
     let all : All (IsAtEnd lay kept.run) ds = all_ended id lay kept.run kept.owner seat v.passes kept.sound (kept.passes seat v f.1.1) ds of a in
     record {
+      layout = refl;
       rows = kept.run;
       sound = kept.sound;
       holds = holds;

@@ -16,12 +16,12 @@ use Rattle.forest.specs.declared.view.SeatView.{SeatView}
 use Rattle.forest.specs.declared.pass.Pass.TheInside.{Inside}
 use Rattle.forest.specs.TableRule.{history_of, seated_pass, row, look, Looked, HasLookedBehind, Met, after_look, Behind}
 use Rattle.forest.specs.Traces.{known_of, rows_of}
-use Rattle.forest.specs.Passes.{PassView, AreOfCall, HasLookedOnce, HaveLeftShares, IsLaterView, run_of, steps_of}
+use Rattle.forest.specs.Passes.{PassView, HoldsOfOwn, IsLook, HasLookedOnce, HaveLeftShares, IsLaterView, run_of, steps_of}
 use Rattle.forest.specs.PassInvariant.{pass_view, IsPass}
 use Rattle.forest.proofs.Advances.{keeps_all, rows_by_others, same_knower}
 use Rattle.forest.proofs.Calls.{IsQuiet, quiet_start, quiet_other, quiet_step}
 use Rattle.forest.proofs.Blames.{blames_left}
-use Rattle.forest.proofs.Called.{calls_start, calls_more, calls_others}
+use Rattle.forest.proofs.Called.{own_start, own_more, own_others}
 use Rattle.forest.proofs.Passes.{HasCalled, seated, called_pass, called_nothing, can_use_later}
 
 -- Two looks
@@ -51,6 +51,24 @@ ends_more mode (r ∷ rs) known = inr (ends_more mode rs known)
 pub behind_ends : (run : List Row) (p : SeatedPass) → Behind run p → Extends (history_of p.layout.mode run) (history_of p.layout.mode p.known)
 behind_ends run p b = subst (λ rows. Extends (history_of p.layout.mode rows) (history_of p.layout.mode p.known)) (sym b.1) (ends_more p.layout.mode b.0 p.known)
 
+-- a pass that has looked at the table behind this run
+module _ {T : Type 0} (p : Inside T) (s : Seat ℕ SeatView) (run : List Row) (behind : Behind run (seated_pass p.number.0 p.layout (known_of p.seat.me.0.passes))) (are : s.me.0.passes ≡ after_look (seated_pass p.number.0 p.layout (known_of p.seat.me.0.passes)) run ∷ []) where
+  -- what holds of the look holds of each row of the pass behind what it knew
+  look_own : (P : Row → Type 0) → P (row p.number.0 look (history_of p.layout.mode run)) → HoldsOfOwn P p.number.0 (run_of (pass_view p)) (run_of (pass_view (seated p s)))
+  look_own P holds =
+      let mode = p.layout.mode in
+      let start = run_of (pass_view p) in
+      let quiet = own_others P p.number.0 start mode behind.0 (known_of p.seat.me.0.passes) behind.2 (own_start P p.number.0 start) in
+      subst (λ l. HoldsOfOwn P p.number.0 start (history_of mode (known_of l))) (sym are)
+      (own_more P p.number.0 start (history_of mode run) (row p.number.0 look (history_of mode run)) (λ own. holds) (subst (λ l. HoldsOfOwn P p.number.0 start (history_of mode l)) (sym behind.1) quiet))
+
+  pub look_looks : HoldsOfOwn IsLook p.number.0 (run_of (pass_view p)) (run_of (pass_view (seated p s)))
+  look_looks = look_own IsLook (refl, refl, refl)
+
+  -- the pass has made one step more
+  pub look_steps : steps_of (pass_view (seated p s)) ≡ suc (steps_of (pass_view p))
+  look_steps = ap (λ l. rows_of p.number.0 (known_of l)) are ∙ rw (eq-eqb p.number.0 p.number.0 refl) (ap suc (ap (rows_of p.number.0) behind.1 ∙ rows_by_others p.number.0 behind.0 _ behind.2))
+
 -- a pass that has looked knows what it knew, and its look
 pub look_called : {allows : Layout → History → ℕ → Type 0} {mode : Mode} {T : Type 0} (p : Inside T) (x : IsPass allows mode p) (s : Seat ℕ SeatView) (run : List Row) → HasLookedBehind allows (seated_pass p.number.0 p.layout (known_of p.seat.me.0.passes)) run → s.me.0.passes ≡ after_look (seated_pass p.number.0 p.layout (known_of p.seat.me.0.passes)) run ∷ [] → HasCalled allows p s 0 (λ h. Extends h (history_of p.layout.mode run))
 look_called {allows} p x s run y e =
@@ -65,16 +83,12 @@ look_called {allows} p x s run y e =
       seat = rw known at e;
       answers = subst (λ l. Extends (history_of mode l) (history_of mode run)) known (inr (ends_self (history_of mode run)));
       goes = subst (λ l. IsQuiet allows p.layout p.number.0 start p.share (history_of mode l)) known (quiet_step allows p.layout p.number.0 start p.share (history_of mode run) r y.after (λ k. cc) (subst (λ l. IsQuiet allows p.layout p.number.0 start p.share (history_of mode l)) (sym y.behind.1) quiet));
-      calls = subst (λ l. AreOfCall p.number.0 0 start (history_of mode l)) known (calls_more p.number.0 0 start (history_of mode run) r (λ own. refl) (subst (λ l. AreOfCall p.number.0 0 start (history_of mode l)) (sym y.behind.1) (calls_others p.number.0 0 start mode rows (known_of p.seat.me.0.passes) y.behind.2 (calls_start p.number.0 0 start))));
+      calls = look_own p s run y.behind e (λ r. r.call ≡ 0) refl;
     }
 
--- and has made one step more
-pub look_steps : {T : Type 0} (p : Inside T) (s : Seat ℕ SeatView) (run : List Row) → Behind run (seated_pass p.number.0 p.layout (known_of p.seat.me.0.passes)) → s.me.0.passes ≡ after_look (seated_pass p.number.0 p.layout (known_of p.seat.me.0.passes)) run ∷ [] → steps_of (pass_view (seated p s)) ≡ suc (steps_of (pass_view p))
-look_steps p s run b e = ap (λ l. rows_of p.number.0 (known_of l)) e ∙ rw (eq-eqb p.number.0 p.number.0 refl) (ap suc (ap (rows_of p.number.0) b.1 ∙ rows_by_others p.number.0 b.0 _ b.2))
-
 -- so it has looked once
-pub looked_once : {allows : Layout → History → ℕ → Type 0} {mode : Mode} {T : Type 0} (p : Inside T) (x : IsPass allows mode p) (s : Seat ℕ SeatView) (A : History → Type 0) → s.table_id ≡ p.seat.table_id → s.me.1 ≡ p.seat.me.1 → HasCalled allows p s 0 A → steps_of (pass_view (seated p s)) ≡ suc (steps_of (pass_view p)) → HasLookedOnce allows (pass_view p) (pass_view (seated p s))
-looked_once p x s A table bare y one = record {
+pub looked_once : {allows : Layout → History → ℕ → Type 0} {mode : Mode} {T : Type 0} (p : Inside T) (x : IsPass allows mode p) (s : Seat ℕ SeatView) (A : History → Type 0) → s.table_id ≡ p.seat.table_id → s.me.1 ≡ p.seat.me.1 → HasCalled allows p s 0 A → steps_of (pass_view (seated p s)) ≡ suc (steps_of (pass_view p)) → HoldsOfOwn IsLook p.number.0 (run_of (pass_view p)) (run_of (pass_view (seated p s))) → HasLookedOnce allows (pass_view p) (pass_view (seated p s))
+looked_once p x s A table bare y one looks = record {
   goes_on = record {
     later = later;
     lawful = y.goes.sound;
@@ -86,6 +100,7 @@ looked_once p x s A table bare y one = record {
   };
   takes_nothing = called_nothing p s 0 A y;
   one_step = one;
+  looks = looks;
 }
   where
     later : IsLaterView (pass_view p) (pass_view (seated p s))
@@ -103,6 +118,8 @@ pub record HaveMet (allows : Layout → History → ℕ → Type 0) {T : Type 0}
   pub knew : Extends (history_of q.layout.mode early) (run_of (pass_view p))
   pub one_step : steps_of (pass_view (seated p s)) ≡ suc (steps_of (pass_view p))
   pub other_step : steps_of (pass_view (seated q t)) ≡ suc (steps_of (pass_view q))
+  pub one_looks : HoldsOfOwn IsLook p.number.0 (run_of (pass_view p)) (run_of (pass_view (seated p s)))
+  pub other_looks : HoldsOfOwn IsLook q.number.0 (run_of (pass_view q)) (run_of (pass_view (seated q t)))
 
 pub have_met : {allows : Layout → History → ℕ → Type 0} {mode : Mode} {T : Type 0} (p q : Inside T) (x : IsPass allows mode p) (y : IsPass allows mode q) (s t : Seat ℕ SeatView) → Met allows p.seat.me.0.passes q.seat.me.0.passes s.me.0.passes t.me.0.passes → HaveMet allows p q s t
 have_met {allows} p q x y s t m = record {
@@ -115,6 +132,8 @@ have_met {allows} p q x y s t m = record {
   knew = subst (λ (l : Layout). Extends (history_of l.mode m.early) (run_of (pass_view p))) same (behind_ends m.early the_one (subst (λ (k : SeatedPass). Behind m.early k) one m.knew_one));
   one_step = look_steps p s m.late one_looked.behind one_is;
   other_step = look_steps q t m.early other_looked.behind other_is;
+  one_looks = look_looks p s m.late one_looked.behind one_is;
+  other_looks = look_looks q t m.early other_looked.behind other_is;
 }
   where
     the_one : SeatedPass

@@ -23,7 +23,7 @@ use Rattle.forest.specs.PassInvariant.{pass_view, IsPass}
 use Rattle.prims.proofs.Lemmas.{whole_untouched, none_taken, next_unwon, usable_since}
 use Rattle.forest.proofs.Frames.{CarriesOn}
 use Rattle.forest.proofs.Calls.{quiet_goes}
-use Rattle.forest.proofs.Called.{calls_start, course_calls}
+use Rattle.forest.proofs.Called.{own_start, course_calls}
 use Rattle.forest.proofs.Blames.{blamed_later}
 
 -- a pass with its whole share is at rest at the start
@@ -86,7 +86,7 @@ pub goes_nowhere : {allows : Layout → History → ℕ → Type 0} {mode : Mode
 goes_nowhere p x number most = record {
   later = record { table = refl; layout = refl; number = refl; run = ends_self (run_of (pass_view p)) };
   lawful = x.sound;
-  calls = calls_start p.number.0 number (run_of (pass_view p));
+  calls = own_start (λ r. r.call ≡ number) p.number.0 (run_of (pass_view p));
   steps = omega arith;
   blamed_these = refl;
   blames = x.blamed;

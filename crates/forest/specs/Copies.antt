@@ -2,9 +2,6 @@
 use Rattle.std.specs.Prelude.{◌≡◌, ℕ, ◌<◌}
 use Rattle.arena.specs.declared.word.NodeWord.{NodeWord}
 use Rattle.arena.specs.declared.word.NodeWord.TheVariants.{Info, Marked}
-use Rattle.arena.specs.declared.word.Word.{Word}
-use Rattle.arena.specs.History.{History, value}
-use Rattle.arena.specs.Layout.{IsWord}
 use Rattle.arena.specs.PlainWords.{Contents, word_at}
 use Rattle.arena.specs.Words.{node}
 
@@ -17,7 +14,3 @@ IsMapWord _ = Unit {0}
 -- these words of the first k nodes are copied
 abbrev pub AreCopied : Contents → Contents → ℕ → Type 0
 AreCopied from to k = (n : ℕ) (part : NodeWord) → n < k → IsMapWord part → word_at to (node n part) ≡ word_at from (node n part)
-
--- the words are those that the history has left
-abbrev pub HoldsWordsOf : Contents → History → Type 0
-HoldsWordsOf c h = (w : Word) → IsWord c.layout w → word_at c w ≡ value h w

@@ -100,9 +100,9 @@ pub record IsContendedCall (old new : PassView) (n s : ℕ) : Type 0 where
   pub done : done_of new ≡ done_of old
 
 -- The share has too little left for the next try: at a moment from the call's first own row on the
--- call needed some nodes, of which there are not enough, or no SCX-record is left. The call has taken
--- nothing of the share, or a try was lost to another pass, which was in the way. The pass has no
--- entry more.
+-- call needed some nodes, of which there are not enough, or no SCX-record is left. The call has
+-- taken nothing of the share, or a try was lost to another pass, which was in the way. The pass has
+-- no entry more.
 pub record IsFullCall (old new : PassView) (call : MapCall) (full : FullOf) : Type 0 where
   pub moment : History
   pub within : Extends (run_of new) moment

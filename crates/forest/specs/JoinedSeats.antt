@@ -8,10 +8,9 @@ use Rattle.forest.specs.declared.view.SeatedPass.{SeatedPass}
 use Rattle.forest.specs.TableRule.{history_of, seated_pass}
 use Rattle.forest.specs.Traces.{rows_of}
 use Rattle.forest.specs.Shares.{IsBetweenCalls, entries_of}
-use Rattle.forest.specs.Passes.{PassView, AreOfCall, HasBlamed, run_of, done_of, steps_of}
+use Rattle.forest.specs.Passes.{PassView, HoldsOfOwn, IsLook, HasBlamed, run_of, done_of, steps_of}
 
--- the pass p, one step later, which is of no call (its number is 0):
--- it has no entry more, and is between two calls
+-- the pass p, one look at the table later: it has no entry more, and is between two calls
 pub record IsFrom (allows : Layout → History → ℕ → Type 0) (p : PassView) (k : SeatedPass) : Type 0 where
   pub is : k ≡ seated_pass p.number p.layout k.known
   pub is_pass : p.number < p.layout.passes
@@ -20,7 +19,7 @@ pub record IsFrom (allows : Layout → History → ℕ → Type 0) (p : PassView
   pub ends : Extends (history_of p.layout.mode k.known) (run_of p)
   pub done : entries_of p.number (log p.layout (history_of p.layout.mode k.known)) ≡ done_of p
   pub steps : rows_of p.number k.known ≡ suc (steps_of p)
-  pub calls : AreOfCall p.number 0 (run_of p) (history_of p.layout.mode k.known)
+  pub looks : HoldsOfOwn IsLook p.number (run_of p) (history_of p.layout.mode k.known)
   pub blamed : HasBlamed p
 
 -- this pass is one of the list

@@ -4,11 +4,11 @@ use Rattle.std.specs.List.{All, AllPairs, Contains, count_by}
 use Rattle.atomic_table.specs.Seated.{TableId}
 use Rattle.arena.specs.declared.layout.Layout.{Layout}
 use Rattle.arena.specs.declared.step.Row.{Row}
-use Rattle.arena.specs.declared.step.Kind.TheVariants.{Freeze, LoadInfo}
+use Rattle.arena.specs.declared.step.Kind.TheVariants.{Freeze, LoadInfo, LoadSettled}
 use Rattle.arena.specs.Share.{Remaining, whole_share, HasScx, IsFull}
 use Rattle.arena.specs.declared.number.NodeNo.{NodeNo}
 use Rattle.arena.specs.declared.word.Side.{Side}
-use Rattle.arena.specs.declared.word.NodeWord.TheVariants.{Value}
+use Rattle.arena.specs.declared.word.NodeWord.TheVariants.{Head, Value}
 use Rattle.arena.specs.declared.word.Word.{Word}
 use Rattle.arena.specs.Layout.{all_nodes, IsWord}
 use Rattle.arena.specs.Machines.{IsRun}
@@ -97,9 +97,17 @@ pub record IsLaterView (old new : PassView) : Type 0 where
 abbrev pub taken_of : PassView → ℕ
 taken_of p = p.layout.scx - p.share.scx
 
+-- behind the start, P holds of each row of pass c
+abbrev pub HoldsOfOwn : (Row → Type 0) → ℕ → History → History → Type 0
+HoldsOfOwn P c start h = (r : Row) (before : History) → Extends h (r ⊳ before) → Extends before start → r.pass.0 ≡ c → P r
+
 -- behind the start, each row of pass c is of its call of this number
 abbrev pub AreOfCall : ℕ → ℕ → History → History → Type 0
-AreOfCall c number start h = (r : Row) (before : History) → Extends h (r ⊳ before) → Extends before start → r.pass.0 ≡ c → r.call ≡ number
+AreOfCall c number = HoldsOfOwn (λ r. r.call ≡ number) c
+
+-- the row is a look at the table: it loads the head of node 0, and is of no call (its number is 0)
+abbrev pub IsLook : Row → Type 0
+IsLook r = (r.call ≡ 0) × (r.kind ≡ LoadSettled) × (r.word ≡ node_word 0 Head)
 
 -- the pass may use the snapshot: it has a moment, and what it says of its node
 -- holds as long as the node's info is what it found
@@ -269,12 +277,12 @@ ScxSays old new snaps finalize field v (Lost node s) = HasChanged new.layout new
 
 -- Passes that come together
 
--- by one step, which is of no call (its number is 0),
--- the pass has learned more; it has blamed nobody
+-- by one look at the table the pass has learned more; it has blamed nobody
 pub record HasLookedOnce (allows : Layout → History → ℕ → Type 0) (old new : PassView) : Type 0 where
   pub goes_on : HasGoneOn allows old new 0 1 old.blamed
   pub takes_nothing : HasTakenNothing old new
   pub one_step : steps_of new ≡ suc (steps_of old)
+  pub looks : HoldsOfOwn IsLook new.number (run_of old) (run_of new)
 
 -- no share of these passes still holds an SCX-record that one of them has blamed
 abbrev pub HaveLeftShares : List PassView → Type 0
@@ -301,14 +309,16 @@ HasPass passes n = Contains (map (λ (p : PassView). p.number) passes) n
 abbrev pub AreAllBack : Layout → List PassView → Type 0
 AreAllBack lay passes = (n : ℕ) → n < lay.passes → HasPass passes n
 
--- these rows go on from what each pass knew, by one row of its own, which is of no call (its number
--- is 0); its entries in them are those of its done list
+-- these rows go on from what each pass knew, by one row of its own, which is a look at the table;
+-- its entries in them are those of its done list
 abbrev pub AreBegun : List PassView → List Row → Type 0
 AreBegun [] rows = Unit {0}
-AreBegun (p ∷ ps) rows = Extends (history_of p.layout.mode rows) (run_of p) × (entries_of p.number (log p.layout (history_of p.layout.mode rows)) ≡ done_of p) × (rows_of p.number rows ≡ suc (steps_of p)) × AreOfCall p.number 0 (run_of p) (history_of p.layout.mode rows) × AreBegun ps rows
+AreBegun (p ∷ ps) rows = Extends (history_of p.layout.mode rows) (run_of p) × (entries_of p.number (log p.layout (history_of p.layout.mode rows)) ≡ done_of p) × (rows_of p.number rows ≡ suc (steps_of p)) × HoldsOfOwn IsLook p.number (run_of p) (history_of p.layout.mode rows) × AreBegun ps rows
 
--- the forest has ended: its words are those of one run, which goes on from what these passes knew
+-- The forest of this layout has ended: its words are those of one run, which goes on from what
+-- these passes knew.
 pub record IsClosed (allows : Layout → History → ℕ → Type 0) (lay : Layout) (passes : List PassView) (words : Contents) : Type 0 where
+  pub layout : words.layout ≡ lay
   pub rows : List Row
   pub sound : IsRun allows lay (history_of lay.mode rows)
   pub holds : (w : Word) → IsWord lay w → word_at words w ≡ value (history_of lay.mode rows) w

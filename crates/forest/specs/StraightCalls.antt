@@ -66,8 +66,8 @@ module _ {K V : Type 0} (valid_key : K → Type 0) (key : K → ℕ) (valid_valu
     abbrev pub SeatDictEnds : DictRun K V → Reply K V → Type 0
     SeatDictEnds = Ends DictAllows DictCallWaits IsSameDictCall c ps first (DictAnswers valid_key key valid_value value)
 
-  -- The call of an edit has ended with this answer: a machine of the edit has begun it, and one that
-  -- has so much of the share left has ended it.
+  -- The call of an edit has ended with this answer: a machine of the edit has begun it, and one
+  -- that has so much of the share left has ended it.
   pub record EditHasEnded (c : Call) (ps : List SeatedPass) (edit : WordEdit) (share : Remaining) (tries number : ℕ) (left : Remaining) (told : Result (Option V) UpdateFault) : Type 0 where
     pub first : DictRun K V
     pub last : DictRun K V

@@ -1,5 +1,5 @@
--- Calls of ordered reads, of whatever machine reads: at a place of the machine of the read, or before
--- what comes next.
+-- Calls of ordered reads, of whatever machine reads: at a place of the machine of the read, or
+-- before what comes next.
 use Rattle.std.specs.Global.{Global}
 use Rattle.std.specs.Prelude.{◌≡◌, ℕ, suc, List, Option, None, Result, Ok, Err, Vec}
 use Rattle.arena.specs.declared.layout.Layout.{Layout}

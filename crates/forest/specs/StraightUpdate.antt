@@ -45,7 +45,8 @@ module _ {M E : Type 0} (allows : Layout → History → ℕ → Type 0) (ready 
     pub opens : (m : UpdateRun E UpdateAt) (h : History) (s : Step) → waits (with_run m) call h s → UpdateWaits e m call h s
     -- what the machine is told, its update is told
     pub tells : (m : UpdateRun E UpdateAt) (h : History) (got : Option ℕ) → ready (with_run m) call h got → UpdateIsReady e m call h got
-    -- what its update then waits for, the machine does, where no more of the share is taken than may
+    -- what its update then waits for, the machine does, where no more of the share is taken than
+    -- may
     pub turns : (old now : UpdateRun E UpdateAt) (h : History) (got : Option ℕ) (s : Step) → HasGoneOn old now (node_tries now now.at) (scx_tries now now.at) → ready (with_run old) call h got → UpdateWaits e now call h s → waits (with_run now) call h s
     pub stays : (old now : UpdateRun E UpdateAt) → now.edit ≡ old.edit → same (with_run old) (with_run now)
 

@@ -7,16 +7,14 @@ ghost use Rattle.arena.specs.Layout.{all_nodes, table_size, IsWord};
 ghost use Rattle.arena.specs.PlainWords.{Contents, IsChanged, word_at};
 ghost use Rattle.arena.specs.Words.{child};
 ghost use Rattle.spelling.specs.Spelled.{Spells};
-ghost use Rattle.arena.specs.declared.limits.Mode.TheVariants.{Tree};
-ghost use Rattle.arena.specs.History.{History, value};
-ghost use Rattle.arena.specs.Machines.{IsRun};
+ghost use Rattle.arena.specs.History.{value};
 ghost use Rattle.dict.specs.Typed.{TypedAllows};
 ghost use Rattle.dict.specs.Words.{IsValidPair, IsWord as IsWordOf};
 ghost use Rattle.spelling.specs.Replies.{word_pair};
-ghost use Rattle.forest.specs.Copies.{AreCopied, HoldsWordsOf};
+ghost use Rattle.forest.specs.Copies.{AreCopied};
 ghost use Rattle.forest.specs.declared.view.SeatedPass.{SeatedPass};
-ghost use Rattle.forest.specs.TableRule.{IsTableOf};
-ghost use Rattle.forest.specs.Passes.{IsOn, IsOf, AreAllBack, IsClosed};
+ghost use Rattle.forest.specs.TableRule.{IsTableOf, history_of};
+ghost use Rattle.forest.specs.Passes.{IsOn, IsOf, PassView, AreAllBack, IsClosed};
 ghost use Rattle.forest.specs.JoinedSeats.{IsFrom, AreIn};
 
 use crate::forest::Forest;
@@ -28,27 +26,29 @@ use arena::{
     Access, Kind, Layout, NoMemory, NodeNo, NodeWord, PlainWords, Shape, Side, Step, Word,
 };
 use atomic_table::Seat;
-use dict::{WordKey, WordValue, pairs_of};
-use spelling::{Pair, spelled};
+use dict::{Dict, WordKey, WordValue, pairs_of};
+use prims::Cells;
+use spelling::spelled;
 use std::alloc::Global;
-use std::marker::{Brand, Model};
+use std::marker::{Brand, Model, PhantomData};
 
 /// The words of a forest that no thread shares any more.
-pub struct Closed {
+pub struct Closed<S: Shape> {
     words: atomic_table::Closed<u8, Global>,
     layout: Layout,
+    shape: PhantomData<S>,
 }
 
-impl Model for Closed {
+impl<S: Shape> Model for Closed<S> {
     ghost Value = { Contents };
 
     ghost view = { λ c. record { layout = c.layout; words = c.words.words.items } };
 
-    ghost invariant = { λ c. IsFull c.words.words × (slots_len c.words.words ≡ table_size c.layout) × (slots_len c.words.slots ≡ 0) };
+    ghost invariant = { λ c. IsFull c.words.words × (slots_len c.words.words ≡ table_size c.layout) × (slots_len c.words.slots ≡ 0) × (c.layout.mode ≡ S.mode) };
 }
 
-impl Closed {
-    /// The fields of a node, if there is one of this number.
+impl Closed<Cells> {
+    /// The fields of a cell, if there is one of this number.
     pub fn cell(&self, node: NodeNo) -> Option<(u64, u64)>
         ensures some { IsSome result ↔ (node.0 < all_nodes self.now.layout) }
         ensures left { IfSome result (λ f. f.0 ≡ word_at self.now (child node.0 Left)) }
@@ -61,7 +61,23 @@ impl Closed {
         }
         Some((self.word(left), self.word(right)))
     }
+}
 
+impl<K: WordKey, V: WordValue> Closed<Dict<K, V>> {
+    /// The pairs of the map, by rising key, as its run has left them. The only error is want of
+    /// memory.
+    pub fn pairs(&self, alloc: Global) -> Result<Vec<(K, V)>, NoMemory>
+        ensures valid { IfOk result (λ pairs. All (IsValidPair K.is_valid V.is_valid) pairs.items) }
+        ensures pairs { (lay : Layout) (passes : List PassView) (c : IsClosed (TypedAllows (IsWordOf K.is_valid K.word_of) (IsWordOf V.is_valid V.word_of)) lay passes self.now) → IfOk result (λ pairs. Spells lay (value (history_of lay.mode c.rows)) (map (word_pair K.word_of V.word_of) pairs.items)) }
+    {
+        match spelled(alloc, &self.plain(alloc)?)? {
+            Some(pairs) => pairs_of(alloc, &pairs),
+            None => Ok(Vec::new(alloc)),
+        }
+    }
+}
+
+impl<S: Shape> Closed<S> {
     fn word(&self, word: Word) -> u64
         requires { IsWord self.now.layout word }
         ensures { result ≡ word_at self.now word }
@@ -69,29 +85,9 @@ impl Closed {
         self.words.word(self.layout.place(word))
     }
 
-    /// The pairs of the map that the words spell, if they spell one. The only error is want of
-    /// memory.
-    pub(crate) fn map(&self, alloc: Global) -> Result<Vec<Pair>, NoMemory>
-        ensures { (m : List Pair) → Spells self.now.layout (word_at self.now) m → IfOk result (λ r. r.items ≡ m) }
-    {
-        match spelled(alloc, &self.plain(alloc)?)? {
-            Some(pairs) => Ok(pairs),
-            None => Ok(Vec::new(alloc)),
-        }
-    }
-
-    /// The pairs of a dictionary, by rising key, as its run has left them. The only error is want
-    /// of memory.
-    pub fn pairs<K: WordKey, V: WordValue>(&self, alloc: Global) -> Result<Vec<(K, V)>, NoMemory>
-        ensures valid { IfOk result (λ pairs. All (IsValidPair K.is_valid V.is_valid) pairs.items) }
-        ensures pairs { (h : History) → self.now.layout.mode ≡ Tree → IsRun (TypedAllows (IsWordOf K.is_valid K.word_of) (IsWordOf V.is_valid V.word_of)) self.now.layout h → HoldsWordsOf self.now h → IfOk result (λ pairs. Spells self.now.layout (value h) (map (word_pair K.word_of V.word_of) pairs.items)) }
-    {
-        let pairs = self.map(alloc)?;
-        pairs_of(alloc, &pairs)
-    }
-
     /// A copy of the words that a map is read from.
     fn plain(&self, alloc: Global) -> Result<PlainWords, NoMemory>
+        ensures mode { self.now.layout.mode ≡ S.mode }
         ensures layout { IfOk result (λ p. p.layout ≡ self.now.layout) }
         ensures copied { IfOk result (λ p. AreCopied self.now p (all_nodes self.now.layout)) }
     {
@@ -132,19 +128,22 @@ impl Closed {
     }
 }
 
-impl Drop for Closed {
+impl<S: Shape> Drop for Closed<S> {
     fn drop(self) {
-        let Closed { words, layout: _ } = self;
+        let Closed {
+            words,
+            layout: _,
+            shape: _,
+        } = self;
         words.free();
     }
 }
 
 impl<S: Shape> Forest<S> {
     /// Ends the forest: each of its passes, which are all there, looks at the table once more.
-    pub fn close(self, passes: Vec<Pass<S>>) -> Closed
+    pub fn close(self, passes: Vec<Pass<S>>) -> Closed<S>
         requires passes { All (IsOf self) passes.items }
         requires all { AreAllBack self.layout passes.items }
-        ensures layout { result.layout ≡ self.layout }
         ensures mode { result.layout.mode ≡ S.mode }
         ensures closed { IsClosed S.allows self.layout passes.items result }
     {
@@ -157,6 +156,7 @@ impl<S: Shape> Forest<S> {
             Some(seat) => Closed {
                 words: words.close(seat),
                 layout,
+                shape: PhantomData,
             },
             None => unreachable!(),
         }

@@ -144,7 +144,7 @@ impl<K: WordKey, V: WordValue> Forest<Dict<K, V>> {
         pass: &mut Pass<Dict<K, V>>,
         low: &K,
         high: &K,
-        most: u32,
+        most: usize,
     ) -> Result<Vec<(K, V)>, OrderFault>
         requires pass { IsOf self.now pass.old }
         requires few { most ≤ 64 }
@@ -155,7 +155,7 @@ impl<K: WordKey, V: WordValue> Forest<Dict<K, V>> {
         ensures says { RangeSays K.word_of V.word_of pass.old pass.new (K.word_of low.now) (K.word_of high.now) most result }
         ensures valid { IfOk result (λ pairs. All (IsValidPair K.is_valid V.is_valid) pairs.items) }
     {
-        let (low, high) = (*low, *high);
+        let (low, high, most) = (*low, *high, most as u32);
         match self.read(alloc, pass, Request::Range { low, high, most }) {
             Reply::Pairs(pairs) => Ok(pairs),
             Reply::Contended { node, scx } => Err(OrderFault::Contended { node, scx }),

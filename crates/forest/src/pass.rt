@@ -63,7 +63,7 @@ impl<S: Shape> Pass<S> {
     pub(crate) fn taken(&self) -> u64
         ensures { result ≡ taken_of self.now }
     {
-        u64::from(self.layout.scx - self.share.left().1)
+        u64::from(self.layout.scx - self.left().1)
     }
 
     /// How many nodes and SCX-records are left of its share.

@@ -8,8 +8,6 @@ use Rattle.arena.specs.declared.step.Row.{Row}
 use Rattle.arena.specs.Limits.{IsLayoutOf}
 use Rattle.arena.specs.History.{History, value, Extends}
 use Rattle.arena.specs.Log.{log}
-use Rattle.arena.specs.Layout.{IsWord}
-use Rattle.arena.specs.Machines.{IsRun}
 use Rattle.arena.specs.PlainWords.{Contents}
 use Rattle.spelling.specs.Laws.{AreEdits}
 use Rattle.spelling.specs.OrderedMap.{MapEdit}
@@ -22,7 +20,6 @@ use Rattle.spelling.specs.Replies.{word_pair}
 use Rattle.spelling.specs.declared.reply.Reply.{Reply}
 use Rattle.script.specs.declared.script.Script.{Script}
 use Rattle.record.specs.Commands.{commands}
-use Rattle.forest.specs.Copies.{HoldsWordsOf}
 use Rattle.forest.specs.TableRule.{history_of}
 use Rattle.forest.specs.Passes.{Ground, PassView, AreNew, AreBegun, IsClosed, new_pass, run_of, done_of}
 use Rattle.forest.specs.Shares.{entries_of}
@@ -82,8 +79,3 @@ module _ (script : Script) (f : Ground) (layout : IsLayoutOf script.limits Tree 
     last_map = one_spelling f.layout (value whole) _ _ spells (spells_log f.layout whole edits.0 tree edits.1 whole (ends_self whole));
     rising = spells.rising;
   }
-
-  -- the same of the pairs that are read from the words
-  pub outcome_of : (pairs : List (ℕ × ℕ)) → words.layout ≡ f.layout → ((h : History) → words.layout.mode ≡ Tree → IsRun NumbersAllow words.layout h → HoldsWordsOf words h → Spells words.layout (value h) (map (word_pair (λ n. n) (λ n. n)) pairs)) → IsOutcome script owns pairs
-  outcome_of pairs same spells = outcome pairs (subst (λ (l : Layout). Spells l (value whole) (map (word_pair (λ n. n) (λ n. n)) pairs)) same
-      (spells whole (ap (λ (l : Layout). l.mode) same ∙ layout.mode_is) (subst (λ (l : Layout). IsRun NumbersAllow l whole) (sym same) closed.sound) (λ w is. closed.holds w (subst (λ (l : Layout). IsWord l w) same is))))

@@ -43,7 +43,7 @@ fn put(forest: &Forest<Cells>, pass: &mut Pass<Cells>, cell: NodeNo) -> Option<R
 }
 
 /// Ends the forest, if all its passes are there.
-fn end(forest: Forest<Cells>, passes: Vec<Pass<Cells>>) -> Option<Closed>
+fn end(forest: Forest<Cells>, passes: Vec<Pass<Cells>>) -> Option<Closed<Cells>>
     requires { All (IsOf forest) passes.items }
 {
     if forest.all_back(&passes) {

@@ -1,5 +1,5 @@
 //! Calls that are held open, while the other pass makes calls.
-ghost use Rattle.std.specs.Prelude.{◌≡◌, true, false, IfOk};
+ghost use Rattle.std.specs.Prelude.{◌≡◌, true, false, IfOk, IfSome};
 ghost use Rattle.forest.specs.Passes.{IsOf};
 
 use super::{end_two, two};
@@ -10,7 +10,7 @@ use arena::Kind::{
 };
 use dict::{Dict, Reply, Request};
 use forest::{Forest, OpenCall, Pass, Stepped};
-use std::alloc::AllocError;
+use std::alloc::{AllocError, Global};
 use std::test::Fail;
 
 /// A dictionary of numbers.
@@ -131,6 +131,92 @@ fn an_insert_that_is_held_is_helped(rt: HostRuntime) -> Result<(), Fail> {
     assert_eq!(rt; (first.left(), second.left()), ((17, 19), (17, 19)));
     let left = end_two(rt.alloc(), forest, first, second)?;
     let both = [(5, 50), (7, 70)];
+    assert!(rt; matches!(&left, Some(pairs) if pairs.as_slice() == both.as_slice()));
+    Ok(())
+}
+
+/// A dictionary in which the second pass has put (7, 70), and the first holds an insert of (5, 50)
+/// behind its first freeze. A call of the second that comes to the frozen node has to help the
+/// insert, and so loses its first try.
+fn frozen_insert(
+    alloc: Global,
+) -> Result<Option<(Forest<Numbers>, Held, Pass<Numbers>)>, AllocError>
+    ensures held { IfOk result (λ r. IfSome r (λ t. IsOf t.0 t.1.began × (t.1.over ≡ false))) }
+    ensures second { IfOk result (λ r. IfSome r (λ t. IsOf t.0 t.2)) }
+{
+    let Some((forest, first, mut second)) = two::<u64, u64>(alloc) else {
+        return Ok(None);
+    };
+    if forest.insert(&mut second, 7, 70) != Ok(None) {
+        return Ok(None);
+    }
+    let mut call = forest.open(alloc, first, Request::Insert { key: 5, value: 50 });
+    let mut kinds = Vec::new(alloc);
+    let goes = hold(&forest, &mut call, 43, &mut kinds)?;
+    if goes && kinds.last() == Some(&Freeze) {
+        Ok(Some((forest, call, second)))
+    } else {
+        Ok(None)
+    }
+}
+
+/// Makes the rest of a held insert, which another call has helped, and ends the dictionary. It
+/// answers the pairs, if the insert has told that its key had no value.
+fn end_helped(
+    alloc: Global,
+    forest: Forest<Numbers>,
+    call: Held,
+    second: Pass<Numbers>,
+) -> Result<Option<Vec<(u64, u64)>>, AllocError>
+    requires held { IsOf forest call.began × (call.over ≡ false) }
+    requires second { IsOf forest second }
+{
+    let mut kinds = Vec::new(alloc);
+    let (first, reply) = rest(&forest, call, &mut kinds)?;
+    match reply {
+        Reply::Value(None) => end_two(alloc, forest, first, second),
+        _ => Ok(None),
+    }
+}
+
+#[test]
+fn a_delete_tries_again_behind_a_held_insert(rt: HostRuntime) -> Result<(), Fail> {
+    let Some((forest, call, mut second)) = frozen_insert(rt.alloc())? else {
+        assert!(rt; false);
+        return Ok(());
+    };
+    assert_eq!(rt; forest.delete(&mut second, &7), Ok(Some(70)));
+    assert_eq!(rt; second.left(), (16, 18));
+    let left = end_helped(rt.alloc(), forest, call, second)?;
+    let one = [(5, 50)];
+    assert!(rt; matches!(&left, Some(pairs) if pairs.as_slice() == one.as_slice()));
+    Ok(())
+}
+
+#[test]
+fn a_successor_tries_again_behind_a_held_insert(rt: HostRuntime) -> Result<(), Fail> {
+    let Some((forest, call, mut second)) = frozen_insert(rt.alloc())? else {
+        assert!(rt; false);
+        return Ok(());
+    };
+    let next = forest.successor(rt.alloc(), &mut second, &4);
+    assert_eq!(rt; next, Ok(Some((5, 50))));
+    let left = end_helped(rt.alloc(), forest, call, second)?;
+    let both = [(5, 50), (7, 70)];
+    assert!(rt; matches!(&left, Some(pairs) if pairs.as_slice() == both.as_slice()));
+    Ok(())
+}
+
+#[test]
+fn a_range_tries_again_behind_a_held_insert(rt: HostRuntime) -> Result<(), Fail> {
+    let Some((forest, call, mut second)) = frozen_insert(rt.alloc())? else {
+        assert!(rt; false);
+        return Ok(());
+    };
+    let both = [(5, 50), (7, 70)];
+    let found = forest.range(rt.alloc(), &mut second, &0, &9, 64);
+    assert!(rt; matches!(&found, Ok(pairs) if pairs.as_slice() == both.as_slice()));
+    let left = end_helped(rt.alloc(), forest, call, second)?;
     assert!(rt; matches!(&left, Some(pairs) if pairs.as_slice() == both.as_slice()));
     Ok(())
 }

@@ -215,8 +215,9 @@ fn fill_all<S: Shape, M: Machine<S>, T: Shape, L: SnapList>(
     fill::<S, M, T>(words, layout, seat, number, scx, ScxWord::Call, change.call)
 }
 
-/// SCX that begins with the fill of its plan, and then by this run of HELP, which has not begun; tells
-/// whether it is done. Where a node could not be frozen the run waits to look whether all were.
+/// SCX that begins with the fill of its plan, and then by this run of HELP, which has not begun;
+/// tells whether it is done. Where a node could not be frozen the run waits to look whether all
+/// were.
 #[inline(always)]
 pub(crate) fn call<S: Shape, M: Machine<S>, T: Shape, L: SnapList>(
     words: &Words<S>,

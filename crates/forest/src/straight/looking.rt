@@ -38,8 +38,8 @@ fn read<S: Shape, M: Machine<S>>(
     step::<S, M>(words, layout, seat, number, Step { kind, word, access })
 }
 
-/// LLX of a node whose mark is asked for: the loads of a snapshot. Where something is in the way, it
-/// tells whether the node was marked, and by which SCX-record, whose state is asked for again.
+/// LLX of a node whose mark is asked for: the loads of a snapshot. Where something is in the way,
+/// it tells whether the node was marked, and by which SCX-record, whose state is asked for again.
 #[inline(always)]
 pub(crate) fn look<S: Shape, M: Machine<S>>(
     words: &Words<S>,

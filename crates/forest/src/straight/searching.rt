@@ -1,6 +1,6 @@
 //! Successors, of whatever machine makes one: the first try in line, as long as nothing is in its
 //! way. Where something is, or has come between, the machine of the successor goes on from there;
-//! before, it stands nowhere.
+//! until then its place is left as it was.
 ghost use Rattle.std.specs.Prelude.{◌≡◌, ◌≤◌, ◌<◌, ◌+◌, suc};
 ghost use Rattle.forest.specs.StraightReads.{SuccessorReader, SearchBegins, SearchEnds, SearchGoesOn, SearchWaits, search_left};
 ghost use Rattle.forest.specs.TableRule.{IsTableOf};
@@ -25,8 +25,9 @@ use spelling::Pair;
 /// What a successor answers.
 type Told = Result<Option<Pair>, Refused>;
 
-/// Looks at a fork, and tells what comes behind that, or what the successor has answered: that there
-/// is no memory to keep what was found, or, where something is in the way, what its machine says.
+/// Looks at a fork, and tells what comes behind that, or what the successor has answered: that
+/// there is no memory to keep what was found, or, where something is in the way, what its machine
+/// says.
 #[inline(always)]
 fn look_on<S: Shape, M: Machine<S>>(
     words: &Words<S>,
@@ -66,8 +67,8 @@ fn look_on<S: Shape, M: Machine<S>>(
     }
 }
 
-/// Validates what it has looked at, and tells what the successor has answered. Its machine is told of
-/// the last load; where that is not what was found, it goes on to the end.
+/// Validates what it has looked at, and tells what the successor has answered. Its machine is told
+/// of the last load; where that is not what was found, it goes on to the end.
 #[inline(always)]
 fn validate_on<S: Shape, M: Machine<S>>(
     words: &Words<S>,

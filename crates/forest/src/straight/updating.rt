@@ -23,7 +23,7 @@ use template::{Found, Tree};
 use updates::{Edit, Next, Stop, UpdateRun, Updated, anew};
 
 /// Makes an update that walks to this key: its first try in line, as long as nothing is in its way.
-/// Where something is, its machine goes on from there; before, the update stands nowhere. It is a
+/// Where something is, its machine goes on from there; until then the update has no place. It is a
 /// function of its own, since the compiler puts nothing into a function that would grow very large,
 /// as one with both edits would.
 #[inline(never)]

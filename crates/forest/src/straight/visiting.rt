@@ -1,6 +1,6 @@
 //! Ranges, of whatever machine makes one: the first try in line, as long as nothing is in its
 //! way. Where something is, or has come between, the machine of the range goes on from there;
-//! before, it stands nowhere.
+//! until then its place is left as it was.
 ghost use Rattle.std.specs.Prelude.{◌≡◌, ◌≤◌, ◌<◌, ◌+◌, suc};
 ghost use Rattle.forest.specs.StraightReads.{RangeReader, VisitBegins, VisitEnds, VisitGoesOn, VisitRoots, VisitWaits, visit_left};
 ghost use Rattle.forest.specs.TableRule.{IsTableOf};

@@ -27,7 +27,7 @@ fn end_two(
     forest: Forest<Cells>,
     one: Pass<Cells>,
     other: Pass<Cells>,
-) -> Result<Option<Closed>, AllocError>
+) -> Result<Option<Closed<Cells>>, AllocError>
     requires one { IsOf forest one }
     requires other { IsOf forest other }
 {

@@ -220,7 +220,7 @@ fn look_all(
 struct Ended {
     tallies: Vec<Tally>,
     found: Vec<[Fields; 4]>,
-    closed: Closed,
+    closed: Closed<Cells>,
 }
 
 impl Ended {

@@ -7,7 +7,7 @@ use Rattle.script.specs.Commands.{mode_of}
 use Rattle.forest.proofs.Crowds.{new_are_of}
 use Rattle.runner.specs.Calls.{HaveWorked}
 use Rattle.runner.proofs.Gathered.{worked_of, worked_back}
-use Rattle.runner.proofs.Ends.{outcome_of}
+use Rattle.runner.proofs.Ends.{outcome}
 use Rattle.runner.proofs.runs.run.Goals as goal
 
 pub close-requires-clause-passes : goal.close-requires-clause-passes
@@ -17,6 +17,6 @@ pub close-requires-clause-all : goal.close-requires-clause-all
 close-requires-clause-all g c = worked_back _ _ _ _ _ c.in-Ok.ensures.passes c.in_ok-passes.ensures
 
 pub returns : goal.returns
-returns g c = outcome_of c.args.script.now c.in-Ok.forest c.in-Ok.ensures.layout c.in-Ok.ensures.tries c.in-Ok.passes.items c.in_ok-passes.passes.items c.in_ok-passes.replies.items c.in-Ok.ensures.passes
+returns g c = outcome c.args.script.now c.in-Ok.forest c.in-Ok.ensures.layout c.in-Ok.ensures.tries c.in-Ok.passes.items c.in_ok-passes.passes.items c.in_ok-passes.replies.items c.in-Ok.ensures.passes
     (subst (λ (xs : List Call). HaveWorked c.in-Ok.forest xs c.in-Ok.passes.items c.in_ok-passes.passes.items c.in_ok-passes.replies.items) c.as_slice.ensures.value c.in_ok-passes.ensures)
-    c.close.result c.close.ensures.closed c.in_ok-pairs.pairs.items c.close.ensures.layout c.in_ok-pairs.ensures.pairs
+    c.close.result c.close.ensures.closed c.in_ok-pairs.pairs.items (c.in_ok-pairs.ensures.pairs _ _ c.close.ensures.closed)

@@ -5,4 +5,4 @@ use Rattle.forest.proofs.Closes.{index_is}
 use Rattle.forest.proofs.close.Closed.word.Goals as goal
 
 pub returns : goal.returns
-returns c = rw (← c.self.view_is) (sym (index_is c.self.inside.words.words.items _ c.word.result (subst (λ (i : ℕ). get_elem? c.self.inside.words.words.items i ≡ some c.word.result) c.place.ensures.place c.word.ensures)))
+returns g c = rw (← c.self.view_is) (sym (index_is c.self.inside.words.words.items _ c.word.result (subst (λ (i : ℕ). get_elem? c.self.inside.words.words.items i ≡ some c.word.result) c.place.ensures.place c.word.ensures)))

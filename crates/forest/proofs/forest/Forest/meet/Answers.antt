@@ -25,8 +25,8 @@ returns-clause-apart g c = let m = have_met c.one.inside c.other.inside c.one.in
 
 pub returns-clause-look : goal.returns-clause-look
 returns-clause-look g c = let m = have_met c.one.inside c.other.inside c.one.invariant c.other.invariant c.meet.new.one c.meet.new.other c.meet.ensures.met in (
-  rw (← c.one.view_is) (looked_once c.one.inside c.one.invariant c.meet.new.one _ c.meet.ensures.table.0 (c.meet.ensures.bare.0 ∙ sym c.one.invariant.bare) m.one m.one_step),
-  rw (← c.other.view_is) (looked_once c.other.inside c.other.invariant c.meet.new.other _ c.meet.ensures.table.1 (c.meet.ensures.bare.1 ∙ sym c.other.invariant.bare) m.other m.other_step),
+  rw (← c.one.view_is) (looked_once c.one.inside c.one.invariant c.meet.new.one _ c.meet.ensures.table.0 (c.meet.ensures.bare.0 ∙ sym c.one.invariant.bare) m.one m.one_step m.one_looks),
+  rw (← c.other.view_is) (looked_once c.other.inside c.other.invariant c.meet.new.other _ c.meet.ensures.table.1 (c.meet.ensures.bare.1 ∙ sym c.other.invariant.bare) m.other m.other_step m.other_looks),
 )
 
 pub returns-clause-know : goal.returns-clause-know

@@ -1,0 +1,64 @@
+use Rattle.std.proofs.Common.{◌≡◌, ℕ, List, Result, Ok, Err, sym, subst, ◌∙◌}
+use Rattle.std.specs.Prelude.{IfOk}
+use Rattle.arena.specs.declared.layout.Layout.{Layout}
+use Rattle.arena.specs.declared.limits.Mode.TheVariants.{Tree}
+use Rattle.arena.specs.History.{History, value}
+use Rattle.arena.specs.Layout.{all_nodes}
+use Rattle.arena.specs.PlainWords.{Contents, word_at}
+use Rattle.arena.specs.Words.{node}
+use Rattle.spelling.specs.declared.pair.Pair.{Pair}
+use Rattle.spelling.specs.Spelled.{Spells}
+use Rattle.spelling.proofs.Lemmas.{one_spelling, run_spells}
+use Rattle.dict.specs.Typed.{AreTyped, TypedAllows}
+use Rattle.dict.specs.TypedMaps.{typed_map, typed_run}
+use Rattle.dict.specs.Words.{IsWord}
+use Rattle.forest.specs.Copies.{AreCopied}
+use Rattle.forest.specs.Passes.{PassView, IsClosed}
+use Rattle.forest.specs.TableRule.{history_of}
+use Rattle.forest.proofs.Copies.{copy_spells}
+use Rattle.forest.proofs.close.Closed+Dict+K+V.pairs.Goals as goal
+
+-- the copy spells what the words spell
+copy_too : (from to : Contents) → to.layout ≡ from.layout → AreCopied from to (all_nodes from.layout) → (m : List Pair) → Spells from.layout (word_at from) m → Spells to.layout (word_at to) m
+copy_too from to e c m x = subst (λ (l : Layout). Spells l (word_at to) m) (sym e) (copy_spells from.layout (word_at from) (word_at to) m c x)
+
+-- what is said of a value holds of it further on
+if_ok : {A B : Type 0} (r : Result A B) (P Q : A → Type 0) → ((a : A) → P a → Q a) → IfOk r P → IfOk r Q
+if_ok (Ok a) P Q f x = f a x
+if_ok (Err b) P Q f x = x
+
+module _ (keys values : ℕ → Type 0) (words copy : Contents) (tree : words.layout.mode ≡ Tree) (layout : copy.layout ≡ words.layout) (copied : AreCopied words copy (all_nodes words.layout)) (lay : Layout) (passes : List PassView) (c : IsClosed (TypedAllows keys values) lay passes words) where
+  abbrev run : History
+  run = history_of lay.mode c.rows
+
+  tree_there : lay.mode ≡ Tree
+  tree_there = subst (λ (l : Layout). l.mode ≡ Tree) c.layout tree
+
+  -- the map of the run
+  map_of : (m : List Pair) × Spells lay (value run) m
+  map_of = run_spells lay run (tree_there, typed_run keys values lay run c.sound)
+
+  typed : AreTyped keys values map_of.0
+  typed = typed_map keys values lay run tree_there c.sound map_of.0 map_of.1
+
+  -- which the copy spells too
+  copy_is : Spells copy.layout (word_at copy) map_of.0
+  copy_is = copy_too words copy layout copied map_of.0 (subst (λ (l : Layout). Spells l (word_at words) map_of.0) (sym c.layout) (copy_spells lay (value run) (word_at words) map_of.0 (λ n part less is. c.holds (node n part) less) map_of.1))
+
+pub returns-in-Some-clause-pairs : goal.returns-in-Some-clause-pairs
+returns-in-Some-clause-pairs g c = λ lay passes x.
+    let keys = IsWord g.K.WordKey.is_valid g.K.WordKey.word_of in
+    let values = IsWord g.V.WordValue.is_valid g.V.WordValue.word_of in
+    let copy = c.in_ok-plain.field-0 in
+    let m = map_of keys values c.args.self.now copy c.in_ok-plain.ensures.mode c.in_ok-plain.ensures.layout c.in_ok-plain.ensures.copied lay passes x in
+    let spelled = one_spelling copy.layout (word_at copy) c.in-Some.pairs.items m.0 (rw c.in-Some.is at c.in_ok-pairs.ensures.spells) (copy_is keys values c.args.self.now copy c.in_ok-plain.ensures.mode c.in_ok-plain.ensures.layout c.in_ok-plain.ensures.copied lay passes x) in
+    let items : c.deref.result.now ≡ m.0 = let d = c.deref.ensures in cc in
+    if_ok c.pairs_of.result _ _ (λ ps z. subst (Spells lay (value (history_of lay.mode x.rows))) (sym items ∙ sym (z.words_are (subst (AreTyped keys values) (sym items) (typed keys values c.args.self.now copy c.in_ok-plain.ensures.mode c.in_ok-plain.ensures.layout c.in_ok-plain.ensures.copied lay passes x)))) m.1) c.pairs_of.ensures
+
+pub returns-clause-pairs : goal.returns-clause-pairs
+returns-clause-pairs g c = λ lay passes x.
+    let keys = IsWord g.K.WordKey.is_valid g.K.WordKey.word_of in
+    let values = IsWord g.V.WordValue.is_valid g.V.WordValue.word_of in
+    let copy = c.in_ok-plain.field-0 in
+    absurd ((rw c.in-None.is at c.in_ok-pairs.ensures.none) (map_of keys values c.args.self.now copy c.in_ok-plain.ensures.mode c.in_ok-plain.ensures.layout c.in_ok-plain.ensures.copied lay passes x).0
+    (copy_is keys values c.args.self.now copy c.in_ok-plain.ensures.mode c.in_ok-plain.ensures.layout c.in_ok-plain.ensures.copied lay passes x))
