@@ -3,7 +3,8 @@ ghost use Rattle.std.specs.Prelude.{◌≡◌, IfOk};
 ghost use Rattle.arena.specs.declared.limits.Mode.TheVariants.{Tree};
 
 use arena::{Kind, Mode, PassNo};
-use runner::{Alternate, Gate, Hold, Open, run};
+use program::write_outcome;
+use runner::{Alternate, Gate, Hold, Open, Outcome, run};
 use script::{Metered, Script, read_script};
 use std::alloc::Global;
 use std::array::from_fn;
@@ -215,4 +216,18 @@ fn what_is_answered_is_not_waited_for(rt: HostRuntime) -> Result<(), Fail> {
     open.began(PassNo(0), 0);
     assert!(rt; !open.missed());
     Ok(())
+}
+
+/// The outcome of no call, whose gate was missed.
+#[test]
+fn a_missed_gate_is_told(rt: HostRuntime) {
+    let outcome = Outcome {
+        replies: Vec::new(rt.alloc()),
+        pairs: Vec::new(rt.alloc()),
+    };
+    let mut out = Metered::new(Vec::new(rt.alloc()));
+    let written = write_outcome(rt.alloc(), &outcome, true, &mut out);
+    assert!(rt; written.is_ok());
+    let text = "outcome,1,,\ngate,missed,,\nend,0,0,\n";
+    assert_eq!(rt; out.inner.as_slice(), text.as_bytes());
 }
