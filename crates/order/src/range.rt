@@ -127,9 +127,9 @@ impl RangeRun {
     ghost use Rattle.order.specs.Range.Next.{ComesNearer, GoesOn, MayDo, MayGoOn};
 
     /// A run that has not begun. What it keeps grows with this allocator. What is said of its turns
-    /// holds for a `most` of up to 64. In each try it asks for at most 67 steps for each node that
-    /// has been taken when it ends, and for 134 more; and that for each of the pairs it is to tell
-    /// at most, and twice more.
+    /// holds for some tries, and a `most` of up to 64. In each try it asks for at most 67 steps for
+    /// each node that has been taken when it ends, and for 134 more; and that for each of the pairs
+    /// it is to tell at most, and twice more.
     pub fn new(alloc: Global, low: u64, high: u64, most: usize, tries: u32) -> RangeRun
         ensures low { result.low ≡ low }
         ensures high { result.high ≡ high }

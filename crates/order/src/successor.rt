@@ -135,8 +135,9 @@ impl SuccessorRun {
     ghost use Rattle.order.specs.Successor.Steps.{behind, HeadFits, IsNearer, try_left, successor_left, SuccessorFits};
     ghost use Rattle.order.specs.Successor.Next.{ComesNearer, GoesOn, MayDo, MayGoOn};
 
-    /// A run that has not begun. What it keeps grows with this allocator. In each try it asks for
-    /// at most 137 steps for each node that has been taken when it ends, and for 274 more.
+    /// A run that has not begun. What it keeps grows with this allocator. What is said of its turns
+    /// holds for some tries. In each try it asks for at most 137 steps for each node that has been
+    /// taken when it ends, and for 274 more.
     pub fn new(alloc: Global, key: u64, tries: u32) -> SuccessorRun
         ensures key { result.key ≡ key }
         ensures start { result.at ≡ SuccessorAt.Start }
