@@ -11,7 +11,7 @@ use Rattle.spelling.specs.Spelled.{Spells}
 use Rattle.spelling.specs.declared.pair.Pair.{Pair}
 use Rattle.spelling.proofs.Lemmas.{run_spells}
 use Rattle.updates.specs.Tries.{HasEnteredNone}
-use Rattle.dict.specs.Calls.{call_in, share_of, tries_behind}
+use Rattle.dict.specs.Calls.{call_in, share_of}
 use Rattle.dict.specs.DictKnown.{DictRefuses, DictAnswers}
 use Rattle.dict.specs.Forms.{MayReply, word_form, form_of}
 use Rattle.dict.specs.Forms as form
@@ -142,5 +142,5 @@ module _ {K V : Type 0} (valid_key : K → Type 0) (key : K → ℕ) (valid_valu
   pub dict_ends : (m : DictRun K V) (c : Call) (h : History) (w : WordReply) (r : Reply K V) → c.layout.mode ≡ TreeMode → IsRun (TypedAllows (IsWord valid_key key) (IsWord valid_value value_of)) c.layout h → MapAnswers m.tries m.run c h w → IsValidReply valid_key valid_value r → IsTranslated valid_key key valid_value value_of w r → HasFormOf w r → DictAnswers valid_key key valid_value value_of m c h r
   dict_ends m c h w r mode run x valid same forms =
       let e : SaysSame key value_of w r = same (told_typed (IsWord valid_key key) (IsWord valid_value value_of) c h mode run (call_in m.run) (told_in w) x.says.0) in
-      let y = says_right c h key value_of (call_in m.run) (share_of m.run) (tries_behind m.run) w r e x.says in
+      let y = says_right c h key value_of (call_in m.run) (share_of m.run) m.tries w r e x.says in
       record { rests = x.rests; spent = x.spent; form = may_reply (call_in m.run) w r forms x.form; valid = valid; tells = y.0; refuses = y.1 }

@@ -12,6 +12,7 @@ use Rattle.order.specs.declared.refused.Refused.TheVariants as refused
 use Rattle.order.specs.declared.successor.SuccessorRun.{SuccessorRun}
 use Rattle.spelling.specs.OrderedMap.{MapCall, Edit, Successor as SuccessorOf, Range as RangeOf, Insert as PutEdit, Delete as TakeEdit, OneValue, ManyPairs, pair_or_none}
 use Rattle.spelling.specs.Runs.{IsTreeRun}
+use Rattle.spelling.specs.Tries.{HasLostTries}
 use Rattle.spelling.specs.declared.pair.Pair.{Pair}
 use Rattle.template.specs.declared.walk.Found.{Found}
 use Rattle.tree.specs.Delete.Means.{delete_means, delete_need}
@@ -64,16 +65,20 @@ takes_none : (low high most : ℕ) → (most ≡ 0) ⊎ (high < low) → ¬ Asks
 takes_none low high most (inl none) asks = let some = asks.0 in omega (arith, none, some)
 takes_none low high most (inr apart) asks = let some = asks.1 in omega (arith, apart, some)
 
-module _ (c : Call) (h : History) where
+module _ (tries : ℕ) (c : Call) (h : History) where
   -- an insert that is done has changed the map
-  insert_done : (m : UpdateRun Inserted UpdateAt) (found : Found) → m.call ≡ c.number → IsDoneAt insert_means m.edit m.call c h found → WordSays c h (Edit (PutEdit m.edit.key m.edit.value)) m.share m.tries (words.Value found.value)
+  insert_done : (m : UpdateRun Inserted UpdateAt) (found : Found) → m.call ≡ c.number → IsDoneAt insert_means m.edit m.call c h found → WordSays c h (Edit (PutEdit m.edit.key m.edit.value)) m.share tries (words.Value found.value)
   insert_done m found number (inl x) = absurd (something found.value x.needless)
   insert_done m found number (inr x) = (record { edit = PutEdit m.edit.key m.edit.value; is_edit = refl; old = found.value; tells = refl; made = subst (λ n. HasMade (PutEdit m.edit.key m.edit.value) c h n found.value) number x.0 }, tt)
 
-  pub insert_says : (m : UpdateRun Inserted UpdateAt) (a : Updated) → IsTreeRun c.layout h → m.edit.key < 2 ^ 64 → m.call ≡ c.number → UpdateSays insert_means m c h a → WordSays c h (Edit (PutEdit m.edit.key m.edit.value)) m.share m.tries (update_reply a)
-  insert_says m (Done key value) run small number x = subst (λ v. WordSays c h (Edit (PutEdit m.edit.key m.edit.value)) m.share m.tries (words.Value v)) x.is_value (insert_done m x.found number x.is_done)
-  insert_says m (Contended node scx) run small number x = (tt, record { way = x.0; over = x.1; none = x.2 })
-  insert_says m (Full full) run small number x = (
+  -- where it has so many tries, so many are lost
+  lost : {limit n s : ℕ} → limit ≡ tries → HasLostTries c.pass h c.start limit n s → HasLostTries c.pass h c.start tries n s
+  lost {limit} {n} {s} e x = subst (λ k. HasLostTries c.pass h c.start k n s) e x
+
+  pub insert_says : (m : UpdateRun Inserted UpdateAt) (a : Updated) → IsTreeRun c.layout h → m.edit.key < 2 ^ 64 → m.call ≡ c.number → m.limit ≡ tries → UpdateSays insert_means m c h a → WordSays c h (Edit (PutEdit m.edit.key m.edit.value)) m.share tries (update_reply a)
+  insert_says m (Done key value) run small number limit x = subst (λ v. WordSays c h (Edit (PutEdit m.edit.key m.edit.value)) m.share tries (words.Value v)) x.is_value (insert_done m x.found number x.is_done)
+  insert_says m (Contended node scx) run small number limit x = (tt, record { way = x.0; all = lost limit x.3; none = x.2 })
+  insert_says m (Full full) run small number limit x = (
     tt,
     ran_out c h (Edit (PutEdit m.edit.key m.edit.value)) m.edit.key x.found (insert_need x.found.value) m.share full
         (leaf_read c h m.edit.key x.found small run x.has_found x.none)
@@ -82,7 +87,7 @@ module _ (c : Call) (h : History) where
   )
 
   -- a delete that is done has changed it, or has found no value
-  delete_done : (m : UpdateRun Deleted UpdateAt) (found : Found) (old : Option ℕ) → found.value ≡ old → IsTreeRun c.layout h → m.edit.key < 2 ^ 64 → m.call ≡ c.number → IsDoneAt delete_means m.edit m.call c h found → WordSays c h (Edit (TakeEdit m.edit.key)) m.share m.tries (words.Value old)
+  delete_done : (m : UpdateRun Deleted UpdateAt) (found : Found) (old : Option ℕ) → found.value ≡ old → IsTreeRun c.layout h → m.edit.key < 2 ^ 64 → m.call ≡ c.number → IsDoneAt delete_means m.edit m.call c h found → WordSays c h (Edit (TakeEdit m.edit.key)) m.share tries (words.Value old)
   delete_done m found None e run small number (inl x) =
       let y : HasRead c h (Edit (TakeEdit m.edit.key)) (OneValue found.value) = let z = leaf_read c h m.edit.key found small run x.has_found x.none in record { moment = z.moment; within = z.within; since = z.since; own = λ _. z.own tt; map = z.map; spelled = z.spelled; gives = z.gives; none = z.none } in
       (rw e at y, tt)
@@ -92,10 +97,10 @@ module _ (c : Call) (h : History) where
       let made : HasMade (TakeEdit m.edit.key) c h c.number (Some old) = rw (number, e) at x.0 in
       (record { edit = TakeEdit m.edit.key; is_edit = refl; old = Some old; tells = refl; made = made }, tt)
 
-  pub delete_says : (m : UpdateRun Deleted UpdateAt) (a : Updated) → IsTreeRun c.layout h → m.edit.key < 2 ^ 64 → m.call ≡ c.number → UpdateSays delete_means m c h a → WordSays c h (Edit (TakeEdit m.edit.key)) m.share m.tries (update_reply a)
-  delete_says m (Done key value) run small number x = delete_done m x.found value x.is_value run small number x.is_done
-  delete_says m (Contended node scx) run small number x = (tt, record { way = x.0; over = x.1; none = x.2 })
-  delete_says m (Full full) run small number x = (
+  pub delete_says : (m : UpdateRun Deleted UpdateAt) (a : Updated) → IsTreeRun c.layout h → m.edit.key < 2 ^ 64 → m.call ≡ c.number → m.limit ≡ tries → UpdateSays delete_means m c h a → WordSays c h (Edit (TakeEdit m.edit.key)) m.share tries (update_reply a)
+  delete_says m (Done key value) run small number limit x = delete_done m x.found value x.is_value run small number x.is_done
+  delete_says m (Contended node scx) run small number limit x = (tt, record { way = x.0; all = lost limit x.3; none = x.2 })
+  delete_says m (Full full) run small number limit x = (
     tt,
     ran_out c h (Edit (TakeEdit m.edit.key)) m.edit.key x.found (delete_need x.found.value) m.share full
         (leaf_read c h m.edit.key x.found small run x.has_found x.none)
@@ -104,44 +109,41 @@ module _ (c : Call) (h : History) where
   )
 
   -- a get has read what it tells
-  pub get_says : (m : GetRun) (share : Remaining) (a : Option ℕ) → Rests c h share → GetAnswers m c h a → WordSays c h (call_in (runs.Get m share)) share 0 (words.Value a)
-  get_says m share a x y = (answer_read c h y.first m.key a y.own y.right (none_entered c h share x), tt)
+  pub get_says : (m : GetRun) (share : Remaining) (a : Option ℕ) → Rests c h share → GetAnswers m c h a → WordSays c h (call_in (runs.Get m share)) share tries (words.Value a)
+  get_says m share a x y = (answer_read c h y.first m.key a y.own y.right y.none, tt)
 
   -- so has a successor
-  pub successor_says : (m : SuccessorRun) (share : Remaining) (a : Result (Option Pair) Refused) → Rests c h share → SuccessorAnswers m c h a → WordSays c h (SuccessorOf m.key) share m.tries (successor_reply a)
-  successor_says m share (Ok found) x y = (reply_read c h (SuccessorOf m.key) (pair_or_none found) y.1 (none_entered c h share x), tt)
-  successor_says m share (Err (refused.Contended node scx)) x y = (tt, record { way = y.1.0; over = y.1.1; none = none_entered c h share x })
-  successor_says m share (Err refused.NoMemory) x y = (tt, (tt, none_entered c h share x))
+  pub successor_says : (m : SuccessorRun) (share : Remaining) (a : Result (Option Pair) Refused) → Rests c h share → m.limit ≡ tries → SuccessorAnswers m c h a → WordSays c h (SuccessorOf m.key) share tries (successor_reply a)
+  successor_says m share (Ok found) x limit y = (reply_read c h (SuccessorOf m.key) (pair_or_none found) y.1 (none_entered c h share x), tt)
+  successor_says m share (Err (refused.Contended node scx)) x limit y = (tt, record { way = y.1.0; all = lost limit y.1.2; none = none_entered c h share x })
+  successor_says m share (Err refused.NoMemory) x limit y = (tt, (tt, none_entered c h share x))
 
   -- and a range, or it tells what every map replies
-  pub range_says : (m : RangeRun) (share : Remaining) (a : Result (Vec Pair Global) Refused) → Rests c h share → RangeAnswers m c h a → WordSays c h (RangeOf m.low m.high m.most) share m.tries (range_reply a)
-  range_says m share (Ok found) x y = (⊎_elim (λ z. reply_read c h (RangeOf m.low m.high m.most) (ManyPairs found.items) z none) (λ z. always_read c h (RangeOf m.low m.high m.most) (ManyPairs found.items) x.run x.since (takes_none m.low m.high m.most z.0) (λ map. ap ManyPairs (z.1 map)) none) y.1, tt)
+  pub range_says : (m : RangeRun) (share : Remaining) (a : Result (Vec Pair Global) Refused) → Rests c h share → m.limit ≡ tries → RangeAnswers m c h a → WordSays c h (RangeOf m.low m.high m.most) share tries (range_reply a)
+  range_says m share (Ok found) x limit y = (⊎_elim (λ z. reply_read c h (RangeOf m.low m.high m.most) (ManyPairs found.items) z none) (λ z. always_read c h (RangeOf m.low m.high m.most) (ManyPairs found.items) x.run x.since (takes_none m.low m.high m.most z.0) (λ map. ap ManyPairs (z.1 map)) none) y.1, tt)
     where
       none : HasEnteredNone c.layout c.pass h c.start
       none = none_entered c h share x
-  range_says m share (Err (refused.Contended node scx)) x y = (tt, record { way = y.1.0; over = y.1.1; none = none_entered c h share x })
-  range_says m share (Err refused.NoMemory) x y = (tt, (tt, none_entered c h share x))
+  range_says m share (Err (refused.Contended node scx)) x limit y = (tt, record { way = y.1.0; all = lost limit y.1.2; none = none_entered c h share x })
+  range_says m share (Err refused.NoMemory) x limit y = (tt, (tt, none_entered c h share x))
 
 -- What is gone of the share
 
 -- what a read has taken is nothing
 pub read_spent : (c : Call) (call : MapCall) (tries : ℕ) (share : Remaining) → RestsWith c c.start share → HasSpent c call tries share
-read_spent c call tries share x = record { left = share; first = x; nodes = omega arith; scx = omega arith }
-
-spent_on : (left old now a b tries : ℕ) → left + a ≤ old + tries → old + b ≤ now + a → left + b ≤ now + tries
-spent_on left old now a b tries x y = omega arith
+read_spent c call tries share x = record { left = share; first = x; nodes = omega arith; scx = omega arith; each = omega arith }
 
 -- what an edit has taken by now
 pub edit_spends : (c : Call) (most : ℕ) (old now : Remaining) (tries nodes nodes_then scx scx_then : ℕ) → HasSpentSo c most old tries nodes scx → Spends most old now nodes nodes_then scx scx_then → HasSpentSo c most now tries nodes_then scx_then
 edit_spends c most old now tries nodes nodes_then scx scx_then x y = record {
   left = x.left;
   first = x.first;
-  spends = (spent_on x.left.nodes old.nodes now.nodes (most * nodes) (most * nodes_then) (most * tries) x.spends.0 y.0, spent_on x.left.scx old.scx now.scx scx scx_then tries x.spends.1 y.1);
+  spends = (let a = x.spends.0 in let b = y.0 in omega (arith, a, b), let a = x.spends.1 in let b = y.1 in omega (arith, a, b), let a = x.spends.2 in let b = y.2 in omega (arith, a, b));
 }
 
 -- and once it has answered
 pub insert_spent : (c : Call) (key value tries : ℕ) (share : Remaining) → HasSpentSo c 3 share tries 0 0 → HasSpent c (Edit (PutEdit key value)) tries share
-insert_spent c key value tries share x = record { left = x.left; first = x.first; nodes = let s = x.spends.0 in omega (arith, s); scx = let s = x.spends.1 in omega (arith, s) }
+insert_spent c key value tries share x = record { left = x.left; first = x.first; nodes = let s = x.spends.0 in omega (arith, s); scx = let s = x.spends.1 in omega (arith, s); each = let s = x.spends.2 in omega (arith, s) }
 
 pub delete_spent : (c : Call) (key tries : ℕ) (share : Remaining) → HasSpentSo c 1 share tries 0 0 → HasSpent c (Edit (TakeEdit key)) tries share
-delete_spent c key tries share x = record { left = x.left; first = x.first; nodes = let s = x.spends.0 in omega (arith, s); scx = let s = x.spends.1 in omega (arith, s) }
+delete_spent c key tries share x = record { left = x.left; first = x.first; nodes = let s = x.spends.0 in omega (arith, s); scx = let s = x.spends.1 in omega (arith, s); each = let s = x.spends.2 in omega (arith, s) }

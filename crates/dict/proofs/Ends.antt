@@ -49,34 +49,56 @@ range_form low high most (Ok found) = tt
 range_form low high most (Err (refused.Contended node scx)) = tt
 range_form low high most (Err refused.NoMemory) = tt
 
+-- Their way
+
+module _ (tries : ℕ) (c : Call) where
+  -- an edit that goes on is the same
+  pub insert_goes : (old now : UpdateRun Inserted UpdateAt) → Goes (Insert old) tries c → now.edit ≡ old.edit → now.call ≡ old.call → now.limit ≡ old.limit → Spends 3 old.share now.share (node_tries old old.at) (node_tries now now.at) (scx_tries old old.at) (scx_tries now now.at) → Goes (Insert now) tries c
+  insert_goes old now goes edit call limit spends = record {
+    mode = goes.mode;
+    small = rw edit goes.small;
+    number = call ∙ goes.number;
+    limit = limit ∙ goes.limit;
+    spent = edit_spends c 3 old.share now.share tries (node_tries old old.at) (node_tries now now.at) (scx_tries old old.at) (scx_tries now now.at) goes.spent spends;
+  }
+
+  pub delete_goes : (old now : UpdateRun Deleted UpdateAt) → Goes (Delete old) tries c → now.edit ≡ old.edit → now.call ≡ old.call → now.limit ≡ old.limit → Spends 1 old.share now.share (node_tries old old.at) (node_tries now now.at) (scx_tries old old.at) (scx_tries now now.at) → Goes (Delete now) tries c
+  delete_goes old now goes edit call limit spends = record {
+    mode = goes.mode;
+    small = rw edit goes.small;
+    number = call ∙ goes.number;
+    limit = limit ∙ goes.limit;
+    spent = edit_spends c 1 old.share now.share tries (node_tries old old.at) (node_tries now now.at) (scx_tries old old.at) (scx_tries now now.at) goes.spent spends;
+  }
+
 -- Their answers
 
 module _ (tries : ℕ) (c : Call) (h : History) where
-  pub insert_ends : (old now : UpdateRun Inserted UpdateAt) (a : Updated) → IsRun TreeAllows c.layout h → Goes (Insert old) tries c → now.edit ≡ old.edit → now.call ≡ old.call → Spends 3 old.share now.share (node_tries old old.at) 0 (scx_tries old old.at) 0 → UpdateAnswers insert_means now c h a → MapAnswers tries (Insert now) c h (update_reply a)
-  insert_ends old now a run goes edit call spends x =
+  pub insert_ends : (old now : UpdateRun Inserted UpdateAt) (a : Updated) → IsRun TreeAllows c.layout h → Goes (Insert old) tries c → now.edit ≡ old.edit → now.call ≡ old.call → now.limit ≡ old.limit → Spends 3 old.share now.share (node_tries old old.at) 0 (scx_tries old old.at) 0 → UpdateAnswers insert_means now c h a → MapAnswers tries (Insert now) c h (update_reply a)
+  insert_ends old now a run goes edit call limit spends x =
       let small : now.edit.key < 2 ^ 64 = rw edit goes.small in
       record {
         rests = x.0;
         spent = insert_spent c now.edit.key now.edit.value tries now.share (edit_spends c 3 old.share now.share tries (node_tries old old.at) 0 (scx_tries old old.at) 0 goes.spent spends);
         form = update_form (PutEdit now.edit.key now.edit.value) a;
-        says = insert_says c h now a (goes.mode, run) small (call ∙ goes.number) x.1;
+        says = insert_says tries c h now a (goes.mode, run) small (call ∙ goes.number) (limit ∙ goes.limit) x.1;
       }
 
-  pub delete_ends : (old now : UpdateRun Deleted UpdateAt) (a : Updated) → IsRun TreeAllows c.layout h → Goes (Delete old) tries c → now.edit ≡ old.edit → now.call ≡ old.call → Spends 1 old.share now.share (node_tries old old.at) 0 (scx_tries old old.at) 0 → UpdateAnswers delete_means now c h a → MapAnswers tries (Delete now) c h (update_reply a)
-  delete_ends old now a run goes edit call spends x =
+  pub delete_ends : (old now : UpdateRun Deleted UpdateAt) (a : Updated) → IsRun TreeAllows c.layout h → Goes (Delete old) tries c → now.edit ≡ old.edit → now.call ≡ old.call → now.limit ≡ old.limit → Spends 1 old.share now.share (node_tries old old.at) 0 (scx_tries old old.at) 0 → UpdateAnswers delete_means now c h a → MapAnswers tries (Delete now) c h (update_reply a)
+  delete_ends old now a run goes edit call limit spends x =
       let small : now.edit.key < 2 ^ 64 = rw edit goes.small in
       record {
         rests = x.0;
         spent = delete_spent c now.edit.key tries now.share (edit_spends c 1 old.share now.share tries (node_tries old old.at) 0 (scx_tries old old.at) 0 goes.spent spends);
         form = update_form (TakeEdit now.edit.key) a;
-        says = delete_says c h now a (goes.mode, run) small (call ∙ goes.number) x.1;
+        says = delete_says tries c h now a (goes.mode, run) small (call ∙ goes.number) (limit ∙ goes.limit) x.1;
       }
 
   pub get_ends : (now : GetRun) (share : Remaining) (a : Option ℕ) → Rests c h share → RestsWith c c.start share → GetAnswers now c h a → MapAnswers tries (Get now share) c h (words.Value a)
-  get_ends now share a x spent y = record { rests = x.now; spent = read_spent c (GetOf now.key) tries share spent; form = tt; says = get_says c h now share a x y }
+  get_ends now share a x spent y = record { rests = x.now; spent = read_spent c (GetOf now.key) tries share spent; form = tt; says = get_says tries c h now share a x y }
 
-  pub successor_ends : (now : SuccessorRun) (share : Remaining) (a : Result (Option Pair) Refused) → Rests c h share → RestsWith c c.start share → SuccessorAnswers now c h a → MapAnswers tries (Successor now share) c h (successor_reply a)
-  successor_ends now share a x spent y = record { rests = x.now; spent = read_spent c (SuccessorOf now.key) tries share spent; form = successor_form now.key a; says = successor_says c h now share a x y }
+  pub successor_ends : (now : SuccessorRun) (share : Remaining) (a : Result (Option Pair) Refused) → Rests c h share → RestsWith c c.start share → now.limit ≡ tries → SuccessorAnswers now c h a → MapAnswers tries (Successor now share) c h (successor_reply a)
+  successor_ends now share a x spent limit y = record { rests = x.now; spent = read_spent c (SuccessorOf now.key) tries share spent; form = successor_form now.key a; says = successor_says tries c h now share a x limit y }
 
-  pub range_ends : (now : RangeRun) (share : Remaining) (a : Result (Vec Pair Global) Refused) → Rests c h share → RestsWith c c.start share → RangeAnswers now c h a → MapAnswers tries (Range now share) c h (range_reply a)
-  range_ends now share a x spent y = record { rests = x.now; spent = read_spent c (RangeOf now.low now.high now.most) tries share spent; form = range_form now.low now.high now.most a; says = range_says c h now share a x y }
+  pub range_ends : (now : RangeRun) (share : Remaining) (a : Result (Vec Pair Global) Refused) → Rests c h share → RestsWith c c.start share → now.limit ≡ tries → RangeAnswers now c h a → MapAnswers tries (Range now share) c h (range_reply a)
+  range_ends now share a x spent limit y = record { rests = x.now; spent = read_spent c (RangeOf now.low now.high now.most) tries share spent; form = range_form now.low now.high now.most a; says = range_says tries c h now share a x limit y }

@@ -1,5 +1,5 @@
 -- A call that has not begun may be called: its pass is at rest with the share that it has.
-use Rattle.std.proofs.Common.{◌≡◌, ℕ, ◌+◌, ◌<◌, ◌^◌, None, refl, arith}
+use Rattle.std.proofs.Common.{◌≡◌, ℕ, ◌+◌, ◌<◌, ◌^◌, None, refl, sym, ◌∙◌, arith}
 use Rattle.arena.specs.declared.limits.Mode.TheVariants.{Tree as TreeMode}
 use Rattle.arena.specs.Machines.{Call, IsRun}
 use Rattle.arena.specs.Share.{Remaining}
@@ -35,10 +35,10 @@ module _ (c : Call) (run : IsTreeRun c.layout c.start) where
 
   -- an update may begin
   module _ {E : Type 0} (e : EditMeaning E) (m : UpdateRun E UpdateAt) (at : m.at ≡ Start) (share : RestsWith c c.start m.share) where
-    update_ready : path_key (e.goal m.edit) < 2 ^ 64 → UpdateIsReady e m c c.start None
-    update_ready small = (
+    update_ready : path_key (e.goal m.edit) < 2 ^ 64 → m.limit ≡ m.tries + 1 → UpdateIsReady e m c c.start None
+    update_ready small all = (
       record { run = run; small = small; since = ends_self c.start; rests = share },
-      record { since = ends_self c.start; none = none_yet c.layout c.pass c.start },
+      record { since = ends_self c.start; none = none_yet c.layout c.pass c.start; all = omega (arith, all) },
       share,
       at,
     )
@@ -48,22 +48,22 @@ module _ (c : Call) (run : IsTreeRun c.layout c.start) where
     spent most tries all = record {
       left = m.share;
       first = share;
-      spends = (rw (at, all) (omega arith), rw (at, all) (omega arith));
+      spends = (rw (at, all) (omega arith), rw (at, all) (omega arith), rw (at, all) (omega arith));
     }
 
   goes : (m : MapRun) (tries : ℕ) → IsUnbegun m tries c.number → RestsWith c c.start (share_of m) → Goes m tries c
-  goes (Insert m) tries x r = record { mode = run.0; small = x.3; number = x.2; spent = spent insert_means m x.0 r 3 tries x.1 }
-  goes (Delete m) tries x r = record { mode = run.0; small = x.3; number = x.2; spent = spent delete_means m x.0 r 1 tries x.1 }
-  goes (Get m share) tries x r = record { mode = run.0; small = tt; number = tt; spent = r }
-  goes (Successor m share) tries x r = record { mode = run.0; small = tt; number = tt; spent = r }
-  goes (Range m share) tries x r = record { mode = run.0; small = tt; number = tt; spent = r }
+  goes (Insert m) tries x r = record { mode = run.0; small = x.3; number = x.2; limit = x.4; spent = spent insert_means m x.0 r 3 tries x.1 }
+  goes (Delete m) tries x r = record { mode = run.0; small = x.3; number = x.2; limit = x.4; spent = spent delete_means m x.0 r 1 tries x.1 }
+  goes (Get m share) tries x r = record { mode = run.0; small = tt; number = tt; limit = tt; spent = r }
+  goes (Successor m share) tries x r = record { mode = run.0; small = tt; number = tt; limit = x.4; spent = r }
+  goes (Range m share) tries x r = record { mode = run.0; small = tt; number = tt; limit = x.4; spent = r }
 
   inside : (m : MapRun) (tries : ℕ) → IsUnbegun m tries c.number → IsFewCall (call_in m) → RestsWith c c.start (share_of m) → IsReadyInside m c c.start None
-  inside (Insert m) tries x few r = update_ready insert_means m x.0 r x.3
-  inside (Delete m) tries x few r = update_ready delete_means m x.0 r x.3
-  inside (Get m share) tries x few r = (get_ready_first m c c.start run x.3 (ends_self c.start) x.0 x.1 x.2, rests share r)
-  inside (Successor m share) tries x few r = (successor_ready_first m c c.start run refl x.3 r.over x.0 x.2, rests share r)
-  inside (Range m share) tries x few r = (range_ready_first m c c.start run refl x.3 few r.over x.0 x.2, rests share r)
+  inside (Insert m) tries x few r = update_ready insert_means m x.0 r x.3 (x.4 ∙ sym x.1)
+  inside (Delete m) tries x few r = update_ready delete_means m x.0 r x.3 (x.4 ∙ sym x.1)
+  inside (Get m share) tries x few r = (get_ready_first m c run x.3 r.over x.0 x.1 x.2, rests share r)
+  inside (Successor m share) tries x few r = (successor_ready_first m c c.start run refl x.3 r.over x.0 x.2 (let e = x.4 in let f = x.1 in omega (arith, e, f)), rests share r)
+  inside (Range m share) tries x few r = (range_ready_first m c c.start run refl x.3 few r.over x.0 x.2 (let e = x.4 in let f = x.1 in omega (arith, e, f)), rests share r)
 
   -- the machine may be called where the call begins
   pub map_begins : (m : MapRun) (tries : ℕ) → IsUnbegun m tries c.number → IsFewCall (call_in m) → RestsWith c c.start (share_of m) → MapIsReady tries m c c.start None

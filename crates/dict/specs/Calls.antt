@@ -33,6 +33,10 @@ tries_behind (runs.Get m share) = 0
 tries_behind (runs.Successor m share) = m.tries
 tries_behind (runs.Range m share) = m.tries
 
+-- of the tries that were left behind this one no more is gone than one
+abbrev pub KeepsTries : MapRun → MapRun → Type 0
+KeepsTries old now = (tries_behind now ≤ tries_behind old) × (tries_behind old ≤ tries_behind now + 1)
+
 -- the key of an edit is one of a word
 abbrev pub IsSmallCall : MapCall → Type 0
 IsSmallCall (Edit e) = edit_key e < 2 ^ 64
@@ -40,7 +44,7 @@ IsSmallCall _ = Unit {0}
 
 -- What a call may take
 
--- at most so many nodes in a try
+-- at most so many nodes in a try, and for each SCX-record
 abbrev pub most_nodes : MapCall → ℕ
 most_nodes (Edit (Insert key value)) = 3
 most_nodes (Edit (Delete key)) = 1
@@ -58,6 +62,8 @@ pub record HasSpent (c : Call) (call : MapCall) (tries : ℕ) (share : Remaining
   pub first : RestsWith c c.start left
   pub nodes : left.nodes ≤ share.nodes + most_nodes call * tries
   pub scx : left.scx ≤ share.scx + most_scx call * tries
+  -- and for each SCX-record that is gone at most so many nodes
+  pub each : left.nodes + most_nodes call * share.scx ≤ share.nodes + most_nodes call * left.scx
 
 -- how many nodes an insert needs, where the key has this value
 abbrev pub insert_nodes : Option ℕ → ℕ

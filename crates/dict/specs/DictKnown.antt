@@ -8,7 +8,7 @@ use Rattle.arena.specs.Share.{Remaining}
 use Rattle.spelling.specs.OrderedMap.{MapCall}
 use Rattle.updates.specs.Known.{RestsWith}
 use Rattle.updates.specs.Tries.{HasEnteredNone}
-use Rattle.dict.specs.Calls.{call_in, share_of, tries_behind, HasSpent}
+use Rattle.dict.specs.Calls.{call_in, share_of, HasSpent}
 use Rattle.dict.specs.Forms.{MayReply, form_of}
 use Rattle.dict.specs.Known.{MapIsReady, MapWaits}
 use Rattle.dict.specs.Says.{HasLost, HasRunOut, KeepsLists, Tells}
@@ -27,7 +27,8 @@ DictIsReady keys values m c h got = IsTypedCall keys values (call_in m.run) × M
 abbrev pub DictWaits : {K V : Type 0} → (ℕ → Type 0) → (ℕ → Type 0) → DictRun K V → Call → History → Step → Type 0
 DictWaits keys values m c h s = IsTypedCall keys values (call_in m.run) × MapWaits m.tries m.run c h s
 
--- why a reply tells nothing of the map
+-- why a reply tells nothing of the map, where the call has this share left, and so many tries in
+-- all
 abbrev pub DictRefuses : {K V : Type 0} → Call → History → MapCall → Remaining → ℕ → Reply K V → Type 0
 DictRefuses c h call share tries (Contended node scx) = HasLost c h tries node.0 scx.0
 DictRefuses c h call share tries (Full full) = HasRunOut c h call share full
@@ -42,4 +43,4 @@ pub record DictAnswers {K V : Type 0} (valid_key : K → Type 0) (key : K → �
   pub form : MayReply (call_in m.run) (form_of reply)
   pub valid : IsValidReply valid_key valid_value reply
   pub tells : Tells c h (call_in m.run) (told_of key value reply)
-  pub refuses : DictRefuses c h (call_in m.run) (share_of m.run) (tries_behind m.run) reply
+  pub refuses : DictRefuses c h (call_in m.run) (share_of m.run) m.tries reply

@@ -19,7 +19,7 @@ use Rattle.tree.specs.Insert.Means.{insert_means}
 use Rattle.updates.specs.Known.{RestsWith, UpdateIsReady, UpdateWaits}
 use Rattle.updates.specs.Steps.{node_tries, scx_tries, Spends}
 use Rattle.updates.specs.declared.update.UpdateAt.TheVariants.{Start as UpdateStart}
-use Rattle.dict.specs.Calls.{call_in, share_of, tries_behind, AsksForPairs, IsSmallCall, HasSpent}
+use Rattle.dict.specs.Calls.{call_in, share_of, AsksForPairs, IsSmallCall, HasSpent}
 use Rattle.dict.specs.Forms.{MayReply, word_form}
 use Rattle.dict.specs.Says.{WordSays}
 use Rattle.dict.specs.declared.run.MapRun.{MapRun}
@@ -55,11 +55,20 @@ IsNumbered (Insert m) number = m.call ≡ number
 IsNumbered (Delete m) number = m.call ≡ number
 IsNumbered m number = Unit {0}
 
+-- an edit or an ordered read may try so often
+abbrev pub HasTries : MapRun → ℕ → Type 0
+HasTries (Insert m) tries = m.limit ≡ tries
+HasTries (Delete m) tries = m.limit ≡ tries
+HasTries (Get m share) tries = Unit {0}
+HasTries (Successor m share) tries = m.limit ≡ tries
+HasTries (Range m share) tries = m.limit ≡ tries
+
 -- what holds of the machine all the way of its call, which has so many tries
 pub record Goes (m : MapRun) (tries : ℕ) (c : Call) : Type 0 where
   pub mode : c.layout.mode ≡ TreeMode
   pub small : IsSmallCall (call_in m)
   pub number : IsNumbered m c.number
+  pub limit : HasTries m tries
   pub spent : HasSpentIn m tries c
 
 -- the machine inside may be called with this
@@ -92,7 +101,7 @@ pub record MapAnswers (tries : ℕ) (m : MapRun) (c : Call) (h : History) (reply
   pub rests : RestsWith c h (share_of m)
   pub spent : HasSpent c (call_in m) tries (share_of m)
   pub form : MayReply (call_in m) (word_form reply)
-  pub says : WordSays c h (call_in m) (share_of m) (tries_behind m) reply
+  pub says : WordSays c h (call_in m) (share_of m) tries reply
 
 -- all but a range that takes no pair ask for a step before they answer
 abbrev pub AsksFirst : MapRun → Type 0
@@ -102,8 +111,8 @@ AsksFirst m = AsksForPairs (call_in m)
 
 -- it stands at its start, with so many tries in all, in the call of this number
 abbrev pub IsUnbegun : MapRun → ℕ → ℕ → Type 0
-IsUnbegun (Insert m) tries call = (m.at ≡ UpdateStart) × (m.tries + 1 ≡ tries) × (m.call ≡ call) × (m.edit.key < 2 ^ 64)
-IsUnbegun (Delete m) tries call = (m.at ≡ UpdateStart) × (m.tries + 1 ≡ tries) × (m.call ≡ call) × (m.edit.key < 2 ^ 64)
+IsUnbegun (Insert m) tries call = (m.at ≡ UpdateStart) × (m.tries + 1 ≡ tries) × (m.call ≡ call) × (m.edit.key < 2 ^ 64) × (m.limit ≡ tries)
+IsUnbegun (Delete m) tries call = (m.at ≡ UpdateStart) × (m.tries + 1 ≡ tries) × (m.call ≡ call) × (m.edit.key < 2 ^ 64) × (m.limit ≡ tries)
 IsUnbegun (Get m share) tries call = (m.walk.at ≡ WalkStart) × (m.walk.trail.node.0 ≡ 0) × (m.walk.goal ≡ ToKey m.key) × (m.key < 2 ^ 64)
-IsUnbegun (Successor m share) tries call = (m.at ≡ SuccessorStart) × (m.tries + 1 ≡ tries) × (m.snaps.items ≡ []) × (m.key < 2 ^ 64)
-IsUnbegun (Range m share) tries call = (m.at ≡ RangeStart) × (m.tries + 1 ≡ tries) × (m.snaps.items ≡ []) × (m.high < 2 ^ 64)
+IsUnbegun (Successor m share) tries call = (m.at ≡ SuccessorStart) × (m.tries + 1 ≡ tries) × (m.snaps.items ≡ []) × (m.key < 2 ^ 64) × (m.limit ≡ tries)
+IsUnbegun (Range m share) tries call = (m.at ≡ RangeStart) × (m.tries + 1 ≡ tries) × (m.snaps.items ≡ []) × (m.high < 2 ^ 64) × (m.limit ≡ tries)

@@ -9,6 +9,7 @@ use Rattle.arena.specs.Machines.{Call}
 use Rattle.arena.specs.Share.{Remaining}
 use Rattle.spelling.specs.OrderedMap.{MapEdit, MapCall, Edit, Successor, Range, MapReply, OneValue, reply, changes}
 use Rattle.spelling.specs.Spelled.{Spells}
+use Rattle.spelling.specs.Tries.{HasLostTries}
 use Rattle.spelling.specs.declared.pair.Pair.{Pair}
 use Rattle.template.specs.Blame.{IsContended}
 use Rattle.updates.specs.Known.{HasMade, IsUntouched}
@@ -56,11 +57,11 @@ HasToldBy false c h call told = HasRead c h call told
 abbrev pub HasTold : Call → History → MapCall → MapReply → Type 0
 HasTold c h call told = HasToldBy (changes call told) c h call told
 
--- All tries were lost: this SCX-record over this node was in the way of the call, no try is left,
--- and the pass has entered nothing since the call began.
+-- All tries of the call, so many, were lost: in the last this SCX-record was in the way over this
+-- node. The pass has entered nothing since the call began.
 pub record HasLost (c : Call) (h : History) (tries n s : ℕ) : Type 0 where
   pub way : IsContended c h n s
-  pub over : tries ≡ 0
+  pub all : HasLostTries c.pass h c.start tries n s
   pub none : HasEnteredNone c.layout c.pass h c.start
 
 -- the share has fewer nodes than these; or enough of them, and no SCX-record. So many are left
@@ -94,7 +95,7 @@ abbrev pub Tells : Call → History → MapCall → Option MapReply → Type 0
 Tells c h call None = Unit {0}
 Tells c h call (Some told) = HasTold c h call told
 
--- why there is none, where the call has this share left, and so many tries
+-- why there is none, where the call has this share left, and so many tries in all
 abbrev pub Refuses : Call → History → MapCall → Remaining → ℕ → WordReply → Type 0
 Refuses c h call share tries (words.Contended node scx) = HasLost c h tries node.0 scx.0
 Refuses c h call share tries (words.Full full) = HasRunOut c h call share full

@@ -1,6 +1,6 @@
 //! The machine of a call of a dictionary.
 ghost use Rattle.std.specs.Prelude.{◌≡◌, ◌<◌, ◌≤◌, ℕ, IsSome};
-ghost use Rattle.dict.specs.Calls.{call_in, share_of};
+ghost use Rattle.dict.specs.Calls.{KeepsTries, call_in, share_of};
 ghost use Rattle.dict.specs.Known.{AsksFirst, IsUnbegun};
 ghost use Rattle.dict.specs.Says.{KeepsLists};
 ghost use Rattle.dict.specs.Steps.{map_left, most_steps, MapFits};
@@ -110,7 +110,7 @@ impl<K: WordKey, V: WordValue> Machine<Dict<K, V>> for DictRun<K, V> {
 
     ghost answers = { DictAnswers K.is_valid K.word_of V.is_valid V.word_of };
 
-    ghost same = { λ old now. (call_in now.run ≡ call_in old.run) × (now.tries ≡ old.tries) };
+    ghost same = { λ old now. (call_in now.run ≡ call_in old.run) × (now.tries ≡ old.tries) × KeepsTries old.run now.run };
 
     ghost left = { λ m nodes. map_left m.run nodes };
 

@@ -3,7 +3,7 @@ ghost use Rattle.std.specs.Prelude.{◌≡◌, ◌<◌, ◌≤◌, ℕ, None, Is
 ghost use Rattle.arena.specs.History.{History};
 ghost use Rattle.arena.specs.Machines.{Call, IsRun, MatchTurn};
 ghost use Rattle.spelling.specs.TreeShape.{TreeAllows};
-ghost use Rattle.dict.specs.Calls.{call_in, share_of};
+ghost use Rattle.dict.specs.Calls.{KeepsTries, call_in, share_of};
 ghost use Rattle.dict.specs.Known.{AsksFirst, IsUnbegun, MapIsReady, MapWaits, MapAnswers};
 ghost use Rattle.dict.specs.Says.{KeepsLists};
 ghost use Rattle.dict.specs.Steps.{map_left, most_steps, MapFits, IsNearer};
@@ -72,6 +72,7 @@ impl MapRun {
         ensures turn { (tries : ℕ) (c : Call) (h : History) → IsRun TreeAllows c.layout h → MapIsReady tries self.old c h got → MatchTurn result (MapWaits tries self.new c h) (MapAnswers tries self.new c h) }
         ensures begins { got ≡ None → AsksFirst self.old → (tries : ℕ) (c : Call) (h : History) → MapIsReady tries self.old c h None → MatchTurn result (λ _. Unit {0}) (λ _. ⊥) }
         ensures same { call_in self.new ≡ call_in self.old }
+        ensures tries { KeepsTries self.old self.new }
         ensures nearer { (nodes : ℕ) → MapFits self.old got nodes → IsNearer self.old self.new nodes result }
     {
         match self {

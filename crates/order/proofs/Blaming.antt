@@ -1,5 +1,5 @@
 -- Who was in the way of a try that is lost.
-use Rattle.std.proofs.Common.{◌≡◌, ◌≢◌, ℕ, ◌<◌, ◌-◌, List, length, inr, refl, subst, sym, arith, None}
+use Rattle.std.proofs.Common.{◌≡◌, ◌≢◌, ℕ, suc, ◌<◌, ◌-◌, List, length, inl, inr, refl, subst, sym, ◌∙◌, ap, arith, None}
 use Rattle.arena.specs.declared.machine.Turn.{Turn}
 use Rattle.arena.specs.declared.machine.Turn.TheVariants.{Ask, Done}
 use Rattle.arena.specs.declared.number.NodeNo.{NodeNo}
@@ -8,6 +8,8 @@ use Rattle.arena.specs.declared.step.Kind.TheVariants.{LoadInfo}
 use Rattle.arena.specs.History.{History, Extends}
 use Rattle.arena.specs.Lawful.{Lawful}
 use Rattle.arena.specs.Machines.{Call, MatchTurn}
+use Rattle.arena.proofs.Lemmas.{ends_self, ends_trans}
+use Rattle.prims.specs.Laws.Idle.{IsIdle, IsQuietSince, quiet_at_start}
 use Rattle.prims.specs.Llx.Known.{LlxAnswers}
 use Rattle.prims.specs.Shares.{IsUsable}
 use Rattle.prims.specs.Snap.{snap_at}
@@ -17,9 +19,12 @@ use Rattle.prims.specs.declared.llx.LlxRun.{LlxRun}
 use Rattle.prims.specs.declared.snap.Snap.{Snap}
 use Rattle.prims.proofs.Lemmas.{usable_now, usable_since}
 use Rattle.order.specs.Reads.{from, HasSnapped, Reads, HasStood}
-use Rattle.order.specs.Replies.{KeepsTries}
+use Rattle.spelling.specs.OrderedMap.{MapCall, MapReply}
+use Rattle.spelling.specs.Tries.{HasLostTries, tries_begun}
+use Rattle.order.specs.Replies.{IsReplyAt, KeepsTries}
+use Rattle.order.specs.Tries.{BeginsTry, IsInTry}
 use Rattle.template.specs.Blame.{IsContended}
-use Rattle.template.proofs.Lemmas.{changed_contended, failed_contended, finalized_contended}
+use Rattle.template.proofs.Lemmas.{changed_contended, contended_wider, failed_contended, finalized_contended, tries_begin}
 
 module _ (c : Call) (h : History) (snaps : List Snap) (reads : Reads c h snaps) where
   -- an LLX that has begun in the call fails
@@ -55,3 +60,60 @@ look_changed c begin h snaps n s l reads x = changed_contended c LoadInfo begin 
 pub gives_up : {A : Type 0} (c : Call) (h : History) (before now : ℕ) (turn : Turn A) (n s : ℕ) → MatchTurn turn (λ _. Unit {0}) (λ _. ⊥) → before ≢ 0 → now ≡ before - 1 → IsContended c h n s → KeepsTries c h before now turn
 gives_up c h before now (Ask step) n s begins some is way = inr record { one = omega (arith, some, is); node = n; scx = s; way = way }
 gives_up c h before now (Done answer) n s begins some is way = absurd begins
+
+-- Its tries
+
+-- in a try it has begun one more than before
+tries_in : (c : Call) (h begin : History) (limit left : ℕ) → IsInTry c h begin limit left → tries_begun c.pass h ≡ suc (tries_begun c.pass begin)
+tries_in c h begin limit left try = try.newest.none_since ∙ tries_begin c.pass try.newest.first begin try.newest.begins
+
+-- it is in it whatever the numbers are called
+pub try_as : (c : Call) (h begin : History) (limit left most now : ℕ) → most ≡ limit → now ≡ left → IsInTry c h begin limit left → IsInTry c h begin most now
+try_as c h begin limit left most now e f x = rw (e, f) x
+
+-- what contends with a try contends with the call
+pub try_contended : (c : Call) (begin h : History) (n s limit left : ℕ) → IsInTry c h begin limit left → IsContended (from c begin) h n s → IsContended c h n s
+try_contended c begin h n s limit left try way = contended_wider c begin h n s try.begins.since way
+
+-- and where that was the last, all are lost
+pub all_lost : (c : Call) (begin h : History) (n s limit left : ℕ) → IsInTry c h begin limit left → left ≡ 0 → IsContended (from c begin) h n s → HasLostTries c.pass h c.start limit n s
+all_lost c begin h n s limit left try last way = record {
+  begin = begin;
+  since = try.begins.since;
+  newest = try.newest;
+  all = let one = tries_in c h begin limit left try in let all = try.begins.all in omega (arith, one, all, last);
+  in_the_way = way.in_the_way;
+}
+
+-- else it may begin another
+pub begins_again : (c : Call) (begin h : History) (limit left now : ℕ) → IsInTry c h begin limit left → Extends h begin → left ≢ 0 → now ≡ left - 1 → BeginsTry c h limit now
+begins_again c begin h limit left now try since some is = record {
+  since = ends_trans h begin c.start since try.begins.since;
+  quiet = try.quiet;
+  all = let one = tries_in c h begin limit left try in let all = try.begins.all in omega (arith, one, all, some, is);
+}
+
+-- the first of a call that has just begun
+pub begins_first : (c : Call) (h : History) (limit left : ℕ) → h ≡ c.start → IsIdle c.layout c.pass h → limit ≡ suc left → BeginsTry c h limit left
+begins_first c h limit left e idle all = record {
+  since = subst (Extends h) e (ends_self h);
+  quiet = subst (λ k. IsQuietSince c.layout c.pass k h) e (quiet_at_start c.layout c.pass h idle);
+  all = let same : tries_begun c.pass h ≡ tries_begun c.pass c.start = ap (tries_begun c.pass) e in omega (arith, same, all);
+}
+
+-- a try that is given up in a part of the call is given up in the call
+pub keeps_wider : {A : Type 0} (c : Call) (begin h : History) (before now : ℕ) (turn : Turn A) → Extends begin c.start → KeepsTries (from c begin) h before now turn → KeepsTries c h before now turn
+keeps_wider c begin h before now turn e (inl kept) = inl kept
+keeps_wider c begin h before now (Ask step) e (inr gave) = inr record { one = gave.one; node = gave.node; scx = gave.scx; way = contended_wider c begin h gave.node gave.scx e gave.way }
+keeps_wider c begin h before now (Done answer) e (inr none) = absurd none
+
+-- and what it replies at a moment of that it replies at one of the call
+pub reply_wider : (c : Call) (begin h : History) (call : MapCall) (told : MapReply) → Extends begin c.start → IsReplyAt (from c begin) h call told → IsReplyAt c h call told
+reply_wider c begin h call told e x = record {
+  moment = x.moment;
+  within = x.within;
+  own = let o = x.own in record { row = o.row; before = o.before; is = o.is; since = ends_trans o.before begin c.start o.since e; own = o.own };
+  map = x.map;
+  spelled = x.spelled;
+  gives = x.gives;
+}

@@ -1,5 +1,5 @@
--- What the search for the least key above k finds is what the pairs of the tree say: a leaf above all
--- keys has no pair.
+-- What the search for the least key above k finds is what the pairs of the tree say: a leaf above
+-- all keys has no pair.
 use Rattle.std.proofs.Common.{◌≡◌, ◌≢◌, ℕ, ◌^◌, ◌<◌, ◌≤◌, ◌⊎◌, Bool, true, false, cond, ltb, inl, inr, List, [], ◌∷◌, ◌++◌, refl, sym, ◌∙◌, ap, arith, lt-ltb, le-ltb, eq-eqb, ne_eqb, Option, Some, None}
 use native.Mathlib.Decide.{ℕ_discrete}
 use Rattle.arena.specs.declared.layout.Layout.{Layout}

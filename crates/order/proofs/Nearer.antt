@@ -1,5 +1,5 @@
 -- That each turn of a successor leaves fewer steps.
-use Rattle.std.proofs.Common.{◌≡◌, ◌≢◌, ℕ, zero, suc, ◌+◌, ◌*◌, ◌-◌, ◌<◌, ◌≤◌, length, refl, sym, subst, arith, Option, unwrap_or}
+use Rattle.std.proofs.Common.{◌≡◌, ◌≢◌, ℕ, zero, suc, ◌+◌, ◌*◌, ◌-◌, ◌<◌, ◌≤◌, [], length, refl, sym, ap, subst, arith, Option, unwrap_or}
 use Rattle.std.proofs.Math.Nat.{suc-mul}
 use Rattle.arena.specs.declared.machine.Turn.{Turn}
 use Rattle.arena.specs.declared.machine.Turn.TheVariants.{Ask, Done}
@@ -7,9 +7,12 @@ use Rattle.arena.specs.Machines.{MatchTurn}
 use Rattle.arena.specs.Heads.{head_of}
 use Rattle.arena.specs.declared.head.Head.{Head as HeadParts}
 use Rattle.arena.specs.declared.number.NodeNo.{NodeNo}
+use Rattle.arena.specs.declared.step.Step.{Step}
+use Rattle.template.specs.declared.walk.WalkAt.TheVariants.{Root}
+use Rattle.template.specs.declared.walk.WalkRun.{WalkRun}
 use Rattle.order.specs.declared.successor.Route.{Route}
 use Rattle.order.specs.declared.successor.Route.TheVariants.{Along}
-use Rattle.order.specs.declared.successor.SuccessorAt.TheVariants.{Head}
+use Rattle.order.specs.declared.successor.SuccessorAt.TheVariants.{Walk, Head}
 use Rattle.order.specs.declared.successor.SuccessorRun.{SuccessorRun}
 use Rattle.order.specs.Successor.Steps.{behind, try_left, phase_left, successor_left, HeadFits, SuccessorFitsAt, SuccessorFits}
 
@@ -30,8 +33,9 @@ try_less (suc tries) each d = let e : suc tries - 1 ≡ tries = omega arith in r
 pub to_tries : (t rest : ℕ) → t ≤ t + rest
 to_tries t rest = omega arith
 
-pub begins_walk : (t now left size nodes : ℕ) → now < left → left ≤ 3 * (2 + nodes) → size ≡ 0 → t + (now + size + 134 * (2 + nodes)) < t + 137 * (2 + nodes)
-begins_walk t now left size nodes i j e = omega (arith, i, j, e)
+-- with no snapshot, and the first step of its walk asked for, fewer steps are left than in a try
+pub begins_walk : {A : Type 0} (empty now : SuccessorRun) (walk : WalkRun) (last : NodeNo) (turn : Turn A) (step : Step) (nodes : ℕ) → empty.snaps.items ≡ [] → now ≡ record empty { at = Walk (record walk { at = Root }) last } → turn ≡ Ask step → MatchTurn turn (λ _. successor_left now nodes < empty.tries * try_left nodes + try_left nodes) (λ _. Unit {0})
+begins_walk empty now walk last turn step nodes items is asked = let e = ap length items in rw (asked, is) (omega (arith, e))
 
 pub less_walk : (t now left size rest : ℕ) → now < left → t + (now + size + rest) < t + (left + size + rest)
 less_walk t now left size rest i = omega (arith, i)

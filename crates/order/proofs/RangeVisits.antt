@@ -13,7 +13,7 @@ use Rattle.arena.specs.Heads.{head_of}
 use Rattle.arena.specs.Words.{node, child}
 use Rattle.arena.specs.History.{History, value, Extends}
 use Rattle.arena.specs.Machines.{Call}
-use Rattle.arena.proofs.Lemmas.{ends_self, ends_trans}
+use Rattle.arena.proofs.Lemmas.{ends_self}
 use Rattle.prims.specs.Laws.Idle.{quiet_at_start}
 use Rattle.prims.specs.Llx.Known.{IsSnapshot, LlxKnows, LlxIsReady}
 use Rattle.prims.specs.Snap.{child_of}
@@ -23,14 +23,13 @@ use Rattle.prims.specs.declared.llx.LlxRun.{LlxRun}
 use Rattle.prims.specs.declared.snap.Snap.{Snap}
 use Rattle.spelling.specs.declared.pair.Pair.{Pair}
 use Rattle.spelling.specs.OrderedMap.{between, range, Range, ManyPairs}
-use Rattle.spelling.specs.Paths.{Passed}
 use Rattle.spelling.specs.Runs.{IsTreeRun}
 use Rattle.spelling.specs.Spelled.{Spells}
 use Rattle.spelling.specs.TreeShape.{TreeAllows}
 use Rattle.spelling.specs.TreeWords.{class, is_leaf, level, rank}
-use Rattle.spelling.proofs.Lemmas.{path_not_final, root_head, run_since, run_spells, stood_settled, walk_first, was_passed, SameSettled, settled_class, settled_leaf, settled_rank}
+use Rattle.spelling.proofs.Lemmas.{root_head, run_spells, stood_settled, SameSettled, settled_class, settled_leaf, settled_rank}
 use Rattle.template.specs.Trails.{IsOwnMoment}
-use Rattle.order.specs.Kept.{idle_over, stood_opened}
+use Rattle.order.specs.Kept.{idle_over, root_there, stood_opened}
 use Rattle.order.specs.Reads.{from, AllHold, Whenever, HasStood}
 use Rattle.order.specs.Replies.{IsReplyAt}
 use Rattle.order.specs.Visits.{IsVisiting, HasVisited, IsRangeAt}
@@ -74,16 +73,6 @@ pub none_of_none : (low high : ℕ) (m : List Pair) → range low high 0 m ≡ [
 none_of_none low high m = take_zero (between low high m)
 
 -- The first node
-
--- the root has stood in the tree
-root_there : (c : Call) (h : History) → IsTreeRun c.layout h → Extends h c.start → HasStood c h 0
-root_there c h run since = record {
-  stood = was_passed h h 0 0 p;
-  not_final = record { moment = p.0; within = p.1; since = ends_trans p.0 h c.start p.2 since; was = path_not_final c.layout p.0 0 0 (run_since c.layout h p.0 run p.1) p.3 };
-}
-  where
-    p : Passed h h 0 0
-    p = walk_first c.layout h 0 run
 
 -- it is visited first
 pub visits_first : (m : RangeRun) (c : Call) (h : History) → Goes m c h → m.low ≤ m.high → 0 < m.most → m.snaps.items ≡ [] → m.waiting.items ≡ [] → m.taken.items ≡ [] → m.leaves ≡ m.most + 2 → Visits m c h 0

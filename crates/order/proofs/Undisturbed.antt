@@ -23,11 +23,11 @@ use Rattle.spelling.specs.Runs.{IsTreeRun}
 use Rattle.spelling.specs.Spelled.{Spells}
 use Rattle.spelling.proofs.Lemmas.{one_spelling, quiet_spells, run_since}
 use Rattle.template.proofs.Lemmas.{own_since}
-use Rattle.order.specs.Range.Known.{IsSameRange, RangeIsReady, RangeAnswers, RangeReplies, RangeTurn, Goes as RangeGoes}
+use Rattle.order.specs.Range.Known.{IsSameRange, RangeIsReady, RangeAnswers, RangeReplies, RangeTurn}
 use Rattle.order.specs.Range.Steps.{range_left, IsNearer as RangeIsNearer, phase_left as range_phase, try_left as range_try}
 use Rattle.order.specs.Replies.{IsReplyAt, KeepsTries}
 use Rattle.template.specs.Blame.{IsContended}
-use Rattle.order.specs.Successor.Known.{SuccessorIsReady, SuccessorAnswers, SuccessorTurn, Goes as SuccessorGoes}
+use Rattle.order.specs.Successor.Known.{SuccessorIsReady, SuccessorAnswers, SuccessorTurn}
 use Rattle.order.specs.Successor.Steps.{successor_left, IsNearer as NextIsNearer, phase_left as next_phase, try_left as next_try}
 use Rattle.order.specs.Undisturbed.{HasLeftAll, HasLessOfTry, IsUndisturbed, TellsNext, TellsRange}
 use Rattle.order.specs.declared.range.RangeRun.{RangeRun}
@@ -140,40 +140,42 @@ module _ (c : Call) (h : History) (run : IsTreeRun c.layout h) (alone : IsUndist
     alone_replies : (call : MapCall) (told : MapReply) (map : List Pair) → IsReplyAt c h call told → Spells c.layout (value c.start) map → told ≡ reply call map
     alone_replies call told map x spells = sym x.gives ∙ ap (reply call) (one_spelling c.layout (value x.moment) x.map map x.spelled (still map spells x.moment x.within (own_since c x.moment x.own)).spelled)
 
-module _ (c : Call) (h : History) (alone : IsUndisturbed c h) (map : List Pair) (spells : Spells c.layout (value c.start) map) where
+module _ (c : Call) (h : History) (alone : IsUndisturbed c h) (map : List Pair) (spells : Spells c.layout (value c.start) map) (run : IsTreeRun c.layout h) (quiet : IsQuietSince c.layout c.pass c.start h) where
   -- a successor by itself
-  module _ (old now : SuccessorRun) (goes : SuccessorGoes old c h) (key : now.key ≡ old.key) where
+  module _ (old now : SuccessorRun) (key : now.key ≡ old.key) where
     next_told : (answer : Result (Option Pair) Refused) → SuccessorAnswers now c h answer → TellsNext map old.key answer
-    next_told (Ok found) x = rw key at (same_next found (successor now.key map) (alone_replies c h goes.reads.run alone goes.reads.quiet (Successor now.key) (pair_or_none found) map x.1 spells))
-    next_told (Err (Contended n s)) x = never_contended c h goes.reads.run alone n.0 s.0 x.1.0
+    next_told (Ok found) x = rw key at (same_next found (successor now.key map) (alone_replies c h run alone quiet (Successor now.key) (pair_or_none found) map x.1 spells))
+    next_told (Err (Contended n s)) x = never_contended c h run alone n.0 s.0 x.1.0
     next_told (Err NoMemory) x = tt
 
     next_turn : (turn : Turn (Result (Option Pair) Refused)) → SuccessorTurn c h now turn → HasLeftAll c h map × MatchTurn turn (λ _. Unit {0}) (TellsNext map old.key)
-    next_turn (Ask step) x = (still c h goes.reads.run alone goes.reads.quiet map spells h (ends_self h) alone.since, tt)
-    next_turn (Done answer) x = (still c h goes.reads.run alone goes.reads.quiet map spells h (ends_self h) alone.since, next_told answer x)
-
-  pub alone_next : (old now : SuccessorRun) (turn : Turn (Result (Option Pair) Refused)) (got : Option ℕ) → SuccessorIsReady old c h got → now.key ≡ old.key → SuccessorTurn c h now turn → HasLeftAll c h map × MatchTurn turn (λ _. Unit {0}) (TellsNext map old.key)
-  alone_next old now turn None ready key x = next_turn old now ready.0 key turn x
-  alone_next old now turn (Some v) ready key x = next_turn old now ready.0 key turn x
+    next_turn (Ask step) x = (still c h run alone quiet map spells h (ends_self h) alone.since, tt)
+    next_turn (Done answer) x = (still c h run alone quiet map spells h (ends_self h) alone.since, next_told answer x)
 
   -- a range by itself
-  module _ (old now : RangeRun) (goes : RangeGoes old c h) (is : IsSameRange old now) where
+  module _ (old now : RangeRun) (is : IsSameRange old now) where
     range_replied : (told : List Pair) → RangeReplies now c h told → told ≡ range now.low now.high now.most map
-    range_replied told (inl x) = same_pairs told (range now.low now.high now.most map) (alone_replies c h goes.reads.run alone goes.reads.quiet (Range now.low now.high now.most) (ManyPairs told) map x spells)
+    range_replied told (inl x) = same_pairs told (range now.low now.high now.most map) (alone_replies c h run alone quiet (Range now.low now.high now.most) (ManyPairs told) map x spells)
     range_replied told (inr x) = sym (x.1 map)
 
     range_told : (answer : Result (Vec Pair Global) Refused) → RangeAnswers now c h answer → TellsRange map old.low old.high old.most answer
     range_told (Ok told) x = rw (is.0, is.1, is.2) at (range_replied told.items x.1)
-    range_told (Err (Contended n s)) x = never_contended c h goes.reads.run alone n.0 s.0 x.1.0
+    range_told (Err (Contended n s)) x = never_contended c h run alone n.0 s.0 x.1.0
     range_told (Err NoMemory) x = tt
 
     range_turn : (turn : Turn (Result (Vec Pair Global) Refused)) → RangeTurn c h now turn → HasLeftAll c h map × MatchTurn turn (λ _. Unit {0}) (TellsRange map old.low old.high old.most)
-    range_turn (Ask step) x = (still c h goes.reads.run alone goes.reads.quiet map spells h (ends_self h) alone.since, tt)
-    range_turn (Done answer) x = (still c h goes.reads.run alone goes.reads.quiet map spells h (ends_self h) alone.since, range_told answer x)
+    range_turn (Ask step) x = (still c h run alone quiet map spells h (ends_self h) alone.since, tt)
+    range_turn (Done answer) x = (still c h run alone quiet map spells h (ends_self h) alone.since, range_told answer x)
+
+-- what a read may be called with tells that its pass was idle since the call began
+module _ (c : Call) (h : History) (alone : IsUndisturbed c h) (map : List Pair) (spells : Spells c.layout (value c.start) map) where
+  pub alone_next : (old now : SuccessorRun) (turn : Turn (Result (Option Pair) Refused)) (got : Option ℕ) → SuccessorIsReady old c h got → now.key ≡ old.key → SuccessorTurn c h now turn → HasLeftAll c h map × MatchTurn turn (λ _. Unit {0}) (TellsNext map old.key)
+  alone_next old now turn None ready key x = next_turn c h alone map spells ready.0.reads.run ready.0.reads.quiet old now key turn x
+  alone_next old now turn (Some v) ready key x = next_turn c h alone map spells ready.2.reads.run ready.1.quiet old now key turn x
 
   pub alone_range : (old now : RangeRun) (turn : Turn (Result (Vec Pair Global) Refused)) (got : Option ℕ) → RangeIsReady old c h got → IsSameRange old now → RangeTurn c h now turn → HasLeftAll c h map × MatchTurn turn (λ _. Unit {0}) (TellsRange map old.low old.high old.most)
-  alone_range old now turn None ready is x = range_turn old now ready.0 is turn x
-  alone_range old now turn (Some v) ready is x = range_turn old now ready.0 is turn x
+  alone_range old now turn None ready is x = range_turn c h alone map spells ready.0.reads.run ready.0.reads.quiet old now is turn x
+  alone_range old now turn (Some v) ready is x = range_turn c h alone map spells ready.2.reads.run ready.1.quiet old now is turn x
 
 -- with one pass there is no other
 pub one_never_contended : (c : Call) (h : History) (n s : ℕ) → c.layout.passes ≡ 1 → ¬ IsContended c h n s

@@ -1,4 +1,5 @@
 pub mod Replies
+pub mod Tries
 pub mod Reads
 pub mod Undisturbed
 pub mod Kept

@@ -18,11 +18,11 @@ ghost use Rattle.order.specs.declared.range.RangeRun.{RangeRun};
 ghost use Rattle.order.specs.declared.refused.Refused.{Refused};
 ghost use Rattle.order.specs.declared.successor.SuccessorRun.{SuccessorRun};
 
-/// What a turn of an ordered read says of a call by itself: nothing was in progress as it began, and
-/// no other pass makes a row while it runs. The log and the map are what they were as the call began,
-/// and its answer is what that map gives. It is never contended, and gives up no try: each turn leaves
-/// fewer steps of the first. Nor is any read contended where there is one pass alone. It does nothing;
-/// a caller learns the laws from its contract.
+/// What a turn of an ordered read says of a call by itself: nothing was in progress as it began,
+/// and no other pass makes a row while it runs. The log and the map are what they were as the call
+/// began, and its answer is what that map gives. It is never contended, and gives up no try: each
+/// turn leaves fewer steps of the first. Nor is any read contended where there is one pass alone.
+/// It does nothing; a caller learns the laws from its contract.
 pub fn alone_holds()
     ensures successor { (old now : SuccessorRun) (turn : Turn (Result (Option Pair) Refused)) (c : Call) (h : History) (got : Option ℕ) (map : List Pair) → IsUndisturbed c h → Spells c.layout (value c.start) map → SuccessorIsReady old c h got → now.key ≡ old.key → SuccessorTurn c h now turn → HasLeftAll c h map × MatchTurn turn (λ _. Unit {0}) (TellsNext map old.key) }
     ensures range { (old now : RangeRun) (turn : Turn (Result (Vec Pair Global) Refused)) (c : Call) (h : History) (got : Option ℕ) (map : List Pair) → IsUndisturbed c h → Spells c.layout (value c.start) map → RangeIsReady old c h got → IsSameRange old now → RangeTurn c h now turn → HasLeftAll c h map × MatchTurn turn (λ _. Unit {0}) (TellsRange map old.low old.high old.most) }

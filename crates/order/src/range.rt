@@ -34,8 +34,8 @@ pub enum RangeAt {
         key: u64,
         node: NodeNo,
     },
-    /// A step of the LLX of a fork of this level, of which these children are to be visited: the left
-    /// one, the right one.
+    /// A step of the LLX of a fork of this level, of which these children are to be visited: the
+    /// left one, the right one.
     Look {
         level: u64,
         left: bool,
@@ -66,8 +66,8 @@ pub enum RangeNext {
         key: u64,
         node: NodeNo,
     },
-    /// The LLX of a fork of this level, of which these children are to be visited: the left one, the
-    /// right one.
+    /// The LLX of a fork of this level, of which these children are to be visited: the left one,
+    /// the right one.
     Look {
         level: u64,
         left: bool,
@@ -78,8 +78,8 @@ pub enum RangeNext {
     Validate,
 }
 
-/// The first pairs by key of those with keys from `low` to `high`: visits from the root down, with an
-/// LLX of each fork, and a VLX over all nodes that were looked at. And again where such a try is
+/// The first pairs by key of those with keys from `low` to `high`: visits from the root down, with
+/// an LLX of each fork, and a VLX over all nodes that were looked at. And again where such a try is
 /// lost, as long as tries are left.
 #[derive(Debug, Drop)]
 pub struct RangeRun {
@@ -87,7 +87,9 @@ pub struct RangeRun {
     pub high: u64,
     /// How many pairs it tells at most.
     pub most: usize,
-    /// How many tries are left behind this one.
+    /// How many tries it has in all.
+    pub limit: u32,
+    /// How many of them are left behind this one.
     pub tries: u32,
     /// With what the lists grow.
     pub alloc: Global,
@@ -104,7 +106,7 @@ pub struct RangeRun {
 }
 
 impl RangeRun {
-    ghost use Rattle.std.specs.Prelude.{◌≡◌, ℕ, Bool, ◌+◌, ◌-◌, ◌*◌, ◌<◌, ◌≤◌, length, [], IfOk, None, Ok};
+    ghost use Rattle.std.specs.Prelude.{◌≡◌, ℕ, ◌+◌, ◌-◌, ◌*◌, ◌<◌, ◌≤◌, length, [], IfOk, None, Ok};
     ghost use Rattle.arena.specs.History.{History, Extends};
     ghost use Rattle.arena.specs.Machines.{MatchTurn, Call};
     ghost use Rattle.prims.specs.Llx.Known.{IsSnapshot, LlxIsReady, load};
@@ -115,24 +117,26 @@ impl RangeRun {
     ghost use Rattle.template.specs.Trails.{IsOwnMoment};
     ghost use Rattle.order.specs.Reads.{from, Whenever};
     ghost use Rattle.order.specs.Replies.{KeepsTries};
+    ghost use Rattle.order.specs.Tries.{BeginsTry, IsInTry};
     ghost use Rattle.template.specs.Blame.{IsContended};
     ghost use Rattle.order.specs.Visits.{IsRangeAt};
-    ghost use Rattle.order.specs.Successor.Known.{head_at, key_at, value_at, level_at};
+    ghost use Rattle.order.specs.Successor.Known.{head_at, key_at, value_at};
     ghost use Rattle.order.specs.Successor.Steps.{HeadFits};
     ghost use Rattle.order.specs.Range.Known.{bounds_of, IsSameRange, AsksForNothing, AsksForSome, TellsNone, Visits, LooksIn, HasLowHead, HasKey, GoesBehind, Validates, Goes, HasTold, RangeIsReady, RangeTurn};
     ghost use Rattle.order.specs.Range.Steps.{try_left, leaves_left, range_left, IsNearer, RangeFits};
-    ghost use Rattle.order.specs.Range.Next.{ComesNearer, GoesOn, MayDo};
+    ghost use Rattle.order.specs.Range.Next.{ComesNearer, GoesOn, MayDo, MayGoOn};
 
     /// A run that has not begun. What it keeps grows with this allocator. What is said of its turns
     /// holds for a `most` of up to 64. In each try it asks for at most 67 steps for each node that
-    /// has been taken when it ends, and for 134 more; and that for each of the pairs it is to tell at
-    /// most, and twice more.
+    /// has been taken when it ends, and for 134 more; and that for each of the pairs it is to tell
+    /// at most, and twice more.
     pub fn new(alloc: Global, low: u64, high: u64, most: usize, tries: u32) -> RangeRun
         ensures low { result.low ≡ low }
         ensures high { result.high ≡ high }
         ensures most { result.most ≡ most }
         ensures start { result.at ≡ RangeAt.Start }
         ensures snaps { result.snaps.items ≡ [] }
+        ensures limit { result.limit ≡ tries }
         ensures tries { result.tries ≡ tries - 1 }
         ensures bound { (nodes : ℕ) → 0 < tries → range_left result nodes ≤ tries * try_left most nodes }
     {
@@ -140,6 +144,7 @@ impl RangeRun {
             low,
             high,
             most,
+            limit: tries,
             tries: tries.saturating_sub(1),
             alloc,
             snaps: Vec::new(alloc),
@@ -163,7 +168,7 @@ impl RangeRun {
     /// Begins a try with the load of the root's head; of no keys, and of no pairs, it knows the
     /// answer.
     pub fn begin(&mut self) -> Turn<Told>
-        ensures turn { (c : Call) (h : History) → Goes self.old c h → RangeTurn c h self.new result }
+        ensures turn { (c : Call) (begin h : History) → BeginsTry c h self.old.limit self.old.tries → Goes self.old (from c begin) h → RangeTurn c h self.new result }
         ensures begins { AsksForSome self.old → MatchTurn result (λ _. Unit {0}) (λ _. ⊥) }
         ensures nothing { AsksForNothing self.old → TellsNone result }
         ensures root { MatchTurn result (λ step. (self.new.at ≡ RangeAt.Root) × (step ≡ load Kind.LoadSettled (Word.Node record { 0 = 0 } NodeWord.Head))) (λ _. Unit {0}) }
@@ -192,9 +197,10 @@ impl RangeRun {
         Turn::Done(Ok(mem::replace(&mut self.taken, none)))
     }
 
-    /// Ends a try that is lost to this SCX-record over this node, and begins the next if there is one.
+    /// Ends a try that is lost to this SCX-record over this node, and begins the next if there is
+    /// one.
     fn lost(&mut self, node: NodeNo, scx: ScxNo) -> Turn<Told>
-        ensures turn { (c : Call) (h : History) → Goes self.old c h → IsContended c h node.0 scx.0 → RangeTurn c h self.new result }
+        ensures turn { (c : Call) (begin h : History) → IsInTry c h begin self.old.limit self.old.tries → Goes self.old (from c begin) h → IsContended (from c begin) h node.0 scx.0 → RangeTurn c h self.new result }
         ensures same { IsSameRange self.old self.new }
         ensures nearer { (nodes : ℕ) → IsNearer self.new nodes result (self.old.tries * try_left self.old.most nodes) }
         ensures tries { (c : Call) (h : History) → AsksForSome self.old → IsContended c h node.0 scx.0 → KeepsTries c h self.old.tries self.new.tries result }
@@ -301,7 +307,7 @@ impl RangeRun {
         mut llx: LlxRun,
         got: Option<u64>,
     ) -> Turn<Told>
-        ensures turn { (c : Call) (begin h : History) → Goes self.old c h → LooksIn self.old c h level left right llx.node.0 → Extends begin c.start → LlxIsReady TreeAllows llx (from c begin) h got → RangeTurn c h self.new result }
+        ensures turn { (c : Call) (begin look h : History) → IsInTry c h begin self.old.limit self.old.tries → Goes self.old (from c begin) h → LooksIn self.old (from c begin) h level left right llx.node.0 → Extends look begin → LlxIsReady TreeAllows llx (from c look) h got → RangeTurn c h self.new result }
         ensures same { IsSameRange self.old self.new }
         ensures nearer { (nodes : ℕ) → level + 1 < 2 + nodes → IsNearer self.new nodes result (self.old.tries * try_left self.old.most nodes + (llx_left llx.at + length self.old.snaps.items + 1 + 67 * (1 + nodes - level) + leaves_left self.old.leaves nodes)) }
         ensures tries { (c : Call) (begin h : History) → Goes self.old c h → LooksIn self.old c h level left right llx.node.0 → Extends begin c.start → LlxIsReady TreeAllows llx (from c begin) h got → KeepsTries c h self.old.tries self.new.tries result }
@@ -325,8 +331,8 @@ impl RangeRun {
         }
     }
 
-    /// Keeps a snapshot of the fork at which it looks, and tells which of the children that are to be
-    /// visited is the next.
+    /// Keeps a snapshot of the fork at which it looks, and tells which of the children that are to
+    /// be visited is the next.
     ///
     /// # Errors
     ///
@@ -369,7 +375,7 @@ impl RangeRun {
 
     /// Looks whether all nodes are still as they were found.
     fn validate(&mut self) -> Turn<Told>
-        ensures turn { (c : Call) (h : History) → Goes self.old c h → AsksForSome self.old → IsOwnMoment c h → 0 < length self.old.snaps.items → Whenever c.layout h self.old.snaps.items (λ b. IsRangeAt c.layout b (bounds_of self.old) self.old.taken.items) → RangeTurn c h self.new result }
+        ensures turn { (c : Call) (begin h : History) → IsInTry c h begin self.old.limit self.old.tries → Goes self.old (from c begin) h → AsksForSome self.old → IsOwnMoment (from c begin) h → 0 < length self.old.snaps.items → Whenever c.layout h self.old.snaps.items (λ b. IsRangeAt c.layout b (bounds_of self.old) self.old.taken.items) → RangeTurn c h self.new result }
         ensures same { IsSameRange self.old self.new }
         ensures nearer { (nodes : ℕ) → IsNearer self.new nodes result (self.old.tries * try_left self.old.most nodes + length self.old.snaps.items) }
         ensures tries { (c : Call) (h : History) → Goes self.old c h → AsksForSome self.old → IsOwnMoment c h → 0 < length self.old.snaps.items → Whenever c.layout h self.old.snaps.items (λ b. IsRangeAt c.layout b (bounds_of self.old) self.old.taken.items) → KeepsTries c h self.old.tries self.new.tries result }
@@ -379,7 +385,7 @@ impl RangeRun {
 
     /// Goes on with what the last step of the VLX found.
     fn validate_on(&mut self, asked: usize, got: Option<u64>) -> Turn<Told>
-        ensures turn { (c : Call) (begin h : History) → Goes self.old c h → Validates self.old c h begin → VlxIsReady self.old.snaps.items asked (from c begin) h got → RangeTurn c h self.new result }
+        ensures turn { (c : Call) (begin look h : History) → IsInTry c h begin self.old.limit self.old.tries → Goes self.old (from c begin) h → Validates self.old (from c begin) h look → VlxIsReady self.old.snaps.items asked (from c look) h got → RangeTurn c h self.new result }
         ensures same { IsSameRange self.old self.new }
         ensures nearer { (nodes : ℕ) → IsNearer self.new nodes result (self.old.tries * try_left self.old.most nodes + vlx_left self.old.snaps.items asked) }
         ensures tries { (c : Call) (begin h : History) → Goes self.old c h → Validates self.old c h begin → VlxIsReady self.old.snaps.items asked (from c begin) h got → KeepsTries c h self.old.tries self.new.tries result }
@@ -402,7 +408,7 @@ impl RangeRun {
 
     /// Begins what comes next, and stands there.
     fn stand(&mut self, next: RangeNext) -> Turn<Told>
-        ensures turn { (c : Call) (h : History) → Goes self.old c h → MayDo self.old c h next → RangeTurn c h self.new result }
+        ensures turn { (c : Call) (h : History) → MayGoOn c h self.old next → RangeTurn c h self.new result }
         ensures same { IsSameRange self.old self.new }
         ensures nearer { (nodes n : ℕ) → ComesNearer self.old next nodes n → IsNearer self.new nodes result (self.old.tries * try_left self.old.most nodes + n) }
         ensures tries { (c : Call) (h : History) → Goes self.old c h → MayDo self.old c h next → KeepsTries c h self.old.tries self.new.tries result }
@@ -444,7 +450,7 @@ impl RangeRun {
 
     /// Begins what comes next, or ends where that is refused.
     fn proceed(&mut self, next: Result<RangeNext, Refused>) -> Turn<Told>
-        ensures turn { (c : Call) (h : History) → GoesOn c h self.old next → RangeTurn c h self.new result }
+        ensures turn { (c : Call) (begin h : History) → IsInTry c h begin self.old.limit self.old.tries → GoesOn (from c begin) h self.old next → RangeTurn c h self.new result }
         ensures same { IsSameRange self.old self.new }
         ensures nearer { (nodes n : ℕ) → IfOk next (λ now. ComesNearer self.old now nodes n) → IsNearer self.new nodes result (self.old.tries * try_left self.old.most nodes + n) }
         ensures tries { (c : Call) (h : History) → GoesOn c h self.old next → KeepsTries c h self.old.tries self.new.tries result }

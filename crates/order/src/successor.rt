@@ -94,15 +94,17 @@ pub enum SuccessorAt {
     },
 }
 
-/// The pair with the least key above a key, if there is one: a walk to the leaf of the key; LLXs from
-/// the last fork where that turned left down to the leaf again, and on to the next leaf where the
-/// first has no key above; a VLX over all nodes that were looked at. And again where such a try is
-/// lost, as long as tries are left.
+/// The pair with the least key above a key, if there is one: a walk to the leaf of the key; LLXs
+/// from the last fork where that turned left down to the leaf again, and on to the next leaf where
+/// the first has no key above; a VLX over all nodes that were looked at. And again where such a try
+/// is lost, as long as tries are left.
 #[derive(Debug, Drop)]
 pub struct SuccessorRun {
     /// The key.
     pub key: u64,
-    /// How many tries are left behind this one.
+    /// How many tries it has in all.
+    pub limit: u32,
+    /// How many of them are left behind this one.
     pub tries: u32,
     /// What the LLXs of this try have found.
     pub snaps: Vec<Snap>,
@@ -113,7 +115,7 @@ pub struct SuccessorRun {
 }
 
 impl SuccessorRun {
-    ghost use Rattle.std.specs.Prelude.{◌≡◌, ℕ, ◌+◌, ◌-◌, ◌*◌, ◌<◌, ◌≤◌, cond, ltb, length, [], IfOk, None};
+    ghost use Rattle.std.specs.Prelude.{◌≡◌, ℕ, ◌+◌, ◌-◌, ◌*◌, ◌<◌, ◌≤◌, cond, ltb, length, [], IfOk, None, Some};
     ghost use Rattle.arena.specs.History.{History, Extends};
     ghost use Rattle.arena.specs.Machines.{MatchTurn, Call};
     ghost use Rattle.prims.specs.Llx.Known.{IsSnapshot, LlxIsReady};
@@ -126,23 +128,26 @@ impl SuccessorRun {
     ghost use Rattle.template.specs.Walk.Steps.{walk_left, WalkFits};
     ghost use Rattle.order.specs.Reads.{from, Whenever};
     ghost use Rattle.order.specs.Replies.{KeepsTries};
+    ghost use Rattle.order.specs.Tries.{BeginsTry, IsInTry};
     ghost use Rattle.template.specs.Blame.{IsContended};
     ghost use Rattle.order.specs.Search.{IsNextAt};
-    ghost use Rattle.order.specs.Successor.Known.{head_at, key_at, level_at, is_answer, IsLastTurn, LooksAt, StandsAt, HasHead, Validates, Goes, IsSameSuccessor, SuccessorIsReady, SuccessorTurn};
+    ghost use Rattle.order.specs.Successor.Known.{head_at, key_at, is_answer, IsLastTurn, LooksAt, StandsAt, HasHead, Validates, Goes, IsSameSuccessor, SuccessorIsReady, SuccessorTurn};
     ghost use Rattle.order.specs.Successor.Steps.{behind, HeadFits, IsNearer, try_left, successor_left, SuccessorFits};
-    ghost use Rattle.order.specs.Successor.Next.{ComesNearer, GoesOn, MayDo};
+    ghost use Rattle.order.specs.Successor.Next.{ComesNearer, GoesOn, MayDo, MayGoOn};
 
-    /// A run that has not begun. What it keeps grows with this allocator. In each try it asks for at
-    /// most 137 steps for each node that has been taken when it ends, and for 274 more.
+    /// A run that has not begun. What it keeps grows with this allocator. In each try it asks for
+    /// at most 137 steps for each node that has been taken when it ends, and for 274 more.
     pub fn new(alloc: Global, key: u64, tries: u32) -> SuccessorRun
         ensures key { result.key ≡ key }
         ensures start { result.at ≡ SuccessorAt.Start }
         ensures snaps { result.snaps.items ≡ [] }
+        ensures limit { result.limit ≡ tries }
         ensures tries { result.tries ≡ tries - 1 }
         ensures bound { (nodes : ℕ) → 0 < tries → successor_left result nodes ≤ tries * try_left nodes }
     {
         SuccessorRun {
             key,
+            limit: tries,
             tries: tries.saturating_sub(1),
             snaps: Vec::new(alloc),
             right: NodeNo(0),
@@ -160,36 +165,28 @@ impl SuccessorRun {
         Turn::Ask(Step { kind, word, access })
     }
 
-    /// Begins a try.
+    /// Begins a try, with the first step of a walk: the load of the root's head.
     fn begin(&mut self) -> Turn<Told>
-        ensures turn { (c : Call) (h : History) → Goes self.old c h → SuccessorTurn c h self.new result }
-        ensures begins { (c : Call) (h : History) → Goes self.old c h → MatchTurn result (λ _. Unit {0}) (λ _. ⊥) }
+        ensures turn { (c : Call) (begin h : History) → BeginsTry c h self.old.limit self.old.tries → Goes self.old (from c begin) h → SuccessorTurn c h self.new result }
+        ensures begins { MatchTurn result (λ _. Unit {0}) (λ _. ⊥) }
         ensures same { IsSameSuccessor self.old self.new }
         ensures nearer { (nodes : ℕ) → IsNearer self.new nodes result (self.old.tries * try_left nodes + try_left nodes) }
         ensures tries { self.new.tries ≡ self.old.tries }
     {
         self.snaps.clear();
-        let mut walk = WalkRun::new(Goal::Key(self.key));
-        match Machine::<Tree>::next(&mut walk, None) {
-            Turn::Ask(step) => {
-                let turn = NodeNo(0);
-                self.at = SuccessorAt::Walk { walk, turn };
-                Turn::Ask(step)
-            }
-            // Never: a walk begins with a step, by the clause `begins` of a machine's `next`.
-            Turn::Done(_) => Turn::Done(Err(Refused::Contended {
-                node: NodeNo(0),
-                scx: ScxNo(0),
-            })),
-        }
+        let (mut walk, root) = (WalkRun::new(Goal::Key(self.key)), NodeNo(0));
+        walk.at = WalkAt::Root;
+        let at = SuccessorAt::Walk { walk, turn: root };
+        self.load(at, Kind::LoadSettled, root, NodeWord::Head)
     }
 
-    /// Ends a try that is lost to this SCX-record over this node, and begins the next if there is one.
+    /// Ends a try that is lost to this SCX-record over this node, and begins the next if there is
+    /// one.
     fn lost(&mut self, node: NodeNo, scx: ScxNo) -> Turn<Told>
-        ensures turn { (c : Call) (h : History) → Goes self.old c h → IsContended c h node.0 scx.0 → SuccessorTurn c h self.new result }
+        ensures turn { (c : Call) (begin h : History) → IsInTry c h begin self.old.limit self.old.tries → Goes self.old (from c begin) h → IsContended (from c begin) h node.0 scx.0 → SuccessorTurn c h self.new result }
         ensures same { IsSameSuccessor self.old self.new }
         ensures nearer { (nodes : ℕ) → IsNearer self.new nodes result (self.old.tries * try_left nodes) }
-        ensures tries { (c : Call) (h : History) → Goes self.old c h → IsContended c h node.0 scx.0 → KeepsTries c h self.old.tries self.new.tries result }
+        ensures tries { (c : Call) (h : History) → IsContended c h node.0 scx.0 → KeepsTries c h self.old.tries self.new.tries result }
     {
         if self.tries == 0 {
             return Turn::Done(Err(Refused::Contended { node, scx }));
@@ -200,11 +197,11 @@ impl SuccessorRun {
 
     /// Goes on with what the last step of the walk found.
     fn walk_on(&mut self, mut walk: WalkRun, turn: NodeNo, got: Option<u64>) -> Turn<Told>
-        ensures turn { (c : Call) (h : History) → Goes self.old c h → walk.goal ≡ Goal.Key self.old.key → IsLastTurn c h self.old.key turn.0 → WalkIsReady walk c h got → SuccessorTurn c h self.new result }
+        ensures turn { (c : Call) (begin h : History) (v : ℕ) → got ≡ Some v → IsInTry c h begin self.old.limit self.old.tries → Goes self.old (from c begin) h → walk.goal ≡ Goal.Key self.old.key → IsLastTurn (from c begin) h self.old.key turn.0 → WalkIsReady walk (from c begin) h (Some v) → SuccessorTurn c h self.new result }
         ensures begins { got ≡ None → (c : Call) (h : History) → WalkIsReady walk c h None → MatchTurn result (λ _. Unit {0}) (λ _. ⊥) }
         ensures same { IsSameSuccessor self.old self.new }
         ensures nearer { (nodes : ℕ) → WalkFits walk got nodes → IsNearer self.new nodes result (self.old.tries * try_left nodes + (walk_left walk.at nodes + length self.old.snaps.items + 134 * (2 + nodes))) }
-        ensures tries { (c : Call) (h : History) → Goes self.old c h → walk.goal ≡ Goal.Key self.old.key → IsLastTurn c h self.old.key turn.0 → WalkIsReady walk c h got → KeepsTries c h self.old.tries self.new.tries result }
+        ensures tries { (c : Call) (h : History) (v : ℕ) → got ≡ Some v → Goes self.old c h → walk.goal ≡ Goal.Key self.old.key → IsLastTurn c h self.old.key turn.0 → WalkIsReady walk c h (Some v) → KeepsTries c h self.old.tries self.new.tries result }
     {
         match Machine::<Tree>::next(&mut walk, got) {
             Turn::Ask(step) => {
@@ -230,7 +227,7 @@ impl SuccessorRun {
         mut llx: LlxRun,
         got: Option<u64>,
     ) -> Turn<Told>
-        ensures turn { (c : Call) (begin h : History) → Goes self.old c h → LooksAt self.old c h route level side llx.node.0 → Extends begin c.start → LlxIsReady TreeAllows llx (from c begin) h got → SuccessorTurn c h self.new result }
+        ensures turn { (c : Call) (begin look h : History) → IsInTry c h begin self.old.limit self.old.tries → Goes self.old (from c begin) h → LooksAt self.old (from c begin) h route level side llx.node.0 → Extends look begin → LlxIsReady TreeAllows llx (from c look) h got → SuccessorTurn c h self.new result }
         ensures same { IsSameSuccessor self.old self.new }
         ensures nearer { (nodes : ℕ) → level + 1 < 2 + nodes → IsNearer self.new nodes result (self.old.tries * try_left nodes + (llx_left llx.at + length self.old.snaps.items + 1 + 67 * (1 + nodes - level) + behind route nodes)) }
         ensures tries { (c : Call) (begin h : History) → Goes self.old c h → LooksAt self.old c h route level side llx.node.0 → Extends begin c.start → LlxIsReady TreeAllows llx (from c begin) h got → KeepsTries c h self.old.tries self.new.tries result }
@@ -360,7 +357,7 @@ impl SuccessorRun {
 
     /// Looks whether all nodes are still as they were found.
     fn validate(&mut self, found: Option<Pair>) -> Turn<Told>
-        ensures turn { (c : Call) (h : History) → Goes self.old c h → IsOwnMoment c h → 0 < length self.old.snaps.items → Whenever c.layout h self.old.snaps.items (λ b. IsNextAt c.layout b self.old.key found) → SuccessorTurn c h self.new result }
+        ensures turn { (c : Call) (begin h : History) → IsInTry c h begin self.old.limit self.old.tries → Goes self.old (from c begin) h → IsOwnMoment (from c begin) h → 0 < length self.old.snaps.items → Whenever c.layout h self.old.snaps.items (λ b. IsNextAt c.layout b self.old.key found) → SuccessorTurn c h self.new result }
         ensures same { IsSameSuccessor self.old self.new }
         ensures nearer { (nodes : ℕ) → IsNearer self.new nodes result (self.old.tries * try_left nodes + length self.old.snaps.items) }
         ensures tries { (c : Call) (h : History) → Goes self.old c h → IsOwnMoment c h → 0 < length self.old.snaps.items → Whenever c.layout h self.old.snaps.items (λ b. IsNextAt c.layout b self.old.key found) → KeepsTries c h self.old.tries self.new.tries result }
@@ -370,7 +367,7 @@ impl SuccessorRun {
 
     /// Goes on with what the last step of the VLX found.
     fn validate_on(&mut self, asked: usize, found: Option<Pair>, got: Option<u64>) -> Turn<Told>
-        ensures turn { (c : Call) (begin h : History) → Goes self.old c h → Validates self.old c h begin found → VlxIsReady self.old.snaps.items asked (from c begin) h got → SuccessorTurn c h self.new result }
+        ensures turn { (c : Call) (begin look h : History) → IsInTry c h begin self.old.limit self.old.tries → Goes self.old (from c begin) h → Validates self.old (from c begin) h look found → VlxIsReady self.old.snaps.items asked (from c look) h got → SuccessorTurn c h self.new result }
         ensures same { IsSameSuccessor self.old self.new }
         ensures nearer { (nodes : ℕ) → IsNearer self.new nodes result (self.old.tries * try_left nodes + vlx_left self.old.snaps.items asked) }
         ensures tries { (c : Call) (begin h : History) → Goes self.old c h → Validates self.old c h begin found → VlxIsReady self.old.snaps.items asked (from c begin) h got → KeepsTries c h self.old.tries self.new.tries result }
@@ -393,7 +390,7 @@ impl SuccessorRun {
 
     /// Begins what comes next, and stands there.
     fn stand(&mut self, next: SuccessorNext) -> Turn<Told>
-        ensures turn { (c : Call) (h : History) → Goes self.old c h → MayDo self.old c h next → SuccessorTurn c h self.new result }
+        ensures turn { (c : Call) (h : History) → MayGoOn c h self.old next → SuccessorTurn c h self.new result }
         ensures same { IsSameSuccessor self.old self.new }
         ensures nearer { (nodes n : ℕ) → ComesNearer self.old next nodes n → IsNearer self.new nodes result (self.old.tries * try_left nodes + n) }
         ensures tries { (c : Call) (h : History) → Goes self.old c h → MayDo self.old c h next → KeepsTries c h self.old.tries self.new.tries result }
@@ -435,7 +432,7 @@ impl SuccessorRun {
 
     /// Begins what comes next, or ends where that is refused.
     fn proceed(&mut self, next: Result<SuccessorNext, Refused>) -> Turn<Told>
-        ensures turn { (c : Call) (h : History) → GoesOn c h self.old next → SuccessorTurn c h self.new result }
+        ensures turn { (c : Call) (begin h : History) → IsInTry c h begin self.old.limit self.old.tries → GoesOn (from c begin) h self.old next → SuccessorTurn c h self.new result }
         ensures same { IsSameSuccessor self.old self.new }
         ensures nearer { (nodes n : ℕ) → IfOk next (λ now. ComesNearer self.old now nodes n) → IsNearer self.new nodes result (self.old.tries * try_left nodes + n) }
         ensures tries { (c : Call) (h : History) → GoesOn c h self.old next → KeepsTries c h self.old.tries self.new.tries result }
@@ -446,9 +443,9 @@ impl SuccessorRun {
         }
     }
 
-    /// Goes on with what the last step found; with nothing at the first call, which asks for a step.
-    /// It gives up one try at most, where an SCX-record of another pass was in the way of the call;
-    /// and none as it ends.
+    /// Goes on with what the last step found; with nothing at the first call, which asks for a
+    /// step. It gives up one try at most, where an SCX-record of another pass was in the way of the
+    /// call; and none as it ends.
     pub fn step(&mut self, got: Option<u64>) -> Turn<Told>
         ensures turn { (c : Call) (h : History) → SuccessorIsReady self.old c h got → SuccessorTurn c h self.new result }
         ensures begins { got ≡ None → (c : Call) (h : History) → SuccessorIsReady self.old c h None → MatchTurn result (λ _. Unit {0}) (λ _. ⊥) }
@@ -518,8 +515,8 @@ impl Machine<Tree> for SuccessorRun {
     ghost told = { successor_told };
 }
 
-/// Whether it loads the key of a node with this head: behind the path of its key it goes left at all
-/// forks.
+/// Whether it loads the key of a node with this head: behind the path of its key it goes left at
+/// all forks.
 fn asks_key(route: Route, head: Head) -> bool
     ensures { result ≡ asks_key route head }
 {

@@ -7,4 +7,5 @@ mod Inserting
 mod Deleting
 mod Tracking
 mod Contending
+mod Tries
 pub mod Lemmas

@@ -1,5 +1,5 @@
 -- From place to place of a walk to a key.
-use Rattle.std.proofs.Common.{◌≡◌, ◌≢◌, ℕ, ◌*◌, ◌+◌, ◌-◌, ◌^◌, ◌<◌, ◌≤◌, true, false, cond, ltb, length, refl, sym, ◌∙◌, arith, None, Some}
+use Rattle.std.proofs.Common.{◌≡◌, ◌≢◌, ℕ, ◌^◌, ◌<◌, true, false, cond, ltb, refl, sym, ◌∙◌, None, Some}
 use Rattle.arena.specs.declared.head.Head.{Head as HeadParts}
 use Rattle.arena.specs.declared.machine.Turn.TheVariants.{Ask, Done}
 use Rattle.arena.specs.declared.step.Kind.TheVariants.{LoadSettled, LoadChild}
@@ -10,19 +10,16 @@ use Rattle.arena.specs.Heads.{head_of}
 use Rattle.arena.specs.Words.{node}
 use Rattle.arena.specs.History.{History, Extends}
 use Rattle.arena.specs.Machines.{Call}
-use Rattle.arena.specs.TakenNodes.{taken_nodes}
 use Rattle.prims.specs.Llx.Known.{load}
 use Rattle.spelling.specs.Runs.{IsTreeRun}
 use Rattle.template.specs.FoundLeaf.{HasFound}
 use Rattle.template.specs.Walk.Known.{here, WalkIsTold, WalkWaits, WalkStands}
 use Rattle.template.specs.Walk.Places.{walk_at, walk_from, trail_below, LoadsHead}
-use Rattle.template.specs.Walk.Steps.{walk_left}
-use Rattle.template.specs.Walk.Laws.{walk_told}
 use Rattle.template.specs.declared.walk.Goal.TheVariants.{Key as ToKey}
 use Rattle.template.specs.declared.walk.Trail.{Trail}
 use Rattle.template.specs.declared.walk.WalkAt.{WalkAt}
 use Rattle.template.specs.declared.walk.WalkAt.TheVariants.{Start, Root, Head, Key, Child, Value}
-use Rattle.template.proofs.WalkTurns.{waits_at, ends_above, ends_low, level_is, fork_is, left_above, says_nothing, goes_by_key, turn_value, turn_down, stands_at_root, own_since}
+use Rattle.template.proofs.WalkTurns.{waits_at, ends_above, ends_low, level_is, fork_is, left_above, says_nothing, goes_by_key, turn_value, turn_down, stands_at_root}
 
 -- it begins at the root
 pub walk_begins : (key : ℕ) (d : Call) (h : History) → IsTreeRun d.layout h → key < 2 ^ 64 → Extends h d.start → WalkWaits (walk_from key) d h (load LoadSettled (node 0 HeadWord))

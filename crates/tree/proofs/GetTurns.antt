@@ -5,9 +5,11 @@ use Rattle.arena.specs.declared.machine.Turn.TheVariants.{Ask, Done}
 use Rattle.arena.specs.declared.step.Step.{Step}
 use Rattle.arena.specs.declared.step.Access.TheVariants.{Load}
 use Rattle.arena.specs.declared.step.Kind.TheVariants.{Fill, LoadSettled, LoadChild}
-use Rattle.arena.specs.History.{History, Extends}
+use Rattle.arena.specs.History.{History}
 use Rattle.arena.specs.Machines.{MatchTurn, Call}
-use Rattle.arena.proofs.Lemmas.{ends_trans}
+use Rattle.arena.proofs.Lemmas.{ends_self, ends_trans}
+use Rattle.prims.specs.Laws.Idle.{quiet_at_start}
+use Rattle.prims.specs.Moments.{AreFinished}
 use Rattle.spelling.specs.Paths.{IsAnswerAt}
 use Rattle.spelling.specs.Runs.{IsTreeRun}
 use Rattle.template.specs.FoundLeaf.{path_key, HasFound, HasFoundLeaf}
@@ -19,10 +21,12 @@ use Rattle.template.specs.Walk.Known.{WalkWaits, WalkAnswers}
 use Rattle.template.proofs.Lemmas.{found_gives, walk_ready_run, walk_ready_first, walk_loads, walk_fills_not, own_since}
 use Rattle.tree.specs.declared.get.GetRun.{GetRun}
 use Rattle.tree.specs.Get.Known.{GetIsReady, GetWaits, GetAnswers}
+use Rattle.updates.specs.Laws.Entered.{none_quiet}
+use Rattle.updates.specs.Laws.Kept.{idle_over}
 
 -- its walk asks for a step
 pub turn_asked : (c : Call) (h : History) (m : GetRun) (now : WalkRun) (turn : Turn Found) (step : Step) (got : Option ℕ) → GetIsReady m c h got → now.goal ≡ m.walk.goal → turn ≡ Ask step → MatchTurn turn (WalkWaits now c h) (WalkAnswers now c h) → GetWaits (record { key = m.key; walk = now }) c h step
-turn_asked c h m now turn step got ready same e t = (rw e at t, same ∙ ready.1)
+turn_asked c h m now turn step got ready same e t = (rw e at t, same ∙ ready.1, ready.2)
 
 -- the value of the leaf at which its walk has ended is right
 pub turn_found : (c : Call) (h : History) (m : GetRun) (now : WalkRun) (turn : Turn Found) (f : Found) (got : Option ℕ) → GetIsReady m c h got → now.goal ≡ m.walk.goal → turn ≡ Done f → MatchTurn turn (WalkWaits now c h) (WalkAnswers now c h) → GetAnswers (record { key = m.key; walk = now }) c h f.value
@@ -32,11 +36,11 @@ turn_found c h m now turn f got ready same e t = gives (subst (λ goal. HasFound
     run = walk_ready_run m.walk c h got ready.0
 
     gives : HasFoundLeaf c h m.key f → GetAnswers (record { key = m.key; walk = now }) c h f.value
-    gives a = record { first = a.trail.node.first; own = a.trail.node.own; right = found_gives c h m.key f run.0 (rw ready.1 at run.1) a }
+    gives a = record { first = a.trail.node.first; own = a.trail.node.own; right = found_gives c h m.key f run.0 (rw ready.1 at run.1) a; none = none_quiet c.layout c.pass h c.start run.0.1.lawful ready.2.quiet }
 
--- a get that has not begun may be called
-pub get_ready_first : (m : GetRun) (c : Call) (h : History) → IsTreeRun c.layout h → m.key < 2 ^ 64 → Extends h c.start → m.walk.at ≡ Start → m.walk.trail.node.0 ≡ 0 → m.walk.goal ≡ ToKey m.key → GetIsReady m c h None
-get_ready_first m c h run small since at root goal = (walk_ready_first m.walk c h run (rw goal small) since at root, goal)
+-- a get that has not begun may be called where its pass is at rest
+pub get_ready_first : (m : GetRun) (c : Call) → IsTreeRun c.layout c.start → m.key < 2 ^ 64 → AreFinished c.layout c.pass 0 c.start → m.walk.at ≡ Start → m.walk.trail.node.0 ≡ 0 → m.walk.goal ≡ ToKey m.key → GetIsReady m c c.start None
+get_ready_first m c run small over at root goal = (walk_ready_first m.walk c c.start run (rw goal small) (ends_self c.start) at root, goal, record { over = over; quiet = quiet_at_start c.layout c.pass c.start (idle_over c c.start run.1.lawful over) })
 
 -- a get asks for loads alone, of settled words and of fields
 pub get_loads : (m : GetRun) (c : Call) (h : History) (s : Step) → GetWaits m c h s → ((s.kind ≡ LoadSettled) ⊎ (s.kind ≡ LoadChild)) × (s.access ≡ Load)

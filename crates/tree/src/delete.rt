@@ -26,6 +26,7 @@ impl Delete {
         ensures share { result.share ≡ share }
         ensures call { result.call ≡ call }
         ensures tries { result.tries ≡ tries - 1 }
+        ensures limit { result.limit ≡ tries }
         ensures steps { (nodes : ℕ) → 0 < tries → update_left delete_means result nodes ≡ tries * (3 * (2 + nodes) + 301) }
     {
         UpdateRun::new(self, share, tries, call, UpdateAt::Start)

@@ -27,6 +27,7 @@ impl Insert {
         ensures share { result.share ≡ share }
         ensures call { result.call ≡ call }
         ensures tries { result.tries ≡ tries - 1 }
+        ensures limit { result.limit ≡ tries }
         ensures steps { (nodes : ℕ) → 0 < tries → update_left insert_means result nodes ≡ tries * (3 * (2 + nodes) + 178) }
     {
         UpdateRun::new(self, share, tries, call, UpdateAt::Start)

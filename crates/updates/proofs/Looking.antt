@@ -4,7 +4,6 @@ use Rattle.std.specs.Prelude.{take, Result, Ok, Err, OnOk, OnErr}
 use Rattle.std.proofs.lemmas.List.{take-append-le}
 use Rattle.arena.specs.declared.number.NodeNo.{NodeNo}
 use Rattle.arena.specs.Fills.{IsNamed, IsOwnNode}
-use Rattle.arena.specs.Layout.{all_nodes}
 use Rattle.arena.specs.History.{History, value, Extends}
 use Rattle.arena.specs.Machines.{Call, MatchTurn}
 use Rattle.arena.specs.Share.{Remaining, HasNode}
@@ -37,10 +36,11 @@ use Rattle.updates.specs.declared.edit.Piece.{Piece}
 use Rattle.updates.specs.declared.update.UpdateRun.{UpdateRun}
 use Rattle.updates.specs.Next.{standing}
 use Rattle.updates.specs.Edits.{EditMeaning}
-use Rattle.updates.specs.Known.{RestsWith, Begins, HasNodesFor, HasSnapped, AreUsable, AreLoaded, ComesBefore, AreSeen, CanLook, CanLoad, Looks, TryWaits, copied, piece, nothing_loaded}
+use Rattle.updates.specs.Known.{IsBelowRoot, RestsWith, Begins, HasNodesFor, HasSnapped, AreUsable, AreLoaded, ComesBefore, AreSeen, CanLook, CanLoad, Looks, TryWaits, copied, piece, nothing_loaded}
 use Rattle.updates.specs.Pieces.{less_a_node, many_nodes, top_of}
 use Rattle.updates.specs.Sound.{LooksWell}
 use Rattle.updates.specs.Laws.Hand.{HasFilledTo}
+use Rattle.updates.specs.Tries.{IsTry}
 
 -- A snapshot more
 
@@ -176,7 +176,7 @@ needs_one e m c h f x d = one_or_three (e.needs m.edit f) m.share x.room d
 
 module _ {E : Type 0} (e : EditMeaning E) {A : Type 0} (m : UpdateRun E A) (c : Call) (h : History) (f : Found) (looks : LooksWell e) (x : CanLook e m c h f)
     (enough : e.looks m.edit f m.snaps.items ≡ Enough) (blank : m.loaded ≡ nothing_loaded) where
-  is_copied : IsNamed c.layout h (copied e m f) × (copied e m f < all_nodes c.layout)
+  is_copied : IsNamed c.layout h (copied e m f) × IsBelowRoot c.layout (copied e m f)
   is_copied = looks.copied m.edit c h f m.snaps.items x.begins.run (is_needed e m c h f x) x.looked enough
 
   loaded_blank : AreLoaded (value h) (copied e m f) m.loaded
@@ -351,3 +351,7 @@ module _ {E : Type 0} (e : EditMeaning E) {A : Type 0} (m : UpdateRun E A) (llx 
     where
       is : IsSnapshot c.layout h after.node.0 snap
       is = (rw done at w).0
+
+-- a run with as many tries tries as before
+pub same_tries : {c : Call} {b h : History} {limit left limit' left' : ℕ} → limit' ≡ limit → left' ≡ left → IsTry c b h limit left → IsTry c b h limit' left'
+same_tries e f x = rw (e, f) x

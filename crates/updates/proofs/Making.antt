@@ -65,7 +65,7 @@ module _ (c : Call) (h : History) (m : ScxRun) (row : Row) (before : History) (l
   covers : CoversSnaps before m.scx.0 m.update.snaps
   covers j p = ap (member before m.scx.0) (let z : j ≡ j + 0 = omega arith in z) ∙ members_are before m.scx.0 0 (count before m.scx.0) m.update.snaps (ap (λ (e : Entry). e.members) entry_is) j p
 
-module _ {E : Type 0} (e : EditMeaning E) (at_found : IsAtFound e) {A : Type 0} (m : UpdateRun E A) (scx after : ScxRun) (f : Found) (c : Call) (b begin h : History) (try : IsTry c b) (x : Scxs e m (from c b) h f scx begin)
+module _ {E : Type 0} (e : EditMeaning E) (at_found : IsAtFound e) {A : Type 0} (m : UpdateRun E A) (scx after : ScxRun) (f : Found) (c : Call) (b begin h : History) (try : IsTry c b h m.limit m.tries) (x : Scxs e m (from c b) h f scx begin)
     (same_scx : after.scx ≡ scx.scx) (same_update : after.update ≡ scx.update) (same_call : after.call ≡ scx.call) (done : IsDone (from c begin) h after) where
   abbrev k : ℕ
   k = edit_key (e.edit m.edit f)

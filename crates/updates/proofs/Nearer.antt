@@ -97,6 +97,10 @@ scx_left_now t = omega arith
 pub less_scx : (t left now : ℕ) → now < left → t + now < t + left
 less_scx t left now i = omega (arith, i)
 
+-- a try that takes its SCX-record has one for the nodes that it has taken
+pub scx_for_nodes : (most nodes scx tries : ℕ) → 0 < scx → nodes + most * (scx - 1 + (tries + 1) + tries) ≤ nodes + most * (scx + tries + tries)
+scx_for_nodes most nodes scx tries some = let same : scx - 1 + (tries + 1) + tries ≡ scx + tries + tries = omega (arith, some) in rw same (omega arith)
+
 none_more : (n : ℕ) → n ≡ n + 0
 none_more n = omega arith
 

@@ -1,20 +1,21 @@
 -- What an update waits for after each of its turns.
-use Rattle.std.proofs.Common.{◌≡◌, ◌≢◌, ℕ, suc, ◌<◌, ◌⊎◌, inl, inr, refl, Option, Some, None, ⊎_elim, sym, ◌∙◌, ap, subst, arith}
+use Rattle.std.proofs.Common.{◌≡◌, ◌≢◌, ℕ, suc, ◌-◌, ◌<◌, ◌⊎◌, inl, inr, refl, Option, Some, None, ⊎_elim, sym, ◌∙◌, ap, subst, arith}
 use Rattle.arena.specs.declared.machine.Turn.{Turn}
 use Rattle.arena.specs.declared.machine.Turn.TheVariants.{Ask, Done}
 use Rattle.arena.specs.declared.number.NodeNo.{NodeNo}
 use Rattle.arena.specs.declared.number.ScxNo.{ScxNo}
 use Rattle.arena.specs.declared.step.Step.{Step}
 use Rattle.arena.specs.declared.step.Access.TheVariants.{Store}
-use Rattle.arena.specs.declared.step.Kind.TheVariants.{Fill as FillKind, LoadMarked}
+use Rattle.arena.specs.declared.step.Kind.TheVariants.{Fill as FillKind, LoadMarked, LoadSettled}
 use Rattle.arena.specs.declared.word.NodeWord.{NodeWord}
+use Rattle.arena.specs.declared.word.NodeWord.TheVariants.{Head as HeadWord}
 use Rattle.arena.specs.declared.word.Word.TheVariants.{Node as NodeOf}
 use Rattle.arena.specs.History.{History, ◌⊳◌, value, Extends}
 use Rattle.arena.specs.Fills.{IsOwnNode, IsOwnScx}
 use Rattle.arena.specs.Lawful.{Lawful}
 use Rattle.arena.specs.Machines.{Call, IsRun, MatchTurn}
 use Rattle.arena.specs.Share.{Remaining}
-use Rattle.arena.specs.Words.{marked, state}
+use Rattle.arena.specs.Words.{marked, node, state}
 use Rattle.arena.proofs.Lemmas.{ends_self, ends_trans}
 use Rattle.histories.proofs.Lemmas.{finished_taken}
 use Rattle.prims.specs.Laws.Idle.{IsQuietSince, quiet_at_start}
@@ -29,12 +30,14 @@ use Rattle.prims.specs.declared.scx.ScxRun.{ScxRun}
 use Rattle.prims.specs.declared.update.Update.{Update}
 use Rattle.prims.proofs.Lemmas.{over_ends, turn_first}
 use Rattle.spelling.specs.TreeShape.{TreeAllows}
-use Rattle.template.proofs.Lemmas.{contended_later, contended_wider, own_since, walk_ready_run}
+use Rattle.spelling.specs.Tries.{HasLostTries}
+use Rattle.template.proofs.Lemmas.{contended_wider, own_since}
 use Rattle.template.specs.FoundLeaf.{path_key, HasFound}
 use Rattle.template.specs.Tracked.{Tracks}
-use Rattle.template.specs.Walk.Known.{WalkIsReady, WalkWaits, WalkAnswers}
+use Rattle.template.specs.Walk.Known.{WalkIsTold, WalkWaits, WalkAnswers}
+use Rattle.template.specs.Walk.Places.{IsPastRoot}
 use Rattle.template.specs.declared.walk.Found.{Found}
-use Rattle.template.specs.declared.walk.WalkAt.TheVariants.{Start as WalkStart}
+use Rattle.template.specs.declared.walk.WalkAt.TheVariants.{Root}
 use Rattle.template.specs.declared.walk.WalkRun.{WalkRun}
 use Rattle.updates.specs.declared.edit.Look.TheVariants.{At}
 use Rattle.updates.specs.declared.edit.Nth.{Nth}
@@ -50,8 +53,9 @@ use Rattle.updates.specs.Known.{RestsWith, AreUsable, CoversLeaf, Begins, Walks,
 use Rattle.updates.specs.Laws.Entered.{none_joined, none_lost, none_quiet}
 use Rattle.updates.specs.Laws.HandScx.{from}
 use Rattle.updates.specs.Laws.Kept.{idle_rests}
+use Rattle.updates.specs.Laws.Trying.{past_root}
 use Rattle.updates.specs.Pieces.{nth_node, word_of}
-use Rattle.updates.specs.Tries.{HasEnteredOnly, HasEnteredNone, IsTry}
+use Rattle.updates.specs.Tries.{HasEnteredOnly, HasEnteredNone, MayTry, IsTry, HasLostTry}
 use Rattle.updates.proofs.Blaming.{lost_contended}
 use Rattle.updates.proofs.Making.{has_made}
 use Rattle.updates.proofs.Widened.{found_wider}
@@ -81,29 +85,25 @@ module _ {E : Type 0} (e : EditMeaning E) where
   pub begins_again : {A : Type 0} (m now : UpdateRun E A) (c : Call) (h : History) → now.edit ≡ m.edit → now.share ≡ m.share → Begins e m c h → Begins e now c h
   begins_again m now c h ed share b = record { run = b.run; small = rw ed b.small; since = b.since; rests = rw share b.rests }
 
-  -- its walk begins, and a try with it
-  pub begins_walk : {A : Type 0} (m : UpdateRun E A) (walk after : WalkRun) (c : Call) (h : History) (turn : Turn Found) (step : Step) → Begins e m c h → IsTry c h → IsUntouched c h m.share → walk.goal ≡ e.goal m.edit → walk.at ≡ WalkStart → walk.trail.node.0 ≡ 0 → after.goal ≡ walk.goal → turn ≡ Ask step → (WalkIsReady walk (from c h) h None → MatchTurn turn (WalkWaits after (from c h) h) (WalkAnswers after (from c h) h)) → UpdateWaits e (standing m (Walk after)) c h step
-  begins_walk m walk after c h turn step b try first is at root same asked w = (
+  -- its walk begins with the root's head, and a try with it
+  pub begins_walk : {A : Type 0} (m : UpdateRun E A) (walk : WalkRun) (c : Call) (h : History) → Begins e m c h → MayTry c h h m.limit m.tries → IsUntouched c h m.share → walk.goal ≡ e.goal m.edit → walk.trail.node.0 ≡ 0 → UpdateWaits e (standing m (Walk (record walk { at = Root }))) c h (load LoadSettled (node 0 HeadWord))
+  begins_walk m walk c h b try first is root = (
     h,
     try,
     first,
     (
-      record { small = b.small; rests = record { share = b.rests.share; over = b.rests.over }; quiet = quiet_at_start c.layout c.pass h (idle_rests c h m.share b.run.1.lawful b.rests); same = same ∙ is },
-      rw asked at w record { run = b.run; small = rw is b.small; since = ends_self h; at = at; root = root },
+      record { small = b.small; rests = record { share = b.rests.share; over = b.rests.over }; quiet = quiet_at_start c.layout c.pass h (idle_rests c h m.share b.run.1.lawful b.rests); same = is },
+      record { run = b.run; small = rw is b.small; since = ends_self h; known = root; asked = ap (λ n. load LoadSettled (node n HeadWord)) (sym root) },
     ),
   )
 
-  -- its walk asks for a step
-  pub walks_on : {A : Type 0} (m : UpdateRun E A) (walk after : WalkRun) (c : Call) (h : History) (turn : Turn Found) (step : Step) → Walks e m c h walk.goal → after.goal ≡ walk.goal → turn ≡ Ask step → MatchTurn turn (WalkWaits after c h) (WalkAnswers after c h) → TryWaits e (standing m (Walk after)) c h step
-  walks_on m walk after c h turn step x same asked w = (record { small = x.small; rests = x.rests; quiet = x.quiet; same = same ∙ x.same }, rw asked at w)
-
-  walk_since : (walk : WalkRun) (c : Call) (h : History) (got : Option ℕ) → WalkIsReady walk c h got → Extends h c.start
-  walk_since walk c h None x = x.since
-  walk_since walk c h (Some v) x = own_since c h x.own
+  -- its walk asks for a step, past the root's head
+  pub walks_on : {A : Type 0} (m : UpdateRun E A) (walk after : WalkRun) (c : Call) (b h : History) (turn : Turn Found) (step : Step) → IsTry c b h m.limit m.tries → IsUntouched c b m.share → Walks e m (from c b) h walk.goal → after.goal ≡ walk.goal → IsPastRoot after.at → turn ≡ Ask step → MatchTurn turn (WalkWaits after (from c b) h) (WalkAnswers after (from c b) h) → UpdateWaits e (standing m (Walk after)) c h step
+  walks_on m walk after c b h turn step try first x same past asked w = (b, past_root after.at past try, first, (record { small = x.small; rests = x.rests; quiet = x.quiet; same = same ∙ x.same }, rw asked at w))
 
   -- its walk is told something, at a moment of the call
-  pub walk_rests : {A : Type 0} (m : UpdateRun E A) (walk : WalkRun) (c : Call) (h : History) (got : Option ℕ) → Walks e m c h walk.goal → WalkIsReady walk c h got → Begins e m c h
-  walk_rests m walk c h got x ready = record { run = (walk_ready_run walk c h got ready).0; small = x.small; since = walk_since walk c h got ready; rests = x.rests }
+  pub walk_rests : {A : Type 0} (m : UpdateRun E A) (walk : WalkRun) (c : Call) (h : History) (v : ℕ) → Walks e m c h walk.goal → WalkIsTold walk c h v → Begins e m c h
+  walk_rests m walk c h v x told = record { run = told.run; small = x.small; since = own_since c h told.own; rests = x.rests }
 
   -- its walk has found a leaf
   pub walk_found : {A : Type 0} (m : UpdateRun E A) (walk after : WalkRun) (c : Call) (h : History) (turn : Turn Found) (f : Found) → Walks e m c h walk.goal → after.goal ≡ walk.goal → turn ≡ Done f → MatchTurn turn (WalkWaits after c h) (WalkAnswers after c h) → HasFound (e.goal m.edit) c h f
@@ -191,7 +191,7 @@ module _ {E : Type 0} (e : EditMeaning E) where
   scx_rests m scx f c b begin h x finished = rests_again c h m.share scx x.run.1.lawful x.share x.next_scx x.over (λ z. (let a = x.own_scx.from in omega (arith, z))) finished
 
   -- its SCX is done
-  pub scx_done : IsAtFound e → {A : Type 0} (m : UpdateRun E A) (scx after : ScxRun) (f : Found) (c : Call) (b begin h : History) (turn : Turn ScxAnswer) → IsTry c b → Scxs e m (from c b) h f scx begin → after.scx ≡ scx.scx → after.update ≡ scx.update → after.call ≡ scx.call → turn ≡ Done ScxDone → MatchTurn turn (ScxWaits TreeAllows after (from c begin) h) (ScxAnswers after (from c begin) h) → UpdateAnswers e m c h (done_at f)
+  pub scx_done : IsAtFound e → {A : Type 0} (m : UpdateRun E A) (scx after : ScxRun) (f : Found) (c : Call) (b begin h : History) (turn : Turn ScxAnswer) → IsTry c b h m.limit m.tries → Scxs e m (from c b) h f scx begin → after.scx ≡ scx.scx → after.update ≡ scx.update → after.call ≡ scx.call → turn ≡ Done ScxDone → MatchTurn turn (ScxWaits TreeAllows after (from c begin) h) (ScxAnswers after (from c begin) h) → UpdateAnswers e m c h (done_at f)
   scx_done laws m scx after f c b begin h turn try x is_scx is_update is_call done w = (
     scx_rests m scx f c b begin h x finished,
     record {
@@ -217,12 +217,15 @@ module _ {E : Type 0} (e : EditMeaning E) where
       finished z = let a : value h (state scx.scx.0) ≡ 1 = subst (λ (t : ScxNo). value h (state t.0) ≡ 1) is_scx is_done.committed in omega (arith, a, z)
 
   -- its SCX is lost: it may try again
-  pub scx_lost : {A : Type 0} (m : UpdateRun E A) (scx after : ScxRun) (f : Found) (c : Call) (b begin h : History) (turn : Turn ScxAnswer) (n : NodeNo) (s : ScxNo) → IsTry c b → Scxs e m (from c b) h f scx begin → after.scx ≡ scx.scx → after.update ≡ scx.update → turn ≡ Done (Lost n s) → MatchTurn turn (ScxWaits TreeAllows after (from c begin) h) (ScxAnswers after (from c begin) h) → Begins e m c h × IsTry c h × IsContended c h n.0 s.0
+  pub scx_lost : {A : Type 0} (m : UpdateRun E A) (scx after : ScxRun) (f : Found) (c : Call) (b begin h : History) (turn : Turn ScxAnswer) (n : NodeNo) (s : ScxNo) → IsTry c b h m.limit m.tries → Scxs e m (from c b) h f scx begin → after.scx ≡ scx.scx → after.update ≡ scx.update → turn ≡ Done (Lost n s) → MatchTurn turn (ScxWaits TreeAllows after (from c begin) h) (ScxAnswers after (from c begin) h) → Begins e m c h × HasLostTry c h m.limit m.tries n.0 s.0
   scx_lost m scx after f c b begin h turn n s try x is_scx is_update done w = (
     record { run = x.run; small = x.small; since = since; rests = scx_rests m scx f c b begin h x finished },
-    record { since = since; none = none_joined c.layout c.pass h b c.start x.now try.none (none_lost c.layout c.pass scx.scx.0 h b x.run.1.lawful aborted x.only) },
-    contended_wider c b h n.0 s.0 try.since (lost_contended (from c b) begin h (e.goal m.edit) f after n.0 s.0 x.run.1.lawful x.quiet
-        (subst (λ (u : Update). AreUsable (from c b) begin (e.goal m.edit) f u.snaps) (sym is_update) x.usable) lost),
+    record {
+      begin = b;
+      try = try;
+      way = lost_contended (from c b) begin h (e.goal m.edit) f after n.0 s.0 x.run.1.lawful x.quiet (subst (λ (u : Update). AreUsable (from c b) begin (e.goal m.edit) f u.snaps) (sym is_update) x.usable) lost;
+      none = none_joined c.layout c.pass h b c.start x.now try.none (none_lost c.layout c.pass scx.scx.0 h b x.run.1.lawful aborted x.only);
+    },
   )
     where
       since : Extends h c.start
@@ -238,16 +241,27 @@ module _ {E : Type 0} (e : EditMeaning E) where
       finished z = let a = aborted in omega (arith, a, z)
 
   -- while it only looks, it has entered nothing
-  pub nothing_entered : {A : Type 0} (m : UpdateRun E A) (c : Call) (b h : History) → IsTry c b → Begins e m (from c b) h → IsQuietSince c.layout c.pass b h → HasEnteredNone c.layout c.pass h c.start
+  pub nothing_entered : {A : Type 0} (m : UpdateRun E A) (c : Call) (b h : History) → IsTry c b h m.limit m.tries → Begins e m (from c b) h → IsQuietSince c.layout c.pass b h → HasEnteredNone c.layout c.pass h c.start
   nothing_entered m c b h try x quiet = none_joined c.layout c.pass h b c.start x.since try.none (none_quiet c.layout c.pass h b x.run.1.lawful quiet)
 
-  -- and may try again, if another was in its way
-  pub look_lost : {A : Type 0} (m : UpdateRun E A) (c : Call) (b h : History) (n s : ℕ) → IsTry c b → Begins e m (from c b) h → IsQuietSince c.layout c.pass b h → IsContended (from c b) h n s → Begins e m c h × IsTry c h × IsContended c h n s
+  -- and its try is lost, if another was in its way
+  pub look_lost : {A : Type 0} (m : UpdateRun E A) (c : Call) (b h : History) (n s : ℕ) → IsTry c b h m.limit m.tries → Begins e m (from c b) h → IsQuietSince c.layout c.pass b h → IsContended (from c b) h n s → Begins e m c h × HasLostTry c h m.limit m.tries n s
   look_lost m c b h n s try x quiet way = (
     record { run = x.run; small = x.small; since = ends_trans h b c.start x.since try.since; rests = record { share = x.rests.share; over = x.rests.over } },
-    record { since = ends_trans h b c.start x.since try.since; none = nothing_entered m c b h try x quiet },
-    contended_wider c b h n s try.since way,
+    record { begin = b; try = try; way = way; none = nothing_entered m c b h try x quiet },
   )
+
+  -- a lost try was in the way of the call
+  pub lost_way : {A : Type 0} (m : UpdateRun E A) (c : Call) (h : History) (n s : ℕ) → HasLostTry c h m.limit m.tries n s → IsContended c h n s
+  lost_way m c h n s x = contended_wider c x.begin h n s x.try.since x.way
+
+  -- the next may begin, if one is left
+  pub next_may : {A : Type 0} (m : UpdateRun E A) (c : Call) (h : History) (n s : ℕ) → m.tries ≢ 0 → Begins e m c h → HasLostTry c h m.limit m.tries n s → MayTry c h h m.limit (m.tries - 1)
+  next_may m c h n s some b x = record { since = b.since; none = x.none; all = let all = x.try.all in omega (arith, all, some) }
+
+  -- and if none is left, all are lost
+  pub all_lost : {A : Type 0} (m : UpdateRun E A) (c : Call) (h : History) (n s : ℕ) → m.tries ≡ 0 → HasLostTry c h m.limit m.tries n s → HasLostTries c.pass h c.start m.limit n s
+  all_lost m c h n s none x = record { begin = x.begin; since = x.try.since; newest = x.try.newest; all = let all = x.try.all in omega (arith, all, none); in_the_way = x.way.in_the_way }
 
   -- at rest in a try it is so in the call
   pub at_rest : {A : Type 0} (m : UpdateRun E A) (c : Call) (b h : History) → Begins e m (from c b) h → RestsWith c h m.share
@@ -257,8 +271,3 @@ module _ {E : Type 0} (e : EditMeaning E) where
 pub asks_on : (P : Type 0) (turn : Turn Updated) → MatchTurn turn (λ _. Unit {0}) (λ _. ⊥) → MatchTurn turn (λ _. Unit {0}) (λ _. P)
 asks_on P (Ask step) x = tt
 asks_on P (Done answer) x = absurd x
-
--- what was so as the walk began is so as it ends
-pub untouched_later : (c : Call) (b h : History) (left : Remaining) → Lawful c.layout h → Extends h b → IsUntouched c b left → IsUntouched c h left
-untouched_later c b h left l e (inl x) = inl x
-untouched_later c b h left l e (inr x) = inr (x.0, x.1, contended_later c h b x.0 x.1 l e x.2)

@@ -3,6 +3,7 @@ use Rattle.std.specs.Prelude.{◌≡◌, ◌≢◌, ℕ, suc, ◌^◌, ◌<◌, 
 use Rattle.arena.specs.declared.fault.Full.{Full}
 use Rattle.arena.specs.declared.fault.Resource.{Resource}
 use Rattle.arena.specs.declared.fault.Resource.TheVariants.{Nodes as FreshNodes, Scx as ScxRecords}
+use Rattle.arena.specs.declared.layout.Layout.{Layout}
 use Rattle.arena.specs.declared.machine.Turn.{Turn}
 use Rattle.arena.specs.declared.step.Row.{Row}
 use Rattle.arena.specs.declared.step.Step.{Step}
@@ -32,6 +33,7 @@ use Rattle.spelling.specs.OrderedMap.{MapEdit, edit_key, get}
 use Rattle.spelling.specs.Runs.{IsTreeRun, IsEditAt}
 use Rattle.spelling.specs.Spelled.{Spells}
 use Rattle.spelling.specs.TreeShape.{TreeAllows, edit_leaf}
+use Rattle.spelling.specs.Tries.{HasLostTries}
 use Rattle.spelling.specs.declared.pair.Pair.{Pair}
 use Rattle.template.specs.FoundLeaf.{path_key, HasFound}
 use Rattle.template.specs.Promises.{IsFresh}
@@ -58,7 +60,11 @@ use Rattle.updates.specs.Laws.Hand.{IsBefore, IsUpTo, IsPieceWord, HoldsWords, H
 use Rattle.updates.specs.Laws.HandScx.{from}
 use Rattle.updates.specs.Laws.NodeFills.{node_fill}
 use Rattle.updates.specs.Pieces.{many_nodes, nth_node, top_of, plan_over, word_of}
-use Rattle.updates.specs.Tries.{HasEnteredOnly, HasEnteredNone, IsTry, CoversSnaps}
+use Rattle.updates.specs.Tries.{HasEnteredOnly, HasEnteredNone, MayTry, IsTry, IsTryAt, CoversSnaps}
+
+-- a node of the table other than the root
+abbrev pub IsBelowRoot : Layout → ℕ → Type 0
+IsBelowRoot lay n = (n ≢ 0) × (n < all_nodes lay)
 
 -- Between its SCXs
 
@@ -226,7 +232,7 @@ module _ {E : Type 0} (e : EditMeaning E) where
     pub some : 0 < m.share.scx
     -- what is copied
     pub named : IsNamed c.layout h (copied m f)
-    pub inside : copied m f < all_nodes c.layout
+    pub inside : IsBelowRoot c.layout (copied m f)
     pub loaded : AreLoaded (value h) (copied m f) m.loaded
     -- nothing more is to be loaded for the nodes before
     pub before : (i : Nth) → ComesBefore i nth → e.wants m.edit f m.snaps.items m.loaded i ≡ None
@@ -338,10 +344,16 @@ module _ {E : Type 0} (e : EditMeaning E) where
   FirstOrLost m c begin (Walk walk) = IsUntouched c begin m.share
   FirstOrLost m c begin _ = Unit {0}
 
+  -- the try that began at this moment is its pass's newest; while its walk waits for the root's head
+  -- it has yet to begin
+  abbrev pub Tries : {A : Type 0} → UpdateRun E A → Call → History → History → UpdateAt → Type 0
+  Tries m c begin h (Walk walk) = IsTryAt c begin h m.limit m.tries walk.at
+  Tries m c begin h _ = IsTry c begin h m.limit m.tries
+
   -- it may be called with this: with nothing at its start, then with what its step told
   abbrev pub UpdateIsReady : UpdateRun E UpdateAt → Call → History → Option ℕ → Type 0
-  UpdateIsReady m c h None = Begins m c h × IsTry c h × RestsWith c c.start m.share × (m.at ≡ Start)
-  UpdateIsReady m c h (Some v) = (begin : History) × IsTry c begin × FirstOrLost m c begin m.at × UpdateIsToldAt m (from c begin) h v m.at
+  UpdateIsReady m c h None = Begins m c h × MayTry c h h m.limit m.tries × RestsWith c c.start m.share × (m.at ≡ Start)
+  UpdateIsReady m c h (Some v) = (begin : History) × IsTry c begin h m.limit m.tries × FirstOrLost m c begin m.at × UpdateIsToldAt m (from c begin) h v m.at
 
   -- in the try that this call is, it waits for this step where it stands
   abbrev pub TryWaits : UpdateRun E UpdateAt → Call → History → Step → Type 0
@@ -349,7 +361,7 @@ module _ {E : Type 0} (e : EditMeaning E) where
 
   -- it waits for this step in the try that began at some moment
   abbrev pub UpdateWaits : UpdateRun E UpdateAt → Call → History → Step → Type 0
-  UpdateWaits m c h s = (begin : History) × IsTry c begin × FirstOrLost m c begin m.at × TryWaits m (from c begin) h s
+  UpdateWaits m c h s = (begin : History) × Tries m c begin h m.at × FirstOrLost m c begin m.at × TryWaits m (from c begin) h s
 
   -- What its turns are asked for
 
@@ -424,7 +436,7 @@ module _ {E : Type 0} (e : EditMeaning E) where
   abbrev pub UpdateSays : {A : Type 0} → UpdateRun E A → Call → History → Updated → Type 0
   UpdateSays m c h (Done key value) = IsDoneWith m.edit m.call c h key value
   UpdateSays m c h (FullAnswer full) = IsFullFor m c h full
-  UpdateSays m c h (Contended node scx) = IsContended c h node.0 scx.0 × (m.tries ≡ 0) × HasEnteredNone c.layout c.pass h c.start
+  UpdateSays m c h (Contended node scx) = IsContended c h node.0 scx.0 × (m.tries ≡ 0) × HasEnteredNone c.layout c.pass h c.start × HasLostTries c.pass h c.start m.limit node.0 scx.0
 
   -- and behind it the pass is at rest, with what is left of the share
   abbrev pub UpdateAnswers : {A : Type 0} → UpdateRun E A → Call → History → Updated → Type 0

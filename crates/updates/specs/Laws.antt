@@ -3,6 +3,7 @@ pub mod Hand
 pub mod HandScx
 pub mod Kept
 pub mod Entered
+pub mod Trying
 pub mod Update
 pub mod Opened
 pub mod Contended

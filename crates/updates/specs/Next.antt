@@ -20,8 +20,7 @@ use Rattle.updates.specs.Edits.{EditMeaning}
 use Rattle.updates.specs.Known.{Begins, UpdateAnswers, UpdateWaits, done_at}
 use Rattle.updates.specs.Pieces.{nth_node, plan_over, top_of, word_of}
 use Rattle.updates.specs.Steps.{IsSpending, Spends, try_left, update_left}
-use Rattle.updates.specs.Tries.{IsTry}
-use Rattle.template.specs.Blame.{IsContended}
+use Rattle.updates.specs.Tries.{HasLostTry}
 use Rattle.updates.specs.declared.edit.Nth.{Nth}
 use Rattle.updates.specs.declared.update.Next.{Next}
 use Rattle.updates.specs.declared.update.Next.TheVariants.{Look as LookNext, Wait, Load as LoadNext, Fill as FillNext, Change}
@@ -34,11 +33,11 @@ use Rattle.updates.specs.declared.update.Updated.TheVariants.{Full as FullAnswer
 
 -- the update where it stands at this place, or at none
 abbrev pub standing : {E A B : Type 0} → UpdateRun E A → B → UpdateRun E B
-standing m at = record { edit = m.edit; share = m.share; snaps = m.snaps; nodes = m.nodes; loaded = m.loaded; tries = m.tries; call = m.call; at = at }
+standing m at = record { edit = m.edit; share = m.share; snaps = m.snaps; nodes = m.nodes; loaded = m.loaded; tries = m.tries; limit = m.limit; call = m.call; at = at }
 
--- it makes the same edit, in the same call
+-- it makes the same edit, in the same call, which may try as often
 abbrev pub IsSameUpdate : {E A B : Type 0} → UpdateRun E A → UpdateRun E B → Type 0
-IsSameUpdate old now = (now.edit ≡ old.edit) × (now.call ≡ old.call)
+IsSameUpdate old now = (now.edit ≡ old.edit) × (now.call ≡ old.call) × (now.limit ≡ old.limit)
 
 module _ {E : Type 0} (e : EditMeaning E) where
   -- The SCX covers all that was looked at and finalizes all but the first, of which a field gets the
@@ -74,7 +73,7 @@ module _ {E : Type 0} (e : EditMeaning E) where
   -- a try may end so: with what its update answers, or lost to another pass
   abbrev pub MayStop : {A : Type 0} → Call → History → UpdateRun E A → Found → Stop → Type 0
   MayStop c h m f Nothing = UpdateAnswers e m c h (done_at f)
-  MayStop c h m f (Lost node scx) = Begins e m c h × IsTry c h × IsContended c h node.0 scx.0
+  MayStop c h m f (Lost node scx) = Begins e m c h × HasLostTry c h m.limit m.tries node.0 scx.0
   MayStop c h m f (FullStop full) = UpdateAnswers e m c h (FullAnswer full)
 
   -- once it has begun what it does next, it waits for that step; or it may end so

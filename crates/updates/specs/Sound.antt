@@ -7,7 +7,6 @@ use Rattle.arena.specs.declared.word.NodeWord.TheVariants.{Child}
 use Rattle.arena.specs.declared.word.Side.{Side}
 use Rattle.arena.specs.Fills.{IsInField, IsNamed}
 use Rattle.arena.specs.History.{History}
-use Rattle.arena.specs.Layout.{all_nodes}
 use Rattle.arena.specs.Machines.{Call}
 use Rattle.histories.specs.Descriptor.{Descriptor}
 use Rattle.prims.specs.Laws.Idle.{IsQuietSince}
@@ -29,18 +28,18 @@ use Rattle.updates.specs.declared.edit.Nodes.{Nodes}
 use Rattle.updates.specs.declared.edit.Nth.{Nth}
 use Rattle.template.specs.Blame.{IsContended, WasNotFinal}
 use Rattle.updates.specs.Edits.{EditMeaning, EditBounds}
-use Rattle.updates.specs.Known.{ComesBefore, CoversLeaf, IsNeeded, HasLooked, HasFilledAll, IsUpdateFor}
+use Rattle.updates.specs.Known.{IsBelowRoot, ComesBefore, CoversLeaf, IsNeeded, HasLooked, HasFilledAll, IsUpdateFor}
 use Rattle.updates.specs.Laws.Hand.{IsPieceWord}
 use Rattle.updates.specs.Pieces.{nth_node, with_word, word_of}
 
 -- What an edit looks at an LLX may look at, and was not final at a moment of the call. Where a
 -- snapshot differs from what the walk has found, what the edit names was in the way of a pass that
--- was idle. What an edit copies every pass may know.
+-- was idle. What an edit copies every pass may know, and it is not the root.
 pub record LooksWell {E : Type 0} (m : EditMeaning E) : Type 0 where
   pub opens : (e : E) (c : Call) (h : History) (f : Found) (snaps : List Snap) (n : NodeNo) → IsTreeRun c.layout h → m.needs e f ≢ Nothing → HasLooked m c h e f snaps → m.looks e f snaps ≡ At n → IsOpened c.layout h n.0
   pub stood : (e : E) (c : Call) (h : History) (f : Found) (snaps : List Snap) (n : NodeNo) → IsTreeRun c.layout h → m.needs e f ≢ Nothing → HasLooked m c h e f snaps → m.looks e f snaps ≡ At n → WasNotFinal c h n.0
   pub differs : (e : E) (c : Call) (h : History) (f : Found) (snaps : List Snap) (n : NodeNo) (s : ScxNo) → IsTreeRun c.layout h → m.needs e f ≢ Nothing → HasLooked m c h e f snaps → m.looks e f snaps ≡ Differs n s → IsQuietSince c.layout c.pass c.start h → IsContended c h n.0 s.0
-  pub copied : (e : E) (c : Call) (h : History) (f : Found) (snaps : List Snap) → IsTreeRun c.layout h → m.needs e f ≢ Nothing → HasLooked m c h e f snaps → m.looks e f snaps ≡ Enough → IsNamed c.layout h (m.copies e f snaps).0 × ((m.copies e f snaps).0 < all_nodes c.layout)
+  pub copied : (e : E) (c : Call) (h : History) (f : Found) (snaps : List Snap) → IsTreeRun c.layout h → m.needs e f ≢ Nothing → HasLooked m c h e f snaps → m.looks e f snaps ≡ Enough → IsNamed c.layout h (m.copies e f snaps).0 × IsBelowRoot c.layout (m.copies e f snaps).0
 
 -- what an edit loads is settled, and what it loads for a fresh node does not change what it says of
 -- those before

@@ -86,10 +86,19 @@ abbrev pub scx_tries : {E A : Type 0} → UpdateRun E A → UpdateAt → ℕ
 scx_tries m (Scx f scx) = m.tries
 scx_tries m _ = m.tries + 1
 
+-- and while it fills a fresh node there is one left
+abbrev pub HasScxLeft : {E A : Type 0} → UpdateRun E A → UpdateAt → Type 0
+HasScxLeft m (Fill f nth part) = 0 < m.share.scx
+HasScxLeft m _ = Unit {0}
+
 -- At most so many nodes are taken for each of the tries that might take some and no longer may, and
--- at most one SCX-record.
+-- at most one SCX-record; and at most so many nodes for each SCX-record that is taken, besides
+-- those of a try that no longer may take nodes and may still take its SCX-record.
 abbrev pub Spends : ℕ → Remaining → Remaining → ℕ → ℕ → ℕ → ℕ → Type 0
-Spends most old now nodes nodes_then scx scx_then = (old.nodes + most * nodes_then ≤ now.nodes + most * nodes) × (old.scx + scx_then ≤ now.scx + scx)
+Spends most old now nodes nodes_then scx scx_then =
+    (old.nodes + most * nodes_then ≤ now.nodes + most * nodes)
+    × (old.scx + scx_then ≤ now.scx + scx)
+    × (old.nodes + most * (now.scx + scx + nodes_then) ≤ now.nodes + most * (old.scx + nodes + scx_then))
 
 -- so much is taken of the share, where so many tries might take of it
 abbrev pub IsSpending : {E : Type 0} → EditMeaning E → Turn Updated → Remaining → UpdateRun E UpdateAt → ℕ → ℕ → Type 0

@@ -10,7 +10,7 @@ use arena::{
 use arrayvec::ArrayVec;
 use help::HelpRun;
 use prims::{Llx, LlxAt, LlxRun, Scx, ScxAt, ScxRun, Snap};
-use template::{Found, Trail, Tree, WalkRun};
+use template::{Found, Trail, Tree, WalkAt, WalkRun};
 
 /// What an update answers.
 #[derive(Clone, Copy, Debug, PartialEq, Eq)]
@@ -125,6 +125,8 @@ pub struct UpdateRun<E, A> {
     pub loaded: Loaded,
     /// How many tries are left behind this one.
     pub tries: u32,
+    /// How many it has in all.
+    pub limit: u32,
     /// The number of the call, as its maker counts.
     pub call: u64,
     /// Where the run stands.
@@ -164,8 +166,8 @@ impl<E: Edit + Drop> UpdateRun<E, UpdateAt> {
     ghost use Rattle.template.specs.Walk.Steps.{WalkFits, walk_left};
     ghost use Rattle.prims.specs.Llx.Steps.{llx_left};
     ghost use Rattle.prims.specs.Scx.Steps.{scx_left};
-    ghost use Rattle.std.specs.Prelude.{None, Ok};
-    ghost use Rattle.template.specs.Walk.Known.{WalkIsReady};
+    ghost use Rattle.std.specs.Prelude.{None, Some, Ok};
+    ghost use Rattle.template.specs.Walk.Known.{WalkIsTold};
     ghost use Rattle.updates.specs.Known.{Walks, IsFilledUpTo, UpdateIsReady};
     ghost use Rattle.updates.specs.Steps.{UpdateFits, fills_left};
     ghost use Rattle.arena.specs.History.{History};
@@ -175,40 +177,36 @@ impl<E: Edit + Drop> UpdateRun<E, UpdateAt> {
     ghost use Rattle.spelling.specs.TreeShape.{TreeAllows};
     ghost use Rattle.updates.specs.Known.{Begins, IsUntouched, Looks, Scxs, UpdateTurn};
     ghost use Rattle.updates.specs.Laws.HandScx.{from};
-    ghost use Rattle.updates.specs.Steps.{IsSpending, node_tries, scx_tries};
+    ghost use Rattle.updates.specs.Steps.{HasScxLeft, IsSpending, node_tries, scx_tries};
     ghost use Rattle.updates.specs.Next.{IsSameUpdate, placed, next_step, fills, update_of, MayStop, GoesOn, ComesNearer, HasSpent};
     ghost use Rattle.arena.specs.Share.{Remaining};
-    ghost use Rattle.template.specs.Blame.{IsContended};
-    ghost use Rattle.updates.specs.Tries.{IsTry};
+    ghost use Rattle.updates.specs.Tries.{MayTry, IsTry, HasLostTry};
 
-    /// Begins a try.
+    /// Begins a try, with the load of the root's head.
     fn begin_walk(&mut self) -> Turn<Updated>
-        ensures turn { (c : Call) (h : History) → IsRun TreeAllows c.layout h → Begins E.means self.old c h → IsTry c h → IsUntouched c h self.old.share → UpdateTurn E.means c h self.new result }
-        ensures begins { (c : Call) (h : History) → Begins E.means self.old c h → MatchTurn result (λ _. Unit {0}) (λ _. ⊥) }
+        ensures turn { (c : Call) (h : History) → IsRun TreeAllows c.layout h → Begins E.means self.old c h → MayTry c h h self.old.limit self.old.tries → IsUntouched c h self.old.share → UpdateTurn E.means c h self.new result }
+        ensures begins { MatchTurn result (λ _. Unit {0}) (λ _. ⊥) }
         ensures same { IsSameUpdate self.old self.new }
         ensures nearer { (nodes : ℕ) → IsNearer E.means self.new nodes result (self.old.tries * try_left E.means nodes + try_left E.means nodes) }
         ensures spends { IsSpending E.means result self.old.share self.new (self.old.tries + 1) (self.old.tries + 1) }
         ensures tries { self.new.tries ≡ self.old.tries }
     {
         let mut walk = WalkRun::new(self.edit.goal());
-        match Machine::<Tree>::next(&mut walk, None) {
-            Turn::Ask(step) => {
-                self.at = UpdateAt::Walk { walk };
-                Turn::Ask(step)
-            }
-            Turn::Done(_) => Turn::Done(Updated::Contended {
-                node: NodeNo(0),
-                scx: ScxNo(0),
-            }),
-        }
+        walk.at = WalkAt::Root;
+        self.at = UpdateAt::Walk { walk };
+        Turn::Ask(Step {
+            kind: Kind::LoadSettled,
+            word: Word::Node(NodeNo(0), NodeWord::Head),
+            access: Access::Load,
+        })
     }
 
     /// Ends a try that is lost to this SCX-record over this node, and begins the next if there is one.
     #[cold]
     fn lost(&mut self, node: NodeNo, scx: ScxNo) -> Turn<Updated>
-        ensures turn { (c : Call) (h : History) → IsRun TreeAllows c.layout h → Begins E.means self.old c h → IsTry c h → IsContended c h node.0 scx.0 → UpdateTurn E.means c h self.new result }
+        ensures turn { (c : Call) (h : History) → IsRun TreeAllows c.layout h → Begins E.means self.old c h → HasLostTry c h self.old.limit self.old.tries node.0 scx.0 → UpdateTurn E.means c h self.new result }
         ensures same { IsSameUpdate self.old self.new }
-        ensures gives_up { (c : Call) (h : History) → Begins E.means self.old c h → MatchTurn result (λ _. Unit {0}) (λ _. self.old.tries ≡ 0) }
+        ensures gives_up { MatchTurn result (λ _. Unit {0}) (λ _. self.old.tries ≡ 0) }
         ensures nearer { (nodes : ℕ) → IsNearer E.means self.new nodes result (self.old.tries * try_left E.means nodes) }
         ensures spends { IsSpending E.means result self.old.share self.new self.old.tries self.old.tries }
         ensures tries { (self.old.tries ≤ self.new.tries + 1) × (self.new.tries ≤ self.old.tries) }
@@ -222,7 +220,7 @@ impl<E: Edit + Drop> UpdateRun<E, UpdateAt> {
 
     /// Goes on with what the last step of the walk found.
     fn walk_on(&mut self, mut walk: WalkRun, got: Option<u64>) -> Turn<Updated>
-        ensures turn { (c : Call) (b h : History) → IsRun TreeAllows c.layout h → IsTry c b → IsUntouched c b self.old.share → Walks E.means self.old (from c b) h walk.goal → WalkIsReady walk (from c b) h got → UpdateTurn E.means c h self.new result }
+        ensures turn { (c : Call) (b h : History) (v : ℕ) → got ≡ Some v → IsRun TreeAllows c.layout h → IsTry c b h self.old.limit self.old.tries → IsUntouched c b self.old.share → Walks E.means self.old (from c b) h walk.goal → WalkIsTold walk (from c b) h v → UpdateTurn E.means c h self.new result }
         ensures same { IsSameUpdate self.old self.new }
         ensures nearer { (nodes : ℕ) → WalkFits walk got nodes → IsNearer E.means self.new nodes result (self.old.tries * try_left E.means nodes + (walk_left walk.at nodes + (64 * E.means.most_looks + works_behind E.means First + 39))) }
         ensures spends { IsSpending E.means result self.old.share self.new (self.old.tries + 1) (self.old.tries + 1) }
@@ -242,7 +240,7 @@ impl<E: Edit + Drop> UpdateRun<E, UpdateAt> {
 
     /// Goes on with what the last step of an LLX found.
     fn look_on(&mut self, found: Found, mut llx: LlxRun, got: Option<u64>) -> Turn<Updated>
-        ensures turn { (c : Call) (b begin h : History) → IsRun TreeAllows c.layout h → IsTry c b → Looks E.means self.old (from c b) h found llx begin → LlxIsReady TreeAllows llx (from (from c b) begin) h got → UpdateTurn E.means c h self.new result }
+        ensures turn { (c : Call) (b begin h : History) → IsRun TreeAllows c.layout h → IsTry c b h self.old.limit self.old.tries → Looks E.means self.old (from c b) h found llx begin → LlxIsReady TreeAllows llx (from (from c b) begin) h got → UpdateTurn E.means c h self.new result }
         ensures same { IsSameUpdate self.old self.new }
         ensures nearer { (nodes : ℕ) → IsNearer E.means self.new nodes result (self.old.tries * try_left E.means nodes + (llx_left llx.at + 64 * (E.means.most_looks - 1 - length self.old.snaps.items) + works_behind E.means First + 39)) }
         ensures spends { IsSpending E.means result self.old.share self.new (self.old.tries + 1) (self.old.tries + 1) }
@@ -282,10 +280,10 @@ impl<E: Edit + Drop> UpdateRun<E, UpdateAt> {
 
     /// Goes on behind that fill: with the next word, or with what is done behind the last.
     fn fill_on(&mut self, found: Found, nth: Nth, part: NodeWord) -> Turn<Updated>
-        ensures turn { (c : Call) (b h : History) → IsRun TreeAllows c.layout h → IsTry c b → IsFilledUpTo E.means self.old (from c b) h found nth part → UpdateTurn E.means c h self.new result }
+        ensures turn { (c : Call) (b h : History) → IsRun TreeAllows c.layout h → IsTry c b h self.old.limit self.old.tries → IsFilledUpTo E.means self.old (from c b) h found nth part → UpdateTurn E.means c h self.new result }
         ensures same { IsSameUpdate self.old self.new }
         ensures nearer { (nodes : ℕ) → IsNearer E.means self.new nodes result (self.old.tries * try_left E.means nodes + (fills_left E.means self.old found nth part + 39)) }
-        ensures spends { IsSpending E.means result self.old.share self.new self.old.tries (self.old.tries + 1) }
+        ensures spends { 0 < self.old.share.scx → IsSpending E.means result self.old.share self.new self.old.tries (self.old.tries + 1) }
         ensures tries { (self.old.tries ≤ self.new.tries + 1) × (self.new.tries ≤ self.old.tries) }
     {
         let snaps = self.snaps.as_slice();
@@ -418,7 +416,7 @@ impl<E: Edit + Drop> UpdateRun<E, UpdateAt> {
 
     /// Goes on with what the last step of the SCX found.
     fn scx_on(&mut self, found: Found, mut scx: ScxRun, got: Option<u64>) -> Turn<Updated>
-        ensures turn { (c : Call) (b begin h : History) → IsRun TreeAllows c.layout h → IsTry c b → Scxs E.means self.old (from c b) h found scx begin → ScxIsReady TreeAllows scx (from (from c b) begin) h got → UpdateTurn E.means c h self.new result }
+        ensures turn { (c : Call) (b begin h : History) → IsRun TreeAllows c.layout h → IsTry c b h self.old.limit self.old.tries → Scxs E.means self.old (from c b) h found scx begin → ScxIsReady TreeAllows scx (from (from c b) begin) h got → UpdateTurn E.means c h self.new result }
         ensures same { IsSameUpdate self.old self.new }
         ensures nearer { (nodes : ℕ) → IsNearer E.means self.new nodes result (self.old.tries * try_left E.means nodes + scx_left scx.at) }
         ensures spends { IsSpending E.means result self.old.share self.new self.old.tries self.old.tries }
@@ -441,7 +439,7 @@ impl<E: Edit + Drop> UpdateRun<E, UpdateAt> {
         ensures begins { got ≡ None → (c : Call) (h : History) → UpdateIsReady E.means self.old c h None → MatchTurn result (λ _. Unit {0}) (λ _. ⊥) }
         ensures same { IsSameUpdate self.old self.new }
         ensures nearer { (nodes : ℕ) → UpdateFits E.means self.old got nodes → IsNearer E.means self.new nodes result (update_left E.means self.old nodes) }
-        ensures spends { IsSpending E.means result self.old.share self.new (node_tries self.old self.old.at) (scx_tries self.old self.old.at) }
+        ensures spends { HasScxLeft self.old self.old.at → IsSpending E.means result self.old.share self.new (node_tries self.old self.old.at) (scx_tries self.old self.old.at) }
         ensures tries { (self.old.tries ≤ self.new.tries + 1) × (self.new.tries ≤ self.old.tries) }
     {
         match self.at {
@@ -472,7 +470,7 @@ impl<E: Edit + Drop> Machine<Tree> for UpdateRun<E, UpdateAt> {
 
     ghost answers = { UpdateAnswers E.means };
 
-    ghost same = { λ old now. (now.edit ≡ old.edit) × (now.call ≡ old.call) × (old.tries ≤ now.tries + 1) × (now.tries ≤ old.tries) };
+    ghost same = { λ old now. (now.edit ≡ old.edit) × (now.call ≡ old.call) × (now.limit ≡ old.limit) × (old.tries ≤ now.tries + 1) × (now.tries ≤ old.tries) };
 
     ghost left = { update_left E.means };
 

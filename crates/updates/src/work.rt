@@ -37,6 +37,7 @@ impl<E: Edit + Drop, A: Drop> UpdateRun<E, A> {
         ensures edit { result.edit ≡ edit }
         ensures call { result.call ≡ call }
         ensures tries { result.tries ≡ tries - 1 }
+        ensures limit { result.limit ≡ tries }
     {
         UpdateRun {
             edit,
@@ -45,6 +46,7 @@ impl<E: Edit + Drop, A: Drop> UpdateRun<E, A> {
             nodes: Nodes::default(),
             loaded: Loaded::default(),
             tries: tries.saturating_sub(1),
+            limit: tries,
             call,
             at,
         }
@@ -61,6 +63,7 @@ impl<E: Edit + Drop, A: Drop> UpdateRun<E, A> {
             nodes: self.nodes,
             loaded: self.loaded,
             tries: self.tries,
+            limit: self.limit,
             call: self.call,
             at,
         }
@@ -95,7 +98,7 @@ impl<E: Edit + Drop, A: Drop> UpdateRun<E, A> {
     /// What the try does behind its walk, if the share has what the edit needs.
     #[inline(always)]
     pub fn test_share(&mut self, found: &Found) -> Result<Next, Stop>
-        ensures turn { (c : Call) (b h : History) → IsRun TreeAllows c.layout h → IsTry c b → IsUntouched c b self.old.share → Begins E.means self.old (from c b) h → IsQuietSince c.layout c.pass b h → HasFound (E.means.goal self.old.edit) (from c b) h found.now → GoesOn E.means c h self.new found.now result }
+        ensures turn { (c : Call) (b h : History) → IsRun TreeAllows c.layout h → IsTry c b h self.old.limit self.old.tries → IsUntouched c b self.old.share → Begins E.means self.old (from c b) h → IsQuietSince c.layout c.pass b h → HasFound (E.means.goal self.old.edit) (from c b) h found.now → GoesOn E.means c h self.new found.now result }
         ensures same { IsSameUpdate self.old self.new }
         ensures nearer { (nodes : ℕ) → ComesNearer E.means self.new found.now result nodes (self.old.tries * try_left E.means nodes + (64 * E.means.most_looks + works_behind E.means First + 39)) }
         ensures spends { HasSpent E.means self.old.share self.new found.now result (self.old.tries + 1) (self.old.tries + 1) }
@@ -115,7 +118,7 @@ impl<E: Edit + Drop, A: Drop> UpdateRun<E, A> {
     /// The next node that the edit names to be looked at, or what is done behind the last.
     #[inline(always)]
     fn look(&mut self, found: &Found) -> Result<Next, Stop>
-        ensures turn { (c : Call) (b h : History) → IsRun TreeAllows c.layout h → IsTry c b → CanLook E.means self.old (from c b) h found.now → GoesOn E.means c h self.new found.now result }
+        ensures turn { (c : Call) (b h : History) → IsRun TreeAllows c.layout h → IsTry c b h self.old.limit self.old.tries → CanLook E.means self.old (from c b) h found.now → GoesOn E.means c h self.new found.now result }
         ensures same { IsSameUpdate self.old self.new }
         ensures nearer { (nodes : ℕ) → ComesNearer E.means self.new found.now result nodes (self.old.tries * try_left E.means nodes + (64 * (E.means.most_looks - length self.old.snaps.items) + works_behind E.means First + 39)) }
         ensures spends { HasSpent E.means self.old.share self.new found.now result (self.old.tries + 1) (self.old.tries + 1) }
@@ -131,7 +134,7 @@ impl<E: Edit + Drop, A: Drop> UpdateRun<E, A> {
     /// Keeps a snapshot, and tells what is done behind it.
     #[inline(always)]
     pub fn looked(&mut self, found: &Found, snap: Snap) -> Result<Next, Stop>
-        ensures turn { (c : Call) (b h : History) → IsRun TreeAllows c.layout h → IsTry c b → CanLook E.means self.old (from c b) h found.now → E.means.looks self.old.edit found.now self.old.snaps.items ≡ Look.At snap.node → IsSnapshot c.layout h snap.node.0 snap → GoesOn E.means c h self.new found.now result }
+        ensures turn { (c : Call) (b h : History) → IsRun TreeAllows c.layout h → IsTry c b h self.old.limit self.old.tries → CanLook E.means self.old (from c b) h found.now → E.means.looks self.old.edit found.now self.old.snaps.items ≡ Look.At snap.node → IsSnapshot c.layout h snap.node.0 snap → GoesOn E.means c h self.new found.now result }
         ensures same { IsSameUpdate self.old self.new }
         ensures nearer { (nodes : ℕ) → ComesNearer E.means self.new found.now result nodes (self.old.tries * try_left E.means nodes + (64 * (E.means.most_looks - 1 - length self.old.snaps.items) + works_behind E.means First + 39)) }
         ensures spends { HasSpent E.means self.old.share self.new found.now result (self.old.tries + 1) (self.old.tries + 1) }
@@ -144,7 +147,7 @@ impl<E: Edit + Drop, A: Drop> UpdateRun<E, A> {
     /// Takes the fresh nodes, once all snapshots are there.
     #[inline(always)]
     fn begin_work(&mut self, found: &Found) -> Next
-        ensures turn { (c : Call) (b h : History) → IsRun TreeAllows c.layout h → IsTry c b → CanLook E.means self.old (from c b) h found.now → E.means.looks self.old.edit found.now self.old.snaps.items ≡ Look.Enough → GoesOn E.means c h self.new found.now (Ok result) }
+        ensures turn { (c : Call) (b h : History) → IsRun TreeAllows c.layout h → IsTry c b h self.old.limit self.old.tries → CanLook E.means self.old (from c b) h found.now → E.means.looks self.old.edit found.now self.old.snaps.items ≡ Look.Enough → GoesOn E.means c h self.new found.now (Ok result) }
         ensures same { IsSameUpdate self.old self.new }
         ensures nearer { (nodes : ℕ) → ComesNearer E.means self.new found.now (Ok result) nodes (self.old.tries * try_left E.means nodes + (works_behind E.means First + 39)) }
         ensures spends { HasSpent E.means self.old.share self.new found.now (Ok result) (self.old.tries + 1) (self.old.tries + 1) }
@@ -165,7 +168,7 @@ impl<E: Edit + Drop, A: Drop> UpdateRun<E, A> {
     /// Takes one fresh node.
     #[inline(always)]
     fn begin_one(&mut self, found: &Found) -> Next
-        ensures turn { (c : Call) (b h : History) → IsRun TreeAllows c.layout h → IsTry c b → CanLook E.means self.old (from c b) h found.now → E.means.looks self.old.edit found.now self.old.snaps.items ≡ Look.Enough → E.means.needs self.old.edit found.now ≡ Need.One → self.old.loaded ≡ nothing_loaded → GoesOn E.means c h self.new found.now (Ok result) }
+        ensures turn { (c : Call) (b h : History) → IsRun TreeAllows c.layout h → IsTry c b h self.old.limit self.old.tries → CanLook E.means self.old (from c b) h found.now → E.means.looks self.old.edit found.now self.old.snaps.items ≡ Look.Enough → E.means.needs self.old.edit found.now ≡ Need.One → self.old.loaded ≡ nothing_loaded → GoesOn E.means c h self.new found.now (Ok result) }
         ensures same { IsSameUpdate self.old self.new }
         ensures nearer { (nodes : ℕ) → ComesNearer E.means self.new found.now (Ok result) nodes (self.old.tries * try_left E.means nodes + (works_behind E.means First + 39)) }
         ensures spends { HasSpent E.means self.old.share self.new found.now (Ok result) (self.old.tries + 1) (self.old.tries + 1) }
@@ -183,7 +186,7 @@ impl<E: Edit + Drop, A: Drop> UpdateRun<E, A> {
     /// Takes three.
     #[inline(always)]
     fn begin_three(&mut self, found: &Found) -> Next
-        ensures turn { (c : Call) (b h : History) → IsRun TreeAllows c.layout h → IsTry c b → CanLook E.means self.old (from c b) h found.now → E.means.looks self.old.edit found.now self.old.snaps.items ≡ Look.Enough → E.means.needs self.old.edit found.now ≡ Need.Three → self.old.loaded ≡ nothing_loaded → GoesOn E.means c h self.new found.now (Ok result) }
+        ensures turn { (c : Call) (b h : History) → IsRun TreeAllows c.layout h → IsTry c b h self.old.limit self.old.tries → CanLook E.means self.old (from c b) h found.now → E.means.looks self.old.edit found.now self.old.snaps.items ≡ Look.Enough → E.means.needs self.old.edit found.now ≡ Need.Three → self.old.loaded ≡ nothing_loaded → GoesOn E.means c h self.new found.now (Ok result) }
         ensures same { IsSameUpdate self.old self.new }
         ensures nearer { (nodes : ℕ) → ComesNearer E.means self.new found.now (Ok result) nodes (self.old.tries * try_left E.means nodes + (works_behind E.means First + 39)) }
         ensures spends { E.means.needs self.old.edit found.now ≡ Need.Three → HasSpent E.means self.old.share self.new found.now (Ok result) (self.old.tries + 1) (self.old.tries + 1) }
@@ -207,6 +210,7 @@ impl<E: Edit + Drop, A: Drop> UpdateRun<E, A> {
         ensures taken { 0 < self.old.share.nodes → (result.0 ≡ self.old.share.next_node) × (self.new.share ≡ less_a_node self.old.share) }
         ensures same { self.new ≡ record self.old { share = self.new.share } }
         ensures tries { self.new.tries ≡ self.old.tries }
+        ensures limit { self.new.limit ≡ self.old.limit }
     {
         match self.share.fresh() {
             Some(fresh) => fresh.node(),
@@ -217,7 +221,7 @@ impl<E: Edit + Drop, A: Drop> UpdateRun<E, A> {
     /// The next word to be loaded for the fresh node of this place, if there is one, before its fills.
     #[inline(always)]
     fn load(&self, found: &Found, nth: Nth) -> Next
-        ensures turn { (c : Call) (b h : History) → IsRun TreeAllows c.layout h → IsTry c b → CanLoad E.means self.now (from c b) h found.now nth → GoesOn E.means c h self.now found.now (Ok result) }
+        ensures turn { (c : Call) (b h : History) → IsRun TreeAllows c.layout h → IsTry c b h self.now.limit self.now.tries → CanLoad E.means self.now (from c b) h found.now nth → GoesOn E.means c h self.now found.now (Ok result) }
         ensures nearer { (nodes : ℕ) → HasPlace (E.means.needs self.now.edit found.now) nth → ComesNearer E.means self.now found.now (Ok result) nodes (self.now.tries * try_left E.means nodes + (works_left E.means self.now found.now nth + 39)) }
         ensures spends { HasSpent E.means self.now.share self.now found.now (Ok result) self.now.tries (self.now.tries + 1) }
     {
@@ -233,7 +237,7 @@ impl<E: Edit + Drop, A: Drop> UpdateRun<E, A> {
     /// Keeps what that load has told, and tells what is done behind it.
     #[inline(always)]
     pub fn loaded(&mut self, found: &Found, nth: Nth, part: NodeWord, told: u64) -> Next
-        ensures turn { (c : Call) (b h : History) → IsRun TreeAllows c.layout h → IsTry c b → Loads E.means self.old (from c b) h found.now nth part → value h (node (copied E.means self.old found.now) part) ≡ told → GoesOn E.means c h self.new found.now (Ok result) }
+        ensures turn { (c : Call) (b h : History) → IsRun TreeAllows c.layout h → IsTry c b h self.old.limit self.old.tries → Loads E.means self.old (from c b) h found.now nth part → value h (node (copied E.means self.old found.now) part) ≡ told → GoesOn E.means c h self.new found.now (Ok result) }
         ensures same { IsSameUpdate self.old self.new }
         ensures nearer { (nodes : ℕ) → IsWanted E.means self.old found.now nth part → ComesNearer E.means self.new found.now (Ok result) nodes (self.old.tries * try_left E.means nodes + (works_left E.means self.old found.now nth - 1 + 39)) }
         ensures spends { HasSpent E.means self.old.share self.new found.now (Ok result) self.old.tries (self.old.tries + 1) }
@@ -246,10 +250,10 @@ impl<E: Edit + Drop, A: Drop> UpdateRun<E, A> {
     /// What is done once the fresh node of this place is filled: with the next node, or the SCX.
     #[inline(always)]
     pub fn filled(&mut self, found: &Found, nth: Nth) -> Result<Next, Stop>
-        ensures turn { (c : Call) (b h : History) (part : NodeWord) → IsRun TreeAllows c.layout h → IsTry c b → IsFilledUpTo E.means self.old (from c b) h found.now nth part → part_behind (E.means.pieces self.old.edit found.now self.old.snaps.items self.old.nodes self.old.loaded nth) part ≡ None → GoesOn E.means c h self.new found.now result }
+        ensures turn { (c : Call) (b h : History) (part : NodeWord) → IsRun TreeAllows c.layout h → IsTry c b h self.old.limit self.old.tries → IsFilledUpTo E.means self.old (from c b) h found.now nth part → part_behind (E.means.pieces self.old.edit found.now self.old.snaps.items self.old.nodes self.old.loaded nth) part ≡ None → GoesOn E.means c h self.new found.now result }
         ensures same { IsSameUpdate self.old self.new }
         ensures nearer { (nodes : ℕ) → ComesNearer E.means self.new found.now result nodes (self.old.tries * try_left E.means nodes + (works_after E.means nth + 39)) }
-        ensures spends { HasSpent E.means self.old.share self.new found.now result self.old.tries (self.old.tries + 1) }
+        ensures spends { 0 < self.old.share.scx → HasSpent E.means self.old.share self.new found.now result self.old.tries (self.old.tries + 1) }
         ensures tries { self.new.tries ≡ self.old.tries }
     {
         match self.edit.need(found).behind(nth) {
@@ -261,10 +265,10 @@ impl<E: Edit + Drop, A: Drop> UpdateRun<E, A> {
     /// Takes an SCX-record.
     #[inline(always)]
     fn take_scx(&mut self, found: &Found) -> Result<Next, Stop>
-        ensures turn { (c : Call) (b h : History) → IsRun TreeAllows c.layout h → IsTry c b → CanScx E.means self.old (from c b) h found.now → GoesOn E.means c h self.new found.now result }
+        ensures turn { (c : Call) (b h : History) → IsRun TreeAllows c.layout h → IsTry c b h self.old.limit self.old.tries → CanScx E.means self.old (from c b) h found.now → GoesOn E.means c h self.new found.now result }
         ensures same { IsSameUpdate self.old self.new }
         ensures nearer { (nodes : ℕ) → ComesNearer E.means self.new found.now result nodes (self.old.tries * try_left E.means nodes + 39) }
-        ensures spends { HasSpent E.means self.old.share self.new found.now result self.old.tries (self.old.tries + 1) }
+        ensures spends { 0 < self.old.share.scx → HasSpent E.means self.old.share self.new found.now result self.old.tries (self.old.tries + 1) }
         ensures tries { self.new.tries ≡ self.old.tries }
     {
         match self.share.scx() {

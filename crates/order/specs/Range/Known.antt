@@ -1,5 +1,5 @@
 -- When a range may go on, what it waits for, and what its answer says.
-use Rattle.std.specs.Prelude.{◌≡◌, ℕ, ◌^◌, ◌<◌, ◌≤◌, Bool, true, false, ◌⊎◌, length, List, [], ◌∷◌, reverse, Option, Some, None, Result, Ok, Err, Vec}
+use Rattle.std.specs.Prelude.{◌≡◌, ℕ, ◌+◌, ◌^◌, ◌<◌, ◌≤◌, Bool, true, false, ◌⊎◌, length, List, [], ◌∷◌, reverse, Option, Some, None, Result, Ok, Err, Vec}
 use Rattle.std.specs.Global.{Global}
 use Rattle.arena.specs.declared.head.Head.{Head as HeadParts}
 use Rattle.arena.specs.declared.machine.Turn.{Turn}
@@ -17,11 +17,13 @@ use Rattle.prims.specs.Moments.{AreFinished}
 use Rattle.prims.specs.Vlx.Known.{VlxIsReady, VlxWaits}
 use Rattle.spelling.specs.declared.pair.Pair.{Pair}
 use Rattle.spelling.specs.OrderedMap.{Range, ManyPairs, range}
+use Rattle.spelling.specs.Tries.{HasLostTries}
 use Rattle.spelling.specs.TreeShape.{TreeAllows}
 use Rattle.spelling.specs.TreeWords.{class, is_leaf, level, rank}
 use Rattle.template.specs.Trails.{IsOwnMoment}
 use Rattle.order.specs.Reads.{from, Reads, AllHold, Whenever, HasStood}
 use Rattle.order.specs.Replies.{IsReplyAt}
+use Rattle.order.specs.Tries.{BeginsTry, IsInTry}
 use Rattle.template.specs.Blame.{IsContended}
 use Rattle.order.specs.Visits.{Bounds, IsVisiting, HasVisited, IsRangeAt}
 use Rattle.order.specs.declared.refused.Refused.{Refused}
@@ -38,9 +40,9 @@ bounds_of m = record { low = m.low; high = m.high; most = m.most }
 abbrev pub waiting_of : RangeRun → List NodeNo
 waiting_of m = reverse m.waiting.items
 
--- the second is the first, further on
+-- the second is the first, further on: it has given up one try at most
 abbrev pub IsSameRange : RangeRun → RangeRun → Type 0
-IsSameRange old now = (now.low ≡ old.low) × (now.high ≡ old.high) × (now.most ≡ old.most)
+IsSameRange old now = (now.low ≡ old.low) × (now.high ≡ old.high) × (now.most ≡ old.most) × (now.limit ≡ old.limit) × (now.tries ≤ old.tries) × (old.tries ≤ now.tries + 1)
 
 -- there are no keys, or no pairs, to be told
 abbrev pub AsksForNothing : RangeRun → Type 0
@@ -140,14 +142,23 @@ RangeIsToldAt m c h v (Value key n) = HasKey m c h n.0 key × (value h (node n.0
 RangeIsToldAt m c h v (Look low left right llx) = LooksIn m c h low left right llx.node.0 × ((begin : History) × Extends begin c.start × LlxIsReady TreeAllows llx (from c begin) h (Some v))
 RangeIsToldAt m c h v (Validate asked) = (begin : History) × Validates m c h begin × VlxIsReady m.snaps.items asked (from c begin) h (Some v)
 
--- it waits for this step where it stands
+-- Its try
+
+-- with the load of the root's head it begins a try, and has found nothing in that yet; behind that
+-- load it is in the try that began at `begin`
+abbrev pub StandsInTry : RangeRun → Call → History → History → RangeAt → Type 0
+StandsInTry m c h begin Root = BeginsTry c h m.limit m.tries × (m.snaps.items ≡ []) × (m.waiting.items ≡ [])
+StandsInTry m c h begin _ = IsInTry c h begin m.limit m.tries
+
+-- it waits for this step where it stands; what it knows is of its try, which is the call from the
+-- moment `begin` on
 abbrev pub RangeWaits : RangeRun → Call → History → Step → Type 0
-RangeWaits m c h s = Goes m c h × RangeWaitsAt m c h s m.at
+RangeWaits m c h s = (begin : History) × StandsInTry m c h begin m.at × Goes m (from c begin) h × RangeWaitsAt m (from c begin) h s m.at
 
 -- it may be called with this: with nothing at its start, then with what its step told by an own row
 abbrev pub RangeIsReady : RangeRun → Call → History → Option ℕ → Type 0
-RangeIsReady m c h None = Goes m c h × (m.at ≡ Start)
-RangeIsReady m c h (Some v) = Goes m c h × IsOwnMoment c h × RangeIsToldAt m c h v m.at
+RangeIsReady m c h None = Goes m c h × (m.at ≡ Start) × BeginsTry c h m.limit m.tries
+RangeIsReady m c h (Some v) = (begin : History) × IsInTry c h begin m.limit m.tries × Goes m (from c begin) h × IsOwnMoment (from c begin) h × RangeIsToldAt m (from c begin) h v m.at
 
 -- What it answers
 
@@ -155,10 +166,10 @@ RangeIsReady m c h (Some v) = Goes m c h × IsOwnMoment c h × RangeIsToldAt m c
 abbrev pub RangeReplies : RangeRun → Call → History → List Pair → Type 0
 RangeReplies m c h told = IsReplyAt c h (Range m.low m.high m.most) (ManyPairs told) ⊎ (AsksForNothing m × ((map : List Pair) → range m.low m.high m.most map ≡ told))
 
--- what its answer says: that, or who was in the way
+-- what its answer says: that; or that all tries were lost, and who was in the way of the last
 abbrev pub RangeSays : RangeRun → Call → History → Result (Vec Pair Global) Refused → Type 0
 RangeSays m c h (Ok told) = RangeReplies m c h told.items
-RangeSays m c h (Err (Contended n s)) = IsContended c h n.0 s.0 × (m.tries ≡ 0)
+RangeSays m c h (Err (Contended n s)) = IsContended c h n.0 s.0 × (m.tries ≡ 0) × HasLostTries c.pass h c.start m.limit n.0 s.0
 RangeSays m c h (Err NoMemory) = Unit {0}
 
 -- and behind it the pass is at rest
@@ -173,6 +184,7 @@ pub record HasTold (old now : RangeRun) (turn : Turn (Result (Vec Pair Global) R
   pub low : now.low ≡ old.low
   pub high : now.high ≡ old.high
   pub most : now.most ≡ old.most
+  pub limit : now.limit ≡ old.limit
   pub tries : now.tries ≡ old.tries
 
 -- it ends with no pairs

@@ -13,7 +13,8 @@ use Rattle.spelling.specs.TreeWords.{level}
 use Rattle.template.specs.Trails.{IsOwnMoment}
 use Rattle.order.specs.Range.Known.{AsksForSome, Goes, HasKey, HasLowHead, LooksIn, RangeAnswers, Visits, bounds_of}
 use Rattle.order.specs.Range.Steps.{leaves_left}
-use Rattle.order.specs.Reads.{Whenever}
+use Rattle.order.specs.Reads.{from, Whenever}
+use Rattle.order.specs.Tries.{IsInTry}
 use Rattle.order.specs.Visits.{IsRangeAt}
 use Rattle.order.specs.declared.range.RangeAt.TheVariants.{Head, Key, Value, Look, Validate}
 use Rattle.order.specs.declared.range.RangeNext.{RangeNext}
@@ -45,6 +46,10 @@ MayDo m c h (KeyNext head n) = Visits m c h n.0 × HasLowHead h n.0 head
 MayDo m c h (ValueNext key n) = HasKey m c h n.0 key
 MayDo m c h (LookNext low left right n) = LooksIn m c h low left right n.0
 MayDo m c h ValidateNext = AsksForSome m × IsOwnMoment c h × (0 < length m.snaps.items) × Whenever c.layout h m.snaps.items (λ b. IsRangeAt c.layout b (bounds_of m) m.taken.items)
+
+-- so it is in some try of the call, from whose begin on it knows that
+abbrev pub MayGoOn : Call → History → RangeRun → RangeNext → Type 0
+MayGoOn c h m next = (begin : History) × IsInTry c h begin m.limit m.tries × Goes m (from c begin) h × MayDo m (from c begin) h next
 
 -- it goes on so; or it ends, for want of memory
 abbrev pub GoesOn : Call → History → RangeRun → Result RangeNext Refused → Type 0

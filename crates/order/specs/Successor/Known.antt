@@ -1,7 +1,8 @@
 -- When a successor may go on, what it waits for, and what its answer says.
-use Rattle.std.specs.Prelude.{◌≡◌, ℕ, ◌^◌, ◌<◌, ◌≤◌, Bool, true, false, cond, eqb, ltb, ◌⊎◌, length, Option, Some, None, Result, Ok, Err}
+use Rattle.std.specs.Prelude.{◌≡◌, ℕ, ◌+◌, ◌^◌, ◌<◌, ◌≤◌, Bool, true, false, cond, eqb, ltb, ◌⊎◌, [], length, Option, Some, None, Result, Ok, Err}
 use Rattle.arena.specs.declared.head.Head.{Head as HeadParts}
 use Rattle.arena.specs.declared.machine.Turn.{Turn}
+use Rattle.arena.specs.declared.number.NodeNo.{NodeNo}
 use Rattle.arena.specs.declared.step.Step.{Step}
 use Rattle.arena.specs.declared.step.Kind.TheVariants.{LoadSettled}
 use Rattle.arena.specs.declared.word.NodeWord.TheVariants.{Head as HeadWord, Key as KeyWord, Value as ValueWord}
@@ -17,13 +18,17 @@ use Rattle.prims.specs.Vlx.Known.{VlxIsReady, VlxWaits}
 use Rattle.spelling.specs.declared.pair.Pair.{Pair}
 use Rattle.spelling.specs.OrderedMap.{Successor, pair_or_none}
 use Rattle.spelling.specs.Paths.{IsOnPath}
+use Rattle.spelling.specs.Tries.{HasLostTries}
 use Rattle.spelling.specs.TreeShape.{TreeAllows}
 use Rattle.spelling.specs.TreeWords.{class, is_leaf, level, toward}
 use Rattle.template.specs.Trails.{IsOwnMoment, WasPassed}
 use Rattle.template.specs.Walk.Known.{WalkIsReady, WalkWaits}
 use Rattle.template.specs.declared.walk.Goal.TheVariants.{Key as ToKey}
+use Rattle.template.specs.declared.walk.WalkAt.{WalkAt}
+use Rattle.template.specs.declared.walk.WalkAt.TheVariants.{Root}
 use Rattle.order.specs.Reads.{from, Reads, AllHold, Whenever, HasStood}
 use Rattle.order.specs.Replies.{IsReplyAt}
+use Rattle.order.specs.Tries.{BeginsTry, IsInTry}
 use Rattle.template.specs.Blame.{IsContended}
 use Rattle.order.specs.Search.{IsSearched, IsFirstBehind, IsNextAt}
 use Rattle.order.specs.declared.refused.Refused.{Refused}
@@ -44,9 +49,6 @@ key_at h n = value h (node n KeyWord)
 
 abbrev pub value_at : History → ℕ → ℕ
 value_at h n = value h (node n ValueWord)
-
-abbrev pub level_at : History → ℕ → ℕ
-level_at h n = level (value h) n
 
 -- the call has passed this fork on its way to k, which is on the left of it
 pub record HasTurnedLeft (c : Call) (h : History) (k n : ℕ) : Type 0 where
@@ -127,9 +129,9 @@ pub record Validates (m : SuccessorRun) (c : Call) (h begin : History) (found : 
   pub then : Reads c begin m.snaps.items
   pub right : AllHold begin m.snaps.items → IsNextAt c.layout begin m.key found
 
--- the second is the first, further on
+-- the second is the first, further on: it has given up one try at most
 abbrev pub IsSameSuccessor : SuccessorRun → SuccessorRun → Type 0
-IsSameSuccessor old now = now.key ≡ old.key
+IsSameSuccessor old now = (now.key ≡ old.key) × (now.limit ≡ old.limit) × (now.tries ≤ old.tries) × (old.tries ≤ now.tries + 1)
 
 -- What it waits for
 
@@ -158,21 +160,36 @@ SuccessorIsToldAt m c h v (Key route head n) = StandsAt m c h route n.0 × HasHe
 SuccessorIsToldAt m c h v (Value key n) = HasLeaf m c h n.0 key × (value h (node n.0 ValueWord) ≡ v)
 SuccessorIsToldAt m c h v (Validate asked found) = (begin : History) × Validates m c h begin found × VlxIsReady m.snaps.items asked (from c begin) h (Some v)
 
--- it waits for this step where it stands
+-- Its try
+
+-- with the first step of its walk it begins a try, and has found nothing in that yet; behind that
+-- step it is in the try that began at `begin`
+abbrev pub WalksInTry : SuccessorRun → Call → History → History → NodeNo → WalkAt → Type 0
+WalksInTry m c h begin turn Root = BeginsTry c h m.limit m.tries × (m.snaps.items ≡ []) × (turn.0 ≡ 0)
+WalksInTry m c h begin turn _ = IsInTry c h begin m.limit m.tries
+
+-- so it is at any place
+abbrev pub StandsInTry : SuccessorRun → Call → History → History → SuccessorAt → Type 0
+StandsInTry m c h begin (Walk walk turn) = WalksInTry m c h begin turn walk.at
+StandsInTry m c h begin _ = IsInTry c h begin m.limit m.tries
+
+-- it waits for this step where it stands; what it knows is of its try, which is the call from the
+-- moment `begin` on
 abbrev pub SuccessorWaits : SuccessorRun → Call → History → Step → Type 0
-SuccessorWaits m c h s = Goes m c h × SuccessorWaitsAt m c h s m.at
+SuccessorWaits m c h s = (begin : History) × StandsInTry m c h begin m.at × Goes m (from c begin) h × SuccessorWaitsAt m (from c begin) h s m.at
 
 -- it may be called with this: with nothing at its start, then with what its step told by an own row
 abbrev pub SuccessorIsReady : SuccessorRun → Call → History → Option ℕ → Type 0
-SuccessorIsReady m c h None = Goes m c h × (m.at ≡ Start)
-SuccessorIsReady m c h (Some v) = Goes m c h × IsOwnMoment c h × SuccessorIsToldAt m c h v m.at
+SuccessorIsReady m c h None = Goes m c h × (m.at ≡ Start) × BeginsTry c h m.limit m.tries
+SuccessorIsReady m c h (Some v) = (begin : History) × IsInTry c h begin m.limit m.tries × Goes m (from c begin) h × IsOwnMoment (from c begin) h × SuccessorIsToldAt m (from c begin) h v m.at
 
 -- What it answers
 
--- what its answer says: the map's reply at a moment of the call, or who was in the way
+-- what its answer says: the map's reply at a moment of the call; or that all tries were lost, and
+-- who was in the way of the last
 abbrev pub SuccessorSays : SuccessorRun → Call → History → Result (Option Pair) Refused → Type 0
 SuccessorSays m c h (Ok found) = IsReplyAt c h (Successor m.key) (pair_or_none found)
-SuccessorSays m c h (Err (Contended n s)) = IsContended c h n.0 s.0 × (m.tries ≡ 0)
+SuccessorSays m c h (Err (Contended n s)) = IsContended c h n.0 s.0 × (m.tries ≡ 0) × HasLostTries c.pass h c.start m.limit n.0 s.0
 SuccessorSays m c h (Err NoMemory) = Unit {0}
 
 -- and behind it the pass is at rest

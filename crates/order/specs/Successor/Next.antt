@@ -11,7 +11,8 @@ use Rattle.prims.specs.Snap.{snap_at}
 use Rattle.prims.specs.declared.llx.LlxAt.TheVariants.{Marked}
 use Rattle.spelling.specs.TreeWords.{level}
 use Rattle.template.specs.Trails.{IsOwnMoment}
-use Rattle.order.specs.Reads.{Whenever}
+use Rattle.order.specs.Reads.{from, Whenever}
+use Rattle.order.specs.Tries.{IsInTry}
 use Rattle.order.specs.Search.{IsNextAt}
 use Rattle.order.specs.Successor.Known.{Goes, HasHead, HasLeaf, LooksAt, StandsAt, SuccessorAnswers}
 use Rattle.order.specs.Successor.Steps.{behind}
@@ -45,6 +46,10 @@ MayDo m c h (HeadNext route above n) = StandsAt m c h route n.0 × (above < leve
 MayDo m c h (KeyNext route head n) = StandsAt m c h route n.0 × HasHead h route n.0 head
 MayDo m c h (ValueNext key n) = HasLeaf m c h n.0 key
 MayDo m c h (ValidateNext found) = IsOwnMoment c h × (0 < length m.snaps.items) × Whenever c.layout h m.snaps.items (λ b. IsNextAt c.layout b m.key found)
+
+-- so it is in some try of the call, from whose begin on it knows that
+abbrev pub MayGoOn : Call → History → SuccessorRun → SuccessorNext → Type 0
+MayGoOn c h m next = (begin : History) × IsInTry c h begin m.limit m.tries × Goes m (from c begin) h × MayDo m (from c begin) h next
 
 -- it goes on so; or it ends, for want of memory
 abbrev pub GoesOn : Call → History → SuccessorRun → Result SuccessorNext Refused → Type 0

@@ -5,7 +5,7 @@ use Rattle.arena.specs.declared.word.Side.TheVariants.{Left}
 use Rattle.template.specs.declared.walk.Goal.TheVariants.{Key as ToKey}
 use Rattle.template.specs.declared.walk.Trail.{Trail}
 use Rattle.template.specs.declared.walk.WalkAt.{WalkAt}
-use Rattle.template.specs.declared.walk.WalkAt.TheVariants.{Root, Head}
+use Rattle.template.specs.declared.walk.WalkAt.TheVariants.{Start, Root, Head}
 use Rattle.template.specs.declared.walk.WalkRun.{WalkRun}
 
 -- the walk to a key that stands at this place of this trail
@@ -29,3 +29,9 @@ abbrev pub LoadsHead : WalkAt → Type 0
 LoadsHead Root = Unit {0}
 LoadsHead (Head above) = Unit {0}
 LoadsHead _ = ⊥
+
+-- the place is one behind the load of the root's head
+abbrev pub IsPastRoot : WalkAt → Type 0
+IsPastRoot Start = ⊥
+IsPastRoot Root = ⊥
+IsPastRoot _ = Unit {0}

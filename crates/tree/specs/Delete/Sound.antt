@@ -13,7 +13,6 @@ use Rattle.arena.specs.Fills.{IsInField, IsNamed}
 use Rattle.arena.specs.Heads.{head_of, head_word}
 use Rattle.arena.specs.History.{History, value, Extends}
 use Rattle.arena.specs.Lawful.{IsSettled}
-use Rattle.arena.specs.Layout.{all_nodes}
 use Rattle.arena.specs.Machines.{Call}
 use Rattle.arena.specs.ScxRecords.{bit, member}
 use Rattle.arena.specs.TakenNodes.{taken_nodes}
@@ -32,7 +31,7 @@ use Rattle.spelling.specs.Paths.{WasInTree}
 use Rattle.spelling.specs.Runs.{IsTreeRun}
 use Rattle.spelling.specs.TreeShape.{delete_plan, edit_leaf, leaf_place, sibling_place}
 use Rattle.spelling.specs.TreeWords.{class, level, toward, IsBlankAboveKeys}
-use Rattle.spelling.proofs.Lemmas.{run_since, settled_toward, stood_blank, stood_depth, stood_settled, was_passed}
+use Rattle.spelling.proofs.Lemmas.{root_head, run_since, settled_toward, stood_blank, stood_depth, stood_settled, was_passed}
 use Rattle.template.specs.FoundLeaf.{HasFoundLeaf}
 use Rattle.template.specs.FreshNodes.{IsDeleteAt, HasFreshCopy}
 use Rattle.template.specs.Promises.{IsPromised, IsSnapOf}
@@ -55,7 +54,7 @@ use Rattle.updates.specs.declared.edit.Nth.{Nth}
 use Rattle.updates.specs.declared.edit.Nth.TheVariants.{First, Second, Third}
 use Rattle.updates.specs.declared.edit.Piece.TheVariants.{Leaf, Fork}
 use Rattle.template.specs.Blame.{IsContended, WasNotFinal}
-use Rattle.updates.specs.Known.{ComesBefore, IsNeeded, IsLoaded, HasSnapped, AreSeen, HasLooked, HasFilledAll, IsUpdateFor}
+use Rattle.updates.specs.Known.{IsBelowRoot, ComesBefore, IsNeeded, IsLoaded, HasSnapped, AreSeen, HasLooked, HasFilledAll, IsUpdateFor}
 use Rattle.updates.specs.Laws.Contended.{passed_not_final, shown_not_final, turned_contended}
 use Rattle.updates.specs.Laws.Hand.{IsPieceWord, HoldsWords}
 use Rattle.updates.specs.Laws.Opened.{stood_opened}
@@ -245,10 +244,27 @@ sibling_stood ed c h f snaps run d four x = go f.trail.side
     go Left = subst (WasInTree h) (sym four.right) (shown Right)
     go Right = subst (WasInTree h) (sym four.left) (shown Left)
 
-delete_copied : (ed : Delete) (c : Call) (h : History) (f : Found) (snaps : List Snap) → IsTreeRun c.layout h → delete_need f.value ≢ Nothing → HasLooked delete_means c h ed f snaps → delete_looks f snaps ≡ Enough → IsNamed c.layout h (sibling_of f snaps).node.0 × ((sibling_of f snaps).node.0 < all_nodes c.layout)
+-- and is not the root: it is below another node
+sibling_below : (ed : Delete) (c : Call) (h : History) (f : Found) (snaps : List Snap) → IsTreeRun c.layout h → delete_need f.value ≢ Nothing → HasFour f snaps → HasLooked delete_means c h ed f snaps → (sibling_of f snaps).node.0 ≢ 0
+sibling_below ed c h f snaps run d four x = go f.trail.side
+  where
+    shown : (side : Side) → (child_of (snap_at snaps 1) side).0 ≢ 0
+    shown side z =
+        let u = usable_at ed c h f snaps 1 (omega arith) four x in
+        let rises = shown_rises c h ed.key f (snap_at snaps 1) f.trail.side f.trail.node.0 run u (parent_snap ed c h f run d (snap_at snaps 1) u four.parent) side in
+        let low : level (value h) (snap_at snaps 1).node.0 < level (value h) 0 = subst (λ n. level (value h) (snap_at snaps 1).node.0 < level (value h) n) z rises in
+        let root = root_head c.layout h run in
+        omega (arith, low, root)
+
+    go : (side : Side) → (snap_at snaps (sibling_place side)).node.0 ≢ 0
+    go Left z = shown Right (sym four.right ∙ z)
+    go Right z = shown Left (sym four.left ∙ z)
+
+delete_copied : (ed : Delete) (c : Call) (h : History) (f : Found) (snaps : List Snap) → IsTreeRun c.layout h → delete_need f.value ≢ Nothing → HasLooked delete_means c h ed f snaps → delete_looks f snaps ≡ Enough → IsNamed c.layout h (sibling_of f snaps).node.0 × IsBelowRoot c.layout (sibling_of f snaps).node.0
 delete_copied ed c h f snaps run d x enough =
-    let o : IsOpened c.layout h (sibling_of f snaps).node.0 = stood_opened c.layout h (sibling_of f snaps).node.0 run (sibling_stood ed c h f snaps run d (has_four ed f snaps enough x.seen) x) in
-    (in_field_named (sibling_of f snaps).node.0 o.in_field, o.inside)
+    let four : HasFour f snaps = has_four ed f snaps enough x.seen in
+    let o : IsOpened c.layout h (sibling_of f snaps).node.0 = stood_opened c.layout h (sibling_of f snaps).node.0 run (sibling_stood ed c h f snaps run d four x) in
+    (in_field_named (sibling_of f snaps).node.0 o.in_field, (sibling_below ed c h f snaps run d four x, o.inside))
 
 -- an LLX may look at the four nodes, which were not final, the sibling may be copied, and where one
 -- of the two forks has another child its last SCX-record was in the way

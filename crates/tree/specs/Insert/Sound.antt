@@ -138,7 +138,7 @@ insert_look = record {
   opens = λ e c h f snaps n run d x at. insert_opens e c h f snaps n run x at;
   stood = λ e c h f snaps n run d x at. insert_stood e c h f snaps n run x at;
   differs = λ e c h f snaps n s run d x at quiet. insert_differs e c h f snaps n s run x at quiet;
-  copied = λ e c h f snaps run d x enough. (found_named c h e.key run f x.found, (found_opened c h e.key run f x.found).inside);
+  copied = λ e c h f snaps run d x enough. (found_named c h e.key run f x.found, (found_below e.key c h f run x.found, (found_opened c h e.key run f x.found).inside));
 }
 
 -- once it has looked at enough, it has a snapshot of the parent and one of the leaf, which is still

@@ -1,6 +1,6 @@
 -- The laws of updates: rows of others leave them waiting, their steps are lawful, and what they are
 -- told is so.
-use Rattle.std.proofs.Common.{◌≡◌, ◌≢◌, ℕ, ◌≤◌, Some, None, Option, length, inl, inr, refl, sym, ◌∙◌, ap, subst, arith}
+use Rattle.std.proofs.Common.{◌≡◌, ◌≢◌, ℕ, ◌≤◌, false, Some, None, Option, length, inl, inr, refl, sym, ◌∙◌, ap, subst, arith}
 use Rattle.arena.specs.declared.layout.Layout.{Layout}
 use Rattle.arena.specs.declared.step.Row.{Row}
 use Rattle.arena.specs.declared.step.Step.{Step}
@@ -13,7 +13,8 @@ use Rattle.arena.specs.declared.word.Word.{Word}
 use Rattle.arena.specs.Machines.{IsRun, Call, row_of, IsTold}
 use Rattle.arena.specs.TakenNodes.{taken_nodes}
 use Rattle.arena.specs.Words.{node}
-use Rattle.arena.proofs.Lemmas.{value_quiet}
+use Rattle.arena.specs.Lawful.{Lawful}
+use Rattle.arena.proofs.Lemmas.{ends_self, ends_trans, value_quiet}
 use Rattle.prims.specs.Laws.Begun.{takes_by_others}
 use Rattle.prims.specs.Laws.Linked.{in_field_more}
 use Rattle.prims.specs.Llx.Known.{load}
@@ -25,10 +26,16 @@ use Rattle.prims.specs.declared.llx.LlxRun.{LlxRun}
 use Rattle.prims.specs.declared.scx.ScxRun.{ScxRun}
 use Rattle.prims.proofs.Lemmas.{llx_fills_not, over_more, share_by_others, share_by_scx, untaken_at}
 use Rattle.spelling.specs.TreeShape.{TreeAllows}
+use Rattle.spelling.specs.Tries.{begins_try}
+use Rattle.template.specs.Walk.Known.{WalkKnows, WalkIsReady, WalkWaits, walk_step}
 use Rattle.template.specs.Walk.Laws.{walk_keeps, walk_lawful, walk_made, walk_told}
-use Rattle.template.proofs.Lemmas.{tracks_by_others, tracks_by_scx, walk_fills_not}
+use Rattle.template.specs.Walk.Places.{IsPastRoot}
+use Rattle.template.proofs.Lemmas.{tracks_by_others, tracks_by_scx, walk_fills_not, others_begin_none, own_begins_none, other_kind_begins_none, other_node_begins_none, llx_begins_none, scx_begins_none, walk_begins_none}
 use Rattle.template.specs.declared.walk.Found.{Found}
 use Rattle.template.specs.declared.walk.Goal.{Goal}
+use Rattle.template.specs.declared.walk.WalkAt.{WalkAt}
+use Rattle.template.specs.declared.walk.WalkAt.TheVariants as walks
+use Rattle.template.specs.declared.walk.WalkRun.{WalkRun}
 use Rattle.updates.specs.declared.edit.Need.{Need}
 use Rattle.updates.specs.declared.edit.Need.TheVariants.{Nothing, One, Three}
 use Rattle.updates.specs.declared.edit.Nth.{Nth}
@@ -38,14 +45,16 @@ use Rattle.updates.specs.declared.update.UpdateAt.{UpdateAt}
 use Rattle.updates.specs.declared.update.UpdateAt.TheVariants.{Start, Walk, Look, Load, Fill, Scx}
 use Rattle.updates.specs.declared.update.UpdateRun.{UpdateRun}
 use Rattle.updates.specs.Edits.{EditMeaning}
-use Rattle.updates.specs.Steps.{UpdateFitsAt, UpdateFits}
+use Rattle.updates.specs.Steps.{HasScxLeft, UpdateFitsAt, UpdateFits}
 use Rattle.updates.specs.Pieces.{HasPlace, nth_node, word_of}
-use Rattle.updates.specs.Known.{IsNeeded, RestsWith, Looks, Loads, Fills, Scxs, Walks, fill_step, UpdateWaitsAt, UpdateIsToldAt, UpdateWaits, UpdateIsReady, piece, top, copied}
+use Rattle.updates.specs.Known.{IsNeeded, RestsWith, IsUntouched, Looks, Loads, Fills, Scxs, Walks, FirstOrLost, Tries, fill_step, UpdateWaitsAt, UpdateIsToldAt, UpdateWaits, UpdateIsReady, piece, top, copied}
 use Rattle.updates.specs.Laws.Hand.{IsBefore, IsUpTo, HoldsWords, HasFilledTo, IsForField, FieldMay, piece_fill, by_others, by_load, filled_more, words_by_others, words_more, taken_now, may_fill}
 use Rattle.updates.specs.Laws.HandScx.{from}
 use Rattle.updates.specs.Laws.Kept.{idle_over, quiet_rests, rests_by_others, rests_by_step, looked_more, works_more}
-use Rattle.updates.specs.Laws.Entered.{only_more}
+use Rattle.updates.specs.Laws.Entered.{none_joined, none_quiet, only_more}
 use Rattle.updates.specs.Laws.NodeFills.{fill_lawful}
+use Rattle.updates.specs.Laws.Trying.{try_more, try_at_more, try_begins, untouched_later}
+use Rattle.updates.specs.Tries.{MayTry, IsTry, IsTryAt}
 
 -- what a field may get it may get after any row
 for_field_more : (lay : Layout) (h : History) (r : Row) (first top v : ℕ) → IsForField lay h first top v → IsForField lay (r ⊳ h) first top v
@@ -121,9 +130,18 @@ module _ {E : Type 0} (e : EditMeaning E) where
   )
   kept_at m c h s r (Scx f scx) run other w = (w.0, scxs_by_others m c h r f scx w.0 run other w.1, scx_keeps TreeAllows scx (from c w.0) h s r run other w.2)
 
+  -- a row that begins no try leaves its try the newest
+  tries_more : (m : UpdateRun E UpdateAt) (c : Call) (b h : History) (r : Row) (at : UpdateAt) → begins_try c.pass r ≡ false → Tries e m c b h at → Tries e m c b (r ⊳ h) at
+  tries_more m c b h r Start none x = try_more c b h r m.limit m.tries none x
+  tries_more m c b h r (Walk walk) none x = try_at_more c b h r m.limit m.tries none walk.at x
+  tries_more m c b h r (Look f llx) none x = try_more c b h r m.limit m.tries none x
+  tries_more m c b h r (Load f nth part) none x = try_more c b h r m.limit m.tries none x
+  tries_more m c b h r (Fill f nth part) none x = try_more c b h r m.limit m.tries none x
+  tries_more m c b h r (Scx f scx) none x = try_more c b h r m.limit m.tries none x
+
   -- rows of other passes leave an update waiting for the same step
   pub update_keeps : (m : UpdateRun E UpdateAt) (c : Call) (h : History) (s : Step) (r : Row) → IsRun TreeAllows c.layout (r ⊳ h) → r.pass.0 ≢ c.pass → UpdateWaits e m c h s → UpdateWaits e m c (r ⊳ h) s
-  update_keeps m c h s r run other w = (w.0, w.1, w.2, kept_at m (from c w.0) h s r m.at run other w.3)
+  update_keeps m c h s r run other w = (w.0, tries_more m c w.0 h r m.at (others_begin_none c.pass r other) w.1, w.2, kept_at m (from c w.0) h s r m.at run other w.3)
 
   -- The step that it waits for
 
@@ -131,7 +149,7 @@ module _ {E : Type 0} (e : EditMeaning E) where
   lawful_at m c h s Start run w = absurd w
   lawful_at m c h s (Walk walk) run w = walk_lawful walk c h s run w.1
   lawful_at m c h s (Look f llx) run w = llx_lawful TreeAllows llx (from c w.0) h s run w.2
-  lawful_at m c h s (Load f nth part) run w = load_lawful TreeAllows c h LoadSettled (node (copied e m f) part) s run w.1 record { word = w.0.settled; same = refl } (λ q. cc) w.0.works.inside
+  lawful_at m c h s (Load f nth part) run w = load_lawful TreeAllows c h LoadSettled (node (copied e m f) part) s run w.1 record { word = w.0.settled; same = refl } (λ q. cc) w.0.works.inside.1
   lawful_at m c h s (Fill f nth part) run w = fill_lawful TreeAllows c h (nth_node m.nodes nth).0 part (word_of (piece e m f (nth_node m.nodes nth).0) part) s run w.3
       (w.0.full.hand.own (nth_node m.nodes nth).0 w.0.hand.lowest w.0.hand.highest)
       (may_fill c.layout h c.pass m.share m.nodes.first.0 (top e m f) (nth_node m.nodes nth).0 (piece e m f) part (word_of (piece e m f (nth_node m.nodes nth).0) part) (piece_fill (piece e m f (nth_node m.nodes nth).0) part w.0.part_is) w.0.hand.lowest w.0.hand.highest w.1 w.0.full)
@@ -234,17 +252,102 @@ module _ {E : Type 0} (e : EditMeaning E) where
     leaf = x.leaf;
   }
 
-  made_at : (m : UpdateRun E UpdateAt) (c : Call) (h : History) (s : Step) (v : ℕ) (at : UpdateAt) → IsRun TreeAllows c.layout (row_of c s h ⊳ h) → IsTold s.access (value h s.word) v → UpdateWaitsAt e m c h s at → UpdateIsToldAt e m c (row_of c s h ⊳ h) v at
-  made_at m c h s v Start run t w = w
-  made_at m c h s v (Walk walk) run t w = (walks_by_step m c h (row_of c s h) walk.goal run (walk_fills_not walk c h s w.1) w.0, walk_made walk c h s v run t w.1)
-  made_at m c h s v (Look f llx) run t w = (w.0, looks_by_step m c h (row_of c s h) f llx w.0 run (llx_fills_not TreeAllows llx (from c w.0) h s w.2) w.1, llx_made TreeAllows llx (from c w.0) h s v run t w.2)
-  made_at m c h s v (Load f nth part) run t w = (loads_made m c h s f nth part run w.1 w.0, load_told c h LoadSettled (node (copied e m f) part) s v w.1 t)
-  made_at m c h s v (Fill f nth part) run t w = fills_then m c h f nth part s w.3 run w.0 w.1 w.2
-  made_at m c h s v (Scx f scx) run t w = (w.0, scxs_made m c h s f scx w.0 run w.1 w.2, scx_made TreeAllows scx (from c w.0) h s v run t w.2)
+  -- once the load of the root's head is made, its try has begun just before it
+  module _ (m : UpdateRun E UpdateAt) (c : Call) (b h : History) (s : Step) (v : ℕ) (walk : WalkRun) (run : IsRun TreeAllows c.layout (row_of c s h ⊳ h)) (t : IsTold s.access (value h s.word) v) (first : IsUntouched c b m.share) (x : Walks e m (from c b) h walk.goal) (w : WalkWaits walk (from c b) h s) where
+    abbrev after : History
+    after = row_of c s h ⊳ h
+
+    abbrev WalkThen : Type 0
+    WalkThen = (begin : History) × IsTry c begin after m.limit m.tries × IsUntouched c begin m.share × (Walks e m (from c begin) after walk.goal × WalkIsReady walk (from c begin) after (Some v))
+
+    walks_then : Walks e m (from c b) after walk.goal
+    walks_then = walks_by_step m (from c b) h (row_of c s h) walk.goal run (walk_fills_not walk (from c b) h s w) x
+
+    -- past the root's head it goes on
+    goes_past : IsPastRoot walk.at → IsTry c b h m.limit m.tries → WalkThen
+    goes_past past try = (b, try_more c b h (row_of c s h) m.limit m.tries (own_begins_none c s h (walk_begins_none walk (from c b) h s past w)) try, first, (walks_then, walk_made walk (from c b) h s v run t w))
+
+    begins_try_now : walk.at ≡ walks.Root → MayTry c b h m.limit m.tries → WalkThen
+    begins_try_now at may = (
+      h,
+      try_begins c b h s m.limit m.tries asked (ends_trans h b c.start w.since may.since) (none_joined c.layout c.pass h b c.start w.since may.none (none_quiet c.layout c.pass h b lawful x.quiet)) may,
+      untouched_later c b h m.share lawful w.since first,
+      (
+        record {
+          small = x.small;
+          rests = record { share = walks_then.rests.share; over = walks_then.rests.over };
+          quiet = λ k e f. walks_then.quiet k e (ends_trans k h b f w.since);
+          same = x.same;
+        },
+        walk_made walk (from c h) h s v run t record { run = w.run; small = w.small; since = ends_self h; known = subst (WalkKnows (from c h) h walk) (sym at) root; asked = w.asked },
+      ),
+    )
+      where
+        lawful : Lawful c.layout h
+        lawful = w.run.1.lawful
+
+        root : walk.trail.node.0 ≡ 0
+        root = subst (WalkKnows (from c b) h walk) at w.known
+
+        asked : s ≡ load LoadSettled (node 0 Head)
+        asked = w.asked ∙ ap (walk_step walk) at ∙ ap (λ n. load LoadSettled (node n Head)) root
+
+    walk_goes : (p : WalkAt) → walk.at ≡ p → IsTryAt c b h m.limit m.tries p → WalkThen
+    walk_goes walks.Start at try = absurd (subst (WalkKnows (from c b) h walk) at w.known)
+    walk_goes walks.Root at try = begins_try_now at try
+    walk_goes (walks.Head above) at try = goes_past (subst IsPastRoot (sym at) tt) try
+    walk_goes (walks.Key head) at try = goes_past (subst IsPastRoot (sym at) tt) try
+    walk_goes (walks.Child level side) at try = goes_past (subst IsPastRoot (sym at) tt) try
+    walk_goes (walks.Value head key) at try = goes_past (subst IsPastRoot (sym at) tt) try
+
+  -- what is known once the step of this place has told v
+  abbrev ToldThen : UpdateRun E UpdateAt → Call → History → ℕ → UpdateAt → Type 0
+  ToldThen m c h v at = (begin : History) × IsTry c begin h m.limit m.tries × FirstOrLost e m c begin at × UpdateIsToldAt e m (from c begin) h v at
+
+  made_at : (m : UpdateRun E UpdateAt) (c : Call) (b h : History) (s : Step) (v : ℕ) (at : UpdateAt) → IsRun TreeAllows c.layout (row_of c s h ⊳ h) → IsTold s.access (value h s.word) v → Tries e m c b h at → FirstOrLost e m c b at → UpdateWaitsAt e m (from c b) h s at → ToldThen m c (row_of c s h ⊳ h) v at
+  made_at m c b h s v Start run t try first w = absurd w
+  made_at m c b h s v (Walk walk) run t try first w = walk_goes m c b h s v walk run t first w.0 w.1 walk.at refl try
+  made_at m c b h s v (Look f llx) run t try first w = (
+    b,
+    try_more c b h (row_of c s h) m.limit m.tries (own_begins_none c s h (llx_begins_none TreeAllows llx (from (from c b) w.0) h s w.2)) try,
+    tt,
+    (w.0, looks_by_step m (from c b) h (row_of c s h) f llx w.0 run (llx_fills_not TreeAllows llx (from (from c b) w.0) h s w.2) w.1, llx_made TreeAllows llx (from (from c b) w.0) h s v run t w.2),
+  )
+  made_at m c b h s v (Load f nth part) run t try first w = (
+    b,
+    try_more c b h (row_of c s h) m.limit m.tries (own_begins_none c s h (other_node_begins_none s (copied e m f) part (ap (λ (q : Step). q.word) w.1) w.0.works.inside.0)) try,
+    tt,
+    (loads_made m (from c b) h s f nth part run w.1 w.0, load_told (from c b) h LoadSettled (node (copied e m f) part) s v w.1 t),
+  )
+  made_at m c b h s v (Fill f nth part) run t try first w = (
+    b,
+    try_more c b h (row_of c s h) m.limit m.tries (own_begins_none c s h (other_kind_begins_none s (λ q. let z : FillKind ≡ LoadSettled = ap (λ (k : Step). k.kind) (sym w.3) ∙ q in cc))) try,
+    tt,
+    fills_then m (from c b) h f nth part s w.3 run w.0 w.1 w.2,
+  )
+  made_at m c b h s v (Scx f scx) run t try first w = (
+    b,
+    try_more c b h (row_of c s h) m.limit m.tries (own_begins_none c s h (scx_begins_none TreeAllows scx (from (from c b) w.0) h s w.2)) try,
+    tt,
+    (w.0, scxs_made m (from c b) h s f scx w.0 run w.1 w.2, scx_made TreeAllows scx (from (from c b) w.0) h s v run t w.2),
+  )
 
   -- once the step is made, an update may be called with what it told
   pub update_made : (m : UpdateRun E UpdateAt) (c : Call) (h : History) (s : Step) (v : ℕ) → IsRun TreeAllows c.layout (row_of c s h ⊳ h) → IsTold s.access (value h s.word) v → UpdateWaits e m c h s → UpdateIsReady e m c (row_of c s h ⊳ h) (Some v)
-  update_made m c h s v run t w = (w.0, w.1, w.2, made_at m (from c w.0) h s v m.at run t w.3)
+  update_made m c h s v run t w = made_at m c w.0 h s v m.at run t w.1 w.2 w.3
+
+  scx_left_at : (m : UpdateRun E UpdateAt) (c : Call) (h : History) (v : ℕ) (at : UpdateAt) → UpdateIsToldAt e m c h v at → HasScxLeft m at
+  scx_left_at m c h v Start x = tt
+  scx_left_at m c h v (Walk walk) x = tt
+  scx_left_at m c h v (Look f llx) x = tt
+  scx_left_at m c h v (Load f nth part) x = tt
+  scx_left_at m c h v (Fill f nth part) x = x.0.works.some
+  scx_left_at m c h v (Scx f scx) x = tt
+
+  -- while it fills a fresh node there is an SCX-record left
+  pub update_scx_left : (m : UpdateRun E UpdateAt) (c : Call) (h : History) (got : Option ℕ) → UpdateIsReady e m c h got → HasScxLeft m m.at
+  update_scx_left m c h None x = subst (HasScxLeft m) (sym x.3) tt
+  update_scx_left m c h (Some v) x = scx_left_at m (from c x.0) h v m.at x.3
 
   -- What it is told
 

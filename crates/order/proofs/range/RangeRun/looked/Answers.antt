@@ -10,7 +10,7 @@ returns-else-is_err-2-clause-goes_on c d h goes x is =
     let items : c.push.new.self.items ≡ c.args.self.now.snaps.items ++ c.args.snap ∷ [] = rw good at c.push.ensures.items in
     let also : is_ok c.push-in-true-true.result ≡ true = c.is_err-in-true-true.ensures.negation ∙ ap not c.if-is_err-2.false in
     let more : c.push-in-true-true.new.self.items ≡ c.args.self.now.waiting.items ++ c.args.snap.right ∷ [] = rw also at c.push-in-true-true.ensures.items in (
-      goes_less (record c.args.self.now { snaps = c.push.new.self }) (record c.args.self.now { snaps = c.push.new.self; waiting = c.push-in-true-true.new.self }) d h (refl, refl, refl) refl (goes_one_more c.args.self.now d h c.args.snap goes is c.push.new.self items),
+      goes_less (record c.args.self.now { snaps = c.push.new.self }) (record c.args.self.now { snaps = c.push.new.self; waiting = c.push-in-true-true.new.self }) d h refl refl refl (goes_one_more c.args.self.now d h c.args.snap goes is c.push.new.self items),
       (
         both_visited c.args.self.now d h c.args.snap goes is c.push.new.self items c.args.level c.args.left c.args.right x c.in-true-true.is-0 c.in-true-true.is-1 c.push-in-true-true.new.self more,
         child_deeper c.args.self.now d h c.args.snap goes is c.push.new.self items c.args.level c.args.left c.args.right x Left,

@@ -6,7 +6,7 @@ use Rattle.order.proofs.RangeNexts.{stands_there, stands_nearer}
 use Rattle.order.proofs.range.RangeRun.stand.Goals as goal
 
 pub returns-in-Head-clause-turn : goal.returns-in-Head-clause-turn
-returns-in-Head-clause-turn c d h goes x = stands_there c.args.self.now c.load.new.self d h c.load.result (Head c.in-Head.above c.in-Head.node) c.load.ensures.stands c.load.ensures.asked goes (rw c.in-Head.is at x)
+returns-in-Head-clause-turn c d h x = stands_there c.args.self.now c.load.new.self d h c.load.result (Head c.in-Head.above c.in-Head.node) c.load.ensures.stands c.load.ensures.asked (rw c.in-Head.is at x)
 
 pub returns-in-Head-clause-nearer : goal.returns-in-Head-clause-nearer
 returns-in-Head-clause-nearer c nodes n near =
@@ -18,7 +18,7 @@ pub returns-in-Head-clause-tries : goal.returns-in-Head-clause-tries
 returns-in-Head-clause-tries c d h goes x = rw c.load.ensures.stands (inl refl)
 
 pub returns-in-Key-clause-turn : goal.returns-in-Key-clause-turn
-returns-in-Key-clause-turn c d h goes x = stands_there c.args.self.now c.load-in-Key.new.self d h c.load-in-Key.result (Key c.in-Key.head c.in-Key.node) c.load-in-Key.ensures.stands c.load-in-Key.ensures.asked goes (rw c.in-Key.is at x)
+returns-in-Key-clause-turn c d h x = stands_there c.args.self.now c.load-in-Key.new.self d h c.load-in-Key.result (Key c.in-Key.head c.in-Key.node) c.load-in-Key.ensures.stands c.load-in-Key.ensures.asked (rw c.in-Key.is at x)
 
 pub returns-in-Key-clause-nearer : goal.returns-in-Key-clause-nearer
 returns-in-Key-clause-nearer c nodes n near =
@@ -30,7 +30,7 @@ pub returns-in-Key-clause-tries : goal.returns-in-Key-clause-tries
 returns-in-Key-clause-tries c d h goes x = rw c.load-in-Key.ensures.stands (inl refl)
 
 pub returns-in-Value-clause-turn : goal.returns-in-Value-clause-turn
-returns-in-Value-clause-turn c d h goes x = stands_there c.args.self.now c.load-in-Value.new.self d h c.load-in-Value.result (Value c.in-Value.key c.in-Value.node) c.load-in-Value.ensures.stands c.load-in-Value.ensures.asked goes (rw c.in-Value.is at x)
+returns-in-Value-clause-turn c d h x = stands_there c.args.self.now c.load-in-Value.new.self d h c.load-in-Value.result (Value c.in-Value.key c.in-Value.node) c.load-in-Value.ensures.stands c.load-in-Value.ensures.asked (rw c.in-Value.is at x)
 
 pub returns-in-Value-clause-nearer : goal.returns-in-Value-clause-nearer
 returns-in-Value-clause-nearer c nodes n near =
@@ -42,7 +42,7 @@ pub returns-in-Value-clause-tries : goal.returns-in-Value-clause-tries
 returns-in-Value-clause-tries c d h goes x = rw c.load-in-Value.ensures.stands (inl refl)
 
 pub returns-in-Look-clause-turn : goal.returns-in-Look-clause-turn
-returns-in-Look-clause-turn c d h goes x = stands_there c.args.self.now c.load-in-Look.new.self d h c.load-in-Look.result (Look c.in-Look.level c.in-Look.left c.in-Look.right c.in-Look.node) c.load-in-Look.ensures.stands c.load-in-Look.ensures.asked goes (rw c.in-Look.is at x)
+returns-in-Look-clause-turn c d h x = stands_there c.args.self.now c.load-in-Look.new.self d h c.load-in-Look.result (Look c.in-Look.level c.in-Look.left c.in-Look.right c.in-Look.node) c.load-in-Look.ensures.stands c.load-in-Look.ensures.asked (rw c.in-Look.is at x)
 
 pub returns-in-Look-clause-nearer : goal.returns-in-Look-clause-nearer
 returns-in-Look-clause-nearer c nodes n near =
@@ -54,7 +54,7 @@ pub returns-in-Look-clause-tries : goal.returns-in-Look-clause-tries
 returns-in-Look-clause-tries c d h goes x = rw c.load-in-Look.ensures.stands (inl refl)
 
 pub returns-in-Validate-clause-turn : goal.returns-in-Validate-clause-turn
-returns-in-Validate-clause-turn c d h goes x = let y = rw c.in-Validate.is at x in c.validate.ensures.turn d h goes y.0 y.1 y.2 y.3
+returns-in-Validate-clause-turn c d h x = let y = rw c.in-Validate.is at x in c.validate.ensures.turn d y.0 h y.1 y.2 y.3.0 y.3.1 y.3.2 y.3.3
 
 pub returns-in-Validate-clause-nearer : goal.returns-in-Validate-clause-nearer
 returns-in-Validate-clause-nearer c nodes n near = let i = (rw c.in-Validate.is at near).1 in below c.validate.result _ _ _ (c.validate.ensures.nearer nodes) (omega (arith, i))

@@ -8,27 +8,27 @@ use Rattle.order.proofs.RangeTurns.{told_all, vlx_turn, vlx_nearer, validates_on
 use Rattle.order.proofs.range.RangeRun.validate_on.Goals as goal
 
 pub returns-in-Ask-clause-turn : goal.returns-in-Ask-clause-turn
-returns-in-Ask-clause-turn c d begin h goes x ready = validates_on c.args.self.now d begin h c.next-turn.new.self.asked c.next-turn.result goes x (vlx_turn c.args.self.now d begin h _ _ c.args.asked _ c.args.got _ c.as_slice.ensures.value (ap (λ (b : Bor (List Snap)). b.now) c.next-turn.ensures.same) c.next-turn.ensures.turn goes ready) c.in-Ask.step c.in-Ask.is
+returns-in-Ask-clause-turn c d begin look h try goes x ready = validates_on c.args.self.now d begin look h c.next-turn.new.self.asked c.next-turn.result goes x (vlx_turn c.args.self.now d begin look h _ _ c.args.asked _ c.args.got _ c.as_slice.ensures.value (ap (λ (b : Bor (List Snap)). b.now) c.next-turn.ensures.same) c.next-turn.ensures.turn goes ready) c.in-Ask.step c.in-Ask.is try
 
 pub returns-in-Ask-clause-nearer : goal.returns-in-Ask-clause-nearer
 returns-in-Ask-clause-nearer c nodes = less_validate _ _ _ (vlx_nearer c.args.self.now _ _ c.args.asked c.next-turn.new.self.asked c.next-turn.result c.in-Ask.step c.as_slice.ensures.value (ap (λ (b : Bor (List Snap)). b.now) c.next-turn.ensures.same) c.in-Ask.is (c.next-turn.ensures.nearer nodes tt))
 
 pub returns-in-Done-Same-clause-turn : goal.returns-in-Done-Same-clause-turn
-returns-in-Done-Same-clause-turn c d begin h goes x ready =
+returns-in-Done-Same-clause-turn c d begin look h try goes x ready =
     let is_same : c.in-Done-Same.field-0 ≡ Same = rw c.in-Done-Same.is at c.in-Done-Same.field-0-is in
-    told_all c.args.self.now _ d h _ c.tell.ensures.told goes (told c.args.self.now d begin h c.next-turn.new.self.asked c.next-turn.result goes x (vlx_turn c.args.self.now d begin h _ _ c.args.asked _ c.args.got _ c.as_slice.ensures.value (ap (λ (b : Bor (List Snap)). b.now) c.next-turn.ensures.same) c.next-turn.ensures.turn goes ready) (c.in-Done-Same.is ∙ ap (λ a. Done a) is_same))
+    told_all c.args.self.now _ d h _ c.tell.ensures.told goes.reads.over (told c.args.self.now d begin look h c.next-turn.new.self.asked c.next-turn.result goes x (vlx_turn c.args.self.now d begin look h _ _ c.args.asked _ c.args.got _ c.as_slice.ensures.value (ap (λ (b : Bor (List Snap)). b.now) c.next-turn.ensures.same) c.next-turn.ensures.turn goes ready) (c.in-Done-Same.is ∙ ap (λ a. Done a) is_same) try)
 
 pub returns-in-Done-Changed-clause-turn : goal.returns-in-Done-Changed-clause-turn
-returns-in-Done-Changed-clause-turn c d begin h goes x ready =
+returns-in-Done-Changed-clause-turn c d begin look h try goes x ready =
     let is_changed : c.in-Done-Changed.field-0 ≡ Changed c.in-Done-Changed.node c.in-Done-Changed.scx = rw c.in-Done-Changed.is at c.in-Done-Changed.field-0-is in
-    let way = changed c.args.self.now d begin h c.next-turn.new.self.asked c.next-turn.result goes x (vlx_turn c.args.self.now d begin h _ _ c.args.asked _ c.args.got _ c.as_slice.ensures.value (ap (λ (b : Bor (List Snap)). b.now) c.next-turn.ensures.same) c.next-turn.ensures.turn goes ready) c.in-Done-Changed.node c.in-Done-Changed.scx (c.in-Done-Changed.is ∙ ap (λ a. Done a) is_changed) in
-    c.lost.ensures.turn d h goes (rw (← c.in-Done-Changed.node-is, ← c.in-Done-Changed.scx-is) at way)
+    let way = changed c.args.self.now d begin look h c.next-turn.new.self.asked c.next-turn.result goes x (vlx_turn c.args.self.now d begin look h _ _ c.args.asked _ c.args.got _ c.as_slice.ensures.value (ap (λ (b : Bor (List Snap)). b.now) c.next-turn.ensures.same) c.next-turn.ensures.turn goes ready) c.in-Done-Changed.node c.in-Done-Changed.scx (c.in-Done-Changed.is ∙ ap (λ a. Done a) is_changed) in
+    c.lost.ensures.turn d begin h try goes (rw (← c.in-Done-Changed.node-is, ← c.in-Done-Changed.scx-is) at way)
 
 pub returns-in-Done-Changed-clause-nearer : goal.returns-in-Done-Changed-clause-nearer
 returns-in-Done-Changed-clause-nearer c nodes = below c.lost.result _ _ _ (c.lost.ensures.nearer nodes) (to_tries _ _)
 
 pub returns-in-Done-Changed-clause-tries : goal.returns-in-Done-Changed-clause-tries
-returns-in-Done-Changed-clause-tries c d begin h goes x ready =
+returns-in-Done-Changed-clause-tries c d look h goes x ready =
     let is_changed : c.in-Done-Changed.field-0 ≡ Changed c.in-Done-Changed.node c.in-Done-Changed.scx = rw c.in-Done-Changed.is at c.in-Done-Changed.field-0-is in
-    let way = changed c.args.self.now d begin h c.next-turn.new.self.asked c.next-turn.result goes x (vlx_turn c.args.self.now d begin h _ _ c.args.asked _ c.args.got _ c.as_slice.ensures.value (ap (λ (b : Bor (List Snap)). b.now) c.next-turn.ensures.same) c.next-turn.ensures.turn goes ready) c.in-Done-Changed.node c.in-Done-Changed.scx (c.in-Done-Changed.is ∙ ap (λ a. Done a) is_changed) in
+    let way = changed c.args.self.now d d.start look h c.next-turn.new.self.asked c.next-turn.result goes x (vlx_turn c.args.self.now d d.start look h _ _ c.args.asked _ c.args.got _ c.as_slice.ensures.value (ap (λ (b : Bor (List Snap)). b.now) c.next-turn.ensures.same) c.next-turn.ensures.turn goes ready) c.in-Done-Changed.node c.in-Done-Changed.scx (c.in-Done-Changed.is ∙ ap (λ a. Done a) is_changed) in
     c.lost.ensures.tries d h x.asks (rw (← c.in-Done-Changed.node-is, ← c.in-Done-Changed.scx-is) at way)

@@ -10,7 +10,7 @@ returns-in-Start-clause-turn g c d h run r = let t = at_start g.E.Edit.means c.a
 pub returns-in-Walk-clause-turn : goal.returns-in-Walk-clause-turn
 returns-in-Walk-clause-turn g c d h run r =
     let t = at_walk g.E.Edit.means c.args.self.now d h c.args.got c.in-Walk.walk c.in-Walk.is r in
-    c.walk_on.ensures.turn d t.0 h run t.1 t.2 t.3 t.4
+    c.walk_on.ensures.turn d t.0 h t.4 t.5 run t.1 t.2 t.3 t.6
 
 pub returns-in-Look-clause-turn : goal.returns-in-Look-clause-turn
 returns-in-Look-clause-turn g c d h run r =
@@ -33,7 +33,7 @@ returns-in-Scx-clause-turn g c d h run r =
     c.scx_on.ensures.turn d t.0 t.2 h run t.1 t.3 t.4
 
 pub returns-in-Start-clause-begins : goal.returns-in-Start-clause-begins
-returns-in-Start-clause-begins g c none d h r = c.begin_walk.ensures.begins d h r.0
+returns-in-Start-clause-begins g c none d h r = c.begin_walk.ensures.begins
 
 pub returns-in-Walk-clause-begins : goal.returns-in-Walk-clause-begins
 returns-in-Walk-clause-begins g c none d h r = absurd (let z : Walk c.in-Walk.walk ≡ Start = sym c.in-Walk.is ∙ r.3 in cc)
@@ -49,3 +49,6 @@ returns-in-Fill-clause-begins g c none d h r = absurd (let z : Fill c.in-Fill.fo
 
 pub returns-in-Scx-clause-begins : goal.returns-in-Scx-clause-begins
 returns-in-Scx-clause-begins g c none d h r = absurd (let z : Scx c.in-Scx.found c.in-Scx.scx ≡ Start = sym c.in-Scx.is ∙ r.3 in cc)
+
+pub returns-in-Fill-clause-spends : goal.returns-in-Fill-clause-spends
+returns-in-Fill-clause-spends g c left = rw c.in-Fill.is (c.fill_on.ensures.spends (rw c.in-Fill.is at left))

@@ -21,7 +21,7 @@ returns-in-Differs-clause-turn g c d b h run try x =
     let t = look_lost g.E.Edit.means c.args.self.now d b h c.in-Differs.node.0 c.in-Differs.scx.0 try x.begins x.quiet
     (look_differs g.E.Edit.means g.met.E.Edit.laws.looks c.args.self.now.edit (from d b) h c.args.found.now c.args.self.now.snaps.items x.begins.run (is_needed g.E.Edit.means c.args.self.now (from d b) h c.args.found.now x) x.looked c.in-Differs.node c.in-Differs.scx x.quiet
     (rw (sym c.as_slice.ensures.value) (sym c.look.ensures ∙ c.in-Differs.is))) in
-    (t.0, t.1, t.2)
+    (t.0, t.1)
 
 pub returns-in-At-clause-turn : goal.returns-in-At-clause-turn
 returns-in-At-clause-turn g c d b h run try x = (b, try, tt, looks_at g.E.Edit.means c.args.self.now c.args.found.now c.in-At.node (from d b) h run x named (g.met.E.Edit.laws.looks.opens c.args.self.now.edit (from d b) h c.args.found.now c.args.self.now.snaps.items c.in-At.node x.begins.run (is_needed g.E.Edit.means c.args.self.now (from d b) h c.args.found.now x) x.looked named))

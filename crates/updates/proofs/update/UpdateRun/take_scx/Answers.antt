@@ -9,7 +9,7 @@ use Rattle.updates.specs.Laws.HandScx.{from}
 use Rattle.updates.specs.Next.{next_step, update_of}
 use Rattle.updates.specs.declared.update.Next.TheVariants.{Change}
 use Rattle.updates.proofs.Beginning.{few_snaps, scx_begins}
-use Rattle.updates.proofs.Nearer.{scx_left_now}
+use Rattle.updates.proofs.Nearer.{scx_left_now, scx_for_nodes}
 use Rattle.updates.proofs.update.UpdateRun.take_scx.Goals as goal
 
 pub returns-in-Some-clause-nearer : goal.returns-in-Some-clause-nearer
@@ -35,3 +35,11 @@ returns-in-Some-clause-turn g c d b h run try x = (
 
 pub returns-in-None-clause-turn : goal.returns-in-None-clause-turn
 returns-in-None-clause-turn g c d b h run try x = absurd (let z = (rw c.in-None.is at c.scx.ensures.empty).0 in let s = x.some in omega (arith, z, s))
+
+pub returns-in-Some-clause-spends : goal.returns-in-Some-clause-spends
+returns-in-Some-clause-spends g c left =
+    let taken = rw c.in-Some.is at c.scx.ensures.after_taking in
+    rw taken.2 (omega arith, omega (arith, left), scx_for_nodes g.E.Edit.means.most_nodes c.args.self.now.share.nodes c.args.self.now.share.scx c.args.self.now.tries left)
+
+pub returns-in-None-clause-spends : goal.returns-in-None-clause-spends
+returns-in-None-clause-spends g c left = absurd (let z = (rw c.in-None.is at c.scx.ensures.empty).0 in omega (arith, z, left))

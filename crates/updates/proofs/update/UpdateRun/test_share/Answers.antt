@@ -2,7 +2,8 @@ use Rattle.std.proofs.Common.{◌≡◌, ◌≢◌, refl, rules, inl}
 use Rattle.updates.specs.declared.edit.Need.TheVariants.{Nothing}
 use Rattle.updates.proofs.Looking.{may_look}
 use Rattle.updates.specs.Laws.HandScx.{from}
-use Rattle.updates.proofs.Turns.{at_rest, nothing_entered, untouched_later}
+use Rattle.updates.specs.Laws.Trying.{untouched_later}
+use Rattle.updates.proofs.Turns.{at_rest, nothing_entered}
 use Rattle.updates.proofs.Widened.{found_wider}
 use Rattle.updates.proofs.GoingOn.{still_nearer}
 use Rattle.updates.proofs.Nearer.{from_share}
