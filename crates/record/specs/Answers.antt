@@ -9,6 +9,7 @@ use Rattle.arena.specs.Fills.{IsOwnNode, IsOwnScx, IsOthersScx, IsTakenNode, IsT
 use Rattle.arena.specs.Blame.{WasInTheWay}
 use Rattle.arena.specs.Found.{HasFound}
 use Rattle.arena.specs.Log.{log, fields, last, is_final}
+use Rattle.spelling.specs.Tries.{HasLostTries}
 use Rattle.record.specs.declared.record.Line.{Line}
 use Rattle.record.specs.declared.record.Finished.{Finished}
 use Rattle.record.specs.declared.record.Answer.{Answer}
@@ -65,6 +66,11 @@ pub record IsInTheWay (lay : Layout) (c : ℕ) (now start : History) (kind : Kin
 -- since the call's begin another client's SCX-record was in progress over this node
 abbrev pub WasBlockedBy : Layout → ℕ → History → History → ℕ → ℕ → Type 0
 WasBlockedBy lay c now start node scx = IsOthersScx lay c scx × WasInTheWay now start node scx
+
+-- the call has lost all its tries: since its begin the client has begun so many, and in the newest
+-- of them another client's SCX-record was in progress over this node
+abbrev pub HasLostAllTries : Layout → ℕ → ℕ → History → History → ℕ → ℕ → Type 0
+HasLostAllTries lay tries c now start node scx = IsOthersScx lay c scx × HasLostTries c now start tries node scx
 
 -- the client's share has a node and an SCX-record that are not taken
 pub record HasRoom (lay : Layout) (c : ℕ) (at : History) : Type 0 where

@@ -44,7 +44,7 @@ most_steps command = (rules command).most_steps
 -- since its begin the call of client c, which may try so often, has taken no more of the client's
 -- share than it may
 abbrev pub HasTakenFew : Layout → ℕ → ℕ → History → History → Command → Type 0
-HasTakenFew lay tries c now start command = HasTakenAtMost lay c now start ((rules command).most_nodes tries) ((rules command).most_scx tries)
+HasTakenFew lay tries c now start command = HasTakenAtMost lay c now start ((rules command).most_scx tries) (rules command).nodes_each
 
 -- the kinds of step that a call may make
 abbrev pub MayMake : Command → Kind → Type 0
@@ -67,10 +67,10 @@ abbrev pub linked_then : Option Command → Answer → History → ℕ → Optio
 linked_then None answer now n old = old
 linked_then (Some command) answer now n old = (rules command).linked_then answer now n old
 
--- the answer to a call of client c is right: it is true of the steps up to the call's begin and of
--- those up to now, with the snapshots that the client keeps
-abbrev pub IsRight : Layout → ℕ → History → History → (ℕ → Option History) → Command → Answer → Type 0
-IsRight lay c now start linked command = (rules command).IsRight lay c now start linked
+-- the answer to a call of client c, which may try so often, is right: it is true of the steps up to
+-- the call's begin and of those up to now, with the snapshots that the client keeps
+abbrev pub IsRight : Layout → ℕ → ℕ → History → History → (ℕ → Option History) → Command → Answer → Type 0
+IsRight lay tries c now start linked command = (rules command).IsRight lay tries c now start linked
 
 -- the call of the reply took place where the reply says, with the lines before the reply
 abbrev pub IsPlaced : Layout → List Call → List Line → Finished → Command → Type 0

@@ -36,7 +36,7 @@ pub record IsReply (lay : Layout) (tries : ℕ) (calls : List Call) (lines : Lis
   pub is : next_command calls lines reply.client.0 ≡ Some command
   pub fits : IsFitting lines command reply.answer
   -- the answer is true
-  pub right : IsRight lay reply.client.0 (history lay.mode lines) (start lay.mode lines reply.client.0) (linked calls lay.mode lines reply.client.0) command reply.answer
+  pub right : IsRight lay tries reply.client.0 (history lay.mode lines) (start lay.mode lines reply.client.0) (linked calls lay.mode lines reply.client.0) command reply.answer
   -- the call has taken no more of the client's share than it may
   pub took : HasTakenFew lay tries reply.client.0 (history lay.mode lines) (start lay.mode lines reply.client.0) command
   -- the call took place where the reply says

@@ -22,10 +22,10 @@ use Rattle.record.specs.declared.record.Answer.{Answer}
 pub record Rules : Type 1 where
   -- how many steps a call may make, by how often a call may try, while so many nodes are taken
   pub most_steps : ℕ → ℕ → ℕ
-  -- how many nodes of its client's share it may take, by how often it may try, and how many
-  -- SCX-records
-  pub most_nodes : ℕ → ℕ
+  -- how many SCX-records of its client's share it may take, by how often it may try, and how many
+  -- nodes for each that it takes
   pub most_scx : ℕ → ℕ
+  pub nodes_each : ℕ
   -- the kinds of step that it may make
   pub MayMake : Kind → Type 0
   -- the answers that it may give in place of a first step
@@ -37,9 +37,9 @@ pub record Rules : Type 1 where
   -- what an answer leaves of the client's snapshot of a cell: of this answer, at this moment, of
   -- this cell, and the snapshot kept before
   pub linked_then : Answer → History → ℕ → Option History → Option History
-  -- what an answer of client c says, between the steps up to the call's begin and those up to now,
-  -- with the snapshots that the client keeps
-  pub IsRight : Layout → ℕ → History → History → (ℕ → Option History) → Answer → Type 0
+  -- what an answer of client c says, by how often its call may try, between the steps up to the
+  -- call's begin and those up to now, with the snapshots that the client keeps
+  pub IsRight : Layout → ℕ → ℕ → History → History → (ℕ → Option History) → Answer → Type 0
   -- what an entry of client c does, between the steps up to the call's begin and those just before
   -- the entry's, with the snapshots that the client keeps
   pub IsEntryFor : Layout → ℕ → History → History → (ℕ → Option History) → Entered → Type 0

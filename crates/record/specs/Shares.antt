@@ -1,5 +1,5 @@
 -- What a call takes of its client's share, and what is left of that.
-use Rattle.std.specs.Prelude.{◌≡◌, ◌⊎◌, ℕ, ◌+◌, ◌<◌, ◌≤◌}
+use Rattle.std.specs.Prelude.{◌≡◌, ◌⊎◌, ℕ, ◌+◌, ◌*◌, ◌<◌, ◌≤◌, ◌↔◌}
 use Rattle.arena.specs.declared.layout.Layout.{Layout}
 use Rattle.arena.specs.declared.fault.Resource.{Resource}
 use Rattle.arena.specs.declared.fault.Resource.TheVariants.{Nodes, Scx as ScxRecords}
@@ -12,13 +12,29 @@ use Rattle.record.specs.Answers.{WasBlockedBy}
 abbrev pub IsInRow : ℕ → ℕ → ℕ → Type 0
 IsInRow first many n = (first ≤ n) × (n < first + many)
 
--- since `start` the client has taken at most so many nodes of its share, and so many SCX-records
-pub record HasTakenAtMost (lay : Layout) (c : ℕ) (now start : History) (many_nodes many_scx : ℕ) : Type 0 where
-  -- each node that it has taken since is one of so many that follow one another
-  pub lowest_node : ℕ
-  pub nodes : (n : ℕ) → IsOwnNode lay c n → ¬ IsTakenNode start n → IsTakenNode now n → IsInRow lowest_node many_nodes n
+-- since `start` the client has taken this node of its share
+pub record IsNodeTakenSince (lay : Layout) (c : ℕ) (now start : History) (n : ℕ) : Type 0 where
+  pub own : IsOwnNode lay c n
+  pub not_then : ¬ IsTakenNode start n
+  pub taken : IsTakenNode now n
+
+-- since `start` it has taken this SCX-record of its share
+pub record IsScxTakenSince (lay : Layout) (c : ℕ) (now start : History) (s : ℕ) : Type 0 where
+  pub own : IsOwnScx lay c s
+  pub not_then : ¬ IsTakenScx start s
+  pub taken : IsTakenScx now s
+
+-- since `start` the client has taken at most so many SCX-records of its share, and for each that it
+-- has taken at most so many nodes
+pub record HasTakenAtMost (lay : Layout) (c : ℕ) (now start : History) (most_scx nodes_each : ℕ) : Type 0 where
+  -- it has taken just so many SCX-records, which follow one another
+  pub many : ℕ
+  pub few : many ≤ most_scx
   pub lowest_scx : ℕ
-  pub scx_records : (s : ℕ) → IsOwnScx lay c s → ¬ IsTakenScx start s → IsTakenScx now s → IsInRow lowest_scx many_scx s
+  pub scx_records : (s : ℕ) → IsScxTakenSince lay c now start s ↔ IsInRow lowest_scx many s
+  -- each node that it has taken is one of so many for each of them, which follow one another
+  pub lowest_node : ℕ
+  pub nodes : (n : ℕ) → IsNodeTakenSince lay c now start n → IsInRow lowest_node (nodes_each * many) n
 
 -- so many nodes are left of the client's share: the last ones, which are not taken, while all
 -- before them are

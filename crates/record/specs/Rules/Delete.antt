@@ -7,7 +7,7 @@ use Rattle.spelling.specs.Runs.{Makes}
 use Rattle.spelling.specs.declared.reply.Reply.TheVariants.{Value, Contended, Full}
 use Rattle.record.specs.declared.record.Answer.{Answer}
 use Rattle.record.specs.declared.record.Answer.TheVariants.{Map}
-use Rattle.record.specs.Answers.{WasBlockedBy}
+use Rattle.record.specs.Answers.{HasLostAllTries}
 use Rattle.record.specs.Edits.{EditAfterStep, HadAtKey}
 use Rattle.record.specs.MapRecord.{reply_told}
 use Rattle.record.specs.Placed.{IsPlacedOnMap}
@@ -20,25 +20,25 @@ has_deleted (Map (Value (Some old))) = true
 has_deleted _ = false
 
 -- what its answers say
-abbrev pub DeleteIsRight : ℕ → Layout → ℕ → History → History → (ℕ → Option History) → Answer → Type 0
+abbrev pub DeleteIsRight : ℕ → Layout → ℕ → ℕ → History → History → (ℕ → Option History) → Answer → Type 0
 -- of one that tells a value, its entry and where it took place say all
-DeleteIsRight key lay c now start linked (Map (Value (Some old))) = Unit {0}
+DeleteIsRight key lay tries c now start linked (Map (Value (Some old))) = Unit {0}
 -- after some row behind the call's begin the map lacked the key
-DeleteIsRight key lay c now start linked (Map (Value None)) = HadAtKey lay now start key None
-DeleteIsRight key lay c now start linked (Map (Contended node scx)) = WasBlockedBy lay c now start node.0 scx.0
+DeleteIsRight key lay tries c now start linked (Map (Value None)) = HadAtKey lay now start key None
+DeleteIsRight key lay tries c now start linked (Map (Contended node scx)) = HasLostAllTries lay tries c now start node.0 scx.0
 -- after some row behind the call's begin the map had the key, and the share has too little for the
 -- copy of its leaf's sibling, and not by the call's own doing
-DeleteIsRight key lay c now start linked (Map (Full full)) = (old : ℕ) × HadAtKey lay now start key (Some old) × HasTooFewToTry lay c now start 1 full.what full.left
-DeleteIsRight key lay c now start linked _ = ⊥
+DeleteIsRight key lay tries c now start linked (Map (Full full)) = (old : ℕ) × HadAtKey lay now start key (Some old) × HasTooFewToTry lay c now start 1 full.what full.left
+DeleteIsRight key lay tries c now start linked _ = ⊥
 
 -- in each of its tries: at most three steps for each level that the tree may have, two more than
--- nodes are taken, and 301 others, of any kind; a node and an SCX-record. It leaves snapshots
--- alone. Its entry is of an SCX-record that takes the key out
+-- nodes are taken, and 301 others, of any kind; an SCX-record, and a node for it. It leaves
+-- snapshots alone. Its entry is of an SCX-record that takes the key out
 abbrev pub delete_rules : ℕ → Rules
 delete_rules key = record {
   most_steps = λ tries taken. tries * (3 * (2 + taken) + 301);
-  most_nodes = λ tries. tries;
   most_scx = λ tries. tries;
+  nodes_each = 1;
   MayMake = λ kind. Unit {0};
   IsAtOnce = λ answer. ⊥;
   IsAfterStep = EditAfterStep;

@@ -28,14 +28,14 @@ GetIsRight key lay c now start linked _ = ⊥
 abbrev pub get_rules : ℕ → Rules
 get_rules key = record {
   most_steps = λ tries taken. 3 * (2 + taken);
-  most_nodes = λ tries. 0;
   most_scx = λ tries. 0;
+  nodes_each = 0;
   MayMake = λ kind. (kind ≡ LoadSettled) ⊎ (kind ≡ LoadChild);
   IsAtOnce = λ answer. ⊥;
   IsAfterStep = GetAfterStep;
   enters = λ answer. false;
   linked_then = λ answer now n old. old;
-  IsRight = GetIsRight key;
+  IsRight = λ lay tries. GetIsRight key lay;
   IsEntryFor = λ lay c before start linked e. ⊥;
   IsPlaced = λ lay calls lines reply. IsPlacedOnMap (reply_told reply.answer) calls lines (Get key) reply;
 }

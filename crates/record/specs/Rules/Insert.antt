@@ -7,7 +7,7 @@ use Rattle.spelling.specs.Runs.{Makes}
 use Rattle.spelling.specs.declared.reply.Reply.TheVariants.{Value, Contended, Full}
 use Rattle.record.specs.declared.record.Answer.{Answer}
 use Rattle.record.specs.declared.record.Answer.TheVariants.{Map}
-use Rattle.record.specs.Answers.{WasBlockedBy}
+use Rattle.record.specs.Answers.{HasLostAllTries}
 use Rattle.record.specs.Edits.{EditAfterStep, HadAtKey}
 use Rattle.record.specs.MapRecord.{reply_told}
 use Rattle.record.specs.Placed.{IsPlacedOnMap}
@@ -26,22 +26,22 @@ nodes_for (Some old) = 1
 nodes_for None = 3
 
 -- what its answers say
-abbrev pub InsertIsRight : ℕ → Layout → ℕ → History → History → (ℕ → Option History) → Answer → Type 0
+abbrev pub InsertIsRight : ℕ → Layout → ℕ → ℕ → History → History → (ℕ → Option History) → Answer → Type 0
 -- of one that tells a value, its entry and where it took place say all
-InsertIsRight key lay c now start linked (Map (Value old)) = Unit {0}
-InsertIsRight key lay c now start linked (Map (Contended node scx)) = WasBlockedBy lay c now start node.0 scx.0
+InsertIsRight key lay tries c now start linked (Map (Value old)) = Unit {0}
+InsertIsRight key lay tries c now start linked (Map (Contended node scx)) = HasLostAllTries lay tries c now start node.0 scx.0
 -- the share has too little for what the map had at the key, and not by the call's own doing
-InsertIsRight key lay c now start linked (Map (Full full)) = (old : Option ℕ) × HadAtKey lay now start key old × HasTooFewToTry lay c now start (nodes_for old) full.what full.left
-InsertIsRight key lay c now start linked _ = ⊥
+InsertIsRight key lay tries c now start linked (Map (Full full)) = (old : Option ℕ) × HadAtKey lay now start key old × HasTooFewToTry lay c now start (nodes_for old) full.what full.left
+InsertIsRight key lay tries c now start linked _ = ⊥
 
 -- in each of its tries: at most three steps for each level that the tree may have, two more than
--- nodes are taken, and 178 others, of any kind; three nodes and an SCX-record. It leaves snapshots
--- alone. Its entry is of an SCX-record that inserts the key with this value
+-- nodes are taken, and 178 others, of any kind; an SCX-record, and three nodes for it. It leaves
+-- snapshots alone. Its entry is of an SCX-record that inserts the key with this value
 abbrev pub insert_rules : ℕ → ℕ → Rules
 insert_rules key value = record {
   most_steps = λ tries taken. tries * (3 * (2 + taken) + 178);
-  most_nodes = λ tries. tries * 3;
   most_scx = λ tries. tries;
+  nodes_each = 3;
   MayMake = λ kind. Unit {0};
   IsAtOnce = λ answer. ⊥;
   IsAfterStep = EditAfterStep;

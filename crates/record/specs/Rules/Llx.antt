@@ -37,14 +37,14 @@ LlxIsRight cell lay c now start linked _ = ⊥
 abbrev pub llx_rules : ℕ → Rules
 llx_rules cell = record {
   most_steps = λ tries taken. 64;
-  most_nodes = λ tries. 0;
   most_scx = λ tries. 0;
+  nodes_each = 0;
   MayMake = λ kind. kind ≢ Fill;
   IsAtOnce = λ answer. ⊥;
   IsAfterStep = LlxAfterStep;
   enters = λ answer. false;
   linked_then = llx_linked cell;
-  IsRight = LlxIsRight cell;
+  IsRight = λ lay tries. LlxIsRight cell lay;
   IsEntryFor = λ lay c before start linked e. ⊥;
   IsPlaced = λ lay calls lines reply. IsPlacedCell lay lines reply;
 }

@@ -7,7 +7,7 @@ use Rattle.spelling.specs.OrderedMap.{Range}
 use Rattle.spelling.specs.declared.reply.Reply.TheVariants.{Pairs, Contended, NoMemory}
 use Rattle.record.specs.declared.record.Answer.{Answer}
 use Rattle.record.specs.declared.record.Answer.TheVariants.{Map}
-use Rattle.record.specs.Answers.{WasBlockedBy}
+use Rattle.record.specs.Answers.{HasLostAllTries}
 use Rattle.record.specs.MapRecord.{reply_told}
 use Rattle.record.specs.Placed.{IsPlacedOnMap}
 use Rattle.record.specs.Rules.{Rules}
@@ -30,12 +30,12 @@ RangeAfterStep (Map NoMemory) = Unit {0}
 RangeAfterStep _ = ⊥
 
 -- what its answers say
-abbrev pub RangeIsRight : Layout → ℕ → History → History → (ℕ → Option History) → Answer → Type 0
+abbrev pub RangeIsRight : Layout → ℕ → ℕ → History → History → (ℕ → Option History) → Answer → Type 0
 -- of one that tells pairs, where it took place says all
-RangeIsRight lay c now start linked (Map (Pairs found)) = Unit {0}
-RangeIsRight lay c now start linked (Map (Contended node scx)) = WasBlockedBy lay c now start node.0 scx.0
-RangeIsRight lay c now start linked (Map NoMemory) = Unit {0}
-RangeIsRight lay c now start linked _ = ⊥
+RangeIsRight lay tries c now start linked (Map (Pairs found)) = Unit {0}
+RangeIsRight lay tries c now start linked (Map (Contended node scx)) = HasLostAllTries lay tries c now start node.0 scx.0
+RangeIsRight lay tries c now start linked (Map NoMemory) = Unit {0}
+RangeIsRight lay tries c now start linked _ = ⊥
 
 -- in each of its tries, for each pair that it may take and for two more: at most 67 steps for each
 -- level that the tree may have, two more than nodes are taken, none of them a fill; no step at all
@@ -43,8 +43,8 @@ RangeIsRight lay c now start linked _ = ⊥
 abbrev pub range_rules : ℕ → ℕ → ℕ → Rules
 range_rules low high most = record {
   most_steps = λ tries taken. tries * ((most + 2) * (67 * (2 + taken)));
-  most_nodes = λ tries. 0;
   most_scx = λ tries. 0;
+  nodes_each = 0;
   MayMake = λ kind. (kind ≢ Fill) × ¬ TakesNothing low high most;
   IsAtOnce = RangeAtOnce low high most;
   IsAfterStep = RangeAfterStep;

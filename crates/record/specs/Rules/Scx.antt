@@ -52,18 +52,18 @@ ScxIsRight update lay c now start linked _ = ⊥
 abbrev pub IsScxEntry : Update → Layout → ℕ → History → History → (ℕ → Option History) → Entered → Type 0
 IsScxEntry update lay c before start linked e = IsEntryOver lay c before e (update_cells update) (update_finalize update) (update_field update) (update_value update) × AreUnchanged lay before linked (update_cells update)
 
--- at most 40 steps, of any kind; one node and one SCX-record
+-- at most 40 steps, of any kind; an SCX-record, and a node for it
 abbrev pub scx_rules : Update → Rules
 scx_rules update = record {
   most_steps = λ tries taken. 40;
-  most_nodes = λ tries. 1;
   most_scx = λ tries. 1;
+  nodes_each = 1;
   MayMake = λ kind. Unit {0};
   IsAtOnce = ScxAtOnce;
   IsAfterStep = ScxAfterStep;
   enters = is_done;
   linked_then = scx_linked update;
-  IsRight = ScxIsRight update;
+  IsRight = λ lay tries. ScxIsRight update lay;
   IsEntryFor = IsScxEntry update;
   IsPlaced = λ lay calls lines reply. IsPlacedCell lay lines reply;
 }

@@ -46,19 +46,19 @@ SetIsRight field value lay c now start linked _ = ⊥
 abbrev pub IsSetEntry : ℕ × Side → ℕ → Layout → ℕ → History → History → (ℕ → Option History) → Entered → Type 0
 IsSetEntry field x lay c before start linked e = IsEntryOver lay c before e (field.0 ∷ []) [] field x × ((moment : History) × Extends before moment × IsLastLook c before start moment field.0 × IsUnchanged lay before moment field.0)
 
--- at most the steps of an LLX and those of an SCX, of any kind; one node and one SCX-record; it
--- never answers at once
+-- at most the steps of an LLX and those of an SCX, of any kind; an SCX-record, and a node for it.
+-- It never answers at once
 abbrev pub set_rules : ℕ × Side → ℕ → Rules
 set_rules field value = record {
   most_steps = λ tries taken. 104;
-  most_nodes = λ tries. 1;
   most_scx = λ tries. 1;
+  nodes_each = 1;
   MayMake = λ kind. Unit {0};
   IsAtOnce = λ answer. ⊥;
   IsAfterStep = SetAfterStep;
   enters = is_done;
   linked_then = set_linked field;
-  IsRight = SetIsRight field value;
+  IsRight = λ lay tries. SetIsRight field value lay;
   IsEntryFor = IsSetEntry field value;
   IsPlaced = λ lay calls lines reply. IsPlacedCell lay lines reply;
 }

@@ -7,7 +7,7 @@ use Rattle.spelling.specs.OrderedMap.{Successor}
 use Rattle.spelling.specs.declared.reply.Reply.TheVariants.{Pair, Contended, NoMemory}
 use Rattle.record.specs.declared.record.Answer.{Answer}
 use Rattle.record.specs.declared.record.Answer.TheVariants.{Map}
-use Rattle.record.specs.Answers.{WasBlockedBy}
+use Rattle.record.specs.Answers.{HasLostAllTries}
 use Rattle.record.specs.MapRecord.{reply_told}
 use Rattle.record.specs.Placed.{IsPlacedOnMap}
 use Rattle.record.specs.Rules.{Rules}
@@ -25,20 +25,20 @@ SuccessorAfterStep (Map NoMemory) = Unit {0}
 SuccessorAfterStep _ = ⊥
 
 -- what its answers say
-abbrev pub SuccessorIsRight : Layout → ℕ → History → History → (ℕ → Option History) → Answer → Type 0
+abbrev pub SuccessorIsRight : Layout → ℕ → ℕ → History → History → (ℕ → Option History) → Answer → Type 0
 -- of one that tells a pair, or none, where it took place says all
-SuccessorIsRight lay c now start linked (Map (Pair found)) = Unit {0}
-SuccessorIsRight lay c now start linked (Map (Contended node scx)) = WasBlockedBy lay c now start node.0 scx.0
-SuccessorIsRight lay c now start linked (Map NoMemory) = Unit {0}
-SuccessorIsRight lay c now start linked _ = ⊥
+SuccessorIsRight lay tries c now start linked (Map (Pair found)) = Unit {0}
+SuccessorIsRight lay tries c now start linked (Map (Contended node scx)) = HasLostAllTries lay tries c now start node.0 scx.0
+SuccessorIsRight lay tries c now start linked (Map NoMemory) = Unit {0}
+SuccessorIsRight lay tries c now start linked _ = ⊥
 
 -- in each of its tries: at most 137 steps for each level that the tree may have, two more than
 -- nodes are taken, none of them a fill. It takes nothing, leaves snapshots alone, and has no entry
 abbrev pub successor_rules : ℕ → Rules
 successor_rules key = record {
   most_steps = λ tries taken. tries * (137 * (2 + taken));
-  most_nodes = λ tries. 0;
   most_scx = λ tries. 0;
+  nodes_each = 0;
   MayMake = λ kind. kind ≢ Fill;
   IsAtOnce = SuccessorAtOnce;
   IsAfterStep = SuccessorAfterStep;

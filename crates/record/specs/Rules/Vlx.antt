@@ -41,14 +41,14 @@ VlxIsRight cells lay c now start linked _ = ⊥
 abbrev pub vlx_rules : Cells → Rules
 vlx_rules cells = record {
   most_steps = λ tries taken. length (cells_of cells);
-  most_nodes = λ tries. 0;
   most_scx = λ tries. 0;
+  nodes_each = 0;
   MayMake = λ kind. kind ≡ LoadInfo;
   IsAtOnce = VlxAtOnce;
   IsAfterStep = VlxAfterStep;
   enters = λ answer. false;
   linked_then = vlx_linked;
-  IsRight = VlxIsRight cells;
+  IsRight = λ lay tries. VlxIsRight cells lay;
   IsEntryFor = λ lay c before start linked e. ⊥;
   IsPlaced = λ lay calls lines reply. IsPlacedCell lay lines reply;
 }
