@@ -3,8 +3,6 @@ use Rattle.std.proofs.Common.{◌≡◌, ℕ, true, ◌≤◌, ◌≢◌, ◌⊎
 use native.Mathlib.Decide.{ℕ_discrete}
 use Rattle.arena.specs.Fills.{IsOwnScx}
 use Rattle.arena.specs.declared.layout.Layout.{Layout}
-use Rattle.arena.specs.declared.limits.Limits.{Limits}
-use Rattle.script.specs.declared.script.Script.{Script}
 use Rattle.arena.specs.declared.number.PassNo.{PassNo}
 use Rattle.arena.specs.declared.step.Row.{Row}
 use Rattle.arena.specs.declared.step.Step.{Step as Ask}
