@@ -1,5 +1,5 @@
 -- What calls need to begin.
-use Rattle.std.proofs.Common.{Vec, ◌≡◌, ◌≢◌, ℕ, suc, ◌+◌, ◌^◌, ◌<◌, ◌≤◌, inl, List, Option, Some, None, refl, sym, ◌∙◌, ap, subst, arith, length, zero, [], ◌∷◌, ◌⊎◌, ⊎_elim, slice_index_or, slice_get, get_or, unwrap_or, nat_lt, map, AllPairs, Contains, MatchOption, Bool, true, false, All}
+use Rattle.std.proofs.Common.{Vec, ◌≡◌, ◌≢◌, ℕ, suc, ◌+◌, ◌-◌, ◌^◌, ◌<◌, ◌≤◌, inl, List, Option, Some, None, refl, sym, ◌∙◌, ap, subst, arith, length, zero, [], ◌∷◌, ◌⊎◌, ⊎_elim, slice_index_or, slice_get, get_or, unwrap_or, nat_lt, map, AllPairs, Contains, MatchOption, Bool, true, false, All}
 use Rattle.tree.specs.declared.get.GetRun.{GetRun}
 use Rattle.tree.specs.Get.Known.{GetIsReady}
 use Rattle.script.specs.Commands.{mode_of}
@@ -35,7 +35,8 @@ use Rattle.prims.specs.declared.vlx.VlxRun.{VlxRun}
 use Rattle.script.specs.declared.command.Command.{Command}
 use Rattle.script.specs.declared.command.Command.TheVariants.{Llx as LlxCommand, Vlx as VlxCommand, Scx as ScxCommand, Set as SetCommand, Map}
 use Rattle.spelling.specs.declared.request.Request.TheVariants.{Get as GetCommand, Range as RangeCommand}
-use Rattle.player.specs.EditRuns.{EditIsReady, HasSpentOf, IsUnbegunEdit, call_of, edit_command, edit_left, edit_of, edit_steps, share_of}
+use Rattle.spelling.specs.Tries.{tries_begun}
+use Rattle.player.specs.EditRuns.{EditIsReady, HasSpentOf, IsUnbegunEdit, call_of, edit_command, edit_left, edit_of, edit_steps, limit_of, share_of}
 use Rattle.player.specs.declared.edit.EditRun.{EditRun}
 use Rattle.player.specs.declared.edit.EditRun.TheVariants.{Insert, Delete}
 use Rattle.player.specs.declared.run.Run.TheVariants.{Llx, Vlx, Edit, Get, Read}
@@ -63,8 +64,7 @@ use Rattle.player.specs.declared.client.NextAction.TheVariants.{Finished, Answer
 use Rattle.script.specs.declared.call.Call.{Call}
 use Rattle.std.proofs.lemmas.Option.{slice_get_read, slice_get_within, get_or_from_slice_get}
 use Rattle.player.proofs.Commands.{next_at}
-use Rattle.prims.specs.Laws.Idle.{quiet_at_start}
-use Rattle.order.specs.Reads.{Reads}
+use Rattle.order.proofs.Lemmas.{range_ready_first, successor_ready_first}
 use Rattle.order.specs.declared.range.RangeRun.{RangeRun}
 use Rattle.order.specs.declared.range.RangeAt.TheVariants.{Start as RangeStart}
 use Rattle.order.specs.declared.successor.SuccessorRun.{SuccessorRun}
@@ -72,7 +72,7 @@ use Rattle.order.specs.declared.successor.SuccessorAt.TheVariants.{Start as Next
 use Rattle.std.specs.Global.{Global}
 use Rattle.spelling.specs.declared.reply.Reply.TheVariants.{Pairs}
 use Rattle.record.specs.Rules.Range.{TakesNothing}
-use Rattle.player.specs.ReadRuns.{HasReadTries, IsReadBy, ReadIsReady, read_left}
+use Rattle.player.specs.ReadRuns.{HasReadTries, IsReadBy, ReadIsReady, read_left, read_limit}
 use Rattle.player.specs.declared.read.ReadRun.{ReadRun}
 use Rattle.player.specs.declared.read.ReadRun.TheVariants.{Successor as NextOf, Range as PairsOf}
 
@@ -96,7 +96,7 @@ llx_few tries (Map request) n then f taken = absurd f
 -- an LLX of a cell
 pub llx_starts : (v : ClientView) (began : Option ℕ) (c : Client) (m : LlxRun) (then : Option Put) (command : Command) → IsSound v → v.layout.mode ≡ Records → Rests v c → IsUnbegun v began → m.at ≡ Start → m.node.0 ≤ 8 → command_of v c ≡ Some command → IsLlxOf command m.node.0 then → Starts v c (Llx m) then
 llx_starts v began c m then command sound mode r u start i is f = record {
-  works = record { mode = mode; stands = r.stands; holds = r.holds; newest = tt; command = command; is = is; run_of = (i, f); is_pass = r.stands.is_pass; start = v.past; since = ends_self v.past; begun = sym u.start; moments = λ j p. absurd (omega arith); alone = λ j p. absurd (omega arith); room = tt; opening = held c; took = taken_none v c.pass.0 (no_hand (held c)) u.start; won = u.won; late = λ turn e. none_late v.won turn c.begin u.won e };
+  works = record { mode = mode; stands = r.stands; holds = r.holds; newest = tt; command = command; is = is; run_of = (i, f); limit = tt; is_pass = r.stands.is_pass; start = v.past; since = ends_self v.past; begun = sym u.start; moments = λ j p. absurd (omega arith); alone = λ j p. absurd (omega arith); room = tt; opening = held c; took = taken_none v c.pass.0 (no_hand (held c)) u.start; won = u.won; late = λ turn e. none_late v.won turn c.begin u.won e };
   none = r.none;
   spent = tt;
   ready = ready_at_start AllowsAll m (machine_call v c r.stands.is_pass v.past) v.past refl start (cell_opened v.layout v.past m.node.0 mode i) (all_idle v.layout v.past c.pass.0 (held c) _ _ sound.lawful r.holds.share r.holds.over);
@@ -107,7 +107,7 @@ llx_starts v began c m then command sound mode r u start i is f = record {
 -- a VLX of unspent snapshots
 pub vlx_starts : (v : ClientView) (began : Option ℕ) (c : Client) (m : VlxRun (List Snap)) (cells : _) → IsSound v → v.layout.mode ≡ Records → Rests v c → IsUnbegun v began → m.asked ≡ 0 → 0 < length m.snaps → nodes_of m.snaps ≡ cells_of cells → ((i : ℕ) → i < length m.snaps → (moment : History) × (v.linked (snap_at m.snaps i).node.0 ≡ Some moment) × IsUnspent v.layout c.pass.0 v.past (snap_at m.snaps i) moment) → command_of v c ≡ Some (VlxCommand cells) → vlx_left m.snaps m.asked ≡ length (cells_of cells) → Starts v c (Vlx m) None
 vlx_starts v began c m cells sound mode r u start some nodes l is left = record {
-  works = record { mode = mode; stands = r.stands; holds = r.holds; newest = tt; command = VlxCommand cells; is = is; run_of = nodes; is_pass = r.stands.is_pass; start = v.past; since = ends_self v.past; begun = sym u.start; moments = λ i p. let x = l i p in record { moment = x.0; found = x.2.usable.found; source = x.1 }; alone = λ i p. let x = l i p in x.2.alone; room = tt; opening = held c; took = taken_none v c.pass.0 (no_hand (held c)) u.start; won = u.won; late = λ turn e. none_late v.won turn c.begin u.won e };
+  works = record { mode = mode; stands = r.stands; holds = r.holds; newest = tt; command = VlxCommand cells; is = is; run_of = nodes; limit = tt; is_pass = r.stands.is_pass; start = v.past; since = ends_self v.past; begun = sym u.start; moments = λ i p. let x = l i p in record { moment = x.0; found = x.2.usable.found; source = x.1 }; alone = λ i p. let x = l i p in x.2.alone; room = tt; opening = held c; took = taken_none v c.pass.0 (no_hand (held c)) u.start; won = u.won; late = λ turn e. none_late v.won turn c.begin u.won e };
   none = r.none;
   spent = tt;
   ready = vlx_ready_first v.layout c.pass.0 c.number r.stands.is_pass v.past m.snaps m.asked start some (λ i p. let x = l i p in (x.0, x.2.usable)) (all_over v.layout v.past c.pass.0 (held c) _ _ r.holds.share r.holds.over);
@@ -118,7 +118,7 @@ vlx_starts v began c m cells sound mode r u start some nodes l is left = record 
 -- a get from its start
 pub get_starts : (v : ClientView) (began : Option ℕ) (c : Client) (m : GetRun) (key : ℕ) → IsSound v → v.layout.mode ≡ Tree → (r : Rests v c) → IsUnbegun v began → m.key ≡ key → m.walk.at ≡ WalkStart → GetIsReady m (machine_call v c r.stands.is_pass v.past) v.past None → command_of v c ≡ Some (Map (GetCommand key)) → Starts v c (Get m) None
 get_starts v began c m key sound mode r u at start ready is = record {
-  works = record { mode = mode; stands = r.stands; holds = r.holds; newest = tt; command = Map (GetCommand key); is = is; run_of = at; is_pass = r.stands.is_pass; start = v.past; since = ends_self v.past; begun = sym u.start; moments = λ j p. absurd (omega arith); alone = λ j p. absurd (omega arith); room = tt; opening = held c; took = taken_none v c.pass.0 (no_hand (held c)) u.start; won = u.won; late = λ turn e. none_late v.won turn c.begin u.won e };
+  works = record { mode = mode; stands = r.stands; holds = r.holds; newest = tt; command = Map (GetCommand key); is = is; run_of = at; limit = tt; is_pass = r.stands.is_pass; start = v.past; since = ends_self v.past; begun = sym u.start; moments = λ j p. absurd (omega arith); alone = λ j p. absurd (omega arith); room = tt; opening = held c; took = taken_none v c.pass.0 (no_hand (held c)) u.start; won = u.won; late = λ turn e. none_late v.won turn c.begin u.won e };
   none = r.none;
   spent = tt;
   ready = ready;
@@ -126,26 +126,24 @@ get_starts v began c m key sound mode r u at start ready is = record {
   few = λ taken i. rw (u.steps, start) (omega arith);
 }
 
--- what an ordered read knows as its call begins
-read_begins : (v : ClientView) (c : Client) (snaps : List Snap) → IsSound v → v.layout.mode ≡ Tree → (r : Rests v c) → snaps ≡ [] → Reads (machine_call v c r.stands.is_pass v.past) v.past snaps
-read_begins v c snaps sound mode r none = rw none (record {
-  run = (mode, as_tree v.layout v.past mode sound);
-  since = ends_self v.past;
-  over = all_over v.layout v.past c.pass.0 (held c) _ _ r.holds.share r.holds.over;
-  quiet = quiet_at_start v.layout c.pass.0 v.past (all_idle v.layout v.past c.pass.0 (held c) _ _ sound.lawful r.holds.share r.holds.over);
-  snapped = λ i p. absurd (omega (p, arith));
-})
+-- an ordered read may begin its first try
+first_read : (tries limit all : ℕ) → tries ≡ all - 1 → limit ≡ all → 0 < all → limit ≡ suc tries
+first_read tries limit all a b some = omega (arith, a, b, some)
 
-pub successor_ready : (v : ClientView) (c : Client) (m : SuccessorRun) → IsSound v → v.layout.mode ≡ Tree → (r : Rests v c) → m.key < 2 ^ 64 → m.snaps.items ≡ [] → m.at ≡ NextStart → ReadIsReady (NextOf m) (machine_call v c r.stands.is_pass v.past) v.past None
-successor_ready v c m sound mode r small none start = (record { reads = read_begins v c m.snaps.items sound mode r none; small = small }, start)
+pub successor_ready : (v : ClientView) (c : Client) (m : SuccessorRun) → IsSound v → v.layout.mode ≡ Tree → 0 < v.tries → (r : Rests v c) → m.key < 2 ^ 64 → m.snaps.items ≡ [] → m.at ≡ NextStart → m.tries ≡ v.tries - 1 → m.limit ≡ v.tries → ReadIsReady (NextOf m) (machine_call v c r.stands.is_pass v.past) v.past None
+successor_ready v c m sound mode some r small none start left limit =
+    successor_ready_first m (machine_call v c r.stands.is_pass v.past) v.past (mode, as_tree v.layout v.past mode sound) refl small (all_over v.layout v.past c.pass.0 (held c) _ _ r.holds.share r.holds.over) start none (first_read m.tries m.limit v.tries left limit some)
 
-pub range_ready : (v : ClientView) (c : Client) (m : RangeRun) → IsSound v → v.layout.mode ≡ Tree → (r : Rests v c) → m.high < 2 ^ 64 → m.most ≤ 64 → m.snaps.items ≡ [] → m.at ≡ RangeStart → ¬ TakesNothing m.low m.high m.most → ReadIsReady (PairsOf m) (machine_call v c r.stands.is_pass v.past) v.past None
-range_ready v c m sound mode r small few none start takes = ((record { reads = read_begins v c m.snaps.items sound mode r none; small = small; few = few }, start), takes)
+pub range_ready : (v : ClientView) (c : Client) (m : RangeRun) → IsSound v → v.layout.mode ≡ Tree → 0 < v.tries → (r : Rests v c) → m.high < 2 ^ 64 → m.most ≤ 64 → m.snaps.items ≡ [] → m.at ≡ RangeStart → m.tries ≡ v.tries - 1 → m.limit ≡ v.tries → ¬ TakesNothing m.low m.high m.most → ReadIsReady (PairsOf m) (machine_call v c r.stands.is_pass v.past) v.past None
+range_ready v c m sound mode some r small few none start left limit takes = (
+  range_ready_first m (machine_call v c r.stands.is_pass v.past) v.past (mode, as_tree v.layout v.past mode sound) refl small few (all_over v.layout v.past c.pass.0 (held c) _ _ r.holds.share r.holds.over) start none (first_read m.tries m.limit v.tries left limit some),
+  takes,
+)
 
 -- an ordered read from its start
-pub read_starts : (v : ClientView) (began : Option ℕ) (c : Client) (m : ReadRun) (command : Command) → IsSound v → v.layout.mode ≡ Tree → (r : Rests v c) → IsUnbegun v began → IsReadBy m command → ReadIsReady m (machine_call v c r.stands.is_pass v.past) v.past None → HasReadTries m v.tries → ((taken : ℕ) → read_left m taken ≤ most_steps command v.tries taken) → command_of v c ≡ Some command → Starts v c (Read m) None
-read_starts v began c m command sound mode r u of ready tries left is = record {
-  works = record { mode = mode; stands = r.stands; holds = r.holds; newest = tt; command = command; is = is; run_of = (of, refl); is_pass = r.stands.is_pass; start = v.past; since = ends_self v.past; begun = sym u.start; moments = λ j p. absurd (omega arith); alone = λ j p. absurd (omega arith); room = tt; opening = held c; took = taken_none v c.pass.0 (no_hand (held c)) u.start; won = u.won; late = λ turn e. none_late v.won turn c.begin u.won e };
+pub read_starts : (v : ClientView) (began : Option ℕ) (c : Client) (m : ReadRun) (command : Command) → IsSound v → v.layout.mode ≡ Tree → (r : Rests v c) → IsUnbegun v began → IsReadBy m command → ReadIsReady m (machine_call v c r.stands.is_pass v.past) v.past None → HasReadTries m v.tries → read_limit m ≡ v.tries → ((taken : ℕ) → read_left m taken ≤ most_steps command v.tries taken) → command_of v c ≡ Some command → Starts v c (Read m) None
+read_starts v began c m command sound mode r u of ready tries limit left is = record {
+  works = record { mode = mode; stands = r.stands; holds = r.holds; newest = tt; command = command; is = is; run_of = (of, refl); limit = limit; is_pass = r.stands.is_pass; start = v.past; since = ends_self v.past; begun = sym u.start; moments = λ j p. absurd (omega arith); alone = λ j p. absurd (omega arith); room = tt; opening = held c; took = taken_none v c.pass.0 (no_hand (held c)) u.start; won = u.won; late = λ turn e. none_late v.won turn c.begin u.won e };
   none = r.none;
   spent = tt;
   ready = ready;
@@ -167,13 +165,17 @@ range_refuses v began c low high most found r u is nothing none = record {
 
 -- the machine of an edit at its start has taken nothing
 spent_start : (m : EditRun) (tries : ℕ) → 0 < tries → IsUnbegunEdit m tries → HasSpentOf (share_of m) tries m
-spent_start (Insert m) tries some u = subst (λ (at : UpdateAt). Spends 3 m.share m.share tries (node_tries m at) tries (scx_tries m at)) (sym u.0) (let left = u.1 in (omega (arith, left, some), omega (arith, left, some)))
-spent_start (Delete m) tries some u = subst (λ (at : UpdateAt). Spends 1 m.share m.share tries (node_tries m at) tries (scx_tries m at)) (sym u.0) (let left = u.1 in (omega (arith, left, some), omega (arith, left, some)))
+spent_start (Insert m) tries some u = subst (λ (at : UpdateAt). Spends 3 m.share m.share tries (node_tries m at) tries (scx_tries m at)) (sym u.0) (let left = u.1 in (omega (arith, left, some), omega (arith, left, some), omega (arith, left, some)))
+spent_start (Delete m) tries some u = subst (λ (at : UpdateAt). Spends 1 m.share m.share tries (node_tries m at) tries (scx_tries m at)) (sym u.0) (let left = u.1 in (omega (arith, left, some), omega (arith, left, some), omega (arith, left, some)))
+
+-- with all its tries it may begin the first
+first_try : (begun tries limit all : ℕ) → tries ≡ all - 1 → limit ≡ all → 0 < all → begun + suc tries ≡ begun + limit
+first_try begun tries limit all a b some = omega (arith, a, b, some)
 
 -- it may begin where the share is at rest
-ready_start : (m : EditRun) (call : MachineCall) (tries : ℕ) → IsTreeRun call.layout call.start → edit_key (edit_of m) < 2 ^ 64 → RestsWith call call.start (share_of m) → IsUnbegunEdit m tries → EditIsReady m call call.start None
-ready_start (Insert m) call tries run small rests u = (record { run = run; small = small; since = ends_self call.start; rests = rests }, record { since = ends_self call.start; none = none_yet call.layout call.pass call.start }, rests, u.0)
-ready_start (Delete m) call tries run small rests u = (record { run = run; small = small; since = ends_self call.start; rests = rests }, record { since = ends_self call.start; none = none_yet call.layout call.pass call.start }, rests, u.0)
+ready_start : (m : EditRun) (call : MachineCall) (tries : ℕ) → 0 < tries → limit_of m ≡ tries → IsTreeRun call.layout call.start → edit_key (edit_of m) < 2 ^ 64 → RestsWith call call.start (share_of m) → IsUnbegunEdit m tries → EditIsReady m call call.start None
+ready_start (Insert m) call tries some limit run small rests u = (record { run = run; small = small; since = ends_self call.start; rests = rests }, record { since = ends_self call.start; none = none_yet call.layout call.pass call.start; all = first_try (tries_begun call.pass call.start) m.tries m.limit tries u.1 limit some }, rests, u.0)
+ready_start (Delete m) call tries some limit run small rests u = (record { run = run; small = small; since = ends_self call.start; rests = rests }, record { since = ends_self call.start; none = none_yet call.layout call.pass call.start; all = first_try (tries_begun call.pass call.start) m.tries m.limit tries u.1 limit some }, rests, u.0)
 
 -- and makes no more steps than its command may
 edit_few : (e : MapEdit) (tries taken : ℕ) → edit_steps e tries taken ≡ most_steps (edit_command e) tries taken
@@ -181,9 +183,9 @@ edit_few (PutEdit key value) tries taken = refl
 edit_few (TakeEdit key) tries taken = refl
 
 -- an edit from its start, to which the client gives its share
-pub edit_starts : (v : ClientView) (began : Option ℕ) (c : Client) (m : EditRun) (share : Remaining) → IsSound v → v.layout.mode ≡ Tree → 0 < v.tries → (r : Rests v c) → IsUnbegun v began → c.share ≡ Some share → edit_key (edit_of m) < 2 ^ 64 → share_of m ≡ share → call_of m ≡ c.number → IsUnbegunEdit m v.tries
+pub edit_starts : (v : ClientView) (began : Option ℕ) (c : Client) (m : EditRun) (share : Remaining) → IsSound v → v.layout.mode ≡ Tree → 0 < v.tries → (r : Rests v c) → IsUnbegun v began → c.share ≡ Some share → edit_key (edit_of m) < 2 ^ 64 → share_of m ≡ share → call_of m ≡ c.number → limit_of m ≡ v.tries → IsUnbegunEdit m v.tries
     → ((nodes : ℕ) → edit_left m nodes ≡ edit_steps (edit_of m) v.tries nodes) → command_of v c ≡ Some (edit_command (edit_of m)) → Starts v (record c { share = None }) (Edit m) None
-edit_starts v began c m share sound mode some r u had small share_is call start left is = record {
+edit_starts v began c m share sound mode some r u had small share_is call limit start left is = record {
   works = record {
     mode = mode;
     stands = record { is_pass = r.stands.is_pass; tries = r.stands.tries; number = r.stands.number; place = r.stands.place; kept = r.stands.kept; unkept = r.stands.unkept; dropped = r.stands.dropped; free = r.stands.free };
@@ -192,6 +194,7 @@ edit_starts v began c m share sound mode some r u had small share_is call start 
     command = edit_command (edit_of m);
     is = is;
     run_of = (small, record { is = refl; called = call; alone = refl });
+    limit = limit;
     is_pass = r.stands.is_pass;
     start = v.past;
     since = ends_self v.past;
@@ -206,7 +209,7 @@ edit_starts v began c m share sound mode some r u had small share_is call start 
   };
   none = r.none;
   spent = spent_start m v.tries some start;
-  ready = ready_start m (machine_call v c r.stands.is_pass v.past) v.tries (mode, as_tree v.layout v.past mode sound) small rests start;
+  ready = ready_start m (machine_call v c r.stands.is_pass v.past) v.tries some limit (mode, as_tree v.layout v.past mode sound) small rests start;
   tries = start;
   few = λ taken i. rw u.steps (let e = left taken in let f = edit_few (edit_of m) v.tries taken in omega (arith, e, f));
 }

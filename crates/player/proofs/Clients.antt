@@ -23,8 +23,8 @@ use Rattle.record.specs.CommandRules.{most_steps}
 use Rattle.player.specs.RunKnown.{RunWaits, RunAnswers, IsSameMachine, run_mode, share_behind}
 use Rattle.player.specs.RunSteps.{run_left, then_left, left_of, HasSpentSome, HasSpentRest, HasSpent, HasSpentAll}
 use Rattle.player.specs.EditRuns.{HasSpentOf, HasSpentTries, HasSpentAllTries, edit_command}
-use Rattle.player.specs.ClientView.{ClientView, Hand, in_hand, snaps_of, IsStart, IsPutOf, IsScxOf, held, HoldsShare, Holds, TakesInHand, HasNewest, IsMachineOf, IsRoomy, IsWonBy, IsClientState, Works, Hears, Answered, machine_call, GoesOn, Told}
-use Rattle.player.proofs.ReadMachines.{same_read}
+use Rattle.player.specs.ClientView.{ClientView, Hand, in_hand, snaps_of, IsStart, IsPutOf, IsScxOf, held, HoldsShare, Holds, TakesInHand, HasNewest, IsMachineOf, IsRoomy, MayTryAll, IsWonBy, IsClientState, Works, Hears, Answered, machine_call, GoesOn, Told}
+use Rattle.player.proofs.ReadMachines.{same_limit, same_read}
 
 -- what does not change while a machine goes on
 record IsKept (left : Remaining) (old now : Run) : Type 0 where
@@ -35,6 +35,7 @@ record IsKept (left : Remaining) (old now : Run) : Type 0 where
   snaps : snaps_of now ≡ snaps_of old
   won : (v : ClientView) (c : ℕ) → IsWonBy v c old → IsWonBy v c now
   room : (v : ClientView) (c : ℕ) → IsRoomy v c old → IsRoomy v c now
+  limit : (tries : ℕ) → MayTryAll old tries → MayTryAll now tries
   mode : (lay : Layout) → lay.mode ≡ run_mode old → lay.mode ≡ run_mode now
   holds : (v : ClientView) (c : Client) → Holds v c old → Holds v c now
   took : (v : ClientView) (c : Client) (share : Remaining) → TakesInHand v c share old → TakesInHand v c share now
@@ -52,12 +53,12 @@ scx_same (VlxOf cells) number a b then x y = absurd y
 scx_same (Map request) number a b then x y = absurd y
 
 is_kept : (left : Remaining) (old now : Run) → IsSameMachine old now → IsKept left old now
-is_kept left (Llx a) (Llx b) x = record { hand = refl; newest = λ p. p; run_of = λ command number then p. rw x p; begun = λ start begin p. p; snaps = refl; won = λ v c p. p; room = λ v c p. p; mode = λ lay e. e; holds = λ v c p. p; took = λ v c share p. p }
-is_kept left (Scx a) (Scx b) x = record { hand = rw (x.0, x.1) refl; newest = λ p. rw (x.0, x.1) p; run_of = λ command number then p. scx_same command number a b then x p; begun = λ start begin p. p; snaps = rw x.1 refl; won = λ v c p. rw x.0 p; room = λ v c p. p; mode = λ lay e. e; holds = λ v c p. rw (x.0, x.1) p; took = λ v c share p. rw (x.0, x.1) p }
-is_kept left (Vlx a) (Vlx b) x = record { hand = refl; newest = λ p. p; run_of = λ command number then p. rw x p; begun = λ start begin p. p; snaps = rw x refl; won = λ v c p. p; room = λ v c p. p; mode = λ lay e. e; holds = λ v c p. p; took = λ v c share p. p }
-is_kept left (Get a) (Get b) x = record { hand = refl; newest = λ p. p; run_of = λ command number then p. rw x p; begun = λ start begin p. p; snaps = refl; won = λ v c p. p; room = λ v c p. p; mode = λ lay e. e; holds = λ v c p. p; took = λ v c share p. p }
-is_kept left (Read a) (Read b) x = record { hand = refl; newest = λ p. p; run_of = λ command number then p. (same_read a b command x p.0, p.1); begun = λ start begin p. p; snaps = refl; won = λ v c p. p; room = λ v c p. p; mode = λ lay e. e; holds = λ v c p. p; took = λ v c share p. p }
-is_kept left (Edit a) (Edit b) x = record { hand = refl; newest = λ p. p; run_of = λ command number then p. (rw x.0 p.0, record { is = p.1.is ∙ ap edit_command (sym x.0); called = x.1 ∙ p.1.called; alone = p.1.alone }); begun = λ start begin p. p; snaps = refl; won = λ v c p. p; room = λ v c p. p; mode = λ lay e. e; holds = λ v c p. p; took = λ v c share p. p }
+is_kept left (Llx a) (Llx b) x = record { hand = refl; newest = λ p. p; run_of = λ command number then p. rw x p; begun = λ start begin p. p; snaps = refl; won = λ v c p. p; room = λ v c p. p; limit = λ tries p. p; mode = λ lay e. e; holds = λ v c p. p; took = λ v c share p. p }
+is_kept left (Scx a) (Scx b) x = record { hand = rw (x.0, x.1) refl; newest = λ p. rw (x.0, x.1) p; run_of = λ command number then p. scx_same command number a b then x p; begun = λ start begin p. p; snaps = rw x.1 refl; won = λ v c p. rw x.0 p; room = λ v c p. rw x.0 p; limit = λ tries p. p; mode = λ lay e. e; holds = λ v c p. rw (x.0, x.1) p; took = λ v c share p. rw (x.0, x.1) p }
+is_kept left (Vlx a) (Vlx b) x = record { hand = refl; newest = λ p. p; run_of = λ command number then p. rw x p; begun = λ start begin p. p; snaps = rw x refl; won = λ v c p. p; room = λ v c p. p; limit = λ tries p. p; mode = λ lay e. e; holds = λ v c p. p; took = λ v c share p. p }
+is_kept left (Get a) (Get b) x = record { hand = refl; newest = λ p. p; run_of = λ command number then p. rw x p; begun = λ start begin p. p; snaps = refl; won = λ v c p. p; room = λ v c p. p; limit = λ tries p. p; mode = λ lay e. e; holds = λ v c p. p; took = λ v c share p. p }
+is_kept left (Read a) (Read b) x = record { hand = refl; newest = λ p. p; run_of = λ command number then p. (same_read a b command x p.0, p.1); begun = λ start begin p. p; snaps = refl; won = λ v c p. p; room = λ v c p. p; limit = λ tries p. same_limit a b x ∙ p; mode = λ lay e. e; holds = λ v c p. p; took = λ v c share p. p }
+is_kept left (Edit a) (Edit b) x = record { hand = refl; newest = λ p. p; run_of = λ command number then p. (rw x.0 p.0, record { is = p.1.is ∙ ap edit_command (sym x.0); called = x.1 ∙ p.1.called; alone = p.1.alone }); begun = λ start begin p. p; snaps = refl; won = λ v c p. p; room = λ v c p. p; limit = λ tries p. x.2 ∙ p; mode = λ lay e. e; holds = λ v c p. p; took = λ v c share p. p }
 is_kept left (Edit a) (Llx b) x = absurd x
 is_kept left (Edit a) (Scx b) x = absurd x
 is_kept left (Edit a) (Vlx b) x = absurd x
@@ -124,6 +125,7 @@ works_so v c running old now then same w =
       command = w.command;
       is = w.is;
       run_of = k.run_of w.command c.number then w.run_of;
+      limit = k.limit v.tries w.limit;
       is_pass = w.is_pass;
       start = w.start;
       since = w.since;
@@ -144,7 +146,7 @@ spent_more share tries old (Scx b) same x y = tt
 spent_more share tries old (Vlx b) same x y = tt
 spent_more share tries old (Get b) same x y = tt
 spent_more share tries old (Read b) same x y = tt
-spent_more share tries (Edit a) (Edit b) same x y = let z : HasSpentTries a b = x in let w : HasSpentOf share tries a = y in rw same.0 (omega (arith, z.0, w.0), omega (arith, z.1, w.1))
+spent_more share tries (Edit a) (Edit b) same x y = let z : HasSpentTries a b = x in let w : HasSpentOf share tries a = y in rw same.0 (omega (arith, z.0, w.0), omega (arith, z.1, w.1), omega (arith, z.2, w.2))
 spent_more share tries (Llx a) (Edit b) same x y = absurd same
 spent_more share tries (Scx a) (Edit b) same x y = absurd same
 spent_more share tries (Vlx a) (Edit b) same x y = absurd same
@@ -157,7 +159,7 @@ spent_rest share tries old (Scx b) same x y = tt
 spent_rest share tries old (Vlx b) same x y = tt
 spent_rest share tries old (Get b) same x y = tt
 spent_rest share tries old (Read b) same x y = tt
-spent_rest share tries (Edit a) (Edit b) same x y = let z : HasSpentAllTries a b = x in let w : HasSpentOf share tries a = y in rw same.0 (omega (arith, z.0, w.0), omega (arith, z.1, w.1))
+spent_rest share tries (Edit a) (Edit b) same x y = let z : HasSpentAllTries a b = x in let w : HasSpentOf share tries a = y in rw same.0 (omega (arith, z.0, w.0), omega (arith, z.1, w.1), omega (arith, z.2, w.2))
 spent_rest share tries (Llx a) (Edit b) same x y = absurd same
 spent_rest share tries (Scx a) (Edit b) same x y = absurd same
 spent_rest share tries (Vlx a) (Edit b) same x y = absurd same
@@ -198,6 +200,7 @@ back_so v c (Edit m) then w = record {
   command = w.command;
   is = w.is;
   run_of = w.run_of;
+  limit = w.limit;
   is_pass = w.is_pass;
   start = w.start;
   since = w.since;

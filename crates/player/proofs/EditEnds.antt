@@ -39,7 +39,7 @@ use Rattle.player.specs.declared.edit.EditRun.{EditRun}
 use Rattle.player.specs.declared.edit.EditRun.TheVariants.{Insert, Delete}
 use Rattle.player.specs.declared.run.Ended.TheVariants as ended
 use Rattle.player.specs.ClientView.{ClientView, IsSound, IsOwnWin, IsWonSince, HasEdited, Tells, machine_call}
-use Rattle.player.specs.EditRuns.{EditAnswers, edit_of, edit_command, share_of}
+use Rattle.player.specs.EditRuns.{EditAnswers, edit_of, edit_command, limit_of, share_of}
 use Rattle.player.specs.RunKnown.{answer_of}
 use Rattle.player.proofs.Left.{short_left}
 use Rattle.player.proofs.Shapes.{as_tree}
@@ -48,7 +48,7 @@ use Rattle.player.proofs.Shapes.{as_tree}
 -- says so
 pub record IsRightEnd (v : ClientView) (c : ℕ) (command : Command) (answer : Answer) : Type 0 where
   pub answers : MayAnswerAfterStep command answer
-  pub right : IsRight v.layout c v.past v.start v.linked command answer
+  pub right : IsRight v.layout v.tries c v.past v.start v.linked command answer
   pub entry : HasItsEntry (enters command answer) v.won
   pub tells : Tells v c command answer
 
@@ -97,7 +97,7 @@ module _ (v : ClientView) (c : Client) (is_pass : c.pass.0 < v.layout.passes) (m
       let win : IsOwnWin v c.pass.0 x.row x.before x.scx = record { within = x.within; since = x.since; wins = x.wins; own = x.own } in
       (won.yes x.row x.before x.scx win, record { row = x.row; before = x.before; scx = x.scx; win = win; told = x.told })
 
-  -- one whose tries are all lost was lost to another client's SCX-record
+  -- a try that is lost was lost to another client's SCX-record
   met : (n s : ℕ) → IsContended call v.past n s → WasBlockedBy v.layout c.pass.0 v.past v.start n s
   met n s x = (x.others, x.in_the_way)
 
@@ -113,10 +113,10 @@ module _ (v : ClientView) (c : Client) (is_pass : c.pass.0 < v.layout.passes) (m
   put m found (inl x) = absurd (something found.value x.needless)
   put m found (inr x) = let y = made (PutEdit m.edit.key m.edit.value) m.call found.value x.0 in record { answers = tt; right = tt; entry = entered_some v.won y.0.0 y.0.1; tells = y.1 }
 
-  insert_ends : (m : UpdateRun Inserted UpdateAt) (a : Updated) → m.edit.key < 2 ^ 64 → UpdateAnswers insert_means m call v.past a → IsRightEnd v c.pass.0 (edit_command (PutEdit m.edit.key m.edit.value)) (answer_of (ended.Edit a))
-  insert_ends m (Done key value) small (rests, x) = subst (λ o. IsRightEnd v c.pass.0 (edit_command (PutEdit m.edit.key m.edit.value)) (MapAnswer (Value o))) x.is_value (put m x.found x.is_done)
-  insert_ends m (Contended node scx) small (rests, x) = record { answers = tt; right = met node.0 scx.0 x.0; entry = entered_none v.won (unwon x.2); tells = tt }
-  insert_ends m (Full full) small (rests, x) = record {
+  insert_ends : (m : UpdateRun Inserted UpdateAt) (a : Updated) → m.edit.key < 2 ^ 64 → m.limit ≡ v.tries → UpdateAnswers insert_means m call v.past a → IsRightEnd v c.pass.0 (edit_command (PutEdit m.edit.key m.edit.value)) (answer_of (ended.Edit a))
+  insert_ends m (Done key value) small limit (rests, x) = subst (λ o. IsRightEnd v c.pass.0 (edit_command (PutEdit m.edit.key m.edit.value)) (MapAnswer (Value o))) x.is_value (put m x.found x.is_done)
+  insert_ends m (Contended node scx) small limit (rests, x) = record { answers = tt; right = (x.0.others, rw (sym limit) x.3); entry = entered_none v.won (unwon x.2); tells = tt }
+  insert_ends m (Full full) small limit (rests, x) = record {
     answers = tt;
     right = (x.found.value, had_at_key m.edit.key x.found small x.has_found, subst (λ n. HasTooFewToTry v.layout c.pass.0 v.past v.start n full.what full.left) (insert_many x.found.value) (too_few m.share (insert_need x.found.value) full.what full.left rests x.first x.short));
     entry = entered_none v.won (unwon x.none);
@@ -133,10 +133,10 @@ module _ (v : ClientView) (c : Client) (is_pass : c.pass.0 < v.layout.passes) (m
       go None e (inr x) = absurd (x.1.needed (subst (λ o. delete_need o ≡ Nothing) (sym e) refl))
       go (Some old) e (inr x) = let y = made (TakeEdit m.edit.key) m.call (Some old) (subst (HasMade (TakeEdit m.edit.key) call v.past m.call) e x.0) in record { answers = tt; right = tt; entry = entered_some v.won y.0.0 y.0.1; tells = y.1 }
 
-  delete_ends : (m : UpdateRun Deleted UpdateAt) (a : Updated) → m.edit.key < 2 ^ 64 → UpdateAnswers delete_means m call v.past a → IsRightEnd v c.pass.0 (edit_command (TakeEdit m.edit.key)) (answer_of (ended.Edit a))
-  delete_ends m (Done key value) small (rests, x) = taken m x.found value x.is_value small x.is_done
-  delete_ends m (Contended node scx) small (rests, x) = record { answers = tt; right = met node.0 scx.0 x.0; entry = entered_none v.won (unwon x.2); tells = tt }
-  delete_ends m (Full full) small (rests, x) =
+  delete_ends : (m : UpdateRun Deleted UpdateAt) (a : Updated) → m.edit.key < 2 ^ 64 → m.limit ≡ v.tries → UpdateAnswers delete_means m call v.past a → IsRightEnd v c.pass.0 (edit_command (TakeEdit m.edit.key)) (answer_of (ended.Edit a))
+  delete_ends m (Done key value) small limit (rests, x) = taken m x.found value x.is_value small x.is_done
+  delete_ends m (Contended node scx) small limit (rests, x) = record { answers = tt; right = (x.0.others, rw (sym limit) x.3); entry = entered_none v.won (unwon x.2); tells = tt }
+  delete_ends m (Full full) small limit (rests, x) =
       let old = there x.found.value x.needed in
       record {
         answers = tt;
@@ -145,9 +145,9 @@ module _ (v : ClientView) (c : Client) (is_pass : c.pass.0 < v.layout.passes) (m
         tells = tt;
       }
 
-  pub edit_ends : (m : EditRun) (a : Updated) → edit_key (edit_of m) < 2 ^ 64 → EditAnswers m call v.past a → IsRightEnd v c.pass.0 (edit_command (edit_of m)) (answer_of (ended.Edit a))
-  edit_ends (Insert m) a small x = insert_ends m a small x
-  edit_ends (Delete m) a small x = delete_ends m a small x
+  pub edit_ends : (m : EditRun) (a : Updated) → edit_key (edit_of m) < 2 ^ 64 → limit_of m ≡ v.tries → EditAnswers m call v.past a → IsRightEnd v c.pass.0 (edit_command (edit_of m)) (answer_of (ended.Edit a))
+  edit_ends (Insert m) a small limit x = insert_ends m a small limit x
+  edit_ends (Delete m) a small limit x = delete_ends m a small limit x
 
   -- behind it the share is at rest
   pub edit_rests : (m : EditRun) (a : Updated) → EditAnswers m call v.past a → RestsWith call v.past (share_of m)

@@ -196,7 +196,7 @@ pub record IsEditReply (lay : Layout) (tries : ℕ) (calls : List Call) (lines :
   pub next : next_command calls lines c ≡ Some command
   pub began : begin lines c ≡ Some r.begin
   pub ended : r.end ≡ turns lines
-  pub right : IsRight lay c (history lay.mode lines) (start lay.mode lines c) (linked calls lay.mode lines c) command r.answer
+  pub right : IsRight lay tries c (history lay.mode lines) (start lay.mode lines c) (linked calls lay.mode lines c) command r.answer
   pub tells : Tells (client_view lay tries calls lines c) c command r.answer
   pub entry : HasItsEntry (enters command r.answer) (won lay lines c)
   pub moment : IsMomentBy calls lines changes command r.answer r.begin r.end (won lay lines c) r.moment

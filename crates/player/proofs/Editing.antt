@@ -32,11 +32,11 @@ use Rattle.tree.specs.Delete.Means.{delete_means}
 use Rattle.tree.specs.Insert.Means.{insert_means}
 use Rattle.tree.proofs.Lemmas.{get_fills_not}
 use Rattle.updates.specs.Edits.{EditMeaning}
-use Rattle.updates.specs.Known.{UpdateWaitsAt}
+use Rattle.updates.specs.Known.{Tries, UpdateWaitsAt}
 use Rattle.updates.specs.Laws.Entered.{only_joined}
 use Rattle.updates.specs.Laws.HandScx.{from}
 use Rattle.updates.specs.Laws.Kept.{idle_rests}
-use Rattle.updates.specs.Tries.{HasEnteredOnly, IsTry}
+use Rattle.updates.specs.Tries.{HasEnteredOnly}
 use Rattle.updates.specs.declared.update.UpdateAt.{UpdateAt}
 use Rattle.updates.specs.declared.update.UpdateAt.TheVariants.{Start, Walk, Look, Load, Fill, Scx}
 use Rattle.updates.specs.declared.update.UpdateRun.{UpdateRun}
@@ -100,7 +100,7 @@ module _ {E : Type 0} (means : EditMeaning E) (m : UpdateRun E UpdateAt) where
     makes_it j e (Tracks.begun x) = rw e at x
     makes_it j e (Tracks.over x) = absurd (let z = p.unfinished in let y = rw e at x in omega (arith, z, y))
 
-    hand_at : (b : History) (s : Step) (at : UpdateAt) → IsTry call b → UpdateWaitsAt means m (from call b) h s at → IsHandOf m.call edit call h t
+    hand_at : (b : History) (s : Step) (at : UpdateAt) → Tries means m call b h at → UpdateWaitsAt means m (from call b) h s at → IsHandOf m.call edit call h t
     hand_at b s Start try w = absurd w
     hand_at b s (Walk walk) try w = absurd (idle_rests (from call b) h m.share l w.0.rests t own p)
     hand_at b s (Look f llx) try w = absurd (idle_rests (from call b) h m.share l w.1.rests t own p)

@@ -1,5 +1,5 @@
 -- How calls end: what their answers say, and what is left to the client.
-use Rattle.std.proofs.Common.{◌≡◌, ◌≢◌, ℕ, zero, suc, ◌*◌, ◌<◌, ◌≤◌, ◌⊎◌, inl, inr, ⊎_elim, Bool, true, false, cond, ◌||◌, eqb, List, [], ◌∷◌, length, get_or, slice_get, Option, Some, None, IsSome, refl, sym, ◌∙◌, ap, subst, arith}
+use Rattle.std.proofs.Common.{◌≡◌, ◌≢◌, ℕ, zero, suc, ◌<◌, ◌≤◌, ◌⊎◌, inl, inr, ⊎_elim, Bool, true, false, cond, ◌||◌, eqb, List, [], ◌∷◌, length, get_or, slice_get, Option, Some, None, IsSome, refl, sym, ◌∙◌, ap, subst, arith}
 use Rattle.std.proofs.Math.ListN.{set}
 use Rattle.std.specs.List.{Contains}
 use Rattle.tree.specs.declared.get.GetRun.{GetRun}
@@ -10,6 +10,7 @@ use Rattle.arena.specs.declared.number.ScxNo.{ScxNo}
 use Rattle.arena.specs.Words.{state}
 use Rattle.arena.specs.declared.step.Kind.{Kind}
 use Rattle.arena.specs.declared.step.Kind.TheVariants.{Freeze, LoadInfo}
+use Rattle.arena.specs.Fills.{IsTakenScx}
 use Rattle.arena.specs.History.{History, value, Extends}
 use Rattle.arena.proofs.Lemmas.{found_wider, ends_self}
 use Rattle.arena.specs.Blame.{WasInTheWay, HasFailed}
@@ -127,7 +128,7 @@ drop_one snaps node old e = record { gone = λ n x. single n ∙ x_gone n x; oth
 -- what an SCX answers
 record IsOutcome (v : ClientView) (c : ℕ) (snaps : List Snap) (command : Command) (answer : Answer) : Type 0 where
   answers : MayAnswerAfterStep command answer
-  right : IsRight v.layout c v.past v.start v.linked command answer
+  right : IsRight v.layout v.tries c v.past v.start v.linked command answer
   entry : HasItsEntry (enters command answer) v.won
   tells : Tells v c command answer
   took : HasTakenFew v.layout v.tries c v.past v.start command
@@ -237,16 +238,20 @@ stands_scx v c m linked drops y = record {
         go true q = drops.gone n (snap_there m.scx.update.snaps n q)
         go false q = drops.others n (λ w. let t : has_snap m.scx.update.snaps n ≡ true = snap_found m.scx.update.snaps n w.at w.within w.is in cc) ∙ z
 
--- and has taken what it had in hand
+-- its SCX-record is taken, and finished
+scx_finished : (v : ClientView) (c : Client) (m : PutRun) (then : Option Put) (a : ScxAnswer) → Answered v c (Scx m) then (ended.Scx a) → value v.past (state m.scx.scx.0) ≢ 0
+scx_finished v c m then a x = put_finished m (machine_call v c x.works.is_pass x.works.start) v.past a x.answers
+
+scx_taken : (v : ClientView) (c : Client) (m : PutRun) (then : Option Put) (a : ScxAnswer) → IsSound v → Answered v c (Scx m) then (ended.Scx a) → IsTakenScx v.past m.scx.scx.0
+scx_taken v c m then a sound x = finished_taken v.layout v.past m.scx.scx.0 sound.lawful x.works.newest.2 (scx_finished v c m then a x)
+
+-- and the client has taken what it had in hand
 holds_scx : (v : ClientView) (c : Client) (m : PutRun) (then : Option Put) (a : ScxAnswer) (linked : ℕ → Option History) → IsSound v → Answered v c (Scx m) then (ended.Scx a) → HoldsShare (record v { linked = linked }) c (no_hand (held c))
 holds_scx v c m then a linked sound x = record {
   some = x.works.holds.some;
-  share = share_ends v.layout v.past c.pass.0 (held c) m.scx.update.fresh.0 m.scx.scx.0 x.works.newest.0 x.works.newest.1 x.answers.0.taken (finished_taken v.layout v.past m.scx.scx.0 sound.lawful x.works.newest.2 finished) x.works.holds.share;
-  over = over_begins v.layout c.pass.0 (held c).next_scx v.past (over_ends v.layout c.pass.0 m.scx.scx.0 v.past x.works.holds.over finished);
+  share = share_ends v.layout v.past c.pass.0 (held c) m.scx.update.fresh.0 m.scx.scx.0 x.works.newest.0 x.works.newest.1 x.answers.0.taken (scx_taken v c m then a sound x) x.works.holds.share;
+  over = over_begins v.layout c.pass.0 (held c).next_scx v.past (over_ends v.layout c.pass.0 m.scx.scx.0 v.past x.works.holds.over (scx_finished v c m then a x));
 }
-  where
-    finished : value v.past (state m.scx.scx.0) ≢ 0
-    finished = put_finished m (machine_call v c x.works.is_pass x.works.start) v.past a x.answers
 
 -- the call of an SCX ends with its answer
 ends_scx : (v : ClientView) (c : Client) (run : Run) (then : Option Put) (a : ScxAnswer) → IsSound v → Answered v c run then (ended.Scx a) → Ends v c c (answer_of (ended.Scx a))
@@ -274,7 +279,7 @@ ends_scx v c (Scx m) then a sound x =
     lost (ScxLost node scx) y d = x.works.won.no (aborted_never_won v.layout v.past m.scx.scx.0 sound.lawful (put_aborted m (machine_call v c x.works.is_pass x.works.start) v.past node scx y))
 
     o : IsOutcome v c.pass.0 m.scx.update.snaps x.works.command (answer_of (ended.Scx a))
-    o = scx_outcome v c x.works.command m then a x.works.start x.works.begun x.works.is_pass x.works.run_of x.works.moments x.works.alone x.works.room (done a x.answers) (lost a x.answers) (taken_one v c.pass.0 _ x.works.took) x.answers
+    o = scx_outcome v c x.works.command m then a x.works.start x.works.begun x.works.is_pass x.works.run_of x.works.moments x.works.alone x.works.room.0 (done a x.answers) (lost a x.answers) (taken_one v c.pass.0 _ x.works.won.own x.works.room.1 (scx_taken v c m then a sound x) x.works.took) x.answers
 ends_scx v c (Llx m) then a sound x = absurd x.answers
 ends_scx v c (Vlx m) then a sound x = absurd x.answers
 ends_scx v c (Edit m) then a sound x = absurd x.answers
@@ -444,7 +449,7 @@ read_outcome v c (Map (GetOf key)) a x is won took = absurd is
 ends_read : (v : ClientView) (c : Client) (run : Run) (then : Option Put) (a : Reply ℕ ℕ) → IsSound v → Answered v c run then (ended.Read a) → Ends v c c (answer_of (ended.Read a))
 ends_read v c (Read m) then a sound x =
     let answers = subst (λ (k : History). ReadAnswers m (machine_call v c x.works.is_pass k) v.past a) x.works.begun x.answers in
-    let end = read_ends v c x.works.is_pass m x.works.command a x.works.run_of.0 answers in
+    let end = read_ends v c x.works.is_pass m x.works.command a x.works.run_of.0 x.works.limit answers in
     let o = read_outcome v c x.works.command (MapAnswer a) end (read_is_ordered m x.works.command x.works.run_of.0) x.works.won (taken_nothing v c.pass.0 (held c) 0 0 x.works.holds.share x.works.took) in
     ends_as v c x.works.command (MapAnswer a) x.works.is x.works.stands x.works.holds x.none o x.works.late
 ends_read v c (Llx m) then a sound x = absurd x.answers
@@ -456,9 +461,9 @@ ends_read v c (Get m) then a sound x = absurd x.answers
 -- The end of an edit
 
 -- it leaves the snapshots, and has taken what its tries may
-edit_outcome : (v : ClientView) (c : Client) (e : MapEdit) (answer : Answer) → IsRightEnd v c.pass.0 (edit_command e) answer → HasTakenAtMost v.layout c.pass.0 v.past v.start (v.tries * most_nodes e) v.tries → IsOutcome v c.pass.0 [] (edit_command e) answer
+edit_outcome : (v : ClientView) (c : Client) (e : MapEdit) (answer : Answer) → IsRightEnd v c.pass.0 (edit_command e) answer → HasTakenAtMost v.layout c.pass.0 v.past v.start v.tries (most_nodes e) → IsOutcome v c.pass.0 [] (edit_command e) answer
 edit_outcome v c (PutEdit key value) answer x took = record { answers = x.answers; right = x.right; entry = x.entry; tells = x.tells; took = took; drops = record { gone = λ n z. absurd (among_none n z); others = λ n z. refl } }
-edit_outcome v c (TakeEdit key) answer x took = record { answers = x.answers; right = x.right; entry = x.entry; tells = x.tells; took = let one : v.tries * 1 ≡ v.tries = omega arith in subst (λ n. HasTakenAtMost v.layout c.pass.0 v.past v.start n v.tries) one took; drops = record { gone = λ n z. absurd (among_none n z); others = λ n z. refl } }
+edit_outcome v c (TakeEdit key) answer x took = record { answers = x.answers; right = x.right; entry = x.entry; tells = x.tells; took = took; drops = record { gone = λ n z. absurd (among_none n z); others = λ n z. refl } }
 
 -- the share is the client's again
 holds_back : (v : ClientView) (c : Client) (m : EditRun) (is_pass : c.pass.0 < v.layout.passes) → c.share ≡ Some (share_of m) → RestsWith (machine_call v c is_pass v.start) v.past (share_of m) → HoldsShare v c (no_hand (held c))
@@ -473,8 +478,8 @@ ends_edit v c (Edit m) then a sound x =
     let works = x.works in
     let answers : EditAnswers m (machine_call v c works.is_pass v.start) v.past a = subst (λ (k : History). EditAnswers m (machine_call v c works.is_pass k) v.past a) works.begun x.answers in
     let rests = edit_rests v c works.is_pass works.mode sound works.won m a answers in
-    let right = edit_ends v c works.is_pass works.mode sound works.won m a works.run_of.0 answers in
-    let took = taken_tries v.layout c.pass.0 v.tries (most_nodes (edit_of m)) v.past v.start works.opening (share_of m) works.took rests.share x.spent in
+    let right = edit_ends v c works.is_pass works.mode sound works.won m a works.run_of.0 works.limit answers in
+    let took = taken_tries v.layout c.pass.0 v.tries (most_nodes (edit_of m)) v.past v.start works.opening (share_of m) (subst (λ (k : History). Extends v.past k) works.begun works.since) works.took rests.share x.spent in
     ends_as v c works.command (answer_of (ended.Edit a)) works.is works.stands (holds_back v c m works.is_pass x.back rests) x.none
     (subst (λ (k : Command). IsOutcome v c.pass.0 [] k (answer_of (ended.Edit a))) (sym works.run_of.1.is) (edit_outcome v c (edit_of m) (answer_of (ended.Edit a)) right took))
     works.late
@@ -554,14 +559,14 @@ failed_since v c m then node scx x = (x.answers.0, subst (λ (k : History). HasF
 -- what an LLX answers that ends a call
 record IsLlxOutcome (v : ClientView) (c : ℕ) (command : Command) (a : LlxAnswer) : Type 0 where
   answers : MayAnswerAfterStep command (answer_of (ended.Llx a))
-  right : IsRight v.layout c v.past v.start v.linked command (answer_of (ended.Llx a))
+  right : IsRight v.layout v.tries c v.past v.start v.linked command (answer_of (ended.Llx a))
   entry : enters command (answer_of (ended.Llx a)) ≡ false
   tells : Tells v c command (answer_of (ended.Llx a))
   took : HasTakenFew v.layout v.tries c v.past v.start command
   said : (n : ℕ) → linked_by v command (answer_of (ended.Llx a)) n ≡ cond (eqb (node_of a) n) (moment_then a v.past) (v.linked n)
 
 -- it ends an `llx`, and a `set` where it is no snapshot
-llx_outcome : (v : ClientView) (c : Client) (command : Command) (m : LlxRun) (then : Option Put) (a : LlxAnswer) → ((then ≡ None) ⊎ ((snap : Snap) → a ≢ LlxSnapshot snap)) → IsLlxOf command m.node.0 then → ((nodes scx : ℕ) → HasTakenAtMost v.layout c.pass.0 v.past v.start nodes scx) → Answered v c (Llx m) then (ended.Llx a) → IsLlxOutcome v c.pass.0 command a
+llx_outcome : (v : ClientView) (c : Client) (command : Command) (m : LlxRun) (then : Option Put) (a : LlxAnswer) → ((then ≡ None) ⊎ ((snap : Snap) → a ≢ LlxSnapshot snap)) → IsLlxOf command m.node.0 then → ((scx nodes : ℕ) → HasTakenAtMost v.layout c.pass.0 v.past v.start scx nodes) → Answered v c (Llx m) then (ended.Llx a) → IsLlxOutcome v c.pass.0 command a
 llx_outcome v c (LlxOf cell) m None (LlxSnapshot snap) d x took y = record {
   answers = tt;
   entry = refl;
@@ -585,7 +590,7 @@ llx_outcome v c (Map request) m then a d x took y = absurd x
 -- its call ends, where no SCX follows
 pub ends_llx : (v : ClientView) (old : Client) (kept : Kept) (m : LlxRun) (then : Option Put) (a : LlxAnswer) → IsSound v → Answered v old (Llx m) then (ended.Llx a) → kept.found ≡ set old.kept.found (node_of a) (found_of a) → ((then ≡ None) ⊎ ((snap : Snap) → a ≢ LlxSnapshot snap)) → Ends v old (record old { kept = kept }) (answer_of (ended.Llx a))
 ends_llx v old kept m then a sound x e d =
-    let o = llx_outcome v old x.works.command m then a d x.works.run_of.1 (λ nodes scx. taken_nothing v old.pass.0 (held old) nodes scx x.works.holds.share x.works.took) x in
+    let o = llx_outcome v old x.works.command m then a d x.works.run_of.1 (λ scx nodes. taken_nothing v old.pass.0 (held old) scx nodes x.works.holds.share x.works.took) x in
     record {
       same = record { pass = refl; number = refl; next = refl };
       begin = refl;

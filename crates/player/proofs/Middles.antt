@@ -221,7 +221,7 @@ pub record IsOver (lay : Layout) (tries : ℕ) (calls : List Call) (lines : List
   pub last : last_client lines ≡ Some i
   pub owed : entry_owed lay lines ≡ None
   pub fits : IsFitting lines command answer
-  pub right : IsRight lay i (history lay.mode lines) (start lay.mode lines i) (linked calls lay.mode lines i) command answer
+  pub right : IsRight lay tries i (history lay.mode lines) (start lay.mode lines i) (linked calls lay.mode lines i) command answer
   pub entry : HasItsEntry (enters command answer) (won lay lines i)
   pub done : answer ≡ Done → enters command answer ≡ true
   pub tells : Tells (client_view lay tries calls lines i) i command answer
@@ -323,7 +323,7 @@ replied lay tries calls words clients lines changes old new answer said reply co
       command = command;
       is = ap (λ (k : ℕ). next_command calls lines k) client ∙ o.is;
       fits = rw e.answers o.fits;
-      right = subst (λ (k : ℕ). IsRight lay k (history lay.mode lines) (start lay.mode lines k) (linked calls lay.mode lines k) command reply.answer) (sym client) (rw e.answers o.right);
+      right = subst (λ (k : ℕ). IsRight lay tries k (history lay.mode lines) (start lay.mode lines k) (linked calls lay.mode lines k) command reply.answer) (sym client) (rw e.answers o.right);
       took = subst (λ (k : ℕ). HasTakenFew lay tries k (history lay.mode lines) (start lay.mode lines k) command) (sym client) o.took;
       placed = placed lay tries calls words lines changes reply old.pass.0 command x.so_far entries o.owed client (e.call ∙ o.number) (rw e.answers o.right) (rw e.answers o.tells) (rw e.answers o.entry) o.is (o.began ∙ ap (λ (k : ℕ). Some k) (sym e.begin)) (e.end ∙ n) moment;
       within = within;

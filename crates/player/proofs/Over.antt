@@ -1,21 +1,21 @@
 -- What a client has taken stays finished, but for the SCX-record that it has in hand.
-use Rattle.std.proofs.Common.{◌≡◌, ◌≢◌, ℕ, ◌*◌, ◌<◌, ◌≤◌, ◌⊎◌, inl, inr, ⊎_elim, subst, arith}
+use Rattle.std.proofs.Common.{◌≡◌, ◌≢◌, ℕ, ◌+◌, ◌-◌, ◌*◌, ◌<◌, ◌≤◌, ◌⊎◌, inl, inr, ⊎_elim, sym, subst, arith}
 use native.Mathlib.Decide.{ℕ_discrete}
 use Rattle.tree.proofs.Lemmas.{get_fills_not}
 use Rattle.arena.specs.declared.layout.Layout.{Layout}
 use Rattle.arena.specs.declared.step.Step.{Step as Ask}
 use Rattle.arena.specs.Share.{Remaining}
-use Rattle.arena.specs.History.{History, ◌⊳◌}
-use Rattle.arena.specs.Fills.{IsTakenNode, IsTakenScx}
+use Rattle.arena.specs.History.{History, ◌⊳◌, Extends}
+use Rattle.arena.specs.Fills.{IsOwnScx, IsTakenNode, IsTakenScx}
 use Rattle.arena.specs.Machines.{Call, row_of}
 use Rattle.prims.specs.Cells.{AllowsAll}
-use Rattle.prims.specs.Laws.Begun.{TakesOnly, takes_by_step}
+use Rattle.prims.specs.Laws.Begun.{TakesOnly, takes_by_step, taken_since}
 use Rattle.prims.proofs.Lemmas.{put_takes, llx_fills_not, vlx_fills_not, untaken_node_by_step, put_untaken_node}
 use Rattle.player.specs.declared.run.Run.{Run}
 use Rattle.player.specs.declared.run.Run.TheVariants.{Llx, Scx, Vlx, Edit, Get, Read}
 use Rattle.prims.specs.Shares.{IsShare}
 use Rattle.updates.specs.Steps.{Spends}
-use Rattle.record.specs.Shares.{HasTakenAtMost}
+use Rattle.record.specs.Shares.{HasTakenAtMost, IsScxTakenSince}
 use Rattle.player.specs.RunKnown.{RunWaits}
 use Rattle.player.specs.ClientView.{ClientView, Hand, HasTaken, no_hand, in_hand}
 use Rattle.player.proofs.ReadMachines.{read_fills_not}
@@ -52,41 +52,76 @@ either a b = go (ℕ_discrete a b)
     go (yes e) = inl e
     go (no d) = inr d
 
--- what a client has in hand is all that it has taken in its call
-pub taken_one : (v : ClientView) (c : ℕ) (hand : Hand) → HasTaken v c hand → HasTakenAtMost v.layout c v.past v.start 1 1
-taken_one v c hand x = record {
-  lowest_node = hand.node;
-  nodes = λ n own free taken. ⊎_elim (λ e. (omega (arith, e), omega (arith, e))) (λ d. absurd (x.nodes n own d free taken)) (either n hand.node);
+-- an SCX in hand whose SCX-record is taken in the call is all that the client has taken in it
+pub taken_one : (v : ClientView) (c : ℕ) (hand : Hand) → IsOwnScx v.layout c hand.scx → ¬ IsTakenScx v.start hand.scx → IsTakenScx v.past hand.scx → HasTaken v c hand → HasTakenAtMost v.layout c v.past v.start 1 1
+taken_one v c hand own free taken x = record {
+  many = 1;
+  few = omega arith;
   lowest_scx = hand.scx;
-  scx_records = λ s own free taken. ⊎_elim (λ e. (omega (arith, e), omega (arith, e))) (λ d. absurd (x.scx_records s own d free taken)) (either s hand.scx);
+  scx_records = λ s. (
+    λ y. ⊎_elim (λ e. (omega (arith, e), omega (arith, e))) (λ d. absurd (x.scx_records s y.own d y.not_then y.taken)) (either s hand.scx),
+    λ i. let e : s ≡ hand.scx = omega (arith, i.0, i.1) in rw e record { own = own; not_then = free; taken = taken },
+  );
+  lowest_node = hand.node;
+  nodes = λ n y. ⊎_elim (λ e. (omega (arith, e), omega (arith, e))) (λ d. absurd (x.nodes n y.own d y.not_then y.taken)) (either n hand.node);
 }
 
 -- a client without an SCX has taken nothing
-pub taken_nothing : (v : ClientView) (c : ℕ) (left : Remaining) (nodes scx : ℕ) → IsShare v.layout v.past c left left.next_node left.next_scx → HasTaken v c (no_hand left) → HasTakenAtMost v.layout c v.past v.start nodes scx
-taken_nothing v c left nodes scx share x = record {
-  lowest_node = 0;
-  nodes = λ n own free taken. ⊎_elim (λ e. absurd (share.untaken_nodes n record { from = omega (arith, e); below = let a = own.below in let b = share.to_node in omega (arith, a, b) } taken)) (λ d. absurd (x.nodes n own d free taken)) (either n left.next_node);
+pub taken_nothing : (v : ClientView) (c : ℕ) (left : Remaining) (most_scx nodes_each : ℕ) → IsShare v.layout v.past c left left.next_node left.next_scx → HasTaken v c (no_hand left) → HasTakenAtMost v.layout c v.past v.start most_scx nodes_each
+taken_nothing v c left most_scx nodes_each share x = record {
+  many = 0;
+  few = omega arith;
   lowest_scx = 0;
-  scx_records = λ s own free taken. ⊎_elim (λ e. absurd (share.untaken s record { from = omega (arith, e); below = let a = own.below in let b = share.to_scx in omega (arith, a, b) } taken)) (λ d. absurd (x.scx_records s own d free taken)) (either s left.next_scx);
+  scx_records = λ s. (
+    λ y. ⊎_elim (λ e. absurd (share.untaken s record { from = omega (arith, e); below = let a = y.own.below in let b = share.to_scx in omega (arith, a, b) } y.taken)) (λ d. absurd (x.scx_records s y.own d y.not_then y.taken)) (either s left.next_scx),
+    λ i. absurd (omega (arith, i.1)),
+  );
+  lowest_node = 0;
+  nodes = λ n y. ⊎_elim (λ e. absurd (share.untaken_nodes n record { from = omega (arith, e); below = let a = y.own.below in let b = share.to_node in omega (arith, a, b) } y.taken)) (λ d. absurd (x.nodes n y.own d y.not_then y.taken)) (either n left.next_node);
 }
 
+-- of two numbers one is below the other, or not
+ordered : (a b : ℕ) → (a ≤ b) ⊎ (b < a)
+ordered a b = grind arith
+
+-- what is left of a share does not grow
+scx_left_less : (lay : Layout) (c : ℕ) (now start : History) (old left : Remaining) → Extends now start → IsShare lay start c old old.next_node old.next_scx → IsShare lay now c left left.next_node left.next_scx → old.next_scx ≤ left.next_scx
+scx_left_less lay c now start old left since began share = ⊎_elim (λ i. i) (λ i. absurd (share.untaken left.next_scx record { from = omega arith; below = let a = began.to_scx in let b = share.to_scx in omega (arith, i, a, b) } (taken_since now start left.next_scx since (began.taken_scx left.next_scx record { from = share.from_scx; below = let a = began.to_scx in omega (arith, i, a) } i)))) (ordered old.next_scx left.next_scx)
+
+-- so many nodes for each SCX-record
+nodes_for_each : (most tries old_nodes nodes old_scx scx many : ℕ) → scx + many ≡ old_scx → old_nodes + most * (scx + tries + 0) ≤ nodes + most * (old_scx + tries + 0) → old_nodes ≤ nodes + most * many
+nodes_for_each most tries old_nodes nodes old_scx scx many e i = let j : old_nodes + most * (scx + tries + 0) ≤ nodes + most * (scx + many + tries + 0) = rw (sym e) at i in omega (arith, j)
+
 -- an edit has taken what its tries may
-pub taken_tries : (lay : Layout) (c tries most : ℕ) (now start : History) (old left : Remaining) → IsShare lay start c old old.next_node old.next_scx → IsShare lay now c left left.next_node left.next_scx → Spends most old left tries 0 tries 0 → HasTakenAtMost lay c now start (tries * most) tries
-taken_tries lay c tries most now start old left began share spent = record {
-  lowest_node = old.next_node;
-  nodes = λ n own free taken. (
-    ⊎_elim (λ i. i) (λ i. absurd (free (began.taken_nodes n own i))) (ordered old.next_node n),
-    ⊎_elim (λ i. absurd (share.untaken_nodes n record { from = i; below = let a = own.below in let b = share.to_node in omega (arith, a, b) } taken)) (λ i. let a = began.to_node in let b = share.to_node in let d = spent.0 in omega (arith, i, a, b, d)) (ordered left.next_node n),
-  );
+pub taken_tries : (lay : Layout) (c tries most : ℕ) (now start : History) (old left : Remaining) → Extends now start → IsShare lay start c old old.next_node old.next_scx → IsShare lay now c left left.next_node left.next_scx → Spends most old left tries 0 tries 0 → HasTakenAtMost lay c now start tries most
+taken_tries lay c tries most now start old left since began share spent = record {
+  many = left.next_scx - old.next_scx;
+  few = let a = began.to_scx in let b = share.to_scx in let d = spent.1 in omega (arith, a, b, d);
   lowest_scx = old.next_scx;
-  scx_records = λ s own free taken. (
-    ⊎_elim (λ i. i) (λ i. absurd (free (began.taken_scx s own i))) (ordered old.next_scx s),
-    ⊎_elim (λ i. absurd (share.untaken s record { from = i; below = let a = own.below in let b = share.to_scx in omega (arith, a, b) } taken)) (λ i. let a = began.to_scx in let b = share.to_scx in let d = spent.1 in omega (arith, i, a, b, d)) (ordered left.next_scx s),
+  scx_records = λ s. (
+    λ y. (
+      ⊎_elim (λ i. i) (λ i. absurd (y.not_then (began.taken_scx s y.own i))) (ordered old.next_scx s),
+      ⊎_elim (λ i. absurd (share.untaken s record { from = i; below = let a = y.own.below in let b = share.to_scx in omega (arith, a, b) } y.taken)) (λ i. omega (arith, i, less)) (ordered left.next_scx s),
+    ),
+    λ i. taken_then s i.0 (let d = i.1 in omega (arith, d, less)),
+  );
+  lowest_node = old.next_node;
+  nodes = λ n y. (
+    ⊎_elim (λ i. i) (λ i. absurd (y.not_then (began.taken_nodes n y.own i))) (ordered old.next_node n),
+    ⊎_elim (λ i. absurd (share.untaken_nodes n record { from = i; below = let a = y.own.below in let b = share.to_node in omega (arith, a, b) } y.taken)) (λ i. let a = began.to_node in let b = share.to_node in omega (arith, i, a, b, few_nodes)) (ordered left.next_node n),
   );
 }
   where
-    ordered : (a b : ℕ) → (a ≤ b) ⊎ (b < a)
-    ordered a b = grind arith
+    less : old.next_scx ≤ left.next_scx
+    less = scx_left_less lay c now start old left since began share
+
+    taken_then : (s : ℕ) → old.next_scx ≤ s → s < left.next_scx → IsScxTakenSince lay c now start s
+    taken_then s i j =
+        let own : IsOwnScx lay c s = record { from = let a = began.from_scx in omega (arith, a, i); below = let b = share.to_scx in omega (arith, b, j) } in
+        record { own = own; not_then = began.untaken s record { from = i; below = let a = began.to_scx in let b = share.to_scx in omega (arith, a, b, j) }; taken = share.taken_scx s own j }
+
+    few_nodes : old.nodes ≤ left.nodes + most * (left.next_scx - old.next_scx)
+    few_nodes = nodes_for_each most tries old.nodes left.nodes old.scx left.scx (left.next_scx - old.next_scx) (let a = began.to_scx in let b = share.to_scx in omega (arith, a, b, less)) spent.2
 
 -- and at the call's begin that is nothing
 pub taken_none : (v : ClientView) (c : ℕ) (hand : Hand) → v.start ≡ v.past → HasTaken v c hand

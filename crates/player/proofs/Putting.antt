@@ -192,6 +192,7 @@ put_starts v linked c snaps removed field x kept m sound can some_node some_scx 
     command = can.command;
     is = can.is;
     run_of = can.serves m of;
+    limit = tt;
     is_pass = y.is_pass;
     start = v.past;
     since = ends_self v.past;
@@ -200,14 +201,17 @@ put_starts v linked c snaps removed field x kept m sound can some_node some_scx 
     alone = rw is (λ i p. let z = can.unspent i p in z.1.alone);
     opening = held c;
     took = rw (fresh, scx) record { nodes = can.took.nodes; scx_records = can.took.scx_records };
-    room = record {
-      node_number = (held c).next_node;
-      own_node = left_own_node v.layout v.past c.pass.0 (held c) _ _ (held c).next_node h.share own_node;
-      free_node = λ t. h.share.untaken_nodes (held c).next_node own_node (taken_node_since v.past v.start (held c).next_node can.since t);
-      scx_number = (held c).next_scx;
-      own_scx = left_own_scx v.layout v.past c.pass.0 (held c) _ _ (held c).next_scx h.share own_scx;
-      free_scx = λ t. h.share.untaken (held c).next_scx own_scx (taken_since v.past v.start (held c).next_scx can.since t);
-    };
+    room = (
+      record {
+        node_number = (held c).next_node;
+        own_node = left_own_node v.layout v.past c.pass.0 (held c) _ _ (held c).next_node h.share own_node;
+        free_node = λ t. h.share.untaken_nodes (held c).next_node own_node (taken_node_since v.past v.start (held c).next_node can.since t);
+        scx_number = (held c).next_scx;
+        own_scx = left_own_scx v.layout v.past c.pass.0 (held c) _ _ (held c).next_scx h.share own_scx;
+        free_scx = fresh_scx;
+      },
+      rw scx fresh_scx,
+    );
     won = record { own = own; yes = λ w. absurd (unwon w); no = λ w. can.unwon };
     late = λ turn e. let d = can.unwon in absurd (let z : v.won ≡ Some turn = e in cc);
   };
@@ -232,6 +236,9 @@ put_starts v linked c snaps removed field x kept m sound can some_node some_scx 
 
     own_scx : HasScx (held c) (held c).next_scx
     own_scx = record { from = omega arith; below = omega arith }
+
+    fresh_scx : ¬ IsTakenScx v.start (held c).next_scx
+    fresh_scx t = h.share.untaken (held c).next_scx own_scx (taken_since v.past v.start (held c).next_scx can.since t)
 
     own : IsOwnScx v.layout c.pass.0 m.scx.scx.0
     own = rw scx (left_own_scx v.layout v.past c.pass.0 (held c) _ _ (held c).next_scx h.share own_scx)

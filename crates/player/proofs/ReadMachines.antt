@@ -1,6 +1,6 @@
 -- The machine of an ordered read: it goes on as the machine inside, fills nothing, and stays that of
 -- its command.
-use Rattle.std.proofs.Common.{◌≢◌, ℕ, Some, sym, ◌∙◌}
+use Rattle.std.proofs.Common.{◌≡◌, ◌≢◌, ℕ, Some, sym, ◌∙◌}
 use Rattle.arena.specs.declared.step.Row.{Row}
 use Rattle.arena.specs.declared.step.Step.{Step}
 use Rattle.arena.specs.declared.step.Kind.TheVariants.{Fill}
@@ -15,7 +15,7 @@ use Rattle.script.specs.declared.command.Command.TheVariants as commands
 use Rattle.spelling.specs.declared.request.Request.TheVariants as requests
 use Rattle.places.specs.Ordered.{IsOrderedRead}
 use Rattle.record.specs.CommandRules.{MayMake}
-use Rattle.player.specs.ReadRuns.{IsReadBy, IsSameRead, ReadIsReady, ReadWaits}
+use Rattle.player.specs.ReadRuns.{IsReadBy, IsSameRead, ReadIsReady, ReadWaits, read_limit}
 use Rattle.player.specs.declared.read.ReadRun.{ReadRun}
 use Rattle.player.specs.declared.read.ReadRun.TheVariants.{Successor, Range}
 
@@ -41,7 +41,7 @@ read_in_order m c h s w = record { head = λ n fill. absurd (read_fills_not m c 
 
 -- it serves its command all the way
 pub same_read : (old now : ReadRun) (command : Command) → IsSameRead old now → IsReadBy old command → IsReadBy now command
-same_read (Successor a) (Successor b) (commands.Map (requests.Successor key)) x y = x ∙ y
+same_read (Successor a) (Successor b) (commands.Map (requests.Successor key)) x y = x.0 ∙ y
 same_read (Range a) (Range b) (commands.Map (requests.Range low high most)) x y = (x.0 ∙ y.0, x.1 ∙ y.1, x.2 ∙ y.2)
 same_read (Successor a) (Range b) command x y = absurd x
 same_read (Range a) (Successor b) command x y = absurd x
@@ -61,6 +61,13 @@ same_read (Range a) (Range b) (commands.Map (requests.Insert key value)) x y = a
 same_read (Range a) (Range b) (commands.Map (requests.Delete key)) x y = absurd y
 same_read (Range a) (Range b) (commands.Map (requests.Get key)) x y = absurd y
 same_read (Range a) (Range b) (commands.Map (requests.Successor key)) x y = absurd y
+
+-- which may try as often
+pub same_limit : (old now : ReadRun) → IsSameRead old now → read_limit now ≡ read_limit old
+same_limit (Successor a) (Successor b) x = x.1
+same_limit (Range a) (Range b) x = x.3
+same_limit (Successor a) (Range b) x = absurd x
+same_limit (Range a) (Successor b) x = absurd x
 
 -- and makes only the steps that this may
 pub read_may_make : (m : ReadRun) (command : Command) (c : Call) (h : History) (s : Step) → IsReadBy m command → ReadWaits m c h s → MayMake command s.kind

@@ -60,7 +60,7 @@ spelled_so_far : (lay : Layout) (tries : ℕ) (calls : List Call) (words : Conte
 spelled_so_far lay tries calls words lines x mode = are_spelled lay tries calls mode (map_calls lay.mode calls mode x.of_mode) lines x.in_order (tree_run lay (history lay.mode lines) mode x.sound) (x.filled mode)
 
 -- a get took place in a turn that was found for it
-get_reads : (lay : Layout) (tries : ℕ) (calls : List Call) (words : Contents) (lines : List Line) (changes : List Change) (reply : Finished) (key : ℕ) → IsLawfulSoFar lay tries calls words lines → lay.mode ≡ Tree → AreEntries calls lines changes → entry_owed lay lines ≡ None → reply.call ≡ answered lines reply.client.0 → IsRight lay reply.client.0 (history lay.mode lines) (start lay.mode lines reply.client.0) (linked calls lay.mode lines reply.client.0) (Map (GetOf key)) reply.answer → HasItsEntry (enters (Map (GetOf key)) reply.answer) (won lay lines reply.client.0) → next_command calls lines reply.client.0 ≡ Some (Map (GetOf key)) → begin lines reply.client.0 ≡ Some reply.begin → reply.end ≡ turns lines
+get_reads : (lay : Layout) (tries : ℕ) (calls : List Call) (words : Contents) (lines : List Line) (changes : List Change) (reply : Finished) (key : ℕ) → IsLawfulSoFar lay tries calls words lines → lay.mode ≡ Tree → AreEntries calls lines changes → entry_owed lay lines ≡ None → reply.call ≡ answered lines reply.client.0 → IsRight lay tries reply.client.0 (history lay.mode lines) (start lay.mode lines reply.client.0) (linked calls lay.mode lines reply.client.0) (Map (GetOf key)) reply.answer → HasItsEntry (enters (Map (GetOf key)) reply.answer) (won lay lines reply.client.0) → next_command calls lines reply.client.0 ≡ Some (Map (GetOf key)) → begin lines reply.client.0 ≡ Some reply.begin → reply.end ≡ turns lines
     → IsMomentBy calls lines changes (Map (GetOf key)) reply.answer reply.begin reply.end (won lay lines reply.client.0) reply.moment → IsPlacedOnMap (reply_told reply.answer) calls lines (Get key) reply
 get_reads lay tries calls words lines changes reply key x mode entries owed called right entry is begin end moment = go reply.answer refl
   where
@@ -109,7 +109,7 @@ module _ (lay : Layout) (tries : ℕ) (calls : List Call) (words : Contents) (li
     moment = nowhere;
   }
 
-  successor_reads : (key : ℕ) → next_command calls lines reply.client.0 ≡ Some (Map (SuccessorOf key)) → IsRight lay reply.client.0 (history lay.mode lines) (start lay.mode lines reply.client.0) (linked calls lay.mode lines reply.client.0) (Map (SuccessorOf key)) reply.answer → Tells (client_view lay tries calls lines reply.client.0) reply.client.0 (Map (SuccessorOf key)) reply.answer → IsMomentBy calls lines changes (Map (SuccessorOf key)) reply.answer reply.begin reply.end (won lay lines reply.client.0) reply.moment → IsPlacedOnMap (reply_told reply.answer) calls lines (Successor key) reply
+  successor_reads : (key : ℕ) → next_command calls lines reply.client.0 ≡ Some (Map (SuccessorOf key)) → IsRight lay tries reply.client.0 (history lay.mode lines) (start lay.mode lines reply.client.0) (linked calls lay.mode lines reply.client.0) (Map (SuccessorOf key)) reply.answer → Tells (client_view lay tries calls lines reply.client.0) reply.client.0 (Map (SuccessorOf key)) reply.answer → IsMomentBy calls lines changes (Map (SuccessorOf key)) reply.answer reply.begin reply.end (won lay lines reply.client.0) reply.moment → IsPlacedOnMap (reply_told reply.answer) calls lines (Successor key) reply
   successor_reads key is right tells moment = go reply.answer refl
     where
       go : (answer : Answer) → reply.answer ≡ answer → IsPlacedOnMap (reply_told answer) calls lines (Successor key) reply
@@ -129,7 +129,7 @@ module _ (lay : Layout) (tries : ℕ) (calls : List Call) (words : Contents) (li
       go (Unlinked n) e = absurd (rw e at right)
       go (Full what left) e = absurd (rw e at right)
 
-  range_reads : (low high most : ℕ) → next_command calls lines reply.client.0 ≡ Some (Map (RangeOf low high most)) → IsRight lay reply.client.0 (history lay.mode lines) (start lay.mode lines reply.client.0) (linked calls lay.mode lines reply.client.0) (Map (RangeOf low high most)) reply.answer → Tells (client_view lay tries calls lines reply.client.0) reply.client.0 (Map (RangeOf low high most)) reply.answer → IsMomentBy calls lines changes (Map (RangeOf low high most)) reply.answer reply.begin reply.end (won lay lines reply.client.0) reply.moment → IsPlacedOnMap (reply_told reply.answer) calls lines (Range low high most) reply
+  range_reads : (low high most : ℕ) → next_command calls lines reply.client.0 ≡ Some (Map (RangeOf low high most)) → IsRight lay tries reply.client.0 (history lay.mode lines) (start lay.mode lines reply.client.0) (linked calls lay.mode lines reply.client.0) (Map (RangeOf low high most)) reply.answer → Tells (client_view lay tries calls lines reply.client.0) reply.client.0 (Map (RangeOf low high most)) reply.answer → IsMomentBy calls lines changes (Map (RangeOf low high most)) reply.answer reply.begin reply.end (won lay lines reply.client.0) reply.moment → IsPlacedOnMap (reply_told reply.answer) calls lines (Range low high most) reply
   range_reads low high most is right tells moment = go reply.answer refl
     where
       go : (answer : Answer) → reply.answer ≡ answer → IsPlacedOnMap (reply_told answer) calls lines (Range low high most) reply
@@ -150,7 +150,7 @@ module _ (lay : Layout) (tries : ℕ) (calls : List Call) (words : Contents) (li
       go (Full what left) e = absurd (rw e at right)
 
 -- what is known of an edit's reply
-edit_reply : (lay : Layout) (tries : ℕ) (calls : List Call) (words : Contents) (lines : List Line) (changes : List Change) (reply : Finished) (c : ℕ) (command : Command) (x : IsLawfulSoFar lay tries calls words lines) → lay.mode ≡ Tree → (lay.mode ≡ Tree → AreEntries calls lines changes) → entry_owed lay lines ≡ None → reply.client.0 ≡ c → reply.call ≡ answered lines c → IsRight lay c (history lay.mode lines) (start lay.mode lines c) (linked calls lay.mode lines c) command reply.answer → Tells (client_view lay tries calls lines c) c command reply.answer → HasItsEntry (enters command reply.answer) (won lay lines c) → next_command calls lines c ≡ Some command → begin lines c ≡ Some reply.begin → reply.end ≡ turns lines
+edit_reply : (lay : Layout) (tries : ℕ) (calls : List Call) (words : Contents) (lines : List Line) (changes : List Change) (reply : Finished) (c : ℕ) (command : Command) (x : IsLawfulSoFar lay tries calls words lines) → lay.mode ≡ Tree → (lay.mode ≡ Tree → AreEntries calls lines changes) → entry_owed lay lines ≡ None → reply.client.0 ≡ c → reply.call ≡ answered lines c → IsRight lay tries c (history lay.mode lines) (start lay.mode lines c) (linked calls lay.mode lines c) command reply.answer → Tells (client_view lay tries calls lines c) c command reply.answer → HasItsEntry (enters command reply.answer) (won lay lines c) → next_command calls lines c ≡ Some command → begin lines c ≡ Some reply.begin → reply.end ≡ turns lines
     → IsMomentBy calls lines changes command reply.answer reply.begin reply.end (won lay lines c) reply.moment → IsEditReply lay tries calls lines changes reply c command
 edit_reply lay tries calls words lines changes reply c command x mode entries owed own called right tells entry is begin end moment = record {
   mode = mode;
@@ -172,7 +172,7 @@ edit_reply lay tries calls words lines changes reply c command x mode entries ow
 }
 
 -- where the call of a reply took place
-pub placed : (lay : Layout) (tries : ℕ) (calls : List Call) (words : Contents) (lines : List Line) (changes : List Change) (reply : Finished) (c : ℕ) (command : Command) → IsLawfulSoFar lay tries calls words lines → (lay.mode ≡ Tree → AreEntries calls lines changes) → entry_owed lay lines ≡ None → reply.client.0 ≡ c → reply.call ≡ answered lines c → IsRight lay c (history lay.mode lines) (start lay.mode lines c) (linked calls lay.mode lines c) command reply.answer → Tells (client_view lay tries calls lines c) c command reply.answer → HasItsEntry (enters command reply.answer) (won lay lines c) → next_command calls lines c ≡ Some command → begin lines c ≡ Some reply.begin → reply.end ≡ turns lines
+pub placed : (lay : Layout) (tries : ℕ) (calls : List Call) (words : Contents) (lines : List Line) (changes : List Change) (reply : Finished) (c : ℕ) (command : Command) → IsLawfulSoFar lay tries calls words lines → (lay.mode ≡ Tree → AreEntries calls lines changes) → entry_owed lay lines ≡ None → reply.client.0 ≡ c → reply.call ≡ answered lines c → IsRight lay tries c (history lay.mode lines) (start lay.mode lines c) (linked calls lay.mode lines c) command reply.answer → Tells (client_view lay tries calls lines c) c command reply.answer → HasItsEntry (enters command reply.answer) (won lay lines c) → next_command calls lines c ≡ Some command → begin lines c ≡ Some reply.begin → reply.end ≡ turns lines
     → IsMomentBy calls lines changes command reply.answer reply.begin reply.end (won lay lines c) reply.moment → IsPlaced lay calls lines reply command
 placed lay tries calls words lines changes reply c (LlxOf cell) x entries owed own called right tells entry is begin end moment = cell_moment calls lines changes (LlxOf cell) reply.answer reply.begin reply.end (won lay lines c) reply.moment (λ a e. rw e at right) moment ∙ ap (λ (k : ℕ). moment_of reply.answer reply.begin reply.end (won lay lines k)) (sym own)
 placed lay tries calls words lines changes reply c (ScxOf update) x entries owed own called right tells entry is begin end moment = cell_moment calls lines changes (ScxOf update) reply.answer reply.begin reply.end (won lay lines c) reply.moment (λ a e. rw e at right) moment ∙ ap (λ (k : ℕ). moment_of reply.answer reply.begin reply.end (won lay lines k)) (sym own)

@@ -3,8 +3,6 @@ use Rattle.std.proofs.Common.{◌≡◌, ℕ, true, ◌≤◌, ◌≢◌, ◌⊎
 use native.Mathlib.Decide.{ℕ_discrete}
 use Rattle.arena.specs.Fills.{IsOwnScx}
 use Rattle.arena.specs.declared.layout.Layout.{Layout}
-use Rattle.arena.specs.declared.limits.Limits.{Limits}
-use Rattle.script.specs.declared.script.Script.{Script}
 use Rattle.arena.specs.declared.number.PassNo.{PassNo}
 use Rattle.arena.specs.declared.step.Row.{Row}
 use Rattle.arena.specs.declared.step.Step.{Step as Ask}
@@ -326,7 +324,7 @@ heard_end lay tries calls words all lines changes c mid new q found number answe
       last = x.last;
       owed = x.entry;
       fits = x.fits g.command answer g.answers;
-      right = subst (λ (k : ℕ). IsRight lay k (history lay.mode lines) (start lay.mode lines c.pass.0) (linked calls lay.mode lines c.pass.0) g.command answer) pass0 g.right;
+      right = subst (λ (k : ℕ). IsRight lay tries k (history lay.mode lines) (start lay.mode lines c.pass.0) (linked calls lay.mode lines c.pass.0) g.command answer) pass0 g.right;
       entry = g.entry;
       done = λ z. subst (λ (a : Answer). enters g.command a ≡ true) (sym z) (done_enters g.command (subst (λ (a : Answer). MayAnswerAfterStep g.command a) z g.answers));
       tells = subst (λ (k : ℕ). Tells (client_view lay tries calls lines c.pass.0) k g.command answer) pass0 g.tells;

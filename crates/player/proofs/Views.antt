@@ -271,7 +271,7 @@ module _ (v : ClientView) (c : Client) (r : Row) (number : ℕ) (start : History
   took (Read m) share leaves e y = took_hand (in_hand (held c) (Read m)) leaves.0 leaves.1 e y
 
   roomy : (q : Run) → start ≡ v.start → IsRoomy v c.pass.0 q → IsRoomy (after_row v r start steps won) c.pass.0 q
-  roomy (Scx m) e y = subst (λ (k : History). HasRoom v.layout c.pass.0 k) (sym e) y
+  roomy (Scx m) e y = subst (λ (k : History). HasRoom v.layout c.pass.0 k × ¬ IsTakenScx k m.scx.scx.0) (sym e) y
   roomy (Llx m) e y = tt
   roomy (Vlx m) e y = tt
   roomy (Edit m) e y = tt
@@ -297,6 +297,7 @@ module _ (v : ClientView) (c : Client) (r : Row) (number : ℕ) (start : History
     command = x.command;
     is = x.is;
     run_of = x.run_of;
+    limit = x.limit;
     is_pass = x.is_pass;
     start = x.start;
     since = inr x.since;

@@ -10,7 +10,7 @@ use Rattle.arena.specs.Share.{Remaining, IsFull}
 use Rattle.arena.specs.History.{History, ◌⊳◌, value, Extends}
 use Rattle.arena.specs.ScxRecords.{plan_finalizes, side_of}
 use Rattle.arena.specs.Lawful.{HasWon, IsWin}
-use Rattle.arena.specs.Fills.{IsOwnNode, IsOwnScx, IsTakenNode}
+use Rattle.arena.specs.Fills.{IsOwnNode, IsOwnScx, IsTakenNode, IsTakenScx}
 use Rattle.arena.specs.Machines.{Call as MachineCall, IsRun}
 use Rattle.prims.specs.Moments.{IsMoment, AreLeftAlone, AreFinished, HasTakenOnly}
 use Rattle.prims.specs.Scx.Known.{nodes_of}
@@ -34,8 +34,8 @@ use Rattle.record.specs.declared.record.Answer.{Answer}
 use Rattle.script.specs.Cells.{cells_of}
 use Rattle.script.specs.Update.{update_cells, update_finalize, update_field, update_value}
 use Rattle.record.specs.declared.record.Answer.TheVariants.{Full, Map as MapAnswer}
-use Rattle.player.specs.EditRuns.{IsUnbegunEdit, edit_of, call_of, edit_command}
-use Rattle.player.specs.ReadRuns.{HasReadTries, IsReadBy}
+use Rattle.player.specs.EditRuns.{IsUnbegunEdit, edit_of, call_of, limit_of, edit_command}
+use Rattle.player.specs.ReadRuns.{HasReadTries, IsReadBy, read_limit}
 use Rattle.player.specs.declared.edit.EditRun.{EditRun}
 use Rattle.player.specs.declared.read.ReadRun.{ReadRun}
 use Rattle.player.specs.declared.run.Run.{Run}
@@ -272,10 +272,16 @@ abbrev pub TakesInHand : ClientView → Client → Remaining → Run → Type 0
 TakesInHand v c share (Edit m) = IsShare v.layout v.start c.pass.0 share share.next_node share.next_scx
 TakesInHand v c share run = HasTaken v c.pass.0 (in_hand (held c) run)
 
--- at the call's begin the share had room for an SCX that runs
+-- at the call's begin the share had room for an SCX that runs, and its SCX-record was not taken
 abbrev pub IsRoomy : ClientView → ℕ → Run → Type 0
-IsRoomy v c (Scx m) = HasRoom v.layout c v.start
+IsRoomy v c (Scx m) = HasRoom v.layout c v.start × ¬ IsTakenScx v.start m.scx.scx.0
 IsRoomy v c _ = Unit {0}
+
+-- an edit or an ordered read may try as often as a call may
+abbrev pub MayTryAll : Run → ℕ → Type 0
+MayTryAll (Edit m) tries = limit_of m ≡ tries
+MayTryAll (Read m) tries = read_limit m ≡ tries
+MayTryAll _ tries = Unit {0}
 
 -- a machine runs for the client's next call, over snapshots that
 -- the client had left alone as the machine started
@@ -287,6 +293,7 @@ pub record Works (v : ClientView) (c : Client) (run : Run) (then : Option Put) :
   pub command : Command
   pub is : command_of v c ≡ Some command
   pub run_of : IsMachineOf command c.number run then
+  pub limit : MayTryAll run v.tries
   pub is_pass : c.pass.0 < v.layout.passes
   pub start : History
   -- the machine has started at the begin of the call or later
@@ -380,7 +387,7 @@ pub record Refuses (v : ClientView) (c : Client) (answer : Answer) : Type 0 wher
   pub command : Command
   pub is : command_of v c ≡ Some command
   pub refusal : MayAnswerAtOnce command answer
-  pub right : IsRight v.layout c.pass.0 v.past v.start v.linked command answer
+  pub right : IsRight v.layout v.tries c.pass.0 v.past v.start v.linked command answer
   pub unwon : v.won ≡ None
   pub took : HasTakenFew v.layout v.tries c.pass.0 v.past v.start command
 
@@ -418,7 +425,7 @@ pub record Ends (v : ClientView) (old new : Client) (answer : Answer) : Type 0 w
   pub is : command_of v new ≡ Some command
   pub rests : Rests (record v { linked = linked_by v command answer }) new
   pub answers : MayAnswerAfterStep command answer
-  pub right : IsRight v.layout new.pass.0 v.past v.start v.linked command answer
+  pub right : IsRight v.layout v.tries new.pass.0 v.past v.start v.linked command answer
   pub entry : HasItsEntry (enters command answer) v.won
   pub tells : Tells v new.pass.0 command answer
   pub took : HasTakenFew v.layout v.tries new.pass.0 v.past v.start command

@@ -1,6 +1,6 @@
 -- The machine of an edit of the map, an insert's or a delete's: when it may go on, what it waits
 -- for, and what its answer says, as the machine inside.
-use Rattle.std.specs.Prelude.{◌≡◌, ℕ, ◌+◌, ◌*◌, ◌-◌, Option}
+use Rattle.std.specs.Prelude.{◌≡◌, ℕ, ◌+◌, ◌*◌, ◌-◌, ◌≤◌, Option}
 use Rattle.arena.specs.declared.step.Step.{Step}
 use Rattle.arena.specs.History.{History}
 use Rattle.arena.specs.Machines.{Call}
@@ -45,6 +45,21 @@ abbrev pub call_of : EditRun → ℕ
 call_of (Insert m) = m.call
 call_of (Delete m) = m.call
 
+-- how often its call may try
+abbrev pub limit_of : EditRun → ℕ
+limit_of (Insert m) = m.limit
+limit_of (Delete m) = m.limit
+
+-- how many of these tries are left behind the one that it makes
+abbrev pub tries_of : EditRun → ℕ
+tries_of (Insert m) = m.tries
+tries_of (Delete m) = m.tries
+
+-- the two make the same edit, in the same call, which may try as often; and no more than one try is
+-- over between them
+abbrev pub IsSameEdit : EditRun → EditRun → Type 0
+IsSameEdit old now = (edit_of now ≡ edit_of old) × (call_of now ≡ call_of old) × (limit_of now ≡ limit_of old) × (tries_of now ≤ tries_of old) × (tries_of old ≤ tries_of now + 1)
+
 -- it may be called with this, as the machine inside
 abbrev pub EditIsReady : EditRun → Call → History → Option ℕ → Type 0
 EditIsReady (Insert m) c h got = UpdateIsReady insert_means m c h got
@@ -70,7 +85,7 @@ abbrev pub edit_steps : MapEdit → ℕ → ℕ → ℕ
 edit_steps (PutEdit key value) tries nodes = tries * (3 * (2 + nodes) + 178)
 edit_steps (TakeEdit key) tries nodes = tries * (3 * (2 + nodes) + 301)
 
--- What it takes of its share: in a try some nodes at most, and one SCX-record
+-- What it takes of its share: in a try one SCX-record at most, and some nodes for it
 
 -- an insert three nodes, a delete one
 abbrev pub most_nodes : MapEdit → ℕ

@@ -6,9 +6,9 @@ use Rattle.std.specs.Global.{Global}
 use Rattle.arena.specs.declared.step.Step.{Step}
 use Rattle.arena.specs.History.{History}
 use Rattle.arena.specs.Machines.{Call}
-use Rattle.order.specs.Range.Known.{RangeIsReady, RangeWaits, RangeAnswers}
+use Rattle.order.specs.Range.Known.{IsSameRange, RangeIsReady, RangeWaits, RangeAnswers}
 use Rattle.order.specs.Range.Steps.{range_left}
-use Rattle.order.specs.Successor.Known.{SuccessorIsReady, SuccessorWaits, SuccessorAnswers}
+use Rattle.order.specs.Successor.Known.{IsSameSuccessor, SuccessorIsReady, SuccessorWaits, SuccessorAnswers}
 use Rattle.order.specs.Successor.Steps.{successor_left}
 use Rattle.order.specs.declared.range.RangeRun.{RangeRun}
 use Rattle.order.specs.declared.refused.Refused.{Refused}
@@ -31,11 +31,16 @@ IsReadBy (Successor m) (Map (SuccessorOf key)) = m.key ≡ key
 IsReadBy (Range m) (Map (RangeOf low high most)) = (m.low ≡ low) × (m.high ≡ high) × (m.most ≡ most)
 IsReadBy m command = ⊥
 
--- the two serve the same
+-- the two serve the same, and may try as often; and no more than one try is over between them
 abbrev pub IsSameRead : ReadRun → ReadRun → Type 0
-IsSameRead (Successor old) (Successor now) = now.key ≡ old.key
-IsSameRead (Range old) (Range now) = (now.low ≡ old.low) × (now.high ≡ old.high) × (now.most ≡ old.most)
+IsSameRead (Successor old) (Successor now) = IsSameSuccessor old now
+IsSameRead (Range old) (Range now) = IsSameRange old now
 IsSameRead old now = ⊥
+
+-- how often its call may try
+abbrev pub read_limit : ReadRun → ℕ
+read_limit (Successor m) = m.limit
+read_limit (Range m) = m.limit
 
 -- it has so many tries left, the one that it begins with among them
 abbrev pub HasReadTries : ReadRun → ℕ → Type 0

@@ -19,7 +19,7 @@ use Rattle.prims.specs.declared.vlx.Vlx.TheVariants.{Same as VlxSame, Changed as
 use Rattle.spelling.specs.declared.reply.Reply.TheVariants.{Value, Contended, Full}
 use Rattle.record.specs.declared.record.Answer.{Answer}
 use Rattle.record.specs.declared.record.Answer.TheVariants.{Snapshot, Finalized, Fail, Done, Lost, Same, Changed, Map}
-use Rattle.player.specs.EditRuns.{EditIsReady, EditWaits, EditAnswers, edit_of, call_of, share_of}
+use Rattle.player.specs.EditRuns.{EditIsReady, EditWaits, EditAnswers, IsSameEdit, share_of}
 use Rattle.player.specs.ReadRuns.{ReadIsReady, ReadWaits, ReadAnswers, IsSameRead}
 use Rattle.player.specs.declared.run.Run.{Run}
 use Rattle.player.specs.declared.run.Run.TheVariants.{Llx, Scx, Vlx, Edit, Get, Read}
@@ -69,12 +69,12 @@ answer_of (ended.Edit (UpdateFull full)) = Map (Full full)
 answer_of (ended.Get value) = Map (Value value)
 answer_of (ended.Read reply) = Map reply
 
--- the two are machines of one kind, and of one call
+-- the two are machines of one kind, and of one call; and no more than one try is over between them
 abbrev pub IsSameMachine : Run → Run → Type 0
 IsSameMachine (Llx old) (Llx now) = now.node ≡ old.node
 IsSameMachine (Scx old) (Scx now) = (now.scx.scx ≡ old.scx.scx) × (now.scx.update ≡ old.scx.update) × (now.scx.call ≡ old.scx.call) × (now.value ≡ old.value)
 IsSameMachine (Vlx old) (Vlx now) = now.snaps ≡ old.snaps
-IsSameMachine (Edit old) (Edit now) = (edit_of now ≡ edit_of old) × (call_of now ≡ call_of old)
+IsSameMachine (Edit old) (Edit now) = IsSameEdit old now
 IsSameMachine (Get old) (Get now) = now.key ≡ old.key
 IsSameMachine (Read old) (Read now) = IsSameRead old now
 IsSameMachine _ _ = ⊥

@@ -4,7 +4,7 @@ ghost use Rattle.arena.specs.History.{History};
 ghost use Rattle.arena.specs.Machines.{Call, IsRun, MatchTurn};
 ghost use Rattle.arena.specs.TakenNodes.{taken_nodes};
 ghost use Rattle.spelling.specs.TreeShape.{TreeAllows};
-ghost use Rattle.player.specs.EditRuns.{EditIsReady, EditWaits, EditAnswers, edit_of, share_of, call_of, edit_left, HasSpentTries, HasSpentAllTries};
+ghost use Rattle.player.specs.EditRuns.{EditIsReady, EditWaits, EditAnswers, IsSameEdit, edit_left, HasSpentTries, HasSpentAllTries};
 
 use arena::{Share, Turn};
 use tree::{Delete, DeleteRun, Insert, InsertRun};
@@ -27,7 +27,7 @@ pub(crate) enum EditRun {
 impl Edit {
     ghost use Rattle.std.specs.Prelude.{◌≡◌, ◌<◌, ◌^◌, ℕ};
     ghost use Rattle.spelling.specs.OrderedMap.{edit_key};
-    ghost use Rattle.player.specs.EditRuns.{made_by, edit_of, share_of, call_of, edit_left, edit_steps, IsUnbegunEdit};
+    ghost use Rattle.player.specs.EditRuns.{made_by, edit_of, share_of, call_of, edit_left, edit_steps, IsUnbegunEdit, limit_of};
 
     /// Its machine, with this share and so many tries, in the client's call of this number.
     pub(crate) fn run(self, share: Share, tries: u32, call: u64) -> EditRun
@@ -35,6 +35,7 @@ impl Edit {
         ensures key { edit_key (made_by self) < 2 ^ 64 }
         ensures share { share_of result ≡ share }
         ensures call { call_of result ≡ call }
+        ensures limit { limit_of result ≡ tries }
         ensures start { 0 < tries → IsUnbegunEdit result tries }
         ensures steps { (nodes : ℕ) → 0 < tries → edit_left result nodes ≡ edit_steps (made_by self) tries nodes }
     {
@@ -53,9 +54,8 @@ impl EditRun {
     pub(crate) fn next(&mut self, got: Option<u64>) -> Turn<Updated>
         ensures turn { (c : Call) (h : History) → IsRun TreeAllows c.layout h → EditIsReady self.old c h got → MatchTurn result (EditWaits self.new c h) (EditAnswers self.new c h) }
         ensures begins { got ≡ None → (c : Call) (h : History) → EditIsReady self.old c h None → MatchTurn result (λ _. Unit {0}) (λ _. ⊥) }
-        ensures edit { edit_of self.new ≡ edit_of self.old }
-        ensures call { call_of self.new ≡ call_of self.old }
-        ensures spends { MatchTurn result (λ _. HasSpentTries self.old self.new) (λ _. HasSpentAllTries self.old self.new) }
+        ensures same { IsSameEdit self.old self.new }
+        ensures spends { (c : Call) (h : History) → EditIsReady self.old c h got → MatchTurn result (λ _. HasSpentTries self.old self.new) (λ _. HasSpentAllTries self.old self.new) }
         ensures nearer { (c : Call) (h : History) (nodes : ℕ) → IsRun TreeAllows c.layout h → EditIsReady self.old c h got → length (taken_nodes h) ≤ nodes → MatchTurn result (λ _. edit_left self.new nodes < edit_left self.old nodes) (λ _. Unit {0}) }
     {
         match self {

@@ -80,7 +80,7 @@ impl Run {
         ensures turn { (c : Call) (h : History) → c.layout.mode ≡ run_mode self.old → IsRun PlayedAllows c.layout h → RunIsReady self.old c h got → MatchTurn result (RunWaits self.new c h) (RunAnswers self.new c h) }
         ensures begins { got ≡ None → (c : Call) (h : History) → RunIsReady self.old c h None → MatchTurn result (λ _. Unit {0}) (λ _. ⊥) }
         ensures same { IsSameMachine self.old self.new }
-        ensures spends { MatchTurn result (λ _. HasSpentSome self.old self.new) (λ _. HasSpentRest self.old self.new) }
+        ensures spends { (c : Call) (h : History) → RunIsReady self.old c h got → MatchTurn result (λ _. HasSpentSome self.old self.new) (λ _. HasSpentRest self.old self.new) }
         ensures nearer { (c : Call) (h : History) (nodes : ℕ) → c.layout.mode ≡ run_mode self.old → IsRun PlayedAllows c.layout h → RunIsReady self.old c h got → length (taken_nodes h) ≤ nodes → MatchTurn result (λ _. run_left self.new nodes < run_left self.old nodes) (λ _. Unit {0}) }
     {
         match self {
