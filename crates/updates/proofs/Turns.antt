@@ -1,5 +1,5 @@
 -- What an update waits for after each of its turns.
-use Rattle.std.proofs.Common.{◌≡◌, ◌≢◌, ℕ, suc, ◌-◌, ◌<◌, ◌⊎◌, inl, inr, refl, Option, Some, None, ⊎_elim, sym, ◌∙◌, ap, subst, arith}
+use Rattle.std.proofs.Common.{◌≡◌, ◌≢◌, ℕ, suc, ◌-◌, ◌<◌, ◌⊎◌, inr, refl, ⊎_elim, sym, ◌∙◌, ap, subst, arith}
 use Rattle.arena.specs.declared.machine.Turn.{Turn}
 use Rattle.arena.specs.declared.machine.Turn.TheVariants.{Ask, Done}
 use Rattle.arena.specs.declared.number.NodeNo.{NodeNo}

@@ -10,7 +10,7 @@ use Rattle.arena.specs.Machines.{Call, row_of}
 use Rattle.arena.specs.Share.{Remaining}
 use Rattle.arena.specs.Words.{node}
 use Rattle.prims.specs.Llx.Known.{load}
-use Rattle.spelling.specs.Tries.{begins_try, tries_begun}
+use Rattle.spelling.specs.Tries.{begins_try}
 use Rattle.template.specs.Walk.Places.{IsPastRoot}
 use Rattle.template.specs.declared.walk.WalkAt.{WalkAt}
 use Rattle.template.specs.declared.walk.WalkAt.TheVariants.{Start, Root, Head, Key, Child, Value}
