@@ -1,6 +1,5 @@
 //! The whole report, read back.
 ghost use Rattle.std.specs.Prelude.{◌≡◌, ◌≢◌, ◌<◌, ◌-◌, ◌^◌, List, [], ◌∷◌, ◌++◌, ℕ, All, IfOk, IsErrOf, OnOk, Some, map, reverse};
-ghost use Rattle.arena.specs.Limits.{IsAccepted, IsLayoutOf};
 ghost use Rattle.script.specs.Rows.{limits_row};
 ghost use Rattle.script.specs.declared.script.Script.{Script};
 ghost use Rattle.record.specs.declared.record.Line.{Line};
@@ -33,8 +32,6 @@ pub fn read_record<R: Read>(alloc: Global, from: &mut Metered<R>) -> Result<Reco
     ensures again { (script : Script) (lines : List Line) → R.remaining from.old.inner ≡ Some (report_text script lines) → IfOk result (λ told. report_text told.script told.lines.items ≡ report_text script lines) }
     ensures calls { IfOk result (λ told. AreNumbered told.script.layout.passes (reverse told.lines.items)) }
     ensures forms { IfOk result (λ told. All (HasForm told.script.layout.passes told.script.calls.items) told.lines.items) }
-    ensures accepted { IfOk result (λ told. IsAccepted told.script.limits) }
-    ensures layout { IfOk result (λ told. IsLayoutOf told.script.limits told.script.layout.mode told.script.layout) }
 
     // Whether a read failed is told by the failure count, as long as it can rise.
     ensures ok { OnOk result (from.new.failures ≡ from.old.failures) }
@@ -51,8 +48,6 @@ fn record_of<R: Read>(alloc: Global, from: &mut Metered<R>) -> Result<Record, Ro
     ensures again { (script : Script) (lines : List Line) → R.remaining from.old.inner ≡ Some (report_text script lines) → IfOk result (λ told. report_text told.script told.lines.items ≡ report_text script lines) }
     ensures calls { IfOk result (λ told. AreNumbered told.script.layout.passes (reverse told.lines.items)) }
     ensures forms { IfOk result (λ told. All (HasForm told.script.layout.passes told.script.calls.items) told.lines.items) }
-    ensures accepted { IfOk result (λ told. IsAccepted told.script.limits) }
-    ensures layout { IfOk result (λ told. IsLayoutOf told.script.limits told.script.layout.mode told.script.layout) }
 {
     let mut rows = Rows::new(alloc, from);
     let script = script_of(alloc, &mut rows)?;
@@ -68,9 +63,7 @@ fn record_of<R: Read>(alloc: Global, from: &mut Metered<R>) -> Result<Record, Ro
 
 /// Reads the first two rows and the calls, and goes on to the row behind them.
 fn script_of<R: Read + Drop>(alloc: Global, rows: &mut Rows<R>) -> Result<Script, RowFault>
-    ensures accepted { IfOk result (λ script. IsAccepted script.limits) }
-    ensures layout { IfOk result (λ script. IsLayoutOf script.limits script.layout.mode script.layout) }
-    ensures rows { (bytes : List ℕ) → HasRead R.remaining bytes [] rows.old → IfOk result (λ script. IsAtRow R.remaining bytes (map seven (title_row script.layout.mode ∷ limits_row script.limits ∷ call_rows [] script.calls.items)) 7 rows.new) }
+    ensures { (bytes : List ℕ) → HasRead R.remaining bytes [] rows.old → IfOk result (λ script. IsAtRow R.remaining bytes (map seven (title_row script.layout.mode ∷ limits_row script.limits ∷ call_rows [] script.calls.items)) 7 rows.new) }
 {
     next_row(rows)?;
     let Some(mode) = mode_of(row_fields(rows)) else {

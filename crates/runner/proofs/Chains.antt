@@ -28,11 +28,11 @@ replies_more P a b d (x ∷ cs) [] command call reply h is p = absurd h
 replies_more P a b d (x ∷ cs) (r ∷ rs) command call reply h is p = (h.0, h.1, h.2, h.3, replies_more P h.1 b d cs rs command call reply h.4 is p)
 
 -- what the pass knew at the end is later than what it knew at the start
-pub replies_later : (old new : PassView) (cs : List Command) (rs : List (Reply ℕ ℕ)) → HaveReplies HasCalled old cs rs new → IsLaterView old new
-replies_later old new [] [] h = subst (IsLaterView old) (sym h) (later_self old)
-replies_later old new [] (r ∷ rs) h = absurd h
-replies_later old new (c ∷ cs) [] h = absurd h
-replies_later old new (c ∷ cs) (r ∷ rs) h = later_again old h.1 new h.3.later (replies_later h.1 new cs rs h.4)
+pub replies_later : (tries : ℕ) (old new : PassView) (cs : List Command) (rs : List (Reply ℕ ℕ)) → HaveReplies (HasCalled tries) old cs rs new → IsLaterView old new
+replies_later tries old new [] [] h = subst (IsLaterView old) (sym h) (later_self old)
+replies_later tries old new [] (r ∷ rs) h = absurd h
+replies_later tries old new (c ∷ cs) [] h = absurd h
+replies_later tries old new (c ∷ cs) (r ∷ rs) h = later_again old h.1 new h.3.later (replies_later tries h.1 new cs rs h.4)
 
 -- The commands of a client among more calls
 

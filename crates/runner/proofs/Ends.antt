@@ -35,7 +35,7 @@ begun_at rows [] c p e x = absurd (none_some p e)
 begun_at rows (q ∷ ps) zero p e x = subst (λ (k : PassView). Extends (history_of k.layout.mode rows) (run_of k) × (entries_of k.number (log k.layout (history_of k.layout.mode rows)) ≡ done_of k)) (some_same q p e) (x.0, x.1)
 begun_at rows (q ∷ ps) (suc c) p e x = begun_at rows ps c p e x.4
 
-module _ (script : Script) (f : Ground) (layout : IsLayoutOf script.limits Tree f.layout) (olds news : List PassView) (owns : List (Vec (Reply ℕ ℕ) Global)) (are_new : AreNew f olds) (worked : HaveWorked f script.calls.items olds news owns) (words : Contents) (closed : IsClosed NumbersAllow f.layout news words) where
+module _ (script : Script) (f : Ground) (layout : IsLayoutOf script.limits Tree f.layout) (tries : f.tries ≡ script.limits.tries) (olds news : List PassView) (owns : List (Vec (Reply ℕ ℕ) Global)) (are_new : AreNew f olds) (worked : HaveWorked f script.calls.items olds news owns) (words : Contents) (closed : IsClosed NumbersAllow f.layout news words) where
   -- the run that the words are of
   abbrev pub whole : History
   whole = history_of f.layout.mode closed.rows
@@ -46,7 +46,7 @@ module _ (script : Script) (f : Ground) (layout : IsLayoutOf script.limits Tree 
   edits : (e : ℕ → MapEdit) × AreEdits e f.layout whole
   edits = log_edits f.layout whole tree
 
-  client : (c : ℕ) (own : Vec (Reply ℕ ℕ) Global) → slice_get owns c ≡ Some own → IsClient f whole edits.0 c (commands script.calls.items c) own.items
+  client : (c : ℕ) (own : Vec (Reply ℕ ℕ) Global) → slice_get owns c ≡ Some own → IsClient f whole edits.0 news c (commands script.calls.items c) own.items
   client c own e =
       let w : WorkedAt f script.calls.items olds news c own.items = worked_at f script.calls.items olds news owns worked c own e in
       let old : w.old ≡ new_pass f c = are_new.each c w.old w.was in
@@ -54,10 +54,11 @@ module _ (script : Script) (f : Ground) (layout : IsLayoutOf script.limits Tree 
       let number : w.new.number ≡ c = w.worked.number ∙ ap (λ (p : PassView). p.number) old in
       let b = begun_at closed.rows news c w.new w.is closed.begun in
       let within : Extends whole (run_of w.new) = subst (λ (l : Layout). Extends (history_of l.mode closed.rows) (run_of w.new)) lay b.0 in
-      let replies = subst (λ (p : PassView). HaveReplies HasCalled p (commands script.calls.items p.number) own.items w.new) old w.worked.made in
+      let replies = subst (λ (p : PassView). HaveReplies (HasCalled f.tries) p (commands script.calls.items p.number) own.items w.new) old w.worked.made in
       record {
         last = w.new;
-        stand = all_answered f.layout whole edits.0 tree edits.1 (new_pass f c) w.new (commands script.calls.items c) own.items refl within replies;
+        is_last = w.is;
+        stand = all_answered f.layout f.tries whole edits.0 tree edits.1 (new_pass f c) w.new (commands script.calls.items c) own.items refl within replies;
         within = within;
         entries = subst (λ (l : Layout). entries_of c (log l (history_of l.mode closed.rows)) ≡ done_of w.new) lay (subst (λ n. entries_of n (log w.new.layout (history_of w.new.layout.mode closed.rows)) ≡ done_of w.new) number b.1);
       }
@@ -66,12 +67,15 @@ module _ (script : Script) (f : Ground) (layout : IsLayoutOf script.limits Tree 
   outcome pairs spells = record {
     forest = f;
     layout = layout;
+    tries = tries;
     run = whole;
     lawful = closed.sound;
     edits = edits.0;
     makes = edits.1;
     count = worked_count f script.calls.items olds news owns worked ∙ are_new.count ∙ layout.passes;
+    lasts = news;
     clients = client;
+    blamed = closed.blamed;
     last_map = one_spelling f.layout (value whole) _ _ spells (spells_log f.layout whole edits.0 tree edits.1 whole (ends_self whole));
     rising = spells.rising;
   }

@@ -32,7 +32,7 @@ stays_entered lay (r ⊳ h) m s l (inr e) x = go (logs lay h r l) (stays_entered
     go (same q _) y = subst (λ es. IsEntered es s) (sym q) y
     go (wins u w q) y = subst (λ es. IsEntered es s) (sym q) (inr y)
 
-module _ (lay : Layout) (run : History) (edits : ℕ → MapEdit) (tree : IsTreeRun lay run) (are : AreEdits edits lay run) where
+module _ (lay : Layout) (tries : ℕ) (run : History) (edits : ℕ → MapEdit) (tree : IsTreeRun lay run) (are : AreEdits edits lay run) where
   module _ (old new : PassView) (layout : new.layout ≡ lay) (within : Extends run (run_of new)) where
     -- a version is the map of the history there
     version_is : (moment : History) (m : List Pair) → Extends (run_of new) moment → IsVersion new moment m → m ≡ map_at lay edits moment
@@ -84,7 +84,7 @@ module _ (lay : Layout) (run : History) (edits : ℕ → MapEdit) (tree : IsTree
     placed_as false call told x = read_placed call told x
 
     -- what a reply tells, or that the call has no entry
-    placed : (call : MapCall) (r : Reply ℕ ℕ) → IsToldOf old new call (told_of (λ n. n) (λ n. n) r) → IsRefusalOf old new call r → IsPlaced lay edits old new call (told_of (λ n. n) (λ n. n) r)
+    placed : (call : MapCall) (r : Reply ℕ ℕ) → IsToldOf old new call (told_of (λ n. n) (λ n. n) r) → IsRefusalOf tries old new call r → IsPlaced lay edits old new call (told_of (λ n. n) (λ n. n) r)
     placed call (replies.Value v) x y = placed_as (changes call _) call _ x
     placed call (replies.Pair p) x y = placed_as (changes call _) call _ x
     placed call (replies.Pairs ps) x y = placed_as (changes call _) call _ x
@@ -92,16 +92,16 @@ module _ (lay : Layout) (run : History) (edits : ℕ → MapEdit) (tree : IsTree
     placed call (replies.Full f) x y = y.done
     placed call replies.NoMemory x y = y.1
 
-    answered : (call : MapCall) (r : Reply ℕ ℕ) → HasCalled old new call r → IsAnswered lay run edits old new call r
-    answered call r x = record { within = within; later = x.later; told = placed call r x.told x.refused; refused = x.refused; form = x.form }
+    answered : (call : MapCall) (r : Reply ℕ ℕ) → HasCalled tries old new call r → IsAnswered lay tries run edits old new call r
+    answered call r x = record { within = within; later = x.later; told = placed call r x.told x.refused; refused = x.refused; form = x.form; blames = x.blames; spends = x.spends; rest = x.rest }
 
   -- so it is for all calls of a client
-  pub all_answered : (old new : PassView) (cs : List Command) (rs : List (Reply ℕ ℕ)) → old.layout ≡ lay → Extends run (run_of new) → HaveReplies HasCalled old cs rs new → HaveReplies (IsAnswered lay run edits) old cs rs new
+  pub all_answered : (old new : PassView) (cs : List Command) (rs : List (Reply ℕ ℕ)) → old.layout ≡ lay → Extends run (run_of new) → HaveReplies (HasCalled tries) old cs rs new → HaveReplies (IsAnswered lay tries run edits) old cs rs new
   all_answered old new [] [] layout within h = h
   all_answered old new [] (r ∷ rs) layout within h = absurd h
   all_answered old new (c ∷ cs) [] layout within h = absurd h
   all_answered old new (c ∷ cs) (r ∷ rs) layout within h =
-      let more = replies_later h.1 new cs rs h.4 in
+      let more = replies_later tries h.1 new cs rs h.4 in
       let there : h.1.layout ≡ lay = h.3.later.layout ∙ layout in (
         h.0,
         h.1,

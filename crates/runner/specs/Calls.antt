@@ -14,8 +14,9 @@ use Rattle.script.specs.declared.call.Call.{Call}
 use Rattle.script.specs.declared.command.Command.{Command}
 use Rattle.record.specs.Commands.{commands}
 use Rattle.record.specs.MapRecord.{map_call}
-use Rattle.forest.specs.Dictionary.{IsToldOf, IsRefusalOf}
-use Rattle.forest.specs.Passes.{Ground, PassView, IsLaterView, IsOf, run_of}
+use Rattle.forest.specs.Dictionary.{IsToldOf, IsRefusalOf, HasSpentAtMost, blamed_by_reply}
+use Rattle.forest.specs.Passes.{Ground, PassView, IsLaterView, IsOf, HasBlamed, run_of}
+use Rattle.forest.specs.Shares.{IsBetweenCalls}
 
 -- a word of a key or a value: each number of 64 bits is one, and stands for itself
 abbrev pub IsNumber : ℕ → Type 0
@@ -25,14 +26,19 @@ IsNumber = IsWord (λ n. n < 2 ^ 64) (λ n. n)
 abbrev pub NumbersAllow : Layout → History → ℕ → Type 0
 NumbersAllow = TypedAllows IsNumber IsNumber
 
--- The pass, which knew `old` as the call began and `new` at its end, has made the call and has this
--- reply: what the reply tells is right, and so is what it refuses.
-pub record HasCalled (old new : PassView) (call : MapCall) (reply : Reply ℕ ℕ) : Type 0 where
+-- The pass, which knew `old` as the call began and `new` at its end, has made the call, which may try
+-- so often, and has this reply: what the reply tells is right, and so is what it refuses. The pass
+-- blames whom the reply names, and has spent no more of its share than so many tries may take.
+pub record HasCalled (tries : ℕ) (old new : PassView) (call : MapCall) (reply : Reply ℕ ℕ) : Type 0 where
   pub later : IsLaterView old new
   pub lawful : IsRun NumbersAllow new.layout (run_of new)
   pub told : IsToldOf old new call (told_of (λ n. n) (λ n. n) reply)
-  pub refused : IsRefusalOf old new call reply
+  pub refused : IsRefusalOf tries old new call reply
   pub form : MayReply call (form_of reply)
+  pub blames : (new.blamed ≡ blamed_by_reply reply old.blamed) × HasBlamed new
+  pub spends : HasSpentAtMost old new call tries
+  -- what is left of its share is what the run has not taken
+  pub rest : IsBetweenCalls new.layout new.number (run_of new) new.share
 
 -- The pass has made the calls of these commands, one behind the other, and they have these replies;
 -- each call with its reply is as P says. The pass knew `old` as the first began, and `new` at the
@@ -46,7 +52,7 @@ HaveReplies P old _ _ new = ⊥
 pub record HasWorked (forest : Ground) (calls : List Call) (old new : PassView) (replies : List (Reply ℕ ℕ)) : Type 0 where
   pub of_forest : IsOf forest new
   pub number : new.number ≡ old.number
-  pub made : HaveReplies HasCalled old (commands calls old.number) replies new
+  pub made : HaveReplies (HasCalled forest.tries) old (commands calls old.number) replies new
 
 -- each of these passes has worked, and has given back what stands at its place
 abbrev pub HaveWorked : Ground → List Call → List PassView → List PassView → List (Vec (Reply ℕ ℕ) Global) → Type 0

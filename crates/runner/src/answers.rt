@@ -1,12 +1,14 @@
 //! How far the clients of a run are.
+ghost use Rattle.std.specs.Prelude.{◌≡◌};
+
 use crate::counts::CLIENTS;
 use arena::PassNo;
 use std::array::from_fn;
 use std::sync::atomic::{AtomicBool, AtomicU64, Ordering};
 use std::thread::yield_now;
 
-/// How often a call looks whether what it waits for has come.
-const MOST_LOOKS: u64 = 1_000_000_000;
+/// How often a call looks at most whether what it waits for has come.
+pub(crate) const MOST_LOOKS: u64 = 1_000_000_000;
 
 /// How often it looks before it leaves its processor to another thread.
 const LOOKS_AT_ONCE: u64 = 1024;
@@ -14,14 +16,19 @@ const LOOKS_AT_ONCE: u64 = 1024;
 /// How many calls of each client are answered, and whether a call has waited in vain.
 #[derive(Drop)]
 pub(crate) struct Answers {
+    /// How often a call looks before it has waited in vain.
+    most_looks: u64,
     counts: [AtomicU64; CLIENTS],
     missed: AtomicBool,
 }
 
 impl Answers {
     /// No call is answered.
-    pub(crate) fn new() -> Answers {
+    pub(crate) fn new(most_looks: u64) -> Answers
+        ensures { result.most_looks ≡ most_looks }
+    {
         Answers {
+            most_looks,
             counts: from_fn(|_| AtomicU64::new(0)),
             missed: AtomicBool::new(false),
         }
@@ -40,7 +47,7 @@ impl Answers {
         let Some((client, call)) = awaited else {
             return;
         };
-        for look in 0..MOST_LOOKS {
+        for look in 0..self.most_looks {
             if self.has(client, call) || self.missed() {
                 return;
             }

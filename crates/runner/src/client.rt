@@ -61,7 +61,7 @@ fn make_call<G: Gate>(
 ) -> (Pass<Numbers>, Reply<u64, u64>)
     requires pass { IsOf forest.now pass }
     requires few { AsksForFew request }
-    ensures { HasCalled pass result.0 (map_request request) result.1 }
+    ensures { HasCalled forest.now.tries pass result.0 (map_request request) result.1 }
 {
     let client = pass.number();
     gate.began(client, number);

@@ -1,7 +1,6 @@
 //! A run of a script.
 ghost use Rattle.std.specs.Prelude.{◌≡◌, IfOk};
 ghost use Rattle.std.specs.List.{All};
-ghost use Rattle.arena.specs.Limits.{IsAccepted, IsLayoutOf};
 ghost use Rattle.arena.specs.declared.limits.Mode.TheVariants.{Tree};
 ghost use Rattle.script.specs.Commands.{mode_of};
 ghost use Rattle.forest.specs.Passes.{IsOf};
@@ -27,8 +26,7 @@ pub fn run<R: Threads + Wait + Sync, G: Gate>(
     script: &Script,
     gate: &G,
 ) -> Result<Outcome, NoMemory>
-    requires accepted { IsAccepted script.now.limits }
-    requires tree { IsLayoutOf script.now.limits Tree script.now.layout }
+    requires tree { script.now.layout.mode ≡ Tree }
     ensures { IfOk result (λ o. IsOutcome script.now o.replies.items o.pairs.items) }
 {
     let Ok((forest, passes)) = Forest::<Numbers>::new(alloc, script.limits) else {

@@ -1,5 +1,6 @@
 //! What the command prints.
-use program::run_over;
+use program::{run_over, write_outcome};
+use runner::Outcome;
 use std::alloc::Global;
 use std::sync::Wait;
 use std::test::Fail;
@@ -152,6 +153,20 @@ fn faults_in_their_order(rt: HostRuntime) {
         assert_eq!(rt; ended.err.as_slice(), line.as_bytes(), "{gate}");
         assert_eq!(rt; (ended.status, ended.out.len()), (status, 0), "{gate}");
     }
+}
+
+/// The outcome of no call, whose gate was missed.
+#[test]
+fn a_gate_is_missed(rt: HostRuntime) {
+    let outcome = Outcome {
+        replies: Vec::new(rt.alloc()),
+        pairs: Vec::new(rt.alloc()),
+    };
+    let mut out = Metered::new(Vec::new(rt.alloc()));
+    let written = write_outcome(rt.alloc(), &outcome, true, &mut out);
+    assert!(rt; written.is_ok());
+    let text = "outcome,1,,\ngate,missed,,\nend,0,0,\n";
+    assert_eq!(rt; out.inner.as_slice(), text.as_bytes());
 }
 
 #[test]

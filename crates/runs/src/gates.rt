@@ -1,12 +1,12 @@
 //! When calls wait for one another.
-ghost use Rattle.std.specs.Prelude.{IfOk};
-ghost use Rattle.arena.specs.Limits.{IsAccepted, IsLayoutOf};
+ghost use Rattle.std.specs.Prelude.{◌≡◌, IfOk};
 ghost use Rattle.arena.specs.declared.limits.Mode.TheVariants.{Tree};
 
 use arena::{Kind, Mode, PassNo};
 use runner::{Alternate, Gate, Hold, Open, run};
 use script::{Metered, Script, read_script};
 use std::alloc::Global;
+use std::array::from_fn;
 use std::sync::atomic::{AtomicBool, AtomicU64, Ordering};
 use std::test::Fail;
 use std::thread::yield_now;
@@ -18,8 +18,7 @@ const TWO: &str = "limits,2,20,20,3\n0,get,1,,\n1,get,2,,\nend,2,,,\n";
 const MOST_LOOKS: u64 = 1_000_000_000;
 
 fn script_of(alloc: Global, text: &str) -> Result<Script, Fail>
-    ensures accepted { IfOk result (λ script. IsAccepted script.limits) }
-    ensures layout { IfOk result (λ script. IsLayoutOf script.limits Tree script.layout) }
+    ensures { IfOk result (λ script. script.layout.mode ≡ Tree) }
 {
     let mut from = text.as_bytes();
     match read_script(alloc, Mode::Tree, &mut Metered::new(&mut from)) {
@@ -86,25 +85,62 @@ fn two_clients_are_there_at_once(rt: HostRuntime) -> Result<(), Fail> {
     Ok(())
 }
 
-/// Counts what it is told.
+/// The calls of a client alone.
+const ALONE: &str = "\
+limits,1,10,10,3
+0,insert,5,50,
+0,get,5,,
+0,delete,5,,
+0,get,5,,
+0,range,1,9,0
+end,5,,,
+";
+
+/// How many they are.
+const CALLS: usize = 5;
+
+/// Counts the steps of a client alone, and keeps how many there were as each of its calls began,
+/// and as it was answered.
 #[derive(Drop)]
-struct Told {
-    began: AtomicU64,
+struct Steps {
     made: AtomicU64,
-    answered: AtomicU64,
+    freezes: AtomicU64,
+    began: [AtomicU64; CALLS],
+    answered: [AtomicU64; CALLS],
 }
 
-impl Gate for Told {
-    fn began(&self, _client: PassNo, _call: u64) {
-        self.began.fetch_add(1, Ordering::SeqCst);
+impl Steps {
+    fn new() -> Steps {
+        Steps {
+            made: AtomicU64::new(0),
+            freezes: AtomicU64::new(0),
+            began: from_fn(|_| AtomicU64::new(0)),
+            answered: from_fn(|_| AtomicU64::new(0)),
+        }
     }
 
-    fn made(&self, _client: PassNo, _call: u64, _kind: Kind) {
+    /// Adds how many there are now, so that what is told twice is counted twice.
+    fn note(&self, counts: &[AtomicU64; CALLS], call: u64) {
+        if let Some(count) = counts.get(call as usize) {
+            count.fetch_add(self.made.load(Ordering::SeqCst), Ordering::SeqCst);
+        }
+    }
+}
+
+impl Gate for Steps {
+    fn began(&self, _client: PassNo, call: u64) {
+        self.note(&self.began, call);
+    }
+
+    fn made(&self, _client: PassNo, _call: u64, kind: Kind) {
         self.made.fetch_add(1, Ordering::SeqCst);
+        if kind == Kind::Freeze {
+            self.freezes.fetch_add(1, Ordering::SeqCst);
+        }
     }
 
     fn answered(&self, _client: PassNo, call: u64) {
-        self.answered.fetch_add(call, Ordering::SeqCst);
+        self.note(&self.answered, call);
     }
 
     fn missed(&self) -> bool {
@@ -112,36 +148,55 @@ impl Gate for Told {
     }
 }
 
-/// Two gets of the empty map take three steps each, and a range of no pairs none. The numbers of
-/// the calls are told, from 0 on.
+/// An insert makes 48 steps, a get 7, a delete 72, a get of the empty map 3, and a range of no
+/// pairs none; the insert freezes two nodes and the delete four. Each call begins where the one
+/// before it was answered.
 #[test]
 fn a_gate_is_told_of_each_step(rt: HostRuntime) -> Result<(), Fail> {
-    let text = "limits,1,20,20,3\n0,get,1,,\n0,get,2,,\n0,range,1,9,0\nend,3,,,\n";
-    let script = script_of(rt.alloc(), text)?;
-    let gate = Told {
-        began: AtomicU64::new(0),
-        made: AtomicU64::new(0),
-        answered: AtomicU64::new(0),
-    };
+    let script = script_of(rt.alloc(), ALONE)?;
+    let gate = Steps::new();
     let outcome = run(&rt, rt.alloc(), &script, &gate);
     assert!(rt; outcome.is_ok());
-    assert_eq!(rt; gate.began.load(Ordering::SeqCst), 3);
-    assert_eq!(rt; gate.made.load(Ordering::SeqCst), 6);
-    assert_eq!(rt; gate.answered.load(Ordering::SeqCst), 3);
+    let mut begin = 0;
+    for (call, end) in [48u64, 55, 127, 130, 130].iter().enumerate() {
+        assert_eq!(rt; gate.began[call].load(Ordering::SeqCst), begin, "{call}");
+        assert_eq!(rt; gate.answered[call].load(Ordering::SeqCst), *end, "{call}");
+        begin = *end;
+    }
+    assert_eq!(rt; gate.made.load(Ordering::SeqCst), 130);
+    assert_eq!(rt; gate.freezes.load(Ordering::SeqCst), 6);
+    Ok(())
+}
+
+/// A call that waits for what does not come has waited in vain after so many looks. From then on
+/// every call goes.
+#[test]
+fn what_does_not_come_is_missed(rt: HostRuntime) -> Result<(), Fail> {
+    let script = script_of(rt.alloc(), TWO)?;
+    let hold = Hold::with_looks(&script, 3);
+    assert!(rt; !hold.missed());
+    hold.began(PassNo(0), 0);
+    assert!(rt; hold.missed());
+    let alternate = Alternate::with_looks(&script, 3);
+    alternate.began(PassNo(1), 0);
+    assert!(rt; alternate.missed());
+    let outcome = run(&rt, rt.alloc(), &script, &alternate);
+    assert!(rt; outcome.is_ok());
+    assert!(rt; alternate.missed());
     Ok(())
 }
 
 /// What is answered is waited for no more, and a client that has no such call is not waited for.
 #[test]
 fn what_is_answered_is_not_waited_for(rt: HostRuntime) -> Result<(), Fail> {
-    let alone = script_of(
+    let one = script_of(
         rt.alloc(),
         "limits,2,20,20,3\n0,get,1,,\n0,get,1,,\nend,2,,,\n",
     )?;
-    let hold = Hold::new(&alone);
+    let hold = Hold::new(&one);
     hold.began(PassNo(0), 0);
     assert!(rt; !hold.missed());
-    let alternate = Alternate::new(&alone);
+    let alternate = Alternate::new(&one);
     alternate.began(PassNo(0), 1);
     alternate.began(PassNo(1), 5);
     assert!(rt; !alternate.missed());

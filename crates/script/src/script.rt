@@ -28,7 +28,8 @@ pub struct Script {
     pub calls: Vec<Call>,
     ghost clients: { All (λ call. call.client.0 < layout.passes) calls.items },
     ghost few: { vec_len calls ≤ 65536 },
-    ghost some_try: { 1 ≤ limits.tries },
+    ghost accepted: { IsAccepted limits },
+    ghost of_limits: { IsLayoutOf limits layout.mode layout },
     ghost of_mode: { All (λ call. mode_of call.command ≡ layout.mode) calls.items },
 }
 
@@ -56,8 +57,7 @@ pub fn read_script<R: Read>(
     mode: Mode,
     from: &mut Metered<R>,
 ) -> Result<Script, ScriptFault>
-    ensures accepted { IfOk result (λ script. IsAccepted script.limits) }
-    ensures layout { IfOk result (λ script. IsLayoutOf script.limits mode script.layout) }
+    ensures mode { IfOk result (λ script. script.layout.mode ≡ mode) }
 
     // Of a reader that tells its bytes: the script is what they say, and a fault is their first.
     ensures says { (bytes : List ℕ) → R.remaining from.old.inner ≡ Some bytes → IfOk result (λ script. SayScript mode bytes script.limits script.layout script.calls.items) }
@@ -78,8 +78,7 @@ fn script_of<R: Read>(
     mode: Mode,
     from: &mut Metered<R>,
 ) -> Result<Script, ScriptFault>
-    ensures accepted { IfOk result (λ script. IsAccepted script.limits) }
-    ensures layout { IfOk result (λ script. IsLayoutOf script.limits mode script.layout) }
+    ensures mode { IfOk result (λ script. script.layout.mode ≡ mode) }
     ensures says { (bytes : List ℕ) → R.remaining from.old.inner ≡ Some bytes → IfOk result (λ script. SayScript mode bytes script.limits script.layout script.calls.items) }
     ensures fault { (bytes : List ℕ) → R.remaining from.old.inner ≡ Some bytes → IfErr result (IfBad (IsScriptFault mode bytes)) }
 {

@@ -2,7 +2,7 @@
 ghost use Rattle.std.specs.Prelude.{◌≡◌, ◌<◌, ℕ, slice_index};
 ghost use Rattle.runner.specs.Turns.{call_if, calls_of, in_turn};
 
-use crate::answers::Answers;
+use crate::answers::{Answers, MOST_LOOKS};
 use crate::counts::{CLIENTS, counts};
 use crate::gate::Gate;
 use arena::{Kind, PassNo};
@@ -19,15 +19,25 @@ pub struct Alternate {
 }
 
 impl Alternate {
-    /// The gate of a script.
+    /// The gate of a script. A call has waited in vain after 1,000,000,000 looks.
     pub fn new(script: &Script) -> Alternate
         ensures clients { result.clients ≡ script.now.layout.passes }
         ensures counts { (c : ℕ) → c < CLIENTS → slice_index result.counts c ≡ calls_of script.now.calls.items c }
+        ensures looks { result.answers.most_looks ≡ 1000000000 }
+    {
+        Alternate::with_looks(script, MOST_LOOKS)
+    }
+
+    /// The gate of a script, at which a call has waited in vain after so many looks.
+    pub fn with_looks(script: &Script, most_looks: u64) -> Alternate
+        ensures clients { result.clients ≡ script.now.layout.passes }
+        ensures counts { (c : ℕ) → c < CLIENTS → slice_index result.counts c ≡ calls_of script.now.calls.items c }
+        ensures looks { result.answers.most_looks ≡ most_looks }
     {
         Alternate {
             clients: script.layout.passes,
             counts: counts(&script.calls),
-            answers: Answers::new(),
+            answers: Answers::new(most_looks),
         }
     }
 

@@ -2,7 +2,7 @@
 ghost use Rattle.std.specs.Prelude.{◌≡◌, ltb};
 ghost use Rattle.runner.specs.Turns.{calls_of, held_back};
 
-use crate::answers::Answers;
+use crate::answers::{Answers, MOST_LOOKS};
 use crate::counts::counts;
 use crate::gate::Gate;
 use arena::{Kind, PassNo};
@@ -17,14 +17,23 @@ pub struct Hold {
 }
 
 impl Hold {
-    /// The gate of a script.
+    /// The gate of a script. A call has waited in vain after 1,000,000,000 looks.
     pub fn new(script: &Script) -> Hold
-        ensures { result.holds ≡ ltb 0 (calls_of script.now.calls.items 1) }
+        ensures holds { result.holds ≡ ltb 0 (calls_of script.now.calls.items 1) }
+        ensures looks { result.answers.most_looks ≡ 1000000000 }
+    {
+        Hold::with_looks(script, MOST_LOOKS)
+    }
+
+    /// The gate of a script, at which a call has waited in vain after so many looks.
+    pub fn with_looks(script: &Script, most_looks: u64) -> Hold
+        ensures holds { result.holds ≡ ltb 0 (calls_of script.now.calls.items 1) }
+        ensures looks { result.answers.most_looks ≡ most_looks }
     {
         let counts = counts(&script.calls);
         Hold {
             holds: 0 < counts[1],
-            answers: Answers::new(),
+            answers: Answers::new(most_looks),
         }
     }
 

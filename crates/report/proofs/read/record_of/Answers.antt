@@ -12,7 +12,7 @@ returns-clause-rows g c = λ bytes known.
     let script = c.in_ok-script.script in
     let lines = c.in_ok-lines.lines.items in
     let head = map seven (title_row script.layout.mode ∷ limits_row script.limits ∷ call_rows [] script.calls.items) in
-    let read = c.in_ok-lines.ensures.rows bytes head (c.in_ok-script.ensures.rows bytes (c.new-rows.ensures.none bytes known)) in
+    let read = c.in_ok-lines.ensures.rows bytes head (c.in_ok-script.ensures bytes (c.new-rows.ensures.none bytes known)) in
     subst (λ rows. AreRows bytes rows)
     (ap (λ all. (head ++ map seven (map line_row lines)) ++ seven (report_end_row all) ∷ []) c.as_slice-2.ensures.value ∙ whole_report script lines)
     (c.in_ok-end_of.ensures bytes (head ++ map seven (map line_row lines)) read)

@@ -8,8 +8,8 @@ use Rattle.report.proofs.read.script_of.Goals as goal
 pub invariant_of-result-clause-of_mode : goal.invariant_of-result-clause-of_mode
 invariant_of-result-clause-of_mode g c k d lt = (c.in_ok-calls.ensures.accepted k d lt).1
 
-pub returns-clause-rows : goal.returns-clause-rows
-returns-clause-rows g c = λ bytes none.
+pub returns : goal.returns
+returns g c = λ bytes none.
     let mode : c.in-Some-limits_of.layout.mode ≡ c.in-Some.mode = search rules in
     let first = c.in_ok-next_row.ensures bytes [] none in
     let title : last_row c.next_row.new.rows ≡ seven (title_row c.in-Some-limits_of.layout.mode) = sym (c.row_fields.ensures first.row.0) ∙ c.in-Some.ensures ∙ ap (λ m. seven (title_row m)) (sym mode) in

@@ -16,13 +16,13 @@ loop-call-preserved g c =
           rw (w.pass-is, w.replies-is, w.in_ok-push.ensures.items) record {
             of_forest = (call.later.table ∙ inv.of_forest.0, call.later.layout ∙ inv.of_forest.1);
             number = call.later.number ∙ inv.number;
-            replies = replies_next HasCalled c.args.calls.now c.loop-call.call-index c.call-item.result c.args.pass.number c.loop-call-test.true c.call-item.is c.args.pass c.loop-call.pass c.loop-call.replies.items inv.replies same w.make_call-back.result.0 _ w.make_call-back.result.1 w.request_of-request.ensures.call call;
+            replies = replies_next (HasCalled c.args.forest.now.tries) c.args.calls.now c.loop-call.call-index c.call-item.result c.args.pass.number c.loop-call-test.true c.call-item.is c.args.pass c.loop-call.pass c.loop-call.replies.items inv.replies same w.make_call-back.result.0 _ w.make_call-back.result.1 w.request_of-request.ensures.call call;
           }
       | else-eq w ↦
           let other : eqb client c.args.pass.number ≡ false = sym number ∙ w.if-eq.false in
           rw (w.pass-is, w.replies-is) record {
             of_forest = inv.of_forest;
             number = inv.number;
-            replies = replies_skip HasCalled c.args.calls.now c.loop-call.call-index c.call-item.result c.args.pass.number c.loop-call-test.true c.call-item.is c.args.pass c.loop-call.pass c.loop-call.replies.items inv.replies other;
+            replies = replies_skip (HasCalled c.args.forest.now.tries) c.args.calls.now c.loop-call.call-index c.call-item.result c.args.pass.number c.loop-call-test.true c.call-item.is c.args.pass c.loop-call.pass c.loop-call.replies.items inv.replies other;
           }
     ]

@@ -8,5 +8,5 @@ abbrev pub invariant-loop-call : goal.invariant-loop-call
 invariant-loop-call g l = record {
   of_forest : IsOf l.forest l.pass;
   number : l.pass.number ≡ l.fn.pass.number;
-  replies : HaveReplies HasCalled l.fn.pass (commands (take l.call-index l.calls) l.fn.pass.number) l.replies.items l.pass;
+  replies : HaveReplies (HasCalled l.forest.tries) l.fn.pass (commands (take l.call-index l.calls) l.fn.pass.number) l.replies.items l.pass;
 }

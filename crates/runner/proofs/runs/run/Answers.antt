@@ -17,6 +17,6 @@ pub close-requires-clause-all : goal.close-requires-clause-all
 close-requires-clause-all g c = worked_back _ _ _ _ _ c.in-Ok.ensures.passes c.in_ok-passes.ensures
 
 pub returns : goal.returns
-returns g c = outcome c.args.script.now c.in-Ok.forest c.in-Ok.ensures.layout c.in-Ok.passes.items c.in_ok-passes.passes.items c.in_ok-passes.replies.items c.in-Ok.ensures.passes
+returns g c = outcome c.args.script.now c.in-Ok.forest c.in-Ok.ensures.layout c.in-Ok.ensures.tries c.in-Ok.passes.items c.in_ok-passes.passes.items c.in_ok-passes.replies.items c.in-Ok.ensures.passes
     (subst (λ (xs : List Call). HaveWorked c.in-Ok.forest xs c.in-Ok.passes.items c.in_ok-passes.passes.items c.in_ok-passes.replies.items) c.as_slice.ensures.value c.in_ok-passes.ensures)
     c.close.result c.close.ensures.closed c.in_ok-pairs.pairs.items (c.in_ok-pairs.ensures.pairs _ _ c.close.ensures.closed)

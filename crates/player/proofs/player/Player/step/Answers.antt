@@ -36,7 +36,7 @@ stood c =
     let p = c.args.self.now in
     let i = c.args.client.0 in
     let client = is_client p i c.next_turn-number.result c.index_mut.result.now c.next_action.new.self c.requires.played (there c) in
-    c.next_action.ensures (client_view p.script.layout p.script.limits.tries p.script.calls.items (newest p.lines) i) (begin (newest p.lines) i) c.requires.played.between.so_far.sound p.script.some_try (calls_are_of_mode p.script) c.deref.ensures.value client
+    c.next_action.ensures (client_view p.script.layout p.script.limits.tries p.script.calls.items (newest p.lines) i) (begin (newest p.lines) i) c.requires.played.between.so_far.sound p.script.accepted.some_try (calls_are_of_mode p.script) c.deref.ensures.value client
 
 -- and the places, but for their room
 roomy : (c : After-next_action) → ArePlaces c.args.self.now.script.layout c.args.self.now.script.calls.items (newest c.args.self.now.lines) c.reserve-2.new.self
