@@ -1,12 +1,11 @@
 -- What a call of a dictionary leaves of its pass.
-use Rattle.std.proofs.Common.{◌≡◌, ◌∙◌, arith, ℕ, suc, ◌+◌, ◌<◌, ◌≤◌, ◌∷◌, List, Option, Some, None, true, ap, refl, sym, subst}
+use Rattle.std.proofs.Common.{◌≡◌, ◌∙◌, arith, ℕ, suc, ◌+◌, ◌*◌, ◌<◌, ◌≤◌, ◌∷◌, List, Option, Some, None, true, ap, refl, sym, subst}
 use Rattle.std.proofs.Math.Nat.{lt_of_not-le}
 use Rattle.atomic_table.specs.declared.shared.Seat.{Seat}
 use Rattle.arena.specs.declared.layout.Layout.{Layout}
 use Rattle.arena.specs.declared.limits.Mode.TheVariants.{Tree}
 use Rattle.arena.specs.History.{History, Extends}
 use Rattle.arena.specs.Share.{Remaining}
-use Rattle.arena.proofs.Lemmas.{ends_self}
 use Rattle.std.specs.Prelude.{Result, Ok, Err, IfOk, IfSome}
 use Rattle.std.specs.Option.{option_map}
 use Rattle.spelling.specs.OrderedMap.{MapCall, Edit as EditCall, MapEdit, Insert, Delete, MapReply, OneValue}
@@ -16,9 +15,10 @@ use Rattle.prims.specs.Shares.{IsShare}
 use Rattle.prims.proofs.Lemmas.{all_over, taken_node_since}
 use Rattle.updates.specs.Known.{RestsWith}
 use Rattle.dict.specs.Begins.{dict_begins}
-use Rattle.dict.specs.Calls.{call_in, share_of, tries_behind, IsFewCall}
+use Rattle.dict.specs.Calls.{call_in, most_nodes, most_scx, share_of, IsFewCall}
 use Rattle.dict.specs.DictKnown.{DictIsReady, DictWaits, DictAnswers, DictRefuses}
 use Rattle.dict.specs.Known.{IsUnbegun}
+use Rattle.dict.specs.OneShare.{one_share}
 use Rattle.dict.specs.Says.{Tells}
 use Rattle.dict.specs.Typed.{IsTypedCall, TypedAllows}
 use Rattle.dict.specs.TypedMaps.{typed_run}
@@ -33,7 +33,7 @@ use Rattle.spelling.specs.declared.reply.Reply.TheVariants as replies
 use Rattle.forest.specs.declared.view.SeatView.{SeatView}
 use Rattle.forest.specs.declared.pass.Pass.TheInside.{Inside}
 use Rattle.forest.specs.Dictionary.{IsChange, IsChangeOrReading, IsToldOf, IsRefusalOf, HasEdited, HasSpentAtMost, UpdateSays, blamed_by_reply, blamed_by_update, update_reply}
-use Rattle.forest.specs.StraightCalls.{IsFreshEdit, map_edit}
+use Rattle.forest.specs.StraightCalls.{IsFreshEdit, IsSameDictCall, map_edit}
 use Rattle.forest.specs.declared.fault.UpdateFault.{UpdateFault}
 use Rattle.forest.specs.declared.fault.UpdateFault.TheVariants as faults
 use Rattle.forest.specs.declared.straight.calls.WordEdit.{WordEdit}
@@ -125,9 +125,9 @@ module _ {K V : Type 0} (valid_key : K → Type 0) (key : K → ℕ) (valid_valu
     Answered h = DictAnswers valid_key key valid_value value_word m (call_of p x called) h reply
 
     -- how it has ended
-    pub dict_ended : (first : DictRun K V) → HoldsForCall allows s.me.0.passes (call_of p x called) (λ h. Answered h × Trace allows (DictWaits keys values) IsSameCall (call_of p x called) first m h) → HasEnded allows p s called Answered × IsSameCall first m
+    pub dict_ended : (first : DictRun K V) → HoldsForCall allows s.me.0.passes (call_of p x called) (λ h. Answered h × Trace allows (DictWaits keys values) (IsSameDictCall valid_key key valid_value value_word) (call_of p x called) first m h) → HasEnded allows p s called Answered × IsSameCall first m
     dict_ended first y = (
-      ended p x s called (DictWaits keys values) IsSameCall first m Answered y,
+      ended p x s called (DictWaits keys values) (IsSameDictCall valid_key key valid_value value_word) first m Answered y,
       course_keeps (λ (k : DictRun K V). IsSameCall first k) (refl, refl) (λ old now e q. (e.0 ∙ q.0, e.1 ∙ q.1)) m _ y.so.1,
     )
 
@@ -156,7 +156,7 @@ module _ {K V : Type 0} (valid_key : K → Type 0) (key : K → ℕ) (valid_valu
           none : HasBlamed (pass_view (left_with p x s called Answered (share_of m.run) p.blamed))
           none = blamed_later (pass_view p) (pass_view (left_with p x s called Answered (share_of m.run) p.blamed)) refl refl refl y.sound.lawful y.since x.blamed
 
-          go : (r : Reply K V) → DictRefuses (call_of p x called) (run_of now) (call_in m.run) (share_of m.run) (tries_behind m.run) r → HasBlamed (pass_view (left_with p x s called Answered (share_of m.run) (blamed_by_reply r p.blamed)))
+          go : (r : Reply K V) → DictRefuses (call_of p x called) (run_of now) (call_in m.run) (share_of m.run) m.tries r → HasBlamed (pass_view (left_with p x s called Answered (share_of m.run) (blamed_by_reply r p.blamed)))
           go (replies.Value v) z = none
           go (replies.Pair v) z = none
           go (replies.Pairs v) z = none
@@ -170,28 +170,26 @@ module _ {K V : Type 0} (valid_key : K → Type 0) (key : K → ℕ) (valid_valu
 
       -- and has gone on
       pub dict_goes_on : (few most : ℕ) → s.table_id ≡ p.seat.table_id → seat_steps s.me.0.passes ≤ seat_steps p.seat.me.0.passes + few → few ≤ most → HasGoneOn allows (pass_view p) now called most (blamed_by_reply reply p.blamed)
-      dict_goes_on few most table steps small = ended_goes_on p x s called Answered (share_of m.run) (blamed_by_reply reply p.blamed) few most table y steps small dict_blames
+      dict_goes_on few most table steps small = ended_goes_on p x s called Answered (share_of m.run) (blamed_by_reply reply p.blamed) few most table y steps small rest dict_blames
+
+      -- what it had of its share as the call began
+      rests : RestsWith (call_of p x called) (run_of (pass_view p)) p.share
+      rests = record { share = x.rest.share; over = all_over p.layout _ p.number.0 p.share p.share.next_node p.share.next_scx x.rest.share x.rest.over }
 
       -- what it has spent
       pub dict_spends : HasSpentAtMost (pass_view p) now (call_in m.run) m.tries
       dict_spends =
           let z = y.answers.spent in
-          let nodes = share_nodes p.layout p.number.0 (run_of (pass_view p)) (run_of (pass_view p)) z.left p.share (ends_self (run_of (pass_view p))) z.first.share x.rest.share in
-          let scx = share_scx p.layout p.number.0 (run_of (pass_view p)) (run_of (pass_view p)) z.left p.share (ends_self (run_of (pass_view p))) z.first.share x.rest.share in
-          let a = z.nodes in
-          let b = z.scx in
+          let whole : z.left ≡ p.share = one_share (call_of p x called) (run_of (pass_view p)) z.left p.share z.first rests in
           record {
-            nodes = omega (arith, nodes, a);
-            scx = omega (arith, scx, b);
+            nodes = subst (λ (r : Remaining). r.nodes ≤ (share_of m.run).nodes + most_nodes (call_in m.run) * m.tries) whole z.nodes;
+            scx = subst (λ (r : Remaining). r.scx ≤ (share_of m.run).scx + most_scx (call_in m.run) * m.tries) whole z.scx;
+            each = subst (λ (r : Remaining). r.nodes + most_nodes (call_in m.run) * (share_of m.run).scx ≤ (share_of m.run).nodes + most_nodes (call_in m.run) * r.scx) whole z.each;
             gone_nodes = share_nodes p.layout p.number.0 (run_of now) (run_of (pass_view p)) p.share (share_of m.run) y.since x.rest.share rest.share;
             gone_scx = share_scx p.layout p.number.0 (run_of now) (run_of (pass_view p)) p.share (share_of m.run) y.since x.rest.share rest.share;
             end_nodes = rest.share.to_node ∙ sym x.rest.share.to_node;
             end_scx = rest.share.to_scx ∙ sym x.rest.share.to_scx;
           }
-
-      -- what it had of its share as the call began
-      rests : RestsWith (call_of p x called) (run_of (pass_view p)) p.share
-      rests = record { share = x.rest.share; over = all_over p.layout _ p.number.0 p.share p.share.next_node p.share.next_scx x.rest.share x.rest.over }
 
       -- what it tells
       pub dict_tells : IsToldOf (pass_view p) now (call_in m.run) (told_of key value_word reply)
@@ -202,16 +200,16 @@ module _ {K V : Type 0} (valid_key : K → Type 0) (key : K → ℕ) (valid_valu
           go (Some told) z = told_says (pass_view p) x.is_pass called refl s.table_id (share_of m.run) (known_of s.me.0.passes) (blamed_by_reply reply p.blamed) tree y.since (call_in m.run) told rests y.answers.rests z
 
       -- why it tells nothing
-      pub dict_refuses : IsRefusalOf (pass_view p) now (call_in m.run) reply
+      pub dict_refuses : IsRefusalOf m.tries (pass_view p) now (call_in m.run) reply
       dict_refuses = go reply y.answers.refuses
         where
-          go : (r : Reply K V) → DictRefuses (call_of p x called) (run_of now) (call_in m.run) (share_of m.run) (tries_behind m.run) r → IsRefusalOf (pass_view p) now (call_in m.run) r
+          go : (r : Reply K V) → DictRefuses (call_of p x called) (run_of now) (call_in m.run) (share_of m.run) m.tries r → IsRefusalOf m.tries (pass_view p) now (call_in m.run) r
           go (replies.Value v) z = tt
           go (replies.Pair v) z = tt
           go (replies.Pairs v) z = tt
           go (replies.Full f) z = full_says (pass_view p) x.is_pass called refl s.table_id (share_of m.run) (known_of s.me.0.passes) (blamed_by_reply reply p.blamed) tree y.since (call_in m.run) f rests z
           go replies.NoMemory z = (z.0, nothing_says (pass_view p) x.is_pass called refl s.table_id (share_of m.run) (known_of s.me.0.passes) (blamed_by_reply reply p.blamed) tree y.since z.1)
-          go (replies.Contended n u) z = lost_says (pass_view p) x.is_pass called refl s.table_id (share_of m.run) (known_of s.me.0.passes) (blamed_by_reply reply p.blamed) tree y.since (tries_behind m.run) n.0 u.0 z
+          go (replies.Contended n u) z = lost_says (pass_view p) x.is_pass called refl s.table_id (share_of m.run) (known_of s.me.0.passes) (blamed_by_reply reply p.blamed) tree y.since m.tries n.0 u.0 z
 
 -- What an edit has answered
 
@@ -235,10 +233,10 @@ module _ {K V : Type 0} (key : K → ℕ) (value_word : V → ℕ) (old new : Pa
   edited_so (Delete k) None x = x
 
   -- what is told of the map, or why nothing is, is what the answer says
-  pub update_says : (ed : MapEdit) (r : Result (Option V) UpdateFault) → IsToldOf old new (EditCall ed) (told_of key value_word (update_reply r)) → IsRefusalOf {K = K} old new (EditCall ed) (update_reply r) → UpdateSays value_word old new ed r
-  update_says ed (Ok v) told refused = edited_so ed (option_map value_word v) told
-  update_says ed (Err (faults.Contended n s)) told refused = refused
-  update_says ed (Err (faults.Full full)) told refused = refused
+  pub update_says : (tries : ℕ) (ed : MapEdit) (r : Result (Option V) UpdateFault) → IsToldOf old new (EditCall ed) (told_of key value_word (update_reply r)) → IsRefusalOf {K = K} tries old new (EditCall ed) (update_reply r) → UpdateSays value_word tries old new ed r
+  update_says tries ed (Ok v) told refused = edited_so ed (option_map value_word v) told
+  update_says tries ed (Err (faults.Contended n s)) told refused = refused
+  update_says tries ed (Err (faults.Full full)) told refused = refused
 
   pub update_valid : (valid_key : K → Type 0) (valid_value : V → Type 0) (r : Result (Option V) UpdateFault) → IsValidReply valid_key valid_value (update_reply r) → IfOk r (λ v. IfSome v valid_value)
   update_valid valid_key valid_value (Ok v) x = x

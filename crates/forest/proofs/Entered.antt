@@ -125,14 +125,15 @@ module _ {allows : Layout → History → ℕ → Type 0} {mode : Mode} {T : Typ
   ended_pass bare y rest blames = record { seat = y.seat; bare = bare ∙ x.bare; is_mode = x.is_mode; is_pass = x.is_pass; sound = y.sound; rest = rest; blamed = blames }
 
   -- and has gone on
-  pub ended_goes_on : (few most : ℕ) → s.table_id ≡ p.seat.table_id → HasEnded allows p s number A → seat_steps s.me.0.passes ≤ seat_steps p.seat.me.0.passes + few → few ≤ most → HasBlamed (pass_view left_with) → HasGoneOn allows (pass_view p) (pass_view left_with) number most blamed
-  ended_goes_on few most table y steps small blames = record {
+  pub ended_goes_on : (few most : ℕ) → s.table_id ≡ p.seat.table_id → HasEnded allows p s number A → seat_steps s.me.0.passes ≤ seat_steps p.seat.me.0.passes + few → few ≤ most → IsBetweenCalls p.layout p.number.0 (run_of (pass_view left_with)) left → HasBlamed (pass_view left_with) → HasGoneOn allows (pass_view p) (pass_view left_with) number most blamed
+  ended_goes_on few most table y steps small rest blames = record {
     later = later;
     lawful = y.sound;
     calls = y.calls;
     steps = let a = steps_are p.number.0 p.layout s.me.0.passes y.seat in let b = steps_are p.number.0 p.layout p.seat.me.0.passes x.seat in omega arith;
     blamed_these = refl;
     blames = blames;
+    rest = rest;
     usable = can_use_later (pass_view p) (pass_view left_with) later y.sound.lawful;
   }
     where

@@ -81,7 +81,7 @@ module _ {allows : Layout → History → ℕ → Type 0} {mode : Mode} {T : Typ
   pub llx_goes_on : (a : Llx) (blamed : List ℕ) (left most : ℕ) → blamed ≡ blamed_by a p.blamed → s.table_id ≡ p.seat.table_id → s.me.1 ≡ p.seat.me.1 → HasCalled allows p s number (Answered p x number node a) → seat_steps s.me.0.passes ≤ seat_steps p.seat.me.0.passes + left → left ≤ most → HasGoneOn allows (pass_view p) (pass_view (heard blamed)) number most (blamed_by a p.blamed)
   llx_goes_on a blamed left most e table bare y few small =
       let z = called_goes_on p x s number _ left most table bare y few small in
-      record { later = record { table = table; layout = refl; number = refl; run = z.later.run }; lawful = z.lawful; calls = z.calls; steps = z.steps; blamed_these = e; blames = (llx_pass a blamed e bare y).blamed; usable = z.usable }
+      record { later = record { table = table; layout = refl; number = refl; run = z.later.run }; lawful = z.lawful; calls = z.calls; steps = z.steps; blamed_these = e; blames = (llx_pass a blamed e bare y).blamed; rest = z.rest; usable = z.usable }
 
   pub llx_nothing : (a : Llx) (blamed : List ℕ) → HasCalled allows p s number (Answered p x number node a) → HasTakenNothing (pass_view p) (pass_view (heard blamed))
   llx_nothing a blamed y = let z = called_nothing p s number _ y in record { share = refl; done = z.done; alone = z.alone }

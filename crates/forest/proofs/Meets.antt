@@ -96,6 +96,7 @@ looked_once p x s A table bare y one looks = record {
     steps = omega arith;
     blamed_these = refl;
     blames = (called_pass p x s 0 A bare y).blamed;
+    rest = (called_pass p x s 0 A bare y).rest;
     usable = can_use_later (pass_view p) (pass_view (seated p s)) later y.goes.sound.lawful;
   };
   takes_nothing = called_nothing p s 0 A y;

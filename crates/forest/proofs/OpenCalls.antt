@@ -19,7 +19,8 @@ use Rattle.forest.specs.OpenInvariant.{IsOpen, next_call, pass_as}
 use Rattle.forest.specs.Passes.{HasGoneOn, steps_of, taken_of}
 use Rattle.forest.specs.PassInvariant.{IsPass, pass_view}
 use Rattle.forest.specs.Traces.{Stands, seat_steps, shared_nodes}
-use Rattle.forest.proofs.DictCalls.{Answered, IsSameCall, behind, dict_ended, dict_pass, dict_goes_on, dict_spends, dict_tells, dict_refuses}
+use Rattle.forest.specs.StraightCalls.{IsSameDictCall}
+use Rattle.forest.proofs.DictCalls.{Answered, behind, dict_ended, dict_pass, dict_goes_on, dict_spends, dict_tells, dict_refuses}
 use Rattle.forest.proofs.Entered.{HasEnded}
 use Rattle.forest.proofs.Passes.{steps_are}
 
@@ -32,7 +33,7 @@ module _ {K V : Type 0} (valid_key : K → Type 0) (key : K → ℕ) (valid_valu
   was = pass_as o.began.value o.seat
 
   over : HasEnded (TypedAllows (IsWord valid_key key) (IsWord valid_value value)) was o.seat (taken_of o.began.value) (Answered valid_key key valid_value value was x.pass o.seat o.run reply)
-  over = (dict_ended valid_key key valid_value value was x.pass o.seat o.run reply x.first (subst (λ turn. Stands (TypedAllows (IsWord valid_key key) (IsWord valid_value value)) (DictWaits (IsWord valid_key key) (IsWord valid_value value)) (IsSameCall valid_key key valid_value value) (next_call o.began.value x.pass.is_pass) o.seat.me.0.passes x.first (DictAnswers valid_key key valid_value value) o.run turn) is x.stands)).0
+  over = (dict_ended valid_key key valid_value value was x.pass o.seat o.run reply x.first (subst (λ turn. Stands (TypedAllows (IsWord valid_key key) (IsWord valid_value value)) (DictWaits (IsWord valid_key key) (IsWord valid_value value)) (IsSameDictCall valid_key key valid_value value) (next_call o.began.value x.pass.is_pass) o.seat.me.0.passes x.first (DictAnswers valid_key key valid_value value) o.run turn) is x.stands)).0
 
   module _ (left : Remaining) (blamed : List ℕ) (gives : left ≡ share_of o.run.run) (blames : blamed ≡ blamed_by_reply reply o.blamed) where
     -- the pass that is given back
@@ -64,5 +65,5 @@ module _ {K V : Type 0} (valid_key : K → Type 0) (key : K → ℕ) (valid_valu
     pub open_tells : IsToldOf o.began.value (pass_view back) (call_in o.run.run) (told_of key value reply)
     open_tells = subst (λ p. IsToldOf o.began.value (pass_view p) (call_in o.run.run) (told_of key value reply)) (sym back_is) (dict_tells valid_key key valid_value value was x.pass o.seat o.run reply over)
 
-    pub open_refuses : IsRefusalOf o.began.value (pass_view back) (call_in o.run.run) reply
-    open_refuses = subst (λ p. IsRefusalOf o.began.value (pass_view p) (call_in o.run.run) reply) (sym back_is) (dict_refuses valid_key key valid_value value was x.pass o.seat o.run reply over)
+    pub open_refuses : IsRefusalOf o.run.tries o.began.value (pass_view back) (call_in o.run.run) reply
+    open_refuses = subst (λ p. IsRefusalOf o.run.tries o.began.value (pass_view p) (call_in o.run.run) reply) (sym back_is) (dict_refuses valid_key key valid_value value was x.pass o.seat o.run reply over)

@@ -17,6 +17,7 @@ use Rattle.forest.specs.declared.view.SeatedPass.{SeatedPass}
 use Rattle.forest.specs.declared.view.SeatView.{SeatView}
 use Rattle.forest.specs.OpenInvariant.{IsOpen, next_call}
 use Rattle.forest.specs.Passes.{steps_of}
+use Rattle.forest.specs.StraightCalls.{IsSameDictCall}
 use Rattle.forest.specs.Traces.{Stands, seat_steps, shared_nodes, weight}
 use Rattle.forest.proofs.Advances.{weighs}
 use Rattle.forest.proofs.Calls.{course_keeps}
@@ -28,7 +29,7 @@ differ e = cc
 module _ {K V : Type 0} (valid_key : K → Type 0) (key : K → ℕ) (valid_value : V → Type 0) (value : V → ℕ) where
   -- where the machine of such a call stands
   abbrev pub DictStands : Call → List SeatedPass → DictRun K V → DictRun K V → Turn (Reply K V) → Type 0
-  DictStands c ps first m turn = Stands (TypedAllows (IsWord valid_key key) (IsWord valid_value value)) (DictWaits (IsWord valid_key key) (IsWord valid_value value)) (IsSameCall valid_key key valid_value value) c ps first (DictAnswers valid_key key valid_value value) m turn
+  DictStands c ps first m turn = Stands (TypedAllows (IsWord valid_key key) (IsWord valid_value value)) (DictWaits (IsWord valid_key key) (IsWord valid_value value)) (IsSameDictCall valid_key key valid_value value) c ps first (DictAnswers valid_key key valid_value value) m turn
 
   -- it is of the same call as the first
   pub same_so_far : (c : Call) (ps : List SeatedPass) (first m : DictRun K V) (turn : Turn (Reply K V)) → DictStands c ps first m turn → IsSameCall valid_key key valid_value value first m

@@ -90,6 +90,7 @@ goes_nowhere p x number most = record {
   steps = omega arith;
   blamed_these = refl;
   blames = x.blamed;
+  rest = x.rest;
   usable = λ snap u. u;
 }
 
@@ -106,6 +107,7 @@ called_goes_on p x s number A left most table bare y few small = record {
   steps = let a = steps_are p.number.0 p.layout s.me.0.passes y.seat in let b = steps_are p.number.0 p.layout p.seat.me.0.passes x.seat in omega arith;
   blamed_these = refl;
   blames = (called_pass p x s number A bare y).blamed;
+  rest = (called_pass p x s number A bare y).rest;
   usable = can_use_later (pass_view p) (pass_view (seated p s)) later y.goes.sound.lawful;
 }
   where

@@ -263,6 +263,7 @@ module _ {T : Type 0} (p : Inside T) (x : IsPass AllowsAll Records p) (some_node
     steps = let a = steps_are p.number.0 p.layout s.me.0.passes y.seat in let b = steps_are p.number.0 p.layout p.seat.me.0.passes x.seat in omega arith;
     blamed_these = refl;
     blames = (put_pass s a bare y).blamed;
+    rest = (put_pass s a bare y).rest;
     usable = can_use_later (pass_view p) (pass_view (spent s)) later y.goes.sound.lawful;
   }
     where

@@ -80,6 +80,7 @@ module _ {K V : Type 0} (valid_key : K → Type 0) (key : K → ℕ) (valid_valu
       mode = x.mode;
       small = subst (λ (e : Inserted). e.key < 2 ^ 64) (sym on.edit) x.small;
       number = on.called ∙ x.number;
+      limit = on.limit ∙ x.limit;
       spent = edit_spends c 3 old.share now.share machine.tries (node_tries old old.at) (node_tries now now.at) (scx_tries old old.at) (scx_tries now now.at) x.spent on.spends;
     }
 
@@ -95,7 +96,7 @@ module _ {K V : Type 0} (valid_key : K → Type 0) (key : K → ℕ) (valid_valu
       opens = λ m h s x. x.1.1;
       tells = λ m h got x. x.1.1;
       turns = λ old now h got s on x w. (subst (λ (e : Inserted). IsTypedCall keys values (insert_call e)) (sym on.edit) x.0, (insert_goes old now on x.1.0, w));
-      stays = λ old now e. (ap insert_call e, refl);
+      stays = λ old now e fewer. (ap insert_call e, refl, (fewer.1, fewer.0));
     }
 
     pub insert_begins : (ps : List SeatedPass) {A : Type 0} (m : UpdateRun Inserted A) → machine.run ≡ Insert (standing m Start) → SeatDictBegins valid_key key valid_value value_word c ps machine → UpdaterBegins allows ready waits same insert_means layout number inserter ps m
@@ -109,8 +110,8 @@ module _ {K V : Type 0} (valid_key : K → Type 0) (key : K → ℕ) (valid_valu
       is = x.is;
       sound = x.sound;
       so = (
-        (y.was.1.0.mode, insert_ends machine.tries c _ y.old (standing m Start) a (typed_run keys values c.layout _ x.sound) y.was.1.0 y.goes.edit y.goes.called y.goes.spends (answers_there insert_means c _ m Start a y.answers)),
-        goes_on (inserting y.old) (ap insert_call y.goes.edit, refl) y.course,
+        (y.was.1.0.mode, insert_ends machine.tries c _ y.old (standing m Start) a (typed_run keys values c.layout _ x.sound) y.was.1.0 y.goes.edit y.goes.called y.goes.limit y.goes.spends (answers_there insert_means c _ m Start a y.answers)),
+        goes_on (inserting y.old) (ap insert_call y.goes.edit, refl, (y.goes.tries.1, y.goes.tries.0)) y.course,
       );
     }
 
@@ -127,6 +128,7 @@ module _ {K V : Type 0} (valid_key : K → Type 0) (key : K → ℕ) (valid_valu
       mode = x.mode;
       small = subst (λ (e : Deleted). e.key < 2 ^ 64) (sym on.edit) x.small;
       number = on.called ∙ x.number;
+      limit = on.limit ∙ x.limit;
       spent = edit_spends c 1 old.share now.share machine.tries (node_tries old old.at) (node_tries now now.at) (scx_tries old old.at) (scx_tries now now.at) x.spent on.spends;
     }
 
@@ -142,7 +144,7 @@ module _ {K V : Type 0} (valid_key : K → Type 0) (key : K → ℕ) (valid_valu
       opens = λ m h s x. x.1.1;
       tells = λ m h got x. x.1.1;
       turns = λ old now h got s on x w. (subst (λ (e : Deleted). IsTypedCall keys values (delete_call e)) (sym on.edit) x.0, (delete_goes old now on x.1.0, w));
-      stays = λ old now e. (ap delete_call e, refl);
+      stays = λ old now e fewer. (ap delete_call e, refl, (fewer.1, fewer.0));
     }
 
     pub delete_begins : (ps : List SeatedPass) {A : Type 0} (m : UpdateRun Deleted A) → machine.run ≡ Delete (standing m Start) → SeatDictBegins valid_key key valid_value value_word c ps machine → UpdaterBegins allows ready waits same delete_means layout number deleter ps m
@@ -156,8 +158,8 @@ module _ {K V : Type 0} (valid_key : K → Type 0) (key : K → ℕ) (valid_valu
       is = x.is;
       sound = x.sound;
       so = (
-        (y.was.1.0.mode, delete_ends machine.tries c _ y.old (standing m Start) a (typed_run keys values c.layout _ x.sound) y.was.1.0 y.goes.edit y.goes.called y.goes.spends (answers_there delete_means c _ m Start a y.answers)),
-        goes_on (deleting y.old) (ap delete_call y.goes.edit, refl) y.course,
+        (y.was.1.0.mode, delete_ends machine.tries c _ y.old (standing m Start) a (typed_run keys values c.layout _ x.sound) y.was.1.0 y.goes.edit y.goes.called y.goes.limit y.goes.spends (answers_there delete_means c _ m Start a y.answers)),
+        goes_on (deleting y.old) (ap delete_call y.goes.edit, refl, (y.goes.tries.1, y.goes.tries.0)) y.course,
       );
     }
 
@@ -176,8 +178,8 @@ module _ {K V : Type 0} (valid_key : K → Type 0) (key : K → ℕ) (valid_valu
       with_run = searching share;
       opens = λ m h s x. x.1.1.0;
       tells = λ m h got x. x.1.1.0;
-      turns = λ old now h got s is x w. (tt, (record { mode = x.1.0.mode; small = tt; number = tt; spent = x.1.0.spent }, (w, x.1.1.1)));
-      stays = λ old now is. (ap SuccessorCall is, refl);
+      turns = λ old now h got s is x w. (tt, (record { mode = x.1.0.mode; small = tt; number = tt; limit = is.1 ∙ x.1.0.limit; spent = x.1.0.spent }, (w, x.1.1.1)));
+      stays = λ old now is. (ap SuccessorCall is.0, refl, (is.2, is.3));
     }
 
     pub search_begins : (ps : List SeatedPass) (share : Remaining) (m : SuccessorRun) → machine.run ≡ Successor m share → SeatDictBegins valid_key key valid_value value_word c ps machine → SearchBegins allows ready waits same layout number (searcher share) ps m
@@ -191,8 +193,8 @@ module _ {K V : Type 0} (valid_key : K → Type 0) (key : K → ℕ) (valid_valu
       is = x.is;
       sound = x.sound;
       so = (
-        (y.was.1.0.mode, successor_ends machine.tries c _ m share a y.was.1.1.1 y.was.1.0.spent y.answers),
-        goes_on (searching share y.old) (ap SuccessorCall y.is_same, refl) y.course,
+        (y.was.1.0.mode, successor_ends machine.tries c _ m share a y.was.1.1.1 y.was.1.0.spent (y.is_same.1 ∙ y.was.1.0.limit) y.answers),
+        goes_on (searching share y.old) (ap SuccessorCall y.is_same.0, refl, (y.is_same.2, y.is_same.3)) y.course,
       );
     }
 
@@ -214,8 +216,8 @@ module _ {K V : Type 0} (valid_key : K → Type 0) (key : K → ℕ) (valid_valu
       with_run = ranging share;
       opens = λ m h s x. x.1.1.0;
       tells = λ m h got x. x.1.1.0;
-      turns = λ old now h got s is x w. (tt, (record { mode = x.1.0.mode; small = tt; number = tt; spent = x.1.0.spent }, (w, x.1.1.1)));
-      stays = λ old now is. (range_call old now is, refl);
+      turns = λ old now h got s is x w. (tt, (record { mode = x.1.0.mode; small = tt; number = tt; limit = is.3 ∙ x.1.0.limit; spent = x.1.0.spent }, (w, x.1.1.1)));
+      stays = λ old now is. (range_call old now is, refl, (is.4, is.5));
     }
 
     pub range_begins : (ps : List SeatedPass) (share : Remaining) (m : RangeRun) → machine.run ≡ Range m share → SeatDictBegins valid_key key valid_value value_word c ps machine → VisitBegins allows ready waits same layout number (ranger share) ps m
@@ -229,8 +231,8 @@ module _ {K V : Type 0} (valid_key : K → Type 0) (key : K → ℕ) (valid_valu
       is = x.is;
       sound = x.sound;
       so = (
-        (y.was.1.0.mode, range_ends machine.tries c _ m share a y.was.1.1.1 y.was.1.0.spent y.answers),
-        goes_on (ranging share y.old) (range_call y.old m y.is_same, refl) y.course,
+        (y.was.1.0.mode, range_ends machine.tries c _ m share a y.was.1.1.1 y.was.1.0.spent (y.is_same.3 ∙ y.was.1.0.limit) y.answers),
+        goes_on (ranging share y.old) (range_call y.old m y.is_same, refl, (y.is_same.4, y.is_same.5)) y.course,
       );
     }
 
@@ -258,19 +260,19 @@ module _ {K V A : Type 0} where
   delete_machine tries m = record { run = Delete (standing m Start); tries = tries; alloc = None; types = record {} }
 
   module _ (share : Remaining) (tries number : ℕ) (some : 0 < tries) where
-    pub insert_fresh : (m : UpdateRun Inserted A) (ed : Inserted) → m.edit ≡ ed → m.share ≡ share → m.call ≡ number → m.tries ≡ tries - 1 → ed.key < 2 ^ 64 → IsFreshEdit (edits.Insert ed) share tries number (insert_machine tries m)
-    insert_fresh m ed is_edit is_share is_call is_tries small = record {
+    pub insert_fresh : (m : UpdateRun Inserted A) (ed : Inserted) → m.edit ≡ ed → m.share ≡ share → m.call ≡ number → m.tries ≡ tries - 1 → m.limit ≡ tries → ed.key < 2 ^ 64 → IsFreshEdit (edits.Insert ed) share tries number (insert_machine tries m)
+    insert_fresh m ed is_edit is_share is_call is_tries is_limit small = record {
       is_call = ap (λ (e : Inserted). Edit (InsertEdit e.key e.value)) is_edit;
       has_tries = refl;
-      unbegun = (refl, all_tries m.tries tries some is_tries, is_call, subst (λ (e : Inserted). e.key < 2 ^ 64) (sym is_edit) small);
+      unbegun = (refl, all_tries m.tries tries some is_tries, is_call, subst (λ (e : Inserted). e.key < 2 ^ 64) (sym is_edit) small, is_limit);
       has_share = is_share;
     }
 
-    pub delete_fresh : (m : UpdateRun Deleted A) (ed : Deleted) → m.edit ≡ ed → m.share ≡ share → m.call ≡ number → m.tries ≡ tries - 1 → ed.key < 2 ^ 64 → IsFreshEdit (edits.Delete ed) share tries number (delete_machine tries m)
-    delete_fresh m ed is_edit is_share is_call is_tries small = record {
+    pub delete_fresh : (m : UpdateRun Deleted A) (ed : Deleted) → m.edit ≡ ed → m.share ≡ share → m.call ≡ number → m.tries ≡ tries - 1 → m.limit ≡ tries → ed.key < 2 ^ 64 → IsFreshEdit (edits.Delete ed) share tries number (delete_machine tries m)
+    delete_fresh m ed is_edit is_share is_call is_tries is_limit small = record {
       is_call = ap (λ (e : Deleted). Edit (DeleteEdit e.key)) is_edit;
       has_tries = refl;
-      unbegun = (refl, all_tries m.tries tries some is_tries, is_call, subst (λ (e : Deleted). e.key < 2 ^ 64) (sym is_edit) small);
+      unbegun = (refl, all_tries m.tries tries some is_tries, is_call, subst (λ (e : Deleted). e.key < 2 ^ 64) (sym is_edit) small, is_limit);
       has_share = is_share;
     }
 

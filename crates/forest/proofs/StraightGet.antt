@@ -1,5 +1,5 @@
 -- A get of a dictionary whose walk is straight.
-use Rattle.std.proofs.Common.{◌≡◌, ℕ, List, ◌^◌, ◌<◌, Option, None, Some, IfSome, inl, refl, ◌∙◌, ap}
+use Rattle.std.proofs.Common.{◌≡◌, ℕ, List, ◌^◌, ◌<◌, Option, None, Some, IfSome, inl, refl, ◌∙◌, ap, arith}
 use Rattle.std.specs.Option.{option_map}
 use Rattle.arena.specs.declared.layout.Layout.{Layout}
 use Rattle.arena.specs.declared.limits.Mode.TheVariants.{Tree}
@@ -24,6 +24,7 @@ use Rattle.template.specs.declared.walk.WalkRun.{WalkRun}
 use Rattle.template.proofs.Lemmas.{found_gives, walk_begins}
 use Rattle.tree.specs.Get.Known.{GetAnswers}
 use Rattle.tree.specs.declared.get.GetRun.{GetRun}
+use Rattle.updates.specs.Laws.Entered.{none_quiet}
 use Rattle.dict.specs.DictKnown.{DictIsReady, DictWaits, DictAnswers}
 use Rattle.dict.specs.Typed.{IsTypedValue, TypedAllows}
 use Rattle.dict.specs.Words.{IsWord}
@@ -36,10 +37,11 @@ use Rattle.forest.specs.declared.view.SeatedPass.{SeatedPass}
 use Rattle.forest.specs.declared.view.SeatView.{SeatView}
 use Rattle.forest.specs.Passes.{taken_of}
 use Rattle.forest.specs.PassInvariant.{pass_view, IsPass}
+use Rattle.forest.specs.StraightCalls.{IsSameDictCall}
 use Rattle.forest.specs.StraightGet.{getting}
 use Rattle.forest.specs.StraightWalk.{Walker, WalkerWaits, WalkerFinds}
 use Rattle.forest.specs.Traces.{HoldsForCall, Trace}
-use Rattle.forest.proofs.DictCalls.{Answered, IsSameCall, dict_ended, dict_starts}
+use Rattle.forest.proofs.DictCalls.{Answered, dict_ended, dict_starts}
 use Rattle.forest.proofs.Entered.{HasEnded}
 use Rattle.forest.proofs.Passes.{call_of}
 use Rattle.forest.proofs.Places.{starts}
@@ -55,7 +57,7 @@ module _ {K V : Type 0} (valid_key : K → Type 0) (key : K → ℕ) (valid_valu
   waits = DictWaits (IsWord valid_key key) (IsWord valid_value value_word)
 
   abbrev pub same : DictRun K V → DictRun K V → Type 0
-  same = IsSameCall valid_key key valid_value value_word
+  same = IsSameDictCall valid_key key valid_value value_word
 
   module _ (share : Remaining) (tries wanted : ℕ) where
     abbrev at : WalkRun → DictRun K V
@@ -70,8 +72,8 @@ module _ {K V : Type 0} (valid_key : K → Type 0) (key : K → ℕ) (valid_valu
       first = at (walk_at wanted root_trail Start);
       with_walk = λ walk turn. at walk;
       tells = λ m turn h v x. (c, is_layout, x.1.1.0.0);
-      turns = λ m now turn h v s goal next x. (x.0, (record { mode = x.1.0.mode; small = x.1.0.small; number = x.1.0.number; spent = x.1.0.spent }, ((next c x.1.1.0.0, goal ∙ x.1.1.0.1), x.1.1.1)));
-      stays = λ m now turn then goal. (refl, refl);
+      turns = λ m now turn h v s past goal next x. (x.0, (record { mode = x.1.0.mode; small = x.1.0.small; number = x.1.0.number; limit = tt; spent = x.1.0.spent }, ((next c x.1.1.0.0, goal ∙ x.1.1.0.1, x.1.1.0.2), x.1.1.1)));
+      stays = λ m now turn then goal. (refl, refl, (omega arith, omega arith));
     }
 
   -- its machine waits for the head of the root
@@ -81,8 +83,8 @@ module _ {K V : Type 0} (valid_key : K → Type 0) (key : K → ℕ) (valid_valu
   get_walks p x tries wanted number layout is_layout is_number small =
       let first : DictRun K V = getting p.share tries wanted (walk_at wanted root_trail Start) in
       let c : Call = call_of p x (taken_of (pass_view p)) in
-      starts allows ready waits same c p.seat.me.0.passes first (getting p.share tries wanted (walk_from wanted)) _ (refl, refl)
-      (λ h run r. (r.0, (record { mode = r.1.0.mode; small = r.1.0.small; number = r.1.0.number; spent = r.1.0.spent }, ((walk_begins wanted c h r.1.1.0.0.run r.1.1.0.0.small r.1.1.0.0.since, refl), r.1.1.1))))
+      starts allows ready waits same c p.seat.me.0.passes first (getting p.share tries wanted (walk_from wanted)) _ (refl, refl, (omega arith, omega arith))
+      (λ h run r. (r.0, (record { mode = r.1.0.mode; small = r.1.0.small; number = r.1.0.number; limit = tt; spent = r.1.0.spent }, ((walk_begins wanted c h r.1.1.0.0.run r.1.1.0.0.small r.1.1.0.0.since, refl, r.1.1.0.2), r.1.1.1))))
       (dict_starts valid_key key valid_value value_word p x first tt (refl, refl, refl, small) tt refl)
 
   -- the value of its word
@@ -105,7 +107,7 @@ module _ {K V : Type 0} (valid_key : K → Type 0) (key : K → ℕ) (valid_valu
       answers h run r =
           let t : WalkIsTold x.last c h x.told = r.1.1.0.0 in
           let found : HasFound (ToKey wanted) c h f = x.finds c h t in
-          let got : GetAnswers m c h f.value = record { first = found.trail.node.first; own = found.trail.node.own; right = found_gives c h wanted f t.run (rw x.goal at t.small) found } in
+          let got : GetAnswers m c h f.value = record { first = found.trail.node.first; own = found.trail.node.own; right = found_gives c h wanted f t.run (rw x.goal at t.small) found; none = none_quiet c.layout c.pass h c.start run.lawful r.1.1.0.2.quiet } in
           dict_ends valid_key key valid_value value_word (getting share tries wanted x.last) c h (words.Value f.value) (replies.Value v) mode run
           (get_ends tries c h m share f.value r.1.1.1 r.1.0.spent got) valid (λ typed. same_told f.value v same_word typed) (inl refl)
 

@@ -1,7 +1,7 @@
 -- From place to place of a successor, of whatever machine makes one.
 use Rattle.std.proofs.Common.{◌≡◌, ◌∙◌, ℕ, suc, ◌+◌, ◌-◌, ◌*◌, ◌^◌, ◌<◌, ◌≤◌, Bool, List, Option, None, Some, Result, length, [], inl, refl, sym, ap, subst, arith}
 use Rattle.std.specs.Global.{Global}
-use Rattle.std.specs.Prelude.{Vec}
+use Rattle.std.specs.Prelude.{Vec, Err}
 use Rattle.arena.specs.declared.head.Head.{Head as HeadParts}
 use Rattle.arena.specs.declared.layout.Layout.{Layout}
 use Rattle.arena.specs.declared.machine.Turn.{Turn}
@@ -20,8 +20,9 @@ use Rattle.arena.specs.Words.{info, marked, node, state}
 use Rattle.order.specs.Reads.{from}
 use Rattle.order.specs.Successor.Known.{Goes, HasHead, IsSameSuccessor, LooksAt, StandsAt, SuccessorAnswers, SuccessorIsReady, SuccessorWaits, head_at, key_at}
 use Rattle.order.specs.Successor.Laws.{successor_told}
-use Rattle.order.specs.Successor.Next.{ComesNearer, MayDo, next_step, placed}
+use Rattle.order.specs.Successor.Next.{ComesNearer, GoesOn, MayDo, MayGoOn, next_step, placed}
 use Rattle.order.specs.Successor.Steps.{HeadFits, SuccessorFits, behind, last_turn, phase_left, successor_left, try_left}
+use Rattle.order.specs.Tries.{IsInTry}
 use Rattle.order.specs.declared.refused.Refused.{Refused}
 use Rattle.order.specs.declared.successor.Route.{Route}
 use Rattle.order.specs.declared.successor.Route.TheVariants.{Along}
@@ -53,13 +54,20 @@ use Rattle.forest.specs.Traces.{goes_on, shared_nodes}
 use Rattle.forest.proofs.Advances.{few_taken}
 use Rattle.forest.proofs.StraightReads.{told_on}
 
+itself : (m : SuccessorRun) → IsSameSuccessor m m
+itself m = (refl, refl, omega arith, omega arith)
+
 -- what comes next changes its place alone
-same_placed : (m : SuccessorRun) (next : SuccessorNext) → IsSameSuccessor m (placed m next)
-same_placed m (LookNext route level side n) = refl
-same_placed m (HeadNext route above n) = refl
-same_placed m (KeyNext route head n) = refl
-same_placed m (ValueNext key n) = refl
-same_placed m (ValidateNext found) = refl
+same_placed : (old m : SuccessorRun) (next : SuccessorNext) → IsSameSuccessor old m → IsSameSuccessor old (placed m next)
+same_placed old m (LookNext route level side n) is = is
+same_placed old m (HeadNext route above n) is = is
+same_placed old m (KeyNext route head n) is = is
+same_placed old m (ValueNext key n) is = is
+same_placed old m (ValidateNext found) is = is
+
+-- want of memory is an answer of the whole call too
+no_memory : (m : SuccessorRun) (c : Call) (begin h : History) (a : Refused) → GoesOn (from c begin) h m (Err a) → SuccessorAnswers m c h (Err a)
+no_memory m c begin h a x = rw x.0 (x.1.0, tt)
 
 goes_there : (m now : SuccessorRun) (c : Call) (h : History) → now.key ≡ m.key → now.snaps ≡ m.snaps → Goes m c h → Goes now c h
 goes_there m now c h k s x = record { reads = rw s x.reads; small = rw k x.small }
@@ -81,21 +89,21 @@ module _ {M : Type 0} (allows : Layout → History → ℕ → Type 0) (ready : 
   IsTold ps m v = ReaderIsTold allows ready waits same SuccessorIsReady SuccessorWaits IsSameSuccessor layout number r ps m v
 
   -- what it is told takes it to what comes next
-  on_to : (ps : List SeatedPass) (old m : SuccessorRun) (next : SuccessorNext) (v : ℕ) → IsSameSuccessor old m → ((h : History) → IsRun TreeAllows r.call.layout h → SuccessorIsReady old r.call h (Some v) → Goes m r.call h × MayDo m r.call h next) → IsTold ps old v → SearchWaits allows ready waits same layout number r ps m next
-  on_to ps old m next v is know x = told_on allows ready waits same SuccessorIsReady SuccessorWaits SuccessorAnswers IsSameSuccessor layout number r ps old (placed m next) (Some v) (Ask (next_step m next)) (same_placed m next ∙ is) (λ h run y. let k = know h run y in next_waits m r.call h next k.0 k.1) x
+  on_to : (ps : List SeatedPass) (old m : SuccessorRun) (next : SuccessorNext) (v : ℕ) → IsSameSuccessor old m → ((h : History) → IsRun TreeAllows r.call.layout h → SuccessorIsReady old r.call h (Some v) → MayGoOn r.call h m next) → IsTold ps old v → SearchWaits allows ready waits same layout number r ps m next
+  on_to ps old m next v is know x = told_on allows ready waits same SuccessorIsReady SuccessorWaits SuccessorAnswers IsSameSuccessor layout number r ps old (placed m next) (Some v) (Ask (next_step m next)) (same_placed old m next is) (λ h run y. next_waits m r.call h next (know h run y)) x
 
   -- behind its loads
   pub head_goes_on : (ps : List SeatedPass) (m : SuccessorRun) (route : Route) (above : ℕ) (n : NodeNo) (v : ℕ) (next : SuccessorNext) → ((c : Call) (h : History) → Goes m c h → IsOwnMoment c h → StandsAt m c h route n.0 → head_at h n.0 ≡ head_of v → MayDo m c h next) → IsTold ps (placed m (HeadNext route above n)) v → SearchWaits allows ready waits same layout number r ps m next
-  head_goes_on ps m route above n v next goes = on_to ps (placed m (HeadNext route above n)) m next v refl
-      (λ h run y. let k = goes_there (placed m (HeadNext route above n)) m r.call h refl refl y.0 in let s = y.2.0 in (k, goes r.call h k y.1 record { stood = s.stood; some = s.some; right = s.right; on_route = s.on_route } (ap head_of y.2.2)))
+  head_goes_on ps m route above n v next goes = on_to ps (placed m (HeadNext route above n)) m next v (itself m)
+      (λ h run y. let k = goes_there (placed m (HeadNext route above n)) m (from r.call y.0) h refl refl y.2 in let s = y.4.0 in (y.0, y.1, k, goes (from r.call y.0) h k y.3 record { stood = s.stood; some = s.some; right = s.right; on_route = s.on_route } (ap head_of y.4.2)))
 
   pub key_goes_on : (ps : List SeatedPass) (m : SuccessorRun) (route : Route) (head : HeadParts) (n : NodeNo) (v : ℕ) (next : SuccessorNext) → ((c : Call) (h : History) → Goes m c h → StandsAt m c h route n.0 → HasHead h route n.0 head → key_at h n.0 ≡ v → MayDo m c h next) → IsTold ps (placed m (KeyNext route head n)) v → SearchWaits allows ready waits same layout number r ps m next
-  key_goes_on ps m route head n v next goes = on_to ps (placed m (KeyNext route head n)) m next v refl
-      (λ h run y. let k = goes_there (placed m (KeyNext route head n)) m r.call h refl refl y.0 in let s = y.2.0 in (k, goes r.call h k record { stood = s.stood; some = s.some; right = s.right; on_route = s.on_route } y.2.1 y.2.2))
+  key_goes_on ps m route head n v next goes = on_to ps (placed m (KeyNext route head n)) m next v (itself m)
+      (λ h run y. let k = goes_there (placed m (KeyNext route head n)) m (from r.call y.0) h refl refl y.2 in let s = y.4.0 in (y.0, y.1, k, goes (from r.call y.0) h k record { stood = s.stood; some = s.some; right = s.right; on_route = s.on_route } y.4.1 y.4.2))
 
   pub value_goes_on : (ps : List SeatedPass) (m : SuccessorRun) (key : ℕ) (n : NodeNo) (v : ℕ) → IsTold ps (placed m (ValueNext key n)) v → SearchWaits allows ready waits same layout number r ps m (ValidateNext (Some record { key = key; value = v }))
-  value_goes_on ps m key n v = on_to ps (placed m (ValueNext key n)) m (ValidateNext (Some record { key = key; value = v })) v refl
-      (λ h run y. let k = goes_there (placed m (ValueNext key n)) m r.call h refl refl y.0 in let s = y.2.0 in (k, value_found m r.call h n key v k y.1 record { stood = s.stood; some = s.some; leaf = s.leaf; low = s.low; key_is = s.key_is; first = s.first } y.2.1))
+  value_goes_on ps m key n v = on_to ps (placed m (ValueNext key n)) m (ValidateNext (Some record { key = key; value = v })) v (itself m)
+      (λ h run y. let k = goes_there (placed m (ValueNext key n)) m (from r.call y.0) h refl refl y.2 in let s = y.4.0 in (y.0, y.1, k, value_found m (from r.call y.0) h n key v k y.3 record { stood = s.stood; some = s.some; leaf = s.leaf; low = s.low; key_is = s.key_is; first = s.first } y.4.1))
 
   -- what it is told fits the taken nodes
   pub told_fits : (ps : List SeatedPass) (m : SuccessorRun) (v : ℕ) → IsTold ps m v → SuccessorFits m (Some v) (shared_nodes layout)
@@ -116,7 +124,7 @@ module _ {M : Type 0} (allows : Layout → History → ℕ → Type 0) (ready : 
       placed_nearer m next (shared_nodes layout) _ (omega (arith, b)) (near (shared_nodes layout) f)
 
   pub value_lighter : (ps : List SeatedPass) (m : SuccessorRun) (key : ℕ) (n : NodeNo) (v : ℕ) (found : Option Pair) → IsTold ps (placed m (ValueNext key n)) v → successor_left (placed m (ValidateNext found)) (shared_nodes layout) < successor_left (placed m (ValueNext key n)) (shared_nodes layout)
-  value_lighter ps m key n v found x = let i = (r.tells (placed m (ValueNext key n)) _ (Some v) x.so.0).2.0.some in omega (arith, i)
+  value_lighter ps m key n v found x = let i = (r.tells (placed m (ValueNext key n)) _ (Some v) x.so.0).4.0.some in omega (arith, i)
 
   -- It looks
   module _ (m : SuccessorRun) (route : Route) (level : ℕ) (side : Side) where
@@ -135,14 +143,16 @@ module _ {M : Type 0} (allows : Layout → History → ℕ → Type 0) (ready : 
       with_llx = λ llx. r.with_run (at llx);
       turns = λ llx now h v s node turn run x.
           let y = r.tells (at llx) h (Some v) x in
-          r.turns (at llx) (at now) h (Some v) s refl x (
-            record { reads = y.0.reads; small = y.0.small },
+          r.turns (at llx) (at now) h (Some v) s (itself (at llx)) x (
+            y.0,
+            y.1,
+            record { reads = y.2.reads; small = y.2.small },
             (
-              subst (λ (k : NodeNo). LooksAt (at now) r.call h route level side k.0) (sym node) (looks_there (at llx) (at now) r.call h llx.node.0 refl refl refl y.2.0),
-              (y.2.1.0, y.2.1.1, turn (from r.call y.2.1.0) (r.tree h run) y.2.1.2),
+              subst (λ (k : NodeNo). LooksAt (at now) (from r.call y.0) h route level side k.0) (sym node) (looks_there (at llx) (at now) (from r.call y.0) h llx.node.0 refl refl refl y.4.0),
+              (y.4.1.0, y.4.1.1, turn (from (from r.call y.0) y.4.1.0) (r.tree h run) y.4.1.2),
             ),
           );
-      stays = λ llx now node. r.stays (at llx) (at now) refl;
+      stays = λ llx now node. r.stays (at llx) (at now) (itself (at llx));
     }
 
     -- it begins to look
@@ -151,8 +161,8 @@ module _ {M : Type 0} (allows : Layout → History → ℕ → Type 0) (ready : 
     begins_look ps n x = x
 
     -- with the snapshot it goes on as its turn says
-    looked : (ps : List SeatedPass) (now : SuccessorRun) (n : NodeNo) (snap : Snap) (turn : Turn (Result (Option Pair) Refused)) → now.key ≡ m.key
-        → ((c : Call) (h : History) → Goes m c h → LooksAt m c h route level side snap.node.0 → IsSnapshot c.layout h snap.node.0 snap → MatchTurn turn (SuccessorWaits now c h) (SuccessorAnswers now c h))
+    looked : (ps : List SeatedPass) (now : SuccessorRun) (n : NodeNo) (snap : Snap) (turn : Turn (Result (Option Pair) Refused)) → IsSameSuccessor m now
+        → ((begin h : History) → IsInTry r.call h begin m.limit m.tries → Goes m (from r.call begin) h → LooksAt m (from r.call begin) h route level side snap.node.0 → IsSnapshot r.call.layout h snap.node.0 snap → MatchTurn turn (SuccessorWaits now r.call h) (SuccessorAnswers now r.call h))
         → LookerSnaps allows ready waits same layout number looker ps n snap → ReaderStands allows ready waits same SuccessorIsReady SuccessorWaits IsSameSuccessor layout number r ps SuccessorAnswers now turn
     unfolding looker
     looked ps now n snap turn is goes x = told_on allows ready waits same SuccessorIsReady SuccessorWaits SuccessorAnswers IsSameSuccessor layout number r ps (at x.last) now (Some x.told) turn is next x.so
@@ -162,18 +172,19 @@ module _ {M : Type 0} (allows : Layout → History → ℕ → Type 0) (ready : 
 
         next : (h : History) → IsRun TreeAllows r.call.layout h → SuccessorIsReady (at x.last) r.call h (Some x.told) → MatchTurn turn (SuccessorWaits now r.call h) (SuccessorAnswers now r.call h)
         next h run y =
-            goes r.call h (goes_there (at x.last) m r.call h refl refl y.0) (subst (λ (k : NodeNo). LooksAt m r.call h route level side k.0) here (looks_there (at x.last) m r.call h x.last.node.0 refl refl refl y.2.0))
-            (subst (λ (k : NodeNo). IsSnapshot r.call.layout h k.0 snap) (sym x.of_node) (x.snaps (from r.call y.2.1.0) h run y.2.1.2))
+            goes y.0 h y.1 (goes_there (at x.last) m (from r.call y.0) h refl refl y.2) (subst (λ (k : NodeNo). LooksAt m (from r.call y.0) h route level side k.0) here (looks_there (at x.last) m (from r.call y.0) h x.last.node.0 refl refl refl y.4.0))
+            (subst (λ (k : NodeNo). IsSnapshot r.call.layout h k.0 snap) (sym x.of_node) (x.snaps (from (from r.call y.0) y.4.1.0) h run y.4.1.2))
 
-    pub looks_on : (ps : List SeatedPass) (now : SuccessorRun) (n : NodeNo) (snap : Snap) (next : SuccessorNext) → now.key ≡ m.key
+    pub looks_on : (ps : List SeatedPass) (now : SuccessorRun) (n : NodeNo) (snap : Snap) (next : SuccessorNext) → IsSameSuccessor m now → now.tries ≡ m.tries
         → ((c : Call) (h : History) → Goes m c h → LooksAt m c h route level side snap.node.0 → IsSnapshot c.layout h snap.node.0 snap → Goes now c h × MayDo now c h next)
         → LookerSnaps allows ready waits same layout number looker ps n snap → SearchWaits allows ready waits same layout number r ps now next
-    looks_on ps now n snap next is goes = looked ps (placed now next) n snap (Ask (next_step now next)) (same_placed now next ∙ is) (λ c h g l s. let k = goes c h g l s in next_waits now c h next k.0 k.1)
+    looks_on ps now n snap next is tries goes = looked ps (placed now next) n snap (Ask (next_step now next)) (same_placed m now next is)
+        (λ begin h try g l s. let k = goes (from r.call begin) h g l s in next_waits now r.call h next (begin, rw (is.1, tries) try, k.0, k.1))
 
-    pub looks_last : (ps : List SeatedPass) (now : SuccessorRun) (n : NodeNo) (snap : Snap) (a : Result (Option Pair) Refused) → now.key ≡ m.key
-        → ((c : Call) (h : History) → Goes m c h → LooksAt m c h route level side snap.node.0 → IsSnapshot c.layout h snap.node.0 snap → SuccessorAnswers now c h a)
-        → LookerSnaps allows ready waits same layout number looker ps n snap → SearchEnds allows ready waits same layout number r ps now a
-    looks_last ps now n snap a is goes = looked ps now n snap (Done a) is goes
+    pub looks_last : (ps : List SeatedPass) (now : SuccessorRun) (n : NodeNo) (snap : Snap) (a : Refused) → IsSameSuccessor m now
+        → ((c : Call) (h : History) → Goes m c h → LooksAt m c h route level side snap.node.0 → IsSnapshot c.layout h snap.node.0 snap → GoesOn c h now (Err a))
+        → LookerSnaps allows ready waits same layout number looker ps n snap → SearchEnds allows ready waits same layout number r ps now (Err a)
+    looks_last ps now n snap a is goes = looked ps now n snap (Done (Err a)) is (λ begin h try g l s. no_memory now r.call begin h a (goes (from r.call begin) h g l s))
 
     -- its fork is no deeper than the taken nodes allow
     pub level_fits : (ps : List SeatedPass) (n : NodeNo) (snap : Snap) → LookerSnaps allows ready waits same layout number looker ps n snap → level + 1 < 2 + shared_nodes layout
@@ -199,16 +210,18 @@ module _ {M : Type 0} (allows : Layout → History → ℕ → Type 0) (ready : 
       with_vlx = λ n. r.with_run (asking n);
       turns = λ n asked h v is found_so more x.
           let y = r.tells (asking asked) h (Some v) x in
-          let b = y.2.0 in let s = y.2.1 in
-          rw e (r.turns (asking asked) (asking (suc asked)) h (Some v) _ refl x (
-            record { reads = y.0.reads; small = y.0.small },
+          let b = y.4.0 in let s = y.4.1 in let d = from (from r.call y.0) b in
+          rw e (r.turns (asking asked) (asking (suc asked)) h (Some v) _ (itself (asking asked)) x (
+            y.0,
+            y.1,
+            record { reads = y.2.reads; small = y.2.small },
             (
               b,
               record { own = s.own; within = s.within; then = s.then; right = s.right },
-              looks_next (from r.call b) h m.snaps.items asked (looked_on (from r.call b) h m.snaps.items asked n v y.0.reads.run.1.lawful y.2.2 is (rw e at found_so)) (rw e at more),
+              looks_next d h m.snaps.items asked (looked_on d h m.snaps.items asked n v y.2.reads.run.1.lawful y.4.2 is (rw e at found_so)) (rw e at more),
             ),
           ));
-      stays = λ n. r.stays (asking n) (asking (suc n)) refl;
+      stays = λ n. r.stays (asking n) (asking (suc n)) (itself (asking n));
     }
 
     pub begins_vlx : (ps : List SeatedPass) → SearchWaits allows ready waits same layout number r ps m (ValidateNext found) → ValidatorWaits allows ready waits same layout number snaps validator ps 1 (load LoadInfo (info (snap_at snaps 0).node.0))
@@ -220,7 +233,7 @@ module _ {M : Type 0} (allows : Layout → History → ℕ → Type 0) (ready : 
     told_vlx ps n v x = x
 
     pub some_snap : (ps : List SeatedPass) → SearchWaits allows ready waits same layout number r ps m (ValidateNext found) → 0 < length snaps
-    some_snap ps x = let w = r.opens (placed m (ValidateNext found)) _ _ x.so.0 in let i = w.1.2.looks.within in rw e (omega (arith, i))
+    some_snap ps x = let w = r.opens (placed m (ValidateNext found)) _ _ x.so.0 in let i = w.3.2.looks.within in rw e (omega (arith, i))
 
   -- It walks
   module _ (m : SuccessorRun) where
@@ -234,30 +247,36 @@ module _ {M : Type 0} (allows : Layout → History → ℕ → Type 0) (ready : 
       is_number = r.is_number;
       first = r.first;
       with_walk = λ walk turn. r.with_run (walking walk turn);
-      tells = λ walk turn h v x. let y = r.tells (walking walk turn) h (Some v) x in (r.call, r.is_layout, y.2.2);
-      turns = λ walk now turn h v s goal next x.
+      tells = λ walk turn h v x. let y = r.tells (walking walk turn) h (Some v) x in (from r.call y.0, r.is_layout, y.4.2);
+      turns = λ walk now turn h v s past goal next x.
           let y = r.tells (walking walk turn) h (Some v) x in
-          r.turns (walking walk turn) (walking now (last_turn now.at now.trail.node turn)) h (Some v) s refl x (walk_waits m walk now turn r.call h s (goes_there (walking walk turn) m r.call h refl refl y.0) y.2.0 y.2.1 goal (next r.call y.2.2));
-      stays = λ walk now turn then goal. r.stays (walking walk turn) (walking now then) refl;
+          r.turns (walking walk turn) (walking now (last_turn now.at now.trail.node turn)) h (Some v) s (itself m) x
+          (walk_waits m walk now turn r.call y.0 h s y.1 (goes_there (walking walk turn) m (from r.call y.0) h refl refl y.2) y.4.0 y.4.1 goal past (next (from r.call y.0) y.4.2));
+      stays = λ walk now turn then goal. r.stays (walking walk turn) (walking now then) (itself m);
     }
 
     -- it begins its walk, with no snapshot
-    pub walks : (ps : List SeatedPass) (old : SuccessorRun) → m.key ≡ old.key → m.snaps.items ≡ [] → SearchBegins allows ready waits same layout number r ps old → WalkerWaits allows ready waits same layout number walker ps (walk_from m.key) record { 0 = 0 } (load LoadSettled (node 0 HeadWord))
+    pub walks : (ps : List SeatedPass) (old : SuccessorRun) → m.key ≡ old.key → m.limit ≡ old.limit → m.tries ≡ old.tries → m.snaps.items ≡ [] → SearchBegins allows ready waits same layout number r ps old → WalkerWaits allows ready waits same layout number walker ps (walk_from m.key) record { 0 = 0 } (load LoadSettled (node 0 HeadWord))
     unfolding walker
-    walks ps old key none x = record {
+    walks ps old key limit tries none x = record {
       known = x.known;
       is = x.is;
       sound = x.sound;
       so = (
-        r.turns old (walking (walk_from m.key) record { 0 = 0 }) _ None _ key x.so.0 (waiting _ (r.tells old _ None x.so.0)),
-        goes_on (r.with_run old) (r.stays old (walking (walk_from m.key) record { 0 = 0 }) key) x.so.1,
+        r.turns old (walking (walk_from m.key) record { 0 = 0 }) _ None _ is x.so.0 (waiting _ (r.tells old _ None x.so.0)),
+        goes_on (r.with_run old) (r.stays old (walking (walk_from m.key) record { 0 = 0 }) is) x.so.1,
       );
     }
       where
+        is : IsSameSuccessor old m
+        is = (key, limit, omega (arith, tries), omega (arith, tries))
+
         waiting : (h : History) → SuccessorIsReady old r.call h None → SuccessorWaits (walking (walk_from m.key) record { 0 = 0 }) r.call h (load LoadSettled (node 0 HeadWord))
         waiting h y =
             let g = y.0 in
             let small : m.key < 2 ^ 64 = rw key g.small in (
+              r.call.start,
+              (rw (limit, tries) y.2, none, refl),
               record {
                 reads = rw none record { run = g.reads.run; since = g.reads.since; over = g.reads.over; quiet = g.reads.quiet; snapped = λ i p. absurd (omega (arith, p)) };
                 small = small;
@@ -268,5 +287,5 @@ module _ {M : Type 0} (allows : Layout → History → ℕ → Type 0) (ready : 
     -- behind the leaf that it finds it looks at the last fork where it has turned left
     pub walk_looks : (ps : List SeatedPass) (f : Found) (turn : NodeNo) → WalkerFinds allows ready waits same layout number walker ps m.key turn f → SearchWaits allows ready waits same layout number r ps m (LookNext Along 0 Left turn)
     unfolding walker
-    walk_looks ps f turn x = on_to ps (walking x.last turn) m (LookNext Along 0 Left turn) x.told refl
-        (λ h run y. let k = goes_there (walking x.last turn) m r.call h refl refl y.0 in (k, walk_found m turn f r.call h k y.2.1 (x.finds r.call h y.2.2))) x.so
+    walk_looks ps f turn x = on_to ps (walking x.last turn) m (LookNext Along 0 Left turn) x.told (itself m)
+        (λ h run y. let c = from r.call y.0 in let k = goes_there (walking x.last turn) m c h refl refl y.2 in (y.0, y.1, k, walk_found m turn f c h k y.4.1 (x.finds c h y.4.2))) x.so

@@ -30,7 +30,7 @@ use Rattle.updates.specs.declared.edit.Piece.{Piece}
 use Rattle.updates.specs.declared.edit.Piece.TheVariants.{Leaf, Fork}
 use Rattle.updates.specs.Pieces.{fills_behind, nth_node, part_behind, word_of, HasPlace}
 use Rattle.updates.specs.Sound.{FillsWell, IsAtFound}
-use Rattle.updates.proofs.Lemmas.{fills_next, fills_word, placed_same, scx_asks, scx_done}
+use Rattle.updates.proofs.Lemmas.{fills_next, fills_word, joined_spends, placed_same, scx_asks, scx_done}
 use Rattle.forest.specs.declared.straight.changing.Change.{Change}
 use Rattle.forest.specs.StraightChange.{Changer, ChangerWaits, ChangerIsTold, all_frozen_load, changing_at, scx_fill}
 use Rattle.arena.specs.History.{History, value}
@@ -45,23 +45,24 @@ use Rattle.prims.specs.declared.snap.Snap.{Snap}
 use Rattle.spelling.specs.TreeShape.{TreeAllows}
 use Rattle.template.specs.FoundLeaf.{HasFound}
 use Rattle.template.specs.Walk.Known.{WalkIsTold}
-use Rattle.template.specs.Walk.Places.{walk_from}
+use Rattle.template.specs.Walk.Places.{walk_from, IsPastRoot}
 use Rattle.template.specs.declared.walk.Found.{Found}
 use Rattle.template.specs.declared.walk.Goal.TheVariants.{Key as ToKey}
+use Rattle.template.specs.declared.walk.WalkAt.{WalkAt}
+use Rattle.template.specs.declared.walk.WalkAt.TheVariants.{Start as WalkStart, Root as WalkRoot}
 use Rattle.template.specs.declared.walk.WalkRun.{WalkRun}
 use Rattle.template.proofs.Lemmas.{own_since, walk_begins}
 use Rattle.updates.specs.Edits.{EditMeaning}
 use Rattle.updates.specs.Known.{Begins, CanFill, CanLook, IsFilledUpTo, IsNeeded, IsUntouched, Loads, Looks, IsFullFor, UpdateAnswers, UpdateIsReady, UpdateWaits, UpdateTurn, Walks, copied, done_at as done_with}
 use Rattle.updates.specs.Laws.HandScx.{from}
 use Rattle.updates.specs.Laws.Kept.{idle_over}
-use Rattle.updates.specs.Steps.{IsSpending, IsWanted, Spends, UpdateFits, fills_left, node_tries, scx_tries, try_left, update_left, works_after}
-use Rattle.updates.specs.Tries.{IsTry}
+use Rattle.updates.specs.Steps.{HasScxLeft, IsSpending, IsWanted, UpdateFits, fills_left, node_tries, scx_tries, try_left, update_left, works_after}
+use Rattle.updates.specs.Tries.{IsTry, IsTryAt}
 use Rattle.updates.specs.Next.{IsSameUpdate, placed, standing, next_step, update_of, MayStop, GoesOn, HasSpent, left_then}
 use Rattle.updates.specs.declared.update.Stop.{Stop}
 use Rattle.updates.specs.declared.update.Stop.TheVariants.{Nothing as NothingStop, Lost as LostStop, Full as FullStop}
 use Rattle.updates.specs.declared.update.Updated.TheVariants.{Done as DoneAnswer, Contended as ContendedAnswer, Full as FullAnswer}
-use Rattle.updates.specs.Laws.Update.{update_told}
-use Rattle.arena.specs.Share.{Remaining}
+use Rattle.updates.specs.Laws.Update.{update_scx_left, update_told}
 use Rattle.updates.specs.declared.update.Next.{Next}
 use Rattle.updates.specs.declared.update.Next.TheVariants.{Look as LookNext, Wait as WaitNext, Load as LoadNext, Fill as FillNext, Change as ChangeNext}
 use Rattle.updates.specs.declared.update.UpdateAt.{UpdateAt}
@@ -86,10 +87,6 @@ use Rattle.forest.proofs.Advances.{few_taken}
 pub update_is : (u : Update) (snaps : List Snap) (plan : PlanOf) (old fresh : NodeNo) → snaps ≡ u.snaps → plan ≡ u.plan → old ≡ u.old → fresh ≡ u.fresh → u ≡ record { snaps = snaps; plan = plan; old = old; fresh = fresh }
 update_is u snaps plan old fresh is_snaps is_plan is_old is_fresh i = record { snaps = sym is_snaps i; plan = sym is_plan i; old = sym is_old i; fresh = sym is_fresh i }
 
--- what is spent up to the end of a try, and behind it
-joined_spends : (most : ℕ) (old mid now : Remaining) (nodes nodes_then scx scx_then tries : ℕ) → Spends most old mid nodes tries scx tries → Spends most mid now tries nodes_then tries scx_then → Spends most old now nodes nodes_then scx scx_then
-joined_spends most old mid now nodes nodes_then scx scx_then tries x y = (let a = x.0 in let b = y.0 in omega (arith, a, b), let a = x.1 in let b = y.1 in omega (arith, a, b))
-
 -- a fresh node that is needed has a place
 has_place : (need : Need) (nth : Nth) → IsNeeded need nth → HasPlace need nth
 has_place Nothing nth i = absurd i
@@ -99,6 +96,12 @@ has_place One Third i = absurd i
 has_place Three First i = tt
 has_place Three Second i = refl
 has_place Three Third i = refl
+
+-- a walk that is past the root is in its try
+try_past : (c : Call) (begin now : History) (limit left : ℕ) (at : WalkAt) → IsPastRoot at → IsTry c begin now limit left → IsTryAt c begin now limit left at
+try_past c begin now limit left WalkStart past x = absurd past
+try_past c begin now limit left WalkRoot past x = absurd past
+try_past c begin now limit left _ past x = x
 
 -- An update that stands elsewhere, or nowhere
 
@@ -112,7 +115,7 @@ answers_there e c h m at (FullAnswer full) x = (x.0, full_there e c h m at full 
 
 may_stop_there : {E A : Type 0} (e : EditMeaning E) (c : Call) (h : History) (m : UpdateRun E A) (f : Found) (stop : Stop) → MayStop e c h m f stop → MayStop e c h (standing m Start) f stop
 may_stop_there e c h m f NothingStop x = x
-may_stop_there e c h m f (LostStop n s) x = (record { run = x.0.run; small = x.0.small; since = x.0.since; rests = x.0.rests }, x.1, x.2)
+may_stop_there e c h m f (LostStop n s) x = (record { run = x.0.run; small = x.0.small; since = x.0.since; rests = x.0.rests }, x.1)
 may_stop_there e c h m f (FullStop full) x = (x.0, full_there e c h m Start full x.1)
 
 module _ {M E : Type 0} (allows : Layout → History → ℕ → Type 0) (ready : M → Call → History → Option ℕ → Type 0) (waits : M → Call → History → Step → Type 0) (same : M → M → Type 0) (e : EditMeaning E) (layout : Layout) (number : ℕ) (u : Updater allows ready waits same e layout number) where
@@ -121,8 +124,8 @@ module _ {M E : Type 0} (allows : Layout → History → ℕ → Type 0) (ready 
   has_passes = subst (λ (l : Layout). 0 < l.passes) u.is_layout (let i = u.call.is_pass in omega (arith, i))
 
   -- once it is over no try may take any more
-  all_spent : {A : Type 0} (old : UpdateRun E UpdateAt) (m : UpdateRun E A) (nodes scx : ℕ) → HasGoneOn allows ready waits same e layout number old m nodes scx → HasGoneOn allows ready waits same e layout number old m 0 0
-  all_spent old m nodes scx x = record { edit = x.edit; called = x.called; spends = (let s = x.spends.0 in omega (arith, s), let s = x.spends.1 in omega (arith, s)) }
+  all_spent : {A : Type 0} (old : UpdateRun E UpdateAt) (m : UpdateRun E A) (left : ℕ) → HasGoneOn allows ready waits same e layout number old m left left → HasGoneOn allows ready waits same e layout number old m 0 0
+  all_spent old m left x = record { edit = x.edit; called = x.called; limit = x.limit; tries = x.tries; spends = (let s = x.spends.0 in omega (arith, s), let s = x.spends.1 in omega (arith, s), let s = x.spends.2 in omega (arith, s)) }
 
   -- the update with its walk at a place
   abbrev pub walking : {A : Type 0} → UpdateRun E A → WalkRun → UpdateRun E UpdateAt
@@ -137,12 +140,12 @@ module _ {M E : Type 0} (allows : Layout → History → ℕ → Type 0) (ready 
     first = u.first;
     with_walk = λ walk turn. u.with_run (walking m walk);
     tells = λ walk turn h v x. let y = u.tells (walking m walk) h (Some v) x in (from u.call y.0, u.is_layout, y.3.1);
-    turns = λ walk now turn h v s goal next x.
+    turns = λ walk now turn h v s past goal next x.
         let y = u.tells (walking m walk) h (Some v) x in
         let w = y.3.0 in
-        u.turns (walking m walk) (walking m now) h (Some v) s record { edit = refl; called = refl; spends = (omega arith, omega arith) } x
-        (y.0, y.1, y.2, (record { small = w.small; rests = w.rests; quiet = w.quiet; same = goal ∙ w.same }, next (from u.call y.0) y.3.1));
-    stays = λ walk now turn then goal. u.stays (walking m walk) (walking m now) refl;
+        u.turns (walking m walk) (walking m now) h (Some v) s record { edit = refl; called = refl; limit = refl; tries = (omega arith, omega arith); spends = (omega arith, omega arith, omega arith) } x
+        (y.0, try_past u.call y.0 h m.limit m.tries now.at past y.1, y.2, (record { small = w.small; rests = w.rests; quiet = w.quiet; same = goal ∙ w.same }, next (from u.call y.0) y.3.1));
+    stays = λ walk now turn then goal. u.stays (walking m walk) (walking m now) refl (omega arith, omega arith);
   }
 
   -- an update that may begin begins its walk
@@ -153,8 +156,8 @@ module _ {M E : Type 0} (allows : Layout → History → ℕ → Type 0) (ready 
     is = x.is;
     sound = x.sound;
     so = (
-      u.turns (standing m Start) (walking m (walk_from key)) _ None _ record { edit = refl; called = refl; spends = (omega arith, omega arith) } x.so.0 (waiting _ (u.tells (standing m Start) _ None x.so.0)),
-      goes_on (u.with_run (standing m Start)) (u.stays (standing m Start) (walking m (walk_from key)) refl) x.so.1,
+      u.turns (standing m Start) (walking m (walk_from key)) _ None _ record { edit = refl; called = refl; limit = refl; tries = (omega arith, omega arith); spends = (omega arith, omega arith, omega arith) } x.so.0 (waiting _ (u.tells (standing m Start) _ None x.so.0)),
+      goes_on (u.with_run (standing m Start)) (u.stays (standing m Start) (walking m (walk_from key)) refl (omega arith, omega arith)) x.so.1,
     );
   }
     where
@@ -170,44 +173,59 @@ module _ {M E : Type 0} (allows : Layout → History → ℕ → Type 0) (ready 
             ),
           )
 
+  -- what comes next changes its place alone
+  placed_tries : {A : Type 0} (m : UpdateRun E A) (f : Found) (next : Next) → (placed e m f next).tries ≡ m.tries
+  placed_tries m f (LookNext n) = refl
+  placed_tries m f (WaitNext n b scx) = refl
+  placed_tries m f (LoadNext nth part) = refl
+  placed_tries m f (FillNext nth) = refl
+  placed_tries m f (ChangeNext scx) = refl
+
+  -- a run that has as many tries left has given up one at most
+  keeps_tries : (old now : ℕ) → now ≡ old → (old ≤ now + 1) × (now ≤ old)
+  keeps_tries old now e = (omega (arith, e), omega (arith, e))
+
   -- what its try does next, once it has told so and no more of the share is taken than may
   module _ (ps : List SeatedPass) {A : Type 0} (m : UpdateRun E A) (f : Found) where
-    goes_from : (old : UpdateRun E UpdateAt) (h : History) (got : Option ℕ) (next : Next) → ready (u.with_run old) u.call h got → IsSameUpdate old m → HasSpent e old.share m f (Ok next) (node_tries old old.at) (scx_tries old old.at) → GoesOn e u.call h m f (Ok next) → waits (u.with_run (placed e m f next)) u.call h (next_step e m f next)
-    goes_from old h got next was same spent z = u.turns old (placed e m f next) h got (next_step e m f next) record { edit = p.0 ∙ same.0; called = p.1 ∙ same.1; spends = spent } was z
+    goes_from : (old : UpdateRun E UpdateAt) (h : History) (got : Option ℕ) (next : Next) → ready (u.with_run old) u.call h got → IsSameUpdate old m → m.tries ≡ old.tries → HasSpent e old.share m f (Ok next) (node_tries old old.at) (scx_tries old old.at) → GoesOn e u.call h m f (Ok next) → waits (u.with_run (placed e m f next)) u.call h (next_step e m f next)
+    goes_from old h got next was same tries spent z = u.turns old (placed e m f next) h got (next_step e m f next) record { edit = p.0 ∙ same.0; called = p.1 ∙ same.1; limit = p.2 ∙ same.2; tries = keeps_tries old.tries (placed e m f next).tries (placed_tries m f next ∙ tries); spends = spent } was z
       where
         p : IsSameUpdate m (placed e m f next)
         p = placed_same e m f next
 
     -- behind the step of which it was told it goes on so
-    pub goes_behind : (old : UpdateRun E UpdateAt) (v : ℕ) (next : Result Next Stop) → IsSameUpdate old m → HasSpent e old.share m f next (node_tries old old.at) (scx_tries old old.at) → (x : UpdaterIsTold allows ready waits same e layout number u ps old v) → GoesOn e u.call (history_of u.call.layout.mode x.known) m f next → UpdaterGoesOn allows ready waits same e layout number u ps m f next
-    goes_behind old v (Ok next) is spent x z = record { known = x.known; is = x.is; sound = x.sound; so = (goes_from old (history_of u.call.layout.mode x.known) (Some v) next x.so.0 is spent z, goes_on (u.with_run old) (u.stays old (placed e m f next) ((placed_same e m f next).0 ∙ is.0)) x.so.1) }
-    goes_behind old v (Err stop) is spent x z = record { known = x.known; is = x.is; sound = x.sound; so = record { old = old; got = Some v; was = x.so.0; goes = record { edit = is.0; called = is.1; spends = spent }; may = z; course = x.so.1 } }
+    pub goes_behind : (old : UpdateRun E UpdateAt) (v : ℕ) (next : Result Next Stop) → IsSameUpdate old m → m.tries ≡ old.tries → HasSpent e old.share m f next (node_tries old old.at) (scx_tries old old.at) → (x : UpdaterIsTold allows ready waits same e layout number u ps old v) → GoesOn e u.call (history_of u.call.layout.mode x.known) m f next → UpdaterGoesOn allows ready waits same e layout number u ps m f next
+    goes_behind old v (Ok next) is tries spent x z = record { known = x.known; is = x.is; sound = x.sound; so = (goes_from old (history_of u.call.layout.mode x.known) (Some v) next x.so.0 is tries spent z, goes_on (u.with_run old) (u.stays old (placed e m f next) ((placed_same e m f next).0 ∙ is.0) (keeps_tries old.tries (placed e m f next).tries (placed_tries m f next ∙ tries))) x.so.1) }
+    goes_behind old v (Err stop) is tries spent x z = record { known = x.known; is = x.is; sound = x.sound; so = record { old = old; got = Some v; was = x.so.0; goes = record { edit = is.0; called = is.1; limit = is.2; tries = keeps_tries old.tries m.tries tries; spends = spent }; tries = tries; may = z; course = x.so.1 } }
+
+    fewer_then : {old mid now : ℕ} → mid ≡ old → (mid ≤ now + 1) × (now ≤ mid) → (old ≤ now + 1) × (now ≤ old)
+    fewer_then {old} {mid} {now} e x = subst (λ (k : ℕ). (k ≤ now + 1) × (now ≤ k)) e x
 
     -- where its try ends so, it stands as the turn says that it makes of that
-    pub stops : (now : UpdateRun E UpdateAt) (stop : Stop) (turn : Turn Updated) → IsSameUpdate m now → IsSpending e turn m.share now m.tries m.tries → ((h : History) → IsRun TreeAllows u.call.layout h → MayStop e u.call h m f stop → UpdateTurn e u.call h now turn) → UpdaterStops allows ready waits same e layout number u ps m f stop → UpdaterStands allows ready waits same e layout number u ps now turn
-    stops now stop (Ask s) is spent next x = record {
+    pub stops : (now : UpdateRun E UpdateAt) (stop : Stop) (turn : Turn Updated) → IsSameUpdate m now → (m.tries ≤ now.tries + 1) × (now.tries ≤ m.tries) → IsSpending e turn m.share now m.tries m.tries → ((h : History) → IsRun TreeAllows u.call.layout h → MayStop e u.call h m f stop → UpdateTurn e u.call h now turn) → UpdaterStops allows ready waits same e layout number u ps m f stop → UpdaterStands allows ready waits same e layout number u ps now turn
+    stops now stop (Ask s) is fewer spent next x = record {
       known = x.known;
       is = x.is;
       sound = x.sound;
       so = (
-        u.turns x.so.old now _ x.so.got s record { edit = is.0 ∙ x.so.goes.edit; called = is.1 ∙ x.so.goes.called; spends = joined_spends e.most_nodes x.so.old.share m.share now.share (node_tries x.so.old x.so.old.at) (node_tries now now.at) (scx_tries x.so.old x.so.old.at) (scx_tries now now.at) m.tries x.so.goes.spends spent } x.so.was (next _ (u.tree _ x.sound) x.so.may),
-        goes_on (u.with_run x.so.old) (u.stays x.so.old now (is.0 ∙ x.so.goes.edit)) x.so.course,
+        u.turns x.so.old now _ x.so.got s record { edit = is.0 ∙ x.so.goes.edit; called = is.1 ∙ x.so.goes.called; limit = is.2 ∙ x.so.goes.limit; tries = fewer_then x.so.tries fewer; spends = joined_spends e.most_nodes x.so.old.share m.share now.share (node_tries x.so.old x.so.old.at) (node_tries now now.at) (scx_tries x.so.old x.so.old.at) (scx_tries now now.at) m.tries x.so.goes.spends spent } x.so.was (next _ (u.tree _ x.sound) x.so.may),
+        goes_on (u.with_run x.so.old) (u.stays x.so.old now (is.0 ∙ x.so.goes.edit) (fewer_then x.so.tries fewer)) x.so.course,
       );
     }
-    stops now stop (Done a) is spent next x = record {
+    stops now stop (Done a) is fewer spent next x = record {
       known = x.known;
       is = x.is;
       sound = x.sound;
-      so = record { old = x.so.old; got = x.so.got; was = x.so.was; goes = record { edit = is.0 ∙ x.so.goes.edit; called = is.1 ∙ x.so.goes.called; spends = joined_spends e.most_nodes x.so.old.share m.share now.share (node_tries x.so.old x.so.old.at) 0 (scx_tries x.so.old x.so.old.at) 0 m.tries x.so.goes.spends spent }; answers = next _ (u.tree _ x.sound) x.so.may; course = x.so.course };
+      so = record { old = x.so.old; got = x.so.got; was = x.so.was; goes = record { edit = is.0 ∙ x.so.goes.edit; called = is.1 ∙ x.so.goes.called; limit = is.2 ∙ x.so.goes.limit; tries = fewer_then x.so.tries fewer; spends = joined_spends e.most_nodes x.so.old.share m.share now.share (node_tries x.so.old x.so.old.at) 0 (scx_tries x.so.old x.so.old.at) 0 m.tries x.so.goes.spends spent }; answers = next _ (u.tree _ x.sound) x.so.may; course = x.so.course };
     }
 
   -- behind its walk it goes on as its try does
-  pub finds : (ps : List SeatedPass) {A : Type 0} (m now : UpdateRun E A) (key : ℕ) (turn : NodeNo) (f : Found) (next : Result Next Stop) → e.goal m.edit ≡ ToKey key → IsSameUpdate m now → HasSpent e m.share now f next (m.tries + 1) (m.tries + 1)
-      → ((b h : History) → IsRun TreeAllows u.call.layout h → IsTry u.call b → IsUntouched u.call b m.share → Begins e m (from u.call b) h → IsQuietSince u.call.layout u.call.pass b h → HasFound (e.goal m.edit) (from u.call b) h f → GoesOn e u.call h now f next)
+  pub finds : (ps : List SeatedPass) {A : Type 0} (m now : UpdateRun E A) (key : ℕ) (turn : NodeNo) (f : Found) (next : Result Next Stop) → e.goal m.edit ≡ ToKey key → IsSameUpdate m now → now.tries ≡ m.tries → HasSpent e m.share now f next (m.tries + 1) (m.tries + 1)
+      → ((b h : History) → IsRun TreeAllows u.call.layout h → IsTry u.call b h m.limit m.tries → IsUntouched u.call b m.share → Begins e m (from u.call b) h → IsQuietSince u.call.layout u.call.pass b h → HasFound (e.goal m.edit) (from u.call b) h f → GoesOn e u.call h now f next)
       → WalkerFinds allows ready waits same layout number (walker m) ps key turn f → UpdaterGoesOn allows ready waits same e layout number u ps now f next
   unfolding walker
-  finds ps m now key turn f next goal is spent goes x =
-      goes_behind ps now f (walking m x.last) x.told next is spent x.so (goes y.0 _ (u.tree _ x.so.sound) y.1 y.2 record { run = w.1.run; small = w.0.small; since = own_since (from u.call y.0) _ w.1.own; rests = record { share = w.0.rests.share; over = w.0.rests.over } } w.0.quiet (rw goal (x.finds (from u.call y.0) _ w.1)))
+  finds ps m now key turn f next goal is tries spent goes x =
+      goes_behind ps now f (walking m x.last) x.told next is tries spent x.so (goes y.0 _ (u.tree _ x.so.sound) y.1 y.2 record { run = w.1.run; small = w.0.small; since = own_since (from u.call y.0) _ w.1.own; rests = record { share = w.0.rests.share; over = w.0.rests.over } } w.0.quiet (rw goal (x.finds (from u.call y.0) _ w.1)))
     where
       y : UpdateIsReady e (walking m x.last) u.call (history_of u.call.layout.mode x.so.known) (Some x.told)
       y = u.tells (walking m x.last) _ (Some x.told) x.so.so.0
@@ -234,7 +252,7 @@ module _ {M E : Type 0} (allows : Layout → History → ℕ → Type 0) (ready 
     turns = λ llx now h v s node turn run x.
         let y = u.tells (looking m f llx) h (Some v) x in
         let l = y.3.1 in
-        u.turns (looking m f llx) (looking m f now) h (Some v) s record { edit = refl; called = refl; spends = (omega arith, omega arith) } x (
+        u.turns (looking m f llx) (looking m f now) h (Some v) s record { edit = refl; called = refl; limit = refl; tries = (omega arith, omega arith); spends = (omega arith, omega arith, omega arith) } x (
           y.0,
           y.1,
           tt,
@@ -244,7 +262,7 @@ module _ {M E : Type 0} (allows : Layout → History → ℕ → Type 0) (ready 
             turn (from (from u.call y.0) y.3.0) (u.tree h run) y.3.2,
           ),
         );
-    stays = λ llx now node. u.stays (looking m f llx) (looking m f now) refl;
+    stays = λ llx now node. u.stays (looking m f llx) (looking m f now) refl (omega arith, omega arith);
   }
 
   -- an update whose try looks at a node has begun to look at it
@@ -253,11 +271,11 @@ module _ {M E : Type 0} (allows : Layout → History → ℕ → Type 0) (ready 
   begins_look ps m f node x = x
 
   -- with the snapshot it goes on as its turn says
-  pub looks_on : (ps : List SeatedPass) {A : Type 0} (m now : UpdateRun E A) (f : Found) (node : NodeNo) (snap : Snap) (next : Result Next Stop) → IsSameUpdate m now → HasSpent e m.share now f next (m.tries + 1) (m.tries + 1)
-      → ((b h : History) → IsRun TreeAllows u.call.layout h → IsTry u.call b → CanLook e m (from u.call b) h f → e.looks m.edit f m.snaps.items ≡ At snap.node → IsSnapshot u.call.layout h snap.node.0 snap → GoesOn e u.call h now f next)
+  pub looks_on : (ps : List SeatedPass) {A : Type 0} (m now : UpdateRun E A) (f : Found) (node : NodeNo) (snap : Snap) (next : Result Next Stop) → IsSameUpdate m now → now.tries ≡ m.tries → HasSpent e m.share now f next (m.tries + 1) (m.tries + 1)
+      → ((b h : History) → IsRun TreeAllows u.call.layout h → IsTry u.call b h m.limit m.tries → CanLook e m (from u.call b) h f → e.looks m.edit f m.snaps.items ≡ At snap.node → IsSnapshot u.call.layout h snap.node.0 snap → GoesOn e u.call h now f next)
       → LookerSnaps allows ready waits same layout number (looker m f) ps node snap → UpdaterGoesOn allows ready waits same e layout number u ps now f next
   unfolding looker
-  looks_on ps m now f node snap next is spent goes x = goes_behind ps now f (looking m f x.last) x.told next is spent x.so (goes y.0 h (u.tree h x.so.sound) y.1 can named snapped)
+  looks_on ps m now f node snap next is tries spent goes x = goes_behind ps now f (looking m f x.last) x.told next is tries spent x.so (goes y.0 h (u.tree h x.so.sound) y.1 can named snapped)
     where
       h : History
       h = history_of u.call.layout.mode x.so.known
@@ -284,10 +302,10 @@ module _ {M E : Type 0} (allows : Layout → History → ℕ → Type 0) (ready 
 
   -- where the try ends with nothing to make, or with too little left, it has answered so
   pub ends_needless : (ps : List SeatedPass) {A : Type 0} (m : UpdateRun E A) (f : Found) → UpdaterStops allows ready waits same e layout number u ps m f NothingStop → UpdaterEnds allows ready waits same e layout number u ps m (done_with f)
-  ends_needless ps m f x = record { known = x.known; is = x.is; sound = x.sound; so = let y = x.so in record { old = y.old; got = y.got; was = y.was; goes = all_spent y.old m m.tries m.tries y.goes; answers = y.may; course = y.course } }
+  ends_needless ps m f x = record { known = x.known; is = x.is; sound = x.sound; so = let y = x.so in record { old = y.old; got = y.got; was = y.was; goes = all_spent y.old m m.tries y.goes; answers = y.may; course = y.course } }
 
   pub ends_full : (ps : List SeatedPass) {A : Type 0} (m : UpdateRun E A) (f : Found) (full : Full) → UpdaterStops allows ready waits same e layout number u ps m f (FullStop full) → UpdaterEnds allows ready waits same e layout number u ps m (FullAnswer full)
-  ends_full ps m f full x = record { known = x.known; is = x.is; sound = x.sound; so = let y = x.so in record { old = y.old; got = y.got; was = y.was; goes = all_spent y.old m m.tries m.tries y.goes; answers = y.may; course = y.course } }
+  ends_full ps m f full x = record { known = x.known; is = x.is; sound = x.sound; so = let y = x.so in record { old = y.old; got = y.got; was = y.was; goes = all_spent y.old m m.tries y.goes; answers = y.may; course = y.course } }
 
   -- Its machine goes on
 
@@ -303,30 +321,34 @@ module _ {M E : Type 0} (allows : Layout → History → ℕ → Type 0) (ready 
       there (ChangeNext scx) y = y
 
   -- so too where its try ends
-  pub stops_there : (ps : List SeatedPass) {A : Type 0} (m : UpdateRun E A) (start now : UpdateRun E UpdateAt) (f : Found) (stop : Stop) (turn : Turn Updated) → start ≡ standing m Start → IsSameUpdate start now → IsSpending e turn start.share now start.tries start.tries → ((h : History) → IsRun TreeAllows u.call.layout h → MayStop e u.call h start f stop → UpdateTurn e u.call h now turn) → UpdaterStops allows ready waits same e layout number u ps m f stop → UpdaterStands allows ready waits same e layout number u ps now turn
-  stops_there ps m start now f stop turn is same_run spent next x = stops ps start f now stop turn same_run spent next (subst (λ (r : UpdateRun E UpdateAt). UpdaterStops allows ready waits same e layout number u ps r f stop) (sym is)
-      record { known = x.known; is = x.is; sound = x.sound; so = let y = x.so in record { old = y.old; got = y.got; was = y.was; goes = record { edit = y.goes.edit; called = y.goes.called; spends = y.goes.spends }; may = may_stop_there e u.call _ m f stop y.may; course = y.course } })
+  pub stops_there : (ps : List SeatedPass) {A : Type 0} (m : UpdateRun E A) (start now : UpdateRun E UpdateAt) (f : Found) (stop : Stop) (turn : Turn Updated) → start ≡ standing m Start → IsSameUpdate start now → (start.tries ≤ now.tries + 1) × (now.tries ≤ start.tries) → IsSpending e turn start.share now start.tries start.tries → ((h : History) → IsRun TreeAllows u.call.layout h → MayStop e u.call h start f stop → UpdateTurn e u.call h now turn) → UpdaterStops allows ready waits same e layout number u ps m f stop → UpdaterStands allows ready waits same e layout number u ps now turn
+  stops_there ps m start now f stop turn is same_run fewer spent next x = stops ps start f now stop turn same_run fewer spent next (subst (λ (r : UpdateRun E UpdateAt). UpdaterStops allows ready waits same e layout number u ps r f stop) (sym is)
+      record { known = x.known; is = x.is; sound = x.sound; so = let y = x.so in record { old = y.old; got = y.got; was = y.was; goes = record { edit = y.goes.edit; called = y.goes.called; limit = y.goes.limit; tries = y.goes.tries; spends = y.goes.spends }; tries = y.tries; may = may_stop_there e u.call _ m f stop y.may; course = y.course } })
 
   -- so too where its SCX could not freeze a node
   pub blocks_there : (ps : List SeatedPass) {A : Type 0} (m : UpdateRun E A) (start now : UpdateRun E UpdateAt) (f : Found) (scx : ScxNo) (help : HelpRun) (turn : Turn Updated) → start ≡ standing m Start → now ≡ standing start (Scx f record { scx = scx; call = start.call; update = update_of e start f; at = Help help }) → turn ≡ Ask (all_frozen_load scx) → UpdaterIsBlocked allows ready waits same e layout number u ps m f scx help → UpdaterStands allows ready waits same e layout number u ps now turn
   blocks_there ps m start now f scx help turn is place asks x = rw (place, asks, is) x
 
+  -- while it fills a fresh node there is an SCX-record left
+  scx_is_left : (ps : List SeatedPass) (m : UpdateRun E UpdateAt) (v : ℕ) → UpdaterIsTold allows ready waits same e layout number u ps m v → HasScxLeft m m.at
+  scx_is_left ps m v x = update_scx_left e m u.call _ (Some v) (u.tells m _ (Some v) x.so.0)
+
   -- told what its step has found, it stands as its turn says
-  pub told_on : (ps : List SeatedPass) (m now : UpdateRun E UpdateAt) (v : ℕ) (turn : Turn Updated) → IsSameUpdate m now → IsSpending e turn m.share now (node_tries m m.at) (scx_tries m m.at) → ((h : History) → IsRun TreeAllows u.call.layout h → UpdateIsReady e m u.call h (Some v) → UpdateTurn e u.call h now turn) → UpdaterIsTold allows ready waits same e layout number u ps m v → UpdaterStands allows ready waits same e layout number u ps now turn
-  told_on ps m now v (Ask s) is spent next x = record {
+  pub told_on : (ps : List SeatedPass) (m now : UpdateRun E UpdateAt) (v : ℕ) (turn : Turn Updated) → IsSameUpdate m now → (m.tries ≤ now.tries + 1) × (now.tries ≤ m.tries) → (HasScxLeft m m.at → IsSpending e turn m.share now (node_tries m m.at) (scx_tries m m.at)) → ((h : History) → IsRun TreeAllows u.call.layout h → UpdateIsReady e m u.call h (Some v) → UpdateTurn e u.call h now turn) → UpdaterIsTold allows ready waits same e layout number u ps m v → UpdaterStands allows ready waits same e layout number u ps now turn
+  told_on ps m now v (Ask s) is fewer spent next x = record {
     known = x.known;
     is = x.is;
     sound = x.sound;
     so = (
-      u.turns m now _ (Some v) s record { edit = is.0; called = is.1; spends = spent } x.so.0 (next _ (u.tree _ x.sound) (u.tells m _ (Some v) x.so.0)),
-      goes_on (u.with_run m) (u.stays m now is.0) x.so.1,
+      u.turns m now _ (Some v) s record { edit = is.0; called = is.1; limit = is.2; tries = fewer; spends = spent (scx_is_left ps m v x) } x.so.0 (next _ (u.tree _ x.sound) (u.tells m _ (Some v) x.so.0)),
+      goes_on (u.with_run m) (u.stays m now is.0 fewer) x.so.1,
     );
   }
-  told_on ps m now v (Done a) is spent next x = record {
+  told_on ps m now v (Done a) is fewer spent next x = record {
     known = x.known;
     is = x.is;
     sound = x.sound;
-    so = record { old = m; got = Some v; was = x.so.0; goes = record { edit = is.0; called = is.1; spends = spent }; answers = next _ (u.tree _ x.sound) (u.tells m _ (Some v) x.so.0); course = x.so.1 };
+    so = record { old = m; got = Some v; was = x.so.0; goes = record { edit = is.0; called = is.1; limit = is.2; tries = fewer; spends = spent (scx_is_left ps m v x) }; answers = next _ (u.tree _ x.sound) (u.tells m _ (Some v) x.so.0); course = x.so.1 };
   }
 
   -- what it is told fits the taken nodes
@@ -335,7 +357,7 @@ module _ {M E : Type 0} (allows : Layout → History → ℕ → Type 0) (ready 
 
   -- its answer is that of the update that stands nowhere again
   pub ends_nowhere : (ps : List SeatedPass) {A B : Type 0} (m : UpdateRun E A) (at : B) (now : UpdateRun E B) (a : Updated) → now ≡ standing m at → UpdaterEnds allows ready waits same e layout number u ps m a → UpdaterEnds allows ready waits same e layout number u ps now a
-  ends_nowhere ps m at now a is x = rw is record { known = x.known; is = x.is; sound = x.sound; so = let y = x.so in record { old = y.old; got = y.got; was = y.was; goes = record { edit = y.goes.edit; called = y.goes.called; spends = y.goes.spends }; answers = answers_there e u.call _ m at a y.answers; course = y.course } }
+  ends_nowhere ps m at now a is x = rw is record { known = x.known; is = x.is; sound = x.sound; so = let y = x.so in record { old = y.old; got = y.got; was = y.was; goes = record { edit = y.goes.edit; called = y.goes.called; limit = y.goes.limit; tries = y.goes.tries; spends = y.goes.spends }; answers = answers_there e u.call _ m at a y.answers; course = y.course } }
 
   -- Loads and fills
 
@@ -370,10 +392,10 @@ module _ {M E : Type 0} (allows : Layout → History → ℕ → Type 0) (ready 
   }
 
   -- with what the load has told it goes on as its turn says
-  pub loads_on : (ps : List SeatedPass) {A : Type 0} (m now : UpdateRun E A) (f : Found) (nth : Nth) (part : NodeWord) (v : ℕ) (next : Result Next Stop) → IsSameUpdate m now → HasSpent e m.share now f next m.tries (m.tries + 1)
-      → ((b h : History) → IsRun TreeAllows u.call.layout h → IsTry u.call b → Loads e m (from u.call b) h f nth part → value h (node (copied e m f) part) ≡ v → GoesOn e u.call h now f next)
+  pub loads_on : (ps : List SeatedPass) {A : Type 0} (m now : UpdateRun E A) (f : Found) (nth : Nth) (part : NodeWord) (v : ℕ) (next : Result Next Stop) → IsSameUpdate m now → now.tries ≡ m.tries → HasSpent e m.share now f next m.tries (m.tries + 1)
+      → ((b h : History) → IsRun TreeAllows u.call.layout h → IsTry u.call b h m.limit m.tries → Loads e m (from u.call b) h f nth part → value h (node (copied e m f) part) ≡ v → GoesOn e u.call h now f next)
       → UpdaterIsTold allows ready waits same e layout number u ps (placed e m f (LoadNext nth part)) v → UpdaterGoesOn allows ready waits same e layout number u ps now f next
-  loads_on ps m now f nth part v next is spent goes x = goes_behind ps now f (placed e m f (LoadNext nth part)) v next is spent x (goes y.0 h (u.tree h x.sound) y.1 (loads_anywhere m f nth part (from u.call y.0) h y.3.0) y.3.1)
+  loads_on ps m now f nth part v next is tries spent goes x = goes_behind ps now f (placed e m f (LoadNext nth part)) v next is tries spent x (goes y.0 h (u.tree h x.sound) y.1 (loads_anywhere m f nth part (from u.call y.0) h y.3.0) y.3.1)
     where
       h : History
       h = history_of u.call.layout.mode x.known
@@ -399,8 +421,8 @@ module _ {M E : Type 0} (allows : Layout → History → ℕ → Type 0) (ready 
     is = x.is;
     sound = x.sound;
     so = (
-      u.turns (filling m f nth part) (filling m f nth next) h (Some told) _ record { edit = refl; called = refl; spends = (omega arith, omega arith) } x.so.0 (y.0, y.1, tt, fills_word e (filling m f nth part) f nth next p n v (from u.call y.0) h can is_p is_n is_v),
-      goes_on (u.with_run (filling m f nth part)) (u.stays (filling m f nth part) (filling m f nth next) refl) x.so.1,
+      u.turns (filling m f nth part) (filling m f nth next) h (Some told) _ record { edit = refl; called = refl; limit = refl; tries = (omega arith, omega arith); spends = (omega arith, omega arith, omega arith) } x.so.0 (y.0, y.1, tt, fills_word e (filling m f nth part) f nth next p n v (from u.call y.0) h can is_p is_n is_v),
+      goes_on (u.with_run (filling m f nth part)) (u.stays (filling m f nth part) (filling m f nth next) refl (omega arith, omega arith)) x.so.1,
     );
   }
     where
@@ -441,10 +463,10 @@ module _ {M E : Type 0} (allows : Layout → History → ℕ → Type 0) (ready 
   )
 
   -- behind a node's last fill it goes on as its turn says
-  pub fills_end : (ps : List SeatedPass) {A : Type 0} (m now : UpdateRun E A) (f : Found) (nth : Nth) (part : NodeWord) (v : ℕ) (next : Result Next Stop) → IsSameUpdate m now → HasSpent e m.share now f next m.tries (m.tries + 1)
-      → ((b h : History) → IsRun TreeAllows u.call.layout h → IsTry u.call b → IsFilledUpTo e m (from u.call b) h f nth part → GoesOn e u.call h now f next)
+  pub fills_end : (ps : List SeatedPass) {A : Type 0} (m now : UpdateRun E A) (f : Found) (nth : Nth) (part : NodeWord) (v : ℕ) (next : Result Next Stop) → IsSameUpdate m now → now.tries ≡ m.tries → (0 < m.share.scx → HasSpent e m.share now f next m.tries (m.tries + 1))
+      → ((b h : History) → IsRun TreeAllows u.call.layout h → IsTry u.call b h m.limit m.tries → IsFilledUpTo e m (from u.call b) h f nth part → GoesOn e u.call h now f next)
       → UpdaterIsTold allows ready waits same e layout number u ps (filling m f nth part) v → UpdaterGoesOn allows ready waits same e layout number u ps now f next
-  fills_end ps m now f nth part v next is spent goes x = goes_behind ps now f (filling m f nth part) v next is spent x (goes y.0 h (u.tree h x.sound) y.1 (filled_anywhere m f nth part (from u.call y.0) h y.3))
+  fills_end ps m now f nth part v next is tries spent goes x = goes_behind ps now f (filling m f nth part) v next is tries (spent y.3.0.works.some) x (goes y.0 h (u.tree h x.sound) y.1 (filled_anywhere m f nth part (from u.call y.0) h y.3))
     where
       h : History
       h = history_of u.call.layout.mode x.known
@@ -468,9 +490,9 @@ module _ {M E : Type 0} (allows : Layout → History → ℕ → Type 0) (ready 
     with_scx = λ scx. u.with_run (scxing m f scx);
     turns = λ old now h v s is_scx is_update is_call turn run x.
         let y = u.tells (scxing m f old) h (Some v) x in
-        u.turns (scxing m f old) (scxing m f now) h (Some v) s record { edit = refl; called = refl; spends = (omega arith, omega arith) } x
+        u.turns (scxing m f old) (scxing m f now) h (Some v) s record { edit = refl; called = refl; limit = refl; tries = (omega arith, omega arith); spends = (omega arith, omega arith, omega arith) } x
         (y.0, y.1, tt, scx_asks e (scxing m f old) old now f y.3.0 (from u.call y.0) h (Ask s) s y.3.1 is_scx is_update is_call refl (turn (from (from u.call y.0) y.3.0) (u.tree h run) y.3.2));
-    stays = λ old now is_scx is_update is_call. u.stays (scxing m f old) (scxing m f now) refl;
+    stays = λ old now is_scx is_update is_call. u.stays (scxing m f old) (scxing m f now) refl (omega arith, omega arith);
   }
 
   -- an update whose try makes its SCX waits for the fill of its plan
@@ -489,7 +511,7 @@ module _ {M E : Type 0} (allows : Layout → History → ℕ → Type 0) (ready 
     known = x.known;
     is = x.is;
     sound = x.sound;
-    so = record { old = here; got = Some v; was = x.so.0; goes = record { edit = refl; called = refl; spends = (omega arith, omega arith) }; answers = answers; course = x.so.1 };
+    so = record { old = here; got = Some v; was = x.so.0; goes = record { edit = refl; called = refl; limit = refl; tries = (omega arith, omega arith); spends = (omega arith, omega arith, omega arith) }; answers = answers; course = x.so.1 };
   }
     where
       scx : ScxRun

@@ -16,7 +16,7 @@ use Rattle.arena.specs.Machines.{Call, IsRun, MatchTurn}
 use Rattle.arena.specs.Words.{info, marked, state}
 use Rattle.order.specs.Range.Known.{Goes, HasKey, HasLowHead, IsSameRange, LooksIn, RangeAnswers, RangeIsReady, RangeIsToldAt, RangeWaits, Visits}
 use Rattle.order.specs.Range.Laws.{range_told}
-use Rattle.order.specs.Range.Next.{ComesNearer, GoesOn, MayDo, next_step, placed}
+use Rattle.order.specs.Range.Next.{ComesNearer, GoesOn, MayDo, MayGoOn, next_step, placed}
 use Rattle.order.specs.Range.Steps.{RangeFits, RangeFitsAt, leaves_left, phase_left, range_left, try_left}
 use Rattle.order.specs.Reads.{from}
 use Rattle.order.specs.Successor.Known.{head_at, key_at, value_at}
@@ -25,6 +25,7 @@ use Rattle.order.specs.declared.range.RangeAt.TheVariants.{Root, Look, Validate}
 use Rattle.order.specs.declared.range.RangeNext.{RangeNext}
 use Rattle.order.specs.declared.range.RangeNext.TheVariants.{Head as HeadNext, Key as KeyNext, Value as ValueNext, Look as LookNext, Validate as ValidateNext}
 use Rattle.order.specs.declared.range.RangeRun.{RangeRun}
+use Rattle.order.specs.Tries.{IsInTry}
 use Rattle.order.specs.declared.refused.Refused.{Refused}
 use Rattle.order.proofs.Lemmas.{range_next_waits, range_placed_nearer}
 use Rattle.prims.specs.Llx.Known.{load, IsSnapshot}
@@ -46,17 +47,20 @@ use Rattle.forest.specs.Traces.{shared_nodes}
 use Rattle.forest.proofs.Advances.{few_taken}
 use Rattle.forest.proofs.StraightReads.{told_on}
 
--- what comes next changes its place alone
-same_placed : (m : RangeRun) (next : RangeNext) → IsSameRange m (placed m next)
-same_placed m (HeadNext above n) = (refl, refl, refl)
-same_placed m (KeyNext head n) = (refl, refl, refl)
-same_placed m (ValueNext key n) = (refl, refl, refl)
-same_placed m (LookNext level left right n) = (refl, refl, refl)
-same_placed m ValidateNext = (refl, refl, refl)
+itself : (m : RangeRun) → IsSameRange m m
+itself m = (refl, refl, refl, refl, omega arith, omega arith)
 
--- one range further on, then another
-further : (a b c : RangeRun) → IsSameRange a b → IsSameRange b c → IsSameRange a c
-further a b c x y = (y.0 ∙ x.0, y.1 ∙ x.1, y.2 ∙ x.2)
+-- what comes next changes its place alone
+same_placed : (old m : RangeRun) (next : RangeNext) → IsSameRange old m → IsSameRange old (placed m next)
+same_placed old m (HeadNext above n) is = is
+same_placed old m (KeyNext head n) is = is
+same_placed old m (ValueNext key n) is = is
+same_placed old m (LookNext level left right n) is = is
+same_placed old m ValidateNext is = is
+
+-- want of memory is an answer of the whole call too
+no_memory : (m : RangeRun) (c : Call) (begin h : History) (a : Refused) → GoesOn (from c begin) h m (Err a) → RangeAnswers m c h (Err a)
+no_memory m c begin h a x = rw x.0 (x.1.0, tt)
 
 -- what it knows does not depend on where it stands
 
@@ -97,31 +101,31 @@ module _ {M : Type 0} (allows : Layout → History → ℕ → Type 0) (ready : 
   IsTold ps m v = ReaderIsTold allows ready waits same RangeIsReady RangeWaits IsSameRange layout number r ps m v
 
   -- what it is told takes it to what comes next, or to its answer
-  on_to : (ps : List SeatedPass) (old m : RangeRun) (next : RangeNext) (v : ℕ) → IsSameRange old m → ((h : History) → IsRun TreeAllows r.call.layout h → RangeIsReady old r.call h (Some v) → GoesOn r.call h m (Ok next)) → IsTold ps old v → VisitWaits allows ready waits same layout number r ps m next
-  on_to ps old m next v is know x = told_on allows ready waits same RangeIsReady RangeWaits RangeAnswers IsSameRange layout number r ps old (placed m next) (Some v) (Ask (next_step m next)) (further old m (placed m next) is (same_placed m next)) (λ h run y. let k = know h run y in range_next_waits m r.call h next k.0 k.1) x
+  on_to : (ps : List SeatedPass) (old m : RangeRun) (next : RangeNext) (v : ℕ) → IsSameRange old m → ((h : History) → IsRun TreeAllows r.call.layout h → RangeIsReady old r.call h (Some v) → MayGoOn r.call h m next) → IsTold ps old v → VisitWaits allows ready waits same layout number r ps m next
+  on_to ps old m next v is know x = told_on allows ready waits same RangeIsReady RangeWaits RangeAnswers IsSameRange layout number r ps old (placed m next) (Some v) (Ask (next_step m next)) (same_placed old m next is) (λ h run y. range_next_waits m r.call h next (know h run y)) x
 
   ends_at : (ps : List SeatedPass) (old m : RangeRun) (a : Result (Vec Pair Global) Refused) (v : ℕ) → IsSameRange old m → ((h : History) → IsRun TreeAllows r.call.layout h → RangeIsReady old r.call h (Some v) → RangeAnswers m r.call h a) → IsTold ps old v → VisitEnds allows ready waits same layout number r ps m a
   ends_at ps old m a v is know x = told_on allows ready waits same RangeIsReady RangeWaits RangeAnswers IsSameRange layout number r ps old m (Some v) (Done a) is know x
 
   -- behind its loads
-  pub root_goes_on : (ps : List SeatedPass) (m now : RangeRun) (v : ℕ) (next : RangeNext) → m.at ≡ Root → IsSameRange m now → ((c : Call) (h : History) → Goes m c h → IsOwnMoment c h → Visits m c h 0 → head_at h 0 ≡ head_of v → GoesOn c h now (Ok next)) → IsTold ps m v → VisitWaits allows ready waits same layout number r ps now next
-  root_goes_on ps m now v next at is goes = on_to ps m now next v is (λ h run y. let t = subst (λ p. RangeIsToldAt m r.call h v p) at y.2 in goes r.call h y.0 y.1 t.0 (ap head_of t.1))
+  pub root_goes_on : (ps : List SeatedPass) (m now : RangeRun) (v : ℕ) (next : RangeNext) → m.at ≡ Root → now.tries ≡ m.tries → IsSameRange m now → ((c : Call) (h : History) → Goes m c h → IsOwnMoment c h → Visits m c h 0 → head_at h 0 ≡ head_of v → GoesOn c h now (Ok next)) → IsTold ps m v → VisitWaits allows ready waits same layout number r ps now next
+  root_goes_on ps m now v next at tries is goes = on_to ps m now next v is (λ h run y. let c = from r.call y.0 in let t = subst (λ p. RangeIsToldAt m c h v p) at y.4 in let k = goes c h y.2 y.3 t.0 (ap head_of t.1) in (y.0, rw (is.3, tries) y.1, k.0, k.1))
 
-  pub head_goes_on : (ps : List SeatedPass) (m now : RangeRun) (above : ℕ) (n : NodeNo) (v : ℕ) (next : RangeNext) → IsSameRange m now → ((c : Call) (h : History) → Goes m c h → IsOwnMoment c h → Visits m c h n.0 → head_at h n.0 ≡ head_of v → GoesOn c h now (Ok next)) → IsTold ps (placed m (HeadNext above n)) v → VisitWaits allows ready waits same layout number r ps now next
-  head_goes_on ps m now above n v next is goes = on_to ps (placed m (HeadNext above n)) now next v is
-      (λ h run y. goes r.call h (goes_there (placed m (HeadNext above n)) m r.call h refl y.0) y.1 (visits_there (placed m (HeadNext above n)) m r.call h n.0 refl y.2.0) (ap head_of y.2.2))
+  pub head_goes_on : (ps : List SeatedPass) (m now : RangeRun) (above : ℕ) (n : NodeNo) (v : ℕ) (next : RangeNext) → now.tries ≡ m.tries → IsSameRange m now → ((c : Call) (h : History) → Goes m c h → IsOwnMoment c h → Visits m c h n.0 → head_at h n.0 ≡ head_of v → GoesOn c h now (Ok next)) → IsTold ps (placed m (HeadNext above n)) v → VisitWaits allows ready waits same layout number r ps now next
+  head_goes_on ps m now above n v next tries is goes = on_to ps (placed m (HeadNext above n)) now next v is
+      (λ h run y. let c = from r.call y.0 in let k = goes c h (goes_there (placed m (HeadNext above n)) m c h refl y.2) y.3 (visits_there (placed m (HeadNext above n)) m c h n.0 refl y.4.0) (ap head_of y.4.2) in (y.0, rw (is.3, tries) y.1, k.0, k.1))
 
-  pub key_goes_on : (ps : List SeatedPass) (m now : RangeRun) (head : HeadParts) (n : NodeNo) (v : ℕ) (next : RangeNext) → IsSameRange m now → ((c : Call) (h : History) → Goes m c h → IsOwnMoment c h → Visits m c h n.0 → HasLowHead h n.0 head → key_at h n.0 ≡ v → GoesOn c h now (Ok next)) → IsTold ps (placed m (KeyNext head n)) v → VisitWaits allows ready waits same layout number r ps now next
-  key_goes_on ps m now head n v next is goes = on_to ps (placed m (KeyNext head n)) now next v is
-      (λ h run y. goes r.call h (goes_there (placed m (KeyNext head n)) m r.call h refl y.0) y.1 (visits_there (placed m (KeyNext head n)) m r.call h n.0 refl y.2.0) y.2.1 y.2.2)
+  pub key_goes_on : (ps : List SeatedPass) (m now : RangeRun) (head : HeadParts) (n : NodeNo) (v : ℕ) (next : RangeNext) → now.tries ≡ m.tries → IsSameRange m now → ((c : Call) (h : History) → Goes m c h → IsOwnMoment c h → Visits m c h n.0 → HasLowHead h n.0 head → key_at h n.0 ≡ v → GoesOn c h now (Ok next)) → IsTold ps (placed m (KeyNext head n)) v → VisitWaits allows ready waits same layout number r ps now next
+  key_goes_on ps m now head n v next tries is goes = on_to ps (placed m (KeyNext head n)) now next v is
+      (λ h run y. let c = from r.call y.0 in let k = goes c h (goes_there (placed m (KeyNext head n)) m c h refl y.2) y.3 (visits_there (placed m (KeyNext head n)) m c h n.0 refl y.4.0) y.4.1 y.4.2 in (y.0, rw (is.3, tries) y.1, k.0, k.1))
 
-  pub value_goes_on : (ps : List SeatedPass) (m now : RangeRun) (key : ℕ) (n : NodeNo) (v : ℕ) (next : RangeNext) → IsSameRange m now → ((c : Call) (h : History) (k : ℕ) → Goes m c h → IsOwnMoment c h → HasKey m c h k key → value_at h k ≡ v → GoesOn c h now (Ok next)) → IsTold ps (placed m (ValueNext key n)) v → VisitWaits allows ready waits same layout number r ps now next
-  value_goes_on ps m now key n v next is goes = on_to ps (placed m (ValueNext key n)) now next v is
-      (λ h run y. goes r.call h n.0 (goes_there (placed m (ValueNext key n)) m r.call h refl y.0) y.1 (key_there (placed m (ValueNext key n)) m r.call h n.0 key refl y.2.0) y.2.1)
+  pub value_goes_on : (ps : List SeatedPass) (m now : RangeRun) (key : ℕ) (n : NodeNo) (v : ℕ) (next : RangeNext) → now.tries ≡ m.tries → IsSameRange m now → ((c : Call) (h : History) (k : ℕ) → Goes m c h → IsOwnMoment c h → HasKey m c h k key → value_at h k ≡ v → GoesOn c h now (Ok next)) → IsTold ps (placed m (ValueNext key n)) v → VisitWaits allows ready waits same layout number r ps now next
+  value_goes_on ps m now key n v next tries is goes = on_to ps (placed m (ValueNext key n)) now next v is
+      (λ h run y. let c = from r.call y.0 in let k = goes c h n.0 (goes_there (placed m (ValueNext key n)) m c h refl y.2) y.3 (key_there (placed m (ValueNext key n)) m c h n.0 key refl y.4.0) y.4.1 in (y.0, rw (is.3, tries) y.1, k.0, k.1))
 
   pub value_last : (ps : List SeatedPass) (m now : RangeRun) (key : ℕ) (n : NodeNo) (v : ℕ) (a : Refused) → IsSameRange m now → ((c : Call) (h : History) (k : ℕ) → Goes m c h → IsOwnMoment c h → HasKey m c h k key → value_at h k ≡ v → GoesOn c h now (Err a)) → IsTold ps (placed m (ValueNext key n)) v → VisitEnds allows ready waits same layout number r ps now (Err a)
   value_last ps m now key n v a is goes = ends_at ps (placed m (ValueNext key n)) now (Err a) v is
-      (λ h run y. (goes r.call h n.0 (goes_there (placed m (ValueNext key n)) m r.call h refl y.0) y.1 (key_there (placed m (ValueNext key n)) m r.call h n.0 key refl y.2.0) y.2.1).1)
+      (λ h run y. let c = from r.call y.0 in no_memory now r.call y.0 h a (goes c h n.0 (goes_there (placed m (ValueNext key n)) m c h refl y.2) y.3 (key_there (placed m (ValueNext key n)) m c h n.0 key refl y.4.0) y.4.1))
 
   -- what it is told fits the taken nodes
   pub told_fits : (ps : List SeatedPass) (m : RangeRun) (v : ℕ) → IsTold ps m v → RangeFits m (Some v) (shared_nodes layout)
@@ -143,9 +147,10 @@ module _ {M : Type 0} (allows : Layout → History → ℕ → Type 0) (ready : 
   root_lighter ps m now v next at tries is goes near x =
       let h = history_of r.call.layout.mode x.known in
       let y = r.tells m h (Some v) x.so.0 in
-      let t = subst (λ p. RangeIsToldAt m r.call h v p) at y.2 in
+      let c = from r.call y.0 in
+      let t = subst (λ p. RangeIsToldAt m c h v p) at y.4 in
       let f : RangeFitsAt m (Some v) (shared_nodes layout) Root = subst (RangeFitsAt m (Some v) (shared_nodes layout)) at (told_fits ps m v x) in
-      let p = lighter m now r.call h next _ tries is (goes r.call h y.0 y.1 t.0 (ap head_of t.1)).1 (near (shared_nodes layout) f) in
+      let p = lighter m now c h next _ tries is (goes c h y.2 y.3 t.0 (ap head_of t.1)).1 (near (shared_nodes layout) f) in
       subst (λ a. range_left (placed now next) (shared_nodes layout) < m.tries * try_left m.most (shared_nodes layout) + phase_left m (shared_nodes layout) a) (sym at) (omega (arith, p))
 
   pub head_lighter : (ps : List SeatedPass) (m now : RangeRun) (above : ℕ) (n : NodeNo) (v : ℕ) (next : RangeNext) → now.tries ≡ m.tries → IsSameRange m now → ((c : Call) (h : History) → Goes m c h → IsOwnMoment c h → Visits m c h n.0 → head_at h n.0 ≡ head_of v → GoesOn c h now (Ok next)) → ((nodes : ℕ) → HeadFits (head_of v) nodes → ComesNearer now next nodes (length m.snaps.items + 67 * (2 + nodes - (head_of v).level) - 1 + leaves_left m.leaves nodes)) → IsTold ps (placed m (HeadNext above n)) v → range_left (placed now next) (shared_nodes layout) < range_left (placed m (HeadNext above n)) (shared_nodes layout)
@@ -153,18 +158,21 @@ module _ {M : Type 0} (allows : Layout → History → ℕ → Type 0) (ready : 
       let y = r.tells (placed m (HeadNext above n)) _ (Some v) x.so.0 in
       let f = told_fits ps (placed m (HeadNext above n)) v x in
       let a = f.0 in let b = f.1.0 in
-      let p = lighter m now r.call _ next _ tries is (goes r.call _ (goes_there (placed m (HeadNext above n)) m r.call _ refl y.0) y.1 (visits_there (placed m (HeadNext above n)) m r.call _ n.0 refl y.2.0) (ap head_of y.2.2)).1 (near (shared_nodes layout) f.1) in
+      let c = from r.call y.0 in
+      let p = lighter m now c _ next _ tries is (goes c _ (goes_there (placed m (HeadNext above n)) m c _ refl y.2) y.3 (visits_there (placed m (HeadNext above n)) m c _ n.0 refl y.4.0) (ap head_of y.4.2)).1 (near (shared_nodes layout) f.1) in
       omega (arith, a, b, p)
 
   pub key_lighter : (ps : List SeatedPass) (m now : RangeRun) (head : HeadParts) (n : NodeNo) (v : ℕ) (next : RangeNext) → now.tries ≡ m.tries → IsSameRange m now → ((c : Call) (h : History) → Goes m c h → IsOwnMoment c h → Visits m c h n.0 → HasLowHead h n.0 head → key_at h n.0 ≡ v → GoesOn c h now (Ok next)) → ((nodes : ℕ) → HeadFits head nodes → ComesNearer now next nodes (length m.snaps.items + 67 * (2 + nodes - head.level) - 2 + leaves_left m.leaves nodes)) → IsTold ps (placed m (KeyNext head n)) v → range_left (placed now next) (shared_nodes layout) < range_left (placed m (KeyNext head n)) (shared_nodes layout)
   key_lighter ps m now head n v next tries is goes near x =
       let y = r.tells (placed m (KeyNext head n)) _ (Some v) x.so.0 in
-      lighter m now r.call _ next _ tries is (goes r.call _ (goes_there (placed m (KeyNext head n)) m r.call _ refl y.0) y.1 (visits_there (placed m (KeyNext head n)) m r.call _ n.0 refl y.2.0) y.2.1 y.2.2).1 (near (shared_nodes layout) (told_fits ps (placed m (KeyNext head n)) v x))
+      let c = from r.call y.0 in
+      lighter m now c _ next _ tries is (goes c _ (goes_there (placed m (KeyNext head n)) m c _ refl y.2) y.3 (visits_there (placed m (KeyNext head n)) m c _ n.0 refl y.4.0) y.4.1 y.4.2).1 (near (shared_nodes layout) (told_fits ps (placed m (KeyNext head n)) v x))
 
   pub value_lighter : (ps : List SeatedPass) (m now : RangeRun) (key : ℕ) (n : NodeNo) (v : ℕ) (next : RangeNext) → now.tries ≡ m.tries → IsSameRange m now → ((c : Call) (h : History) (k : ℕ) → Goes m c h → IsOwnMoment c h → HasKey m c h k key → value_at h k ≡ v → GoesOn c h now (Ok next)) → ((nodes : ℕ) → ComesNearer now next nodes (length m.snaps.items + leaves_left m.leaves nodes)) → IsTold ps (placed m (ValueNext key n)) v → range_left (placed now next) (shared_nodes layout) < range_left (placed m (ValueNext key n)) (shared_nodes layout)
   value_lighter ps m now key n v next tries is goes near x =
       let y = r.tells (placed m (ValueNext key n)) _ (Some v) x.so.0 in
-      lighter m now r.call _ next _ tries is (goes r.call _ n.0 (goes_there (placed m (ValueNext key n)) m r.call _ refl y.0) y.1 (key_there (placed m (ValueNext key n)) m r.call _ n.0 key refl y.2.0) y.2.1).1 (near (shared_nodes layout))
+      let c = from r.call y.0 in
+      lighter m now c _ next _ tries is (goes c _ n.0 (goes_there (placed m (ValueNext key n)) m c _ refl y.2) y.3 (key_there (placed m (ValueNext key n)) m c _ n.0 key refl y.4.0) y.4.1).1 (near (shared_nodes layout))
 
   -- It looks
   module _ (m : RangeRun) (level : ℕ) (left right : Bool) where
@@ -180,14 +188,16 @@ module _ {M : Type 0} (allows : Layout → History → ℕ → Type 0) (ready : 
       with_llx = λ llx. r.with_run (at llx);
       turns = λ llx now h v s node turn run x.
           let y = r.tells (at llx) h (Some v) x in
-          r.turns (at llx) (at now) h (Some v) s (refl, refl, refl) x (
-            record { reads = y.0.reads; small = y.0.small; few = y.0.few },
+          r.turns (at llx) (at now) h (Some v) s (itself (at llx)) x (
+            y.0,
+            y.1,
+            record { reads = y.2.reads; small = y.2.small; few = y.2.few },
             (
-              subst (λ (k : NodeNo). LooksIn (at now) r.call h level left right k.0) (sym node) (looks_there (at llx) (at now) r.call h level left right llx.node.0 refl y.2.0),
-              (y.2.1.0, y.2.1.1, turn (from r.call y.2.1.0) (r.tree h run) y.2.1.2),
+              subst (λ (k : NodeNo). LooksIn (at now) (from r.call y.0) h level left right k.0) (sym node) (looks_there (at llx) (at now) (from r.call y.0) h level left right llx.node.0 refl y.4.0),
+              (y.4.1.0, y.4.1.1, turn (from (from r.call y.0) y.4.1.0) (r.tree h run) y.4.1.2),
             ),
           );
-      stays = λ llx now node. r.stays (at llx) (at now) (refl, refl, refl);
+      stays = λ llx now node. r.stays (at llx) (at now) (itself (at llx));
     }
 
     -- it begins to look
@@ -197,7 +207,7 @@ module _ {M : Type 0} (allows : Layout → History → ℕ → Type 0) (ready : 
 
     -- with the snapshot it goes on as its turn says
     looked : (ps : List SeatedPass) (now : RangeRun) (n : NodeNo) (snap : Snap) (turn : Turn (Result (Vec Pair Global) Refused)) → IsSameRange m now
-        → ((c : Call) (h : History) → Goes m c h → LooksIn m c h level left right snap.node.0 → IsSnapshot c.layout h snap.node.0 snap → MatchTurn turn (RangeWaits now c h) (RangeAnswers now c h))
+        → ((begin h : History) → IsInTry r.call h begin m.limit m.tries → Goes m (from r.call begin) h → LooksIn m (from r.call begin) h level left right snap.node.0 → IsSnapshot r.call.layout h snap.node.0 snap → MatchTurn turn (RangeWaits now r.call h) (RangeAnswers now r.call h))
         → LookerSnaps allows ready waits same layout number looker ps n snap → ReaderStands allows ready waits same RangeIsReady RangeWaits IsSameRange layout number r ps RangeAnswers now turn
     unfolding looker
     looked ps now n snap turn is goes x = told_on allows ready waits same RangeIsReady RangeWaits RangeAnswers IsSameRange layout number r ps (at x.last) now (Some x.told) turn is next x.so
@@ -207,18 +217,18 @@ module _ {M : Type 0} (allows : Layout → History → ℕ → Type 0) (ready : 
 
         next : (h : History) → IsRun TreeAllows r.call.layout h → RangeIsReady (at x.last) r.call h (Some x.told) → MatchTurn turn (RangeWaits now r.call h) (RangeAnswers now r.call h)
         next h run y =
-            goes r.call h (goes_there (at x.last) m r.call h refl y.0) (subst (λ (k : NodeNo). LooksIn m r.call h level left right k.0) here (looks_there (at x.last) m r.call h level left right x.last.node.0 refl y.2.0))
-            (subst (λ (k : NodeNo). IsSnapshot r.call.layout h k.0 snap) (sym x.of_node) (x.snaps (from r.call y.2.1.0) h run y.2.1.2))
+            goes y.0 h y.1 (goes_there (at x.last) m (from r.call y.0) h refl y.2) (subst (λ (k : NodeNo). LooksIn m (from r.call y.0) h level left right k.0) here (looks_there (at x.last) m (from r.call y.0) h level left right x.last.node.0 refl y.4.0))
+            (subst (λ (k : NodeNo). IsSnapshot r.call.layout h k.0 snap) (sym x.of_node) (x.snaps (from (from r.call y.0) y.4.1.0) h run y.4.1.2))
 
-    pub looks_on : (ps : List SeatedPass) (now : RangeRun) (n : NodeNo) (snap : Snap) (next : RangeNext) → IsSameRange m now
+    pub looks_on : (ps : List SeatedPass) (now : RangeRun) (n : NodeNo) (snap : Snap) (next : RangeNext) → now.tries ≡ m.tries → IsSameRange m now
         → ((c : Call) (h : History) → Goes m c h → LooksIn m c h level left right snap.node.0 → IsSnapshot c.layout h snap.node.0 snap → GoesOn c h now (Ok next))
         → LookerSnaps allows ready waits same layout number looker ps n snap → VisitWaits allows ready waits same layout number r ps now next
-    looks_on ps now n snap next is goes = looked ps (placed now next) n snap (Ask (next_step now next)) (further m now (placed now next) is (same_placed now next)) (λ c h g l s. let k = goes c h g l s in range_next_waits now c h next k.0 k.1)
+    looks_on ps now n snap next tries is goes = looked ps (placed now next) n snap (Ask (next_step now next)) (same_placed m now next is) (λ begin h try g l s. let k = goes (from r.call begin) h g l s in range_next_waits now r.call h next (begin, rw (is.3, tries) try, k.0, k.1))
 
     pub looks_last : (ps : List SeatedPass) (now : RangeRun) (n : NodeNo) (snap : Snap) (a : Refused) → IsSameRange m now
         → ((c : Call) (h : History) → Goes m c h → LooksIn m c h level left right snap.node.0 → IsSnapshot c.layout h snap.node.0 snap → GoesOn c h now (Err a))
         → LookerSnaps allows ready waits same layout number looker ps n snap → VisitEnds allows ready waits same layout number r ps now (Err a)
-    looks_last ps now n snap a is goes = looked ps now n snap (Done (Err a)) is (λ c h g l s. (goes c h g l s).1)
+    looks_last ps now n snap a is goes = looked ps now n snap (Done (Err a)) is (λ begin h try g l s. no_memory now r.call begin h a (goes (from r.call begin) h g l s))
 
     -- its fork is no deeper than the taken nodes allow
     pub level_fits : (ps : List SeatedPass) (n : NodeNo) (snap : Snap) → LookerSnaps allows ready waits same layout number looker ps n snap → level + 1 < 2 + shared_nodes layout
@@ -244,16 +254,18 @@ module _ {M : Type 0} (allows : Layout → History → ℕ → Type 0) (ready : 
       with_vlx = λ n. r.with_run (asking n);
       turns = λ n asked h v is found_so more x.
           let y = r.tells (asking asked) h (Some v) x in
-          let b = y.2.0 in let s = y.2.1 in
-          rw e (r.turns (asking asked) (asking (suc asked)) h (Some v) _ (refl, refl, refl) x (
-            record { reads = y.0.reads; small = y.0.small; few = y.0.few },
+          let b = y.4.0 in let s = y.4.1 in let d = from (from r.call y.0) b in
+          rw e (r.turns (asking asked) (asking (suc asked)) h (Some v) _ (itself (asking asked)) x (
+            y.0,
+            y.1,
+            record { reads = y.2.reads; small = y.2.small; few = y.2.few },
             (
               b,
               record { own = s.own; asks = s.asks; within = s.within; then = s.then; right = s.right },
-              looks_next (from r.call b) h m.snaps.items asked (looked_on (from r.call b) h m.snaps.items asked n v y.0.reads.run.1.lawful y.2.2 is (rw e at found_so)) (rw e at more),
+              looks_next d h m.snaps.items asked (looked_on d h m.snaps.items asked n v y.2.reads.run.1.lawful y.4.2 is (rw e at found_so)) (rw e at more),
             ),
           ));
-      stays = λ n. r.stays (asking n) (asking (suc n)) (refl, refl, refl);
+      stays = λ n. r.stays (asking n) (asking (suc n)) (itself (asking n));
     }
 
     pub begins_vlx : (ps : List SeatedPass) → VisitWaits allows ready waits same layout number r ps m ValidateNext → ValidatorWaits allows ready waits same layout number snaps validator ps 1 (load LoadInfo (info (snap_at snaps 0).node.0))
@@ -265,4 +277,4 @@ module _ {M : Type 0} (allows : Layout → History → ℕ → Type 0) (ready : 
     told_vlx ps n v x = x
 
     pub some_snap : (ps : List SeatedPass) → VisitWaits allows ready waits same layout number r ps m ValidateNext → 0 < length snaps
-    some_snap ps x = let w = r.opens (placed m ValidateNext) _ _ x.so.0 in let i = w.1.2.looks.within in rw e (omega (arith, i))
+    some_snap ps x = let w = r.opens (placed m ValidateNext) _ _ x.so.0 in let i = w.3.2.looks.within in rw e (omega (arith, i))

@@ -84,8 +84,8 @@ module _ (was : PassView) (is_pass : was.number < was.layout.passes) (number : �
     told_says call told first rests y = told_by (changes call told) call told first rests y
 
     -- refusals
-    pub lost_says : (tries n s : ℕ) → HasLost call_by (run_of then) tries n s → IsContendedCall was then n s
-    lost_says tries n s y = record { others = y.way.others; in_the_way = y.way.in_the_way; over_or_new = y.way.over_or_new; done = none_more y.none }
+    pub lost_says : (tries n s : ℕ) → HasLost call_by (run_of then) tries n s → IsContendedCall tries was then n s
+    lost_says tries n s y = record { others = y.way.others; lost = y.all; over_or_new = y.way.over_or_new; done = none_more y.none }
 
     -- with what its share had as the call began
     pub full_says : (call : MapCall) (full : FullOf) → RestsWith call_by (run_of was) was.share → HasRunOut call_by (run_of then) call left full → IsFullCall was then call full

@@ -13,6 +13,7 @@ use Rattle.spelling.specs.Laws.{AreEdits}
 use Rattle.spelling.specs.OrderedMap.{MapCall, Edit, Successor, Range, MapReply, OneValue, ManyPairs, pair_or_none, MapEdit, edit_key, edited, get, reply, changes}
 use Rattle.spelling.specs.Runs.{Makes, map_of_log}
 use Rattle.spelling.specs.Spelled.{Spells}
+use Rattle.spelling.specs.Tries.{HasLostTries}
 use Rattle.template.specs.Blame.{IsOverOrNew}
 use Rattle.dict.specs.Calls.{need, most_nodes, most_scx, AsksForPairs}
 use Rattle.dict.specs.Says.{HasMadeRow, HasTooLittle, KeepsLists}
@@ -90,12 +91,12 @@ IsToldOf old new call None = Unit {0}
 
 -- Refusals
 
--- All tries were lost: the SCX-record s is another pass's, and was in the way of the call over the
--- node n; it is finished now, or has come to n since what was known before. The pass has no entry
--- more.
-pub record IsContendedCall (old new : PassView) (n s : ℕ) : Type 0 where
+-- The call has made so many tries and lost them all, and the SCX-record s, which is another pass's,
+-- was in the way of the last over the node n; it is finished now, or has come to n since what was
+-- known before. The pass has no entry more.
+pub record IsContendedCall (tries : ℕ) (old new : PassView) (n s : ℕ) : Type 0 where
   pub others : IsOthersScx new.layout new.number s
-  pub in_the_way : WasInTheWay (run_of new) (run_of old) n s
+  pub lost : HasLostTries new.number (run_of new) (run_of old) tries n s
   pub over_or_new : IsOverOrNew (run_of new) (run_of old) n s
   pub done : done_of new ≡ done_of old
 
@@ -115,12 +116,12 @@ pub record IsFullCall (old new : PassView) (call : MapCall) (full : FullOf) : Ty
   pub first : (new.share ≡ old.share) ⊎ ((n : ℕ) × (s : ℕ) × IsOthersScx new.layout new.number s × WasInTheWay (run_of new) (run_of old) n s)
   pub done : done_of new ≡ done_of old
 
--- why nothing is told
-abbrev pub IsRefusalOf : {K V : Type 0} → PassView → PassView → MapCall → Reply K V → Type 0
-IsRefusalOf old new call (Contended node scx) = IsContendedCall old new node.0 scx.0
-IsRefusalOf old new call (Full full) = IsFullCall old new call full
-IsRefusalOf old new call NoMemory = KeepsLists call × (done_of new ≡ done_of old)
-IsRefusalOf old new call _ = Unit {0}
+-- why nothing is told by a call that may try so often
+abbrev pub IsRefusalOf : {K V : Type 0} → ℕ → PassView → PassView → MapCall → Reply K V → Type 0
+IsRefusalOf tries old new call (Contended node scx) = IsContendedCall tries old new node.0 scx.0
+IsRefusalOf tries old new call (Full full) = IsFullCall old new call full
+IsRefusalOf tries old new call NoMemory = KeepsLists call × (done_of new ≡ done_of old)
+IsRefusalOf tries old new call _ = Unit {0}
 
 -- What a call takes and blames
 
@@ -128,6 +129,8 @@ IsRefusalOf old new call _ = Unit {0}
 pub record HasSpentAtMost (old new : PassView) (call : MapCall) (tries : ℕ) : Type 0 where
   pub nodes : old.share.nodes ≤ new.share.nodes + most_nodes call * tries
   pub scx : old.share.scx ≤ new.share.scx + most_scx call * tries
+  -- for each SCX-record that is gone no more nodes than a try may take
+  pub each : old.share.nodes + most_nodes call * new.share.scx ≤ new.share.nodes + most_nodes call * old.share.scx
   -- and nothing has come back
   pub gone_nodes : new.share.nodes ≤ old.share.nodes
   pub gone_scx : new.share.scx ≤ old.share.scx
@@ -154,31 +157,31 @@ HasEdited old new (MapEdit.Insert k v) told = IsChange old new (MapEdit.Insert k
 HasEdited old new (MapEdit.Delete k) (Some told) = IsChange old new (MapEdit.Delete k) (Some told)
 HasEdited old new (MapEdit.Delete k) None = IsReading old new (Edit (MapEdit.Delete k)) (OneValue None)
 
--- what an answer of `insert` or `delete` says
-abbrev pub UpdateSays : {V : Type 0} → (V → ℕ) → PassView → PassView → MapEdit → Result (Option V) UpdateFault → Type 0
-UpdateSays value_word old new edit (Ok told) = HasEdited old new edit (option_map value_word told)
-UpdateSays value_word old new edit (Err (updates.Contended node scx)) = IsContendedCall old new node.0 scx.0
-UpdateSays value_word old new edit (Err (updates.Full full)) = IsFullCall old new (Edit edit) full
+-- what an answer of `insert` or `delete` says, which may try so often
+abbrev pub UpdateSays : {V : Type 0} → (V → ℕ) → ℕ → PassView → PassView → MapEdit → Result (Option V) UpdateFault → Type 0
+UpdateSays value_word tries old new edit (Ok told) = HasEdited old new edit (option_map value_word told)
+UpdateSays value_word tries old new edit (Err (updates.Contended node scx)) = IsContendedCall tries old new node.0 scx.0
+UpdateSays value_word tries old new edit (Err (updates.Full full)) = IsFullCall old new (Edit edit) full
 
 -- whom it blames
 abbrev pub blamed_by_update : {V : Type 0} → Result (Option V) UpdateFault → List ℕ → List ℕ
 blamed_by_update (Err (updates.Contended node scx)) blamed = scx.0 ∷ blamed
 blamed_by_update _ blamed = blamed
 
--- why an ordered read has told nothing
-abbrev pub ReadRefuses : PassView → PassView → OrderFault → Type 0
-ReadRefuses old new (reads.Contended node scx) = IsContendedCall old new node.0 scx.0
-ReadRefuses old new reads.NoMemory = done_of new ≡ done_of old
+-- why an ordered read has told nothing, which may try so often
+abbrev pub ReadRefuses : ℕ → PassView → PassView → OrderFault → Type 0
+ReadRefuses tries old new (reads.Contended node scx) = IsContendedCall tries old new node.0 scx.0
+ReadRefuses tries old new reads.NoMemory = done_of new ≡ done_of old
 
 -- what an answer of `successor` says
-abbrev pub SuccessorSays : {K V : Type 0} → (K → ℕ) → (V → ℕ) → PassView → PassView → ℕ → Result (Option (K × V)) OrderFault → Type 0
-SuccessorSays key_word value_word old new k (Ok found) = IsReading old new (Successor k) (pair_or_none (option_map (word_pair key_word value_word) found))
-SuccessorSays key_word value_word old new k (Err fault) = ReadRefuses old new fault
+abbrev pub SuccessorSays : {K V : Type 0} → (K → ℕ) → (V → ℕ) → ℕ → PassView → PassView → ℕ → Result (Option (K × V)) OrderFault → Type 0
+SuccessorSays key_word value_word tries old new k (Ok found) = IsReading old new (Successor k) (pair_or_none (option_map (word_pair key_word value_word) found))
+SuccessorSays key_word value_word tries old new k (Err fault) = ReadRefuses tries old new fault
 
 -- what an answer of `range` says
-abbrev pub RangeSays : {K V : Type 0} → (K → ℕ) → (V → ℕ) → PassView → PassView → ℕ → ℕ → ℕ → Result (Vec (K × V) Global) OrderFault → Type 0
-RangeSays key_word value_word old new low high most (Ok found) = IsReading old new (Range low high most) (ManyPairs (map (word_pair key_word value_word) found.items))
-RangeSays key_word value_word old new low high most (Err fault) = ReadRefuses old new fault
+abbrev pub RangeSays : {K V : Type 0} → (K → ℕ) → (V → ℕ) → ℕ → PassView → PassView → ℕ → ℕ → ℕ → Result (Vec (K × V) Global) OrderFault → Type 0
+RangeSays key_word value_word tries old new low high most (Ok found) = IsReading old new (Range low high most) (ManyPairs (map (word_pair key_word value_word) found.items))
+RangeSays key_word value_word tries old new low high most (Err fault) = ReadRefuses tries old new fault
 
 -- whom an ordered read blames
 abbrev pub blamed_by_read : {A : Type 0} → Result A OrderFault → List ℕ → List ℕ

@@ -16,6 +16,7 @@ use Rattle.forest.specs.declared.view.SeatView.{SeatView}
 use Rattle.forest.specs.Opened.{OpenView}
 use Rattle.forest.specs.Passes.{PassView, run_of, steps_of, taken_of}
 use Rattle.forest.specs.PassInvariant.{IsPass}
+use Rattle.forest.specs.StraightCalls.{IsSameDictCall}
 use Rattle.forest.specs.TableRule.{seated_pass}
 use Rattle.forest.specs.Traces.{Stands, known_of, seat_steps, shared_nodes, weight}
 
@@ -59,7 +60,7 @@ pub record IsOpen {K V : Type 0} (valid_key : K → Type 0) (key : K → ℕ) (v
   pub blamed : o.blamed ≡ o.began.value.blamed
   -- its machine waits for a step, or has answered
   pub first : DictRun K V
-  pub stands : Stands (TypedAllows (IsWord valid_key key) (IsWord valid_value value)) (DictWaits (IsWord valid_key key) (IsWord valid_value value)) (λ old now. (call_in now.run ≡ call_in old.run) × (now.tries ≡ old.tries)) (next_call o.began.value pass.is_pass) o.seat.me.0.passes first (DictAnswers valid_key key valid_value value) o.run o.turn
+  pub stands : Stands (TypedAllows (IsWord valid_key key) (IsWord valid_value value)) (DictWaits (IsWord valid_key key) (IsWord valid_value value)) (IsSameDictCall valid_key key valid_value value) (next_call o.began.value pass.is_pass) o.seat.me.0.passes first (DictAnswers valid_key key valid_value value) o.run o.turn
   -- it has made no more steps than such a call may
   pub since : steps_of o.began.value ≤ seat_steps o.seat.me.0.passes
   pub steps : seat_steps o.seat.me.0.passes + weight o.turn (map_left o.run.run (shared_nodes o.layout)) ≤ steps_of o.began.value + most_steps (call_in o.run.run) o.run.tries (shared_nodes o.layout)

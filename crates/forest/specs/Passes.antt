@@ -38,7 +38,7 @@ use Rattle.arena.specs.declared.fault.Resource.{Resource}
 use Rattle.arena.specs.declared.fault.Resource.TheVariants.{Nodes, Scx as ScxRecords}
 use Rattle.forest.specs.TableRule.{history_of}
 use Rattle.forest.specs.Traces.{rows_of}
-use Rattle.forest.specs.Shares.{entries_of}
+use Rattle.forest.specs.Shares.{IsBetweenCalls, entries_of}
 
 -- what contracts see of a pass: its table and layout, its number, and what is left of its share
 pub record PassView : Type 0 where
@@ -166,6 +166,8 @@ pub record HasGoneOn (allows : Layout → History → ℕ → Type 0) (old new :
   -- it has blamed these now
   pub blamed_these : new.blamed ≡ blamed
   pub blames : HasBlamed new
+  -- it is between two calls, and what is left of its share is what the run has not taken
+  pub rest : IsBetweenCalls new.layout new.number (run_of new) new.share
   -- it may use each snapshot that it could use
   pub usable : (snap : Snap) → CanUse old snap → CanUse new snap
 

@@ -6,7 +6,7 @@ use Rattle.arena.specs.declared.step.Step.{Step}
 use Rattle.arena.specs.History.{History}
 use Rattle.arena.specs.Machines.{Call}
 use Rattle.arena.specs.Share.{Remaining}
-use Rattle.dict.specs.Calls.{call_in, share_of}
+use Rattle.dict.specs.Calls.{KeepsTries, call_in, share_of}
 use Rattle.dict.specs.DictKnown.{DictIsReady, DictWaits, DictAnswers}
 use Rattle.dict.specs.Known.{IsUnbegun, MapAnswers}
 use Rattle.dict.specs.Typed.{TypedAllows}
@@ -49,9 +49,9 @@ module _ {K V : Type 0} (valid_key : K → Type 0) (key : K → ℕ) (valid_valu
   abbrev pub DictCallWaits : DictRun K V → Call → History → Step → Type 0
   DictCallWaits = DictWaits (IsWord valid_key key) (IsWord valid_value value)
 
-  -- the second machine is of the same call as the first
+  -- the second machine is of the same call as the first, and has given up one try at most
   abbrev pub IsSameDictCall : DictRun K V → DictRun K V → Type 0
-  IsSameDictCall old now = (call_in now.run ≡ call_in old.run) × (now.tries ≡ old.tries)
+  IsSameDictCall old now = (call_in now.run ≡ call_in old.run) × (now.tries ≡ old.tries) × KeepsTries old.run now.run
 
   module _ (c : Call) (ps : List SeatedPass) (first : DictRun K V) where
     -- a call begins with the machine `first`

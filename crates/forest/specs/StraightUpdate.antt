@@ -1,5 +1,5 @@
 -- Calls of updates, of whatever machine updates: at a place of it, or before it has begun.
-use Rattle.std.specs.Prelude.{◌≡◌, ℕ, List, Option, None, Result, Ok, Err}
+use Rattle.std.specs.Prelude.{◌≡◌, ℕ, ◌+◌, ◌≤◌, List, Option, None, Result, Ok, Err}
 use Rattle.arena.specs.declared.layout.Layout.{Layout}
 use Rattle.arena.specs.declared.machine.Turn.{Turn}
 use Rattle.arena.specs.declared.step.Step.{Step}
@@ -25,11 +25,14 @@ use Rattle.forest.specs.declared.view.SeatedPass.{SeatedPass}
 use Rattle.forest.specs.Traces.{Trace, HoldsForCall, Waits, Told}
 
 module _ {M E : Type 0} (allows : Layout → History → ℕ → Type 0) (ready : M → Call → History → Option ℕ → Type 0) (waits : M → Call → History → Step → Type 0) (same : M → M → Type 0) (e : EditMeaning E) (layout : Layout) (number : ℕ) where
-  -- The second run is the same update further on: of the share no more is taken than may be, where
-  -- so many tries may still take nodes, and so many an SCX-record.
+  -- The second run is the same update further on, which has given up one try at most. Of the share
+  -- no more is taken than may be, where so many tries may still take nodes, and so many an
+  -- SCX-record.
   pub record HasGoneOn {A : Type 0} (old : UpdateRun E UpdateAt) (now : UpdateRun E A) (nodes scx : ℕ) : Type 0 where
     pub edit : now.edit ≡ old.edit
     pub called : now.call ≡ old.call
+    pub limit : now.limit ≡ old.limit
+    pub tries : (old.tries ≤ now.tries + 1) × (now.tries ≤ old.tries)
     pub spends : Spends e.most_nodes old.share now.share (node_tries old old.at) nodes (scx_tries old old.at) scx
 
   -- A call of a machine that updates, of this layout and number.
@@ -48,7 +51,7 @@ module _ {M E : Type 0} (allows : Layout → History → ℕ → Type 0) (ready 
     -- what its update then waits for, the machine does, where no more of the share is taken than
     -- may
     pub turns : (old now : UpdateRun E UpdateAt) (h : History) (got : Option ℕ) (s : Step) → HasGoneOn old now (node_tries now now.at) (scx_tries now now.at) → ready (with_run old) call h got → UpdateWaits e now call h s → waits (with_run now) call h s
-    pub stays : (old now : UpdateRun E UpdateAt) → now.edit ≡ old.edit → same (with_run old) (with_run now)
+    pub stays : (old now : UpdateRun E UpdateAt) → now.edit ≡ old.edit → (old.tries ≤ now.tries + 1) × (now.tries ≤ old.tries) → same (with_run old) (with_run now)
 
   -- the machine's update as it was when it was told of the last step, behind which it has answered
   pub record HasAnswered (u : Updater) {A : Type 0} (m : UpdateRun E A) (a : Updated) (h : History) : Type 0 where
@@ -59,12 +62,13 @@ module _ {M E : Type 0} (allows : Layout → History → ℕ → Type 0) (ready 
     pub answers : UpdateAnswers e m u.call h a
     pub course : Trace allows waits same u.call u.first (u.with_run old) h
 
-  -- so too where its try may end so behind that step
+  -- so too where its try, the same as before, may end so behind that step
   pub record HasStopped (u : Updater) {A : Type 0} (m : UpdateRun E A) (f : Found) (stop : Stop) (h : History) : Type 0 where
     pub old : UpdateRun E UpdateAt
     pub got : Option ℕ
     pub was : ready (u.with_run old) u.call h got
     pub goes : HasGoneOn old m m.tries m.tries
+    pub tries : m.tries ≡ old.tries
     pub may : MayStop e u.call h m f stop
     pub course : Trace allows waits same u.call u.first (u.with_run old) h
 

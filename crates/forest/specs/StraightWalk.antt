@@ -8,6 +8,7 @@ use Rattle.arena.specs.Machines.{Call}
 use Rattle.order.specs.Successor.Steps.{last_turn}
 use Rattle.template.specs.FoundLeaf.{HasFound}
 use Rattle.template.specs.Walk.Known.{WalkIsTold, WalkWaits}
+use Rattle.template.specs.Walk.Places.{IsPastRoot}
 use Rattle.template.specs.declared.walk.Found.{Found}
 use Rattle.template.specs.declared.walk.Goal.TheVariants.{Key as ToKey}
 use Rattle.template.specs.declared.walk.WalkRun.{WalkRun}
@@ -26,8 +27,9 @@ module _ {M : Type 0} (allows : Layout → History → ℕ → Type 0) (ready : 
     pub with_walk : WalkRun → NodeNo → M
     -- what the machine is told, its walk is told, in a call of its own
     pub tells : (m : WalkRun) (turn : NodeNo) (h : History) (v : ℕ) → ready (with_walk m turn) call h (Some v) → (d : Call) × (d.layout ≡ layout) × WalkIsTold m d h v
-    -- what its walk then waits for, the machine does, and keeps the fork if it turns left there
-    pub turns : (m now : WalkRun) (turn : NodeNo) (h : History) (v : ℕ) (s : Step) → now.goal ≡ m.goal → ((d : Call) → WalkIsTold m d h v → WalkWaits now d h s) → ready (with_walk m turn) call h (Some v) → waits (with_walk now (last_turn now.at now.trail.node turn)) call h s
+    -- what its walk then waits for past the root, the machine does, and keeps the fork if it turns
+    -- left there
+    pub turns : (m now : WalkRun) (turn : NodeNo) (h : History) (v : ℕ) (s : Step) → IsPastRoot now.at → now.goal ≡ m.goal → ((d : Call) → WalkIsTold m d h v → WalkWaits now d h s) → ready (with_walk m turn) call h (Some v) → waits (with_walk now (last_turn now.at now.trail.node turn)) call h s
     pub stays : (m now : WalkRun) (turn then : NodeNo) → now.goal ≡ m.goal → same (with_walk m turn) (with_walk now then)
 
   module _ (w : Walker) (ps : List SeatedPass) where

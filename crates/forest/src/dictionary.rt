@@ -65,7 +65,7 @@ impl<K: WordKey, V: WordValue> Forest<Dict<K, V>> {
         ensures tree { pass.new.layout.mode ≡ Tree }
         ensures goes_on { HasGoneOn (TypedAllows (IsWord K.is_valid K.word_of) (IsWord V.is_valid V.word_of)) pass.old pass.new (taken_of pass.old) (self.now.tries * (3 * (2 + shared_nodes self.now.layout) + 178)) (blamed_by_update result pass.old.blamed) }
         ensures spends { HasSpentAtMost pass.old pass.new (Edit (InsertEdit (K.word_of key) (V.word_of value))) self.now.tries }
-        ensures says { UpdateSays V.word_of pass.old pass.new (InsertEdit (K.word_of key) (V.word_of value)) result }
+        ensures says { UpdateSays V.word_of self.now.tries pass.old pass.new (InsertEdit (K.word_of key) (V.word_of value)) result }
         ensures valid { IfOk result (λ old. IfSome old V.is_valid) }
     {
         key.valid();
@@ -82,7 +82,7 @@ impl<K: WordKey, V: WordValue> Forest<Dict<K, V>> {
         ensures tree { pass.new.layout.mode ≡ Tree }
         ensures goes_on { HasGoneOn (TypedAllows (IsWord K.is_valid K.word_of) (IsWord V.is_valid V.word_of)) pass.old pass.new (taken_of pass.old) (self.now.tries * (3 * (2 + shared_nodes self.now.layout) + 301)) (blamed_by_update result pass.old.blamed) }
         ensures spends { HasSpentAtMost pass.old pass.new (Edit (DeleteEdit (K.word_of key.now))) self.now.tries }
-        ensures says { UpdateSays V.word_of pass.old pass.new (DeleteEdit (K.word_of key.now)) result }
+        ensures says { UpdateSays V.word_of self.now.tries pass.old pass.new (DeleteEdit (K.word_of key.now)) result }
         ensures valid { IfOk result (λ old. IfSome old V.is_valid) }
     {
         key.valid();
@@ -121,7 +121,7 @@ impl<K: WordKey, V: WordValue> Forest<Dict<K, V>> {
         ensures tree { pass.new.layout.mode ≡ Tree }
         ensures goes_on { HasGoneOn (TypedAllows (IsWord K.is_valid K.word_of) (IsWord V.is_valid V.word_of)) pass.old pass.new (taken_of pass.old) (self.now.tries * (137 * (2 + shared_nodes self.now.layout))) (blamed_by_read result pass.old.blamed) }
         ensures spends { HasSpentAtMost pass.old pass.new (Successor (K.word_of key.now)) self.now.tries }
-        ensures says { SuccessorSays K.word_of V.word_of pass.old pass.new (K.word_of key.now) result }
+        ensures says { SuccessorSays K.word_of V.word_of self.now.tries pass.old pass.new (K.word_of key.now) result }
         ensures valid { IfOk result (λ pair. IfSome pair (IsValidPair K.is_valid V.is_valid)) }
     {
         match self.read(alloc, pass, Request::Successor { key: *key }) {
@@ -152,7 +152,7 @@ impl<K: WordKey, V: WordValue> Forest<Dict<K, V>> {
         ensures tree { pass.new.layout.mode ≡ Tree }
         ensures goes_on { HasGoneOn (TypedAllows (IsWord K.is_valid K.word_of) (IsWord V.is_valid V.word_of)) pass.old pass.new (taken_of pass.old) (self.now.tries * ((most + 2) * (67 * (2 + shared_nodes self.now.layout)))) (blamed_by_read result pass.old.blamed) }
         ensures spends { HasSpentAtMost pass.old pass.new (Range (K.word_of low.now) (K.word_of high.now) most) self.now.tries }
-        ensures says { RangeSays K.word_of V.word_of pass.old pass.new (K.word_of low.now) (K.word_of high.now) most result }
+        ensures says { RangeSays K.word_of V.word_of self.now.tries pass.old pass.new (K.word_of low.now) (K.word_of high.now) most result }
         ensures valid { IfOk result (λ pairs. All (IsValidPair K.is_valid V.is_valid) pairs.items) }
     {
         let (low, high, most) = (*low, *high, most as u32);
@@ -174,7 +174,7 @@ impl<K: WordKey, V: WordValue> Forest<Dict<K, V>> {
         ensures tree { pass.new.layout.mode ≡ Tree }
         ensures goes_on { HasGoneOn (TypedAllows (IsWord K.is_valid K.word_of) (IsWord V.is_valid V.word_of)) pass.old pass.new (taken_of pass.old) (most_steps (Edit (map_edit edit)) self.now.tries (shared_nodes self.now.layout)) (blamed_by_update result pass.old.blamed) }
         ensures spends { HasSpentAtMost pass.old pass.new (Edit (map_edit edit)) self.now.tries }
-        ensures says { UpdateSays V.word_of pass.old pass.new (map_edit edit) result }
+        ensures says { UpdateSays V.word_of self.now.tries pass.old pass.new (map_edit edit) result }
         ensures valid { IfOk result (λ old. IfSome old V.is_valid) }
     {
         let number = pass.taken();
@@ -201,7 +201,7 @@ impl<K: WordKey, V: WordValue> Forest<Dict<K, V>> {
         ensures goes_on { HasGoneOn (TypedAllows (IsWord K.is_valid K.word_of) (IsWord V.is_valid V.word_of)) pass.old pass.new (taken_of pass.old) (most_steps (as_map_call K.word_of V.word_of request) self.now.tries (shared_nodes self.now.layout)) (blamed_by_reply result pass.old.blamed) }
         ensures spends { HasSpentAtMost pass.old pass.new (as_map_call K.word_of V.word_of request) self.now.tries }
         ensures told { IsToldOf pass.old pass.new (as_map_call K.word_of V.word_of request) (told_of K.word_of V.word_of result) }
-        ensures refused { IsRefusalOf pass.old pass.new (as_map_call K.word_of V.word_of request) result }
+        ensures refused { IsRefusalOf self.now.tries pass.old pass.new (as_map_call K.word_of V.word_of request) result }
         ensures form { MayReply (as_map_call K.word_of V.word_of request) (form_of result) }
         ensures valid { IsValidReply K.is_valid V.is_valid result }
     {

@@ -144,7 +144,7 @@ impl<K: WordKey, V: WordValue> OpenCall<K, V> {
         ensures goes_on { HasGoneOn (TypedAllows (IsWord K.is_valid K.word_of) (IsWord V.is_valid V.word_of)) self.began result.0 (taken_of self.began) (most_steps self.call self.tries (shared_nodes self.began.layout)) (blamed_by_reply result.1 self.began.blamed) }
         ensures spends { HasSpentAtMost self.began result.0 self.call self.tries }
         ensures told { IsToldOf self.began result.0 self.call (told_of K.word_of V.word_of result.1) }
-        ensures refused { IsRefusalOf self.began result.0 self.call result.1 }
+        ensures refused { IsRefusalOf self.tries self.began result.0 self.call result.1 }
         ensures form { MayReply self.call (form_of result.1) }
         ensures valid { IsValidReply K.is_valid V.is_valid result.1 }
     {

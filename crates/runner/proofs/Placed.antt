@@ -84,7 +84,7 @@ module _ (lay : Layout) (tries : ℕ) (run : History) (edits : ℕ → MapEdit) 
     placed_as false call told x = read_placed call told x
 
     -- what a reply tells, or that the call has no entry
-    placed : (call : MapCall) (r : Reply ℕ ℕ) → IsToldOf old new call (told_of (λ n. n) (λ n. n) r) → IsRefusalOf old new call r → IsPlaced lay edits old new call (told_of (λ n. n) (λ n. n) r)
+    placed : (call : MapCall) (r : Reply ℕ ℕ) → IsToldOf old new call (told_of (λ n. n) (λ n. n) r) → IsRefusalOf tries old new call r → IsPlaced lay edits old new call (told_of (λ n. n) (λ n. n) r)
     placed call (replies.Value v) x y = placed_as (changes call _) call _ x
     placed call (replies.Pair p) x y = placed_as (changes call _) call _ x
     placed call (replies.Pairs ps) x y = placed_as (changes call _) call _ x
@@ -93,7 +93,7 @@ module _ (lay : Layout) (tries : ℕ) (run : History) (edits : ℕ → MapEdit) 
     placed call replies.NoMemory x y = y.1
 
     answered : (call : MapCall) (r : Reply ℕ ℕ) → HasCalled tries old new call r → IsAnswered lay tries run edits old new call r
-    answered call r x = record { within = within; later = x.later; told = placed call r x.told x.refused; refused = x.refused; form = x.form; blames = x.blames; spends = x.spends }
+    answered call r x = record { within = within; later = x.later; told = placed call r x.told x.refused; refused = x.refused; form = x.form; blames = x.blames; spends = x.spends; rest = x.rest }
 
   -- so it is for all calls of a client
   pub all_answered : (old new : PassView) (cs : List Command) (rs : List (Reply ℕ ℕ)) → old.layout ≡ lay → Extends run (run_of new) → HaveReplies (HasCalled tries) old cs rs new → HaveReplies (IsAnswered lay tries run edits) old cs rs new

@@ -16,6 +16,7 @@ use Rattle.record.specs.Commands.{commands}
 use Rattle.record.specs.MapRecord.{map_call}
 use Rattle.forest.specs.Dictionary.{IsToldOf, IsRefusalOf, HasSpentAtMost, blamed_by_reply}
 use Rattle.forest.specs.Passes.{Ground, PassView, IsLaterView, IsOf, HasBlamed, run_of}
+use Rattle.forest.specs.Shares.{IsBetweenCalls}
 
 -- a word of a key or a value: each number of 64 bits is one, and stands for itself
 abbrev pub IsNumber : ℕ → Type 0
@@ -32,10 +33,12 @@ pub record HasCalled (tries : ℕ) (old new : PassView) (call : MapCall) (reply 
   pub later : IsLaterView old new
   pub lawful : IsRun NumbersAllow new.layout (run_of new)
   pub told : IsToldOf old new call (told_of (λ n. n) (λ n. n) reply)
-  pub refused : IsRefusalOf old new call reply
+  pub refused : IsRefusalOf tries old new call reply
   pub form : MayReply call (form_of reply)
   pub blames : (new.blamed ≡ blamed_by_reply reply old.blamed) × HasBlamed new
   pub spends : HasSpentAtMost old new call tries
+  -- what is left of its share is what the run has not taken
+  pub rest : IsBetweenCalls new.layout new.number (run_of new) new.share
 
 -- The pass has made the calls of these commands, one behind the other, and they have these replies;
 -- each call with its reply is as P says. The pass knew `old` as the first began, and `new` at the

@@ -14,6 +14,7 @@ use Rattle.spelling.specs.Replies.{told_of}
 use Rattle.spelling.specs.declared.reply.Reply.{Reply}
 use Rattle.forest.specs.Dictionary.{IsRefusalOf, HasSpentAtMost, blamed_by_reply}
 use Rattle.forest.specs.Passes.{PassView, IsLaterView, HasBlamed, run_of, done_of, taken_of}
+use Rattle.forest.specs.Shares.{IsBetweenCalls}
 
 -- The history is the log of the run. `edits` says which edit of the map each SCX-record with an
 -- entry has made, so that each moment of the run has a map, a version: what the edits of the entries
@@ -69,9 +70,11 @@ pub record IsAnswered (lay : Layout) (tries : ℕ) (run : History) (edits : ℕ 
   -- what it tells is right there
   pub told : IsPlaced lay edits old new call (told_of (λ n. n) (λ n. n) reply)
   -- and so is why it tells nothing, as the calls of the forest say it
-  pub refused : IsRefusalOf old new call reply
+  pub refused : IsRefusalOf tries old new call reply
   pub form : MayReply call (form_of reply)
   -- the pass blames whom the reply names, and nobody more than five times
   pub blames : (new.blamed ≡ blamed_by_reply reply old.blamed) × HasBlamed new
   -- of its share no more is gone than so many tries of the call may take
   pub spends : HasSpentAtMost old new call tries
+  -- what is left of it is what the run has not taken
+  pub rest : IsBetweenCalls new.layout new.number (run_of new) new.share

@@ -6,7 +6,7 @@ use Rattle.dict.specs.Words.{IsWord}
 use Rattle.dict.specs.declared.dict.DictRun.{DictRun}
 use Rattle.spelling.specs.OrderedMap.{Edit}
 use Rattle.spelling.specs.declared.reply.Reply.{Reply}
-use Rattle.forest.specs.Dictionary.{HasSpentAtMost, UpdateSays, blamed_by_reply, update_reply}
+use Rattle.forest.specs.Dictionary.{HasSpentAtMost, IsRefusalOf, UpdateSays, blamed_by_reply, update_reply}
 use Rattle.arena.specs.declared.limits.Mode.TheVariants.{Tree}
 use Rattle.forest.specs.Passes.{Ground, HasGoneOn, taken_of}
 use Rattle.forest.specs.PassInvariant.{IsPass, pass_view}
@@ -74,9 +74,15 @@ pub returns-clause-spends : goal.returns-clause-spends
 returns-clause-spends g c =
     rw (← c.pass.view_is, tries_are g c) (so_behind g.K.WordKey.is_valid g.K.WordKey.word_of g.V.WordValue.is_valid g.V.WordValue.word_of c.pass.inside c.pass.invariant c.make-told.new.seat (last g c) (answer g c) (λ q. HasSpentAtMost (pass_view c.pass.inside) (pass_view q) (Edit (map_edit c.args.edit)) c.self.inside.tries) c.make-told.result.1 c.note_update.new.self (call_ended g c).is_left (blamed g c) (subst (λ n. HasSpentAtMost (pass_view c.pass.inside) (pass_view (behind g.K.WordKey.is_valid g.K.WordKey.word_of g.V.WordValue.is_valid g.V.WordValue.word_of c.pass.inside c.pass.invariant c.make-told.new.seat (last g c) (answer g c))) (Edit (map_edit c.args.edit)) n) (same_tries g c) (subst (λ k. HasSpentAtMost (pass_view c.pass.inside) (pass_view (behind g.K.WordKey.is_valid g.K.WordKey.word_of g.V.WordValue.is_valid g.V.WordValue.word_of c.pass.inside c.pass.invariant c.make-told.new.seat (last g c) (answer g c))) k (last g c).tries) (same_call g c) (dict_spends g.K.WordKey.is_valid g.K.WordKey.word_of g.V.WordValue.is_valid g.V.WordValue.word_of c.pass.inside c.pass.invariant c.make-told.new.seat (last g c) (answer g c) (ended g c).0))))
 
+-- why it tells nothing
+refuses : (g : Over) (c : After-note_update g) → IsRefusalOf c.self.inside.tries (pass_view c.pass.inside) (pass_view (behind g.K.WordKey.is_valid g.K.WordKey.word_of g.V.WordValue.is_valid g.V.WordValue.word_of c.pass.inside c.pass.invariant c.make-told.new.seat (last g c) (answer g c))) (Edit (map_edit c.args.edit)) (answer g c)
+refuses g c =
+    subst (λ tries. IsRefusalOf tries (pass_view c.pass.inside) (pass_view (behind g.K.WordKey.is_valid g.K.WordKey.word_of g.V.WordValue.is_valid g.V.WordValue.word_of c.pass.inside c.pass.invariant c.make-told.new.seat (last g c) (answer g c))) (Edit (map_edit c.args.edit)) (answer g c)) (same_tries g c)
+    (subst (λ k. IsRefusalOf (last g c).tries (pass_view c.pass.inside) (pass_view (behind g.K.WordKey.is_valid g.K.WordKey.word_of g.V.WordValue.is_valid g.V.WordValue.word_of c.pass.inside c.pass.invariant c.make-told.new.seat (last g c) (answer g c))) k (answer g c)) (same_call g c) (dict_refuses g.K.WordKey.is_valid g.K.WordKey.word_of g.V.WordValue.is_valid g.V.WordValue.word_of c.pass.inside c.pass.invariant c.make-told.new.seat (last g c) (answer g c) (ended g c).0))
+
 pub returns-clause-says : goal.returns-clause-says
 returns-clause-says g c =
-    rw (← c.pass.view_is) (so_behind g.K.WordKey.is_valid g.K.WordKey.word_of g.V.WordValue.is_valid g.V.WordValue.word_of c.pass.inside c.pass.invariant c.make-told.new.seat (last g c) (answer g c) (λ q. UpdateSays g.V.WordValue.word_of (pass_view c.pass.inside) (pass_view q) (map_edit c.args.edit) c.make-told.result.0) c.make-told.result.1 c.note_update.new.self (call_ended g c).is_left (blamed g c) (update_says g.K.WordKey.word_of g.V.WordValue.word_of (pass_view c.pass.inside) (pass_view (behind g.K.WordKey.is_valid g.K.WordKey.word_of g.V.WordValue.is_valid g.V.WordValue.word_of c.pass.inside c.pass.invariant c.make-told.new.seat (last g c) (answer g c))) (map_edit c.args.edit) c.make-told.result.0 (rw (← same_call g c) (dict_tells g.K.WordKey.is_valid g.K.WordKey.word_of g.V.WordValue.is_valid g.V.WordValue.word_of c.pass.inside c.pass.invariant c.make-told.new.seat (last g c) (answer g c) (ended g c).0)) (rw (← same_call g c) (dict_refuses g.K.WordKey.is_valid g.K.WordKey.word_of g.V.WordValue.is_valid g.V.WordValue.word_of c.pass.inside c.pass.invariant c.make-told.new.seat (last g c) (answer g c) (ended g c).0))))
+    rw (← c.pass.view_is, tries_are g c) (so_behind g.K.WordKey.is_valid g.K.WordKey.word_of g.V.WordValue.is_valid g.V.WordValue.word_of c.pass.inside c.pass.invariant c.make-told.new.seat (last g c) (answer g c) (λ q. UpdateSays g.V.WordValue.word_of c.self.inside.tries (pass_view c.pass.inside) (pass_view q) (map_edit c.args.edit) c.make-told.result.0) c.make-told.result.1 c.note_update.new.self (call_ended g c).is_left (blamed g c) (update_says g.K.WordKey.word_of g.V.WordValue.word_of (pass_view c.pass.inside) (pass_view (behind g.K.WordKey.is_valid g.K.WordKey.word_of g.V.WordValue.is_valid g.V.WordValue.word_of c.pass.inside c.pass.invariant c.make-told.new.seat (last g c) (answer g c))) c.self.inside.tries (map_edit c.args.edit) c.make-told.result.0 (rw (← same_call g c) (dict_tells g.K.WordKey.is_valid g.K.WordKey.word_of g.V.WordValue.is_valid g.V.WordValue.word_of c.pass.inside c.pass.invariant c.make-told.new.seat (last g c) (answer g c) (ended g c).0)) (refuses g c)))
 
 pub returns-clause-valid : goal.returns-clause-valid
 returns-clause-valid g c = update_valid g.K.WordKey.word_of g.V.WordValue.word_of (pass_view c.pass.inside) (pass_view c.pass.inside) g.K.WordKey.is_valid g.V.WordValue.is_valid c.make-told.result.0 (ended g c).0.answers.valid

@@ -65,7 +65,7 @@ returns-clause-told g c =
 
 pub returns-clause-refused : goal.returns-clause-refused
 returns-clause-refused g c =
-    rw (← c.pass.view_is, c.into_share-pass-inside.ensures, c.note_reply.ensures, ← same_call g c) (dict_refuses g.K.WordKey.is_valid g.K.WordKey.word_of g.V.WordValue.is_valid g.V.WordValue.word_of c.pass.inside c.pass.invariant c.read-reply.new.seat c.read-reply.new.run c.read-reply.result (ended g c).0)
+    rw (← c.pass.view_is, c.into_share-pass-inside.ensures, c.note_reply.ensures, tries_are g c, ← same_call g c, ← same_tries g c) (dict_refuses g.K.WordKey.is_valid g.K.WordKey.word_of g.V.WordValue.is_valid g.V.WordValue.word_of c.pass.inside c.pass.invariant c.read-reply.new.seat c.read-reply.new.run c.read-reply.result (ended g c).0)
 
 pub returns-clause-form : goal.returns-clause-form
 returns-clause-form g c = subst (λ k. MayReply k (form_of c.read-reply.result)) (same_call g c) (ended g c).0.answers.form

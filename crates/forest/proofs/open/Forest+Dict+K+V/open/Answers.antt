@@ -11,7 +11,8 @@ use Rattle.forest.specs.Passes.{Ground, taken_of}
 use Rattle.forest.specs.PassInvariant.{pass_view}
 use Rattle.forest.specs.Traces.{CallBegins, shared_nodes, weight}
 use Rattle.forest.proofs.Advances.{few_taken, weighs}
-use Rattle.forest.proofs.DictCalls.{IsSameCall, request_starts}
+use Rattle.forest.specs.StraightCalls.{IsSameDictCall}
+use Rattle.forest.proofs.DictCalls.{request_starts}
 use Rattle.forest.proofs.OpenBegins.{begins_open}
 use Rattle.forest.proofs.OpenSteps.{DictStands}
 use Rattle.forest.proofs.Passes.{call_of, layout_of}
@@ -31,7 +32,7 @@ starts g c =
 
 -- its first turn has been made
 first_turn : (g : Over) (c : goal.After-next-turn g) → DictStands g.K.WordKey.is_valid g.K.WordKey.word_of g.V.WordValue.is_valid g.V.WordValue.word_of (call_of c.pass.inside c.pass.invariant (taken_of (pass_view c.pass.inside))) c.pass.inside.seat.me.0.passes c.new-run.result c.next-turn.new.self c.next-turn.result
-first_turn g c = stands (TypedAllows (IsWord g.K.WordKey.is_valid g.K.WordKey.word_of) (IsWord g.V.WordValue.is_valid g.V.WordValue.word_of)) (DictIsReady (IsWord g.K.WordKey.is_valid g.K.WordKey.word_of) (IsWord g.V.WordValue.is_valid g.V.WordValue.word_of)) (DictWaits (IsWord g.K.WordKey.is_valid g.K.WordKey.word_of) (IsWord g.V.WordValue.is_valid g.V.WordValue.word_of)) (IsSameCall g.K.WordKey.is_valid g.K.WordKey.word_of g.V.WordValue.is_valid g.V.WordValue.word_of) (call_of c.pass.inside c.pass.invariant (taken_of (pass_view c.pass.inside))) _ c.new-run.result c.next-turn.new.self c.next-turn.result (DictAnswers g.K.WordKey.is_valid g.K.WordKey.word_of g.V.WordValue.is_valid g.V.WordValue.word_of) c.next-turn.ensures.same (λ h run is. c.next-turn.ensures.turn (call_of c.pass.inside c.pass.invariant (taken_of (pass_view c.pass.inside))) h run is) (starts g c)
+first_turn g c = stands (TypedAllows (IsWord g.K.WordKey.is_valid g.K.WordKey.word_of) (IsWord g.V.WordValue.is_valid g.V.WordValue.word_of)) (DictIsReady (IsWord g.K.WordKey.is_valid g.K.WordKey.word_of) (IsWord g.V.WordValue.is_valid g.V.WordValue.word_of)) (DictWaits (IsWord g.K.WordKey.is_valid g.K.WordKey.word_of) (IsWord g.V.WordValue.is_valid g.V.WordValue.word_of)) (IsSameDictCall g.K.WordKey.is_valid g.K.WordKey.word_of g.V.WordValue.is_valid g.V.WordValue.word_of) (call_of c.pass.inside c.pass.invariant (taken_of (pass_view c.pass.inside))) _ c.new-run.result c.next-turn.new.self c.next-turn.result (DictAnswers g.K.WordKey.is_valid g.K.WordKey.word_of g.V.WordValue.is_valid g.V.WordValue.word_of) c.next-turn.ensures.same (λ h run is. c.next-turn.ensures.turn (call_of c.pass.inside c.pass.invariant (taken_of (pass_view c.pass.inside))) h run is) (starts g c)
 
 -- it may make no more steps than such a call
 few_steps : (g : Over) (c : goal.After-next-turn g) → weight c.next-turn.result (map_left c.next-turn.new.self.run (shared_nodes c.pass.inside.layout)) ≤ most_steps (call_in c.next-turn.new.self.run) c.next-turn.new.self.tries (shared_nodes c.pass.inside.layout)

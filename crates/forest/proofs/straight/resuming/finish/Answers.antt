@@ -22,7 +22,7 @@ step-told-requires-clause-waits g c = let r = c.requires.stands in let u = r.0 i
 pub loop-turn-preserved : goal.loop-turn-preserved
 loop-turn-preserved g c = record {
   here = (c.step-told.ensures.table.0 ∙ c.loop-turn.invariant.here.0, c.step-told.ensures.table.1 ∙ c.loop-turn.invariant.here.1);
-  stands = λ u x. told_on g.S.Shape.allows g.M.Machine.ready g.M.Machine.waits g.M.Machine.same g.E.Edit.means c.args.layout.now c.args.number u _ c.loop-turn.machine c.step-turn.new.self c.step-told.result c.step-turn.result c.step-turn.ensures.same c.step-turn.ensures.spends (λ h. c.step-turn.ensures.turn u.call h) (told g c u x);
+  stands = λ u x. told_on g.S.Shape.allows g.M.Machine.ready g.M.Machine.waits g.M.Machine.same g.E.Edit.means c.args.layout.now c.args.number u _ c.loop-turn.machine c.step-turn.new.self c.step-told.result c.step-turn.result c.step-turn.ensures.same c.step-turn.ensures.tries c.step-turn.ensures.spends (λ h. c.step-turn.ensures.turn u.call h) (told g c u x);
   steps = (let w = weighs c.step-turn.result _ _ (nearer g c) in let one = c.step-told.ensures.one in let old = rw c.in-Ask.is at c.loop-turn.invariant.steps in omega (arith, w, one, old));
 }
 

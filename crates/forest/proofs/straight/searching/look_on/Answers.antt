@@ -1,4 +1,4 @@
-use Rattle.std.proofs.Common.{ℕ, ◌+◌, ◌-◌, ◌*◌, ◌<◌, length, subst, arith, Err}
+use Rattle.std.proofs.Common.{ℕ, ◌+◌, ◌-◌, ◌*◌, ◌<◌, length, subst, arith}
 use Rattle.order.specs.Successor.Next.{ComesNearer, placed}
 use Rattle.order.specs.Successor.Steps.{behind, successor_left, try_left}
 use Rattle.order.proofs.Lemmas.{placed_nearer}
@@ -12,11 +12,11 @@ pub look-requires-clause-waits : goal.look-requires-clause-waits
 look-requires-clause-waits g c = let w = c.requires.waits in (looker g.S.Shape.allows g.M.Machine.ready g.M.Machine.waits g.M.Machine.same c.args.layout.now c.args.number w.0 c.args.run.now c.args.route c.args.level c.args.side, begins_look g.S.Shape.allows g.M.Machine.ready g.M.Machine.waits g.M.Machine.same c.args.layout.now c.args.number w.0 c.args.run.now c.args.route c.args.level c.args.side _ c.args.node w.1)
 
 pub returns-in-Ok-looked-clause-goes_on : goal.returns-in-Ok-looked-clause-goes_on
-returns-in-Ok-looked-clause-goes_on g c = λ r x. looks_on g.S.Shape.allows g.M.Machine.ready g.M.Machine.waits g.M.Machine.same c.args.layout.now c.args.number r c.args.run.now c.args.route c.args.level c.args.side _ c.looked.new.self c.args.node c.in-Ok.snap c.in-Ok-looked.next c.looked.ensures.same (rw c.in-Ok-looked.is at c.looked.ensures.goes_on)
+returns-in-Ok-looked-clause-goes_on g c = λ r x. looks_on g.S.Shape.allows g.M.Machine.ready g.M.Machine.waits g.M.Machine.same c.args.layout.now c.args.number r c.args.run.now c.args.route c.args.level c.args.side _ c.looked.new.self c.args.node c.in-Ok.snap c.in-Ok-looked.next c.looked.ensures.same c.looked.ensures.tries (rw c.in-Ok-looked.is at c.looked.ensures.goes_on)
     (c.in-Ok.ensures.snaps (looker g.S.Shape.allows g.M.Machine.ready g.M.Machine.waits g.M.Machine.same c.args.layout.now c.args.number r c.args.run.now c.args.route c.args.level c.args.side) (begins_look g.S.Shape.allows g.M.Machine.ready g.M.Machine.waits g.M.Machine.same c.args.layout.now c.args.number r c.args.run.now c.args.route c.args.level c.args.side _ c.args.node x))
 
 pub returns-in-Err-looked-clause-goes_on : goal.returns-in-Err-looked-clause-goes_on
-returns-in-Err-looked-clause-goes_on g c = λ r x. looks_last g.S.Shape.allows g.M.Machine.ready g.M.Machine.waits g.M.Machine.same c.args.layout.now c.args.number r c.args.run.now c.args.route c.args.level c.args.side _ c.looked.new.self c.args.node c.in-Ok.snap (Err c.in-Err-looked.refused) c.looked.ensures.same (λ k h u l s. (rw c.in-Err-looked.is at (c.looked.ensures.goes_on k h u l s)).1)
+returns-in-Err-looked-clause-goes_on g c = λ r x. looks_last g.S.Shape.allows g.M.Machine.ready g.M.Machine.waits g.M.Machine.same c.args.layout.now c.args.number r c.args.run.now c.args.route c.args.level c.args.side _ c.looked.new.self c.args.node c.in-Ok.snap c.in-Err-looked.refused c.looked.ensures.same (rw c.in-Err-looked.is at c.looked.ensures.goes_on)
     (c.in-Ok.ensures.snaps (looker g.S.Shape.allows g.M.Machine.ready g.M.Machine.waits g.M.Machine.same c.args.layout.now c.args.number r c.args.run.now c.args.route c.args.level c.args.side) (begins_look g.S.Shape.allows g.M.Machine.ready g.M.Machine.waits g.M.Machine.same c.args.layout.now c.args.number r c.args.run.now c.args.route c.args.level c.args.side _ c.args.node x))
 
 -- with its snapshot it has fewer steps left in this try

@@ -8,7 +8,7 @@ look-requires-clause-waits g c = let r = c.requires.tries in let u = r.0 in
     (looker g.S.Shape.allows g.M.Machine.ready g.M.Machine.waits g.M.Machine.same g.E.Edit.means c.args.layout.now c.args.number u c.args.run.now c.args.found.now, begins_look g.S.Shape.allows g.M.Machine.ready g.M.Machine.waits g.M.Machine.same g.E.Edit.means c.args.layout.now c.args.number u _ c.args.run.now c.args.found.now c.args.node r.1)
 
 pub returns-in-Ok-clause-goes_on : goal.returns-in-Ok-clause-goes_on
-returns-in-Ok-clause-goes_on g c = λ u x. looks_on g.S.Shape.allows g.M.Machine.ready g.M.Machine.waits g.M.Machine.same g.E.Edit.means c.args.layout.now c.args.number u _ c.args.run.now c.looked.new.self c.args.found.now c.args.node c.in-Ok.snap c.looked.result c.looked.ensures.same c.looked.ensures.spends (λ b h. c.looked.ensures.turn u.call b h)
+returns-in-Ok-clause-goes_on g c = λ u x. looks_on g.S.Shape.allows g.M.Machine.ready g.M.Machine.waits g.M.Machine.same g.E.Edit.means c.args.layout.now c.args.number u _ c.args.run.now c.looked.new.self c.args.found.now c.args.node c.in-Ok.snap c.looked.result c.looked.ensures.same c.looked.ensures.tries c.looked.ensures.spends (λ b h. c.looked.ensures.turn u.call b h)
     (c.in-Ok.ensures.snaps (looker g.S.Shape.allows g.M.Machine.ready g.M.Machine.waits g.M.Machine.same g.E.Edit.means c.args.layout.now c.args.number u c.args.run.now c.args.found.now) (begins_look g.S.Shape.allows g.M.Machine.ready g.M.Machine.waits g.M.Machine.same g.E.Edit.means c.args.layout.now c.args.number u _ c.args.run.now c.args.found.now c.args.node x))
 
 pub returns-in-Ok-clause-steps : goal.returns-in-Ok-clause-steps

@@ -12,7 +12,7 @@ pub look-requires-clause-waits : goal.look-requires-clause-waits
 look-requires-clause-waits g c = let w = c.requires.waits in (looker g.S.Shape.allows g.M.Machine.ready g.M.Machine.waits g.M.Machine.same c.args.layout.now c.args.number w.0 c.args.run.now c.args.level c.args.left c.args.right, begins_look g.S.Shape.allows g.M.Machine.ready g.M.Machine.waits g.M.Machine.same c.args.layout.now c.args.number w.0 c.args.run.now c.args.level c.args.left c.args.right _ c.args.node w.1)
 
 pub returns-in-Ok-looked-clause-goes_on : goal.returns-in-Ok-looked-clause-goes_on
-returns-in-Ok-looked-clause-goes_on g c = λ r x. looks_on g.S.Shape.allows g.M.Machine.ready g.M.Machine.waits g.M.Machine.same c.args.layout.now c.args.number r c.args.run.now c.args.level c.args.left c.args.right _ c.looked.new.self c.args.node c.in-Ok.snap c.in-Ok-looked.next c.looked.ensures.same (rw c.in-Ok-looked.is at c.looked.ensures.goes_on)
+returns-in-Ok-looked-clause-goes_on g c = λ r x. looks_on g.S.Shape.allows g.M.Machine.ready g.M.Machine.waits g.M.Machine.same c.args.layout.now c.args.number r c.args.run.now c.args.level c.args.left c.args.right _ c.looked.new.self c.args.node c.in-Ok.snap c.in-Ok-looked.next c.looked.ensures.tries c.looked.ensures.same (rw c.in-Ok-looked.is at c.looked.ensures.goes_on)
     (c.in-Ok.ensures.snaps (looker g.S.Shape.allows g.M.Machine.ready g.M.Machine.waits g.M.Machine.same c.args.layout.now c.args.number r c.args.run.now c.args.level c.args.left c.args.right) (begins_look g.S.Shape.allows g.M.Machine.ready g.M.Machine.waits g.M.Machine.same c.args.layout.now c.args.number r c.args.run.now c.args.level c.args.left c.args.right _ c.args.node x))
 
 pub returns-in-Err-looked-clause-goes_on : goal.returns-in-Err-looked-clause-goes_on

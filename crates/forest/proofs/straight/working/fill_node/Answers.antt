@@ -42,7 +42,7 @@ pub fill-requires-in-Leaf-clause-waits : goal.fill-requires-in-Leaf-clause-waits
 fill-requires-in-Leaf-clause-waits g c = let r = c.requires.tries in let u = r.0 in (u.call, u.first, u.with_run (filling g.S.Shape.allows g.M.Machine.ready g.M.Machine.waits g.M.Machine.same g.E.Edit.means c.args.layout.now c.args.number u c.args.run.now c.args.found.now c.args.nth Value), u.is_layout, u.is_number, at_value g c u r.1)
 
 pub returns-in-Leaf-clause-goes_on : goal.returns-in-Leaf-clause-goes_on
-returns-in-Leaf-clause-goes_on g c = λ u x. fills_end g.S.Shape.allows g.M.Machine.ready g.M.Machine.waits g.M.Machine.same g.E.Edit.means c.args.layout.now c.args.number u _ c.args.run.now c.filled.new.self c.args.found.now c.args.nth Value c.fill-in-Leaf.result c.filled.result c.filled.ensures.same c.filled.ensures.spends (λ b h run try x. c.filled.ensures.turn u.call b h Value run try x (leaf_ends g.E.Edit.means c.args.run.now c.args.found.now c.args.nth c.piece-piece.result (is_said g (goal.at.returns-in-Leaf-clause-goes_on g c).After-word-key) _ _ _ _ c.in-Leaf.is))
+returns-in-Leaf-clause-goes_on g c = λ u x. fills_end g.S.Shape.allows g.M.Machine.ready g.M.Machine.waits g.M.Machine.same g.E.Edit.means c.args.layout.now c.args.number u _ c.args.run.now c.filled.new.self c.args.found.now c.args.nth Value c.fill-in-Leaf.result c.filled.result c.filled.ensures.same c.filled.ensures.tries c.filled.ensures.spends (λ b h run try x. c.filled.ensures.turn u.call b h Value run try x (leaf_ends g.E.Edit.means c.args.run.now c.args.found.now c.args.nth c.piece-piece.result (is_said g (goal.at.returns-in-Leaf-clause-goes_on g c).After-word-key) _ _ _ _ c.in-Leaf.is))
     (c.fill-in-Leaf.ensures.told u.call u.first (u.with_run (filling g.S.Shape.allows g.M.Machine.ready g.M.Machine.waits g.M.Machine.same g.E.Edit.means c.args.layout.now c.args.number u c.args.run.now c.args.found.now c.args.nth Value)) u.is_layout u.is_number (at_value g (goal.at.returns-in-Leaf-clause-goes_on g c).After-fill-arg-in-Leaf-1 u x))
 
 pub returns-in-Leaf-clause-steps : goal.returns-in-Leaf-clause-steps
@@ -71,7 +71,7 @@ pub fill-requires-in-Fork-2-clause-waits : goal.fill-requires-in-Fork-2-clause-w
 fill-requires-in-Fork-2-clause-waits g c = let r = c.requires.tries in let u = r.0 in (u.call, u.first, u.with_run (filling g.S.Shape.allows g.M.Machine.ready g.M.Machine.waits g.M.Machine.same g.E.Edit.means c.args.layout.now c.args.number u c.args.run.now c.args.found.now c.args.nth (Child Right)), u.is_layout, u.is_number, at_right g (goal.at.fill-requires-in-Fork-2-clause-waits g c).After-fill-in-Fork u r.1)
 
 pub returns-in-Fork-clause-goes_on : goal.returns-in-Fork-clause-goes_on
-returns-in-Fork-clause-goes_on g c = λ u x. fills_end g.S.Shape.allows g.M.Machine.ready g.M.Machine.waits g.M.Machine.same g.E.Edit.means c.args.layout.now c.args.number u _ c.args.run.now c.filled-in-Fork.new.self c.args.found.now c.args.nth (Child Right) c.fill-in-Fork-2.result c.filled-in-Fork.result c.filled-in-Fork.ensures.same c.filled-in-Fork.ensures.spends (λ b h run try x. c.filled-in-Fork.ensures.turn u.call b h (Child Right) run try x (fork_ends g.E.Edit.means c.args.run.now c.args.found.now c.args.nth c.piece-piece.result (is_said g (goal.at.returns-in-Fork-clause-goes_on g c).After-word-key) _ _ _ _ _ c.in-Fork.is))
+returns-in-Fork-clause-goes_on g c = λ u x. fills_end g.S.Shape.allows g.M.Machine.ready g.M.Machine.waits g.M.Machine.same g.E.Edit.means c.args.layout.now c.args.number u _ c.args.run.now c.filled-in-Fork.new.self c.args.found.now c.args.nth (Child Right) c.fill-in-Fork-2.result c.filled-in-Fork.result c.filled-in-Fork.ensures.same c.filled-in-Fork.ensures.tries c.filled-in-Fork.ensures.spends (λ b h run try x. c.filled-in-Fork.ensures.turn u.call b h (Child Right) run try x (fork_ends g.E.Edit.means c.args.run.now c.args.found.now c.args.nth c.piece-piece.result (is_said g (goal.at.returns-in-Fork-clause-goes_on g c).After-word-key) _ _ _ _ _ c.in-Fork.is))
     (c.fill-in-Fork-2.ensures.told u.call u.first (u.with_run (filling g.S.Shape.allows g.M.Machine.ready g.M.Machine.waits g.M.Machine.same g.E.Edit.means c.args.layout.now c.args.number u c.args.run.now c.args.found.now c.args.nth (Child Right))) u.is_layout u.is_number (at_right g (goal.at.returns-in-Fork-clause-goes_on g c).After-fill-in-Fork u x))
 
 pub returns-in-Fork-clause-steps : goal.returns-in-Fork-clause-steps
