@@ -13,5 +13,6 @@ mod threaded;
 pub use audited::audit_over;
 pub use fault::Fault;
 pub use orders::run;
+pub use outcome::write_outcome;
 pub use play::play_over;
 pub use threaded::run_over;

@@ -12,7 +12,7 @@ const ROWS: usize = 64;
 
 /// Writes the outcome of a run: a row that names the format, one that tells whether the gate was
 /// met, the replies by client and call, the pairs by key, and a row that counts both.
-pub(crate) fn write_outcome<W: Write>(
+pub fn write_outcome<W: Write>(
     alloc: Global,
     outcome: &Outcome,
     missed: bool,

@@ -1,6 +1,5 @@
 //! The command that runs a script with threads.
 ghost use Rattle.std.specs.Prelude.{◌≡◌, ◌≤◌, IfErr};
-ghost use Rattle.arena.specs.Limits.{IsAccepted, IsLayoutOf};
 ghost use Rattle.arena.specs.declared.limits.Mode.TheVariants.{Tree};
 ghost use Rattle.program.specs.Status.{status_of};
 
@@ -65,8 +64,7 @@ fn run_at<R: Threads + Wait + Sync, G: Gate, O: Write>(
     gate: &G,
     out: &mut Metered<O>,
 ) -> Result<(), Fault>
-    requires accepted { IsAccepted script.now.limits }
-    requires tree { IsLayoutOf script.now.limits Tree script.now.layout }
+    requires tree { script.now.layout.mode ≡ Tree }
     ensures { IfErr result (λ fault. status_of fault ≡ 1 → out.new ≡ out.old) }
 {
     let outcome = run(rt, alloc, script, gate)?;
