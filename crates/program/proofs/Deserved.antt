@@ -1,5 +1,6 @@
 -- Faults of the texts are the program's faults.
 use Rattle.std.proofs.Common.{◌≡◌, List, ℕ, Result, Ok, Err, IfErr, IsErrAnd}
+use Rattle.std.specs.Prelude.{OnOk}
 use Rattle.arena.specs.declared.layout.Layout.{Layout}
 use Rattle.arena.specs.declared.limits.Limits.{Limits}
 use Rattle.arena.specs.declared.limits.Mode.{Mode}
@@ -22,3 +23,8 @@ schedule_deserves mode said ordered limits layout calls (Bad row cause) says bad
 pub told : {T : Type 0} (r : Result T Fault) (fault : Fault) (P : Fault → Type 0) → IsErrAnd r (λ e. e ≡ fault) → P fault → IfErr r P
 told (Ok t) fault P is holds = absurd is
 told (Err e) fault P is holds = rw is holds
+
+-- what is so anyhow is so where all went well
+pub anyhow : {T E P : Type 0} (r : Result T E) → P → OnOk r P
+anyhow (Ok t) p = p
+anyhow (Err e) p = tt

@@ -1,3 +1,4 @@
 pub mod Status
 pub mod Printed
+pub mod Threaded
 pub mod Audited

@@ -1,7 +1,9 @@
 //! The command that runs a script with threads.
-ghost use Rattle.std.specs.Prelude.{◌≡◌, ◌≤◌, IfErr};
+ghost use Rattle.std.specs.Prelude.{◌≡◌, ◌≤◌, ◌↔◌, ℕ, List, IsTrue, IfErr, IsErrOf, OnOk, Some};
 ghost use Rattle.arena.specs.declared.limits.Mode.TheVariants.{Tree};
 ghost use Rattle.program.specs.Status.{status_of};
+ghost use Rattle.program.specs.Threaded.{IsDeserved, IsGate, SaysScript};
+ghost use Rattle.program.specs.declared.fault.Fault.{Fault};
 
 use crate::fault::Fault;
 use crate::outcome::write_outcome;
@@ -26,6 +28,11 @@ pub fn run_over<R: Threads + Wait + Sync, S: Read, O: Write, E: Write>(
     out: &mut Metered<O>,
     err: &mut E,
 ) -> u8
+    // Of a reader that tells its bytes.
+    ensures says { (said : List ℕ) → S.remaining script.old ≡ Some said → result ≡ 0 → SaysScript said }
+    ensures deserved { (said : List ℕ) → S.remaining script.old ≡ Some said → result ≡ 1 → (fault : Fault) × (status_of fault ≡ 1) × IsDeserved gate.now said fault }
+
+    ensures gate { result ≡ 2 ↔ ¬ (IsGate gate.now) }
     ensures refused { result ≡ 1 → out.new ≡ out.old }
     ensures status { result ≤ 4 }
 {
@@ -43,9 +50,13 @@ fn run_gated<R: Threads + Wait + Sync, S: Read, O: Write>(
     script: &mut S,
     out: &mut Metered<O>,
 ) -> Result<(), Fault>
-    ensures { IfErr result (λ fault. status_of fault ≡ 1 → out.new ≡ out.old) }
+    ensures says { (said : List ℕ) → S.remaining script.old ≡ Some said → OnOk result (SaysScript said) }
+    ensures deserved { (said : List ℕ) → S.remaining script.old ≡ Some said → IfErr result (IsDeserved gate.now said) }
+    ensures bad_gate { ¬ (IsGate gate.now) → IsErrOf result Fault.BadGate }
+    ensures gate { IfErr result (λ fault. status_of fault ≡ 2 → ¬ (IsGate gate.now)) }
+    ensures refused { IfErr result (λ fault. status_of fault ≡ 1 → out.new ≡ out.old) }
 {
-    if gate != "open" && gate != "alternate" && gate != "hold" {
+    if !is_gate(gate) {
         return Err(Fault::BadGate);
     }
     let script = read_script(alloc, Mode::Tree, &mut Metered::new(script))?;
@@ -54,6 +65,12 @@ fn run_gated<R: Threads + Wait + Sync, S: Read, O: Write>(
         "hold" => run_at(rt, alloc, &script, &Hold::new(&script), out),
         _ => run_at(rt, alloc, &script, &Open::new(&script), out),
     }
+}
+
+fn is_gate(name: &str) -> bool
+    ensures { IsTrue result ↔ IsGate name.now }
+{
+    name == "open" || name == "alternate" || name == "hold"
 }
 
 /// Runs a script with this gate.
@@ -65,7 +82,8 @@ fn run_at<R: Threads + Wait + Sync, G: Gate, O: Write>(
     out: &mut Metered<O>,
 ) -> Result<(), Fault>
     requires tree { script.now.layout.mode ≡ Tree }
-    ensures { IfErr result (λ fault. status_of fault ≡ 1 → out.new ≡ out.old) }
+    ensures deserved { (name said : List ℕ) → IfErr result (IsDeserved name said) }
+    ensures late { IfErr result (λ fault. 3 ≤ status_of fault) }
 {
     let outcome = run(rt, alloc, script, gate)?;
     write_outcome(alloc, &outcome, gate.missed(), out)?;
