@@ -12,8 +12,8 @@ use Rattle.order.specs.declared.refused.Refused.TheVariants as refused
 use Rattle.order.specs.declared.successor.SuccessorRun.{SuccessorRun}
 use Rattle.spelling.specs.OrderedMap.{MapCall, Edit, Successor as SuccessorOf, Range as RangeOf, Insert as PutEdit, Delete as TakeEdit, OneValue, ManyPairs, pair_or_none}
 use Rattle.spelling.specs.Runs.{IsTreeRun}
-use Rattle.spelling.specs.Tries.{HasLostTries}
 use Rattle.spelling.specs.declared.pair.Pair.{Pair}
+use Rattle.template.specs.Blame.{HasLostTriesTo}
 use Rattle.template.specs.declared.walk.Found.{Found}
 use Rattle.tree.specs.Delete.Means.{delete_means, delete_need}
 use Rattle.tree.specs.Get.Known.{GetAnswers}
@@ -72,8 +72,8 @@ module _ (tries : ℕ) (c : Call) (h : History) where
   insert_done m found number (inr x) = (record { edit = PutEdit m.edit.key m.edit.value; is_edit = refl; old = found.value; tells = refl; made = subst (λ n. HasMade (PutEdit m.edit.key m.edit.value) c h n found.value) number x.0 }, tt)
 
   -- where it has so many tries, so many are lost
-  lost : {limit n s : ℕ} → limit ≡ tries → HasLostTries c.pass h c.start limit n s → HasLostTries c.pass h c.start tries n s
-  lost {limit} {n} {s} e x = subst (λ k. HasLostTries c.pass h c.start k n s) e x
+  lost : {limit n s : ℕ} → limit ≡ tries → HasLostTriesTo c.pass h c.start limit n s → HasLostTriesTo c.pass h c.start tries n s
+  lost {limit} {n} {s} e x = subst (λ k. HasLostTriesTo c.pass h c.start k n s) e x
 
   pub insert_says : (m : UpdateRun Inserted UpdateAt) (a : Updated) → IsTreeRun c.layout h → m.edit.key < 2 ^ 64 → m.call ≡ c.number → m.limit ≡ tries → UpdateSays insert_means m c h a → WordSays c h (Edit (PutEdit m.edit.key m.edit.value)) m.share tries (update_reply a)
   insert_says m (Done key value) run small number limit x = subst (λ v. WordSays c h (Edit (PutEdit m.edit.key m.edit.value)) m.share tries (words.Value v)) x.is_value (insert_done m x.found number x.is_done)

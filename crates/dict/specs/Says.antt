@@ -9,9 +9,8 @@ use Rattle.arena.specs.Machines.{Call}
 use Rattle.arena.specs.Share.{Remaining}
 use Rattle.spelling.specs.OrderedMap.{MapEdit, MapCall, Edit, Successor, Range, MapReply, OneValue, reply, changes}
 use Rattle.spelling.specs.Spelled.{Spells}
-use Rattle.spelling.specs.Tries.{HasLostTries}
 use Rattle.spelling.specs.declared.pair.Pair.{Pair}
-use Rattle.template.specs.Blame.{IsContended}
+use Rattle.template.specs.Blame.{IsContended, HasLostTriesTo}
 use Rattle.updates.specs.Known.{HasMade, IsUntouched}
 use Rattle.updates.specs.Tries.{HasEnteredNone}
 use Rattle.dict.specs.Calls.{need, AsksForPairs}
@@ -58,10 +57,11 @@ abbrev pub HasTold : Call → History → MapCall → MapReply → Type 0
 HasTold c h call told = HasToldBy (changes call told) c h call told
 
 -- All tries of the call, so many, were lost: in the last this SCX-record was in the way over this
--- node. The pass has entered nothing since the call began.
+-- node, and the call has itself found it in the node's info. The pass has entered nothing since the
+-- call began.
 pub record HasLost (c : Call) (h : History) (tries n s : ℕ) : Type 0 where
   pub way : IsContended c h n s
-  pub all : HasLostTries c.pass h c.start tries n s
+  pub all : HasLostTriesTo c.pass h c.start tries n s
   pub none : HasEnteredNone c.layout c.pass h c.start
 
 -- the share has fewer nodes than these; or enough of them, and no SCX-record. So many are left

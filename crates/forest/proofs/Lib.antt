@@ -33,6 +33,7 @@ mod StraightUpdate
 mod Took
 mod Versions
 mod DictCalls
+mod StepKinds
 mod OpenCalls
 mod OpenSteps
 mod OpenBegins

@@ -7,7 +7,7 @@ use Rattle.arena.specs.History.{History}
 use Rattle.arena.specs.Log.{is_final}
 use Rattle.arena.specs.declared.limits.Mode.{Mode}
 use Rattle.arena.specs.declared.limits.Mode.TheVariants.{Records}
-use Rattle.prims.specs.Llx.Known.{IsSnapshot, LlxIsReady, LlxWaits, LlxAnswers}
+use Rattle.prims.specs.Llx.Known.{IsSnapshot, HasJustLooked, LlxIsReady, LlxWaits, LlxAnswers}
 use Rattle.prims.proofs.Lemmas.{llx_fills_not, ready_at_start, cell_opened, finalized_at_start, all_idle, alone_now, usable_now}
 use Rattle.prims.specs.declared.llx.Llx.{Llx}
 use Rattle.prims.specs.declared.llx.Llx.TheVariants.{Snapshot, Finalized, Fail}
@@ -48,7 +48,8 @@ module _ {allows : Layout → History → ℕ → Type 0} {mode : Mode} {T : Typ
   pub llx_says : (blamed : List ℕ) (a : Llx) → HasCalled allows p s number (Answered p x number node a) → LlxSays (pass_view p) (pass_view (heard blamed)) node.0 a
   llx_says blamed (Snapshot snap) y =
       let z : IsSnapshot p.layout (run_of (pass_view (seated p s))) node.0 snap = subst (λ (k : NodeNo). IsSnapshot p.layout (run_of (pass_view (seated p s))) k.0 snap) y.answers.1 y.answers.2.0 in
-      (z, (run_of (pass_view (seated p s)), usable_now p.layout _ node.0 snap z), alone_now p.layout p.number.0 _ node.0 snap (all_idle p.layout _ p.number.0 p.share _ _ y.goes.sound.lawful y.goes.share y.goes.over) z)
+      let looked = subst (λ (k : NodeNo). HasJustLooked p.number.0 (run_of (pass_view (seated p s))) (run_of (pass_view p)) k.0) y.answers.1 y.answers.2.1 in
+      (z, (run_of (pass_view (seated p s)), usable_now p.layout _ node.0 snap z), alone_now p.layout p.number.0 _ node.0 snap (all_idle p.layout _ p.number.0 p.share _ _ y.goes.sound.lawful y.goes.share y.goes.over) z, looked)
   llx_says blamed (Finalized n u) y = rw y.answers.1 at y.answers.2
   llx_says blamed (Fail n u) y = rw y.answers.1 at y.answers.2
 

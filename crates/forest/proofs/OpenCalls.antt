@@ -4,7 +4,7 @@ use Rattle.arena.specs.declared.limits.Mode.TheVariants.{Tree}
 use Rattle.arena.specs.declared.machine.Turn.TheVariants.{Done}
 use Rattle.arena.specs.declared.number.PassNo.{PassNo}
 use Rattle.arena.specs.Share.{Remaining}
-use Rattle.dict.specs.Calls.{call_in, share_of}
+use Rattle.dict.specs.Calls.{AsksForPairs, call_in, share_of}
 use Rattle.dict.specs.Steps.{most_steps}
 use Rattle.dict.specs.Typed.{TypedAllows}
 use Rattle.dict.specs.Words.{IsWord}
@@ -19,10 +19,12 @@ use Rattle.forest.specs.OpenInvariant.{IsOpen, next_call, pass_as}
 use Rattle.forest.specs.Passes.{HasGoneOn, steps_of, taken_of}
 use Rattle.forest.specs.PassInvariant.{IsPass, pass_view}
 use Rattle.forest.specs.Traces.{Stands, seat_steps, shared_nodes}
-use Rattle.forest.specs.StraightCalls.{IsSameDictCall}
+use Rattle.forest.specs.StepKinds.{HasKeptToKinds}
+use Rattle.forest.specs.StraightCalls.{IsSameDictCall, SeatDictEnds}
 use Rattle.forest.proofs.DictCalls.{Answered, behind, dict_ended, dict_pass, dict_goes_on, dict_spends, dict_tells, dict_refuses}
 use Rattle.forest.proofs.Entered.{HasEnded}
 use Rattle.forest.proofs.Passes.{steps_are}
+use Rattle.forest.proofs.StepKinds.{dict_kinds, dict_nothing}
 
 abbrev numbered : ℕ → PassNo
 numbered n = record { 0 = n }
@@ -32,8 +34,11 @@ module _ {K V : Type 0} (valid_key : K → Type 0) (key : K → ℕ) (valid_valu
   abbrev was : pass.Inside (Dict K V)
   was = pass_as o.began.value o.seat
 
+  ends : SeatDictEnds valid_key key valid_value value (next_call o.began.value x.pass.is_pass) o.seat.me.0.passes x.first o.run reply
+  ends = subst (λ turn. Stands (TypedAllows (IsWord valid_key key) (IsWord valid_value value)) (DictWaits (IsWord valid_key key) (IsWord valid_value value)) (IsSameDictCall valid_key key valid_value value) (next_call o.began.value x.pass.is_pass) o.seat.me.0.passes x.first (DictAnswers valid_key key valid_value value) o.run turn) is x.stands
+
   over : HasEnded (TypedAllows (IsWord valid_key key) (IsWord valid_value value)) was o.seat (taken_of o.began.value) (Answered valid_key key valid_value value was x.pass o.seat o.run reply)
-  over = (dict_ended valid_key key valid_value value was x.pass o.seat o.run reply x.first (subst (λ turn. Stands (TypedAllows (IsWord valid_key key) (IsWord valid_value value)) (DictWaits (IsWord valid_key key) (IsWord valid_value value)) (IsSameDictCall valid_key key valid_value value) (next_call o.began.value x.pass.is_pass) o.seat.me.0.passes x.first (DictAnswers valid_key key valid_value value) o.run turn) is x.stands)).0
+  over = (dict_ended valid_key key valid_value value was x.pass o.seat o.run reply x.first ends).0
 
   module _ (left : Remaining) (blamed : List ℕ) (gives : left ≡ share_of o.run.run) (blames : blamed ≡ blamed_by_reply reply o.blamed) where
     -- the pass that is given back
@@ -67,3 +72,9 @@ module _ {K V : Type 0} (valid_key : K → Type 0) (key : K → ℕ) (valid_valu
 
     pub open_refuses : IsRefusalOf o.run.tries o.began.value (pass_view back) (call_in o.run.run) reply
     open_refuses = subst (λ p. IsRefusalOf o.run.tries o.began.value (pass_view p) (call_in o.run.run) reply) (sym back_is) (dict_refuses valid_key key valid_value value was x.pass o.seat o.run reply over)
+
+    pub open_kinds : HasKeptToKinds o.began.value (pass_view back) (call_in o.run.run)
+    open_kinds = subst (λ p. HasKeptToKinds o.began.value (pass_view p) (call_in o.run.run)) (sym back_is) (dict_kinds valid_key key valid_value value was x.pass o.seat o.run reply x.first ends)
+
+    pub open_nothing : ¬ AsksForPairs (call_in o.run.run) → pass_view back ≡ o.began.value
+    open_nothing none = subst (λ (p : pass.Inside (Dict K V)). pass_view p ≡ o.began.value) (sym back_is) (dict_nothing valid_key key valid_value value was x.pass o.seat o.run reply over x.table (x.nothing none))

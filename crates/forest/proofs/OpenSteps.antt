@@ -18,10 +18,12 @@ use Rattle.forest.specs.declared.view.SeatView.{SeatView}
 use Rattle.forest.specs.OpenInvariant.{IsOpen, next_call}
 use Rattle.forest.specs.Passes.{steps_of}
 use Rattle.forest.specs.StraightCalls.{IsSameDictCall}
+use Rattle.forest.specs.TableRule.{history_of}
 use Rattle.forest.specs.Traces.{Stands, seat_steps, shared_nodes, weight}
 use Rattle.forest.proofs.Advances.{weighs}
 use Rattle.forest.proofs.Calls.{course_keeps}
 use Rattle.forest.proofs.DictCalls.{IsSameCall}
+use Rattle.forest.proofs.StepKinds.{waits_asks}
 
 pub differ : true ≡ false → ⊥
 differ e = cc
@@ -38,12 +40,16 @@ module _ {K V : Type 0} (valid_key : K → Type 0) (key : K → ℕ) (valid_valu
 
   -- one that has answered is over
   pub is_answered : (o : Inside K V) → IsOpen valid_key key valid_value value o → (reply : Reply K V) → o.turn ≡ Done reply → IsOpen valid_key key valid_value value (record o { over = true })
-  is_answered o x reply is = record { pass = x.pass; table = x.table; bare = x.bare; number = x.number; layout = x.layout; call = x.call; blamed = x.blamed; first = x.first; stands = x.stands; since = x.since; steps = x.steps; over = λ e. rw is tt; none = λ e. absurd (differ e) }
+  is_answered o x reply is = record { pass = x.pass; table = x.table; bare = x.bare; number = x.number; layout = x.layout; call = x.call; blamed = x.blamed; first = x.first; stands = x.stands; since = x.since; steps = x.steps; over = λ e. rw is tt; none = λ e. absurd (differ e); nothing = x.nothing }
 
   module _ (o : Inside K V) (x : IsOpen valid_key key valid_value value o) (step : Step) (is : o.turn ≡ Ask step) where
     -- the machine waits for this step
     pub open_waits : DictStands (next_call o.began.value x.pass.is_pass) o.seat.me.0.passes x.first o.run (Ask step)
     open_waits = subst (λ turn. DictStands (next_call o.began.value x.pass.is_pass) o.seat.me.0.passes x.first o.run turn) is x.stands
+
+    -- so it asks for pairs, if it is a range
+    pub open_asks : AsksForPairs (call_in o.run.run)
+    open_asks = waits_asks valid_key key valid_value value o.run (next_call o.began.value x.pass.is_pass) (history_of o.began.value.layout.mode open_waits.known) step open_waits.so.0
 
     module _ (s : Seat ℕ SeatView) (m : DictRun K V) (turn : Turn (Reply K V)) (table : s.table_id ≡ o.seat.table_id) (bare : s.me.1 ≡ o.seat.me.1) (one : seat_steps s.me.0.passes ≡ suc (seat_steps o.seat.me.0.passes)) (y : DictStands (next_call o.began.value x.pass.is_pass) s.me.0.passes x.first m turn) where
       -- it is of the same call as before
@@ -77,6 +83,7 @@ module _ {K V : Type 0} (valid_key : K → Type 0) (key : K → ℕ) (valid_valu
           steps = rw (same_call.0, same_call.1) few;
           over = ends;
           none = λ e. on turn (goes e);
+          nothing = λ none. absurd (none (subst AsksForPairs (sym same_call.0) open_asks));
         }
           where
             on : (t : Turn (Reply K V)) → MatchTurn t (λ _. Unit {0}) (λ _. ⊥) → MatchTurn t (λ _. Unit {0}) (λ _. (seat_steps s.me.0.passes ≡ steps_of o.began.value) × ¬ AsksForPairs (call_in m.run))

@@ -13,7 +13,7 @@ use Rattle.arena.specs.Share.{Remaining}
 use Rattle.arena.specs.Words.{node}
 use Rattle.atomic_table.specs.declared.shared.Seat.{Seat}
 use Rattle.prims.specs.Llx.Known.{load}
-use Rattle.spelling.specs.OrderedMap.{OneValue}
+use Rattle.spelling.specs.OrderedMap.{Get, OneValue}
 use Rattle.template.specs.FoundLeaf.{HasFound}
 use Rattle.template.specs.Walk.Known.{WalkIsTold}
 use Rattle.template.specs.Walk.Places.{root_trail, walk_at, walk_from}
@@ -37,14 +37,16 @@ use Rattle.forest.specs.declared.view.SeatedPass.{SeatedPass}
 use Rattle.forest.specs.declared.view.SeatView.{SeatView}
 use Rattle.forest.specs.Passes.{taken_of}
 use Rattle.forest.specs.PassInvariant.{pass_view, IsPass}
+use Rattle.forest.specs.StepKinds.{HasKeptToKinds}
 use Rattle.forest.specs.StraightCalls.{IsSameDictCall}
 use Rattle.forest.specs.StraightGet.{getting}
 use Rattle.forest.specs.StraightWalk.{Walker, WalkerWaits, WalkerFinds}
 use Rattle.forest.specs.Traces.{HoldsForCall, Trace}
-use Rattle.forest.proofs.DictCalls.{Answered, dict_ended, dict_starts}
+use Rattle.forest.proofs.DictCalls.{Answered, behind, dict_ended, dict_starts}
 use Rattle.forest.proofs.Entered.{HasEnded}
 use Rattle.forest.proofs.Passes.{call_of}
 use Rattle.forest.proofs.Places.{starts}
+use Rattle.forest.proofs.StepKinds.{dict_kinds}
 
 module _ {K V : Type 0} (valid_key : K → Type 0) (key : K → ℕ) (valid_value : V → Type 0) (value_word : V → ℕ) where
   abbrev pub allows : Layout → History → ℕ → Type 0
@@ -119,3 +121,12 @@ module _ {K V : Type 0} (valid_key : K → Type 0) (key : K → ℕ) (valid_valu
   get_has_ended p x s tries wanted number layout is_layout is_number turn f v valid same_word y =
       (dict_ended valid_key key valid_value value_word p x s (getting p.share tries wanted y.last) (replies.Value v) (getting p.share tries wanted (walk_at wanted root_trail Start))
       (get_ended p.share tries wanted number layout (call_of p x (taken_of (pass_view p))) is_layout is_number s.me.0.passes turn f v x.is_mode valid same_word y)).0
+
+  -- and so it has loaded settled words and fields alone
+  pub get_kinds : {T : Type 0} (p : Inside T) (x : IsPass allows Tree p) (s : Seat ℕ SeatView) (tries wanted number : ℕ) (layout : Layout) (is_layout : p.layout ≡ layout) (is_number : taken_of (pass_view p) ≡ number) (turn : NodeNo) (f : Found) (v : Option V) → IfSome v valid_value → (IfSome f.value (IsWord valid_value value_word) → option_map value_word v ≡ f.value)
+      → (y : WalkerFinds allows ready waits same layout number (walker p.share tries wanted (call_of p x (taken_of (pass_view p))) layout number is_layout is_number) s.me.0.passes wanted turn f)
+      → HasKeptToKinds (pass_view p) (pass_view (behind valid_key key valid_value value_word p x s (getting p.share tries wanted y.last) (replies.Value v))) (Get wanted)
+  unfolding walker
+  get_kinds p x s tries wanted number layout is_layout is_number turn f v valid same_word y =
+      dict_kinds valid_key key valid_value value_word p x s (getting p.share tries wanted y.last) (replies.Value v) (getting p.share tries wanted (walk_at wanted root_trail Start))
+      (get_ended p.share tries wanted number layout (call_of p x (taken_of (pass_view p))) is_layout is_number s.me.0.passes turn f v x.is_mode valid same_word y)

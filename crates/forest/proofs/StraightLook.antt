@@ -10,9 +10,10 @@ use Rattle.arena.specs.declared.word.Side.TheVariants.{Left, Right}
 use Rattle.arena.specs.History.{History}
 use Rattle.arena.specs.Machines.{Call, IsRun}
 use Rattle.arena.specs.Words.{info, marked, child, state}
-use Rattle.prims.specs.Llx.Known.{load, LlxWaits}
+use Rattle.prims.specs.Llx.Known.{load, LlxAnswers, LlxIsReady, LlxWaits}
 use Rattle.prims.specs.declared.llx.Llx.TheVariants.{Snapshot}
 use Rattle.prims.specs.declared.llx.LlxAt.{LlxAt}
+use Rattle.prims.specs.declared.snap.Snap.{Snap}
 use Rattle.prims.specs.declared.llx.LlxAt.TheVariants.{Start, Marked, Info, State, MarkedAgain, Left as AtLeft, Right as AtRight, InfoAgain, StateAgain}
 use Rattle.prims.proofs.Lemmas.{Knows, knows, turn_info, turn_state, turn_mark, turn_read, turn_right, turn_again, turn_compare}
 use Rattle.spelling.specs.TreeShape.{TreeAllows}
@@ -73,7 +74,14 @@ module _ {M : Type 0} (allows : Layout → History → ℕ → Type 0) (ready : 
     last = llx_at node (InfoAgain b s x y);
     is_node = refl;
     told = v;
-    snaps = λ d h run r. (turn_compare TreeAllows d h run (llx_at node (InfoAgain b s x y)) (llx_at node (InfoAgain b s x y)) (Done (Snapshot record { node = node; scx = s; left = record { 0 = x }; right = record { 0 = y } })) b s x y v
-        (knows TreeAllows (llx_at node (InfoAgain b s x y)) d h (Some v) v (InfoAgain b s x y) refl (λ z. cc) refl r) (inl record { same = e; run = refl; done = refl })).0;
+    snaps = λ d h run r. (answers d h run r).0;
+    found = λ d h run r. (answers d h run r).2;
     so = t;
   }
+    where
+      snap : Snap
+      snap = record { node = node; scx = s; left = record { 0 = x }; right = record { 0 = y } }
+
+      answers : (d : Call) (h : History) → IsRun TreeAllows d.layout h → LlxIsReady TreeAllows (llx_at node (InfoAgain b s x y)) d h (Some v) → LlxAnswers (llx_at node (InfoAgain b s x y)) d h (Snapshot snap)
+      answers d h run r = turn_compare TreeAllows d h run (llx_at node (InfoAgain b s x y)) (llx_at node (InfoAgain b s x y)) (Done (Snapshot snap)) b s x y v
+          (knows TreeAllows (llx_at node (InfoAgain b s x y)) d h (Some v) v (InfoAgain b s x y) refl (λ z. cc) refl r) (inl record { same = e; run = refl; done = refl })

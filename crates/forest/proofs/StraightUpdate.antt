@@ -37,6 +37,8 @@ use Rattle.arena.specs.History.{History, value}
 use Rattle.arena.specs.Machines.{Call, IsRun}
 use Rattle.arena.specs.Words.{marked, node, state}
 use Rattle.arena.proofs.Lemmas.{ends_self}
+use Rattle.prims.specs.FoundThere.{HasFoundThere}
+use Rattle.prims.specs.Laws.FoundThere.{there_wider}
 use Rattle.prims.specs.Laws.Idle.{quiet_at_start}
 use Rattle.prims.specs.Llx.Known.{load, IsSnapshot}
 use Rattle.prims.specs.declared.llx.LlxAt.TheVariants.{Marked, StateAgain}
@@ -272,10 +274,10 @@ module _ {M E : Type 0} (allows : Layout → History → ℕ → Type 0) (ready 
 
   -- with the snapshot it goes on as its turn says
   pub looks_on : (ps : List SeatedPass) {A : Type 0} (m now : UpdateRun E A) (f : Found) (node : NodeNo) (snap : Snap) (next : Result Next Stop) → IsSameUpdate m now → now.tries ≡ m.tries → HasSpent e m.share now f next (m.tries + 1) (m.tries + 1)
-      → ((b h : History) → IsRun TreeAllows u.call.layout h → IsTry u.call b h m.limit m.tries → CanLook e m (from u.call b) h f → e.looks m.edit f m.snaps.items ≡ At snap.node → IsSnapshot u.call.layout h snap.node.0 snap → GoesOn e u.call h now f next)
+      → ((b h : History) → IsRun TreeAllows u.call.layout h → IsTry u.call b h m.limit m.tries → CanLook e m (from u.call b) h f → e.looks m.edit f m.snaps.items ≡ At snap.node → IsSnapshot u.call.layout h snap.node.0 snap → HasFoundThere u.call.pass h b snap.node.0 snap.scx.0 → GoesOn e u.call h now f next)
       → LookerSnaps allows ready waits same layout number (looker m f) ps node snap → UpdaterGoesOn allows ready waits same e layout number u ps now f next
   unfolding looker
-  looks_on ps m now f node snap next is tries spent goes x = goes_behind ps now f (looking m f x.last) x.told next is tries spent x.so (goes y.0 h (u.tree h x.so.sound) y.1 can named snapped)
+  looks_on ps m now f node snap next is tries spent goes x = goes_behind ps now f (looking m f x.last) x.told next is tries spent x.so (goes y.0 h (u.tree h x.so.sound) y.1 can named snapped met)
     where
       h : History
       h = history_of u.call.layout.mode x.so.known
@@ -294,6 +296,9 @@ module _ {M E : Type 0} (allows : Layout → History → ℕ → Type 0) (ready 
 
       snapped : IsSnapshot u.call.layout h snap.node.0 snap
       snapped = subst (λ (n : NodeNo). IsSnapshot u.call.layout h n.0 snap) (sym x.of_node) (x.snaps (from (from u.call y.0) y.3.0) h (u.tree h x.so.sound) y.3.2)
+
+      met : HasFoundThere u.call.pass h y.0 snap.node.0 snap.scx.0
+      met = there_wider u.call.pass h y.3.0 y.0 snap.node.0 snap.scx.0 l.since (subst (λ (n : NodeNo). HasFoundThere u.call.pass h y.3.0 n.0 snap.scx.0) (sym x.of_node) (x.found (from (from u.call y.0) y.3.0) h (u.tree h x.so.sound) y.3.2))
 
   -- where something is in the way, it waits for the state again
   pub looks_again : (ps : List SeatedPass) {A : Type 0} (m : UpdateRun E A) (f : Found) (node : NodeNo) (b : Bool) (scx : ScxNo) → LookerWaits allows ready waits same layout number (looker m f) ps (llx_at node (StateAgain b scx)) (load LoadState (state scx.0)) → UpdaterTries allows ready waits same e layout number u ps m f (WaitNext node b scx)

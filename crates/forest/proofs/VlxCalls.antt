@@ -64,5 +64,5 @@ module _ {L : Type 0} (list : L → List Snap) {allows : Layout → History → 
       record { seat = z.seat; answers = rw is at z.answers; goes = z.goes; calls = z.calls }
 
   pub vlx_says : (s : Seat ℕ SeatView) (snaps : L) (a : Vlx) → HasCalled allows p s number (Looked snaps a) → VlxSays (pass_view p) (pass_view (seated p s)) (list snaps) a
-  vlx_says s snaps Same y = y.answers.found
-  vlx_says s snaps (Changed n u) y = (y.answers.changed, y.answers.before)
+  vlx_says s snaps Same y = (y.answers.found, y.answers.asked)
+  vlx_says s snaps (Changed n u) y = (y.answers.changed, y.answers.before, y.answers.asked)

@@ -13,8 +13,7 @@ use Rattle.spelling.specs.Laws.{AreEdits}
 use Rattle.spelling.specs.OrderedMap.{MapCall, Edit, Successor, Range, MapReply, OneValue, ManyPairs, pair_or_none, MapEdit, edit_key, edited, get, reply, changes}
 use Rattle.spelling.specs.Runs.{Makes, map_of_log}
 use Rattle.spelling.specs.Spelled.{Spells}
-use Rattle.spelling.specs.Tries.{HasLostTries}
-use Rattle.template.specs.Blame.{IsOverOrNew}
+use Rattle.template.specs.Blame.{IsOverOrNew, HasLostTriesTo}
 use Rattle.dict.specs.Calls.{need, most_nodes, most_scx, AsksForPairs}
 use Rattle.dict.specs.Says.{HasMadeRow, HasTooLittle, KeepsLists}
 use Rattle.spelling.specs.Replies.{word_pair}
@@ -91,12 +90,13 @@ IsToldOf old new call None = Unit {0}
 
 -- Refusals
 
--- The call has made so many tries and lost them all, and the SCX-record s, which is another pass's,
--- was in the way of the last over the node n; it is finished now, or has come to n since what was
--- known before. The pass has no entry more.
+-- The call has made so many tries and lost them all. The SCX-record s, which is another pass's, was
+-- in the way of the last over the node n, and in that try the pass has itself found s in the info
+-- of n. It is finished now, or has come to n since what was known before. The pass has no entry
+-- more.
 pub record IsContendedCall (tries : ℕ) (old new : PassView) (n s : ℕ) : Type 0 where
   pub others : IsOthersScx new.layout new.number s
-  pub lost : HasLostTries new.number (run_of new) (run_of old) tries n s
+  pub lost : HasLostTriesTo new.number (run_of new) (run_of old) tries n s
   pub over_or_new : IsOverOrNew (run_of new) (run_of old) n s
   pub done : done_of new ≡ done_of old
 

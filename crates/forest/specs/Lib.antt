@@ -20,5 +20,6 @@ pub mod TableRule
 pub mod JoinedSeats
 pub mod PassInvariant
 pub mod Dictionary
+pub mod StepKinds
 pub mod Opened
 pub mod OpenInvariant

@@ -68,3 +68,5 @@ pub record IsOpen {K V : Type 0} (valid_key : K → Type 0) (key : K → ℕ) (v
   -- first step.
   pub over : o.over ≡ true → MatchTurn o.turn (λ _. ⊥) (λ _. Unit {0})
   pub none : o.over ≡ false → MatchTurn o.turn (λ _. Unit {0}) (λ _. (seat_steps o.seat.me.0.passes ≡ steps_of o.began.value) × ¬ AsksForPairs (call_in o.run.run))
+  -- and so its pass knows what it knew before
+  pub nothing : ¬ AsksForPairs (call_in o.run.run) → known_of o.seat.me.0.passes ≡ o.began.value.known

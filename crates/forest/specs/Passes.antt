@@ -20,7 +20,8 @@ use Rattle.arena.specs.Fills.{IsNamedScx, IsOthersScx, IsOwnNode, IsOwnScx, IsTa
 use Rattle.arena.specs.Blame.{HasFailed}
 use Rattle.arena.specs.Lawful.{IsWin}
 use Rattle.arena.specs.Log.{Entry, log, has, fields}
-use Rattle.prims.specs.Llx.Known.{IsSnapshot, IsFinalBy}
+use Rattle.prims.specs.FoundThere.{HasFoundThere}
+use Rattle.prims.specs.Llx.Known.{IsSnapshot, IsFinalBy, HasJustLooked}
 use Rattle.prims.specs.declared.snap.Snap.{Snap}
 use Rattle.prims.specs.declared.llx.Llx.{Llx}
 use Rattle.prims.specs.declared.llx.Llx.TheVariants.{Snapshot, Finalized, Fail}
@@ -31,6 +32,7 @@ use Rattle.prims.specs.Snaps.{IsAmong, ListsNode}
 use Rattle.prims.specs.Snap.{snap_at}
 use Rattle.prims.specs.declared.scx.Scx.{Scx}
 use Rattle.prims.specs.declared.scx.Scx.TheVariants.{Done, Lost}
+use Rattle.prims.specs.Vlx.Known.{HasFoundFirst}
 use Rattle.prims.specs.declared.vlx.Vlx.{Vlx}
 use Rattle.prims.specs.declared.vlx.Vlx.TheVariants.{Same, Changed}
 use Rattle.arena.specs.declared.fault.Full.{Full}
@@ -183,10 +185,12 @@ pub record HasTakenNothing (old new : PassView) : Type 0 where
 -- what an answer of `llx` of node n says
 abbrev pub LlxSays : PassView → PassView → ℕ → Llx → Type 0
 -- the snapshot gives the fields of the node in the run that is known now, in which it is not final;
--- it may be used, and the pass has made no SCX over the node since
-LlxSays old new n (Snapshot snap) = IsSnapshot new.layout (run_of new) n snap × CanUse new snap × HasLeftAlone new snap
--- the node is final in the run that is known now, and s finalizes it
-LlxSays old new n (Finalized node s) = (node.0 ≡ n) × IsFinalBy new.layout (run_of new) n s.0
+-- it may be used, and the pass has made no SCX over the node since. The pass's last step, which is
+-- of this call, has loaded the node's info
+LlxSays old new n (Snapshot snap) = IsSnapshot new.layout (run_of new) n snap × CanUse new snap × HasLeftAlone new snap × HasJustLooked new.number (run_of new) (run_of old) n
+-- the node is final in the run that is known now, and s finalizes it; the call has itself found s in
+-- the node's info
+LlxSays old new n (Finalized node s) = (node.0 ≡ n) × IsFinalBy new.layout (run_of new) n s.0 × HasFoundThere new.number (run_of new) (run_of old) n s.0
 -- another pass's SCX-record was in the way
 LlxSays old new n (Fail node s) = (node.0 ≡ n) × HasFailed new.layout new.number (run_of new) (run_of old) n s.0
 
@@ -226,11 +230,16 @@ MayPut p snaps n = (length snaps ≤ 4) × AreApart snaps × HasNodeOf snaps n �
 abbrev pub AreAsFound : PassView → PassView → List Snap → ℕ → Type 0
 AreAsFound old new snaps k = (i : ℕ) → i < k → IsAsFound new.layout (run_of new) (run_of old) (snap_at snaps i)
 
--- what an answer of `vlx` says: all nodes were as found; or another SCX-record had come to one of
--- them, and those before it were as found
+-- since what was known before, the pass has itself looked at the infos of the nodes of the first k
+-- snapshots, and each was what the snapshot had found
+abbrev pub AreAsked : PassView → PassView → List Snap → ℕ → Type 0
+AreAsked old new snaps k = HasFoundFirst new.number (run_of new) (run_of old) snaps k
+
+-- what an answer of `vlx` says: all nodes were as found, and the call has looked at each; or
+-- another SCX-record had come to one of them, and those before it were as found and looked at
 abbrev pub VlxSays : PassView → PassView → List Snap → Vlx → Type 0
-VlxSays old new snaps Same = AreAsFound old new snaps (length snaps)
-VlxSays old new snaps (Changed node s) = (c : HasChanged new.layout new.number LoadInfo (run_of new) (run_of old) snaps node.0 s.0) × AreAsFound old new snaps c.index
+VlxSays old new snaps Same = AreAsFound old new snaps (length snaps) × AreAsked old new snaps (length snaps)
+VlxSays old new snaps (Changed node s) = (c : HasChanged new.layout new.number LoadInfo (run_of new) (run_of old) snaps node.0 s.0) × AreAsFound old new snaps c.index × AreAsked old new snaps c.index
 
 -- What `scx` says
 

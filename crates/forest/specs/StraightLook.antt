@@ -5,6 +5,7 @@ use Rattle.arena.specs.declared.number.NodeNo.{NodeNo}
 use Rattle.arena.specs.declared.step.Step.{Step}
 use Rattle.arena.specs.History.{History}
 use Rattle.arena.specs.Machines.{Call, IsRun}
+use Rattle.prims.specs.FoundThere.{HasFoundThere}
 use Rattle.prims.specs.Llx.Known.{LlxIsReady, LlxWaits, IsSnapshot}
 use Rattle.prims.specs.declared.llx.LlxRun.{LlxRun}
 use Rattle.prims.specs.declared.snap.Snap.{Snap}
@@ -34,11 +35,13 @@ module _ {M : Type 0} (allows : Layout → History → ℕ → Type 0) (ready : 
     abbrev pub LookerIsTold : LlxRun → ℕ → Type 0
     LookerIsTold m v = Told allows waits same k.call ps k.first ready (k.with_llx m) v
 
-    -- the last step of its LLX of the node has told what makes this snapshot right
+    -- the last step of its LLX of the node has told what makes this snapshot right, and its
+    -- SCX-record one that the call has found in the node's info
     pub record LookerSnaps (node : NodeNo) (snap : Snap) : Type 0 where
       pub of_node : snap.node ≡ node
       pub last : LlxRun
       pub is_node : last.node ≡ node
       pub told : ℕ
       pub snaps : (d : Call) (h : History) → IsRun TreeAllows d.layout h → LlxIsReady TreeAllows last d h (Some told) → IsSnapshot d.layout h node.0 snap
+      pub found : (d : Call) (h : History) → IsRun TreeAllows d.layout h → LlxIsReady TreeAllows last d h (Some told) → HasFoundThere d.pass h d.start node.0 snap.scx.0
       pub so : LookerIsTold last told

@@ -5,6 +5,7 @@ ghost use Rattle.std.specs.Option.{option_map};
 ghost use Rattle.arena.specs.Limits.{IsAccepted, IsLayoutOf};
 ghost use Rattle.arena.specs.declared.limits.Mode.TheVariants.{Tree};
 ghost use Rattle.spelling.specs.OrderedMap.{Edit, Get, Insert as InsertEdit, Delete as DeleteEdit, edit_key, OneValue, Range, Successor};
+ghost use Rattle.dict.specs.Calls.{AsksForPairs};
 ghost use Rattle.dict.specs.Forms.{MayReply, form_of};
 ghost use Rattle.dict.specs.Says.{KeepsLists};
 ghost use Rattle.dict.specs.Steps.{most_steps};
@@ -14,6 +15,7 @@ ghost use Rattle.spelling.specs.Replies.{told_of};
 ghost use Rattle.spelling.specs.Requests.{AsksForFew, as_map_call};
 ghost use Rattle.forest.specs.Dictionary.{IsReading, IsToldOf, IsRefusalOf, HasSpentAtMost, UpdateSays, SuccessorSays, RangeSays, blamed_by_reply, blamed_by_update, blamed_by_read};
 ghost use Rattle.forest.specs.Passes.{HasGoneOn, IsOf, AreNew, taken_of};
+ghost use Rattle.forest.specs.StepKinds.{HasKeptToKinds};
 ghost use Rattle.forest.specs.StraightCalls.{map_edit};
 ghost use Rattle.forest.specs.Traces.{shared_nodes};
 
@@ -98,6 +100,7 @@ impl<K: WordKey, V: WordValue> Forest<Dict<K, V>> {
         ensures goes_on { HasGoneOn (TypedAllows (IsWord K.is_valid K.word_of) (IsWord V.is_valid V.word_of)) pass.old pass.new (taken_of pass.old) (3 * (2 + shared_nodes self.now.layout)) pass.old.blamed }
         ensures spends { HasSpentAtMost pass.old pass.new (Get (K.word_of key.now)) self.now.tries }
         ensures says { IsReading pass.old pass.new (Get (K.word_of key.now)) (OneValue (option_map V.word_of result)) }
+        ensures kinds { HasKeptToKinds pass.old pass.new (Get (K.word_of key.now)) }
         ensures valid { IfSome result V.is_valid }
     {
         key.valid();
@@ -122,6 +125,7 @@ impl<K: WordKey, V: WordValue> Forest<Dict<K, V>> {
         ensures goes_on { HasGoneOn (TypedAllows (IsWord K.is_valid K.word_of) (IsWord V.is_valid V.word_of)) pass.old pass.new (taken_of pass.old) (self.now.tries * (137 * (2 + shared_nodes self.now.layout))) (blamed_by_read result pass.old.blamed) }
         ensures spends { HasSpentAtMost pass.old pass.new (Successor (K.word_of key.now)) self.now.tries }
         ensures says { SuccessorSays K.word_of V.word_of self.now.tries pass.old pass.new (K.word_of key.now) result }
+        ensures kinds { HasKeptToKinds pass.old pass.new (Successor (K.word_of key.now)) }
         ensures valid { IfOk result (λ pair. IfSome pair (IsValidPair K.is_valid V.is_valid)) }
     {
         match self.read(alloc, pass, Request::Successor { key: *key }) {
@@ -137,7 +141,8 @@ impl<K: WordKey, V: WordValue> Forest<Dict<K, V>> {
     }
 
     /// The first pairs by rising key with keys from `low` to `high`, both with them, and at most so
-    /// many, 64 at the most. It takes nothing of the pass's share, but memory.
+    /// many, 64 at the most. It takes nothing of the pass's share, but memory. One that asks for no
+    /// pairs makes no step, and leaves the pass as it was.
     pub fn range(
         &self,
         alloc: Global,
@@ -153,6 +158,8 @@ impl<K: WordKey, V: WordValue> Forest<Dict<K, V>> {
         ensures goes_on { HasGoneOn (TypedAllows (IsWord K.is_valid K.word_of) (IsWord V.is_valid V.word_of)) pass.old pass.new (taken_of pass.old) (self.now.tries * ((most + 2) * (67 * (2 + shared_nodes self.now.layout)))) (blamed_by_read result pass.old.blamed) }
         ensures spends { HasSpentAtMost pass.old pass.new (Range (K.word_of low.now) (K.word_of high.now) most) self.now.tries }
         ensures says { RangeSays K.word_of V.word_of self.now.tries pass.old pass.new (K.word_of low.now) (K.word_of high.now) most result }
+        ensures kinds { HasKeptToKinds pass.old pass.new (Range (K.word_of low.now) (K.word_of high.now) most) }
+        ensures nothing { ¬ AsksForPairs (Range (K.word_of low.now) (K.word_of high.now) most) → pass.new ≡ pass.old }
         ensures valid { IfOk result (λ pairs. All (IsValidPair K.is_valid V.is_valid) pairs.items) }
     {
         let (low, high, most) = (*low, *high, most as u32);
@@ -203,6 +210,8 @@ impl<K: WordKey, V: WordValue> Forest<Dict<K, V>> {
         ensures told { IsToldOf pass.old pass.new (as_map_call K.word_of V.word_of request) (told_of K.word_of V.word_of result) }
         ensures refused { IsRefusalOf self.now.tries pass.old pass.new (as_map_call K.word_of V.word_of request) result }
         ensures form { MayReply (as_map_call K.word_of V.word_of request) (form_of result) }
+        ensures kinds { HasKeptToKinds pass.old pass.new (as_map_call K.word_of V.word_of request) }
+        ensures nothing { ¬ AsksForPairs (as_map_call K.word_of V.word_of request) → pass.new ≡ pass.old }
         ensures valid { IsValidReply K.is_valid V.is_valid result }
     {
         let number = pass.taken();

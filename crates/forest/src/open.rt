@@ -1,6 +1,7 @@
 //! Calls that are held open: each makes one atomic step at a time.
-ghost use Rattle.std.specs.Prelude.{◌≡◌, ◌≤◌, ◌+◌, true, false};
+ghost use Rattle.std.specs.Prelude.{◌≡◌, ◌≤◌, ◌+◌, true, false, None};
 ghost use Rattle.arena.specs.Machines.{IsRun};
+ghost use Rattle.dict.specs.Calls.{AsksForPairs};
 ghost use Rattle.dict.specs.Forms.{MayReply, form_of};
 ghost use Rattle.dict.specs.Steps.{most_steps};
 ghost use Rattle.dict.specs.Typed.{TypedAllows};
@@ -10,6 +11,7 @@ ghost use Rattle.spelling.specs.Requests.{AsksForFew, as_map_call};
 ghost use Rattle.forest.specs.Dictionary.{IsToldOf, IsRefusalOf, HasSpentAtMost, blamed_by_reply};
 ghost use Rattle.forest.specs.Opened.{HasStepped, IsSameOpen, pass_now};
 ghost use Rattle.forest.specs.Passes.{Ground, HasGoneOn, IsOf, run_of, steps_of, taken_of};
+ghost use Rattle.forest.specs.StepKinds.{HasKeptToKinds};
 ghost use Rattle.forest.specs.Traces.{shared_nodes};
 
 use crate::blamed::Blamed;
@@ -112,6 +114,7 @@ impl<K: WordKey, V: WordValue> OpenCall<K, V> {
         ensures same { IsSameOpen self.old self.new }
         ensures stepped { HasStepped self.old self.new result }
         ensures lawful { IsRun (TypedAllows (IsWord K.is_valid K.word_of) (IsWord V.is_valid V.word_of)) self.new.began.layout (run_of (pass_now self.new)) }
+        ensures nothing { ¬ AsksForPairs self.old.call → result ≡ Stepped.Done None }
     {
         let Turn::Ask(step) = &self.turn else {
             self.over = true;
@@ -146,6 +149,8 @@ impl<K: WordKey, V: WordValue> OpenCall<K, V> {
         ensures told { IsToldOf self.began result.0 self.call (told_of K.word_of V.word_of result.1) }
         ensures refused { IsRefusalOf self.tries self.began result.0 self.call result.1 }
         ensures form { MayReply self.call (form_of result.1) }
+        ensures kinds { HasKeptToKinds self.began result.0 self.call }
+        ensures nothing { ¬ AsksForPairs self.call → result.0 ≡ self.began }
         ensures valid { IsValidReply K.is_valid V.is_valid result.1 }
     {
         let OpenCall {

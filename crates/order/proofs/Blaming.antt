@@ -9,6 +9,7 @@ use Rattle.arena.specs.History.{History, Extends}
 use Rattle.arena.specs.Lawful.{Lawful}
 use Rattle.arena.specs.Machines.{Call, MatchTurn}
 use Rattle.arena.proofs.Lemmas.{ends_self, ends_trans}
+use Rattle.prims.specs.Laws.FoundThere.{there_wider}
 use Rattle.prims.specs.Laws.Idle.{IsIdle, IsQuietSince, quiet_at_start}
 use Rattle.prims.specs.Llx.Known.{LlxAnswers}
 use Rattle.prims.specs.Shares.{IsUsable}
@@ -20,10 +21,10 @@ use Rattle.prims.specs.declared.snap.Snap.{Snap}
 use Rattle.prims.proofs.Lemmas.{usable_now, usable_since}
 use Rattle.order.specs.Reads.{from, HasSnapped, Reads, HasStood}
 use Rattle.spelling.specs.OrderedMap.{MapCall, MapReply}
-use Rattle.spelling.specs.Tries.{HasLostTries, tries_begun}
+use Rattle.spelling.specs.Tries.{tries_begun}
 use Rattle.order.specs.Replies.{IsReplyAt, KeepsTries}
 use Rattle.order.specs.Tries.{BeginsTry, IsInTry}
-use Rattle.template.specs.Blame.{IsContended}
+use Rattle.template.specs.Blame.{IsContended, HasLostTriesTo}
 use Rattle.template.proofs.Lemmas.{changed_contended, contended_wider, failed_contended, finalized_contended, tries_begin}
 
 module _ (c : Call) (h : History) (snaps : List Snap) (reads : Reads c h snaps) where
@@ -32,8 +33,8 @@ module _ (c : Call) (h : History) (snaps : List Snap) (reads : Reads c h snaps) 
   look_failed llx begin n s e x = subst (λ k. IsContended c h k s.0) (sym x.0) (failed_contended c begin h llx.node.0 s.0 e x.1)
 
   -- it finds a node final that was not at a moment of the call
-  pub look_finalized : (llx : LlxRun) (begin : History) (n : NodeNo) (s : ScxNo) → HasStood c h llx.node.0 → LlxAnswers llx (from c begin) h (Finalized n s) → IsContended c h n.0 s.0
-  look_finalized llx begin n s stood x = subst (λ k. IsContended c h k s.0) (sym x.0) (finalized_contended c h llx.node.0 s.0 reads.run.1.lawful reads.quiet stood.not_final x.1)
+  pub look_finalized : (llx : LlxRun) (begin : History) (n : NodeNo) (s : ScxNo) → Extends begin c.start → HasStood c h llx.node.0 → LlxAnswers llx (from c begin) h (Finalized n s) → IsContended c h n.0 s.0
+  look_finalized llx begin n s e stood x = subst (λ k. IsContended c h k s.0) (sym x.0) (finalized_contended c h llx.node.0 s.0 reads.run.1.lawful reads.quiet stood.not_final x.1 (there_wider c.pass h begin c.start llx.node.0 s.0 e x.2))
 
 -- a snapshot that the call has taken may be used
 pub snapped_usable : (c : Call) (h : History) (snap : Snap) → Lawful c.layout h → (x : HasSnapped c h snap) → IsUsable c.layout h snap x.moment
@@ -75,14 +76,17 @@ try_as c h begin limit left most now e f x = rw (e, f) x
 pub try_contended : (c : Call) (begin h : History) (n s limit left : ℕ) → IsInTry c h begin limit left → IsContended (from c begin) h n s → IsContended c h n s
 try_contended c begin h n s limit left try way = contended_wider c begin h n s try.begins.since way
 
--- and where that was the last, all are lost
-pub all_lost : (c : Call) (begin h : History) (n s limit left : ℕ) → IsInTry c h begin limit left → left ≡ 0 → IsContended (from c begin) h n s → HasLostTries c.pass h c.start limit n s
+-- and where that was the last, all are lost to it
+pub all_lost : (c : Call) (begin h : History) (n s limit left : ℕ) → IsInTry c h begin limit left → left ≡ 0 → IsContended (from c begin) h n s → HasLostTriesTo c.pass h c.start limit n s
 all_lost c begin h n s limit left try last way = record {
-  begin = begin;
-  since = try.begins.since;
-  newest = try.newest;
-  all = let one = tries_in c h begin limit left try in let all = try.begins.all in omega (arith, one, all, last);
-  in_the_way = way.in_the_way;
+  lost = record {
+    begin = begin;
+    since = try.begins.since;
+    newest = try.newest;
+    all = let one = tries_in c h begin limit left try in let all = try.begins.all in omega (arith, one, all, last);
+    in_the_way = way.in_the_way;
+  };
+  found = way.found;
 }
 
 -- else it may begin another

@@ -117,7 +117,7 @@ module _ (m : RangeRun) (c : Call) (begin look h : History) (low : ℕ) (left ri
 
   -- or none
   pub finalized : (n : NodeNo) (s : ScxNo) → turn ≡ Done (Finalized n s) → IsContended (from c begin) h n.0 s.0
-  finalized n s done = look_finalized (from c begin) h m.snaps.items goes.reads after look n s looks_same.visits.stood (rw done at w)
+  finalized n s done = look_finalized (from c begin) h m.snaps.items goes.reads after look n s since looks_same.visits.stood (rw done at w)
 
   pub failed : (n : NodeNo) (s : ScxNo) → turn ≡ Done (Fail n s) → IsContended (from c begin) h n.0 s.0
   failed n s done = look_failed (from c begin) h m.snaps.items goes.reads after look n s since (rw done at w)

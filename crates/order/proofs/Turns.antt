@@ -175,7 +175,7 @@ module _ (m : SuccessorRun) (c : Call) (begin look h : History) (route : Route) 
 
   -- or none
   pub finalized : (n : NodeNo) (s : ScxNo) → turn ≡ Done (Finalized n s) → IsContended (from c begin) h n.0 s.0
-  finalized n s done = look_finalized (from c begin) h m.snaps.items goes.reads after look n s looks_same.stood (rw done at w)
+  finalized n s done = look_finalized (from c begin) h m.snaps.items goes.reads after look n s since looks_same.stood (rw done at w)
 
   pub failed : (n : NodeNo) (s : ScxNo) → turn ≡ Done (Fail n s) → IsContended (from c begin) h n.0 s.0
   failed n s done = look_failed (from c begin) h m.snaps.items goes.reads after look n s since (rw done at w)

@@ -115,7 +115,7 @@ module _ (v : ClientView) (c : Client) (is_pass : c.pass.0 < v.layout.passes) (m
 
   insert_ends : (m : UpdateRun Inserted UpdateAt) (a : Updated) → m.edit.key < 2 ^ 64 → m.limit ≡ v.tries → UpdateAnswers insert_means m call v.past a → IsRightEnd v c.pass.0 (edit_command (PutEdit m.edit.key m.edit.value)) (answer_of (ended.Edit a))
   insert_ends m (Done key value) small limit (rests, x) = subst (λ o. IsRightEnd v c.pass.0 (edit_command (PutEdit m.edit.key m.edit.value)) (MapAnswer (Value o))) x.is_value (put m x.found x.is_done)
-  insert_ends m (Contended node scx) small limit (rests, x) = record { answers = tt; right = (x.0.others, rw (sym limit) x.3); entry = entered_none v.won (unwon x.2); tells = tt }
+  insert_ends m (Contended node scx) small limit (rests, x) = record { answers = tt; right = (x.0.others, rw (sym limit) x.3.lost); entry = entered_none v.won (unwon x.2); tells = tt }
   insert_ends m (Full full) small limit (rests, x) = record {
     answers = tt;
     right = (x.found.value, had_at_key m.edit.key x.found small x.has_found, subst (λ n. HasTooFewToTry v.layout c.pass.0 v.past v.start n full.what full.left) (insert_many x.found.value) (too_few m.share (insert_need x.found.value) full.what full.left rests x.first x.short));
@@ -135,7 +135,7 @@ module _ (v : ClientView) (c : Client) (is_pass : c.pass.0 < v.layout.passes) (m
 
   delete_ends : (m : UpdateRun Deleted UpdateAt) (a : Updated) → m.edit.key < 2 ^ 64 → m.limit ≡ v.tries → UpdateAnswers delete_means m call v.past a → IsRightEnd v c.pass.0 (edit_command (TakeEdit m.edit.key)) (answer_of (ended.Edit a))
   delete_ends m (Done key value) small limit (rests, x) = taken m x.found value x.is_value small x.is_done
-  delete_ends m (Contended node scx) small limit (rests, x) = record { answers = tt; right = (x.0.others, rw (sym limit) x.3); entry = entered_none v.won (unwon x.2); tells = tt }
+  delete_ends m (Contended node scx) small limit (rests, x) = record { answers = tt; right = (x.0.others, rw (sym limit) x.3.lost); entry = entered_none v.won (unwon x.2); tells = tt }
   delete_ends m (Full full) small limit (rests, x) =
       let old = there x.found.value x.needed in
       record {

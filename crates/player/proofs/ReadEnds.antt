@@ -76,7 +76,7 @@ module _ (v : ClientView) (c : Client) (is_pass : c.pass.0 < v.layout.passes) wh
 
   successor_ends : (m : SuccessorRun) (key : ℕ) (a : Reply ℕ ℕ) → m.key ≡ key → m.limit ≡ v.tries → ReadAnswers (Successor m) (machine_call v c is_pass v.start) v.past a → IsReadEnd v c.pass.0 (commands.Map (requests.Successor key)) (MapAnswer a)
   successor_ends m key (Pair found) of limit x = record { answers = tt; right = tt; tells = next_told m key (pair_or_none (option_map (word_pair (λ n. n) (λ n. n)) found)) of x.1 }
-  successor_ends m key (Contended node scx) of limit x = record { answers = tt; right = (x.1.0.others, rw (sym limit) x.1.2); tells = tt }
+  successor_ends m key (Contended node scx) of limit x = record { answers = tt; right = (x.1.0.others, rw (sym limit) x.1.2.lost); tells = tt }
   successor_ends m key NoMemory of limit x = record { answers = tt; right = tt; tells = tt }
   successor_ends m key (Value told) of limit x = absurd x
   successor_ends m key (Pairs found) of limit x = absurd x
@@ -92,7 +92,7 @@ module _ (v : ClientView) (c : Client) (is_pass : c.pass.0 < v.layout.passes) wh
     right = tt;
     tells = subst (λ (ps : List PairOf). HasToldMap v (PairsOf low high most) (Some (ManyPairs ps))) (sym x.2) (many_told m low high most x.0.items of.0 of.1 of.2 x.1.1);
   }
-  range_ends m low high most (Contended node scx) of limit x = record { answers = tt; right = (x.1.0.others, rw (sym limit) x.1.2); tells = tt }
+  range_ends m low high most (Contended node scx) of limit x = record { answers = tt; right = (x.1.0.others, rw (sym limit) x.1.2.lost); tells = tt }
   range_ends m low high most NoMemory of limit x = record { answers = tt; right = tt; tells = tt }
   range_ends m low high most (Value told) of limit x = absurd x
   range_ends m low high most (Pair found) of limit x = absurd x

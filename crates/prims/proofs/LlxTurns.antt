@@ -80,9 +80,10 @@ module _ (allows : Layout → History → ℕ → Type 0) (c : Call) (h : Histor
   pub turn_state : (m now : LlxRun) (turn : Turn Llx) (b : Bool) (v : ℕ) → Knows allows c h m.node.0 (Info b) v → LlxAsks m now turn (State b record { 0 = v }) (load LoadState (state v)) → LlxTurn allows c h now turn
   turn_state m now turn b v k a = waits_at m now turn (State b record { 0 = v }) _ a k.opened k.since k.quiet
       record {
-        held = held_at h (info m.node.0) v k.told;
-        named = been_now h c.start (λ x. value x (info m.node.0) ≡ v) k.since k.told;
-        finalizes = λ e. marker_named c.layout h m.node.0 v run.lawful (λ z. let y = k.known.0 e in omega arith) k.told;
+        held = held_at h (info m.node.0) v k.told.0;
+        named = been_now h c.start (λ x. value x (info m.node.0) ≡ v) k.since k.told.0;
+        found = k.told.1;
+        finalizes = λ e. marker_named c.layout h m.node.0 v run.lawful (λ z. let y = k.known.0 e in omega arith) k.told.0;
         unmarked = k.known.1;
       }
       refl
@@ -144,7 +145,7 @@ module _ (allows : Layout → History → ℕ → Type 0) (c : Call) (h : Histor
   pub turn_compare : (m now : LlxRun) (turn : Turn Llx) (b : Bool) (s : ScxNo) (x y found : ℕ) → Knows allows c h m.node.0 (InfoAgain b s x y) found
       → Snaps now m turn record { node = m.node; scx = s; left = record { 0 = x }; right = record { 0 = y } } found ⊎ Differs m now turn b s found → LlxTurn allows c h now turn
   turn_compare m now turn b s x y found k (inr a) = waits_at m now turn (StateAgain b s) _ a.asks k.opened k.since k.quiet record { met = k.known.0; disturbed = passed k.known.1.rest (λ e. a.other (sym k.told.0 ∙ e)) } refl
-  turn_compare m now turn b s x y found k (inl a) = rw (a.done, a.run) (snapshot m.node.0 b s x y k.opened k.known (k.told.0 ∙ a.same), k.told.1)
+  turn_compare m now turn b s x y found k (inl a) = rw (a.done, a.run) (snapshot m.node.0 b s x y k.opened k.known (k.told.0 ∙ a.same), k.told.1, k.known.0.found)
 
   -- a committed SCX-record that finalizes the node made it final
   final_by_met : (n s : ℕ) (b : Bool) → HasMet c h n b s → b ≡ true → value h (state s) ≡ 1 → IsFinalBy c.layout h n s
@@ -160,7 +161,7 @@ module _ (allows : Layout → History → ℕ → Type 0) (c : Call) (h : Histor
   -- finalized node, or loads the info for the last time
   pub turn_helped : (m now : LlxRun) (turn : Turn Llx) (b t : Bool) (s : ScxNo) → IsOpened c.layout h m.node.0 → Extends h c.start → IsQuietSince c.layout c.pass c.start h → HasStopped c h m.node.0 b s.0 → (t ≡ true → (b ≡ true) × (value h (state s.0) ≡ 1)) → (t ≡ false → b ≡ false) → Finalizes now m turn t s ⊎ LooksLast m now turn t → LlxTurn allows c h now turn
   turn_helped m now turn b t s o f q x d z (inr a) = waits_at m now turn LastInfo _ a.asks o f q (s.0, rw (z a.not_final) at x) refl
-  turn_helped m now turn b t s o f q x d z (inl a) = rw (a.done, a.run) (refl, final_by_met m.node.0 s.0 b x.met (d a.final).0 (d a.final).1)
+  turn_helped m now turn b t s o f q x d z (inl a) = rw (a.done, a.run) (refl, final_by_met m.node.0 s.0 b x.met (d a.final).0 (d a.final).1, x.met.found)
 
   -- after the last info it loads the state of the SCX-record named there, which is to blame
   pub turn_last : (m now : LlxRun) (turn : Turn Llx) (v : ℕ) → Knows allows c h m.node.0 LastInfo v → LlxAsks m now turn (LastState record { 0 = v }) (load LoadState (state v)) → LlxTurn allows c h now turn

@@ -2,6 +2,7 @@ pub mod Begun
 pub mod Blamed
 pub mod BlankRows
 pub mod Entered
+pub mod FoundThere
 pub mod Idle
 pub mod InTheWay
 pub mod Linked

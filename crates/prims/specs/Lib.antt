@@ -1,6 +1,7 @@
 pub mod Cells
 pub mod Snap
 pub mod Slots
+pub mod FoundThere
 pub mod Moments
 pub mod BlankNodes
 pub mod Looked

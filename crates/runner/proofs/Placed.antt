@@ -1,5 +1,5 @@
 -- Where the calls of a client stand in the history of the whole run.
-use Rattle.std.proofs.Common.{◌≡◌, ◌∙◌, ℕ, Bool, true, false, inl, inr, List, [], ◌∷◌, Option, Some, None, refl, sym, ap, subst}
+use Rattle.std.proofs.Common.{◌≡◌, ◌∙◌, ℕ, ◌+◌, ◌≤◌, Bool, true, false, inl, inr, List, [], ◌∷◌, Option, Some, None, refl, sym, ap, subst}
 use Rattle.arena.specs.declared.layout.Layout.{Layout}
 use Rattle.arena.specs.declared.step.Row.{Row}
 use Rattle.arena.specs.History.{History, Start, ◌⊳◌, value, Extends}
@@ -16,8 +16,10 @@ use Rattle.spelling.specs.Replies.{told_of}
 use Rattle.spelling.specs.declared.reply.Reply.{Reply}
 use Rattle.spelling.specs.declared.reply.Reply.TheVariants as replies
 use Rattle.script.specs.declared.command.Command.{Command}
+use Rattle.dict.specs.Steps.{most_steps}
 use Rattle.forest.specs.Dictionary.{IsVersion, IsChange, IsChangeOrReading, IsReading, IsRefusalOf, IsToldOf}
-use Rattle.forest.specs.Passes.{PassView, IsLaterView, run_of, done_of}
+use Rattle.forest.specs.Passes.{PassView, IsLaterView, run_of, done_of, steps_of}
+use Rattle.forest.specs.Traces.{shared_nodes}
 use Rattle.runner.specs.Calls.{HasCalled, HaveReplies}
 use Rattle.runner.specs.Histories.{map_at, IsEnteredCall, IsReadCall, IsPlacedAs, IsPlaced, IsAnswered}
 use Rattle.runner.proofs.Chains.{replies_later}
@@ -93,7 +95,20 @@ module _ (lay : Layout) (tries : ℕ) (run : History) (edits : ℕ → MapEdit) 
     placed call replies.NoMemory x y = y.1
 
     answered : (call : MapCall) (r : Reply ℕ ℕ) → HasCalled tries old new call r → IsAnswered lay tries run edits old new call r
-    answered call r x = record { within = within; later = x.later; told = placed call r x.told x.refused; refused = x.refused; form = x.form; blames = x.blames; spends = x.spends; rest = x.rest }
+    answered call r x = record {
+      within = within;
+      later = x.later;
+      told = placed call r x.told x.refused;
+      refused = x.refused;
+      form = x.form;
+      blames = x.blames;
+      spends = x.spends;
+      steps = subst (λ (l : Layout). steps_of new ≤ steps_of old + most_steps call tries (shared_nodes l)) (sym x.later.layout ∙ layout) x.steps;
+      calls = x.calls;
+      kinds = x.kinds;
+      nothing = x.nothing;
+      rest = x.rest;
+    }
 
   -- so it is for all calls of a client
   pub all_answered : (old new : PassView) (cs : List Command) (rs : List (Reply ℕ ℕ)) → old.layout ≡ lay → Extends run (run_of new) → HaveReplies (HasCalled tries) old cs rs new → HaveReplies (IsAnswered lay tries run edits) old cs rs new

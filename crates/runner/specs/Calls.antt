@@ -1,11 +1,13 @@
 -- The calls of a client, as its pass makes them one behind the other.
-use Rattle.std.specs.Prelude.{◌≡◌, ℕ, ◌<◌, ◌^◌, List, [], ◌∷◌, Some, Result, Vec, IfOk}
+use Rattle.std.specs.Prelude.{◌≡◌, ℕ, ◌+◌, ◌<◌, ◌≤◌, ◌^◌, List, [], ◌∷◌, Some, Result, Vec, IfOk}
 use Rattle.std.specs.Global.{Global}
 use Rattle.arena.specs.declared.layout.Layout.{Layout}
 use Rattle.arena.specs.History.{History}
 use Rattle.arena.specs.Machines.{IsRun}
 use Rattle.spelling.specs.OrderedMap.{MapCall}
+use Rattle.dict.specs.Calls.{AsksForPairs}
 use Rattle.dict.specs.Forms.{MayReply, form_of}
+use Rattle.dict.specs.Steps.{most_steps}
 use Rattle.dict.specs.Typed.{TypedAllows}
 use Rattle.dict.specs.Words.{IsWord}
 use Rattle.spelling.specs.Replies.{told_of}
@@ -15,8 +17,10 @@ use Rattle.script.specs.declared.command.Command.{Command}
 use Rattle.record.specs.Commands.{commands}
 use Rattle.record.specs.MapRecord.{map_call}
 use Rattle.forest.specs.Dictionary.{IsToldOf, IsRefusalOf, HasSpentAtMost, blamed_by_reply}
-use Rattle.forest.specs.Passes.{Ground, PassView, IsLaterView, IsOf, HasBlamed, run_of}
+use Rattle.forest.specs.Passes.{AreOfCall, Ground, PassView, IsLaterView, IsOf, HasBlamed, run_of, steps_of, taken_of}
 use Rattle.forest.specs.Shares.{IsBetweenCalls}
+use Rattle.forest.specs.StepKinds.{HasKeptToKinds}
+use Rattle.forest.specs.Traces.{shared_nodes}
 
 -- a word of a key or a value: each number of 64 bits is one, and stands for itself
 abbrev pub IsNumber : ℕ → Type 0
@@ -28,7 +32,8 @@ NumbersAllow = TypedAllows IsNumber IsNumber
 
 -- The pass, which knew `old` as the call began and `new` at its end, has made the call, which may try
 -- so often, and has this reply: what the reply tells is right, and so is what it refuses. The pass
--- blames whom the reply names, and has spent no more of its share than so many tries may take.
+-- blames whom the reply names, and has made no more steps, and spent no more of its share, than so
+-- many tries may.
 pub record HasCalled (tries : ℕ) (old new : PassView) (call : MapCall) (reply : Reply ℕ ℕ) : Type 0 where
   pub later : IsLaterView old new
   pub lawful : IsRun NumbersAllow new.layout (run_of new)
@@ -37,6 +42,12 @@ pub record HasCalled (tries : ℕ) (old new : PassView) (call : MapCall) (reply 
   pub form : MayReply call (form_of reply)
   pub blames : (new.blamed ≡ blamed_by_reply reply old.blamed) × HasBlamed new
   pub spends : HasSpentAtMost old new call tries
+  pub steps : steps_of new ≤ steps_of old + most_steps call tries (shared_nodes old.layout)
+  -- each of them is of this call of the pass, and of a kind that it may make
+  pub calls : AreOfCall new.number (taken_of old) (run_of old) (run_of new)
+  pub kinds : HasKeptToKinds old new call
+  -- a range that asks for no pairs has left the pass as it was
+  pub nothing : ¬ AsksForPairs call → new ≡ old
   -- what is left of its share is what the run has not taken
   pub rest : IsBetweenCalls new.layout new.number (run_of new) new.share
 

@@ -1,5 +1,5 @@
 -- The one history in which all calls of a run stand.
-use Rattle.std.specs.Prelude.{◌≡◌, ℕ, List, ◌∷◌, Bool, true, false, Option, Some, None}
+use Rattle.std.specs.Prelude.{◌≡◌, ℕ, ◌+◌, ◌≤◌, List, ◌∷◌, Bool, true, false, Option, Some, None}
 use Rattle.arena.specs.declared.layout.Layout.{Layout}
 use Rattle.arena.specs.declared.step.Row.{Row}
 use Rattle.arena.specs.History.{History, ◌⊳◌, Extends}
@@ -10,11 +10,14 @@ use Rattle.spelling.specs.Runs.{map_of_log}
 use Rattle.dict.specs.Calls.{AsksForPairs}
 use Rattle.dict.specs.Forms.{MayReply, form_of}
 use Rattle.dict.specs.Says.{HasMadeRow}
+use Rattle.dict.specs.Steps.{most_steps}
 use Rattle.spelling.specs.Replies.{told_of}
 use Rattle.spelling.specs.declared.reply.Reply.{Reply}
 use Rattle.forest.specs.Dictionary.{IsRefusalOf, HasSpentAtMost, blamed_by_reply}
-use Rattle.forest.specs.Passes.{PassView, IsLaterView, HasBlamed, run_of, done_of, taken_of}
+use Rattle.forest.specs.Passes.{AreOfCall, PassView, IsLaterView, HasBlamed, run_of, done_of, steps_of, taken_of}
 use Rattle.forest.specs.Shares.{IsBetweenCalls}
+use Rattle.forest.specs.StepKinds.{HasKeptToKinds}
+use Rattle.forest.specs.Traces.{shared_nodes}
 
 -- The history is the log of the run. `edits` says which edit of the map each SCX-record with an
 -- entry has made, so that each moment of the run has a map, a version: what the edits of the entries
@@ -76,5 +79,12 @@ pub record IsAnswered (lay : Layout) (tries : ℕ) (run : History) (edits : ℕ 
   pub blames : (new.blamed ≡ blamed_by_reply reply old.blamed) × HasBlamed new
   -- of its share no more is gone than so many tries of the call may take
   pub spends : HasSpentAtMost old new call tries
+  -- it has made no more steps than so many tries of the call may make, each in this call of the pass
+  -- and of a kind for such a call
+  pub steps : steps_of new ≤ steps_of old + most_steps call tries (shared_nodes lay)
+  pub calls : AreOfCall new.number (taken_of old) (run_of old) (run_of new)
+  pub kinds : HasKeptToKinds old new call
+  -- a range that asks for no pairs has left the pass as it was
+  pub nothing : ¬ AsksForPairs call → new ≡ old
   -- what is left of it is what the run has not taken
   pub rest : IsBetweenCalls new.layout new.number (run_of new) new.share

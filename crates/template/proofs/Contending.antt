@@ -4,6 +4,7 @@ use Rattle.std.proofs.Common.{◌≡◌, ◌≢◌, ℕ, List, inl, inr, ⊎_eli
 use native.Mathlib.Decide.{ℕ_discrete}
 use Rattle.arena.specs.declared.layout.Layout.{Layout}
 use Rattle.arena.specs.declared.step.Kind.{Kind}
+use Rattle.arena.specs.declared.step.Kind.TheVariants.{LoadInfo}
 use Rattle.arena.specs.Words.{info, state}
 use Rattle.arena.specs.History.{History, Start, ◌⊳◌, value, HasHeld, Extends}
 use Rattle.arena.specs.ScxRecords.{member}
@@ -13,6 +14,8 @@ use Rattle.arena.specs.Machines.{Call}
 use Rattle.arena.proofs.Lemmas.{ends_self, ends_trans, held_at, held_since}
 use Rattle.histories.proofs.Lemmas.{Effect, Facts, committed_won, effect, facts_before, freeze, freeze_is_new, freeze_keeps_info, freeze_stores, lawful_since, lawful_tail, quiet, state_since, update, update_keeps_info}
 use Rattle.prims.specs.Laws.Blamed.{moment_since, way_since}
+use Rattle.prims.specs.FoundThere.{HasFoundThere}
+use Rattle.prims.specs.Laws.FoundThere.{found_there, there_later, there_wider}
 use Rattle.prims.specs.Laws.Idle.{IsQuietSince}
 use Rattle.prims.specs.Laws.InTheWay.{way_others}
 use Rattle.prims.specs.Llx.Known.{IsFinalBy}
@@ -72,6 +75,7 @@ contended_later c h m n s l e x = record {
   others = x.others;
   in_the_way = way_since h m c.start n s e x.in_the_way;
   over_or_new = ⊎_elim (λ d. inl (over_since c.layout h m s l e d)) (λ y. inr (come_later h m c.start n s e y)) x.over_or_new;
+  found = there_later c.pass h m c.start n s e x.found;
 }
 
 -- what contends with a part of the call that begins later contends with the call
@@ -80,21 +84,23 @@ contended_wider c begin h n s e x = record {
   others = x.others;
   in_the_way = way_wider c h begin n s e x.in_the_way;
   over_or_new = ⊎_elim (λ d. inl d) (λ y. inr (come_wider h begin c.start n s e y)) x.over_or_new;
+  found = there_wider c.pass h begin c.start n s e x.found;
 }
 
--- what was in the way of a pass that was idle all through its call, and is finished
-pub way_contended : (c : Call) (h m : History) (n s : ℕ) → Lawful c.layout h → IsQuietSince c.layout c.pass c.start h → Extends m c.start → WasInTheWay h m n s → value h (state s) ≢ 0 → IsContended c h n s
-way_contended c h m n s l idle e x over =
+-- what was in the way of a pass that was idle all through its call, and has found it, and is
+-- finished
+pub way_contended : (c : Call) (h m : History) (n s : ℕ) → Lawful c.layout h → IsQuietSince c.layout c.pass c.start h → Extends m c.start → WasInTheWay h m n s → value h (state s) ≢ 0 → HasFoundThere c.pass h c.start n s → IsContended c h n s
+way_contended c h m n s l idle e x over found =
     let way : WasInTheWay h c.start n s = way_wider c h m n s e x in
-    record { others = way_others c.layout c.pass h c.start n s l idle way; in_the_way = way; over_or_new = inl over }
+    record { others = way_others c.layout c.pass h c.start n s l idle way; in_the_way = way; over_or_new = inl over; found = found }
 
 -- An LLX of the call, which began at this moment, fails.
 pub failed_contended : (c : Call) (begin h : History) (n s : ℕ) → Extends begin c.start → HasFailed c.layout c.pass h begin n s → IsContended c h n s
-failed_contended c begin h n s e x = record { others = x.others; in_the_way = way_wider c h begin n s e x.in_the_way; over_or_new = inl x.over }
+failed_contended c begin h n s e x = record { others = x.others; in_the_way = way_wider c h begin n s e x.in_the_way; over_or_new = inl x.over; found = there_wider c.pass h begin c.start n s e (found_there c.pass h begin LoadInfo n s x.found) }
 
 -- An LLX finds a node finalized that was not final at a moment of the call.
-pub finalized_contended : (c : Call) (h : History) (n s : ℕ) → Lawful c.layout h → IsQuietSince c.layout c.pass c.start h → WasNotFinal c h n → IsFinalBy c.layout h n s → IsContended c h n s
-finalized_contended c h n s l idle x is = way_contended c h x.moment n s l idle x.since (blame_finalizer c.layout h x.moment n s l x.within x.was record { won = committed_won c.layout h s l is.committed; removed = is.by.removed }) over
+pub finalized_contended : (c : Call) (h : History) (n s : ℕ) → Lawful c.layout h → IsQuietSince c.layout c.pass c.start h → WasNotFinal c h n → IsFinalBy c.layout h n s → HasFoundThere c.pass h c.start n s → IsContended c h n s
+finalized_contended c h n s l idle x is found = way_contended c h x.moment n s l idle x.since (blame_finalizer c.layout h x.moment n s l x.within x.was record { won = committed_won c.layout h s l is.committed; removed = is.by.removed }) over found
   where
     over : value h (state s) ≢ 0
     over z = let a = is.committed in omega (arith, a, z)
@@ -147,4 +153,5 @@ module _ (c : Call) (kind : Kind) (begin h : History) (snaps : List Snap) (n s :
     others = x.blamed.others alone;
     in_the_way = way_wider c h moment n s of_call (subst (λ m. WasInTheWay h moment m s) x.is way);
     over_or_new = inr (come_wider h moment c.start n s of_call come);
+    found = there_wider c.pass h begin c.start n s (ends_trans begin moment c.start found.within of_call) (found_there c.pass h begin kind n s x.found);
   }

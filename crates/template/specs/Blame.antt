@@ -6,7 +6,9 @@ use Rattle.arena.specs.History.{History, value, HasHeld}
 use Rattle.arena.specs.Log.{log, is_final}
 use Rattle.arena.specs.Machines.{Call}
 use Rattle.arena.specs.Words.{info, state}
+use Rattle.prims.specs.FoundThere.{HasFoundThere}
 use Rattle.prims.specs.Laws.InTheWay.{HasBeen}
+use Rattle.spelling.specs.Tries.{HasLostTries}
 
 -- at a moment of the call the node was not final
 abbrev pub WasNotFinal : Call → History → ℕ → Type 0
@@ -24,8 +26,16 @@ IsOverOrNew h start n s = (value h (state s) ≢ 0) ⊎ HasCome h start n s
 
 -- The SCX-record s is another pass's, and covered the node n while in progress, after some row
 -- since the call's begin; it is finished now, or has come to n since then. So calls one behind the
--- other name s no more than once for each node that it covers, and once when it is finished.
+-- other name s no more than once for each node that it covers, and once when it is finished. The
+-- call has itself found s in the info of n.
 pub record IsContended (c : Call) (h : History) (n s : ℕ) : Type 0 where
   pub others : IsOthersScx c.layout c.pass s
   pub in_the_way : WasInTheWay h c.start n s
   pub over_or_new : IsOverOrNew h c.start n s
+  pub found : HasFoundThere c.pass h c.start n s
+
+-- Since the moment `start` the pass c has begun so many tries, and lost the newest of them to the
+-- SCX-record s over the node n: in that try it has itself found s in the info of n.
+pub record HasLostTriesTo (c : ℕ) (now start : History) (tries n s : ℕ) : Type 0 where
+  pub lost : HasLostTries c now start tries n s
+  pub found : HasFoundThere c now lost.begin n s

@@ -8,6 +8,7 @@ use Rattle.arena.specs.Lawful.{Lawful}
 use Rattle.arena.specs.Machines.{Call}
 use Rattle.arena.proofs.Lemmas.{ends_trans}
 use Rattle.histories.proofs.Lemmas.{lawful_since}
+use Rattle.prims.specs.Laws.FoundThere.{there_wider}
 use Rattle.prims.specs.Laws.Idle.{IsQuietSince}
 use Rattle.prims.specs.Llx.Known.{LlxAnswers}
 use Rattle.prims.specs.Scx.Known.{IsLost}
@@ -49,7 +50,7 @@ module _ {E : Type 0} (e : EditMeaning E) (looks : LooksWell e) (ed : E) (c : Ca
     look_failed x = subst (λ k. IsContended c h k s.0) (sym x.0) (failed_contended c begin h llx.node.0 s.0 since x.1)
 
     pub look_finalized : IsQuietSince c.layout c.pass c.start h → LlxAnswers llx (from c begin) h (Finalized n s) → IsContended c h n.0 s.0
-    look_finalized quiet x = subst (λ k. IsContended c h k s.0) (sym x.0) (finalized_contended c h llx.node.0 s.0 run.1.lawful quiet (looks.stood ed c h f snaps llx.node run needed looked named) x.1)
+    look_finalized quiet x = subst (λ k. IsContended c h k s.0) (sym x.0) (finalized_contended c h llx.node.0 s.0 run.1.lawful quiet (looks.stood ed c h f snaps llx.node run needed looked named) x.1 (there_wider c.pass h begin c.start llx.node.0 s.0 since x.2))
 
   -- the edit finds that its snapshots differ from what the walk has found
   pub look_differs : (n : NodeNo) (s : ScxNo) → IsQuietSince c.layout c.pass c.start h → e.looks ed f snaps ≡ Differs n s → IsContended c h n.0 s.0

@@ -12,6 +12,8 @@ use Rattle.histories.proofs.Lemmas.{unmentioned_unnamed}
 use Rattle.arena.specs.declared.machine.Turn.{Turn}
 use Rattle.arena.specs.declared.machine.Turn.TheVariants.{Ask, Done}
 use Rattle.arena.specs.declared.step.Step.{Step}
+use Rattle.prims.specs.FoundThere.{HasFoundThere}
+use Rattle.prims.specs.Laws.FoundThere.{there_wider}
 use Rattle.prims.specs.Laws.Idle.{IsQuietSince}
 use Rattle.prims.specs.Llx.Known.{IsSnapshot, LlxWaits, LlxAnswers}
 use Rattle.prims.specs.declared.llx.Llx.{Llx}
@@ -52,11 +54,11 @@ at_end (t ∷ snaps) s zero p = inl (omega arith, refl)
 at_end (t ∷ snaps) s (suc i) p = ⊎_elim (λ x. inl ((let y = x.0 in omega (arith, y)), x.1)) (λ x. inr ((let y = x.0 in omega (arith, y)), x.1)) (at_end snaps s i (omega (arith, p)))
 
 -- the pass may use a snapshot that it has just taken
-pub usable_one_more : (c : Call) (h : History) (goal : Goal) (f : Found) (snaps : List Snap) (s : Snap) (n : ℕ) → Extends h c.start → HasFound goal c h f → IsSnapshot c.layout h n s → AreUsable c h goal f snaps → AreUsable c h goal f (snaps ++ s ∷ [])
-usable_one_more c h goal f snaps s n since found is x i p = go (at_end snaps s i p)
+pub usable_one_more : (c : Call) (h : History) (goal : Goal) (f : Found) (snaps : List Snap) (s : Snap) (n : ℕ) → Extends h c.start → HasFound goal c h f → IsSnapshot c.layout h n s → HasFoundThere c.pass h c.start n s.scx.0 → AreUsable c h goal f snaps → AreUsable c h goal f (snaps ++ s ∷ [])
+usable_one_more c h goal f snaps s n since found is met x i p = go (at_end snaps s i p)
   where
     now : HasSnapped c h goal f s
-    now = record { moment = h; within = ends_self h; since = since; found = found; is = subst (λ m. IsSnapshot c.layout h m s) (sym is.node) is }
+    now = record { moment = h; within = ends_self h; since = since; found = found; is = subst (λ m. IsSnapshot c.layout h m s) (sym is.node) is; met = subst (λ m. HasFoundThere c.pass h c.start m s.scx.0) (sym is.node) met }
 
     go : ((i < length snaps) × (snap_at (snaps ++ s ∷ []) i ≡ snap_at snaps i)) ⊎ ((i ≡ length snaps) × (snap_at (snaps ++ s ∷ []) i ≡ s)) → HasSnapped c h goal f (snap_at (snaps ++ s ∷ []) i)
     go (inl q) = subst (HasSnapped c h goal f) (sym q.1) (x i q.0)
@@ -74,14 +76,14 @@ seen_one_more e ed f snaps s named x i p = go (at_end snaps s i p)
     go (inl q) = rw (take-append-le i snaps (s ∷ []) (let y = q.0 in omega (arith, y)), q.1) (x i q.0)
     go (inr q) = rw (q.0, take-append-le (length snaps) snaps (s ∷ []) (omega arith), take_all snaps) (named ∙ ap (λ (t : Snap). At t.node) (sym (rw q.0 at q.1)))
 
-pub looked_one_more : {E : Type 0} (e : EditMeaning E) {A : Type 0} (m now : UpdateRun E A) (c : Call) (h : History) (f : Found) (s : Snap) (n : ℕ) → now.edit ≡ m.edit → now.share ≡ m.share → now.snaps.items ≡ m.snaps.items ++ s ∷ [] → e.looks m.edit f m.snaps.items ≡ At s.node → IsSnapshot c.layout h n s → CanLook e m c h f → CanLook e now c h f
-looked_one_more e m now c h f s n ed share items named is x = record {
+pub looked_one_more : {E : Type 0} (e : EditMeaning E) {A : Type 0} (m now : UpdateRun E A) (c : Call) (h : History) (f : Found) (s : Snap) (n : ℕ) → now.edit ≡ m.edit → now.share ≡ m.share → now.snaps.items ≡ m.snaps.items ++ s ∷ [] → e.looks m.edit f m.snaps.items ≡ At s.node → IsSnapshot c.layout h n s → HasFoundThere c.pass h c.start n s.scx.0 → CanLook e m c h f → CanLook e now c h f
+looked_one_more e m now c h f s n ed share items named is met x = record {
   begins = record { run = x.begins.run; small = rw ed x.begins.small; since = x.begins.since; rests = rw share x.begins.rests };
   quiet = x.quiet;
   looked = rw (ed, items) record {
     small = x.looked.small;
     found = x.looked.found;
-    usable = usable_one_more c h (e.goal m.edit) f m.snaps.items s n x.begins.since x.looked.found is x.looked.usable;
+    usable = usable_one_more c h (e.goal m.edit) f m.snaps.items s n x.begins.since x.looked.found is met x.looked.usable;
     seen = seen_one_more e m.edit f m.snaps.items s named x.looked.seen;
   };
   room = rw (ed, share) x.room;
@@ -346,8 +348,12 @@ module _ {E : Type 0} (e : EditMeaning E) {A : Type 0} (m : UpdateRun E A) (llx 
   can_look = record { begins = record { run = x.run; small = x.looked.small; since = x.now; rests = x.rests }; quiet = x.quiet; looked = x.looked; room = x.room }
 
   -- its LLX has taken a snapshot
-  pub snapped : (snap : Snap) → turn ≡ Done (Snapshot snap) → (e.looks m.edit f m.snaps.items ≡ At snap.node) × IsSnapshot c.layout h snap.node.0 snap
-  snapped snap done = (x.named ∙ ap At (sym same) ∙ (λ i. At (record { 0 = sym is.node i })), subst (λ n. IsSnapshot c.layout h n snap) (sym is.node) is)
+  pub snapped : (snap : Snap) → turn ≡ Done (Snapshot snap) → (e.looks m.edit f m.snaps.items ≡ At snap.node) × IsSnapshot c.layout h snap.node.0 snap × HasFoundThere c.pass h c.start snap.node.0 snap.scx.0
+  snapped snap done = (
+    x.named ∙ ap At (sym same) ∙ (λ i. At (record { 0 = sym is.node i })),
+    subst (λ n. IsSnapshot c.layout h n snap) (sym is.node) is,
+    there_wider c.pass h begin c.start snap.node.0 snap.scx.0 x.since (subst (λ n. HasFoundThere c.pass h begin n snap.scx.0) (sym is.node) (rw done at w).2),
+  )
     where
       is : IsSnapshot c.layout h after.node.0 snap
       is = (rw done at w).0

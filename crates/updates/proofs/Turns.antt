@@ -30,7 +30,6 @@ use Rattle.prims.specs.declared.scx.ScxRun.{ScxRun}
 use Rattle.prims.specs.declared.update.Update.{Update}
 use Rattle.prims.proofs.Lemmas.{over_ends, turn_first}
 use Rattle.spelling.specs.TreeShape.{TreeAllows}
-use Rattle.spelling.specs.Tries.{HasLostTries}
 use Rattle.template.proofs.Lemmas.{contended_wider, own_since}
 use Rattle.template.specs.FoundLeaf.{path_key, HasFound}
 use Rattle.template.specs.Tracked.{Tracks}
@@ -45,7 +44,7 @@ use Rattle.updates.specs.declared.edit.Piece.{Piece}
 use Rattle.updates.specs.declared.update.Updated.{Updated}
 use Rattle.updates.specs.declared.update.UpdateAt.TheVariants.{Walk, Look, Fill, Scx}
 use Rattle.updates.specs.declared.update.UpdateRun.{UpdateRun}
-use Rattle.template.specs.Blame.{IsContended}
+use Rattle.template.specs.Blame.{IsContended, HasLostTriesTo}
 use Rattle.updates.specs.Next.{standing}
 use Rattle.updates.specs.Edits.{EditMeaning}
 use Rattle.updates.specs.Sound.{IsAtFound}
@@ -259,9 +258,12 @@ module _ {E : Type 0} (e : EditMeaning E) where
   pub next_may : {A : Type 0} (m : UpdateRun E A) (c : Call) (h : History) (n s : ℕ) → m.tries ≢ 0 → Begins e m c h → HasLostTry c h m.limit m.tries n s → MayTry c h h m.limit (m.tries - 1)
   next_may m c h n s some b x = record { since = b.since; none = x.none; all = let all = x.try.all in omega (arith, all, some) }
 
-  -- and if none is left, all are lost
-  pub all_lost : {A : Type 0} (m : UpdateRun E A) (c : Call) (h : History) (n s : ℕ) → m.tries ≡ 0 → HasLostTry c h m.limit m.tries n s → HasLostTries c.pass h c.start m.limit n s
-  all_lost m c h n s none x = record { begin = x.begin; since = x.try.since; newest = x.try.newest; all = let all = x.try.all in omega (arith, all, none); in_the_way = x.way.in_the_way }
+  -- and if none is left, all are lost to it
+  pub all_lost : {A : Type 0} (m : UpdateRun E A) (c : Call) (h : History) (n s : ℕ) → m.tries ≡ 0 → HasLostTry c h m.limit m.tries n s → HasLostTriesTo c.pass h c.start m.limit n s
+  all_lost m c h n s none x = record {
+    lost = record { begin = x.begin; since = x.try.since; newest = x.try.newest; all = let all = x.try.all in omega (arith, all, none); in_the_way = x.way.in_the_way };
+    found = x.way.found;
+  }
 
   -- at rest in a try it is so in the call
   pub at_rest : {A : Type 0} (m : UpdateRun E A) (c : Call) (b h : History) → Begins e m (from c b) h → RestsWith c h m.share

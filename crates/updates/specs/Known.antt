@@ -19,6 +19,7 @@ use Rattle.arena.specs.Log.{Entry, log}
 use Rattle.arena.specs.Machines.{Call, MatchTurn}
 use Rattle.arena.specs.Share.{Remaining}
 use Rattle.arena.specs.Words.{node}
+use Rattle.prims.specs.FoundThere.{HasFoundThere}
 use Rattle.prims.specs.Laws.Idle.{IsQuietSince}
 use Rattle.prims.specs.Llx.Known.{load, IsSnapshot, LlxIsReady, LlxWaits}
 use Rattle.prims.specs.Moments.{AreFinished}
@@ -33,7 +34,6 @@ use Rattle.spelling.specs.OrderedMap.{MapEdit, edit_key, get}
 use Rattle.spelling.specs.Runs.{IsTreeRun, IsEditAt}
 use Rattle.spelling.specs.Spelled.{Spells}
 use Rattle.spelling.specs.TreeShape.{TreeAllows, edit_leaf}
-use Rattle.spelling.specs.Tries.{HasLostTries}
 use Rattle.spelling.specs.declared.pair.Pair.{Pair}
 use Rattle.template.specs.FoundLeaf.{path_key, HasFound}
 use Rattle.template.specs.Promises.{IsFresh}
@@ -54,7 +54,7 @@ use Rattle.updates.specs.declared.update.Updated.TheVariants.{Done, Contended, F
 use Rattle.updates.specs.declared.update.UpdateAt.{UpdateAt}
 use Rattle.updates.specs.declared.update.UpdateAt.TheVariants.{Start, Walk, Look, Load, Fill, Scx}
 use Rattle.updates.specs.declared.update.UpdateRun.{UpdateRun}
-use Rattle.template.specs.Blame.{IsContended}
+use Rattle.template.specs.Blame.{IsContended, HasLostTriesTo}
 use Rattle.updates.specs.Edits.{EditMeaning}
 use Rattle.updates.specs.Laws.Hand.{IsBefore, IsUpTo, IsPieceWord, HoldsWords, HasFilledTo, IsForField, FieldMay}
 use Rattle.updates.specs.Laws.HandScx.{from}
@@ -91,13 +91,14 @@ IsShort need left ScxRecords k = (many_nodes need ≤ left.nodes) × (left.scx �
 -- What it has found
 
 -- the snapshot was right at a moment of the call, by which that had found this leaf, to which its
--- walk was to go
+-- walk was to go, and the snapshot's SCX-record in the node's info
 pub record HasSnapped (c : Call) (h : History) (goal : Goal) (f : Found) (snap : Snap) : Type 0 where
   pub moment : History
   pub within : Extends h moment
   pub since : Extends moment c.start
   pub found : HasFound goal c moment f
   pub is : IsSnapshot c.layout moment snap.node.0 snap
+  pub met : HasFoundThere c.pass moment c.start snap.node.0 snap.scx.0
 
 -- each of these snapshots was, and so it may be used
 abbrev pub AreUsable : Call → History → Goal → Found → List Snap → Type 0
@@ -436,7 +437,7 @@ module _ {E : Type 0} (e : EditMeaning E) where
   abbrev pub UpdateSays : {A : Type 0} → UpdateRun E A → Call → History → Updated → Type 0
   UpdateSays m c h (Done key value) = IsDoneWith m.edit m.call c h key value
   UpdateSays m c h (FullAnswer full) = IsFullFor m c h full
-  UpdateSays m c h (Contended node scx) = IsContended c h node.0 scx.0 × (m.tries ≡ 0) × HasEnteredNone c.layout c.pass h c.start × HasLostTries c.pass h c.start m.limit node.0 scx.0
+  UpdateSays m c h (Contended node scx) = IsContended c h node.0 scx.0 × (m.tries ≡ 0) × HasEnteredNone c.layout c.pass h c.start × HasLostTriesTo c.pass h c.start m.limit node.0 scx.0
 
   -- and behind it the pass is at rest, with what is left of the share
   abbrev pub UpdateAnswers : {A : Type 0} → UpdateRun E A → Call → History → Updated → Type 0

@@ -19,6 +19,7 @@ impl<E: Edit + Drop, A: Drop> UpdateRun<E, A> {
     ghost use Rattle.updates.specs.Pieces.{less_a_node};
     ghost use Rattle.arena.specs.History.{History, value};
     ghost use Rattle.arena.specs.Machines.{Call, IsRun};
+    ghost use Rattle.prims.specs.FoundThere.{HasFoundThere};
     ghost use Rattle.prims.specs.Llx.Known.{IsSnapshot};
     ghost use Rattle.spelling.specs.TreeShape.{TreeAllows};
     ghost use Rattle.updates.specs.Known.{Begins, IsUntouched, CanLook, nothing_loaded, CanLoad, Loads, copied};
@@ -134,7 +135,7 @@ impl<E: Edit + Drop, A: Drop> UpdateRun<E, A> {
     /// Keeps a snapshot, and tells what is done behind it.
     #[inline(always)]
     pub fn looked(&mut self, found: &Found, snap: Snap) -> Result<Next, Stop>
-        ensures turn { (c : Call) (b h : History) → IsRun TreeAllows c.layout h → IsTry c b h self.old.limit self.old.tries → CanLook E.means self.old (from c b) h found.now → E.means.looks self.old.edit found.now self.old.snaps.items ≡ Look.At snap.node → IsSnapshot c.layout h snap.node.0 snap → GoesOn E.means c h self.new found.now result }
+        ensures turn { (c : Call) (b h : History) → IsRun TreeAllows c.layout h → IsTry c b h self.old.limit self.old.tries → CanLook E.means self.old (from c b) h found.now → E.means.looks self.old.edit found.now self.old.snaps.items ≡ Look.At snap.node → IsSnapshot c.layout h snap.node.0 snap → HasFoundThere c.pass h b snap.node.0 snap.scx.0 → GoesOn E.means c h self.new found.now result }
         ensures same { IsSameUpdate self.old self.new }
         ensures nearer { (nodes : ℕ) → ComesNearer E.means self.new found.now result nodes (self.old.tries * try_left E.means nodes + (64 * (E.means.most_looks - 1 - length self.old.snaps.items) + works_behind E.means First + 39)) }
         ensures spends { HasSpent E.means self.old.share self.new found.now result (self.old.tries + 1) (self.old.tries + 1) }

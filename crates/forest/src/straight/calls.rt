@@ -1,7 +1,7 @@
 //! Edits and ordered reads of a dictionary.
 ghost use Rattle.std.specs.Prelude.{◌≡◌, ◌≤◌, ◌<◌, ◌+◌, ◌^◌};
 ghost use Rattle.arena.specs.Machines.{Call};
-ghost use Rattle.dict.specs.Calls.{call_in};
+ghost use Rattle.dict.specs.Calls.{AsksForPairs, call_in};
 ghost use Rattle.dict.specs.Says.{KeepsLists};
 ghost use Rattle.dict.specs.Steps.{map_left, most_steps};
 ghost use Rattle.dict.specs.Translated.{HasFormOf, IsTranslated};
@@ -96,6 +96,7 @@ fn in_words<K: WordKey, V: WordValue>(
     ensures table { (seat.new.table_id ≡ seat.old.table_id) × (seat.new.me.1 ≡ seat.old.me.1) }
     ensures ends { (c : Call) (first : Run K V) → c.layout ≡ layout.now → c.number ≡ number → first.run ≡ run.old → SeatDictBegins K.is_valid K.word_of V.is_valid V.word_of c seat.old.me.0.passes first → SeatWordEnds K.is_valid K.word_of V.is_valid V.word_of c seat.new.me.0.passes first record first { run = run.new } result }
     ensures steps { seat_steps seat.new.me.0.passes ≤ seat_steps seat.old.me.0.passes + map_left run.old (shared_nodes layout.now) }
+    ensures nothing { ¬ AsksForPairs (call_in run.old) → seat.new ≡ seat.old }
 {
     match run {
         MapRun::Successor {
@@ -135,6 +136,7 @@ pub(crate) fn read<K: WordKey, V: WordValue>(
     ensures table { (seat.new.table_id ≡ seat.old.table_id) × (seat.new.me.1 ≡ seat.old.me.1) }
     ensures ends { (c : Call) → c.layout ≡ layout.now → c.number ≡ number → SeatDictBegins K.is_valid K.word_of V.is_valid V.word_of c seat.old.me.0.passes run.old → SeatDictEnds K.is_valid K.word_of V.is_valid V.word_of c seat.new.me.0.passes run.old run.new result }
     ensures steps { seat_steps seat.new.me.0.passes ≤ seat_steps seat.old.me.0.passes + map_left run.old.run (shared_nodes layout.now) }
+    ensures nothing { ¬ AsksForPairs (call_in run.old.run) → seat.new ≡ seat.old }
 {
     let told = in_words::<K, V>(words, layout, seat, number, &mut run.run);
     translated(run.alloc, told)

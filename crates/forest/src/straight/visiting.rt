@@ -5,6 +5,7 @@ ghost use Rattle.std.specs.Prelude.{◌≡◌, ◌≤◌, ◌<◌, ◌+◌, suc}
 ghost use Rattle.forest.specs.StraightReads.{RangeReader, VisitBegins, VisitEnds, VisitGoesOn, VisitRoots, VisitWaits, visit_left};
 ghost use Rattle.forest.specs.TableRule.{IsTableOf};
 ghost use Rattle.forest.specs.Traces.{seat_steps, shared_nodes};
+ghost use Rattle.order.specs.Range.Known.{AsksForSome};
 ghost use Rattle.order.specs.Range.Next.{placed};
 ghost use Rattle.order.specs.Range.Steps.{range_left};
 ghost use Rattle.order.specs.declared.range.RangeAt.{RangeAt};
@@ -174,6 +175,7 @@ pub(crate) fn call<S: Shape, M: Machine<S>>(
     ensures table { (seat.new.table_id ≡ seat.old.table_id) × (seat.new.me.1 ≡ seat.old.me.1) }
     ensures ends { (r : RangeReader S.allows M.ready M.waits M.same layout.now number) → VisitBegins S.allows M.ready M.waits M.same layout.now number r seat.old.me.0.passes run.old → VisitEnds S.allows M.ready M.waits M.same layout.now number r seat.new.me.0.passes run.new result }
     ensures steps { seat_steps seat.new.me.0.passes ≤ seat_steps seat.old.me.0.passes + range_left run.old (shared_nodes layout.now) }
+    ensures nothing { ¬ AsksForSome run.old → seat.new ≡ seat.old }
 {
     match run.begin() {
         Turn::Ask(_) => visit::<S, M>(words, layout, seat, number, run),

@@ -17,14 +17,13 @@ use Rattle.prims.specs.Moments.{AreFinished}
 use Rattle.prims.specs.Vlx.Known.{VlxIsReady, VlxWaits}
 use Rattle.spelling.specs.declared.pair.Pair.{Pair}
 use Rattle.spelling.specs.OrderedMap.{Range, ManyPairs, range}
-use Rattle.spelling.specs.Tries.{HasLostTries}
 use Rattle.spelling.specs.TreeShape.{TreeAllows}
 use Rattle.spelling.specs.TreeWords.{class, is_leaf, level, rank}
 use Rattle.template.specs.Trails.{IsOwnMoment}
 use Rattle.order.specs.Reads.{from, Reads, AllHold, Whenever, HasStood}
 use Rattle.order.specs.Replies.{IsReplyAt}
 use Rattle.order.specs.Tries.{BeginsTry, IsInTry}
-use Rattle.template.specs.Blame.{IsContended}
+use Rattle.template.specs.Blame.{IsContended, HasLostTriesTo}
 use Rattle.order.specs.Visits.{Bounds, IsVisiting, HasVisited, IsRangeAt}
 use Rattle.order.specs.declared.refused.Refused.{Refused}
 use Rattle.order.specs.declared.refused.Refused.TheVariants.{Contended, NoMemory}
@@ -169,7 +168,7 @@ RangeReplies m c h told = IsReplyAt c h (Range m.low m.high m.most) (ManyPairs t
 -- what its answer says: that; or that all tries were lost, and who was in the way of the last
 abbrev pub RangeSays : RangeRun → Call → History → Result (Vec Pair Global) Refused → Type 0
 RangeSays m c h (Ok told) = RangeReplies m c h told.items
-RangeSays m c h (Err (Contended n s)) = IsContended c h n.0 s.0 × (m.tries ≡ 0) × HasLostTries c.pass h c.start m.limit n.0 s.0
+RangeSays m c h (Err (Contended n s)) = IsContended c h n.0 s.0 × (m.tries ≡ 0) × HasLostTriesTo c.pass h c.start m.limit n.0 s.0
 RangeSays m c h (Err NoMemory) = Unit {0}
 
 -- and behind it the pass is at rest

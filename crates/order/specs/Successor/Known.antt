@@ -18,7 +18,6 @@ use Rattle.prims.specs.Vlx.Known.{VlxIsReady, VlxWaits}
 use Rattle.spelling.specs.declared.pair.Pair.{Pair}
 use Rattle.spelling.specs.OrderedMap.{Successor, pair_or_none}
 use Rattle.spelling.specs.Paths.{IsOnPath}
-use Rattle.spelling.specs.Tries.{HasLostTries}
 use Rattle.spelling.specs.TreeShape.{TreeAllows}
 use Rattle.spelling.specs.TreeWords.{class, is_leaf, level, toward}
 use Rattle.template.specs.Trails.{IsOwnMoment, WasPassed}
@@ -29,7 +28,7 @@ use Rattle.template.specs.declared.walk.WalkAt.TheVariants.{Root}
 use Rattle.order.specs.Reads.{from, Reads, AllHold, Whenever, HasStood}
 use Rattle.order.specs.Replies.{IsReplyAt}
 use Rattle.order.specs.Tries.{BeginsTry, IsInTry}
-use Rattle.template.specs.Blame.{IsContended}
+use Rattle.template.specs.Blame.{IsContended, HasLostTriesTo}
 use Rattle.order.specs.Search.{IsSearched, IsFirstBehind, IsNextAt}
 use Rattle.order.specs.declared.refused.Refused.{Refused}
 use Rattle.order.specs.declared.refused.Refused.TheVariants.{Contended, NoMemory}
@@ -189,7 +188,7 @@ SuccessorIsReady m c h (Some v) = (begin : History) × IsInTry c h begin m.limit
 -- who was in the way of the last
 abbrev pub SuccessorSays : SuccessorRun → Call → History → Result (Option Pair) Refused → Type 0
 SuccessorSays m c h (Ok found) = IsReplyAt c h (Successor m.key) (pair_or_none found)
-SuccessorSays m c h (Err (Contended n s)) = IsContended c h n.0 s.0 × (m.tries ≡ 0) × HasLostTries c.pass h c.start m.limit n.0 s.0
+SuccessorSays m c h (Err (Contended n s)) = IsContended c h n.0 s.0 × (m.tries ≡ 0) × HasLostTriesTo c.pass h c.start m.limit n.0 s.0
 SuccessorSays m c h (Err NoMemory) = Unit {0}
 
 -- and behind it the pass is at rest

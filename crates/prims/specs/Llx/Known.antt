@@ -22,6 +22,7 @@ use Rattle.arena.specs.declared.number.ScxNo.{ScxNo}
 use Rattle.help.specs.declared.state.HelpRun.{HelpRun}
 use Rattle.histories.specs.Finalizing.{IsFinalizing}
 use Rattle.help.specs.Help.Known.{HelpIsReady, HelpWaits}
+use Rattle.prims.specs.FoundThere.{HasFoundThere}
 use Rattle.prims.specs.Laws.Idle.{IsQuietSince}
 use Rattle.prims.specs.Laws.InTheWay.{HasBeen, IsBehind, IsDisturbed}
 use Rattle.prims.specs.Laws.Linked.{IsLinked}
@@ -32,10 +33,11 @@ use Rattle.prims.specs.declared.llx.LlxRun.{LlxRun}
 use Rattle.prims.specs.declared.llx.LlxAt.{LlxAt}
 use Rattle.prims.specs.declared.llx.LlxAt.TheVariants.{Start, Marked, Info, State, MarkedAgain, Left as AtLeft, Right as AtRight, InfoAgain, StateAgain, Help, LastInfo, LastState, LastHelp}
 
--- the node's info has named s in the call
+-- the node's info has named s in the call, which has itself found it there
 pub record HasMet (c : Call) (h : History) (n : ℕ) (was_marked : Bool) (s : ℕ) : Type 0 where
   pub held : HasHeld h (info n) s
   pub named : HasBeen h c.start (λ m. value m (info n) ≡ s)
+  pub found : HasFoundThere c.pass h c.start n s
   -- where the first look had found the mark, s finalizes
   -- the node; else the node was unmarked in the call
   pub finalizes : was_marked ≡ true → IsFinalizing h n s
@@ -94,13 +96,14 @@ LlxHasAsked allows c h n LastInfo step = step ≡ load LoadInfo (info n)
 LlxHasAsked allows c h n (LastState s) step = step ≡ load LoadState (state s.0)
 LlxHasAsked allows c h n (LastHelp s m) step = HelpWaits allows c.layout c.pass m h step
 
--- the newest row of h is a load of the node's info, by the call
-pub record HasJustLooked (c : Call) (h : History) (n : ℕ) : Type 0 where
+-- the newest row of h is the pass c's own, has come since the moment `start`, and loads the info of
+-- node n
+pub record HasJustLooked (c : ℕ) (h start : History) (n : ℕ) : Type 0 where
   pub row : Row
   pub before : History
   pub is : h ≡ row ⊳ before
-  pub since : Extends before c.start
-  pub own : row.pass.0 ≡ c.pass
+  pub since : Extends before start
+  pub own : row.pass.0 ≡ c
   pub kind : row.kind ≡ LoadInfo
   pub word : row.word ≡ info n
 
@@ -108,12 +111,12 @@ pub record HasJustLooked (c : Call) (h : History) (n : ℕ) : Type 0 where
 abbrev pub LlxIsTold : (Layout → History → ℕ → Type 0) → Call → History → ℕ → LlxAt → ℕ → Type 0
 LlxIsTold allows c h n Start v = ⊥
 LlxIsTold allows c h n Marked v = value h (marked n) ≡ v
-LlxIsTold allows c h n (Info b) v = value h (info n) ≡ v
+LlxIsTold allows c h n (Info b) v = (value h (info n) ≡ v) × HasFoundThere c.pass h c.start n v
 LlxIsTold allows c h n (State b s) v = value h (state s.0) ≡ v
 LlxIsTold allows c h n (MarkedAgain b s x) v = value h (marked n) ≡ v
 LlxIsTold allows c h n (AtLeft b s) v = value h (child n Left) ≡ v
 LlxIsTold allows c h n (AtRight b s l) v = value h (child n Right) ≡ v
-LlxIsTold allows c h n (InfoAgain b s l r) v = (value h (info n) ≡ v) × HasJustLooked c h n
+LlxIsTold allows c h n (InfoAgain b s l r) v = (value h (info n) ≡ v) × HasJustLooked c.pass h c.start n
 LlxIsTold allows c h n (StateAgain b s) v = value h (state s.0) ≡ v
 LlxIsTold allows c h n (Help b m) v = HelpIsReady allows c.layout c.pass m h (Some v)
 LlxIsTold allows c h n LastInfo v = (value h (info n) ≡ v) × HasFound c.pass h c.start LoadInfo n v
@@ -164,10 +167,11 @@ pub record IsFinalBy (lay : Layout) (h : History) (n s : ℕ) : Type 0 where
   pub by : IsFinalizing h n s
   pub committed : value h (state s) ≡ 1
 
--- what an answer of LLX says: the node's snapshot now, that it is finalized, or who was in the way
+-- What an answer of LLX says: the node's snapshot now, that it is finalized, or who was in the way.
+-- The call has itself found the SCX-record that it names in the node's info.
 abbrev pub LlxAnswers : LlxRun → Call → History → Llx → Type 0
-LlxAnswers m c h (Snapshot snap) = IsSnapshot c.layout h m.node.0 snap × HasJustLooked c h m.node.0
-LlxAnswers m c h (Finalized node s) = (node.0 ≡ m.node.0) × IsFinalBy c.layout h m.node.0 s.0
+LlxAnswers m c h (Snapshot snap) = IsSnapshot c.layout h m.node.0 snap × HasJustLooked c.pass h c.start m.node.0 × HasFoundThere c.pass h c.start m.node.0 snap.scx.0
+LlxAnswers m c h (Finalized node s) = (node.0 ≡ m.node.0) × IsFinalBy c.layout h m.node.0 s.0 × HasFoundThere c.pass h c.start m.node.0 s.0
 LlxAnswers m c h (Fail node s) = (node.0 ≡ m.node.0) × HasFailed c.layout c.pass h c.start m.node.0 s.0
 
 -- What its turns leave

@@ -19,6 +19,7 @@ use Rattle.histories.proofs.Lemmas.{earlier, finished_stays, lawful_more, marked
 use Rattle.help.specs.Help.Kept.{help_keeps}
 use Rattle.help.specs.Help.Lawful.{help_lawful, help_looks_not}
 use Rattle.help.specs.Help.Made.{help_made}
+use Rattle.prims.specs.Laws.FoundThere.{there_more, found_there}
 use Rattle.prims.specs.Laws.Idle.{IsIdle, idle_by_others, idle_by_no_freeze, idle_by_help, quiet_more}
 use Rattle.prims.specs.Laws.InTheWay.{been_more, disturbed_more}
 use Rattle.prims.specs.Laws.Linked.{in_field_more, in_field_named, side_more, unmarked_more, finalizing_more}
@@ -47,6 +48,7 @@ module _ (c : Call) (h : History) (r : Row) (n : ℕ) (l : Lawful c.layout (r �
   met_more b s x = record {
     held = held_more r h (info n) s x.held;
     named = been_more r h c.start _ x.named;
+    found = there_more c.pass h c.start n s r x.found;
     finalizes = λ e. finalizing_more c.layout h r n s l (x.finalizes e);
     unmarked = λ e. been_more r h c.start _ (x.unmarked e);
   }
@@ -152,7 +154,7 @@ load_found c h n s v since e t =
 told_at : (allows : Layout → History → ℕ → Type 0) (c : Call) (h : History) (n : ℕ) (at : LlxAt) (s : Step) (v : ℕ) → IsRun allows c.layout (row_of c s h ⊳ h) → IsTold s.access (value h s.word) v → Extends h c.start → LlxHasAsked allows c h n at s → LlxIsTold allows c (row_of c s h ⊳ h) n at v
 told_at allows c h n Start s v run t e a = absurd a
 told_at allows c h n Marked s v run t e a = load_told c h LoadMarked (marked n) s v a t
-told_at allows c h n (Info b) s v run t e a = load_told c h LoadInfo (info n) s v a t
+told_at allows c h n (Info b) s v run t e a = (load_told c h LoadInfo (info n) s v a t, found_there c.pass (row_of c s h ⊳ h) c.start LoadInfo n v (load_found c h n s v e a t))
 told_at allows c h n (State b u) s v run t e a = load_told c h LoadState (state u.0) s v a t
 told_at allows c h n (MarkedAgain b u x) s v run t e a = load_told c h LoadMarked (marked n) s v a t
 told_at allows c h n (AtLeft b u) s v run t e a = load_told c h LoadChild (child n Left) s v a t

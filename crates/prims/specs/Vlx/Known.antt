@@ -9,6 +9,7 @@ use Rattle.arena.specs.Words.{info}
 use Rattle.arena.specs.History.{History, value, Extends}
 use Rattle.arena.specs.Found.{HasFound}
 use Rattle.arena.specs.Machines.{Call}
+use Rattle.prims.specs.FoundThere.{HasFoundThere}
 use Rattle.prims.specs.Laws.Linked.{IsLinked}
 use Rattle.prims.specs.Snap.{snap_at}
 use Rattle.prims.specs.Moments.{IsMoment, IsAsFound, AreFinished, HasTakenOnly, HasChanged}
@@ -33,12 +34,18 @@ pub record HasBegun (c : Call) (h : History) (s : ℕ) (snaps : List Snap) : Typ
   pub clear : IsClear c.layout c.pass c.start snaps
   pub only : HasTakenOnly c.layout c.pass s c.start h
 
--- as the call began, all snapshots were usable, and the infos
--- of the first k nodes were what they had found
+-- since the moment `start` the pass c has itself found the SCX-records of the first k snapshots in
+-- the infos of their nodes
+abbrev pub HasFoundFirst : ℕ → History → History → List Snap → ℕ → Type 0
+HasFoundFirst c h start snaps k = (i : ℕ) → i < k → HasFoundThere c h start (snap_at snaps i).node.0 (snap_at snaps i).scx.0
+
+-- as the call began, all snapshots were usable, and the infos of the first k nodes were what they
+-- had found; the call has looked at each of these
 pub record HasLooked (c : Call) (h : History) (snaps : List Snap) (k : ℕ) : Type 0 where
   pub begun : HasBegun c h 0 snaps
   pub linked : AllLinked c.layout c.start snaps
   pub same : (i : ℕ) → i < k → value c.start (info (snap_at snaps i).node.0) ≡ (snap_at snaps i).scx.0
+  pub asked : HasFoundFirst c.pass h c.start snaps k
 
 -- a run over these snapshots, which has asked for n infos, has asked for that of the k-th last
 pub record Looks (c : Call) (h : History) (snaps : List Snap) (n k : ℕ) : Type 0 where
@@ -72,12 +79,14 @@ abbrev pub VlxIsReady : List Snap → ℕ → Call → History → Option ℕ �
 VlxIsReady snaps n c h None = IsFirstLook snaps n c h
 VlxIsReady snaps n c h (Some v) = VlxIsTold snaps n c h v
 
--- the call's answer `Same` is right: as it began, each node was as its snapshot found it
+-- the call's answer `Same` is right: it has looked at each node, and as it began, each was as its
+-- snapshot found it
 pub record IsSame (c : Call) (h : History) (snaps : List Snap) : Type 0 where
   pub since : Extends h c.start
   pub linked : AllLinked c.layout c.start snaps
   pub info : (i : ℕ) → i < length snaps → value c.start (info (snap_at snaps i).node.0) ≡ (snap_at snaps i).scx.0
   pub found : (i : ℕ) → i < length snaps → IsAsFound c.layout h c.start (snap_at snaps i)
+  pub asked : HasFoundFirst c.pass h c.start snaps (length snaps)
 
 -- the call's answer `Changed` is right: another
 -- SCX-record, v, has come to the node n since its snapshot
@@ -86,8 +95,10 @@ pub record IsFirstChange (c : Call) (h : History) (snaps : List Snap) (n v : ℕ
   -- the info of n names it, and the snapshot had not
   pub info : value h (info n) ≡ v
   pub other : (snap_at snaps changed.index).scx.0 ≢ v
-  -- the nodes before it were as their snapshots found them as the call began
+  -- the nodes before it were as their snapshots found them as the call began, and the call has
+  -- looked at each
   pub before : (i : ℕ) → i < changed.index → IsAsFound c.layout h c.start (snap_at snaps i)
+  pub asked : HasFoundFirst c.pass h c.start snaps changed.index
 
 -- what an answer of VLX says: that all nodes were as
 -- found, or which one another SCX-record has come to

@@ -14,6 +14,8 @@ use Rattle.arena.proofs.Lemmas.{ends_self}
 use Rattle.histories.proofs.Lemmas.{lawful_since, still_since}
 use Rattle.prims.specs.Laws.Linked.{in_field_named}
 use Rattle.prims.specs.Llx.Laws.{load_lawful, load_told, load_found}
+use Rattle.prims.specs.FoundThere.{HasFoundThere}
+use Rattle.prims.specs.Laws.FoundThere.{found_there, there_more}
 use Rattle.prims.specs.Moments.{IsAsFound}
 use Rattle.prims.specs.Laws.Begun.{TakesOnly, takes_by_others, takes_by_step, begun_more}
 use Rattle.prims.specs.Laws.Blamed.{blamed_now}
@@ -21,11 +23,15 @@ use Rattle.prims.specs.Looked.{found_at}
 use Rattle.prims.specs.declared.snap.Snap.{Snap}
 use Rattle.prims.specs.Snap.{snap_at}
 use Rattle.prims.specs.Llx.Known.{load}
-use Rattle.prims.specs.Vlx.Known.{IsSame, HasLooked, Looks, VlxWaits, VlxIsTold, VlxIsReady, VlxAnswers, IsFirstChange, AsksNext, IsThrough}
+use Rattle.prims.specs.Vlx.Known.{HasFoundFirst, IsSame, HasLooked, Looks, VlxWaits, VlxIsTold, VlxIsReady, VlxAnswers, IsFirstChange, AsksNext, IsThrough}
 use Rattle.prims.specs.declared.vlx.Vlx.{Vlx}
 
+-- what it has found so it has found after any row
+first_found_more : (c : ℕ) (h start : History) (r : Row) (snaps : List Snap) (k : ℕ) → HasFoundFirst c h start snaps k → HasFoundFirst c (r ⊳ h) start snaps k
+first_found_more c h start r snaps k x i p = there_more c h start _ _ r (x i p)
+
 looks_more : (c : Call) (h : History) (r : Row) (snaps : List Snap) (asked k : ℕ) → TakesOnly c.layout c.pass 0 h r → Looks c h snaps asked k → Looks c (r ⊳ h) snaps asked k
-looks_more c h r snaps asked k takes x = record { looked = record { begun = begun_more c h r 0 snaps takes x.looked.begun; linked = x.looked.linked; same = x.looked.same }; within = x.within; is = x.is }
+looks_more c h r snaps asked k takes x = record { looked = record { begun = begun_more c h r 0 snaps takes x.looked.begun; linked = x.looked.linked; same = x.looked.same; asked = first_found_more c.pass h c.start r snaps k x.looked.asked }; within = x.within; is = x.is }
 
 -- rows of other passes leave a run of VLX waiting for the same step
 pub vlx_keeps : (allows : Layout → History → ℕ → Type 0) (snaps : List Snap) (asked : ℕ) (c : Call) (h : History) (s : Step) (r : Row) → IsRun allows c.layout (r ⊳ h) → r.pass.0 ≢ c.pass → VlxWaits snaps asked c h s → VlxWaits snaps asked c (r ⊳ h) s
@@ -47,7 +53,7 @@ VlxTurn snaps asked c h turn = MatchTurn turn (VlxWaits snaps asked c h) (VlxAns
 
 -- once all infos were looked at and were as found, the nodes were as their snapshots found them
 pub all_same : (c : Call) (h : History) (snaps : List Snap) → Lawful c.layout h → HasLooked c h snaps (length snaps) → IsSame c h snaps
-all_same c h snaps l x = record { since = x.begun.since; linked = x.linked; info = x.same; found = λ i w. found i w }
+all_same c h snaps l x = record { since = x.begun.since; linked = x.linked; info = x.same; found = λ i w. found i w; asked = x.asked }
   where
     ls : Lawful c.layout c.start
     ls = lawful_since c.layout h c.start l x.begun.since
@@ -71,6 +77,7 @@ first_looked c h snaps asked r = record {
   begun = record { since = rw r.begins (ends_self c.start); clear = rw r.begins at r.clear; only = λ t own d free. rw r.begins free };
   linked = rw r.begins at r.linked;
   same = λ i p. let e = r.asked in absurd (omega arith);
+  asked = λ i p. let e = r.asked in absurd (omega arith);
 }
 
 -- there is some snapshot, so the run asks for an info in its first turn
@@ -80,7 +87,7 @@ first_asks c h snaps old now turn r (inr a) = let x = a.through in let e = r.ask
 
 -- one more snapshot is still what the info names, so it was at the moment
 one_more : (c : Call) (h : History) (snaps : List Snap) (asked : ℕ) (v : ℕ) → Lawful c.layout h → (x : VlxIsTold snaps asked c h v) → (snap_at snaps x.index).scx.0 ≡ v → HasLooked c h snaps asked
-one_more c h snaps asked v l x e = record { begun = y.begun; linked = y.linked; same = λ i p. go i p (ℕ_discrete i x.index) }
+one_more c h snaps asked v l x e = record { begun = y.begun; linked = y.linked; same = λ i p. go i p (ℕ_discrete i x.index); asked = λ i p. looked i p (ℕ_discrete i x.index) }
   where
     y : HasLooked c h snaps x.index
     y = x.looks.looked
@@ -94,12 +101,17 @@ one_more c h snaps asked v l x e = record { begun = y.begun; linked = y.linked; 
     go i p (yes q) = rw q here
     go i p (no d) = let z = x.looks.is in y.same i (omega arith)
 
+    looked : (i : ℕ) → i < asked → Dec (i ≡ x.index) → HasFoundThere c.pass h c.start (snap_at snaps i).node.0 (snap_at snaps i).scx.0
+    looked i p (yes q) = rw (q, e) (found_there c.pass h c.start LoadInfo (snap_at snaps x.index).node.0 v x.found)
+    looked i p (no d) = let z = x.looks.is in y.asked i (omega arith)
+
 changed : (c : Call) (h : History) (snaps : List Snap) (asked : ℕ) (v : ℕ) → Lawful c.layout h → (x : VlxIsTold snaps asked c h v) → (snap_at snaps x.index).scx.0 ≢ v → IsFirstChange c h snaps (snap_at snaps x.index).node.0 v
 changed c h snaps asked v l x d = record {
   changed = record { index = x.index; within = x.looks.within; is = refl; found = x.found; blamed = blamed_now c h 0 snaps l x.looks.looked.begun x.index x.looks.within v (λ own e. let f = own.from in omega arith) x.told d };
   info = x.told;
   other = d;
   before = before;
+  asked = x.looks.looked.asked;
 }
   where
     before : (i : ℕ) → i < x.index → IsAsFound c.layout h c.start (snap_at snaps i)

@@ -73,7 +73,7 @@ module _ {E : Type 0} (e : E) (c : Call) (f : Found) (needed : delete_need f.val
   }
     where
       own_snapped : (s : Snap) → HasSnapped c h Least f s → HasSnapped c h (ToKey f.key) f s
-      own_snapped s u = record { moment = u.moment; within = u.within; since = u.since; found = own_found u.moment (run_since c.layout h u.moment run u.within) u.found; is = u.is }
+      own_snapped s u = record { moment = u.moment; within = u.within; since = u.since; found = own_found u.moment (run_since c.layout h u.moment run u.within) u.found; is = u.is; met = u.met }
 
   own_filled : (h : History) (snaps : List Snap) (ns : Nodes) (ld : Loaded) → IsTreeRun c.layout h → HasFilledAll (first_means {E = E}) c h e f snaps ns ld → HasFilledAll delete_means c h (delete_of f.key) f snaps ns ld
   own_filled h snaps ns ld run x = record { looked = own_looked h snaps run x.looked; enough = x.enough; in_order = x.in_order; loaded = x.loaded; done = x.done; holds = x.holds }

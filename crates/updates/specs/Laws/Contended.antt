@@ -9,6 +9,7 @@ use Rattle.arena.specs.declared.word.Side.{Side}
 use Rattle.arena.proofs.Lemmas.{ends_self, ends_trans}
 use Rattle.histories.proofs.Lemmas.{state_since}
 use Rattle.prims.specs.Laws.Blamed.{way_since}
+use Rattle.prims.specs.Laws.FoundThere.{there_later}
 use Rattle.prims.specs.Laws.Idle.{IsQuietSince}
 use Rattle.prims.specs.Snap.{child_of}
 use Rattle.prims.specs.declared.snap.Snap.{Snap}
@@ -44,7 +45,7 @@ shown_not_final c h k f snap turn side next run x turned = record {
 -- Where the call went down by a field of a fork, and its snapshot of the fork shows another node
 -- there, what the snapshot found in the fork's info was in the way.
 pub turned_contended : {goal : Goal} (c : Call) (h : History) (k : ℕ) (f : Found) (snap : Snap) (side : Side) (next : ℕ) → IsTreeRun c.layout h → IsQuietSince c.layout c.pass c.start h → (x : HasSnapped c h goal f snap) → HasTurned c x.moment k snap.node.0 side next → (child_of snap side).0 ≢ next → IsContended c h snap.node.0 snap.scx.0
-turned_contended c h k f snap side next run quiet x turned d = way_contended c h c.start snap.node.0 snap.scx.0 run.1.lawful quiet (ends_self c.start) way over
+turned_contended c h k f snap side next run quiet x turned d = way_contended c h c.start snap.node.0 snap.scx.0 run.1.lawful quiet (ends_self c.start) way over (there_later c.pass h x.moment c.start snap.node.0 snap.scx.0 x.within x.met)
   where
     way : WasInTheWay h c.start snap.node.0 snap.scx.0
     way = way_since h x.moment c.start snap.node.0 snap.scx.0 x.within

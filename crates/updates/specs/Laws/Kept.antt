@@ -65,7 +65,7 @@ snapped_usable c h goal f snap l x = usable_since c.layout h x.moment snap x.mom
 
 -- snapshots may be used for ever
 pub usable_more : (c : Call) (h : History) (r : Row) (goal : Goal) (f : Found) (snaps : List Snap) → AreUsable c h goal f snaps → AreUsable c (r ⊳ h) goal f snaps
-usable_more c h r goal f snaps x i p = let u = x i p in record { moment = u.moment; within = inr u.within; since = u.since; found = u.found; is = u.is }
+usable_more c h r goal f snaps x i p = let u = x i p in record { moment = u.moment; within = inr u.within; since = u.since; found = u.found; is = u.is; met = u.met }
 
 loaded_word : (o : Option ℕ) (v w : ℕ) → w ≡ v → IsLoaded o v → IsLoaded o w
 loaded_word None v w e x = tt

@@ -1,6 +1,6 @@
 use Rattle.std.proofs.Common.{◌≡◌, ◌∙◌, true, false, sym, refl}
 use Rattle.forest.specs.OpenInvariant.{next_call}
-use Rattle.forest.proofs.OpenSteps.{open_waits, same_call, stays_open, is_answered, differ}
+use Rattle.forest.proofs.OpenSteps.{open_asks, open_waits, same_call, stays_open, is_answered, differ}
 use Rattle.forest.proofs.open.OpenCall.step.Goals as goal
 
 pub invariant_of-self : goal.invariant_of-self
@@ -23,3 +23,9 @@ returns-in-Ask-turn-clause-same g c = rw (← c.self.view_is) (let e = same_call
 
 pub returns-in-Done-clause-same : goal.returns-in-Done-clause-same
 returns-in-Done-clause-same g c = rw (← c.self.view_is) (let e = same_call g.K.WordKey.is_valid g.K.WordKey.word_of g.V.WordValue.is_valid g.V.WordValue.word_of c.self.inside c.self.invariant c.in-Ask.step c.in-Ask.is c.advance.new.seat c.advance.new.machine c.advance.result c.advance.ensures.table.0 c.advance.ensures.table.1 c.advance.ensures.one (c.advance.ensures.turn (next_call c.self.inside.began.value c.self.invariant.pass.is_pass) c.self.invariant.first (sym c.self.invariant.layout) (sym c.self.invariant.call) (open_waits g.K.WordKey.is_valid g.K.WordKey.word_of g.V.WordValue.is_valid g.V.WordValue.word_of c.self.inside c.self.invariant c.in-Ask.step c.in-Ask.is)) in record { began = refl; call = e.0; tries = e.1 })
+
+pub returns-in-Ask-turn-clause-nothing : goal.returns-in-Ask-turn-clause-nothing
+returns-in-Ask-turn-clause-nothing g c = rw (← c.self.view_is) (λ none. absurd (none (open_asks g.K.WordKey.is_valid g.K.WordKey.word_of g.V.WordValue.is_valid g.V.WordValue.word_of c.self.inside c.self.invariant c.in-Ask.step c.in-Ask.is)))
+
+pub returns-in-Done-clause-nothing : goal.returns-in-Done-clause-nothing
+returns-in-Done-clause-nothing g c = rw (← c.self.view_is) (λ none. absurd (none (open_asks g.K.WordKey.is_valid g.K.WordKey.word_of g.V.WordValue.is_valid g.V.WordValue.word_of c.self.inside c.self.invariant c.in-Ask.step c.in-Ask.is)))

@@ -17,3 +17,9 @@ call-told-requires-in-Range-clause-begins g c = let b = c.requires.begins in
 pub returns-in-Range-clause-ends : goal.returns-in-Range-clause-ends
 returns-in-Range-clause-ends g c = λ k first lay number is x. rw c.of_range.ensures
     (range_ended g.K.WordKey.is_valid g.K.WordKey.word_of g.V.WordValue.is_valid g.V.WordValue.word_of first k c.args.layout.now c.args.number lay number _ c.in-Range.share c.call-told-in-Range.new.run c.call-told-in-Range.result (c.call-told-in-Range.ensures.ends (ranger g.K.WordKey.is_valid g.K.WordKey.word_of g.V.WordValue.is_valid g.V.WordValue.word_of first k c.args.layout.now c.args.number lay number c.in-Range.share) (range_begins g.K.WordKey.is_valid g.K.WordKey.word_of g.V.WordValue.is_valid g.V.WordValue.word_of first k c.args.layout.now c.args.number lay number _ c.in-Range.share c.in-Range.inner (is ∙ c.in-Range.is) x)))
+
+pub returns-in-Successor-clause-nothing : goal.returns-in-Successor-clause-nothing
+returns-in-Successor-clause-nothing g c = λ none. absurd (none (rw c.in-Successor.is tt))
+
+pub returns-in-Range-clause-nothing : goal.returns-in-Range-clause-nothing
+returns-in-Range-clause-nothing g c = λ none. c.call-told-in-Range.ensures.nothing (λ some. none (rw c.in-Range.is some))

@@ -29,7 +29,7 @@ returns-in-Done-Snapshot-clause-turn g c d b begin h run try x ready =
     let w = c.next.ensures.turn (from (from d b) begin) h run ready in
     let s = snapped g.E.Edit.means c.args.self.now c.args.llx c.next.new.self c.args.found begin (from d b) h c.next.result x c.next.ensures.same w c.in-Done-Snapshot.snap (c.in-Done-Snapshot.is ∙ ap (λ a. Done a) c.in-Done-Snapshot.field-0-is) in
     c.go_on.ensures.turn d h run (c.looked-next.ensures.turn d b h run try (can_look g.E.Edit.means c.args.self.now c.args.llx c.next.new.self c.args.found begin (from d b) h c.next.result x c.next.ensures.same w)
-    (rw (← c.in-Done-Snapshot.snap-is) at s.0) (rw (← c.in-Done-Snapshot.snap-is) at s.1))
+    (rw (← c.in-Done-Snapshot.snap-is) at s.0) (rw (← c.in-Done-Snapshot.snap-is) at s.1) (rw (← c.in-Done-Snapshot.snap-is) at s.2))
 
 pub returns-in-Done-Snapshot-clause-spends : goal.returns-in-Done-Snapshot-clause-spends
 returns-in-Done-Snapshot-clause-spends g c = c.go_on.ensures.spends c.args.self.now.share _ _ c.looked-next.ensures.spends

@@ -1,0 +1,173 @@
+-- Which kinds of step a call of a dictionary makes, and that a range that asks for no pairs makes none.
+use Rattle.std.proofs.Common.{◌≡◌, ◌∙◌, ℕ, suc, ◌<◌, inl, inr, List, refl, sym, ap, subst, arith}
+use Rattle.std.proofs.Math.Nat.{lt_of_not-le}
+use Rattle.atomic_table.specs.Seated.{TableId}
+use Rattle.atomic_table.specs.declared.shared.Seat.{Seat}
+use Rattle.arena.specs.declared.layout.Layout.{Layout}
+use Rattle.arena.specs.declared.limits.Mode.TheVariants.{Tree}
+use Rattle.arena.specs.declared.machine.Turn.TheVariants.{Ask}
+use Rattle.arena.specs.declared.step.Row.{Row}
+use Rattle.arena.specs.declared.step.Step.{Step}
+use Rattle.arena.specs.History.{History, ◌⊳◌, Extends}
+use Rattle.arena.specs.Machines.{Call, row_of}
+use Rattle.arena.specs.Share.{Remaining}
+use Rattle.arena.proofs.Lemmas.{ends_trans}
+use Rattle.prims.proofs.Lemmas.{all_over}
+use Rattle.spelling.specs.OrderedMap.{MapCall}
+use Rattle.spelling.specs.declared.reply.Reply.{Reply}
+use Rattle.spelling.specs.declared.reply.Reply.TheVariants as replies
+use Rattle.order.specs.Range.Known.{AsksForNothing, AsksForSome, RangeWaits, RangeWaitsAt, TellsNone, Visits}
+use Rattle.order.specs.Range.Laws.{range_fills_not}
+use Rattle.order.specs.Reads.{from}
+use Rattle.order.specs.Successor.Laws.{successor_fills_not}
+use Rattle.order.specs.declared.range.RangeAt.{RangeAt}
+use Rattle.order.specs.declared.range.RangeAt.TheVariants.{Start, Root, Head, Key, Value, Look, Validate}
+use Rattle.order.specs.declared.range.RangeRun.{RangeRun}
+use Rattle.tree.proofs.Lemmas.{get_loads}
+use Rattle.updates.specs.Known.{RestsWith}
+use Rattle.dict.specs.Calls.{AsksForPairs, call_in, share_of}
+use Rattle.dict.specs.DictKnown.{DictWaits}
+use Rattle.dict.specs.Known.{WaitsInside}
+use Rattle.dict.specs.OneShare.{one_share}
+use Rattle.dict.specs.Typed.{TypedAllows}
+use Rattle.dict.specs.Words.{IsWord}
+use Rattle.dict.specs.declared.dict.DictRun.{DictRun}
+use Rattle.dict.specs.declared.run.MapRun.{MapRun}
+use Rattle.dict.specs.declared.run.MapRun.TheVariants as runs
+use Rattle.forest.specs.declared.pass.Pass.TheInside.{Inside}
+use Rattle.forest.specs.declared.view.SeatView.{SeatView}
+use Rattle.forest.specs.Dictionary.{IsRefusalOf, blamed_by_reply}
+use Rattle.forest.specs.Passes.{HoldsOfOwn, PassView, run_of, taken_of}
+use Rattle.forest.specs.PassInvariant.{IsPass, pass_view}
+use Rattle.forest.specs.StepKinds.{HasKeptToKinds, IsKindFor}
+use Rattle.forest.specs.StraightCalls.{IsSameDictCall}
+use Rattle.forest.specs.TableRule.{history_of}
+use Rattle.forest.specs.Traces.{HoldsForCall, Trace, begins, others, makes, goes_on, known_of}
+use Rattle.forest.proofs.Called.{own_more, own_start}
+use Rattle.forest.proofs.Calls.{course_keeps}
+use Rattle.forest.proofs.DictCalls.{Answered, IsSameCall, behind, dict_refuses}
+use Rattle.forest.proofs.Entered.{HasEnded}
+use Rattle.forest.proofs.Passes.{call_of}
+
+-- What its machine waits for
+
+-- a range that visits a node asks for some pairs
+visits_some : (m : RangeRun) (c : Call) (h : History) (n : ℕ) → Visits m c h n → AsksForSome m
+visits_some m c h n x = (let room = x.room in omega (arith, room), x.ordered)
+
+asks_at : (m : RangeRun) (c : Call) (h : History) (s : Step) (at : RangeAt) → RangeWaitsAt m c h s at → AsksForSome m
+asks_at m c h s Start w = absurd w
+asks_at m c h s Root w = visits_some m c h 0 w.0
+asks_at m c h s (Head above n) w = visits_some m c h n.0 w.0
+asks_at m c h s (Key head n) w = visits_some m c h n.0 w.0
+asks_at m c h s (Value key n) w = visits_some m c h n.0 w.0.visits
+asks_at m c h s (Look low left right llx) w = visits_some m c h llx.node.0 w.0.visits
+asks_at m c h s (Validate asked) w = w.1.asks
+
+-- so does one that waits for a step
+range_asks : (m : RangeRun) (c : Call) (h : History) (s : Step) → RangeWaits m c h s → AsksForSome m
+range_asks m c h s w = asks_at m (from c w.0) h s m.at w.3
+
+asks_inside : (m : MapRun) (c : Call) (h : History) (s : Step) → WaitsInside m c h s → AsksForPairs (call_in m)
+asks_inside (runs.Insert m) c h s w = tt
+asks_inside (runs.Delete m) c h s w = tt
+asks_inside (runs.Get m share) c h s w = tt
+asks_inside (runs.Successor m share) c h s w = tt
+asks_inside (runs.Range m share) c h s w = range_asks m c h s w.0
+
+-- the step that a call waits for is of one of its kinds
+kind_inside : (m : MapRun) (c : Call) (h : History) (s : Step) → WaitsInside m c h s → IsKindFor (call_in m) s.kind
+kind_inside (runs.Insert m) c h s w = tt
+kind_inside (runs.Delete m) c h s w = tt
+kind_inside (runs.Get m share) c h s w = (get_loads m c h s w.0).0
+kind_inside (runs.Successor m share) c h s w = successor_fills_not m c h s w.0
+kind_inside (runs.Range m share) c h s w = (range_fills_not m c h s w.0, range_asks m c h s w.0)
+
+-- a range that does not ask for nothing asks for some pairs
+asks_some : (m : RangeRun) → ¬ AsksForNothing m → AsksForSome m
+asks_some m some = (
+  lt_of_not-le (λ d. some (inl (omega (arith, d)))),
+  (let less : m.low < suc m.high = lt_of_not-le (λ d. some (inr (omega (arith, d)))) in omega (arith, less)),
+)
+
+-- so does one that asks for a step where one that asks for nothing tells none
+pub asks_on : (m : RangeRun) (s : Step) → (AsksForNothing m → TellsNone (Ask s)) → AsksForSome m
+asks_on m s tells = asks_some m (λ x. let e = (tells x).1 in cc)
+
+-- The steps by which a call has come so far
+
+-- What holds of the row of each step for which the machine waits, as long as Q holds of it, holds of
+-- each own row of the call.
+module _ {M : Type 0} {allows : Layout → History → ℕ → Type 0} (waits : M → Call → History → Step → Type 0) (same : M → M → Type 0) (c : Call) (first : M) (P : Row → Type 0) (Q : M → Type 0) (opens : Q first) (stays : (old now : M) → same old now → Q old → Q now) (steps : (m : M) (h : History) (s : Step) → Q m → waits m c h s → P (row_of c s h)) where
+  course_holds : (m : M) (h : History) → Trace allows waits same c first m h → Q m × HoldsOfOwn P c.pass c.start h
+  course_holds m h (begins e k) = (subst Q (sym e) opens, subst (HoldsOfOwn P c.pass c.start) (sym k) (own_start P c.pass c.start))
+  course_holds m h (others s r g e w other run x) = let y = course_holds m g x in (y.0, subst (HoldsOfOwn P c.pass c.start) (sym e) (own_more P c.pass c.start g r (λ own. absurd (other own)) y.1))
+  course_holds m h (makes s g e w run x) = let y = course_holds m g x in (y.0, subst (HoldsOfOwn P c.pass c.start) (sym e) (own_more P c.pass c.start g (row_of c s g) (λ own. steps m g s y.0 w) y.1))
+  course_holds m h (goes_on old is x) = let y = course_holds old h x in (stays old m is y.0, y.1)
+
+-- no row of a history is behind it
+no_row : (h : History) (r : Row) (before : History) → Extends h (r ⊳ before) → Extends before h → ⊥
+no_row h r before within since = own_start (λ _. ⊥) r.pass.0 h r before within since refl
+
+-- a call that has seen no row has met nobody, so it blames nobody
+blames_none : {K V : Type 0} (old new : PassView) (tries : ℕ) (call : MapCall) (reply : Reply K V) (blamed : List ℕ) → run_of new ≡ run_of old → IsRefusalOf tries old new call reply → blamed_by_reply reply blamed ≡ blamed
+blames_none old new tries call (replies.Value v) blamed same x = refl
+blames_none old new tries call (replies.Pair v) blamed same x = refl
+blames_none old new tries call (replies.Pairs v) blamed same x = refl
+blames_none old new tries call (replies.Full f) blamed same x = refl
+blames_none old new tries call replies.NoMemory blamed same x = refl
+blames_none old new tries call (replies.Contended n s) blamed same x =
+    let way = x.lost.lost.in_the_way in
+    absurd (no_row (run_of new) way.row way.before way.within (subst (Extends way.before) (sym same) (ends_trans way.before x.lost.lost.begin (run_of old) way.since x.lost.lost.since)))
+
+-- What a call leaves
+
+module _ {K V : Type 0} (valid_key : K → Type 0) (key : K → ℕ) (valid_value : V → Type 0) (value_word : V → ℕ) where
+  abbrev allows : Layout → History → ℕ → Type 0
+  allows = TypedAllows (IsWord valid_key key) (IsWord valid_value value_word)
+
+  abbrev waits : DictRun K V → Call → History → Step → Type 0
+  waits = DictWaits (IsWord valid_key key) (IsWord valid_value value_word)
+
+  abbrev same : DictRun K V → DictRun K V → Type 0
+  same = IsSameDictCall valid_key key valid_value value_word
+
+  -- one that waits for a step asks for pairs, if it is a range
+  pub waits_asks : (m : DictRun K V) (c : Call) (h : History) (s : Step) → waits m c h s → AsksForPairs (call_in m.run)
+  waits_asks m c h s w = asks_inside m.run c h s w.1.1
+
+  module _ {T : Type 0} (p : Inside T) (x : IsPass allows Tree p) (s : Seat ℕ SeatView) (m : DictRun K V) (reply : Reply K V) where
+    abbrev call : Call
+    call = call_of p x (taken_of (pass_view p))
+
+    -- how it has ended
+    abbrev Ended : History → Type 0
+    Ended = Answered valid_key key valid_value value_word p x s m reply
+
+    -- the pass as contracts see it then
+    abbrev now : PassView
+    now = pass_view (behind valid_key key valid_value value_word p x s m reply)
+
+    -- it has made steps of its kinds alone
+    pub dict_kinds : (first : DictRun K V) → HoldsForCall allows s.me.0.passes call (λ h. Ended h × Trace allows waits same call first m h) → HasKeptToKinds (pass_view p) now (call_in m.run)
+    dict_kinds first y =
+        let known : y.known ≡ known_of s.me.0.passes = sym (ap known_of y.is) in
+        let is : call_in m.run ≡ call_in first.run = (course_keeps (λ (k : DictRun K V). IsSameCall valid_key key valid_value value_word first k) (refl, refl) (λ old now e q. (e.0 ∙ q.0, e.1 ∙ q.1)) m _ y.so.1).0 in
+        subst (λ (rows : List Row). HoldsOfOwn (λ r. IsKindFor (call_in m.run) r.kind) p.number.0 (run_of (pass_view p)) (history_of p.layout.mode rows)) known
+        (course_holds waits same call first (λ r. IsKindFor (call_in m.run) r.kind) (λ (k : DictRun K V). call_in k.run ≡ call_in m.run) (sym is) (λ old now e q. e.0 ∙ q) (λ k h t q w. subst (λ (asked : MapCall). IsKindFor asked t.kind) q (kind_inside k.run call h t w.1.1)) m _ y.so.1).1
+
+    -- a pass of this layout and number
+    abbrev seen : TableId → Remaining → List Row → List ℕ → PassView
+    seen table share known blamed = record { table = table; layout = p.layout; number = p.number.0; share = share; known = known; blamed = blamed }
+
+    -- a call behind which its pass knows what it knew before has left the pass as it was
+    pub dict_nothing : HasEnded allows p s (taken_of (pass_view p)) Ended → s.table_id ≡ p.seat.table_id → known_of s.me.0.passes ≡ known_of p.seat.me.0.passes → now ≡ pass_view p
+    dict_nothing y table known =
+        let run : run_of now ≡ run_of (pass_view p) = ap (history_of p.layout.mode) known in
+        let rests : RestsWith call (run_of (pass_view p)) p.share = record { share = x.rest.share; over = all_over p.layout _ p.number.0 p.share p.share.next_node p.share.next_scx x.rest.share x.rest.over } in
+        let share : share_of m.run ≡ p.share = one_share call (run_of now) (share_of m.run) p.share y.answers.rests (subst (λ h. RestsWith call h p.share) (sym run) rests) in
+        let blamed : blamed_by_reply reply p.blamed ≡ p.blamed = blames_none (pass_view p) now m.tries (call_in m.run) reply p.blamed run (dict_refuses valid_key key valid_value value_word p x s m reply y) in
+        ap (λ t. seen t (share_of m.run) (known_of s.me.0.passes) (blamed_by_reply reply p.blamed)) table
+        ∙ ap (λ r. seen p.seat.table_id r (known_of s.me.0.passes) (blamed_by_reply reply p.blamed)) share
+        ∙ ap (λ k. seen p.seat.table_id p.share k (blamed_by_reply reply p.blamed)) known
+        ∙ ap (λ b. seen p.seat.table_id p.share (known_of p.seat.me.0.passes) b) blamed
