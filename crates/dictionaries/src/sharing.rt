@@ -1,8 +1,9 @@
 //! Dictionaries that passes share.
-ghost use Rattle.std.specs.Prelude.{IfSome};
+ghost use Rattle.std.specs.Prelude.{IfOk, IfSome};
 ghost use Rattle.std.specs.List.{All};
 ghost use Rattle.forest.specs.Passes.{IsOf};
 
+mod answers;
 mod calls;
 mod held;
 mod threads;
@@ -11,6 +12,7 @@ use arena::Limits;
 use dict::{Dict, WordKey, WordValue};
 use forest::{Forest, Pass};
 use std::alloc::{AllocError, Global};
+use std::test::Fail;
 
 fn limits(passes: u32, nodes: u32, scx: u32) -> Limits {
     Limits {
@@ -50,6 +52,19 @@ fn two<K: WordKey, V: WordValue>(
     let second = passes.pop()?;
     let first = passes.pop()?;
     Some((forest, first, second))
+}
+
+/// The same for a test, which fails where there is none.
+fn opened<K: WordKey, V: WordValue>(
+    alloc: Global,
+) -> Result<(Forest<Dict<K, V>>, Pass<Dict<K, V>>, Pass<Dict<K, V>>), Fail>
+    ensures first { IfOk result (λ t. IsOf t.0 t.1) }
+    ensures second { IfOk result (λ t. IsOf t.0 t.2) }
+{
+    match two(alloc) {
+        Some(shared) => Ok(shared),
+        None => Err("no forest".into()),
+    }
 }
 
 /// Ends a forest of two passes.

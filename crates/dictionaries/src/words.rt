@@ -1,4 +1,5 @@
 //! Words of typed keys and values.
+use crate::same::same;
 use dict::{Name8, WordKey, WordValue};
 use std::test::Fail;
 
@@ -8,29 +9,29 @@ fn name(text: &str) -> Result<Name8, Fail> {
 
 #[test]
 fn words_are_those_of_the_types(rt: HostRuntime) -> Result<(), Fail> {
-    assert_eq!(rt; name("ab")?.word(), 7017171169396654080);
-    assert_eq!(rt; name("")?.word(), 0);
+    same(&rt, name("ab")?.word(), 7017171169396654080);
+    same(&rt, name("")?.word(), 0);
     let minus = -1i64;
-    assert_eq!(rt; minus.word(), 9223372036854775807);
-    assert_eq!(rt; 0i64.word(), 9223372036854775808);
-    assert_eq!(rt; i64::MIN.word(), 0);
+    same(&rt, minus.word(), 9223372036854775807);
+    same(&rt, 0i64.word(), 9223372036854775808);
+    same(&rt, i64::MIN.word(), 0);
     Ok(())
 }
 
 #[test]
 fn words_of_no_value_are_refused(rt: HostRuntime) -> Result<(), Fail> {
     let beyond: Option<u32> = WordKey::from_word(4294967296);
-    assert_eq!(rt; beyond, None);
+    same(&rt, beyond, None);
     let beyond: Option<u32> = WordValue::from_word(4294967296);
-    assert_eq!(rt; beyond, None);
+    same(&rt, beyond, None);
     let last: Option<u32> = WordKey::from_word(4294967295);
-    assert_eq!(rt; last, Some(4294967295));
+    same(&rt, last, Some(4294967295));
     let small: Option<Name8> = WordKey::from_word(98);
-    assert_eq!(rt; small, None);
+    same(&rt, small, None);
     let text: Option<Name8> = WordKey::from_word(7017171169396654080);
-    assert_eq!(rt; text, Some(name("ab")?));
+    same(&rt, text, Some(name("ab")?));
     let minus: Option<i64> = WordKey::from_word(9223372036854775807);
-    assert_eq!(rt; minus, Some(-1));
+    same(&rt, minus, Some(-1));
     Ok(())
 }
 
@@ -41,7 +42,7 @@ fn names_are_visible_and_short(rt: HostRuntime) -> Result<(), Fail> {
     }
     for text in ["", "a", "~!~!~!~!", "eightlet"] {
         let printed = name(text)?.to_string(rt.alloc())?;
-        assert_eq!(rt; printed.as_str(), text);
+        same(&rt, printed.as_str(), text);
     }
     Ok(())
 }

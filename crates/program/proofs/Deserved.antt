@@ -24,7 +24,7 @@ pub told : {T : Type 0} (r : Result T Fault) (fault : Fault) (P : Fault → Type
 told (Ok t) fault P is holds = absurd is
 told (Err e) fault P is holds = rw is holds
 
--- what is so anyhow is so where all went well
-pub anyhow : {T E P : Type 0} (r : Result T E) → P → OnOk r P
-anyhow (Ok t) p = p
-anyhow (Err e) p = tt
+-- what follows where all went well
+pub so_then : {T E P Q : Type 0} (r : Result T E) → (P → Q) → OnOk r P → OnOk r Q
+so_then (Ok t) f p = f p
+so_then (Err e) f p = tt

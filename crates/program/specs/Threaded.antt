@@ -1,8 +1,13 @@
--- Why the program refuses to run a script with threads.
-use Rattle.std.specs.Prelude.{◌≡◌, ◌⊎◌, ℕ, List, codes, ⊤}
+-- What the program prints of a run with threads, and why it refuses one.
+use Rattle.std.specs.Prelude.{◌≡◌, ◌⊎◌, ℕ, Bool, List, Option, Vec, codes, ⊤}
+use Rattle.std.specs.Global.{Global}
+use Rattle.std.specs.Io.KnownBytes.{Appends}
 use Rattle.arena.specs.declared.limits.Mode.TheVariants.{Tree}
 use Rattle.script.specs.Grammars.{IsScriptFault, SayScript}
 use Rattle.script.specs.declared.script.Script.{Script}
+use Rattle.spelling.specs.declared.reply.Reply.{Reply}
+use Rattle.runner.specs.Outcomes.{IsOutcome}
+use Rattle.report.specs.Outcome.{outcome_text}
 use Rattle.program.specs.declared.fault.Fault.{Fault}
 use Rattle.program.specs.declared.fault.Fault.TheVariants.{Usage, BadGate, BadScript, BadSchedule, NotLawful, NoMemory, Read, Write}
 
@@ -10,9 +15,20 @@ use Rattle.program.specs.declared.fault.Fault.TheVariants.{Usage, BadGate, BadSc
 abbrev pub IsGate : List ℕ → Type 0
 IsGate name = (name ≡ codes "open") ⊎ (name ≡ codes "alternate") ⊎ (name ≡ codes "hold")
 
--- the text says a script of the tree
-abbrev pub SaysScript : List ℕ → Type 0
-SaysScript text = (script : Script) × SayScript Tree text script.limits script.layout script.calls.items
+-- there was a run of the script with threads, and after the old bytes comes its outcome
+pub record HasRun (script : Script) (old new : Option (List ℕ)) : Type 0 where
+  pub replies : List (Vec (Reply ℕ ℕ) Global)
+  pub pairs : List (ℕ × ℕ)
+  -- whether the gate was met in it
+  pub missed : Bool
+  pub outcome : IsOutcome script replies pairs
+  pub text : Appends old new (outcome_text missed replies pairs)
+
+-- the text says a script of the tree, and of that one there was such a run
+pub record HasPrintedRun (text : List ℕ) (old new : Option (List ℕ)) : Type 0 where
+  pub script : Script
+  pub says : SayScript Tree text script.limits script.layout script.calls.items
+  pub run : HasRun script old new
 
 -- the text of a script and the name of a gate deserve the fault: there is no such gate; or it is the
 -- first of the text. Memory, a read or a write may fail whatever they are.

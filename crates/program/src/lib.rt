@@ -4,15 +4,12 @@
 
 mod audited;
 mod fault;
-mod lines;
 mod orders;
-mod outcome;
 mod play;
 mod threaded;
 
 pub use audited::audit_over;
 pub use fault::Fault;
 pub use orders::run;
-pub use outcome::write_outcome;
 pub use play::play_over;
 pub use threaded::run_over;

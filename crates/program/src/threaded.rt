@@ -2,12 +2,12 @@
 ghost use Rattle.std.specs.Prelude.{◌≡◌, ◌≤◌, ◌↔◌, ℕ, List, IsTrue, IfErr, IsErrOf, OnOk, Some};
 ghost use Rattle.arena.specs.declared.limits.Mode.TheVariants.{Tree};
 ghost use Rattle.program.specs.Status.{status_of};
-ghost use Rattle.program.specs.Threaded.{IsDeserved, IsGate, SaysScript};
+ghost use Rattle.program.specs.Threaded.{HasPrintedRun, HasRun, IsDeserved, IsGate};
 ghost use Rattle.program.specs.declared.fault.Fault.{Fault};
 
 use crate::fault::Fault;
-use crate::outcome::write_outcome;
 use arena::Mode;
+use report::write_outcome;
 use runner::{Alternate, Gate, Hold, Open, run};
 use script::{Script, read_script};
 use std::alloc::Global;
@@ -28,8 +28,8 @@ pub fn run_over<R: Threads + Wait + Sync, S: Read, O: Write, E: Write>(
     out: &mut Metered<O>,
     err: &mut E,
 ) -> u8
-    // Of a reader that tells its bytes.
-    ensures says { (said : List ℕ) → S.remaining script.old ≡ Some said → result ≡ 0 → SaysScript said }
+    // Of a reader that tells its bytes: what is printed, and why a text is refused.
+    ensures printed { (said : List ℕ) → S.remaining script.old ≡ Some said → result ≡ 0 → HasPrintedRun said (O.contents out.old.inner) (O.contents out.new.inner) }
     ensures deserved { (said : List ℕ) → S.remaining script.old ≡ Some said → result ≡ 1 → (fault : Fault) × (status_of fault ≡ 1) × IsDeserved gate.now said fault }
 
     ensures gate { result ≡ 2 ↔ ¬ (IsGate gate.now) }
@@ -50,7 +50,7 @@ fn run_gated<R: Threads + Wait + Sync, S: Read, O: Write>(
     script: &mut S,
     out: &mut Metered<O>,
 ) -> Result<(), Fault>
-    ensures says { (said : List ℕ) → S.remaining script.old ≡ Some said → OnOk result (SaysScript said) }
+    ensures printed { (said : List ℕ) → S.remaining script.old ≡ Some said → OnOk result (HasPrintedRun said (O.contents out.old.inner) (O.contents out.new.inner)) }
     ensures deserved { (said : List ℕ) → S.remaining script.old ≡ Some said → IfErr result (IsDeserved gate.now said) }
     ensures bad_gate { ¬ (IsGate gate.now) → IsErrOf result Fault.BadGate }
     ensures gate { IfErr result (λ fault. status_of fault ≡ 2 → ¬ (IsGate gate.now)) }
@@ -82,10 +82,12 @@ fn run_at<R: Threads + Wait + Sync, G: Gate, O: Write>(
     out: &mut Metered<O>,
 ) -> Result<(), Fault>
     requires tree { script.now.layout.mode ≡ Tree }
+    ensures printed { OnOk result (HasRun script.now (O.contents out.old.inner) (O.contents out.new.inner)) }
     ensures deserved { (name said : List ℕ) → IfErr result (IsDeserved name said) }
     ensures late { IfErr result (λ fault. 3 ≤ status_of fault) }
 {
     let outcome = run(rt, alloc, script, gate)?;
-    write_outcome(alloc, &outcome, gate.missed(), out)?;
+    let (replies, pairs) = (outcome.replies.as_slice(), outcome.pairs.as_slice());
+    write_outcome(alloc, gate.missed(), replies, pairs, out)?;
     Ok(())
 }

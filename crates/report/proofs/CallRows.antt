@@ -20,14 +20,14 @@ call_rows_after earlier (x ∷ xs) ys =
     ap (λ rows. reported_call_row earlier x ∷ rows) (call_rows_after (x ∷ earlier) xs ys ∙ ap (λ before. call_rows (x ∷ earlier) xs ++ call_rows before ys) (reverse_after x xs earlier))
 
 -- the text of the rows of two parts of the calls
-pub call_text_append : (earlier xs ys : List Call) → rows_text (call_rows earlier (xs ++ ys)) ≡ rows_text (call_rows earlier xs) ++ rows_text (call_rows (reverse xs ++ earlier) ys)
-call_text_append earlier xs ys = ap rows_text (call_rows_after earlier xs ys) ∙ rows_after (call_rows earlier xs) (call_rows (reverse xs ++ earlier) ys)
+pub call_text_append : (earlier xs ys : List Call) → rows_text 7 (call_rows earlier (xs ++ ys)) ≡ rows_text 7 (call_rows earlier xs) ++ rows_text 7 (call_rows (reverse xs ++ earlier) ys)
+call_text_append earlier xs ys = ap (rows_text 7) (call_rows_after earlier xs ys) ∙ rows_after 7 (call_rows earlier xs) (call_rows (reverse xs ++ earlier) ys)
 
 -- one more call after others
-pub call_text_more : (earlier done : List Call) (call : Call) → rows_text (call_rows earlier (done ++ call ∷ [])) ≡ rows_text (call_rows earlier done) ++ line_of (reported_call_row (reverse done ++ earlier) call)
+pub call_text_more : (earlier done : List Call) (call : Call) → rows_text 7 (call_rows earlier (done ++ call ∷ [])) ≡ rows_text 7 (call_rows earlier done) ++ line_of 7 (reported_call_row (reverse done ++ earlier) call)
 unfolding call_rows rows_text
 call_text_more earlier done call =
-    call_text_append earlier done (call ∷ []) ∙ ap (λ text. rows_text (call_rows earlier done) ++ text) (append-nil (line_of (reported_call_row (reverse done ++ earlier) call)))
+    call_text_append earlier done (call ∷ []) ∙ ap (λ text. rows_text 7 (call_rows earlier done) ++ text) (append-nil (line_of 7 (reported_call_row (reverse done ++ earlier) call)))
 
 pub calls_before_more : (earlier done : List Call) (call : Call) → reverse (done ++ call ∷ []) ++ earlier ≡ call ∷ (reverse done ++ earlier)
 calls_before_more earlier done call = ap (λ calls. calls ++ earlier) (reverse-append done (call ∷ []))
@@ -37,7 +37,7 @@ calls_before_length earlier done = length-append (reverse done) earlier ∙ ap (
 
 -- Texts that are made
 
-pub no_call_text : (earlier : List Call) (page : Option (List ℕ)) → page ≡ Some [] → Appends (Some []) page (rows_text (call_rows earlier []))
+pub no_call_text : (earlier : List Call) (page : Option (List ℕ)) → page ≡ Some [] → Appends (Some []) page (rows_text 7 (call_rows earlier []))
 unfolding call_rows rows_text
 no_call_text earlier page empty = rw empty refl
 
@@ -51,7 +51,7 @@ so_on_ok (Ok t) so = so
 so_on_ok (Err fault) so = search rules
 
 -- nothing is left of no calls
-pub no_call_rows : (earlier calls : List Call) → length calls ≡ 0 → rows_text (call_rows earlier calls) ≡ []
+pub no_call_rows : (earlier calls : List Call) → length calls ≡ 0 → rows_text 7 (call_rows earlier calls) ≡ []
 unfolding call_rows rows_text
 no_call_rows earlier [] e = refl
 no_call_rows earlier (call ∷ calls) e = absurd (omega (arith, e))

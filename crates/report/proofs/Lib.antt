@@ -6,3 +6,4 @@ mod CommandLists
 mod CallRows
 mod Reading
 mod RoundTrip
+mod Outcomes

@@ -1,53 +1,77 @@
--- The parts of a report, as they go out.
-use Rattle.std.proofs.Common.{◌≡◌, List, [], ◌∷◌, ◌++◌, ◌∙◌, ℕ, Option, ap, append-nil, map, subst, sym}
+-- The four parts of a text, as they go out one after another.
+use Rattle.std.proofs.Common.{◌≡◌, List, [], ◌∷◌, ◌++◌, ◌∙◌, ℕ, Bool, Option, Vec, ap, append-nil, length, map, subst, sym}
+use Rattle.std.specs.Global.{Global}
 use Rattle.std.specs.Io.KnownBytes.{Appends}
+use Rattle.spelling.specs.declared.reply.Reply.{Reply}
 use Rattle.script.specs.declared.script.Script.{Script}
 use Rattle.record.specs.declared.record.Line.{Line}
 use Rattle.script.specs.Rows.{limits_row}
+use Rattle.report.specs.Outcome.{client_rows, gate_row, outcome_end_row, outcome_text, outcome_title_row, pair_row, replies_counted}
 use Rattle.report.specs.Report.{call_rows, report_end_row, line_row, report_text, title_row}
 use Rattle.texts.specs.Pages.{BeginsWith, rows_text}
 use Rattle.report.proofs.Texts.{IsSent, all_sent, none_sent, part_sent, piece_sent, rows_after}
 
-module _ (script : Script) (lines : List Line) where
-  abbrev pub head : List ℕ
-  head = rows_text (title_row script.layout.mode ∷ limits_row script.limits ∷ [])
+-- the rows of a text in four parts
+pub parts_of : (width : ℕ) (head first second end : List (List (List ℕ))) → rows_text width head ++ (rows_text width first ++ (rows_text width second ++ rows_text width end)) ≡ rows_text width (head ++ (first ++ (second ++ end)))
+parts_of width head first second end =
+    sym
+    (rows_after width head (first ++ (second ++ end))
+    ∙ ap (λ text. rows_text width head ++ text) (rows_after width first (second ++ end)
+    ∙ ap (λ text. rows_text width first ++ text) (rows_after width second end)))
 
-  abbrev pub calls : List ℕ
-  calls = rows_text (call_rows [] script.calls.items)
+-- a text in four parts
+pub record InParts : Type 0 where
+  pub head : List ℕ
+  pub first : List ℕ
+  pub second : List ℕ
+  pub end : List ℕ
+  pub whole : List ℕ
+  pub is : head ++ (first ++ (second ++ end)) ≡ whole
 
-  abbrev pub run : List ℕ
-  run = rows_text (map line_row lines)
+-- a report
+abbrev pub report_in_parts : Script → List Line → InParts
+report_in_parts script lines = record {
+  head = rows_text 7 (title_row script.layout.mode ∷ limits_row script.limits ∷ []);
+  first = rows_text 7 (call_rows [] script.calls.items);
+  second = rows_text 7 (map line_row lines);
+  end = rows_text 7 (report_end_row lines ∷ []);
+  whole = report_text script lines;
+  is = parts_of 7 (title_row script.layout.mode ∷ limits_row script.limits ∷ []) (call_rows [] script.calls.items) (map line_row lines) (report_end_row lines ∷ []);
+}
 
-  abbrev pub end : List ℕ
-  end = rows_text (report_end_row lines ∷ [])
+-- an outcome
+abbrev pub outcome_in_parts : Bool → List (Vec (Reply ℕ ℕ) Global) → List (ℕ × ℕ) → InParts
+outcome_in_parts missed replies pairs = record {
+  head = rows_text 4 (outcome_title_row ∷ gate_row missed ∷ []);
+  first = rows_text 4 (client_rows 0 replies);
+  second = rows_text 4 (map pair_row pairs);
+  end = rows_text 4 (outcome_end_row (replies_counted replies) (length pairs) ∷ []);
+  whole = outcome_text missed replies pairs;
+  is = parts_of 4 (outcome_title_row ∷ gate_row missed ∷ []) (client_rows 0 replies) (map pair_row pairs) (outcome_end_row (replies_counted replies) (length pairs) ∷ []);
+}
 
-  parts : head ++ (calls ++ (run ++ end)) ≡ report_text script lines
-  parts = sym
-      (rows_after (title_row script.layout.mode ∷ limits_row script.limits ∷ []) (call_rows [] script.calls.items ++ (map line_row lines ++ report_end_row lines ∷ []))
-      ∙ ap (λ text. head ++ text) (rows_after (call_rows [] script.calls.items) (map line_row lines ++ report_end_row lines ∷ [])
-      ∙ ap (λ text. calls ++ text) (rows_after (map line_row lines) (report_end_row lines ∷ []))))
+module _ (t : InParts) where
+  pub part_of_head : (old new : Option (List ℕ)) → BeginsWith old new t.head → BeginsWith old new t.whole
+  part_of_head old new x = part_sent old old new t.head (t.first ++ (t.second ++ t.end)) t.whole (subst (λ text. IsSent old old text t.whole) (sym t.is) (none_sent old t.whole)) x
 
-  pub part_of_head : (old new : Option (List ℕ)) → BeginsWith old new head → BeginsWith old new (report_text script lines)
-  part_of_head old new x = part_sent old old new head (calls ++ (run ++ end)) (report_text script lines) (subst (λ text. IsSent old old text (report_text script lines)) (sym parts) (none_sent old (report_text script lines))) x
+  head_sent : (old new : Option (List ℕ)) → Appends old new t.head → IsSent old new (t.first ++ (t.second ++ t.end)) t.whole
+  head_sent old new x = record { so_far = t.head; sent = x; whole_is = t.is }
 
-  pub head_sent : (old new : Option (List ℕ)) → Appends old new head → IsSent old new (calls ++ (run ++ end)) (report_text script lines)
-  head_sent old new x = record { so_far = head; sent = x; whole_is = parts }
+  pub part_of_first : (old mid new : Option (List ℕ)) → Appends old mid t.head → BeginsWith mid new t.first → BeginsWith old new t.whole
+  part_of_first old mid new x part = part_sent old mid new t.first (t.second ++ t.end) t.whole (head_sent old mid x) part
 
-  pub calls_sent : (old mid new : Option (List ℕ)) → Appends old mid head → Appends mid new calls → IsSent old new (run ++ end) (report_text script lines)
-  calls_sent old mid new x y = piece_sent old mid new calls (run ++ end) (report_text script lines) (head_sent old mid x) y
+  first_sent : (old mid new : Option (List ℕ)) → Appends old mid t.head → Appends mid new t.first → IsSent old new (t.second ++ t.end) t.whole
+  first_sent old mid new x y = piece_sent old mid new t.first (t.second ++ t.end) t.whole (head_sent old mid x) y
 
-  pub run_sent : (old first second new : Option (List ℕ)) → Appends old first head → Appends first second calls → Appends second new run → IsSent old new end (report_text script lines)
-  run_sent old first second new x y z = piece_sent old second new run end (report_text script lines) (calls_sent old first second x y) z
+  pub part_of_second : (old one two new : Option (List ℕ)) → Appends old one t.head → Appends one two t.first → BeginsWith two new t.second → BeginsWith old new t.whole
+  part_of_second old one two new x y part = part_sent old two new t.second t.end t.whole (first_sent old one two x y) part
 
-  pub part_of_calls : (old mid new : Option (List ℕ)) → Appends old mid head → BeginsWith mid new calls → BeginsWith old new (report_text script lines)
-  part_of_calls old mid new x part = part_sent old mid new calls (run ++ end) (report_text script lines) (head_sent old mid x) part
+  pub second_sent : (old one two new : Option (List ℕ)) → Appends old one t.head → Appends one two t.first → Appends two new t.second → IsSent old new t.end t.whole
+  second_sent old one two new x y z = piece_sent old two new t.second t.end t.whole (first_sent old one two x y) z
 
-  pub part_of_run : (old first second new : Option (List ℕ)) → Appends old first head → Appends first second calls → BeginsWith second new run → BeginsWith old new (report_text script lines)
-  part_of_run old first second new x y part = part_sent old second new run end (report_text script lines) (calls_sent old first second x y) part
+  pub part_of_end : (old mid new : Option (List ℕ)) → IsSent old mid t.end t.whole → BeginsWith mid new t.end → BeginsWith old new t.whole
+  part_of_end old mid new x y = part_sent old mid new t.end [] t.whole (subst (λ text. IsSent old mid text t.whole) (sym (append-nil t.end)) x) y
 
-  -- the last piece
-  pub end_sent : (old mid new : Option (List ℕ)) → IsSent old mid end (report_text script lines) → Appends mid new end → Appends old new (report_text script lines)
-  end_sent old mid new x y = all_sent old new (report_text script lines) (piece_sent old mid new end [] (report_text script lines) (subst (λ text. IsSent old mid text (report_text script lines)) (sym (append-nil end)) x) y)
-
-  pub part_of_end : (old mid new : Option (List ℕ)) → IsSent old mid end (report_text script lines) → BeginsWith mid new end → BeginsWith old new (report_text script lines)
-  part_of_end old mid new x y = part_sent old mid new end [] (report_text script lines) (subst (λ text. IsSent old mid text (report_text script lines)) (sym (append-nil end)) x) y
+  -- the last part
+  pub end_sent : (old mid new : Option (List ℕ)) → IsSent old mid t.end t.whole → Appends mid new t.end → Appends old new t.whole
+  end_sent old mid new x y = all_sent old new t.whole (piece_sent old mid new t.end [] t.whole (subst (λ text. IsSent old mid text t.whole) (sym (append-nil t.end)) x) y)

@@ -9,8 +9,7 @@ use Rattle.script.specs.declared.call.Call.{Call}
 use Rattle.script.specs.declared.script.Script.{Script}
 use Rattle.script.specs.Rows.{limits_row}
 use Rattle.record.specs.declared.record.Line.{Line}
-use Rattle.report.specs.Report.{reported_call_row, call_rows, report_end_row, line_row, report_rows, title_row}
-use Rattle.texts.specs.Pages.{seven}
+use Rattle.report.specs.Report.{reported_call_row, call_rows, report_end_row, line_row, report_rows, title_row, seven}
 use Rattle.report.proofs.CallRows.{call_rows_after}
 use Rattle.texts.specs.Reads.{HasRead, IsAtRow, last_row}
 

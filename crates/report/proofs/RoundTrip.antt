@@ -10,8 +10,8 @@ use Rattle.csv.proofs.RoundTrip.{read-write-many, rows_text as csv_text}
 use Rattle.script.specs.declared.script.Script.{Script}
 use Rattle.record.specs.declared.record.Line.{Line}
 use Rattle.arena.specs.declared.limits.Mode.{Mode}
-use Rattle.report.specs.Report.{report_rows, report_text, title_row}
-use Rattle.texts.specs.Pages.{line_of, rows_text, seven}
+use Rattle.report.specs.Report.{report_rows, report_text, title_row, seven}
+use Rattle.texts.specs.Pages.{line_of, rows_text}
 
 no_next : {A : Type 0} (next : Option A) (p : A) → next ≡ None → next ≡ Some p → ⊥
 no_next None p e f = cc
@@ -35,19 +35,19 @@ same_records cfg s xs (row ∷ rows) (other ∷ others) a b =
     ap (λ r. r ∷ rows) first ∙ ap (λ rs. other ∷ rs) (same_records cfg a.2.0.1 a.2.0.2 rows others (a.0, a.1, a.2.3, a.3) (b.0, b.1, rest, b.3))
 
 -- the line of a row is read as the row
-line_is_read : (fields : List (List ℕ)) (tail : List ℕ) → next_record default_config state.StartRecord [] [] (line_of fields ++ tail) ≡ Some (seven fields, state.StartRecord, tail)
+line_is_read : (fields : List (List ℕ)) (tail : List ℕ) → next_record default_config state.StartRecord [] [] (line_of 7 fields ++ tail) ≡ Some (seven fields, state.StartRecord, tail)
 line_is_read [] tail = read-write-many [] [] ([] ∷ [] ∷ [] ∷ [] ∷ [] ∷ []) tail
 line_is_read (a ∷ []) tail = read-write-many a [] ([] ∷ [] ∷ [] ∷ [] ∷ [] ∷ []) tail
 line_is_read (a ∷ b ∷ fields) tail = read-write-many a b _ tail
 
 -- lines are read as their rows
-lines_are_read : (rows : List (List (List ℕ))) → Reached default_config state.StartRecord (rows_text rows) (map seven rows) state.StartRecord []
+lines_are_read : (rows : List (List (List ℕ))) → Reached default_config state.StartRecord (rows_text 7 rows) (map seven rows) state.StartRecord []
 unfolding Reached rows_text
 lines_are_read [] = (refl, refl)
-lines_are_read (row ∷ rows) = ((seven row, state.StartRecord, rows_text rows), line_is_read row (rows_text rows), refl, lines_are_read rows)
+lines_are_read (row ∷ rows) = ((seven row, state.StartRecord, rows_text 7 rows), line_is_read row (rows_text 7 rows), refl, lines_are_read rows)
 
 -- a report begins with no byte order mark
-no_mark : (mode : Mode) (rows : List (List (List ℕ))) → strip_bom (rows_text (title_row mode ∷ rows)) ≡ rows_text (title_row mode ∷ rows)
+no_mark : (mode : Mode) (rows : List (List (List ℕ))) → strip_bom (rows_text 7 (title_row mode ∷ rows)) ≡ rows_text 7 (title_row mode ∷ rows)
 unfolding strip_bom rows_text fields_text escaped is_blank
 no_mark mode rows = refl
 
@@ -58,10 +58,10 @@ report_is_read script lines =
     rw (no_mark script.layout.mode _) (state.StartRecord, [], lines_are_read (report_rows script lines), refl)
 
 -- rows of the same fields have the same text
-text_of_seven : (rows : List (List (List ℕ))) → rows_text rows ≡ csv_text (map seven rows)
+text_of_seven : (rows : List (List (List ℕ))) → rows_text 7 rows ≡ csv_text (map seven rows)
 unfolding rows_text csv_text
 text_of_seven [] = refl
-text_of_seven (row ∷ rows) = ap (λ text. line_of row ++ text) (text_of_seven rows)
+text_of_seven (row ∷ rows) = ap (λ text. line_of 7 row ++ text) (text_of_seven rows)
 
 -- what is read from a report has that report
 pub same_report : (script told : Script) (lines others : List Line) → AreRecords default_config state.StartRecord (strip_bom (report_text script lines)) (map seven (report_rows told others)) → report_text told others ≡ report_text script lines

@@ -16,38 +16,38 @@ appended (Some old) (Some new) known more e a = ap (λ bytes. Some bytes) (a ∙
     known_is = cc
 
 -- the first of the rows that are left goes out
-pub row_out : (so_far : List ℕ) (row : List (List ℕ)) (rows : List (List (List ℕ))) (whole : List ℕ) → so_far ++ rows_text (row ∷ rows) ≡ whole → (so_far ++ line_of row) ++ rows_text rows ≡ whole
+pub row_out : (width : ℕ) (so_far : List ℕ) (row : List (List ℕ)) (rows : List (List (List ℕ))) (whole : List ℕ) → so_far ++ rows_text width (row ∷ rows) ≡ whole → (so_far ++ line_of width row) ++ rows_text width rows ≡ whole
 unfolding rows_text
-row_out so_far row rows whole e = append_assoc so_far (line_of row) (rows_text rows) ∙ e
+row_out width so_far row rows whole e = append_assoc so_far (line_of width row) (rows_text width rows) ∙ e
 
 -- rows after rows
-pub rows_after : (rows more : List (List (List ℕ))) → rows_text (rows ++ more) ≡ rows_text rows ++ rows_text more
+pub rows_after : (width : ℕ) (rows more : List (List (List ℕ))) → rows_text width (rows ++ more) ≡ rows_text width rows ++ rows_text width more
 unfolding rows_text
-rows_after [] more = refl
-rows_after (row ∷ rows) more = ap (λ text. line_of row ++ text) (rows_after rows more) ∙ sym (append_assoc (line_of row) (rows_text rows) (rows_text more))
+rows_after width [] more = refl
+rows_after width (row ∷ rows) more = ap (λ text. line_of width row ++ text) (rows_after width rows more) ∙ sym (append_assoc (line_of width row) (rows_text width rows) (rows_text width more))
 
 -- what a page has while the rows of some things go out one by one: those that are left make the
 -- text whole
-pub record IsMidway {A : Type 0} (row_of : A → List (List ℕ)) (left : List A) (text : Option (List ℕ)) (whole : List ℕ) : Type 0 where
+pub record IsMidway {A : Type 0} (width : ℕ) (row_of : A → List (List ℕ)) (left : List A) (text : Option (List ℕ)) (whole : List ℕ) : Type 0 where
   pub so_far : List ℕ
   pub is : text ≡ Some so_far
-  pub whole_is : so_far ++ rows_text (map row_of left) ≡ whole
+  pub whole_is : so_far ++ rows_text width (map row_of left) ≡ whole
 
 -- the row of the next thing goes out
-pub one_out : {A : Type 0} (row_of : A → List (List ℕ)) (things : List A) (k : ℕ) (d : A) (old new : Option (List ℕ)) (whole : List ℕ) → k < length things → Appends old new (line_of (row_of (get_or things k d))) → IsMidway row_of (drop k things) old whole → IsMidway row_of (drop (k + 1) things) new whole
-one_out row_of things k d old new whole within more x =
+pub one_out : {A : Type 0} (width : ℕ) (row_of : A → List (List ℕ)) (things : List A) (k : ℕ) (d : A) (old new : Option (List ℕ)) (whole : List ℕ) → k < length things → Appends old new (line_of width (row_of (get_or things k d))) → IsMidway width row_of (drop k things) old whole → IsMidway width row_of (drop (k + 1) things) new whole
+one_out width row_of things k d old new whole within more x =
     let next : k + 1 ≡ suc k = omega arith in
     rw next (record {
-      so_far = x.so_far ++ line_of (row_of (get_or things k d));
+      so_far = x.so_far ++ line_of width (row_of (get_or things k d));
       is = appended old new x.so_far _ x.is more;
-      whole_is = row_out x.so_far (row_of (get_or things k d)) (map row_of (drop (suc k) things)) whole (rw (drop-cons things k d within) at x.whole_is);
+      whole_is = row_out width x.so_far (row_of (get_or things k d)) (map row_of (drop (suc k) things)) whole (rw (drop-cons things k d within) at x.whole_is);
     })
 
 -- all have gone out
-pub all_out : {A : Type 0} (row_of : A → List (List ℕ)) (things : List A) (k : ℕ) (text : Option (List ℕ)) (out whole : List ℕ) → length things ≤ k → IsMidway row_of (drop k things) text whole → Keeps text (Some out) → out ≡ whole
+pub all_out : {A : Type 0} (width : ℕ) (row_of : A → List (List ℕ)) (things : List A) (k : ℕ) (text : Option (List ℕ)) (out whole : List ℕ) → length things ≤ k → IsMidway width row_of (drop k things) text whole → Keeps text (Some out) → out ≡ whole
 unfolding rows_text
-all_out row_of things k None out whole past x keeps = let e = x.is in cc
-all_out row_of things k (Some text) out whole past x keeps = keeps ∙ text_is ∙ sym (append-nil x.so_far) ∙ (rw (drop_all k things past) at x.whole_is)
+all_out width row_of things k None out whole past x keeps = let e = x.is in cc
+all_out width row_of things k (Some text) out whole past x keeps = keeps ∙ text_is ∙ sym (append-nil x.so_far) ∙ (rw (drop_all k things past) at x.whole_is)
   where
     text_is : text ≡ x.so_far
     text_is = let e = x.is in cc
@@ -87,14 +87,14 @@ part_sent old mid new piece left whole x (n, bound, sent) =
     (length x.so_far + n, rw (length-append x.so_far (piece ++ left), length-append piece left) (omega (arith, bound)), rw (take-append-add x.so_far (piece ++ left) n, take-append-le n piece left bound) (Appends-trans old mid new x.so_far (take n piece) x.sent sent))
 
 -- the rows of some things, and of those behind them
-pub rows_split : {A : Type 0} (row_of : A → List (List ℕ)) (all some more : List A) → all ≡ some ++ more → rows_text (map row_of all) ≡ rows_text (map row_of some) ++ rows_text (map row_of more)
-rows_split row_of all some more e = ap (λ things. rows_text (map row_of things)) e ∙ ap (λ rows. rows_text rows) (map-append row_of some more) ∙ rows_after (map row_of some) (map row_of more)
+pub rows_split : {A : Type 0} (width : ℕ) (row_of : A → List (List ℕ)) (all some more : List A) → all ≡ some ++ more → rows_text width (map row_of all) ≡ rows_text width (map row_of some) ++ rows_text width (map row_of more)
+rows_split width row_of all some more e = ap (λ things. rows_text width (map row_of things)) e ∙ ap (λ rows. rows_text width rows) (map-append row_of some more) ∙ rows_after width (map row_of some) (map row_of more)
 
 -- nothing is left of nothing
-pub no_rows : {A : Type 0} (row_of : A → List (List ℕ)) (things : List A) → length things ≡ 0 → rows_text (map row_of things) ≡ []
+pub no_rows : {A : Type 0} (width : ℕ) (row_of : A → List (List ℕ)) (things : List A) → length things ≡ 0 → rows_text width (map row_of things) ≡ []
 unfolding rows_text
-no_rows row_of [] e = refl
-no_rows row_of (thing ∷ things) e = absurd (omega (arith, e))
+no_rows width row_of [] e = refl
+no_rows width row_of (thing ∷ things) e = absurd (omega (arith, e))
 
 -- what does not go by the error
 pub on_err : {T E : Type 0} {P : Type 0} (r : Result T E) → P → OnErr r P

@@ -13,7 +13,11 @@ use Rattle.record.specs.declared.record.Line.TheVariants.{Step, Log, Reply}
 use Rattle.record.specs.declared.record.Row.TheVariants.{Step as Made, Idle}
 use Rattle.report.specs.Answers.{answer_text}
 use Rattle.report.specs.Words.{word_text}
-use Rattle.texts.specs.Pages.{rows_text}
+use Rattle.texts.specs.Pages.{padded, rows_text}
+
+-- a row of a report: these fields, and empty ones after them
+abbrev pub seven : List (List ℕ) → List (List ℕ)
+seven = padded 7
 
 -- The head
 
@@ -91,4 +95,4 @@ report_rows script lines = title_row script.layout.mode ∷ limits_row script.li
 
 -- the text of a report: its rows, one a line
 abbrev pub report_text : Script → List Line → List ℕ
-report_text script lines = rows_text (report_rows script lines)
+report_text script lines = rows_text 7 (report_rows script lines)

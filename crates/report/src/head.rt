@@ -5,16 +5,16 @@ ghost use Rattle.script.specs.Rows.{limits_row};
 ghost use Rattle.report.specs.Report.{report_end_row, title_row};
 ghost use Rattle.texts.specs.Pages.{IsReady, line_of, page_row, page_text, rows_text};
 
+use crate::rows::Page;
 use crate::totals::Totals;
 use arena::{Limits, Mode};
 use record::Line;
 use script::Script;
 use std::alloc::{AllocError, Global};
-use texts::Page;
 
 /// The two lines that say what was run and how large it was.
 pub fn head_text(alloc: Global, script: &Script) -> Result<Vec<u8>, AllocError>
-    ensures { IfOk result (λ text. text.items ≡ rows_text (title_row script.now.layout.mode ∷ limits_row script.now.limits ∷ [])) }
+    ensures { IfOk result (λ text. text.items ≡ rows_text 7 (title_row script.now.layout.mode ∷ limits_row script.now.limits ∷ [])) }
 {
     let mut page = Page::new(alloc);
     title_line(&mut page, script.layout.mode)?;
@@ -27,7 +27,7 @@ fn title_line(page: &mut Page, mode: Mode) -> Result<(), AllocError>
     requires row { page_row page.old ≡ [] }
     ensures ready { OnOk result (IsReady page.new) }
     ensures row { OnOk result (page_row page.new ≡ []) }
-    ensures text { OnOk result (Appends (page_text page.old) (page_text page.new) (line_of (title_row mode))) }
+    ensures text { OnOk result (Appends (page_text page.old) (page_text page.new) (line_of 7 (title_row mode))) }
 {
     let name = match mode {
         Mode::Tree => "tree",
@@ -44,7 +44,7 @@ fn limits_line(page: &mut Page, limits: &Limits) -> Result<(), AllocError>
     requires row { page_row page.old ≡ [] }
     ensures ready { OnOk result (IsReady page.new) }
     ensures row { OnOk result (page_row page.new ≡ []) }
-    ensures text { OnOk result (Appends (page_text page.old) (page_text page.new) (line_of (limits_row limits.now))) }
+    ensures text { OnOk result (Appends (page_text page.old) (page_text page.new) (line_of 7 (limits_row limits.now))) }
 {
     page.text("limits")?;
     page.number(u64::from(limits.passes))?;
@@ -56,7 +56,7 @@ fn limits_line(page: &mut Page, limits: &Limits) -> Result<(), AllocError>
 
 /// The line that counts the others by their kind.
 pub fn end_text(alloc: Global, lines: &[Line]) -> Result<Vec<u8>, AllocError>
-    ensures { IfOk result (λ text. text.items ≡ rows_text (report_end_row lines.now ∷ [])) }
+    ensures { IfOk result (λ text. text.items ≡ rows_text 7 (report_end_row lines.now ∷ [])) }
 {
     let totals = Totals::of(lines);
     let mut page = Page::new(alloc);

@@ -1,4 +1,4 @@
-//! The record of a run as text.
+//! The record of a run as text, and the outcome of one with threads.
 #![tactic(auto)]
 
 mod answer;
@@ -10,6 +10,7 @@ mod form;
 mod head;
 mod line;
 mod name;
+mod outcome;
 mod read;
 mod read_call;
 mod read_head;
@@ -21,6 +22,7 @@ mod word;
 mod write;
 
 pub use fault::ReportFault;
+pub use outcome::write_outcome;
 pub use read::read_record;
 pub use reply::reply_text;
 pub use texts::WriteFault;

@@ -7,16 +7,16 @@ ghost use Rattle.report.specs.Report.{line_row};
 ghost use Rattle.texts.specs.Pages.{IsReady, line_of, page_row, page_text, rows_text};
 
 use crate::answer::answer_text;
+use crate::rows::Page;
 use crate::word::word_text;
 use arena::PassNo;
 use record::{Entry, Finished, Line, Row};
 use script::kind_name;
 use std::alloc::{AllocError, Global};
-use texts::Page;
 
 /// The text of some lines of a run.
 pub fn lines_text(alloc: Global, lines: &[Line]) -> Result<Vec<u8>, AllocError>
-    ensures { IfOk result (λ text. text.items ≡ rows_text (map line_row lines.now)) }
+    ensures { IfOk result (λ text. text.items ≡ rows_text 7 (map line_row lines.now)) }
 {
     let mut page = Page::new(alloc);
     for line in lines {
@@ -30,7 +30,7 @@ fn put_line(alloc: Global, page: &mut Page, line: &Line) -> Result<(), AllocErro
     requires row { page_row page.old ≡ [] }
     ensures ready { OnOk result (IsReady page.new) }
     ensures row { OnOk result (page_row page.new ≡ []) }
-    ensures text { OnOk result (Appends (page_text page.old) (page_text page.new) (line_of (line_row line.now))) }
+    ensures text { OnOk result (Appends (page_text page.old) (page_text page.new) (line_of 7 (line_row line.now))) }
 {
     match line {
         Line::Step(Row::Step { number, row }) => step_line(alloc, page, *number, row),
@@ -50,7 +50,7 @@ fn step_line(
     requires row { page_row page.old ≡ [] }
     ensures ready { OnOk result (IsReady page.new) }
     ensures row { OnOk result (page_row page.new ≡ []) }
-    ensures text { OnOk result (Appends (page_text page.old) (page_text page.new) (line_of (line_row (StepLine (Made number row.now))))) }
+    ensures text { OnOk result (Appends (page_text page.old) (page_text page.new) (line_of 7 (line_row (StepLine (Made number row.now))))) }
 {
     page.text("step")?;
     page.number(number)?;
@@ -67,7 +67,7 @@ fn idle_line(page: &mut Page, number: u64, client: PassNo) -> Result<(), AllocEr
     requires row { page_row page.old ≡ [] }
     ensures ready { OnOk result (IsReady page.new) }
     ensures row { OnOk result (page_row page.new ≡ []) }
-    ensures text { OnOk result (Appends (page_text page.old) (page_text page.new) (line_of (line_row (StepLine (Idle number client))))) }
+    ensures text { OnOk result (Appends (page_text page.old) (page_text page.new) (line_of 7 (line_row (StepLine (Idle number client))))) }
 {
     page.text("step")?;
     page.number(number)?;
@@ -81,7 +81,7 @@ fn log_line(alloc: Global, page: &mut Page, entry: &Entry) -> Result<(), AllocEr
     requires row { page_row page.old ≡ [] }
     ensures ready { OnOk result (IsReady page.new) }
     ensures row { OnOk result (page_row page.new ≡ []) }
-    ensures text { OnOk result (Appends (page_text page.old) (page_text page.new) (line_of (line_row (Log entry.now)))) }
+    ensures text { OnOk result (Appends (page_text page.old) (page_text page.new) (line_of 7 (line_row (Log entry.now)))) }
 {
     let scx = format!(in alloc; "s{}", entry.scx.0)?;
     page.text("log")?;
@@ -98,7 +98,7 @@ fn reply_line(alloc: Global, page: &mut Page, reply: &Finished) -> Result<(), Al
     requires row { page_row page.old ≡ [] }
     ensures ready { OnOk result (IsReady page.new) }
     ensures row { OnOk result (page_row page.new ≡ []) }
-    ensures text { OnOk result (Appends (page_text page.old) (page_text page.new) (line_of (line_row (ReplyLine reply.now)))) }
+    ensures text { OnOk result (Appends (page_text page.old) (page_text page.new) (line_of 7 (line_row (ReplyLine reply.now)))) }
 {
     page.text("reply")?;
     page.number(u64::from(reply.client.0))?;

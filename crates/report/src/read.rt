@@ -7,8 +7,7 @@ ghost use Rattle.report.specs.Answers.{HasForm};
 ghost use Rattle.report.specs.Numbered.{AreNumbered};
 ghost use Rattle.texts.specs.Reads.{HasRead, IsAtRow};
 ghost use Rattle.texts.specs.Texts.{AreRows};
-ghost use Rattle.report.specs.Report.{call_rows, report_end_row, line_row, report_rows, report_text, title_row};
-ghost use Rattle.texts.specs.Pages.{seven};
+ghost use Rattle.report.specs.Report.{call_rows, report_end_row, line_row, report_rows, report_text, title_row, seven};
 
 use crate::fault::{NotLawful, ReportFault, RowFault};
 use crate::read_call::calls_of;

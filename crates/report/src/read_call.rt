@@ -4,8 +4,7 @@ ghost use Rattle.script.specs.Commands.{command_row, mode_of, texts};
 ghost use Rattle.script.specs.declared.call.Call.{Call};
 ghost use Rattle.report.specs.Counts.{HasCounted};
 ghost use Rattle.texts.specs.Reads.{IsAtRow, last_row};
-ghost use Rattle.report.specs.Report.{reported_call_row, call_rows};
-ghost use Rattle.texts.specs.Pages.{seven};
+ghost use Rattle.report.specs.Report.{reported_call_row, call_rows, seven};
 
 use crate::count::Counts;
 use crate::fault::{NotLawful, RowFault};

@@ -3,8 +3,7 @@ ghost use Rattle.std.specs.Prelude.{◌≡◌, IfSome};
 ghost use Rattle.arena.specs.Limits.{IsAccepted, IsLayoutOf};
 ghost use Rattle.script.specs.Rows.{limits_row};
 ghost use Rattle.script.specs.Commands.{texts};
-ghost use Rattle.report.specs.Report.{mode_text, title_row};
-ghost use Rattle.texts.specs.Pages.{seven};
+ghost use Rattle.report.specs.Report.{mode_text, title_row, seven};
 
 use crate::name::small_number_of;
 use arena::{Layout, Limits, Mode};

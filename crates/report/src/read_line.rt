@@ -8,8 +8,7 @@ ghost use Rattle.script.specs.Commands.{texts};
 ghost use Rattle.script.specs.declared.call.Call.{Call as CallOf};
 ghost use Rattle.texts.specs.Reads.{IsAtRow, last_row};
 ghost use Rattle.report.specs.Answers.{HasForm, answer_text};
-ghost use Rattle.report.specs.Report.{line_row, moment_text};
-ghost use Rattle.texts.specs.Pages.{seven};
+ghost use Rattle.report.specs.Report.{line_row, moment_text, seven};
 
 use crate::answer::answer_of;
 use crate::commands::Commands;

@@ -14,6 +14,9 @@ use texts::Rows;
 /// How many fields a row of a report has.
 const WIDTH: usize = 7;
 
+/// Lines of a report on their way out.
+pub(crate) type Page = texts::Page<WIDTH>;
+
 /// Goes on to the next row, or to the place behind the last row, where it answers false.
 pub fn advance<R: Read + Drop>(rows: &mut Rows<R>) -> Result<bool, RowFault>
     ensures { (bytes : List ℕ) (so_far : List (List (List ℕ))) → HasRead R.remaining bytes so_far rows.old → IfOk result (λ found. MatchBool found (IsAtRow R.remaining bytes so_far 7 rows.new) (AreRows bytes so_far)) }

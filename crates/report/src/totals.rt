@@ -1,8 +1,7 @@
 //! How many lines of each kind a run has.
 ghost use Rattle.std.specs.Prelude.{◌≡◌, IsTrue};
-ghost use Rattle.report.specs.Report.{report_end_row, entries_in, replies_in, steps_in};
+ghost use Rattle.report.specs.Report.{report_end_row, entries_in, replies_in, steps_in, seven};
 ghost use Rattle.script.specs.Commands.{texts};
-ghost use Rattle.texts.specs.Pages.{seven};
 
 use record::Line;
 use texts::number_of;

@@ -43,8 +43,8 @@ fn write_calls<W: Write>(
     calls: &[Call],
     to: &mut Metered<W>,
 ) -> Result<(), WriteFault>
-    ensures all { OnOk result (Appends (W.contents to.old.inner) (W.contents to.new.inner) (rows_text (call_rows [] calls.now))) }
-    ensures beginning { OnErr result (BeginsWith (W.contents to.old.inner) (W.contents to.new.inner) (rows_text (call_rows [] calls.now))) }
+    ensures all { OnOk result (Appends (W.contents to.old.inner) (W.contents to.new.inner) (rows_text 7 (call_rows [] calls.now))) }
+    ensures beginning { OnErr result (BeginsWith (W.contents to.old.inner) (W.contents to.new.inner) (rows_text 7 (call_rows [] calls.now))) }
     ensures ok { OnOk result (to.new.failures ≡ to.old.failures) }
     ensures no_memory { IsErrOf result WriteFault.NoMemory → to.new.failures ≡ to.old.failures }
     ensures write { IsErrOf result WriteFault.Write → to.new.failures ≡ min (to.old.failures + 1) (2 ^ 64 - 1) }
@@ -61,8 +61,8 @@ fn write_lines<W: Write>(
     lines: &[Line],
     to: &mut Metered<W>,
 ) -> Result<(), WriteFault>
-    ensures all { OnOk result (Appends (W.contents to.old.inner) (W.contents to.new.inner) (rows_text (map line_row lines.now))) }
-    ensures beginning { OnErr result (BeginsWith (W.contents to.old.inner) (W.contents to.new.inner) (rows_text (map line_row lines.now))) }
+    ensures all { OnOk result (Appends (W.contents to.old.inner) (W.contents to.new.inner) (rows_text 7 (map line_row lines.now))) }
+    ensures beginning { OnErr result (BeginsWith (W.contents to.old.inner) (W.contents to.new.inner) (rows_text 7 (map line_row lines.now))) }
     ensures ok { OnOk result (to.new.failures ≡ to.old.failures) }
     ensures no_memory { IsErrOf result WriteFault.NoMemory → to.new.failures ≡ to.old.failures }
     ensures write { IsErrOf result WriteFault.Write → to.new.failures ≡ min (to.old.failures + 1) (2 ^ 64 - 1) }

@@ -3,7 +3,7 @@ ghost use Rattle.std.specs.Prelude.{◌≡◌, IfOk};
 ghost use Rattle.arena.specs.declared.limits.Mode.TheVariants.{Tree};
 
 use arena::{Kind, Mode, PassNo};
-use program::write_outcome;
+use report::write_outcome;
 use runner::{Alternate, Gate, Hold, Open, Outcome, run};
 use script::{Metered, Script, read_script};
 use std::alloc::Global;
@@ -226,7 +226,8 @@ fn a_missed_gate_is_told(rt: HostRuntime) {
         pairs: Vec::new(rt.alloc()),
     };
     let mut out = Metered::new(Vec::new(rt.alloc()));
-    let written = write_outcome(rt.alloc(), &outcome, true, &mut out);
+    let (replies, pairs) = (outcome.replies.as_slice(), outcome.pairs.as_slice());
+    let written = write_outcome(rt.alloc(), true, replies, pairs, &mut out);
     assert!(rt; written.is_ok());
     let text = "outcome,1,,\ngate,missed,,\nend,0,0,\n";
     assert_eq!(rt; out.inner.as_slice(), text.as_bytes());

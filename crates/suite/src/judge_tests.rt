@@ -1,3 +1,4 @@
+use crate::same::same;
 use arena::Kind::{
     Commit, Fill, Freeze, LoadAllFrozen, LoadChild, LoadInfo, LoadMarked, LoadSettled, LoadState,
     Mark, SetFrozen, Update,
@@ -71,16 +72,35 @@ fn abort(pass: u32, scx: u64, before: u64) -> Row {
     step(pass, Kind::Abort, s(scx, State), before, 2)
 }
 
-/// Cells: nodes 0 to 8 are there from the start, client 0 has nodes 9 to 18 and SCX-records 1 to
-/// 10, client 1 has nodes 19 to 28 and SCX-records 11 to 20.
-fn layout(mode: Mode, passes: u32) -> Result<Layout, Fail> {
+/// A table whose clients have so many nodes and SCX-records each.
+fn layout(mode: Mode, passes: u32, records: u32) -> Result<Layout, Fail> {
     let limits = Limits {
         passes,
-        nodes: 10,
-        scx: 10,
+        nodes: records,
+        scx: records,
         tries: 3,
     };
     Ok(limits.check(mode)?)
+}
+
+/// Cells: nodes 0 to 8 are there from the start, client 0 has nodes 9 to 18 and SCX-records 1 to
+/// 10, client 1 has nodes 19 to 28 and SCX-records 11 to 20.
+fn cells() -> Result<Layout, Fail> {
+    layout(Mode::Records, 2, 10)
+}
+
+/// The first unlawful row of the run of this number, of those of a test, is this one; none where
+/// the run is lawful.
+fn judged(
+    rt: &impl Abort,
+    alloc: Global,
+    layout: &Layout,
+    (number, rows): (usize, &[Row]),
+    want: Option<usize>,
+) -> Result<(), Fail> {
+    let answer = first_unlawful(alloc, layout, rows)?;
+    assert_eq!(rt; answer, want, "run {number}");
+    Ok(())
 }
 
 /// A snapshot of a cell that holds nothing on its right.
@@ -210,36 +230,37 @@ fn whole_run(alloc: Global) -> Result<Vec<Row>, AllocError> {
 
 #[test]
 fn a_run_of_cells_is_lawful(rt: HostRuntime) -> Result<(), Fail> {
-    let layout = layout(Mode::Records, 2)?;
     let rows = whole_run(rt.alloc())?;
-    assert_eq!(rt; rows.len(), 94);
-    let answer = first_unlawful(rt.alloc(), &layout, rows.as_slice())?;
-    assert_eq!(rt; answer, None);
-    Ok(())
+    same(&rt, rows.len(), 94);
+    judged(&rt, rt.alloc(), &cells()?, (0, rows.as_slice()), None)
+}
+
+/// A judge that has taken in these rows, each of them lawful.
+fn judge_of(rt: &impl Abort, alloc: Global, rows: &[Row]) -> Result<Judge, Fail> {
+    let mut judge = Judge::new(alloc, &cells()?)?;
+    for row in rows {
+        assert!(rt; judge.is_lawful(row));
+        judge.make(row)?;
+    }
+    Ok(judge)
 }
 
 #[test]
 fn a_judge_remembers_a_run(rt: HostRuntime) -> Result<(), Fail> {
-    let layout = layout(Mode::Records, 2)?;
-    let mut judge = Judge::new(rt.alloc(), &layout)?;
-    let rows = whole_run(rt.alloc())?;
-    for row in rows.as_slice() {
-        assert!(rt; judge.is_lawful(row));
-        judge.make(row)?;
-    }
-    assert_eq!(rt; judge.get(s(12, State)), 1);
-    assert_eq!(rt; (judge.entries(), judge.taken()), (3, 4));
-    assert_eq!(rt;
-        (
-            judge.last(NodeNo(1)),
-            judge.last(NodeNo(3)),
-            judge.last(NodeNo(4))
-        ),
-        (2, 3, 0)
-    );
-    assert!(rt; judge.is_final(NodeNo(2)) && !judge.is_final(NodeNo(1)));
-    assert!(rt; judge.is_named(ScxNo(12)) && !judge.is_named(ScxNo(2)));
-    assert!(rt; !judge.is_in_progress(ScxNo(12)));
+    let judge = judge_of(&rt, rt.alloc(), whole_run(rt.alloc())?.as_slice())?;
+    same(&rt, judge.get(s(12, State)), 1);
+    same(&rt, (judge.entries(), judge.taken()), (3, 4));
+    let last = [
+        judge.last(NodeNo(1)),
+        judge.last(NodeNo(3)),
+        judge.last(NodeNo(4)),
+    ];
+    same(&rt, last, [2, 3, 0]);
+    let is_final = [judge.is_final(NodeNo(2)), judge.is_final(NodeNo(1))];
+    same(&rt, is_final, [true, false]);
+    let is_named = [judge.is_named(ScxNo(12)), judge.is_named(ScxNo(2))];
+    same(&rt, is_named, [true, false]);
+    same(&rt, judge.is_in_progress(ScxNo(12)), false);
     Ok(())
 }
 
@@ -274,12 +295,10 @@ fn judge_edits(
     alloc: Global,
     edits: &[(Option<usize>, Edit)],
 ) -> Result<(), Fail> {
-    let layout = layout(Mode::Records, 2)?;
-    let rows = whole_run(alloc)?;
+    let (layout, rows) = (cells()?, whole_run(alloc)?);
     for (number, (want, edit)) in edits.iter().enumerate() {
         let changed = edited(alloc, rows.as_slice(), *edit)?;
-        let answer = first_unlawful(alloc, &layout, changed.as_slice())?;
-        assert_eq!(rt; answer, *want, "edit {number}");
+        judged(rt, alloc, &layout, (number, changed.as_slice()), *want)?;
     }
     Ok(())
 }
@@ -429,10 +448,22 @@ fn begin(
     Ok(rows)
 }
 
+/// What the judge says of a begun SCX-record, and how it is begun.
+type Begun = (Option<usize>, Said, (u64, u64), u64);
+
+/// Each of these is judged so.
+fn judge_begins(rt: &impl Abort, alloc: Global, begins: &[Begun]) -> Result<(), Fail> {
+    let layout = cells()?;
+    for (number, (want, said, second, found)) in begins.iter().enumerate() {
+        let rows = begin(alloc, *said, *second, *found)?;
+        judged(rt, alloc, &layout, (number, rows.as_slice()), *want)?;
+    }
+    Ok(())
+}
+
 #[test]
 fn begins_are_judged(rt: HostRuntime) -> Result<(), Fail> {
-    let layout = layout(Mode::Records, 2)?;
-    let tries = [
+    let begins = [
         (None, Said(1, 11, 0, 4, 0), (0, 0), 0),
         (None, Said(1, 11, 19, 1, 11), (0, 0), 11),
         (None, Said(2, 11, 0, 4, 0), (5, 0), 0),
@@ -464,24 +495,15 @@ fn begins_are_judged(rt: HostRuntime) -> Result<(), Fail> {
         (Some(103), Said(1, 40, 0, 4, 0), (0, 0), 0),
         (Some(96), Said(1, 20, 0, 4, 0), (0, 0), 0),
     ];
-    for (number, (want, said, second, found)) in tries.iter().enumerate() {
-        let rows = begin(rt.alloc(), *said, *second, *found)?;
-        let answer = first_unlawful(rt.alloc(), &layout, rows.as_slice())?;
-        assert_eq!(rt; answer, *want, "begin {number}");
-    }
-    Ok(())
+    judge_begins(&rt, rt.alloc(), &begins)
 }
 
-/// A client puts key 5 with value 50 into an empty tree.
-#[test]
-fn an_insert_is_lawful(rt: HostRuntime) -> Result<(), Fail> {
-    let layout = layout(Mode::Tree, 1)?;
-    let walk = [
+/// A client walks an empty tree, and fills what it will put in.
+fn fill_insert(rows: &mut Vec<Row>) -> Result<(), AllocError> {
+    rows.extend_from_slice(&[
         load(0, n(0, Head), 2),
         load(0, n(0, Child(Left)), 1),
         load(0, n(1, Head), 13),
-    ];
-    let nodes = [
         fill(0, n(3, Head), 0, 20),
         fill(0, n(3, Key), 0, 5),
         fill(0, n(3, Value), 0, 50),
@@ -492,8 +514,6 @@ fn an_insert_is_lawful(rt: HostRuntime) -> Result<(), Fail> {
         fill(0, n(5, Key), 0, 0),
         fill(0, n(5, Child(Left)), 0, 3),
         fill(0, n(5, Child(Right)), 0, 4),
-    ];
-    let record = [
         fill(0, s(1, Plan), 0, 18),
         fill(0, s(1, New), 0, 5),
         fill(0, s(1, Old), 0, 1),
@@ -502,8 +522,12 @@ fn an_insert_is_lawful(rt: HostRuntime) -> Result<(), Fail> {
         fill(0, s(1, Seen(0)), 0, 0),
         fill(0, s(1, Seen(1)), 0, 0),
         fill(0, s(1, Call), 0, 0),
-    ];
-    let steps = [
+    ])
+}
+
+/// It makes its SCX.
+fn make_insert(rows: &mut Vec<Row>) -> Result<(), AllocError> {
+    rows.extend_from_slice(&[
         load(0, s(1, Plan), 18),
         load(0, s(1, Member(0)), 0),
         load(0, s(1, Seen(0)), 0),
@@ -517,56 +541,49 @@ fn an_insert_is_lawful(rt: HostRuntime) -> Result<(), Fail> {
         load(0, s(1, Old), 1),
         update(0, 0, 1, 5),
         commit(0, 1, 0),
-    ];
-    let mut rows = Vec::new(rt.alloc());
-    for part in [
-        walk.as_slice(),
-        nodes.as_slice(),
-        record.as_slice(),
-        steps.as_slice(),
-    ]
-    .iter()
-    {
-        rows.extend_from_slice(part)?;
-    }
-    let answer = first_unlawful(rt.alloc(), &layout, rows.as_slice())?;
-    assert_eq!(rt; answer, None);
-    // a leaf below the new node is named with it
-    rows.push(fill(0, n(3, Value), 50, 51))?;
-    let answer = first_unlawful(rt.alloc(), &layout, rows.as_slice())?;
-    assert_eq!(rt; answer, Some(34));
-    Ok(())
+    ])
 }
 
-/// One client sets cell 1 again and again: 120 times 20 rows.
+/// A client puts key 5 with value 50 into an empty tree.
+#[test]
+fn an_insert_is_lawful(rt: HostRuntime) -> Result<(), Fail> {
+    let alloc = rt.alloc();
+    let layout = layout(Mode::Tree, 1, 10)?;
+    let mut rows = Vec::new(alloc);
+    fill_insert(&mut rows)?;
+    make_insert(&mut rows)?;
+    judged(&rt, alloc, &layout, (0, rows.as_slice()), None)?;
+    // a leaf below the new node is named with it
+    rows.push(fill(0, n(3, Value), 50, 51))?;
+    judged(&rt, alloc, &layout, (1, rows.as_slice()), Some(34))
+}
+
+/// A client sets cell 1 after so many times before, when its left field holds this: 20 rows.
+fn set_again(rows: &mut Vec<Row>, number: u32, left: u64) -> Result<(), AllocError> {
+    let state = if number == 0 { 2 } else { 1 };
+    let number = u64::from(number);
+    let (scx, node) = (number + 1, number + 9);
+    snapshot(rows, 0, 1, number, state, left)?;
+    rows.push(fill(0, n(node, Value), 0, 70))?;
+    fills(rows, 0, scx, Said(1, node, left, 1, number))?;
+    rows.extend_from_slice(&[
+        load(0, s(scx, Plan), 1),
+        freeze(0, 1, number, scx),
+        frozen(0, scx, 0),
+        load(0, s(scx, New), node),
+        update(0, 1, left, node),
+        commit(0, scx, 0),
+    ])
+}
+
+/// One client sets cell 1 again and again: 120 times.
 #[test]
 fn a_long_run_is_lawful(rt: HostRuntime) -> Result<(), Fail> {
-    let limits = Limits {
-        passes: 1,
-        nodes: 300,
-        scx: 300,
-        tries: 3,
-    };
-    let layout = limits.check(Mode::Records)?;
     let mut rows = Vec::new(rt.alloc());
-    let mut left = 0;
-    for number in 0u64..120 {
-        let state = if number == 0 { 2 } else { 1 };
-        let (scx, node) = (number + 1, number + 9);
-        snapshot(&mut rows, 0, 1, number, state, left)?;
-        rows.push(fill(0, n(node, Value), 0, 70))?;
-        fills(&mut rows, 0, scx, Said(1, node, left, 1, number))?;
-        rows.extend_from_slice(&[
-            load(0, s(scx, Plan), 1),
-            freeze(0, 1, number, scx),
-            frozen(0, scx, 0),
-            load(0, s(scx, New), node),
-            update(0, 1, left, node),
-            commit(0, scx, 0),
-        ])?;
-        left = node;
+    set_again(&mut rows, 0, 0)?;
+    for number in 1..120 {
+        set_again(&mut rows, number, u64::from(number) + 8)?;
     }
-    let answer = first_unlawful(rt.alloc(), &layout, rows.as_slice())?;
-    assert_eq!(rt; answer, None);
-    Ok(())
+    let layout = layout(Mode::Records, 1, 300)?;
+    judged(&rt, rt.alloc(), &layout, (0, rows.as_slice()), None)
 }

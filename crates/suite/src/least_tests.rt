@@ -1,6 +1,7 @@
 //! An edit that learns its key behind its walk: it takes the least pair away.
 ghost use Rattle.std.specs.Prelude.{◌≡◌};
 
+use crate::same::same;
 use arena::NodeWord::{Child, Head, Key, Value};
 use arena::Side::Left;
 use arena::{
@@ -125,6 +126,12 @@ fn two_pairs(rt: &impl Abort, table: &mut PlainWords) -> Share {
     share
 }
 
+/// Takes the least pair away, in the call of this number.
+fn pops(table: &mut PlainWords, share: Share, call: u64) -> (u32, Option<Updated>, Share) {
+    let run = UpdateRun::new(PopFirst, share, 3, call, UpdateAt::Start);
+    plays(table, run)
+}
+
 /// The key and the value that an answer tells, if it tells a pair.
 fn pair(answer: Option<Updated>) -> Option<(u64, u64)> {
     match answer {
@@ -171,7 +178,7 @@ fn a_walk_to_the_least_key_loads_no_key_of_a_fork(rt: HostRuntime) -> Result<(),
         Turn::Done(found) => Some(Updated::at(&found)),
         Turn::Ask(_) => None,
     };
-    assert_eq!(rt; pair(answer), Some((5, 50)));
+    same(&rt, pair(answer), Some((5, 50)));
     Ok(())
 }
 
@@ -179,23 +186,14 @@ fn a_walk_to_the_least_key_loads_no_key_of_a_fork(rt: HostRuntime) -> Result<(),
 fn the_least_pairs_are_taken_one_after_the_other(rt: HostRuntime) -> Result<(), Fail> {
     let mut table = opening(rt.alloc())?;
     let share = two_pairs(&rt, &mut table);
-    let (_, first, share) = plays(
-        &mut table,
-        UpdateRun::new(PopFirst, share, 3, 2, UpdateAt::Start),
-    );
-    assert_eq!(rt; pair(first), Some((5, 50)));
-    let (_, second, share) = plays(
-        &mut table,
-        UpdateRun::new(PopFirst, share, 3, 3, UpdateAt::Start),
-    );
-    assert_eq!(rt; pair(second), Some((9, 90)));
+    let (_, first, share) = pops(&mut table, share, 2);
+    same(&rt, pair(first), Some((5, 50)));
+    let (_, second, share) = pops(&mut table, share, 3);
+    same(&rt, pair(second), Some((9, 90)));
     // the root's head and field, and the head of the leaf above all keys
-    let (steps, third, _) = plays(
-        &mut table,
-        UpdateRun::new(PopFirst, share, 3, 4, UpdateAt::Start),
-    );
-    assert_eq!(rt; steps, 3);
+    let (steps, third, _) = pops(&mut table, share, 4);
+    same(&rt, steps, 3);
     assert!(rt; matches!(third, Some(Updated::Done { .. })));
-    assert_eq!(rt; pair(third), None);
+    same(&rt, pair(third), None);
     Ok(())
 }

@@ -15,4 +15,6 @@ mod length_tests;
 #[cfg(test)]
 mod memory_tests;
 #[cfg(test)]
+mod same;
+#[cfg(test)]
 mod spelling_tests;

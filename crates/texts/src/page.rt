@@ -1,26 +1,24 @@
-//! Rows of seven fields as lines of text.
+//! Rows of so many fields as lines of text.
 ghost use Rattle.std.specs.Prelude.{◌≡◌, ◌≤◌, [], ◌∷◌, ◌++◌, IfOk, OnOk, Some, decimal, length};
 ghost use Rattle.std.specs.Io.KnownBytes.{Appends, Keeps};
 ghost use Rattle.csv.specs.Records.{fields_of, partial_of};
-ghost use Rattle.texts.specs.Pages.{IsReady, line_of, page_row, page_text, seven};
+ghost use Rattle.texts.specs.Pages.{IsReady, line_of, padded, page_row, page_text};
 
 use csv::{ByteRecord, Writer, WriterBuilder};
 use itoa::Buffer;
 use std::alloc::{AllocError, Global};
 
-/// How many fields a row of a report has.
-const WIDTH: usize = 7;
-
-/// Lines of text, and the first fields of the next one. After a refusal it is of no more use.
+/// Lines of text with `WIDTH` fields each, and the first fields of the next one. After a refusal it
+/// is of no more use.
 #[derive(Drop)]
-pub struct Page {
+pub struct Page<const WIDTH: usize> {
     lines: Writer<Vec<u8>>,
     row: ByteRecord,
 }
 
-impl Page {
+impl<const WIDTH: usize> Page<WIDTH> {
     /// A page with no line.
-    pub fn new(alloc: Global) -> Page
+    pub fn new(alloc: Global) -> Page<WIDTH>
         ensures ready { IsReady result }
         ensures row { page_row result ≡ [] }
         ensures text { page_text result ≡ Some [] }
@@ -57,9 +55,9 @@ impl Page {
         requires fits { length (page_row self.old) ≤ WIDTH }
         ensures ready { OnOk result (IsReady self.new) }
         ensures row { OnOk result (page_row self.new ≡ []) }
-        ensures line { OnOk result (Appends (page_text self.old) (page_text self.new) (line_of (page_row self.old))) }
+        ensures line { OnOk result (Appends (page_text self.old) (page_text self.new) (line_of WIDTH (page_row self.old))) }
     {
-        fill_up(&mut self.row)?;
+        fill_up(&mut self.row, WIDTH)?;
         // Over a vector, whatever the writer refuses is want of memory.
         if self.lines.write_byte_record(&self.row).is_err() {
             return Err(AllocError);
@@ -70,7 +68,7 @@ impl Page {
 
     /// The lines that were ended.
     pub fn into_text(self) -> Result<Vec<u8>, AllocError>
-        ensures { IfOk result (λ text. Keeps (page_text self) (Some text.items)) }
+        ensures { IfOk result (λ text. Keeps (page_text self.entry) (Some text.items)) }
     {
         match self.lines.into_inner() {
             Ok(text) => Ok(text),
@@ -79,14 +77,14 @@ impl Page {
     }
 }
 
-/// Adds empty fields until there are seven.
-fn fill_up(row: &mut ByteRecord) -> Result<(), AllocError>
+/// Adds empty fields until there are so many.
+fn fill_up(row: &mut ByteRecord, width: usize) -> Result<(), AllocError>
     requires whole { partial_of row.old ≡ [] }
-    requires fits { length (fields_of row.old) ≤ WIDTH }
-    ensures fields { OnOk result (fields_of row.new ≡ seven (fields_of row.old)) }
+    requires fits { length (fields_of row.old) ≤ width }
+    ensures fields { OnOk result (fields_of row.new ≡ padded width (fields_of row.old)) }
     ensures whole { OnOk result (partial_of row.new ≡ []) }
 {
-    for _ in row.len()..WIDTH {
+    for _ in row.len()..width {
         row.push_field(b"")?;
     }
     Ok(())

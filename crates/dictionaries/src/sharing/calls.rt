@@ -1,7 +1,9 @@
 //! Calls by two passes.
 ghost use Rattle.forest.specs.Passes.{IsOf};
 
-use super::{end_two, two};
+use super::answers::{delete, get, insert, meet, range, successor};
+use super::{end_two, opened};
+use crate::same::{has, same};
 use dict::{Dict, Name8};
 use forest::{Forest, Pass, UpdateFault};
 use std::test::Fail;
@@ -24,38 +26,28 @@ fn raise(board: &Forest<Names>, pass: &mut Pass<Names>, name: Name8, score: u32)
     requires pass { IsOf board.now pass.old }
     ensures { IsOf board.now pass.new }
 {
-    match board.insert(pass, name, score) {
+    match insert(board, pass, name, score) {
         Ok(old) => old,
-        Err(UpdateFault::Contended { .. } | UpdateFault::Full(_)) => board.get(pass, &name),
+        Err(UpdateFault::Contended { .. } | UpdateFault::Full(_)) => get(board, pass, name),
     }
 }
 
 #[test]
 fn two_passes_have_one_map(rt: HostRuntime) -> Result<(), Fail> {
-    let Some((forest, mut first, mut second)) = two::<Name8, u32>(rt.alloc()) else {
-        assert!(rt; false);
-        return Ok(());
-    };
-    let Some(names) = names() else {
-        assert!(rt; false);
-        return Ok(());
-    };
-    let [ab, b, low, high] = names;
-    assert_eq!(rt; forest.insert(&mut first, b, 2), Ok(None));
-    assert_eq!(rt; raise(&forest, &mut second, ab, 1), None);
-    forest.meet(&mut first, &mut second);
-    let next = forest.successor(rt.alloc(), &mut second, &ab);
-    assert_eq!(rt; next, Ok(Some((b, 2))));
-    let all = forest.range(rt.alloc(), &mut first, &low, &high, 64);
-    let both = [(ab, 1), (b, 2)];
-    assert!(rt; matches!(&all, Ok(pairs) if pairs.as_slice() == both.as_slice()));
-    assert_eq!(rt; forest.delete(&mut first, &b), Ok(Some(2)));
-    assert_eq!(rt;
-        (forest.get(&mut first, &b), forest.get(&mut first, &ab)),
-        (None, Some(1))
-    );
-    assert_eq!(rt; (first.left(), second.left()), ((16, 18), (17, 19)));
+    let (forest, mut first, mut second) = opened::<Name8, u32>(rt.alloc())?;
+    let [ab, b, low, high] = names().ok_or("no names")?;
+    same(&rt, insert(&forest, &mut first, b, 2), Ok(None));
+    same(&rt, raise(&forest, &mut second, ab, 1), None);
+    meet(&forest, &mut first, &mut second);
+    let next = successor(rt.alloc(), &forest, &mut second, ab);
+    same(&rt, next, Ok(Some((b, 2))));
+    let all = range(rt.alloc(), &forest, &mut first, low, high);
+    assert!(rt; has(&all, &[(ab, 1), (b, 2)]));
+    same(&rt, delete(&forest, &mut first, b), Ok(Some(2)));
+    same(&rt, get(&forest, &mut first, b), None);
+    same(&rt, get(&forest, &mut first, ab), Some(1));
+    same(&rt, [first.left(), second.left()], [(16, 18), (17, 19)]);
     let left = end_two(rt.alloc(), forest, first, second)?;
-    assert!(rt; matches!(&left, Some(pairs) if pairs.as_slice() == [(ab, 1)].as_slice()));
+    assert!(rt; has(&left, &[(ab, 1)]));
     Ok(())
 }

@@ -1,8 +1,10 @@
 //! Calls that are held open, while the other pass makes calls.
-ghost use Rattle.std.specs.Prelude.{◌≡◌, true, false, IfOk, IfSome};
+ghost use Rattle.std.specs.Prelude.{◌≡◌, true, false, IfOk};
 ghost use Rattle.forest.specs.Passes.{IsOf};
 
-use super::{end_two, two};
+use super::answers::{delete, get, insert, range, successor};
+use super::{end_two, opened};
+use crate::same::{has, same};
 use arena::Kind;
 use arena::Kind::{
     Abort, Commit, Fill, Freeze, LoadAllFrozen, LoadChild, LoadInfo, LoadMarked, LoadSettled,
@@ -72,6 +74,34 @@ fn hold(
     Ok(true)
 }
 
+/// Begins the insert of (5, 50).
+fn open_insert(alloc: Global, forest: &Forest<Numbers>, pass: Pass<Numbers>) -> Held
+    requires { IsOf forest.now pass }
+    ensures forest { IsOf forest.now result.began }
+    ensures goes { result.over ≡ false }
+{
+    forest.open(alloc, pass, Request::Insert { key: 5, value: 50 })
+}
+
+/// Makes so many steps of a call, behind which it goes on.
+fn held(
+    forest: &Forest<Numbers>,
+    mut call: Held,
+    steps: usize,
+    kinds: &mut Vec<Kind>,
+) -> Result<Held, Fail>
+    requires forest { IsOf forest.now call.began }
+    requires goes { call.over ≡ false }
+    ensures forest { IfOk result (λ call. IsOf forest.now call.began) }
+    ensures goes { IfOk result (λ call. call.over ≡ false) }
+{
+    if hold(forest, &mut call, steps, kinds)? {
+        Ok(call)
+    } else {
+        Err("the call is over".into())
+    }
+}
+
 /// Makes the rest of a call, and notes the kinds of its steps.
 fn rest(
     forest: &Forest<Numbers>,
@@ -94,6 +124,22 @@ fn rest(
     }
 }
 
+/// The value that a reply tells, if it is one of an insert, a delete or a get.
+fn value(reply: &Reply<u64, u64>) -> Option<Option<u64>> {
+    match reply {
+        Reply::Value(old) => Some(*old),
+        _ => None,
+    }
+}
+
+/// The pairs that a reply tells, if it is one of a range.
+fn pairs(reply: Reply<u64, u64>) -> Option<Vec<(u64, u64)>> {
+    match reply {
+        Reply::Pairs(pairs) => Some(pairs),
+        _ => None,
+    }
+}
+
 /// Whether these are the kinds of the parts, one part behind the other.
 fn are(kinds: &[Kind], parts: &[&[Kind]]) -> bool {
     let mut left = kinds;
@@ -108,55 +154,42 @@ fn are(kinds: &[Kind], parts: &[&[Kind]]) -> bool {
 
 #[test]
 fn an_insert_that_is_held_is_helped(rt: HostRuntime) -> Result<(), Fail> {
-    let Some((forest, first, mut second)) = two::<u64, u64>(rt.alloc()) else {
-        assert!(rt; false);
-        return Ok(());
-    };
+    let (forest, first, mut second) = opened::<u64, u64>(rt.alloc())?;
     let mut kinds = Vec::new(rt.alloc());
-    let insert = Request::Insert { key: 5, value: 50 };
-    let mut call = forest.open(rt.alloc(), first, insert);
+    let call = open_insert(rt.alloc(), &forest, first);
     // Up to its first freeze.
-    if !hold(&forest, &mut call, 39, &mut kinds)? {
-        assert!(rt; false);
-        return Ok(());
-    }
-    assert_eq!(rt; kinds.last(), Some(&Freeze));
-    assert_eq!(rt; forest.get(&mut second, &5), None);
-    assert_eq!(rt; forest.insert(&mut second, 7, 70), Ok(None));
-    assert_eq!(rt; forest.get(&mut second, &5), Some(50));
+    let call = held(&forest, call, 39, &mut kinds)?;
+    same(&rt, kinds.last().copied(), Some(Freeze));
+    same(&rt, get(&forest, &mut second, 5), None);
+    same(&rt, insert(&forest, &mut second, 7, 70), Ok(None));
+    same(&rt, get(&forest, &mut second, 5), Some(50));
     let (first, reply) = rest(&forest, call, &mut kinds)?;
-    assert!(rt; matches!(reply, Reply::Value(None)));
+    same(&rt, value(&reply), Some(None));
     let walk = [LoadSettled, LoadChild, LoadSettled];
     assert!(rt; are(&kinds, &[&walk, &LOOKS, &[Fill; 10], &PUT]));
-    assert_eq!(rt; (first.left(), second.left()), ((17, 19), (17, 19)));
+    same(&rt, [first.left(), second.left()], [(17, 19), (17, 19)]);
     let left = end_two(rt.alloc(), forest, first, second)?;
-    let both = [(5, 50), (7, 70)];
-    assert!(rt; matches!(&left, Some(pairs) if pairs.as_slice() == both.as_slice()));
+    assert!(rt; has(&left, &[(5, 50), (7, 70)]));
     Ok(())
 }
 
 /// A dictionary in which the second pass has put (7, 70), and the first holds an insert of (5, 50)
 /// behind its first freeze. A call of the second that comes to the frozen node has to help the
 /// insert, and so loses its first try.
-fn frozen_insert(
-    alloc: Global,
-) -> Result<Option<(Forest<Numbers>, Held, Pass<Numbers>)>, AllocError>
-    ensures held { IfOk result (λ r. IfSome r (λ t. IsOf t.0 t.1.began × (t.1.over ≡ false))) }
-    ensures second { IfOk result (λ r. IfSome r (λ t. IsOf t.0 t.2)) }
+fn frozen_insert(alloc: Global) -> Result<(Forest<Numbers>, Held, Pass<Numbers>), Fail>
+    ensures held { IfOk result (λ t. IsOf t.0 t.1.began × (t.1.over ≡ false)) }
+    ensures second { IfOk result (λ t. IsOf t.0 t.2) }
 {
-    let Some((forest, first, mut second)) = two::<u64, u64>(alloc) else {
-        return Ok(None);
-    };
-    if forest.insert(&mut second, 7, 70) != Ok(None) {
-        return Ok(None);
+    let (forest, first, mut second) = opened::<u64, u64>(alloc)?;
+    if insert(&forest, &mut second, 7, 70) != Ok(None) {
+        return Err("7 has a value".into());
     }
-    let mut call = forest.open(alloc, first, Request::Insert { key: 5, value: 50 });
+    let call = open_insert(alloc, &forest, first);
     let mut kinds = Vec::new(alloc);
-    let goes = hold(&forest, &mut call, 43, &mut kinds)?;
-    if goes && kinds.last() == Some(&Freeze) {
-        Ok(Some((forest, call, second)))
-    } else {
-        Ok(None)
+    let call = held(&forest, call, 43, &mut kinds)?;
+    match kinds.last() {
+        Some(Freeze) => Ok((forest, call, second)),
+        _ => Err("no freeze".into()),
     }
 }
 
@@ -173,72 +206,53 @@ fn end_helped(
 {
     let mut kinds = Vec::new(alloc);
     let (first, reply) = rest(&forest, call, &mut kinds)?;
-    match reply {
-        Reply::Value(None) => end_two(alloc, forest, first, second),
+    match value(&reply) {
+        Some(None) => end_two(alloc, forest, first, second),
         _ => Ok(None),
     }
 }
 
 #[test]
 fn a_delete_tries_again_behind_a_held_insert(rt: HostRuntime) -> Result<(), Fail> {
-    let Some((forest, call, mut second)) = frozen_insert(rt.alloc())? else {
-        assert!(rt; false);
-        return Ok(());
-    };
-    assert_eq!(rt; forest.delete(&mut second, &7), Ok(Some(70)));
-    assert_eq!(rt; second.left(), (16, 18));
+    let (forest, call, mut second) = frozen_insert(rt.alloc())?;
+    same(&rt, delete(&forest, &mut second, 7), Ok(Some(70)));
+    same(&rt, second.left(), (16, 18));
     let left = end_helped(rt.alloc(), forest, call, second)?;
-    let one = [(5, 50)];
-    assert!(rt; matches!(&left, Some(pairs) if pairs.as_slice() == one.as_slice()));
+    assert!(rt; has(&left, &[(5, 50)]));
     Ok(())
 }
 
 #[test]
 fn a_successor_tries_again_behind_a_held_insert(rt: HostRuntime) -> Result<(), Fail> {
-    let Some((forest, call, mut second)) = frozen_insert(rt.alloc())? else {
-        assert!(rt; false);
-        return Ok(());
-    };
-    let next = forest.successor(rt.alloc(), &mut second, &4);
-    assert_eq!(rt; next, Ok(Some((5, 50))));
+    let (forest, call, mut second) = frozen_insert(rt.alloc())?;
+    let next = successor(rt.alloc(), &forest, &mut second, 4);
+    same(&rt, next, Ok(Some((5, 50))));
     let left = end_helped(rt.alloc(), forest, call, second)?;
-    let both = [(5, 50), (7, 70)];
-    assert!(rt; matches!(&left, Some(pairs) if pairs.as_slice() == both.as_slice()));
+    assert!(rt; has(&left, &[(5, 50), (7, 70)]));
     Ok(())
 }
 
 #[test]
 fn a_range_tries_again_behind_a_held_insert(rt: HostRuntime) -> Result<(), Fail> {
-    let Some((forest, call, mut second)) = frozen_insert(rt.alloc())? else {
-        assert!(rt; false);
-        return Ok(());
-    };
-    let both = [(5, 50), (7, 70)];
-    let found = forest.range(rt.alloc(), &mut second, &0, &9, 64);
-    assert!(rt; matches!(&found, Ok(pairs) if pairs.as_slice() == both.as_slice()));
+    let (forest, call, mut second) = frozen_insert(rt.alloc())?;
+    let found = range(rt.alloc(), &forest, &mut second, 0, 9);
+    assert!(rt; has(&found, &[(5, 50), (7, 70)]));
     let left = end_helped(rt.alloc(), forest, call, second)?;
-    assert!(rt; matches!(&left, Some(pairs) if pairs.as_slice() == both.as_slice()));
+    assert!(rt; has(&left, &[(5, 50), (7, 70)]));
     Ok(())
 }
 
 #[test]
 fn an_insert_that_is_held_too_long_tries_again(rt: HostRuntime) -> Result<(), Fail> {
-    let Some((forest, first, mut second)) = two::<u64, u64>(rt.alloc()) else {
-        assert!(rt; false);
-        return Ok(());
-    };
+    let (forest, first, mut second) = opened::<u64, u64>(rt.alloc())?;
     let mut kinds = Vec::new(rt.alloc());
-    let insert = Request::Insert { key: 5, value: 50 };
-    let mut call = forest.open(rt.alloc(), first, insert);
+    let call = open_insert(rt.alloc(), &forest, first);
     // Up to just before its first freeze, which then finds the SCX-record of the other insert.
-    if !hold(&forest, &mut call, 38, &mut kinds)? {
-        assert!(rt; false);
-        return Ok(());
-    }
-    assert_eq!(rt; forest.insert(&mut second, 7, 70), Ok(None));
-    assert_eq!(rt; forest.get(&mut second, &5), None);
+    let call = held(&forest, call, 38, &mut kinds)?;
+    same(&rt, insert(&forest, &mut second, 7, 70), Ok(None));
+    same(&rt, get(&forest, &mut second, 5), None);
     let (first, reply) = rest(&forest, call, &mut kinds)?;
-    assert!(rt; matches!(reply, Reply::Value(None)));
+    same(&rt, value(&reply), Some(None));
     let walk = [LoadSettled, LoadChild, LoadSettled];
     let lost = [Freeze, LoadAllFrozen, Abort];
     let again = [
@@ -268,31 +282,24 @@ fn an_insert_that_is_held_too_long_tries_again(rt: HostRuntime) -> Result<(), Fa
             ]
         )
     );
-    assert_eq!(rt; (first.left(), second.left()), ((14, 18), (17, 19)));
+    same(&rt, [first.left(), second.left()], [(14, 18), (17, 19)]);
     let left = end_two(rt.alloc(), forest, first, second)?;
-    let both = [(5, 50), (7, 70)];
-    assert!(rt; matches!(&left, Some(pairs) if pairs.as_slice() == both.as_slice()));
+    assert!(rt; has(&left, &[(5, 50), (7, 70)]));
     Ok(())
 }
 
 #[test]
 fn a_get_that_is_held_reads_what_was(rt: HostRuntime) -> Result<(), Fail> {
-    let Some((forest, first, mut second)) = two::<u64, u64>(rt.alloc()) else {
-        assert!(rt; false);
-        return Ok(());
-    };
+    let (forest, first, mut second) = opened::<u64, u64>(rt.alloc())?;
     let mut kinds = Vec::new(rt.alloc());
-    assert_eq!(rt; forest.insert(&mut second, 5, 50), Ok(None));
-    let mut call = forest.open(rt.alloc(), first, Request::Get { key: 5 });
+    same(&rt, insert(&forest, &mut second, 5, 50), Ok(None));
+    let call = forest.open(rt.alloc(), first, Request::Get { key: 5 });
     // It has come to the leaf of 5, which the delete takes off.
-    if !hold(&forest, &mut call, 4, &mut kinds)? {
-        assert!(rt; false);
-        return Ok(());
-    }
-    assert_eq!(rt; forest.delete(&mut second, &5), Ok(Some(50)));
-    assert_eq!(rt; forest.get(&mut second, &5), None);
+    let call = held(&forest, call, 4, &mut kinds)?;
+    same(&rt, delete(&forest, &mut second, 5), Ok(Some(50)));
+    same(&rt, get(&forest, &mut second, 5), None);
     let (mut first, reply) = rest(&forest, call, &mut kinds)?;
-    assert!(rt; matches!(reply, Reply::Value(Some(50))));
+    same(&rt, value(&reply), Some(Some(50)));
     let walk = [
         LoadSettled,
         LoadChild,
@@ -302,33 +309,28 @@ fn a_get_that_is_held_reads_what_was(rt: HostRuntime) -> Result<(), Fail> {
         LoadSettled,
         LoadSettled,
     ];
-    assert!(rt; kinds.as_slice() == walk.as_slice());
-    assert_eq!(rt; forest.get(&mut first, &5), None);
-    assert_eq!(rt; (first.left(), second.left()), ((20, 20), (16, 18)));
+    assert!(rt; are(&kinds, &[&walk]));
+    same(&rt, get(&forest, &mut first, 5), None);
+    same(&rt, [first.left(), second.left()], [(20, 20), (16, 18)]);
     let left = end_two(rt.alloc(), forest, first, second)?;
-    assert!(rt; matches!(&left, Some(pairs) if pairs.is_empty()));
+    assert!(rt; has(&left, &[]));
     Ok(())
 }
 
 #[test]
 fn a_range_of_no_pairs_makes_no_step(rt: HostRuntime) -> Result<(), Fail> {
-    let Some((forest, first, second)) = two::<u64, u64>(rt.alloc()) else {
-        assert!(rt; false);
-        return Ok(());
-    };
+    let (forest, first, second) = opened::<u64, u64>(rt.alloc())?;
     let none = Request::Range {
         low: 0,
         high: 9,
         most: 0,
     };
-    let mut call = forest.open(rt.alloc(), first, none);
-    let Stepped::Done(None) = call.step(&forest) else {
-        assert!(rt; false);
-        return Ok(());
-    };
-    let (first, reply) = call.finish();
-    assert!(rt; matches!(&reply, Reply::Pairs(pairs) if pairs.is_empty()));
+    let mut kinds = Vec::new(rt.alloc());
+    let call = forest.open(rt.alloc(), first, none);
+    let (first, reply) = rest(&forest, call, &mut kinds)?;
+    assert!(rt; kinds.is_empty());
+    assert!(rt; has(&pairs(reply), &[]));
     let left = end_two(rt.alloc(), forest, first, second)?;
-    assert!(rt; matches!(&left, Some(pairs) if pairs.is_empty()));
+    assert!(rt; has(&left, &[]));
     Ok(())
 }

@@ -3,7 +3,9 @@ ghost use Rattle.std.specs.Prelude.{◌≡◌, IfOk, IfSome};
 ghost use Rattle.std.specs.List.{All};
 ghost use Rattle.forest.specs.Passes.{IsOf};
 
+use super::answers::{delete, insert, range};
 use super::{end, limits};
+use crate::same::same;
 use dict::Dict;
 use forest::{Forest, Pass, UpdateFault};
 use std::alloc::{AllocError, Global};
@@ -45,7 +47,7 @@ fn put(forest: &Forest<Numbers>, pass: &mut Pass<Numbers>, key: u64, value: u64)
     ensures { IsOf forest.now pass.new }
 {
     for _ask in 0..MOST_ASKS {
-        match forest.insert(pass, key, value) {
+        match insert(forest, pass, key, value) {
             Ok(old) => return Some(old),
             Err(UpdateFault::Contended { .. }) => {}
             Err(UpdateFault::Full(_)) => return None,
@@ -60,7 +62,7 @@ fn take(forest: &Forest<Numbers>, pass: &mut Pass<Numbers>, key: u64) -> Out
     ensures { IsOf forest.now pass.new }
 {
     for _ask in 0..MOST_ASKS {
-        match forest.delete(pass, &key) {
+        match delete(forest, pass, key) {
             Ok(old) => return Some(old),
             Err(UpdateFault::Contended { .. }) => {}
             Err(UpdateFault::Full(_)) => return None,
@@ -116,10 +118,10 @@ fn see_window(alloc: Global, forest: &Forest<Numbers>, pass: &mut Pass<Numbers>)
     requires { IsOf forest.now pass.old }
     ensures { IsOf forest.now pass.new }
 {
-    match forest.range(alloc, pass, &0, &u64::MAX, 64) {
-        Ok(pairs) if is_window(&pairs) => Some(Some(pairs.len() as u64)),
-        Ok(_) => None,
-        Err(_) => Some(None),
+    match range(alloc, forest, pass, 0, u64::MAX) {
+        Some(pairs) if is_window(&pairs) => Some(Some(pairs.len() as u64)),
+        Some(_) => None,
+        None => Some(None),
     }
 }
 
@@ -264,29 +266,21 @@ impl Ended {
 }
 
 /// So many threads work, and then the forest is closed.
-fn race<R: Threads + Sync>(
-    rt: &R,
-    alloc: Global,
-    threads: u32,
-    work: Work,
-) -> Result<Option<Ended>, AllocError> {
+fn race<R: Threads + Sync>(rt: &R, alloc: Global, threads: u32, work: Work) -> Result<Ended, Fail> {
     let Ok((forest, passes)) = Forest::<Numbers>::new(alloc, limits(threads, 20_000, 10_000)) else {
-        return Ok(None);
+        return Err("no forest".into());
     };
     let workers = crowd(rt, alloc, &forest, work, passes)?;
     let (passes, outs) = part(alloc, &forest, workers)?;
-    let Some(pairs) = end(alloc, forest, passes) else {
-        return Ok(None);
-    };
-    Ok(Some(Ended { outs, pairs }))
+    match end(alloc, forest, passes) {
+        Some(pairs) => Ok(Ended { outs, pairs }),
+        None => Err("a pass is missing".into()),
+    }
 }
 
 #[test]
 fn two_threads_put_in_keys_of_their_own(rt: HostRuntime) -> Result<(), Fail> {
-    let Some(ended) = race(&rt, rt.alloc(), 2, Work::Own)? else {
-        assert!(rt; false);
-        return Ok(());
-    };
+    let ended = race(&rt, rt.alloc(), 2, Work::Own)?;
     assert!(rt; ended.are_right());
     assert!(rt; ended.has_keys(0, 2000));
     Ok(())
@@ -294,13 +288,10 @@ fn two_threads_put_in_keys_of_their_own(rt: HostRuntime) -> Result<(), Fail> {
 
 #[test]
 fn eight_threads_take_out_what_they_put_in(rt: HostRuntime) -> Result<(), Fail> {
-    let Some(ended) = race(&rt, rt.alloc(), 8, Work::Mixed)? else {
-        assert!(rt; false);
-        return Ok(());
-    };
+    let ended = race(&rt, rt.alloc(), 8, Work::Mixed)?;
     assert!(rt; ended.are_right());
     let values = ended.values(rt.alloc())?;
-    assert_eq!(rt; values.len(), 4000);
+    same(&rt, values.len(), 4000);
     let mut places = values.iter().enumerate();
     assert!(rt; places.all(|(place, value)| *value % 2 == 0 && *value / 2 == place as u64));
     Ok(())
@@ -308,10 +299,7 @@ fn eight_threads_take_out_what_they_put_in(rt: HostRuntime) -> Result<(), Fail> 
 
 #[test]
 fn three_threads_see_a_window_move(rt: HostRuntime) -> Result<(), Fail> {
-    let Some(ended) = race(&rt, rt.alloc(), 4, Work::Window)? else {
-        assert!(rt; false);
-        return Ok(());
-    };
+    let ended = race(&rt, rt.alloc(), 4, Work::Window)?;
     assert!(rt; ended.are_right());
     assert!(rt; ended.have_come());
     assert!(rt; ended.has_keys(980, 20));

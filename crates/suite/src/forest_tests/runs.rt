@@ -1,8 +1,9 @@
 //! Worked runs.
-ghost use Rattle.std.specs.Prelude.{◌≡◌, IfSome};
+ghost use Rattle.std.specs.Prelude.{◌≡◌, IfOk, IfSome};
 ghost use Rattle.forest.specs.Passes.{IsOf};
 
 use super::{end, fields, limits, put};
+use crate::same::same;
 use arena::{Limits, NodeNo, ScxNo, Side};
 use forest::{Closed, Forest, Full, NewFault, Pass, Resource};
 use prims::{Cells, Llx, Scx, Vlx};
@@ -22,6 +23,17 @@ fn two(alloc: Global) -> Option<(Forest<Cells>, Pass<Cells>, Pass<Cells>)>
     Some((forest, first, second))
 }
 
+/// The same for a test, which fails where there is none.
+fn opened(alloc: Global) -> Result<(Forest<Cells>, Pass<Cells>, Pass<Cells>), Fail>
+    ensures first { IfOk result (λ t. IsOf t.0 t.1) }
+    ensures second { IfOk result (λ t. IsOf t.0 t.2) }
+{
+    match two(alloc) {
+        Some(shared) => Ok(shared),
+        None => Err("no forest".into()),
+    }
+}
+
 fn end_two(
     alloc: Global,
     forest: Forest<Cells>,
@@ -39,78 +51,79 @@ fn end_two(
 
 #[test]
 fn the_second_of_two_loses(rt: HostRuntime) -> Result<(), Fail> {
-    let Some((forest, mut first, mut second)) = two(rt.alloc()) else {
-        assert!(rt; false);
-        return Ok(());
-    };
+    let (forest, mut first, mut second) = opened(rt.alloc())?;
     let (node, scx) = (NodeNo(1), ScxNo(1));
     let field = (node, Side::Left);
     let a = forest.llx(&mut first, node);
     let b = forest.llx(&mut second, node);
-    assert_eq!(rt; (fields(a), fields(b)), (Some((0, 0)), Some((0, 0))));
+    same(&rt, [fields(a), fields(b)], [Some((0, 0)); 2]);
     let (Llx::Snapshot(a), Llx::Snapshot(b)) = (a, b) else {
-        assert!(rt; false);
-        return Ok(());
+        return Err("no snapshot".into());
     };
-    let same = forest.vlx(&mut first, &[a]);
+    let unchanged = forest.vlx(&mut first, &[a]);
     let done = forest.scx(&mut first, &[a], &[], field, 7);
-    assert_eq!(rt; (same, done), (Vlx::Same, Ok(Scx::Done)));
+    same(&rt, (unchanged, done), (Vlx::Same, Ok(Scx::Done)));
     let changed = forest.vlx(&mut second, &[b]);
     let lost = forest.scx(&mut second, &[b], &[], field, 7);
     let (was_changed, was_lost) = (Vlx::Changed { node, scx }, Scx::Lost { node, scx });
-    assert_eq!(rt; (changed, lost), (was_changed, Ok(was_lost)));
-    assert_eq!(rt; (first.left(), second.left()), ((9, 9), (9, 9)));
+    same(&rt, (changed, lost), (was_changed, Ok(was_lost)));
+    same(&rt, [first.left(), second.left()], [(9, 9); 2]);
     forest.meet(&mut first, &mut second);
     let found = fields(forest.llx(&mut second, node));
     let Some(closed) = end_two(rt.alloc(), forest, first, second)? else {
-        assert!(rt; false);
-        return Ok(());
+        return Err("a pass is missing".into());
     };
     let cells = [found, closed.cell(node), closed.cell(NodeNo(29))];
-    assert_eq!(rt; cells, [Some((9, 0)), Some((9, 0)), None]);
+    same(&rt, cells, [Some((9, 0)), Some((9, 0)), None]);
     Ok(())
 }
 
 #[test]
-fn a_node_is_finalized(rt: HostRuntime) {
-    let Some((forest, mut first, mut second)) = two(rt.alloc()) else {
-        assert!(rt; false);
-        return;
-    };
+fn a_node_is_finalized(rt: HostRuntime) -> Result<(), Fail> {
+    let (forest, mut first, mut second) = opened(rt.alloc())?;
     let (n1, n2) = (NodeNo(1), NodeNo(2));
     let c = forest.llx(&mut second, n2);
     let a = forest.llx(&mut first, n1);
     let b = forest.llx(&mut first, n2);
     let (Llx::Snapshot(a), Llx::Snapshot(b), Llx::Snapshot(c)) = (a, b, c) else {
-        assert!(rt; false);
-        return;
+        return Err("no snapshot".into());
     };
     let done = forest.scx(&mut first, &[a, b], &[n2], (n1, Side::Left), 0);
-    assert_eq!(rt; done, Ok(Scx::Done));
+    same(&rt, done, Ok(Scx::Done));
     let (node, scx) = (n2, ScxNo(1));
-    assert_eq!(rt; forest.llx(&mut first, n2), Llx::Finalized { node, scx });
+    same(
+        &rt,
+        forest.llx(&mut first, n2),
+        Llx::Finalized { node, scx },
+    );
     let lost = forest.scx(&mut second, &[c], &[], (n2, Side::Left), 0);
-    assert_eq!(rt; lost, Ok(Scx::Lost { node, scx }));
-    assert_eq!(rt; forest.llx(&mut second, n2), Llx::Finalized { node, scx });
+    same(&rt, lost, Ok(Scx::Lost { node, scx }));
+    same(
+        &rt,
+        forest.llx(&mut second, n2),
+        Llx::Finalized { node, scx },
+    );
+    Ok(())
 }
 
 #[test]
-fn a_pass_loses_with_a_snapshot_that_it_has_spent(rt: HostRuntime) {
-    let Some((forest, mut pass, _)) = two(rt.alloc()) else {
-        assert!(rt; false);
-        return;
-    };
+fn a_pass_loses_with_a_snapshot_that_it_has_spent(rt: HostRuntime) -> Result<(), Fail> {
+    let (forest, mut pass, _) = opened(rt.alloc())?;
     let (node, scx) = (NodeNo(1), ScxNo(1));
     let Llx::Snapshot(snap) = forest.llx(&mut pass, node) else {
-        assert!(rt; false);
-        return;
+        return Err("no snapshot".into());
     };
     let done = forest.scx(&mut pass, &[snap], &[], (node, Side::Left), 7);
     let lost = forest.scx(&mut pass, &[snap], &[], (node, Side::Left), 8);
-    assert_eq!(rt; done, Ok(Scx::Done));
-    assert_eq!(rt; lost, Ok(Scx::Lost { node, scx }));
-    assert_eq!(rt; forest.vlx(&mut pass, &[snap]), Vlx::Changed { node, scx });
-    assert_eq!(rt; fields(forest.llx(&mut pass, node)), Some((9, 0)));
+    same(&rt, done, Ok(Scx::Done));
+    same(&rt, lost, Ok(Scx::Lost { node, scx }));
+    same(
+        &rt,
+        forest.vlx(&mut pass, &[snap]),
+        Vlx::Changed { node, scx },
+    );
+    same(&rt, fields(forest.llx(&mut pass, node)), Some((9, 0)));
+    Ok(())
 }
 
 /// How a pass's second put ends.
@@ -132,10 +145,8 @@ fn a_share_runs_out(rt: HostRuntime) {
     ];
     for (nodes, scx, what) in cases {
         let full = Full { what, left: 0 };
-        assert_eq!(rt;
-            second_put(rt.alloc(), limits(1, nodes, scx)),
-            Some(Err(full))
-        );
+        let refused = second_put(rt.alloc(), limits(1, nodes, scx));
+        same(&rt, refused, Some(Err(full)));
     }
 }
 
@@ -146,7 +157,7 @@ fn limits_out_of_range_are_refused(rt: HostRuntime) {
             Ok(_) => None,
             Err(fault) => Some(fault),
         };
-        assert_eq!(rt; refused, Some(NewFault::Limits));
+        same(&rt, refused, Some(NewFault::Limits));
     }
 }
 
@@ -160,5 +171,5 @@ fn the_largest_forest(rt: HostRuntime) {
         },
         Err(_) => 0,
     };
-    assert_eq!(rt; passes, 32);
+    same(&rt, passes, 32);
 }

@@ -4,6 +4,7 @@ ghost use Rattle.std.specs.List.{All};
 ghost use Rattle.forest.specs.Passes.{IsOf};
 
 use super::{Fields, end, fields, limits, put};
+use crate::same::same;
 use arena::{NodeNo, Side};
 use forest::{Closed, Forest, Full, Pass};
 use prims::{Cells, Llx, Scx};
@@ -271,54 +272,41 @@ impl Ended {
 }
 
 /// So many threads work, and then all passes meet, and the forest is closed.
-fn race<R: Threads + Sync>(
-    rt: &R,
-    alloc: Global,
-    threads: u32,
-    kind: Work,
-) -> Result<Option<Ended>, AllocError> {
+fn race<R: Threads + Sync>(rt: &R, alloc: Global, threads: u32, kind: Work) -> Result<Ended, Fail> {
     let Ok((forest, passes)) = Forest::<Cells>::new(alloc, limits(threads, ROUNDS, ROUNDS)) else {
-        return Ok(None);
+        return Err("no forest".into());
     };
     let workers = crowd(rt, &forest, kind, passes)?;
     let (passes, tallies) = part(alloc, &forest, workers)?;
     let passes = meet_all(alloc, &forest, passes)?;
     let (passes, found) = look_all(alloc, &forest, passes)?;
     let Some(closed) = end(forest, passes) else {
-        return Ok(None);
+        return Err("a pass is missing".into());
     };
-    Ok(Some(Ended {
+    Ok(Ended {
         tallies,
         found,
         closed,
-    }))
+    })
 }
 
 #[test]
 fn two_threads_on_one_cell(rt: HostRuntime) -> Result<(), Fail> {
-    let Some(ended) = race(&rt, rt.alloc(), 2, Work::One)? else {
-        assert!(rt; false);
-        return Ok(());
-    };
-    assert_eq!(rt; (ended.tallies.len(), ended.found.len()), (2, 2));
+    let ended = race(&rt, rt.alloc(), 2, Work::One)?;
+    same(&rt, [ended.tallies.len(), ended.found.len()], [2, 2]);
     assert!(rt; ended.counts_agree());
     assert!(rt; ended.found_agree());
     assert!(rt; ended.are_of_winners());
     let cells = ended.cells();
     assert!(rt; matches!(cells[0], Some((left, 0)) if left > 0));
-    for cell in [cells[1], cells[2], cells[3]] {
-        assert_eq!(rt; cell, Some((0, 0)));
-    }
+    same(&rt, [cells[1], cells[2], cells[3]], [Some((0, 0)); 3]);
     Ok(())
 }
 
 #[test]
 fn eight_threads_on_four_cells(rt: HostRuntime) -> Result<(), Fail> {
-    let Some(ended) = race(&rt, rt.alloc(), 8, Work::Four)? else {
-        assert!(rt; false);
-        return Ok(());
-    };
-    assert_eq!(rt; (ended.tallies.len(), ended.found.len()), (8, 8));
+    let ended = race(&rt, rt.alloc(), 8, Work::Four)?;
+    same(&rt, [ended.tallies.len(), ended.found.len()], [8, 8]);
     assert!(rt; ended.counts_agree());
     assert!(rt; ended.found_agree());
     assert!(rt; ended.are_of_winners());

@@ -30,8 +30,8 @@ loop-call-preserved c =
       rows = λ earlier counted fits.
           let before = reverse done ++ earlier in
           let number : c.in_ok-number.number ≡ calls_by call.client.0 before = c.in_ok-number.ensures.before ∙ inv.counted earlier counted fits call.client.0 in
-          let text = rows_text (call_rows earlier done) in
-          let line = line_of (reported_call_row before call) in
+          let text = rows_text 7 (call_rows earlier done) in
+          let line = line_of 7 (reported_call_row before call) in
           let added : Appends (page_text c.loop-call.page) (page_text c.call_line.new.page) line = rw (← number) c.in_ok-call_line.ensures.line in
           rw (now, call_text_more earlier done call) (Appends-trans (Some []) (page_text c.loop-call.page) (page_text c.call_line.new.page) text line (inv.rows earlier counted fits) added);
       counted = λ earlier counted fits.

@@ -10,6 +10,6 @@ abbrev pub invariant-loop-call : goal.invariant-loop-call
 invariant-loop-call l = record {
   ready : IsReady l.page;
   row : page_row l.page ≡ [];
-  rows : (earlier : List Call) → HasCounted l.fn.counts earlier → length earlier + length l.calls < 2 ^ 64 → Appends (Some []) (page_text l.page) (rows_text (call_rows earlier (take l.call-index l.calls)));
+  rows : (earlier : List Call) → HasCounted l.fn.counts earlier → length earlier + length l.calls < 2 ^ 64 → Appends (Some []) (page_text l.page) (rows_text 7 (call_rows earlier (take l.call-index l.calls)));
   counted : (earlier : List Call) → HasCounted l.fn.counts earlier → length earlier + length l.calls < 2 ^ 64 → HasCounted l.counts (reverse (take l.call-index l.calls) ++ earlier);
 }

@@ -9,5 +9,5 @@ unfolding rows_text
 returns c =
     let lines = c.args.lines.now in
     let row : page_row c.number-3.new.self ≡ report_end_row lines = search rules in
-    let whole : page_text c.end_line.new.self ≡ Some (rows_text (report_end_row lines ∷ [])) = search (rules, append-nil) in
+    let whole : page_text c.end_line.new.self ≡ Some (rows_text 7 (report_end_row lines ∷ [])) = search (rules, append-nil) in
     subst (λ known. IfOk c.into_text.result (λ text. Keeps known (Some text.items))) whole c.into_text.ensures

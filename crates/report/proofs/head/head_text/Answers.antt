@@ -9,5 +9,5 @@ pub returns : goal.returns
 unfolding rows_text
 returns c =
     let rows = title_row c.args.script.now.layout.mode ∷ limits_row c.args.script.now.limits ∷ [] in
-    let whole : page_text c.limits_line.new.page ≡ Some (rows_text rows) = search (rules, append_assoc, append-nil) in
+    let whole : page_text c.limits_line.new.page ≡ Some (rows_text 7 rows) = search (rules, append_assoc, append-nil) in
     subst (λ known. IfOk c.into_text.result (λ text. Keeps known (Some text.items))) whole c.into_text.ensures

@@ -15,8 +15,8 @@ loop-line-preserved c =
     record {
       ready = done.ready;
       row = done.row;
-      midway = one_out line_row c.args.lines.now c.loop-line.line-index c.line-item.result (page_text c.loop-line.page) (page_text c.put_line.new.page) (rows_text (map line_row c.args.lines.now)) c.loop-line-test.true (subst (λ (l : Line). Appends (page_text c.loop-line.page) (page_text c.put_line.new.page) (line_of (line_row l))) c.line-item.is done.text) c.loop-line.invariant.midway;
+      midway = one_out 7 line_row c.args.lines.now c.loop-line.line-index c.line-item.result (page_text c.loop-line.page) (page_text c.put_line.new.page) (rows_text 7 (map line_row c.args.lines.now)) c.loop-line-test.true (subst (λ (l : Line). Appends (page_text c.loop-line.page) (page_text c.put_line.new.page) (line_of 7 (line_row l))) c.line-item.is done.text) c.loop-line.invariant.midway;
     }
 
 pub returns : goal.returns
-returns c = if_ok c.into_text.result (λ text keeps. all_out line_row c.args.lines.now c.loop-line.line-index (page_text c.loop-line.page) text.items (rows_text (map line_row c.args.lines.now)) c.loop-line-test.false c.loop-line.invariant.midway keeps) c.into_text.ensures
+returns c = if_ok c.into_text.result (λ text keeps. all_out 7 line_row c.args.lines.now c.loop-line.line-index (page_text c.loop-line.page) text.items (rows_text 7 (map line_row c.args.lines.now)) c.loop-line-test.false c.loop-line.invariant.midway keeps) c.into_text.ensures

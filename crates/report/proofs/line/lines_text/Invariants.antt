@@ -8,5 +8,5 @@ abbrev pub invariant-loop-line : goal.invariant-loop-line
 invariant-loop-line l = record {
   ready : IsReady l.page;
   row : page_row l.page ≡ [];
-  midway : IsMidway line_row (drop l.line-index l.lines) (page_text l.page) (rows_text (map line_row l.lines));
+  midway : IsMidway 7 line_row (drop l.line-index l.lines) (page_text l.page) (rows_text 7 (map line_row l.lines));
 }

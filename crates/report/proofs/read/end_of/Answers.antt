@@ -1,7 +1,6 @@
 use Rattle.std.proofs.Common.{◌≡◌, ◌∷◌, [], ◌++◌, ◌∙◌, rules, sym}
 use Rattle.texts.specs.Reads.{last_row}
-use Rattle.report.specs.Report.{report_end_row}
-use Rattle.texts.specs.Pages.{seven}
+use Rattle.report.specs.Report.{report_end_row, seven}
 use Rattle.report.proofs.read.end_of.Goals as goal
 
 pub returns : goal.returns

@@ -1,8 +1,7 @@
 use Rattle.std.proofs.Common.{[], ◌∷◌, ◌++◌, ◌∙◌, ap, map, subst}
 use Rattle.texts.specs.Texts.{AreRows}
 use Rattle.script.specs.Rows.{limits_row}
-use Rattle.report.specs.Report.{call_rows, report_end_row, line_row, report_text, title_row}
-use Rattle.texts.specs.Pages.{seven}
+use Rattle.report.specs.Report.{call_rows, report_end_row, line_row, report_text, title_row, seven}
 use Rattle.report.proofs.Reading.{whole_report}
 use Rattle.report.proofs.RoundTrip.{same_report}
 use Rattle.report.proofs.read.record_of.Goals as goal

@@ -1,8 +1,7 @@
 use Rattle.std.proofs.Common.{◌≡◌, [], ◌∷◌, ◌∙◌, ap, map, rules, subst, sym}
 use Rattle.script.specs.Rows.{limits_row}
 use Rattle.texts.specs.Reads.{IsAtRow, last_row}
-use Rattle.report.specs.Report.{call_rows, title_row}
-use Rattle.texts.specs.Pages.{seven}
+use Rattle.report.specs.Report.{call_rows, title_row, seven}
 use Rattle.report.proofs.read.script_of.Goals as goal
 
 pub invariant_of-result-clause-of_mode : goal.invariant_of-result-clause-of_mode

@@ -6,8 +6,7 @@ use Rattle.script.specs.Commands.{mode_of}
 use Rattle.script.specs.declared.call.Call.{Call}
 use Rattle.report.specs.Counts.{HasCounted}
 use Rattle.texts.specs.Reads.{IsAtRow, last_row}
-use Rattle.report.specs.Report.{call_rows}
-use Rattle.texts.specs.Pages.{seven}
+use Rattle.report.specs.Report.{call_rows, seven}
 use Rattle.report.proofs.Reading.{call_read}
 use Rattle.report.proofs.read_call.calls_of.Goals as goal
 

@@ -2,8 +2,7 @@ use Rattle.std.proofs.Common.{◌≡◌, ◌<◌, ◌≤◌, ℕ, ◌-◌, All, 
 use Rattle.script.specs.Commands.{mode_of}
 use Rattle.report.specs.Counts.{HasCounted}
 use Rattle.texts.specs.Reads.{IsAtRow}
-use Rattle.report.specs.Report.{call_rows}
-use Rattle.texts.specs.Pages.{seven}
+use Rattle.report.specs.Report.{call_rows, seven}
 use Rattle.report.proofs.read_call.calls_of.Given as goal
 
 abbrev pub invariant-loop-layout : goal.invariant-loop-layout

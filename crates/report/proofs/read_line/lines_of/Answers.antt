@@ -6,8 +6,7 @@ use Rattle.report.specs.Answers.{HasForm}
 use Rattle.report.specs.Counts.{HasCountedReplies}
 use Rattle.report.specs.Numbered.{AreNumbered}
 use Rattle.texts.specs.Reads.{IsAtRow, last_row}
-use Rattle.report.specs.Report.{line_row}
-use Rattle.texts.specs.Pages.{seven}
+use Rattle.report.specs.Report.{line_row, seven}
 use Rattle.report.proofs.Counted.{numbered_more}
 use Rattle.report.proofs.Reading.{line_read}
 use Rattle.report.proofs.read_line.lines_of.Goals as goal

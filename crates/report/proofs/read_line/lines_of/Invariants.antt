@@ -3,8 +3,7 @@ use Rattle.report.specs.Answers.{HasForm}
 use Rattle.report.specs.Counts.{HasCountedReplies}
 use Rattle.report.specs.Numbered.{AreNumbered}
 use Rattle.texts.specs.Reads.{IsAtRow}
-use Rattle.report.specs.Report.{line_row}
-use Rattle.texts.specs.Pages.{seven}
+use Rattle.report.specs.Report.{line_row, seven}
 use Rattle.report.proofs.read_line.lines_of.Given as goal
 
 abbrev pub invariant-loop-alloc : goal.invariant-loop-alloc

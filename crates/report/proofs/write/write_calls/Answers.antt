@@ -27,14 +27,14 @@ loop-some-preserved g c =
     let bound : length x.earlier + length some < 2 ^ 64 = omega (arith, x.all, lengths) in
     let old = g.W.Write.contents c.args.to.now.inner in
     let mid = g.W.Write.contents c.loop-some.to.inner in
-    let whole = rows_text (call_rows [] c.args.calls.now) in
+    let whole = rows_text 7 (call_rows [] c.args.calls.now) in
     record {
       failures = c.in_ok-send.ensures.ok ∙ x.failures;
       earlier = reverse some ++ x.earlier;
       counted = rw c.in_ok-calls_text.was at (c.calls_text.ensures.counted x.earlier x.counted bound);
       all = rw (length-append (reverse some) x.earlier, length-reverse some) (omega (arith, x.all, lengths));
-      sent = piece_sent old mid _ (rows_text (call_rows x.earlier some)) (rows_text (call_rows (reverse some ++ x.earlier) left)) whole
-          (subst (λ text. IsSent old mid text whole) (ap (λ calls. rows_text (call_rows x.earlier calls)) split ∙ call_text_append x.earlier some left) x.sent)
+      sent = piece_sent old mid _ (rows_text 7 (call_rows x.earlier some)) (rows_text 7 (call_rows (reverse some ++ x.earlier) left)) whole
+          (subst (λ text. IsSent old mid text whole) (ap (λ calls. rows_text 7 (call_rows x.earlier calls)) split ∙ call_text_append x.earlier some left) x.sent)
           (rw (c.as_slice.ensures.value ∙ (rw c.in_ok-calls_text.was at (c.calls_text.ensures.rows x.earlier x.counted bound))) at c.in_ok-send.ensures.all);
     }
 
@@ -56,8 +56,8 @@ returns-in_err-send-clause-beginning g c =
     let bound : length x.earlier + length some < 2 ^ 64 = omega (arith, x.all, lengths) in
     let old = g.W.Write.contents c.args.to.now.inner in
     let mid = g.W.Write.contents c.loop-some.to.inner in
-    let whole = rows_text (call_rows [] c.args.calls.now) in
+    let whole = rows_text 7 (call_rows [] c.args.calls.now) in
     on_err c.from_residual-in_err-send.result
-    (part_sent old mid _ (rows_text (call_rows x.earlier some)) (rows_text (call_rows (reverse some ++ x.earlier) left)) whole
-    (subst (λ text. IsSent old mid text whole) (ap (λ calls. rows_text (call_rows x.earlier calls)) split ∙ call_text_append x.earlier some left) x.sent)
+    (part_sent old mid _ (rows_text 7 (call_rows x.earlier some)) (rows_text 7 (call_rows (reverse some ++ x.earlier) left)) whole
+    (subst (λ text. IsSent old mid text whole) (ap (λ calls. rows_text 7 (call_rows x.earlier calls)) split ∙ call_text_append x.earlier some left) x.sent)
     (rw (c.as_slice.ensures.value ∙ (rw c.in_ok-calls_text.was at (c.calls_text.ensures.rows x.earlier x.counted bound))) at c.in_err-send.ensures.beginning))

@@ -12,5 +12,5 @@ invariant-loop-some g l = record {
   earlier : List Call;
   counted : HasCounted l.counts earlier;
   all : length earlier + length l.some-iterator.rest.now ≡ length l.fn.calls;
-  sent : IsSent (g.W.Write.contents l.fn.to.inner) (g.W.Write.contents l.to.inner) (rows_text (call_rows earlier l.some-iterator.rest.now)) (rows_text (call_rows [] l.fn.calls));
+  sent : IsSent (g.W.Write.contents l.fn.to.inner) (g.W.Write.contents l.to.inner) (rows_text 7 (call_rows earlier l.some-iterator.rest.now)) (rows_text 7 (call_rows [] l.fn.calls));
 }

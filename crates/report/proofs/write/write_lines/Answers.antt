@@ -12,20 +12,20 @@ loop-some-preserved g c =
     let steps = c.in-Some.ensures.steps in
     let old = g.W.Write.contents c.args.to.now.inner in
     let mid = g.W.Write.contents c.loop-some.to.inner in
-    let some = rows_text (map line_row c.in-Some.some.now) in
-    let left = rows_text (map line_row c.next.new.self.rest.now) in
-    let whole = rows_text (map line_row c.args.lines.now) in
+    let some = rows_text 7 (map line_row c.in-Some.some.now) in
+    let left = rows_text 7 (map line_row c.next.new.self.rest.now) in
+    let whole = rows_text 7 (map line_row c.args.lines.now) in
     record {
       failures = c.in_ok-send.ensures.ok ∙ c.loop-some.invariant.failures;
       sent = piece_sent old mid _ some left whole
-          (subst (λ text. IsSent old mid text whole) (rows_split line_row _ c.in-Some.some.now c.next.new.self.rest.now steps.1.0) c.loop-some.invariant.sent)
+          (subst (λ text. IsSent old mid text whole) (rows_split 7 line_row _ c.in-Some.some.now c.next.new.self.rest.now steps.1.0) c.loop-some.invariant.sent)
           (rw (c.as_slice.ensures.value ∙ c.in_ok-lines_text.ensures) at c.in_ok-send.ensures.all);
     }
 
 pub returns-clause-all : goal.returns-clause-all
 returns-clause-all g c =
     let steps = c.in-None.ensures.steps in
-    all_sent _ _ _ (rw (no_rows line_row c.loop-some.some-iterator.rest.now steps.1.0) at c.loop-some.invariant.sent)
+    all_sent _ _ _ (rw (no_rows 7 line_row c.loop-some.some-iterator.rest.now steps.1.0) at c.loop-some.invariant.sent)
 
 pub returns-in_err-lines_text-clause-beginning : goal.returns-in_err-lines_text-clause-beginning
 returns-in_err-lines_text-clause-beginning g c = on_err c.from_residual.result (so_far_sent _ _ _ _ c.loop-some.invariant.sent)
@@ -35,10 +35,10 @@ returns-in_err-send-clause-beginning g c =
     let steps = c.in-Some.ensures.steps in
     let old = g.W.Write.contents c.args.to.now.inner in
     let mid = g.W.Write.contents c.loop-some.to.inner in
-    let some = rows_text (map line_row c.in-Some.some.now) in
-    let left = rows_text (map line_row c.next.new.self.rest.now) in
-    let whole = rows_text (map line_row c.args.lines.now) in
+    let some = rows_text 7 (map line_row c.in-Some.some.now) in
+    let left = rows_text 7 (map line_row c.next.new.self.rest.now) in
+    let whole = rows_text 7 (map line_row c.args.lines.now) in
     on_err c.from_residual-in_err-send.result
     (part_sent old mid _ some left whole
-    (subst (λ text. IsSent old mid text whole) (rows_split line_row _ c.in-Some.some.now c.next.new.self.rest.now steps.1.0) c.loop-some.invariant.sent)
+    (subst (λ text. IsSent old mid text whole) (rows_split 7 line_row _ c.in-Some.some.now c.next.new.self.rest.now steps.1.0) c.loop-some.invariant.sent)
     (rw (c.as_slice.ensures.value ∙ c.in_ok-lines_text.ensures) at c.in_err-send.ensures.beginning))

@@ -7,5 +7,5 @@ use Rattle.report.proofs.write.write_lines.Given as goal
 abbrev pub invariant-loop-some : goal.invariant-loop-some
 invariant-loop-some g l = record {
   failures : l.to.failures ≡ l.fn.to.failures;
-  sent : IsSent (g.W.Write.contents l.fn.to.inner) (g.W.Write.contents l.to.inner) (rows_text (map line_row l.some-iterator.rest.now)) (rows_text (map line_row l.fn.lines));
+  sent : IsSent (g.W.Write.contents l.fn.to.inner) (g.W.Write.contents l.to.inner) (rows_text 7 (map line_row l.some-iterator.rest.now)) (rows_text 7 (map line_row l.fn.lines));
 }

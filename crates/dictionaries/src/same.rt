@@ -1,0 +1,17 @@
+//! What a test asserts of two values.
+use std::fmt::Debug;
+use std::process::Abort;
+
+/// Two values are the same. An `assert_eq!` is proved anew in each body that has it: tests with many
+/// call this one.
+pub(crate) fn same<T: PartialEq + Debug + Copy>(rt: &impl Abort, found: T, want: T) {
+    assert_eq!(rt; found, want);
+}
+
+/// Whether there is a list, and it has these items.
+pub(crate) fn has<T: PartialEq>(found: &Option<Vec<T>>, want: &[T]) -> bool {
+    match found {
+        Some(items) => items.as_slice() == want,
+        None => false,
+    }
+}

@@ -1,0 +1,11 @@
+use Rattle.std.proofs.Common.{◌≡◌, map}
+use Rattle.report.specs.Outcome.{pair_row}
+use Rattle.texts.specs.Pages.{rows_text}
+use Rattle.report.proofs.Texts.{IsSent}
+use Rattle.report.proofs.outcome.write_pairs.Given as goal
+
+abbrev pub invariant-loop-some : goal.invariant-loop-some
+invariant-loop-some g l = record {
+  failures : l.to.failures ≡ l.fn.to.failures;
+  sent : IsSent (g.W.Write.contents l.fn.to.inner) (g.W.Write.contents l.to.inner) (rows_text 4 (map pair_row l.some-iterator.rest.now)) (rows_text 4 (map pair_row l.fn.pairs));
+}
