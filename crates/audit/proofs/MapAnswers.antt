@@ -28,9 +28,11 @@ use Rattle.record.specs.Placed.{IsGreatestTurn, IsChange, IsReading, IsRefused, 
 use Rattle.record.specs.Replies.{IsFitting}
 use Rattle.record.specs.Rules.Delete.{DeleteIsRight, has_deleted}
 use Rattle.record.specs.Rules.Get.{GetIsRight}
-use Rattle.record.specs.Rules.Insert.{has_inserted, nodes_for}
-use Rattle.record.specs.Rules.Range.{RangeAtOnce, RangeAfterStep, RangeIsRight}
-use Rattle.record.specs.Rules.Successor.{SuccessorAtOnce, SuccessorAfterStep, SuccessorIsRight}
+use Rattle.spelling.specs.CallRules.{insert_nodes}
+use Rattle.record.specs.Rules.Insert.{has_inserted}
+use Rattle.record.specs.Rules.Map.{RepliesAfterStep}
+use Rattle.record.specs.Rules.Range.{RangeAtOnce, RangeIsRight}
+use Rattle.record.specs.Rules.Successor.{SuccessorAtOnce, SuccessorIsRight}
 use Rattle.record.specs.Shares.{HasTooFewToTry}
 use Rattle.record.specs.Turns.{history, turns, begin, start, won}
 use Rattle.record.proofs.Lemmas.{begin_within, entries_none, value_told}
@@ -66,13 +68,13 @@ neither (inl e) = absurd e
 neither (inr e) = absurd e
 
 -- an answer that tells something of an ordered read is right
-successor_right : (lay : Layout) (tries c : ℕ) (now start : History) (kept : ℕ → Option History) (told : MapReply) (answer : Answer) → reply_told answer ≡ Some told → SuccessorAtOnce answer ⊎ SuccessorAfterStep answer → SuccessorIsRight lay tries c now start kept answer
-successor_right lay tries c now start kept told (MapAnswer (PairOf p)) e fits = tt
-successor_right lay tries c now start kept told (MapAnswer (Value v)) e fits = neither fits
-successor_right lay tries c now start kept told (MapAnswer (Pairs ps)) e fits = neither fits
-successor_right lay tries c now start kept told answer e fits = absurd (let z : None ≡ Some told = e in cc)
+successor_right : (lay : Layout) (tries c key : ℕ) (now start : History) (kept : ℕ → Option History) (told : MapReply) (answer : Answer) → reply_told answer ≡ Some told → SuccessorAtOnce answer ⊎ RepliesAfterStep (Successor key) answer → SuccessorIsRight lay tries c now start kept answer
+successor_right lay tries c key now start kept told (MapAnswer (PairOf p)) e fits = tt
+successor_right lay tries c key now start kept told (MapAnswer (Value v)) e fits = neither fits
+successor_right lay tries c key now start kept told (MapAnswer (Pairs ps)) e fits = neither fits
+successor_right lay tries c key now start kept told answer e fits = absurd (let z : None ≡ Some told = e in cc)
 
-range_right : (lay : Layout) (tries c low high most : ℕ) (now start : History) (kept : ℕ → Option History) (told : MapReply) (answer : Answer) → reply_told answer ≡ Some told → RangeAtOnce low high most answer ⊎ RangeAfterStep answer → RangeIsRight lay tries c now start kept answer
+range_right : (lay : Layout) (tries c low high most : ℕ) (now start : History) (kept : ℕ → Option History) (told : MapReply) (answer : Answer) → reply_told answer ≡ Some told → RangeAtOnce low high most answer ⊎ RepliesAfterStep (Range low high most) answer → RangeIsRight lay tries c now start kept answer
 range_right lay tries c low high most now start kept told (MapAnswer (Pairs ps)) e fits = tt
 range_right lay tries c low high most now start kept told (MapAnswer (Value v)) e fits = neither fits
 range_right lay tries c low high most now start kept told (MapAnswer (PairOf p)) e fits = neither fits
@@ -151,9 +153,9 @@ module _ (lay : Layout) (tries : ℕ) (calls : List Call) (lines : List Line) (c
 
   -- Refusals
 
-  pub too_few_for : (MayAnswerAtOnce command r.answer → ⊥) → (key : ℕ) (value : Option ℕ) (what : Resource) (left : ℕ) → HadWithin calls lines key value r.begin r.end → (IsSome (begin lines client.pass.0) → HasTooFewToTry lay client.pass.0 (history lay.mode lines) (start lay.mode lines client.pass.0) (nodes_for value) what left) → IsTooFewFor lay lines r key value what left
+  pub too_few_for : (MayAnswerAtOnce command r.answer → ⊥) → (key : ℕ) (value : Option ℕ) (what : Resource) (left : ℕ) → HadWithin calls lines key value r.begin r.end → (IsSome (begin lines client.pass.0) → HasTooFewToTry lay client.pass.0 (history lay.mode lines) (start lay.mode lines client.pass.0) (insert_nodes value) what left) → IsTooFewFor lay lines r key value what left
   too_few_for never key value what left had few =
-      let own = subst (λ (n : ℕ). IsSome (begin lines n) → HasTooFewToTry lay n (history lay.mode lines) (start lay.mode lines n) (nodes_for value) what left) x.pass few in
+      let own = subst (λ (n : ℕ). IsSome (begin lines n) → HasTooFewToTry lay n (history lay.mode lines) (start lay.mode lines n) (insert_nodes value) what left) x.pass few in
       (had_within never key value had, own (rw x.begun refl))
 
   is_refused : reply_told r.answer ≡ None → r.moment ≡ None → IsRefused lines r
@@ -287,7 +289,7 @@ module _ (lay : Layout) (tries : ℕ) (calls : List Call) (lines : List Line) (c
       let same : Successor key ≡ a.call = (let z : Some (Successor key) ≡ Some a.call = a.is in cc) in
       let reading = subst (λ (m : MapCall). IsReading calls lines m r) (sym same) (ordered_placed lay tries calls lines r a.call a.turn x.in_order none x.number a.moment a.greatest) in
       record {
-        right = successor_right lay tries r.client.0 (history lay.mode lines) (start lay.mode lines r.client.0) (linked calls lay.mode lines r.client.0) (reply a.call (map_at calls lines a.turn)) r.answer a.greatest.holds (either_fits lines (Map (SuccessorOf key)) r.answer x.fits);
+        right = successor_right lay tries r.client.0 key (history lay.mode lines) (start lay.mode lines r.client.0) (linked calls lay.mode lines r.client.0) (reply a.call (map_at calls lines a.turn)) r.answer a.greatest.holds (either_fits lines (Map (SuccessorOf key)) r.answer x.fits);
         placed = subst (λ (t : Option MapReply). IsPlacedOnMap t calls lines (Successor key) r) (sym a.greatest.holds) reading;
       }
   read_answered (Map (RangeOf low high most)) x none a =

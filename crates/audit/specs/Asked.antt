@@ -15,7 +15,7 @@ use Rattle.record.specs.Answers.{HasItsEntry}
 use Rattle.record.specs.CommandRules.{enters}
 use Rattle.record.specs.Commands.{next_command}
 use Rattle.record.specs.Edits.{HadAtKey}
-use Rattle.record.specs.Rules.Insert.{nodes_for}
+use Rattle.spelling.specs.CallRules.{insert_nodes}
 use Rattle.record.specs.Shares.{HasTooFewToTry}
 use Rattle.record.specs.LawfulRun.{AreLines}
 use Rattle.record.specs.MapRecord.{map_at, map_call, reply_told}
@@ -51,7 +51,7 @@ pub record IsAsked (lay : Layout) (tries : ℕ) (calls : List Call) (lines : Lis
 -- after some row behind the call's begin the map that the words spelled had this at the key, and
 -- the share has too little for an edit there, and not by the call's own doing
 abbrev pub IsTooFewFor : Layout → List Line → Finished → ℕ → Option ℕ → Resource → ℕ → Type 0
-IsTooFewFor lay lines r key old what left = HadAtKey lay (history lay.mode lines) (start lay.mode lines r.client.0) key old × HasTooFewToTry lay r.client.0 (history lay.mode lines) (start lay.mode lines r.client.0) (nodes_for old) what left
+IsTooFewFor lay lines r key old what left = HadAtKey lay (history lay.mode lines) (start lay.mode lines r.client.0) key old × HasTooFewToTry lay r.client.0 (history lay.mode lines) (start lay.mode lines r.client.0) (insert_nodes old) what left
 
 -- the answer tells what the map had just before the turn at the key of the command, an edit
 pub record IsToldBefore (calls : List Call) (lines : List Line) (command : Command) (answer : Answer) (turn : ℕ) : Type 0 where

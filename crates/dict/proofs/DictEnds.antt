@@ -13,8 +13,9 @@ use Rattle.spelling.proofs.Lemmas.{run_spells}
 use Rattle.updates.specs.Tries.{HasEnteredNone}
 use Rattle.dict.specs.Calls.{call_in, share_of}
 use Rattle.dict.specs.DictKnown.{DictRefuses, DictAnswers}
-use Rattle.dict.specs.Forms.{MayReply, word_form, form_of}
-use Rattle.dict.specs.Forms as form
+use Rattle.spelling.specs.CallRules.{MayReply, form_of}
+use Rattle.dict.specs.Forms.{word_form}
+use Rattle.spelling.specs.CallRules as form
 use Rattle.dict.specs.Known.{MapAnswers}
 use Rattle.dict.specs.Says.{HasChanged, HasRead, HasTold, HasToldBy, KeepsLists, Tells, WordSays}
 use Rattle.dict.specs.Translated.{TellsTyped, SaysSame, IsTranslated, HasFormOf}

@@ -30,7 +30,8 @@ use Rattle.updates.specs.declared.update.UpdateAt.{UpdateAt}
 use Rattle.updates.specs.declared.update.UpdateRun.{UpdateRun}
 use Rattle.updates.specs.declared.update.Updated.{Updated}
 use Rattle.updates.specs.declared.update.Updated.TheVariants.{Done, Contended, Full}
-use Rattle.dict.specs.Calls.{call_in, insert_nodes, delete_nodes, AsksForPairs, HasSpent}
+use Rattle.spelling.specs.CallRules.{insert_nodes, delete_nodes}
+use Rattle.dict.specs.Calls.{call_in, AsksForPairs, HasSpent}
 use Rattle.dict.specs.Known.{Rests, HasSpentSo}
 use Rattle.dict.specs.Says.{WordSays, HasRead}
 use Rattle.dict.specs.WordReplies.{update_reply, successor_reply, range_reply}

@@ -25,7 +25,8 @@ use Rattle.updates.specs.declared.update.UpdateAt.{UpdateAt}
 use Rattle.updates.specs.declared.update.UpdateRun.{UpdateRun}
 use Rattle.updates.specs.declared.update.Updated.{Updated}
 use Rattle.updates.specs.declared.update.Updated.TheVariants as updated
-use Rattle.dict.specs.Forms.{MayReply, word_form}
+use Rattle.spelling.specs.CallRules.{MayReply}
+use Rattle.dict.specs.Forms.{word_form}
 use Rattle.dict.specs.Known.{Rests, Goes, MapAnswers}
 use Rattle.dict.specs.WordReplies.{update_reply, successor_reply, range_reply}
 use Rattle.dict.specs.declared.run.MapRun.TheVariants.{Insert, Delete, Get, Successor, Range}

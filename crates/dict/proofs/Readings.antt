@@ -24,7 +24,8 @@ use Rattle.updates.specs.Laws.Entered.{none_quiet}
 use Rattle.updates.specs.Pieces.{many_nodes}
 use Rattle.updates.specs.Tries.{HasEnteredNone}
 use Rattle.updates.specs.declared.edit.Need.{Need}
-use Rattle.dict.specs.Calls.{need, AsksForPairs}
+use Rattle.spelling.specs.CallRules.{need}
+use Rattle.dict.specs.Calls.{AsksForPairs}
 use Rattle.dict.specs.Known.{Rests}
 use Rattle.dict.specs.Says.{HasMadeRow, HasRead, HasTooLittle, HasRunOut}
 

@@ -14,7 +14,7 @@ use Rattle.updates.specs.Tries.{HasEnteredNone}
 use Rattle.updates.specs.Undisturbed.{IsUndisturbed}
 use Rattle.arena.specs.declared.fault.Full.{Full as FullOf}
 use Rattle.arena.specs.Share.{Remaining}
-use Rattle.dict.specs.Calls.{need}
+use Rattle.spelling.specs.CallRules.{need}
 use Rattle.dict.specs.Says.{HasToldBy, HasRunOut, HasTooLittle}
 
 -- an absent key may be taken away, and nothing changes

@@ -1,10 +1,10 @@
 -- The machine of a call of the map: what it is a call of, what it has left, and what such a call
 -- may take of its share.
-use Rattle.std.specs.Prelude.{ℕ, ◌*◌, ◌+◌, ◌^◌, ◌<◌, ◌≤◌, List, Option, Some, None}
+use Rattle.std.specs.Prelude.{ℕ, ◌*◌, ◌+◌, ◌^◌, ◌<◌, ◌≤◌}
 use Rattle.arena.specs.Machines.{Call}
 use Rattle.arena.specs.Share.{Remaining}
-use Rattle.spelling.specs.OrderedMap.{MapCall, Edit, Get, Successor, Range, Insert, Delete, edit_key, get}
-use Rattle.spelling.specs.declared.pair.Pair.{Pair}
+use Rattle.spelling.specs.CallRules.{most_nodes, most_scx}
+use Rattle.spelling.specs.OrderedMap.{MapCall, Edit, Get, Successor, Range, Insert, Delete, edit_key}
 use Rattle.updates.specs.Known.{RestsWith}
 use Rattle.dict.specs.declared.run.MapRun.{MapRun}
 use Rattle.dict.specs.declared.run.MapRun.TheVariants as runs
@@ -44,42 +44,15 @@ IsSmallCall _ = Unit {0}
 
 -- What a call may take
 
--- at most so many nodes in a try, and for each SCX-record
-abbrev pub most_nodes : MapCall → ℕ
-most_nodes (Edit (Insert key value)) = 3
-most_nodes (Edit (Delete key)) = 1
-most_nodes _ = 0
-
--- and so many SCX-records
-abbrev pub most_scx : MapCall → ℕ
-most_scx (Edit e) = 1
-most_scx _ = 0
-
 -- Of the share with which a call began no more is gone than so many tries may take.
 pub record HasSpent (c : Call) (call : MapCall) (tries : ℕ) (share : Remaining) : Type 0 where
   -- what there was as it began
   pub left : Remaining
   pub first : RestsWith c c.start left
   pub nodes : left.nodes ≤ share.nodes + most_nodes call * tries
-  pub scx : left.scx ≤ share.scx + most_scx call * tries
+  pub scx : left.scx ≤ share.scx + most_scx call tries
   -- and for each SCX-record that is gone at most so many nodes
   pub each : left.nodes + most_nodes call * share.scx ≤ share.nodes + most_nodes call * left.scx
-
--- how many nodes an insert needs, where the key has this value
-abbrev pub insert_nodes : Option ℕ → ℕ
-insert_nodes None = 3
-insert_nodes (Some value) = 1
-
--- how many a delete needs
-abbrev pub delete_nodes : Option ℕ → ℕ
-delete_nodes None = 0
-delete_nodes (Some value) = 1
-
--- how many nodes the call needs on this map
-abbrev pub need : MapCall → List Pair → ℕ
-need (Edit (Insert key value)) map = insert_nodes (get key map)
-need (Edit (Delete key)) map = delete_nodes (get key map)
-need _ map = 0
 
 -- it takes some pairs, where it is a range
 abbrev pub AsksForPairs : MapCall → Type 0

@@ -9,7 +9,7 @@ use Rattle.spelling.specs.OrderedMap.{MapCall}
 use Rattle.updates.specs.Known.{RestsWith}
 use Rattle.updates.specs.Tries.{HasEnteredNone}
 use Rattle.dict.specs.Calls.{call_in, share_of, HasSpent}
-use Rattle.dict.specs.Forms.{MayReply, form_of}
+use Rattle.spelling.specs.CallRules.{MayReply, form_of}
 use Rattle.dict.specs.Known.{MapIsReady, MapWaits}
 use Rattle.dict.specs.Says.{HasLost, HasRunOut, KeepsLists, Tells}
 use Rattle.dict.specs.Typed.{IsTypedCall}

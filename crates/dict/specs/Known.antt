@@ -20,7 +20,8 @@ use Rattle.updates.specs.Known.{RestsWith, UpdateIsReady, UpdateWaits}
 use Rattle.updates.specs.Steps.{node_tries, scx_tries, Spends}
 use Rattle.updates.specs.declared.update.UpdateAt.TheVariants.{Start as UpdateStart}
 use Rattle.dict.specs.Calls.{call_in, share_of, AsksForPairs, IsSmallCall, HasSpent}
-use Rattle.dict.specs.Forms.{MayReply, word_form}
+use Rattle.spelling.specs.CallRules.{MayReply}
+use Rattle.dict.specs.Forms.{word_form}
 use Rattle.dict.specs.Says.{WordSays}
 use Rattle.dict.specs.declared.run.MapRun.{MapRun}
 use Rattle.dict.specs.declared.run.MapRun.TheVariants.{Insert, Delete, Get, Successor, Range}

@@ -13,7 +13,8 @@ use Rattle.spelling.specs.declared.pair.Pair.{Pair}
 use Rattle.template.specs.Blame.{IsContended, HasLostTriesTo}
 use Rattle.updates.specs.Known.{HasMade, IsUntouched}
 use Rattle.updates.specs.Tries.{HasEnteredNone}
-use Rattle.dict.specs.Calls.{need, AsksForPairs}
+use Rattle.spelling.specs.CallRules.{need}
+use Rattle.dict.specs.Calls.{AsksForPairs}
 use Rattle.dict.specs.declared.told.WordReply.{WordReply}
 use Rattle.dict.specs.declared.told.WordReply.TheVariants as words
 use Rattle.dict.specs.WordReplies.{told_in}

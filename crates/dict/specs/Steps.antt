@@ -1,10 +1,9 @@
 -- How many steps the machine of a call of the map may still ask for: as the machine inside.
-use Rattle.std.specs.Prelude.{ℕ, ◌+◌, ◌*◌, ◌<◌, Option}
+use Rattle.std.specs.Prelude.{ℕ, ◌<◌, Option}
 use Rattle.arena.specs.Machines.{MatchTurn}
 use Rattle.arena.specs.declared.machine.Turn.{Turn}
 use Rattle.order.specs.Range.Steps.{range_left, RangeFits}
 use Rattle.order.specs.Successor.Steps.{successor_left, SuccessorFits}
-use Rattle.spelling.specs.OrderedMap.{MapCall, Edit, Get as GetOf, Successor as SuccessorOf, Range as RangeOf, Insert as InsertOf, Delete as DeleteOf}
 use Rattle.tree.specs.Delete.Means.{delete_means}
 use Rattle.tree.specs.Get.Steps.{get_left, GetFits}
 use Rattle.tree.specs.Insert.Means.{insert_means}
@@ -32,13 +31,3 @@ MapFits (Range m share) got nodes = RangeFits m got nodes
 -- where it asks for a step, fewer are left than before
 abbrev pub IsNearer : MapRun → MapRun → ℕ → Turn WordReply → Type 0
 IsNearer old now nodes turn = MatchTurn turn (λ _. map_left now nodes < map_left old nodes) (λ _. Unit {0})
-
--- How many steps a call asks for at most, with so many tries, where so many nodes are taken when it
--- ends: three for each level of a walk, 67 for each level of a search with snapshots, 137 for two
--- of these and the walk before them, and others.
-abbrev pub most_steps : MapCall → ℕ → ℕ → ℕ
-most_steps (Edit (InsertOf key value)) tries nodes = tries * (3 * (2 + nodes) + 178)
-most_steps (Edit (DeleteOf key)) tries nodes = tries * (3 * (2 + nodes) + 301)
-most_steps (GetOf key) tries nodes = 3 * (2 + nodes)
-most_steps (SuccessorOf key) tries nodes = tries * (137 * (2 + nodes))
-most_steps (RangeOf low high most) tries nodes = tries * ((most + 2) * (67 * (2 + nodes)))

@@ -3,7 +3,8 @@ use Rattle.std.specs.Prelude.{◌≡◌, ◌⊎◌, ℕ, map, All, List, Option,
 use Rattle.std.specs.Option.{option_map}
 use Rattle.spelling.specs.OrderedMap.{MapReply}
 use Rattle.spelling.specs.declared.pair.Pair.{Pair}
-use Rattle.dict.specs.Forms.{Pairs, NoMemory, word_form, form_of}
+use Rattle.spelling.specs.CallRules.{Pairs, NoMemory, form_of}
+use Rattle.dict.specs.Forms.{word_form}
 use Rattle.dict.specs.Typed.{AreTyped, IsTypedReply}
 use Rattle.dict.specs.Words.{IsWord, IsPairWord, IsValidPair}
 use Rattle.spelling.specs.Replies.{word_pair, told_of}

@@ -11,7 +11,7 @@ ghost use Rattle.updates.specs.Undisturbed.{IsUndisturbed};
 ghost use Rattle.arena.specs.declared.fault.Full.{Full};
 ghost use Rattle.arena.specs.Share.{Remaining};
 ghost use Rattle.updates.specs.Known.{RestsWith};
-ghost use Rattle.dict.specs.Calls.{need};
+ghost use Rattle.spelling.specs.CallRules.{need};
 ghost use Rattle.dict.specs.Says.{HasTold, HasLost, HasRunOut, HasTooLittle};
 
 /// What the answers of a call say of a call by itself: nothing was in progress as it began, and no

@@ -6,7 +6,8 @@ ghost use Rattle.spelling.specs.TreeShape.{TreeAllows};
 ghost use Rattle.dict.specs.Calls.{KeepsTries, call_in, share_of};
 ghost use Rattle.dict.specs.Known.{AsksFirst, IsUnbegun, MapIsReady, MapWaits, MapAnswers};
 ghost use Rattle.dict.specs.Says.{KeepsLists};
-ghost use Rattle.dict.specs.Steps.{map_left, most_steps, MapFits, IsNearer};
+ghost use Rattle.spelling.specs.CallRules.{most_steps};
+ghost use Rattle.dict.specs.Steps.{map_left, MapFits, IsNearer};
 ghost use Rattle.spelling.specs.Requests.{as_map_call};
 
 use crate::told::WordReply;

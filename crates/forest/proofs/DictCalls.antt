@@ -15,7 +15,8 @@ use Rattle.prims.specs.Shares.{IsShare}
 use Rattle.prims.proofs.Lemmas.{all_over, taken_node_since}
 use Rattle.updates.specs.Known.{RestsWith}
 use Rattle.dict.specs.Begins.{dict_begins}
-use Rattle.dict.specs.Calls.{call_in, most_nodes, most_scx, share_of, IsFewCall}
+use Rattle.spelling.specs.CallRules.{most_nodes, most_scx}
+use Rattle.dict.specs.Calls.{call_in, share_of, IsFewCall}
 use Rattle.dict.specs.DictKnown.{DictIsReady, DictWaits, DictAnswers, DictRefuses}
 use Rattle.dict.specs.Known.{IsUnbegun}
 use Rattle.dict.specs.OneShare.{one_share}
@@ -183,7 +184,7 @@ module _ {K V : Type 0} (valid_key : K → Type 0) (key : K → ℕ) (valid_valu
           let whole : z.left ≡ p.share = one_share (call_of p x called) (run_of (pass_view p)) z.left p.share z.first rests in
           record {
             nodes = subst (λ (r : Remaining). r.nodes ≤ (share_of m.run).nodes + most_nodes (call_in m.run) * m.tries) whole z.nodes;
-            scx = subst (λ (r : Remaining). r.scx ≤ (share_of m.run).scx + most_scx (call_in m.run) * m.tries) whole z.scx;
+            scx = subst (λ (r : Remaining). r.scx ≤ (share_of m.run).scx + most_scx (call_in m.run) m.tries) whole z.scx;
             each = subst (λ (r : Remaining). r.nodes + most_nodes (call_in m.run) * (share_of m.run).scx ≤ (share_of m.run).nodes + most_nodes (call_in m.run) * r.scx) whole z.each;
             gone_nodes = share_nodes p.layout p.number.0 (run_of now) (run_of (pass_view p)) p.share (share_of m.run) y.since x.rest.share rest.share;
             gone_scx = share_scx p.layout p.number.0 (run_of now) (run_of (pass_view p)) p.share (share_of m.run) y.since x.rest.share rest.share;

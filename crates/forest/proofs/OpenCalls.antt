@@ -5,7 +5,7 @@ use Rattle.arena.specs.declared.machine.Turn.TheVariants.{Done}
 use Rattle.arena.specs.declared.number.PassNo.{PassNo}
 use Rattle.arena.specs.Share.{Remaining}
 use Rattle.dict.specs.Calls.{AsksForPairs, call_in, share_of}
-use Rattle.dict.specs.Steps.{most_steps}
+use Rattle.spelling.specs.CallRules.{most_steps}
 use Rattle.dict.specs.Typed.{TypedAllows}
 use Rattle.dict.specs.Words.{IsWord}
 use Rattle.spelling.specs.Replies.{told_of}

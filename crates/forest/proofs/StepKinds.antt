@@ -1,5 +1,5 @@
 -- Which kinds of step a call of a dictionary makes, and that a range that asks for no pairs makes none.
-use Rattle.std.proofs.Common.{◌≡◌, ◌∙◌, ℕ, suc, ◌<◌, inl, inr, List, refl, sym, ap, subst, arith}
+use Rattle.std.proofs.Common.{◌≡◌, ◌∙◌, ℕ, suc, ◌<◌, ◌≤◌, inl, inr, List, refl, sym, ap, subst, arith}
 use Rattle.std.proofs.Math.Nat.{lt_of_not-le}
 use Rattle.atomic_table.specs.Seated.{TableId}
 use Rattle.atomic_table.specs.declared.shared.Seat.{Seat}
@@ -13,6 +13,7 @@ use Rattle.arena.specs.Machines.{Call, row_of}
 use Rattle.arena.specs.Share.{Remaining}
 use Rattle.arena.proofs.Lemmas.{ends_trans}
 use Rattle.prims.proofs.Lemmas.{all_over}
+use Rattle.spelling.specs.CallRules.{TakesNothing, call_rules}
 use Rattle.spelling.specs.OrderedMap.{MapCall}
 use Rattle.spelling.specs.declared.reply.Reply.{Reply}
 use Rattle.spelling.specs.declared.reply.Reply.TheVariants as replies
@@ -39,7 +40,7 @@ use Rattle.forest.specs.declared.view.SeatView.{SeatView}
 use Rattle.forest.specs.Dictionary.{IsRefusalOf, blamed_by_reply}
 use Rattle.forest.specs.Passes.{HoldsOfOwn, PassView, run_of, taken_of}
 use Rattle.forest.specs.PassInvariant.{IsPass, pass_view}
-use Rattle.forest.specs.StepKinds.{HasKeptToKinds, IsKindFor}
+use Rattle.forest.specs.StepKinds.{HasKeptToKinds}
 use Rattle.forest.specs.StraightCalls.{IsSameDictCall}
 use Rattle.forest.specs.TableRule.{history_of}
 use Rattle.forest.specs.Traces.{HoldsForCall, Trace, begins, others, makes, goes_on, known_of}
@@ -75,13 +76,18 @@ asks_inside (runs.Get m share) c h s w = tt
 asks_inside (runs.Successor m share) c h s w = tt
 asks_inside (runs.Range m share) c h s w = range_asks m c h s w.0
 
+-- one that asks for some pairs does not take nothing
+takes_some : (low high most : ℕ) → (0 < most) × (low ≤ high) → ¬ TakesNothing low high most
+takes_some low high most x (inl e) = let some = x.0 in omega (arith, e, some)
+takes_some low high most x (inr i) = let rises = x.1 in omega (arith, i, rises)
+
 -- the step that a call waits for is of one of its kinds
-kind_inside : (m : MapRun) (c : Call) (h : History) (s : Step) → WaitsInside m c h s → IsKindFor (call_in m) s.kind
+kind_inside : (m : MapRun) (c : Call) (h : History) (s : Step) → WaitsInside m c h s → (call_rules (call_in m)).MayMake s.kind
 kind_inside (runs.Insert m) c h s w = tt
 kind_inside (runs.Delete m) c h s w = tt
 kind_inside (runs.Get m share) c h s w = (get_loads m c h s w.0).0
 kind_inside (runs.Successor m share) c h s w = successor_fills_not m c h s w.0
-kind_inside (runs.Range m share) c h s w = (range_fills_not m c h s w.0, range_asks m c h s w.0)
+kind_inside (runs.Range m share) c h s w = (range_fills_not m c h s w.0, takes_some m.low m.high m.most (range_asks m c h s w.0))
 
 -- a range that does not ask for nothing asks for some pairs
 asks_some : (m : RangeRun) → ¬ AsksForNothing m → AsksForSome m
@@ -153,8 +159,8 @@ module _ {K V : Type 0} (valid_key : K → Type 0) (key : K → ℕ) (valid_valu
     dict_kinds first y =
         let known : y.known ≡ known_of s.me.0.passes = sym (ap known_of y.is) in
         let is : call_in m.run ≡ call_in first.run = (course_keeps (λ (k : DictRun K V). IsSameCall valid_key key valid_value value_word first k) (refl, refl) (λ old now e q. (e.0 ∙ q.0, e.1 ∙ q.1)) m _ y.so.1).0 in
-        subst (λ (rows : List Row). HoldsOfOwn (λ r. IsKindFor (call_in m.run) r.kind) p.number.0 (run_of (pass_view p)) (history_of p.layout.mode rows)) known
-        (course_holds waits same call first (λ r. IsKindFor (call_in m.run) r.kind) (λ (k : DictRun K V). call_in k.run ≡ call_in m.run) (sym is) (λ old now e q. e.0 ∙ q) (λ k h t q w. subst (λ (asked : MapCall). IsKindFor asked t.kind) q (kind_inside k.run call h t w.1.1)) m _ y.so.1).1
+        subst (λ (rows : List Row). HoldsOfOwn (λ r. (call_rules (call_in m.run)).MayMake r.kind) p.number.0 (run_of (pass_view p)) (history_of p.layout.mode rows)) known
+        (course_holds waits same call first (λ r. (call_rules (call_in m.run)).MayMake r.kind) (λ (k : DictRun K V). call_in k.run ≡ call_in m.run) (sym is) (λ old now e q. e.0 ∙ q) (λ k h t q w. subst (λ (asked : MapCall). (call_rules asked).MayMake t.kind) q (kind_inside k.run call h t w.1.1)) m _ y.so.1).1
 
     -- a pass of this layout and number
     abbrev seen : TableId → Remaining → List Row → List ℕ → PassView

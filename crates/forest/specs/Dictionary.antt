@@ -3,6 +3,7 @@ use Rattle.std.specs.Prelude.{◌≡◌, ℕ, ◌+◌, ◌*◌, ◌<◌, ◌≤�
 use Rattle.std.specs.Global.{Global}
 use Rattle.std.specs.Option.{option_map}
 use Rattle.arena.specs.declared.fault.Full.{Full as FullOf}
+use Rattle.arena.specs.declared.layout.Layout.{Layout}
 use Rattle.arena.specs.declared.step.Row.{Row}
 use Rattle.arena.specs.Blame.{WasInTheWay}
 use Rattle.arena.specs.Fills.{IsOthersScx}
@@ -14,8 +15,11 @@ use Rattle.spelling.specs.OrderedMap.{MapCall, Edit, Successor, Range, MapReply,
 use Rattle.spelling.specs.Runs.{Makes, map_of_log}
 use Rattle.spelling.specs.Spelled.{Spells}
 use Rattle.template.specs.Blame.{IsOverOrNew, HasLostTriesTo}
-use Rattle.dict.specs.Calls.{need, most_nodes, most_scx, AsksForPairs}
+use Rattle.spelling.specs.CallRules.{need, most_nodes, most_scx, most_steps}
+use Rattle.dict.specs.Calls.{AsksForPairs}
 use Rattle.dict.specs.Says.{HasMadeRow, HasTooLittle, KeepsLists}
+use Rattle.dict.specs.Typed.{TypedAllows}
+use Rattle.dict.specs.Words.{IsWord}
 use Rattle.spelling.specs.Replies.{word_pair}
 use Rattle.spelling.specs.declared.reply.Reply.{Reply}
 use Rattle.spelling.specs.declared.reply.Reply.TheVariants.{Value, Contended, Full, NoMemory}
@@ -23,7 +27,8 @@ use Rattle.forest.specs.declared.fault.OrderFault.{OrderFault}
 use Rattle.forest.specs.declared.fault.OrderFault.TheVariants as reads
 use Rattle.forest.specs.declared.fault.UpdateFault.{UpdateFault}
 use Rattle.forest.specs.declared.fault.UpdateFault.TheVariants as updates
-use Rattle.forest.specs.Passes.{PassView, run_of, done_of, taken_of}
+use Rattle.forest.specs.Passes.{HasGoneOn, PassView, run_of, done_of, taken_of}
+use Rattle.forest.specs.Traces.{shared_nodes}
 
 -- The one history of a dictionary is the log of its run: each entry makes an edit of the map. A
 -- version is the map that the entries up to a moment of the run make of the empty map.
@@ -128,7 +133,7 @@ IsRefusalOf tries old new call _ = Unit {0}
 -- of the share no more is gone than so many tries of the call may take
 pub record HasSpentAtMost (old new : PassView) (call : MapCall) (tries : ℕ) : Type 0 where
   pub nodes : old.share.nodes ≤ new.share.nodes + most_nodes call * tries
-  pub scx : old.share.scx ≤ new.share.scx + most_scx call * tries
+  pub scx : old.share.scx ≤ new.share.scx + most_scx call tries
   -- for each SCX-record that is gone no more nodes than a try may take
   pub each : old.share.nodes + most_nodes call * new.share.scx ≤ new.share.nodes + most_nodes call * old.share.scx
   -- and nothing has come back
@@ -137,6 +142,12 @@ pub record HasSpentAtMost (old new : PassView) (call : MapCall) (tries : ℕ) : 
   -- what is left is the upper end of what there was
   pub end_nodes : new.share.next_node + new.share.nodes ≡ old.share.next_node + old.share.nodes
   pub end_scx : new.share.next_scx + new.share.scx ≡ old.share.next_scx + old.share.scx
+
+-- a call of a dictionary, which may try so often, has brought the pass further: it has made no more
+-- steps than such a call makes, and blames these now. `valid` says of a key or a value whether it is
+-- one of its type, and the other two give their words.
+abbrev pub HasMadeCall : {K V : Type 0} → (K → Type 0) → (K → ℕ) → (V → Type 0) → (V → ℕ) → ℕ → Layout → PassView → PassView → MapCall → List ℕ → Type 0
+HasMadeCall valid_key key valid_value value_word tries layout old new call blamed = HasGoneOn (TypedAllows (IsWord valid_key key) (IsWord valid_value value_word)) old new (taken_of old) (most_steps call tries (shared_nodes layout)) blamed
 
 -- the blame list after this reply: `Contended` blames its SCX-record
 abbrev pub blamed_by_reply : {K V : Type 0} → Reply K V → List ℕ → List ℕ

@@ -6,18 +6,16 @@ ghost use Rattle.arena.specs.Limits.{IsAccepted, IsLayoutOf};
 ghost use Rattle.arena.specs.declared.limits.Mode.TheVariants.{Tree};
 ghost use Rattle.spelling.specs.OrderedMap.{Edit, Get, Insert as InsertEdit, Delete as DeleteEdit, edit_key, OneValue, Range, Successor};
 ghost use Rattle.dict.specs.Calls.{AsksForPairs};
-ghost use Rattle.dict.specs.Forms.{MayReply, form_of};
+ghost use Rattle.spelling.specs.CallRules.{MayReply, form_of};
 ghost use Rattle.dict.specs.Says.{KeepsLists};
-ghost use Rattle.dict.specs.Steps.{most_steps};
-ghost use Rattle.dict.specs.Typed.{IsTypedCall, TypedAllows};
+ghost use Rattle.dict.specs.Typed.{IsTypedCall};
 ghost use Rattle.dict.specs.Words.{IsValidPair, IsValidReply, IsWord};
 ghost use Rattle.spelling.specs.Replies.{told_of};
 ghost use Rattle.spelling.specs.Requests.{AsksForFew, as_map_call};
-ghost use Rattle.forest.specs.Dictionary.{IsReading, IsToldOf, IsRefusalOf, HasSpentAtMost, UpdateSays, SuccessorSays, RangeSays, blamed_by_reply, blamed_by_update, blamed_by_read};
-ghost use Rattle.forest.specs.Passes.{HasGoneOn, IsOf, AreNew, taken_of};
+ghost use Rattle.forest.specs.Dictionary.{IsReading, IsToldOf, IsRefusalOf, HasMadeCall, HasSpentAtMost, UpdateSays, SuccessorSays, RangeSays, blamed_by_reply, blamed_by_update, blamed_by_read};
+ghost use Rattle.forest.specs.Passes.{IsOf, AreNew};
 ghost use Rattle.forest.specs.StepKinds.{HasKeptToKinds};
 ghost use Rattle.forest.specs.StraightCalls.{map_edit};
-ghost use Rattle.forest.specs.Traces.{shared_nodes};
 
 use crate::fault::{NewFault, OrderFault, UpdateFault};
 use crate::forest::Forest;
@@ -65,7 +63,7 @@ impl<K: WordKey, V: WordValue> Forest<Dict<K, V>> {
         requires pass { IsOf self.now pass.old }
         ensures pass { IsOf self.now pass.new }
         ensures tree { pass.new.layout.mode ≡ Tree }
-        ensures goes_on { HasGoneOn (TypedAllows (IsWord K.is_valid K.word_of) (IsWord V.is_valid V.word_of)) pass.old pass.new (taken_of pass.old) (self.now.tries * (3 * (2 + shared_nodes self.now.layout) + 178)) (blamed_by_update result pass.old.blamed) }
+        ensures goes_on { HasMadeCall K.is_valid K.word_of V.is_valid V.word_of self.now.tries self.now.layout pass.old pass.new (Edit (InsertEdit (K.word_of key) (V.word_of value))) (blamed_by_update result pass.old.blamed) }
         ensures spends { HasSpentAtMost pass.old pass.new (Edit (InsertEdit (K.word_of key) (V.word_of value))) self.now.tries }
         ensures says { UpdateSays V.word_of self.now.tries pass.old pass.new (InsertEdit (K.word_of key) (V.word_of value)) result }
         ensures valid { IfOk result (λ old. IfSome old V.is_valid) }
@@ -82,7 +80,7 @@ impl<K: WordKey, V: WordValue> Forest<Dict<K, V>> {
         requires pass { IsOf self.now pass.old }
         ensures pass { IsOf self.now pass.new }
         ensures tree { pass.new.layout.mode ≡ Tree }
-        ensures goes_on { HasGoneOn (TypedAllows (IsWord K.is_valid K.word_of) (IsWord V.is_valid V.word_of)) pass.old pass.new (taken_of pass.old) (self.now.tries * (3 * (2 + shared_nodes self.now.layout) + 301)) (blamed_by_update result pass.old.blamed) }
+        ensures goes_on { HasMadeCall K.is_valid K.word_of V.is_valid V.word_of self.now.tries self.now.layout pass.old pass.new (Edit (DeleteEdit (K.word_of key.now))) (blamed_by_update result pass.old.blamed) }
         ensures spends { HasSpentAtMost pass.old pass.new (Edit (DeleteEdit (K.word_of key.now))) self.now.tries }
         ensures says { UpdateSays V.word_of self.now.tries pass.old pass.new (DeleteEdit (K.word_of key.now)) result }
         ensures valid { IfOk result (λ old. IfSome old V.is_valid) }
@@ -97,7 +95,7 @@ impl<K: WordKey, V: WordValue> Forest<Dict<K, V>> {
         requires pass { IsOf self.now pass.old }
         ensures pass { IsOf self.now pass.new }
         ensures tree { pass.new.layout.mode ≡ Tree }
-        ensures goes_on { HasGoneOn (TypedAllows (IsWord K.is_valid K.word_of) (IsWord V.is_valid V.word_of)) pass.old pass.new (taken_of pass.old) (3 * (2 + shared_nodes self.now.layout)) pass.old.blamed }
+        ensures goes_on { HasMadeCall K.is_valid K.word_of V.is_valid V.word_of self.now.tries self.now.layout pass.old pass.new (Get (K.word_of key.now)) pass.old.blamed }
         ensures spends { HasSpentAtMost pass.old pass.new (Get (K.word_of key.now)) self.now.tries }
         ensures says { IsReading pass.old pass.new (Get (K.word_of key.now)) (OneValue (option_map V.word_of result)) }
         ensures kinds { HasKeptToKinds pass.old pass.new (Get (K.word_of key.now)) }
@@ -122,7 +120,7 @@ impl<K: WordKey, V: WordValue> Forest<Dict<K, V>> {
         requires pass { IsOf self.now pass.old }
         ensures pass { IsOf self.now pass.new }
         ensures tree { pass.new.layout.mode ≡ Tree }
-        ensures goes_on { HasGoneOn (TypedAllows (IsWord K.is_valid K.word_of) (IsWord V.is_valid V.word_of)) pass.old pass.new (taken_of pass.old) (self.now.tries * (137 * (2 + shared_nodes self.now.layout))) (blamed_by_read result pass.old.blamed) }
+        ensures goes_on { HasMadeCall K.is_valid K.word_of V.is_valid V.word_of self.now.tries self.now.layout pass.old pass.new (Successor (K.word_of key.now)) (blamed_by_read result pass.old.blamed) }
         ensures spends { HasSpentAtMost pass.old pass.new (Successor (K.word_of key.now)) self.now.tries }
         ensures says { SuccessorSays K.word_of V.word_of self.now.tries pass.old pass.new (K.word_of key.now) result }
         ensures kinds { HasKeptToKinds pass.old pass.new (Successor (K.word_of key.now)) }
@@ -155,7 +153,7 @@ impl<K: WordKey, V: WordValue> Forest<Dict<K, V>> {
         requires few { most ≤ 64 }
         ensures pass { IsOf self.now pass.new }
         ensures tree { pass.new.layout.mode ≡ Tree }
-        ensures goes_on { HasGoneOn (TypedAllows (IsWord K.is_valid K.word_of) (IsWord V.is_valid V.word_of)) pass.old pass.new (taken_of pass.old) (self.now.tries * ((most + 2) * (67 * (2 + shared_nodes self.now.layout)))) (blamed_by_read result pass.old.blamed) }
+        ensures goes_on { HasMadeCall K.is_valid K.word_of V.is_valid V.word_of self.now.tries self.now.layout pass.old pass.new (Range (K.word_of low.now) (K.word_of high.now) most) (blamed_by_read result pass.old.blamed) }
         ensures spends { HasSpentAtMost pass.old pass.new (Range (K.word_of low.now) (K.word_of high.now) most) self.now.tries }
         ensures says { RangeSays K.word_of V.word_of self.now.tries pass.old pass.new (K.word_of low.now) (K.word_of high.now) most result }
         ensures kinds { HasKeptToKinds pass.old pass.new (Range (K.word_of low.now) (K.word_of high.now) most) }
@@ -179,7 +177,7 @@ impl<K: WordKey, V: WordValue> Forest<Dict<K, V>> {
         requires small { edit_key (map_edit edit) < 2 ^ 64 }
         ensures pass { IsOf self.now pass.new }
         ensures tree { pass.new.layout.mode ≡ Tree }
-        ensures goes_on { HasGoneOn (TypedAllows (IsWord K.is_valid K.word_of) (IsWord V.is_valid V.word_of)) pass.old pass.new (taken_of pass.old) (most_steps (Edit (map_edit edit)) self.now.tries (shared_nodes self.now.layout)) (blamed_by_update result pass.old.blamed) }
+        ensures goes_on { HasMadeCall K.is_valid K.word_of V.is_valid V.word_of self.now.tries self.now.layout pass.old pass.new (Edit (map_edit edit)) (blamed_by_update result pass.old.blamed) }
         ensures spends { HasSpentAtMost pass.old pass.new (Edit (map_edit edit)) self.now.tries }
         ensures says { UpdateSays V.word_of self.now.tries pass.old pass.new (map_edit edit) result }
         ensures valid { IfOk result (λ old. IfSome old V.is_valid) }
@@ -205,7 +203,7 @@ impl<K: WordKey, V: WordValue> Forest<Dict<K, V>> {
         requires ordered { KeepsLists (as_map_call K.word_of V.word_of request) }
         ensures pass { IsOf self.now pass.new }
         ensures tree { pass.new.layout.mode ≡ Tree }
-        ensures goes_on { HasGoneOn (TypedAllows (IsWord K.is_valid K.word_of) (IsWord V.is_valid V.word_of)) pass.old pass.new (taken_of pass.old) (most_steps (as_map_call K.word_of V.word_of request) self.now.tries (shared_nodes self.now.layout)) (blamed_by_reply result pass.old.blamed) }
+        ensures goes_on { HasMadeCall K.is_valid K.word_of V.is_valid V.word_of self.now.tries self.now.layout pass.old pass.new (as_map_call K.word_of V.word_of request) (blamed_by_reply result pass.old.blamed) }
         ensures spends { HasSpentAtMost pass.old pass.new (as_map_call K.word_of V.word_of request) self.now.tries }
         ensures told { IsToldOf pass.old pass.new (as_map_call K.word_of V.word_of request) (told_of K.word_of V.word_of result) }
         ensures refused { IsRefusalOf self.now.tries pass.old pass.new (as_map_call K.word_of V.word_of request) result }

@@ -2,15 +2,14 @@
 ghost use Rattle.std.specs.Prelude.{◌≡◌, ◌≤◌, ◌+◌, true, false, None};
 ghost use Rattle.arena.specs.Machines.{IsRun};
 ghost use Rattle.dict.specs.Calls.{AsksForPairs};
-ghost use Rattle.dict.specs.Forms.{MayReply, form_of};
-ghost use Rattle.dict.specs.Steps.{most_steps};
+ghost use Rattle.spelling.specs.CallRules.{MayReply, form_of, most_steps};
 ghost use Rattle.dict.specs.Typed.{TypedAllows};
 ghost use Rattle.dict.specs.Words.{IsValidReply, IsWord};
 ghost use Rattle.spelling.specs.Replies.{told_of};
 ghost use Rattle.spelling.specs.Requests.{AsksForFew, as_map_call};
-ghost use Rattle.forest.specs.Dictionary.{IsToldOf, IsRefusalOf, HasSpentAtMost, blamed_by_reply};
+ghost use Rattle.forest.specs.Dictionary.{IsToldOf, IsRefusalOf, HasMadeCall, HasSpentAtMost, blamed_by_reply};
 ghost use Rattle.forest.specs.Opened.{HasStepped, IsSameOpen, pass_now};
-ghost use Rattle.forest.specs.Passes.{Ground, HasGoneOn, IsOf, run_of, steps_of, taken_of};
+ghost use Rattle.forest.specs.Passes.{Ground, IsOf, run_of, steps_of};
 ghost use Rattle.forest.specs.StepKinds.{HasKeptToKinds};
 ghost use Rattle.forest.specs.Traces.{shared_nodes};
 
@@ -144,7 +143,7 @@ impl<K: WordKey, V: WordValue> OpenCall<K, V> {
         ensures pass { (f : Ground) → IsOf f self.began → IsOf f result.0 }
         ensures known { result.0.known ≡ self.known }
         ensures made { steps_of result.0 ≡ steps_of self.began + self.made }
-        ensures goes_on { HasGoneOn (TypedAllows (IsWord K.is_valid K.word_of) (IsWord V.is_valid V.word_of)) self.began result.0 (taken_of self.began) (most_steps self.call self.tries (shared_nodes self.began.layout)) (blamed_by_reply result.1 self.began.blamed) }
+        ensures goes_on { HasMadeCall K.is_valid K.word_of V.is_valid V.word_of self.tries self.began.layout self.began result.0 self.call (blamed_by_reply result.1 self.began.blamed) }
         ensures spends { HasSpentAtMost self.began result.0 self.call self.tries }
         ensures told { IsToldOf self.began result.0 self.call (told_of K.word_of V.word_of result.1) }
         ensures refused { IsRefusalOf self.tries self.began result.0 self.call result.1 }

@@ -8,7 +8,7 @@ use Rattle.arena.specs.declared.step.Kind.{Kind}
 use Rattle.spelling.specs.declared.pair.Pair.{Pair}
 use Rattle.spelling.specs.OrderedMap.{MapCall, Edit, Delete, OneValue, ManyPairs, Get, Range, get, between, reply}
 use Rattle.spelling.specs.Paths.{IsAnswerAt}
-use Rattle.record.specs.Rules.Range.{TakesNothing}
+use Rattle.spelling.specs.CallRules.{TakesNothing}
 use Rattle.script.specs.declared.call.Call.{Call}
 use Rattle.script.specs.declared.command.Command.TheVariants.{Map}
 use Rattle.spelling.specs.declared.request.Request.TheVariants.{Delete as DeleteOf, Get as GetOf}

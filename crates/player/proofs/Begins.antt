@@ -71,7 +71,7 @@ use Rattle.order.specs.declared.successor.SuccessorRun.{SuccessorRun}
 use Rattle.order.specs.declared.successor.SuccessorAt.TheVariants.{Start as NextStart}
 use Rattle.std.specs.Global.{Global}
 use Rattle.spelling.specs.declared.reply.Reply.TheVariants.{Pairs}
-use Rattle.record.specs.Rules.Range.{TakesNothing}
+use Rattle.spelling.specs.CallRules.{TakesNothing}
 use Rattle.player.specs.ReadRuns.{HasReadTries, IsReadBy, ReadIsReady, read_left, read_limit}
 use Rattle.player.specs.declared.read.ReadRun.{ReadRun}
 use Rattle.player.specs.declared.read.ReadRun.TheVariants.{Successor as NextOf, Range as PairsOf}

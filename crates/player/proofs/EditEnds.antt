@@ -28,7 +28,7 @@ use Rattle.updates.specs.declared.update.Updated.TheVariants.{Done, Contended, F
 use Rattle.record.specs.Answers.{HasItsEntry, WasBlockedBy}
 use Rattle.record.specs.CommandRules.{MayAnswerAfterStep, enters, IsRight}
 use Rattle.record.specs.Edits.{HadAtKey}
-use Rattle.record.specs.Rules.Insert.{nodes_for}
+use Rattle.spelling.specs.CallRules.{insert_nodes}
 use Rattle.record.specs.Shares.{HasTooFew, HasTooFewToTry, WasBlocked}
 use Rattle.spelling.specs.declared.reply.Reply.TheVariants.{Value}
 use Rattle.record.specs.declared.record.Answer.{Answer}
@@ -66,7 +66,7 @@ something None e = cc
 something (Some v) e = cc
 
 -- it needs as many nodes as its rules say
-insert_many : (old : Option ℕ) → many_nodes (insert_need old) ≡ nodes_for old
+insert_many : (old : Option ℕ) → many_nodes (insert_need old) ≡ insert_nodes old
 insert_many None = refl
 insert_many (Some v) = refl
 

@@ -21,7 +21,7 @@ use Rattle.spelling.specs.declared.reply.Reply.TheVariants.{Pair, Pairs, Contend
 use Rattle.spelling.specs.declared.pair.Pair.{Pair as PairOf}
 use Rattle.spelling.specs.Replies.{word_pair}
 use Rattle.record.specs.MapRecord.{number_pairs}
-use Rattle.record.specs.Rules.Range.{TakesNothing}
+use Rattle.spelling.specs.CallRules.{TakesNothing}
 use Rattle.player.specs.declared.read.ReadRun.{ReadRun}
 use Rattle.player.specs.declared.read.ReadRun.TheVariants.{Successor, Range}
 

@@ -4,16 +4,6 @@ use Rattle.arena.specs.declared.layout.Layout.{Layout}
 use Rattle.arena.specs.declared.step.Row.{Row as StepRow}
 use Rattle.arena.specs.History.{History, ◌⊳◌, Extends}
 use Rattle.spelling.specs.Paths.{IsAnswerAt}
-use Rattle.spelling.specs.declared.reply.Reply.TheVariants.{Value, Contended, Full}
-use Rattle.record.specs.declared.record.Answer.{Answer}
-use Rattle.record.specs.declared.record.Answer.TheVariants.{Map}
-
--- an edit of the map tells what the key had before, or is refused
-abbrev pub EditAfterStep : Answer → Type 0
-EditAfterStep (Map (Value old)) = Unit {0}
-EditAfterStep (Map (Contended node scx)) = Unit {0}
-EditAfterStep (Map (Full full)) = Unit {0}
-EditAfterStep _ = ⊥
 
 -- after some row behind the call's begin, the map that the words spelled had this at the key
 abbrev pub HadAtKey : Layout → History → History → ℕ → Option ℕ → Type 0

@@ -3,6 +3,7 @@ pub mod Llx
 pub mod Scx
 pub mod Vlx
 pub mod Set
+pub mod Map
 pub mod Insert
 pub mod Delete
 pub mod Get

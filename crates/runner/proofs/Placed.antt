@@ -16,7 +16,7 @@ use Rattle.spelling.specs.Replies.{told_of}
 use Rattle.spelling.specs.declared.reply.Reply.{Reply}
 use Rattle.spelling.specs.declared.reply.Reply.TheVariants as replies
 use Rattle.script.specs.declared.command.Command.{Command}
-use Rattle.dict.specs.Steps.{most_steps}
+use Rattle.spelling.specs.CallRules.{most_steps}
 use Rattle.forest.specs.Dictionary.{IsVersion, IsChange, IsChangeOrReading, IsReading, IsRefusalOf, IsToldOf}
 use Rattle.forest.specs.Passes.{PassView, IsLaterView, run_of, done_of, steps_of}
 use Rattle.forest.specs.Traces.{shared_nodes}

@@ -6,8 +6,7 @@ use Rattle.arena.specs.History.{History}
 use Rattle.arena.specs.Machines.{IsRun}
 use Rattle.spelling.specs.OrderedMap.{MapCall}
 use Rattle.dict.specs.Calls.{AsksForPairs}
-use Rattle.dict.specs.Forms.{MayReply, form_of}
-use Rattle.dict.specs.Steps.{most_steps}
+use Rattle.spelling.specs.CallRules.{MayReply, form_of, most_steps}
 use Rattle.dict.specs.Typed.{TypedAllows}
 use Rattle.dict.specs.Words.{IsWord}
 use Rattle.spelling.specs.Replies.{told_of}

@@ -8,9 +8,8 @@ use Rattle.spelling.specs.declared.pair.Pair.{Pair}
 use Rattle.spelling.specs.OrderedMap.{MapCall, Edit, MapEdit, MapReply, reply, changes}
 use Rattle.spelling.specs.Runs.{map_of_log}
 use Rattle.dict.specs.Calls.{AsksForPairs}
-use Rattle.dict.specs.Forms.{MayReply, form_of}
+use Rattle.spelling.specs.CallRules.{MayReply, form_of, most_steps}
 use Rattle.dict.specs.Says.{HasMadeRow}
-use Rattle.dict.specs.Steps.{most_steps}
 use Rattle.spelling.specs.Replies.{told_of}
 use Rattle.spelling.specs.declared.reply.Reply.{Reply}
 use Rattle.forest.specs.Dictionary.{IsRefusalOf, HasSpentAtMost, blamed_by_reply}

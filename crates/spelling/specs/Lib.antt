@@ -1,6 +1,7 @@
 pub mod OrderedMap
 pub mod Requests
 pub mod Replies
+pub mod CallRules
 pub mod TreeWords
 pub mod Spelled
 pub mod Paths

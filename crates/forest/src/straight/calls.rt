@@ -3,7 +3,8 @@ ghost use Rattle.std.specs.Prelude.{◌≡◌, ◌≤◌, ◌<◌, ◌+◌, ◌^
 ghost use Rattle.arena.specs.Machines.{Call};
 ghost use Rattle.dict.specs.Calls.{AsksForPairs, call_in};
 ghost use Rattle.dict.specs.Says.{KeepsLists};
-ghost use Rattle.dict.specs.Steps.{map_left, most_steps};
+ghost use Rattle.spelling.specs.CallRules.{most_steps};
+ghost use Rattle.dict.specs.Steps.{map_left};
 ghost use Rattle.dict.specs.Translated.{HasFormOf, IsTranslated};
 ghost use Rattle.dict.specs.WordReplies.{update_reply as word_reply};
 ghost use Rattle.dict.specs.Words.{IsValidReply};

@@ -1,5 +1,5 @@
 -- The rules of `delete`.
-use Rattle.std.specs.Prelude.{ℕ, ◌+◌, ◌*◌, Bool, true, false, Option, Some, None}
+use Rattle.std.specs.Prelude.{ℕ, Bool, true, false, Option, Some, None}
 use Rattle.arena.specs.declared.layout.Layout.{Layout}
 use Rattle.arena.specs.History.{History}
 use Rattle.spelling.specs.OrderedMap.{Edit, Delete}
@@ -8,10 +8,9 @@ use Rattle.spelling.specs.declared.reply.Reply.TheVariants.{Value, Contended, Fu
 use Rattle.record.specs.declared.record.Answer.{Answer}
 use Rattle.record.specs.declared.record.Answer.TheVariants.{Map}
 use Rattle.record.specs.Answers.{HasLostAllTries}
-use Rattle.record.specs.Edits.{EditAfterStep, HadAtKey}
-use Rattle.record.specs.MapRecord.{reply_told}
-use Rattle.record.specs.Placed.{IsPlacedOnMap}
+use Rattle.record.specs.Edits.{HadAtKey}
 use Rattle.record.specs.Rules.{Rules}
+use Rattle.record.specs.Rules.Map.{map_rules}
 use Rattle.record.specs.Shares.{HasTooFewToTry}
 
 -- one that tells a value has an entry, and no other: where the map lacks the key it is a reading
@@ -31,20 +30,6 @@ DeleteIsRight key lay tries c now start linked (Map (Contended node scx)) = HasL
 DeleteIsRight key lay tries c now start linked (Map (Full full)) = (old : ℕ) × HadAtKey lay now start key (Some old) × HasTooFewToTry lay c now start 1 full.what full.left
 DeleteIsRight key lay tries c now start linked _ = ⊥
 
--- in each of its tries: at most three steps for each level that the tree may have, two more than
--- nodes are taken, and 301 others, of any kind; an SCX-record, and a node for it. It leaves
--- snapshots alone. Its entry is of an SCX-record that takes the key out
+-- its entry is of an SCX-record that takes the key out
 abbrev pub delete_rules : ℕ → Rules
-delete_rules key = record {
-  most_steps = λ tries taken. tries * (3 * (2 + taken) + 301);
-  most_scx = λ tries. tries;
-  nodes_each = 1;
-  MayMake = λ kind. Unit {0};
-  IsAtOnce = λ answer. ⊥;
-  IsAfterStep = EditAfterStep;
-  enters = has_deleted;
-  linked_then = λ answer now n old. old;
-  IsRight = DeleteIsRight key;
-  IsEntryFor = λ lay c before start linked e. Makes lay before e.scx (Delete key);
-  IsPlaced = λ lay calls lines reply. IsPlacedOnMap (reply_told reply.answer) calls lines (Edit (Delete key)) reply;
-}
+delete_rules key = map_rules (Edit (Delete key)) (λ answer. ⊥) has_deleted (DeleteIsRight key) (λ lay c before start linked e. Makes lay before e.scx (Delete key))

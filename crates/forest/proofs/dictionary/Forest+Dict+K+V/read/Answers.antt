@@ -1,8 +1,8 @@
 use Rattle.std.proofs.Common.{◌≡◌, ◌∙◌, ◌≤◌, ℕ, sym, ap, subst}
 use Rattle.atomic_table.specs.declared.shared.Seat.{Seat}
 use Rattle.dict.specs.Calls.{AsksForPairs, call_in}
-use Rattle.dict.specs.Forms.{MayReply, form_of}
-use Rattle.dict.specs.Steps.{map_left, most_steps}
+use Rattle.spelling.specs.CallRules.{MayReply, form_of, most_steps}
+use Rattle.dict.specs.Steps.{map_left}
 use Rattle.dict.specs.Typed.{TypedAllows}
 use Rattle.dict.specs.Words.{IsWord}
 use Rattle.spelling.specs.Requests.{as_map_call}

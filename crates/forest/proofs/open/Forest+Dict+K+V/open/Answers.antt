@@ -4,7 +4,8 @@ use Rattle.arena.specs.Machines.{MatchTurn}
 use Rattle.dict.specs.Calls.{call_in, AsksForPairs}
 use Rattle.dict.specs.DictKnown.{DictIsReady, DictWaits, DictAnswers}
 use Rattle.dict.specs.DictLaws.{dict_told}
-use Rattle.dict.specs.Steps.{map_left, most_steps}
+use Rattle.spelling.specs.CallRules.{most_steps}
+use Rattle.dict.specs.Steps.{map_left}
 use Rattle.dict.specs.Typed.{TypedAllows}
 use Rattle.dict.specs.Words.{IsWord}
 use Rattle.forest.specs.Passes.{Ground, taken_of}

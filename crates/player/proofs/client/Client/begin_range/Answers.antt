@@ -1,7 +1,7 @@
 use Rattle.std.proofs.Common.{arith, ⊎_elim, sym, ◌∙◌}
 use Rattle.script.specs.declared.command.Command.TheVariants.{Map}
 use Rattle.spelling.specs.declared.request.Request.TheVariants.{Range as RangeCommand}
-use Rattle.record.specs.Rules.Range.{TakesNothing}
+use Rattle.spelling.specs.CallRules.{TakesNothing}
 use Rattle.player.specs.declared.read.ReadRun.TheVariants.{Range as PairsOf}
 use Rattle.player.proofs.Begins.{range_ready, read_starts}
 use Rattle.player.proofs.client.Client.begin_range.Goals as goal

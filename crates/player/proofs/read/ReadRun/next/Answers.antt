@@ -3,7 +3,7 @@ use Rattle.order.specs.Range.Known.{RangeIsReady, RangeAnswers}
 use Rattle.order.specs.Range.Laws.{range_told}
 use Rattle.order.specs.Successor.Known.{SuccessorIsReady, SuccessorAnswers}
 use Rattle.order.specs.Successor.Laws.{successor_told}
-use Rattle.record.specs.Rules.Range.{TakesNothing}
+use Rattle.spelling.specs.CallRules.{TakesNothing}
 use Rattle.player.specs.ReadRuns.{TellsPairs}
 use Rattle.player.proofs.ReadEnds.{next_refused, range_refused, told_answers}
 use Rattle.player.proofs.read.ReadRun.next.Goals as goal
