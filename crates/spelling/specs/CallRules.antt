@@ -43,15 +43,15 @@ pub record CallRules : Type 1 where
 -- Edits
 
 -- at most so many steps in a try, besides three for each level of the walk
-abbrev pub edit_steps : MapEdit → ℕ
-edit_steps (Insert key value) = 178
-edit_steps (Delete key) = 301
+abbrev pub steps_behind_walk : MapEdit → ℕ
+steps_behind_walk (Insert key value) = 178
+steps_behind_walk (Delete key) = 301
 
 -- an insert makes two leaves and a fork over them, or a leaf in place of another; a delete makes a
 -- copy of the leaf's sibling
-abbrev pub edit_nodes : MapEdit → ℕ
-edit_nodes (Insert key value) = 3
-edit_nodes (Delete key) = 1
+abbrev pub nodes_in_try : MapEdit → ℕ
+nodes_in_try (Insert key value) = 3
+nodes_in_try (Delete key) = 1
 
 -- how many nodes an insert needs, where the key has this value
 abbrev pub insert_nodes : Option ℕ → ℕ
@@ -64,9 +64,9 @@ delete_nodes None = 0
 delete_nodes (Some value) = 1
 
 -- how many an edit needs on a map
-abbrev pub edit_need : MapEdit → List PairOf → ℕ
-edit_need (Insert key value) map = insert_nodes (get key map)
-edit_need (Delete key) map = delete_nodes (get key map)
+abbrev pub edit_needs : MapEdit → List PairOf → ℕ
+edit_needs (Insert key value) map = insert_nodes (get key map)
+edit_needs (Delete key) map = delete_nodes (get key map)
 
 -- it tells what the key had before, or is refused
 abbrev pub EditReplies : Form → Type 0
@@ -105,11 +105,11 @@ RangeReplies _ = ⊥
 -- of these behind a walk, a range one for each pair that it may take and for two more.
 abbrev pub call_rules : MapCall → CallRules
 call_rules (Edit e) = record {
-  most_steps = λ tries nodes. tries * (3 * (2 + nodes) + edit_steps e);
+  most_steps = λ tries nodes. tries * (3 * (2 + nodes) + steps_behind_walk e);
   MayMake = λ kind. Unit {0};
   most_scx = λ tries. tries;
-  most_nodes = edit_nodes e;
-  need = edit_need e;
+  most_nodes = nodes_in_try e;
+  need = edit_needs e;
   MayReply = EditReplies;
 }
 call_rules (Get key) = record {
