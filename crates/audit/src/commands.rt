@@ -5,7 +5,7 @@ ghost use Rattle.record.specs.CommandRules.{rules};
 ghost use Rattle.script.specs.declared.command.Command.TheVariants.{Map as MapCommand};
 ghost use Rattle.record.specs.declared.record.Answer.TheVariants.{Map as MapAnswer};
 ghost use Rattle.record.specs.Rules.Llx.{LlxAfterStep};
-ghost use Rattle.spelling.specs.CallRules.{EditReplies, RangeReplies, SuccessorReplies, TakesNothing, form_of};
+ghost use Rattle.spelling.specs.CallRules.{IsFormOfEdit, IsFormOfRange, IsFormOfSuccessor, TakesNothing, form_of};
 ghost use Rattle.record.specs.Rules.Range.{RangeAtOnce};
 ghost use Rattle.record.specs.Rules.Set.{SetAfterStep};
 
@@ -159,7 +159,7 @@ fn is_of_set(answer: &Answer) -> bool
 }
 
 fn is_of_edit(reply: &Reply<u64, u64>) -> bool
-    ensures { IsTrue result → EditReplies (form_of reply.now) }
+    ensures { IsTrue result → IsFormOfEdit (form_of reply.now) }
 {
     match reply {
         Reply::Value(_) | Reply::Contended { .. } | Reply::Full(_) => true,
@@ -168,7 +168,7 @@ fn is_of_edit(reply: &Reply<u64, u64>) -> bool
 }
 
 fn is_of_successor(reply: &Reply<u64, u64>) -> bool
-    ensures { IsTrue result → SuccessorReplies (form_of reply.now) }
+    ensures { IsTrue result → IsFormOfSuccessor (form_of reply.now) }
 {
     match reply {
         Reply::Pair(_) | Reply::Contended { .. } | Reply::NoMemory => true,
@@ -177,7 +177,7 @@ fn is_of_successor(reply: &Reply<u64, u64>) -> bool
 }
 
 fn is_of_range(reply: &Reply<u64, u64>) -> bool
-    ensures { IsTrue result → RangeReplies (form_of reply.now) }
+    ensures { IsTrue result → IsFormOfRange (form_of reply.now) }
 {
     match reply {
         Reply::Pairs(_) | Reply::Contended { .. } | Reply::NoMemory => true,

@@ -69,36 +69,36 @@ edit_needs (Insert key value) map = insert_nodes (get key map)
 edit_needs (Delete key) map = delete_nodes (get key map)
 
 -- it tells what the key had before, or is refused
-abbrev pub EditReplies : Form → Type 0
-EditReplies Value = Unit {0}
-EditReplies Contended = Unit {0}
-EditReplies Full = Unit {0}
-EditReplies _ = ⊥
+abbrev pub IsFormOfEdit : Form → Type 0
+IsFormOfEdit Value = Unit {0}
+IsFormOfEdit Contended = Unit {0}
+IsFormOfEdit Full = Unit {0}
+IsFormOfEdit _ = ⊥
 
 -- Reads
 
 -- a get tells what the key has, and is never refused
-abbrev pub GetReplies : Form → Type 0
-GetReplies Value = Unit {0}
-GetReplies _ = ⊥
+abbrev pub IsFormOfGet : Form → Type 0
+IsFormOfGet Value = Unit {0}
+IsFormOfGet _ = ⊥
 
 -- a successor tells a pair, or none, or is refused
-abbrev pub SuccessorReplies : Form → Type 0
-SuccessorReplies Pair = Unit {0}
-SuccessorReplies Contended = Unit {0}
-SuccessorReplies NoMemory = Unit {0}
-SuccessorReplies _ = ⊥
+abbrev pub IsFormOfSuccessor : Form → Type 0
+IsFormOfSuccessor Pair = Unit {0}
+IsFormOfSuccessor Contended = Unit {0}
+IsFormOfSuccessor NoMemory = Unit {0}
+IsFormOfSuccessor _ = ⊥
 
 -- a range takes no pair, whatever the map has: none is asked for, or no key is from `low` to `high`
 abbrev pub TakesNothing : ℕ → ℕ → ℕ → Type 0
 TakesNothing low high most = (most ≡ 0) ⊎ (high < low)
 
 -- it tells pairs, or is refused
-abbrev pub RangeReplies : Form → Type 0
-RangeReplies Pairs = Unit {0}
-RangeReplies Contended = Unit {0}
-RangeReplies NoMemory = Unit {0}
-RangeReplies _ = ⊥
+abbrev pub IsFormOfRange : Form → Type 0
+IsFormOfRange Pairs = Unit {0}
+IsFormOfRange Contended = Unit {0}
+IsFormOfRange NoMemory = Unit {0}
+IsFormOfRange _ = ⊥
 
 -- The one match from calls to their rules. A walk makes at most three steps for each level that the
 -- tree may have, two more than nodes are taken; a search with snapshots 67, and a successor makes two
@@ -110,7 +110,7 @@ call_rules (Edit e) = record {
   most_scx = λ tries. tries;
   most_nodes = nodes_in_try e;
   need = edit_needs e;
-  MayReply = EditReplies;
+  MayReply = IsFormOfEdit;
 }
 call_rules (Get key) = record {
   most_steps = λ tries nodes. 3 * (2 + nodes);
@@ -118,7 +118,7 @@ call_rules (Get key) = record {
   most_scx = λ tries. 0;
   most_nodes = 0;
   need = λ map. 0;
-  MayReply = GetReplies;
+  MayReply = IsFormOfGet;
 }
 call_rules (Successor key) = record {
   most_steps = λ tries nodes. tries * (137 * (2 + nodes));
@@ -126,7 +126,7 @@ call_rules (Successor key) = record {
   most_scx = λ tries. 0;
   most_nodes = 0;
   need = λ map. 0;
-  MayReply = SuccessorReplies;
+  MayReply = IsFormOfSuccessor;
 }
 call_rules (Range low high most) = record {
   most_steps = λ tries nodes. tries * ((most + 2) * (67 * (2 + nodes)));
@@ -134,7 +134,7 @@ call_rules (Range low high most) = record {
   most_scx = λ tries. 0;
   most_nodes = 0;
   need = λ map. 0;
-  MayReply = RangeReplies;
+  MayReply = IsFormOfRange;
 }
 
 -- how many steps a call makes at most, with so many tries, where so many nodes are taken
