@@ -1,7 +1,5 @@
 -- Commands as fields of a row.
 use Rattle.std.specs.Prelude.{ℕ, ◌≢◌, ◌≡◌, ◌≤◌, ◌<◌, ◌^◌, Option, Some, None, List, [], ◌∷◌, ◌++◌, All, codes, decimal, length, map}
-use Rattle.std.proofs.Common.{refl}
-use Rattle.std.proofs.Math.Bridge.{le_prop}
 use denote.Ref.{Bor}
 use Rattle.arena.specs.declared.limits.Mode.{Mode}
 use Rattle.arena.specs.declared.limits.Mode.TheVariants.{Records, Tree}
@@ -59,11 +57,6 @@ mode_of _ = Records
 abbrev pub AsksForFewPairs : Command → Type 0
 AsksForFewPairs (Map request) = AsksForFew request
 AsksForFewPairs _ = Unit {0}
-
--- which is so in one way at most
-pub few_prop : (command : Command) → IsProp (AsksForFewPairs command)
-few_prop (Map (Range low high most)) = le_prop
-few_prop _ = λ a b. refl
 
 -- the texts behind references
 abbrev pub texts : List (Bor (List ℕ)) → List (List ℕ)

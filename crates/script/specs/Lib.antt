@@ -9,3 +9,4 @@ pub mod OrderKind
 pub mod Commands
 pub mod Calls
 pub mod Grammars
+pub mod Laws

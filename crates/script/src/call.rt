@@ -1,5 +1,6 @@
 //! Calls of a script.
-ghost use Rattle.script.specs.Commands.{AsksForFewPairs, few_prop};
+ghost use Rattle.script.specs.Commands.{AsksForFewPairs};
+ghost use Rattle.script.specs.Laws.FewPairs.{few_prop};
 
 use crate::command::Command;
 use arena::PassNo;
