@@ -7,6 +7,7 @@ ghost use Rattle.atomic_table.specs.Table.{Final, Seen};
 ghost use Rattle.arena.specs.Layout.{place, table_size, IsWord};
 ghost use Rattle.arena.specs.declared.word.Word.{Word};
 ghost use Rattle.forest.specs.declared.view.SeatedPass.{SeatedPass};
+ghost use Rattle.forest.specs.Seats.{IsSeatAt, StaysAtTable};
 ghost use Rattle.forest.specs.TableRule.{IsTableOf, TableIsLawful, MayStep, Made, Looked, new_passes, rest_of, first_of};
 
 use crate::rule::{Asked, Both, Deal, Lawful, Looks, Makes, Says};
@@ -50,7 +51,7 @@ impl<S: Shape> Words<S> {
         requires inside { at < table_size self.now.table.shared.key }
         requires apart { (w : Word) → IsWord self.now.table.shared.key w → place self.now.table.shared.key w ≡ at → w ≡ said.now.step.word }
         requires may { (p : SeatedPass) × (seat.old.me.0.passes ≡ p ∷ []) × MayStep S.allows said.now p }
-        ensures table { (seat.new.table_id ≡ seat.old.table_id) × (seat.new.me.1 ≡ seat.old.me.1) }
+        ensures table { StaysAtTable seat.old seat.new }
         ensures made { Made S.allows said.now seat.old.me.0.passes result seat.new.me.0.passes }
     {
         let shared = &self.table.shared;
@@ -68,9 +69,9 @@ impl<S: Shape> Words<S> {
 
     /// A look at the table by the first of two passes of a seat, which goes behind the other.
     pub(crate) fn look(&self, layout: &Layout, seat: &mut Seat<u8, SeatView>)
-        requires table { IsTableOf self.now.table.shared.table_id self.now.table.shared.key layout.now × (seat.old.table_id ≡ self.now.table.shared.table_id) }
+        requires table { IsSeatAt self.now layout.now seat.old }
         requires two { (p : SeatedPass) × (q : SeatedPass) × (seat.old.me.0.passes ≡ p ∷ q ∷ []) × (p.layout ≡ layout.now) × (p.number.0 < layout.now.passes) }
-        ensures table { (seat.new.table_id ≡ seat.old.table_id) × (seat.new.me.1 ≡ seat.old.me.1) }
+        ensures table { StaysAtTable seat.old seat.new }
         ensures looked { Looked S.allows seat.old.me.0.passes seat.new.me.0.passes }
     {
         let head = Word::Node(NodeNo(0), NodeWord::Head);
@@ -80,7 +81,7 @@ impl<S: Shape> Words<S> {
 
     /// A seat for the first pass of a seat.
     pub(crate) fn deal(&self, layout: &Layout, seat: &mut Seat<u8, SeatView>) -> Seat<u8, SeatView>
-        requires table { IsTableOf self.now.table.shared.table_id self.now.table.shared.key layout.now × (seat.old.table_id ≡ self.now.table.shared.table_id) }
+        requires table { IsSeatAt self.now layout.now seat.old }
         ensures table { (seat.new.table_id ≡ seat.old.table_id) × (result.table_id ≡ seat.old.table_id) }
         ensures bare { (seat.new.me.1 ≡ seat.old.me.1) × (result.me.1 ≡ []) }
         ensures passes { (seat.new.me.0.passes ≡ rest_of seat.old.me.0.passes) × (result.me.0.passes ≡ first_of seat.old.me.0.passes) }
@@ -97,7 +98,7 @@ impl<S: Shape> Words<S> {
     )
         requires table { IsTableOf self.now.table.shared.table_id self.now.table.shared.key layout.now × (seat.old.table_id ≡ self.now.table.shared.table_id) × (other.table_id ≡ self.now.table.shared.table_id) }
         requires bare { other.me.1 ≡ [] }
-        ensures table { (seat.new.table_id ≡ seat.old.table_id) × (seat.new.me.1 ≡ seat.old.me.1) }
+        ensures table { StaysAtTable seat.old seat.new }
         ensures passes { seat.new.me.0.passes ≡ seat.old.me.0.passes ++ other.me.0.passes }
     {
         self.table.shared.join_seat::<Both>(seat, other)

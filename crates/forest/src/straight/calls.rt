@@ -11,7 +11,7 @@ ghost use Rattle.dict.specs.Words.{IsValidReply};
 ghost use Rattle.dict.specs.declared.dict.DictRun.{DictRun as Run};
 ghost use Rattle.spelling.specs.OrderedMap.{Edit as EditCall, edit_key};
 ghost use Rattle.forest.specs.Dictionary.{update_reply};
-ghost use Rattle.forest.specs.TableRule.{IsTableOf};
+ghost use Rattle.forest.specs.Seats.{IsSeatAt, StaysAtTable};
 ghost use Rattle.forest.specs.Traces.{seat_steps, shared_nodes};
 ghost use Rattle.forest.specs.StraightCalls.{EditHasEnded, IsFreshEdit, SeatDictBegins, SeatDictEnds, SeatWordEnds, map_edit};
 
@@ -57,11 +57,11 @@ pub(crate) fn make<K: WordKey, V: WordValue>(
     tries: u32,
     edit: WordEdit,
 ) -> (Result<Option<V>, UpdateFault>, Share)
-    requires table { IsTableOf words.now.table.shared.table_id words.now.table.shared.key layout.now × (seat.old.table_id ≡ words.now.table.shared.table_id) }
+    requires table { IsSeatAt words.now layout.now seat.old }
     requires tries { 0 < tries }
     requires small { edit_key (map_edit edit) < 2 ^ 64 }
     requires begins { (c : Call) × (c.layout ≡ layout.now) × (c.number ≡ number) × ((first : Run K V) → IsFreshEdit edit share tries number first → SeatDictBegins K.is_valid K.word_of V.is_valid V.word_of c seat.old.me.0.passes first) }
-    ensures table { (seat.new.table_id ≡ seat.old.table_id) × (seat.new.me.1 ≡ seat.old.me.1) }
+    ensures table { StaysAtTable seat.old seat.new }
     ensures ends { (c : Call) → c.layout ≡ layout.now → c.number ≡ number → ((first : Run K V) → IsFreshEdit edit share tries number first → SeatDictBegins K.is_valid K.word_of V.is_valid V.word_of c seat.old.me.0.passes first) → EditHasEnded K.is_valid K.word_of V.is_valid V.word_of c seat.new.me.0.passes edit share tries number result.1 result.0 }
     ensures steps { seat_steps seat.new.me.0.passes ≤ seat_steps seat.old.me.0.passes + most_steps (EditCall (map_edit edit)) tries (shared_nodes layout.now) }
 {
@@ -91,10 +91,10 @@ fn in_words<K: WordKey, V: WordValue>(
     number: u64,
     run: &mut MapRun,
 ) -> WordReply
-    requires table { IsTableOf words.now.table.shared.table_id words.now.table.shared.key layout.now × (seat.old.table_id ≡ words.now.table.shared.table_id) }
+    requires table { IsSeatAt words.now layout.now seat.old }
     requires ordered { KeepsLists (call_in run.old) }
     requires begins { (c : Call) × (first : Run K V) × (c.layout ≡ layout.now) × (c.number ≡ number) × (first.run ≡ run.old) × SeatDictBegins K.is_valid K.word_of V.is_valid V.word_of c seat.old.me.0.passes first }
-    ensures table { (seat.new.table_id ≡ seat.old.table_id) × (seat.new.me.1 ≡ seat.old.me.1) }
+    ensures table { StaysAtTable seat.old seat.new }
     ensures ends { (c : Call) (first : Run K V) → c.layout ≡ layout.now → c.number ≡ number → first.run ≡ run.old → SeatDictBegins K.is_valid K.word_of V.is_valid V.word_of c seat.old.me.0.passes first → SeatWordEnds K.is_valid K.word_of V.is_valid V.word_of c seat.new.me.0.passes first record first { run = run.new } result }
     ensures steps { seat_steps seat.new.me.0.passes ≤ seat_steps seat.old.me.0.passes + map_left run.old (shared_nodes layout.now) }
     ensures nothing { ¬ AsksForPairs (call_in run.old) → seat.new ≡ seat.old }
@@ -131,10 +131,10 @@ pub(crate) fn read<K: WordKey, V: WordValue>(
     number: u64,
     run: &mut DictRun<K, V>,
 ) -> Reply<K, V>
-    requires table { IsTableOf words.now.table.shared.table_id words.now.table.shared.key layout.now × (seat.old.table_id ≡ words.now.table.shared.table_id) }
+    requires table { IsSeatAt words.now layout.now seat.old }
     requires ordered { KeepsLists (call_in run.old.run) }
     requires begins { (c : Call) × (c.layout ≡ layout.now) × (c.number ≡ number) × SeatDictBegins K.is_valid K.word_of V.is_valid V.word_of c seat.old.me.0.passes run.old }
-    ensures table { (seat.new.table_id ≡ seat.old.table_id) × (seat.new.me.1 ≡ seat.old.me.1) }
+    ensures table { StaysAtTable seat.old seat.new }
     ensures ends { (c : Call) → c.layout ≡ layout.now → c.number ≡ number → SeatDictBegins K.is_valid K.word_of V.is_valid V.word_of c seat.old.me.0.passes run.old → SeatDictEnds K.is_valid K.word_of V.is_valid V.word_of c seat.new.me.0.passes run.old run.new result }
     ensures steps { seat_steps seat.new.me.0.passes ≤ seat_steps seat.old.me.0.passes + map_left run.old.run (shared_nodes layout.now) }
     ensures nothing { ¬ AsksForPairs (call_in run.old.run) → seat.new ≡ seat.old }

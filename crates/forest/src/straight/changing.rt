@@ -1,7 +1,7 @@
 //! SCX with an SCX-record of the share, of whatever machine makes one: its steps in line.
 ghost use Rattle.std.specs.Prelude.{◌≡◌, ◌≤◌, ◌<◌, ◌+◌, ℕ, suc, true, false, IfSome, IfNone};
 ghost use Rattle.arena.specs.MemberIndex.{member_index};
-ghost use Rattle.forest.specs.TableRule.{IsTableOf};
+ghost use Rattle.forest.specs.Seats.{IsSeatAt, StaysAtTable};
 ghost use Rattle.forest.specs.Traces.{seat_steps};
 ghost use Rattle.forest.specs.StraightChange.{Changer, ChangerWaits, ChangerIsTold, changing_at, scx_fill, all_frozen_load};
 ghost use Rattle.help.specs.Help.Steps.{help_left};
@@ -43,9 +43,9 @@ fn fill<S: Shape, M: Machine<S>, T: Shape>(
     part: ScxWord,
     value: u64,
 ) -> u64
-    requires table { IsTableOf words.now.table.shared.table_id words.now.table.shared.key layout.now × (seat.old.table_id ≡ words.now.table.shared.table_id) }
+    requires table { IsSeatAt words.now layout.now seat.old }
     requires waits { (k : Changer T.allows S.allows M.ready M.waits M.same layout.now number) × (m : ScxRun) × ChangerWaits T.allows S.allows M.ready M.waits M.same layout.now number k seat.old.me.0.passes m (scx_fill scx part value) }
-    ensures table { (seat.new.table_id ≡ seat.old.table_id) × (seat.new.me.1 ≡ seat.old.me.1) }
+    ensures table { StaysAtTable seat.old seat.new }
     ensures one { seat_steps seat.new.me.0.passes ≡ suc (seat_steps seat.old.me.0.passes) }
     ensures told { (k : Changer T.allows S.allows M.ready M.waits M.same layout.now number) (m : ScxRun) → ChangerWaits T.allows S.allows M.ready M.waits M.same layout.now number k seat.old.me.0.passes m (scx_fill scx part value) → ChangerIsTold T.allows S.allows M.ready M.waits M.same layout.now number k seat.new.me.0.passes m result }
 {
@@ -65,9 +65,9 @@ fn fill_member<S: Shape, M: Machine<S>, T: Shape, L: SnapList>(
     change: Change,
     j: MemberIndex,
 ) -> Option<MemberIndex>
-    requires table { IsTableOf words.now.table.shared.table_id words.now.table.shared.key layout.now × (seat.old.table_id ≡ words.now.table.shared.table_id) }
+    requires table { IsSeatAt words.now layout.now seat.old }
     requires waits { (k : Changer T.allows S.allows M.ready M.waits M.same layout.now number) × ChangerWaits T.allows S.allows M.ready M.waits M.same layout.now number k seat.old.me.0.passes (changing_at (L.list snaps.now) change (ScxAt.Member j)) (scx_fill change.scx (ScxWord.Member (member_index j)) (snap_at (L.list snaps.now) (member_index j)).node.0) }
-    ensures table { (seat.new.table_id ≡ seat.old.table_id) × (seat.new.me.1 ≡ seat.old.me.1) }
+    ensures table { StaysAtTable seat.old seat.new }
     ensures one { seat_steps seat.new.me.0.passes ≡ suc (seat_steps seat.old.me.0.passes) }
     ensures behind { IfSome result (λ next. (member_index next ≡ member_index j + 1) × (member_index next < 4)) }
     ensures next { IfSome result (λ next. (k : Changer T.allows S.allows M.ready M.waits M.same layout.now number) → ChangerWaits T.allows S.allows M.ready M.waits M.same layout.now number k seat.old.me.0.passes (changing_at (L.list snaps.now) change (ScxAt.Member j)) (scx_fill change.scx (ScxWord.Member (member_index j)) (snap_at (L.list snaps.now) (member_index j)).node.0) → ChangerWaits T.allows S.allows M.ready M.waits M.same layout.now number k seat.new.me.0.passes (changing_at (L.list snaps.now) change (ScxAt.Member next)) (scx_fill change.scx (ScxWord.Member (member_index next)) (snap_at (L.list snaps.now) (member_index next)).node.0)) }
@@ -89,9 +89,9 @@ fn fill_members<S: Shape, M: Machine<S>, T: Shape, L: SnapList>(
     snaps: &L,
     change: Change,
 )
-    requires table { IsTableOf words.now.table.shared.table_id words.now.table.shared.key layout.now × (seat.old.table_id ≡ words.now.table.shared.table_id) }
+    requires table { IsSeatAt words.now layout.now seat.old }
     requires waits { (k : Changer T.allows S.allows M.ready M.waits M.same layout.now number) × ChangerWaits T.allows S.allows M.ready M.waits M.same layout.now number k seat.old.me.0.passes (changing_at (L.list snaps.now) change (ScxAt.Member MemberIndex.First)) (scx_fill change.scx (ScxWord.Member 0) (snap_at (L.list snaps.now) 0).node.0) }
-    ensures table { (seat.new.table_id ≡ seat.old.table_id) × (seat.new.me.1 ≡ seat.old.me.1) }
+    ensures table { StaysAtTable seat.old seat.new }
     ensures steps { seat_steps seat.new.me.0.passes ≤ seat_steps seat.old.me.0.passes + 4 }
     ensures waits { (k : Changer T.allows S.allows M.ready M.waits M.same layout.now number)
         → ChangerWaits T.allows S.allows M.ready M.waits M.same layout.now number k seat.old.me.0.passes (changing_at (L.list snaps.now) change (ScxAt.Member MemberIndex.First)) (scx_fill change.scx (ScxWord.Member 0) (snap_at (L.list snaps.now) 0).node.0)
@@ -124,9 +124,9 @@ fn fill_seen<S: Shape, M: Machine<S>, T: Shape, L: SnapList>(
     change: Change,
     j: MemberIndex,
 ) -> Option<MemberIndex>
-    requires table { IsTableOf words.now.table.shared.table_id words.now.table.shared.key layout.now × (seat.old.table_id ≡ words.now.table.shared.table_id) }
+    requires table { IsSeatAt words.now layout.now seat.old }
     requires waits { (k : Changer T.allows S.allows M.ready M.waits M.same layout.now number) × ChangerWaits T.allows S.allows M.ready M.waits M.same layout.now number k seat.old.me.0.passes (changing_at (L.list snaps.now) change (ScxAt.Seen j)) (scx_fill change.scx (ScxWord.Seen (member_index j)) (snap_at (L.list snaps.now) (member_index j)).scx.0) }
-    ensures table { (seat.new.table_id ≡ seat.old.table_id) × (seat.new.me.1 ≡ seat.old.me.1) }
+    ensures table { StaysAtTable seat.old seat.new }
     ensures one { seat_steps seat.new.me.0.passes ≡ suc (seat_steps seat.old.me.0.passes) }
     ensures behind { IfSome result (λ next. (member_index next ≡ member_index j + 1) × (member_index next < 4)) }
     ensures next { IfSome result (λ next. (k : Changer T.allows S.allows M.ready M.waits M.same layout.now number) → ChangerWaits T.allows S.allows M.ready M.waits M.same layout.now number k seat.old.me.0.passes (changing_at (L.list snaps.now) change (ScxAt.Seen j)) (scx_fill change.scx (ScxWord.Seen (member_index j)) (snap_at (L.list snaps.now) (member_index j)).scx.0) → ChangerWaits T.allows S.allows M.ready M.waits M.same layout.now number k seat.new.me.0.passes (changing_at (L.list snaps.now) change (ScxAt.Seen next)) (scx_fill change.scx (ScxWord.Seen (member_index next)) (snap_at (L.list snaps.now) (member_index next)).scx.0)) }
@@ -148,9 +148,9 @@ fn fill_infos<S: Shape, M: Machine<S>, T: Shape, L: SnapList>(
     snaps: &L,
     change: Change,
 )
-    requires table { IsTableOf words.now.table.shared.table_id words.now.table.shared.key layout.now × (seat.old.table_id ≡ words.now.table.shared.table_id) }
+    requires table { IsSeatAt words.now layout.now seat.old }
     requires waits { (k : Changer T.allows S.allows M.ready M.waits M.same layout.now number) × ChangerWaits T.allows S.allows M.ready M.waits M.same layout.now number k seat.old.me.0.passes (changing_at (L.list snaps.now) change (ScxAt.Seen MemberIndex.First)) (scx_fill change.scx (ScxWord.Seen 0) (snap_at (L.list snaps.now) 0).scx.0) }
-    ensures table { (seat.new.table_id ≡ seat.old.table_id) × (seat.new.me.1 ≡ seat.old.me.1) }
+    ensures table { StaysAtTable seat.old seat.new }
     ensures steps { seat_steps seat.new.me.0.passes ≤ seat_steps seat.old.me.0.passes + 4 }
     ensures waits { (k : Changer T.allows S.allows M.ready M.waits M.same layout.now number)
         → ChangerWaits T.allows S.allows M.ready M.waits M.same layout.now number k seat.old.me.0.passes (changing_at (L.list snaps.now) change (ScxAt.Seen MemberIndex.First)) (scx_fill change.scx (ScxWord.Seen 0) (snap_at (L.list snaps.now) 0).scx.0)
@@ -182,9 +182,9 @@ fn fill_all<S: Shape, M: Machine<S>, T: Shape, L: SnapList>(
     snaps: &L,
     change: Change,
 ) -> u64
-    requires table { IsTableOf words.now.table.shared.table_id words.now.table.shared.key layout.now × (seat.old.table_id ≡ words.now.table.shared.table_id) }
+    requires table { IsSeatAt words.now layout.now seat.old }
     requires waits { (k : Changer T.allows S.allows M.ready M.waits M.same layout.now number) × ChangerWaits T.allows S.allows M.ready M.waits M.same layout.now number k seat.old.me.0.passes (changing_at (L.list snaps.now) change ScxAt.Plan) (scx_fill change.scx ScxWord.Plan change.plan.0) }
-    ensures table { (seat.new.table_id ≡ seat.old.table_id) × (seat.new.me.1 ≡ seat.old.me.1) }
+    ensures table { StaysAtTable seat.old seat.new }
     ensures steps { seat_steps seat.new.me.0.passes ≤ seat_steps seat.old.me.0.passes + 12 }
     ensures told { (k : Changer T.allows S.allows M.ready M.waits M.same layout.now number)
         → ChangerWaits T.allows S.allows M.ready M.waits M.same layout.now number k seat.old.me.0.passes (changing_at (L.list snaps.now) change ScxAt.Plan) (scx_fill change.scx ScxWord.Plan change.plan.0)
@@ -228,10 +228,10 @@ pub(crate) fn call<S: Shape, M: Machine<S>, T: Shape, L: SnapList>(
     change: Change,
     help: &mut HelpRun,
 ) -> bool
-    requires table { IsTableOf words.now.table.shared.table_id words.now.table.shared.key layout.now × (seat.old.table_id ≡ words.now.table.shared.table_id) }
+    requires table { IsSeatAt words.now layout.now seat.old }
     requires waits { (k : Changer T.allows S.allows M.ready M.waits M.same layout.now number) × ChangerWaits T.allows S.allows M.ready M.waits M.same layout.now number k seat.old.me.0.passes (changing_at (L.list snaps.now) change ScxAt.Plan) (scx_fill change.scx ScxWord.Plan change.plan.0) }
     requires begins { (help.old.scx ≡ change.scx) × (help.old.at ≡ HelpAt.Start) }
-    ensures table { (seat.new.table_id ≡ seat.old.table_id) × (seat.new.me.1 ≡ seat.old.me.1) }
+    ensures table { StaysAtTable seat.old seat.new }
     ensures steps { seat_steps seat.new.me.0.passes ≤ seat_steps seat.old.me.0.passes + 34 }
     ensures left { result ≡ false → seat_steps seat.new.me.0.passes + suc (help_left help.new.at) ≤ seat_steps seat.old.me.0.passes + 34 }
     ensures commits { result ≡ true → (k : Changer T.allows S.allows M.ready M.waits M.same layout.now number) → ChangerWaits T.allows S.allows M.ready M.waits M.same layout.now number k seat.old.me.0.passes (changing_at (L.list snaps.now) change ScxAt.Plan) (scx_fill change.scx ScxWord.Plan change.plan.0) → (v : ℕ) × ChangerIsTold T.allows S.allows M.ready M.waits M.same layout.now number k seat.new.me.0.passes (changing_at (L.list snaps.now) change (ScxAt.Help (record help.new { at = HelpAt.Commit }))) v }

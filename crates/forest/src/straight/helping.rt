@@ -5,7 +5,7 @@ ghost use Rattle.arena.specs.MemberIndex.{member_index};
 ghost use Rattle.help.specs.Help.Steps.{help_left};
 ghost use Rattle.help.specs.Help.Known.{settled_load};
 ghost use Rattle.help.specs.declared.state.HelpRun.{HelpRun};
-ghost use Rattle.forest.specs.TableRule.{IsTableOf};
+ghost use Rattle.forest.specs.Seats.{IsSeatAt, StaysAtTable};
 ghost use Rattle.forest.specs.Traces.{seat_steps};
 ghost use Rattle.forest.specs.StraightHelp.{Helper, HelperWaits, HelperIsTold, HelperMarks};
 
@@ -30,9 +30,9 @@ fn act<S: Shape, M: Machine<S>, T: Shape>(
     word: Word,
     access: Access,
 ) -> u64
-    requires table { IsTableOf words.now.table.shared.table_id words.now.table.shared.key layout.now × (seat.old.table_id ≡ words.now.table.shared.table_id) }
+    requires table { IsSeatAt words.now layout.now seat.old }
     requires waits { (k : Helper T.allows S.allows M.ready M.waits M.same layout.now number) × (m : HelpRun) × HelperWaits T.allows S.allows M.ready M.waits M.same layout.now number k seat.old.me.0.passes m record { kind = kind; word = word; access = access } }
-    ensures table { (seat.new.table_id ≡ seat.old.table_id) × (seat.new.me.1 ≡ seat.old.me.1) }
+    ensures table { StaysAtTable seat.old seat.new }
     ensures one { seat_steps seat.new.me.0.passes ≡ suc (seat_steps seat.old.me.0.passes) }
     ensures told { (k : Helper T.allows S.allows M.ready M.waits M.same layout.now number) (m : HelpRun) → HelperWaits T.allows S.allows M.ready M.waits M.same layout.now number k seat.old.me.0.passes m record { kind = kind; word = word; access = access } → HelperIsTold T.allows S.allows M.ready M.waits M.same layout.now number k seat.new.me.0.passes m result }
 {
@@ -49,9 +49,9 @@ fn read<S: Shape, M: Machine<S>, T: Shape>(
     scx: ScxNo,
     part: ScxWord,
 ) -> u64
-    requires table { IsTableOf words.now.table.shared.table_id words.now.table.shared.key layout.now × (seat.old.table_id ≡ words.now.table.shared.table_id) }
+    requires table { IsSeatAt words.now layout.now seat.old }
     requires waits { (k : Helper T.allows S.allows M.ready M.waits M.same layout.now number) × (m : HelpRun) × HelperWaits T.allows S.allows M.ready M.waits M.same layout.now number k seat.old.me.0.passes m (settled_load scx.0 part) }
-    ensures table { (seat.new.table_id ≡ seat.old.table_id) × (seat.new.me.1 ≡ seat.old.me.1) }
+    ensures table { StaysAtTable seat.old seat.new }
     ensures one { seat_steps seat.new.me.0.passes ≡ suc (seat_steps seat.old.me.0.passes) }
     ensures told { (k : Helper T.allows S.allows M.ready M.waits M.same layout.now number) (m : HelpRun) → HelperWaits T.allows S.allows M.ready M.waits M.same layout.now number k seat.old.me.0.passes m (settled_load scx.0 part) → HelperIsTold T.allows S.allows M.ready M.waits M.same layout.now number k seat.new.me.0.passes m result }
 {
@@ -79,9 +79,9 @@ fn freeze<S: Shape, M: Machine<S>, T: Shape>(
     run: &mut HelpRun,
     j: MemberIndex,
 ) -> bool
-    requires table { IsTableOf words.now.table.shared.table_id words.now.table.shared.key layout.now × (seat.old.table_id ≡ words.now.table.shared.table_id) }
+    requires table { IsSeatAt words.now layout.now seat.old }
     requires waits { (k : Helper T.allows S.allows M.ready M.waits M.same layout.now number) × HelperWaits T.allows S.allows M.ready M.waits M.same layout.now number k seat.old.me.0.passes (record run.old { at = HelpAt.Member j }) (settled_load run.old.scx.0 (ScxWord.Member (member_index j))) }
-    ensures table { (seat.new.table_id ≡ seat.old.table_id) × (seat.new.me.1 ≡ seat.old.me.1) }
+    ensures table { StaysAtTable seat.old seat.new }
     ensures steps { seat_steps seat.new.me.0.passes ≡ seat_steps seat.old.me.0.passes + 3 }
     ensures left { result ≡ false → help_left run.new.at ≤ 1 }
     ensures same { (run.new.scx ≡ run.old.scx) × (run.new.plan ≡ run.old.plan) }
@@ -123,9 +123,9 @@ fn freeze_all<S: Shape, M: Machine<S>, T: Shape>(
     number: u64,
     run: &mut HelpRun,
 ) -> bool
-    requires table { IsTableOf words.now.table.shared.table_id words.now.table.shared.key layout.now × (seat.old.table_id ≡ words.now.table.shared.table_id) }
+    requires table { IsSeatAt words.now layout.now seat.old }
     requires waits { (k : Helper T.allows S.allows M.ready M.waits M.same layout.now number) × HelperWaits T.allows S.allows M.ready M.waits M.same layout.now number k seat.old.me.0.passes (record run.old { at = HelpAt.Member MemberIndex.First }) (settled_load run.old.scx.0 (ScxWord.Member 0)) }
-    ensures table { (seat.new.table_id ≡ seat.old.table_id) × (seat.new.me.1 ≡ seat.old.me.1) }
+    ensures table { StaysAtTable seat.old seat.new }
     ensures steps { seat_steps seat.new.me.0.passes ≤ seat_steps seat.old.me.0.passes + 12 }
     ensures left { result ≡ false → help_left run.new.at ≤ 1 }
     ensures same { (run.new.scx ≡ run.old.scx) × (run.new.plan ≡ run.old.plan) }
@@ -169,9 +169,9 @@ fn mark<S: Shape, M: Machine<S>, T: Shape>(
     run: &HelpRun,
     j: MemberIndex,
 )
-    requires table { IsTableOf words.now.table.shared.table_id words.now.table.shared.key layout.now × (seat.old.table_id ≡ words.now.table.shared.table_id) }
+    requires table { IsSeatAt words.now layout.now seat.old }
     requires marks { (k : Helper T.allows S.allows M.ready M.waits M.same layout.now number) × HelperMarks T.allows S.allows M.ready M.waits M.same layout.now number k seat.old.me.0.passes run.now (member_index j) }
-    ensures table { (seat.new.table_id ≡ seat.old.table_id) × (seat.new.me.1 ≡ seat.old.me.1) }
+    ensures table { StaysAtTable seat.old seat.new }
     ensures steps { seat_steps seat.new.me.0.passes ≤ seat_steps seat.old.me.0.passes + 1 }
     ensures marked { (k : Helper T.allows S.allows M.ready M.waits M.same layout.now number) → HelperMarks T.allows S.allows M.ready M.waits M.same layout.now number k seat.old.me.0.passes run.now (member_index j) → HelperMarks T.allows S.allows M.ready M.waits M.same layout.now number k seat.new.me.0.passes run.now (member_index j + 1) }
 {
@@ -191,9 +191,9 @@ fn mark_all<S: Shape, M: Machine<S>, T: Shape>(
     number: u64,
     run: &HelpRun,
 )
-    requires table { IsTableOf words.now.table.shared.table_id words.now.table.shared.key layout.now × (seat.old.table_id ≡ words.now.table.shared.table_id) }
+    requires table { IsSeatAt words.now layout.now seat.old }
     requires marks { (k : Helper T.allows S.allows M.ready M.waits M.same layout.now number) × HelperMarks T.allows S.allows M.ready M.waits M.same layout.now number k seat.old.me.0.passes run.now 0 }
-    ensures table { (seat.new.table_id ≡ seat.old.table_id) × (seat.new.me.1 ≡ seat.old.me.1) }
+    ensures table { StaysAtTable seat.old seat.new }
     ensures steps { seat_steps seat.new.me.0.passes ≤ seat_steps seat.old.me.0.passes + 4 }
     ensures marked { (k : Helper T.allows S.allows M.ready M.waits M.same layout.now number)
         → HelperMarks T.allows S.allows M.ready M.waits M.same layout.now number k seat.old.me.0.passes run.now 0
@@ -215,9 +215,9 @@ pub(crate) fn call<S: Shape, M: Machine<S>, T: Shape>(
     number: u64,
     run: &mut HelpRun,
 ) -> bool
-    requires table { IsTableOf words.now.table.shared.table_id words.now.table.shared.key layout.now × (seat.old.table_id ≡ words.now.table.shared.table_id) }
+    requires table { IsSeatAt words.now layout.now seat.old }
     requires waits { (k : Helper T.allows S.allows M.ready M.waits M.same layout.now number) × HelperWaits T.allows S.allows M.ready M.waits M.same layout.now number k seat.old.me.0.passes (record run.old { at = HelpAt.Plan }) (settled_load run.old.scx.0 ScxWord.Plan) }
-    ensures table { (seat.new.table_id ≡ seat.old.table_id) × (seat.new.me.1 ≡ seat.old.me.1) }
+    ensures table { StaysAtTable seat.old seat.new }
     ensures steps { seat_steps seat.new.me.0.passes ≤ seat_steps seat.old.me.0.passes + 22 }
     ensures same { run.new.scx ≡ run.old.scx }
     ensures left { result ≡ false → seat_steps seat.new.me.0.passes + suc (help_left run.new.at) ≤ seat_steps seat.old.me.0.passes + 22 }

@@ -1,7 +1,7 @@
 //! LLX.
 ghost use Rattle.std.specs.Prelude.{◌≡◌, ◌≢◌, ◌≤◌, ◌+◌, ◌⊎◌, suc, true, false};
 ghost use Rattle.arena.specs.Machines.{Call};
-ghost use Rattle.forest.specs.TableRule.{IsTableOf};
+ghost use Rattle.forest.specs.Seats.{IsSeatAt, StaysAtTable};
 ghost use Rattle.forest.specs.Traces.{seat_steps};
 ghost use Rattle.forest.specs.StraightLlx.{SeatLlxBegins, SeatLlxWaits, SeatLlxEnds};
 ghost use Rattle.prims.specs.Llx.Steps.{llx_left};
@@ -47,9 +47,9 @@ fn hand_over<S: Shape>(
     marked: bool,
     scx: ScxNo,
 ) -> Llx
-    requires table { IsTableOf words.now.table.shared.table_id words.now.table.shared.key layout.now × (seat.old.table_id ≡ words.now.table.shared.table_id) }
+    requires table { IsSeatAt words.now layout.now seat.old }
     requires waits { (c : Call) × (c.layout ≡ layout.now) × (c.number ≡ number) × SeatLlxWaits S.allows c seat.old.me.0.passes node (LlxAt.StateAgain marked scx) (load Kind.LoadState (Word.Scx scx ScxWord.State)) }
-    ensures table { (seat.new.table_id ≡ seat.old.table_id) × (seat.new.me.1 ≡ seat.old.me.1) }
+    ensures table { StaysAtTable seat.old seat.new }
     ensures ends { (c : Call) → c.layout ≡ layout.now → c.number ≡ number → SeatLlxWaits S.allows c seat.old.me.0.passes node (LlxAt.StateAgain marked scx) (load Kind.LoadState (Word.Scx scx ScxWord.State)) → SeatLlxEnds S.allows c seat.new.me.0.passes node result }
     ensures steps { seat_steps seat.new.me.0.passes ≤ seat_steps seat.old.me.0.passes + suc (llx_left (LlxAt.StateAgain marked scx)) }
 {
@@ -68,9 +68,9 @@ pub(crate) fn call<S: Shape>(
     number: u64,
     node: NodeNo,
 ) -> Llx
-    requires table { IsTableOf words.now.table.shared.table_id words.now.table.shared.key layout.now × (seat.old.table_id ≡ words.now.table.shared.table_id) }
+    requires table { IsSeatAt words.now layout.now seat.old }
     requires begins { (c : Call) × (c.layout ≡ layout.now) × (c.number ≡ number) × SeatLlxBegins S.allows c seat.old.me.0.passes node }
-    ensures table { (seat.new.table_id ≡ seat.old.table_id) × (seat.new.me.1 ≡ seat.old.me.1) }
+    ensures table { StaysAtTable seat.old seat.new }
     ensures ends { (c : Call) → c.layout ≡ layout.now → c.number ≡ number → SeatLlxBegins S.allows c seat.old.me.0.passes node → SeatLlxEnds S.allows c seat.new.me.0.passes node result }
     ensures steps { seat_steps seat.new.me.0.passes ≤ seat_steps seat.old.me.0.passes + 64 }
 {

@@ -1,6 +1,6 @@
 //! LLXs of nodes of the tree, of whatever machine looks at them.
 ghost use Rattle.std.specs.Prelude.{◌≡◌, ◌≤◌, ◌+◌, suc, IfOk, IfErr};
-ghost use Rattle.forest.specs.TableRule.{IsTableOf};
+ghost use Rattle.forest.specs.Seats.{IsSeatAt, StaysAtTable};
 ghost use Rattle.forest.specs.Traces.{seat_steps};
 ghost use Rattle.forest.specs.StraightLlx.{llx_at};
 ghost use Rattle.forest.specs.StraightLook.{Looker, LookerWaits, LookerIsTold, LookerSnaps};
@@ -28,9 +28,9 @@ fn read<S: Shape, M: Machine<S>>(
     kind: Kind,
     word: Word,
 ) -> u64
-    requires table { IsTableOf words.now.table.shared.table_id words.now.table.shared.key layout.now × (seat.old.table_id ≡ words.now.table.shared.table_id) }
+    requires table { IsSeatAt words.now layout.now seat.old }
     requires waits { (k : Looker S.allows M.ready M.waits M.same layout.now number) × (m : LlxRun) × LookerWaits S.allows M.ready M.waits M.same layout.now number k seat.old.me.0.passes m (load kind word) }
-    ensures table { (seat.new.table_id ≡ seat.old.table_id) × (seat.new.me.1 ≡ seat.old.me.1) }
+    ensures table { StaysAtTable seat.old seat.new }
     ensures one { seat_steps seat.new.me.0.passes ≡ suc (seat_steps seat.old.me.0.passes) }
     ensures told { (k : Looker S.allows M.ready M.waits M.same layout.now number) (m : LlxRun) → LookerWaits S.allows M.ready M.waits M.same layout.now number k seat.old.me.0.passes m (load kind word) → LookerIsTold S.allows M.ready M.waits M.same layout.now number k seat.new.me.0.passes m result }
 {
@@ -48,9 +48,9 @@ pub(crate) fn look<S: Shape, M: Machine<S>>(
     number: u64,
     node: NodeNo,
 ) -> Result<Snap, (bool, ScxNo)>
-    requires table { IsTableOf words.now.table.shared.table_id words.now.table.shared.key layout.now × (seat.old.table_id ≡ words.now.table.shared.table_id) }
+    requires table { IsSeatAt words.now layout.now seat.old }
     requires waits { (k : Looker S.allows M.ready M.waits M.same layout.now number) × LookerWaits S.allows M.ready M.waits M.same layout.now number k seat.old.me.0.passes (llx_at node LlxAt.Marked) (load Kind.LoadMarked (Word.Node node NodeWord.Marked)) }
-    ensures table { (seat.new.table_id ≡ seat.old.table_id) × (seat.new.me.1 ≡ seat.old.me.1) }
+    ensures table { StaysAtTable seat.old seat.new }
     ensures steps { seat_steps seat.new.me.0.passes ≤ seat_steps seat.old.me.0.passes + 7 }
     ensures snaps { IfOk result (λ snap. (k : Looker S.allows M.ready M.waits M.same layout.now number) → LookerWaits S.allows M.ready M.waits M.same layout.now number k seat.old.me.0.passes (llx_at node LlxAt.Marked) (load Kind.LoadMarked (Word.Node node NodeWord.Marked)) → LookerSnaps S.allows M.ready M.waits M.same layout.now number k seat.new.me.0.passes node snap) }
     ensures waits { IfErr result (λ t. (k : Looker S.allows M.ready M.waits M.same layout.now number) → LookerWaits S.allows M.ready M.waits M.same layout.now number k seat.old.me.0.passes (llx_at node LlxAt.Marked) (load Kind.LoadMarked (Word.Node node NodeWord.Marked)) → LookerWaits S.allows M.ready M.waits M.same layout.now number k seat.new.me.0.passes (llx_at node (LlxAt.StateAgain t.0 t.1)) (load Kind.LoadState (Word.Scx t.1 ScxWord.State))) }

@@ -1,7 +1,7 @@
 //! Steps of a call whose machine stands nowhere: clauses alone say where it would stand.
 ghost use Rattle.std.specs.Prelude.{◌≡◌, suc};
 ghost use Rattle.arena.specs.Machines.{Call};
-ghost use Rattle.forest.specs.TableRule.{IsTableOf};
+ghost use Rattle.forest.specs.Seats.{IsSeatAt, StaysAtTable};
 ghost use Rattle.forest.specs.Traces.{Waits, Told, seat_steps};
 
 use crate::rule::Asked;
@@ -20,9 +20,9 @@ pub(crate) fn step<S: Shape, M: Machine<S>>(
     number: u64,
     step: Step,
 ) -> u64
-    requires table { IsTableOf words.now.table.shared.table_id words.now.table.shared.key layout.now × (seat.old.table_id ≡ words.now.table.shared.table_id) }
+    requires table { IsSeatAt words.now layout.now seat.old }
     requires waits { (c : Call) × (first : M) × (m : M) × (c.layout ≡ layout.now) × (c.number ≡ number) × Waits S.allows M.waits M.same c seat.old.me.0.passes first m step }
-    ensures table { (seat.new.table_id ≡ seat.old.table_id) × (seat.new.me.1 ≡ seat.old.me.1) }
+    ensures table { StaysAtTable seat.old seat.new }
     ensures told { (c : Call) (first m : M) → c.layout ≡ layout.now → c.number ≡ number → Waits S.allows M.waits M.same c seat.old.me.0.passes first m step → Told S.allows M.waits M.same c seat.new.me.0.passes first M.ready m result }
     ensures one { seat_steps seat.new.me.0.passes ≡ suc (seat_steps seat.old.me.0.passes) }
 {

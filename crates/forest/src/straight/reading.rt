@@ -1,7 +1,7 @@
 //! Ordered reads, of whatever machine reads: their loads, and the way to the end by the machine.
 ghost use Rattle.std.specs.Prelude.{◌≡◌, ◌≤◌, ◌<◌, ◌+◌, suc};
 ghost use Rattle.forest.specs.StraightReads.{Reader, ReaderEnds, ReaderIsTold, ReaderStands, ReaderWaits};
-ghost use Rattle.forest.specs.TableRule.{IsTableOf};
+ghost use Rattle.forest.specs.Seats.{IsSeatAt, StaysAtTable};
 ghost use Rattle.forest.specs.Traces.{seat_steps, shared_nodes, weight};
 ghost use Rattle.prims.specs.Llx.Known.{load};
 
@@ -22,9 +22,9 @@ pub(crate) fn read<S: Shape, M: Machine<S>, N: Machine<Tree>>(
     node: NodeNo,
     part: NodeWord,
 ) -> u64
-    requires table { IsTableOf words.now.table.shared.table_id words.now.table.shared.key layout.now × (seat.old.table_id ≡ words.now.table.shared.table_id) }
+    requires table { IsSeatAt words.now layout.now seat.old }
     requires waits { (r : Reader S.allows M.ready M.waits M.same N.ready N.waits N.same layout.now number) × (m : N) × ReaderWaits S.allows M.ready M.waits M.same N.ready N.waits N.same layout.now number r seat.old.me.0.passes m (load Kind.LoadSettled (Word.Node node part)) }
-    ensures table { (seat.new.table_id ≡ seat.old.table_id) × (seat.new.me.1 ≡ seat.old.me.1) }
+    ensures table { StaysAtTable seat.old seat.new }
     ensures one { seat_steps seat.new.me.0.passes ≡ suc (seat_steps seat.old.me.0.passes) }
     ensures told { (r : Reader S.allows M.ready M.waits M.same N.ready N.waits N.same layout.now number) (m : N) → ReaderWaits S.allows M.ready M.waits M.same N.ready N.waits N.same layout.now number r seat.old.me.0.passes m (load Kind.LoadSettled (Word.Node node part)) → ReaderIsTold S.allows M.ready M.waits M.same N.ready N.waits N.same layout.now number r seat.new.me.0.passes m result }
 {
@@ -43,9 +43,9 @@ fn advance<S: Shape, M: Machine<S>, N: Machine<Tree>>(
     run: &mut N,
     asked: Step,
 ) -> Turn<N::Answer>
-    requires table { IsTableOf words.now.table.shared.table_id words.now.table.shared.key layout.now × (seat.old.table_id ≡ words.now.table.shared.table_id) }
+    requires table { IsSeatAt words.now layout.now seat.old }
     requires waits { (r : Reader S.allows M.ready M.waits M.same N.ready N.waits N.same layout.now number) × ReaderWaits S.allows M.ready M.waits M.same N.ready N.waits N.same layout.now number r seat.old.me.0.passes run.old asked }
-    ensures table { (seat.new.table_id ≡ seat.old.table_id) × (seat.new.me.1 ≡ seat.old.me.1) }
+    ensures table { StaysAtTable seat.old seat.new }
     ensures stands { (r : Reader S.allows M.ready M.waits M.same N.ready N.waits N.same layout.now number) → ReaderWaits S.allows M.ready M.waits M.same N.ready N.waits N.same layout.now number r seat.old.me.0.passes run.old asked → ReaderStands S.allows M.ready M.waits M.same N.ready N.waits N.same layout.now number r seat.new.me.0.passes N.answers run.new result }
     ensures steps { seat_steps seat.new.me.0.passes + weight result (N.left run.new (shared_nodes layout.now)) ≤ seat_steps seat.old.me.0.passes + suc (N.left run.old (shared_nodes layout.now)) }
     ensures nearer { weight result (N.left run.new (shared_nodes layout.now)) < suc (N.left run.old (shared_nodes layout.now)) }
@@ -64,9 +64,9 @@ pub(crate) fn finish<S: Shape, M: Machine<S>, N: Machine<Tree>>(
     run: &mut N,
     mut turn: Turn<N::Answer>,
 ) -> N::Answer
-    requires table { IsTableOf words.now.table.shared.table_id words.now.table.shared.key layout.now × (seat.old.table_id ≡ words.now.table.shared.table_id) }
+    requires table { IsSeatAt words.now layout.now seat.old }
     requires stands { (r : Reader S.allows M.ready M.waits M.same N.ready N.waits N.same layout.now number) × ReaderStands S.allows M.ready M.waits M.same N.ready N.waits N.same layout.now number r seat.old.me.0.passes N.answers run.old turn }
-    ensures table { (seat.new.table_id ≡ seat.old.table_id) × (seat.new.me.1 ≡ seat.old.me.1) }
+    ensures table { StaysAtTable seat.old seat.new }
     ensures ends { (r : Reader S.allows M.ready M.waits M.same N.ready N.waits N.same layout.now number) → ReaderStands S.allows M.ready M.waits M.same N.ready N.waits N.same layout.now number r seat.old.me.0.passes N.answers run.old turn → ReaderEnds S.allows M.ready M.waits M.same N.ready N.waits N.same layout.now number r seat.new.me.0.passes N.answers run.new result }
     ensures steps { seat_steps seat.new.me.0.passes ≤ seat_steps seat.old.me.0.passes + weight turn (N.left run.old (shared_nodes layout.now)) }
 {
@@ -90,9 +90,9 @@ pub(crate) fn tell<S: Shape, M: Machine<S>, N: Machine<Tree>>(
     run: &mut N,
     told: u64,
 ) -> N::Answer
-    requires table { IsTableOf words.now.table.shared.table_id words.now.table.shared.key layout.now × (seat.old.table_id ≡ words.now.table.shared.table_id) }
+    requires table { IsSeatAt words.now layout.now seat.old }
     requires told { (r : Reader S.allows M.ready M.waits M.same N.ready N.waits N.same layout.now number) × ReaderIsTold S.allows M.ready M.waits M.same N.ready N.waits N.same layout.now number r seat.old.me.0.passes run.old told }
-    ensures table { (seat.new.table_id ≡ seat.old.table_id) × (seat.new.me.1 ≡ seat.old.me.1) }
+    ensures table { StaysAtTable seat.old seat.new }
     ensures ends { (r : Reader S.allows M.ready M.waits M.same N.ready N.waits N.same layout.now number) → ReaderIsTold S.allows M.ready M.waits M.same N.ready N.waits N.same layout.now number r seat.old.me.0.passes run.old told → ReaderEnds S.allows M.ready M.waits M.same N.ready N.waits N.same layout.now number r seat.new.me.0.passes N.answers run.new result }
     ensures steps { seat_steps seat.new.me.0.passes ≤ seat_steps seat.old.me.0.passes + N.left run.old (shared_nodes layout.now) }
 {

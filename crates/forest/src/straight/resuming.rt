@@ -1,6 +1,6 @@
 //! Updates that meet something in their way: their machine goes on from there.
 ghost use Rattle.std.specs.Prelude.{◌≡◌, ◌≤◌, ◌<◌, ◌+◌, ◌*◌, suc};
-ghost use Rattle.forest.specs.TableRule.{IsTableOf};
+ghost use Rattle.forest.specs.Seats.{IsSeatAt, StaysAtTable};
 ghost use Rattle.forest.specs.Traces.{seat_steps, shared_nodes, weight};
 ghost use Rattle.forest.specs.StraightUpdate.{Updater, UpdaterEnds, UpdaterGoesOn, UpdaterIsBlocked, UpdaterStands};
 ghost use Rattle.prims.specs.Scx.Steps.{scx_left};
@@ -40,9 +40,9 @@ fn finish<S: Shape, M: Machine<S>, E: Edit + Copy>(
     mut machine: UpdateRun<E, UpdateAt>,
     mut turn: Turn<Updated>,
 ) -> Updated
-    requires table { IsTableOf words.now.table.shared.table_id words.now.table.shared.key layout.now × (seat.old.table_id ≡ words.now.table.shared.table_id) }
+    requires table { IsSeatAt words.now layout.now seat.old }
     requires stands { (u : Updater S.allows M.ready M.waits M.same E.means layout.now number) × UpdaterStands S.allows M.ready M.waits M.same E.means layout.now number u seat.old.me.0.passes machine turn }
-    ensures table { (seat.new.table_id ≡ seat.old.table_id) × (seat.new.me.1 ≡ seat.old.me.1) }
+    ensures table { StaysAtTable seat.old seat.new }
     ensures ends { (u : Updater S.allows M.ready M.waits M.same E.means layout.now number) → UpdaterStands S.allows M.ready M.waits M.same E.means layout.now number u seat.old.me.0.passes machine turn → UpdaterEnds S.allows M.ready M.waits M.same E.means layout.now number u seat.new.me.0.passes run.new result }
     ensures steps { seat_steps seat.new.me.0.passes ≤ seat_steps seat.old.me.0.passes + weight turn (update_left E.means machine (shared_nodes layout.now)) }
 {
@@ -72,9 +72,9 @@ pub(crate) fn from_next<S: Shape, M: Machine<S>, E: Edit + Copy>(
     found: &Found,
     next: Result<Next, Stop>,
 ) -> Updated
-    requires table { IsTableOf words.now.table.shared.table_id words.now.table.shared.key layout.now × (seat.old.table_id ≡ words.now.table.shared.table_id) }
+    requires table { IsSeatAt words.now layout.now seat.old }
     requires goes_on { (u : Updater S.allows M.ready M.waits M.same E.means layout.now number) × UpdaterGoesOn S.allows M.ready M.waits M.same E.means layout.now number u seat.old.me.0.passes run.old found.now next }
-    ensures table { (seat.new.table_id ≡ seat.old.table_id) × (seat.new.me.1 ≡ seat.old.me.1) }
+    ensures table { StaysAtTable seat.old seat.new }
     ensures ends { (u : Updater S.allows M.ready M.waits M.same E.means layout.now number) → UpdaterGoesOn S.allows M.ready M.waits M.same E.means layout.now number u seat.old.me.0.passes run.old found.now next → UpdaterEnds S.allows M.ready M.waits M.same E.means layout.now number u seat.new.me.0.passes run.new result }
     ensures steps { seat_steps seat.new.me.0.passes ≤ seat_steps seat.old.me.0.passes + left_then E.means run.old found.now next (shared_nodes layout.now) }
 {
@@ -104,9 +104,9 @@ pub(crate) fn from_block<S: Shape, M: Machine<S>, E: Edit + Copy>(
     scx: ScxNo,
     help: &HelpRun,
 ) -> Updated
-    requires table { IsTableOf words.now.table.shared.table_id words.now.table.shared.key layout.now × (seat.old.table_id ≡ words.now.table.shared.table_id) }
+    requires table { IsSeatAt words.now layout.now seat.old }
     requires blocked { (u : Updater S.allows M.ready M.waits M.same E.means layout.now number) × UpdaterIsBlocked S.allows M.ready M.waits M.same E.means layout.now number u seat.old.me.0.passes run.old found.now scx help.now }
-    ensures table { (seat.new.table_id ≡ seat.old.table_id) × (seat.new.me.1 ≡ seat.old.me.1) }
+    ensures table { StaysAtTable seat.old seat.new }
     ensures ends { (u : Updater S.allows M.ready M.waits M.same E.means layout.now number) → UpdaterIsBlocked S.allows M.ready M.waits M.same E.means layout.now number u seat.old.me.0.passes run.old found.now scx help.now → UpdaterEnds S.allows M.ready M.waits M.same E.means layout.now number u seat.new.me.0.passes run.new result }
     ensures steps { seat_steps seat.new.me.0.passes ≤ seat_steps seat.old.me.0.passes + suc (run.old.tries * try_left E.means (shared_nodes layout.now) + scx_left (ScxAt.Help help.now)) }
 {

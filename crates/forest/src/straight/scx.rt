@@ -3,7 +3,7 @@ ghost use Rattle.std.specs.Prelude.{◌≡◌, ◌≤◌, ◌+◌, suc, length};
 ghost use Rattle.arena.specs.Machines.{Call};
 ghost use Rattle.prims.specs.Put.Steps.{put_left};
 ghost use Rattle.prims.specs.declared.put.PutRun.{PutRun};
-ghost use Rattle.forest.specs.TableRule.{IsTableOf};
+ghost use Rattle.forest.specs.Seats.{IsSeatAt, StaysAtTable};
 ghost use Rattle.forest.specs.Traces.{seat_steps};
 ghost use Rattle.forest.specs.StraightChange.{scx_fill, all_frozen_load};
 ghost use Rattle.forest.specs.StraightScx.{SeatPutBegins, SeatPutWaits, SeatPutEnds, fresh_put, scx_at, standing};
@@ -66,10 +66,10 @@ fn fill_value<S: Shape>(
     snaps: &[Snap],
     put: Put,
 )
-    requires table { IsTableOf words.now.table.shared.table_id words.now.table.shared.key layout.now × (seat.old.table_id ≡ words.now.table.shared.table_id) }
+    requires table { IsSeatAt words.now layout.now seat.old }
     requires fits { length snaps.now ≤ 4 }
     requires begins { (c : Call) × (c.layout ≡ layout.now) × (c.number ≡ number) × SeatPutBegins S.allows c seat.old.me.0.passes (fresh_put snaps.now put number) }
-    ensures table { (seat.new.table_id ≡ seat.old.table_id) × (seat.new.me.1 ≡ seat.old.me.1) }
+    ensures table { StaysAtTable seat.old seat.new }
     ensures one { seat_steps seat.new.me.0.passes ≡ suc (seat_steps seat.old.me.0.passes) }
     ensures waits { (c : Call) → c.layout ≡ layout.now → c.number ≡ number → SeatPutBegins S.allows c seat.old.me.0.passes (fresh_put snaps.now put number) → SeatPutWaits S.allows c seat.new.me.0.passes (fresh_put snaps.now put number) (scx_at (fresh_put snaps.now put number) ScxAt.Plan) (scx_fill put.scx ScxWord.Plan put.plan.0) }
 {
@@ -91,9 +91,9 @@ fn complete_blocked<S: Shape>(
     number: u64,
     mut run: PutRun,
 ) -> Scx
-    requires table { IsTableOf words.now.table.shared.table_id words.now.table.shared.key layout × (seat.old.table_id ≡ words.now.table.shared.table_id) }
+    requires table { IsSeatAt words.now layout seat.old }
     requires waits { (c : Call) × (first : PutRun) × (c.layout ≡ layout) × (c.number ≡ number) × SeatPutWaits S.allows c seat.old.me.0.passes first run (all_frozen_load run.scx.scx) }
-    ensures table { (seat.new.table_id ≡ seat.old.table_id) × (seat.new.me.1 ≡ seat.old.me.1) }
+    ensures table { StaysAtTable seat.old seat.new }
     ensures steps { seat_steps seat.new.me.0.passes ≤ seat_steps seat.old.me.0.passes + suc (put_left run) }
     ensures ends { (c : Call) (first : PutRun) → c.layout ≡ layout → c.number ≡ number → SeatPutWaits S.allows c seat.old.me.0.passes first run (all_frozen_load run.scx.scx) → (m : PutRun) × SeatPutEnds S.allows c seat.new.me.0.passes first m result }
 {
@@ -115,10 +115,10 @@ pub(crate) fn call<S: Shape>(
     snaps: &[Snap],
     put: Put,
 ) -> Scx
-    requires table { IsTableOf words.now.table.shared.table_id words.now.table.shared.key layout.now × (seat.old.table_id ≡ words.now.table.shared.table_id) }
+    requires table { IsSeatAt words.now layout.now seat.old }
     requires fits { length snaps.now ≤ 4 }
     requires begins { (c : Call) × (c.layout ≡ layout.now) × (c.number ≡ number) × SeatPutBegins S.allows c seat.old.me.0.passes (fresh_put snaps.now put number) }
-    ensures table { (seat.new.table_id ≡ seat.old.table_id) × (seat.new.me.1 ≡ seat.old.me.1) }
+    ensures table { StaysAtTable seat.old seat.new }
     ensures steps { seat_steps seat.new.me.0.passes ≤ seat_steps seat.old.me.0.passes + 40 }
     ensures ends { (c : Call) → c.layout ≡ layout.now → c.number ≡ number → SeatPutBegins S.allows c seat.old.me.0.passes (fresh_put snaps.now put number) → (m : PutRun) × SeatPutEnds S.allows c seat.new.me.0.passes (fresh_put snaps.now put number) m result }
 {

@@ -3,7 +3,7 @@
 //! until then its place is left as it was.
 ghost use Rattle.std.specs.Prelude.{◌≡◌, ◌≤◌, ◌<◌, ◌+◌, suc};
 ghost use Rattle.forest.specs.StraightReads.{SuccessorReader, SearchBegins, SearchEnds, SearchGoesOn, SearchWaits, search_left};
-ghost use Rattle.forest.specs.TableRule.{IsTableOf};
+ghost use Rattle.forest.specs.Seats.{IsSeatAt, StaysAtTable};
 ghost use Rattle.forest.specs.Traces.{seat_steps, shared_nodes};
 ghost use Rattle.order.specs.Successor.Next.{placed};
 ghost use Rattle.order.specs.Successor.Steps.{successor_left};
@@ -40,9 +40,9 @@ fn look_on<S: Shape, M: Machine<S>>(
     side: Side,
     node: NodeNo,
 ) -> Result<SuccessorNext, Told>
-    requires table { IsTableOf words.now.table.shared.table_id words.now.table.shared.key layout.now × (seat.old.table_id ≡ words.now.table.shared.table_id) }
+    requires table { IsSeatAt words.now layout.now seat.old }
     requires waits { (r : SuccessorReader S.allows M.ready M.waits M.same layout.now number) × SearchWaits S.allows M.ready M.waits M.same layout.now number r seat.old.me.0.passes run.old (SuccessorNext.Look route level side node) }
-    ensures table { (seat.new.table_id ≡ seat.old.table_id) × (seat.new.me.1 ≡ seat.old.me.1) }
+    ensures table { StaysAtTable seat.old seat.new }
     ensures goes_on { (r : SuccessorReader S.allows M.ready M.waits M.same layout.now number) → SearchWaits S.allows M.ready M.waits M.same layout.now number r seat.old.me.0.passes run.old (SuccessorNext.Look route level side node) → SearchGoesOn S.allows M.ready M.waits M.same layout.now number r seat.new.me.0.passes run.new result }
     ensures steps { seat_steps seat.new.me.0.passes + search_left (shared_nodes layout.now) run.new result ≤ seat_steps seat.old.me.0.passes + suc (successor_left (placed run.old (SuccessorNext.Look route level side node)) (shared_nodes layout.now)) }
     ensures nearer { search_left (shared_nodes layout.now) run.new result < suc (successor_left (placed run.old (SuccessorNext.Look route level side node)) (shared_nodes layout.now)) }
@@ -78,9 +78,9 @@ fn validate_on<S: Shape, M: Machine<S>>(
     run: &mut SuccessorRun,
     found: Option<Pair>,
 ) -> Told
-    requires table { IsTableOf words.now.table.shared.table_id words.now.table.shared.key layout.now × (seat.old.table_id ≡ words.now.table.shared.table_id) }
+    requires table { IsSeatAt words.now layout.now seat.old }
     requires waits { (r : SuccessorReader S.allows M.ready M.waits M.same layout.now number) × SearchWaits S.allows M.ready M.waits M.same layout.now number r seat.old.me.0.passes run.old (SuccessorNext.Validate found) }
-    ensures table { (seat.new.table_id ≡ seat.old.table_id) × (seat.new.me.1 ≡ seat.old.me.1) }
+    ensures table { StaysAtTable seat.old seat.new }
     ensures ends { (r : SuccessorReader S.allows M.ready M.waits M.same layout.now number) → SearchWaits S.allows M.ready M.waits M.same layout.now number r seat.old.me.0.passes run.old (SuccessorNext.Validate found) → SearchEnds S.allows M.ready M.waits M.same layout.now number r seat.new.me.0.passes run.new result }
     ensures steps { seat_steps seat.new.me.0.passes ≤ seat_steps seat.old.me.0.passes + suc (successor_left (placed run.old (SuccessorNext.Validate found)) (shared_nodes layout.now)) }
 {
@@ -100,9 +100,9 @@ fn search_on<S: Shape, M: Machine<S>>(
     run: &mut SuccessorRun,
     next: SuccessorNext,
 ) -> Result<SuccessorNext, Told>
-    requires table { IsTableOf words.now.table.shared.table_id words.now.table.shared.key layout.now × (seat.old.table_id ≡ words.now.table.shared.table_id) }
+    requires table { IsSeatAt words.now layout.now seat.old }
     requires waits { (r : SuccessorReader S.allows M.ready M.waits M.same layout.now number) × SearchWaits S.allows M.ready M.waits M.same layout.now number r seat.old.me.0.passes run.old next }
-    ensures table { (seat.new.table_id ≡ seat.old.table_id) × (seat.new.me.1 ≡ seat.old.me.1) }
+    ensures table { StaysAtTable seat.old seat.new }
     ensures goes_on { (r : SuccessorReader S.allows M.ready M.waits M.same layout.now number) → SearchWaits S.allows M.ready M.waits M.same layout.now number r seat.old.me.0.passes run.old next → SearchGoesOn S.allows M.ready M.waits M.same layout.now number r seat.new.me.0.passes run.new result }
     ensures steps { seat_steps seat.new.me.0.passes + search_left (shared_nodes layout.now) run.new result ≤ seat_steps seat.old.me.0.passes + suc (successor_left (placed run.old next) (shared_nodes layout.now)) }
     ensures nearer { search_left (shared_nodes layout.now) run.new result < suc (successor_left (placed run.old next) (shared_nodes layout.now)) }
@@ -147,9 +147,9 @@ pub(crate) fn call<S: Shape, M: Machine<S>>(
     number: u64,
     run: &mut SuccessorRun,
 ) -> Told
-    requires table { IsTableOf words.now.table.shared.table_id words.now.table.shared.key layout.now × (seat.old.table_id ≡ words.now.table.shared.table_id) }
+    requires table { IsSeatAt words.now layout.now seat.old }
     requires begins { (r : SuccessorReader S.allows M.ready M.waits M.same layout.now number) × SearchBegins S.allows M.ready M.waits M.same layout.now number r seat.old.me.0.passes run.old }
-    ensures table { (seat.new.table_id ≡ seat.old.table_id) × (seat.new.me.1 ≡ seat.old.me.1) }
+    ensures table { StaysAtTable seat.old seat.new }
     ensures ends { (r : SuccessorReader S.allows M.ready M.waits M.same layout.now number) → SearchBegins S.allows M.ready M.waits M.same layout.now number r seat.old.me.0.passes run.old → SearchEnds S.allows M.ready M.waits M.same layout.now number r seat.new.me.0.passes run.new result }
     ensures steps { seat_steps seat.new.me.0.passes ≤ seat_steps seat.old.me.0.passes + successor_left run.old (shared_nodes layout.now) }
 {

@@ -1,7 +1,7 @@
 //! VLXs over snapshots of nodes of the tree, of whatever machine validates them.
 ghost use Rattle.std.specs.Prelude.{◌≡◌, ◌≤◌, ◌<◌, ◌+◌, length};
 ghost use Rattle.forest.specs.StraightValidate.{Validator, ValidatorIsTold, ValidatorWaits};
-ghost use Rattle.forest.specs.TableRule.{IsTableOf};
+ghost use Rattle.forest.specs.Seats.{IsSeatAt, StaysAtTable};
 ghost use Rattle.forest.specs.Traces.{seat_steps};
 ghost use Rattle.prims.specs.Llx.Known.{load};
 ghost use Rattle.prims.specs.Snap.{snap_at};
@@ -24,10 +24,10 @@ pub(crate) fn validate<S: Shape, M: Machine<S>, L: SnapList + Copy>(
     number: u64,
     snaps: L,
 ) -> (usize, u64)
-    requires table { IsTableOf words.now.table.shared.table_id words.now.table.shared.key layout.now × (seat.old.table_id ≡ words.now.table.shared.table_id) }
+    requires table { IsSeatAt words.now layout.now seat.old }
     requires some { 0 < length (L.list snaps) }
     requires waits { (v : Validator S.allows M.ready M.waits M.same layout.now number (L.list snaps)) × ValidatorWaits S.allows M.ready M.waits M.same layout.now number (L.list snaps) v seat.old.me.0.passes 1 (load Kind.LoadInfo (Word.Node (snap_at (L.list snaps) 0).node NodeWord.Info)) }
-    ensures table { (seat.new.table_id ≡ seat.old.table_id) × (seat.new.me.1 ≡ seat.old.me.1) }
+    ensures table { StaysAtTable seat.old seat.new }
     ensures told { (v : Validator S.allows M.ready M.waits M.same layout.now number (L.list snaps)) → ValidatorWaits S.allows M.ready M.waits M.same layout.now number (L.list snaps) v seat.old.me.0.passes 1 (load Kind.LoadInfo (Word.Node (snap_at (L.list snaps) 0).node NodeWord.Info)) → ValidatorIsTold S.allows M.ready M.waits M.same layout.now number (L.list snaps) v seat.new.me.0.passes result.0 result.1 }
     ensures some { 0 < result.0 }
     ensures within { result.0 ≤ length (L.list snaps) }

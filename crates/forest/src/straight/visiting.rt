@@ -3,7 +3,7 @@
 //! until then its place is left as it was.
 ghost use Rattle.std.specs.Prelude.{◌≡◌, ◌≤◌, ◌<◌, ◌+◌, suc};
 ghost use Rattle.forest.specs.StraightReads.{RangeReader, VisitBegins, VisitEnds, VisitGoesOn, VisitRoots, VisitWaits, visit_left};
-ghost use Rattle.forest.specs.TableRule.{IsTableOf};
+ghost use Rattle.forest.specs.Seats.{IsSeatAt, StaysAtTable};
 ghost use Rattle.forest.specs.Traces.{seat_steps, shared_nodes};
 ghost use Rattle.order.specs.Range.Known.{AsksForSome};
 ghost use Rattle.order.specs.Range.Next.{placed};
@@ -40,9 +40,9 @@ fn look_on<S: Shape, M: Machine<S>>(
     right: bool,
     node: NodeNo,
 ) -> Result<RangeNext, Told>
-    requires table { IsTableOf words.now.table.shared.table_id words.now.table.shared.key layout.now × (seat.old.table_id ≡ words.now.table.shared.table_id) }
+    requires table { IsSeatAt words.now layout.now seat.old }
     requires waits { (r : RangeReader S.allows M.ready M.waits M.same layout.now number) × VisitWaits S.allows M.ready M.waits M.same layout.now number r seat.old.me.0.passes run.old (RangeNext.Look level left right node) }
-    ensures table { (seat.new.table_id ≡ seat.old.table_id) × (seat.new.me.1 ≡ seat.old.me.1) }
+    ensures table { StaysAtTable seat.old seat.new }
     ensures goes_on { (r : RangeReader S.allows M.ready M.waits M.same layout.now number) → VisitWaits S.allows M.ready M.waits M.same layout.now number r seat.old.me.0.passes run.old (RangeNext.Look level left right node) → VisitGoesOn S.allows M.ready M.waits M.same layout.now number r seat.new.me.0.passes run.new result }
     ensures steps { seat_steps seat.new.me.0.passes + visit_left (shared_nodes layout.now) run.new result ≤ seat_steps seat.old.me.0.passes + suc (range_left (placed run.old (RangeNext.Look level left right node)) (shared_nodes layout.now)) }
     ensures nearer { visit_left (shared_nodes layout.now) run.new result < suc (range_left (placed run.old (RangeNext.Look level left right node)) (shared_nodes layout.now)) }
@@ -77,9 +77,9 @@ fn validate_on<S: Shape, M: Machine<S>>(
     number: u64,
     run: &mut RangeRun,
 ) -> Told
-    requires table { IsTableOf words.now.table.shared.table_id words.now.table.shared.key layout.now × (seat.old.table_id ≡ words.now.table.shared.table_id) }
+    requires table { IsSeatAt words.now layout.now seat.old }
     requires waits { (r : RangeReader S.allows M.ready M.waits M.same layout.now number) × VisitWaits S.allows M.ready M.waits M.same layout.now number r seat.old.me.0.passes run.old RangeNext.Validate }
-    ensures table { (seat.new.table_id ≡ seat.old.table_id) × (seat.new.me.1 ≡ seat.old.me.1) }
+    ensures table { StaysAtTable seat.old seat.new }
     ensures ends { (r : RangeReader S.allows M.ready M.waits M.same layout.now number) → VisitWaits S.allows M.ready M.waits M.same layout.now number r seat.old.me.0.passes run.old RangeNext.Validate → VisitEnds S.allows M.ready M.waits M.same layout.now number r seat.new.me.0.passes run.new result }
     ensures steps { seat_steps seat.new.me.0.passes ≤ seat_steps seat.old.me.0.passes + suc (range_left (placed run.old RangeNext.Validate) (shared_nodes layout.now)) }
 {
@@ -99,9 +99,9 @@ fn visit_on<S: Shape, M: Machine<S>>(
     run: &mut RangeRun,
     next: RangeNext,
 ) -> Result<RangeNext, Told>
-    requires table { IsTableOf words.now.table.shared.table_id words.now.table.shared.key layout.now × (seat.old.table_id ≡ words.now.table.shared.table_id) }
+    requires table { IsSeatAt words.now layout.now seat.old }
     requires waits { (r : RangeReader S.allows M.ready M.waits M.same layout.now number) × VisitWaits S.allows M.ready M.waits M.same layout.now number r seat.old.me.0.passes run.old next }
-    ensures table { (seat.new.table_id ≡ seat.old.table_id) × (seat.new.me.1 ≡ seat.old.me.1) }
+    ensures table { StaysAtTable seat.old seat.new }
     ensures goes_on { (r : RangeReader S.allows M.ready M.waits M.same layout.now number) → VisitWaits S.allows M.ready M.waits M.same layout.now number r seat.old.me.0.passes run.old next → VisitGoesOn S.allows M.ready M.waits M.same layout.now number r seat.new.me.0.passes run.new result }
     ensures steps { seat_steps seat.new.me.0.passes + visit_left (shared_nodes layout.now) run.new result ≤ seat_steps seat.old.me.0.passes + suc (range_left (placed run.old next) (shared_nodes layout.now)) }
     ensures nearer { visit_left (shared_nodes layout.now) run.new result < suc (range_left (placed run.old next) (shared_nodes layout.now)) }
@@ -144,10 +144,10 @@ fn visit<S: Shape, M: Machine<S>>(
     number: u64,
     run: &mut RangeRun,
 ) -> Told
-    requires table { IsTableOf words.now.table.shared.table_id words.now.table.shared.key layout.now × (seat.old.table_id ≡ words.now.table.shared.table_id) }
+    requires table { IsSeatAt words.now layout.now seat.old }
     requires root { run.old.at ≡ RangeAt.Root }
     requires waits { (r : RangeReader S.allows M.ready M.waits M.same layout.now number) × VisitRoots S.allows M.ready M.waits M.same layout.now number r seat.old.me.0.passes run.old }
-    ensures table { (seat.new.table_id ≡ seat.old.table_id) × (seat.new.me.1 ≡ seat.old.me.1) }
+    ensures table { StaysAtTable seat.old seat.new }
     ensures ends { (r : RangeReader S.allows M.ready M.waits M.same layout.now number) → VisitRoots S.allows M.ready M.waits M.same layout.now number r seat.old.me.0.passes run.old → VisitEnds S.allows M.ready M.waits M.same layout.now number r seat.new.me.0.passes run.new result }
     ensures steps { seat_steps seat.new.me.0.passes ≤ seat_steps seat.old.me.0.passes + suc (range_left run.old (shared_nodes layout.now)) }
 {
@@ -170,9 +170,9 @@ pub(crate) fn call<S: Shape, M: Machine<S>>(
     number: u64,
     run: &mut RangeRun,
 ) -> Told
-    requires table { IsTableOf words.now.table.shared.table_id words.now.table.shared.key layout.now × (seat.old.table_id ≡ words.now.table.shared.table_id) }
+    requires table { IsSeatAt words.now layout.now seat.old }
     requires begins { (r : RangeReader S.allows M.ready M.waits M.same layout.now number) × VisitBegins S.allows M.ready M.waits M.same layout.now number r seat.old.me.0.passes run.old }
-    ensures table { (seat.new.table_id ≡ seat.old.table_id) × (seat.new.me.1 ≡ seat.old.me.1) }
+    ensures table { StaysAtTable seat.old seat.new }
     ensures ends { (r : RangeReader S.allows M.ready M.waits M.same layout.now number) → VisitBegins S.allows M.ready M.waits M.same layout.now number r seat.old.me.0.passes run.old → VisitEnds S.allows M.ready M.waits M.same layout.now number r seat.new.me.0.passes run.new result }
     ensures steps { seat_steps seat.new.me.0.passes ≤ seat_steps seat.old.me.0.passes + range_left run.old (shared_nodes layout.now) }
     ensures nothing { ¬ AsksForSome run.old → seat.new ≡ seat.old }

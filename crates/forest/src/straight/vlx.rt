@@ -1,7 +1,7 @@
 //! VLX.
 ghost use Rattle.std.specs.Prelude.{◌≡◌, ◌≤◌, ◌+◌, length};
 ghost use Rattle.arena.specs.Machines.{Call};
-ghost use Rattle.forest.specs.TableRule.{IsTableOf};
+ghost use Rattle.forest.specs.Seats.{IsSeatAt, StaysAtTable};
 ghost use Rattle.forest.specs.Traces.{seat_steps};
 ghost use Rattle.forest.specs.StraightVlx.{SeatVlxBegins, SeatVlxEnds};
 
@@ -22,9 +22,9 @@ pub(crate) fn call<S: Shape, L: SnapList + Copy>(
     number: u64,
     snaps: L,
 ) -> Vlx
-    requires table { IsTableOf words.now.table.shared.table_id words.now.table.shared.key layout.now × (seat.old.table_id ≡ words.now.table.shared.table_id) }
+    requires table { IsSeatAt words.now layout.now seat.old }
     requires begins { (c : Call) × (c.layout ≡ layout.now) × (c.number ≡ number) × SeatVlxBegins L.list S.allows c seat.old.me.0.passes snaps }
-    ensures table { (seat.new.table_id ≡ seat.old.table_id) × (seat.new.me.1 ≡ seat.old.me.1) }
+    ensures table { StaysAtTable seat.old seat.new }
     ensures ends { (c : Call) → c.layout ≡ layout.now → c.number ≡ number → SeatVlxBegins L.list S.allows c seat.old.me.0.passes snaps → SeatVlxEnds L.list S.allows c seat.new.me.0.passes snaps result }
     ensures steps { seat_steps seat.new.me.0.passes ≤ seat_steps seat.old.me.0.passes + length (L.list snaps) }
 {

@@ -2,7 +2,7 @@
 ghost use Rattle.std.specs.Prelude.{◌≡◌, ◌≢◌, ◌≤◌, ◌+◌, ◌*◌, ℕ, suc, true, false, cond, ltb, IfOk, IfErr};
 ghost use Rattle.arena.specs.Heads.{head_of};
 ghost use Rattle.arena.specs.declared.number.NodeNo.{NodeNo};
-ghost use Rattle.forest.specs.TableRule.{IsTableOf};
+ghost use Rattle.forest.specs.Seats.{IsSeatAt, StaysAtTable};
 ghost use Rattle.forest.specs.Traces.{seat_steps, shared_nodes};
 ghost use Rattle.forest.specs.StraightWalk.{Walker, WalkerWaits, WalkerIsTold, WalkerFinds};
 ghost use Rattle.order.specs.Successor.Steps.{last_turn};
@@ -28,9 +28,9 @@ fn read<S: Shape, M: Machine<S>>(
     node: NodeNo,
     part: NodeWord,
 ) -> u64
-    requires table { IsTableOf words.now.table.shared.table_id words.now.table.shared.key layout.now × (seat.old.table_id ≡ words.now.table.shared.table_id) }
+    requires table { IsSeatAt words.now layout.now seat.old }
     requires waits { (w : Walker S.allows M.ready M.waits M.same layout.now number) × (m : WalkRun) × (turn : NodeNo) × WalkerWaits S.allows M.ready M.waits M.same layout.now number w seat.old.me.0.passes m turn (load kind (Word.Node node part)) }
-    ensures table { (seat.new.table_id ≡ seat.old.table_id) × (seat.new.me.1 ≡ seat.old.me.1) }
+    ensures table { StaysAtTable seat.old seat.new }
     ensures one { seat_steps seat.new.me.0.passes ≡ suc (seat_steps seat.old.me.0.passes) }
     ensures told { (w : Walker S.allows M.ready M.waits M.same layout.now number) (m : WalkRun) (turn : NodeNo) → WalkerWaits S.allows M.ready M.waits M.same layout.now number w seat.old.me.0.passes m turn (load kind (Word.Node node part)) → WalkerIsTold S.allows M.ready M.waits M.same layout.now number w seat.new.me.0.passes m turn result }
 {
@@ -81,10 +81,10 @@ fn end<S: Shape, M: Machine<S>>(
     head: Head,
     key: u64,
 ) -> Found
-    requires table { IsTableOf words.now.table.shared.table_id words.now.table.shared.key layout.now × (seat.old.table_id ≡ words.now.table.shared.table_id) }
+    requires table { IsSeatAt words.now layout.now seat.old }
     requires leaf { head.leaf ≡ true }
     requires told { (w : Walker S.allows M.ready M.waits M.same layout.now number) × (turn : NodeNo) × WalkerIsTold S.allows M.ready M.waits M.same layout.now number w seat.old.me.0.passes (walk_at wanted trail (WalkAt.Key head)) turn key }
-    ensures table { (seat.new.table_id ≡ seat.old.table_id) × (seat.new.me.1 ≡ seat.old.me.1) }
+    ensures table { StaysAtTable seat.old seat.new }
     ensures steps { seat_steps seat.new.me.0.passes ≤ seat_steps seat.old.me.0.passes + 1 }
     ensures finds { (w : Walker S.allows M.ready M.waits M.same layout.now number) (turn : NodeNo) → WalkerIsTold S.allows M.ready M.waits M.same layout.now number w seat.old.me.0.passes (walk_at wanted trail (WalkAt.Key head)) turn key → WalkerFinds S.allows M.ready M.waits M.same layout.now number w seat.new.me.0.passes wanted turn result }
 {
@@ -119,9 +119,9 @@ fn pass<S: Shape, M: Machine<S>>(
     word: u64,
 ) -> Result<Side, Found>
     requires place { LoadsHead at }
-    requires table { IsTableOf words.now.table.shared.table_id words.now.table.shared.key layout.now × (seat.old.table_id ≡ words.now.table.shared.table_id) }
+    requires table { IsSeatAt words.now layout.now seat.old }
     requires told { (w : Walker S.allows M.ready M.waits M.same layout.now number) × (turn : NodeNo) × WalkerIsTold S.allows M.ready M.waits M.same layout.now number w seat.old.me.0.passes (walk_at wanted trail at) turn word }
-    ensures table { (seat.new.table_id ≡ seat.old.table_id) × (seat.new.me.1 ≡ seat.old.me.1) }
+    ensures table { StaysAtTable seat.old seat.new }
     ensures steps { IfOk result (λ _. seat_steps seat.new.me.0.passes ≤ seat_steps seat.old.me.0.passes + 1) }
     ensures last_steps { IfErr result (λ _. seat_steps seat.new.me.0.passes ≤ seat_steps seat.old.me.0.passes + 2) }
     ensures down { IfOk result (λ side. (w : Walker S.allows M.ready M.waits M.same layout.now number) (turn : NodeNo) → WalkerIsTold S.allows M.ready M.waits M.same layout.now number w seat.old.me.0.passes (walk_at wanted trail at) turn word → WalkerWaits S.allows M.ready M.waits M.same layout.now number w seat.new.me.0.passes (walk_at wanted trail (WalkAt.Child (head_of word).level side)) (last_turn (WalkAt.Child (head_of word).level side) trail.node turn) (load Kind.LoadChild (Word.Node trail.node (NodeWord.Child side)))) }
@@ -169,9 +169,9 @@ pub(crate) fn call<S: Shape, M: Machine<S>>(
     number: u64,
     wanted: u64,
 ) -> (Found, NodeNo)
-    requires table { IsTableOf words.now.table.shared.table_id words.now.table.shared.key layout.now × (seat.old.table_id ≡ words.now.table.shared.table_id) }
+    requires table { IsSeatAt words.now layout.now seat.old }
     requires waits { (w : Walker S.allows M.ready M.waits M.same layout.now number) × WalkerWaits S.allows M.ready M.waits M.same layout.now number w seat.old.me.0.passes (walk_from wanted) record { 0 = 0 } (load Kind.LoadSettled (Word.Node record { 0 = 0 } NodeWord.Head)) }
-    ensures table { (seat.new.table_id ≡ seat.old.table_id) × (seat.new.me.1 ≡ seat.old.me.1) }
+    ensures table { StaysAtTable seat.old seat.new }
     ensures steps { seat_steps seat.new.me.0.passes ≤ seat_steps seat.old.me.0.passes + 3 * (2 + shared_nodes layout.now) }
     ensures finds { (w : Walker S.allows M.ready M.waits M.same layout.now number) → WalkerWaits S.allows M.ready M.waits M.same layout.now number w seat.old.me.0.passes (walk_from wanted) record { 0 = 0 } (load Kind.LoadSettled (Word.Node record { 0 = 0 } NodeWord.Head)) → WalkerFinds S.allows M.ready M.waits M.same layout.now number w seat.new.me.0.passes wanted result.1 result.0 }
 {

@@ -1,7 +1,7 @@
 //! Loads and fills of updates, of whatever machine updates.
 ghost use Rattle.std.specs.Prelude.{◌≡◌, ◌≤◌, ◌<◌, ◌+◌, suc};
 ghost use Rattle.arena.specs.Machines.{Call};
-ghost use Rattle.forest.specs.TableRule.{IsTableOf};
+ghost use Rattle.forest.specs.Seats.{IsSeatAt, StaysAtTable};
 ghost use Rattle.forest.specs.Traces.{Waits, Told, seat_steps, shared_nodes};
 ghost use Rattle.forest.specs.StraightUpdate.{Updater, UpdaterTries, UpdaterGoesOn};
 ghost use Rattle.updates.specs.Next.{placed, left_then};
@@ -28,9 +28,9 @@ pub(crate) fn load<S: Shape, M: Machine<S>, E: Edit + Copy>(
     nth: Nth,
     part: NodeWord,
 ) -> Next
-    requires table { IsTableOf words.now.table.shared.table_id words.now.table.shared.key layout.now × (seat.old.table_id ≡ words.now.table.shared.table_id) }
+    requires table { IsSeatAt words.now layout.now seat.old }
     requires tries { (u : Updater S.allows M.ready M.waits M.same E.means layout.now number) × UpdaterTries S.allows M.ready M.waits M.same E.means layout.now number u seat.old.me.0.passes run.old found.now (Next.Load nth part) }
-    ensures table { (seat.new.table_id ≡ seat.old.table_id) × (seat.new.me.1 ≡ seat.old.me.1) }
+    ensures table { StaysAtTable seat.old seat.new }
     ensures goes_on { (u : Updater S.allows M.ready M.waits M.same E.means layout.now number) → UpdaterTries S.allows M.ready M.waits M.same E.means layout.now number u seat.old.me.0.passes run.old found.now (Next.Load nth part) → UpdaterTries S.allows M.ready M.waits M.same E.means layout.now number u seat.new.me.0.passes run.new found.now result }
     ensures steps { seat_steps seat.new.me.0.passes + suc (update_left E.means (placed E.means run.new found.now result) (shared_nodes layout.now)) ≤ seat_steps seat.old.me.0.passes + suc (update_left E.means (placed E.means run.old found.now (Next.Load nth part)) (shared_nodes layout.now)) }
     ensures nearer { suc (update_left E.means (placed E.means run.new found.now result) (shared_nodes layout.now)) < suc (update_left E.means (placed E.means run.old found.now (Next.Load nth part)) (shared_nodes layout.now)) }
@@ -54,9 +54,9 @@ fn fill<S: Shape, M: Machine<S>>(
     part: NodeWord,
     value: u64,
 ) -> u64
-    requires table { IsTableOf words.now.table.shared.table_id words.now.table.shared.key layout.now × (seat.old.table_id ≡ words.now.table.shared.table_id) }
+    requires table { IsSeatAt words.now layout.now seat.old }
     requires waits { (c : Call) × (first : M) × (m : M) × (c.layout ≡ layout.now) × (c.number ≡ number) × Waits S.allows M.waits M.same c seat.old.me.0.passes first m record { kind = Kind.Fill; word = Word.Node node part; access = Access.Store value } }
-    ensures table { (seat.new.table_id ≡ seat.old.table_id) × (seat.new.me.1 ≡ seat.old.me.1) }
+    ensures table { StaysAtTable seat.old seat.new }
     ensures told { (c : Call) (first m : M) → c.layout ≡ layout.now → c.number ≡ number → Waits S.allows M.waits M.same c seat.old.me.0.passes first m record { kind = Kind.Fill; word = Word.Node node part; access = Access.Store value } → Told S.allows M.waits M.same c seat.new.me.0.passes first M.ready m result }
     ensures one { seat_steps seat.new.me.0.passes ≡ suc (seat_steps seat.old.me.0.passes) }
 {
@@ -76,9 +76,9 @@ pub(crate) fn fill_node<S: Shape, M: Machine<S>, E: Edit + Copy>(
     found: &Found,
     nth: Nth,
 ) -> Result<Next, Stop>
-    requires table { IsTableOf words.now.table.shared.table_id words.now.table.shared.key layout.now × (seat.old.table_id ≡ words.now.table.shared.table_id) }
+    requires table { IsSeatAt words.now layout.now seat.old }
     requires tries { (u : Updater S.allows M.ready M.waits M.same E.means layout.now number) × UpdaterTries S.allows M.ready M.waits M.same E.means layout.now number u seat.old.me.0.passes run.old found.now (Next.Fill nth) }
-    ensures table { (seat.new.table_id ≡ seat.old.table_id) × (seat.new.me.1 ≡ seat.old.me.1) }
+    ensures table { StaysAtTable seat.old seat.new }
     ensures goes_on { (u : Updater S.allows M.ready M.waits M.same E.means layout.now number) → UpdaterTries S.allows M.ready M.waits M.same E.means layout.now number u seat.old.me.0.passes run.old found.now (Next.Fill nth) → UpdaterGoesOn S.allows M.ready M.waits M.same E.means layout.now number u seat.new.me.0.passes run.new found.now result }
     ensures steps { seat_steps seat.new.me.0.passes + left_then E.means run.new found.now result (shared_nodes layout.now) ≤ seat_steps seat.old.me.0.passes + suc (update_left E.means (placed E.means run.old found.now (Next.Fill nth)) (shared_nodes layout.now)) }
     ensures nearer { left_then E.means run.new found.now result (shared_nodes layout.now) < suc (update_left E.means (placed E.means run.old found.now (Next.Fill nth)) (shared_nodes layout.now)) }
