@@ -42,6 +42,7 @@ use Rattle.forest.specs.declared.straight.calls.WordEdit.TheVariants as edits
 use Rattle.forest.proofs.StraightUpdate.{answers_there}
 use Rattle.forest.specs.TableRule.{history_of}
 use Rattle.forest.specs.Traces.{begins, goes_on}
+use Rattle.forest.specs.CallKinds.{Calls}
 
 module _ {K V : Type 0} (valid_key : K → Type 0) (key : K → ℕ) (valid_value : V → Type 0) (value_word : V → ℕ) where
   abbrev allows : Layout → History → ℕ → Type 0
@@ -55,6 +56,10 @@ module _ {K V : Type 0} (valid_key : K → Type 0) (key : K → ℕ) (valid_valu
 
   abbrev same : DictRun K V → DictRun K V → Type 0
   same = IsSameDictCall valid_key key valid_value value_word
+
+  -- its calls of a layout and a number
+  abbrev kind : Layout → ℕ → Calls (DictRun K V)
+  kind layout number = record { allows = allows; ready = ready; waits = waits; same = same; layout = layout; number = number }
 
   abbrev keys : ℕ → Type 0
   keys = IsWord valid_key key
@@ -75,7 +80,7 @@ module _ {K V : Type 0} (valid_key : K → Type 0) (key : K → ℕ) (valid_valu
     insert_call : Inserted → MapCall
     insert_call e = Edit (InsertEdit e.key e.value)
 
-    insert_goes : (old now : UpdateRun Inserted UpdateAt) → HasGoneOn allows ready waits same insert_means layout number old now (node_tries now now.at) (scx_tries now now.at) → Goes (Insert old) machine.tries c → Goes (Insert now) machine.tries c
+    insert_goes : (old now : UpdateRun Inserted UpdateAt) → HasGoneOn insert_means old now (node_tries now now.at) (scx_tries now now.at) → Goes (Insert old) machine.tries c → Goes (Insert now) machine.tries c
     insert_goes old now on x = record {
       mode = x.mode;
       small = subst (λ (e : Inserted). e.key < 2 ^ 64) (sym on.edit) x.small;
@@ -84,7 +89,7 @@ module _ {K V : Type 0} (valid_key : K → Type 0) (key : K → ℕ) (valid_valu
       spent = edit_spends c 3 old.share now.share machine.tries (node_tries old old.at) (node_tries now now.at) (scx_tries old old.at) (scx_tries now now.at) x.spent on.spends;
     }
 
-    pub inserter : Updater allows ready waits same insert_means layout number
+    pub inserter : Updater (kind layout number) insert_means
     unfolding insert_call
     inserter = record {
       call = c;
@@ -99,11 +104,11 @@ module _ {K V : Type 0} (valid_key : K → Type 0) (key : K → ℕ) (valid_valu
       stays = λ old now e fewer. (ap insert_call e, refl, (fewer.1, fewer.0));
     }
 
-    pub insert_begins : (ps : List SeatedPass) {A : Type 0} (m : UpdateRun Inserted A) → machine.run ≡ Insert (standing m Start) → SeatDictBegins valid_key key valid_value value_word c ps machine → UpdaterBegins allows ready waits same insert_means layout number inserter ps m
+    pub insert_begins : (ps : List SeatedPass) {A : Type 0} (m : UpdateRun Inserted A) → machine.run ≡ Insert (standing m Start) → SeatDictBegins valid_key key valid_value value_word c ps machine → UpdaterBegins inserter ps m
     unfolding inserter
     insert_begins ps m is x = record { known = x.known; is = x.is; sound = x.sound; so = (subst (λ r. ready (record machine { run = r }) c (history_of c.layout.mode x.known) None) is x.so.1, begins (λ i. record machine { run = sym is i }) (sym x.so.0)) }
 
-    pub insert_ended : (ps : List SeatedPass) {A : Type 0} (m : UpdateRun Inserted A) (a : Updated) → UpdaterEnds allows ready waits same insert_means layout number inserter ps m a → ends c ps machine (inserting (standing m Start)) (update_reply a)
+    pub insert_ended : (ps : List SeatedPass) {A : Type 0} (m : UpdateRun Inserted A) (a : Updated) → UpdaterEnds inserter ps m a → ends c ps machine (inserting (standing m Start)) (update_reply a)
     unfolding inserter insert_call
     insert_ended ps m a x = let y = x.so in record {
       known = x.known;
@@ -123,7 +128,7 @@ module _ {K V : Type 0} (valid_key : K → Type 0) (key : K → ℕ) (valid_valu
     delete_call : Deleted → MapCall
     delete_call e = Edit (DeleteEdit e.key)
 
-    delete_goes : (old now : UpdateRun Deleted UpdateAt) → HasGoneOn allows ready waits same delete_means layout number old now (node_tries now now.at) (scx_tries now now.at) → Goes (Delete old) machine.tries c → Goes (Delete now) machine.tries c
+    delete_goes : (old now : UpdateRun Deleted UpdateAt) → HasGoneOn delete_means old now (node_tries now now.at) (scx_tries now now.at) → Goes (Delete old) machine.tries c → Goes (Delete now) machine.tries c
     delete_goes old now on x = record {
       mode = x.mode;
       small = subst (λ (e : Deleted). e.key < 2 ^ 64) (sym on.edit) x.small;
@@ -132,7 +137,7 @@ module _ {K V : Type 0} (valid_key : K → Type 0) (key : K → ℕ) (valid_valu
       spent = edit_spends c 1 old.share now.share machine.tries (node_tries old old.at) (node_tries now now.at) (scx_tries old old.at) (scx_tries now now.at) x.spent on.spends;
     }
 
-    pub deleter : Updater allows ready waits same delete_means layout number
+    pub deleter : Updater (kind layout number) delete_means
     unfolding delete_call
     deleter = record {
       call = c;
@@ -147,11 +152,11 @@ module _ {K V : Type 0} (valid_key : K → Type 0) (key : K → ℕ) (valid_valu
       stays = λ old now e fewer. (ap delete_call e, refl, (fewer.1, fewer.0));
     }
 
-    pub delete_begins : (ps : List SeatedPass) {A : Type 0} (m : UpdateRun Deleted A) → machine.run ≡ Delete (standing m Start) → SeatDictBegins valid_key key valid_value value_word c ps machine → UpdaterBegins allows ready waits same delete_means layout number deleter ps m
+    pub delete_begins : (ps : List SeatedPass) {A : Type 0} (m : UpdateRun Deleted A) → machine.run ≡ Delete (standing m Start) → SeatDictBegins valid_key key valid_value value_word c ps machine → UpdaterBegins deleter ps m
     unfolding deleter
     delete_begins ps m is x = record { known = x.known; is = x.is; sound = x.sound; so = (subst (λ r. ready (record machine { run = r }) c (history_of c.layout.mode x.known) None) is x.so.1, begins (λ i. record machine { run = sym is i }) (sym x.so.0)) }
 
-    pub delete_ended : (ps : List SeatedPass) {A : Type 0} (m : UpdateRun Deleted A) (a : Updated) → UpdaterEnds allows ready waits same delete_means layout number deleter ps m a → ends c ps machine (deleting (standing m Start)) (update_reply a)
+    pub delete_ended : (ps : List SeatedPass) {A : Type 0} (m : UpdateRun Deleted A) (a : Updated) → UpdaterEnds deleter ps m a → ends c ps machine (deleting (standing m Start)) (update_reply a)
     unfolding deleter delete_call
     delete_ended ps m a x = let y = x.so in record {
       known = x.known;
@@ -168,7 +173,7 @@ module _ {K V : Type 0} (valid_key : K → Type 0) (key : K → ℕ) (valid_valu
     abbrev searching : Remaining → SuccessorRun → DictRun K V
     searching share m = record machine { run = Successor m share }
 
-    pub searcher : Remaining → SuccessorReader allows ready waits same layout number
+    pub searcher : Remaining → SuccessorReader (kind layout number)
     searcher share = record {
       call = c;
       is_layout = is_layout;
@@ -182,11 +187,11 @@ module _ {K V : Type 0} (valid_key : K → Type 0) (key : K → ℕ) (valid_valu
       stays = λ old now is. (ap SuccessorCall is.0, refl, (is.2, is.3));
     }
 
-    pub search_begins : (ps : List SeatedPass) (share : Remaining) (m : SuccessorRun) → machine.run ≡ Successor m share → SeatDictBegins valid_key key valid_value value_word c ps machine → SearchBegins allows ready waits same layout number (searcher share) ps m
+    pub search_begins : (ps : List SeatedPass) (share : Remaining) (m : SuccessorRun) → machine.run ≡ Successor m share → SeatDictBegins valid_key key valid_value value_word c ps machine → SearchBegins (searcher share) ps m
     unfolding searcher
     search_begins ps share m is x = record { known = x.known; is = x.is; sound = x.sound; so = (subst (λ r. ready (record machine { run = r }) c (history_of c.layout.mode x.known) None) is x.so.1, begins (λ i. record machine { run = sym is i }) (sym x.so.0)) }
 
-    pub search_ended : (ps : List SeatedPass) (share : Remaining) (m : SuccessorRun) (a : Result (Option Pair) Refused) → SearchEnds allows ready waits same layout number (searcher share) ps m a → ends c ps machine (searching share m) (successor_reply a)
+    pub search_ended : (ps : List SeatedPass) (share : Remaining) (m : SuccessorRun) (a : Result (Option Pair) Refused) → SearchEnds (searcher share) ps m a → ends c ps machine (searching share m) (successor_reply a)
     unfolding searcher
     search_ended ps share m a x = let y = x.so in record {
       known = x.known;
@@ -206,7 +211,7 @@ module _ {K V : Type 0} (valid_key : K → Type 0) (key : K → ℕ) (valid_valu
     range_call : (old now : RangeRun) → IsSameRange old now → RangeCall now.low now.high now.most ≡ RangeCall old.low old.high old.most
     range_call old now is i = RangeCall (is.0 i) (is.1 i) (is.2 i)
 
-    pub ranger : Remaining → RangeReader allows ready waits same layout number
+    pub ranger : Remaining → RangeReader (kind layout number)
     ranger share = record {
       call = c;
       is_layout = is_layout;
@@ -220,11 +225,11 @@ module _ {K V : Type 0} (valid_key : K → Type 0) (key : K → ℕ) (valid_valu
       stays = λ old now is. (range_call old now is, refl, (is.4, is.5));
     }
 
-    pub range_begins : (ps : List SeatedPass) (share : Remaining) (m : RangeRun) → machine.run ≡ Range m share → SeatDictBegins valid_key key valid_value value_word c ps machine → VisitBegins allows ready waits same layout number (ranger share) ps m
+    pub range_begins : (ps : List SeatedPass) (share : Remaining) (m : RangeRun) → machine.run ≡ Range m share → SeatDictBegins valid_key key valid_value value_word c ps machine → VisitBegins (ranger share) ps m
     unfolding ranger
     range_begins ps share m is x = record { known = x.known; is = x.is; sound = x.sound; so = (subst (λ r. ready (record machine { run = r }) c (history_of c.layout.mode x.known) None) is x.so.1, begins (λ i. record machine { run = sym is i }) (sym x.so.0)) }
 
-    pub range_ended : (ps : List SeatedPass) (share : Remaining) (m : RangeRun) (a : Result (Vec Pair Global) Refused) → VisitEnds allows ready waits same layout number (ranger share) ps m a → ends c ps machine (ranging share m) (range_reply a)
+    pub range_ended : (ps : List SeatedPass) (share : Remaining) (m : RangeRun) (a : Result (Vec Pair Global) Refused) → VisitEnds (ranger share) ps m a → ends c ps machine (ranging share m) (range_reply a)
     unfolding ranger
     range_ended ps share m a x = let y = x.so in record {
       known = x.known;

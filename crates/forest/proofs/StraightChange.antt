@@ -25,10 +25,11 @@ use Rattle.forest.specs.declared.view.SeatedPass.{SeatedPass}
 use Rattle.forest.specs.StraightChange.{Changer, ChangerWaits, ChangerIsTold, changing_at, scx_fill}
 use Rattle.forest.specs.StraightHelp.{Helper, HelperWaits, HelperIsTold}
 use Rattle.forest.specs.Traces.{goes_on}
+use Rattle.forest.specs.CallKinds.{Calls}
 
-module _ {M : Type 0} (inner allows : Layout → History → ℕ → Type 0) (ready : M → Call → History → Option ℕ → Type 0) (waits : M → Call → History → Step → Type 0) (same : M → M → Type 0) (layout : Layout) (number : ℕ) (k : Changer inner allows ready waits same layout number) (snaps : List Snap) (change : Change) where
+module _ {M : Type 0} {inner : Layout → History → ℕ → Type 0} {o : Calls M} (k : Changer inner o) (snaps : List Snap) (change : Change) where
   -- a machine that makes an SCX helps
-  pub helper : Helper inner allows ready waits same layout number
+  pub helper : Helper inner o
   helper = record {
     call = k.call;
     is_layout = k.is_layout;
@@ -42,11 +43,11 @@ module _ {M : Type 0} (inner allows : Layout → History → ℕ → Type 0) (re
   module _ (ps : List SeatedPass) where
     -- it waits for this step at this place
     abbrev At : ScxAt → Step → Type 0
-    At at step = ChangerWaits inner allows ready waits same layout number k ps (changing_at snaps change at) step
+    At at step = ChangerWaits k ps (changing_at snaps change at) step
 
     -- the step of this place has told v
     abbrev Tells : ScxAt → ℕ → Type 0
-    Tells at v = ChangerIsTold inner allows ready waits same layout number k ps (changing_at snaps change at) v
+    Tells at v = ChangerIsTold k ps (changing_at snaps change at) v
 
     -- one fill after another
     fills : (A B : ScxAt) (v : ℕ) (step : Step) → ((d : Call) (h : History) → ScxIsToldAt inner d h (job_of (changing_at snaps change A)) A v → FillMade inner d h (job_of (changing_at snaps change A)) A) → ((d : Call) (h : History) → FillMade inner d h (job_of (changing_at snaps change A)) A → ScxTurn inner d h (changing_at snaps change B) (Ask step)) → Tells A v → At B step
@@ -82,7 +83,7 @@ module _ {M : Type 0} (inner allows : Layout → History → ℕ → Type 0) (re
     to_call j v none = fills (AtSeen j) AtCall v _ (λ d h x. x) (λ d h x. turn_seen inner d h (changing_at snaps change (AtSeen j)) j (changing_at snaps change AtCall) (Ask _) x (inr record { none = none; fills = record { stands = refl; asked = refl } }))
 
     -- once all is filled, it helps its own SCX-record
-    pub to_help : (begun : HelpRun) (v : ℕ) → begun.scx ≡ change.scx → begun.at ≡ HelpStart → Tells AtCall v → HelperWaits inner allows ready waits same layout number helper ps (record begun { at = HelpPlan }) (settled_load begun.scx.0 Plan)
+    pub to_help : (begun : HelpRun) (v : ℕ) → begun.scx ≡ change.scx → begun.at ≡ HelpStart → Tells AtCall v → HelperWaits helper ps (record begun { at = HelpPlan }) (settled_load begun.scx.0 Plan)
     unfolding helper
     to_help begun v is start x = record {
       known = x.known;
@@ -95,11 +96,11 @@ module _ {M : Type 0} (inner allows : Layout → History → ℕ → Type 0) (re
     }
 
     -- what its HELP waits for or is told, it waits for or is told
-    pub help_waits : (help : HelpRun) (step : Step) → HelperWaits inner allows ready waits same layout number helper ps help step → At (Help help) step
+    pub help_waits : (help : HelpRun) (step : Step) → HelperWaits helper ps help step → At (Help help) step
     unfolding helper
     help_waits help step x = x
 
-    pub help_told : (help : HelpRun) (v : ℕ) → HelperIsTold inner allows ready waits same layout number helper ps help v → Tells (Help help) v
+    pub help_told : (help : HelpRun) (v : ℕ) → HelperIsTold helper ps help v → Tells (Help help) v
     unfolding helper
     help_told help v x = x
 

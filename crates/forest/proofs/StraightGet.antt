@@ -42,6 +42,7 @@ use Rattle.forest.specs.StraightCalls.{IsSameDictCall}
 use Rattle.forest.specs.StraightGet.{getting}
 use Rattle.forest.specs.StraightWalk.{Walker, WalkerWaits, WalkerFinds}
 use Rattle.forest.specs.Traces.{HoldsForCall, Trace}
+use Rattle.forest.specs.CallKinds.{Calls}
 use Rattle.forest.proofs.DictCalls.{Answered, behind, dict_ended, dict_starts}
 use Rattle.forest.proofs.Entered.{HasEnded}
 use Rattle.forest.proofs.Passes.{call_of}
@@ -61,12 +62,16 @@ module _ {K V : Type 0} (valid_key : K → Type 0) (key : K → ℕ) (valid_valu
   abbrev pub same : DictRun K V → DictRun K V → Type 0
   same = IsSameDictCall valid_key key valid_value value_word
 
+  -- its calls of a layout and a number
+  abbrev pub kind : Layout → ℕ → Calls (DictRun K V)
+  kind layout number = record { allows = allows; ready = ready; waits = waits; same = same; layout = layout; number = number }
+
   module _ (share : Remaining) (tries wanted : ℕ) where
     abbrev at : WalkRun → DictRun K V
     at = getting share tries wanted
 
     -- a call is one of a machine that walks, and keeps no fork
-    pub walker : (c : Call) (layout : Layout) (number : ℕ) → c.layout ≡ layout → c.number ≡ number → Walker allows ready waits same layout number
+    pub walker : (c : Call) (layout : Layout) (number : ℕ) → c.layout ≡ layout → c.number ≡ number → Walker (kind layout number)
     walker c layout number is_layout is_number = record {
       call = c;
       is_layout = is_layout;
@@ -80,7 +85,7 @@ module _ {K V : Type 0} (valid_key : K → Type 0) (key : K → ℕ) (valid_valu
 
   -- its machine waits for the head of the root
   pub get_walks : {T : Type 0} (p : Inside T) (x : IsPass allows Tree p) (tries wanted number : ℕ) (layout : Layout) (is_layout : p.layout ≡ layout) (is_number : taken_of (pass_view p) ≡ number) → wanted < 2 ^ 64
-      → WalkerWaits allows ready waits same layout number (walker p.share tries wanted (call_of p x (taken_of (pass_view p))) layout number is_layout is_number) p.seat.me.0.passes (walk_from wanted) record { 0 = 0 } (load LoadSettled (node 0 Head))
+      → WalkerWaits (walker p.share tries wanted (call_of p x (taken_of (pass_view p))) layout number is_layout is_number) p.seat.me.0.passes (walk_from wanted) record { 0 = 0 } (load LoadSettled (node 0 Head))
   unfolding walker
   get_walks p x tries wanted number layout is_layout is_number small =
       let first : DictRun K V = getting p.share tries wanted (walk_at wanted root_trail Start) in
@@ -96,7 +101,7 @@ module _ {K V : Type 0} (valid_key : K → Type 0) (key : K → ℕ) (valid_valu
 
   -- what its walk finds, it answers
   pub get_ended : (share : Remaining) (tries wanted number : ℕ) (layout : Layout) (c : Call) (is_layout : c.layout ≡ layout) (is_number : c.number ≡ number) (ps : List SeatedPass) (turn : NodeNo) (f : Found) (v : Option V) → c.layout.mode ≡ Tree → IfSome v valid_value → (IfSome f.value (IsWord valid_value value_word) → option_map value_word v ≡ f.value)
-      → (x : WalkerFinds allows ready waits same layout number (walker share tries wanted c layout number is_layout is_number) ps wanted turn f)
+      → (x : WalkerFinds (walker share tries wanted c layout number is_layout is_number) ps wanted turn f)
       → HoldsForCall allows ps c (λ h. DictAnswers valid_key key valid_value value_word (getting share tries wanted x.last) c h (replies.Value v) × Trace allows waits same c (getting share tries wanted (walk_at wanted root_trail Start)) (getting share tries wanted x.last) h)
   unfolding walker
   get_ended share tries wanted number layout c is_layout is_number ps turn f v mode valid same_word x =
@@ -115,7 +120,7 @@ module _ {K V : Type 0} (valid_key : K → Type 0) (key : K → ℕ) (valid_valu
 
   -- and so it has ended
   pub get_has_ended : {T : Type 0} (p : Inside T) (x : IsPass allows Tree p) (s : Seat ℕ SeatView) (tries wanted number : ℕ) (layout : Layout) (is_layout : p.layout ≡ layout) (is_number : taken_of (pass_view p) ≡ number) (turn : NodeNo) (f : Found) (v : Option V) → IfSome v valid_value → (IfSome f.value (IsWord valid_value value_word) → option_map value_word v ≡ f.value)
-      → (y : WalkerFinds allows ready waits same layout number (walker p.share tries wanted (call_of p x (taken_of (pass_view p))) layout number is_layout is_number) s.me.0.passes wanted turn f)
+      → (y : WalkerFinds (walker p.share tries wanted (call_of p x (taken_of (pass_view p))) layout number is_layout is_number) s.me.0.passes wanted turn f)
       → HasEnded allows p s (taken_of (pass_view p)) (Answered valid_key key valid_value value_word p x s (getting p.share tries wanted y.last) (replies.Value v))
   unfolding walker
   get_has_ended p x s tries wanted number layout is_layout is_number turn f v valid same_word y =
@@ -124,7 +129,7 @@ module _ {K V : Type 0} (valid_key : K → Type 0) (key : K → ℕ) (valid_valu
 
   -- and so it has loaded settled words and fields alone
   pub get_kinds : {T : Type 0} (p : Inside T) (x : IsPass allows Tree p) (s : Seat ℕ SeatView) (tries wanted number : ℕ) (layout : Layout) (is_layout : p.layout ≡ layout) (is_number : taken_of (pass_view p) ≡ number) (turn : NodeNo) (f : Found) (v : Option V) → IfSome v valid_value → (IfSome f.value (IsWord valid_value value_word) → option_map value_word v ≡ f.value)
-      → (y : WalkerFinds allows ready waits same layout number (walker p.share tries wanted (call_of p x (taken_of (pass_view p))) layout number is_layout is_number) s.me.0.passes wanted turn f)
+      → (y : WalkerFinds (walker p.share tries wanted (call_of p x (taken_of (pass_view p))) layout number is_layout is_number) s.me.0.passes wanted turn f)
       → HasKeptToKinds (pass_view p) (pass_view (behind valid_key key valid_value value_word p x s (getting p.share tries wanted y.last) (replies.Value v))) (Get wanted)
   unfolding walker
   get_kinds p x s tries wanted number layout is_layout is_number turn f v valid same_word y =

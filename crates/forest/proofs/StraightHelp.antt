@@ -1,5 +1,5 @@
 -- From place to place of a HELP, of whatever machine helps.
-use Rattle.std.proofs.Common.{◌≡◌, ◌≢◌, ℕ, suc, ◌+◌, ◌<◌, ◌≤◌, length, true, false, ◌⊎◌, inl, inr, ⊎_elim, List, Option, refl, sym, subst, arith}
+use Rattle.std.proofs.Common.{◌≡◌, ◌≢◌, ℕ, suc, ◌+◌, ◌<◌, ◌≤◌, length, true, false, ◌⊎◌, inl, inr, ⊎_elim, List, refl, sym, subst, arith}
 use Rattle.std.specs.Prelude.{slice_set}
 use Rattle.std.proofs.Math.Nat.{eq-or-lt_of_le}
 use Rattle.arena.specs.ScxRecords.{plan, raw_count, plan_finalizes, field_index_of, side_of}
@@ -14,7 +14,6 @@ use Rattle.arena.specs.MemberIndex.{member_index}
 use Rattle.arena.specs.Words.{scx, info, marked, child, state}
 use Rattle.arena.specs.History.{History}
 use Rattle.arena.specs.Lawful.{Lawful}
-use Rattle.arena.specs.Machines.{Call}
 use Rattle.help.specs.Help.Known.{Marks, node_at, reading, settled_load, HelpIsTold, HelpWaits}
 use Rattle.help.proofs.Lemmas.{to_all_frozen as edge_to_all_frozen, to_commit as edge_to_commit, to_freeze as edge_to_freeze, to_mark as edge_to_mark, to_member as edge_to_member, to_new as edge_to_new, to_next as edge_to_next, to_old as edge_to_old, to_seen as edge_to_seen, to_set_frozen as edge_to_set_frozen, to_update as edge_to_update}
 use Rattle.help.specs.declared.state.HelpRun.{HelpRun}
@@ -22,6 +21,7 @@ use Rattle.help.specs.declared.state.HelpAt.TheVariants.{Plan as AtPlan, Member 
 use Rattle.forest.specs.declared.view.SeatedPass.{SeatedPass}
 use Rattle.forest.specs.StraightHelp.{Helper, HelperWaits, HelperIsTold, HelperMarks}
 use Rattle.forest.specs.Traces.{goes_on}
+use Rattle.forest.specs.CallKinds.{Calls}
 
 -- what is below the next is below a number, or is that
 below_or_at : (i p : ℕ) → i < p + 1 → (i < p) ⊎ (i ≡ p)
@@ -37,18 +37,18 @@ more_marked h m p not x = record {
   marked = λ i below inside is. ⊎_elim (λ less. x.marked i less inside is) (λ here. absurd (let no : plan_finalizes (plan h m.scx.0) p ≡ false = rw x.plan not in let yes : plan_finalizes (plan h m.scx.0) p ≡ true = subst (λ (k : ℕ). plan_finalizes (plan h m.scx.0) k ≡ true) here is in cc)) (below_or_at i p below);
 }
 
-module _ {M : Type 0} (inner allows : Layout → History → ℕ → Type 0) (ready : M → Call → History → Option ℕ → Type 0) (waits : M → Call → History → Step → Type 0) (same : M → M → Type 0) (layout : Layout) (number : ℕ) (k : Helper inner allows ready waits same layout number) (ps : List SeatedPass) where
+module _ {M : Type 0} {inner : Layout → History → ℕ → Type 0} {o : Calls M} (k : Helper inner o) (ps : List SeatedPass) where
   -- it waits for this step
   abbrev At : HelpRun → Step → Type 0
-  At m step = HelperWaits inner allows ready waits same layout number k ps m step
+  At m step = HelperWaits k ps m step
 
   -- the step has told v
   abbrev Tells : HelpRun → ℕ → Type 0
-  Tells m v = HelperIsTold inner allows ready waits same layout number k ps m v
+  Tells m v = HelperIsTold k ps m v
 
   -- those of the first p nodes that are finalized are marked
   abbrev Marked : HelpRun → ℕ → Type 0
-  Marked m p = HelperMarks inner allows ready waits same layout number k ps m p
+  Marked m p = HelperMarks k ps m p
 
   -- an edge takes it from place to place
   takes : (m now : HelpRun) (v : ℕ) (step : Step) → now.scx ≡ m.scx → ((lay : Layout) (c : ℕ) (h : History) → Lawful lay h → HelpIsTold inner lay c h (reading m) m.at v → HelpWaits inner lay c now h step) → Tells m v → At now step

@@ -1,6 +1,5 @@
 -- From place to place of an LLX, of whatever machine looks at nodes of the tree.
-use Rattle.std.proofs.Common.{◌≡◌, ◌≢◌, ℕ, Bool, true, false, ◌⊎◌, inl, inr, List, Option, Some, refl}
-use Rattle.arena.specs.declared.layout.Layout.{Layout}
+use Rattle.std.proofs.Common.{◌≡◌, ◌≢◌, ℕ, Bool, true, false, ◌⊎◌, inl, inr, List, Some, refl}
 use Rattle.arena.specs.declared.machine.Turn.TheVariants.{Ask, Done}
 use Rattle.arena.specs.declared.number.NodeNo.{NodeNo}
 use Rattle.arena.specs.declared.number.ScxNo.{ScxNo}
@@ -21,15 +20,16 @@ use Rattle.forest.specs.declared.view.SeatedPass.{SeatedPass}
 use Rattle.forest.specs.StraightLlx.{llx_at}
 use Rattle.forest.specs.StraightLook.{Looker, LookerWaits, LookerIsTold, LookerSnaps}
 use Rattle.forest.specs.Traces.{goes_on}
+use Rattle.forest.specs.CallKinds.{Calls}
 
-module _ {M : Type 0} (allows : Layout → History → ℕ → Type 0) (ready : M → Call → History → Option ℕ → Type 0) (waits : M → Call → History → Step → Type 0) (same : M → M → Type 0) (layout : Layout) (number : ℕ) (k : Looker allows ready waits same layout number) (ps : List SeatedPass) (node : NodeNo) where
+module _ {M : Type 0} {o : Calls M} (k : Looker o) (ps : List SeatedPass) (node : NodeNo) where
   -- it waits for this step at this place
   abbrev At : LlxAt → Step → Type 0
-  At at step = LookerWaits allows ready waits same layout number k ps (llx_at node at) step
+  At at step = LookerWaits k ps (llx_at node at) step
 
   -- the step of this place has told v
   abbrev Tells : LlxAt → ℕ → Type 0
-  Tells at v = LookerIsTold allows ready waits same layout number k ps (llx_at node at) v
+  Tells at v = LookerIsTold k ps (llx_at node at) v
 
   -- a turn takes it from place to place
   turns : (at next : LlxAt) (v : ℕ) (step : Step) → (at ≡ Start → ⊥) → ((d : Call) (h : History) → IsRun TreeAllows d.layout h → Knows TreeAllows d h node.0 at v → LlxWaits TreeAllows (llx_at node next) d h step) → Tells at v → At next step
@@ -68,7 +68,7 @@ module _ {M : Type 0} (allows : Layout → History → ℕ → Type 0) (ready : 
   pub differs : (b : Bool) (s : ScxNo) (x y v : ℕ) → v ≢ s.0 → Tells (InfoAgain b s x y) v → At (StateAgain b s) (load LoadState (state s.0))
   differs b s x y v d = turns (InfoAgain b s x y) (StateAgain b s) v _ (λ e. cc) (λ c h run z. turn_compare TreeAllows c h run (llx_at node (InfoAgain b s x y)) (llx_at node (StateAgain b s)) (Ask _) b s x y v z (inr record { other = d; asks = record { stands = refl; asked = refl } }))
 
-  pub snaps : (b : Bool) (s : ScxNo) (x y v : ℕ) → v ≡ s.0 → Tells (InfoAgain b s x y) v → LookerSnaps allows ready waits same layout number k ps node record { node = node; scx = s; left = record { 0 = x }; right = record { 0 = y } }
+  pub snaps : (b : Bool) (s : ScxNo) (x y v : ℕ) → v ≡ s.0 → Tells (InfoAgain b s x y) v → LookerSnaps k ps node record { node = node; scx = s; left = record { 0 = x }; right = record { 0 = y } }
   snaps b s x y v e t = record {
     of_node = refl;
     last = llx_at node (InfoAgain b s x y);

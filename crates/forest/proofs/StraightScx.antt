@@ -21,6 +21,7 @@ use Rattle.forest.specs.declared.view.SeatedPass.{SeatedPass}
 use Rattle.forest.specs.StraightChange.{Changer, ChangerWaits, ChangerIsTold, scx_fill, all_frozen_load}
 use Rattle.forest.specs.StraightScx.{IsSamePut, scx_at, SeatPutBegins, SeatPutWaits, SeatPutTold, SeatPutEnds}
 use Rattle.forest.specs.Traces.{begins, goes_on}
+use Rattle.forest.specs.CallKinds.{Calls}
 
 module _ (allows : Layout → History → ℕ → Type 0) (c : Call) (ps : List SeatedPass) (first : PutRun) where
   -- it fills the value, and then the plan
@@ -46,9 +47,13 @@ module _ (allows : Layout → History → ℕ → Type 0) (c : Call) (ps : List 
 abbrev pub with_scx : PutRun → ScxRun → PutRun
 with_scx m scx = record { value = m.value; scx = scx; at = AtScx }
 
+-- its calls of a layout and a number
+abbrev pub kind : (Layout → History → ℕ → Type 0) → Layout → ℕ → Calls PutRun
+kind allows layout number = record { allows = allows; ready = PutIsReady allows; waits = PutWaits allows; same = IsSamePut; layout = layout; number = number }
+
 module _ (allows : Layout → History → ℕ → Type 0) (layout : Layout) (number : ℕ) (c : Call) (is_layout : c.layout ≡ layout) (is_number : c.number ≡ number) (first : PutRun) where
   -- a run of SCX with a fresh cell makes an SCX
-  pub putter : Changer allows allows (PutIsReady allows) (PutWaits allows) IsSamePut layout number
+  pub putter : Changer allows (kind allows layout number)
   putter = record {
     call = c;
     is_layout = is_layout;
@@ -64,16 +69,16 @@ module _ (allows : Layout → History → ℕ → Type 0) (layout : Layout) (num
 
   module _ (ps : List SeatedPass) (m : ScxRun) where
     -- what it waits for, its SCX does
-    pub begins_change : (step : Step) → SeatPutWaits allows c ps first (with_scx first m) step → ChangerWaits allows allows (PutIsReady allows) (PutWaits allows) IsSamePut layout number putter ps m step
+    pub begins_change : (step : Step) → SeatPutWaits allows c ps first (with_scx first m) step → ChangerWaits putter ps m step
     unfolding putter
     begins_change step x = x
 
-    pub change_waits : (step : Step) → ChangerWaits allows allows (PutIsReady allows) (PutWaits allows) IsSamePut layout number putter ps m step → SeatPutWaits allows c ps first (with_scx first m) step
+    pub change_waits : (step : Step) → ChangerWaits putter ps m step → SeatPutWaits allows c ps first (with_scx first m) step
     unfolding putter
     change_waits step x = x
 
     -- what HELP has told once it is committed, the SCX answers
-    pub put_done : (help : HelpRun) (v : ℕ) → ChangerIsTold allows allows (PutIsReady allows) (PutWaits allows) IsSamePut layout number putter ps (record m { at = Help (record help { at = HelpCommit }) }) v → SeatPutEnds allows c ps first (with_scx first (record m { at = Help (record help { at = HelpCommit }) })) Done
+    pub put_done : (help : HelpRun) (v : ℕ) → ChangerIsTold putter ps (record m { at = Help (record help { at = HelpCommit }) }) v → SeatPutEnds allows c ps first (with_scx first (record m { at = Help (record help { at = HelpCommit }) })) Done
     unfolding putter
     put_done help v x =
         let run : ScxRun = record m { at = Help (record help { at = HelpCommit }) } in

@@ -3,7 +3,6 @@ use Rattle.std.proofs.Common.{◌≡◌, ◌∙◌, ℕ, suc, ◌+◌, ◌-◌, 
 use Rattle.std.specs.Global.{Global}
 use Rattle.std.specs.Prelude.{Vec, Err}
 use Rattle.arena.specs.declared.head.Head.{Head as HeadParts}
-use Rattle.arena.specs.declared.layout.Layout.{Layout}
 use Rattle.arena.specs.declared.machine.Turn.{Turn}
 use Rattle.arena.specs.declared.machine.Turn.TheVariants.{Ask, Done}
 use Rattle.arena.specs.declared.number.NodeNo.{NodeNo}
@@ -51,6 +50,7 @@ use Rattle.forest.specs.StraightReads.{ReaderIsTold, ReaderStands, ReaderWaits, 
 use Rattle.forest.specs.StraightValidate.{Validator, ValidatorIsTold, ValidatorWaits}
 use Rattle.forest.specs.StraightWalk.{Walker, WalkerFinds, WalkerWaits}
 use Rattle.forest.specs.Traces.{goes_on, shared_nodes}
+use Rattle.forest.specs.CallKinds.{Calls}
 use Rattle.forest.proofs.Advances.{few_taken}
 use Rattle.forest.proofs.StraightReads.{told_on}
 
@@ -83,47 +83,47 @@ nearer_as m next now nodes a e i = subst (λ (k : SuccessorNext). a < suc (succe
 pub begins_with_walk : (old : SuccessorRun) (none : Vec Snap Global) (turn : NodeNo) (nodes before after : ℕ) → none.items ≡ [] → old.at ≡ Start → after ≤ before + 3 * (2 + nodes) → after + suc (successor_left (placed (record old { snaps = none }) (LookNext Along 0 Left turn)) nodes) ≤ before + successor_left old nodes
 begins_with_walk old none turn nodes before after empty at few = subst (λ a. after + suc (successor_left (placed (record old { snaps = none }) (LookNext Along 0 Left turn)) nodes) ≤ before + (old.tries * try_left nodes + phase_left old nodes a)) (sym at) (let e = ap length empty in omega (arith, few, e))
 
-module _ {M : Type 0} (allows : Layout → History → ℕ → Type 0) (ready : M → Call → History → Option ℕ → Type 0) (waits : M → Call → History → Step → Type 0) (same : M → M → Type 0) (layout : Layout) (number : ℕ) (r : SuccessorReader allows ready waits same layout number) where
+module _ {M : Type 0} {o : Calls M} (r : SuccessorReader o) where
   -- its step has told this
   abbrev IsTold : List SeatedPass → SuccessorRun → ℕ → Type 0
-  IsTold ps m v = ReaderIsTold allows ready waits same SuccessorIsReady SuccessorWaits IsSameSuccessor layout number r ps m v
+  IsTold ps m v = ReaderIsTold r ps m v
 
   -- what it is told takes it to what comes next
-  on_to : (ps : List SeatedPass) (old m : SuccessorRun) (next : SuccessorNext) (v : ℕ) → IsSameSuccessor old m → ((h : History) → IsRun TreeAllows r.call.layout h → SuccessorIsReady old r.call h (Some v) → MayGoOn r.call h m next) → IsTold ps old v → SearchWaits allows ready waits same layout number r ps m next
-  on_to ps old m next v is know x = told_on allows ready waits same SuccessorIsReady SuccessorWaits SuccessorAnswers IsSameSuccessor layout number r ps old (placed m next) (Some v) (Ask (next_step m next)) (same_placed old m next is) (λ h run y. next_waits m r.call h next (know h run y)) x
+  on_to : (ps : List SeatedPass) (old m : SuccessorRun) (next : SuccessorNext) (v : ℕ) → IsSameSuccessor old m → ((h : History) → IsRun TreeAllows r.call.layout h → SuccessorIsReady old r.call h (Some v) → MayGoOn r.call h m next) → IsTold ps old v → SearchWaits r ps m next
+  on_to ps old m next v is know x = told_on SuccessorAnswers r ps old (placed m next) (Some v) (Ask (next_step m next)) (same_placed old m next is) (λ h run y. next_waits m r.call h next (know h run y)) x
 
   -- behind its loads
-  pub head_goes_on : (ps : List SeatedPass) (m : SuccessorRun) (route : Route) (above : ℕ) (n : NodeNo) (v : ℕ) (next : SuccessorNext) → ((c : Call) (h : History) → Goes m c h → IsOwnMoment c h → StandsAt m c h route n.0 → head_at h n.0 ≡ head_of v → MayDo m c h next) → IsTold ps (placed m (HeadNext route above n)) v → SearchWaits allows ready waits same layout number r ps m next
+  pub head_goes_on : (ps : List SeatedPass) (m : SuccessorRun) (route : Route) (above : ℕ) (n : NodeNo) (v : ℕ) (next : SuccessorNext) → ((c : Call) (h : History) → Goes m c h → IsOwnMoment c h → StandsAt m c h route n.0 → head_at h n.0 ≡ head_of v → MayDo m c h next) → IsTold ps (placed m (HeadNext route above n)) v → SearchWaits r ps m next
   head_goes_on ps m route above n v next goes = on_to ps (placed m (HeadNext route above n)) m next v (itself m)
       (λ h run y. let k = goes_there (placed m (HeadNext route above n)) m (from r.call y.0) h refl refl y.2 in let s = y.4.0 in (y.0, y.1, k, goes (from r.call y.0) h k y.3 record { stood = s.stood; some = s.some; right = s.right; on_route = s.on_route } (ap head_of y.4.2)))
 
-  pub key_goes_on : (ps : List SeatedPass) (m : SuccessorRun) (route : Route) (head : HeadParts) (n : NodeNo) (v : ℕ) (next : SuccessorNext) → ((c : Call) (h : History) → Goes m c h → StandsAt m c h route n.0 → HasHead h route n.0 head → key_at h n.0 ≡ v → MayDo m c h next) → IsTold ps (placed m (KeyNext route head n)) v → SearchWaits allows ready waits same layout number r ps m next
+  pub key_goes_on : (ps : List SeatedPass) (m : SuccessorRun) (route : Route) (head : HeadParts) (n : NodeNo) (v : ℕ) (next : SuccessorNext) → ((c : Call) (h : History) → Goes m c h → StandsAt m c h route n.0 → HasHead h route n.0 head → key_at h n.0 ≡ v → MayDo m c h next) → IsTold ps (placed m (KeyNext route head n)) v → SearchWaits r ps m next
   key_goes_on ps m route head n v next goes = on_to ps (placed m (KeyNext route head n)) m next v (itself m)
       (λ h run y. let k = goes_there (placed m (KeyNext route head n)) m (from r.call y.0) h refl refl y.2 in let s = y.4.0 in (y.0, y.1, k, goes (from r.call y.0) h k record { stood = s.stood; some = s.some; right = s.right; on_route = s.on_route } y.4.1 y.4.2))
 
-  pub value_goes_on : (ps : List SeatedPass) (m : SuccessorRun) (key : ℕ) (n : NodeNo) (v : ℕ) → IsTold ps (placed m (ValueNext key n)) v → SearchWaits allows ready waits same layout number r ps m (ValidateNext (Some record { key = key; value = v }))
+  pub value_goes_on : (ps : List SeatedPass) (m : SuccessorRun) (key : ℕ) (n : NodeNo) (v : ℕ) → IsTold ps (placed m (ValueNext key n)) v → SearchWaits r ps m (ValidateNext (Some record { key = key; value = v }))
   value_goes_on ps m key n v = on_to ps (placed m (ValueNext key n)) m (ValidateNext (Some record { key = key; value = v })) v (itself m)
       (λ h run y. let k = goes_there (placed m (ValueNext key n)) m (from r.call y.0) h refl refl y.2 in let s = y.4.0 in (y.0, y.1, k, value_found m (from r.call y.0) h n key v k y.3 record { stood = s.stood; some = s.some; leaf = s.leaf; low = s.low; key_is = s.key_is; first = s.first } y.4.1))
 
   -- what it is told fits the taken nodes
-  pub told_fits : (ps : List SeatedPass) (m : SuccessorRun) (v : ℕ) → IsTold ps m v → SuccessorFits m (Some v) (shared_nodes layout)
-  told_fits ps m v x = successor_told m r.call _ (Some v) (shared_nodes layout) (r.tree _ x.sound) (r.tells m _ (Some v) x.so.0) (few_taken allows layout r.call _ r.is_layout x.sound)
+  pub told_fits : (ps : List SeatedPass) (m : SuccessorRun) (v : ℕ) → IsTold ps m v → SuccessorFits m (Some v) (shared_nodes o.layout)
+  told_fits ps m v x = successor_told m r.call _ (Some v) (shared_nodes o.layout) (r.tree _ x.sound) (r.tells m _ (Some v) x.so.0) (few_taken o.allows o.layout r.call _ r.is_layout x.sound)
 
   -- behind each it has fewer steps left
-  pub head_lighter : (ps : List SeatedPass) (m : SuccessorRun) (route : Route) (above : ℕ) (n : NodeNo) (v : ℕ) (next : SuccessorNext) → ((nodes : ℕ) → HeadFits (head_of v) nodes → ComesNearer m next nodes (length m.snaps.items + 67 * (2 + nodes - (head_of v).level) - 1 + behind route nodes)) → IsTold ps (placed m (HeadNext route above n)) v → successor_left (placed m next) (shared_nodes layout) < successor_left (placed m (HeadNext route above n)) (shared_nodes layout)
+  pub head_lighter : (ps : List SeatedPass) (m : SuccessorRun) (route : Route) (above : ℕ) (n : NodeNo) (v : ℕ) (next : SuccessorNext) → ((nodes : ℕ) → HeadFits (head_of v) nodes → ComesNearer m next nodes (length m.snaps.items + 67 * (2 + nodes - (head_of v).level) - 1 + behind route nodes)) → IsTold ps (placed m (HeadNext route above n)) v → successor_left (placed m next) (shared_nodes o.layout) < successor_left (placed m (HeadNext route above n)) (shared_nodes o.layout)
   head_lighter ps m route above n v next near x =
       let f = told_fits ps (placed m (HeadNext route above n)) v x in
       let a = f.0 in let b = f.1.0 in
-      let p = placed_nearer m next (shared_nodes layout) _ (omega (arith, b)) (near (shared_nodes layout) f.1) in
+      let p = placed_nearer m next (shared_nodes o.layout) _ (omega (arith, b)) (near (shared_nodes o.layout) f.1) in
       omega (arith, a, b, p)
 
-  pub key_lighter : (ps : List SeatedPass) (m : SuccessorRun) (route : Route) (head : HeadParts) (n : NodeNo) (v : ℕ) (next : SuccessorNext) → ((nodes : ℕ) → HeadFits head nodes → ComesNearer m next nodes (length m.snaps.items + 67 * (2 + nodes - head.level) - 2 + behind route nodes)) → IsTold ps (placed m (KeyNext route head n)) v → successor_left (placed m next) (shared_nodes layout) < successor_left (placed m (KeyNext route head n)) (shared_nodes layout)
+  pub key_lighter : (ps : List SeatedPass) (m : SuccessorRun) (route : Route) (head : HeadParts) (n : NodeNo) (v : ℕ) (next : SuccessorNext) → ((nodes : ℕ) → HeadFits head nodes → ComesNearer m next nodes (length m.snaps.items + 67 * (2 + nodes - head.level) - 2 + behind route nodes)) → IsTold ps (placed m (KeyNext route head n)) v → successor_left (placed m next) (shared_nodes o.layout) < successor_left (placed m (KeyNext route head n)) (shared_nodes o.layout)
   key_lighter ps m route head n v next near x =
       let f = told_fits ps (placed m (KeyNext route head n)) v x in
       let b = f.0 in
-      placed_nearer m next (shared_nodes layout) _ (omega (arith, b)) (near (shared_nodes layout) f)
+      placed_nearer m next (shared_nodes o.layout) _ (omega (arith, b)) (near (shared_nodes o.layout) f)
 
-  pub value_lighter : (ps : List SeatedPass) (m : SuccessorRun) (key : ℕ) (n : NodeNo) (v : ℕ) (found : Option Pair) → IsTold ps (placed m (ValueNext key n)) v → successor_left (placed m (ValidateNext found)) (shared_nodes layout) < successor_left (placed m (ValueNext key n)) (shared_nodes layout)
+  pub value_lighter : (ps : List SeatedPass) (m : SuccessorRun) (key : ℕ) (n : NodeNo) (v : ℕ) (found : Option Pair) → IsTold ps (placed m (ValueNext key n)) v → successor_left (placed m (ValidateNext found)) (shared_nodes o.layout) < successor_left (placed m (ValueNext key n)) (shared_nodes o.layout)
   value_lighter ps m key n v found x = let i = (r.tells (placed m (ValueNext key n)) _ (Some v) x.so.0).4.0.some in omega (arith, i)
 
   -- It looks
@@ -134,7 +134,7 @@ module _ {M : Type 0} (allows : Layout → History → ℕ → Type 0) (ready : 
     looks_there : (old now : SuccessorRun) (c : Call) (h : History) (n : ℕ) → now.key ≡ old.key → now.snaps ≡ old.snaps → now.right ≡ old.right → LooksAt old c h route level side n → LooksAt now c h route level side n
     looks_there old now c h n k s t x = record { stood = x.stood; fork = x.fork; deep = x.deep; side_is = rw k x.side_is; right = rw t x.right; at_fork = rw (k, s, t) x.at_fork }
 
-    pub looker : Looker allows ready waits same layout number
+    pub looker : Looker o
     looker = record {
       call = r.call;
       is_layout = r.is_layout;
@@ -156,16 +156,16 @@ module _ {M : Type 0} (allows : Layout → History → ℕ → Type 0) (ready : 
     }
 
     -- it begins to look
-    pub begins_look : (ps : List SeatedPass) (n : NodeNo) → SearchWaits allows ready waits same layout number r ps m (LookNext route level side n) → LookerWaits allows ready waits same layout number looker ps (llx_at n Marked) (load LoadMarked (marked n.0))
+    pub begins_look : (ps : List SeatedPass) (n : NodeNo) → SearchWaits r ps m (LookNext route level side n) → LookerWaits looker ps (llx_at n Marked) (load LoadMarked (marked n.0))
     unfolding looker
     begins_look ps n x = x
 
     -- with the snapshot it goes on as its turn says
     looked : (ps : List SeatedPass) (now : SuccessorRun) (n : NodeNo) (snap : Snap) (turn : Turn (Result (Option Pair) Refused)) → IsSameSuccessor m now
         → ((begin h : History) → IsInTry r.call h begin m.limit m.tries → Goes m (from r.call begin) h → LooksAt m (from r.call begin) h route level side snap.node.0 → IsSnapshot r.call.layout h snap.node.0 snap → MatchTurn turn (SuccessorWaits now r.call h) (SuccessorAnswers now r.call h))
-        → LookerSnaps allows ready waits same layout number looker ps n snap → ReaderStands allows ready waits same SuccessorIsReady SuccessorWaits IsSameSuccessor layout number r ps SuccessorAnswers now turn
+        → LookerSnaps looker ps n snap → ReaderStands r ps SuccessorAnswers now turn
     unfolding looker
-    looked ps now n snap turn is goes x = told_on allows ready waits same SuccessorIsReady SuccessorWaits SuccessorAnswers IsSameSuccessor layout number r ps (at x.last) now (Some x.told) turn is next x.so
+    looked ps now n snap turn is goes x = told_on SuccessorAnswers r ps (at x.last) now (Some x.told) turn is next x.so
       where
         here : x.last.node ≡ snap.node
         here = x.is_node ∙ sym x.of_node
@@ -177,22 +177,22 @@ module _ {M : Type 0} (allows : Layout → History → ℕ → Type 0) (ready : 
 
     pub looks_on : (ps : List SeatedPass) (now : SuccessorRun) (n : NodeNo) (snap : Snap) (next : SuccessorNext) → IsSameSuccessor m now → now.tries ≡ m.tries
         → ((c : Call) (h : History) → Goes m c h → LooksAt m c h route level side snap.node.0 → IsSnapshot c.layout h snap.node.0 snap → Goes now c h × MayDo now c h next)
-        → LookerSnaps allows ready waits same layout number looker ps n snap → SearchWaits allows ready waits same layout number r ps now next
+        → LookerSnaps looker ps n snap → SearchWaits r ps now next
     looks_on ps now n snap next is tries goes = looked ps (placed now next) n snap (Ask (next_step now next)) (same_placed m now next is)
         (λ begin h try g l s. let k = goes (from r.call begin) h g l s in next_waits now r.call h next (begin, rw (is.1, tries) try, k.0, k.1))
 
     pub looks_last : (ps : List SeatedPass) (now : SuccessorRun) (n : NodeNo) (snap : Snap) (a : Refused) → IsSameSuccessor m now
         → ((c : Call) (h : History) → Goes m c h → LooksAt m c h route level side snap.node.0 → IsSnapshot c.layout h snap.node.0 snap → GoesOn c h now (Err a))
-        → LookerSnaps allows ready waits same layout number looker ps n snap → SearchEnds allows ready waits same layout number r ps now (Err a)
+        → LookerSnaps looker ps n snap → SearchEnds r ps now (Err a)
     looks_last ps now n snap a is goes = looked ps now n snap (Done (Err a)) is (λ begin h try g l s. no_memory now r.call begin h a (goes (from r.call begin) h g l s))
 
     -- its fork is no deeper than the taken nodes allow
-    pub level_fits : (ps : List SeatedPass) (n : NodeNo) (snap : Snap) → LookerSnaps allows ready waits same layout number looker ps n snap → level + 1 < 2 + shared_nodes layout
+    pub level_fits : (ps : List SeatedPass) (n : NodeNo) (snap : Snap) → LookerSnaps looker ps n snap → level + 1 < 2 + shared_nodes o.layout
     unfolding looker
     level_fits ps n snap x = told_fits ps (at x.last) x.told x.so
 
     -- where something is in the way, it stands there
-    pub looks_again : (ps : List SeatedPass) (asked : Step) (n : NodeNo) (b : Bool) (scx : ScxNo) → asked ≡ load LoadState (state scx.0) → LookerWaits allows ready waits same layout number looker ps (llx_at n (StateAgain b scx)) (load LoadState (state scx.0)) → ReaderWaits allows ready waits same SuccessorIsReady SuccessorWaits IsSameSuccessor layout number r ps (at (llx_at n (StateAgain b scx))) asked
+    pub looks_again : (ps : List SeatedPass) (asked : Step) (n : NodeNo) (b : Bool) (scx : ScxNo) → asked ≡ load LoadState (state scx.0) → LookerWaits looker ps (llx_at n (StateAgain b scx)) (load LoadState (state scx.0)) → ReaderWaits r ps (at (llx_at n (StateAgain b scx))) asked
     unfolding looker
     looks_again ps asked n b scx step x = rw step x
 
@@ -201,7 +201,7 @@ module _ {M : Type 0} (allows : Layout → History → ℕ → Type 0) (ready : 
     abbrev asking : ℕ → SuccessorRun
     asking n = record m { at = Validate n found }
 
-    pub validator : Validator allows ready waits same layout number snaps
+    pub validator : Validator o snaps
     validator = record {
       call = r.call;
       is_layout = r.is_layout;
@@ -224,15 +224,15 @@ module _ {M : Type 0} (allows : Layout → History → ℕ → Type 0) (ready : 
       stays = λ n. r.stays (asking n) (asking (suc n)) (itself (asking n));
     }
 
-    pub begins_vlx : (ps : List SeatedPass) → SearchWaits allows ready waits same layout number r ps m (ValidateNext found) → ValidatorWaits allows ready waits same layout number snaps validator ps 1 (load LoadInfo (info (snap_at snaps 0).node.0))
+    pub begins_vlx : (ps : List SeatedPass) → SearchWaits r ps m (ValidateNext found) → ValidatorWaits validator ps 1 (load LoadInfo (info (snap_at snaps 0).node.0))
     unfolding validator
-    begins_vlx ps x = subst (λ (l : List Snap). ReaderWaits allows ready waits same SuccessorIsReady SuccessorWaits IsSameSuccessor layout number r ps (asking 1) (load LoadInfo (info (snap_at l 0).node.0))) (sym e) x
+    begins_vlx ps x = subst (λ (l : List Snap). ReaderWaits r ps (asking 1) (load LoadInfo (info (snap_at l 0).node.0))) (sym e) x
 
-    pub told_vlx : (ps : List SeatedPass) (n v : ℕ) → ValidatorIsTold allows ready waits same layout number snaps validator ps n v → IsTold ps (asking n) v
+    pub told_vlx : (ps : List SeatedPass) (n v : ℕ) → ValidatorIsTold validator ps n v → IsTold ps (asking n) v
     unfolding validator
     told_vlx ps n v x = x
 
-    pub some_snap : (ps : List SeatedPass) → SearchWaits allows ready waits same layout number r ps m (ValidateNext found) → 0 < length snaps
+    pub some_snap : (ps : List SeatedPass) → SearchWaits r ps m (ValidateNext found) → 0 < length snaps
     some_snap ps x = let w = r.opens (placed m (ValidateNext found)) _ _ x.so.0 in let i = w.3.2.looks.within in rw e (omega (arith, i))
 
   -- It walks
@@ -240,7 +240,7 @@ module _ {M : Type 0} (allows : Layout → History → ℕ → Type 0) (ready : 
     abbrev walking : WalkRun → NodeNo → SuccessorRun
     walking walk turn = record m { at = Walk walk turn }
 
-    pub walker : Walker allows ready waits same layout number
+    pub walker : Walker o
     walker = record {
       call = r.call;
       is_layout = r.is_layout;
@@ -256,7 +256,7 @@ module _ {M : Type 0} (allows : Layout → History → ℕ → Type 0) (ready : 
     }
 
     -- it begins its walk, with no snapshot
-    pub walks : (ps : List SeatedPass) (old : SuccessorRun) → m.key ≡ old.key → m.limit ≡ old.limit → m.tries ≡ old.tries → m.snaps.items ≡ [] → SearchBegins allows ready waits same layout number r ps old → WalkerWaits allows ready waits same layout number walker ps (walk_from m.key) record { 0 = 0 } (load LoadSettled (node 0 HeadWord))
+    pub walks : (ps : List SeatedPass) (old : SuccessorRun) → m.key ≡ old.key → m.limit ≡ old.limit → m.tries ≡ old.tries → m.snaps.items ≡ [] → SearchBegins r ps old → WalkerWaits walker ps (walk_from m.key) record { 0 = 0 } (load LoadSettled (node 0 HeadWord))
     unfolding walker
     walks ps old key limit tries none x = record {
       known = x.known;
@@ -285,7 +285,7 @@ module _ {M : Type 0} (allows : Layout → History → ℕ → Type 0) (ready : 
             )
 
     -- behind the leaf that it finds it looks at the last fork where it has turned left
-    pub walk_looks : (ps : List SeatedPass) (f : Found) (turn : NodeNo) → WalkerFinds allows ready waits same layout number walker ps m.key turn f → SearchWaits allows ready waits same layout number r ps m (LookNext Along 0 Left turn)
+    pub walk_looks : (ps : List SeatedPass) (f : Found) (turn : NodeNo) → WalkerFinds walker ps m.key turn f → SearchWaits r ps m (LookNext Along 0 Left turn)
     unfolding walker
     walk_looks ps f turn x = on_to ps (walking x.last turn) m (LookNext Along 0 Left turn) x.told (itself m)
         (λ h run y. let c = from r.call y.0 in let k = goes_there (walking x.last turn) m c h refl refl y.2 in (y.0, y.1, k, walk_found m turn f c h k y.4.1 (x.finds c h y.4.2))) x.so

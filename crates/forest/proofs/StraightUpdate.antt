@@ -7,7 +7,6 @@ use Rattle.arena.specs.declared.machine.Turn.{Turn}
 use Rattle.arena.specs.declared.machine.Turn.TheVariants.{Ask, Done}
 use Rattle.arena.specs.declared.number.NodeNo.{NodeNo}
 use Rattle.arena.specs.declared.step.Kind.TheVariants.{LoadMarked, LoadSettled, LoadState}
-use Rattle.arena.specs.declared.step.Step.{Step}
 use Rattle.arena.specs.declared.word.NodeWord.TheVariants.{Head, Key, Value, Child}
 use Rattle.arena.specs.declared.word.Side.TheVariants.{Right}
 use Rattle.arena.specs.declared.step.Access.TheVariants.{Store}
@@ -83,6 +82,7 @@ use Rattle.forest.specs.StraightUpdate.{Updater, HasGoneOn, UpdaterBegins, Updat
 use Rattle.forest.specs.StraightWalk.{Walker, WalkerWaits, WalkerFinds}
 use Rattle.forest.specs.TableRule.{history_of}
 use Rattle.forest.specs.Traces.{goes_on, shared_nodes, weight}
+use Rattle.forest.specs.CallKinds.{Calls}
 use Rattle.forest.proofs.Advances.{few_taken}
 
 -- an update is what its parts are
@@ -120,13 +120,13 @@ may_stop_there e c h m f NothingStop x = x
 may_stop_there e c h m f (LostStop n s) x = (record { run = x.0.run; small = x.0.small; since = x.0.since; rests = x.0.rests }, x.1)
 may_stop_there e c h m f (FullStop full) x = (x.0, full_there e c h m Start full x.1)
 
-module _ {M E : Type 0} (allows : Layout → History → ℕ → Type 0) (ready : M → Call → History → Option ℕ → Type 0) (waits : M → Call → History → Step → Type 0) (same : M → M → Type 0) (e : EditMeaning E) (layout : Layout) (number : ℕ) (u : Updater allows ready waits same e layout number) where
+module _ {M E : Type 0} {o : Calls M} {e : EditMeaning E} (u : Updater o e) where
   -- a call is made by one of the passes
-  pub has_passes : 0 < layout.passes
+  pub has_passes : 0 < o.layout.passes
   has_passes = subst (λ (l : Layout). 0 < l.passes) u.is_layout (let i = u.call.is_pass in omega (arith, i))
 
   -- once it is over no try may take any more
-  all_spent : {A : Type 0} (old : UpdateRun E UpdateAt) (m : UpdateRun E A) (left : ℕ) → HasGoneOn allows ready waits same e layout number old m left left → HasGoneOn allows ready waits same e layout number old m 0 0
+  all_spent : {A : Type 0} (old : UpdateRun E UpdateAt) (m : UpdateRun E A) (left : ℕ) → HasGoneOn e old m left left → HasGoneOn e old m 0 0
   all_spent old m left x = record { edit = x.edit; called = x.called; limit = x.limit; tries = x.tries; spends = (let s = x.spends.0 in omega (arith, s), let s = x.spends.1 in omega (arith, s), let s = x.spends.2 in omega (arith, s)) }
 
   -- the update with its walk at a place
@@ -134,7 +134,7 @@ module _ {M E : Type 0} (allows : Layout → History → ℕ → Type 0) (ready 
   walking m walk = standing m (Walk walk)
 
   -- a machine that updates walks, and keeps no fork
-  pub walker : {A : Type 0} → UpdateRun E A → Walker allows ready waits same layout number
+  pub walker : {A : Type 0} → UpdateRun E A → Walker o
   walker m = record {
     call = u.call;
     is_layout = u.is_layout;
@@ -151,7 +151,7 @@ module _ {M E : Type 0} (allows : Layout → History → ℕ → Type 0) (ready 
   }
 
   -- an update that may begin begins its walk
-  pub walks : (ps : List SeatedPass) {A : Type 0} (m : UpdateRun E A) (key : ℕ) → e.goal m.edit ≡ ToKey key → UpdaterBegins allows ready waits same e layout number u ps m → WalkerWaits allows ready waits same layout number (walker m) ps (walk_from key) record { 0 = 0 } (load LoadSettled (node 0 Head))
+  pub walks : (ps : List SeatedPass) {A : Type 0} (m : UpdateRun E A) (key : ℕ) → e.goal m.edit ≡ ToKey key → UpdaterBegins u ps m → WalkerWaits (walker m) ps (walk_from key) record { 0 = 0 } (load LoadSettled (node 0 Head))
   unfolding walker
   walks ps m key goal x = record {
     known = x.known;
@@ -189,14 +189,14 @@ module _ {M E : Type 0} (allows : Layout → History → ℕ → Type 0) (ready 
 
   -- what its try does next, once it has told so and no more of the share is taken than may
   module _ (ps : List SeatedPass) {A : Type 0} (m : UpdateRun E A) (f : Found) where
-    goes_from : (old : UpdateRun E UpdateAt) (h : History) (got : Option ℕ) (next : Next) → ready (u.with_run old) u.call h got → IsSameUpdate old m → m.tries ≡ old.tries → HasSpent e old.share m f (Ok next) (node_tries old old.at) (scx_tries old old.at) → GoesOn e u.call h m f (Ok next) → waits (u.with_run (placed e m f next)) u.call h (next_step e m f next)
+    goes_from : (old : UpdateRun E UpdateAt) (h : History) (got : Option ℕ) (next : Next) → o.ready (u.with_run old) u.call h got → IsSameUpdate old m → m.tries ≡ old.tries → HasSpent e old.share m f (Ok next) (node_tries old old.at) (scx_tries old old.at) → GoesOn e u.call h m f (Ok next) → o.waits (u.with_run (placed e m f next)) u.call h (next_step e m f next)
     goes_from old h got next was same tries spent z = u.turns old (placed e m f next) h got (next_step e m f next) record { edit = p.0 ∙ same.0; called = p.1 ∙ same.1; limit = p.2 ∙ same.2; tries = keeps_tries old.tries (placed e m f next).tries (placed_tries m f next ∙ tries); spends = spent } was z
       where
         p : IsSameUpdate m (placed e m f next)
         p = placed_same e m f next
 
     -- behind the step of which it was told it goes on so
-    pub goes_behind : (old : UpdateRun E UpdateAt) (v : ℕ) (next : Result Next Stop) → IsSameUpdate old m → m.tries ≡ old.tries → HasSpent e old.share m f next (node_tries old old.at) (scx_tries old old.at) → (x : UpdaterIsTold allows ready waits same e layout number u ps old v) → GoesOn e u.call (history_of u.call.layout.mode x.known) m f next → UpdaterGoesOn allows ready waits same e layout number u ps m f next
+    pub goes_behind : (old : UpdateRun E UpdateAt) (v : ℕ) (next : Result Next Stop) → IsSameUpdate old m → m.tries ≡ old.tries → HasSpent e old.share m f next (node_tries old old.at) (scx_tries old old.at) → (x : UpdaterIsTold u ps old v) → GoesOn e u.call (history_of u.call.layout.mode x.known) m f next → UpdaterGoesOn u ps m f next
     goes_behind old v (Ok next) is tries spent x z = record { known = x.known; is = x.is; sound = x.sound; so = (goes_from old (history_of u.call.layout.mode x.known) (Some v) next x.so.0 is tries spent z, goes_on (u.with_run old) (u.stays old (placed e m f next) ((placed_same e m f next).0 ∙ is.0) (keeps_tries old.tries (placed e m f next).tries (placed_tries m f next ∙ tries))) x.so.1) }
     goes_behind old v (Err stop) is tries spent x z = record { known = x.known; is = x.is; sound = x.sound; so = record { old = old; got = Some v; was = x.so.0; goes = record { edit = is.0; called = is.1; limit = is.2; tries = keeps_tries old.tries m.tries tries; spends = spent }; tries = tries; may = z; course = x.so.1 } }
 
@@ -204,7 +204,7 @@ module _ {M E : Type 0} (allows : Layout → History → ℕ → Type 0) (ready 
     fewer_then {old} {mid} {now} e x = subst (λ (k : ℕ). (k ≤ now + 1) × (now ≤ k)) e x
 
     -- where its try ends so, it stands as the turn says that it makes of that
-    pub stops : (now : UpdateRun E UpdateAt) (stop : Stop) (turn : Turn Updated) → IsSameUpdate m now → (m.tries ≤ now.tries + 1) × (now.tries ≤ m.tries) → IsSpending e turn m.share now m.tries m.tries → ((h : History) → IsRun TreeAllows u.call.layout h → MayStop e u.call h m f stop → UpdateTurn e u.call h now turn) → UpdaterStops allows ready waits same e layout number u ps m f stop → UpdaterStands allows ready waits same e layout number u ps now turn
+    pub stops : (now : UpdateRun E UpdateAt) (stop : Stop) (turn : Turn Updated) → IsSameUpdate m now → (m.tries ≤ now.tries + 1) × (now.tries ≤ m.tries) → IsSpending e turn m.share now m.tries m.tries → ((h : History) → IsRun TreeAllows u.call.layout h → MayStop e u.call h m f stop → UpdateTurn e u.call h now turn) → UpdaterStops u ps m f stop → UpdaterStands u ps now turn
     stops now stop (Ask s) is fewer spent next x = record {
       known = x.known;
       is = x.is;
@@ -224,7 +224,7 @@ module _ {M E : Type 0} (allows : Layout → History → ℕ → Type 0) (ready 
   -- behind its walk it goes on as its try does
   pub finds : (ps : List SeatedPass) {A : Type 0} (m now : UpdateRun E A) (key : ℕ) (turn : NodeNo) (f : Found) (next : Result Next Stop) → e.goal m.edit ≡ ToKey key → IsSameUpdate m now → now.tries ≡ m.tries → HasSpent e m.share now f next (m.tries + 1) (m.tries + 1)
       → ((b h : History) → IsRun TreeAllows u.call.layout h → IsTry u.call b h m.limit m.tries → IsUntouched u.call b m.share → Begins e m (from u.call b) h → IsQuietSince u.call.layout u.call.pass b h → HasFound (e.goal m.edit) (from u.call b) h f → GoesOn e u.call h now f next)
-      → WalkerFinds allows ready waits same layout number (walker m) ps key turn f → UpdaterGoesOn allows ready waits same e layout number u ps now f next
+      → WalkerFinds (walker m) ps key turn f → UpdaterGoesOn u ps now f next
   unfolding walker
   finds ps m now key turn f next goal is tries spent goes x =
       goes_behind ps now f (walking m x.last) x.told next is tries spent x.so (goes y.0 _ (u.tree _ x.so.sound) y.1 y.2 record { run = w.1.run; small = w.0.small; since = own_since (from u.call y.0) _ w.1.own; rests = record { share = w.0.rests.share; over = w.0.rests.over } } w.0.quiet (rw goal (x.finds (from u.call y.0) _ w.1)))
@@ -236,15 +236,15 @@ module _ {M E : Type 0} (allows : Layout → History → ℕ → Type 0) (ready 
       w = y.3
 
   -- what it goes on with is what its equal is
-  pub goes_as : (ps : List SeatedPass) {A : Type 0} (m : UpdateRun E A) (f : Found) (next equal : Result Next Stop) → next ≡ equal → UpdaterGoesOn allows ready waits same e layout number u ps m f next → UpdaterGoesOn allows ready waits same e layout number u ps m f equal
-  goes_as ps m f next equal is x = subst (λ (n : Result Next Stop). UpdaterGoesOn allows ready waits same e layout number u ps m f n) is x
+  pub goes_as : (ps : List SeatedPass) {A : Type 0} (m : UpdateRun E A) (f : Found) (next equal : Result Next Stop) → next ≡ equal → UpdaterGoesOn u ps m f next → UpdaterGoesOn u ps m f equal
+  goes_as ps m f next equal is x = subst (λ (n : Result Next Stop). UpdaterGoesOn u ps m f n) is x
 
   -- the update with an LLX at a place
   abbrev pub looking : {A : Type 0} → UpdateRun E A → Found → LlxRun → UpdateRun E UpdateAt
   looking m f llx = standing m (Look f llx)
 
   -- a machine that updates looks at nodes
-  pub looker : {A : Type 0} → UpdateRun E A → Found → Looker allows ready waits same layout number
+  pub looker : {A : Type 0} → UpdateRun E A → Found → Looker o
   looker m f = record {
     call = u.call;
     is_layout = u.is_layout;
@@ -268,14 +268,14 @@ module _ {M E : Type 0} (allows : Layout → History → ℕ → Type 0) (ready 
   }
 
   -- an update whose try looks at a node has begun to look at it
-  pub begins_look : (ps : List SeatedPass) {A : Type 0} (m : UpdateRun E A) (f : Found) (node : NodeNo) → UpdaterTries allows ready waits same e layout number u ps m f (LookNext node) → LookerWaits allows ready waits same layout number (looker m f) ps (llx_at node Marked) (load LoadMarked (marked node.0))
+  pub begins_look : (ps : List SeatedPass) {A : Type 0} (m : UpdateRun E A) (f : Found) (node : NodeNo) → UpdaterTries u ps m f (LookNext node) → LookerWaits (looker m f) ps (llx_at node Marked) (load LoadMarked (marked node.0))
   unfolding looker
   begins_look ps m f node x = x
 
   -- with the snapshot it goes on as its turn says
   pub looks_on : (ps : List SeatedPass) {A : Type 0} (m now : UpdateRun E A) (f : Found) (node : NodeNo) (snap : Snap) (next : Result Next Stop) → IsSameUpdate m now → now.tries ≡ m.tries → HasSpent e m.share now f next (m.tries + 1) (m.tries + 1)
       → ((b h : History) → IsRun TreeAllows u.call.layout h → IsTry u.call b h m.limit m.tries → CanLook e m (from u.call b) h f → e.looks m.edit f m.snaps.items ≡ At snap.node → IsSnapshot u.call.layout h snap.node.0 snap → HasFoundThere u.call.pass h b snap.node.0 snap.scx.0 → GoesOn e u.call h now f next)
-      → LookerSnaps allows ready waits same layout number (looker m f) ps node snap → UpdaterGoesOn allows ready waits same e layout number u ps now f next
+      → LookerSnaps (looker m f) ps node snap → UpdaterGoesOn u ps now f next
   unfolding looker
   looks_on ps m now f node snap next is tries spent goes x = goes_behind ps now f (looking m f x.last) x.told next is tries spent x.so (goes y.0 h (u.tree h x.so.sound) y.1 can named snapped met)
     where
@@ -301,24 +301,24 @@ module _ {M E : Type 0} (allows : Layout → History → ℕ → Type 0) (ready 
       met = there_wider u.call.pass h y.3.0 y.0 snap.node.0 snap.scx.0 l.since (subst (λ (n : NodeNo). HasFoundThere u.call.pass h y.3.0 n.0 snap.scx.0) (sym x.of_node) (x.found (from (from u.call y.0) y.3.0) h (u.tree h x.so.sound) y.3.2))
 
   -- where something is in the way, it waits for the state again
-  pub looks_again : (ps : List SeatedPass) {A : Type 0} (m : UpdateRun E A) (f : Found) (node : NodeNo) (b : Bool) (scx : ScxNo) → LookerWaits allows ready waits same layout number (looker m f) ps (llx_at node (StateAgain b scx)) (load LoadState (state scx.0)) → UpdaterTries allows ready waits same e layout number u ps m f (WaitNext node b scx)
+  pub looks_again : (ps : List SeatedPass) {A : Type 0} (m : UpdateRun E A) (f : Found) (node : NodeNo) (b : Bool) (scx : ScxNo) → LookerWaits (looker m f) ps (llx_at node (StateAgain b scx)) (load LoadState (state scx.0)) → UpdaterTries u ps m f (WaitNext node b scx)
   unfolding looker
   looks_again ps m f node b scx x = x
 
   -- where the try ends with nothing to make, or with too little left, it has answered so
-  pub ends_needless : (ps : List SeatedPass) {A : Type 0} (m : UpdateRun E A) (f : Found) → UpdaterStops allows ready waits same e layout number u ps m f NothingStop → UpdaterEnds allows ready waits same e layout number u ps m (done_with f)
+  pub ends_needless : (ps : List SeatedPass) {A : Type 0} (m : UpdateRun E A) (f : Found) → UpdaterStops u ps m f NothingStop → UpdaterEnds u ps m (done_with f)
   ends_needless ps m f x = record { known = x.known; is = x.is; sound = x.sound; so = let y = x.so in record { old = y.old; got = y.got; was = y.was; goes = all_spent y.old m m.tries y.goes; answers = y.may; course = y.course } }
 
-  pub ends_full : (ps : List SeatedPass) {A : Type 0} (m : UpdateRun E A) (f : Found) (full : Full) → UpdaterStops allows ready waits same e layout number u ps m f (FullStop full) → UpdaterEnds allows ready waits same e layout number u ps m (FullAnswer full)
+  pub ends_full : (ps : List SeatedPass) {A : Type 0} (m : UpdateRun E A) (f : Found) (full : Full) → UpdaterStops u ps m f (FullStop full) → UpdaterEnds u ps m (FullAnswer full)
   ends_full ps m f full x = record { known = x.known; is = x.is; sound = x.sound; so = let y = x.so in record { old = y.old; got = y.got; was = y.was; goes = all_spent y.old m m.tries y.goes; answers = y.may; course = y.course } }
 
   -- Its machine goes on
 
   -- once its machine has begun what comes next, it stands there
-  pub stands_there : (ps : List SeatedPass) {A : Type 0} (m : UpdateRun E A) (start now : UpdateRun E UpdateAt) (f : Found) (next : Next) (turn : Turn Updated) → start ≡ standing m Start → now ≡ placed e start f next → turn ≡ Ask (next_step e start f next) → UpdaterTries allows ready waits same e layout number u ps m f next → UpdaterStands allows ready waits same e layout number u ps now turn
+  pub stands_there : (ps : List SeatedPass) {A : Type 0} (m : UpdateRun E A) (start now : UpdateRun E UpdateAt) (f : Found) (next : Next) (turn : Turn Updated) → start ≡ standing m Start → now ≡ placed e start f next → turn ≡ Ask (next_step e start f next) → UpdaterTries u ps m f next → UpdaterStands u ps now turn
   stands_there ps m start now f next turn is place asks x = rw (place, asks, is) (there next x)
     where
-      there : (n : Next) → UpdaterTries allows ready waits same e layout number u ps m f n → UpdaterTries allows ready waits same e layout number u ps (standing m Start) f n
+      there : (n : Next) → UpdaterTries u ps m f n → UpdaterTries u ps (standing m Start) f n
       there (LookNext k) y = y
       there (WaitNext k b scx) y = y
       there (LoadNext nth part) y = y
@@ -326,20 +326,20 @@ module _ {M E : Type 0} (allows : Layout → History → ℕ → Type 0) (ready 
       there (ChangeNext scx) y = y
 
   -- so too where its try ends
-  pub stops_there : (ps : List SeatedPass) {A : Type 0} (m : UpdateRun E A) (start now : UpdateRun E UpdateAt) (f : Found) (stop : Stop) (turn : Turn Updated) → start ≡ standing m Start → IsSameUpdate start now → (start.tries ≤ now.tries + 1) × (now.tries ≤ start.tries) → IsSpending e turn start.share now start.tries start.tries → ((h : History) → IsRun TreeAllows u.call.layout h → MayStop e u.call h start f stop → UpdateTurn e u.call h now turn) → UpdaterStops allows ready waits same e layout number u ps m f stop → UpdaterStands allows ready waits same e layout number u ps now turn
-  stops_there ps m start now f stop turn is same_run fewer spent next x = stops ps start f now stop turn same_run fewer spent next (subst (λ (r : UpdateRun E UpdateAt). UpdaterStops allows ready waits same e layout number u ps r f stop) (sym is)
+  pub stops_there : (ps : List SeatedPass) {A : Type 0} (m : UpdateRun E A) (start now : UpdateRun E UpdateAt) (f : Found) (stop : Stop) (turn : Turn Updated) → start ≡ standing m Start → IsSameUpdate start now → (start.tries ≤ now.tries + 1) × (now.tries ≤ start.tries) → IsSpending e turn start.share now start.tries start.tries → ((h : History) → IsRun TreeAllows u.call.layout h → MayStop e u.call h start f stop → UpdateTurn e u.call h now turn) → UpdaterStops u ps m f stop → UpdaterStands u ps now turn
+  stops_there ps m start now f stop turn is same_run fewer spent next x = stops ps start f now stop turn same_run fewer spent next (subst (λ (r : UpdateRun E UpdateAt). UpdaterStops u ps r f stop) (sym is)
       record { known = x.known; is = x.is; sound = x.sound; so = let y = x.so in record { old = y.old; got = y.got; was = y.was; goes = record { edit = y.goes.edit; called = y.goes.called; limit = y.goes.limit; tries = y.goes.tries; spends = y.goes.spends }; tries = y.tries; may = may_stop_there e u.call _ m f stop y.may; course = y.course } })
 
   -- so too where its SCX could not freeze a node
-  pub blocks_there : (ps : List SeatedPass) {A : Type 0} (m : UpdateRun E A) (start now : UpdateRun E UpdateAt) (f : Found) (scx : ScxNo) (help : HelpRun) (turn : Turn Updated) → start ≡ standing m Start → now ≡ standing start (Scx f record { scx = scx; call = start.call; update = update_of e start f; at = Help help }) → turn ≡ Ask (all_frozen_load scx) → UpdaterIsBlocked allows ready waits same e layout number u ps m f scx help → UpdaterStands allows ready waits same e layout number u ps now turn
+  pub blocks_there : (ps : List SeatedPass) {A : Type 0} (m : UpdateRun E A) (start now : UpdateRun E UpdateAt) (f : Found) (scx : ScxNo) (help : HelpRun) (turn : Turn Updated) → start ≡ standing m Start → now ≡ standing start (Scx f record { scx = scx; call = start.call; update = update_of e start f; at = Help help }) → turn ≡ Ask (all_frozen_load scx) → UpdaterIsBlocked u ps m f scx help → UpdaterStands u ps now turn
   blocks_there ps m start now f scx help turn is place asks x = rw (place, asks, is) x
 
   -- while it fills a fresh node there is an SCX-record left
-  scx_is_left : (ps : List SeatedPass) (m : UpdateRun E UpdateAt) (v : ℕ) → UpdaterIsTold allows ready waits same e layout number u ps m v → HasScxLeft m m.at
+  scx_is_left : (ps : List SeatedPass) (m : UpdateRun E UpdateAt) (v : ℕ) → UpdaterIsTold u ps m v → HasScxLeft m m.at
   scx_is_left ps m v x = update_scx_left e m u.call _ (Some v) (u.tells m _ (Some v) x.so.0)
 
   -- told what its step has found, it stands as its turn says
-  pub told_on : (ps : List SeatedPass) (m now : UpdateRun E UpdateAt) (v : ℕ) (turn : Turn Updated) → IsSameUpdate m now → (m.tries ≤ now.tries + 1) × (now.tries ≤ m.tries) → (HasScxLeft m m.at → IsSpending e turn m.share now (node_tries m m.at) (scx_tries m m.at)) → ((h : History) → IsRun TreeAllows u.call.layout h → UpdateIsReady e m u.call h (Some v) → UpdateTurn e u.call h now turn) → UpdaterIsTold allows ready waits same e layout number u ps m v → UpdaterStands allows ready waits same e layout number u ps now turn
+  pub told_on : (ps : List SeatedPass) (m now : UpdateRun E UpdateAt) (v : ℕ) (turn : Turn Updated) → IsSameUpdate m now → (m.tries ≤ now.tries + 1) × (now.tries ≤ m.tries) → (HasScxLeft m m.at → IsSpending e turn m.share now (node_tries m m.at) (scx_tries m m.at)) → ((h : History) → IsRun TreeAllows u.call.layout h → UpdateIsReady e m u.call h (Some v) → UpdateTurn e u.call h now turn) → UpdaterIsTold u ps m v → UpdaterStands u ps now turn
   told_on ps m now v (Ask s) is fewer spent next x = record {
     known = x.known;
     is = x.is;
@@ -357,17 +357,17 @@ module _ {M E : Type 0} (allows : Layout → History → ℕ → Type 0) (ready 
   }
 
   -- what it is told fits the taken nodes
-  pub told_fits : (ps : List SeatedPass) (m : UpdateRun E UpdateAt) (v : ℕ) → UpdaterIsTold allows ready waits same e layout number u ps m v → UpdateFits e m (Some v) (shared_nodes layout)
-  told_fits ps m v x = update_told e m u.call _ (Some v) (shared_nodes layout) (u.tree _ x.sound) (u.tells m _ (Some v) x.so.0) (few_taken allows layout u.call _ u.is_layout x.sound)
+  pub told_fits : (ps : List SeatedPass) (m : UpdateRun E UpdateAt) (v : ℕ) → UpdaterIsTold u ps m v → UpdateFits e m (Some v) (shared_nodes o.layout)
+  told_fits ps m v x = update_told e m u.call _ (Some v) (shared_nodes o.layout) (u.tree _ x.sound) (u.tells m _ (Some v) x.so.0) (few_taken o.allows o.layout u.call _ u.is_layout x.sound)
 
   -- its answer is that of the update that stands nowhere again
-  pub ends_nowhere : (ps : List SeatedPass) {A B : Type 0} (m : UpdateRun E A) (at : B) (now : UpdateRun E B) (a : Updated) → now ≡ standing m at → UpdaterEnds allows ready waits same e layout number u ps m a → UpdaterEnds allows ready waits same e layout number u ps now a
+  pub ends_nowhere : (ps : List SeatedPass) {A B : Type 0} (m : UpdateRun E A) (at : B) (now : UpdateRun E B) (a : Updated) → now ≡ standing m at → UpdaterEnds u ps m a → UpdaterEnds u ps now a
   ends_nowhere ps m at now a is x = rw is record { known = x.known; is = x.is; sound = x.sound; so = let y = x.so in record { old = y.old; got = y.got; was = y.was; goes = record { edit = y.goes.edit; called = y.goes.called; limit = y.goes.limit; tries = y.goes.tries; spends = y.goes.spends }; answers = answers_there e u.call _ m at a y.answers; course = y.course } }
 
   -- Loads and fills
 
   -- what it wants is one of the words that it may want
-  pub wants_word : (ps : List SeatedPass) {A : Type 0} (m : UpdateRun E A) (f : Found) (nth : Nth) (part : NodeWord) → UpdaterTries allows ready waits same e layout number u ps m f (LoadNext nth part) → IsWanted e m f nth part
+  pub wants_word : (ps : List SeatedPass) {A : Type 0} (m : UpdateRun E A) (f : Found) (nth : Nth) (part : NodeWord) → UpdaterTries u ps m f (LoadNext nth part) → IsWanted e m f nth part
   wants_word ps m f nth part x = (loads.wanted, has_place (e.needs m.edit f) nth loads.works.need)
     where
       loads : Loads e (placed e m f (LoadNext nth part)) (from u.call (u.opens (placed e m f (LoadNext nth part)) (history_of u.call.layout.mode x.known) (next_step e m f (LoadNext nth part)) x.so.0).0) (history_of u.call.layout.mode x.known) f nth part
@@ -399,7 +399,7 @@ module _ {M E : Type 0} (allows : Layout → History → ℕ → Type 0) (ready 
   -- with what the load has told it goes on as its turn says
   pub loads_on : (ps : List SeatedPass) {A : Type 0} (m now : UpdateRun E A) (f : Found) (nth : Nth) (part : NodeWord) (v : ℕ) (next : Result Next Stop) → IsSameUpdate m now → now.tries ≡ m.tries → HasSpent e m.share now f next m.tries (m.tries + 1)
       → ((b h : History) → IsRun TreeAllows u.call.layout h → IsTry u.call b h m.limit m.tries → Loads e m (from u.call b) h f nth part → value h (node (copied e m f) part) ≡ v → GoesOn e u.call h now f next)
-      → UpdaterIsTold allows ready waits same e layout number u ps (placed e m f (LoadNext nth part)) v → UpdaterGoesOn allows ready waits same e layout number u ps now f next
+      → UpdaterIsTold u ps (placed e m f (LoadNext nth part)) v → UpdaterGoesOn u ps now f next
   loads_on ps m now f nth part v next is tries spent goes x = goes_behind ps now f (placed e m f (LoadNext nth part)) v next is tries spent x (goes y.0 h (u.tree h x.sound) y.1 (loads_anywhere m f nth part (from u.call y.0) h y.3.0) y.3.1)
     where
       h : History
@@ -413,14 +413,14 @@ module _ {M E : Type 0} (allows : Layout → History → ℕ → Type 0) (ready 
   filling m f nth part = standing m (Fill f nth part)
 
   -- an update whose try fills a node waits for the first fill
-  pub begins_fill : (ps : List SeatedPass) {A : Type 0} (m : UpdateRun E A) (f : Found) (nth : Nth) (p : Piece) (n : NodeNo) (v : ℕ) → p ≡ e.pieces m.edit f m.snaps.items m.nodes m.loaded nth → n ≡ nth_node m.nodes nth → v ≡ word_of p Head → UpdaterTries allows ready waits same e layout number u ps m f (FillNext nth) → UpdaterWaits allows ready waits same e layout number u ps (filling m f nth Head) record { kind = FillKind; word = NodeOf n Head; access = Store v }
-  begins_fill ps m f nth p n v is_p is_n is_v x = subst (λ s. UpdaterWaits allows ready waits same e layout number u ps (filling m f nth Head) s) asked x
+  pub begins_fill : (ps : List SeatedPass) {A : Type 0} (m : UpdateRun E A) (f : Found) (nth : Nth) (p : Piece) (n : NodeNo) (v : ℕ) → p ≡ e.pieces m.edit f m.snaps.items m.nodes m.loaded nth → n ≡ nth_node m.nodes nth → v ≡ word_of p Head → UpdaterTries u ps m f (FillNext nth) → UpdaterWaits u ps (filling m f nth Head) record { kind = FillKind; word = NodeOf n Head; access = Store v }
+  begins_fill ps m f nth p n v is_p is_n is_v x = subst (λ s. UpdaterWaits u ps (filling m f nth Head) s) asked x
     where
       asked : next_step e m f (FillNext nth) ≡ record { kind = FillKind; word = NodeOf n Head; access = Store v }
       asked i = record { kind = FillKind; word = NodeOf (sym is_n i) Head; access = Store (sym (is_v ∙ ap (λ q. word_of q Head) is_p) i) }
 
   -- behind a fill that is not a node's last it waits for the next
-  pub fills_on : (ps : List SeatedPass) {A : Type 0} (m : UpdateRun E A) (f : Found) (nth : Nth) (part next : NodeWord) (told : ℕ) (p : Piece) (n : NodeNo) (v : ℕ) → FillsWell e → part_behind p part ≡ Some next → p ≡ e.pieces m.edit f m.snaps.items m.nodes m.loaded nth → n ≡ nth_node m.nodes nth → v ≡ word_of p next → UpdaterIsTold allows ready waits same e layout number u ps (filling m f nth part) told → UpdaterWaits allows ready waits same e layout number u ps (filling m f nth next) record { kind = FillKind; word = NodeOf n next; access = Store v }
+  pub fills_on : (ps : List SeatedPass) {A : Type 0} (m : UpdateRun E A) (f : Found) (nth : Nth) (part next : NodeWord) (told : ℕ) (p : Piece) (n : NodeNo) (v : ℕ) → FillsWell e → part_behind p part ≡ Some next → p ≡ e.pieces m.edit f m.snaps.items m.nodes m.loaded nth → n ≡ nth_node m.nodes nth → v ≡ word_of p next → UpdaterIsTold u ps (filling m f nth part) told → UpdaterWaits u ps (filling m f nth next) record { kind = FillKind; word = NodeOf n next; access = Store v }
   fills_on ps m f nth part next told p n v sound behind is_p is_n is_v x = record {
     known = x.known;
     is = x.is;
@@ -470,7 +470,7 @@ module _ {M E : Type 0} (allows : Layout → History → ℕ → Type 0) (ready 
   -- behind a node's last fill it goes on as its turn says
   pub fills_end : (ps : List SeatedPass) {A : Type 0} (m now : UpdateRun E A) (f : Found) (nth : Nth) (part : NodeWord) (v : ℕ) (next : Result Next Stop) → IsSameUpdate m now → now.tries ≡ m.tries → (0 < m.share.scx → HasSpent e m.share now f next m.tries (m.tries + 1))
       → ((b h : History) → IsRun TreeAllows u.call.layout h → IsTry u.call b h m.limit m.tries → IsFilledUpTo e m (from u.call b) h f nth part → GoesOn e u.call h now f next)
-      → UpdaterIsTold allows ready waits same e layout number u ps (filling m f nth part) v → UpdaterGoesOn allows ready waits same e layout number u ps now f next
+      → UpdaterIsTold u ps (filling m f nth part) v → UpdaterGoesOn u ps now f next
   fills_end ps m now f nth part v next is tries spent goes x = goes_behind ps now f (filling m f nth part) v next is tries (spent y.3.0.works.some) x (goes y.0 h (u.tree h x.sound) y.1 (filled_anywhere m f nth part (from u.call y.0) h y.3))
     where
       h : History
@@ -486,7 +486,7 @@ module _ {M E : Type 0} (allows : Layout → History → ℕ → Type 0) (ready 
   scxing m f scx = standing m (Scx f scx)
 
   -- a machine that updates makes an SCX
-  pub changer : {A : Type 0} → UpdateRun E A → Found → Changer TreeAllows allows ready waits same layout number
+  pub changer : {A : Type 0} → UpdateRun E A → Found → Changer TreeAllows o
   changer m f = record {
     call = u.call;
     is_layout = u.is_layout;
@@ -502,15 +502,15 @@ module _ {M E : Type 0} (allows : Layout → History → ℕ → Type 0) (ready 
 
   -- an update whose try makes its SCX waits for the fill of its plan
   pub begins_change : (ps : List SeatedPass) {A : Type 0} (m : UpdateRun E A) (f : Found) (scx : ScxNo) (snaps : List Snap) (plan : PlanOf) (old fresh : NodeNo) → snaps ≡ m.snaps.items → plan ≡ (update_of e m f).plan → old ≡ (update_of e m f).old → fresh ≡ (update_of e m f).fresh
-      → UpdaterTries allows ready waits same e layout number u ps m f (ChangeNext scx) → ChangerWaits TreeAllows allows ready waits same layout number (changer m f) ps (changing_at snaps record { scx = scx; call = m.call; plan = plan; old = old; fresh = fresh } AtPlan) (scx_fill scx Plan plan.0)
+      → UpdaterTries u ps m f (ChangeNext scx) → ChangerWaits (changer m f) ps (changing_at snaps record { scx = scx; call = m.call; plan = plan; old = old; fresh = fresh } AtPlan) (scx_fill scx Plan plan.0)
   unfolding changer
-  begins_change ps m f scx snaps plan old fresh is_snaps is_plan is_old is_fresh y = subst (λ (w : Update). UpdaterWaits allows ready waits same e layout number u ps (scxing m f record { scx = scx; call = m.call; update = w; at = AtPlan }) (scx_fill scx Plan w.plan.0)) is y
+  begins_change ps m f scx snaps plan old fresh is_snaps is_plan is_old is_fresh y = subst (λ (w : Update). UpdaterWaits u ps (scxing m f record { scx = scx; call = m.call; update = w; at = AtPlan }) (scx_fill scx Plan w.plan.0)) is y
     where
       is : update_of e m f ≡ record { snaps = snaps; plan = plan; old = old; fresh = fresh }
       is = update_is (update_of e m f) snaps plan old fresh is_snaps is_plan is_old is_fresh
 
   -- once that is done it has answered
-  pub changed : (ps : List SeatedPass) {A : Type 0} (m : UpdateRun E A) (f : Found) (snaps : List Snap) (change : Change) (help : HelpRun) (v : ℕ) → IsAtFound e → ChangerIsTold TreeAllows allows ready waits same layout number (changer m f) ps (changing_at snaps change (Help (record help { at = HelpCommit }))) v → UpdaterEnds allows ready waits same e layout number u ps m (done_with f)
+  pub changed : (ps : List SeatedPass) {A : Type 0} (m : UpdateRun E A) (f : Found) (snaps : List Snap) (change : Change) (help : HelpRun) (v : ℕ) → IsAtFound e → ChangerIsTold (changer m f) ps (changing_at snaps change (Help (record help { at = HelpCommit }))) v → UpdaterEnds u ps m (done_with f)
   unfolding changer
   changed ps m f snaps change help v sound x = record {
     known = x.known;
@@ -536,9 +536,9 @@ module _ {M E : Type 0} (allows : Layout → History → ℕ → Type 0) (ready 
           (let k = y.3.2 in done_at (from (from u.call y.0) y.3.0) h scx (record help { at = HelpCommit }) (u.tree h x.sound).lawful k.2 k.1 true (record help { at = HelpCommit }) k.0 refl refl)
 
   -- where a node could not be frozen, it waits to look whether all were
-  pub is_blocked : (ps : List SeatedPass) {A : Type 0} (m : UpdateRun E A) (f : Found) (scx : ScxNo) (help : HelpRun) (run : ScxRun) → run ≡ record { scx = scx; call = m.call; update = update_of e m f; at = Help help } → ChangerWaits TreeAllows allows ready waits same layout number (changer m f) ps run (all_frozen_load scx) → UpdaterIsBlocked allows ready waits same e layout number u ps m f scx help
+  pub is_blocked : (ps : List SeatedPass) {A : Type 0} (m : UpdateRun E A) (f : Found) (scx : ScxNo) (help : HelpRun) (run : ScxRun) → run ≡ record { scx = scx; call = m.call; update = update_of e m f; at = Help help } → ChangerWaits (changer m f) ps run (all_frozen_load scx) → UpdaterIsBlocked u ps m f scx help
   unfolding changer
-  is_blocked ps m f scx help run is x = subst (λ (r : ScxRun). UpdaterWaits allows ready waits same e layout number u ps (scxing m f r) (all_frozen_load scx)) is x
+  is_blocked ps m f scx help run is x = subst (λ (r : ScxRun). UpdaterWaits u ps (scxing m f r) (all_frozen_load scx)) is x
 
 -- its steps are those of its walk, and those that are left behind it
 pub walk_steps : (now old walk left tries rest : ℕ) → now ≤ old + walk → left ≤ tries + rest → now + left ≤ old + (tries + (walk + rest))

@@ -1,9 +1,8 @@
 -- From place to place of a range, of whatever machine makes one.
-use Rattle.std.proofs.Common.{◌≡◌, ◌∙◌, ℕ, suc, ◌+◌, ◌-◌, ◌*◌, ◌<◌, ◌≤◌, Bool, List, Option, Some, Result, Ok, Err, length, refl, sym, ap, subst, arith}
+use Rattle.std.proofs.Common.{◌≡◌, ◌∙◌, ℕ, suc, ◌+◌, ◌-◌, ◌*◌, ◌<◌, ◌≤◌, Bool, List, Some, Result, Ok, Err, length, refl, sym, ap, subst, arith}
 use Rattle.std.specs.Global.{Global}
 use Rattle.std.specs.Prelude.{Vec}
 use Rattle.arena.specs.declared.head.Head.{Head as HeadParts}
-use Rattle.arena.specs.declared.layout.Layout.{Layout}
 use Rattle.arena.specs.declared.machine.Turn.{Turn}
 use Rattle.arena.specs.declared.machine.Turn.TheVariants.{Ask, Done}
 use Rattle.arena.specs.declared.number.NodeNo.{NodeNo}
@@ -44,6 +43,7 @@ use Rattle.forest.specs.StraightReads.{RangeReader, ReaderIsTold, ReaderStands, 
 use Rattle.forest.specs.StraightValidate.{Validator, ValidatorIsTold, ValidatorWaits}
 use Rattle.forest.specs.TableRule.{history_of}
 use Rattle.forest.specs.Traces.{shared_nodes}
+use Rattle.forest.specs.CallKinds.{Calls}
 use Rattle.forest.proofs.Advances.{few_taken}
 use Rattle.forest.proofs.StraightReads.{told_on}
 
@@ -95,47 +95,47 @@ steps_as m next now nodes a b e i = subst (λ (k : RangeNext). a ≤ b + suc (ra
 pub nearer_as : (m : RangeRun) (next now : RangeNext) (nodes a : ℕ) → next ≡ now → a < suc (range_left (placed m now) nodes) → a < suc (range_left (placed m next) nodes)
 nearer_as m next now nodes a e i = subst (λ (k : RangeNext). a < suc (range_left (placed m k) nodes)) (sym e) i
 
-module _ {M : Type 0} (allows : Layout → History → ℕ → Type 0) (ready : M → Call → History → Option ℕ → Type 0) (waits : M → Call → History → Step → Type 0) (same : M → M → Type 0) (layout : Layout) (number : ℕ) (r : RangeReader allows ready waits same layout number) where
+module _ {M : Type 0} {o : Calls M} (r : RangeReader o) where
   -- its step has told this
   abbrev IsTold : List SeatedPass → RangeRun → ℕ → Type 0
-  IsTold ps m v = ReaderIsTold allows ready waits same RangeIsReady RangeWaits IsSameRange layout number r ps m v
+  IsTold ps m v = ReaderIsTold r ps m v
 
   -- what it is told takes it to what comes next, or to its answer
-  on_to : (ps : List SeatedPass) (old m : RangeRun) (next : RangeNext) (v : ℕ) → IsSameRange old m → ((h : History) → IsRun TreeAllows r.call.layout h → RangeIsReady old r.call h (Some v) → MayGoOn r.call h m next) → IsTold ps old v → VisitWaits allows ready waits same layout number r ps m next
-  on_to ps old m next v is know x = told_on allows ready waits same RangeIsReady RangeWaits RangeAnswers IsSameRange layout number r ps old (placed m next) (Some v) (Ask (next_step m next)) (same_placed old m next is) (λ h run y. range_next_waits m r.call h next (know h run y)) x
+  on_to : (ps : List SeatedPass) (old m : RangeRun) (next : RangeNext) (v : ℕ) → IsSameRange old m → ((h : History) → IsRun TreeAllows r.call.layout h → RangeIsReady old r.call h (Some v) → MayGoOn r.call h m next) → IsTold ps old v → VisitWaits r ps m next
+  on_to ps old m next v is know x = told_on RangeAnswers r ps old (placed m next) (Some v) (Ask (next_step m next)) (same_placed old m next is) (λ h run y. range_next_waits m r.call h next (know h run y)) x
 
-  ends_at : (ps : List SeatedPass) (old m : RangeRun) (a : Result (Vec Pair Global) Refused) (v : ℕ) → IsSameRange old m → ((h : History) → IsRun TreeAllows r.call.layout h → RangeIsReady old r.call h (Some v) → RangeAnswers m r.call h a) → IsTold ps old v → VisitEnds allows ready waits same layout number r ps m a
-  ends_at ps old m a v is know x = told_on allows ready waits same RangeIsReady RangeWaits RangeAnswers IsSameRange layout number r ps old m (Some v) (Done a) is know x
+  ends_at : (ps : List SeatedPass) (old m : RangeRun) (a : Result (Vec Pair Global) Refused) (v : ℕ) → IsSameRange old m → ((h : History) → IsRun TreeAllows r.call.layout h → RangeIsReady old r.call h (Some v) → RangeAnswers m r.call h a) → IsTold ps old v → VisitEnds r ps m a
+  ends_at ps old m a v is know x = told_on RangeAnswers r ps old m (Some v) (Done a) is know x
 
   -- behind its loads
-  pub root_goes_on : (ps : List SeatedPass) (m now : RangeRun) (v : ℕ) (next : RangeNext) → m.at ≡ Root → now.tries ≡ m.tries → IsSameRange m now → ((c : Call) (h : History) → Goes m c h → IsOwnMoment c h → Visits m c h 0 → head_at h 0 ≡ head_of v → GoesOn c h now (Ok next)) → IsTold ps m v → VisitWaits allows ready waits same layout number r ps now next
+  pub root_goes_on : (ps : List SeatedPass) (m now : RangeRun) (v : ℕ) (next : RangeNext) → m.at ≡ Root → now.tries ≡ m.tries → IsSameRange m now → ((c : Call) (h : History) → Goes m c h → IsOwnMoment c h → Visits m c h 0 → head_at h 0 ≡ head_of v → GoesOn c h now (Ok next)) → IsTold ps m v → VisitWaits r ps now next
   root_goes_on ps m now v next at tries is goes = on_to ps m now next v is (λ h run y. let c = from r.call y.0 in let t = subst (λ p. RangeIsToldAt m c h v p) at y.4 in let k = goes c h y.2 y.3 t.0 (ap head_of t.1) in (y.0, rw (is.3, tries) y.1, k.0, k.1))
 
-  pub head_goes_on : (ps : List SeatedPass) (m now : RangeRun) (above : ℕ) (n : NodeNo) (v : ℕ) (next : RangeNext) → now.tries ≡ m.tries → IsSameRange m now → ((c : Call) (h : History) → Goes m c h → IsOwnMoment c h → Visits m c h n.0 → head_at h n.0 ≡ head_of v → GoesOn c h now (Ok next)) → IsTold ps (placed m (HeadNext above n)) v → VisitWaits allows ready waits same layout number r ps now next
+  pub head_goes_on : (ps : List SeatedPass) (m now : RangeRun) (above : ℕ) (n : NodeNo) (v : ℕ) (next : RangeNext) → now.tries ≡ m.tries → IsSameRange m now → ((c : Call) (h : History) → Goes m c h → IsOwnMoment c h → Visits m c h n.0 → head_at h n.0 ≡ head_of v → GoesOn c h now (Ok next)) → IsTold ps (placed m (HeadNext above n)) v → VisitWaits r ps now next
   head_goes_on ps m now above n v next tries is goes = on_to ps (placed m (HeadNext above n)) now next v is
       (λ h run y. let c = from r.call y.0 in let k = goes c h (goes_there (placed m (HeadNext above n)) m c h refl y.2) y.3 (visits_there (placed m (HeadNext above n)) m c h n.0 refl y.4.0) (ap head_of y.4.2) in (y.0, rw (is.3, tries) y.1, k.0, k.1))
 
-  pub key_goes_on : (ps : List SeatedPass) (m now : RangeRun) (head : HeadParts) (n : NodeNo) (v : ℕ) (next : RangeNext) → now.tries ≡ m.tries → IsSameRange m now → ((c : Call) (h : History) → Goes m c h → IsOwnMoment c h → Visits m c h n.0 → HasLowHead h n.0 head → key_at h n.0 ≡ v → GoesOn c h now (Ok next)) → IsTold ps (placed m (KeyNext head n)) v → VisitWaits allows ready waits same layout number r ps now next
+  pub key_goes_on : (ps : List SeatedPass) (m now : RangeRun) (head : HeadParts) (n : NodeNo) (v : ℕ) (next : RangeNext) → now.tries ≡ m.tries → IsSameRange m now → ((c : Call) (h : History) → Goes m c h → IsOwnMoment c h → Visits m c h n.0 → HasLowHead h n.0 head → key_at h n.0 ≡ v → GoesOn c h now (Ok next)) → IsTold ps (placed m (KeyNext head n)) v → VisitWaits r ps now next
   key_goes_on ps m now head n v next tries is goes = on_to ps (placed m (KeyNext head n)) now next v is
       (λ h run y. let c = from r.call y.0 in let k = goes c h (goes_there (placed m (KeyNext head n)) m c h refl y.2) y.3 (visits_there (placed m (KeyNext head n)) m c h n.0 refl y.4.0) y.4.1 y.4.2 in (y.0, rw (is.3, tries) y.1, k.0, k.1))
 
-  pub value_goes_on : (ps : List SeatedPass) (m now : RangeRun) (key : ℕ) (n : NodeNo) (v : ℕ) (next : RangeNext) → now.tries ≡ m.tries → IsSameRange m now → ((c : Call) (h : History) (k : ℕ) → Goes m c h → IsOwnMoment c h → HasKey m c h k key → value_at h k ≡ v → GoesOn c h now (Ok next)) → IsTold ps (placed m (ValueNext key n)) v → VisitWaits allows ready waits same layout number r ps now next
+  pub value_goes_on : (ps : List SeatedPass) (m now : RangeRun) (key : ℕ) (n : NodeNo) (v : ℕ) (next : RangeNext) → now.tries ≡ m.tries → IsSameRange m now → ((c : Call) (h : History) (k : ℕ) → Goes m c h → IsOwnMoment c h → HasKey m c h k key → value_at h k ≡ v → GoesOn c h now (Ok next)) → IsTold ps (placed m (ValueNext key n)) v → VisitWaits r ps now next
   value_goes_on ps m now key n v next tries is goes = on_to ps (placed m (ValueNext key n)) now next v is
       (λ h run y. let c = from r.call y.0 in let k = goes c h n.0 (goes_there (placed m (ValueNext key n)) m c h refl y.2) y.3 (key_there (placed m (ValueNext key n)) m c h n.0 key refl y.4.0) y.4.1 in (y.0, rw (is.3, tries) y.1, k.0, k.1))
 
-  pub value_last : (ps : List SeatedPass) (m now : RangeRun) (key : ℕ) (n : NodeNo) (v : ℕ) (a : Refused) → IsSameRange m now → ((c : Call) (h : History) (k : ℕ) → Goes m c h → IsOwnMoment c h → HasKey m c h k key → value_at h k ≡ v → GoesOn c h now (Err a)) → IsTold ps (placed m (ValueNext key n)) v → VisitEnds allows ready waits same layout number r ps now (Err a)
+  pub value_last : (ps : List SeatedPass) (m now : RangeRun) (key : ℕ) (n : NodeNo) (v : ℕ) (a : Refused) → IsSameRange m now → ((c : Call) (h : History) (k : ℕ) → Goes m c h → IsOwnMoment c h → HasKey m c h k key → value_at h k ≡ v → GoesOn c h now (Err a)) → IsTold ps (placed m (ValueNext key n)) v → VisitEnds r ps now (Err a)
   value_last ps m now key n v a is goes = ends_at ps (placed m (ValueNext key n)) now (Err a) v is
       (λ h run y. let c = from r.call y.0 in no_memory now r.call y.0 h a (goes c h n.0 (goes_there (placed m (ValueNext key n)) m c h refl y.2) y.3 (key_there (placed m (ValueNext key n)) m c h n.0 key refl y.4.0) y.4.1))
 
   -- what it is told fits the taken nodes
-  pub told_fits : (ps : List SeatedPass) (m : RangeRun) (v : ℕ) → IsTold ps m v → RangeFits m (Some v) (shared_nodes layout)
-  told_fits ps m v x = range_told m r.call _ (Some v) (shared_nodes layout) (r.tree _ x.sound) (r.tells m _ (Some v) x.so.0) (few_taken allows layout r.call _ r.is_layout x.sound)
+  pub told_fits : (ps : List SeatedPass) (m : RangeRun) (v : ℕ) → IsTold ps m v → RangeFits m (Some v) (shared_nodes o.layout)
+  told_fits ps m v x = range_told m r.call _ (Some v) (shared_nodes o.layout) (r.tree _ x.sound) (r.tells m _ (Some v) x.so.0) (few_taken o.allows o.layout r.call _ r.is_layout x.sound)
 
   -- a range that goes on so has some steps left, fewer than before
-  lighter : (m now : RangeRun) (c : Call) (h : History) (next : RangeNext) (n : ℕ) → now.tries ≡ m.tries → IsSameRange m now → MayDo now c h next → ComesNearer now next (shared_nodes layout) n → range_left (placed now next) (shared_nodes layout) < m.tries * try_left m.most (shared_nodes layout) + n
-  lighter m now c h next n tries is x near = subst (λ (t : ℕ). range_left (placed now next) (shared_nodes layout) < t * try_left m.most (shared_nodes layout) + n) tries (subst (λ (t : ℕ). range_left (placed now next) (shared_nodes layout) < now.tries * try_left t (shared_nodes layout) + n) is.2 (range_placed_nearer now next (shared_nodes layout) n (some_left next x near) near))
+  lighter : (m now : RangeRun) (c : Call) (h : History) (next : RangeNext) (n : ℕ) → now.tries ≡ m.tries → IsSameRange m now → MayDo now c h next → ComesNearer now next (shared_nodes o.layout) n → range_left (placed now next) (shared_nodes o.layout) < m.tries * try_left m.most (shared_nodes o.layout) + n
+  lighter m now c h next n tries is x near = subst (λ (t : ℕ). range_left (placed now next) (shared_nodes o.layout) < t * try_left m.most (shared_nodes o.layout) + n) tries (subst (λ (t : ℕ). range_left (placed now next) (shared_nodes o.layout) < now.tries * try_left t (shared_nodes o.layout) + n) is.2 (range_placed_nearer now next (shared_nodes o.layout) n (some_left next x near) near))
     where
-      some_left : (k : RangeNext) → MayDo now c h k → ComesNearer now k (shared_nodes layout) n → 0 < n
+      some_left : (k : RangeNext) → MayDo now c h k → ComesNearer now k (shared_nodes o.layout) n → 0 < n
       some_left (HeadNext above l) y e = let i = e.0 in let j = e.1 in omega (arith, i, j)
       some_left (KeyNext head l) y e = let i = e.0 in let j = e.1 in omega (arith, i, j)
       some_left (ValueNext key l) y e = let j = e.1 in omega (arith, j)
@@ -143,43 +143,43 @@ module _ {M : Type 0} (allows : Layout → History → ℕ → Type 0) (ready : 
       some_left ValidateNext y e = let i = y.2 in let j = e.1 in omega (arith, i, j)
 
   -- behind each load it has fewer steps left
-  pub root_lighter : (ps : List SeatedPass) (m now : RangeRun) (v : ℕ) (next : RangeNext) → m.at ≡ Root → now.tries ≡ m.tries → IsSameRange m now → ((c : Call) (h : History) → Goes m c h → IsOwnMoment c h → Visits m c h 0 → head_at h 0 ≡ head_of v → GoesOn c h now (Ok next)) → ((nodes : ℕ) → HeadFits (head_of v) nodes → ComesNearer now next nodes (length m.snaps.items + 67 * (2 + nodes - (head_of v).level) - 1 + leaves_left m.leaves nodes)) → IsTold ps m v → range_left (placed now next) (shared_nodes layout) < range_left m (shared_nodes layout)
+  pub root_lighter : (ps : List SeatedPass) (m now : RangeRun) (v : ℕ) (next : RangeNext) → m.at ≡ Root → now.tries ≡ m.tries → IsSameRange m now → ((c : Call) (h : History) → Goes m c h → IsOwnMoment c h → Visits m c h 0 → head_at h 0 ≡ head_of v → GoesOn c h now (Ok next)) → ((nodes : ℕ) → HeadFits (head_of v) nodes → ComesNearer now next nodes (length m.snaps.items + 67 * (2 + nodes - (head_of v).level) - 1 + leaves_left m.leaves nodes)) → IsTold ps m v → range_left (placed now next) (shared_nodes o.layout) < range_left m (shared_nodes o.layout)
   root_lighter ps m now v next at tries is goes near x =
       let h = history_of r.call.layout.mode x.known in
       let y = r.tells m h (Some v) x.so.0 in
       let c = from r.call y.0 in
       let t = subst (λ p. RangeIsToldAt m c h v p) at y.4 in
-      let f : RangeFitsAt m (Some v) (shared_nodes layout) Root = subst (RangeFitsAt m (Some v) (shared_nodes layout)) at (told_fits ps m v x) in
-      let p = lighter m now c h next _ tries is (goes c h y.2 y.3 t.0 (ap head_of t.1)).1 (near (shared_nodes layout) f) in
-      subst (λ a. range_left (placed now next) (shared_nodes layout) < m.tries * try_left m.most (shared_nodes layout) + phase_left m (shared_nodes layout) a) (sym at) (omega (arith, p))
+      let f : RangeFitsAt m (Some v) (shared_nodes o.layout) Root = subst (RangeFitsAt m (Some v) (shared_nodes o.layout)) at (told_fits ps m v x) in
+      let p = lighter m now c h next _ tries is (goes c h y.2 y.3 t.0 (ap head_of t.1)).1 (near (shared_nodes o.layout) f) in
+      subst (λ a. range_left (placed now next) (shared_nodes o.layout) < m.tries * try_left m.most (shared_nodes o.layout) + phase_left m (shared_nodes o.layout) a) (sym at) (omega (arith, p))
 
-  pub head_lighter : (ps : List SeatedPass) (m now : RangeRun) (above : ℕ) (n : NodeNo) (v : ℕ) (next : RangeNext) → now.tries ≡ m.tries → IsSameRange m now → ((c : Call) (h : History) → Goes m c h → IsOwnMoment c h → Visits m c h n.0 → head_at h n.0 ≡ head_of v → GoesOn c h now (Ok next)) → ((nodes : ℕ) → HeadFits (head_of v) nodes → ComesNearer now next nodes (length m.snaps.items + 67 * (2 + nodes - (head_of v).level) - 1 + leaves_left m.leaves nodes)) → IsTold ps (placed m (HeadNext above n)) v → range_left (placed now next) (shared_nodes layout) < range_left (placed m (HeadNext above n)) (shared_nodes layout)
+  pub head_lighter : (ps : List SeatedPass) (m now : RangeRun) (above : ℕ) (n : NodeNo) (v : ℕ) (next : RangeNext) → now.tries ≡ m.tries → IsSameRange m now → ((c : Call) (h : History) → Goes m c h → IsOwnMoment c h → Visits m c h n.0 → head_at h n.0 ≡ head_of v → GoesOn c h now (Ok next)) → ((nodes : ℕ) → HeadFits (head_of v) nodes → ComesNearer now next nodes (length m.snaps.items + 67 * (2 + nodes - (head_of v).level) - 1 + leaves_left m.leaves nodes)) → IsTold ps (placed m (HeadNext above n)) v → range_left (placed now next) (shared_nodes o.layout) < range_left (placed m (HeadNext above n)) (shared_nodes o.layout)
   head_lighter ps m now above n v next tries is goes near x =
       let y = r.tells (placed m (HeadNext above n)) _ (Some v) x.so.0 in
       let f = told_fits ps (placed m (HeadNext above n)) v x in
       let a = f.0 in let b = f.1.0 in
       let c = from r.call y.0 in
-      let p = lighter m now c _ next _ tries is (goes c _ (goes_there (placed m (HeadNext above n)) m c _ refl y.2) y.3 (visits_there (placed m (HeadNext above n)) m c _ n.0 refl y.4.0) (ap head_of y.4.2)).1 (near (shared_nodes layout) f.1) in
+      let p = lighter m now c _ next _ tries is (goes c _ (goes_there (placed m (HeadNext above n)) m c _ refl y.2) y.3 (visits_there (placed m (HeadNext above n)) m c _ n.0 refl y.4.0) (ap head_of y.4.2)).1 (near (shared_nodes o.layout) f.1) in
       omega (arith, a, b, p)
 
-  pub key_lighter : (ps : List SeatedPass) (m now : RangeRun) (head : HeadParts) (n : NodeNo) (v : ℕ) (next : RangeNext) → now.tries ≡ m.tries → IsSameRange m now → ((c : Call) (h : History) → Goes m c h → IsOwnMoment c h → Visits m c h n.0 → HasLowHead h n.0 head → key_at h n.0 ≡ v → GoesOn c h now (Ok next)) → ((nodes : ℕ) → HeadFits head nodes → ComesNearer now next nodes (length m.snaps.items + 67 * (2 + nodes - head.level) - 2 + leaves_left m.leaves nodes)) → IsTold ps (placed m (KeyNext head n)) v → range_left (placed now next) (shared_nodes layout) < range_left (placed m (KeyNext head n)) (shared_nodes layout)
+  pub key_lighter : (ps : List SeatedPass) (m now : RangeRun) (head : HeadParts) (n : NodeNo) (v : ℕ) (next : RangeNext) → now.tries ≡ m.tries → IsSameRange m now → ((c : Call) (h : History) → Goes m c h → IsOwnMoment c h → Visits m c h n.0 → HasLowHead h n.0 head → key_at h n.0 ≡ v → GoesOn c h now (Ok next)) → ((nodes : ℕ) → HeadFits head nodes → ComesNearer now next nodes (length m.snaps.items + 67 * (2 + nodes - head.level) - 2 + leaves_left m.leaves nodes)) → IsTold ps (placed m (KeyNext head n)) v → range_left (placed now next) (shared_nodes o.layout) < range_left (placed m (KeyNext head n)) (shared_nodes o.layout)
   key_lighter ps m now head n v next tries is goes near x =
       let y = r.tells (placed m (KeyNext head n)) _ (Some v) x.so.0 in
       let c = from r.call y.0 in
-      lighter m now c _ next _ tries is (goes c _ (goes_there (placed m (KeyNext head n)) m c _ refl y.2) y.3 (visits_there (placed m (KeyNext head n)) m c _ n.0 refl y.4.0) y.4.1 y.4.2).1 (near (shared_nodes layout) (told_fits ps (placed m (KeyNext head n)) v x))
+      lighter m now c _ next _ tries is (goes c _ (goes_there (placed m (KeyNext head n)) m c _ refl y.2) y.3 (visits_there (placed m (KeyNext head n)) m c _ n.0 refl y.4.0) y.4.1 y.4.2).1 (near (shared_nodes o.layout) (told_fits ps (placed m (KeyNext head n)) v x))
 
-  pub value_lighter : (ps : List SeatedPass) (m now : RangeRun) (key : ℕ) (n : NodeNo) (v : ℕ) (next : RangeNext) → now.tries ≡ m.tries → IsSameRange m now → ((c : Call) (h : History) (k : ℕ) → Goes m c h → IsOwnMoment c h → HasKey m c h k key → value_at h k ≡ v → GoesOn c h now (Ok next)) → ((nodes : ℕ) → ComesNearer now next nodes (length m.snaps.items + leaves_left m.leaves nodes)) → IsTold ps (placed m (ValueNext key n)) v → range_left (placed now next) (shared_nodes layout) < range_left (placed m (ValueNext key n)) (shared_nodes layout)
+  pub value_lighter : (ps : List SeatedPass) (m now : RangeRun) (key : ℕ) (n : NodeNo) (v : ℕ) (next : RangeNext) → now.tries ≡ m.tries → IsSameRange m now → ((c : Call) (h : History) (k : ℕ) → Goes m c h → IsOwnMoment c h → HasKey m c h k key → value_at h k ≡ v → GoesOn c h now (Ok next)) → ((nodes : ℕ) → ComesNearer now next nodes (length m.snaps.items + leaves_left m.leaves nodes)) → IsTold ps (placed m (ValueNext key n)) v → range_left (placed now next) (shared_nodes o.layout) < range_left (placed m (ValueNext key n)) (shared_nodes o.layout)
   value_lighter ps m now key n v next tries is goes near x =
       let y = r.tells (placed m (ValueNext key n)) _ (Some v) x.so.0 in
       let c = from r.call y.0 in
-      lighter m now c _ next _ tries is (goes c _ n.0 (goes_there (placed m (ValueNext key n)) m c _ refl y.2) y.3 (key_there (placed m (ValueNext key n)) m c _ n.0 key refl y.4.0) y.4.1).1 (near (shared_nodes layout))
+      lighter m now c _ next _ tries is (goes c _ n.0 (goes_there (placed m (ValueNext key n)) m c _ refl y.2) y.3 (key_there (placed m (ValueNext key n)) m c _ n.0 key refl y.4.0) y.4.1).1 (near (shared_nodes o.layout))
 
   -- It looks
   module _ (m : RangeRun) (level : ℕ) (left right : Bool) where
     abbrev at : LlxRun → RangeRun
     at llx = record m { at = Look level left right llx }
 
-    pub looker : Looker allows ready waits same layout number
+    pub looker : Looker o
     looker = record {
       call = r.call;
       is_layout = r.is_layout;
@@ -201,16 +201,16 @@ module _ {M : Type 0} (allows : Layout → History → ℕ → Type 0) (ready : 
     }
 
     -- it begins to look
-    pub begins_look : (ps : List SeatedPass) (n : NodeNo) → VisitWaits allows ready waits same layout number r ps m (LookNext level left right n) → LookerWaits allows ready waits same layout number looker ps (llx_at n Marked) (load LoadMarked (marked n.0))
+    pub begins_look : (ps : List SeatedPass) (n : NodeNo) → VisitWaits r ps m (LookNext level left right n) → LookerWaits looker ps (llx_at n Marked) (load LoadMarked (marked n.0))
     unfolding looker
     begins_look ps n x = x
 
     -- with the snapshot it goes on as its turn says
     looked : (ps : List SeatedPass) (now : RangeRun) (n : NodeNo) (snap : Snap) (turn : Turn (Result (Vec Pair Global) Refused)) → IsSameRange m now
         → ((begin h : History) → IsInTry r.call h begin m.limit m.tries → Goes m (from r.call begin) h → LooksIn m (from r.call begin) h level left right snap.node.0 → IsSnapshot r.call.layout h snap.node.0 snap → MatchTurn turn (RangeWaits now r.call h) (RangeAnswers now r.call h))
-        → LookerSnaps allows ready waits same layout number looker ps n snap → ReaderStands allows ready waits same RangeIsReady RangeWaits IsSameRange layout number r ps RangeAnswers now turn
+        → LookerSnaps looker ps n snap → ReaderStands r ps RangeAnswers now turn
     unfolding looker
-    looked ps now n snap turn is goes x = told_on allows ready waits same RangeIsReady RangeWaits RangeAnswers IsSameRange layout number r ps (at x.last) now (Some x.told) turn is next x.so
+    looked ps now n snap turn is goes x = told_on RangeAnswers r ps (at x.last) now (Some x.told) turn is next x.so
       where
         here : x.last.node ≡ snap.node
         here = x.is_node ∙ sym x.of_node
@@ -222,21 +222,21 @@ module _ {M : Type 0} (allows : Layout → History → ℕ → Type 0) (ready : 
 
     pub looks_on : (ps : List SeatedPass) (now : RangeRun) (n : NodeNo) (snap : Snap) (next : RangeNext) → now.tries ≡ m.tries → IsSameRange m now
         → ((c : Call) (h : History) → Goes m c h → LooksIn m c h level left right snap.node.0 → IsSnapshot c.layout h snap.node.0 snap → GoesOn c h now (Ok next))
-        → LookerSnaps allows ready waits same layout number looker ps n snap → VisitWaits allows ready waits same layout number r ps now next
+        → LookerSnaps looker ps n snap → VisitWaits r ps now next
     looks_on ps now n snap next tries is goes = looked ps (placed now next) n snap (Ask (next_step now next)) (same_placed m now next is) (λ begin h try g l s. let k = goes (from r.call begin) h g l s in range_next_waits now r.call h next (begin, rw (is.3, tries) try, k.0, k.1))
 
     pub looks_last : (ps : List SeatedPass) (now : RangeRun) (n : NodeNo) (snap : Snap) (a : Refused) → IsSameRange m now
         → ((c : Call) (h : History) → Goes m c h → LooksIn m c h level left right snap.node.0 → IsSnapshot c.layout h snap.node.0 snap → GoesOn c h now (Err a))
-        → LookerSnaps allows ready waits same layout number looker ps n snap → VisitEnds allows ready waits same layout number r ps now (Err a)
+        → LookerSnaps looker ps n snap → VisitEnds r ps now (Err a)
     looks_last ps now n snap a is goes = looked ps now n snap (Done (Err a)) is (λ begin h try g l s. no_memory now r.call begin h a (goes (from r.call begin) h g l s))
 
     -- its fork is no deeper than the taken nodes allow
-    pub level_fits : (ps : List SeatedPass) (n : NodeNo) (snap : Snap) → LookerSnaps allows ready waits same layout number looker ps n snap → level + 1 < 2 + shared_nodes layout
+    pub level_fits : (ps : List SeatedPass) (n : NodeNo) (snap : Snap) → LookerSnaps looker ps n snap → level + 1 < 2 + shared_nodes o.layout
     unfolding looker
     level_fits ps n snap x = told_fits ps (at x.last) x.told x.so
 
     -- where something is in the way, it stands there
-    pub looks_again : (ps : List SeatedPass) (asked : Step) (n : NodeNo) (b : Bool) (scx : ScxNo) → asked ≡ load LoadState (state scx.0) → LookerWaits allows ready waits same layout number looker ps (llx_at n (StateAgain b scx)) (load LoadState (state scx.0)) → ReaderWaits allows ready waits same RangeIsReady RangeWaits IsSameRange layout number r ps (at (llx_at n (StateAgain b scx))) asked
+    pub looks_again : (ps : List SeatedPass) (asked : Step) (n : NodeNo) (b : Bool) (scx : ScxNo) → asked ≡ load LoadState (state scx.0) → LookerWaits looker ps (llx_at n (StateAgain b scx)) (load LoadState (state scx.0)) → ReaderWaits r ps (at (llx_at n (StateAgain b scx))) asked
     unfolding looker
     looks_again ps asked n b scx step x = rw step x
 
@@ -245,7 +245,7 @@ module _ {M : Type 0} (allows : Layout → History → ℕ → Type 0) (ready : 
     abbrev asking : ℕ → RangeRun
     asking n = record m { at = Validate n }
 
-    pub validator : Validator allows ready waits same layout number snaps
+    pub validator : Validator o snaps
     validator = record {
       call = r.call;
       is_layout = r.is_layout;
@@ -268,13 +268,13 @@ module _ {M : Type 0} (allows : Layout → History → ℕ → Type 0) (ready : 
       stays = λ n. r.stays (asking n) (asking (suc n)) (itself (asking n));
     }
 
-    pub begins_vlx : (ps : List SeatedPass) → VisitWaits allows ready waits same layout number r ps m ValidateNext → ValidatorWaits allows ready waits same layout number snaps validator ps 1 (load LoadInfo (info (snap_at snaps 0).node.0))
+    pub begins_vlx : (ps : List SeatedPass) → VisitWaits r ps m ValidateNext → ValidatorWaits validator ps 1 (load LoadInfo (info (snap_at snaps 0).node.0))
     unfolding validator
-    begins_vlx ps x = subst (λ (l : List Snap). ReaderWaits allows ready waits same RangeIsReady RangeWaits IsSameRange layout number r ps (asking 1) (load LoadInfo (info (snap_at l 0).node.0))) (sym e) x
+    begins_vlx ps x = subst (λ (l : List Snap). ReaderWaits r ps (asking 1) (load LoadInfo (info (snap_at l 0).node.0))) (sym e) x
 
-    pub told_vlx : (ps : List SeatedPass) (n v : ℕ) → ValidatorIsTold allows ready waits same layout number snaps validator ps n v → IsTold ps (asking n) v
+    pub told_vlx : (ps : List SeatedPass) (n v : ℕ) → ValidatorIsTold validator ps n v → IsTold ps (asking n) v
     unfolding validator
     told_vlx ps n v x = x
 
-    pub some_snap : (ps : List SeatedPass) → VisitWaits allows ready waits same layout number r ps m ValidateNext → 0 < length snaps
+    pub some_snap : (ps : List SeatedPass) → VisitWaits r ps m ValidateNext → 0 < length snaps
     some_snap ps x = let w = r.opens (placed m ValidateNext) _ _ x.so.0 in let i = w.3.2.looks.within in rw e (omega (arith, i))

@@ -1,7 +1,6 @@
 -- From place to place of a walk, of whatever machine walks.
-use Rattle.std.proofs.Common.{◌≡◌, ◌≢◌, ℕ, ◌+◌, ◌<◌, ◌≤◌, true, false, cond, ltb, List, Option, None, Some, refl, subst, arith}
+use Rattle.std.proofs.Common.{◌≡◌, ◌≢◌, ℕ, ◌+◌, ◌<◌, ◌≤◌, true, false, cond, ltb, List, None, Some, refl, subst, arith}
 use Rattle.arena.specs.declared.head.Head.{Head as HeadParts}
-use Rattle.arena.specs.declared.layout.Layout.{Layout}
 use Rattle.arena.specs.declared.number.NodeNo.{NodeNo}
 use Rattle.arena.specs.declared.step.Kind.TheVariants.{LoadSettled, LoadChild}
 use Rattle.arena.specs.declared.step.Step.{Step}
@@ -26,43 +25,44 @@ use Rattle.template.proofs.Lemmas.{head_to_key, head_ends, head_to_child, key_to
 use Rattle.forest.specs.declared.view.SeatedPass.{SeatedPass}
 use Rattle.forest.specs.StraightWalk.{Walker, WalkerWaits, WalkerIsTold, WalkerFinds}
 use Rattle.forest.specs.Traces.{goes_on, shared_nodes}
+use Rattle.forest.specs.CallKinds.{Calls}
 use Rattle.forest.proofs.Advances.{few_taken}
 
-module _ {M : Type 0} (allows : Layout → History → ℕ → Type 0) (ready : M → Call → History → Option ℕ → Type 0) (waits : M → Call → History → Step → Type 0) (same : M → M → Type 0) (layout : Layout) (number : ℕ) (w : Walker allows ready waits same layout number) (ps : List SeatedPass) where
+module _ {M : Type 0} {o : Calls M} (w : Walker o) (ps : List SeatedPass) where
   -- an edge takes it from place to place
-  goes : (m now : WalkRun) (turn : NodeNo) (v : ℕ) (s : Step) → IsPastRoot now.at → now.goal ≡ m.goal → ((d : Call) (h : History) → WalkIsTold m d h v → WalkWaits now d h s) → WalkerIsTold allows ready waits same layout number w ps m turn v → WalkerWaits allows ready waits same layout number w ps now (last_turn now.at now.trail.node turn) s
+  goes : (m now : WalkRun) (turn : NodeNo) (v : ℕ) (s : Step) → IsPastRoot now.at → now.goal ≡ m.goal → ((d : Call) (h : History) → WalkIsTold m d h v → WalkWaits now d h s) → WalkerIsTold w ps m turn v → WalkerWaits w ps now (last_turn now.at now.trail.node turn) s
   goes m now turn v s past goal edge x = record { known = x.known; is = x.is; sound = x.sound; so = (w.turns m now turn _ v s past goal (λ d. edge d _) x.so.0, goes_on (w.with_walk m turn) (w.stays m now turn (last_turn now.at now.trail.node turn) goal) x.so.1) }
 
   module _ (key : ℕ) (t : Trail) (turn : NodeNo) where
-    pub to_key : (p : WalkAt) (v : ℕ) (head : HeadParts) → LoadsHead p → head_of v ≡ head → head.class ≡ 0 → WalkerIsTold allows ready waits same layout number w ps (walk_at key t p) turn v → WalkerWaits allows ready waits same layout number w ps (walk_at key t (Key head)) turn (load LoadSettled (node t.node.0 KeyWord))
+    pub to_key : (p : WalkAt) (v : ℕ) (head : HeadParts) → LoadsHead p → head_of v ≡ head → head.class ≡ 0 → WalkerIsTold w ps (walk_at key t p) turn v → WalkerWaits w ps (walk_at key t (Key head)) turn (load LoadSettled (node t.node.0 KeyWord))
     to_key p v head at is low = goes (walk_at key t p) (walk_at key t (Key head)) turn v _ tt refl (λ d h x. head_to_key key t d h p v head at is x low)
 
-    pub leaves : (p : WalkAt) (v : ℕ) (head : HeadParts) → LoadsHead p → head_of v ≡ head → head.class ≢ 0 → head.leaf ≡ true → WalkerIsTold allows ready waits same layout number w ps (walk_at key t p) turn v → WalkerFinds allows ready waits same layout number w ps key turn record { trail = t; head = head; key = 0; value = None }
+    pub leaves : (p : WalkAt) (v : ℕ) (head : HeadParts) → LoadsHead p → head_of v ≡ head → head.class ≢ 0 → head.leaf ≡ true → WalkerIsTold w ps (walk_at key t p) turn v → WalkerFinds w ps key turn record { trail = t; head = head; key = 0; value = None }
     leaves p v head at is high leaf x = record { last = walk_at key t p; goal = refl; told = v; finds = λ d h y. head_ends key t d h p v head at is y high leaf; so = x }
 
-    pub to_left : (p : WalkAt) (v : ℕ) (head : HeadParts) → LoadsHead p → head_of v ≡ head → head.class ≢ 0 → head.leaf ≡ false → WalkerIsTold allows ready waits same layout number w ps (walk_at key t p) turn v → WalkerWaits allows ready waits same layout number w ps (walk_at key t (Child head.level Left)) t.node (load LoadChild (node t.node.0 (ChildWord Left)))
+    pub to_left : (p : WalkAt) (v : ℕ) (head : HeadParts) → LoadsHead p → head_of v ≡ head → head.class ≢ 0 → head.leaf ≡ false → WalkerIsTold w ps (walk_at key t p) turn v → WalkerWaits w ps (walk_at key t (Child head.level Left)) t.node (load LoadChild (node t.node.0 (ChildWord Left)))
     to_left p v head at is high fork = goes (walk_at key t p) (walk_at key t (Child head.level Left)) turn v _ tt refl (λ d h x. head_to_child key t d h p v head at is x high fork)
 
-    pub to_side : (head : HeadParts) (low : ℕ) (side : Side) → side ≡ cond (ltb key low) Left Right → head.leaf ≡ false → WalkerIsTold allows ready waits same layout number w ps (walk_at key t (Key head)) turn low → WalkerWaits allows ready waits same layout number w ps (walk_at key t (Child head.level side)) (last_turn (Child head.level side) t.node turn) (load LoadChild (node t.node.0 (ChildWord side)))
+    pub to_side : (head : HeadParts) (low : ℕ) (side : Side) → side ≡ cond (ltb key low) Left Right → head.leaf ≡ false → WalkerIsTold w ps (walk_at key t (Key head)) turn low → WalkerWaits w ps (walk_at key t (Child head.level side)) (last_turn (Child head.level side) t.node turn) (load LoadChild (node t.node.0 (ChildWord side)))
     to_side head low side is fork = goes (walk_at key t (Key head)) (walk_at key t (Child head.level side)) turn low _ tt refl (λ d h x. key_to_child key t d h head low x side is fork)
 
-    pub to_value : (head : HeadParts) (low : ℕ) → head.leaf ≡ true → key ≡ low → WalkerIsTold allows ready waits same layout number w ps (walk_at key t (Key head)) turn low → WalkerWaits allows ready waits same layout number w ps (walk_at key t (Value head low)) turn (load LoadSettled (node t.node.0 ValueWord))
+    pub to_value : (head : HeadParts) (low : ℕ) → head.leaf ≡ true → key ≡ low → WalkerIsTold w ps (walk_at key t (Key head)) turn low → WalkerWaits w ps (walk_at key t (Value head low)) turn (load LoadSettled (node t.node.0 ValueWord))
     to_value head low leaf is = goes (walk_at key t (Key head)) (walk_at key t (Value head low)) turn low _ tt refl (λ d h x. key_to_value key t d h head low x leaf is)
 
-    pub finds_other : (head : HeadParts) (low : ℕ) → head.leaf ≡ true → key ≢ low → WalkerIsTold allows ready waits same layout number w ps (walk_at key t (Key head)) turn low → WalkerFinds allows ready waits same layout number w ps key turn record { trail = t; head = head; key = low; value = None }
+    pub finds_other : (head : HeadParts) (low : ℕ) → head.leaf ≡ true → key ≢ low → WalkerIsTold w ps (walk_at key t (Key head)) turn low → WalkerFinds w ps key turn record { trail = t; head = head; key = low; value = None }
     finds_other head low leaf other x = record { last = walk_at key t (Key head); goal = refl; told = low; finds = λ d h y. key_ends key t d h head low y leaf other; so = x }
 
-    pub finds_value : (head : HeadParts) (low v : ℕ) → WalkerIsTold allows ready waits same layout number w ps (walk_at key t (Value head low)) turn v → WalkerFinds allows ready waits same layout number w ps key turn record { trail = t; head = head; key = low; value = Some v }
+    pub finds_value : (head : HeadParts) (low v : ℕ) → WalkerIsTold w ps (walk_at key t (Value head low)) turn v → WalkerFinds w ps key turn record { trail = t; head = head; key = low; value = Some v }
     finds_value head low v x = record { last = walk_at key t (Value head low); goal = refl; told = v; finds = λ d h y. value_ends key t d h head low v y; so = x }
 
-    pub to_head : (level : ℕ) (side : Side) (n : ℕ) → WalkerIsTold allows ready waits same layout number w ps (walk_at key t (Child level side)) turn n → WalkerWaits allows ready waits same layout number w ps (walk_at key (trail_below t side n) (Head level)) turn (load LoadSettled (node n HeadWord))
+    pub to_head : (level : ℕ) (side : Side) (n : ℕ) → WalkerIsTold w ps (walk_at key t (Child level side)) turn n → WalkerWaits w ps (walk_at key (trail_below t side n) (Head level)) turn (load LoadSettled (node n HeadWord))
     to_head level side n = goes (walk_at key t (Child level side)) (walk_at key (trail_below t side n) (Head level)) turn n _ tt refl (λ d h x. child_to_head key t d h level side n x)
 
   -- what it is told leads it no deeper than the taken nodes allow
-  pub fits : (m : WalkRun) (turn : NodeNo) (v : ℕ) → WalkerIsTold allows ready waits same layout number w ps m turn v → WalkFitsAt m.at v (shared_nodes layout)
+  pub fits : (m : WalkRun) (turn : NodeNo) (v : ℕ) → WalkerIsTold w ps m turn v → WalkFitsAt m.at v (shared_nodes o.layout)
   fits m turn v x =
       let y = w.tells m turn _ v x.so.0 in
-      walk_told m y.0 _ (Some v) (shared_nodes layout) y.2.run.1 y.2 (few_taken allows layout w.call _ w.is_layout x.sound)
+      walk_told m y.0 _ (Some v) (shared_nodes o.layout) y.2.run.1 y.2 (few_taken o.allows o.layout w.call _ w.is_layout x.sound)
 
 -- a node's head, and what is loaded behind it, take at most three steps
 pub fewer : (p : WalkAt) (v nodes : ℕ) (head : HeadParts) → LoadsHead p → head_of v ≡ head → WalkFitsAt p v nodes → head.level + 1 < 2 + nodes → 3 + walk_left (Head head.level) nodes ≤ walk_left p nodes

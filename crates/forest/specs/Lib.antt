@@ -16,6 +16,7 @@ pub mod StraightLook
 pub mod StraightReads
 pub mod StraightValidate
 pub mod Traces
+pub mod CallKinds
 pub mod TableRule
 pub mod Seats
 pub mod JoinedSeats

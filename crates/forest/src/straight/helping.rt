@@ -8,6 +8,7 @@ ghost use Rattle.help.specs.declared.state.HelpRun.{HelpRun};
 ghost use Rattle.forest.specs.Seats.{IsSeatAt, StaysAtTable};
 ghost use Rattle.forest.specs.Traces.{seat_steps};
 ghost use Rattle.forest.specs.StraightHelp.{Helper, HelperWaits, HelperIsTold, HelperMarks};
+ghost use Rattle.forest.specs.CallKinds.{calls};
 
 use crate::straight::placed::step;
 use crate::view::SeatView;
@@ -31,10 +32,10 @@ fn act<S: Shape, M: Machine<S>, T: Shape>(
     access: Access,
 ) -> u64
     requires table { IsSeatAt words.now layout.now seat.old }
-    requires waits { (k : Helper T.allows S.allows M.ready M.waits M.same layout.now number) × (m : HelpRun) × HelperWaits T.allows S.allows M.ready M.waits M.same layout.now number k seat.old.me.0.passes m record { kind = kind; word = word; access = access } }
+    requires waits { (k : Helper T.allows (calls S.Shape M.Machine layout.now number)) × (m : HelpRun) × HelperWaits k seat.old.me.0.passes m record { kind = kind; word = word; access = access } }
     ensures table { StaysAtTable seat.old seat.new }
     ensures one { seat_steps seat.new.me.0.passes ≡ suc (seat_steps seat.old.me.0.passes) }
-    ensures told { (k : Helper T.allows S.allows M.ready M.waits M.same layout.now number) (m : HelpRun) → HelperWaits T.allows S.allows M.ready M.waits M.same layout.now number k seat.old.me.0.passes m record { kind = kind; word = word; access = access } → HelperIsTold T.allows S.allows M.ready M.waits M.same layout.now number k seat.new.me.0.passes m result }
+    ensures told { (k : Helper T.allows (calls S.Shape M.Machine layout.now number)) (m : HelpRun) → HelperWaits k seat.old.me.0.passes m record { kind = kind; word = word; access = access } → HelperIsTold k seat.new.me.0.passes m result }
 {
     step::<S, M>(words, layout, seat, number, Step { kind, word, access })
 }
@@ -50,10 +51,10 @@ fn read<S: Shape, M: Machine<S>, T: Shape>(
     part: ScxWord,
 ) -> u64
     requires table { IsSeatAt words.now layout.now seat.old }
-    requires waits { (k : Helper T.allows S.allows M.ready M.waits M.same layout.now number) × (m : HelpRun) × HelperWaits T.allows S.allows M.ready M.waits M.same layout.now number k seat.old.me.0.passes m (settled_load scx.0 part) }
+    requires waits { (k : Helper T.allows (calls S.Shape M.Machine layout.now number)) × (m : HelpRun) × HelperWaits k seat.old.me.0.passes m (settled_load scx.0 part) }
     ensures table { StaysAtTable seat.old seat.new }
     ensures one { seat_steps seat.new.me.0.passes ≡ suc (seat_steps seat.old.me.0.passes) }
-    ensures told { (k : Helper T.allows S.allows M.ready M.waits M.same layout.now number) (m : HelpRun) → HelperWaits T.allows S.allows M.ready M.waits M.same layout.now number k seat.old.me.0.passes m (settled_load scx.0 part) → HelperIsTold T.allows S.allows M.ready M.waits M.same layout.now number k seat.new.me.0.passes m result }
+    ensures told { (k : Helper T.allows (calls S.Shape M.Machine layout.now number)) (m : HelpRun) → HelperWaits k seat.old.me.0.passes m (settled_load scx.0 part) → HelperIsTold k seat.new.me.0.passes m result }
 {
     let (kind, word) = (Kind::LoadSettled, Word::Scx(scx, part));
     act::<S, M, T>(words, layout, seat, number, kind, word, Access::Load)
@@ -80,20 +81,20 @@ fn freeze<S: Shape, M: Machine<S>, T: Shape>(
     j: MemberIndex,
 ) -> bool
     requires table { IsSeatAt words.now layout.now seat.old }
-    requires waits { (k : Helper T.allows S.allows M.ready M.waits M.same layout.now number) × HelperWaits T.allows S.allows M.ready M.waits M.same layout.now number k seat.old.me.0.passes (record run.old { at = HelpAt.Member j }) (settled_load run.old.scx.0 (ScxWord.Member (member_index j))) }
+    requires waits { (k : Helper T.allows (calls S.Shape M.Machine layout.now number)) × HelperWaits k seat.old.me.0.passes (record run.old { at = HelpAt.Member j }) (settled_load run.old.scx.0 (ScxWord.Member (member_index j))) }
     ensures table { StaysAtTable seat.old seat.new }
     ensures steps { seat_steps seat.new.me.0.passes ≡ seat_steps seat.old.me.0.passes + 3 }
     ensures left { result ≡ false → help_left run.new.at ≤ 1 }
     ensures same { (run.new.scx ≡ run.old.scx) × (run.new.plan ≡ run.old.plan) }
-    ensures next { result ≡ true → (next : MemberIndex) → member_index next ≡ member_index j + 1 → member_index next < raw_count run.old.plan.0 → (k : Helper T.allows S.allows M.ready M.waits M.same layout.now number)
-        → HelperWaits T.allows S.allows M.ready M.waits M.same layout.now number k seat.old.me.0.passes (record run.old { at = HelpAt.Member j }) (settled_load run.old.scx.0 (ScxWord.Member (member_index j)))
-        → HelperWaits T.allows S.allows M.ready M.waits M.same layout.now number k seat.new.me.0.passes (record run.new { at = HelpAt.Member next }) (settled_load run.new.scx.0 (ScxWord.Member (member_index next))) }
-    ensures last { result ≡ true → ((member_index j < 3) × (member_index j + 1 < raw_count run.old.plan.0) → ⊥) → (k : Helper T.allows S.allows M.ready M.waits M.same layout.now number)
-        → HelperWaits T.allows S.allows M.ready M.waits M.same layout.now number k seat.old.me.0.passes (record run.old { at = HelpAt.Member j }) (settled_load run.old.scx.0 (ScxWord.Member (member_index j)))
-        → HelperWaits T.allows S.allows M.ready M.waits M.same layout.now number k seat.new.me.0.passes (record run.new { at = HelpAt.SetFrozen }) record { kind = Kind.SetFrozen; word = Word.Scx run.new.scx ScxWord.AllFrozen; access = Access.Store 1 } }
-    ensures blocked { result ≡ false → (k : Helper T.allows S.allows M.ready M.waits M.same layout.now number)
-        → HelperWaits T.allows S.allows M.ready M.waits M.same layout.now number k seat.old.me.0.passes (record run.old { at = HelpAt.Member j }) (settled_load run.old.scx.0 (ScxWord.Member (member_index j)))
-        → HelperWaits T.allows S.allows M.ready M.waits M.same layout.now number k seat.new.me.0.passes run.new record { kind = Kind.LoadAllFrozen; word = Word.Scx run.new.scx ScxWord.AllFrozen; access = Access.Load } }
+    ensures next { result ≡ true → (next : MemberIndex) → member_index next ≡ member_index j + 1 → member_index next < raw_count run.old.plan.0 → (k : Helper T.allows (calls S.Shape M.Machine layout.now number))
+        → HelperWaits k seat.old.me.0.passes (record run.old { at = HelpAt.Member j }) (settled_load run.old.scx.0 (ScxWord.Member (member_index j)))
+        → HelperWaits k seat.new.me.0.passes (record run.new { at = HelpAt.Member next }) (settled_load run.new.scx.0 (ScxWord.Member (member_index next))) }
+    ensures last { result ≡ true → ((member_index j < 3) × (member_index j + 1 < raw_count run.old.plan.0) → ⊥) → (k : Helper T.allows (calls S.Shape M.Machine layout.now number))
+        → HelperWaits k seat.old.me.0.passes (record run.old { at = HelpAt.Member j }) (settled_load run.old.scx.0 (ScxWord.Member (member_index j)))
+        → HelperWaits k seat.new.me.0.passes (record run.new { at = HelpAt.SetFrozen }) record { kind = Kind.SetFrozen; word = Word.Scx run.new.scx ScxWord.AllFrozen; access = Access.Store 1 } }
+    ensures blocked { result ≡ false → (k : Helper T.allows (calls S.Shape M.Machine layout.now number))
+        → HelperWaits k seat.old.me.0.passes (record run.old { at = HelpAt.Member j }) (settled_load run.old.scx.0 (ScxWord.Member (member_index j)))
+        → HelperWaits k seat.new.me.0.passes run.new record { kind = Kind.LoadAllFrozen; word = Word.Scx run.new.scx ScxWord.AllFrozen; access = Access.Load } }
 {
     let scx = run.scx;
     let part = ScxWord::Member(j.number());
@@ -124,17 +125,17 @@ fn freeze_all<S: Shape, M: Machine<S>, T: Shape>(
     run: &mut HelpRun,
 ) -> bool
     requires table { IsSeatAt words.now layout.now seat.old }
-    requires waits { (k : Helper T.allows S.allows M.ready M.waits M.same layout.now number) × HelperWaits T.allows S.allows M.ready M.waits M.same layout.now number k seat.old.me.0.passes (record run.old { at = HelpAt.Member MemberIndex.First }) (settled_load run.old.scx.0 (ScxWord.Member 0)) }
+    requires waits { (k : Helper T.allows (calls S.Shape M.Machine layout.now number)) × HelperWaits k seat.old.me.0.passes (record run.old { at = HelpAt.Member MemberIndex.First }) (settled_load run.old.scx.0 (ScxWord.Member 0)) }
     ensures table { StaysAtTable seat.old seat.new }
     ensures steps { seat_steps seat.new.me.0.passes ≤ seat_steps seat.old.me.0.passes + 12 }
     ensures left { result ≡ false → help_left run.new.at ≤ 1 }
     ensures same { (run.new.scx ≡ run.old.scx) × (run.new.plan ≡ run.old.plan) }
-    ensures frozen { result ≡ true → (k : Helper T.allows S.allows M.ready M.waits M.same layout.now number)
-        → HelperWaits T.allows S.allows M.ready M.waits M.same layout.now number k seat.old.me.0.passes (record run.old { at = HelpAt.Member MemberIndex.First }) (settled_load run.old.scx.0 (ScxWord.Member 0))
-        → HelperWaits T.allows S.allows M.ready M.waits M.same layout.now number k seat.new.me.0.passes (record run.new { at = HelpAt.SetFrozen }) record { kind = Kind.SetFrozen; word = Word.Scx run.new.scx ScxWord.AllFrozen; access = Access.Store 1 } }
-    ensures blocked { result ≡ false → (k : Helper T.allows S.allows M.ready M.waits M.same layout.now number)
-        → HelperWaits T.allows S.allows M.ready M.waits M.same layout.now number k seat.old.me.0.passes (record run.old { at = HelpAt.Member MemberIndex.First }) (settled_load run.old.scx.0 (ScxWord.Member 0))
-        → HelperWaits T.allows S.allows M.ready M.waits M.same layout.now number k seat.new.me.0.passes run.new record { kind = Kind.LoadAllFrozen; word = Word.Scx run.new.scx ScxWord.AllFrozen; access = Access.Load } }
+    ensures frozen { result ≡ true → (k : Helper T.allows (calls S.Shape M.Machine layout.now number))
+        → HelperWaits k seat.old.me.0.passes (record run.old { at = HelpAt.Member MemberIndex.First }) (settled_load run.old.scx.0 (ScxWord.Member 0))
+        → HelperWaits k seat.new.me.0.passes (record run.new { at = HelpAt.SetFrozen }) record { kind = Kind.SetFrozen; word = Word.Scx run.new.scx ScxWord.AllFrozen; access = Access.Store 1 } }
+    ensures blocked { result ≡ false → (k : Helper T.allows (calls S.Shape M.Machine layout.now number))
+        → HelperWaits k seat.old.me.0.passes (record run.old { at = HelpAt.Member MemberIndex.First }) (settled_load run.old.scx.0 (ScxWord.Member 0))
+        → HelperWaits k seat.new.me.0.passes run.new record { kind = Kind.LoadAllFrozen; word = Word.Scx run.new.scx ScxWord.AllFrozen; access = Access.Load } }
 {
     let plan = run.plan;
     let first = MemberIndex::First;
@@ -170,10 +171,10 @@ fn mark<S: Shape, M: Machine<S>, T: Shape>(
     j: MemberIndex,
 )
     requires table { IsSeatAt words.now layout.now seat.old }
-    requires marks { (k : Helper T.allows S.allows M.ready M.waits M.same layout.now number) × HelperMarks T.allows S.allows M.ready M.waits M.same layout.now number k seat.old.me.0.passes run.now (member_index j) }
+    requires marks { (k : Helper T.allows (calls S.Shape M.Machine layout.now number)) × HelperMarks k seat.old.me.0.passes run.now (member_index j) }
     ensures table { StaysAtTable seat.old seat.new }
     ensures steps { seat_steps seat.new.me.0.passes ≤ seat_steps seat.old.me.0.passes + 1 }
-    ensures marked { (k : Helper T.allows S.allows M.ready M.waits M.same layout.now number) → HelperMarks T.allows S.allows M.ready M.waits M.same layout.now number k seat.old.me.0.passes run.now (member_index j) → HelperMarks T.allows S.allows M.ready M.waits M.same layout.now number k seat.new.me.0.passes run.now (member_index j + 1) }
+    ensures marked { (k : Helper T.allows (calls S.Shape M.Machine layout.now number)) → HelperMarks k seat.old.me.0.passes run.now (member_index j) → HelperMarks k seat.new.me.0.passes run.now (member_index j + 1) }
 {
     if run.plan.finalizes(j) {
         let marked = Word::Node(run.members[j.index()], NodeWord::Marked);
@@ -192,12 +193,12 @@ fn mark_all<S: Shape, M: Machine<S>, T: Shape>(
     run: &HelpRun,
 )
     requires table { IsSeatAt words.now layout.now seat.old }
-    requires marks { (k : Helper T.allows S.allows M.ready M.waits M.same layout.now number) × HelperMarks T.allows S.allows M.ready M.waits M.same layout.now number k seat.old.me.0.passes run.now 0 }
+    requires marks { (k : Helper T.allows (calls S.Shape M.Machine layout.now number)) × HelperMarks k seat.old.me.0.passes run.now 0 }
     ensures table { StaysAtTable seat.old seat.new }
     ensures steps { seat_steps seat.new.me.0.passes ≤ seat_steps seat.old.me.0.passes + 4 }
-    ensures marked { (k : Helper T.allows S.allows M.ready M.waits M.same layout.now number)
-        → HelperMarks T.allows S.allows M.ready M.waits M.same layout.now number k seat.old.me.0.passes run.now 0
-        → HelperWaits T.allows S.allows M.ready M.waits M.same layout.now number k seat.new.me.0.passes (record run.now { at = HelpAt.New }) (settled_load run.now.scx.0 ScxWord.New) }
+    ensures marked { (k : Helper T.allows (calls S.Shape M.Machine layout.now number))
+        → HelperMarks k seat.old.me.0.passes run.now 0
+        → HelperWaits k seat.new.me.0.passes (record run.now { at = HelpAt.New }) (settled_load run.now.scx.0 ScxWord.New) }
 {
     mark::<S, M, T>(words, layout, seat, number, run, MemberIndex::First);
     mark::<S, M, T>(words, layout, seat, number, run, MemberIndex::Second);
@@ -216,13 +217,13 @@ pub(crate) fn call<S: Shape, M: Machine<S>, T: Shape>(
     run: &mut HelpRun,
 ) -> bool
     requires table { IsSeatAt words.now layout.now seat.old }
-    requires waits { (k : Helper T.allows S.allows M.ready M.waits M.same layout.now number) × HelperWaits T.allows S.allows M.ready M.waits M.same layout.now number k seat.old.me.0.passes (record run.old { at = HelpAt.Plan }) (settled_load run.old.scx.0 ScxWord.Plan) }
+    requires waits { (k : Helper T.allows (calls S.Shape M.Machine layout.now number)) × HelperWaits k seat.old.me.0.passes (record run.old { at = HelpAt.Plan }) (settled_load run.old.scx.0 ScxWord.Plan) }
     ensures table { StaysAtTable seat.old seat.new }
     ensures steps { seat_steps seat.new.me.0.passes ≤ seat_steps seat.old.me.0.passes + 22 }
     ensures same { run.new.scx ≡ run.old.scx }
     ensures left { result ≡ false → seat_steps seat.new.me.0.passes + suc (help_left run.new.at) ≤ seat_steps seat.old.me.0.passes + 22 }
-    ensures commits { result ≡ true → (k : Helper T.allows S.allows M.ready M.waits M.same layout.now number) → HelperWaits T.allows S.allows M.ready M.waits M.same layout.now number k seat.old.me.0.passes (record run.old { at = HelpAt.Plan }) (settled_load run.old.scx.0 ScxWord.Plan) → (v : ℕ) × HelperIsTold T.allows S.allows M.ready M.waits M.same layout.now number k seat.new.me.0.passes (record run.new { at = HelpAt.Commit }) v }
-    ensures blocked { result ≡ false → (k : Helper T.allows S.allows M.ready M.waits M.same layout.now number) → HelperWaits T.allows S.allows M.ready M.waits M.same layout.now number k seat.old.me.0.passes (record run.old { at = HelpAt.Plan }) (settled_load run.old.scx.0 ScxWord.Plan) → HelperWaits T.allows S.allows M.ready M.waits M.same layout.now number k seat.new.me.0.passes run.new record { kind = Kind.LoadAllFrozen; word = Word.Scx run.new.scx ScxWord.AllFrozen; access = Access.Load } }
+    ensures commits { result ≡ true → (k : Helper T.allows (calls S.Shape M.Machine layout.now number)) → HelperWaits k seat.old.me.0.passes (record run.old { at = HelpAt.Plan }) (settled_load run.old.scx.0 ScxWord.Plan) → (v : ℕ) × HelperIsTold k seat.new.me.0.passes (record run.new { at = HelpAt.Commit }) v }
+    ensures blocked { result ≡ false → (k : Helper T.allows (calls S.Shape M.Machine layout.now number)) → HelperWaits k seat.old.me.0.passes (record run.old { at = HelpAt.Plan }) (settled_load run.old.scx.0 ScxWord.Plan) → HelperWaits k seat.new.me.0.passes run.new record { kind = Kind.LoadAllFrozen; word = Word.Scx run.new.scx ScxWord.AllFrozen; access = Access.Load } }
 {
     let scx = run.scx;
     let word = read::<S, M, T>(words, layout, seat, number, scx, ScxWord::Plan);

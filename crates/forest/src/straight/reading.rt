@@ -3,6 +3,7 @@ ghost use Rattle.std.specs.Prelude.{◌≡◌, ◌≤◌, ◌<◌, ◌+◌, suc}
 ghost use Rattle.forest.specs.StraightReads.{Reader, ReaderEnds, ReaderIsTold, ReaderStands, ReaderWaits};
 ghost use Rattle.forest.specs.Seats.{IsSeatAt, StaysAtTable};
 ghost use Rattle.forest.specs.Traces.{seat_steps, shared_nodes, weight};
+ghost use Rattle.forest.specs.CallKinds.{calls};
 ghost use Rattle.prims.specs.Llx.Known.{load};
 
 use crate::straight::placed::step;
@@ -23,10 +24,10 @@ pub(crate) fn read<S: Shape, M: Machine<S>, N: Machine<Tree>>(
     part: NodeWord,
 ) -> u64
     requires table { IsSeatAt words.now layout.now seat.old }
-    requires waits { (r : Reader S.allows M.ready M.waits M.same N.ready N.waits N.same layout.now number) × (m : N) × ReaderWaits S.allows M.ready M.waits M.same N.ready N.waits N.same layout.now number r seat.old.me.0.passes m (load Kind.LoadSettled (Word.Node node part)) }
+    requires waits { (r : Reader (calls S.Shape M.Machine layout.now number) N.ready N.waits N.same) × (m : N) × ReaderWaits r seat.old.me.0.passes m (load Kind.LoadSettled (Word.Node node part)) }
     ensures table { StaysAtTable seat.old seat.new }
     ensures one { seat_steps seat.new.me.0.passes ≡ suc (seat_steps seat.old.me.0.passes) }
-    ensures told { (r : Reader S.allows M.ready M.waits M.same N.ready N.waits N.same layout.now number) (m : N) → ReaderWaits S.allows M.ready M.waits M.same N.ready N.waits N.same layout.now number r seat.old.me.0.passes m (load Kind.LoadSettled (Word.Node node part)) → ReaderIsTold S.allows M.ready M.waits M.same N.ready N.waits N.same layout.now number r seat.new.me.0.passes m result }
+    ensures told { (r : Reader (calls S.Shape M.Machine layout.now number) N.ready N.waits N.same) (m : N) → ReaderWaits r seat.old.me.0.passes m (load Kind.LoadSettled (Word.Node node part)) → ReaderIsTold r seat.new.me.0.passes m result }
 {
     let (kind, word) = (Kind::LoadSettled, Word::Node(node, part));
     let access = Access::Load;
@@ -44,9 +45,9 @@ fn advance<S: Shape, M: Machine<S>, N: Machine<Tree>>(
     asked: Step,
 ) -> Turn<N::Answer>
     requires table { IsSeatAt words.now layout.now seat.old }
-    requires waits { (r : Reader S.allows M.ready M.waits M.same N.ready N.waits N.same layout.now number) × ReaderWaits S.allows M.ready M.waits M.same N.ready N.waits N.same layout.now number r seat.old.me.0.passes run.old asked }
+    requires waits { (r : Reader (calls S.Shape M.Machine layout.now number) N.ready N.waits N.same) × ReaderWaits r seat.old.me.0.passes run.old asked }
     ensures table { StaysAtTable seat.old seat.new }
-    ensures stands { (r : Reader S.allows M.ready M.waits M.same N.ready N.waits N.same layout.now number) → ReaderWaits S.allows M.ready M.waits M.same N.ready N.waits N.same layout.now number r seat.old.me.0.passes run.old asked → ReaderStands S.allows M.ready M.waits M.same N.ready N.waits N.same layout.now number r seat.new.me.0.passes N.answers run.new result }
+    ensures stands { (r : Reader (calls S.Shape M.Machine layout.now number) N.ready N.waits N.same) → ReaderWaits r seat.old.me.0.passes run.old asked → ReaderStands r seat.new.me.0.passes N.answers run.new result }
     ensures steps { seat_steps seat.new.me.0.passes + weight result (N.left run.new (shared_nodes layout.now)) ≤ seat_steps seat.old.me.0.passes + suc (N.left run.old (shared_nodes layout.now)) }
     ensures nearer { weight result (N.left run.new (shared_nodes layout.now)) < suc (N.left run.old (shared_nodes layout.now)) }
 {
@@ -65,9 +66,9 @@ pub(crate) fn finish<S: Shape, M: Machine<S>, N: Machine<Tree>>(
     mut turn: Turn<N::Answer>,
 ) -> N::Answer
     requires table { IsSeatAt words.now layout.now seat.old }
-    requires stands { (r : Reader S.allows M.ready M.waits M.same N.ready N.waits N.same layout.now number) × ReaderStands S.allows M.ready M.waits M.same N.ready N.waits N.same layout.now number r seat.old.me.0.passes N.answers run.old turn }
+    requires stands { (r : Reader (calls S.Shape M.Machine layout.now number) N.ready N.waits N.same) × ReaderStands r seat.old.me.0.passes N.answers run.old turn }
     ensures table { StaysAtTable seat.old seat.new }
-    ensures ends { (r : Reader S.allows M.ready M.waits M.same N.ready N.waits N.same layout.now number) → ReaderStands S.allows M.ready M.waits M.same N.ready N.waits N.same layout.now number r seat.old.me.0.passes N.answers run.old turn → ReaderEnds S.allows M.ready M.waits M.same N.ready N.waits N.same layout.now number r seat.new.me.0.passes N.answers run.new result }
+    ensures ends { (r : Reader (calls S.Shape M.Machine layout.now number) N.ready N.waits N.same) → ReaderStands r seat.old.me.0.passes N.answers run.old turn → ReaderEnds r seat.new.me.0.passes N.answers run.new result }
     ensures steps { seat_steps seat.new.me.0.passes ≤ seat_steps seat.old.me.0.passes + weight turn (N.left run.old (shared_nodes layout.now)) }
 {
     loop {
@@ -91,9 +92,9 @@ pub(crate) fn tell<S: Shape, M: Machine<S>, N: Machine<Tree>>(
     told: u64,
 ) -> N::Answer
     requires table { IsSeatAt words.now layout.now seat.old }
-    requires told { (r : Reader S.allows M.ready M.waits M.same N.ready N.waits N.same layout.now number) × ReaderIsTold S.allows M.ready M.waits M.same N.ready N.waits N.same layout.now number r seat.old.me.0.passes run.old told }
+    requires told { (r : Reader (calls S.Shape M.Machine layout.now number) N.ready N.waits N.same) × ReaderIsTold r seat.old.me.0.passes run.old told }
     ensures table { StaysAtTable seat.old seat.new }
-    ensures ends { (r : Reader S.allows M.ready M.waits M.same N.ready N.waits N.same layout.now number) → ReaderIsTold S.allows M.ready M.waits M.same N.ready N.waits N.same layout.now number r seat.old.me.0.passes run.old told → ReaderEnds S.allows M.ready M.waits M.same N.ready N.waits N.same layout.now number r seat.new.me.0.passes N.answers run.new result }
+    ensures ends { (r : Reader (calls S.Shape M.Machine layout.now number) N.ready N.waits N.same) → ReaderIsTold r seat.old.me.0.passes run.old told → ReaderEnds r seat.new.me.0.passes N.answers run.new result }
     ensures steps { seat_steps seat.new.me.0.passes ≤ seat_steps seat.old.me.0.passes + N.left run.old (shared_nodes layout.now) }
 {
     let turn = run.next(Some(told));

@@ -3,6 +3,7 @@ ghost use Rattle.std.specs.Prelude.{◌≡◌, ◌≤◌, ◌<◌, ◌+◌, ◌*
 ghost use Rattle.forest.specs.Seats.{IsSeatAt, StaysAtTable};
 ghost use Rattle.forest.specs.Traces.{seat_steps, shared_nodes, weight};
 ghost use Rattle.forest.specs.StraightUpdate.{Updater, UpdaterEnds, UpdaterGoesOn, UpdaterIsBlocked, UpdaterStands};
+ghost use Rattle.forest.specs.CallKinds.{calls};
 ghost use Rattle.prims.specs.Scx.Steps.{scx_left};
 ghost use Rattle.prims.specs.declared.scx.ScxAt.{ScxAt};
 ghost use Rattle.updates.specs.Next.{left_then, standing};
@@ -41,9 +42,9 @@ fn finish<S: Shape, M: Machine<S>, E: Edit + Copy>(
     mut turn: Turn<Updated>,
 ) -> Updated
     requires table { IsSeatAt words.now layout.now seat.old }
-    requires stands { (u : Updater S.allows M.ready M.waits M.same E.means layout.now number) × UpdaterStands S.allows M.ready M.waits M.same E.means layout.now number u seat.old.me.0.passes machine turn }
+    requires stands { (u : Updater (calls S.Shape M.Machine layout.now number) E.means) × UpdaterStands u seat.old.me.0.passes machine turn }
     ensures table { StaysAtTable seat.old seat.new }
-    ensures ends { (u : Updater S.allows M.ready M.waits M.same E.means layout.now number) → UpdaterStands S.allows M.ready M.waits M.same E.means layout.now number u seat.old.me.0.passes machine turn → UpdaterEnds S.allows M.ready M.waits M.same E.means layout.now number u seat.new.me.0.passes run.new result }
+    ensures ends { (u : Updater (calls S.Shape M.Machine layout.now number) E.means) → UpdaterStands u seat.old.me.0.passes machine turn → UpdaterEnds u seat.new.me.0.passes run.new result }
     ensures steps { seat_steps seat.new.me.0.passes ≤ seat_steps seat.old.me.0.passes + weight turn (update_left E.means machine (shared_nodes layout.now)) }
 {
     loop {
@@ -73,9 +74,9 @@ pub(crate) fn from_next<S: Shape, M: Machine<S>, E: Edit + Copy>(
     next: Result<Next, Stop>,
 ) -> Updated
     requires table { IsSeatAt words.now layout.now seat.old }
-    requires goes_on { (u : Updater S.allows M.ready M.waits M.same E.means layout.now number) × UpdaterGoesOn S.allows M.ready M.waits M.same E.means layout.now number u seat.old.me.0.passes run.old found.now next }
+    requires goes_on { (u : Updater (calls S.Shape M.Machine layout.now number) E.means) × UpdaterGoesOn u seat.old.me.0.passes run.old found.now next }
     ensures table { StaysAtTable seat.old seat.new }
-    ensures ends { (u : Updater S.allows M.ready M.waits M.same E.means layout.now number) → UpdaterGoesOn S.allows M.ready M.waits M.same E.means layout.now number u seat.old.me.0.passes run.old found.now next → UpdaterEnds S.allows M.ready M.waits M.same E.means layout.now number u seat.new.me.0.passes run.new result }
+    ensures ends { (u : Updater (calls S.Shape M.Machine layout.now number) E.means) → UpdaterGoesOn u seat.old.me.0.passes run.old found.now next → UpdaterEnds u seat.new.me.0.passes run.new result }
     ensures steps { seat_steps seat.new.me.0.passes ≤ seat_steps seat.old.me.0.passes + left_then E.means run.old found.now next (shared_nodes layout.now) }
 {
     let mut machine = take_up(run, layout);
@@ -105,9 +106,9 @@ pub(crate) fn from_block<S: Shape, M: Machine<S>, E: Edit + Copy>(
     help: &HelpRun,
 ) -> Updated
     requires table { IsSeatAt words.now layout.now seat.old }
-    requires blocked { (u : Updater S.allows M.ready M.waits M.same E.means layout.now number) × UpdaterIsBlocked S.allows M.ready M.waits M.same E.means layout.now number u seat.old.me.0.passes run.old found.now scx help.now }
+    requires blocked { (u : Updater (calls S.Shape M.Machine layout.now number) E.means) × UpdaterIsBlocked u seat.old.me.0.passes run.old found.now scx help.now }
     ensures table { StaysAtTable seat.old seat.new }
-    ensures ends { (u : Updater S.allows M.ready M.waits M.same E.means layout.now number) → UpdaterIsBlocked S.allows M.ready M.waits M.same E.means layout.now number u seat.old.me.0.passes run.old found.now scx help.now → UpdaterEnds S.allows M.ready M.waits M.same E.means layout.now number u seat.new.me.0.passes run.new result }
+    ensures ends { (u : Updater (calls S.Shape M.Machine layout.now number) E.means) → UpdaterIsBlocked u seat.old.me.0.passes run.old found.now scx help.now → UpdaterEnds u seat.new.me.0.passes run.new result }
     ensures steps { seat_steps seat.new.me.0.passes ≤ seat_steps seat.old.me.0.passes + suc (run.old.tries * try_left E.means (shared_nodes layout.now) + scx_left (ScxAt.Help help.now)) }
 {
     let mut machine = take_up(run, layout);

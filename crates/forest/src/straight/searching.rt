@@ -5,6 +5,7 @@ ghost use Rattle.std.specs.Prelude.{◌≡◌, ◌≤◌, ◌<◌, ◌+◌, suc}
 ghost use Rattle.forest.specs.StraightReads.{SuccessorReader, SearchBegins, SearchEnds, SearchGoesOn, SearchWaits, search_left};
 ghost use Rattle.forest.specs.Seats.{IsSeatAt, StaysAtTable};
 ghost use Rattle.forest.specs.Traces.{seat_steps, shared_nodes};
+ghost use Rattle.forest.specs.CallKinds.{calls};
 ghost use Rattle.order.specs.Successor.Next.{placed};
 ghost use Rattle.order.specs.Successor.Steps.{successor_left};
 ghost use Rattle.order.specs.declared.successor.SuccessorNext.{SuccessorNext};
@@ -41,9 +42,9 @@ fn look_on<S: Shape, M: Machine<S>>(
     node: NodeNo,
 ) -> Result<SuccessorNext, Told>
     requires table { IsSeatAt words.now layout.now seat.old }
-    requires waits { (r : SuccessorReader S.allows M.ready M.waits M.same layout.now number) × SearchWaits S.allows M.ready M.waits M.same layout.now number r seat.old.me.0.passes run.old (SuccessorNext.Look route level side node) }
+    requires waits { (r : SuccessorReader (calls S.Shape M.Machine layout.now number)) × SearchWaits r seat.old.me.0.passes run.old (SuccessorNext.Look route level side node) }
     ensures table { StaysAtTable seat.old seat.new }
-    ensures goes_on { (r : SuccessorReader S.allows M.ready M.waits M.same layout.now number) → SearchWaits S.allows M.ready M.waits M.same layout.now number r seat.old.me.0.passes run.old (SuccessorNext.Look route level side node) → SearchGoesOn S.allows M.ready M.waits M.same layout.now number r seat.new.me.0.passes run.new result }
+    ensures goes_on { (r : SuccessorReader (calls S.Shape M.Machine layout.now number)) → SearchWaits r seat.old.me.0.passes run.old (SuccessorNext.Look route level side node) → SearchGoesOn r seat.new.me.0.passes run.new result }
     ensures steps { seat_steps seat.new.me.0.passes + search_left (shared_nodes layout.now) run.new result ≤ seat_steps seat.old.me.0.passes + suc (successor_left (placed run.old (SuccessorNext.Look route level side node)) (shared_nodes layout.now)) }
     ensures nearer { search_left (shared_nodes layout.now) run.new result < suc (successor_left (placed run.old (SuccessorNext.Look route level side node)) (shared_nodes layout.now)) }
 {
@@ -79,9 +80,9 @@ fn validate_on<S: Shape, M: Machine<S>>(
     found: Option<Pair>,
 ) -> Told
     requires table { IsSeatAt words.now layout.now seat.old }
-    requires waits { (r : SuccessorReader S.allows M.ready M.waits M.same layout.now number) × SearchWaits S.allows M.ready M.waits M.same layout.now number r seat.old.me.0.passes run.old (SuccessorNext.Validate found) }
+    requires waits { (r : SuccessorReader (calls S.Shape M.Machine layout.now number)) × SearchWaits r seat.old.me.0.passes run.old (SuccessorNext.Validate found) }
     ensures table { StaysAtTable seat.old seat.new }
-    ensures ends { (r : SuccessorReader S.allows M.ready M.waits M.same layout.now number) → SearchWaits S.allows M.ready M.waits M.same layout.now number r seat.old.me.0.passes run.old (SuccessorNext.Validate found) → SearchEnds S.allows M.ready M.waits M.same layout.now number r seat.new.me.0.passes run.new result }
+    ensures ends { (r : SuccessorReader (calls S.Shape M.Machine layout.now number)) → SearchWaits r seat.old.me.0.passes run.old (SuccessorNext.Validate found) → SearchEnds r seat.new.me.0.passes run.new result }
     ensures steps { seat_steps seat.new.me.0.passes ≤ seat_steps seat.old.me.0.passes + suc (successor_left (placed run.old (SuccessorNext.Validate found)) (shared_nodes layout.now)) }
 {
     let snaps = run.snaps.as_slice();
@@ -101,9 +102,9 @@ fn search_on<S: Shape, M: Machine<S>>(
     next: SuccessorNext,
 ) -> Result<SuccessorNext, Told>
     requires table { IsSeatAt words.now layout.now seat.old }
-    requires waits { (r : SuccessorReader S.allows M.ready M.waits M.same layout.now number) × SearchWaits S.allows M.ready M.waits M.same layout.now number r seat.old.me.0.passes run.old next }
+    requires waits { (r : SuccessorReader (calls S.Shape M.Machine layout.now number)) × SearchWaits r seat.old.me.0.passes run.old next }
     ensures table { StaysAtTable seat.old seat.new }
-    ensures goes_on { (r : SuccessorReader S.allows M.ready M.waits M.same layout.now number) → SearchWaits S.allows M.ready M.waits M.same layout.now number r seat.old.me.0.passes run.old next → SearchGoesOn S.allows M.ready M.waits M.same layout.now number r seat.new.me.0.passes run.new result }
+    ensures goes_on { (r : SuccessorReader (calls S.Shape M.Machine layout.now number)) → SearchWaits r seat.old.me.0.passes run.old next → SearchGoesOn r seat.new.me.0.passes run.new result }
     ensures steps { seat_steps seat.new.me.0.passes + search_left (shared_nodes layout.now) run.new result ≤ seat_steps seat.old.me.0.passes + suc (successor_left (placed run.old next) (shared_nodes layout.now)) }
     ensures nearer { search_left (shared_nodes layout.now) run.new result < suc (successor_left (placed run.old next) (shared_nodes layout.now)) }
 {
@@ -148,9 +149,9 @@ pub(crate) fn call<S: Shape, M: Machine<S>>(
     run: &mut SuccessorRun,
 ) -> Told
     requires table { IsSeatAt words.now layout.now seat.old }
-    requires begins { (r : SuccessorReader S.allows M.ready M.waits M.same layout.now number) × SearchBegins S.allows M.ready M.waits M.same layout.now number r seat.old.me.0.passes run.old }
+    requires begins { (r : SuccessorReader (calls S.Shape M.Machine layout.now number)) × SearchBegins r seat.old.me.0.passes run.old }
     ensures table { StaysAtTable seat.old seat.new }
-    ensures ends { (r : SuccessorReader S.allows M.ready M.waits M.same layout.now number) → SearchBegins S.allows M.ready M.waits M.same layout.now number r seat.old.me.0.passes run.old → SearchEnds S.allows M.ready M.waits M.same layout.now number r seat.new.me.0.passes run.new result }
+    ensures ends { (r : SuccessorReader (calls S.Shape M.Machine layout.now number)) → SearchBegins r seat.old.me.0.passes run.old → SearchEnds r seat.new.me.0.passes run.new result }
     ensures steps { seat_steps seat.new.me.0.passes ≤ seat_steps seat.old.me.0.passes + successor_left run.old (shared_nodes layout.now) }
 {
     run.snaps.clear();

@@ -3,6 +3,7 @@ ghost use Rattle.std.specs.Prelude.{◌≡◌, ◌≤◌, ◌<◌, ◌+◌, suc}
 ghost use Rattle.forest.specs.Seats.{IsSeatAt, StaysAtTable};
 ghost use Rattle.forest.specs.Traces.{seat_steps, shared_nodes};
 ghost use Rattle.forest.specs.StraightUpdate.{Updater, UpdaterBegins, UpdaterEnds, UpdaterTries, UpdaterGoesOn};
+ghost use Rattle.forest.specs.CallKinds.{calls};
 ghost use Rattle.template.specs.declared.walk.Goal.{Goal};
 ghost use Rattle.updates.specs.Next.{placed, standing, left_then};
 ghost use Rattle.updates.specs.Steps.{update_left};
@@ -37,9 +38,9 @@ pub(crate) fn call<S: Shape, M: Machine<S>, E: Edit + Copy>(
 ) -> Updated
     requires table { IsSeatAt words.now layout.now seat.old }
     requires goal { E.means.goal run.old.edit ≡ Goal.Key key }
-    requires begins { (u : Updater S.allows M.ready M.waits M.same E.means layout.now number) × UpdaterBegins S.allows M.ready M.waits M.same E.means layout.now number u seat.old.me.0.passes run.old }
+    requires begins { (u : Updater (calls S.Shape M.Machine layout.now number) E.means) × UpdaterBegins u seat.old.me.0.passes run.old }
     ensures table { StaysAtTable seat.old seat.new }
-    ensures ends { (u : Updater S.allows M.ready M.waits M.same E.means layout.now number) → UpdaterBegins S.allows M.ready M.waits M.same E.means layout.now number u seat.old.me.0.passes run.old → UpdaterEnds S.allows M.ready M.waits M.same E.means layout.now number u seat.new.me.0.passes run.new result }
+    ensures ends { (u : Updater (calls S.Shape M.Machine layout.now number) E.means) → UpdaterBegins u seat.old.me.0.passes run.old → UpdaterEnds u seat.new.me.0.passes run.new result }
     ensures steps { seat_steps seat.new.me.0.passes ≤ seat_steps seat.old.me.0.passes + update_left E.means (standing run.old UpdateAt.Start) (shared_nodes layout.now) }
 {
     let found = anew(&walk::call::<S, M>(words, layout, seat, number, key).0);
@@ -59,9 +60,9 @@ fn try_on<S: Shape, M: Machine<S>, E: Edit + Copy>(
     next: Result<Next, Stop>,
 ) -> Updated
     requires table { IsSeatAt words.now layout.now seat.old }
-    requires goes_on { (u : Updater S.allows M.ready M.waits M.same E.means layout.now number) × UpdaterGoesOn S.allows M.ready M.waits M.same E.means layout.now number u seat.old.me.0.passes run.old found.now next }
+    requires goes_on { (u : Updater (calls S.Shape M.Machine layout.now number) E.means) × UpdaterGoesOn u seat.old.me.0.passes run.old found.now next }
     ensures table { StaysAtTable seat.old seat.new }
-    ensures ends { (u : Updater S.allows M.ready M.waits M.same E.means layout.now number) → UpdaterGoesOn S.allows M.ready M.waits M.same E.means layout.now number u seat.old.me.0.passes run.old found.now next → UpdaterEnds S.allows M.ready M.waits M.same E.means layout.now number u seat.new.me.0.passes run.new result }
+    ensures ends { (u : Updater (calls S.Shape M.Machine layout.now number) E.means) → UpdaterGoesOn u seat.old.me.0.passes run.old found.now next → UpdaterEnds u seat.new.me.0.passes run.new result }
     ensures steps { seat_steps seat.new.me.0.passes ≤ seat_steps seat.old.me.0.passes + left_then E.means run.old found.now next (shared_nodes layout.now) }
 {
     let looked = look_on::<S, M, E>(words, layout, seat, number, run, found, next);
@@ -93,9 +94,9 @@ fn look_on<S: Shape, M: Machine<S>, E: Edit + Copy>(
     mut next: Result<Next, Stop>,
 ) -> Result<Next, Stop>
     requires table { IsSeatAt words.now layout.now seat.old }
-    requires goes_on { (u : Updater S.allows M.ready M.waits M.same E.means layout.now number) × UpdaterGoesOn S.allows M.ready M.waits M.same E.means layout.now number u seat.old.me.0.passes run.old found.now next }
+    requires goes_on { (u : Updater (calls S.Shape M.Machine layout.now number) E.means) × UpdaterGoesOn u seat.old.me.0.passes run.old found.now next }
     ensures table { StaysAtTable seat.old seat.new }
-    ensures goes_on { (u : Updater S.allows M.ready M.waits M.same E.means layout.now number) → UpdaterGoesOn S.allows M.ready M.waits M.same E.means layout.now number u seat.old.me.0.passes run.old found.now next → UpdaterGoesOn S.allows M.ready M.waits M.same E.means layout.now number u seat.new.me.0.passes run.new found.now result }
+    ensures goes_on { (u : Updater (calls S.Shape M.Machine layout.now number) E.means) → UpdaterGoesOn u seat.old.me.0.passes run.old found.now next → UpdaterGoesOn u seat.new.me.0.passes run.new found.now result }
     ensures steps { seat_steps seat.new.me.0.passes + left_then E.means run.new found.now result (shared_nodes layout.now) ≤ seat_steps seat.old.me.0.passes + left_then E.means run.old found.now next (shared_nodes layout.now) }
 {
     loop {
@@ -124,9 +125,9 @@ fn work_on<S: Shape, M: Machine<S>, E: Edit + Copy>(
     mut next: Result<Next, Stop>,
 ) -> Result<Next, Stop>
     requires table { IsSeatAt words.now layout.now seat.old }
-    requires goes_on { (u : Updater S.allows M.ready M.waits M.same E.means layout.now number) × UpdaterGoesOn S.allows M.ready M.waits M.same E.means layout.now number u seat.old.me.0.passes run.old found.now next }
+    requires goes_on { (u : Updater (calls S.Shape M.Machine layout.now number) E.means) × UpdaterGoesOn u seat.old.me.0.passes run.old found.now next }
     ensures table { StaysAtTable seat.old seat.new }
-    ensures goes_on { (u : Updater S.allows M.ready M.waits M.same E.means layout.now number) → UpdaterGoesOn S.allows M.ready M.waits M.same E.means layout.now number u seat.old.me.0.passes run.old found.now next → UpdaterGoesOn S.allows M.ready M.waits M.same E.means layout.now number u seat.new.me.0.passes run.new found.now result }
+    ensures goes_on { (u : Updater (calls S.Shape M.Machine layout.now number) E.means) → UpdaterGoesOn u seat.old.me.0.passes run.old found.now next → UpdaterGoesOn u seat.new.me.0.passes run.new found.now result }
     ensures steps { seat_steps seat.new.me.0.passes + left_then E.means run.new found.now result (shared_nodes layout.now) ≤ seat_steps seat.old.me.0.passes + left_then E.means run.old found.now next (shared_nodes layout.now) }
 {
     loop {
@@ -158,9 +159,9 @@ fn look_at<S: Shape, M: Machine<S>, E: Edit + Copy>(
     node: NodeNo,
 ) -> Result<Next, Stop>
     requires table { IsSeatAt words.now layout.now seat.old }
-    requires tries { (u : Updater S.allows M.ready M.waits M.same E.means layout.now number) × UpdaterTries S.allows M.ready M.waits M.same E.means layout.now number u seat.old.me.0.passes run.old found.now (Next.Look node) }
+    requires tries { (u : Updater (calls S.Shape M.Machine layout.now number) E.means) × UpdaterTries u seat.old.me.0.passes run.old found.now (Next.Look node) }
     ensures table { StaysAtTable seat.old seat.new }
-    ensures goes_on { (u : Updater S.allows M.ready M.waits M.same E.means layout.now number) → UpdaterTries S.allows M.ready M.waits M.same E.means layout.now number u seat.old.me.0.passes run.old found.now (Next.Look node) → UpdaterGoesOn S.allows M.ready M.waits M.same E.means layout.now number u seat.new.me.0.passes run.new found.now result }
+    ensures goes_on { (u : Updater (calls S.Shape M.Machine layout.now number) E.means) → UpdaterTries u seat.old.me.0.passes run.old found.now (Next.Look node) → UpdaterGoesOn u seat.new.me.0.passes run.new found.now result }
     ensures steps { seat_steps seat.new.me.0.passes + left_then E.means run.new found.now result (shared_nodes layout.now) ≤ seat_steps seat.old.me.0.passes + suc (update_left E.means (placed E.means run.old found.now (Next.Look node)) (shared_nodes layout.now)) }
     ensures nearer { left_then E.means run.new found.now result (shared_nodes layout.now) < suc (update_left E.means (placed E.means run.old found.now (Next.Look node)) (shared_nodes layout.now)) }
 {
@@ -182,9 +183,9 @@ fn change<S: Shape, M: Machine<S>, E: Edit + Copy>(
     scx: ScxNo,
 ) -> Updated
     requires table { IsSeatAt words.now layout.now seat.old }
-    requires tries { (u : Updater S.allows M.ready M.waits M.same E.means layout.now number) × UpdaterTries S.allows M.ready M.waits M.same E.means layout.now number u seat.old.me.0.passes run.old found.now (Next.Change scx) }
+    requires tries { (u : Updater (calls S.Shape M.Machine layout.now number) E.means) × UpdaterTries u seat.old.me.0.passes run.old found.now (Next.Change scx) }
     ensures table { StaysAtTable seat.old seat.new }
-    ensures ends { (u : Updater S.allows M.ready M.waits M.same E.means layout.now number) → UpdaterTries S.allows M.ready M.waits M.same E.means layout.now number u seat.old.me.0.passes run.old found.now (Next.Change scx) → UpdaterEnds S.allows M.ready M.waits M.same E.means layout.now number u seat.new.me.0.passes run.new result }
+    ensures ends { (u : Updater (calls S.Shape M.Machine layout.now number) E.means) → UpdaterTries u seat.old.me.0.passes run.old found.now (Next.Change scx) → UpdaterEnds u seat.new.me.0.passes run.new result }
     ensures steps { seat_steps seat.new.me.0.passes ≤ seat_steps seat.old.me.0.passes + suc (update_left E.means (placed E.means run.old found.now (Next.Change scx)) (shared_nodes layout.now)) }
 {
     let change = Change {

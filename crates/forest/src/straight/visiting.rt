@@ -5,6 +5,7 @@ ghost use Rattle.std.specs.Prelude.{◌≡◌, ◌≤◌, ◌<◌, ◌+◌, suc}
 ghost use Rattle.forest.specs.StraightReads.{RangeReader, VisitBegins, VisitEnds, VisitGoesOn, VisitRoots, VisitWaits, visit_left};
 ghost use Rattle.forest.specs.Seats.{IsSeatAt, StaysAtTable};
 ghost use Rattle.forest.specs.Traces.{seat_steps, shared_nodes};
+ghost use Rattle.forest.specs.CallKinds.{calls};
 ghost use Rattle.order.specs.Range.Known.{AsksForSome};
 ghost use Rattle.order.specs.Range.Next.{placed};
 ghost use Rattle.order.specs.Range.Steps.{range_left};
@@ -41,9 +42,9 @@ fn look_on<S: Shape, M: Machine<S>>(
     node: NodeNo,
 ) -> Result<RangeNext, Told>
     requires table { IsSeatAt words.now layout.now seat.old }
-    requires waits { (r : RangeReader S.allows M.ready M.waits M.same layout.now number) × VisitWaits S.allows M.ready M.waits M.same layout.now number r seat.old.me.0.passes run.old (RangeNext.Look level left right node) }
+    requires waits { (r : RangeReader (calls S.Shape M.Machine layout.now number)) × VisitWaits r seat.old.me.0.passes run.old (RangeNext.Look level left right node) }
     ensures table { StaysAtTable seat.old seat.new }
-    ensures goes_on { (r : RangeReader S.allows M.ready M.waits M.same layout.now number) → VisitWaits S.allows M.ready M.waits M.same layout.now number r seat.old.me.0.passes run.old (RangeNext.Look level left right node) → VisitGoesOn S.allows M.ready M.waits M.same layout.now number r seat.new.me.0.passes run.new result }
+    ensures goes_on { (r : RangeReader (calls S.Shape M.Machine layout.now number)) → VisitWaits r seat.old.me.0.passes run.old (RangeNext.Look level left right node) → VisitGoesOn r seat.new.me.0.passes run.new result }
     ensures steps { seat_steps seat.new.me.0.passes + visit_left (shared_nodes layout.now) run.new result ≤ seat_steps seat.old.me.0.passes + suc (range_left (placed run.old (RangeNext.Look level left right node)) (shared_nodes layout.now)) }
     ensures nearer { visit_left (shared_nodes layout.now) run.new result < suc (range_left (placed run.old (RangeNext.Look level left right node)) (shared_nodes layout.now)) }
 {
@@ -78,9 +79,9 @@ fn validate_on<S: Shape, M: Machine<S>>(
     run: &mut RangeRun,
 ) -> Told
     requires table { IsSeatAt words.now layout.now seat.old }
-    requires waits { (r : RangeReader S.allows M.ready M.waits M.same layout.now number) × VisitWaits S.allows M.ready M.waits M.same layout.now number r seat.old.me.0.passes run.old RangeNext.Validate }
+    requires waits { (r : RangeReader (calls S.Shape M.Machine layout.now number)) × VisitWaits r seat.old.me.0.passes run.old RangeNext.Validate }
     ensures table { StaysAtTable seat.old seat.new }
-    ensures ends { (r : RangeReader S.allows M.ready M.waits M.same layout.now number) → VisitWaits S.allows M.ready M.waits M.same layout.now number r seat.old.me.0.passes run.old RangeNext.Validate → VisitEnds S.allows M.ready M.waits M.same layout.now number r seat.new.me.0.passes run.new result }
+    ensures ends { (r : RangeReader (calls S.Shape M.Machine layout.now number)) → VisitWaits r seat.old.me.0.passes run.old RangeNext.Validate → VisitEnds r seat.new.me.0.passes run.new result }
     ensures steps { seat_steps seat.new.me.0.passes ≤ seat_steps seat.old.me.0.passes + suc (range_left (placed run.old RangeNext.Validate) (shared_nodes layout.now)) }
 {
     let snaps = run.snaps.as_slice();
@@ -100,9 +101,9 @@ fn visit_on<S: Shape, M: Machine<S>>(
     next: RangeNext,
 ) -> Result<RangeNext, Told>
     requires table { IsSeatAt words.now layout.now seat.old }
-    requires waits { (r : RangeReader S.allows M.ready M.waits M.same layout.now number) × VisitWaits S.allows M.ready M.waits M.same layout.now number r seat.old.me.0.passes run.old next }
+    requires waits { (r : RangeReader (calls S.Shape M.Machine layout.now number)) × VisitWaits r seat.old.me.0.passes run.old next }
     ensures table { StaysAtTable seat.old seat.new }
-    ensures goes_on { (r : RangeReader S.allows M.ready M.waits M.same layout.now number) → VisitWaits S.allows M.ready M.waits M.same layout.now number r seat.old.me.0.passes run.old next → VisitGoesOn S.allows M.ready M.waits M.same layout.now number r seat.new.me.0.passes run.new result }
+    ensures goes_on { (r : RangeReader (calls S.Shape M.Machine layout.now number)) → VisitWaits r seat.old.me.0.passes run.old next → VisitGoesOn r seat.new.me.0.passes run.new result }
     ensures steps { seat_steps seat.new.me.0.passes + visit_left (shared_nodes layout.now) run.new result ≤ seat_steps seat.old.me.0.passes + suc (range_left (placed run.old next) (shared_nodes layout.now)) }
     ensures nearer { visit_left (shared_nodes layout.now) run.new result < suc (range_left (placed run.old next) (shared_nodes layout.now)) }
 {
@@ -146,9 +147,9 @@ fn visit<S: Shape, M: Machine<S>>(
 ) -> Told
     requires table { IsSeatAt words.now layout.now seat.old }
     requires root { run.old.at ≡ RangeAt.Root }
-    requires waits { (r : RangeReader S.allows M.ready M.waits M.same layout.now number) × VisitRoots S.allows M.ready M.waits M.same layout.now number r seat.old.me.0.passes run.old }
+    requires waits { (r : RangeReader (calls S.Shape M.Machine layout.now number)) × VisitRoots r seat.old.me.0.passes run.old }
     ensures table { StaysAtTable seat.old seat.new }
-    ensures ends { (r : RangeReader S.allows M.ready M.waits M.same layout.now number) → VisitRoots S.allows M.ready M.waits M.same layout.now number r seat.old.me.0.passes run.old → VisitEnds S.allows M.ready M.waits M.same layout.now number r seat.new.me.0.passes run.new result }
+    ensures ends { (r : RangeReader (calls S.Shape M.Machine layout.now number)) → VisitRoots r seat.old.me.0.passes run.old → VisitEnds r seat.new.me.0.passes run.new result }
     ensures steps { seat_steps seat.new.me.0.passes ≤ seat_steps seat.old.me.0.passes + suc (range_left run.old (shared_nodes layout.now)) }
 {
     let root = NodeNo(0);
@@ -171,9 +172,9 @@ pub(crate) fn call<S: Shape, M: Machine<S>>(
     run: &mut RangeRun,
 ) -> Told
     requires table { IsSeatAt words.now layout.now seat.old }
-    requires begins { (r : RangeReader S.allows M.ready M.waits M.same layout.now number) × VisitBegins S.allows M.ready M.waits M.same layout.now number r seat.old.me.0.passes run.old }
+    requires begins { (r : RangeReader (calls S.Shape M.Machine layout.now number)) × VisitBegins r seat.old.me.0.passes run.old }
     ensures table { StaysAtTable seat.old seat.new }
-    ensures ends { (r : RangeReader S.allows M.ready M.waits M.same layout.now number) → VisitBegins S.allows M.ready M.waits M.same layout.now number r seat.old.me.0.passes run.old → VisitEnds S.allows M.ready M.waits M.same layout.now number r seat.new.me.0.passes run.new result }
+    ensures ends { (r : RangeReader (calls S.Shape M.Machine layout.now number)) → VisitBegins r seat.old.me.0.passes run.old → VisitEnds r seat.new.me.0.passes run.new result }
     ensures steps { seat_steps seat.new.me.0.passes ≤ seat_steps seat.old.me.0.passes + range_left run.old (shared_nodes layout.now) }
     ensures nothing { ¬ AsksForSome run.old → seat.new ≡ seat.old }
 {

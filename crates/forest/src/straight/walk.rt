@@ -5,6 +5,7 @@ ghost use Rattle.arena.specs.declared.number.NodeNo.{NodeNo};
 ghost use Rattle.forest.specs.Seats.{IsSeatAt, StaysAtTable};
 ghost use Rattle.forest.specs.Traces.{seat_steps, shared_nodes};
 ghost use Rattle.forest.specs.StraightWalk.{Walker, WalkerWaits, WalkerIsTold, WalkerFinds};
+ghost use Rattle.forest.specs.CallKinds.{calls};
 ghost use Rattle.order.specs.Successor.Steps.{last_turn};
 ghost use Rattle.prims.specs.Llx.Known.{load};
 ghost use Rattle.template.specs.declared.walk.WalkRun.{WalkRun};
@@ -29,10 +30,10 @@ fn read<S: Shape, M: Machine<S>>(
     part: NodeWord,
 ) -> u64
     requires table { IsSeatAt words.now layout.now seat.old }
-    requires waits { (w : Walker S.allows M.ready M.waits M.same layout.now number) × (m : WalkRun) × (turn : NodeNo) × WalkerWaits S.allows M.ready M.waits M.same layout.now number w seat.old.me.0.passes m turn (load kind (Word.Node node part)) }
+    requires waits { (w : Walker (calls S.Shape M.Machine layout.now number)) × (m : WalkRun) × (turn : NodeNo) × WalkerWaits w seat.old.me.0.passes m turn (load kind (Word.Node node part)) }
     ensures table { StaysAtTable seat.old seat.new }
     ensures one { seat_steps seat.new.me.0.passes ≡ suc (seat_steps seat.old.me.0.passes) }
-    ensures told { (w : Walker S.allows M.ready M.waits M.same layout.now number) (m : WalkRun) (turn : NodeNo) → WalkerWaits S.allows M.ready M.waits M.same layout.now number w seat.old.me.0.passes m turn (load kind (Word.Node node part)) → WalkerIsTold S.allows M.ready M.waits M.same layout.now number w seat.new.me.0.passes m turn result }
+    ensures told { (w : Walker (calls S.Shape M.Machine layout.now number)) (m : WalkRun) (turn : NodeNo) → WalkerWaits w seat.old.me.0.passes m turn (load kind (Word.Node node part)) → WalkerIsTold w seat.new.me.0.passes m turn result }
 {
     let word = Word::Node(node, part);
     let access = Access::Load;
@@ -83,10 +84,10 @@ fn end<S: Shape, M: Machine<S>>(
 ) -> Found
     requires table { IsSeatAt words.now layout.now seat.old }
     requires leaf { head.leaf ≡ true }
-    requires told { (w : Walker S.allows M.ready M.waits M.same layout.now number) × (turn : NodeNo) × WalkerIsTold S.allows M.ready M.waits M.same layout.now number w seat.old.me.0.passes (walk_at wanted trail (WalkAt.Key head)) turn key }
+    requires told { (w : Walker (calls S.Shape M.Machine layout.now number)) × (turn : NodeNo) × WalkerIsTold w seat.old.me.0.passes (walk_at wanted trail (WalkAt.Key head)) turn key }
     ensures table { StaysAtTable seat.old seat.new }
     ensures steps { seat_steps seat.new.me.0.passes ≤ seat_steps seat.old.me.0.passes + 1 }
-    ensures finds { (w : Walker S.allows M.ready M.waits M.same layout.now number) (turn : NodeNo) → WalkerIsTold S.allows M.ready M.waits M.same layout.now number w seat.old.me.0.passes (walk_at wanted trail (WalkAt.Key head)) turn key → WalkerFinds S.allows M.ready M.waits M.same layout.now number w seat.new.me.0.passes wanted turn result }
+    ensures finds { (w : Walker (calls S.Shape M.Machine layout.now number)) (turn : NodeNo) → WalkerIsTold w seat.old.me.0.passes (walk_at wanted trail (WalkAt.Key head)) turn key → WalkerFinds w seat.new.me.0.passes wanted turn result }
 {
     if wanted != key {
         return Found {
@@ -120,12 +121,12 @@ fn pass<S: Shape, M: Machine<S>>(
 ) -> Result<Side, Found>
     requires place { LoadsHead at }
     requires table { IsSeatAt words.now layout.now seat.old }
-    requires told { (w : Walker S.allows M.ready M.waits M.same layout.now number) × (turn : NodeNo) × WalkerIsTold S.allows M.ready M.waits M.same layout.now number w seat.old.me.0.passes (walk_at wanted trail at) turn word }
+    requires told { (w : Walker (calls S.Shape M.Machine layout.now number)) × (turn : NodeNo) × WalkerIsTold w seat.old.me.0.passes (walk_at wanted trail at) turn word }
     ensures table { StaysAtTable seat.old seat.new }
     ensures steps { IfOk result (λ _. seat_steps seat.new.me.0.passes ≤ seat_steps seat.old.me.0.passes + 1) }
     ensures last_steps { IfErr result (λ _. seat_steps seat.new.me.0.passes ≤ seat_steps seat.old.me.0.passes + 2) }
-    ensures down { IfOk result (λ side. (w : Walker S.allows M.ready M.waits M.same layout.now number) (turn : NodeNo) → WalkerIsTold S.allows M.ready M.waits M.same layout.now number w seat.old.me.0.passes (walk_at wanted trail at) turn word → WalkerWaits S.allows M.ready M.waits M.same layout.now number w seat.new.me.0.passes (walk_at wanted trail (WalkAt.Child (head_of word).level side)) (last_turn (WalkAt.Child (head_of word).level side) trail.node turn) (load Kind.LoadChild (Word.Node trail.node (NodeWord.Child side)))) }
-    ensures finds { IfErr result (λ found. (w : Walker S.allows M.ready M.waits M.same layout.now number) (turn : NodeNo) → WalkerIsTold S.allows M.ready M.waits M.same layout.now number w seat.old.me.0.passes (walk_at wanted trail at) turn word → WalkerFinds S.allows M.ready M.waits M.same layout.now number w seat.new.me.0.passes wanted turn found) }
+    ensures down { IfOk result (λ side. (w : Walker (calls S.Shape M.Machine layout.now number)) (turn : NodeNo) → WalkerIsTold w seat.old.me.0.passes (walk_at wanted trail at) turn word → WalkerWaits w seat.new.me.0.passes (walk_at wanted trail (WalkAt.Child (head_of word).level side)) (last_turn (WalkAt.Child (head_of word).level side) trail.node turn) (load Kind.LoadChild (Word.Node trail.node (NodeWord.Child side)))) }
+    ensures finds { IfErr result (λ found. (w : Walker (calls S.Shape M.Machine layout.now number)) (turn : NodeNo) → WalkerIsTold w seat.old.me.0.passes (walk_at wanted trail at) turn word → WalkerFinds w seat.new.me.0.passes wanted turn found) }
 {
     let head = Head::of(word);
     if is_high(word) {
@@ -170,10 +171,10 @@ pub(crate) fn call<S: Shape, M: Machine<S>>(
     wanted: u64,
 ) -> (Found, NodeNo)
     requires table { IsSeatAt words.now layout.now seat.old }
-    requires waits { (w : Walker S.allows M.ready M.waits M.same layout.now number) × WalkerWaits S.allows M.ready M.waits M.same layout.now number w seat.old.me.0.passes (walk_from wanted) record { 0 = 0 } (load Kind.LoadSettled (Word.Node record { 0 = 0 } NodeWord.Head)) }
+    requires waits { (w : Walker (calls S.Shape M.Machine layout.now number)) × WalkerWaits w seat.old.me.0.passes (walk_from wanted) record { 0 = 0 } (load Kind.LoadSettled (Word.Node record { 0 = 0 } NodeWord.Head)) }
     ensures table { StaysAtTable seat.old seat.new }
     ensures steps { seat_steps seat.new.me.0.passes ≤ seat_steps seat.old.me.0.passes + 3 * (2 + shared_nodes layout.now) }
-    ensures finds { (w : Walker S.allows M.ready M.waits M.same layout.now number) → WalkerWaits S.allows M.ready M.waits M.same layout.now number w seat.old.me.0.passes (walk_from wanted) record { 0 = 0 } (load Kind.LoadSettled (Word.Node record { 0 = 0 } NodeWord.Head)) → WalkerFinds S.allows M.ready M.waits M.same layout.now number w seat.new.me.0.passes wanted result.1 result.0 }
+    ensures finds { (w : Walker (calls S.Shape M.Machine layout.now number)) → WalkerWaits w seat.old.me.0.passes (walk_from wanted) record { 0 = 0 } (load Kind.LoadSettled (Word.Node record { 0 = 0 } NodeWord.Head)) → WalkerFinds w seat.new.me.0.passes wanted result.1 result.0 }
 {
     let layout = *layout;
     let root = NodeNo(0);

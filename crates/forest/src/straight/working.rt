@@ -4,6 +4,7 @@ ghost use Rattle.arena.specs.Machines.{Call};
 ghost use Rattle.forest.specs.Seats.{IsSeatAt, StaysAtTable};
 ghost use Rattle.forest.specs.Traces.{Waits, Told, seat_steps, shared_nodes};
 ghost use Rattle.forest.specs.StraightUpdate.{Updater, UpdaterTries, UpdaterGoesOn};
+ghost use Rattle.forest.specs.CallKinds.{calls};
 ghost use Rattle.updates.specs.Next.{placed, left_then};
 ghost use Rattle.updates.specs.Steps.{update_left};
 ghost use Rattle.updates.specs.declared.update.Next.{Next};
@@ -29,9 +30,9 @@ pub(crate) fn load<S: Shape, M: Machine<S>, E: Edit + Copy>(
     part: NodeWord,
 ) -> Next
     requires table { IsSeatAt words.now layout.now seat.old }
-    requires tries { (u : Updater S.allows M.ready M.waits M.same E.means layout.now number) × UpdaterTries S.allows M.ready M.waits M.same E.means layout.now number u seat.old.me.0.passes run.old found.now (Next.Load nth part) }
+    requires tries { (u : Updater (calls S.Shape M.Machine layout.now number) E.means) × UpdaterTries u seat.old.me.0.passes run.old found.now (Next.Load nth part) }
     ensures table { StaysAtTable seat.old seat.new }
-    ensures goes_on { (u : Updater S.allows M.ready M.waits M.same E.means layout.now number) → UpdaterTries S.allows M.ready M.waits M.same E.means layout.now number u seat.old.me.0.passes run.old found.now (Next.Load nth part) → UpdaterTries S.allows M.ready M.waits M.same E.means layout.now number u seat.new.me.0.passes run.new found.now result }
+    ensures goes_on { (u : Updater (calls S.Shape M.Machine layout.now number) E.means) → UpdaterTries u seat.old.me.0.passes run.old found.now (Next.Load nth part) → UpdaterTries u seat.new.me.0.passes run.new found.now result }
     ensures steps { seat_steps seat.new.me.0.passes + suc (update_left E.means (placed E.means run.new found.now result) (shared_nodes layout.now)) ≤ seat_steps seat.old.me.0.passes + suc (update_left E.means (placed E.means run.old found.now (Next.Load nth part)) (shared_nodes layout.now)) }
     ensures nearer { suc (update_left E.means (placed E.means run.new found.now result) (shared_nodes layout.now)) < suc (update_left E.means (placed E.means run.old found.now (Next.Load nth part)) (shared_nodes layout.now)) }
 {
@@ -77,9 +78,9 @@ pub(crate) fn fill_node<S: Shape, M: Machine<S>, E: Edit + Copy>(
     nth: Nth,
 ) -> Result<Next, Stop>
     requires table { IsSeatAt words.now layout.now seat.old }
-    requires tries { (u : Updater S.allows M.ready M.waits M.same E.means layout.now number) × UpdaterTries S.allows M.ready M.waits M.same E.means layout.now number u seat.old.me.0.passes run.old found.now (Next.Fill nth) }
+    requires tries { (u : Updater (calls S.Shape M.Machine layout.now number) E.means) × UpdaterTries u seat.old.me.0.passes run.old found.now (Next.Fill nth) }
     ensures table { StaysAtTable seat.old seat.new }
-    ensures goes_on { (u : Updater S.allows M.ready M.waits M.same E.means layout.now number) → UpdaterTries S.allows M.ready M.waits M.same E.means layout.now number u seat.old.me.0.passes run.old found.now (Next.Fill nth) → UpdaterGoesOn S.allows M.ready M.waits M.same E.means layout.now number u seat.new.me.0.passes run.new found.now result }
+    ensures goes_on { (u : Updater (calls S.Shape M.Machine layout.now number) E.means) → UpdaterTries u seat.old.me.0.passes run.old found.now (Next.Fill nth) → UpdaterGoesOn u seat.new.me.0.passes run.new found.now result }
     ensures steps { seat_steps seat.new.me.0.passes + left_then E.means run.new found.now result (shared_nodes layout.now) ≤ seat_steps seat.old.me.0.passes + suc (update_left E.means (placed E.means run.old found.now (Next.Fill nth)) (shared_nodes layout.now)) }
     ensures nearer { left_then E.means run.new found.now result (shared_nodes layout.now) < suc (update_left E.means (placed E.means run.old found.now (Next.Fill nth)) (shared_nodes layout.now)) }
 {

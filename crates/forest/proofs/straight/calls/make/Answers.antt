@@ -3,11 +3,9 @@ use Rattle.arena.specs.Machines.{Call}
 use Rattle.dict.specs.declared.dict.DictRun.{DictRun}
 use Rattle.dict.specs.WordReplies.{update_reply as word_reply}
 use Rattle.forest.specs.Dictionary.{update_reply}
-use Rattle.forest.specs.StraightCalls.{DictAllows, DictCallIsReady, DictCallWaits, IsSameDictCall, IsFreshEdit, SeatDictBegins}
+use Rattle.forest.specs.StraightCalls.{IsFreshEdit, SeatDictBegins}
 use Rattle.forest.specs.StraightUpdate.{UpdaterBegins}
 use Rattle.forest.specs.declared.straight.calls.WordEdit.{WordEdit}
-use Rattle.tree.specs.Delete.Means.{delete_means}
-use Rattle.tree.specs.Insert.Means.{insert_means}
 use Rattle.forest.proofs.StraightCalls.{inserter, insert_begins, insert_ended, insert_fresh, insert_machine, deleter, delete_begins, delete_ended, delete_fresh, delete_machine, replies}
 use Rattle.forest.proofs.straight.calls.make.Given.{Over}
 use Rattle.forest.proofs.straight.calls.make.Goals.{After-new-run, After-new-run-in-Delete}
@@ -22,7 +20,7 @@ insert_is_fresh : (g : Over) (c : After-new-run g) → IsFreshEdit c.args.edit c
 insert_is_fresh g c = subst (λ (ed : WordEdit). IsFreshEdit ed c.args.share c.args.tries c.args.number (insert_first g c)) (sym c.in-Insert.is)
     (insert_fresh c.args.share c.args.tries c.args.number c.requires.tries c.new-run.result c.in-Insert.edit c.new-run.ensures.edit c.new-run.ensures.share c.new-run.ensures.call c.new-run.ensures.tries c.new-run.ensures.limit (rw c.in-Insert.is at c.requires.small))
 
-insert_may_begin : (g : Over) (c : After-new-run g) (k : Call) (lay : k.layout ≡ c.args.layout.now) (number : k.number ≡ c.args.number) → ((first : DictRun g.row.K.Denot g.row.V.Denot) → IsFreshEdit c.args.edit c.args.share c.args.tries c.args.number first → SeatDictBegins g.K.WordKey.is_valid g.K.WordKey.word_of g.V.WordValue.is_valid g.V.WordValue.word_of k c.args.seat.now.me.0.passes first) → UpdaterBegins (DictAllows {K = g.row.K.Denot} {V = g.row.V.Denot} g.K.WordKey.is_valid g.K.WordKey.word_of g.V.WordValue.is_valid g.V.WordValue.word_of) (DictCallIsReady g.K.WordKey.is_valid g.K.WordKey.word_of g.V.WordValue.is_valid g.V.WordValue.word_of) (DictCallWaits g.K.WordKey.is_valid g.K.WordKey.word_of g.V.WordValue.is_valid g.V.WordValue.word_of) (IsSameDictCall g.K.WordKey.is_valid g.K.WordKey.word_of g.V.WordValue.is_valid g.V.WordValue.word_of) insert_means c.args.layout.now c.args.number (inserter g.K.WordKey.is_valid g.K.WordKey.word_of g.V.WordValue.is_valid g.V.WordValue.word_of (insert_first g c) k c.args.layout.now c.args.number lay number) c.args.seat.now.me.0.passes c.new-run.result
+insert_may_begin : (g : Over) (c : After-new-run g) (k : Call) (lay : k.layout ≡ c.args.layout.now) (number : k.number ≡ c.args.number) → ((first : DictRun g.row.K.Denot g.row.V.Denot) → IsFreshEdit c.args.edit c.args.share c.args.tries c.args.number first → SeatDictBegins g.K.WordKey.is_valid g.K.WordKey.word_of g.V.WordValue.is_valid g.V.WordValue.word_of k c.args.seat.now.me.0.passes first) → UpdaterBegins (inserter g.K.WordKey.is_valid g.K.WordKey.word_of g.V.WordValue.is_valid g.V.WordValue.word_of (insert_first g c) k c.args.layout.now c.args.number lay number) c.args.seat.now.me.0.passes c.new-run.result
 insert_may_begin g c k lay number x = insert_begins g.K.WordKey.is_valid g.K.WordKey.word_of g.V.WordValue.is_valid g.V.WordValue.word_of (insert_first g c) k c.args.layout.now c.args.number lay number _ c.new-run.result refl (x (insert_first g c) (insert_is_fresh g c))
 
 pub call-updated-requires-clause-begins : goal.call-updated-requires-clause-begins
@@ -48,7 +46,7 @@ delete_is_fresh : (g : Over) (c : After-new-run-in-Delete g) → IsFreshEdit c.a
 delete_is_fresh g c = subst (λ (ed : WordEdit). IsFreshEdit ed c.args.share c.args.tries c.args.number (delete_first g c)) (sym c.in-Delete.is)
     (delete_fresh c.args.share c.args.tries c.args.number c.requires.tries c.new-run-in-Delete.result c.in-Delete.edit c.new-run-in-Delete.ensures.edit c.new-run-in-Delete.ensures.share c.new-run-in-Delete.ensures.call c.new-run-in-Delete.ensures.tries c.new-run-in-Delete.ensures.limit (rw c.in-Delete.is at c.requires.small))
 
-delete_may_begin : (g : Over) (c : After-new-run-in-Delete g) (k : Call) (lay : k.layout ≡ c.args.layout.now) (number : k.number ≡ c.args.number) → ((first : DictRun g.row.K.Denot g.row.V.Denot) → IsFreshEdit c.args.edit c.args.share c.args.tries c.args.number first → SeatDictBegins g.K.WordKey.is_valid g.K.WordKey.word_of g.V.WordValue.is_valid g.V.WordValue.word_of k c.args.seat.now.me.0.passes first) → UpdaterBegins (DictAllows {K = g.row.K.Denot} {V = g.row.V.Denot} g.K.WordKey.is_valid g.K.WordKey.word_of g.V.WordValue.is_valid g.V.WordValue.word_of) (DictCallIsReady g.K.WordKey.is_valid g.K.WordKey.word_of g.V.WordValue.is_valid g.V.WordValue.word_of) (DictCallWaits g.K.WordKey.is_valid g.K.WordKey.word_of g.V.WordValue.is_valid g.V.WordValue.word_of) (IsSameDictCall g.K.WordKey.is_valid g.K.WordKey.word_of g.V.WordValue.is_valid g.V.WordValue.word_of) delete_means c.args.layout.now c.args.number (deleter g.K.WordKey.is_valid g.K.WordKey.word_of g.V.WordValue.is_valid g.V.WordValue.word_of (delete_first g c) k c.args.layout.now c.args.number lay number) c.args.seat.now.me.0.passes c.new-run-in-Delete.result
+delete_may_begin : (g : Over) (c : After-new-run-in-Delete g) (k : Call) (lay : k.layout ≡ c.args.layout.now) (number : k.number ≡ c.args.number) → ((first : DictRun g.row.K.Denot g.row.V.Denot) → IsFreshEdit c.args.edit c.args.share c.args.tries c.args.number first → SeatDictBegins g.K.WordKey.is_valid g.K.WordKey.word_of g.V.WordValue.is_valid g.V.WordValue.word_of k c.args.seat.now.me.0.passes first) → UpdaterBegins (deleter g.K.WordKey.is_valid g.K.WordKey.word_of g.V.WordValue.is_valid g.V.WordValue.word_of (delete_first g c) k c.args.layout.now c.args.number lay number) c.args.seat.now.me.0.passes c.new-run-in-Delete.result
 delete_may_begin g c k lay number x = delete_begins g.K.WordKey.is_valid g.K.WordKey.word_of g.V.WordValue.is_valid g.V.WordValue.word_of (delete_first g c) k c.args.layout.now c.args.number lay number _ c.new-run-in-Delete.result refl (x (delete_first g c) (delete_is_fresh g c))
 
 pub call-updated-requires-in-Delete-clause-begins : goal.call-updated-requires-in-Delete-clause-begins

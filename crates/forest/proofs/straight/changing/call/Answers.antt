@@ -6,11 +6,11 @@ use Rattle.forest.specs.StraightChange.{ChangerWaits, changing_at, all_frozen_lo
 use Rattle.forest.proofs.straight.changing.call.Goals as goal
 
 pub call-requires-clause-waits : goal.call-requires-clause-waits
-call-requires-clause-waits g c = let r = c.requires.waits in let k = r.0 in (helper g.T.Shape.allows g.S.Shape.allows g.M.Machine.ready g.M.Machine.waits g.M.Machine.same c.args.layout.now c.args.number k (g.L.SnapList.list c.args.snaps.now) c.args.change, to_help g.T.Shape.allows g.S.Shape.allows g.M.Machine.ready g.M.Machine.waits g.M.Machine.same c.args.layout.now c.args.number k (g.L.SnapList.list c.args.snaps.now) c.args.change _ c.args.help.now c.fill_all.result c.requires.begins.0 c.requires.begins.1 (c.fill_all.ensures.told k r.1))
+call-requires-clause-waits g c = let r = c.requires.waits in let k = r.0 in (helper k (g.L.SnapList.list c.args.snaps.now) c.args.change, to_help k (g.L.SnapList.list c.args.snaps.now) c.args.change _ c.args.help.now c.fill_all.result c.requires.begins.0 c.requires.begins.1 (c.fill_all.ensures.told k r.1))
 
 pub returns-clause-commits : goal.returns-clause-commits
-returns-clause-commits g c = λ yes k x. let t = c.call.ensures.commits yes (helper g.T.Shape.allows g.S.Shape.allows g.M.Machine.ready g.M.Machine.waits g.M.Machine.same c.args.layout.now c.args.number k (g.L.SnapList.list c.args.snaps.now) c.args.change) (to_help g.T.Shape.allows g.S.Shape.allows g.M.Machine.ready g.M.Machine.waits g.M.Machine.same c.args.layout.now c.args.number k (g.L.SnapList.list c.args.snaps.now) c.args.change _ c.args.help.now c.fill_all.result c.requires.begins.0 c.requires.begins.1 (c.fill_all.ensures.told k x)) in (t.0, help_told g.T.Shape.allows g.S.Shape.allows g.M.Machine.ready g.M.Machine.waits g.M.Machine.same c.args.layout.now c.args.number k (g.L.SnapList.list c.args.snaps.now) c.args.change _ (record c.call.new.run { at = Commit }) t.0 t.1)
+returns-clause-commits g c = λ yes k x. let t = c.call.ensures.commits yes (helper k (g.L.SnapList.list c.args.snaps.now) c.args.change) (to_help k (g.L.SnapList.list c.args.snaps.now) c.args.change _ c.args.help.now c.fill_all.result c.requires.begins.0 c.requires.begins.1 (c.fill_all.ensures.told k x)) in (t.0, help_told k (g.L.SnapList.list c.args.snaps.now) c.args.change _ (record c.call.new.run { at = Commit }) t.0 t.1)
 
 pub returns-clause-blocked : goal.returns-clause-blocked
 returns-clause-blocked g c = λ no k x.
-    subst (λ s. ChangerWaits g.T.Shape.allows g.S.Shape.allows g.M.Machine.ready g.M.Machine.waits g.M.Machine.same c.args.layout.now c.args.number k c.call.new.seat.me.0.passes (changing_at (g.L.SnapList.list c.args.snaps.now) c.args.change (Help c.call.new.run)) (all_frozen_load s)) (c.call.ensures.same ∙ c.requires.begins.0) (help_waits g.T.Shape.allows g.S.Shape.allows g.M.Machine.ready g.M.Machine.waits g.M.Machine.same c.args.layout.now c.args.number k (g.L.SnapList.list c.args.snaps.now) c.args.change _ c.call.new.run _ (c.call.ensures.blocked no (helper g.T.Shape.allows g.S.Shape.allows g.M.Machine.ready g.M.Machine.waits g.M.Machine.same c.args.layout.now c.args.number k (g.L.SnapList.list c.args.snaps.now) c.args.change) (to_help g.T.Shape.allows g.S.Shape.allows g.M.Machine.ready g.M.Machine.waits g.M.Machine.same c.args.layout.now c.args.number k (g.L.SnapList.list c.args.snaps.now) c.args.change _ c.args.help.now c.fill_all.result c.requires.begins.0 c.requires.begins.1 (c.fill_all.ensures.told k x))))
+    subst (λ s. ChangerWaits k c.call.new.seat.me.0.passes (changing_at (g.L.SnapList.list c.args.snaps.now) c.args.change (Help c.call.new.run)) (all_frozen_load s)) (c.call.ensures.same ∙ c.requires.begins.0) (help_waits k (g.L.SnapList.list c.args.snaps.now) c.args.change _ c.call.new.run _ (c.call.ensures.blocked no (helper k (g.L.SnapList.list c.args.snaps.now) c.args.change) (to_help k (g.L.SnapList.list c.args.snaps.now) c.args.change _ c.args.help.now c.fill_all.result c.requires.begins.0 c.requires.begins.1 (c.fill_all.ensures.told k x))))

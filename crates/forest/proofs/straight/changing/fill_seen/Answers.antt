@@ -11,8 +11,8 @@ returns-clause-behind g c = behind_is c.member_behind.result c.args.j _ c.member
 
 pub returns-clause-next : goal.returns-clause-next
 returns-clause-next g c = behind_some c.member_behind.result c.args.j _ c.member_behind.ensures.valid c.member_behind.ensures.value _
-    (λ next is within k x. next_seen g.T.Shape.allows g.S.Shape.allows g.M.Machine.ready g.M.Machine.waits g.M.Machine.same c.args.layout.now c.args.number k (g.L.SnapList.list c.args.snaps.now) c.args.change _ c.args.j next c.fill.result is within (c.fill.ensures.told k (changing_at (g.L.SnapList.list c.args.snaps.now) c.args.change (AtSeen c.args.j)) (rw (c.get-wanted.ensures, c.index.ensures.value, c.number.ensures.value) x)))
+    (λ next is within k x. next_seen k (g.L.SnapList.list c.args.snaps.now) c.args.change _ c.args.j next c.fill.result is within (c.fill.ensures.told k (changing_at (g.L.SnapList.list c.args.snaps.now) c.args.change (AtSeen c.args.j)) (rw (c.get-wanted.ensures, c.index.ensures.value, c.number.ensures.value) x)))
 
 pub returns-clause-last : goal.returns-clause-last
 returns-clause-last g c = behind_none c.member_behind.result c.args.j _ c.member_behind.ensures.valid c.member_behind.ensures.value _
-    (λ none k x. to_call g.T.Shape.allows g.S.Shape.allows g.M.Machine.ready g.M.Machine.waits g.M.Machine.same c.args.layout.now c.args.number k (g.L.SnapList.list c.args.snaps.now) c.args.change _ c.args.j c.fill.result none (c.fill.ensures.told k (changing_at (g.L.SnapList.list c.args.snaps.now) c.args.change (AtSeen c.args.j)) (rw (c.get-wanted.ensures, c.index.ensures.value, c.number.ensures.value) x)))
+    (λ none k x. to_call k (g.L.SnapList.list c.args.snaps.now) c.args.change _ c.args.j c.fill.result none (c.fill.ensures.told k (changing_at (g.L.SnapList.list c.args.snaps.now) c.args.change (AtSeen c.args.j)) (rw (c.get-wanted.ensures, c.index.ensures.value, c.number.ensures.value) x)))

@@ -12,4 +12,4 @@ pub mark-requires-4-clause-marks : goal.mark-requires-4-clause-marks
 mark-requires-4-clause-marks g c = let r = c.requires.marks in (r.0, c.mark-3.ensures.marked r.0 (c.mark-2.ensures.marked r.0 (c.mark.ensures.marked r.0 r.1)))
 
 pub returns-clause-marked : goal.returns-clause-marked
-returns-clause-marked g c = λ k x. to_new g.T.Shape.allows g.S.Shape.allows g.M.Machine.ready g.M.Machine.waits g.M.Machine.same c.args.layout.now c.args.number k _ c.args.run.now 4 (λ i a b. absurd (let z : i < i = omega (arith, a, b) in omega (arith, z))) (c.mark-4.ensures.marked k (c.mark-3.ensures.marked k (c.mark-2.ensures.marked k (c.mark.ensures.marked k x))))
+returns-clause-marked g c = λ k x. to_new k _ c.args.run.now 4 (λ i a b. absurd (let z : i < i = omega (arith, a, b) in omega (arith, z))) (c.mark-4.ensures.marked k (c.mark-3.ensures.marked k (c.mark-2.ensures.marked k (c.mark.ensures.marked k x))))

@@ -4,10 +4,10 @@ use Rattle.forest.proofs.StraightReads.{told_on}
 use Rattle.forest.proofs.straight.reading.tell.Goals as goal
 
 pub finish-requires-clause-stands : goal.finish-requires-clause-stands
-finish-requires-clause-stands g c = let b = c.requires.told in (b.0, told_on g.S.Shape.allows g.M.Machine.ready g.M.Machine.waits g.M.Machine.same g.N.Machine.ready g.N.Machine.waits g.N.Machine.answers g.N.Machine.same c.args.layout.now c.args.number b.0 _ c.args.run.now c.next-turn.new.self (Some c.args.told) c.next-turn.result c.next-turn.ensures.same (λ h. c.next-turn.ensures.turn b.0.call h) b.1)
+finish-requires-clause-stands g c = let b = c.requires.told in (b.0, told_on g.N.Machine.answers b.0 _ c.args.run.now c.next-turn.new.self (Some c.args.told) c.next-turn.result c.next-turn.ensures.same (λ h. c.next-turn.ensures.turn b.0.call h) b.1)
 
 pub returns-clause-ends : goal.returns-clause-ends
-returns-clause-ends g c = λ r x. c.finish.ensures.ends r (told_on g.S.Shape.allows g.M.Machine.ready g.M.Machine.waits g.M.Machine.same g.N.Machine.ready g.N.Machine.waits g.N.Machine.answers g.N.Machine.same c.args.layout.now c.args.number r _ c.args.run.now c.next-turn.new.self (Some c.args.told) c.next-turn.result c.next-turn.ensures.same (λ h. c.next-turn.ensures.turn r.call h) x)
+returns-clause-ends g c = λ r x. c.finish.ensures.ends r (told_on g.N.Machine.answers r _ c.args.run.now c.next-turn.new.self (Some c.args.told) c.next-turn.result c.next-turn.ensures.same (λ h. c.next-turn.ensures.turn r.call h) x)
 
 pub returns-clause-steps : goal.returns-clause-steps
 returns-clause-steps g c =

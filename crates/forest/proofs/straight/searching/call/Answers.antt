@@ -4,13 +4,13 @@ use Rattle.forest.proofs.straight.searching.call.Goals as goal
 
 pub call-requires-clause-waits : goal.call-requires-clause-waits
 call-requires-clause-waits g c = let b = c.requires.begins in
-    (walker g.S.Shape.allows g.M.Machine.ready g.M.Machine.waits g.M.Machine.same c.args.layout.now c.args.number b.0 (record c.args.run.now { snaps = c.clear.new.self }), walks g.S.Shape.allows g.M.Machine.ready g.M.Machine.waits g.M.Machine.same c.args.layout.now c.args.number b.0 (record c.args.run.now { snaps = c.clear.new.self }) _ c.args.run.now refl refl refl c.clear.ensures.items b.1)
+    (walker b.0 (record c.args.run.now { snaps = c.clear.new.self }), walks b.0 (record c.args.run.now { snaps = c.clear.new.self }) _ c.args.run.now refl refl refl c.clear.ensures.items b.1)
 
 pub loop-after-init : goal.loop-after-init
 loop-after-init g c = record {
   here = c.call.ensures.table;
   steps = (let b = c.requires.begins in begins_with_walk c.args.run.now c.clear.new.self c.call.result.1 _ _ _ c.clear.ensures.items (b.0.tells c.args.run.now _ _ b.1.so.0).1 c.call.ensures.steps);
-  waits = λ r x. walk_looks g.S.Shape.allows g.M.Machine.ready g.M.Machine.waits g.M.Machine.same c.args.layout.now c.args.number r (record c.args.run.now { snaps = c.clear.new.self }) _ c.call.result.0 c.call.result.1 (c.call.ensures.finds (walker g.S.Shape.allows g.M.Machine.ready g.M.Machine.waits g.M.Machine.same c.args.layout.now c.args.number r (record c.args.run.now { snaps = c.clear.new.self })) (walks g.S.Shape.allows g.M.Machine.ready g.M.Machine.waits g.M.Machine.same c.args.layout.now c.args.number r (record c.args.run.now { snaps = c.clear.new.self }) _ c.args.run.now refl refl refl c.clear.ensures.items x));
+  waits = λ r x. walk_looks r (record c.args.run.now { snaps = c.clear.new.self }) _ c.call.result.0 c.call.result.1 (c.call.ensures.finds (walker r (record c.args.run.now { snaps = c.clear.new.self })) (walks r (record c.args.run.now { snaps = c.clear.new.self }) _ c.args.run.now refl refl refl c.clear.ensures.items x));
 }
 
 pub search_on-requires-clause-waits : goal.search_on-requires-clause-waits

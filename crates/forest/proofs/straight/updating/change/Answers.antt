@@ -5,21 +5,22 @@ use Rattle.prims.specs.declared.update.Update.{Update}
 use Rattle.updates.specs.Next.{update_of}
 use Rattle.updates.specs.declared.update.Next.TheVariants.{Change}
 use Rattle.forest.specs.StraightUpdate.{Updater, UpdaterIsBlocked, UpdaterTries}
+use Rattle.forest.specs.CallKinds.{calls}
 use Rattle.forest.proofs.StraightUpdate.{changer, begins_change, changed, is_blocked, update_is}
 use Rattle.forest.proofs.straight.updating.change.Given.{Over}
 use Rattle.forest.proofs.straight.updating.change.Goals.{Else-call}
 use Rattle.forest.proofs.straight.updating.change.Goals as goal
 
 pub call-requires-clause-waits : goal.call-requires-clause-waits
-call-requires-clause-waits g c = let r = c.requires.tries in let u = r.0 in (changer g.S.Shape.allows g.M.Machine.ready g.M.Machine.waits g.M.Machine.same g.E.Edit.means c.args.layout.now c.args.number u c.args.run.now c.args.found.now, begins_change g.S.Shape.allows g.M.Machine.ready g.M.Machine.waits g.M.Machine.same g.E.Edit.means c.args.layout.now c.args.number u _ c.args.run.now c.args.found.now c.args.scx c.as_slice-snaps.result.now c.plan.result c.old.result c.fresh.result c.as_slice-snaps.ensures.value c.plan.ensures c.old.ensures c.fresh.ensures r.1)
+call-requires-clause-waits g c = let r = c.requires.tries in let u = r.0 in (changer u c.args.run.now c.args.found.now, begins_change u _ c.args.run.now c.args.found.now c.args.scx c.as_slice-snaps.result.now c.plan.result c.old.result c.fresh.result c.as_slice-snaps.ensures.value c.plan.ensures c.old.ensures c.fresh.ensures r.1)
 
 pub returns-then-call-clause-ends : goal.returns-then-call-clause-ends
-returns-then-call-clause-ends g c = λ u x. let t = c.call.ensures.commits c.if-call.true (changer g.S.Shape.allows g.M.Machine.ready g.M.Machine.waits g.M.Machine.same g.E.Edit.means c.args.layout.now c.args.number u c.args.run.now c.args.found.now) (begins_change g.S.Shape.allows g.M.Machine.ready g.M.Machine.waits g.M.Machine.same g.E.Edit.means c.args.layout.now c.args.number u _ c.args.run.now c.args.found.now c.args.scx c.as_slice-snaps.result.now c.plan.result c.old.result c.fresh.result c.as_slice-snaps.ensures.value c.plan.ensures c.old.ensures c.fresh.ensures x) in
-    rw c.at.ensures (changed g.S.Shape.allows g.M.Machine.ready g.M.Machine.waits g.M.Machine.same g.E.Edit.means c.args.layout.now c.args.number u _ c.args.run.now c.args.found.now _ _ c.call.new.help t.0 g.met.E.Edit.laws.at_found t.1)
+returns-then-call-clause-ends g c = λ u x. let t = c.call.ensures.commits c.if-call.true (changer u c.args.run.now c.args.found.now) (begins_change u _ c.args.run.now c.args.found.now c.args.scx c.as_slice-snaps.result.now c.plan.result c.old.result c.fresh.result c.as_slice-snaps.ensures.value c.plan.ensures c.old.ensures c.fresh.ensures x) in
+    rw c.at.ensures (changed u _ c.args.run.now c.args.found.now _ _ c.call.new.help t.0 g.met.E.Edit.laws.at_found t.1)
 
 -- where a node could not be frozen it waits to look whether all were
-blocked : (g : Over) (c : Else-call g) (u : Updater {M = g.row.M.Denot} {E = g.row.E.Denot} g.S.Shape.allows g.M.Machine.ready g.M.Machine.waits g.M.Machine.same g.E.Edit.means c.args.layout.now c.args.number) → UpdaterTries g.S.Shape.allows g.M.Machine.ready g.M.Machine.waits g.M.Machine.same g.E.Edit.means c.args.layout.now c.args.number u c.args.seat.now.me.0.passes c.args.run.now c.args.found.now (Change c.args.scx) → UpdaterIsBlocked g.S.Shape.allows g.M.Machine.ready g.M.Machine.waits g.M.Machine.same g.E.Edit.means c.args.layout.now c.args.number u c.call.new.seat.me.0.passes c.args.run.now c.args.found.now c.args.scx c.call.new.help
-blocked g c u x = is_blocked g.S.Shape.allows g.M.Machine.ready g.M.Machine.waits g.M.Machine.same g.E.Edit.means c.args.layout.now c.args.number u _ c.args.run.now c.args.found.now c.args.scx c.call.new.help (with_update parts) same (c.call.ensures.blocked c.if-call.false (changer g.S.Shape.allows g.M.Machine.ready g.M.Machine.waits g.M.Machine.same g.E.Edit.means c.args.layout.now c.args.number u c.args.run.now c.args.found.now) (begins_change g.S.Shape.allows g.M.Machine.ready g.M.Machine.waits g.M.Machine.same g.E.Edit.means c.args.layout.now c.args.number u _ c.args.run.now c.args.found.now c.args.scx c.as_slice-snaps.result.now c.plan.result c.old.result c.fresh.result c.as_slice-snaps.ensures.value c.plan.ensures c.old.ensures c.fresh.ensures x))
+blocked : (g : Over) (c : Else-call g) (u : Updater (calls g.S.Shape g.M.Machine c.args.layout.now c.args.number) g.E.Edit.means) → UpdaterTries u c.args.seat.now.me.0.passes c.args.run.now c.args.found.now (Change c.args.scx) → UpdaterIsBlocked u c.call.new.seat.me.0.passes c.args.run.now c.args.found.now c.args.scx c.call.new.help
+blocked g c u x = is_blocked u _ c.args.run.now c.args.found.now c.args.scx c.call.new.help (with_update parts) same (c.call.ensures.blocked c.if-call.false (changer u c.args.run.now c.args.found.now) (begins_change u _ c.args.run.now c.args.found.now c.args.scx c.as_slice-snaps.result.now c.plan.result c.old.result c.fresh.result c.as_slice-snaps.ensures.value c.plan.ensures c.old.ensures c.fresh.ensures x))
   where
     parts : Update
     parts = record { snaps = c.as_slice-snaps.result.now; plan = c.plan.result; old = c.old.result; fresh = c.fresh.result }

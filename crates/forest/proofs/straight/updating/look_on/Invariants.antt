@@ -1,6 +1,7 @@
 use Rattle.std.proofs.Common.{◌≡◌, ◌+◌, ◌≤◌}
 use Rattle.forest.specs.StraightUpdate.{Updater, UpdaterGoesOn}
 use Rattle.forest.specs.Traces.{seat_steps, shared_nodes}
+use Rattle.forest.specs.CallKinds.{calls}
 use Rattle.updates.specs.Next.{left_then}
 use Rattle.forest.proofs.straight.updating.look_on.Given as goal
 
@@ -8,9 +9,9 @@ abbrev pub invariant-loop-next : goal.invariant-loop-next
 invariant-loop-next g l = record {
   here : (l.seat.table_id ≡ l.fn.seat.table_id) × (l.seat.me.1 ≡ l.fn.seat.me.1);
   steps : seat_steps l.seat.me.0.passes + left_then g.E.Edit.means l.run l.found l.next (shared_nodes l.layout) ≤ seat_steps l.fn.seat.me.0.passes + left_then g.E.Edit.means l.fn.run l.found l.fn.next (shared_nodes l.layout);
-  goes_on : (u : Updater {M = g.row.M.Denot} g.S.Shape.allows g.M.Machine.ready g.M.Machine.waits g.M.Machine.same g.E.Edit.means l.layout l.number)
-      → UpdaterGoesOn g.S.Shape.allows g.M.Machine.ready g.M.Machine.waits g.M.Machine.same g.E.Edit.means l.layout l.number u l.fn.seat.me.0.passes l.fn.run l.found l.fn.next
-      → UpdaterGoesOn g.S.Shape.allows g.M.Machine.ready g.M.Machine.waits g.M.Machine.same g.E.Edit.means l.layout l.number u l.seat.me.0.passes l.run l.found l.next;
+  goes_on : (u : Updater (calls g.S.Shape g.M.Machine l.layout l.number) g.E.Edit.means)
+      → UpdaterGoesOn u l.fn.seat.me.0.passes l.fn.run l.found l.fn.next
+      → UpdaterGoesOn u l.seat.me.0.passes l.run l.found l.next;
 }
 
 abbrev pub decreases-loop-next : goal.decreases-loop-next

@@ -3,6 +3,7 @@ use Rattle.arena.specs.declared.step.Kind.TheVariants.{LoadInfo}
 use Rattle.arena.specs.Words.{info}
 use Rattle.forest.specs.StraightValidate.{Validator, ValidatorWaits}
 use Rattle.forest.specs.Traces.{seat_steps}
+use Rattle.forest.specs.CallKinds.{calls}
 use Rattle.prims.specs.Llx.Known.{load}
 use Rattle.prims.specs.Snap.{snap_at}
 use Rattle.forest.proofs.straight.validating.validate.Given as goal
@@ -12,9 +13,9 @@ invariant-loop-snaps g l = record {
   here : (l.seat.table_id ≡ l.fn.seat.table_id) × (l.seat.me.1 ≡ l.fn.seat.me.1);
   more : l.asked < length (g.L.SnapList.list l.snaps);
   steps : seat_steps l.seat.me.0.passes ≡ seat_steps l.fn.seat.me.0.passes + l.asked;
-  waits : (v : Validator {M = g.row.M.Denot} g.S.Shape.allows g.M.Machine.ready g.M.Machine.waits g.M.Machine.same l.layout l.number (g.L.SnapList.list l.snaps))
-      → ValidatorWaits g.S.Shape.allows g.M.Machine.ready g.M.Machine.waits g.M.Machine.same l.layout l.number (g.L.SnapList.list l.snaps) v l.fn.seat.me.0.passes 1 (load LoadInfo (info (snap_at (g.L.SnapList.list l.snaps) 0).node.0))
-      → ValidatorWaits g.S.Shape.allows g.M.Machine.ready g.M.Machine.waits g.M.Machine.same l.layout l.number (g.L.SnapList.list l.snaps) v l.seat.me.0.passes (suc l.asked) (load LoadInfo (info (snap_at (g.L.SnapList.list l.snaps) l.asked).node.0));
+  waits : (v : Validator (calls g.S.Shape g.M.Machine l.layout l.number) (g.L.SnapList.list l.snaps))
+      → ValidatorWaits v l.fn.seat.me.0.passes 1 (load LoadInfo (info (snap_at (g.L.SnapList.list l.snaps) 0).node.0))
+      → ValidatorWaits v l.seat.me.0.passes (suc l.asked) (load LoadInfo (info (snap_at (g.L.SnapList.list l.snaps) l.asked).node.0));
 }
 
 abbrev pub decreases-loop-snaps : goal.decreases-loop-snaps

@@ -9,21 +9,21 @@ use Rattle.forest.proofs.straight.visiting.look_on.Goals.{In-Ok-looked}
 use Rattle.forest.proofs.straight.visiting.look_on.Goals as goal
 
 pub look-requires-clause-waits : goal.look-requires-clause-waits
-look-requires-clause-waits g c = let w = c.requires.waits in (looker g.S.Shape.allows g.M.Machine.ready g.M.Machine.waits g.M.Machine.same c.args.layout.now c.args.number w.0 c.args.run.now c.args.level c.args.left c.args.right, begins_look g.S.Shape.allows g.M.Machine.ready g.M.Machine.waits g.M.Machine.same c.args.layout.now c.args.number w.0 c.args.run.now c.args.level c.args.left c.args.right _ c.args.node w.1)
+look-requires-clause-waits g c = let w = c.requires.waits in (looker w.0 c.args.run.now c.args.level c.args.left c.args.right, begins_look w.0 c.args.run.now c.args.level c.args.left c.args.right _ c.args.node w.1)
 
 pub returns-in-Ok-looked-clause-goes_on : goal.returns-in-Ok-looked-clause-goes_on
-returns-in-Ok-looked-clause-goes_on g c = λ r x. looks_on g.S.Shape.allows g.M.Machine.ready g.M.Machine.waits g.M.Machine.same c.args.layout.now c.args.number r c.args.run.now c.args.level c.args.left c.args.right _ c.looked.new.self c.args.node c.in-Ok.snap c.in-Ok-looked.next c.looked.ensures.tries c.looked.ensures.same (rw c.in-Ok-looked.is at c.looked.ensures.goes_on)
-    (c.in-Ok.ensures.snaps (looker g.S.Shape.allows g.M.Machine.ready g.M.Machine.waits g.M.Machine.same c.args.layout.now c.args.number r c.args.run.now c.args.level c.args.left c.args.right) (begins_look g.S.Shape.allows g.M.Machine.ready g.M.Machine.waits g.M.Machine.same c.args.layout.now c.args.number r c.args.run.now c.args.level c.args.left c.args.right _ c.args.node x))
+returns-in-Ok-looked-clause-goes_on g c = λ r x. looks_on r c.args.run.now c.args.level c.args.left c.args.right _ c.looked.new.self c.args.node c.in-Ok.snap c.in-Ok-looked.next c.looked.ensures.tries c.looked.ensures.same (rw c.in-Ok-looked.is at c.looked.ensures.goes_on)
+    (c.in-Ok.ensures.snaps (looker r c.args.run.now c.args.level c.args.left c.args.right) (begins_look r c.args.run.now c.args.level c.args.left c.args.right _ c.args.node x))
 
 pub returns-in-Err-looked-clause-goes_on : goal.returns-in-Err-looked-clause-goes_on
-returns-in-Err-looked-clause-goes_on g c = λ r x. looks_last g.S.Shape.allows g.M.Machine.ready g.M.Machine.waits g.M.Machine.same c.args.layout.now c.args.number r c.args.run.now c.args.level c.args.left c.args.right _ c.looked.new.self c.args.node c.in-Ok.snap c.in-Err-looked.refused c.looked.ensures.same (rw c.in-Err-looked.is at c.looked.ensures.goes_on)
-    (c.in-Ok.ensures.snaps (looker g.S.Shape.allows g.M.Machine.ready g.M.Machine.waits g.M.Machine.same c.args.layout.now c.args.number r c.args.run.now c.args.level c.args.left c.args.right) (begins_look g.S.Shape.allows g.M.Machine.ready g.M.Machine.waits g.M.Machine.same c.args.layout.now c.args.number r c.args.run.now c.args.level c.args.left c.args.right _ c.args.node x))
+returns-in-Err-looked-clause-goes_on g c = λ r x. looks_last r c.args.run.now c.args.level c.args.left c.args.right _ c.looked.new.self c.args.node c.in-Ok.snap c.in-Err-looked.refused c.looked.ensures.same (rw c.in-Err-looked.is at c.looked.ensures.goes_on)
+    (c.in-Ok.ensures.snaps (looker r c.args.run.now c.args.level c.args.left c.args.right) (begins_look r c.args.run.now c.args.level c.args.left c.args.right _ c.args.node x))
 
 -- with its snapshot it has fewer steps left in this try
 lighter : (g : Over) (c : In-Ok-looked g) → range_left (placed c.looked.new.self c.in-Ok-looked.next) (shared_nodes c.args.layout.now) < c.args.run.now.tries * try_left c.args.run.now.most (shared_nodes c.args.layout.now) + (length c.args.run.now.snaps.items + 1 + 67 * (1 + shared_nodes c.args.layout.now - c.args.level) + leaves_left c.args.run.now.leaves (shared_nodes c.args.layout.now))
 lighter g c =
     let w = c.requires.waits in
-    let fits = level_fits g.S.Shape.allows g.M.Machine.ready g.M.Machine.waits g.M.Machine.same c.args.layout.now c.args.number w.0 c.args.run.now c.args.level c.args.left c.args.right _ c.args.node c.in-Ok.snap (c.in-Ok.ensures.snaps (looker g.S.Shape.allows g.M.Machine.ready g.M.Machine.waits g.M.Machine.same c.args.layout.now c.args.number w.0 c.args.run.now c.args.level c.args.left c.args.right) (begins_look g.S.Shape.allows g.M.Machine.ready g.M.Machine.waits g.M.Machine.same c.args.layout.now c.args.number w.0 c.args.run.now c.args.level c.args.left c.args.right _ c.args.node w.1)) in
+    let fits = level_fits w.0 c.args.run.now c.args.level c.args.left c.args.right _ c.args.node c.in-Ok.snap (c.in-Ok.ensures.snaps (looker w.0 c.args.run.now c.args.level c.args.left c.args.right) (begins_look w.0 c.args.run.now c.args.level c.args.left c.args.right _ c.args.node w.1)) in
     let near : ComesNearer c.looked.new.self c.in-Ok-looked.next (shared_nodes c.args.layout.now) (length c.args.run.now.snaps.items + 1 + 67 * (1 + shared_nodes c.args.layout.now - c.args.level) + leaves_left c.args.run.now.leaves (shared_nodes c.args.layout.now)) = rw c.in-Ok-looked.is at (c.looked.ensures.nearer (shared_nodes c.args.layout.now) fits) in
     subst (λ (t : ℕ). range_left (placed c.looked.new.self c.in-Ok-looked.next) (shared_nodes c.args.layout.now) < t * try_left c.args.run.now.most (shared_nodes c.args.layout.now) + (length c.args.run.now.snaps.items + 1 + 67 * (1 + shared_nodes c.args.layout.now - c.args.level) + leaves_left c.args.run.now.leaves (shared_nodes c.args.layout.now))) c.looked.ensures.tries (subst (λ (t : ℕ). range_left (placed c.looked.new.self c.in-Ok-looked.next) (shared_nodes c.args.layout.now) < c.looked.new.self.tries * try_left t (shared_nodes c.args.layout.now) + (length c.args.run.now.snaps.items + 1 + 67 * (1 + shared_nodes c.args.layout.now - c.args.level) + leaves_left c.args.run.now.leaves (shared_nodes c.args.layout.now))) c.looked.ensures.same.2 (range_placed_nearer c.looked.new.self c.in-Ok-looked.next (shared_nodes c.args.layout.now) (length c.args.run.now.snaps.items + 1 + 67 * (1 + shared_nodes c.args.layout.now - c.args.level) + leaves_left c.args.run.now.leaves (shared_nodes c.args.layout.now)) (omega arith) near))
 
@@ -34,7 +34,7 @@ pub returns-in-Ok-looked-clause-nearer : goal.returns-in-Ok-looked-clause-nearer
 returns-in-Ok-looked-clause-nearer g c = let n = lighter g (goal.at.returns-in-Ok-looked-clause-nearer g c).In-Ok-looked in omega (arith, n)
 
 pub finish-requires-clause-stands : goal.finish-requires-clause-stands
-finish-requires-clause-stands g c = let w = c.requires.waits in (w.0, looks_again g.S.Shape.allows g.M.Machine.ready g.M.Machine.waits g.M.Machine.same c.args.layout.now c.args.number w.0 c.args.run.now c.args.level c.args.left c.args.right _ _ c.args.node c.in-Err.marked c.in-Err.scx c.load.ensures (c.in-Err.ensures.waits (looker g.S.Shape.allows g.M.Machine.ready g.M.Machine.waits g.M.Machine.same c.args.layout.now c.args.number w.0 c.args.run.now c.args.level c.args.left c.args.right) (begins_look g.S.Shape.allows g.M.Machine.ready g.M.Machine.waits g.M.Machine.same c.args.layout.now c.args.number w.0 c.args.run.now c.args.level c.args.left c.args.right _ c.args.node w.1)))
+finish-requires-clause-stands g c = let w = c.requires.waits in (w.0, looks_again w.0 c.args.run.now c.args.level c.args.left c.args.right _ _ c.args.node c.in-Err.marked c.in-Err.scx c.load.ensures (c.in-Err.ensures.waits (looker w.0 c.args.run.now c.args.level c.args.left c.args.right) (begins_look w.0 c.args.run.now c.args.level c.args.left c.args.right _ c.args.node w.1)))
 
 pub returns-in-Err-clause-goes_on : goal.returns-in-Err-clause-goes_on
-returns-in-Err-clause-goes_on g c = λ r x. c.finish.ensures.ends r (looks_again g.S.Shape.allows g.M.Machine.ready g.M.Machine.waits g.M.Machine.same c.args.layout.now c.args.number r c.args.run.now c.args.level c.args.left c.args.right _ _ c.args.node c.in-Err.marked c.in-Err.scx c.load.ensures (c.in-Err.ensures.waits (looker g.S.Shape.allows g.M.Machine.ready g.M.Machine.waits g.M.Machine.same c.args.layout.now c.args.number r c.args.run.now c.args.level c.args.left c.args.right) (begins_look g.S.Shape.allows g.M.Machine.ready g.M.Machine.waits g.M.Machine.same c.args.layout.now c.args.number r c.args.run.now c.args.level c.args.left c.args.right _ c.args.node x)))
+returns-in-Err-clause-goes_on g c = λ r x. c.finish.ensures.ends r (looks_again r c.args.run.now c.args.level c.args.left c.args.right _ _ c.args.node c.in-Err.marked c.in-Err.scx c.load.ensures (c.in-Err.ensures.waits (looker r c.args.run.now c.args.level c.args.left c.args.right) (begins_look r c.args.run.now c.args.level c.args.left c.args.right _ c.args.node x)))

@@ -6,8 +6,8 @@ use Rattle.forest.proofs.straight.visiting.visit.Goals as goal
 pub loop-after-init : goal.loop-after-init
 loop-after-init g c = record {
   here = c.read-word.ensures.table;
-  steps = (let w = c.requires.waits in one_step _ _ _ _ c.read-word.ensures.one (root_lighter g.S.Shape.allows g.M.Machine.ready g.M.Machine.waits g.M.Machine.same c.args.layout.now c.args.number w.0 _ c.args.run.now c.head_on-next.new.self c.read-word.result c.head_on-next.result c.requires.root c.head_on-next.ensures.tries c.head_on-next.ensures.same (λ d h y o s e. c.head_on-next.ensures.goes_on d h y o s (e ∙ sym c.of.ensures)) (λ nodes f. rw c.of.ensures at (c.head_on-next.ensures.nearer nodes (rw c.of.ensures f))) (c.read-word.ensures.told w.0 c.args.run.now w.1)));
-  waits = λ r x. root_goes_on g.S.Shape.allows g.M.Machine.ready g.M.Machine.waits g.M.Machine.same c.args.layout.now c.args.number r _ c.args.run.now c.head_on-next.new.self c.read-word.result c.head_on-next.result c.requires.root c.head_on-next.ensures.tries c.head_on-next.ensures.same (λ d h y o s e. c.head_on-next.ensures.goes_on d h y o s (e ∙ sym c.of.ensures)) (c.read-word.ensures.told r c.args.run.now x);
+  steps = (let w = c.requires.waits in one_step _ _ _ _ c.read-word.ensures.one (root_lighter w.0 _ c.args.run.now c.head_on-next.new.self c.read-word.result c.head_on-next.result c.requires.root c.head_on-next.ensures.tries c.head_on-next.ensures.same (λ d h y o s e. c.head_on-next.ensures.goes_on d h y o s (e ∙ sym c.of.ensures)) (λ nodes f. rw c.of.ensures at (c.head_on-next.ensures.nearer nodes (rw c.of.ensures f))) (c.read-word.ensures.told w.0 c.args.run.now w.1)));
+  waits = λ r x. root_goes_on r _ c.args.run.now c.head_on-next.new.self c.read-word.result c.head_on-next.result c.requires.root c.head_on-next.ensures.tries c.head_on-next.ensures.same (λ d h y o s e. c.head_on-next.ensures.goes_on d h y o s (e ∙ sym c.of.ensures)) (c.read-word.ensures.told r c.args.run.now x);
 }
 
 pub visit_on-requires-clause-waits : goal.visit_on-requires-clause-waits

@@ -4,6 +4,7 @@ use Rattle.arena.specs.declared.word.NodeWord.TheVariants.{Head}
 use Rattle.arena.specs.Words.{node}
 use Rattle.forest.specs.StraightWalk.{Walker, WalkerWaits}
 use Rattle.forest.specs.Traces.{seat_steps, shared_nodes}
+use Rattle.forest.specs.CallKinds.{calls}
 use Rattle.prims.specs.Llx.Known.{load}
 use Rattle.template.specs.Walk.Places.{walk_at, walk_from, LoadsHead}
 use Rattle.template.specs.Walk.Steps.{walk_left}
@@ -14,9 +15,9 @@ invariant-loop-side g l = record {
   here : (l.seat.table_id ≡ l.fn.seat.table_id) × (l.seat.me.1 ≡ l.fn.seat.me.1);
   place : LoadsHead l.at;
   steps : seat_steps l.seat.me.0.passes + suc (walk_left l.at (shared_nodes l.layout)) ≤ seat_steps l.fn.seat.me.0.passes + 3 * (2 + shared_nodes l.layout);
-  waits : (w : Walker {M = g.row.M.Denot} g.S.Shape.allows g.M.Machine.ready g.M.Machine.waits g.M.Machine.same l.layout l.number)
-      → WalkerWaits g.S.Shape.allows g.M.Machine.ready g.M.Machine.waits g.M.Machine.same l.layout l.number w l.fn.seat.me.0.passes (walk_from l.wanted) record { 0 = 0 } (load LoadSettled (node 0 Head))
-      → WalkerWaits g.S.Shape.allows g.M.Machine.ready g.M.Machine.waits g.M.Machine.same l.layout l.number w l.seat.me.0.passes (walk_at l.wanted l.trail l.at) l.turn (load LoadSettled (node l.trail.node.0 Head));
+  waits : (w : Walker (calls g.S.Shape g.M.Machine l.layout l.number))
+      → WalkerWaits w l.fn.seat.me.0.passes (walk_from l.wanted) record { 0 = 0 } (load LoadSettled (node 0 Head))
+      → WalkerWaits w l.seat.me.0.passes (walk_at l.wanted l.trail l.at) l.turn (load LoadSettled (node l.trail.node.0 Head));
 }
 
 abbrev pub decreases-loop-side : goal.decreases-loop-side

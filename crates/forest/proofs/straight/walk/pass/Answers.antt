@@ -6,24 +6,24 @@ use Rattle.forest.proofs.StraightWalk.{to_key, leaves, to_left, to_side}
 use Rattle.forest.proofs.straight.walk.pass.Goals as goal
 
 pub returns-then-is_leaf-clause-finds : goal.returns-then-is_leaf-clause-finds
-returns-then-is_leaf-clause-finds g c = λ w turn x. leaves g.S.Shape.allows g.M.Machine.ready g.M.Machine.waits g.M.Machine.same _ _ w _ c.args.wanted c.args.trail turn c.args.at c.args.word c.of-head.result c.requires.place (sym c.of-head.ensures) (rw c.of-head.ensures (c.is_high.ensures.high c.if-is_high.true)) (rw c.of-head.ensures (sym c.is_leaf.ensures ∙ c.if-is_leaf.true)) x
+returns-then-is_leaf-clause-finds g c = λ w turn x. leaves w _ c.args.wanted c.args.trail turn c.args.at c.args.word c.of-head.result c.requires.place (sym c.of-head.ensures) (rw c.of-head.ensures (c.is_high.ensures.high c.if-is_high.true)) (rw c.of-head.ensures (sym c.is_leaf.ensures ∙ c.if-is_leaf.true)) x
 
 pub returns-then-is_high-clause-down : goal.returns-then-is_high-clause-down
-returns-then-is_high-clause-down g c = λ w turn x. to_left g.S.Shape.allows g.M.Machine.ready g.M.Machine.waits g.M.Machine.same _ _ w _ c.args.wanted c.args.trail turn c.args.at c.args.word (head_of c.args.word) c.requires.place refl (c.is_high.ensures.high c.if-is_high.true) (sym c.is_leaf.ensures ∙ c.if-is_leaf.false) x
+returns-then-is_high-clause-down g c = λ w turn x. to_left w _ c.args.wanted c.args.trail turn c.args.at c.args.word (head_of c.args.word) c.requires.place refl (c.is_high.ensures.high c.if-is_high.true) (sym c.is_leaf.ensures ∙ c.if-is_leaf.false) x
 
 pub read-key-requires-clause-waits : goal.read-key-requires-clause-waits
 read-key-requires-clause-waits g c = let r = c.requires.told in
-    (r.0, walk_at c.args.wanted c.args.trail (Key c.of-head.result), r.1, to_key g.S.Shape.allows g.M.Machine.ready g.M.Machine.waits g.M.Machine.same _ _ r.0 _ c.args.wanted c.args.trail r.1 c.args.at c.args.word c.of-head.result c.requires.place (sym c.of-head.ensures) (rw c.of-head.ensures (c.is_high.ensures.low c.if-is_high.false)) r.2)
+    (r.0, walk_at c.args.wanted c.args.trail (Key c.of-head.result), r.1, to_key r.0 _ c.args.wanted c.args.trail r.1 c.args.at c.args.word c.of-head.result c.requires.place (sym c.of-head.ensures) (rw c.of-head.ensures (c.is_high.ensures.low c.if-is_high.false)) r.2)
 
 pub end-requires-clause-told : goal.end-requires-clause-told
 end-requires-clause-told g c = let r = c.requires.told in
-    (r.0, r.1, c.read-key.ensures.told r.0 (walk_at c.args.wanted c.args.trail (Key c.of-head.result)) r.1 (to_key g.S.Shape.allows g.M.Machine.ready g.M.Machine.waits g.M.Machine.same _ _ r.0 _ c.args.wanted c.args.trail r.1 c.args.at c.args.word c.of-head.result c.requires.place (sym c.of-head.ensures) (rw c.of-head.ensures (c.is_high.ensures.low c.if-is_high.false)) r.2))
+    (r.0, r.1, c.read-key.ensures.told r.0 (walk_at c.args.wanted c.args.trail (Key c.of-head.result)) r.1 (to_key r.0 _ c.args.wanted c.args.trail r.1 c.args.at c.args.word c.of-head.result c.requires.place (sym c.of-head.ensures) (rw c.of-head.ensures (c.is_high.ensures.low c.if-is_high.false)) r.2))
 
 pub returns-then-is_leaf-2-clause-finds : goal.returns-then-is_leaf-2-clause-finds
 returns-then-is_leaf-2-clause-finds g c = λ w turn x.
-    c.end.ensures.finds w turn (c.read-key.ensures.told w (walk_at c.args.wanted c.args.trail (Key c.of-head.result)) turn (to_key g.S.Shape.allows g.M.Machine.ready g.M.Machine.waits g.M.Machine.same _ _ w _ c.args.wanted c.args.trail turn c.args.at c.args.word c.of-head.result c.requires.place (sym c.of-head.ensures) (rw c.of-head.ensures (c.is_high.ensures.low c.if-is_high.false)) x))
+    c.end.ensures.finds w turn (c.read-key.ensures.told w (walk_at c.args.wanted c.args.trail (Key c.of-head.result)) turn (to_key w _ c.args.wanted c.args.trail turn c.args.at c.args.word c.of-head.result c.requires.place (sym c.of-head.ensures) (rw c.of-head.ensures (c.is_high.ensures.low c.if-is_high.false)) x))
 
 pub returns-clause-down : goal.returns-clause-down
 returns-clause-down g c = λ w turn x.
-    to_side g.S.Shape.allows g.M.Machine.ready g.M.Machine.waits g.M.Machine.same _ _ w _ c.args.wanted c.args.trail turn (head_of c.args.word) c.read-key.result c.side_of.result c.side_of.ensures (sym c.is_leaf-2.ensures ∙ c.if-is_leaf-2.false)
-    (c.read-key.ensures.told w (walk_at c.args.wanted c.args.trail (Key (head_of c.args.word))) turn (to_key g.S.Shape.allows g.M.Machine.ready g.M.Machine.waits g.M.Machine.same _ _ w _ c.args.wanted c.args.trail turn c.args.at c.args.word (head_of c.args.word) c.requires.place refl (c.is_high.ensures.low c.if-is_high.false) x))
+    to_side w _ c.args.wanted c.args.trail turn (head_of c.args.word) c.read-key.result c.side_of.result c.side_of.ensures (sym c.is_leaf-2.ensures ∙ c.if-is_leaf-2.false)
+    (c.read-key.ensures.told w (walk_at c.args.wanted c.args.trail (Key (head_of c.args.word))) turn (to_key w _ c.args.wanted c.args.trail turn c.args.at c.args.word (head_of c.args.word) c.requires.place refl (c.is_high.ensures.low c.if-is_high.false) x))

@@ -1,0 +1,22 @@
+-- The calls of a machine, as the clauses of straight code see them.
+use Rattle.std.specs.Prelude.{ℕ, Option}
+use Rattle.arena.specs.declared.layout.Layout.{Layout}
+use Rattle.arena.specs.declared.machine.Machine.{Ghosts as Machine}
+use Rattle.arena.specs.declared.machine.Shape.{Ghosts as Shape}
+use Rattle.arena.specs.declared.step.Step.{Step}
+use Rattle.arena.specs.History.{History}
+use Rattle.arena.specs.Machines.{Call}
+
+-- What is said of the calls of a machine: in which runs they are made, when it may be told
+-- something, when it waits for a step, what of it stays the same, and their layout and number.
+pub record Calls (M : Type 0) : Type 1 where
+  pub allows : Layout → History → ℕ → Type 0
+  pub ready : M → Call → History → Option ℕ → Type 0
+  pub waits : M → Call → History → Step → Type 0
+  pub same : M → M → Type 0
+  pub layout : Layout
+  pub number : ℕ
+
+-- the calls of a machine under a shape that have this layout and number
+abbrev pub calls : {S M A : Type 0} → Shape S → Machine M S A → Layout → ℕ → Calls M
+calls s m layout number = record { allows = s.allows; ready = m.ready; waits = m.waits; same = m.same; layout = layout; number = number }
