@@ -22,44 +22,38 @@ use Rattle.prims.specs.declared.scx.ScxAt.TheVariants.{Plan as AtPlan, New as At
 use Rattle.prims.specs.declared.snap.Snap.{Snap}
 use Rattle.forest.specs.declared.straight.changing.Change.{Change}
 use Rattle.forest.specs.declared.view.SeatedPass.{SeatedPass}
-use Rattle.forest.specs.StraightChange.{Changer, ChangerWaits, ChangerIsTold, changing_at, scx_fill}
-use Rattle.forest.specs.StraightHelp.{Helper, HelperWaits, HelperIsTold}
-use Rattle.forest.specs.Traces.{goes_on}
+use Rattle.forest.specs.StraightChange.{Changer, scx_inside, changing_at, scx_fill}
+use Rattle.forest.specs.StraightHelp.{Helper, help_inside}
 use Rattle.forest.specs.CallKinds.{Calls}
+use Rattle.forest.specs.Inside.{InnerIsTold, InnerWaits}
+use Rattle.forest.proofs.Inside.{Nested, compose, goes_to}
+
+-- where HELP of its own SCX-record stands inside an SCX
+abbrev helps : (inner : Layout → History → ℕ → Type 0) (snaps : List Snap) (change : Change) → Nested (scx_inside inner) (help_inside inner)
+helps inner snaps change = record {
+  with_run = λ help. changing_at snaps change (Help help);
+  tells = λ m h v d t. ((d.layout, d.pass), (t.0.lawful, t.1.0));
+  turns = λ old now h v s is turn d t. (turn (d.layout, d.pass) (t.0.lawful, t.1.0), is ∙ t.1.1, t.1.2);
+  stays = λ old now is. (refl, refl, refl);
+}
 
 module _ {M : Type 0} {inner : Layout → History → ℕ → Type 0} {o : Calls M} (k : Changer inner o) (snaps : List Snap) (change : Change) where
   -- a machine that makes an SCX helps
   pub helper : Helper inner o
-  helper = record {
-    call = k.call;
-    is_layout = k.is_layout;
-    is_number = k.is_number;
-    first = k.first;
-    with_help = λ help. k.with_scx (changing_at snaps change (Help help));
-    turns = λ m now h v s is turn run x. k.turns (changing_at snaps change (Help m)) (changing_at snaps change (Help now)) h v s refl refl refl (λ d r t. (turn d.layout d.pass r.lawful t.0, is ∙ t.1, t.2)) run x;
-    stays = λ m now is. k.stays (changing_at snaps change (Help m)) (changing_at snaps change (Help now)) refl refl refl;
-  }
+  helper = compose k (helps inner snaps change)
 
   module _ (ps : List SeatedPass) where
     -- it waits for this step at this place
     abbrev At : ScxAt → Step → Type 0
-    At at step = ChangerWaits k ps (changing_at snaps change at) step
+    At at step = InnerWaits k ps (changing_at snaps change at) step
 
     -- the step of this place has told v
     abbrev Tells : ScxAt → ℕ → Type 0
-    Tells at v = ChangerIsTold k ps (changing_at snaps change at) v
+    Tells at v = InnerIsTold k ps (changing_at snaps change at) v
 
     -- one fill after another
     fills : (A B : ScxAt) (v : ℕ) (step : Step) → ((d : Call) (h : History) → ScxIsToldAt inner d h (job_of (changing_at snaps change A)) A v → FillMade inner d h (job_of (changing_at snaps change A)) A) → ((d : Call) (h : History) → FillMade inner d h (job_of (changing_at snaps change A)) A → ScxTurn inner d h (changing_at snaps change B) (Ask step)) → Tells A v → At B step
-    fills A B v step made turn x = record {
-      known = x.known;
-      is = x.is;
-      sound = x.sound;
-      so = (
-        k.turns (changing_at snaps change A) (changing_at snaps change B) _ v step refl refl refl (λ d r t. turn d _ (made d _ t)) x.sound x.so.0,
-        goes_on (k.with_scx (changing_at snaps change A)) (k.stays (changing_at snaps change A) (changing_at snaps change B) refl refl refl) x.so.1,
-      );
-    }
+    fills A B v step made turn = goes_to k ps (changing_at snaps change A) (changing_at snaps change B) v step (refl, refl, refl) (λ d h t. turn d h (made d h t.1))
 
     pub to_new : (v : ℕ) → Tells AtPlan v → At AtNew (scx_fill change.scx New change.fresh.0)
     to_new v = fills AtPlan AtNew v _ (λ d h x. x) (λ d h x. turn_plan inner d h (changing_at snaps change AtPlan) (changing_at snaps change AtNew) (Ask _) x record { stands = refl; asked = refl })
@@ -83,24 +77,17 @@ module _ {M : Type 0} {inner : Layout → History → ℕ → Type 0} {o : Calls
     to_call j v none = fills (AtSeen j) AtCall v _ (λ d h x. x) (λ d h x. turn_seen inner d h (changing_at snaps change (AtSeen j)) j (changing_at snaps change AtCall) (Ask _) x (inr record { none = none; fills = record { stands = refl; asked = refl } }))
 
     -- once all is filled, it helps its own SCX-record
-    pub to_help : (begun : HelpRun) (v : ℕ) → begun.scx ≡ change.scx → begun.at ≡ HelpStart → Tells AtCall v → HelperWaits helper ps (record begun { at = HelpPlan }) (settled_load begun.scx.0 Plan)
+    pub to_help : (begun : HelpRun) (v : ℕ) → begun.scx ≡ change.scx → begun.at ≡ HelpStart → Tells AtCall v → InnerWaits helper ps (record begun { at = HelpPlan }) (settled_load begun.scx.0 Plan)
     unfolding helper
-    to_help begun v is start x = record {
-      known = x.known;
-      is = x.is;
-      sound = x.sound;
-      so = (
-        k.turns (changing_at snaps change AtCall) (changing_at snaps change (Help (record begun { at = HelpPlan }))) _ v _ refl refl refl (λ d r t. let y = begin_help inner d _ (changing_at snaps change AtCall) begun r t is start in (record { known = y.ready.1; asked = refl }, is, y.filled)) x.sound x.so.0,
-        goes_on (k.with_scx (changing_at snaps change AtCall)) (k.stays (changing_at snaps change AtCall) (changing_at snaps change (Help (record begun { at = HelpPlan }))) refl refl refl) x.so.1,
-      );
-    }
+    to_help begun v is start = goes_to k ps (changing_at snaps change AtCall) (changing_at snaps change (Help (record begun { at = HelpPlan }))) v _ (refl, refl, refl)
+        (λ d h t. let y = begin_help inner d h (changing_at snaps change AtCall) begun t.0 t.1 is start in (record { known = y.ready.1; asked = refl }, is, y.filled))
 
     -- what its HELP waits for or is told, it waits for or is told
-    pub help_waits : (help : HelpRun) (step : Step) → HelperWaits helper ps help step → At (Help help) step
+    pub help_waits : (help : HelpRun) (step : Step) → InnerWaits helper ps help step → At (Help help) step
     unfolding helper
     help_waits help step x = x
 
-    pub help_told : (help : HelpRun) (v : ℕ) → HelperIsTold helper ps help v → Tells (Help help) v
+    pub help_told : (help : HelpRun) (v : ℕ) → InnerIsTold helper ps help v → Tells (Help help) v
     unfolding helper
     help_told help v x = x
 

@@ -77,10 +77,10 @@ module _ {K V : Type 0} (valid_key : K → Type 0) (key : K → ℕ) (valid_valu
       is_layout = is_layout;
       is_number = is_number;
       first = at (walk_at wanted root_trail Start);
-      with_walk = λ walk turn. at walk;
-      tells = λ m turn h v x. (c, is_layout, x.1.1.0.0);
-      turns = λ m now turn h v s past goal next x. (x.0, (record { mode = x.1.0.mode; small = x.1.0.small; number = x.1.0.number; limit = tt; spent = x.1.0.spent }, ((next c x.1.1.0.0, goal ∙ x.1.1.0.1, x.1.1.0.2), x.1.1.1)));
-      stays = λ m now turn then goal. (refl, refl, (omega arith, omega arith));
+      with_run = λ w. at w.0;
+      tells = λ w h v run x. (c, x.1.1.0.0);
+      turns = λ old now h v s goes next run x. (x.0, (record { mode = x.1.0.mode; small = x.1.0.small; number = x.1.0.number; limit = tt; spent = x.1.0.spent }, ((next c x.1.1.0.0, goes.1 ∙ x.1.1.0.1, x.1.1.0.2), x.1.1.1)));
+      stays = λ old now goes. (refl, refl, (omega arith, omega arith));
     }
 
   -- its machine waits for the head of the root

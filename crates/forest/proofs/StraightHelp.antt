@@ -19,9 +19,10 @@ use Rattle.help.proofs.Lemmas.{to_all_frozen as edge_to_all_frozen, to_commit as
 use Rattle.help.specs.declared.state.HelpRun.{HelpRun}
 use Rattle.help.specs.declared.state.HelpAt.TheVariants.{Plan as AtPlan, Member as AtMember, Seen as AtSeen, Freeze as AtFreeze, AllFrozen as AtAllFrozen, SetFrozen as AtSetFrozen, Mark as AtMark, New as AtNew, Old as AtOld, Update as AtUpdate, Commit as AtCommit}
 use Rattle.forest.specs.declared.view.SeatedPass.{SeatedPass}
-use Rattle.forest.specs.StraightHelp.{Helper, HelperWaits, HelperIsTold, HelperMarks}
-use Rattle.forest.specs.Traces.{goes_on}
+use Rattle.forest.specs.StraightHelp.{Helper, HelperMarks}
 use Rattle.forest.specs.CallKinds.{Calls}
+use Rattle.forest.specs.Inside.{InnerIsTold, InnerWaits}
+use Rattle.forest.proofs.Inside.{goes_to}
 
 -- what is below the next is below a number, or is that
 below_or_at : (i p : ℕ) → i < p + 1 → (i < p) ⊎ (i ≡ p)
@@ -40,11 +41,11 @@ more_marked h m p not x = record {
 module _ {M : Type 0} {inner : Layout → History → ℕ → Type 0} {o : Calls M} (k : Helper inner o) (ps : List SeatedPass) where
   -- it waits for this step
   abbrev At : HelpRun → Step → Type 0
-  At m step = HelperWaits k ps m step
+  At m step = InnerWaits k ps m step
 
   -- the step has told v
   abbrev Tells : HelpRun → ℕ → Type 0
-  Tells m v = HelperIsTold k ps m v
+  Tells m v = InnerIsTold k ps m v
 
   -- those of the first p nodes that are finalized are marked
   abbrev Marked : HelpRun → ℕ → Type 0
@@ -52,12 +53,7 @@ module _ {M : Type 0} {inner : Layout → History → ℕ → Type 0} {o : Calls
 
   -- an edge takes it from place to place
   takes : (m now : HelpRun) (v : ℕ) (step : Step) → now.scx ≡ m.scx → ((lay : Layout) (c : ℕ) (h : History) → Lawful lay h → HelpIsTold inner lay c h (reading m) m.at v → HelpWaits inner lay c now h step) → Tells m v → At now step
-  takes m now v step is to x = record {
-    known = x.known;
-    is = x.is;
-    sound = x.sound;
-    so = (k.turns m now _ v step is (λ lay c l t. to lay c _ l t) x.sound x.so.0, goes_on (k.with_help m) (k.stays m now is) x.so.1);
-  }
+  takes m now v step is to = goes_to k ps m now v step is (λ d h t. to d.0 d.1 h t.0 t.1)
 
   -- it reads the plan, the first node, and what its info was
   pub to_member : (m : HelpRun) (v : ℕ) → Tells (record m { at = AtPlan }) v → At (record m { plan = record { 0 = v }; at = AtMember First }) (settled_load m.scx.0 (Member 0))

@@ -18,30 +18,23 @@ use Rattle.prims.proofs.Lemmas.{Knows, knows, turn_info, turn_state, turn_mark, 
 use Rattle.spelling.specs.TreeShape.{TreeAllows}
 use Rattle.forest.specs.declared.view.SeatedPass.{SeatedPass}
 use Rattle.forest.specs.StraightLlx.{llx_at}
-use Rattle.forest.specs.StraightLook.{Looker, LookerWaits, LookerIsTold, LookerSnaps}
-use Rattle.forest.specs.Traces.{goes_on}
+use Rattle.forest.specs.StraightLook.{Looker, LookerSnaps}
 use Rattle.forest.specs.CallKinds.{Calls}
+use Rattle.forest.specs.Inside.{InnerIsTold, InnerWaits}
+use Rattle.forest.proofs.Inside.{goes_to}
 
 module _ {M : Type 0} {o : Calls M} (k : Looker o) (ps : List SeatedPass) (node : NodeNo) where
   -- it waits for this step at this place
   abbrev At : LlxAt → Step → Type 0
-  At at step = LookerWaits k ps (llx_at node at) step
+  At at step = InnerWaits k ps (llx_at node at) step
 
   -- the step of this place has told v
   abbrev Tells : LlxAt → ℕ → Type 0
-  Tells at v = LookerIsTold k ps (llx_at node at) v
+  Tells at v = InnerIsTold k ps (llx_at node at) v
 
   -- a turn takes it from place to place
   turns : (at next : LlxAt) (v : ℕ) (step : Step) → (at ≡ Start → ⊥) → ((d : Call) (h : History) → IsRun TreeAllows d.layout h → Knows TreeAllows d h node.0 at v → LlxWaits TreeAllows (llx_at node next) d h step) → Tells at v → At next step
-  turns at next v step d turn x = record {
-    known = x.known;
-    is = x.is;
-    sound = x.sound;
-    so = (
-      k.turns (llx_at node at) (llx_at node next) _ v step refl (λ c run r. turn c _ run (knows TreeAllows (llx_at node at) c _ (Some v) v at refl d refl r)) x.sound x.so.0,
-      goes_on (k.with_llx (llx_at node at)) (k.stays (llx_at node at) (llx_at node next) refl) x.so.1,
-    );
-  }
+  turns at next v step d turn = goes_to k ps (llx_at node at) (llx_at node next) v step refl (λ c h y. turn c h y.0 (knows TreeAllows (llx_at node at) c h (Some v) v at refl d refl y.1))
 
   pub to_info : (v : ℕ) (b : Bool) → (b ≡ true → v ≢ 0) → (b ≡ false → v ≡ 0) → Tells Marked v → At (Info b) (load LoadInfo (info node.0))
   to_info v b d z = turns Marked (Info b) v _ (λ e. cc) (λ c h run x. turn_info TreeAllows c h run (llx_at node Marked) (llx_at node (Info b)) (Ask _) b v x d z record { stands = refl; asked = refl })

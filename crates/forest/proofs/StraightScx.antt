@@ -18,10 +18,11 @@ use Rattle.prims.specs.declared.scx.ScxAt.TheVariants.{Plan as AtPlan, Help}
 use Rattle.prims.specs.declared.scx.ScxRun.{ScxRun}
 use Rattle.prims.specs.declared.update.Update.{Update}
 use Rattle.forest.specs.declared.view.SeatedPass.{SeatedPass}
-use Rattle.forest.specs.StraightChange.{Changer, ChangerWaits, ChangerIsTold, scx_fill, all_frozen_load}
+use Rattle.forest.specs.StraightChange.{Changer, scx_fill, all_frozen_load}
 use Rattle.forest.specs.StraightScx.{IsSamePut, scx_at, SeatPutBegins, SeatPutWaits, SeatPutTold, SeatPutEnds}
 use Rattle.forest.specs.Traces.{begins, goes_on}
 use Rattle.forest.specs.CallKinds.{Calls}
+use Rattle.forest.specs.Inside.{InnerIsTold, InnerWaits}
 
 module _ (allows : Layout → History → ℕ → Type 0) (c : Call) (ps : List SeatedPass) (first : PutRun) where
   -- it fills the value, and then the plan
@@ -59,26 +60,27 @@ module _ (allows : Layout → History → ℕ → Type 0) (layout : Layout) (num
     is_layout = is_layout;
     is_number = is_number;
     first = first;
-    with_scx = with_scx first;
-    turns = λ m now h v s is_scx is_update is_call turn run x. (
-      subst (λ (t : ScxNo). HasValue c h t.0 now.update.fresh.0 first.value) (sym is_scx) (subst (λ (u : Update). HasValue c h m.scx.0 u.fresh.0 first.value) (sym is_update) x.0),
-      turn c run x.1,
+    with_run = with_scx first;
+    tells = λ m h v run x. (c, (run, x.1));
+    turns = λ old now h v s goes turn run x. (
+      subst (λ (t : ScxNo). HasValue c h t.0 now.update.fresh.0 first.value) (sym goes.0) (subst (λ (u : Update). HasValue c h old.scx.0 u.fresh.0 first.value) (sym goes.1) x.0),
+      turn c (run, x.1),
     );
-    stays = λ m now is_scx is_update is_call. (is_scx, is_update, is_call, refl);
+    stays = λ old now goes. (goes.0, goes.1, goes.2, refl);
   }
 
   module _ (ps : List SeatedPass) (m : ScxRun) where
     -- what it waits for, its SCX does
-    pub begins_change : (step : Step) → SeatPutWaits allows c ps first (with_scx first m) step → ChangerWaits putter ps m step
+    pub begins_change : (step : Step) → SeatPutWaits allows c ps first (with_scx first m) step → InnerWaits putter ps m step
     unfolding putter
     begins_change step x = x
 
-    pub change_waits : (step : Step) → ChangerWaits putter ps m step → SeatPutWaits allows c ps first (with_scx first m) step
+    pub change_waits : (step : Step) → InnerWaits putter ps m step → SeatPutWaits allows c ps first (with_scx first m) step
     unfolding putter
     change_waits step x = x
 
     -- what HELP has told once it is committed, the SCX answers
-    pub put_done : (help : HelpRun) (v : ℕ) → ChangerIsTold putter ps (record m { at = Help (record help { at = HelpCommit }) }) v → SeatPutEnds allows c ps first (with_scx first (record m { at = Help (record help { at = HelpCommit }) })) Done
+    pub put_done : (help : HelpRun) (v : ℕ) → InnerIsTold putter ps (record m { at = Help (record help { at = HelpCommit }) }) v → SeatPutEnds allows c ps first (with_scx first (record m { at = Help (record help { at = HelpCommit }) })) Done
     unfolding putter
     put_done help v x =
         let run : ScxRun = record m { at = Help (record help { at = HelpCommit }) } in

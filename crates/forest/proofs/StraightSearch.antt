@@ -32,7 +32,6 @@ use Rattle.order.specs.declared.successor.SuccessorRun.{SuccessorRun}
 use Rattle.order.proofs.Lemmas.{next_waits, placed_nearer, value_found, walk_found, walk_waits}
 use Rattle.prims.specs.Llx.Known.{load, IsSnapshot}
 use Rattle.prims.specs.Snap.{snap_at}
-use Rattle.prims.specs.Vlx.Laws.{looked_on, looks_next}
 use Rattle.prims.specs.declared.llx.LlxAt.TheVariants.{Marked, StateAgain}
 use Rattle.prims.specs.declared.llx.LlxRun.{LlxRun}
 use Rattle.prims.specs.declared.snap.Snap.{Snap}
@@ -45,12 +44,14 @@ use Rattle.template.specs.declared.walk.WalkRun.{WalkRun}
 use Rattle.template.proofs.Lemmas.{walk_begins}
 use Rattle.forest.specs.declared.view.SeatedPass.{SeatedPass}
 use Rattle.forest.specs.StraightLlx.{llx_at}
-use Rattle.forest.specs.StraightLook.{Looker, LookerSnaps, LookerWaits}
+use Rattle.forest.specs.StraightLook.{Looker, LookerSnaps}
 use Rattle.forest.specs.StraightReads.{ReaderIsTold, ReaderStands, ReaderWaits, SearchBegins, SearchEnds, SearchWaits, SuccessorReader}
-use Rattle.forest.specs.StraightValidate.{Validator, ValidatorIsTold, ValidatorWaits}
+use Rattle.forest.specs.StraightValidate.{Validator}
 use Rattle.forest.specs.StraightWalk.{Walker, WalkerFinds, WalkerWaits}
 use Rattle.forest.specs.Traces.{goes_on, shared_nodes}
 use Rattle.forest.specs.CallKinds.{Calls}
+use Rattle.forest.specs.Inside.{InnerIsTold, InnerWaits}
+use Rattle.prims.specs.Vlx.Known.{VlxIsTold, VlxWaits}
 use Rattle.forest.proofs.Advances.{few_taken}
 use Rattle.forest.proofs.StraightReads.{told_on}
 
@@ -140,7 +141,8 @@ module _ {M : Type 0} {o : Calls M} (r : SuccessorReader o) where
       is_layout = r.is_layout;
       is_number = r.is_number;
       first = r.first;
-      with_llx = λ llx. r.with_run (at llx);
+      with_run = λ llx. r.with_run (at llx);
+      tells = λ llx h v run x. let y = r.tells (at llx) h (Some v) x in (from (from r.call y.0) y.4.1.0, (r.tree h run, y.4.1.2));
       turns = λ llx now h v s node turn run x.
           let y = r.tells (at llx) h (Some v) x in
           r.turns (at llx) (at now) h (Some v) s (itself (at llx)) x (
@@ -149,14 +151,14 @@ module _ {M : Type 0} {o : Calls M} (r : SuccessorReader o) where
             record { reads = y.2.reads; small = y.2.small },
             (
               subst (λ (k : NodeNo). LooksAt (at now) (from r.call y.0) h route level side k.0) (sym node) (looks_there (at llx) (at now) (from r.call y.0) h llx.node.0 refl refl refl y.4.0),
-              (y.4.1.0, y.4.1.1, turn (from (from r.call y.0) y.4.1.0) (r.tree h run) y.4.1.2),
+              (y.4.1.0, y.4.1.1, turn (from (from r.call y.0) y.4.1.0) (r.tree h run, y.4.1.2)),
             ),
           );
       stays = λ llx now node. r.stays (at llx) (at now) (itself (at llx));
     }
 
     -- it begins to look
-    pub begins_look : (ps : List SeatedPass) (n : NodeNo) → SearchWaits r ps m (LookNext route level side n) → LookerWaits looker ps (llx_at n Marked) (load LoadMarked (marked n.0))
+    pub begins_look : (ps : List SeatedPass) (n : NodeNo) → SearchWaits r ps m (LookNext route level side n) → InnerWaits looker ps (llx_at n Marked) (load LoadMarked (marked n.0))
     unfolding looker
     begins_look ps n x = x
 
@@ -192,7 +194,7 @@ module _ {M : Type 0} {o : Calls M} (r : SuccessorReader o) where
     level_fits ps n snap x = told_fits ps (at x.last) x.told x.so
 
     -- where something is in the way, it stands there
-    pub looks_again : (ps : List SeatedPass) (asked : Step) (n : NodeNo) (b : Bool) (scx : ScxNo) → asked ≡ load LoadState (state scx.0) → LookerWaits looker ps (llx_at n (StateAgain b scx)) (load LoadState (state scx.0)) → ReaderWaits r ps (at (llx_at n (StateAgain b scx))) asked
+    pub looks_again : (ps : List SeatedPass) (asked : Step) (n : NodeNo) (b : Bool) (scx : ScxNo) → asked ≡ load LoadState (state scx.0) → InnerWaits looker ps (llx_at n (StateAgain b scx)) (load LoadState (state scx.0)) → ReaderWaits r ps (at (llx_at n (StateAgain b scx))) asked
     unfolding looker
     looks_again ps asked n b scx step x = rw step x
 
@@ -207,28 +209,29 @@ module _ {M : Type 0} {o : Calls M} (r : SuccessorReader o) where
       is_layout = r.is_layout;
       is_number = r.is_number;
       first = r.first;
-      with_vlx = λ n. r.with_run (asking n);
-      turns = λ n asked h v is found_so more x.
-          let y = r.tells (asking asked) h (Some v) x in
-          let b = y.4.0 in let s = y.4.1 in let d = from (from r.call y.0) b in
-          rw e (r.turns (asking asked) (asking (suc asked)) h (Some v) _ (itself (asking asked)) x (
+      with_run = λ n. r.with_run (asking n);
+      tells = λ n h v run x. let y = r.tells (asking n) h (Some v) x in (from (from r.call y.0) y.4.0, (y.2.reads.run.1.lawful, subst (λ (l : List Snap). VlxIsTold l n (from (from r.call y.0) y.4.0) h v) (sym e) y.4.2));
+      turns = λ old now h v s is turn run x.
+          let y = r.tells (asking old) h (Some v) x in
+          let b = y.4.0 in let t = y.4.1 in let d = from (from r.call y.0) b in
+          r.turns (asking old) (asking now) h (Some v) s (itself (asking old)) x (
             y.0,
             y.1,
             record { reads = y.2.reads; small = y.2.small },
             (
               b,
-              record { own = s.own; within = s.within; then = s.then; right = s.right },
-              looks_next d h m.snaps.items asked (looked_on d h m.snaps.items asked n v y.2.reads.run.1.lawful y.4.2 is (rw e at found_so)) (rw e at more),
+              record { own = t.own; within = t.within; then = t.then; right = t.right },
+              subst (λ (l : List Snap). VlxWaits l now d h s) e (turn d (y.2.reads.run.1.lawful, subst (λ (l : List Snap). VlxIsTold l old d h v) (sym e) y.4.2)),
             ),
-          ));
-      stays = λ n. r.stays (asking n) (asking (suc n)) (itself (asking n));
+          );
+      stays = λ old now is. r.stays (asking old) (asking now) (itself (asking old));
     }
 
-    pub begins_vlx : (ps : List SeatedPass) → SearchWaits r ps m (ValidateNext found) → ValidatorWaits validator ps 1 (load LoadInfo (info (snap_at snaps 0).node.0))
+    pub begins_vlx : (ps : List SeatedPass) → SearchWaits r ps m (ValidateNext found) → InnerWaits validator ps 1 (load LoadInfo (info (snap_at snaps 0).node.0))
     unfolding validator
     begins_vlx ps x = subst (λ (l : List Snap). ReaderWaits r ps (asking 1) (load LoadInfo (info (snap_at l 0).node.0))) (sym e) x
 
-    pub told_vlx : (ps : List SeatedPass) (n v : ℕ) → ValidatorIsTold validator ps n v → IsTold ps (asking n) v
+    pub told_vlx : (ps : List SeatedPass) (n v : ℕ) → InnerIsTold validator ps n v → IsTold ps (asking n) v
     unfolding validator
     told_vlx ps n v x = x
 
@@ -246,13 +249,14 @@ module _ {M : Type 0} {o : Calls M} (r : SuccessorReader o) where
       is_layout = r.is_layout;
       is_number = r.is_number;
       first = r.first;
-      with_walk = λ walk turn. r.with_run (walking walk turn);
-      tells = λ walk turn h v x. let y = r.tells (walking walk turn) h (Some v) x in (from r.call y.0, r.is_layout, y.4.2);
-      turns = λ walk now turn h v s past goal next x.
-          let y = r.tells (walking walk turn) h (Some v) x in
-          r.turns (walking walk turn) (walking now (last_turn now.at now.trail.node turn)) h (Some v) s (itself m) x
-          (walk_waits m walk now turn r.call y.0 h s y.1 (goes_there (walking walk turn) m (from r.call y.0) h refl refl y.2) y.4.0 y.4.1 goal past (next (from r.call y.0) y.4.2));
-      stays = λ walk now turn then goal. r.stays (walking walk turn) (walking now then) (itself m);
+      with_run = λ w. r.with_run (walking w.0 w.1);
+      tells = λ w h v run x. let y = r.tells (walking w.0 w.1) h (Some v) x in (from r.call y.0, y.4.2);
+      turns = λ old now h v s goes next run x.
+          let y = r.tells (walking old.0 old.1) h (Some v) x in
+          let turned = last_turn now.0.at now.0.trail.node old.1 in
+          subst (λ (t : NodeNo). o.waits (r.with_run (walking now.0 t)) r.call h s) (sym goes.2) (r.turns (walking old.0 old.1) (walking now.0 turned) h (Some v) s (itself m) x
+          (walk_waits m old.0 now.0 old.1 r.call y.0 h s y.1 (goes_there (walking old.0 old.1) m (from r.call y.0) h refl refl y.2) y.4.0 y.4.1 goes.1 goes.0 (next (from r.call y.0) y.4.2)));
+      stays = λ old now goes. r.stays (walking old.0 old.1) (walking now.0 now.1) (itself m);
     }
 
     -- it begins its walk, with no snapshot

@@ -31,7 +31,7 @@ use Rattle.updates.specs.Pieces.{fills_behind, nth_node, part_behind, word_of, H
 use Rattle.updates.specs.Sound.{FillsWell, IsAtFound}
 use Rattle.updates.proofs.Lemmas.{fills_next, fills_word, joined_spends, placed_same, scx_asks, scx_done}
 use Rattle.forest.specs.declared.straight.changing.Change.{Change}
-use Rattle.forest.specs.StraightChange.{Changer, ChangerWaits, ChangerIsTold, all_frozen_load, changing_at, scx_fill}
+use Rattle.forest.specs.StraightChange.{Changer, all_frozen_load, changing_at, scx_fill}
 use Rattle.arena.specs.History.{History, value}
 use Rattle.arena.specs.Machines.{Call, IsRun}
 use Rattle.arena.specs.Words.{marked, node, state}
@@ -77,12 +77,13 @@ use Rattle.updates.specs.declared.update.Updated.{Updated}
 use Rattle.prims.specs.Laws.Idle.{IsQuietSince}
 use Rattle.forest.specs.declared.view.SeatedPass.{SeatedPass}
 use Rattle.forest.specs.StraightLlx.{llx_at}
-use Rattle.forest.specs.StraightLook.{Looker, LookerWaits, LookerSnaps}
+use Rattle.forest.specs.StraightLook.{Looker, LookerSnaps}
 use Rattle.forest.specs.StraightUpdate.{Updater, HasGoneOn, UpdaterBegins, UpdaterEnds, UpdaterGoesOn, UpdaterIsBlocked, UpdaterIsTold, UpdaterStops, UpdaterTries, UpdaterWaits, UpdaterStands}
 use Rattle.forest.specs.StraightWalk.{Walker, WalkerWaits, WalkerFinds}
 use Rattle.forest.specs.TableRule.{history_of}
 use Rattle.forest.specs.Traces.{goes_on, shared_nodes, weight}
 use Rattle.forest.specs.CallKinds.{Calls}
+use Rattle.forest.specs.Inside.{InnerIsTold, InnerWaits}
 use Rattle.forest.proofs.Advances.{few_taken}
 
 -- an update is what its parts are
@@ -140,14 +141,14 @@ module _ {M E : Type 0} {o : Calls M} {e : EditMeaning E} (u : Updater o e) wher
     is_layout = u.is_layout;
     is_number = u.is_number;
     first = u.first;
-    with_walk = λ walk turn. u.with_run (walking m walk);
-    tells = λ walk turn h v x. let y = u.tells (walking m walk) h (Some v) x in (from u.call y.0, u.is_layout, y.3.1);
-    turns = λ walk now turn h v s past goal next x.
-        let y = u.tells (walking m walk) h (Some v) x in
+    with_run = λ w. u.with_run (walking m w.0);
+    tells = λ w h v run x. let y = u.tells (walking m w.0) h (Some v) x in (from u.call y.0, y.3.1);
+    turns = λ old now h v s goes next run x.
+        let y = u.tells (walking m old.0) h (Some v) x in
         let w = y.3.0 in
-        u.turns (walking m walk) (walking m now) h (Some v) s record { edit = refl; called = refl; limit = refl; tries = (omega arith, omega arith); spends = (omega arith, omega arith, omega arith) } x
-        (y.0, try_past u.call y.0 h m.limit m.tries now.at past y.1, y.2, (record { small = w.small; rests = w.rests; quiet = w.quiet; same = goal ∙ w.same }, next (from u.call y.0) y.3.1));
-    stays = λ walk now turn then goal. u.stays (walking m walk) (walking m now) refl (omega arith, omega arith);
+        u.turns (walking m old.0) (walking m now.0) h (Some v) s record { edit = refl; called = refl; limit = refl; tries = (omega arith, omega arith); spends = (omega arith, omega arith, omega arith) } x
+        (y.0, try_past u.call y.0 h m.limit m.tries now.0.at goes.0 y.1, y.2, (record { small = w.small; rests = w.rests; quiet = w.quiet; same = goes.1 ∙ w.same }, next (from u.call y.0) y.3.1));
+    stays = λ old now goes. u.stays (walking m old.0) (walking m now.0) refl (omega arith, omega arith);
   }
 
   -- an update that may begin begins its walk
@@ -250,7 +251,8 @@ module _ {M E : Type 0} {o : Calls M} {e : EditMeaning E} (u : Updater o e) wher
     is_layout = u.is_layout;
     is_number = u.is_number;
     first = u.first;
-    with_llx = λ llx. u.with_run (looking m f llx);
+    with_run = λ llx. u.with_run (looking m f llx);
+    tells = λ llx h v run x. let y = u.tells (looking m f llx) h (Some v) x in (from (from u.call y.0) y.3.0, (u.tree h run, y.3.2));
     turns = λ llx now h v s node turn run x.
         let y = u.tells (looking m f llx) h (Some v) x in
         let l = y.3.1 in
@@ -261,14 +263,14 @@ module _ {M E : Type 0} {o : Calls M} {e : EditMeaning E} (u : Updater o e) wher
           (
             y.3.0,
             record { run = l.run; looked = l.looked; rests = record { share = l.rests.share; over = l.rests.over }; room = l.room; named = l.named ∙ ap At (sym node); now = l.now; quiet = l.quiet; since = l.since },
-            turn (from (from u.call y.0) y.3.0) (u.tree h run) y.3.2,
+            turn (from (from u.call y.0) y.3.0) (u.tree h run, y.3.2),
           ),
         );
     stays = λ llx now node. u.stays (looking m f llx) (looking m f now) refl (omega arith, omega arith);
   }
 
   -- an update whose try looks at a node has begun to look at it
-  pub begins_look : (ps : List SeatedPass) {A : Type 0} (m : UpdateRun E A) (f : Found) (node : NodeNo) → UpdaterTries u ps m f (LookNext node) → LookerWaits (looker m f) ps (llx_at node Marked) (load LoadMarked (marked node.0))
+  pub begins_look : (ps : List SeatedPass) {A : Type 0} (m : UpdateRun E A) (f : Found) (node : NodeNo) → UpdaterTries u ps m f (LookNext node) → InnerWaits (looker m f) ps (llx_at node Marked) (load LoadMarked (marked node.0))
   unfolding looker
   begins_look ps m f node x = x
 
@@ -301,7 +303,7 @@ module _ {M E : Type 0} {o : Calls M} {e : EditMeaning E} (u : Updater o e) wher
       met = there_wider u.call.pass h y.3.0 y.0 snap.node.0 snap.scx.0 l.since (subst (λ (n : NodeNo). HasFoundThere u.call.pass h y.3.0 n.0 snap.scx.0) (sym x.of_node) (x.found (from (from u.call y.0) y.3.0) h (u.tree h x.so.sound) y.3.2))
 
   -- where something is in the way, it waits for the state again
-  pub looks_again : (ps : List SeatedPass) {A : Type 0} (m : UpdateRun E A) (f : Found) (node : NodeNo) (b : Bool) (scx : ScxNo) → LookerWaits (looker m f) ps (llx_at node (StateAgain b scx)) (load LoadState (state scx.0)) → UpdaterTries u ps m f (WaitNext node b scx)
+  pub looks_again : (ps : List SeatedPass) {A : Type 0} (m : UpdateRun E A) (f : Found) (node : NodeNo) (b : Bool) (scx : ScxNo) → InnerWaits (looker m f) ps (llx_at node (StateAgain b scx)) (load LoadState (state scx.0)) → UpdaterTries u ps m f (WaitNext node b scx)
   unfolding looker
   looks_again ps m f node b scx x = x
 
@@ -492,17 +494,18 @@ module _ {M E : Type 0} {o : Calls M} {e : EditMeaning E} (u : Updater o e) wher
     is_layout = u.is_layout;
     is_number = u.is_number;
     first = u.first;
-    with_scx = λ scx. u.with_run (scxing m f scx);
-    turns = λ old now h v s is_scx is_update is_call turn run x.
+    with_run = λ scx. u.with_run (scxing m f scx);
+    tells = λ scx h v run x. let y = u.tells (scxing m f scx) h (Some v) x in (from (from u.call y.0) y.3.0, (u.tree h run, y.3.2));
+    turns = λ old now h v s goes turn run x.
         let y = u.tells (scxing m f old) h (Some v) x in
         u.turns (scxing m f old) (scxing m f now) h (Some v) s record { edit = refl; called = refl; limit = refl; tries = (omega arith, omega arith); spends = (omega arith, omega arith, omega arith) } x
-        (y.0, y.1, tt, scx_asks e (scxing m f old) old now f y.3.0 (from u.call y.0) h (Ask s) s y.3.1 is_scx is_update is_call refl (turn (from (from u.call y.0) y.3.0) (u.tree h run) y.3.2));
-    stays = λ old now is_scx is_update is_call. u.stays (scxing m f old) (scxing m f now) refl (omega arith, omega arith);
+        (y.0, y.1, tt, scx_asks e (scxing m f old) old now f y.3.0 (from u.call y.0) h (Ask s) s y.3.1 goes.0 goes.1 goes.2 refl (turn (from (from u.call y.0) y.3.0) (u.tree h run, y.3.2)));
+    stays = λ old now goes. u.stays (scxing m f old) (scxing m f now) refl (omega arith, omega arith);
   }
 
   -- an update whose try makes its SCX waits for the fill of its plan
   pub begins_change : (ps : List SeatedPass) {A : Type 0} (m : UpdateRun E A) (f : Found) (scx : ScxNo) (snaps : List Snap) (plan : PlanOf) (old fresh : NodeNo) → snaps ≡ m.snaps.items → plan ≡ (update_of e m f).plan → old ≡ (update_of e m f).old → fresh ≡ (update_of e m f).fresh
-      → UpdaterTries u ps m f (ChangeNext scx) → ChangerWaits (changer m f) ps (changing_at snaps record { scx = scx; call = m.call; plan = plan; old = old; fresh = fresh } AtPlan) (scx_fill scx Plan plan.0)
+      → UpdaterTries u ps m f (ChangeNext scx) → InnerWaits (changer m f) ps (changing_at snaps record { scx = scx; call = m.call; plan = plan; old = old; fresh = fresh } AtPlan) (scx_fill scx Plan plan.0)
   unfolding changer
   begins_change ps m f scx snaps plan old fresh is_snaps is_plan is_old is_fresh y = subst (λ (w : Update). UpdaterWaits u ps (scxing m f record { scx = scx; call = m.call; update = w; at = AtPlan }) (scx_fill scx Plan w.plan.0)) is y
     where
@@ -510,7 +513,7 @@ module _ {M E : Type 0} {o : Calls M} {e : EditMeaning E} (u : Updater o e) wher
       is = update_is (update_of e m f) snaps plan old fresh is_snaps is_plan is_old is_fresh
 
   -- once that is done it has answered
-  pub changed : (ps : List SeatedPass) {A : Type 0} (m : UpdateRun E A) (f : Found) (snaps : List Snap) (change : Change) (help : HelpRun) (v : ℕ) → IsAtFound e → ChangerIsTold (changer m f) ps (changing_at snaps change (Help (record help { at = HelpCommit }))) v → UpdaterEnds u ps m (done_with f)
+  pub changed : (ps : List SeatedPass) {A : Type 0} (m : UpdateRun E A) (f : Found) (snaps : List Snap) (change : Change) (help : HelpRun) (v : ℕ) → IsAtFound e → InnerIsTold (changer m f) ps (changing_at snaps change (Help (record help { at = HelpCommit }))) v → UpdaterEnds u ps m (done_with f)
   unfolding changer
   changed ps m f snaps change help v sound x = record {
     known = x.known;
@@ -536,7 +539,7 @@ module _ {M E : Type 0} {o : Calls M} {e : EditMeaning E} (u : Updater o e) wher
           (let k = y.3.2 in done_at (from (from u.call y.0) y.3.0) h scx (record help { at = HelpCommit }) (u.tree h x.sound).lawful k.2 k.1 true (record help { at = HelpCommit }) k.0 refl refl)
 
   -- where a node could not be frozen, it waits to look whether all were
-  pub is_blocked : (ps : List SeatedPass) {A : Type 0} (m : UpdateRun E A) (f : Found) (scx : ScxNo) (help : HelpRun) (run : ScxRun) → run ≡ record { scx = scx; call = m.call; update = update_of e m f; at = Help help } → ChangerWaits (changer m f) ps run (all_frozen_load scx) → UpdaterIsBlocked u ps m f scx help
+  pub is_blocked : (ps : List SeatedPass) {A : Type 0} (m : UpdateRun E A) (f : Found) (scx : ScxNo) (help : HelpRun) (run : ScxRun) → run ≡ record { scx = scx; call = m.call; update = update_of e m f; at = Help help } → InnerWaits (changer m f) ps run (all_frozen_load scx) → UpdaterIsBlocked u ps m f scx help
   unfolding changer
   is_blocked ps m f scx help run is x = subst (λ (r : ScxRun). UpdaterWaits u ps (scxing m f r) (all_frozen_load scx)) is x
 

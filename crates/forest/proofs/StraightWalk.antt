@@ -24,14 +24,15 @@ use Rattle.template.specs.declared.walk.WalkRun.{WalkRun}
 use Rattle.template.proofs.Lemmas.{head_to_key, head_ends, head_to_child, key_to_child, key_to_value, key_ends, value_ends, child_to_head}
 use Rattle.forest.specs.declared.view.SeatedPass.{SeatedPass}
 use Rattle.forest.specs.StraightWalk.{Walker, WalkerWaits, WalkerIsTold, WalkerFinds}
-use Rattle.forest.specs.Traces.{goes_on, shared_nodes}
+use Rattle.forest.specs.Traces.{shared_nodes}
 use Rattle.forest.specs.CallKinds.{Calls}
+use Rattle.forest.proofs.Inside.{goes_to}
 use Rattle.forest.proofs.Advances.{few_taken}
 
 module _ {M : Type 0} {o : Calls M} (w : Walker o) (ps : List SeatedPass) where
   -- an edge takes it from place to place
   goes : (m now : WalkRun) (turn : NodeNo) (v : ℕ) (s : Step) → IsPastRoot now.at → now.goal ≡ m.goal → ((d : Call) (h : History) → WalkIsTold m d h v → WalkWaits now d h s) → WalkerIsTold w ps m turn v → WalkerWaits w ps now (last_turn now.at now.trail.node turn) s
-  goes m now turn v s past goal edge x = record { known = x.known; is = x.is; sound = x.sound; so = (w.turns m now turn _ v s past goal (λ d. edge d _) x.so.0, goes_on (w.with_walk m turn) (w.stays m now turn (last_turn now.at now.trail.node turn) goal) x.so.1) }
+  goes m now turn v s past goal edge = goes_to w ps (m, turn) (now, last_turn now.at now.trail.node turn) v s (past, goal, refl) edge
 
   module _ (key : ℕ) (t : Trail) (turn : NodeNo) where
     pub to_key : (p : WalkAt) (v : ℕ) (head : HeadParts) → LoadsHead p → head_of v ≡ head → head.class ≡ 0 → WalkerIsTold w ps (walk_at key t p) turn v → WalkerWaits w ps (walk_at key t (Key head)) turn (load LoadSettled (node t.node.0 KeyWord))
@@ -61,8 +62,8 @@ module _ {M : Type 0} {o : Calls M} (w : Walker o) (ps : List SeatedPass) where
   -- what it is told leads it no deeper than the taken nodes allow
   pub fits : (m : WalkRun) (turn : NodeNo) (v : ℕ) → WalkerIsTold w ps m turn v → WalkFitsAt m.at v (shared_nodes o.layout)
   fits m turn v x =
-      let y = w.tells m turn _ v x.so.0 in
-      walk_told m y.0 _ (Some v) (shared_nodes o.layout) y.2.run.1 y.2 (few_taken o.allows o.layout w.call _ w.is_layout x.sound)
+      let y = w.tells (m, turn) _ v x.sound x.so.0 in
+      walk_told m y.0 _ (Some v) (shared_nodes o.layout) y.1.run.1 y.1 (few_taken o.allows o.layout w.call _ w.is_layout x.sound)
 
 -- a node's head, and what is loaded behind it, take at most three steps
 pub fewer : (p : WalkAt) (v nodes : ℕ) (head : HeadParts) → LoadsHead p → head_of v ≡ head → WalkFitsAt p v nodes → head.level + 1 < 2 + nodes → 3 + walk_left (Head head.level) nodes ≤ walk_left p nodes

@@ -17,6 +17,7 @@ pub mod StraightReads
 pub mod StraightValidate
 pub mod Traces
 pub mod CallKinds
+pub mod Inside
 pub mod TableRule
 pub mod Seats
 pub mod JoinedSeats

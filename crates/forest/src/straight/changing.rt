@@ -3,8 +3,9 @@ ghost use Rattle.std.specs.Prelude.{◌≡◌, ◌≤◌, ◌<◌, ◌+◌, ℕ,
 ghost use Rattle.arena.specs.MemberIndex.{member_index};
 ghost use Rattle.forest.specs.Seats.{IsSeatAt, StaysAtTable};
 ghost use Rattle.forest.specs.Traces.{seat_steps};
-ghost use Rattle.forest.specs.StraightChange.{Changer, ChangerWaits, ChangerIsTold, changing_at, scx_fill, all_frozen_load};
+ghost use Rattle.forest.specs.StraightChange.{Changer, changing_at, scx_fill, all_frozen_load};
 ghost use Rattle.forest.specs.CallKinds.{calls};
+ghost use Rattle.forest.specs.Inside.{InnerIsTold, InnerWaits};
 ghost use Rattle.help.specs.Help.Steps.{help_left};
 ghost use Rattle.help.specs.declared.state.HelpRun.{HelpRun};
 ghost use Rattle.prims.specs.Snap.{snap_at};
@@ -45,10 +46,10 @@ fn fill<S: Shape, M: Machine<S>, T: Shape>(
     value: u64,
 ) -> u64
     requires table { IsSeatAt words.now layout.now seat.old }
-    requires waits { (k : Changer T.allows (calls S.Shape M.Machine layout.now number)) × (m : ScxRun) × ChangerWaits k seat.old.me.0.passes m (scx_fill scx part value) }
+    requires waits { (k : Changer T.allows (calls S.Shape M.Machine layout.now number)) × (m : ScxRun) × InnerWaits k seat.old.me.0.passes m (scx_fill scx part value) }
     ensures table { StaysAtTable seat.old seat.new }
     ensures one { seat_steps seat.new.me.0.passes ≡ suc (seat_steps seat.old.me.0.passes) }
-    ensures told { (k : Changer T.allows (calls S.Shape M.Machine layout.now number)) (m : ScxRun) → ChangerWaits k seat.old.me.0.passes m (scx_fill scx part value) → ChangerIsTold k seat.new.me.0.passes m result }
+    ensures told { (k : Changer T.allows (calls S.Shape M.Machine layout.now number)) (m : ScxRun) → InnerWaits k seat.old.me.0.passes m (scx_fill scx part value) → InnerIsTold k seat.new.me.0.passes m result }
 {
     let (kind, word) = (Kind::Fill, Word::Scx(scx, part));
     let access = Access::Store(value);
@@ -67,12 +68,12 @@ fn fill_member<S: Shape, M: Machine<S>, T: Shape, L: SnapList>(
     j: MemberIndex,
 ) -> Option<MemberIndex>
     requires table { IsSeatAt words.now layout.now seat.old }
-    requires waits { (k : Changer T.allows (calls S.Shape M.Machine layout.now number)) × ChangerWaits k seat.old.me.0.passes (changing_at (L.list snaps.now) change (ScxAt.Member j)) (scx_fill change.scx (ScxWord.Member (member_index j)) (snap_at (L.list snaps.now) (member_index j)).node.0) }
+    requires waits { (k : Changer T.allows (calls S.Shape M.Machine layout.now number)) × InnerWaits k seat.old.me.0.passes (changing_at (L.list snaps.now) change (ScxAt.Member j)) (scx_fill change.scx (ScxWord.Member (member_index j)) (snap_at (L.list snaps.now) (member_index j)).node.0) }
     ensures table { StaysAtTable seat.old seat.new }
     ensures one { seat_steps seat.new.me.0.passes ≡ suc (seat_steps seat.old.me.0.passes) }
     ensures behind { IfSome result (λ next. (member_index next ≡ member_index j + 1) × (member_index next < 4)) }
-    ensures next { IfSome result (λ next. (k : Changer T.allows (calls S.Shape M.Machine layout.now number)) → ChangerWaits k seat.old.me.0.passes (changing_at (L.list snaps.now) change (ScxAt.Member j)) (scx_fill change.scx (ScxWord.Member (member_index j)) (snap_at (L.list snaps.now) (member_index j)).node.0) → ChangerWaits k seat.new.me.0.passes (changing_at (L.list snaps.now) change (ScxAt.Member next)) (scx_fill change.scx (ScxWord.Member (member_index next)) (snap_at (L.list snaps.now) (member_index next)).node.0)) }
-    ensures last { IfNone result ((k : Changer T.allows (calls S.Shape M.Machine layout.now number)) → ChangerWaits k seat.old.me.0.passes (changing_at (L.list snaps.now) change (ScxAt.Member j)) (scx_fill change.scx (ScxWord.Member (member_index j)) (snap_at (L.list snaps.now) (member_index j)).node.0) → ChangerWaits k seat.new.me.0.passes (changing_at (L.list snaps.now) change (ScxAt.Seen MemberIndex.First)) (scx_fill change.scx (ScxWord.Seen 0) (snap_at (L.list snaps.now) 0).scx.0)) }
+    ensures next { IfSome result (λ next. (k : Changer T.allows (calls S.Shape M.Machine layout.now number)) → InnerWaits k seat.old.me.0.passes (changing_at (L.list snaps.now) change (ScxAt.Member j)) (scx_fill change.scx (ScxWord.Member (member_index j)) (snap_at (L.list snaps.now) (member_index j)).node.0) → InnerWaits k seat.new.me.0.passes (changing_at (L.list snaps.now) change (ScxAt.Member next)) (scx_fill change.scx (ScxWord.Member (member_index next)) (snap_at (L.list snaps.now) (member_index next)).node.0)) }
+    ensures last { IfNone result ((k : Changer T.allows (calls S.Shape M.Machine layout.now number)) → InnerWaits k seat.old.me.0.passes (changing_at (L.list snaps.now) change (ScxAt.Member j)) (scx_fill change.scx (ScxWord.Member (member_index j)) (snap_at (L.list snaps.now) (member_index j)).node.0) → InnerWaits k seat.new.me.0.passes (changing_at (L.list snaps.now) change (ScxAt.Seen MemberIndex.First)) (scx_fill change.scx (ScxWord.Seen 0) (snap_at (L.list snaps.now) 0).scx.0)) }
 {
     let part = ScxWord::Member(j.number());
     let wanted = snaps.get(j.index()).node.0;
@@ -91,12 +92,12 @@ fn fill_members<S: Shape, M: Machine<S>, T: Shape, L: SnapList>(
     change: Change,
 )
     requires table { IsSeatAt words.now layout.now seat.old }
-    requires waits { (k : Changer T.allows (calls S.Shape M.Machine layout.now number)) × ChangerWaits k seat.old.me.0.passes (changing_at (L.list snaps.now) change (ScxAt.Member MemberIndex.First)) (scx_fill change.scx (ScxWord.Member 0) (snap_at (L.list snaps.now) 0).node.0) }
+    requires waits { (k : Changer T.allows (calls S.Shape M.Machine layout.now number)) × InnerWaits k seat.old.me.0.passes (changing_at (L.list snaps.now) change (ScxAt.Member MemberIndex.First)) (scx_fill change.scx (ScxWord.Member 0) (snap_at (L.list snaps.now) 0).node.0) }
     ensures table { StaysAtTable seat.old seat.new }
     ensures steps { seat_steps seat.new.me.0.passes ≤ seat_steps seat.old.me.0.passes + 4 }
     ensures waits { (k : Changer T.allows (calls S.Shape M.Machine layout.now number))
-        → ChangerWaits k seat.old.me.0.passes (changing_at (L.list snaps.now) change (ScxAt.Member MemberIndex.First)) (scx_fill change.scx (ScxWord.Member 0) (snap_at (L.list snaps.now) 0).node.0)
-        → ChangerWaits k seat.new.me.0.passes (changing_at (L.list snaps.now) change (ScxAt.Seen MemberIndex.First)) (scx_fill change.scx (ScxWord.Seen 0) (snap_at (L.list snaps.now) 0).scx.0) }
+        → InnerWaits k seat.old.me.0.passes (changing_at (L.list snaps.now) change (ScxAt.Member MemberIndex.First)) (scx_fill change.scx (ScxWord.Member 0) (snap_at (L.list snaps.now) 0).node.0)
+        → InnerWaits k seat.new.me.0.passes (changing_at (L.list snaps.now) change (ScxAt.Seen MemberIndex.First)) (scx_fill change.scx (ScxWord.Seen 0) (snap_at (L.list snaps.now) 0).scx.0) }
 {
     let first = MemberIndex::First;
     let Some(second) = fill_member::<S, M, T, L>(words, layout, seat, number, snaps, change, first)
@@ -126,12 +127,12 @@ fn fill_seen<S: Shape, M: Machine<S>, T: Shape, L: SnapList>(
     j: MemberIndex,
 ) -> Option<MemberIndex>
     requires table { IsSeatAt words.now layout.now seat.old }
-    requires waits { (k : Changer T.allows (calls S.Shape M.Machine layout.now number)) × ChangerWaits k seat.old.me.0.passes (changing_at (L.list snaps.now) change (ScxAt.Seen j)) (scx_fill change.scx (ScxWord.Seen (member_index j)) (snap_at (L.list snaps.now) (member_index j)).scx.0) }
+    requires waits { (k : Changer T.allows (calls S.Shape M.Machine layout.now number)) × InnerWaits k seat.old.me.0.passes (changing_at (L.list snaps.now) change (ScxAt.Seen j)) (scx_fill change.scx (ScxWord.Seen (member_index j)) (snap_at (L.list snaps.now) (member_index j)).scx.0) }
     ensures table { StaysAtTable seat.old seat.new }
     ensures one { seat_steps seat.new.me.0.passes ≡ suc (seat_steps seat.old.me.0.passes) }
     ensures behind { IfSome result (λ next. (member_index next ≡ member_index j + 1) × (member_index next < 4)) }
-    ensures next { IfSome result (λ next. (k : Changer T.allows (calls S.Shape M.Machine layout.now number)) → ChangerWaits k seat.old.me.0.passes (changing_at (L.list snaps.now) change (ScxAt.Seen j)) (scx_fill change.scx (ScxWord.Seen (member_index j)) (snap_at (L.list snaps.now) (member_index j)).scx.0) → ChangerWaits k seat.new.me.0.passes (changing_at (L.list snaps.now) change (ScxAt.Seen next)) (scx_fill change.scx (ScxWord.Seen (member_index next)) (snap_at (L.list snaps.now) (member_index next)).scx.0)) }
-    ensures last { IfNone result ((k : Changer T.allows (calls S.Shape M.Machine layout.now number)) → ChangerWaits k seat.old.me.0.passes (changing_at (L.list snaps.now) change (ScxAt.Seen j)) (scx_fill change.scx (ScxWord.Seen (member_index j)) (snap_at (L.list snaps.now) (member_index j)).scx.0) → ChangerWaits k seat.new.me.0.passes (changing_at (L.list snaps.now) change ScxAt.Call) (scx_fill change.scx ScxWord.Call change.call)) }
+    ensures next { IfSome result (λ next. (k : Changer T.allows (calls S.Shape M.Machine layout.now number)) → InnerWaits k seat.old.me.0.passes (changing_at (L.list snaps.now) change (ScxAt.Seen j)) (scx_fill change.scx (ScxWord.Seen (member_index j)) (snap_at (L.list snaps.now) (member_index j)).scx.0) → InnerWaits k seat.new.me.0.passes (changing_at (L.list snaps.now) change (ScxAt.Seen next)) (scx_fill change.scx (ScxWord.Seen (member_index next)) (snap_at (L.list snaps.now) (member_index next)).scx.0)) }
+    ensures last { IfNone result ((k : Changer T.allows (calls S.Shape M.Machine layout.now number)) → InnerWaits k seat.old.me.0.passes (changing_at (L.list snaps.now) change (ScxAt.Seen j)) (scx_fill change.scx (ScxWord.Seen (member_index j)) (snap_at (L.list snaps.now) (member_index j)).scx.0) → InnerWaits k seat.new.me.0.passes (changing_at (L.list snaps.now) change ScxAt.Call) (scx_fill change.scx ScxWord.Call change.call)) }
 {
     let part = ScxWord::Seen(j.number());
     let wanted = snaps.get(j.index()).scx.0;
@@ -150,12 +151,12 @@ fn fill_infos<S: Shape, M: Machine<S>, T: Shape, L: SnapList>(
     change: Change,
 )
     requires table { IsSeatAt words.now layout.now seat.old }
-    requires waits { (k : Changer T.allows (calls S.Shape M.Machine layout.now number)) × ChangerWaits k seat.old.me.0.passes (changing_at (L.list snaps.now) change (ScxAt.Seen MemberIndex.First)) (scx_fill change.scx (ScxWord.Seen 0) (snap_at (L.list snaps.now) 0).scx.0) }
+    requires waits { (k : Changer T.allows (calls S.Shape M.Machine layout.now number)) × InnerWaits k seat.old.me.0.passes (changing_at (L.list snaps.now) change (ScxAt.Seen MemberIndex.First)) (scx_fill change.scx (ScxWord.Seen 0) (snap_at (L.list snaps.now) 0).scx.0) }
     ensures table { StaysAtTable seat.old seat.new }
     ensures steps { seat_steps seat.new.me.0.passes ≤ seat_steps seat.old.me.0.passes + 4 }
     ensures waits { (k : Changer T.allows (calls S.Shape M.Machine layout.now number))
-        → ChangerWaits k seat.old.me.0.passes (changing_at (L.list snaps.now) change (ScxAt.Seen MemberIndex.First)) (scx_fill change.scx (ScxWord.Seen 0) (snap_at (L.list snaps.now) 0).scx.0)
-        → ChangerWaits k seat.new.me.0.passes (changing_at (L.list snaps.now) change ScxAt.Call) (scx_fill change.scx ScxWord.Call change.call) }
+        → InnerWaits k seat.old.me.0.passes (changing_at (L.list snaps.now) change (ScxAt.Seen MemberIndex.First)) (scx_fill change.scx (ScxWord.Seen 0) (snap_at (L.list snaps.now) 0).scx.0)
+        → InnerWaits k seat.new.me.0.passes (changing_at (L.list snaps.now) change ScxAt.Call) (scx_fill change.scx ScxWord.Call change.call) }
 {
     let first = MemberIndex::First;
     let Some(second) = fill_seen::<S, M, T, L>(words, layout, seat, number, snaps, change, first)
@@ -184,12 +185,12 @@ fn fill_all<S: Shape, M: Machine<S>, T: Shape, L: SnapList>(
     change: Change,
 ) -> u64
     requires table { IsSeatAt words.now layout.now seat.old }
-    requires waits { (k : Changer T.allows (calls S.Shape M.Machine layout.now number)) × ChangerWaits k seat.old.me.0.passes (changing_at (L.list snaps.now) change ScxAt.Plan) (scx_fill change.scx ScxWord.Plan change.plan.0) }
+    requires waits { (k : Changer T.allows (calls S.Shape M.Machine layout.now number)) × InnerWaits k seat.old.me.0.passes (changing_at (L.list snaps.now) change ScxAt.Plan) (scx_fill change.scx ScxWord.Plan change.plan.0) }
     ensures table { StaysAtTable seat.old seat.new }
     ensures steps { seat_steps seat.new.me.0.passes ≤ seat_steps seat.old.me.0.passes + 12 }
     ensures told { (k : Changer T.allows (calls S.Shape M.Machine layout.now number))
-        → ChangerWaits k seat.old.me.0.passes (changing_at (L.list snaps.now) change ScxAt.Plan) (scx_fill change.scx ScxWord.Plan change.plan.0)
-        → ChangerIsTold k seat.new.me.0.passes (changing_at (L.list snaps.now) change ScxAt.Call) result }
+        → InnerWaits k seat.old.me.0.passes (changing_at (L.list snaps.now) change ScxAt.Plan) (scx_fill change.scx ScxWord.Plan change.plan.0)
+        → InnerIsTold k seat.new.me.0.passes (changing_at (L.list snaps.now) change ScxAt.Call) result }
 {
     let scx = change.scx;
     fill::<S, M, T>(
@@ -230,13 +231,13 @@ pub(crate) fn call<S: Shape, M: Machine<S>, T: Shape, L: SnapList>(
     help: &mut HelpRun,
 ) -> bool
     requires table { IsSeatAt words.now layout.now seat.old }
-    requires waits { (k : Changer T.allows (calls S.Shape M.Machine layout.now number)) × ChangerWaits k seat.old.me.0.passes (changing_at (L.list snaps.now) change ScxAt.Plan) (scx_fill change.scx ScxWord.Plan change.plan.0) }
+    requires waits { (k : Changer T.allows (calls S.Shape M.Machine layout.now number)) × InnerWaits k seat.old.me.0.passes (changing_at (L.list snaps.now) change ScxAt.Plan) (scx_fill change.scx ScxWord.Plan change.plan.0) }
     requires begins { (help.old.scx ≡ change.scx) × (help.old.at ≡ HelpAt.Start) }
     ensures table { StaysAtTable seat.old seat.new }
     ensures steps { seat_steps seat.new.me.0.passes ≤ seat_steps seat.old.me.0.passes + 34 }
     ensures left { result ≡ false → seat_steps seat.new.me.0.passes + suc (help_left help.new.at) ≤ seat_steps seat.old.me.0.passes + 34 }
-    ensures commits { result ≡ true → (k : Changer T.allows (calls S.Shape M.Machine layout.now number)) → ChangerWaits k seat.old.me.0.passes (changing_at (L.list snaps.now) change ScxAt.Plan) (scx_fill change.scx ScxWord.Plan change.plan.0) → (v : ℕ) × ChangerIsTold k seat.new.me.0.passes (changing_at (L.list snaps.now) change (ScxAt.Help (record help.new { at = HelpAt.Commit }))) v }
-    ensures blocked { result ≡ false → (k : Changer T.allows (calls S.Shape M.Machine layout.now number)) → ChangerWaits k seat.old.me.0.passes (changing_at (L.list snaps.now) change ScxAt.Plan) (scx_fill change.scx ScxWord.Plan change.plan.0) → ChangerWaits k seat.new.me.0.passes (changing_at (L.list snaps.now) change (ScxAt.Help help.new)) (all_frozen_load change.scx) }
+    ensures commits { result ≡ true → (k : Changer T.allows (calls S.Shape M.Machine layout.now number)) → InnerWaits k seat.old.me.0.passes (changing_at (L.list snaps.now) change ScxAt.Plan) (scx_fill change.scx ScxWord.Plan change.plan.0) → (v : ℕ) × InnerIsTold k seat.new.me.0.passes (changing_at (L.list snaps.now) change (ScxAt.Help (record help.new { at = HelpAt.Commit }))) v }
+    ensures blocked { result ≡ false → (k : Changer T.allows (calls S.Shape M.Machine layout.now number)) → InnerWaits k seat.old.me.0.passes (changing_at (L.list snaps.now) change ScxAt.Plan) (scx_fill change.scx ScxWord.Plan change.plan.0) → InnerWaits k seat.new.me.0.passes (changing_at (L.list snaps.now) change (ScxAt.Help help.new)) (all_frozen_load change.scx) }
 {
     let layout = *layout;
     fill_all::<S, M, T, L>(words, &layout, seat, number, snaps, change);

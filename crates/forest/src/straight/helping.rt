@@ -7,8 +7,9 @@ ghost use Rattle.help.specs.Help.Known.{settled_load};
 ghost use Rattle.help.specs.declared.state.HelpRun.{HelpRun};
 ghost use Rattle.forest.specs.Seats.{IsSeatAt, StaysAtTable};
 ghost use Rattle.forest.specs.Traces.{seat_steps};
-ghost use Rattle.forest.specs.StraightHelp.{Helper, HelperWaits, HelperIsTold, HelperMarks};
+ghost use Rattle.forest.specs.StraightHelp.{Helper, HelperMarks};
 ghost use Rattle.forest.specs.CallKinds.{calls};
+ghost use Rattle.forest.specs.Inside.{InnerIsTold, InnerWaits};
 
 use crate::straight::placed::step;
 use crate::view::SeatView;
@@ -32,10 +33,10 @@ fn act<S: Shape, M: Machine<S>, T: Shape>(
     access: Access,
 ) -> u64
     requires table { IsSeatAt words.now layout.now seat.old }
-    requires waits { (k : Helper T.allows (calls S.Shape M.Machine layout.now number)) × (m : HelpRun) × HelperWaits k seat.old.me.0.passes m record { kind = kind; word = word; access = access } }
+    requires waits { (k : Helper T.allows (calls S.Shape M.Machine layout.now number)) × (m : HelpRun) × InnerWaits k seat.old.me.0.passes m record { kind = kind; word = word; access = access } }
     ensures table { StaysAtTable seat.old seat.new }
     ensures one { seat_steps seat.new.me.0.passes ≡ suc (seat_steps seat.old.me.0.passes) }
-    ensures told { (k : Helper T.allows (calls S.Shape M.Machine layout.now number)) (m : HelpRun) → HelperWaits k seat.old.me.0.passes m record { kind = kind; word = word; access = access } → HelperIsTold k seat.new.me.0.passes m result }
+    ensures told { (k : Helper T.allows (calls S.Shape M.Machine layout.now number)) (m : HelpRun) → InnerWaits k seat.old.me.0.passes m record { kind = kind; word = word; access = access } → InnerIsTold k seat.new.me.0.passes m result }
 {
     step::<S, M>(words, layout, seat, number, Step { kind, word, access })
 }
@@ -51,10 +52,10 @@ fn read<S: Shape, M: Machine<S>, T: Shape>(
     part: ScxWord,
 ) -> u64
     requires table { IsSeatAt words.now layout.now seat.old }
-    requires waits { (k : Helper T.allows (calls S.Shape M.Machine layout.now number)) × (m : HelpRun) × HelperWaits k seat.old.me.0.passes m (settled_load scx.0 part) }
+    requires waits { (k : Helper T.allows (calls S.Shape M.Machine layout.now number)) × (m : HelpRun) × InnerWaits k seat.old.me.0.passes m (settled_load scx.0 part) }
     ensures table { StaysAtTable seat.old seat.new }
     ensures one { seat_steps seat.new.me.0.passes ≡ suc (seat_steps seat.old.me.0.passes) }
-    ensures told { (k : Helper T.allows (calls S.Shape M.Machine layout.now number)) (m : HelpRun) → HelperWaits k seat.old.me.0.passes m (settled_load scx.0 part) → HelperIsTold k seat.new.me.0.passes m result }
+    ensures told { (k : Helper T.allows (calls S.Shape M.Machine layout.now number)) (m : HelpRun) → InnerWaits k seat.old.me.0.passes m (settled_load scx.0 part) → InnerIsTold k seat.new.me.0.passes m result }
 {
     let (kind, word) = (Kind::LoadSettled, Word::Scx(scx, part));
     act::<S, M, T>(words, layout, seat, number, kind, word, Access::Load)
@@ -81,20 +82,20 @@ fn freeze<S: Shape, M: Machine<S>, T: Shape>(
     j: MemberIndex,
 ) -> bool
     requires table { IsSeatAt words.now layout.now seat.old }
-    requires waits { (k : Helper T.allows (calls S.Shape M.Machine layout.now number)) × HelperWaits k seat.old.me.0.passes (record run.old { at = HelpAt.Member j }) (settled_load run.old.scx.0 (ScxWord.Member (member_index j))) }
+    requires waits { (k : Helper T.allows (calls S.Shape M.Machine layout.now number)) × InnerWaits k seat.old.me.0.passes (record run.old { at = HelpAt.Member j }) (settled_load run.old.scx.0 (ScxWord.Member (member_index j))) }
     ensures table { StaysAtTable seat.old seat.new }
     ensures steps { seat_steps seat.new.me.0.passes ≡ seat_steps seat.old.me.0.passes + 3 }
     ensures left { result ≡ false → help_left run.new.at ≤ 1 }
     ensures same { (run.new.scx ≡ run.old.scx) × (run.new.plan ≡ run.old.plan) }
     ensures next { result ≡ true → (next : MemberIndex) → member_index next ≡ member_index j + 1 → member_index next < raw_count run.old.plan.0 → (k : Helper T.allows (calls S.Shape M.Machine layout.now number))
-        → HelperWaits k seat.old.me.0.passes (record run.old { at = HelpAt.Member j }) (settled_load run.old.scx.0 (ScxWord.Member (member_index j)))
-        → HelperWaits k seat.new.me.0.passes (record run.new { at = HelpAt.Member next }) (settled_load run.new.scx.0 (ScxWord.Member (member_index next))) }
+        → InnerWaits k seat.old.me.0.passes (record run.old { at = HelpAt.Member j }) (settled_load run.old.scx.0 (ScxWord.Member (member_index j)))
+        → InnerWaits k seat.new.me.0.passes (record run.new { at = HelpAt.Member next }) (settled_load run.new.scx.0 (ScxWord.Member (member_index next))) }
     ensures last { result ≡ true → ((member_index j < 3) × (member_index j + 1 < raw_count run.old.plan.0) → ⊥) → (k : Helper T.allows (calls S.Shape M.Machine layout.now number))
-        → HelperWaits k seat.old.me.0.passes (record run.old { at = HelpAt.Member j }) (settled_load run.old.scx.0 (ScxWord.Member (member_index j)))
-        → HelperWaits k seat.new.me.0.passes (record run.new { at = HelpAt.SetFrozen }) record { kind = Kind.SetFrozen; word = Word.Scx run.new.scx ScxWord.AllFrozen; access = Access.Store 1 } }
+        → InnerWaits k seat.old.me.0.passes (record run.old { at = HelpAt.Member j }) (settled_load run.old.scx.0 (ScxWord.Member (member_index j)))
+        → InnerWaits k seat.new.me.0.passes (record run.new { at = HelpAt.SetFrozen }) record { kind = Kind.SetFrozen; word = Word.Scx run.new.scx ScxWord.AllFrozen; access = Access.Store 1 } }
     ensures blocked { result ≡ false → (k : Helper T.allows (calls S.Shape M.Machine layout.now number))
-        → HelperWaits k seat.old.me.0.passes (record run.old { at = HelpAt.Member j }) (settled_load run.old.scx.0 (ScxWord.Member (member_index j)))
-        → HelperWaits k seat.new.me.0.passes run.new record { kind = Kind.LoadAllFrozen; word = Word.Scx run.new.scx ScxWord.AllFrozen; access = Access.Load } }
+        → InnerWaits k seat.old.me.0.passes (record run.old { at = HelpAt.Member j }) (settled_load run.old.scx.0 (ScxWord.Member (member_index j)))
+        → InnerWaits k seat.new.me.0.passes run.new record { kind = Kind.LoadAllFrozen; word = Word.Scx run.new.scx ScxWord.AllFrozen; access = Access.Load } }
 {
     let scx = run.scx;
     let part = ScxWord::Member(j.number());
@@ -125,17 +126,17 @@ fn freeze_all<S: Shape, M: Machine<S>, T: Shape>(
     run: &mut HelpRun,
 ) -> bool
     requires table { IsSeatAt words.now layout.now seat.old }
-    requires waits { (k : Helper T.allows (calls S.Shape M.Machine layout.now number)) × HelperWaits k seat.old.me.0.passes (record run.old { at = HelpAt.Member MemberIndex.First }) (settled_load run.old.scx.0 (ScxWord.Member 0)) }
+    requires waits { (k : Helper T.allows (calls S.Shape M.Machine layout.now number)) × InnerWaits k seat.old.me.0.passes (record run.old { at = HelpAt.Member MemberIndex.First }) (settled_load run.old.scx.0 (ScxWord.Member 0)) }
     ensures table { StaysAtTable seat.old seat.new }
     ensures steps { seat_steps seat.new.me.0.passes ≤ seat_steps seat.old.me.0.passes + 12 }
     ensures left { result ≡ false → help_left run.new.at ≤ 1 }
     ensures same { (run.new.scx ≡ run.old.scx) × (run.new.plan ≡ run.old.plan) }
     ensures frozen { result ≡ true → (k : Helper T.allows (calls S.Shape M.Machine layout.now number))
-        → HelperWaits k seat.old.me.0.passes (record run.old { at = HelpAt.Member MemberIndex.First }) (settled_load run.old.scx.0 (ScxWord.Member 0))
-        → HelperWaits k seat.new.me.0.passes (record run.new { at = HelpAt.SetFrozen }) record { kind = Kind.SetFrozen; word = Word.Scx run.new.scx ScxWord.AllFrozen; access = Access.Store 1 } }
+        → InnerWaits k seat.old.me.0.passes (record run.old { at = HelpAt.Member MemberIndex.First }) (settled_load run.old.scx.0 (ScxWord.Member 0))
+        → InnerWaits k seat.new.me.0.passes (record run.new { at = HelpAt.SetFrozen }) record { kind = Kind.SetFrozen; word = Word.Scx run.new.scx ScxWord.AllFrozen; access = Access.Store 1 } }
     ensures blocked { result ≡ false → (k : Helper T.allows (calls S.Shape M.Machine layout.now number))
-        → HelperWaits k seat.old.me.0.passes (record run.old { at = HelpAt.Member MemberIndex.First }) (settled_load run.old.scx.0 (ScxWord.Member 0))
-        → HelperWaits k seat.new.me.0.passes run.new record { kind = Kind.LoadAllFrozen; word = Word.Scx run.new.scx ScxWord.AllFrozen; access = Access.Load } }
+        → InnerWaits k seat.old.me.0.passes (record run.old { at = HelpAt.Member MemberIndex.First }) (settled_load run.old.scx.0 (ScxWord.Member 0))
+        → InnerWaits k seat.new.me.0.passes run.new record { kind = Kind.LoadAllFrozen; word = Word.Scx run.new.scx ScxWord.AllFrozen; access = Access.Load } }
 {
     let plan = run.plan;
     let first = MemberIndex::First;
@@ -198,7 +199,7 @@ fn mark_all<S: Shape, M: Machine<S>, T: Shape>(
     ensures steps { seat_steps seat.new.me.0.passes ≤ seat_steps seat.old.me.0.passes + 4 }
     ensures marked { (k : Helper T.allows (calls S.Shape M.Machine layout.now number))
         → HelperMarks k seat.old.me.0.passes run.now 0
-        → HelperWaits k seat.new.me.0.passes (record run.now { at = HelpAt.New }) (settled_load run.now.scx.0 ScxWord.New) }
+        → InnerWaits k seat.new.me.0.passes (record run.now { at = HelpAt.New }) (settled_load run.now.scx.0 ScxWord.New) }
 {
     mark::<S, M, T>(words, layout, seat, number, run, MemberIndex::First);
     mark::<S, M, T>(words, layout, seat, number, run, MemberIndex::Second);
@@ -217,13 +218,13 @@ pub(crate) fn call<S: Shape, M: Machine<S>, T: Shape>(
     run: &mut HelpRun,
 ) -> bool
     requires table { IsSeatAt words.now layout.now seat.old }
-    requires waits { (k : Helper T.allows (calls S.Shape M.Machine layout.now number)) × HelperWaits k seat.old.me.0.passes (record run.old { at = HelpAt.Plan }) (settled_load run.old.scx.0 ScxWord.Plan) }
+    requires waits { (k : Helper T.allows (calls S.Shape M.Machine layout.now number)) × InnerWaits k seat.old.me.0.passes (record run.old { at = HelpAt.Plan }) (settled_load run.old.scx.0 ScxWord.Plan) }
     ensures table { StaysAtTable seat.old seat.new }
     ensures steps { seat_steps seat.new.me.0.passes ≤ seat_steps seat.old.me.0.passes + 22 }
     ensures same { run.new.scx ≡ run.old.scx }
     ensures left { result ≡ false → seat_steps seat.new.me.0.passes + suc (help_left run.new.at) ≤ seat_steps seat.old.me.0.passes + 22 }
-    ensures commits { result ≡ true → (k : Helper T.allows (calls S.Shape M.Machine layout.now number)) → HelperWaits k seat.old.me.0.passes (record run.old { at = HelpAt.Plan }) (settled_load run.old.scx.0 ScxWord.Plan) → (v : ℕ) × HelperIsTold k seat.new.me.0.passes (record run.new { at = HelpAt.Commit }) v }
-    ensures blocked { result ≡ false → (k : Helper T.allows (calls S.Shape M.Machine layout.now number)) → HelperWaits k seat.old.me.0.passes (record run.old { at = HelpAt.Plan }) (settled_load run.old.scx.0 ScxWord.Plan) → HelperWaits k seat.new.me.0.passes run.new record { kind = Kind.LoadAllFrozen; word = Word.Scx run.new.scx ScxWord.AllFrozen; access = Access.Load } }
+    ensures commits { result ≡ true → (k : Helper T.allows (calls S.Shape M.Machine layout.now number)) → InnerWaits k seat.old.me.0.passes (record run.old { at = HelpAt.Plan }) (settled_load run.old.scx.0 ScxWord.Plan) → (v : ℕ) × InnerIsTold k seat.new.me.0.passes (record run.new { at = HelpAt.Commit }) v }
+    ensures blocked { result ≡ false → (k : Helper T.allows (calls S.Shape M.Machine layout.now number)) → InnerWaits k seat.old.me.0.passes (record run.old { at = HelpAt.Plan }) (settled_load run.old.scx.0 ScxWord.Plan) → InnerWaits k seat.new.me.0.passes run.new record { kind = Kind.LoadAllFrozen; word = Word.Scx run.new.scx ScxWord.AllFrozen; access = Access.Load } }
 {
     let scx = run.scx;
     let word = read::<S, M, T>(words, layout, seat, number, scx, ScxWord::Plan);

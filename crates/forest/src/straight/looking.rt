@@ -3,8 +3,9 @@ ghost use Rattle.std.specs.Prelude.{◌≡◌, ◌≤◌, ◌+◌, suc, IfOk, If
 ghost use Rattle.forest.specs.Seats.{IsSeatAt, StaysAtTable};
 ghost use Rattle.forest.specs.Traces.{seat_steps};
 ghost use Rattle.forest.specs.StraightLlx.{llx_at};
-ghost use Rattle.forest.specs.StraightLook.{Looker, LookerWaits, LookerIsTold, LookerSnaps};
+ghost use Rattle.forest.specs.StraightLook.{Looker, LookerSnaps};
 ghost use Rattle.forest.specs.CallKinds.{calls};
+ghost use Rattle.forest.specs.Inside.{InnerIsTold, InnerWaits};
 ghost use Rattle.prims.specs.Llx.Known.{load};
 ghost use Rattle.prims.specs.declared.llx.LlxAt.{LlxAt};
 ghost use Rattle.prims.specs.declared.llx.LlxRun.{LlxRun};
@@ -30,10 +31,10 @@ fn read<S: Shape, M: Machine<S>>(
     word: Word,
 ) -> u64
     requires table { IsSeatAt words.now layout.now seat.old }
-    requires waits { (k : Looker (calls S.Shape M.Machine layout.now number)) × (m : LlxRun) × LookerWaits k seat.old.me.0.passes m (load kind word) }
+    requires waits { (k : Looker (calls S.Shape M.Machine layout.now number)) × (m : LlxRun) × InnerWaits k seat.old.me.0.passes m (load kind word) }
     ensures table { StaysAtTable seat.old seat.new }
     ensures one { seat_steps seat.new.me.0.passes ≡ suc (seat_steps seat.old.me.0.passes) }
-    ensures told { (k : Looker (calls S.Shape M.Machine layout.now number)) (m : LlxRun) → LookerWaits k seat.old.me.0.passes m (load kind word) → LookerIsTold k seat.new.me.0.passes m result }
+    ensures told { (k : Looker (calls S.Shape M.Machine layout.now number)) (m : LlxRun) → InnerWaits k seat.old.me.0.passes m (load kind word) → InnerIsTold k seat.new.me.0.passes m result }
 {
     let access = Access::Load;
     step::<S, M>(words, layout, seat, number, Step { kind, word, access })
@@ -50,11 +51,11 @@ pub(crate) fn look<S: Shape, M: Machine<S>>(
     node: NodeNo,
 ) -> Result<Snap, (bool, ScxNo)>
     requires table { IsSeatAt words.now layout.now seat.old }
-    requires waits { (k : Looker (calls S.Shape M.Machine layout.now number)) × LookerWaits k seat.old.me.0.passes (llx_at node LlxAt.Marked) (load Kind.LoadMarked (Word.Node node NodeWord.Marked)) }
+    requires waits { (k : Looker (calls S.Shape M.Machine layout.now number)) × InnerWaits k seat.old.me.0.passes (llx_at node LlxAt.Marked) (load Kind.LoadMarked (Word.Node node NodeWord.Marked)) }
     ensures table { StaysAtTable seat.old seat.new }
     ensures steps { seat_steps seat.new.me.0.passes ≤ seat_steps seat.old.me.0.passes + 7 }
-    ensures snaps { IfOk result (λ snap. (k : Looker (calls S.Shape M.Machine layout.now number)) → LookerWaits k seat.old.me.0.passes (llx_at node LlxAt.Marked) (load Kind.LoadMarked (Word.Node node NodeWord.Marked)) → LookerSnaps k seat.new.me.0.passes node snap) }
-    ensures waits { IfErr result (λ t. (k : Looker (calls S.Shape M.Machine layout.now number)) → LookerWaits k seat.old.me.0.passes (llx_at node LlxAt.Marked) (load Kind.LoadMarked (Word.Node node NodeWord.Marked)) → LookerWaits k seat.new.me.0.passes (llx_at node (LlxAt.StateAgain t.0 t.1)) (load Kind.LoadState (Word.Scx t.1 ScxWord.State))) }
+    ensures snaps { IfOk result (λ snap. (k : Looker (calls S.Shape M.Machine layout.now number)) → InnerWaits k seat.old.me.0.passes (llx_at node LlxAt.Marked) (load Kind.LoadMarked (Word.Node node NodeWord.Marked)) → LookerSnaps k seat.new.me.0.passes node snap) }
+    ensures waits { IfErr result (λ t. (k : Looker (calls S.Shape M.Machine layout.now number)) → InnerWaits k seat.old.me.0.passes (llx_at node LlxAt.Marked) (load Kind.LoadMarked (Word.Node node NodeWord.Marked)) → InnerWaits k seat.new.me.0.passes (llx_at node (LlxAt.StateAgain t.0 t.1)) (load Kind.LoadState (Word.Scx t.1 ScxWord.State))) }
 {
     let mark = Word::Node(node, NodeWord::Marked);
     let info = Word::Node(node, NodeWord::Info);

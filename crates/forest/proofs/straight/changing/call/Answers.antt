@@ -2,7 +2,8 @@ use Rattle.std.proofs.Common.{◌∙◌, subst}
 use Rattle.forest.proofs.StraightChange.{helper, to_help, help_waits, help_told}
 use Rattle.prims.specs.declared.scx.ScxAt.TheVariants.{Help}
 use Rattle.help.specs.declared.state.HelpAt.TheVariants.{Commit}
-use Rattle.forest.specs.StraightChange.{ChangerWaits, changing_at, all_frozen_load}
+use Rattle.forest.specs.StraightChange.{changing_at, all_frozen_load}
+use Rattle.forest.specs.Inside.{InnerWaits}
 use Rattle.forest.proofs.straight.changing.call.Goals as goal
 
 pub call-requires-clause-waits : goal.call-requires-clause-waits
@@ -13,4 +14,4 @@ returns-clause-commits g c = λ yes k x. let t = c.call.ensures.commits yes (hel
 
 pub returns-clause-blocked : goal.returns-clause-blocked
 returns-clause-blocked g c = λ no k x.
-    subst (λ s. ChangerWaits k c.call.new.seat.me.0.passes (changing_at (g.L.SnapList.list c.args.snaps.now) c.args.change (Help c.call.new.run)) (all_frozen_load s)) (c.call.ensures.same ∙ c.requires.begins.0) (help_waits k (g.L.SnapList.list c.args.snaps.now) c.args.change _ c.call.new.run _ (c.call.ensures.blocked no (helper k (g.L.SnapList.list c.args.snaps.now) c.args.change) (to_help k (g.L.SnapList.list c.args.snaps.now) c.args.change _ c.args.help.now c.fill_all.result c.requires.begins.0 c.requires.begins.1 (c.fill_all.ensures.told k x))))
+    subst (λ s. InnerWaits k c.call.new.seat.me.0.passes (changing_at (g.L.SnapList.list c.args.snaps.now) c.args.change (Help c.call.new.run)) (all_frozen_load s)) (c.call.ensures.same ∙ c.requires.begins.0) (help_waits k (g.L.SnapList.list c.args.snaps.now) c.args.change _ c.call.new.run _ (c.call.ensures.blocked no (helper k (g.L.SnapList.list c.args.snaps.now) c.args.change) (to_help k (g.L.SnapList.list c.args.snaps.now) c.args.change _ c.args.help.now c.fill_all.result c.requires.begins.0 c.requires.begins.1 (c.fill_all.ensures.told k x))))
