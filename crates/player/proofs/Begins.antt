@@ -1,11 +1,8 @@
 -- What calls need to begin.
-use Rattle.std.proofs.Common.{Vec, ◌≡◌, ◌≢◌, ℕ, suc, ◌+◌, ◌-◌, ◌^◌, ◌<◌, ◌≤◌, inl, List, Option, Some, None, refl, sym, ◌∙◌, ap, subst, arith, length, zero, [], ◌∷◌, ◌⊎◌, ⊎_elim, slice_index_or, slice_get, get_or, unwrap_or, nat_lt, map, AllPairs, Contains, MatchOption, Bool, true, false, All}
-use Rattle.tree.specs.declared.get.GetRun.{GetRun}
-use Rattle.tree.specs.Get.Known.{GetIsReady}
+use Rattle.std.proofs.Common.{Vec, ◌≡◌, ◌≢◌, ℕ, suc, ◌+◌, ◌<◌, ◌≤◌, inl, List, Option, Some, None, refl, sym, ◌∙◌, ap, subst, arith, length, zero, [], ◌∷◌, ◌⊎◌, ⊎_elim, slice_index_or, slice_get, get_or, unwrap_or, nat_lt, map, AllPairs, Contains, MatchOption, Bool, true, false, All}
 use Rattle.script.specs.Commands.{mode_of}
 use Rattle.arena.specs.declared.limits.Mode.{Mode}
 use Rattle.arena.specs.declared.limits.Mode.TheVariants.{Records, Tree}
-use Rattle.template.specs.declared.walk.WalkAt.TheVariants.{Start as WalkStart}
 use Rattle.arena.specs.History.{History, value, Extends}
 use Rattle.arena.proofs.Lemmas.{ends_self}
 use Rattle.prims.specs.Cells.{AllowsAll}
@@ -34,12 +31,9 @@ use Rattle.prims.specs.declared.llx.LlxAt.TheVariants.{Start}
 use Rattle.prims.specs.declared.vlx.VlxRun.{VlxRun}
 use Rattle.script.specs.declared.command.Command.{Command}
 use Rattle.script.specs.declared.command.Command.TheVariants.{Llx as LlxCommand, Vlx as VlxCommand, Scx as ScxCommand, Set as SetCommand, Map}
-use Rattle.spelling.specs.declared.request.Request.TheVariants.{Get as GetCommand, Range as RangeCommand}
-use Rattle.spelling.specs.Tries.{tries_begun}
-use Rattle.player.specs.EditRuns.{EditIsReady, HasSpentOf, IsUnbegunEdit, call_of, edit_command, edit_left, edit_of, edit_steps, limit_of, share_of}
-use Rattle.player.specs.declared.edit.EditRun.{EditRun}
-use Rattle.player.specs.declared.edit.EditRun.TheVariants.{Insert, Delete}
-use Rattle.player.specs.declared.run.Run.TheVariants.{Llx, Vlx, Edit, Get, Read}
+use Rattle.spelling.specs.declared.request.Request.TheVariants.{Insert as InsertCommand, Delete as DeleteCommand, Get as GetCommand, Successor as SuccessorCommand, Range as RangeCommand}
+use Rattle.player.specs.declared.run.Run.{Run}
+use Rattle.player.specs.declared.run.Run.TheVariants.{Llx, Scx, Vlx, Map as MapRun}
 use Rattle.player.specs.declared.client.Client.{Client}
 use Rattle.player.specs.declared.client.Put.{Put}
 use Rattle.record.specs.declared.record.Answer.{Answer}
@@ -49,32 +43,31 @@ use Rattle.arena.specs.Share.{Remaining}
 use Rattle.arena.specs.Fills.{IsOwnScx, IsTakenScx}
 use Rattle.prims.specs.Moments.{AreFinished}
 use Rattle.arena.specs.Machines.{Call as MachineCall}
-use Rattle.spelling.specs.OrderedMap.{MapEdit, edit_key, Insert as PutEdit, Delete as TakeEdit}
-use Rattle.spelling.specs.Runs.{IsTreeRun}
 use Rattle.updates.specs.Known.{RestsWith}
 use Rattle.updates.specs.Laws.Entered.{none_yet}
-use Rattle.updates.specs.Steps.{node_tries, scx_tries, Spends}
-use Rattle.updates.specs.declared.update.UpdateAt.{UpdateAt}
-use Rattle.player.proofs.Shapes.{as_tree}
+use Rattle.dict.specs.Begins.{dict_begins}
+use Rattle.dict.specs.Calls.{AsksForPairs, IsFewCall, call_in, share_of}
+use Rattle.dict.specs.Known.{IsUnbegun as IsFresh}
+use Rattle.spelling.specs.CallRules.{most_steps as most_map_steps}
+use Rattle.dict.specs.Steps.{map_left}
+use Rattle.dict.specs.Typed.{IsTypedCall}
+use Rattle.dict.specs.declared.dict.DictRun.{DictRun}
+use Rattle.spelling.specs.OrderedMap.{MapCall}
+use Rattle.spelling.specs.Requests.{AsksForFew, map_request}
+use Rattle.spelling.specs.declared.request.Request.{Request}
+use Rattle.player.specs.Allowed.{IsNumber}
+use Rattle.player.specs.RunKnown.{IsForNothing, RunAsksFirst}
+use Rattle.player.proofs.Shapes.{as_numbers}
 use Rattle.player.specs.RunSteps.{then_left}
 use Rattle.prims.specs.Scx.Known.{nodes_of}
-use Rattle.player.specs.ClientView.{ClientView, no_hand, held, IsSound, Rests, Refuses, Starts, IsLlxOf, IsUnbegun, command_of, machine_call, GoesOn, IsSameCall, CanPut, Puts, BeginsOrRefuses, IsNextAction}
+use Rattle.player.specs.ClientView.{ClientView, no_hand, held, IsSound, Rests, Refuses, Starts, IsLlxOf, IsMachineOf, IsUnbegun, command_of, machine_call, GoesOn, IsSameCall, CanPut, Puts, BeginsOrRefuses, IsNextAction}
 use Rattle.player.specs.declared.client.NextAction.{NextAction}
 use Rattle.player.specs.declared.client.NextAction.TheVariants.{Finished, Answers, Asks}
 use Rattle.script.specs.declared.call.Call.{Call}
 use Rattle.std.proofs.lemmas.Option.{slice_get_read, slice_get_within, get_or_from_slice_get}
 use Rattle.player.proofs.Commands.{next_at}
-use Rattle.order.proofs.Lemmas.{range_ready_first, successor_ready_first}
-use Rattle.order.specs.declared.range.RangeRun.{RangeRun}
-use Rattle.order.specs.declared.range.RangeAt.TheVariants.{Start as RangeStart}
-use Rattle.order.specs.declared.successor.SuccessorRun.{SuccessorRun}
-use Rattle.order.specs.declared.successor.SuccessorAt.TheVariants.{Start as NextStart}
 use Rattle.std.specs.Global.{Global}
 use Rattle.spelling.specs.declared.reply.Reply.TheVariants.{Pairs}
-use Rattle.spelling.specs.CallRules.{TakesNothing}
-use Rattle.player.specs.ReadRuns.{HasReadTries, IsReadBy, ReadIsReady, read_left, read_limit}
-use Rattle.player.specs.declared.read.ReadRun.{ReadRun}
-use Rattle.player.specs.declared.read.ReadRun.TheVariants.{Successor as NextOf, Range as PairsOf}
 
 none_late : (won : Option ℕ) (turn begin : ℕ) → won ≡ None → won ≡ Some turn → begin ≤ turn
 none_late won turn begin e d = cc
@@ -96,64 +89,24 @@ llx_few tries (Map request) n then f taken = absurd f
 -- an LLX of a cell
 pub llx_starts : (v : ClientView) (began : Option ℕ) (c : Client) (m : LlxRun) (then : Option Put) (command : Command) → IsSound v → v.layout.mode ≡ Records → Rests v c → IsUnbegun v began → m.at ≡ Start → m.node.0 ≤ 8 → command_of v c ≡ Some command → IsLlxOf command m.node.0 then → Starts v c (Llx m) then
 llx_starts v began c m then command sound mode r u start i is f = record {
-  works = record { mode = mode; stands = r.stands; holds = r.holds; newest = tt; command = command; is = is; run_of = (i, f); limit = tt; is_pass = r.stands.is_pass; start = v.past; since = ends_self v.past; begun = sym u.start; moments = λ j p. absurd (omega arith); alone = λ j p. absurd (omega arith); room = tt; opening = held c; took = taken_none v c.pass.0 (no_hand (held c)) u.start; won = u.won; late = λ turn e. none_late v.won turn c.begin u.won e };
+  works = record { mode = mode; stands = r.stands; holds = r.holds; newest = tt; command = command; is = is; run_of = (i, f); limit = tt; is_pass = r.stands.is_pass; start = v.past; since = ends_self v.past; begun = sym u.start; moments = λ j p. absurd (omega arith); alone = λ j p. absurd (omega arith); room = tt; took = taken_none v c.pass.0 (no_hand (held c)) u.start; won = u.won; late = λ turn e. none_late v.won turn c.begin u.won e };
   none = r.none;
-  spent = tt;
   ready = ready_at_start AllowsAll m (machine_call v c r.stands.is_pass v.past) v.past refl start (cell_opened v.layout v.past m.node.0 mode i) (all_idle v.layout v.past c.pass.0 (held c) _ _ sound.lawful r.holds.share r.holds.over);
-  tries = tt;
   few = λ taken i. let few = llx_few v.tries command m.node.0 then f taken in rw (u.steps, start) (omega arith);
 }
 
 -- a VLX of unspent snapshots
 pub vlx_starts : (v : ClientView) (began : Option ℕ) (c : Client) (m : VlxRun (List Snap)) (cells : _) → IsSound v → v.layout.mode ≡ Records → Rests v c → IsUnbegun v began → m.asked ≡ 0 → 0 < length m.snaps → nodes_of m.snaps ≡ cells_of cells → ((i : ℕ) → i < length m.snaps → (moment : History) × (v.linked (snap_at m.snaps i).node.0 ≡ Some moment) × IsUnspent v.layout c.pass.0 v.past (snap_at m.snaps i) moment) → command_of v c ≡ Some (VlxCommand cells) → vlx_left m.snaps m.asked ≡ length (cells_of cells) → Starts v c (Vlx m) None
 vlx_starts v began c m cells sound mode r u start some nodes l is left = record {
-  works = record { mode = mode; stands = r.stands; holds = r.holds; newest = tt; command = VlxCommand cells; is = is; run_of = nodes; limit = tt; is_pass = r.stands.is_pass; start = v.past; since = ends_self v.past; begun = sym u.start; moments = λ i p. let x = l i p in record { moment = x.0; found = x.2.usable.found; source = x.1 }; alone = λ i p. let x = l i p in x.2.alone; room = tt; opening = held c; took = taken_none v c.pass.0 (no_hand (held c)) u.start; won = u.won; late = λ turn e. none_late v.won turn c.begin u.won e };
+  works = record { mode = mode; stands = r.stands; holds = r.holds; newest = tt; command = VlxCommand cells; is = is; run_of = nodes; limit = tt; is_pass = r.stands.is_pass; start = v.past; since = ends_self v.past; begun = sym u.start; moments = λ i p. let x = l i p in record { moment = x.0; found = x.2.usable.found; source = x.1 }; alone = λ i p. let x = l i p in x.2.alone; room = tt; took = taken_none v c.pass.0 (no_hand (held c)) u.start; won = u.won; late = λ turn e. none_late v.won turn c.begin u.won e };
   none = r.none;
-  spent = tt;
   ready = vlx_ready_first v.layout c.pass.0 c.number r.stands.is_pass v.past m.snaps m.asked start some (λ i p. let x = l i p in (x.0, x.2.usable)) (all_over v.layout v.past c.pass.0 (held c) _ _ r.holds.share r.holds.over);
-  tries = tt;
   few = λ taken i. omega (arith, u.steps, left);
 }
 
--- a get from its start
-pub get_starts : (v : ClientView) (began : Option ℕ) (c : Client) (m : GetRun) (key : ℕ) → IsSound v → v.layout.mode ≡ Tree → (r : Rests v c) → IsUnbegun v began → m.key ≡ key → m.walk.at ≡ WalkStart → GetIsReady m (machine_call v c r.stands.is_pass v.past) v.past None → command_of v c ≡ Some (Map (GetCommand key)) → Starts v c (Get m) None
-get_starts v began c m key sound mode r u at start ready is = record {
-  works = record { mode = mode; stands = r.stands; holds = r.holds; newest = tt; command = Map (GetCommand key); is = is; run_of = at; limit = tt; is_pass = r.stands.is_pass; start = v.past; since = ends_self v.past; begun = sym u.start; moments = λ j p. absurd (omega arith); alone = λ j p. absurd (omega arith); room = tt; opening = held c; took = taken_none v c.pass.0 (no_hand (held c)) u.start; won = u.won; late = λ turn e. none_late v.won turn c.begin u.won e };
-  none = r.none;
-  spent = tt;
-  ready = ready;
-  tries = tt;
-  few = λ taken i. rw (u.steps, start) (omega arith);
-}
-
--- an ordered read may begin its first try
-first_read : (tries limit all : ℕ) → tries ≡ all - 1 → limit ≡ all → 0 < all → limit ≡ suc tries
-first_read tries limit all a b some = omega (arith, a, b, some)
-
-pub successor_ready : (v : ClientView) (c : Client) (m : SuccessorRun) → IsSound v → v.layout.mode ≡ Tree → 0 < v.tries → (r : Rests v c) → m.key < 2 ^ 64 → m.snaps.items ≡ [] → m.at ≡ NextStart → m.tries ≡ v.tries - 1 → m.limit ≡ v.tries → ReadIsReady (NextOf m) (machine_call v c r.stands.is_pass v.past) v.past None
-successor_ready v c m sound mode some r small none start left limit =
-    successor_ready_first m (machine_call v c r.stands.is_pass v.past) v.past (mode, as_tree v.layout v.past mode sound) refl small (all_over v.layout v.past c.pass.0 (held c) _ _ r.holds.share r.holds.over) start none (first_read m.tries m.limit v.tries left limit some)
-
-pub range_ready : (v : ClientView) (c : Client) (m : RangeRun) → IsSound v → v.layout.mode ≡ Tree → 0 < v.tries → (r : Rests v c) → m.high < 2 ^ 64 → m.most ≤ 64 → m.snaps.items ≡ [] → m.at ≡ RangeStart → m.tries ≡ v.tries - 1 → m.limit ≡ v.tries → ¬ TakesNothing m.low m.high m.most → ReadIsReady (PairsOf m) (machine_call v c r.stands.is_pass v.past) v.past None
-range_ready v c m sound mode some r small few none start left limit takes = (
-  range_ready_first m (machine_call v c r.stands.is_pass v.past) v.past (mode, as_tree v.layout v.past mode sound) refl small few (all_over v.layout v.past c.pass.0 (held c) _ _ r.holds.share r.holds.over) start none (first_read m.tries m.limit v.tries left limit some),
-  takes,
-)
-
--- an ordered read from its start
-pub read_starts : (v : ClientView) (began : Option ℕ) (c : Client) (m : ReadRun) (command : Command) → IsSound v → v.layout.mode ≡ Tree → (r : Rests v c) → IsUnbegun v began → IsReadBy m command → ReadIsReady m (machine_call v c r.stands.is_pass v.past) v.past None → HasReadTries m v.tries → read_limit m ≡ v.tries → ((taken : ℕ) → read_left m taken ≤ most_steps command v.tries taken) → command_of v c ≡ Some command → Starts v c (Read m) None
-read_starts v began c m command sound mode r u of ready tries limit left is = record {
-  works = record { mode = mode; stands = r.stands; holds = r.holds; newest = tt; command = command; is = is; run_of = (of, refl); limit = limit; is_pass = r.stands.is_pass; start = v.past; since = ends_self v.past; begun = sym u.start; moments = λ j p. absurd (omega arith); alone = λ j p. absurd (omega arith); room = tt; opening = held c; took = taken_none v c.pass.0 (no_hand (held c)) u.start; won = u.won; late = λ turn e. none_late v.won turn c.begin u.won e };
-  none = r.none;
-  spent = tt;
-  ready = ready;
-  tries = tries;
-  few = λ taken i. let few = left taken in let steps = u.steps in omega (steps, few, arith);
-}
-
--- a range that takes nothing answers so at once
-pub range_refuses : (v : ClientView) (began : Option ℕ) (c : Client) (low high most : ℕ) (found : Vec (ℕ × ℕ) Global) → Rests v c → IsUnbegun v began → command_of v c ≡ Some (Map (RangeCommand low high most)) → TakesNothing low high most → found.items ≡ [] → Refuses v c (MapAnswer (Pairs found))
-range_refuses v began c low high most found r u is nothing none = record {
+-- a request for nothing is answered so at once
+pub map_refuses : (v : ClientView) (began : Option ℕ) (c : Client) (request : Request ℕ ℕ) (found : Vec (ℕ × ℕ) Global) → Rests v c → IsUnbegun v began → command_of v c ≡ Some (Map request) → IsForNothing request → found.items ≡ [] → Refuses v c (MapAnswer (Pairs found))
+map_refuses v began c (RangeCommand low high most) found r u is nothing none = record {
   rests = r;
   command = Map (RangeCommand low high most);
   is = is;
@@ -162,39 +115,62 @@ range_refuses v began c low high most found r u is nothing none = record {
   unwon = u.won;
   took = taken_nothing v c.pass.0 (held c) 0 0 r.holds.share (taken_none v c.pass.0 (no_hand (held c)) u.start);
 }
+map_refuses v began c request found r u is nothing none = absurd nothing
 
--- the machine of an edit at its start has taken nothing
-spent_start : (m : EditRun) (tries : ℕ) → 0 < tries → IsUnbegunEdit m tries → HasSpentOf (share_of m) tries m
-spent_start (Insert m) tries some u = subst (λ (at : UpdateAt). Spends 3 m.share m.share tries (node_tries m at) tries (scx_tries m at)) (sym u.0) (let left = u.1 in (omega (arith, left, some), omega (arith, left, some), omega (arith, left, some)))
-spent_start (Delete m) tries some u = subst (λ (at : UpdateAt). Spends 1 m.share m.share tries (node_tries m at) tries (scx_tries m at)) (sym u.0) (let left = u.1 in (omega (arith, left, some), omega (arith, left, some), omega (arith, left, some)))
+-- one that is no range asks for what it tells
+pub asks_other : (request : Request ℕ ℕ) → ((low high most : ℕ) → request ≢ RangeCommand low high most) → AsksForPairs (map_request request)
+asks_other (InsertCommand key value) other = tt
+asks_other (DeleteCommand key) other = tt
+asks_other (GetCommand key) other = tt
+asks_other (SuccessorCommand key) other = tt
+asks_other (RangeCommand low high most) other = absurd (other low high most refl)
 
--- with all its tries it may begin the first
-first_try : (begun tries limit all : ℕ) → tries ≡ all - 1 → limit ≡ all → 0 < all → begun + suc tries ≡ begun + limit
-first_try begun tries limit all a b some = omega (arith, a, b, some)
+-- it asks for few pairs, and makes no more steps than its command may
+few_pairs : (request : Request ℕ ℕ) → AsksForFew request → IsFewCall (map_request request)
+few_pairs (InsertCommand key value) few = tt
+few_pairs (DeleteCommand key) few = tt
+few_pairs (GetCommand key) few = tt
+few_pairs (SuccessorCommand key) few = tt
+few_pairs (RangeCommand low high most) few = few
 
--- it may begin where the share is at rest
-ready_start : (m : EditRun) (call : MachineCall) (tries : ℕ) → 0 < tries → limit_of m ≡ tries → IsTreeRun call.layout call.start → edit_key (edit_of m) < 2 ^ 64 → RestsWith call call.start (share_of m) → IsUnbegunEdit m tries → EditIsReady m call call.start None
-ready_start (Insert m) call tries some limit run small rests u = (record { run = run; small = small; since = ends_self call.start; rests = rests }, record { since = ends_self call.start; none = none_yet call.layout call.pass call.start; all = first_try (tries_begun call.pass call.start) m.tries m.limit tries u.1 limit some }, rests, u.0)
-ready_start (Delete m) call tries some limit run small rests u = (record { run = run; small = small; since = ends_self call.start; rests = rests }, record { since = ends_self call.start; none = none_yet call.layout call.pass call.start; all = first_try (tries_begun call.pass call.start) m.tries m.limit tries u.1 limit some }, rests, u.0)
+map_few : (request : Request ℕ ℕ) (tries taken : ℕ) → most_map_steps (map_request request) tries taken ≡ most_steps (Map request) tries taken
+map_few (InsertCommand key value) tries taken = refl
+map_few (DeleteCommand key) tries taken = refl
+map_few (GetCommand key) tries taken = refl
+map_few (SuccessorCommand key) tries taken = refl
+map_few (RangeCommand low high most) tries taken = refl
 
--- and makes no more steps than its command may
-edit_few : (e : MapEdit) (tries taken : ℕ) → edit_steps e tries taken ≡ most_steps (edit_command e) tries taken
-edit_few (PutEdit key value) tries taken = refl
-edit_few (TakeEdit key) tries taken = refl
+-- a client at rest rests with its share
+rests_with : (v : ClientView) (c : Client) (r : Rests v c) → RestsWith (machine_call v c r.stands.is_pass v.past) v.past (held c)
+rests_with v c r = record { share = r.holds.share; over = over }
+  where
+    next_free : (s : ℕ) → s ≡ (held c).next_scx → IsOwnScx v.layout c.pass.0 s → ¬ IsTakenScx v.past s
+    next_free s e own = r.holds.share.untaken s record { from = omega (arith, e); below = let a = own.below in let b = r.holds.share.to_scx in omega (arith, a, b) }
 
--- an edit from its start, to which the client gives its share
-pub edit_starts : (v : ClientView) (began : Option ℕ) (c : Client) (m : EditRun) (share : Remaining) → IsSound v → v.layout.mode ≡ Tree → 0 < v.tries → (r : Rests v c) → IsUnbegun v began → c.share ≡ Some share → edit_key (edit_of m) < 2 ^ 64 → share_of m ≡ share → call_of m ≡ c.number → limit_of m ≡ v.tries → IsUnbegunEdit m v.tries
-    → ((nodes : ℕ) → edit_left m nodes ≡ edit_steps (edit_of m) v.tries nodes) → command_of v c ≡ Some (edit_command (edit_of m)) → Starts v (record c { share = None }) (Edit m) None
-edit_starts v began c m share sound mode some r u had small share_is call limit start left is = record {
+    over : AreFinished v.layout c.pass.0 0 v.past
+    over s own d t = ⊎_elim (λ e. absurd (next_free s e own t)) (λ e. r.holds.over s own e t) (either s (held c).next_scx)
+
+-- what is known of the machine of a call of the map that is made from this request
+pub record IsMadeOf (v : ClientView) (c : Client) (request : Request ℕ ℕ) (m : DictRun ℕ ℕ) : Type 0 where
+  pub called : call_in m.run ≡ map_request request
+  pub typed : IsTypedCall IsNumber IsNumber (call_in m.run)
+  pub share : Some (share_of m.run) ≡ c.share
+  pub tries : m.tries ≡ v.tries
+  pub fresh : IsFresh m.run v.tries c.number
+  pub steps : (nodes : ℕ) → map_left m.run nodes ≤ most_map_steps (call_in m.run) v.tries nodes
+
+-- a call of the map from its start, to which the client gives its share
+pub map_starts : (v : ClientView) (began : Option ℕ) (c : Client) (m : DictRun ℕ ℕ) (request : Request ℕ ℕ) → IsSound v → v.layout.mode ≡ Tree → Rests v c → IsUnbegun v began → AsksForFew request → AsksForPairs (map_request request) → IsMadeOf v c request m → command_of v c ≡ Some (Map request) → Starts v (record c { share = None }) (MapRun m) None
+map_starts v began c m request sound mode r u few asks made is = record {
   works = record {
     mode = mode;
     stands = record { is_pass = r.stands.is_pass; tries = r.stands.tries; number = r.stands.number; place = r.stands.place; kept = r.stands.kept; unkept = r.stands.unkept; dropped = r.stands.dropped; free = r.stands.free };
     holds = tt;
     newest = tt;
-    command = edit_command (edit_of m);
+    command = Map request;
     is = is;
-    run_of = (small, record { is = refl; called = call; alone = refl });
-    limit = limit;
+    run_of = record { request = request; is = refl; called = made.called; asks = subst AsksForPairs (sym made.called) asks; alone = refl };
+    limit = made.tries;
     is_pass = r.stands.is_pass;
     start = v.past;
     since = ends_self v.past;
@@ -202,29 +178,24 @@ edit_starts v began c m share sound mode some r u had small share_is call limit 
     moments = λ j p. absurd (omega arith);
     alone = λ j p. absurd (omega arith);
     room = tt;
-    opening = share_of m;
-    took = rw (u.start, has) r.holds.share;
+    took = tt;
     won = record { yes = λ row before s w. absurd (none_yet v.layout c.pass.0 v.past row before s w.within (subst (λ (k : History). Extends before k) u.start w.since) w.wins w.own); no = inl u.won };
     late = λ turn e. none_late v.won turn c.begin u.won e;
   };
   none = r.none;
-  spent = spent_start m v.tries some start;
-  ready = ready_start m (machine_call v c r.stands.is_pass v.past) v.tries some limit (mode, as_tree v.layout v.past mode sound) small rests start;
-  tries = start;
-  few = λ taken i. rw u.steps (let e = left taken in let f = edit_few (edit_of m) v.tries taken in omega (arith, e, f));
+  ready = let call : MachineCall = machine_call v c r.stands.is_pass v.past in dict_begins IsNumber IsNumber m call mode (as_numbers v.layout v.past mode sound) made.typed (subst (λ (n : ℕ). IsFresh m.run n c.number) (sym made.tries) made.fresh) (subst IsFewCall (sym made.called) (few_pairs request few)) (subst (RestsWith call v.past) has (rests_with v c r));
+  few = λ taken i. rw u.steps (let left = made.steps taken in let most = map_few request v.tries taken in let same : most_map_steps (call_in m.run) v.tries taken ≡ most_map_steps (map_request request) v.tries taken = ap (λ (k : MapCall). most_map_steps k v.tries taken) made.called in omega (arith, left, most, same));
 }
   where
-    has : share_of m ≡ held c
-    has = share_is ∙ sym (ap (λ (o : Option Remaining). unwrap_or o record { next_node = 0; nodes = 0; next_scx = 0; scx = 0 }) had)
+    has : held c ≡ share_of m.run
+    has = ap (λ (o : Option Remaining). unwrap_or o record { next_node = 0; nodes = 0; next_scx = 0; scx = 0 }) (sym made.share)
 
-    over : AreFinished v.layout c.pass.0 0 v.past
-    over s own d t = ⊎_elim (λ e. absurd (next_free s e own t)) (λ e. r.holds.over s own e t) (either s (held c).next_scx)
-      where
-        next_free : (s : ℕ) → s ≡ (held c).next_scx → IsOwnScx v.layout c.pass.0 s → ¬ IsTakenScx v.past s
-        next_free s e own = r.holds.share.untaken s record { from = omega (arith, e); below = let a = own.below in let b = r.holds.share.to_scx in omega (arith, a, b) }
-
-    rests : RestsWith (machine_call v c r.stands.is_pass v.past) v.past (share_of m)
-    rests = record { share = rw has r.holds.share; over = over }
+-- a machine of a command asks for a step first
+pub asks_first : (command : Command) (number : ℕ) (run : Run) (then : Option Put) → IsMachineOf command number run then → RunAsksFirst run
+asks_first command number (Llx m) then of = tt
+asks_first command number (Scx m) then of = tt
+asks_first command number (Vlx m) then of = tt
+asks_first command number (MapRun m) then of = of.asks
 
 -- as many snapshots as cells
 pub as_many_snaps : (snaps : List Snap) (cells : List ℕ) → map (λ (s : Snap). s.node.0) snaps ≡ cells → length snaps ≡ length cells
@@ -278,9 +249,9 @@ begins_held : (v : ClientView) (old new : Client) (share : Option Remaining) (an
 begins_held v old new share None x = (record { pass = x.0.pass; number = x.0.number; next = x.0.next }, x.1, x.2)
 begins_held v old new share (Some answer) x = (record { pass = x.0.pass; number = x.0.number; next = x.0.next }, x.1, x.2)
 
--- the edit that starts is that of the client
-pub edit_begins : (v : ClientView) (old new : Client) (m : EditRun) (share : Option Remaining) (answer : Option Answer) → share ≡ None → Starts v (record old { share = None }) (Edit m) None → (Starts v (record old { share = share }) (Edit m) None → BeginsOrRefuses v old.begin (record old { share = share }) new answer) → BeginsOrRefuses v old.begin old new answer
-edit_begins v old new m share answer none x f = begins_held v old new share answer (f (subst (λ (o : Option Remaining). Starts v (record old { share = o }) (Edit m) None) (sym none) x))
+-- the call of the map that starts is that of the client
+pub map_begins : (v : ClientView) (old new : Client) (m : DictRun ℕ ℕ) (share : Option Remaining) (answer : Option Answer) → share ≡ None → Starts v (record old { share = None }) (MapRun m) None → (Starts v (record old { share = share }) (MapRun m) None → BeginsOrRefuses v old.begin (record old { share = share }) new answer) → BeginsOrRefuses v old.begin old new answer
+map_begins v old new m share answer none x f = begins_held v old new share answer (f (subst (λ (o : Option Remaining). Starts v (record old { share = o }) (MapRun m) None) (sym none) x))
 
 -- a client at rest keeps a snapshot of each cell of which one is said
 unkept_is : (v : ClientView) (c : Client) → Rests v c → (n : ℕ) → n ≤ 8 → kept_of c.kept n ≡ None → v.linked n ≡ None

@@ -1,18 +1,19 @@
 -- What a client's machine leaves of what it has.
-use Rattle.std.proofs.Common.{◌≡◌, ℕ, ◌+◌, ◌<◌, ◌≤◌, List, length, Option, Some, None, refl, sym, ◌∙◌, ap, subst, arith}
+use Rattle.std.proofs.Common.{◌≡◌, ℕ, ◌+◌, ◌<◌, ◌≤◌, List, length, Option, Some, None, refl, sym, ◌∙◌, subst, arith}
 use Rattle.arena.specs.declared.layout.Layout.{Layout}
 use Rattle.arena.specs.TakenNodes.{taken_nodes}
 use Rattle.arena.specs.declared.word.Side.{Side}
 use Rattle.arena.specs.declared.step.Step.{Step}
 use Rattle.arena.specs.Share.{Remaining}
 use Rattle.arena.specs.History.{History}
+use Rattle.dict.specs.Calls.{AsksForPairs}
 use Rattle.script.specs.declared.command.Command.{Command}
-use Rattle.script.specs.declared.command.Command.TheVariants.{Llx as LlxOf, Scx as ScxOf, Vlx as VlxOf, Set as SetOf, Map}
+use Rattle.script.specs.declared.command.Command.TheVariants.{Llx as LlxOf, Scx as ScxOf, Vlx as VlxOf, Set as SetOf, Map as MapOf}
 use Rattle.prims.specs.declared.put.PutRun.{PutRun}
 use Rattle.prims.specs.declared.llx.LlxRun.{LlxRun}
 use Rattle.prims.specs.declared.llx.Llx.{Llx as LlxAnswer}
 use Rattle.player.specs.declared.run.Run.{Run}
-use Rattle.player.specs.declared.run.Run.TheVariants.{Llx, Scx, Vlx, Edit, Get, Read}
+use Rattle.player.specs.declared.run.Run.TheVariants.{Llx, Scx, Vlx, Map}
 use Rattle.player.specs.declared.run.Ended.{Ended}
 use Rattle.player.specs.declared.run.Ended.TheVariants as ended
 use Rattle.player.specs.declared.client.Client.{Client}
@@ -21,10 +22,8 @@ use Rattle.player.specs.declared.client.Put.{Put}
 use Rattle.record.specs.declared.record.Answer.{Answer}
 use Rattle.record.specs.CommandRules.{most_steps}
 use Rattle.player.specs.RunKnown.{RunWaits, RunAnswers, IsSameMachine, run_mode, share_behind}
-use Rattle.player.specs.RunSteps.{run_left, then_left, left_of, HasSpentSome, HasSpentRest, HasSpent, HasSpentAll}
-use Rattle.player.specs.EditRuns.{HasSpentOf, HasSpentTries, HasSpentAllTries, edit_command}
+use Rattle.player.specs.RunSteps.{run_left, then_left, left_of}
 use Rattle.player.specs.ClientView.{ClientView, Hand, in_hand, snaps_of, IsStart, IsPutOf, IsScxOf, held, HoldsShare, Holds, TakesInHand, HasNewest, IsMachineOf, IsRoomy, MayTryAll, IsWonBy, IsClientState, Works, Hears, Answered, machine_call, GoesOn, Told}
-use Rattle.player.proofs.ReadMachines.{same_limit, same_read}
 
 -- what does not change while a machine goes on
 record IsKept (left : Remaining) (old now : Run) : Type 0 where
@@ -38,7 +37,7 @@ record IsKept (left : Remaining) (old now : Run) : Type 0 where
   limit : (tries : ℕ) → MayTryAll old tries → MayTryAll now tries
   mode : (lay : Layout) → lay.mode ≡ run_mode old → lay.mode ≡ run_mode now
   holds : (v : ClientView) (c : Client) → Holds v c old → Holds v c now
-  took : (v : ClientView) (c : Client) (share : Remaining) → TakesInHand v c share old → TakesInHand v c share now
+  took : (v : ClientView) (c : Client) → TakesInHand v c old → TakesInHand v c now
 
 put_same : (a b : PutRun) (number : ℕ) (nodes removed : List ℕ) (field : ℕ × Side) (x : ℕ) → b.scx.update ≡ a.scx.update → b.scx.call ≡ a.scx.call → b.value ≡ a.value → IsPutOf a number nodes removed field x → IsPutOf b number nodes removed field x
 put_same a b number nodes removed field x u k w y = record { called = rw k y.called; covers = rw u y.covers; finalizes = rw u y.finalizes; node = rw u y.node; side = rw u y.side; value = rw w y.value }
@@ -50,39 +49,31 @@ scx_same (ScxOf update) number a b (Some put) x y = absurd y
 scx_same (SetOf field value) number a b (Some put) x y = absurd y
 scx_same (LlxOf cell) number a b then x y = absurd y
 scx_same (VlxOf cells) number a b then x y = absurd y
-scx_same (Map request) number a b then x y = absurd y
+scx_same (MapOf request) number a b then x y = absurd y
 
 is_kept : (left : Remaining) (old now : Run) → IsSameMachine old now → IsKept left old now
-is_kept left (Llx a) (Llx b) x = record { hand = refl; newest = λ p. p; run_of = λ command number then p. rw x p; begun = λ start begin p. p; snaps = refl; won = λ v c p. p; room = λ v c p. p; limit = λ tries p. p; mode = λ lay e. e; holds = λ v c p. p; took = λ v c share p. p }
-is_kept left (Scx a) (Scx b) x = record { hand = rw (x.0, x.1) refl; newest = λ p. rw (x.0, x.1) p; run_of = λ command number then p. scx_same command number a b then x p; begun = λ start begin p. p; snaps = rw x.1 refl; won = λ v c p. rw x.0 p; room = λ v c p. rw x.0 p; limit = λ tries p. p; mode = λ lay e. e; holds = λ v c p. rw (x.0, x.1) p; took = λ v c share p. rw (x.0, x.1) p }
-is_kept left (Vlx a) (Vlx b) x = record { hand = refl; newest = λ p. p; run_of = λ command number then p. rw x p; begun = λ start begin p. p; snaps = rw x refl; won = λ v c p. p; room = λ v c p. p; limit = λ tries p. p; mode = λ lay e. e; holds = λ v c p. p; took = λ v c share p. p }
-is_kept left (Get a) (Get b) x = record { hand = refl; newest = λ p. p; run_of = λ command number then p. rw x p; begun = λ start begin p. p; snaps = refl; won = λ v c p. p; room = λ v c p. p; limit = λ tries p. p; mode = λ lay e. e; holds = λ v c p. p; took = λ v c share p. p }
-is_kept left (Read a) (Read b) x = record { hand = refl; newest = λ p. p; run_of = λ command number then p. (same_read a b command x p.0, p.1); begun = λ start begin p. p; snaps = refl; won = λ v c p. p; room = λ v c p. p; limit = λ tries p. same_limit a b x ∙ p; mode = λ lay e. e; holds = λ v c p. p; took = λ v c share p. p }
-is_kept left (Edit a) (Edit b) x = record { hand = refl; newest = λ p. p; run_of = λ command number then p. (rw x.0 p.0, record { is = p.1.is ∙ ap edit_command (sym x.0); called = x.1 ∙ p.1.called; alone = p.1.alone }); begun = λ start begin p. p; snaps = refl; won = λ v c p. p; room = λ v c p. p; limit = λ tries p. x.2 ∙ p; mode = λ lay e. e; holds = λ v c p. p; took = λ v c share p. p }
-is_kept left (Edit a) (Llx b) x = absurd x
-is_kept left (Edit a) (Scx b) x = absurd x
-is_kept left (Edit a) (Vlx b) x = absurd x
-is_kept left (Edit a) (Get b) x = absurd x
-is_kept left (Edit a) (Read b) x = absurd x
-is_kept left (Llx a) (Edit b) x = absurd x
-is_kept left (Scx a) (Edit b) x = absurd x
-is_kept left (Vlx a) (Edit b) x = absurd x
-is_kept left (Get a) (Edit b) x = absurd x
-is_kept left (Read a) (Edit b) x = absurd x
-is_kept left (Get a) (Read b) x = absurd x
-is_kept left (Read a) (Get b) x = absurd x
-is_kept left (Get a) (Llx b) x = absurd x
-is_kept left (Read a) (Llx b) x = absurd x
-is_kept left (Get a) (Scx b) x = absurd x
-is_kept left (Read a) (Scx b) x = absurd x
-is_kept left (Get a) (Vlx b) x = absurd x
-is_kept left (Read a) (Vlx b) x = absurd x
-is_kept left (Llx a) (Get b) x = absurd x
-is_kept left (Llx a) (Read b) x = absurd x
-is_kept left (Scx a) (Get b) x = absurd x
-is_kept left (Scx a) (Read b) x = absurd x
-is_kept left (Vlx a) (Get b) x = absurd x
-is_kept left (Vlx a) (Read b) x = absurd x
+is_kept left (Llx a) (Llx b) x = record { hand = refl; newest = λ p. p; run_of = λ command number then p. rw x p; begun = λ start begin p. p; snaps = refl; won = λ v c p. p; room = λ v c p. p; limit = λ tries p. p; mode = λ lay e. e; holds = λ v c p. p; took = λ v c p. p }
+is_kept left (Scx a) (Scx b) x = record { hand = rw (x.0, x.1) refl; newest = λ p. rw (x.0, x.1) p; run_of = λ command number then p. scx_same command number a b then x p; begun = λ start begin p. p; snaps = rw x.1 refl; won = λ v c p. rw x.0 p; room = λ v c p. rw x.0 p; limit = λ tries p. p; mode = λ lay e. e; holds = λ v c p. rw (x.0, x.1) p; took = λ v c p. rw (x.0, x.1) p }
+is_kept left (Vlx a) (Vlx b) x = record { hand = refl; newest = λ p. p; run_of = λ command number then p. rw x p; begun = λ start begin p. p; snaps = rw x refl; won = λ v c p. p; room = λ v c p. p; limit = λ tries p. p; mode = λ lay e. e; holds = λ v c p. p; took = λ v c p. p }
+is_kept left (Map a) (Map b) x = record {
+  hand = refl;
+  newest = λ p. p;
+  run_of = λ command number then p. record { request = p.request; is = p.is; called = x.0 ∙ p.called; asks = subst AsksForPairs (sym x.0) p.asks; alone = p.alone };
+  begun = λ start begin p. p;
+  snaps = refl;
+  won = λ v c p. p;
+  room = λ v c p. p;
+  limit = λ tries p. x.1 ∙ p;
+  mode = λ lay e. e;
+  holds = λ v c p. p;
+  took = λ v c p. p;
+}
+is_kept left (Map a) (Llx b) x = absurd x
+is_kept left (Map a) (Scx b) x = absurd x
+is_kept left (Map a) (Vlx b) x = absurd x
+is_kept left (Llx a) (Map b) x = absurd x
+is_kept left (Scx a) (Map b) x = absurd x
+is_kept left (Vlx a) (Map b) x = absurd x
 is_kept left (Llx a) (Scx b) x = absurd x
 is_kept left (Llx a) (Vlx b) x = absurd x
 is_kept left (Scx a) (Llx b) x = absurd x
@@ -99,20 +90,16 @@ so_held : (v : ClientView) (c : Client) (running : Option Running) (hand : Hand)
 so_held v c running hand x = record { some = x.some; share = x.share; over = x.over }
 
 holds_so : (v : ClientView) (c : Client) (running : Option Running) (run : Run) → Holds v c run → Holds v (record c { running = running }) run
-holds_so v c running (Edit m) x = tt
+holds_so v c running (Map m) x = tt
 holds_so v c running (Llx m) x = so_held v c running _ x
 holds_so v c running (Scx m) x = so_held v c running _ x
 holds_so v c running (Vlx m) x = so_held v c running _ x
-holds_so v c running (Get m) x = so_held v c running _ x
-holds_so v c running (Read m) x = so_held v c running _ x
 
-took_so : (v : ClientView) (c : Client) (running : Option Running) (share : Remaining) (run : Run) → TakesInHand v c share run → TakesInHand v (record c { running = running }) share run
-took_so v c running share (Edit m) x = x
-took_so v c running share (Llx m) x = x
-took_so v c running share (Scx m) x = x
-took_so v c running share (Vlx m) x = x
-took_so v c running share (Get m) x = x
-took_so v c running share (Read m) x = x
+took_so : (v : ClientView) (c : Client) (running : Option Running) (run : Run) → TakesInHand v c run → TakesInHand v (record c { running = running }) run
+took_so v c running (Map m) x = x
+took_so v c running (Llx m) x = x
+took_so v c running (Scx m) x = x
+took_so v c running (Vlx m) x = x
 
 works_so : (v : ClientView) (c : Client) (running : Option Running) (old now : Run) (then : Option Put) → IsSameMachine old now → Works v c old then → Works v (record c { running = running }) now then
 works_so v c running old now then same w =
@@ -133,48 +120,20 @@ works_so v c running old now then same w =
       moments = rw k.snaps w.moments;
       alone = rw k.snaps w.alone;
       room = k.room v c.pass.0 w.room;
-      opening = w.opening;
-      took = took_so v c running w.opening now (k.took v c w.opening w.took);
+      took = took_so v c running now (k.took v c w.took);
       won = k.won v c.pass.0 w.won;
       late = w.late;
     }
 
--- what is taken is no more than before and now
-spent_more : (share : Remaining) (tries : ℕ) (old now : Run) → IsSameMachine old now → HasSpentSome old now → HasSpent share tries old → HasSpent share tries now
-spent_more share tries old (Llx b) same x y = tt
-spent_more share tries old (Scx b) same x y = tt
-spent_more share tries old (Vlx b) same x y = tt
-spent_more share tries old (Get b) same x y = tt
-spent_more share tries old (Read b) same x y = tt
-spent_more share tries (Edit a) (Edit b) same x y = let z : HasSpentTries a b = x in let w : HasSpentOf share tries a = y in rw same.0 (omega (arith, z.0, w.0), omega (arith, z.1, w.1), omega (arith, z.2, w.2))
-spent_more share tries (Llx a) (Edit b) same x y = absurd same
-spent_more share tries (Scx a) (Edit b) same x y = absurd same
-spent_more share tries (Vlx a) (Edit b) same x y = absurd same
-spent_more share tries (Get a) (Edit b) same x y = absurd same
-spent_more share tries (Read a) (Edit b) same x y = absurd same
-
-spent_rest : (share : Remaining) (tries : ℕ) (old now : Run) → IsSameMachine old now → HasSpentRest old now → HasSpent share tries old → HasSpentAll share tries now
-spent_rest share tries old (Llx b) same x y = tt
-spent_rest share tries old (Scx b) same x y = tt
-spent_rest share tries old (Vlx b) same x y = tt
-spent_rest share tries old (Get b) same x y = tt
-spent_rest share tries old (Read b) same x y = tt
-spent_rest share tries (Edit a) (Edit b) same x y = let z : HasSpentAllTries a b = x in let w : HasSpentOf share tries a = y in rw same.0 (omega (arith, z.0, w.0), omega (arith, z.1, w.1), omega (arith, z.2, w.2))
-spent_rest share tries (Llx a) (Edit b) same x y = absurd same
-spent_rest share tries (Scx a) (Edit b) same x y = absurd same
-spent_rest share tries (Vlx a) (Edit b) same x y = absurd same
-spent_rest share tries (Get a) (Edit b) same x y = absurd same
-spent_rest share tries (Read a) (Edit b) same x y = absurd same
-
 -- a machine that asks for a step waits for it, and has fewer steps left
-pub goes_on : (v : ClientView) (c : Client) (old now : Run) (then : Option Put) (step : Step) (w : Works v c old then) → IsSameMachine old now → RunWaits now (machine_call v c w.is_pass w.start) v.past step → ((taken : ℕ) → length (taken_nodes v.past) ≤ taken → v.steps + left_of old then taken ≤ most_steps w.command v.tries taken) → HasSpent w.opening v.tries old → HasSpentSome old now → ((taken : ℕ) → length (taken_nodes v.past) ≤ taken → run_left now taken < run_left old taken) → GoesOn v c (record c { running = Some (record { run = now; then = then; step = step }) })
+pub goes_on : (v : ClientView) (c : Client) (old now : Run) (then : Option Put) (step : Step) (w : Works v c old then) → IsSameMachine old now → RunWaits now (machine_call v c w.is_pass w.start) v.past step → ((taken : ℕ) → length (taken_nodes v.past) ≤ taken → v.steps + left_of old then taken ≤ most_steps w.command v.tries taken) → ((taken : ℕ) → length (taken_nodes v.past) ≤ taken → run_left now taken < run_left old taken) → GoesOn v c (record c { running = Some (record { run = now; then = then; step = step }) })
 unfolding works_so
-goes_on v c old now then step w same waits few spent spends nearer = record {
+goes_on v c old now then step w same waits few nearer = record {
   same = record { pass = refl; number = refl; next = refl };
   begin = refl;
   running = record { run = now; then = then; step = step };
   is = refl;
-  waits = record { works = works_so v c (Some (record { run = now; then = then; step = step })) old now then same w; waits = waits; spent = spent_more w.opening v.tries old now same spends spent; few = λ taken i. let enough = few taken i in let less = nearer taken i in omega arith };
+  waits = record { works = works_so v c (Some (record { run = now; then = then; step = step })) old now then same w; waits = waits; few = λ taken i. let enough = few taken i in let less = nearer taken i in omega arith };
 }
 
 -- The answer of a machine
@@ -190,9 +149,7 @@ back_so : (v : ClientView) (c : Client) (run : Run) (then : Option Put) → Work
 back_so v c (Llx m) then w = w
 back_so v c (Scx m) then w = w
 back_so v c (Vlx m) then w = w
-back_so v c (Get m) then w = w
-back_so v c (Read m) then w = w
-back_so v c (Edit m) then w = record {
+back_so v c (Map m) then w = record {
   mode = w.mode;
   stands = record { is_pass = w.stands.is_pass; tries = w.stands.tries; number = w.stands.number; place = w.stands.place; kept = w.stands.kept; unkept = w.stands.unkept; dropped = w.stands.dropped; free = w.stands.free };
   holds = tt;
@@ -208,7 +165,6 @@ back_so v c (Edit m) then w = record {
   moments = w.moments;
   alone = w.alone;
   room = tt;
-  opening = w.opening;
   took = w.took;
   won = w.won;
   late = w.late;
@@ -219,24 +175,20 @@ is_back : (run : Run) (had : Option Remaining) → share_behind run had ≡ shar
 is_back (Llx m) had = refl
 is_back (Scx m) had = refl
 is_back (Vlx m) had = refl
-is_back (Edit m) had = refl
-is_back (Get m) had = refl
-is_back (Read m) had = refl
+is_back (Map m) had = refl
 
-answered_back : (v : ClientView) (c : Client) (run : Run) (then : Option Put) (end : Ended) (w : Works v c run then) → c.running ≡ None → RunAnswers run (machine_call v c w.is_pass w.start) v.past end → HasSpentAll w.opening v.tries run → ((taken : ℕ) → length (taken_nodes v.past) ≤ taken → v.steps + then_left then ≤ most_steps w.command v.tries taken) → Answered v (record c { share = share_behind run c.share }) run then end
+answered_back : (v : ClientView) (c : Client) (run : Run) (then : Option Put) (end : Ended) (w : Works v c run then) → c.running ≡ None → RunAnswers run (machine_call v c w.is_pass w.start) v.past end → ((taken : ℕ) → length (taken_nodes v.past) ≤ taken → v.steps + then_left then ≤ most_steps w.command v.tries taken) → Answered v (record c { share = share_behind run c.share }) run then end
 unfolding back_so
-answered_back v c (Llx m) then end w none a spent few = record { works = back_so v c (Llx m) then w; none = none; answers = a; spent = spent; back = refl; few = few }
-answered_back v c (Scx m) then end w none a spent few = record { works = back_so v c (Scx m) then w; none = none; answers = a; spent = spent; back = refl; few = few }
-answered_back v c (Vlx m) then end w none a spent few = record { works = back_so v c (Vlx m) then w; none = none; answers = a; spent = spent; back = refl; few = few }
-answered_back v c (Edit m) then end w none a spent few = record { works = back_so v c (Edit m) then w; none = none; answers = a; spent = spent; back = refl; few = few }
-answered_back v c (Get m) then end w none a spent few = record { works = back_so v c (Get m) then w; none = none; answers = a; spent = spent; back = refl; few = few }
-answered_back v c (Read m) then end w none a spent few = record { works = back_so v c (Read m) then w; none = none; answers = a; spent = spent; back = refl; few = few }
+answered_back v c (Llx m) then end w none a few = record { works = back_so v c (Llx m) then w; none = none; answers = a; back = refl; few = few }
+answered_back v c (Scx m) then end w none a few = record { works = back_so v c (Scx m) then w; none = none; answers = a; back = refl; few = few }
+answered_back v c (Vlx m) then end w none a few = record { works = back_so v c (Vlx m) then w; none = none; answers = a; back = refl; few = few }
+answered_back v c (Map m) then end w none a few = record { works = back_so v c (Map m) then w; none = none; answers = a; back = refl; few = few }
 
-pub answered_so : (v : ClientView) (c : Client) (p : Running) (now : Run) (end : Ended) (found : ℕ) (rest : Option Running) (mid : Client) (x : Hears v c p found) → rest ≡ None → mid ≡ record c { running = rest; share = share_behind now c.share } → IsSameMachine p.run now → HasSpentRest p.run now → RunAnswers now (machine_call v c x.works.is_pass x.works.start) v.past end → Answered v mid now p.then end
+pub answered_so : (v : ClientView) (c : Client) (p : Running) (now : Run) (end : Ended) (found : ℕ) (rest : Option Running) (mid : Client) (x : Hears v c p found) → rest ≡ None → mid ≡ record c { running = rest; share = share_behind now c.share } → IsSameMachine p.run now → RunAnswers now (machine_call v c x.works.is_pass x.works.start) v.past end → Answered v mid now p.then end
 unfolding works_so
-answered_so v c p now end found rest mid x e is same spends a =
+answered_so v c p now end found rest mid x e is same a =
     subst (λ (k : Client). Answered v k now p.then end) (sym is)
-    (answered_back v (record c { running = rest }) now p.then end (works_so v c rest p.run now p.then same x.works) e a (spent_rest x.works.opening v.tries p.run now same spends x.spent) (λ taken i. let few = x.few taken i in omega arith))
+    (answered_back v (record c { running = rest }) now p.then end (works_so v c rest p.run now p.then same x.works) e a (λ taken i. let few = x.few taken i in omega arith))
 
 -- what is told does not ask whether a machine ran, nor who had the share
 told_so : (v : ClientView) (c new : Client) (rest : Option Running) (share : Option Remaining) (answer : Option Answer) → Told v (record c { running = rest; share = share }) new answer → Told v c new answer
@@ -254,6 +206,4 @@ after_run v c new run then end a answer e x f = go run (subst (λ t. Answered v 
     go (Llx m) y = f m y
     go (Scx m) y = absurd y.answers
     go (Vlx m) y = absurd y.answers
-    go (Edit m) y = absurd y.answers
-    go (Get m) y = absurd y.answers
-    go (Read m) y = absurd y.answers
+    go (Map m) y = absurd y.answers

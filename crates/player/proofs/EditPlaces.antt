@@ -37,7 +37,7 @@ use Rattle.record.specs.SpelledMap.{AreSpelled}
 use Rattle.record.specs.Turns.{history, turns, answered, begin, start, won, entry_owed, client_of}
 use Rattle.player.specs.Allowed.{PlayedAllows}
 use Rattle.places.specs.declared.places.Change.{Change}
-use Rattle.player.specs.EditRuns.{edit_command}
+use Rattle.player.specs.Edits.{edit_command}
 use Rattle.player.specs.Moments.{IsMomentBy}
 use Rattle.player.specs.ClientView.{client_view, Tells, HasEdited}
 use Rattle.record.proofs.Lemmas.{entries_none, value_told}

@@ -1,4 +1,5 @@
--- An edit that runs: what its SCX-record in progress says, and the word `call` that it fills.
+-- A call of the map that runs: what its SCX-record in progress says, and the word `call` that it
+-- fills.
 use Rattle.std.proofs.Common.{◌≡◌, ℕ, Option, Some, None, refl, sym, ◌∙◌, ap, subst, arith}
 use Rattle.arena.specs.declared.layout.Layout.{Layout}
 use Rattle.arena.specs.declared.step.Step.{Step}
@@ -22,7 +23,13 @@ use Rattle.prims.specs.declared.put.PutAt.TheVariants.{Start as PutStart, Fill a
 use Rattle.prims.specs.declared.scx.ScxAt.{ScxAt}
 use Rattle.prims.specs.declared.scx.ScxAt.TheVariants.{Start as ScxStart, Plan as AtPlan, New as AtNew, Old as AtOld, Member as AtMember, Seen as AtSeen, Call as AtCall, Help}
 use Rattle.prims.proofs.Lemmas.{llx_fills_not, vlx_fills_not, own_in_hand}
-use Rattle.spelling.specs.OrderedMap.{MapEdit}
+use Rattle.dict.specs.Calls.{call_in}
+use Rattle.dict.specs.Known.{IsNumbered, WaitsInside}
+use Rattle.dict.specs.declared.run.MapRun.{MapRun}
+use Rattle.dict.specs.declared.run.MapRun.TheVariants.{Insert, Delete, Get, Successor, Range}
+use Rattle.order.specs.Range.Laws.{range_fills_not}
+use Rattle.order.specs.Successor.Laws.{successor_fills_not}
+use Rattle.spelling.specs.OrderedMap.{MapEdit, Edit as EditCall, Insert as PutEdit, Delete as TakeEdit}
 use Rattle.spelling.specs.Runs.{Makes}
 use Rattle.spelling.specs.TreeShape.{TreeAllows}
 use Rattle.template.proofs.Lemmas.{walk_fills_not}
@@ -41,16 +48,12 @@ use Rattle.updates.specs.declared.update.UpdateAt.{UpdateAt}
 use Rattle.updates.specs.declared.update.UpdateAt.TheVariants.{Start, Walk, Look, Load, Fill, Scx}
 use Rattle.updates.specs.declared.update.UpdateRun.{UpdateRun}
 use Rattle.script.specs.declared.command.Command.{Command}
-use Rattle.script.specs.declared.command.Command.TheVariants.{Llx as LlxOf, Scx as ScxOf, Vlx as VlxOf, Set as SetOf, Map}
+use Rattle.script.specs.declared.command.Command.TheVariants.{Llx as LlxOf, Scx as ScxOf, Vlx as VlxOf, Set as SetOf, Map as MapOf}
 use Rattle.player.specs.declared.client.Put.{Put}
-use Rattle.player.specs.EditRuns.{EditWaits, edit_of, call_of}
-use Rattle.player.specs.declared.edit.EditRun.{EditRun}
-use Rattle.player.specs.declared.edit.EditRun.TheVariants.{Insert, Delete}
 use Rattle.player.specs.declared.run.Run.{Run}
-use Rattle.player.specs.declared.run.Run.TheVariants.{Llx, Scx as ScxRun, Vlx, Edit, Get, Read}
+use Rattle.player.specs.declared.run.Run.TheVariants.{Llx, Scx as ScxRun, Vlx, Map}
 use Rattle.player.specs.RunKnown.{RunWaits}
 use Rattle.player.specs.ClientView.{IsMachineOf, IsScxOf}
-use Rattle.player.proofs.ReadMachines.{read_fills_not}
 
 -- The SCX-record in hand
 
@@ -88,8 +91,11 @@ pub record IsHandOf (number : ℕ) (edit : MapEdit) (call : MachineCall) (h : Hi
   pub makes : Makes call.layout h t edit
   pub only : HasEnteredOnly call.layout call.pass t h call.start
 
-abbrev pub IsEditHand : EditRun → MachineCall → History → ℕ → Type 0
-IsEditHand m call h t = IsHandOf (call_of m) (edit_of m) call h t
+-- it is of the edit that the machine makes
+pub record IsEditHand (m : MapRun) (call : MachineCall) (h : History) (t : ℕ) : Type 0 where
+  pub edit : MapEdit
+  pub is : call_in m ≡ EditCall edit
+  pub hand : IsHandOf call.number edit call h t
 
 module _ {E : Type 0} (means : EditMeaning E) (m : UpdateRun E UpdateAt) where
   -- whatever leaf it finds, its edit is this
@@ -125,13 +131,21 @@ module _ {E : Type 0} (means : EditMeaning E) (m : UpdateRun E UpdateAt) where
   update_says_at call h s t v (Fill f nth part) w kind word = absurd (let z = ap (λ (q : Step). q.word) (sym w.3) ∙ word in cc)
   update_says_at call h s t v (Scx f scx) w kind word = scx_says TreeAllows (job_of scx) (from call w.0) h scx.at s t v w.2 kind word ∙ w.1.call
 
-pub edit_hand : (m : EditRun) (call : MachineCall) (h : History) (t : ℕ) → Lawful call.layout h → IsOwnScx call.layout call.pass t → IsInProgress h t → (s : Step) → EditWaits m call h s → IsEditHand m call h t
-edit_hand (Insert m) call h t l own p s w = hand_at insert_means m (edit_of (Insert m)) (λ f. refl) call h t l own p w.0 s m.at w.1 w.3
-edit_hand (Delete m) call h t l own p s w = hand_at delete_means m (edit_of (Delete m)) (λ f. refl) call h t l own p w.0 s m.at w.1 w.3
+-- a pass that rests has none in progress
+module _ (call : MachineCall) (h : History) (t : ℕ) (l : Lawful call.layout h) (own : IsOwnScx call.layout call.pass t) (p : IsInProgress h t) (s : Step) where
+  pub map_hand : (m : MapRun) → IsNumbered m call.number → WaitsInside m call h s → IsEditHand m call h t
+  map_hand (Insert m) number w = record { edit = PutEdit m.edit.key m.edit.value; is = refl; hand = subst (λ (n : ℕ). IsHandOf n (PutEdit m.edit.key m.edit.value) call h t) number (hand_at insert_means m (PutEdit m.edit.key m.edit.value) (λ f. refl) call h t l own p w.0 s m.at w.1 w.3) }
+  map_hand (Delete m) number w = record { edit = TakeEdit m.edit.key; is = refl; hand = subst (λ (n : ℕ). IsHandOf n (TakeEdit m.edit.key) call h t) number (hand_at delete_means m (TakeEdit m.edit.key) (λ f. refl) call h t l own p w.0 s m.at w.1 w.3) }
+  map_hand (Get m share) number w = absurd (idle_rests call h share l w.1.now t own p)
+  map_hand (Successor m share) number w = absurd (idle_rests call h share l w.1.now t own p)
+  map_hand (Range m share) number w = absurd (idle_rests call h share l w.1.now t own p)
 
-edit_says : (m : EditRun) (call : MachineCall) (h : History) (s : Step) (t v : ℕ) → EditWaits m call h s → s.kind ≡ FillKind → s.word ≡ scx_word t CallWord → word_after s.access v ≡ call_of m
-edit_says (Insert m) call h s t v w kind word = update_says_at insert_means m (from call w.0) h s t v m.at w.3 kind word
-edit_says (Delete m) call h s t v w kind word = update_says_at delete_means m (from call w.0) h s t v m.at w.3 kind word
+map_says : (m : MapRun) (call : MachineCall) (h : History) (s : Step) (t v : ℕ) → IsNumbered m call.number → WaitsInside m call h s → s.kind ≡ FillKind → s.word ≡ scx_word t CallWord → word_after s.access v ≡ call.number
+map_says (Insert m) call h s t v number w kind word = update_says_at insert_means m (from call w.0) h s t v m.at w.3 kind word ∙ number
+map_says (Delete m) call h s t v number w kind word = update_says_at delete_means m (from call w.0) h s t v m.at w.3 kind word ∙ number
+map_says (Get m share) call h s t v number w kind word = absurd (get_fills_not m call h s w.0 kind)
+map_says (Successor m share) call h s t v number w kind word = absurd (successor_fills_not m call h s w.0 kind)
+map_says (Range m share) call h s t v number w kind word = absurd (range_fills_not m call h s w.0 kind)
 
 put_says_at : (m : PutRun) (call : MachineCall) (h : History) (s : Step) (t v : ℕ) (at : PutAt) → PutWaitsAt AllowsAll call h m at s → s.kind ≡ FillKind → s.word ≡ scx_word t CallWord → word_after s.access v ≡ m.scx.call
 put_says_at m call h s t v PutStart w kind word = absurd w
@@ -145,13 +159,11 @@ put_called (ScxOf update) number m (Some put) x = absurd x
 put_called (SetOf field y) number m (Some put) x = absurd x
 put_called (LlxOf cell) number m then x = absurd x
 put_called (VlxOf cells) number m then x = absurd x
-put_called (Map request) number m then x = absurd x
+put_called (MapOf request) number m then x = absurd x
 
 -- a machine that fills the word `call` stores there the number of the client's call
-pub run_says : (command : Command) (number : ℕ) (run : Run) (then : Option Put) (call : MachineCall) (h : History) (s : Step) (t v : ℕ) → IsMachineOf command number run then → RunWaits run call h s → s.kind ≡ FillKind → s.word ≡ scx_word t CallWord → word_after s.access v ≡ number
-run_says command number (Llx m) then call h s t v of w kind word = absurd (llx_fills_not AllowsAll m call h s w kind)
-run_says command number (Vlx m) then call h s t v of w kind word = absurd (vlx_fills_not m.snaps m.asked call h s w kind)
-run_says command number (Get m) then call h s t v of w kind word = absurd (get_fills_not m call h s w kind)
-run_says command number (Read m) then call h s t v of w kind word = absurd (read_fills_not m call h s w kind)
-run_says command number (ScxRun m) then call h s t v of w kind word = put_says_at m call h s t v m.at w kind word ∙ put_called command number m then of
-run_says command number (Edit m) then call h s t v of w kind word = edit_says m call h s t v w kind word ∙ of.1.called
+pub run_says : (command : Command) (run : Run) (then : Option Put) (call : MachineCall) (h : History) (s : Step) (t v : ℕ) → IsMachineOf command call.number run then → RunWaits run call h s → s.kind ≡ FillKind → s.word ≡ scx_word t CallWord → word_after s.access v ≡ call.number
+run_says command (Llx m) then call h s t v of w kind word = absurd (llx_fills_not AllowsAll m call h s w kind)
+run_says command (Vlx m) then call h s t v of w kind word = absurd (vlx_fills_not m.snaps m.asked call h s w kind)
+run_says command (ScxRun m) then call h s t v of w kind word = put_says_at m call h s t v m.at w kind word ∙ put_called command call.number m then of
+run_says command (Map m) then call h s t v of w kind word = map_says m.run call h s t v w.1.0.number w.1.1 kind word

@@ -2,9 +2,6 @@
 use Rattle.std.proofs.Common.{◌≡◌, ◌≢◌, ℕ, zero, suc, ◌<◌, ◌≤◌, ◌⊎◌, inl, inr, ⊎_elim, Bool, true, false, cond, ◌||◌, eqb, List, [], ◌∷◌, length, get_or, slice_get, Option, Some, None, IsSome, refl, sym, ◌∙◌, ap, subst, arith}
 use Rattle.std.proofs.Math.ListN.{set}
 use Rattle.std.specs.List.{Contains}
-use Rattle.tree.specs.declared.get.GetRun.{GetRun}
-use Rattle.tree.proofs.Lemmas.{get_says}
-use Rattle.spelling.specs.Paths.{IsAnswerAt}
 use Rattle.arena.specs.declared.number.NodeNo.{NodeNo}
 use Rattle.arena.specs.declared.number.ScxNo.{ScxNo}
 use Rattle.arena.specs.Words.{state}
@@ -33,12 +30,12 @@ use Rattle.prims.specs.declared.llx.Llx.TheVariants.{Snapshot as LlxSnapshot, Fi
 use Rattle.prims.specs.declared.scx.Scx.TheVariants.{Done as ScxDone, Lost as ScxLost}
 use Rattle.prims.specs.declared.vlx.Vlx.TheVariants.{Same as VlxSame, Changed as VlxChanged}
 use Rattle.script.specs.declared.command.Command.{Command}
-use Rattle.script.specs.declared.command.Command.TheVariants.{Llx as LlxOf, Scx as ScxOf, Vlx as VlxOf, Set as SetOf, Map}
+use Rattle.script.specs.declared.command.Command.TheVariants.{Llx as LlxOf, Scx as ScxOf, Vlx as VlxOf, Set as SetOf, Map as MapOf}
 use Rattle.spelling.specs.declared.request.Request.TheVariants.{Insert as InsertOf, Delete as DeleteOf, Get as GetOf, Successor as SuccessorOf, Range as RangeOf}
 use Rattle.script.specs.Cells.{cells_of}
 use Rattle.script.specs.Update.{update_cells}
 use Rattle.player.specs.declared.run.Run.{Run}
-use Rattle.player.specs.declared.run.Run.TheVariants.{Llx, Scx, Vlx, Edit, Get, Read}
+use Rattle.player.specs.declared.run.Run.TheVariants.{Llx, Scx, Vlx, Map}
 use Rattle.player.specs.declared.run.Ended.{Ended}
 use Rattle.player.specs.declared.run.Ended.TheVariants as ended
 use Rattle.player.specs.declared.client.Client.{Client}
@@ -46,31 +43,32 @@ use Rattle.player.specs.declared.client.Put.{Put}
 use Rattle.player.specs.declared.kept.Kept.{Kept}
 use Rattle.player.specs.declared.kept.Found.{Found}
 use Rattle.spelling.specs.declared.reply.Reply.{Reply}
-use Rattle.spelling.specs.declared.reply.Reply.TheVariants.{Value}
 use Rattle.record.specs.declared.record.Answer.{Answer}
 use Rattle.record.specs.declared.record.Answer.TheVariants.{Map as MapAnswer}
 use Rattle.player.specs.KeptSnaps.{IsUnspent, kept_of, node_of, found_of, parts, snap_of}
 use Rattle.record.specs.CommandRules.{MayAnswerAfterStep, HasTakenFew, enters, IsRight}
 use Rattle.record.specs.Shares.{HasTakenAtMost}
 use Rattle.arena.specs.declared.limits.Mode.TheVariants.{Records, Tree}
-use Rattle.spelling.specs.OrderedMap.{MapEdit, Insert as PutEdit, Delete as TakeEdit}
+use Rattle.arena.specs.Share.{Remaining}
+use Rattle.dict.specs.Calls.{AsksForPairs, HasSpent, share_of}
+use Rattle.dict.specs.DictKnown.{DictAnswers, DictRefuses}
+use Rattle.spelling.specs.CallRules.{MayReply, form_of}
+use Rattle.dict.specs.Says.{Tells as TellsOf}
+use Rattle.spelling.specs.OrderedMap.{MapCall}
+use Rattle.spelling.specs.Replies.{number_reply}
+use Rattle.spelling.specs.Requests.{map_request}
+use Rattle.spelling.specs.declared.request.Request.{Request}
 use Rattle.updates.specs.Known.{RestsWith}
-use Rattle.updates.specs.declared.update.Updated.{Updated}
-use Rattle.player.specs.EditRuns.{EditAnswers, edit_of, edit_command, most_nodes, share_of}
-use Rattle.player.specs.declared.edit.EditRun.{EditRun}
-use Rattle.player.proofs.EditEnds.{IsRightEnd, edit_ends, edit_rests, entered_some, entered_none}
+use Rattle.player.specs.Allowed.{IsSmall}
+use Rattle.player.proofs.MapEnds.{IsRightEnd, map_ends, entered_some, entered_none}
 use Rattle.record.specs.Snapshots.{IsLastLook, AreLinked, IsBehindAll}
 use Rattle.record.specs.Answers.{HasRoom, IsInTheWay, IsAsSnapped, HasItsEntry}
 use Rattle.player.specs.RunKnown.{answer_of}
 use Rattle.prims.specs.Scx.Known.{nodes_of}
-use Rattle.player.specs.ClientView.{ClientView, IsSound, IsLlxOf, IsScxOf, IsVlxOf, IsGetOf, Hand, no_hand, in_hand, held, HoldsShare, HaveMoments, Tells, command_of, IsClientState, Rests, Answered, Ends, machine_call, linked_by}
+use Rattle.player.specs.ClientView.{ClientView, IsSound, IsLlxOf, IsScxOf, IsVlxOf, Hand, no_hand, in_hand, held, HoldsShare, HaveMoments, Tells, command_of, IsClientState, Rests, Answered, Ends, machine_call, linked_by}
 use Rattle.player.proofs.Puts.{put_committed, put_aborted}
 use Rattle.player.proofs.Snapshots.{has_snap, snap_there, snap_found, kept_after, unkept_after}
-use Rattle.player.proofs.Over.{taken_one, taken_nothing, taken_tries}
-use Rattle.places.specs.Ordered.{IsOrderedRead}
-use Rattle.player.specs.ReadRuns.{ReadAnswers}
-use Rattle.player.proofs.ReadEnds.{IsReadEnd, read_ends}
-use Rattle.player.proofs.ReadMachines.{read_is_ordered}
+use Rattle.player.proofs.Over.{taken_one, taken_nothing, map_took}
 
 -- Nodes of snapshots
 
@@ -209,7 +207,7 @@ scx_outcome v c (ScxOf update) m (Some put) a start since is_pass x moments alon
 scx_outcome v c (SetOf field value) m (Some put) a start since is_pass x moments alone room done lost took y = absurd x
 scx_outcome v c (LlxOf cell) m then a start since is_pass x moments alone room done lost took y = absurd x
 scx_outcome v c (VlxOf cells) m then a start since is_pass x moments alone room done lost took y = absurd x
-scx_outcome v c (Map request) m then a start since is_pass x moments alone room done lost took y = absurd x
+scx_outcome v c (MapOf request) m then a start since is_pass x moments alone room done lost took y = absurd x
 
 -- a client whose SCX has ended drops its snapshots
 stands_scx : (v : ClientView) (c : Client) (m : PutRun) (linked : ℕ → Option History) → IsDropped m.scx.update.snaps v.linked linked → IsClientState v c (in_hand (held c) (Scx m)) → IsClientState (record v { linked = linked }) c (no_hand (held c))
@@ -282,9 +280,7 @@ ends_scx v c (Scx m) then a sound x =
     o = scx_outcome v c x.works.command m then a x.works.start x.works.begun x.works.is_pass x.works.run_of x.works.moments x.works.alone x.works.room.0 (done a x.answers) (lost a x.answers) (taken_one v c.pass.0 _ x.works.won.own x.works.room.1 (scx_taken v c m then a sound x) x.works.took) x.answers
 ends_scx v c (Llx m) then a sound x = absurd x.answers
 ends_scx v c (Vlx m) then a sound x = absurd x.answers
-ends_scx v c (Edit m) then a sound x = absurd x.answers
-ends_scx v c (Get m) then a sound x = absurd x.answers
-ends_scx v c (Read m) then a sound x = absurd x.answers
+ends_scx v c (Map m) then a sound x = absurd x.answers
 
 -- The end of a VLX
 
@@ -346,7 +342,7 @@ vlx_outcome v c (VlxOf cells) m (Some put) a x moments alone won took is_pass y 
 vlx_outcome v c (LlxOf cell) m then a x moments alone won took is_pass y = absurd x
 vlx_outcome v c (ScxOf update) m then a x moments alone won took is_pass y = absurd x
 vlx_outcome v c (SetOf field value) m then a x moments alone won took is_pass y = absurd x
-vlx_outcome v c (Map request) m then a x moments alone won took is_pass y = absurd x
+vlx_outcome v c (MapOf request) m then a x moments alone won took is_pass y = absurd x
 
 -- what is said of the snapshots as before leaves a client at rest
 rests_as : (v : ClientView) (c : Client) (linked : ℕ → Option History) → IsDropped [] v.linked linked → IsClientState v c (no_hand (held c)) → IsClientState (record v { linked = linked }) c (no_hand (held c))
@@ -385,9 +381,7 @@ ends_vlx v c (Vlx m) then a x =
     }
 ends_vlx v c (Llx m) then a x = absurd x.answers
 ends_vlx v c (Scx m) then a x = absurd x.answers
-ends_vlx v c (Edit m) then a x = absurd x.answers
-ends_vlx v c (Get m) then a x = absurd x.answers
-ends_vlx v c (Read m) then a x = absurd x.answers
+ends_vlx v c (Map m) then a x = absurd x.answers
 
 -- a call ends with this answer, which leaves what the client has
 ends_as : (v : ClientView) (c : Client) (command : Command) (answer : Answer) → command_of v c ≡ Some command → IsClientState v c (no_hand (held c)) → HoldsShare v c (no_hand (held c)) → c.running ≡ None → IsOutcome v c.pass.0 [] command answer → ((turn : ℕ) → v.won ≡ Some turn → c.begin ≤ turn) → Ends v c c answer
@@ -405,98 +399,58 @@ ends_as v c command answer is stands holds none o late = record {
   late = late;
 }
 
--- The end of a get
+-- The end of a call of the map
 
--- its answer stood at a moment of the call, and it leaves the snapshots
-get_outcome : (v : ClientView) (c : Client) (m : GetRun) (command : Command) (then : Option Put) (a : Option ℕ) → IsGetOf command m.key then → IsAnswerAt v.layout v.past v.start m.key a → v.won ≡ None → HasTakenAtMost v.layout c.pass.0 v.past v.start 0 0 → IsOutcome v c.pass.0 [] command (MapAnswer (Value a))
-get_outcome v c m (Map (GetOf key)) None a of x won took = record { answers = tt; right = rw (sym of) x; entry = entered_none v.won won; tells = tt; took = took; drops = record { gone = λ n z. absurd (among_none n z); others = λ n z. refl } }
-get_outcome v c m (Map (GetOf key)) (Some put) a of x won took = absurd of
-get_outcome v c m (Map (SuccessorOf key)) then a of x won took = absurd of
-get_outcome v c m (Map (RangeOf low high most)) then a of x won took = absurd of
-get_outcome v c m (LlxOf cell) then a of x won took = absurd of
-get_outcome v c m (ScxOf update) then a of x won took = absurd of
-get_outcome v c m (VlxOf cells) then a of x won took = absurd of
-get_outcome v c m (SetOf field value) then a of x won took = absurd of
-get_outcome v c m (Map (InsertOf key value)) then a of x won took = absurd of
-get_outcome v c m (Map (DeleteOf key)) then a of x won took = absurd of
+-- it leaves the snapshots
+map_leaves : (v : ClientView) (request : Request ℕ ℕ) (answer : Answer) (n : ℕ) → linked_by v (MapOf request) answer n ≡ v.linked n
+map_leaves v (InsertOf key value) answer n = refl
+map_leaves v (DeleteOf key) answer n = refl
+map_leaves v (GetOf key) answer n = refl
+map_leaves v (SuccessorOf key) answer n = refl
+map_leaves v (RangeOf low high most) answer n = refl
 
-ends_get : (v : ClientView) (c : Client) (run : Run) (then : Option Put) (a : Option ℕ) → IsSound v → Answered v c run then (ended.Get a) → Ends v c c (answer_of (ended.Get a))
-ends_get v c (Get m) then a sound x =
-    let call = machine_call v c x.works.is_pass x.works.start in
-    let at = subst (λ (k : History). IsAnswerAt v.layout v.past k m.key a) x.works.begun (get_says m call v.past a x.answers) in
-    let o = get_outcome v c m x.works.command then a x.works.run_of at x.works.won (taken_nothing v c.pass.0 (held c) 0 0 x.works.holds.share x.works.took) in
-    ends_as v c x.works.command (MapAnswer (Value a)) x.works.is x.works.stands x.works.holds x.none o x.works.late
-ends_get v c (Llx m) then a sound x = absurd x.answers
-ends_get v c (Scx m) then a sound x = absurd x.answers
-ends_get v c (Vlx m) then a sound x = absurd x.answers
-ends_get v c (Edit m) then a sound x = absurd x.answers
-ends_get v c (Read m) then a sound x = absurd x.answers
-
--- The end of an ordered read
-
--- what it tells the map has replied, and it leaves the snapshots
-read_outcome : (v : ClientView) (c : Client) (command : Command) (a : Answer) → IsReadEnd v c.pass.0 command a → IsOrderedRead command → v.won ≡ None → HasTakenAtMost v.layout c.pass.0 v.past v.start 0 0 → IsOutcome v c.pass.0 [] command a
-read_outcome v c (Map (SuccessorOf key)) a x is won took = record { answers = x.answers; right = x.right; entry = entered_none v.won won; tells = x.tells; took = took; drops = record { gone = λ n z. absurd (among_none n z); others = λ n z. refl } }
-read_outcome v c (Map (RangeOf low high most)) a x is won took = record { answers = x.answers; right = x.right; entry = entered_none v.won won; tells = x.tells; took = took; drops = record { gone = λ n z. absurd (among_none n z); others = λ n z. refl } }
-read_outcome v c (LlxOf cell) a x is won took = absurd is
-read_outcome v c (ScxOf update) a x is won took = absurd is
-read_outcome v c (VlxOf cells) a x is won took = absurd is
-read_outcome v c (SetOf field value) a x is won took = absurd is
-read_outcome v c (Map (InsertOf key value)) a x is won took = absurd is
-read_outcome v c (Map (DeleteOf key)) a x is won took = absurd is
-read_outcome v c (Map (GetOf key)) a x is won took = absurd is
-
-ends_read : (v : ClientView) (c : Client) (run : Run) (then : Option Put) (a : Reply ℕ ℕ) → IsSound v → Answered v c run then (ended.Read a) → Ends v c c (answer_of (ended.Read a))
-ends_read v c (Read m) then a sound x =
-    let answers = subst (λ (k : History). ReadAnswers m (machine_call v c x.works.is_pass k) v.past a) x.works.begun x.answers in
-    let end = read_ends v c x.works.is_pass m x.works.command a x.works.run_of.0 x.works.limit answers in
-    let o = read_outcome v c x.works.command (MapAnswer a) end (read_is_ordered m x.works.command x.works.run_of.0) x.works.won (taken_nothing v c.pass.0 (held c) 0 0 x.works.holds.share x.works.took) in
-    ends_as v c x.works.command (MapAnswer a) x.works.is x.works.stands x.works.holds x.none o x.works.late
-ends_read v c (Llx m) then a sound x = absurd x.answers
-ends_read v c (Scx m) then a sound x = absurd x.answers
-ends_read v c (Vlx m) then a sound x = absurd x.answers
-ends_read v c (Edit m) then a sound x = absurd x.answers
-ends_read v c (Get m) then a sound x = absurd x.answers
-
--- The end of an edit
-
--- it leaves the snapshots, and has taken what its tries may
-edit_outcome : (v : ClientView) (c : Client) (e : MapEdit) (answer : Answer) → IsRightEnd v c.pass.0 (edit_command e) answer → HasTakenAtMost v.layout c.pass.0 v.past v.start v.tries (most_nodes e) → IsOutcome v c.pass.0 [] (edit_command e) answer
-edit_outcome v c (PutEdit key value) answer x took = record { answers = x.answers; right = x.right; entry = x.entry; tells = x.tells; took = took; drops = record { gone = λ n z. absurd (among_none n z); others = λ n z. refl } }
-edit_outcome v c (TakeEdit key) answer x took = record { answers = x.answers; right = x.right; entry = x.entry; tells = x.tells; took = took; drops = record { gone = λ n z. absurd (among_none n z); others = λ n z. refl } }
+map_outcome : (v : ClientView) (c : Client) (request : Request ℕ ℕ) (answer : Answer) → IsRightEnd v c.pass.0 (MapOf request) answer → HasTakenFew v.layout v.tries c.pass.0 v.past v.start (MapOf request) → IsOutcome v c.pass.0 [] (MapOf request) answer
+map_outcome v c request answer x took = record { answers = x.answers; right = x.right; entry = x.entry; tells = x.tells; took = took; drops = record { gone = λ n z. absurd (among_none n z); others = λ n z. map_leaves v request answer n } }
 
 -- the share is the client's again
-holds_back : (v : ClientView) (c : Client) (m : EditRun) (is_pass : c.pass.0 < v.layout.passes) → c.share ≡ Some (share_of m) → RestsWith (machine_call v c is_pass v.start) v.past (share_of m) → HoldsShare v c (no_hand (held c))
-holds_back v c m is_pass back rests = record {
+holds_back : (v : ClientView) (c : Client) (share : Remaining) (is_pass : c.pass.0 < v.layout.passes) → c.share ≡ Some share → RestsWith (machine_call v c is_pass v.start) v.past share → HoldsShare v c (no_hand (held c))
+holds_back v c share is_pass back rests = record {
   some = rw back refl;
   share = rw back rests.share;
-  over = rw back (over_begins v.layout c.pass.0 (share_of m).next_scx v.past rests.over);
+  over = rw back (over_begins v.layout c.pass.0 share.next_scx v.past rests.over);
 }
 
-ends_edit : (v : ClientView) (c : Client) (run : Run) (then : Option Put) (a : Updated) → IsSound v → Answered v c run then (ended.Edit a) → Ends v c c (answer_of (ended.Edit a))
-ends_edit v c (Edit m) then a sound x =
+ends_map : (v : ClientView) (c : Client) (run : Run) (then : Option Put) (a : Reply ℕ ℕ) → Answered v c run then (ended.Map a) → Ends v c c (answer_of (ended.Map a))
+ends_map v c (Map m) then a x =
     let works = x.works in
-    let answers : EditAnswers m (machine_call v c works.is_pass v.start) v.past a = subst (λ (k : History). EditAnswers m (machine_call v c works.is_pass k) v.past a) works.begun x.answers in
-    let rests = edit_rests v c works.is_pass works.mode sound works.won m a answers in
-    let right = edit_ends v c works.is_pass works.mode sound works.won m a works.run_of.0 works.limit answers in
-    let took = taken_tries v.layout c.pass.0 v.tries (most_nodes (edit_of m)) v.past v.start works.opening (share_of m) (subst (λ (k : History). Extends v.past k) works.begun works.since) works.took rests.share x.spent in
-    ends_as v c works.command (answer_of (ended.Edit a)) works.is works.stands (holds_back v c m works.is_pass x.back rests) x.none
-    (subst (λ (k : Command). IsOutcome v c.pass.0 [] k (answer_of (ended.Edit a))) (sym works.run_of.1.is) (edit_outcome v c (edit_of m) (answer_of (ended.Edit a)) right took))
+    let request = works.run_of.request in
+    let of = works.run_of.called in
+    let share = share_of m.run in
+    let call = machine_call v c works.is_pass v.start in
+    let answers : DictAnswers IsSmall (λ k. k) IsSmall (λ w. w) m call v.past a = subst (λ (k : History). DictAnswers IsSmall (λ k. k) IsSmall (λ w. w) m (machine_call v c works.is_pass k) v.past a) works.begun x.answers in
+    let refuses : DictRefuses call v.past (map_request request) share m.tries a = subst (λ (k : MapCall). DictRefuses call v.past k share m.tries a) of answers.refuses in
+    let spent : HasSpent call (map_request request) m.tries share = subst (λ (k : MapCall). HasSpent call k m.tries share) of answers.spent in
+    let right =
+    map_ends v c works.is_pass works.won request a share (subst AsksForPairs of works.run_of.asks) answers.rests
+    (subst (λ (k : MapCall). MayReply k (form_of a)) of answers.form)
+    (subst (λ (k : MapCall). TellsOf call v.past k (number_reply a)) of answers.tells)
+    (subst (λ (n : ℕ). DictRefuses call v.past (map_request request) share n a) works.limit refuses) in
+    let took =
+    map_took call v.past request v.tries share (subst (λ (k : History). Extends v.past k) works.begun works.since) answers.rests
+    (subst (λ (n : ℕ). HasSpent call (map_request request) n share) works.limit spent) in
+    ends_as v c works.command (MapAnswer a) works.is works.stands (holds_back v c share works.is_pass x.back answers.rests) x.none
+    (subst (λ (k : Command). IsOutcome v c.pass.0 [] k (MapAnswer a)) (sym works.run_of.is) (map_outcome v c request (MapAnswer a) right took))
     works.late
-ends_edit v c (Llx m) then a sound x = absurd x.answers
-ends_edit v c (Scx m) then a sound x = absurd x.answers
-ends_edit v c (Vlx m) then a sound x = absurd x.answers
-ends_edit v c (Get m) then a sound x = absurd x.answers
-ends_edit v c (Read m) then a sound x = absurd x.answers
+ends_map v c (Llx m) then a x = absurd x.answers
+ends_map v c (Scx m) then a x = absurd x.answers
+ends_map v c (Vlx m) then a x = absurd x.answers
 
 -- what has ended is the call of a machine other than an LLX
 pub ends_other : (v : ClientView) (c : Client) (run : Run) (then : Option Put) (end : Ended) → ((a : LlxAnswer) → end ≢ ended.Llx a) → IsSound v → Answered v c run then end → Ends v c c (answer_of end)
 ends_other v c run then (ended.Llx a) d sound x = absurd (d a refl)
 ends_other v c run then (ended.Scx a) d sound x = ends_scx v c run then a sound x
 ends_other v c run then (ended.Vlx a) d sound x = ends_vlx v c run then a x
-ends_other v c run then (ended.Edit a) d sound x = ends_edit v c run then a sound x
-ends_other v c run then (ended.Get a) d sound x = ends_get v c run then a sound x
-ends_other v c run then (ended.Read a) d sound x = ends_read v c run then a sound x
+ends_other v c run then (ended.Map a) d sound x = ends_map v c run then a x
 
 -- The end of an LLX
 
@@ -585,7 +539,7 @@ llx_outcome v c (LlxOf cell) m (Some put) a d x took y = absurd x
 llx_outcome v c (SetOf field value) m None a d x took y = absurd x
 llx_outcome v c (ScxOf update) m then a d x took y = absurd x
 llx_outcome v c (VlxOf cells) m then a d x took y = absurd x
-llx_outcome v c (Map request) m then a d x took y = absurd x
+llx_outcome v c (MapOf request) m then a d x took y = absurd x
 
 -- its call ends, where no SCX follows
 pub ends_llx : (v : ClientView) (old : Client) (kept : Kept) (m : LlxRun) (then : Option Put) (a : LlxAnswer) → IsSound v → Answered v old (Llx m) then (ended.Llx a) → kept.found ≡ set old.kept.found (node_of a) (found_of a) → ((then ≡ None) ⊎ ((snap : Snap) → a ≢ LlxSnapshot snap)) → Ends v old (record old { kept = kept }) (answer_of (ended.Llx a))

@@ -27,9 +27,9 @@ use Rattle.prims.proofs.Lemmas.{moment_more, put_full, put_entry, put_entry_then
 use Rattle.script.specs.Part.{is_subsequence}
 use Rattle.script.specs.Update.{update_cells, update_finalize, update_field, update_value}
 use Rattle.script.specs.declared.command.Command.{Command}
-use Rattle.script.specs.declared.command.Command.TheVariants.{Llx as LlxOf, Scx as ScxOf, Vlx as VlxOf, Set as SetOf, Map}
+use Rattle.script.specs.declared.command.Command.TheVariants.{Llx as LlxOf, Scx as ScxOf, Vlx as VlxOf, Set as SetOf, Map as MapOf}
 use Rattle.player.specs.declared.run.Run.{Run}
-use Rattle.player.specs.declared.run.Run.TheVariants.{Llx, Scx, Vlx, Edit, Get, Read}
+use Rattle.player.specs.declared.run.Run.TheVariants.{Llx, Scx, Vlx, Map}
 use Rattle.player.specs.declared.client.Client.{Client}
 use Rattle.player.specs.declared.client.Running.{Running}
 use Rattle.player.specs.declared.client.Put.{Put}
@@ -41,12 +41,14 @@ use Rattle.player.specs.Allowed.{PlayedAllows}
 use Rattle.player.specs.RunKnown.{RunWaits, RunIsReady}
 use Rattle.player.proofs.RunLaws.{run_keeps, run_made}
 use Rattle.player.specs.ClientView.{ClientView, IsSound, IsPutOf, IsScxOf, IsStart, IsOwnWin, IsWonSince, held, HoldsShare, HaveMoments, no_hand, Rests, Works, Waits, machine_call, command_of}
-use Rattle.spelling.specs.OrderedMap.{MapEdit, Insert as PutEdit, Delete as TakeEdit}
+use Rattle.dict.specs.declared.dict.DictRun.{DictRun}
+use Rattle.spelling.specs.Requests.{map_request}
+use Rattle.spelling.specs.declared.request.Request.{Request}
+use Rattle.spelling.specs.declared.request.Request.TheVariants.{Insert as InsertOf, Delete as DeleteOf, Get as GetOf, Successor as SuccessorOf, Range as RangeOf}
+use Rattle.spelling.specs.OrderedMap.{MapEdit, Edit as EditCall, Insert as PutEdit, Delete as TakeEdit}
 use Rattle.spelling.specs.Runs.{Makes}
 use Rattle.updates.specs.Tries.{HasEnteredOnly}
-use Rattle.player.specs.EditRuns.{edit_of, edit_command}
-use Rattle.player.specs.declared.edit.EditRun.{EditRun}
-use Rattle.player.proofs.Editing.{IsEditHand, edit_hand}
+use Rattle.player.proofs.Editing.{IsEditHand, map_hand}
 use Rattle.player.proofs.Winners.{owner_is}
 use Rattle.player.proofs.Ends.{has_nodes}
 use Rattle.player.proofs.Snapshots.{snap_there}
@@ -154,7 +156,7 @@ module _ (v : ClientView) (c : Client) (row : Row) (m : PutRun) (start : History
       )
   does (LlxOf cell) p z = absurd p
   does (VlxOf cells) p z = absurd p
-  does (Map request) p z = absurd p
+  does (MapOf request) p z = absurd p
 
 -- an update that a row makes win has won behind it
 has_won : (row : Row) (before : History) (t : ℕ) → IsWin before row t → HasWon (row ⊳ before) t
@@ -184,14 +186,17 @@ module _ (v : ClientView) (c : Client) (sound : IsSound v) (row : Row) (s : ℕ)
           let same : t ≡ s = only other before t w.within w.since w.wins w.own in
           update_is_first (facts_before v.layout v.past row l) wins (rw same at (won_since v.layout v.past (other ⊳ before) t sound.lawful w.within (has_won other before t w.wins)))
 
-  -- an edit's SCX-record makes the edit of its command
-  edit_does : (e : MapEdit) → Makes v.layout v.past s e → IsEntryFor v.layout c.pass.0 v.past v.start v.linked (entry_of v.layout v.past s) (edit_command e)
-  edit_does (PutEdit key value) makes = makes
-  edit_does (TakeEdit key) makes = makes
+  -- an edit's SCX-record makes the edit of its request
+  edit_does : (request : Request ℕ ℕ) (e : MapEdit) → EditCall e ≡ map_request request → Makes v.layout v.past s e → IsEntryFor v.layout c.pass.0 v.past v.start v.linked (entry_of v.layout v.past s) (MapOf request)
+  edit_does (InsertOf key value) e is makes = subst (λ (d : MapEdit). Makes v.layout v.past s d) (let d : EditCall e ≡ EditCall (PutEdit key value) = is in let same : e ≡ PutEdit key value = cc in same) makes
+  edit_does (DeleteOf key) e is makes = subst (λ (d : MapEdit). Makes v.layout v.past s d) (let d : EditCall e ≡ EditCall (TakeEdit key) = is in let same : e ≡ TakeEdit key = cc in same) makes
+  edit_does (GetOf key) e is makes = absurd (let other = is in cc)
+  edit_does (SuccessorOf key) e is makes = absurd (let other = is in cc)
+  edit_does (RangeOf low high most) e is makes = absurd (let other = is in cc)
 
-  from_edit : (m : EditRun) (then : Option Put) (x : Works v c (Edit m) then) → IsEditHand m (machine_call v c x.is_pass v.start) v.past s → IsEntryFrom v c row s
-  from_edit m then x h = record {
-    first = edit_first h.only x.won;
+  from_map : (m : DictRun ℕ ℕ) (then : Option Put) (x : Works v c (Map m) then) → IsEditHand m.run (machine_call v c x.is_pass v.start) v.past s → IsEntryFrom v c row s
+  from_map m then x h = record {
+    first = edit_first h.hand.only x.won;
     number = x.stands.number;
     command = x.command;
     is = x.is;
@@ -199,15 +204,12 @@ module _ (v : ClientView) (c : Client) (sound : IsSound v) (row : Row) (s : ℕ)
     logged = log_wins (facts_before v.layout v.past row l) wins;
     same_scx = refl;
     same_owner = owner_is v.layout s c.pass.0 own.from own.below;
-    same_call = called;
-    called = called;
-    does = subst (λ (k : Command). IsEntryFor v.layout c.pass.0 v.past v.start v.linked (entry_of v.layout v.past s) k) (sym x.run_of.1.is) (edit_does (edit_of m) h.makes);
+    same_call = h.hand.called;
+    called = h.hand.called;
+    does = subst (λ (k : Command). IsEntryFor v.layout c.pass.0 v.past v.start v.linked (entry_of v.layout v.past s) k) (sym x.run_of.is) (edit_does x.run_of.request h.edit (sym h.is ∙ x.run_of.called) h.hand.makes);
   }
-    where
-      called : value v.past (scx s CallWord) ≡ c.number
-      called = h.called ∙ x.run_of.1.called
 
-  from_run : (run : Run) (then : Option Put) (x : Works v c run then) → ((m : PutRun) → run ≡ Scx m → m.scx.scx.0 ≡ s → IsOfPut v c row m x.start x.is_pass) → ((m : EditRun) → run ≡ Edit m → IsEditHand m (machine_call v c x.is_pass v.start) v.past s) → IsEntryFrom v c row s
+  from_run : (run : Run) (then : Option Put) (x : Works v c run then) → ((m : PutRun) → run ≡ Scx m → m.scx.scx.0 ≡ s → IsOfPut v c row m x.start x.is_pass) → ((m : DictRun ℕ ℕ) → run ≡ Map m → IsEditHand m.run (machine_call v c x.is_pass v.start) v.past s) → IsEntryFrom v c row s
   from_run (Scx m) then x f g =
       let same : s ≡ m.scx.scx.0 = own_in_hand v.layout v.past c.pass.0 s m.scx.scx.0 sound.lawful x.holds.over own in_progress in
       let y = f m refl (sym same) in
@@ -232,7 +234,7 @@ module _ (v : ClientView) (c : Client) (sound : IsSound v) (row : Row) (s : ℕ)
       called (SetOf field y) (Some put) p = absurd p
       called (LlxOf cell) then p = absurd p
       called (VlxOf cells) then p = absurd p
-      called (Map request) then p = absurd p
+      called (MapOf request) then p = absurd p
 
       by_then : (then : Option Put) → IsScxOf x.command c.number m then → HaveMoments v c.pass.0 x.command m.scx.update.snaps → IsOfPut v c row m x.start x.is_pass → IsEntryFor v.layout c.pass.0 v.past v.start v.linked (update_entry c.pass.0 m.scx) x.command
       by_then None p z y = does v c row m x.start x.is_pass y x.command p z
@@ -243,33 +245,32 @@ module _ (v : ClientView) (c : Client) (sound : IsSound v) (row : Row) (s : ℕ)
           none_then (SetOf field y) put p = p
           none_then (LlxOf cell) put p = p
           none_then (VlxOf cells) put p = p
-          none_then (Map request) put p = p
+          none_then (MapOf request) put p = p
   from_run (Llx m) then x f g = absurd (no_hand_wins x.holds)
   from_run (Vlx m) then x f g = absurd (no_hand_wins x.holds)
-  from_run (Edit m) then x f g = from_edit m then x (g m refl)
-  from_run (Get m) then x f g = absurd (no_hand_wins x.holds)
-  from_run (Read m) then x f g = absurd (no_hand_wins x.holds)
+  from_run (Map m) then x f g = from_map m then x (g m refl)
 
   -- and none wins for a client at rest
   pub rest_wins_not : Rests v c → ⊥
   rest_wins_not x = no_hand_wins x.holds
 
--- what an edit that waits has in hand
-edit_waits : (v : ClientView) (c : Client) (q : Running) (m : EditRun) (s : ℕ) → IsSound v → (w : Waits v c q) → q.run ≡ Edit m → IsOwnScx v.layout c.pass.0 s → IsInProgress v.past s → IsEditHand m (machine_call v c w.works.is_pass v.start) v.past s
-edit_waits v c q m s sound w e own p =
+-- what a call of the map that waits has in hand
+map_waits : (v : ClientView) (c : Client) (q : Running) (m : DictRun ℕ ℕ) (s : ℕ) → IsSound v → (w : Waits v c q) → q.run ≡ Map m → IsOwnScx v.layout c.pass.0 s → IsInProgress v.past s → IsEditHand m.run (machine_call v c w.works.is_pass v.start) v.past s
+map_waits v c q m s sound w e own p =
     let begun : w.works.start ≡ v.start = subst (λ (k : Run). IsStart k w.works.start v.start) e w.works.begun in
-    let waits = subst (λ (k : Run). RunWaits k (machine_call v c w.works.is_pass v.start) v.past q.step) e (subst (λ (k : History). RunWaits q.run (machine_call v c w.works.is_pass k) v.past q.step) begun w.waits) in
-    edit_hand m (machine_call v c w.works.is_pass v.start) v.past s sound.lawful own p q.step waits
+    let call = machine_call v c w.works.is_pass v.start in
+    let waits : RunWaits (Map m) call v.past q.step = subst (λ (k : Run). RunWaits k call v.past q.step) e (subst (λ (k : History). RunWaits q.run (machine_call v c w.works.is_pass k) v.past q.step) begun w.waits) in
+    map_hand call v.past s sound.lawful own p q.step m.run waits.1.0.number waits.1.1
 
 -- a row of another client
 pub entry_by_others : (v : ClientView) (c : Client) (q : Running) (row : Row) (s : ℕ) → IsSound v → Waits v c q → IsRun PlayedAllows v.layout (row ⊳ v.past) → row.pass.0 ≢ c.pass.0 → UpdateWins v.past row s → IsOwnScx v.layout c.pass.0 s → IsEntryFrom v c row s
-entry_by_others v c q row s sound w run other wins own = from_run v c sound row s run.lawful wins own q.run q.then w.works of_put of_edit
+entry_by_others v c q row s sound w run other wins own = from_run v c sound row s run.lawful wins own q.run q.then w.works of_put of_map
   where
     call : MachineCall
     call = machine_call v c w.works.is_pass w.works.start
 
-    of_edit : (m : EditRun) → q.run ≡ Edit m → IsEditHand m (machine_call v c w.works.is_pass v.start) v.past s
-    of_edit m e = edit_waits v c q m s sound w e own (in_progress v c sound row s run.lawful wins own)
+    of_map : (m : DictRun ℕ ℕ) → q.run ≡ Map m → IsEditHand m.run (machine_call v c w.works.is_pass v.start) v.past s
+    of_map m e = map_waits v c q m s sound w e own (in_progress v c sound row s run.lawful wins own)
 
     of_put : (m : PutRun) → q.run ≡ Scx m → m.scx.scx.0 ≡ s → IsOfPut v c row m w.works.start w.works.is_pass
     of_put m e same =
@@ -283,7 +284,7 @@ entry_by_others v c q row s sound w run other wins own = from_run v c sound row 
 
 -- its own row
 pub entry_by_own : (v : ClientView) (c : Client) (q : Running) (s : ℕ) → IsSound v → Waits v c q → UpdateWins v.past (own_row v c q.step) s → IsOwnScx v.layout c.pass.0 s → IsTold q.step.access (value v.past q.step.word) (value v.past q.step.word) → IsEntryFrom v c (own_row v c q.step) s
-entry_by_own v c q s sound w wins own told = from_run v c sound (own_row v c q.step) s run.lawful wins own q.run q.then w.works of_put of_edit
+entry_by_own v c q s sound w wins own told = from_run v c sound (own_row v c q.step) s run.lawful wins own q.run q.then w.works of_put of_map
   where
     call : MachineCall
     call = machine_call v c w.works.is_pass w.works.start
@@ -291,8 +292,8 @@ entry_by_own v c q s sound w wins own told = from_run v c sound (own_row v c q.s
     run : IsRun PlayedAllows v.layout (own_row v c q.step ⊳ v.past)
     run = step_sound v c q sound w v.won
 
-    of_edit : (m : EditRun) → q.run ≡ Edit m → IsEditHand m (machine_call v c w.works.is_pass v.start) v.past s
-    of_edit m e = edit_waits v c q m s sound w e own (in_progress v c sound (own_row v c q.step) s run.lawful wins own)
+    of_map : (m : DictRun ℕ ℕ) → q.run ≡ Map m → IsEditHand m.run (machine_call v c w.works.is_pass v.start) v.past s
+    of_map m e = map_waits v c q m s sound w e own (in_progress v c sound (own_row v c q.step) s run.lawful wins own)
 
     of_put : (m : PutRun) → q.run ≡ Scx m → m.scx.scx.0 ≡ s → IsOfPut v c (own_row v c q.step) m w.works.start w.works.is_pass
     of_put m e same =

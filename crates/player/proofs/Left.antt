@@ -7,9 +7,7 @@ use Rattle.arena.specs.History.{History}
 use Rattle.arena.specs.Share.{Remaining, IsFullOf}
 use Rattle.prims.specs.Shares.{IsShare}
 use Rattle.record.specs.Shares.{HasNodesLeft, HasScxLeft, HasTooFew}
-use Rattle.updates.specs.Pieces.{many_nodes}
-use Rattle.updates.specs.declared.edit.Need.{Need}
-use Rattle.updates.specs.Known.{IsShort}
+use Rattle.dict.specs.Says.{HasTooLittle}
 
 module _ (lay : Layout) (h : History) (c : ℕ) (left : Remaining) (share : IsShare lay h c left left.next_node left.next_scx) where
   -- its nodes are the last ones
@@ -42,6 +40,6 @@ module _ (lay : Layout) (h : History) (c : ℕ) (left : Remaining) (share : IsSh
   full_left ScxRecords k x = few_scx 1 k (let i = x.0 in omega (arith, i)) x.1 x.2
 
   -- one that an edit finds too small
-  pub short_left : (need : Need) (what : Resource) (k : ℕ) → IsShort need left what k → HasTooFew lay c h (many_nodes need) what k
-  short_left need Nodes k x = few_nodes (many_nodes need) k x.0 x.1
-  short_left need ScxRecords k x = few_scx (many_nodes need) k x.0 x.1 x.2
+  pub short_left : (needed : ℕ) (what : Resource) (k : ℕ) → HasTooLittle needed left what k → HasTooFew lay c h needed what k
+  short_left needed Nodes k x = few_nodes needed k x.0 x.1
+  short_left needed ScxRecords k x = few_scx needed k x.0 x.1 x.2

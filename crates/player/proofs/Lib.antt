@@ -1,6 +1,4 @@
 mod Shapes
-mod ReadMachines
-mod ReadEnds
 mod RunLaws
 mod Readings
 mod InOrder
@@ -9,7 +7,7 @@ mod EditPlaces
 mod Over
 mod Left
 mod Placing
-mod EditEnds
+mod MapEnds
 mod Editing
 mod Puts
 mod Views

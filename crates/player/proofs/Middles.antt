@@ -61,7 +61,7 @@ use Rattle.player.specs.ClientView.{ClientView, client_view, no_hand, held, Tell
 use Rattle.player.specs.BetweenTurns.{IsLawfulSoFar, AreOthers, IsTurnOf, AreBetweenTurns, IsMade, IsEnd, AreWins}
 use Rattle.player.proofs.Views.{TellsWon, client_by_others, stands_from, holds_from}
 use Rattle.record.proofs.Lemmas.{some_turn, start_kept, begin_within, won_within}
-use Rattle.player.proofs.EditEnds.{entered_none}
+use Rattle.player.proofs.MapEnds.{entered_none}
 use Rattle.spelling.specs.OrderedMap.{ManyPairs}
 use Rattle.script.specs.Commands.{mode_of}
 use Rattle.places.specs.Ordered.{FallFrom}

@@ -1,7 +1,6 @@
 -- What a client has taken stays finished, but for the SCX-record that it has in hand.
 use Rattle.std.proofs.Common.{◌≡◌, ◌≢◌, ℕ, ◌+◌, ◌-◌, ◌*◌, ◌<◌, ◌≤◌, ◌⊎◌, inl, inr, ⊎_elim, sym, subst, arith}
 use native.Mathlib.Decide.{ℕ_discrete}
-use Rattle.tree.proofs.Lemmas.{get_fills_not}
 use Rattle.arena.specs.declared.layout.Layout.{Layout}
 use Rattle.arena.specs.declared.step.Step.{Step as Ask}
 use Rattle.arena.specs.Share.{Remaining}
@@ -12,35 +11,38 @@ use Rattle.prims.specs.Cells.{AllowsAll}
 use Rattle.prims.specs.Laws.Begun.{TakesOnly, takes_by_step, taken_since}
 use Rattle.prims.proofs.Lemmas.{put_takes, llx_fills_not, vlx_fills_not, untaken_node_by_step, put_untaken_node}
 use Rattle.player.specs.declared.run.Run.{Run}
-use Rattle.player.specs.declared.run.Run.TheVariants.{Llx, Scx, Vlx, Edit, Get, Read}
+use Rattle.player.specs.declared.run.Run.TheVariants.{Llx, Scx, Vlx, Map}
 use Rattle.prims.specs.Shares.{IsShare}
-use Rattle.updates.specs.Steps.{Spends}
+use Rattle.updates.specs.Known.{RestsWith}
+use Rattle.spelling.specs.CallRules.{most_nodes, most_scx}
+use Rattle.dict.specs.Calls.{HasSpent}
+use Rattle.spelling.specs.OrderedMap.{MapCall}
+use Rattle.spelling.specs.Requests.{map_request}
+use Rattle.spelling.specs.declared.request.Request.{Request}
+use Rattle.spelling.specs.declared.request.Request.TheVariants.{Insert as InsertOf, Delete as DeleteOf, Get as GetOf, Successor as SuccessorOf, Range as RangeOf}
+use Rattle.script.specs.declared.command.Command.TheVariants.{Map as MapOf}
+use Rattle.record.specs.CommandRules.{HasTakenFew}
 use Rattle.record.specs.Shares.{HasTakenAtMost, IsScxTakenSince}
 use Rattle.player.specs.RunKnown.{RunWaits}
 use Rattle.player.specs.ClientView.{ClientView, Hand, HasTaken, no_hand, in_hand}
-use Rattle.player.proofs.ReadMachines.{read_fills_not}
 
--- the machine is none of an edit, which takes of the share by itself
-abbrev pub IsNoEdit : Run → Type 0
-IsNoEdit (Edit m) = ⊥
-IsNoEdit run = Unit {0}
+-- the machine is none of a call of the map, which takes of the share by itself
+abbrev pub IsOfCells : Run → Type 0
+IsOfCells (Map m) = ⊥
+IsOfCells run = Unit {0}
 
 -- its own machine takes none but the one in hand
-pub takes_by_own : (run : Run) (call : Call) (left : Remaining) (h : History) (step : Ask) → IsNoEdit run → RunWaits run call h step → TakesOnly call.layout call.pass (in_hand left run).scx h (row_of call step h)
+pub takes_by_own : (run : Run) (call : Call) (left : Remaining) (h : History) (step : Ask) → IsOfCells run → RunWaits run call h step → TakesOnly call.layout call.pass (in_hand left run).scx h (row_of call step h)
 takes_by_own (Llx m) call left h step is w = takes_by_step call.layout call.pass left.next_scx h (row_of call step h) (llx_fills_not AllowsAll m call h step w)
 takes_by_own (Vlx m) call left h step is w = takes_by_step call.layout call.pass left.next_scx h (row_of call step h) (vlx_fills_not m.snaps m.asked call h step w)
 takes_by_own (Scx m) call left h step is w = put_takes AllowsAll m call h step w
-takes_by_own (Edit m) call left h step is w = absurd is
-takes_by_own (Get m) call left h step is w = takes_by_step call.layout call.pass left.next_scx h (row_of call step h) (get_fills_not m call h step w)
-takes_by_own (Read m) call left h step is w = takes_by_step call.layout call.pass left.next_scx h (row_of call step h) (read_fills_not m call h step w)
+takes_by_own (Map m) call left h step is w = absurd is
 
-pub nodes_by_own : (run : Run) (call : Call) (left : Remaining) (h : History) (step : Ask) → IsNoEdit run → RunWaits run call h step → (n : ℕ) → n ≢ (in_hand left run).node → ¬ IsTakenNode h n → ¬ IsTakenNode (row_of call step h ⊳ h) n
+pub nodes_by_own : (run : Run) (call : Call) (left : Remaining) (h : History) (step : Ask) → IsOfCells run → RunWaits run call h step → (n : ℕ) → n ≢ (in_hand left run).node → ¬ IsTakenNode h n → ¬ IsTakenNode (row_of call step h ⊳ h) n
 nodes_by_own (Llx m) call left h step is w n other = untaken_node_by_step h (row_of call step h) n (llx_fills_not AllowsAll m call h step w)
 nodes_by_own (Vlx m) call left h step is w n other = untaken_node_by_step h (row_of call step h) n (vlx_fills_not m.snaps m.asked call h step w)
 nodes_by_own (Scx m) call left h step is w n other = put_untaken_node AllowsAll m call h step n w other
-nodes_by_own (Edit m) call left h step is w n other = absurd is
-nodes_by_own (Get m) call left h step is w n other = untaken_node_by_step h (row_of call step h) n (get_fills_not m call h step w)
-nodes_by_own (Read m) call left h step is w n other = untaken_node_by_step h (row_of call step h) n (read_fills_not m call h step w)
+nodes_by_own (Map m) call left h step is w n other = absurd is
 
 -- A share that is at rest has none of what a client in its call has not taken.
 
@@ -89,14 +91,14 @@ scx_left_less : (lay : Layout) (c : ℕ) (now start : History) (old left : Remai
 scx_left_less lay c now start old left since began share = ⊎_elim (λ i. i) (λ i. absurd (share.untaken left.next_scx record { from = omega arith; below = let a = began.to_scx in let b = share.to_scx in omega (arith, i, a, b) } (taken_since now start left.next_scx since (began.taken_scx left.next_scx record { from = share.from_scx; below = let a = began.to_scx in omega (arith, i, a) } i)))) (ordered old.next_scx left.next_scx)
 
 -- so many nodes for each SCX-record
-nodes_for_each : (most tries old_nodes nodes old_scx scx many : ℕ) → scx + many ≡ old_scx → old_nodes + most * (scx + tries + 0) ≤ nodes + most * (old_scx + tries + 0) → old_nodes ≤ nodes + most * many
-nodes_for_each most tries old_nodes nodes old_scx scx many e i = let j : old_nodes + most * (scx + tries + 0) ≤ nodes + most * (scx + many + tries + 0) = rw (sym e) at i in omega (arith, j)
+nodes_for_each : (most old_nodes nodes old_scx scx many : ℕ) → scx + many ≡ old_scx → old_nodes + most * scx ≤ nodes + most * old_scx → old_nodes ≤ nodes + most * many
+nodes_for_each most old_nodes nodes old_scx scx many e i = let j : old_nodes + most * scx ≤ nodes + most * (scx + many) = rw (sym e) at i in omega (arith, j)
 
--- an edit has taken what its tries may
-pub taken_tries : (lay : Layout) (c tries most : ℕ) (now start : History) (old left : Remaining) → Extends now start → IsShare lay start c old old.next_node old.next_scx → IsShare lay now c left left.next_node left.next_scx → Spends most old left tries 0 tries 0 → HasTakenAtMost lay c now start tries most
-taken_tries lay c tries most now start old left since began share spent = record {
+-- one that has taken so many SCX-records at most, and so many nodes for each
+taken_few : (lay : Layout) (c most_scx most : ℕ) (now start : History) (old left : Remaining) → Extends now start → IsShare lay start c old old.next_node old.next_scx → IsShare lay now c left left.next_node left.next_scx → old.scx ≤ left.scx + most_scx → old.nodes + most * left.scx ≤ left.nodes + most * old.scx → HasTakenAtMost lay c now start most_scx most
+taken_few lay c most_scx most now start old left since began share few each = record {
   many = left.next_scx - old.next_scx;
-  few = let a = began.to_scx in let b = share.to_scx in let d = spent.1 in omega (arith, a, b, d);
+  few = let a = began.to_scx in let b = share.to_scx in omega (arith, a, b, few);
   lowest_scx = old.next_scx;
   scx_records = λ s. (
     λ y. (
@@ -121,7 +123,22 @@ taken_tries lay c tries most now start old left since began share spent = record
         record { own = own; not_then = began.untaken s record { from = i; below = let a = began.to_scx in let b = share.to_scx in omega (arith, a, b, j) }; taken = share.taken_scx s own j }
 
     few_nodes : old.nodes ≤ left.nodes + most * (left.next_scx - old.next_scx)
-    few_nodes = nodes_for_each most tries old.nodes left.nodes old.scx left.scx (left.next_scx - old.next_scx) (let a = began.to_scx in let b = share.to_scx in omega (arith, a, b, less)) spent.2
+    few_nodes = nodes_for_each most old.nodes left.nodes old.scx left.scx (left.next_scx - old.next_scx) (let a = began.to_scx in let b = share.to_scx in omega (arith, a, b, less)) each
+
+-- so a call of the map has taken what its tries may
+taken_tries : (c : Call) (h : History) (call : MapCall) (tries : ℕ) (left : Remaining) → Extends h c.start → RestsWith c h left → HasSpent c call tries left → HasTakenAtMost c.layout c.pass h c.start (most_scx call * tries) (most_nodes call)
+taken_tries c h call tries left since rests spent = taken_few c.layout c.pass (most_scx call * tries) (most_nodes call) h c.start spent.left left since spent.first.share rests.share spent.scx spent.each
+
+-- and that is what its command may
+pub map_took : (c : Call) (h : History) (request : Request ℕ ℕ) (tries : ℕ) (left : Remaining) → Extends h c.start → RestsWith c h left → HasSpent c (map_request request) tries left → HasTakenFew c.layout tries c.pass h c.start (MapOf request)
+map_took c h request tries left since rests spent = go request (taken_tries c h (map_request request) tries left since rests spent)
+  where
+    go : (r : Request ℕ ℕ) → HasTakenAtMost c.layout c.pass h c.start (most_scx (map_request r) * tries) (most_nodes (map_request r)) → HasTakenFew c.layout tries c.pass h c.start (MapOf r)
+    go (InsertOf key value) x = subst (λ (n : ℕ). HasTakenAtMost c.layout c.pass h c.start n 3) (let e : 1 * tries ≡ tries = omega arith in e) x
+    go (DeleteOf key) x = subst (λ (n : ℕ). HasTakenAtMost c.layout c.pass h c.start n 1) (let e : 1 * tries ≡ tries = omega arith in e) x
+    go (GetOf key) x = subst (λ (n : ℕ). HasTakenAtMost c.layout c.pass h c.start n 0) (let e : 0 * tries ≡ 0 = omega arith in e) x
+    go (SuccessorOf key) x = subst (λ (n : ℕ). HasTakenAtMost c.layout c.pass h c.start n 0) (let e : 0 * tries ≡ 0 = omega arith in e) x
+    go (RangeOf low high most) x = subst (λ (n : ℕ). HasTakenAtMost c.layout c.pass h c.start n 0) (let e : 0 * tries ≡ 0 = omega arith in e) x
 
 -- and at the call's begin that is nothing
 pub taken_none : (v : ClientView) (c : ℕ) (hand : Hand) → v.start ≡ v.past → HasTaken v c hand

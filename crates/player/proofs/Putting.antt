@@ -49,7 +49,7 @@ use Rattle.prims.proofs.Lemmas.{taken_node_since, left_own_node, left_own_scx, t
 use Rattle.prims.specs.Shares.{IsShare}
 use Rattle.player.proofs.Over.{taken_nothing}
 use Rattle.player.proofs.Snapshots.{has_snap, dropped, kept_without, unkept_without}
-use Rattle.player.proofs.EditEnds.{entered_none}
+use Rattle.player.proofs.MapEnds.{entered_none}
 use Rattle.player.proofs.Ends.{rests_kept, snapshot_unspent, among_none}
 
 -- A full share
@@ -199,7 +199,6 @@ put_starts v linked c snaps removed field x kept m sound can some_node some_scx 
     begun = can.since;
     moments = rw is can.moments;
     alone = rw is (λ i p. let z = can.unspent i p in z.1.alone);
-    opening = held c;
     took = rw (fresh, scx) record { nodes = can.took.nodes; scx_records = can.took.scx_records };
     room = (
       record {
@@ -216,12 +215,10 @@ put_starts v linked c snaps removed field x kept m sound can some_node some_scx 
     late = λ turn e. let d = can.unwon in absurd (let z : v.won ≡ Some turn = e in cc);
   };
   none = can.rests.none;
-  spent = tt;
   ready = put_ready_first v.layout c.pass.0 c.number y.is_pass v.past m sound.lawful over (λ i p. rw is (let z = can.unspent i (rw is at p) in (z.0, z.1.usable))) at start own
       (rw scx h.share.taken_scx) free
       (rw fresh (left_own_node v.layout v.past c.pass.0 (held c) _ _ (held c).next_node h.share own_node))
       (rw fresh h.share.taken_nodes) (rw fresh (h.share.unmentioned (held c).next_node own_node)) (rw fresh (h.share.untaken_nodes (held c).next_node own_node)) (all_over v.layout v.past c.pass.0 (held c) _ _ h.share h.over);
-  tries = tt;
   few = λ taken i. let few = can.few taken in omega (arith, bound);
 }
   where

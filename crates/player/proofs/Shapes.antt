@@ -1,4 +1,4 @@
--- A player's run as one of cells or of the tree, under whose shapes their machines run, and back.
+-- A player's run as one of cells or of a dictionary, under whose shapes their machines run, and back.
 use Rattle.std.proofs.Common.{◌≡◌, subst, sym}
 use Rattle.arena.specs.declared.limits.Mode.{Mode}
 use Rattle.arena.specs.declared.limits.Mode.TheVariants.{Records, Tree}
@@ -8,7 +8,9 @@ use Rattle.arena.specs.Machines.{IsRun}
 use Rattle.arena.proofs.Lemmas.{run_as}
 use Rattle.prims.specs.Cells.{AllowsAll}
 use Rattle.spelling.specs.TreeShape.{TreeAllows}
-use Rattle.player.specs.Allowed.{AllowsIn, PlayedAllows}
+use Rattle.dict.specs.Typed.{TypedAllows}
+use Rattle.dict.specs.TypedMaps.{typed_run}
+use Rattle.player.specs.Allowed.{AllowsIn, IsNumber, PlayedAllows}
 
 -- cells ask nothing
 pub as_cells : (lay : Layout) (h : History) → lay.mode ≡ Records → IsRun PlayedAllows lay h → IsRun AllowsAll lay h
@@ -18,9 +20,13 @@ as_cells lay h mode run = run_as PlayedAllows AllowsAll lay (λ k s a. tt) h run
 pub as_played : (lay : Layout) (h : History) → lay.mode ≡ Records → IsRun AllowsAll lay h → IsRun PlayedAllows lay h
 as_played lay h mode run = run_as AllowsAll PlayedAllows lay (λ k s a. subst (λ (m : Mode). AllowsIn m lay k s) (sym mode) tt) h run
 
--- in tree mode what the tree asks, and back
-pub as_tree : (lay : Layout) (h : History) → lay.mode ≡ Tree → IsRun PlayedAllows lay h → IsRun TreeAllows lay h
-as_tree lay h mode run = run_as PlayedAllows TreeAllows lay (λ k s a. subst (λ (m : Mode). AllowsIn m lay k s) mode a) h run
+-- in tree mode what a dictionary of numbers asks, and back
+pub as_numbers : (lay : Layout) (h : History) → lay.mode ≡ Tree → IsRun PlayedAllows lay h → IsRun (TypedAllows IsNumber IsNumber) lay h
+as_numbers lay h mode run = run_as PlayedAllows (TypedAllows IsNumber IsNumber) lay (λ k s a. subst (λ (m : Mode). AllowsIn m lay k s) mode a) h run
 
-pub as_played_tree : (lay : Layout) (h : History) → lay.mode ≡ Tree → IsRun TreeAllows lay h → IsRun PlayedAllows lay h
-as_played_tree lay h mode run = run_as TreeAllows PlayedAllows lay (λ k s a. subst (λ (m : Mode). AllowsIn m lay k s) (sym mode) a) h run
+pub as_played_numbers : (lay : Layout) (h : History) → lay.mode ≡ Tree → IsRun (TypedAllows IsNumber IsNumber) lay h → IsRun PlayedAllows lay h
+as_played_numbers lay h mode run = run_as (TypedAllows IsNumber IsNumber) PlayedAllows lay (λ k s a. subst (λ (m : Mode). AllowsIn m lay k s) (sym mode) a) h run
+
+-- so it is one of the tree
+pub as_tree : (lay : Layout) (h : History) → lay.mode ≡ Tree → IsRun PlayedAllows lay h → IsRun TreeAllows lay h
+as_tree lay h mode run = typed_run IsNumber IsNumber lay h (as_numbers lay h mode run)

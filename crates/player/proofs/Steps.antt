@@ -24,7 +24,6 @@ use Rattle.player.proofs.InOrder.{run_in_order}
 use Rattle.player.proofs.MapCalls.{command_mode}
 use Rattle.player.proofs.Commands.{none_left, next_at}
 use Rattle.player.specs.Place.{IsAt}
-use Rattle.player.specs.EditRuns.{edit_command}
 use Rattle.spelling.specs.OrderedMap.{MapCall, MapEdit, edit_key, Insert as PutEdit, Delete as TakeEdit, Edit as EditCall}
 use Rattle.places.specs.declared.places.Change.{Change}
 use Rattle.places.specs.declared.places.Places.{Places}
@@ -56,8 +55,9 @@ use Rattle.player.proofs.Editing.{run_says}
 use Rattle.player.proofs.Placing.{done_enters}
 use Rattle.record.specs.Replies.{IsFitting, IsReplyOwed}
 use Rattle.record.specs.Entries.{IsWinOf}
-use Rattle.player.specs.ClientView.{ClientView, client_view, Tells, IsSound, Hears, IsClient, GoesOn, Ends}
+use Rattle.player.specs.ClientView.{ClientView, client_view, Tells, IsSound, Hears, IsClient, GoesOn, Ends, machine_call}
 use Rattle.player.specs.BetweenTurns.{IsLawfulSoFar, IsTurnOf, AreBetweenTurns, IsBetweenTurns, IsAsked, IsEnd, AreWins, ArePlaces, IsAtEdit}
+use Rattle.player.specs.Edits.{edit_command}
 use Rattle.player.proofs.Views.{own_row, step_sound, hears}
 use Rattle.player.proofs.Middles.{IsOver, get_there, others_step, others_log, so_far_same, step_made, turn_changed, turn_ends, replied}
 use Rattle.player.proofs.MayMakes.{may_make}
@@ -133,7 +133,7 @@ module _ (p : Interleaving) (i number : ℕ) (step : Ask) (a : IsAsked p i numbe
 
   pub asked_made : (words : Contents) → IsChanged p.words words made.word made.after → IsTurnOf lay tries calls words p.clients.items (Step (Made number made) ∷ lines) a.client
   asked_made words changed = record {
-    so_far = step_made lay tries calls p.words words lines number made changed sound (a.settled, record { in_turn = a.in_turn; lawful = lawful; call = a.waits.works.stands.number; command = a.waits.works.command; is = a.waits.works.is; few = let few = a.waits.few (length (taken_nodes (history lay.mode lines))) in omega arith; may = may_make a.waits.works.command a.client.number a.running.run a.running.then _ _ a.running.step a.waits.works.run_of a.waits.waits; says = λ s kind word. run_says a.waits.works.command a.client.number a.running.run a.running.then _ _ a.running.step s _ a.waits.works.run_of a.waits.waits kind word }) in_order a.turn.so_far;
+    so_far = step_made lay tries calls p.words words lines number made changed sound (a.settled, record { in_turn = a.in_turn; lawful = lawful; call = a.waits.works.stands.number; command = a.waits.works.command; is = a.waits.works.is; few = let few = a.waits.few (length (taken_nodes (history lay.mode lines))) in omega arith; may = may_make a.waits.works.command a.client.number a.running.run a.running.then _ _ a.running.step a.waits.works.run_of a.waits.waits; says = λ s kind word. run_says a.waits.works.command a.running.run a.running.then (machine_call v a.client a.waits.works.is_pass a.waits.works.start) _ a.running.step s _ a.waits.works.run_of a.waits.waits kind word }) in_order a.turn.so_far;
     others = others_step lay tries calls p.clients.items lines a.client.pass.0 number made a.turn.so_far.sound sound refl a.in_turn a.turn.so_far.in_order a.turn.others;
     own = a.turn.own;
   }

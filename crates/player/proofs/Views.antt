@@ -1,6 +1,5 @@
 -- What each row leaves of what the clients know.
 use Rattle.std.proofs.Common.{◌≡◌, ◌≢◌, ℕ, suc, ◌<◌, ◌≤◌, ◌⊎◌, inl, inr, ⊎_elim, Option, Some, None, List, refl, sym, ◌∙◌, subst, arith}
-use Rattle.tree.proofs.Lemmas.{get_fills_not}
 use Rattle.arena.specs.declared.layout.Layout.{Layout}
 use Rattle.arena.specs.declared.limits.Mode.TheVariants.{Tree}
 use Rattle.arena.specs.declared.step.Row.{Row}
@@ -22,10 +21,9 @@ use Rattle.prims.specs.Snaps.{IsAmong}
 use Rattle.prims.specs.Snap.{snap_at}
 use Rattle.prims.specs.declared.snap.Snap.{Snap}
 use Rattle.script.specs.declared.command.Command.{Command}
-use Rattle.script.specs.declared.command.Command.TheVariants.{Llx as LlxOf, Scx as ScxOf, Vlx as VlxOf, Set as SetOf, Map}
-use Rattle.spelling.specs.declared.request.Request.TheVariants.{Insert as InsertOf, Delete as DeleteOf, Get as GetOf, Successor as SuccessorOf, Range as RangeOf}
+use Rattle.script.specs.declared.command.Command.TheVariants.{Llx as LlxOf, Scx as ScxOf, Vlx as VlxOf, Set as SetOf, Map as MapOf}
 use Rattle.player.specs.declared.run.Run.{Run}
-use Rattle.player.specs.declared.run.Run.TheVariants.{Llx, Scx, Vlx, Edit, Get, Read}
+use Rattle.player.specs.declared.run.Run.TheVariants.{Llx, Scx, Vlx, Map}
 use Rattle.player.specs.declared.client.Client.{Client}
 use Rattle.player.specs.declared.client.Running.{Running}
 use Rattle.player.specs.declared.client.Put.{Put}
@@ -36,10 +34,9 @@ use Rattle.player.specs.RunKnown.{RunWaits, RunIsReady, run_mode}
 use Rattle.player.proofs.RunLaws.{run_keeps, run_lawful, run_made}
 use Rattle.player.specs.ClientView.{ClientView, Hand, no_hand, in_hand, snaps_of, IsSound, HasNewest, IsStart, IsSource, IsMachineOf, HasTaken, HaveMoments, IsRoomy, IsWonAs, IsOwnWin, IsWonSince, IsWonBy, held, HoldsShare, Holds, TakesInHand, IsClientState, Rests, Works, Waits, Hears, IsClient, machine_call}
 use Rattle.prims.specs.Shares.{IsShare}
-use Rattle.player.proofs.Over.{IsNoEdit, takes_by_own, nodes_by_own}
+use Rattle.player.proofs.Over.{IsOfCells, takes_by_own, nodes_by_own}
 use Rattle.prims.specs.declared.put.PutRun.{PutRun}
 use Rattle.arena.specs.declared.step.Kind.TheVariants.{LoadInfo}
-use Rattle.player.proofs.ReadMachines.{read_fills_not}
 
 some_number : (a b : ℕ) → Some a ≡ Some b → a ≡ b
 some_number a b e = cc
@@ -55,12 +52,10 @@ newest_row r (q ⊳ h) = q
 
 -- Its own machine's step leaves what the share still has untouched
 
-pub share_by_own : (run : Run) (call : Call) (h : History) (step : Ask) (left : Remaining) (node scx : ℕ) → IsNoEdit run → Lawful call.layout (row_of call step h ⊳ h) → RunWaits run call h step → HasNewest left run → IsShare call.layout h call.pass left node scx → IsShare call.layout (row_of call step h ⊳ h) call.pass left node scx
+pub share_by_own : (run : Run) (call : Call) (h : History) (step : Ask) (left : Remaining) (node scx : ℕ) → IsOfCells run → Lawful call.layout (row_of call step h ⊳ h) → RunWaits run call h step → HasNewest left run → IsShare call.layout h call.pass left node scx → IsShare call.layout (row_of call step h ⊳ h) call.pass left node scx
 share_by_own (Llx m) call h step left node scx is l w newest x = share_by_step call.layout h (row_of call step h) call.pass left node scx l (llx_fills_not AllowsAll m call h step w) x
 share_by_own (Vlx m) call h step left node scx is l w newest x = share_by_step call.layout h (row_of call step h) call.pass left node scx l (vlx_fills_not m.snaps m.asked call h step w) x
-share_by_own (Edit m) call h step left node scx is l w newest x = absurd is
-share_by_own (Get m) call h step left node scx is l w newest x = share_by_step call.layout h (row_of call step h) call.pass left node scx l (get_fills_not m call h step w) x
-share_by_own (Read m) call h step left node scx is l w newest x = share_by_step call.layout h (row_of call step h) call.pass left node scx l (read_fills_not m call h step w) x
+share_by_own (Map m) call h step left node scx is l w newest x = absurd is
 share_by_own (Scx m) call h step left node scx is l w newest x = share_by_put AllowsAll m call h step left node scx l w newest.0 newest.1 x
 
 -- the view with one row more, with this begin of the call, so many steps of its own, and this turn
@@ -89,20 +84,16 @@ Covers lay h c hand = (n : ℕ) → IsOwnScx lay c hand.scx → IsInProgress h h
 covers_none : (lay : Layout) (h : History) (c : ℕ) (left : Remaining) (node scx : ℕ) → Lawful lay h → IsShare lay h c left node scx → Covers lay h c (no_hand left)
 covers_none lay h c left node scx l share n own p m = absurd (next_idle lay h c left node scx l share own p)
 
-covers_waits : (run : Run) (call : Call) (h : History) (step : Ask) (left : Remaining) → IsNoEdit run → Lawful call.layout h → RunWaits run call h step → IsShare call.layout h call.pass left (in_hand left run).node (in_hand left run).scx → Covers call.layout h call.pass (in_hand left run)
+covers_waits : (run : Run) (call : Call) (h : History) (step : Ask) (left : Remaining) → IsOfCells run → Lawful call.layout h → RunWaits run call h step → IsShare call.layout h call.pass left (in_hand left run).node (in_hand left run).scx → Covers call.layout h call.pass (in_hand left run)
 covers_waits (Llx m) call h step left is l w share = covers_none call.layout h call.pass left _ _ l share
 covers_waits (Vlx m) call h step left is l w share = covers_none call.layout h call.pass left _ _ l share
-covers_waits (Edit m) call h step left is l w share = absurd is
-covers_waits (Get m) call h step left is l w share = covers_none call.layout h call.pass left _ _ l share
-covers_waits (Read m) call h step left is l w share = covers_none call.layout h call.pass left _ _ l share
+covers_waits (Map m) call h step left is l w share = absurd is
 covers_waits (Scx m) call h step left is l w share = λ n own p x. put_covers AllowsAll m call h step n w p x
 
-covers_ready : (run : Run) (call : Call) (h : History) (v : ℕ) (left : Remaining) → IsNoEdit run → Lawful call.layout h → RunIsReady run call h (Some v) → IsShare call.layout h call.pass left (in_hand left run).node (in_hand left run).scx → Covers call.layout h call.pass (in_hand left run)
+covers_ready : (run : Run) (call : Call) (h : History) (v : ℕ) (left : Remaining) → IsOfCells run → Lawful call.layout h → RunIsReady run call h (Some v) → IsShare call.layout h call.pass left (in_hand left run).node (in_hand left run).scx → Covers call.layout h call.pass (in_hand left run)
 covers_ready (Llx m) call h v left is l w share = covers_none call.layout h call.pass left _ _ l share
 covers_ready (Vlx m) call h v left is l w share = covers_none call.layout h call.pass left _ _ l share
-covers_ready (Edit m) call h v left is l w share = absurd is
-covers_ready (Get m) call h v left is l w share = covers_none call.layout h call.pass left _ _ l share
-covers_ready (Read m) call h v left is l w share = covers_none call.layout h call.pass left _ _ l share
+covers_ready (Map m) call h v left is l w share = absurd is
 covers_ready (Scx m) call h v left is l w share = λ n own p x. put_covers_then AllowsAll m call h v n w p x
 
 -- One more row
@@ -147,9 +138,9 @@ stands_more v c r start steps won hand run alone x = record {
 holds_more : (v : ClientView) (c : Client) (r : Row) (start : History) (steps : ℕ) (won : Option ℕ) (hand : Hand) → IsShare v.layout (r ⊳ v.past) c.pass.0 (held c) hand.node hand.scx → AreFinished v.layout c.pass.0 hand.scx (r ⊳ v.past) → HoldsShare v c hand → HoldsShare (after_row v r start steps won) c hand
 holds_more v c r start steps won hand share over x = record { some = x.some; share = share; over = over }
 
--- a row leaves what a machine has in hand, but for an insert, which says so by itself
+-- a row leaves what a machine has in hand, but for a call of the map, which says so by itself
 abbrev LeavesHand : ClientView → Client → Row → Run → Type 0
-LeavesHand v c r (Edit m) = Unit {0}
+LeavesHand v c r (Map m) = Unit {0}
 LeavesHand v c r q = TakesOnly v.layout c.pass.0 (in_hand (held c) q).scx v.past r × ((n : ℕ) → IsOwnNode v.layout c.pass.0 n → n ≢ (in_hand (held c) q).node → ¬ IsTakenNode v.past n → ¬ IsTakenNode (r ⊳ v.past) n)
 
 -- what a row says of the update of client c: it has won in this turn, or its turn is as it was
@@ -219,9 +210,7 @@ module _ (v : ClientView) (c : Client) (r : Row) (number : ℕ) (start : History
   won_more_by (Scx m) same since x w = won_as (in_hand (held c) (Scx m)) x w
   won_more_by (Llx m) same since x w = no_win (no_hand (held c)) x refl w
   won_more_by (Vlx m) same since x w = no_win (no_hand (held c)) x refl w
-  won_more_by (Edit m) same since x w = won_since same since w
-  won_more_by (Get m) same since x w = no_win (no_hand (held c)) x refl w
-  won_more_by (Read m) same since x w = no_win (no_hand (held c)) x refl w
+  won_more_by (Map m) same since x w = won_since same since w
 
   late_more : c.begin ≤ number → ((turn : ℕ) → v.won ≡ Some turn → c.begin ≤ turn) → (turn : ℕ) → won ≡ Some turn → c.begin ≤ turn
   late_more i f turn e = ⊎_elim (λ q. f turn (sym q ∙ e)) (λ y. let same : number ≡ turn = some_number number turn (sym y.0 ∙ e) in rw same at i) tells.no
@@ -237,22 +226,16 @@ module _ (v : ClientView) (c : Client) (r : Row) (number : ℕ) (start : History
       source_more (ScxOf update) n moment y = y
       source_more (VlxOf cells) n moment y = y
       source_more (LlxOf cell) n moment y = y
-      source_more (Map request) n moment y = y
+      source_more (MapOf request) n moment y = y
 
   -- an LLX has no snapshots yet, and those of a VLX are kept ones
   moments_by : (q : Run) (then : Option Put) (command : Command) → start ≡ v.start → ((m : PutRun) → q ≡ Scx m → r.pass.0 ≡ c.pass.0 → r.kind ≢ LoadInfo) → IsMachineOf command c.number q then → HaveMoments v c.pass.0 command (snaps_of q) → HaveMoments (after_row v r start steps won) c.pass.0 command (snaps_of q)
   moments_by (Llx m) then command since looks of x = λ i p. absurd (omega arith)
   moments_by (Scx m) then command since looks of x = moments_more command m.scx.update.snaps since (looks m refl) x
   moments_by (Vlx m) then (VlxOf cells) since looks of x = λ i p. let y = x i p in record { moment = y.moment; found = moment_more v.layout v.past r (snap_at m.snaps i) y.moment y.found; source = y.source }
-  moments_by (Edit m) then command since looks of x = λ i p. absurd (omega arith)
-  moments_by (Get m) then command since looks of x = λ i p. absurd (omega arith)
-  moments_by (Read m) then command since looks of x = λ i p. absurd (omega arith)
-  moments_by (Vlx m) then (Map (InsertOf key value)) since looks of x = absurd of
-  moments_by (Vlx m) then (Map (DeleteOf key)) since looks of x = absurd of
+  moments_by (Map m) then command since looks of x = λ i p. absurd (omega arith)
+  moments_by (Vlx m) then (MapOf request) since looks of x = absurd of
   moments_by (Vlx m) then (LlxOf cell) since looks of x = absurd of
-  moments_by (Vlx m) then (Map (GetOf key)) since looks of x = absurd of
-  moments_by (Vlx m) then (Map (SuccessorOf key)) since looks of x = absurd of
-  moments_by (Vlx m) then (Map (RangeOf low high most)) since looks of x = absurd of
   moments_by (Vlx m) then (ScxOf update) since looks of x = absurd of
   moments_by (Vlx m) then (SetOf field x) since looks of y = absurd of
 
@@ -262,30 +245,24 @@ module _ (v : ClientView) (c : Client) (r : Row) (number : ℕ) (start : History
     scx_records = λ s own d free. takes s own d (y.scx_records s own d (subst (λ (k : History). ¬ IsTakenScx k s) e free));
   }
 
-  took : (q : Run) (share : Remaining) → LeavesHand v c r q → start ≡ v.start → TakesInHand v c share q → TakesInHand (after_row v r start steps won) c share q
-  took (Edit m) share leaves e y = subst (λ (k : History). IsShare v.layout k c.pass.0 share share.next_node share.next_scx) (sym e) y
-  took (Llx m) share leaves e y = took_hand (in_hand (held c) (Llx m)) leaves.0 leaves.1 e y
-  took (Scx m) share leaves e y = took_hand (in_hand (held c) (Scx m)) leaves.0 leaves.1 e y
-  took (Vlx m) share leaves e y = took_hand (in_hand (held c) (Vlx m)) leaves.0 leaves.1 e y
-  took (Get m) share leaves e y = took_hand (in_hand (held c) (Get m)) leaves.0 leaves.1 e y
-  took (Read m) share leaves e y = took_hand (in_hand (held c) (Read m)) leaves.0 leaves.1 e y
+  took : (q : Run) → LeavesHand v c r q → start ≡ v.start → TakesInHand v c q → TakesInHand (after_row v r start steps won) c q
+  took (Map m) leaves e y = tt
+  took (Llx m) leaves e y = took_hand (in_hand (held c) (Llx m)) leaves.0 leaves.1 e y
+  took (Scx m) leaves e y = took_hand (in_hand (held c) (Scx m)) leaves.0 leaves.1 e y
+  took (Vlx m) leaves e y = took_hand (in_hand (held c) (Vlx m)) leaves.0 leaves.1 e y
 
   roomy : (q : Run) → start ≡ v.start → IsRoomy v c.pass.0 q → IsRoomy (after_row v r start steps won) c.pass.0 q
   roomy (Scx m) e y = subst (λ (k : History). HasRoom v.layout c.pass.0 k × ¬ IsTakenScx k m.scx.scx.0) (sym e) y
   roomy (Llx m) e y = tt
   roomy (Vlx m) e y = tt
-  roomy (Edit m) e y = tt
-  roomy (Get m) e y = tt
-  roomy (Read m) e y = tt
+  roomy (Map m) e y = tt
 
   -- a machine has started at the begin of its call or later
   begun_since : (q : Run) (start : History) → Extends v.past start → IsStart q start v.start → Extends v.past v.start
   begun_since (Scx m) start since begun = ends_trans v.past start v.start since begun
   begun_since (Llx m) start since begun = subst (λ (k : History). Extends v.past k) begun since
   begun_since (Vlx m) start since begun = subst (λ (k : History). Extends v.past k) begun since
-  begun_since (Edit m) start since begun = subst (λ (k : History). Extends v.past k) begun since
-  begun_since (Get m) start since begun = subst (λ (k : History). Extends v.past k) begun since
-  begun_since (Read m) start since begun = subst (λ (k : History). Extends v.past k) begun since
+  begun_since (Map m) start since begun = subst (λ (k : History). Extends v.past k) begun since
 
   -- a machine still runs
   works_more : (q : Run) (then : Option Put) → start ≡ v.start → c.begin ≤ number → ((m : PutRun) → q ≡ Scx m → r.pass.0 ≡ c.pass.0 → r.kind ≢ LoadInfo) → LeavesHand v c r q → IsClientState (after_row v r start steps won) c (in_hand (held c) q) → Holds (after_row v r start steps won) c q → Works v c q then → Works (after_row v r start steps won) c q then
@@ -305,8 +282,7 @@ module _ (v : ClientView) (c : Client) (r : Row) (number : ℕ) (start : History
     moments = moments_by q then x.command same looks x.run_of x.moments;
     alone = x.alone;
     room = roomy q same x.room;
-    opening = x.opening;
-    took = took q x.opening leaves same x.took;
+    took = took q leaves same x.took;
     won = won_more_by q same (begun_since q x.start x.since x.begun) x.holds x.won;
     late = late_more i x.late;
   }
@@ -330,12 +306,10 @@ module _ (v : ClientView) (c : Client) (r : Row) (number : ℕ) (start : History
   hand_then hand covers x h = stands_more v c r start v.steps won hand run (leaves_hand v c (r ⊳ v.past) hand run.lawful (share_then hand h).over covers x) x
 
   still_stands : (q : Run) (step : Ask) (p : c.pass.0 < v.layout.passes) (start : History) → RunWaits q (machine_call v c p start) (r ⊳ v.past) step → v.layout.mode ≡ run_mode q → IsClientState v c (in_hand (held c) q) → Holds v c q → StillStands q
-  still_stands (Edit m) step p start w mode x h = record { stands = stands_more v c r _ v.steps won (in_hand (held c) (Edit m)) run (leaves_tree v c (r ⊳ v.past) _ mode x) x; holds = tt; leaves = tt }
+  still_stands (Map m) step p start w mode x h = record { stands = stands_more v c r _ v.steps won (in_hand (held c) (Map m)) run (leaves_tree v c (r ⊳ v.past) _ mode x) x; holds = tt; leaves = tt }
   still_stands (Llx m) step p start w mode x h = record { stands = hand_then _ (covers_waits (Llx m) (machine_call v c p start) (r ⊳ v.past) step (held c) tt run.lawful w (share_then _ h).share) x h; holds = share_then _ h; leaves = (takes_by_others v.layout c.pass.0 _ v.past r run.lawful other, λ n own d. nodes_then n own) }
   still_stands (Scx m) step p start w mode x h = record { stands = hand_then _ (covers_waits (Scx m) (machine_call v c p start) (r ⊳ v.past) step (held c) tt run.lawful w (share_then _ h).share) x h; holds = share_then _ h; leaves = (takes_by_others v.layout c.pass.0 _ v.past r run.lawful other, λ n own d. nodes_then n own) }
   still_stands (Vlx m) step p start w mode x h = record { stands = hand_then _ (covers_waits (Vlx m) (machine_call v c p start) (r ⊳ v.past) step (held c) tt run.lawful w (share_then _ h).share) x h; holds = share_then _ h; leaves = (takes_by_others v.layout c.pass.0 _ v.past r run.lawful other, λ n own d. nodes_then n own) }
-  still_stands (Get m) step p start w mode x h = record { stands = hand_then _ (covers_waits (Get m) (machine_call v c p start) (r ⊳ v.past) step (held c) tt run.lawful w (share_then _ h).share) x h; holds = share_then _ h; leaves = (takes_by_others v.layout c.pass.0 _ v.past r run.lawful other, λ n own d. nodes_then n own) }
-  still_stands (Read m) step p start w mode x h = record { stands = hand_then _ (covers_waits (Read m) (machine_call v c p start) (r ⊳ v.past) step (held c) tt run.lawful w (share_then _ h).share) x h; holds = share_then _ h; leaves = (takes_by_others v.layout c.pass.0 _ v.past r run.lawful other, λ n own d. nodes_then n own) }
 
   rests_by_others : Rests v c → Rests (after_row v r start v.steps won) c
   rests_by_others x = record { stands = hand_then (no_hand (held c)) (covers_none v.layout (r ⊳ v.past) c.pass.0 (held c) _ _ run.lawful (share_then (no_hand (held c)) x.holds).share) x.stands x.holds; holds = share_then (no_hand (held c)) x.holds; none = x.none }
@@ -345,7 +319,7 @@ module _ (v : ClientView) (c : Client) (r : Row) (number : ℕ) (start : History
   waits_by_others began g q is w e =
       let waits = run_keeps q.run (machine_call v c w.works.is_pass w.works.start) v.past q.step r w.works.mode run other w.waits in
       let then = still_stands q.run q.step w.works.is_pass w.works.start waits w.works.mode w.works.stands w.works.holds in
-      inr (q, is, record { works = works_more v c r number start v.steps won sound run tells q.run q.then (g c.begin e).0 (g c.begin e).1 (λ m z own. absurd (other own)) then.leaves then.stands then.holds w.works; waits = waits; spent = w.spent; few = λ taken i. w.few taken (let more = taken_more v.past r in omega (arith, i)) }, e)
+      inr (q, is, record { works = works_more v c r number start v.steps won sound run tells q.run q.then (g c.begin e).0 (g c.begin e).1 (λ m z own. absurd (other own)) then.leaves then.stands then.holds w.works; waits = waits; few = λ taken i. w.few taken (let more = taken_more v.past r in omega (arith, i)) }, e)
 
 pub client_by_others : (v : ClientView) (c : Client) (r : Row) (number : ℕ) (start : History) (won : Option ℕ) → IsSound v → IsSound (after_row v r start v.steps won) → TellsWon v c.pass.0 r number won → r.pass.0 ≢ c.pass.0 → (began : Option ℕ) → (began ≡ None → start ≡ r ⊳ v.past) → ((k : ℕ) → began ≡ Some k → (start ≡ v.start) × (k ≤ number)) → IsClient v began c → IsClient (after_row v r start v.steps won) began c
 client_by_others v c r number start won sound run tells other began f g (inl (x, inl none)) = inl (rests_by_others v c r number start won sound run tells other x.stands.is_pass x, inl none)
@@ -368,7 +342,7 @@ module _ (v : ClientView) (c : Client) (q : Running) (sound : IsSound v) (w : Wa
     leaves : LeavesHand v c (own_row v c q.step) run
 
   -- of a machine that has none of the share
-  hand_stands : (won : Option ℕ) (run : Run) (found : ℕ) → IsNoEdit run → RunWaits run call v.past q.step → RunIsReady run call (own_row v c q.step ⊳ v.past) (Some found) → HasNewest (held c) run → IsClientState v c (in_hand (held c) run) → HoldsShare v c (in_hand (held c) run)
+  hand_stands : (won : Option ℕ) (run : Run) (found : ℕ) → IsOfCells run → RunWaits run call v.past q.step → RunIsReady run call (own_row v c q.step ⊳ v.past) (Some found) → HasNewest (held c) run → IsClientState v c (in_hand (held c) run) → HoldsShare v c (in_hand (held c) run)
       → IsClientState (after_row v (own_row v c q.step) v.start (suc v.steps) won) c (in_hand (held c) run) × HoldsShare (after_row v (own_row v c q.step) v.start (suc v.steps) won) c (in_hand (held c) run) × TakesOnly v.layout c.pass.0 (in_hand (held c) run).scx v.past (own_row v c q.step) × ((n : ℕ) → IsOwnNode v.layout c.pass.0 n → n ≢ (in_hand (held c) run).node → ¬ IsTakenNode v.past n → ¬ IsTakenNode (own_row v c q.step ⊳ v.past) n)
   hand_stands won run found is waits ready newest x h =
       let l = (step_sound won).lawful in
@@ -382,12 +356,10 @@ module _ (v : ClientView) (c : Client) (q : Running) (sound : IsSound v) (w : Wa
       )
 
   stands_then : (won : Option ℕ) (run : Run) (found : ℕ) → RunWaits run call v.past q.step → RunIsReady run call (own_row v c q.step ⊳ v.past) (Some found) → v.layout.mode ≡ run_mode run → HasNewest (held c) run → IsClientState v c (in_hand (held c) run) → Holds v c run → StandsThen won run
-  stands_then won (Edit m) found waits ready mode newest x h = record { stands = stands_more v c (own_row v c q.step) v.start (suc v.steps) won (in_hand (held c) (Edit m)) (step_sound won) (leaves_tree v c (own_row v c q.step ⊳ v.past) _ mode x) x; holds = tt; leaves = tt }
+  stands_then won (Map m) found waits ready mode newest x h = record { stands = stands_more v c (own_row v c q.step) v.start (suc v.steps) won (in_hand (held c) (Map m)) (step_sound won) (leaves_tree v c (own_row v c q.step ⊳ v.past) _ mode x) x; holds = tt; leaves = tt }
   stands_then won (Llx m) found waits ready mode newest x h = let y = hand_stands won (Llx m) found tt waits ready newest x h in record { stands = y.0; holds = y.1; leaves = (y.2, y.3) }
   stands_then won (Scx m) found waits ready mode newest x h = let y = hand_stands won (Scx m) found tt waits ready newest x h in record { stands = y.0; holds = y.1; leaves = (y.2, y.3) }
   stands_then won (Vlx m) found waits ready mode newest x h = let y = hand_stands won (Vlx m) found tt waits ready newest x h in record { stands = y.0; holds = y.1; leaves = (y.2, y.3) }
-  stands_then won (Get m) found waits ready mode newest x h = let y = hand_stands won (Get m) found tt waits ready newest x h in record { stands = y.0; holds = y.1; leaves = (y.2, y.3) }
-  stands_then won (Read m) found waits ready mode newest x h = let y = hand_stands won (Read m) found tt waits ready newest x h in record { stands = y.0; holds = y.1; leaves = (y.2, y.3) }
 
   -- the machine may be told what the step found
   pub hears : (number : ℕ) (won : Option ℕ) → TellsWon v c.pass.0 (own_row v c q.step) number won → c.begin ≤ number → (found : ℕ) → IsTold q.step.access (value v.past q.step.word) found → Hears (after_row v (own_row v c q.step) v.start (suc v.steps) won) c q found
@@ -396,4 +368,4 @@ module _ (v : ClientView) (c : Client) (q : Running) (sound : IsSound v) (w : Wa
       let run = step_sound won in
       let ready = run_made q.run call v.past q.step found w.works.mode run told w.waits in
       let then = stands_then won q.run found w.waits ready w.works.mode w.works.newest w.works.stands w.works.holds in
-      record { works = works_more v c (own_row v c q.step) number v.start (suc v.steps) won sound run tells q.run q.then refl late (λ m z own. put_looks_not AllowsAll m call v.past q.step (subst (λ (k : Run). RunWaits k call v.past q.step) z w.waits)) then.leaves then.stands then.holds w.works; ready = ready; spent = w.spent; few = λ taken i. let few = w.few taken (let more = taken_more v.past (own_row v c q.step) in omega (arith, i)) in omega arith }
+      record { works = works_more v c (own_row v c q.step) number v.start (suc v.steps) won sound run tells q.run q.then refl late (λ m z own. put_looks_not AllowsAll m call v.past q.step (subst (λ (k : Run). RunWaits k call v.past q.step) z w.waits)) then.leaves then.stands then.holds w.works; ready = ready; few = λ taken i. let few = w.few taken (let more = taken_more v.past (own_row v c q.step) in omega (arith, i)) in omega arith }

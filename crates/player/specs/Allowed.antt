@@ -1,16 +1,25 @@
 -- Which SCX-records the calls of a script may begin: those that the shape of its mode allows.
-use Rattle.std.specs.Prelude.{ℕ}
+use Rattle.std.specs.Prelude.{ℕ, ◌^◌, ◌<◌}
 use Rattle.arena.specs.declared.limits.Mode.{Mode}
 use Rattle.arena.specs.declared.limits.Mode.TheVariants.{Records, Tree}
 use Rattle.arena.specs.declared.layout.Layout.{Layout}
 use Rattle.arena.specs.History.{History}
+use Rattle.dict.specs.Typed.{TypedAllows}
+use Rattle.dict.specs.Words.{IsWord}
 use Rattle.prims.specs.Cells.{AllowsAll}
-use Rattle.spelling.specs.TreeShape.{TreeAllows}
+
+-- a number that fits a word: the tree of a script is a dictionary whose keys and values are such
+abbrev pub IsSmall : ℕ → Type 0
+IsSmall n = n < 2 ^ 64
+
+-- the word of one: it stands for itself
+abbrev pub IsNumber : ℕ → Type 0
+IsNumber = IsWord IsSmall (λ n. n)
 
 -- which SCX-records may begin in this mode: in cells all, in the tree those of its edits
 abbrev pub AllowsIn : Mode → Layout → History → ℕ → Type 0
 AllowsIn Records lay h s = AllowsAll lay h s
-AllowsIn Tree lay h s = TreeAllows lay h s
+AllowsIn Tree lay h s = TypedAllows IsNumber IsNumber lay h s
 
 -- which SCX-records may begin in a player's run: those that the mode of its layout allows
 abbrev pub PlayedAllows : Layout → History → ℕ → Type 0

@@ -25,7 +25,7 @@ use Rattle.player.specs.Player.{PlayerView, script_view}
 use Rattle.player.specs.declared.interleaving.Interleaving.{Interleaving}
 use Rattle.record.specs.Turns.{history, begin, turns, won}
 use Rattle.spelling.specs.OrderedMap.{MapEdit, Edit}
-use Rattle.player.specs.EditRuns.{edit_command}
+use Rattle.player.specs.Edits.{edit_command}
 use Rattle.record.specs.declared.record.Entry.{Entry}
 use Rattle.record.specs.MapRecord.{map_call_of}
 use Rattle.places.specs.declared.places.Change.{Change}

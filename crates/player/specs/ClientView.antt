@@ -12,6 +12,9 @@ use Rattle.arena.specs.ScxRecords.{plan_finalizes, side_of}
 use Rattle.arena.specs.Lawful.{HasWon, IsWin}
 use Rattle.arena.specs.Fills.{IsOwnNode, IsOwnScx, IsTakenNode, IsTakenScx}
 use Rattle.arena.specs.Machines.{Call as MachineCall, IsRun}
+use Rattle.dict.specs.Calls.{call_in}
+use Rattle.dict.specs.Known.{AsksFirst}
+use Rattle.dict.specs.declared.dict.DictRun.{DictRun}
 use Rattle.prims.specs.Moments.{IsMoment, AreLeftAlone, AreFinished, HasTakenOnly}
 use Rattle.prims.specs.Scx.Known.{nodes_of}
 use Rattle.prims.specs.Shares.{IsShare}
@@ -21,25 +24,23 @@ use Rattle.prims.specs.Updates.{update_field_index}
 use Rattle.prims.specs.declared.put.PutRun.{PutRun}
 use Rattle.prims.specs.declared.snap.Snap.{Snap}
 use Rattle.places.specs.Replied.{HasReplied}
-use Rattle.spelling.specs.OrderedMap.{MapCall, Successor, Range, MapReply, get, reply, edit_key}
+use Rattle.spelling.specs.OrderedMap.{MapCall, Successor, Range, MapReply, get, reply}
 use Rattle.spelling.specs.Spelled.{Spells}
 use Rattle.spelling.specs.declared.pair.Pair.{Pair}
 use Rattle.script.specs.declared.call.Call.{Call}
 use Rattle.script.specs.declared.command.Command.{Command}
-use Rattle.script.specs.declared.command.Command.TheVariants.{Llx as LlxOf, Scx as ScxOf, Vlx as VlxOf, Set as SetOf, Map}
-use Rattle.spelling.specs.declared.request.Request.TheVariants.{Insert as InsertOf, Delete as DeleteOf, Get as GetOf, Successor as SuccessorOf, Range as RangeOf}
+use Rattle.script.specs.declared.command.Command.TheVariants.{Llx as LlxOf, Scx as ScxOf, Vlx as VlxOf, Set as SetOf, Map as MapOf}
+use Rattle.spelling.specs.Requests.{map_request}
+use Rattle.spelling.specs.declared.request.Request.{Request}
+use Rattle.spelling.specs.declared.request.Request.TheVariants.{Insert as InsertOf, Delete as DeleteOf, Successor as SuccessorOf, Range as RangeOf}
 use Rattle.record.specs.declared.record.Line.{Line}
 use Rattle.spelling.specs.declared.reply.Reply.TheVariants.{Value}
 use Rattle.record.specs.declared.record.Answer.{Answer}
 use Rattle.script.specs.Cells.{cells_of}
 use Rattle.script.specs.Update.{update_cells, update_finalize, update_field, update_value}
 use Rattle.record.specs.declared.record.Answer.TheVariants.{Full, Map as MapAnswer}
-use Rattle.player.specs.EditRuns.{IsUnbegunEdit, edit_of, call_of, limit_of, edit_command}
-use Rattle.player.specs.ReadRuns.{HasReadTries, IsReadBy, read_limit}
-use Rattle.player.specs.declared.edit.EditRun.{EditRun}
-use Rattle.player.specs.declared.read.ReadRun.{ReadRun}
 use Rattle.player.specs.declared.run.Run.{Run}
-use Rattle.player.specs.declared.run.Run.TheVariants.{Llx, Scx, Vlx, Edit, Get, Read}
+use Rattle.player.specs.declared.run.Run.TheVariants.{Llx, Scx, Vlx, Map}
 use Rattle.player.specs.declared.client.Client.{Client}
 use Rattle.player.specs.declared.client.Running.{Running}
 use Rattle.player.specs.declared.client.Put.{Put}
@@ -48,7 +49,7 @@ use Rattle.player.specs.declared.client.NextAction.TheVariants.{Finished, Answer
 use Rattle.player.specs.declared.run.Ended.{Ended}
 use Rattle.player.specs.Allowed.{PlayedAllows}
 use Rattle.player.specs.RunKnown.{RunIsReady, RunWaits, RunAnswers, run_mode, share_behind}
-use Rattle.player.specs.RunSteps.{then_left, left_of, HasSpent, HasSpentAll}
+use Rattle.player.specs.RunSteps.{then_left, left_of}
 use Rattle.player.specs.KeptSnaps.{AreKept, IsUnspent, kept_of}
 use Rattle.player.specs.Place.{IsAt}
 use Rattle.record.specs.Turns.{history, answered, start, steps, won}
@@ -88,7 +89,7 @@ IsSound v = IsRun PlayedAllows v.layout v.past
 
 -- What a client has
 
--- what is left of its share, where it holds that; while an edit runs, that has it
+-- what is left of its share, where it holds that; while a call of the map runs, that has it
 abbrev pub held : Client → Remaining
 held c = unwrap_or c.share record { next_node = 0; nodes = 0; next_scx = 0; scx = 0 }
 
@@ -139,19 +140,13 @@ abbrev pub IsVlxOf : Command → List Snap → Option Put → Type 0
 IsVlxOf (VlxOf cells) snaps None = nodes_of snaps ≡ cells_of cells
 IsVlxOf _ snaps _ = ⊥
 
--- a machine over this key serves a `get` of it
-abbrev pub IsGetOf : Command → ℕ → Option Put → Type 0
-IsGetOf (Map (GetOf key)) k None = k ≡ key
-IsGetOf _ k then = ⊥
-
--- an ordered read, with nothing behind it, is the one that the command is
-abbrev pub IsReadOf : Command → ReadRun → Option Put → Type 0
-IsReadOf command m then = IsReadBy m command × (then ≡ None)
-
--- an edit in the client's call of this number is the one that the command is
-pub record IsEditOf (command : Command) (number : ℕ) (m : EditRun) (then : Option Put) : Type 0 where
-  pub is : command ≡ edit_command (edit_of m)
-  pub called : call_of m ≡ number
+-- the machine of a call of the map, with nothing behind it, is that of the command; it asks for a
+-- step before it answers
+pub record IsMapOf (command : Command) (m : DictRun ℕ ℕ) (then : Option Put) : Type 0 where
+  pub request : Request ℕ ℕ
+  pub is : command ≡ MapOf request
+  pub called : call_in m.run ≡ map_request request
+  pub asks : AsksFirst m.run
   pub alone : then ≡ None
 
 -- the machine, with what follows it, is that of the command in the client's call of this number
@@ -159,9 +154,7 @@ abbrev pub IsMachineOf : Command → ℕ → Run → Option Put → Type 0
 IsMachineOf command number (Llx m) then = (m.node.0 ≤ 8) × IsLlxOf command m.node.0 then
 IsMachineOf command number (Scx m) then = IsScxOf command number m then
 IsMachineOf command number (Vlx m) then = IsVlxOf command m.snaps then
-IsMachineOf command number (Edit m) then = (edit_key (edit_of m) < 2 ^ 64) × IsEditOf command number m then
-IsMachineOf command number (Get m) then = IsGetOf command m.key then
-IsMachineOf command number (Read m) then = IsReadOf command m then
+IsMachineOf command number (Map m) then = IsMapOf command m then
 
 -- a client between two turns, but for its machine: its next call is the first that is not answered
 pub record IsClientState (v : ClientView) (c : Client) (hand : Hand) : Type 0 where
@@ -185,9 +178,10 @@ pub record HoldsShare (v : ClientView) (c : Client) (hand : Hand) : Type 0 where
   -- the SCX-records that it has taken are finished, but perhaps the one in hand
   pub over : AreFinished v.layout c.pass.0 hand.scx v.past
 
--- it does while a machine runs, but for an edit, which has the share and says what is left of it
+-- it does while a machine runs, but for a call of the map, which has the share and says by itself
+-- what is left of it
 abbrev pub Holds : ClientView → Client → Run → Type 0
-Holds v c (Edit m) = Unit {0}
+Holds v c (Map m) = Unit {0}
 Holds v c run = HoldsShare v c (in_hand (held c) run)
 
 -- no machine of the client runs, and it has nothing in hand
@@ -214,9 +208,7 @@ abbrev pub snaps_of : Run → List Snap
 snaps_of (Llx m) = []
 snaps_of (Scx m) = m.scx.update.snaps
 snaps_of (Vlx m) = m.snaps
-snaps_of (Edit m) = []
-snaps_of (Get m) = []
-snaps_of (Read m) = []
+snaps_of (Map m) = []
 
 -- the moment is that of the snapshot of node n: for a `set` one of the call itself, else that of
 -- the snapshot which the client keeps
@@ -254,11 +246,11 @@ pub record IsWonSince (v : ClientView) (c : ℕ) : Type 0 where
   pub yes : (row : Row) (before : History) (s : ℕ) → IsOwnWin v c row before s → (turn : ℕ) × (v.won ≡ Some turn)
   pub no : (v.won ≡ None) ⊎ ((row : Row) × (before : History) × (s : ℕ) × IsOwnWin v c row before s)
 
--- an update of the call has won if that of its machine's SCX-record has; none without an SCX. An
--- edit may have had many
+-- an update of the call has won if that of its machine's SCX-record has; none without an SCX. A
+-- call of the map may have had many
 abbrev pub IsWonBy : ClientView → ℕ → Run → Type 0
 IsWonBy v c (Scx m) = IsWonAs v c m.scx.scx.0
-IsWonBy v c (Edit m) = IsWonSince v c
+IsWonBy v c (Map m) = IsWonSince v c
 IsWonBy v c _ = v.won ≡ None
 
 -- since its call's begin the client has taken only what it has in hand
@@ -266,21 +258,19 @@ pub record HasTaken (v : ClientView) (c : ℕ) (hand : Hand) : Type 0 where
   pub nodes : (n : ℕ) → IsOwnNode v.layout c n → n ≢ hand.node → ¬ IsTakenNode v.start n → ¬ IsTakenNode v.past n
   pub scx_records : HasTakenOnly v.layout c hand.scx v.start v.past
 
--- a machine has taken what it has in hand alone; of an edit, this was left of the share as the
--- call began
-abbrev pub TakesInHand : ClientView → Client → Remaining → Run → Type 0
-TakesInHand v c share (Edit m) = IsShare v.layout v.start c.pass.0 share share.next_node share.next_scx
-TakesInHand v c share run = HasTaken v c.pass.0 (in_hand (held c) run)
+-- a machine has taken what it has in hand alone; a call of the map says by itself what it has taken
+abbrev pub TakesInHand : ClientView → Client → Run → Type 0
+TakesInHand v c (Map m) = Unit {0}
+TakesInHand v c run = HasTaken v c.pass.0 (in_hand (held c) run)
 
 -- at the call's begin the share had room for an SCX that runs, and its SCX-record was not taken
 abbrev pub IsRoomy : ClientView → ℕ → Run → Type 0
 IsRoomy v c (Scx m) = HasRoom v.layout c v.start × ¬ IsTakenScx v.start m.scx.scx.0
 IsRoomy v c _ = Unit {0}
 
--- an edit or an ordered read may try as often as a call may
+-- a call of the map may try so often
 abbrev pub MayTryAll : Run → ℕ → Type 0
-MayTryAll (Edit m) tries = limit_of m ≡ tries
-MayTryAll (Read m) tries = read_limit m ≡ tries
+MayTryAll (Map m) tries = m.tries ≡ tries
 MayTryAll _ tries = Unit {0}
 
 -- a machine runs for the client's next call, over snapshots that
@@ -302,9 +292,7 @@ pub record Works (v : ClientView) (c : Client) (run : Run) (then : Option Put) :
   pub moments : HaveMoments v c.pass.0 command (snaps_of run)
   pub alone : AreLeftAlone v.layout c.pass.0 start (snaps_of run)
   pub room : IsRoomy v c.pass.0 run
-  -- what was left of the share as the call began, if it is an edit
-  pub opening : Remaining
-  pub took : TakesInHand v c opening run
+  pub took : TakesInHand v c run
   pub won : IsWonBy v c.pass.0 run
   -- an update of the call has won in its first turn or later
   pub late : (turn : ℕ) → v.won ≡ Some turn → c.begin ≤ turn
@@ -313,20 +301,11 @@ pub record Works (v : ClientView) (c : Client) (run : Run) (then : Option Put) :
 -- for and those of what follows it, are no more than the call may make, however many nodes are
 -- taken. A step that the machine waits for counts too.
 
--- an edit of the map stands at its start, and that or an ordered read has as many tries as a call
--- may make
-abbrev pub HasAllTries : Run → ℕ → Type 0
-HasAllTries (Edit m) tries = IsUnbegunEdit m tries
-HasAllTries (Read m) tries = HasReadTries m tries
-HasAllTries _ tries = Unit {0}
-
 -- the machine has not asked for a step yet
 pub record Starts (v : ClientView) (c : Client) (run : Run) (then : Option Put) : Type 0 where
   pub works : Works v c run then
   pub none : c.running ≡ None
   pub ready : RunIsReady run (machine_call v c works.is_pass works.start) v.past None
-  pub tries : HasAllTries run v.tries
-  pub spent : HasSpent works.opening v.tries run
   pub few : (taken : ℕ) → length (taken_nodes v.past) ≤ taken → v.steps + left_of run then taken ≤ most_steps works.command v.tries taken
 
 -- the machine has answered
@@ -334,7 +313,6 @@ pub record Answered (v : ClientView) (c : Client) (run : Run) (then : Option Put
   pub works : Works v c run then
   pub none : c.running ≡ None
   pub answers : RunAnswers run (machine_call v c works.is_pass works.start) v.past ended
-  pub spent : HasSpentAll works.opening v.tries run
   -- the share is the client's again
   pub back : c.share ≡ share_behind run c.share
   pub few : (taken : ℕ) → length (taken_nodes v.past) ≤ taken → v.steps + then_left then ≤ most_steps works.command v.tries taken
@@ -343,14 +321,12 @@ pub record Answered (v : ClientView) (c : Client) (run : Run) (then : Option Put
 pub record Waits (v : ClientView) (c : Client) (running : Running) : Type 0 where
   pub works : Works v c running.run running.then
   pub waits : RunWaits running.run (machine_call v c works.is_pass works.start) v.past running.step
-  pub spent : HasSpent works.opening v.tries running.run
   pub few : (taken : ℕ) → length (taken_nodes v.past) ≤ taken → suc (v.steps + left_of running.run running.then taken) ≤ most_steps works.command v.tries taken
 
 -- the machine may be called with what its step has found
 pub record Hears (v : ClientView) (c : Client) (running : Running) (found : ℕ) : Type 0 where
   pub works : Works v c running.run running.then
   pub ready : RunIsReady running.run (machine_call v c works.is_pass works.start) v.past (Some found)
-  pub spent : HasSpent works.opening v.tries running.run
   pub few : (taken : ℕ) → length (taken_nodes v.past) ≤ taken → v.steps + left_of running.run running.then taken ≤ most_steps works.command v.tries taken
 
 -- the client's next call has not begun
@@ -411,10 +387,10 @@ HasToldMap v call (Some told) = HasReplied v.layout v.past v.start call told ⊎
 -- what an edit tells is what its own row has found, and a delete of an absent key has none; what an
 -- ordered read tells the map has replied
 abbrev pub Tells : ClientView → ℕ → Command → Answer → Type 0
-Tells v c (Map (InsertOf key value)) (MapAnswer (Value old)) = HasEdited v c key old
-Tells v c (Map (DeleteOf key)) (MapAnswer (Value (Some old))) = HasEdited v c key (Some old)
-Tells v c (Map (SuccessorOf key)) answer = HasToldMap v (Successor key) (reply_told answer)
-Tells v c (Map (RangeOf low high most)) answer = HasToldMap v (Range low high most) (reply_told answer)
+Tells v c (MapOf (InsertOf key value)) (MapAnswer (Value old)) = HasEdited v c key old
+Tells v c (MapOf (DeleteOf key)) (MapAnswer (Value (Some old))) = HasEdited v c key (Some old)
+Tells v c (MapOf (SuccessorOf key)) answer = HasToldMap v (Successor key) (reply_told answer)
+Tells v c (MapOf (RangeOf low high most)) answer = HasToldMap v (Range low high most) (reply_told answer)
 Tells v c command answer = Unit {0}
 
 -- the client's call is answered, and the answer is right

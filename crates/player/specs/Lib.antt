@@ -1,7 +1,6 @@
 pub mod Allowed
+pub mod Edits
 pub mod Moments
-pub mod EditRuns
-pub mod ReadRuns
 pub mod RunSteps
 pub mod RunKnown
 pub mod Lines

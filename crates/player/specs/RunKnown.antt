@@ -6,23 +6,25 @@ use Rattle.arena.specs.declared.limits.Mode.TheVariants.{Records, Tree}
 use Rattle.arena.specs.declared.step.Step.{Step}
 use Rattle.arena.specs.History.{History}
 use Rattle.arena.specs.Machines.{Call}
+use Rattle.arena.specs.Share.{Remaining}
+use Rattle.dict.specs.Calls.{call_in, share_of}
+use Rattle.dict.specs.DictKnown.{DictIsReady, DictWaits, DictAnswers}
+use Rattle.dict.specs.Known.{AsksFirst}
 use Rattle.prims.specs.Cells.{AllowsAll}
 use Rattle.prims.specs.Llx.Known.{LlxIsReady, LlxWaits, LlxAnswers}
 use Rattle.prims.specs.Vlx.Known.{VlxIsReady, VlxWaits, VlxAnswers}
 use Rattle.prims.specs.Put.Known.{PutIsReady, PutWaits, PutAnswers}
-use Rattle.arena.specs.Share.{Remaining}
-use Rattle.tree.specs.Get.Known.{GetIsReady, GetWaits, GetAnswers}
-use Rattle.updates.specs.declared.update.Updated.TheVariants.{Done as UpdateDone, Contended as UpdateContended, Full as UpdateFull}
 use Rattle.prims.specs.declared.llx.Llx.TheVariants.{Snapshot as LlxSnapshot, Finalized as LlxFinalized, Fail as LlxFail}
 use Rattle.prims.specs.declared.scx.Scx.TheVariants.{Done as ScxDone, Lost as ScxLost}
 use Rattle.prims.specs.declared.vlx.Vlx.TheVariants.{Same as VlxSame, Changed as VlxChanged}
-use Rattle.spelling.specs.declared.reply.Reply.TheVariants.{Value, Contended, Full}
 use Rattle.record.specs.declared.record.Answer.{Answer}
-use Rattle.record.specs.declared.record.Answer.TheVariants.{Snapshot, Finalized, Fail, Done, Lost, Same, Changed, Map}
-use Rattle.player.specs.EditRuns.{EditIsReady, EditWaits, EditAnswers, IsSameEdit, share_of}
-use Rattle.player.specs.ReadRuns.{ReadIsReady, ReadWaits, ReadAnswers, IsSameRead}
+use Rattle.record.specs.declared.record.Answer.TheVariants.{Snapshot, Finalized, Fail, Done, Lost, Same, Changed, Map as MapAnswer}
+use Rattle.spelling.specs.CallRules.{TakesNothing}
+use Rattle.spelling.specs.declared.request.Request.{Request}
+use Rattle.spelling.specs.declared.request.Request.TheVariants.{Range as RangeOf}
+use Rattle.player.specs.Allowed.{IsSmall, IsNumber}
 use Rattle.player.specs.declared.run.Run.{Run}
-use Rattle.player.specs.declared.run.Run.TheVariants.{Llx, Scx, Vlx, Edit, Get, Read}
+use Rattle.player.specs.declared.run.Run.TheVariants.{Llx, Scx, Vlx, Map}
 use Rattle.player.specs.declared.run.Ended.{Ended}
 use Rattle.player.specs.declared.run.Ended.TheVariants as ended
 
@@ -31,28 +33,32 @@ abbrev pub RunIsReady : Run → Call → History → Option ℕ → Type 0
 RunIsReady (Llx m) c h got = LlxIsReady AllowsAll m c h got
 RunIsReady (Scx m) c h got = PutIsReady AllowsAll m c h got
 RunIsReady (Vlx m) c h got = VlxIsReady m.snaps m.asked c h got
-RunIsReady (Edit m) c h got = EditIsReady m c h got
-RunIsReady (Get m) c h got = GetIsReady m c h got
-RunIsReady (Read m) c h got = ReadIsReady m c h got
+RunIsReady (Map m) c h got = DictIsReady IsNumber IsNumber m c h got
+
+-- it asks for a step before it answers: all do, but for a range that takes no pair
+abbrev pub RunAsksFirst : Run → Type 0
+RunAsksFirst (Map m) = AsksFirst m.run
+RunAsksFirst _ = Unit {0}
 
 -- the machine of a call waits for this step, as the one inside
 abbrev pub RunWaits : Run → Call → History → Step → Type 0
 RunWaits (Llx m) c h s = LlxWaits AllowsAll m c h s
 RunWaits (Scx m) c h s = PutWaits AllowsAll m c h s
 RunWaits (Vlx m) c h s = VlxWaits m.snaps m.asked c h s
-RunWaits (Edit m) c h s = EditWaits m c h s
-RunWaits (Get m) c h s = GetWaits m c h s
-RunWaits (Read m) c h s = ReadWaits m c h s
+RunWaits (Map m) c h s = DictWaits IsNumber IsNumber m c h s
 
 -- what the answer of the machine says, which is one of its own kind
 abbrev pub RunAnswers : Run → Call → History → Ended → Type 0
 RunAnswers (Llx m) c h (ended.Llx a) = LlxAnswers m c h a
 RunAnswers (Scx m) c h (ended.Scx a) = PutAnswers m c h a
 RunAnswers (Vlx m) c h (ended.Vlx a) = VlxAnswers m.snaps c h a
-RunAnswers (Edit m) c h (ended.Edit a) = EditAnswers m c h a
-RunAnswers (Get m) c h (ended.Get a) = GetAnswers m c h a
-RunAnswers (Read m) c h (ended.Read a) = ReadAnswers m c h a
+RunAnswers (Map m) c h (ended.Map a) = DictAnswers IsSmall (λ k. k) IsSmall (λ v. v) m c h a
 RunAnswers _ c h _ = ⊥
+
+-- the request is for no pair, whatever the map has
+abbrev pub IsForNothing : Request ℕ ℕ → Type 0
+IsForNothing (RangeOf low high most) = TakesNothing low high most
+IsForNothing _ = ⊥
 
 -- what the record says where a machine has answered so
 abbrev pub answer_of : Ended → Answer
@@ -63,35 +69,27 @@ answer_of (ended.Scx ScxDone) = Done
 answer_of (ended.Scx (ScxLost node scx)) = Lost node scx
 answer_of (ended.Vlx VlxSame) = Same
 answer_of (ended.Vlx (VlxChanged node scx)) = Changed node scx
-answer_of (ended.Edit (UpdateDone key value)) = Map (Value value)
-answer_of (ended.Edit (UpdateContended node scx)) = Map (Contended node scx)
-answer_of (ended.Edit (UpdateFull full)) = Map (Full full)
-answer_of (ended.Get value) = Map (Value value)
-answer_of (ended.Read reply) = Map reply
+answer_of (ended.Map reply) = MapAnswer reply
 
--- the two are machines of one kind, and of one call; and no more than one try is over between them
+-- the two are machines of one kind, and of one call
 abbrev pub IsSameMachine : Run → Run → Type 0
 IsSameMachine (Llx old) (Llx now) = now.node ≡ old.node
 IsSameMachine (Scx old) (Scx now) = (now.scx.scx ≡ old.scx.scx) × (now.scx.update ≡ old.scx.update) × (now.scx.call ≡ old.scx.call) × (now.value ≡ old.value)
 IsSameMachine (Vlx old) (Vlx now) = now.snaps ≡ old.snaps
-IsSameMachine (Edit old) (Edit now) = IsSameEdit old now
-IsSameMachine (Get old) (Get now) = now.key ≡ old.key
-IsSameMachine (Read old) (Read now) = IsSameRead old now
+IsSameMachine (Map old) (Map now) = (call_in now.run ≡ call_in old.run) × (now.tries ≡ old.tries)
 IsSameMachine _ _ = ⊥
 
 -- the mode in whose scripts the machine runs
 abbrev pub run_mode : Run → Mode
-run_mode (Edit m) = Tree
-run_mode (Get m) = Tree
-run_mode (Read m) = Tree
+run_mode (Map m) = Tree
 run_mode _ = Records
 
--- the share that the machine has, if it has one: an edit has its client's
+-- the share that the machine has, if it has one: a call of the map has its client's
 abbrev pub share_in : Run → Option Remaining
-share_in (Edit m) = Some (share_of m)
+share_in (Map m) = Some (share_of m.run)
 share_in _ = None
 
 -- the client's share once its machine has ended: what that had, or what the client held
 abbrev pub share_behind : Run → Option Remaining → Option Remaining
-share_behind (Edit m) had = Some (share_of m)
+share_behind (Map m) had = Some (share_of m.run)
 share_behind _ had = had

@@ -1,21 +1,21 @@
 //! A client of the player: what it owns and what it is in the middle of.
-ghost use Rattle.std.specs.Prelude.{◌≡◌, ℕ, ◌+◌, ◌<◌, ◌≤◌, length, map, IfOk};
+ghost use Rattle.std.specs.Prelude.{◌≡◌, ℕ, ◌+◌, ◌<◌, ◌≤◌, length, map, IfOk, MatchBool};
+ghost use Rattle.dict.specs.Calls.{AsksForPairs};
+ghost use Rattle.player.specs.RunKnown.{IsForNothing};
+ghost use Rattle.spelling.specs.Requests.{map_request};
 
-use crate::edit::Edit;
 use crate::kept::Kept;
 use crate::place::next_call;
-use crate::read::ReadRun;
 use crate::run::{Ended, Run};
 use arena::{Fresh, Full, Layout, NodeNo, PassNo, Resource, ScxNo, Share, Side, Step, Turn};
 use arrayvec::ArrayVec;
-use order::{RangeRun, SuccessorRun};
+use dict::DictRun;
 use places::Places;
 use prims::{Llx, LlxRun, PutRun, ScxRun, Snap, Snaps, Update, VlxRun};
 use record::{Answer, Finished};
 use script::{Call, Cell, Command};
 use spelling::{Reply, Request};
 use std::alloc::Global;
-use tree::{Delete, GetRun, Insert};
 
 /// What a `set` does once its LLX has given a snapshot.
 #[derive(Clone, Copy, Debug, PartialEq, Eq)]
@@ -44,12 +44,12 @@ pub(crate) enum NextAction {
 
 #[derive(Debug, Drop)]
 pub(crate) struct Client {
-    /// With what ordered reads grow.
+    /// With what calls of the map grow.
     alloc: Global,
     pass: PassNo,
     /// How often a call may try.
     tries: u32,
-    /// None while an edit runs, which has it.
+    /// None while a call of the map runs, which has it.
     share: Option<Share>,
     kept: Kept,
     /// Where in the script the call stands that runs or comes next.
@@ -66,7 +66,6 @@ impl Client {
     ghost use Rattle.script.specs.Commands.{mode_of, AsksForFewPairs};
     ghost use Rattle.arena.specs.declared.limits.Mode.TheVariants.{Records};
     ghost use Rattle.script.specs.declared.command.Command.TheVariants.{Scx as ScxCommand, Map as MapCommand};
-    ghost use Rattle.spelling.specs.declared.request.Request.TheVariants.{Range as RangeOf};
     ghost use Rattle.spelling.specs.Requests.{AsksForFew};
     ghost use Rattle.arena.specs.History.{History};
     ghost use Rattle.prims.specs.declared.snap.Snap.{Snap};
@@ -77,7 +76,6 @@ impl Client {
     ghost use Rattle.player.specs.declared.run.Ended.TheVariants.{Llx as LlxEnded};
     ghost use Rattle.player.specs.declared.client.Running.{Running};
     ghost use Rattle.arena.specs.declared.limits.Mode.TheVariants.{Tree};
-    ghost use Rattle.player.specs.EditRuns.{made_by, edit_command};
     ghost use Rattle.script.specs.declared.call.Call.{Call as ScriptCall};
     ghost use Rattle.arena.specs.Share.{IsFull, after_taking};
     ghost use Rattle.record.specs.declared.record.Line.{Line};
@@ -183,44 +181,17 @@ impl Client {
         }
     }
 
-    /// Begins a call of the map.
+    /// Begins a call of the map, which runs with the share; one for nothing answers at once.
     fn begin_request(&mut self, request: Request<u64, u64>) -> Option<Answer>
         requires { AsksForFew request }
         ensures { (v : ClientView) (began : Option ℕ) → IsSound v → 0 < v.tries → v.layout.mode ≡ Tree → Rests v self.old → IsUnbegun v began → command_of v self.old ≡ Some (MapCommand request) → BeginsOrRefuses v self.old.begin self.old self.new result }
     {
-        match request {
-            Request::Insert { key, value } => {
-                self.begin_edit(Edit::Insert(Insert { key, value }))
-            }
-            Request::Delete { key } => self.begin_edit(Edit::Delete(Delete { key })),
-            Request::Get { key } => self.run(Run::Get(GetRun::new(key)), None),
-            Request::Successor { key } => {
-                let run = SuccessorRun::new(self.alloc, key, self.tries);
-                self.run(Run::Read(ReadRun::Successor(run)), None)
-            }
-            Request::Range { low, high, most } => self.begin_range(low, high, most),
-        }
-    }
-
-    /// Gives the share to an edit, which runs with that.
-    fn begin_edit(&mut self, edit: Edit) -> Option<Answer>
-        ensures { (v : ClientView) (began : Option ℕ) → IsSound v → 0 < v.tries → v.layout.mode ≡ Tree → Rests v self.old → IsUnbegun v began → command_of v self.old ≡ Some (edit_command (made_by edit)) → BeginsOrRefuses v self.old.begin self.old self.new result }
-    {
-        let share = self.share.take()?;
-        let run = edit.run(share, self.tries, self.number);
-        self.run(Run::Edit(run), None)
-    }
-
-    /// Begins a range; one that takes nothing answers at once.
-    fn begin_range(&mut self, low: u64, high: u64, most: u32) -> Option<Answer>
-        requires { most ≤ 64 }
-        ensures { (v : ClientView) (began : Option ℕ) → IsSound v → 0 < v.tries → v.layout.mode ≡ Tree → Rests v self.old → IsUnbegun v began → command_of v self.old ≡ Some (MapCommand (RangeOf low high most)) → BeginsOrRefuses v self.old.begin self.old self.new result }
-    {
-        if most == 0 || high < low {
+        if is_for_nothing(request) {
             return Some(Answer::Map(Reply::Pairs(Vec::new(self.alloc))));
         }
-        let run = RangeRun::new(self.alloc, low, high, most as usize, self.tries);
-        self.run(Run::Read(ReadRun::Range(run)), None)
+        let share = self.share.take()?;
+        let run = DictRun::new(Some(self.alloc), request, share, self.tries, self.number);
+        self.run(Run::Map(run), None)
     }
 
     /// Takes the snapshots and the records of an `scx`, if they are there.
@@ -262,7 +233,7 @@ impl Client {
         self.run(Run::Scx(PutRun::new(value, scx)), None)
     }
 
-    /// Takes a node and an SCX-record of the share. No edit runs.
+    /// Takes a node and an SCX-record of the share. No call of the map runs.
     fn take(&mut self) -> Result<(Fresh, ScxNo), Full>
         ensures same { self.new ≡ record self.old { share = self.new.share } }
         ensures records { IfOk result (λ r. (r.0 ≡ (held self.old).next_node) × (r.1.0 ≡ (held self.old).next_scx)) }
@@ -477,6 +448,16 @@ impl Client {
             Command::Map(Request::Get { key }) => places.greatest(key, value, self.begin, turn),
             _ => None,
         }
+    }
+}
+
+/// Whether it is a range that takes no pair, whatever the map has.
+fn is_for_nothing(request: Request<u64, u64>) -> bool
+    ensures { MatchBool result (IsForNothing request) (AsksForPairs (map_request request)) }
+{
+    match request {
+        Request::Range { low, high, most } => most == 0 || high < low,
+        _ => false,
     }
 }
 

@@ -4,7 +4,7 @@ ghost use Rattle.player.specs.declared.client.Client.{Client};
 ghost use Rattle.places.specs.Entries.{value_left};
 ghost use Rattle.places.specs.Changed.{changed_key};
 ghost use Rattle.player.specs.ClientView.{client_view, Rests};
-ghost use Rattle.player.specs.EditRuns.{edit_command};
+ghost use Rattle.player.specs.Edits.{edit_command};
 ghost use Rattle.spelling.specs.OrderedMap.{MapEdit, edit_key};
 
 use crate::client::{Client, NextAction};

@@ -2,13 +2,11 @@
 #![tactic(auto)]
 
 mod client;
-mod edit;
 mod interleaving;
 mod kept;
 mod lines;
 mod place;
 mod player;
-mod read;
 mod run;
 
 pub use player::{Player, play};

@@ -1,33 +1,30 @@
-use Rattle.std.proofs.Common.{arith, ℕ, sym, ◌∙◌, ap, Some}
-use Rattle.script.specs.declared.command.Command.TheVariants.{Map}
-use Rattle.spelling.specs.declared.request.Request.{Request}
-use Rattle.spelling.specs.declared.request.Request.TheVariants.{Successor as SuccessorCommand}
-use Rattle.prims.proofs.Lemmas.{all_over}
-use Rattle.tree.proofs.Lemmas.{get_ready_first}
-use Rattle.player.specs.ClientView.{held, machine_call}
-use Rattle.player.specs.declared.read.ReadRun.TheVariants.{Successor as NextOf}
-use Rattle.player.proofs.Shapes.{as_tree}
-use Rattle.player.proofs.Begins.{get_starts, read_starts, successor_ready}
+use Rattle.std.proofs.Common.{◌∙◌, sym, ap, refl, Some}
+use Rattle.arena.specs.Share.{Remaining}
+use Rattle.dict.specs.Calls.{AsksForPairs}
+use Rattle.spelling.specs.Requests.{map_request}
+use Rattle.player.specs.RunKnown.{IsForNothing}
+use Rattle.player.proofs.Begins.{map_begins, map_refuses, map_starts}
 use Rattle.player.proofs.client.Client.begin_request.Goals as goal
 
-pub returns-in-Insert : goal.returns-in-Insert
-returns-in-Insert c v began sound some tree r u is = c.begin_edit.ensures v began sound some tree r u (is ∙ ap (λ (k : Request ℕ ℕ). Some (Map k)) c.in-Insert.is)
+pub returns-then-is_for_nothing : goal.returns-then-is_for_nothing
+returns-then-is_for_nothing c v began sound some tree r u is =
+    let nothing : IsForNothing c.args.request = rw c.if-is_for_nothing.true at c.is_for_nothing.ensures in
+    (record { pass = refl; number = refl; next = refl }, refl, map_refuses v began c.args.self.now c.args.request c.new.result r u is nothing c.new.ensures.items)
 
-pub returns-in-Delete : goal.returns-in-Delete
-returns-in-Delete c v began sound some tree r u is = c.begin_edit-in-Delete.ensures v began sound some tree r u (is ∙ ap (λ (k : Request ℕ ℕ). Some (Map k)) c.in-Delete.is)
-
-pub returns-in-Get : goal.returns-in-Get
-returns-in-Get c v began sound some tree r u is =
-    c.run.ensures.begins v sound (get_starts v began _ c.new.result c.in-Get.key sound tree r u c.new.ensures.key c.new.ensures.start (get_ready_first c.new.result (machine_call v c.args.self.now r.stands.is_pass v.past) (tree, as_tree v.layout v.past tree sound) (omega (arith, c.new.ensures.key)) (all_over v.layout v.past c.args.self.now.pass.0 (held c.args.self.now) _ _ r.holds.share r.holds.over) c.new.ensures.start c.new.ensures.root c.new.ensures.goal) (is ∙ ap (λ (k : Request ℕ ℕ). Some (Map k)) c.in-Get.is))
-
-pub returns-in-Successor : goal.returns-in-Successor
-returns-in-Successor c v began sound some tree r u is =
+pub returns : goal.returns
+returns c v began sound some tree r u is =
     let new = c.new-run.ensures in
-    (c.run-in-Successor.ensures.begins v sound (read_starts v began _ (NextOf c.new-run.result) (Map (SuccessorCommand c.in-Successor.key)) sound tree r u new.key
-    (successor_ready v _ c.new-run.result sound tree some r (omega (arith, new.key)) new.snaps new.start (rw (sym r.stands.tries) new.tries) (new.limit ∙ r.stands.tries))
-    (rw (sym r.stands.tries) new.tries) (new.limit ∙ r.stands.tries)
-    (λ taken. rw (sym r.stands.tries) (new.bound taken (rw (sym r.stands.tries) at some)))
-    (is ∙ ap (λ (k : Request ℕ ℕ). Some (Map k)) c.in-Successor.is)))
-
-pub returns-in-Range : goal.returns-in-Range
-returns-in-Range c v began sound some tree r u is = c.begin_range.ensures v began sound some tree r u (is ∙ ap (λ (k : Request ℕ ℕ). Some (Map k)) c.in-Range.is)
+    let had = c.in_ok-share.ensures in
+    let asks : AsksForPairs (map_request c.args.request) = rw c.if-is_for_nothing.false at c.is_for_nothing.ensures in
+    map_begins v c.args.self.now c.run.new.self c.new-run.result c.take.new.self c.run.result had.after
+    (map_starts v began c.args.self.now c.new-run.result c.args.request sound tree r u c.requires asks
+    record {
+      called = new.call;
+      typed = new.typed;
+      share = ap (λ (s : Remaining). Some s) new.share ∙ had.value;
+      tries = new.tries ∙ r.stands.tries;
+      fresh = rw (sym r.stands.tries) (new.fresh (rw r.stands.tries some));
+      steps = λ nodes. rw (sym r.stands.tries) (new.steps nodes (rw r.stands.tries some));
+    }
+    is)
+    (c.run.ensures.begins v sound)

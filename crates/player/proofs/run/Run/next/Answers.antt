@@ -4,11 +4,10 @@ use Rattle.prims.specs.Cells.{AllowsAll}
 use Rattle.prims.specs.Llx.Known.{LlxIsReady}
 use Rattle.prims.specs.Put.Known.{PutIsReady}
 use Rattle.prims.specs.Vlx.Known.{VlxIsReady}
-use Rattle.tree.specs.Get.Known.{GetIsReady}
-use Rattle.tree.specs.Get.Laws.{get_told}
-use Rattle.player.specs.EditRuns.{EditIsReady}
-use Rattle.player.specs.ReadRuns.{ReadIsReady}
-use Rattle.player.proofs.Shapes.{as_cells, as_tree}
+use Rattle.dict.specs.DictKnown.{DictIsReady}
+use Rattle.dict.specs.DictLaws.{dict_told}
+use Rattle.player.specs.Allowed.{IsNumber}
+use Rattle.player.proofs.Shapes.{as_cells, as_numbers}
 use Rattle.player.proofs.run.Run.next.Goals as goal
 
 pub returns-in-Ask-clause-turn : goal.returns-in-Ask-clause-turn
@@ -57,30 +56,24 @@ pub returns-in-Ask-next-2-clause-nearer : goal.returns-in-Ask-next-2-clause-near
 returns-in-Ask-next-2-clause-nearer c d h nodes mode run ready few = rw c.in-Vlx.is (c.in-Ask-next-2.ensures.nearer nodes tt)
 
 pub returns-in-Done-next-2-clause-begins : goal.returns-in-Done-next-2-clause-begins
-returns-in-Done-next-2-clause-begins c none d h ready =
+returns-in-Done-next-2-clause-begins c none asks d h ready =
     let r : VlxIsReady c.in-Vlx.run'.snaps c.in-Vlx.run'.asked d h None = rw c.in-Vlx.is at ready in
     c.in-Done-next-2.ensures.begins none tt d h r
 
+pub returns-in-Ask-next-3-clause-turn : goal.returns-in-Ask-next-3-clause-turn
+returns-in-Ask-next-3-clause-turn c d h mode run ready =
+    let tree : d.layout.mode ≡ Tree = rw c.in-Map.is at mode in
+    let r : DictIsReady IsNumber IsNumber c.in-Map.run' d h c.args.got = rw c.in-Map.is at ready in
+    c.in-Ask-next-3.ensures.turn d h (as_numbers d.layout h tree run) r
+
+pub returns-in-Done-next-3-clause-turn : goal.returns-in-Done-next-3-clause-turn
+returns-in-Done-next-3-clause-turn c d h mode run ready =
+    let tree : d.layout.mode ≡ Tree = rw c.in-Map.is at mode in
+    let r : DictIsReady IsNumber IsNumber c.in-Map.run' d h c.args.got = rw c.in-Map.is at ready in
+    c.in-Done-next-3.ensures.turn d h (as_numbers d.layout h tree run) r
+
 pub returns-in-Ask-next-3-clause-nearer : goal.returns-in-Ask-next-3-clause-nearer
 returns-in-Ask-next-3-clause-nearer c d h nodes mode run ready few =
-    let tree : d.layout.mode ≡ Tree = rw c.in-Edit.is at mode in
-    let r : EditIsReady c.in-Edit.run' d h c.args.got = rw c.in-Edit.is at ready in
-    rw c.in-Edit.is (c.in-Ask-next-3.ensures.nearer d h nodes (as_tree d.layout h tree run) r few)
-
-pub returns-in-Ask-next-4-clause-nearer : goal.returns-in-Ask-next-4-clause-nearer
-returns-in-Ask-next-4-clause-nearer c d h nodes mode run ready few =
-    let tree : d.layout.mode ≡ Tree = rw c.in-Get.is at mode in
-    let r : GetIsReady c.in-Get.run' d h c.args.got = rw c.in-Get.is at ready in
-    rw c.in-Get.is (c.in-Ask-next-4.ensures.nearer nodes (get_told c.in-Get.run' d h c.args.got nodes (as_tree d.layout h tree run) r few))
-
-pub returns-in-Ask-next-5-clause-nearer : goal.returns-in-Ask-next-5-clause-nearer
-returns-in-Ask-next-5-clause-nearer c d h nodes mode run ready few =
-    let tree : d.layout.mode ≡ Tree = rw c.in-Read.is at mode in
-    let r : ReadIsReady c.in-Read.run' d h c.args.got = rw c.in-Read.is at ready in
-    rw c.in-Read.is (c.in-Ask-next-5.ensures.nearer d h nodes (as_tree d.layout h tree run) r few)
-
-pub returns-in-Done-next-5-clause-turn : goal.returns-in-Done-next-5-clause-turn
-returns-in-Done-next-5-clause-turn c d h mode run ready =
-    let tree : d.layout.mode ≡ Tree = rw c.in-Read.is at mode in
-    let r : ReadIsReady c.in-Read.run' d h c.args.got = rw c.in-Read.is at ready in
-    c.in-Done-next-5.ensures.turn d h (as_tree d.layout h tree run) r
+    let tree : d.layout.mode ≡ Tree = rw c.in-Map.is at mode in
+    let r : DictIsReady IsNumber IsNumber c.in-Map.run' d h c.args.got = rw c.in-Map.is at ready in
+    rw c.in-Map.is (c.in-Ask-next-3.ensures.nearer nodes (dict_told IsNumber IsNumber c.in-Map.run' d h c.args.got nodes (as_numbers d.layout h tree run) r few))

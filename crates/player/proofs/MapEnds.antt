@@ -1,0 +1,162 @@
+-- How a call of the map ends: what its reply says of the call.
+use Rattle.std.proofs.Common.{◌≡◌, ◌⊎◌, ℕ, ◌<◌, inl, inr, ⊎_elim, true, false, Option, Some, None, refl, ap, subst, arith}
+use Rattle.arena.specs.declared.fault.Full.{Full as FullOf}
+use Rattle.arena.specs.Machines.{Call as MachineCall}
+use Rattle.arena.specs.Share.{Remaining}
+use Rattle.spelling.specs.CallRules.{insert_nodes, delete_nodes, MayReply, form_of}
+use Rattle.dict.specs.Calls.{AsksForPairs}
+use Rattle.dict.specs.DictKnown.{DictRefuses}
+use Rattle.dict.specs.Says.{HasChanged, HasLost, HasRead, HasRunOut, HasTooLittle, HasTold, Tells as TellsOf}
+use Rattle.spelling.specs.OrderedMap.{MapCall, MapEdit, MapReply, OneValue, Edit, Get, edit_key, get, Insert as PutEdit, Delete as TakeEdit}
+use Rattle.spelling.specs.Paths.{IsAnswerAt}
+use Rattle.spelling.specs.Replies.{number_reply}
+use Rattle.spelling.specs.Requests.{map_request}
+use Rattle.spelling.specs.declared.reply.Reply.{Reply}
+use Rattle.spelling.specs.declared.reply.Reply.TheVariants.{Value, Pair, Pairs, Contended, Full, NoMemory}
+use Rattle.spelling.specs.declared.request.Request.{Request}
+use Rattle.spelling.specs.declared.request.Request.TheVariants.{Insert as InsertOf, Delete as DeleteOf, Get as GetOf, Successor as SuccessorOf, Range as RangeOf}
+use Rattle.updates.specs.Known.{RestsWith, IsUntouched, HasMade}
+use Rattle.updates.specs.Tries.{HasEnteredNone}
+use Rattle.record.specs.Answers.{HasItsEntry, HasLostAllTries}
+use Rattle.record.specs.CommandRules.{MayAnswerAfterStep, enters, IsRight}
+use Rattle.record.specs.Edits.{HadAtKey}
+use Rattle.record.specs.Shares.{HasTooFew, HasTooFewToTry, WasBlocked}
+use Rattle.record.specs.declared.record.Answer.{Answer}
+use Rattle.record.specs.declared.record.Answer.TheVariants.{Map as MapAnswer}
+use Rattle.record.proofs.Lemmas.{value_told}
+use Rattle.script.specs.declared.command.Command.{Command}
+use Rattle.script.specs.declared.command.Command.TheVariants.{Map as MapOf}
+use Rattle.places.specs.Replied.{HasReplied}
+use Rattle.player.specs.declared.client.Client.{Client}
+use Rattle.player.specs.ClientView.{ClientView, IsOwnWin, IsWonSince, HasEdited, Tells, machine_call}
+use Rattle.player.proofs.Left.{short_left}
+
+-- the answer is one that the command gives, it is right, and an update of the call has won if it
+-- says so
+pub record IsRightEnd (v : ClientView) (c : ℕ) (command : Command) (answer : Answer) : Type 0 where
+  pub answers : MayAnswerAfterStep command answer
+  pub right : IsRight v.layout v.tries c v.past v.start v.linked command answer
+  pub entry : HasItsEntry (enters command answer) v.won
+  pub tells : Tells v c command answer
+
+pub entered_some : (won : Option ℕ) (turn : ℕ) → won ≡ Some turn → HasItsEntry true won
+entered_some (Some k) turn e = tt
+entered_some None turn e = cc
+
+pub entered_none : (won : Option ℕ) → won ≡ None → HasItsEntry false won
+entered_none None e = tt
+entered_none (Some k) e = cc
+
+-- an insert needs as many nodes as its rules say
+insert_many : (old : Option ℕ) → insert_nodes old ≡ insert_nodes old
+insert_many None = refl
+insert_many (Some v) = refl
+
+-- a delete needs some where the key has a value
+there : (old : Option ℕ) → 0 < delete_nodes old → (v : ℕ) × (old ≡ Some v)
+there None some = absurd (omega (arith, some))
+there (Some v) some = (v, refl)
+
+module _ (v : ClientView) (c : Client) (is_pass : c.pass.0 < v.layout.passes) (won : IsWonSince v c.pass.0) where
+  abbrev call : MachineCall
+  call = machine_call v c is_pass v.start
+
+  -- a call that has entered nothing has no turn in which an update has won
+  unwon : HasEnteredNone v.layout c.pass.0 v.past v.start → v.won ≡ None
+  unwon none = ⊎_elim (λ e. e) (λ y. absurd (none y.0 y.1 y.2 y.3.within y.3.since y.3.wins y.3.own)) won.no
+
+  -- A change
+
+  -- the call has made this edit
+  has_made : (e : MapEdit) (old : Option ℕ) → HasChanged call v.past (Edit e) (OneValue old) → HasMade e call v.past c.number old
+  has_made e old x =
+      let same : x.edit ≡ e = let d : Edit e ≡ Edit x.edit = x.is_edit in cc in
+      let told : x.old ≡ old = let d : OneValue old ≡ OneValue x.old = x.tells in cc in
+      subst (λ o. HasMade e call v.past c.number o) told (subst (λ d. HasMade d call v.past c.number x.old) same x.made)
+
+  -- so it tells what its own row has found
+  changed : (e : MapEdit) (old : Option ℕ) → HasChanged call v.past (Edit e) (OneValue old) → ((turn : ℕ) × (v.won ≡ Some turn)) × HasEdited v c.pass.0 (edit_key e) old
+  changed e old x =
+      let made = has_made e old x in
+      let win : IsOwnWin v c.pass.0 made.row made.before made.scx = record { within = made.within; since = made.since; wins = made.wins; own = made.own } in
+      (won.yes made.row made.before made.scx win, record { row = made.row; before = made.before; scx = made.scx; win = win; told = made.told })
+
+  -- A reading
+
+  -- the value of a reply
+  abbrev value_in : MapReply → Option ℕ
+  value_in (OneValue told) = told
+  value_in _ = None
+
+  -- the map had this at a moment of the call
+  answer_at : (key : ℕ) (old : Option ℕ) → HasRead call v.past (Get key) (OneValue old) → IsAnswerAt v.layout v.past v.start key old
+  answer_at key old x = record { moment = x.moment; within = x.within; since = x.since; map = x.map; spelled = x.spelled; gives = ap value_in x.gives }
+
+  had_at_key : (key : ℕ) (old : Option ℕ) → HasRead call v.past (Edit (TakeEdit key)) (OneValue old) → HadAtKey v.layout v.past v.start key old
+  had_at_key key old x =
+      let own = x.own tt in
+      (own.row, own.before, own.since, record { moment = x.moment; within = x.within; since = own.within; map = x.map; spelled = x.spelled; gives = ap value_in x.gives })
+
+  -- it has replied so
+  replied : (of : MapCall) (told : MapReply) → AsksForPairs of → HasRead call v.past of told → HasReplied v.layout v.past v.start of told
+  replied of told asks x = let own = x.own asks in record { row = own.row; before = own.before; since = own.since; moment = x.moment; behind = own.within; within = x.within; map = x.map; spelled = x.spelled; replies = x.gives }
+
+  -- A refusal
+
+  lost : (n s : ℕ) → HasLost call v.past v.tries n s → HasLostAllTries v.layout v.tries c.pass.0 v.past v.start n s
+  lost n s x = (x.way.others, x.all.lost)
+
+  -- a share that is too small for the next try was so for the first, or a try was lost
+  too_few : (of : MapCall) (share : Remaining) (full : FullOf) → RestsWith call v.past share → HasRunOut call v.past of share full → (many : ℕ) → HasTooLittle many share full.what full.left → HasTooFewToTry v.layout c.pass.0 v.past v.start many full.what full.left
+  too_few of share full rests x many short = (short_left v.layout v.past c.pass.0 share rests.share many full.what full.left short, from x.first)
+    where
+      from : IsUntouched call v.past share → HasTooFew v.layout c.pass.0 v.start many full.what full.left ⊎ WasBlocked v.layout c.pass.0 v.past v.start
+      from (inl at_first) = inl (short_left v.layout v.start c.pass.0 share at_first.share many full.what full.left short)
+      from (inr (node, scx, way)) = inr (node, scx, (way.others, way.in_the_way))
+
+  -- the map had at the key what the share has too little for
+  had_then : (of : MapCall) (share : Remaining) (full : FullOf) (key : ℕ) → (x : HasRunOut call v.past of share full) → HadAtKey v.layout v.past v.start key (get key x.map)
+  had_then of share full key x = (x.own.row, x.own.before, x.own.since, record { moment = x.moment; within = x.within; since = x.own.within; map = x.map; spelled = x.spelled; gives = refl })
+
+  insert_full : (key value : ℕ) (share : Remaining) (full : FullOf) → RestsWith call v.past share → HasRunOut call v.past (Edit (PutEdit key value)) share full → IsRightEnd v c.pass.0 (MapOf (InsertOf key value)) (MapAnswer (Full full))
+  insert_full key value share full rests x = record {
+    answers = tt;
+    right = (get key x.map, had_then (Edit (PutEdit key value)) share full key x, subst (λ n. HasTooFewToTry v.layout c.pass.0 v.past v.start n full.what full.left) (insert_many (get key x.map)) (too_few (Edit (PutEdit key value)) share full rests x (insert_nodes (get key x.map)) x.short));
+    entry = entered_none v.won (unwon x.none);
+    tells = tt;
+  }
+
+  delete_full : (key : ℕ) (share : Remaining) (full : FullOf) → RestsWith call v.past share → HasRunOut call v.past (Edit (TakeEdit key)) share full → IsRightEnd v c.pass.0 (MapOf (DeleteOf key)) (MapAnswer (Full full))
+  delete_full key share full rests x =
+      let old = there (get key x.map) x.some in
+      record {
+        answers = tt;
+        right = (old.0, subst (HadAtKey v.layout v.past v.start key) old.1 (had_then (Edit (TakeEdit key)) share full key x), subst (λ o. HasTooFewToTry v.layout c.pass.0 v.past v.start (delete_nodes o) full.what full.left) old.1 (too_few (Edit (TakeEdit key)) share full rests x (delete_nodes (get key x.map)) x.short));
+        entry = entered_none v.won (unwon x.none);
+        tells = tt;
+      }
+
+  -- what is told of one value
+  one_told : (of : MapCall) (old : Option ℕ) → TellsOf call v.past of (number_reply (Value old)) → HasTold call v.past of (OneValue old)
+  one_told of old x = subst (TellsOf call v.past of) (value_told old) x
+
+  -- a delete that tells a value has changed the map, and one that tells none has read it
+  deleted : (key : ℕ) (old : Option ℕ) → HasTold call v.past (Edit (TakeEdit key)) (OneValue old) → IsRightEnd v c.pass.0 (MapOf (DeleteOf key)) (MapAnswer (Value old))
+  deleted key None x = record { answers = tt; right = had_at_key key None x; entry = entered_none v.won (unwon x.none); tells = tt }
+  deleted key (Some old) x = let y = changed (TakeEdit key) (Some old) x in record { answers = tt; right = tt; entry = entered_some v.won y.0.0 y.0.1; tells = y.1 }
+
+  pub map_ends : (r : Request ℕ ℕ) (a : Reply ℕ ℕ) (share : Remaining) → AsksForPairs (map_request r) → RestsWith call v.past share → MayReply (map_request r) (form_of a) → TellsOf call v.past (map_request r) (number_reply a) → DictRefuses call v.past (map_request r) share v.tries a → IsRightEnd v c.pass.0 (MapOf r) (MapAnswer a)
+  map_ends (InsertOf key value) (Value old) share asks rests form tells why = let y = changed (PutEdit key value) old (one_told (Edit (PutEdit key value)) old tells) in record { answers = tt; right = tt; entry = entered_some v.won y.0.0 y.0.1; tells = y.1 }
+  map_ends (InsertOf key value) (Contended node scx) share asks rests form tells why = record { answers = tt; right = lost node.0 scx.0 why; entry = entered_none v.won (unwon why.none); tells = tt }
+  map_ends (InsertOf key value) (Full full) share asks rests form tells why = insert_full key value share full rests why
+  map_ends (DeleteOf key) (Value old) share asks rests form tells why = deleted key old (one_told (Edit (TakeEdit key)) old tells)
+  map_ends (DeleteOf key) (Contended node scx) share asks rests form tells why = record { answers = tt; right = lost node.0 scx.0 why; entry = entered_none v.won (unwon why.none); tells = tt }
+  map_ends (DeleteOf key) (Full full) share asks rests form tells why = delete_full key share full rests why
+  map_ends (GetOf key) (Value old) share asks rests form tells why = let y = one_told (Get key) old tells in record { answers = tt; right = answer_at key old y; entry = entered_none v.won (unwon y.none); tells = tt }
+  map_ends (SuccessorOf key) (Pair found) share asks rests form tells why = record { answers = tt; right = tt; entry = entered_none v.won (unwon tells.none); tells = inl (replied (map_request (SuccessorOf key)) _ asks tells) }
+  map_ends (SuccessorOf key) (Contended node scx) share asks rests form tells why = record { answers = tt; right = lost node.0 scx.0 why; entry = entered_none v.won (unwon why.none); tells = tt }
+  map_ends (SuccessorOf key) NoMemory share asks rests form tells why = record { answers = tt; right = tt; entry = entered_none v.won (unwon why.1); tells = tt }
+  map_ends (RangeOf low high most) (Pairs found) share asks rests form tells why = record { answers = tt; right = tt; entry = entered_none v.won (unwon tells.none); tells = inl (replied (map_request (RangeOf low high most)) _ asks tells) }
+  map_ends (RangeOf low high most) (Contended node scx) share asks rests form tells why = record { answers = tt; right = lost node.0 scx.0 why; entry = entered_none v.won (unwon why.none); tells = tt }
+  map_ends (RangeOf low high most) NoMemory share asks rests form tells why = record { answers = tt; right = tt; entry = entered_none v.won (unwon why.1); tells = tt }
+  map_ends r a share asks rests form tells why = absurd form
