@@ -126,19 +126,19 @@ taken_few lay c most_scx most now start old left since began share few each = re
     few_nodes = nodes_for_each most old.nodes left.nodes old.scx left.scx (left.next_scx - old.next_scx) (let a = began.to_scx in let b = share.to_scx in omega (arith, a, b, less)) each
 
 -- so a call of the map has taken what its tries may
-taken_tries : (c : Call) (h : History) (call : MapCall) (tries : ℕ) (left : Remaining) → Extends h c.start → RestsWith c h left → HasSpent c call tries left → HasTakenAtMost c.layout c.pass h c.start (most_scx call * tries) (most_nodes call)
-taken_tries c h call tries left since rests spent = taken_few c.layout c.pass (most_scx call * tries) (most_nodes call) h c.start spent.left left since spent.first.share rests.share spent.scx spent.each
+taken_tries : (c : Call) (h : History) (call : MapCall) (tries : ℕ) (left : Remaining) → Extends h c.start → RestsWith c h left → HasSpent c call tries left → HasTakenAtMost c.layout c.pass h c.start (most_scx call tries) (most_nodes call)
+taken_tries c h call tries left since rests spent = taken_few c.layout c.pass (most_scx call tries) (most_nodes call) h c.start spent.left left since spent.first.share rests.share spent.scx spent.each
 
 -- and that is what its command may
 pub map_took : (c : Call) (h : History) (request : Request ℕ ℕ) (tries : ℕ) (left : Remaining) → Extends h c.start → RestsWith c h left → HasSpent c (map_request request) tries left → HasTakenFew c.layout tries c.pass h c.start (MapOf request)
 map_took c h request tries left since rests spent = go request (taken_tries c h (map_request request) tries left since rests spent)
   where
-    go : (r : Request ℕ ℕ) → HasTakenAtMost c.layout c.pass h c.start (most_scx (map_request r) * tries) (most_nodes (map_request r)) → HasTakenFew c.layout tries c.pass h c.start (MapOf r)
-    go (InsertOf key value) x = subst (λ (n : ℕ). HasTakenAtMost c.layout c.pass h c.start n 3) (let e : 1 * tries ≡ tries = omega arith in e) x
-    go (DeleteOf key) x = subst (λ (n : ℕ). HasTakenAtMost c.layout c.pass h c.start n 1) (let e : 1 * tries ≡ tries = omega arith in e) x
-    go (GetOf key) x = subst (λ (n : ℕ). HasTakenAtMost c.layout c.pass h c.start n 0) (let e : 0 * tries ≡ 0 = omega arith in e) x
-    go (SuccessorOf key) x = subst (λ (n : ℕ). HasTakenAtMost c.layout c.pass h c.start n 0) (let e : 0 * tries ≡ 0 = omega arith in e) x
-    go (RangeOf low high most) x = subst (λ (n : ℕ). HasTakenAtMost c.layout c.pass h c.start n 0) (let e : 0 * tries ≡ 0 = omega arith in e) x
+    go : (r : Request ℕ ℕ) → HasTakenAtMost c.layout c.pass h c.start (most_scx (map_request r) tries) (most_nodes (map_request r)) → HasTakenFew c.layout tries c.pass h c.start (MapOf r)
+    go (InsertOf key value) x = x
+    go (DeleteOf key) x = x
+    go (GetOf key) x = x
+    go (SuccessorOf key) x = x
+    go (RangeOf low high most) x = x
 
 -- and at the call's begin that is nothing
 pub taken_none : (v : ClientView) (c : ℕ) (hand : Hand) → v.start ≡ v.past → HasTaken v c hand
