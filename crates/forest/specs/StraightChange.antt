@@ -6,7 +6,7 @@ use Rattle.arena.specs.declared.step.Step.{Step}
 use Rattle.arena.specs.declared.step.Access.TheVariants.{Load, Store}
 use Rattle.arena.specs.declared.step.Kind.TheVariants.{Fill, LoadAllFrozen}
 use Rattle.arena.specs.declared.word.ScxWord.{ScxWord}
-use Rattle.arena.specs.declared.word.ScxWord.TheVariants.{AllFrozen}
+use Rattle.arena.specs.declared.word.ScxWord.TheVariants.{AllFrozen, Plan, Member, Seen, Call as CallWord}
 use Rattle.arena.specs.Words.{scx}
 use Rattle.arena.specs.History.{History}
 use Rattle.arena.specs.Machines.{Call, IsRun}
@@ -16,7 +16,12 @@ use Rattle.prims.specs.declared.scx.ScxRun.{ScxRun}
 use Rattle.prims.specs.declared.snap.Snap.{Snap}
 use Rattle.forest.specs.declared.straight.changing.Change.{Change}
 use Rattle.forest.specs.CallKinds.{Calls}
-use Rattle.forest.specs.Inside.{Inner, Inside}
+use Rattle.forest.specs.Inside.{Inner, Inside, InnerWaits}
+use Rattle.arena.specs.declared.number.MemberIndex.{MemberIndex}
+use Rattle.arena.specs.MemberIndex.{member_index}
+use Rattle.prims.specs.Snap.{snap_at}
+use Rattle.prims.specs.declared.scx.ScxAt.TheVariants.{Plan as AtPlan, Member as AtMember, Seen as AtSeen, Call as AtCall}
+use Rattle.forest.specs.declared.view.SeatedPass.{SeatedPass}
 
 -- the run of SCX over these snapshots that makes this change and stands at a place
 abbrev pub changing_at : List Snap → Change → ScxAt → ScxRun
@@ -42,3 +47,20 @@ scx_inside inner = record {
 -- a call of a machine that makes an SCX
 abbrev pub Changer : {M : Type 0} → (Layout → History → ℕ → Type 0) → Calls M → Type 0
 Changer inner o = Inside o (scx_inside inner)
+
+module _ {M : Type 0} {inner : Layout → History → ℕ → Type 0} {o : Calls M} (k : Changer inner o) (ps : List SeatedPass) (snaps : List Snap) (change : Change) where
+  -- its SCX waits for the fill of its plan
+  abbrev pub FillsPlan : Type 0
+  FillsPlan = InnerWaits k ps (changing_at snaps change AtPlan) (scx_fill change.scx Plan change.plan.0)
+
+  -- for that of the node of this place
+  abbrev pub FillsMember : MemberIndex → Type 0
+  FillsMember j = InnerWaits k ps (changing_at snaps change (AtMember j)) (scx_fill change.scx (Member (member_index j)) (snap_at snaps (member_index j)).node.0)
+
+  -- for that of what the info of the node of this place was
+  abbrev pub FillsSeen : MemberIndex → Type 0
+  FillsSeen j = InnerWaits k ps (changing_at snaps change (AtSeen j)) (scx_fill change.scx (Seen (member_index j)) (snap_at snaps (member_index j)).scx.0)
+
+  -- for that of the number of its call
+  abbrev pub FillsCall : Type 0
+  FillsCall = InnerWaits k ps (changing_at snaps change AtCall) (scx_fill change.scx CallWord change.call)

@@ -3,11 +3,18 @@ use Rattle.std.specs.Prelude.{◌≡◌, ℕ, List, Some}
 use Rattle.arena.specs.declared.layout.Layout.{Layout}
 use Rattle.arena.specs.History.{History}
 use Rattle.arena.specs.Lawful.{Lawful}
-use Rattle.help.specs.Help.Known.{Marks, reading, HelpIsReady, HelpWaits}
+use Rattle.help.specs.Help.Known.{Marks, reading, settled_load, HelpIsReady, HelpWaits}
 use Rattle.help.specs.declared.state.HelpRun.{HelpRun}
 use Rattle.forest.specs.declared.view.SeatedPass.{SeatedPass}
 use Rattle.forest.specs.CallKinds.{Calls}
-use Rattle.forest.specs.Inside.{Inner, Inside, InnerIsTold}
+use Rattle.forest.specs.Inside.{Inner, Inside, InnerIsTold, InnerWaits}
+use Rattle.arena.specs.declared.number.MemberIndex.{MemberIndex}
+use Rattle.arena.specs.declared.step.Access.TheVariants.{Load, Store}
+use Rattle.arena.specs.declared.step.Kind.TheVariants.{LoadAllFrozen, SetFrozen}
+use Rattle.arena.specs.declared.word.ScxWord.TheVariants.{AllFrozen, Member, Plan}
+use Rattle.arena.specs.MemberIndex.{member_index}
+use Rattle.arena.specs.Words.{scx}
+use Rattle.help.specs.declared.state.HelpAt.TheVariants.{Plan as AtPlan, Member as AtMember, SetFrozen as AtSetFrozen}
 
 -- a HELP in some pass, which is said to wait and to be told in the runs that `inner` allows
 abbrev pub help_inside : (Layout → History → ℕ → Type 0) → Inner HelpRun
@@ -21,6 +28,23 @@ help_inside inner = record {
 -- a call of a machine that helps
 abbrev pub Helper : {M : Type 0} → (Layout → History → ℕ → Type 0) → Calls M → Type 0
 Helper inner o = Inside o (help_inside inner)
+
+module _ {M : Type 0} {inner : Layout → History → ℕ → Type 0} {o : Calls M} (k : Helper inner o) (ps : List SeatedPass) (m : HelpRun) where
+  -- its HELP waits to load the plan of its SCX-record
+  abbrev pub LoadsPlan : Type 0
+  LoadsPlan = InnerWaits k ps (record m { at = AtPlan }) (settled_load m.scx.0 Plan)
+
+  -- to load the node of this place
+  abbrev pub LoadsMember : MemberIndex → Type 0
+  LoadsMember j = InnerWaits k ps (record m { at = AtMember j }) (settled_load m.scx.0 (Member (member_index j)))
+
+  -- to set the flag that its nodes were all frozen
+  abbrev pub SetsFlag : Type 0
+  SetsFlag = InnerWaits k ps (record m { at = AtSetFrozen }) record { kind = SetFrozen; word = scx m.scx.0 AllFrozen; access = Store 1 }
+
+  -- to load that flag
+  abbrev pub LoadsFlag : Type 0
+  LoadsFlag = InnerWaits k ps m record { kind = LoadAllFrozen; word = scx m.scx.0 AllFrozen; access = Load }
 
 -- the last step of its HELP has told that `allfrozen` is set, and that those of the first p
 -- nodes that are finalized are marked

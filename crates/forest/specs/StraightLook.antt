@@ -1,16 +1,21 @@
 -- Calls that stand at a place of an LLX, of whatever machine looks at nodes of the tree.
-use Rattle.std.specs.Prelude.{◌≡◌, ℕ, List, Some}
+use Rattle.std.specs.Prelude.{◌≡◌, Bool, ℕ, List, Some}
 use Rattle.arena.specs.declared.number.NodeNo.{NodeNo}
 use Rattle.arena.specs.History.{History}
 use Rattle.arena.specs.Machines.{Call, IsRun}
 use Rattle.prims.specs.FoundThere.{HasFoundThere}
-use Rattle.prims.specs.Llx.Known.{LlxIsReady, LlxWaits, IsSnapshot}
+use Rattle.prims.specs.Llx.Known.{load, LlxIsReady, LlxWaits, IsSnapshot}
 use Rattle.prims.specs.declared.llx.LlxRun.{LlxRun}
 use Rattle.prims.specs.declared.snap.Snap.{Snap}
 use Rattle.spelling.specs.TreeShape.{TreeAllows}
 use Rattle.forest.specs.declared.view.SeatedPass.{SeatedPass}
 use Rattle.forest.specs.CallKinds.{Calls}
-use Rattle.forest.specs.Inside.{Inner, Inside, InnerIsTold}
+use Rattle.forest.specs.Inside.{Inner, Inside, InnerIsTold, InnerWaits}
+use Rattle.arena.specs.declared.number.ScxNo.{ScxNo}
+use Rattle.arena.specs.declared.step.Kind.TheVariants.{LoadMarked, LoadState}
+use Rattle.arena.specs.Words.{marked, state}
+use Rattle.prims.specs.declared.llx.LlxAt.TheVariants.{Marked, StateAgain}
+use Rattle.forest.specs.StraightLlx.{llx_at}
 
 -- an LLX of a node of the tree, in a call of its own
 abbrev pub llx_inside : Inner LlxRun
@@ -24,6 +29,15 @@ llx_inside = record {
 -- a call of a machine that looks at nodes
 abbrev pub Looker : {M : Type 0} → Calls M → Type 0
 Looker o = Inside o llx_inside
+
+module _ {M : Type 0} {o : Calls M} (k : Looker o) (ps : List SeatedPass) (node : NodeNo) where
+  -- its LLX of the node waits to load the node's mark, with which it begins
+  abbrev pub LoadsMark : Type 0
+  LoadsMark = InnerWaits k ps (llx_at node Marked) (load LoadMarked (marked node.0))
+
+  -- something was in the way, and it waits to load the state of this SCX-record again
+  abbrev pub LoadsStateAgain : Bool → ScxNo → Type 0
+  LoadsStateAgain b s = InnerWaits k ps (llx_at node (StateAgain b s)) (load LoadState (state s.0))
 
 -- the last step of its LLX of the node has told what makes this snapshot right, and its
 -- SCX-record one that the call has found in the node's info

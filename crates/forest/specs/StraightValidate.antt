@@ -4,8 +4,13 @@ use Rattle.arena.specs.Lawful.{Lawful}
 use Rattle.arena.specs.Machines.{Call}
 use Rattle.prims.specs.Vlx.Known.{VlxIsTold, VlxWaits}
 use Rattle.prims.specs.declared.snap.Snap.{Snap}
+use Rattle.arena.specs.declared.step.Kind.TheVariants.{LoadInfo}
+use Rattle.arena.specs.Words.{info}
+use Rattle.prims.specs.Llx.Known.{load}
+use Rattle.prims.specs.Snap.{snap_at}
+use Rattle.forest.specs.declared.view.SeatedPass.{SeatedPass}
 use Rattle.forest.specs.CallKinds.{Calls}
-use Rattle.forest.specs.Inside.{Inner, Inside}
+use Rattle.forest.specs.Inside.{Inner, Inside, InnerWaits}
 
 -- a VLX of these snapshots, in a call of its own, that has asked for so many infos
 abbrev pub vlx_inside : List Snap → Inner ℕ
@@ -19,3 +24,7 @@ vlx_inside snaps = record {
 -- a call of a machine that validates these snapshots
 abbrev pub Validator : {M : Type 0} → Calls M → List Snap → Type 0
 Validator o snaps = Inside o (vlx_inside snaps)
+
+-- its VLX waits for the info of the first of the snapshots, with which it begins
+abbrev pub LoadsFirstInfo : {M : Type 0} {o : Calls M} {snaps : List Snap} → Validator o snaps → List SeatedPass → Type 0
+LoadsFirstInfo {snaps = snaps} k ps = InnerWaits k ps 1 (load LoadInfo (info (snap_at snaps 0).node.0))

@@ -4,10 +4,14 @@ use Rattle.arena.specs.declared.number.NodeNo.{NodeNo}
 use Rattle.arena.specs.declared.step.Step.{Step}
 use Rattle.arena.specs.History.{History}
 use Rattle.arena.specs.Machines.{Call}
+use Rattle.arena.specs.declared.step.Kind.TheVariants.{LoadSettled}
+use Rattle.arena.specs.declared.word.NodeWord.TheVariants.{Head as HeadWord}
+use Rattle.arena.specs.Words.{node}
+use Rattle.prims.specs.Llx.Known.{load}
 use Rattle.order.specs.Successor.Steps.{last_turn}
 use Rattle.template.specs.FoundLeaf.{HasFound}
 use Rattle.template.specs.Walk.Known.{WalkIsTold, WalkWaits}
-use Rattle.template.specs.Walk.Places.{IsPastRoot}
+use Rattle.template.specs.Walk.Places.{IsPastRoot, walk_from}
 use Rattle.template.specs.declared.walk.Found.{Found}
 use Rattle.template.specs.declared.walk.Goal.TheVariants.{Key as ToKey}
 use Rattle.template.specs.declared.walk.WalkRun.{WalkRun}
@@ -37,6 +41,10 @@ module _ {M : Type 0} {o : Calls M} (w : Walker o) (ps : List SeatedPass) where
   -- the step of its walk has told v
   abbrev pub WalkerIsTold : WalkRun → NodeNo → ℕ → Type 0
   WalkerIsTold m turn v = InnerIsTold w ps (m, turn) v
+
+  -- its walk to this key waits for the head of the root, with which it begins
+  abbrev pub WalksFromRoot : ℕ → Type 0
+  WalksFromRoot key = WalkerWaits (walk_from key) record { 0 = 0 } (load LoadSettled (node 0 HeadWord))
 
   -- the last step of its walk to a key has told what makes this leaf the one that it has found,
   -- and this fork is the last where it has turned left

@@ -3,12 +3,11 @@ ghost use Rattle.std.specs.Prelude.{◌≡◌, ◌≤◌, ◌<◌, ◌+◌, ℕ,
 ghost use Rattle.arena.specs.MemberIndex.{member_index};
 ghost use Rattle.forest.specs.Seats.{IsSeatAt, StaysAtTable};
 ghost use Rattle.forest.specs.Traces.{seat_steps};
-ghost use Rattle.forest.specs.StraightChange.{Changer, changing_at, scx_fill, all_frozen_load};
+ghost use Rattle.forest.specs.StraightChange.{Changer, changing_at, scx_fill, all_frozen_load, FillsPlan, FillsMember, FillsSeen, FillsCall};
 ghost use Rattle.forest.specs.CallKinds.{calls};
 ghost use Rattle.forest.specs.Inside.{InnerIsTold, InnerWaits};
 ghost use Rattle.help.specs.Help.Steps.{help_left};
 ghost use Rattle.help.specs.declared.state.HelpRun.{HelpRun};
-ghost use Rattle.prims.specs.Snap.{snap_at};
 ghost use Rattle.prims.specs.declared.scx.ScxRun.{ScxRun};
 ghost use Rattle.prims.specs.declared.scx.ScxAt.{ScxAt};
 ghost use Rattle.help.specs.declared.state.HelpAt.{HelpAt};
@@ -68,12 +67,12 @@ fn fill_member<S: Shape, M: Machine<S>, T: Shape, L: SnapList>(
     j: MemberIndex,
 ) -> Option<MemberIndex>
     requires table { IsSeatAt words.now layout.now seat.old }
-    requires waits { (k : Changer T.allows (calls S.Shape M.Machine layout.now number)) × InnerWaits k seat.old.me.0.passes (changing_at (L.list snaps.now) change (ScxAt.Member j)) (scx_fill change.scx (ScxWord.Member (member_index j)) (snap_at (L.list snaps.now) (member_index j)).node.0) }
+    requires waits { (k : Changer T.allows (calls S.Shape M.Machine layout.now number)) × FillsMember k seat.old.me.0.passes (L.list snaps.now) change j }
     ensures table { StaysAtTable seat.old seat.new }
     ensures one { seat_steps seat.new.me.0.passes ≡ suc (seat_steps seat.old.me.0.passes) }
     ensures behind { IfSome result (λ next. (member_index next ≡ member_index j + 1) × (member_index next < 4)) }
-    ensures next { IfSome result (λ next. (k : Changer T.allows (calls S.Shape M.Machine layout.now number)) → InnerWaits k seat.old.me.0.passes (changing_at (L.list snaps.now) change (ScxAt.Member j)) (scx_fill change.scx (ScxWord.Member (member_index j)) (snap_at (L.list snaps.now) (member_index j)).node.0) → InnerWaits k seat.new.me.0.passes (changing_at (L.list snaps.now) change (ScxAt.Member next)) (scx_fill change.scx (ScxWord.Member (member_index next)) (snap_at (L.list snaps.now) (member_index next)).node.0)) }
-    ensures last { IfNone result ((k : Changer T.allows (calls S.Shape M.Machine layout.now number)) → InnerWaits k seat.old.me.0.passes (changing_at (L.list snaps.now) change (ScxAt.Member j)) (scx_fill change.scx (ScxWord.Member (member_index j)) (snap_at (L.list snaps.now) (member_index j)).node.0) → InnerWaits k seat.new.me.0.passes (changing_at (L.list snaps.now) change (ScxAt.Seen MemberIndex.First)) (scx_fill change.scx (ScxWord.Seen 0) (snap_at (L.list snaps.now) 0).scx.0)) }
+    ensures next { IfSome result (λ next. (k : Changer T.allows (calls S.Shape M.Machine layout.now number)) → FillsMember k seat.old.me.0.passes (L.list snaps.now) change j → FillsMember k seat.new.me.0.passes (L.list snaps.now) change next) }
+    ensures last { IfNone result ((k : Changer T.allows (calls S.Shape M.Machine layout.now number)) → FillsMember k seat.old.me.0.passes (L.list snaps.now) change j → FillsSeen k seat.new.me.0.passes (L.list snaps.now) change MemberIndex.First) }
 {
     let part = ScxWord::Member(j.number());
     let wanted = snaps.get(j.index()).node.0;
@@ -92,12 +91,12 @@ fn fill_members<S: Shape, M: Machine<S>, T: Shape, L: SnapList>(
     change: Change,
 )
     requires table { IsSeatAt words.now layout.now seat.old }
-    requires waits { (k : Changer T.allows (calls S.Shape M.Machine layout.now number)) × InnerWaits k seat.old.me.0.passes (changing_at (L.list snaps.now) change (ScxAt.Member MemberIndex.First)) (scx_fill change.scx (ScxWord.Member 0) (snap_at (L.list snaps.now) 0).node.0) }
+    requires waits { (k : Changer T.allows (calls S.Shape M.Machine layout.now number)) × FillsMember k seat.old.me.0.passes (L.list snaps.now) change MemberIndex.First }
     ensures table { StaysAtTable seat.old seat.new }
     ensures steps { seat_steps seat.new.me.0.passes ≤ seat_steps seat.old.me.0.passes + 4 }
     ensures waits { (k : Changer T.allows (calls S.Shape M.Machine layout.now number))
-        → InnerWaits k seat.old.me.0.passes (changing_at (L.list snaps.now) change (ScxAt.Member MemberIndex.First)) (scx_fill change.scx (ScxWord.Member 0) (snap_at (L.list snaps.now) 0).node.0)
-        → InnerWaits k seat.new.me.0.passes (changing_at (L.list snaps.now) change (ScxAt.Seen MemberIndex.First)) (scx_fill change.scx (ScxWord.Seen 0) (snap_at (L.list snaps.now) 0).scx.0) }
+        → FillsMember k seat.old.me.0.passes (L.list snaps.now) change MemberIndex.First
+        → FillsSeen k seat.new.me.0.passes (L.list snaps.now) change MemberIndex.First }
 {
     let first = MemberIndex::First;
     let Some(second) = fill_member::<S, M, T, L>(words, layout, seat, number, snaps, change, first)
@@ -127,12 +126,12 @@ fn fill_seen<S: Shape, M: Machine<S>, T: Shape, L: SnapList>(
     j: MemberIndex,
 ) -> Option<MemberIndex>
     requires table { IsSeatAt words.now layout.now seat.old }
-    requires waits { (k : Changer T.allows (calls S.Shape M.Machine layout.now number)) × InnerWaits k seat.old.me.0.passes (changing_at (L.list snaps.now) change (ScxAt.Seen j)) (scx_fill change.scx (ScxWord.Seen (member_index j)) (snap_at (L.list snaps.now) (member_index j)).scx.0) }
+    requires waits { (k : Changer T.allows (calls S.Shape M.Machine layout.now number)) × FillsSeen k seat.old.me.0.passes (L.list snaps.now) change j }
     ensures table { StaysAtTable seat.old seat.new }
     ensures one { seat_steps seat.new.me.0.passes ≡ suc (seat_steps seat.old.me.0.passes) }
     ensures behind { IfSome result (λ next. (member_index next ≡ member_index j + 1) × (member_index next < 4)) }
-    ensures next { IfSome result (λ next. (k : Changer T.allows (calls S.Shape M.Machine layout.now number)) → InnerWaits k seat.old.me.0.passes (changing_at (L.list snaps.now) change (ScxAt.Seen j)) (scx_fill change.scx (ScxWord.Seen (member_index j)) (snap_at (L.list snaps.now) (member_index j)).scx.0) → InnerWaits k seat.new.me.0.passes (changing_at (L.list snaps.now) change (ScxAt.Seen next)) (scx_fill change.scx (ScxWord.Seen (member_index next)) (snap_at (L.list snaps.now) (member_index next)).scx.0)) }
-    ensures last { IfNone result ((k : Changer T.allows (calls S.Shape M.Machine layout.now number)) → InnerWaits k seat.old.me.0.passes (changing_at (L.list snaps.now) change (ScxAt.Seen j)) (scx_fill change.scx (ScxWord.Seen (member_index j)) (snap_at (L.list snaps.now) (member_index j)).scx.0) → InnerWaits k seat.new.me.0.passes (changing_at (L.list snaps.now) change ScxAt.Call) (scx_fill change.scx ScxWord.Call change.call)) }
+    ensures next { IfSome result (λ next. (k : Changer T.allows (calls S.Shape M.Machine layout.now number)) → FillsSeen k seat.old.me.0.passes (L.list snaps.now) change j → FillsSeen k seat.new.me.0.passes (L.list snaps.now) change next) }
+    ensures last { IfNone result ((k : Changer T.allows (calls S.Shape M.Machine layout.now number)) → FillsSeen k seat.old.me.0.passes (L.list snaps.now) change j → FillsCall k seat.new.me.0.passes (L.list snaps.now) change) }
 {
     let part = ScxWord::Seen(j.number());
     let wanted = snaps.get(j.index()).scx.0;
@@ -151,12 +150,12 @@ fn fill_infos<S: Shape, M: Machine<S>, T: Shape, L: SnapList>(
     change: Change,
 )
     requires table { IsSeatAt words.now layout.now seat.old }
-    requires waits { (k : Changer T.allows (calls S.Shape M.Machine layout.now number)) × InnerWaits k seat.old.me.0.passes (changing_at (L.list snaps.now) change (ScxAt.Seen MemberIndex.First)) (scx_fill change.scx (ScxWord.Seen 0) (snap_at (L.list snaps.now) 0).scx.0) }
+    requires waits { (k : Changer T.allows (calls S.Shape M.Machine layout.now number)) × FillsSeen k seat.old.me.0.passes (L.list snaps.now) change MemberIndex.First }
     ensures table { StaysAtTable seat.old seat.new }
     ensures steps { seat_steps seat.new.me.0.passes ≤ seat_steps seat.old.me.0.passes + 4 }
     ensures waits { (k : Changer T.allows (calls S.Shape M.Machine layout.now number))
-        → InnerWaits k seat.old.me.0.passes (changing_at (L.list snaps.now) change (ScxAt.Seen MemberIndex.First)) (scx_fill change.scx (ScxWord.Seen 0) (snap_at (L.list snaps.now) 0).scx.0)
-        → InnerWaits k seat.new.me.0.passes (changing_at (L.list snaps.now) change ScxAt.Call) (scx_fill change.scx ScxWord.Call change.call) }
+        → FillsSeen k seat.old.me.0.passes (L.list snaps.now) change MemberIndex.First
+        → FillsCall k seat.new.me.0.passes (L.list snaps.now) change }
 {
     let first = MemberIndex::First;
     let Some(second) = fill_seen::<S, M, T, L>(words, layout, seat, number, snaps, change, first)
@@ -185,11 +184,11 @@ fn fill_all<S: Shape, M: Machine<S>, T: Shape, L: SnapList>(
     change: Change,
 ) -> u64
     requires table { IsSeatAt words.now layout.now seat.old }
-    requires waits { (k : Changer T.allows (calls S.Shape M.Machine layout.now number)) × InnerWaits k seat.old.me.0.passes (changing_at (L.list snaps.now) change ScxAt.Plan) (scx_fill change.scx ScxWord.Plan change.plan.0) }
+    requires waits { (k : Changer T.allows (calls S.Shape M.Machine layout.now number)) × FillsPlan k seat.old.me.0.passes (L.list snaps.now) change }
     ensures table { StaysAtTable seat.old seat.new }
     ensures steps { seat_steps seat.new.me.0.passes ≤ seat_steps seat.old.me.0.passes + 12 }
     ensures told { (k : Changer T.allows (calls S.Shape M.Machine layout.now number))
-        → InnerWaits k seat.old.me.0.passes (changing_at (L.list snaps.now) change ScxAt.Plan) (scx_fill change.scx ScxWord.Plan change.plan.0)
+        → FillsPlan k seat.old.me.0.passes (L.list snaps.now) change
         → InnerIsTold k seat.new.me.0.passes (changing_at (L.list snaps.now) change ScxAt.Call) result }
 {
     let scx = change.scx;
@@ -231,13 +230,13 @@ pub(crate) fn call<S: Shape, M: Machine<S>, T: Shape, L: SnapList>(
     help: &mut HelpRun,
 ) -> bool
     requires table { IsSeatAt words.now layout.now seat.old }
-    requires waits { (k : Changer T.allows (calls S.Shape M.Machine layout.now number)) × InnerWaits k seat.old.me.0.passes (changing_at (L.list snaps.now) change ScxAt.Plan) (scx_fill change.scx ScxWord.Plan change.plan.0) }
+    requires waits { (k : Changer T.allows (calls S.Shape M.Machine layout.now number)) × FillsPlan k seat.old.me.0.passes (L.list snaps.now) change }
     requires begins { (help.old.scx ≡ change.scx) × (help.old.at ≡ HelpAt.Start) }
     ensures table { StaysAtTable seat.old seat.new }
     ensures steps { seat_steps seat.new.me.0.passes ≤ seat_steps seat.old.me.0.passes + 34 }
     ensures left { result ≡ false → seat_steps seat.new.me.0.passes + suc (help_left help.new.at) ≤ seat_steps seat.old.me.0.passes + 34 }
-    ensures commits { result ≡ true → (k : Changer T.allows (calls S.Shape M.Machine layout.now number)) → InnerWaits k seat.old.me.0.passes (changing_at (L.list snaps.now) change ScxAt.Plan) (scx_fill change.scx ScxWord.Plan change.plan.0) → (v : ℕ) × InnerIsTold k seat.new.me.0.passes (changing_at (L.list snaps.now) change (ScxAt.Help (record help.new { at = HelpAt.Commit }))) v }
-    ensures blocked { result ≡ false → (k : Changer T.allows (calls S.Shape M.Machine layout.now number)) → InnerWaits k seat.old.me.0.passes (changing_at (L.list snaps.now) change ScxAt.Plan) (scx_fill change.scx ScxWord.Plan change.plan.0) → InnerWaits k seat.new.me.0.passes (changing_at (L.list snaps.now) change (ScxAt.Help help.new)) (all_frozen_load change.scx) }
+    ensures commits { result ≡ true → (k : Changer T.allows (calls S.Shape M.Machine layout.now number)) → FillsPlan k seat.old.me.0.passes (L.list snaps.now) change → (v : ℕ) × InnerIsTold k seat.new.me.0.passes (changing_at (L.list snaps.now) change (ScxAt.Help (record help.new { at = HelpAt.Commit }))) v }
+    ensures blocked { result ≡ false → (k : Changer T.allows (calls S.Shape M.Machine layout.now number)) → FillsPlan k seat.old.me.0.passes (L.list snaps.now) change → InnerWaits k seat.new.me.0.passes (changing_at (L.list snaps.now) change (ScxAt.Help help.new)) (all_frozen_load change.scx) }
 {
     let layout = *layout;
     fill_all::<S, M, T, L>(words, &layout, seat, number, snaps, change);

@@ -7,7 +7,7 @@ ghost use Rattle.help.specs.Help.Known.{settled_load};
 ghost use Rattle.help.specs.declared.state.HelpRun.{HelpRun};
 ghost use Rattle.forest.specs.Seats.{IsSeatAt, StaysAtTable};
 ghost use Rattle.forest.specs.Traces.{seat_steps};
-ghost use Rattle.forest.specs.StraightHelp.{Helper, HelperMarks};
+ghost use Rattle.forest.specs.StraightHelp.{Helper, HelperMarks, LoadsPlan, LoadsMember, SetsFlag, LoadsFlag};
 ghost use Rattle.forest.specs.CallKinds.{calls};
 ghost use Rattle.forest.specs.Inside.{InnerIsTold, InnerWaits};
 
@@ -82,20 +82,20 @@ fn freeze<S: Shape, M: Machine<S>, T: Shape>(
     j: MemberIndex,
 ) -> bool
     requires table { IsSeatAt words.now layout.now seat.old }
-    requires waits { (k : Helper T.allows (calls S.Shape M.Machine layout.now number)) × InnerWaits k seat.old.me.0.passes (record run.old { at = HelpAt.Member j }) (settled_load run.old.scx.0 (ScxWord.Member (member_index j))) }
+    requires waits { (k : Helper T.allows (calls S.Shape M.Machine layout.now number)) × LoadsMember k seat.old.me.0.passes run.old j }
     ensures table { StaysAtTable seat.old seat.new }
     ensures steps { seat_steps seat.new.me.0.passes ≡ seat_steps seat.old.me.0.passes + 3 }
     ensures left { result ≡ false → help_left run.new.at ≤ 1 }
     ensures same { (run.new.scx ≡ run.old.scx) × (run.new.plan ≡ run.old.plan) }
     ensures next { result ≡ true → (next : MemberIndex) → member_index next ≡ member_index j + 1 → member_index next < raw_count run.old.plan.0 → (k : Helper T.allows (calls S.Shape M.Machine layout.now number))
-        → InnerWaits k seat.old.me.0.passes (record run.old { at = HelpAt.Member j }) (settled_load run.old.scx.0 (ScxWord.Member (member_index j)))
-        → InnerWaits k seat.new.me.0.passes (record run.new { at = HelpAt.Member next }) (settled_load run.new.scx.0 (ScxWord.Member (member_index next))) }
+        → LoadsMember k seat.old.me.0.passes run.old j
+        → LoadsMember k seat.new.me.0.passes run.new next }
     ensures last { result ≡ true → ((member_index j < 3) × (member_index j + 1 < raw_count run.old.plan.0) → ⊥) → (k : Helper T.allows (calls S.Shape M.Machine layout.now number))
-        → InnerWaits k seat.old.me.0.passes (record run.old { at = HelpAt.Member j }) (settled_load run.old.scx.0 (ScxWord.Member (member_index j)))
-        → InnerWaits k seat.new.me.0.passes (record run.new { at = HelpAt.SetFrozen }) record { kind = Kind.SetFrozen; word = Word.Scx run.new.scx ScxWord.AllFrozen; access = Access.Store 1 } }
+        → LoadsMember k seat.old.me.0.passes run.old j
+        → SetsFlag k seat.new.me.0.passes run.new }
     ensures blocked { result ≡ false → (k : Helper T.allows (calls S.Shape M.Machine layout.now number))
-        → InnerWaits k seat.old.me.0.passes (record run.old { at = HelpAt.Member j }) (settled_load run.old.scx.0 (ScxWord.Member (member_index j)))
-        → InnerWaits k seat.new.me.0.passes run.new record { kind = Kind.LoadAllFrozen; word = Word.Scx run.new.scx ScxWord.AllFrozen; access = Access.Load } }
+        → LoadsMember k seat.old.me.0.passes run.old j
+        → LoadsFlag k seat.new.me.0.passes run.new }
 {
     let scx = run.scx;
     let part = ScxWord::Member(j.number());
@@ -126,17 +126,17 @@ fn freeze_all<S: Shape, M: Machine<S>, T: Shape>(
     run: &mut HelpRun,
 ) -> bool
     requires table { IsSeatAt words.now layout.now seat.old }
-    requires waits { (k : Helper T.allows (calls S.Shape M.Machine layout.now number)) × InnerWaits k seat.old.me.0.passes (record run.old { at = HelpAt.Member MemberIndex.First }) (settled_load run.old.scx.0 (ScxWord.Member 0)) }
+    requires waits { (k : Helper T.allows (calls S.Shape M.Machine layout.now number)) × LoadsMember k seat.old.me.0.passes run.old MemberIndex.First }
     ensures table { StaysAtTable seat.old seat.new }
     ensures steps { seat_steps seat.new.me.0.passes ≤ seat_steps seat.old.me.0.passes + 12 }
     ensures left { result ≡ false → help_left run.new.at ≤ 1 }
     ensures same { (run.new.scx ≡ run.old.scx) × (run.new.plan ≡ run.old.plan) }
     ensures frozen { result ≡ true → (k : Helper T.allows (calls S.Shape M.Machine layout.now number))
-        → InnerWaits k seat.old.me.0.passes (record run.old { at = HelpAt.Member MemberIndex.First }) (settled_load run.old.scx.0 (ScxWord.Member 0))
-        → InnerWaits k seat.new.me.0.passes (record run.new { at = HelpAt.SetFrozen }) record { kind = Kind.SetFrozen; word = Word.Scx run.new.scx ScxWord.AllFrozen; access = Access.Store 1 } }
+        → LoadsMember k seat.old.me.0.passes run.old MemberIndex.First
+        → SetsFlag k seat.new.me.0.passes run.new }
     ensures blocked { result ≡ false → (k : Helper T.allows (calls S.Shape M.Machine layout.now number))
-        → InnerWaits k seat.old.me.0.passes (record run.old { at = HelpAt.Member MemberIndex.First }) (settled_load run.old.scx.0 (ScxWord.Member 0))
-        → InnerWaits k seat.new.me.0.passes run.new record { kind = Kind.LoadAllFrozen; word = Word.Scx run.new.scx ScxWord.AllFrozen; access = Access.Load } }
+        → LoadsMember k seat.old.me.0.passes run.old MemberIndex.First
+        → LoadsFlag k seat.new.me.0.passes run.new }
 {
     let plan = run.plan;
     let first = MemberIndex::First;
@@ -218,13 +218,13 @@ pub(crate) fn call<S: Shape, M: Machine<S>, T: Shape>(
     run: &mut HelpRun,
 ) -> bool
     requires table { IsSeatAt words.now layout.now seat.old }
-    requires waits { (k : Helper T.allows (calls S.Shape M.Machine layout.now number)) × InnerWaits k seat.old.me.0.passes (record run.old { at = HelpAt.Plan }) (settled_load run.old.scx.0 ScxWord.Plan) }
+    requires waits { (k : Helper T.allows (calls S.Shape M.Machine layout.now number)) × LoadsPlan k seat.old.me.0.passes run.old }
     ensures table { StaysAtTable seat.old seat.new }
     ensures steps { seat_steps seat.new.me.0.passes ≤ seat_steps seat.old.me.0.passes + 22 }
     ensures same { run.new.scx ≡ run.old.scx }
     ensures left { result ≡ false → seat_steps seat.new.me.0.passes + suc (help_left run.new.at) ≤ seat_steps seat.old.me.0.passes + 22 }
-    ensures commits { result ≡ true → (k : Helper T.allows (calls S.Shape M.Machine layout.now number)) → InnerWaits k seat.old.me.0.passes (record run.old { at = HelpAt.Plan }) (settled_load run.old.scx.0 ScxWord.Plan) → (v : ℕ) × InnerIsTold k seat.new.me.0.passes (record run.new { at = HelpAt.Commit }) v }
-    ensures blocked { result ≡ false → (k : Helper T.allows (calls S.Shape M.Machine layout.now number)) → InnerWaits k seat.old.me.0.passes (record run.old { at = HelpAt.Plan }) (settled_load run.old.scx.0 ScxWord.Plan) → InnerWaits k seat.new.me.0.passes run.new record { kind = Kind.LoadAllFrozen; word = Word.Scx run.new.scx ScxWord.AllFrozen; access = Access.Load } }
+    ensures commits { result ≡ true → (k : Helper T.allows (calls S.Shape M.Machine layout.now number)) → LoadsPlan k seat.old.me.0.passes run.old → (v : ℕ) × InnerIsTold k seat.new.me.0.passes (record run.new { at = HelpAt.Commit }) v }
+    ensures blocked { result ≡ false → (k : Helper T.allows (calls S.Shape M.Machine layout.now number)) → LoadsPlan k seat.old.me.0.passes run.old → LoadsFlag k seat.new.me.0.passes run.new }
 {
     let scx = run.scx;
     let word = read::<S, M, T>(words, layout, seat, number, scx, ScxWord::Plan);

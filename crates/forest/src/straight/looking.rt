@@ -2,12 +2,10 @@
 ghost use Rattle.std.specs.Prelude.{◌≡◌, ◌≤◌, ◌+◌, suc, IfOk, IfErr};
 ghost use Rattle.forest.specs.Seats.{IsSeatAt, StaysAtTable};
 ghost use Rattle.forest.specs.Traces.{seat_steps};
-ghost use Rattle.forest.specs.StraightLlx.{llx_at};
-ghost use Rattle.forest.specs.StraightLook.{Looker, LookerSnaps};
+ghost use Rattle.forest.specs.StraightLook.{Looker, LookerSnaps, LoadsMark, LoadsStateAgain};
 ghost use Rattle.forest.specs.CallKinds.{calls};
 ghost use Rattle.forest.specs.Inside.{InnerIsTold, InnerWaits};
 ghost use Rattle.prims.specs.Llx.Known.{load};
-ghost use Rattle.prims.specs.declared.llx.LlxAt.{LlxAt};
 ghost use Rattle.prims.specs.declared.llx.LlxRun.{LlxRun};
 
 use crate::straight::llx::leaves;
@@ -51,11 +49,11 @@ pub(crate) fn look<S: Shape, M: Machine<S>>(
     node: NodeNo,
 ) -> Result<Snap, (bool, ScxNo)>
     requires table { IsSeatAt words.now layout.now seat.old }
-    requires waits { (k : Looker (calls S.Shape M.Machine layout.now number)) × InnerWaits k seat.old.me.0.passes (llx_at node LlxAt.Marked) (load Kind.LoadMarked (Word.Node node NodeWord.Marked)) }
+    requires waits { (k : Looker (calls S.Shape M.Machine layout.now number)) × LoadsMark k seat.old.me.0.passes node }
     ensures table { StaysAtTable seat.old seat.new }
     ensures steps { seat_steps seat.new.me.0.passes ≤ seat_steps seat.old.me.0.passes + 7 }
-    ensures snaps { IfOk result (λ snap. (k : Looker (calls S.Shape M.Machine layout.now number)) → InnerWaits k seat.old.me.0.passes (llx_at node LlxAt.Marked) (load Kind.LoadMarked (Word.Node node NodeWord.Marked)) → LookerSnaps k seat.new.me.0.passes node snap) }
-    ensures waits { IfErr result (λ t. (k : Looker (calls S.Shape M.Machine layout.now number)) → InnerWaits k seat.old.me.0.passes (llx_at node LlxAt.Marked) (load Kind.LoadMarked (Word.Node node NodeWord.Marked)) → InnerWaits k seat.new.me.0.passes (llx_at node (LlxAt.StateAgain t.0 t.1)) (load Kind.LoadState (Word.Scx t.1 ScxWord.State))) }
+    ensures snaps { IfOk result (λ snap. (k : Looker (calls S.Shape M.Machine layout.now number)) → LoadsMark k seat.old.me.0.passes node → LookerSnaps k seat.new.me.0.passes node snap) }
+    ensures waits { IfErr result (λ t. (k : Looker (calls S.Shape M.Machine layout.now number)) → LoadsMark k seat.old.me.0.passes node → LoadsStateAgain k seat.new.me.0.passes node t.0 t.1) }
 {
     let mark = Word::Node(node, NodeWord::Marked);
     let info = Word::Node(node, NodeWord::Info);

@@ -1,12 +1,10 @@
 //! VLXs over snapshots of nodes of the tree, of whatever machine validates them.
 ghost use Rattle.std.specs.Prelude.{◌≡◌, ◌≤◌, ◌<◌, ◌+◌, length};
-ghost use Rattle.forest.specs.StraightValidate.{Validator};
+ghost use Rattle.forest.specs.StraightValidate.{LoadsFirstInfo, Validator};
 ghost use Rattle.forest.specs.Seats.{IsSeatAt, StaysAtTable};
 ghost use Rattle.forest.specs.Traces.{seat_steps};
 ghost use Rattle.forest.specs.CallKinds.{calls};
-ghost use Rattle.forest.specs.Inside.{InnerIsTold, InnerWaits};
-ghost use Rattle.prims.specs.Llx.Known.{load};
-ghost use Rattle.prims.specs.Snap.{snap_at};
+ghost use Rattle.forest.specs.Inside.{InnerIsTold};
 
 use crate::straight::placed::step;
 use crate::view::SeatView;
@@ -28,9 +26,9 @@ pub(crate) fn validate<S: Shape, M: Machine<S>, L: SnapList + Copy>(
 ) -> (usize, u64)
     requires table { IsSeatAt words.now layout.now seat.old }
     requires some { 0 < length (L.list snaps) }
-    requires waits { (v : Validator (calls S.Shape M.Machine layout.now number) (L.list snaps)) × InnerWaits v seat.old.me.0.passes 1 (load Kind.LoadInfo (Word.Node (snap_at (L.list snaps) 0).node NodeWord.Info)) }
+    requires waits { (v : Validator (calls S.Shape M.Machine layout.now number) (L.list snaps)) × LoadsFirstInfo v seat.old.me.0.passes }
     ensures table { StaysAtTable seat.old seat.new }
-    ensures told { (v : Validator (calls S.Shape M.Machine layout.now number) (L.list snaps)) → InnerWaits v seat.old.me.0.passes 1 (load Kind.LoadInfo (Word.Node (snap_at (L.list snaps) 0).node NodeWord.Info)) → InnerIsTold v seat.new.me.0.passes result.0 result.1 }
+    ensures told { (v : Validator (calls S.Shape M.Machine layout.now number) (L.list snaps)) → LoadsFirstInfo v seat.old.me.0.passes → InnerIsTold v seat.new.me.0.passes result.0 result.1 }
     ensures some { 0 < result.0 }
     ensures within { result.0 ≤ length (L.list snaps) }
     ensures steps { seat_steps seat.new.me.0.passes ≡ seat_steps seat.old.me.0.passes + result.0 }

@@ -4,12 +4,12 @@ ghost use Rattle.arena.specs.Heads.{head_of};
 ghost use Rattle.arena.specs.declared.number.NodeNo.{NodeNo};
 ghost use Rattle.forest.specs.Seats.{IsSeatAt, StaysAtTable};
 ghost use Rattle.forest.specs.Traces.{seat_steps, shared_nodes};
-ghost use Rattle.forest.specs.StraightWalk.{Walker, WalkerWaits, WalkerIsTold, WalkerFinds};
+ghost use Rattle.forest.specs.StraightWalk.{Walker, WalkerWaits, WalkerIsTold, WalkerFinds, WalksFromRoot};
 ghost use Rattle.forest.specs.CallKinds.{calls};
 ghost use Rattle.order.specs.Successor.Steps.{last_turn};
 ghost use Rattle.prims.specs.Llx.Known.{load};
 ghost use Rattle.template.specs.declared.walk.WalkRun.{WalkRun};
-ghost use Rattle.template.specs.Walk.Places.{walk_at, walk_from, LoadsHead};
+ghost use Rattle.template.specs.Walk.Places.{walk_at, LoadsHead};
 
 use crate::straight::placed::step;
 use crate::view::SeatView;
@@ -171,10 +171,10 @@ pub(crate) fn call<S: Shape, M: Machine<S>>(
     wanted: u64,
 ) -> (Found, NodeNo)
     requires table { IsSeatAt words.now layout.now seat.old }
-    requires waits { (w : Walker (calls S.Shape M.Machine layout.now number)) × WalkerWaits w seat.old.me.0.passes (walk_from wanted) record { 0 = 0 } (load Kind.LoadSettled (Word.Node record { 0 = 0 } NodeWord.Head)) }
+    requires waits { (w : Walker (calls S.Shape M.Machine layout.now number)) × WalksFromRoot w seat.old.me.0.passes wanted }
     ensures table { StaysAtTable seat.old seat.new }
     ensures steps { seat_steps seat.new.me.0.passes ≤ seat_steps seat.old.me.0.passes + 3 * (2 + shared_nodes layout.now) }
-    ensures finds { (w : Walker (calls S.Shape M.Machine layout.now number)) → WalkerWaits w seat.old.me.0.passes (walk_from wanted) record { 0 = 0 } (load Kind.LoadSettled (Word.Node record { 0 = 0 } NodeWord.Head)) → WalkerFinds w seat.new.me.0.passes wanted result.1 result.0 }
+    ensures finds { (w : Walker (calls S.Shape M.Machine layout.now number)) → WalksFromRoot w seat.old.me.0.passes wanted → WalkerFinds w seat.new.me.0.passes wanted result.1 result.0 }
 {
     let layout = *layout;
     let root = NodeNo(0);
