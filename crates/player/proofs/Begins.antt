@@ -80,11 +80,7 @@ nothing_kept e d = absurd (cc)
 llx_few : (tries : ℕ) (command : Command) (n : ℕ) (then : Option Put) → IsLlxOf command n then → (taken : ℕ) → llx_left Start + then_left then ≤ most_steps command tries taken
 llx_few tries (LlxCommand cell) n None f taken = omega arith
 llx_few tries (SetCommand field value) n (Some put) f taken = omega arith
-llx_few tries (LlxCommand cell) n (Some put) f taken = absurd f
-llx_few tries (SetCommand field value) n None f taken = absurd f
-llx_few tries (ScxCommand update) n then f taken = absurd f
-llx_few tries (VlxCommand cells) n then f taken = absurd f
-llx_few tries (Map request) n then f taken = absurd f
+llx_few tries command n then f taken = absurd f
 
 -- an LLX of a cell
 pub llx_starts : (v : ClientView) (began : Option ℕ) (c : Client) (m : LlxRun) (then : Option Put) (command : Command) → IsSound v → v.layout.mode ≡ Records → Rests v c → IsUnbegun v began → m.at ≡ Start → m.node.0 ≤ 8 → command_of v c ≡ Some command → IsLlxOf command m.node.0 then → Starts v c (Llx m) then

@@ -68,18 +68,7 @@ is_kept left (Map a) (Map b) x = record {
   holds = λ v c p. p;
   took = λ v c p. p;
 }
-is_kept left (Map a) (Llx b) x = absurd x
-is_kept left (Map a) (Scx b) x = absurd x
-is_kept left (Map a) (Vlx b) x = absurd x
-is_kept left (Llx a) (Map b) x = absurd x
-is_kept left (Scx a) (Map b) x = absurd x
-is_kept left (Vlx a) (Map b) x = absurd x
-is_kept left (Llx a) (Scx b) x = absurd x
-is_kept left (Llx a) (Vlx b) x = absurd x
-is_kept left (Scx a) (Llx b) x = absurd x
-is_kept left (Scx a) (Vlx b) x = absurd x
-is_kept left (Vlx a) (Llx b) x = absurd x
-is_kept left (Vlx a) (Scx b) x = absurd x
+is_kept left old now x = absurd x
 
 -- what a client has in hand does not ask whether a machine runs
 stands_so : (v : ClientView) (c : Client) (running : Option Running) (hand : Hand) → IsClientState v c hand → IsClientState v (record c { running = running }) hand
@@ -91,15 +80,11 @@ so_held v c running hand x = record { some = x.some; share = x.share; over = x.o
 
 holds_so : (v : ClientView) (c : Client) (running : Option Running) (run : Run) → Holds v c run → Holds v (record c { running = running }) run
 holds_so v c running (Map m) x = tt
-holds_so v c running (Llx m) x = so_held v c running _ x
-holds_so v c running (Scx m) x = so_held v c running _ x
-holds_so v c running (Vlx m) x = so_held v c running _ x
+holds_so v c running run x = so_held v c running _ x
 
 took_so : (v : ClientView) (c : Client) (running : Option Running) (run : Run) → TakesInHand v c run → TakesInHand v (record c { running = running }) run
 took_so v c running (Map m) x = x
-took_so v c running (Llx m) x = x
-took_so v c running (Scx m) x = x
-took_so v c running (Vlx m) x = x
+took_so v c running run x = x
 
 works_so : (v : ClientView) (c : Client) (running : Option Running) (old now : Run) (then : Option Put) → IsSameMachine old now → Works v c old then → Works v (record c { running = running }) now then
 works_so v c running old now then same w =
@@ -146,9 +131,6 @@ hears_as v c q p found e d x = rw (some_same p q (e ∙ d)) x
 
 -- with its share back, the client is the same
 back_so : (v : ClientView) (c : Client) (run : Run) (then : Option Put) → Works v c run then → Works v (record c { share = share_behind run c.share }) run then
-back_so v c (Llx m) then w = w
-back_so v c (Scx m) then w = w
-back_so v c (Vlx m) then w = w
 back_so v c (Map m) then w = record {
   mode = w.mode;
   stands = record { is_pass = w.stands.is_pass; tries = w.stands.tries; number = w.stands.number; place = w.stands.place; kept = w.stands.kept; unkept = w.stands.unkept; dropped = w.stands.dropped; free = w.stands.free };
@@ -169,20 +151,17 @@ back_so v c (Map m) then w = record {
   won = w.won;
   late = w.late;
 }
+back_so v c run then w = w
 
 -- the share is back
 is_back : (run : Run) (had : Option Remaining) → share_behind run had ≡ share_behind run (share_behind run had)
-is_back (Llx m) had = refl
-is_back (Scx m) had = refl
-is_back (Vlx m) had = refl
 is_back (Map m) had = refl
+is_back run had = refl
 
 answered_back : (v : ClientView) (c : Client) (run : Run) (then : Option Put) (end : Ended) (w : Works v c run then) → c.running ≡ None → RunAnswers run (machine_call v c w.is_pass w.start) v.past end → ((taken : ℕ) → length (taken_nodes v.past) ≤ taken → v.steps + then_left then ≤ most_steps w.command v.tries taken) → Answered v (record c { share = share_behind run c.share }) run then end
 unfolding back_so
-answered_back v c (Llx m) then end w none a few = record { works = back_so v c (Llx m) then w; none = none; answers = a; back = refl; few = few }
-answered_back v c (Scx m) then end w none a few = record { works = back_so v c (Scx m) then w; none = none; answers = a; back = refl; few = few }
-answered_back v c (Vlx m) then end w none a few = record { works = back_so v c (Vlx m) then w; none = none; answers = a; back = refl; few = few }
 answered_back v c (Map m) then end w none a few = record { works = back_so v c (Map m) then w; none = none; answers = a; back = refl; few = few }
+answered_back v c run then end w none a few = record { works = back_so v c run then w; none = none; answers = a; back = refl; few = few }
 
 pub answered_so : (v : ClientView) (c : Client) (p : Running) (now : Run) (end : Ended) (found : ℕ) (rest : Option Running) (mid : Client) (x : Hears v c p found) → rest ≡ None → mid ≡ record c { running = rest; share = share_behind now c.share } → IsSameMachine p.run now → RunAnswers now (machine_call v c x.works.is_pass x.works.start) v.past end → Answered v mid now p.then end
 unfolding works_so
@@ -204,6 +183,4 @@ after_run v c new run then end a answer e x f = go run (subst (λ t. Answered v 
   where
     go : (run : Run) → Answered v c run then (ended.Llx a) → Told v c new answer
     go (Llx m) y = f m y
-    go (Scx m) y = absurd y.answers
-    go (Vlx m) y = absurd y.answers
-    go (Map m) y = absurd y.answers
+    go run y = absurd y.answers

@@ -1,6 +1,6 @@
 -- A call of the map that runs: what its SCX-record in progress says, and the word `call` that it
 -- fills.
-use Rattle.std.proofs.Common.{◌≡◌, ℕ, Option, Some, None, refl, sym, ◌∙◌, ap, subst, arith}
+use Rattle.std.proofs.Common.{◌≡◌, ℕ, Option, None, refl, sym, ◌∙◌, ap, subst, arith}
 use Rattle.arena.specs.declared.layout.Layout.{Layout}
 use Rattle.arena.specs.declared.step.Step.{Step}
 use Rattle.arena.specs.declared.step.Kind.TheVariants.{Fill as FillKind, LoadSettled}
@@ -21,7 +21,7 @@ use Rattle.prims.specs.declared.put.PutRun.{PutRun}
 use Rattle.prims.specs.declared.put.PutAt.{PutAt}
 use Rattle.prims.specs.declared.put.PutAt.TheVariants.{Start as PutStart, Fill as PutFill, Scx as PutScx}
 use Rattle.prims.specs.declared.scx.ScxAt.{ScxAt}
-use Rattle.prims.specs.declared.scx.ScxAt.TheVariants.{Start as ScxStart, Plan as AtPlan, New as AtNew, Old as AtOld, Member as AtMember, Seen as AtSeen, Call as AtCall, Help}
+use Rattle.prims.specs.declared.scx.ScxAt.TheVariants.{Start as ScxStart, Help}
 use Rattle.prims.proofs.Lemmas.{llx_fills_not, vlx_fills_not, own_in_hand}
 use Rattle.dict.specs.Calls.{call_in}
 use Rattle.dict.specs.Known.{IsNumbered, WaitsInside}
@@ -48,7 +48,7 @@ use Rattle.updates.specs.declared.update.UpdateAt.{UpdateAt}
 use Rattle.updates.specs.declared.update.UpdateAt.TheVariants.{Start, Walk, Look, Load, Fill, Scx}
 use Rattle.updates.specs.declared.update.UpdateRun.{UpdateRun}
 use Rattle.script.specs.declared.command.Command.{Command}
-use Rattle.script.specs.declared.command.Command.TheVariants.{Llx as LlxOf, Scx as ScxOf, Vlx as VlxOf, Set as SetOf, Map as MapOf}
+use Rattle.script.specs.declared.command.Command.TheVariants.{Scx as ScxOf, Set as SetOf}
 use Rattle.player.specs.declared.client.Put.{Put}
 use Rattle.player.specs.declared.run.Run.{Run}
 use Rattle.player.specs.declared.run.Run.TheVariants.{Llx, Scx as ScxRun, Vlx, Map}
@@ -62,12 +62,7 @@ module _ (allows : Layout → History → ℕ → Type 0) (m : Job) (c : Machine
   scx_filled : (at : ScxAt) (s : Step) → IsNamedScx h m.scx.0 → ScxWaitsAt allows c h m at s → HasFilled c h m.scx.0 m.call m.update
   scx_filled ScxStart s p w = absurd w
   scx_filled (Help help) s p w = w.2
-  scx_filled AtPlan s p w = absurd (w.fills.hand.is_open.unnamed p)
-  scx_filled AtNew s p w = absurd (w.fills.hand.is_open.unnamed p)
-  scx_filled AtOld s p w = absurd (w.fills.hand.is_open.unnamed p)
-  scx_filled (AtMember j) s p w = absurd (w.fills.hand.is_open.unnamed p)
-  scx_filled (AtSeen j) s p w = absurd (w.fills.hand.is_open.unnamed p)
-  scx_filled AtCall s p w = absurd (w.fills.hand.is_open.unnamed p)
+  scx_filled at s p w = absurd (w.fills.hand.is_open.unnamed p)
 
   -- the fill of a word `call` stores the number of its call
   says_at : (part : ScxWord) (s : Step) (t v : ℕ) → s ≡ fill_step m part → s.word ≡ scx_word t CallWord → word_after s.access v ≡ m.call
@@ -77,12 +72,7 @@ module _ (allows : Layout → History → ℕ → Type 0) (m : Job) (c : Machine
   scx_says : (at : ScxAt) (s : Step) (t v : ℕ) → ScxWaitsAt allows c h m at s → s.kind ≡ FillKind → s.word ≡ scx_word t CallWord → word_after s.access v ≡ m.call
   scx_says ScxStart s t v w kind word = absurd w
   scx_says (Help help) s t v w kind word = absurd (help_fills_not allows help c h s w.0 kind)
-  scx_says AtPlan s t v w kind word = says_at (part_at AtPlan) s t v w.asked word
-  scx_says AtNew s t v w kind word = says_at (part_at AtNew) s t v w.asked word
-  scx_says AtOld s t v w kind word = says_at (part_at AtOld) s t v w.asked word
-  scx_says (AtMember j) s t v w kind word = says_at (part_at (AtMember j)) s t v w.asked word
-  scx_says (AtSeen j) s t v w kind word = says_at (part_at (AtSeen j)) s t v w.asked word
-  scx_says AtCall s t v w kind word = says_at (part_at AtCall) s t v w.asked word
+  scx_says at s t v w kind word = says_at (part_at at) s t v w.asked word
 
 -- what an edit's SCX-record in progress says: it is of the call of this number, makes the edit, and
 -- no other of the call has won
@@ -155,11 +145,7 @@ put_says_at m call h s t v PutScx w kind word = scx_says AllowsAll (job_of m.scx
 put_called : (command : Command) (number : ℕ) (m : PutRun) (then : Option Put) → IsScxOf command number m then → m.scx.call ≡ number
 put_called (ScxOf update) number m None x = x.called
 put_called (SetOf field y) number m None x = x.called
-put_called (ScxOf update) number m (Some put) x = absurd x
-put_called (SetOf field y) number m (Some put) x = absurd x
-put_called (LlxOf cell) number m then x = absurd x
-put_called (VlxOf cells) number m then x = absurd x
-put_called (MapOf request) number m then x = absurd x
+put_called command number m then x = absurd x
 
 -- a machine that fills the word `call` stores there the number of the client's call
 pub run_says : (command : Command) (run : Run) (then : Option Put) (call : MachineCall) (h : History) (s : Step) (t v : ℕ) → IsMachineOf command call.number run then → RunWaits run call h s → s.kind ≡ FillKind → s.word ≡ scx_word t CallWord → word_after s.access v ≡ call.number

@@ -203,11 +203,7 @@ scx_outcome v c (SetOf field value) m None (ScxLost node scx) start since is_pas
   took = took;
   drops = drop_one m.scx.update.snaps field.0 v.linked x.covers;
 }
-scx_outcome v c (ScxOf update) m (Some put) a start since is_pass x moments alone room done lost took y = absurd x
-scx_outcome v c (SetOf field value) m (Some put) a start since is_pass x moments alone room done lost took y = absurd x
-scx_outcome v c (LlxOf cell) m then a start since is_pass x moments alone room done lost took y = absurd x
-scx_outcome v c (VlxOf cells) m then a start since is_pass x moments alone room done lost took y = absurd x
-scx_outcome v c (MapOf request) m then a start since is_pass x moments alone room done lost took y = absurd x
+scx_outcome v c command m then a start since is_pass x moments alone room done lost took y = absurd x
 
 -- a client whose SCX has ended drops its snapshots
 stands_scx : (v : ClientView) (c : Client) (m : PutRun) (linked : ℕ → Option History) → IsDropped m.scx.update.snaps v.linked linked → IsClientState v c (in_hand (held c) (Scx m)) → IsClientState (record v { linked = linked }) c (no_hand (held c))
@@ -278,9 +274,7 @@ ends_scx v c (Scx m) then a sound x =
 
     o : IsOutcome v c.pass.0 m.scx.update.snaps x.works.command (answer_of (ended.Scx a))
     o = scx_outcome v c x.works.command m then a x.works.start x.works.begun x.works.is_pass x.works.run_of x.works.moments x.works.alone x.works.room.0 (done a x.answers) (lost a x.answers) (taken_one v c.pass.0 _ x.works.won.own x.works.room.1 (scx_taken v c m then a sound x) x.works.took) x.answers
-ends_scx v c (Llx m) then a sound x = absurd x.answers
-ends_scx v c (Vlx m) then a sound x = absurd x.answers
-ends_scx v c (Map m) then a sound x = absurd x.answers
+ends_scx v c run then a sound x = absurd x.answers
 
 -- The end of a VLX
 
@@ -338,11 +332,7 @@ vlx_outcome v c (VlxOf cells) m None (VlxChanged node scx) x moments alone won t
   took = took;
   drops = record { gone = λ n z. absurd (among_none n z); others = λ n z. refl };
 }
-vlx_outcome v c (VlxOf cells) m (Some put) a x moments alone won took is_pass y = absurd x
-vlx_outcome v c (LlxOf cell) m then a x moments alone won took is_pass y = absurd x
-vlx_outcome v c (ScxOf update) m then a x moments alone won took is_pass y = absurd x
-vlx_outcome v c (SetOf field value) m then a x moments alone won took is_pass y = absurd x
-vlx_outcome v c (MapOf request) m then a x moments alone won took is_pass y = absurd x
+vlx_outcome v c command m then a x moments alone won took is_pass y = absurd x
 
 -- what is said of the snapshots as before leaves a client at rest
 rests_as : (v : ClientView) (c : Client) (linked : ℕ → Option History) → IsDropped [] v.linked linked → IsClientState v c (no_hand (held c)) → IsClientState (record v { linked = linked }) c (no_hand (held c))
@@ -379,9 +369,7 @@ ends_vlx v c (Vlx m) then a x =
       took = o.took;
       late = x.works.late;
     }
-ends_vlx v c (Llx m) then a x = absurd x.answers
-ends_vlx v c (Scx m) then a x = absurd x.answers
-ends_vlx v c (Map m) then a x = absurd x.answers
+ends_vlx v c run then a x = absurd x.answers
 
 -- a call ends with this answer, which leaves what the client has
 ends_as : (v : ClientView) (c : Client) (command : Command) (answer : Answer) → command_of v c ≡ Some command → IsClientState v c (no_hand (held c)) → HoldsShare v c (no_hand (held c)) → c.running ≡ None → IsOutcome v c.pass.0 [] command answer → ((turn : ℕ) → v.won ≡ Some turn → c.begin ≤ turn) → Ends v c c answer
@@ -441,9 +429,7 @@ ends_map v c (Map m) then a x =
     ends_as v c works.command (MapAnswer a) works.is works.stands (holds_back v c share works.is_pass x.back answers.rests) x.none
     (subst (λ (k : Command). IsOutcome v c.pass.0 [] k (MapAnswer a)) (sym works.run_of.is) (map_outcome v c request (MapAnswer a) right took))
     works.late
-ends_map v c (Llx m) then a x = absurd x.answers
-ends_map v c (Scx m) then a x = absurd x.answers
-ends_map v c (Vlx m) then a x = absurd x.answers
+ends_map v c run then a x = absurd x.answers
 
 -- what has ended is the call of a machine other than an LLX
 pub ends_other : (v : ClientView) (c : Client) (run : Run) (then : Option Put) (end : Ended) → ((a : LlxAnswer) → end ≢ ended.Llx a) → IsSound v → Answered v c run then end → Ends v c c (answer_of end)
@@ -535,11 +521,7 @@ llx_outcome v c (SetOf field value) m (Some put) (LlxFinalized node scx) d x too
 llx_outcome v c (SetOf field value) m (Some put) (LlxFail node scx) d x took y = record { answers = tt; entry = refl; tells = tt; took = took 1 1; right = rw (sym x.0) (failed_since v c m (Some put) node scx y); said = λ n. rw (y.answers.0 ∙ x.0) refl }
 llx_outcome v c (SetOf field value) m (Some put) (LlxSnapshot snap) (inl e) x took y = cc
 llx_outcome v c (SetOf field value) m (Some put) (LlxSnapshot snap) (inr d) x took y = absurd (d snap refl)
-llx_outcome v c (LlxOf cell) m (Some put) a d x took y = absurd x
-llx_outcome v c (SetOf field value) m None a d x took y = absurd x
-llx_outcome v c (ScxOf update) m then a d x took y = absurd x
-llx_outcome v c (VlxOf cells) m then a d x took y = absurd x
-llx_outcome v c (MapOf request) m then a d x took y = absurd x
+llx_outcome v c command m then a d x took y = absurd x
 
 -- its call ends, where no SCX follows
 pub ends_llx : (v : ClientView) (old : Client) (kept : Kept) (m : LlxRun) (then : Option Put) (a : LlxAnswer) → IsSound v → Answered v old (Llx m) then (ended.Llx a) → kept.found ≡ set old.kept.found (node_of a) (found_of a) → ((then ≡ None) ⊎ ((snap : Snap) → a ≢ LlxSnapshot snap)) → Ends v old (record old { kept = kept }) (answer_of (ended.Llx a))

@@ -27,7 +27,7 @@ use Rattle.prims.proofs.Lemmas.{moment_more, put_full, put_entry, put_entry_then
 use Rattle.script.specs.Part.{is_subsequence}
 use Rattle.script.specs.Update.{update_cells, update_finalize, update_field, update_value}
 use Rattle.script.specs.declared.command.Command.{Command}
-use Rattle.script.specs.declared.command.Command.TheVariants.{Llx as LlxOf, Scx as ScxOf, Vlx as VlxOf, Set as SetOf, Map as MapOf}
+use Rattle.script.specs.declared.command.Command.TheVariants.{Scx as ScxOf, Set as SetOf, Map as MapOf}
 use Rattle.player.specs.declared.run.Run.{Run}
 use Rattle.player.specs.declared.run.Run.TheVariants.{Llx, Scx, Vlx, Map}
 use Rattle.player.specs.declared.client.Client.{Client}
@@ -44,7 +44,7 @@ use Rattle.player.specs.ClientView.{ClientView, IsSound, IsPutOf, IsScxOf, IsSta
 use Rattle.dict.specs.declared.dict.DictRun.{DictRun}
 use Rattle.spelling.specs.Requests.{map_request}
 use Rattle.spelling.specs.declared.request.Request.{Request}
-use Rattle.spelling.specs.declared.request.Request.TheVariants.{Insert as InsertOf, Delete as DeleteOf, Get as GetOf, Successor as SuccessorOf, Range as RangeOf}
+use Rattle.spelling.specs.declared.request.Request.TheVariants.{Insert as InsertOf, Delete as DeleteOf}
 use Rattle.spelling.specs.OrderedMap.{MapEdit, Edit as EditCall, Insert as PutEdit, Delete as TakeEdit}
 use Rattle.spelling.specs.Runs.{Makes}
 use Rattle.updates.specs.Tries.{HasEnteredOnly}
@@ -154,9 +154,7 @@ module _ (v : ClientView) (c : Client) (row : Row) (m : PutRun) (start : History
         over_nodes (field.0 ∷ []) [] field y (λ k e. cc) p,
         ((z i.at i.within).moment, (z i.at i.within).found.within, subst (λ (k : ℕ). IsLastLook c.pass.0 v.past v.start (z i.at i.within).moment k) i.is (z i.at i.within).source, subst (λ (k : ℕ). IsUnchanged v.layout v.past (z i.at i.within).moment k) i.is (unchanged (SetOf field y) i.at i.within z i.within)),
       )
-  does (LlxOf cell) p z = absurd p
-  does (VlxOf cells) p z = absurd p
-  does (MapOf request) p z = absurd p
+  does command p z = absurd p
 
 -- an update that a row makes win has won behind it
 has_won : (row : Row) (before : History) (t : ℕ) → IsWin before row t → HasWon (row ⊳ before) t
@@ -190,9 +188,7 @@ module _ (v : ClientView) (c : Client) (sound : IsSound v) (row : Row) (s : ℕ)
   edit_does : (request : Request ℕ ℕ) (e : MapEdit) → EditCall e ≡ map_request request → Makes v.layout v.past s e → IsEntryFor v.layout c.pass.0 v.past v.start v.linked (entry_of v.layout v.past s) (MapOf request)
   edit_does (InsertOf key value) e is makes = subst (λ (d : MapEdit). Makes v.layout v.past s d) (let d : EditCall e ≡ EditCall (PutEdit key value) = is in let same : e ≡ PutEdit key value = cc in same) makes
   edit_does (DeleteOf key) e is makes = subst (λ (d : MapEdit). Makes v.layout v.past s d) (let d : EditCall e ≡ EditCall (TakeEdit key) = is in let same : e ≡ TakeEdit key = cc in same) makes
-  edit_does (GetOf key) e is makes = absurd (let other = is in cc)
-  edit_does (SuccessorOf key) e is makes = absurd (let other = is in cc)
-  edit_does (RangeOf low high most) e is makes = absurd (let other = is in cc)
+  edit_does request e is makes = absurd (let other = is in cc)
 
   from_map : (m : DictRun ℕ ℕ) (then : Option Put) (x : Works v c (Map m) then) → IsEditHand m.run (machine_call v c x.is_pass v.start) v.past s → IsEntryFrom v c row s
   from_map m then x h = record {
@@ -230,11 +226,7 @@ module _ (v : ClientView) (c : Client) (sound : IsSound v) (row : Row) (s : ℕ)
       called : (command : Command) (then : Option Put) → IsScxOf command c.number m then → m.scx.call ≡ c.number
       called (ScxOf update) None p = p.called
       called (SetOf field y) None p = p.called
-      called (ScxOf update) (Some put) p = absurd p
-      called (SetOf field y) (Some put) p = absurd p
-      called (LlxOf cell) then p = absurd p
-      called (VlxOf cells) then p = absurd p
-      called (MapOf request) then p = absurd p
+      called command then p = absurd p
 
       by_then : (then : Option Put) → IsScxOf x.command c.number m then → HaveMoments v c.pass.0 x.command m.scx.update.snaps → IsOfPut v c row m x.start x.is_pass → IsEntryFor v.layout c.pass.0 v.past v.start v.linked (update_entry c.pass.0 m.scx) x.command
       by_then None p z y = does v c row m x.start x.is_pass y x.command p z
@@ -242,10 +234,7 @@ module _ (v : ClientView) (c : Client) (sound : IsSound v) (row : Row) (s : ℕ)
         where
           none_then : (command : Command) (put : Put) → IsScxOf command c.number m (Some put) → ⊥
           none_then (ScxOf update) put p = p
-          none_then (SetOf field y) put p = p
-          none_then (LlxOf cell) put p = p
-          none_then (VlxOf cells) put p = p
-          none_then (MapOf request) put p = p
+          none_then command put p = p
   from_run (Llx m) then x f g = absurd (no_hand_wins x.holds)
   from_run (Vlx m) then x f g = absurd (no_hand_wins x.holds)
   from_run (Map m) then x f g = from_map m then x (g m refl)

@@ -37,12 +37,12 @@ use Rattle.record.specs.declared.record.Line.TheVariants.{Step, Log, Reply as Re
 use Rattle.record.specs.declared.record.Row.TheVariants.{Step as Made, Idle}
 use Rattle.record.specs.declared.record.Finished.{Finished}
 use Rattle.record.specs.declared.record.Entry.{Entry}
-use Rattle.spelling.specs.declared.reply.Reply.TheVariants.{Value, Pair, Pairs, Contended, Full as FullReply, NoMemory}
+use Rattle.spelling.specs.declared.reply.Reply.TheVariants.{Pairs, NoMemory}
 use Rattle.record.specs.MapRecord.{number_pairs}
 use Rattle.record.specs.declared.record.Answer.{Answer}
-use Rattle.record.specs.declared.record.Answer.TheVariants.{Snapshot, Finalized, Fail, Done, Lost, Same, Changed, Unlinked, Full, Map as MapAnswer}
+use Rattle.record.specs.declared.record.Answer.TheVariants.{Done, Unlinked, Full, Map as MapAnswer}
 use Rattle.script.specs.declared.command.Command.TheVariants.{Llx as LlxOf, Scx as ScxOf, Vlx as VlxOf, Set as SetOf, Map}
-use Rattle.spelling.specs.declared.request.Request.TheVariants.{Insert as InsertOf, Delete as DeleteOf, Get as GetOf, Successor as SuccessorOf, Range as RangeOf}
+use Rattle.spelling.specs.declared.request.Request.TheVariants.{Get as GetOf, Successor as SuccessorOf, Range as RangeOf}
 use Rattle.player.specs.declared.client.Client.{Client}
 use Rattle.player.specs.Lines.{newest}
 use Rattle.record.specs.Turns.{history, turns, entries, answered, begin, start, steps, won, last_client, entry_of, entry_owed, entry_at}
@@ -342,98 +342,22 @@ is_refusal : (v : ClientView) (command : Command) (answer : Answer) → MayAnswe
 is_refusal v (ScxOf update) (Unlinked node) x = record { leaves = λ n. refl; not_done = λ e. cc; none = refl }
 is_refusal v (ScxOf update) (Full what left) x = record { leaves = λ n. refl; not_done = λ e. cc; none = refl }
 is_refusal v (VlxOf cells) (Unlinked node) x = record { leaves = λ n. refl; not_done = λ e. cc; none = refl }
-is_refusal v (ScxOf update) (Snapshot left right) x = absurd x
-is_refusal v (ScxOf update) Finalized x = absurd x
-is_refusal v (ScxOf update) (Fail node scx) x = absurd x
-is_refusal v (ScxOf update) Done x = absurd x
-is_refusal v (ScxOf update) (Lost node scx) x = absurd x
-is_refusal v (ScxOf update) Same x = absurd x
-is_refusal v (ScxOf update) (Changed node scx) x = absurd x
-is_refusal v (VlxOf cells) (Snapshot left right) x = absurd x
-is_refusal v (VlxOf cells) Finalized x = absurd x
-is_refusal v (VlxOf cells) (Fail node scx) x = absurd x
-is_refusal v (VlxOf cells) Done x = absurd x
-is_refusal v (VlxOf cells) (Lost node scx) x = absurd x
-is_refusal v (VlxOf cells) Same x = absurd x
-is_refusal v (VlxOf cells) (Changed node scx) x = absurd x
-is_refusal v (VlxOf cells) (Full what left) x = absurd x
-is_refusal v (LlxOf cell) answer x = absurd x
-is_refusal v (SetOf field value) answer x = absurd x
-is_refusal v (Map (InsertOf key value)) answer x = absurd x
-is_refusal v (Map (DeleteOf key)) answer x = absurd x
-is_refusal v (Map (GetOf key)) answer x = absurd x
-is_refusal v (Map (SuccessorOf key)) (MapAnswer (Value value)) x = absurd x
-is_refusal v (Map (SuccessorOf key)) (MapAnswer (Pair found)) x = absurd x
-is_refusal v (Map (SuccessorOf key)) (MapAnswer (Pairs found)) x = absurd x
-is_refusal v (Map (SuccessorOf key)) (Snapshot left right) x = absurd x
-is_refusal v (Map (SuccessorOf key)) Finalized x = absurd x
-is_refusal v (Map (SuccessorOf key)) (Fail node scx) x = absurd x
-is_refusal v (Map (SuccessorOf key)) Done x = absurd x
-is_refusal v (Map (SuccessorOf key)) (Lost node scx) x = absurd x
-is_refusal v (Map (SuccessorOf key)) Same x = absurd x
-is_refusal v (Map (SuccessorOf key)) (Changed node scx) x = absurd x
-is_refusal v (Map (SuccessorOf key)) (Unlinked node) x = absurd x
-is_refusal v (Map (SuccessorOf key)) (Full what left) x = absurd x
-is_refusal v (Map (SuccessorOf key)) (MapAnswer (FullReply full)) x = absurd x
-is_refusal v (Map (SuccessorOf key)) (MapAnswer (Contended node scx)) x = absurd x
 is_refusal v (Map (SuccessorOf key)) (MapAnswer NoMemory) x = record { leaves = λ n. refl; not_done = λ e. cc; none = refl }
-is_refusal v (Map (RangeOf low high most)) (MapAnswer (Value value)) x = absurd x
-is_refusal v (Map (RangeOf low high most)) (MapAnswer (Pair found)) x = absurd x
 is_refusal v (Map (RangeOf low high most)) (MapAnswer (Pairs found)) x = record { leaves = λ n. refl; not_done = λ e. cc; none = refl }
-is_refusal v (Map (RangeOf low high most)) (Snapshot left right) x = absurd x
-is_refusal v (Map (RangeOf low high most)) Finalized x = absurd x
-is_refusal v (Map (RangeOf low high most)) (Fail node scx) x = absurd x
-is_refusal v (Map (RangeOf low high most)) Done x = absurd x
-is_refusal v (Map (RangeOf low high most)) (Lost node scx) x = absurd x
-is_refusal v (Map (RangeOf low high most)) Same x = absurd x
-is_refusal v (Map (RangeOf low high most)) (Changed node scx) x = absurd x
-is_refusal v (Map (RangeOf low high most)) (Unlinked node) x = absurd x
-is_refusal v (Map (RangeOf low high most)) (Full what left) x = absurd x
-is_refusal v (Map (RangeOf low high most)) (MapAnswer (FullReply full)) x = absurd x
-is_refusal v (Map (RangeOf low high most)) (MapAnswer (Contended node scx)) x = absurd x
 is_refusal v (Map (RangeOf low high most)) (MapAnswer NoMemory) x = record { leaves = λ n. refl; not_done = λ e. cc; none = refl }
-is_refusal v (ScxOf update) (MapAnswer reply) x = absurd x
-is_refusal v (VlxOf cells) (MapAnswer reply) x = absurd x
+is_refusal v command answer x = absurd x
 
 -- it tells nothing of an edit
 refuses_tells : (v : ClientView) (c : ℕ) (command : Command) (answer : Answer) → MayAnswerAtOnce command answer → Tells v c command answer
-refuses_tells v c (Map (InsertOf key value)) answer x = absurd x
-refuses_tells v c (Map (DeleteOf key)) answer x = absurd x
 refuses_tells v c (LlxOf cell) answer x = tt
 refuses_tells v c (ScxOf update) answer x = tt
 refuses_tells v c (VlxOf cells) answer x = tt
 refuses_tells v c (SetOf field value) answer x = tt
 refuses_tells v c (Map (GetOf key)) answer x = tt
-refuses_tells v c (Map (SuccessorOf key)) (MapAnswer (Value value)) x = absurd x
-refuses_tells v c (Map (SuccessorOf key)) (MapAnswer (Pair found)) x = absurd x
-refuses_tells v c (Map (SuccessorOf key)) (MapAnswer (Pairs found)) x = absurd x
-refuses_tells v c (Map (SuccessorOf key)) (Snapshot left right) x = absurd x
-refuses_tells v c (Map (SuccessorOf key)) Finalized x = absurd x
-refuses_tells v c (Map (SuccessorOf key)) (Fail node scx) x = absurd x
-refuses_tells v c (Map (SuccessorOf key)) Done x = absurd x
-refuses_tells v c (Map (SuccessorOf key)) (Lost node scx) x = absurd x
-refuses_tells v c (Map (SuccessorOf key)) Same x = absurd x
-refuses_tells v c (Map (SuccessorOf key)) (Changed node scx) x = absurd x
-refuses_tells v c (Map (SuccessorOf key)) (Unlinked node) x = absurd x
-refuses_tells v c (Map (SuccessorOf key)) (Full what left) x = absurd x
-refuses_tells v c (Map (SuccessorOf key)) (MapAnswer (FullReply full)) x = absurd x
-refuses_tells v c (Map (SuccessorOf key)) (MapAnswer (Contended node scx)) x = absurd x
 refuses_tells v c (Map (SuccessorOf key)) (MapAnswer NoMemory) x = tt
-refuses_tells v c (Map (RangeOf low high most)) (MapAnswer (Value value)) x = absurd x
-refuses_tells v c (Map (RangeOf low high most)) (MapAnswer (Pair found)) x = absurd x
 refuses_tells v c (Map (RangeOf low high most)) (MapAnswer (Pairs found)) x = inr (λ m. nothing_taken low high most m x.0 ∙ ap (λ (ps : List (ℕ × ℕ)). ManyPairs (number_pairs ps)) (sym x.1))
-refuses_tells v c (Map (RangeOf low high most)) (Snapshot left right) x = absurd x
-refuses_tells v c (Map (RangeOf low high most)) Finalized x = absurd x
-refuses_tells v c (Map (RangeOf low high most)) (Fail node scx) x = absurd x
-refuses_tells v c (Map (RangeOf low high most)) Done x = absurd x
-refuses_tells v c (Map (RangeOf low high most)) (Lost node scx) x = absurd x
-refuses_tells v c (Map (RangeOf low high most)) Same x = absurd x
-refuses_tells v c (Map (RangeOf low high most)) (Changed node scx) x = absurd x
-refuses_tells v c (Map (RangeOf low high most)) (Unlinked node) x = absurd x
-refuses_tells v c (Map (RangeOf low high most)) (Full what left) x = absurd x
-refuses_tells v c (Map (RangeOf low high most)) (MapAnswer (FullReply full)) x = absurd x
-refuses_tells v c (Map (RangeOf low high most)) (MapAnswer (Contended node scx)) x = absurd x
 refuses_tells v c (Map (RangeOf low high most)) (MapAnswer NoMemory) x = tt
+refuses_tells v c command answer x = absurd x
 
 pub refused_turn : (lay : Layout) (tries : ℕ) (calls : List Call) (words : Contents) (clients : List Client) (lines : List Line) (c new : Client) (number : ℕ) (pass : PassNo) (answer : Answer) (changes : List Change) (said : Option ℕ) (reply : Finished) → (lay.mode ≡ Tree → AreEntries calls lines changes) → length calls ≤ 65536 → OwesNothing lay calls lines → IsTurnOf lay tries calls words clients lines c → Refuses (client_view lay tries calls lines c.pass.0) c answer → begin lines c.pass.0 ≡ None → c.begin ≡ number → number ≡ suc (turns lines) → pass ≡ c.pass → IsEnd calls (Step (Idle number pass) ∷ lines) changes c new number answer said reply → AreBetweenTurns lay tries calls words (set clients c.pass.0 new) (ReplyLine reply ∷ Step (Idle number pass) ∷ lines)
 refused_turn lay tries calls words clients lines c new number pass answer changes said reply entries few settled x r unbegun begins n is e =

@@ -23,13 +23,8 @@ use Rattle.player.specs.Moments.{IsMomentBy, IsOrderedMoment, IsPairsMoment, IsR
 pub done_enters : (command : Command) → MayAnswerAfterStep command Done → enters command Done ≡ true
 done_enters (Scx update) x = refl
 done_enters (Set field value) x = refl
-done_enters (Llx cell) x = absurd x
-done_enters (Vlx cells) x = absurd x
 done_enters (Map (Insert key value)) x = absurd x
-done_enters (Map (Delete key)) x = absurd x
-done_enters (Map (Get key)) x = absurd x
-done_enters (Map (Successor key)) x = absurd x
-done_enters (Map (Range low high most)) x = absurd x
+done_enters command x = absurd x
 
 same_won : (b : Bool) (said won : Option ℕ) → b ≡ true → HasItsEntry b won → ((turn : ℕ) → won ≡ Some turn → said ≡ Some turn) → said ≡ won
 same_won true said (Some turn) e x f = f turn refl

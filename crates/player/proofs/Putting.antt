@@ -28,14 +28,14 @@ use Rattle.prims.specs.declared.llx.Llx.TheVariants.{Snapshot as LlxSnapshot}
 use Rattle.prims.specs.declared.scx.ScxAt.TheVariants.{Start as ScxStart}
 use Rattle.prims.specs.declared.put.PutAt.TheVariants.{Start as PutStart}
 use Rattle.script.specs.declared.command.Command.{Command}
-use Rattle.script.specs.declared.command.Command.TheVariants.{Llx as LlxOf, Scx as ScxOf, Vlx as VlxOf, Set as SetOf, Map}
+use Rattle.script.specs.declared.command.Command.TheVariants.{Set as SetOf}
 use Rattle.player.specs.declared.run.Run.TheVariants.{Llx, Scx}
 use Rattle.player.specs.declared.run.Ended.TheVariants as ended
 use Rattle.player.specs.declared.client.Client.{Client}
 use Rattle.player.specs.declared.client.Put.{Put}
 use Rattle.player.specs.declared.kept.Kept.{Kept}
 use Rattle.record.specs.declared.record.Answer.{Answer}
-use Rattle.record.specs.declared.record.Answer.TheVariants.{Snapshot, Finalized, Fail, Done, Lost, Same, Changed, Unlinked, Full, Map as MapAnswer}
+use Rattle.record.specs.declared.record.Answer.TheVariants.{Full}
 use Rattle.arena.specs.declared.fault.Resource.{Resource}
 use Rattle.player.specs.KeptSnaps.{IsUnspent, kept_of, node_of, found_of}
 use Rattle.record.specs.Commands.{commands}
@@ -63,15 +63,7 @@ pub record IsFullAnswer (lay : Layout) (c : ℕ) (h : History) (answer : Answer)
 
 pub full_answer : (lay : Layout) (h : History) (c : ℕ) (left : Remaining) (answer : Answer) → IsShare lay h c left left.next_node left.next_scx → TellsFull left answer → IsFullAnswer lay c h answer
 full_answer lay h c left (Full what k) share full = record { what = what; left = k; is = refl; few = full_left lay h c left share what k full }
-full_answer lay h c left (Snapshot a b) share full = absurd full
-full_answer lay h c left Finalized share full = absurd full
-full_answer lay h c left (Fail node scx) share full = absurd full
-full_answer lay h c left Done share full = absurd full
-full_answer lay h c left (Lost node scx) share full = absurd full
-full_answer lay h c left Same share full = absurd full
-full_answer lay h c left (Changed node scx) share full = absurd full
-full_answer lay h c left (Unlinked node) share full = absurd full
-full_answer lay h c left (MapAnswer reply) share full = absurd full
+full_answer lay h c left answer share full = absurd full
 
 -- The SCX of a set
 
@@ -119,10 +111,7 @@ can_put v old kept m put snap sound x e = go x.works.command x.works.is x.works.
       };
       few = λ taken. few (length (taken_nodes v.past)) (omega arith);
     }
-    go (LlxOf cell) is f few = absurd f
-    go (ScxOf update) is f few = absurd f
-    go (VlxOf cells) is f few = absurd f
-    go (Map request) is f few = absurd f
+    go command is f few = absurd f
 
 -- what it answers then
 pub told_put : (v : ClientView) (old new : Client) (kept : Kept) (m : LlxRun) (put : Put) (snap : Snap) (answer : Option Answer) → (x : Answered v old (Llx m) (Some put) (ended.Llx (LlxSnapshot snap))) → Puts v (linked_now v x.works.command) (record old { kept = kept }) new answer → Told v old new answer
@@ -146,10 +135,7 @@ told_put v old new kept m put snap (Some answer) x p = go x.works.command x.work
           took = rw p.0.pass (taken_nothing v old.pass.0 (held old) 1 1 x.works.holds.share x.works.took);
           late = λ turn e. rw p.1 (x.works.late turn e);
         }
-    go (LlxOf cell) is f rests = absurd f
-    go (ScxOf update) is f rests = absurd f
-    go (VlxOf cells) is f rests = absurd f
-    go (Map request) is f rests = absurd f
+    go command is f rests = absurd f
 
 -- the same with what it has answered written out
 pub answered_put : (v : ClientView) (c : Client) (m : LlxRun) (next : Option Put) (put : Put) (a : LlxAnswer) (snap : Snap) → next ≡ Some put → a ≡ LlxSnapshot snap → Answered v c (Llx m) next (ended.Llx a) → Answered v c (Llx m) (Some put) (ended.Llx (LlxSnapshot snap))

@@ -18,7 +18,7 @@ use Rattle.spelling.specs.declared.request.Request.TheVariants.{Insert as Insert
 use Rattle.record.specs.declared.record.Line.{Line}
 use Rattle.record.specs.declared.record.Finished.{Finished}
 use Rattle.spelling.specs.declared.reply.Reply.{Reply}
-use Rattle.spelling.specs.declared.reply.Reply.TheVariants.{Value, Pair, Pairs, Contended, Full as FullReply, NoMemory}
+use Rattle.spelling.specs.declared.reply.Reply.TheVariants.{Value, Pair, Pairs, Contended, NoMemory}
 use Rattle.spelling.specs.Replies.{word_pair, number_reply}
 use Rattle.record.specs.declared.record.Answer.{Answer}
 use Rattle.record.specs.declared.record.Answer.TheVariants.{Snapshot, Finalized, Fail, Done, Lost, Same, Changed, Unlinked, Full, Map as MapAnswer}
@@ -75,20 +75,7 @@ get_reads lay tries calls words lines changes reply key x mode entries owed call
 
     go : (answer : Answer) → reply.answer ≡ answer → IsPlacedOnMap (reply_told answer) calls lines (Get key) reply
     go (MapAnswer (Value a)) e = told a e
-    go (Snapshot left right') e = absurd (rw e at right)
-    go Finalized e = absurd (rw e at right)
-    go (Fail node scx) e = absurd (rw e at right)
-    go Done e = absurd (rw e at right)
-    go (Lost node scx) e = absurd (rw e at right)
-    go Same e = absurd (rw e at right)
-    go (Changed node scx) e = absurd (rw e at right)
-    go (Unlinked node) e = absurd (rw e at right)
-    go (Full what left) e = absurd (rw e at right)
-    go (MapAnswer (Contended node scx)) e = absurd (rw e at right)
-    go (MapAnswer (Pair found)) e = absurd (rw e at right)
-    go (MapAnswer (Pairs found)) e = absurd (rw e at right)
-    go (MapAnswer (FullReply full)) e = absurd (rw e at right)
-    go (MapAnswer NoMemory) e = absurd (rw e at right)
+    go answer e = absurd (rw e at right)
 
 -- an ordered read took place in a turn that was found for it
 module _ (lay : Layout) (tries : ℕ) (calls : List Call) (words : Contents) (lines : List Line) (changes : List Change) (reply : Finished) (x : IsLawfulSoFar lay tries calls words lines) (mode : lay.mode ≡ Tree) (entries : AreEntries calls lines changes) (owed : entry_owed lay lines ≡ None) (called : reply.call ≡ answered lines reply.client.0) (unwon : won lay lines reply.client.0 ≡ None) (begins : begin lines reply.client.0 ≡ Some reply.begin) (ends : reply.end ≡ turns lines) where
@@ -116,18 +103,7 @@ module _ (lay : Layout) (tries : ℕ) (calls : List Call) (words : Contents) (li
       go (MapAnswer (Pair found)) e = told_reads (Map (SuccessorOf key)) (Successor key) (Pair found) (pair_or_none (option_map (word_pair (λ n. n) (λ n. n)) found)) tt refl is e refl (rw e at tells) (rw e at moment)
       go (MapAnswer (Contended n scx)) e = refused_reads (rw e at moment)
       go (MapAnswer NoMemory) e = refused_reads (rw e at moment)
-      go (MapAnswer (Value told)) e = absurd (rw e at right)
-      go (MapAnswer (Pairs found)) e = absurd (rw e at right)
-      go (MapAnswer (FullReply full)) e = absurd (rw e at right)
-      go (Snapshot a b) e = absurd (rw e at right)
-      go Finalized e = absurd (rw e at right)
-      go (Fail node scx) e = absurd (rw e at right)
-      go Done e = absurd (rw e at right)
-      go (Lost node scx) e = absurd (rw e at right)
-      go Same e = absurd (rw e at right)
-      go (Changed node scx) e = absurd (rw e at right)
-      go (Unlinked n) e = absurd (rw e at right)
-      go (Full what left) e = absurd (rw e at right)
+      go answer e = absurd (rw e at right)
 
   range_reads : (low high most : ℕ) → next_command calls lines reply.client.0 ≡ Some (Map (RangeOf low high most)) → IsRight lay tries reply.client.0 (history lay.mode lines) (start lay.mode lines reply.client.0) (linked calls lay.mode lines reply.client.0) (Map (RangeOf low high most)) reply.answer → Tells (client_view lay tries calls lines reply.client.0) reply.client.0 (Map (RangeOf low high most)) reply.answer → IsMomentBy calls lines changes (Map (RangeOf low high most)) reply.answer reply.begin reply.end (won lay lines reply.client.0) reply.moment → IsPlacedOnMap (reply_told reply.answer) calls lines (Range low high most) reply
   range_reads low high most is right tells moment = go reply.answer refl
@@ -136,18 +112,7 @@ module _ (lay : Layout) (tries : ℕ) (calls : List Call) (words : Contents) (li
       go (MapAnswer (Pairs found)) e = told_reads (Map (RangeOf low high most)) (Range low high most) (Pairs found) (ManyPairs (number_pairs found.items)) tt refl is e refl (rw e at tells) (rw e at moment)
       go (MapAnswer (Contended n scx)) e = refused_reads (rw e at moment)
       go (MapAnswer NoMemory) e = refused_reads (rw e at moment)
-      go (MapAnswer (Value told)) e = absurd (rw e at right)
-      go (MapAnswer (Pair found)) e = absurd (rw e at right)
-      go (MapAnswer (FullReply full)) e = absurd (rw e at right)
-      go (Snapshot a b) e = absurd (rw e at right)
-      go Finalized e = absurd (rw e at right)
-      go (Fail node scx) e = absurd (rw e at right)
-      go Done e = absurd (rw e at right)
-      go (Lost node scx) e = absurd (rw e at right)
-      go Same e = absurd (rw e at right)
-      go (Changed node scx) e = absurd (rw e at right)
-      go (Unlinked n) e = absurd (rw e at right)
-      go (Full what left) e = absurd (rw e at right)
+      go answer e = absurd (rw e at right)
 
 -- what is known of an edit's reply
 edit_reply : (lay : Layout) (tries : ℕ) (calls : List Call) (words : Contents) (lines : List Line) (changes : List Change) (reply : Finished) (c : ℕ) (command : Command) (x : IsLawfulSoFar lay tries calls words lines) → lay.mode ≡ Tree → (lay.mode ≡ Tree → AreEntries calls lines changes) → entry_owed lay lines ≡ None → reply.client.0 ≡ c → reply.call ≡ answered lines c → IsRight lay tries c (history lay.mode lines) (start lay.mode lines c) (linked calls lay.mode lines c) command reply.answer → Tells (client_view lay tries calls lines c) c command reply.answer → HasItsEntry (enters command reply.answer) (won lay lines c) → next_command calls lines c ≡ Some command → begin lines c ≡ Some reply.begin → reply.end ≡ turns lines

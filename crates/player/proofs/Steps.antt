@@ -31,8 +31,8 @@ use Rattle.places.specs.Changed.{changed_key}
 use Rattle.places.specs.Places.{changes, Knows, HoldsOfKey}
 use Rattle.places.specs.Entries.{AreEntries, IsChangeBy, value_left}
 use Rattle.record.specs.MapRecord.{map_call}
-use Rattle.script.specs.declared.command.Command.TheVariants.{Llx as LlxOf, Scx as ScxOf, Vlx as VlxOf, Set as SetOf, Map}
-use Rattle.spelling.specs.declared.request.Request.TheVariants.{Insert as InsertOf, Delete as DeleteOf, Get as GetOf, Successor as SuccessorOf, Range as RangeOf}
+use Rattle.script.specs.declared.command.Command.TheVariants.{Scx as ScxOf, Set as SetOf, Map}
+use Rattle.spelling.specs.declared.request.Request.TheVariants.{Insert as InsertOf, Delete as DeleteOf}
 use Rattle.script.specs.declared.call.Call.{Call}
 use Rattle.script.specs.declared.command.Command.{Command}
 use Rattle.record.specs.declared.record.Line.{Line}
@@ -224,13 +224,9 @@ module _ (p : Interleaving) (i number : ℕ) (step : Ask) (a : IsAsked p i numbe
       by_command : (command : Command) → slice_get (commands calls entry.client.0) (answered lines entry.client.0) ≡ Some command → IsEntryFor lay entry.client.0 (history lay.mode lines) (start lay.mode lines entry.client.0) (linked calls lay.mode lines entry.client.0) w.entered command → IsAtEdit calls p.clients.items entry
       by_command (Map (InsertOf key put)) here does = stands (PutEdit key put) refl here c.next refl
       by_command (Map (DeleteOf key)) here does = stands (TakeEdit key) refl here c.next refl
-      by_command (LlxOf cell) here does = absurd does
-      by_command (VlxOf cells) here does = absurd does
-      by_command (Map (GetOf key)) here does = absurd does
-      by_command (Map (SuccessorOf key)) here does = absurd does
-      by_command (Map (RangeOf low high most)) here does = absurd does
       by_command (ScxOf update) here does = absurd (let z : Records ≡ Tree = command_mode lay.mode calls entry.client.0 _ (ScxOf update) a.turn.so_far.of_mode here ∙ tree in cc)
       by_command (SetOf field put) here does = absurd (let z : Records ≡ Tree = command_mode lay.mode calls entry.client.0 _ (SetOf field put) a.turn.so_far.of_mode here ∙ tree in cc)
+      by_command command here does = absurd does
 
   asked_edit : (entry : Entry) → entry_of lay lines number made ≡ Some entry → lay.mode ≡ Tree → IsAtEdit calls p.clients.items entry
   asked_edit entry e tree = go (ℕ_discrete entry.client.0 a.client.pass.0)

@@ -85,16 +85,14 @@ covers_none : (lay : Layout) (h : History) (c : ℕ) (left : Remaining) (node sc
 covers_none lay h c left node scx l share n own p m = absurd (next_idle lay h c left node scx l share own p)
 
 covers_waits : (run : Run) (call : Call) (h : History) (step : Ask) (left : Remaining) → IsOfCells run → Lawful call.layout h → RunWaits run call h step → IsShare call.layout h call.pass left (in_hand left run).node (in_hand left run).scx → Covers call.layout h call.pass (in_hand left run)
-covers_waits (Llx m) call h step left is l w share = covers_none call.layout h call.pass left _ _ l share
-covers_waits (Vlx m) call h step left is l w share = covers_none call.layout h call.pass left _ _ l share
 covers_waits (Map m) call h step left is l w share = absurd is
 covers_waits (Scx m) call h step left is l w share = λ n own p x. put_covers AllowsAll m call h step n w p x
+covers_waits run call h step left is l w share = covers_none call.layout h call.pass left _ _ l share
 
 covers_ready : (run : Run) (call : Call) (h : History) (v : ℕ) (left : Remaining) → IsOfCells run → Lawful call.layout h → RunIsReady run call h (Some v) → IsShare call.layout h call.pass left (in_hand left run).node (in_hand left run).scx → Covers call.layout h call.pass (in_hand left run)
-covers_ready (Llx m) call h v left is l w share = covers_none call.layout h call.pass left _ _ l share
-covers_ready (Vlx m) call h v left is l w share = covers_none call.layout h call.pass left _ _ l share
 covers_ready (Map m) call h v left is l w share = absurd is
 covers_ready (Scx m) call h v left is l w share = λ n own p x. put_covers_then AllowsAll m call h v n w p x
+covers_ready run call h v left is l w share = covers_none call.layout h call.pass left _ _ l share
 
 -- One more row
 
@@ -208,9 +206,8 @@ module _ (v : ClientView) (c : Client) (r : Row) (number : ℕ) (start : History
 
   won_more_by : (q : Run) → start ≡ v.start → Extends v.past v.start → Holds v c q → IsWonBy v c.pass.0 q → IsWonBy (after_row v r start steps won) c.pass.0 q
   won_more_by (Scx m) same since x w = won_as (in_hand (held c) (Scx m)) x w
-  won_more_by (Llx m) same since x w = no_win (no_hand (held c)) x refl w
-  won_more_by (Vlx m) same since x w = no_win (no_hand (held c)) x refl w
   won_more_by (Map m) same since x w = won_since same since w
+  won_more_by q same since x w = no_win (no_hand (held c)) x refl w
 
   late_more : c.begin ≤ number → ((turn : ℕ) → v.won ≡ Some turn → c.begin ≤ turn) → (turn : ℕ) → won ≡ Some turn → c.begin ≤ turn
   late_more i f turn e = ⊎_elim (λ q. f turn (sym q ∙ e)) (λ y. let same : number ≡ turn = some_number number turn (sym y.0 ∙ e) in rw same at i) tells.no
@@ -234,10 +231,7 @@ module _ (v : ClientView) (c : Client) (r : Row) (number : ℕ) (start : History
   moments_by (Scx m) then command since looks of x = moments_more command m.scx.update.snaps since (looks m refl) x
   moments_by (Vlx m) then (VlxOf cells) since looks of x = λ i p. let y = x i p in record { moment = y.moment; found = moment_more v.layout v.past r (snap_at m.snaps i) y.moment y.found; source = y.source }
   moments_by (Map m) then command since looks of x = λ i p. absurd (omega arith)
-  moments_by (Vlx m) then (MapOf request) since looks of x = absurd of
-  moments_by (Vlx m) then (LlxOf cell) since looks of x = absurd of
-  moments_by (Vlx m) then (ScxOf update) since looks of x = absurd of
-  moments_by (Vlx m) then (SetOf field x) since looks of y = absurd of
+  moments_by (Vlx m) then command since looks of x = absurd of
 
   took_hand : (hand : Hand) → TakesOnly v.layout c.pass.0 hand.scx v.past r → ((n : ℕ) → IsOwnNode v.layout c.pass.0 n → n ≢ hand.node → ¬ IsTakenNode v.past n → ¬ IsTakenNode (r ⊳ v.past) n) → start ≡ v.start → HasTaken v c.pass.0 hand → HasTaken (after_row v r start steps won) c.pass.0 hand
   took_hand hand takes nodes e y = record {
@@ -247,22 +241,16 @@ module _ (v : ClientView) (c : Client) (r : Row) (number : ℕ) (start : History
 
   took : (q : Run) → LeavesHand v c r q → start ≡ v.start → TakesInHand v c q → TakesInHand (after_row v r start steps won) c q
   took (Map m) leaves e y = tt
-  took (Llx m) leaves e y = took_hand (in_hand (held c) (Llx m)) leaves.0 leaves.1 e y
-  took (Scx m) leaves e y = took_hand (in_hand (held c) (Scx m)) leaves.0 leaves.1 e y
-  took (Vlx m) leaves e y = took_hand (in_hand (held c) (Vlx m)) leaves.0 leaves.1 e y
+  took q leaves e y = took_hand (in_hand (held c) q) leaves.0 leaves.1 e y
 
   roomy : (q : Run) → start ≡ v.start → IsRoomy v c.pass.0 q → IsRoomy (after_row v r start steps won) c.pass.0 q
   roomy (Scx m) e y = subst (λ (k : History). HasRoom v.layout c.pass.0 k × ¬ IsTakenScx k m.scx.scx.0) (sym e) y
-  roomy (Llx m) e y = tt
-  roomy (Vlx m) e y = tt
-  roomy (Map m) e y = tt
+  roomy q e y = tt
 
   -- a machine has started at the begin of its call or later
   begun_since : (q : Run) (start : History) → Extends v.past start → IsStart q start v.start → Extends v.past v.start
   begun_since (Scx m) start since begun = ends_trans v.past start v.start since begun
-  begun_since (Llx m) start since begun = subst (λ (k : History). Extends v.past k) begun since
-  begun_since (Vlx m) start since begun = subst (λ (k : History). Extends v.past k) begun since
-  begun_since (Map m) start since begun = subst (λ (k : History). Extends v.past k) begun since
+  begun_since q start since begun = subst (λ (k : History). Extends v.past k) begun since
 
   -- a machine still runs
   works_more : (q : Run) (then : Option Put) → start ≡ v.start → c.begin ≤ number → ((m : PutRun) → q ≡ Scx m → r.pass.0 ≡ c.pass.0 → r.kind ≢ LoadInfo) → LeavesHand v c r q → IsClientState (after_row v r start steps won) c (in_hand (held c) q) → Holds (after_row v r start steps won) c q → Works v c q then → Works (after_row v r start steps won) c q then
@@ -307,9 +295,7 @@ module _ (v : ClientView) (c : Client) (r : Row) (number : ℕ) (start : History
 
   still_stands : (q : Run) (step : Ask) (p : c.pass.0 < v.layout.passes) (start : History) → RunWaits q (machine_call v c p start) (r ⊳ v.past) step → v.layout.mode ≡ run_mode q → IsClientState v c (in_hand (held c) q) → Holds v c q → StillStands q
   still_stands (Map m) step p start w mode x h = record { stands = stands_more v c r _ v.steps won (in_hand (held c) (Map m)) run (leaves_tree v c (r ⊳ v.past) _ mode x) x; holds = tt; leaves = tt }
-  still_stands (Llx m) step p start w mode x h = record { stands = hand_then _ (covers_waits (Llx m) (machine_call v c p start) (r ⊳ v.past) step (held c) tt run.lawful w (share_then _ h).share) x h; holds = share_then _ h; leaves = (takes_by_others v.layout c.pass.0 _ v.past r run.lawful other, λ n own d. nodes_then n own) }
-  still_stands (Scx m) step p start w mode x h = record { stands = hand_then _ (covers_waits (Scx m) (machine_call v c p start) (r ⊳ v.past) step (held c) tt run.lawful w (share_then _ h).share) x h; holds = share_then _ h; leaves = (takes_by_others v.layout c.pass.0 _ v.past r run.lawful other, λ n own d. nodes_then n own) }
-  still_stands (Vlx m) step p start w mode x h = record { stands = hand_then _ (covers_waits (Vlx m) (machine_call v c p start) (r ⊳ v.past) step (held c) tt run.lawful w (share_then _ h).share) x h; holds = share_then _ h; leaves = (takes_by_others v.layout c.pass.0 _ v.past r run.lawful other, λ n own d. nodes_then n own) }
+  still_stands q step p start w mode x h = record { stands = hand_then _ (covers_waits q (machine_call v c p start) (r ⊳ v.past) step (held c) tt run.lawful w (share_then _ h).share) x h; holds = share_then _ h; leaves = (takes_by_others v.layout c.pass.0 _ v.past r run.lawful other, λ n own d. nodes_then n own) }
 
   rests_by_others : Rests v c → Rests (after_row v r start v.steps won) c
   rests_by_others x = record { stands = hand_then (no_hand (held c)) (covers_none v.layout (r ⊳ v.past) c.pass.0 (held c) _ _ run.lawful (share_then (no_hand (held c)) x.holds).share) x.stands x.holds; holds = share_then (no_hand (held c)) x.holds; none = x.none }
@@ -357,9 +343,7 @@ module _ (v : ClientView) (c : Client) (q : Running) (sound : IsSound v) (w : Wa
 
   stands_then : (won : Option ℕ) (run : Run) (found : ℕ) → RunWaits run call v.past q.step → RunIsReady run call (own_row v c q.step ⊳ v.past) (Some found) → v.layout.mode ≡ run_mode run → HasNewest (held c) run → IsClientState v c (in_hand (held c) run) → Holds v c run → StandsThen won run
   stands_then won (Map m) found waits ready mode newest x h = record { stands = stands_more v c (own_row v c q.step) v.start (suc v.steps) won (in_hand (held c) (Map m)) (step_sound won) (leaves_tree v c (own_row v c q.step ⊳ v.past) _ mode x) x; holds = tt; leaves = tt }
-  stands_then won (Llx m) found waits ready mode newest x h = let y = hand_stands won (Llx m) found tt waits ready newest x h in record { stands = y.0; holds = y.1; leaves = (y.2, y.3) }
-  stands_then won (Scx m) found waits ready mode newest x h = let y = hand_stands won (Scx m) found tt waits ready newest x h in record { stands = y.0; holds = y.1; leaves = (y.2, y.3) }
-  stands_then won (Vlx m) found waits ready mode newest x h = let y = hand_stands won (Vlx m) found tt waits ready newest x h in record { stands = y.0; holds = y.1; leaves = (y.2, y.3) }
+  stands_then won run found waits ready mode newest x h = let y = hand_stands won run found tt waits ready newest x h in record { stands = y.0; holds = y.1; leaves = (y.2, y.3) }
 
   -- the machine may be told what the step found
   pub hears : (number : ℕ) (won : Option ℕ) → TellsWon v c.pass.0 (own_row v c q.step) number won → c.begin ≤ number → (found : ℕ) → IsTold q.step.access (value v.past q.step.word) found → Hears (after_row v (own_row v c q.step) v.start (suc v.steps) won) c q found
