@@ -3,3 +3,4 @@
 pub use Rattle.dict.proofs.Ends.{insert_ends, delete_ends, get_ends, successor_ends, range_ends}
 pub use Rattle.dict.proofs.DictEnds.{dict_ends}
 pub use Rattle.dict.proofs.Endings.{edit_spends}
+pub use Rattle.dict.proofs.AskedKinds.{asks_inside, kind_inside}

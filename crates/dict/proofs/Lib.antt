@@ -5,4 +5,5 @@ mod Ends
 mod Undisturbed
 mod Translating
 mod DictEnds
+mod AskedKinds
 pub mod Lemmas

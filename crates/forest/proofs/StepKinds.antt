@@ -1,5 +1,5 @@
 -- Which kinds of step a call of a dictionary makes, and that a range that asks for no pairs makes none.
-use Rattle.std.proofs.Common.{◌≡◌, ◌∙◌, ℕ, suc, ◌<◌, ◌≤◌, inl, inr, List, refl, sym, ap, subst, arith}
+use Rattle.std.proofs.Common.{◌≡◌, ◌∙◌, ℕ, suc, ◌<◌, inl, inr, List, refl, sym, ap, subst, arith}
 use Rattle.std.proofs.Math.Nat.{lt_of_not-le}
 use Rattle.atomic_table.specs.Seated.{TableId}
 use Rattle.atomic_table.specs.declared.shared.Seat.{Seat}
@@ -13,28 +13,21 @@ use Rattle.arena.specs.Machines.{Call, row_of}
 use Rattle.arena.specs.Share.{Remaining}
 use Rattle.arena.proofs.Lemmas.{ends_trans}
 use Rattle.prims.proofs.Lemmas.{all_over}
-use Rattle.spelling.specs.CallRules.{TakesNothing, call_rules}
+use Rattle.spelling.specs.CallRules.{call_rules}
 use Rattle.spelling.specs.OrderedMap.{MapCall}
 use Rattle.spelling.specs.declared.reply.Reply.{Reply}
 use Rattle.spelling.specs.declared.reply.Reply.TheVariants as replies
-use Rattle.order.specs.Range.Known.{AsksForNothing, AsksForSome, RangeWaits, RangeWaitsAt, TellsNone, Visits}
-use Rattle.order.specs.Range.Laws.{range_fills_not}
-use Rattle.order.specs.Reads.{from}
-use Rattle.order.specs.Successor.Laws.{successor_fills_not}
-use Rattle.order.specs.declared.range.RangeAt.{RangeAt}
-use Rattle.order.specs.declared.range.RangeAt.TheVariants.{Start, Root, Head, Key, Value, Look, Validate}
+use Rattle.order.specs.Range.Known.{AsksForNothing, AsksForSome, TellsNone}
+use Rattle.order.specs.declared.range.RangeAt.TheVariants.{Value}
 use Rattle.order.specs.declared.range.RangeRun.{RangeRun}
-use Rattle.tree.proofs.Lemmas.{get_loads}
 use Rattle.updates.specs.Known.{RestsWith}
 use Rattle.dict.specs.Calls.{AsksForPairs, call_in, share_of}
 use Rattle.dict.specs.DictKnown.{DictWaits}
-use Rattle.dict.specs.Known.{WaitsInside}
 use Rattle.dict.specs.OneShare.{one_share}
+use Rattle.dict.proofs.Lemmas.{asks_inside, kind_inside}
 use Rattle.dict.specs.Typed.{TypedAllows}
 use Rattle.dict.specs.Words.{IsWord}
 use Rattle.dict.specs.declared.dict.DictRun.{DictRun}
-use Rattle.dict.specs.declared.run.MapRun.{MapRun}
-use Rattle.dict.specs.declared.run.MapRun.TheVariants as runs
 use Rattle.forest.specs.declared.pass.Pass.TheInside.{Inside}
 use Rattle.forest.specs.declared.view.SeatView.{SeatView}
 use Rattle.forest.specs.Dictionary.{IsRefusalOf, blamed_by_reply}
@@ -50,44 +43,7 @@ use Rattle.forest.proofs.DictCalls.{Answered, IsSameCall, behind, dict_refuses}
 use Rattle.forest.proofs.Entered.{HasEnded}
 use Rattle.forest.proofs.Passes.{call_of}
 
--- What its machine waits for
-
--- a range that visits a node asks for some pairs
-visits_some : (m : RangeRun) (c : Call) (h : History) (n : ℕ) → Visits m c h n → AsksForSome m
-visits_some m c h n x = (let room = x.room in omega (arith, room), x.ordered)
-
-asks_at : (m : RangeRun) (c : Call) (h : History) (s : Step) (at : RangeAt) → RangeWaitsAt m c h s at → AsksForSome m
-asks_at m c h s Start w = absurd w
-asks_at m c h s Root w = visits_some m c h 0 w.0
-asks_at m c h s (Head above n) w = visits_some m c h n.0 w.0
-asks_at m c h s (Key head n) w = visits_some m c h n.0 w.0
-asks_at m c h s (Value key n) w = visits_some m c h n.0 w.0.visits
-asks_at m c h s (Look low left right llx) w = visits_some m c h llx.node.0 w.0.visits
-asks_at m c h s (Validate asked) w = w.1.asks
-
--- so does one that waits for a step
-range_asks : (m : RangeRun) (c : Call) (h : History) (s : Step) → RangeWaits m c h s → AsksForSome m
-range_asks m c h s w = asks_at m (from c w.0) h s m.at w.3
-
-asks_inside : (m : MapRun) (c : Call) (h : History) (s : Step) → WaitsInside m c h s → AsksForPairs (call_in m)
-asks_inside (runs.Insert m) c h s w = tt
-asks_inside (runs.Delete m) c h s w = tt
-asks_inside (runs.Get m share) c h s w = tt
-asks_inside (runs.Successor m share) c h s w = tt
-asks_inside (runs.Range m share) c h s w = range_asks m c h s w.0
-
--- one that asks for some pairs does not take nothing
-takes_some : (low high most : ℕ) → (0 < most) × (low ≤ high) → ¬ TakesNothing low high most
-takes_some low high most x (inl e) = let some = x.0 in omega (arith, e, some)
-takes_some low high most x (inr i) = let rises = x.1 in omega (arith, i, rises)
-
--- the step that a call waits for is of one of its kinds
-kind_inside : (m : MapRun) (c : Call) (h : History) (s : Step) → WaitsInside m c h s → (call_rules (call_in m)).MayMake s.kind
-kind_inside (runs.Insert m) c h s w = tt
-kind_inside (runs.Delete m) c h s w = tt
-kind_inside (runs.Get m share) c h s w = (get_loads m c h s w.0).0
-kind_inside (runs.Successor m share) c h s w = successor_fills_not m c h s w.0
-kind_inside (runs.Range m share) c h s w = (range_fills_not m c h s w.0, takes_some m.low m.high m.most (range_asks m c h s w.0))
+-- What a range asks for
 
 -- a range that does not ask for nothing asks for some pairs
 asks_some : (m : RangeRun) → ¬ AsksForNothing m → AsksForSome m

@@ -130,11 +130,7 @@ few_pairs (SuccessorCommand key) few = tt
 few_pairs (RangeCommand low high most) few = few
 
 map_few : (request : Request ℕ ℕ) (tries taken : ℕ) → most_map_steps (map_request request) tries taken ≡ most_steps (Map request) tries taken
-map_few (InsertCommand key value) tries taken = refl
-map_few (DeleteCommand key) tries taken = refl
-map_few (GetCommand key) tries taken = refl
-map_few (SuccessorCommand key) tries taken = refl
-map_few (RangeCommand low high most) tries taken = refl
+map_few request tries taken = refl
 
 -- a client at rest rests with its share
 rests_with : (v : ClientView) (c : Client) (r : Rests v c) → RestsWith (machine_call v c r.stands.is_pass v.past) v.past (held c)

@@ -31,7 +31,6 @@ use Rattle.prims.specs.declared.scx.Scx.TheVariants.{Done as ScxDone, Lost as Sc
 use Rattle.prims.specs.declared.vlx.Vlx.TheVariants.{Same as VlxSame, Changed as VlxChanged}
 use Rattle.script.specs.declared.command.Command.{Command}
 use Rattle.script.specs.declared.command.Command.TheVariants.{Llx as LlxOf, Scx as ScxOf, Vlx as VlxOf, Set as SetOf, Map as MapOf}
-use Rattle.spelling.specs.declared.request.Request.TheVariants.{Insert as InsertOf, Delete as DeleteOf, Get as GetOf, Successor as SuccessorOf, Range as RangeOf}
 use Rattle.script.specs.Cells.{cells_of}
 use Rattle.script.specs.Update.{update_cells}
 use Rattle.player.specs.declared.run.Run.{Run}
@@ -391,11 +390,7 @@ ends_as v c command answer is stands holds none o late = record {
 
 -- it leaves the snapshots
 map_leaves : (v : ClientView) (request : Request ℕ ℕ) (answer : Answer) (n : ℕ) → linked_by v (MapOf request) answer n ≡ v.linked n
-map_leaves v (InsertOf key value) answer n = refl
-map_leaves v (DeleteOf key) answer n = refl
-map_leaves v (GetOf key) answer n = refl
-map_leaves v (SuccessorOf key) answer n = refl
-map_leaves v (RangeOf low high most) answer n = refl
+map_leaves v request answer n = refl
 
 map_outcome : (v : ClientView) (c : Client) (request : Request ℕ ℕ) (answer : Answer) → IsRightEnd v c.pass.0 (MapOf request) answer → HasTakenFew v.layout v.tries c.pass.0 v.past v.start (MapOf request) → IsOutcome v c.pass.0 [] (MapOf request) answer
 map_outcome v c request answer x took = record { answers = x.answers; right = x.right; entry = x.entry; tells = x.tells; took = took; drops = record { gone = λ n z. absurd (among_none n z); others = λ n z. map_leaves v request answer n } }

@@ -19,7 +19,6 @@ use Rattle.dict.specs.Calls.{HasSpent}
 use Rattle.spelling.specs.OrderedMap.{MapCall}
 use Rattle.spelling.specs.Requests.{map_request}
 use Rattle.spelling.specs.declared.request.Request.{Request}
-use Rattle.spelling.specs.declared.request.Request.TheVariants.{Insert as InsertOf, Delete as DeleteOf, Get as GetOf, Successor as SuccessorOf, Range as RangeOf}
 use Rattle.script.specs.declared.command.Command.TheVariants.{Map as MapOf}
 use Rattle.record.specs.CommandRules.{HasTakenFew}
 use Rattle.record.specs.Shares.{HasTakenAtMost, IsScxTakenSince}
@@ -131,14 +130,7 @@ taken_tries c h call tries left since rests spent = taken_few c.layout c.pass (m
 
 -- and that is what its command may
 pub map_took : (c : Call) (h : History) (request : Request ℕ ℕ) (tries : ℕ) (left : Remaining) → Extends h c.start → RestsWith c h left → HasSpent c (map_request request) tries left → HasTakenFew c.layout tries c.pass h c.start (MapOf request)
-map_took c h request tries left since rests spent = go request (taken_tries c h (map_request request) tries left since rests spent)
-  where
-    go : (r : Request ℕ ℕ) → HasTakenAtMost c.layout c.pass h c.start (most_scx (map_request r) tries) (most_nodes (map_request r)) → HasTakenFew c.layout tries c.pass h c.start (MapOf r)
-    go (InsertOf key value) x = x
-    go (DeleteOf key) x = x
-    go (GetOf key) x = x
-    go (SuccessorOf key) x = x
-    go (RangeOf low high most) x = x
+map_took c h request tries left since rests spent = taken_tries c h (map_request request) tries left since rests spent
 
 -- and at the call's begin that is nothing
 pub taken_none : (v : ClientView) (c : ℕ) (hand : Hand) → v.start ≡ v.past → HasTaken v c hand

@@ -8,11 +8,11 @@ use Rattle.arena.specs.declared.word.Word.TheVariants.{Node}
 use Rattle.arena.specs.declared.word.NodeWord.TheVariants.{Child}
 use Rattle.arena.specs.declared.step.Row.{Row as StepRow}
 use Rattle.arena.specs.History.{History}
-use Rattle.spelling.specs.OrderedMap.{MapCall, Edit, Insert, Delete, Get, Successor, Range}
+use Rattle.spelling.specs.OrderedMap.{MapCall}
+use Rattle.spelling.specs.Requests.{map_request}
 use Rattle.script.specs.declared.call.Call.{Call}
 use Rattle.script.specs.declared.command.Command.{Command}
 use Rattle.script.specs.declared.command.Command.TheVariants.{Llx, Scx as ScxOf, Vlx, Set, Map}
-use Rattle.spelling.specs.declared.request.Request.TheVariants.{Insert as InsertOf, Delete as DeleteOf, Get as GetOf, Successor as SuccessorOf, Range as RangeOf}
 use Rattle.record.specs.declared.record.Line.{Line}
 use Rattle.record.specs.declared.record.Line.TheVariants.{Step, Log, Reply as ReplyLine}
 use Rattle.record.specs.declared.record.Row.TheVariants.{Step as Made, Idle}
@@ -38,11 +38,7 @@ AreMapCalls calls = (c j : ℕ) (command : Command) → slice_get (commands call
 
 -- a call of the map took place where its command's rules say
 rule_of : (command : Command) (call : MapCall) (lay : Layout) (calls : List Call) (lines : List Line) (r : Finished) → map_call (Some command) ≡ Some call → IsPlaced lay calls lines r command → IsPlacedOnMap (reply_told r.answer) calls lines call r
-rule_of (Map (InsertOf key value)) call lay calls lines r e x = let i : Edit (Insert key value) ≡ call = cc in subst (λ m. IsPlacedOnMap (reply_told r.answer) calls lines m r) i x
-rule_of (Map (DeleteOf key)) call lay calls lines r e x = let i : Edit (Delete key) ≡ call = cc in subst (λ m. IsPlacedOnMap (reply_told r.answer) calls lines m r) i x
-rule_of (Map (GetOf key)) call lay calls lines r e x = let i : Get key ≡ call = cc in subst (λ m. IsPlacedOnMap (reply_told r.answer) calls lines m r) i x
-rule_of (Map (SuccessorOf key)) call lay calls lines r e x = let i : Successor key ≡ call = cc in subst (λ m. IsPlacedOnMap (reply_told r.answer) calls lines m r) i x
-rule_of (Map (RangeOf low high most)) call lay calls lines r e x = let i : Range low high most ≡ call = cc in subst (λ m. IsPlacedOnMap (reply_told r.answer) calls lines m r) i x
+rule_of (Map request) call lay calls lines r e x = let same : map_request request ≡ call = (let z : Some (map_request request) ≡ Some call = e in cc) in subst (λ m. IsPlacedOnMap (reply_told r.answer) calls lines m r) same x
 rule_of (Llx cell) call lay calls lines r e x = let y : None ≡ Some call = e in absurd (cc)
 rule_of (ScxOf update) call lay calls lines r e x = let y : None ≡ Some call = e in absurd (cc)
 rule_of (Vlx cells) call lay calls lines r e x = let y : None ≡ Some call = e in absurd (cc)

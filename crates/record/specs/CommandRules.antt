@@ -7,20 +7,16 @@ use Rattle.arena.specs.Log.{Entry as Entered}
 use Rattle.script.specs.declared.call.Call.{Call}
 use Rattle.script.specs.declared.command.Command.{Command}
 use Rattle.script.specs.declared.command.Command.TheVariants.{Llx, Scx, Vlx, Set, Map}
-use Rattle.spelling.specs.declared.request.Request.TheVariants.{Insert, Delete, Get, Successor, Range}
+use Rattle.spelling.specs.Requests.{map_request}
 use Rattle.record.specs.declared.record.Line.{Line}
 use Rattle.record.specs.declared.record.Finished.{Finished}
 use Rattle.record.specs.declared.record.Answer.{Answer}
 use Rattle.record.specs.Turns.{start}
 use Rattle.record.specs.Rules.{Rules}
-use Rattle.record.specs.Rules.Delete.{delete_rules}
-use Rattle.record.specs.Rules.Get.{get_rules}
-use Rattle.record.specs.Rules.Insert.{insert_rules}
 use Rattle.record.specs.Rules.Llx.{llx_rules}
-use Rattle.record.specs.Rules.Range.{range_rules}
+use Rattle.record.specs.Rules.Map.{map_rules}
 use Rattle.record.specs.Rules.Scx.{scx_rules}
 use Rattle.record.specs.Rules.Set.{set_rules}
-use Rattle.record.specs.Rules.Successor.{successor_rules}
 use Rattle.record.specs.Rules.Vlx.{vlx_rules}
 use Rattle.record.specs.Shares.{HasTakenAtMost}
 
@@ -30,11 +26,7 @@ rules (Llx cell) = llx_rules cell
 rules (Scx update) = scx_rules update
 rules (Vlx cells) = vlx_rules cells
 rules (Set field value) = set_rules field value
-rules (Map (Insert key value)) = insert_rules key value
-rules (Map (Delete key)) = delete_rules key
-rules (Map (Get key)) = get_rules key
-rules (Map (Successor key)) = successor_rules key
-rules (Map (Range low high most)) = range_rules low high most
+rules (Map request) = map_rules (map_request request)
 
 -- how many steps a call may make, where it may try so often, while so many nodes are taken, by any
 -- client; those of cells make no more where nodes are taken

@@ -3,12 +3,12 @@ pub mod Llx
 pub mod Scx
 pub mod Vlx
 pub mod Set
-pub mod Map
 pub mod Insert
 pub mod Delete
 pub mod Get
 pub mod Successor
 pub mod Range
+pub mod Map
 use Rattle.std.specs.Prelude.{ℕ, Bool, List, Option}
 use Rattle.arena.specs.declared.layout.Layout.{Layout}
 use Rattle.arena.specs.declared.step.Kind.{Kind}
@@ -46,3 +46,11 @@ pub record Rules : Type 1 where
   pub IsEntryFor : Layout → ℕ → History → History → (ℕ → Option History) → Entered → Type 0
   -- where the call of a reply took place, with the lines before the reply
   pub IsPlaced : Layout → List Call → List Line → Finished → Type 0
+
+-- what a record says of one call of the map, and of no other, beside what the call may do whoever
+-- makes it (`call_rules`); each as above
+pub record MapRules : Type 1 where
+  pub IsAtOnce : Answer → Type 0
+  pub enters : Answer → Bool
+  pub IsRight : Layout → ℕ → ℕ → History → History → (ℕ → Option History) → Answer → Type 0
+  pub IsEntryFor : Layout → ℕ → History → History → (ℕ → Option History) → Entered → Type 0

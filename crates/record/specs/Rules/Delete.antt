@@ -2,15 +2,14 @@
 use Rattle.std.specs.Prelude.{ℕ, Bool, true, false, Option, Some, None}
 use Rattle.arena.specs.declared.layout.Layout.{Layout}
 use Rattle.arena.specs.History.{History}
-use Rattle.spelling.specs.OrderedMap.{Edit, Delete}
+use Rattle.spelling.specs.OrderedMap.{Delete}
 use Rattle.spelling.specs.Runs.{Makes}
 use Rattle.spelling.specs.declared.reply.Reply.TheVariants.{Value, Contended, Full}
 use Rattle.record.specs.declared.record.Answer.{Answer}
 use Rattle.record.specs.declared.record.Answer.TheVariants.{Map}
 use Rattle.record.specs.Answers.{HasLostAllTries}
 use Rattle.record.specs.Edits.{HadAtKey}
-use Rattle.record.specs.Rules.{Rules}
-use Rattle.record.specs.Rules.Map.{map_rules}
+use Rattle.record.specs.Rules.{MapRules}
 use Rattle.record.specs.Shares.{HasTooFewToTry}
 
 -- one that tells a value has an entry, and no other: where the map lacks the key it is a reading
@@ -31,5 +30,10 @@ DeleteIsRight key lay tries c now start linked (Map (Full full)) = (old : ℕ) �
 DeleteIsRight key lay tries c now start linked _ = ⊥
 
 -- its entry is of an SCX-record that takes the key out
-abbrev pub delete_rules : ℕ → Rules
-delete_rules key = map_rules (Edit (Delete key)) (λ answer. ⊥) has_deleted (DeleteIsRight key) (λ lay c before start linked e. Makes lay before e.scx (Delete key))
+abbrev pub delete_rules : ℕ → MapRules
+delete_rules key = record {
+  IsAtOnce = λ answer. ⊥;
+  enters = has_deleted;
+  IsRight = DeleteIsRight key;
+  IsEntryFor = λ lay c before start linked e. Makes lay before e.scx (Delete key);
+}

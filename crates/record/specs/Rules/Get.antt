@@ -2,13 +2,11 @@
 use Rattle.std.specs.Prelude.{ℕ, false, Option}
 use Rattle.arena.specs.declared.layout.Layout.{Layout}
 use Rattle.arena.specs.History.{History}
-use Rattle.spelling.specs.OrderedMap.{Get}
 use Rattle.spelling.specs.Paths.{IsAnswerAt}
 use Rattle.spelling.specs.declared.reply.Reply.TheVariants.{Value}
 use Rattle.record.specs.declared.record.Answer.{Answer}
 use Rattle.record.specs.declared.record.Answer.TheVariants.{Map}
-use Rattle.record.specs.Rules.{Rules}
-use Rattle.record.specs.Rules.Map.{map_rules}
+use Rattle.record.specs.Rules.{MapRules}
 
 -- at a moment of the call, or just before its first turn, the map that the words spelled had this
 -- at the key
@@ -17,5 +15,10 @@ GetIsRight key lay c now start linked (Map (Value answer)) = IsAnswerAt lay now 
 GetIsRight key lay c now start linked _ = ⊥
 
 -- it has no entry
-abbrev pub get_rules : ℕ → Rules
-get_rules key = map_rules (Get key) (λ answer. ⊥) (λ answer. false) (λ lay tries. GetIsRight key lay) (λ lay c before start linked e. ⊥)
+abbrev pub get_rules : ℕ → MapRules
+get_rules key = record {
+  IsAtOnce = λ answer. ⊥;
+  enters = λ answer. false;
+  IsRight = λ lay tries. GetIsRight key lay;
+  IsEntryFor = λ lay c before start linked e. ⊥;
+}

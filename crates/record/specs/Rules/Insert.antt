@@ -3,15 +3,14 @@ use Rattle.std.specs.Prelude.{ℕ, Bool, true, false, Option}
 use Rattle.arena.specs.declared.layout.Layout.{Layout}
 use Rattle.arena.specs.History.{History}
 use Rattle.spelling.specs.CallRules.{insert_nodes}
-use Rattle.spelling.specs.OrderedMap.{Edit, Insert}
+use Rattle.spelling.specs.OrderedMap.{Insert}
 use Rattle.spelling.specs.Runs.{Makes}
 use Rattle.spelling.specs.declared.reply.Reply.TheVariants.{Value, Contended, Full}
 use Rattle.record.specs.declared.record.Answer.{Answer}
 use Rattle.record.specs.declared.record.Answer.TheVariants.{Map}
 use Rattle.record.specs.Answers.{HasLostAllTries}
 use Rattle.record.specs.Edits.{HadAtKey}
-use Rattle.record.specs.Rules.{Rules}
-use Rattle.record.specs.Rules.Map.{map_rules}
+use Rattle.record.specs.Rules.{MapRules}
 use Rattle.record.specs.Shares.{HasTooFewToTry}
 
 -- one that tells a value has an entry, and no other
@@ -29,5 +28,10 @@ InsertIsRight key lay tries c now start linked (Map (Full full)) = (old : Option
 InsertIsRight key lay tries c now start linked _ = ⊥
 
 -- its entry is of an SCX-record that inserts the key with this value
-abbrev pub insert_rules : ℕ → ℕ → Rules
-insert_rules key value = map_rules (Edit (Insert key value)) (λ answer. ⊥) has_inserted (InsertIsRight key) (λ lay c before start linked e. Makes lay before e.scx (Insert key value))
+abbrev pub insert_rules : ℕ → ℕ → MapRules
+insert_rules key value = record {
+  IsAtOnce = λ answer. ⊥;
+  enters = has_inserted;
+  IsRight = InsertIsRight key;
+  IsEntryFor = λ lay c before start linked e. Makes lay before e.scx (Insert key value);
+}

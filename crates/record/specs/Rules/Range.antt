@@ -3,13 +3,11 @@ use Rattle.std.specs.Prelude.{◌≡◌, ℕ, false, [], Option}
 use Rattle.arena.specs.declared.layout.Layout.{Layout}
 use Rattle.arena.specs.History.{History}
 use Rattle.spelling.specs.CallRules.{TakesNothing}
-use Rattle.spelling.specs.OrderedMap.{Range}
 use Rattle.spelling.specs.declared.reply.Reply.TheVariants.{Pairs, Contended, NoMemory}
 use Rattle.record.specs.declared.record.Answer.{Answer}
 use Rattle.record.specs.declared.record.Answer.TheVariants.{Map}
 use Rattle.record.specs.Answers.{HasLostAllTries}
-use Rattle.record.specs.Rules.{Rules}
-use Rattle.record.specs.Rules.Map.{map_rules}
+use Rattle.record.specs.Rules.{MapRules}
 
 -- one that takes nothing answers so at once; any other may be refused memory before its first step
 abbrev pub RangeAtOnce : ℕ → ℕ → ℕ → Answer → Type 0
@@ -26,5 +24,10 @@ RangeIsRight lay tries c now start linked (Map NoMemory) = Unit {0}
 RangeIsRight lay tries c now start linked _ = ⊥
 
 -- it has no entry
-abbrev pub range_rules : ℕ → ℕ → ℕ → Rules
-range_rules low high most = map_rules (Range low high most) (RangeAtOnce low high most) (λ answer. false) RangeIsRight (λ lay c before start linked e. ⊥)
+abbrev pub range_rules : ℕ → ℕ → ℕ → MapRules
+range_rules low high most = record {
+  IsAtOnce = RangeAtOnce low high most;
+  enters = λ answer. false;
+  IsRight = RangeIsRight;
+  IsEntryFor = λ lay c before start linked e. ⊥;
+}

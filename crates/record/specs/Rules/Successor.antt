@@ -2,13 +2,11 @@
 use Rattle.std.specs.Prelude.{ℕ, false, Option}
 use Rattle.arena.specs.declared.layout.Layout.{Layout}
 use Rattle.arena.specs.History.{History}
-use Rattle.spelling.specs.OrderedMap.{Successor}
 use Rattle.spelling.specs.declared.reply.Reply.TheVariants.{Pair, Contended, NoMemory}
 use Rattle.record.specs.declared.record.Answer.{Answer}
 use Rattle.record.specs.declared.record.Answer.TheVariants.{Map}
 use Rattle.record.specs.Answers.{HasLostAllTries}
-use Rattle.record.specs.Rules.{Rules}
-use Rattle.record.specs.Rules.Map.{map_rules}
+use Rattle.record.specs.Rules.{MapRules}
 
 -- it may be refused memory before its first step
 abbrev pub SuccessorAtOnce : Answer → Type 0
@@ -24,5 +22,10 @@ SuccessorIsRight lay tries c now start linked (Map NoMemory) = Unit {0}
 SuccessorIsRight lay tries c now start linked _ = ⊥
 
 -- it has no entry
-abbrev pub successor_rules : ℕ → Rules
-successor_rules key = map_rules (Successor key) SuccessorAtOnce (λ answer. false) SuccessorIsRight (λ lay c before start linked e. ⊥)
+abbrev pub successor_rules : MapRules
+successor_rules = record {
+  IsAtOnce = SuccessorAtOnce;
+  enters = λ answer. false;
+  IsRight = SuccessorIsRight;
+  IsEntryFor = λ lay c before start linked e. ⊥;
+}
