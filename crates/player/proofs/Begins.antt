@@ -31,7 +31,7 @@ use Rattle.prims.specs.declared.llx.LlxAt.TheVariants.{Start}
 use Rattle.prims.specs.declared.vlx.VlxRun.{VlxRun}
 use Rattle.script.specs.declared.command.Command.{Command}
 use Rattle.script.specs.declared.command.Command.TheVariants.{Llx as LlxCommand, Vlx as VlxCommand, Scx as ScxCommand, Set as SetCommand, Map}
-use Rattle.spelling.specs.declared.request.Request.TheVariants.{Insert as InsertCommand, Delete as DeleteCommand, Get as GetCommand, Successor as SuccessorCommand, Range as RangeCommand}
+use Rattle.spelling.specs.declared.request.Request.TheVariants.{Range as RangeCommand}
 use Rattle.player.specs.declared.run.Run.{Run}
 use Rattle.player.specs.declared.run.Run.TheVariants.{Llx, Scx, Vlx, Map as MapRun}
 use Rattle.player.specs.declared.client.Client.{Client}
@@ -115,19 +115,13 @@ map_refuses v began c request found r u is nothing none = absurd nothing
 
 -- one that is no range asks for what it tells
 pub asks_other : (request : Request ℕ ℕ) → ((low high most : ℕ) → request ≢ RangeCommand low high most) → AsksForPairs (map_request request)
-asks_other (InsertCommand key value) other = tt
-asks_other (DeleteCommand key) other = tt
-asks_other (GetCommand key) other = tt
-asks_other (SuccessorCommand key) other = tt
 asks_other (RangeCommand low high most) other = absurd (other low high most refl)
+asks_other request other = tt
 
 -- it asks for few pairs, and makes no more steps than its command may
 few_pairs : (request : Request ℕ ℕ) → AsksForFew request → IsFewCall (map_request request)
-few_pairs (InsertCommand key value) few = tt
-few_pairs (DeleteCommand key) few = tt
-few_pairs (GetCommand key) few = tt
-few_pairs (SuccessorCommand key) few = tt
 few_pairs (RangeCommand low high most) few = few
+few_pairs request few = tt
 
 map_few : (request : Request ℕ ℕ) (tries taken : ℕ) → most_map_steps (map_request request) tries taken ≡ most_steps (Map request) tries taken
 map_few request tries taken = refl

@@ -23,7 +23,7 @@ use Rattle.prims.specs.declared.put.PutAt.TheVariants.{Start as PutStart, Fill a
 use Rattle.prims.specs.declared.scx.ScxAt.{ScxAt}
 use Rattle.prims.specs.declared.scx.ScxAt.TheVariants.{Start as ScxStart, Help}
 use Rattle.prims.proofs.Lemmas.{llx_fills_not, vlx_fills_not, own_in_hand}
-use Rattle.dict.specs.Calls.{call_in}
+use Rattle.dict.specs.Calls.{call_in, share_of}
 use Rattle.dict.specs.Known.{IsNumbered, WaitsInside}
 use Rattle.dict.specs.declared.run.MapRun.{MapRun}
 use Rattle.dict.specs.declared.run.MapRun.TheVariants.{Insert, Delete, Get, Successor, Range}
@@ -126,9 +126,7 @@ module _ (call : MachineCall) (h : History) (t : ℕ) (l : Lawful call.layout h)
   pub map_hand : (m : MapRun) → IsNumbered m call.number → WaitsInside m call h s → IsEditHand m call h t
   map_hand (Insert m) number w = record { edit = PutEdit m.edit.key m.edit.value; is = refl; hand = subst (λ (n : ℕ). IsHandOf n (PutEdit m.edit.key m.edit.value) call h t) number (hand_at insert_means m (PutEdit m.edit.key m.edit.value) (λ f. refl) call h t l own p w.0 s m.at w.1 w.3) }
   map_hand (Delete m) number w = record { edit = TakeEdit m.edit.key; is = refl; hand = subst (λ (n : ℕ). IsHandOf n (TakeEdit m.edit.key) call h t) number (hand_at delete_means m (TakeEdit m.edit.key) (λ f. refl) call h t l own p w.0 s m.at w.1 w.3) }
-  map_hand (Get m share) number w = absurd (idle_rests call h share l w.1.now t own p)
-  map_hand (Successor m share) number w = absurd (idle_rests call h share l w.1.now t own p)
-  map_hand (Range m share) number w = absurd (idle_rests call h share l w.1.now t own p)
+  map_hand m number w = absurd (idle_rests call h (share_of m) l w.1.now t own p)
 
 map_says : (m : MapRun) (call : MachineCall) (h : History) (s : Step) (t v : ℕ) → IsNumbered m call.number → WaitsInside m call h s → s.kind ≡ FillKind → s.word ≡ scx_word t CallWord → word_after s.access v ≡ call.number
 map_says (Insert m) call h s t v number w kind word = update_says_at insert_means m (from call w.0) h s t v m.at w.3 kind word ∙ number

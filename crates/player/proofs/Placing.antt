@@ -1,12 +1,12 @@
 -- Where the moment of an answer lies.
 use Rattle.std.proofs.Common.{◌≡◌, ℕ, suc, ◌≤◌, Bool, true, false, List, Option, Some, None, refl, sym, ◌∙◌, subst, arith}
 use Rattle.script.specs.declared.command.Command.{Command}
-use Rattle.script.specs.declared.command.Command.TheVariants.{Llx, Scx, Vlx, Set, Map}
+use Rattle.script.specs.declared.command.Command.TheVariants.{Scx, Set, Map}
 use Rattle.spelling.specs.declared.request.Request.TheVariants.{Insert, Delete, Get, Successor, Range}
 use Rattle.spelling.specs.declared.reply.Reply.{Reply}
-use Rattle.spelling.specs.declared.reply.Reply.TheVariants.{Value, Pair, Pairs, Contended, Full as FullReply, NoMemory}
+use Rattle.spelling.specs.declared.reply.Reply.TheVariants.{Value, Pair, Pairs}
 use Rattle.record.specs.declared.record.Answer.{Answer}
-use Rattle.record.specs.declared.record.Answer.TheVariants.{Snapshot, Finalized, Fail, Done, Lost, Same, Changed, Unlinked, Full, Map as MapAnswer}
+use Rattle.record.specs.declared.record.Answer.TheVariants.{Snapshot, Finalized, Done, Same, Map as MapAnswer}
 use Rattle.record.specs.Answers.{HasItsEntry}
 use Rattle.record.specs.CommandRules.{MayAnswerAfterStep, enters}
 use Rattle.record.proofs.Lemmas.{some_turn}
@@ -35,34 +35,16 @@ same_won false said won e x f = cc
 value_same : (calls : List Call) (lines : List Line) (changes : List Change) (command : Command) (told : Option ℕ) (first last : ℕ) (said won moment : Option ℕ) → HasItsEntry (enters command (MapAnswer (Value told))) won → ((turn : ℕ) → won ≡ Some turn → said ≡ Some turn) → IsValueMoment calls lines changes command told first last said moment → IsValueMoment calls lines changes command told first last won moment
 value_same calls lines changes (Map (Insert key value)) told first last said won moment entry f x = x ∙ same_won true said won refl entry f
 value_same calls lines changes (Map (Delete key)) (Some old) first last said won moment entry f x = x ∙ same_won true said won refl entry f
-value_same calls lines changes (Map (Delete key)) None first last said won moment entry f x = x
-value_same calls lines changes (Map (Get key)) told first last said won moment entry f x = x
-value_same calls lines changes (Map (Successor key)) told first last said won moment entry f x = x
-value_same calls lines changes (Map (Range low high most)) told first last said won moment entry f x = x
-value_same calls lines changes (Llx cell) told first last said won moment entry f x = x
-value_same calls lines changes (Scx update) told first last said won moment entry f x = x
-value_same calls lines changes (Vlx cells) told first last said won moment entry f x = x
-value_same calls lines changes (Set field value) told first last said won moment entry f x = x
+value_same calls lines changes command told first last said won moment entry f x = x
 
 reply_same : (calls : List Call) (lines : List Line) (changes : List Change) (command : Command) (reply : Reply ℕ ℕ) (first last : ℕ) (said won moment : Option ℕ) → HasItsEntry (enters command (MapAnswer reply)) won → ((turn : ℕ) → won ≡ Some turn → said ≡ Some turn) → IsReplyMoment calls lines changes command reply first last said moment → IsReplyMoment calls lines changes command reply first last won moment
 reply_same calls lines changes command (Value told) first last said won moment entry f x = value_same calls lines changes command told first last said won moment entry f x
-reply_same calls lines changes command (Pair found) first last said won moment entry f x = x
-reply_same calls lines changes command (Pairs found) first last said won moment entry f x = x
-reply_same calls lines changes command (Contended node scx) first last said won moment entry f x = x
-reply_same calls lines changes command (FullReply full) first last said won moment entry f x = x
-reply_same calls lines changes command NoMemory first last said won moment entry f x = x
+reply_same calls lines changes command reply first last said won moment entry f x = x
 
 pub moment_same : (calls : List Call) (lines : List Line) (changes : List Change) (command : Command) (answer : Answer) (first last : ℕ) (said won moment : Option ℕ) → (answer ≡ Done → enters command answer ≡ true) → HasItsEntry (enters command answer) won → ((turn : ℕ) → won ≡ Some turn → said ≡ Some turn) → IsMomentBy calls lines changes command answer first last said moment → IsMomentBy calls lines changes command answer first last won moment
 moment_same calls lines changes command (MapAnswer reply) first last said won moment done entry f x = reply_same calls lines changes command reply first last said won moment entry f x
 moment_same calls lines changes command Done first last said won moment done entry f x = x ∙ same_won (enters command Done) said won (done refl) entry f
-moment_same calls lines changes command Same first last said won moment done entry f x = x
-moment_same calls lines changes command (Snapshot left right) first last said won moment done entry f x = x
-moment_same calls lines changes command Finalized first last said won moment done entry f x = x
-moment_same calls lines changes command (Fail node scx) first last said won moment done entry f x = x
-moment_same calls lines changes command (Lost node scx) first last said won moment done entry f x = x
-moment_same calls lines changes command (Changed node scx) first last said won moment done entry f x = x
-moment_same calls lines changes command (Unlinked node) first last said won moment done entry f x = x
-moment_same calls lines changes command (Full what left) first last said won moment done entry f x = x
+moment_same calls lines changes command answer first last said won moment done entry f x = x
 
 -- and lies between the first turn and the last
 module _ (calls : List Call) (lines : List Line) (changes : List Change) (first last m : ℕ) (won moment : Option ℕ) (less : first ≤ last) (between : (turn : ℕ) → won ≡ Some turn → (first ≤ turn) × (turn ≤ last)) (is : moment ≡ Some m) where
@@ -87,33 +69,20 @@ module _ (calls : List Call) (lines : List Line) (changes : List Change) (first 
   pairs_within : (command : Command) (reply : Reply ℕ ℕ) → (mode_of command ≡ Tree → FallFrom (suc last) changes) → IsPairsMoment calls lines changes command reply first last moment → (first ≤ m) × (m ≤ last)
   pairs_within (Map (Successor key)) reply falls x = ordered_within (Map (Successor key)) reply (falls refl) x
   pairs_within (Map (Range low high most)) reply falls x = ordered_within (Map (Range low high most)) reply (falls refl) x
-  pairs_within (Map (Insert key value)) reply falls x = nowhere x
-  pairs_within (Map (Delete key)) reply falls x = nowhere x
-  pairs_within (Map (Get key)) reply falls x = nowhere x
-  pairs_within (Llx cell) reply falls x = nowhere x
-  pairs_within (Scx update) reply falls x = nowhere x
-  pairs_within (Vlx cells) reply falls x = nowhere x
-  pairs_within (Set field value) reply falls x = nowhere x
+  pairs_within command reply falls x = nowhere x
 
   value_within : (command : Command) (told : Option ℕ) → (mode_of command ≡ Tree → AreEntries calls lines changes) → (mode_of command ≡ Tree → FallFrom (suc last) changes) → IsValueMoment calls lines changes command told first last won moment → (first ≤ m) × (m ≤ last)
   value_within (Map (Insert key value)) told entries falls x = between m (sym x ∙ is)
   value_within (Map (Delete key)) (Some old) entries falls x = between m (sym x ∙ is)
   value_within (Map (Delete key)) None entries falls x = read_within key None (entries refl) x
   value_within (Map (Get key)) told entries falls x = read_within key told (entries refl) x
-  value_within (Map (Successor key)) told entries falls x = nowhere x
-  value_within (Map (Range low high most)) told entries falls x = nowhere x
-  value_within (Llx cell) told entries falls x = nowhere x
-  value_within (Scx update) told entries falls x = nowhere x
-  value_within (Vlx cells) told entries falls x = nowhere x
-  value_within (Set field value) told entries falls x = nowhere x
+  value_within command told entries falls x = nowhere x
 
   reply_within : (command : Command) (reply : Reply ℕ ℕ) → (mode_of command ≡ Tree → AreEntries calls lines changes) → (mode_of command ≡ Tree → FallFrom (suc last) changes) → IsReplyMoment calls lines changes command reply first last won moment → (first ≤ m) × (m ≤ last)
   reply_within command (Value told) entries falls x = value_within command told entries falls x
   reply_within command (Pair found) entries falls x = pairs_within command (Pair found) falls x
   reply_within command (Pairs found) entries falls x = pairs_within command (Pairs found) falls x
-  reply_within command (Contended node scx) entries falls x = nowhere x
-  reply_within command (FullReply full) entries falls x = nowhere x
-  reply_within command NoMemory entries falls x = nowhere x
+  reply_within command reply entries falls x = nowhere x
 
   pub moment_within : (command : Command) (answer : Answer) → (mode_of command ≡ Tree → AreEntries calls lines changes) → (mode_of command ≡ Tree → FallFrom (suc last) changes) → IsMomentBy calls lines changes command answer first last won moment → (first ≤ m) × (m ≤ last)
   moment_within command (MapAnswer reply) entries falls x = reply_within command reply entries falls x
@@ -121,8 +90,4 @@ module _ (calls : List Call) (lines : List Line) (changes : List Change) (first 
   moment_within command Same entries falls x = at_first x
   moment_within command (Snapshot left right) entries falls x = at_last x
   moment_within command Finalized entries falls x = at_last x
-  moment_within command (Fail node scx) entries falls x = nowhere x
-  moment_within command (Lost node scx) entries falls x = nowhere x
-  moment_within command (Changed node scx) entries falls x = nowhere x
-  moment_within command (Unlinked node) entries falls x = nowhere x
-  moment_within command (Full what left) entries falls x = nowhere x
+  moment_within command answer entries falls x = nowhere x

@@ -8,12 +8,11 @@ use Rattle.arena.specs.declared.limits.Mode.TheVariants.{Records, Tree}
 use Rattle.arena.specs.declared.layout.Layout.{Layout}
 use Rattle.arena.specs.PlainWords.{Contents}
 use Rattle.arena.specs.History.{value}
-use Rattle.arena.specs.Words.{node}
 use Rattle.spelling.specs.OrderedMap.{MapCall, Get, Successor, Range, Insert as PutEdit, Delete as TakeEdit, MapReply, ManyPairs, pair_or_none, reply as answer_on}
 use Rattle.spelling.specs.Paths.{IsAnswerAt}
 use Rattle.script.specs.declared.call.Call.{Call}
 use Rattle.script.specs.declared.command.Command.{Command}
-use Rattle.script.specs.declared.command.Command.TheVariants.{Llx as LlxOf, Scx as ScxOf, Vlx as VlxOf, Set as SetOf, Map}
+use Rattle.script.specs.declared.command.Command.TheVariants.{Map}
 use Rattle.spelling.specs.declared.request.Request.TheVariants.{Insert as InsertOf, Delete as DeleteOf, Get as GetOf, Successor as SuccessorOf, Range as RangeOf}
 use Rattle.record.specs.declared.record.Line.{Line}
 use Rattle.record.specs.declared.record.Finished.{Finished}
@@ -21,7 +20,7 @@ use Rattle.spelling.specs.declared.reply.Reply.{Reply}
 use Rattle.spelling.specs.declared.reply.Reply.TheVariants.{Value, Pair, Pairs, Contended, NoMemory}
 use Rattle.spelling.specs.Replies.{word_pair, number_reply}
 use Rattle.record.specs.declared.record.Answer.{Answer}
-use Rattle.record.specs.declared.record.Answer.TheVariants.{Snapshot, Finalized, Fail, Done, Lost, Same, Changed, Unlinked, Full, Map as MapAnswer}
+use Rattle.record.specs.declared.record.Answer.TheVariants.{Map as MapAnswer}
 use Rattle.record.specs.Turns.{history, turns, answered, begin, start, won, entry_owed}
 use Rattle.record.specs.Commands.{next_command}
 use Rattle.record.specs.Linked.{linked}
@@ -45,15 +44,7 @@ use Rattle.player.proofs.EditPlaces.{IsEditReply, edit_placed, unwon_none}
 -- a call of cells replies nothing of the map, and its moment is that of its answer
 cell_moment : (calls : List Call) (lines : List Line) (changes : List Change) (command : Command) (answer : Answer) (first last : ℕ) (won moment : Option ℕ) → ((reply : Reply ℕ ℕ) → answer ≡ MapAnswer reply → ⊥) → IsMomentBy calls lines changes command answer first last won moment → moment ≡ moment_of answer first last won
 cell_moment calls lines changes command (MapAnswer reply) first last won moment d x = absurd (d reply refl)
-cell_moment calls lines changes command (Snapshot left right) first last won moment d x = x
-cell_moment calls lines changes command Finalized first last won moment d x = x
-cell_moment calls lines changes command (Fail node scx) first last won moment d x = x
-cell_moment calls lines changes command Done first last won moment d x = x
-cell_moment calls lines changes command (Lost node scx) first last won moment d x = x
-cell_moment calls lines changes command Same first last won moment d x = x
-cell_moment calls lines changes command (Changed node scx) first last won moment d x = x
-cell_moment calls lines changes command (Unlinked node) first last won moment d x = x
-cell_moment calls lines changes command (Full what left) first last won moment d x = x
+cell_moment calls lines changes command answer first last won moment d x = x
 
 -- the words spell the map after each turn of a run on the tree
 spelled_so_far : (lay : Layout) (tries : ℕ) (calls : List Call) (words : Contents) (lines : List Line) → IsLawfulSoFar lay tries calls words lines → lay.mode ≡ Tree → AreSpelled lay calls lines
@@ -139,10 +130,6 @@ edit_reply lay tries calls words lines changes reply c command x mode entries ow
 -- where the call of a reply took place
 pub placed : (lay : Layout) (tries : ℕ) (calls : List Call) (words : Contents) (lines : List Line) (changes : List Change) (reply : Finished) (c : ℕ) (command : Command) → IsLawfulSoFar lay tries calls words lines → (lay.mode ≡ Tree → AreEntries calls lines changes) → entry_owed lay lines ≡ None → reply.client.0 ≡ c → reply.call ≡ answered lines c → IsRight lay tries c (history lay.mode lines) (start lay.mode lines c) (linked calls lay.mode lines c) command reply.answer → Tells (client_view lay tries calls lines c) c command reply.answer → HasItsEntry (enters command reply.answer) (won lay lines c) → next_command calls lines c ≡ Some command → begin lines c ≡ Some reply.begin → reply.end ≡ turns lines
     → IsMomentBy calls lines changes command reply.answer reply.begin reply.end (won lay lines c) reply.moment → IsPlaced lay calls lines reply command
-placed lay tries calls words lines changes reply c (LlxOf cell) x entries owed own called right tells entry is begin end moment = cell_moment calls lines changes (LlxOf cell) reply.answer reply.begin reply.end (won lay lines c) reply.moment (λ a e. rw e at right) moment ∙ ap (λ (k : ℕ). moment_of reply.answer reply.begin reply.end (won lay lines k)) (sym own)
-placed lay tries calls words lines changes reply c (ScxOf update) x entries owed own called right tells entry is begin end moment = cell_moment calls lines changes (ScxOf update) reply.answer reply.begin reply.end (won lay lines c) reply.moment (λ a e. rw e at right) moment ∙ ap (λ (k : ℕ). moment_of reply.answer reply.begin reply.end (won lay lines k)) (sym own)
-placed lay tries calls words lines changes reply c (VlxOf cells) x entries owed own called right tells entry is begin end moment = cell_moment calls lines changes (VlxOf cells) reply.answer reply.begin reply.end (won lay lines c) reply.moment (λ a e. rw e at right) moment ∙ ap (λ (k : ℕ). moment_of reply.answer reply.begin reply.end (won lay lines k)) (sym own)
-placed lay tries calls words lines changes reply c (SetOf field value) x entries owed own called right tells entry is begin end moment = cell_moment calls lines changes (SetOf field value) reply.answer reply.begin reply.end (won lay lines c) reply.moment (λ a e. rw e at right) moment ∙ ap (λ (k : ℕ). moment_of reply.answer reply.begin reply.end (won lay lines k)) (sym own)
 placed lay tries calls words lines changes reply c (Map (InsertOf key value)) x entries owed own called right tells entry is begin end moment = edit_placed lay tries calls lines changes reply c (PutEdit key value) (edit_reply lay tries calls words lines changes reply c (Map (InsertOf key value)) x (sym (command_mode lay.mode calls c _ (Map (InsertOf key value)) x.of_mode is)) entries owed own called right tells entry is begin end moment)
 placed lay tries calls words lines changes reply c (Map (DeleteOf key)) x entries owed own called right tells entry is begin end moment = edit_placed lay tries calls lines changes reply c (TakeEdit key) (edit_reply lay tries calls words lines changes reply c (Map (DeleteOf key)) x (sym (command_mode lay.mode calls c _ (Map (DeleteOf key)) x.of_mode is)) entries owed own called right tells entry is begin end moment)
 placed lay tries calls words lines changes reply c (Map (GetOf key)) x entries owed own called right tells entry is begin end moment =
@@ -154,6 +141,7 @@ placed lay tries calls words lines changes reply c (Map (SuccessorOf key)) x ent
 placed lay tries calls words lines changes reply c (Map (RangeOf low high most)) x entries owed own called right tells entry is begin end moment =
     let mode = sym (command_mode lay.mode calls c _ (Map (RangeOf low high most)) x.of_mode is) in
     range_reads lay tries calls words lines changes reply x mode (entries mode) owed (rw own called) (unwon_none (won lay lines reply.client.0) (rw own entry)) (rw own begin) end low high most (rw own is) (rw own right) (rw own tells) (rw own moment)
+placed lay tries calls words lines changes reply c command x entries owed own called right tells entry is begin end moment = cell_moment calls lines changes command reply.answer reply.begin reply.end (won lay lines c) reply.moment (λ a e. rw e at right) moment ∙ ap (λ (k : ℕ). moment_of reply.answer reply.begin reply.end (won lay lines k)) (sym own)
 
 -- what is said of a whole run by its mode
 pub whole : (lay : Layout) (tries : ℕ) (calls : List Call) (words : Contents) (lines : List Line) → IsLawfulSoFar lay tries calls words lines → IsWhole lay.mode lay calls lines

@@ -1,4 +1,4 @@
--- A player's run as one of cells or of a dictionary, under whose shapes their machines run, and back.
+-- A player's run as one of cells or of a dictionary, under whose shapes machines run, and back.
 use Rattle.std.proofs.Common.{◌≡◌, subst, sym}
 use Rattle.arena.specs.declared.limits.Mode.{Mode}
 use Rattle.arena.specs.declared.limits.Mode.TheVariants.{Records, Tree}
