@@ -135,7 +135,7 @@ module _ {M : Type 0} {o : Calls M} (r : SuccessorReader o) where
     looks_there : (old now : SuccessorRun) (c : Call) (h : History) (n : ℕ) → now.key ≡ old.key → now.snaps ≡ old.snaps → now.right ≡ old.right → LooksAt old c h route level side n → LooksAt now c h route level side n
     looks_there old now c h n k s t x = record { stood = x.stood; fork = x.fork; deep = x.deep; side_is = rw k x.side_is; right = rw t x.right; at_fork = rw (k, s, t) x.at_fork }
 
-    pub looker : Looker o
+    pub looker : Looker TreeAllows o
     looker = record {
       call = r.call;
       is_layout = r.is_layout;

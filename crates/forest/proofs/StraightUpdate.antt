@@ -245,7 +245,7 @@ module _ {M E : Type 0} {o : Calls M} {e : EditMeaning E} (u : Updater o e) wher
   looking m f llx = standing m (Look f llx)
 
   -- a machine that updates looks at nodes
-  pub looker : {A : Type 0} → UpdateRun E A → Found → Looker o
+  pub looker : {A : Type 0} → UpdateRun E A → Found → Looker TreeAllows o
   looker m f = record {
     call = u.call;
     is_layout = u.is_layout;

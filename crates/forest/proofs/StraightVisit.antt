@@ -180,7 +180,7 @@ module _ {M : Type 0} {o : Calls M} (r : RangeReader o) where
     abbrev at : LlxRun → RangeRun
     at llx = record m { at = Look level left right llx }
 
-    pub looker : Looker o
+    pub looker : Looker TreeAllows o
     looker = record {
       call = r.call;
       is_layout = r.is_layout;

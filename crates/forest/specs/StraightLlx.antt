@@ -11,7 +11,7 @@ use Rattle.prims.specs.declared.llx.LlxRun.{LlxRun}
 use Rattle.prims.specs.declared.llx.LlxAt.{LlxAt}
 use Rattle.prims.specs.declared.llx.LlxAt.TheVariants.{Start}
 use Rattle.forest.specs.declared.view.SeatedPass.{SeatedPass}
-use Rattle.forest.specs.Traces.{CallBegins, Waits, Told, Ends}
+use Rattle.forest.specs.Traces.{CallBegins, Waits, Ends}
 
 -- the run of LLX of the node that stands at a place
 abbrev pub llx_at : NodeNo → LlxAt → LlxRun
@@ -29,10 +29,6 @@ module _ (allows : Layout → History → ℕ → Type 0) (c : Call) (ps : List 
   -- the call waits for this step at this place
   abbrev pub SeatLlxWaits : LlxAt → Step → Type 0
   SeatLlxWaits at = Waits allows (LlxWaits allows) IsSameNode c ps (llx_at node Start) (llx_at node at)
-
-  -- the step of this place has told v
-  abbrev pub SeatLlxTold : LlxAt → ℕ → Type 0
-  SeatLlxTold at = Told allows (LlxWaits allows) IsSameNode c ps (llx_at node Start) (LlxIsReady allows) (llx_at node at)
 
   -- the call has ended with this answer
   abbrev pub SeatLlxEnds : Llx → Type 0

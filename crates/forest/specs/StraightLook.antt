@@ -1,13 +1,13 @@
--- Calls that stand at a place of an LLX, of whatever machine looks at nodes of the tree.
+-- Calls that stand at a place of an LLX, of whatever machine looks at nodes.
 use Rattle.std.specs.Prelude.{◌≡◌, Bool, ℕ, List, Some}
+use Rattle.arena.specs.declared.layout.Layout.{Layout}
 use Rattle.arena.specs.declared.number.NodeNo.{NodeNo}
 use Rattle.arena.specs.History.{History}
 use Rattle.arena.specs.Machines.{Call, IsRun}
 use Rattle.prims.specs.FoundThere.{HasFoundThere}
-use Rattle.prims.specs.Llx.Known.{load, LlxIsReady, LlxWaits, IsSnapshot}
+use Rattle.prims.specs.Llx.Known.{load, LlxIsReady, LlxWaits, HasJustLooked, IsSnapshot}
 use Rattle.prims.specs.declared.llx.LlxRun.{LlxRun}
 use Rattle.prims.specs.declared.snap.Snap.{Snap}
-use Rattle.spelling.specs.TreeShape.{TreeAllows}
 use Rattle.forest.specs.declared.view.SeatedPass.{SeatedPass}
 use Rattle.forest.specs.CallKinds.{Calls}
 use Rattle.forest.specs.Inside.{Inner, Inside, InnerIsTold, InnerWaits}
@@ -17,20 +17,21 @@ use Rattle.arena.specs.Words.{marked, state}
 use Rattle.prims.specs.declared.llx.LlxAt.TheVariants.{Marked, StateAgain}
 use Rattle.forest.specs.StraightLlx.{llx_at}
 
--- an LLX of a node of the tree, in a call of its own
-abbrev pub llx_inside : Inner LlxRun
-llx_inside = record {
+-- an LLX of a node, in a call of its own, which is said to wait and to be told in the runs that
+-- `inner` allows
+abbrev pub llx_inside : (Layout → History → ℕ → Type 0) → Inner LlxRun
+llx_inside inner = record {
   Context = Call;
-  told = λ d m h v. IsRun TreeAllows d.layout h × LlxIsReady TreeAllows m d h (Some v);
-  waits = λ d m h s. LlxWaits TreeAllows m d h s;
+  told = λ d m h v. IsRun inner d.layout h × LlxIsReady inner m d h (Some v);
+  waits = λ d m h s. LlxWaits inner m d h s;
   goes = λ old now. now.node ≡ old.node;
 }
 
 -- a call of a machine that looks at nodes
-abbrev pub Looker : {M : Type 0} → Calls M → Type 0
-Looker o = Inside o llx_inside
+abbrev pub Looker : {M : Type 0} → (Layout → History → ℕ → Type 0) → Calls M → Type 0
+Looker inner o = Inside o (llx_inside inner)
 
-module _ {M : Type 0} {o : Calls M} (k : Looker o) (ps : List SeatedPass) (node : NodeNo) where
+module _ {M : Type 0} {inner : Layout → History → ℕ → Type 0} {o : Calls M} (k : Looker inner o) (ps : List SeatedPass) (node : NodeNo) where
   -- its LLX of the node waits to load the node's mark, with which it begins
   abbrev pub LoadsMark : Type 0
   LoadsMark = InnerWaits k ps (llx_at node Marked) (load LoadMarked (marked node.0))
@@ -40,12 +41,13 @@ module _ {M : Type 0} {o : Calls M} (k : Looker o) (ps : List SeatedPass) (node 
   LoadsStateAgain b s = InnerWaits k ps (llx_at node (StateAgain b s)) (load LoadState (state s.0))
 
 -- the last step of its LLX of the node has told what makes this snapshot right, and its
--- SCX-record one that the call has found in the node's info
-pub record LookerSnaps {M : Type 0} {o : Calls M} (k : Looker o) (ps : List SeatedPass) (node : NodeNo) (snap : Snap) : Type 0 where
+-- SCX-record one that the call has found in the node's info; the call has just looked at the node
+pub record LookerSnaps {M : Type 0} {inner : Layout → History → ℕ → Type 0} {o : Calls M} (k : Looker inner o) (ps : List SeatedPass) (node : NodeNo) (snap : Snap) : Type 0 where
   pub of_node : snap.node ≡ node
   pub last : LlxRun
   pub is_node : last.node ≡ node
   pub told : ℕ
-  pub snaps : (d : Call) (h : History) → IsRun TreeAllows d.layout h → LlxIsReady TreeAllows last d h (Some told) → IsSnapshot d.layout h node.0 snap
-  pub found : (d : Call) (h : History) → IsRun TreeAllows d.layout h → LlxIsReady TreeAllows last d h (Some told) → HasFoundThere d.pass h d.start node.0 snap.scx.0
+  pub snaps : (d : Call) (h : History) → IsRun inner d.layout h → LlxIsReady inner last d h (Some told) → IsSnapshot d.layout h node.0 snap
+  pub found : (d : Call) (h : History) → IsRun inner d.layout h → LlxIsReady inner last d h (Some told) → HasFoundThere d.pass h d.start node.0 snap.scx.0
+  pub looked : (d : Call) (h : History) → IsRun inner d.layout h → LlxIsReady inner last d h (Some told) → HasJustLooked d.pass h d.start node.0
   pub so : InnerIsTold k ps last told

@@ -7,15 +7,15 @@ ghost use Rattle.forest.specs.StraightLlx.{SeatLlxBegins, SeatLlxWaits, SeatLlxE
 ghost use Rattle.prims.specs.Llx.Steps.{llx_left};
 ghost use Rattle.prims.specs.Llx.Known.{load};
 
-use crate::steps::{complete, step_of};
+use crate::steps::complete;
+use crate::straight::looking::look;
 use crate::view::SeatView;
 use crate::words::Words;
 use arena::{
-    ABORTED, Access, COMMITTED, Kind, Layout, NodeNo, NodeWord, ScxNo, ScxWord, Shape, Side, Step,
-    Turn, Word,
+    ABORTED, Access, COMMITTED, Kind, Layout, NodeNo, ScxNo, ScxWord, Shape, Step, Turn, Word,
 };
 use atomic_table::Seat;
-use prims::{Llx, LlxAt, LlxRun, Snap};
+use prims::{Llx, LlxAt, LlxRun};
 
 /// A load of this word.
 #[inline(always)]
@@ -74,49 +74,8 @@ pub(crate) fn call<S: Shape>(
     ensures ends { (c : Call) → c.layout ≡ layout.now → c.number ≡ number → SeatLlxBegins S.allows c seat.old.me.0.passes node → SeatLlxEnds S.allows c seat.new.me.0.passes node result }
     ensures steps { seat_steps seat.new.me.0.passes ≤ seat_steps seat.old.me.0.passes + 64 }
 {
-    let mark = load(Kind::LoadMarked, Word::Node(node, NodeWord::Marked));
-    let info = load(Kind::LoadInfo, Word::Node(node, NodeWord::Info));
-    let one = load(
-        Kind::LoadChild,
-        Word::Node(node, NodeWord::Child(Side::Left)),
-    );
-    let other = load(
-        Kind::LoadChild,
-        Word::Node(node, NodeWord::Child(Side::Right)),
-    );
-
-    let at = LlxAt::Marked;
-    let found = step_of::<S, LlxRun>(words, layout, seat, number, &LlxRun { node, at }, mark);
-    let marked = found != 0;
-    let at = LlxAt::Info { marked };
-    let scx = step_of::<S, LlxRun>(words, layout, seat, number, &LlxRun { node, at }, info);
-    let scx = ScxNo(scx);
-    let finished = load(Kind::LoadState, Word::Scx(scx, ScxWord::State));
-    let at = LlxAt::State { marked, scx };
-    let state = step_of::<S, LlxRun>(words, layout, seat, number, &LlxRun { node, at }, finished);
-    let at = LlxAt::MarkedAgain { marked, scx, state };
-    let again = step_of::<S, LlxRun>(words, layout, seat, number, &LlxRun { node, at }, mark);
-    if !leaves(state, again != 0) {
-        return hand_over(words, layout, seat, number, node, marked, scx);
+    match look::<S, LlxRun, S>(words, layout, seat, number, node) {
+        Ok(snap) => Llx::Snapshot(snap),
+        Err((marked, scx)) => hand_over(words, layout, seat, number, node, marked, scx),
     }
-    let at = LlxAt::Left { marked, scx };
-    let left = step_of::<S, LlxRun>(words, layout, seat, number, &LlxRun { node, at }, one);
-    let at = LlxAt::Right { marked, scx, left };
-    let right = step_of::<S, LlxRun>(words, layout, seat, number, &LlxRun { node, at }, other);
-    let at = LlxAt::InfoAgain {
-        marked,
-        scx,
-        left,
-        right,
-    };
-    let last = step_of::<S, LlxRun>(words, layout, seat, number, &LlxRun { node, at }, info);
-    if last != scx.0 {
-        return hand_over(words, layout, seat, number, node, marked, scx);
-    }
-    Llx::Snapshot(Snap {
-        node,
-        scx,
-        left: NodeNo(left),
-        right: NodeNo(right),
-    })
 }

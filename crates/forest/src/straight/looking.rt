@@ -1,4 +1,4 @@
-//! LLXs of nodes of the tree, of whatever machine looks at them.
+//! LLXs, of whatever machine looks at nodes.
 ghost use Rattle.std.specs.Prelude.{◌≡◌, ◌≤◌, ◌+◌, suc, IfOk, IfErr};
 ghost use Rattle.forest.specs.Seats.{IsSeatAt, StaysAtTable};
 ghost use Rattle.forest.specs.Traces.{seat_steps};
@@ -20,7 +20,7 @@ use prims::Snap;
 
 /// Loads a word.
 #[inline(always)]
-fn read<S: Shape, M: Machine<S>>(
+fn read<S: Shape, M: Machine<S>, T: Shape>(
     words: &Words<S>,
     layout: &Layout,
     seat: &mut Seat<u8, SeatView>,
@@ -29,10 +29,10 @@ fn read<S: Shape, M: Machine<S>>(
     word: Word,
 ) -> u64
     requires table { IsSeatAt words.now layout.now seat.old }
-    requires waits { (k : Looker (calls S.Shape M.Machine layout.now number)) × (m : LlxRun) × InnerWaits k seat.old.me.0.passes m (load kind word) }
+    requires waits { (k : Looker T.allows (calls S.Shape M.Machine layout.now number)) × (m : LlxRun) × InnerWaits k seat.old.me.0.passes m (load kind word) }
     ensures table { StaysAtTable seat.old seat.new }
     ensures one { seat_steps seat.new.me.0.passes ≡ suc (seat_steps seat.old.me.0.passes) }
-    ensures told { (k : Looker (calls S.Shape M.Machine layout.now number)) (m : LlxRun) → InnerWaits k seat.old.me.0.passes m (load kind word) → InnerIsTold k seat.new.me.0.passes m result }
+    ensures told { (k : Looker T.allows (calls S.Shape M.Machine layout.now number)) (m : LlxRun) → InnerWaits k seat.old.me.0.passes m (load kind word) → InnerIsTold k seat.new.me.0.passes m result }
 {
     let access = Access::Load;
     step::<S, M>(words, layout, seat, number, Step { kind, word, access })
@@ -41,7 +41,7 @@ fn read<S: Shape, M: Machine<S>>(
 /// LLX of a node whose mark is asked for: the loads of a snapshot. Where something is in the way,
 /// it tells whether the node was marked, and by which SCX-record, whose state is asked for again.
 #[inline(always)]
-pub(crate) fn look<S: Shape, M: Machine<S>>(
+pub(crate) fn look<S: Shape, M: Machine<S>, T: Shape>(
     words: &Words<S>,
     layout: &Layout,
     seat: &mut Seat<u8, SeatView>,
@@ -49,29 +49,29 @@ pub(crate) fn look<S: Shape, M: Machine<S>>(
     node: NodeNo,
 ) -> Result<Snap, (bool, ScxNo)>
     requires table { IsSeatAt words.now layout.now seat.old }
-    requires waits { (k : Looker (calls S.Shape M.Machine layout.now number)) × LoadsMark k seat.old.me.0.passes node }
+    requires waits { (k : Looker T.allows (calls S.Shape M.Machine layout.now number)) × LoadsMark k seat.old.me.0.passes node }
     ensures table { StaysAtTable seat.old seat.new }
     ensures steps { seat_steps seat.new.me.0.passes ≤ seat_steps seat.old.me.0.passes + 7 }
-    ensures snaps { IfOk result (λ snap. (k : Looker (calls S.Shape M.Machine layout.now number)) → LoadsMark k seat.old.me.0.passes node → LookerSnaps k seat.new.me.0.passes node snap) }
-    ensures waits { IfErr result (λ t. (k : Looker (calls S.Shape M.Machine layout.now number)) → LoadsMark k seat.old.me.0.passes node → LoadsStateAgain k seat.new.me.0.passes node t.0 t.1) }
+    ensures snaps { IfOk result (λ snap. (k : Looker T.allows (calls S.Shape M.Machine layout.now number)) → LoadsMark k seat.old.me.0.passes node → LookerSnaps k seat.new.me.0.passes node snap) }
+    ensures waits { IfErr result (λ t. (k : Looker T.allows (calls S.Shape M.Machine layout.now number)) → LoadsMark k seat.old.me.0.passes node → LoadsStateAgain k seat.new.me.0.passes node t.0 t.1) }
 {
     let mark = Word::Node(node, NodeWord::Marked);
     let info = Word::Node(node, NodeWord::Info);
-    let found = read::<S, M>(words, layout, seat, number, Kind::LoadMarked, mark);
+    let found = read::<S, M, T>(words, layout, seat, number, Kind::LoadMarked, mark);
     let marked = found != 0;
-    let named = read::<S, M>(words, layout, seat, number, Kind::LoadInfo, info);
+    let named = read::<S, M, T>(words, layout, seat, number, Kind::LoadInfo, info);
     let scx = ScxNo(named);
     let finished = Word::Scx(scx, ScxWord::State);
-    let state = read::<S, M>(words, layout, seat, number, Kind::LoadState, finished);
-    let again = read::<S, M>(words, layout, seat, number, Kind::LoadMarked, mark);
+    let state = read::<S, M, T>(words, layout, seat, number, Kind::LoadState, finished);
+    let again = read::<S, M, T>(words, layout, seat, number, Kind::LoadMarked, mark);
     if !leaves(state, again != 0) {
         return Err((marked, scx));
     }
     let one = Word::Node(node, NodeWord::Child(Side::Left));
-    let left = read::<S, M>(words, layout, seat, number, Kind::LoadChild, one);
+    let left = read::<S, M, T>(words, layout, seat, number, Kind::LoadChild, one);
     let other = Word::Node(node, NodeWord::Child(Side::Right));
-    let right = read::<S, M>(words, layout, seat, number, Kind::LoadChild, other);
-    let last = read::<S, M>(words, layout, seat, number, Kind::LoadInfo, info);
+    let right = read::<S, M, T>(words, layout, seat, number, Kind::LoadChild, other);
+    let last = read::<S, M, T>(words, layout, seat, number, Kind::LoadInfo, info);
     if last != scx.0 {
         return Err((marked, scx));
     }

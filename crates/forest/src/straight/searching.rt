@@ -22,6 +22,7 @@ use atomic_table::Seat;
 use order::{Refused, Route, SuccessorAt, SuccessorNext, SuccessorRun};
 use prims::{LlxAt, LlxRun, Snap};
 use spelling::Pair;
+use template::Tree;
 
 /// What a successor answers.
 type Told = Result<Option<Pair>, Refused>;
@@ -48,7 +49,7 @@ fn look_on<S: Shape, M: Machine<S>>(
     ensures steps { seat_steps seat.new.me.0.passes + search_left (shared_nodes layout.now) run.new result ≤ seat_steps seat.old.me.0.passes + suc (successor_left (placed run.old (SuccessorNext.Look route level side node)) (shared_nodes layout.now)) }
     ensures nearer { search_left (shared_nodes layout.now) run.new result < suc (successor_left (placed run.old (SuccessorNext.Look route level side node)) (shared_nodes layout.now)) }
 {
-    match look::<S, M>(words, layout, seat, number, node) {
+    match look::<S, M, Tree>(words, layout, seat, number, node) {
         Ok(snap) => match run.looked(route, level, side, snap) {
             Ok(next) => Ok(next),
             Err(refused) => Err(Err(refused)),

@@ -165,7 +165,7 @@ fn look_at<S: Shape, M: Machine<S>, E: Edit + Copy>(
     ensures steps { seat_steps seat.new.me.0.passes + left_then E.means run.new found.now result (shared_nodes layout.now) ≤ seat_steps seat.old.me.0.passes + suc (update_left E.means (placed E.means run.old found.now (Next.Look node)) (shared_nodes layout.now)) }
     ensures nearer { left_then E.means run.new found.now result (shared_nodes layout.now) < suc (update_left E.means (placed E.means run.old found.now (Next.Look node)) (shared_nodes layout.now)) }
 {
-    match look::<S, M>(words, layout, seat, number, node) {
+    match look::<S, M, Tree>(words, layout, seat, number, node) {
         Ok(snap) => run.looked(found, snap),
         Err((marked, scx)) => Ok(Next::Wait { node, marked, scx }),
     }

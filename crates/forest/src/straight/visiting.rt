@@ -23,6 +23,7 @@ use atomic_table::Seat;
 use order::{RangeAt, RangeNext, RangeRun, Refused};
 use prims::{LlxAt, LlxRun, Snap};
 use spelling::Pair;
+use template::Tree;
 
 /// What a range answers.
 type Told = Result<Vec<Pair>, Refused>;
@@ -48,7 +49,7 @@ fn look_on<S: Shape, M: Machine<S>>(
     ensures steps { seat_steps seat.new.me.0.passes + visit_left (shared_nodes layout.now) run.new result ≤ seat_steps seat.old.me.0.passes + suc (range_left (placed run.old (RangeNext.Look level left right node)) (shared_nodes layout.now)) }
     ensures nearer { visit_left (shared_nodes layout.now) run.new result < suc (range_left (placed run.old (RangeNext.Look level left right node)) (shared_nodes layout.now)) }
 {
-    match look::<S, M>(words, layout, seat, number, node) {
+    match look::<S, M, Tree>(words, layout, seat, number, node) {
         Ok(snap) => match run.looked(level, left, right, snap) {
             Ok(next) => Ok(next),
             Err(refused) => Err(Err(refused)),
