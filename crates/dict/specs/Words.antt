@@ -1,6 +1,6 @@
 -- Typed keys, values, calls and replies in words. `word` stands for the word of a key or of a
 -- value, `valid` for whether it is one of its type.
-use Rattle.std.specs.Prelude.{◌≡◌, ℕ, All, IfSome}
+use Rattle.std.specs.Prelude.{◌≡◌, ℕ, ◌^◌, ◌<◌, All, IfSome}
 use Rattle.spelling.specs.declared.pair.Pair.{Pair}
 use Rattle.spelling.specs.declared.request.Request.{Request}
 use Rattle.spelling.specs.declared.request.Request.TheVariants.{Insert as InsertOf, Delete as DeleteOf, Get as GetOf, Successor as SuccessorOf, Range as RangeOf}
@@ -10,6 +10,10 @@ use Rattle.spelling.specs.declared.reply.Reply.TheVariants.{Value, Pair as PairO
 -- a word of a key or a value
 abbrev pub IsWord : {T : Type 0} → (T → Type 0) → (T → ℕ) → ℕ → Type 0
 IsWord {T} valid word n = (x : T) × valid x × (word x ≡ n)
+
+-- the word of a number that is a key or a value itself: each of 64 bits, for which it stands
+abbrev pub IsNumber : ℕ → Type 0
+IsNumber = IsWord (λ n. n < 2 ^ 64) (λ n. n)
 
 -- a pair of such words
 abbrev pub IsPairWord : {K V : Type 0} → (K → Type 0) → (K → ℕ) → (V → Type 0) → (V → ℕ) → Pair → Type 0

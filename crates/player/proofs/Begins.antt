@@ -55,7 +55,7 @@ use Rattle.dict.specs.declared.dict.DictRun.{DictRun}
 use Rattle.spelling.specs.OrderedMap.{MapCall}
 use Rattle.spelling.specs.Requests.{AsksForFew, map_request}
 use Rattle.spelling.specs.declared.request.Request.{Request}
-use Rattle.player.specs.Allowed.{IsNumber}
+use Rattle.dict.specs.Words.{IsNumber}
 use Rattle.player.specs.RunKnown.{IsForNothing, RunAsksFirst}
 use Rattle.player.proofs.Shapes.{as_numbers}
 use Rattle.player.specs.RunSteps.{then_left}

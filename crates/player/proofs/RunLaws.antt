@@ -11,7 +11,8 @@ use Rattle.prims.specs.Put.Laws.{put_keeps, put_lawful, put_made}
 use Rattle.dict.specs.DictLaws.{dict_keeps, dict_lawful, dict_made}
 use Rattle.player.specs.declared.run.Run.{Run}
 use Rattle.player.specs.declared.run.Run.TheVariants.{Llx, Scx, Vlx, Map}
-use Rattle.player.specs.Allowed.{IsNumber, PlayedAllows}
+use Rattle.dict.specs.Words.{IsNumber}
+use Rattle.player.specs.Allowed.{PlayedAllows}
 use Rattle.player.specs.RunKnown.{RunIsReady, RunWaits, run_mode}
 use Rattle.player.proofs.Shapes.{as_cells, as_played, as_numbers, as_played_numbers}
 

@@ -10,7 +10,8 @@ use Rattle.prims.specs.Cells.{AllowsAll}
 use Rattle.spelling.specs.TreeShape.{TreeAllows}
 use Rattle.dict.specs.Typed.{TypedAllows}
 use Rattle.dict.specs.TypedMaps.{typed_run}
-use Rattle.player.specs.Allowed.{AllowsIn, IsNumber, PlayedAllows}
+use Rattle.dict.specs.Words.{IsNumber}
+use Rattle.player.specs.Allowed.{AllowsIn, PlayedAllows}
 
 -- cells ask nothing
 pub as_cells : (lay : Layout) (h : History) → lay.mode ≡ Records → IsRun PlayedAllows lay h → IsRun AllowsAll lay h

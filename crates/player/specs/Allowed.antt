@@ -5,16 +5,12 @@ use Rattle.arena.specs.declared.limits.Mode.TheVariants.{Records, Tree}
 use Rattle.arena.specs.declared.layout.Layout.{Layout}
 use Rattle.arena.specs.History.{History}
 use Rattle.dict.specs.Typed.{TypedAllows}
-use Rattle.dict.specs.Words.{IsWord}
+use Rattle.dict.specs.Words.{IsNumber}
 use Rattle.prims.specs.Cells.{AllowsAll}
 
 -- a number that fits a word: the tree of a script is a dictionary whose keys and values are such
 abbrev pub IsSmall : ℕ → Type 0
 IsSmall n = n < 2 ^ 64
-
--- the word of one: it stands for itself
-abbrev pub IsNumber : ℕ → Type 0
-IsNumber = IsWord IsSmall (λ n. n)
 
 -- which SCX-records may begin in this mode: in cells all, in the tree those of its edits
 abbrev pub AllowsIn : Mode → Layout → History → ℕ → Type 0

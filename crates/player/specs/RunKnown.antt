@@ -22,7 +22,8 @@ use Rattle.record.specs.declared.record.Answer.TheVariants.{Snapshot, Finalized,
 use Rattle.spelling.specs.CallRules.{TakesNothing}
 use Rattle.spelling.specs.declared.request.Request.{Request}
 use Rattle.spelling.specs.declared.request.Request.TheVariants.{Range as RangeOf}
-use Rattle.player.specs.Allowed.{IsSmall, IsNumber}
+use Rattle.dict.specs.Words.{IsNumber}
+use Rattle.player.specs.Allowed.{IsSmall}
 use Rattle.player.specs.declared.run.Run.{Run}
 use Rattle.player.specs.declared.run.Run.TheVariants.{Llx, Scx, Vlx, Map}
 use Rattle.player.specs.declared.run.Ended.{Ended}

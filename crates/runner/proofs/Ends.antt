@@ -23,7 +23,8 @@ use Rattle.record.specs.Commands.{commands}
 use Rattle.forest.specs.TableRule.{history_of}
 use Rattle.forest.specs.Passes.{Ground, PassView, AreNew, AreBegun, IsClosed, new_pass, run_of, done_of}
 use Rattle.forest.specs.Shares.{entries_of}
-use Rattle.runner.specs.Calls.{IsNumber, NumbersAllow, HasCalled, HaveReplies, HaveWorked}
+use Rattle.dict.specs.Words.{IsNumber}
+use Rattle.runner.specs.Calls.{NumbersAllow, HasCalled, HaveReplies, HaveWorked}
 use Rattle.runner.specs.Histories.{map_at}
 use Rattle.runner.specs.Outcomes.{IsClient, IsOutcome}
 use Rattle.runner.proofs.Gathered.{WorkedAt, worked_at, worked_count, none_some, some_same}

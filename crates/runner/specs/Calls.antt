@@ -8,7 +8,7 @@ use Rattle.spelling.specs.OrderedMap.{MapCall}
 use Rattle.dict.specs.Calls.{AsksForPairs}
 use Rattle.spelling.specs.CallRules.{MayReply, form_of, most_steps}
 use Rattle.dict.specs.Typed.{TypedAllows}
-use Rattle.dict.specs.Words.{IsWord}
+use Rattle.dict.specs.Words.{IsNumber}
 use Rattle.spelling.specs.Replies.{told_of}
 use Rattle.spelling.specs.declared.reply.Reply.{Reply}
 use Rattle.script.specs.declared.call.Call.{Call}
@@ -20,10 +20,6 @@ use Rattle.forest.specs.Passes.{AreOfCall, Ground, PassView, IsLaterView, IsOf, 
 use Rattle.forest.specs.Shares.{IsBetweenCalls}
 use Rattle.forest.specs.StepKinds.{HasKeptToKinds}
 use Rattle.forest.specs.Traces.{shared_nodes}
-
--- a word of a key or a value: each number of 64 bits is one, and stands for itself
-abbrev pub IsNumber : ℕ → Type 0
-IsNumber = IsWord (λ n. n < 2 ^ 64) (λ n. n)
 
 -- the shape of a dictionary of numbers: each SCX-record that begins makes an edit of numbers
 abbrev pub NumbersAllow : Layout → History → ℕ → Type 0

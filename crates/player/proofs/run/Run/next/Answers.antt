@@ -6,7 +6,7 @@ use Rattle.prims.specs.Put.Known.{PutIsReady}
 use Rattle.prims.specs.Vlx.Known.{VlxIsReady}
 use Rattle.dict.specs.DictKnown.{DictIsReady}
 use Rattle.dict.specs.DictLaws.{dict_told}
-use Rattle.player.specs.Allowed.{IsNumber}
+use Rattle.dict.specs.Words.{IsNumber}
 use Rattle.player.proofs.Shapes.{as_cells, as_numbers}
 use Rattle.player.proofs.run.Run.next.Goals as goal
 
