@@ -1,8 +1,10 @@
 //! Steps of a call whose machine stands nowhere: clauses alone say where it would stand.
-ghost use Rattle.std.specs.Prelude.{◌≡◌, suc};
+ghost use Rattle.std.specs.Prelude.{◌≡◌, suc, [], ◌∷◌};
 ghost use Rattle.arena.specs.Machines.{Call};
+ghost use Rattle.forest.specs.declared.view.SeatedPass.{SeatedPass};
+ghost use Rattle.forest.specs.Opened.{IsStepBehind};
 ghost use Rattle.forest.specs.Seats.{IsSeatAt, StaysAtTable};
-ghost use Rattle.forest.specs.Traces.{Waits, Told, seat_steps};
+ghost use Rattle.forest.specs.Traces.{Waits, Told, known_of, seat_steps};
 
 use crate::rule::Asked;
 use crate::view::SeatView;
@@ -25,6 +27,7 @@ pub(crate) fn step<S: Shape, M: Machine<S>>(
     ensures table { StaysAtTable seat.old seat.new }
     ensures told { (c : Call) (first m : M) → c.layout ≡ layout.now → c.number ≡ number → Waits S.allows M.waits M.same c seat.old.me.0.passes first m step → Told S.allows M.waits M.same c seat.new.me.0.passes first M.ready m result }
     ensures one { seat_steps seat.new.me.0.passes ≡ suc (seat_steps seat.old.me.0.passes) }
+    ensures row { (p : SeatedPass) × (seat.old.me.0.passes ≡ p ∷ []) × IsStepBehind p.known (known_of seat.new.me.0.passes) p.number.0 number step.kind }
 {
     let at = layout.place(step.word);
     let asked = Asked { call: number, step };

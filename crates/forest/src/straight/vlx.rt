@@ -5,7 +5,7 @@ ghost use Rattle.forest.specs.Seats.{IsSeatAt, StaysAtTable};
 ghost use Rattle.forest.specs.Traces.{seat_steps};
 ghost use Rattle.forest.specs.StraightVlx.{SeatVlxBegins, SeatVlxEnds};
 
-use crate::steps::step_of;
+use crate::straight::placed;
 use crate::view::SeatView;
 use crate::words::Words;
 use arena::{Access, Kind, Layout, NodeWord, ScxNo, Shape, Step, Word};
@@ -36,9 +36,7 @@ pub(crate) fn call<S: Shape, L: SnapList + Copy>(
             word: Word::Node(snap.node, NodeWord::Info),
             access: Access::Load,
         };
-        let asked = index + 1;
-        let run = VlxRun { snaps, asked };
-        let found = step_of::<S, VlxRun<L>>(words, &layout, seat, number, &run, step);
+        let found = placed::step::<S, VlxRun<L>>(words, &layout, seat, number, step);
         if found != snap.scx.0 {
             let (node, scx) = (snap.node, ScxNo(found));
             return Vlx::Changed { node, scx };

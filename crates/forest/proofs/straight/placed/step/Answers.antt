@@ -1,8 +1,9 @@
-use Rattle.std.proofs.Common.{Some, refl, sym, subst}
+use Rattle.std.proofs.Common.{Some, refl, sym, ap, subst}
 use Rattle.arena.specs.declared.layout.Layout.{Layout}
 use Rattle.arena.specs.Layout.{IsWord}
 use Rattle.arena.specs.History.{History}
-use Rattle.forest.specs.Traces.{Trace, others, makes}
+use Rattle.forest.specs.TableRule.{past_of, row}
+use Rattle.forest.specs.Traces.{Trace, known_of, others, makes}
 use Rattle.forest.proofs.Advances.{called_so, may, word_of, told, one_step}
 use Rattle.forest.proofs.straight.placed.step.Goals as goal
 
@@ -29,3 +30,6 @@ returns-clause-told g c = λ k first m lay number x. let law = g.met.M.Machine i
 
 pub returns-clause-one : goal.returns-clause-one
 returns-clause-one g c = one_step g.S.Shape.allows record { call = c.args.number; step = c.args.step } _ _ _ c.make.ensures.made
+
+pub returns-clause-row : goal.returns-clause-row
+returns-clause-row g c = let m = c.make.ensures.made in (m.pass, m.was, record { others = m.others; row = row m.pass.number.0 record { call = c.args.number; step = c.args.step } (past_of m.pass m.others); is = ap known_of m.is; by_others = m.by_others; of_pass = refl; of_call = refl; of_kind = refl })
