@@ -58,8 +58,8 @@ module _ {K V : Type 0} (valid_key : K → Type 0) (key : K → ℕ) (valid_valu
   same = IsSameDictCall valid_key key valid_value value_word
 
   -- its calls of a layout and a number
-  abbrev kind : Layout → ℕ → Calls (DictRun K V)
-  kind layout number = record { allows = allows; ready = ready; waits = waits; same = same; layout = layout; number = number }
+  abbrev pub dict_calls : Layout → ℕ → Calls (DictRun K V)
+  dict_calls layout number = record { allows = allows; ready = ready; waits = waits; same = same; layout = layout; number = number }
 
   abbrev keys : ℕ → Type 0
   keys = IsWord valid_key key
@@ -89,7 +89,7 @@ module _ {K V : Type 0} (valid_key : K → Type 0) (key : K → ℕ) (valid_valu
       spent = edit_spends c 3 old.share now.share machine.tries (node_tries old old.at) (node_tries now now.at) (scx_tries old old.at) (scx_tries now now.at) x.spent on.spends;
     }
 
-    pub inserter : Updater (kind layout number) insert_means
+    pub inserter : Updater (dict_calls layout number) insert_means
     unfolding insert_call
     inserter = record {
       call = c;
@@ -137,7 +137,7 @@ module _ {K V : Type 0} (valid_key : K → Type 0) (key : K → ℕ) (valid_valu
       spent = edit_spends c 1 old.share now.share machine.tries (node_tries old old.at) (node_tries now now.at) (scx_tries old old.at) (scx_tries now now.at) x.spent on.spends;
     }
 
-    pub deleter : Updater (kind layout number) delete_means
+    pub deleter : Updater (dict_calls layout number) delete_means
     unfolding delete_call
     deleter = record {
       call = c;
@@ -173,7 +173,7 @@ module _ {K V : Type 0} (valid_key : K → Type 0) (key : K → ℕ) (valid_valu
     abbrev searching : Remaining → SuccessorRun → DictRun K V
     searching share m = record machine { run = Successor m share }
 
-    pub searcher : Remaining → SuccessorReader (kind layout number)
+    pub searcher : Remaining → SuccessorReader (dict_calls layout number)
     searcher share = record {
       call = c;
       is_layout = is_layout;
@@ -211,7 +211,7 @@ module _ {K V : Type 0} (valid_key : K → Type 0) (key : K → ℕ) (valid_valu
     range_call : (old now : RangeRun) → IsSameRange old now → RangeCall now.low now.high now.most ≡ RangeCall old.low old.high old.most
     range_call old now is i = RangeCall (is.0 i) (is.1 i) (is.2 i)
 
-    pub ranger : Remaining → RangeReader (kind layout number)
+    pub ranger : Remaining → RangeReader (dict_calls layout number)
     ranger share = record {
       call = c;
       is_layout = is_layout;

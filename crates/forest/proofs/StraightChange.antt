@@ -22,14 +22,14 @@ use Rattle.prims.specs.declared.scx.ScxAt.TheVariants.{Plan as AtPlan, New as At
 use Rattle.prims.specs.declared.snap.Snap.{Snap}
 use Rattle.forest.specs.declared.straight.changing.Change.{Change}
 use Rattle.forest.specs.declared.view.SeatedPass.{SeatedPass}
-use Rattle.forest.specs.StraightChange.{Changer, scx_inside, changing_at, scx_fill}
-use Rattle.forest.specs.StraightHelp.{Helper, help_inside}
+use Rattle.forest.specs.StraightChange.{Changer, inner_scx, changing_at, scx_fill}
+use Rattle.forest.specs.StraightHelp.{Helper, inner_help}
 use Rattle.forest.specs.CallKinds.{Calls}
 use Rattle.forest.specs.Inside.{InnerIsTold, InnerWaits}
 use Rattle.forest.proofs.Inside.{Nested, compose, goes_to}
 
 -- where HELP of its own SCX-record stands inside an SCX
-abbrev helps : (inner : Layout → History → ℕ → Type 0) (snaps : List Snap) (change : Change) → Nested (scx_inside inner) (help_inside inner)
+abbrev helps : (inner : Layout → History → ℕ → Type 0) (snaps : List Snap) (change : Change) → Nested (inner_scx inner) (inner_help inner)
 helps inner snaps change = record {
   with_run = λ help. changing_at snaps change (Help help);
   tells = λ m h v d t. ((d.layout, d.pass), (t.0.lawful, t.1.0));

@@ -42,12 +42,12 @@ use Rattle.forest.specs.StraightCalls.{IsSameDictCall}
 use Rattle.forest.specs.StraightGet.{getting}
 use Rattle.forest.specs.StraightWalk.{Walker, WalkerWaits, WalkerFinds}
 use Rattle.forest.specs.Traces.{HoldsForCall, Trace}
-use Rattle.forest.specs.CallKinds.{Calls}
 use Rattle.forest.proofs.DictCalls.{Answered, behind, dict_ended, dict_starts}
 use Rattle.forest.proofs.Entered.{HasEnded}
 use Rattle.forest.proofs.Passes.{call_of}
 use Rattle.forest.proofs.Places.{starts}
 use Rattle.forest.proofs.StepKinds.{dict_kinds}
+use Rattle.forest.proofs.StraightCalls.{dict_calls}
 
 module _ {K V : Type 0} (valid_key : K → Type 0) (key : K → ℕ) (valid_value : V → Type 0) (value_word : V → ℕ) where
   abbrev pub allows : Layout → History → ℕ → Type 0
@@ -62,16 +62,12 @@ module _ {K V : Type 0} (valid_key : K → Type 0) (key : K → ℕ) (valid_valu
   abbrev pub same : DictRun K V → DictRun K V → Type 0
   same = IsSameDictCall valid_key key valid_value value_word
 
-  -- its calls of a layout and a number
-  abbrev pub kind : Layout → ℕ → Calls (DictRun K V)
-  kind layout number = record { allows = allows; ready = ready; waits = waits; same = same; layout = layout; number = number }
-
   module _ (share : Remaining) (tries wanted : ℕ) where
     abbrev at : WalkRun → DictRun K V
     at = getting share tries wanted
 
     -- a call is one of a machine that walks, and keeps no fork
-    pub walker : (c : Call) (layout : Layout) (number : ℕ) → c.layout ≡ layout → c.number ≡ number → Walker (kind layout number)
+    pub walker : (c : Call) (layout : Layout) (number : ℕ) → c.layout ≡ layout → c.number ≡ number → Walker (dict_calls valid_key key valid_value value_word layout number)
     walker c layout number is_layout is_number = record {
       call = c;
       is_layout = is_layout;

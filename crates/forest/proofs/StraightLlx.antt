@@ -23,12 +23,12 @@ use Rattle.forest.specs.TableRule.{history_of}
 use Rattle.forest.proofs.Places.{starts}
 
 -- its calls of a layout and a number
-abbrev kind : (Layout → History → ℕ → Type 0) → Layout → ℕ → Calls LlxRun
-kind allows layout number = record { allows = allows; ready = LlxIsReady allows; waits = LlxWaits allows; same = IsSameNode; layout = layout; number = number }
+abbrev llx_calls : (Layout → History → ℕ → Type 0) → Layout → ℕ → Calls LlxRun
+llx_calls allows layout number = record { allows = allows; ready = LlxIsReady allows; waits = LlxWaits allows; same = IsSameNode; layout = layout; number = number }
 
 module _ (allows : Layout → History → ℕ → Type 0) (layout : Layout) (number : ℕ) (c : Call) (is_layout : c.layout ≡ layout) (is_number : c.number ≡ number) (node : NodeNo) where
   -- a run of LLX looks at its node itself
-  pub looker : Looker allows (kind allows layout number)
+  pub looker : Looker allows (llx_calls allows layout number)
   looker = record {
     call = c;
     is_layout = is_layout;

@@ -36,8 +36,8 @@ abbrev pub all_frozen_load : ScxNo → Step
 all_frozen_load s = record { kind = LoadAllFrozen; word = scx s.0 AllFrozen; access = Load }
 
 -- an SCX in a call of its own, which is said to wait and to be told in the runs that `inner` allows
-abbrev pub scx_inside : (Layout → History → ℕ → Type 0) → Inner ScxRun
-scx_inside inner = record {
+abbrev pub inner_scx : (Layout → History → ℕ → Type 0) → Inner ScxRun
+inner_scx inner = record {
   Context = Call;
   told = λ d m h v. IsRun inner d.layout h × ScxIsReady inner m d h (Some v);
   waits = λ d m h s. ScxWaits inner m d h s;
@@ -46,7 +46,7 @@ scx_inside inner = record {
 
 -- a call of a machine that makes an SCX
 abbrev pub Changer : {M : Type 0} → (Layout → History → ℕ → Type 0) → Calls M → Type 0
-Changer inner o = Inside o (scx_inside inner)
+Changer inner o = Inside o (inner_scx inner)
 
 module _ {M : Type 0} {inner : Layout → History → ℕ → Type 0} {o : Calls M} (k : Changer inner o) (ps : List SeatedPass) (snaps : List Snap) (change : Change) where
   -- its SCX waits for the fill of its plan

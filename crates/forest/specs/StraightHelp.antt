@@ -17,8 +17,8 @@ use Rattle.arena.specs.Words.{scx}
 use Rattle.help.specs.declared.state.HelpAt.TheVariants.{Plan as AtPlan, Member as AtMember, SetFrozen as AtSetFrozen}
 
 -- a HELP in some pass, which is said to wait and to be told in the runs that `inner` allows
-abbrev pub help_inside : (Layout → History → ℕ → Type 0) → Inner HelpRun
-help_inside inner = record {
+abbrev pub inner_help : (Layout → History → ℕ → Type 0) → Inner HelpRun
+inner_help inner = record {
   Context = Layout × ℕ;
   told = λ d m h v. Lawful d.0 h × HelpIsReady inner d.0 d.1 m h (Some v);
   waits = λ d m h s. HelpWaits inner d.0 d.1 m h s;
@@ -27,7 +27,7 @@ help_inside inner = record {
 
 -- a call of a machine that helps
 abbrev pub Helper : {M : Type 0} → (Layout → History → ℕ → Type 0) → Calls M → Type 0
-Helper inner o = Inside o (help_inside inner)
+Helper inner o = Inside o (inner_help inner)
 
 module _ {M : Type 0} {inner : Layout → History → ℕ → Type 0} {o : Calls M} (k : Helper inner o) (ps : List SeatedPass) (m : HelpRun) where
   -- its HELP waits to load the plan of its SCX-record

@@ -19,8 +19,8 @@ use Rattle.forest.specs.StraightLlx.{llx_at}
 
 -- an LLX of a node, in a call of its own, which is said to wait and to be told in the runs that
 -- `inner` allows
-abbrev pub llx_inside : (Layout → History → ℕ → Type 0) → Inner LlxRun
-llx_inside inner = record {
+abbrev pub inner_llx : (Layout → History → ℕ → Type 0) → Inner LlxRun
+inner_llx inner = record {
   Context = Call;
   told = λ d m h v. IsRun inner d.layout h × LlxIsReady inner m d h (Some v);
   waits = λ d m h s. LlxWaits inner m d h s;
@@ -29,7 +29,7 @@ llx_inside inner = record {
 
 -- a call of a machine that looks at nodes
 abbrev pub Looker : {M : Type 0} → (Layout → History → ℕ → Type 0) → Calls M → Type 0
-Looker inner o = Inside o (llx_inside inner)
+Looker inner o = Inside o (inner_llx inner)
 
 module _ {M : Type 0} {inner : Layout → History → ℕ → Type 0} {o : Calls M} (k : Looker inner o) (ps : List SeatedPass) (node : NodeNo) where
   -- its LLX of the node waits to load the node's mark, with which it begins

@@ -13,8 +13,8 @@ use Rattle.forest.specs.CallKinds.{Calls}
 use Rattle.forest.specs.Inside.{Inner, Inside, InnerWaits}
 
 -- a VLX of these snapshots, in a call of its own, that has asked for so many infos
-abbrev pub vlx_inside : List Snap → Inner ℕ
-vlx_inside snaps = record {
+abbrev pub inner_vlx : List Snap → Inner ℕ
+inner_vlx snaps = record {
   Context = Call;
   told = λ d n h v. Lawful d.layout h × VlxIsTold snaps n d h v;
   waits = λ d n h s. VlxWaits snaps n d h s;
@@ -23,7 +23,7 @@ vlx_inside snaps = record {
 
 -- a call of a machine that validates these snapshots
 abbrev pub Validator : {M : Type 0} → Calls M → List Snap → Type 0
-Validator o snaps = Inside o (vlx_inside snaps)
+Validator o snaps = Inside o (inner_vlx snaps)
 
 -- its VLX waits for the info of the first of the snapshots, with which it begins
 abbrev pub LoadsFirstInfo : {M : Type 0} {o : Calls M} {snaps : List Snap} → Validator o snaps → List SeatedPass → Type 0

@@ -21,8 +21,8 @@ use Rattle.forest.specs.Inside.{Inner, Inside, InnerIsTold, InnerWaits}
 
 -- a walk in a call of its own, with the last fork where it has turned left; it goes on past the
 -- root, to the same goal, and keeps the fork if it turns left there
-abbrev pub walk_inside : Inner (WalkRun × NodeNo)
-walk_inside = record {
+abbrev pub inner_walk : Inner (WalkRun × NodeNo)
+inner_walk = record {
   Context = Call;
   told = λ d m h v. WalkIsTold m.0 d h v;
   waits = λ d m h s. WalkWaits m.0 d h s;
@@ -31,7 +31,7 @@ walk_inside = record {
 
 -- a call of a machine that walks
 abbrev pub Walker : {M : Type 0} → Calls M → Type 0
-Walker o = Inside o walk_inside
+Walker o = Inside o inner_walk
 
 module _ {M : Type 0} {o : Calls M} (w : Walker o) (ps : List SeatedPass) where
   -- its walk waits for this step, and has last turned left at this fork
