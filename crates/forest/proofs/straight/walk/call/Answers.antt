@@ -1,14 +1,10 @@
 use Rattle.std.proofs.Common.{◌+◌, ◌<◌, ◌∙◌, sym, arith}
-use Rattle.arena.specs.declared.step.Kind.TheVariants.{LoadSettled}
-use Rattle.arena.specs.declared.word.NodeWord.TheVariants.{Head as HeadWord}
 use Rattle.arena.specs.Heads.{head_of}
-use Rattle.arena.specs.Words.{node}
-use Rattle.forest.specs.StraightWalk.{Walker, WalkerWaits, WalkerIsTold}
+use Rattle.forest.specs.StraightWalk.{Walker, WalkerIsTold, WalksFromRoot}
 use Rattle.forest.specs.Traces.{shared_nodes}
 use Rattle.forest.specs.CallKinds.{calls}
 use Rattle.order.specs.Successor.Steps.{last_turn}
-use Rattle.prims.specs.Llx.Known.{load}
-use Rattle.template.specs.Walk.Places.{walk_at, walk_from}
+use Rattle.template.specs.Walk.Places.{walk_at}
 use Rattle.template.specs.Walk.Steps.{WalkFitsAt}
 use Rattle.template.specs.declared.walk.WalkAt.TheVariants.{Child}
 use Rattle.forest.proofs.StraightWalk.{to_head, fits, fewer, some_left}
@@ -18,13 +14,13 @@ use Rattle.forest.proofs.straight.walk.call.Goals as goal
 
 -- whichever call it is, the head of this node has been told
 told : (g : Over) (c : After-read-word g) (w : Walker (calls g.S.Shape g.M.Machine c.args.layout.now c.args.number))
-    → WalkerWaits w c.args.seat.now.me.0.passes (walk_from c.args.wanted) record { 0 = 0 } (load LoadSettled (node 0 HeadWord))
+    → WalksFromRoot w c.args.seat.now.me.0.passes c.args.wanted
     → WalkerIsTold w c.read-word.new.seat.me.0.passes (walk_at c.args.wanted c.loop-side.trail c.loop-side.at) c.loop-side.turn c.read-word.result
 told g c w x = c.read-word.ensures.told w (walk_at c.args.wanted c.loop-side.trail c.loop-side.at) c.loop-side.turn (c.loop-side.invariant.waits w x)
 
 -- and the child on the side to which it goes
 told_child : (g : Over) (c : After-read-child g) (w : Walker (calls g.S.Shape g.M.Machine c.args.layout.now c.args.number))
-    → WalkerWaits w c.args.seat.now.me.0.passes (walk_from c.args.wanted) record { 0 = 0 } (load LoadSettled (node 0 HeadWord))
+    → WalksFromRoot w c.args.seat.now.me.0.passes c.args.wanted
     → WalkerIsTold w c.read-child.new.seat.me.0.passes (walk_at c.args.wanted c.loop-side.trail (Child (head_of c.read-word.result).level c.in-Ok.side)) (last_turn (Child (head_of c.read-word.result).level c.in-Ok.side) c.loop-side.trail.node c.loop-side.turn) c.read-child.result
 told_child g c w x = c.read-child.ensures.told w (walk_at c.args.wanted c.loop-side.trail (Child (head_of c.read-word.result).level c.in-Ok.side)) (last_turn (Child (head_of c.read-word.result).level c.in-Ok.side) c.loop-side.trail.node c.loop-side.turn)
     (c.in-Ok.ensures.down w c.loop-side.turn (told g (goal.at.read-child-requires-clause-waits g c.before).After-read-word w x))

@@ -2,11 +2,11 @@ use Rattle.std.proofs.Common.{◌≡◌, ◌+◌, ◌*◌, ◌≤◌, suc}
 use Rattle.arena.specs.declared.step.Kind.TheVariants.{LoadSettled}
 use Rattle.arena.specs.declared.word.NodeWord.TheVariants.{Head}
 use Rattle.arena.specs.Words.{node}
-use Rattle.forest.specs.StraightWalk.{Walker, WalkerWaits}
+use Rattle.forest.specs.StraightWalk.{Walker, WalkerWaits, WalksFromRoot}
 use Rattle.forest.specs.Traces.{seat_steps, shared_nodes}
 use Rattle.forest.specs.CallKinds.{calls}
 use Rattle.prims.specs.Llx.Known.{load}
-use Rattle.template.specs.Walk.Places.{walk_at, walk_from, LoadsHead}
+use Rattle.template.specs.Walk.Places.{walk_at, LoadsHead}
 use Rattle.template.specs.Walk.Steps.{walk_left}
 use Rattle.forest.proofs.straight.walk.call.Given as goal
 
@@ -16,7 +16,7 @@ invariant-loop-side g l = record {
   place : LoadsHead l.at;
   steps : seat_steps l.seat.me.0.passes + suc (walk_left l.at (shared_nodes l.layout)) ≤ seat_steps l.fn.seat.me.0.passes + 3 * (2 + shared_nodes l.layout);
   waits : (w : Walker (calls g.S.Shape g.M.Machine l.layout l.number))
-      → WalkerWaits w l.fn.seat.me.0.passes (walk_from l.wanted) record { 0 = 0 } (load LoadSettled (node 0 Head))
+      → WalksFromRoot w l.fn.seat.me.0.passes l.wanted
       → WalkerWaits w l.seat.me.0.passes (walk_at l.wanted l.trail l.at) l.turn (load LoadSettled (node l.trail.node.0 Head));
 }
 
