@@ -11,7 +11,7 @@ use Rattle.record.specs.CommandRules.{enters, HasTakenFew}
 use Rattle.record.specs.Commands.{next_command}
 use Rattle.record.specs.Replies.{IsFitting}
 use Rattle.record.specs.Turns.{history, answered, begin, start, entry_owed}
-use Rattle.places.specs.Places.{changes}
+use Rattle.moments.specs.Places.{changes}
 use Rattle.audit.specs.After.{IsAfter, IsMapAfter, IsClientAfter, lines_of, layout_of, tries_of, calls_of}
 use Rattle.audit.specs.Asked.{IsAsked}
 use Rattle.audit.specs.declared.client.Client.{Client}

@@ -17,7 +17,7 @@ use Rattle.arena.specs.Words.{state}
 use Rattle.record.specs.Answers.{IsInTheWay}
 use Rattle.record.specs.Snapshots.{IsLastLook, IsFirstUnlinked, AreLinked}
 use Rattle.audit.specs.CellCalls.{IsCallSeen, IsLookAt, IsOwnLook, IsAsLooked}
-use Rattle.audit.specs.Remembered.{rows_of, IsMomentAt, IsLookOf, AreSnapshotsOf}
+use Rattle.audit.specs.Remembered.{row_count, IsMomentAt, IsLookOf, AreSnapshotsOf}
 use Rattle.audit.specs.declared.memory.Look.{Look}
 use Rattle.audit.specs.declared.memory.Memory.{Memory}
 use Rattle.audit.specs.declared.memory.Snapshot.{Snapshot}
@@ -71,7 +71,7 @@ module _ (lay : Layout) (c : ℕ) (h start : History) (linked : ℕ → Option H
         same = record { same = same ∙ y.entry; not_final = not_final };
       }
 
-  pub just_looked : (n : ℕ) (look : Look) → IsOwnLook memory n look → look.steps ≡ rows_of h → IsLastLook c h start h n
+  pub just_looked : (n : ℕ) (look : Look) → IsOwnLook memory n look → look.steps ≡ row_count h → IsLastLook c h start h n
   just_looked n look o all =
       let y = looked lay h start c memory.begun n look x.started (x.looks look o.is) o.behind o.at in
       subst (λ (m : History). IsLastLook c h start m n) (same_moment h y.moment y.at.within (moment_before h y.moment h y.at.within (ends_self h) (let many = y.at.many in omega arith))) y.is_last

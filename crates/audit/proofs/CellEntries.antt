@@ -23,7 +23,7 @@ use Rattle.record.specs.Commands.{next_command}
 use Rattle.record.specs.Linked.{linked}
 use Rattle.record.specs.Turns.{history, begin, start}
 use Rattle.record.specs.Updates.{IsEntryOver}
-use Rattle.judge.specs.Histories.{history as seen}
+use Rattle.judge.specs.Histories.{seen_history}
 use Rattle.audit.specs.CellCalls.{IsOverCells, IsFreshWith, IsCallSeen, AreSameAt}
 use Rattle.audit.specs.Remembered.{AreStepsOf, AreSnapshotsOf, AreRemembered}
 use Rattle.audit.specs.declared.memory.Memory.{Memory}
@@ -68,11 +68,11 @@ memory_is all c memory p x = go (slice_get all c) refl x
 -- What is remembered, said of the judge's own layout and history
 
 module _ (lay : Layout) (calls : List Call) (lines : List Line) (all : Steps) (x : AreRemembered lay calls lines all) where
-  pub steps_seen : AreStepsOf all.judge.layout (seen all.judge) all
-  steps_seen = subst (λ (l : Layout). AreStepsOf l (seen all.judge) all) (sym x.steps.layout) (subst (λ (h : History). AreStepsOf lay h all) (sym x.steps.is_seen) x.steps)
+  pub steps_seen : AreStepsOf all.judge.layout (seen_history all.judge) all
+  steps_seen = subst (λ (l : Layout). AreStepsOf l (seen_history all.judge) all) (sym x.steps.layout) (subst (λ (h : History). AreStepsOf lay h all) (sym x.steps.is_seen) x.steps)
 
-  pub snapshots_seen : (c : ℕ) (memory : Memory) → slice_get all.memories.items c ≡ Some memory → AreSnapshotsOf all.judge.layout (seen all.judge) memory (linked calls lay.mode lines c)
-  snapshots_seen c memory is = subst (λ (l : Layout). AreSnapshotsOf l (seen all.judge) memory (linked calls lay.mode lines c)) (sym x.steps.layout) (subst (λ (h : History). AreSnapshotsOf lay h memory (linked calls lay.mode lines c)) (sym x.steps.is_seen) (x.memories c memory is).snapshots)
+  pub snapshots_seen : (c : ℕ) (memory : Memory) → slice_get all.memories.items c ≡ Some memory → AreSnapshotsOf all.judge.layout (seen_history all.judge) memory (linked calls lay.mode lines c)
+  snapshots_seen c memory is = subst (λ (l : Layout). AreSnapshotsOf l (seen_history all.judge) memory (linked calls lay.mode lines c)) (sym x.steps.layout) (subst (λ (h : History). AreSnapshotsOf lay h memory (linked calls lay.mode lines c)) (sym x.steps.is_seen) (x.memories c memory is).snapshots)
 
   call_of_lines : (c : ℕ) (memory : Memory) → slice_get all.memories.items c ≡ Some memory → IsSome (begin lines c) → IsCallSeen lay c (history lay.mode lines) (start lay.mode lines c) (linked calls lay.mode lines c) memory
   call_of_lines c memory is begun =
@@ -87,15 +87,15 @@ module _ (lay : Layout) (calls : List Call) (lines : List Line) (all : Steps) (x
         snapshots = m.snapshots;
       }
 
-  pub call_seen : (c : ℕ) (memory : Memory) → slice_get all.memories.items c ≡ Some memory → IsSome (begin lines c) → IsCallSeen all.judge.layout c (seen all.judge) (start lay.mode lines c) (linked calls lay.mode lines c) memory
-  call_seen c memory is begun = subst (λ (l : Layout). IsCallSeen l c (seen all.judge) (start lay.mode lines c) (linked calls lay.mode lines c) memory) (sym x.steps.layout) (subst (λ (h : History). IsCallSeen lay c h (start lay.mode lines c) (linked calls lay.mode lines c) memory) (sym x.steps.is_seen) (call_of_lines c memory is begun))
+  pub call_seen : (c : ℕ) (memory : Memory) → slice_get all.memories.items c ≡ Some memory → IsSome (begin lines c) → IsCallSeen all.judge.layout c (seen_history all.judge) (start lay.mode lines c) (linked calls lay.mode lines c) memory
+  call_seen c memory is begun = subst (λ (l : Layout). IsCallSeen l c (seen_history all.judge) (start lay.mode lines c) (linked calls lay.mode lines c) memory) (sym x.steps.layout) (subst (λ (h : History). IsCallSeen lay c h (start lay.mode lines c) (linked calls lay.mode lines c) memory) (sym x.steps.is_seen) (call_of_lines c memory is begun))
 
   pub same_seen : (c : ℕ) (memory : Memory) (cells : Cells) → slice_get all.memories.items c ≡ Some memory → IsSome (begin lines c) → next_command calls lines c ≡ Some (Vlx cells) → AreSameAt all.judge.layout (start lay.mode lines c) (linked calls lay.mode lines c) (cells_of cells) memory.same
   same_seen c memory cells is begun next = subst (λ (l : Layout). AreSameAt l (start lay.mode lines c) (linked calls lay.mode lines c) (cells_of cells) memory.same) (sym x.steps.layout) (((x.memories c memory is).begins begun).same cells next)
 
   -- and back, of the lines
-  pub to_lines : (P : Layout → History → Type 0) → P all.judge.layout (seen all.judge) → P lay (history lay.mode lines)
-  to_lines P p = subst (λ (h : History). P lay h) x.steps.is_seen (subst (λ (l : Layout). P l (seen all.judge)) x.steps.layout p)
+  pub to_lines : (P : Layout → History → Type 0) → P all.judge.layout (seen_history all.judge) → P lay (history lay.mode lines)
+  to_lines P p = subst (λ (h : History). P lay h) x.steps.is_seen (subst (λ (l : Layout). P l (seen_history all.judge)) x.steps.layout p)
 
   pub own_memory : (c : ℕ) (memory : Memory) → c < all.judge.layout.passes → IfSome (slice_get all.memories.items c) (λ m. memory ≡ m) → slice_get all.memories.items c ≡ Some memory
   own_memory c memory p own = memory_is all.memories.items c memory (let many = x.steps.all_memories in let same = ap (λ (l : Layout). l.passes) x.steps.layout in omega arith) own

@@ -7,10 +7,10 @@ use Rattle.arena.specs.Blame.{WasInTheWay}
 use Rattle.arena.specs.Fills.{IsOthersScx}
 use Rattle.arena.specs.History.{History, Start, ◌⊳◌, Extends}
 use Rattle.arena.proofs.Lemmas.{ends_self}
-use Rattle.spelling.specs.Tries.{begins_try, tries_begun}
+use Rattle.ordered_map.specs.Tries.{begins_try, tries_begun}
 use Rattle.record.specs.Answers.{HasLostAllTries}
 use Rattle.audit.specs.declared.memory.Tries.{Tries}
-use Rattle.audit.specs.Remembered.{rows_of, IsMomentAt, AreTriesSince}
+use Rattle.audit.specs.Remembered.{row_count, IsMomentAt, AreTriesSince}
 use Rattle.audit.specs.Remembering.{tried}
 
 -- a row of another begins no try
@@ -18,12 +18,12 @@ others_row : (c : ℕ) (r : Row) → (r.pass.0 ≡ c → ⊥) → begins_try c r
 others_row c r other = rw (ne_eqb r.pass.0 c other) refl
 
 -- each try begins with a row
-pub few_tries : (c : ℕ) (h : History) → tries_begun c h ≤ rows_of h
+pub few_tries : (c : ℕ) (h : History) → tries_begun c h ≤ row_count h
 unfolding tries_begun
 few_tries c (Start mode) = omega arith
 few_tries c (r ⊳ h) = go (begins_try c r) (few_tries c h)
   where
-    go : (b : Bool) → tries_begun c h ≤ rows_of h → cond b (suc (tries_begun c h)) (tries_begun c h) ≤ suc (rows_of h)
+    go : (b : Bool) → tries_begun c h ≤ row_count h → cond b (suc (tries_begun c h)) (tries_begun c h) ≤ suc (row_count h)
     go true i = omega arith
     go false i = omega arith
 
@@ -44,7 +44,7 @@ module _ (c : ℕ) (h start : History) (r : Row) (tries : Tries) (x : AreTriesSi
   }
 
   -- one that begins the next
-  next_try : Extends h start → begins_try c r ≡ true → AreTriesSince (r ⊳ h) start c (tried true (suc (rows_of h)) tries)
+  next_try : Extends h start → begins_try c r ≡ true → AreTriesSince (r ⊳ h) start c (tried true (suc (row_count h)) tries)
   unfolding tries_begun
   next_try since begins = record {
     many = rw begins (let e = x.many in omega arith);
@@ -56,10 +56,10 @@ module _ (c : ℕ) (h start : History) (r : Row) (tries : Tries) (x : AreTriesSi
   tries_by_other other = same_tries (others_row c r other)
 
   -- one of its own
-  pub tries_by_own : (new : Tries) → Extends h start → r.pass.0 ≡ c → new ≡ tried (begins_try r.pass.0 r) (suc (rows_of h)) tries → AreTriesSince (r ⊳ h) start c new
-  tries_by_own new since own is = subst (λ (t : Tries). AreTriesSince (r ⊳ h) start c t) (sym (is ∙ ap (λ (p : ℕ). tried (begins_try p r) (suc (rows_of h)) tries) own)) (go (begins_try c r) refl)
+  pub tries_by_own : (new : Tries) → Extends h start → r.pass.0 ≡ c → new ≡ tried (begins_try r.pass.0 r) (suc (row_count h)) tries → AreTriesSince (r ⊳ h) start c new
+  tries_by_own new since own is = subst (λ (t : Tries). AreTriesSince (r ⊳ h) start c t) (sym (is ∙ ap (λ (p : ℕ). tried (begins_try p r) (suc (row_count h)) tries) own)) (go (begins_try c r) refl)
     where
-      go : (b : Bool) → begins_try c r ≡ b → AreTriesSince (r ⊳ h) start c (tried b (suc (rows_of h)) tries)
+      go : (b : Bool) → begins_try c r ≡ b → AreTriesSince (r ⊳ h) start c (tried b (suc (row_count h)) tries)
       go true begins = next_try since begins
       go false none = same_tries none
 

@@ -1,12 +1,12 @@
 -- Replies to ordered reads, by the first pairs that they find in a map.
 use Rattle.std.proofs.Common.{◌≡◌, ℕ, ◌&&◌, leb, ltb, List, [], ◌∷◌, take, Option, Some, None, refl, sym, ◌∙◌, ap}
 use Rattle.std.specs.List.{filter}
-use Rattle.spelling.specs.declared.pair.Pair.{Pair}
-use Rattle.spelling.specs.OrderedMap.{Successor, Range, MapReply, OneValue, OnePair, ManyPairs, first_pair, pair, pair_or_none, reply}
-use Rattle.spelling.specs.Replies.{number_reply}
-use Rattle.spelling.specs.declared.reply.Reply.TheVariants.{Pair as PairOf}
-use Rattle.places.specs.Ordered.{pairs_in}
-use Rattle.places.proofs.Lemmas.{successor_first, between_all}
+use Rattle.ordered_map.specs.declared.pair.Pair.{Pair}
+use Rattle.ordered_map.specs.OrderedMap.{Successor, Range, MapReply, OneValue, OnePair, ManyPairs, first_pair, pair, pair_or_none, reply}
+use Rattle.ordered_map.specs.Replies.{number_reply}
+use Rattle.ordered_map.specs.declared.reply.Reply.TheVariants.{Pair as PairOf}
+use Rattle.moments.specs.Ordered.{pairs_in}
+use Rattle.moments.proofs.Lemmas.{successor_first, between_all}
 
 none_first : (fs : List Pair) → take 1 fs ≡ [] → pair_or_none (first_pair fs) ≡ OneValue None
 none_first [] e = refl

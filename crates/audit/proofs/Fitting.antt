@@ -32,7 +32,7 @@ use Rattle.record.specs.declared.record.Entry.{Entry}
 use Rattle.record.specs.declared.record.Finished.{Finished}
 use Rattle.record.specs.Commands.{next_command}
 use Rattle.record.specs.declared.record.Answer.{Answer}
-use Rattle.record.specs.CommandRules.{most_steps, MayMake, MayAnswerAtOnce, MayAnswerAfterStep, IsRight, IsPlaced, HasTakenFew, IsEntryFor, enters}
+use Rattle.record.specs.CommandRules.{command_steps, MayMake, MayAnswerAtOnce, MayAnswerAfterStep, IsRight, IsPlaced, HasTakenFew, IsEntryFor, enters}
 use Rattle.record.specs.Answers.{HasItsEntry}
 use Rattle.record.specs.Linked.{linked}
 use Rattle.record.specs.Entries.{IsLog, IsWinOf}
@@ -42,7 +42,7 @@ use Rattle.record.specs.Steps.{IsStep, IsIdleTurn, SaysItsCall}
 use Rattle.record.specs.Turns.{history, clients, entries, start, entry_at, entry_of, is_update}
 use Rattle.audit.specs.Calls.{IsAt}
 use Rattle.audit.proofs.AfterLines.{idle_clients, log_clients, ended_clients, AreStepped, stepped_clients, unwon_clients, won_clients, get_there}
-use Rattle.judge.specs.Histories.{Judged, history as seen}
+use Rattle.judge.specs.Histories.{Judged, seen_history}
 use Rattle.audit.specs.After.{IsAfter, IsSoFar, IsClientAfter, AreClientsAfter, lines_of, layout_of, tries_of, calls_of, is_idle, pass_number}
 use Rattle.audit.specs.declared.client.Client.{Client}
 use Rattle.audit.specs.declared.run.Run.{Run}
@@ -67,10 +67,10 @@ owner_is : (lay : Layout) (s p : ℕ) → first_scx lay p ≤ s → s < first_sc
 owner_is lay s p from below = div-eq_of_lt-le lay.scx (omega arith) (omega arith)
 
 -- what a lawful step of a client's call asks
-pub step_fits : (run : Run) (number : ℕ) (row : StepRow) (client : Client) (command : Command) (most taken : ℕ) → IsAfter run (lines_of run) → client.pass ≡ row.pass → IsClientAfter (layout_of run) (calls_of run) (lines_of run) row.pass.0 client → next_command (calls_of run) (lines_of run) client.pass.0 ≡ Some command → suc run.turn ≡ number → row.call ≡ client.answered → client.steps < most → taken ≡ length (taken_nodes (seen run.steps.judge)) → ((all : ℕ) → taken ≤ all → most ≤ most_steps command (tries_of run) all) → MayMake command row.kind → SaysItsCall row → IsLawful run.steps.judge.layout (seen run.steps.judge) row → IsStep (layout_of run) (tries_of run) (calls_of run) (lines_of run) number row
+pub step_fits : (run : Run) (number : ℕ) (row : StepRow) (client : Client) (command : Command) (most taken : ℕ) → IsAfter run (lines_of run) → client.pass ≡ row.pass → IsClientAfter (layout_of run) (calls_of run) (lines_of run) row.pass.0 client → next_command (calls_of run) (lines_of run) client.pass.0 ≡ Some command → suc run.turn ≡ number → row.call ≡ client.answered → client.steps < most → taken ≡ length (taken_nodes (seen_history run.steps.judge)) → ((all : ℕ) → taken ≤ all → most ≤ command_steps command (tries_of run) all) → MayMake command row.kind → SaysItsCall row → IsLawful run.steps.judge.layout (seen_history run.steps.judge) row → IsStep (layout_of run) (tries_of run) (calls_of run) (lines_of run) number row
 step_fits run number row client command most taken x pass y is turn call few taken_is most_is may says lawful = record {
   in_turn = sym turn ∙ ap suc x.turn;
-  lawful = subst (λ (h : History). IsLawful (layout_of run) h row) x.seen (subst (λ (l : Layout). IsLawful l (seen run.steps.judge) row) x.layout lawful);
+  lawful = subst (λ (h : History). IsLawful (layout_of run) h row) x.seen (subst (λ (l : Layout). IsLawful l (seen_history run.steps.judge) row) x.layout lawful);
   call = call ∙ y.answered;
   command = command;
   is = ap (λ (p : PassNo). next_command (calls_of run) (lines_of run) p.0) (sym pass) ∙ is;
@@ -80,7 +80,7 @@ step_fits run number row client command most taken x pass y is turn call few tak
 }
 
 -- the entry of an update that changes its field
-pub entry_made : (run : Run) (number place : ℕ) (row : StepRow) (n : NodeNo) (side : Side) (s : ScxNo) (client : PassNo) (call : ℕ) → IsAfter run (lines_of run) → row.kind ≡ Update → (row.before ≡ row.after → ⊥) → row.word ≡ child n.0 side → s.0 ≡ value (seen run.steps.judge) (info n.0) → call ≡ value (seen run.steps.judge) (scx s.0 CallWord) → first_scx (layout_of run) client.0 ≤ s.0 → s.0 < first_scx (layout_of run) client.0 + (layout_of run).scx → place ≡ suc run.entries → entry_of (layout_of run) (lines_of run) number row ≡ Some record { place = place; step = number; scx = s; client = client; call = call }
+pub entry_made : (run : Run) (number place : ℕ) (row : StepRow) (n : NodeNo) (side : Side) (s : ScxNo) (client : PassNo) (call : ℕ) → IsAfter run (lines_of run) → row.kind ≡ Update → (row.before ≡ row.after → ⊥) → row.word ≡ child n.0 side → s.0 ≡ value (seen_history run.steps.judge) (info n.0) → call ≡ value (seen_history run.steps.judge) (scx s.0 CallWord) → first_scx (layout_of run) client.0 ≤ s.0 → s.0 < first_scx (layout_of run) client.0 + (layout_of run).scx → place ≡ suc run.entries → entry_of (layout_of run) (lines_of run) number row ≡ Some record { place = place; step = number; scx = s; client = client; call = call }
 entry_made run number place row n side s client call x kind differs word holds calls from below place_is = rw (kind, ne_eqb row.before row.after differs, word) (ap (λ (e : Entry). Some e) same)
   where
     lay : Layout
@@ -125,7 +125,7 @@ module _ (lay : Layout) (tries : ℕ) (calls : List Call) (judge : Judged) (clie
   unfolding AreLines
   after_idle number pass client changed more fitting owes same settled is there none change = record {
     layout = ap (λ (k : Judged). k.layout) same ∙ x.layout;
-    seen = ap (λ (k : Judged). seen k) same ∙ x.seen;
+    seen = ap (λ (k : Judged). seen_history k) same ∙ x.seen;
     in_order = (x.in_order, (settled, is));
     turn = is.in_turn;
     entries = x.entries;
@@ -177,7 +177,7 @@ module _ (lay : Layout) (tries : ℕ) (calls : List Call) (judge : Judged) (clie
       placed (ReplyLine d ∷ lines) y = absurd y
 
   -- a step, whose entry is owed
-  pub after_step : (number : ℕ) (row : StepRow) (owed : Option Entry) (fit : Bool) (more : Judged) (all : List Client) → OwesNothing lay calls lines → IsStep lay tries calls lines number row → entry_of lay lines number row ≡ owed → ((e : Entry) → fit ≡ true → owed ≡ Some e → IsWinOf lay calls lines row e) → more.layout ≡ judge.layout → seen more ≡ row ⊳ seen judge → AreClientsAfter lay calls (Step (Made number row) ∷ lines) all → length all ≡ length clients → IsSoFar lay tries calls more all number made (Some row.pass) owed fit false false (Step (Made number row) ∷ lines)
+  pub after_step : (number : ℕ) (row : StepRow) (owed : Option Entry) (fit : Bool) (more : Judged) (all : List Client) → OwesNothing lay calls lines → IsStep lay tries calls lines number row → entry_of lay lines number row ≡ owed → ((e : Entry) → fit ≡ true → owed ≡ Some e → IsWinOf lay calls lines row e) → more.layout ≡ judge.layout → seen_history more ≡ row ⊳ seen_history judge → AreClientsAfter lay calls (Step (Made number row) ∷ lines) all → length all ≡ length clients → IsSoFar lay tries calls more all number made (Some row.pass) owed fit false false (Step (Made number row) ∷ lines)
   unfolding AreLines
   after_step number row owed fit more all settled step is wins same makes each many = record {
     layout = same ∙ x.layout;
@@ -198,7 +198,7 @@ module _ (lay : Layout) (tries : ℕ) (calls : List Call) (judge : Judged) (clie
   unfolding AreLines
   after_reply reply client changed more next fitting same owed is there behind change = record {
     layout = ap (λ (k : Judged). k.layout) same ∙ x.layout;
-    seen = ap (λ (k : Judged). seen k) same ∙ x.seen;
+    seen = ap (λ (k : Judged). seen_history k) same ∙ x.seen;
     in_order = (x.in_order, (x.owed ∙ owed, is));
     turn = x.turn;
     entries = x.entries;
@@ -306,13 +306,13 @@ win_is lay calls lines number row entry client command n side is y next wins wor
     says = entry_says lay lines number row entry n side is word
 
 -- a winning update with an entry that its client's call makes
-pub win_fits : (run : Run) (number : ℕ) (row : StepRow) (entry : Entry) (client : Client) (command : Command) → IsAfter run (lines_of run) → entry_of (layout_of run) (lines_of run) number row ≡ Some entry → IsClientAfter (layout_of run) (calls_of run) (lines_of run) entry.client.0 client → Some command ≡ next_command (calls_of run) (lines_of run) client.pass.0 → client.pass ≡ entry.client → IsWin (seen run.steps.judge) row entry.scx.0 → ((n : ℕ) × (side : Side) × (row.word ≡ child n side) × (log run.steps.judge.layout (row ⊳ seen run.steps.judge) ≡ entered run.steps.judge.layout (seen run.steps.judge) entry.scx.0 n side row.after ∷ log run.steps.judge.layout (seen run.steps.judge))) → ((n : ℕ) (side : Side) → row.word ≡ child n side → entry.scx.0 ≡ value (seen run.steps.judge) (info n)) → client.won ≡ None → entry.call ≡ client.answered → ((row.pass.0 ≡ entry.client.0 → ⊥) → IsSome client.begun)
-    → ((n : ℕ) (side : Side) → row.word ≡ child n side → IsEntryFor (layout_of run) client.pass.0 (seen run.steps.judge) (start (layout_of run).mode (lines_of run) client.pass.0) (linked (calls_of run) (layout_of run).mode (lines_of run) client.pass.0) (entered (layout_of run) (seen run.steps.judge) entry.scx.0 n side row.after) command) → IsWinOf (layout_of run) (calls_of run) (lines_of run) row entry
+pub win_fits : (run : Run) (number : ℕ) (row : StepRow) (entry : Entry) (client : Client) (command : Command) → IsAfter run (lines_of run) → entry_of (layout_of run) (lines_of run) number row ≡ Some entry → IsClientAfter (layout_of run) (calls_of run) (lines_of run) entry.client.0 client → Some command ≡ next_command (calls_of run) (lines_of run) client.pass.0 → client.pass ≡ entry.client → IsWin (seen_history run.steps.judge) row entry.scx.0 → ((n : ℕ) × (side : Side) × (row.word ≡ child n side) × (log run.steps.judge.layout (row ⊳ seen_history run.steps.judge) ≡ entered run.steps.judge.layout (seen_history run.steps.judge) entry.scx.0 n side row.after ∷ log run.steps.judge.layout (seen_history run.steps.judge))) → ((n : ℕ) (side : Side) → row.word ≡ child n side → entry.scx.0 ≡ value (seen_history run.steps.judge) (info n)) → client.won ≡ None → entry.call ≡ client.answered → ((row.pass.0 ≡ entry.client.0 → ⊥) → IsSome client.begun)
+    → ((n : ℕ) (side : Side) → row.word ≡ child n side → IsEntryFor (layout_of run) client.pass.0 (seen_history run.steps.judge) (start (layout_of run).mode (lines_of run) client.pass.0) (linked (calls_of run) (layout_of run).mode (lines_of run) client.pass.0) (entered (layout_of run) (seen_history run.steps.judge) entry.scx.0 n side row.after) command) → IsWinOf (layout_of run) (calls_of run) (lines_of run) row entry
 win_fits run number row entry client command x is y next own wins logged holds unwon call begun does =
     win_is lay (calls_of run) (lines_of run) number row entry client command n side is y
     (sym (subst (λ (p : PassNo). Some command ≡ next_command (calls_of run) (lines_of run) p.0) own next))
     (subst (λ (h : History). IsWin h row entry.scx.0) x.seen wins) logged.2
-    (subst (λ (h : History). log lay (row ⊳ h) ≡ entered lay h entry.scx.0 n side row.after ∷ log lay h) x.seen (subst (λ (l : Layout). log l (row ⊳ seen run.steps.judge) ≡ entered l (seen run.steps.judge) entry.scx.0 n side row.after ∷ log l (seen run.steps.judge)) x.layout logged.3))
+    (subst (λ (h : History). log lay (row ⊳ h) ≡ entered lay h entry.scx.0 n side row.after ∷ log lay h) x.seen (subst (λ (l : Layout). log l (row ⊳ seen_history run.steps.judge) ≡ entered l (seen_history run.steps.judge) entry.scx.0 n side row.after ∷ log l (seen_history run.steps.judge)) x.layout logged.3))
     (subst (λ (h : History). entry.scx.0 ≡ value h (info n)) x.seen (holds n side logged.2)) unwon call begun
     (subst (λ (p : PassNo). IsEntryFor lay p.0 (history lay.mode (lines_of run)) (start lay.mode (lines_of run) p.0) (linked (calls_of run) lay.mode (lines_of run) p.0) (entered lay (history lay.mode (lines_of run)) entry.scx.0 n side row.after) command) own (subst (λ (h : History). IsEntryFor lay client.pass.0 h (start lay.mode (lines_of run) client.pass.0) (linked (calls_of run) lay.mode (lines_of run) client.pass.0) (entered lay h entry.scx.0 n side row.after) command) x.seen (does n side logged.2)))
   where
@@ -351,8 +351,8 @@ lawful_lines lay tries calls lines in_order settled lawful whole = record {
   whole = whole;
 }
 
-pub lawful_run : (run : Run) → IsAfter run (lines_of run) → run.at ≡ length run.record.now.lines.items → Lawful run.steps.judge.layout (seen run.steps.judge) → OwesNothing (layout_of run) (calls_of run) (lines_of run) → IsWhole (layout_of run).mode (layout_of run) (calls_of run) (lines_of run) → IsLawfulRun (layout_of run) (tries_of run) (calls_of run) (reverse (clients (reverse run.record.now.lines.items))) run.record.now.lines.items
-lawful_run run x all lawful settled whole = lawful_lines (layout_of run) (tries_of run) (calls_of run) run.record.now.lines.items (there (λ l. AreLines (layout_of run) (tries_of run) (calls_of run) l) x.in_order) (there (λ l. OwesNothing (layout_of run) (calls_of run) l) settled) (there (λ l. Lawful (layout_of run) (history (layout_of run).mode l)) (subst (λ (h : History). Lawful (layout_of run) h) x.seen (subst (λ (l : Layout). Lawful l (seen run.steps.judge)) x.layout lawful))) (there (λ l. IsWhole (layout_of run).mode (layout_of run) (calls_of run) l) whole)
+pub lawful_run : (run : Run) → IsAfter run (lines_of run) → run.at ≡ length run.record.now.lines.items → Lawful run.steps.judge.layout (seen_history run.steps.judge) → OwesNothing (layout_of run) (calls_of run) (lines_of run) → IsWhole (layout_of run).mode (layout_of run) (calls_of run) (lines_of run) → IsLawfulRun (layout_of run) (tries_of run) (calls_of run) (reverse (clients (reverse run.record.now.lines.items))) run.record.now.lines.items
+lawful_run run x all lawful settled whole = lawful_lines (layout_of run) (tries_of run) (calls_of run) run.record.now.lines.items (there (λ l. AreLines (layout_of run) (tries_of run) (calls_of run) l) x.in_order) (there (λ l. OwesNothing (layout_of run) (calls_of run) l) settled) (there (λ l. Lawful (layout_of run) (history (layout_of run).mode l)) (subst (λ (h : History). Lawful (layout_of run) h) x.seen (subst (λ (l : Layout). Lawful l (seen_history run.steps.judge)) x.layout lawful))) (there (λ l. IsWhole (layout_of run).mode (layout_of run) (calls_of run) l) whole)
   where
     taken : take run.at run.record.now.lines.items ≡ run.record.now.lines.items
     taken = ap (λ (n : ℕ). take n run.record.now.lines.items) all ∙ take-length run.record.now.lines.items

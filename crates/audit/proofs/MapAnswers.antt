@@ -6,12 +6,12 @@ use Rattle.arena.specs.declared.number.NodeNo.{NodeNo}
 use Rattle.arena.specs.declared.number.ScxNo.{ScxNo}
 use Rattle.arena.specs.History.{History, ◌⊳◌}
 use Rattle.arena.proofs.Lemmas.{ends_trans}
-use Rattle.spelling.specs.OrderedMap.{MapCall, MapEdit, Edit, Insert, Delete, Get, Successor, Range, edit_key, MapReply, OneValue, get, reply}
-use Rattle.spelling.specs.Paths.{IsAnswerAt}
+use Rattle.ordered_map.specs.OrderedMap.{MapCall, MapEdit, Edit, Insert, Delete, Get, Successor, Range, edit_key, MapReply, OneValue, get, reply}
+use Rattle.ordered_map.specs.Paths.{IsAnswerAt}
 use Rattle.script.specs.declared.call.Call.{Call}
 use Rattle.script.specs.declared.command.Command.{Command}
-use Rattle.spelling.specs.declared.reply.Reply.TheVariants.{Value, Pair as PairOf, Pairs, Contended, NoMemory}
-use Rattle.spelling.specs.declared.request.Request.TheVariants.{Insert as InsertOf, Delete as DeleteOf, Get as GetOf, Successor as SuccessorOf, Range as RangeOf}
+use Rattle.ordered_map.specs.declared.reply.Reply.TheVariants.{Value, Pair as PairOf, Pairs, Contended, NoMemory}
+use Rattle.ordered_map.specs.declared.request.Request.TheVariants.{Insert as InsertOf, Delete as DeleteOf, Get as GetOf, Successor as SuccessorOf, Range as RangeOf}
 use Rattle.script.specs.declared.command.Command.TheVariants.{Map}
 use Rattle.record.specs.declared.record.Line.{Line}
 use Rattle.record.specs.declared.record.Line.TheVariants.{Step, Log, Reply as ReplyLine}
@@ -24,11 +24,11 @@ use Rattle.record.specs.CommandRules.{IsRight, IsPlaced, enters, MayAnswerAtOnce
 use Rattle.record.specs.Edits.{HadAtKey}
 use Rattle.record.specs.Linked.{linked}
 use Rattle.record.specs.MapRecord.{map_call, map_at, map_of, reply_told, written_log, entries_of_call}
-use Rattle.record.specs.Placed.{IsGreatestTurn, IsChange, IsReading, IsRefused, IsPlacedOnMap}
+use Rattle.record.specs.Placed.{IsGreatestTurn, IsPlacedChange, IsPlacedReading, IsRefused, IsPlacedOnMap}
 use Rattle.record.specs.Replies.{IsFitting}
 use Rattle.record.specs.Rules.Delete.{DeleteIsRight, has_deleted}
 use Rattle.record.specs.Rules.Get.{GetIsRight}
-use Rattle.spelling.specs.CallRules.{insert_nodes}
+use Rattle.ordered_map.specs.CallRules.{insert_nodes}
 use Rattle.record.specs.Rules.Insert.{has_inserted}
 use Rattle.record.specs.Rules.Map.{RepliesAfterStep}
 use Rattle.record.specs.Rules.Range.{RangeAtOnce, RangeIsRight}
@@ -36,10 +36,10 @@ use Rattle.record.specs.Rules.Successor.{SuccessorAtOnce, SuccessorIsRight}
 use Rattle.record.specs.Shares.{HasTooFewToTry}
 use Rattle.record.specs.Turns.{history, turns, begin, start, won}
 use Rattle.record.proofs.Lemmas.{begin_within, entries_none, value_told}
-use Rattle.places.specs.declared.places.Change.{Change}
-use Rattle.places.specs.Entries.{HadWithin}
-use Rattle.places.specs.Ordered.{FallFrom}
-use Rattle.places.proofs.Lemmas.{falls, ordered_placed}
+use Rattle.moments.specs.declared.places.Change.{Change}
+use Rattle.moments.specs.Entries.{HadWithin}
+use Rattle.moments.specs.Ordered.{FallFrom}
+use Rattle.moments.proofs.Lemmas.{falls, ordered_placed}
 use Rattle.audit.specs.Asked.{IsAsked, IsTooFewFor, IsToldBefore, IsValueAt, IsReadAt}
 use Rattle.audit.specs.declared.client.Client.{Client}
 use Rattle.audit.proofs.TurnMoments.{IsNotIdle, had_at_key}
@@ -166,7 +166,7 @@ module _ (lay : Layout) (tries : ℕ) (calls : List Call) (lines : List Line) (c
 
   -- Changes
 
-  is_change : (turn : ℕ) (e : MapEdit) (told : Option ℕ) → won lay lines r.client.0 ≡ Some turn → r.moment ≡ Some turn → r.answer ≡ MapAnswer (Value told) → get (edit_key e) (map_at calls lines (turn - 1)) ≡ told → IsChange calls lines (Edit e) r
+  is_change : (turn : ℕ) (e : MapEdit) (told : Option ℕ) → won lay lines r.client.0 ≡ Some turn → r.moment ≡ Some turn → r.answer ≡ MapAnswer (Value told) → get (edit_key e) (map_at calls lines (turn - 1)) ≡ told → IsPlacedChange calls lines (Edit e) r
   is_change turn e told has moment answers had =
       let f = won_entered lay tries calls r.client.0 turn lines x.in_order x.owed has in
       let turn_is = f.in_turn in
@@ -194,7 +194,7 @@ module _ (lay : Layout) (tries : ℕ) (calls : List Call) (lines : List Line) (c
     none_later = λ n i j d. v.greatest.none_later n i j (let y : Some (OneValue v.told) ≡ Some (OneValue (get key (map_at calls lines n))) = sym (ap reply_told v.answers ∙ value_told v.told) ∙ d ∙ rw (says (map_at calls lines n)) refl in cc);
   }
 
-  value_reading : (key : ℕ) (call : MapCall) → ((m : List _) → reply call m ≡ OneValue (get key m)) → won lay lines r.client.0 ≡ None → IsValueAt calls lines key r → IsReading calls lines call r
+  value_reading : (key : ℕ) (call : MapCall) → ((m : List _) → reply call m ≡ OneValue (get key m)) → won lay lines r.client.0 ≡ None → IsValueAt calls lines key r → IsPlacedReading calls lines call r
   value_reading key call says none v = ordered_placed lay tries calls lines r call v.turn x.in_order none x.number v.moment (greatest_value key call says v)
 
   value_had : (key : ℕ) → (MayAnswerAtOnce command r.answer → ⊥) → (v : IsValueAt calls lines key r) → HadAtKey lay (history lay.mode lines) (start lay.mode lines r.client.0) key v.told
@@ -287,14 +287,14 @@ module _ (lay : Layout) (tries : ℕ) (calls : List Call) (lines : List Line) (c
   pub read_answered : (command : Command) → IsAsked lay tries calls lines changed client command r → won lay lines r.client.0 ≡ None → IsReadAt calls lines command r → IsAnswered lay tries calls lines r command
   read_answered (Map (SuccessorOf key)) x none a =
       let same : Successor key ≡ a.call = (let z : Some (Successor key) ≡ Some a.call = a.is in cc) in
-      let reading = subst (λ (m : MapCall). IsReading calls lines m r) (sym same) (ordered_placed lay tries calls lines r a.call a.turn x.in_order none x.number a.moment a.greatest) in
+      let reading = subst (λ (m : MapCall). IsPlacedReading calls lines m r) (sym same) (ordered_placed lay tries calls lines r a.call a.turn x.in_order none x.number a.moment a.greatest) in
       record {
         right = successor_right lay tries r.client.0 key (history lay.mode lines) (start lay.mode lines r.client.0) (linked calls lay.mode lines r.client.0) (reply a.call (map_at calls lines a.turn)) r.answer a.greatest.holds (either_fits lines (Map (SuccessorOf key)) r.answer x.fits);
         placed = subst (λ (t : Option MapReply). IsPlacedOnMap t calls lines (Successor key) r) (sym a.greatest.holds) reading;
       }
   read_answered (Map (RangeOf low high most)) x none a =
       let same : Range low high most ≡ a.call = (let z : Some (Range low high most) ≡ Some a.call = a.is in cc) in
-      let reading = subst (λ (m : MapCall). IsReading calls lines m r) (sym same) (ordered_placed lay tries calls lines r a.call a.turn x.in_order none x.number a.moment a.greatest) in
+      let reading = subst (λ (m : MapCall). IsPlacedReading calls lines m r) (sym same) (ordered_placed lay tries calls lines r a.call a.turn x.in_order none x.number a.moment a.greatest) in
       record {
         right = range_right lay tries r.client.0 low high most (history lay.mode lines) (start lay.mode lines r.client.0) (linked calls lay.mode lines r.client.0) (reply a.call (map_at calls lines a.turn)) r.answer a.greatest.holds (either_fits lines (Map (RangeOf low high most)) r.answer x.fits);
         placed = subst (λ (t : Option MapReply). IsPlacedOnMap t calls lines (Range low high most) r) (sym a.greatest.holds) reading;

@@ -11,12 +11,12 @@ use Rattle.arena.specs.Lawful.{Lawful, IsLawful}
 use Rattle.arena.specs.Log.{Entry as Entered}
 use Rattle.arena.specs.Machines.{IsRun}
 use Rattle.arena.specs.Shape.{Shaped, IsBegin}
-use Rattle.spelling.specs.FillOrder.{HasRisingLevels}
-use Rattle.spelling.specs.TreeShape.{TreeAllows}
-use Rattle.spelling.specs.OrderedMap.{MapCall, Edit, Get, Successor, Range, Insert, Delete}
+use Rattle.ordered_map.specs.FillOrder.{HasRisingLevels}
+use Rattle.ordered_map.specs.TreeShape.{TreeAllows}
+use Rattle.ordered_map.specs.OrderedMap.{MapCall, Edit, Get, Successor, Range, Insert, Delete}
 use Rattle.script.specs.declared.call.Call.{Call}
 use Rattle.script.specs.declared.command.Command.{Command}
-use Rattle.spelling.specs.declared.request.Request.TheVariants.{Insert as InsertOf, Delete as DeleteOf, Get as GetOf, Successor as SuccessorOf, Range as RangeOf}
+use Rattle.ordered_map.specs.declared.request.Request.TheVariants.{Insert as InsertOf, Delete as DeleteOf, Get as GetOf, Successor as SuccessorOf, Range as RangeOf}
 use Rattle.script.specs.declared.command.Command.TheVariants.{Llx as LlxOf, Scx as ScxOf, Vlx as VlxOf, Set as SetOf, Map}
 use Rattle.script.specs.Commands.{mode_of}
 use Rattle.record.specs.declared.record.Line.{Line}
@@ -32,12 +32,12 @@ use Rattle.record.specs.MapRecord.{map_call}
 use Rattle.record.specs.SpelledMap.{AreSpelled}
 use Rattle.record.specs.Turns.{history, answered}
 use Rattle.record.proofs.Lemmas.{AreMapCalls, lawful_is_legal}
-use Rattle.places.specs.declared.places.Change.{Change}
-use Rattle.places.specs.Entries.{IsChangeBy, IsChangeOf}
-use Rattle.places.proofs.Lemmas.{are_spelled}
-use Rattle.places.specs.declared.places.Places.{Places}
-use Rattle.places.specs.Places.{changes, Knows, HoldsOfKey}
-use Rattle.audit.specs.Edits.{MayMakeFor, HasBegunFor, AreEdits}
+use Rattle.moments.specs.declared.places.Change.{Change}
+use Rattle.moments.specs.Entries.{IsChangeBy, IsChangeOf}
+use Rattle.moments.proofs.Lemmas.{are_spelled}
+use Rattle.moments.specs.declared.places.Places.{Places}
+use Rattle.moments.specs.Places.{changes, Knows, HoldsOfKey}
+use Rattle.audit.specs.Edits.{MayMakeFor, HasBegunFor, AreRememberedEdits}
 use Rattle.audit.specs.Trees.{IsMapSoFar, IsTreeSoFar}
 use Rattle.audit.proofs.TreeLines.{tree_idle, tree_reply, tree_log, tree_step, edits_kept, edits_set, edit_allowed, edit_entry}
 
@@ -167,18 +167,18 @@ module _ (lay : Layout) (tries : ℕ) (calls : List Call) (of_mode : AreOf lay.m
           let y = may mode (here (λ k. IsBegin k row row.after) (subst (λ (n : ℕ). IsBegin now row n) (sym b.stored) b)) in
           subst (λ (n : ℕ). TreeAllows lay now n) b.stored (there (λ k. TreeAllows lay k row.after) (edit_allowed lay h row.after y.0 y.2))
 
-      edits : lay.mode ≡ Tree → AreEdits lay (row ⊳ now) more
+      edits : lay.mode ≡ Tree → AreRememberedEdits lay (row ⊳ now) more
       edits mode = go edit refl begins next some
         where
-          known : AreEdits lay now begun
+          known : AreRememberedEdits lay now begun
           known = (x.tree mode).edits
 
-          go : (o : Option Command) → edit ≡ o → IfSome o (λ k. IsBegin h row row.after) → IfSome o (λ k. next_command calls lines row.pass.0 ≡ Some k) → (IsSome o → more ≡ set begun row.after o) → AreEdits lay (row ⊳ now) more
-          go None e b n p = subst (λ (l : List (Option Command)). AreEdits lay (row ⊳ now) l) (sym (none e)) (edits_kept lay now row begun known)
+          go : (o : Option Command) → edit ≡ o → IfSome o (λ k. IsBegin h row row.after) → IfSome o (λ k. next_command calls lines row.pass.0 ≡ Some k) → (IsSome o → more ≡ set begun row.after o) → AreRememberedEdits lay (row ⊳ now) more
+          go None e b n p = subst (λ (l : List (Option Command)). AreRememberedEdits lay (row ⊳ now) l) (sym (none e)) (edits_kept lay now row begun known)
           go (Some k) e b n p =
               let y = may mode b in
               let own : y.0 ≡ k = some_same y.0 k (sym y.1 ∙ n) in
-              subst (λ (l : List (Option Command)). AreEdits lay (row ⊳ now) l) (sym (p refl)) (edits_set lay now row begun row.after k known (there (λ g. IsBegin g row row.after) b) (there (λ g. MayMakeFor lay g row.after k) (subst (λ (d : Command). MayMakeFor lay h row.after d) own y.2)))
+              subst (λ (l : List (Option Command)). AreRememberedEdits lay (row ⊳ now) l) (sym (p refl)) (edits_set lay now row begun row.after k known (there (λ g. IsBegin g row row.after) b) (there (λ g. MayMakeFor lay g row.after k) (subst (λ (d : Command). MayMakeFor lay h row.after d) own y.2)))
             where
               some_same : (c d : Command) → Some c ≡ Some d → c ≡ d
               some_same c d e = cc

@@ -17,14 +17,14 @@ use Rattle.arena.specs.Words.{child, scx}
 use Rattle.arena.proofs.Lemmas.{ends_self, last_more, last_now, plan_counted, value_apart, or_split, or_right}
 use Rattle.histories.proofs.Lemmas.{is_removed_of}
 use Rattle.script.specs.declared.command.Command.{Command}
-use Rattle.judge.specs.Histories.{history as seen}
+use Rattle.judge.specs.Histories.{seen_history}
 use Rattle.audit.specs.declared.memory.Look.{Look}
 use Rattle.audit.specs.declared.memory.Memory.{Memory}
 use Rattle.audit.specs.declared.memory.Snapshot.{Snapshot}
 use Rattle.audit.specs.declared.memory.Tries.{Tries}
 use Rattle.audit.specs.declared.steps.Steps.{Steps}
-use Rattle.audit.specs.Remembered.{rows_of, WasRunningAt, AreStepsOf, IsLookOf, IsSnapshotOf, AreTriesSince, IsBegunWith, IsKept}
-use Rattle.audit.specs.Remembering.{IsLookBy, noted, IsNoted, IsFinalBy}
+use Rattle.audit.specs.Remembered.{row_count, WasRunningAt, AreStepsOf, IsLookOf, IsSnapshotOf, AreTriesSince, IsBegunWith, IsKept}
+use Rattle.audit.specs.Remembering.{IsLookBy, noted, IsNoted, IsRememberedFinal}
 use Rattle.audit.proofs.CountedTries.{few_tries, tries_by_other, tries_by_own}
 use Rattle.audit.proofs.RowMoments.{rows_within}
 
@@ -65,30 +65,30 @@ IsNewFinal lay now rows n before after = ((after ≡ before) × (before ≡ 0 �
 
 -- since when a node is final, at each moment
 abbrev IsFinalSince : Layout → History → ℕ → ℕ → Type 0
-IsFinalSince lay h n rows = (g : History) → Extends h g → (is_final (log lay g) n ≡ true) ↔ ((0 < rows) × (rows ≤ rows_of g))
+IsFinalSince lay h n rows = (g : History) → Extends h g → (is_final (log lay g) n ≡ true) ↔ ((0 < rows) × (rows ≤ row_count g))
 
 module _ (lay : Layout) (h : History) (r : Row) where
-  final_more : (n before after : ℕ) → IsFinalSince lay h n before → before ≤ rows_of h → (is_final (log lay h) n ≡ true → is_final (log lay (r ⊳ h)) n ≡ true) → IsNewFinal lay (r ⊳ h) (suc (rows_of h)) n before after → IsFinalSince lay (r ⊳ h) n after
-  final_more n before after old within stays (inl y) g (inr e) = subst (λ (k : ℕ). (is_final (log lay g) n ≡ true) ↔ ((0 < k) × (k ≤ rows_of g))) (sym y.0) (old g e)
-  final_more n before after old within stays (inl y) g (inl e) = subst (λ (k : History). (is_final (log lay k) n ≡ true) ↔ ((0 < after) × (after ≤ rows_of k))) (sym e) (to, from)
+  final_more : (n before after : ℕ) → IsFinalSince lay h n before → before ≤ row_count h → (is_final (log lay h) n ≡ true → is_final (log lay (r ⊳ h)) n ≡ true) → IsNewFinal lay (r ⊳ h) (suc (row_count h)) n before after → IsFinalSince lay (r ⊳ h) n after
+  final_more n before after old within stays (inl y) g (inr e) = subst (λ (k : ℕ). (is_final (log lay g) n ≡ true) ↔ ((0 < k) × (k ≤ row_count g))) (sym y.0) (old g e)
+  final_more n before after old within stays (inl y) g (inl e) = subst (λ (k : History). (is_final (log lay k) n ≡ true) ↔ ((0 < after) × (after ≤ row_count k))) (sym e) (to, from)
     where
-      to : is_final (log lay (r ⊳ h)) n ≡ true → (0 < after) × (after ≤ suc (rows_of h))
+      to : is_final (log lay (r ⊳ h)) n ≡ true → (0 < after) × (after ≤ suc (row_count h))
       to p = go (ℕ_discrete before 0)
         where
-          go : Dec (before ≡ 0) → (0 < after) × (after ≤ suc (rows_of h))
+          go : Dec (before ≡ 0) → (0 < after) × (after ≤ suc (row_count h))
           go (yes z) = absurd (let q : true ≡ false = sym p ∙ y.1 z in cc)
           go (no d) = let same = y.0 in (omega arith, omega arith)
 
-      from : (0 < after) × (after ≤ suc (rows_of h)) → is_final (log lay (r ⊳ h)) n ≡ true
+      from : (0 < after) × (after ≤ suc (row_count h)) → is_final (log lay (r ⊳ h)) n ≡ true
       from q = let same = y.0 in let some = q.0 in stays ((old h (ends_self h)).1 (omega arith, omega arith))
-  final_more n before after old within stays (inr y) g (inl e) = subst (λ (k : History). (is_final (log lay k) n ≡ true) ↔ ((0 < after) × (after ≤ rows_of k))) (sym e) (let is = y.1 in (λ p. (omega arith, omega arith), λ q. y.2))
+  final_more n before after old within stays (inr y) g (inl e) = subst (λ (k : History). (is_final (log lay k) n ≡ true) ↔ ((0 < after) × (after ≤ row_count k))) (sym e) (let is = y.1 in (λ p. (omega arith, omega arith), λ q. y.2))
   final_more n before after old within stays (inr y) g (inr e) =
       let none = y.0 in
       let is = y.1 in
       let few = rows_within h g e in
       (λ p. let i = (old g e).0 p in let j = i.0 in absurd (omega arith), λ q. let j = q.1 in absurd (omega arith))
 
-  final_within : (n before after : ℕ) → before ≤ rows_of h → IsNewFinal lay (r ⊳ h) (suc (rows_of h)) n before after → after ≤ suc (rows_of h)
+  final_within : (n before after : ℕ) → before ≤ row_count h → IsNewFinal lay (r ⊳ h) (suc (row_count h)) n before after → after ≤ suc (row_count h)
   final_within n before after within (inl y) = let same = y.0 in omega arith
   final_within n before after within (inr y) = let is = y.1 in omega arith
 
@@ -98,12 +98,12 @@ module _ (lay : Layout) (h : History) (r : Row) where
   -- all that is kept of the steps, behind the row
   pub record AreMore (old new : Steps) : Type 0 where
     pub layout : new.judge.layout ≡ lay
-    pub is_seen : seen new.judge ≡ r ⊳ h
+    pub is_seen : seen_history new.judge ≡ r ⊳ h
     pub count : new.count ≡ old.count + 1
     pub all_until : length new.until.items ≡ length old.until.items
     pub until : (s rows : ℕ) → slice_get new.until.items s ≡ Some rows → (slice_get old.until.items s ≡ Some rows) ⊎ ((rows ≡ old.count) × IsInProgress h s)
     pub all_finals : length new.finals.items ≡ length old.finals.items
-    pub finals : (n after : ℕ) → slice_get new.finals.items n ≡ Some after → (before : ℕ) × (slice_get old.finals.items n ≡ Some before) × IsNewFinal lay (r ⊳ h) (suc (rows_of h)) n before after
+    pub finals : (n after : ℕ) → slice_get new.finals.items n ≡ Some after → (before : ℕ) × (slice_get old.finals.items n ≡ Some before) × IsNewFinal lay (r ⊳ h) (suc (row_count h)) n before after
     pub stays : (n : ℕ) → is_final (log lay h) n ≡ true → is_final (log lay (r ⊳ h)) n ≡ true
     pub all_memories : length new.memories.items ≡ length old.memories.items
 
@@ -132,7 +132,7 @@ module _ (lay : Layout) (h : History) (r : Row) where
     last_entry = x.last_entry;
   }
 
-  look_now : (c : ℕ) (kind : Kind) (look : Look) → IsLawful lay h r → r.pass.0 ≡ c → r.kind ≡ kind → IsLookBy lay (r ⊳ h) (suc (rows_of h)) r look → IsLookOf lay (r ⊳ h) c kind look
+  look_now : (c : ℕ) (kind : Kind) (look : Look) → IsLawful lay h r → r.pass.0 ≡ c → r.kind ≡ kind → IsLookBy lay (r ⊳ h) (suc (row_count h)) r look → IsLookOf lay (r ⊳ h) c kind look
   look_now c kind look lawful own is x = record {
     row = r;
     before = h;
@@ -162,7 +162,7 @@ module _ (lay : Layout) (h : History) (r : Row) where
     }
 
     -- a row of its own
-    pub kept_own : (begin now : Option ℕ) (old new : Memory) → IsLawful lay h r → suc (rows_of h) < 2 ^ 64 → r.pass.0 ≡ c → IsBegunWith lay h start linked next c old → IsKept lay h start linked begin next c old → IsNoted lay (r ⊳ h) (suc (rows_of h)) r old new → IsKept lay (r ⊳ h) start linked now next c new
+    pub kept_own : (begin now : Option ℕ) (old new : Memory) → IsLawful lay h r → suc (row_count h) < 2 ^ 64 → r.pass.0 ≡ c → IsBegunWith lay h start linked next c old → IsKept lay h start linked begin next c old → IsNoted lay (r ⊳ h) (suc (row_count h)) r old new → IsKept lay (r ⊳ h) start linked now next c new
     kept_own begin now old new lawful small own begun x y = subst (λ (m : Memory). IsKept lay (r ⊳ h) start linked now next c m) (sym y.is) (go r.kind refl)
       where
         others : (kind : Kind) → (r.kind ≡ kind → ⊥) → (look : Look) → IsLookOf lay h c kind look → IsLookOf lay (r ⊳ h) c kind look
@@ -197,7 +197,7 @@ module _ (lay : Layout) (h : History) (r : Row) where
   -- What a winning update makes final
 
   -- no entry was added
-  pub same_log_finals : (old new : Steps) → log lay (r ⊳ h) ≡ log lay h → AreStepsOf lay h old → new.finals.items ≡ old.finals.items → (n after : ℕ) → slice_get new.finals.items n ≡ Some after → (before : ℕ) × (slice_get old.finals.items n ≡ Some before) × IsNewFinal lay (r ⊳ h) (suc (rows_of h)) n before after
+  pub same_log_finals : (old new : Steps) → log lay (r ⊳ h) ≡ log lay h → AreStepsOf lay h old → new.finals.items ≡ old.finals.items → (n after : ℕ) → slice_get new.finals.items n ≡ Some after → (before : ℕ) × (slice_get old.finals.items n ≡ Some before) × IsNewFinal lay (r ⊳ h) (suc (row_count h)) n before after
   same_log_finals old new none x same n after get =
       let there : slice_get old.finals.items n ≡ Some after = ap (λ (xs : List ℕ). slice_get xs n) (sym same) ∙ get in
       (after, there, inl (refl, λ z. ap (λ (es : List Entry). is_final es n) none ∙ go (is_final (log lay h) n) refl there z))
@@ -217,10 +217,10 @@ module _ (lay : Layout) (h : History) (r : Row) where
     won_stays n e = final_now n ∙ or_right _ _ e
 
     -- of the nodes of its SCX-record it was noted
-    pub won_finals : (old new : Steps) → AreStepsOf lay h old → ((n rows : ℕ) → slice_get new.finals.items n ≡ Some rows → IsFinalBy lay (r ⊳ h) s 4 (suc (rows_of h)) (slice_get old.finals.items n) n rows) → (n after : ℕ) → slice_get new.finals.items n ≡ Some after → (before : ℕ) × (slice_get old.finals.items n ≡ Some before) × IsNewFinal lay (r ⊳ h) (suc (rows_of h)) n before after
+    pub won_finals : (old new : Steps) → AreStepsOf lay h old → ((n rows : ℕ) → slice_get new.finals.items n ≡ Some rows → IsRememberedFinal lay (r ⊳ h) s 4 (suc (row_count h)) (slice_get old.finals.items n) n rows) → (n after : ℕ) → slice_get new.finals.items n ≡ Some after → (before : ℕ) × (slice_get old.finals.items n ≡ Some before) × IsNewFinal lay (r ⊳ h) (suc (row_count h)) n before after
     won_finals old new x y n after get = go (y n after get)
       where
-        go : IsFinalBy lay (r ⊳ h) s 4 (suc (rows_of h)) (slice_get old.finals.items n) n after → (before : ℕ) × (slice_get old.finals.items n ≡ Some before) × IsNewFinal lay (r ⊳ h) (suc (rows_of h)) n before after
+        go : IsRememberedFinal lay (r ⊳ h) s 4 (suc (row_count h)) (slice_get old.finals.items n) n after → (before : ℕ) × (slice_get old.finals.items n ≡ Some before) × IsNewFinal lay (r ⊳ h) (suc (row_count h)) n before after
         go (inr z) = (0, z.0, inr (refl, z.1, z.2))
         go (inl z) = (after, z.0, inl (refl, λ none. unless none (is_final (log lay (r ⊳ h)) n) refl))
           where

@@ -6,8 +6,8 @@ use Rattle.arena.specs.declared.number.NodeNo.{NodeNo}
 use Rattle.arena.specs.declared.number.ScxNo.{ScxNo}
 use Rattle.script.specs.declared.call.Call.{Call}
 use Rattle.script.specs.declared.command.Command.{Command}
-use Rattle.spelling.specs.declared.reply.Reply.TheVariants.{Contended, Full, NoMemory}
-use Rattle.spelling.specs.declared.request.Request.TheVariants.{Insert, Delete}
+use Rattle.ordered_map.specs.declared.reply.Reply.TheVariants.{Contended, Full, NoMemory}
+use Rattle.ordered_map.specs.declared.request.Request.TheVariants.{Insert, Delete}
 use Rattle.script.specs.declared.command.Command.TheVariants.{Map}
 use Rattle.record.specs.declared.record.Line.{Line}
 use Rattle.record.specs.declared.record.Finished.{Finished}
@@ -18,7 +18,7 @@ use Rattle.record.specs.CommandRules.{IsRight, MayAnswerAtOnce}
 use Rattle.record.specs.Linked.{linked}
 use Rattle.record.specs.Replies.{IsFitting}
 use Rattle.record.specs.Turns.{history, begin, start}
-use Rattle.places.specs.declared.places.Change.{Change}
+use Rattle.moments.specs.declared.places.Change.{Change}
 use Rattle.audit.specs.Asked.{IsAsked, IsTooFewFor}
 use Rattle.audit.specs.declared.client.Client.{Client}
 use Rattle.audit.proofs.MapAnswers.{contended_right, no_memory_right}

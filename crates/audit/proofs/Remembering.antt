@@ -29,7 +29,7 @@ use Rattle.record.specs.CommandRules.{linked_then}
 use Rattle.record.specs.Commands.{commands, next_command}
 use Rattle.record.specs.Linked.{linked}
 use Rattle.record.specs.Shares.{HasNodesLeft, HasScxLeft}
-use Rattle.judge.specs.Histories.{history as seen}
+use Rattle.judge.specs.Histories.{seen_history}
 use Rattle.record.specs.Turns.{history, begin, start, answered}
 use Rattle.record.proofs.Lemmas.{start_unbegun, start_kept}
 use Rattle.audit.specs.declared.client.Client.{Client}
@@ -38,8 +38,8 @@ use Rattle.audit.specs.declared.steps.Steps.{Steps}
 use Rattle.audit.specs.After.{IsClientAfter}
 use Rattle.audit.specs.Calls.{command_at}
 use Rattle.audit.specs.CellCalls.{AreSameAt}
-use Rattle.audit.specs.Remembered.{rows_of, AreSnapshotsOf, IsBegunWith, IsKept, AreStepsOf, IsMemoryOf, AreRemembered, AreBegun}
-use Rattle.audit.specs.Remembering.{IsNoted, IsFinalBy}
+use Rattle.audit.specs.Remembered.{row_count, AreSnapshotsOf, IsBegunWith, IsKept, AreStepsOf, IsMemoryOf, AreRemembered, AreRememberedInCall}
+use Rattle.audit.specs.Remembering.{IsNoted, IsRememberedFinal}
 use Rattle.audit.proofs.AfterLines.{get_there}
 use Rattle.audit.proofs.CountedTries.{no_tries}
 use Rattle.audit.proofs.NextCalls.{command_next}
@@ -50,9 +50,9 @@ abbrev IsBegunOf : Layout → List Call → List Line → ℕ → Memory → Typ
 IsBegunOf lay calls lines c memory = IsBegunWith lay (history lay.mode lines) (start lay.mode lines c) (linked calls lay.mode lines c) (next_command calls lines c) c memory
 
 -- a call that begins now
-pub begun_with : (lay : Layout) (calls : List Call) (lines : List Line) (c : ℕ) (all : Steps) (memory : Memory) → AreStepsOf lay (history lay.mode lines) all → begin lines c ≡ None → memory.begun ≡ all.count → HasNodesLeft all.judge.layout c (seen all.judge) memory.nodes → HasScxLeft all.judge.layout c (seen all.judge) memory.scx → memory.tries.many ≡ 0 → ((cells : Cells) → next_command calls lines c ≡ Some (Vlx cells) → AreSameAt all.judge.layout (seen all.judge) (linked calls lay.mode lines c) (cells_of cells) memory.same) → IsBegunOf lay calls lines c memory
+pub begun_with : (lay : Layout) (calls : List Call) (lines : List Line) (c : ℕ) (all : Steps) (memory : Memory) → AreStepsOf lay (history lay.mode lines) all → begin lines c ≡ None → memory.begun ≡ all.count → HasNodesLeft all.judge.layout c (seen_history all.judge) memory.nodes → HasScxLeft all.judge.layout c (seen_history all.judge) memory.scx → memory.tries.many ≡ 0 → ((cells : Cells) → next_command calls lines c ≡ Some (Vlx cells) → AreSameAt all.judge.layout (seen_history all.judge) (linked calls lay.mode lines c) (cells_of cells) memory.same) → IsBegunOf lay calls lines c memory
 begun_with lay calls lines c all memory x unbegun count nodes scx none same = record {
-  begun = count ∙ x.count ∙ ap rows_of (sym moment);
+  begun = count ∙ x.count ∙ ap row_count (sym moment);
   within = subst (λ (k : History). Extends (history lay.mode lines) k) (sym moment) (ends_self (history lay.mode lines));
   nodes = at (λ l k. HasNodesLeft l c k memory.nodes) nodes;
   scx = at (λ l k. HasScxLeft l c k memory.scx) scx;
@@ -63,8 +63,8 @@ begun_with lay calls lines c all memory x unbegun count nodes scx none same = re
     moment : start lay.mode lines c ≡ history lay.mode lines
     moment = start_unbegun lay.mode lines c unbegun
 
-    at : (P : Layout → History → Type 0) → P all.judge.layout (seen all.judge) → P lay (start lay.mode lines c)
-    at P p = subst (λ (k : History). P lay k) (x.is_seen ∙ sym moment) (subst (λ (l : Layout). P l (seen all.judge)) x.layout p)
+    at : (P : Layout → History → Type 0) → P all.judge.layout (seen_history all.judge) → P lay (start lay.mode lines c)
+    at P p = subst (λ (k : History). P lay k) (x.is_seen ∙ sym moment) (subst (λ (l : Layout). P l (seen_history all.judge)) x.layout p)
 
 module _ (lay : Layout) (calls : List Call) (lines : List Line) (all : Steps) where
   -- an entry changes nothing of it
@@ -75,7 +75,7 @@ module _ (lay : Layout) (calls : List Call) (lines : List Line) (all : Steps) wh
   }
 
   -- where a call has begun, a turn that makes no step changes nothing of it
-  pub idle_remembered : (number : ℕ) (pass : PassNo) → AreBegun lay calls lines pass.0 all → AreRemembered lay calls (Step (Idle number pass) ∷ lines) all
+  pub idle_remembered : (number : ℕ) (pass : PassNo) → AreRememberedInCall lay calls lines pass.0 all → AreRemembered lay calls (Step (Idle number pass) ∷ lines) all
   idle_remembered number pass x = record {
     steps = x.remembered.steps;
     memories = λ c m get. go c m get (ℕ_discrete pass.0 c);
@@ -114,9 +114,9 @@ IsWonBy lay h row s = (n : ℕ) × (side : Side) × (row.word ≡ child n side) 
 -- which nodes it has made final, by what was noted
 module _ (lay : Layout) (h : History) (r : Row) (old new : Steps) (x : AreStepsOf lay h old) where
   abbrev AreWonNoted : Option ScxNo → Type 0
-  AreWonNoted winner = (s : ScxNo) → winner ≡ Some s → (n rows : ℕ) → slice_get new.finals.items n ≡ Some rows → IsFinalBy lay (r ⊳ h) s.0 4 (suc (rows_of h)) (slice_get old.finals.items n) n rows
+  AreWonNoted winner = (s : ScxNo) → winner ≡ Some s → (n rows : ℕ) → slice_get new.finals.items n ≡ Some rows → IsRememberedFinal lay (r ⊳ h) s.0 4 (suc (row_count h)) (slice_get old.finals.items n) n rows
 
-  pub finals_made : (winner : Option ScxNo) → IfSome winner (λ s. IsWonBy lay h r s) → IfNone winner (log lay (r ⊳ h) ≡ log lay h) → (winner ≡ None → new.finals.items ≡ old.finals.items) → AreWonNoted winner → (n after : ℕ) → slice_get new.finals.items n ≡ Some after → (before : ℕ) × (slice_get old.finals.items n ≡ Some before) × IsNewFinal lay (r ⊳ h) (suc (rows_of h)) n before after
+  pub finals_made : (winner : Option ScxNo) → IfSome winner (λ s. IsWonBy lay h r s) → IfNone winner (log lay (r ⊳ h) ≡ log lay h) → (winner ≡ None → new.finals.items ≡ old.finals.items) → AreWonNoted winner → (n after : ℕ) → slice_get new.finals.items n ≡ Some after → (before : ℕ) × (slice_get old.finals.items n ≡ Some before) × IsNewFinal lay (r ⊳ h) (suc (row_count h)) n before after
   finals_made None some none same noted = same_log_finals lay h r old new none x (same refl)
   finals_made (Some s) some none same noted = won_finals lay h r s.0 some.0 some.1 some.2 some.3 old new x (noted s refl)
 
@@ -129,8 +129,8 @@ pub ended : (ends : Option ScxNo) (s : ℕ) (h : History) → IfSome ends (λ t.
 ended None s h running is some = absurd (let z : false ≡ true = some in cc)
 ended (Some t) s h running is some = subst (λ (k : ℕ). IsInProgress h k) is running
 
-pub final_as : (l lay : Layout) (k h : History) (a b : ℕ) (xs ys : List ℕ) (s n rows : ℕ) → l ≡ lay → k ≡ h → a ≡ b → xs ≡ ys → IsFinalBy l k s 4 a (slice_get xs n) n rows → IsFinalBy lay h s 4 b (slice_get ys n) n rows
-final_as l lay k h a b xs ys s n rows e f g i z = subst (λ (q : List ℕ). IsFinalBy lay h s 4 b (slice_get q n) n rows) i (subst (λ (q : ℕ). IsFinalBy lay h s 4 q (slice_get xs n) n rows) g (subst (λ (q : History). IsFinalBy lay q s 4 a (slice_get xs n) n rows) f (subst (λ (q : Layout). IsFinalBy q k s 4 a (slice_get xs n) n rows) e z)))
+pub final_as : (l lay : Layout) (k h : History) (a b : ℕ) (xs ys : List ℕ) (s n rows : ℕ) → l ≡ lay → k ≡ h → a ≡ b → xs ≡ ys → IsRememberedFinal l k s 4 a (slice_get xs n) n rows → IsRememberedFinal lay h s 4 b (slice_get ys n) n rows
+final_as l lay k h a b xs ys s n rows e f g i z = subst (λ (q : List ℕ). IsRememberedFinal lay h s 4 b (slice_get q n) n rows) i (subst (λ (q : ℕ). IsRememberedFinal lay h s 4 q (slice_get xs n) n rows) g (subst (λ (q : History). IsRememberedFinal lay q s 4 a (slice_get xs n) n rows) f (subst (λ (q : Layout). IsRememberedFinal q k s 4 a (slice_get xs n) n rows) e z)))
 
 pub noted_as : (l lay : Layout) (k h : History) (a b : ℕ) (row : Row) (old new : Memory) → l ≡ lay → k ≡ h → a ≡ b → IsNoted l k a row old new → IsNoted lay h b row old new
 noted_as l lay k h a b row old new e f g z = subst (λ (q : ℕ). IsNoted lay h q row old new) g (subst (λ (q : History). IsNoted lay q a row old new) f (subst (λ (q : Layout). IsNoted q k a row old new) e z))
@@ -139,7 +139,7 @@ noted_as l lay k h a b row old new e f g z = subst (λ (q : ℕ). IsNoted lay h 
 abbrev KeptIf : Layout → List Call → List Line → ℕ → Row → Bool → ℕ → Memory → Type 0
 KeptIf lay calls lines number row b c m = IsKept lay (row ⊳ history lay.mode lines) (cond (b || is_some (begin lines c)) (start lay.mode lines c) (row ⊳ history lay.mode lines)) (linked calls lay.mode lines c) (cond b (Some (unwrap_or (begin lines c) number)) (begin lines c)) (next_command calls lines c) c m
 
-pub made_remembered : (lay : Layout) (calls : List Call) (lines : List Line) (number : ℕ) (row : Row) (old new : Steps) → AreBegun lay calls lines row.pass.0 old → IsLawful lay (history lay.mode lines) row → suc (rows_of (history lay.mode lines)) < 2 ^ 64 → AreMore lay (history lay.mode lines) row old new → ((c : ℕ) → (c ≡ row.pass.0 → ⊥) → slice_get new.memories.items c ≡ slice_get old.memories.items c) → ((m : Memory) → slice_get new.memories.items row.pass.0 ≡ Some m → (before : Memory) × (slice_get old.memories.items row.pass.0 ≡ Some before) × IsNoted lay (row ⊳ history lay.mode lines) (suc (rows_of (history lay.mode lines))) row before m) → AreRemembered lay calls (Step (Made number row) ∷ lines) new
+pub made_remembered : (lay : Layout) (calls : List Call) (lines : List Line) (number : ℕ) (row : Row) (old new : Steps) → AreRememberedInCall lay calls lines row.pass.0 old → IsLawful lay (history lay.mode lines) row → suc (row_count (history lay.mode lines)) < 2 ^ 64 → AreMore lay (history lay.mode lines) row old new → ((c : ℕ) → (c ≡ row.pass.0 → ⊥) → slice_get new.memories.items c ≡ slice_get old.memories.items c) → ((m : Memory) → slice_get new.memories.items row.pass.0 ≡ Some m → (before : Memory) × (slice_get old.memories.items row.pass.0 ≡ Some before) × IsNoted lay (row ⊳ history lay.mode lines) (suc (row_count (history lay.mode lines))) row before m) → AreRemembered lay calls (Step (Made number row) ∷ lines) new
 made_remembered lay calls lines number row old new x lawful small more others own = record {
   steps = steps_more lay (history lay.mode lines) row old new x.remembered.steps more;
   memories = λ c m get. go c m get (ℕ_discrete row.pass.0 c);
@@ -206,7 +206,7 @@ module _ (old new : Steps) (pass : ℕ) (memory : Memory) (same : new ≡ record
           here q = let z = put_own m q in subst (λ (k : Memory). Q pass k) (sym z.0) (own z.1.0 z.1.1 (x pass z.1.0 z.1.1))
 
   -- the begin of a call
-  pub begun_remembered : (lay : Layout) (calls : List Call) (lines : List Line) → AreRemembered lay calls lines old → ((before : Memory) → slice_get old.memories.items pass ≡ Some before → memory ≡ record before { begun = memory.begun; nodes = memory.nodes; scx = memory.scx; tries = memory.tries; same = memory.same }) → (pass < length old.memories.items → IsBegunOf lay calls lines pass memory) → AreBegun lay calls lines pass new
+  pub begun_remembered : (lay : Layout) (calls : List Call) (lines : List Line) → AreRemembered lay calls lines old → ((before : Memory) → slice_get old.memories.items pass ≡ Some before → memory ≡ record before { begun = memory.begun; nodes = memory.nodes; scx = memory.scx; tries = memory.tries; same = memory.same }) → (pass < length old.memories.items → IsBegunOf lay calls lines pass memory) → AreRememberedInCall lay calls lines pass new
   begun_remembered lay calls lines x rest begun = record {
     remembered = record {
       steps = steps_put lay (history lay.mode lines) x.steps;

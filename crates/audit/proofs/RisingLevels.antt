@@ -12,8 +12,8 @@ use Rattle.arena.specs.declared.step.Row.{Row}
 use Rattle.arena.specs.Words.{node, child, same_word}
 use Rattle.arena.specs.History.{History, ◌⊳◌, value, HasHeld}
 use Rattle.arena.proofs.Lemmas.{held_now, node_word_apart, value_apart, value_other, value_quiet, word_same}
-use Rattle.spelling.specs.TreeWords.{is_leaf, level}
-use Rattle.spelling.specs.FillOrder.{HasStoodInField, HasRisingLevels}
+use Rattle.ordered_map.specs.TreeWords.{is_leaf, level}
+use Rattle.ordered_map.specs.FillOrder.{HasStoodInField, HasRisingLevels}
 
 -- a row leaves a word as it was, if it is of another or leaves what it found
 abbrev pub IsLeft : Row → History → Word → Type 0

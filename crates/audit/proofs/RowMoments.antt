@@ -10,22 +10,22 @@ use Rattle.arena.specs.Lawful.{Lawful}
 use Rattle.arena.specs.ScxRecords.{count_of, member}
 use Rattle.arena.proofs.Lemmas.{ends_self, ends_trans}
 use Rattle.histories.proofs.Lemmas.{facts, lawful_since, scx_since}
-use Rattle.audit.specs.Remembered.{rows_of, IsMomentAt, WasRunningAt}
+use Rattle.audit.specs.Remembered.{row_count, IsMomentAt, WasRunningAt}
 
 -- a moment has no more rows than the history
-pub rows_within : (h g : History) → Extends h g → rows_of g ≤ rows_of h
+pub rows_within : (h g : History) → Extends h g → row_count g ≤ row_count h
 rows_within (Start mode) g e = rw e (omega arith)
 rows_within (r ⊳ h) g (inl e) = rw e (omega arith)
 rows_within (r ⊳ h) g (inr e) = let x = rows_within h g e in omega arith
 
 -- of two moments that with no more rows is one of the other
-pub moment_before : (h m g : History) → Extends h m → Extends h g → rows_of g ≤ rows_of m → Extends m g
+pub moment_before : (h m g : History) → Extends h m → Extends h g → row_count g ≤ row_count m → Extends m g
 moment_before (Start mode) m g e f i = subst (λ (k : History). Extends k g) (sym e) f
 moment_before (r ⊳ h) m g (inl e) f i = subst (λ (k : History). Extends k g) (sym e) f
 moment_before (r ⊳ h) m g (inr e) (inr f) i = moment_before h m g e f i
 moment_before (r ⊳ h) m g (inr e) (inl f) i =
     let x = rows_within h m e in
-    let y : rows_of g ≡ suc (rows_of h) = ap rows_of f in
+    let y : row_count g ≡ suc (row_count h) = ap row_count f in
     absurd (omega arith)
 
 -- the last row of a moment, and what was before it
@@ -34,7 +34,7 @@ pub record HasRow (m : History) : Type 0 where
   pub before : History
   pub is : m ≡ row ⊳ before
 
-pub some_row : (m : History) → 0 < rows_of m → HasRow m
+pub some_row : (m : History) → 0 < row_count m → HasRow m
 some_row (Start mode) i = absurd (omega arith)
 some_row (r ⊳ h) i = record { row = r; before = h; is = refl }
 
@@ -65,10 +65,10 @@ module _ (lay : Layout) (h g : History) (s after last : ℕ) (l : Lawful lay h) 
 
   in_the_way : (n : ℕ) → IsMember now s n → WasInTheWay h g n s
   in_the_way n c =
-      let many : rows_of now ≡ last = running.1.many in
-      let rows : rows_of g ≡ after = start.many in
+      let many : row_count now ≡ last = running.1.many in
+      let rows : row_count g ≡ after = start.many in
       let x = some_row now (omega arith) in
-      let same : rows_of now ≡ suc (rows_of x.before) = ap rows_of x.is in
+      let same : row_count now ≡ suc (row_count x.before) = ap row_count x.is in
       let within : Extends h (x.row ⊳ x.before) = subst (λ (k : History). Extends h k) x.is running.1.within in
       let own : Extends (x.row ⊳ x.before) x.before = inr (ends_self x.before) in
       record {

@@ -8,13 +8,13 @@ use Rattle.record.specs.declared.record.Finished.{Finished}
 use Rattle.audit.specs.declared.client.Client.{Client}
 use Rattle.audit.specs.declared.steps.Steps.{Steps}
 use Rattle.audit.specs.After.{IsClientAfter}
-use Rattle.audit.specs.Remembered.{AreRemembered, AreBegun}
+use Rattle.audit.specs.Remembered.{AreRemembered, AreRememberedInCall}
 
 -- the call of this client has begun, or begins now
-pub begun_of : (lay : Layout) (calls given : List Call) (lines : List Line) (old new : Steps) (client : Client) (c : ℕ) → given ≡ calls → client.pass.0 ≡ c → ((lay : Layout) (lines : List Line) → AreRemembered lay given lines old → IsClientAfter lay given lines client.pass.0 client → AreBegun lay given lines client.pass.0 new) → AreRemembered lay calls lines old → IsClientAfter lay calls lines c client → AreBegun lay calls lines c new
+pub begun_of : (lay : Layout) (calls given : List Call) (lines : List Line) (old new : Steps) (client : Client) (c : ℕ) → given ≡ calls → client.pass.0 ≡ c → ((lay : Layout) (lines : List Line) → AreRemembered lay given lines old → IsClientAfter lay given lines client.pass.0 client → AreRememberedInCall lay given lines client.pass.0 new) → AreRemembered lay calls lines old → IsClientAfter lay calls lines c client → AreRememberedInCall lay calls lines c new
 begun_of lay calls given lines old new client c same own begins x y =
-    subst (λ (n : ℕ). AreBegun lay calls lines n new) own
-    (subst (λ (k : List Call). AreBegun lay k lines client.pass.0 new) same
+    subst (λ (n : ℕ). AreRememberedInCall lay calls lines n new) own
+    (subst (λ (k : List Call). AreRememberedInCall lay k lines client.pass.0 new) same
     (begins lay lines
     (subst (λ (k : List Call). AreRemembered lay k lines old) (sym same) x)
     (subst (λ (k : List Call). IsClientAfter lay k lines client.pass.0 client) (sym same) (subst (λ (n : ℕ). IsClientAfter lay calls lines n client) (sym own) y))))

@@ -12,13 +12,13 @@ use Rattle.arena.specs.Shape.{Shaped, IsBegin}
 use Rattle.arena.proofs.Lemmas.{ends_self}
 use Rattle.script.specs.declared.call.Call.{Call}
 use Rattle.script.specs.declared.command.Command.{Command}
-use Rattle.spelling.specs.declared.request.Request.TheVariants.{Insert as InsertOf, Delete as DeleteOf, Get, Successor, Range}
+use Rattle.ordered_map.specs.declared.request.Request.TheVariants.{Insert as InsertOf, Delete as DeleteOf, Get, Successor, Range}
 use Rattle.script.specs.declared.command.Command.TheVariants.{Llx, Scx, Vlx, Set, Map}
-use Rattle.spelling.specs.FillOrder.{HasRisingLevels}
-use Rattle.spelling.specs.OrderedMap.{Insert, Delete}
-use Rattle.spelling.specs.Runs.{IsTreeRun}
-use Rattle.spelling.specs.TreeShape.{TreeAllows}
-use Rattle.spelling.proofs.Lemmas.{makes_since}
+use Rattle.ordered_map.specs.FillOrder.{HasRisingLevels}
+use Rattle.ordered_map.specs.OrderedMap.{Insert, Delete}
+use Rattle.ordered_map.specs.Runs.{IsTreeRun}
+use Rattle.ordered_map.specs.TreeShape.{TreeAllows}
+use Rattle.ordered_map.proofs.Lemmas.{makes_since}
 use Rattle.record.specs.declared.record.Line.{Line}
 use Rattle.record.specs.declared.record.Line.TheVariants.{Step, Log, Reply as ReplyLine}
 use Rattle.record.specs.declared.record.Row.TheVariants.{Step as Made, Idle}
@@ -29,10 +29,10 @@ use Rattle.record.specs.LawfulRun.{AreLines}
 use Rattle.record.specs.SpelledMap.{AreSpelled}
 use Rattle.record.specs.Turns.{history}
 use Rattle.record.proofs.Lemmas.{AreMapCalls}
-use Rattle.places.specs.declared.places.Change.{Change}
-use Rattle.places.specs.Entries.{IsChangeOf}
-use Rattle.places.proofs.Lemmas.{spelled}
-use Rattle.audit.specs.Edits.{MayMakeFor, HasBegunFor, AreEdits}
+use Rattle.moments.specs.declared.places.Change.{Change}
+use Rattle.moments.specs.Entries.{IsChangeOf}
+use Rattle.moments.proofs.Lemmas.{spelled}
+use Rattle.audit.specs.Edits.{MayMakeFor, HasBegunFor, AreRememberedEdits}
 use Rattle.audit.specs.Trees.{IsTreeSoFar}
 
 -- Edits
@@ -86,7 +86,7 @@ edit_entry lay c h start linked e (Map (Successor k)) x = absurd x
 edit_entry lay c h start linked e (Map (Range low high most)) x = absurd x
 
 -- what is remembered stays true with one row more
-pub edits_kept : (lay : Layout) (h : History) (r : StepRow) (begun : List (Option Command)) → AreEdits lay h begun → AreEdits lay (r ⊳ h) begun
+pub edits_kept : (lay : Layout) (h : History) (r : StepRow) (begun : List (Option Command)) → AreRememberedEdits lay h begun → AreRememberedEdits lay (r ⊳ h) begun
 edits_kept lay h r begun x s command is = begun_since lay h r s command (x s command is)
 
 got_set : {X : Type 0} (xs : List X) (i j : ℕ) (new y : X) → slice_get (set xs i new) j ≡ Some y → ((j ≡ i) × (Some new ≡ Some y)) ⊎ (slice_get xs j ≡ Some y)
@@ -97,7 +97,7 @@ got_set (x ∷ xs) (suc i) zero new y e = inr e
 got_set (x ∷ xs) (suc i) (suc j) new y e = ⊎_elim (λ q. inl (ap suc q.0, q.1)) (λ q. inr q) (got_set xs i j new y e)
 
 -- and with the edit of one that has just begun
-pub edits_set : (lay : Layout) (h : History) (r : StepRow) (begun : List (Option Command)) (s : ℕ) (command : Command) → AreEdits lay h begun → IsBegin h r s → MayMakeFor lay h s command → AreEdits lay (r ⊳ h) (set begun s (Some command))
+pub edits_set : (lay : Layout) (h : History) (r : StepRow) (begun : List (Option Command)) (s : ℕ) (command : Command) → AreRememberedEdits lay h begun → IsBegin h r s → MayMakeFor lay h s command → AreRememberedEdits lay (r ⊳ h) (set begun s (Some command))
 edits_set lay h r begun s command x b may t other is = ⊎_elim
     (λ q. let same : command ≡ other = some_command command other (some_some (Some command) (Some other) q.1) in subst (λ (k : Command). HasBegunFor lay (r ⊳ h) t k) same (subst (λ (n : ℕ). HasBegunFor lay (r ⊳ h) n command) (sym q.0) (begun_now lay h r s command b may)))
     (λ q. begun_since lay h r t other (x t other q))
@@ -126,7 +126,7 @@ module _ (lay : Layout) (tries : ℕ) (calls : List Call) (mode : lay.mode ≡ T
   tree_log entry change a is = record { run = x.run; rising = x.rising; spelled = spelled_more (Log entry) a (mode, x.run) x.rising; edits = x.edits; entries = (is, x.entries) }
 
   -- a step that begins no SCX-record but one that makes an edit, behind which levels rise
-  pub tree_step : (number : ℕ) (row : StepRow) (more : List (Option Command)) → AreLines lay tries calls (Step (Made number row) ∷ lines) → IsLawful lay (history lay.mode lines) row → ((s : ℕ) → IsBegin (history lay.mode lines) row s → TreeAllows lay (history lay.mode lines) s) → HasRisingLevels (row ⊳ history lay.mode lines) → AreEdits lay (row ⊳ history lay.mode lines) more → IsTreeSoFar lay calls more changed (Step (Made number row) ∷ lines)
+  pub tree_step : (number : ℕ) (row : StepRow) (more : List (Option Command)) → AreLines lay tries calls (Step (Made number row) ∷ lines) → IsLawful lay (history lay.mode lines) row → ((s : ℕ) → IsBegin (history lay.mode lines) row s → TreeAllows lay (history lay.mode lines) s) → HasRisingLevels (row ⊳ history lay.mode lines) → AreRememberedEdits lay (row ⊳ history lay.mode lines) more → IsTreeSoFar lay calls more changed (Step (Made number row) ∷ lines)
   unfolding Lawful Shaped
   tree_step number row more a lawful allows rising edits = record { run = run; rising = rising; spelled = spelled_more (Step (Made number row)) a (mode, run) rising; edits = edits; entries = x.entries }
     where

@@ -7,9 +7,9 @@ use Rattle.arena.specs.declared.layout.Layout.{Layout}
 use Rattle.arena.specs.declared.step.Row.{Row as StepRow}
 use Rattle.arena.specs.History.{History, ◌⊳◌, value, Extends}
 use Rattle.arena.proofs.Lemmas.{ends_self}
-use Rattle.spelling.specs.declared.pair.Pair.{Pair}
-use Rattle.spelling.specs.OrderedMap.{get}
-use Rattle.spelling.specs.Spelled.{Spells}
+use Rattle.ordered_map.specs.declared.pair.Pair.{Pair}
+use Rattle.ordered_map.specs.OrderedMap.{get}
+use Rattle.ordered_map.specs.Spelled.{Spells}
 use Rattle.script.specs.declared.call.Call.{Call}
 use Rattle.script.specs.declared.command.Command.{Command}
 use Rattle.record.specs.declared.record.Line.{Line}
@@ -26,7 +26,7 @@ use Rattle.record.specs.SpelledMap.{AreSpelled, IsSpelledAfter}
 use Rattle.record.specs.LawfulRun.{AreLines}
 use Rattle.record.specs.Replies.{IsReplyOwed}
 use Rattle.record.proofs.Lemmas.{begin_within, log_step, turn_number}
-use Rattle.places.proofs.Lemmas.{map_now}
+use Rattle.moments.proofs.Lemmas.{map_now}
 
 -- The begin of a call
 

@@ -7,7 +7,7 @@ use Rattle.arena.specs.History.{History, Start}
 use Rattle.arena.specs.Layout.{all_nodes, all_scx}
 use Rattle.arena.specs.Log.{log, is_final}
 use Rattle.script.specs.declared.call.Call.{Call}
-use Rattle.judge.specs.Histories.{history as seen}
+use Rattle.judge.specs.Histories.{seen_history}
 use Rattle.audit.specs.declared.memory.Memory.{Memory}
 use Rattle.audit.specs.declared.memory.Snapshot.{Snapshot}
 use Rattle.audit.specs.declared.steps.Steps.{Steps}
@@ -25,7 +25,7 @@ none_final : (lay : Layout) (n : ℕ) → is_final (log lay (Start lay.mode)) n 
 unfolding log
 none_final lay n = refl
 
-pub unstarted : (lay : Layout) (calls : List Call) (all : Steps) (m : Memory) (scx nodes : ℕ) → all.judge.layout ≡ lay → seen all.judge ≡ Start lay.mode → all.count ≡ 0 → scx ≡ all_scx lay → nodes ≡ all_nodes lay → all.until.items ≡ replicate scx 0 → all.finals.items ≡ replicate nodes 0 → all.memories.items ≡ replicate lay.passes m → m.look ≡ None → m.freeze ≡ None → ((n : ℕ) (kept : Option Snapshot) → slice_get m.snapshots n ≡ Some kept → kept ≡ None) → AreRemembered lay calls [] all
+pub unstarted : (lay : Layout) (calls : List Call) (all : Steps) (m : Memory) (scx nodes : ℕ) → all.judge.layout ≡ lay → seen_history all.judge ≡ Start lay.mode → all.count ≡ 0 → scx ≡ all_scx lay → nodes ≡ all_nodes lay → all.until.items ≡ replicate scx 0 → all.finals.items ≡ replicate nodes 0 → all.memories.items ≡ replicate lay.passes m → m.look ≡ None → m.freeze ≡ None → ((n : ℕ) (kept : Option Snapshot) → slice_get m.snapshots n ≡ Some kept → kept ≡ None) → AreRemembered lay calls [] all
 unstarted lay calls all m scx nodes layout is count scx_is nodes_is until finals memories look freeze snapshots = record {
   steps = record {
     layout = layout;

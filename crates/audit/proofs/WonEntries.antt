@@ -13,7 +13,7 @@ use Rattle.record.specs.Turns.{turns, answered, won, entry_owed}
 use Rattle.record.specs.MapRecord.{written_log, entries_until, entries_of_call, map_of, map_at}
 use Rattle.record.specs.LawfulRun.{AreLines}
 use Rattle.record.proofs.Lemmas.{entries_none, log_step, won_within}
-use Rattle.places.proofs.Lemmas.{map_now}
+use Rattle.moments.proofs.Lemmas.{map_now}
 use Rattle.audit.proofs.TurnMoments.{map_before}
 
 -- the entry stands behind its turn, is of the client's call, and its only one; the map before the

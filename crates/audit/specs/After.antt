@@ -15,7 +15,7 @@ use Rattle.record.specs.Replies.{IsReplyOwed}
 use Rattle.audit.specs.Calls.{IsAt}
 use Rattle.audit.specs.Remembered.{AreRemembered}
 use Rattle.audit.specs.Trees.{IsMapSoFar}
-use Rattle.judge.specs.Histories.{Judged, history as seen}
+use Rattle.judge.specs.Histories.{Judged, seen_history}
 use Rattle.audit.specs.declared.client.Client.{Client}
 use Rattle.audit.specs.declared.run.Run.{Run}
 
@@ -60,7 +60,7 @@ AreClientsAfter lay calls lines clients = (c : ℕ) (client : Client) → slice_
 -- entries, of the newest line and of each client is what they say.
 pub record IsSoFar (lay : Layout) (tries : ℕ) (calls : List Call) (judge : Judged) (states : List Client) (turned made : ℕ) (newest : Option PassNo) (due : Option Entry) (fit idles owes : Bool) (lines : List Line) : Type 0 where
   pub layout : judge.layout ≡ lay
-  pub seen : seen judge ≡ history lay.mode lines
+  pub seen : seen_history judge ≡ history lay.mode lines
   pub in_order : AreLines lay tries calls lines
   pub turn : turned ≡ turns lines
   pub entries : made ≡ entries lines

@@ -3,8 +3,8 @@
 use Rattle.std.specs.Prelude.{◌≡◌, ℕ, ◌-◌, List, Option, Some, None}
 use Rattle.arena.specs.declared.layout.Layout.{Layout}
 use Rattle.arena.specs.declared.fault.Resource.{Resource}
-use Rattle.spelling.specs.OrderedMap.{MapCall, Edit, MapEdit, edit_key, get, reply}
-use Rattle.spelling.specs.declared.reply.Reply.TheVariants.{Value}
+use Rattle.ordered_map.specs.OrderedMap.{MapCall, Edit, MapEdit, edit_key, get, reply}
+use Rattle.ordered_map.specs.declared.reply.Reply.TheVariants.{Value}
 use Rattle.script.specs.declared.call.Call.{Call}
 use Rattle.script.specs.declared.command.Command.{Command}
 use Rattle.record.specs.declared.record.Line.{Line}
@@ -15,7 +15,7 @@ use Rattle.record.specs.Answers.{HasItsEntry}
 use Rattle.record.specs.CommandRules.{enters}
 use Rattle.record.specs.Commands.{next_command}
 use Rattle.record.specs.Edits.{HadAtKey}
-use Rattle.spelling.specs.CallRules.{insert_nodes}
+use Rattle.ordered_map.specs.CallRules.{insert_nodes}
 use Rattle.record.specs.Shares.{HasTooFewToTry}
 use Rattle.record.specs.LawfulRun.{AreLines}
 use Rattle.record.specs.MapRecord.{map_at, map_call, reply_told}
@@ -23,9 +23,9 @@ use Rattle.record.specs.Placed.{IsGreatestTurn}
 use Rattle.record.specs.Replies.{IsFitting}
 use Rattle.record.specs.SpelledMap.{AreSpelled}
 use Rattle.record.specs.Turns.{history, turns, answered, begin, start, won, entry_owed}
-use Rattle.places.specs.declared.places.Change.{Change}
-use Rattle.places.specs.Entries.{AreEntries}
-use Rattle.places.specs.Ordered.{IsOrderedRead}
+use Rattle.moments.specs.declared.places.Change.{Change}
+use Rattle.moments.specs.Entries.{AreEntries}
+use Rattle.moments.specs.Ordered.{IsOrderedRead}
 use Rattle.audit.specs.declared.client.Client.{Client}
 
 -- The lines so far are lawful ones, in which the words spell the map, and the changes are those of

@@ -20,7 +20,8 @@ use Rattle.audit.specs.declared.memory.Memory.{Memory}
 abbrev pub AreSameAt : Layout → History → (ℕ → Option History) → List ℕ → List Bool → Type 0
 AreSameAt lay at linked cells same = (place n : ℕ) → slice_get cells place ≡ Some n → slice_get same place ≡ Some true → IsAsSnapped lay at linked n
 
--- what is known of a call of client c that began at `start`, with the snapshots that the client keeps
+-- what is known of a call of client c that began at `start`,
+-- with the snapshots that the client keeps
 pub record IsCallSeen (lay : Layout) (c : ℕ) (h start : History) (linked : ℕ → Option History) (memory : Memory) : Type 0 where
   pub started : IsMomentAt h memory.begun start
   pub nodes : HasNodesLeft lay c start memory.nodes
@@ -29,7 +30,8 @@ pub record IsCallSeen (lay : Layout) (c : ℕ) (h start : History) (linked : ℕ
   pub freezes : (look : Look) → memory.freeze ≡ Some look → IsLookOf lay h c Freeze look
   pub snapshots : AreSnapshotsOf lay h memory linked
 
--- the last look of a kind was made behind the first so many steps, at this node, where it found this
+-- the last look of a kind was made behind the first so many steps,
+-- at this node, where it found this
 pub record IsLookAt (look : Option Look) (node found after : ℕ) : Type 0 where
   pub kept : Look
   pub is : look ≡ Some kept

@@ -3,11 +3,11 @@ use Rattle.std.specs.Prelude.{◌≡◌, ℕ, List, Option, Some, slice_get}
 use Rattle.arena.specs.declared.layout.Layout.{Layout}
 use Rattle.arena.specs.History.{History}
 use Rattle.script.specs.declared.command.Command.{Command}
-use Rattle.spelling.specs.declared.request.Request.TheVariants.{Insert as InsertOf, Delete as DeleteOf}
+use Rattle.ordered_map.specs.declared.request.Request.TheVariants.{Insert as InsertOf, Delete as DeleteOf}
 use Rattle.script.specs.declared.command.Command.TheVariants.{Map}
-use Rattle.spelling.specs.OrderedMap.{Insert, Delete}
-use Rattle.spelling.specs.Runs.{Makes}
-use Rattle.spelling.specs.TreeShape.{MayEdit}
+use Rattle.ordered_map.specs.OrderedMap.{Insert, Delete}
+use Rattle.ordered_map.specs.Runs.{Makes}
+use Rattle.ordered_map.specs.TreeShape.{MayEdit}
 
 -- the SCX-record may make the edit of this command
 abbrev pub MayMakeFor : Layout → History → ℕ → Command → Type 0
@@ -22,5 +22,5 @@ HasBegunFor lay h s (Map (DeleteOf key)) = Makes lay h s (Delete key)
 HasBegunFor lay h s _ = ⊥
 
 -- of each SCX-record whose edit is remembered that is the one with which it has begun
-abbrev pub AreEdits : Layout → History → List (Option Command) → Type 0
-AreEdits lay h edits = (s : ℕ) (command : Command) → slice_get edits s ≡ Some (Some command) → HasBegunFor lay h s command
+abbrev pub AreRememberedEdits : Layout → History → List (Option Command) → Type 0
+AreRememberedEdits lay h edits = (s : ℕ) (command : Command) → slice_get edits s ≡ Some (Some command) → HasBegunFor lay h s command

@@ -11,7 +11,7 @@ use Rattle.arena.specs.History.{History, Start, ◌⊳◌, Extends, value}
 use Rattle.arena.specs.Layout.{all_nodes, all_scx}
 use Rattle.arena.specs.Log.{log, last, is_final}
 use Rattle.arena.specs.Words.{info}
-use Rattle.spelling.specs.Tries.{tries_begun, IsNewestTry}
+use Rattle.ordered_map.specs.Tries.{tries_begun, IsNewestTry}
 use Rattle.script.specs.declared.call.Call.{Call}
 use Rattle.script.specs.declared.cells.Cells.{Cells}
 use Rattle.script.specs.declared.command.Command.{Command}
@@ -23,7 +23,7 @@ use Rattle.record.specs.Commands.{next_command}
 use Rattle.record.specs.Linked.{linked}
 use Rattle.record.specs.Shares.{HasNodesLeft, HasScxLeft}
 use Rattle.record.specs.Turns.{history, begin, start}
-use Rattle.judge.specs.Histories.{history as seen}
+use Rattle.judge.specs.Histories.{seen_history}
 use Rattle.audit.specs.declared.memory.Memory.{Memory}
 use Rattle.audit.specs.declared.memory.Look.{Look}
 use Rattle.audit.specs.declared.memory.Snapshot.{Snapshot}
@@ -31,14 +31,14 @@ use Rattle.audit.specs.declared.memory.Tries.{Tries}
 use Rattle.audit.specs.declared.steps.Steps.{Steps}
 
 -- how many rows a history has
-abbrev pub rows_of : History → ℕ
-rows_of (Start mode) = 0
-rows_of (row ⊳ h) = suc (rows_of h)
+abbrev pub row_count : History → ℕ
+row_count (Start mode) = 0
+row_count (row ⊳ h) = suc (row_count h)
 
 -- g is the moment of h after its first so many rows
 pub record IsMomentAt (h : History) (rows : ℕ) (g : History) : Type 0 where
   pub within : Extends h g
-  pub many : rows_of g ≡ rows
+  pub many : row_count g ≡ rows
 
 -- after so many rows of h SCX-record s was in progress
 abbrev pub WasRunningAt : History → ℕ → ℕ → Type 0
@@ -47,15 +47,15 @@ WasRunningAt h rows s = (g : History) × IsMomentAt h rows g × IsInProgress g s
 -- what is kept of all steps is what the history h says
 pub record AreStepsOf (lay : Layout) (h : History) (steps : Steps) : Type 0 where
   pub layout : steps.judge.layout ≡ lay
-  pub is_seen : seen steps.judge ≡ h
-  pub count : steps.count ≡ rows_of h
+  pub is_seen : seen_history steps.judge ≡ h
+  pub count : steps.count ≡ row_count h
   pub all_until : length steps.until.items ≡ all_scx lay
   -- of a finished SCX-record: so many rows of h there were as it was still in progress
   pub until : (s rows : ℕ) → slice_get steps.until.items s ≡ Some rows → 0 < rows → WasRunningAt h rows s
   pub all_finals : length steps.finals.items ≡ all_nodes lay
   -- of each node: since when it is final
-  pub finals : (n rows : ℕ) → slice_get steps.finals.items n ≡ Some rows → (g : History) → Extends h g → (is_final (log lay g) n ≡ true) ↔ ((0 < rows) × (rows ≤ rows_of g))
-  pub finals_within : (n rows : ℕ) → slice_get steps.finals.items n ≡ Some rows → rows ≤ rows_of h
+  pub finals : (n rows : ℕ) → slice_get steps.finals.items n ≡ Some rows → (g : History) → Extends h g → (is_final (log lay g) n ≡ true) ↔ ((0 < rows) × (rows ≤ row_count g))
+  pub finals_within : (n rows : ℕ) → slice_get steps.finals.items n ≡ Some rows → rows ≤ row_count h
   pub all_memories : length steps.memories.items ≡ lay.passes
 
 -- the look is the last step of this kind that the pass c has made, with what it has found and the
@@ -64,7 +64,7 @@ pub record IsLookOf (lay : Layout) (h : History) (c : ℕ) (kind : Kind) (look :
   pub row : Row
   pub before : History
   pub newest : IsLastStep c h kind look.node.0 row before
-  pub many : look.steps ≡ rows_of (row ⊳ before)
+  pub many : look.steps ≡ row_count (row ⊳ before)
   pub found : look.found ≡ value before (info look.node.0)
   pub last_entry : look.last ≡ last (log lay (row ⊳ before)) look.node.0
 
@@ -87,7 +87,7 @@ pub record AreTriesSince (h start : History) (c : ℕ) (tries : Tries) : Type 0 
 -- What is remembered of the begin of a call of client c: the history was `start` then, `linked` are
 -- the moments of the snapshots that the client keeps, and `next` is the call's command.
 pub record IsBegunWith (lay : Layout) (h start : History) (linked : ℕ → Option History) (next : Option Command) (c : ℕ) (memory : Memory) : Type 0 where
-  pub begun : memory.begun ≡ rows_of start
+  pub begun : memory.begun ≡ row_count start
   pub within : Extends h start
   pub nodes : HasNodesLeft lay c start memory.nodes
   pub scx : HasScxLeft lay c start memory.scx
@@ -112,6 +112,6 @@ pub record AreRemembered (lay : Layout) (calls : List Call) (lines : List Line) 
   pub memories : (c : ℕ) (memory : Memory) → slice_get all.memories.items c ≡ Some memory → IsMemoryOf lay calls lines c memory
 
 -- all that is remembered, where the call of client c has begun, or begins now
-pub record AreBegun (lay : Layout) (calls : List Call) (lines : List Line) (c : ℕ) (all : Steps) : Type 0 where
+pub record AreRememberedInCall (lay : Layout) (calls : List Call) (lines : List Line) (c : ℕ) (all : Steps) : Type 0 where
   pub remembered : AreRemembered lay calls lines all
   pub begun : (memory : Memory) → slice_get all.memories.items c ≡ Some memory → IsBegunWith lay (history lay.mode lines) (start lay.mode lines c) (linked calls lay.mode lines c) (next_command calls lines c) c memory

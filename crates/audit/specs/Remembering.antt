@@ -8,7 +8,7 @@ use Rattle.arena.specs.History.{History}
 use Rattle.arena.specs.Log.{log, last, is_final}
 use Rattle.arena.specs.ScxRecords.{member}
 use Rattle.arena.specs.Words.{info}
-use Rattle.spelling.specs.Tries.{begins_try}
+use Rattle.ordered_map.specs.Tries.{begins_try}
 use Rattle.audit.specs.declared.memory.Look.{Look}
 use Rattle.audit.specs.declared.memory.Memory.{Memory}
 use Rattle.audit.specs.declared.memory.Tries.{Tries}
@@ -32,17 +32,18 @@ abbrev pub tried : Bool → ℕ → Tries → Tries
 tried true rows old = record { many = suc old.many; before = rows - 1 }
 tried false rows old = old
 
--- it was noted what the row has found, as the last of so many rows of h, and whether it begins a try
+-- it was noted what the row has found,
+-- as the last of so many rows of h, and whether it begins a try
 pub record IsNoted (lay : Layout) (h : History) (rows : ℕ) (row : Row) (old new : Memory) : Type 0 where
   pub seen : Option Look
   pub by : (look : Look) → seen ≡ Some look → IsLookBy lay h rows row look
   pub is : new ≡ record (noted row.kind seen old) { tries = new.tries }
   pub tries : old.tries.many + 1 < 2 ^ 64 → new.tries ≡ tried (begins_try row.pass.0 row) rows old.tries
 
--- what is remembered of since when node n is final, which was `before`, is so many rows after it was
--- noted of the nodes of SCX-record s below this place
-abbrev pub IsFinalBy : Layout → History → ℕ → ℕ → ℕ → Option ℕ → ℕ → ℕ → Type 0
-IsFinalBy lay h s places rows before n after = ((before ≡ Some after) × (after ≡ 0 → (j : ℕ) → j < places → member h s j ≡ n → is_final (log lay h) n ≡ false)) ⊎ ((before ≡ Some 0) × (after ≡ rows) × (is_final (log lay h) n ≡ true))
+-- what is remembered of since when node n is final, which was `before`, is so many rows after it
+-- was noted of the nodes of SCX-record s below this place
+abbrev pub IsRememberedFinal : Layout → History → ℕ → ℕ → ℕ → Option ℕ → ℕ → ℕ → Type 0
+IsRememberedFinal lay h s places rows before n after = ((before ≡ Some after) × (after ≡ 0 → (j : ℕ) → j < places → member h s j ≡ n → is_final (log lay h) n ≡ false)) ⊎ ((before ≡ Some 0) × (after ≡ rows) × (is_final (log lay h) n ≡ true))
 
 -- the same, of the node at this place alone
 abbrev pub IsMadeFinal : Layout → History → ℕ → ℕ → ℕ → Option ℕ → ℕ → ℕ → Type 0

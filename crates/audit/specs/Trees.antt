@@ -5,16 +5,16 @@ use Rattle.arena.specs.declared.layout.Layout.{Layout}
 use Rattle.arena.specs.Machines.{IsRun}
 use Rattle.script.specs.declared.call.Call.{Call}
 use Rattle.script.specs.declared.command.Command.{Command}
-use Rattle.spelling.specs.FillOrder.{HasRisingLevels}
-use Rattle.spelling.specs.TreeShape.{TreeAllows}
+use Rattle.ordered_map.specs.FillOrder.{HasRisingLevels}
+use Rattle.ordered_map.specs.TreeShape.{TreeAllows}
 use Rattle.record.specs.declared.record.Line.{Line}
 use Rattle.record.specs.SpelledMap.{AreSpelled}
 use Rattle.record.specs.Turns.{history}
-use Rattle.places.specs.declared.places.Change.{Change}
-use Rattle.places.specs.declared.places.Places.{Places}
-use Rattle.places.specs.Places.{changes, Knows, HoldsOfKey}
-use Rattle.places.specs.Entries.{AreEntries}
-use Rattle.audit.specs.Edits.{AreEdits}
+use Rattle.moments.specs.declared.places.Change.{Change}
+use Rattle.moments.specs.declared.places.Places.{Places}
+use Rattle.moments.specs.Places.{changes, Knows, HoldsOfKey}
+use Rattle.moments.specs.Entries.{AreEntries}
+use Rattle.audit.specs.Edits.{AreRememberedEdits}
 
 -- each SCX-record that has begun makes an edit, levels rise, and the words spell the map so far
 -- after each step; the edits that are remembered and the changes are those of the lines
@@ -22,10 +22,11 @@ pub record IsTreeSoFar (lay : Layout) (calls : List Call) (begun : List (Option 
   pub run : IsRun TreeAllows lay (history lay.mode lines)
   pub rising : HasRisingLevels (history lay.mode lines)
   pub spelled : AreSpelled lay calls lines
-  pub edits : AreEdits lay (history lay.mode lines) begun
+  pub edits : AreRememberedEdits lay (history lay.mode lines) begun
   pub entries : AreEntries calls lines changed
 
--- the keys that calls may change are known, and on the tree what is remembered is what the lines say
+-- the keys that calls may change are known,
+-- and on the tree what is remembered is what the lines say
 pub record IsMapSoFar (lay : Layout) (calls : List Call) (begun : List (Option Command)) (places : Places) (lines : List Line) : Type 0 where
   pub keys : All (λ (call : Call). HoldsOfKey (Knows places) call.command) calls
   pub tree : lay.mode ≡ Tree → IsTreeSoFar lay calls begun (changes places) lines

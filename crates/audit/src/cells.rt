@@ -27,7 +27,7 @@ ghost use Rattle.record.specs.Rules.Set.{SetIsRight, IsSetEntry};
 ghost use Rattle.record.specs.Rules.Vlx.{VlxIsRight};
 ghost use Rattle.record.specs.Snapshots.{AreLinked, IsBehindAll, IsFirstUnlinked, IsLastLook};
 ghost use Rattle.record.specs.Turns.{history, begin, start};
-ghost use Rattle.judge.specs.Histories.{history as seen};
+ghost use Rattle.judge.specs.Histories.{seen_history};
 ghost use Rattle.audit.specs.After.{IsClientAfter};
 ghost use Rattle.audit.specs.CellCalls.{AreSameAt, IsCallSeen, IsLookAt, IsOwnLook, IsAsLooked, IsOverCells, IsFreshWith};
 ghost use Rattle.audit.specs.Remembered.{AreStepsOf, AreRemembered, AreSnapshotsOf, IsLookOf};
@@ -43,7 +43,7 @@ use script::{Cell, Cells, Command, Update};
 /// Whether an entry of this SCX-record is one that the client's call of cells makes.
 pub(crate) fn is_entry_for(steps: &Steps, client: &Client, command: &Command, scx: ScxNo) -> bool
     requires { client.now.pass.0 < steps.now.judge.layout.passes }
-    ensures { (lay : Layout) (calls : List CallOf) (lines : List Line) → AreRemembered lay calls lines steps.now → client.now.begun ≡ begin lines client.now.pass.0 → (row : StepRow) (n : ℕ) (side : SideOf) → IsWin (seen steps.now.judge) row scx.0 → row.word ≡ child n side → IsTrue result → IsEntryFor lay client.now.pass.0 (seen steps.now.judge) (start lay.mode lines client.now.pass.0) (linked calls lay.mode lines client.now.pass.0) (entered lay (seen steps.now.judge) scx.0 n side row.after) command.now }
+    ensures { (lay : Layout) (calls : List CallOf) (lines : List Line) → AreRemembered lay calls lines steps.now → client.now.begun ≡ begin lines client.now.pass.0 → (row : StepRow) (n : ℕ) (side : SideOf) → IsWin (seen_history steps.now.judge) row scx.0 → row.word ≡ child n side → IsTrue result → IsEntryFor lay client.now.pass.0 (seen_history steps.now.judge) (start lay.mode lines client.now.pass.0) (linked calls lay.mode lines client.now.pass.0) (entered lay (seen_history steps.now.judge) scx.0 n side row.after) command.now }
 {
     match command {
         Command::Scx(update) => is_scx_entry(steps, client, update, scx),
@@ -55,7 +55,7 @@ pub(crate) fn is_entry_for(steps: &Steps, client: &Client, command: &Command, sc
 /// Whether it is one that an SCX with this update makes.
 fn is_scx_entry(steps: &Steps, client: &Client, update: &Update, scx: ScxNo) -> bool
     requires { client.now.pass.0 < steps.now.judge.layout.passes }
-    ensures { (lay : Layout) (calls : List CallOf) (lines : List Line) → AreRemembered lay calls lines steps.now → (row : StepRow) (n : ℕ) (side : SideOf) → IsWin (seen steps.now.judge) row scx.0 → row.word ≡ child n side → IsTrue result → IsScxEntry update.now lay client.now.pass.0 (seen steps.now.judge) (start lay.mode lines client.now.pass.0) (linked calls lay.mode lines client.now.pass.0) (entered lay (seen steps.now.judge) scx.0 n side row.after) }
+    ensures { (lay : Layout) (calls : List CallOf) (lines : List Line) → AreRemembered lay calls lines steps.now → (row : StepRow) (n : ℕ) (side : SideOf) → IsWin (seen_history steps.now.judge) row scx.0 → row.word ≡ child n side → IsTrue result → IsScxEntry update.now lay client.now.pass.0 (seen_history steps.now.judge) (start lay.mode lines client.now.pass.0) (linked calls lay.mode lines client.now.pass.0) (entered lay (seen_history steps.now.judge) scx.0 n side row.after) }
 {
     let (judge, memory) = (&steps.judge, steps.memory(client.pass));
     is_over(judge, scx, update.cells(), update.finalize())
@@ -73,7 +73,7 @@ fn is_set_entry(
     scx: ScxNo,
 ) -> bool
     requires { client.now.pass.0 < steps.now.judge.layout.passes }
-    ensures { (lay : Layout) (calls : List CallOf) (lines : List Line) → AreRemembered lay calls lines steps.now → client.now.begun ≡ begin lines client.now.pass.0 → (row : StepRow) (n : ℕ) (side : SideOf) → IsWin (seen steps.now.judge) row scx.0 → row.word ≡ child n side → IsTrue result → IsSetEntry field.now value lay client.now.pass.0 (seen steps.now.judge) (start lay.mode lines client.now.pass.0) (linked calls lay.mode lines client.now.pass.0) (entered lay (seen steps.now.judge) scx.0 n side row.after) }
+    ensures { (lay : Layout) (calls : List CallOf) (lines : List Line) → AreRemembered lay calls lines steps.now → client.now.begun ≡ begin lines client.now.pass.0 → (row : StepRow) (n : ℕ) (side : SideOf) → IsWin (seen_history steps.now.judge) row scx.0 → row.word ≡ child n side → IsTrue result → IsSetEntry field.now value lay client.now.pass.0 (seen_history steps.now.judge) (start lay.mode lines client.now.pass.0) (linked calls lay.mode lines client.now.pass.0) (entered lay (seen_history steps.now.judge) scx.0 n side row.after) }
 {
     let (judge, memory) = (&steps.judge, steps.memory(client.pass));
     let cell = Cells::one(field.0);
@@ -85,20 +85,20 @@ fn is_set_entry(
 }
 
 fn scx_word(judge: &Judge, scx: ScxNo, part: ScxWord) -> u64
-    ensures { result ≡ value (seen judge.now) (scx_of scx.0 part) }
+    ensures { result ≡ value (seen_history judge.now) (scx_of scx.0 part) }
 {
     judge.get(Word::Scx(scx, part))
 }
 
 fn node_word(judge: &Judge, node: u64, part: NodeWord) -> u64
-    ensures { result ≡ value (seen judge.now) (node_of node part) }
+    ensures { result ≡ value (seen_history judge.now) (node_of node part) }
 {
     judge.get(Word::Node(NodeNo(node), part))
 }
 
 /// What an SCX-record covers, finalizes and changes.
 fn plan(judge: &Judge, scx: ScxNo) -> Plan
-    ensures { result.0 ≡ plan_of (seen judge.now) scx.0 }
+    ensures { result.0 ≡ plan_of (seen_history judge.now) scx.0 }
 {
     Plan(scx_word(judge, scx, ScxWord::Plan))
 }
@@ -107,7 +107,7 @@ fn plan(judge: &Judge, scx: ScxNo) -> Plan
 /// in the second list.
 fn is_over(judge: &Judge, scx: ScxNo, cells: &[Cell], finalized: &[Cell]) -> bool
     requires { (n : ℕ) → has finalized.now n ≡ true → has cells.now n ≡ true }
-    ensures { IsTrue result → IsOverCells (seen judge.now) scx.0 cells.now finalized.now }
+    ensures { IsTrue result → IsOverCells (seen_history judge.now) scx.0 cells.now finalized.now }
 {
     let plan = plan(judge, scx);
     if usize::from(plan.count()) != cells.len() {
@@ -136,8 +136,8 @@ fn finalizes(plan: Plan, place: u8) -> bool
 
 /// Whether an SCX-record changes this field.
 fn is_into(judge: &Judge, scx: ScxNo, field: &(Cell, Side)) -> bool
-    ensures node { IsTrue result → member_of (seen judge.now) scx.0 (field_index (seen judge.now) scx.0) ≡ field.now.0 }
-    ensures side { IsTrue result → side_of (plan_of (seen judge.now) scx.0) ≡ field.now.1 }
+    ensures node { IsTrue result → member_of (seen_history judge.now) scx.0 (field_index (seen_history judge.now) scx.0) ≡ field.now.0 }
+    ensures side { IsTrue result → side_of (plan_of (seen_history judge.now) scx.0) ≡ field.now.1 }
 {
     let plan = plan(judge, scx);
     let node = scx_word(judge, scx, ScxWord::Member(plan.at().number()));
@@ -148,7 +148,7 @@ fn is_into(judge: &Judge, scx: ScxNo, field: &(Cell, Side)) -> bool
 /// are 0.
 fn is_fresh(judge: &Judge, pass: PassNo, scx: ScxNo, value: u64) -> bool
     requires { pass.0 < judge.now.layout.passes }
-    ensures { IsTrue result → IsFreshWith judge.now.layout pass.0 (seen judge.now) (new_of (seen judge.now) scx.0) value }
+    ensures { IsTrue result → IsFreshWith judge.now.layout pass.0 (seen_history judge.now) (new_of (seen_history judge.now) scx.0) value }
 {
     let new = scx_word(judge, scx, ScxWord::New);
     is_own_node(judge.layout(), pass, new)
@@ -159,15 +159,15 @@ fn is_fresh(judge: &Judge, pass: PassNo, scx: ScxNo, value: u64) -> bool
 
 /// Whether a cell is under no entry later than this one, and not final.
 fn is_unchanged(judge: &Judge, cell: NodeNo, entry: u64) -> bool
-    ensures last { IsTrue result → last (log judge.now.layout (seen judge.now)) cell.0 ≡ entry }
-    ensures not_final { IsTrue result → is_final (log judge.now.layout (seen judge.now)) cell.0 ≡ false }
+    ensures last { IsTrue result → last (log judge.now.layout (seen_history judge.now)) cell.0 ≡ entry }
+    ensures not_final { IsTrue result → is_final (log judge.now.layout (seen_history judge.now)) cell.0 ≡ false }
 {
     judge.last(cell) == entry && !judge.is_final(cell)
 }
 
 /// Whether a cell is as the client's snapshot says.
 fn is_as_snapped(judge: &Judge, memory: &Memory, cell: NodeNo) -> bool
-    ensures { (linked : ℕ → Option History) → AreSnapshotsOf judge.now.layout (seen judge.now) memory.now linked → IsTrue result → IsAsSnapped judge.now.layout (seen judge.now) linked cell.0 }
+    ensures { (linked : ℕ → Option History) → AreSnapshotsOf judge.now.layout (seen_history judge.now) memory.now linked → IsTrue result → IsAsSnapped judge.now.layout (seen_history judge.now) linked cell.0 }
 {
     match memory.snapshot(cell) {
         Some(kept) => is_unchanged(judge, cell, kept.last),
@@ -176,7 +176,7 @@ fn is_as_snapped(judge: &Judge, memory: &Memory, cell: NodeNo) -> bool
 }
 
 fn are_unchanged(judge: &Judge, memory: &Memory, cells: &[Cell]) -> bool
-    ensures { (linked : ℕ → Option History) → AreSnapshotsOf judge.now.layout (seen judge.now) memory.now linked → IsTrue result → AreUnchanged judge.now.layout (seen judge.now) linked cells.now }
+    ensures { (linked : ℕ → Option History) → AreSnapshotsOf judge.now.layout (seen_history judge.now) memory.now linked → IsTrue result → AreUnchanged judge.now.layout (seen_history judge.now) linked cells.now }
 {
     for cell in cells {
         if !is_as_snapped(judge, memory, cell.node()) {
@@ -198,7 +198,7 @@ fn own_look(memory: &Memory, cell: NodeNo) -> Option<Look>
 
 /// Whether a cell is as the last look of the call's own LLX has found it.
 fn is_as_looked(judge: &Judge, memory: &Memory, cell: NodeNo) -> bool
-    ensures { (c : ℕ) (start : History) (linked : ℕ → Option History) → IsCallSeen judge.now.layout c (seen judge.now) start linked memory.now → IsTrue result → IsAsLooked judge.now.layout c (seen judge.now) start cell.0 }
+    ensures { (c : ℕ) (start : History) (linked : ℕ → Option History) → IsCallSeen judge.now.layout c (seen_history judge.now) start linked memory.now → IsTrue result → IsAsLooked judge.now.layout c (seen_history judge.now) start cell.0 }
 {
     match own_look(memory, cell) {
         Some(look) => is_unchanged(judge, cell, look.last),
@@ -208,7 +208,7 @@ fn is_as_looked(judge: &Judge, memory: &Memory, cell: NodeNo) -> bool
 
 /// Of each of the cells of a `vlx`: whether it is as the client's snapshot says.
 pub(crate) fn same_cells(judge: &Judge, memory: &Memory, cells: &[Cell]) -> [bool; 4]
-    ensures { (linked : ℕ → Option History) → AreSnapshotsOf judge.now.layout (seen judge.now) memory.now linked → AreSameAt judge.now.layout (seen judge.now) linked cells.now result }
+    ensures { (linked : ℕ → Option History) → AreSnapshotsOf judge.now.layout (seen_history judge.now) memory.now linked → AreSameAt judge.now.layout (seen_history judge.now) linked cells.now result }
 {
     [
         is_same(judge, memory, cells, 0),
@@ -220,7 +220,7 @@ pub(crate) fn same_cells(judge: &Judge, memory: &Memory, cells: &[Cell]) -> [boo
 
 /// Whether the cell at a place is, if there is one.
 fn is_same(judge: &Judge, memory: &Memory, cells: &[Cell], place: usize) -> bool
-    ensures { (linked : ℕ → Option History) → AreSnapshotsOf judge.now.layout (seen judge.now) memory.now linked → IsTrue result → (n : ℕ) → slice_get cells.now place ≡ Some n → IsAsSnapped judge.now.layout (seen judge.now) linked n }
+    ensures { (linked : ℕ → Option History) → AreSnapshotsOf judge.now.layout (seen_history judge.now) memory.now linked → IsTrue result → (n : ℕ) → slice_get cells.now place ≡ Some n → IsAsSnapped judge.now.layout (seen_history judge.now) linked n }
 {
     match cells.get(place) {
         Some(cell) => is_as_snapped(judge, memory, cell.node()),
@@ -270,7 +270,7 @@ fn is_true(steps: &Steps, pass: PassNo, command: &Command, answer: &Answer) -> b
 
 fn is_true_of_llx(steps: &Steps, pass: PassNo, memory: &Memory, cell: Cell, answer: &Answer) -> bool
     requires { steps.now.judge.layout.mode ≡ Records }
-    ensures { (start : History) (linked : ℕ → Option History) → AreStepsOf steps.now.judge.layout (seen steps.now.judge) steps.now → IsCallSeen steps.now.judge.layout pass.0 (seen steps.now.judge) start linked memory.now → IsTrue result → LlxIsRight cell steps.now.judge.layout pass.0 (seen steps.now.judge) start linked answer.now }
+    ensures { (start : History) (linked : ℕ → Option History) → AreStepsOf steps.now.judge.layout (seen_history steps.now.judge) steps.now → IsCallSeen steps.now.judge.layout pass.0 (seen_history steps.now.judge) start linked memory.now → IsTrue result → LlxIsRight cell steps.now.judge.layout pass.0 (seen_history steps.now.judge) start linked answer.now }
 {
     match answer {
         Answer::Snapshot { left, right } => is_snapshot(&steps.judge, cell.node(), (*left, *right)),
@@ -284,7 +284,7 @@ fn is_true_of_llx(steps: &Steps, pass: PassNo, memory: &Memory, cell: Cell, answ
 
 /// Whether these are the fields of a cell, which is not final.
 fn is_snapshot(judge: &Judge, cell: NodeNo, fields: (NodeNo, NodeNo)) -> bool
-    ensures { IsTrue result → IsSnapshotAt judge.now.layout (seen judge.now) cell.0 fields.0.0 fields.1.0 }
+    ensures { IsTrue result → IsSnapshotAt judge.now.layout (seen_history judge.now) cell.0 fields.0.0 fields.1.0 }
 {
     judge.laws_hold();
     !judge.is_final(cell)
@@ -297,7 +297,7 @@ fn is_snapshot(judge: &Judge, cell: NodeNo, fields: (NodeNo, NodeNo)) -> bool
 /// finished; and the cell was not final at the begin.
 fn has_failed(steps: &Steps, pass: PassNo, memory: &Memory, cell: Cell, scx: ScxNo) -> bool
     requires { steps.now.judge.layout.mode ≡ Records }
-    ensures { (start : History) (linked : ℕ → Option History) → AreStepsOf steps.now.judge.layout (seen steps.now.judge) steps.now → IsCallSeen steps.now.judge.layout pass.0 (seen steps.now.judge) start linked memory.now → IsTrue result → HasFailed steps.now.judge.layout pass.0 (seen steps.now.judge) start cell scx.0 }
+    ensures { (start : History) (linked : ℕ → Option History) → AreStepsOf steps.now.judge.layout (seen_history steps.now.judge) steps.now → IsCallSeen steps.now.judge.layout pass.0 (seen_history steps.now.judge) start linked memory.now → IsTrue result → HasFailed steps.now.judge.layout pass.0 (seen_history steps.now.judge) start cell scx.0 }
 {
     let blamed = (cell.node(), scx);
     has_found(memory.look, blamed, memory.begun)
@@ -331,7 +331,7 @@ fn is_true_of_scx(
     answer: &Answer,
 ) -> bool
     requires { pass.0 < steps.now.judge.layout.passes }
-    ensures { (start : History) (linked : ℕ → Option History) → AreStepsOf steps.now.judge.layout (seen steps.now.judge) steps.now → IsCallSeen steps.now.judge.layout pass.0 (seen steps.now.judge) start linked memory.now → IsTrue result → ScxIsRight update.now steps.now.judge.layout pass.0 (seen steps.now.judge) start linked answer.now }
+    ensures { (start : History) (linked : ℕ → Option History) → AreStepsOf steps.now.judge.layout (seen_history steps.now.judge) steps.now → IsCallSeen steps.now.judge.layout pass.0 (seen_history steps.now.judge) start linked memory.now → IsTrue result → ScxIsRight update.now steps.now.judge.layout pass.0 (seen_history steps.now.judge) start linked answer.now }
 {
     let cells = update.cells();
     match answer {
@@ -356,7 +356,7 @@ fn is_true_of_vlx(
     cells: &Cells,
     answer: &Answer,
 ) -> bool
-    ensures { (start : History) (linked : ℕ → Option History) → AreStepsOf steps.now.judge.layout (seen steps.now.judge) steps.now → IsCallSeen steps.now.judge.layout pass.0 (seen steps.now.judge) start linked memory.now → AreSameAt steps.now.judge.layout start linked (cells_of cells.now) memory.now.same → IsTrue result → VlxIsRight cells.now steps.now.judge.layout pass.0 (seen steps.now.judge) start linked answer.now }
+    ensures { (start : History) (linked : ℕ → Option History) → AreStepsOf steps.now.judge.layout (seen_history steps.now.judge) steps.now → IsCallSeen steps.now.judge.layout pass.0 (seen_history steps.now.judge) start linked memory.now → AreSameAt steps.now.judge.layout start linked (cells_of cells.now) memory.now.same → IsTrue result → VlxIsRight cells.now steps.now.judge.layout pass.0 (seen_history steps.now.judge) start linked answer.now }
 {
     let cells = cells.as_slice();
     match answer {
@@ -374,7 +374,7 @@ fn is_true_of_vlx(
 fn is_true_of_set(steps: &Steps, pass: PassNo, memory: &Memory, cell: Cell, answer: &Answer) -> bool
     requires pass { pass.0 < steps.now.judge.layout.passes }
     requires cells { steps.now.judge.layout.mode ≡ Records }
-    ensures { (start : History) (linked : ℕ → Option History) (side : SideOf) (x : ℕ) → AreStepsOf steps.now.judge.layout (seen steps.now.judge) steps.now → IsCallSeen steps.now.judge.layout pass.0 (seen steps.now.judge) start linked memory.now → IsTrue result → SetIsRight (cell, side) x steps.now.judge.layout pass.0 (seen steps.now.judge) start linked answer.now }
+    ensures { (start : History) (linked : ℕ → Option History) (side : SideOf) (x : ℕ) → AreStepsOf steps.now.judge.layout (seen_history steps.now.judge) steps.now → IsCallSeen steps.now.judge.layout pass.0 (seen_history steps.now.judge) start linked memory.now → IsTrue result → SetIsRight (cell, side) x steps.now.judge.layout pass.0 (seen_history steps.now.judge) start linked answer.now }
 {
     match answer {
         Answer::Finalized => steps.judge.is_final(cell.node()),
@@ -396,8 +396,8 @@ fn is_true_of_set(steps: &Steps, pass: PassNo, memory: &Memory, cell: Cell, answ
 /// Whether the last step of all is the client's look at a cell's info, in this call, and the cell is
 /// not final.
 fn has_just_looked(steps: &Steps, memory: &Memory, cell: NodeNo) -> bool
-    ensures look { (c : ℕ) (start : History) (linked : ℕ → Option History) → AreStepsOf steps.now.judge.layout (seen steps.now.judge) steps.now → IsCallSeen steps.now.judge.layout c (seen steps.now.judge) start linked memory.now → IsTrue result → IsLastLook c (seen steps.now.judge) start (seen steps.now.judge) cell.0 }
-    ensures not_final { IsTrue result → is_final (log steps.now.judge.layout (seen steps.now.judge)) cell.0 ≡ false }
+    ensures look { (c : ℕ) (start : History) (linked : ℕ → Option History) → AreStepsOf steps.now.judge.layout (seen_history steps.now.judge) steps.now → IsCallSeen steps.now.judge.layout c (seen_history steps.now.judge) start linked memory.now → IsTrue result → IsLastLook c (seen_history steps.now.judge) start (seen_history steps.now.judge) cell.0 }
+    ensures not_final { IsTrue result → is_final (log steps.now.judge.layout (seen_history steps.now.judge)) cell.0 ≡ false }
 {
     match own_look(memory, cell) {
         Some(look) => look.steps == steps.count && !steps.judge.is_final(cell),
@@ -410,7 +410,7 @@ fn has_just_looked(steps: &Steps, memory: &Memory, cell: NodeNo) -> bool
 /// not final.
 fn has_lost(steps: &Steps, pass: PassNo, memory: &Memory, cell: Cell, scx: ScxNo) -> bool
     requires { steps.now.judge.layout.mode ≡ Records }
-    ensures { (start : History) (linked : ℕ → Option History) → AreStepsOf steps.now.judge.layout (seen steps.now.judge) steps.now → IsCallSeen steps.now.judge.layout pass.0 (seen steps.now.judge) start linked memory.now → IsTrue result → IsInTheWay steps.now.judge.layout pass.0 (seen steps.now.judge) start Freeze (cell ∷ []) cell scx.0 (λ moment. IsLastLook pass.0 (seen steps.now.judge) start moment cell × (is_final (log steps.now.judge.layout moment) cell ≡ false)) }
+    ensures { (start : History) (linked : ℕ → Option History) → AreStepsOf steps.now.judge.layout (seen_history steps.now.judge) steps.now → IsCallSeen steps.now.judge.layout pass.0 (seen_history steps.now.judge) start linked memory.now → IsTrue result → IsInTheWay steps.now.judge.layout pass.0 (seen_history steps.now.judge) start Freeze (cell ∷ []) cell scx.0 (λ moment. IsLastLook pass.0 (seen_history steps.now.judge) start moment cell × (is_final (log steps.now.judge.layout moment) cell ≡ false)) }
 {
     let blamed = (cell.node(), scx);
     match own_look(memory, blamed.0) {
@@ -433,7 +433,7 @@ fn has_come(
     cells: &[Cell],
     blamed: (NodeNo, ScxNo),
 ) -> bool
-    ensures { (kind : KindOf) (start : History) (linked : ℕ → Option History) → AreStepsOf steps.now.judge.layout (seen steps.now.judge) steps.now → IsCallSeen steps.now.judge.layout pass.0 (seen steps.now.judge) start linked memory.now → ((kept : LookOf) → look ≡ Some kept → IsLookOf steps.now.judge.layout (seen steps.now.judge) pass.0 kind kept) → IsTrue result → IsInTheWay steps.now.judge.layout pass.0 (seen steps.now.judge) start kind cells.now blamed.0.0 blamed.1.0 (λ moment. linked blamed.0.0 ≡ Some moment) }
+    ensures { (kind : KindOf) (start : History) (linked : ℕ → Option History) → AreStepsOf steps.now.judge.layout (seen_history steps.now.judge) steps.now → IsCallSeen steps.now.judge.layout pass.0 (seen_history steps.now.judge) start linked memory.now → ((kept : LookOf) → look ≡ Some kept → IsLookOf steps.now.judge.layout (seen_history steps.now.judge) pass.0 kind kept) → IsTrue result → IsInTheWay steps.now.judge.layout pass.0 (seen_history steps.now.judge) start kind cells.now blamed.0.0 blamed.1.0 (λ moment. linked blamed.0.0 ≡ Some moment) }
 {
     match memory.snapshot(blamed.0) {
         Some(snapshot) => {

@@ -1,18 +1,18 @@
 //! What each command may do.
 ghost use Rattle.std.specs.Prelude.{◌≡◌, ℕ, ◌+◌, ◌*◌, ◌≤◌, ◌↔◌, IsTrue};
-ghost use Rattle.record.specs.CommandRules.{most_steps, MayMake, MayAnswerAtOnce, MayAnswerAfterStep, enters};
+ghost use Rattle.record.specs.CommandRules.{command_steps, MayMake, MayAnswerAtOnce, MayAnswerAfterStep, enters};
 ghost use Rattle.record.specs.CommandRules.{rules};
 ghost use Rattle.script.specs.declared.command.Command.TheVariants.{Map as MapCommand};
 ghost use Rattle.record.specs.declared.record.Answer.TheVariants.{Map as MapAnswer};
 ghost use Rattle.record.specs.Rules.Llx.{LlxAfterStep};
-ghost use Rattle.spelling.specs.CallRules.{IsFormOfEdit, IsFormOfRange, IsFormOfSuccessor, TakesNothing, form_of};
+ghost use Rattle.ordered_map.specs.CallRules.{IsFormOfEdit, IsFormOfRange, IsFormOfSuccessor, TakesNothing, form_of};
 ghost use Rattle.record.specs.Rules.Range.{RangeAtOnce};
 ghost use Rattle.record.specs.Rules.Set.{SetAfterStep};
 
 use arena::{Kind, Limits};
+use ordered_map::{Reply, Request};
 use record::Answer;
 use script::Command;
-use spelling::{Reply, Request};
 
 /// Whether a call may make a step of a kind.
 pub(crate) fn may_make(command: &Command, kind: Kind) -> bool
@@ -40,7 +40,7 @@ fn takes_nothing(low: u64, high: u64, most: u32) -> bool
 /// How many steps a call may make at most, while so many nodes are taken; or fewer, if that is no
 /// number of this type.
 pub(crate) fn most_steps(command: &Command, limits: &Limits, taken: u64) -> u64
-    ensures { (all : ℕ) → taken ≤ all → result ≤ most_steps command.now limits.now.tries all }
+    ensures { (all : ℕ) → taken ≤ all → result ≤ command_steps command.now limits.now.tries all }
 {
     let levels = taken.saturating_add(2);
     let tries = u64::from(limits.tries);

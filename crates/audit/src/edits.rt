@@ -8,24 +8,24 @@ ghost use Rattle.arena.specs.Words.{node as node_of, child as child_of, info, sc
 ghost use Rattle.arena.specs.declared.word.NodeWord.TheVariants.{Head as HeadWord, Key, Value as ValueWord};
 ghost use Rattle.arena.specs.declared.word.Side.{Side as SideOf};
 ghost use Rattle.arena.specs.declared.word.Side.TheVariants.{Left, Right};
-ghost use Rattle.spelling.specs.Edits.{IsPairLeaf, IsAlike, IsLeafCopy, IsSwap, IsSplit, IsJoin, HasFieldsOf};
-ghost use Rattle.spelling.specs.Paths.{Passed};
-ghost use Rattle.spelling.specs.Runs.{IsTreeRun};
-ghost use Rattle.spelling.specs.TreeShape.{IsInsert, IsDelete, insert_plan, delete_plan, leaf_place as leaf_place_of, sibling_place as sibling_place_of};
-ghost use Rattle.spelling.specs.TreeWords.{class, is_leaf, level, rank, toward as toward_of};
+ghost use Rattle.ordered_map.specs.Edits.{IsPairLeaf, IsAlike, IsLeafCopy, IsSwap, IsSplit, IsJoin, HasFieldsOf};
+ghost use Rattle.ordered_map.specs.Paths.{Passed};
+ghost use Rattle.ordered_map.specs.Runs.{IsTreeRun};
+ghost use Rattle.ordered_map.specs.TreeShape.{IsInsert, IsDelete, insert_plan, delete_plan, leaf_place as leaf_place_of, sibling_place as sibling_place_of};
+ghost use Rattle.ordered_map.specs.TreeWords.{class, is_leaf, level, rank, toward as toward_of};
 ghost use Rattle.audit.specs.Edits.{MayMakeFor};
-ghost use Rattle.judge.specs.Histories.{history as seen};
+ghost use Rattle.judge.specs.Histories.{seen_history};
 
 use arena::{Head, NodeNo, NodeWord, ScxNo, ScxWord, Side, Word};
 use judge::Judge;
+use ordered_map::Request;
 use script::Command;
-use spelling::Request;
 
 /// Whether an SCX-record is about to make the edit of a call: below a fork on the search path of
 /// the call's key.
 pub(crate) fn makes_edit(judge: &Judge, scx: u64, command: &Command) -> bool
-    requires { IsTreeRun judge.now.layout (seen judge.now) }
-    ensures { IsTrue result → MayMakeFor judge.now.layout (seen judge.now) scx command.now }
+    requires { IsTreeRun judge.now.layout (seen_history judge.now) }
+    ensures { IsTrue result → MayMakeFor judge.now.layout (seen_history judge.now) scx command.now }
 {
     let (key, is_edit) = match command {
         Command::Map(Request::Insert { key, value }) => (
@@ -39,45 +39,45 @@ pub(crate) fn makes_edit(judge: &Judge, scx: u64, command: &Command) -> bool
 }
 
 fn node_word(judge: &Judge, node: u64, part: NodeWord) -> u64
-    ensures { result ≡ value (seen judge.now) (node_of node part) }
+    ensures { result ≡ value (seen_history judge.now) (node_of node part) }
 {
     judge.get(Word::Node(NodeNo(node), part))
 }
 
 fn scx_word(judge: &Judge, scx: u64, part: ScxWord) -> u64
-    ensures { result ≡ value (seen judge.now) (scx_of scx part) }
+    ensures { result ≡ value (seen_history judge.now) (scx_of scx part) }
 {
     judge.get(Word::Scx(ScxNo(scx), part))
 }
 
 fn member(judge: &Judge, scx: u64, place: u8) -> u64
-    ensures { result ≡ member_of (seen judge.now) scx place }
+    ensures { result ≡ member_of (seen_history judge.now) scx place }
 {
     scx_word(judge, scx, ScxWord::Member(place))
 }
 
 /// What a node's head says.
 fn head(judge: &Judge, node: u64) -> Head
-    ensures { result ≡ head_of (value (seen judge.now) (node_of node HeadWord)) }
+    ensures { result ≡ head_of (value (seen_history judge.now) (node_of node HeadWord)) }
 {
     Head::of(node_word(judge, node, NodeWord::Head))
 }
 
 fn key_of(judge: &Judge, node: u64) -> u64
-    ensures { result ≡ value (seen judge.now) (node_of node Key) }
+    ensures { result ≡ value (seen_history judge.now) (node_of node Key) }
 {
     node_word(judge, node, NodeWord::Key)
 }
 
 fn child(judge: &Judge, node: u64, side: Side) -> u64
-    ensures { result ≡ value (seen judge.now) (child_of node side) }
+    ensures { result ≡ value (seen_history judge.now) (child_of node side) }
 {
     node_word(judge, node, NodeWord::Child(side))
 }
 
 /// Whether the info word of the node at a place is as the SCX-record has seen it.
 fn is_as_seen(judge: &Judge, scx: u64, place: u8) -> bool
-    ensures { IsTrue result ↔ (value (seen judge.now) (info (member_of (seen judge.now) scx place)) ≡ seen_at (seen judge.now) scx place) }
+    ensures { IsTrue result ↔ (value (seen_history judge.now) (info (member_of (seen_history judge.now) scx place)) ≡ seen_at (seen_history judge.now) scx place) }
 {
     let node = member(judge, scx, place);
     node_word(judge, node, NodeWord::Info) == scx_word(judge, scx, ScxWord::Seen(place))
@@ -85,7 +85,7 @@ fn is_as_seen(judge: &Judge, scx: u64, place: u8) -> bool
 
 /// On which side of a fork a key stands: all classes above 0 are above all keys.
 fn toward(judge: &Judge, node: u64, key: u64) -> Side
-    ensures { result ≡ toward_of (value (seen judge.now)) node key }
+    ensures { result ≡ toward_of (value (seen_history judge.now)) node key }
 {
     if head(judge, node).class > 0 || key < key_of(judge, node) {
         Side::Left
@@ -96,16 +96,16 @@ fn toward(judge: &Judge, node: u64, key: u64) -> Side
 
 /// Whether a key is above a node.
 fn is_above(judge: &Judge, node: u64, key: u64) -> bool
-    ensures { IsTrue result → rank (value (seen judge.now)) node < key }
+    ensures { IsTrue result → rank (value (seen_history judge.now)) node < key }
 {
     head(judge, node).class == 0 && key_of(judge, node) < key
 }
 
 /// Whether the search for a key passes this fork. Levels rise, so that it ends.
 fn is_fork_on_path(judge: &Judge, key: u64, fork: u64) -> bool
-    requires { IsTreeRun judge.now.layout (seen judge.now) }
-    ensures path { IsTrue result → Passed (seen judge.now) (seen judge.now) key fork }
-    ensures fork { IsTrue result → is_leaf (value (seen judge.now)) fork ≡ false }
+    requires { IsTreeRun judge.now.layout (seen_history judge.now) }
+    ensures path { IsTrue result → Passed (seen_history judge.now) (seen_history judge.now) key fork }
+    ensures fork { IsTrue result → is_leaf (value (seen_history judge.now)) fork ≡ false }
 {
     let mut node = 0;
     let mut left = judge.layout().all_nodes();
@@ -118,14 +118,14 @@ fn is_fork_on_path(judge: &Judge, key: u64, fork: u64) -> bool
 
 /// Whether two nodes have the same class and key.
 fn are_alike(judge: &Judge, one: u64, other: u64) -> bool
-    ensures { IsTrue result → IsAlike (value (seen judge.now)) one other }
+    ensures { IsTrue result → IsAlike (value (seen_history judge.now)) one other }
 {
     head(judge, one).class == head(judge, other).class && key_of(judge, one) == key_of(judge, other)
 }
 
 /// Whether a node is a leaf with this pair.
 fn is_pair_leaf(judge: &Judge, node: u64, pair: (u64, u64)) -> bool
-    ensures { IsTrue result → IsPairLeaf (value (seen judge.now)) node pair.0 pair.1 }
+    ensures { IsTrue result → IsPairLeaf (value (seen_history judge.now)) node pair.0 pair.1 }
 {
     let Head { leaf, class, .. } = head(judge, node);
     let value = node_word(judge, node, NodeWord::Value);
@@ -134,7 +134,7 @@ fn is_pair_leaf(judge: &Judge, node: u64, pair: (u64, u64)) -> bool
 
 /// Whether a node is a leaf that is a copy of another.
 fn is_leaf_copy(judge: &Judge, node: u64, leaf: u64) -> bool
-    ensures { IsTrue result → IsLeafCopy (value (seen judge.now)) node leaf }
+    ensures { IsTrue result → IsLeafCopy (value (seen_history judge.now)) node leaf }
 {
     let same_value = node_word(judge, node, NodeWord::Value)
         == node_word(judge, leaf, NodeWord::Value);
@@ -144,8 +144,8 @@ fn is_leaf_copy(judge: &Judge, node: u64, leaf: u64) -> bool
 /// Whether an SCX-record covers a parent and a leaf, finalizes the leaf, and puts another leaf or a
 /// fork over two into the parent's field towards the key.
 fn is_insert(judge: &Judge, scx: u64, pair: (u64, u64)) -> bool
-    ensures edit { IsTrue result → IsInsert (seen judge.now) scx pair.0 pair.1 }
-    ensures fresh { IsTrue result → is_leaf (value (seen judge.now)) (new (seen judge.now) scx) ≡ false → (side : SideOf) → IsNamed judge.now.layout (seen judge.now) (value (seen judge.now) (child_of (new (seen judge.now) scx) side)) → ⊥ }
+    ensures edit { IsTrue result → IsInsert (seen_history judge.now) scx pair.0 pair.1 }
+    ensures fresh { IsTrue result → is_leaf (value (seen_history judge.now)) (new (seen_history judge.now) scx) ≡ false → (side : SideOf) → IsNamed judge.now.layout (seen_history judge.now) (value (seen_history judge.now) (child_of (new (seen_history judge.now) scx) side)) → ⊥ }
 {
     let (parent, leaf) = (member(judge, scx, 0), member(judge, scx, 1));
     let plan = insert_plan(toward(judge, parent, pair.0));
@@ -159,9 +159,9 @@ fn is_insert(judge: &Judge, scx: u64, pair: (u64, u64)) -> bool
 
 /// Whether a leaf of the key is replaced by another leaf.
 fn is_swap(judge: &Judge, leaf: u64, new: u64, pair: (u64, u64)) -> bool
-    requires leaf { is_leaf (value (seen judge.now)) leaf ≡ true }
-    requires deep { level (value (seen judge.now)) new ≡ level (value (seen judge.now)) leaf }
-    ensures { IsTrue result → IsSwap (value (seen judge.now)) pair.0 pair.1 leaf new }
+    requires leaf { is_leaf (value (seen_history judge.now)) leaf ≡ true }
+    requires deep { level (value (seen_history judge.now)) new ≡ level (value (seen_history judge.now)) leaf }
+    ensures { IsTrue result → IsSwap (value (seen_history judge.now)) pair.0 pair.1 leaf new }
 {
     head(judge, leaf).class == 0 && key_of(judge, leaf) == pair.0 && is_pair_leaf(judge, new, pair)
 }
@@ -169,10 +169,10 @@ fn is_swap(judge: &Judge, leaf: u64, new: u64, pair: (u64, u64)) -> bool
 /// Whether a leaf without the key is replaced by a fork over a fresh leaf of the key and a fresh copy
 /// of the leaf.
 fn is_split(judge: &Judge, leaf: u64, fork: u64, pair: (u64, u64)) -> bool
-    requires leaf { is_leaf (value (seen judge.now)) leaf ≡ true }
-    requires deep { level (value (seen judge.now)) fork ≡ level (value (seen judge.now)) leaf }
-    ensures edit { IsTrue result → (x y : ℕ) × IsSplit (value (seen judge.now)) pair.0 pair.1 leaf fork x y }
-    ensures fresh { IsTrue result → (side : SideOf) → IsNamed judge.now.layout (seen judge.now) (value (seen judge.now) (child_of fork side)) → ⊥ }
+    requires leaf { is_leaf (value (seen_history judge.now)) leaf ≡ true }
+    requires deep { level (value (seen_history judge.now)) fork ≡ level (value (seen_history judge.now)) leaf }
+    ensures edit { IsTrue result → (x y : ℕ) × IsSplit (value (seen_history judge.now)) pair.0 pair.1 leaf fork x y }
+    ensures fresh { IsTrue result → (side : SideOf) → IsNamed judge.now.layout (seen_history judge.now) (value (seen_history judge.now) (child_of fork side)) → ⊥ }
 {
     let left = child(judge, fork, Side::Left);
     let right = child(judge, fork, Side::Right);
@@ -194,10 +194,10 @@ fn is_split(judge: &Judge, leaf: u64, fork: u64, pair: (u64, u64)) -> bool
 /// Whether the first of these nodes, which a fork is over, is a leaf of the pair, and the second a
 /// copy of the leaf that goes.
 fn are_split(judge: &Judge, fork: u64, below: (u64, u64), leaf: u64, pair: (u64, u64)) -> bool
-    ensures new { IsTrue result → IsPairLeaf (value (seen judge.now)) below.0 pair.0 pair.1 }
-    ensures copy { IsTrue result → IsLeafCopy (value (seen judge.now)) below.1 leaf }
-    ensures low { IsTrue result → level (value (seen judge.now)) below.0 ≡ level (value (seen judge.now)) fork + 1 }
-    ensures high { IsTrue result → level (value (seen judge.now)) below.1 ≡ level (value (seen judge.now)) fork + 1 }
+    ensures new { IsTrue result → IsPairLeaf (value (seen_history judge.now)) below.0 pair.0 pair.1 }
+    ensures copy { IsTrue result → IsLeafCopy (value (seen_history judge.now)) below.1 leaf }
+    ensures low { IsTrue result → level (value (seen_history judge.now)) below.0 ≡ level (value (seen_history judge.now)) fork + 1 }
+    ensures high { IsTrue result → level (value (seen_history judge.now)) below.1 ≡ level (value (seen_history judge.now)) fork + 1 }
 {
     is_pair_leaf(judge, below.0, pair)
         && is_leaf_copy(judge, below.1, leaf)
@@ -207,7 +207,7 @@ fn are_split(judge: &Judge, fork: u64, below: (u64, u64), leaf: u64, pair: (u64,
 
 /// Whether the level of a node is just above that of a fork.
 fn is_one_below(judge: &Judge, node: u64, fork: u64) -> bool
-    ensures { IsTrue result → level (value (seen judge.now)) node ≡ level (value (seen judge.now)) fork + 1 }
+    ensures { IsTrue result → level (value (seen_history judge.now)) node ≡ level (value (seen_history judge.now)) fork + 1 }
 {
     head(judge, fork).level.checked_add(1) == Some(head(judge, node).level)
 }
@@ -255,7 +255,7 @@ fn sibling_place(side: Side) -> u8
 /// Whether an SCX-record covers a grandparent, a parent and its two children, finalizes all but the
 /// first, and puts a copy of the other child into the grandparent's field towards the key.
 fn is_delete(judge: &Judge, scx: u64, key: u64) -> bool
-    ensures { IsTrue result → IsDelete (seen judge.now) scx key (toward_of (value (seen judge.now)) (member_of (seen judge.now) scx 1) key) }
+    ensures { IsTrue result → IsDelete (seen_history judge.now) scx key (toward_of (value (seen_history judge.now)) (member_of (seen_history judge.now) scx 1) key) }
 {
     let plan = delete_plan(toward(judge, member(judge, scx, 0), key));
     let side = toward(judge, member(judge, scx, 1), key);
@@ -268,8 +268,8 @@ fn is_delete(judge: &Judge, scx: u64, key: u64) -> bool
 /// Whether the parent is a fork, the child on this side, which goes, a leaf of the key, and `new` a
 /// copy of the other child.
 fn is_join(judge: &Judge, scx: u64, side: Side, key: u64) -> bool
-    ensures edit { IsTrue result → IsJoin (value (seen judge.now)) key (member_of (seen judge.now) scx 1) (member_of (seen judge.now) scx (leaf_place_of side)) (member_of (seen judge.now) scx (sibling_place_of side)) (new (seen judge.now) scx) }
-    ensures copied { IsTrue result → value (seen judge.now) (info (member_of (seen judge.now) scx (sibling_place_of side))) ≡ seen_at (seen judge.now) scx (sibling_place_of side) → HasFieldsOf (value (seen judge.now)) (new (seen judge.now) scx) (member_of (seen judge.now) scx (sibling_place_of side)) }
+    ensures edit { IsTrue result → IsJoin (value (seen_history judge.now)) key (member_of (seen_history judge.now) scx 1) (member_of (seen_history judge.now) scx (leaf_place_of side)) (member_of (seen_history judge.now) scx (sibling_place_of side)) (new (seen_history judge.now) scx) }
+    ensures copied { IsTrue result → value (seen_history judge.now) (info (member_of (seen_history judge.now) scx (sibling_place_of side))) ≡ seen_at (seen_history judge.now) scx (sibling_place_of side) → HasFieldsOf (value (seen_history judge.now)) (new (seen_history judge.now) scx) (member_of (seen_history judge.now) scx (sibling_place_of side)) }
 {
     let leaf = member(judge, scx, leaf_place(side));
     !head(judge, member(judge, scx, 1)).leaf
@@ -279,16 +279,16 @@ fn is_join(judge: &Judge, scx: u64, side: Side, key: u64) -> bool
 
 /// Whether a node is a leaf of the key.
 fn is_leaf_of(judge: &Judge, node: u64, key: u64) -> bool
-    ensures leaf { IsTrue result → is_leaf (value (seen judge.now)) node ≡ true }
-    ensures class { IsTrue result → class (value (seen judge.now)) node ≡ 0 }
-    ensures key { IsTrue result → value (seen judge.now) (node_of node Key) ≡ key }
+    ensures leaf { IsTrue result → is_leaf (value (seen_history judge.now)) node ≡ true }
+    ensures class { IsTrue result → class (value (seen_history judge.now)) node ≡ 0 }
+    ensures key { IsTrue result → value (seen_history judge.now) (node_of node Key) ≡ key }
 {
     head(judge, node).leaf && head(judge, node).class == 0 && key_of(judge, node) == key
 }
 
 /// Whether the parent's fields are the children, where it is as it was seen.
 fn are_below(judge: &Judge, scx: u64) -> bool
-    ensures { IsTrue result → value (seen judge.now) (info (member_of (seen judge.now) scx 1)) ≡ seen_at (seen judge.now) scx 1 → (value (seen judge.now) (child_of (member_of (seen judge.now) scx 1) Left) ≡ member_of (seen judge.now) scx 2) × (value (seen judge.now) (child_of (member_of (seen judge.now) scx 1) Right) ≡ member_of (seen judge.now) scx 3) }
+    ensures { IsTrue result → value (seen_history judge.now) (info (member_of (seen_history judge.now) scx 1)) ≡ seen_at (seen_history judge.now) scx 1 → (value (seen_history judge.now) (child_of (member_of (seen_history judge.now) scx 1) Left) ≡ member_of (seen_history judge.now) scx 2) × (value (seen_history judge.now) (child_of (member_of (seen_history judge.now) scx 1) Right) ≡ member_of (seen_history judge.now) scx 3) }
 {
     let parent = member(judge, scx, 1);
     !is_as_seen(judge, scx, 1)
@@ -298,10 +298,10 @@ fn are_below(judge: &Judge, scx: u64) -> bool
 
 /// Whether `new` is a copy of the child at a place.
 fn is_copy(judge: &Judge, scx: u64, place: u8) -> bool
-    ensures same_head { IsTrue result → value (seen judge.now) (node_of (new (seen judge.now) scx) HeadWord) ≡ value (seen judge.now) (node_of (member_of (seen judge.now) scx place) HeadWord) }
-    ensures same_key { IsTrue result → value (seen judge.now) (node_of (new (seen judge.now) scx) Key) ≡ value (seen judge.now) (node_of (member_of (seen judge.now) scx place) Key) }
-    ensures same_value { IsTrue result → is_leaf (value (seen judge.now)) (member_of (seen judge.now) scx place) ≡ true → value (seen judge.now) (node_of (new (seen judge.now) scx) ValueWord) ≡ value (seen judge.now) (node_of (member_of (seen judge.now) scx place) ValueWord) }
-    ensures copied { IsTrue result → value (seen judge.now) (info (member_of (seen judge.now) scx place)) ≡ seen_at (seen judge.now) scx place → HasFieldsOf (value (seen judge.now)) (new (seen judge.now) scx) (member_of (seen judge.now) scx place) }
+    ensures same_head { IsTrue result → value (seen_history judge.now) (node_of (new (seen_history judge.now) scx) HeadWord) ≡ value (seen_history judge.now) (node_of (member_of (seen_history judge.now) scx place) HeadWord) }
+    ensures same_key { IsTrue result → value (seen_history judge.now) (node_of (new (seen_history judge.now) scx) Key) ≡ value (seen_history judge.now) (node_of (member_of (seen_history judge.now) scx place) Key) }
+    ensures same_value { IsTrue result → is_leaf (value (seen_history judge.now)) (member_of (seen_history judge.now) scx place) ≡ true → value (seen_history judge.now) (node_of (new (seen_history judge.now) scx) ValueWord) ≡ value (seen_history judge.now) (node_of (member_of (seen_history judge.now) scx place) ValueWord) }
+    ensures copied { IsTrue result → value (seen_history judge.now) (info (member_of (seen_history judge.now) scx place)) ≡ seen_at (seen_history judge.now) scx place → HasFieldsOf (value (seen_history judge.now)) (new (seen_history judge.now) scx) (member_of (seen_history judge.now) scx place) }
 {
     let (new, sibling) = (
         scx_word(judge, scx, ScxWord::New),
@@ -316,8 +316,8 @@ fn is_copy(judge: &Judge, scx: u64, place: u8) -> bool
 /// Whether a node has the value of another, if that is a leaf; or else its fields, if they are looked
 /// at.
 fn has_content_of(judge: &Judge, one: u64, other: u64, looked_at: bool) -> bool
-    ensures same_value { IsTrue result → is_leaf (value (seen judge.now)) other ≡ true → value (seen judge.now) (node_of one ValueWord) ≡ value (seen judge.now) (node_of other ValueWord) }
-    ensures copied { IsTrue result → looked_at ≡ true → HasFieldsOf (value (seen judge.now)) one other }
+    ensures same_value { IsTrue result → is_leaf (value (seen_history judge.now)) other ≡ true → value (seen_history judge.now) (node_of one ValueWord) ≡ value (seen_history judge.now) (node_of other ValueWord) }
+    ensures copied { IsTrue result → looked_at ≡ true → HasFieldsOf (value (seen_history judge.now)) one other }
 {
     if head(judge, other).leaf {
         node_word(judge, one, NodeWord::Value) == node_word(judge, other, NodeWord::Value)
@@ -327,7 +327,7 @@ fn has_content_of(judge: &Judge, one: u64, other: u64, looked_at: bool) -> bool
 }
 
 fn has_fields_of(judge: &Judge, one: u64, other: u64) -> bool
-    ensures { IsTrue result → (side : SideOf) → value (seen judge.now) (child_of one side) ≡ value (seen judge.now) (child_of other side) }
+    ensures { IsTrue result → (side : SideOf) → value (seen_history judge.now) (child_of one side) ≡ value (seen_history judge.now) (child_of other side) }
 {
     child(judge, one, Side::Left) == child(judge, other, Side::Left)
         && child(judge, one, Side::Right) == child(judge, other, Side::Right)

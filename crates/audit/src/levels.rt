@@ -6,9 +6,9 @@ ghost use Rattle.arena.specs.Lawful.{IsLawful};
 ghost use Rattle.arena.specs.Words.{node as node_of, child as child_of};
 ghost use Rattle.arena.specs.declared.word.NodeWord.TheVariants.{Head as HeadWord};
 ghost use Rattle.arena.specs.declared.word.Side.{Side as SideOf};
-ghost use Rattle.spelling.specs.FillOrder.{HasStoodInField, HasRisingLevels};
-ghost use Rattle.spelling.specs.TreeWords.{is_leaf, level};
-ghost use Rattle.judge.specs.Histories.{history as seen};
+ghost use Rattle.ordered_map.specs.FillOrder.{HasStoodInField, HasRisingLevels};
+ghost use Rattle.ordered_map.specs.TreeWords.{is_leaf, level};
+ghost use Rattle.judge.specs.Histories.{seen_history};
 
 use arena::{Head, NodeNo, NodeWord, Row, Side, Word};
 use judge::Judge;
@@ -16,8 +16,8 @@ use judge::Judge;
 /// Whether levels still rise behind a lawful row that is to be made: where it stores a node into a
 /// field. The head of a node that a field has held is not filled any more.
 pub(crate) fn do_levels_rise(judge: &Judge, row: &Row) -> bool
-    requires { row.now.before ≡ value (seen judge.now) row.now.word }
-    ensures { IsTrue result → HasRisingLevels (seen judge.now) → HasRisingLevels (row.now ⊳ seen judge.now) }
+    requires { row.now.before ≡ value (seen_history judge.now) row.now.word }
+    ensures { IsTrue result → HasRisingLevels (seen_history judge.now) → HasRisingLevels (row.now ⊳ seen_history judge.now) }
 {
     if row.before == row.after {
         return true;
@@ -36,28 +36,28 @@ pub(crate) fn do_levels_rise(judge: &Judge, row: &Row) -> bool
 /// Whether a node may be stored into a field of another: levels rise over it and below it.
 fn may_hold(judge: &Judge, node: u64, child: u64) -> bool
     ensures apart { IsTrue result → node ≢ child }
-    ensures over { IsTrue result → HasStoodInField (seen judge.now) node → is_leaf (value (seen judge.now)) node ≡ false → level (value (seen judge.now)) node < level (value (seen judge.now)) child }
-    ensures below { IsTrue result → (side : SideOf) → is_leaf (value (seen judge.now)) child ≡ false → level (value (seen judge.now)) child < level (value (seen judge.now)) (value (seen judge.now) (child_of child side)) }
+    ensures over { IsTrue result → HasStoodInField (seen_history judge.now) node → is_leaf (value (seen_history judge.now)) node ≡ false → level (value (seen_history judge.now)) node < level (value (seen_history judge.now)) child }
+    ensures below { IsTrue result → (side : SideOf) → is_leaf (value (seen_history judge.now)) child ≡ false → level (value (seen_history judge.now)) child < level (value (seen_history judge.now)) (value (seen_history judge.now) (child_of child side)) }
 {
     node != child && rises_to(judge, node, child) && rises(judge, child)
 }
 
 /// Whether a node was there from the start, or a field may have held it.
 fn stands(judge: &Judge, node: u64) -> bool
-    ensures { HasStoodInField (seen judge.now) node → IsTrue result }
+    ensures { HasStoodInField (seen_history judge.now) node → IsTrue result }
 {
     node < 3 || judge.is_in_field(NodeNo(node))
 }
 
 fn head(judge: &Judge, node: u64) -> Head
-    ensures { result ≡ head_of (value (seen judge.now) (node_of node HeadWord)) }
+    ensures { result ≡ head_of (value (seen_history judge.now) (node_of node HeadWord)) }
 {
     Head::of(judge.get(Word::Node(NodeNo(node), NodeWord::Head)))
 }
 
 /// Whether the level of a fork's child is above its own, if a field has ever held the fork.
 fn rises_to(judge: &Judge, fork: u64, child: u64) -> bool
-    ensures { IsTrue result → HasStoodInField (seen judge.now) fork → is_leaf (value (seen judge.now)) fork ≡ false → level (value (seen judge.now)) fork < level (value (seen judge.now)) child }
+    ensures { IsTrue result → HasStoodInField (seen_history judge.now) fork → is_leaf (value (seen_history judge.now)) fork ≡ false → level (value (seen_history judge.now)) fork < level (value (seen_history judge.now)) child }
 {
     !stands(judge, fork)
         || head(judge, fork).leaf
@@ -66,7 +66,7 @@ fn rises_to(judge: &Judge, fork: u64, child: u64) -> bool
 
 /// Whether the levels of a node's children are above its own, if it is a fork.
 fn rises(judge: &Judge, node: u64) -> bool
-    ensures { IsTrue result → (side : SideOf) → is_leaf (value (seen judge.now)) node ≡ false → level (value (seen judge.now)) node < level (value (seen judge.now)) (value (seen judge.now) (child_of node side)) }
+    ensures { IsTrue result → (side : SideOf) → is_leaf (value (seen_history judge.now)) node ≡ false → level (value (seen_history judge.now)) node < level (value (seen_history judge.now)) (value (seen_history judge.now) (child_of node side)) }
 {
     let of = head(judge, node);
     of.leaf
@@ -75,7 +75,7 @@ fn rises(judge: &Judge, node: u64) -> bool
 }
 
 fn child_level(judge: &Judge, node: u64, side: Side) -> u64
-    ensures { result ≡ level (value (seen judge.now)) (value (seen judge.now) (child_of node side)) }
+    ensures { result ≡ level (value (seen_history judge.now)) (value (seen_history judge.now) (child_of node side)) }
 {
     head(
         judge,

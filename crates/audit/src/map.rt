@@ -1,20 +1,20 @@
 //! Calls of the map: where they took place, and what they told there.
 ghost use Rattle.std.specs.Prelude.{◌≡◌, ℕ, suc, ◌<◌, ◌≤◌, List, Some, None, IsTrue};
 ghost use Rattle.arena.specs.declared.layout.Layout.{Layout};
-ghost use Rattle.spelling.specs.OrderedMap.{get};
+ghost use Rattle.ordered_map.specs.OrderedMap.{get};
 ghost use Rattle.script.specs.declared.call.Call.{Call as CallOf};
 ghost use Rattle.script.specs.declared.command.Command.{Command as CommandOf};
 ghost use Rattle.script.specs.declared.command.Command.TheVariants.{Map as MapCommand};
-ghost use Rattle.spelling.specs.declared.reply.Reply.TheVariants.{Full as FullShare};
+ghost use Rattle.ordered_map.specs.declared.reply.Reply.TheVariants.{Full as FullShare};
 ghost use Rattle.record.specs.declared.record.Answer.TheVariants.{Map as MapAnswer};
 ghost use Rattle.record.specs.declared.record.Line.{Line};
 ghost use Rattle.record.specs.CommandRules.{IsRight, IsPlaced, MayAnswerAtOnce};
 ghost use Rattle.record.specs.Linked.{linked};
 ghost use Rattle.record.specs.MapRecord.{map_at, reply_told};
 ghost use Rattle.record.specs.Turns.{history, start, won};
-ghost use Rattle.places.specs.Entries.{AreEntries, HadWithin};
-ghost use Rattle.places.specs.Ordered.{FallFrom};
-ghost use Rattle.places.specs.Places.{changes};
+ghost use Rattle.moments.specs.Entries.{AreEntries, HadWithin};
+ghost use Rattle.moments.specs.Ordered.{FallFrom};
+ghost use Rattle.moments.specs.Places.{changes};
 ghost use Rattle.audit.specs.Asked.{IsAsked, IsToldBefore, IsValueAt, IsReadAt, IsTooFewFor};
 ghost use Rattle.audit.specs.Remembered.{AreRemembered};
 ghost use Rattle.audit.specs.declared.client.Client.{Client as ClientOf};
@@ -22,10 +22,10 @@ ghost use Rattle.audit.specs.declared.client.Client.{Client as ClientOf};
 use crate::client::Client;
 use crate::steps::Steps;
 use arena::Resource;
-use places::{Places, pairs_told};
+use moments::{Places, pairs_told};
+use ordered_map::{Reply, Request};
 use record::{Answer, Finished};
 use script::Command;
-use spelling::{Reply, Request};
 
 /// Whether a call of the map took place where its reply says, and told what the map gave there; or
 /// was refused, and took place nowhere.

@@ -2,7 +2,7 @@
 ghost use Rattle.std.specs.Prelude.{◌≡◌, ℕ, ◌+◌, ◌<◌, ◌^◌, true, false, set, Option, Some, None, IfSome, IfNone, IsTrue, slice_get};
 ghost use Rattle.arena.specs.Log.{has};
 ghost use Rattle.audit.specs.declared.memory.Snapshot.{Snapshot as SnapshotOf};
-ghost use Rattle.spelling.specs.Tries.{begins_try};
+ghost use Rattle.ordered_map.specs.Tries.{begins_try};
 ghost use Rattle.audit.specs.Remembering.{noted, tried};
 
 use arena::{Kind, NodeNo, NodeWord, Row, Word};

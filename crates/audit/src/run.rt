@@ -5,9 +5,9 @@ ghost use Rattle.audit.specs.declared.client.Client.{Client as ClientOf};
 ghost use Rattle.audit.specs.After.{lines_of, IsAfter, IsMapAfter, AreRememberedAfter, AreClientsAfter};
 ghost use Rattle.std.specs.Prelude.{◌∷◌, OnOk};
 ghost use Rattle.record.specs.MapRecord.{map_call};
-ghost use Rattle.places.specs.declared.places.Change.{Change as ChangeOf};
-ghost use Rattle.places.specs.Entries.{IsChangeBy};
-ghost use Rattle.places.specs.Places.{changes, Knows, HoldsOfKey};
+ghost use Rattle.moments.specs.declared.places.Change.{Change as ChangeOf};
+ghost use Rattle.moments.specs.Entries.{IsChangeBy};
+ghost use Rattle.moments.specs.Places.{changes, Knows, HoldsOfKey};
 ghost use Rattle.record.specs.Steps.{SaysItsCall};
 
 use crate::client::Client;
@@ -18,10 +18,10 @@ use crate::levels::do_levels_rise;
 use crate::steps::Steps;
 use crate::{cells, map};
 use arena::{Kind, Mode, NoMemory, NodeWord, PassNo, ScxNo, ScxWord, Word};
-use places::{Change, Places};
+use moments::{Change, Places};
+use ordered_map::Request;
 use record::{Entry, Finished, Line, Record, Row};
 use script::{Call, Command, Script};
-use spelling::Request;
 use std::alloc::Global;
 
 /// What the lines so far say.
@@ -74,11 +74,11 @@ impl<'a> Run<'a> {
     ghost use Rattle.arena.specs.History.{◌⊳◌, value};
     ghost use Rattle.arena.specs.Shape.{IsBegin};
     ghost use Rattle.script.specs.declared.command.Command.{Command as CommandOf};
-    ghost use Rattle.spelling.specs.FillOrder.{HasRisingLevels};
+    ghost use Rattle.ordered_map.specs.FillOrder.{HasRisingLevels};
     ghost use Rattle.record.specs.MapRecord.{map_call};
-    ghost use Rattle.places.specs.declared.places.Change.{Change as ChangeOf};
-    ghost use Rattle.places.specs.Entries.{IsChangeBy};
-    ghost use Rattle.places.specs.Places.{changes, Knows};
+    ghost use Rattle.moments.specs.declared.places.Change.{Change as ChangeOf};
+    ghost use Rattle.moments.specs.Entries.{IsChangeBy};
+    ghost use Rattle.moments.specs.Places.{changes, Knows};
     ghost use Rattle.audit.specs.Edits.{MayMakeFor};
     ghost use Rattle.record.specs.CommandRules.{IsEntryFor, IsRight, IsPlaced, HasTakenFew};
     ghost use Rattle.record.specs.Linked.{linked};
@@ -86,7 +86,7 @@ impl<'a> Run<'a> {
     ghost use Rattle.record.specs.CommandRules.{enters};
     ghost use Rattle.std.specs.Prelude.{is_some};
     ghost use Rattle.record.specs.Turns.{start};
-    ghost use Rattle.judge.specs.Histories.{history as seen};
+    ghost use Rattle.judge.specs.Histories.{seen_history};
     ghost use Rattle.audit.specs.After.{layout_of, tries_of, calls_of, IsClientAfter};
 
     /// A run of no line of a record. The only error is want of memory.
@@ -296,7 +296,7 @@ impl<'a> Run<'a> {
         requires after { IsAfter self.now (lines_of self.now) }
         requires map { IsMapAfter self.now (lines_of self.now) }
         requires remembered { AreRememberedAfter self.now (lines_of self.now) }
-        requires lawful { IsLawful self.now.steps.judge.layout (seen self.now.steps.judge) row.now }
+        requires lawful { IsLawful self.now.steps.judge.layout (seen_history self.now.steps.judge) row.now }
         ensures { (number : ℕ) → (e : EntryOf) → IsTrue result → owed.now ≡ Some e → entry_of (layout_of self.now) (lines_of self.now) number row.now ≡ Some e → IsWinOf (layout_of self.now) (calls_of self.now) (lines_of self.now) row.now e }
     {
         match owed {
@@ -340,7 +340,7 @@ impl<'a> Run<'a> {
         requires after { IsAfter self.now (lines_of self.now) }
         requires map { IsMapAfter self.now (lines_of self.now) }
         requires remembered { AreRememberedAfter self.now (lines_of self.now) }
-        requires lawful { IsLawful self.now.steps.judge.layout (seen self.now.steps.judge) row.now }
+        requires lawful { IsLawful self.now.steps.judge.layout (seen_history self.now.steps.judge) row.now }
         ensures { (number : ℕ) → entry_of (layout_of self.now) (lines_of self.now) number row.now ≡ Some entry.now → OnOk result (IsWinOf (layout_of self.now) (calls_of self.now) (lines_of self.now) row.now entry.now) }
     {
         let client = self.client(entry.client)?;
@@ -362,7 +362,7 @@ impl<'a> Run<'a> {
         requires remembered { AreRememberedAfter self.now (lines_of self.now) }
         requires client { slice_get self.now.clients.items client.now.pass.0 ≡ Some client.now }
         requires command { next_command (calls_of self.now) (lines_of self.now) client.now.pass.0 ≡ Some command.now }
-        ensures { OnOk result ((row : RowOf) (n : ℕ) (side : Side) → IsWin (seen self.now.steps.judge) row scx.0 → row.word ≡ child n side → IsEntryFor (layout_of self.now) client.now.pass.0 (seen self.now.steps.judge) (start (layout_of self.now).mode (lines_of self.now) client.now.pass.0) (linked (calls_of self.now) (layout_of self.now).mode (lines_of self.now) client.now.pass.0) (entered (layout_of self.now) (seen self.now.steps.judge) scx.0 n side row.after) command.now) }
+        ensures { OnOk result ((row : RowOf) (n : ℕ) (side : Side) → IsWin (seen_history self.now.steps.judge) row scx.0 → row.word ≡ child n side → IsEntryFor (layout_of self.now) client.now.pass.0 (seen_history self.now.steps.judge) (start (layout_of self.now).mode (lines_of self.now) client.now.pass.0) (linked (calls_of self.now) (layout_of self.now).mode (lines_of self.now) client.now.pass.0) (entered (layout_of self.now) (seen_history self.now.steps.judge) scx.0 n side row.after) command.now) }
     {
         match command {
             Command::Map(_) => {
@@ -381,9 +381,9 @@ impl<'a> Run<'a> {
     fn check_edit(&self, row: &arena::Row) -> Result<(), Refused>
         requires after { IsAfter self.now (lines_of self.now) }
         requires map { IsMapAfter self.now (lines_of self.now) }
-        requires found { row.now.before ≡ value (seen self.now.steps.judge) row.now.word }
-        ensures rising { OnOk result ((layout_of self.now).mode ≡ Tree → HasRisingLevels (seen self.now.steps.judge) → HasRisingLevels (row.now ⊳ seen self.now.steps.judge)) }
-        ensures edit { OnOk result ((layout_of self.now).mode ≡ Tree → IsBegin (seen self.now.steps.judge) row.now row.now.after → (command : CommandOf) × (next_command (calls_of self.now) (lines_of self.now) row.now.pass.0 ≡ Some command) × MayMakeFor (layout_of self.now) (seen self.now.steps.judge) row.now.after command) }
+        requires found { row.now.before ≡ value (seen_history self.now.steps.judge) row.now.word }
+        ensures rising { OnOk result ((layout_of self.now).mode ≡ Tree → HasRisingLevels (seen_history self.now.steps.judge) → HasRisingLevels (row.now ⊳ seen_history self.now.steps.judge)) }
+        ensures edit { OnOk result ((layout_of self.now).mode ≡ Tree → IsBegin (seen_history self.now.steps.judge) row.now row.now.after → (command : CommandOf) × (next_command (calls_of self.now) (lines_of self.now) row.now.pass.0 ≡ Some command) × MayMakeFor (layout_of self.now) (seen_history self.now.steps.judge) row.now.after command) }
     {
         if self.record.script.layout.mode != Mode::Tree {
             return Ok(());
@@ -402,7 +402,7 @@ impl<'a> Run<'a> {
         requires after { IsAfter self.now (lines_of self.now) }
         requires map { IsMapAfter self.now (lines_of self.now) }
         requires mode { (layout_of self.now).mode ≡ Tree }
-        ensures { OnOk result ((command : CommandOf) × (next_command (calls_of self.now) (lines_of self.now) row.now.pass.0 ≡ Some command) × MayMakeFor (layout_of self.now) (seen self.now.steps.judge) row.now.after command) }
+        ensures { OnOk result ((command : CommandOf) × (next_command (calls_of self.now) (lines_of self.now) row.now.pass.0 ≡ Some command) × MayMakeFor (layout_of self.now) (seen_history self.now.steps.judge) row.now.after command) }
     {
         let client = self.client(row.pass)?;
         let Some(command) = self.next(&client) else {
@@ -415,7 +415,7 @@ impl<'a> Run<'a> {
     /// On the tree: the command of the client's call, if a step begins an SCX-record.
     fn edit_begun(&self, row: &arena::Row) -> Option<Command>
         requires { IsAfter self.now (lines_of self.now) }
-        ensures begins { IfSome result (λ command. IsBegin (seen self.now.steps.judge) row.now row.now.after) }
+        ensures begins { IfSome result (λ command. IsBegin (seen_history self.now.steps.judge) row.now row.now.after) }
         ensures next { IfSome result (λ command. next_command (calls_of self.now) (lines_of self.now) row.now.pass.0 ≡ Some command) }
     {
         if self.record.script.layout.mode != Mode::Tree || !self.steps.judge.is_begin(row) {
@@ -448,8 +448,8 @@ impl<'a> Run<'a> {
         requires after { IsAfter self.old (lines_of self.old) }
         requires map { IsMapAfter self.old (lines_of self.old) }
         requires remembered { AreRememberedAfter self.old (lines_of self.old) }
-        requires rising { (layout_of self.old).mode ≡ Tree → HasRisingLevels (seen self.old.steps.judge) → HasRisingLevels (row.now ⊳ seen self.old.steps.judge) }
-        requires edit { (layout_of self.old).mode ≡ Tree → IsBegin (seen self.old.steps.judge) row.now row.now.after → (command : CommandOf) × (next_command (calls_of self.old) (lines_of self.old) row.now.pass.0 ≡ Some command) × MayMakeFor (layout_of self.old) (seen self.old.steps.judge) row.now.after command }
+        requires rising { (layout_of self.old).mode ≡ Tree → HasRisingLevels (seen_history self.old.steps.judge) → HasRisingLevels (row.now ⊳ seen_history self.old.steps.judge) }
+        requires edit { (layout_of self.old).mode ≡ Tree → IsBegin (seen_history self.old.steps.judge) row.now row.now.after → (command : CommandOf) × (next_command (calls_of self.old) (lines_of self.old) row.now.pass.0 ≡ Some command) × MayMakeFor (layout_of self.old) (seen_history self.old.steps.judge) row.now.after command }
         requires settled { OwesNothing (layout_of self.old) (calls_of self.old) (lines_of self.old) }
         requires step { IsStep (layout_of self.old) (tries_of self.old) (calls_of self.old) (lines_of self.old) number row.now }
         requires owed { entry_of (layout_of self.old) (lines_of self.old) number row.now ≡ owed }

@@ -6,7 +6,7 @@ ghost use Rattle.arena.specs.History.{History as HistoryOf, Start, ◌⊳◌};
 ghost use Rattle.arena.specs.Lawful.{IsLawful};
 ghost use Rattle.record.specs.Rules.Scx.{has_run};
 ghost use Rattle.record.specs.Shares.{HasNodesLeft as NodesLeft, HasScxLeft as ScxLeft, HasTooFew as TooFew};
-ghost use Rattle.judge.specs.Histories.{history as seen};
+ghost use Rattle.judge.specs.Histories.{seen_history};
 
 use crate::cells::same_cells;
 use crate::client::Client;
@@ -60,13 +60,13 @@ impl Steps {
     ghost use Rattle.audit.specs.declared.memory.Memory.{Memory};
     ghost use Rattle.audit.specs.After.{IsClientAfter};
     ghost use Rattle.audit.specs.CellCalls.{AreSameAt};
-    ghost use Rattle.audit.specs.Remembered.{IsMomentAt, WasRunningAt, AreStepsOf, IsSnapshotOf, AreSnapshotsOf, IsBegunWith, AreRemembered, AreBegun};
-    ghost use Rattle.audit.specs.Remembering.{IsLookBy, IsMadeFinal, IsFinalBy, IsNoted};
+    ghost use Rattle.audit.specs.Remembered.{IsMomentAt, WasRunningAt, AreStepsOf, IsSnapshotOf, AreSnapshotsOf, IsBegunWith, AreRemembered, AreRememberedInCall};
+    ghost use Rattle.audit.specs.Remembering.{IsLookBy, IsMadeFinal, IsRememberedFinal, IsNoted};
 
     /// No step yet. The only error is want of memory.
     pub(crate) fn new(alloc: Global, layout: &Layout) -> Result<Steps, Refused>
         ensures layout { IfOk result (λ s. s.judge.layout ≡ layout.now) }
-        ensures start { IfOk result (λ s. seen s.judge ≡ Start layout.now.mode) }
+        ensures start { IfOk result (λ s. seen_history s.judge ≡ Start layout.now.mode) }
         ensures remembered { (calls : List Call) → IfOk result (λ s. AreRemembered layout.now calls [] s) }
     {
         Ok(Steps {
@@ -92,7 +92,7 @@ impl Steps {
     /// reply.
     pub(crate) fn begin(&mut self, client: &Client, calls: &[Call])
         ensures same { self.new ≡ record self.old { memories = self.new.memories } }
-        ensures remembered { (lay : Layout) (lines : List Line) → AreRemembered lay calls.now lines self.old → IsClientAfter lay calls.now lines client.now.pass.0 client.now → AreBegun lay calls.now lines client.now.pass.0 self.new }
+        ensures remembered { (lay : Layout) (lines : List Line) → AreRemembered lay calls.now lines self.old → IsClientAfter lay calls.now lines client.now.pass.0 client.now → AreRememberedInCall lay calls.now lines client.now.pass.0 self.new }
     {
         if client.begun.is_none() {
             let memory = self.memory_begun(client, calls);
@@ -118,7 +118,7 @@ impl Steps {
 
     /// If this command is a `vlx`, of each of its cells: whether it is as the snapshot says.
     fn same_of(&self, memory: &Memory, command: Option<Command>) -> [bool; 4]
-        ensures { (cells : Cells) (kept : ℕ → Option History) → command ≡ Some (Vlx cells) → AreSnapshotsOf self.now.judge.layout (seen self.now.judge) memory.now kept → AreSameAt self.now.judge.layout (seen self.now.judge) kept (cells_of cells) result }
+        ensures { (cells : Cells) (kept : ℕ → Option History) → command ≡ Some (Vlx cells) → AreSnapshotsOf self.now.judge.layout (seen_history self.now.judge) memory.now kept → AreSameAt self.now.judge.layout (seen_history self.now.judge) kept (cells_of cells) result }
     {
         match command {
             Some(Command::Vlx { cells }) => same_cells(&self.judge, memory, cells.as_slice()),
@@ -137,10 +137,10 @@ impl Steps {
 
     /// Makes a lawful step.
     pub(crate) fn make(&mut self, row: &Row) -> Result<(), Refused>
-        requires { IsLawful self.old.judge.layout (seen self.old.judge) row.now }
+        requires { IsLawful self.old.judge.layout (seen_history self.old.judge) row.now }
         ensures layout { self.new.judge.layout ≡ self.old.judge.layout }
-        ensures history { OnOk result (seen self.new.judge ≡ row.now ⊳ seen self.old.judge) }
-        ensures remembered { (lay : Layout) (calls : List Call) (lines : List Line) (number : ℕ) → AreBegun lay calls lines row.now.pass.0 self.old → OnOk result (AreRemembered lay calls (Turn (Made number row.now) ∷ lines) self.new) }
+        ensures history { OnOk result (seen_history self.new.judge ≡ row.now ⊳ seen_history self.old.judge) }
+        ensures remembered { (lay : Layout) (calls : List Call) (lines : List Line) (number : ℕ) → AreRememberedInCall lay calls lines row.now.pass.0 self.old → OnOk result (AreRemembered lay calls (Turn (Made number row.now) ∷ lines) self.new) }
     {
         hold(self.count < u64::MAX)?;
         let ends = self.ends(row);
@@ -171,7 +171,7 @@ impl Steps {
         ensures same { self.new ≡ record self.old { finals = self.new.finals } }
         ensures many { length self.new.finals.items ≡ length self.old.finals.items }
         ensures none { winner ≡ None → self.new.finals.items ≡ self.old.finals.items }
-        ensures noted { (s : ScxNo) → winner ≡ Some s → (n rows : ℕ) → slice_get self.new.finals.items n ≡ Some rows → IsFinalBy self.old.judge.layout (seen self.old.judge) s.0 4 self.old.count (slice_get self.old.finals.items n) n rows }
+        ensures noted { (s : ScxNo) → winner ≡ Some s → (n rows : ℕ) → slice_get self.new.finals.items n ≡ Some rows → IsRememberedFinal self.old.judge.layout (seen_history self.old.judge) s.0 4 self.old.count (slice_get self.old.finals.items n) n rows }
     {
         let Some(scx) = winner else {
             return;
@@ -185,7 +185,7 @@ impl Steps {
     fn note_final(&mut self, scx: ScxNo, place: u8)
         ensures same { self.new ≡ record self.old { finals = self.new.finals } }
         ensures many { length self.new.finals.items ≡ length self.old.finals.items }
-        ensures noted { (n rows : ℕ) → slice_get self.new.finals.items n ≡ Some rows → IsMadeFinal self.old.judge.layout (seen self.old.judge) scx.0 place self.old.count (slice_get self.old.finals.items n) n rows }
+        ensures noted { (n rows : ℕ) → slice_get self.new.finals.items n ≡ Some rows → IsMadeFinal self.old.judge.layout (seen_history self.old.judge) scx.0 place self.old.count (slice_get self.old.finals.items n) n rows }
     {
         let node = NodeNo(self.judge.get(Word::Scx(scx, ScxWord::Member(place))));
         if self.judge.is_final(node)
@@ -208,7 +208,7 @@ impl Steps {
 
     /// The SCX-record that a step finishes, if it was in progress.
     fn ends(&self, row: &Row) -> Option<ScxNo>
-        ensures { IfSome result (λ s. IsInProgress (seen self.now.judge) s.0) }
+        ensures { IfSome result (λ s. IsInProgress (seen_history self.now.judge) s.0) }
     {
         match (row.kind, row.word) {
             (Kind::Commit | Kind::Abort, Word::Scx(scx, _)) if self.judge.is_in_progress(scx) => {
@@ -223,7 +223,7 @@ impl Steps {
         ensures same { self.new ≡ record self.old { memories = self.new.memories } }
         ensures many { length self.new.memories.items ≡ length self.old.memories.items }
         ensures others { (c : ℕ) → (c ≡ row.now.pass.0 → ⊥) → slice_get self.new.memories.items c ≡ slice_get self.old.memories.items c }
-        ensures own { (m : Memory) → slice_get self.new.memories.items row.now.pass.0 ≡ Some m → (old : Memory) × (slice_get self.old.memories.items row.now.pass.0 ≡ Some old) × IsNoted self.old.judge.layout (seen self.old.judge) self.old.count row.now old m }
+        ensures own { (m : Memory) → slice_get self.new.memories.items row.now.pass.0 ≡ Some m → (old : Memory) × (slice_get self.old.memories.items row.now.pass.0 ≡ Some old) × IsNoted self.old.judge.layout (seen_history self.old.judge) self.old.count row.now old m }
     {
         let look = self.look_by(row);
         if let Some(memory) = self.memories.get_mut(row.pass.0 as usize) {
@@ -234,7 +234,7 @@ impl Steps {
 
     /// What a step that was made has found, if it is one at an info word.
     fn look_by(&self, row: &Row) -> Option<Look>
-        ensures { IfSome result (λ look. IsLookBy self.now.judge.layout (seen self.now.judge) self.now.count row.now look) }
+        ensures { IfSome result (λ look. IsLookBy self.now.judge.layout (seen_history self.now.judge) self.now.count row.now look) }
     {
         let Word::Node(node, NodeWord::Info) = row.word else {
             return None;
@@ -291,7 +291,7 @@ impl Steps {
 
     /// How many nodes are left of a pass's share.
     fn nodes_left(&self, pass: PassNo) -> u32
-        ensures { pass.0 < self.now.judge.layout.passes → HasNodesLeft self.now.judge.layout pass.0 (seen self.now.judge) result }
+        ensures { pass.0 < self.now.judge.layout.passes → HasNodesLeft self.now.judge.layout pass.0 (seen_history self.now.judge) result }
     {
         let layout = self.judge.layout();
         if pass.0 < layout.passes {
@@ -303,7 +303,7 @@ impl Steps {
 
     /// How many SCX-records are left of a pass's share.
     fn scx_left(&self, pass: PassNo) -> u32
-        ensures { pass.0 < self.now.judge.layout.passes → HasScxLeft self.now.judge.layout pass.0 (seen self.now.judge) result }
+        ensures { pass.0 < self.now.judge.layout.passes → HasScxLeft self.now.judge.layout pass.0 (seen_history self.now.judge) result }
     {
         let layout = self.judge.layout();
         if pass.0 < layout.passes {
@@ -348,7 +348,7 @@ impl Steps {
 
     /// Whether an SCX-record covers a node.
     fn covers(&self, scx: ScxNo, node: NodeNo) -> bool
-        ensures { IsTrue result → IsMember (seen self.now.judge) scx.0 node.0 }
+        ensures { IsTrue result → IsMember (seen_history self.now.judge) scx.0 node.0 }
     {
         let plan = arena::Plan(self.judge.get(Word::Scx(scx, ScxWord::Plan)));
         for place in 0..plan.count() {
@@ -403,7 +403,7 @@ impl Steps {
     /// needs so many nodes.
     pub(crate) fn has_too_few(&self, pass: PassNo, needed: u32, full: (Resource, u32)) -> bool
         requires { pass.0 < self.now.judge.layout.passes }
-        ensures { IsTrue result → HasTooFew self.now.judge.layout pass.0 (seen self.now.judge) needed full.0 full.1 }
+        ensures { IsTrue result → HasTooFew self.now.judge.layout pass.0 (seen_history self.now.judge) needed full.0 full.1 }
     {
         is_too_few((self.nodes_left(pass), self.scx_left(pass)), needed, full)
     }

@@ -3,10 +3,10 @@ use Rattle.std.proofs.Common.{ℕ, ◌<◌, ◌≤◌, inl, inr, arith}
 use Rattle.arena.specs.declared.step.Step.{Step}
 use Rattle.arena.specs.History.{History}
 use Rattle.arena.specs.Machines.{Call}
-use Rattle.spelling.specs.CallRules.{TakesNothing, call_rules}
+use Rattle.ordered_map.specs.CallRules.{TakesNothing, call_rules}
 use Rattle.order.specs.Range.Known.{AsksForSome, RangeWaits, RangeWaitsAt, Visits}
 use Rattle.order.specs.Range.Laws.{range_fills_not}
-use Rattle.order.specs.Reads.{from}
+use Rattle.order.specs.Reads.{begun_at}
 use Rattle.order.specs.Successor.Laws.{successor_fills_not}
 use Rattle.order.specs.declared.range.RangeAt.{RangeAt}
 use Rattle.order.specs.declared.range.RangeAt.TheVariants.{Start, Root, Head, Key, Value, Look, Validate}
@@ -32,7 +32,7 @@ asks_at m c h s (Validate asked) w = w.1.asks
 
 -- so does one that waits for a step
 range_asks : (m : RangeRun) (c : Call) (h : History) (s : Step) → RangeWaits m c h s → AsksForSome m
-range_asks m c h s w = asks_at m (from c w.0) h s m.at w.3
+range_asks m c h s w = asks_at m (begun_at c w.0) h s m.at w.3
 
 -- a call that waits for a step asks for pairs, if it is a range
 pub asks_inside : (m : MapRun) (c : Call) (h : History) (s : Step) → WaitsInside m c h s → AsksForPairs (call_in m)

@@ -6,27 +6,27 @@ use Rattle.arena.specs.History.{History, ◌⊳◌, value, Extends}
 use Rattle.arena.specs.Machines.{Call, IsRun}
 use Rattle.arena.specs.Share.{Remaining}
 use Rattle.arena.proofs.Lemmas.{ends_self, ends_trans}
-use Rattle.spelling.specs.OrderedMap.{edit_key, MapCall, Edit, Get, Successor, Range, Insert, Delete, MapReply, OneValue, ManyPairs, changes, get, pair_or_none, reply, successor, between}
-use Rattle.spelling.specs.Spelled.{Spells}
-use Rattle.spelling.specs.declared.pair.Pair.{Pair}
-use Rattle.spelling.proofs.Lemmas.{run_spells}
-use Rattle.updates.specs.Tries.{HasEnteredNone}
+use Rattle.ordered_map.specs.OrderedMap.{edit_key, MapCall, Edit, Get, Successor, Range, Insert, Delete, MapReply, OneValue, ManyPairs, changes_map, get, pair_or_none, reply, successor, between}
+use Rattle.ordered_map.specs.Spelled.{Spells}
+use Rattle.ordered_map.specs.declared.pair.Pair.{Pair}
+use Rattle.ordered_map.proofs.Lemmas.{run_spells}
+use Rattle.edits.specs.Tries.{HasEnteredNone}
 use Rattle.dict.specs.Calls.{call_in, share_of}
 use Rattle.dict.specs.DictKnown.{DictRefuses, DictAnswers}
-use Rattle.spelling.specs.CallRules.{MayReply, form_of}
+use Rattle.ordered_map.specs.CallRules.{MayReply, form_of}
 use Rattle.dict.specs.Forms.{word_form}
-use Rattle.spelling.specs.CallRules as form
+use Rattle.ordered_map.specs.CallRules as form
 use Rattle.dict.specs.Known.{MapAnswers}
-use Rattle.dict.specs.Says.{HasChanged, HasRead, HasTold, HasToldBy, KeepsLists, Tells, WordSays}
+use Rattle.dict.specs.Says.{HasMadeEdit, HasReadMap, HasTold, HasToldBy, KeepsLists, TellsOfMap, WordSays}
 use Rattle.dict.specs.Translated.{TellsTyped, SaysSame, IsTranslated, HasFormOf}
 use Rattle.dict.specs.Typed.{AreTyped, IsTypedValue, IsTypedReply, TypedAllows}
-use Rattle.dict.specs.TypedMaps.{typed_map, typed_run, typed_since}
+use Rattle.dict.specs.Laws.TypedMaps.{typed_map, typed_run, typed_since}
 use Rattle.dict.specs.WordReplies.{told_in}
-use Rattle.dict.specs.Words.{IsWord, IsValidReply}
-use Rattle.spelling.specs.Replies.{told_of}
+use Rattle.dict.specs.Words.{IsWordOf, IsValidReply}
+use Rattle.ordered_map.specs.Replies.{told_of}
 use Rattle.dict.specs.declared.dict.DictRun.{DictRun}
-use Rattle.spelling.specs.declared.reply.Reply.{Reply}
-use Rattle.spelling.specs.declared.reply.Reply.TheVariants as replies
+use Rattle.ordered_map.specs.declared.reply.Reply.{Reply}
+use Rattle.ordered_map.specs.declared.reply.Reply.TheVariants as replies
 use Rattle.dict.specs.declared.told.WordReply.{WordReply}
 use Rattle.dict.specs.declared.told.WordReply.TheVariants as words
 
@@ -73,7 +73,7 @@ module _ (keys values : ℕ → Type 0) where
     map_typed : (moment : History) (m : List Pair) → Extends h moment → Spells c.layout (value moment) m → AreTyped keys values m
     map_typed moment m within x = typed_map keys values c.layout moment mode (typed_since keys values c.layout h moment run within) m x
 
-    changed_typed : (call : MapCall) (told : MapReply) → HasChanged c h call told → IsTypedReply keys values told
+    changed_typed : (call : MapCall) (told : MapReply) → HasMadeEdit c h call told → IsTypedReply keys values told
     changed_typed call told x =
         let within : Extends h x.made.before = ends_trans h (x.made.row ⊳ x.made.before) x.made.before x.made.within (inr (ends_self x.made.before)) in
         let map : (m : List Pair) × Spells c.layout (value x.made.before) m = run_spells c.layout x.made.before (mode, typed_run keys values c.layout x.made.before (typed_since keys values c.layout h x.made.before run within)) in
@@ -81,16 +81,16 @@ module _ (keys values : ℕ → Type 0) where
         let old : IsTypedValue values x.old = subst (IsTypedValue values) (x.made.told map.0 map.1) typed in
         subst (IsTypedReply keys values) (sym x.tells) old
 
-    read_typed : (call : MapCall) (told : MapReply) → HasRead c h call told → IsTypedReply keys values told
+    read_typed : (call : MapCall) (told : MapReply) → HasReadMap c h call told → IsTypedReply keys values told
     read_typed call told x = subst (IsTypedReply keys values) x.gives (reply_typed call x.map (map_typed x.moment x.map x.within x.spelled))
 
     by_typed : (b : Bool) (call : MapCall) (told : MapReply) → HasToldBy b c h call told → IsTypedReply keys values told
     by_typed true call told x = changed_typed call told x
     by_typed false call told x = read_typed call told x
 
-    pub told_typed : (call : MapCall) (told : Option MapReply) → Tells c h call told → TellsTyped keys values told
+    pub told_typed : (call : MapCall) (told : Option MapReply) → TellsOfMap c h call told → TellsTyped keys values told
     told_typed call None x = tt
-    told_typed call (Some told) x = by_typed (changes call told) call told x
+    told_typed call (Some told) x = by_typed (changes_map call told) call told x
 
 -- What the reply of keys and values says
 
@@ -105,7 +105,7 @@ module _ (c : Call) (h : History) where
 
   module _ {K V : Type 0} (key : K → ℕ) (value_of : V → ℕ) (call : MapCall) (share : Remaining) (tries : ℕ) where
     abbrev Right : Reply K V → Type 0
-    Right r = Tells c h call (told_of key value_of r) × DictRefuses c h call share tries r
+    Right r = TellsOfMap c h call (told_of key value_of r) × DictRefuses c h call share tries r
 
     -- a reply that tells something refuses nothing
     refuses_none : (r : Reply K V) (told : MapReply) → told_of key value_of r ≡ Some told → DictRefuses c h call share tries r
@@ -117,7 +117,7 @@ module _ (c : Call) (h : History) where
     refuses_none replies.NoMemory told e = absurd cc
 
     tells_same : (r : Reply K V) (told : MapReply) → told_of key value_of r ≡ Some told → HasTold c h call told → Right r
-    tells_same r told e x = (subst (Tells c h call) (sym e) x, refuses_none r told e)
+    tells_same r told e x = (subst (TellsOfMap c h call) (sym e) x, refuses_none r told e)
 
     pub says_right : (w : WordReply) (r : Reply K V) → SaysSame key value_of w r → WordSays c h call share tries w → Right r
     says_right (words.Value told) r e x = tells_same r (OneValue told) e x.0
@@ -140,8 +140,8 @@ may_reply call w r (inl e) x = subst (MayReply call) (sym e) x
 may_reply call w r (inr e) x = subst (MayReply call) (sym e.1) (may_lack call (subst (MayReply call) e.0 x))
 
 module _ {K V : Type 0} (valid_key : K → Type 0) (key : K → ℕ) (valid_value : V → Type 0) (value_of : V → ℕ) where
-  pub dict_ends : (m : DictRun K V) (c : Call) (h : History) (w : WordReply) (r : Reply K V) → c.layout.mode ≡ TreeMode → IsRun (TypedAllows (IsWord valid_key key) (IsWord valid_value value_of)) c.layout h → MapAnswers m.tries m.run c h w → IsValidReply valid_key valid_value r → IsTranslated valid_key key valid_value value_of w r → HasFormOf w r → DictAnswers valid_key key valid_value value_of m c h r
+  pub dict_ends : (m : DictRun K V) (c : Call) (h : History) (w : WordReply) (r : Reply K V) → c.layout.mode ≡ TreeMode → IsRun (TypedAllows (IsWordOf valid_key key) (IsWordOf valid_value value_of)) c.layout h → MapAnswers m.tries m.run c h w → IsValidReply valid_key valid_value r → IsTranslated valid_key key valid_value value_of w r → HasFormOf w r → DictAnswers valid_key key valid_value value_of m c h r
   dict_ends m c h w r mode run x valid same forms =
-      let e : SaysSame key value_of w r = same (told_typed (IsWord valid_key key) (IsWord valid_value value_of) c h mode run (call_in m.run) (told_in w) x.says.0) in
+      let e : SaysSame key value_of w r = same (told_typed (IsWordOf valid_key key) (IsWordOf valid_value value_of) c h mode run (call_in m.run) (told_in w) x.says.0) in
       let y = says_right c h key value_of (call_in m.run) (share_of m.run) m.tries w r e x.says in
       record { rests = x.rests; spent = x.spent; form = may_reply (call_in m.run) w r forms x.form; valid = valid; tells = y.0; refuses = y.1 }

@@ -10,9 +10,9 @@ use Rattle.order.specs.declared.range.RangeRun.{RangeRun}
 use Rattle.order.specs.declared.refused.Refused.{Refused}
 use Rattle.order.specs.declared.refused.Refused.TheVariants as refused
 use Rattle.order.specs.declared.successor.SuccessorRun.{SuccessorRun}
-use Rattle.spelling.specs.OrderedMap.{MapCall, Edit, Successor as SuccessorOf, Range as RangeOf, Insert as PutEdit, Delete as TakeEdit, OneValue, ManyPairs, pair_or_none}
-use Rattle.spelling.specs.Runs.{IsTreeRun}
-use Rattle.spelling.specs.declared.pair.Pair.{Pair}
+use Rattle.ordered_map.specs.OrderedMap.{MapCall, Edit, Successor as SuccessorOf, Range as RangeOf, Insert as PutEdit, Delete as TakeEdit, OneValue, ManyPairs, pair_or_none}
+use Rattle.ordered_map.specs.Runs.{IsTreeRun}
+use Rattle.ordered_map.specs.declared.pair.Pair.{Pair}
 use Rattle.template.specs.Blame.{HasLostTriesTo}
 use Rattle.template.specs.declared.walk.Found.{Found}
 use Rattle.tree.specs.Delete.Means.{delete_means, delete_need}
@@ -21,20 +21,20 @@ use Rattle.tree.specs.Insert.Means.{insert_means, insert_need}
 use Rattle.tree.specs.declared.delete.Delete.{Delete as Deleted}
 use Rattle.tree.specs.declared.get.GetRun.{GetRun}
 use Rattle.tree.specs.declared.insert.Insert.{Insert as Inserted}
-use Rattle.updates.specs.Known.{RestsWith, HasMade, IsDoneAt, UpdateSays}
-use Rattle.updates.specs.Pieces.{many_nodes}
-use Rattle.updates.specs.Steps.{Spends}
-use Rattle.updates.specs.Tries.{HasEnteredNone}
-use Rattle.updates.specs.declared.edit.Need.TheVariants.{Nothing, One}
-use Rattle.updates.specs.declared.update.UpdateAt.{UpdateAt}
-use Rattle.updates.specs.declared.update.UpdateRun.{UpdateRun}
-use Rattle.updates.specs.declared.update.Updated.{Updated}
-use Rattle.updates.specs.declared.update.Updated.TheVariants.{Done, Contended, Full}
-use Rattle.spelling.specs.CallRules.{insert_nodes, delete_nodes}
+use Rattle.edits.specs.Known.{RestsWith, HasMade, IsDoneAt, IsUpdateAnswer}
+use Rattle.edits.specs.Pieces.{many_nodes}
+use Rattle.edits.specs.Steps.{Spends}
+use Rattle.edits.specs.Tries.{HasEnteredNone}
+use Rattle.edits.specs.declared.edit.Need.TheVariants.{Nothing, One}
+use Rattle.edits.specs.declared.update.UpdateAt.{UpdateAt}
+use Rattle.edits.specs.declared.update.UpdateRun.{UpdateRun}
+use Rattle.edits.specs.declared.update.Updated.{Updated}
+use Rattle.edits.specs.declared.update.Updated.TheVariants.{Done, Contended, Full}
+use Rattle.ordered_map.specs.CallRules.{insert_nodes, delete_nodes}
 use Rattle.dict.specs.Calls.{call_in, AsksForPairs, HasSpent}
-use Rattle.dict.specs.Known.{Rests, HasSpentSo}
-use Rattle.dict.specs.Says.{WordSays, HasRead}
-use Rattle.dict.specs.WordReplies.{update_reply, successor_reply, range_reply}
+use Rattle.dict.specs.Known.{HasRested, HasSpentSo}
+use Rattle.dict.specs.Says.{WordSays, HasReadMap}
+use Rattle.dict.specs.WordReplies.{word_reply, successor_reply, range_reply}
 use Rattle.dict.specs.declared.run.MapRun.TheVariants as runs
 use Rattle.dict.specs.declared.told.WordReply.TheVariants as words
 use Rattle.dict.proofs.Readings.{none_entered, answer_read, reply_read, always_read, leaf_read, ran_out}
@@ -76,7 +76,7 @@ module _ (tries : ℕ) (c : Call) (h : History) where
   lost : {limit n s : ℕ} → limit ≡ tries → HasLostTriesTo c.pass h c.start limit n s → HasLostTriesTo c.pass h c.start tries n s
   lost {limit} {n} {s} e x = subst (λ k. HasLostTriesTo c.pass h c.start k n s) e x
 
-  pub insert_says : (m : UpdateRun Inserted UpdateAt) (a : Updated) → IsTreeRun c.layout h → m.edit.key < 2 ^ 64 → m.call ≡ c.number → m.limit ≡ tries → UpdateSays insert_means m c h a → WordSays c h (Edit (PutEdit m.edit.key m.edit.value)) m.share tries (update_reply a)
+  pub insert_says : (m : UpdateRun Inserted UpdateAt) (a : Updated) → IsTreeRun c.layout h → m.edit.key < 2 ^ 64 → m.call ≡ c.number → m.limit ≡ tries → IsUpdateAnswer insert_means m c h a → WordSays c h (Edit (PutEdit m.edit.key m.edit.value)) m.share tries (word_reply a)
   insert_says m (Done key value) run small number limit x = subst (λ v. WordSays c h (Edit (PutEdit m.edit.key m.edit.value)) m.share tries (words.Value v)) x.is_value (insert_done m x.found number x.is_done)
   insert_says m (Contended node scx) run small number limit x = (tt, record { way = x.0; all = lost limit x.3; none = x.2 })
   insert_says m (Full full) run small number limit x = (
@@ -90,7 +90,7 @@ module _ (tries : ℕ) (c : Call) (h : History) where
   -- a delete that is done has changed it, or has found no value
   delete_done : (m : UpdateRun Deleted UpdateAt) (found : Found) (old : Option ℕ) → found.value ≡ old → IsTreeRun c.layout h → m.edit.key < 2 ^ 64 → m.call ≡ c.number → IsDoneAt delete_means m.edit m.call c h found → WordSays c h (Edit (TakeEdit m.edit.key)) m.share tries (words.Value old)
   delete_done m found None e run small number (inl x) =
-      let y : HasRead c h (Edit (TakeEdit m.edit.key)) (OneValue found.value) = let z = leaf_read c h m.edit.key found small run x.has_found x.none in record { moment = z.moment; within = z.within; since = z.since; own = λ _. z.own tt; map = z.map; spelled = z.spelled; gives = z.gives; none = z.none } in
+      let y : HasReadMap c h (Edit (TakeEdit m.edit.key)) (OneValue found.value) = let z = leaf_read c h m.edit.key found small run x.has_found x.none in record { moment = z.moment; within = z.within; since = z.since; own = λ _. z.own tt; map = z.map; spelled = z.spelled; gives = z.gives; none = z.none } in
       (rw e at y, tt)
   delete_done m found (Some old) e run small number (inl x) = absurd (let none : One ≡ Nothing = subst (λ o. delete_need o ≡ Nothing) e x.needless in cc)
   delete_done m found None e run small number (inr x) = absurd (x.1.needed (subst (λ o. delete_need o ≡ Nothing) (sym e) refl))
@@ -98,7 +98,7 @@ module _ (tries : ℕ) (c : Call) (h : History) where
       let made : HasMade (TakeEdit m.edit.key) c h c.number (Some old) = rw (number, e) at x.0 in
       (record { edit = TakeEdit m.edit.key; is_edit = refl; old = Some old; tells = refl; made = made }, tt)
 
-  pub delete_says : (m : UpdateRun Deleted UpdateAt) (a : Updated) → IsTreeRun c.layout h → m.edit.key < 2 ^ 64 → m.call ≡ c.number → m.limit ≡ tries → UpdateSays delete_means m c h a → WordSays c h (Edit (TakeEdit m.edit.key)) m.share tries (update_reply a)
+  pub delete_says : (m : UpdateRun Deleted UpdateAt) (a : Updated) → IsTreeRun c.layout h → m.edit.key < 2 ^ 64 → m.call ≡ c.number → m.limit ≡ tries → IsUpdateAnswer delete_means m c h a → WordSays c h (Edit (TakeEdit m.edit.key)) m.share tries (word_reply a)
   delete_says m (Done key value) run small number limit x = delete_done m x.found value x.is_value run small number x.is_done
   delete_says m (Contended node scx) run small number limit x = (tt, record { way = x.0; all = lost limit x.3; none = x.2 })
   delete_says m (Full full) run small number limit x = (
@@ -110,17 +110,17 @@ module _ (tries : ℕ) (c : Call) (h : History) where
   )
 
   -- a get has read what it tells
-  pub get_says : (m : GetRun) (share : Remaining) (a : Option ℕ) → Rests c h share → GetAnswers m c h a → WordSays c h (call_in (runs.Get m share)) share tries (words.Value a)
+  pub get_says : (m : GetRun) (share : Remaining) (a : Option ℕ) → HasRested c h share → GetAnswers m c h a → WordSays c h (call_in (runs.Get m share)) share tries (words.Value a)
   get_says m share a x y = (answer_read c h y.first m.key a y.own y.right y.none, tt)
 
   -- so has a successor
-  pub successor_says : (m : SuccessorRun) (share : Remaining) (a : Result (Option Pair) Refused) → Rests c h share → m.limit ≡ tries → SuccessorAnswers m c h a → WordSays c h (SuccessorOf m.key) share tries (successor_reply a)
+  pub successor_says : (m : SuccessorRun) (share : Remaining) (a : Result (Option Pair) Refused) → HasRested c h share → m.limit ≡ tries → SuccessorAnswers m c h a → WordSays c h (SuccessorOf m.key) share tries (successor_reply a)
   successor_says m share (Ok found) x limit y = (reply_read c h (SuccessorOf m.key) (pair_or_none found) y.1 (none_entered c h share x), tt)
   successor_says m share (Err (refused.Contended node scx)) x limit y = (tt, record { way = y.1.0; all = lost limit y.1.2; none = none_entered c h share x })
   successor_says m share (Err refused.NoMemory) x limit y = (tt, (tt, none_entered c h share x))
 
   -- and a range, or it tells what every map replies
-  pub range_says : (m : RangeRun) (share : Remaining) (a : Result (Vec Pair Global) Refused) → Rests c h share → m.limit ≡ tries → RangeAnswers m c h a → WordSays c h (RangeOf m.low m.high m.most) share tries (range_reply a)
+  pub range_says : (m : RangeRun) (share : Remaining) (a : Result (Vec Pair Global) Refused) → HasRested c h share → m.limit ≡ tries → RangeAnswers m c h a → WordSays c h (RangeOf m.low m.high m.most) share tries (range_reply a)
   range_says m share (Ok found) x limit y = (⊎_elim (λ z. reply_read c h (RangeOf m.low m.high m.most) (ManyPairs found.items) z none) (λ z. always_read c h (RangeOf m.low m.high m.most) (ManyPairs found.items) x.run x.since (takes_none m.low m.high m.most z.0) (λ map. ap ManyPairs (z.1 map)) none) y.1, tt)
     where
       none : HasEnteredNone c.layout c.pass h c.start

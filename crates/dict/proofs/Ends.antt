@@ -10,32 +10,32 @@ use Rattle.order.specs.declared.range.RangeRun.{RangeRun}
 use Rattle.order.specs.declared.refused.Refused.{Refused}
 use Rattle.order.specs.declared.refused.Refused.TheVariants as refused
 use Rattle.order.specs.declared.successor.SuccessorRun.{SuccessorRun}
-use Rattle.spelling.specs.OrderedMap.{MapEdit, Edit, Get as GetOf, Successor as SuccessorOf, Range as RangeOf, Insert as PutEdit, Delete as TakeEdit}
-use Rattle.spelling.specs.TreeShape.{TreeAllows}
-use Rattle.spelling.specs.declared.pair.Pair.{Pair}
+use Rattle.ordered_map.specs.OrderedMap.{MapEdit, Edit, Get as GetOf, Successor as SuccessorOf, Range as RangeOf, Insert as PutEdit, Delete as TakeEdit}
+use Rattle.ordered_map.specs.TreeShape.{TreeAllows}
+use Rattle.ordered_map.specs.declared.pair.Pair.{Pair}
 use Rattle.tree.specs.Delete.Means.{delete_means}
 use Rattle.tree.specs.Get.Known.{GetAnswers}
 use Rattle.tree.specs.Insert.Means.{insert_means}
 use Rattle.tree.specs.declared.delete.Delete.{Delete as Deleted}
 use Rattle.tree.specs.declared.get.GetRun.{GetRun}
 use Rattle.tree.specs.declared.insert.Insert.{Insert as Inserted}
-use Rattle.updates.specs.Known.{RestsWith, UpdateAnswers}
-use Rattle.updates.specs.Steps.{node_tries, scx_tries, Spends}
-use Rattle.updates.specs.declared.update.UpdateAt.{UpdateAt}
-use Rattle.updates.specs.declared.update.UpdateRun.{UpdateRun}
-use Rattle.updates.specs.declared.update.Updated.{Updated}
-use Rattle.updates.specs.declared.update.Updated.TheVariants as updated
-use Rattle.spelling.specs.CallRules.{MayReply}
+use Rattle.edits.specs.Known.{RestsWith, UpdateAnswers}
+use Rattle.edits.specs.Steps.{node_tries, scx_tries, Spends}
+use Rattle.edits.specs.declared.update.UpdateAt.{UpdateAt}
+use Rattle.edits.specs.declared.update.UpdateRun.{UpdateRun}
+use Rattle.edits.specs.declared.update.Updated.{Updated}
+use Rattle.edits.specs.declared.update.Updated.TheVariants as updated
+use Rattle.ordered_map.specs.CallRules.{MayReply}
 use Rattle.dict.specs.Forms.{word_form}
-use Rattle.dict.specs.Known.{Rests, Goes, MapAnswers}
-use Rattle.dict.specs.WordReplies.{update_reply, successor_reply, range_reply}
+use Rattle.dict.specs.Known.{HasRested, Goes, MapAnswers}
+use Rattle.dict.specs.WordReplies.{word_reply, successor_reply, range_reply}
 use Rattle.dict.specs.declared.run.MapRun.TheVariants.{Insert, Delete, Get, Successor, Range}
 use Rattle.dict.specs.declared.told.WordReply.TheVariants as words
 use Rattle.dict.proofs.Endings.{insert_says, delete_says, get_says, successor_says, range_says, read_spent, edit_spends, insert_spent, delete_spent}
 
 -- What they answer is of a form that such a call may reply
 
-update_form : (e : MapEdit) (a : Updated) → MayReply (Edit e) (word_form (update_reply a))
+update_form : (e : MapEdit) (a : Updated) → MayReply (Edit e) (word_form (word_reply a))
 update_form e (updated.Done key value) = tt
 update_form e (updated.Contended node scx) = tt
 update_form e (updated.Full full) = tt
@@ -75,7 +75,7 @@ module _ (tries : ℕ) (c : Call) where
 -- Their answers
 
 module _ (tries : ℕ) (c : Call) (h : History) where
-  pub insert_ends : (old now : UpdateRun Inserted UpdateAt) (a : Updated) → IsRun TreeAllows c.layout h → Goes (Insert old) tries c → now.edit ≡ old.edit → now.call ≡ old.call → now.limit ≡ old.limit → Spends 3 old.share now.share (node_tries old old.at) 0 (scx_tries old old.at) 0 → UpdateAnswers insert_means now c h a → MapAnswers tries (Insert now) c h (update_reply a)
+  pub insert_ends : (old now : UpdateRun Inserted UpdateAt) (a : Updated) → IsRun TreeAllows c.layout h → Goes (Insert old) tries c → now.edit ≡ old.edit → now.call ≡ old.call → now.limit ≡ old.limit → Spends 3 old.share now.share (node_tries old old.at) 0 (scx_tries old old.at) 0 → UpdateAnswers insert_means now c h a → MapAnswers tries (Insert now) c h (word_reply a)
   insert_ends old now a run goes edit call limit spends x =
       let small : now.edit.key < 2 ^ 64 = rw edit goes.small in
       record {
@@ -85,7 +85,7 @@ module _ (tries : ℕ) (c : Call) (h : History) where
         says = insert_says tries c h now a (goes.mode, run) small (call ∙ goes.number) (limit ∙ goes.limit) x.1;
       }
 
-  pub delete_ends : (old now : UpdateRun Deleted UpdateAt) (a : Updated) → IsRun TreeAllows c.layout h → Goes (Delete old) tries c → now.edit ≡ old.edit → now.call ≡ old.call → now.limit ≡ old.limit → Spends 1 old.share now.share (node_tries old old.at) 0 (scx_tries old old.at) 0 → UpdateAnswers delete_means now c h a → MapAnswers tries (Delete now) c h (update_reply a)
+  pub delete_ends : (old now : UpdateRun Deleted UpdateAt) (a : Updated) → IsRun TreeAllows c.layout h → Goes (Delete old) tries c → now.edit ≡ old.edit → now.call ≡ old.call → now.limit ≡ old.limit → Spends 1 old.share now.share (node_tries old old.at) 0 (scx_tries old old.at) 0 → UpdateAnswers delete_means now c h a → MapAnswers tries (Delete now) c h (word_reply a)
   delete_ends old now a run goes edit call limit spends x =
       let small : now.edit.key < 2 ^ 64 = rw edit goes.small in
       record {
@@ -95,11 +95,11 @@ module _ (tries : ℕ) (c : Call) (h : History) where
         says = delete_says tries c h now a (goes.mode, run) small (call ∙ goes.number) (limit ∙ goes.limit) x.1;
       }
 
-  pub get_ends : (now : GetRun) (share : Remaining) (a : Option ℕ) → Rests c h share → RestsWith c c.start share → GetAnswers now c h a → MapAnswers tries (Get now share) c h (words.Value a)
+  pub get_ends : (now : GetRun) (share : Remaining) (a : Option ℕ) → HasRested c h share → RestsWith c c.start share → GetAnswers now c h a → MapAnswers tries (Get now share) c h (words.Value a)
   get_ends now share a x spent y = record { rests = x.now; spent = read_spent c (GetOf now.key) tries share spent; form = tt; says = get_says tries c h now share a x y }
 
-  pub successor_ends : (now : SuccessorRun) (share : Remaining) (a : Result (Option Pair) Refused) → Rests c h share → RestsWith c c.start share → now.limit ≡ tries → SuccessorAnswers now c h a → MapAnswers tries (Successor now share) c h (successor_reply a)
+  pub successor_ends : (now : SuccessorRun) (share : Remaining) (a : Result (Option Pair) Refused) → HasRested c h share → RestsWith c c.start share → now.limit ≡ tries → SuccessorAnswers now c h a → MapAnswers tries (Successor now share) c h (successor_reply a)
   successor_ends now share a x spent limit y = record { rests = x.now; spent = read_spent c (SuccessorOf now.key) tries share spent; form = successor_form now.key a; says = successor_says tries c h now share a x limit y }
 
-  pub range_ends : (now : RangeRun) (share : Remaining) (a : Result (Vec Pair Global) Refused) → Rests c h share → RestsWith c c.start share → now.limit ≡ tries → RangeAnswers now c h a → MapAnswers tries (Range now share) c h (range_reply a)
+  pub range_ends : (now : RangeRun) (share : Remaining) (a : Result (Vec Pair Global) Refused) → HasRested c h share → RestsWith c c.start share → now.limit ≡ tries → RangeAnswers now c h a → MapAnswers tries (Range now share) c h (range_reply a)
   range_ends now share a x spent limit y = record { rests = x.now; spent = read_spent c (RangeOf now.low now.high now.most) tries share spent; form = range_form now.low now.high now.most a; says = range_says tries c h now share a x limit y }

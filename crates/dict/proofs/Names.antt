@@ -5,7 +5,7 @@ use Rattle.std.specs.Char.{is_ascii_graphic}
 use Rattle.std.specs.Int.{from_be_bytes, to_be_bytes}
 use Rattle.std.proofs.lemmas.Bool.Decides.{nat_tests}
 use Rattle.std.proofs.lemmas.Nat.{be_bytes_8}
-use Rattle.dict.specs.Names.{filled, is_padded, is_name_word, name_word}
+use Rattle.dict.specs.Names.{zero_padded, is_padded, is_name_word, name_word}
 
 zeros_are_zeros : (n : ℕ) → list_all (λ c. c == 0) (repeat n (0 ∷ [])) ≡ true
 zeros_are_zeros zero = refl
@@ -56,21 +56,21 @@ zeros_left (suc n) zero = let e : suc n - 0 ≡ suc n = omega arith in rw e refl
 zeros_left (suc n) (suc k) = let e : suc n - suc k ≡ n - k = omega arith in rw e (zeros_left n k)
 
 -- what is copied over zeros, and the zeros that are left
-pub copied_over : (text letters front : List ℕ) → front ≡ letters → letters ≡ text → front ++ drop (length letters) (0 ∷ 0 ∷ 0 ∷ 0 ∷ 0 ∷ 0 ∷ 0 ∷ 0 ∷ []) ≡ filled text
+pub copied_over : (text letters front : List ℕ) → front ≡ letters → letters ≡ text → front ++ drop (length letters) (0 ∷ 0 ∷ 0 ∷ 0 ∷ 0 ∷ 0 ∷ 0 ∷ 0 ∷ []) ≡ zero_padded text
 copied_over text letters front e f = rw e (rw f (ap (λ zs. text ++ zs) (zeros_left 8 (length text))))
 
 -- these bytes are those of their number
-own_bytes : (bs : List ℕ) (w : ℕ) → length bs ≤ 8 → ((i : ℕ) → get_or bs i 0 < 256) → w ≡ from_be_bytes w64 (filled bs) → to_be_bytes w64 w ≡ filled bs
+own_bytes : (bs : List ℕ) (w : ℕ) → length bs ≤ 8 → ((i : ℕ) → get_or bs i 0 < 256) → w ≡ from_be_bytes w64 (zero_padded bs) → to_be_bytes w64 w ≡ zero_padded bs
 own_bytes bs w few below e =
-    be_bytes_8 (filled bs) w (let l = length_behind bs (8 - length bs) in omega arith) (bytes_there bs (8 - length bs) below) e
+    be_bytes_8 (zero_padded bs) w (let l = length_behind bs (8 - length bs) in omega arith) (bytes_there bs (8 - length bs) below) e
 
 -- the word of a name
-pub word_is : (bs : List ℕ) (w : ℕ) → w ≡ from_be_bytes w64 (filled bs) → w ≡ name_word bs
+pub word_is : (bs : List ℕ) (w : ℕ) → w ≡ from_be_bytes w64 (zero_padded bs) → w ≡ name_word bs
 unfolding name_word
 word_is bs w e = e
 
 -- it is a name's
-pub word_spells : (bs : List ℕ) (w : ℕ) → length bs ≤ 8 → list_all is_ascii_graphic bs ≡ true → ((i : ℕ) → get_or bs i 0 < 256) → w ≡ from_be_bytes w64 (filled bs) → is_name_word w ≡ true
+pub word_spells : (bs : List ℕ) (w : ℕ) → length bs ≤ 8 → list_all is_ascii_graphic bs ≡ true → ((i : ℕ) → get_or bs i 0 < 256) → w ≡ from_be_bytes w64 (zero_padded bs) → is_name_word w ≡ true
 unfolding is_name_word
 word_spells bs w few letters below e =
     ap is_padded (own_bytes bs w few below e) ∙ letters_are_padded bs (8 - length bs) letters

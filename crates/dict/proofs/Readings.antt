@@ -9,29 +9,29 @@ use Rattle.arena.specs.Machines.{Call}
 use Rattle.arena.specs.Share.{Remaining}
 use Rattle.arena.proofs.Lemmas.{ends_self, ends_trans}
 use Rattle.order.specs.Replies.{IsReplyAt}
-use Rattle.spelling.specs.OrderedMap.{MapCall, Get, MapReply, OneValue, get, reply}
-use Rattle.spelling.specs.Paths.{IsAnswerAt}
-use Rattle.spelling.specs.Runs.{IsTreeRun}
-use Rattle.spelling.specs.Spelled.{Spells}
-use Rattle.spelling.specs.declared.pair.Pair.{Pair}
-use Rattle.spelling.proofs.Lemmas.{run_spells, walk_answers}
+use Rattle.ordered_map.specs.OrderedMap.{MapCall, Get, MapReply, OneValue, get, reply}
+use Rattle.ordered_map.specs.Paths.{IsAnswerAt}
+use Rattle.ordered_map.specs.Runs.{IsTreeRun}
+use Rattle.ordered_map.specs.Spelled.{Spells}
+use Rattle.ordered_map.specs.declared.pair.Pair.{Pair}
+use Rattle.ordered_map.proofs.Lemmas.{run_spells, walk_answers}
 use Rattle.template.specs.FoundLeaf.{HasFoundLeaf}
 use Rattle.template.specs.Trails.{IsOwnMoment}
 use Rattle.template.specs.declared.walk.Found.{Found}
 use Rattle.template.proofs.Lemmas.{own_since}
-use Rattle.updates.specs.Known.{IsShort, IsUntouched}
-use Rattle.updates.specs.Laws.Entered.{none_quiet}
-use Rattle.updates.specs.Pieces.{many_nodes}
-use Rattle.updates.specs.Tries.{HasEnteredNone}
-use Rattle.updates.specs.declared.edit.Need.{Need}
-use Rattle.spelling.specs.CallRules.{need}
+use Rattle.edits.specs.Known.{IsShort, IsUntouched}
+use Rattle.edits.specs.Laws.Entered.{none_quiet}
+use Rattle.edits.specs.Pieces.{many_nodes}
+use Rattle.edits.specs.Tries.{HasEnteredNone}
+use Rattle.edits.specs.declared.edit.Need.{Need}
+use Rattle.ordered_map.specs.CallRules.{need}
 use Rattle.dict.specs.Calls.{AsksForPairs}
-use Rattle.dict.specs.Known.{Rests}
-use Rattle.dict.specs.Says.{HasMadeRow, HasRead, HasTooLittle, HasRunOut}
+use Rattle.dict.specs.Known.{HasRested}
+use Rattle.dict.specs.Says.{HasMadeRow, HasReadMap, HasTooLittle, HasRunOut}
 
 module _ (c : Call) (h : History) where
   -- a pass at rest has entered nothing
-  pub none_entered : (share : Remaining) → Rests c h share → HasEnteredNone c.layout c.pass h c.start
+  pub none_entered : (share : Remaining) → HasRested c h share → HasEnteredNone c.layout c.pass h c.start
   none_entered share x = none_quiet c.layout c.pass h c.start x.run.1.lawful x.quiet
 
   -- a moment from an own one on is not before the call's first own row
@@ -39,7 +39,7 @@ module _ (c : Call) (h : History) where
   behind_own moment first own since = record { row = own.row; before = own.before; within = subst (Extends moment) own.is since; since = own.since; of_pass = own.own }
 
   -- what was the answer at a moment behind an own one was read in the call
-  pub answer_read : (first : History) (key : ℕ) (answer : Option ℕ) → IsOwnMoment c first → IsAnswerAt c.layout h first key answer → HasEnteredNone c.layout c.pass h c.start → HasRead c h (Get key) (OneValue answer)
+  pub answer_read : (first : History) (key : ℕ) (answer : Option ℕ) → IsOwnMoment c first → IsAnswerAt c.layout h first key answer → HasEnteredNone c.layout c.pass h c.start → HasReadMap c h (Get key) (OneValue answer)
   answer_read first key answer own x none = record {
     moment = x.moment;
     within = x.within;
@@ -52,7 +52,7 @@ module _ (c : Call) (h : History) where
   }
 
   -- so was what an ordered read has replied
-  pub reply_read : (call : MapCall) (told : MapReply) → IsReplyAt c h call told → HasEnteredNone c.layout c.pass h c.start → HasRead c h call told
+  pub reply_read : (call : MapCall) (told : MapReply) → IsReplyAt c h call told → HasEnteredNone c.layout c.pass h c.start → HasReadMap c h call told
   reply_read call told x none = record {
     moment = x.moment;
     within = x.within;
@@ -65,13 +65,13 @@ module _ (c : Call) (h : History) where
   }
 
   -- and what every map replies, of a range that takes no pair
-  pub always_read : (call : MapCall) (told : MapReply) → IsTreeRun c.layout h → Extends h c.start → ¬ AsksForPairs call → ((map : List Pair) → reply call map ≡ told) → HasEnteredNone c.layout c.pass h c.start → HasRead c h call told
+  pub always_read : (call : MapCall) (told : MapReply) → IsTreeRun c.layout h → Extends h c.start → ¬ AsksForPairs call → ((map : List Pair) → reply call map ≡ told) → HasEnteredNone c.layout c.pass h c.start → HasReadMap c h call told
   always_read call told run since asks_not gives none =
       let map : (ps : List Pair) × Spells c.layout (value h) ps = run_spells c.layout h run in
       record { moment = h; within = ends_self h; since = since; own = λ asks. absurd (asks_not asks); map = map.0; spelled = map.1; gives = gives map.0; none = none }
 
   -- the leaf that was found tells what the map had at a moment of the call
-  pub leaf_read : (key : ℕ) (f : Found) → key < 2 ^ 64 → IsTreeRun c.layout h → HasFoundLeaf c h key f → HasEnteredNone c.layout c.pass h c.start → HasRead c h (Get key) (OneValue f.value)
+  pub leaf_read : (key : ℕ) (f : Found) → key < 2 ^ 64 → IsTreeRun c.layout h → HasFoundLeaf c h key f → HasEnteredNone c.layout c.pass h c.start → HasReadMap c h (Get key) (OneValue f.value)
   leaf_read key f small run x none =
       let first = x.trail.node.first in
       answer_read first key f.value x.trail.node.own (subst (IsAnswerAt c.layout h first key) (sym x.says) (walk_answers c.layout h first key f.trail.node.0 small run x.trail.node.passed x.leaf)) none
@@ -88,7 +88,7 @@ module _ (c : Call) (h : History) where
 
   -- so the share has run out for the edit that needs it, where the leaf that was found tells its
   -- need
-  pub ran_out : (call : MapCall) (key : ℕ) (f : Found) (want : Need) (share : Remaining) (full : FullOf) → HasRead c h (Get key) (OneValue f.value) → ((map : List Pair) → get key map ≡ f.value → many_nodes want ≡ need call map) → 0 < many_nodes want → IsShort want share full.what full.left → IsUntouched c h share → HasRunOut c h call share full
+  pub ran_out : (call : MapCall) (key : ℕ) (f : Found) (want : Need) (share : Remaining) (full : FullOf) → HasReadMap c h (Get key) (OneValue f.value) → ((map : List Pair) → get key map ≡ f.value → many_nodes want ≡ need call map) → 0 < many_nodes want → IsShort want share full.what full.left → IsUntouched c h share → HasRunOut c h call share full
   ran_out call key f want share full x needs some short first =
       let gives : get key x.map ≡ f.value = ap told_value x.gives in
       let e : many_nodes want ≡ need call x.map = needs x.map gives in

@@ -3,11 +3,11 @@ use Rattle.std.proofs.Common.{◌≡◌, ℕ, ◌+◌, ◌<◌, List, [], ◌∷
 use Rattle.std.specs.Prelude.{take, slice_index_or}
 use Rattle.std.proofs.lemmas.List.{take_more, map-append}
 use Rattle.std.proofs.lemmas.List.Elements.{All-push, All-nil}
-use Rattle.spelling.specs.declared.pair.Pair.{Pair}
+use Rattle.ordered_map.specs.declared.pair.Pair.{Pair}
 use Rattle.dict.specs.Translated.{ArePairsOf, IsPairOf}
 use Rattle.dict.specs.Typed.{AreTyped}
-use Rattle.dict.specs.Words.{IsWord, IsValidPair}
-use Rattle.spelling.specs.Replies.{word_pair}
+use Rattle.dict.specs.Words.{IsWordOf, IsValidPair}
+use Rattle.ordered_map.specs.Replies.{word_pair}
 
 -- the parts of a list of typed words are typed
 typed_first : (keys values : ℕ → Type 0) (ps qs : List Pair) → AreTyped keys values (ps ++ qs) → AreTyped keys values ps
@@ -29,18 +29,18 @@ module _ {K V : Type 0} (valid_key : K → Type 0) (key : K → ℕ) (valid_valu
     valid = All-push (IsValidPair valid_key valid_value) pairs pair x.valid y.valid;
     words_are = λ t.
         map-append (word_pair key value) pairs (pair ∷ [])
-        ∙ (λ j. x.words_are (typed_first (IsWord valid_key key) (IsWord valid_value value) (take i words) (slice_index_or words i d ∷ []) t) j ++ (one (typed_last (IsWord valid_key key) (IsWord valid_value value) (take i words) (slice_index_or words i d) t) j ∷ []));
+        ∙ (λ j. x.words_are (typed_first (IsWordOf valid_key key) (IsWordOf valid_value value) (take i words) (slice_index_or words i d ∷ []) t) j ++ (one (typed_last (IsWordOf valid_key key) (IsWordOf valid_value value) (take i words) (slice_index_or words i d) t) j ∷ []));
   }
     where
-      one : IsWord valid_key key (slice_index_or words i d).key × IsWord valid_value value (slice_index_or words i d).value → word_pair key value pair ≡ slice_index_or words i d
+      one : IsWordOf valid_key key (slice_index_or words i d).key × IsWordOf valid_value value (slice_index_or words i d).value → word_pair key value pair ≡ slice_index_or words i d
       one t = let p : Some (word_pair key value pair) ≡ Some (slice_index_or words i d) = y.words_are t in cc
 
   -- what is none is left out, and then the words are not typed
   pub pair_less : (words : List Pair) (i : ℕ) (d : Pair) (pairs : List (K × V)) → i < length words → ArePairsOf valid_key key valid_value value (take i words) pairs → IsPairOf valid_key key valid_value value (Some (slice_index_or words i d)) None → ArePairsOf valid_key key valid_value value (take (i + 1) words) pairs
   pair_less words i d pairs lt x y = rw (take_more words i d lt) record {
     valid = x.valid;
-    words_are = λ t. absurd (none (typed_last (IsWord valid_key key) (IsWord valid_value value) (take i words) (slice_index_or words i d) t));
+    words_are = λ t. absurd (none (typed_last (IsWordOf valid_key key) (IsWordOf valid_value value) (take i words) (slice_index_or words i d) t));
   }
     where
-      none : IsWord valid_key key (slice_index_or words i d).key × IsWord valid_value value (slice_index_or words i d).value → ⊥
+      none : IsWordOf valid_key key (slice_index_or words i d).key × IsWordOf valid_value value (slice_index_or words i d).value → ⊥
       none t = let p : None ≡ Some (slice_index_or words i d) = y.words_are t in cc

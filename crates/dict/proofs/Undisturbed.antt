@@ -3,18 +3,18 @@ use Rattle.std.proofs.Common.{◌≡◌, ◌∙◌, ◌<◌, ℕ, inl, inr, Bool
 use Rattle.arena.specs.History.{History, ◌⊳◌, value, Extends}
 use Rattle.arena.specs.Machines.{Call}
 use Rattle.arena.proofs.Lemmas.{ends_self, ends_trans}
-use Rattle.spelling.specs.declared.pair.Pair.{Pair}
-use Rattle.spelling.specs.OrderedMap.{MapCall, Edit, Get, Successor, Range, MapEdit, Insert, Delete, MapReply, OneValue, reply, after, changes, edited, edit_key, get, delete}
-use Rattle.spelling.specs.Runs.{IsTreeRun}
-use Rattle.spelling.specs.Spelled.{Spells}
-use Rattle.spelling.proofs.Lemmas.{one_spelling, run_since}
+use Rattle.ordered_map.specs.declared.pair.Pair.{Pair}
+use Rattle.ordered_map.specs.OrderedMap.{MapCall, Edit, Get, Successor, Range, MapEdit, Insert, Delete, MapReply, OneValue, reply, after, changes_map, edited, edit_key, get, delete}
+use Rattle.ordered_map.specs.Runs.{IsTreeRun}
+use Rattle.ordered_map.specs.Spelled.{Spells}
+use Rattle.ordered_map.proofs.Lemmas.{one_spelling, run_since}
 use Rattle.template.specs.Blame.{IsContended}
-use Rattle.updates.specs.Known.{HasMade, RestsWith, IsUntouched}
-use Rattle.updates.specs.Tries.{HasEnteredNone}
-use Rattle.updates.specs.Undisturbed.{IsUndisturbed}
+use Rattle.edits.specs.Known.{HasMade, RestsWith, IsUntouched}
+use Rattle.edits.specs.Tries.{HasEnteredNone}
+use Rattle.edits.specs.Undisturbed.{IsUndisturbed}
 use Rattle.arena.specs.declared.fault.Full.{Full as FullOf}
 use Rattle.arena.specs.Share.{Remaining}
-use Rattle.spelling.specs.CallRules.{need}
+use Rattle.ordered_map.specs.CallRules.{need}
 use Rattle.dict.specs.Says.{HasToldBy, HasRunOut, HasTooLittle}
 
 -- an absent key may be taken away, and nothing changes
@@ -49,18 +49,18 @@ module _ (makes : Makes) (keeps : Keeps) (c : Call) (h : History) (map : List Pa
       (λ row before t w x y. none row before t (ends_trans h moment (row ⊳ before) e w) x y) s
 
   -- a reading leaves the map as it was
-  after_reading : (call : MapCall) (told : MapReply) → changes call told ≡ false → told ≡ reply call map → after call map ≡ map
+  after_reading : (call : MapCall) (told : MapReply) → changes_map call told ≡ false → told ≡ reply call map → after call map ≡ map
   after_reading (Edit (Insert k v)) told e same = let x : true ≡ false = e in cc
-  after_reading (Edit (Delete k)) told e same = delete_absent k map (go (get k map) (subst (λ t. changes (Edit (Delete k)) t ≡ false) same e))
+  after_reading (Edit (Delete k)) told e same = delete_absent k map (go (get k map) (subst (λ t. changes_map (Edit (Delete k)) t ≡ false) same e))
     where
-      go : (v : Option ℕ) → changes (Edit (Delete k)) (OneValue v) ≡ false → v ≡ None
+      go : (v : Option ℕ) → changes_map (Edit (Delete k)) (OneValue v) ≡ false → v ≡ None
       go None x = refl
       go (Some w) x = let y : true ≡ false = x in cc
   after_reading (Get k) told e same = refl
   after_reading (Successor k) told e same = refl
   after_reading (Range low high most) told e same = refl
 
-  told_by : (b : Bool) (call : MapCall) (told : MapReply) → changes call told ≡ b → HasToldBy b c h call told → (told ≡ reply call map) × Spells c.layout (value h) (after call map)
+  told_by : (b : Bool) (call : MapCall) (told : MapReply) → changes_map call told ≡ b → HasToldBy b c h call told → (told ≡ reply call map) × Spells c.layout (value h) (after call map)
   told_by true call told e x =
       let y = makes c h x.edit c.number x.old map run alone x.made s in
       (x.tells ∙ ap OneValue (sym y.0) ∙ ap (λ k. reply k map) (sym x.is_edit), subst (λ k. Spells c.layout (value h) (after k map)) (sym x.is_edit) y.1)
@@ -77,5 +77,5 @@ module _ (makes : Makes) (keeps : Keeps) (c : Call) (h : History) (map : List Pa
       let short : HasTooLittle (need call map) share full.what full.left = subst (λ m. HasTooLittle (need call m) share full.what full.left) same x.short in
       (untouched c h share never x.first, some, short)
 
-  pub told_alone : (call : MapCall) (told : MapReply) → HasToldBy (changes call told) c h call told → (told ≡ reply call map) × Spells c.layout (value h) (after call map)
-  told_alone call told x = told_by (changes call told) call told refl x
+  pub told_alone : (call : MapCall) (told : MapReply) → HasToldBy (changes_map call told) c h call told → (told ≡ reply call map) × Spells c.layout (value h) (after call map)
+  told_alone call told x = told_by (changes_map call told) call told refl x

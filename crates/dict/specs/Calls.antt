@@ -3,9 +3,9 @@
 use Rattle.std.specs.Prelude.{ℕ, ◌*◌, ◌+◌, ◌^◌, ◌<◌, ◌≤◌}
 use Rattle.arena.specs.Machines.{Call}
 use Rattle.arena.specs.Share.{Remaining}
-use Rattle.spelling.specs.CallRules.{most_nodes, most_scx}
-use Rattle.spelling.specs.OrderedMap.{MapCall, Edit, Get, Successor, Range, Insert, Delete, edit_key}
-use Rattle.updates.specs.Known.{RestsWith}
+use Rattle.ordered_map.specs.CallRules.{most_nodes, most_scx}
+use Rattle.ordered_map.specs.OrderedMap.{MapCall, Edit, Get, Successor, Range, Insert, Delete, edit_key}
+use Rattle.edits.specs.Known.{RestsWith}
 use Rattle.dict.specs.declared.run.MapRun.{MapRun}
 use Rattle.dict.specs.declared.run.MapRun.TheVariants as runs
 
@@ -34,8 +34,8 @@ tries_behind (runs.Successor m share) = m.tries
 tries_behind (runs.Range m share) = m.tries
 
 -- of the tries that were left behind this one no more is gone than one
-abbrev pub KeepsTries : MapRun → MapRun → Type 0
-KeepsTries old now = (tries_behind now ≤ tries_behind old) × (tries_behind old ≤ tries_behind now + 1)
+abbrev pub KeepsTriesButOne : MapRun → MapRun → Type 0
+KeepsTriesButOne old now = (tries_behind now ≤ tries_behind old) × (tries_behind old ≤ tries_behind now + 1)
 
 -- the key of an edit is one of a word
 abbrev pub IsSmallCall : MapCall → Type 0

@@ -5,19 +5,19 @@ use Rattle.arena.specs.declared.step.Step.{Step}
 use Rattle.arena.specs.History.{History}
 use Rattle.arena.specs.Machines.{Call}
 use Rattle.arena.specs.Share.{Remaining}
-use Rattle.spelling.specs.OrderedMap.{MapCall}
-use Rattle.updates.specs.Known.{RestsWith}
-use Rattle.updates.specs.Tries.{HasEnteredNone}
+use Rattle.ordered_map.specs.OrderedMap.{MapCall}
+use Rattle.edits.specs.Known.{RestsWith}
+use Rattle.edits.specs.Tries.{HasEnteredNone}
 use Rattle.dict.specs.Calls.{call_in, share_of, HasSpent}
-use Rattle.spelling.specs.CallRules.{MayReply, form_of}
+use Rattle.ordered_map.specs.CallRules.{MayReply, form_of}
 use Rattle.dict.specs.Known.{MapIsReady, MapWaits}
-use Rattle.dict.specs.Says.{HasLost, HasRunOut, KeepsLists, Tells}
+use Rattle.dict.specs.Says.{HasLost, HasRunOut, KeepsLists, TellsOfMap}
 use Rattle.dict.specs.Typed.{IsTypedCall}
 use Rattle.dict.specs.Words.{IsValidReply}
-use Rattle.spelling.specs.Replies.{told_of}
+use Rattle.ordered_map.specs.Replies.{told_of}
 use Rattle.dict.specs.declared.dict.DictRun.{DictRun}
-use Rattle.spelling.specs.declared.reply.Reply.{Reply}
-use Rattle.spelling.specs.declared.reply.Reply.TheVariants.{Contended, Full, NoMemory}
+use Rattle.ordered_map.specs.declared.reply.Reply.{Reply}
+use Rattle.ordered_map.specs.declared.reply.Reply.TheVariants.{Contended, Full, NoMemory}
 
 -- it may be called with this: its edit, if it makes one, is of such words
 abbrev pub DictIsReady : {K V : Type 0} → (ℕ → Type 0) → (ℕ → Type 0) → DictRun K V → Call → History → Option ℕ → Type 0
@@ -42,5 +42,5 @@ pub record DictAnswers {K V : Type 0} (valid_key : K → Type 0) (key : K → �
   pub spent : HasSpent c (call_in m.run) m.tries (share_of m.run)
   pub form : MayReply (call_in m.run) (form_of reply)
   pub valid : IsValidReply valid_key valid_value reply
-  pub tells : Tells c h (call_in m.run) (told_of key value reply)
+  pub tells : TellsOfMap c h (call_in m.run) (told_of key value reply)
   pub refuses : DictRefuses c h (call_in m.run) (share_of m.run) m.tries reply

@@ -1,5 +1,5 @@
 -- The forms of replies in words.
-use Rattle.spelling.specs.CallRules.{Form, Value, Pair, Pairs, Contended, Full, NoMemory}
+use Rattle.ordered_map.specs.CallRules.{Form, Value, Pair, Pairs, Contended, Full, NoMemory}
 use Rattle.dict.specs.declared.told.WordReply.{WordReply}
 use Rattle.dict.specs.declared.told.WordReply.TheVariants as words
 

@@ -10,17 +10,17 @@ use Rattle.order.specs.Successor.Known.{SuccessorIsReady, SuccessorWaits}
 use Rattle.order.specs.declared.range.RangeAt.TheVariants.{Start as RangeStart}
 use Rattle.order.specs.declared.successor.SuccessorAt.TheVariants.{Start as SuccessorStart}
 use Rattle.prims.specs.Laws.Idle.{IsQuietSince}
-use Rattle.spelling.specs.Runs.{IsTreeRun}
+use Rattle.ordered_map.specs.Runs.{IsTreeRun}
 use Rattle.template.specs.declared.walk.Goal.TheVariants.{Key as ToKey}
 use Rattle.template.specs.declared.walk.WalkAt.TheVariants.{Start as WalkStart}
 use Rattle.tree.specs.Delete.Means.{delete_means}
 use Rattle.tree.specs.Get.Known.{GetIsReady, GetWaits}
 use Rattle.tree.specs.Insert.Means.{insert_means}
-use Rattle.updates.specs.Known.{RestsWith, UpdateIsReady, UpdateWaits}
-use Rattle.updates.specs.Steps.{node_tries, scx_tries, Spends}
-use Rattle.updates.specs.declared.update.UpdateAt.TheVariants.{Start as UpdateStart}
+use Rattle.edits.specs.Known.{RestsWith, UpdateIsReady, UpdateWaits}
+use Rattle.edits.specs.Steps.{node_tries, scx_tries, Spends}
+use Rattle.edits.specs.declared.update.UpdateAt.TheVariants.{Start as UpdateStart}
 use Rattle.dict.specs.Calls.{call_in, share_of, AsksForPairs, IsSmallCall, HasSpent}
-use Rattle.spelling.specs.CallRules.{MayReply}
+use Rattle.ordered_map.specs.CallRules.{MayReply}
 use Rattle.dict.specs.Forms.{word_form}
 use Rattle.dict.specs.Says.{WordSays}
 use Rattle.dict.specs.declared.run.MapRun.{MapRun}
@@ -29,7 +29,7 @@ use Rattle.dict.specs.declared.told.WordReply.{WordReply}
 
 -- A read rests all the way: its share is untouched, all its pass's SCX-records are finished, and
 -- none was in progress since the call began.
-pub record Rests (c : Call) (h : History) (share : Remaining) : Type 0 where
+pub record HasRested (c : Call) (h : History) (share : Remaining) : Type 0 where
   pub run : IsTreeRun c.layout h
   pub since : Extends h c.start
   pub now : RestsWith c h share
@@ -76,17 +76,17 @@ pub record Goes (m : MapRun) (tries : ℕ) (c : Call) : Type 0 where
 abbrev pub IsReadyInside : MapRun → Call → History → Option ℕ → Type 0
 IsReadyInside (Insert m) c h got = UpdateIsReady insert_means m c h got
 IsReadyInside (Delete m) c h got = UpdateIsReady delete_means m c h got
-IsReadyInside (Get m share) c h got = GetIsReady m c h got × Rests c h share
-IsReadyInside (Successor m share) c h got = SuccessorIsReady m c h got × Rests c h share
-IsReadyInside (Range m share) c h got = RangeIsReady m c h got × Rests c h share
+IsReadyInside (Get m share) c h got = GetIsReady m c h got × HasRested c h share
+IsReadyInside (Successor m share) c h got = SuccessorIsReady m c h got × HasRested c h share
+IsReadyInside (Range m share) c h got = RangeIsReady m c h got × HasRested c h share
 
 -- the machine inside waits for this step
 abbrev pub WaitsInside : MapRun → Call → History → Step → Type 0
 WaitsInside (Insert m) c h s = UpdateWaits insert_means m c h s
 WaitsInside (Delete m) c h s = UpdateWaits delete_means m c h s
-WaitsInside (Get m share) c h s = GetWaits m c h s × Rests c h share
-WaitsInside (Successor m share) c h s = SuccessorWaits m c h s × Rests c h share
-WaitsInside (Range m share) c h s = RangeWaits m c h s × Rests c h share
+WaitsInside (Get m share) c h s = GetWaits m c h s × HasRested c h share
+WaitsInside (Successor m share) c h s = SuccessorWaits m c h s × HasRested c h share
+WaitsInside (Range m share) c h s = RangeWaits m c h s × HasRested c h share
 
 -- the machine may be called with this
 abbrev pub MapIsReady : ℕ → MapRun → Call → History → Option ℕ → Type 0

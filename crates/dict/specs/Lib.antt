@@ -1,6 +1,4 @@
-pub mod Offsets
 pub mod Names
-pub mod NameKeys
 pub mod Words
 pub mod WordReplies
 pub mod Forms
@@ -8,12 +6,7 @@ pub mod Calls
 pub mod Says
 pub mod Known
 pub mod Steps
-pub mod MapLaws
 pub mod Typed
-pub mod TypedMaps
-pub mod TypedSteps
 pub mod Translated
 pub mod DictKnown
-pub mod DictLaws
-pub mod Begins
-pub mod OneShare
+pub mod Laws

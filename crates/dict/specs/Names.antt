@@ -9,12 +9,12 @@ abbrev pub IsName : List ℕ → Type 0
 IsName bs = (length bs ≤ 8) × (list_all is_ascii_graphic bs ≡ true)
 
 -- these bytes, and as many zeros behind them as make them 8
-abbrev pub filled : List ℕ → List ℕ
-filled bs = bs ++ repeat (8 - length bs) (0 ∷ [])
+abbrev pub zero_padded : List ℕ → List ℕ
+zero_padded bs = bs ++ repeat (8 - length bs) (0 ∷ [])
 
 -- the word of a name: the first character is the most significant byte
 unfoldable pub name_word : List ℕ → ℕ
-name_word bs = from_be_bytes w64 (filled bs)
+name_word bs = from_be_bytes w64 (zero_padded bs)
 
 -- characters from '!' to '~', and zero bytes alone behind them
 abbrev pub is_padded : List ℕ → Bool

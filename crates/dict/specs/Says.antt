@@ -7,20 +7,20 @@ use Rattle.arena.specs.declared.step.Row.{Row}
 use Rattle.arena.specs.History.{History, ◌⊳◌, value, Extends}
 use Rattle.arena.specs.Machines.{Call}
 use Rattle.arena.specs.Share.{Remaining}
-use Rattle.spelling.specs.OrderedMap.{MapEdit, MapCall, Edit, Successor, Range, MapReply, OneValue, reply, changes}
-use Rattle.spelling.specs.Spelled.{Spells}
-use Rattle.spelling.specs.declared.pair.Pair.{Pair}
+use Rattle.ordered_map.specs.OrderedMap.{MapEdit, MapCall, Edit, Successor, Range, MapReply, OneValue, reply, changes_map}
+use Rattle.ordered_map.specs.Spelled.{Spells}
+use Rattle.ordered_map.specs.declared.pair.Pair.{Pair}
 use Rattle.template.specs.Blame.{IsContended, HasLostTriesTo}
-use Rattle.updates.specs.Known.{HasMade, IsUntouched}
-use Rattle.updates.specs.Tries.{HasEnteredNone}
-use Rattle.spelling.specs.CallRules.{need}
+use Rattle.edits.specs.Known.{HasMade, IsUntouched}
+use Rattle.edits.specs.Tries.{HasEnteredNone}
+use Rattle.ordered_map.specs.CallRules.{need}
 use Rattle.dict.specs.Calls.{AsksForPairs}
 use Rattle.dict.specs.declared.told.WordReply.{WordReply}
 use Rattle.dict.specs.declared.told.WordReply.TheVariants as words
 use Rattle.dict.specs.WordReplies.{told_in}
 
 -- A change: the call has made its edit, and tells the value that the key had just before.
-pub record HasChanged (c : Call) (h : History) (call : MapCall) (told : MapReply) : Type 0 where
+pub record HasMadeEdit (c : Call) (h : History) (call : MapCall) (told : MapReply) : Type 0 where
   pub edit : MapEdit
   pub is_edit : call ≡ Edit edit
   pub old : Option ℕ
@@ -38,7 +38,7 @@ pub record HasMadeRow (pass : ℕ) (start moment : History) : Type 0 where
 -- A reading: at a moment of the call the words spell a map that replies this, and the pass has
 -- entered nothing since the call began. The moment is not before the call's first own row; a range
 -- that takes no pair needs none.
-pub record HasRead (c : Call) (h : History) (call : MapCall) (told : MapReply) : Type 0 where
+pub record HasReadMap (c : Call) (h : History) (call : MapCall) (told : MapReply) : Type 0 where
   pub moment : History
   pub within : Extends h moment
   pub since : Extends moment c.start
@@ -50,12 +50,12 @@ pub record HasRead (c : Call) (h : History) (call : MapCall) (told : MapReply) :
 
 -- what is told is told of a change, or of a reading
 abbrev pub HasToldBy : Bool → Call → History → MapCall → MapReply → Type 0
-HasToldBy true c h call told = HasChanged c h call told
-HasToldBy false c h call told = HasRead c h call told
+HasToldBy true c h call told = HasMadeEdit c h call told
+HasToldBy false c h call told = HasReadMap c h call told
 
 -- which of the two it is, the call and what is told say
 abbrev pub HasTold : Call → History → MapCall → MapReply → Type 0
-HasTold c h call told = HasToldBy (changes call told) c h call told
+HasTold c h call told = HasToldBy (changes_map call told) c h call told
 
 -- All tries of the call, so many, were lost: in the last this SCX-record was in the way over this
 -- node, and the call has itself found it in the node's info. The pass has entered nothing since the
@@ -72,7 +72,8 @@ HasTooLittle many left ScxRecords k = (many ≤ left.nodes) × (left.scx ≡ 0) 
 
 -- The share has too little left for the next try: the map of a moment of the call, from its first
 -- own row on, needs some nodes, of which there are not enough, or no SCX-record is left. Nothing of
--- it was taken since the call began, or a try was lost to another pass. The pass has entered nothing.
+-- it was taken since the call began,
+-- or a try was lost to another pass. The pass has entered nothing.
 pub record HasRunOut (c : Call) (h : History) (call : MapCall) (share : Remaining) (full : FullOf) : Type 0 where
   pub moment : History
   pub within : Extends h moment
@@ -92,17 +93,17 @@ KeepsLists (Range low high most) = Unit {0}
 KeepsLists _ = ⊥
 
 -- what a reply says of the map, if it is one
-abbrev pub Tells : Call → History → MapCall → Option MapReply → Type 0
-Tells c h call None = Unit {0}
-Tells c h call (Some told) = HasTold c h call told
+abbrev pub TellsOfMap : Call → History → MapCall → Option MapReply → Type 0
+TellsOfMap c h call None = Unit {0}
+TellsOfMap c h call (Some told) = HasTold c h call told
 
 -- why there is none, where the call has this share left, and so many tries in all
-abbrev pub Refuses : Call → History → MapCall → Remaining → ℕ → WordReply → Type 0
-Refuses c h call share tries (words.Contended node scx) = HasLost c h tries node.0 scx.0
-Refuses c h call share tries (words.Full full) = HasRunOut c h call share full
-Refuses c h call share tries words.NoMemory = KeepsLists call × HasEnteredNone c.layout c.pass h c.start
-Refuses c h call share tries _ = Unit {0}
+abbrev pub IsRefusal : Call → History → MapCall → Remaining → ℕ → WordReply → Type 0
+IsRefusal c h call share tries (words.Contended node scx) = HasLost c h tries node.0 scx.0
+IsRefusal c h call share tries (words.Full full) = HasRunOut c h call share full
+IsRefusal c h call share tries words.NoMemory = KeepsLists call × HasEnteredNone c.layout c.pass h c.start
+IsRefusal c h call share tries _ = Unit {0}
 
 -- what the reply says
 abbrev pub WordSays : Call → History → MapCall → Remaining → ℕ → WordReply → Type 0
-WordSays c h call share tries reply = Tells c h call (told_in reply) × Refuses c h call share tries reply
+WordSays c h call share tries reply = TellsOfMap c h call (told_in reply) × IsRefusal c h call share tries reply

@@ -7,7 +7,7 @@ use Rattle.order.specs.Successor.Steps.{successor_left, SuccessorFits}
 use Rattle.tree.specs.Delete.Means.{delete_means}
 use Rattle.tree.specs.Get.Steps.{get_left, GetFits}
 use Rattle.tree.specs.Insert.Means.{insert_means}
-use Rattle.updates.specs.Steps.{update_left, UpdateFits}
+use Rattle.edits.specs.Steps.{update_left, UpdateFits}
 use Rattle.dict.specs.declared.run.MapRun.{MapRun}
 use Rattle.dict.specs.declared.run.MapRun.TheVariants.{Insert, Delete, Get, Successor, Range}
 use Rattle.dict.specs.declared.told.WordReply.{WordReply}
@@ -29,5 +29,5 @@ MapFits (Successor m share) got nodes = SuccessorFits m got nodes
 MapFits (Range m share) got nodes = RangeFits m got nodes
 
 -- where it asks for a step, fewer are left than before
-abbrev pub IsNearer : MapRun → MapRun → ℕ → Turn WordReply → Type 0
-IsNearer old now nodes turn = MatchTurn turn (λ _. map_left now nodes < map_left old nodes) (λ _. Unit {0})
+abbrev pub HasComeNearer : MapRun → MapRun → ℕ → Turn WordReply → Type 0
+HasComeNearer old now nodes turn = MatchTurn turn (λ _. map_left now nodes < map_left old nodes) (λ _. Unit {0})

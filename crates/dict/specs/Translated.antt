@@ -1,16 +1,16 @@
 -- What a reply of keys and values has of one in words.
 use Rattle.std.specs.Prelude.{◌≡◌, ◌⊎◌, ℕ, map, All, List, Option, Some, None, IfSome}
 use Rattle.std.specs.Option.{option_map}
-use Rattle.spelling.specs.OrderedMap.{MapReply}
-use Rattle.spelling.specs.declared.pair.Pair.{Pair}
-use Rattle.spelling.specs.CallRules.{Pairs, NoMemory, form_of}
+use Rattle.ordered_map.specs.OrderedMap.{MapReply}
+use Rattle.ordered_map.specs.declared.pair.Pair.{Pair}
+use Rattle.ordered_map.specs.CallRules.{Pairs, NoMemory, form_of}
 use Rattle.dict.specs.Forms.{word_form}
 use Rattle.dict.specs.Typed.{AreTyped, IsTypedReply}
-use Rattle.dict.specs.Words.{IsWord, IsPairWord, IsValidPair}
-use Rattle.spelling.specs.Replies.{word_pair, told_of}
+use Rattle.dict.specs.Words.{IsWordOf, IsPairWord, IsValidPair}
+use Rattle.ordered_map.specs.Replies.{word_pair, told_of}
 use Rattle.dict.specs.WordReplies.{told_in}
-use Rattle.spelling.specs.declared.reply.Reply.{Reply}
-use Rattle.spelling.specs.declared.reply.Reply.TheVariants as replies
+use Rattle.ordered_map.specs.declared.reply.Reply.{Reply}
+use Rattle.ordered_map.specs.declared.reply.Reply.TheVariants as replies
 use Rattle.dict.specs.declared.told.WordReply.{WordReply}
 use Rattle.dict.specs.declared.told.WordReply.TheVariants as words
 
@@ -24,7 +24,7 @@ pub record IsPairOf {K V : Type 0} (valid_key : K → Type 0) (key : K → ℕ) 
 -- So it is with all of these pairs.
 pub record ArePairsOf {K V : Type 0} (valid_key : K → Type 0) (key : K → ℕ) (valid_value : V → Type 0) (value : V → ℕ) (words : List Pair) (pairs : List (K × V)) : Type 0 where
   pub valid : All (IsValidPair valid_key valid_value) pairs
-  pub words_are : AreTyped (IsWord valid_key key) (IsWord valid_value value) words → map (word_pair key value) pairs ≡ words
+  pub words_are : AreTyped (IsWordOf valid_key key) (IsWordOf valid_value value) words → map (word_pair key value) pairs ≡ words
 
 -- what is told is of such words
 abbrev pub TellsTyped : (ℕ → Type 0) → (ℕ → Type 0) → Option MapReply → Type 0
@@ -43,7 +43,7 @@ SaysSame key value (words.Pairs told) reply = (told_of key value reply ≡ told_
 
 -- it does so where the words that are told are of a key or of a value
 abbrev pub IsTranslated : {K V : Type 0} → (K → Type 0) → (K → ℕ) → (V → Type 0) → (V → ℕ) → WordReply → Reply K V → Type 0
-IsTranslated valid_key key valid_value value told reply = TellsTyped (IsWord valid_key key) (IsWord valid_value value) (told_in told) → SaysSame key value told reply
+IsTranslated valid_key key valid_value value told reply = TellsTyped (IsWordOf valid_key key) (IsWordOf valid_value value) (told_in told) → SaysSame key value told reply
 
 -- it is of the same form; or there was no memory for the pairs
 abbrev pub HasFormOf : {K V : Type 0} → WordReply → Reply K V → Type 0

@@ -4,10 +4,10 @@ use Rattle.std.specs.Prelude.{◌≡◌, ℕ, List, [], ◌∷◌, Option, Some,
 use Rattle.arena.specs.declared.layout.Layout.{Layout}
 use Rattle.arena.specs.declared.limits.Mode.TheVariants.{Tree as TreeMode}
 use Rattle.arena.specs.History.{History, value}
-use Rattle.spelling.specs.OrderedMap.{MapEdit, Insert, Delete, MapCall, Edit, MapReply, OneValue, OnePair, ManyPairs}
-use Rattle.spelling.specs.Spelled.{Spells}
-use Rattle.spelling.specs.TreeShape.{MayEdit}
-use Rattle.spelling.specs.declared.pair.Pair.{Pair}
+use Rattle.ordered_map.specs.OrderedMap.{MapEdit, Insert, Delete, MapCall, Edit, MapReply, OneValue, OnePair, ManyPairs}
+use Rattle.ordered_map.specs.Spelled.{Spells}
+use Rattle.ordered_map.specs.TreeShape.{MayEdit}
+use Rattle.ordered_map.specs.declared.pair.Pair.{Pair}
 
 -- `keys` and `values` say of a word whether it is one of a key, or of a value.
 

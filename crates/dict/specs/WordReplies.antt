@@ -3,18 +3,18 @@ use Rattle.std.specs.Prelude.{Option, Some, None, Result, Ok, Err, Vec}
 use Rattle.std.specs.Global.{Global}
 use Rattle.order.specs.declared.refused.Refused.{Refused}
 use Rattle.order.specs.declared.refused.Refused.TheVariants as refused
-use Rattle.spelling.specs.OrderedMap.{MapReply, OneValue, ManyPairs, pair_or_none}
-use Rattle.spelling.specs.declared.pair.Pair.{Pair as PairOf}
-use Rattle.updates.specs.declared.update.Updated.{Updated}
-use Rattle.updates.specs.declared.update.Updated.TheVariants as updated
+use Rattle.ordered_map.specs.OrderedMap.{MapReply, OneValue, ManyPairs, pair_or_none}
+use Rattle.ordered_map.specs.declared.pair.Pair.{Pair as PairOf}
+use Rattle.edits.specs.declared.update.Updated.{Updated}
+use Rattle.edits.specs.declared.update.Updated.TheVariants as updated
 use Rattle.dict.specs.declared.told.WordReply.{WordReply}
 use Rattle.dict.specs.declared.told.WordReply.TheVariants.{Value, Pair, Pairs, Contended, Full, NoMemory}
 
 -- an edit replies what its leaf tells of the key
-abbrev pub update_reply : Updated → WordReply
-update_reply (updated.Done key value) = Value value
-update_reply (updated.Contended node scx) = Contended node scx
-update_reply (updated.Full full) = Full full
+abbrev pub word_reply : Updated → WordReply
+word_reply (updated.Done key value) = Value value
+word_reply (updated.Contended node scx) = Contended node scx
+word_reply (updated.Full full) = Full full
 
 -- a successor the pair that it has found
 abbrev pub successor_reply : Result (Option PairOf) Refused → WordReply

@@ -1,23 +1,23 @@
 -- Typed keys, values, calls and replies in words. `word` stands for the word of a key or of a
 -- value, `valid` for whether it is one of its type.
 use Rattle.std.specs.Prelude.{◌≡◌, ℕ, ◌^◌, ◌<◌, All, IfSome}
-use Rattle.spelling.specs.declared.pair.Pair.{Pair}
-use Rattle.spelling.specs.declared.request.Request.{Request}
-use Rattle.spelling.specs.declared.request.Request.TheVariants.{Insert as InsertOf, Delete as DeleteOf, Get as GetOf, Successor as SuccessorOf, Range as RangeOf}
-use Rattle.spelling.specs.declared.reply.Reply.{Reply}
-use Rattle.spelling.specs.declared.reply.Reply.TheVariants.{Value, Pair as PairOf, Pairs}
+use Rattle.ordered_map.specs.declared.pair.Pair.{Pair}
+use Rattle.ordered_map.specs.declared.request.Request.{Request}
+use Rattle.ordered_map.specs.declared.request.Request.TheVariants.{Insert as InsertOf, Delete as DeleteOf, Get as GetOf, Successor as SuccessorOf, Range as RangeOf}
+use Rattle.ordered_map.specs.declared.reply.Reply.{Reply}
+use Rattle.ordered_map.specs.declared.reply.Reply.TheVariants.{Value, Pair as PairOf, Pairs}
 
 -- a word of a key or a value
-abbrev pub IsWord : {T : Type 0} → (T → Type 0) → (T → ℕ) → ℕ → Type 0
-IsWord {T} valid word n = (x : T) × valid x × (word x ≡ n)
+abbrev pub IsWordOf : {T : Type 0} → (T → Type 0) → (T → ℕ) → ℕ → Type 0
+IsWordOf {T} valid word n = (x : T) × valid x × (word x ≡ n)
 
 -- the word of a number that is a key or a value itself: each of 64 bits, for which it stands
 abbrev pub IsNumber : ℕ → Type 0
-IsNumber = IsWord (λ n. n < 2 ^ 64) (λ n. n)
+IsNumber = IsWordOf (λ n. n < 2 ^ 64) (λ n. n)
 
 -- a pair of such words
 abbrev pub IsPairWord : {K V : Type 0} → (K → Type 0) → (K → ℕ) → (V → Type 0) → (V → ℕ) → Pair → Type 0
-IsPairWord valid_key key valid_value value p = IsWord valid_key key p.key × IsWord valid_value value p.value
+IsPairWord valid_key key valid_value value p = IsWordOf valid_key key p.key × IsWordOf valid_value value p.value
 
 -- a pair of a key and a value of their types
 abbrev pub IsValidPair : {K V : Type 0} → (K → Type 0) → (V → Type 0) → K × V → Type 0

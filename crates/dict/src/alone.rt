@@ -2,16 +2,16 @@
 ghost use Rattle.std.specs.Prelude.{◌≡◌, ◌<◌, ℕ, List};
 ghost use Rattle.arena.specs.History.{History, value};
 ghost use Rattle.arena.specs.Machines.{Call};
-ghost use Rattle.spelling.specs.declared.pair.Pair.{Pair};
-ghost use Rattle.spelling.specs.OrderedMap.{MapCall, MapReply, reply, after};
-ghost use Rattle.spelling.specs.Runs.{IsTreeRun};
-ghost use Rattle.spelling.specs.Spelled.{Spells};
-ghost use Rattle.updates.specs.Tries.{HasEnteredNone};
-ghost use Rattle.updates.specs.Undisturbed.{IsUndisturbed};
+ghost use Rattle.ordered_map.specs.declared.pair.Pair.{Pair};
+ghost use Rattle.ordered_map.specs.OrderedMap.{MapCall, MapReply, reply, after};
+ghost use Rattle.ordered_map.specs.Runs.{IsTreeRun};
+ghost use Rattle.ordered_map.specs.Spelled.{Spells};
+ghost use Rattle.edits.specs.Tries.{HasEnteredNone};
+ghost use Rattle.edits.specs.Undisturbed.{IsUndisturbed};
 ghost use Rattle.arena.specs.declared.fault.Full.{Full};
 ghost use Rattle.arena.specs.Share.{Remaining};
-ghost use Rattle.updates.specs.Known.{RestsWith};
-ghost use Rattle.spelling.specs.CallRules.{need};
+ghost use Rattle.edits.specs.Known.{RestsWith};
+ghost use Rattle.ordered_map.specs.CallRules.{need};
 ghost use Rattle.dict.specs.Says.{HasTold, HasLost, HasRunOut, HasTooLittle};
 
 /// What the answers of a call say of a call by itself: nothing was in progress as it began, and no
@@ -28,5 +28,5 @@ pub fn alone_holds()
     ensures one_pass { (c : Call) (h : History) (tries n s : ℕ) → c.layout.passes ≡ 1 → ¬ HasLost c h tries n s }
     ensures one_pass_full { (c : Call) (h : History) (call : MapCall) (share : Remaining) (full : Full) → c.layout.passes ≡ 1 → HasRunOut c h call share full → RestsWith c c.start share }
 {
-    updates::alone_holds();
+    edits::alone_holds();
 }

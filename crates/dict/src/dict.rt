@@ -1,13 +1,13 @@
 //! The machine of a call of a dictionary.
 ghost use Rattle.std.specs.Prelude.{◌≡◌, ◌<◌, ◌≤◌, ℕ, IsSome};
-ghost use Rattle.dict.specs.Calls.{KeepsTries, call_in, share_of};
+ghost use Rattle.dict.specs.Calls.{KeepsTriesButOne, call_in, share_of};
 ghost use Rattle.dict.specs.Known.{AsksFirst, IsUnbegun};
 ghost use Rattle.dict.specs.Says.{KeepsLists};
-ghost use Rattle.spelling.specs.CallRules.{most_steps};
+ghost use Rattle.ordered_map.specs.CallRules.{most_steps};
 ghost use Rattle.dict.specs.Steps.{map_left, MapFits};
 ghost use Rattle.dict.specs.Typed.{IsTypedCall};
-ghost use Rattle.dict.specs.Words.{IsWord};
-ghost use Rattle.spelling.specs.Requests.{as_map_call};
+ghost use Rattle.dict.specs.Words.{IsWordOf};
+ghost use Rattle.ordered_map.specs.Requests.{as_map_call};
 
 use crate::key::WordKey;
 use crate::run::MapRun;
@@ -15,7 +15,7 @@ use crate::shape::Dict;
 use crate::translation::translated;
 use crate::value::WordValue;
 use arena::{Machine, Share, Turn};
-use spelling::{Reply, Request};
+use ordered_map::{Reply, Request};
 use std::alloc::Global;
 use std::marker::PhantomData;
 
@@ -46,7 +46,7 @@ impl<K: WordKey, V: WordValue> DictRun<K, V> {
     ) -> DictRun<K, V>
         requires memory { KeepsLists (as_map_call K.word_of V.word_of request) → IsSome alloc }
         ensures call { call_in result.run ≡ as_map_call K.word_of V.word_of request }
-        ensures typed { IsTypedCall (IsWord K.is_valid K.word_of) (IsWord V.is_valid V.word_of) (call_in result.run) }
+        ensures typed { IsTypedCall (IsWordOf K.is_valid K.word_of) (IsWordOf V.is_valid V.word_of) (call_in result.run) }
         ensures share { share_of result.run ≡ share }
         ensures tries { result.tries ≡ tries }
         ensures alloc { result.alloc ≡ alloc }
@@ -74,7 +74,7 @@ impl<K: WordKey, V: WordValue> DictRun<K, V> {
 #[inline(always)]
 fn in_words<K: WordKey, V: WordValue>(request: Request<K, V>) -> Request<u64, u64>
     ensures call { as_map_call (λ k. k) (λ v. v) result ≡ as_map_call K.word_of V.word_of request }
-    ensures typed { IsTypedCall (IsWord K.is_valid K.word_of) (IsWord V.is_valid V.word_of) (as_map_call K.word_of V.word_of request) }
+    ensures typed { IsTypedCall (IsWordOf K.is_valid K.word_of) (IsWordOf V.is_valid V.word_of) (as_map_call K.word_of V.word_of request) }
 {
     match request {
         Request::Insert { key, value } => {
@@ -103,15 +103,15 @@ impl<K: WordKey, V: WordValue> Machine<Dict<K, V>> for DictRun<K, V> {
     type Answer = Reply<K, V>;
 
     ghost use Rattle.dict.specs.DictKnown.{DictIsReady, DictWaits, DictAnswers};
-    ghost use Rattle.dict.specs.DictLaws.{dict_keeps, dict_lawful, dict_made, dict_told};
+    ghost use Rattle.dict.specs.Laws.Dict.{dict_keeps, dict_lawful, dict_made, dict_told};
 
-    ghost ready = { DictIsReady (IsWord K.is_valid K.word_of) (IsWord V.is_valid V.word_of) };
+    ghost ready = { DictIsReady (IsWordOf K.is_valid K.word_of) (IsWordOf V.is_valid V.word_of) };
 
-    ghost waits = { DictWaits (IsWord K.is_valid K.word_of) (IsWord V.is_valid V.word_of) };
+    ghost waits = { DictWaits (IsWordOf K.is_valid K.word_of) (IsWordOf V.is_valid V.word_of) };
 
     ghost answers = { DictAnswers K.is_valid K.word_of V.is_valid V.word_of };
 
-    ghost same = { λ old now. (call_in now.run ≡ call_in old.run) × (now.tries ≡ old.tries) × KeepsTries old.run now.run };
+    ghost same = { λ old now. (call_in now.run ≡ call_in old.run) × (now.tries ≡ old.tries) × KeepsTriesButOne old.run now.run };
 
     ghost left = { λ m nodes. map_left m.run nodes };
 
@@ -126,11 +126,11 @@ impl<K: WordKey, V: WordValue> Machine<Dict<K, V>> for DictRun<K, V> {
         }
     }
 
-    ghost keeps = { dict_keeps (IsWord K.is_valid K.word_of) (IsWord V.is_valid V.word_of) };
+    ghost keeps = { dict_keeps (IsWordOf K.is_valid K.word_of) (IsWordOf V.is_valid V.word_of) };
 
-    ghost lawful = { dict_lawful (IsWord K.is_valid K.word_of) (IsWord V.is_valid V.word_of) };
+    ghost lawful = { dict_lawful (IsWordOf K.is_valid K.word_of) (IsWordOf V.is_valid V.word_of) };
 
-    ghost made = { dict_made (IsWord K.is_valid K.word_of) (IsWord V.is_valid V.word_of) };
+    ghost made = { dict_made (IsWordOf K.is_valid K.word_of) (IsWordOf V.is_valid V.word_of) };
 
-    ghost told = { dict_told (IsWord K.is_valid K.word_of) (IsWord V.is_valid V.word_of) };
+    ghost told = { dict_told (IsWordOf K.is_valid K.word_of) (IsWordOf V.is_valid V.word_of) };
 }

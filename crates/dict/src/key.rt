@@ -1,7 +1,7 @@
 //! Keys of one word.
 ghost use Rattle.std.specs.Prelude.{◌≡◌, ◌≢◌, ℕ, ◌<◌, ◌^◌, IfSome, IsNone, refl};
 ghost use Rattle.std.specs.Ordering.{nat_cmp};
-ghost use Rattle.dict.specs.Offsets.{IsLong, offset_of, offset_fits, offset_exact, offset_ordered};
+ghost use Rattle.dict.specs.Laws.Offsets.{IsLong, offset_of, offset_fits, offset_exact, offset_ordered};
 
 /// A type of keys that a word holds: each has a word of its own, and their order is that of the
 /// words.

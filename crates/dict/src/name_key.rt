@@ -1,6 +1,6 @@
 //! Names as keys.
 ghost use Rattle.std.specs.Prelude.{◌<◌, ◌^◌, refl};
-ghost use Rattle.dict.specs.NameKeys.{name_exact};
+ghost use Rattle.dict.specs.Laws.NameKeys.{name_exact};
 
 use crate::key::WordKey;
 use crate::name::Name8;

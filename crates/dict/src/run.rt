@@ -2,18 +2,18 @@
 ghost use Rattle.std.specs.Prelude.{◌≡◌, ◌<◌, ◌≤◌, ℕ, None, IsSome};
 ghost use Rattle.arena.specs.History.{History};
 ghost use Rattle.arena.specs.Machines.{Call, IsRun, MatchTurn};
-ghost use Rattle.spelling.specs.TreeShape.{TreeAllows};
-ghost use Rattle.dict.specs.Calls.{KeepsTries, call_in, share_of};
+ghost use Rattle.ordered_map.specs.TreeShape.{TreeAllows};
+ghost use Rattle.dict.specs.Calls.{KeepsTriesButOne, call_in, share_of};
 ghost use Rattle.dict.specs.Known.{AsksFirst, IsUnbegun, MapIsReady, MapWaits, MapAnswers};
 ghost use Rattle.dict.specs.Says.{KeepsLists};
-ghost use Rattle.spelling.specs.CallRules.{most_steps};
-ghost use Rattle.dict.specs.Steps.{map_left, MapFits, IsNearer};
-ghost use Rattle.spelling.specs.Requests.{as_map_call};
+ghost use Rattle.ordered_map.specs.CallRules.{most_steps};
+ghost use Rattle.dict.specs.Steps.{map_left, MapFits, HasComeNearer};
+ghost use Rattle.ordered_map.specs.Requests.{as_map_call};
 
 use crate::told::WordReply;
 use arena::{Machine, Share, Turn};
 use order::{RangeRun, SuccessorRun};
-use spelling::Request;
+use ordered_map::Request;
 use std::alloc::Global;
 use tree::{Delete, DeleteRun, GetRun, Insert, InsertRun, Tree};
 
@@ -73,8 +73,8 @@ impl MapRun {
         ensures turn { (tries : ℕ) (c : Call) (h : History) → IsRun TreeAllows c.layout h → MapIsReady tries self.old c h got → MatchTurn result (MapWaits tries self.new c h) (MapAnswers tries self.new c h) }
         ensures begins { got ≡ None → AsksFirst self.old → (tries : ℕ) (c : Call) (h : History) → MapIsReady tries self.old c h None → MatchTurn result (λ _. Unit {0}) (λ _. ⊥) }
         ensures same { call_in self.new ≡ call_in self.old }
-        ensures tries { KeepsTries self.old self.new }
-        ensures nearer { (nodes : ℕ) → MapFits self.old got nodes → IsNearer self.old self.new nodes result }
+        ensures tries { KeepsTriesButOne self.old self.new }
+        ensures nearer { (nodes : ℕ) → MapFits self.old got nodes → HasComeNearer self.old self.new nodes result }
     {
         match self {
             MapRun::Insert(run) => match run.step(got) {

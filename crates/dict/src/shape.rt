@@ -1,8 +1,8 @@
 //! The shape of a typed dictionary.
 ghost use Rattle.arena.specs.declared.limits.Mode.TheVariants.{Tree as TreeMode};
 ghost use Rattle.dict.specs.Typed.{TypedAllows, IsTypedThere};
-ghost use Rattle.dict.specs.TypedMaps.{typed_opens, typed_stays};
-ghost use Rattle.dict.specs.Words.{IsWord};
+ghost use Rattle.dict.specs.Laws.TypedMaps.{typed_opens, typed_stays};
+ghost use Rattle.dict.specs.Words.{IsWordOf};
 
 use crate::key::WordKey;
 use crate::value::WordValue;
@@ -17,11 +17,11 @@ pub struct Dict<K, V>(PhantomData<(K, V)>);
 impl<K: WordKey, V: WordValue> Shape for Dict<K, V> {
     ghost mode = { TreeMode };
 
-    ghost allows = { TypedAllows (IsWord K.is_valid K.word_of) (IsWord V.is_valid V.word_of) };
+    ghost allows = { TypedAllows (IsWordOf K.is_valid K.word_of) (IsWordOf V.is_valid V.word_of) };
 
-    ghost holds = { IsTypedThere (IsWord K.is_valid K.word_of) (IsWord V.is_valid V.word_of) };
+    ghost holds = { IsTypedThere (IsWordOf K.is_valid K.word_of) (IsWordOf V.is_valid V.word_of) };
 
-    ghost opens = { typed_opens (IsWord K.is_valid K.word_of) (IsWord V.is_valid V.word_of) };
+    ghost opens = { typed_opens (IsWordOf K.is_valid K.word_of) (IsWordOf V.is_valid V.word_of) };
 
-    ghost stays = { typed_stays (IsWord K.is_valid K.word_of) (IsWord V.is_valid V.word_of) };
+    ghost stays = { typed_stays (IsWordOf K.is_valid K.word_of) (IsWordOf V.is_valid V.word_of) };
 }

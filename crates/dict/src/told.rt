@@ -1,11 +1,11 @@
 //! What a call replies, in words.
 ghost use Rattle.std.specs.Prelude.{◌≡◌};
-ghost use Rattle.dict.specs.WordReplies.{update_reply, successor_reply, range_reply};
+ghost use Rattle.dict.specs.WordReplies.{word_reply, successor_reply, range_reply};
 
 use arena::{Full, NodeNo, ScxNo};
+use edits::Updated;
 use order::Refused;
-use spelling::Pair;
-use updates::Updated;
+use ordered_map::Pair;
 
 /// What a call replies, in words, or why it replies nothing.
 #[derive(Debug, Drop, PartialEq, Eq)]
@@ -27,7 +27,7 @@ pub enum WordReply {
 impl WordReply {
     /// What an edit has answered.
     pub(crate) fn of_update(updated: Updated) -> WordReply
-        ensures { result ≡ update_reply updated }
+        ensures { result ≡ word_reply updated }
     {
         match updated {
             Updated::Done { key: _, value } => WordReply::Value(value),

@@ -1,21 +1,21 @@
 //! Replies in words as replies of keys and values.
 ghost use Rattle.std.specs.Prelude.{◌≡◌, IfSome, IfOk};
 ghost use Rattle.std.specs.Option.{option_map};
-ghost use Rattle.dict.specs.Words.{IsWord, IsValidReply};
+ghost use Rattle.dict.specs.Words.{IsWordOf, IsValidReply};
 ghost use Rattle.dict.specs.Translated.{ArePairsOf, HasFormOf, IsPairOf, IsTranslated};
 
 use crate::key::WordKey;
 use crate::told::WordReply;
 use crate::value::WordValue;
 use arena::NoMemory;
-use spelling::{Pair, Reply};
+use ordered_map::{Pair, Reply};
 use std::alloc::Global;
 
 /// The value of a word, if it is one's.
 #[inline(always)]
 pub fn value_of<V: WordValue>(word: Option<u64>) -> Option<V>
     ensures valid { IfSome result (λ v. V.is_valid v) }
-    ensures word { IfSome word (IsWord V.is_valid V.word_of) → option_map V.word_of result ≡ word }
+    ensures word { IfSome word (IsWordOf V.is_valid V.word_of) → option_map V.word_of result ≡ word }
     ensures own { IfSome result (λ v. word ≡ Option.Some (V.word_of v)) }
 {
     match word {

@@ -12,9 +12,9 @@ use Rattle.arena.specs.Layout.{all_nodes, IsWord}
 use Rattle.arena.specs.PlainWords.{Contents, IsChanged, word_at}
 use Rattle.arena.specs.Words.{node, child, same_word}
 use Rattle.arena.proofs.Lemmas.{word_same, word_apart}
-use Rattle.spelling.specs.declared.pair.Pair.{Pair}
-use Rattle.spelling.specs.TreeWords.{class, rank, IsForkOver, Tree, Leaf, Fork, root, Shows, Has, pairs, leaf_nodes}
-use Rattle.spelling.specs.Spelled.{Spells}
+use Rattle.ordered_map.specs.declared.pair.Pair.{Pair}
+use Rattle.ordered_map.specs.TreeWords.{class, rank, IsForkOver, Tree, Leaf, Fork, root, Shows, Has, pairs, leaf_nodes}
+use Rattle.ordered_map.specs.Spelled.{Spells}
 use Rattle.forest.specs.Copies.{IsMapWord, AreCopied}
 
 -- One word

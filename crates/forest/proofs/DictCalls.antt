@@ -8,29 +8,29 @@ use Rattle.arena.specs.History.{History, Extends}
 use Rattle.arena.specs.Share.{Remaining}
 use Rattle.std.specs.Prelude.{Result, Ok, Err, IfOk, IfSome}
 use Rattle.std.specs.Option.{option_map}
-use Rattle.spelling.specs.OrderedMap.{MapCall, Edit as EditCall, MapEdit, Insert, Delete, MapReply, OneValue}
-use Rattle.spelling.specs.Runs.{IsTreeRun}
+use Rattle.ordered_map.specs.OrderedMap.{MapCall, Edit as EditCall, MapEdit, Insert, Delete, MapReply, OneValue}
+use Rattle.ordered_map.specs.Runs.{IsTreeRun}
 use Rattle.prims.specs.Laws.Begun.{taken_since}
 use Rattle.prims.specs.Shares.{IsShare}
 use Rattle.prims.proofs.Lemmas.{all_over, taken_node_since}
-use Rattle.updates.specs.Known.{RestsWith}
-use Rattle.dict.specs.Begins.{dict_begins}
-use Rattle.spelling.specs.CallRules.{most_nodes, most_scx}
+use Rattle.edits.specs.Known.{RestsWith}
+use Rattle.dict.specs.Laws.Begins.{dict_begins}
+use Rattle.ordered_map.specs.CallRules.{most_nodes, most_scx}
 use Rattle.dict.specs.Calls.{call_in, share_of, IsFewCall}
 use Rattle.dict.specs.DictKnown.{DictIsReady, DictWaits, DictAnswers, DictRefuses}
 use Rattle.dict.specs.Known.{IsUnbegun}
-use Rattle.dict.specs.OneShare.{one_share}
-use Rattle.dict.specs.Says.{Tells}
+use Rattle.dict.specs.Laws.OneShare.{one_share}
+use Rattle.dict.specs.Says.{TellsOfMap}
 use Rattle.dict.specs.Typed.{IsTypedCall, TypedAllows}
-use Rattle.dict.specs.TypedMaps.{typed_run}
-use Rattle.dict.specs.Words.{IsWord, IsValidReply}
-use Rattle.spelling.specs.Replies.{told_of}
-use Rattle.spelling.specs.Requests.{AsksForFew, as_map_call}
+use Rattle.dict.specs.Laws.TypedMaps.{typed_run}
+use Rattle.dict.specs.Words.{IsWordOf, IsValidReply}
+use Rattle.ordered_map.specs.Replies.{told_of}
+use Rattle.ordered_map.specs.Requests.{AsksForFew, as_map_call}
 use Rattle.dict.specs.declared.dict.DictRun.{DictRun}
-use Rattle.spelling.specs.declared.request.Request.{Request}
-use Rattle.spelling.specs.declared.request.Request.TheVariants as requests
-use Rattle.spelling.specs.declared.reply.Reply.{Reply}
-use Rattle.spelling.specs.declared.reply.Reply.TheVariants as replies
+use Rattle.ordered_map.specs.declared.request.Request.{Request}
+use Rattle.ordered_map.specs.declared.request.Request.TheVariants as requests
+use Rattle.ordered_map.specs.declared.reply.Reply.{Reply}
+use Rattle.ordered_map.specs.declared.reply.Reply.TheVariants as replies
 use Rattle.forest.specs.declared.view.SeatView.{SeatView}
 use Rattle.forest.specs.declared.pass.Pass.TheInside.{Inside}
 use Rattle.forest.specs.Dictionary.{IsChange, IsChangeOrReading, IsToldOf, IsRefusalOf, HasEdited, HasSpentAtMost, UpdateSays, blamed_by_reply, blamed_by_update, update_reply}
@@ -84,13 +84,13 @@ few_of key value_word (requests.Range low high most) call e few = subst IsFewCal
 
 module _ {K V : Type 0} (valid_key : K → Type 0) (key : K → ℕ) (valid_value : V → Type 0) (value_word : V → ℕ) where
   abbrev allows : Layout → History → ℕ → Type 0
-  allows = TypedAllows (IsWord valid_key key) (IsWord valid_value value_word)
+  allows = TypedAllows (IsWordOf valid_key key) (IsWordOf valid_value value_word)
 
   abbrev keys : ℕ → Type 0
-  keys = IsWord valid_key key
+  keys = IsWordOf valid_key key
 
   abbrev values : ℕ → Type 0
-  values = IsWord valid_value value_word
+  values = IsWordOf valid_value value_word
 
   -- the second machine is of the same call as the first
   abbrev pub IsSameCall : DictRun K V → DictRun K V → Type 0
@@ -145,7 +145,7 @@ module _ {K V : Type 0} (valid_key : K → Type 0) (key : K → ℕ) (valid_valu
 
     module _ (y : HasEnded allows p s called Answered) where
       tree : IsTreeRun p.layout (run_of now)
-      tree = (x.is_mode, typed_run (IsWord valid_key key) (IsWord valid_value value_word) p.layout (run_of now) y.sound)
+      tree = (x.is_mode, typed_run (IsWordOf valid_key key) (IsWordOf valid_value value_word) p.layout (run_of now) y.sound)
 
       rest : IsBetweenCalls p.layout p.number.0 (run_of now) (share_of m.run)
       rest = rests_between (call_of p x called) (run_of now) (share_of m.run) y.answers.rests
@@ -196,7 +196,7 @@ module _ {K V : Type 0} (valid_key : K → Type 0) (key : K → ℕ) (valid_valu
       pub dict_tells : IsToldOf (pass_view p) now (call_in m.run) (told_of key value_word reply)
       dict_tells = go (told_of key value_word reply) y.answers.tells
         where
-          go : (told : Option MapReply) → Tells (call_of p x called) (run_of now) (call_in m.run) told → IsToldOf (pass_view p) now (call_in m.run) told
+          go : (told : Option MapReply) → TellsOfMap (call_of p x called) (run_of now) (call_in m.run) told → IsToldOf (pass_view p) now (call_in m.run) told
           go None z = tt
           go (Some told) z = told_says (pass_view p) x.is_pass called refl s.table_id (share_of m.run) (known_of s.me.0.passes) (blamed_by_reply reply p.blamed) tree y.since (call_in m.run) told rests y.answers.rests z
 

@@ -16,9 +16,9 @@ use Rattle.arena.proofs.Lemmas.{ends_self, ends_trans, owner_is}
 use Rattle.histories.specs.Descriptor.{descriptor}
 use Rattle.histories.proofs.Lemmas.{IsOwned, Logs, UpdateWins, entry_of, facts_before, lawful_row, lawful_since, lawful_tail, logs, same as log_same, update_about, update_is_first, update_win, wins as log_wins, won_since}
 use Rattle.prims.proofs.Lemmas.{over_begins}
-use Rattle.spelling.specs.OrderedMap.{MapEdit}
-use Rattle.updates.specs.Known.{HasMade, RestsWith}
-use Rattle.updates.specs.Tries.{HasEnteredNone}
+use Rattle.ordered_map.specs.OrderedMap.{MapEdit}
+use Rattle.edits.specs.Known.{HasMade, RestsWith}
+use Rattle.edits.specs.Tries.{HasEnteredNone}
 use Rattle.forest.specs.declared.view.SeatView.{SeatView}
 use Rattle.forest.specs.declared.pass.Pass.TheInside.{Inside}
 use Rattle.forest.specs.TableRule.{history_of, seated_pass}

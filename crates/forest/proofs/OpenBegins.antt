@@ -6,12 +6,12 @@ use Rattle.arena.specs.declared.machine.Turn.{Turn}
 use Rattle.arena.specs.declared.machine.Turn.TheVariants.{Ask, Done}
 use Rattle.arena.specs.Machines.{MatchTurn}
 use Rattle.dict.specs.Calls.{call_in, AsksForPairs}
-use Rattle.spelling.specs.CallRules.{most_steps}
+use Rattle.ordered_map.specs.CallRules.{most_steps}
 use Rattle.dict.specs.Steps.{map_left}
 use Rattle.dict.specs.Typed.{TypedAllows}
-use Rattle.dict.specs.Words.{IsWord}
+use Rattle.dict.specs.Words.{IsWordOf}
 use Rattle.dict.specs.declared.dict.DictRun.{DictRun}
-use Rattle.spelling.specs.declared.reply.Reply.{Reply}
+use Rattle.ordered_map.specs.declared.reply.Reply.{Reply}
 use Rattle.dict.specs.declared.shape.Dict.{Dict}
 use Rattle.forest.specs.declared.open.OpenCall.TheInside.{Inside}
 use Rattle.forest.specs.declared.pass.Pass.TheInside as pass
@@ -22,7 +22,7 @@ use Rattle.forest.specs.Traces.{seat_steps, shared_nodes, weight}
 use Rattle.forest.proofs.OpenSteps.{DictStands, differ}
 use Rattle.forest.proofs.Passes.{call_of, steps_are}
 
-module _ {K V : Type 0} (valid_key : K → Type 0) (key : K → ℕ) (valid_value : V → Type 0) (value : V → ℕ) (p : pass.Inside (Dict K V)) (x : IsPass (TypedAllows (IsWord valid_key key) (IsWord valid_value value)) Tree p) where
+module _ {K V : Type 0} (valid_key : K → Type 0) (key : K → ℕ) (valid_value : V → Type 0) (value : V → ℕ) (p : pass.Inside (Dict K V)) (x : IsPass (TypedAllows (IsWordOf valid_key key) (IsWordOf valid_value value)) Tree p) where
   -- a call of this pass, of this number, which began as it was seen then
   abbrev pub opened : DictRun K V → Turn (Reply K V) → ℕ → Snapshot PassView → Inside K V
   opened m turn number seen = record { number = p.number; layout = p.layout; seat = p.seat; blamed = p.blamed; call = number; run = m; turn = turn; over = false; began = seen }

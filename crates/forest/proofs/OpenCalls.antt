@@ -5,12 +5,12 @@ use Rattle.arena.specs.declared.machine.Turn.TheVariants.{Done}
 use Rattle.arena.specs.declared.number.PassNo.{PassNo}
 use Rattle.arena.specs.Share.{Remaining}
 use Rattle.dict.specs.Calls.{AsksForPairs, call_in, share_of}
-use Rattle.spelling.specs.CallRules.{most_steps}
+use Rattle.ordered_map.specs.CallRules.{most_steps}
 use Rattle.dict.specs.Typed.{TypedAllows}
-use Rattle.dict.specs.Words.{IsWord}
-use Rattle.spelling.specs.Replies.{told_of}
+use Rattle.dict.specs.Words.{IsWordOf}
+use Rattle.ordered_map.specs.Replies.{told_of}
 use Rattle.dict.specs.DictKnown.{DictWaits, DictAnswers}
-use Rattle.spelling.specs.declared.reply.Reply.{Reply}
+use Rattle.ordered_map.specs.declared.reply.Reply.{Reply}
 use Rattle.dict.specs.declared.shape.Dict.{Dict}
 use Rattle.forest.specs.declared.open.OpenCall.TheInside.{Inside}
 use Rattle.forest.specs.declared.pass.Pass.TheInside as pass
@@ -35,9 +35,9 @@ module _ {K V : Type 0} (valid_key : K → Type 0) (key : K → ℕ) (valid_valu
   was = pass_as o.began.value o.seat
 
   ends : SeatDictEnds valid_key key valid_value value (next_call o.began.value x.pass.is_pass) o.seat.me.0.passes x.first o.run reply
-  ends = subst (λ turn. Stands (TypedAllows (IsWord valid_key key) (IsWord valid_value value)) (DictWaits (IsWord valid_key key) (IsWord valid_value value)) (IsSameDictCall valid_key key valid_value value) (next_call o.began.value x.pass.is_pass) o.seat.me.0.passes x.first (DictAnswers valid_key key valid_value value) o.run turn) is x.stands
+  ends = subst (λ turn. Stands (TypedAllows (IsWordOf valid_key key) (IsWordOf valid_value value)) (DictWaits (IsWordOf valid_key key) (IsWordOf valid_value value)) (IsSameDictCall valid_key key valid_value value) (next_call o.began.value x.pass.is_pass) o.seat.me.0.passes x.first (DictAnswers valid_key key valid_value value) o.run turn) is x.stands
 
-  over : HasEnded (TypedAllows (IsWord valid_key key) (IsWord valid_value value)) was o.seat (taken_of o.began.value) (Answered valid_key key valid_value value was x.pass o.seat o.run reply)
+  over : HasEnded (TypedAllows (IsWordOf valid_key key) (IsWordOf valid_value value)) was o.seat (taken_of o.began.value) (Answered valid_key key valid_value value was x.pass o.seat o.run reply)
   over = (dict_ended valid_key key valid_value value was x.pass o.seat o.run reply x.first ends).0
 
   module _ (left : Remaining) (blamed : List ℕ) (gives : left ≡ share_of o.run.run) (blames : blamed ≡ blamed_by_reply reply o.blamed) where
@@ -51,15 +51,15 @@ module _ {K V : Type 0} (valid_key : K → Type 0) (key : K → ℕ) (valid_valu
     back_is : back ≡ behind valid_key key valid_value value was x.pass o.seat o.run reply
     back_is = rw (number_is, x.layout, gives, blames, x.blamed) refl
 
-    pub open_pass : IsPass (TypedAllows (IsWord valid_key key) (IsWord valid_value value)) Tree back
-    open_pass = subst (λ p. IsPass (TypedAllows (IsWord valid_key key) (IsWord valid_value value)) Tree p) (sym back_is) (dict_pass valid_key key valid_value value was x.pass o.seat o.run reply over x.bare)
+    pub open_pass : IsPass (TypedAllows (IsWordOf valid_key key) (IsWordOf valid_value value)) Tree back
+    open_pass = subst (λ p. IsPass (TypedAllows (IsWordOf valid_key key) (IsWordOf valid_value value)) Tree p) (sym back_is) (dict_pass valid_key key valid_value value was x.pass o.seat o.run reply over x.bare)
 
     -- it has made the steps that were counted
     pub open_made : steps_of (pass_view back) ≡ steps_of o.began.value + (seat_steps o.seat.me.0.passes - steps_of o.began.value)
     open_made = let e = steps_are o.number.0 o.layout o.seat.me.0.passes open_pass.seat in let z = x.since in omega (arith, e, z)
 
-    pub open_goes_on : HasGoneOn (TypedAllows (IsWord valid_key key) (IsWord valid_value value)) o.began.value (pass_view back) (taken_of o.began.value) (most_steps (call_in o.run.run) o.run.tries (shared_nodes o.began.value.layout)) (blamed_by_reply reply o.began.value.blamed)
-    open_goes_on = subst (λ p. HasGoneOn (TypedAllows (IsWord valid_key key) (IsWord valid_value value)) o.began.value (pass_view p) (taken_of o.began.value) (most_steps (call_in o.run.run) o.run.tries (shared_nodes o.began.value.layout)) (blamed_by_reply reply o.began.value.blamed)) (sym back_is)
+    pub open_goes_on : HasGoneOn (TypedAllows (IsWordOf valid_key key) (IsWordOf valid_value value)) o.began.value (pass_view back) (taken_of o.began.value) (most_steps (call_in o.run.run) o.run.tries (shared_nodes o.began.value.layout)) (blamed_by_reply reply o.began.value.blamed)
+    open_goes_on = subst (λ p. HasGoneOn (TypedAllows (IsWordOf valid_key key) (IsWordOf valid_value value)) o.began.value (pass_view p) (taken_of o.began.value) (most_steps (call_in o.run.run) o.run.tries (shared_nodes o.began.value.layout)) (blamed_by_reply reply o.began.value.blamed)) (sym back_is)
         (let few : ℕ = most_steps (call_in o.run.run) o.run.tries (shared_nodes o.began.value.layout) in
         let steps : seat_steps o.seat.me.0.passes ≤ seat_steps was.seat.me.0.passes + few = let z = rw x.layout at x.steps in omega (arith, z) in
         dict_goes_on valid_key key valid_value value was x.pass o.seat o.run reply over few few x.table steps (omega arith))

@@ -13,20 +13,20 @@ use Rattle.arena.specs.Machines.{Call, row_of}
 use Rattle.arena.specs.Share.{Remaining}
 use Rattle.arena.proofs.Lemmas.{ends_trans}
 use Rattle.prims.proofs.Lemmas.{all_over}
-use Rattle.spelling.specs.CallRules.{call_rules}
-use Rattle.spelling.specs.OrderedMap.{MapCall}
-use Rattle.spelling.specs.declared.reply.Reply.{Reply}
-use Rattle.spelling.specs.declared.reply.Reply.TheVariants as replies
+use Rattle.ordered_map.specs.CallRules.{call_rules}
+use Rattle.ordered_map.specs.OrderedMap.{MapCall}
+use Rattle.ordered_map.specs.declared.reply.Reply.{Reply}
+use Rattle.ordered_map.specs.declared.reply.Reply.TheVariants as replies
 use Rattle.order.specs.Range.Known.{AsksForNothing, AsksForSome, TellsNone}
 use Rattle.order.specs.declared.range.RangeAt.TheVariants.{Value}
 use Rattle.order.specs.declared.range.RangeRun.{RangeRun}
-use Rattle.updates.specs.Known.{RestsWith}
+use Rattle.edits.specs.Known.{RestsWith}
 use Rattle.dict.specs.Calls.{AsksForPairs, call_in, share_of}
 use Rattle.dict.specs.DictKnown.{DictWaits}
-use Rattle.dict.specs.OneShare.{one_share}
+use Rattle.dict.specs.Laws.OneShare.{one_share}
 use Rattle.dict.proofs.Lemmas.{asks_inside, kind_inside}
 use Rattle.dict.specs.Typed.{TypedAllows}
-use Rattle.dict.specs.Words.{IsWord}
+use Rattle.dict.specs.Words.{IsWordOf}
 use Rattle.dict.specs.declared.dict.DictRun.{DictRun}
 use Rattle.forest.specs.declared.pass.Pass.TheInside.{Inside}
 use Rattle.forest.specs.declared.view.SeatView.{SeatView}
@@ -86,10 +86,10 @@ blames_none old new tries call (replies.Contended n s) blamed same x =
 
 module _ {K V : Type 0} (valid_key : K → Type 0) (key : K → ℕ) (valid_value : V → Type 0) (value_word : V → ℕ) where
   abbrev allows : Layout → History → ℕ → Type 0
-  allows = TypedAllows (IsWord valid_key key) (IsWord valid_value value_word)
+  allows = TypedAllows (IsWordOf valid_key key) (IsWordOf valid_value value_word)
 
   abbrev waits : DictRun K V → Call → History → Step → Type 0
-  waits = DictWaits (IsWord valid_key key) (IsWord valid_value value_word)
+  waits = DictWaits (IsWordOf valid_key key) (IsWordOf valid_value value_word)
 
   abbrev same : DictRun K V → DictRun K V → Type 0
   same = IsSameDictCall valid_key key valid_value value_word

@@ -11,33 +11,33 @@ use Rattle.order.specs.Range.Known.{IsSameRange}
 use Rattle.order.specs.declared.range.RangeRun.{RangeRun}
 use Rattle.order.specs.declared.refused.Refused.{Refused}
 use Rattle.order.specs.declared.successor.SuccessorRun.{SuccessorRun}
-use Rattle.spelling.specs.declared.pair.Pair.{Pair}
-use Rattle.spelling.specs.OrderedMap.{MapCall, Edit, Insert as InsertEdit, Delete as DeleteEdit, Successor as SuccessorCall, Range as RangeCall}
+use Rattle.ordered_map.specs.declared.pair.Pair.{Pair}
+use Rattle.ordered_map.specs.OrderedMap.{MapCall, Edit, Insert as InsertEdit, Delete as DeleteEdit, Successor as SuccessorCall, Range as RangeCall}
 use Rattle.tree.specs.Delete.Means.{delete_means}
 use Rattle.tree.specs.Insert.Means.{insert_means}
 use Rattle.tree.specs.declared.delete.Delete.{Delete as Deleted}
 use Rattle.tree.specs.declared.insert.Insert.{Insert as Inserted}
-use Rattle.updates.specs.Steps.{node_tries, scx_tries}
-use Rattle.updates.specs.Next.{standing}
-use Rattle.updates.specs.declared.update.UpdateAt.{UpdateAt}
-use Rattle.updates.specs.declared.update.UpdateAt.TheVariants.{Start}
-use Rattle.updates.specs.declared.update.UpdateRun.{UpdateRun}
-use Rattle.updates.specs.declared.update.Updated.{Updated}
+use Rattle.edits.specs.Steps.{node_tries, scx_tries}
+use Rattle.edits.specs.Next.{standing}
+use Rattle.edits.specs.declared.update.UpdateAt.{UpdateAt}
+use Rattle.edits.specs.declared.update.UpdateAt.TheVariants.{Start}
+use Rattle.edits.specs.declared.update.UpdateRun.{UpdateRun}
+use Rattle.edits.specs.declared.update.Updated.{Updated}
 use Rattle.dict.specs.Known.{Goes}
 use Rattle.dict.specs.Typed.{IsTypedCall}
-use Rattle.dict.specs.TypedMaps.{typed_run}
-use Rattle.dict.specs.Words.{IsWord, IsValidReply}
+use Rattle.dict.specs.Laws.TypedMaps.{typed_run}
+use Rattle.dict.specs.Words.{IsWordOf, IsValidReply}
 use Rattle.dict.specs.declared.dict.DictRun.{DictRun}
 use Rattle.dict.specs.declared.run.MapRun.TheVariants.{Insert, Delete, Successor, Range}
 use Rattle.dict.specs.Translated.{IsTranslated, HasFormOf}
-use Rattle.dict.specs.WordReplies.{update_reply, successor_reply, range_reply}
-use Rattle.spelling.specs.declared.reply.Reply.{Reply}
+use Rattle.dict.specs.WordReplies.{word_reply, successor_reply, range_reply}
+use Rattle.ordered_map.specs.declared.reply.Reply.{Reply}
 use Rattle.dict.specs.declared.told.WordReply.{WordReply}
 use Rattle.dict.proofs.Lemmas.{insert_ends, delete_ends, successor_ends, range_ends, edit_spends, dict_ends}
 use Rattle.forest.specs.declared.view.SeatedPass.{SeatedPass}
 use Rattle.forest.specs.StraightCalls.{DictAllows, DictCallIsReady, DictCallWaits, IsSameDictCall, SeatDictBegins, SeatDictEnds, SeatWordEnds, IsFreshEdit}
 use Rattle.forest.specs.StraightReads.{RangeReader, SearchBegins, SearchEnds, SuccessorReader, VisitBegins, VisitEnds}
-use Rattle.forest.specs.StraightUpdate.{Updater, HasGoneOn, UpdaterBegins, UpdaterEnds}
+use Rattle.forest.specs.StraightUpdate.{Updater, HasUpdateGoneOn, UpdaterBegins, UpdaterEnds}
 use Rattle.forest.specs.declared.straight.calls.WordEdit.TheVariants as edits
 use Rattle.forest.proofs.StraightUpdate.{answers_there}
 use Rattle.forest.specs.TableRule.{history_of}
@@ -62,10 +62,10 @@ module _ {K V : Type 0} (valid_key : K → Type 0) (key : K → ℕ) (valid_valu
   dict_calls layout number = record { allows = allows; ready = ready; waits = waits; same = same; layout = layout; number = number }
 
   abbrev keys : ℕ → Type 0
-  keys = IsWord valid_key key
+  keys = IsWordOf valid_key key
 
   abbrev values : ℕ → Type 0
-  values = IsWord valid_value value_word
+  values = IsWordOf valid_value value_word
 
   -- its machine has answered so
   abbrev ends : Call → List SeatedPass → DictRun K V → DictRun K V → WordReply → Type 0
@@ -80,7 +80,7 @@ module _ {K V : Type 0} (valid_key : K → Type 0) (key : K → ℕ) (valid_valu
     insert_call : Inserted → MapCall
     insert_call e = Edit (InsertEdit e.key e.value)
 
-    insert_goes : (old now : UpdateRun Inserted UpdateAt) → HasGoneOn insert_means old now (node_tries now now.at) (scx_tries now now.at) → Goes (Insert old) machine.tries c → Goes (Insert now) machine.tries c
+    insert_goes : (old now : UpdateRun Inserted UpdateAt) → HasUpdateGoneOn insert_means old now (node_tries now now.at) (scx_tries now now.at) → Goes (Insert old) machine.tries c → Goes (Insert now) machine.tries c
     insert_goes old now on x = record {
       mode = x.mode;
       small = subst (λ (e : Inserted). e.key < 2 ^ 64) (sym on.edit) x.small;
@@ -108,7 +108,7 @@ module _ {K V : Type 0} (valid_key : K → Type 0) (key : K → ℕ) (valid_valu
     unfolding inserter
     insert_begins ps m is x = record { known = x.known; is = x.is; sound = x.sound; so = (subst (λ r. ready (record machine { run = r }) c (history_of c.layout.mode x.known) None) is x.so.1, begins (λ i. record machine { run = sym is i }) (sym x.so.0)) }
 
-    pub insert_ended : (ps : List SeatedPass) {A : Type 0} (m : UpdateRun Inserted A) (a : Updated) → UpdaterEnds inserter ps m a → ends c ps machine (inserting (standing m Start)) (update_reply a)
+    pub insert_ended : (ps : List SeatedPass) {A : Type 0} (m : UpdateRun Inserted A) (a : Updated) → UpdaterEnds inserter ps m a → ends c ps machine (inserting (standing m Start)) (word_reply a)
     unfolding inserter insert_call
     insert_ended ps m a x = let y = x.so in record {
       known = x.known;
@@ -128,7 +128,7 @@ module _ {K V : Type 0} (valid_key : K → Type 0) (key : K → ℕ) (valid_valu
     delete_call : Deleted → MapCall
     delete_call e = Edit (DeleteEdit e.key)
 
-    delete_goes : (old now : UpdateRun Deleted UpdateAt) → HasGoneOn delete_means old now (node_tries now now.at) (scx_tries now now.at) → Goes (Delete old) machine.tries c → Goes (Delete now) machine.tries c
+    delete_goes : (old now : UpdateRun Deleted UpdateAt) → HasUpdateGoneOn delete_means old now (node_tries now now.at) (scx_tries now now.at) → Goes (Delete old) machine.tries c → Goes (Delete now) machine.tries c
     delete_goes old now on x = record {
       mode = x.mode;
       small = subst (λ (e : Deleted). e.key < 2 ^ 64) (sym on.edit) x.small;
@@ -156,7 +156,7 @@ module _ {K V : Type 0} (valid_key : K → Type 0) (key : K → ℕ) (valid_valu
     unfolding deleter
     delete_begins ps m is x = record { known = x.known; is = x.is; sound = x.sound; so = (subst (λ r. ready (record machine { run = r }) c (history_of c.layout.mode x.known) None) is x.so.1, begins (λ i. record machine { run = sym is i }) (sym x.so.0)) }
 
-    pub delete_ended : (ps : List SeatedPass) {A : Type 0} (m : UpdateRun Deleted A) (a : Updated) → UpdaterEnds deleter ps m a → ends c ps machine (deleting (standing m Start)) (update_reply a)
+    pub delete_ended : (ps : List SeatedPass) {A : Type 0} (m : UpdateRun Deleted A) (a : Updated) → UpdaterEnds deleter ps m a → ends c ps machine (deleting (standing m Start)) (word_reply a)
     unfolding deleter delete_call
     delete_ended ps m a x = let y = x.so in record {
       known = x.known;

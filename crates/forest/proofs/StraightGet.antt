@@ -13,8 +13,8 @@ use Rattle.arena.specs.Share.{Remaining}
 use Rattle.arena.specs.Words.{node}
 use Rattle.atomic_table.specs.declared.shared.Seat.{Seat}
 use Rattle.prims.specs.Llx.Known.{load}
-use Rattle.spelling.specs.OrderedMap.{Get, OneValue}
-use Rattle.template.specs.FoundLeaf.{HasFound}
+use Rattle.ordered_map.specs.OrderedMap.{Get, OneValue}
+use Rattle.template.specs.FoundLeaf.{HasFoundGoal}
 use Rattle.template.specs.Walk.Known.{WalkIsTold}
 use Rattle.template.specs.Walk.Places.{root_trail, walk_at, walk_from}
 use Rattle.template.specs.declared.walk.Found.{Found}
@@ -24,12 +24,12 @@ use Rattle.template.specs.declared.walk.WalkRun.{WalkRun}
 use Rattle.template.proofs.Lemmas.{found_gives, walk_begins}
 use Rattle.tree.specs.Get.Known.{GetAnswers}
 use Rattle.tree.specs.declared.get.GetRun.{GetRun}
-use Rattle.updates.specs.Laws.Entered.{none_quiet}
+use Rattle.edits.specs.Laws.Entered.{none_quiet}
 use Rattle.dict.specs.DictKnown.{DictIsReady, DictWaits, DictAnswers}
 use Rattle.dict.specs.Typed.{IsTypedValue, TypedAllows}
-use Rattle.dict.specs.Words.{IsWord}
+use Rattle.dict.specs.Words.{IsWordOf}
 use Rattle.dict.specs.declared.dict.DictRun.{DictRun}
-use Rattle.spelling.specs.declared.reply.Reply.TheVariants as replies
+use Rattle.ordered_map.specs.declared.reply.Reply.TheVariants as replies
 use Rattle.dict.specs.declared.told.WordReply.TheVariants as words
 use Rattle.dict.proofs.Lemmas.{get_ends, dict_ends}
 use Rattle.forest.specs.declared.pass.Pass.TheInside.{Inside}
@@ -51,13 +51,13 @@ use Rattle.forest.proofs.StraightCalls.{dict_calls}
 
 module _ {K V : Type 0} (valid_key : K → Type 0) (key : K → ℕ) (valid_value : V → Type 0) (value_word : V → ℕ) where
   abbrev pub allows : Layout → History → ℕ → Type 0
-  allows = TypedAllows (IsWord valid_key key) (IsWord valid_value value_word)
+  allows = TypedAllows (IsWordOf valid_key key) (IsWordOf valid_value value_word)
 
   abbrev pub ready : DictRun K V → Call → History → Option ℕ → Type 0
-  ready = DictIsReady (IsWord valid_key key) (IsWord valid_value value_word)
+  ready = DictIsReady (IsWordOf valid_key key) (IsWordOf valid_value value_word)
 
   abbrev pub waits : DictRun K V → Call → History → Step → Type 0
-  waits = DictWaits (IsWord valid_key key) (IsWord valid_value value_word)
+  waits = DictWaits (IsWordOf valid_key key) (IsWordOf valid_value value_word)
 
   abbrev pub same : DictRun K V → DictRun K V → Type 0
   same = IsSameDictCall valid_key key valid_value value_word
@@ -91,12 +91,12 @@ module _ {K V : Type 0} (valid_key : K → Type 0) (key : K → ℕ) (valid_valu
       (dict_starts valid_key key valid_value value_word p x first tt (refl, refl, refl, small) tt refl)
 
   -- the value of its word
-  same_told : (told : Option ℕ) (v : Option V) → (IfSome told (IsWord valid_value value_word) → option_map value_word v ≡ told) → IsTypedValue (IsWord valid_value value_word) told → Some (OneValue (option_map value_word v)) ≡ Some (OneValue told)
+  same_told : (told : Option ℕ) (v : Option V) → (IfSome told (IsWordOf valid_value value_word) → option_map value_word v ≡ told) → IsTypedValue (IsWordOf valid_value value_word) told → Some (OneValue (option_map value_word v)) ≡ Some (OneValue told)
   same_told None v e t = ap (λ (o : Option ℕ). Some (OneValue o)) (e tt)
   same_told (Some w) v e t = ap (λ (o : Option ℕ). Some (OneValue o)) (e t)
 
   -- what its walk finds, it answers
-  pub get_ended : (share : Remaining) (tries wanted number : ℕ) (layout : Layout) (c : Call) (is_layout : c.layout ≡ layout) (is_number : c.number ≡ number) (ps : List SeatedPass) (turn : NodeNo) (f : Found) (v : Option V) → c.layout.mode ≡ Tree → IfSome v valid_value → (IfSome f.value (IsWord valid_value value_word) → option_map value_word v ≡ f.value)
+  pub get_ended : (share : Remaining) (tries wanted number : ℕ) (layout : Layout) (c : Call) (is_layout : c.layout ≡ layout) (is_number : c.number ≡ number) (ps : List SeatedPass) (turn : NodeNo) (f : Found) (v : Option V) → c.layout.mode ≡ Tree → IfSome v valid_value → (IfSome f.value (IsWordOf valid_value value_word) → option_map value_word v ≡ f.value)
       → (x : WalkerFinds (walker share tries wanted c layout number is_layout is_number) ps wanted turn f)
       → HoldsForCall allows ps c (λ h. DictAnswers valid_key key valid_value value_word (getting share tries wanted x.last) c h (replies.Value v) × Trace allows waits same c (getting share tries wanted (walk_at wanted root_trail Start)) (getting share tries wanted x.last) h)
   unfolding walker
@@ -109,13 +109,13 @@ module _ {K V : Type 0} (valid_key : K → Type 0) (key : K → ℕ) (valid_valu
       answers : (h : History) → IsRun allows c.layout h → ready (getting share tries wanted x.last) c h (Some x.told) → DictAnswers valid_key key valid_value value_word (getting share tries wanted x.last) c h (replies.Value v)
       answers h run r =
           let t : WalkIsTold x.last c h x.told = r.1.1.0.0 in
-          let found : HasFound (ToKey wanted) c h f = x.finds c h t in
+          let found : HasFoundGoal (ToKey wanted) c h f = x.finds c h t in
           let got : GetAnswers m c h f.value = record { first = found.trail.node.first; own = found.trail.node.own; right = found_gives c h wanted f t.run (rw x.goal at t.small) found; none = none_quiet c.layout c.pass h c.start run.lawful r.1.1.0.2.quiet } in
           dict_ends valid_key key valid_value value_word (getting share tries wanted x.last) c h (words.Value f.value) (replies.Value v) mode run
           (get_ends tries c h m share f.value r.1.1.1 r.1.0.spent got) valid (λ typed. same_told f.value v same_word typed) (inl refl)
 
   -- and so it has ended
-  pub get_has_ended : {T : Type 0} (p : Inside T) (x : IsPass allows Tree p) (s : Seat ℕ SeatView) (tries wanted number : ℕ) (layout : Layout) (is_layout : p.layout ≡ layout) (is_number : taken_of (pass_view p) ≡ number) (turn : NodeNo) (f : Found) (v : Option V) → IfSome v valid_value → (IfSome f.value (IsWord valid_value value_word) → option_map value_word v ≡ f.value)
+  pub get_has_ended : {T : Type 0} (p : Inside T) (x : IsPass allows Tree p) (s : Seat ℕ SeatView) (tries wanted number : ℕ) (layout : Layout) (is_layout : p.layout ≡ layout) (is_number : taken_of (pass_view p) ≡ number) (turn : NodeNo) (f : Found) (v : Option V) → IfSome v valid_value → (IfSome f.value (IsWordOf valid_value value_word) → option_map value_word v ≡ f.value)
       → (y : WalkerFinds (walker p.share tries wanted (call_of p x (taken_of (pass_view p))) layout number is_layout is_number) s.me.0.passes wanted turn f)
       → HasEnded allows p s (taken_of (pass_view p)) (Answered valid_key key valid_value value_word p x s (getting p.share tries wanted y.last) (replies.Value v))
   unfolding walker
@@ -124,7 +124,7 @@ module _ {K V : Type 0} (valid_key : K → Type 0) (key : K → ℕ) (valid_valu
       (get_ended p.share tries wanted number layout (call_of p x (taken_of (pass_view p))) is_layout is_number s.me.0.passes turn f v x.is_mode valid same_word y)).0
 
   -- and so it has loaded settled words and fields alone
-  pub get_kinds : {T : Type 0} (p : Inside T) (x : IsPass allows Tree p) (s : Seat ℕ SeatView) (tries wanted number : ℕ) (layout : Layout) (is_layout : p.layout ≡ layout) (is_number : taken_of (pass_view p) ≡ number) (turn : NodeNo) (f : Found) (v : Option V) → IfSome v valid_value → (IfSome f.value (IsWord valid_value value_word) → option_map value_word v ≡ f.value)
+  pub get_kinds : {T : Type 0} (p : Inside T) (x : IsPass allows Tree p) (s : Seat ℕ SeatView) (tries wanted number : ℕ) (layout : Layout) (is_layout : p.layout ≡ layout) (is_number : taken_of (pass_view p) ≡ number) (turn : NodeNo) (f : Found) (v : Option V) → IfSome v valid_value → (IfSome f.value (IsWordOf valid_value value_word) → option_map value_word v ≡ f.value)
       → (y : WalkerFinds (walker p.share tries wanted (call_of p x (taken_of (pass_view p))) layout number is_layout is_number) s.me.0.passes wanted turn f)
       → HasKeptToKinds (pass_view p) (pass_view (behind valid_key key valid_value value_word p x s (getting p.share tries wanted y.last) (replies.Value v))) (Get wanted)
   unfolding walker

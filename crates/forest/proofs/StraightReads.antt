@@ -5,7 +5,7 @@ use Rattle.arena.specs.declared.machine.Turn.TheVariants.{Ask, Done}
 use Rattle.arena.specs.declared.step.Step.{Step}
 use Rattle.arena.specs.History.{History}
 use Rattle.arena.specs.Machines.{Call, IsRun, MatchTurn}
-use Rattle.spelling.specs.TreeShape.{TreeAllows}
+use Rattle.ordered_map.specs.TreeShape.{TreeAllows}
 use Rattle.forest.specs.declared.view.SeatedPass.{SeatedPass}
 use Rattle.forest.specs.StraightReads.{Reader, ReaderStands}
 use Rattle.forest.specs.Traces.{HoldsForCall, Trace, goes_on}

@@ -21,15 +21,15 @@ use Rattle.prims.specs.declared.scx.Scx.TheVariants.{Done as ScxDone}
 use Rattle.prims.specs.declared.scx.ScxAt.TheVariants.{Plan as AtPlan, Help}
 use Rattle.prims.specs.declared.scx.ScxRun.{ScxRun}
 use Rattle.prims.proofs.Lemmas.{done_at}
-use Rattle.updates.specs.declared.edit.Need.{Need}
-use Rattle.updates.specs.declared.edit.Need.TheVariants.{Nothing, One, Three}
-use Rattle.updates.specs.declared.edit.Nth.{Nth}
-use Rattle.updates.specs.declared.edit.Nth.TheVariants.{First, Second, Third}
-use Rattle.updates.specs.declared.edit.Piece.{Piece}
-use Rattle.updates.specs.declared.edit.Piece.TheVariants.{Leaf, Fork}
-use Rattle.updates.specs.Pieces.{fills_behind, nth_node, part_behind, word_of, HasPlace}
-use Rattle.updates.specs.Sound.{FillsWell, IsAtFound}
-use Rattle.updates.proofs.Lemmas.{fills_next, fills_word, joined_spends, placed_same, scx_asks, scx_done}
+use Rattle.edits.specs.declared.edit.Need.{Need}
+use Rattle.edits.specs.declared.edit.Need.TheVariants.{Nothing, One, Three}
+use Rattle.edits.specs.declared.edit.Nth.{Nth}
+use Rattle.edits.specs.declared.edit.Nth.TheVariants.{First, Second, Third}
+use Rattle.edits.specs.declared.edit.Piece.{Piece}
+use Rattle.edits.specs.declared.edit.Piece.TheVariants.{Leaf, Fork}
+use Rattle.edits.specs.Pieces.{fills_behind, nth_node, part_behind, word_of, HasPlace}
+use Rattle.edits.specs.Sound.{FillsWell, IsAtFound}
+use Rattle.edits.proofs.Lemmas.{fills_next, fills_word, joined_spends, placed_same, scx_asks, scx_done}
 use Rattle.forest.specs.declared.straight.changing.Change.{Change}
 use Rattle.forest.specs.StraightChange.{Changer, all_frozen_load, changing_at, scx_fill}
 use Rattle.arena.specs.History.{History, value}
@@ -43,8 +43,8 @@ use Rattle.prims.specs.Llx.Known.{load, IsSnapshot}
 use Rattle.prims.specs.declared.llx.LlxAt.TheVariants.{Marked, StateAgain}
 use Rattle.prims.specs.declared.llx.LlxRun.{LlxRun}
 use Rattle.prims.specs.declared.snap.Snap.{Snap}
-use Rattle.spelling.specs.TreeShape.{TreeAllows}
-use Rattle.template.specs.FoundLeaf.{HasFound}
+use Rattle.ordered_map.specs.TreeShape.{TreeAllows}
+use Rattle.template.specs.FoundLeaf.{HasFoundGoal}
 use Rattle.template.specs.Walk.Known.{WalkIsTold}
 use Rattle.template.specs.Walk.Places.{walk_from, IsPastRoot}
 use Rattle.template.specs.declared.walk.Found.{Found}
@@ -53,32 +53,32 @@ use Rattle.template.specs.declared.walk.WalkAt.{WalkAt}
 use Rattle.template.specs.declared.walk.WalkAt.TheVariants.{Start as WalkStart, Root as WalkRoot}
 use Rattle.template.specs.declared.walk.WalkRun.{WalkRun}
 use Rattle.template.proofs.Lemmas.{own_since, walk_begins}
-use Rattle.updates.specs.Edits.{EditMeaning}
-use Rattle.updates.specs.Known.{Begins, CanFill, CanLook, IsFilledUpTo, IsNeeded, IsUntouched, Loads, Looks, IsFullFor, UpdateAnswers, UpdateIsReady, UpdateWaits, UpdateTurn, Walks, copied, done_at as done_with}
-use Rattle.updates.specs.Laws.HandScx.{from}
-use Rattle.updates.specs.Laws.Kept.{idle_over}
-use Rattle.updates.specs.Steps.{HasScxLeft, IsSpending, IsWanted, UpdateFits, fills_left, node_tries, scx_tries, try_left, update_left, works_after}
-use Rattle.updates.specs.Tries.{IsTry, IsTryAt}
-use Rattle.updates.specs.Next.{IsSameUpdate, placed, standing, next_step, update_of, MayStop, GoesOn, HasSpent, left_then}
-use Rattle.updates.specs.declared.update.Stop.{Stop}
-use Rattle.updates.specs.declared.update.Stop.TheVariants.{Nothing as NothingStop, Lost as LostStop, Full as FullStop}
-use Rattle.updates.specs.declared.update.Updated.TheVariants.{Done as DoneAnswer, Contended as ContendedAnswer, Full as FullAnswer}
-use Rattle.updates.specs.Laws.Update.{update_scx_left, update_told}
-use Rattle.updates.specs.declared.update.Next.{Next}
-use Rattle.updates.specs.declared.update.Next.TheVariants.{Look as LookNext, Wait as WaitNext, Load as LoadNext, Fill as FillNext, Change as ChangeNext}
-use Rattle.updates.specs.declared.update.UpdateAt.{UpdateAt}
-use Rattle.updates.specs.declared.update.UpdateAt.TheVariants.{Start, Walk, Look, Fill, Scx}
-use Rattle.updates.specs.declared.edit.Look.TheVariants.{At}
+use Rattle.edits.specs.Edits.{EditMeaning}
+use Rattle.edits.specs.Known.{MayBeginTry, CanFill, CanLook, IsFilledUpTo, IsNeeded, IsUntouched, Loads, Looks, IsFullFor, UpdateAnswers, UpdateIsReady, UpdateWaits, UpdateTurn, Walks, copied, done_at as done_with}
+use Rattle.edits.specs.Laws.HandScx.{from}
+use Rattle.edits.specs.Laws.Kept.{idle_over}
+use Rattle.edits.specs.Steps.{HasScxForFill, IsSpending, IsWanted, UpdateFits, fills_left, node_tries, scx_tries, try_left, update_left, works_after}
+use Rattle.edits.specs.Tries.{IsTry, IsTryAt}
+use Rattle.edits.specs.Next.{IsSameUpdate, placed, standing, next_step, update_of, MayStop, UpdateGoesOn, HasSpentForNext, left_then}
+use Rattle.edits.specs.declared.update.Stop.{Stop}
+use Rattle.edits.specs.declared.update.Stop.TheVariants.{Nothing as NothingStop, Lost as LostStop, Full as FullStop}
+use Rattle.edits.specs.declared.update.Updated.TheVariants.{Done as DoneAnswer, Contended as ContendedAnswer, Full as FullAnswer}
+use Rattle.edits.specs.Laws.Update.{update_scx_left, update_told}
+use Rattle.edits.specs.declared.update.Next.{Next}
+use Rattle.edits.specs.declared.update.Next.TheVariants.{Look as LookNext, Wait as WaitNext, Load as LoadNext, Fill as FillNext, Change as ChangeNext}
+use Rattle.edits.specs.declared.update.UpdateAt.{UpdateAt}
+use Rattle.edits.specs.declared.update.UpdateAt.TheVariants.{Start, Walk, Look, Fill, Scx}
+use Rattle.edits.specs.declared.edit.Look.TheVariants.{At}
 use Rattle.prims.specs.declared.update.Update.{Update}
 use Rattle.arena.specs.declared.number.ScxNo.{ScxNo}
 use Rattle.arena.specs.declared.plan.Plan.{Plan as PlanOf}
-use Rattle.updates.specs.declared.update.UpdateRun.{UpdateRun}
-use Rattle.updates.specs.declared.update.Updated.{Updated}
+use Rattle.edits.specs.declared.update.UpdateRun.{UpdateRun}
+use Rattle.edits.specs.declared.update.Updated.{Updated}
 use Rattle.prims.specs.Laws.Idle.{IsQuietSince}
 use Rattle.forest.specs.declared.view.SeatedPass.{SeatedPass}
 use Rattle.forest.specs.StraightLlx.{llx_at}
 use Rattle.forest.specs.StraightLook.{Looker, LookerSnaps}
-use Rattle.forest.specs.StraightUpdate.{Updater, HasGoneOn, UpdaterBegins, UpdaterEnds, UpdaterGoesOn, UpdaterIsBlocked, UpdaterIsTold, UpdaterStops, UpdaterTries, UpdaterWaits, UpdaterStands}
+use Rattle.forest.specs.StraightUpdate.{Updater, HasUpdateGoneOn, UpdaterBegins, UpdaterEnds, UpdaterGoesOn, UpdaterIsBlocked, UpdaterIsTold, UpdaterStops, UpdaterTries, UpdaterWaits, UpdaterStands}
 use Rattle.forest.specs.StraightWalk.{Walker, WalkerWaits, WalkerFinds}
 use Rattle.forest.specs.TableRule.{history_of}
 use Rattle.forest.specs.Traces.{goes_on, shared_nodes, weight}
@@ -127,7 +127,7 @@ module _ {M E : Type 0} {o : Calls M} {e : EditMeaning E} (u : Updater o e) wher
   has_passes = subst (λ (l : Layout). 0 < l.passes) u.is_layout (let i = u.call.is_pass in omega (arith, i))
 
   -- once it is over no try may take any more
-  all_spent : {A : Type 0} (old : UpdateRun E UpdateAt) (m : UpdateRun E A) (left : ℕ) → HasGoneOn e old m left left → HasGoneOn e old m 0 0
+  all_spent : {A : Type 0} (old : UpdateRun E UpdateAt) (m : UpdateRun E A) (left : ℕ) → HasUpdateGoneOn e old m left left → HasUpdateGoneOn e old m 0 0
   all_spent old m left x = record { edit = x.edit; called = x.called; limit = x.limit; tries = x.tries; spends = (let s = x.spends.0 in omega (arith, s), let s = x.spends.1 in omega (arith, s), let s = x.spends.2 in omega (arith, s)) }
 
   -- the update with its walk at a place
@@ -190,14 +190,14 @@ module _ {M E : Type 0} {o : Calls M} {e : EditMeaning E} (u : Updater o e) wher
 
   -- what its try does next, once it has told so and no more of the share is taken than may
   module _ (ps : List SeatedPass) {A : Type 0} (m : UpdateRun E A) (f : Found) where
-    goes_from : (old : UpdateRun E UpdateAt) (h : History) (got : Option ℕ) (next : Next) → o.ready (u.with_run old) u.call h got → IsSameUpdate old m → m.tries ≡ old.tries → HasSpent e old.share m f (Ok next) (node_tries old old.at) (scx_tries old old.at) → GoesOn e u.call h m f (Ok next) → o.waits (u.with_run (placed e m f next)) u.call h (next_step e m f next)
+    goes_from : (old : UpdateRun E UpdateAt) (h : History) (got : Option ℕ) (next : Next) → o.ready (u.with_run old) u.call h got → IsSameUpdate old m → m.tries ≡ old.tries → HasSpentForNext e old.share m f (Ok next) (node_tries old old.at) (scx_tries old old.at) → UpdateGoesOn e u.call h m f (Ok next) → o.waits (u.with_run (placed e m f next)) u.call h (next_step e m f next)
     goes_from old h got next was same tries spent z = u.turns old (placed e m f next) h got (next_step e m f next) record { edit = p.0 ∙ same.0; called = p.1 ∙ same.1; limit = p.2 ∙ same.2; tries = keeps_tries old.tries (placed e m f next).tries (placed_tries m f next ∙ tries); spends = spent } was z
       where
         p : IsSameUpdate m (placed e m f next)
         p = placed_same e m f next
 
     -- behind the step of which it was told it goes on so
-    pub goes_behind : (old : UpdateRun E UpdateAt) (v : ℕ) (next : Result Next Stop) → IsSameUpdate old m → m.tries ≡ old.tries → HasSpent e old.share m f next (node_tries old old.at) (scx_tries old old.at) → (x : UpdaterIsTold u ps old v) → GoesOn e u.call (history_of u.call.layout.mode x.known) m f next → UpdaterGoesOn u ps m f next
+    pub goes_behind : (old : UpdateRun E UpdateAt) (v : ℕ) (next : Result Next Stop) → IsSameUpdate old m → m.tries ≡ old.tries → HasSpentForNext e old.share m f next (node_tries old old.at) (scx_tries old old.at) → (x : UpdaterIsTold u ps old v) → UpdateGoesOn e u.call (history_of u.call.layout.mode x.known) m f next → UpdaterGoesOn u ps m f next
     goes_behind old v (Ok next) is tries spent x z = record { known = x.known; is = x.is; sound = x.sound; so = (goes_from old (history_of u.call.layout.mode x.known) (Some v) next x.so.0 is tries spent z, goes_on (u.with_run old) (u.stays old (placed e m f next) ((placed_same e m f next).0 ∙ is.0) (keeps_tries old.tries (placed e m f next).tries (placed_tries m f next ∙ tries))) x.so.1) }
     goes_behind old v (Err stop) is tries spent x z = record { known = x.known; is = x.is; sound = x.sound; so = record { old = old; got = Some v; was = x.so.0; goes = record { edit = is.0; called = is.1; limit = is.2; tries = keeps_tries old.tries m.tries tries; spends = spent }; tries = tries; may = z; course = x.so.1 } }
 
@@ -223,8 +223,8 @@ module _ {M E : Type 0} {o : Calls M} {e : EditMeaning E} (u : Updater o e) wher
     }
 
   -- behind its walk it goes on as its try does
-  pub finds : (ps : List SeatedPass) {A : Type 0} (m now : UpdateRun E A) (key : ℕ) (turn : NodeNo) (f : Found) (next : Result Next Stop) → e.goal m.edit ≡ ToKey key → IsSameUpdate m now → now.tries ≡ m.tries → HasSpent e m.share now f next (m.tries + 1) (m.tries + 1)
-      → ((b h : History) → IsRun TreeAllows u.call.layout h → IsTry u.call b h m.limit m.tries → IsUntouched u.call b m.share → Begins e m (from u.call b) h → IsQuietSince u.call.layout u.call.pass b h → HasFound (e.goal m.edit) (from u.call b) h f → GoesOn e u.call h now f next)
+  pub finds : (ps : List SeatedPass) {A : Type 0} (m now : UpdateRun E A) (key : ℕ) (turn : NodeNo) (f : Found) (next : Result Next Stop) → e.goal m.edit ≡ ToKey key → IsSameUpdate m now → now.tries ≡ m.tries → HasSpentForNext e m.share now f next (m.tries + 1) (m.tries + 1)
+      → ((b h : History) → IsRun TreeAllows u.call.layout h → IsTry u.call b h m.limit m.tries → IsUntouched u.call b m.share → MayBeginTry e m (from u.call b) h → IsQuietSince u.call.layout u.call.pass b h → HasFoundGoal (e.goal m.edit) (from u.call b) h f → UpdateGoesOn e u.call h now f next)
       → WalkerFinds (walker m) ps key turn f → UpdaterGoesOn u ps now f next
   unfolding walker
   finds ps m now key turn f next goal is tries spent goes x =
@@ -275,8 +275,8 @@ module _ {M E : Type 0} {o : Calls M} {e : EditMeaning E} (u : Updater o e) wher
   begins_look ps m f node x = x
 
   -- with the snapshot it goes on as its turn says
-  pub looks_on : (ps : List SeatedPass) {A : Type 0} (m now : UpdateRun E A) (f : Found) (node : NodeNo) (snap : Snap) (next : Result Next Stop) → IsSameUpdate m now → now.tries ≡ m.tries → HasSpent e m.share now f next (m.tries + 1) (m.tries + 1)
-      → ((b h : History) → IsRun TreeAllows u.call.layout h → IsTry u.call b h m.limit m.tries → CanLook e m (from u.call b) h f → e.looks m.edit f m.snaps.items ≡ At snap.node → IsSnapshot u.call.layout h snap.node.0 snap → HasFoundThere u.call.pass h b snap.node.0 snap.scx.0 → GoesOn e u.call h now f next)
+  pub looks_on : (ps : List SeatedPass) {A : Type 0} (m now : UpdateRun E A) (f : Found) (node : NodeNo) (snap : Snap) (next : Result Next Stop) → IsSameUpdate m now → now.tries ≡ m.tries → HasSpentForNext e m.share now f next (m.tries + 1) (m.tries + 1)
+      → ((b h : History) → IsRun TreeAllows u.call.layout h → IsTry u.call b h m.limit m.tries → CanLook e m (from u.call b) h f → e.looks m.edit f m.snaps.items ≡ At snap.node → IsSnapshot u.call.layout h snap.node.0 snap → HasFoundThere u.call.pass h b snap.node.0 snap.scx.0 → UpdateGoesOn e u.call h now f next)
       → LookerSnaps (looker m f) ps node snap → UpdaterGoesOn u ps now f next
   unfolding looker
   looks_on ps m now f node snap next is tries spent goes x = goes_behind ps now f (looking m f x.last) x.told next is tries spent x.so (goes y.0 h (u.tree h x.so.sound) y.1 can named snapped met)
@@ -337,11 +337,11 @@ module _ {M E : Type 0} {o : Calls M} {e : EditMeaning E} (u : Updater o e) wher
   blocks_there ps m start now f scx help turn is place asks x = rw (place, asks, is) x
 
   -- while it fills a fresh node there is an SCX-record left
-  scx_is_left : (ps : List SeatedPass) (m : UpdateRun E UpdateAt) (v : ℕ) → UpdaterIsTold u ps m v → HasScxLeft m m.at
+  scx_is_left : (ps : List SeatedPass) (m : UpdateRun E UpdateAt) (v : ℕ) → UpdaterIsTold u ps m v → HasScxForFill m m.at
   scx_is_left ps m v x = update_scx_left e m u.call _ (Some v) (u.tells m _ (Some v) x.so.0)
 
   -- told what its step has found, it stands as its turn says
-  pub told_on : (ps : List SeatedPass) (m now : UpdateRun E UpdateAt) (v : ℕ) (turn : Turn Updated) → IsSameUpdate m now → (m.tries ≤ now.tries + 1) × (now.tries ≤ m.tries) → (HasScxLeft m m.at → IsSpending e turn m.share now (node_tries m m.at) (scx_tries m m.at)) → ((h : History) → IsRun TreeAllows u.call.layout h → UpdateIsReady e m u.call h (Some v) → UpdateTurn e u.call h now turn) → UpdaterIsTold u ps m v → UpdaterStands u ps now turn
+  pub told_on : (ps : List SeatedPass) (m now : UpdateRun E UpdateAt) (v : ℕ) (turn : Turn Updated) → IsSameUpdate m now → (m.tries ≤ now.tries + 1) × (now.tries ≤ m.tries) → (HasScxForFill m m.at → IsSpending e turn m.share now (node_tries m m.at) (scx_tries m m.at)) → ((h : History) → IsRun TreeAllows u.call.layout h → UpdateIsReady e m u.call h (Some v) → UpdateTurn e u.call h now turn) → UpdaterIsTold u ps m v → UpdaterStands u ps now turn
   told_on ps m now v (Ask s) is fewer spent next x = record {
     known = x.known;
     is = x.is;
@@ -399,8 +399,8 @@ module _ {M E : Type 0} {o : Calls M} {e : EditMeaning E} (u : Updater o e) wher
   }
 
   -- with what the load has told it goes on as its turn says
-  pub loads_on : (ps : List SeatedPass) {A : Type 0} (m now : UpdateRun E A) (f : Found) (nth : Nth) (part : NodeWord) (v : ℕ) (next : Result Next Stop) → IsSameUpdate m now → now.tries ≡ m.tries → HasSpent e m.share now f next m.tries (m.tries + 1)
-      → ((b h : History) → IsRun TreeAllows u.call.layout h → IsTry u.call b h m.limit m.tries → Loads e m (from u.call b) h f nth part → value h (node (copied e m f) part) ≡ v → GoesOn e u.call h now f next)
+  pub loads_on : (ps : List SeatedPass) {A : Type 0} (m now : UpdateRun E A) (f : Found) (nth : Nth) (part : NodeWord) (v : ℕ) (next : Result Next Stop) → IsSameUpdate m now → now.tries ≡ m.tries → HasSpentForNext e m.share now f next m.tries (m.tries + 1)
+      → ((b h : History) → IsRun TreeAllows u.call.layout h → IsTry u.call b h m.limit m.tries → Loads e m (from u.call b) h f nth part → value h (node (copied e m f) part) ≡ v → UpdateGoesOn e u.call h now f next)
       → UpdaterIsTold u ps (placed e m f (LoadNext nth part)) v → UpdaterGoesOn u ps now f next
   loads_on ps m now f nth part v next is tries spent goes x = goes_behind ps now f (placed e m f (LoadNext nth part)) v next is tries spent x (goes y.0 h (u.tree h x.sound) y.1 (loads_anywhere m f nth part (from u.call y.0) h y.3.0) y.3.1)
     where
@@ -470,8 +470,8 @@ module _ {M E : Type 0} {o : Calls M} {e : EditMeaning E} (u : Updater o e) wher
   )
 
   -- behind a node's last fill it goes on as its turn says
-  pub fills_end : (ps : List SeatedPass) {A : Type 0} (m now : UpdateRun E A) (f : Found) (nth : Nth) (part : NodeWord) (v : ℕ) (next : Result Next Stop) → IsSameUpdate m now → now.tries ≡ m.tries → (0 < m.share.scx → HasSpent e m.share now f next m.tries (m.tries + 1))
-      → ((b h : History) → IsRun TreeAllows u.call.layout h → IsTry u.call b h m.limit m.tries → IsFilledUpTo e m (from u.call b) h f nth part → GoesOn e u.call h now f next)
+  pub fills_end : (ps : List SeatedPass) {A : Type 0} (m now : UpdateRun E A) (f : Found) (nth : Nth) (part : NodeWord) (v : ℕ) (next : Result Next Stop) → IsSameUpdate m now → now.tries ≡ m.tries → (0 < m.share.scx → HasSpentForNext e m.share now f next m.tries (m.tries + 1))
+      → ((b h : History) → IsRun TreeAllows u.call.layout h → IsTry u.call b h m.limit m.tries → IsFilledUpTo e m (from u.call b) h f nth part → UpdateGoesOn e u.call h now f next)
       → UpdaterIsTold u ps (filling m f nth part) v → UpdaterGoesOn u ps now f next
   fills_end ps m now f nth part v next is tries spent goes x = goes_behind ps now f (filling m f nth part) v next is tries (spent y.3.0.works.some) x (goes y.0 h (u.tree h x.sound) y.1 (filled_anywhere m f nth part (from u.call y.0) h y.3))
     where

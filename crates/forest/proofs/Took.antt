@@ -13,8 +13,8 @@ use Rattle.arena.proofs.Lemmas.{ends_self, ends_trans}
 use Rattle.histories.proofs.Lemmas.{lawful_row, lawful_since, lawful_tail, named_scx_taken, state_since, untaken_by_others}
 use Rattle.prims.specs.Laws.Begun.{taken_since}
 use Rattle.prims.proofs.Lemmas.{wins_in_progress}
-use Rattle.spelling.specs.OrderedMap.{MapEdit}
-use Rattle.updates.specs.Known.{HasMade, RestsWith}
+use Rattle.ordered_map.specs.OrderedMap.{MapEdit}
+use Rattle.edits.specs.Known.{HasMade, RestsWith}
 use Rattle.dict.specs.Says.{HasMadeRow}
 
 -- until the pass makes a row, an SCX-record of its share that was fresh stays so

@@ -9,14 +9,14 @@ use Rattle.arena.specs.History.{History, ◌⊳◌, value, Extends}
 use Rattle.arena.specs.Machines.{Call}
 use Rattle.arena.specs.Share.{Remaining}
 use Rattle.arena.proofs.Lemmas.{ends_self, ends_trans}
-use Rattle.spelling.specs.declared.pair.Pair.{Pair}
-use Rattle.spelling.specs.OrderedMap.{MapCall, MapReply, MapEdit, edited, changes}
-use Rattle.spelling.specs.Runs.{IsTreeRun, Makes}
-use Rattle.spelling.specs.Spelled.{Spells}
-use Rattle.spelling.proofs.Lemmas.{one_spelling, run_spells, run_since, spells_log, makes_since}
-use Rattle.updates.specs.Known.{HasMade, RestsWith, IsUntouched}
-use Rattle.updates.specs.Tries.{HasEnteredNone}
-use Rattle.dict.specs.OneShare.{one_share}
+use Rattle.ordered_map.specs.declared.pair.Pair.{Pair}
+use Rattle.ordered_map.specs.OrderedMap.{MapCall, MapReply, MapEdit, edited, changes_map}
+use Rattle.ordered_map.specs.Runs.{IsTreeRun, Makes}
+use Rattle.ordered_map.specs.Spelled.{Spells}
+use Rattle.ordered_map.proofs.Lemmas.{one_spelling, run_spells, run_since, spells_log, makes_since}
+use Rattle.edits.specs.Known.{HasMade, RestsWith, IsUntouched}
+use Rattle.edits.specs.Tries.{HasEnteredNone}
+use Rattle.dict.specs.Laws.OneShare.{one_share}
 use Rattle.dict.specs.Says.{HasToldBy, HasTold, HasLost, HasRunOut}
 use Rattle.forest.specs.Dictionary.{IsVersion, IsChange, IsChangeOrReading, IsContendedCall, IsFullCall}
 use Rattle.forest.specs.Passes.{PassView, run_of, done_of, taken_of}
@@ -80,8 +80,8 @@ module _ (was : PassView) (is_pass : was.number < was.layout.passes) (number : �
     }
 
     -- what is told, with what its share had as the call began, and has now
-    pub told_says : (call : MapCall) (told : MapReply) → RestsWith call_by (run_of was) was.share → RestsWith call_by (run_of then) left → HasTold call_by (run_of then) call told → IsChangeOrReading (changes call told) was then call told
-    told_says call told first rests y = told_by (changes call told) call told first rests y
+    pub told_says : (call : MapCall) (told : MapReply) → RestsWith call_by (run_of was) was.share → RestsWith call_by (run_of then) left → HasTold call_by (run_of then) call told → IsChangeOrReading (changes_map call told) was then call told
+    told_says call told first rests y = told_by (changes_map call told) call told first rests y
 
     -- refusals
     pub lost_says : (tries n s : ℕ) → HasLost call_by (run_of then) tries n s → IsContendedCall tries was then n s

@@ -9,20 +9,20 @@ use Rattle.arena.specs.Blame.{WasInTheWay}
 use Rattle.arena.specs.Fills.{IsOthersScx}
 use Rattle.arena.specs.History.{History, ◌⊳◌, value, Extends}
 use Rattle.arena.specs.Log.{Entry, log}
-use Rattle.spelling.specs.declared.pair.Pair.{Pair as PairOf}
-use Rattle.spelling.specs.Laws.{AreEdits}
-use Rattle.spelling.specs.OrderedMap.{MapCall, Edit, Successor, Range, MapReply, OneValue, ManyPairs, pair_or_none, MapEdit, edit_key, edited, get, reply, changes}
-use Rattle.spelling.specs.Runs.{Makes, map_of_log}
-use Rattle.spelling.specs.Spelled.{Spells}
+use Rattle.ordered_map.specs.declared.pair.Pair.{Pair as PairOf}
+use Rattle.ordered_map.specs.Laws.{AreEdits}
+use Rattle.ordered_map.specs.OrderedMap.{MapCall, Edit, Successor, Range, MapReply, OneValue, ManyPairs, pair_or_none, MapEdit, edit_key, edited, get, reply, changes_map}
+use Rattle.ordered_map.specs.Runs.{Makes, map_of_log}
+use Rattle.ordered_map.specs.Spelled.{Spells}
 use Rattle.template.specs.Blame.{IsOverOrNew, HasLostTriesTo}
-use Rattle.spelling.specs.CallRules.{need, most_nodes, most_scx, most_steps}
+use Rattle.ordered_map.specs.CallRules.{need, most_nodes, most_scx, most_steps}
 use Rattle.dict.specs.Calls.{AsksForPairs}
 use Rattle.dict.specs.Says.{HasMadeRow, HasTooLittle, KeepsLists}
 use Rattle.dict.specs.Typed.{TypedAllows}
-use Rattle.dict.specs.Words.{IsWord}
-use Rattle.spelling.specs.Replies.{word_pair}
-use Rattle.spelling.specs.declared.reply.Reply.{Reply}
-use Rattle.spelling.specs.declared.reply.Reply.TheVariants.{Value, Contended, Full, NoMemory}
+use Rattle.dict.specs.Words.{IsWordOf}
+use Rattle.ordered_map.specs.Replies.{word_pair}
+use Rattle.ordered_map.specs.declared.reply.Reply.{Reply}
+use Rattle.ordered_map.specs.declared.reply.Reply.TheVariants.{Value, Contended, Full, NoMemory}
 use Rattle.forest.specs.declared.fault.OrderFault.{OrderFault}
 use Rattle.forest.specs.declared.fault.OrderFault.TheVariants as reads
 use Rattle.forest.specs.declared.fault.UpdateFault.{UpdateFault}
@@ -90,7 +90,7 @@ IsChangeOrReading false old new call told = IsReading old new call told
 
 -- what is told of the map, if anything, is of a version of it
 abbrev pub IsToldOf : PassView → PassView → MapCall → Option MapReply → Type 0
-IsToldOf old new call (Some told) = IsChangeOrReading (changes call told) old new call told
+IsToldOf old new call (Some told) = IsChangeOrReading (changes_map call told) old new call told
 IsToldOf old new call None = Unit {0}
 
 -- Refusals
@@ -144,10 +144,10 @@ pub record HasSpentAtMost (old new : PassView) (call : MapCall) (tries : ℕ) : 
   pub end_scx : new.share.next_scx + new.share.scx ≡ old.share.next_scx + old.share.scx
 
 -- a call of a dictionary, which may try so often, has brought the pass further: it has made no more
--- steps than such a call makes, and blames these now. `valid` says of a key or a value whether it is
--- one of its type, and the other two give their words.
+-- steps than such a call makes, and blames these now. `valid` says of a key or a value whether it
+-- is one of its type, and the other two give their words.
 abbrev pub HasMadeCall : {K V : Type 0} → (K → Type 0) → (K → ℕ) → (V → Type 0) → (V → ℕ) → ℕ → Layout → PassView → PassView → MapCall → List ℕ → Type 0
-HasMadeCall valid_key key valid_value value_word tries layout old new call blamed = HasGoneOn (TypedAllows (IsWord valid_key key) (IsWord valid_value value_word)) old new (taken_of old) (most_steps call tries (shared_nodes layout)) blamed
+HasMadeCall valid_key key valid_value value_word tries layout old new call blamed = HasGoneOn (TypedAllows (IsWordOf valid_key key) (IsWordOf valid_value value_word)) old new (taken_of old) (most_steps call tries (shared_nodes layout)) blamed
 
 -- the blame list after this reply: `Contended` blames its SCX-record
 abbrev pub blamed_by_reply : {K V : Type 0} → Reply K V → List ℕ → List ℕ

@@ -5,10 +5,10 @@ use Rattle.arena.specs.declared.limits.Mode.TheVariants.{Tree}
 use Rattle.arena.specs.Machines.{Call, MatchTurn}
 use Rattle.dict.specs.Calls.{call_in, AsksForPairs}
 use Rattle.dict.specs.DictKnown.{DictWaits, DictAnswers}
-use Rattle.spelling.specs.CallRules.{most_steps}
+use Rattle.ordered_map.specs.CallRules.{most_steps}
 use Rattle.dict.specs.Steps.{map_left}
 use Rattle.dict.specs.Typed.{TypedAllows}
-use Rattle.dict.specs.Words.{IsWord}
+use Rattle.dict.specs.Words.{IsWordOf}
 use Rattle.dict.specs.declared.dict.DictRun.{DictRun}
 use Rattle.dict.specs.declared.shape.Dict.{Dict}
 use Rattle.forest.specs.declared.open.OpenCall.TheInside.{Inside}
@@ -51,7 +51,7 @@ next_call p is_pass = record { layout = p.layout; pass = p.number; is_pass = is_
 -- what holds of every call that is held open
 pub record IsOpen {K V : Type 0} (valid_key : K → Type 0) (key : K → ℕ) (valid_value : V → Type 0) (value : V → ℕ) (o : Inside K V) : Type 0 where
   -- as it began its pass was one between two calls
-  pub pass : IsPass (TypedAllows (IsWord valid_key key) (IsWord valid_value value)) Tree (pass_as {T = Dict K V} o.began.value o.seat)
+  pub pass : IsPass (TypedAllows (IsWordOf valid_key key) (IsWordOf valid_value value)) Tree (pass_as {T = Dict K V} o.began.value o.seat)
   -- of which only the seat and the share have changed
   pub table : o.seat.table_id ≡ o.began.value.table
   pub bare : o.seat.me.1 ≡ []
@@ -61,7 +61,7 @@ pub record IsOpen {K V : Type 0} (valid_key : K → Type 0) (key : K → ℕ) (v
   pub blamed : o.blamed ≡ o.began.value.blamed
   -- its machine waits for a step, or has answered
   pub first : DictRun K V
-  pub stands : Stands (TypedAllows (IsWord valid_key key) (IsWord valid_value value)) (DictWaits (IsWord valid_key key) (IsWord valid_value value)) (IsSameDictCall valid_key key valid_value value) (next_call o.began.value pass.is_pass) o.seat.me.0.passes first (DictAnswers valid_key key valid_value value) o.run o.turn
+  pub stands : Stands (TypedAllows (IsWordOf valid_key key) (IsWordOf valid_value value)) (DictWaits (IsWordOf valid_key key) (IsWordOf valid_value value)) (IsSameDictCall valid_key key valid_value value) (next_call o.began.value pass.is_pass) o.seat.me.0.passes first (DictAnswers valid_key key valid_value value) o.run o.turn
   -- it has made no more steps than such a call may
   pub since : steps_of o.began.value ≤ seat_steps o.seat.me.0.passes
   pub steps : seat_steps o.seat.me.0.passes + weight o.turn (map_left o.run.run (shared_nodes o.layout)) ≤ steps_of o.began.value + most_steps (call_in o.run.run) o.run.tries (shared_nodes o.layout)

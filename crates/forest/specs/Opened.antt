@@ -2,7 +2,7 @@
 use Rattle.std.specs.Prelude.{◌≡◌, ℕ, suc, ◌<◌, Bool, true, false, List, ◌∷◌, ◌++◌, Some, None}
 use Rattle.arena.specs.declared.step.Kind.{Kind}
 use Rattle.arena.specs.declared.step.Row.{Row}
-use Rattle.spelling.specs.OrderedMap.{MapCall}
+use Rattle.ordered_map.specs.OrderedMap.{MapCall}
 use Rattle.dict.specs.Calls.{AsksForPairs}
 use Rattle.forest.specs.declared.open.Stepped.{Stepped}
 use Rattle.forest.specs.declared.open.Stepped.TheVariants.{More, Done}

@@ -188,8 +188,8 @@ abbrev pub LlxSays : PassView → PassView → ℕ → Llx → Type 0
 -- it may be used, and the pass has made no SCX over the node since. The pass's last step, which is
 -- of this call, has loaded the node's info
 LlxSays old new n (Snapshot snap) = IsSnapshot new.layout (run_of new) n snap × CanUse new snap × HasLeftAlone new snap × HasJustLooked new.number (run_of new) (run_of old) n
--- the node is final in the run that is known now, and s finalizes it; the call has itself found s in
--- the node's info
+-- the node is final in the run that is known now, and s finalizes it; the call has itself found s
+-- in the node's info
 LlxSays old new n (Finalized node s) = (node.0 ≡ n) × IsFinalBy new.layout (run_of new) n s.0 × HasFoundThere new.number (run_of new) (run_of old) n s.0
 -- another pass's SCX-record was in the way
 LlxSays old new n (Fail node s) = (node.0 ≡ n) × HasFailed new.layout new.number (run_of new) (run_of old) n s.0

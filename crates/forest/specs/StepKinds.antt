@@ -1,6 +1,6 @@
 -- Which kinds of step the calls of a dictionary make.
-use Rattle.spelling.specs.CallRules.{call_rules}
-use Rattle.spelling.specs.OrderedMap.{MapCall}
+use Rattle.ordered_map.specs.CallRules.{call_rules}
+use Rattle.ordered_map.specs.OrderedMap.{MapCall}
 use Rattle.forest.specs.Passes.{HoldsOfOwn, PassView, run_of}
 
 -- the pass has made no other steps in this call: each own row behind the run that it knew before is

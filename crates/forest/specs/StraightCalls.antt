@@ -6,15 +6,15 @@ use Rattle.arena.specs.declared.step.Step.{Step}
 use Rattle.arena.specs.History.{History}
 use Rattle.arena.specs.Machines.{Call}
 use Rattle.arena.specs.Share.{Remaining}
-use Rattle.dict.specs.Calls.{KeepsTries, call_in, share_of}
+use Rattle.dict.specs.Calls.{KeepsTriesButOne, call_in, share_of}
 use Rattle.dict.specs.DictKnown.{DictIsReady, DictWaits, DictAnswers}
 use Rattle.dict.specs.Known.{IsUnbegun, MapAnswers}
 use Rattle.dict.specs.Typed.{TypedAllows}
-use Rattle.dict.specs.Words.{IsWord}
+use Rattle.dict.specs.Words.{IsWordOf}
 use Rattle.dict.specs.declared.dict.DictRun.{DictRun}
 use Rattle.dict.specs.declared.told.WordReply.{WordReply}
-use Rattle.spelling.specs.declared.reply.Reply.{Reply}
-use Rattle.spelling.specs.OrderedMap.{MapEdit, Edit, Insert, Delete}
+use Rattle.ordered_map.specs.declared.reply.Reply.{Reply}
+use Rattle.ordered_map.specs.OrderedMap.{MapEdit, Edit, Insert, Delete}
 use Rattle.forest.specs.Dictionary.{update_reply as answer}
 use Rattle.forest.specs.declared.fault.UpdateFault.{UpdateFault}
 use Rattle.forest.specs.declared.straight.calls.WordEdit.{WordEdit}
@@ -39,19 +39,19 @@ pub record IsFreshEdit {K V : Type 0} (edit : WordEdit) (share : Remaining) (tri
 module _ {K V : Type 0} (valid_key : K → Type 0) (key : K → ℕ) (valid_value : V → Type 0) (value : V → ℕ) where
   -- the runs that a dictionary of such keys and values allows
   abbrev pub DictAllows : Layout → History → ℕ → Type 0
-  DictAllows = TypedAllows (IsWord valid_key key) (IsWord valid_value value)
+  DictAllows = TypedAllows (IsWordOf valid_key key) (IsWordOf valid_value value)
 
   -- its machine may be called with this, in this call
   abbrev pub DictCallIsReady : DictRun K V → Call → History → Option ℕ → Type 0
-  DictCallIsReady = DictIsReady (IsWord valid_key key) (IsWord valid_value value)
+  DictCallIsReady = DictIsReady (IsWordOf valid_key key) (IsWordOf valid_value value)
 
   -- its machine waits for this step, in this call
   abbrev pub DictCallWaits : DictRun K V → Call → History → Step → Type 0
-  DictCallWaits = DictWaits (IsWord valid_key key) (IsWord valid_value value)
+  DictCallWaits = DictWaits (IsWordOf valid_key key) (IsWordOf valid_value value)
 
   -- the second machine is of the same call as the first, and has given up one try at most
   abbrev pub IsSameDictCall : DictRun K V → DictRun K V → Type 0
-  IsSameDictCall old now = (call_in now.run ≡ call_in old.run) × (now.tries ≡ old.tries) × KeepsTries old.run now.run
+  IsSameDictCall old now = (call_in now.run ≡ call_in old.run) × (now.tries ≡ old.tries) × KeepsTriesButOne old.run now.run
 
   module _ (c : Call) (ps : List SeatedPass) (first : DictRun K V) where
     -- a call begins with the machine `first`

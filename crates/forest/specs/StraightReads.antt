@@ -11,18 +11,18 @@ use Rattle.arena.specs.Machines.{Call, IsRun, MatchTurn}
 use Rattle.arena.specs.Words.{node}
 use Rattle.prims.specs.Llx.Known.{load}
 use Rattle.order.specs.Range.Known.{IsSameRange, RangeAnswers, RangeIsReady, RangeWaits}
-use Rattle.order.specs.Range.Next.{next_step as visit_step, placed as visit_placed}
+use Rattle.order.specs.Range.Next.{range_next_step, range_placed}
 use Rattle.order.specs.Range.Steps.{range_left}
 use Rattle.order.specs.Successor.Known.{IsSameSuccessor, SuccessorAnswers, SuccessorIsReady, SuccessorWaits}
-use Rattle.order.specs.Successor.Next.{next_step as search_step, placed as search_placed}
+use Rattle.order.specs.Successor.Next.{successor_next_step, successor_placed}
 use Rattle.order.specs.Successor.Steps.{successor_left}
 use Rattle.order.specs.declared.range.RangeNext.{RangeNext}
 use Rattle.order.specs.declared.range.RangeRun.{RangeRun}
 use Rattle.order.specs.declared.refused.Refused.{Refused}
 use Rattle.order.specs.declared.successor.SuccessorNext.{SuccessorNext}
 use Rattle.order.specs.declared.successor.SuccessorRun.{SuccessorRun}
-use Rattle.spelling.specs.TreeShape.{TreeAllows}
-use Rattle.spelling.specs.declared.pair.Pair.{Pair}
+use Rattle.ordered_map.specs.TreeShape.{TreeAllows}
+use Rattle.ordered_map.specs.declared.pair.Pair.{Pair}
 use Rattle.forest.specs.declared.view.SeatedPass.{SeatedPass}
 use Rattle.forest.specs.CallKinds.{Calls}
 use Rattle.forest.specs.Traces.{Trace, HoldsForCall, Waits, Told}
@@ -46,7 +46,7 @@ module _ {M N : Type 0} (o : Calls M) (ready_in : N → Call → History → Opt
     pub stays : (old now : N) → same_in old now → o.same (with_run old) (with_run now)
 
 -- the machine's read as it was when it was called last, behind which it has answered
-pub record ReadAnswers {M N : Type 0} {o : Calls M} {ready_in : N → Call → History → Option ℕ → Type 0} {waits_in : N → Call → History → Step → Type 0} {same_in : N → N → Type 0} {A : Type 0} (r : Reader o ready_in waits_in same_in) (answers_in : N → Call → History → A → Type 0) (m : N) (a : A) (h : History) : Type 0 where
+pub record HasReadAnswered {M N : Type 0} {o : Calls M} {ready_in : N → Call → History → Option ℕ → Type 0} {waits_in : N → Call → History → Step → Type 0} {same_in : N → N → Type 0} {A : Type 0} (r : Reader o ready_in waits_in same_in) (answers_in : N → Call → History → A → Type 0) (m : N) (a : A) (h : History) : Type 0 where
   pub old : N
   pub got : Option ℕ
   pub was : o.ready (r.with_run old) r.call h got
@@ -69,7 +69,7 @@ module _ {M N : Type 0} {o : Calls M} {ready_in : N → Call → History → Opt
 
   -- its read has answered, behind the last step that it was told of
   abbrev pub ReaderEnds : {A : Type 0} → (N → Call → History → A → Type 0) → N → A → Type 0
-  ReaderEnds answers_in m a = HoldsForCall o.allows ps r.call (ReadAnswers r answers_in m a)
+  ReaderEnds answers_in m a = HoldsForCall o.allows ps r.call (HasReadAnswered r answers_in m a)
 
   -- its read waits for the step of this turn, or has answered as the turn says
   abbrev pub ReaderStands : {A : Type 0} → (N → Call → History → A → Type 0) → N → Turn A → Type 0
@@ -96,11 +96,11 @@ module _ {M : Type 0} {o : Calls M} (r : SuccessorReader o) (ps : List SeatedPas
 
   -- its successor has begun what comes next
   abbrev pub SearchWaits : SuccessorRun → SuccessorNext → Type 0
-  SearchWaits m next = ReaderWaits r ps (search_placed m next) (search_step m next)
+  SearchWaits m next = ReaderWaits r ps (successor_placed m next) (successor_next_step m next)
 
   -- its successor goes on so, or has answered
   abbrev pub SearchGoesOn : SuccessorRun → Result SuccessorNext (Result (Option Pair) Refused) → Type 0
-  SearchGoesOn m then = ReaderGoesOn r ps search_placed search_step SuccessorAnswers m then
+  SearchGoesOn m then = ReaderGoesOn r ps successor_placed successor_next_step SuccessorAnswers m then
 
   -- its successor has answered
   abbrev pub SearchEnds : SuccessorRun → Result (Option Pair) Refused → Type 0
@@ -121,11 +121,11 @@ module _ {M : Type 0} {o : Calls M} (r : RangeReader o) (ps : List SeatedPass) w
 
   -- its range has begun what comes next
   abbrev pub VisitWaits : RangeRun → RangeNext → Type 0
-  VisitWaits m next = ReaderWaits r ps (visit_placed m next) (visit_step m next)
+  VisitWaits m next = ReaderWaits r ps (range_placed m next) (range_next_step m next)
 
   -- its range goes on so, or has answered
   abbrev pub VisitGoesOn : RangeRun → Result RangeNext (Result (Vec Pair Global) Refused) → Type 0
-  VisitGoesOn m then = ReaderGoesOn r ps visit_placed visit_step RangeAnswers m then
+  VisitGoesOn m then = ReaderGoesOn r ps range_placed range_next_step RangeAnswers m then
 
   -- its range has answered
   abbrev pub VisitEnds : RangeRun → Result (Vec Pair Global) Refused → Type 0
@@ -133,8 +133,8 @@ module _ {M : Type 0} {o : Calls M} (r : RangeReader o) (ps : List SeatedPass) w
 
 -- so many steps are left to a successor then
 abbrev pub search_left : ℕ → SuccessorRun → Result SuccessorNext (Result (Option Pair) Refused) → ℕ
-search_left nodes m then = left_behind (λ n. successor_left n nodes) search_placed m then
+search_left nodes m then = left_behind (λ n. successor_left n nodes) successor_placed m then
 
 -- and to a range
 abbrev pub visit_left : ℕ → RangeRun → Result RangeNext (Result (Vec Pair Global) Refused) → ℕ
-visit_left nodes m then = left_behind (λ n. range_left n nodes) visit_placed m then
+visit_left nodes m then = left_behind (λ n. range_left n nodes) range_placed m then

@@ -22,12 +22,12 @@ IsSamePut old now = (now.scx.scx ≡ old.scx.scx) × (now.scx.update ≡ old.scx
 
 -- the run over these snapshots of what is to be put, in the
 -- call of this number, that stands at these places
-abbrev pub standing : List Snap → Put → ℕ → ScxAt → PutAt → PutRun
-standing snaps put number scx at = record { value = put.value; scx = record { scx = put.scx; call = number; update = record { snaps = snaps; plan = put.plan; old = put.old; fresh = put.fresh }; at = scx }; at = at }
+abbrev pub standing_put : List Snap → Put → ℕ → ScxAt → PutAt → PutRun
+standing_put snaps put number scx at = record { value = put.value; scx = record { scx = put.scx; call = number; update = record { snaps = snaps; plan = put.plan; old = put.old; fresh = put.fresh }; at = scx }; at = at }
 
 -- the same run at its start
 abbrev pub fresh_put : List Snap → Put → ℕ → PutRun
-fresh_put snaps put number = standing snaps put number ScxStart Start
+fresh_put snaps put number = standing_put snaps put number ScxStart Start
 
 -- a run with its SCX at a place
 abbrev pub scx_at : PutRun → ScxAt → PutRun

@@ -4,18 +4,18 @@ use Rattle.arena.specs.declared.machine.Turn.{Turn}
 use Rattle.arena.specs.declared.step.Step.{Step}
 use Rattle.arena.specs.History.{History}
 use Rattle.arena.specs.Machines.{Call, IsRun, MatchTurn}
-use Rattle.spelling.specs.TreeShape.{TreeAllows}
-use Rattle.updates.specs.Edits.{EditMeaning}
-use Rattle.updates.specs.Known.{UpdateIsReady, UpdateWaits, UpdateAnswers}
+use Rattle.ordered_map.specs.TreeShape.{TreeAllows}
+use Rattle.edits.specs.Edits.{EditMeaning}
+use Rattle.edits.specs.Known.{UpdateIsReady, UpdateWaits, UpdateAnswers}
 use Rattle.template.specs.declared.walk.Found.{Found}
-use Rattle.updates.specs.Next.{placed, standing, next_step, update_of, MayStop}
-use Rattle.updates.specs.Steps.{Spends, node_tries, scx_tries}
-use Rattle.updates.specs.declared.update.Next.{Next}
-use Rattle.updates.specs.declared.update.Stop.{Stop}
-use Rattle.updates.specs.declared.update.UpdateAt.{UpdateAt}
-use Rattle.updates.specs.declared.update.UpdateAt.TheVariants.{Start, Scx}
-use Rattle.updates.specs.declared.update.UpdateRun.{UpdateRun}
-use Rattle.updates.specs.declared.update.Updated.{Updated}
+use Rattle.edits.specs.Next.{placed, standing, next_step, update_of, MayStop}
+use Rattle.edits.specs.Steps.{Spends, node_tries, scx_tries}
+use Rattle.edits.specs.declared.update.Next.{Next}
+use Rattle.edits.specs.declared.update.Stop.{Stop}
+use Rattle.edits.specs.declared.update.UpdateAt.{UpdateAt}
+use Rattle.edits.specs.declared.update.UpdateAt.TheVariants.{Start, Scx}
+use Rattle.edits.specs.declared.update.UpdateRun.{UpdateRun}
+use Rattle.edits.specs.declared.update.Updated.{Updated}
 use Rattle.arena.specs.declared.number.ScxNo.{ScxNo}
 use Rattle.help.specs.declared.state.HelpRun.{HelpRun}
 use Rattle.prims.specs.declared.scx.ScxAt.TheVariants.{Help}
@@ -27,7 +27,7 @@ use Rattle.forest.specs.Traces.{Trace, HoldsForCall, Waits, Told}
 -- The second run is the same update further on, which has given up one try at most. Of the share
 -- no more is taken than may be, where so many tries may still take nodes, and so many an
 -- SCX-record.
-pub record HasGoneOn {E A : Type 0} (e : EditMeaning E) (old : UpdateRun E UpdateAt) (now : UpdateRun E A) (nodes scx : ℕ) : Type 0 where
+pub record HasUpdateGoneOn {E A : Type 0} (e : EditMeaning E) (old : UpdateRun E UpdateAt) (now : UpdateRun E A) (nodes scx : ℕ) : Type 0 where
   pub edit : now.edit ≡ old.edit
   pub called : now.call ≡ old.call
   pub limit : now.limit ≡ old.limit
@@ -50,7 +50,7 @@ module _ {M E : Type 0} (o : Calls M) (e : EditMeaning E) where
     pub tells : (m : UpdateRun E UpdateAt) (h : History) (got : Option ℕ) → o.ready (with_run m) call h got → UpdateIsReady e m call h got
     -- what its update then waits for, the machine does, where no more of the share is taken than
     -- may
-    pub turns : (old now : UpdateRun E UpdateAt) (h : History) (got : Option ℕ) (s : Step) → HasGoneOn e old now (node_tries now now.at) (scx_tries now now.at) → o.ready (with_run old) call h got → UpdateWaits e now call h s → o.waits (with_run now) call h s
+    pub turns : (old now : UpdateRun E UpdateAt) (h : History) (got : Option ℕ) (s : Step) → HasUpdateGoneOn e old now (node_tries now now.at) (scx_tries now now.at) → o.ready (with_run old) call h got → UpdateWaits e now call h s → o.waits (with_run now) call h s
     pub stays : (old now : UpdateRun E UpdateAt) → now.edit ≡ old.edit → (old.tries ≤ now.tries + 1) × (now.tries ≤ old.tries) → o.same (with_run old) (with_run now)
 
 -- the machine's update as it was when it was told of the last step, behind which it has answered
@@ -58,16 +58,16 @@ pub record HasAnswered {M E : Type 0} {o : Calls M} {e : EditMeaning E} (u : Upd
   pub old : UpdateRun E UpdateAt
   pub got : Option ℕ
   pub was : o.ready (u.with_run old) u.call h got
-  pub goes : HasGoneOn e old m 0 0
+  pub goes : HasUpdateGoneOn e old m 0 0
   pub answers : UpdateAnswers e m u.call h a
   pub course : Trace o.allows o.waits o.same u.call u.first (u.with_run old) h
 
 -- so too where its try, the same as before, may end so behind that step
-pub record HasStopped {M E : Type 0} {o : Calls M} {e : EditMeaning E} (u : Updater o e) {A : Type 0} (m : UpdateRun E A) (f : Found) (stop : Stop) (h : History) : Type 0 where
+pub record HasTryStopped {M E : Type 0} {o : Calls M} {e : EditMeaning E} (u : Updater o e) {A : Type 0} (m : UpdateRun E A) (f : Found) (stop : Stop) (h : History) : Type 0 where
   pub old : UpdateRun E UpdateAt
   pub got : Option ℕ
   pub was : o.ready (u.with_run old) u.call h got
-  pub goes : HasGoneOn e old m m.tries m.tries
+  pub goes : HasUpdateGoneOn e old m m.tries m.tries
   pub tries : m.tries ≡ old.tries
   pub may : MayStop e u.call h m f stop
   pub course : Trace o.allows o.waits o.same u.call u.first (u.with_run old) h
@@ -99,7 +99,7 @@ module _ {M E : Type 0} {o : Calls M} {e : EditMeaning E} (u : Updater o e) (ps 
 
   -- its try may end so, behind the last step that it was told of
   abbrev pub UpdaterStops : {A : Type 0} → UpdateRun E A → Found → Stop → Type 0
-  UpdaterStops m f stop = HoldsForCall o.allows ps u.call (λ h. HasStopped u m f stop h)
+  UpdaterStops m f stop = HoldsForCall o.allows ps u.call (λ h. HasTryStopped u m f stop h)
 
   -- it waits for the first step of what its try does next, or the try may end so
   abbrev pub UpdaterGoesOn : {A : Type 0} → UpdateRun E A → Found → Result Next Stop → Type 0

@@ -4,7 +4,7 @@ use Rattle.arena.specs.declared.layout.Layout.{Layout}
 use Rattle.arena.specs.declared.step.Step.{Step}
 use Rattle.arena.specs.History.{History}
 use Rattle.arena.specs.Machines.{Call}
-use Rattle.prims.specs.Vlx.Known.{HasLooked, VlxIsReady, VlxWaits, VlxAnswers}
+use Rattle.prims.specs.Vlx.Known.{HasFoundUnchanged, VlxIsReady, VlxWaits, VlxAnswers}
 use Rattle.prims.specs.declared.snap.Snap.{Snap}
 use Rattle.prims.specs.declared.vlx.Vlx.{Vlx}
 use Rattle.prims.specs.declared.vlx.VlxRun.{VlxRun}
@@ -47,7 +47,7 @@ module _ {L : Type 0} (list : L → List Snap) (allows : Layout → History → 
 
   -- as the call began, the first n of the infos were what the snapshots had found
   abbrev pub SeatVlxLooked : ℕ → Type 0
-  SeatVlxLooked n = HoldsForCall allows ps c (λ h. HasLooked c h (list snaps) n × Trace allows (waits_over list) AreSameSnaps c (vlx_at snaps 0) (vlx_at snaps n) h)
+  SeatVlxLooked n = HoldsForCall allows ps c (λ h. HasFoundUnchanged c h (list snaps) n × Trace allows (waits_over list) AreSameSnaps c (vlx_at snaps 0) (vlx_at snaps n) h)
 
   -- the call has ended with this answer
   abbrev pub SeatVlxEnds : Vlx → Type 0

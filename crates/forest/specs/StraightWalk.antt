@@ -9,7 +9,7 @@ use Rattle.arena.specs.declared.word.NodeWord.TheVariants.{Head as HeadWord}
 use Rattle.arena.specs.Words.{node}
 use Rattle.prims.specs.Llx.Known.{load}
 use Rattle.order.specs.Successor.Steps.{last_turn}
-use Rattle.template.specs.FoundLeaf.{HasFound}
+use Rattle.template.specs.FoundLeaf.{HasFoundGoal}
 use Rattle.template.specs.Walk.Known.{WalkIsTold, WalkWaits}
 use Rattle.template.specs.Walk.Places.{IsPastRoot, walk_from}
 use Rattle.template.specs.declared.walk.Found.{Found}
@@ -52,5 +52,5 @@ module _ {M : Type 0} {o : Calls M} (w : Walker o) (ps : List SeatedPass) where
     pub last : WalkRun
     pub goal : last.goal ≡ ToKey key
     pub told : ℕ
-    pub finds : (d : Call) (h : History) → WalkIsTold last d h told → HasFound (ToKey key) d h f
+    pub finds : (d : Call) (h : History) → WalkIsTold last d h told → HasFoundGoal (ToKey key) d h f
     pub so : WalkerIsTold last turn told

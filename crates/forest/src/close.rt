@@ -6,11 +6,11 @@ ghost use Rattle.arena.specs.declared.word.Side.TheVariants.{Left, Right};
 ghost use Rattle.arena.specs.Layout.{all_nodes, table_size, IsWord};
 ghost use Rattle.arena.specs.PlainWords.{Contents, IsChanged, word_at};
 ghost use Rattle.arena.specs.Words.{child};
-ghost use Rattle.spelling.specs.Spelled.{Spells};
+ghost use Rattle.ordered_map.specs.Spelled.{Spells};
 ghost use Rattle.arena.specs.History.{value};
 ghost use Rattle.dict.specs.Typed.{TypedAllows};
-ghost use Rattle.dict.specs.Words.{IsValidPair, IsWord as IsWordOf};
-ghost use Rattle.spelling.specs.Replies.{word_pair};
+ghost use Rattle.dict.specs.Words.{IsValidPair, IsWordOf};
+ghost use Rattle.ordered_map.specs.Replies.{word_pair};
 ghost use Rattle.forest.specs.Copies.{AreCopied};
 ghost use Rattle.forest.specs.declared.view.SeatedPass.{SeatedPass};
 ghost use Rattle.forest.specs.TableRule.{IsTableOf, history_of};
@@ -27,8 +27,8 @@ use arena::{
 };
 use atomic_table::Seat;
 use dict::{Dict, WordKey, WordValue, pairs_of};
+use ordered_map::spelled;
 use prims::Cells;
-use spelling::spelled;
 use std::alloc::Global;
 use std::marker::{Brand, Model, PhantomData};
 

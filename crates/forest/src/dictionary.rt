@@ -4,14 +4,14 @@ ghost use Rattle.std.specs.List.{All};
 ghost use Rattle.std.specs.Option.{option_map};
 ghost use Rattle.arena.specs.Limits.{IsAccepted, IsLayoutOf};
 ghost use Rattle.arena.specs.declared.limits.Mode.TheVariants.{Tree};
-ghost use Rattle.spelling.specs.OrderedMap.{Edit, Get, Insert as InsertEdit, Delete as DeleteEdit, edit_key, OneValue, Range, Successor};
+ghost use Rattle.ordered_map.specs.OrderedMap.{Edit, Get, Insert as InsertEdit, Delete as DeleteEdit, edit_key, OneValue, Range, Successor};
 ghost use Rattle.dict.specs.Calls.{AsksForPairs};
-ghost use Rattle.spelling.specs.CallRules.{MayReply, form_of};
+ghost use Rattle.ordered_map.specs.CallRules.{MayReply, form_of};
 ghost use Rattle.dict.specs.Says.{KeepsLists};
 ghost use Rattle.dict.specs.Typed.{IsTypedCall};
-ghost use Rattle.dict.specs.Words.{IsValidPair, IsValidReply, IsWord};
-ghost use Rattle.spelling.specs.Replies.{told_of};
-ghost use Rattle.spelling.specs.Requests.{AsksForFew, as_map_call};
+ghost use Rattle.dict.specs.Words.{IsValidPair, IsValidReply, IsWordOf};
+ghost use Rattle.ordered_map.specs.Replies.{told_of};
+ghost use Rattle.ordered_map.specs.Requests.{AsksForFew, as_map_call};
 ghost use Rattle.forest.specs.Dictionary.{IsReading, IsToldOf, IsRefusalOf, HasMadeCall, HasSpentAtMost, UpdateSays, SuccessorSays, RangeSays, blamed_by_reply, blamed_by_update, blamed_by_read};
 ghost use Rattle.forest.specs.Passes.{IsOf, AreNew};
 ghost use Rattle.forest.specs.StepKinds.{HasKeptToKinds};
@@ -173,7 +173,7 @@ impl<K: WordKey, V: WordValue> Forest<Dict<K, V>> {
     #[inline(always)]
     fn edit(&self, pass: &mut Pass<Dict<K, V>>, edit: WordEdit) -> Result<Option<V>, UpdateFault>
         requires pass { IsOf self.now pass.old }
-        requires typed { IsTypedCall (IsWord K.is_valid K.word_of) (IsWord V.is_valid V.word_of) (Edit (map_edit edit)) }
+        requires typed { IsTypedCall (IsWordOf K.is_valid K.word_of) (IsWordOf V.is_valid V.word_of) (Edit (map_edit edit)) }
         requires small { edit_key (map_edit edit) < 2 ^ 64 }
         ensures pass { IsOf self.now pass.new }
         ensures tree { pass.new.layout.mode ≡ Tree }

@@ -2,11 +2,11 @@
 ghost use Rattle.std.specs.Prelude.{◌≡◌, ◌≤◌, ◌+◌, true, false, None};
 ghost use Rattle.arena.specs.Machines.{IsRun};
 ghost use Rattle.dict.specs.Calls.{AsksForPairs};
-ghost use Rattle.spelling.specs.CallRules.{MayReply, form_of, most_steps};
+ghost use Rattle.ordered_map.specs.CallRules.{MayReply, form_of, most_steps};
 ghost use Rattle.dict.specs.Typed.{TypedAllows};
-ghost use Rattle.dict.specs.Words.{IsValidReply, IsWord};
-ghost use Rattle.spelling.specs.Replies.{told_of};
-ghost use Rattle.spelling.specs.Requests.{AsksForFew, as_map_call};
+ghost use Rattle.dict.specs.Words.{IsValidReply, IsWordOf};
+ghost use Rattle.ordered_map.specs.Replies.{told_of};
+ghost use Rattle.ordered_map.specs.Requests.{AsksForFew, as_map_call};
 ghost use Rattle.forest.specs.Dictionary.{IsToldOf, IsRefusalOf, HasMadeCall, HasSpentAtMost, blamed_by_reply};
 ghost use Rattle.forest.specs.Opened.{HasStepped, IsSameOpen, pass_now};
 ghost use Rattle.forest.specs.Passes.{Ground, IsOf, run_of, steps_of};
@@ -112,7 +112,7 @@ impl<K: WordKey, V: WordValue> OpenCall<K, V> {
         requires goes { self.old.over ≡ false }
         ensures same { IsSameOpen self.old self.new }
         ensures stepped { HasStepped self.old self.new result }
-        ensures lawful { IsRun (TypedAllows (IsWord K.is_valid K.word_of) (IsWord V.is_valid V.word_of)) self.new.began.layout (run_of (pass_now self.new)) }
+        ensures lawful { IsRun (TypedAllows (IsWordOf K.is_valid K.word_of) (IsWordOf V.is_valid V.word_of)) self.new.began.layout (run_of (pass_now self.new)) }
         ensures nothing { ¬ AsksForPairs self.old.call → result ≡ Stepped.Done None }
     {
         let Turn::Ask(step) = &self.turn else {

@@ -21,7 +21,7 @@ use Rattle.histories.specs.Descriptor.{descriptor}
 use Rattle.histories.specs.Progress.{IsOver, IsStuck}
 use Rattle.histories.proofs.Lemmas.{aborted_no_entry, about, committed_won, facts, free_unset, over_committed}
 use Rattle.help.specs.Help.Known.{IsServed, Reading, HasReadMembers, Marks, HasAborted, node_at, first_place, settled_load, HelpIsTold, HelpWaitsAt}
-use Rattle.help.specs.Help.Lawful.{index_small}
+use Rattle.help.specs.Laws.Help.Lawful.{index_small}
 use Rattle.help.specs.declared.state.HelpAt.TheVariants.{Plan as AtPlan, Member as AtMember, Seen as AtSeen, Freeze as AtFreeze, AllFrozen as AtAllFrozen, Abort as AtAbort, SetFrozen as AtSetFrozen, Mark as AtMark, New as AtNew, Old as AtOld, Update as AtUpdate, Commit as AtCommit}
 
 -- Plans

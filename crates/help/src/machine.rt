@@ -121,9 +121,9 @@ impl<S: Shape> Machine<S> for HelpRun {
 
     ghost answers = { λ m c. HelpAnswers c.layout c.pass m };
 
-    ghost use Rattle.help.specs.Help.Kept.{help_keeps};
-    ghost use Rattle.help.specs.Help.Made.{help_made};
-    ghost use Rattle.help.specs.Help.Lawful.{help_lawful};
+    ghost use Rattle.help.specs.Laws.Help.Kept.{help_keeps};
+    ghost use Rattle.help.specs.Laws.Help.Made.{help_made};
+    ghost use Rattle.help.specs.Laws.Help.Lawful.{help_lawful};
 
     ghost same = { λ old now. now.scx ≡ old.scx };
 

@@ -11,7 +11,7 @@ use Rattle.arena.specs.Lawful.{Lawful, IsLawful}
 use Rattle.arena.specs.PlainWords.{IsChanged}
 use Rattle.arena.specs.ScxRecords.{count_of}
 use Rattle.histories.proofs.Lemmas.{lawful_more}
-use Rattle.judge.specs.Histories.{history_of}
+use Rattle.judge.specs.Histories.{history_of_rows}
 use Rattle.judge.specs.Graph.{links_of}
 use Rattle.judge.specs.Naming.{IsNaming, IsInside, NamingStands, word_links, named_links}
 use Rattle.judge.specs.Uses.{fields_after, users_after}
@@ -80,8 +80,8 @@ inside_naming lay h (Node m part) n s i = rw s.nodes i
 inside_naming lay h (Scx u part) n s i = rw s.scxs i.0
 
 -- where a table and its rows are known by other names
-pub stands_at : (lay : Layout) (rows : List Row) (j : Inside) → j.words.layout ≡ lay → j.past ≡ rows → StandsFor lay (history_of lay.mode rows) j → StandsFor j.words.layout (history_of j.words.layout.mode j.past) j
-stands_at lay rows j e f s = subst (λ (l : Layout). StandsFor l (history_of l.mode j.past) j) (sym e) (subst (λ (rs : List Row). StandsFor lay (history_of lay.mode rs) j) (sym f) s)
+pub stands_at : (lay : Layout) (rows : List Row) (j : Inside) → j.words.layout ≡ lay → j.past ≡ rows → StandsFor lay (history_of_rows lay.mode rows) j → StandsFor j.words.layout (history_of_rows j.words.layout.mode j.past) j
+stands_at lay rows j e f s = subst (λ (l : Layout). StandsFor l (history_of_rows l.mode j.past) j) (sym e) (subst (λ (rs : List Row). StandsFor lay (history_of_rows lay.mode rs) j) (sym f) s)
 
 pub lawful_start : (lay : Layout) → Lawful lay (Start lay.mode)
 unfolding Lawful

@@ -4,7 +4,7 @@ use Rattle.std.proofs.Math.ListN.{length-set}
 use Rattle.std.proofs.lemmas.List.{get_or_append_left, get_or_at, set-get_or, length-replicate}
 use Rattle.std.specs.Prelude.{IfSome, slice_set}
 use Rattle.judge.specs.declared.graph.Link.{Link}
-use Rattle.judge.specs.Graph.{count_unset, IsLink, IsReached, first, along, has_flag, newest_from, StandsAt, HasLink, here, older, IsFresh, IsSpreading}
+use Rattle.judge.specs.Graph.{count_unset, IsLink, IsReached, first, along, has_flag, newest_from, StandsAt, HasLink, here, older, IsUnfollowed, IsSpreading}
 use Rattle.judge.proofs.Counts.{set_here, set_there}
 use Rattle.judge.proofs.Chains.{stands_last, stands_split, no_link, link_split, link_more, link_back, below_more}
 
@@ -25,22 +25,22 @@ flag_more : (reached : List Bool) (v w : ℕ) → v < length reached → has_fla
 flag_more reached v w l e = ⊎_elim (λ s. rw s (set_here reached v l)) (λ d. set_there reached v w d ∙ e) (same_or w v)
 
 -- a fresh one more
-fresh_more : (fresh : List ℕ) (v u : ℕ) → IsFresh fresh u → IsFresh (fresh ++ v ∷ []) u
+fresh_more : (fresh : List ℕ) (v u : ℕ) → IsUnfollowed fresh u → IsUnfollowed (fresh ++ v ∷ []) u
 fresh_more fresh v u p = record { index = p.index; within = omega (p.within, length-append fresh (v ∷ []), arith); is = get_or_append_left fresh (v ∷ []) 0 p.index p.within ∙ p.is }
 
-pub fresh_last : (fresh : List ℕ) (v : ℕ) → IsFresh (fresh ++ v ∷ []) v
+pub fresh_last : (fresh : List ℕ) (v : ℕ) → IsUnfollowed (fresh ++ v ∷ []) v
 fresh_last fresh v = record { index = length fresh; within = omega (length-append fresh (v ∷ []), arith); is = get_or_at fresh v [] 0 (length fresh) refl }
 
-fresh_split : (fresh : List ℕ) (v u : ℕ) → IsFresh (fresh ++ v ∷ []) u → IsFresh fresh u ⊎ (u ≡ v)
+fresh_split : (fresh : List ℕ) (v u : ℕ) → IsUnfollowed (fresh ++ v ∷ []) u → IsUnfollowed fresh u ⊎ (u ≡ v)
 fresh_split fresh v u p = go (same_or p.index (length fresh))
   where
-    go : (p.index ≡ length fresh) ⊎ (p.index ≢ length fresh) → IsFresh fresh u ⊎ (u ≡ v)
+    go : (p.index ≡ length fresh) ⊎ (p.index ≢ length fresh) → IsUnfollowed fresh u ⊎ (u ≡ v)
     go (inl e) = inr (sym p.is ∙ ap (λ i. get_or (fresh ++ v ∷ []) i 0) e ∙ get_or_at fresh v [] 0 (length fresh) refl)
     go (inr d) =
         let less : p.index < length fresh = omega (p.within, length-append fresh (v ∷ []), d, arith) in
         inl (record { index = p.index; within = less; is = sym (get_or_append_left fresh (v ∷ []) 0 p.index less) ∙ p.is })
 
-no_fresh : (u : ℕ) → ¬ IsFresh [] u
+no_fresh : (u : ℕ) → ¬ IsUnfollowed [] u
 no_fresh u p = absurd (omega (p.within, arith))
 
 -- A place is reached

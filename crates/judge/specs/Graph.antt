@@ -53,7 +53,7 @@ pub data HasLink (list : List Link) (v : ℕ) : Option ℕ → Type 0 where
   older : (i : ℕ) (l : Link) → StandsAt list i l → HasLink list v l.before → HasLink list v (Some i)
 
 -- the place is among those whose links are not followed yet
-pub record IsFresh (fresh : List ℕ) (u : ℕ) : Type 0 where
+pub record IsUnfollowed (fresh : List ℕ) (u : ℕ) : Type 0 where
   pub index : ℕ
   pub within : index < length fresh
   pub is : slice_index_or fresh index 0 ≡ u
@@ -72,14 +72,14 @@ pub record IsSpreading (reached : List Bool) (newest : List (Option ℕ)) (list 
   pub kept : (u v : ℕ) → IsLink links u v → (has_flag reached v ≡ true) ⊎ HasLink list v (newest_from newest u)
   pub chained : (u v : ℕ) → HasLink list v (newest_from newest u) → IsLink links u v
   -- what is kept of a place that is reached is followed, or still to be
-  pub closed : (u v : ℕ) → has_flag reached u ≡ true → HasLink list v (newest_from newest u) → (has_flag reached v ≡ true) ⊎ (IsFresh fresh u ⊎ ((u ≡ from) × HasLink list v at))
+  pub closed : (u v : ℕ) → has_flag reached u ≡ true → HasLink list v (newest_from newest u) → (has_flag reached v ≡ true) ⊎ (IsUnfollowed fresh u ⊎ ((u ≡ from) × HasLink list v at))
   -- a link stands behind the one before it
   pub rising : (i : ℕ) (l : Link) → StandsAt list i l → IfSome l.before (λ b. b < i)
   pub ends : (u : ℕ) → IfSome (newest_from newest u) (λ i. i < length list)
   pub starts : IfSome at (λ i. i < length list)
   pub left : (v : ℕ) → HasLink list v at → IsLink links from v
   pub origin : IsReached links from
-  pub waiting : (u : ℕ) → IsFresh fresh u → (u < length reached) × IsReached links u
+  pub waiting : (u : ℕ) → IsUnfollowed fresh u → (u < length reached) × IsReached links u
 
 -- the same of a graph's lists
 abbrev pub Spreads : Graph → ℕ → Option ℕ → Type 0

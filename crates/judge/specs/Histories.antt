@@ -11,13 +11,13 @@ pub record Judged : Type 0 where
   pub rows : List Row
 
 -- the history of rows of which the newest is the first
-abbrev pub history_of : Mode → List Row → History
-history_of mode [] = Start mode
-history_of mode (r ∷ rows) = r ⊳ history_of mode rows
+abbrev pub history_of_rows : Mode → List Row → History
+history_of_rows mode [] = Start mode
+history_of_rows mode (r ∷ rows) = r ⊳ history_of_rows mode rows
 
 -- the history that a judge has seen
-abbrev pub history : Judged → History
-history j = history_of j.layout.mode j.rows
+abbrev pub seen_history : Judged → History
+seen_history j = history_of_rows j.layout.mode j.rows
 
 -- the history after these rows, the first of the list made first
 abbrev pub history_after : Layout → List Row → History

@@ -8,7 +8,7 @@ ghost use Rattle.arena.specs.ScxRecords.{member, seen, old, new, count, field, f
 ghost use Rattle.arena.specs.Words.{state, info, marked, child, scx};
 ghost use Rattle.arena.specs.declared.word.Side.{Side};
 ghost use Rattle.arena.specs.declared.word.ScxWord.TheVariants.{New};
-ghost use Rattle.judge.specs.Histories.{history};
+ghost use Rattle.judge.specs.Histories.{seen_history};
 
 use crate::facts::{value_of, was_in_field, was_in_other_new};
 use crate::judge::Judge;
@@ -35,7 +35,7 @@ pub fn is_own_scx(layout: &Layout, pass: PassNo, scx: u64) -> bool
 
 /// Whether the first nodes of an SCX-record, as many as `count`, are nodes of the table.
 fn are_inside(judge: &Judge, scx: u64, count: u8) -> bool
-    ensures { IsTrue result → (j : ℕ) → j < count → member (history judge.now) scx j < all_nodes judge.now.layout }
+    ensures { IsTrue result → (j : ℕ) → j < count → member (seen_history judge.now) scx j < all_nodes judge.now.layout }
 {
     for place in 0..count {
         if member(judge, scx, place) >= u64::from(judge.layout().all_nodes()) {
@@ -47,7 +47,7 @@ fn are_inside(judge: &Judge, scx: u64, count: u8) -> bool
 
 /// Whether none of these nodes but that at the place is the one that stands there.
 fn is_alone(judge: &Judge, scx: u64, place: u8, count: u8) -> bool
-    ensures { IsTrue result → (k : ℕ) → k < count → place ≢ k → member (history judge.now) scx place ≢ member (history judge.now) scx k }
+    ensures { IsTrue result → (k : ℕ) → k < count → place ≢ k → member (seen_history judge.now) scx place ≢ member (seen_history judge.now) scx k }
 {
     for other in 0..count {
         if other != place && member(judge, scx, place) == member(judge, scx, other) {
@@ -58,7 +58,7 @@ fn is_alone(judge: &Judge, scx: u64, place: u8, count: u8) -> bool
 }
 
 fn are_distinct(judge: &Judge, scx: u64, count: u8) -> bool
-    ensures { IsTrue result → (j k : ℕ) → j < count → k < count → j ≢ k → member (history judge.now) scx j ≢ member (history judge.now) scx k }
+    ensures { IsTrue result → (j k : ℕ) → j < count → k < count → j ≢ k → member (seen_history judge.now) scx j ≢ member (seen_history judge.now) scx k }
 {
     for place in 0..count {
         if !is_alone(judge, scx, place, count) {
@@ -70,7 +70,7 @@ fn are_distinct(judge: &Judge, scx: u64, count: u8) -> bool
 
 /// Whether what these nodes were frozen for is finished.
 fn are_at_rest(judge: &Judge, scx: u64, count: u8) -> bool
-    ensures { IsTrue result → (j : ℕ) → j < count → value (history judge.now) (state (seen (history judge.now) scx j)) ≢ 0 }
+    ensures { IsTrue result → (j : ℕ) → j < count → value (seen_history judge.now) (state (seen (seen_history judge.now) scx j)) ≢ 0 }
 {
     for place in 0..count {
         let seen = of_scx(judge, scx, ScxWord::Seen(place));
@@ -83,7 +83,7 @@ fn are_at_rest(judge: &Judge, scx: u64, count: u8) -> bool
 
 /// Whether the info word of the node at a place is as the SCX-record has seen it.
 pub fn is_as_seen(judge: &Judge, scx: u64, place: u8) -> bool
-    ensures { IsTrue result ↔ (value (history judge.now) (info (member (history judge.now) scx place)) ≡ seen (history judge.now) scx place) }
+    ensures { IsTrue result ↔ (value (seen_history judge.now) (info (member (seen_history judge.now) scx place)) ≡ seen (seen_history judge.now) scx place) }
 {
     let node = member(judge, scx, place);
     let seen = of_scx(judge, scx, ScxWord::Seen(place));
@@ -91,7 +91,7 @@ pub fn is_as_seen(judge: &Judge, scx: u64, place: u8) -> bool
 }
 
 fn is_unmarked(judge: &Judge, scx: u64, place: u8) -> bool
-    ensures { IsTrue result ↔ (value (history judge.now) (marked (member (history judge.now) scx place)) ≡ 0) }
+    ensures { IsTrue result ↔ (value (seen_history judge.now) (marked (member (seen_history judge.now) scx place)) ≡ 0) }
 {
     let node = member(judge, scx, place);
     of_node(judge, node, NodeWord::Marked) == 0
@@ -99,7 +99,7 @@ fn is_unmarked(judge: &Judge, scx: u64, place: u8) -> bool
 
 /// Whether those of these nodes whose info words are as seen are not marked.
 fn are_unmarked(judge: &Judge, scx: u64, count: u8) -> bool
-    ensures { IsTrue result → (j : ℕ) → j < count → value (history judge.now) (info (member (history judge.now) scx j)) ≡ seen (history judge.now) scx j → value (history judge.now) (marked (member (history judge.now) scx j)) ≡ 0 }
+    ensures { IsTrue result → (j : ℕ) → j < count → value (seen_history judge.now) (info (member (seen_history judge.now) scx j)) ≡ seen (seen_history judge.now) scx j → value (seen_history judge.now) (marked (member (seen_history judge.now) scx j)) ≡ 0 }
 {
     for place in 0..count {
         if is_as_seen(judge, scx, place) && !is_unmarked(judge, scx, place) {
@@ -111,7 +111,7 @@ fn are_unmarked(judge: &Judge, scx: u64, count: u8) -> bool
 
 /// Whether the field shows `old` where its node's info word is as seen.
 fn shows_old(judge: &Judge, scx: u64) -> bool
-    ensures { IsTrue result → value (history judge.now) (info (member (history judge.now) scx (field_index (history judge.now) scx))) ≡ seen (history judge.now) scx (field_index (history judge.now) scx) → value (history judge.now) (field (history judge.now) scx) ≡ old (history judge.now) scx }
+    ensures { IsTrue result → value (seen_history judge.now) (info (member (seen_history judge.now) scx (field_index (seen_history judge.now) scx))) ≡ seen (seen_history judge.now) scx (field_index (seen_history judge.now) scx) → value (seen_history judge.now) (field (seen_history judge.now) scx) ≡ old (seen_history judge.now) scx }
 {
     let place = plan(judge, scx).at().number();
     let shown = value_of(judge, field(judge, scx));
@@ -122,8 +122,8 @@ fn shows_old(judge: &Judge, scx: u64) -> bool
 /// start.
 fn is_unused(judge: &Judge, user: u64, node: u64) -> bool
     requires { node < all_nodes judge.now.layout }
-    ensures fields { IsTrue result → (n : ℕ) → (side : Side) → HasHeld (history judge.now) (child n side) node → ⊥ }
-    ensures others { IsTrue result → (u : ℕ) → u ≢ user → HasHeld (history judge.now) (scx u New) node → ⊥ }
+    ensures fields { IsTrue result → (n : ℕ) → (side : Side) → HasHeld (seen_history judge.now) (child n side) node → ⊥ }
+    ensures others { IsTrue result → (u : ℕ) → u ≢ user → HasHeld (seen_history judge.now) (scx u New) node → ⊥ }
 {
     !was_in_field(judge, node) && !was_in_other_new(judge, user, node)
 }
@@ -132,18 +132,18 @@ fn is_unused(judge: &Judge, user: u64, node: u64) -> bool
 fn is_fresh(judge: &Judge, pass: PassNo, user: u64, node: u64) -> bool
     requires { pass.0 < judge.now.layout.passes }
     ensures own { IsTrue result → IsOwnNode judge.now.layout pass.0 node }
-    ensures fields { IsTrue result → (n : ℕ) → (side : Side) → HasHeld (history judge.now) (child n side) node → ⊥ }
-    ensures others { IsTrue result → (u : ℕ) → u ≢ user → HasHeld (history judge.now) (scx u New) node → ⊥ }
+    ensures fields { IsTrue result → (n : ℕ) → (side : Side) → HasHeld (seen_history judge.now) (child n side) node → ⊥ }
+    ensures others { IsTrue result → (u : ℕ) → u ≢ user → HasHeld (seen_history judge.now) (scx u New) node → ⊥ }
 {
     is_own_node(judge.layout(), pass, node) && is_unused(judge, user, node)
 }
 
 /// Whether an SCX-record of these nodes may begin.
 fn are_ready(judge: &Judge, scx: u64, count: u8) -> bool
-    ensures inside { IsTrue result → (j : ℕ) → j < count → member (history judge.now) scx j < all_nodes judge.now.layout }
-    ensures distinct { IsTrue result → (j k : ℕ) → j < count → k < count → j ≢ k → member (history judge.now) scx j ≢ member (history judge.now) scx k }
-    ensures at_rest { IsTrue result → (j : ℕ) → j < count → value (history judge.now) (state (seen (history judge.now) scx j)) ≢ 0 }
-    ensures unmarked { IsTrue result → (j : ℕ) → j < count → value (history judge.now) (info (member (history judge.now) scx j)) ≡ seen (history judge.now) scx j → value (history judge.now) (marked (member (history judge.now) scx j)) ≡ 0 }
+    ensures inside { IsTrue result → (j : ℕ) → j < count → member (seen_history judge.now) scx j < all_nodes judge.now.layout }
+    ensures distinct { IsTrue result → (j k : ℕ) → j < count → k < count → j ≢ k → member (seen_history judge.now) scx j ≢ member (seen_history judge.now) scx k }
+    ensures at_rest { IsTrue result → (j : ℕ) → j < count → value (seen_history judge.now) (state (seen (seen_history judge.now) scx j)) ≢ 0 }
+    ensures unmarked { IsTrue result → (j : ℕ) → j < count → value (seen_history judge.now) (info (member (seen_history judge.now) scx j)) ≡ seen (seen_history judge.now) scx j → value (seen_history judge.now) (marked (member (seen_history judge.now) scx j)) ≡ 0 }
 {
     are_inside(judge, scx, count)
         && are_distinct(judge, scx, count)
@@ -154,7 +154,7 @@ fn are_ready(judge: &Judge, scx: u64, count: u8) -> bool
 /// Whether the first freezing exchange for an SCX-record may win, by a pass.
 pub fn may_begin(judge: &Judge, pass: PassNo, scx: u64) -> bool
     requires { pass.0 < judge.now.layout.passes }
-    ensures { IsTrue result → MayBegin judge.now.layout (history judge.now) pass.0 scx }
+    ensures { IsTrue result → MayBegin judge.now.layout (seen_history judge.now) pass.0 scx }
 {
     let new = of_scx(judge, scx, ScxWord::New);
     is_own_scx(judge.layout(), pass, scx)

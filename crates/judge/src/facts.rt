@@ -8,14 +8,14 @@ ghost use Rattle.arena.specs.ScxRecords.{count};
 ghost use Rattle.arena.specs.Words.{child, scx};
 ghost use Rattle.arena.specs.declared.word.ScxWord.TheVariants.{New};
 ghost use Rattle.arena.specs.declared.word.Side.{Side};
-ghost use Rattle.judge.specs.Histories.{history};
+ghost use Rattle.judge.specs.Histories.{seen_history};
 
 use crate::judge::Judge;
 use arena::{PassNo, Word};
 
 /// What a word holds.
 pub fn value_of(judge: &Judge, word: Word) -> u64
-    ensures { result ≡ value (history judge.now) word }
+    ensures { result ≡ value (seen_history judge.now) word }
 {
     if judge.words.layout().has(word) {
         judge.words.get(word)
@@ -27,21 +27,21 @@ pub fn value_of(judge: &Judge, word: Word) -> u64
 /// Whether a node of the table is named.
 pub fn is_named_node(judge: &Judge, node: u64) -> bool
     requires { node < all_nodes judge.now.layout }
-    ensures { IsTrue result ↔ IsNamed judge.now.layout (history judge.now) node }
+    ensures { IsTrue result ↔ IsNamed judge.now.layout (seen_history judge.now) node }
 {
     judge.naming.has_node(node)
 }
 
 /// Whether a node was there from the start, or a field of a named node has held it.
 pub fn is_shown(judge: &Judge, node: u64) -> bool
-    ensures { IsTrue result → IsInField judge.now.layout (history judge.now) node }
+    ensures { IsTrue result → IsInField judge.now.layout (seen_history judge.now) node }
 {
     judge.naming.has_shown(node)
 }
 
 /// Whether an info word has named an SCX-record.
 pub fn is_named_scx(judge: &Judge, scx: u64) -> bool
-    ensures { IsTrue result ↔ IsNamedScx (history judge.now) scx }
+    ensures { IsTrue result ↔ IsNamedScx (seen_history judge.now) scx }
 {
     judge.naming.has_scx(scx)
 }
@@ -49,7 +49,7 @@ pub fn is_named_scx(judge: &Judge, scx: u64) -> bool
 /// Whether a field may have held a node of the table.
 pub fn was_in_field(judge: &Judge, node: u64) -> bool
     requires { node < all_nodes judge.now.layout }
-    ensures { (n : ℕ) → (side : Side) → HasHeld (history judge.now) (child n side) node → IsTrue result }
+    ensures { (n : ℕ) → (side : Side) → HasHeld (seen_history judge.now) (child n side) node → IsTrue result }
 {
     judge.uses.was_in_field(node)
 }
@@ -57,21 +57,21 @@ pub fn was_in_field(judge: &Judge, node: u64) -> bool
 /// Whether `new` of another SCX-record may have held a node of the table.
 pub fn was_in_other_new(judge: &Judge, user: u64, node: u64) -> bool
     requires { node < all_nodes judge.now.layout }
-    ensures { (u : ℕ) → u ≢ user → HasHeld (history judge.now) (scx u New) node → IsTrue result }
+    ensures { (u : ℕ) → u ≢ user → HasHeld (seen_history judge.now) (scx u New) node → IsTrue result }
 {
     judge.uses.was_in_other_new(user, node)
 }
 
 /// How many of the nodes that an SCX-record covers were ever frozen for it: the first ones.
 pub fn frozen_count(judge: &Judge, scx: u64) -> u8
-    ensures { (j : ℕ) → j < count (history judge.now) scx → IsFrozen (history judge.now) scx j ↔ (j < result) }
+    ensures { (j : ℕ) → j < count (seen_history judge.now) scx → IsFrozen (seen_history judge.now) scx j ↔ (j < result) }
 {
     judge.freezing.of(scx)
 }
 
 /// Whether an update of an SCX-record has won.
 pub fn has_won(judge: &Judge, scx: u64) -> bool
-    ensures { IsTrue result ↔ HasWon (history judge.now) scx }
+    ensures { IsTrue result ↔ HasWon (seen_history judge.now) scx }
 {
     scx < u64::from(judge.words.layout().all_scx()) && judge.entering.has_won(scx)
 }
@@ -80,7 +80,7 @@ pub fn has_won(judge: &Judge, scx: u64) -> bool
 pub fn nodes_taken(judge: &Judge, pass: PassNo) -> u32
     requires { pass.0 < judge.now.layout.passes }
     ensures few { result ≤ judge.now.layout.nodes }
-    ensures taken { (n : ℕ) → IsOwnNode judge.now.layout pass.0 n → IsTakenNode (history judge.now) n ↔ (n < first_node judge.now.layout pass.0 + result) }
+    ensures taken { (n : ℕ) → IsOwnNode judge.now.layout pass.0 n → IsTakenNode (seen_history judge.now) n ↔ (n < first_node judge.now.layout pass.0 + result) }
 {
     judge.taking.nodes[pass.0 as usize]
 }
@@ -89,7 +89,7 @@ pub fn nodes_taken(judge: &Judge, pass: PassNo) -> u32
 pub fn scx_taken(judge: &Judge, pass: PassNo) -> u32
     requires { pass.0 < judge.now.layout.passes }
     ensures few { result ≤ judge.now.layout.scx }
-    ensures taken { (s : ℕ) → IsOwnScx judge.now.layout pass.0 s → IsTakenScx (history judge.now) s ↔ (s < first_scx judge.now.layout pass.0 + result) }
+    ensures taken { (s : ℕ) → IsOwnScx judge.now.layout pass.0 s → IsTakenScx (seen_history judge.now) s ↔ (s < first_scx judge.now.layout pass.0 + result) }
 {
     judge.taking.scx[pass.0 as usize]
 }

@@ -31,7 +31,7 @@ pub struct Judge {
 }
 
 impl Model for Judge {
-    ghost use Rattle.judge.specs.Histories.{Judged, history_of};
+    ghost use Rattle.judge.specs.Histories.{Judged, history_of_rows};
 
     ghost Value = { Judged };
 
@@ -39,7 +39,7 @@ impl Model for Judge {
 
     ghost view = { λ j. record { layout = j.words.layout; rows = j.past } };
 
-    ghost invariant = { λ j. StandsFor j.words.layout (history_of j.words.layout.mode j.past) j };
+    ghost invariant = { λ j. StandsFor j.words.layout (history_of_rows j.words.layout.mode j.past) j };
 }
 
 impl Judge {
@@ -55,12 +55,12 @@ impl Judge {
     ghost use Rattle.arena.specs.Shape.{IsBegin};
     ghost use Rattle.arena.specs.TakenNodes.{taken_nodes};
     ghost use Rattle.arena.specs.Words.{child, info};
-    ghost use Rattle.judge.specs.Histories.{history};
+    ghost use Rattle.judge.specs.Histories.{seen_history};
 
     /// The judge of no row. The only error is want of memory.
     pub fn new(alloc: Global, layout: &Layout) -> Result<Judge, NoMemory>
         ensures layout { IfOk result (λ j. j.layout ≡ layout.now) }
-        ensures start { IfOk result (λ j. history j ≡ Start layout.now.mode) }
+        ensures start { IfOk result (λ j. seen_history j ≡ Start layout.now.mode) }
     {
         Ok(Judge {
             words: PlainWords::new(alloc, layout)?,
@@ -84,38 +84,38 @@ impl Judge {
     /// The words as the rows have left them.
     pub fn words(&self) -> &PlainWords
         ensures layout { result.now.layout ≡ self.now.layout }
-        ensures words { (w : Word) → IsWord self.now.layout w → word_at result.now w ≡ value (history self.now) w }
+        ensures words { (w : Word) → IsWord self.now.layout w → word_at result.now w ≡ value (seen_history self.now) w }
     {
         &self.words
     }
 
     /// The rows so far are a lawful history.
     pub fn laws_hold(&self)
-        ensures { Lawful self.now.layout (history self.now) }
+        ensures { Lawful self.now.layout (seen_history self.now) }
     {
         let _words = &self.words;
     }
 
     /// What a word holds.
     pub fn get(&self, word: Word) -> u64
-        ensures { result ≡ value (history self.now) word }
+        ensures { result ≡ value (seen_history self.now) word }
     {
         facts::value_of(self, word)
     }
 
     /// Whether a row is lawful after those before it. Where it says so, the row is.
     pub fn is_lawful(&self, row: &Row) -> bool
-        ensures { IsTrue result → IsLawful self.now.layout (history self.now) row.now }
+        ensures { IsTrue result → IsLawful self.now.layout (seen_history self.now) row.now }
     {
         rows::is_lawful(self, row)
     }
 
     /// Takes in a lawful row. The only error is want of memory, and then it is not taken in.
     pub fn make(&mut self, row: &Row) -> Result<(), NoMemory>
-        requires { IsLawful self.old.layout (history self.old) row.now }
+        requires { IsLawful self.old.layout (seen_history self.old) row.now }
         ensures layout { self.new.layout ≡ self.old.layout }
         ensures made { OnOk result (self.new.rows ≡ row.now ∷ self.old.rows) }
-        ensures history { OnOk result (history self.new ≡ row.now ⊳ history self.old) }
+        ensures history { OnOk result (seen_history self.new ≡ row.now ⊳ seen_history self.old) }
         ensures refused { OnErr result (self.new ≡ self.old) }
     {
         self.naming.reserve()?;
@@ -132,15 +132,15 @@ impl Judge {
 
     /// Whether an info word names an SCX-record, or has named it: it has begun.
     pub fn is_named(&self, scx: ScxNo) -> bool
-        ensures { IsTrue result ↔ IsNamedScx (history self.now) scx.0 }
+        ensures { IsTrue result ↔ IsNamedScx (seen_history self.now) scx.0 }
     {
         facts::is_named_scx(self, scx.0)
     }
 
     /// Whether a node is named. Of one that is not of the table it says so, named or not.
     pub fn is_named_node(&self, node: NodeNo) -> bool
-        ensures named { IsNamed self.now.layout (history self.now) node.0 → IsTrue result }
-        ensures inside { node.0 < all_nodes self.now.layout → IsTrue result → IsNamed self.now.layout (history self.now) node.0 }
+        ensures named { IsNamed self.now.layout (seen_history self.now) node.0 → IsTrue result }
+        ensures inside { node.0 < all_nodes self.now.layout → IsTrue result → IsNamed self.now.layout (seen_history self.now) node.0 }
     {
         node.0 >= u64::from(self.layout().all_nodes()) || facts::is_named_node(self, node.0)
     }
@@ -148,21 +148,21 @@ impl Judge {
     /// Whether a field may hold a node, or may have held it: of one that is there from the start,
     /// and of one that is not of the table, it says so, held or not.
     pub fn is_in_field(&self, node: NodeNo) -> bool
-        ensures { result ≡ false → (m : ℕ) → (side : Side) → HasHeld (history self.now) (child m side) node.0 → ⊥ }
+        ensures { result ≡ false → (m : ℕ) → (side : Side) → HasHeld (seen_history self.now) (child m side) node.0 → ⊥ }
     {
         node.0 >= u64::from(self.layout().all_nodes()) || facts::was_in_field(self, node.0)
     }
 
     /// Whether an SCX-record has begun and is not finished.
     pub fn is_in_progress(&self, scx: ScxNo) -> bool
-        ensures { IsTrue result ↔ IsInProgress (history self.now) scx.0 }
+        ensures { IsTrue result ↔ IsInProgress (seen_history self.now) scx.0 }
     {
         self.get(Word::Scx(scx, ScxWord::State)) == IN_PROGRESS && self.is_named(scx)
     }
 
     /// Whether a row begins the SCX-record that it stores.
     pub fn is_begin(&self, row: &Row) -> bool
-        ensures { IsTrue result ↔ IsBegin (history self.now) row.now row.now.after }
+        ensures { IsTrue result ↔ IsBegin (seen_history self.now) row.now row.now.after }
     {
         let scx = ScxNo(row.after);
         let node = NodeNo(self.get(Word::Scx(scx, ScxWord::Member(0))));
@@ -175,12 +175,12 @@ impl Judge {
     /// The SCX-record whose update a lawful row is, if that wins: the one that the info of the
     /// field's node names.
     pub fn winner(&self, row: &Row) -> Option<ScxNo>
-        requires { IsLawful self.now.layout (history self.now) row.now }
-        ensures wins { IfSome result (λ s. IsWin (history self.now) row.now s.0) }
-        ensures holds { IfSome result (λ s. (n : ℕ) → (side : Side) → row.now.word ≡ child n side → s.0 ≡ value (history self.now) (info n)) }
-        ensures logged { IfSome result (λ s. (n : ℕ) × (side : Side) × (row.now.word ≡ child n side) × (log self.now.layout (row.now ⊳ history self.now) ≡ entry self.now.layout (history self.now) s.0 n side row.now.after ∷ log self.now.layout (history self.now))) }
-        ensures none { IfNone result ((s : ℕ) → IsWin (history self.now) row.now s → ⊥) }
-        ensures unlogged { IfNone result (log self.now.layout (row.now ⊳ history self.now) ≡ log self.now.layout (history self.now)) }
+        requires { IsLawful self.now.layout (seen_history self.now) row.now }
+        ensures wins { IfSome result (λ s. IsWin (seen_history self.now) row.now s.0) }
+        ensures holds { IfSome result (λ s. (n : ℕ) → (side : Side) → row.now.word ≡ child n side → s.0 ≡ value (seen_history self.now) (info n)) }
+        ensures logged { IfSome result (λ s. (n : ℕ) × (side : Side) × (row.now.word ≡ child n side) × (log self.now.layout (row.now ⊳ seen_history self.now) ≡ entry self.now.layout (seen_history self.now) s.0 n side row.now.after ∷ log self.now.layout (seen_history self.now))) }
+        ensures none { IfNone result ((s : ℕ) → IsWin (seen_history self.now) row.now s → ⊥) }
+        ensures unlogged { IfNone result (log self.now.layout (row.now ⊳ seen_history self.now) ≡ log self.now.layout (seen_history self.now)) }
     {
         let _words = &self.words;
         match row.word {
@@ -193,28 +193,28 @@ impl Judge {
 
     /// How many updates have won.
     pub fn entries(&self) -> u64
-        ensures { result ≡ length (log self.now.layout (history self.now)) }
+        ensures { result ≡ length (log self.now.layout (seen_history self.now)) }
     {
         self.entering.entries
     }
 
     /// The place of the last entry over a node of the table, counted from 1; 0 where there is none.
     pub fn last(&self, node: NodeNo) -> u64
-        ensures { result ≡ last (log self.now.layout (history self.now)) node.0 }
+        ensures { result ≡ last (log self.now.layout (seen_history self.now)) node.0 }
     {
         self.entering.last_of(node.0)
     }
 
     /// Whether an entry finalizes a node of the table.
     pub fn is_final(&self, node: NodeNo) -> bool
-        ensures { result ≡ is_final (log self.now.layout (history self.now)) node.0 }
+        ensures { result ≡ is_final (log self.now.layout (seen_history self.now)) node.0 }
     {
         self.entering.is_final(node.0)
     }
 
     /// How many nodes are taken, of all shares.
     pub fn taken(&self) -> u32
-        ensures { result ≡ length (taken_nodes (history self.now)) }
+        ensures { result ≡ length (taken_nodes (seen_history self.now)) }
     {
         self.taking.all_nodes
     }
@@ -223,7 +223,7 @@ impl Judge {
     pub fn nodes_taken(&self, pass: PassNo) -> u32
         requires { pass.0 < self.now.layout.passes }
         ensures few { result ≤ self.now.layout.nodes }
-        ensures taken { (n : ℕ) → IsOwnNode self.now.layout pass.0 n → IsTakenNode (history self.now) n ↔ (n < first_node self.now.layout pass.0 + result) }
+        ensures taken { (n : ℕ) → IsOwnNode self.now.layout pass.0 n → IsTakenNode (seen_history self.now) n ↔ (n < first_node self.now.layout pass.0 + result) }
     {
         facts::nodes_taken(self, pass)
     }
@@ -232,7 +232,7 @@ impl Judge {
     pub fn scx_taken(&self, pass: PassNo) -> u32
         requires { pass.0 < self.now.layout.passes }
         ensures few { result ≤ self.now.layout.scx }
-        ensures taken { (s : ℕ) → IsOwnScx self.now.layout pass.0 s → IsTakenScx (history self.now) s ↔ (s < first_scx self.now.layout pass.0 + result) }
+        ensures taken { (s : ℕ) → IsOwnScx self.now.layout pass.0 s → IsTakenScx (seen_history self.now) s ↔ (s < first_scx self.now.layout pass.0 + result) }
     {
         facts::scx_taken(self, pass)
     }

@@ -1,7 +1,7 @@
 //! Which rows are lawful after those before.
 ghost use Rattle.std.specs.Prelude.{◌<◌, IsTrue};
 ghost use Rattle.arena.specs.Lawful.{Obeys, IsLawful};
-ghost use Rattle.judge.specs.Histories.{history};
+ghost use Rattle.judge.specs.Histories.{seen_history};
 
 use crate::exchanges::{
     is_some_abort, is_some_commit, is_some_freeze, is_some_mark, is_some_set_frozen, is_some_update,
@@ -18,7 +18,7 @@ use arena::{Kind, Row};
 /// Whether a row does what its kind allows after the rows before it.
 fn obeys(judge: &Judge, row: &Row) -> bool
     requires { row.now.pass.0 < judge.now.layout.passes }
-    ensures { IsTrue result → Obeys judge.now.layout (history judge.now) row.now row.now.kind }
+    ensures { IsTrue result → Obeys judge.now.layout (seen_history judge.now) row.now row.now.kind }
 {
     match row.kind {
         Kind::Fill => may_fill(judge, row),
@@ -39,7 +39,7 @@ fn obeys(judge: &Judge, row: &Row) -> bool
 
 /// Whether a row is lawful after the rows before it.
 pub fn is_lawful(judge: &Judge, row: &Row) -> bool
-    ensures { IsTrue result → IsLawful judge.now.layout (history judge.now) row.now }
+    ensures { IsTrue result → IsLawful judge.now.layout (seen_history judge.now) row.now }
 {
     row.pass.0 < judge.layout().passes
         && judge.layout().has(row.word)

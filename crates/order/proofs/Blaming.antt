@@ -19,9 +19,9 @@ use Rattle.prims.specs.declared.llx.Llx.TheVariants.{Finalized, Fail}
 use Rattle.prims.specs.declared.llx.LlxRun.{LlxRun}
 use Rattle.prims.specs.declared.snap.Snap.{Snap}
 use Rattle.prims.proofs.Lemmas.{usable_now, usable_since}
-use Rattle.order.specs.Reads.{from, HasSnapped, Reads, HasStood}
-use Rattle.spelling.specs.OrderedMap.{MapCall, MapReply}
-use Rattle.spelling.specs.Tries.{tries_begun}
+use Rattle.order.specs.Reads.{begun_at, HasSnapped, Reads, HasStood}
+use Rattle.ordered_map.specs.OrderedMap.{MapCall, MapReply}
+use Rattle.ordered_map.specs.Tries.{tries_begun}
 use Rattle.order.specs.Replies.{IsReplyAt, KeepsTries}
 use Rattle.order.specs.Tries.{BeginsTry, IsInTry}
 use Rattle.template.specs.Blame.{IsContended, HasLostTriesTo}
@@ -29,11 +29,11 @@ use Rattle.template.proofs.Lemmas.{changed_contended, contended_wider, failed_co
 
 module _ (c : Call) (h : History) (snaps : List Snap) (reads : Reads c h snaps) where
   -- an LLX that has begun in the call fails
-  pub look_failed : (llx : LlxRun) (begin : History) (n : NodeNo) (s : ScxNo) → Extends begin c.start → LlxAnswers llx (from c begin) h (Fail n s) → IsContended c h n.0 s.0
+  pub look_failed : (llx : LlxRun) (begin : History) (n : NodeNo) (s : ScxNo) → Extends begin c.start → LlxAnswers llx (begun_at c begin) h (Fail n s) → IsContended c h n.0 s.0
   look_failed llx begin n s e x = subst (λ k. IsContended c h k s.0) (sym x.0) (failed_contended c begin h llx.node.0 s.0 e x.1)
 
   -- it finds a node final that was not at a moment of the call
-  pub look_finalized : (llx : LlxRun) (begin : History) (n : NodeNo) (s : ScxNo) → Extends begin c.start → HasStood c h llx.node.0 → LlxAnswers llx (from c begin) h (Finalized n s) → IsContended c h n.0 s.0
+  pub look_finalized : (llx : LlxRun) (begin : History) (n : NodeNo) (s : ScxNo) → Extends begin c.start → HasStood c h llx.node.0 → LlxAnswers llx (begun_at c begin) h (Finalized n s) → IsContended c h n.0 s.0
   look_finalized llx begin n s e stood x = subst (λ k. IsContended c h k s.0) (sym x.0) (finalized_contended c h llx.node.0 s.0 reads.run.1.lawful reads.quiet stood.not_final x.1 (there_wider c.pass h begin c.start llx.node.0 s.0 e x.2))
 
 -- a snapshot that the call has taken may be used
@@ -41,7 +41,7 @@ pub snapped_usable : (c : Call) (h : History) (snap : Snap) → Lawful c.layout 
 snapped_usable c h snap l x = usable_since c.layout h x.moment snap x.moment l x.within (usable_now c.layout x.moment snap.node.0 snap x.is)
 
 -- so a VLX over all of them may begin
-pub first_look : (c : Call) (h : History) (snaps : List Snap) → Reads c h snaps → 0 < length snaps → VlxIsReady snaps 0 (from c h) h None
+pub first_look : (c : Call) (h : History) (snaps : List Snap) → Reads c h snaps → 0 < length snaps → VlxIsReady snaps 0 (begun_at c h) h None
 first_look c h snaps reads some = record {
   asked = refl;
   some = some;
@@ -51,7 +51,7 @@ first_look c h snaps reads some = record {
 }
 
 -- its VLX, which has begun at a moment of the call, finds a change
-pub look_changed : (c : Call) (begin h : History) (snaps : List Snap) (n s : ℕ) → Lawful c.layout h → Reads c begin snaps → IsFirstChange (from c begin) h snaps n s → IsContended c h n s
+pub look_changed : (c : Call) (begin h : History) (snaps : List Snap) (n s : ℕ) → Lawful c.layout h → Reads c begin snaps → IsFirstChange (begun_at c begin) h snaps n s → IsContended c h n s
 look_changed c begin h snaps n s l reads x = changed_contended c LoadInfo begin h snaps n s l reads.quiet x.changed snapped.moment snapped.since (snapped_usable c begin (snap_at snaps x.changed.index) reads.run.1.lawful snapped).found
   where
     snapped : HasSnapped c begin (snap_at snaps x.changed.index)
@@ -73,11 +73,11 @@ pub try_as : (c : Call) (h begin : History) (limit left most now : ℕ) → most
 try_as c h begin limit left most now e f x = rw (e, f) x
 
 -- what contends with a try contends with the call
-pub try_contended : (c : Call) (begin h : History) (n s limit left : ℕ) → IsInTry c h begin limit left → IsContended (from c begin) h n s → IsContended c h n s
+pub try_contended : (c : Call) (begin h : History) (n s limit left : ℕ) → IsInTry c h begin limit left → IsContended (begun_at c begin) h n s → IsContended c h n s
 try_contended c begin h n s limit left try way = contended_wider c begin h n s try.begins.since way
 
 -- and where that was the last, all are lost to it
-pub all_lost : (c : Call) (begin h : History) (n s limit left : ℕ) → IsInTry c h begin limit left → left ≡ 0 → IsContended (from c begin) h n s → HasLostTriesTo c.pass h c.start limit n s
+pub all_lost : (c : Call) (begin h : History) (n s limit left : ℕ) → IsInTry c h begin limit left → left ≡ 0 → IsContended (begun_at c begin) h n s → HasLostTriesTo c.pass h c.start limit n s
 all_lost c begin h n s limit left try last way = record {
   lost = record {
     begin = begin;
@@ -106,13 +106,13 @@ begins_first c h limit left e idle all = record {
 }
 
 -- a try that is given up in a part of the call is given up in the call
-pub keeps_wider : {A : Type 0} (c : Call) (begin h : History) (before now : ℕ) (turn : Turn A) → Extends begin c.start → KeepsTries (from c begin) h before now turn → KeepsTries c h before now turn
+pub keeps_wider : {A : Type 0} (c : Call) (begin h : History) (before now : ℕ) (turn : Turn A) → Extends begin c.start → KeepsTries (begun_at c begin) h before now turn → KeepsTries c h before now turn
 keeps_wider c begin h before now turn e (inl kept) = inl kept
 keeps_wider c begin h before now (Ask step) e (inr gave) = inr record { one = gave.one; node = gave.node; scx = gave.scx; way = contended_wider c begin h gave.node gave.scx e gave.way }
 keeps_wider c begin h before now (Done answer) e (inr none) = absurd none
 
 -- and what it replies at a moment of that it replies at one of the call
-pub reply_wider : (c : Call) (begin h : History) (call : MapCall) (told : MapReply) → Extends begin c.start → IsReplyAt (from c begin) h call told → IsReplyAt c h call told
+pub reply_wider : (c : Call) (begin h : History) (call : MapCall) (told : MapReply) → Extends begin c.start → IsReplyAt (begun_at c begin) h call told → IsReplyAt c h call told
 reply_wider c begin h call told e x = record {
   moment = x.moment;
   within = x.within;

@@ -16,23 +16,23 @@ use Rattle.prims.specs.Vlx.Known.{IsSame, VlxIsReady}
 use Rattle.prims.specs.declared.llx.LlxAt.TheVariants.{Start as LlxStart}
 use Rattle.prims.specs.declared.llx.LlxRun.{LlxRun}
 use Rattle.prims.specs.declared.snap.Snap.{Snap}
-use Rattle.spelling.specs.declared.pair.Pair.{Pair}
-use Rattle.spelling.specs.OrderedMap.{pair, Successor, pair_or_none}
-use Rattle.spelling.specs.Paths.{IsOnPath, Passed}
-use Rattle.spelling.specs.Runs.{IsTreeRun}
-use Rattle.spelling.specs.Spelled.{Spells}
-use Rattle.spelling.specs.TreeShape.{TreeAllows}
-use Rattle.spelling.specs.TreeWords.{class, is_leaf, level, rank, toward}
-use Rattle.spelling.proofs.Lemmas.{passed_unmarked, path_not_final, root_head, run_since, run_spells, stood_settled, walk_first, was_passed, SameSettled, settled_class, settled_leaf, settled_rank, settled_toward}
+use Rattle.ordered_map.specs.declared.pair.Pair.{Pair}
+use Rattle.ordered_map.specs.OrderedMap.{pair, Successor, pair_or_none}
+use Rattle.ordered_map.specs.Paths.{IsOnPath, Passed}
+use Rattle.ordered_map.specs.Runs.{IsTreeRun}
+use Rattle.ordered_map.specs.Spelled.{Spells}
+use Rattle.ordered_map.specs.TreeShape.{TreeAllows}
+use Rattle.ordered_map.specs.TreeWords.{class, is_leaf, level, rank, toward}
+use Rattle.ordered_map.proofs.Lemmas.{passed_unmarked, path_not_final, root_head, run_since, run_spells, stood_settled, walk_first, was_passed, SameSettled, settled_class, settled_leaf, settled_rank, settled_toward}
 use Rattle.template.specs.FoundLeaf.{HasEnded}
 use Rattle.template.specs.Trails.{IsOwnMoment}
 use Rattle.template.specs.declared.walk.Found.{Found}
 use Rattle.template.proofs.Lemmas.{own_since}
-use Rattle.order.specs.Kept.{idle_over, stood_opened}
-use Rattle.order.specs.Reads.{from, AllHold, Whenever, HasStood}
+use Rattle.order.specs.Laws.Kept.{idle_if_finished, opened_if_stood}
+use Rattle.order.specs.Reads.{begun_at, AllHold, Whenever, HasStood}
 use Rattle.order.specs.Replies.{IsReplyAt}
-use Rattle.order.specs.Search.{IsSearched, IsFirstBehind, IsNextAt}
-use Rattle.order.specs.Successor.Known.{head_at, key_at, asks_key, is_answer, HasTurnedLeft, IsLastTurn, IsOnRoute, IsSideOf, IsRightThere, LooksAt, StandsAt, HasHead, HasLeaf, Validates, Goes}
+use Rattle.order.specs.Laws.Search.{IsSearched, IsFirstBehind, IsNextAt}
+use Rattle.order.specs.Successor.Known.{head_at, key_at, successor_asks_key, is_answer, HasTurnedLeft, IsLastTurn, IsOnRoute, IsSideOf, IsRightThere, LooksAt, SuccessorStandsAt, HasHead, HasLeaf, SuccessorValidates, SuccessorGoes}
 use Rattle.order.specs.declared.successor.Route.{Route}
 use Rattle.order.specs.declared.successor.Route.TheVariants.{Along, Beyond}
 use Rattle.order.specs.declared.successor.SuccessorRun.{SuccessorRun}
@@ -89,7 +89,7 @@ last_turned c h k asked n f run small a (inl e) = rw e (root_turned c h k asked 
 last_turned c h k asked n f run small a (inr x) = x
 
 -- it may look there
-pub looks_first : (m : SuccessorRun) (c : Call) (h : History) (n : ℕ) → Goes m c h → HasTurnedLeft c h m.key n → LooksAt m c h Along 0 Left n
+pub looks_first : (m : SuccessorRun) (c : Call) (h : History) (n : ℕ) → SuccessorGoes m c h → HasTurnedLeft c h m.key n → LooksAt m c h Along 0 Left n
 looks_first m c h n goes x = record {
   stood = record {
     stood = was_passed h x.passed.first m.key n p;
@@ -107,19 +107,19 @@ looks_first m c h n goes x = record {
 
 -- An LLX
 
-pub look_ready : (m : SuccessorRun) (c : Call) (h : History) (n : ℕ) (llx : LlxRun) → Goes m c h → HasStood c h n → llx.node.0 ≡ n → llx.at ≡ LlxStart → LlxIsReady TreeAllows llx (from c h) h None
+pub look_ready : (m : SuccessorRun) (c : Call) (h : History) (n : ℕ) (llx : LlxRun) → SuccessorGoes m c h → HasStood c h n → llx.node.0 ≡ n → llx.at ≡ LlxStart → LlxIsReady TreeAllows llx (begun_at c h) h None
 look_ready m c h n llx goes stood is at = record {
-  opened = rw is (stood_opened c.layout h n goes.reads.run stood.stood);
+  opened = rw is (opened_if_stood c.layout h n goes.reads.run stood.stood);
   since = ends_self h;
-  quiet = quiet_at_start c.layout c.pass h (idle_over c h goes.reads.run.1.lawful goes.reads.over);
-  known = subst (LlxKnows (from c h) h llx.node.0) (sym at) tt;
+  quiet = quiet_at_start c.layout c.pass h (idle_if_finished c h goes.reads.run.1.lawful goes.reads.over);
+  known = subst (LlxKnows (begun_at c h) h llx.node.0) (sym at) tt;
   told = at;
 }
 
 -- A snapshot more
 
-module _ (m : SuccessorRun) (c : Call) (h : History) (snap : Snap) (goes : Goes m c h) (is : IsSnapshot c.layout h snap.node.0 snap) where
-  pub goes_one_more : (now : SuccessorRun) → now.key ≡ m.key → now.snaps.items ≡ m.snaps.items ++ snap ∷ [] → Goes now c h
+module _ (m : SuccessorRun) (c : Call) (h : History) (snap : Snap) (goes : SuccessorGoes m c h) (is : IsSnapshot c.layout h snap.node.0 snap) where
+  pub goes_one_more : (now : SuccessorRun) → now.key ≡ m.key → now.snaps.items ≡ m.snaps.items ++ snap ∷ [] → SuccessorGoes now c h
   goes_one_more now key items = record { reads = rw items (reads_one_more c h m.snaps.items snap goes.reads is); small = rw key goes.small }
 
   module _ (route : Route) (low : ℕ) (side : Side) (x : LooksAt m c h route low side snap.node.0) where
@@ -183,7 +183,7 @@ module _ (m : SuccessorRun) (c : Call) (h : History) (snap : Snap) (goes : Goes 
         go (inr y) = no_route _ (sym a ∙ y.0)
 
     -- it stands at the child to which it goes
-    pub stands_left : (now : SuccessorRun) → now.key ≡ m.key → now.snaps.items ≡ m.snaps.items ++ snap ∷ [] → route ≡ Along → side ≡ Left → now.right ≡ snap.right → StandsAt now c h Along snap.left.0
+    pub stands_left : (now : SuccessorRun) → now.key ≡ m.key → now.snaps.items ≡ m.snaps.items ++ snap ∷ [] → route ≡ Along → side ≡ Left → now.right ≡ snap.right → SuccessorStandsAt now c h Along snap.left.0
     stands_left now key items a l right = record {
       stood = there Left;
       some = rw items (some_more m.snaps.items snap);
@@ -191,7 +191,7 @@ module _ (m : SuccessorRun) (c : Call) (h : History) (snap : Snap) (goes : Goes 
       on_route = rw (key, items, right) (along_left a l);
     }
 
-    pub stands_right : (now : SuccessorRun) → now.key ≡ m.key → now.snaps.items ≡ m.snaps.items ++ snap ∷ [] → route ≡ Along → side ≡ Right → now.right ≡ m.right → StandsAt now c h Along snap.right.0
+    pub stands_right : (now : SuccessorRun) → now.key ≡ m.key → now.snaps.items ≡ m.snaps.items ++ snap ∷ [] → route ≡ Along → side ≡ Right → now.right ≡ m.right → SuccessorStandsAt now c h Along snap.right.0
     stands_right now key items a r right = record {
       stood = there Right;
       some = rw items (some_more m.snaps.items snap);
@@ -199,7 +199,7 @@ module _ (m : SuccessorRun) (c : Call) (h : History) (snap : Snap) (goes : Goes 
       on_route = rw (key, items, right) (along_right a r);
     }
 
-    pub stands_beyond : (now : SuccessorRun) → now.key ≡ m.key → now.snaps.items ≡ m.snaps.items ++ snap ∷ [] → route ≡ Beyond → StandsAt now c h Beyond snap.left.0
+    pub stands_beyond : (now : SuccessorRun) → now.key ≡ m.key → now.snaps.items ≡ m.snaps.items ++ snap ∷ [] → route ≡ Beyond → SuccessorStandsAt now c h Beyond snap.left.0
     stands_beyond now key items a = record {
       stood = there Left;
       some = rw items (some_more m.snaps.items snap);
@@ -209,7 +209,7 @@ module _ (m : SuccessorRun) (c : Call) (h : History) (snap : Snap) (goes : Goes 
 
 -- At a node
 
-module _ (m : SuccessorRun) (c : Call) (h : History) (route : Route) (n : ℕ) (goes : Goes m c h) (x : StandsAt m c h route n) where
+module _ (m : SuccessorRun) (c : Call) (h : History) (route : Route) (n : ℕ) (goes : SuccessorGoes m c h) (x : SuccessorStandsAt m c h route n) where
   module _ (b : History) (run : IsTreeRun c.layout b) (e : Extends b h) where
     same_then : SameSettled (value h) (value b) n
     same_then = stood_settled c.layout b h n run e x.stood.stood
@@ -264,7 +264,7 @@ module _ (m : SuccessorRun) (c : Call) (h : History) (route : Route) (n : ℕ) (
     leaf_beyond a = record { stood = x.stood; some = x.some; leaf = leaf; low = low; key_is = d; first = λ b run e hold. subst (λ r. IsOnRoute r b m.key n m.right.0) a (x.on_route b run e hold) }
 
     -- that is not above the key: it goes on from the right child
-    pub stands_behind : route ≡ Along → key ≤ m.key → StandsAt m c h Beyond m.right.0
+    pub stands_behind : route ≡ Along → key ≤ m.key → SuccessorStandsAt m c h Beyond m.right.0
     stands_behind a i = record {
       stood = (x.right a).stood;
       some = x.some;
@@ -274,7 +274,7 @@ module _ (m : SuccessorRun) (c : Call) (h : History) (route : Route) (n : ℕ) (
 
 -- What its tests say
 
-module _ (m : SuccessorRun) (c : Call) (h : History) (route : Route) (n : ℕ) (goes : Goes m c h) (x : StandsAt m c h route n) (head : HeadParts) (is : head_at h n ≡ head) where
+module _ (m : SuccessorRun) (c : Call) (h : History) (route : Route) (n : ℕ) (goes : SuccessorGoes m c h) (x : SuccessorStandsAt m c h route n) (head : HeadParts) (is : head_at h n ≡ head) where
   class_is : class (value h) n ≡ head.class
   class_is = ap (λ (w : HeadParts). w.class) is
 
@@ -285,8 +285,8 @@ module _ (m : SuccessorRun) (c : Call) (h : History) (route : Route) (n : ℕ) (
   fork_is e = ap (λ (w : HeadParts). w.leaf) is ∙ e
 
   -- it loads the key
-  pub head_there : asks_key route head ≡ true → HasHead h route n head
-  head_there e = record { head_is = is; low = low route e; leaf = λ b. leaf (subst (λ r. asks_key r head ≡ true) b e) }
+  pub head_there : successor_asks_key route head ≡ true → HasHead h route n head
+  head_there e = record { head_is = is; low = low route e; leaf = λ b. leaf (subst (λ r. successor_asks_key r head ≡ true) b e) }
     where
       zero_class : eqb head.class 0 ≡ true → head.class ≡ 0
       zero_class d = eqb-true head.class 0 d
@@ -295,35 +295,35 @@ module _ (m : SuccessorRun) (c : Call) (h : History) (route : Route) (n : ℕ) (
       both true q d = (q, d)
       both false q d = absurd (let y : false ≡ true = d in cc)
 
-      low : (r : Route) → asks_key r head ≡ true → head.class ≡ 0
+      low : (r : Route) → successor_asks_key r head ≡ true → head.class ≡ 0
       low Along d = zero_class d
       low Beyond d = zero_class (both (eqb head.class 0) refl d).0
 
-      leaf : asks_key Beyond head ≡ true → head.leaf ≡ true
+      leaf : successor_asks_key Beyond head ≡ true → head.leaf ≡ true
       leaf d = (both (eqb head.class 0) refl d).1
 
   -- a leaf of which it loads no key is above all keys
-  pub high_there : asks_key route head ≡ false → head.leaf ≡ true → class (value h) n ≢ 0
+  pub high_there : successor_asks_key route head ≡ false → head.leaf ≡ true → class (value h) n ≢ 0
   high_there e leaf z = go route e
     where
       zero_class : head.class ≡ 0
       zero_class = sym class_is ∙ z
 
-      go : (r : Route) → asks_key r head ≡ false → ⊥
+      go : (r : Route) → successor_asks_key r head ≡ false → ⊥
       go Along d = let y : true ≡ false = sym (eq-eqb head.class 0 zero_class) ∙ d in cc
       go Beyond d = let y : true ≡ false = sym (ap (λ b. cond b head.leaf false) (eq-eqb head.class 0 zero_class) ∙ leaf) ∙ d in cc
 
   -- a fork of which it loads no key it leaves on the left
-  pub looks_left : asks_key route head ≡ false → head.leaf ≡ false → LooksAt m c h route head.level Left n
+  pub looks_left : successor_asks_key route head ≡ false → head.leaf ≡ false → LooksAt m c h route head.level Left n
   looks_left e fork = looks_at m c h route n goes x head.level Left (fork_is fork) (let l : level (value h) n ≡ head.level = ap (λ (w : HeadParts). w.level) is in omega (arith, l)) (go route e)
     where
-      high : asks_key Along head ≡ false → class (value h) n ≢ 0
+      high : successor_asks_key Along head ≡ false → class (value h) n ≢ 0
       high d z = let y : true ≡ false = sym (eq-eqb head.class 0 (sym class_is ∙ z)) ∙ d in cc
 
-      above : asks_key Along head ≡ false → m.key < rank (value h) n
+      above : successor_asks_key Along head ≡ false → m.key < rank (value h) n
       above d = let s = goes.small in let z = high d in omega (arith, s, z)
 
-      go : (r : Route) → asks_key r head ≡ false → IsSideOf r h m.key n Left
+      go : (r : Route) → successor_asks_key r head ≡ false → IsSideOf r h m.key n Left
       go Along d = rw (lt-ltb m.key (rank (value h) n) (above d)) refl
       go Beyond d = refl
 
@@ -332,7 +332,7 @@ pub along_of : (route : Route) (k key : ℕ) → is_answer route k key ≡ false
 along_of Along k key e = refl
 along_of Beyond k key e = absurd (let y : true ≡ false = e in cc)
 
-module _ (m : SuccessorRun) (c : Call) (h : History) (route : Route) (n key : ℕ) (goes : Goes m c h) (x : StandsAt m c h route n) (head : HeadParts) (has : HasHead h route n head) (key_is : key_at h n ≡ key) where
+module _ (m : SuccessorRun) (c : Call) (h : History) (route : Route) (n key : ℕ) (goes : SuccessorGoes m c h) (x : SuccessorStandsAt m c h route n) (head : HeadParts) (has : HasHead h route n head) (key_is : key_at h n ≡ key) where
   low_class : class (value h) n ≡ 0
   low_class = ap (λ (w : HeadParts). w.class) has.head_is ∙ has.low
 
@@ -351,7 +351,7 @@ module _ (m : SuccessorRun) (c : Call) (h : History) (route : Route) (n key : �
   along_then : is_answer route m.key key ≡ false → route ≡ Along
   along_then e = along_of route m.key key e
 
-  pub answers_behind : head.leaf ≡ true → is_answer route m.key key ≡ false → StandsAt m c h Beyond m.right.0
+  pub answers_behind : head.leaf ≡ true → is_answer route m.key key ≡ false → SuccessorStandsAt m c h Beyond m.right.0
   answers_behind leaf e = stands_behind m c h route n goes x key is low_class key_is (along_then e) (ltb-false m.key key (subst (λ r. is_answer r m.key key ≡ false) (along_then e) e))
     where
       is : is_leaf (value h) n ≡ true
@@ -379,14 +379,14 @@ tells_this m c h n key v x d b run e hold ps spelled = first_tells b m.key n fir
 
 -- The VLX
 
-pub validates : (m : SuccessorRun) (c : Call) (h : History) (found : Option Pair) → Goes m c h → IsOwnMoment c h → Whenever c.layout h m.snaps.items (λ b. IsNextAt c.layout b m.key found) → Validates m c h h found
+pub validates : (m : SuccessorRun) (c : Call) (h : History) (found : Option Pair) → SuccessorGoes m c h → IsOwnMoment c h → Whenever c.layout h m.snaps.items (λ b. IsNextAt c.layout b m.key found) → SuccessorValidates m c h h found
 validates m c h found goes own x = record { own = own; within = ends_self h; then = goes.reads; right = λ hold. x h goes.reads.run (ends_self h) hold }
 
-pub vlx_ready : (m : SuccessorRun) (c : Call) (h : History) → Goes m c h → 0 < length m.snaps.items → VlxIsReady m.snaps.items 0 (from c h) h None
+pub vlx_ready : (m : SuccessorRun) (c : Call) (h : History) → SuccessorGoes m c h → 0 < length m.snaps.items → VlxIsReady m.snaps.items 0 (begun_at c h) h None
 vlx_ready m c h goes some = first_look c h m.snaps.items goes.reads some
 
 -- all nodes are as they were found: the answer is the map's as the VLX began
-pub replies : (m : SuccessorRun) (c : Call) (begin h : History) (found : Option Pair) → Validates m c h begin found → IsSame (from c begin) h m.snaps.items → IsReplyAt c h (Successor m.key) (pair_or_none found)
+pub replies : (m : SuccessorRun) (c : Call) (begin h : History) (found : Option Pair) → SuccessorValidates m c h begin found → IsSame (begun_at c begin) h m.snaps.items → IsReplyAt c h (Successor m.key) (pair_or_none found)
 replies m c begin h found x same = record {
   moment = begin;
   within = x.within;

@@ -7,11 +7,11 @@ use Rattle.arena.specs.declared.word.NodeWord.TheVariants.{Key, Value}
 use Rattle.arena.specs.declared.word.Word.{Word}
 use Rattle.arena.specs.Words.{node}
 use Rattle.arena.specs.History.{History, value}
-use Rattle.spelling.specs.declared.pair.Pair.{Pair}
-use Rattle.spelling.specs.OrderedMap.{pair, successor}
-use Rattle.spelling.specs.Spelled.{IsTree, Spells}
-use Rattle.spelling.specs.TreeWords.{Tree, Leaf, Fork, root, Shows, class, is_leaf, rank, pairs, leaf_pairs}
-use Rattle.spelling.proofs.Lemmas.{first, search_next}
+use Rattle.ordered_map.specs.declared.pair.Pair.{Pair}
+use Rattle.ordered_map.specs.OrderedMap.{pair, successor}
+use Rattle.ordered_map.specs.Spelled.{IsTree, Spells}
+use Rattle.ordered_map.specs.TreeWords.{Tree, Leaf, Fork, root, Shows, class, is_leaf, rank, pairs, leaf_pairs}
+use Rattle.ordered_map.proofs.Lemmas.{first, search_next}
 
 -- The words determine the tree
 

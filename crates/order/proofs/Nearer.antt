@@ -14,7 +14,7 @@ use Rattle.order.specs.declared.successor.Route.{Route}
 use Rattle.order.specs.declared.successor.Route.TheVariants.{Along}
 use Rattle.order.specs.declared.successor.SuccessorAt.TheVariants.{Walk, Head}
 use Rattle.order.specs.declared.successor.SuccessorRun.{SuccessorRun}
-use Rattle.order.specs.Successor.Steps.{behind, try_left, phase_left, successor_left, HeadFits, SuccessorFitsAt, SuccessorFits}
+use Rattle.order.specs.Successor.Steps.{behind, successor_try_left, successor_phase_left, successor_left, HeadFits, SuccessorFitsAt, SuccessorFits}
 
 -- what is below a number is below a greater one
 pub below : {A : Type 0} (turn : Turn A) (x a b : ℕ) → MatchTurn turn (λ _. x < a) (λ _. Unit {0}) → a ≤ b → MatchTurn turn (λ _. x < b) (λ _. Unit {0})
@@ -34,7 +34,7 @@ pub to_tries : (t rest : ℕ) → t ≤ t + rest
 to_tries t rest = omega arith
 
 -- with no snapshot, and the first step of its walk asked for, fewer steps are left than in a try
-pub begins_walk : {A : Type 0} (empty now : SuccessorRun) (walk : WalkRun) (last : NodeNo) (turn : Turn A) (step : Step) (nodes : ℕ) → empty.snaps.items ≡ [] → now ≡ record empty { at = Walk (record walk { at = Root }) last } → turn ≡ Ask step → MatchTurn turn (λ _. successor_left now nodes < empty.tries * try_left nodes + try_left nodes) (λ _. Unit {0})
+pub begins_walk : {A : Type 0} (empty now : SuccessorRun) (walk : WalkRun) (last : NodeNo) (turn : Turn A) (step : Step) (nodes : ℕ) → empty.snaps.items ≡ [] → now ≡ record empty { at = Walk (record walk { at = Root }) last } → turn ≡ Ask step → MatchTurn turn (λ _. successor_left now nodes < empty.tries * successor_try_left nodes + successor_try_left nodes) (λ _. Unit {0})
 begins_walk empty now walk last turn step nodes items is asked = let e = ap length items in rw (asked, is) (omega (arith, e))
 
 pub less_walk : (t now left size rest : ℕ) → now < left → t + (now + size + rest) < t + (left + size + rest)
@@ -65,11 +65,11 @@ below_head t size nodes above deep behind i = omega (arith, i)
 
 -- what it is told of a head fits, and leaves fewer steps
 pub head_nearer : (m : SuccessorRun) (got : Option ℕ) (nodes : ℕ) (route : Route) (above : ℕ) (n : NodeNo) (head : HeadParts) → head ≡ head_of (unwrap_or got 0) → m.at ≡ Head route above n → SuccessorFits m got nodes
-    → HeadFits head nodes × (m.tries * try_left nodes + (length m.snaps.items + 67 * (2 + nodes - head.level) - 1 + behind route nodes) ≤ successor_left m nodes)
+    → HeadFits head nodes × (m.tries * successor_try_left nodes + (length m.snaps.items + 67 * (2 + nodes - head.level) - 1 + behind route nodes) ≤ successor_left m nodes)
 head_nearer m got nodes route above n head e is fits = (
   rw e f.1,
-  subst (λ at. m.tries * try_left nodes + (length m.snaps.items + 67 * (2 + nodes - head.level) - 1 + behind route nodes) ≤ m.tries * try_left nodes + phase_left m nodes at) (sym is)
-      (below_head (m.tries * try_left nodes) (length m.snaps.items) nodes above head.level (behind route nodes) (rw e f.0)),
+  subst (λ at. m.tries * successor_try_left nodes + (length m.snaps.items + 67 * (2 + nodes - head.level) - 1 + behind route nodes) ≤ m.tries * successor_try_left nodes + successor_phase_left m nodes at) (sym is)
+      (below_head (m.tries * successor_try_left nodes) (length m.snaps.items) nodes above head.level (behind route nodes) (rw e f.0)),
 )
   where
     f : SuccessorFitsAt m got nodes (Head route above n)

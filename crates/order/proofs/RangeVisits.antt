@@ -21,20 +21,20 @@ use Rattle.prims.specs.Vlx.Known.{IsSame}
 use Rattle.prims.specs.declared.llx.LlxAt.TheVariants.{Start as LlxStart}
 use Rattle.prims.specs.declared.llx.LlxRun.{LlxRun}
 use Rattle.prims.specs.declared.snap.Snap.{Snap}
-use Rattle.spelling.specs.declared.pair.Pair.{Pair}
-use Rattle.spelling.specs.OrderedMap.{between, range, Range, ManyPairs}
-use Rattle.spelling.specs.Runs.{IsTreeRun}
-use Rattle.spelling.specs.Spelled.{Spells}
-use Rattle.spelling.specs.TreeShape.{TreeAllows}
-use Rattle.spelling.specs.TreeWords.{class, is_leaf, level, rank}
-use Rattle.spelling.proofs.Lemmas.{root_head, run_spells, stood_settled, SameSettled, settled_class, settled_leaf, settled_rank}
+use Rattle.ordered_map.specs.declared.pair.Pair.{Pair}
+use Rattle.ordered_map.specs.OrderedMap.{between, range, Range, ManyPairs}
+use Rattle.ordered_map.specs.Runs.{IsTreeRun}
+use Rattle.ordered_map.specs.Spelled.{Spells}
+use Rattle.ordered_map.specs.TreeShape.{TreeAllows}
+use Rattle.ordered_map.specs.TreeWords.{class, is_leaf, level, rank}
+use Rattle.ordered_map.proofs.Lemmas.{root_head, run_spells, stood_settled, SameSettled, settled_class, settled_leaf, settled_rank}
 use Rattle.template.specs.Trails.{IsOwnMoment}
-use Rattle.order.specs.Kept.{idle_over, root_there, stood_opened}
-use Rattle.order.specs.Reads.{from, AllHold, Whenever, HasStood}
+use Rattle.order.specs.Laws.Kept.{idle_if_finished, root_there, opened_if_stood}
+use Rattle.order.specs.Reads.{begun_at, AllHold, Whenever, HasStood}
 use Rattle.order.specs.Replies.{IsReplyAt}
 use Rattle.order.specs.Visits.{IsVisiting, HasVisited, IsRangeAt}
 use Rattle.order.specs.Successor.Known.{key_at, value_at}
-use Rattle.order.specs.Range.Known.{bounds_of, waiting_of, AsksForSome, AreThere, Visits, IsChoice, LooksIn, HasKey, GoesBehind, Validates, Goes}
+use Rattle.order.specs.Range.Known.{bounds_of, waiting_of, AsksForSome, AreThere, Visits, IsChoice, LooksIn, HasKey, GoesBehind, RangeValidates, RangeGoes}
 use Rattle.order.specs.declared.range.RangeRun.{RangeRun}
 use Rattle.order.proofs.Snapping.{hold_before, some_more, reads_one_more, child_there, child_rises, field_then}
 use Rattle.order.proofs.Visiting.{visits_both, visits_left, visits_right, takes, passes_below, passes_above, visits_next, visits_root, ends_all, ends_full, ends_last}
@@ -75,7 +75,7 @@ none_of_none low high m = take_zero (between low high m)
 -- The first node
 
 -- it is visited first
-pub visits_first : (m : RangeRun) (c : Call) (h : History) → Goes m c h → m.low ≤ m.high → 0 < m.most → m.snaps.items ≡ [] → m.waiting.items ≡ [] → m.taken.items ≡ [] → m.leaves ≡ m.most + 2 → Visits m c h 0
+pub visits_first : (m : RangeRun) (c : Call) (h : History) → RangeGoes m c h → m.low ≤ m.high → 0 < m.most → m.snaps.items ≡ [] → m.waiting.items ≡ [] → m.taken.items ≡ [] → m.leaves ≡ m.most + 2 → Visits m c h 0
 visits_first m c h goes ordered some snaps waiting taken leaves = record {
   stood = root_there c h goes.reads.run goes.reads.since;
   ordered = ordered;
@@ -94,8 +94,8 @@ asks_some m c h n x = ((let r = x.room in omega (arith, r)), x.ordered)
 
 -- A snapshot more
 
-module _ (m : RangeRun) (c : Call) (h : History) (snap : Snap) (goes : Goes m c h) (is : IsSnapshot c.layout h snap.node.0 snap) (snaps : Vec Snap Global) (items : snaps.items ≡ m.snaps.items ++ snap ∷ []) where
-  pub goes_one_more : Goes (record m { snaps = snaps }) c h
+module _ (m : RangeRun) (c : Call) (h : History) (snap : Snap) (goes : RangeGoes m c h) (is : IsSnapshot c.layout h snap.node.0 snap) (snaps : Vec Snap Global) (items : snaps.items ≡ m.snaps.items ++ snap ∷ []) where
+  pub goes_one_more : RangeGoes (record m { snaps = snaps }) c h
   goes_one_more = record { reads = rw items (reads_one_more c h m.snaps.items snap goes.reads is); small = goes.small; few = goes.few }
 
   module _ (low : ℕ) (left right : Bool) (x : LooksIn m c h low left right snap.node.0) where
@@ -193,16 +193,16 @@ gt_of : (a b : ℕ) → leb a b ≡ false → b < a
 gt_of a b p = ⊎_elim (λ i. i) (λ i. absurd (let f : false ≡ true = sym p ∙ le-leb a b i in cc)) (split b a)
 
 -- an LLX may begin there
-pub look_ready : (m : RangeRun) (c : Call) (h : History) (n : ℕ) (llx : LlxRun) → Goes m c h → HasStood c h n → llx.node.0 ≡ n → llx.at ≡ LlxStart → LlxIsReady TreeAllows llx (from c h) h None
+pub look_ready : (m : RangeRun) (c : Call) (h : History) (n : ℕ) (llx : LlxRun) → RangeGoes m c h → HasStood c h n → llx.node.0 ≡ n → llx.at ≡ LlxStart → LlxIsReady TreeAllows llx (begun_at c h) h None
 look_ready m c h n llx goes stood is at = record {
-  opened = rw is (stood_opened c.layout h n goes.reads.run stood.stood);
+  opened = rw is (opened_if_stood c.layout h n goes.reads.run stood.stood);
   since = ends_self h;
-  quiet = quiet_at_start c.layout c.pass h (idle_over c h goes.reads.run.1.lawful goes.reads.over);
-  known = subst (LlxKnows (from c h) h llx.node.0) (sym at) tt;
+  quiet = quiet_at_start c.layout c.pass h (idle_if_finished c h goes.reads.run.1.lawful goes.reads.over);
+  known = subst (LlxKnows (begun_at c h) h llx.node.0) (sym at) tt;
   told = at;
 }
 
-module _ (m : RangeRun) (c : Call) (h : History) (n : ℕ) (goes : Goes m c h) (x : Visits m c h n) where
+module _ (m : RangeRun) (c : Call) (h : History) (n : ℕ) (goes : RangeGoes m c h) (x : Visits m c h n) where
   same_then : (b : History) → IsTreeRun c.layout b → Extends b h → SameSettled (value h) (value b) n
   same_then b run e = stood_settled c.layout b h n run e x.stood.stood
 
@@ -282,7 +282,7 @@ one_longer [] p = refl
 one_longer (x ∷ xs) p = let e = one_longer xs p in omega (arith, e)
 
 -- its pair is taken
-pub pair_taken : (m : RangeRun) (c : Call) (h : History) (n : ℕ) (p : Pair) (taken : Vec Pair Global) → Goes m c h → IsOwnMoment c h → HasKey m c h n p.key → value_at h n ≡ p.value → taken.items ≡ m.taken.items ++ p ∷ [] → GoesBehind (record m { taken = taken }) c h (m.leaves - 1)
+pub pair_taken : (m : RangeRun) (c : Call) (h : History) (n : ℕ) (p : Pair) (taken : Vec Pair Global) → RangeGoes m c h → IsOwnMoment c h → HasKey m c h n p.key → value_at h n ≡ p.value → taken.items ≡ m.taken.items ++ p ∷ [] → GoesBehind (record m { taken = taken }) c h (m.leaves - 1)
 pair_taken m c h n p taken goes own x d items = record {
   own = own;
   asks = asks_some m c h n x.visits;
@@ -337,11 +337,11 @@ last_visited m c h leaves x none b run e hold = ends_last c.layout b (bounds_of 
 
 -- The VLX
 
-pub validates : (m : RangeRun) (c : Call) (h : History) → Goes m c h → AsksForSome m → IsOwnMoment c h → Whenever c.layout h m.snaps.items (λ b. IsRangeAt c.layout b (bounds_of m) m.taken.items) → Validates m c h h
+pub validates : (m : RangeRun) (c : Call) (h : History) → RangeGoes m c h → AsksForSome m → IsOwnMoment c h → Whenever c.layout h m.snaps.items (λ b. IsRangeAt c.layout b (bounds_of m) m.taken.items) → RangeValidates m c h h
 validates m c h goes asks own x = record { own = own; asks = asks; within = ends_self h; then = goes.reads; right = λ hold. x h goes.reads.run (ends_self h) hold }
 
 -- all nodes are as they were found: the answer is the map's as the VLX began
-pub replies : (m : RangeRun) (c : Call) (begin h : History) → Validates m c h begin → IsSame (from c begin) h m.snaps.items → IsReplyAt c h (Range m.low m.high m.most) (ManyPairs m.taken.items)
+pub replies : (m : RangeRun) (c : Call) (begin h : History) → RangeValidates m c h begin → IsSame (begun_at c begin) h m.snaps.items → IsReplyAt c h (Range m.low m.high m.most) (ManyPairs m.taken.items)
 replies m c begin h x same = record {
   moment = begin;
   within = x.within;

@@ -3,9 +3,9 @@ use Rattle.std.proofs.Common.{◌≡◌, ◌^◌, ◌<◌, suc, [], subst, None}
 use Rattle.arena.specs.History.{History}
 use Rattle.arena.specs.Machines.{Call}
 use Rattle.prims.specs.Moments.{AreFinished}
-use Rattle.spelling.specs.Runs.{IsTreeRun}
-use Rattle.order.specs.Kept.{idle_over, reads_anew}
-use Rattle.order.specs.Reads.{from, Reads}
+use Rattle.ordered_map.specs.Runs.{IsTreeRun}
+use Rattle.order.specs.Laws.Kept.{idle_if_finished, reads_anew}
+use Rattle.order.specs.Reads.{begun_at, Reads}
 use Rattle.order.specs.Successor.Known.{SuccessorIsReady}
 use Rattle.order.specs.declared.successor.SuccessorAt.TheVariants.{Start}
 use Rattle.order.specs.declared.successor.SuccessorRun.{SuccessorRun}
@@ -14,7 +14,7 @@ use Rattle.order.proofs.Blaming.{begins_first}
 -- a successor that has not begun may be called, where all that its pass has taken is finished
 pub successor_ready_first : (m : SuccessorRun) (c : Call) (h : History) → IsTreeRun c.layout h → h ≡ c.start → m.key < 2 ^ 64 → AreFinished c.layout c.pass 0 h → m.at ≡ Start → m.snaps.items ≡ [] → m.limit ≡ suc m.tries → SuccessorIsReady m c h None
 successor_ready_first m c h run e small over at items all = (
-  record { reads = subst (λ k. Reads (from c k) h m.snaps.items) e (reads_anew c h m.snaps.items items run over); small = small },
+  record { reads = subst (λ k. Reads (begun_at c k) h m.snaps.items) e (reads_anew c h m.snaps.items items run over); small = small },
   at,
-  begins_first c h m.limit m.tries e (idle_over c h run.1.lawful over) all,
+  begins_first c h m.limit m.tries e (idle_if_finished c h run.1.lawful over) all,
 )

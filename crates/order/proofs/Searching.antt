@@ -6,13 +6,13 @@ use Rattle.arena.specs.declared.word.Side.TheVariants.{Left, Right}
 use Rattle.arena.specs.declared.word.Word.{Word}
 use Rattle.arena.specs.Words.{node, child}
 use Rattle.arena.specs.History.{History, value}
-use Rattle.spelling.specs.declared.pair.Pair.{Pair}
-use Rattle.spelling.specs.OrderedMap.{pair, successor}
-use Rattle.spelling.specs.Paths.{IsOnPath}
-use Rattle.spelling.specs.Spelled.{Spells}
-use Rattle.spelling.specs.TreeWords.{Tree, Leaf, Fork, root, Shows, Passes, class, is_leaf, rank}
-use Rattle.spelling.proofs.Lemmas.{first, search_next}
-use Rattle.order.specs.Search.{IsSearched, IsFirstBehind}
+use Rattle.ordered_map.specs.declared.pair.Pair.{Pair}
+use Rattle.ordered_map.specs.OrderedMap.{pair, successor}
+use Rattle.ordered_map.specs.Paths.{IsOnPath}
+use Rattle.ordered_map.specs.Spelled.{Spells}
+use Rattle.ordered_map.specs.TreeWords.{Tree, Leaf, Fork, root, Shows, Passes, class, is_leaf, rank}
+use Rattle.ordered_map.proofs.Lemmas.{first, search_next}
+use Rattle.order.specs.Laws.Search.{IsSearched, IsFirstBehind}
 use Rattle.order.proofs.Following.{low_pair, no_leaf, one_tree, search_tells}
 
 -- At a fork on the path, with k on the left of it

@@ -11,9 +11,9 @@ use Rattle.prims.specs.Laws.Linked.{IsLinked, linked_since}
 use Rattle.prims.specs.Llx.Known.{IsSnapshot}
 use Rattle.prims.specs.Snap.{child_of, snap_at}
 use Rattle.prims.specs.declared.snap.Snap.{Snap}
-use Rattle.spelling.specs.Runs.{IsTreeRun}
-use Rattle.spelling.specs.TreeWords.{is_leaf, level}
-use Rattle.spelling.proofs.Lemmas.{child_not_final, child_stood, levels_rise}
+use Rattle.ordered_map.specs.Runs.{IsTreeRun}
+use Rattle.ordered_map.specs.TreeWords.{is_leaf, level}
+use Rattle.ordered_map.proofs.Lemmas.{child_not_final, child_stood, levels_rise}
 use Rattle.order.specs.Reads.{AreSnapped, HasSnapped, Reads, AllHold, HasStood}
 
 -- a place in the longer list is one of the shorter, or the last

@@ -17,19 +17,19 @@ use Rattle.histories.specs.Descriptor.{descriptor}
 use Rattle.histories.proofs.Lemmas.{Facts, IsOwned, Logs, facts, lawful_since, logs, same, wins}
 use Rattle.prims.specs.Laws.Idle.{IsQuietSince, out_by_others}
 use Rattle.prims.proofs.Lemmas.{wins_in_progress}
-use Rattle.spelling.specs.declared.pair.Pair.{Pair}
-use Rattle.spelling.specs.OrderedMap.{MapCall, MapReply, OnePair, ManyPairs, Range, Successor, pair_or_none, range, reply, successor}
-use Rattle.spelling.specs.Runs.{IsTreeRun}
-use Rattle.spelling.specs.Spelled.{Spells}
-use Rattle.spelling.proofs.Lemmas.{one_spelling, quiet_spells, run_since}
+use Rattle.ordered_map.specs.declared.pair.Pair.{Pair}
+use Rattle.ordered_map.specs.OrderedMap.{MapCall, MapReply, OnePair, ManyPairs, Range, Successor, pair_or_none, range, reply, successor}
+use Rattle.ordered_map.specs.Runs.{IsTreeRun}
+use Rattle.ordered_map.specs.Spelled.{Spells}
+use Rattle.ordered_map.proofs.Lemmas.{one_spelling, quiet_spells, run_since}
 use Rattle.template.proofs.Lemmas.{own_since}
 use Rattle.order.specs.Range.Known.{IsSameRange, RangeIsReady, RangeAnswers, RangeReplies, RangeTurn}
-use Rattle.order.specs.Range.Steps.{range_left, IsNearer as RangeIsNearer, phase_left as range_phase, try_left as range_try}
+use Rattle.order.specs.Range.Steps.{range_left, RangeIsNearer, range_phase_left, range_try_left}
 use Rattle.order.specs.Replies.{IsReplyAt, KeepsTries}
 use Rattle.template.specs.Blame.{IsContended}
 use Rattle.order.specs.Successor.Known.{SuccessorIsReady, SuccessorAnswers, SuccessorTurn}
-use Rattle.order.specs.Successor.Steps.{successor_left, IsNearer as NextIsNearer, phase_left as next_phase, try_left as next_try}
-use Rattle.order.specs.Undisturbed.{HasLeftAll, HasLessOfTry, IsUndisturbed, TellsNext, TellsRange}
+use Rattle.order.specs.Successor.Steps.{successor_left, SuccessorIsNearer, successor_phase_left, successor_try_left}
+use Rattle.order.specs.Undisturbed.{HasLeftAll, HasLessOfTry, IsCallUndisturbed, TellsNext, TellsRange}
 use Rattle.order.specs.declared.range.RangeRun.{RangeRun}
 use Rattle.order.specs.declared.refused.Refused.{Refused}
 use Rattle.order.specs.declared.refused.Refused.TheVariants.{Contended, NoMemory}
@@ -65,7 +65,7 @@ less a b t x y e i = drop (a * t) (rw e at i)
     drop : (p : ℕ) → p + x < p + y → x < y
     drop p j = omega (arith, j)
 
-module _ (c : Call) (h : History) (run : IsTreeRun c.layout h) (alone : IsUndisturbed c h) where
+module _ (c : Call) (h : History) (run : IsTreeRun c.layout h) (alone : IsCallUndisturbed c h) where
   -- no other's SCX-record is in progress at any moment of the call
   others_rest : (k : History) → Extends h k → Extends k c.start → (t : ℕ) → IsOthersScx c.layout c.pass t → ¬ IsInProgress k t
   others_rest (Start mode) e f t o x = alone.rest t (subst (λ m. IsInProgress m t) (sym f) x)
@@ -84,18 +84,18 @@ module _ (c : Call) (h : History) (run : IsTreeRun c.layout h) (alone : IsUndist
 
   -- and a turn leaves fewer steps of this try
   module _ (nodes : ℕ) where
-    next_in_try : (old now : SuccessorRun) (turn : Turn (Result (Option Pair) Refused)) → now.tries ≡ old.tries → NextIsNearer now nodes turn (successor_left old nodes) → HasLessOfTry turn (next_phase now nodes now.at) (next_phase old nodes old.at)
-    next_in_try old now (Ask step) is near = less old.tries now.tries (next_try nodes) _ _ is near
+    next_in_try : (old now : SuccessorRun) (turn : Turn (Result (Option Pair) Refused)) → now.tries ≡ old.tries → SuccessorIsNearer now nodes turn (successor_left old nodes) → HasLessOfTry turn (successor_phase_left now nodes now.at) (successor_phase_left old nodes old.at)
+    next_in_try old now (Ask step) is near = less old.tries now.tries (successor_try_left nodes) _ _ is near
     next_in_try old now (Done answer) is near = tt
 
-    range_in_try : (old now : RangeRun) (turn : Turn (Result (Vec Pair Global) Refused)) → now.tries ≡ old.tries → now.most ≡ old.most → RangeIsNearer now nodes turn (range_left old nodes) → HasLessOfTry turn (range_phase now nodes now.at) (range_phase old nodes old.at)
-    range_in_try old now (Ask step) is most near = less old.tries now.tries (range_try old.most nodes) _ _ is (subst (λ m. now.tries * range_try m nodes + range_phase now nodes now.at < range_left old nodes) most near)
+    range_in_try : (old now : RangeRun) (turn : Turn (Result (Vec Pair Global) Refused)) → now.tries ≡ old.tries → now.most ≡ old.most → RangeIsNearer now nodes turn (range_left old nodes) → HasLessOfTry turn (range_phase_left now nodes now.at) (range_phase_left old nodes old.at)
+    range_in_try old now (Ask step) is most near = less old.tries now.tries (range_try_left old.most nodes) _ _ is (subst (λ m. now.tries * range_try_left m nodes + range_phase_left now nodes now.at < range_left old nodes) most near)
     range_in_try old now (Done answer) is most near = tt
 
-    pub alone_next_try : (old now : SuccessorRun) (turn : Turn (Result (Option Pair) Refused)) → KeepsTries c h old.tries now.tries turn → NextIsNearer now nodes turn (successor_left old nodes) → (now.tries ≡ old.tries) × HasLessOfTry turn (next_phase now nodes now.at) (next_phase old nodes old.at)
+    pub alone_next_try : (old now : SuccessorRun) (turn : Turn (Result (Option Pair) Refused)) → KeepsTries c h old.tries now.tries turn → SuccessorIsNearer now nodes turn (successor_left old nodes) → (now.tries ≡ old.tries) × HasLessOfTry turn (successor_phase_left now nodes now.at) (successor_phase_left old nodes old.at)
     alone_next_try old now turn keeps near = (tries_kept old.tries now.tries turn keeps, next_in_try old now turn (tries_kept old.tries now.tries turn keeps) near)
 
-    pub alone_range_try : (old now : RangeRun) (turn : Turn (Result (Vec Pair Global) Refused)) → IsSameRange old now → KeepsTries c h old.tries now.tries turn → RangeIsNearer now nodes turn (range_left old nodes) → (now.tries ≡ old.tries) × HasLessOfTry turn (range_phase now nodes now.at) (range_phase old nodes old.at)
+    pub alone_range_try : (old now : RangeRun) (turn : Turn (Result (Vec Pair Global) Refused)) → IsSameRange old now → KeepsTries c h old.tries now.tries turn → RangeIsNearer now nodes turn (range_left old nodes) → (now.tries ≡ old.tries) × HasLessOfTry turn (range_phase_left now nodes now.at) (range_phase_left old nodes old.at)
     alone_range_try old now turn is keeps near = (tries_kept old.tries now.tries turn keeps, range_in_try old now turn (tries_kept old.tries now.tries turn keeps) is.2 near)
 
   -- a pass that was idle all the time finds all at rest
@@ -140,7 +140,7 @@ module _ (c : Call) (h : History) (run : IsTreeRun c.layout h) (alone : IsUndist
     alone_replies : (call : MapCall) (told : MapReply) (map : List Pair) → IsReplyAt c h call told → Spells c.layout (value c.start) map → told ≡ reply call map
     alone_replies call told map x spells = sym x.gives ∙ ap (reply call) (one_spelling c.layout (value x.moment) x.map map x.spelled (still map spells x.moment x.within (own_since c x.moment x.own)).spelled)
 
-module _ (c : Call) (h : History) (alone : IsUndisturbed c h) (map : List Pair) (spells : Spells c.layout (value c.start) map) (run : IsTreeRun c.layout h) (quiet : IsQuietSince c.layout c.pass c.start h) where
+module _ (c : Call) (h : History) (alone : IsCallUndisturbed c h) (map : List Pair) (spells : Spells c.layout (value c.start) map) (run : IsTreeRun c.layout h) (quiet : IsQuietSince c.layout c.pass c.start h) where
   -- a successor by itself
   module _ (old now : SuccessorRun) (key : now.key ≡ old.key) where
     next_told : (answer : Result (Option Pair) Refused) → SuccessorAnswers now c h answer → TellsNext map old.key answer
@@ -168,7 +168,7 @@ module _ (c : Call) (h : History) (alone : IsUndisturbed c h) (map : List Pair) 
     range_turn (Done answer) x = (still c h run alone quiet map spells h (ends_self h) alone.since, range_told answer x)
 
 -- what a read may be called with tells that its pass was idle since the call began
-module _ (c : Call) (h : History) (alone : IsUndisturbed c h) (map : List Pair) (spells : Spells c.layout (value c.start) map) where
+module _ (c : Call) (h : History) (alone : IsCallUndisturbed c h) (map : List Pair) (spells : Spells c.layout (value c.start) map) where
   pub alone_next : (old now : SuccessorRun) (turn : Turn (Result (Option Pair) Refused)) (got : Option ℕ) → SuccessorIsReady old c h got → now.key ≡ old.key → SuccessorTurn c h now turn → HasLeftAll c h map × MatchTurn turn (λ _. Unit {0}) (TellsNext map old.key)
   alone_next old now turn None ready key x = next_turn c h alone map spells ready.0.reads.run ready.0.reads.quiet old now key turn x
   alone_next old now turn (Some v) ready key x = next_turn c h alone map spells ready.2.reads.run ready.1.quiet old now key turn x

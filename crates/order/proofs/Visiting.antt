@@ -10,10 +10,10 @@ use Rattle.arena.specs.declared.word.Side.TheVariants.{Left, Right}
 use Rattle.arena.specs.declared.word.Word.{Word}
 use Rattle.arena.specs.Words.{node, child}
 use Rattle.arena.specs.History.{History, value}
-use Rattle.spelling.specs.declared.pair.Pair.{Pair}
-use Rattle.spelling.specs.OrderedMap.{pair, between}
-use Rattle.spelling.specs.Spelled.{IsTree, Spells}
-use Rattle.spelling.specs.TreeWords.{Tree, Leaf, Fork, root, Shows, class, is_leaf, rank, pairs, leaf_pairs}
+use Rattle.ordered_map.specs.declared.pair.Pair.{Pair}
+use Rattle.ordered_map.specs.OrderedMap.{pair, between}
+use Rattle.ordered_map.specs.Spelled.{IsTree, Spells}
+use Rattle.ordered_map.specs.TreeWords.{Tree, Leaf, Fork, root, Shows, class, is_leaf, rank, pairs, leaf_pairs}
 use Rattle.order.specs.Visits.{Bounds, part_pairs, IsVisiting, HasVisited, IsRangeAt}
 use Rattle.order.proofs.Following.{no_leaf, one_tree, open_part}
 

@@ -2,9 +2,7 @@ pub mod Replies
 pub mod Tries
 pub mod Reads
 pub mod Undisturbed
-pub mod Kept
-pub mod Search
-pub mod Depth
 pub mod Successor
 pub mod Visits
 pub mod Range
+pub mod Laws

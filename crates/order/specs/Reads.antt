@@ -12,12 +12,12 @@ use Rattle.prims.specs.Llx.Known.{IsSnapshot}
 use Rattle.prims.specs.Moments.{AreFinished}
 use Rattle.prims.specs.Snap.{snap_at}
 use Rattle.prims.specs.declared.snap.Snap.{Snap}
-use Rattle.spelling.specs.Paths.{WasInTree}
-use Rattle.spelling.specs.Runs.{IsTreeRun}
+use Rattle.ordered_map.specs.Paths.{WasInTree}
+use Rattle.ordered_map.specs.Runs.{IsTreeRun}
 
 -- the same call, as if it had begun later
-abbrev pub from : Call → History → Call
-from c b = record c { start = b }
+abbrev pub begun_at : Call → History → Call
+begun_at c b = record c { start = b }
 
 -- the snapshot was right at a moment of the call
 pub record HasSnapped (c : Call) (h : History) (snap : Snap) : Type 0 where

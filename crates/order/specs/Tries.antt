@@ -4,7 +4,7 @@ use Rattle.std.specs.Prelude.{◌≡◌, ℕ, suc, ◌+◌}
 use Rattle.arena.specs.History.{History, Extends}
 use Rattle.arena.specs.Machines.{Call}
 use Rattle.prims.specs.Laws.Idle.{IsQuietSince}
-use Rattle.spelling.specs.Tries.{tries_begun, IsNewestTry}
+use Rattle.ordered_map.specs.Tries.{tries_begun, IsNewestTry}
 
 -- The call is about to begin a try, of `limit` in all, behind which so many will be left. None of
 -- its pass's SCX-records was in progress since the call began.

@@ -7,20 +7,20 @@ use Rattle.arena.specs.History.{History, ◌⊳◌, value, Extends}
 use Rattle.arena.specs.Log.{log}
 use Rattle.arena.specs.Machines.{Call, MatchTurn}
 use Rattle.arena.specs.declared.machine.Turn.{Turn}
-use Rattle.spelling.specs.declared.pair.Pair.{Pair}
-use Rattle.spelling.specs.OrderedMap.{successor, range}
-use Rattle.spelling.specs.Spelled.{Spells}
+use Rattle.ordered_map.specs.declared.pair.Pair.{Pair}
+use Rattle.ordered_map.specs.OrderedMap.{successor, range}
+use Rattle.ordered_map.specs.Spelled.{Spells}
 use Rattle.order.specs.declared.refused.Refused.{Refused}
 use Rattle.order.specs.declared.refused.Refused.TheVariants.{Contended, NoMemory}
 
 -- no SCX-record is in progress
-abbrev pub IsAtRest : History → Type 0
-IsAtRest h = (s : ℕ) → ¬ IsInProgress h s
+abbrev pub HasNoneInProgress : History → Type 0
+HasNoneInProgress h = (s : ℕ) → ¬ IsInProgress h s
 
 -- Nothing was in progress as the call began, and each row since then is its pass's.
-pub record IsUndisturbed (c : Call) (h : History) : Type 0 where
+pub record IsCallUndisturbed (c : Call) (h : History) : Type 0 where
   pub since : Extends h c.start
-  pub rest : IsAtRest c.start
+  pub rest : HasNoneInProgress c.start
   pub own : (row : Row) (before : History) → Extends h (row ⊳ before) → Extends before c.start → row.pass.0 ≡ c.pass
 
 -- where a turn asks for a step, fewer are left then in this try than were before it

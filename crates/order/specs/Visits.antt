@@ -3,11 +3,11 @@ use Rattle.std.specs.Prelude.{◌≡◌, ◌≢◌, ℕ, ◌+◌, ◌<◌, ◌�
 use Rattle.arena.specs.declared.layout.Layout.{Layout}
 use Rattle.arena.specs.declared.number.NodeNo.{NodeNo}
 use Rattle.arena.specs.History.{History, value}
-use Rattle.spelling.specs.declared.pair.Pair.{Pair}
-use Rattle.spelling.specs.OrderedMap.{between, range}
-use Rattle.spelling.specs.Spelled.{IsTree, Spells}
-use Rattle.spelling.specs.TreeWords.{Tree, pairs}
-use Rattle.order.specs.Search.{IsPartAt}
+use Rattle.ordered_map.specs.declared.pair.Pair.{Pair}
+use Rattle.ordered_map.specs.OrderedMap.{between, range}
+use Rattle.ordered_map.specs.Spelled.{IsTree, Spells}
+use Rattle.ordered_map.specs.TreeWords.{Tree, pairs}
+use Rattle.order.specs.Laws.Search.{IsPartAt}
 
 -- the keys that are asked for, and how many pairs at most
 pub record Bounds : Type 0 where

@@ -31,43 +31,43 @@ use Rattle.prims.specs.declared.llx.LlxAt.TheVariants.{Start}
 use Rattle.prims.specs.declared.vlx.VlxRun.{VlxRun}
 use Rattle.script.specs.declared.command.Command.{Command}
 use Rattle.script.specs.declared.command.Command.TheVariants.{Llx as LlxCommand, Vlx as VlxCommand, Scx as ScxCommand, Set as SetCommand, Map}
-use Rattle.spelling.specs.declared.request.Request.TheVariants.{Range as RangeCommand}
+use Rattle.ordered_map.specs.declared.request.Request.TheVariants.{Range as RangeCommand}
 use Rattle.player.specs.declared.run.Run.{Run}
 use Rattle.player.specs.declared.run.Run.TheVariants.{Llx, Scx, Vlx, Map as MapRun}
 use Rattle.player.specs.declared.client.Client.{Client}
 use Rattle.player.specs.declared.client.Put.{Put}
 use Rattle.record.specs.declared.record.Answer.{Answer}
 use Rattle.record.specs.declared.record.Answer.TheVariants.{Unlinked, Map as MapAnswer}
-use Rattle.record.specs.CommandRules.{most_steps}
+use Rattle.record.specs.CommandRules.{command_steps}
 use Rattle.arena.specs.Share.{Remaining}
 use Rattle.arena.specs.Fills.{IsOwnScx, IsTakenScx}
 use Rattle.prims.specs.Moments.{AreFinished}
 use Rattle.arena.specs.Machines.{Call as MachineCall}
-use Rattle.updates.specs.Known.{RestsWith}
-use Rattle.updates.specs.Laws.Entered.{none_yet}
-use Rattle.dict.specs.Begins.{dict_begins}
+use Rattle.edits.specs.Known.{RestsWith}
+use Rattle.edits.specs.Laws.Entered.{none_yet}
+use Rattle.dict.specs.Laws.Begins.{dict_begins}
 use Rattle.dict.specs.Calls.{AsksForPairs, IsFewCall, call_in, share_of}
 use Rattle.dict.specs.Known.{IsUnbegun as IsFresh}
-use Rattle.spelling.specs.CallRules.{most_steps as most_map_steps}
+use Rattle.ordered_map.specs.CallRules.{most_steps as most_map_steps}
 use Rattle.dict.specs.Steps.{map_left}
 use Rattle.dict.specs.Typed.{IsTypedCall}
 use Rattle.dict.specs.declared.dict.DictRun.{DictRun}
-use Rattle.spelling.specs.OrderedMap.{MapCall}
-use Rattle.spelling.specs.Requests.{AsksForFew, map_request}
-use Rattle.spelling.specs.declared.request.Request.{Request}
+use Rattle.ordered_map.specs.OrderedMap.{MapCall}
+use Rattle.ordered_map.specs.Requests.{AsksForFew, map_request}
+use Rattle.ordered_map.specs.declared.request.Request.{Request}
 use Rattle.dict.specs.Words.{IsNumber}
 use Rattle.player.specs.RunKnown.{IsForNothing, RunAsksFirst}
 use Rattle.player.proofs.Shapes.{as_numbers}
 use Rattle.player.specs.RunSteps.{then_left}
 use Rattle.prims.specs.Scx.Known.{nodes_of}
-use Rattle.player.specs.ClientView.{ClientView, no_hand, held, IsSound, Rests, Refuses, Starts, IsLlxOf, IsMachineOf, IsUnbegun, command_of, machine_call, GoesOn, IsSameCall, CanPut, Puts, BeginsOrRefuses, IsNextAction}
+use Rattle.player.specs.ClientView.{ClientView, no_hand, held, IsSound, Rests, Refuses, Starts, IsLlxOf, IsMachineOf, IsNextCallUnbegun, command_of, machine_call, GoesOn, IsSameCall, CanPut, Puts, BeginsOrRefuses, IsNextAction}
 use Rattle.player.specs.declared.client.NextAction.{NextAction}
 use Rattle.player.specs.declared.client.NextAction.TheVariants.{Finished, Answers, Asks}
 use Rattle.script.specs.declared.call.Call.{Call}
 use Rattle.std.proofs.lemmas.Option.{slice_get_read, slice_get_within, get_or_from_slice_get}
 use Rattle.player.proofs.Commands.{next_at}
 use Rattle.std.specs.Global.{Global}
-use Rattle.spelling.specs.declared.reply.Reply.TheVariants.{Pairs}
+use Rattle.ordered_map.specs.declared.reply.Reply.TheVariants.{Pairs}
 
 none_late : (won : Option ℕ) (turn begin : ℕ) → won ≡ None → won ≡ Some turn → begin ≤ turn
 none_late won turn begin e d = cc
@@ -77,13 +77,13 @@ pub nothing_kept : {X : Type 0} {found : Option Found} {f : Found} → found ≡
 nothing_kept e d = absurd (cc)
 
 -- an LLX from its start, and the SCX that may follow it, make no more steps than their command may
-llx_few : (tries : ℕ) (command : Command) (n : ℕ) (then : Option Put) → IsLlxOf command n then → (taken : ℕ) → llx_left Start + then_left then ≤ most_steps command tries taken
+llx_few : (tries : ℕ) (command : Command) (n : ℕ) (then : Option Put) → IsLlxOf command n then → (taken : ℕ) → llx_left Start + then_left then ≤ command_steps command tries taken
 llx_few tries (LlxCommand cell) n None f taken = omega arith
 llx_few tries (SetCommand field value) n (Some put) f taken = omega arith
 llx_few tries command n then f taken = absurd f
 
 -- an LLX of a cell
-pub llx_starts : (v : ClientView) (began : Option ℕ) (c : Client) (m : LlxRun) (then : Option Put) (command : Command) → IsSound v → v.layout.mode ≡ Records → Rests v c → IsUnbegun v began → m.at ≡ Start → m.node.0 ≤ 8 → command_of v c ≡ Some command → IsLlxOf command m.node.0 then → Starts v c (Llx m) then
+pub llx_starts : (v : ClientView) (began : Option ℕ) (c : Client) (m : LlxRun) (then : Option Put) (command : Command) → IsSound v → v.layout.mode ≡ Records → Rests v c → IsNextCallUnbegun v began → m.at ≡ Start → m.node.0 ≤ 8 → command_of v c ≡ Some command → IsLlxOf command m.node.0 then → Starts v c (Llx m) then
 llx_starts v began c m then command sound mode r u start i is f = record {
   works = record { mode = mode; stands = r.stands; holds = r.holds; newest = tt; command = command; is = is; run_of = (i, f); limit = tt; is_pass = r.stands.is_pass; start = v.past; since = ends_self v.past; begun = sym u.start; moments = λ j p. absurd (omega arith); alone = λ j p. absurd (omega arith); room = tt; took = taken_none v c.pass.0 (no_hand (held c)) u.start; won = u.won; late = λ turn e. none_late v.won turn c.begin u.won e };
   none = r.none;
@@ -92,7 +92,7 @@ llx_starts v began c m then command sound mode r u start i is f = record {
 }
 
 -- a VLX of unspent snapshots
-pub vlx_starts : (v : ClientView) (began : Option ℕ) (c : Client) (m : VlxRun (List Snap)) (cells : _) → IsSound v → v.layout.mode ≡ Records → Rests v c → IsUnbegun v began → m.asked ≡ 0 → 0 < length m.snaps → nodes_of m.snaps ≡ cells_of cells → ((i : ℕ) → i < length m.snaps → (moment : History) × (v.linked (snap_at m.snaps i).node.0 ≡ Some moment) × IsUnspent v.layout c.pass.0 v.past (snap_at m.snaps i) moment) → command_of v c ≡ Some (VlxCommand cells) → vlx_left m.snaps m.asked ≡ length (cells_of cells) → Starts v c (Vlx m) None
+pub vlx_starts : (v : ClientView) (began : Option ℕ) (c : Client) (m : VlxRun (List Snap)) (cells : _) → IsSound v → v.layout.mode ≡ Records → Rests v c → IsNextCallUnbegun v began → m.asked ≡ 0 → 0 < length m.snaps → nodes_of m.snaps ≡ cells_of cells → ((i : ℕ) → i < length m.snaps → (moment : History) × (v.linked (snap_at m.snaps i).node.0 ≡ Some moment) × IsUnspent v.layout c.pass.0 v.past (snap_at m.snaps i) moment) → command_of v c ≡ Some (VlxCommand cells) → vlx_left m.snaps m.asked ≡ length (cells_of cells) → Starts v c (Vlx m) None
 vlx_starts v began c m cells sound mode r u start some nodes l is left = record {
   works = record { mode = mode; stands = r.stands; holds = r.holds; newest = tt; command = VlxCommand cells; is = is; run_of = nodes; limit = tt; is_pass = r.stands.is_pass; start = v.past; since = ends_self v.past; begun = sym u.start; moments = λ i p. let x = l i p in record { moment = x.0; found = x.2.usable.found; source = x.1 }; alone = λ i p. let x = l i p in x.2.alone; room = tt; took = taken_none v c.pass.0 (no_hand (held c)) u.start; won = u.won; late = λ turn e. none_late v.won turn c.begin u.won e };
   none = r.none;
@@ -101,7 +101,7 @@ vlx_starts v began c m cells sound mode r u start some nodes l is left = record 
 }
 
 -- a request for nothing is answered so at once
-pub map_refuses : (v : ClientView) (began : Option ℕ) (c : Client) (request : Request ℕ ℕ) (found : Vec (ℕ × ℕ) Global) → Rests v c → IsUnbegun v began → command_of v c ≡ Some (Map request) → IsForNothing request → found.items ≡ [] → Refuses v c (MapAnswer (Pairs found))
+pub map_refuses : (v : ClientView) (began : Option ℕ) (c : Client) (request : Request ℕ ℕ) (found : Vec (ℕ × ℕ) Global) → Rests v c → IsNextCallUnbegun v began → command_of v c ≡ Some (Map request) → IsForNothing request → found.items ≡ [] → Refuses v c (MapAnswer (Pairs found))
 map_refuses v began c (RangeCommand low high most) found r u is nothing none = record {
   rests = r;
   command = Map (RangeCommand low high most);
@@ -123,7 +123,7 @@ few_pairs : (request : Request ℕ ℕ) → AsksForFew request → IsFewCall (ma
 few_pairs (RangeCommand low high most) few = few
 few_pairs request few = tt
 
-map_few : (request : Request ℕ ℕ) (tries taken : ℕ) → most_map_steps (map_request request) tries taken ≡ most_steps (Map request) tries taken
+map_few : (request : Request ℕ ℕ) (tries taken : ℕ) → most_map_steps (map_request request) tries taken ≡ command_steps (Map request) tries taken
 map_few request tries taken = refl
 
 -- a client at rest rests with its share
@@ -146,7 +146,7 @@ pub record IsMadeOf (v : ClientView) (c : Client) (request : Request ℕ ℕ) (m
   pub steps : (nodes : ℕ) → map_left m.run nodes ≤ most_map_steps (call_in m.run) v.tries nodes
 
 -- a call of the map from its start, to which the client gives its share
-pub map_starts : (v : ClientView) (began : Option ℕ) (c : Client) (m : DictRun ℕ ℕ) (request : Request ℕ ℕ) → IsSound v → v.layout.mode ≡ Tree → Rests v c → IsUnbegun v began → AsksForFew request → AsksForPairs (map_request request) → IsMadeOf v c request m → command_of v c ≡ Some (Map request) → Starts v (record c { share = None }) (MapRun m) None
+pub map_starts : (v : ClientView) (began : Option ℕ) (c : Client) (m : DictRun ℕ ℕ) (request : Request ℕ ℕ) → IsSound v → v.layout.mode ≡ Tree → Rests v c → IsNextCallUnbegun v began → AsksForFew request → AsksForPairs (map_request request) → IsMadeOf v c request m → command_of v c ≡ Some (Map request) → Starts v (record c { share = None }) (MapRun m) None
 map_starts v began c m request sound mode r u few asks made is = record {
   works = record {
     mode = mode;
@@ -244,7 +244,7 @@ unkept_is : (v : ClientView) (c : Client) → Rests v c → (n : ℕ) → n ≤ 
 unkept_is v c r n i e = ⊎_elim (λ z. absurd (among_none n z)) (λ z. z) (r.stands.unkept n i e)
 
 -- what is kept of different cells is given to an SCX
-pub scx_can_put : (v : ClientView) (began : Option ℕ) (c : Client) (update : _) (snaps : List Snap) (finalize : List NodeNo) (field : NodeNo × Side) (x : ℕ) → v.layout.mode ≡ Records → Rests v c → IsUnbegun v began → command_of v c ≡ Some (ScxCommand update) → AllKept c.kept snaps → nodes_of snaps ≡ update_cells update → map (λ (n : NodeNo). n.0) finalize ≡ update_finalize update → (field.0.0 ≡ (update_field update).0) × (field.1 ≡ (update_field update).1) → x ≡ update_value update → CanPut v v.linked c snaps (map (λ (n : NodeNo). n.0) finalize) (field.0.0, field.1) x
+pub scx_can_put : (v : ClientView) (began : Option ℕ) (c : Client) (update : _) (snaps : List Snap) (finalize : List NodeNo) (field : NodeNo × Side) (x : ℕ) → v.layout.mode ≡ Records → Rests v c → IsNextCallUnbegun v began → command_of v c ≡ Some (ScxCommand update) → AllKept c.kept snaps → nodes_of snaps ≡ update_cells update → map (λ (n : NodeNo). n.0) finalize ≡ update_finalize update → (field.0.0 ≡ (update_field update).0) × (field.1 ≡ (update_field update).1) → x ≡ update_value update → CanPut v v.linked c snaps (map (λ (n : NodeNo). n.0) finalize) (field.0.0, field.1) x
 scx_can_put v began c update snaps finalize field x mode r u is kept nodes removed at value = record {
   mode = mode;
   rests = record { stands = r.stands; holds = r.holds; none = r.none };
@@ -267,7 +267,7 @@ scx_can_put v began c update snaps finalize field x mode r u is kept nodes remov
 pub scx_linked : (v : ClientView) (c : Client) (command : Command) (snaps : List Snap) (cells : List ℕ) → Rests v c → AllKept c.kept snaps → nodes_of snaps ≡ cells → AreLinked v.linked cells
 scx_linked v c command snaps cells r kept nodes = are_linked v c command snaps cells nodes (λ i p. let y = kept_linked v.layout c.pass.0 v.past v.linked c.kept snaps kept r.stands.kept i p in (y.0, y.1))
 
-pub begins_put : (v : ClientView) (began : Option ℕ) (old new : Client) (update : _) (answer : Option Answer) → IsUnbegun v began → command_of v old ≡ Some (ScxCommand update) → AreLinked v.linked (update_cells update) → Puts v v.linked old new answer → BeginsOrRefuses v old.begin old new answer
+pub begins_put : (v : ClientView) (began : Option ℕ) (old new : Client) (update : _) (answer : Option Answer) → IsNextCallUnbegun v began → command_of v old ≡ Some (ScxCommand update) → AreLinked v.linked (update_cells update) → Puts v v.linked old new answer → BeginsOrRefuses v old.begin old new answer
 begins_put v began old new update None u is linked p = (p.same, p.begin, (p.running, p.is, p.waits))
 begins_put v began old new update (Some answer) u is linked p =
     let w = full_answer v.layout v.past new.pass.0 (held new) answer p.2.holds.share p.3 in
@@ -275,10 +275,10 @@ begins_put v began old new update (Some answer) u is linked p =
     (p.0, p.1, record { rests = record { stands = p.2.stands; holds = p.2.holds; none = p.2.none }; command = ScxCommand update; is = rw p.0.pass is; refusal = tt; right = (linked, w.few); unwon = u.won; took = taken_nothing v new.pass.0 (held new) 1 1 p.2.holds.share (taken_none v new.pass.0 (no_hand (held new)) u.start) })
 
 -- a cell without a snapshot is a refusal of an SCX and of a VLX
-pub scx_unlinked : (v : ClientView) (began : Option ℕ) (c : Client) (update : _) (node : NodeNo) → Rests v c → IsUnbegun v began → command_of v c ≡ Some (ScxCommand update) → IsFirstUnkept c.kept (update_cells update) node.0 → Refuses v c (Unlinked node)
+pub scx_unlinked : (v : ClientView) (began : Option ℕ) (c : Client) (update : _) (node : NodeNo) → Rests v c → IsNextCallUnbegun v began → command_of v c ≡ Some (ScxCommand update) → IsFirstUnkept c.kept (update_cells update) node.0 → Refuses v c (Unlinked node)
 scx_unlinked v began c update node r u is x = record { rests = r; command = ScxCommand update; is = is; refusal = tt; right = first_unlinked v.layout c.pass.0 v.past v.linked c.kept (update_cells update) node.0 r.stands.kept (unkept_is v c r) x; unwon = u.won; took = taken_nothing v c.pass.0 (held c) 1 1 r.holds.share (taken_none v c.pass.0 (no_hand (held c)) u.start) }
 
-pub vlx_unlinked : (v : ClientView) (began : Option ℕ) (c : Client) (cells : _) (node : NodeNo) → Rests v c → IsUnbegun v began → command_of v c ≡ Some (VlxCommand cells) → IsFirstUnkept c.kept (cells_of cells) node.0 → Refuses v c (Unlinked node)
+pub vlx_unlinked : (v : ClientView) (began : Option ℕ) (c : Client) (cells : _) (node : NodeNo) → Rests v c → IsNextCallUnbegun v began → command_of v c ≡ Some (VlxCommand cells) → IsFirstUnkept c.kept (cells_of cells) node.0 → Refuses v c (Unlinked node)
 vlx_unlinked v began c cells node r u is x = record { rests = r; command = VlxCommand cells; is = is; refusal = tt; right = first_unlinked v.layout c.pass.0 v.past v.linked c.kept (cells_of cells) node.0 r.stands.kept (unkept_is v c r) x; unwon = u.won; took = taken_nothing v c.pass.0 (held c) 0 0 r.holds.share (taken_none v c.pass.0 (no_hand (held c)) u.start) }
 
 some_call : (a b : Call) → Some a ≡ Some b → a ≡ b

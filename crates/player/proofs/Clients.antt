@@ -20,10 +20,10 @@ use Rattle.player.specs.declared.client.Client.{Client}
 use Rattle.player.specs.declared.client.Running.{Running}
 use Rattle.player.specs.declared.client.Put.{Put}
 use Rattle.record.specs.declared.record.Answer.{Answer}
-use Rattle.record.specs.CommandRules.{most_steps}
+use Rattle.record.specs.CommandRules.{command_steps}
 use Rattle.player.specs.RunKnown.{RunWaits, RunAnswers, IsSameMachine, run_mode, share_behind}
 use Rattle.player.specs.RunSteps.{run_left, then_left, left_of}
-use Rattle.player.specs.ClientView.{ClientView, Hand, in_hand, snaps_of, IsStart, IsPutOf, IsScxOf, held, HoldsShare, Holds, TakesInHand, HasNewest, IsMachineOf, IsRoomy, MayTryAll, IsWonBy, IsClientState, Works, Hears, Answered, machine_call, GoesOn, Told}
+use Rattle.player.specs.ClientView.{ClientView, Hand, in_hand, snaps_of, IsStart, IsPutOf, IsScxOf, held, HoldsShare, Holds, TakesInHand, HasNewest, IsMachineOf, IsRoomy, MayTryAll, IsWonBy, IsClientState, Works, Hears, Answered, machine_call, GoesOn, HasBeenTold}
 
 -- what does not change while a machine goes on
 record IsKept (left : Remaining) (old now : Run) : Type 0 where
@@ -111,7 +111,7 @@ works_so v c running old now then same w =
     }
 
 -- a machine that asks for a step waits for it, and has fewer steps left
-pub goes_on : (v : ClientView) (c : Client) (old now : Run) (then : Option Put) (step : Step) (w : Works v c old then) → IsSameMachine old now → RunWaits now (machine_call v c w.is_pass w.start) v.past step → ((taken : ℕ) → length (taken_nodes v.past) ≤ taken → v.steps + left_of old then taken ≤ most_steps w.command v.tries taken) → ((taken : ℕ) → length (taken_nodes v.past) ≤ taken → run_left now taken < run_left old taken) → GoesOn v c (record c { running = Some (record { run = now; then = then; step = step }) })
+pub goes_on : (v : ClientView) (c : Client) (old now : Run) (then : Option Put) (step : Step) (w : Works v c old then) → IsSameMachine old now → RunWaits now (machine_call v c w.is_pass w.start) v.past step → ((taken : ℕ) → length (taken_nodes v.past) ≤ taken → v.steps + left_of old then taken ≤ command_steps w.command v.tries taken) → ((taken : ℕ) → length (taken_nodes v.past) ≤ taken → run_left now taken < run_left old taken) → GoesOn v c (record c { running = Some (record { run = now; then = then; step = step }) })
 unfolding works_so
 goes_on v c old now then step w same waits few nearer = record {
   same = record { pass = refl; number = refl; next = refl };
@@ -158,7 +158,7 @@ is_back : (run : Run) (had : Option Remaining) → share_behind run had ≡ shar
 is_back (Map m) had = refl
 is_back run had = refl
 
-answered_back : (v : ClientView) (c : Client) (run : Run) (then : Option Put) (end : Ended) (w : Works v c run then) → c.running ≡ None → RunAnswers run (machine_call v c w.is_pass w.start) v.past end → ((taken : ℕ) → length (taken_nodes v.past) ≤ taken → v.steps + then_left then ≤ most_steps w.command v.tries taken) → Answered v (record c { share = share_behind run c.share }) run then end
+answered_back : (v : ClientView) (c : Client) (run : Run) (then : Option Put) (end : Ended) (w : Works v c run then) → c.running ≡ None → RunAnswers run (machine_call v c w.is_pass w.start) v.past end → ((taken : ℕ) → length (taken_nodes v.past) ≤ taken → v.steps + then_left then ≤ command_steps w.command v.tries taken) → Answered v (record c { share = share_behind run c.share }) run then end
 unfolding back_so
 answered_back v c (Map m) then end w none a few = record { works = back_so v c (Map m) then w; none = none; answers = a; back = refl; few = few }
 answered_back v c run then end w none a few = record { works = back_so v c run then w; none = none; answers = a; back = refl; few = few }
@@ -170,17 +170,17 @@ answered_so v c p now end found rest mid x e is same a =
     (answered_back v (record c { running = rest }) now p.then end (works_so v c rest p.run now p.then same x.works) e a (λ taken i. let few = x.few taken i in omega arith))
 
 -- what is told does not ask whether a machine ran, nor who had the share
-told_so : (v : ClientView) (c new : Client) (rest : Option Running) (share : Option Remaining) (answer : Option Answer) → Told v (record c { running = rest; share = share }) new answer → Told v c new answer
+told_so : (v : ClientView) (c new : Client) (rest : Option Running) (share : Option Remaining) (answer : Option Answer) → HasBeenTold v (record c { running = rest; share = share }) new answer → HasBeenTold v c new answer
 told_so v c new rest share None x = record { same = record { pass = x.same.pass; number = x.same.number; next = x.same.next }; begin = x.begin; running = x.running; is = x.is; waits = x.waits }
 told_so v c new rest share (Some answer) x = record { same = record { pass = x.same.pass; number = x.same.number; next = x.same.next }; begin = x.begin; rests = x.rests; command = x.command; is = x.is; answers = x.answers; right = x.right; entry = x.entry; tells = x.tells; took = x.took; late = x.late }
 
-pub told_from : (v : ClientView) (c mid new : Client) (rest : Option Running) (share : Option Remaining) (answer : Option Answer) → mid ≡ record c { running = rest; share = share } → Told v mid new answer → Told v c new answer
-told_from v c mid new rest share answer is x = told_so v c new rest share answer (subst (λ (k : Client). Told v k new answer) is x)
+pub told_from : (v : ClientView) (c mid new : Client) (rest : Option Running) (share : Option Remaining) (answer : Option Answer) → mid ≡ record c { running = rest; share = share } → HasBeenTold v mid new answer → HasBeenTold v c new answer
+told_from v c mid new rest share answer is x = told_so v c new rest share answer (subst (λ (k : Client). HasBeenTold v k new answer) is x)
 
 -- what a machine has answered tells which machine it was
-pub after_run : (v : ClientView) (c new : Client) (run : Run) (then : Option Put) (end : Ended) (a : LlxAnswer) (answer : Option Answer) → end ≡ ended.Llx a → Answered v c run then end → ((m : LlxRun) → Answered v c (Llx m) then (ended.Llx a) → Told v c new answer) → Told v c new answer
+pub after_run : (v : ClientView) (c new : Client) (run : Run) (then : Option Put) (end : Ended) (a : LlxAnswer) (answer : Option Answer) → end ≡ ended.Llx a → Answered v c run then end → ((m : LlxRun) → Answered v c (Llx m) then (ended.Llx a) → HasBeenTold v c new answer) → HasBeenTold v c new answer
 after_run v c new run then end a answer e x f = go run (subst (λ t. Answered v c run then t) e x)
   where
-    go : (run : Run) → Answered v c run then (ended.Llx a) → Told v c new answer
+    go : (run : Run) → Answered v c run then (ended.Llx a) → HasBeenTold v c new answer
     go (Llx m) y = f m y
     go run y = absurd y.answers

@@ -5,7 +5,7 @@ use Rattle.std.proofs.lemmas.Option.{slice_get_read}
 use Rattle.script.specs.declared.call.Call.{Call}
 use Rattle.script.specs.declared.command.Command.{Command}
 use Rattle.record.specs.Commands.{commands}
-use Rattle.player.specs.Place.{IsAt}
+use Rattle.player.specs.Place.{IsNextCallAt}
 
 -- a client has no more commands than there are calls
 pub commands_few : (calls : List Call) (c : ℕ) → length (commands calls c) ≤ length calls
@@ -28,7 +28,7 @@ none_there (z ∷ xs) zero e = cc
 none_there (z ∷ xs) (suc n) e = none_there xs n e
 
 -- the next of a client's commands is that of the call where it stands
-pub next_at : (calls : List Call) (c number at : ℕ) → IsAt calls c (drop number (commands calls c)) (Some at) → (call : Call) × (slice_get calls at ≡ Some call) × (call.client.0 ≡ c) × (slice_get (commands calls c) number ≡ Some call.command)
+pub next_at : (calls : List Call) (c number at : ℕ) → IsNextCallAt calls c (drop number (commands calls c)) (Some at) → (call : Call) × (slice_get calls at ≡ Some call) × (call.client.0 ≡ c) × (slice_get (commands calls c) number ≡ Some call.command)
 next_at calls c number at x = (x.0, x.1, x.2, (first_left (commands calls c) number x.0.command _ x.3).0)
 
 -- where none of a client's commands is left, it has none of this number
@@ -36,18 +36,18 @@ pub none_left : (calls : List Call) (c number : ℕ) → drop number (commands c
 none_left calls c number e = none_there (commands calls c) number e
 
 -- a place behind that of the next command is that of the one after it
-pub place_more : (calls : List Call) (c number at : ℕ) → IsAt calls c (drop number (commands calls c)) (Some at) → (next : Option ℕ) → IsAt calls c (commands (drop (suc at) calls) c) next → IsAt calls c (drop (suc number) (commands calls c)) next
-place_more calls c number at x next y = subst (λ (left : List Command). IsAt calls c left next) (sym (first_left (commands calls c) number x.0.command _ x.3).1) y
+pub place_more : (calls : List Call) (c number at : ℕ) → IsNextCallAt calls c (drop number (commands calls c)) (Some at) → (next : Option ℕ) → IsNextCallAt calls c (commands (drop (suc at) calls) c) next → IsNextCallAt calls c (drop (suc number) (commands calls c)) next
+place_more calls c number at x next y = subst (λ (left : List Command). IsNextCallAt calls c left next) (sym (first_left (commands calls c) number x.0.command _ x.3).1) y
 
 -- a command that is still to come has a number below that of all calls
-pub number_small : (calls : List Call) (c number at : ℕ) → IsAt calls c (drop number (commands calls c)) (Some at) → number < length calls
+pub number_small : (calls : List Call) (c number at : ℕ) → IsNextCallAt calls c (drop number (commands calls c)) (Some at) → number < length calls
 number_small calls c number at x =
     let few = commands_few calls c in
     let below = (first_left (commands calls c) number x.0.command _ x.3).2 in
     omega arith
 
 -- the call at this place is the next, if it is the client's
-pub call_at : (calls : List Call) (c at : ℕ) (call : Call) (left : List Command) → at < length calls → call ≡ get_or calls at call → call.client.0 ≡ c → left ≡ commands (drop at calls) c → IsAt calls c left (Some at)
+pub call_at : (calls : List Call) (c at : ℕ) (call : Call) (left : List Command) → at < length calls → call ≡ get_or calls at call → call.client.0 ≡ c → left ≡ commands (drop at calls) c → IsNextCallAt calls c left (Some at)
 call_at calls c at call left below is same e = (
   call,
   slice_get_read calls (length calls) at call refl below is,

@@ -9,20 +9,20 @@ use Rattle.arena.specs.Fills.{IsOwnScx}
 use Rattle.arena.specs.Lawful.{Lawful, IsWin}
 use Rattle.arena.specs.Machines.{IsRun}
 use Rattle.histories.proofs.Lemmas.{UpdateWins, lawful_row, one_scx_owner}
-use Rattle.spelling.specs.OrderedMap.{MapEdit, MapReply, OneValue, Edit, Insert, Delete, edit_key}
-use Rattle.spelling.specs.Spelled.{Spells}
-use Rattle.updates.specs.Laws.Entered.{none_yet}
+use Rattle.ordered_map.specs.OrderedMap.{MapEdit, MapReply, OneValue, Edit, Insert, Delete, edit_key}
+use Rattle.ordered_map.specs.Spelled.{Spells}
+use Rattle.edits.specs.Laws.Entered.{none_yet}
 use Rattle.script.specs.declared.call.Call.{Call}
 use Rattle.script.specs.declared.command.Command.{Command}
 use Rattle.script.specs.declared.command.Command.TheVariants.{Map}
-use Rattle.spelling.specs.declared.request.Request.TheVariants.{Insert as InsertOf, Delete as DeleteOf}
+use Rattle.ordered_map.specs.declared.request.Request.TheVariants.{Insert as InsertOf, Delete as DeleteOf}
 use Rattle.record.specs.declared.record.Line.{Line}
 use Rattle.record.specs.declared.record.Line.TheVariants.{Step, Log, Reply as ReplyLine}
 use Rattle.record.specs.declared.record.Row.{Row as Turn}
 use Rattle.record.specs.declared.record.Row.TheVariants.{Step as Made, Idle}
 use Rattle.record.specs.declared.record.Entry.{Entry}
 use Rattle.record.specs.declared.record.Finished.{Finished}
-use Rattle.spelling.specs.declared.reply.Reply.TheVariants.{Full, Value, Contended}
+use Rattle.ordered_map.specs.declared.reply.Reply.TheVariants.{Full, Value, Contended}
 use Rattle.record.specs.declared.record.Answer.{Answer}
 use Rattle.record.specs.declared.record.Answer.TheVariants.{Map as MapAnswer}
 use Rattle.record.specs.Answers.{HasItsEntry}
@@ -32,17 +32,17 @@ use Rattle.record.specs.Linked.{linked}
 use Rattle.record.specs.MapRecord.{map_of, written_log, entries_of_call, reply_told}
 use Rattle.record.specs.Commands.{next_command}
 use Rattle.record.specs.Edits.{HadAtKey}
-use Rattle.record.specs.Placed.{IsChange, IsReading, IsRefused, IsPlacedOnMap}
+use Rattle.record.specs.Placed.{IsPlacedChange, IsPlacedReading, IsRefused, IsPlacedOnMap}
 use Rattle.record.specs.SpelledMap.{AreSpelled}
 use Rattle.record.specs.Turns.{history, turns, answered, begin, start, won, entry_owed, client_of}
 use Rattle.player.specs.Allowed.{PlayedAllows}
-use Rattle.places.specs.declared.places.Change.{Change}
+use Rattle.moments.specs.declared.places.Change.{Change}
 use Rattle.player.specs.Edits.{edit_command}
 use Rattle.player.specs.Moments.{IsMomentBy}
-use Rattle.player.specs.ClientView.{client_view, Tells, HasEdited}
+use Rattle.player.specs.ClientView.{client_view, Tells, HasEditedKey}
 use Rattle.record.proofs.Lemmas.{entries_none, value_told}
-use Rattle.places.specs.Entries.{AreEntries}
-use Rattle.places.proofs.Lemmas.{absent_placed, spelled}
+use Rattle.moments.specs.Entries.{AreEntries}
+use Rattle.moments.proofs.Lemmas.{absent_placed, spelled}
 use Rattle.player.proofs.MapCalls.{AreOf, map_calls, run_before, tree_run}
 use Rattle.player.proofs.Winners.{win_enters}
 
@@ -205,7 +205,7 @@ module _ (lay : Layout) (tries : ℕ) (calls : List Call) (lines : List Line) (c
   refused : (command : Command) → IsEditReply lay tries calls lines changes r c command → HasItsEntry false (won lay lines c) → r.moment ≡ None → IsRefused lines r
   refused command x y none = record { none = rw (x.client, x.number) (entries_none lay tries calls lines x.lines_are c (unwon_none (won lay lines c) y)); moment = none }
 
-  told : (e : MapEdit) (old : Option ℕ) → IsEditReply lay tries calls lines changes r c (edit_command e) → r.answer ≡ MapAnswer (Value old) → HasEdited (client_view lay tries calls lines c) c (edit_key e) old → r.moment ≡ won lay lines c → IsChange calls lines (Edit e) r
+  told : (e : MapEdit) (old : Option ℕ) → IsEditReply lay tries calls lines changes r c (edit_command e) → r.answer ≡ MapAnswer (Value old) → HasEditedKey (client_view lay tries calls lines c) c (edit_key e) old → r.moment ≡ won lay lines c → IsPlacedChange calls lines (Edit e) r
   told e old x is y at =
       let f = find_win lay tries calls c x.mode x.all y.row y.before y.scx y.win.wins y.win.own lines x.run x.lines_are x.owed y.win.within y.win.since in
       record {
@@ -221,7 +221,7 @@ module _ (lay : Layout) (tries : ℕ) (calls : List Call) (lines : List Line) (c
       }
 
   -- one that finds nothing at the key reads
-  absent : (key : ℕ) → IsEditReply lay tries calls lines changes r c (Map (DeleteOf key)) → r.answer ≡ MapAnswer (Value None) → IsReading calls lines (Edit (Delete key)) r
+  absent : (key : ℕ) → IsEditReply lay tries calls lines changes r c (Map (DeleteOf key)) → r.answer ≡ MapAnswer (Value None) → IsPlacedReading calls lines (Edit (Delete key)) r
   absent key x is =
       let found = (rw is at x.moment) x.entries in
       let had : HadAtKey lay (history lay.mode lines) (start lay.mode lines c) key None = rw is at x.right in

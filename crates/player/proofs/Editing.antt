@@ -13,7 +13,7 @@ use Rattle.arena.specs.Fills.{IsOwnScx, IsNamedScx}
 use Rattle.arena.specs.Lawful.{Lawful}
 use Rattle.arena.specs.Machines.{Call as MachineCall}
 use Rattle.arena.proofs.Lemmas.{ends_self}
-use Rattle.help.specs.Help.Lawful.{help_fills_not}
+use Rattle.help.specs.Laws.Help.Lawful.{help_fills_not}
 use Rattle.prims.specs.Cells.{AllowsAll}
 use Rattle.prims.specs.Put.Known.{PutWaitsAt}
 use Rattle.prims.specs.Scx.Known.{Job, job_of, HasFilled, ScxWaitsAt, part_at, fill_step}
@@ -29,24 +29,24 @@ use Rattle.dict.specs.declared.run.MapRun.{MapRun}
 use Rattle.dict.specs.declared.run.MapRun.TheVariants.{Insert, Delete, Get, Successor, Range}
 use Rattle.order.specs.Range.Laws.{range_fills_not}
 use Rattle.order.specs.Successor.Laws.{successor_fills_not}
-use Rattle.spelling.specs.OrderedMap.{MapEdit, Edit as EditCall, Insert as PutEdit, Delete as TakeEdit}
-use Rattle.spelling.specs.Runs.{Makes}
-use Rattle.spelling.specs.TreeShape.{TreeAllows}
+use Rattle.ordered_map.specs.OrderedMap.{MapEdit, Edit as EditCall, Insert as PutEdit, Delete as TakeEdit}
+use Rattle.ordered_map.specs.Runs.{Makes}
+use Rattle.ordered_map.specs.TreeShape.{TreeAllows}
 use Rattle.template.proofs.Lemmas.{walk_fills_not}
 use Rattle.template.specs.Tracked.{Tracks}
 use Rattle.template.specs.declared.walk.Found.{Found}
 use Rattle.tree.specs.Delete.Means.{delete_means}
 use Rattle.tree.specs.Insert.Means.{insert_means}
 use Rattle.tree.proofs.Lemmas.{get_fills_not}
-use Rattle.updates.specs.Edits.{EditMeaning}
-use Rattle.updates.specs.Known.{Tries, UpdateWaitsAt}
-use Rattle.updates.specs.Laws.Entered.{only_joined}
-use Rattle.updates.specs.Laws.HandScx.{from}
-use Rattle.updates.specs.Laws.Kept.{idle_rests}
-use Rattle.updates.specs.Tries.{HasEnteredOnly}
-use Rattle.updates.specs.declared.update.UpdateAt.{UpdateAt}
-use Rattle.updates.specs.declared.update.UpdateAt.TheVariants.{Start, Walk, Look, Load, Fill, Scx}
-use Rattle.updates.specs.declared.update.UpdateRun.{UpdateRun}
+use Rattle.edits.specs.Edits.{EditMeaning}
+use Rattle.edits.specs.Known.{Tries, UpdateWaitsAt}
+use Rattle.edits.specs.Laws.Entered.{only_joined}
+use Rattle.edits.specs.Laws.HandScx.{from}
+use Rattle.edits.specs.Laws.Kept.{idle_rests}
+use Rattle.edits.specs.Tries.{HasEnteredOnly}
+use Rattle.edits.specs.declared.update.UpdateAt.{UpdateAt}
+use Rattle.edits.specs.declared.update.UpdateAt.TheVariants.{Start, Walk, Look, Load, Fill, Scx}
+use Rattle.edits.specs.declared.update.UpdateRun.{UpdateRun}
 use Rattle.script.specs.declared.command.Command.{Command}
 use Rattle.script.specs.declared.command.Command.TheVariants.{Scx as ScxOf, Set as SetOf}
 use Rattle.player.specs.declared.client.Put.{Put}

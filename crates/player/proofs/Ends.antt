@@ -41,7 +41,7 @@ use Rattle.player.specs.declared.client.Client.{Client}
 use Rattle.player.specs.declared.client.Put.{Put}
 use Rattle.player.specs.declared.kept.Kept.{Kept}
 use Rattle.player.specs.declared.kept.Found.{Found}
-use Rattle.spelling.specs.declared.reply.Reply.{Reply}
+use Rattle.ordered_map.specs.declared.reply.Reply.{Reply}
 use Rattle.record.specs.declared.record.Answer.{Answer}
 use Rattle.record.specs.declared.record.Answer.TheVariants.{Map as MapAnswer}
 use Rattle.player.specs.KeptSnaps.{IsUnspent, kept_of, node_of, found_of, parts, snap_of}
@@ -51,20 +51,20 @@ use Rattle.arena.specs.declared.limits.Mode.TheVariants.{Records, Tree}
 use Rattle.arena.specs.Share.{Remaining}
 use Rattle.dict.specs.Calls.{AsksForPairs, HasSpent, share_of}
 use Rattle.dict.specs.DictKnown.{DictAnswers, DictRefuses}
-use Rattle.spelling.specs.CallRules.{MayReply, form_of}
-use Rattle.dict.specs.Says.{Tells as TellsOf}
-use Rattle.spelling.specs.OrderedMap.{MapCall}
-use Rattle.spelling.specs.Replies.{number_reply}
-use Rattle.spelling.specs.Requests.{map_request}
-use Rattle.spelling.specs.declared.request.Request.{Request}
-use Rattle.updates.specs.Known.{RestsWith}
+use Rattle.ordered_map.specs.CallRules.{MayReply, form_of}
+use Rattle.dict.specs.Says.{TellsOfMap}
+use Rattle.ordered_map.specs.OrderedMap.{MapCall}
+use Rattle.ordered_map.specs.Replies.{number_reply}
+use Rattle.ordered_map.specs.Requests.{map_request}
+use Rattle.ordered_map.specs.declared.request.Request.{Request}
+use Rattle.edits.specs.Known.{RestsWith}
 use Rattle.player.specs.Allowed.{IsSmall}
 use Rattle.player.proofs.MapEnds.{IsRightEnd, map_ends, entered_some, entered_none}
 use Rattle.record.specs.Snapshots.{IsLastLook, AreLinked, IsBehindAll}
 use Rattle.record.specs.Answers.{HasRoom, IsInTheWay, IsAsSnapped, HasItsEntry}
 use Rattle.player.specs.RunKnown.{answer_of}
 use Rattle.prims.specs.Scx.Known.{nodes_of}
-use Rattle.player.specs.ClientView.{ClientView, IsSound, IsLlxOf, IsScxOf, IsVlxOf, Hand, no_hand, in_hand, held, HoldsShare, HaveMoments, Tells, command_of, IsClientState, Rests, Answered, Ends, machine_call, linked_by}
+use Rattle.player.specs.ClientView.{ClientView, IsSound, IsLlxOf, IsScxOf, IsVlxOf, Hand, no_hand, in_hand, held, HoldsShare, HaveMoments, Tells, command_of, IsClientState, Rests, Answered, EndsCall, machine_call, linked_by}
 use Rattle.player.proofs.Puts.{put_committed, put_aborted}
 use Rattle.player.proofs.Snapshots.{has_snap, snap_there, snap_found, kept_after, unkept_after}
 use Rattle.player.proofs.Over.{taken_one, taken_nothing, map_took}
@@ -247,7 +247,7 @@ holds_scx v c m then a linked sound x = record {
 }
 
 -- the call of an SCX ends with its answer
-ends_scx : (v : ClientView) (c : Client) (run : Run) (then : Option Put) (a : ScxAnswer) → IsSound v → Answered v c run then (ended.Scx a) → Ends v c c (answer_of (ended.Scx a))
+ends_scx : (v : ClientView) (c : Client) (run : Run) (then : Option Put) (a : ScxAnswer) → IsSound v → Answered v c run then (ended.Scx a) → EndsCall v c c (answer_of (ended.Scx a))
 ends_scx v c (Scx m) then a sound x =
     record {
       same = record { pass = refl; number = refl; next = refl };
@@ -350,7 +350,7 @@ rests_as v c linked drops x = record {
 holds_as : (v : ClientView) (c : Client) (linked : ℕ → Option History) (hand : Hand) → HoldsShare v c hand → HoldsShare (record v { linked = linked }) c hand
 holds_as v c linked hand x = record { some = x.some; share = x.share; over = x.over }
 
-ends_vlx : (v : ClientView) (c : Client) (run : Run) (then : Option Put) (a : VlxAnswer) → Answered v c run then (ended.Vlx a) → Ends v c c (answer_of (ended.Vlx a))
+ends_vlx : (v : ClientView) (c : Client) (run : Run) (then : Option Put) (a : VlxAnswer) → Answered v c run then (ended.Vlx a) → EndsCall v c c (answer_of (ended.Vlx a))
 ends_vlx v c (Vlx m) then a x =
     let y = subst (λ (k : History). VlxAnswers m.snaps (machine_call v c x.works.is_pass k) v.past a) x.works.begun x.answers in
     let alone = subst (λ (k : History). AreLeftAlone v.layout c.pass.0 k m.snaps) x.works.begun x.works.alone in
@@ -371,7 +371,7 @@ ends_vlx v c (Vlx m) then a x =
 ends_vlx v c run then a x = absurd x.answers
 
 -- a call ends with this answer, which leaves what the client has
-ends_as : (v : ClientView) (c : Client) (command : Command) (answer : Answer) → command_of v c ≡ Some command → IsClientState v c (no_hand (held c)) → HoldsShare v c (no_hand (held c)) → c.running ≡ None → IsOutcome v c.pass.0 [] command answer → ((turn : ℕ) → v.won ≡ Some turn → c.begin ≤ turn) → Ends v c c answer
+ends_as : (v : ClientView) (c : Client) (command : Command) (answer : Answer) → command_of v c ≡ Some command → IsClientState v c (no_hand (held c)) → HoldsShare v c (no_hand (held c)) → c.running ≡ None → IsOutcome v c.pass.0 [] command answer → ((turn : ℕ) → v.won ≡ Some turn → c.begin ≤ turn) → EndsCall v c c answer
 ends_as v c command answer is stands holds none o late = record {
   same = record { pass = refl; number = refl; next = refl };
   begin = refl;
@@ -403,7 +403,7 @@ holds_back v c share is_pass back rests = record {
   over = rw back (over_begins v.layout c.pass.0 share.next_scx v.past rests.over);
 }
 
-ends_map : (v : ClientView) (c : Client) (run : Run) (then : Option Put) (a : Reply ℕ ℕ) → Answered v c run then (ended.Map a) → Ends v c c (answer_of (ended.Map a))
+ends_map : (v : ClientView) (c : Client) (run : Run) (then : Option Put) (a : Reply ℕ ℕ) → Answered v c run then (ended.Map a) → EndsCall v c c (answer_of (ended.Map a))
 ends_map v c (Map m) then a x =
     let works = x.works in
     let request = works.run_of.request in
@@ -416,7 +416,7 @@ ends_map v c (Map m) then a x =
     let right =
     map_ends v c works.is_pass works.won request a share (subst AsksForPairs of works.run_of.asks) answers.rests
     (subst (λ (k : MapCall). MayReply k (form_of a)) of answers.form)
-    (subst (λ (k : MapCall). TellsOf call v.past k (number_reply a)) of answers.tells)
+    (subst (λ (k : MapCall). TellsOfMap call v.past k (number_reply a)) of answers.tells)
     (subst (λ (n : ℕ). DictRefuses call v.past (map_request request) share n a) works.limit refuses) in
     let took =
     map_took call v.past request v.tries share (subst (λ (k : History). Extends v.past k) works.begun works.since) answers.rests
@@ -427,7 +427,7 @@ ends_map v c (Map m) then a x =
 ends_map v c run then a x = absurd x.answers
 
 -- what has ended is the call of a machine other than an LLX
-pub ends_other : (v : ClientView) (c : Client) (run : Run) (then : Option Put) (end : Ended) → ((a : LlxAnswer) → end ≢ ended.Llx a) → IsSound v → Answered v c run then end → Ends v c c (answer_of end)
+pub ends_other : (v : ClientView) (c : Client) (run : Run) (then : Option Put) (end : Ended) → ((a : LlxAnswer) → end ≢ ended.Llx a) → IsSound v → Answered v c run then end → EndsCall v c c (answer_of end)
 ends_other v c run then (ended.Llx a) d sound x = absurd (d a refl)
 ends_other v c run then (ended.Scx a) d sound x = ends_scx v c run then a sound x
 ends_other v c run then (ended.Vlx a) d sound x = ends_vlx v c run then a x
@@ -519,7 +519,7 @@ llx_outcome v c (SetOf field value) m (Some put) (LlxSnapshot snap) (inr d) x to
 llx_outcome v c command m then a d x took y = absurd x
 
 -- its call ends, where no SCX follows
-pub ends_llx : (v : ClientView) (old : Client) (kept : Kept) (m : LlxRun) (then : Option Put) (a : LlxAnswer) → IsSound v → Answered v old (Llx m) then (ended.Llx a) → kept.found ≡ set old.kept.found (node_of a) (found_of a) → ((then ≡ None) ⊎ ((snap : Snap) → a ≢ LlxSnapshot snap)) → Ends v old (record old { kept = kept }) (answer_of (ended.Llx a))
+pub ends_llx : (v : ClientView) (old : Client) (kept : Kept) (m : LlxRun) (then : Option Put) (a : LlxAnswer) → IsSound v → Answered v old (Llx m) then (ended.Llx a) → kept.found ≡ set old.kept.found (node_of a) (found_of a) → ((then ≡ None) ⊎ ((snap : Snap) → a ≢ LlxSnapshot snap)) → EndsCall v old (record old { kept = kept }) (answer_of (ended.Llx a))
 ends_llx v old kept m then a sound x e d =
     let o = llx_outcome v old x.works.command m then a d x.works.run_of.1 (λ scx nodes. taken_nothing v old.pass.0 (held old) scx nodes x.works.holds.share x.works.took) x in
     record {

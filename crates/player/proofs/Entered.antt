@@ -40,14 +40,14 @@ use Rattle.record.specs.CommandRules.{IsEntryFor}
 use Rattle.player.specs.Allowed.{PlayedAllows}
 use Rattle.player.specs.RunKnown.{RunWaits, RunIsReady}
 use Rattle.player.proofs.RunLaws.{run_keeps, run_made}
-use Rattle.player.specs.ClientView.{ClientView, IsSound, IsPutOf, IsScxOf, IsStart, IsOwnWin, IsWonSince, held, HoldsShare, HaveMoments, no_hand, Rests, Works, Waits, machine_call, command_of}
+use Rattle.player.specs.ClientView.{ClientView, IsSound, IsPutOf, IsScxOf, IsStart, IsOwnWin, IsWonSince, held, HoldsShare, HaveMoments, no_hand, Rests, Works, WaitsForStep, machine_call, command_of}
 use Rattle.dict.specs.declared.dict.DictRun.{DictRun}
-use Rattle.spelling.specs.Requests.{map_request}
-use Rattle.spelling.specs.declared.request.Request.{Request}
-use Rattle.spelling.specs.declared.request.Request.TheVariants.{Insert as InsertOf, Delete as DeleteOf}
-use Rattle.spelling.specs.OrderedMap.{MapEdit, Edit as EditCall, Insert as PutEdit, Delete as TakeEdit}
-use Rattle.spelling.specs.Runs.{Makes}
-use Rattle.updates.specs.Tries.{HasEnteredOnly}
+use Rattle.ordered_map.specs.Requests.{map_request}
+use Rattle.ordered_map.specs.declared.request.Request.{Request}
+use Rattle.ordered_map.specs.declared.request.Request.TheVariants.{Insert as InsertOf, Delete as DeleteOf}
+use Rattle.ordered_map.specs.OrderedMap.{MapEdit, Edit as EditCall, Insert as PutEdit, Delete as TakeEdit}
+use Rattle.ordered_map.specs.Runs.{Makes}
+use Rattle.edits.specs.Tries.{HasEnteredOnly}
 use Rattle.player.proofs.Editing.{IsEditHand, map_hand}
 use Rattle.player.proofs.Winners.{owner_is}
 use Rattle.player.proofs.Ends.{has_nodes}
@@ -244,7 +244,7 @@ module _ (v : ClientView) (c : Client) (sound : IsSound v) (row : Row) (s : ℕ)
   rest_wins_not x = no_hand_wins x.holds
 
 -- what a call of the map that waits has in hand
-map_waits : (v : ClientView) (c : Client) (q : Running) (m : DictRun ℕ ℕ) (s : ℕ) → IsSound v → (w : Waits v c q) → q.run ≡ Map m → IsOwnScx v.layout c.pass.0 s → IsInProgress v.past s → IsEditHand m.run (machine_call v c w.works.is_pass v.start) v.past s
+map_waits : (v : ClientView) (c : Client) (q : Running) (m : DictRun ℕ ℕ) (s : ℕ) → IsSound v → (w : WaitsForStep v c q) → q.run ≡ Map m → IsOwnScx v.layout c.pass.0 s → IsInProgress v.past s → IsEditHand m.run (machine_call v c w.works.is_pass v.start) v.past s
 map_waits v c q m s sound w e own p =
     let begun : w.works.start ≡ v.start = subst (λ (k : Run). IsStart k w.works.start v.start) e w.works.begun in
     let call = machine_call v c w.works.is_pass v.start in
@@ -252,7 +252,7 @@ map_waits v c q m s sound w e own p =
     map_hand call v.past s sound.lawful own p q.step m.run waits.1.0.number waits.1.1
 
 -- a row of another client
-pub entry_by_others : (v : ClientView) (c : Client) (q : Running) (row : Row) (s : ℕ) → IsSound v → Waits v c q → IsRun PlayedAllows v.layout (row ⊳ v.past) → row.pass.0 ≢ c.pass.0 → UpdateWins v.past row s → IsOwnScx v.layout c.pass.0 s → IsEntryFrom v c row s
+pub entry_by_others : (v : ClientView) (c : Client) (q : Running) (row : Row) (s : ℕ) → IsSound v → WaitsForStep v c q → IsRun PlayedAllows v.layout (row ⊳ v.past) → row.pass.0 ≢ c.pass.0 → UpdateWins v.past row s → IsOwnScx v.layout c.pass.0 s → IsEntryFrom v c row s
 entry_by_others v c q row s sound w run other wins own = from_run v c sound row s run.lawful wins own q.run q.then w.works of_put of_map
   where
     call : MachineCall
@@ -272,7 +272,7 @@ entry_by_others v c q row s sound w run other wins own = from_run v c sound row 
         record { at = y.0; fresh = z.1.own; value_is = y.1; empty_fields = y.2; called = z.0.called }
 
 -- its own row
-pub entry_by_own : (v : ClientView) (c : Client) (q : Running) (s : ℕ) → IsSound v → Waits v c q → UpdateWins v.past (own_row v c q.step) s → IsOwnScx v.layout c.pass.0 s → IsTold q.step.access (value v.past q.step.word) (value v.past q.step.word) → IsEntryFrom v c (own_row v c q.step) s
+pub entry_by_own : (v : ClientView) (c : Client) (q : Running) (s : ℕ) → IsSound v → WaitsForStep v c q → UpdateWins v.past (own_row v c q.step) s → IsOwnScx v.layout c.pass.0 s → IsTold q.step.access (value v.past q.step.word) (value v.past q.step.word) → IsEntryFrom v c (own_row v c q.step) s
 entry_by_own v c q s sound w wins own told = from_run v c sound (own_row v c q.step) s run.lawful wins own q.run q.then w.works of_put of_map
   where
     call : MachineCall

@@ -10,7 +10,7 @@ use Rattle.dict.specs.declared.run.MapRun.{MapRun}
 use Rattle.dict.specs.declared.run.MapRun.TheVariants.{Insert, Delete, Get, Successor, Range}
 use Rattle.order.specs.Range.Laws.{range_fills_not}
 use Rattle.order.specs.Successor.Laws.{successor_fills_not}
-use Rattle.spelling.specs.FillOrder.{AreFilledInOrder, IsFillInOrder}
+use Rattle.ordered_map.specs.FillOrder.{AreFilledInOrder, IsFillInOrder}
 use Rattle.tree.proofs.Lemmas.{get_in_order, insert_in_order, delete_in_order}
 use Rattle.player.specs.declared.run.Run.{Run}
 use Rattle.player.specs.declared.run.Run.TheVariants.{Llx, Scx, Vlx, Map}

@@ -8,9 +8,9 @@ use Rattle.arena.specs.declared.step.Row.{Row}
 use Rattle.arena.specs.History.{History, ◌⊳◌}
 use Rattle.arena.specs.Machines.{IsRun}
 use Rattle.histories.proofs.Lemmas.{lawful_tail, shaped_tail}
-use Rattle.spelling.specs.OrderedMap.{MapCall}
-use Rattle.spelling.specs.Requests.{map_request}
-use Rattle.spelling.specs.Runs.{IsTreeRun}
+use Rattle.ordered_map.specs.OrderedMap.{MapCall}
+use Rattle.ordered_map.specs.Requests.{map_request}
+use Rattle.ordered_map.specs.Runs.{IsTreeRun}
 use Rattle.script.specs.declared.call.Call.{Call}
 use Rattle.script.specs.declared.command.Command.{Command}
 use Rattle.script.specs.declared.command.Command.TheVariants.{Llx as LlxOf, Scx as ScxOf, Vlx as VlxOf, Set as SetOf, Map}

@@ -3,20 +3,20 @@ use Rattle.std.proofs.Common.{◌≡◌, ◌⊎◌, ℕ, ◌<◌, inl, inr, ⊎_
 use Rattle.arena.specs.declared.fault.Full.{Full as FullOf}
 use Rattle.arena.specs.Machines.{Call as MachineCall}
 use Rattle.arena.specs.Share.{Remaining}
-use Rattle.spelling.specs.CallRules.{insert_nodes, delete_nodes, MayReply, form_of}
+use Rattle.ordered_map.specs.CallRules.{insert_nodes, delete_nodes, MayReply, form_of}
 use Rattle.dict.specs.Calls.{AsksForPairs}
 use Rattle.dict.specs.DictKnown.{DictRefuses}
-use Rattle.dict.specs.Says.{HasChanged, HasLost, HasRead, HasRunOut, HasTooLittle, HasTold, Tells as TellsOf}
-use Rattle.spelling.specs.OrderedMap.{MapCall, MapEdit, MapReply, OneValue, Edit, Get, edit_key, get, Insert as PutEdit, Delete as TakeEdit}
-use Rattle.spelling.specs.Paths.{IsAnswerAt}
-use Rattle.spelling.specs.Replies.{number_reply}
-use Rattle.spelling.specs.Requests.{map_request}
-use Rattle.spelling.specs.declared.reply.Reply.{Reply}
-use Rattle.spelling.specs.declared.reply.Reply.TheVariants.{Value, Pair, Pairs, Contended, Full, NoMemory}
-use Rattle.spelling.specs.declared.request.Request.{Request}
-use Rattle.spelling.specs.declared.request.Request.TheVariants.{Insert as InsertOf, Delete as DeleteOf, Get as GetOf, Successor as SuccessorOf, Range as RangeOf}
-use Rattle.updates.specs.Known.{RestsWith, IsUntouched, HasMade}
-use Rattle.updates.specs.Tries.{HasEnteredNone}
+use Rattle.dict.specs.Says.{HasMadeEdit, HasLost, HasReadMap, HasRunOut, HasTooLittle, HasTold, TellsOfMap}
+use Rattle.ordered_map.specs.OrderedMap.{MapCall, MapEdit, MapReply, OneValue, Edit, Get, edit_key, get, Insert as PutEdit, Delete as TakeEdit}
+use Rattle.ordered_map.specs.Paths.{IsAnswerAt}
+use Rattle.ordered_map.specs.Replies.{number_reply}
+use Rattle.ordered_map.specs.Requests.{map_request}
+use Rattle.ordered_map.specs.declared.reply.Reply.{Reply}
+use Rattle.ordered_map.specs.declared.reply.Reply.TheVariants.{Value, Pair, Pairs, Contended, Full, NoMemory}
+use Rattle.ordered_map.specs.declared.request.Request.{Request}
+use Rattle.ordered_map.specs.declared.request.Request.TheVariants.{Insert as InsertOf, Delete as DeleteOf, Get as GetOf, Successor as SuccessorOf, Range as RangeOf}
+use Rattle.edits.specs.Known.{RestsWith, IsUntouched, HasMade}
+use Rattle.edits.specs.Tries.{HasEnteredNone}
 use Rattle.record.specs.Answers.{HasItsEntry, HasLostAllTries}
 use Rattle.record.specs.CommandRules.{MayAnswerAfterStep, enters, IsRight}
 use Rattle.record.specs.Edits.{HadAtKey}
@@ -26,9 +26,9 @@ use Rattle.record.specs.declared.record.Answer.TheVariants.{Map as MapAnswer}
 use Rattle.record.proofs.Lemmas.{value_told}
 use Rattle.script.specs.declared.command.Command.{Command}
 use Rattle.script.specs.declared.command.Command.TheVariants.{Map as MapOf}
-use Rattle.places.specs.Replied.{HasReplied}
+use Rattle.moments.specs.Replied.{HasReplied}
 use Rattle.player.specs.declared.client.Client.{Client}
-use Rattle.player.specs.ClientView.{ClientView, IsOwnWin, IsWonSince, HasEdited, Tells, machine_call}
+use Rattle.player.specs.ClientView.{ClientView, IsOwnWin, IsWonSince, HasEditedKey, Tells, machine_call}
 use Rattle.player.proofs.Left.{short_left}
 
 -- the answer is one that the command gives, it is right, and an update of the call has won if it
@@ -68,14 +68,14 @@ module _ (v : ClientView) (c : Client) (is_pass : c.pass.0 < v.layout.passes) (w
   -- A change
 
   -- the call has made this edit
-  has_made : (e : MapEdit) (old : Option ℕ) → HasChanged call v.past (Edit e) (OneValue old) → HasMade e call v.past c.number old
+  has_made : (e : MapEdit) (old : Option ℕ) → HasMadeEdit call v.past (Edit e) (OneValue old) → HasMade e call v.past c.number old
   has_made e old x =
       let same : x.edit ≡ e = let d : Edit e ≡ Edit x.edit = x.is_edit in cc in
       let told : x.old ≡ old = let d : OneValue old ≡ OneValue x.old = x.tells in cc in
       subst (λ o. HasMade e call v.past c.number o) told (subst (λ d. HasMade d call v.past c.number x.old) same x.made)
 
   -- so it tells what its own row has found
-  changed : (e : MapEdit) (old : Option ℕ) → HasChanged call v.past (Edit e) (OneValue old) → ((turn : ℕ) × (v.won ≡ Some turn)) × HasEdited v c.pass.0 (edit_key e) old
+  changed : (e : MapEdit) (old : Option ℕ) → HasMadeEdit call v.past (Edit e) (OneValue old) → ((turn : ℕ) × (v.won ≡ Some turn)) × HasEditedKey v c.pass.0 (edit_key e) old
   changed e old x =
       let made = has_made e old x in
       let win : IsOwnWin v c.pass.0 made.row made.before made.scx = record { within = made.within; since = made.since; wins = made.wins; own = made.own } in
@@ -89,16 +89,16 @@ module _ (v : ClientView) (c : Client) (is_pass : c.pass.0 < v.layout.passes) (w
   value_in _ = None
 
   -- the map had this at a moment of the call
-  answer_at : (key : ℕ) (old : Option ℕ) → HasRead call v.past (Get key) (OneValue old) → IsAnswerAt v.layout v.past v.start key old
+  answer_at : (key : ℕ) (old : Option ℕ) → HasReadMap call v.past (Get key) (OneValue old) → IsAnswerAt v.layout v.past v.start key old
   answer_at key old x = record { moment = x.moment; within = x.within; since = x.since; map = x.map; spelled = x.spelled; gives = ap value_in x.gives }
 
-  had_at_key : (key : ℕ) (old : Option ℕ) → HasRead call v.past (Edit (TakeEdit key)) (OneValue old) → HadAtKey v.layout v.past v.start key old
+  had_at_key : (key : ℕ) (old : Option ℕ) → HasReadMap call v.past (Edit (TakeEdit key)) (OneValue old) → HadAtKey v.layout v.past v.start key old
   had_at_key key old x =
       let own = x.own tt in
       (own.row, own.before, own.since, record { moment = x.moment; within = x.within; since = own.within; map = x.map; spelled = x.spelled; gives = ap value_in x.gives })
 
   -- it has replied so
-  replied : (of : MapCall) (told : MapReply) → AsksForPairs of → HasRead call v.past of told → HasReplied v.layout v.past v.start of told
+  replied : (of : MapCall) (told : MapReply) → AsksForPairs of → HasReadMap call v.past of told → HasReplied v.layout v.past v.start of told
   replied of told asks x = let own = x.own asks in record { row = own.row; before = own.before; since = own.since; moment = x.moment; behind = own.within; within = x.within; map = x.map; spelled = x.spelled; replies = x.gives }
 
   -- A refusal
@@ -137,15 +137,15 @@ module _ (v : ClientView) (c : Client) (is_pass : c.pass.0 < v.layout.passes) (w
       }
 
   -- what is told of one value
-  one_told : (of : MapCall) (old : Option ℕ) → TellsOf call v.past of (number_reply (Value old)) → HasTold call v.past of (OneValue old)
-  one_told of old x = subst (TellsOf call v.past of) (value_told old) x
+  one_told : (of : MapCall) (old : Option ℕ) → TellsOfMap call v.past of (number_reply (Value old)) → HasTold call v.past of (OneValue old)
+  one_told of old x = subst (TellsOfMap call v.past of) (value_told old) x
 
   -- a delete that tells a value has changed the map, and one that tells none has read it
   deleted : (key : ℕ) (old : Option ℕ) → HasTold call v.past (Edit (TakeEdit key)) (OneValue old) → IsRightEnd v c.pass.0 (MapOf (DeleteOf key)) (MapAnswer (Value old))
   deleted key None x = record { answers = tt; right = had_at_key key None x; entry = entered_none v.won (unwon x.none); tells = tt }
   deleted key (Some old) x = let y = changed (TakeEdit key) (Some old) x in record { answers = tt; right = tt; entry = entered_some v.won y.0.0 y.0.1; tells = y.1 }
 
-  pub map_ends : (r : Request ℕ ℕ) (a : Reply ℕ ℕ) (share : Remaining) → AsksForPairs (map_request r) → RestsWith call v.past share → MayReply (map_request r) (form_of a) → TellsOf call v.past (map_request r) (number_reply a) → DictRefuses call v.past (map_request r) share v.tries a → IsRightEnd v c.pass.0 (MapOf r) (MapAnswer a)
+  pub map_ends : (r : Request ℕ ℕ) (a : Reply ℕ ℕ) (share : Remaining) → AsksForPairs (map_request r) → RestsWith call v.past share → MayReply (map_request r) (form_of a) → TellsOfMap call v.past (map_request r) (number_reply a) → DictRefuses call v.past (map_request r) share v.tries a → IsRightEnd v c.pass.0 (MapOf r) (MapAnswer a)
   map_ends (InsertOf key value) (Value old) share asks rests form tells why = let y = changed (PutEdit key value) old (one_told (Edit (PutEdit key value)) old tells) in record { answers = tt; right = tt; entry = entered_some v.won y.0.0 y.0.1; tells = y.1 }
   map_ends (InsertOf key value) (Contended node scx) share asks rests form tells why = record { answers = tt; right = lost node.0 scx.0 why; entry = entered_none v.won (unwon why.none); tells = tt }
   map_ends (InsertOf key value) (Full full) share asks rests form tells why = insert_full key value share full rests why

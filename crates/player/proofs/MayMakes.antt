@@ -7,8 +7,8 @@ use Rattle.prims.specs.Cells.{AllowsAll}
 use Rattle.prims.proofs.Lemmas.{llx_fills_not}
 use Rattle.script.specs.declared.command.Command.{Command}
 use Rattle.script.specs.declared.command.Command.TheVariants.{Llx as LlxOf, Scx as ScxOf, Vlx as VlxOf, Set as SetOf, Map as MapOf}
-use Rattle.spelling.specs.CallRules.{call_rules}
-use Rattle.spelling.specs.OrderedMap.{MapCall}
+use Rattle.ordered_map.specs.CallRules.{call_rules}
+use Rattle.ordered_map.specs.OrderedMap.{MapCall}
 use Rattle.dict.proofs.Lemmas.{kind_inside}
 use Rattle.player.specs.declared.run.Run.{Run}
 use Rattle.player.specs.declared.run.Run.TheVariants.{Llx, Scx, Vlx, Map}

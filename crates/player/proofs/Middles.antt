@@ -30,19 +30,19 @@ use Rattle.script.specs.declared.command.Command.{Command}
 use Rattle.player.proofs.Commands.{none_left, next_at, place_more, number_small}
 use Rattle.arena.specs.declared.limits.Mode.TheVariants.{Tree}
 use Rattle.player.specs.Allowed.{PlayedAllows}
-use Rattle.spelling.specs.FillOrder.{AreFilledInOrder, IsFillInOrder}
+use Rattle.ordered_map.specs.FillOrder.{AreFilledInOrder, IsFillInOrder}
 use Rattle.script.specs.declared.call.Call.{Call}
 use Rattle.record.specs.declared.record.Line.{Line}
 use Rattle.record.specs.declared.record.Line.TheVariants.{Step, Log, Reply as ReplyLine}
 use Rattle.record.specs.declared.record.Row.TheVariants.{Step as Made, Idle}
 use Rattle.record.specs.declared.record.Finished.{Finished}
 use Rattle.record.specs.declared.record.Entry.{Entry}
-use Rattle.spelling.specs.declared.reply.Reply.TheVariants.{Pairs, NoMemory}
+use Rattle.ordered_map.specs.declared.reply.Reply.TheVariants.{Pairs, NoMemory}
 use Rattle.record.specs.MapRecord.{number_pairs}
 use Rattle.record.specs.declared.record.Answer.{Answer}
 use Rattle.record.specs.declared.record.Answer.TheVariants.{Done, Unlinked, Full, Map as MapAnswer}
 use Rattle.script.specs.declared.command.Command.TheVariants.{Llx as LlxOf, Scx as ScxOf, Vlx as VlxOf, Set as SetOf, Map}
-use Rattle.spelling.specs.declared.request.Request.TheVariants.{Get as GetOf, Successor as SuccessorOf, Range as RangeOf}
+use Rattle.ordered_map.specs.declared.request.Request.TheVariants.{Get as GetOf, Successor as SuccessorOf, Range as RangeOf}
 use Rattle.player.specs.declared.client.Client.{Client}
 use Rattle.player.specs.Lines.{newest}
 use Rattle.record.specs.Turns.{history, turns, entries, answered, begin, start, steps, won, last_client, entry_of, entry_owed, entry_at}
@@ -50,8 +50,8 @@ use Rattle.record.specs.Commands.{commands, next_command}
 use Rattle.record.specs.Linked.{linked}
 use Rattle.record.specs.Answers.{HasItsEntry}
 use Rattle.player.specs.Moments.{IsMomentBy}
-use Rattle.places.specs.declared.places.Change.{Change}
-use Rattle.places.specs.Entries.{AreEntries}
+use Rattle.moments.specs.declared.places.Change.{Change}
+use Rattle.moments.specs.Entries.{AreEntries}
 use Rattle.player.proofs.MapCalls.{command_mode}
 use Rattle.player.proofs.Placing.{moment_same, moment_within}
 use Rattle.record.specs.CommandRules.{MayAnswerAtOnce, HasTakenFew, enters, IsRight}
@@ -62,10 +62,10 @@ use Rattle.player.specs.BetweenTurns.{IsLawfulSoFar, AreOthers, IsTurnOf, AreBet
 use Rattle.player.proofs.Views.{TellsWon, client_by_others, stands_from, holds_from}
 use Rattle.record.proofs.Lemmas.{some_turn, start_kept, begin_within, won_within}
 use Rattle.player.proofs.MapEnds.{entered_none}
-use Rattle.spelling.specs.OrderedMap.{ManyPairs}
+use Rattle.ordered_map.specs.OrderedMap.{ManyPairs}
 use Rattle.script.specs.Commands.{mode_of}
-use Rattle.places.specs.Ordered.{FallFrom}
-use Rattle.places.proofs.Lemmas.{falls, nothing_taken}
+use Rattle.moments.specs.Ordered.{FallFrom}
+use Rattle.moments.proofs.Lemmas.{falls, nothing_taken}
 
 -- Others
 

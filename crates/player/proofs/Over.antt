@@ -13,12 +13,12 @@ use Rattle.prims.proofs.Lemmas.{put_takes, llx_fills_not, vlx_fills_not, untaken
 use Rattle.player.specs.declared.run.Run.{Run}
 use Rattle.player.specs.declared.run.Run.TheVariants.{Llx, Scx, Vlx, Map}
 use Rattle.prims.specs.Shares.{IsShare}
-use Rattle.updates.specs.Known.{RestsWith}
-use Rattle.spelling.specs.CallRules.{most_nodes, most_scx}
+use Rattle.edits.specs.Known.{RestsWith}
+use Rattle.ordered_map.specs.CallRules.{most_nodes, most_scx}
 use Rattle.dict.specs.Calls.{HasSpent}
-use Rattle.spelling.specs.OrderedMap.{MapCall}
-use Rattle.spelling.specs.Requests.{map_request}
-use Rattle.spelling.specs.declared.request.Request.{Request}
+use Rattle.ordered_map.specs.OrderedMap.{MapCall}
+use Rattle.ordered_map.specs.Requests.{map_request}
+use Rattle.ordered_map.specs.declared.request.Request.{Request}
 use Rattle.script.specs.declared.command.Command.TheVariants.{Map as MapOf}
 use Rattle.record.specs.CommandRules.{HasTakenFew}
 use Rattle.record.specs.Shares.{HasTakenAtMost, IsScxTakenSince}

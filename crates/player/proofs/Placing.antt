@@ -2,9 +2,9 @@
 use Rattle.std.proofs.Common.{◌≡◌, ℕ, suc, ◌≤◌, Bool, true, false, List, Option, Some, None, refl, sym, ◌∙◌, subst, arith}
 use Rattle.script.specs.declared.command.Command.{Command}
 use Rattle.script.specs.declared.command.Command.TheVariants.{Scx, Set, Map}
-use Rattle.spelling.specs.declared.request.Request.TheVariants.{Insert, Delete, Get, Successor, Range}
-use Rattle.spelling.specs.declared.reply.Reply.{Reply}
-use Rattle.spelling.specs.declared.reply.Reply.TheVariants.{Value, Pair, Pairs}
+use Rattle.ordered_map.specs.declared.request.Request.TheVariants.{Insert, Delete, Get, Successor, Range}
+use Rattle.ordered_map.specs.declared.reply.Reply.{Reply}
+use Rattle.ordered_map.specs.declared.reply.Reply.TheVariants.{Value, Pair, Pairs}
 use Rattle.record.specs.declared.record.Answer.{Answer}
 use Rattle.record.specs.declared.record.Answer.TheVariants.{Snapshot, Finalized, Done, Same, Map as MapAnswer}
 use Rattle.record.specs.Answers.{HasItsEntry}
@@ -14,9 +14,9 @@ use Rattle.record.specs.declared.record.Line.{Line}
 use Rattle.script.specs.declared.call.Call.{Call}
 use Rattle.script.specs.Commands.{mode_of}
 use Rattle.arena.specs.declared.limits.Mode.TheVariants.{Tree}
-use Rattle.places.specs.declared.places.Change.{Change}
-use Rattle.places.specs.Entries.{AreEntries}
-use Rattle.places.specs.Ordered.{FallFrom}
+use Rattle.moments.specs.declared.places.Change.{Change}
+use Rattle.moments.specs.Entries.{AreEntries}
+use Rattle.moments.specs.Ordered.{FallFrom}
 use Rattle.player.specs.Moments.{IsMomentBy, IsOrderedMoment, IsPairsMoment, IsReadMoment, IsReplyMoment, IsValueMoment}
 
 -- an answer `done` says that the call has an entry, where it may answer so

@@ -40,10 +40,10 @@ use Rattle.arena.specs.declared.fault.Resource.{Resource}
 use Rattle.player.specs.KeptSnaps.{IsUnspent, kept_of, node_of, found_of}
 use Rattle.record.specs.Commands.{commands}
 use Rattle.record.specs.Snapshots.{IsLastLook}
-use Rattle.record.specs.CommandRules.{most_steps}
+use Rattle.record.specs.CommandRules.{command_steps}
 use Rattle.record.specs.Shares.{HasTooFew}
 use Rattle.player.proofs.Left.{full_left}
-use Rattle.player.specs.ClientView.{ClientView, IsSound, IsLlxOf, IsPutOf, no_hand, held, HoldsShare, IsClientState, Rests, Starts, Answered, Told, TellsFull, CanPut, Puts, BeginsOrRefuses}
+use Rattle.player.specs.ClientView.{ClientView, IsSound, IsLlxOf, IsPutOf, no_hand, held, HoldsShare, IsClientState, Rests, Starts, Answered, HasBeenTold, TellsFull, CanPut, Puts, BeginsOrRefuses}
 use Rattle.prims.specs.Laws.Begun.{taken_since}
 use Rattle.prims.proofs.Lemmas.{taken_node_since, left_own_node, left_own_scx, taken_share, free_unnamed, all_over, put_ready_first}
 use Rattle.prims.specs.Shares.{IsShare}
@@ -89,7 +89,7 @@ can_put v old kept m put snap sound x e = go x.works.command x.works.is x.works.
     unspent : IsUnspent v.layout old.pass.0 v.past snap v.past
     unspent = snapshot_unspent v old m (Some put) snap sound x
 
-    go : (command : Command) → slice_get (commands v.calls old.pass.0) v.answered ≡ Some command → IsLlxOf command m.node.0 (Some put) → ((taken : ℕ) → length (taken_nodes v.past) ≤ taken → v.steps + 40 ≤ most_steps command v.tries taken) → CanPut v (linked_now v command) (record old { kept = kept }) (snap ∷ []) [] (snap.node.0, put.side) put.value
+    go : (command : Command) → slice_get (commands v.calls old.pass.0) v.answered ≡ Some command → IsLlxOf command m.node.0 (Some put) → ((taken : ℕ) → length (taken_nodes v.past) ≤ taken → v.steps + 40 ≤ command_steps command v.tries taken) → CanPut v (linked_now v command) (record old { kept = kept }) (snap ∷ []) [] (snap.node.0, put.side) put.value
     go (SetOf field y) is f few = record {
       mode = x.works.mode;
       rests = rests_kept v old kept m (Some put) (LlxSnapshot snap) (linked_now v (SetOf field y)) sound x e (λ n. rw (x.answers.0.node ∙ f.0) refl);
@@ -114,14 +114,14 @@ can_put v old kept m put snap sound x e = go x.works.command x.works.is x.works.
     go command is f few = absurd f
 
 -- what it answers then
-pub told_put : (v : ClientView) (old new : Client) (kept : Kept) (m : LlxRun) (put : Put) (snap : Snap) (answer : Option Answer) → (x : Answered v old (Llx m) (Some put) (ended.Llx (LlxSnapshot snap))) → Puts v (linked_now v x.works.command) (record old { kept = kept }) new answer → Told v old new answer
+pub told_put : (v : ClientView) (old new : Client) (kept : Kept) (m : LlxRun) (put : Put) (snap : Snap) (answer : Option Answer) → (x : Answered v old (Llx m) (Some put) (ended.Llx (LlxSnapshot snap))) → Puts v (linked_now v x.works.command) (record old { kept = kept }) new answer → HasBeenTold v old new answer
 told_put v old new kept m put snap None x p = record { same = record { pass = p.same.pass; number = p.same.number; next = p.same.next }; begin = p.begin; running = p.running; is = p.is; waits = p.waits }
 told_put v old new kept m put snap (Some answer) x p = go x.works.command x.works.is x.works.run_of.1 p.2
   where
-    go : (command : Command) → slice_get (commands v.calls old.pass.0) v.answered ≡ Some command → IsLlxOf command m.node.0 (Some put) → Rests (record v { linked = linked_now v command }) new → Told v old new (Some answer)
+    go : (command : Command) → slice_get (commands v.calls old.pass.0) v.answered ≡ Some command → IsLlxOf command m.node.0 (Some put) → Rests (record v { linked = linked_now v command }) new → HasBeenTold v old new (Some answer)
     go (SetOf field y) is f rests =
         let w = full_answer v.layout v.past new.pass.0 (held new) answer rests.holds.share p.3 in
-        subst (λ (a : Answer). Told v old new (Some a)) (sym w.is)
+        subst (λ (a : Answer). HasBeenTold v old new (Some a)) (sym w.is)
         record {
           same = record { pass = p.0.pass; number = p.0.number; next = p.0.next };
           begin = p.1;

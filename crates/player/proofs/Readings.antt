@@ -8,36 +8,36 @@ use Rattle.arena.specs.declared.limits.Mode.TheVariants.{Records, Tree}
 use Rattle.arena.specs.declared.layout.Layout.{Layout}
 use Rattle.arena.specs.PlainWords.{Contents}
 use Rattle.arena.specs.History.{value}
-use Rattle.spelling.specs.OrderedMap.{MapCall, Get, Successor, Range, Insert as PutEdit, Delete as TakeEdit, MapReply, ManyPairs, pair_or_none, reply as answer_on}
-use Rattle.spelling.specs.Paths.{IsAnswerAt}
+use Rattle.ordered_map.specs.OrderedMap.{MapCall, Get, Successor, Range, Insert as PutEdit, Delete as TakeEdit, MapReply, ManyPairs, pair_or_none, reply as answer_on}
+use Rattle.ordered_map.specs.Paths.{IsAnswerAt}
 use Rattle.script.specs.declared.call.Call.{Call}
 use Rattle.script.specs.declared.command.Command.{Command}
 use Rattle.script.specs.declared.command.Command.TheVariants.{Map}
-use Rattle.spelling.specs.declared.request.Request.TheVariants.{Insert as InsertOf, Delete as DeleteOf, Get as GetOf, Successor as SuccessorOf, Range as RangeOf}
+use Rattle.ordered_map.specs.declared.request.Request.TheVariants.{Insert as InsertOf, Delete as DeleteOf, Get as GetOf, Successor as SuccessorOf, Range as RangeOf}
 use Rattle.record.specs.declared.record.Line.{Line}
 use Rattle.record.specs.declared.record.Finished.{Finished}
-use Rattle.spelling.specs.declared.reply.Reply.{Reply}
-use Rattle.spelling.specs.declared.reply.Reply.TheVariants.{Value, Pair, Pairs, Contended, NoMemory}
-use Rattle.spelling.specs.Replies.{word_pair, number_reply}
+use Rattle.ordered_map.specs.declared.reply.Reply.{Reply}
+use Rattle.ordered_map.specs.declared.reply.Reply.TheVariants.{Value, Pair, Pairs, Contended, NoMemory}
+use Rattle.ordered_map.specs.Replies.{word_pair, number_reply}
 use Rattle.record.specs.declared.record.Answer.{Answer}
 use Rattle.record.specs.declared.record.Answer.TheVariants.{Map as MapAnswer}
 use Rattle.record.specs.Turns.{history, turns, answered, begin, start, won, entry_owed}
 use Rattle.record.specs.Commands.{next_command}
 use Rattle.record.specs.Linked.{linked}
 use Rattle.record.specs.Answers.{moment_of, HasItsEntry}
-use Rattle.places.specs.declared.places.Change.{Change}
-use Rattle.places.specs.Entries.{AreEntries}
-use Rattle.places.specs.Ordered.{FallFrom, IsOrderedRead}
+use Rattle.moments.specs.declared.places.Change.{Change}
+use Rattle.moments.specs.Entries.{AreEntries}
+use Rattle.moments.specs.Ordered.{FallFrom, IsOrderedRead}
 use Rattle.player.specs.Moments.{IsMomentBy, IsOrderedMoment}
 use Rattle.player.specs.ClientView.{client_view, HasToldMap, Tells}
 use Rattle.record.specs.CommandRules.{IsRight, IsPlaced, enters}
 use Rattle.record.specs.MapRecord.{map_at, map_call, number_pairs, reply_told, written_log, entries_of_call}
-use Rattle.record.specs.Placed.{IsGreatestTurn, IsReading, IsRefused, IsPlacedOnMap}
+use Rattle.record.specs.Placed.{IsGreatestTurn, IsPlacedReading, IsRefused, IsPlacedOnMap}
 use Rattle.record.specs.LawfulRun.{IsWhole}
 use Rattle.record.specs.SpelledMap.{AreSpelled}
 use Rattle.record.proofs.Lemmas.{begin_within, entries_none, lawful_is_legal}
 use Rattle.player.specs.BetweenTurns.{IsLawfulSoFar}
-use Rattle.places.proofs.Lemmas.{IsRepliedIn, are_spelled, falls, get_placed, ordered_placed, replied_turn}
+use Rattle.moments.proofs.Lemmas.{IsRepliedIn, are_spelled, falls, get_placed, ordered_placed, replied_turn}
 use Rattle.player.proofs.MapCalls.{command_mode, map_calls, tree_run}
 use Rattle.player.proofs.EditPlaces.{IsEditReply, edit_placed, unwon_none}
 
@@ -58,7 +58,7 @@ get_reads lay tries calls words lines changes reply key x mode entries owed call
     spelled : AreSpelled lay calls lines
     spelled = spelled_so_far lay tries calls words lines x mode
 
-    told : (a : Option ℕ) → reply.answer ≡ MapAnswer (Value a) → IsReading calls lines (Get key) reply
+    told : (a : Option ℕ) → reply.answer ≡ MapAnswer (Value a) → IsPlacedReading calls lines (Get key) reply
     told a e =
         let found = (rw e at moment) entries in
         let at : IsAnswerAt lay (history lay.mode lines) (start lay.mode lines reply.client.0) key a = rw e at right in
@@ -70,7 +70,7 @@ get_reads lay tries calls words lines changes reply key x mode entries owed call
 
 -- an ordered read took place in a turn that was found for it
 module _ (lay : Layout) (tries : ℕ) (calls : List Call) (words : Contents) (lines : List Line) (changes : List Change) (reply : Finished) (x : IsLawfulSoFar lay tries calls words lines) (mode : lay.mode ≡ Tree) (entries : AreEntries calls lines changes) (owed : entry_owed lay lines ≡ None) (called : reply.call ≡ answered lines reply.client.0) (unwon : won lay lines reply.client.0 ≡ None) (begins : begin lines reply.client.0 ≡ Some reply.begin) (ends : reply.end ≡ turns lines) where
-  told_reads : (command : Command) (call : MapCall) (given : Reply ℕ ℕ) (told : MapReply) → IsOrderedRead command → map_call (Some command) ≡ Some call → next_command calls lines reply.client.0 ≡ Some command → reply.answer ≡ MapAnswer given → number_reply given ≡ Some told → HasToldMap (client_view lay tries calls lines reply.client.0) call (Some told) → IsOrderedMoment calls lines changes command given reply.begin reply.end reply.moment → IsReading calls lines call reply
+  told_reads : (command : Command) (call : MapCall) (given : Reply ℕ ℕ) (told : MapReply) → IsOrderedRead command → map_call (Some command) ≡ Some call → next_command calls lines reply.client.0 ≡ Some command → reply.answer ≡ MapAnswer given → number_reply given ≡ Some told → HasToldMap (client_view lay tries calls lines reply.client.0) call (Some told) → IsOrderedMoment calls lines changes command given reply.begin reply.end reply.moment → IsPlacedReading calls lines call reply
   told_reads command call given told ordered is_call is e says tells moment =
       ordered_placed lay tries calls lines reply call moment.turn x.in_order unwon called moment.is (subst (λ (a : Answer). IsGreatestTurn (λ m. reply_told a ≡ Some (answer_on call (map_at calls lines m))) reply.begin reply.end moment.turn) (sym e) (moment.greatest call some.0 entries fall ordered is_call some.1 (subst (λ (n : ℕ). some.0 ≤ n) (sym ends) some.2) (says ∙ ap (λ (t : MapReply). Some t) (sym some.3))))
     where

@@ -8,7 +8,7 @@ use Rattle.prims.specs.Cells.{AllowsAll}
 use Rattle.prims.specs.Llx.Laws.{llx_keeps, llx_lawful, llx_made}
 use Rattle.prims.specs.Vlx.Laws.{vlx_keeps, vlx_lawful, vlx_made}
 use Rattle.prims.specs.Put.Laws.{put_keeps, put_lawful, put_made}
-use Rattle.dict.specs.DictLaws.{dict_keeps, dict_lawful, dict_made}
+use Rattle.dict.specs.Laws.Dict.{dict_keeps, dict_lawful, dict_made}
 use Rattle.player.specs.declared.run.Run.{Run}
 use Rattle.player.specs.declared.run.Run.TheVariants.{Llx, Scx, Vlx, Map}
 use Rattle.dict.specs.Words.{IsNumber}

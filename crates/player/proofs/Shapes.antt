@@ -7,9 +7,9 @@ use Rattle.arena.specs.History.{History}
 use Rattle.arena.specs.Machines.{IsRun}
 use Rattle.arena.proofs.Lemmas.{run_as}
 use Rattle.prims.specs.Cells.{AllowsAll}
-use Rattle.spelling.specs.TreeShape.{TreeAllows}
+use Rattle.ordered_map.specs.TreeShape.{TreeAllows}
 use Rattle.dict.specs.Typed.{TypedAllows}
-use Rattle.dict.specs.TypedMaps.{typed_run}
+use Rattle.dict.specs.Laws.TypedMaps.{typed_run}
 use Rattle.dict.specs.Words.{IsNumber}
 use Rattle.player.specs.Allowed.{AllowsIn, PlayedAllows}
 

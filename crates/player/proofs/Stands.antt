@@ -15,13 +15,13 @@ use Rattle.player.specs.declared.client.Client.{Client}
 use Rattle.player.specs.declared.client.NextAction.TheVariants.{Finished, Answers, Asks}
 use Rattle.player.specs.declared.interleaving.Interleaving.{Interleaving}
 use Rattle.player.specs.Lines.{newest}
-use Rattle.player.specs.Place.{IsAt}
+use Rattle.player.specs.Place.{IsNextCallAt}
 use Rattle.record.specs.Commands.{commands, next_command}
 use Rattle.record.specs.Turns.{turns, begin, answered}
-use Rattle.player.specs.ClientView.{ClientView, client_view, Rests, Refuses, Waits, IsClient, IsNextAction, command_of}
-use Rattle.player.specs.BetweenTurns.{IsTurnOf, AreBetweenTurns, IsBetweenTurns, IsAsked, IsEnd, ArePlaces}
-use Rattle.places.specs.declared.places.Change.{Change}
-use Rattle.places.specs.Places.{changes}
+use Rattle.player.specs.ClientView.{ClientView, client_view, Rests, Refuses, WaitsForStep, IsClient, IsNextAction, command_of}
+use Rattle.player.specs.BetweenTurns.{IsTurnOf, AreBetweenTurns, IsBetweenTurns, IsStepAsked, IsEnd, ArePlaces}
+use Rattle.moments.specs.declared.places.Change.{Change}
+use Rattle.moments.specs.Places.{changes}
 use Rattle.player.proofs.Commands.{none_left, next_at}
 use Rattle.player.proofs.Middles.{turn_begins, turn_changed, finished_turn, refused_turn}
 use Rattle.player.proofs.Steps.{few_calls}
@@ -74,7 +74,7 @@ module _ (p : Interleaving) (i number : ℕ) (old new : Client) (played : IsBetw
   new_i same = ap (λ (k : PassNo). k.0) same ∙ is_i
 
   -- it asks for a step
-  pub stood_asked : (q : Interleaving) (step : Ask) → q.script.layout ≡ lay → q.script.limits ≡ p.script.limits → q.script.calls.items ≡ calls → q.words ≡ p.words → q.clients.items ≡ set p.clients.items i new → newest q.lines ≡ lines → q.wins.items ≡ p.wins.items → ArePlaces lay calls lines q.places → number ≡ suc (turns (newest q.lines)) → IsNextAction v number old new (Asks step) → IsAsked q i number step
+  pub stood_asked : (q : Interleaving) (step : Ask) → q.script.layout ≡ lay → q.script.limits ≡ p.script.limits → q.script.calls.items ≡ calls → q.words ≡ p.words → q.clients.items ≡ set p.clients.items i new → newest q.lines ≡ lines → q.wins.items ≡ p.wins.items → ArePlaces lay calls lines q.places → number ≡ suc (turns (newest q.lines)) → IsNextAction v number old new (Asks step) → IsStepAsked q i number step
   stood_asked q step a t b w d e f g n s = record {
     wins = rw (a, e, f) played.wins;
     places = rw (a, b, e) g;
@@ -86,7 +86,7 @@ module _ (p : Interleaving) (i number : ℕ) (old new : Client) (played : IsBetw
     running = s.1;
     runs = s.2;
     asks = s.3;
-    waits = rw (a, t, b, e) (subst (λ (k : ℕ). Waits (client_view lay tries calls lines k) new s.1) (sym (new_i s.0.pass)) s.4);
+    waits = rw (a, t, b, e) (subst (λ (k : ℕ). WaitsForStep (client_view lay tries calls lines k) new s.1) (sym (new_i s.0.pass)) s.4);
     began = began s.5;
   }
     where
@@ -125,7 +125,7 @@ module _ (p : Interleaving) (i number : ℕ) (old new : Client) (played : IsBetw
   pub own_next : is_some old.next ≡ is_some (next_command calls lines i)
   own_next = go is_client
     where
-      at : (next : Option ℕ) → old.next ≡ next → IsAt calls old.pass.0 (drop old.number (commands calls old.pass.0)) old.next → is_some next ≡ is_some (next_command calls lines i)
+      at : (next : Option ℕ) → old.next ≡ next → IsNextCallAt calls old.pass.0 (drop old.number (commands calls old.pass.0)) old.next → is_some next ≡ is_some (next_command calls lines i)
       at None e x = rw (own_number, is_i) at (ap is_some (sym (none_left calls old.pass.0 old.number (rw e at x))))
       at (Some n) e x = rw (own_number, is_i) at (ap is_some (sym (next_at calls old.pass.0 old.number n (rw e at x)).3))
 

@@ -19,20 +19,20 @@ use Rattle.arena.specs.Machines.{IsRun, IsTold}
 use Rattle.histories.proofs.Lemmas.{facts_before, lawful_row, update_win}
 use Rattle.arena.specs.declared.limits.Mode.TheVariants.{Records, Tree}
 use Rattle.player.specs.Allowed.{PlayedAllows}
-use Rattle.spelling.specs.FillOrder.{IsFillInOrder}
+use Rattle.ordered_map.specs.FillOrder.{IsFillInOrder}
 use Rattle.player.proofs.InOrder.{run_in_order}
 use Rattle.player.proofs.MapCalls.{command_mode}
 use Rattle.player.proofs.Commands.{none_left, next_at}
-use Rattle.player.specs.Place.{IsAt}
-use Rattle.spelling.specs.OrderedMap.{MapCall, MapEdit, edit_key, Insert as PutEdit, Delete as TakeEdit, Edit as EditCall}
-use Rattle.places.specs.declared.places.Change.{Change}
-use Rattle.places.specs.declared.places.Places.{Places}
-use Rattle.places.specs.Changed.{changed_key}
-use Rattle.places.specs.Places.{changes, Knows, HoldsOfKey}
-use Rattle.places.specs.Entries.{AreEntries, IsChangeBy, value_left}
+use Rattle.player.specs.Place.{IsNextCallAt}
+use Rattle.ordered_map.specs.OrderedMap.{MapCall, MapEdit, edit_key, Insert as PutEdit, Delete as TakeEdit, Edit as EditCall}
+use Rattle.moments.specs.declared.places.Change.{Change}
+use Rattle.moments.specs.declared.places.Places.{Places}
+use Rattle.moments.specs.Changed.{changed_key}
+use Rattle.moments.specs.Places.{changes, Knows, HoldsOfKey}
+use Rattle.moments.specs.Entries.{AreEntries, IsChangeBy, value_left}
 use Rattle.record.specs.MapRecord.{map_call}
 use Rattle.script.specs.declared.command.Command.TheVariants.{Scx as ScxOf, Set as SetOf, Map}
-use Rattle.spelling.specs.declared.request.Request.TheVariants.{Insert as InsertOf, Delete as DeleteOf}
+use Rattle.ordered_map.specs.declared.request.Request.TheVariants.{Insert as InsertOf, Delete as DeleteOf}
 use Rattle.script.specs.declared.call.Call.{Call}
 use Rattle.script.specs.declared.command.Command.{Command}
 use Rattle.record.specs.declared.record.Line.{Line}
@@ -55,8 +55,8 @@ use Rattle.player.proofs.Editing.{run_says}
 use Rattle.player.proofs.Placing.{done_enters}
 use Rattle.record.specs.Replies.{IsFitting, IsReplyOwed}
 use Rattle.record.specs.Entries.{IsWinOf}
-use Rattle.player.specs.ClientView.{ClientView, client_view, Tells, IsSound, Hears, IsClient, GoesOn, Ends, machine_call}
-use Rattle.player.specs.BetweenTurns.{IsLawfulSoFar, IsTurnOf, AreBetweenTurns, IsBetweenTurns, IsAsked, IsEnd, AreWins, ArePlaces, IsAtEdit}
+use Rattle.player.specs.ClientView.{ClientView, client_view, Tells, IsSound, Hears, IsClient, GoesOn, EndsCall, machine_call}
+use Rattle.player.specs.BetweenTurns.{IsLawfulSoFar, IsTurnOf, AreBetweenTurns, IsBetweenTurns, IsStepAsked, IsEnd, AreWins, ArePlaces, IsAtEdit}
 use Rattle.player.specs.Edits.{edit_command}
 use Rattle.player.proofs.Views.{own_row, step_sound, hears}
 use Rattle.player.proofs.Middles.{IsOver, get_there, others_step, others_log, so_far_same, step_made, turn_changed, turn_ends, replied}
@@ -93,7 +93,7 @@ begun_at lines number c (inr e) = rw e refl
 row_same : (pass : PassNo) (c call call' : ℕ) (kind : Kind) (word : Word) (before before' after after' : ℕ) → pass.0 ≡ c → call ≡ call' → before ≡ before' → after ≡ after' → (let r : Row = record { pass = pass; call = call; kind = kind; word = word; before = before; after = after } in r) ≡ record { pass = record { 0 = c }; call = call'; kind = kind; word = word; before = before'; after = after' }
 row_same pass c call call' kind word before before' after after' p k b a = rw (k, b, a) (ap (λ (n : ℕ). let r : Row = record { pass = record { 0 = n }; call = call'; kind = kind; word = word; before = before'; after = after' } in r) p)
 
-module _ (p : Interleaving) (i number : ℕ) (step : Ask) (a : IsAsked p i number step) where
+module _ (p : Interleaving) (i number : ℕ) (step : Ask) (a : IsStepAsked p i number step) where
   abbrev lay : Layout
   lay = p.script.layout
 
@@ -205,7 +205,7 @@ module _ (p : Interleaving) (i number : ℕ) (step : Ask) (a : IsAsked p i numbe
           win_of entry w.0 w.1 there.0 other.0 (of_other there.0 other.0 d other.1) (λ z. has_begun there.0 other.0 d other.1)
 
   -- on the tree the entry is of the edit at which its client stands
-  at_edit : (entry : Entry) (c : Client) → slice_get p.clients.items entry.client.0 ≡ Some c → c.pass.0 ≡ entry.client.0 → c.number ≡ answered lines entry.client.0 → IsAt calls c.pass.0 (drop c.number (commands calls c.pass.0)) c.next → IsWinOf lay calls lines made entry → lay.mode ≡ Tree → IsAtEdit calls p.clients.items entry
+  at_edit : (entry : Entry) (c : Client) → slice_get p.clients.items entry.client.0 ≡ Some c → c.pass.0 ≡ entry.client.0 → c.number ≡ answered lines entry.client.0 → IsNextCallAt calls c.pass.0 (drop c.number (commands calls c.pass.0)) c.next → IsWinOf lay calls lines made entry → lay.mode ≡ Tree → IsAtEdit calls p.clients.items entry
   at_edit entry c there is number place w tree = by_command w.command w.is w.does
     where
       own : slice_get (commands calls entry.client.0) (answered lines entry.client.0) ≡ slice_get (commands calls c.pass.0) c.number
@@ -299,7 +299,7 @@ heard_on lay tries calls words all lines c new q found number x g =
     (turn_changed lay tries calls words all lines c new g.same.pass x.turn)
 
 -- its call ends, and the reply is written down
-pub heard_end : (lay : Layout) (tries : ℕ) (calls : List Call) (words : Contents) (all : List Client) (lines : List Line) (changes : List Change) (c mid new : Client) (q : Running) (found number : ℕ) (answer : Answer) (said : Option ℕ) (reply : Finished) → (lay.mode ≡ Tree → AreEntries calls lines changes) → length calls ≤ 65536 → IsHeard lay tries calls words all lines c q found number → Ends (client_view lay tries calls lines c.pass.0) c mid answer → ((turn : ℕ) → won lay lines c.pass.0 ≡ Some turn → said ≡ Some turn) → IsEnd calls lines changes mid new number answer said reply → AreBetweenTurns lay tries calls words (set (set all c.pass.0 mid) c.pass.0 new) (ReplyLine reply ∷ lines)
+pub heard_end : (lay : Layout) (tries : ℕ) (calls : List Call) (words : Contents) (all : List Client) (lines : List Line) (changes : List Change) (c mid new : Client) (q : Running) (found number : ℕ) (answer : Answer) (said : Option ℕ) (reply : Finished) → (lay.mode ≡ Tree → AreEntries calls lines changes) → length calls ≤ 65536 → IsHeard lay tries calls words all lines c q found number → EndsCall (client_view lay tries calls lines c.pass.0) c mid answer → ((turn : ℕ) → won lay lines c.pass.0 ≡ Some turn → said ≡ Some turn) → IsEnd calls lines changes mid new number answer said reply → AreBetweenTurns lay tries calls words (set (set all c.pass.0 mid) c.pass.0 new) (ReplyLine reply ∷ lines)
 heard_end lay tries calls words all lines changes c mid new q found number answer said reply entries few x g wins e =
     subst (λ (k : ℕ). AreBetweenTurns lay tries calls words (set (set all c.pass.0 mid) k new) (ReplyLine reply ∷ lines)) pass0
     (replied lay tries calls words (set all c.pass.0 mid) lines changes mid new answer said reply g.command number entries few
@@ -373,8 +373,8 @@ turns_logged lay pushed after m = go (entry_owed lay pushed) m
 pub told_goes : (v : ClientView) (now c new : Client) (q : Running) (found : ℕ) → now ≡ c → IsSound v → c.running ≡ Some q → Hears v c q found → ((w : ClientView) (r : Running) → IsSound w → now.running ≡ Some r → Hears w now r found → GoesOn w now new) → GoesOn v c new
 told_goes v now c new q found e sound runs h f = subst (λ (k : Client). GoesOn v k new) e (f v q sound (subst (λ (k : Client). k.running ≡ Some q) (sym e) runs) (subst (λ (k : Client). Hears v k q found) (sym e) h))
 
-pub told_ends : (v : ClientView) (now c new : Client) (q : Running) (found : ℕ) (answer : Answer) → now ≡ c → IsSound v → c.running ≡ Some q → Hears v c q found → ((w : ClientView) (r : Running) → IsSound w → now.running ≡ Some r → Hears w now r found → Ends w now new answer) → Ends v c new answer
-told_ends v now c new q found answer e sound runs h f = subst (λ (k : Client). Ends v k new answer) e (f v q sound (subst (λ (k : Client). k.running ≡ Some q) (sym e) runs) (subst (λ (k : Client). Hears v k q found) (sym e) h))
+pub told_ends : (v : ClientView) (now c new : Client) (q : Running) (found : ℕ) (answer : Answer) → now ≡ c → IsSound v → c.running ≡ Some q → Hears v c q found → ((w : ClientView) (r : Running) → IsSound w → now.running ≡ Some r → Hears w now r found → EndsCall w now new answer) → EndsCall v c new answer
+told_ends v now c new q found answer e sound runs h f = subst (λ (k : Client). EndsCall v k new answer) e (f v q sound (subst (λ (k : Client). k.running ≡ Some q) (sym e) runs) (subst (λ (k : Client). Hears v k q found) (sym e) h))
 
 -- a script has few calls
 pub few_calls : (p : Interleaving) → length p.script.calls.items ≤ 65536

@@ -12,7 +12,7 @@ use Rattle.script.specs.Commands.{AsksForFewPairs}
 use Rattle.script.specs.declared.call.Call.{Call}
 use Rattle.script.specs.declared.command.Command.{Command}
 use Rattle.script.specs.declared.command.Command.TheVariants.{Llx, Scx, Vlx, Set, Map}
-use Rattle.spelling.specs.declared.request.Request.TheVariants.{Insert, Delete, Get, Successor, Range}
+use Rattle.ordered_map.specs.declared.request.Request.TheVariants.{Insert, Delete, Get, Successor, Range}
 use Rattle.record.specs.declared.record.Line.{Line}
 use Rattle.record.specs.declared.record.Line.TheVariants.{Step, Log, Reply}
 use Rattle.record.specs.declared.record.Finished.{Finished}
@@ -22,7 +22,7 @@ use Rattle.player.specs.Player.{PlayerView, IsPlayed, IsTurnMore}
 use Rattle.arena.specs.TakenNodes.{taken_nodes}
 use Rattle.record.specs.Turns.{history, turns, clients, client_of, answered, steps, last_client, made, is_of}
 use Rattle.record.specs.Commands.{commands, next_command}
-use Rattle.record.specs.CommandRules.{most_steps}
+use Rattle.record.specs.CommandRules.{command_steps}
 use Rattle.record.specs.LawfulRun.{OwesNothing, AreLines}
 use Rattle.record.specs.Replies.{IsReply}
 use Rattle.player.proofs.MapCalls.{command_few}
@@ -153,7 +153,7 @@ moves lay tries calls c older row (Log entry ∷ Step row' ∷ behind) x settled
 moves lay tries calls c older row (Reply reply ∷ Step row' ∷ behind) x settled quiet own has = absurd cc
 
 -- no call may make more steps than these
-most_few : (lay : Layout) (tries : ℕ) (command : Command) (taken : ℕ) → AsksForFewPairs command → taken ≤ lay.passes * lay.nodes → most_steps command tries taken ≤ most_of_all lay tries
+most_few : (lay : Layout) (tries : ℕ) (command : Command) (taken : ℕ) → AsksForFewPairs command → taken ≤ lay.passes * lay.nodes → command_steps command tries taken ≤ most_of_all lay tries
 most_few lay tries (Llx cell) taken few i = omega arith
 most_few lay tries (Scx update) taken few i = omega arith
 most_few lay tries (Vlx cells) taken small i = let few = cells.few in grind (arith, length-take)

@@ -32,7 +32,7 @@ use Rattle.player.specs.KeptSnaps.{IsUnspent, kept_of, snap_of}
 use Rattle.record.specs.Answers.{HasRoom}
 use Rattle.player.specs.RunKnown.{RunWaits, RunIsReady, run_mode}
 use Rattle.player.proofs.RunLaws.{run_keeps, run_lawful, run_made}
-use Rattle.player.specs.ClientView.{ClientView, Hand, no_hand, in_hand, snaps_of, IsSound, HasNewest, IsStart, IsSource, IsMachineOf, HasTaken, HaveMoments, IsRoomy, IsWonAs, IsOwnWin, IsWonSince, IsWonBy, held, HoldsShare, Holds, TakesInHand, IsClientState, Rests, Works, Waits, Hears, IsClient, machine_call}
+use Rattle.player.specs.ClientView.{ClientView, Hand, no_hand, in_hand, snaps_of, IsSound, HasNewest, IsStart, IsSource, IsMachineOf, HasTaken, HaveMoments, IsRoomy, IsWonAs, IsOwnWin, IsWonSince, IsWonBy, held, HoldsShare, Holds, TakesInHand, IsClientState, Rests, Works, WaitsForStep, Hears, IsClient, machine_call}
 use Rattle.prims.specs.Shares.{IsShare}
 use Rattle.player.proofs.Over.{IsOfCells, takes_by_own, nodes_by_own}
 use Rattle.prims.specs.declared.put.PutRun.{PutRun}
@@ -300,7 +300,7 @@ module _ (v : ClientView) (c : Client) (r : Row) (number : ℕ) (start : History
   rests_by_others : Rests v c → Rests (after_row v r start v.steps won) c
   rests_by_others x = record { stands = hand_then (no_hand (held c)) (covers_none v.layout (r ⊳ v.past) c.pass.0 (held c) _ _ run.lawful (share_then (no_hand (held c)) x.holds).share) x.stands x.holds; holds = share_then (no_hand (held c)) x.holds; none = x.none }
 
-  waits_by_others : (began : Option ℕ) → ((k : ℕ) → began ≡ Some k → (start ≡ v.start) × (k ≤ number)) → (q : Running) → c.running ≡ Some q → (w : Waits v c q) → began ≡ Some c.begin → IsClient (after_row v r start v.steps won) began c
+  waits_by_others : (began : Option ℕ) → ((k : ℕ) → began ≡ Some k → (start ≡ v.start) × (k ≤ number)) → (q : Running) → c.running ≡ Some q → (w : WaitsForStep v c q) → began ≡ Some c.begin → IsClient (after_row v r start v.steps won) began c
   unfolding works_more
   waits_by_others began g q is w e =
       let waits = run_keeps q.run (machine_call v c w.works.is_pass w.works.start) v.past q.step r w.works.mode run other w.waits in
@@ -314,7 +314,7 @@ client_by_others v c r number start won sound run tells other began f g (inr (q,
 
 -- Its own step
 
-module _ (v : ClientView) (c : Client) (q : Running) (sound : IsSound v) (w : Waits v c q) where
+module _ (v : ClientView) (c : Client) (q : Running) (sound : IsSound v) (w : WaitsForStep v c q) where
   abbrev call : Call
   call = machine_call v c w.works.is_pass w.works.start
 

@@ -18,23 +18,23 @@ use Rattle.record.specs.declared.record.Answer.{Answer}
 use Rattle.player.specs.declared.client.Running.{Running}
 use Rattle.player.specs.Allowed.{PlayedAllows}
 use Rattle.arena.specs.declared.limits.Mode.TheVariants.{Tree}
-use Rattle.spelling.specs.FillOrder.{AreFilledInOrder}
+use Rattle.ordered_map.specs.FillOrder.{AreFilledInOrder}
 use Rattle.player.specs.Lines.{newest}
 use Rattle.player.specs.declared.client.Client.{Client}
 use Rattle.player.specs.Player.{PlayerView, script_view}
 use Rattle.player.specs.declared.interleaving.Interleaving.{Interleaving}
 use Rattle.record.specs.Turns.{history, begin, turns, won}
-use Rattle.spelling.specs.OrderedMap.{MapEdit, Edit}
+use Rattle.ordered_map.specs.OrderedMap.{MapEdit, Edit}
 use Rattle.player.specs.Edits.{edit_command}
 use Rattle.record.specs.declared.record.Entry.{Entry}
 use Rattle.record.specs.MapRecord.{map_call_of}
-use Rattle.places.specs.declared.places.Change.{Change}
-use Rattle.places.specs.declared.places.Places.{Places}
-use Rattle.places.specs.Places.{changes, Knows, HoldsOfKey}
-use Rattle.places.specs.Entries.{AreEntries}
+use Rattle.moments.specs.declared.places.Change.{Change}
+use Rattle.moments.specs.declared.places.Places.{Places}
+use Rattle.moments.specs.Places.{changes, Knows, HoldsOfKey}
+use Rattle.moments.specs.Entries.{AreEntries}
 use Rattle.player.specs.Moments.{IsMomentBy}
 use Rattle.record.specs.LawfulRun.{AreLines, OwesNothing}
-use Rattle.player.specs.ClientView.{client_view, IsClient, Waits, IsAtNextCall}
+use Rattle.player.specs.ClientView.{client_view, IsClient, WaitsForStep, IsAtNextCall}
 
 -- the words hold what the steps have left in them, the steps
 -- are a lawful run, and the lines fit one by one
@@ -87,7 +87,7 @@ pub record IsBetweenTurns (p : Interleaving) : Type 0 where
 -- In the middle of a turn
 
 -- the i-th client, whose turn it is, asks for this step
-pub record IsAsked (p : Interleaving) (i number : ℕ) (step : Ask) : Type 0 where
+pub record IsStepAsked (p : Interleaving) (i number : ℕ) (step : Ask) : Type 0 where
   pub client : Client
   pub is : client.pass.0 ≡ i
   pub settled : OwesNothing p.script.layout p.script.calls.items (newest p.lines)
@@ -96,7 +96,7 @@ pub record IsAsked (p : Interleaving) (i number : ℕ) (step : Ask) : Type 0 whe
   pub running : Running
   pub runs : client.running ≡ Some running
   pub asks : running.step ≡ step
-  pub waits : Waits (client_view p.script.layout p.script.limits.tries p.script.calls.items (newest p.lines) client.pass.0) client running
+  pub waits : WaitsForStep (client_view p.script.layout p.script.limits.tries p.script.calls.items (newest p.lines) client.pass.0) client running
   pub wins : AreWins p.script.layout (newest p.lines) p.wins.items
   pub places : ArePlaces p.script.layout p.script.calls.items (newest p.lines) p.places
   -- its call began at this turn, or at the turn that the lines say

@@ -23,18 +23,18 @@ use Rattle.prims.specs.Snaps.{IsAmong}
 use Rattle.prims.specs.Updates.{update_field_index}
 use Rattle.prims.specs.declared.put.PutRun.{PutRun}
 use Rattle.prims.specs.declared.snap.Snap.{Snap}
-use Rattle.places.specs.Replied.{HasReplied}
-use Rattle.spelling.specs.OrderedMap.{MapCall, Successor, Range, MapReply, get, reply}
-use Rattle.spelling.specs.Spelled.{Spells}
-use Rattle.spelling.specs.declared.pair.Pair.{Pair}
+use Rattle.moments.specs.Replied.{HasReplied}
+use Rattle.ordered_map.specs.OrderedMap.{MapCall, Successor, Range, MapReply, get, reply}
+use Rattle.ordered_map.specs.Spelled.{Spells}
+use Rattle.ordered_map.specs.declared.pair.Pair.{Pair}
 use Rattle.script.specs.declared.call.Call.{Call}
 use Rattle.script.specs.declared.command.Command.{Command}
 use Rattle.script.specs.declared.command.Command.TheVariants.{Llx as LlxOf, Scx as ScxOf, Vlx as VlxOf, Set as SetOf, Map as MapOf}
-use Rattle.spelling.specs.Requests.{map_request}
-use Rattle.spelling.specs.declared.request.Request.{Request}
-use Rattle.spelling.specs.declared.request.Request.TheVariants.{Insert as InsertOf, Delete as DeleteOf, Successor as SuccessorOf, Range as RangeOf}
+use Rattle.ordered_map.specs.Requests.{map_request}
+use Rattle.ordered_map.specs.declared.request.Request.{Request}
+use Rattle.ordered_map.specs.declared.request.Request.TheVariants.{Insert as InsertOf, Delete as DeleteOf, Successor as SuccessorOf, Range as RangeOf}
 use Rattle.record.specs.declared.record.Line.{Line}
-use Rattle.spelling.specs.declared.reply.Reply.TheVariants.{Value}
+use Rattle.ordered_map.specs.declared.reply.Reply.TheVariants.{Value}
 use Rattle.record.specs.declared.record.Answer.{Answer}
 use Rattle.script.specs.Cells.{cells_of}
 use Rattle.script.specs.Update.{update_cells, update_finalize, update_field, update_value}
@@ -51,12 +51,12 @@ use Rattle.player.specs.Allowed.{PlayedAllows}
 use Rattle.player.specs.RunKnown.{RunIsReady, RunWaits, RunAnswers, run_mode, share_behind}
 use Rattle.player.specs.RunSteps.{then_left, left_of}
 use Rattle.player.specs.KeptSnaps.{AreKept, IsUnspent, kept_of}
-use Rattle.player.specs.Place.{IsAt}
+use Rattle.player.specs.Place.{IsNextCallAt}
 use Rattle.record.specs.Turns.{history, answered, start, steps, won}
 use Rattle.record.specs.Commands.{commands}
 use Rattle.record.specs.Linked.{linked}
 use Rattle.record.specs.MapRecord.{reply_told}
-use Rattle.record.specs.CommandRules.{linked_then, most_steps, MayAnswerAtOnce, MayAnswerAfterStep, HasTakenFew, enters, IsRight}
+use Rattle.record.specs.CommandRules.{linked_then, command_steps, MayAnswerAtOnce, MayAnswerAfterStep, HasTakenFew, enters, IsRight}
 use Rattle.record.specs.Snapshots.{IsLastLook}
 use Rattle.record.specs.Answers.{HasRoom, HasItsEntry}
 
@@ -161,7 +161,7 @@ pub record IsClientState (v : ClientView) (c : Client) (hand : Hand) : Type 0 wh
   pub is_pass : c.pass.0 < v.layout.passes
   pub tries : c.tries ≡ v.tries
   pub number : c.number ≡ v.answered
-  pub place : IsAt v.calls c.pass.0 (drop c.number (commands v.calls c.pass.0)) c.next
+  pub place : IsNextCallAt v.calls c.pass.0 (drop c.number (commands v.calls c.pass.0)) c.next
   -- what it keeps are snapshots that the lines say
   pub kept : AreKept v.layout c.pass.0 v.past v.linked c.kept
   -- of other cells the lines say none, but of those that it has in hand
@@ -306,7 +306,7 @@ pub record Starts (v : ClientView) (c : Client) (run : Run) (then : Option Put) 
   pub works : Works v c run then
   pub none : c.running ≡ None
   pub ready : RunIsReady run (machine_call v c works.is_pass works.start) v.past None
-  pub few : (taken : ℕ) → length (taken_nodes v.past) ≤ taken → v.steps + left_of run then taken ≤ most_steps works.command v.tries taken
+  pub few : (taken : ℕ) → length (taken_nodes v.past) ≤ taken → v.steps + left_of run then taken ≤ command_steps works.command v.tries taken
 
 -- the machine has answered
 pub record Answered (v : ClientView) (c : Client) (run : Run) (then : Option Put) (ended : Ended) : Type 0 where
@@ -315,22 +315,22 @@ pub record Answered (v : ClientView) (c : Client) (run : Run) (then : Option Put
   pub answers : RunAnswers run (machine_call v c works.is_pass works.start) v.past ended
   -- the share is the client's again
   pub back : c.share ≡ share_behind run c.share
-  pub few : (taken : ℕ) → length (taken_nodes v.past) ≤ taken → v.steps + then_left then ≤ most_steps works.command v.tries taken
+  pub few : (taken : ℕ) → length (taken_nodes v.past) ≤ taken → v.steps + then_left then ≤ command_steps works.command v.tries taken
 
 -- the machine waits for a step
-pub record Waits (v : ClientView) (c : Client) (running : Running) : Type 0 where
+pub record WaitsForStep (v : ClientView) (c : Client) (running : Running) : Type 0 where
   pub works : Works v c running.run running.then
   pub waits : RunWaits running.run (machine_call v c works.is_pass works.start) v.past running.step
-  pub few : (taken : ℕ) → length (taken_nodes v.past) ≤ taken → suc (v.steps + left_of running.run running.then taken) ≤ most_steps works.command v.tries taken
+  pub few : (taken : ℕ) → length (taken_nodes v.past) ≤ taken → suc (v.steps + left_of running.run running.then taken) ≤ command_steps works.command v.tries taken
 
 -- the machine may be called with what its step has found
 pub record Hears (v : ClientView) (c : Client) (running : Running) (found : ℕ) : Type 0 where
   pub works : Works v c running.run running.then
   pub ready : RunIsReady running.run (machine_call v c works.is_pass works.start) v.past (Some found)
-  pub few : (taken : ℕ) → length (taken_nodes v.past) ≤ taken → v.steps + left_of running.run running.then taken ≤ most_steps works.command v.tries taken
+  pub few : (taken : ℕ) → length (taken_nodes v.past) ≤ taken → v.steps + left_of running.run running.then taken ≤ command_steps works.command v.tries taken
 
 -- the client's next call has not begun
-pub record IsUnbegun (v : ClientView) (began : Option ℕ) : Type 0 where
+pub record IsNextCallUnbegun (v : ClientView) (began : Option ℕ) : Type 0 where
   pub none : began ≡ None
   pub start : v.start ≡ v.past
   pub steps : v.steps ≡ 0
@@ -339,7 +339,7 @@ pub record IsUnbegun (v : ClientView) (began : Option ℕ) : Type 0 where
 -- a client between two turns, whose first turn since its last reply was `began`: it rests, or waits
 -- for a step of the call that began then
 abbrev pub IsClient : ClientView → Option ℕ → Client → Type 0
-IsClient v began c = (Rests v c × ((c.next ≡ None) ⊎ IsUnbegun v began)) ⊎ ((r : Running) × (c.running ≡ Some r) × Waits v c r × (began ≡ Some c.begin))
+IsClient v began c = (Rests v c × ((c.next ≡ None) ⊎ IsNextCallUnbegun v began)) ⊎ ((r : Running) × (c.running ≡ Some r) × WaitsForStep v c r × (began ≡ Some c.begin))
 
 -- What its turns leave
 
@@ -355,7 +355,7 @@ pub record GoesOn (v : ClientView) (old new : Client) : Type 0 where
   pub begin : new.begin ≡ old.begin
   pub running : Running
   pub is : new.running ≡ Some running
-  pub waits : Waits v new running
+  pub waits : WaitsForStep v new running
 
 -- the client's next call answers without a step, and the answer is right
 pub record Refuses (v : ClientView) (c : Client) (answer : Answer) : Type 0 where
@@ -372,7 +372,7 @@ abbrev pub linked_by : ClientView → Command → Answer → ℕ → Option Hist
 linked_by v command answer n = linked_then (Some command) answer v.past n (v.linked n)
 
 -- an edit of the key is done by one row of the call, just before which the map had this there
-pub record HasEdited (v : ClientView) (c key : ℕ) (old : Option ℕ) : Type 0 where
+pub record HasEditedKey (v : ClientView) (c key : ℕ) (old : Option ℕ) : Type 0 where
   pub row : Row
   pub before : History
   pub scx : ℕ
@@ -387,14 +387,14 @@ HasToldMap v call (Some told) = HasReplied v.layout v.past v.start call told ⊎
 -- what an edit tells is what its own row has found, and a delete of an absent key has none; what an
 -- ordered read tells the map has replied
 abbrev pub Tells : ClientView → ℕ → Command → Answer → Type 0
-Tells v c (MapOf (InsertOf key value)) (MapAnswer (Value old)) = HasEdited v c key old
-Tells v c (MapOf (DeleteOf key)) (MapAnswer (Value (Some old))) = HasEdited v c key (Some old)
+Tells v c (MapOf (InsertOf key value)) (MapAnswer (Value old)) = HasEditedKey v c key old
+Tells v c (MapOf (DeleteOf key)) (MapAnswer (Value (Some old))) = HasEditedKey v c key (Some old)
 Tells v c (MapOf (SuccessorOf key)) answer = HasToldMap v (Successor key) (reply_told answer)
 Tells v c (MapOf (RangeOf low high most)) answer = HasToldMap v (Range low high most) (reply_told answer)
 Tells v c command answer = Unit {0}
 
 -- the client's call is answered, and the answer is right
-pub record Ends (v : ClientView) (old new : Client) (answer : Answer) : Type 0 where
+pub record EndsCall (v : ClientView) (old new : Client) (answer : Answer) : Type 0 where
   pub same : IsSameCall old new
   pub begin : new.begin ≡ old.begin
   pub command : Command
@@ -409,15 +409,15 @@ pub record Ends (v : ClientView) (old new : Client) (answer : Answer) : Type 0 w
 
 -- what became of a client that was told what its step
 -- found: it asks for another, or its call is answered
-abbrev pub Told : ClientView → Client → Client → Option Answer → Type 0
-Told v old new None = GoesOn v old new
-Told v old new (Some answer) = Ends v old new answer
+abbrev pub HasBeenTold : ClientView → Client → Client → Option Answer → Type 0
+HasBeenTold v old new None = GoesOn v old new
+HasBeenTold v old new (Some answer) = EndsCall v old new answer
 
 -- how a client is once its turn has come: a call that it begins begins at this turn
 abbrev pub IsNextAction : ClientView → ℕ → Client → Client → NextAction → Type 0
 IsNextAction v turn old new Finished = (new ≡ old) × (old.next ≡ None) × Rests v old
 IsNextAction v turn old new (Answers answer) = IsSameCall old new × Rests v old × Refuses v new answer × (new.begin ≡ turn)
-IsNextAction v turn old new (Asks step) = IsSameCall old new × (r : Running) × (new.running ≡ Some r) × (r.step ≡ step) × Waits v new r × ((Rests v old × (new.begin ≡ turn)) ⊎ ((old.running ≢ None) × (new.begin ≡ old.begin)))
+IsNextAction v turn old new (Asks step) = IsSameCall old new × (r : Running) × (new.running ≡ Some r) × (r.step ≡ step) × WaitsForStep v new r × ((Rests v old × (new.begin ≡ turn)) ⊎ ((old.running ≢ None) × (new.begin ≡ old.begin)))
 
 -- A call begins
 
@@ -437,7 +437,7 @@ pub record CanPut (v : ClientView) (linked : ℕ → Option History) (c : Client
   -- the client's command is one that such an SCX serves
   pub serves : (m : PutRun) → IsPutOf m c.number (nodes_of snaps) removed field x → IsScxOf command c.number m None
   -- it may make as many steps more
-  pub few : (taken : ℕ) → v.steps + 40 ≤ most_steps command v.tries taken
+  pub few : (taken : ℕ) → v.steps + 40 ≤ command_steps command v.tries taken
 
 -- the answer names what the share has none of
 abbrev pub TellsFull : Remaining → Answer → Type 0
@@ -451,12 +451,12 @@ Puts v linked old new (Some answer) = IsSameCall old new × (new.begin ≡ old.b
 
 -- a call begins at this turn, or is refused
 abbrev pub BeginsOrRefuses : ClientView → ℕ → Client → Client → Option Answer → Type 0
-BeginsOrRefuses v turn old new None = IsSameCall old new × (new.begin ≡ turn) × ((r : Running) × (new.running ≡ Some r) × Waits v new r)
+BeginsOrRefuses v turn old new None = IsSameCall old new × (new.begin ≡ turn) × ((r : Running) × (new.running ≡ Some r) × WaitsForStep v new r)
 BeginsOrRefuses v turn old new (Some answer) = IsSameCall old new × (new.begin ≡ turn) × Refuses v new answer
 
 -- the client stands at its next call, the one behind the call that has ended
 pub record IsAtNextCall (calls : List Call) (old new : Client) : Type 0 where
   pub same : new ≡ record old { next = new.next; number = new.number }
   pub none : old.next ≡ None → (new.next ≡ None) × (new.number ≡ old.number)
-  pub next : (at : ℕ) → old.next ≡ Some at → suc at < 2 ^ 64 → IsAt calls old.pass.0 (commands (drop (suc at) calls) old.pass.0) new.next
+  pub next : (at : ℕ) → old.next ≡ Some at → suc at < 2 ^ 64 → IsNextCallAt calls old.pass.0 (commands (drop (suc at) calls) old.pass.0) new.next
   pub number : (at : ℕ) → old.next ≡ Some at → suc old.number < 2 ^ 64 → new.number ≡ suc old.number

@@ -1,8 +1,8 @@
 -- The commands that edit the map.
 use Rattle.script.specs.declared.command.Command.{Command}
 use Rattle.script.specs.declared.command.Command.TheVariants.{Map}
-use Rattle.spelling.specs.OrderedMap.{MapEdit, Insert, Delete}
-use Rattle.spelling.specs.declared.request.Request.TheVariants.{Insert as InsertOf, Delete as DeleteOf}
+use Rattle.ordered_map.specs.OrderedMap.{MapEdit, Insert, Delete}
+use Rattle.ordered_map.specs.declared.request.Request.TheVariants.{Insert as InsertOf, Delete as DeleteOf}
 
 -- the command that is the edit
 abbrev pub edit_command : MapEdit → Command

@@ -1,22 +1,22 @@
 -- Where a call took place, by what it has answered.
 use Rattle.std.specs.Prelude.{◌≡◌, ◌≢◌, ℕ, suc, ◌≤◌, List, Option, Some, None, IfSome, IfNone}
-use Rattle.spelling.specs.OrderedMap.{MapCall, get, reply as replies_on}
+use Rattle.ordered_map.specs.OrderedMap.{MapCall, get, reply as replies_on}
 use Rattle.script.specs.declared.call.Call.{Call}
 use Rattle.script.specs.declared.command.Command.{Command}
 use Rattle.script.specs.declared.command.Command.TheVariants.{Map}
-use Rattle.spelling.specs.declared.request.Request.TheVariants.{Insert, Delete, Get, Successor, Range}
-use Rattle.spelling.specs.Replies.{number_reply}
-use Rattle.spelling.specs.declared.reply.Reply.{Reply}
-use Rattle.spelling.specs.declared.reply.Reply.TheVariants.{Value, Pair, Pairs}
+use Rattle.ordered_map.specs.declared.request.Request.TheVariants.{Insert, Delete, Get, Successor, Range}
+use Rattle.ordered_map.specs.Replies.{number_reply}
+use Rattle.ordered_map.specs.declared.reply.Reply.{Reply}
+use Rattle.ordered_map.specs.declared.reply.Reply.TheVariants.{Value, Pair, Pairs}
 use Rattle.record.specs.declared.record.Line.{Line}
 use Rattle.record.specs.declared.record.Answer.{Answer}
 use Rattle.record.specs.declared.record.Answer.TheVariants.{Map as MapAnswer}
 use Rattle.record.specs.Answers.{moment_of}
 use Rattle.record.specs.MapRecord.{map_at, map_call}
 use Rattle.record.specs.Placed.{IsGreatestTurn}
-use Rattle.places.specs.declared.places.Change.{Change}
-use Rattle.places.specs.Entries.{AreEntries}
-use Rattle.places.specs.Ordered.{FallFrom, IsOrderedRead}
+use Rattle.moments.specs.declared.places.Change.{Change}
+use Rattle.moments.specs.Entries.{AreEntries}
+use Rattle.moments.specs.Ordered.{FallFrom, IsOrderedRead}
 
 -- the moment of a call that reads: the greatest turn within the call, whoever's, after which the
 -- map has this at the key, where the changes are those of the log

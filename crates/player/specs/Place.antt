@@ -6,6 +6,6 @@ use Rattle.record.specs.Commands.{commands}
 
 -- where the first of client c's commands that are still to come
 -- stands among the calls; nowhere if none is to come
-abbrev pub IsAt : List Call → ℕ → List Command → Option ℕ → Type 0
-IsAt calls c left None = left ≡ []
-IsAt calls c left (Some at) = (call : Call) × (slice_get calls at ≡ Some call) × (call.client.0 ≡ c) × (left ≡ call.command ∷ commands (drop (suc at) calls) c)
+abbrev pub IsNextCallAt : List Call → ℕ → List Command → Option ℕ → Type 0
+IsNextCallAt calls c left None = left ≡ []
+IsNextCallAt calls c left (Some at) = (call : Call) × (slice_get calls at ≡ Some call) × (call.client.0 ≡ c) × (left ≡ call.command ∷ commands (drop (suc at) calls) c)

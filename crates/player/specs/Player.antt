@@ -24,7 +24,8 @@ pub record ScriptView : Type 0 where
 abbrev pub script_view : Script → ScriptView
 script_view s = record { limits = s.limits; layout = s.layout; calls = s.calls.items }
 
--- what contracts see of a player: what its script says, and the lines of its turns, the newest first
+-- what contracts see of a player: what its script says,
+-- and the lines of its turns, the newest first
 pub record PlayerView : Type 0 where
   pub script : ScriptView
   pub lines : List Line

@@ -19,9 +19,9 @@ use Rattle.prims.specs.declared.scx.Scx.TheVariants.{Done as ScxDone, Lost as Sc
 use Rattle.prims.specs.declared.vlx.Vlx.TheVariants.{Same as VlxSame, Changed as VlxChanged}
 use Rattle.record.specs.declared.record.Answer.{Answer}
 use Rattle.record.specs.declared.record.Answer.TheVariants.{Snapshot, Finalized, Fail, Done, Lost, Same, Changed, Map as MapAnswer}
-use Rattle.spelling.specs.CallRules.{TakesNothing}
-use Rattle.spelling.specs.declared.request.Request.{Request}
-use Rattle.spelling.specs.declared.request.Request.TheVariants.{Range as RangeOf}
+use Rattle.ordered_map.specs.CallRules.{TakesNothing}
+use Rattle.ordered_map.specs.declared.request.Request.{Request}
+use Rattle.ordered_map.specs.declared.request.Request.TheVariants.{Range as RangeOf}
 use Rattle.dict.specs.Words.{IsNumber}
 use Rattle.player.specs.Allowed.{IsSmall}
 use Rattle.player.specs.declared.run.Run.{Run}

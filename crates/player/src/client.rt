@@ -2,7 +2,7 @@
 ghost use Rattle.std.specs.Prelude.{◌≡◌, ℕ, ◌+◌, ◌<◌, ◌≤◌, length, map, IfOk, MatchBool};
 ghost use Rattle.dict.specs.Calls.{AsksForPairs};
 ghost use Rattle.player.specs.RunKnown.{IsForNothing};
-ghost use Rattle.spelling.specs.Requests.{map_request};
+ghost use Rattle.ordered_map.specs.Requests.{map_request};
 
 use crate::kept::Kept;
 use crate::place::next_call;
@@ -10,11 +10,11 @@ use crate::run::{Ended, Run};
 use arena::{Fresh, Full, Layout, NodeNo, PassNo, Resource, ScxNo, Share, Side, Step, Turn};
 use arrayvec::ArrayVec;
 use dict::DictRun;
-use places::Places;
+use moments::Places;
+use ordered_map::{Reply, Request};
 use prims::{Llx, LlxRun, PutRun, ScxRun, Snap, Snaps, Update, VlxRun};
 use record::{Answer, Finished};
 use script::{Call, Cell, Command};
-use spelling::{Reply, Request};
 use std::alloc::Global;
 
 /// What a `set` does once its LLX has given a snapshot.
@@ -66,7 +66,7 @@ impl Client {
     ghost use Rattle.script.specs.Commands.{mode_of, AsksForFewPairs};
     ghost use Rattle.arena.specs.declared.limits.Mode.TheVariants.{Records};
     ghost use Rattle.script.specs.declared.command.Command.TheVariants.{Scx as ScxCommand, Map as MapCommand};
-    ghost use Rattle.spelling.specs.Requests.{AsksForFew};
+    ghost use Rattle.ordered_map.specs.Requests.{AsksForFew};
     ghost use Rattle.arena.specs.History.{History};
     ghost use Rattle.prims.specs.declared.snap.Snap.{Snap};
     ghost use Rattle.player.specs.declared.run.Run.{Run};
@@ -79,10 +79,10 @@ impl Client {
     ghost use Rattle.script.specs.declared.call.Call.{Call as ScriptCall};
     ghost use Rattle.arena.specs.Share.{IsFull, after_taking};
     ghost use Rattle.record.specs.declared.record.Line.{Line};
-    ghost use Rattle.places.specs.Places.{changes};
+    ghost use Rattle.moments.specs.Places.{changes};
     ghost use Rattle.player.specs.Moments.{IsMomentBy, IsPairsMoment, IsReplyMoment, IsValueMoment};
     ghost use Rattle.player.specs.RunKnown.{share_behind};
-    ghost use Rattle.player.specs.ClientView.{ClientView, client_view, IsSound, IsAtNextCall, Rests, command_of, Starts, Hears, Answered, Told, CanPut, Puts, held, BeginsOrRefuses, IsNextAction, IsUnbegun, IsClient};
+    ghost use Rattle.player.specs.ClientView.{ClientView, client_view, IsSound, IsAtNextCall, Rests, command_of, Starts, Hears, Answered, HasBeenTold, CanPut, Puts, held, BeginsOrRefuses, IsNextAction, IsNextCallUnbegun, IsClient};
 
     pub(crate) fn new(
         alloc: Global,
@@ -142,7 +142,7 @@ impl Client {
 
     /// Begins the next call, if there is one.
     fn begin_next(&mut self, calls: &[Call], turn: u64) -> NextAction
-        ensures { (v : ClientView) (began : Option ℕ) → IsSound v → 0 < v.tries → All (λ call. mode_of call.command ≡ v.layout.mode) v.calls → calls.now ≡ v.calls → Rests v self.old → (self.old.next ≢ None → IsUnbegun v began) → IsNextAction v turn self.old self.new result }
+        ensures { (v : ClientView) (began : Option ℕ) → IsSound v → 0 < v.tries → All (λ call. mode_of call.command ≡ v.layout.mode) v.calls → calls.now ≡ v.calls → Rests v self.old → (self.old.next ≢ None → IsNextCallUnbegun v began) → IsNextAction v turn self.old self.new result }
     {
         let Some(at) = self.next else {
             return NextAction::Finished;
@@ -159,7 +159,7 @@ impl Client {
     /// Begins a call, which answers at once or asks for a step.
     fn begin(&mut self, command: Command, turn: u64) -> Option<Answer>
         requires { AsksForFewPairs command }
-        ensures { (v : ClientView) (began : Option ℕ) → IsSound v → 0 < v.tries → v.layout.mode ≡ mode_of command → Rests v self.old → IsUnbegun v began → command_of v self.old ≡ Some command → BeginsOrRefuses v turn self.old self.new result }
+        ensures { (v : ClientView) (began : Option ℕ) → IsSound v → 0 < v.tries → v.layout.mode ≡ mode_of command → Rests v self.old → IsNextCallUnbegun v began → command_of v self.old ≡ Some command → BeginsOrRefuses v turn self.old self.new result }
     {
         self.begin = turn;
         match command {
@@ -184,7 +184,7 @@ impl Client {
     /// Begins a call of the map, which runs with the share; one for nothing answers at once.
     fn begin_request(&mut self, request: Request<u64, u64>) -> Option<Answer>
         requires { AsksForFew request }
-        ensures { (v : ClientView) (began : Option ℕ) → IsSound v → 0 < v.tries → v.layout.mode ≡ Tree → Rests v self.old → IsUnbegun v began → command_of v self.old ≡ Some (MapCommand request) → BeginsOrRefuses v self.old.begin self.old self.new result }
+        ensures { (v : ClientView) (began : Option ℕ) → IsSound v → 0 < v.tries → v.layout.mode ≡ Tree → Rests v self.old → IsNextCallUnbegun v began → command_of v self.old ≡ Some (MapCommand request) → BeginsOrRefuses v self.old.begin self.old self.new result }
     {
         if is_for_nothing(request) {
             return Some(Answer::Map(Reply::Pairs(Vec::new(self.alloc))));
@@ -196,7 +196,7 @@ impl Client {
 
     /// Takes the snapshots and the records of an `scx`, if they are there.
     fn begin_scx(&mut self, update: &script::Update) -> Option<Answer>
-        ensures { (v : ClientView) (began : Option ℕ) → IsSound v → v.layout.mode ≡ Records → Rests v self.old → IsUnbegun v began → command_of v self.old ≡ Some (ScxCommand update.now) → BeginsOrRefuses v self.old.begin self.old self.new result }
+        ensures { (v : ClientView) (began : Option ℕ) → IsSound v → v.layout.mode ≡ Records → Rests v self.old → IsNextCallUnbegun v began → command_of v self.old ≡ Some (ScxCommand update.now) → BeginsOrRefuses v self.old.begin self.old self.new result }
     {
         let cells = update.cells();
         match self.kept.linked(cells) {
@@ -266,7 +266,7 @@ impl Client {
 
     /// Tells the client what the step that it had asked for found: it asks for another, or answers.
     pub(crate) fn tell(&mut self, found: u64) -> Option<Answer>
-        ensures { (v : ClientView) (q : Running) → IsSound v → self.old.running ≡ Some q → Hears v self.old q found → Told v self.old self.new result }
+        ensures { (v : ClientView) (q : Running) → IsSound v → self.old.running ≡ Some q → Hears v self.old q found → HasBeenTold v self.old self.new result }
     {
         let Running {
             mut run,
@@ -296,7 +296,7 @@ impl Client {
 
     /// What follows a machine that has answered: the client's answer, or the SCX of a `set`.
     fn after(&mut self, ended: Ended, then: Option<Put>) -> Option<Answer>
-        ensures { (v : ClientView) (run : Run) → IsSound v → Answered v self.old run then ended → Told v self.old self.new result }
+        ensures { (v : ClientView) (run : Run) → IsSound v → Answered v self.old run then ended → HasBeenTold v self.old self.new result }
     {
         match ended {
             Ended::Llx(llx) => self.after_llx(llx, then),
@@ -305,7 +305,7 @@ impl Client {
     }
 
     fn after_llx(&mut self, llx: Llx, then: Option<Put>) -> Option<Answer>
-        ensures { (v : ClientView) (m : LlxRun) → IsSound v → Answered v self.old (LlxOf m) then (LlxEnded llx) → Told v self.old self.new result }
+        ensures { (v : ClientView) (m : LlxRun) → IsSound v → Answered v self.old (LlxOf m) then (LlxEnded llx) → HasBeenTold v self.old self.new result }
     {
         self.kept.keep(llx);
         match (llx, then) {

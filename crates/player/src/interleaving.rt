@@ -1,19 +1,19 @@
 //! An interleaving of a script's calls.
 ghost use Rattle.std.specs.Prelude.{◌≡◌, ℕ, ◌≤◌, [], Some, vec_len, slice_get, IfOk, IfSome};
 ghost use Rattle.player.specs.declared.client.Client.{Client};
-ghost use Rattle.places.specs.Entries.{value_left};
-ghost use Rattle.places.specs.Changed.{changed_key};
+ghost use Rattle.moments.specs.Entries.{value_left};
+ghost use Rattle.moments.specs.Changed.{changed_key};
 ghost use Rattle.player.specs.ClientView.{client_view, Rests};
 ghost use Rattle.player.specs.Edits.{edit_command};
-ghost use Rattle.spelling.specs.OrderedMap.{MapEdit, edit_key};
+ghost use Rattle.ordered_map.specs.OrderedMap.{MapEdit, edit_key};
 
 use crate::client::{Client, NextAction};
 use crate::lines::Lines;
 use arena::{Kind, NoMemory, NodeNo, NodeWord, PassNo, PlainWords, ScxNo, ScxWord, Step, Word};
-use places::{Change, Places};
+use moments::{Change, Places};
+use ordered_map::Request;
 use record::{Answer, Entry, Record, Row};
 use script::{Command, Script};
-use spelling::Request;
 use std::alloc::Global;
 
 /// A script, and what the turns of its clients have left so far.
@@ -39,12 +39,12 @@ impl Interleaving {
     ghost use Rattle.record.specs.declared.record.Entry.{Entry as LogEntry};
     ghost use Rattle.record.specs.Commands.{next_command};
     ghost use Rattle.record.specs.Turns.{answered, entry_owed};
-    ghost use Rattle.places.specs.Entries.{value_left};
-    ghost use Rattle.places.specs.Places.{changes, room as places_room, Knows, HoldsOfKey};
-    ghost use Rattle.spelling.specs.OrderedMap.{edit_key};
+    ghost use Rattle.moments.specs.Entries.{value_left};
+    ghost use Rattle.moments.specs.Places.{changes, room_for_changes, Knows, HoldsOfKey};
+    ghost use Rattle.ordered_map.specs.OrderedMap.{edit_key};
     ghost use Rattle.player.specs.Lines.{room, newest};
     ghost use Rattle.player.specs.Player.{script_view, IsTurnMore};
-    ghost use Rattle.player.specs.BetweenTurns.{player_view, IsBetweenTurns, IsAsked, IsMade, IsReplied, HasSameClients, HasSameWords, ArePlaces, IsAtEdit};
+    ghost use Rattle.player.specs.BetweenTurns.{player_view, IsBetweenTurns, IsStepAsked, IsMade, IsReplied, HasSameClients, HasSameWords, ArePlaces, IsAtEdit};
 
     /// An interleaving of a copy of the script, with no turn made. The only error is want of
     /// memory.
@@ -108,9 +108,9 @@ impl Interleaving {
     /// Makes the step that a client has asked for.
     fn make(&mut self, client: PassNo, number: u64, step: Step) -> Row
         requires room { 3 ≤ room self.old.lines }
-        requires places { 1 ≤ places_room self.old.places }
+        requires places { 1 ≤ room_for_changes self.old.places }
         requires client { client.0 < self.old.script.layout.passes }
-        requires asked { IsAsked self.old client.0 number step }
+        requires asked { IsStepAsked self.old client.0 number step }
         ensures played { IsBetweenTurns self.new }
         ensures turn { IsTurnMore (player_view self.old) (player_view self.new) client.0 result }
     {
@@ -135,7 +135,7 @@ impl Interleaving {
     fn log(&mut self, number: u64, row: &arena::Row)
         requires room { 2 ≤ room self.old.lines }
         requires made { IsMade self.old number row.now }
-        requires roomy { 1 ≤ places_room self.old.places }
+        requires roomy { 1 ≤ room_for_changes self.old.places }
         requires places { ArePlaces self.old.script.layout (self.old.script.calls.items) (newest self.old.lines) self.old.places }
         requires owner { (e : LogEntry) → entry_owed self.old.script.layout (newest self.old.lines) ≡ Some e → self.old.script.layout.mode ≡ Tree → IsAtEdit (self.old.script.calls.items) self.old.clients.items e }
         ensures room { 1 ≤ room self.new.lines }
@@ -153,7 +153,7 @@ impl Interleaving {
 
     /// Keeps the change of the map that an entry makes, if it is of an edit.
     fn place(&mut self, entry: &Entry)
-        requires room { 1 ≤ places_room self.old.places }
+        requires room { 1 ≤ room_for_changes self.old.places }
         requires client { entry.now.client.0 < self.old.script.layout.passes }
         requires keys { All (λ call. HoldsOfKey (Knows self.old.places) call.command) (self.old.script.calls.items) }
         ensures same { self.new ≡ record self.old { places = self.new.places } }

@@ -1,14 +1,14 @@
 //! Where a client's calls stand in a script.
 ghost use Rattle.std.specs.Prelude.{drop};
 ghost use Rattle.record.specs.Commands.{commands};
-ghost use Rattle.player.specs.Place.{IsAt};
+ghost use Rattle.player.specs.Place.{IsNextCallAt};
 
 use arena::PassNo;
 use script::Call;
 
 /// Where the next call of a client stands, from this place on.
 pub(crate) fn next_call(calls: &[Call], from: usize, pass: PassNo) -> Option<usize>
-    ensures { IsAt calls.now pass.0 (commands (drop from calls.now) pass.0) result }
+    ensures { IsNextCallAt calls.now pass.0 (commands (drop from calls.now) pass.0) result }
 {
     for at in from..calls.len() {
         if calls[at].client == pass {

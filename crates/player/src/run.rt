@@ -9,9 +9,9 @@ ghost use Rattle.player.specs.RunSteps.{run_left};
 
 use arena::{Machine, Share, Turn};
 use dict::{Dict, DictRun};
+use ordered_map::Reply;
 use prims::{Cells, Llx, LlxRun, PutRun, Scx, Snaps, Vlx, VlxRun};
 use record::Answer;
-use spelling::Reply;
 
 /// A call that has begun. A `set` is first an LLX and then an SCX.
 #[derive(Debug, Drop)]

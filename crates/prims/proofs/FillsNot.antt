@@ -9,7 +9,7 @@ use Rattle.arena.specs.declared.word.Side.TheVariants.{Left, Right}
 use Rattle.arena.specs.Words.{info, marked, child, state}
 use Rattle.arena.specs.History.{History}
 use Rattle.arena.specs.Machines.{Call}
-use Rattle.help.specs.Help.Lawful.{help_fills_not}
+use Rattle.help.specs.Laws.Help.Lawful.{help_fills_not}
 use Rattle.prims.specs.Llx.Known.{load, LlxHasAsked, LlxWaits}
 use Rattle.prims.specs.Vlx.Known.{VlxWaits}
 use Rattle.prims.specs.declared.llx.LlxRun.{LlxRun}

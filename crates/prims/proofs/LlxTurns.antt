@@ -22,7 +22,7 @@ use Rattle.prims.specs.Laws.Idle.{IsQuietSince}
 use Rattle.prims.specs.Laws.InTheWay.{IsBehind, IsDisturbed, in_progress, came_marked, passed, been_now, way_now, open_at_start, flagged_commits, blame_met, way_others}
 use Rattle.prims.specs.Laws.Linked.{marker_named}
 use Rattle.prims.specs.Snap.{child_of}
-use Rattle.prims.specs.Llx.Known.{HasMet, HasStopped, IsToBlame, IsFinishedUnmarked, IsOpened, IsSnapshot, IsFinalBy, LlxAsks, Reads, Declines, Differs, Snaps, Finalizes, LooksLast, LlxHelps, load, LlxKnows, LlxHasAsked, LlxIsTold, LlxIsReady, LlxTurn}
+use Rattle.prims.specs.Llx.Known.{HasMet, HasStopped, IsToBlame, IsFinishedUnmarked, IsOpened, IsSnapshot, IsFinalBy, LlxAsks, ReadsLeft, Declines, Differs, Snaps, Finalizes, LooksLast, LlxHelps, load, LlxKnows, LlxHasAsked, LlxIsTold, LlxIsReady, LlxTurn}
 use Rattle.prims.specs.declared.llx.Llx.{Llx}
 use Rattle.prims.specs.declared.llx.Llx.TheVariants.{Fail}
 use Rattle.prims.specs.declared.llx.LlxRun.{LlxRun}
@@ -110,7 +110,7 @@ module _ (allows : Layout → History → ℕ → Type 0) (c : Call) (h : Histor
       go (no z) = came_marked (f.mark n (λ e. d (one (ends z (f.ended s.0 (λ y. z (sym (k.known.1 z) ∙ y))))) (sym k.told ∙ e)))
 
   -- after the second mark it loads the left field, or the state once more
-  pub turn_read : (m now : LlxRun) (turn : Turn Llx) (b : Bool) (s : ScxNo) (v found : ℕ) (again : Bool) → Knows allows c h m.node.0 (MarkedAgain b s v) found → (again ≡ false → found ≡ 0) → (again ≡ true → found ≢ 0) → Reads m now turn b s v again ⊎ Declines m now turn b s v again → LlxTurn allows c h now turn
+  pub turn_read : (m now : LlxRun) (turn : Turn Llx) (b : Bool) (s : ScxNo) (v found : ℕ) (again : Bool) → Knows allows c h m.node.0 (MarkedAgain b s v) found → (again ≡ false → found ≡ 0) → (again ≡ true → found ≢ 0) → ReadsLeft m now turn b s v again ⊎ Declines m now turn b s v again → LlxTurn allows c h now turn
   turn_read m now turn b s v found again k d t (inr a) = waits_at m now turn (StateAgain b s) _ a.asks k.opened k.since k.quiet record { met = k.known.0; disturbed = declined m.node.0 b s v found again k t a.not_aborted a.marked } refl
   turn_read m now turn b s v found again k d t (inl a) = waits_at m now turn (AtLeft b s) _ a.asks k.opened k.since k.quiet (k.known.0, go a.in_place) refl
     where

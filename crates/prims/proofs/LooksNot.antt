@@ -6,7 +6,7 @@ use Rattle.arena.specs.declared.step.Kind.{Kind}
 use Rattle.arena.specs.declared.step.Kind.TheVariants.{Fill, LoadInfo}
 use Rattle.arena.specs.History.{History}
 use Rattle.arena.specs.Machines.{Call}
-use Rattle.help.specs.Help.Lawful.{help_looks_not}
+use Rattle.help.specs.Laws.Help.Lawful.{help_looks_not}
 use Rattle.prims.specs.Scx.Known.{Job, job_of, FillWaits, ScxWaitsAt}
 use Rattle.prims.specs.Put.Known.{PutWaitsAt, PutWaits}
 use Rattle.prims.specs.declared.scx.ScxAt.{ScxAt}

@@ -14,7 +14,7 @@ use Rattle.arena.specs.Lawful.{Lawful}
 use Rattle.arena.specs.Machines.{Call, row_of}
 use Rattle.histories.specs.Unmentioned.{IsUnmentioned}
 use Rattle.histories.proofs.Lemmas.{IsMention, unmentioned_by_fill, unmentioned_by_step, untaken_by_node, untaken_by_other_fill, untaken_by_step}
-use Rattle.help.specs.Help.Lawful.{help_fills_not}
+use Rattle.help.specs.Laws.Help.Lawful.{help_fills_not}
 use Rattle.prims.specs.Snap.{snap_at}
 use Rattle.prims.specs.Scx.Known.{Job, job_of, wanted, part_at, IsWithin, Fills, FillWaits, fill_step, ScxWaitsAt}
 use Rattle.prims.specs.Put.Known.{put_step, PutWaitsAt, PutWaits}

@@ -26,7 +26,7 @@ use Rattle.prims.specs.Laws.Linked.{in_field_named}
 use Rattle.prims.specs.Snap.{snap_at}
 use Rattle.prims.specs.Laws.Entered.{filled_entry}
 use Rattle.prims.specs.Laws.Blamed.{blamed_behind, behind_start}
-use Rattle.prims.specs.Scx.Known.{job_of, IsUpdateOver, IsUnderWay, HasFilled, IsDone, IsLost, ScxHelps, ScxIsReady, ScxIsToldAt, InHand, IsFilled, IsFilledThen, Holds, IsWithin, FillWaits, FillMade, FillsAt, FillsNext, FillsLast, ScxTurn, ScxWaitsAt}
+use Rattle.prims.specs.Scx.Known.{job_of, IsUpdateOver, IsUnderWay, HasFilled, IsDone, IsLost, ScxHelps, ScxIsReady, ScxIsToldAt, InHand, IsFilled, IsFilledThen, HoldsWanted, IsWithin, FillWaits, FillMade, FillsAt, FillsNext, FillsLast, ScxTurn, ScxWaitsAt}
 use Rattle.prims.specs.declared.scx.ScxRun.{ScxRun}
 use Rattle.prims.specs.declared.scx.Scx.{Scx}
 use Rattle.prims.specs.declared.scx.ScxAt.{ScxAt}
@@ -47,7 +47,7 @@ up_to word i j p = ⊎_elim inl (λ e. inr (ap word (sym e))) (less_or_same i j 
 
 module _ (allows : Layout → History → ℕ → Type 0) (c : Call) (h : History) (m : ScxRun) where
   -- the next word is filled
-  turn_fill : (at : ScxAt) (now : ScxRun) (turn : Turn Scx) → InHand allows c.layout c.pass h (job_of m) → IsUnderWay c h m.scx.0 m.update.snaps → IsWithin (length m.update.snaps) at → Holds h (job_of m) (IsFilled (length m.update.snaps) at)
+  turn_fill : (at : ScxAt) (now : ScxRun) (turn : Turn Scx) → InHand allows c.layout c.pass h (job_of m) → IsUnderWay c h m.scx.0 m.update.snaps → IsWithin (length m.update.snaps) at → HoldsWanted h (job_of m) (IsFilled (length m.update.snaps) at)
       → ((s : _) → FillWaits allows c h (job_of m) at s → ScxWaitsAt allows c h (job_of m) at s) → FillsAt m now turn at → ScxTurn allows c h now turn
   turn_fill at now turn x y i f w a = rw (a.asked, a.stands) (w _ record { fills = record { hand = x; way = y; within = i; filled = f }; asked = refl })
 

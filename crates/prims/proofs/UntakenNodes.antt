@@ -15,7 +15,7 @@ use Rattle.arena.specs.Lawful.{Lawful, Obeys}
 use Rattle.arena.specs.Machines.{Call, row_of}
 use Rattle.arena.proofs.Lemmas.{taken_node_more}
 use Rattle.histories.proofs.Lemmas.{lawful_row, one_node_owner}
-use Rattle.help.specs.Help.Lawful.{help_fills_not}
+use Rattle.help.specs.Laws.Help.Lawful.{help_fills_not}
 use Rattle.prims.specs.Scx.Known.{Job, job_of, part_at, FillWaits, ScxWaitsAt}
 use Rattle.prims.specs.Put.Known.{PutWaitsAt, PutWaits}
 use Rattle.prims.specs.declared.scx.ScxAt.{ScxAt}

@@ -8,3 +8,6 @@ pub mod InTheWay
 pub mod Linked
 pub mod Unfilled
 pub mod Wins
+pub mod Slots
+pub mod Looked
+pub mod Scx

@@ -1,10 +1,8 @@
 pub mod Cells
 pub mod Snap
-pub mod Slots
 pub mod FoundThere
 pub mod Moments
 pub mod BlankNodes
-pub mod Looked
 pub mod Snaps
 pub mod Updates
 pub mod Shares

@@ -1,4 +1,3 @@
 pub mod Steps
 pub mod Known
 pub mod Laws
-pub mod Made

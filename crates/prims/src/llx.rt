@@ -97,7 +97,7 @@ impl LlxRun {
     ghost use Rattle.std.specs.Prelude.{◌≡◌, ◌+◌, ◌<◌, ◌≤◌, ◌⊎◌};
     ghost use Rattle.arena.specs.History.{History};
     ghost use Rattle.arena.specs.Machines.{MatchTurn, Call};
-    ghost use Rattle.prims.specs.Llx.Known.{HasStopped, IsToBlame, LlxHelps, Meets, LlxAsks, Reads, Declines, Differs, Snaps, Finalizes, LooksLast, LlxTurn};
+    ghost use Rattle.prims.specs.Llx.Known.{HasStopped, IsToBlame, LlxHelps, Meets, LlxAsks, ReadsLeft, Declines, Differs, Snaps, Finalizes, LooksLast, LlxTurn};
     ghost use Rattle.help.specs.Help.Steps.{help_left};
     ghost use Rattle.prims.specs.Llx.Steps.{llx_left};
 
@@ -165,7 +165,7 @@ impl LlxRun {
 
     /// Reads the fields if the SCX-record that the info names left the node in place.
     fn read_fields(&mut self, marked: bool, scx: ScxNo, state: u64, marked_again: bool) -> Turn<Llx>
-        ensures turn { Reads self.old self.new result marked scx state marked_again ⊎ Declines self.old self.new result marked scx state marked_again }
+        ensures turn { ReadsLeft self.old self.new result marked scx state marked_again ⊎ Declines self.old self.new result marked scx state marked_again }
     {
         if state == ABORTED || state == COMMITTED && !marked_again {
             self.load_child(LlxAt::Left { marked, scx }, Side::Left)

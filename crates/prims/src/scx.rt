@@ -158,7 +158,7 @@ impl<S: Shape> Machine<S> for ScxRun {
     ghost use Rattle.prims.specs.Scx.Steps.{scx_left};
     ghost use Rattle.prims.specs.Scx.Known.{ScxIsReady, ScxWaits, ScxAnswers};
     ghost use Rattle.prims.specs.Scx.Laws.{scx_keeps, scx_lawful};
-    ghost use Rattle.prims.specs.Scx.Made.{scx_made};
+    ghost use Rattle.prims.specs.Laws.Scx.Made.{scx_made};
 
     ghost ready = { ScxIsReady S.allows };
 

@@ -36,7 +36,7 @@ impl Model for Snaps {
 
     ghost Value = { List Snap };
 
-    ghost use Rattle.prims.specs.Slots.{slots_of, slots_back};
+    ghost use Rattle.prims.specs.Laws.Slots.{slots_of, slots_back};
 
     ghost view = { λ s. take s.count s.slots };
 

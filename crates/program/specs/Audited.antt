@@ -8,8 +8,8 @@ use Rattle.record.specs.Turns.{clients}
 use Rattle.report.specs.Report.{report_rows, seven}
 
 -- the rows of the text are the report of some calls and of the lines of a lawful run of theirs, in
--- which each turn was made by the client that its line says. The limits that a row tells are accepted,
--- and the layout of the run is theirs: so it is with every script (`Script`)
+-- which each turn was made by the client that its line says. The limits that a row tells are
+-- accepted, and the layout of the run is theirs: so it is with every script (`Script`)
 pub record IsReportOfLawfulRun (text : List ℕ) : Type 0 where
   pub script : Script
   pub lines : List Line

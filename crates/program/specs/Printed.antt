@@ -25,8 +25,8 @@ pub record HasPrinted (mode : Mode) (script_text schedule_text : List ℕ) (old 
   pub text : Appends old new (report_text script lines)
 
 -- the texts deserve the fault: it is the first of the script's text; or that one says a script, and
--- it is the first of the schedule's. No text deserves that of a report, nor one of the words; memory,
--- a read or a write may fail whatever the texts are.
+-- it is the first of the schedule's. No text deserves that of a report, nor one of the words;
+-- memory, a read or a write may fail whatever the texts are.
 abbrev pub IsDeserved : Mode → List ℕ → List ℕ → Fault → Type 0
 IsDeserved mode script_text schedule_text (BadScript row cause) = IsScriptFault mode script_text row cause
 IsDeserved mode script_text schedule_text (BadSchedule row cause) =

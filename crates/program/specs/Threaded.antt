@@ -5,7 +5,7 @@ use Rattle.std.specs.Io.KnownBytes.{Appends}
 use Rattle.arena.specs.declared.limits.Mode.TheVariants.{Tree}
 use Rattle.script.specs.Grammars.{IsScriptFault, SayScript}
 use Rattle.script.specs.declared.script.Script.{Script}
-use Rattle.spelling.specs.declared.reply.Reply.{Reply}
+use Rattle.ordered_map.specs.declared.reply.Reply.{Reply}
 use Rattle.runner.specs.Outcomes.{IsOutcome}
 use Rattle.report.specs.Outcome.{outcome_text}
 use Rattle.program.specs.declared.fault.Fault.{Fault}
@@ -30,14 +30,14 @@ pub record HasPrintedRun (text : List ℕ) (old new : Option (List ℕ)) : Type 
   pub says : SayScript Tree text script.limits script.layout script.calls.items
   pub run : HasRun script old new
 
--- the text of a script and the name of a gate deserve the fault: there is no such gate; or it is the
--- first of the text. Memory, a read or a write may fail whatever they are.
-abbrev pub IsDeserved : List ℕ → List ℕ → Fault → Type 0
-IsDeserved gate text BadGate = ¬ (IsGate gate)
-IsDeserved gate text (BadScript row cause) = IsScriptFault Tree text row cause
-IsDeserved gate text (BadSchedule row cause) = ⊥
-IsDeserved gate text (NotLawful row) = ⊥
-IsDeserved gate text Usage = ⊥
-IsDeserved gate text NoMemory = ⊤
-IsDeserved gate text Read = ⊤
-IsDeserved gate text Write = ⊤
+-- the text of a script and the name of a gate deserve the fault: there is no such gate; or it is
+-- the first of the text. Memory, a read or a write may fail whatever they are.
+abbrev pub IsDeservedWithThreads : List ℕ → List ℕ → Fault → Type 0
+IsDeservedWithThreads gate text BadGate = ¬ (IsGate gate)
+IsDeservedWithThreads gate text (BadScript row cause) = IsScriptFault Tree text row cause
+IsDeservedWithThreads gate text (BadSchedule row cause) = ⊥
+IsDeservedWithThreads gate text (NotLawful row) = ⊥
+IsDeservedWithThreads gate text Usage = ⊥
+IsDeservedWithThreads gate text NoMemory = ⊤
+IsDeservedWithThreads gate text Read = ⊤
+IsDeservedWithThreads gate text Write = ⊤

@@ -2,7 +2,7 @@
 ghost use Rattle.std.specs.Prelude.{◌≡◌, ◌≤◌, ◌↔◌, ℕ, List, IsTrue, IfErr, IsErrOf, OnOk, Some};
 ghost use Rattle.arena.specs.declared.limits.Mode.TheVariants.{Tree};
 ghost use Rattle.program.specs.Status.{status_of};
-ghost use Rattle.program.specs.Threaded.{HasPrintedRun, HasRun, IsDeserved, IsGate};
+ghost use Rattle.program.specs.Threaded.{HasPrintedRun, HasRun, IsDeservedWithThreads, IsGate};
 ghost use Rattle.program.specs.declared.fault.Fault.{Fault};
 
 use crate::fault::Fault;
@@ -30,7 +30,7 @@ pub fn run_over<R: Threads + Wait + Sync, S: Read, O: Write, E: Write>(
 ) -> u8
     // Of a reader that tells its bytes: what is printed, and why a text is refused.
     ensures printed { (said : List ℕ) → S.remaining script.old ≡ Some said → result ≡ 0 → HasPrintedRun said (O.contents out.old.inner) (O.contents out.new.inner) }
-    ensures deserved { (said : List ℕ) → S.remaining script.old ≡ Some said → result ≡ 1 → (fault : Fault) × (status_of fault ≡ 1) × IsDeserved gate.now said fault }
+    ensures deserved { (said : List ℕ) → S.remaining script.old ≡ Some said → result ≡ 1 → (fault : Fault) × (status_of fault ≡ 1) × IsDeservedWithThreads gate.now said fault }
 
     ensures gate { result ≡ 2 ↔ ¬ (IsGate gate.now) }
     ensures refused { result ≡ 1 → out.new ≡ out.old }
@@ -51,7 +51,7 @@ fn run_gated<R: Threads + Wait + Sync, S: Read, O: Write>(
     out: &mut Metered<O>,
 ) -> Result<(), Fault>
     ensures printed { (said : List ℕ) → S.remaining script.old ≡ Some said → OnOk result (HasPrintedRun said (O.contents out.old.inner) (O.contents out.new.inner)) }
-    ensures deserved { (said : List ℕ) → S.remaining script.old ≡ Some said → IfErr result (IsDeserved gate.now said) }
+    ensures deserved { (said : List ℕ) → S.remaining script.old ≡ Some said → IfErr result (IsDeservedWithThreads gate.now said) }
     ensures bad_gate { ¬ (IsGate gate.now) → IsErrOf result Fault.BadGate }
     ensures gate { IfErr result (λ fault. status_of fault ≡ 2 → ¬ (IsGate gate.now)) }
     ensures refused { IfErr result (λ fault. status_of fault ≡ 1 → out.new ≡ out.old) }
@@ -83,7 +83,7 @@ fn run_at<R: Threads + Wait + Sync, G: Gate, O: Write>(
 ) -> Result<(), Fault>
     requires tree { script.now.layout.mode ≡ Tree }
     ensures printed { OnOk result (HasRun script.now (O.contents out.old.inner) (O.contents out.new.inner)) }
-    ensures deserved { (name said : List ℕ) → IfErr result (IsDeserved name said) }
+    ensures deserved { (name said : List ℕ) → IfErr result (IsDeservedWithThreads name said) }
     ensures late { IfErr result (λ fault. 3 ≤ status_of fault) }
 {
     let outcome = run(rt, alloc, script, gate)?;

@@ -3,8 +3,8 @@
 use Rattle.std.proofs.Common.{◌≡◌, ℕ, zero, suc, ◌+◌, ◌*◌, ◌≤◌, Bool, true, false, cond, ◌&&◌, eqb, ltb, leb, List, [], ◌∷◌, ◌++◌, refl, sym, ◌∙◌, ap, subst, arith}
 use Rattle.std.proofs.lemmas.Bool.{ltb-true, ltb-false, le-ltb, le-leb, lt-leb, eqb-true, eq-eqb, and_parts}
 use Rattle.std.specs.Prelude.{Option, Some, None, is_none}
-use Rattle.spelling.specs.declared.pair.Pair.{Pair}
-use Rattle.spelling.specs.OrderedMap.{MapCall, Insert, Delete, Edit, Get, Successor, Range, MapReply, OneValue, get, delete, reply, after, changes}
+use Rattle.ordered_map.specs.declared.pair.Pair.{Pair}
+use Rattle.ordered_map.specs.OrderedMap.{MapCall, Insert, Delete, Edit, Get, Successor, Range, MapReply, OneValue, get, delete, reply, after, changes_map}
 use Rattle.script.specs.declared.call.Call.{Call}
 use Rattle.record.specs.declared.record.Line.{Line}
 use Rattle.record.specs.declared.record.Line.TheVariants.{Step, Log, Reply as ReplyLine}
@@ -12,7 +12,7 @@ use Rattle.record.specs.declared.record.Entry.{Entry}
 use Rattle.record.specs.declared.record.Finished.{Finished}
 use Rattle.record.specs.declared.record.Answer.{Answer}
 use Rattle.record.specs.MapRecord.{map_call_of, reply_told, after_maybe, written_log, entries_until, map_of, map_at, is_of_call, entries_of_call}
-use Rattle.record.specs.Placed.{IsChange, IsReading, IsRefused, IsChangeOrReading, IsPlacedOnMap}
+use Rattle.record.specs.Placed.{IsPlacedChange, IsPlacedReading, IsRefused, IsPlacedChangeOrReading, IsPlacedOnMap}
 use Rattle.record.specs.Legal.{Event, Change, Read, event_client, event_call, event_place, with_event, events, answer_to, IsReplyOn, AreReplies, times, times_due, StandAsDue, StandOnce, unanswered, AreFewUnanswered, IsLegal}
 
 -- Events in order
@@ -226,11 +226,11 @@ cut_absent k (p ∷ ps) e = go (eqb k p.key) e (cut_absent k ps)
     go true u rest = let x : Some p.value ≡ None = u in absurd (cc)
     go false u rest = ap (λ qs. p ∷ qs) (rest u)
 
-silent_call : (call : MapCall) (m : List Pair) → changes call (reply call m) ≡ false → after call m ≡ m
+silent_call : (call : MapCall) (m : List Pair) → changes_map call (reply call m) ≡ false → after call m ≡ m
 silent_call (Edit (Insert k v)) m e = let x : true ≡ false = e in absurd (cc)
 silent_call (Edit (Delete k)) m e = go (get k m) refl e
   where
-    go : (a : Option ℕ) → get k m ≡ a → changes (Edit (Delete k)) (OneValue a) ≡ false → delete k m ≡ m
+    go : (a : Option ℕ) → get k m ≡ a → changes_map (Edit (Delete k)) (OneValue a) ≡ false → delete k m ≡ m
     go (Some v) i u = let x : true ≡ false = u in absurd (cc)
     go None i u = cut_absent k m i
 silent_call (Get k) m e = refl
@@ -423,7 +423,7 @@ entry_keeps calls lines e o k = record {
     few_more c true i false u = u
     few_more c false i d u = u
 
-change_keeps : (calls : List Call) (lines : List Line) (r : Finished) (o : IsOrderlyReply calls lines r) (a : MapReply) → reply_told r.answer ≡ Some a → IsChange calls lines o.call r → IsKept calls lines (events calls lines) → IsKept calls (ReplyLine r ∷ lines) (events calls lines)
+change_keeps : (calls : List Call) (lines : List Line) (r : Finished) (o : IsOrderlyReply calls lines r) (a : MapReply) → reply_told r.answer ≡ Some a → IsPlacedChange calls lines o.call r → IsKept calls lines (events calls lines) → IsKept calls (ReplyLine r ∷ lines) (events calls lines)
 change_keeps calls lines r o a t x k =
     answer_keeps calls lines r xs k (right_own calls (answer_to lines) r [] xs o.pending once at_entry k.right) (rw t once)
   where
@@ -441,7 +441,7 @@ change_keeps calls lines r o a t x k =
     at_entry : IsReplyOn (map_of calls (behind r.client.0 r.call (onto [] xs))) (map_call_of calls r.client.0 r.call) (Some r.answer)
     at_entry = subst (λ es. IsReplyOn (map_of calls es) (map_call_of calls r.client.0 r.call) (Some r.answer)) (sym before) (rw o.is x.replies)
 
-reading_keeps : (calls : List Call) (lines : List Line) (r : Finished) (o : IsOrderlyReply calls lines r) (a : MapReply) → reply_told r.answer ≡ Some a → changes o.call a ≡ false → (x : IsReading calls lines o.call r) → IsKept calls lines (events calls lines) → IsKept calls (ReplyLine r ∷ lines) (with_event (Read x.turn r) (events calls lines))
+reading_keeps : (calls : List Call) (lines : List Line) (r : Finished) (o : IsOrderlyReply calls lines r) (a : MapReply) → reply_told r.answer ≡ Some a → changes_map o.call a ≡ false → (x : IsPlacedReading calls lines o.call r) → IsKept calls lines (events calls lines) → IsKept calls (ReplyLine r ∷ lines) (with_event (Read x.turn r) (events calls lines))
 reading_keeps calls lines r o a t f x k = record {
   right = right_read calls (answer_to (ReplyLine r ∷ lines)) x.turn r [] xs k.sorted refl read_now (right_other calls (answer_to lines) r [] xs absent k.right);
   sorted = sorted_place (Read x.turn r) xs k.sorted;
@@ -471,7 +471,7 @@ reading_keeps calls lines r o a t f x k = record {
 
     read_at : IsReadAt calls (answer_to (ReplyLine r ∷ lines)) r now
     read_at = record {
-      silent = rw o.is (silent_call o.call now (ap (changes o.call) (sym told_now) ∙ f));
+      silent = rw o.is (silent_call o.call now (ap (changes_map o.call) (sym told_now) ∙ f));
       replies = rw (o.is, same_client, same_call) x.greatest.holds;
       answered = rw (same_client, same_call) refl;
     }
@@ -504,7 +504,7 @@ refusal_keeps calls lines r o t x k =
 reply_keeps : (calls : List Call) (lines : List Line) (r : Finished) → IsOrderlyReply calls lines r → IsKept calls lines (events calls lines) → IsKept calls (ReplyLine r ∷ lines) (events calls (ReplyLine r ∷ lines))
 reply_keeps calls lines r o k = go (reply_told r.answer) refl o.rule
   where
-    tell : (a : MapReply) → reply_told r.answer ≡ Some a → (b : Bool) → changes o.call a ≡ b → IsChangeOrReading b calls lines o.call r → IsKept calls (ReplyLine r ∷ lines) (events calls (ReplyLine r ∷ lines))
+    tell : (a : MapReply) → reply_told r.answer ≡ Some a → (b : Bool) → changes_map o.call a ≡ b → IsPlacedChangeOrReading b calls lines o.call r → IsKept calls (ReplyLine r ∷ lines) (events calls (ReplyLine r ∷ lines))
     tell a t true c x =
         let e : events calls (ReplyLine r ∷ lines) ≡ events calls lines = rw (o.is, t, c) refl in
         subst (IsKept calls (ReplyLine r ∷ lines)) (sym e) (change_keeps calls lines r o a t x k)
@@ -516,7 +516,7 @@ reply_keeps calls lines r o k = go (reply_told r.answer) refl o.rule
     go None t x =
         let e : events calls (ReplyLine r ∷ lines) ≡ events calls lines = rw (o.is, t) refl in
         subst (IsKept calls (ReplyLine r ∷ lines)) (sym e) (refusal_keeps calls lines r o t x k)
-    go (Some a) t x = tell a t (changes o.call a) refl x
+    go (Some a) t x = tell a t (changes_map o.call a) refl x
 
 pub kept : (calls : List Call) (lines : List Line) → AreOrderly calls lines → IsKept calls lines (events calls lines)
 kept calls [] a = record { right = tt; sorted = tt; logged = refl; placed = tt; one = λ c j. omega arith; few = λ c. omega arith }

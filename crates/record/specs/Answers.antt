@@ -9,7 +9,7 @@ use Rattle.arena.specs.Fills.{IsOwnNode, IsOwnScx, IsOthersScx, IsTakenNode, IsT
 use Rattle.arena.specs.Blame.{WasInTheWay}
 use Rattle.arena.specs.Found.{HasFound}
 use Rattle.arena.specs.Log.{log, fields, last, is_final}
-use Rattle.spelling.specs.Tries.{HasLostTries}
+use Rattle.ordered_map.specs.Tries.{HasLostTries}
 use Rattle.record.specs.declared.record.Line.{Line}
 use Rattle.record.specs.declared.record.Finished.{Finished}
 use Rattle.record.specs.declared.record.Answer.{Answer}

@@ -7,7 +7,7 @@ use Rattle.arena.specs.Log.{Entry as Entered}
 use Rattle.script.specs.declared.call.Call.{Call}
 use Rattle.script.specs.declared.command.Command.{Command}
 use Rattle.script.specs.declared.command.Command.TheVariants.{Llx, Scx, Vlx, Set, Map}
-use Rattle.spelling.specs.Requests.{map_request}
+use Rattle.ordered_map.specs.Requests.{map_request}
 use Rattle.record.specs.declared.record.Line.{Line}
 use Rattle.record.specs.declared.record.Finished.{Finished}
 use Rattle.record.specs.declared.record.Answer.{Answer}
@@ -30,8 +30,8 @@ rules (Map request) = map_rules (map_request request)
 
 -- how many steps a call may make, where it may try so often, while so many nodes are taken, by any
 -- client; those of cells make no more where nodes are taken
-abbrev pub most_steps : Command → ℕ → ℕ → ℕ
-most_steps command = (rules command).most_steps
+abbrev pub command_steps : Command → ℕ → ℕ → ℕ
+command_steps command = (rules command).most_steps
 
 -- since its begin the call of client c, which may try so often, has taken no more of the client's
 -- share than it may

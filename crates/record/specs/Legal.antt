@@ -1,8 +1,8 @@
 -- All replies are those of one ordered map that takes the calls one after another, in the order of
 -- their moments. Lines stand here with the newest first.
 use Rattle.std.specs.Prelude.{◌≡◌, ℕ, suc, ◌+◌, ◌*◌, ◌≤◌, Bool, true, false, cond, ◌&&◌, eqb, ltb, not, is_none, List, [], ◌∷◌, Option, Some, None}
-use Rattle.spelling.specs.declared.pair.Pair.{Pair}
-use Rattle.spelling.specs.OrderedMap.{MapCall, MapReply, reply, changes}
+use Rattle.ordered_map.specs.declared.pair.Pair.{Pair}
+use Rattle.ordered_map.specs.OrderedMap.{MapCall, MapReply, reply, changes_map}
 use Rattle.script.specs.declared.call.Call.{Call}
 use Rattle.record.specs.declared.record.Line.{Line}
 use Rattle.record.specs.declared.record.Line.TheVariants.{Step, Log, Reply as ReplyLine}
@@ -40,7 +40,7 @@ with_event x (y ∷ ys) = cond (ltb (event_place x) (event_place y)) (x ∷ y �
 
 -- whether an answered call is a reading: it has told something, and has not changed the map
 abbrev pub has_read : Option MapCall → Option MapReply → Bool
-has_read (Some call) (Some told) = not (changes call told)
+has_read (Some call) (Some told) = not (changes_map call told)
 has_read _ _ = false
 
 -- the events, with this one if it is a reading and has a moment

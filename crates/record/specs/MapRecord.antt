@@ -1,10 +1,10 @@
 -- What the lines of a record say of the map: its calls, the log, the map after each turn. Lines
 -- stand here with the newest first.
 use Rattle.std.specs.Prelude.{ℕ, suc, Bool, cond, ◌&&◌, eqb, leb, List, [], ◌∷◌, map, Option, Some, None, slice_get}
-use Rattle.spelling.specs.declared.pair.Pair.{Pair}
-use Rattle.spelling.specs.OrderedMap.{MapCall, MapReply, after}
-use Rattle.spelling.specs.Requests.{map_request}
-use Rattle.spelling.specs.Replies.{word_pair, number_reply}
+use Rattle.ordered_map.specs.declared.pair.Pair.{Pair}
+use Rattle.ordered_map.specs.OrderedMap.{MapCall, MapReply, after}
+use Rattle.ordered_map.specs.Requests.{map_request}
+use Rattle.ordered_map.specs.Replies.{word_pair, number_reply}
 use Rattle.script.specs.declared.call.Call.{Call}
 use Rattle.script.specs.declared.command.Command.{Command}
 use Rattle.script.specs.declared.command.Command.TheVariants.{Map}

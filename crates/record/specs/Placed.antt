@@ -1,6 +1,6 @@
 -- Where a call of the map stands in the record, and what its reply says there.
 use Rattle.std.specs.Prelude.{◌≡◌, ℕ, ◌<◌, ◌≤◌, List, ◌∷◌, ◌++◌, Bool, true, false, Option, Some, None}
-use Rattle.spelling.specs.OrderedMap.{MapCall, MapReply, reply, changes}
+use Rattle.ordered_map.specs.OrderedMap.{MapCall, MapReply, reply, changes_map}
 use Rattle.script.specs.declared.call.Call.{Call}
 use Rattle.record.specs.declared.record.Line.{Line}
 use Rattle.record.specs.declared.record.Line.TheVariants.{Log}
@@ -17,7 +17,7 @@ pub record IsGreatestTurn (P : ℕ → Type 0) (first last m : ℕ) : Type 0 whe
 
 -- A changing call has one entry. Its moment is the entry's turn, and it tells what the map just
 -- before that entry replies.
-pub record IsChange (calls : List Call) (lines : List Line) (call : MapCall) (r : Finished) : Type 0 where
+pub record IsPlacedChange (calls : List Call) (lines : List Line) (call : MapCall) (r : Finished) : Type 0 where
   pub entry : Entry
   pub newer : List Line
   pub older : List Line
@@ -30,7 +30,7 @@ pub record IsChange (calls : List Call) (lines : List Line) (call : MapCall) (r 
 
 -- A reading call has no entry. Its moment is the greatest turn from its first to its last, whoever
 -- made it, after which the map gives its reply.
-pub record IsReading (calls : List Call) (lines : List Line) (call : MapCall) (r : Finished) : Type 0 where
+pub record IsPlacedReading (calls : List Call) (lines : List Line) (call : MapCall) (r : Finished) : Type 0 where
   pub none : entries_of_call r.client.0 r.call (written_log lines) ≡ 0
   pub turn : ℕ
   pub moment : r.moment ≡ Some turn
@@ -42,11 +42,11 @@ pub record IsRefused (lines : List Line) (r : Finished) : Type 0 where
   pub moment : r.moment ≡ None
 
 -- A call that tells something has changed the map, or read it.
-abbrev pub IsChangeOrReading : Bool → List Call → List Line → MapCall → Finished → Type 0
-IsChangeOrReading true calls lines call r = IsChange calls lines call r
-IsChangeOrReading false calls lines call r = IsReading calls lines call r
+abbrev pub IsPlacedChangeOrReading : Bool → List Call → List Line → MapCall → Finished → Type 0
+IsPlacedChangeOrReading true calls lines call r = IsPlacedChange calls lines call r
+IsPlacedChangeOrReading false calls lines call r = IsPlacedReading calls lines call r
 
 -- where a call of the map took place, by what it tells
 abbrev pub IsPlacedOnMap : Option MapReply → List Call → List Line → MapCall → Finished → Type 0
-IsPlacedOnMap (Some told) calls lines call r = IsChangeOrReading (changes call told) calls lines call r
+IsPlacedOnMap (Some told) calls lines call r = IsPlacedChangeOrReading (changes_map call told) calls lines call r
 IsPlacedOnMap None calls lines call r = IsRefused lines r

@@ -2,8 +2,8 @@
 use Rattle.std.specs.Prelude.{◌≡◌, List, [], ◌∷◌, None}
 use Rattle.arena.specs.declared.layout.Layout.{Layout}
 use Rattle.arena.specs.History.{value}
-use Rattle.spelling.specs.Spelled.{Spells}
-pub use Rattle.spelling.specs.FillOrder.{HasStoodInField, HasRisingLevels}
+use Rattle.ordered_map.specs.Spelled.{Spells}
+pub use Rattle.ordered_map.specs.FillOrder.{HasStoodInField, HasRisingLevels}
 use Rattle.script.specs.declared.call.Call.{Call}
 use Rattle.record.specs.declared.record.Line.{Line}
 use Rattle.record.specs.Turns.{history, entry_owed}

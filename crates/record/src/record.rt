@@ -1,7 +1,7 @@
 //! What a run leaves behind.
 use arena::{Kind, NodeNo, PassNo, Resource, ScxNo};
+use ordered_map::Reply;
 use script::Script;
-use spelling::Reply;
 
 /// The script, and the lines of a run in order.
 #[derive(Debug, Drop)]

@@ -6,7 +6,7 @@ use Rattle.std.proofs.lemmas.Bool.Decides.{leb_tells}
 use Rattle.std.proofs.lemmas.List.{drop_all}
 use Rattle.std.proofs.Math.Nat.{min-eq_left, min-eq_right}
 use Rattle.std.proofs.Math.Seq.{drop-cons}
-use Rattle.spelling.specs.declared.reply.Reply.{Reply}
+use Rattle.ordered_map.specs.declared.reply.Reply.{Reply}
 use Rattle.report.specs.Outcome.{client_rows, replies_of_all, reply_row, reply_rows}
 use Rattle.report.proofs.Texts.{appended, row_out, rows_after}
 use Rattle.texts.specs.Pages.{line_of, rows_text}

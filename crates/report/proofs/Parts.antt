@@ -2,7 +2,7 @@
 use Rattle.std.proofs.Common.{◌≡◌, List, [], ◌∷◌, ◌++◌, ◌∙◌, ℕ, Bool, Option, Vec, ap, append-nil, length, map, subst, sym}
 use Rattle.std.specs.Global.{Global}
 use Rattle.std.specs.Io.KnownBytes.{Appends}
-use Rattle.spelling.specs.declared.reply.Reply.{Reply}
+use Rattle.ordered_map.specs.declared.reply.Reply.{Reply}
 use Rattle.script.specs.declared.script.Script.{Script}
 use Rattle.record.specs.declared.record.Line.{Line}
 use Rattle.script.specs.Rows.{limits_row}

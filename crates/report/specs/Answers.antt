@@ -3,10 +3,10 @@ use Rattle.std.specs.Prelude.{◌≡◌, ⊤, ℕ, ◌<◌, List, [], ◌∷◌,
 use denote.Ref.{Bor}
 use Rattle.arena.specs.declared.fault.Resource.{Resource}
 use Rattle.arena.specs.declared.fault.Resource.TheVariants.{Nodes, Scx}
-use Rattle.spelling.specs.declared.reply.Reply.{Reply}
-use Rattle.spelling.specs.declared.reply.Reply.TheVariants.{Value, Pair, Pairs, Contended, NoMemory, Full as FullShare}
-use Rattle.spelling.specs.declared.request.Request.{Request}
-use Rattle.spelling.specs.declared.request.Request.TheVariants.{Successor}
+use Rattle.ordered_map.specs.declared.reply.Reply.{Reply}
+use Rattle.ordered_map.specs.declared.reply.Reply.TheVariants.{Value, Pair, Pairs, Contended, NoMemory, Full as FullShare}
+use Rattle.ordered_map.specs.declared.request.Request.{Request}
+use Rattle.ordered_map.specs.declared.request.Request.TheVariants.{Successor}
 use Rattle.script.specs.declared.call.Call.{Call}
 use Rattle.script.specs.declared.command.Command.{Command}
 use Rattle.script.specs.declared.command.Command.TheVariants.{Map as MapCommand}

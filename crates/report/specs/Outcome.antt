@@ -2,7 +2,7 @@
 -- the gate was met, the replies by client and call, the pairs by key, and a row that counts both.
 use Rattle.std.specs.Prelude.{ℕ, suc, ◌+◌, ◌-◌, ◌^◌, Bool, true, false, List, [], ◌∷◌, ◌++◌, Vec, codes, decimal, length, map, min}
 use Rattle.std.specs.Global.{Global}
-use Rattle.spelling.specs.declared.reply.Reply.{Reply}
+use Rattle.ordered_map.specs.declared.reply.Reply.{Reply}
 use Rattle.report.specs.Answers.{reply_text}
 use Rattle.texts.specs.Pages.{rows_text}
 

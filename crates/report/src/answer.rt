@@ -5,8 +5,8 @@ ghost use Rattle.report.specs.Answers.{answer_text, rest_text};
 use crate::name::{blame_of, node_of};
 use crate::reply::{full_text, pairs_of, reply_text, telling_reply_of};
 use arena::{Full, NodeNo};
+use ordered_map::Reply;
 use record::Answer;
-use spelling::Reply;
 use std::alloc::{AllocError, Global};
 use texts::number_of;
 

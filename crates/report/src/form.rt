@@ -3,9 +3,9 @@ ghost use Rattle.std.specs.Prelude.{◌≡◌};
 ghost use Rattle.report.specs.Answers.{IsInForm, answer_text, fitted_to, cells_answer, map_answer, reply_to};
 
 use arena::Full;
+use ordered_map::{Reply, Request};
 use record::Answer;
 use script::Command;
-use spelling::{Reply, Request};
 
 /// The answer with the same text in the form that answers a command; without one, as it is.
 pub fn fitted_to(command: Option<Command>, answer: Answer) -> Answer

@@ -5,7 +5,7 @@ ghost use Rattle.report.specs.Outcome.{client_rows, gate_row, outcome_end_row, o
 ghost use Rattle.texts.specs.Pages.{BeginsWith, IsReady, line_of, page_row, page_text, rows_text};
 
 use crate::reply::reply_text;
-use spelling::Reply;
+use ordered_map::Reply;
 use std::alloc::{AllocError, Global};
 use std::io::Write;
 use texts::{Metered, Page, WriteFault, send};

@@ -4,7 +4,7 @@ ghost use Rattle.report.specs.Answers.{full_text, reply_text, spaced_pairs, rest
 
 use crate::name::{blame_of, small_number_of};
 use arena::{Full, Resource};
-use spelling::Reply;
+use ordered_map::Reply;
 use std::alloc::{AllocError, Global};
 use texts::number_of;
 

@@ -4,8 +4,8 @@ use Rattle.std.proofs.lemmas.List.{take_more}
 use Rattle.arena.specs.declared.layout.Layout.{Layout}
 use Rattle.arena.specs.History.{Extends}
 use Rattle.arena.proofs.Lemmas.{ends_self, ends_trans}
-use Rattle.spelling.specs.OrderedMap.{MapCall}
-use Rattle.spelling.specs.declared.reply.Reply.{Reply}
+use Rattle.ordered_map.specs.OrderedMap.{MapCall}
+use Rattle.ordered_map.specs.declared.reply.Reply.{Reply}
 use Rattle.script.specs.declared.call.Call.{Call}
 use Rattle.script.specs.declared.command.Command.{Command}
 use Rattle.record.specs.Commands.{commands}

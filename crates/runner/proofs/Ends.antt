@@ -9,15 +9,15 @@ use Rattle.arena.specs.Limits.{IsLayoutOf}
 use Rattle.arena.specs.History.{History, value, Extends}
 use Rattle.arena.specs.Log.{log}
 use Rattle.arena.specs.PlainWords.{Contents}
-use Rattle.spelling.specs.Laws.{AreEdits}
-use Rattle.spelling.specs.OrderedMap.{MapEdit}
-use Rattle.spelling.specs.Runs.{IsTreeRun}
-use Rattle.spelling.specs.Spelled.{Spells}
-use Rattle.spelling.proofs.Lemmas.{log_edits, one_spelling, spells_log}
+use Rattle.ordered_map.specs.Laws.{AreEdits}
+use Rattle.ordered_map.specs.OrderedMap.{MapEdit}
+use Rattle.ordered_map.specs.Runs.{IsTreeRun}
+use Rattle.ordered_map.specs.Spelled.{Spells}
+use Rattle.ordered_map.proofs.Lemmas.{log_edits, one_spelling, spells_log}
 use Rattle.arena.proofs.Lemmas.{ends_self}
-use Rattle.dict.specs.TypedMaps.{typed_run}
-use Rattle.spelling.specs.Replies.{word_pair}
-use Rattle.spelling.specs.declared.reply.Reply.{Reply}
+use Rattle.dict.specs.Laws.TypedMaps.{typed_run}
+use Rattle.ordered_map.specs.Replies.{word_pair}
+use Rattle.ordered_map.specs.declared.reply.Reply.{Reply}
 use Rattle.script.specs.declared.script.Script.{Script}
 use Rattle.record.specs.Commands.{commands}
 use Rattle.forest.specs.TableRule.{history_of}
@@ -25,8 +25,8 @@ use Rattle.forest.specs.Passes.{Ground, PassView, AreNew, AreBegun, IsClosed, ne
 use Rattle.forest.specs.Shares.{entries_of}
 use Rattle.dict.specs.Words.{IsNumber}
 use Rattle.runner.specs.Calls.{NumbersAllow, HasCalled, HaveReplies, HaveWorked}
-use Rattle.runner.specs.Histories.{map_at}
-use Rattle.runner.specs.Outcomes.{IsClient, IsOutcome}
+use Rattle.runner.specs.Histories.{map_at_moment}
+use Rattle.runner.specs.Outcomes.{IsClientOfRun, IsOutcome}
 use Rattle.runner.proofs.Gathered.{WorkedAt, worked_at, worked_count, none_some, some_same}
 use Rattle.runner.proofs.Placed.{all_answered}
 
@@ -47,7 +47,7 @@ module _ (script : Script) (f : Ground) (layout : IsLayoutOf script.limits Tree 
   edits : (e : ℕ → MapEdit) × AreEdits e f.layout whole
   edits = log_edits f.layout whole tree
 
-  client : (c : ℕ) (own : Vec (Reply ℕ ℕ) Global) → slice_get owns c ≡ Some own → IsClient f whole edits.0 news c (commands script.calls.items c) own.items
+  client : (c : ℕ) (own : Vec (Reply ℕ ℕ) Global) → slice_get owns c ≡ Some own → IsClientOfRun f whole edits.0 news c (commands script.calls.items c) own.items
   client c own e =
       let w : WorkedAt f script.calls.items olds news c own.items = worked_at f script.calls.items olds news owns worked c own e in
       let old : w.old ≡ new_pass f c = are_new.each c w.old w.was in

@@ -7,21 +7,21 @@ use Rattle.arena.specs.Lawful.{Lawful}
 use Rattle.arena.specs.Log.{log, IsEntered}
 use Rattle.arena.proofs.Lemmas.{ends_self, ends_trans}
 use Rattle.histories.proofs.Lemmas.{Logs, logs, same, wins, lawful_tail}
-use Rattle.spelling.specs.declared.pair.Pair.{Pair}
-use Rattle.spelling.specs.Laws.{AreEdits}
-use Rattle.spelling.specs.OrderedMap.{MapCall, Edit, MapEdit, MapReply, OneValue, reply, changes}
-use Rattle.spelling.specs.Runs.{IsTreeRun, Makes}
-use Rattle.spelling.proofs.Lemmas.{makes_one, makes_since, one_spelling, spells_log}
-use Rattle.spelling.specs.Replies.{told_of}
-use Rattle.spelling.specs.declared.reply.Reply.{Reply}
-use Rattle.spelling.specs.declared.reply.Reply.TheVariants as replies
+use Rattle.ordered_map.specs.declared.pair.Pair.{Pair}
+use Rattle.ordered_map.specs.Laws.{AreEdits}
+use Rattle.ordered_map.specs.OrderedMap.{MapCall, Edit, MapEdit, MapReply, OneValue, reply, changes_map}
+use Rattle.ordered_map.specs.Runs.{IsTreeRun, Makes}
+use Rattle.ordered_map.proofs.Lemmas.{makes_one, makes_since, one_spelling, spells_log}
+use Rattle.ordered_map.specs.Replies.{told_of}
+use Rattle.ordered_map.specs.declared.reply.Reply.{Reply}
+use Rattle.ordered_map.specs.declared.reply.Reply.TheVariants as replies
 use Rattle.script.specs.declared.command.Command.{Command}
-use Rattle.spelling.specs.CallRules.{most_steps}
+use Rattle.ordered_map.specs.CallRules.{most_steps}
 use Rattle.forest.specs.Dictionary.{IsVersion, IsChange, IsChangeOrReading, IsReading, IsRefusalOf, IsToldOf}
 use Rattle.forest.specs.Passes.{PassView, IsLaterView, run_of, done_of, steps_of}
 use Rattle.forest.specs.Traces.{shared_nodes}
 use Rattle.runner.specs.Calls.{HasCalled, HaveReplies}
-use Rattle.runner.specs.Histories.{map_at, IsEnteredCall, IsReadCall, IsPlacedAs, IsPlaced, IsAnswered}
+use Rattle.runner.specs.Histories.{map_at_moment, IsEnteredCall, IsReadCall, IsPlacedAs, IsPlacedInRun, IsAnswered}
 use Rattle.runner.proofs.Chains.{replies_later}
 
 -- an SCX-record with an entry keeps it
@@ -37,8 +37,8 @@ stays_entered lay (r ⊳ h) m s l (inr e) x = go (logs lay h r l) (stays_entered
 module _ (lay : Layout) (tries : ℕ) (run : History) (edits : ℕ → MapEdit) (tree : IsTreeRun lay run) (are : AreEdits edits lay run) where
   module _ (old new : PassView) (layout : new.layout ≡ lay) (within : Extends run (run_of new)) where
     -- a version is the map of the history there
-    version_is : (moment : History) (m : List Pair) → Extends (run_of new) moment → IsVersion new moment m → m ≡ map_at lay edits moment
-    version_is moment m e x = one_spelling lay (value moment) m (map_at lay edits moment) (rw layout at x.spelled) (spells_log lay run edits tree are moment (ends_trans run (run_of new) moment within e))
+    version_is : (moment : History) (m : List Pair) → Extends (run_of new) moment → IsVersion new moment m → m ≡ map_at_moment lay edits moment
+    version_is moment m e x = one_spelling lay (value moment) m (map_at_moment lay edits moment) (rw layout at x.spelled) (spells_log lay run edits tree are moment (ends_trans run (run_of new) moment within e))
 
     read_placed : (call : MapCall) (told : MapReply) → IsReading old new call told → IsReadCall lay edits old new call told
     read_placed call told x = record {
@@ -78,7 +78,7 @@ module _ (lay : Layout) (tries : ℕ) (run : History) (edits : ℕ → MapEdit) 
         of_pass = x.of_pass;
         of_call = x.of_call;
         makes = is_edit ∙ ap Edit (sym edit_is);
-        gives = ap (λ k. reply k (map_at lay edits x.before)) is_edit ∙ ap (λ m. reply (Edit edit) m) (sym (version_is x.before x.map before_within x.was)) ∙ ap OneValue x.tells ∙ sym is_told;
+        gives = ap (λ k. reply k (map_at_moment lay edits x.before)) is_edit ∙ ap (λ m. reply (Edit edit) m) (sym (version_is x.before x.map before_within x.was)) ∙ ap OneValue x.tells ∙ sym is_told;
       }
 
     placed_as : (b : Bool) (call : MapCall) (told : MapReply) → IsChangeOrReading b old new call told → IsPlacedAs b lay edits old new call told
@@ -86,10 +86,10 @@ module _ (lay : Layout) (tries : ℕ) (run : History) (edits : ℕ → MapEdit) 
     placed_as false call told x = read_placed call told x
 
     -- what a reply tells, or that the call has no entry
-    placed : (call : MapCall) (r : Reply ℕ ℕ) → IsToldOf old new call (told_of (λ n. n) (λ n. n) r) → IsRefusalOf tries old new call r → IsPlaced lay edits old new call (told_of (λ n. n) (λ n. n) r)
-    placed call (replies.Value v) x y = placed_as (changes call _) call _ x
-    placed call (replies.Pair p) x y = placed_as (changes call _) call _ x
-    placed call (replies.Pairs ps) x y = placed_as (changes call _) call _ x
+    placed : (call : MapCall) (r : Reply ℕ ℕ) → IsToldOf old new call (told_of (λ n. n) (λ n. n) r) → IsRefusalOf tries old new call r → IsPlacedInRun lay edits old new call (told_of (λ n. n) (λ n. n) r)
+    placed call (replies.Value v) x y = placed_as (changes_map call _) call _ x
+    placed call (replies.Pair p) x y = placed_as (changes_map call _) call _ x
+    placed call (replies.Pairs ps) x y = placed_as (changes_map call _) call _ x
     placed call (replies.Contended n s) x y = y.done
     placed call (replies.Full f) x y = y.done
     placed call replies.NoMemory x y = y.1

@@ -4,13 +4,13 @@ use Rattle.std.specs.Global.{Global}
 use Rattle.arena.specs.declared.layout.Layout.{Layout}
 use Rattle.arena.specs.History.{History}
 use Rattle.arena.specs.Machines.{IsRun}
-use Rattle.spelling.specs.OrderedMap.{MapCall}
+use Rattle.ordered_map.specs.OrderedMap.{MapCall}
 use Rattle.dict.specs.Calls.{AsksForPairs}
-use Rattle.spelling.specs.CallRules.{MayReply, form_of, most_steps}
+use Rattle.ordered_map.specs.CallRules.{MayReply, form_of, most_steps}
 use Rattle.dict.specs.Typed.{TypedAllows}
 use Rattle.dict.specs.Words.{IsNumber}
-use Rattle.spelling.specs.Replies.{told_of}
-use Rattle.spelling.specs.declared.reply.Reply.{Reply}
+use Rattle.ordered_map.specs.Replies.{told_of}
+use Rattle.ordered_map.specs.declared.reply.Reply.{Reply}
 use Rattle.script.specs.declared.call.Call.{Call}
 use Rattle.script.specs.declared.command.Command.{Command}
 use Rattle.record.specs.Commands.{commands}
@@ -25,10 +25,10 @@ use Rattle.forest.specs.Traces.{shared_nodes}
 abbrev pub NumbersAllow : Layout → History → ℕ → Type 0
 NumbersAllow = TypedAllows IsNumber IsNumber
 
--- The pass, which knew `old` as the call began and `new` at its end, has made the call, which may try
--- so often, and has this reply: what the reply tells is right, and so is what it refuses. The pass
--- blames whom the reply names, and has made no more steps, and spent no more of its share, than so
--- many tries may.
+-- The pass, which knew `old` as the call began and `new` at its end, has made the call, which may
+-- try so often, and has this reply: what the reply tells is right, and so is what it refuses. The
+-- pass blames whom the reply names, and has made no more steps, and spent no more of its share,
+-- than so many tries may.
 pub record HasCalled (tries : ℕ) (old new : PassView) (call : MapCall) (reply : Reply ℕ ℕ) : Type 0 where
   pub later : IsLaterView old new
   pub lawful : IsRun NumbersAllow new.layout (run_of new)

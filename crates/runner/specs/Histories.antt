@@ -4,14 +4,14 @@ use Rattle.arena.specs.declared.layout.Layout.{Layout}
 use Rattle.arena.specs.declared.step.Row.{Row}
 use Rattle.arena.specs.History.{History, ◌⊳◌, Extends}
 use Rattle.arena.specs.Log.{Entry, log}
-use Rattle.spelling.specs.declared.pair.Pair.{Pair}
-use Rattle.spelling.specs.OrderedMap.{MapCall, Edit, MapEdit, MapReply, reply, changes}
-use Rattle.spelling.specs.Runs.{map_of_log}
+use Rattle.ordered_map.specs.declared.pair.Pair.{Pair}
+use Rattle.ordered_map.specs.OrderedMap.{MapCall, Edit, MapEdit, MapReply, reply, changes_map}
+use Rattle.ordered_map.specs.Runs.{map_of_log}
 use Rattle.dict.specs.Calls.{AsksForPairs}
-use Rattle.spelling.specs.CallRules.{MayReply, form_of, most_steps}
+use Rattle.ordered_map.specs.CallRules.{MayReply, form_of, most_steps}
 use Rattle.dict.specs.Says.{HasMadeRow}
-use Rattle.spelling.specs.Replies.{told_of}
-use Rattle.spelling.specs.declared.reply.Reply.{Reply}
+use Rattle.ordered_map.specs.Replies.{told_of}
+use Rattle.ordered_map.specs.declared.reply.Reply.{Reply}
 use Rattle.forest.specs.Dictionary.{IsRefusalOf, HasSpentAtMost, blamed_by_reply}
 use Rattle.forest.specs.Passes.{AreOfCall, PassView, IsLaterView, HasBlamed, run_of, done_of, steps_of, taken_of}
 use Rattle.forest.specs.Shares.{IsBetweenCalls}
@@ -19,10 +19,10 @@ use Rattle.forest.specs.StepKinds.{HasKeptToKinds}
 use Rattle.forest.specs.Traces.{shared_nodes}
 
 -- The history is the log of the run. `edits` says which edit of the map each SCX-record with an
--- entry has made, so that each moment of the run has a map, a version: what the edits of the entries
--- up to then make of the empty map.
-abbrev pub map_at : Layout → (ℕ → MapEdit) → History → List Pair
-map_at lay edits moment = map_of_log edits (log lay moment)
+-- entry has made, so that each moment of the run has a map, a version: what the edits of the
+-- entries up to then make of the empty map.
+abbrev pub map_at_moment : Layout → (ℕ → MapEdit) → History → List Pair
+map_at_moment lay edits moment = map_of_log edits (log lay moment)
 
 -- A changing call has exactly one entry, behind all that its pass knew as it began. The entry is of
 -- this pass and call and makes this call's own edit, and the reply is the map's just before it.
@@ -41,16 +41,16 @@ pub record IsEnteredCall (lay : Layout) (edits : ℕ → MapEdit) (old new : Pas
   pub of_pass : entry.owner ≡ old.number
   pub of_call : entry.call ≡ taken_of old
   pub makes : call ≡ Edit (edits entry.scx)
-  pub gives : reply call (map_at lay edits before) ≡ told
+  pub gives : reply call (map_at_moment lay edits before) ≡ told
 
--- A reading call has no entry; its reply is that of the map at a moment from its first own row to its
--- end. A range that takes no pair makes no row, and replies what every map does.
+-- A reading call has no entry; its reply is that of the map at a moment from its first own row to
+-- its end. A range that takes no pair makes no row, and replies what every map does.
 pub record IsReadCall (lay : Layout) (edits : ℕ → MapEdit) (old new : PassView) (call : MapCall) (told : MapReply) : Type 0 where
   pub moment : History
   pub within : Extends (run_of new) moment
   pub since : Extends moment (run_of old)
   pub own : AsksForPairs call → HasMadeRow old.number (run_of old) moment
-  pub gives : reply call (map_at lay edits moment) ≡ told
+  pub gives : reply call (map_at_moment lay edits moment) ≡ told
   pub done : done_of new ≡ done_of old
 
 -- the call has changed the map, or has read it
@@ -59,18 +59,18 @@ IsPlacedAs true lay edits old new call told = IsEnteredCall lay edits old new ca
 IsPlacedAs false lay edits old new call told = IsReadCall lay edits old new call told
 
 -- where a call stands that tells something of the map; a refused one stands nowhere
-abbrev pub IsPlaced : Layout → (ℕ → MapEdit) → PassView → PassView → MapCall → Option MapReply → Type 0
-IsPlaced lay edits old new call (Some told) = IsPlacedAs (changes call told) lay edits old new call told
-IsPlaced lay edits old new call None = done_of new ≡ done_of old
+abbrev pub IsPlacedInRun : Layout → (ℕ → MapEdit) → PassView → PassView → MapCall → Option MapReply → Type 0
+IsPlacedInRun lay edits old new call (Some told) = IsPlacedAs (changes_map call told) lay edits old new call told
+IsPlacedInRun lay edits old new call None = done_of new ≡ done_of old
 
--- The call, which may try so often, began where its pass knew `old` and ended where it knew `new`. It
--- stands in the history of this run with this reply.
+-- The call, which may try so often, began where its pass knew `old` and ended where it knew `new`.
+-- It stands in the history of this run with this reply.
 pub record IsAnswered (lay : Layout) (tries : ℕ) (run : History) (edits : ℕ → MapEdit) (old new : PassView) (call : MapCall) (reply : Reply ℕ ℕ) : Type 0 where
   -- its begin and its end are moments of the run, the one not behind the other
   pub within : Extends run (run_of new)
   pub later : IsLaterView old new
   -- what it tells is right there
-  pub told : IsPlaced lay edits old new call (told_of (λ n. n) (λ n. n) reply)
+  pub told : IsPlacedInRun lay edits old new call (told_of (λ n. n) (λ n. n) reply)
   -- and so is why it tells nothing, as the calls of the forest say it
   pub refused : IsRefusalOf tries old new call reply
   pub form : MayReply call (form_of reply)
@@ -78,8 +78,8 @@ pub record IsAnswered (lay : Layout) (tries : ℕ) (run : History) (edits : ℕ 
   pub blames : (new.blamed ≡ blamed_by_reply reply old.blamed) × HasBlamed new
   -- of its share no more is gone than so many tries of the call may take
   pub spends : HasSpentAtMost old new call tries
-  -- it has made no more steps than so many tries of the call may make, each in this call of the pass
-  -- and of a kind for such a call
+  -- it has made no more steps than so many tries of the call may make, each in this call of the
+  -- pass and of a kind for such a call
   pub steps : steps_of new ≤ steps_of old + most_steps call tries (shared_nodes lay)
   pub calls : AreOfCall new.number (taken_of old) (run_of old) (run_of new)
   pub kinds : HasKeptToKinds old new call

@@ -5,15 +5,15 @@ use Rattle.script.specs.declared.call.Call.{Call}
 use Rattle.record.specs.Commands.{commands}
 
 -- how many calls a client has
-abbrev pub calls_of : List Call → ℕ → ℕ
-calls_of calls c = length (commands calls c)
+abbrev pub call_count : List Call → ℕ → ℕ
+call_count calls c = length (commands calls c)
 
 -- call j of client c, if that client has one; `counts` says how many calls each has
 abbrev pub call_if : (ℕ → ℕ) → ℕ → ℕ → Option (PassNo × ℕ)
 call_if counts c j = cond (ltb j (counts c)) (Some (record { 0 = c }, j)) None
 
--- Where so many clients take turns, call j of a client waits for call j of the client before it; the
--- first client's waits for call j - 1 of the last client, and its first call for none.
+-- Where so many clients take turns, call j of a client waits for call j of the client before it;
+-- the first client's waits for call j - 1 of the last client, and its first call for none.
 abbrev pub in_turn : (ℕ → ℕ) → ℕ → ℕ → ℕ → Option (PassNo × ℕ)
 in_turn counts clients (suc c) j = call_if counts c j
 in_turn counts (suc last) zero (suc j) = call_if counts last j

@@ -2,7 +2,7 @@
 ghost use Rattle.std.specs.Prelude.{◌≡◌, true, false, IfOk};
 ghost use Rattle.std.specs.List.{All};
 ghost use Rattle.arena.specs.declared.limits.Mode.TheVariants.{Tree};
-ghost use Rattle.spelling.specs.Requests.{AsksForFew, map_request};
+ghost use Rattle.ordered_map.specs.Requests.{AsksForFew, map_request};
 ghost use Rattle.script.specs.Commands.{mode_of};
 ghost use Rattle.forest.specs.Opened.{IsSameOpen};
 ghost use Rattle.forest.specs.Passes.{IsOf};

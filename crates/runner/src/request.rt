@@ -1,7 +1,7 @@
 //! Calls of a script as calls of a dictionary.
 ghost use Rattle.std.specs.Prelude.{◌≡◌, Some};
 ghost use Rattle.arena.specs.declared.limits.Mode.TheVariants.{Tree};
-ghost use Rattle.spelling.specs.Requests.{AsksForFew, map_request};
+ghost use Rattle.ordered_map.specs.Requests.{AsksForFew, map_request};
 ghost use Rattle.record.specs.MapRecord.{map_call};
 ghost use Rattle.script.specs.Commands.{mode_of};
 

@@ -5,13 +5,13 @@ use Rattle.arena.specs.declared.limits.Mode.{Mode}
 use Rattle.arena.specs.declared.limits.Mode.TheVariants.{Records, Tree}
 use Rattle.arena.specs.declared.word.Side.{Side}
 use Rattle.arena.specs.declared.word.Side.TheVariants.{Left, Right}
-use Rattle.spelling.specs.Requests.{AsksForFew}
+use Rattle.ordered_map.specs.Requests.{AsksForFew}
 use Rattle.script.specs.Cells.{cells_of}
 use Rattle.script.specs.Update.{update_cells, update_finalize, update_field, update_value}
-use Rattle.spelling.specs.declared.request.Request.{Request}
+use Rattle.ordered_map.specs.declared.request.Request.{Request}
 use Rattle.script.specs.declared.command.Command.{Command}
 use Rattle.script.specs.declared.command.Command.TheVariants.{Llx, Scx, Vlx, Set, Map}
-use Rattle.spelling.specs.declared.request.Request.TheVariants.{Insert, Delete, Get, Successor, Range}
+use Rattle.ordered_map.specs.declared.request.Request.TheVariants.{Insert, Delete, Get, Successor, Range}
 
 -- the word for a side
 abbrev pub side_text : Side → List ℕ

@@ -5,7 +5,7 @@ ghost use Rattle.script.specs.Cells.{cells_of, maybe_cells_of};
 
 use crate::cells::{Cell, Cells};
 use arena::Side;
-use spelling::Request;
+use ordered_map::Request;
 
 /// What a call does.
 #[derive(Clone, Copy, Debug, PartialEq, Eq)]

@@ -11,7 +11,7 @@ use crate::command::{Command, Update};
 use crate::fault::ScriptCause;
 use arena::{Mode, Side};
 use itoa::Buffer;
-use spelling::Request;
+use ordered_map::Request;
 use std::alloc::{AllocError, Global};
 use texts::{number_of, small_number_of};
 

@@ -22,7 +22,7 @@ use Rattle.prims.specs.Llx.Known.{IsFinalBy}
 use Rattle.prims.specs.Moments.{IsMoment, IsLeftAlone, HasChanged}
 use Rattle.prims.specs.Snap.{snap_at}
 use Rattle.prims.specs.declared.snap.Snap.{Snap}
-use Rattle.spelling.proofs.Lemmas.{blame_finalizer}
+use Rattle.ordered_map.proofs.Lemmas.{blame_finalizer}
 use Rattle.template.specs.Blame.{WasNotFinal, HasCome, IsContended}
 
 -- What has come to a node

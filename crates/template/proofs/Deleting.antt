@@ -12,13 +12,13 @@ use Rattle.histories.specs.Descriptor.{Descriptor}
 use Rattle.prims.specs.Snap.{child_of}
 use Rattle.prims.specs.Laws.Linked.{in_field_named}
 use Rattle.prims.specs.declared.snap.Snap.{Snap}
-use Rattle.spelling.specs.Edits.{IsJoin}
-use Rattle.spelling.specs.OrderedMap.{Delete}
-use Rattle.spelling.specs.Paths.{WasOnPath, WasInTree}
-use Rattle.spelling.specs.Runs.{IsTreeRun}
-use Rattle.spelling.specs.TreeShape.{delete_plan, leaf_place, sibling_place}
-use Rattle.spelling.specs.TreeWords.{class, is_leaf, toward, IsBlankAboveKeys}
-use Rattle.spelling.proofs.Lemmas.{walk_named, stood_blank}
+use Rattle.ordered_map.specs.Edits.{IsJoin}
+use Rattle.ordered_map.specs.OrderedMap.{Delete}
+use Rattle.ordered_map.specs.Paths.{WasOnPath, WasInTree}
+use Rattle.ordered_map.specs.Runs.{IsTreeRun}
+use Rattle.ordered_map.specs.TreeShape.{delete_plan, leaf_place, sibling_place}
+use Rattle.ordered_map.specs.TreeWords.{class, is_leaf, toward, IsBlankAboveKeys}
+use Rattle.ordered_map.proofs.Lemmas.{walk_named, stood_blank}
 use Rattle.template.specs.FoundLeaf.{HasFoundLeaf}
 use Rattle.template.specs.FreshNodes.{IsDeleteAt, HasFreshCopy}
 use Rattle.template.specs.Promises.{IsPromised, IsFresh, IsSnapOf, WillDelete}

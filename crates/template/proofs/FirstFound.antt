@@ -9,12 +9,12 @@ use Rattle.arena.specs.Words.{node, child}
 use Rattle.arena.specs.History.{History, value, Extends}
 use Rattle.arena.specs.Machines.{Call}
 use Rattle.histories.proofs.Lemmas.{node_since}
-use Rattle.spelling.specs.OrderedMap.{pair}
-use Rattle.spelling.specs.Paths.{Passed, IsFirstAt}
-use Rattle.spelling.specs.Runs.{IsTreeRun}
-use Rattle.spelling.specs.TreeWords.{class, is_leaf, rank, toward, first_said}
-use Rattle.spelling.proofs.Lemmas.{run_since, walk_small, walk_before, walk_left, walk_least, walk_named, walk_next, walk_own, SameSettled, settled_rank, settled_leaf}
-use Rattle.template.specs.FoundLeaf.{HasEnded, HasFound, HasFoundLeaf, first_told}
+use Rattle.ordered_map.specs.OrderedMap.{pair}
+use Rattle.ordered_map.specs.Paths.{Passed, IsFirstAt}
+use Rattle.ordered_map.specs.Runs.{IsTreeRun}
+use Rattle.ordered_map.specs.TreeWords.{class, is_leaf, rank, toward, first_said}
+use Rattle.ordered_map.proofs.Lemmas.{run_since, walk_small, walk_before, walk_left, walk_least, walk_named, walk_next, walk_own, SameSettled, settled_rank, settled_leaf}
+use Rattle.template.specs.FoundLeaf.{HasEnded, HasFoundGoal, HasFoundLeaf, first_told}
 use Rattle.template.specs.Trails.{WasPassed, HasTurned}
 use Rattle.template.specs.declared.walk.Found.{Found}
 use Rattle.template.specs.declared.walk.Goal.TheVariants.{Least}
@@ -67,7 +67,7 @@ module _ (c : Call) (h : History) (n : ℕ) (side : Side) (next : ℕ) (run : Is
 pub found_small : {asked : ℕ} (k : ℕ) (c : Call) (h : History) (f : Found) → IsTreeRun c.layout h → HasEnded c h k asked f → f.head.class ≡ 0 → f.key < 2 ^ 64
 found_small k c h f run a low = rw (a.key low) at (walk_small c.layout h a.trail.node.first k f.trail.node.0 run a.trail.node.passed a.leaf)
 
-module _ (c : Call) (h : History) (f : Found) (run : IsTreeRun c.layout h) (a : HasFound Least c h f) where
+module _ (c : Call) (h : History) (f : Found) (run : IsTreeRun c.layout h) (a : HasFoundGoal Least c h f) where
   abbrev leaf : ℕ
   leaf = f.trail.node.0
 

@@ -13,13 +13,13 @@ use Rattle.arena.specs.Machines.{Call}
 use Rattle.histories.specs.Descriptor.{Descriptor}
 use Rattle.prims.specs.Scx.Known.{Job, Says}
 use Rattle.prims.specs.Snap.{snap_at}
-use Rattle.spelling.specs.Edits.{IsAlike, IsSwap, IsSplit}
-use Rattle.spelling.specs.OrderedMap.{Insert}
-use Rattle.spelling.specs.Paths.{WasOnPath}
-use Rattle.spelling.specs.Runs.{IsTreeRun}
-use Rattle.spelling.specs.TreeShape.{insert_plan}
-use Rattle.spelling.specs.TreeWords.{class, is_leaf, level, rank, toward}
-use Rattle.spelling.proofs.Lemmas.{walk_named}
+use Rattle.ordered_map.specs.Edits.{IsAlike, IsSwap, IsSplit}
+use Rattle.ordered_map.specs.OrderedMap.{Insert}
+use Rattle.ordered_map.specs.Paths.{WasOnPath}
+use Rattle.ordered_map.specs.Runs.{IsTreeRun}
+use Rattle.ordered_map.specs.TreeShape.{insert_plan}
+use Rattle.ordered_map.specs.TreeWords.{class, is_leaf, level, rank, toward}
+use Rattle.ordered_map.proofs.Lemmas.{walk_named}
 use Rattle.template.specs.FoundLeaf.{HasFoundLeaf}
 use Rattle.template.specs.FreshNodes.{IsLeafWith, IsForkWith, comes_before, IsInsertAt, HasFreshLeaf, HasFreshFork}
 use Rattle.template.specs.Promises.{IsPromised, IsFresh, IsInsertOver, WillInsert}

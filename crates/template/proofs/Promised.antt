@@ -18,16 +18,16 @@ use Rattle.arena.proofs.Lemmas.{value_quiet, value_apart, held_more, scx_apart, 
 use Rattle.histories.specs.Descriptor.{Descriptor, descriptor}
 use Rattle.histories.proofs.Lemmas.{lawful_row, lawful_tail, node_since, stays_unnamed, unnamed_stays}
 use Rattle.help.specs.Allowed.{MayComeBetween, IsLater, IsAllowed}
-use Rattle.help.specs.Help.Allowing.{later_self, later_trans}
+use Rattle.help.specs.Laws.Help.Allowing.{later_self, later_trans}
 use Rattle.prims.specs.declared.snap.Snap.{Snap}
 use Rattle.prims.specs.Snap.{child_of}
 use Rattle.prims.specs.Laws.Linked.{IsLinked, linked_since}
-use Rattle.spelling.specs.OrderedMap.{MapEdit, Insert, Delete}
-use Rattle.spelling.specs.Paths.{WasOnPath}
-use Rattle.spelling.specs.TreeShape.{insert_plan, delete_plan, leaf_place, sibling_place, IsDelete, TreeAllows}
-use Rattle.spelling.specs.TreeWords.{is_leaf, rank, toward}
-use Rattle.spelling.specs.Edits.{IsAlike, IsSwap, IsSplit, IsJoin, HasFieldsOf}
-use Rattle.spelling.proofs.Lemmas.{plan_delete, SameSettled, settled_toward, settled_leaf, move_swap, move_split, move_join}
+use Rattle.ordered_map.specs.OrderedMap.{MapEdit, Insert, Delete}
+use Rattle.ordered_map.specs.Paths.{WasOnPath}
+use Rattle.ordered_map.specs.TreeShape.{insert_plan, delete_plan, leaf_place, sibling_place, IsDelete, TreeAllows}
+use Rattle.ordered_map.specs.TreeWords.{is_leaf, rank, toward}
+use Rattle.ordered_map.specs.Edits.{IsAlike, IsSwap, IsSplit, IsJoin, HasFieldsOf}
+use Rattle.ordered_map.proofs.Lemmas.{plan_delete, SameSettled, settled_toward, settled_leaf, move_swap, move_split, move_join}
 use Rattle.template.specs.Promises.{IsPromised, IsFresh, IsInsertOver, WillInsert, IsSnapOf, WillDelete}
 
 -- what is promised is allowed

@@ -20,7 +20,7 @@ use Rattle.histories.specs.Descriptor.{Descriptor, descriptor}
 use Rattle.histories.specs.Progress.{IsStarted}
 use Rattle.histories.proofs.Lemmas.{aborted_never_won, facts, state_stays, stays_free, won_named}
 use Rattle.help.specs.Allowed.{IsQuiet, MayComeBetween, IsPrepared}
-use Rattle.help.specs.Help.Allowing.{later_self, quiet_named_scx}
+use Rattle.help.specs.Laws.Help.Allowing.{later_self, quiet_named_scx}
 use Rattle.help.specs.Help.Known.{Freezes, Reading, reading, HelpKnows, help_step, HelpWaits}
 use Rattle.help.specs.declared.state.HelpRun.{HelpRun}
 use Rattle.help.specs.declared.state.HelpAt.{HelpAt}
@@ -29,9 +29,9 @@ use Rattle.prims.specs.Scx.Known.{Job, job_of, Says, HasFilled, part_at, fill_st
 use Rattle.prims.specs.declared.scx.ScxRun.{ScxRun}
 use Rattle.prims.specs.declared.scx.ScxAt.{ScxAt}
 use Rattle.prims.specs.declared.scx.ScxAt.TheVariants.{Start as AtScxStart, Plan as AtFillPlan, New as AtFillNew, Old as AtFillOld, Member as AtFillMember, Seen as AtFillSeen, Call as AtFillCall, Help as AtHelp}
-use Rattle.spelling.specs.OrderedMap.{MapEdit}
-use Rattle.spelling.specs.Runs.{Makes}
-use Rattle.spelling.specs.TreeShape.{TreeAllows}
+use Rattle.ordered_map.specs.OrderedMap.{MapEdit}
+use Rattle.ordered_map.specs.Runs.{Makes}
+use Rattle.ordered_map.specs.TreeShape.{TreeAllows}
 use Rattle.template.specs.Promises.{IsPromised}
 use Rattle.template.specs.Tracked.{Tracks, waits, begun, over}
 use Rattle.template.proofs.Promised.{promised_more}

@@ -27,11 +27,11 @@ use Rattle.prims.specs.declared.scx.ScxAt.{ScxAt}
 use Rattle.prims.specs.declared.scx.ScxAt.TheVariants as scxs
 use Rattle.prims.specs.declared.scx.ScxRun.{ScxRun}
 use Rattle.prims.specs.declared.snap.Snap.{Snap}
-use Rattle.spelling.specs.Runs.{IsTreeRun}
-use Rattle.spelling.specs.TreeShape.{TreeAllows}
-use Rattle.spelling.specs.TreeWords.{level}
-use Rattle.spelling.specs.Tries.{is_settled_load, begins_try, tries_begun, IsNewestTry}
-use Rattle.spelling.proofs.Lemmas.{root_head}
+use Rattle.ordered_map.specs.Runs.{IsTreeRun}
+use Rattle.ordered_map.specs.TreeShape.{TreeAllows}
+use Rattle.ordered_map.specs.TreeWords.{level}
+use Rattle.ordered_map.specs.Tries.{is_settled_load, begins_try, tries_begun, IsNewestTry}
+use Rattle.ordered_map.proofs.Lemmas.{root_head}
 use Rattle.template.specs.Walk.Known.{WalkIsTold, WalkKnows, WalkWaits, walk_step}
 use Rattle.template.specs.Walk.Laws.{walk_told}
 use Rattle.template.specs.Walk.Places.{IsPastRoot}

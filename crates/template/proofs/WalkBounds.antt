@@ -19,12 +19,12 @@ use Rattle.arena.specs.Machines.{IsRun, Call}
 use Rattle.arena.specs.TakenNodes.{taken_nodes}
 use Rattle.arena.proofs.Lemmas.{ends_trans, taken_few, taken_more}
 use Rattle.histories.proofs.Lemmas.{node_stays}
-use Rattle.spelling.specs.OrderedMap.{pair, get}
-use Rattle.spelling.specs.Paths.{IsAnswerAt}
-use Rattle.spelling.specs.Runs.{IsTreeRun}
-use Rattle.spelling.specs.TreeShape.{TreeAllows}
-use Rattle.spelling.specs.TreeWords.{class, is_leaf, rank, said, IsBlankAboveKeys}
-use Rattle.spelling.proofs.Lemmas.{walk_answers, walk_named, run_since, root_head, passed_blank, blame_field, SameSettled, settled_leaf}
+use Rattle.ordered_map.specs.OrderedMap.{pair, get}
+use Rattle.ordered_map.specs.Paths.{IsAnswerAt}
+use Rattle.ordered_map.specs.Runs.{IsTreeRun}
+use Rattle.ordered_map.specs.TreeShape.{TreeAllows}
+use Rattle.ordered_map.specs.TreeWords.{class, is_leaf, rank, said, IsBlankAboveKeys}
+use Rattle.ordered_map.proofs.Lemmas.{walk_answers, walk_named, run_since, root_head, passed_blank, blame_field, SameSettled, settled_leaf}
 use Rattle.template.specs.declared.walk.Found.{Found}
 use Rattle.template.specs.declared.walk.WalkRun.{WalkRun}
 use Rattle.template.specs.declared.walk.WalkAt.{WalkAt}

@@ -11,8 +11,8 @@ use Rattle.arena.specs.Words.{node}
 use Rattle.arena.specs.History.{History, Extends}
 use Rattle.arena.specs.Machines.{Call}
 use Rattle.prims.specs.Llx.Known.{load}
-use Rattle.spelling.specs.Runs.{IsTreeRun}
-use Rattle.template.specs.FoundLeaf.{HasFound}
+use Rattle.ordered_map.specs.Runs.{IsTreeRun}
+use Rattle.template.specs.FoundLeaf.{HasFoundGoal}
 use Rattle.template.specs.Walk.Known.{here, WalkIsTold, WalkWaits, WalkStands}
 use Rattle.template.specs.Walk.Places.{walk_at, walk_from, trail_below, LoadsHead}
 use Rattle.template.specs.declared.walk.Goal.TheVariants.{Key as ToKey}
@@ -47,7 +47,7 @@ module _ (key : ℕ) (t : Trail) (d : Call) (h : History) where
     head_to_key low = waits_at d h (walk_at key t p) (walk_at key t (Key head)) (Ask _) (Key head) _ stood record { stands = refl; asked = refl } (stood.trail, head_is, low) refl
 
     -- it ends at a leaf above all keys
-    pub head_ends : head.class ≢ 0 → head.leaf ≡ true → HasFound (ToKey key) d h record { trail = t; head = head; key = 0; value = None }
+    pub head_ends : head.class ≢ 0 → head.leaf ≡ true → HasFoundGoal (ToKey key) d h record { trail = t; head = head; key = 0; value = None }
     head_ends high leaf = ends_above d h (walk_at key t p) (walk_at key t p) (Done _) head stood record { stands = refl; done = refl } head_is high leaf
 
     -- it goes left at a fork above all keys
@@ -73,13 +73,13 @@ module _ (key : ℕ) (t : Trail) (d : Call) (h : History) where
         (w.known.0, w.known.1, w.known.2, leaf, w.told, same) refl
 
     -- and ends at one that has another
-    pub key_ends : head.leaf ≡ true → key ≢ low → HasFound (ToKey key) d h record { trail = t; head = head; key = low; value = None }
+    pub key_ends : head.leaf ≡ true → key ≢ low → HasFoundGoal (ToKey key) d h record { trail = t; head = head; key = low; value = None }
     key_ends leaf other = let m = walk_at key t (Key head) in
         ends_low d h m m (Done _) head low None at_low record { stands = refl; done = refl } w.known.1 w.known.2 leaf w.told
         (says_nothing d h m at_low head w.known.1 w.known.2 low w.told key other)
 
   -- the value of a leaf that has its key is the last that it is told
-  pub value_ends : (head : HeadParts) (low v : ℕ) → WalkIsTold (walk_at key t (Value head low)) d h v → HasFound (ToKey key) d h record { trail = t; head = head; key = low; value = Some v }
+  pub value_ends : (head : HeadParts) (low v : ℕ) → WalkIsTold (walk_at key t (Value head low)) d h v → HasFoundGoal (ToKey key) d h record { trail = t; head = head; key = low; value = Some v }
   value_ends head low v w = let m = walk_at key t (Value head low) in turn_value d h m m (Done _) head low v refl w record { stands = refl; done = refl }
 
   -- it goes down to the child that it was told

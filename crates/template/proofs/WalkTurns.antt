@@ -15,10 +15,10 @@ use Rattle.arena.specs.History.{History, value, Extends}
 use Rattle.arena.specs.Machines.{Call, MatchTurn}
 use Rattle.arena.specs.TakenNodes.{taken_nodes}
 use Rattle.arena.proofs.Lemmas.{ends_self}
-use Rattle.spelling.proofs.Lemmas.{walk_first, walk_next, walk_left, walk_rises, below_root, passed_depth}
-use Rattle.spelling.specs.Paths.{Passed}
-use Rattle.spelling.specs.Runs.{IsTreeRun}
-use Rattle.spelling.specs.TreeWords.{class, is_leaf, level, rank, toward, said}
+use Rattle.ordered_map.proofs.Lemmas.{walk_first, walk_next, walk_left, walk_rises, below_root, passed_depth}
+use Rattle.ordered_map.specs.Paths.{Passed}
+use Rattle.ordered_map.specs.Runs.{IsTreeRun}
+use Rattle.ordered_map.specs.TreeWords.{class, is_leaf, level, rank, toward, said}
 use Rattle.template.specs.Trails.{OnTrail, IsOwnMoment}
 use Rattle.template.specs.declared.walk.Trail.{Trail}
 use Rattle.template.specs.declared.walk.Found.{Found}

@@ -8,7 +8,7 @@ use Rattle.arena.specs.Machines.{Call}
 use Rattle.arena.specs.Words.{info, state}
 use Rattle.prims.specs.FoundThere.{HasFoundThere}
 use Rattle.prims.specs.Laws.InTheWay.{HasBeen}
-use Rattle.spelling.specs.Tries.{HasLostTries}
+use Rattle.ordered_map.specs.Tries.{HasLostTries}
 
 -- at a moment of the call the node was not final
 abbrev pub WasNotFinal : Call → History → ℕ → Type 0

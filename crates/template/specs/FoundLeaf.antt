@@ -6,9 +6,9 @@ use Rattle.arena.specs.Words.{node}
 use Rattle.arena.specs.History.{History, value}
 use Rattle.arena.specs.Machines.{Call}
 use Rattle.arena.specs.TakenNodes.{taken_nodes}
-use Rattle.spelling.specs.declared.pair.Pair.{Pair}
-use Rattle.spelling.specs.OrderedMap.{pair}
-use Rattle.spelling.specs.TreeWords.{is_leaf, said}
+use Rattle.ordered_map.specs.declared.pair.Pair.{Pair}
+use Rattle.ordered_map.specs.OrderedMap.{pair}
+use Rattle.ordered_map.specs.TreeWords.{is_leaf, said}
 use Rattle.template.specs.Trails.{OnTrail}
 use Rattle.template.specs.declared.walk.Found.{Found}
 use Rattle.template.specs.declared.walk.Goal.{Goal}
@@ -42,8 +42,8 @@ abbrev pub HasFoundLeaf : Call → History → ℕ → Found → Type 0
 HasFoundLeaf c h k f = HasEnded c h k k f
 
 -- the call has found the leaf to which its walk was to go
-abbrev pub HasFound : Goal → Call → History → Found → Type 0
-HasFound goal c h f = HasEnded c h (path_key goal) (asked_key goal f.key) f
+abbrev pub HasFoundGoal : Goal → Call → History → Found → Type 0
+HasFoundGoal goal c h f = HasEnded c h (path_key goal) (asked_key goal f.key) f
 
 -- the first pair, as the first leaf tells it: none where that is above all keys
 abbrev pub first_told : Found → Option Pair

@@ -11,8 +11,8 @@ use Rattle.arena.specs.History.{History, value}
 use Rattle.histories.specs.Descriptor.{Descriptor}
 use Rattle.prims.specs.Snap.{child_of}
 use Rattle.prims.specs.declared.snap.Snap.{Snap}
-use Rattle.spelling.specs.TreeShape.{insert_plan, delete_plan}
-use Rattle.spelling.specs.TreeWords.{class, is_leaf}
+use Rattle.ordered_map.specs.TreeShape.{insert_plan, delete_plan}
+use Rattle.ordered_map.specs.TreeWords.{class, is_leaf}
 use Rattle.template.specs.Promises.{IsFresh}
 use Rattle.template.specs.declared.walk.Found.{Found}
 

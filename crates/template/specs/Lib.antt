@@ -1,4 +1,3 @@
-pub mod TreeKept
 pub mod Trails
 pub mod FoundLeaf
 pub mod Walk
@@ -6,3 +5,4 @@ pub mod Promises
 pub mod FreshNodes
 pub mod Tracked
 pub mod Blame
+pub mod Laws

@@ -14,11 +14,11 @@ use Rattle.help.specs.Allowed.{IsLater}
 use Rattle.prims.specs.Laws.Linked.{IsLinked}
 use Rattle.prims.specs.Snap.{child_of}
 use Rattle.prims.specs.declared.snap.Snap.{Snap}
-use Rattle.spelling.specs.Edits.{IsSwap, IsSplit, IsJoin}
-use Rattle.spelling.specs.OrderedMap.{MapEdit}
-use Rattle.spelling.specs.Paths.{WasOnPath}
-use Rattle.spelling.specs.TreeShape.{MayEdit, TreeAllows, insert_plan, delete_plan, leaf_place, sibling_place}
-use Rattle.spelling.specs.TreeWords.{is_leaf, toward}
+use Rattle.ordered_map.specs.Edits.{IsSwap, IsSplit, IsJoin}
+use Rattle.ordered_map.specs.OrderedMap.{MapEdit}
+use Rattle.ordered_map.specs.Paths.{WasOnPath}
+use Rattle.ordered_map.specs.TreeShape.{MayEdit, TreeAllows, insert_plan, delete_plan, leaf_place, sibling_place}
+use Rattle.ordered_map.specs.TreeWords.{is_leaf, toward}
 
 -- Whenever the pass c may begin s with these words, it makes the edit: after any run that goes on
 -- from h by such rows as may come before, in which s still is ready and the first info still is

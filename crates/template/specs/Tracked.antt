@@ -7,8 +7,8 @@ use Rattle.arena.specs.History.{History, value}
 use Rattle.arena.specs.Fills.{IsNamedScx}
 use Rattle.histories.specs.Descriptor.{Descriptor}
 use Rattle.prims.specs.Scx.Known.{Job, Says}
-use Rattle.spelling.specs.OrderedMap.{MapEdit}
-use Rattle.spelling.specs.Runs.{Makes}
+use Rattle.ordered_map.specs.OrderedMap.{MapEdit}
+use Rattle.ordered_map.specs.Runs.{Makes}
 use Rattle.template.specs.Promises.{IsPromised}
 
 -- The SCX-record of this job, of the pass c, makes the edit e or none: it has not begun, and with

@@ -5,8 +5,8 @@ use Rattle.arena.specs.declared.word.Side.{Side}
 use Rattle.arena.specs.Words.{child}
 use Rattle.arena.specs.History.{History, ◌⊳◌, value, Extends}
 use Rattle.arena.specs.Machines.{Call}
-use Rattle.spelling.specs.Paths.{Passed}
-use Rattle.spelling.specs.TreeWords.{class, is_leaf, toward}
+use Rattle.ordered_map.specs.Paths.{Passed}
+use Rattle.ordered_map.specs.TreeWords.{class, is_leaf, toward}
 use Rattle.template.specs.declared.walk.Trail.{Trail}
 
 -- the newest row of h is the call's own

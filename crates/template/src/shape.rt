@@ -1,7 +1,7 @@
 //! The shape of the tree.
-ghost use Rattle.spelling.specs.TreeShape.{TreeAllows};
+ghost use Rattle.ordered_map.specs.TreeShape.{TreeAllows};
 ghost use Rattle.arena.specs.declared.limits.Mode.TheVariants.{Tree as TreeMode};
-ghost use Rattle.template.specs.TreeKept.{IsTreeThere, tree_opens, tree_stays};
+ghost use Rattle.template.specs.Laws.TreeKept.{IsTreeThere, tree_opens, tree_stays};
 
 use arena::Shape;
 

@@ -73,7 +73,7 @@ impl WalkRun {
     ghost use Rattle.arena.specs.declared.word.NodeWord.TheVariants.{Head as HeadWord, Key as KeyWord, Child as ChildWord};
     ghost use Rattle.arena.specs.History.{History, value};
     ghost use Rattle.arena.specs.Machines.{MatchTurn, Call};
-    ghost use Rattle.spelling.specs.TreeWords.{is_leaf, level, toward};
+    ghost use Rattle.ordered_map.specs.TreeWords.{is_leaf, level, toward};
     ghost use Rattle.template.specs.FoundLeaf.{path_key, asked_key};
     ghost use Rattle.template.specs.Walk.Steps.{walk_left};
     ghost use Rattle.template.specs.Walk.Known.{asks_key, WalkAsks, WalkEnds, WalkStands, WalkTurn, here};

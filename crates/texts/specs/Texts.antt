@@ -50,17 +50,17 @@ module _ {Entry Cause : Type 0} (g : Grammar Entry Cause) where
   most_entries = 65536
 
   -- these entries are accepted, and not too many
-  abbrev pub AreEntries : List Entry → Type 0
-  AreEntries entries = All g.Accepts entries × (length entries ≤ most_entries)
+  abbrev pub AreAcceptedEntries : List Entry → Type 0
+  AreAcceptedEntries entries = All g.Accepts entries × (length entries ≤ most_entries)
 
   -- the rows of these entries, behind those of the text's head
-  abbrev pub rows_of : List (List (List ℕ)) → List Entry → List (List (List ℕ))
-  rows_of head entries = head ++ map g.row_of entries
+  abbrev pub rows_of_entries : List (List (List ℕ)) → List Entry → List (List (List ℕ))
+  rows_of_entries head entries = head ++ map g.row_of entries
 
   -- the bytes say these entries: their rows stand
   -- behind the head, then the end row, and nothing else
   abbrev pub SayEntries : List ℕ → List (List (List ℕ)) → List Entry → Type 0
-  SayEntries bytes head entries = AreEntries entries × AreRows bytes (rows_of head entries ++ end_row g.width (length entries) ∷ [])
+  SayEntries bytes head entries = AreAcceptedEntries entries × AreRows bytes (rows_of_entries head entries ++ end_row g.width (length entries) ∷ [])
 
   -- the row begins as the end row does
   abbrev pub IsEndRow : List (List ℕ) → Type 0
@@ -93,10 +93,10 @@ module _ {Entry Cause : Type 0} (g : Grammar Entry Cause) where
   -- what is wrong with it: the row that is missing at the end, the one behind
   -- the entries, or the one behind a right end row
   abbrev pub IsFirstFault : List ℕ → List (List (List ℕ)) → ℕ → Cause → Type 0
-  IsFirstFault bytes head row cause = (entries : List Entry) × AreEntries entries × (
-      (AreRows bytes (rows_of head entries) × (row ≡ suc (length (rows_of head entries))) × (cause ≡ g.end))
-      ⊎ ((fields : List (List ℕ)) × BeginWithRows bytes (rows_of head entries ++ fields ∷ []) × (row ≡ suc (length (rows_of head entries))) × IsFaulty entries fields cause)
-      ⊎ ((fields : List (List ℕ)) × BeginWithRows bytes (rows_of head entries ++ end_row g.width (length entries) ∷ fields ∷ []) × (row ≡ suc (suc (length (rows_of head entries)))) × IsTooLate fields cause))
+  IsFirstFault bytes head row cause = (entries : List Entry) × AreAcceptedEntries entries × (
+      (AreRows bytes (rows_of_entries head entries) × (row ≡ suc (length (rows_of_entries head entries))) × (cause ≡ g.end))
+      ⊎ ((fields : List (List ℕ)) × BeginWithRows bytes (rows_of_entries head entries ++ fields ∷ []) × (row ≡ suc (length (rows_of_entries head entries))) × IsFaulty entries fields cause)
+      ⊎ ((fields : List (List ℕ)) × BeginWithRows bytes (rows_of_entries head entries ++ end_row g.width (length entries) ∷ fields ∷ []) × (row ≡ suc (suc (length (rows_of_entries head entries)))) × IsTooLate fields cause))
 
 -- where a text is refused for a row, `names` holds of that row and the cause
 abbrev pub IfBad : {Cause : Type 0} → (ℕ → Cause → Type 0) → TextFault Cause → Type 0

@@ -17,27 +17,27 @@ use Rattle.histories.proofs.Lemmas.{node_since}
 use Rattle.prims.specs.Laws.Linked.{in_field_named}
 use Rattle.prims.specs.Snap.{child_of}
 use Rattle.prims.specs.declared.snap.Snap.{Snap}
-use Rattle.spelling.specs.FillOrder.{HasStoodInField, AreFilledInOrder, IsFillInOrder}
-use Rattle.spelling.specs.Paths.{WasInTree}
-use Rattle.spelling.specs.TreeShape.{sibling_place}
-use Rattle.spelling.specs.TreeWords.{is_leaf}
-use Rattle.spelling.proofs.Lemmas.{held_stood}
+use Rattle.ordered_map.specs.FillOrder.{HasStoodInField, AreFilledInOrder, IsFillInOrder}
+use Rattle.ordered_map.specs.Paths.{WasInTree}
+use Rattle.ordered_map.specs.TreeShape.{sibling_place}
+use Rattle.ordered_map.specs.TreeWords.{is_leaf}
+use Rattle.ordered_map.proofs.Lemmas.{held_stood}
 use Rattle.template.specs.declared.walk.Found.{Found}
 use Rattle.template.specs.declared.walk.Goal.TheVariants.{Key as ToKey}
 use Rattle.tree.specs.declared.delete.Delete.{Delete}
 use Rattle.tree.specs.Delete.Means.{delete_means, delete_need, delete_piece, sibling_of}
-use Rattle.tree.specs.Delete.Sound.{HasFour, copy_fields, few_places, has_four, loaded_head, usable_at}
+use Rattle.tree.specs.Laws.Delete.Sound.{HasFour, copy_fields, few_places, has_four, loaded_head, usable_at}
 use Rattle.tree.proofs.Fills.{piece_is, same_number, same_part, unstood, update_in_order}
-use Rattle.updates.specs.declared.edit.Nodes.{Nodes}
-use Rattle.updates.specs.declared.edit.Nth.{Nth}
-use Rattle.updates.specs.declared.edit.Nth.TheVariants.{First, Second, Third}
-use Rattle.updates.specs.declared.edit.Piece.{Piece}
-use Rattle.updates.specs.declared.edit.Piece.TheVariants.{Leaf, Fork}
-use Rattle.updates.specs.declared.update.UpdateAt.{UpdateAt}
-use Rattle.updates.specs.declared.update.UpdateRun.{UpdateRun}
-use Rattle.updates.specs.Known.{HasSnapped, IsNeeded, Fills, UpdateWaits, fill_step, piece, top}
-use Rattle.updates.specs.Laws.Hand.{IsPieceWord}
-use Rattle.updates.specs.Pieces.{nth_node, top_of, word_of}
+use Rattle.edits.specs.declared.edit.Nodes.{Nodes}
+use Rattle.edits.specs.declared.edit.Nth.{Nth}
+use Rattle.edits.specs.declared.edit.Nth.TheVariants.{First, Second, Third}
+use Rattle.edits.specs.declared.edit.Piece.{Piece}
+use Rattle.edits.specs.declared.edit.Piece.TheVariants.{Leaf, Fork}
+use Rattle.edits.specs.declared.update.UpdateAt.{UpdateAt}
+use Rattle.edits.specs.declared.update.UpdateRun.{UpdateRun}
+use Rattle.edits.specs.Known.{HasSnappedAfterWalk, IsNeeded, FillsPiece, UpdateWaits, piece_fill_step, piece, top}
+use Rattle.edits.specs.Laws.Hand.{IsPieceWord}
+use Rattle.edits.specs.Pieces.{nth_node, top_of, word_of}
 
 -- One fresh node
 
@@ -58,7 +58,7 @@ fork_there : (leaf : Bool) (level class k v : ℕ) (s : Snap) (side : Side) → 
 fork_there true level class k v s side p = absurd p
 fork_there false level class k v s side p = refl
 
-module _ (m : UpdateRun Delete UpdateAt) (c : Call) (h : History) (f : Found) (nth : Nth) (part : NodeWord) (x : Fills delete_means m c h f nth part) where
+module _ (m : UpdateRun Delete UpdateAt) (c : Call) (h : History) (f : Found) (nth : Nth) (part : NodeWord) (x : FillsPiece delete_means m c h f nth part) where
   -- what the node at hand is to hold
   abbrev copy : Piece
   copy = delete_piece f m.snaps.items m.loaded
@@ -83,7 +83,7 @@ module _ (m : UpdateRun Delete UpdateAt) (c : Call) (h : History) (f : Found) (n
       four : HasFour f m.snaps.items
       four = has_four m.edit f m.snaps.items x.works.enough x.works.looked.seen
 
-      u : HasSnapped c h (ToKey m.edit.key) f sibling
+      u : HasSnappedAfterWalk c h (ToKey m.edit.key) f sibling
       u = usable_at m.edit c h f m.snaps.items (sibling_place f.trail.side) (few_places f.trail.side) four x.works.looked
 
       named : IsInField c.layout u.moment sibling.node.0 → HasStoodInField u.moment sibling.node.0
@@ -104,7 +104,7 @@ module _ (m : UpdateRun Delete UpdateAt) (c : Call) (h : History) (f : Found) (n
       subst (WasInTree h) (held ∙ sym same) (field_stood side filled (ap (λ v. eqb (v / 4 % 2) 1) (sym head_is) ∙ fork))
 
   -- a fill of its node is in order
-  fill_in_order : AreFilledInOrder h → IsFillInOrder h (row_of c (fill_step delete_means m f nth part) h)
+  fill_in_order : AreFilledInOrder h → IsFillInOrder h (row_of c (piece_fill_step delete_means m f nth part) h)
   fill_in_order filled = record { head = λ k kind e. inr (head_ordered k e); field = λ k side kind e. inl (field_ordered k side filled e) }
 
 -- whatever step a delete waits for, where nodes were filled in order before

@@ -16,32 +16,32 @@ use Rattle.arena.specs.History.{History}
 use Rattle.arena.specs.Layout.{opening_nodes}
 use Rattle.arena.specs.Machines.{Call, row_of}
 use Rattle.arena.specs.Words.{node, scx, child}
-use Rattle.help.specs.Help.Lawful.{help_fills_not}
+use Rattle.help.specs.Laws.Help.Lawful.{help_fills_not}
 use Rattle.histories.specs.Unmentioned.{IsUnmentioned}
 use Rattle.prims.specs.Scx.Known.{Job, ScxWaitsAt, fill_step as scx_fill, job_of}
 use Rattle.prims.specs.declared.scx.ScxAt.{ScxAt}
 use Rattle.prims.specs.declared.scx.ScxAt.TheVariants as scx_at
 use Rattle.prims.proofs.Lemmas.{llx_fills_not}
-use Rattle.spelling.specs.FillOrder.{HasStoodInField, IsFillInOrder}
-use Rattle.spelling.specs.TreeShape.{TreeAllows}
+use Rattle.ordered_map.specs.FillOrder.{HasStoodInField, IsFillInOrder}
+use Rattle.ordered_map.specs.TreeShape.{TreeAllows}
 use Rattle.template.specs.declared.walk.Found.{Found}
 use Rattle.template.proofs.Lemmas.{walk_fills_not}
 use Rattle.tree.specs.declared.get.GetRun.{GetRun}
 use Rattle.tree.specs.Get.Known.{GetWaits}
 use Rattle.tree.proofs.GetTurns.{get_fills_not}
-use Rattle.updates.specs.Edits.{EditMeaning}
-use Rattle.updates.specs.declared.edit.Need.{Need}
-use Rattle.updates.specs.declared.edit.Need.TheVariants.{Nothing, One, Three}
-use Rattle.updates.specs.declared.edit.Nodes.{Nodes}
-use Rattle.updates.specs.declared.edit.Nth.{Nth}
-use Rattle.updates.specs.declared.edit.Nth.TheVariants.{First, Second, Third}
-use Rattle.updates.specs.declared.edit.Piece.{Piece}
-use Rattle.updates.specs.declared.update.UpdateAt.{UpdateAt}
-use Rattle.updates.specs.declared.update.UpdateAt.TheVariants.{Start, Walk, Look, Load, Fill, Scx}
-use Rattle.updates.specs.declared.update.UpdateRun.{UpdateRun}
-use Rattle.updates.specs.Known.{IsNeeded, AreInOrder, Fills, UpdateWaits, UpdateWaitsAt, fill_step, pieces_by}
-use Rattle.updates.specs.Laws.HandScx.{from}
-use Rattle.updates.specs.Pieces.{nth_node, piece_head}
+use Rattle.edits.specs.Edits.{EditMeaning}
+use Rattle.edits.specs.declared.edit.Need.{Need}
+use Rattle.edits.specs.declared.edit.Need.TheVariants.{Nothing, One, Three}
+use Rattle.edits.specs.declared.edit.Nodes.{Nodes}
+use Rattle.edits.specs.declared.edit.Nth.{Nth}
+use Rattle.edits.specs.declared.edit.Nth.TheVariants.{First, Second, Third}
+use Rattle.edits.specs.declared.edit.Piece.{Piece}
+use Rattle.edits.specs.declared.update.UpdateAt.{UpdateAt}
+use Rattle.edits.specs.declared.update.UpdateAt.TheVariants.{Start, Walk, Look, Load, Fill, Scx}
+use Rattle.edits.specs.declared.update.UpdateRun.{UpdateRun}
+use Rattle.edits.specs.Known.{IsNeeded, AreInOrder, FillsPiece, UpdateWaits, UpdateWaitsAt, piece_fill_step, pieces_by}
+use Rattle.edits.specs.Laws.HandScx.{from}
+use Rattle.edits.specs.Pieces.{nth_node, piece_head}
 
 -- each holds its own piece
 pub piece_is : (need : Need) (ns : Nodes) (p : Nth → Piece) (nth : Nth) → IsNeeded need nth → AreInOrder need ns → pieces_by p ns (nth_node ns nth).0 ≡ p nth
@@ -101,7 +101,7 @@ scx_in_order c begun h j (scx_at.Seen i) s w = subst (λ (t : Step). IsFillInOrd
 scx_in_order c begun h j scx_at.Call s w = subst (λ (t : Step). IsFillInOrder h (row_of c t h)) (sym w.asked) (scx_fill_in_order c h j _)
 
 -- an update whose fills of nodes are in order makes all its steps so
-pub update_in_order : {E : Type 0} (means : EditMeaning E) (m : UpdateRun E UpdateAt) (c : Call) (h : History) (s : Step) → ((d : Call) (f : Found) (nth : Nth) (part : NodeWord) → Fills means m d h f nth part → IsFillInOrder h (row_of d (fill_step means m f nth part) h)) → UpdateWaits means m c h s → IsFillInOrder h (row_of c s h)
+pub update_in_order : {E : Type 0} (means : EditMeaning E) (m : UpdateRun E UpdateAt) (c : Call) (h : History) (s : Step) → ((d : Call) (f : Found) (nth : Nth) (part : NodeWord) → FillsPiece means m d h f nth part → IsFillInOrder h (row_of d (piece_fill_step means m f nth part) h)) → UpdateWaits means m c h s → IsFillInOrder h (row_of c s h)
 update_in_order means m c h s fills x = go m.at x.3
   where
     go : (at : UpdateAt) → UpdateWaitsAt means m (from c x.0) h s at → IsFillInOrder h (row_of c s h)

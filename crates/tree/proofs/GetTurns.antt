@@ -10,9 +10,9 @@ use Rattle.arena.specs.Machines.{MatchTurn, Call}
 use Rattle.arena.proofs.Lemmas.{ends_self, ends_trans}
 use Rattle.prims.specs.Laws.Idle.{quiet_at_start}
 use Rattle.prims.specs.Moments.{AreFinished}
-use Rattle.spelling.specs.Paths.{IsAnswerAt}
-use Rattle.spelling.specs.Runs.{IsTreeRun}
-use Rattle.template.specs.FoundLeaf.{path_key, HasFound, HasFoundLeaf}
+use Rattle.ordered_map.specs.Paths.{IsAnswerAt}
+use Rattle.ordered_map.specs.Runs.{IsTreeRun}
+use Rattle.template.specs.FoundLeaf.{path_key, HasFoundGoal, HasFoundLeaf}
 use Rattle.template.specs.declared.walk.Found.{Found}
 use Rattle.template.specs.declared.walk.Goal.TheVariants.{Key as ToKey}
 use Rattle.template.specs.declared.walk.WalkRun.{WalkRun}
@@ -21,8 +21,8 @@ use Rattle.template.specs.Walk.Known.{WalkWaits, WalkAnswers}
 use Rattle.template.proofs.Lemmas.{found_gives, walk_ready_run, walk_ready_first, walk_loads, walk_fills_not, own_since}
 use Rattle.tree.specs.declared.get.GetRun.{GetRun}
 use Rattle.tree.specs.Get.Known.{GetIsReady, GetWaits, GetAnswers}
-use Rattle.updates.specs.Laws.Entered.{none_quiet}
-use Rattle.updates.specs.Laws.Kept.{idle_over}
+use Rattle.edits.specs.Laws.Entered.{none_quiet}
+use Rattle.edits.specs.Laws.Kept.{idle_over}
 
 -- its walk asks for a step
 pub turn_asked : (c : Call) (h : History) (m : GetRun) (now : WalkRun) (turn : Turn Found) (step : Step) (got : Option ℕ) → GetIsReady m c h got → now.goal ≡ m.walk.goal → turn ≡ Ask step → MatchTurn turn (WalkWaits now c h) (WalkAnswers now c h) → GetWaits (record { key = m.key; walk = now }) c h step
@@ -30,7 +30,7 @@ turn_asked c h m now turn step got ready same e t = (rw e at t, same ∙ ready.1
 
 -- the value of the leaf at which its walk has ended is right
 pub turn_found : (c : Call) (h : History) (m : GetRun) (now : WalkRun) (turn : Turn Found) (f : Found) (got : Option ℕ) → GetIsReady m c h got → now.goal ≡ m.walk.goal → turn ≡ Done f → MatchTurn turn (WalkWaits now c h) (WalkAnswers now c h) → GetAnswers (record { key = m.key; walk = now }) c h f.value
-turn_found c h m now turn f got ready same e t = gives (subst (λ goal. HasFound goal c h f) (same ∙ ready.1) (rw e at t))
+turn_found c h m now turn f got ready same e t = gives (subst (λ goal. HasFoundGoal goal c h f) (same ∙ ready.1) (rw e at t))
   where
     run : IsTreeRun c.layout h × (path_key m.walk.goal < 2 ^ 64)
     run = walk_ready_run m.walk c h got ready.0

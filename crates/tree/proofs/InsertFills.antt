@@ -7,25 +7,25 @@ use Rattle.arena.specs.declared.word.Side.{Side}
 use Rattle.arena.specs.History.{History, value}
 use Rattle.arena.specs.Machines.{Call, row_of}
 use Rattle.arena.specs.Words.{node, child}
-use Rattle.spelling.specs.FillOrder.{HasStoodInField, IsFillInOrder}
-use Rattle.spelling.specs.TreeWords.{is_leaf}
+use Rattle.ordered_map.specs.FillOrder.{HasStoodInField, IsFillInOrder}
+use Rattle.ordered_map.specs.TreeWords.{is_leaf}
 use Rattle.template.specs.declared.walk.Found.{Found}
 use Rattle.tree.proofs.Fills.{leaf_head, piece_is, same_number, same_part, unstood, update_in_order}
 use Rattle.tree.specs.declared.insert.Insert.{Insert}
 use Rattle.tree.specs.Insert.Means.{insert_means, insert_need, insert_pieces}
-use Rattle.tree.specs.Insert.Sound.{insert_fields}
-use Rattle.updates.specs.declared.edit.Need.{Need}
-use Rattle.updates.specs.declared.edit.Need.TheVariants.{Nothing, One, Three}
-use Rattle.updates.specs.declared.edit.Nodes.{Nodes}
-use Rattle.updates.specs.declared.edit.Nth.{Nth}
-use Rattle.updates.specs.declared.edit.Nth.TheVariants.{First, Second, Third}
-use Rattle.updates.specs.declared.edit.Piece.{Piece}
-use Rattle.updates.specs.declared.edit.Piece.TheVariants.{Leaf as LeafPiece}
-use Rattle.updates.specs.declared.update.UpdateAt.{UpdateAt}
-use Rattle.updates.specs.declared.update.UpdateRun.{UpdateRun}
-use Rattle.updates.specs.Known.{ComesBefore, IsNeeded, AreInOrder, Fills, UpdateWaits, fill_step, piece, top}
-use Rattle.updates.specs.Laws.Hand.{IsPieceWord, HoldsWords}
-use Rattle.updates.specs.Pieces.{nth_node, top_of, word_of}
+use Rattle.tree.specs.Laws.Insert.Sound.{insert_fields}
+use Rattle.edits.specs.declared.edit.Need.{Need}
+use Rattle.edits.specs.declared.edit.Need.TheVariants.{Nothing, One, Three}
+use Rattle.edits.specs.declared.edit.Nodes.{Nodes}
+use Rattle.edits.specs.declared.edit.Nth.{Nth}
+use Rattle.edits.specs.declared.edit.Nth.TheVariants.{First, Second, Third}
+use Rattle.edits.specs.declared.edit.Piece.{Piece}
+use Rattle.edits.specs.declared.edit.Piece.TheVariants.{Leaf as LeafPiece}
+use Rattle.edits.specs.declared.update.UpdateAt.{UpdateAt}
+use Rattle.edits.specs.declared.update.UpdateRun.{UpdateRun}
+use Rattle.edits.specs.Known.{ComesBefore, IsNeeded, AreInOrder, FillsPiece, UpdateWaits, piece_fill_step, piece, top}
+use Rattle.edits.specs.Laws.Hand.{IsPieceWord, HoldsWords}
+use Rattle.edits.specs.Pieces.{nth_node, top_of, word_of}
 
 -- Three fresh nodes
 
@@ -46,23 +46,23 @@ three_rise Nothing ns x o = absurd x
 
 module _ (m : UpdateRun Insert UpdateAt) (c : Call) (h : History) (f : Found) where
   -- what a node at hand is to hold
-  said_is : (nth : Nth) (part : NodeWord) → Fills insert_means m c h f nth part → piece insert_means m f (nth_node m.nodes nth).0 ≡ insert_pieces m.edit.key m.edit.value f m.nodes m.loaded nth
+  said_is : (nth : Nth) (part : NodeWord) → FillsPiece insert_means m c h f nth part → piece insert_means m f (nth_node m.nodes nth).0 ≡ insert_pieces m.edit.key m.edit.value f m.nodes m.loaded nth
   said_is nth part x = piece_is (insert_need f.value) m.nodes (λ i. insert_pieces m.edit.key m.edit.value f m.nodes m.loaded i) nth x.works.need x.works.in_order
 
   -- the leaves before the fork are full
-  leaf_full : (part : NodeWord) (i : Nth) → Fills insert_means m c h f Third part → (level class key v : ℕ) → insert_pieces m.edit.key m.edit.value f m.nodes m.loaded i ≡ LeafPiece level class key v → m.nodes.first.0 ≤ (nth_node m.nodes i).0 → (nth_node m.nodes i).0 < m.nodes.third.0 → is_leaf (value h) (nth_node m.nodes i).0 ≡ true
+  leaf_full : (part : NodeWord) (i : Nth) → FillsPiece insert_means m c h f Third part → (level class key v : ℕ) → insert_pieces m.edit.key m.edit.value f m.nodes m.loaded i ≡ LeafPiece level class key v → m.nodes.first.0 ≤ (nth_node m.nodes i).0 → (nth_node m.nodes i).0 < m.nodes.third.0 → is_leaf (value h) (nth_node m.nodes i).0 ≡ true
   leaf_full part i x level class key v is low high =
       let third : top insert_means m f ≡ m.nodes.third.0 = third_top (insert_need f.value) m.nodes x.works.need in
       let w : HoldsWords h (nth_node m.nodes i).0 (piece insert_means m f (nth_node m.nodes i).0) (IsPieceWord (piece insert_means m f (nth_node m.nodes i).0)) = x.full.full (nth_node m.nodes i).0 low high (omega (third, high, arith)) in
       let same : piece insert_means m f (nth_node m.nodes i).0 ≡ LeafPiece level class key v = piece_is (insert_need f.value) m.nodes (λ j. insert_pieces m.edit.key m.edit.value f m.nodes m.loaded j) i (all_needed (insert_need f.value) x.works.need i) x.works.in_order ∙ is in
       ap (λ u. eqb (u / 4 % 2) 1) (w Head tt ∙ ap (λ (p : Piece). word_of p Head) same) ∙ leaf_head level class
 
-  before_third : (part : NodeWord) (i : Nth) → Fills insert_means m c h f Third part → ComesBefore i Third → is_leaf (value h) (nth_node m.nodes i).0 ≡ true
+  before_third : (part : NodeWord) (i : Nth) → FillsPiece insert_means m c h f Third part → ComesBefore i Third → is_leaf (value h) (nth_node m.nodes i).0 ≡ true
   before_third part First x b = let o = three_rise (insert_need f.value) m.nodes x.works.need x.works.in_order in leaf_full part First x _ _ _ _ refl (omega arith) (omega (o.0, o.1, arith))
   before_third part Second x b = let o = three_rise (insert_need f.value) m.nodes x.works.need x.works.in_order in leaf_full part Second x _ _ _ _ refl (omega (o.0, arith)) (omega (o.1, arith))
   before_third part Third x b = absurd b
 
-  head_ordered : (nth : Nth) (part : NodeWord) (k : ℕ) → Fills insert_means m c h f nth part → node (nth_node m.nodes nth).0 part ≡ node k Head → (eqb (word_of (piece insert_means m f (nth_node m.nodes nth).0) part / 4 % 2) 1 ≡ true) ⊎ (¬ HasStoodInField h k)
+  head_ordered : (nth : Nth) (part : NodeWord) (k : ℕ) → FillsPiece insert_means m c h f nth part → node (nth_node m.nodes nth).0 part ≡ node k Head → (eqb (word_of (piece insert_means m f (nth_node m.nodes nth).0) part / 4 % 2) 1 ≡ true) ⊎ (¬ HasStoodInField h k)
   head_ordered First part k x e = inl (rw (same_part m.nodes.first.0 k part Head e, said_is First part x) (leaf_head _ 0))
   head_ordered Second part k x e = inl (rw (same_part m.nodes.second.0 k part Head e, said_is Second part x) (leaf_head _ f.head.class))
   head_ordered Third part k x e = inr (subst (λ n. ¬ HasStoodInField h n) (sym third ∙ same_number m.nodes.third.0 k part Head e) (unstood c.layout h c.pass (top insert_means m f) x.works.run.0 (x.full.hand.own (top insert_means m f) x.full.some (omega arith)) x.full.hand.unmentioned))
@@ -70,7 +70,7 @@ module _ (m : UpdateRun Insert UpdateAt) (c : Call) (h : History) (f : Found) wh
       third : m.nodes.third.0 ≡ top insert_means m f
       third = sym (third_top (insert_need f.value) m.nodes x.works.need)
 
-  field_ordered : (nth : Nth) (part : NodeWord) (k : ℕ) (side : Side) → Fills insert_means m c h f nth part → node (nth_node m.nodes nth).0 part ≡ child k side → is_leaf (value h) (word_of (piece insert_means m f (nth_node m.nodes nth).0) part) ≡ true
+  field_ordered : (nth : Nth) (part : NodeWord) (k : ℕ) (side : Side) → FillsPiece insert_means m c h f nth part → node (nth_node m.nodes nth).0 part ≡ child k side → is_leaf (value h) (word_of (piece insert_means m f (nth_node m.nodes nth).0) part) ≡ true
   field_ordered First part k side x e = absurd (let y : IsPieceWord (insert_pieces m.edit.key m.edit.value f m.nodes m.loaded First) (Child side) = rw (same_part m.nodes.first.0 k part (Child side) e, said_is First part x) at x.part_is in y)
   field_ordered Second part k side x e = absurd (let y : IsPieceWord (insert_pieces m.edit.key m.edit.value f m.nodes m.loaded Second) (Child side) = rw (same_part m.nodes.second.0 k part (Child side) e, said_is Second part x) at x.part_is in y)
   field_ordered Third part k side x e =
@@ -81,7 +81,7 @@ module _ (m : UpdateRun Insert UpdateAt) (c : Call) (h : History) (f : Found) wh
       subst (λ n. is_leaf (value h) n ≡ true) (sym w) (before_third part y.0 x y.1)
 
   -- a fill of its nodes is in order
-  fill_in_order : (nth : Nth) (part : NodeWord) → Fills insert_means m c h f nth part → IsFillInOrder h (row_of c (fill_step insert_means m f nth part) h)
+  fill_in_order : (nth : Nth) (part : NodeWord) → FillsPiece insert_means m c h f nth part → IsFillInOrder h (row_of c (piece_fill_step insert_means m f nth part) h)
   fill_in_order nth part x = record { head = λ k kind e. head_ordered nth part k x e; field = λ k side kind e. inr (field_ordered nth part k side x e) }
 
 -- whatever step an insert waits for

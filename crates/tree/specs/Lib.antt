@@ -1,4 +1,4 @@
 pub mod Get
-pub mod Looks
 pub mod Insert
 pub mod Delete
+pub mod Laws

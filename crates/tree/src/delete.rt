@@ -2,9 +2,9 @@
 ghost use Rattle.std.specs.Prelude.{◌≡◌};
 
 use arena::{Head, NodeNo, NodeWord, Share, Side};
+use edits::{Edit, Loaded, Look, Need, Nodes, Nth, Piece, UpdateAt, UpdateRun};
 use prims::Snap;
 use template::{Found, Goal};
-use updates::{Edit, Loaded, Look, Need, Nodes, Nth, Piece, UpdateAt, UpdateRun};
 
 /// Takes a key away.
 #[derive(Clone, Copy, Debug, PartialEq, Eq)]
@@ -35,9 +35,9 @@ impl Delete {
     ghost use Rattle.std.specs.Prelude.{◌≡◌};
     ghost use Rattle.std.specs.Prelude.{ℕ, ◌+◌, ◌*◌, ◌-◌, ◌<◌};
     ghost use Rattle.prims.specs.Snap.{snap_at};
-    ghost use Rattle.spelling.specs.TreeShape.{sibling_place};
+    ghost use Rattle.ordered_map.specs.TreeShape.{sibling_place};
     ghost use Rattle.tree.specs.Delete.Means.{delete_means};
-    ghost use Rattle.updates.specs.Steps.{update_left};
+    ghost use Rattle.edits.specs.Steps.{update_left};
     ghost use Rattle.tree.specs.Delete.Means.{past, copy_wants, sibling_copy};
 
     /// Looks at the next node, where the snapshot still shows the child that the walk has found.
@@ -117,7 +117,7 @@ impl Delete {
 impl Edit for Delete {
     ghost use Rattle.std.specs.Prelude.{◌≡◌};
     ghost use Rattle.tree.specs.Delete.Means.{delete_means};
-    ghost use Rattle.tree.specs.Delete.Sound.{delete_laws};
+    ghost use Rattle.tree.specs.Laws.Delete.Sound.{delete_laws};
 
     ghost means = { delete_means };
 

@@ -2,9 +2,9 @@
 ghost use Rattle.std.specs.Prelude.{◌≡◌};
 
 use arena::{NodeNo, NodeWord, Share, Side};
+use edits::{Edit, Loaded, Look, Need, Nodes, Nth, Piece, UpdateAt, UpdateRun};
 use prims::Snap;
 use template::{Found, Goal};
-use updates::{Edit, Loaded, Look, Need, Nodes, Nth, Piece, UpdateAt, UpdateRun};
 
 /// Puts a value at a key.
 #[derive(Clone, Copy, Debug, PartialEq, Eq)]
@@ -36,7 +36,7 @@ impl Insert {
     ghost use Rattle.std.specs.Prelude.{◌≡◌};
     ghost use Rattle.std.specs.Prelude.{ℕ, ◌+◌, ◌*◌, ◌-◌, ◌<◌};
     ghost use Rattle.tree.specs.Insert.Means.{insert_means};
-    ghost use Rattle.updates.specs.Steps.{update_left};
+    ghost use Rattle.edits.specs.Steps.{update_left};
     ghost use Rattle.tree.specs.Insert.Means.{is_below, fresh_leaf, leaf_copy, fork_over};
 
     /// Whether the key comes before the leaf.
@@ -102,7 +102,7 @@ impl Insert {
 impl Edit for Insert {
     ghost use Rattle.std.specs.Prelude.{◌≡◌};
     ghost use Rattle.tree.specs.Insert.Means.{insert_means};
-    ghost use Rattle.tree.specs.Insert.Sound.{insert_laws};
+    ghost use Rattle.tree.specs.Laws.Insert.Sound.{insert_laws};
 
     ghost means = { insert_means };
 

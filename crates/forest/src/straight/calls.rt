@@ -3,13 +3,13 @@ ghost use Rattle.std.specs.Prelude.{◌≡◌, ◌≤◌, ◌<◌, ◌+◌, ◌^
 ghost use Rattle.arena.specs.Machines.{Call};
 ghost use Rattle.dict.specs.Calls.{AsksForPairs, call_in};
 ghost use Rattle.dict.specs.Says.{KeepsLists};
-ghost use Rattle.spelling.specs.CallRules.{most_steps};
+ghost use Rattle.ordered_map.specs.CallRules.{most_steps};
 ghost use Rattle.dict.specs.Steps.{map_left};
 ghost use Rattle.dict.specs.Translated.{HasFormOf, IsTranslated};
-ghost use Rattle.dict.specs.WordReplies.{update_reply as word_reply};
+ghost use Rattle.dict.specs.WordReplies.{word_reply};
 ghost use Rattle.dict.specs.Words.{IsValidReply};
 ghost use Rattle.dict.specs.declared.dict.DictRun.{DictRun as Run};
-ghost use Rattle.spelling.specs.OrderedMap.{Edit as EditCall, edit_key};
+ghost use Rattle.ordered_map.specs.OrderedMap.{Edit as EditCall, edit_key};
 ghost use Rattle.forest.specs.Dictionary.{update_reply};
 ghost use Rattle.forest.specs.Seats.{IsSeatAt, StaysAtTable};
 ghost use Rattle.forest.specs.Traces.{seat_steps, shared_nodes};
@@ -22,8 +22,8 @@ use crate::words::Words;
 use arena::{Layout, Share};
 use atomic_table::Seat;
 use dict::{Dict, DictRun, MapRun, Reply, WordKey, WordReply, WordValue, translated, value_of};
+use edits::{UpdateRun, Updated};
 use tree::{Delete, Insert};
-use updates::{UpdateRun, Updated};
 
 /// An edit, in words.
 #[derive(Clone, Copy)]

@@ -6,19 +6,19 @@ ghost use Rattle.forest.specs.StraightUpdate.{Updater, UpdaterEnds, UpdaterGoesO
 ghost use Rattle.forest.specs.CallKinds.{calls};
 ghost use Rattle.prims.specs.Scx.Steps.{scx_left};
 ghost use Rattle.prims.specs.declared.scx.ScxAt.{ScxAt};
-ghost use Rattle.updates.specs.Next.{left_then, standing};
-ghost use Rattle.updates.specs.Steps.{try_left, update_left};
-ghost use Rattle.updates.specs.declared.update.UpdateAt.{UpdateAt as Places};
+ghost use Rattle.edits.specs.Next.{left_then, standing};
+ghost use Rattle.edits.specs.Steps.{try_left, update_left};
+ghost use Rattle.edits.specs.declared.update.UpdateAt.{UpdateAt as Places};
 
 use crate::straight::placed::step;
 use crate::view::SeatView;
 use crate::words::Words;
 use arena::{Layout, Machine, PassNo, ScxNo, Shape, Share, Turn};
 use atomic_table::Seat;
+use edits::{Edit, Next, Stop, UpdateAt, UpdateRun, Updated};
 use help::HelpRun;
 use std::mem::replace;
 use template::Found;
-use updates::{Edit, Next, Stop, UpdateAt, UpdateRun, Updated};
 
 /// Takes an update out, to be put at a place. Until it comes back, another stands in for it, whose
 /// share nobody takes from: that of some pass, since a share is always one's.

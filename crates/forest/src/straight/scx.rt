@@ -6,7 +6,7 @@ ghost use Rattle.prims.specs.declared.put.PutRun.{PutRun};
 ghost use Rattle.forest.specs.Seats.{IsSeatAt, StaysAtTable};
 ghost use Rattle.forest.specs.Traces.{seat_steps};
 ghost use Rattle.forest.specs.StraightChange.{scx_fill, all_frozen_load};
-ghost use Rattle.forest.specs.StraightScx.{SeatPutBegins, SeatPutWaits, SeatPutEnds, fresh_put, scx_at, standing};
+ghost use Rattle.forest.specs.StraightScx.{SeatPutBegins, SeatPutWaits, SeatPutEnds, fresh_put, scx_at, standing_put};
 
 use crate::steps::complete;
 use crate::straight::changing::{self, Change};
@@ -35,7 +35,7 @@ pub(crate) struct Put {
 #[inline(always)]
 fn machine(snaps: &[Snap], put: Put, number: u64, scx: ScxAt, at: PutAt) -> PutRun
     requires fits { length snaps.now ≤ 4 }
-    ensures { result ≡ standing snaps.now put number scx at }
+    ensures { result ≡ standing_put snaps.now put number scx at }
 {
     let update = Update {
         snaps: Snaps::new(snaps),

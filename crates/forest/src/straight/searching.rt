@@ -6,7 +6,7 @@ ghost use Rattle.forest.specs.StraightReads.{SuccessorReader, SearchBegins, Sear
 ghost use Rattle.forest.specs.Seats.{IsSeatAt, StaysAtTable};
 ghost use Rattle.forest.specs.Traces.{seat_steps, shared_nodes};
 ghost use Rattle.forest.specs.CallKinds.{calls};
-ghost use Rattle.order.specs.Successor.Next.{placed};
+ghost use Rattle.order.specs.Successor.Next.{successor_placed};
 ghost use Rattle.order.specs.Successor.Steps.{successor_left};
 ghost use Rattle.order.specs.declared.successor.SuccessorNext.{SuccessorNext};
 
@@ -20,8 +20,8 @@ use crate::words::Words;
 use arena::{Head, Kind, Layout, Machine, NodeNo, NodeWord, ScxWord, Shape, Side, Turn, Word};
 use atomic_table::Seat;
 use order::{Refused, Route, SuccessorAt, SuccessorNext, SuccessorRun};
+use ordered_map::Pair;
 use prims::{LlxAt, LlxRun, Snap};
-use spelling::Pair;
 use template::Tree;
 
 /// What a successor answers.
@@ -46,8 +46,8 @@ fn look_on<S: Shape, M: Machine<S>>(
     requires waits { (r : SuccessorReader (calls S.Shape M.Machine layout.now number)) × SearchWaits r seat.old.me.0.passes run.old (SuccessorNext.Look route level side node) }
     ensures table { StaysAtTable seat.old seat.new }
     ensures goes_on { (r : SuccessorReader (calls S.Shape M.Machine layout.now number)) → SearchWaits r seat.old.me.0.passes run.old (SuccessorNext.Look route level side node) → SearchGoesOn r seat.new.me.0.passes run.new result }
-    ensures steps { seat_steps seat.new.me.0.passes + search_left (shared_nodes layout.now) run.new result ≤ seat_steps seat.old.me.0.passes + suc (successor_left (placed run.old (SuccessorNext.Look route level side node)) (shared_nodes layout.now)) }
-    ensures nearer { search_left (shared_nodes layout.now) run.new result < suc (successor_left (placed run.old (SuccessorNext.Look route level side node)) (shared_nodes layout.now)) }
+    ensures steps { seat_steps seat.new.me.0.passes + search_left (shared_nodes layout.now) run.new result ≤ seat_steps seat.old.me.0.passes + suc (successor_left (successor_placed run.old (SuccessorNext.Look route level side node)) (shared_nodes layout.now)) }
+    ensures nearer { search_left (shared_nodes layout.now) run.new result < suc (successor_left (successor_placed run.old (SuccessorNext.Look route level side node)) (shared_nodes layout.now)) }
 {
     match look::<S, M, Tree>(words, layout, seat, number, node) {
         Ok(snap) => match run.looked(route, level, side, snap) {
@@ -84,7 +84,7 @@ fn validate_on<S: Shape, M: Machine<S>>(
     requires waits { (r : SuccessorReader (calls S.Shape M.Machine layout.now number)) × SearchWaits r seat.old.me.0.passes run.old (SuccessorNext.Validate found) }
     ensures table { StaysAtTable seat.old seat.new }
     ensures ends { (r : SuccessorReader (calls S.Shape M.Machine layout.now number)) → SearchWaits r seat.old.me.0.passes run.old (SuccessorNext.Validate found) → SearchEnds r seat.new.me.0.passes run.new result }
-    ensures steps { seat_steps seat.new.me.0.passes ≤ seat_steps seat.old.me.0.passes + suc (successor_left (placed run.old (SuccessorNext.Validate found)) (shared_nodes layout.now)) }
+    ensures steps { seat_steps seat.new.me.0.passes ≤ seat_steps seat.old.me.0.passes + suc (successor_left (successor_placed run.old (SuccessorNext.Validate found)) (shared_nodes layout.now)) }
 {
     let snaps = run.snaps.as_slice();
     let (asked, told) = validate::<S, M, &[Snap]>(words, layout, seat, number, snaps);
@@ -106,8 +106,8 @@ fn search_on<S: Shape, M: Machine<S>>(
     requires waits { (r : SuccessorReader (calls S.Shape M.Machine layout.now number)) × SearchWaits r seat.old.me.0.passes run.old next }
     ensures table { StaysAtTable seat.old seat.new }
     ensures goes_on { (r : SuccessorReader (calls S.Shape M.Machine layout.now number)) → SearchWaits r seat.old.me.0.passes run.old next → SearchGoesOn r seat.new.me.0.passes run.new result }
-    ensures steps { seat_steps seat.new.me.0.passes + search_left (shared_nodes layout.now) run.new result ≤ seat_steps seat.old.me.0.passes + suc (successor_left (placed run.old next) (shared_nodes layout.now)) }
-    ensures nearer { search_left (shared_nodes layout.now) run.new result < suc (successor_left (placed run.old next) (shared_nodes layout.now)) }
+    ensures steps { seat_steps seat.new.me.0.passes + search_left (shared_nodes layout.now) run.new result ≤ seat_steps seat.old.me.0.passes + suc (successor_left (successor_placed run.old next) (shared_nodes layout.now)) }
+    ensures nearer { search_left (shared_nodes layout.now) run.new result < suc (successor_left (successor_placed run.old next) (shared_nodes layout.now)) }
 {
     match next {
         SuccessorNext::Look {

@@ -5,10 +5,10 @@ ghost use Rattle.forest.specs.Traces.{seat_steps, shared_nodes};
 ghost use Rattle.forest.specs.StraightUpdate.{Updater, UpdaterBegins, UpdaterEnds, UpdaterTries, UpdaterGoesOn};
 ghost use Rattle.forest.specs.CallKinds.{calls};
 ghost use Rattle.template.specs.declared.walk.Goal.{Goal};
-ghost use Rattle.updates.specs.Next.{placed, standing, left_then};
-ghost use Rattle.updates.specs.Steps.{update_left};
-ghost use Rattle.updates.specs.declared.update.Next.{Next};
-ghost use Rattle.updates.specs.declared.update.UpdateAt.{UpdateAt};
+ghost use Rattle.edits.specs.Next.{placed, standing, left_then};
+ghost use Rattle.edits.specs.Steps.{update_left};
+ghost use Rattle.edits.specs.declared.update.Next.{Next};
+ghost use Rattle.edits.specs.declared.update.UpdateAt.{UpdateAt};
 
 use crate::straight::changing::{self, Change};
 use crate::straight::looking::look;
@@ -18,10 +18,10 @@ use crate::view::SeatView;
 use crate::words::Words;
 use arena::{Layout, Machine, NodeNo, ScxNo, Shape};
 use atomic_table::Seat;
+use edits::{Edit, Next, Stop, UpdateRun, Updated, anew};
 use help::HelpRun;
 use prims::Snap;
 use template::{Found, Tree};
-use updates::{Edit, Next, Stop, UpdateRun, Updated, anew};
 
 /// Makes an update that walks to this key: its first try in line, as long as nothing is in its way.
 /// Where something is, its machine goes on from there; until then the update has no place. It is a

@@ -7,7 +7,7 @@ ghost use Rattle.forest.specs.Seats.{IsSeatAt, StaysAtTable};
 ghost use Rattle.forest.specs.Traces.{seat_steps, shared_nodes};
 ghost use Rattle.forest.specs.CallKinds.{calls};
 ghost use Rattle.order.specs.Range.Known.{AsksForSome};
-ghost use Rattle.order.specs.Range.Next.{placed};
+ghost use Rattle.order.specs.Range.Next.{range_placed};
 ghost use Rattle.order.specs.Range.Steps.{range_left};
 ghost use Rattle.order.specs.declared.range.RangeAt.{RangeAt};
 ghost use Rattle.order.specs.declared.range.RangeNext.{RangeNext};
@@ -21,8 +21,8 @@ use crate::words::Words;
 use arena::{Head, Kind, Layout, Machine, NodeNo, NodeWord, ScxWord, Shape, Turn, Word};
 use atomic_table::Seat;
 use order::{RangeAt, RangeNext, RangeRun, Refused};
+use ordered_map::Pair;
 use prims::{LlxAt, LlxRun, Snap};
-use spelling::Pair;
 use template::Tree;
 
 /// What a range answers.
@@ -46,8 +46,8 @@ fn look_on<S: Shape, M: Machine<S>>(
     requires waits { (r : RangeReader (calls S.Shape M.Machine layout.now number)) × VisitWaits r seat.old.me.0.passes run.old (RangeNext.Look level left right node) }
     ensures table { StaysAtTable seat.old seat.new }
     ensures goes_on { (r : RangeReader (calls S.Shape M.Machine layout.now number)) → VisitWaits r seat.old.me.0.passes run.old (RangeNext.Look level left right node) → VisitGoesOn r seat.new.me.0.passes run.new result }
-    ensures steps { seat_steps seat.new.me.0.passes + visit_left (shared_nodes layout.now) run.new result ≤ seat_steps seat.old.me.0.passes + suc (range_left (placed run.old (RangeNext.Look level left right node)) (shared_nodes layout.now)) }
-    ensures nearer { visit_left (shared_nodes layout.now) run.new result < suc (range_left (placed run.old (RangeNext.Look level left right node)) (shared_nodes layout.now)) }
+    ensures steps { seat_steps seat.new.me.0.passes + visit_left (shared_nodes layout.now) run.new result ≤ seat_steps seat.old.me.0.passes + suc (range_left (range_placed run.old (RangeNext.Look level left right node)) (shared_nodes layout.now)) }
+    ensures nearer { visit_left (shared_nodes layout.now) run.new result < suc (range_left (range_placed run.old (RangeNext.Look level left right node)) (shared_nodes layout.now)) }
 {
     match look::<S, M, Tree>(words, layout, seat, number, node) {
         Ok(snap) => match run.looked(level, left, right, snap) {
@@ -83,7 +83,7 @@ fn validate_on<S: Shape, M: Machine<S>>(
     requires waits { (r : RangeReader (calls S.Shape M.Machine layout.now number)) × VisitWaits r seat.old.me.0.passes run.old RangeNext.Validate }
     ensures table { StaysAtTable seat.old seat.new }
     ensures ends { (r : RangeReader (calls S.Shape M.Machine layout.now number)) → VisitWaits r seat.old.me.0.passes run.old RangeNext.Validate → VisitEnds r seat.new.me.0.passes run.new result }
-    ensures steps { seat_steps seat.new.me.0.passes ≤ seat_steps seat.old.me.0.passes + suc (range_left (placed run.old RangeNext.Validate) (shared_nodes layout.now)) }
+    ensures steps { seat_steps seat.new.me.0.passes ≤ seat_steps seat.old.me.0.passes + suc (range_left (range_placed run.old RangeNext.Validate) (shared_nodes layout.now)) }
 {
     let snaps = run.snaps.as_slice();
     let (asked, told) = validate::<S, M, &[Snap]>(words, layout, seat, number, snaps);
@@ -105,8 +105,8 @@ fn visit_on<S: Shape, M: Machine<S>>(
     requires waits { (r : RangeReader (calls S.Shape M.Machine layout.now number)) × VisitWaits r seat.old.me.0.passes run.old next }
     ensures table { StaysAtTable seat.old seat.new }
     ensures goes_on { (r : RangeReader (calls S.Shape M.Machine layout.now number)) → VisitWaits r seat.old.me.0.passes run.old next → VisitGoesOn r seat.new.me.0.passes run.new result }
-    ensures steps { seat_steps seat.new.me.0.passes + visit_left (shared_nodes layout.now) run.new result ≤ seat_steps seat.old.me.0.passes + suc (range_left (placed run.old next) (shared_nodes layout.now)) }
-    ensures nearer { visit_left (shared_nodes layout.now) run.new result < suc (range_left (placed run.old next) (shared_nodes layout.now)) }
+    ensures steps { seat_steps seat.new.me.0.passes + visit_left (shared_nodes layout.now) run.new result ≤ seat_steps seat.old.me.0.passes + suc (range_left (range_placed run.old next) (shared_nodes layout.now)) }
+    ensures nearer { visit_left (shared_nodes layout.now) run.new result < suc (range_left (range_placed run.old next) (shared_nodes layout.now)) }
 {
     match next {
         RangeNext::Head { above: _, node } => {

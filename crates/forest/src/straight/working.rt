@@ -5,17 +5,17 @@ ghost use Rattle.forest.specs.Seats.{IsSeatAt, StaysAtTable};
 ghost use Rattle.forest.specs.Traces.{Waits, Told, seat_steps, shared_nodes};
 ghost use Rattle.forest.specs.StraightUpdate.{Updater, UpdaterTries, UpdaterGoesOn};
 ghost use Rattle.forest.specs.CallKinds.{calls};
-ghost use Rattle.updates.specs.Next.{placed, left_then};
-ghost use Rattle.updates.specs.Steps.{update_left};
-ghost use Rattle.updates.specs.declared.update.Next.{Next};
+ghost use Rattle.edits.specs.Next.{placed, left_then};
+ghost use Rattle.edits.specs.Steps.{update_left};
+ghost use Rattle.edits.specs.declared.update.Next.{Next};
 
 use crate::straight::placed::step;
 use crate::view::SeatView;
 use crate::words::Words;
 use arena::{Access, Kind, Layout, Machine, NodeNo, NodeWord, Shape, Side, Step, Word};
 use atomic_table::Seat;
+use edits::{Edit, Next, Nth, Piece, Stop, UpdateRun};
 use template::Found;
-use updates::{Edit, Next, Nth, Piece, Stop, UpdateRun};
 
 /// Loads a settled word for the fresh node of this place.
 #[inline(always)]

@@ -62,7 +62,7 @@ pub record Freezes (allows : Layout → History → ℕ → Type 0) (lay : Layou
 
 -- the pass c owns s, which has never begun, and the info of its first node is no longer what the
 -- snapshot found there: its first freeze is lost
-pub record HasLost (lay : Layout) (c : ℕ) (h : History) (s : ℕ) : Type 0 where
+pub record HasLostFirstFreeze (lay : Layout) (c : ℕ) (h : History) (s : ℕ) : Type 0 where
   pub own : IsOwnScx lay c s
   pub free : ¬ IsNamedScx h s
   pub some : 0 < count h s
@@ -88,13 +88,13 @@ pub record IsBlocked (c : ℕ) (h : History) (s n v : ℕ) : Type 0 where
 -- the freeze of the j-th node has failed, with v in its info, and s will win no freeze any more: it
 -- can never freeze all its nodes or is committed, or its first freeze is lost
 pub record Blocked (lay : Layout) (c : ℕ) (h : History) (m : Reading) (j v : ℕ) : Type 0 where
-  pub over : (IsStarted h m.scx × IsOver h m.scx) ⊎ HasLost lay c h m.scx
+  pub over : (IsStarted h m.scx × IsOver h m.scx) ⊎ HasLostFirstFreeze lay c h m.scx
   pub blocked : IsBlocked c h m.scx (node_at m.members j) v
 
 -- the same where s is not committed, so that it may be
 -- aborted: one of its nodes can never be frozen
 pub record Aborts (lay : Layout) (c : ℕ) (h : History) (m : Reading) (j v : ℕ) : Type 0 where
-  pub stuck : (IsStarted h m.scx × IsStuck (descriptor h m.scx) h m.scx) ⊎ HasLost lay c h m.scx
+  pub stuck : (IsStarted h m.scx × IsStuck (descriptor h m.scx) h m.scx) ⊎ HasLostFirstFreeze lay c h m.scx
   pub blocked : IsBlocked c h m.scx (node_at m.members j) v
 
 -- s has begun, all its nodes were frozen for it, and the run has read all of them

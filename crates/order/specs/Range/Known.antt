@@ -15,12 +15,12 @@ use Rattle.arena.specs.Machines.{Call, MatchTurn}
 use Rattle.prims.specs.Llx.Known.{load, LlxIsReady, LlxWaits}
 use Rattle.prims.specs.Moments.{AreFinished}
 use Rattle.prims.specs.Vlx.Known.{VlxIsReady, VlxWaits}
-use Rattle.spelling.specs.declared.pair.Pair.{Pair}
-use Rattle.spelling.specs.OrderedMap.{Range, ManyPairs, range}
-use Rattle.spelling.specs.TreeShape.{TreeAllows}
-use Rattle.spelling.specs.TreeWords.{class, is_leaf, level, rank}
+use Rattle.ordered_map.specs.declared.pair.Pair.{Pair}
+use Rattle.ordered_map.specs.OrderedMap.{Range, ManyPairs, range}
+use Rattle.ordered_map.specs.TreeShape.{TreeAllows}
+use Rattle.ordered_map.specs.TreeWords.{class, is_leaf, level, rank}
 use Rattle.template.specs.Trails.{IsOwnMoment}
-use Rattle.order.specs.Reads.{from, Reads, AllHold, Whenever, HasStood}
+use Rattle.order.specs.Reads.{begun_at, Reads, AllHold, Whenever, HasStood}
 use Rattle.order.specs.Replies.{IsReplyAt}
 use Rattle.order.specs.Tries.{BeginsTry, IsInTry}
 use Rattle.template.specs.Blame.{IsContended, HasLostTriesTo}
@@ -106,7 +106,7 @@ pub record GoesBehind (m : RangeRun) (c : Call) (h : History) (leaves : ℕ) : T
 
 -- its VLX has begun at an own moment of the call, at which these were the pairs if all infos were
 -- as found
-pub record Validates (m : RangeRun) (c : Call) (h begin : History) : Type 0 where
+pub record RangeValidates (m : RangeRun) (c : Call) (h begin : History) : Type 0 where
   pub own : IsOwnMoment c begin
   pub asks : AsksForSome m
   pub within : Extends h begin
@@ -116,7 +116,7 @@ pub record Validates (m : RangeRun) (c : Call) (h begin : History) : Type 0 wher
 -- What it waits for
 
 -- what holds at any place
-pub record Goes (m : RangeRun) (c : Call) (h : History) : Type 0 where
+pub record RangeGoes (m : RangeRun) (c : Call) (h : History) : Type 0 where
   pub reads : Reads c h m.snaps.items
   pub small : m.high < 2 ^ 64
   pub few : m.most ≤ 64
@@ -128,8 +128,8 @@ RangeWaitsAt m c h s Root = Visits m c h 0 × (s ≡ load LoadSettled (node 0 He
 RangeWaitsAt m c h s (Head above n) = Visits m c h n.0 × (above < level (value h) n.0) × (s ≡ load LoadSettled (node n.0 HeadWord))
 RangeWaitsAt m c h s (Key head n) = Visits m c h n.0 × HasLowHead h n.0 head × (s ≡ load LoadSettled (node n.0 KeyWord))
 RangeWaitsAt m c h s (Value key n) = HasKey m c h n.0 key × (s ≡ load LoadSettled (node n.0 ValueWord))
-RangeWaitsAt m c h s (Look low left right llx) = LooksIn m c h low left right llx.node.0 × ((begin : History) × Extends begin c.start × LlxWaits TreeAllows llx (from c begin) h s)
-RangeWaitsAt m c h s (Validate asked) = (begin : History) × Validates m c h begin × VlxWaits m.snaps.items asked (from c begin) h s
+RangeWaitsAt m c h s (Look low left right llx) = LooksIn m c h low left right llx.node.0 × ((begin : History) × Extends begin c.start × LlxWaits TreeAllows llx (begun_at c begin) h s)
+RangeWaitsAt m c h s (Validate asked) = (begin : History) × RangeValidates m c h begin × VlxWaits m.snaps.items asked (begun_at c begin) h s
 
 -- what holds once the step of this place has told v
 abbrev pub RangeIsToldAt : RangeRun → Call → History → ℕ → RangeAt → Type 0
@@ -138,26 +138,26 @@ RangeIsToldAt m c h v Root = Visits m c h 0 × (value h (node 0 HeadWord) ≡ v)
 RangeIsToldAt m c h v (Head above n) = Visits m c h n.0 × (above < level (value h) n.0) × (value h (node n.0 HeadWord) ≡ v)
 RangeIsToldAt m c h v (Key head n) = Visits m c h n.0 × HasLowHead h n.0 head × (value h (node n.0 KeyWord) ≡ v)
 RangeIsToldAt m c h v (Value key n) = HasKey m c h n.0 key × (value h (node n.0 ValueWord) ≡ v)
-RangeIsToldAt m c h v (Look low left right llx) = LooksIn m c h low left right llx.node.0 × ((begin : History) × Extends begin c.start × LlxIsReady TreeAllows llx (from c begin) h (Some v))
-RangeIsToldAt m c h v (Validate asked) = (begin : History) × Validates m c h begin × VlxIsReady m.snaps.items asked (from c begin) h (Some v)
+RangeIsToldAt m c h v (Look low left right llx) = LooksIn m c h low left right llx.node.0 × ((begin : History) × Extends begin c.start × LlxIsReady TreeAllows llx (begun_at c begin) h (Some v))
+RangeIsToldAt m c h v (Validate asked) = (begin : History) × RangeValidates m c h begin × VlxIsReady m.snaps.items asked (begun_at c begin) h (Some v)
 
 -- Its try
 
 -- with the load of the root's head it begins a try, and has found nothing in that yet; behind that
 -- load it is in the try that began at `begin`
-abbrev pub StandsInTry : RangeRun → Call → History → History → RangeAt → Type 0
-StandsInTry m c h begin Root = BeginsTry c h m.limit m.tries × (m.snaps.items ≡ []) × (m.waiting.items ≡ [])
-StandsInTry m c h begin _ = IsInTry c h begin m.limit m.tries
+abbrev pub RangeStandsInTry : RangeRun → Call → History → History → RangeAt → Type 0
+RangeStandsInTry m c h begin Root = BeginsTry c h m.limit m.tries × (m.snaps.items ≡ []) × (m.waiting.items ≡ [])
+RangeStandsInTry m c h begin _ = IsInTry c h begin m.limit m.tries
 
 -- it waits for this step where it stands; what it knows is of its try, which is the call from the
 -- moment `begin` on
 abbrev pub RangeWaits : RangeRun → Call → History → Step → Type 0
-RangeWaits m c h s = (begin : History) × StandsInTry m c h begin m.at × Goes m (from c begin) h × RangeWaitsAt m (from c begin) h s m.at
+RangeWaits m c h s = (begin : History) × RangeStandsInTry m c h begin m.at × RangeGoes m (begun_at c begin) h × RangeWaitsAt m (begun_at c begin) h s m.at
 
 -- it may be called with this: with nothing at its start, then with what its step told by an own row
 abbrev pub RangeIsReady : RangeRun → Call → History → Option ℕ → Type 0
-RangeIsReady m c h None = Goes m c h × (m.at ≡ Start) × BeginsTry c h m.limit m.tries
-RangeIsReady m c h (Some v) = (begin : History) × IsInTry c h begin m.limit m.tries × Goes m (from c begin) h × IsOwnMoment (from c begin) h × RangeIsToldAt m (from c begin) h v m.at
+RangeIsReady m c h None = RangeGoes m c h × (m.at ≡ Start) × BeginsTry c h m.limit m.tries
+RangeIsReady m c h (Some v) = (begin : History) × IsInTry c h begin m.limit m.tries × RangeGoes m (begun_at c begin) h × IsOwnMoment (begun_at c begin) h × RangeIsToldAt m (begun_at c begin) h v m.at
 
 -- What it answers
 
@@ -166,17 +166,17 @@ abbrev pub RangeReplies : RangeRun → Call → History → List Pair → Type 0
 RangeReplies m c h told = IsReplyAt c h (Range m.low m.high m.most) (ManyPairs told) ⊎ (AsksForNothing m × ((map : List Pair) → range m.low m.high m.most map ≡ told))
 
 -- what its answer says: that; or that all tries were lost, and who was in the way of the last
-abbrev pub RangeSays : RangeRun → Call → History → Result (Vec Pair Global) Refused → Type 0
-RangeSays m c h (Ok told) = RangeReplies m c h told.items
-RangeSays m c h (Err (Contended n s)) = IsContended c h n.0 s.0 × (m.tries ≡ 0) × HasLostTriesTo c.pass h c.start m.limit n.0 s.0
-RangeSays m c h (Err NoMemory) = Unit {0}
+abbrev pub IsRangeAnswer : RangeRun → Call → History → Result (Vec Pair Global) Refused → Type 0
+IsRangeAnswer m c h (Ok told) = RangeReplies m c h told.items
+IsRangeAnswer m c h (Err (Contended n s)) = IsContended c h n.0 s.0 × (m.tries ≡ 0) × HasLostTriesTo c.pass h c.start m.limit n.0 s.0
+IsRangeAnswer m c h (Err NoMemory) = Unit {0}
 
 -- and behind it the pass is at rest
 abbrev pub RangeAnswers : RangeRun → Call → History → Result (Vec Pair Global) Refused → Type 0
-RangeAnswers m c h answer = AreFinished c.layout c.pass 0 h × RangeSays m c h answer
+RangeAnswers m c h answer = AreFinished c.layout c.pass 0 h × IsRangeAnswer m c h answer
 
 -- it ends with the pairs that it has taken
-pub record HasTold (old now : RangeRun) (turn : Turn (Result (Vec Pair Global) Refused)) : Type 0 where
+pub record HasToldPairs (old now : RangeRun) (turn : Turn (Result (Vec Pair Global) Refused)) : Type 0 where
   pub told : Vec Pair Global
   pub done : turn ≡ Done (Ok told)
   pub taken : told.items ≡ old.taken.items

@@ -9,11 +9,11 @@ use Rattle.arena.specs.Machines.{Call}
 use Rattle.prims.specs.Llx.Known.{load}
 use Rattle.prims.specs.Snap.{snap_at}
 use Rattle.prims.specs.declared.llx.LlxAt.TheVariants.{Marked}
-use Rattle.spelling.specs.TreeWords.{level}
+use Rattle.ordered_map.specs.TreeWords.{level}
 use Rattle.template.specs.Trails.{IsOwnMoment}
-use Rattle.order.specs.Range.Known.{AsksForSome, Goes, HasKey, HasLowHead, LooksIn, RangeAnswers, Visits, bounds_of}
+use Rattle.order.specs.Range.Known.{AsksForSome, RangeGoes, HasKey, HasLowHead, LooksIn, RangeAnswers, Visits, bounds_of}
 use Rattle.order.specs.Range.Steps.{leaves_left}
-use Rattle.order.specs.Reads.{from, Whenever}
+use Rattle.order.specs.Reads.{begun_at, Whenever}
 use Rattle.order.specs.Tries.{IsInTry}
 use Rattle.order.specs.Visits.{IsRangeAt}
 use Rattle.order.specs.declared.range.RangeAt.TheVariants.{Head, Key, Value, Look, Validate}
@@ -24,53 +24,53 @@ use Rattle.order.specs.declared.refused.Refused.{Refused}
 use Rattle.order.specs.declared.refused.Refused.TheVariants.{NoMemory}
 
 -- the range where it stands once this has begun
-abbrev pub placed : RangeRun → RangeNext → RangeRun
-placed m (HeadNext above n) = record m { at = Head above n }
-placed m (KeyNext head n) = record m { at = Key head n }
-placed m (ValueNext key n) = record m { at = Value key n }
-placed m (LookNext level left right n) = record m { at = Look level left right record { node = n; at = Marked } }
-placed m ValidateNext = record m { at = Validate 1 }
+abbrev pub range_placed : RangeRun → RangeNext → RangeRun
+range_placed m (HeadNext above n) = record m { at = Head above n }
+range_placed m (KeyNext head n) = record m { at = Key head n }
+range_placed m (ValueNext key n) = record m { at = Value key n }
+range_placed m (LookNext level left right n) = record m { at = Look level left right record { node = n; at = Marked } }
+range_placed m ValidateNext = record m { at = Validate 1 }
 
 -- the step with which it begins
-abbrev pub next_step : RangeRun → RangeNext → Step
-next_step m (HeadNext above n) = load LoadSettled (node n.0 HeadWord)
-next_step m (KeyNext head n) = load LoadSettled (node n.0 KeyWord)
-next_step m (ValueNext key n) = load LoadSettled (node n.0 ValueWord)
-next_step m (LookNext level left right n) = load LoadMarked (marked n.0)
-next_step m ValidateNext = load LoadInfo (info (snap_at m.snaps.items 0).node.0)
+abbrev pub range_next_step : RangeRun → RangeNext → Step
+range_next_step m (HeadNext above n) = load LoadSettled (node n.0 HeadWord)
+range_next_step m (KeyNext head n) = load LoadSettled (node n.0 KeyWord)
+range_next_step m (ValueNext key n) = load LoadSettled (node n.0 ValueWord)
+range_next_step m (LookNext level left right n) = load LoadMarked (marked n.0)
+range_next_step m ValidateNext = load LoadInfo (info (snap_at m.snaps.items 0).node.0)
 
 -- what it knows when this may come next
-abbrev pub MayDo : RangeRun → Call → History → RangeNext → Type 0
-MayDo m c h (HeadNext above n) = Visits m c h n.0 × (above < level (value h) n.0)
-MayDo m c h (KeyNext head n) = Visits m c h n.0 × HasLowHead h n.0 head
-MayDo m c h (ValueNext key n) = HasKey m c h n.0 key
-MayDo m c h (LookNext low left right n) = LooksIn m c h low left right n.0
-MayDo m c h ValidateNext = AsksForSome m × IsOwnMoment c h × (0 < length m.snaps.items) × Whenever c.layout h m.snaps.items (λ b. IsRangeAt c.layout b (bounds_of m) m.taken.items)
+abbrev pub RangeMayDo : RangeRun → Call → History → RangeNext → Type 0
+RangeMayDo m c h (HeadNext above n) = Visits m c h n.0 × (above < level (value h) n.0)
+RangeMayDo m c h (KeyNext head n) = Visits m c h n.0 × HasLowHead h n.0 head
+RangeMayDo m c h (ValueNext key n) = HasKey m c h n.0 key
+RangeMayDo m c h (LookNext low left right n) = LooksIn m c h low left right n.0
+RangeMayDo m c h ValidateNext = AsksForSome m × IsOwnMoment c h × (0 < length m.snaps.items) × Whenever c.layout h m.snaps.items (λ b. IsRangeAt c.layout b (bounds_of m) m.taken.items)
 
 -- so it is in some try of the call, from whose begin on it knows that
-abbrev pub MayGoOn : Call → History → RangeRun → RangeNext → Type 0
-MayGoOn c h m next = (begin : History) × IsInTry c h begin m.limit m.tries × Goes m (from c begin) h × MayDo m (from c begin) h next
+abbrev pub RangeMayGoOn : Call → History → RangeRun → RangeNext → Type 0
+RangeMayGoOn c h m next = (begin : History) × IsInTry c h begin m.limit m.tries × RangeGoes m (begun_at c begin) h × RangeMayDo m (begun_at c begin) h next
 
 -- it goes on so; or it ends, for want of memory
-abbrev pub GoesOn : Call → History → RangeRun → Result RangeNext Refused → Type 0
-GoesOn c h m (Ok next) = Goes m c h × MayDo m c h next
-GoesOn c h m (Err refused) = (refused ≡ NoMemory) × RangeAnswers m c h (Err refused)
+abbrev pub RangeGoesOn : Call → History → RangeRun → Result RangeNext Refused → Type 0
+RangeGoesOn c h m (Ok next) = RangeGoes m c h × RangeMayDo m c h next
+RangeGoesOn c h m (Err refused) = (refused ≡ NoMemory) × RangeAnswers m c h (Err refused)
 
 -- how many steps are left in this try before this has begun
-abbrev pub next_left : RangeRun → ℕ → RangeNext → ℕ
-next_left m nodes (HeadNext above n) = length m.snaps.items + 67 * (1 + nodes - above) + leaves_left m.leaves nodes
-next_left m nodes (KeyNext head n) = length m.snaps.items + 67 * (2 + nodes - head.level) - 1 + leaves_left m.leaves nodes
-next_left m nodes (ValueNext key n) = length m.snaps.items + leaves_left m.leaves nodes + 1
-next_left m nodes (LookNext level left right n) = 64 + length m.snaps.items + 1 + 67 * (1 + nodes - level) + leaves_left m.leaves nodes
-next_left m nodes ValidateNext = length m.snaps.items
+abbrev pub range_next_left : RangeRun → ℕ → RangeNext → ℕ
+range_next_left m nodes (HeadNext above n) = length m.snaps.items + 67 * (1 + nodes - above) + leaves_left m.leaves nodes
+range_next_left m nodes (KeyNext head n) = length m.snaps.items + 67 * (2 + nodes - head.level) - 1 + leaves_left m.leaves nodes
+range_next_left m nodes (ValueNext key n) = length m.snaps.items + leaves_left m.leaves nodes + 1
+range_next_left m nodes (LookNext level left right n) = 64 + length m.snaps.items + 1 + 67 * (1 + nodes - level) + leaves_left m.leaves nodes
+range_next_left m nodes ValidateNext = length m.snaps.items
 
 -- the node of this is not deeper than the taken nodes allow
-abbrev pub NextFits : RangeNext → ℕ → Type 0
-NextFits (HeadNext above n) nodes = above + 1 < 2 + nodes
-NextFits (KeyNext head n) nodes = head.level < 2 + nodes
-NextFits (LookNext level left right n) nodes = level + 1 < 2 + nodes
-NextFits _ nodes = Unit {0}
+abbrev pub RangeNextFits : RangeNext → ℕ → Type 0
+RangeNextFits (HeadNext above n) nodes = above + 1 < 2 + nodes
+RangeNextFits (KeyNext head n) nodes = head.level < 2 + nodes
+RangeNextFits (LookNext level left right n) nodes = level + 1 < 2 + nodes
+RangeNextFits _ nodes = Unit {0}
 
 -- at most n steps are left then
-abbrev pub ComesNearer : RangeRun → RangeNext → ℕ → ℕ → Type 0
-ComesNearer m next nodes n = NextFits next nodes × (next_left m nodes next ≤ n)
+abbrev pub RangeComesNearer : RangeRun → RangeNext → ℕ → ℕ → Type 0
+RangeComesNearer m next nodes n = RangeNextFits next nodes × (range_next_left m nodes next ≤ n)

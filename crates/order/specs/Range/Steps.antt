@@ -15,30 +15,30 @@ abbrev pub path_left : ℕ → ℕ
 path_left nodes = 67 * (2 + nodes)
 
 -- and a try
-abbrev pub try_left : ℕ → ℕ → ℕ
-try_left most nodes = (most + 2) * path_left nodes
+abbrev pub range_try_left : ℕ → ℕ → ℕ
+range_try_left most nodes = (most + 2) * path_left nodes
 
 -- and the leaves that it may visit behind the next one
 abbrev pub leaves_left : ℕ → ℕ → ℕ
 leaves_left leaves nodes = (leaves - 1) * path_left nodes
 
 -- how many steps are left in this try at this place
-abbrev pub phase_left : RangeRun → ℕ → RangeAt → ℕ
-phase_left m nodes Start = try_left m.most nodes
-phase_left m nodes Root = length m.snaps.items + 67 * (2 + nodes) - 1 + leaves_left m.leaves nodes
-phase_left m nodes (Head above node) = length m.snaps.items + 67 * (1 + nodes - above) - 1 + leaves_left m.leaves nodes
-phase_left m nodes (Key head node) = length m.snaps.items + 67 * (2 + nodes - head.level) - 2 + leaves_left m.leaves nodes
-phase_left m nodes (Value key node) = length m.snaps.items + leaves_left m.leaves nodes
-phase_left m nodes (Look level left right llx) = llx_left llx.at + length m.snaps.items + 1 + 67 * (1 + nodes - level) + leaves_left m.leaves nodes
-phase_left m nodes (Validate asked) = vlx_left m.snaps.items asked
+abbrev pub range_phase_left : RangeRun → ℕ → RangeAt → ℕ
+range_phase_left m nodes Start = range_try_left m.most nodes
+range_phase_left m nodes Root = length m.snaps.items + 67 * (2 + nodes) - 1 + leaves_left m.leaves nodes
+range_phase_left m nodes (Head above node) = length m.snaps.items + 67 * (1 + nodes - above) - 1 + leaves_left m.leaves nodes
+range_phase_left m nodes (Key head node) = length m.snaps.items + 67 * (2 + nodes - head.level) - 2 + leaves_left m.leaves nodes
+range_phase_left m nodes (Value key node) = length m.snaps.items + leaves_left m.leaves nodes
+range_phase_left m nodes (Look level left right llx) = llx_left llx.at + length m.snaps.items + 1 + 67 * (1 + nodes - level) + leaves_left m.leaves nodes
+range_phase_left m nodes (Validate asked) = vlx_left m.snaps.items asked
 
 -- how many steps are left
 abbrev pub range_left : RangeRun → ℕ → ℕ
-range_left m nodes = m.tries * try_left m.most nodes + phase_left m nodes m.at
+range_left m nodes = m.tries * range_try_left m.most nodes + range_phase_left m nodes m.at
 
 -- where the run asks for a step, fewer than n are left then
-abbrev pub IsNearer : {A : Type 0} → RangeRun → ℕ → Turn A → ℕ → Type 0
-IsNearer m nodes turn n = MatchTurn turn (λ _. range_left m nodes < n) (λ _. Unit {0})
+abbrev pub RangeIsNearer : {A : Type 0} → RangeRun → ℕ → Turn A → ℕ → Type 0
+RangeIsNearer m nodes turn n = MatchTurn turn (λ _. range_left m nodes < n) (λ _. Unit {0})
 
 -- what the run is told at this place fits so many taken nodes
 abbrev pub RangeFitsAt : RangeRun → Option ℕ → ℕ → RangeAt → Type 0

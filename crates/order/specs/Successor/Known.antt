@@ -15,21 +15,21 @@ use Rattle.arena.specs.Machines.{Call, MatchTurn}
 use Rattle.prims.specs.Llx.Known.{load, LlxIsReady, LlxWaits}
 use Rattle.prims.specs.Moments.{AreFinished}
 use Rattle.prims.specs.Vlx.Known.{VlxIsReady, VlxWaits}
-use Rattle.spelling.specs.declared.pair.Pair.{Pair}
-use Rattle.spelling.specs.OrderedMap.{Successor, pair_or_none}
-use Rattle.spelling.specs.Paths.{IsOnPath}
-use Rattle.spelling.specs.TreeShape.{TreeAllows}
-use Rattle.spelling.specs.TreeWords.{class, is_leaf, level, toward}
+use Rattle.ordered_map.specs.declared.pair.Pair.{Pair}
+use Rattle.ordered_map.specs.OrderedMap.{Successor, pair_or_none}
+use Rattle.ordered_map.specs.Paths.{IsOnPath}
+use Rattle.ordered_map.specs.TreeShape.{TreeAllows}
+use Rattle.ordered_map.specs.TreeWords.{class, is_leaf, level, toward}
 use Rattle.template.specs.Trails.{IsOwnMoment, WasPassed}
 use Rattle.template.specs.Walk.Known.{WalkIsReady, WalkWaits}
 use Rattle.template.specs.declared.walk.Goal.TheVariants.{Key as ToKey}
 use Rattle.template.specs.declared.walk.WalkAt.{WalkAt}
 use Rattle.template.specs.declared.walk.WalkAt.TheVariants.{Root}
-use Rattle.order.specs.Reads.{from, Reads, AllHold, Whenever, HasStood}
+use Rattle.order.specs.Reads.{begun_at, Reads, AllHold, Whenever, HasStood}
 use Rattle.order.specs.Replies.{IsReplyAt}
 use Rattle.order.specs.Tries.{BeginsTry, IsInTry}
 use Rattle.template.specs.Blame.{IsContended, HasLostTriesTo}
-use Rattle.order.specs.Search.{IsSearched, IsFirstBehind, IsNextAt}
+use Rattle.order.specs.Laws.Search.{IsSearched, IsFirstBehind, IsNextAt}
 use Rattle.order.specs.declared.refused.Refused.{Refused}
 use Rattle.order.specs.declared.refused.Refused.TheVariants.{Contended, NoMemory}
 use Rattle.order.specs.declared.successor.Route.{Route}
@@ -60,9 +60,9 @@ abbrev pub IsLastTurn : Call → History → ℕ → ℕ → Type 0
 IsLastTurn c h k n = (n ≡ 0) ⊎ HasTurnedLeft c h k n
 
 -- whether it loads the key of a node with this head
-abbrev pub asks_key : Route → HeadParts → Bool
-asks_key Along head = eqb head.class 0
-asks_key Beyond head = cond (eqb head.class 0) head.leaf false
+abbrev pub successor_asks_key : Route → HeadParts → Bool
+successor_asks_key Along head = eqb head.class 0
+successor_asks_key Beyond head = cond (eqb head.class 0) head.leaf false
 
 -- whether a leaf of class 0 with this key is the answer of k
 abbrev pub is_answer : Route → ℕ → ℕ → Bool
@@ -99,7 +99,7 @@ pub record LooksAt (m : SuccessorRun) (c : Call) (h : History) (route : Route) (
   pub at_fork : Whenever c.layout h m.snaps.items (λ b. IsAtFork route b m.key n m.right.0 side)
 
 -- it stands at this node, below a fork of which it has a snapshot
-pub record StandsAt (m : SuccessorRun) (c : Call) (h : History) (route : Route) (n : ℕ) : Type 0 where
+pub record SuccessorStandsAt (m : SuccessorRun) (c : Call) (h : History) (route : Route) (n : ℕ) : Type 0 where
   pub stood : HasStood c h n
   pub some : 0 < length m.snaps.items
   pub right : route ≡ Along → IsRightThere c h m.right.0
@@ -122,7 +122,7 @@ pub record HasLeaf (m : SuccessorRun) (c : Call) (h : History) (n key : ℕ) : T
 
 -- its VLX has begun at an own moment of the call, at which this was the answer if all infos were as
 -- found
-pub record Validates (m : SuccessorRun) (c : Call) (h begin : History) (found : Option Pair) : Type 0 where
+pub record SuccessorValidates (m : SuccessorRun) (c : Call) (h begin : History) (found : Option Pair) : Type 0 where
   pub own : IsOwnMoment c begin
   pub within : Extends h begin
   pub then : Reads c begin m.snaps.items
@@ -135,7 +135,7 @@ IsSameSuccessor old now = (now.key ≡ old.key) × (now.limit ≡ old.limit) × 
 -- What it waits for
 
 -- what holds at any place
-pub record Goes (m : SuccessorRun) (c : Call) (h : History) : Type 0 where
+pub record SuccessorGoes (m : SuccessorRun) (c : Call) (h : History) : Type 0 where
   pub reads : Reads c h m.snaps.items
   pub small : m.key < 2 ^ 64
 
@@ -143,21 +143,21 @@ pub record Goes (m : SuccessorRun) (c : Call) (h : History) : Type 0 where
 abbrev pub SuccessorWaitsAt : SuccessorRun → Call → History → Step → SuccessorAt → Type 0
 SuccessorWaitsAt m c h s Start = ⊥
 SuccessorWaitsAt m c h s (Walk walk turn) = (walk.goal ≡ ToKey m.key) × IsLastTurn c h m.key turn.0 × WalkWaits walk c h s
-SuccessorWaitsAt m c h s (Look route low side llx) = LooksAt m c h route low side llx.node.0 × ((begin : History) × Extends begin c.start × LlxWaits TreeAllows llx (from c begin) h s)
-SuccessorWaitsAt m c h s (Head route above n) = StandsAt m c h route n.0 × (above < level (value h) n.0) × (s ≡ load LoadSettled (node n.0 HeadWord))
-SuccessorWaitsAt m c h s (Key route head n) = StandsAt m c h route n.0 × HasHead h route n.0 head × (s ≡ load LoadSettled (node n.0 KeyWord))
+SuccessorWaitsAt m c h s (Look route low side llx) = LooksAt m c h route low side llx.node.0 × ((begin : History) × Extends begin c.start × LlxWaits TreeAllows llx (begun_at c begin) h s)
+SuccessorWaitsAt m c h s (Head route above n) = SuccessorStandsAt m c h route n.0 × (above < level (value h) n.0) × (s ≡ load LoadSettled (node n.0 HeadWord))
+SuccessorWaitsAt m c h s (Key route head n) = SuccessorStandsAt m c h route n.0 × HasHead h route n.0 head × (s ≡ load LoadSettled (node n.0 KeyWord))
 SuccessorWaitsAt m c h s (Value key n) = HasLeaf m c h n.0 key × (s ≡ load LoadSettled (node n.0 ValueWord))
-SuccessorWaitsAt m c h s (Validate asked found) = (begin : History) × Validates m c h begin found × VlxWaits m.snaps.items asked (from c begin) h s
+SuccessorWaitsAt m c h s (Validate asked found) = (begin : History) × SuccessorValidates m c h begin found × VlxWaits m.snaps.items asked (begun_at c begin) h s
 
 -- what holds once the step of this place has told v
 abbrev pub SuccessorIsToldAt : SuccessorRun → Call → History → ℕ → SuccessorAt → Type 0
 SuccessorIsToldAt m c h v Start = ⊥
 SuccessorIsToldAt m c h v (Walk walk turn) = (walk.goal ≡ ToKey m.key) × IsLastTurn c h m.key turn.0 × WalkIsReady walk c h (Some v)
-SuccessorIsToldAt m c h v (Look route low side llx) = LooksAt m c h route low side llx.node.0 × ((begin : History) × Extends begin c.start × LlxIsReady TreeAllows llx (from c begin) h (Some v))
-SuccessorIsToldAt m c h v (Head route above n) = StandsAt m c h route n.0 × (above < level (value h) n.0) × (value h (node n.0 HeadWord) ≡ v)
-SuccessorIsToldAt m c h v (Key route head n) = StandsAt m c h route n.0 × HasHead h route n.0 head × (value h (node n.0 KeyWord) ≡ v)
+SuccessorIsToldAt m c h v (Look route low side llx) = LooksAt m c h route low side llx.node.0 × ((begin : History) × Extends begin c.start × LlxIsReady TreeAllows llx (begun_at c begin) h (Some v))
+SuccessorIsToldAt m c h v (Head route above n) = SuccessorStandsAt m c h route n.0 × (above < level (value h) n.0) × (value h (node n.0 HeadWord) ≡ v)
+SuccessorIsToldAt m c h v (Key route head n) = SuccessorStandsAt m c h route n.0 × HasHead h route n.0 head × (value h (node n.0 KeyWord) ≡ v)
 SuccessorIsToldAt m c h v (Value key n) = HasLeaf m c h n.0 key × (value h (node n.0 ValueWord) ≡ v)
-SuccessorIsToldAt m c h v (Validate asked found) = (begin : History) × Validates m c h begin found × VlxIsReady m.snaps.items asked (from c begin) h (Some v)
+SuccessorIsToldAt m c h v (Validate asked found) = (begin : History) × SuccessorValidates m c h begin found × VlxIsReady m.snaps.items asked (begun_at c begin) h (Some v)
 
 -- Its try
 
@@ -168,32 +168,32 @@ WalksInTry m c h begin turn Root = BeginsTry c h m.limit m.tries × (m.snaps.ite
 WalksInTry m c h begin turn _ = IsInTry c h begin m.limit m.tries
 
 -- so it is at any place
-abbrev pub StandsInTry : SuccessorRun → Call → History → History → SuccessorAt → Type 0
-StandsInTry m c h begin (Walk walk turn) = WalksInTry m c h begin turn walk.at
-StandsInTry m c h begin _ = IsInTry c h begin m.limit m.tries
+abbrev pub SuccessorStandsInTry : SuccessorRun → Call → History → History → SuccessorAt → Type 0
+SuccessorStandsInTry m c h begin (Walk walk turn) = WalksInTry m c h begin turn walk.at
+SuccessorStandsInTry m c h begin _ = IsInTry c h begin m.limit m.tries
 
 -- it waits for this step where it stands; what it knows is of its try, which is the call from the
 -- moment `begin` on
 abbrev pub SuccessorWaits : SuccessorRun → Call → History → Step → Type 0
-SuccessorWaits m c h s = (begin : History) × StandsInTry m c h begin m.at × Goes m (from c begin) h × SuccessorWaitsAt m (from c begin) h s m.at
+SuccessorWaits m c h s = (begin : History) × SuccessorStandsInTry m c h begin m.at × SuccessorGoes m (begun_at c begin) h × SuccessorWaitsAt m (begun_at c begin) h s m.at
 
 -- it may be called with this: with nothing at its start, then with what its step told by an own row
 abbrev pub SuccessorIsReady : SuccessorRun → Call → History → Option ℕ → Type 0
-SuccessorIsReady m c h None = Goes m c h × (m.at ≡ Start) × BeginsTry c h m.limit m.tries
-SuccessorIsReady m c h (Some v) = (begin : History) × IsInTry c h begin m.limit m.tries × Goes m (from c begin) h × IsOwnMoment (from c begin) h × SuccessorIsToldAt m (from c begin) h v m.at
+SuccessorIsReady m c h None = SuccessorGoes m c h × (m.at ≡ Start) × BeginsTry c h m.limit m.tries
+SuccessorIsReady m c h (Some v) = (begin : History) × IsInTry c h begin m.limit m.tries × SuccessorGoes m (begun_at c begin) h × IsOwnMoment (begun_at c begin) h × SuccessorIsToldAt m (begun_at c begin) h v m.at
 
 -- What it answers
 
 -- what its answer says: the map's reply at a moment of the call; or that all tries were lost, and
 -- who was in the way of the last
-abbrev pub SuccessorSays : SuccessorRun → Call → History → Result (Option Pair) Refused → Type 0
-SuccessorSays m c h (Ok found) = IsReplyAt c h (Successor m.key) (pair_or_none found)
-SuccessorSays m c h (Err (Contended n s)) = IsContended c h n.0 s.0 × (m.tries ≡ 0) × HasLostTriesTo c.pass h c.start m.limit n.0 s.0
-SuccessorSays m c h (Err NoMemory) = Unit {0}
+abbrev pub IsSuccessorAnswer : SuccessorRun → Call → History → Result (Option Pair) Refused → Type 0
+IsSuccessorAnswer m c h (Ok found) = IsReplyAt c h (Successor m.key) (pair_or_none found)
+IsSuccessorAnswer m c h (Err (Contended n s)) = IsContended c h n.0 s.0 × (m.tries ≡ 0) × HasLostTriesTo c.pass h c.start m.limit n.0 s.0
+IsSuccessorAnswer m c h (Err NoMemory) = Unit {0}
 
 -- and behind it the pass is at rest
 abbrev pub SuccessorAnswers : SuccessorRun → Call → History → Result (Option Pair) Refused → Type 0
-SuccessorAnswers m c h answer = AreFinished c.layout c.pass 0 h × SuccessorSays m c h answer
+SuccessorAnswers m c h answer = AreFinished c.layout c.pass 0 h × IsSuccessorAnswer m c h answer
 
 -- it waits for the step that it asks for, or its answer is right
 abbrev pub SuccessorTurn : Call → History → SuccessorRun → Turn (Result (Option Pair) Refused) → Type 0

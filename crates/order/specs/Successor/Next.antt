@@ -9,12 +9,12 @@ use Rattle.arena.specs.Machines.{Call}
 use Rattle.prims.specs.Llx.Known.{load}
 use Rattle.prims.specs.Snap.{snap_at}
 use Rattle.prims.specs.declared.llx.LlxAt.TheVariants.{Marked}
-use Rattle.spelling.specs.TreeWords.{level}
+use Rattle.ordered_map.specs.TreeWords.{level}
 use Rattle.template.specs.Trails.{IsOwnMoment}
-use Rattle.order.specs.Reads.{from, Whenever}
+use Rattle.order.specs.Reads.{begun_at, Whenever}
 use Rattle.order.specs.Tries.{IsInTry}
-use Rattle.order.specs.Search.{IsNextAt}
-use Rattle.order.specs.Successor.Known.{Goes, HasHead, HasLeaf, LooksAt, StandsAt, SuccessorAnswers}
+use Rattle.order.specs.Laws.Search.{IsNextAt}
+use Rattle.order.specs.Successor.Known.{SuccessorGoes, HasHead, HasLeaf, LooksAt, SuccessorStandsAt, SuccessorAnswers}
 use Rattle.order.specs.Successor.Steps.{behind}
 use Rattle.order.specs.declared.refused.Refused.{Refused}
 use Rattle.order.specs.declared.refused.Refused.TheVariants.{NoMemory}
@@ -24,53 +24,53 @@ use Rattle.order.specs.declared.successor.SuccessorNext.TheVariants.{Look as Loo
 use Rattle.order.specs.declared.successor.SuccessorRun.{SuccessorRun}
 
 -- the successor where it stands once this has begun
-abbrev pub placed : SuccessorRun → SuccessorNext → SuccessorRun
-placed m (LookNext route level side n) = record m { at = Look route level side record { node = n; at = Marked } }
-placed m (HeadNext route above n) = record m { at = Head route above n }
-placed m (KeyNext route head n) = record m { at = Key route head n }
-placed m (ValueNext key n) = record m { at = Value key n }
-placed m (ValidateNext found) = record m { at = Validate 1 found }
+abbrev pub successor_placed : SuccessorRun → SuccessorNext → SuccessorRun
+successor_placed m (LookNext route level side n) = record m { at = Look route level side record { node = n; at = Marked } }
+successor_placed m (HeadNext route above n) = record m { at = Head route above n }
+successor_placed m (KeyNext route head n) = record m { at = Key route head n }
+successor_placed m (ValueNext key n) = record m { at = Value key n }
+successor_placed m (ValidateNext found) = record m { at = Validate 1 found }
 
 -- the step with which it begins
-abbrev pub next_step : SuccessorRun → SuccessorNext → Step
-next_step m (LookNext route level side n) = load LoadMarked (marked n.0)
-next_step m (HeadNext route above n) = load LoadSettled (node n.0 HeadWord)
-next_step m (KeyNext route head n) = load LoadSettled (node n.0 KeyWord)
-next_step m (ValueNext key n) = load LoadSettled (node n.0 ValueWord)
-next_step m (ValidateNext found) = load LoadInfo (info (snap_at m.snaps.items 0).node.0)
+abbrev pub successor_next_step : SuccessorRun → SuccessorNext → Step
+successor_next_step m (LookNext route level side n) = load LoadMarked (marked n.0)
+successor_next_step m (HeadNext route above n) = load LoadSettled (node n.0 HeadWord)
+successor_next_step m (KeyNext route head n) = load LoadSettled (node n.0 KeyWord)
+successor_next_step m (ValueNext key n) = load LoadSettled (node n.0 ValueWord)
+successor_next_step m (ValidateNext found) = load LoadInfo (info (snap_at m.snaps.items 0).node.0)
 
 -- what it knows when this may come next
-abbrev pub MayDo : SuccessorRun → Call → History → SuccessorNext → Type 0
-MayDo m c h (LookNext route low side n) = LooksAt m c h route low side n.0
-MayDo m c h (HeadNext route above n) = StandsAt m c h route n.0 × (above < level (value h) n.0)
-MayDo m c h (KeyNext route head n) = StandsAt m c h route n.0 × HasHead h route n.0 head
-MayDo m c h (ValueNext key n) = HasLeaf m c h n.0 key
-MayDo m c h (ValidateNext found) = IsOwnMoment c h × (0 < length m.snaps.items) × Whenever c.layout h m.snaps.items (λ b. IsNextAt c.layout b m.key found)
+abbrev pub SuccessorMayDo : SuccessorRun → Call → History → SuccessorNext → Type 0
+SuccessorMayDo m c h (LookNext route low side n) = LooksAt m c h route low side n.0
+SuccessorMayDo m c h (HeadNext route above n) = SuccessorStandsAt m c h route n.0 × (above < level (value h) n.0)
+SuccessorMayDo m c h (KeyNext route head n) = SuccessorStandsAt m c h route n.0 × HasHead h route n.0 head
+SuccessorMayDo m c h (ValueNext key n) = HasLeaf m c h n.0 key
+SuccessorMayDo m c h (ValidateNext found) = IsOwnMoment c h × (0 < length m.snaps.items) × Whenever c.layout h m.snaps.items (λ b. IsNextAt c.layout b m.key found)
 
 -- so it is in some try of the call, from whose begin on it knows that
-abbrev pub MayGoOn : Call → History → SuccessorRun → SuccessorNext → Type 0
-MayGoOn c h m next = (begin : History) × IsInTry c h begin m.limit m.tries × Goes m (from c begin) h × MayDo m (from c begin) h next
+abbrev pub SuccessorMayGoOn : Call → History → SuccessorRun → SuccessorNext → Type 0
+SuccessorMayGoOn c h m next = (begin : History) × IsInTry c h begin m.limit m.tries × SuccessorGoes m (begun_at c begin) h × SuccessorMayDo m (begun_at c begin) h next
 
 -- it goes on so; or it ends, for want of memory
-abbrev pub GoesOn : Call → History → SuccessorRun → Result SuccessorNext Refused → Type 0
-GoesOn c h m (Ok next) = Goes m c h × MayDo m c h next
-GoesOn c h m (Err refused) = (refused ≡ NoMemory) × SuccessorAnswers m c h (Err refused)
+abbrev pub SuccessorGoesOn : Call → History → SuccessorRun → Result SuccessorNext Refused → Type 0
+SuccessorGoesOn c h m (Ok next) = SuccessorGoes m c h × SuccessorMayDo m c h next
+SuccessorGoesOn c h m (Err refused) = (refused ≡ NoMemory) × SuccessorAnswers m c h (Err refused)
 
 -- how many steps are left in this try before this has begun
-abbrev pub next_left : SuccessorRun → ℕ → SuccessorNext → ℕ
-next_left m nodes (LookNext route level side n) = 64 + length m.snaps.items + 1 + 67 * (1 + nodes - level) + behind route nodes
-next_left m nodes (HeadNext route above n) = length m.snaps.items + 67 * (1 + nodes - above) + behind route nodes
-next_left m nodes (KeyNext route head n) = length m.snaps.items + 67 * (2 + nodes - head.level) - 1 + behind route nodes
-next_left m nodes (ValueNext key n) = length m.snaps.items + 1
-next_left m nodes (ValidateNext found) = length m.snaps.items
+abbrev pub successor_next_left : SuccessorRun → ℕ → SuccessorNext → ℕ
+successor_next_left m nodes (LookNext route level side n) = 64 + length m.snaps.items + 1 + 67 * (1 + nodes - level) + behind route nodes
+successor_next_left m nodes (HeadNext route above n) = length m.snaps.items + 67 * (1 + nodes - above) + behind route nodes
+successor_next_left m nodes (KeyNext route head n) = length m.snaps.items + 67 * (2 + nodes - head.level) - 1 + behind route nodes
+successor_next_left m nodes (ValueNext key n) = length m.snaps.items + 1
+successor_next_left m nodes (ValidateNext found) = length m.snaps.items
 
 -- the node of this is not deeper than the taken nodes allow
-abbrev pub NextFits : SuccessorNext → ℕ → Type 0
-NextFits (LookNext route level side n) nodes = level + 1 < 2 + nodes
-NextFits (HeadNext route above n) nodes = above + 1 < 2 + nodes
-NextFits (KeyNext route head n) nodes = head.level < 2 + nodes
-NextFits _ nodes = Unit {0}
+abbrev pub SuccessorNextFits : SuccessorNext → ℕ → Type 0
+SuccessorNextFits (LookNext route level side n) nodes = level + 1 < 2 + nodes
+SuccessorNextFits (HeadNext route above n) nodes = above + 1 < 2 + nodes
+SuccessorNextFits (KeyNext route head n) nodes = head.level < 2 + nodes
+SuccessorNextFits _ nodes = Unit {0}
 
 -- at most n steps are left then
-abbrev pub ComesNearer : SuccessorRun → SuccessorNext → ℕ → ℕ → Type 0
-ComesNearer m next nodes n = NextFits next nodes × (next_left m nodes next ≤ n)
+abbrev pub SuccessorComesNearer : SuccessorRun → SuccessorNext → ℕ → ℕ → Type 0
+SuccessorComesNearer m next nodes n = SuccessorNextFits next nodes × (successor_next_left m nodes next ≤ n)

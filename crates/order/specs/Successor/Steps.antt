@@ -9,7 +9,7 @@ use Rattle.arena.specs.declared.number.NodeNo.{NodeNo}
 use Rattle.arena.specs.declared.word.Side.TheVariants.{Left}
 use Rattle.prims.specs.Llx.Steps.{llx_left}
 use Rattle.prims.specs.Vlx.Steps.{vlx_left}
-use Rattle.spelling.specs.declared.pair.Pair.{Pair}
+use Rattle.ordered_map.specs.declared.pair.Pair.{Pair}
 use Rattle.std.specs.Prelude.{Result}
 use Rattle.template.specs.Walk.Steps.{walk_left, WalkFits}
 use Rattle.template.specs.declared.walk.WalkAt.{WalkAt}
@@ -27,8 +27,8 @@ last_turn (Child level Left) node turn = node
 last_turn _ node turn = turn
 
 -- how many steps a try may ask for, where no more nodes than these are taken
-abbrev pub try_left : ℕ → ℕ
-try_left nodes = 137 * (2 + nodes)
+abbrev pub successor_try_left : ℕ → ℕ
+successor_try_left nodes = 137 * (2 + nodes)
 
 -- the second path is still to go
 abbrev pub behind : Route → ℕ → ℕ
@@ -36,22 +36,22 @@ behind Along nodes = 67 * (2 + nodes)
 behind Beyond nodes = 0
 
 -- how many steps are left in this try at this place
-abbrev pub phase_left : SuccessorRun → ℕ → SuccessorAt → ℕ
-phase_left m nodes Start = try_left nodes
-phase_left m nodes (Walk walk turn) = walk_left walk.at nodes + length m.snaps.items + 134 * (2 + nodes)
-phase_left m nodes (Look route level side llx) = llx_left llx.at + length m.snaps.items + 1 + 67 * (1 + nodes - level) + behind route nodes
-phase_left m nodes (Head route above node) = length m.snaps.items + 67 * (1 + nodes - above) - 1 + behind route nodes
-phase_left m nodes (Key route head node) = length m.snaps.items + 67 * (2 + nodes - head.level) - 2 + behind route nodes
-phase_left m nodes (Value key node) = length m.snaps.items
-phase_left m nodes (Validate asked found) = vlx_left m.snaps.items asked
+abbrev pub successor_phase_left : SuccessorRun → ℕ → SuccessorAt → ℕ
+successor_phase_left m nodes Start = successor_try_left nodes
+successor_phase_left m nodes (Walk walk turn) = walk_left walk.at nodes + length m.snaps.items + 134 * (2 + nodes)
+successor_phase_left m nodes (Look route level side llx) = llx_left llx.at + length m.snaps.items + 1 + 67 * (1 + nodes - level) + behind route nodes
+successor_phase_left m nodes (Head route above node) = length m.snaps.items + 67 * (1 + nodes - above) - 1 + behind route nodes
+successor_phase_left m nodes (Key route head node) = length m.snaps.items + 67 * (2 + nodes - head.level) - 2 + behind route nodes
+successor_phase_left m nodes (Value key node) = length m.snaps.items
+successor_phase_left m nodes (Validate asked found) = vlx_left m.snaps.items asked
 
 -- how many steps are left
 abbrev pub successor_left : SuccessorRun → ℕ → ℕ
-successor_left m nodes = m.tries * try_left nodes + phase_left m nodes m.at
+successor_left m nodes = m.tries * successor_try_left nodes + successor_phase_left m nodes m.at
 
 -- where the run asks for a step, fewer than n are left then
-abbrev pub IsNearer : SuccessorRun → ℕ → Turn (Result (Option Pair) Refused) → ℕ → Type 0
-IsNearer m nodes turn n = MatchTurn turn (λ _. successor_left m nodes < n) (λ _. Unit {0})
+abbrev pub SuccessorIsNearer : SuccessorRun → ℕ → Turn (Result (Option Pair) Refused) → ℕ → Type 0
+SuccessorIsNearer m nodes turn n = MatchTurn turn (λ _. successor_left m nodes < n) (λ _. Unit {0})
 
 -- a node of this head is not deeper than the taken nodes allow, nor are the children of a fork
 abbrev pub HeadFits : HeadParts → ℕ → Type 0

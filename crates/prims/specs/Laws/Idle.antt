@@ -18,7 +18,7 @@ use Rattle.arena.specs.Machines.{Call, row_of}
 use Rattle.arena.proofs.Lemmas.{value_at, value_apart, node_apart, node_word_apart, held_at, held_split, held_back, same_moment}
 use Rattle.histories.proofs.Lemmas.{Effect, effect, facts_before, finished_stays, freeze, named_scx_back, named_scx_taken, one_scx_owner, quiet, update, update_keeps_info}
 use Rattle.help.specs.Help.Known.{help_step, HelpWaits}
-use Rattle.help.specs.Help.Lawful.{exchange_of}
+use Rattle.help.specs.Laws.Help.Lawful.{exchange_of}
 use Rattle.help.specs.declared.state.HelpRun.{HelpRun}
 use Rattle.help.specs.declared.state.HelpAt.{HelpAt}
 use Rattle.help.specs.declared.state.HelpAt.TheVariants.{Start as HelpStart, Plan as AtPlan, Member as AtMember, Seen as AtSeen, Freeze as AtFreeze, AllFrozen as AtAllFrozen, Abort as AtAbort, SetFrozen as AtSetFrozen, Mark as AtMark, New as AtNew, Old as AtOld, Update as AtUpdate, Commit as AtCommit}

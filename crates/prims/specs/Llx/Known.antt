@@ -183,7 +183,7 @@ pub record LlxAsks (old now : LlxRun) (turn : Turn Llx) (at : LlxAt) (step : Ste
 
 -- the run asks for the left field: the SCX-record that it met is
 -- aborted, or it is committed and the node has no mark
-pub record Reads (old now : LlxRun) (turn : Turn Llx) (b : Bool) (s : ScxNo) (v : ℕ) (again : Bool) : Type 0 where
+pub record ReadsLeft (old now : LlxRun) (turn : Turn Llx) (b : Bool) (s : ScxNo) (v : ℕ) (again : Bool) : Type 0 where
   pub in_place : (v ≡ 2) ⊎ ((v ≡ 1) × (again ≡ false))
   pub asks : LlxAsks old now turn (AtLeft b s) (load LoadChild (child old.node.0 Left))
 

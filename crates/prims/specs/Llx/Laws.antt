@@ -16,9 +16,9 @@ use Rattle.arena.specs.Machines.{IsRun, Call, row_of, IsTold}
 use Rattle.arena.specs.Found.{HasFound}
 use Rattle.arena.proofs.Lemmas.{last_now, found_more, value_at, held_more, ends_self}
 use Rattle.histories.proofs.Lemmas.{earlier, finished_stays, lawful_more, marked_stays, named_scx_inside, shaped_more, state_stays}
-use Rattle.help.specs.Help.Kept.{help_keeps}
-use Rattle.help.specs.Help.Lawful.{help_lawful, help_looks_not}
-use Rattle.help.specs.Help.Made.{help_made}
+use Rattle.help.specs.Laws.Help.Kept.{help_keeps}
+use Rattle.help.specs.Laws.Help.Lawful.{help_lawful, help_looks_not}
+use Rattle.help.specs.Laws.Help.Made.{help_made}
 use Rattle.prims.specs.Laws.FoundThere.{there_more, found_there}
 use Rattle.prims.specs.Laws.Idle.{IsIdle, idle_by_others, idle_by_no_freeze, idle_by_help, quiet_more}
 use Rattle.prims.specs.Laws.InTheWay.{been_more, disturbed_more}

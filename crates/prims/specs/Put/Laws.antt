@@ -13,7 +13,7 @@ use Rattle.arena.specs.Lawful.{Lawful}
 use Rattle.arena.specs.Machines.{IsRun, Call, row_of, IsTold}
 use Rattle.arena.proofs.Lemmas.{named_before, named_scx_before, value_at, value_apart, held_back, node_word_apart, taken_node_more, fill_takes_node}
 use Rattle.histories.proofs.Lemmas.{lawful_more, own_node_inside, shaped_more}
-use Rattle.help.specs.Help.Allowing.{later_self, later_trans}
+use Rattle.help.specs.Laws.Help.Allowing.{later_self, later_trans}
 use Rattle.prims.specs.Cells.{AllowsAll}
 use Rattle.prims.specs.Laws.Linked.{linked_more}
 use Rattle.prims.specs.Snap.{snap_at}
@@ -23,7 +23,7 @@ use Rattle.prims.specs.Laws.BlankRows.{Spares, spared_by_others, spared_by_value
 use Rattle.prims.specs.Laws.Begun.{takes_by_others, takes_by_node, way_more}
 use Rattle.prims.specs.Scx.Known.{job_of, InHand}
 use Rattle.prims.specs.Scx.Laws.{taken_more, hand_kept, scx_keeps, scx_lawful}
-use Rattle.prims.specs.Scx.Made.{scx_made, scx_value, scx_spares}
+use Rattle.prims.specs.Laws.Scx.Made.{scx_made, scx_value, scx_spares}
 use Rattle.prims.specs.Put.Known.{PutHand, HasValue, put_step, PutWaitsAt, PutIsToldAt, PutWaits, PutIsReady}
 use Rattle.prims.specs.declared.put.PutRun.{PutRun}
 use Rattle.prims.specs.declared.put.PutAt.{PutAt}

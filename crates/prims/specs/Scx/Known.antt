@@ -126,8 +126,8 @@ abbrev pub IsFilledThen : ℕ → ScxAt → ScxWord → Type 0
 IsFilledThen k at part = IsFilled k at part ⊎ (part_at at ≡ part)
 
 -- those words of the SCX-record that are filled hold what they are to hold
-abbrev pub Holds : History → Job → (ScxWord → Type 0) → Type 0
-Holds h m P = (part : ScxWord) → P part → value h (scx m.scx.0 part) ≡ wanted m part
+abbrev pub HoldsWanted : History → Job → (ScxWord → Type 0) → Type 0
+HoldsWanted h m P = (part : ScxWord) → P part → value h (scx m.scx.0 part) ≡ wanted m part
 
 -- the place is one for the update's k nodes, where it is one for a node
 abbrev pub IsWithin : ℕ → ScxAt → Type 0
@@ -140,7 +140,7 @@ pub record Fills (allows : Layout → History → ℕ → Type 0) (c : Call) (h 
   pub hand : InHand allows c.layout c.pass h m
   pub way : IsUnderWay c h m.scx.0 m.update.snaps
   pub within : IsWithin (length m.update.snaps) at
-  pub filled : Holds h m (IsFilled (length m.update.snaps) at)
+  pub filled : HoldsWanted h m (IsFilled (length m.update.snaps) at)
 
 -- the fill of this word with what it is to hold
 abbrev pub fill_step : Job → ScxWord → Step
@@ -156,7 +156,7 @@ pub record FillMade (allows : Layout → History → ℕ → Type 0) (c : Call) 
   pub hand : InHand allows c.layout c.pass h m
   pub way : IsUnderWay c h m.scx.0 m.update.snaps
   pub within : IsWithin (length m.update.snaps) at
-  pub filled : Holds h m (IsFilledThen (length m.update.snaps) at)
+  pub filled : HoldsWanted h m (IsFilledThen (length m.update.snaps) at)
 
 -- the settled words of the pass's SCX-record s hold what the update wants
 pub record HasFilled (c : Call) (h : History) (s number : ℕ) (u : Update) : Type 0 where

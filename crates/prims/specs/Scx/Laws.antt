@@ -13,9 +13,9 @@ use Rattle.arena.specs.Fills.{IsInField, IsTakenScx, MayFill}
 use Rattle.arena.specs.Lawful.{Lawful}
 use Rattle.arena.specs.Machines.{IsRun, Call, row_of}
 use Rattle.histories.proofs.Lemmas.{IsScxFill, field_back, lawful_more, one_node_owner, own_scx_inside, own_words_stay, shaped_more, stays_free, stays_unnamed, word_back}
-use Rattle.help.specs.Help.Allowing.{allowed_more}
-use Rattle.help.specs.Help.Kept.{help_keeps}
-use Rattle.help.specs.Help.Lawful.{help_lawful, index_small}
+use Rattle.help.specs.Laws.Help.Allowing.{allowed_more}
+use Rattle.help.specs.Laws.Help.Kept.{help_keeps}
+use Rattle.help.specs.Laws.Help.Lawful.{help_lawful, index_small}
 use Rattle.prims.specs.Laws.Linked.{linked_more, in_field_named}
 use Rattle.arena.specs.declared.word.Side.{Side}
 use Rattle.prims.specs.Snap.{child_of, snap_at}

@@ -41,28 +41,28 @@ HasFoundFirst c h start snaps k = (i : ℕ) → i < k → HasFoundThere c h star
 
 -- as the call began, all snapshots were usable, and the infos of the first k nodes were what they
 -- had found; the call has looked at each of these
-pub record HasLooked (c : Call) (h : History) (snaps : List Snap) (k : ℕ) : Type 0 where
+pub record HasFoundUnchanged (c : Call) (h : History) (snaps : List Snap) (k : ℕ) : Type 0 where
   pub begun : HasBegun c h 0 snaps
   pub linked : AllLinked c.layout c.start snaps
   pub same : (i : ℕ) → i < k → value c.start (info (snap_at snaps i).node.0) ≡ (snap_at snaps i).scx.0
   pub asked : HasFoundFirst c.pass h c.start snaps k
 
 -- a run over these snapshots, which has asked for n infos, has asked for that of the k-th last
-pub record Looks (c : Call) (h : History) (snaps : List Snap) (n k : ℕ) : Type 0 where
-  pub looked : HasLooked c h snaps k
+pub record LooksAtInfos (c : Call) (h : History) (snaps : List Snap) (n k : ℕ) : Type 0 where
+  pub looked : HasFoundUnchanged c h snaps k
   pub within : k < length snaps
   pub is : n ≡ suc k
 
 -- a run of VLX, having asked for n infos, waits for this step
 pub record VlxWaits (snaps : List Snap) (n : ℕ) (c : Call) (h : History) (step : Step) : Type 0 where
   pub index : ℕ
-  pub looks : Looks c h snaps n index
+  pub looks : LooksAtInfos c h snaps n index
   pub asked : step ≡ load LoadInfo (info (snap_at snaps index).node.0)
 
 -- what holds once the last info that the run has asked for has told v
 pub record VlxIsTold (snaps : List Snap) (n : ℕ) (c : Call) (h : History) (v : ℕ) : Type 0 where
   pub index : ℕ
-  pub looks : Looks c h snaps n index
+  pub looks : LooksAtInfos c h snaps n index
   pub told : value h (info (snap_at snaps index).node.0) ≡ v
   pub found : HasFound c.pass h c.start LoadInfo (snap_at snaps index).node.0 v
 

@@ -19,18 +19,18 @@ use Rattle.prims.specs.Laws.FoundThere.{found_there, there_more}
 use Rattle.prims.specs.Moments.{IsAsFound}
 use Rattle.prims.specs.Laws.Begun.{TakesOnly, takes_by_others, takes_by_step, begun_more}
 use Rattle.prims.specs.Laws.Blamed.{blamed_now}
-use Rattle.prims.specs.Looked.{found_at}
+use Rattle.prims.specs.Laws.Looked.{found_at}
 use Rattle.prims.specs.declared.snap.Snap.{Snap}
 use Rattle.prims.specs.Snap.{snap_at}
 use Rattle.prims.specs.Llx.Known.{load}
-use Rattle.prims.specs.Vlx.Known.{HasFoundFirst, IsSame, HasLooked, Looks, VlxWaits, VlxIsTold, VlxIsReady, VlxAnswers, IsFirstChange, AsksNext, IsThrough}
+use Rattle.prims.specs.Vlx.Known.{HasFoundFirst, IsSame, HasFoundUnchanged, LooksAtInfos, VlxWaits, VlxIsTold, VlxIsReady, VlxAnswers, IsFirstChange, AsksNext, IsThrough}
 use Rattle.prims.specs.declared.vlx.Vlx.{Vlx}
 
 -- what it has found so it has found after any row
 first_found_more : (c : ℕ) (h start : History) (r : Row) (snaps : List Snap) (k : ℕ) → HasFoundFirst c h start snaps k → HasFoundFirst c (r ⊳ h) start snaps k
 first_found_more c h start r snaps k x i p = there_more c h start _ _ r (x i p)
 
-looks_more : (c : Call) (h : History) (r : Row) (snaps : List Snap) (asked k : ℕ) → TakesOnly c.layout c.pass 0 h r → Looks c h snaps asked k → Looks c (r ⊳ h) snaps asked k
+looks_more : (c : Call) (h : History) (r : Row) (snaps : List Snap) (asked k : ℕ) → TakesOnly c.layout c.pass 0 h r → LooksAtInfos c h snaps asked k → LooksAtInfos c (r ⊳ h) snaps asked k
 looks_more c h r snaps asked k takes x = record { looked = record { begun = begun_more c h r 0 snaps takes x.looked.begun; linked = x.looked.linked; same = x.looked.same; asked = first_found_more c.pass h c.start r snaps k x.looked.asked }; within = x.within; is = x.is }
 
 -- rows of other passes leave a run of VLX waiting for the same step
@@ -52,7 +52,7 @@ abbrev pub VlxTurn : List Snap → ℕ → Call → History → Turn Vlx → Typ
 VlxTurn snaps asked c h turn = MatchTurn turn (VlxWaits snaps asked c h) (VlxAnswers snaps c h)
 
 -- once all infos were looked at and were as found, the nodes were as their snapshots found them
-pub all_same : (c : Call) (h : History) (snaps : List Snap) → Lawful c.layout h → HasLooked c h snaps (length snaps) → IsSame c h snaps
+pub all_same : (c : Call) (h : History) (snaps : List Snap) → Lawful c.layout h → HasFoundUnchanged c h snaps (length snaps) → IsSame c h snaps
 all_same c h snaps l x = record { since = x.begun.since; linked = x.linked; info = x.same; found = λ i w. found i w; asked = x.asked }
   where
     ls : Lawful c.layout c.start
@@ -62,17 +62,17 @@ all_same c h snaps l x = record { since = x.begun.since; linked = x.linked; info
     found i w = found_at c h (snap_at snaps i) l x.begun.since (x.linked i w) (x.same i w)
 
 -- a run that has looked at n infos and asks for the next waits for it
-pub looks_next : (c : Call) (h : History) (snaps : List Snap) (n : ℕ) → HasLooked c h snaps n → n < length snaps → VlxWaits snaps (suc n) c h (load LoadInfo (info (snap_at snaps n).node.0))
+pub looks_next : (c : Call) (h : History) (snaps : List Snap) (n : ℕ) → HasFoundUnchanged c h snaps n → n < length snaps → VlxWaits snaps (suc n) c h (load LoadInfo (info (snap_at snaps n).node.0))
 looks_next c h snaps n x i = record { index = n; looks = record { looked = x; within = i; is = refl }; asked = refl }
 
-turn_next : (c : Call) (h : History) (snaps : List Snap) (old now : ℕ) (turn : Turn Vlx) → Lawful c.layout h → HasLooked c h snaps old → old ≤ length snaps → AsksNext snaps old now turn ⊎ IsThrough snaps old now turn → VlxTurn snaps now c h turn
+turn_next : (c : Call) (h : History) (snaps : List Snap) (old now : ℕ) (turn : Turn Vlx) → Lawful c.layout h → HasFoundUnchanged c h snaps old → old ≤ length snaps → AsksNext snaps old now turn ⊎ IsThrough snaps old now turn → VlxTurn snaps now c h turn
 turn_next c h snaps old now turn l x i (inl a) = rw (a.asked, a.stands) (looks_next c h snaps old x a.within)
 turn_next c h snaps old now turn l x i (inr a) =
     let e : length snaps ≡ old = let y = a.through in omega arith in
     rw a.done (all_same c h snaps l (rw e x))
 
 -- a run at its start has looked at no info yet
-pub first_looked : (c : Call) (h : History) (snaps : List Snap) (asked : ℕ) → VlxIsReady snaps asked c h None → HasLooked c h snaps asked
+pub first_looked : (c : Call) (h : History) (snaps : List Snap) (asked : ℕ) → VlxIsReady snaps asked c h None → HasFoundUnchanged c h snaps asked
 first_looked c h snaps asked r = record {
   begun = record { since = rw r.begins (ends_self c.start); clear = rw r.begins at r.clear; only = λ t own d free. rw r.begins free };
   linked = rw r.begins at r.linked;
@@ -86,10 +86,10 @@ first_asks c h snaps old now turn r (inl a) = rw a.asked tt
 first_asks c h snaps old now turn r (inr a) = let x = a.through in let e = r.asked in let i = r.some in absurd (omega arith)
 
 -- one more snapshot is still what the info names, so it was at the moment
-one_more : (c : Call) (h : History) (snaps : List Snap) (asked : ℕ) (v : ℕ) → Lawful c.layout h → (x : VlxIsTold snaps asked c h v) → (snap_at snaps x.index).scx.0 ≡ v → HasLooked c h snaps asked
+one_more : (c : Call) (h : History) (snaps : List Snap) (asked : ℕ) (v : ℕ) → Lawful c.layout h → (x : VlxIsTold snaps asked c h v) → (snap_at snaps x.index).scx.0 ≡ v → HasFoundUnchanged c h snaps asked
 one_more c h snaps asked v l x e = record { begun = y.begun; linked = y.linked; same = λ i p. go i p (ℕ_discrete i x.index); asked = λ i p. looked i p (ℕ_discrete i x.index) }
   where
-    y : HasLooked c h snaps x.index
+    y : HasFoundUnchanged c h snaps x.index
     y = x.looks.looked
 
     here : value c.start (info (snap_at snaps x.index).node.0) ≡ (snap_at snaps x.index).scx.0
@@ -137,7 +137,7 @@ pub turn_first : (c : Call) (h : History) (snaps : List Snap) (old now : ℕ) (t
 turn_first c h snaps old now turn l r a = turn_next c h snaps old now turn l (first_looked c h snaps old r) (let e = r.asked in omega arith) a
 
 -- where the info is what the snapshot found, the run has looked at one node more
-pub looked_on : (c : Call) (h : History) (snaps : List Snap) (asked k v : ℕ) → Lawful c.layout h → VlxIsTold snaps asked c h v → suc k ≡ asked → (snap_at snaps k).scx.0 ≡ v → HasLooked c h snaps asked
+pub looked_on : (c : Call) (h : History) (snaps : List Snap) (asked k v : ℕ) → Lawful c.layout h → VlxIsTold snaps asked c h v → suc k ≡ asked → (snap_at snaps k).scx.0 ≡ v → HasFoundUnchanged c h snaps asked
 looked_on c h snaps asked k v l x e q =
     let i : k ≡ x.index = let y = x.looks.is in omega arith in
     one_more c h snaps asked v l x (rw i at q)

@@ -2,9 +2,9 @@
 use Rattle.std.specs.Prelude.{ℕ, Bool, true, false, Option, Some, None}
 use Rattle.arena.specs.declared.layout.Layout.{Layout}
 use Rattle.arena.specs.History.{History}
-use Rattle.spelling.specs.OrderedMap.{Delete}
-use Rattle.spelling.specs.Runs.{Makes}
-use Rattle.spelling.specs.declared.reply.Reply.TheVariants.{Value, Contended, Full}
+use Rattle.ordered_map.specs.OrderedMap.{Delete}
+use Rattle.ordered_map.specs.Runs.{Makes}
+use Rattle.ordered_map.specs.declared.reply.Reply.TheVariants.{Value, Contended, Full}
 use Rattle.record.specs.declared.record.Answer.{Answer}
 use Rattle.record.specs.declared.record.Answer.TheVariants.{Map}
 use Rattle.record.specs.Answers.{HasLostAllTries}

@@ -2,8 +2,8 @@
 use Rattle.std.specs.Prelude.{ℕ, false, Option}
 use Rattle.arena.specs.declared.layout.Layout.{Layout}
 use Rattle.arena.specs.History.{History}
-use Rattle.spelling.specs.Paths.{IsAnswerAt}
-use Rattle.spelling.specs.declared.reply.Reply.TheVariants.{Value}
+use Rattle.ordered_map.specs.Paths.{IsAnswerAt}
+use Rattle.ordered_map.specs.declared.reply.Reply.TheVariants.{Value}
 use Rattle.record.specs.declared.record.Answer.{Answer}
 use Rattle.record.specs.declared.record.Answer.TheVariants.{Map}
 use Rattle.record.specs.Rules.{MapRules}

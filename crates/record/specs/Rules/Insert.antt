@@ -2,10 +2,10 @@
 use Rattle.std.specs.Prelude.{ℕ, Bool, true, false, Option}
 use Rattle.arena.specs.declared.layout.Layout.{Layout}
 use Rattle.arena.specs.History.{History}
-use Rattle.spelling.specs.CallRules.{insert_nodes}
-use Rattle.spelling.specs.OrderedMap.{Insert}
-use Rattle.spelling.specs.Runs.{Makes}
-use Rattle.spelling.specs.declared.reply.Reply.TheVariants.{Value, Contended, Full}
+use Rattle.ordered_map.specs.CallRules.{insert_nodes}
+use Rattle.ordered_map.specs.OrderedMap.{Insert}
+use Rattle.ordered_map.specs.Runs.{Makes}
+use Rattle.ordered_map.specs.declared.reply.Reply.TheVariants.{Value, Contended, Full}
 use Rattle.record.specs.declared.record.Answer.{Answer}
 use Rattle.record.specs.declared.record.Answer.TheVariants.{Map}
 use Rattle.record.specs.Answers.{HasLostAllTries}

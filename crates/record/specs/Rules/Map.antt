@@ -1,6 +1,6 @@
 -- The rules of the calls of the map.
-use Rattle.spelling.specs.CallRules.{MayReply, call_rules, form_of, most_nodes, most_scx, most_steps}
-use Rattle.spelling.specs.OrderedMap.{MapCall, Edit, Insert, Delete, Get, Successor, Range}
+use Rattle.ordered_map.specs.CallRules.{MayReply, call_rules, form_of, most_nodes, most_scx, most_steps}
+use Rattle.ordered_map.specs.OrderedMap.{MapCall, Edit, Insert, Delete, Get, Successor, Range}
 use Rattle.record.specs.declared.record.Answer.{Answer}
 use Rattle.record.specs.declared.record.Answer.TheVariants.{Map}
 use Rattle.record.specs.MapRecord.{reply_told}

@@ -1,6 +1,6 @@
 //! A gate at which the clients' calls take turns.
 ghost use Rattle.std.specs.Prelude.{◌≡◌, ◌<◌, ℕ, slice_index};
-ghost use Rattle.runner.specs.Turns.{call_if, calls_of, in_turn};
+ghost use Rattle.runner.specs.Turns.{call_if, call_count, in_turn};
 
 use crate::answers::{Answers, MOST_LOOKS};
 use crate::counts::{CLIENTS, counts};
@@ -22,7 +22,7 @@ impl Alternate {
     /// The gate of a script. A call has waited in vain after 1,000,000,000 looks.
     pub fn new(script: &Script) -> Alternate
         ensures clients { result.clients ≡ script.now.layout.passes }
-        ensures counts { (c : ℕ) → c < CLIENTS → slice_index result.counts c ≡ calls_of script.now.calls.items c }
+        ensures counts { (c : ℕ) → c < CLIENTS → slice_index result.counts c ≡ call_count script.now.calls.items c }
         ensures looks { result.answers.most_looks ≡ 1000000000 }
     {
         Alternate::with_looks(script, MOST_LOOKS)
@@ -31,7 +31,7 @@ impl Alternate {
     /// The gate of a script, at which a call has waited in vain after so many looks.
     pub fn with_looks(script: &Script, most_looks: u64) -> Alternate
         ensures clients { result.clients ≡ script.now.layout.passes }
-        ensures counts { (c : ℕ) → c < CLIENTS → slice_index result.counts c ≡ calls_of script.now.calls.items c }
+        ensures counts { (c : ℕ) → c < CLIENTS → slice_index result.counts c ≡ call_count script.now.calls.items c }
         ensures looks { result.answers.most_looks ≡ most_looks }
     {
         Alternate {

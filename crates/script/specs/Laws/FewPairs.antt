@@ -4,7 +4,7 @@ use Rattle.std.proofs.Math.Bridge.{le_prop}
 use Rattle.script.specs.Commands.{AsksForFewPairs}
 use Rattle.script.specs.declared.command.Command.{Command}
 use Rattle.script.specs.declared.command.Command.TheVariants.{Map}
-use Rattle.spelling.specs.declared.request.Request.TheVariants.{Range}
+use Rattle.ordered_map.specs.declared.request.Request.TheVariants.{Range}
 
 -- it asks for at most 64 pairs in one way at most
 pub few_prop : (command : Command) → IsProp (AsksForFewPairs command)

@@ -13,9 +13,9 @@ use Rattle.arena.specs.Words.{node}
 use Rattle.arena.specs.History.{History, value, Extends}
 use Rattle.arena.specs.Machines.{Call, MatchTurn}
 use Rattle.prims.specs.Llx.Known.{load}
-use Rattle.spelling.specs.Runs.{IsTreeRun}
-use Rattle.spelling.specs.TreeWords.{is_leaf, level, toward}
-use Rattle.template.specs.FoundLeaf.{path_key, asked_key, HasFound}
+use Rattle.ordered_map.specs.Runs.{IsTreeRun}
+use Rattle.ordered_map.specs.TreeWords.{is_leaf, level, toward}
+use Rattle.template.specs.FoundLeaf.{path_key, asked_key, HasFoundGoal}
 use Rattle.template.specs.Trails.{OnTrail, IsOwnMoment}
 use Rattle.template.specs.declared.walk.Found.{Found}
 use Rattle.template.specs.declared.walk.Goal.{Goal}
@@ -89,7 +89,7 @@ WalkIsReady m c h (Some v) = WalkIsTold m c h v
 
 -- the walk has found this leaf, to which it was to go
 abbrev pub WalkAnswers : WalkRun → Call → History → Found → Type 0
-WalkAnswers m c h f = HasFound m.goal c h f
+WalkAnswers m c h f = HasFoundGoal m.goal c h f
 
 -- a walk waits for the step of the turn, or its answer is right
 abbrev pub WalkTurn : Call → History → WalkRun → Turn Found → Type 0

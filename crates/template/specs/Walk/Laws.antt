@@ -16,11 +16,11 @@ use Rattle.arena.specs.Machines.{IsRun, Call, row_of, IsTold}
 use Rattle.arena.specs.TakenNodes.{taken_nodes}
 use Rattle.histories.proofs.Lemmas.{node_stays}
 use Rattle.prims.specs.Llx.Laws.{load_lawful, load_told}
-use Rattle.spelling.specs.Paths.{Passed}
-use Rattle.spelling.specs.Runs.{IsTreeRun}
-use Rattle.spelling.specs.TreeShape.{TreeAllows}
-use Rattle.spelling.specs.TreeWords.{level, toward}
-use Rattle.spelling.proofs.Lemmas.{walk_stays, walk_named, walk_inside, walk_first, walk_next, walk_rises, passed_depth, SameSettled, settled_leaf, settled_toward, settled_class, settled_level}
+use Rattle.ordered_map.specs.Paths.{Passed}
+use Rattle.ordered_map.specs.Runs.{IsTreeRun}
+use Rattle.ordered_map.specs.TreeShape.{TreeAllows}
+use Rattle.ordered_map.specs.TreeWords.{level, toward}
+use Rattle.ordered_map.proofs.Lemmas.{walk_stays, walk_named, walk_inside, walk_first, walk_next, walk_rises, passed_depth, SameSettled, settled_leaf, settled_toward, settled_class, settled_level}
 use Rattle.template.specs.FoundLeaf.{path_key}
 use Rattle.template.specs.Trails.{WasPassed, HasTurned, OnTrail}
 use Rattle.template.specs.declared.walk.Trail.{Trail}
@@ -61,17 +61,17 @@ module _ (c : Call) (h : History) (r : Row) (g : IsTreeRun c.layout h) (run : Is
       same = settled_more k t.node.0 x.node
 
   -- what a walk knows at its place stays so
-  pub known_more : (m : WalkRun) (at : WalkAt) → WalkKnows c h m at → WalkKnows c (r ⊳ h) m at
-  known_more m Start k = k
-  known_more m Root k = k
-  known_more m (Head above) k =
+  pub walk_known_more : (m : WalkRun) (at : WalkAt) → WalkKnows c h m at → WalkKnows c (r ⊳ h) m at
+  walk_known_more m Start k = k
+  walk_known_more m Root k = k
+  walk_known_more m (Head above) k =
       let y : level (value (r ⊳ h)) m.trail.node.0 ≡ level (value h) m.trail.node.0 = settled_level (value h) (value (r ⊳ h)) m.trail.node.0 (settled_more (path_key m.goal) m.trail.node.0 k.0.node) in
       (trail_more (path_key m.goal) m.trail k.0, (let z = k.1 in omega (arith, y, z)))
-  known_more m (Key head) k = (trail_more (path_key m.goal) m.trail k.0, ap head_of (settled_more (path_key m.goal) m.trail.node.0 k.0.node HeadWord tt) ∙ k.1, k.2)
-  known_more m (Child low side) k =
+  walk_known_more m (Key head) k = (trail_more (path_key m.goal) m.trail k.0, ap head_of (settled_more (path_key m.goal) m.trail.node.0 k.0.node HeadWord tt) ∙ k.1, k.2)
+  walk_known_more m (Child low side) k =
       let same : SameSettled (value h) (value (r ⊳ h)) m.trail.node.0 = settled_more (path_key m.goal) m.trail.node.0 k.0.node in
       (trail_more (path_key m.goal) m.trail k.0, settled_level (value h) (value (r ⊳ h)) m.trail.node.0 same ∙ k.1, settled_leaf (value h) (value (r ⊳ h)) m.trail.node.0 same ∙ k.2, settled_toward (value h) (value (r ⊳ h)) m.trail.node.0 (path_key m.goal) same ∙ k.3)
-  known_more m (Value head key) k =
+  walk_known_more m (Value head key) k =
       let same : SameSettled (value h) (value (r ⊳ h)) m.trail.node.0 = settled_more (path_key m.goal) m.trail.node.0 k.0.node in
       (trail_more (path_key m.goal) m.trail k.0, ap head_of (same HeadWord tt) ∙ k.1, k.2, k.3, same KeyWord tt ∙ k.4, k.5)
 
@@ -80,7 +80,7 @@ run_more c h r g run = (g.0, run)
 
 -- rows of other passes leave a walk waiting for the same step
 pub walk_keeps : (m : WalkRun) (c : Call) (h : History) (s : Step) (r : Row) → IsRun TreeAllows c.layout (r ⊳ h) → r.pass.0 ≢ c.pass → WalkWaits m c h s → WalkWaits m c (r ⊳ h) s
-walk_keeps m c h s r run other w = record { run = run_more c h r w.run run; small = w.small; since = inr w.since; known = known_more c h r w.run run m m.at w.known; asked = w.asked }
+walk_keeps m c h s r run other w = record { run = run_more c h r w.run run; small = w.small; since = inr w.since; known = walk_known_more c h r w.run run m m.at w.known; asked = w.asked }
 
 -- The step that it waits for
 
@@ -113,7 +113,7 @@ walk_made m c h s v run t w = record {
   run = run_more c h (row_of c s h) w.run run;
   small = w.small;
   own = record { row = row_of c s h; before = h; is = refl; since = w.since; own = refl };
-  known = known_more c h (row_of c s h) w.run run m m.at w.known;
+  known = walk_known_more c h (row_of c s h) w.run run m m.at w.known;
   told = load_told c h (walk_kind m.at) (node m.trail.node.0 (walk_part m.at)) s v w.asked t;
 }
 

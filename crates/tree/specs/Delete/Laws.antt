@@ -7,14 +7,14 @@ use Rattle.arena.specs.declared.word.NodeWord.TheVariants.{Head, Key, Value}
 use Rattle.arena.specs.Heads.{head_of}
 use Rattle.prims.specs.declared.snap.Snap.{Snap}
 use Rattle.template.specs.declared.walk.Found.{Found}
-use Rattle.updates.specs.declared.edit.Loaded.{Loaded}
-use Rattle.updates.specs.declared.edit.Look.TheVariants.{At, Enough}
-use Rattle.updates.specs.declared.edit.Need.TheVariants.{Nothing, One, Three}
-use Rattle.updates.specs.declared.edit.Nth.{Nth}
-use Rattle.updates.specs.declared.edit.Nth.TheVariants.{First, Second, Third}
-use Rattle.updates.specs.declared.edit.Piece.TheVariants.{Leaf, Fork}
-use Rattle.updates.specs.Edits.{EditBounds}
-use Rattle.updates.specs.Pieces.{many_nodes, with_word, fills_behind, HasPlace}
+use Rattle.edits.specs.declared.edit.Loaded.{Loaded}
+use Rattle.edits.specs.declared.edit.Look.TheVariants.{At, Enough}
+use Rattle.edits.specs.declared.edit.Need.TheVariants.{Nothing, One, Three}
+use Rattle.edits.specs.declared.edit.Nth.{Nth}
+use Rattle.edits.specs.declared.edit.Nth.TheVariants.{First, Second, Third}
+use Rattle.edits.specs.declared.edit.Piece.TheVariants.{Leaf, Fork}
+use Rattle.edits.specs.Edits.{EditBounds}
+use Rattle.edits.specs.Pieces.{many_nodes, with_word, fills_behind, HasPlace}
 use Rattle.tree.specs.Delete.Means.{delete_means, delete_need, delete_looks, delete_wants, delete_works, delete_piece, sibling_of, sibling_copy, copy_wants, copy_works, then_key, load_of}
 
 few_looks : (f : Found) (snaps : List Snap) (n : NodeNo) → delete_looks f snaps ≡ At n → length snaps < 4

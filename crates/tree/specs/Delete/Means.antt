@@ -8,21 +8,21 @@ use Rattle.arena.specs.declared.word.Side.{Side}
 use Rattle.arena.specs.Heads.{head_of}
 use Rattle.prims.specs.declared.snap.Snap.{Snap}
 use Rattle.prims.specs.Snap.{child_of, snap_at}
-use Rattle.spelling.specs.OrderedMap.{Delete as TakeEdit}
-use Rattle.spelling.specs.TreeShape.{sibling_place}
+use Rattle.ordered_map.specs.OrderedMap.{Delete as TakeEdit}
+use Rattle.ordered_map.specs.TreeShape.{sibling_place}
 use Rattle.template.specs.declared.walk.Found.{Found}
 use Rattle.template.specs.declared.walk.Goal.TheVariants.{Key as ToKey}
 use Rattle.tree.specs.declared.delete.Delete.{Delete}
-use Rattle.updates.specs.declared.edit.Loaded.{Loaded}
-use Rattle.updates.specs.declared.edit.Look.{Look}
-use Rattle.updates.specs.declared.edit.Look.TheVariants.{At, Differs, Enough}
-use Rattle.updates.specs.declared.edit.Need.{Need}
-use Rattle.updates.specs.declared.edit.Need.TheVariants.{Nothing, One}
-use Rattle.updates.specs.declared.edit.Nth.{Nth}
-use Rattle.updates.specs.declared.edit.Nth.TheVariants.{First}
-use Rattle.updates.specs.declared.edit.Piece.{Piece}
-use Rattle.updates.specs.declared.edit.Piece.TheVariants.{Leaf, Fork}
-use Rattle.updates.specs.Edits.{EditMeaning}
+use Rattle.edits.specs.declared.edit.Loaded.{Loaded}
+use Rattle.edits.specs.declared.edit.Look.{Look}
+use Rattle.edits.specs.declared.edit.Look.TheVariants.{At, Differs, Enough}
+use Rattle.edits.specs.declared.edit.Need.{Need}
+use Rattle.edits.specs.declared.edit.Need.TheVariants.{Nothing, One}
+use Rattle.edits.specs.declared.edit.Nth.{Nth}
+use Rattle.edits.specs.declared.edit.Nth.TheVariants.{First}
+use Rattle.edits.specs.declared.edit.Piece.{Piece}
+use Rattle.edits.specs.declared.edit.Piece.TheVariants.{Leaf, Fork}
+use Rattle.edits.specs.Edits.{EditMeaning}
 
 -- a present key takes one node, and of an absent one there is nothing to delete
 abbrev pub delete_need : Option ℕ → Need

@@ -5,12 +5,12 @@ use Rattle.arena.specs.History.{History}
 use Rattle.arena.specs.Machines.{Call}
 use Rattle.prims.specs.Laws.Idle.{IsQuietSince}
 use Rattle.prims.specs.Moments.{AreFinished}
-use Rattle.spelling.specs.Paths.{IsAnswerAt}
+use Rattle.ordered_map.specs.Paths.{IsAnswerAt}
 use Rattle.template.specs.Trails.{IsOwnMoment}
 use Rattle.template.specs.Walk.Known.{WalkIsReady, WalkWaits}
 use Rattle.template.specs.declared.walk.Goal.TheVariants.{Key as ToKey}
 use Rattle.tree.specs.declared.get.GetRun.{GetRun}
-use Rattle.updates.specs.Tries.{HasEnteredNone}
+use Rattle.edits.specs.Tries.{HasEnteredNone}
 
 -- the pass rests: all its SCX-records are finished, and none was in progress since the call began
 pub record GetRests (c : Call) (h : History) : Type 0 where

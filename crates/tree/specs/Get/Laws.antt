@@ -10,13 +10,13 @@ use Rattle.prims.specs.Laws.Begun.{takes_by_others, takes_by_step}
 use Rattle.prims.specs.Laws.Idle.{quiet_more}
 use Rattle.prims.specs.Moments.{AreFinished}
 use Rattle.prims.proofs.Lemmas.{over_more}
-use Rattle.spelling.specs.TreeShape.{TreeAllows}
+use Rattle.ordered_map.specs.TreeShape.{TreeAllows}
 use Rattle.template.proofs.Lemmas.{walk_fills_not}
 use Rattle.template.specs.Walk.Laws.{walk_keeps, walk_lawful, walk_made, walk_told}
 use Rattle.tree.specs.declared.get.GetRun.{GetRun}
 use Rattle.tree.specs.Get.Known.{GetRests, GetIsReady, GetWaits}
 use Rattle.tree.specs.Get.Steps.{GetFits}
-use Rattle.updates.specs.Laws.Kept.{idle_over}
+use Rattle.edits.specs.Laws.Kept.{idle_over}
 
 -- its pass rests on behind one row more, if that takes nothing of its share
 rests_more : (c : Call) (h : History) (r : Row) → Lawful c.layout (r ⊳ h) → AreFinished c.layout c.pass 0 (r ⊳ h) → GetRests c h → GetRests c (r ⊳ h)

@@ -6,22 +6,22 @@ use Rattle.arena.specs.declared.word.NodeWord.TheVariants.{Head, Value}
 use Rattle.prims.specs.declared.snap.Snap.{Snap}
 use Rattle.template.specs.declared.walk.Found.{Found}
 use Rattle.tree.specs.declared.insert.Insert.{Insert}
-use Rattle.updates.specs.declared.edit.Loaded.{Loaded}
-use Rattle.updates.specs.declared.edit.Look.TheVariants.{At, Enough}
-use Rattle.updates.specs.declared.edit.Nodes.{Nodes}
-use Rattle.updates.specs.declared.edit.Nth.{Nth}
-use Rattle.updates.specs.declared.edit.Nth.TheVariants.{First, Second, Third}
-use Rattle.updates.specs.declared.edit.Piece.TheVariants.{Fork}
-use Rattle.updates.specs.Edits.{EditBounds}
-use Rattle.updates.specs.Pieces.{many_nodes, with_word, fills_behind}
-use Rattle.tree.specs.Insert.Means.{insert_means, insert_need, insert_looks, insert_wants, insert_works, insert_pieces, value_if_none, copy_works, is_below}
+use Rattle.edits.specs.declared.edit.Loaded.{Loaded}
+use Rattle.edits.specs.declared.edit.Look.TheVariants.{At, Enough}
+use Rattle.edits.specs.declared.edit.Nodes.{Nodes}
+use Rattle.edits.specs.declared.edit.Nth.{Nth}
+use Rattle.edits.specs.declared.edit.Nth.TheVariants.{First, Second, Third}
+use Rattle.edits.specs.declared.edit.Piece.TheVariants.{Fork}
+use Rattle.edits.specs.Edits.{EditBounds}
+use Rattle.edits.specs.Pieces.{many_nodes, with_word, fills_behind}
+use Rattle.tree.specs.Insert.Means.{insert_means, insert_need, insert_looks, insert_wants, insert_works, insert_pieces, value_if_none, leaf_copy_works, is_below}
 
 few_looks : (f : Found) (snaps : List Snap) (n : NodeNo) → insert_looks f snaps ≡ At n → length snaps < 2
 few_looks f [] n e = omega arith
 few_looks f (p ∷ []) n e = omega arith
 few_looks f (p ∷ l ∷ snaps) n e = absurd (let d : Enough ≡ At n = e in cc)
 
-most_at_second : (b : Bool) (v : Option ℕ) → cond b (copy_works v) 3 ≤ 4
+most_at_second : (b : Bool) (v : Option ℕ) → cond b (leaf_copy_works v) 3 ≤ 4
 most_at_second true None = omega arith
 most_at_second true (Some v) = omega arith
 most_at_second false v = omega arith
@@ -31,12 +31,12 @@ few_works f ld First = omega arith
 few_works f ld Second = most_at_second (eqb f.head.class 0) ld.value
 few_works f ld Third = omega arith
 
-load_at_second : (b : Bool) (old : Option ℕ) (ld : Loaded) (part : NodeWord) (v : ℕ) → ld.value ≡ old → cond b (value_if_none old) None ≡ Some part → cond b (copy_works (with_word ld part v).value) 3 < cond b (copy_works old) 3
+load_at_second : (b : Bool) (old : Option ℕ) (ld : Loaded) (part : NodeWord) (v : ℕ) → ld.value ≡ old → cond b (value_if_none old) None ≡ Some part → cond b (leaf_copy_works (with_word ld part v).value) 3 < cond b (leaf_copy_works old) 3
 load_at_second false old ld part v is e = absurd (let d : None ≡ Some part = e in cc)
 load_at_second true (Some w) ld part v is e = absurd (let d : None ≡ Some part = e in cc)
 load_at_second true None ld part v is e = go part e
   where
-    go : (q : NodeWord) → Some Value ≡ Some q → copy_works (with_word ld q v).value < 4
+    go : (q : NodeWord) → Some Value ≡ Some q → leaf_copy_works (with_word ld q v).value < 4
     go Value d = omega arith
     go q d = absurd (let z = d in cc)
 
@@ -45,7 +45,7 @@ load_works f ld Second part e v = load_at_second (eqb f.head.class 0) ld.value l
 load_works f ld First part e v = absurd (let d : None ≡ Some part = e in cc)
 load_works f ld Third part e v = absurd (let d : None ≡ Some part = e in cc)
 
-fill_at_second : (b : Bool) (old : Option ℕ) → cond b (value_if_none old) None ≡ None → 2 < cond b (copy_works old) 3
+fill_at_second : (b : Bool) (old : Option ℕ) → cond b (value_if_none old) None ≡ None → 2 < cond b (leaf_copy_works old) 3
 fill_at_second false old e = omega arith
 fill_at_second true (Some w) e = omega arith
 fill_at_second true None e = absurd (let d : Some Value ≡ None = e in cc)

@@ -4,21 +4,21 @@ use Rattle.arena.specs.declared.word.NodeWord.{NodeWord}
 use Rattle.arena.specs.declared.word.NodeWord.TheVariants.{Value}
 use Rattle.prims.specs.declared.snap.Snap.{Snap}
 use Rattle.prims.specs.Snap.{child_of}
-use Rattle.spelling.specs.OrderedMap.{Insert as PutEdit}
+use Rattle.ordered_map.specs.OrderedMap.{Insert as PutEdit}
 use Rattle.template.specs.declared.walk.Found.{Found}
 use Rattle.template.specs.declared.walk.Goal.TheVariants.{Key as ToKey}
 use Rattle.tree.specs.declared.insert.Insert.{Insert}
-use Rattle.updates.specs.declared.edit.Loaded.{Loaded}
-use Rattle.updates.specs.declared.edit.Look.{Look}
-use Rattle.updates.specs.declared.edit.Look.TheVariants.{At, Differs, Enough}
-use Rattle.updates.specs.declared.edit.Need.{Need}
-use Rattle.updates.specs.declared.edit.Need.TheVariants.{One, Three}
-use Rattle.updates.specs.declared.edit.Nodes.{Nodes}
-use Rattle.updates.specs.declared.edit.Nth.{Nth}
-use Rattle.updates.specs.declared.edit.Nth.TheVariants.{First, Second, Third}
-use Rattle.updates.specs.declared.edit.Piece.{Piece}
-use Rattle.updates.specs.declared.edit.Piece.TheVariants.{Leaf, Fork}
-use Rattle.updates.specs.Edits.{EditMeaning}
+use Rattle.edits.specs.declared.edit.Loaded.{Loaded}
+use Rattle.edits.specs.declared.edit.Look.{Look}
+use Rattle.edits.specs.declared.edit.Look.TheVariants.{At, Differs, Enough}
+use Rattle.edits.specs.declared.edit.Need.{Need}
+use Rattle.edits.specs.declared.edit.Need.TheVariants.{One, Three}
+use Rattle.edits.specs.declared.edit.Nodes.{Nodes}
+use Rattle.edits.specs.declared.edit.Nth.{Nth}
+use Rattle.edits.specs.declared.edit.Nth.TheVariants.{First, Second, Third}
+use Rattle.edits.specs.declared.edit.Piece.{Piece}
+use Rattle.edits.specs.declared.edit.Piece.TheVariants.{Leaf, Fork}
+use Rattle.edits.specs.Edits.{EditMeaning}
 
 -- a new key takes three nodes, a present one takes one
 abbrev pub insert_need : Option ℕ → Need
@@ -73,13 +73,13 @@ insert_pieces k v f ns ld Second = leaf_copy f ld
 insert_pieces k v f ns ld Third = fork_over k f ns
 
 -- the load of the value and three fills, or these alone
-abbrev pub copy_works : Option ℕ → ℕ
-copy_works None = 4
-copy_works (Some v) = 3
+abbrev pub leaf_copy_works : Option ℕ → ℕ
+leaf_copy_works None = 4
+leaf_copy_works (Some v) = 3
 
 -- how many loads and fills are left for a fresh node
 abbrev pub insert_works : Found → Loaded → Nth → ℕ
-insert_works f ld Second = cond (eqb f.head.class 0) (copy_works ld.value) 3
+insert_works f ld Second = cond (eqb f.head.class 0) (leaf_copy_works ld.value) 3
 insert_works f ld First = 3
 insert_works f ld Third = 4
 

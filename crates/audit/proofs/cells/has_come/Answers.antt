@@ -1,6 +1,6 @@
 use Rattle.std.proofs.Common.{◌≡◌, true, rules}
 use Rattle.arena.specs.Log.{has}
-use Rattle.judge.specs.Histories.{history}
+use Rattle.judge.specs.Histories.{seen_history}
 use Rattle.audit.specs.CellCalls.{IsLookAt}
 use Rattle.audit.proofs.CellCallFacts.{come}
 use Rattle.audit.proofs.CellLists.{has_contained}
@@ -9,7 +9,7 @@ use Rattle.audit.proofs.cells.has_come.Goals as goal
 pub returns-then-has_found : goal.returns-then-has_found
 returns-then-has_found c = λ kind start linked steps x looks t.
     let lay = c.args.steps.now.judge.layout in
-    let h = history c.args.steps.now.judge in
+    let h = seen_history c.args.steps.now.judge in
     let n = c.args.blamed.0.0 in
     let s = c.args.blamed.1.0 in
     let looked : IsLookAt c.args.look n s c.args.memory.now.begun = search rules in

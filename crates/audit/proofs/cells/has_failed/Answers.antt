@@ -4,7 +4,7 @@ use Rattle.arena.specs.Fills.{IsOthersScx}
 use Rattle.arena.specs.History.{value}
 use Rattle.arena.specs.Log.{log, is_final}
 use Rattle.arena.specs.Words.{state}
-use Rattle.judge.specs.Histories.{history}
+use Rattle.judge.specs.Histories.{seen_history}
 use Rattle.audit.specs.CellCalls.{IsLookAt}
 use Rattle.audit.proofs.CellCallFacts.{failed, cell_inside, not_false}
 use Rattle.audit.proofs.cells.has_failed.Goals as goal
@@ -12,7 +12,7 @@ use Rattle.audit.proofs.cells.has_failed.Goals as goal
 pub returns-then-scx_word-ne0 : goal.returns-then-scx_word-ne0
 returns-then-scx_word-ne0 c = λ start linked steps x t.
     let lay = c.args.steps.now.judge.layout in
-    let h = history c.args.steps.now.judge in
+    let h = seen_history c.args.steps.now.judge in
     let n = c.node.result.0 in
     let s = c.args.scx.0 in
     let looked : IsLookAt c.args.memory.now.look n s c.args.memory.now.begun = search rules in

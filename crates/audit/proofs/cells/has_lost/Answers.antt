@@ -3,7 +3,7 @@ use Rattle.arena.specs.declared.step.Kind.TheVariants.{Freeze}
 use Rattle.arena.specs.Log.{log, is_final}
 use Rattle.record.specs.Answers.{IsInTheWay}
 use Rattle.record.specs.Snapshots.{IsLastLook}
-use Rattle.judge.specs.Histories.{history}
+use Rattle.judge.specs.Histories.{seen_history}
 use Rattle.audit.specs.CellCalls.{IsLookAt}
 use Rattle.audit.proofs.CellCallFacts.{lost, cell_inside}
 use Rattle.audit.proofs.cells.has_lost.Goals as goal
@@ -11,7 +11,7 @@ use Rattle.audit.proofs.cells.has_lost.Goals as goal
 pub returns-then-has_found : goal.returns-then-has_found
 returns-then-has_found c = λ start linked steps x t.
     let lay = c.args.steps.now.judge.layout in
-    let h = history c.args.steps.now.judge in
+    let h = seen_history c.args.steps.now.judge in
     let n = c.node.result.0 in
     let s = c.args.scx.0 in
     let looked : IsLookAt c.args.memory.now.freeze n s c.args.memory.now.begun = search rules in

@@ -1,13 +1,13 @@
 use Rattle.std.proofs.Common.{◌≡◌, ℕ, ◌<◌, length, get_or, sym, ap, subst, ◌∙◌, below_more, arith, rules}
 use Rattle.arena.specs.Log.{has}
 use Rattle.arena.specs.ScxRecords.{member, scx_finalizes, plan_finalizes, count, count_of}
-use Rattle.judge.specs.Histories.{history}
+use Rattle.judge.specs.Histories.{seen_history}
 use Rattle.audit.proofs.CellLists.{over_cells, item_at}
 use Rattle.audit.proofs.cells.is_over.Goals as goal
 
 pub loop-place-preserved : goal.loop-place-preserved
 loop-place-preserved c =
-    let h = history c.args.judge.now in
+    let h = seen_history c.args.judge.now in
     let s = c.args.scx.0 in
     let cells = c.args.cells.now in
     let removed = c.args.finalized.now in
@@ -24,7 +24,7 @@ loop-place-preserved c =
 
 pub returns : goal.returns
 returns c =
-    let h = history c.args.judge.now in
+    let h = seen_history c.args.judge.now in
     let planned = c.plan-plan.ensures in
     let many : count h c.args.scx.0 ≡ length c.args.cells.now = ap count_of (sym planned) ∙ sym c.count.ensures.count ∙ sym c.from.ensures ∙ c.if-from-cells.false in
     let end : count h c.args.scx.0 ≡ c.count-place-end.result = ap count_of (sym planned) ∙ sym c.count-place-end.ensures.count in

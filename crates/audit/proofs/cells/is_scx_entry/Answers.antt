@@ -6,7 +6,7 @@ use Rattle.script.specs.Update.{update_cells, update_finalize, update_field, upd
 use Rattle.record.specs.Answers.{AreUnchanged}
 use Rattle.record.specs.Linked.{linked}
 use Rattle.record.specs.Updates.{IsEntryOver}
-use Rattle.judge.specs.Histories.{history}
+use Rattle.judge.specs.Histories.{seen_history}
 use Rattle.audit.specs.CellCalls.{IsOverCells, IsFreshWith}
 use Rattle.audit.proofs.CellEntries.{entry_over, snapshots_seen, own_memory}
 use Rattle.audit.proofs.CellLists.{part_has}
@@ -19,7 +19,7 @@ pub returns-then-is_fresh : goal.returns-then-is_fresh
 returns-then-is_fresh c = λ lay calls lines x row n side win word t.
     let all = c.args.steps.now in
     let l = all.judge.layout in
-    let h = history all.judge in
+    let h = seen_history all.judge in
     let s = c.args.scx.0 in
     let p = c.args.client.now.pass.0 in
     let u = c.args.update.now in

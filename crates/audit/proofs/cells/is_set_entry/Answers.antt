@@ -8,7 +8,7 @@ use Rattle.record.specs.Linked.{linked}
 use Rattle.record.specs.Snapshots.{IsLastLook}
 use Rattle.record.specs.Turns.{start, begin}
 use Rattle.record.specs.Updates.{IsEntryOver}
-use Rattle.judge.specs.Histories.{history}
+use Rattle.judge.specs.Histories.{seen_history}
 use Rattle.audit.specs.CellCalls.{IsOverCells, IsFreshWith, IsAsLooked}
 use Rattle.audit.proofs.CellEntries.{entry_over, call_seen, own_memory}
 use Rattle.audit.proofs.cells.is_set_entry.Goals as goal
@@ -17,7 +17,7 @@ pub returns-then-is_some : goal.returns-then-is_some
 returns-then-is_some c = λ lay calls lines x begun row n side win word t.
     let all = c.args.steps.now in
     let l = all.judge.layout in
-    let h = history all.judge in
+    let h = seen_history all.judge in
     let s = c.args.scx.0 in
     let p = c.args.client.now.pass.0 in
     let field = c.args.field.now in

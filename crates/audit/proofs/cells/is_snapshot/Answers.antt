@@ -4,13 +4,13 @@ use Rattle.arena.specs.History.{value}
 use Rattle.arena.specs.Log.{log, is_final}
 use Rattle.arena.specs.Words.{child}
 use Rattle.histories.proofs.Lemmas.{fields_are}
-use Rattle.judge.specs.Histories.{history}
+use Rattle.judge.specs.Histories.{seen_history}
 use Rattle.audit.proofs.cells.is_snapshot.Goals as goal
 
 pub returns-then-node_word-fields : goal.returns-then-node_word-fields
 returns-then-node_word-fields c = λ t.
     let lay = c.args.judge.now.layout in
-    let h = history c.args.judge.now in
+    let h = seen_history c.args.judge.now in
     let n = c.args.cell.0 in
     let left : value h (child n Left) ≡ c.args.fields.0.0 = search rules in
     let not_final : is_final (log lay h) n ≡ false = search rules in

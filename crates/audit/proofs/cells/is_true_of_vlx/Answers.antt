@@ -6,7 +6,7 @@ use Rattle.record.specs.declared.record.Answer.{Answer}
 use Rattle.record.specs.Answers.{IsInTheWay, IsAsSnapped}
 use Rattle.record.specs.Rules.Vlx.{VlxIsRight}
 use Rattle.record.specs.Snapshots.{AreLinked, IsFirstUnlinked, IsBehindAll}
-use Rattle.judge.specs.Histories.{history}
+use Rattle.judge.specs.Histories.{seen_history}
 use Rattle.audit.specs.CellCalls.{AreSameAt}
 use Rattle.audit.proofs.CellCallFacts.{if_some}
 use Rattle.audit.proofs.cells.is_true_of_vlx.Goals as goal
@@ -15,7 +15,7 @@ use Rattle.audit.proofs.cells.is_true_of_vlx.Goals.{then-are_linked, else-are_li
 pub returns-in-Unlinked : goal.returns-in-Unlinked
 returns-in-Unlinked c = λ start linked steps x like t.
     let lay = c.args.steps.now.judge.layout in
-    let h = history c.args.steps.now.judge in
+    let h = seen_history c.args.steps.now.judge in
     let same : c.first_unlinked.result ≡ Some c.in-Unlinked.node = search rules in
     let first = if_some c.first_unlinked.result c.in-Unlinked.node (λ (n : NodeNo). IsFirstUnlinked linked c.as_slice-cells.result.now n.0) same (c.first_unlinked.ensures.first lay h linked x.snapshots) in
     subst (λ (a : Answer). VlxIsRight c.args.cells.now lay c.args.pass.0 h start linked a) (sym c.in-Unlinked.is) (subst (λ (k : List ℕ). IsFirstUnlinked linked k c.in-Unlinked.node.0) c.as_slice-cells.ensures.cells first)
@@ -23,7 +23,7 @@ returns-in-Unlinked c = λ start linked steps x like t.
 pub returns-then-is_behind_all_like : goal.returns-then-is_behind_all_like
 returns-then-is_behind_all_like c = λ start linked steps x like t.
     let lay = c.args.steps.now.judge.layout in
-    let h = history c.args.steps.now.judge in
+    let h = seen_history c.args.steps.now.judge in
     let p = c.args.pass.0 in
     let cells = c.as_slice-cells.result.now in
     let alike : AreSameAt lay start linked cells c.args.memory.now.same = subst (λ (k : List ℕ). AreSameAt lay start linked k c.args.memory.now.same) (sym c.as_slice-cells.ensures.cells) like in

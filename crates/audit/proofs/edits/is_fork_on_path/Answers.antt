@@ -2,10 +2,10 @@ use Rattle.std.proofs.Common.{◌≡◌, ℕ, Bool, true, false, not, sym, ◌�
 use Rattle.arena.specs.declared.word.Side.{Side}
 use Rattle.arena.specs.History.{value}
 use Rattle.arena.specs.Words.{child}
-use Rattle.spelling.specs.Paths.{Passed}
-use Rattle.spelling.specs.TreeWords.{is_leaf, toward}
-use Rattle.spelling.proofs.Lemmas.{walk_first, walk_next}
-use Rattle.judge.specs.Histories.{history}
+use Rattle.ordered_map.specs.Paths.{Passed}
+use Rattle.ordered_map.specs.TreeWords.{is_leaf, toward}
+use Rattle.ordered_map.proofs.Lemmas.{walk_first, walk_next}
+use Rattle.judge.specs.Histories.{seen_history}
 use Rattle.audit.proofs.edits.is_fork_on_path.Goals as goal
 
 is_not : (b : Bool) → not b ≡ true → b ≡ false
@@ -13,11 +13,11 @@ is_not false e = refl
 is_not true e = sym e
 
 pub loop-node-init : goal.loop-node-init
-loop-node-init c = walk_first c.args.judge.now.layout (history c.args.judge.now) c.args.key c.requires
+loop-node-init c = walk_first c.args.judge.now.layout (seen_history c.args.judge.now) c.args.key c.requires
 
 pub loop-node-preserved : goal.loop-node-preserved
 loop-node-preserved c =
-    let h = history c.args.judge.now in
+    let h = seen_history c.args.judge.now in
     let fork : is_leaf (value h) c.loop-node.node ≡ false = search rules in
     let next : c.child-node.result ≡ value h (child c.loop-node.node (toward (value h) c.loop-node.node c.args.key)) = c.child-node.ensures ∙ ap (λ (s : Side). value h (child c.loop-node.node s)) c.toward.ensures in
     subst (λ (n : ℕ). Passed h h c.args.key n) (sym next) (walk_next c.args.judge.now.layout h h c.args.key c.loop-node.node c.requires c.loop-node.invariant fork)

@@ -1,9 +1,9 @@
-use Rattle.spelling.specs.Paths.{Passed}
-use Rattle.judge.specs.Histories.{history}
+use Rattle.ordered_map.specs.Paths.{Passed}
+use Rattle.judge.specs.Histories.{seen_history}
 use Rattle.audit.proofs.edits.is_fork_on_path.Given as goal
 
 abbrev pub invariant-loop-node : goal.invariant-loop-node
-invariant-loop-node l = Passed (history l.judge) (history l.judge) l.key l.node
+invariant-loop-node l = Passed (seen_history l.judge) (seen_history l.judge) l.key l.node
 
 abbrev pub decreases-loop-node : goal.decreases-loop-node
 decreases-loop-node l = l.left

@@ -1,5 +1,5 @@
 use Rattle.std.proofs.Common.{◌≡◌, Some, ap, subst}
-use Rattle.spelling.specs.OrderedMap.{Insert, Delete, get}
+use Rattle.ordered_map.specs.OrderedMap.{Insert, Delete, get}
 use Rattle.script.specs.declared.command.Command.TheVariants.{Map as MapCommand}
 use Rattle.record.specs.declared.record.Answer.TheVariants.{Map as MapAnswer}
 use Rattle.record.specs.MapRecord.{map_call, map_at}

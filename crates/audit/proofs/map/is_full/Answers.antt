@@ -1,6 +1,6 @@
 use Rattle.std.proofs.Common.{None, ap}
 use Rattle.script.specs.declared.command.Command.TheVariants.{Map as MapCommand}
-use Rattle.places.specs.Places.{changes}
+use Rattle.moments.specs.Places.{changes}
 use Rattle.audit.proofs.Refusals.{right_full_insert, right_full_old_insert, right_full_delete}
 use Rattle.audit.proofs.map.is_full.Goals as goal
 

@@ -1,5 +1,5 @@
 use Rattle.std.proofs.Common.{None}
-use Rattle.places.specs.Places.{changes}
+use Rattle.moments.specs.Places.{changes}
 use Rattle.audit.proofs.MapAnswers.{too_few_for}
 use Rattle.audit.proofs.map.is_full_for_new.Goals as goal
 

@@ -1,6 +1,6 @@
 use Rattle.std.proofs.Common.{◌≡◌, Some, sym, subst, ◌∙◌, rules}
 use Rattle.script.specs.declared.command.Command.TheVariants.{Map as MapCommand}
-use Rattle.places.specs.Places.{changes}
+use Rattle.moments.specs.Places.{changes}
 use Rattle.audit.specs.Asked.{IsToldBefore}
 use Rattle.audit.proofs.MapAnswers.{change_answered}
 use Rattle.audit.proofs.map.is_placed.Goals as goal

@@ -1,6 +1,6 @@
 use Rattle.std.proofs.Common.{inl, inr, ap}
 use Rattle.script.specs.declared.command.Command.TheVariants.{Map as MapCommand}
-use Rattle.places.specs.Places.{changes}
+use Rattle.moments.specs.Places.{changes}
 use Rattle.audit.proofs.MapAnswers.{some_turns, changes_fall, value_answered, read_answered}
 use Rattle.audit.proofs.map.is_read.Goals as goal
 

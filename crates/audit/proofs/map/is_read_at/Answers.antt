@@ -1,10 +1,10 @@
 use Rattle.std.proofs.Common.{◌≡◌, Some, sym, ◌∙◌, ap, subst, rules}
-use Rattle.spelling.specs.OrderedMap.{Successor, Range, reply}
-use Rattle.spelling.specs.Replies.{number_reply}
+use Rattle.ordered_map.specs.OrderedMap.{Successor, Range, reply}
+use Rattle.ordered_map.specs.Replies.{number_reply}
 use Rattle.script.specs.declared.command.Command.TheVariants.{Map as MapCommand}
 use Rattle.record.specs.MapRecord.{map_call, map_at, number_pairs, reply_told}
 use Rattle.record.specs.Placed.{IsGreatestTurn}
-use Rattle.places.specs.Ordered.{IsOrderedRead, pairs_in, pairs_read}
+use Rattle.moments.specs.Ordered.{IsOrderedRead, pairs_in, pairs_read}
 use Rattle.audit.proofs.FirstPairs.{successor_told, some_between}
 use Rattle.audit.proofs.map.is_read_at.Goals as goal
 

@@ -1,4 +1,4 @@
-use Rattle.places.specs.Places.{changes}
+use Rattle.moments.specs.Places.{changes}
 use Rattle.audit.proofs.MapAnswers.{none_by, refused_placed}
 use Rattle.audit.proofs.map.is_right.Goals as goal
 

@@ -2,8 +2,8 @@ use Rattle.std.proofs.Common.{◌≢◌, ℕ, ◌<◌}
 use Rattle.arena.specs.History.{value}
 use Rattle.arena.specs.ScxRecords.{seen}
 use Rattle.arena.specs.Words.{state}
-use Rattle.judge.specs.Histories.{history}
+use Rattle.judge.specs.Histories.{seen_history}
 use Rattle.judge.proofs.beginning.are_at_rest.Given as goal
 
 abbrev pub invariant-loop-place : goal.invariant-loop-place
-invariant-loop-place l = (j : ℕ) → j < l.place → value (history l.judge) (state (seen (history l.judge) l.scx j)) ≢ 0
+invariant-loop-place l = (j : ℕ) → j < l.place → value (seen_history l.judge) (state (seen (seen_history l.judge) l.scx j)) ≢ 0

@@ -1,8 +1,8 @@
 use Rattle.std.proofs.Common.{ℕ, ◌<◌}
 use Rattle.arena.specs.Layout.{all_nodes}
 use Rattle.arena.specs.ScxRecords.{member}
-use Rattle.judge.specs.Histories.{history}
+use Rattle.judge.specs.Histories.{seen_history}
 use Rattle.judge.proofs.beginning.are_inside.Given as goal
 
 abbrev pub invariant-loop-place : goal.invariant-loop-place
-invariant-loop-place l = (j : ℕ) → j < l.place → member (history l.judge) l.scx j < all_nodes l.judge.layout
+invariant-loop-place l = (j : ℕ) → j < l.place → member (seen_history l.judge) l.scx j < all_nodes l.judge.layout

@@ -2,8 +2,8 @@ use Rattle.std.proofs.Common.{◌≡◌, ℕ, ◌<◌, true}
 use Rattle.arena.specs.History.{value}
 use Rattle.arena.specs.ScxRecords.{member, scx_finalizes}
 use Rattle.arena.specs.Words.{marked}
-use Rattle.judge.specs.Histories.{history}
+use Rattle.judge.specs.Histories.{seen_history}
 use Rattle.judge.proofs.exchanges.are_marked.Given as goal
 
 abbrev pub invariant-loop-place : goal.invariant-loop-place
-invariant-loop-place l = (j : ℕ) → j < l.place → scx_finalizes (history l.judge) l.scx j ≡ true → value (history l.judge) (marked (member (history l.judge) l.scx j)) ≡ 1
+invariant-loop-place l = (j : ℕ) → j < l.place → scx_finalizes (seen_history l.judge) l.scx j ≡ true → value (seen_history l.judge) (marked (member (seen_history l.judge) l.scx j)) ≡ 1

@@ -1,6 +1,6 @@
 use Rattle.std.proofs.Common.{◌≡◌, ◌+◌, ◌<◌, ◌^◌, arith, get_or, ℕ, subst}
 use Rattle.std.specs.Io.KnownBytes.{Appends}
-use Rattle.spelling.specs.declared.reply.Reply.{Reply}
+use Rattle.ordered_map.specs.declared.reply.Reply.{Reply}
 use Rattle.report.specs.Outcome.{reply_row}
 use Rattle.texts.specs.Pages.{line_of, page_text}
 use Rattle.report.proofs.Outcomes.{counts_all, next_out, none_out, replies_out}

@@ -1,5 +1,5 @@
 use Rattle.std.proofs.Common.{◌≡◌, ◌+◌, ◌<◌, ◌^◌, ◌∙◌, ℕ, List, ap, arith, length, length-append, refl, subst}
-use Rattle.spelling.specs.declared.reply.Reply.{Reply}
+use Rattle.ordered_map.specs.declared.reply.Reply.{Reply}
 use Rattle.report.specs.Outcome.{reply_rows}
 use Rattle.texts.specs.Pages.{rows_text}
 use Rattle.report.proofs.Outcomes.{counts_all, no_replies, reply_text_after}

@@ -2,7 +2,7 @@ use Rattle.std.proofs.Common.{refl, ◌∙◌, ap}
 use Rattle.std.proofs.lemmas.List.{length-set}
 use Rattle.arena.specs.History.{◌⊳◌}
 use Rattle.arena.specs.declared.number.PassNo.{PassNo}
-use Rattle.judge.specs.Histories.{history}
+use Rattle.judge.specs.Histories.{seen_history}
 use Rattle.audit.specs.declared.steps.Steps.{Steps}
 use Rattle.audit.proofs.RunMemories.{begun_of}
 use Rattle.audit.proofs.Fitting.{after_step, made_clients, client_within}
@@ -13,14 +13,14 @@ use Rattle.audit.proofs.run.Run.make.Goals as goal
 pub returns-clause-after : goal.returns-clause-after
 returns-clause-after c =
     let run = c.args.self.now in
-    after_step _ _ _ _ _ _ _ _ _ _ _ _ _ c.requires.after c.args.number c.args.row.now c.args.owed c.args.fits _ _ c.requires.settled c.requires.step c.requires.owed c.requires.fits (c.in_ok-make.ensures.layout ∙ ap (λ (s : Steps). s.judge.layout) c.begin.ensures.same) (c.in_ok-make.ensures.history ∙ ap (λ (s : Steps). c.args.row.now ⊳ history s.judge) c.begin.ensures.same)
+    after_step _ _ _ _ _ _ _ _ _ _ _ _ _ c.requires.after c.args.number c.args.row.now c.args.owed c.args.fits _ _ c.requires.settled c.requires.step c.requires.owed c.requires.fits (c.in_ok-make.ensures.layout ∙ ap (λ (s : Steps). s.judge.layout) c.begin.ensures.same) (c.in_ok-make.ensures.history ∙ ap (λ (s : Steps). c.args.row.now ⊳ seen_history s.judge) c.begin.ensures.same)
     (made_clients (layout_of run) (calls_of run) (lines_of run) c.args.number c.args.row.now c.args.owed run.clients.items _ _ c.in_ok-client.client c.stepped.result c.requires.owed c.requires.after.clients c.in_ok-client.ensures.here c.stepped.ensures refl (client_within (layout_of run) run.clients.items c.args.row.now.pass.0 c.stepped.result c.args.owed c.requires.after.all c.requires.client) c.note_win.ensures.none c.note_win.ensures.some)
     (c.note_win.ensures.same ∙ length-set _ _ _)
 
 pub returns-clause-map : goal.returns-clause-map
 returns-clause-map c =
     let run = c.args.self.now in
-    map_step _ _ _ run.record.now.script.of_mode _ _ _ c.requires.map c.args.number c.args.row.now (history run.steps.judge) _ c.edit_begun-edit.result c.requires.after.seen (returns-clause-after c).in_order c.requires.step.lawful c.requires.rising c.requires.edit c.edit_begun-edit.ensures.begins c.edit_begun-edit.ensures.next c.note_edit.ensures.none c.note_edit.ensures.some
+    map_step _ _ _ run.record.now.script.of_mode _ _ _ c.requires.map c.args.number c.args.row.now (seen_history run.steps.judge) _ c.edit_begun-edit.result c.requires.after.seen (returns-clause-after c).in_order c.requires.step.lawful c.requires.rising c.requires.edit c.edit_begun-edit.ensures.begins c.edit_begun-edit.ensures.next c.note_edit.ensures.none c.note_edit.ensures.some
 
 pub returns-clause-remembered : goal.returns-clause-remembered
 returns-clause-remembered c =

@@ -3,7 +3,7 @@ use Rattle.arena.specs.declared.layout.Layout.{Layout}
 use Rattle.arena.specs.History.{History}
 use Rattle.record.specs.Linked.{linked}
 use Rattle.record.specs.Turns.{history}
-use Rattle.judge.specs.Histories.{history as seen}
+use Rattle.judge.specs.Histories.{seen_history}
 use Rattle.audit.specs.declared.memory.Memory.{Memory}
 use Rattle.audit.specs.Remembered.{AreSnapshotsOf}
 use Rattle.audit.proofs.AfterLines.{get_there}
@@ -16,8 +16,8 @@ returns-clause-begun c lay lines x client unbegun within =
     let same : c.memory-memory.result ≡ there.0 = subst (λ (o : Option Memory). IfSome o (λ m. c.memory-memory.result ≡ m)) there.1 c.memory-memory.ensures in
     let inside : c.args.client.now.pass.0 < c.args.self.now.judge.layout.passes = subst (λ (l : Layout). c.args.client.now.pass.0 < l.passes) (sym x.steps.layout) (subst (λ (n : ℕ). c.args.client.now.pass.0 < n) x.steps.all_memories within) in
     let kept : ℕ → Option History = λ n. linked c.args.calls.now lay.mode lines c.args.client.now.pass.0 n in
-    let snapshots : AreSnapshotsOf c.args.self.now.judge.layout (seen c.args.self.now.judge) c.memory-memory.result kept =
-    subst (λ (l : Layout). AreSnapshotsOf l (seen c.args.self.now.judge) c.memory-memory.result kept) (sym x.steps.layout)
+    let snapshots : AreSnapshotsOf c.args.self.now.judge.layout (seen_history c.args.self.now.judge) c.memory-memory.result kept =
+    subst (λ (l : Layout). AreSnapshotsOf l (seen_history c.args.self.now.judge) c.memory-memory.result kept) (sym x.steps.layout)
     (subst (λ (h : History). AreSnapshotsOf lay h c.memory-memory.result kept) (sym x.steps.is_seen)
     (subst (λ (m : Memory). AreSnapshotsOf lay (history lay.mode lines) m kept) (sym same) (x.memories c.args.client.now.pass.0 there.0 there.1).snapshots)) in
     begun_with lay c.args.calls.now lines c.args.client.now.pass.0 c.args.self.now _ x.steps (sym client.begun ∙ unbegun) refl (c.nodes_left.ensures inside) (c.scx_left.ensures inside) refl (λ cells e. c.same_of.ensures cells kept (c.command.ensures ∙ sym (next_is lay c.args.calls.now lines c.args.client.now client) ∙ e) snapshots)

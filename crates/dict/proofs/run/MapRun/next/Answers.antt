@@ -1,7 +1,7 @@
 use Rattle.std.proofs.Common.{◌∙◌}
 use Rattle.tree.specs.Delete.Means.{delete_means}
 use Rattle.tree.specs.Insert.Means.{insert_means}
-use Rattle.updates.specs.Laws.Update.{update_scx_left}
+use Rattle.edits.specs.Laws.Update.{update_scx_left}
 use Rattle.dict.specs.Known.{MapIsReady}
 use Rattle.dict.specs.declared.run.MapRun.TheVariants.{Insert, Delete, Get, Successor, Range}
 use Rattle.dict.proofs.Ends.{insert_goes, delete_goes, insert_ends, delete_ends, get_ends, successor_ends, range_ends}

@@ -6,12 +6,12 @@ use Rattle.arena.specs.History.{History, value}
 use Rattle.arena.specs.Layout.{all_nodes}
 use Rattle.arena.specs.PlainWords.{Contents, word_at}
 use Rattle.arena.specs.Words.{node}
-use Rattle.spelling.specs.declared.pair.Pair.{Pair}
-use Rattle.spelling.specs.Spelled.{Spells}
-use Rattle.spelling.proofs.Lemmas.{one_spelling, run_spells}
+use Rattle.ordered_map.specs.declared.pair.Pair.{Pair}
+use Rattle.ordered_map.specs.Spelled.{Spells}
+use Rattle.ordered_map.proofs.Lemmas.{one_spelling, run_spells}
 use Rattle.dict.specs.Typed.{AreTyped, TypedAllows}
-use Rattle.dict.specs.TypedMaps.{typed_map, typed_run}
-use Rattle.dict.specs.Words.{IsWord}
+use Rattle.dict.specs.Laws.TypedMaps.{typed_map, typed_run}
+use Rattle.dict.specs.Words.{IsWordOf}
 use Rattle.forest.specs.Copies.{AreCopied}
 use Rattle.forest.specs.Passes.{PassView, IsClosed}
 use Rattle.forest.specs.TableRule.{history_of}
@@ -47,8 +47,8 @@ module _ (keys values : ℕ → Type 0) (words copy : Contents) (tree : words.la
 
 pub returns-in-Some-clause-pairs : goal.returns-in-Some-clause-pairs
 returns-in-Some-clause-pairs g c = λ lay passes x.
-    let keys = IsWord g.K.WordKey.is_valid g.K.WordKey.word_of in
-    let values = IsWord g.V.WordValue.is_valid g.V.WordValue.word_of in
+    let keys = IsWordOf g.K.WordKey.is_valid g.K.WordKey.word_of in
+    let values = IsWordOf g.V.WordValue.is_valid g.V.WordValue.word_of in
     let copy = c.in_ok-plain.field-0 in
     let m = map_of keys values c.args.self.now copy c.in_ok-plain.ensures.mode c.in_ok-plain.ensures.layout c.in_ok-plain.ensures.copied lay passes x in
     let spelled = one_spelling copy.layout (word_at copy) c.in-Some.pairs.items m.0 (rw c.in-Some.is at c.in_ok-pairs.ensures.spells) (copy_is keys values c.args.self.now copy c.in_ok-plain.ensures.mode c.in_ok-plain.ensures.layout c.in_ok-plain.ensures.copied lay passes x) in
@@ -57,8 +57,8 @@ returns-in-Some-clause-pairs g c = λ lay passes x.
 
 pub returns-clause-pairs : goal.returns-clause-pairs
 returns-clause-pairs g c = λ lay passes x.
-    let keys = IsWord g.K.WordKey.is_valid g.K.WordKey.word_of in
-    let values = IsWord g.V.WordValue.is_valid g.V.WordValue.word_of in
+    let keys = IsWordOf g.K.WordKey.is_valid g.K.WordKey.word_of in
+    let values = IsWordOf g.V.WordValue.is_valid g.V.WordValue.word_of in
     let copy = c.in_ok-plain.field-0 in
     absurd ((rw c.in-None.is at c.in_ok-pairs.ensures.none) (map_of keys values c.args.self.now copy c.in_ok-plain.ensures.mode c.in_ok-plain.ensures.layout c.in_ok-plain.ensures.copied lay passes x).0
     (copy_is keys values c.args.self.now copy c.in_ok-plain.ensures.mode c.in_ok-plain.ensures.layout c.in_ok-plain.ensures.copied lay passes x))

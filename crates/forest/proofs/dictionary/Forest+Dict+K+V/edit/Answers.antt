@@ -1,11 +1,11 @@
 use Rattle.std.proofs.Common.{◌≡◌, ◌∙◌, sym, ap, subst, arith}
 use Rattle.dict.specs.Calls.{call_in}
-use Rattle.spelling.specs.CallRules.{most_steps}
+use Rattle.ordered_map.specs.CallRules.{most_steps}
 use Rattle.dict.specs.Typed.{TypedAllows}
-use Rattle.dict.specs.Words.{IsWord}
+use Rattle.dict.specs.Words.{IsWordOf}
 use Rattle.dict.specs.declared.dict.DictRun.{DictRun}
-use Rattle.spelling.specs.OrderedMap.{Edit}
-use Rattle.spelling.specs.declared.reply.Reply.{Reply}
+use Rattle.ordered_map.specs.OrderedMap.{Edit}
+use Rattle.ordered_map.specs.declared.reply.Reply.{Reply}
 use Rattle.forest.specs.Dictionary.{HasSpentAtMost, IsRefusalOf, UpdateSays, blamed_by_reply, update_reply}
 use Rattle.arena.specs.declared.limits.Mode.TheVariants.{Tree}
 use Rattle.forest.specs.Passes.{Ground, HasGoneOn, taken_of}
@@ -42,7 +42,7 @@ last g c = (call_ended g c).last
 abbrev answer : (g : Over) (c : After-note_update g) → Reply g.row.K.Denot g.row.V.Denot
 answer g c = update_reply c.make-told.result.0
 
-ended : (g : Over) (c : After-note_update g) → HasEnded (TypedAllows (IsWord g.K.WordKey.is_valid g.K.WordKey.word_of) (IsWord g.V.WordValue.is_valid g.V.WordValue.word_of)) c.pass.inside c.make-told.new.seat (taken_of (pass_view c.pass.inside)) (Answered g.K.WordKey.is_valid g.K.WordKey.word_of g.V.WordValue.is_valid g.V.WordValue.word_of c.pass.inside c.pass.invariant c.make-told.new.seat (last g c) (answer g c)) × IsSameCall g.K.WordKey.is_valid g.K.WordKey.word_of g.V.WordValue.is_valid g.V.WordValue.word_of (call_ended g c).first (last g c)
+ended : (g : Over) (c : After-note_update g) → HasEnded (TypedAllows (IsWordOf g.K.WordKey.is_valid g.K.WordKey.word_of) (IsWordOf g.V.WordValue.is_valid g.V.WordValue.word_of)) c.pass.inside c.make-told.new.seat (taken_of (pass_view c.pass.inside)) (Answered g.K.WordKey.is_valid g.K.WordKey.word_of g.V.WordValue.is_valid g.V.WordValue.word_of c.pass.inside c.pass.invariant c.make-told.new.seat (last g c) (answer g c)) × IsSameCall g.K.WordKey.is_valid g.K.WordKey.word_of g.V.WordValue.is_valid g.V.WordValue.word_of (call_ended g c).first (last g c)
 ended g c = let e = call_ended g c in dict_ended g.K.WordKey.is_valid g.K.WordKey.word_of g.V.WordValue.is_valid g.V.WordValue.word_of c.pass.inside c.pass.invariant c.make-told.new.seat e.last (answer g c) e.first e.ends
 
 -- it is of the call that was asked for
@@ -57,7 +57,7 @@ blamed : (g : Over) (c : After-note_update g) → c.note_update.new.self ≡ bla
 blamed g c = c.note_update.ensures ∙ blames_same g.row.K.Denot c.make-told.result.0 c.pass.inside.blamed
 
 pub invariant_of-pass : goal.invariant_of-pass
-invariant_of-pass g c = so_behind g.K.WordKey.is_valid g.K.WordKey.word_of g.V.WordValue.is_valid g.V.WordValue.word_of c.pass.inside c.pass.invariant c.make-told.new.seat (last g c) (answer g c) (λ q. IsPass (TypedAllows (IsWord g.K.WordKey.is_valid g.K.WordKey.word_of) (IsWord g.V.WordValue.is_valid g.V.WordValue.word_of)) Tree q) c.make-told.result.1 c.note_update.new.self (call_ended g c).is_left (blamed g c) (dict_pass g.K.WordKey.is_valid g.K.WordKey.word_of g.V.WordValue.is_valid g.V.WordValue.word_of c.pass.inside c.pass.invariant c.make-told.new.seat (last g c) (answer g c) (ended g c).0 c.make-told.ensures.table.1)
+invariant_of-pass g c = so_behind g.K.WordKey.is_valid g.K.WordKey.word_of g.V.WordValue.is_valid g.V.WordValue.word_of c.pass.inside c.pass.invariant c.make-told.new.seat (last g c) (answer g c) (λ q. IsPass (TypedAllows (IsWordOf g.K.WordKey.is_valid g.K.WordKey.word_of) (IsWordOf g.V.WordValue.is_valid g.V.WordValue.word_of)) Tree q) c.make-told.result.1 c.note_update.new.self (call_ended g c).is_left (blamed g c) (dict_pass g.K.WordKey.is_valid g.K.WordKey.word_of g.V.WordValue.is_valid g.V.WordValue.word_of c.pass.inside c.pass.invariant c.make-told.new.seat (last g c) (answer g c) (ended g c).0 c.make-told.ensures.table.1)
 
 -- the forest as its caller sees it
 tries_are : (g : Over) (c : After-note_update g) → c.args.self.now.tries ≡ c.self.inside.tries
@@ -68,7 +68,7 @@ layout_is g c = ap (λ (f : Ground). f.layout) (sym c.self.view_is)
 
 pub returns-clause-goes_on : goal.returns-clause-goes_on
 returns-clause-goes_on g c = let most = most_steps (Edit (map_edit c.args.edit)) c.self.inside.tries (shared_nodes c.self.inside.layout) in
-    rw (← c.pass.view_is, tries_are g c, layout_is g c, blames_same g.row.K.Denot c.make-told.result.0 c.pass.inside.blamed) (so_behind g.K.WordKey.is_valid g.K.WordKey.word_of g.V.WordValue.is_valid g.V.WordValue.word_of c.pass.inside c.pass.invariant c.make-told.new.seat (last g c) (answer g c) (λ q. HasGoneOn (TypedAllows (IsWord g.K.WordKey.is_valid g.K.WordKey.word_of) (IsWord g.V.WordValue.is_valid g.V.WordValue.word_of)) (pass_view c.pass.inside) (pass_view q) (taken_of (pass_view c.pass.inside)) most (blamed_by_reply (answer g c) c.pass.inside.blamed)) c.make-told.result.1 c.note_update.new.self (call_ended g c).is_left (blamed g c) (dict_goes_on g.K.WordKey.is_valid g.K.WordKey.word_of g.V.WordValue.is_valid g.V.WordValue.word_of c.pass.inside c.pass.invariant c.make-told.new.seat (last g c) (answer g c) (ended g c).0 most most c.make-told.ensures.table.0 c.make-told.ensures.steps (omega arith)))
+    rw (← c.pass.view_is, tries_are g c, layout_is g c, blames_same g.row.K.Denot c.make-told.result.0 c.pass.inside.blamed) (so_behind g.K.WordKey.is_valid g.K.WordKey.word_of g.V.WordValue.is_valid g.V.WordValue.word_of c.pass.inside c.pass.invariant c.make-told.new.seat (last g c) (answer g c) (λ q. HasGoneOn (TypedAllows (IsWordOf g.K.WordKey.is_valid g.K.WordKey.word_of) (IsWordOf g.V.WordValue.is_valid g.V.WordValue.word_of)) (pass_view c.pass.inside) (pass_view q) (taken_of (pass_view c.pass.inside)) most (blamed_by_reply (answer g c) c.pass.inside.blamed)) c.make-told.result.1 c.note_update.new.self (call_ended g c).is_left (blamed g c) (dict_goes_on g.K.WordKey.is_valid g.K.WordKey.word_of g.V.WordValue.is_valid g.V.WordValue.word_of c.pass.inside c.pass.invariant c.make-told.new.seat (last g c) (answer g c) (ended g c).0 most most c.make-told.ensures.table.0 c.make-told.ensures.steps (omega arith)))
 
 pub returns-clause-spends : goal.returns-clause-spends
 returns-clause-spends g c =

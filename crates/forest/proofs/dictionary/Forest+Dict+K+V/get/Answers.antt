@@ -1,5 +1,5 @@
 use Rattle.std.proofs.Common.{◌^◌, ◌<◌, ◌*◌, ◌+◌, ◌∙◌, ℕ, sym, ap, subst, arith}
-use Rattle.spelling.specs.declared.reply.Reply.TheVariants.{Value}
+use Rattle.ordered_map.specs.declared.reply.Reply.TheVariants.{Value}
 use Rattle.forest.specs.Passes.{Ground, taken_of}
 use Rattle.forest.specs.PassInvariant.{pass_view}
 use Rattle.forest.specs.StraightGet.{getting}

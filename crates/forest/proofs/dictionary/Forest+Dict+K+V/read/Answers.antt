@@ -1,11 +1,11 @@
 use Rattle.std.proofs.Common.{◌≡◌, ◌∙◌, ◌≤◌, ℕ, sym, ap, subst}
 use Rattle.atomic_table.specs.declared.shared.Seat.{Seat}
 use Rattle.dict.specs.Calls.{AsksForPairs, call_in}
-use Rattle.spelling.specs.CallRules.{MayReply, form_of, most_steps}
+use Rattle.ordered_map.specs.CallRules.{MayReply, form_of, most_steps}
 use Rattle.dict.specs.Steps.{map_left}
 use Rattle.dict.specs.Typed.{TypedAllows}
-use Rattle.dict.specs.Words.{IsWord}
-use Rattle.spelling.specs.Requests.{as_map_call}
+use Rattle.dict.specs.Words.{IsWordOf}
+use Rattle.ordered_map.specs.Requests.{as_map_call}
 use Rattle.forest.specs.Passes.{Ground, taken_of}
 use Rattle.forest.specs.PassInvariant.{pass_view}
 use Rattle.forest.specs.StraightCalls.{SeatDictEnds}
@@ -37,7 +37,7 @@ ends g c =
     (request_starts g.K.WordKey.is_valid g.K.WordKey.word_of g.V.WordValue.is_valid g.V.WordValue.word_of c.pass.inside c.pass.invariant c.new-run.result c.args.request c.self.inside.tries c.taken-number.result named made.call made.typed made.tries (made.fresh c.self.invariant.3) c.requires.few (made.share ∙ c.replace-share.ensures.value))
 
 -- how it has ended
-ended : (g : Over) (c : goal.After-note_reply g) → HasEnded (TypedAllows (IsWord g.K.WordKey.is_valid g.K.WordKey.word_of) (IsWord g.V.WordValue.is_valid g.V.WordValue.word_of)) c.pass.inside c.read-reply.new.seat (taken_of (pass_view c.pass.inside)) (Answered g.K.WordKey.is_valid g.K.WordKey.word_of g.V.WordValue.is_valid g.V.WordValue.word_of c.pass.inside c.pass.invariant c.read-reply.new.seat c.read-reply.new.run c.read-reply.result) × IsSameCall g.K.WordKey.is_valid g.K.WordKey.word_of g.V.WordValue.is_valid g.V.WordValue.word_of c.new-run.result c.read-reply.new.run
+ended : (g : Over) (c : goal.After-note_reply g) → HasEnded (TypedAllows (IsWordOf g.K.WordKey.is_valid g.K.WordKey.word_of) (IsWordOf g.V.WordValue.is_valid g.V.WordValue.word_of)) c.pass.inside c.read-reply.new.seat (taken_of (pass_view c.pass.inside)) (Answered g.K.WordKey.is_valid g.K.WordKey.word_of g.V.WordValue.is_valid g.V.WordValue.word_of c.pass.inside c.pass.invariant c.read-reply.new.seat c.read-reply.new.run c.read-reply.result) × IsSameCall g.K.WordKey.is_valid g.K.WordKey.word_of g.V.WordValue.is_valid g.V.WordValue.word_of c.new-run.result c.read-reply.new.run
 ended g c = dict_ended g.K.WordKey.is_valid g.K.WordKey.word_of g.V.WordValue.is_valid g.V.WordValue.word_of c.pass.inside c.pass.invariant c.read-reply.new.seat c.read-reply.new.run c.read-reply.result c.new-run.result (ends g c)
 
 -- it is of the call that was asked for

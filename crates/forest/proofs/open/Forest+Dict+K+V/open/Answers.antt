@@ -3,11 +3,11 @@ use Rattle.arena.specs.declared.layout.Layout.{Layout}
 use Rattle.arena.specs.Machines.{MatchTurn}
 use Rattle.dict.specs.Calls.{call_in, AsksForPairs}
 use Rattle.dict.specs.DictKnown.{DictIsReady, DictWaits, DictAnswers}
-use Rattle.dict.specs.DictLaws.{dict_told}
-use Rattle.spelling.specs.CallRules.{most_steps}
+use Rattle.dict.specs.Laws.Dict.{dict_told}
+use Rattle.ordered_map.specs.CallRules.{most_steps}
 use Rattle.dict.specs.Steps.{map_left}
 use Rattle.dict.specs.Typed.{TypedAllows}
-use Rattle.dict.specs.Words.{IsWord}
+use Rattle.dict.specs.Words.{IsWordOf}
 use Rattle.forest.specs.Passes.{Ground, taken_of}
 use Rattle.forest.specs.PassInvariant.{pass_view}
 use Rattle.forest.specs.Traces.{CallBegins, shared_nodes, weight}
@@ -26,14 +26,14 @@ named : (g : Over) (c : goal.After-next-turn g) → c.taken-call.result ≡ take
 named g c = c.taken-call.ensures ∙ sym (ap taken_of c.pass.view_is)
 
 -- the machine begins the call
-starts : (g : Over) (c : goal.After-next-turn g) → CallBegins (TypedAllows (IsWord g.K.WordKey.is_valid g.K.WordKey.word_of) (IsWord g.V.WordValue.is_valid g.V.WordValue.word_of)) (DictIsReady (IsWord g.K.WordKey.is_valid g.K.WordKey.word_of) (IsWord g.V.WordValue.is_valid g.V.WordValue.word_of)) (call_of c.pass.inside c.pass.invariant (taken_of (pass_view c.pass.inside))) c.pass.inside.seat.me.0.passes c.new-run.result
+starts : (g : Over) (c : goal.After-next-turn g) → CallBegins (TypedAllows (IsWordOf g.K.WordKey.is_valid g.K.WordKey.word_of) (IsWordOf g.V.WordValue.is_valid g.V.WordValue.word_of)) (DictIsReady (IsWordOf g.K.WordKey.is_valid g.K.WordKey.word_of) (IsWordOf g.V.WordValue.is_valid g.V.WordValue.word_of)) (call_of c.pass.inside c.pass.invariant (taken_of (pass_view c.pass.inside))) c.pass.inside.seat.me.0.passes c.new-run.result
 starts g c =
     let made = c.new-run.ensures in
     request_starts g.K.WordKey.is_valid g.K.WordKey.word_of g.V.WordValue.is_valid g.V.WordValue.word_of c.pass.inside c.pass.invariant c.new-run.result c.args.request c.self.inside.tries c.taken-call.result (sym (named g c)) made.call made.typed made.tries (made.fresh c.self.invariant.3) c.requires.few made.share
 
 -- its first turn has been made
 first_turn : (g : Over) (c : goal.After-next-turn g) → DictStands g.K.WordKey.is_valid g.K.WordKey.word_of g.V.WordValue.is_valid g.V.WordValue.word_of (call_of c.pass.inside c.pass.invariant (taken_of (pass_view c.pass.inside))) c.pass.inside.seat.me.0.passes c.new-run.result c.next-turn.new.self c.next-turn.result
-first_turn g c = stands (TypedAllows (IsWord g.K.WordKey.is_valid g.K.WordKey.word_of) (IsWord g.V.WordValue.is_valid g.V.WordValue.word_of)) (DictIsReady (IsWord g.K.WordKey.is_valid g.K.WordKey.word_of) (IsWord g.V.WordValue.is_valid g.V.WordValue.word_of)) (DictWaits (IsWord g.K.WordKey.is_valid g.K.WordKey.word_of) (IsWord g.V.WordValue.is_valid g.V.WordValue.word_of)) (IsSameDictCall g.K.WordKey.is_valid g.K.WordKey.word_of g.V.WordValue.is_valid g.V.WordValue.word_of) (call_of c.pass.inside c.pass.invariant (taken_of (pass_view c.pass.inside))) _ c.new-run.result c.next-turn.new.self c.next-turn.result (DictAnswers g.K.WordKey.is_valid g.K.WordKey.word_of g.V.WordValue.is_valid g.V.WordValue.word_of) c.next-turn.ensures.same (λ h run is. c.next-turn.ensures.turn (call_of c.pass.inside c.pass.invariant (taken_of (pass_view c.pass.inside))) h run is) (starts g c)
+first_turn g c = stands (TypedAllows (IsWordOf g.K.WordKey.is_valid g.K.WordKey.word_of) (IsWordOf g.V.WordValue.is_valid g.V.WordValue.word_of)) (DictIsReady (IsWordOf g.K.WordKey.is_valid g.K.WordKey.word_of) (IsWordOf g.V.WordValue.is_valid g.V.WordValue.word_of)) (DictWaits (IsWordOf g.K.WordKey.is_valid g.K.WordKey.word_of) (IsWordOf g.V.WordValue.is_valid g.V.WordValue.word_of)) (IsSameDictCall g.K.WordKey.is_valid g.K.WordKey.word_of g.V.WordValue.is_valid g.V.WordValue.word_of) (call_of c.pass.inside c.pass.invariant (taken_of (pass_view c.pass.inside))) _ c.new-run.result c.next-turn.new.self c.next-turn.result (DictAnswers g.K.WordKey.is_valid g.K.WordKey.word_of g.V.WordValue.is_valid g.V.WordValue.word_of) c.next-turn.ensures.same (λ h run is. c.next-turn.ensures.turn (call_of c.pass.inside c.pass.invariant (taken_of (pass_view c.pass.inside))) h run is) (starts g c)
 
 -- it may make no more steps than such a call
 few_steps : (g : Over) (c : goal.After-next-turn g) → weight c.next-turn.result (map_left c.next-turn.new.self.run (shared_nodes c.pass.inside.layout)) ≤ most_steps (call_in c.next-turn.new.self.run) c.next-turn.new.self.tries (shared_nodes c.pass.inside.layout)
@@ -41,7 +41,7 @@ few_steps g c =
     let made = c.new-run.ensures in
     let lay : Layout = c.pass.inside.layout in
     let begun = starts g c in
-    let near = c.next-turn.ensures.nearer (shared_nodes lay) (dict_told (IsWord g.K.WordKey.is_valid g.K.WordKey.word_of) (IsWord g.V.WordValue.is_valid g.V.WordValue.word_of) c.new-run.result (call_of c.pass.inside c.pass.invariant (taken_of (pass_view c.pass.inside))) _ None (shared_nodes lay) begun.sound begun.so.1 (few_taken (TypedAllows (IsWord g.K.WordKey.is_valid g.K.WordKey.word_of) (IsWord g.V.WordValue.is_valid g.V.WordValue.word_of)) lay (call_of c.pass.inside c.pass.invariant (taken_of (pass_view c.pass.inside))) _ refl begun.sound)) in
+    let near = c.next-turn.ensures.nearer (shared_nodes lay) (dict_told (IsWordOf g.K.WordKey.is_valid g.K.WordKey.word_of) (IsWordOf g.V.WordValue.is_valid g.V.WordValue.word_of) c.new-run.result (call_of c.pass.inside c.pass.invariant (taken_of (pass_view c.pass.inside))) _ None (shared_nodes lay) begun.sound begun.so.1 (few_taken (TypedAllows (IsWordOf g.K.WordKey.is_valid g.K.WordKey.word_of) (IsWordOf g.V.WordValue.is_valid g.V.WordValue.word_of)) lay (call_of c.pass.inside c.pass.invariant (taken_of (pass_view c.pass.inside))) _ refl begun.sound)) in
     let less : weight c.next-turn.result (map_left c.next-turn.new.self.run (shared_nodes lay)) ≤ map_left c.new-run.result.run (shared_nodes lay) = weighs c.next-turn.result _ _ near in
     let most : map_left c.new-run.result.run (shared_nodes lay) ≤ most_steps (call_in c.new-run.result.run) c.new-run.result.tries (shared_nodes lay) = rw made.tries (made.steps (shared_nodes lay) c.self.invariant.3) in
     rw (c.next-turn.ensures.same.0, c.next-turn.ensures.same.1) (omega (arith, less, most))

@@ -1,7 +1,7 @@
 use Rattle.std.proofs.Common.{◌≡◌, refl, sym, subst}
 use Rattle.arena.specs.Machines.{Call}
 use Rattle.dict.specs.declared.dict.DictRun.{DictRun}
-use Rattle.dict.specs.WordReplies.{update_reply as word_reply}
+use Rattle.dict.specs.WordReplies.{word_reply}
 use Rattle.forest.specs.Dictionary.{update_reply}
 use Rattle.forest.specs.StraightCalls.{IsFreshEdit, SeatDictBegins}
 use Rattle.forest.specs.StraightUpdate.{UpdaterBegins}

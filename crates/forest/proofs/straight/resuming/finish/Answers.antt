@@ -2,7 +2,7 @@ use Rattle.std.proofs.Common.{◌∙◌, arith}
 use Rattle.forest.specs.StraightUpdate.{Updater, UpdaterIsTold, UpdaterStands}
 use Rattle.forest.specs.Traces.{shared_nodes}
 use Rattle.forest.specs.CallKinds.{calls}
-use Rattle.updates.specs.Steps.{IsNearer, update_left}
+use Rattle.edits.specs.Steps.{IsNearer, update_left}
 use Rattle.forest.proofs.Advances.{weighs}
 use Rattle.forest.proofs.StraightUpdate.{ends_nowhere, told_on, told_fits}
 use Rattle.forest.proofs.straight.resuming.finish.Given.{Over}

@@ -2,7 +2,7 @@ use Rattle.std.proofs.Common.{◌≡◌, ◌+◌, ◌≤◌}
 use Rattle.forest.specs.StraightUpdate.{Updater, UpdaterStands}
 use Rattle.forest.specs.Traces.{seat_steps, shared_nodes, weight}
 use Rattle.forest.specs.CallKinds.{calls}
-use Rattle.updates.specs.Steps.{update_left}
+use Rattle.edits.specs.Steps.{update_left}
 use Rattle.forest.proofs.straight.resuming.finish.Given as goal
 
 abbrev pub invariant-loop-turn : goal.invariant-loop-turn

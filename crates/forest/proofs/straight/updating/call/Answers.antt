@@ -4,7 +4,7 @@ use Rattle.forest.specs.StraightWalk.{WalkerFinds}
 use Rattle.forest.specs.StraightUpdate.{Updater, UpdaterBegins, UpdaterGoesOn}
 use Rattle.forest.specs.Traces.{shared_nodes}
 use Rattle.forest.specs.CallKinds.{calls}
-use Rattle.updates.proofs.Lemmas.{weighs_next}
+use Rattle.edits.proofs.Lemmas.{weighs_next}
 use Rattle.forest.proofs.StraightUpdate.{walker, walks, finds, walk_steps, both_steps}
 use Rattle.forest.proofs.straight.updating.call.Given.{Over}
 use Rattle.forest.proofs.straight.updating.call.Goals.{After-test_share-next}

@@ -2,8 +2,8 @@ use Rattle.std.proofs.Common.{◌≡◌, sym}
 use Rattle.prims.specs.declared.scx.ScxAt.TheVariants.{Help}
 use Rattle.prims.specs.declared.scx.ScxRun.{ScxRun}
 use Rattle.prims.specs.declared.update.Update.{Update}
-use Rattle.updates.specs.Next.{update_of}
-use Rattle.updates.specs.declared.update.Next.TheVariants.{Change}
+use Rattle.edits.specs.Next.{update_of}
+use Rattle.edits.specs.declared.update.Next.TheVariants.{Change}
 use Rattle.forest.specs.StraightUpdate.{Updater, UpdaterIsBlocked, UpdaterTries}
 use Rattle.forest.specs.CallKinds.{calls}
 use Rattle.forest.proofs.StraightUpdate.{changer, begins_change, changed, is_blocked, update_is}

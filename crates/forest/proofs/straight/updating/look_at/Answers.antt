@@ -1,5 +1,5 @@
 use Rattle.forest.specs.Traces.{shared_nodes}
-use Rattle.updates.proofs.Lemmas.{weighs_next}
+use Rattle.edits.proofs.Lemmas.{weighs_next}
 use Rattle.forest.proofs.StraightUpdate.{looker, begins_look, looks_on, looks_again, look_steps, look_nearer}
 use Rattle.forest.proofs.straight.updating.look_at.Goals as goal
 

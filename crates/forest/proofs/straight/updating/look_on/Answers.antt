@@ -1,7 +1,7 @@
 use Rattle.std.proofs.Common.{◌∙◌, ap, arith}
 use Rattle.std.specs.Prelude.{Ok, Err}
 use Rattle.forest.specs.Traces.{shared_nodes}
-use Rattle.updates.specs.declared.update.Next.TheVariants.{Look}
+use Rattle.edits.specs.declared.update.Next.TheVariants.{Look}
 use Rattle.forest.proofs.StraightUpdate.{goes_as, left_as, fewer_as}
 use Rattle.forest.proofs.straight.updating.look_on.Goals as goal
 

@@ -3,8 +3,8 @@ use Rattle.std.specs.Prelude.{Ok, Err}
 use Rattle.forest.specs.StraightUpdate.{Updater, UpdaterGoesOn}
 use Rattle.forest.specs.Traces.{shared_nodes}
 use Rattle.forest.specs.CallKinds.{calls}
-use Rattle.updates.specs.declared.update.Next.TheVariants.{Change}
-use Rattle.updates.specs.declared.update.Stop.TheVariants.{Nothing, Full}
+use Rattle.edits.specs.declared.update.Next.TheVariants.{Change}
+use Rattle.edits.specs.declared.update.Stop.TheVariants.{Nothing, Full}
 use Rattle.forest.proofs.StraightUpdate.{goes_as, ends_needless, ends_full, left_as, through}
 use Rattle.forest.proofs.straight.updating.try_on.Given.{Over}
 use Rattle.forest.proofs.straight.updating.try_on.Goals.{After-work_on-worked}

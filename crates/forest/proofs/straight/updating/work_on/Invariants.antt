@@ -2,7 +2,7 @@ use Rattle.std.proofs.Common.{◌≡◌, ◌+◌, ◌≤◌}
 use Rattle.forest.specs.StraightUpdate.{Updater, UpdaterGoesOn}
 use Rattle.forest.specs.Traces.{seat_steps, shared_nodes}
 use Rattle.forest.specs.CallKinds.{calls}
-use Rattle.updates.specs.Next.{left_then}
+use Rattle.edits.specs.Next.{left_then}
 use Rattle.forest.proofs.straight.updating.work_on.Given as goal
 
 abbrev pub invariant-loop-next : goal.invariant-loop-next

@@ -7,8 +7,8 @@ use Rattle.arena.specs.declared.word.Word.TheVariants.{Node as NodeOf}
 use Rattle.forest.specs.Traces.{shared_nodes}
 use Rattle.forest.specs.StraightUpdate.{Updater, UpdaterIsTold, UpdaterTries, UpdaterWaits}
 use Rattle.forest.specs.CallKinds.{calls}
-use Rattle.updates.specs.declared.update.Next.TheVariants.{Fill as FillNext}
-use Rattle.updates.proofs.Lemmas.{weighs_next}
+use Rattle.edits.specs.declared.update.Next.TheVariants.{Fill as FillNext}
+use Rattle.edits.proofs.Lemmas.{weighs_next}
 use Rattle.forest.proofs.StraightUpdate.{begins_fill, fills_on, fills_end, filling, head_next, leaf_fewer, fork_fewer, leaf_ends, fork_ends, node_steps, node_nearer}
 use Rattle.forest.proofs.straight.working.fill_node.Given.{Over}
 use Rattle.forest.proofs.straight.working.fill_node.Goals.{After-word-key, After-fill, After-fill-2, After-fill-arg-in-Leaf-1, After-fill-arg-in-Fork-1, After-fill-in-Fork}

@@ -1,7 +1,7 @@
 use Rattle.forest.specs.Traces.{shared_nodes}
 use Rattle.std.specs.Prelude.{Ok}
-use Rattle.updates.specs.Next.{placed}
-use Rattle.updates.specs.declared.update.Next.TheVariants.{Load}
+use Rattle.edits.specs.Next.{placed}
+use Rattle.edits.specs.declared.update.Next.TheVariants.{Load}
 use Rattle.forest.proofs.StraightUpdate.{wants_word, loads_on, load_steps, load_nearer}
 use Rattle.forest.proofs.straight.working.load.Goals as goal
 

@@ -1,7 +1,7 @@
 use Rattle.std.proofs.Common.{◌∷◌, refl, ◌∙◌}
 use Rattle.arena.specs.Lawful.{IsLawful}
 use Rattle.histories.proofs.Lemmas.{lawful_more}
-use Rattle.judge.specs.Histories.{history_of}
+use Rattle.judge.specs.Histories.{history_of_rows}
 use Rattle.judge.proofs.Frozen.{may_freeze}
 use Rattle.judge.proofs.Entered.{may_enter}
 use Rattle.judge.proofs.Taken.{may_take}
@@ -29,14 +29,14 @@ note-requires-clause-naming c = c.reserve.ensures.naming c.self.invariant.naming
 pub note-requires-3 : goal.note-requires-3
 note-requires-3 c =
     let lay = c.self.inside.words.layout in
-    let h = history_of lay.mode c.self.inside.past in
+    let h = history_of_rows lay.mode c.self.inside.past in
     let lawful : IsLawful lay h c.args.row.now = rw (← c.self.view_is) at c.requires in
     may_freeze lay h c.args.row.now c.self.inside.freezing.frozen.items (lawful_more lay h c.args.row.now c.self.invariant.lawful lawful) c.self.invariant.freezing
 
 pub note-requires-4-clause-may : goal.note-requires-4-clause-may
 note-requires-4-clause-may c =
     let lay = c.self.inside.words.layout in
-    let h = history_of lay.mode c.self.inside.past in
+    let h = history_of_rows lay.mode c.self.inside.past in
     let lawful : IsLawful lay h c.args.row.now = rw (← c.self.view_is) at c.requires in
     let e = c.self.inside.entering in
     may_enter lay h c.args.row.now (lawful_more lay h c.args.row.now c.self.invariant.lawful lawful) c.self.inside.words refl c.self.invariant.words e e c.self.invariant.entering
@@ -44,7 +44,7 @@ note-requires-4-clause-may c =
 pub note-requires-5 : goal.note-requires-5
 note-requires-5 c =
     let lay = c.self.inside.words.layout in
-    let h = history_of lay.mode c.self.inside.past in
+    let h = history_of_rows lay.mode c.self.inside.past in
     let lawful : IsLawful lay h c.args.row.now = rw (← c.self.view_is) at c.requires in
     let t = c.self.inside.taking in
     rw c.layout.ensures (may_take lay h c.args.row.now (lawful_more lay h c.args.row.now c.self.invariant.lawful lawful) t t c.self.invariant.taking)
@@ -53,7 +53,7 @@ pub invariant_of-self-2 : goal.invariant_of-self-2
 invariant_of-self-2 c =
     let old = c.self.inside in
     let lay = old.words.layout in
-    let h = history_of lay.mode old.past in
+    let h = history_of_rows lay.mode old.past in
     let row = c.args.row.now in
     let lawful : IsLawful lay h row = rw (← c.self.view_is) at c.requires in
     let e = c.reserve.ensures in

@@ -1,5 +1,5 @@
 use Rattle.std.proofs.Common.{inl, refl, arith}
-use Rattle.order.specs.Range.Next.{ComesNearer}
+use Rattle.order.specs.Range.Next.{RangeComesNearer}
 use Rattle.order.specs.declared.range.RangeNext.TheVariants.{Head, Key, Value, Look}
 use Rattle.order.proofs.Nearer.{below}
 use Rattle.order.proofs.RangeNexts.{stands_there, stands_nearer}
@@ -10,7 +10,7 @@ returns-in-Head-clause-turn c d h x = stands_there c.args.self.now c.load.new.se
 
 pub returns-in-Head-clause-nearer : goal.returns-in-Head-clause-nearer
 returns-in-Head-clause-nearer c nodes n near =
-    let x : ComesNearer c.args.self.now (Head c.in-Head.above c.in-Head.node) nodes n = rw c.in-Head.is at near in
+    let x : RangeComesNearer c.args.self.now (Head c.in-Head.above c.in-Head.node) nodes n = rw c.in-Head.is at near in
     let i = x.0 in let j = x.1 in
     stands_nearer c.args.self.now c.load.new.self c.load.result (Head c.in-Head.above c.in-Head.node) _ nodes n c.load.ensures.stands c.load.ensures.asked (omega (arith, i, j)) x
 
@@ -22,7 +22,7 @@ returns-in-Key-clause-turn c d h x = stands_there c.args.self.now c.load-in-Key.
 
 pub returns-in-Key-clause-nearer : goal.returns-in-Key-clause-nearer
 returns-in-Key-clause-nearer c nodes n near =
-    let x : ComesNearer c.args.self.now (Key c.in-Key.head c.in-Key.node) nodes n = rw c.in-Key.is at near in
+    let x : RangeComesNearer c.args.self.now (Key c.in-Key.head c.in-Key.node) nodes n = rw c.in-Key.is at near in
     let i = x.0 in let j = x.1 in
     stands_nearer c.args.self.now c.load-in-Key.new.self c.load-in-Key.result (Key c.in-Key.head c.in-Key.node) _ nodes n c.load-in-Key.ensures.stands c.load-in-Key.ensures.asked (omega (arith, i, j)) x
 
@@ -34,7 +34,7 @@ returns-in-Value-clause-turn c d h x = stands_there c.args.self.now c.load-in-Va
 
 pub returns-in-Value-clause-nearer : goal.returns-in-Value-clause-nearer
 returns-in-Value-clause-nearer c nodes n near =
-    let x : ComesNearer c.args.self.now (Value c.in-Value.key c.in-Value.node) nodes n = rw c.in-Value.is at near in
+    let x : RangeComesNearer c.args.self.now (Value c.in-Value.key c.in-Value.node) nodes n = rw c.in-Value.is at near in
     let j = x.1 in
     stands_nearer c.args.self.now c.load-in-Value.new.self c.load-in-Value.result (Value c.in-Value.key c.in-Value.node) _ nodes n c.load-in-Value.ensures.stands c.load-in-Value.ensures.asked (omega (arith, j)) x
 
@@ -46,7 +46,7 @@ returns-in-Look-clause-turn c d h x = stands_there c.args.self.now c.load-in-Loo
 
 pub returns-in-Look-clause-nearer : goal.returns-in-Look-clause-nearer
 returns-in-Look-clause-nearer c nodes n near =
-    let x : ComesNearer c.args.self.now (Look c.in-Look.level c.in-Look.left c.in-Look.right c.in-Look.node) nodes n = rw c.in-Look.is at near in
+    let x : RangeComesNearer c.args.self.now (Look c.in-Look.level c.in-Look.left c.in-Look.right c.in-Look.node) nodes n = rw c.in-Look.is at near in
     let i = x.0 in let j = x.1 in
     stands_nearer c.args.self.now c.load-in-Look.new.self c.load-in-Look.result (Look c.in-Look.level c.in-Look.left c.in-Look.right c.in-Look.node) _ nodes n c.load-in-Look.ensures.stands c.load-in-Look.ensures.asked (omega (arith, i, j)) x
 

@@ -1,6 +1,6 @@
 use Rattle.std.proofs.Common.{sym, ◌∙◌, ap}
 use Rattle.arena.specs.Heads.{head_of}
-use Rattle.order.specs.Reads.{from}
+use Rattle.order.specs.Reads.{begun_at}
 use Rattle.order.proofs.Blaming.{keeps_wider, try_as}
 use Rattle.order.proofs.Nearer.{below}
 use Rattle.order.proofs.RangeNearer.{head_at_root, head_below}
@@ -13,25 +13,25 @@ returns-in-Start-clause-turn c d h r = let t = at_start c.args.self.now d h c.ar
 pub returns-in-Root-clause-turn : goal.returns-in-Root-clause-turn
 returns-in-Root-clause-turn c d h r =
     let t = at_root c.args.self.now d h c.args.got c.in-Root.is r in
-    let on = c.head_on-next.ensures.goes_on (from d t.0) h t.2 t.3 t.4.0 (ap head_of (t.4.1 ∙ sym c.unwrap_or-value.ensures) ∙ sym c.of.ensures) in
+    let on = c.head_on-next.ensures.goes_on (begun_at d t.0) h t.2 t.3 t.4.0 (ap head_of (t.4.1 ∙ sym c.unwrap_or-value.ensures) ∙ sym c.of.ensures) in
     c.stand.ensures.turn d h (t.0, try_as d h t.0 _ _ _ _ c.head_on-next.ensures.same.3 c.head_on-next.ensures.tries t.1, on.0, on.1)
 
 pub returns-in-Head-clause-turn : goal.returns-in-Head-clause-turn
 returns-in-Head-clause-turn c d h r =
     let t = at_head c.args.self.now d h c.args.got _ c.in-Head.node c.in-Head.is r in
-    let on = c.head_on-next-in-Head.ensures.goes_on (from d t.0) h t.2 t.3 t.4.0 (ap head_of (t.4.2 ∙ sym c.unwrap_or-value.ensures) ∙ sym c.of-in-Head.ensures) in
+    let on = c.head_on-next-in-Head.ensures.goes_on (begun_at d t.0) h t.2 t.3 t.4.0 (ap head_of (t.4.2 ∙ sym c.unwrap_or-value.ensures) ∙ sym c.of-in-Head.ensures) in
     c.stand-in-Head.ensures.turn d h (t.0, try_as d h t.0 _ _ _ _ c.head_on-next-in-Head.ensures.same.3 c.head_on-next-in-Head.ensures.tries t.1, on.0, on.1)
 
 pub returns-in-Key-clause-turn : goal.returns-in-Key-clause-turn
 returns-in-Key-clause-turn c d h r =
     let t = at_key c.args.self.now d h c.args.got c.in-Key.head c.in-Key.node c.in-Key.is r in
-    let on = c.key_on-next.ensures.goes_on (from d t.0) h t.2 t.3 t.4.0 t.4.1 (t.4.2 ∙ sym c.unwrap_or-value.ensures) in
+    let on = c.key_on-next.ensures.goes_on (begun_at d t.0) h t.2 t.3 t.4.0 t.4.1 (t.4.2 ∙ sym c.unwrap_or-value.ensures) in
     c.stand-in-Key.ensures.turn d h (t.0, try_as d h t.0 _ _ _ _ c.key_on-next.ensures.same.3 c.key_on-next.ensures.tries t.1, on.0, on.1)
 
 pub returns-in-Value-clause-turn : goal.returns-in-Value-clause-turn
 returns-in-Value-clause-turn c d h r =
     let t = at_value c.args.self.now d h c.args.got c.in-Value.key c.in-Value.node c.in-Value.is r in
-    c.proceed.ensures.turn d t.0 h (try_as d h t.0 _ _ _ _ c.value_on-next.ensures.same.3 c.value_on-next.ensures.tries t.1) (c.value_on-next.ensures.goes_on (from d t.0) h c.in-Value.node.0 t.2 t.3 t.4.0 (t.4.1 ∙ sym c.unwrap_or-value.ensures))
+    c.proceed.ensures.turn d t.0 h (try_as d h t.0 _ _ _ _ c.value_on-next.ensures.same.3 c.value_on-next.ensures.tries t.1) (c.value_on-next.ensures.goes_on (begun_at d t.0) h c.in-Value.node.0 t.2 t.3 t.4.0 (t.4.1 ∙ sym c.unwrap_or-value.ensures))
 
 pub returns-in-Look-clause-turn : goal.returns-in-Look-clause-turn
 returns-in-Look-clause-turn c d h r =
@@ -58,33 +58,33 @@ returns-in-Value-clause-nearer c nodes fits = left_at c.args.self.now nodes c.pr
 pub returns-in-Root-clause-tries : goal.returns-in-Root-clause-tries
 returns-in-Root-clause-tries c d h r =
     let t = at_root c.args.self.now d h c.args.got c.in-Root.is r in
-    let on = c.head_on-next.ensures.goes_on (from d t.0) h t.2 t.3 t.4.0 (ap head_of (t.4.1 ∙ sym c.unwrap_or-value.ensures) ∙ sym c.of.ensures) in
-    keeps_wider d t.0 h _ _ c.stand.result t.1.begins.since (rw c.head_on-next.ensures.tries at (c.stand.ensures.tries (from d t.0) h on.0 on.1))
+    let on = c.head_on-next.ensures.goes_on (begun_at d t.0) h t.2 t.3 t.4.0 (ap head_of (t.4.1 ∙ sym c.unwrap_or-value.ensures) ∙ sym c.of.ensures) in
+    keeps_wider d t.0 h _ _ c.stand.result t.1.begins.since (rw c.head_on-next.ensures.tries at (c.stand.ensures.tries (begun_at d t.0) h on.0 on.1))
 
 pub returns-in-Head-clause-tries : goal.returns-in-Head-clause-tries
 returns-in-Head-clause-tries c d h r =
     let t = at_head c.args.self.now d h c.args.got _ c.in-Head.node c.in-Head.is r in
-    let on = c.head_on-next-in-Head.ensures.goes_on (from d t.0) h t.2 t.3 t.4.0 (ap head_of (t.4.2 ∙ sym c.unwrap_or-value.ensures) ∙ sym c.of-in-Head.ensures) in
-    keeps_wider d t.0 h _ _ c.stand-in-Head.result t.1.begins.since (rw c.head_on-next-in-Head.ensures.tries at (c.stand-in-Head.ensures.tries (from d t.0) h on.0 on.1))
+    let on = c.head_on-next-in-Head.ensures.goes_on (begun_at d t.0) h t.2 t.3 t.4.0 (ap head_of (t.4.2 ∙ sym c.unwrap_or-value.ensures) ∙ sym c.of-in-Head.ensures) in
+    keeps_wider d t.0 h _ _ c.stand-in-Head.result t.1.begins.since (rw c.head_on-next-in-Head.ensures.tries at (c.stand-in-Head.ensures.tries (begun_at d t.0) h on.0 on.1))
 
 pub returns-in-Key-clause-tries : goal.returns-in-Key-clause-tries
 returns-in-Key-clause-tries c d h r =
     let t = at_key c.args.self.now d h c.args.got c.in-Key.head c.in-Key.node c.in-Key.is r in
-    let on = c.key_on-next.ensures.goes_on (from d t.0) h t.2 t.3 t.4.0 t.4.1 (t.4.2 ∙ sym c.unwrap_or-value.ensures) in
-    keeps_wider d t.0 h _ _ c.stand-in-Key.result t.1.begins.since (rw c.key_on-next.ensures.tries at (c.stand-in-Key.ensures.tries (from d t.0) h on.0 on.1))
+    let on = c.key_on-next.ensures.goes_on (begun_at d t.0) h t.2 t.3 t.4.0 t.4.1 (t.4.2 ∙ sym c.unwrap_or-value.ensures) in
+    keeps_wider d t.0 h _ _ c.stand-in-Key.result t.1.begins.since (rw c.key_on-next.ensures.tries at (c.stand-in-Key.ensures.tries (begun_at d t.0) h on.0 on.1))
 
 pub returns-in-Value-clause-tries : goal.returns-in-Value-clause-tries
 returns-in-Value-clause-tries c d h r =
     let t = at_value c.args.self.now d h c.args.got c.in-Value.key c.in-Value.node c.in-Value.is r in
-    keeps_wider d t.0 h _ _ c.proceed.result t.1.begins.since (rw c.value_on-next.ensures.tries at (c.proceed.ensures.tries (from d t.0) h (c.value_on-next.ensures.goes_on (from d t.0) h c.in-Value.node.0 t.2 t.3 t.4.0 (t.4.1 ∙ sym c.unwrap_or-value.ensures))))
+    keeps_wider d t.0 h _ _ c.proceed.result t.1.begins.since (rw c.value_on-next.ensures.tries at (c.proceed.ensures.tries (begun_at d t.0) h (c.value_on-next.ensures.goes_on (begun_at d t.0) h c.in-Value.node.0 t.2 t.3 t.4.0 (t.4.1 ∙ sym c.unwrap_or-value.ensures))))
 
 pub returns-in-Look-clause-tries : goal.returns-in-Look-clause-tries
 returns-in-Look-clause-tries c d h r =
     let t = at_look c.args.self.now d h c.args.got c.in-Look.level c.in-Look.left c.in-Look.right c.in-Look.llx c.in-Look.is r in
     let l = t.4.1 in
-    keeps_wider d t.0 h _ _ c.look_on.result t.1.begins.since (c.look_on.ensures.tries (from d t.0) l.0 h t.2 t.4.0 l.1 l.2)
+    keeps_wider d t.0 h _ _ c.look_on.result t.1.begins.since (c.look_on.ensures.tries (begun_at d t.0) l.0 h t.2 t.4.0 l.1 l.2)
 
 pub returns-in-Validate-clause-tries : goal.returns-in-Validate-clause-tries
 returns-in-Validate-clause-tries c d h r =
     let t = at_validate c.args.self.now d h c.args.got c.in-Validate.asked c.in-Validate.is r in
-    keeps_wider d t.0 h _ _ c.validate_on.result t.1.begins.since (c.validate_on.ensures.tries (from d t.0) t.4.0 h t.2 t.4.1 t.4.2)
+    keeps_wider d t.0 h _ _ c.validate_on.result t.1.begins.since (c.validate_on.ensures.tries (begun_at d t.0) t.4.0 h t.2 t.4.1 t.4.2)

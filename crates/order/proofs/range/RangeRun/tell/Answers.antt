@@ -1,6 +1,6 @@
 use Rattle.std.proofs.Common.{Vec, ap, refl}
 use Rattle.std.specs.Global.{Global}
-use Rattle.spelling.specs.declared.pair.Pair.{Pair}
+use Rattle.ordered_map.specs.declared.pair.Pair.{Pair}
 use Rattle.order.proofs.range.RangeRun.tell.Goals as goal
 
 pub returns : goal.returns

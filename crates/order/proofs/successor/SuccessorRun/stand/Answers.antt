@@ -1,5 +1,5 @@
 use Rattle.std.proofs.Common.{inl, refl, arith}
-use Rattle.order.specs.Successor.Next.{ComesNearer}
+use Rattle.order.specs.Successor.Next.{SuccessorComesNearer}
 use Rattle.order.specs.declared.successor.SuccessorNext.TheVariants.{Look, Head, Key, Value}
 use Rattle.order.proofs.Nearer.{below}
 use Rattle.order.proofs.Nexts.{stands_there, stands_nearer}
@@ -10,7 +10,7 @@ returns-in-Look-clause-turn c d h x = stands_there c.args.self.now c.load.new.se
 
 pub returns-in-Look-clause-nearer : goal.returns-in-Look-clause-nearer
 returns-in-Look-clause-nearer c nodes n near =
-    let x : ComesNearer c.args.self.now (Look c.in-Look.route c.in-Look.level c.in-Look.side c.in-Look.node) nodes n = rw c.in-Look.is at near in
+    let x : SuccessorComesNearer c.args.self.now (Look c.in-Look.route c.in-Look.level c.in-Look.side c.in-Look.node) nodes n = rw c.in-Look.is at near in
     let i = x.0 in let j = x.1 in
     stands_nearer c.args.self.now c.load.new.self c.load.result (Look c.in-Look.route c.in-Look.level c.in-Look.side c.in-Look.node) _ nodes n c.load.ensures.stands c.load.ensures.asked (omega (arith, i, j)) x
 
@@ -22,7 +22,7 @@ returns-in-Head-clause-turn c d h x = stands_there c.args.self.now c.load-in-Hea
 
 pub returns-in-Head-clause-nearer : goal.returns-in-Head-clause-nearer
 returns-in-Head-clause-nearer c nodes n near =
-    let x : ComesNearer c.args.self.now (Head c.in-Head.route c.in-Head.above c.in-Head.node) nodes n = rw c.in-Head.is at near in
+    let x : SuccessorComesNearer c.args.self.now (Head c.in-Head.route c.in-Head.above c.in-Head.node) nodes n = rw c.in-Head.is at near in
     let i = x.0 in let j = x.1 in
     stands_nearer c.args.self.now c.load-in-Head.new.self c.load-in-Head.result (Head c.in-Head.route c.in-Head.above c.in-Head.node) _ nodes n c.load-in-Head.ensures.stands c.load-in-Head.ensures.asked (omega (arith, i, j)) x
 
@@ -34,7 +34,7 @@ returns-in-Key-clause-turn c d h x = stands_there c.args.self.now c.load-in-Key.
 
 pub returns-in-Key-clause-nearer : goal.returns-in-Key-clause-nearer
 returns-in-Key-clause-nearer c nodes n near =
-    let x : ComesNearer c.args.self.now (Key c.in-Key.route c.in-Key.head c.in-Key.node) nodes n = rw c.in-Key.is at near in
+    let x : SuccessorComesNearer c.args.self.now (Key c.in-Key.route c.in-Key.head c.in-Key.node) nodes n = rw c.in-Key.is at near in
     let i = x.0 in let j = x.1 in
     stands_nearer c.args.self.now c.load-in-Key.new.self c.load-in-Key.result (Key c.in-Key.route c.in-Key.head c.in-Key.node) _ nodes n c.load-in-Key.ensures.stands c.load-in-Key.ensures.asked (omega (arith, i, j)) x
 
@@ -46,7 +46,7 @@ returns-in-Value-clause-turn c d h x = stands_there c.args.self.now c.load-in-Va
 
 pub returns-in-Value-clause-nearer : goal.returns-in-Value-clause-nearer
 returns-in-Value-clause-nearer c nodes n near =
-    let x : ComesNearer c.args.self.now (Value c.in-Value.key c.in-Value.node) nodes n = rw c.in-Value.is at near in
+    let x : SuccessorComesNearer c.args.self.now (Value c.in-Value.key c.in-Value.node) nodes n = rw c.in-Value.is at near in
     let j = x.1 in
     stands_nearer c.args.self.now c.load-in-Value.new.self c.load-in-Value.result (Value c.in-Value.key c.in-Value.node) _ nodes n c.load-in-Value.ensures.stands c.load-in-Value.ensures.asked (omega (arith, j)) x
 

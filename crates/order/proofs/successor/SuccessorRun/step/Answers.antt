@@ -1,7 +1,7 @@
 use Rattle.std.proofs.Common.{◌≡◌, sym, ◌∙◌, ap}
 use Rattle.arena.specs.Heads.{head_of}
 use Rattle.order.specs.declared.successor.SuccessorAt.TheVariants.{Start, Walk, Look, Key, Validate}
-use Rattle.order.specs.Reads.{from}
+use Rattle.order.specs.Reads.{begun_at}
 use Rattle.order.proofs.Blaming.{keeps_wider}
 use Rattle.order.proofs.Finding.{tells_this}
 use Rattle.order.proofs.Nearer.{below, head_nearer}
@@ -26,7 +26,7 @@ returns-in-Look-clause-turn c d h r =
 pub returns-in-Head-clause-turn : goal.returns-in-Head-clause-turn
 returns-in-Head-clause-turn c d h r =
     let t = at_head c.args.self.now d h c.args.got c.in-Head.route _ c.in-Head.node c.in-Head.is r in
-    c.stand.ensures.turn d h (t.0, t.1, t.2, c.head_on-next.ensures.goes_on (from d t.0) h t.2 t.3 t.4.0 (ap head_of (t.4.2 ∙ sym c.unwrap_or-value.ensures) ∙ sym c.of.ensures))
+    c.stand.ensures.turn d h (t.0, t.1, t.2, c.head_on-next.ensures.goes_on (begun_at d t.0) h t.2 t.3 t.4.0 (ap head_of (t.4.2 ∙ sym c.unwrap_or-value.ensures) ∙ sym c.of.ensures))
 
 pub returns-in-Head-clause-nearer : goal.returns-in-Head-clause-nearer
 returns-in-Head-clause-nearer c nodes fits =
@@ -36,12 +36,12 @@ returns-in-Head-clause-nearer c nodes fits =
 pub returns-in-Key-clause-turn : goal.returns-in-Key-clause-turn
 returns-in-Key-clause-turn c d h r =
     let t = at_key c.args.self.now d h c.args.got c.in-Key.route c.in-Key.head c.in-Key.node c.in-Key.is r in
-    c.stand-in-Key.ensures.turn d h (t.0, t.1, t.2, c.key_on-next.ensures.goes_on (from d t.0) h t.2 t.4.0 t.4.1 (t.4.2 ∙ sym c.unwrap_or-value.ensures))
+    c.stand-in-Key.ensures.turn d h (t.0, t.1, t.2, c.key_on-next.ensures.goes_on (begun_at d t.0) h t.2 t.4.0 t.4.1 (t.4.2 ∙ sym c.unwrap_or-value.ensures))
 
 pub returns-in-Value-clause-turn : goal.returns-in-Value-clause-turn
 returns-in-Value-clause-turn c d h r =
     let t = at_value c.args.self.now d h c.args.got c.in-Value.key _ c.in-Value.is r in
-    c.validate.ensures.turn d t.0 h t.1 t.2 t.3 t.4.0.some (tells_this c.args.self.now (from d t.0) h _ c.in-Value.key c.unwrap_or-value.result t.4.0 (t.4.1 ∙ sym c.unwrap_or-value.ensures))
+    c.validate.ensures.turn d t.0 h t.1 t.2 t.3 t.4.0.some (tells_this c.args.self.now (begun_at d t.0) h _ c.in-Value.key c.unwrap_or-value.result t.4.0 (t.4.1 ∙ sym c.unwrap_or-value.ensures))
 
 pub returns-in-Validate-clause-turn : goal.returns-in-Validate-clause-turn
 returns-in-Validate-clause-turn c d h r =
@@ -73,30 +73,30 @@ pub returns-in-Walk-clause-tries : goal.returns-in-Walk-clause-tries
 returns-in-Walk-clause-tries c d h r =
     let t = at_walk c.args.self.now d h c.args.got c.in-Walk.walk c.in-Walk.turn c.in-Walk.is r in
     let w = t.2 in
-    keeps_wider d w.0 h _ _ c.walk_on.result w.1.begins.since (c.walk_on.ensures.tries (from d w.0) h t.0 t.1 w.2 w.4.0 w.4.1 w.4.2)
+    keeps_wider d w.0 h _ _ c.walk_on.result w.1.begins.since (c.walk_on.ensures.tries (begun_at d w.0) h t.0 t.1 w.2 w.4.0 w.4.1 w.4.2)
 
 pub returns-in-Look-clause-tries : goal.returns-in-Look-clause-tries
 returns-in-Look-clause-tries c d h r =
     let t = at_look c.args.self.now d h c.args.got c.in-Look.route c.in-Look.level c.in-Look.side c.in-Look.llx c.in-Look.is r in
     let l = t.4.1 in
-    keeps_wider d t.0 h _ _ c.look_on.result t.1.begins.since (c.look_on.ensures.tries (from d t.0) l.0 h t.2 t.4.0 l.1 l.2)
+    keeps_wider d t.0 h _ _ c.look_on.result t.1.begins.since (c.look_on.ensures.tries (begun_at d t.0) l.0 h t.2 t.4.0 l.1 l.2)
 
 pub returns-in-Head-clause-tries : goal.returns-in-Head-clause-tries
 returns-in-Head-clause-tries c d h r =
     let t = at_head c.args.self.now d h c.args.got c.in-Head.route _ c.in-Head.node c.in-Head.is r in
-    keeps_wider d t.0 h _ _ c.stand.result t.1.begins.since (c.stand.ensures.tries (from d t.0) h t.2 (c.head_on-next.ensures.goes_on (from d t.0) h t.2 t.3 t.4.0 (ap head_of (t.4.2 ∙ sym c.unwrap_or-value.ensures) ∙ sym c.of.ensures)))
+    keeps_wider d t.0 h _ _ c.stand.result t.1.begins.since (c.stand.ensures.tries (begun_at d t.0) h t.2 (c.head_on-next.ensures.goes_on (begun_at d t.0) h t.2 t.3 t.4.0 (ap head_of (t.4.2 ∙ sym c.unwrap_or-value.ensures) ∙ sym c.of.ensures)))
 
 pub returns-in-Key-clause-tries : goal.returns-in-Key-clause-tries
 returns-in-Key-clause-tries c d h r =
     let t = at_key c.args.self.now d h c.args.got c.in-Key.route c.in-Key.head c.in-Key.node c.in-Key.is r in
-    keeps_wider d t.0 h _ _ c.stand-in-Key.result t.1.begins.since (c.stand-in-Key.ensures.tries (from d t.0) h t.2 (c.key_on-next.ensures.goes_on (from d t.0) h t.2 t.4.0 t.4.1 (t.4.2 ∙ sym c.unwrap_or-value.ensures)))
+    keeps_wider d t.0 h _ _ c.stand-in-Key.result t.1.begins.since (c.stand-in-Key.ensures.tries (begun_at d t.0) h t.2 (c.key_on-next.ensures.goes_on (begun_at d t.0) h t.2 t.4.0 t.4.1 (t.4.2 ∙ sym c.unwrap_or-value.ensures)))
 
 pub returns-in-Value-clause-tries : goal.returns-in-Value-clause-tries
 returns-in-Value-clause-tries c d h r =
     let t = at_value c.args.self.now d h c.args.got c.in-Value.key _ c.in-Value.is r in
-    keeps_wider d t.0 h _ _ c.validate.result t.1.begins.since (c.validate.ensures.tries (from d t.0) h t.2 t.3 t.4.0.some (tells_this c.args.self.now (from d t.0) h _ c.in-Value.key c.unwrap_or-value.result t.4.0 (t.4.1 ∙ sym c.unwrap_or-value.ensures)))
+    keeps_wider d t.0 h _ _ c.validate.result t.1.begins.since (c.validate.ensures.tries (begun_at d t.0) h t.2 t.3 t.4.0.some (tells_this c.args.self.now (begun_at d t.0) h _ c.in-Value.key c.unwrap_or-value.result t.4.0 (t.4.1 ∙ sym c.unwrap_or-value.ensures)))
 
 pub returns-in-Validate-clause-tries : goal.returns-in-Validate-clause-tries
 returns-in-Validate-clause-tries c d h r =
     let t = at_validate c.args.self.now d h c.args.got c.in-Validate.asked c.in-Validate.found c.in-Validate.is r in
-    keeps_wider d t.0 h _ _ c.validate_on.result t.1.begins.since (c.validate_on.ensures.tries (from d t.0) t.4.0 h t.2 t.4.1 t.4.2)
+    keeps_wider d t.0 h _ _ c.validate_on.result t.1.begins.since (c.validate_on.ensures.tries (begun_at d t.0) t.4.0 h t.2 t.4.1 t.4.2)

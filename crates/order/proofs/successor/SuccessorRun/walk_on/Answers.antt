@@ -1,6 +1,6 @@
 use Rattle.std.proofs.Common.{arith}
 use Rattle.template.proofs.Lemmas.{walk_past_root}
-use Rattle.order.specs.Reads.{from}
+use Rattle.order.specs.Reads.{begun_at}
 use Rattle.order.proofs.Finding.{looks_first}
 use Rattle.order.proofs.Nearer.{less_walk}
 use Rattle.order.proofs.Turns.{walks_on, walk_turned}
@@ -14,11 +14,11 @@ returns-in-Done-clause-nearer c nodes fits = c.stand.ensures.nearer nodes _ (ome
 
 pub returns-in-Ask-clause-turn : goal.returns-in-Ask-clause-turn
 returns-in-Ask-clause-turn c d begin h v got try goes goal last ready =
-    let past = walk_past_root c.args.walk (from d begin) h c.next.new.self v goes.reads.run.1 ready (λ nodes fits. rw c.in-Ask.is at c.next.ensures.nearer nodes (rw got fits)) in
-    walks_on c.args.self.now c.args.walk c.next.new.self c.args.turn d begin h c.next.result goes goal last c.next.ensures.same (c.next.ensures.turn (from d begin) h goes.reads.run.1 (rw got ready)) c.in-Ask.step c.last_turn-turn.result c.in-Ask.is c.last_turn-turn.ensures past try
+    let past = walk_past_root c.args.walk (begun_at d begin) h c.next.new.self v goes.reads.run.1 ready (λ nodes fits. rw c.in-Ask.is at c.next.ensures.nearer nodes (rw got fits)) in
+    walks_on c.args.self.now c.args.walk c.next.new.self c.args.turn d begin h c.next.result goes goal last c.next.ensures.same (c.next.ensures.turn (begun_at d begin) h goes.reads.run.1 (rw got ready)) c.in-Ask.step c.last_turn-turn.result c.in-Ask.is c.last_turn-turn.ensures past try
 
 pub returns-in-Done-clause-turn : goal.returns-in-Done-clause-turn
-returns-in-Done-clause-turn c d begin h v got try goes goal last ready = c.stand.ensures.turn d h (begin, try, goes, looks_first c.args.self.now (from d begin) h c.args.turn.0 goes (walk_turned c.args.self.now c.args.walk c.next.new.self c.args.turn d begin h c.next.result goes goal last c.next.ensures.same (c.next.ensures.turn (from d begin) h goes.reads.run.1 (rw got ready)) _ c.in-Done.is))
+returns-in-Done-clause-turn c d begin h v got try goes goal last ready = c.stand.ensures.turn d h (begin, try, goes, looks_first c.args.self.now (begun_at d begin) h c.args.turn.0 goes (walk_turned c.args.self.now c.args.walk c.next.new.self c.args.turn d begin h c.next.result goes goal last c.next.ensures.same (c.next.ensures.turn (begun_at d begin) h goes.reads.run.1 (rw got ready)) _ c.in-Done.is))
 
 pub returns-in-Done-clause-begins : goal.returns-in-Done-clause-begins
 returns-in-Done-clause-begins c none d h ready = absurd (rw c.in-Done.is at (c.next.ensures.begins none tt d h ready))

@@ -1,7 +1,7 @@
 use Rattle.std.proofs.Common.{◌∙◌, sym, ap, refl, Some}
 use Rattle.arena.specs.Share.{Remaining}
 use Rattle.dict.specs.Calls.{AsksForPairs}
-use Rattle.spelling.specs.Requests.{map_request}
+use Rattle.ordered_map.specs.Requests.{map_request}
 use Rattle.player.specs.RunKnown.{IsForNothing}
 use Rattle.player.proofs.Begins.{map_begins, map_refuses, map_starts}
 use Rattle.player.proofs.client.Client.begin_request.Goals as goal

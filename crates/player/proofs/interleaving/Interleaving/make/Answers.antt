@@ -7,7 +7,7 @@ use Rattle.record.specs.Turns.{clients}
 use Rattle.player.specs.ClientView.{client_view}
 use Rattle.player.specs.BetweenTurns.{IsEnd, ArePlaces}
 use Rattle.arena.specs.declared.number.PassNo.{PassNo}
-use Rattle.places.specs.Places.{changes}
+use Rattle.moments.specs.Places.{changes}
 use Rattle.player.proofs.Middles.{some_client, get_own, wins_step, wins_reply}
 use Rattle.std.proofs.lemmas.Option.{get_or_from_slice_get}
 use Rattle.player.specs.declared.client.Client.{Client}

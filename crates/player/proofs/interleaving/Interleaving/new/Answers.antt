@@ -1,8 +1,8 @@
 use Rattle.std.proofs.Common.{◌≡◌, List, [], sym, subst}
 use Rattle.script.proofs.Lemmas.{calls_are_of_mode}
 use Rattle.record.specs.declared.record.Line.{Line}
-use Rattle.places.specs.Places.{changes}
-use Rattle.places.specs.Entries.{AreEntries}
+use Rattle.moments.specs.Places.{changes}
+use Rattle.moments.specs.Entries.{AreEntries}
 use Rattle.player.specs.Lines.{newest}
 use Rattle.player.specs.BetweenTurns.{AreBetweenTurns, AreWins}
 use Rattle.player.proofs.Plays.{opening_between, no_wins}

@@ -10,7 +10,7 @@ use Rattle.player.specs.Lines.{newest}
 use Rattle.player.specs.Player.{ScriptView, script_view}
 use Rattle.record.specs.Turns.{turns, clients, begin}
 use Rattle.player.specs.ClientView.{IsNextAction, client_view}
-use Rattle.places.specs.Places.{changes}
+use Rattle.moments.specs.Places.{changes}
 use Rattle.player.specs.BetweenTurns.{IsEnd, ArePlaces}
 use Rattle.player.proofs.Middles.{some_client, get_own, wins_idle, wins_reply}
 use Rattle.player.proofs.Steps.{between_at, places_roomy}

@@ -5,7 +5,7 @@ use Rattle.prims.specs.Llx.Known.{LlxIsReady}
 use Rattle.prims.specs.Put.Known.{PutIsReady}
 use Rattle.prims.specs.Vlx.Known.{VlxIsReady}
 use Rattle.dict.specs.DictKnown.{DictIsReady}
-use Rattle.dict.specs.DictLaws.{dict_told}
+use Rattle.dict.specs.Laws.Dict.{dict_told}
 use Rattle.dict.specs.Words.{IsNumber}
 use Rattle.player.proofs.Shapes.{as_cells, as_numbers}
 use Rattle.player.proofs.run.Run.next.Goals as goal

@@ -1,0 +1,57 @@
+-- The laws of the machine of a call of a dictionary: rows of others leave it waiting, its steps are
+-- lawful and begin edits of typed words alone, and what it is told is so.
+use Rattle.std.proofs.Common.{◌≢◌, ℕ, ◌≤◌, length, Option, Some}
+use Rattle.arena.specs.declared.step.Kind.TheVariants.{Fill}
+use Rattle.arena.specs.declared.step.Row.{Row}
+use Rattle.arena.specs.declared.step.Step.{Step}
+use Rattle.arena.specs.History.{History, ◌⊳◌, value}
+use Rattle.arena.specs.Machines.{Call, IsRun, IsTold, row_of}
+use Rattle.arena.specs.Share.{Remaining}
+use Rattle.arena.specs.TakenNodes.{taken_nodes}
+use Rattle.order.specs.Range.Laws.{range_fills_not}
+use Rattle.order.specs.Successor.Laws.{successor_fills_not}
+use Rattle.ordered_map.specs.TreeShape.{TreeAllows}
+use Rattle.tree.specs.Delete.Means.{delete_means}
+use Rattle.tree.specs.Insert.Means.{insert_means}
+use Rattle.tree.proofs.Lemmas.{get_fills_not}
+use Rattle.dict.specs.Calls.{call_in}
+use Rattle.dict.specs.DictKnown.{DictIsReady, DictWaits}
+use Rattle.dict.specs.Known.{HasRested, WaitsInside}
+use Rattle.dict.specs.Laws.Map.{map_keeps, map_lawful, map_made, map_told, on}
+use Rattle.dict.specs.Steps.{MapFits}
+use Rattle.dict.specs.Typed.{IsTypedCall, TypedAllows}
+use Rattle.dict.specs.Laws.TypedMaps.{typed_run}
+use Rattle.dict.specs.Laws.TypedSteps.{typed_quiet, typed_update_lawful}
+use Rattle.dict.specs.declared.dict.DictRun.{DictRun}
+use Rattle.dict.specs.declared.run.MapRun.{MapRun}
+use Rattle.dict.specs.declared.run.MapRun.TheVariants.{Insert, Delete, Get, Successor, Range}
+
+module _ (keys values : ℕ → Type 0) where
+  -- a read begins none: its pass is at rest behind its step too
+  read_lawful : (m : MapRun) (c : Call) (h : History) (s : Step) (share : Remaining) → s.kind ≢ Fill → IsRun (TypedAllows keys values) c.layout h → IsRun TreeAllows c.layout (row_of c s h ⊳ h) → HasRested c h share → IsRun (TypedAllows keys values) c.layout (row_of c s h ⊳ h)
+  read_lawful m c h s share fills_not run tree x = typed_quiet keys values c.layout h (row_of c s h) run tree (on c h (row_of c s h) share tree fills_not x).now.over
+
+  -- the step of the machine inside continues a run of the dictionary
+  lawful_inside : (m : MapRun) (c : Call) (h : History) (s : Step) → IsRun (TypedAllows keys values) c.layout h → IsRun TreeAllows c.layout (row_of c s h ⊳ h) → IsTypedCall keys values (call_in m) → WaitsInside m c h s → IsRun (TypedAllows keys values) c.layout (row_of c s h ⊳ h)
+  lawful_inside (Insert m) c h s run tree typed w = typed_update_lawful keys values insert_means m c h s run (λ f need. typed) w
+  lawful_inside (Delete m) c h s run tree typed w = typed_update_lawful keys values delete_means m c h s run (λ f need. typed) w
+  lawful_inside (Get m share) c h s run tree typed w = read_lawful (Get m share) c h s share (get_fills_not m c h s w.0) run tree w.1
+  lawful_inside (Successor m share) c h s run tree typed w = read_lawful (Successor m share) c h s share (successor_fills_not m c h s w.0) run tree w.1
+  lawful_inside (Range m share) c h s run tree typed w = read_lawful (Range m share) c h s share (range_fills_not m c h s w.0) run tree w.1
+
+  module _ {K V : Type 0} where
+    -- rows of other passes leave the machine waiting for the same step
+    pub dict_keeps : (m : DictRun K V) (c : Call) (h : History) (s : Step) (r : Row) → IsRun (TypedAllows keys values) c.layout (r ⊳ h) → r.pass.0 ≢ c.pass → DictWaits keys values m c h s → DictWaits keys values m c (r ⊳ h) s
+    dict_keeps m c h s r run other w = (w.0, map_keeps m.tries m.run c h s r (typed_run keys values c.layout (r ⊳ h) run) other w.1)
+
+    -- the step that it waits for continues the run
+    pub dict_lawful : (m : DictRun K V) (c : Call) (h : History) (s : Step) → IsRun (TypedAllows keys values) c.layout h → DictWaits keys values m c h s → IsRun (TypedAllows keys values) c.layout (row_of c s h ⊳ h)
+    dict_lawful m c h s run w = lawful_inside m.run c h s run (map_lawful m.run c h s (typed_run keys values c.layout h run) w.1.1) w.0 w.1.1
+
+    -- once the step is made, it may be called with what that told
+    pub dict_made : (m : DictRun K V) (c : Call) (h : History) (s : Step) (v : ℕ) → IsRun (TypedAllows keys values) c.layout (row_of c s h ⊳ h) → IsTold s.access (value h s.word) v → DictWaits keys values m c h s → DictIsReady keys values m c (row_of c s h ⊳ h) (Some v)
+    dict_made m c h s v run told w = (w.0, map_made m.tries m.run c h s v (typed_run keys values c.layout (row_of c s h ⊳ h) run) told w.1)
+
+    -- what it may be told fits the nodes that are taken by then
+    pub dict_told : (m : DictRun K V) (c : Call) (h : History) (got : Option ℕ) (nodes : ℕ) → IsRun (TypedAllows keys values) c.layout h → DictIsReady keys values m c h got → length (taken_nodes h) ≤ nodes → MapFits m.run got nodes
+    dict_told m c h got nodes run x few = map_told m.tries m.run c h got nodes (typed_run keys values c.layout h run) x.1 few

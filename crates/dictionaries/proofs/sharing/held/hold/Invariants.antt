@@ -1,6 +1,0 @@
-use Rattle.std.proofs.Common.{◌≡◌, false}
-use Rattle.forest.specs.Passes.{IsOf}
-use Rattle.dictionaries.proofs.sharing.held.hold.Given as goal
-
-abbrev pub invariant-loop-step : goal.invariant-loop-step
-invariant-loop-step l = IsOf l.forest l.call.began × (l.call.over ≡ false)

@@ -1,5 +1,0 @@
-use Rattle.forest.specs.Passes.{IsOf}
-use Rattle.dictionaries.proofs.sharing.threads.make_rounds.Given as goal
-
-abbrev pub invariant-loop-round : goal.invariant-loop-round
-invariant-loop-round l = IsOf l.forest l.pass

@@ -1,0 +1,288 @@
+-- What an update waits for behind the fill of a word: the next word, the next node, or its SCX.
+use Rattle.std.proofs.Common.{◌≡◌, ◌≢◌, ℕ, suc, ◌<◌, ◌≤◌, ◌⊎◌, inl, inr, Some, None, refl, sym, subst, arith}
+use Rattle.arena.specs.declared.number.NodeNo.{NodeNo}
+use Rattle.arena.specs.declared.word.Side.{Side}
+use Rattle.arena.specs.declared.word.Side.TheVariants.{Left, Right}
+use Rattle.arena.specs.declared.word.NodeWord.{NodeWord}
+use Rattle.arena.specs.declared.word.NodeWord.TheVariants.{Head, Key, Value, Child, Info, Marked}
+use Rattle.arena.specs.Fills.{IsInField}
+use Rattle.arena.specs.History.{History}
+use Rattle.arena.specs.Machines.{Call}
+use Rattle.template.specs.declared.walk.Found.{Found}
+use Rattle.edits.specs.declared.edit.Need.{Need}
+use Rattle.edits.specs.declared.edit.Need.TheVariants.{Nothing, One, Three}
+use Rattle.edits.specs.declared.edit.Nodes.{Nodes}
+use Rattle.edits.specs.declared.edit.Nth.{Nth}
+use Rattle.edits.specs.declared.edit.Nth.TheVariants.{First, Second, Third}
+use Rattle.edits.specs.declared.edit.Piece.{Piece}
+use Rattle.edits.specs.declared.edit.Piece.TheVariants.{Leaf, Fork}
+use Rattle.edits.specs.declared.update.UpdateRun.{UpdateRun}
+use Rattle.edits.specs.Edits.{EditMeaning}
+use Rattle.edits.specs.Known.{ComesBefore, IsNeeded, AreInOrder, CanLoad, CanFill, CanScx, IsFilledUpTo, HoldsPiece, piece, top}
+use Rattle.edits.specs.Laws.Hand.{IsBefore, IsUpTo, IsPieceWord, HoldsWords, HasFilledTo, IsForField, FieldMay, filled_next}
+use Rattle.edits.specs.Pieces.{nth_behind, nth_node, part_behind, word_of, top_of}
+use Rattle.edits.specs.Sound.{FillsWell}
+use Rattle.edits.proofs.Loading.{piece_is}
+use Rattle.edits.proofs.Nearer.{the_same}
+
+-- The next word
+
+head_key : (q : NodeWord) → IsBefore Key q → IsUpTo Head q
+head_key Head i = tt
+head_key _ i = absurd i
+
+key_value : (q : NodeWord) → IsBefore Value q → IsUpTo Key q
+key_value Head i = tt
+key_value Key i = tt
+key_value _ i = absurd i
+
+key_left : (q : NodeWord) → IsBefore (Child Left) q → IsUpTo Key q
+key_left Head i = tt
+key_left Key i = tt
+key_left _ i = absurd i
+
+left_right : (q : NodeWord) → IsBefore (Child Right) q → IsUpTo (Child Left) q
+left_right Head i = tt
+left_right Key i = tt
+left_right (Child Left) i = tt
+left_right _ i = absurd i
+
+-- a word of the piece that is filled, behind those that are filled up to another
+record ComesNext (p : Piece) (part next : NodeWord) : Type 0 where
+  is : IsPieceWord p next
+  before : (q : NodeWord) → IsBefore next q → IsUpTo part q
+
+next_word : (p : Piece) (part next : NodeWord) → part_behind p part ≡ Some next → ComesNext p part next
+next_word (Leaf level class key v) Head next e = subst (λ q. ComesNext (Leaf level class key v) Head q) (the_same Key next e) record { is = tt; before = head_key }
+next_word (Leaf level class key v) Key next e = subst (λ q. ComesNext (Leaf level class key v) Key q) (the_same Value next e) record { is = tt; before = key_value }
+next_word (Leaf level class key v) _ next e = absurd (let d : None ≡ Some next = e in cc)
+next_word (Fork level class key l r) Head next e = subst (λ q. ComesNext (Fork level class key l r) Head q) (the_same Key next e) record { is = tt; before = head_key }
+next_word (Fork level class key l r) Key next e = subst (λ q. ComesNext (Fork level class key l r) Key q) (the_same (Child Left) next e) record { is = tt; before = key_left }
+next_word (Fork level class key l r) (Child Left) next e = subst (λ q. ComesNext (Fork level class key l r) (Child Left) q) (the_same (Child Right) next e) record { is = tt; before = left_right }
+next_word (Fork level class key l r) _ next e = absurd (let d : None ≡ Some next = e in cc)
+
+-- The last word
+
+leaf_words : (level class key v : ℕ) (q : NodeWord) → IsPieceWord (Leaf level class key v) q → IsUpTo Value q
+leaf_words level class key v Head i = tt
+leaf_words level class key v Key i = tt
+leaf_words level class key v Value i = tt
+leaf_words level class key v (Child side) i = absurd i
+leaf_words level class key v Info i = absurd i
+leaf_words level class key v Marked i = absurd i
+
+fork_words : (level class key : ℕ) (l r : NodeNo) (q : NodeWord) → IsPieceWord (Fork level class key l r) q → IsUpTo (Child Right) q
+fork_words level class key l r Head i = tt
+fork_words level class key l r Key i = tt
+fork_words level class key l r Value i = absurd i
+fork_words level class key l r (Child Left) i = tt
+fork_words level class key l r (Child Right) i = tt
+fork_words level class key l r Info i = absurd i
+fork_words level class key l r Marked i = absurd i
+
+-- behind the last word all words of the piece are filled
+last_word : (p : Piece) (part : NodeWord) → IsPieceWord p part → part_behind p part ≡ None → (q : NodeWord) → IsPieceWord p q → IsUpTo part q
+last_word (Leaf level class key v) Head i e q j = absurd (let d : Some Key ≡ None = e in cc)
+last_word (Leaf level class key v) Key i e q j = absurd (let d : Some Value ≡ None = e in cc)
+last_word (Leaf level class key v) Value i e q j = leaf_words level class key v q j
+last_word (Leaf level class key v) (Child side) i e q j = absurd i
+last_word (Leaf level class key v) Info i e q j = absurd i
+last_word (Leaf level class key v) Marked i e q j = absurd i
+last_word (Fork level class key l r) Head i e q j = absurd (let d : Some Key ≡ None = e in cc)
+last_word (Fork level class key l r) Key i e q j = absurd (let d : Some (Child Left) ≡ None = e in cc)
+last_word (Fork level class key l r) (Child Left) i e q j = absurd (let d : Some (Child Right) ≡ None = e in cc)
+last_word (Fork level class key l r) (Child Right) i e q j = fork_words level class key l r q j
+last_word (Fork level class key l r) Value i e q j = absurd i
+last_word (Fork level class key l r) Info i e q j = absurd i
+last_word (Fork level class key l r) Marked i e q j = absurd i
+
+-- The next node
+
+-- a needed node of a place before is not the last
+earlier_below : (ns : Nodes) (need : Need) (nth i : Nth) → IsNeeded need nth → AreInOrder need ns → ComesBefore i nth → (ns.first.0 ≤ (nth_node ns i).0) × ((nth_node ns i).0 < top_of need ns)
+earlier_below ns Nothing nth i n o b = absurd n
+earlier_below ns One First First n o b = absurd b
+earlier_below ns One First Second n o b = absurd b
+earlier_below ns One First Third n o b = absurd b
+earlier_below ns One Second i n o b = absurd n
+earlier_below ns One Third i n o b = absurd n
+earlier_below ns Three First First n o b = absurd b
+earlier_below ns Three First Second n o b = absurd b
+earlier_below ns Three First Third n o b = absurd b
+earlier_below ns Three Second First n o b = let p = o.0 in let q = o.1 in (omega arith, omega (arith, p, q))
+earlier_below ns Three Second Second n o b = absurd b
+earlier_below ns Three Second Third n o b = absurd b
+earlier_below ns Three Third First n o b = let p = o.0 in let q = o.1 in (omega arith, omega (arith, p, q))
+earlier_below ns Three Third Second n o b = let p = o.0 in let q = o.1 in (omega (arith, p), omega (arith, q))
+earlier_below ns Three Third Third n o b = absurd b
+
+-- the place behind: its node comes next, and what comes before that is this node or before it
+record ComesBehind (ns : Nodes) (need : Need) (nth after : Nth) : Type 0 where
+  needed : IsNeeded need after
+  number : suc (nth_node ns nth).0 ≡ (nth_node ns after).0
+  lowest : ns.first.0 ≤ (nth_node ns after).0
+  highest : (nth_node ns after).0 ≤ top_of need ns
+  before : (i : Nth) → ComesBefore i after → ComesBefore i nth ⊎ (nth ≡ i)
+
+before_second : (i : Nth) → ComesBefore i Second → ComesBefore i First ⊎ (First ≡ i)
+before_second First b = inr refl
+before_second Second b = absurd b
+before_second Third b = absurd b
+
+before_third : (i : Nth) → ComesBefore i Third → ComesBefore i Second ⊎ (Second ≡ i)
+before_third First b = inl tt
+before_third Second b = inr refl
+before_third Third b = absurd b
+
+next_node : (ns : Nodes) (need : Need) (nth after : Nth) → AreInOrder need ns → nth_behind need nth ≡ Some after → ComesBehind ns need nth after
+next_node ns Nothing nth after o e = absurd (let d : None ≡ Some after = e in cc)
+next_node ns One nth after o e = absurd (let d : None ≡ Some after = e in cc)
+next_node ns Three First after o e = let p = o.0 in let q = o.1 in subst (λ i. ComesBehind ns Three First i) (the_same Second after e) record { needed = tt; number = omega (arith, p); lowest = omega (arith, p); highest = omega (arith, q); before = before_second }
+next_node ns Three Second after o e = let p = o.0 in let q = o.1 in subst (λ i. ComesBehind ns Three Second i) (the_same Third after e) record { needed = tt; number = omega (arith, q); lowest = omega (arith, p, q); highest = omega arith; before = before_third }
+next_node ns Three Third after o e = absurd (let d : None ≡ Some after = e in cc)
+
+-- The last node
+
+-- where none comes behind, the node of this place is the last
+last_node : (ns : Nodes) (need : Need) (nth : Nth) → IsNeeded need nth → nth_behind need nth ≡ None → (nth_node ns nth).0 ≡ top_of need ns
+last_node ns Nothing nth n e = absurd n
+last_node ns One First n e = refl
+last_node ns One Second n e = absurd n
+last_node ns One Third n e = absurd n
+last_node ns Three First n e = absurd (let d : Some Second ≡ None = e in cc)
+last_node ns Three Second n e = absurd (let d : Some Third ≡ None = e in cc)
+last_node ns Three Third n e = refl
+
+-- and each that is needed is that one or comes before it
+last_place : (need : Need) (nth i : Nth) → IsNeeded need nth → nth_behind need nth ≡ None → IsNeeded need i → ComesBefore i nth ⊎ (nth ≡ i)
+last_place Nothing nth i n e j = absurd n
+last_place One First First n e j = inr refl
+last_place One First Second n e j = absurd j
+last_place One First Third n e j = absurd j
+last_place One Second i n e j = absurd n
+last_place One Third i n e j = absurd n
+last_place Three First i n e j = absurd (let d : Some Second ≡ None = e in cc)
+last_place Three Second i n e j = absurd (let d : Some Third ≡ None = e in cc)
+last_place Three Third First n e j = inl tt
+last_place Three Third Second n e j = inl tt
+last_place Three Third Third n e j = inr refl
+
+-- each needed node is one of those in hand
+needed_within : (ns : Nodes) (need : Need) (i : Nth) → IsNeeded need i → AreInOrder need ns → (ns.first.0 ≤ (nth_node ns i).0) × ((nth_node ns i).0 ≤ top_of need ns)
+needed_within ns Nothing i n o = absurd n
+needed_within ns One First n o = (omega arith, omega arith)
+needed_within ns One Second n o = absurd n
+needed_within ns One Third n o = absurd n
+needed_within ns Three First n o = let p = o.0 in let q = o.1 in (omega arith, omega (arith, p, q))
+needed_within ns Three Second n o = let p = o.0 in let q = o.1 in (omega (arith, p), omega (arith, q))
+needed_within ns Three Third n o = let p = o.0 in let q = o.1 in (omega (arith, p, q), omega arith)
+
+is_something : (need : Need) (nth : Nth) → IsNeeded need nth → need ≢ Nothing
+is_something Nothing nth n e = n
+is_something One nth n e = cc
+is_something Three nth n e = cc
+
+module _ {E : Type 0} (e : EditMeaning E) {A : Type 0} (m : UpdateRun E A) (c : Call) (h : History) (f : Found) (nth : Nth) (part : NodeWord) (x : IsFilledUpTo e m c h f nth part) where
+  abbrev here : ℕ
+  here = (nth_node m.nodes nth).0
+
+  abbrev said : Piece
+  said = e.pieces m.edit f m.snaps.items m.nodes m.loaded nth
+
+  is_said : piece e m f here ≡ said
+  is_said = piece_is (λ i. e.pieces m.edit f m.snaps.items m.nodes m.loaded i) m.nodes (e.needs m.edit f) nth x.0.works.need x.0.works.in_order
+
+  for_field : FillsWell e → (side : Side) → IsPieceWord said (Child side) → IsForField c.layout h m.nodes.first.0 (top e m f) (word_of said (Child side))
+  for_field sound side i = go (sound.fields m.edit c h f m.snaps.items m.nodes m.loaded nth side x.0.works.run x.0.works.looked x.0.works.enough x.0.works.need i)
+    where
+      go : ((j : Nth) × ComesBefore j nth × (word_of said (Child side) ≡ (nth_node m.nodes j).0)) ⊎ IsInField c.layout h (word_of said (Child side)) → IsForField c.layout h m.nodes.first.0 (top e m f) (word_of said (Child side))
+      go (inl y) = inl (subst (λ v. (m.nodes.first.0 ≤ v) × (v < top e m f)) (sym y.2) (earlier_below m.nodes (e.needs m.edit f) nth y.0 x.0.works.need x.0.works.in_order y.1))
+      go (inr y) = inr y
+
+  field_may : FillsWell e → (next : NodeWord) → IsPieceWord said next → FieldMay next (IsForField c.layout h m.nodes.first.0 (top e m f) (word_of said next))
+  field_may sound (Child side) i = for_field sound side i
+  field_may sound Head i = tt
+  field_may sound Key i = tt
+  field_may sound Value i = tt
+  field_may sound Info i = tt
+  field_may sound Marked i = tt
+
+  -- it may fill the next word
+  pub fills_next : (next : NodeWord) → FillsWell e → part_behind said part ≡ Some next → CanFill e m c h f nth next
+  fills_next next sound is = record {
+    fills = record { works = x.0.works; full = x.0.full; hand = x.0.hand; done = x.0.done; part_is = subst (λ p. IsPieceWord p next) (sym is_said) next_is.is };
+    same = is_said;
+    may = subst (λ p. FieldMay next (IsForField c.layout h m.nodes.first.0 (top e m f) (word_of p next))) (sym is_said) (field_may sound next next_is.is);
+    words = λ q i. x.1 q (next_is.before q i);
+  }
+    where
+      next_is : ComesNext said part next
+      next_is = next_word said part next is
+
+  -- the node of this place is full
+  all_words : part_behind said part ≡ None → HoldsWords h here (piece e m f here) (IsPieceWord (piece e m f here))
+  all_words none q i = x.1 q (last_word (piece e m f here) part x.0.part_is (subst (λ p. part_behind p part ≡ None) (sym is_said) none) q i)
+
+  filled_here : part_behind said part ≡ None → HasFilledTo c.layout h c.pass m.share m.nodes.first.0 (top e m f) (suc here) (piece e m f)
+  filled_here none = filled_next c.layout h c.pass m.share m.nodes.first.0 (top e m f) here (piece e m f) x.2 (all_words none) x.0.full
+
+  -- nothing more is wanted for it, nor for those before
+  wants_none : (i : Nth) → ComesBefore i nth ⊎ (nth ≡ i) → e.wants m.edit f m.snaps.items m.loaded i ≡ None
+  wants_none i (inl b) = x.0.works.before i b
+  wants_none i (inr q) = subst (λ j. e.wants m.edit f m.snaps.items m.loaded j ≡ None) q x.0.done
+
+  -- it may go on with the next node
+  pub loads_next : (after : Nth) → part_behind said part ≡ None → nth_behind (e.needs m.edit f) nth ≡ Some after → CanLoad e m c h f after
+  loads_next after none is = record {
+    works = record {
+      run = x.0.works.run;
+      since = x.0.works.since;
+      quiet = x.0.works.quiet;
+      looked = x.0.works.looked;
+      enough = x.0.works.enough;
+      need = behind.needed;
+      in_order = x.0.works.in_order;
+      some = x.0.works.some;
+      named = x.0.works.named;
+      inside = x.0.works.inside;
+      loaded = x.0.works.loaded;
+      before = λ i b. wants_none i (behind.before i b);
+    };
+    full = subst (λ n. HasFilledTo c.layout h c.pass m.share m.nodes.first.0 (top e m f) n (piece e m f)) behind.number (filled_here none);
+    hand = record { lowest = behind.lowest; highest = behind.highest };
+  }
+    where
+      behind : ComesBehind m.nodes (e.needs m.edit f) nth after
+      behind = next_node m.nodes (e.needs m.edit f) nth after x.0.works.in_order is
+
+  -- it may begin its SCX
+  pub scx_next : part_behind said part ≡ None → nth_behind (e.needs m.edit f) nth ≡ None → CanScx e m c h f
+  scx_next none last = record {
+    run = x.0.works.run;
+    since = x.0.works.since;
+    quiet = x.0.works.quiet;
+    need = is_something (e.needs m.edit f) nth x.0.works.need;
+    some = x.0.works.some;
+    all = record {
+      looked = x.0.works.looked;
+      enough = x.0.works.enough;
+      in_order = x.0.works.in_order;
+      loaded = x.0.works.loaded;
+      done = λ i n. wants_none i (last_place (e.needs m.edit f) nth i x.0.works.need last n);
+      holds = holds;
+    };
+    full = all_full;
+  }
+    where
+      all_full : HasFilledTo c.layout h c.pass m.share m.nodes.first.0 (top e m f) (suc (top e m f)) (piece e m f)
+      all_full = subst (λ n. HasFilledTo c.layout h c.pass m.share m.nodes.first.0 (top e m f) (suc n) (piece e m f)) (last_node m.nodes (e.needs m.edit f) nth x.0.works.need last) (filled_here none)
+
+      holds : (i : Nth) → IsNeeded (e.needs m.edit f) i → HoldsPiece c h (nth_node m.nodes i).0 (e.pieces m.edit f m.snaps.items m.nodes m.loaded i)
+      holds i n =
+          let w = needed_within m.nodes (e.needs m.edit f) i n x.0.works.in_order in
+          let from = w.0 in
+          let to = w.1 in
+          subst (λ p. HoldsPiece c h (nth_node m.nodes i).0 p) (piece_is (λ j. e.pieces m.edit f m.snaps.items m.nodes m.loaded j) m.nodes (e.needs m.edit f) i n x.0.works.in_order) record {
+            fresh = record { own = all_full.hand.own (nth_node m.nodes i).0 from to; unnamed = all_full.hand.unnamed (nth_node m.nodes i).0 from to };
+            words = all_full.full (nth_node m.nodes i).0 from (omega (arith, to)) to;
+          }

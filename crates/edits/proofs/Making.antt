@@ -1,0 +1,120 @@
+-- What the call has made once its SCX is done.
+use Rattle.std.proofs.Common.{◌≡◌, ℕ, zero, suc, ◌+◌, ◌<◌, inr, List, [], ◌∷◌, length, get_or, refl, sym, ◌∙◌, ap, subst, arith}
+use Rattle.arena.specs.declared.number.ScxNo.{ScxNo}
+use Rattle.arena.specs.declared.step.Row.{Row}
+use Rattle.arena.specs.Fills.{IsNamed, IsOwnScx}
+use Rattle.arena.specs.History.{History, ◌⊳◌, value, Extends}
+use Rattle.arena.specs.Lawful.{Lawful, HasWon}
+use Rattle.arena.specs.Log.{Entry, log, members_from}
+use Rattle.arena.specs.Machines.{Call}
+use Rattle.arena.specs.ScxRecords.{member, count}
+use Rattle.arena.proofs.Lemmas.{ends_self, ends_trans}
+use Rattle.histories.proofs.Lemmas.{entry_of, facts_before, lawful_since, log_wins, node_since}
+use Rattle.prims.specs.Scx.Known.{job_of, IsDone, IsEntryAt, nodes_of, update_entry}
+use Rattle.prims.specs.Snap.{snap_at}
+use Rattle.prims.specs.declared.snap.Snap.{Snap}
+use Rattle.prims.specs.declared.scx.ScxRun.{ScxRun}
+use Rattle.prims.specs.declared.update.Update.{Update}
+use Rattle.ordered_map.specs.OrderedMap.{edit_key}
+use Rattle.ordered_map.specs.Runs.{IsTreeRun, Makes, IsEditAt}
+use Rattle.ordered_map.specs.TreeShape.{edit_leaf}
+use Rattle.ordered_map.specs.TreeWords.{said}
+use Rattle.ordered_map.proofs.Lemmas.{SameSettled, run_since, walk_named, win_makes, wins_of}
+use Rattle.template.proofs.Lemmas.{tracked_makes}
+use Rattle.template.specs.FoundLeaf.{path_key}
+use Rattle.template.specs.declared.walk.Found.{Found}
+use Rattle.edits.specs.declared.update.UpdateRun.{UpdateRun}
+use Rattle.edits.specs.Edits.{EditMeaning}
+use Rattle.edits.specs.Sound.{IsAtFound}
+use Rattle.edits.specs.Known.{Scxs, HasMade}
+use Rattle.edits.specs.Laws.Entered.{only_joined}
+use Rattle.edits.specs.Laws.HandScx.{from}
+use Rattle.edits.specs.Laws.Kept.{same_said}
+use Rattle.edits.specs.Tries.{HasEnteredOnly, IsTry, CoversSnaps}
+
+-- what an SCX-record covers, by the nodes of its entry
+members_are : (h : History) (s j n : ℕ) (snaps : List Snap) → members_from h s j n ≡ nodes_of snaps → (i : ℕ) → i < length snaps → member h s (i + j) ≡ (snap_at snaps i).node.0
+members_are h s j n [] e i p = absurd (omega (arith, p))
+members_are h s j zero (t ∷ snaps) e i p = absurd (let z : [] ≡ t.node.0 ∷ nodes_of snaps = e in cc)
+members_are h s j (suc n) (t ∷ snaps) e zero p = ap (member h s) (let z : 0 + j ≡ j = omega arith in z) ∙ ap (λ xs. get_or xs 0 0) e
+members_are h s j (suc n) (t ∷ snaps) e (suc i) p = ap (member h s) further ∙ members_are h s (suc j) n snaps (ap rest e) i (omega (arith, p))
+  where
+    further : suc i + j ≡ i + suc j
+    further = omega arith
+
+    rest : List ℕ → List ℕ
+    rest [] = []
+    rest (x ∷ xs) = xs
+
+newest : List Entry → Entry → Entry
+newest [] e = e
+newest (x ∷ xs) e = x
+
+module _ (c : Call) (h : History) (m : ScxRun) (row : Row) (before : History) (l : Lawful c.layout h) (y : IsEntryAt c h m row before) where
+  entry_is : entry_of c.layout before m.scx.0 ≡ update_entry c.pass m
+  unfolding newest
+  entry_is = ap (λ es. newest es (update_entry c.pass m)) (sym wins ∙ y.logged)
+    where
+      here : Lawful c.layout (row ⊳ before)
+      here = lawful_since c.layout h (row ⊳ before) l y.within
+
+      wins : log c.layout (row ⊳ before) ≡ entry_of c.layout before m.scx.0 ∷ log c.layout before
+      wins = log_wins (facts_before c.layout before row here) (wins_of c.layout before row m.scx.0 here y.wins)
+
+  -- the SCX-record covered the nodes of the snapshots when it won
+  covers : CoversSnaps before m.scx.0 m.update.snaps
+  covers j p = ap (member before m.scx.0) (let z : j ≡ j + 0 = omega arith in z) ∙ members_are before m.scx.0 0 (count before m.scx.0) m.update.snaps (ap (λ (e : Entry). e.members) entry_is) j p
+
+module _ {E : Type 0} (e : EditMeaning E) (at_found : IsAtFound e) {A : Type 0} (m : UpdateRun E A) (scx after : ScxRun) (f : Found) (c : Call) (b begin h : History) (try : IsTry c b h m.limit m.tries) (x : Scxs e m (from c b) h f scx begin)
+    (same_scx : after.scx ≡ scx.scx) (same_update : after.update ≡ scx.update) (same_call : after.call ≡ scx.call) (done : IsDone (from c begin) h after) where
+  abbrev k : ℕ
+  k = edit_key (e.edit m.edit f)
+
+  abbrev before : History
+  before = done.entry.before
+
+  abbrev y : IsEntryAt (from c begin) h after done.entry.row before
+  y = done.entry.is
+
+  within : Extends h before
+  within = ends_trans h (done.entry.row ⊳ before) before y.within (inr (ends_self before))
+
+  run : IsTreeRun c.layout before
+  run = run_since c.layout h before x.run within
+
+  made : Makes c.layout h after.scx.0 (e.edit m.edit f)
+  made = subst (λ (s : ScxNo). Makes c.layout h s.0 (e.edit m.edit f)) (sym same_scx)
+      (tracked_makes c.layout c.pass h (job_of scx) (e.edit m.edit f) x.run.1.lawful (subst (λ (s : ScxNo). HasWon h s.0) same_scx done.won) x.tracks)
+
+  edits : IsEditAt c.layout before done.entry.row after.scx.0 (e.edit m.edit f)
+  edits = win_makes c.layout h before done.entry.row after.scx.0 (e.edit m.edit f) x.run y.within y.wins made
+
+  leaf : edit_leaf before after.scx.0 (e.edit m.edit f) ≡ f.trail.node.0
+  leaf = ap (λ (s : ScxNo). edit_leaf before s.0 (e.edit m.edit f)) same_scx ∙ x.leaf before run y.since
+      (subst (λ (u : Update). CoversSnaps before scx.scx.0 u.snaps) same_update (subst (λ (s : ScxNo). CoversSnaps before s.0 after.update.snaps) same_scx (covers (from c begin) h after done.entry.row before x.run.1.lawful y)))
+
+  named : IsNamed c.layout begin f.trail.node.0
+  named = walk_named c.layout begin x.found.trail.node.first (path_key (e.goal m.edit)) f.trail.node.0 (run_since c.layout h begin x.run (ends_trans h before begin within y.since)) x.found.trail.node.passed
+
+  settled : SameSettled (value begin) (value before) f.trail.node.0
+  settled part i = node_since c.layout before begin f.trail.node.0 part run.1.lawful y.since i named
+
+  -- its edit is made by one entry, and just before that the leaf that was found told what the map did
+  pub has_made : HasMade (e.edit m.edit f) c h m.call f.value
+  has_made = record {
+    scx = after.scx.0;
+    own = subst (λ (s : ScxNo). IsOwnScx c.layout c.pass s.0) (sym same_scx) x.own_scx;
+    once = subst (λ (s : ScxNo). HasEnteredOnly c.layout c.pass s.0 h c.start) (sym same_scx) (only_joined c.layout c.pass scx.scx.0 h b c.start x.now try.none x.only);
+    row = done.entry.row;
+    before = before;
+    within = y.within;
+    since = ends_trans before begin c.start y.since (ends_trans begin b c.start x.since try.since);
+    wins = y.wins;
+    edits = edits;
+    told = λ map spells. edits.replies map spells ∙ ap (said (value before) k) leaf ∙ same_said (value begin) (value before) k f.trail.node.0 settled ∙ ap (λ q. said (value begin) q f.trail.node.0) (at_found m.edit f) ∙ sym x.found.says;
+    entry = update_entry c.pass after;
+    logged = y.logged;
+    of_scx = refl;
+    owner = refl;
+    call = same_call ∙ x.call;
+  }

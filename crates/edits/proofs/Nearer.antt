@@ -1,0 +1,143 @@
+-- That each turn of an update leaves fewer steps, and takes no more of the share than it may.
+use Rattle.std.proofs.Common.{◌≡◌, ◌≢◌, ℕ, zero, suc, ◌+◌, ◌*◌, ◌-◌, ◌<◌, ◌≤◌, ◌⊎◌, refl, arith, inl, inr, ap, subst, Some, None}
+use Rattle.std.specs.Prelude.{unwrap_or, Result, Ok, Err, OnOk, OnErr}
+use Rattle.std.proofs.Math.Nat.{suc-mul}
+use Rattle.arena.specs.declared.machine.Turn.{Turn}
+use Rattle.arena.specs.declared.machine.Turn.TheVariants.{Ask, Done}
+use Rattle.arena.specs.Machines.{MatchTurn}
+use Rattle.arena.specs.declared.word.NodeWord.{NodeWord}
+use Rattle.arena.specs.declared.word.NodeWord.TheVariants.{Head, Key, Value, Child}
+use Rattle.arena.specs.declared.word.Side.TheVariants.{Left, Right}
+use Rattle.edits.specs.declared.edit.Need.{Need}
+use Rattle.edits.specs.declared.edit.Need.TheVariants.{Nothing, One, Three}
+use Rattle.edits.specs.declared.edit.Nth.{Nth}
+use Rattle.edits.specs.declared.edit.Nth.TheVariants.{First, Second, Third}
+use Rattle.edits.specs.declared.edit.Piece.{Piece}
+use Rattle.edits.specs.declared.edit.Piece.TheVariants.{Leaf, Fork}
+use Rattle.edits.specs.Edits.{EditMeaning}
+use Rattle.edits.specs.Pieces.{nth_behind, part_behind, fills_behind, HasPlace}
+use Rattle.edits.specs.Steps.{works_after}
+use Rattle.edits.specs.declared.update.Updated.{Updated}
+
+-- what is below a number is below a greater one
+pub below : (turn : Turn Updated) (x a b : ℕ) → MatchTurn turn (λ _. x < a) (λ _. Unit {0}) → a ≤ b → MatchTurn turn (λ _. x < b) (λ _. Unit {0})
+below (Ask s) x a b i j = omega (arith, i, j)
+below (Done u) x a b i j = tt
+
+pub less_than : (x a b : ℕ) → x < a → a ≤ b → x < b
+less_than x a b i j = omega (arith, i, j)
+
+no_more : (n : ℕ) → n ≤ n
+no_more n = omega arith
+
+-- a try less
+pub try_less : (tries each : ℕ) → tries ≢ 0 → (tries - 1) * each + each ≤ tries * each
+try_less zero each d = absurd (d refl)
+try_less (suc tries) each d = let e : suc tries - 1 ≡ tries = omega arith in rw (e, suc-mul tries each) (no_more (tries * each + each))
+
+-- a try that is given up was one of those left
+pub one_back : (tries : ℕ) → tries ≢ 0 → tries - 1 + 1 ≡ tries
+one_back zero d = absurd (d refl)
+one_back (suc tries) d = omega arith
+
+-- the bounds of the places, where t is what the later tries may take
+pub from_walk : (t left rest : ℕ) → t + rest ≤ t + (left + rest)
+from_walk t left rest = omega arith
+
+pub from_share : (t looks seen works : ℕ) → t + (64 * (looks - seen) + works + 39) ≤ t + (64 * looks + works + 39)
+from_share t looks seen works = omega arith
+
+pub to_look : (t looks seen works : ℕ) → seen < looks → t + (53 + 64 * (looks - 1 - seen) + works + 39) < t + (64 * (looks - seen) + works + 39)
+to_look t looks seen works i = omega (arith, i)
+
+pub to_works : (t looks works : ℕ) → t + (works + 39) ≤ t + (looks + works + 39)
+to_works t looks works = omega arith
+
+pub to_tries : (t rest : ℕ) → t ≤ t + rest
+to_tries t rest = omega arith
+
+pub looked_on : (t left now seen works : ℕ) → now < left → t + (now + seen + works + 39) < t + (left + seen + works + 39)
+looked_on t left now seen works i = omega (arith, i)
+
+pub from_look : (t left rest works : ℕ) → t + (rest + works + 39) ≤ t + (left + rest + works + 39)
+from_look t left rest works = omega arith
+
+-- a snapshot more, or no room for one
+pub one_more : (t looks seen now works : ℕ) → looks ≤ 4 → (now ≡ suc seen) ⊎ (4 ≤ now) → t + (64 * (looks - now) + works + 39) ≤ t + (64 * (looks - 1 - seen) + works + 39)
+one_more t looks seen now works few (inl e) = omega (arith, few, e)
+one_more t looks seen now works few (inr i) = omega (arith, few, i)
+
+pub from_work : (t works most rest : ℕ) → works ≤ most → t + (works + rest + 39) ≤ t + (most + rest + 39)
+from_work t works most rest i = omega (arith, i)
+
+pub to_load : (t works rest : ℕ) → 0 < works → t + (works + rest - 1 + 39) < t + (works + rest + 39)
+to_load t works rest i = omega (arith, i)
+
+pub to_fill : (t fills works rest : ℕ) → fills < works → t + (fills + rest + 39) < t + (works + rest + 39)
+to_fill t fills works rest i = omega (arith, i)
+
+pub from_load : (t now works rest : ℕ) → now < works → t + (now + rest + 39) ≤ t + (works + rest - 1 + 39)
+from_load t now works rest i = omega (arith, i)
+
+pub to_next_fill : (t now fills rest : ℕ) → now < fills → t + (now + rest + 39) < t + (fills + rest + 39)
+to_next_fill t now fills rest i = omega (arith, i)
+
+pub to_next_node : (t works most after : ℕ) → works ≤ most → t + (works + after + 39) ≤ t + (most + after + 39)
+to_next_node t works most after i = omega (arith, i)
+
+pub to_scx : (t rest : ℕ) → t + 39 ≤ t + (rest + 39)
+to_scx t rest = omega arith
+
+pub past_fills : (t fills rest : ℕ) → t + (rest + 39) ≤ t + (fills + rest + 39)
+past_fills t fills rest = omega arith
+
+pub scx_left_now : (t : ℕ) → t + 33 < t + 39
+scx_left_now t = omega arith
+
+pub less_scx : (t left now : ℕ) → now < left → t + now < t + left
+less_scx t left now i = omega (arith, i)
+
+-- a try that takes its SCX-record has one for the nodes that it has taken
+pub scx_for_nodes : (most nodes scx tries : ℕ) → 0 < scx → nodes + most * (scx - 1 + (tries + 1) + tries) ≤ nodes + most * (scx + tries + tries)
+scx_for_nodes most nodes scx tries some = let same : scx - 1 + (tries + 1) + tries ≡ scx + tries + tries = omega (arith, some) in rw same (omega arith)
+
+none_more : (n : ℕ) → n ≡ n + 0
+none_more n = omega arith
+
+-- what is below something is not 0
+pub some_left : (now left : ℕ) → now < left → 0 < left
+some_left now left i = omega (arith, i)
+
+pub the_same : {A : Type 0} (a b : A) → Some a ≡ Some b → a ≡ b
+the_same a b e = ap (λ o. unwrap_or o a) e
+
+-- what is left behind a node is left for the next one
+pub after_next : {E : Type 0} (e : EditMeaning E) (need : Need) (nth after : Nth) → nth_behind need nth ≡ Some after → works_after e nth ≡ e.most_works after + works_after e after
+after_next e Nothing nth after d = absurd (let z : None ≡ Some after = d in cc)
+after_next e One nth after d = absurd (let z : None ≡ Some after = d in cc)
+after_next e Three First after d = subst (λ i. e.most_works Second + e.most_works Third ≡ e.most_works i + works_after e i) (the_same Second after d) refl
+after_next e Three Second after d = subst (λ i. e.most_works Third ≡ e.most_works i + works_after e i) (the_same Third after d) (none_more (e.most_works Third))
+after_next e Three Third after d = absurd (let z : None ≡ Some after = d in cc)
+
+-- and one has its place there
+pub place_behind : (need : Need) (nth after : Nth) → nth_behind need nth ≡ Some after → HasPlace need after
+place_behind Nothing nth after d = absurd (let z : None ≡ Some after = d in cc)
+place_behind One nth after d = absurd (let z : None ≡ Some after = d in cc)
+place_behind Three First after d = subst (λ i. HasPlace Three i) (the_same Second after d) refl
+place_behind Three Second after d = subst (λ i. HasPlace Three i) (the_same Third after d) refl
+place_behind Three Third after d = absurd (let z : None ≡ Some after = d in cc)
+
+-- fewer words are filled behind the next
+pub fewer_fills : (p : Piece) (part next : NodeWord) → part_behind p part ≡ Some next → fills_behind p next < fills_behind p part
+fewer_fills (Leaf level class key v) Head next e = subst (λ q. fills_behind (Leaf level class key v) q < 2) (the_same Key next e) (omega arith)
+fewer_fills (Leaf level class key v) Key next e = subst (λ q. fills_behind (Leaf level class key v) q < 1) (the_same Value next e) (omega arith)
+fewer_fills (Leaf level class key v) _ next e = absurd (let d : None ≡ Some next = e in cc)
+fewer_fills (Fork level class key l r) Head next e = subst (λ q. fills_behind (Fork level class key l r) q < 3) (the_same Key next e) (omega arith)
+fewer_fills (Fork level class key l r) Key next e = subst (λ q. fills_behind (Fork level class key l r) q < 2) (the_same (Child Left) next e) (omega arith)
+fewer_fills (Fork level class key l r) (Child Left) next e = subst (λ q. fills_behind (Fork level class key l r) q < 1) (the_same (Child Right) next e) (omega arith)
+fewer_fills (Fork level class key l r) _ next e = absurd (let d : None ≡ Some next = e in cc)
+
+-- a snapshot more, or no room for one
+pub one_or_full : {T E V : Type 0} (r : Result T E) (size : V → ℕ) (old now : V) → OnOk r (size now ≡ size old + 1) → OnErr r (now ≡ old) → OnErr r (size old ≡ 4) → (size now ≡ suc (size old)) ⊎ (4 ≤ size now)
+one_or_full (Ok v) size old now more same full = inl (omega (arith, more))
+one_or_full (Err e) size old now more same full = inr (let x : size now ≡ size old = ap size same in omega (arith, x, full))

@@ -1,0 +1,275 @@
+-- What an update waits for after each of its turns.
+use Rattle.std.proofs.Common.{◌≡◌, ◌≢◌, ℕ, suc, ◌-◌, ◌<◌, ◌⊎◌, inr, refl, ⊎_elim, sym, ◌∙◌, ap, subst, arith}
+use Rattle.arena.specs.declared.machine.Turn.{Turn}
+use Rattle.arena.specs.declared.machine.Turn.TheVariants.{Ask, Done}
+use Rattle.arena.specs.declared.number.NodeNo.{NodeNo}
+use Rattle.arena.specs.declared.number.ScxNo.{ScxNo}
+use Rattle.arena.specs.declared.step.Step.{Step}
+use Rattle.arena.specs.declared.step.Access.TheVariants.{Store}
+use Rattle.arena.specs.declared.step.Kind.TheVariants.{Fill as FillKind, LoadMarked, LoadSettled}
+use Rattle.arena.specs.declared.word.NodeWord.{NodeWord}
+use Rattle.arena.specs.declared.word.NodeWord.TheVariants.{Head as HeadWord}
+use Rattle.arena.specs.declared.word.Word.TheVariants.{Node as NodeOf}
+use Rattle.arena.specs.History.{History, ◌⊳◌, value, Extends}
+use Rattle.arena.specs.Fills.{IsOwnNode, IsOwnScx}
+use Rattle.arena.specs.Lawful.{Lawful}
+use Rattle.arena.specs.Machines.{Call, IsRun, MatchTurn}
+use Rattle.arena.specs.Share.{Remaining}
+use Rattle.arena.specs.Words.{marked, node, state}
+use Rattle.arena.proofs.Lemmas.{ends_self, ends_trans}
+use Rattle.histories.proofs.Lemmas.{finished_taken}
+use Rattle.prims.specs.Laws.Idle.{IsQuietSince, quiet_at_start}
+use Rattle.prims.specs.Llx.Known.{IsOpened, load}
+use Rattle.prims.specs.Moments.{AreFinished}
+use Rattle.prims.specs.Scx.Known.{Job, IsDone, IsLost, ScxWaits, ScxAnswers}
+use Rattle.prims.specs.Shares.{IsShare}
+use Rattle.prims.specs.declared.llx.LlxAt.TheVariants.{Start as LlxStart, Marked as AtMarked}
+use Rattle.prims.specs.declared.scx.Scx.{Scx as ScxAnswer}
+use Rattle.prims.specs.declared.scx.Scx.TheVariants.{Done as ScxDone, Lost}
+use Rattle.prims.specs.declared.scx.ScxRun.{ScxRun}
+use Rattle.prims.specs.declared.update.Update.{Update}
+use Rattle.prims.proofs.Lemmas.{over_ends, turn_first}
+use Rattle.ordered_map.specs.TreeShape.{TreeAllows}
+use Rattle.template.proofs.Lemmas.{contended_wider, own_since}
+use Rattle.template.specs.FoundLeaf.{path_key, HasFoundGoal}
+use Rattle.template.specs.Tracked.{Tracks}
+use Rattle.template.specs.Walk.Known.{WalkIsTold, WalkWaits, WalkAnswers}
+use Rattle.template.specs.Walk.Places.{IsPastRoot}
+use Rattle.template.specs.declared.walk.Found.{Found}
+use Rattle.template.specs.declared.walk.WalkAt.TheVariants.{Root}
+use Rattle.template.specs.declared.walk.WalkRun.{WalkRun}
+use Rattle.edits.specs.declared.edit.Look.TheVariants.{At}
+use Rattle.edits.specs.declared.edit.Nth.{Nth}
+use Rattle.edits.specs.declared.edit.Piece.{Piece}
+use Rattle.edits.specs.declared.update.Updated.{Updated}
+use Rattle.edits.specs.declared.update.UpdateAt.TheVariants.{Walk, Look, Fill, Scx}
+use Rattle.edits.specs.declared.update.UpdateRun.{UpdateRun}
+use Rattle.template.specs.Blame.{IsContended, HasLostTriesTo}
+use Rattle.edits.specs.Next.{standing}
+use Rattle.edits.specs.Edits.{EditMeaning}
+use Rattle.edits.specs.Sound.{IsAtFound}
+use Rattle.edits.specs.Known.{RestsWith, AreUsable, CoversLeaf, MayBeginTry, Walks, CanLook, CanFill, Scxs, IsUntouched, TryWaits, UpdateWaits, UpdateAnswers, done_at}
+use Rattle.edits.specs.Laws.Entered.{none_joined, none_lost, none_quiet}
+use Rattle.edits.specs.Laws.HandScx.{from}
+use Rattle.edits.specs.Laws.Kept.{idle_rests}
+use Rattle.edits.specs.Laws.Trying.{past_root}
+use Rattle.edits.specs.Pieces.{nth_node, word_of}
+use Rattle.edits.specs.Tries.{HasEnteredOnly, HasEnteredNone, MayTry, IsTry, HasLostTry}
+use Rattle.edits.proofs.Blaming.{lost_contended}
+use Rattle.edits.proofs.Making.{has_made}
+use Rattle.edits.proofs.Widened.{found_wider}
+
+-- where the SCX-record in hand is finished, the pass is at rest again
+rests_again : (c : Call) (h : History) (left : Remaining) (m : ScxRun) → Lawful c.layout h → IsShare c.layout h c.pass left left.next_node m.scx.0 → left.next_scx ≡ suc m.scx.0 → AreFinished c.layout c.pass m.scx.0 h → m.scx.0 ≢ 0 → value h (state m.scx.0) ≢ 0 → RestsWith c h left
+rests_again c h left m l share next over real finished = record {
+  share = record {
+    from_node = share.from_node;
+    to_node = share.to_node;
+    from_scx = share.from_scx;
+    to_scx = share.to_scx;
+    taken_nodes = share.taken_nodes;
+    taken_scx = λ s o i. ⊎_elim (share.taken_scx s o) (λ e. rw e (finished_taken c.layout h m.scx.0 l real finished)) (less s (rw next at i));
+    unmentioned = share.unmentioned;
+    untaken_nodes = share.untaken_nodes;
+    untaken = share.untaken;
+  };
+  over = over_ends c.layout c.pass m.scx.0 h over finished;
+}
+  where
+    less : (s : ℕ) → s < suc m.scx.0 → (s < m.scx.0) ⊎ (s ≡ m.scx.0)
+    less s i = grind arith
+
+module _ {E : Type 0} (e : EditMeaning E) where
+  -- a try less, and the same share
+  pub begins_again : {A : Type 0} (m now : UpdateRun E A) (c : Call) (h : History) → now.edit ≡ m.edit → now.share ≡ m.share → MayBeginTry e m c h → MayBeginTry e now c h
+  begins_again m now c h ed share b = record { run = b.run; small = rw ed b.small; since = b.since; rests = rw share b.rests }
+
+  -- its walk begins with the root's head, and a try with it
+  pub begins_walk : {A : Type 0} (m : UpdateRun E A) (walk : WalkRun) (c : Call) (h : History) → MayBeginTry e m c h → MayTry c h h m.limit m.tries → IsUntouched c h m.share → walk.goal ≡ e.goal m.edit → walk.trail.node.0 ≡ 0 → UpdateWaits e (standing m (Walk (record walk { at = Root }))) c h (load LoadSettled (node 0 HeadWord))
+  begins_walk m walk c h b try first is root = (
+    h,
+    try,
+    first,
+    (
+      record { small = b.small; rests = record { share = b.rests.share; over = b.rests.over }; quiet = quiet_at_start c.layout c.pass h (idle_rests c h m.share b.run.1.lawful b.rests); same = is },
+      record { run = b.run; small = rw is b.small; since = ends_self h; known = root; asked = ap (λ n. load LoadSettled (node n HeadWord)) (sym root) },
+    ),
+  )
+
+  -- its walk asks for a step, past the root's head
+  pub walks_on : {A : Type 0} (m : UpdateRun E A) (walk after : WalkRun) (c : Call) (b h : History) (turn : Turn Found) (step : Step) → IsTry c b h m.limit m.tries → IsUntouched c b m.share → Walks e m (from c b) h walk.goal → after.goal ≡ walk.goal → IsPastRoot after.at → turn ≡ Ask step → MatchTurn turn (WalkWaits after (from c b) h) (WalkAnswers after (from c b) h) → UpdateWaits e (standing m (Walk after)) c h step
+  walks_on m walk after c b h turn step try first x same past asked w = (b, past_root after.at past try, first, (record { small = x.small; rests = x.rests; quiet = x.quiet; same = same ∙ x.same }, rw asked at w))
+
+  -- its walk is told something, at a moment of the call
+  pub walk_rests : {A : Type 0} (m : UpdateRun E A) (walk : WalkRun) (c : Call) (h : History) (v : ℕ) → Walks e m c h walk.goal → WalkIsTold walk c h v → MayBeginTry e m c h
+  walk_rests m walk c h v x told = record { run = told.run; small = x.small; since = own_since c h told.own; rests = x.rests }
+
+  -- its walk has found a leaf
+  pub walk_found : {A : Type 0} (m : UpdateRun E A) (walk after : WalkRun) (c : Call) (h : History) (turn : Turn Found) (f : Found) → Walks e m c h walk.goal → after.goal ≡ walk.goal → turn ≡ Done f → MatchTurn turn (WalkWaits after c h) (WalkAnswers after c h) → HasFoundGoal (e.goal m.edit) c h f
+  walk_found m walk after c h turn f x same done w = subst (λ goal. HasFoundGoal goal c h f) (same ∙ x.same) (rw done at w)
+
+  -- its LLX may begin, and asks for the mark of its node
+  pub looks_at : {A : Type 0} (m : UpdateRun E A) (f : Found) (n : NodeNo) (c : Call) (h : History) → IsRun TreeAllows c.layout h → CanLook e m c h f → e.looks m.edit f m.snaps.items ≡ At n → IsOpened c.layout h n.0 → TryWaits e (standing m (Look f (record { node = n; at = AtMarked }))) c h (load LoadMarked (marked n.0))
+  looks_at m f n c h run x named opened = (
+    h,
+    record {
+      run = x.begins.run;
+      looked = x.looked;
+      rests = x.begins.rests;
+      room = x.room;
+      named = named;
+      now = x.begins.since;
+      quiet = x.quiet;
+      since = x.begins.since;
+    },
+    turn_first TreeAllows (from c h) h run (record { node = n; at = LlxStart }) (record { node = n; at = AtMarked }) (Ask (load LoadMarked (marked n.0))) record {
+      opened = opened;
+      since = ends_self h;
+      quiet = quiet_at_start c.layout c.pass h (idle_rests c h m.share x.begins.run.1.lawful x.begins.rests);
+      known = tt;
+      told = refl;
+    } record { stands = refl; asked = refl },
+  )
+
+  pub fills_word : {A : Type 0} (m : UpdateRun E A) (f : Found) (nth : Nth) (part : NodeWord) (p : Piece) (n : NodeNo) (v : ℕ) (c : Call) (h : History) → CanFill e m c h f nth part → p ≡ e.pieces m.edit f m.snaps.items m.nodes m.loaded nth → n ≡ nth_node m.nodes nth → v ≡ word_of p part → TryWaits e (standing m (Fill f nth part)) c h record { kind = FillKind; word = NodeOf n part; access = Store v }
+  fills_word m f nth part p n v c h x is_p is_n is_v = (
+    record {
+      works = record {
+        run = x.fills.works.run;
+        since = x.fills.works.since;
+        quiet = x.fills.works.quiet;
+        looked = x.fills.works.looked;
+        enough = x.fills.works.enough;
+        need = x.fills.works.need;
+        in_order = x.fills.works.in_order;
+        some = x.fills.works.some;
+        named = x.fills.works.named;
+        inside = x.fills.works.inside;
+        loaded = x.fills.works.loaded;
+        before = x.fills.works.before;
+      };
+      full = x.fills.full;
+      hand = record { lowest = x.fills.hand.lowest; highest = x.fills.hand.highest };
+      done = x.fills.done;
+      part_is = x.fills.part_is;
+    },
+    x.may,
+    x.words,
+    (λ i. record { kind = FillKind; word = NodeOf (is_n i) part; access = Store ((is_v ∙ ap (λ q. word_of q part) (is_p ∙ sym x.same)) i) }),
+  )
+
+  -- its SCX asks for a step
+  pub scx_asks : {A : Type 0} (m : UpdateRun E A) (scx after : ScxRun) (f : Found) (begin : History) (c : Call) (h : History) (turn : Turn ScxAnswer) (step : Step) → Scxs e m c h f scx begin → after.scx ≡ scx.scx → after.update ≡ scx.update → after.call ≡ scx.call → turn ≡ Ask step → MatchTurn turn (ScxWaits TreeAllows after (from c begin) h) (ScxAnswers after (from c begin) h) → TryWaits e (standing m (Scx f after)) c h step
+  scx_asks m scx after f begin c h turn step x is_scx is_update is_call asked w = (
+    begin,
+    record {
+      run = x.run;
+      small = x.small;
+      now = x.now;
+      since = x.since;
+      found = x.found;
+      need = x.need;
+      call = is_call ∙ x.call;
+      only = subst (λ (s : ScxNo). HasEnteredOnly c.layout c.pass s.0 h c.start) (sym is_scx) x.only;
+      usable = subst (λ (u : Update). AreUsable c begin (e.goal m.edit) f u.snaps) (sym is_update) x.usable;
+      quiet = x.quiet;
+      leaf = subst (λ (s : ScxNo). CoversLeaf e m.edit f c begin s.0 after.update.snaps) (sym is_scx) (subst (λ (u : Update). CoversLeaf e m.edit f c begin scx.scx.0 u.snaps) (sym is_update) x.leaf);
+      share = subst (λ (s : ScxNo). IsShare c.layout h c.pass m.share m.share.next_node s.0) (sym is_scx) x.share;
+      next_node = x.next_node ∙ ap (λ (u : Update). suc u.fresh.0) (sym is_update);
+      next_scx = x.next_scx ∙ ap (λ (s : ScxNo). suc s.0) (sym is_scx);
+      own_scx = subst (λ (s : ScxNo). IsOwnScx c.layout c.pass s.0) (sym is_scx) x.own_scx;
+      own = subst (λ (u : Update). IsOwnNode c.layout c.pass u.fresh.0) (sym is_update) x.own;
+      over = subst (λ (s : ScxNo). AreFinished c.layout c.pass s.0 h) (sym is_scx) x.over;
+      tracks = subst (λ (j : Job). Tracks c.layout c.pass h j (e.edit m.edit f)) (λ i. record { scx = sym is_scx i; call = sym is_call i; update = sym is_update i }) x.tracks;
+    },
+    rw asked at w,
+  )
+
+  -- where its SCX is finished, the pass is at rest
+  scx_rests : {A : Type 0} (m : UpdateRun E A) (scx : ScxRun) (f : Found) (c : Call) (b begin h : History) → Scxs e m (from c b) h f scx begin → value h (state scx.scx.0) ≢ 0 → RestsWith c h m.share
+  scx_rests m scx f c b begin h x finished = rests_again c h m.share scx x.run.1.lawful x.share x.next_scx x.over (λ z. (let a = x.own_scx.from in omega (arith, z))) finished
+
+  -- its SCX is done
+  pub scx_done : IsAtFound e → {A : Type 0} (m : UpdateRun E A) (scx after : ScxRun) (f : Found) (c : Call) (b begin h : History) (turn : Turn ScxAnswer) → IsTry c b h m.limit m.tries → Scxs e m (from c b) h f scx begin → after.scx ≡ scx.scx → after.update ≡ scx.update → after.call ≡ scx.call → turn ≡ Done ScxDone → MatchTurn turn (ScxWaits TreeAllows after (from c begin) h) (ScxAnswers after (from c begin) h) → UpdateAnswers e m c h (done_at f)
+  scx_done laws m scx after f c b begin h turn try x is_scx is_update is_call done w = (
+    scx_rests m scx f c b begin h x finished,
+    record {
+      found = f;
+      is_key = refl;
+      is_value = refl;
+      is_done = inr (
+        has_made e laws m scx after f c b begin h try x is_scx is_update is_call is_done,
+        record {
+          moment = begin;
+          within = ends_trans h (is_done.entry.row ⊳ is_done.entry.before) begin is_done.entry.is.within (inr is_done.entry.is.since);
+          has_found = found_wider c b try.since begin (path_key (e.goal m.edit)) f x.found;
+          needed = x.need;
+        },
+      );
+    },
+  )
+    where
+      is_done : IsDone (from c begin) h after
+      is_done = rw done at w
+
+      finished : value h (state scx.scx.0) ≢ 0
+      finished z = let a : value h (state scx.scx.0) ≡ 1 = subst (λ (t : ScxNo). value h (state t.0) ≡ 1) is_scx is_done.committed in omega (arith, a, z)
+
+  -- its SCX is lost: it may try again
+  pub scx_lost : {A : Type 0} (m : UpdateRun E A) (scx after : ScxRun) (f : Found) (c : Call) (b begin h : History) (turn : Turn ScxAnswer) (n : NodeNo) (s : ScxNo) → IsTry c b h m.limit m.tries → Scxs e m (from c b) h f scx begin → after.scx ≡ scx.scx → after.update ≡ scx.update → turn ≡ Done (Lost n s) → MatchTurn turn (ScxWaits TreeAllows after (from c begin) h) (ScxAnswers after (from c begin) h) → MayBeginTry e m c h × HasLostTry c h m.limit m.tries n.0 s.0
+  scx_lost m scx after f c b begin h turn n s try x is_scx is_update done w = (
+    record { run = x.run; small = x.small; since = since; rests = scx_rests m scx f c b begin h x finished },
+    record {
+      begin = b;
+      try = try;
+      way = lost_contended (from c b) begin h (e.goal m.edit) f after n.0 s.0 x.run.1.lawful x.quiet (subst (λ (u : Update). AreUsable (from c b) begin (e.goal m.edit) f u.snaps) (sym is_update) x.usable) lost;
+      none = none_joined c.layout c.pass h b c.start x.now try.none (none_lost c.layout c.pass scx.scx.0 h b x.run.1.lawful aborted x.only);
+    },
+  )
+    where
+      since : Extends h c.start
+      since = ends_trans h b c.start x.now try.since
+
+      lost : IsLost (from c begin) h after n.0 s.0
+      lost = rw done at w
+
+      aborted : value h (state scx.scx.0) ≡ 2
+      aborted = subst (λ (t : ScxNo). value h (state t.0) ≡ 2) is_scx lost.aborted
+
+      finished : value h (state scx.scx.0) ≢ 0
+      finished z = let a = aborted in omega (arith, a, z)
+
+  -- while it only looks, it has entered nothing
+  pub nothing_entered : {A : Type 0} (m : UpdateRun E A) (c : Call) (b h : History) → IsTry c b h m.limit m.tries → MayBeginTry e m (from c b) h → IsQuietSince c.layout c.pass b h → HasEnteredNone c.layout c.pass h c.start
+  nothing_entered m c b h try x quiet = none_joined c.layout c.pass h b c.start x.since try.none (none_quiet c.layout c.pass h b x.run.1.lawful quiet)
+
+  -- and its try is lost, if another was in its way
+  pub look_lost : {A : Type 0} (m : UpdateRun E A) (c : Call) (b h : History) (n s : ℕ) → IsTry c b h m.limit m.tries → MayBeginTry e m (from c b) h → IsQuietSince c.layout c.pass b h → IsContended (from c b) h n s → MayBeginTry e m c h × HasLostTry c h m.limit m.tries n s
+  look_lost m c b h n s try x quiet way = (
+    record { run = x.run; small = x.small; since = ends_trans h b c.start x.since try.since; rests = record { share = x.rests.share; over = x.rests.over } },
+    record { begin = b; try = try; way = way; none = nothing_entered m c b h try x quiet },
+  )
+
+  -- a lost try was in the way of the call
+  pub lost_way : {A : Type 0} (m : UpdateRun E A) (c : Call) (h : History) (n s : ℕ) → HasLostTry c h m.limit m.tries n s → IsContended c h n s
+  lost_way m c h n s x = contended_wider c x.begin h n s x.try.since x.way
+
+  -- the next may begin, if one is left
+  pub next_may : {A : Type 0} (m : UpdateRun E A) (c : Call) (h : History) (n s : ℕ) → m.tries ≢ 0 → MayBeginTry e m c h → HasLostTry c h m.limit m.tries n s → MayTry c h h m.limit (m.tries - 1)
+  next_may m c h n s some b x = record { since = b.since; none = x.none; all = let all = x.try.all in omega (arith, all, some) }
+
+  -- and if none is left, all are lost to it
+  pub all_lost : {A : Type 0} (m : UpdateRun E A) (c : Call) (h : History) (n s : ℕ) → m.tries ≡ 0 → HasLostTry c h m.limit m.tries n s → HasLostTriesTo c.pass h c.start m.limit n s
+  all_lost m c h n s none x = record {
+    lost = record { begin = x.begin; since = x.try.since; newest = x.try.newest; all = let all = x.try.all in omega (arith, all, none); in_the_way = x.way.in_the_way };
+    found = x.way.found;
+  }
+
+  -- at rest in a try it is so in the call
+  pub at_rest : {A : Type 0} (m : UpdateRun E A) (c : Call) (b h : History) → MayBeginTry e m (from c b) h → RestsWith c h m.share
+  at_rest m c b h x = record { share = x.rests.share; over = x.rests.over }
+
+-- a turn that always asks for a step answers nothing
+pub asks_on : (P : Type 0) (turn : Turn Updated) → MatchTurn turn (λ _. Unit {0}) (λ _. ⊥) → MatchTurn turn (λ _. Unit {0}) (λ _. P)
+asks_on P (Ask step) x = tt
+asks_on P (Done answer) x = absurd x

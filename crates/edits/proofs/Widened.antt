@@ -1,0 +1,47 @@
+-- What a try has found its call has found.
+use Rattle.std.proofs.Common.{ℕ}
+use Rattle.arena.specs.declared.word.Side.{Side}
+use Rattle.arena.specs.History.{History, Extends}
+use Rattle.arena.specs.Machines.{Call}
+use Rattle.arena.proofs.Lemmas.{ends_trans}
+use Rattle.template.specs.FoundLeaf.{HasEnded}
+use Rattle.template.specs.Trails.{IsOwnMoment, WasPassed, HasTurned}
+use Rattle.template.specs.declared.walk.Found.{Found}
+use Rattle.edits.specs.Laws.HandScx.{from}
+
+module _ (c : Call) (b : History) (since : Extends b c.start) where
+  own_wider : (h : History) → IsOwnMoment (from c b) h → IsOwnMoment c h
+  own_wider h x = record { row = x.row; before = x.before; is = x.is; since = ends_trans x.before b c.start x.since since; own = x.own }
+
+  passed_wider : (h : History) (k n : ℕ) → WasPassed (from c b) h k n → WasPassed c h k n
+  passed_wider h k n x = record { first = x.first; own = own_wider x.first x.own; passed = x.passed }
+
+  turned_wider : (h : History) (k n : ℕ) (side : Side) (next : ℕ) → HasTurned (from c b) h k n side next → HasTurned c h k n side next
+  turned_wider h k n side next x = record {
+    passed = passed_wider h k n x.passed;
+    fork = x.fork;
+    side_is = x.side_is;
+    shown = record {
+      moment = x.shown.moment;
+      within = x.shown.within;
+      own = own_wider x.shown.moment x.shown.own;
+      passed = passed_wider x.shown.moment k n x.shown.passed;
+      held = x.shown.held;
+    };
+  }
+
+  pub found_wider : {asked : ℕ} (h : History) (k : ℕ) (f : Found) → HasEnded (from c b) h k asked f → HasEnded c h k asked f
+  found_wider h k f x = record {
+    trail = record {
+      node = passed_wider h k f.trail.node.0 x.trail.node;
+      parent = λ d. turned_wider h k f.trail.parent.0 f.trail.side f.trail.node.0 (x.trail.parent d);
+      grand = λ d p. turned_wider h k f.trail.grand.0 f.trail.grand_side f.trail.parent.0 (x.trail.grand d p);
+      high = x.trail.high;
+    };
+    leaf = x.leaf;
+    head = x.head;
+    deep = x.deep;
+    key = x.key;
+    blank = x.blank;
+    says = x.says;
+  }

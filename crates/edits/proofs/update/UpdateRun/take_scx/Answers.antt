@@ -1,0 +1,45 @@
+use Rattle.std.proofs.Common.{◌≡◌, ◌<◌, ◌+◌, ◌-◌, refl, arith}
+use Rattle.arena.specs.declared.machine.Turn.TheVariants.{Ask}
+use Rattle.prims.proofs.Lemmas.{turn_start}
+use Rattle.prims.specs.declared.scx.ScxRun.{ScxRun}
+use Rattle.prims.specs.declared.scx.ScxAt.{ScxAt}
+use Rattle.prims.specs.declared.scx.ScxAt.TheVariants.{Start, Plan}
+use Rattle.ordered_map.specs.TreeShape.{TreeAllows}
+use Rattle.edits.specs.Laws.HandScx.{from}
+use Rattle.edits.specs.Next.{next_step, update_of}
+use Rattle.edits.specs.declared.update.Next.TheVariants.{Change}
+use Rattle.edits.proofs.Beginning.{few_snaps, scx_begins}
+use Rattle.edits.proofs.Nearer.{scx_left_now, scx_for_nodes}
+use Rattle.edits.proofs.update.UpdateRun.take_scx.Goals as goal
+
+pub returns-in-Some-clause-nearer : goal.returns-in-Some-clause-nearer
+returns-in-Some-clause-nearer g c nodes = scx_left_now _
+
+pub returns-in-Some-clause-turn : goal.returns-in-Some-clause-turn
+returns-in-Some-clause-turn g c d b h run try x = (
+  b,
+  try,
+  tt,
+  scx_begins g.E.Edit.means c.args.self.now (scx Start) (scx Plan) c.args.found.now (from d b) h g.met.E.Edit.laws.makes (few_snaps g.E.Edit.means c.args.self.now.edit c.args.found.now c.args.self.now.snaps.items g.met.E.Edit.laws.bounds x.all.looked.seen) x
+      record { covers = refl; plan = refl; old = refl; fresh = refl }
+      refl taken.0 refl refl refl refl
+      c.scx.new.self (Ask (next_step g.E.Edit.means c.args.self.now c.args.found.now (Change c.in-Some.scx))) _ taken.2 refl
+      (λ ready. turn_start TreeAllows (from (from d b) h) h (scx Start) (scx Plan) (Ask _) ready.1 ready.2 record { stands = refl; asked = refl }),
+)
+  where
+    scx : ScxAt → ScxRun
+    scx at = record { scx = c.in-Some.scx; call = c.args.self.now.call; update = update_of g.E.Edit.means c.args.self.now c.args.found.now; at = at }
+
+    taken : (c.in-Some.scx.0 ≡ c.args.self.now.share.next_scx) × (0 < c.args.self.now.share.scx) × (c.scx.new.self ≡ record c.args.self.now.share { next_scx = c.args.self.now.share.next_scx + 1; scx = c.args.self.now.share.scx - 1 })
+    taken = rw c.in-Some.is at c.scx.ensures.after_taking
+
+pub returns-in-None-clause-turn : goal.returns-in-None-clause-turn
+returns-in-None-clause-turn g c d b h run try x = absurd (let z = (rw c.in-None.is at c.scx.ensures.empty).0 in let s = x.some in omega (arith, z, s))
+
+pub returns-in-Some-clause-spends : goal.returns-in-Some-clause-spends
+returns-in-Some-clause-spends g c left =
+    let taken = rw c.in-Some.is at c.scx.ensures.after_taking in
+    rw taken.2 (omega arith, omega (arith, left), scx_for_nodes g.E.Edit.means.most_nodes c.args.self.now.share.nodes c.args.self.now.share.scx c.args.self.now.tries left)
+
+pub returns-in-None-clause-spends : goal.returns-in-None-clause-spends
+returns-in-None-clause-spends g c left = absurd (let z = (rw c.in-None.is at c.scx.ensures.empty).0 in omega (arith, z, left))

@@ -1,0 +1,448 @@
+-- When an update may go on, and what it waits for.
+use Rattle.std.specs.Prelude.{◌≡◌, ◌≢◌, ℕ, suc, ◌^◌, ◌<◌, ◌≤◌, ◌⊎◌, eqb, cond, List, ◌∷◌, length, take, Option, Some, None}
+use Rattle.arena.specs.declared.fault.Full.{Full}
+use Rattle.arena.specs.declared.fault.Resource.{Resource}
+use Rattle.arena.specs.declared.fault.Resource.TheVariants.{Nodes as FreshNodes, Scx as ScxRecords}
+use Rattle.arena.specs.declared.layout.Layout.{Layout}
+use Rattle.arena.specs.declared.machine.Turn.{Turn}
+use Rattle.arena.specs.declared.step.Row.{Row}
+use Rattle.arena.specs.declared.step.Step.{Step}
+use Rattle.arena.specs.declared.step.Kind.TheVariants.{LoadSettled}
+use Rattle.arena.specs.declared.word.NodeWord.{NodeWord}
+use Rattle.arena.specs.declared.word.NodeWord.TheVariants.{Head as HeadWord, Key as KeyWord, Value as ValueWord}
+use Rattle.arena.specs.declared.word.Word.{Word}
+use Rattle.arena.specs.Fills.{IsNamed, IsOwnNode, IsOwnScx, IsTakenNode}
+use Rattle.arena.specs.History.{History, ◌⊳◌, value, Extends}
+use Rattle.arena.specs.Lawful.{IsSettled, IsWin}
+use Rattle.arena.specs.Layout.{all_nodes}
+use Rattle.arena.specs.Log.{Entry, log}
+use Rattle.arena.specs.Machines.{Call, MatchTurn}
+use Rattle.arena.specs.Share.{Remaining}
+use Rattle.arena.specs.Words.{node}
+use Rattle.prims.specs.FoundThere.{HasFoundThere}
+use Rattle.prims.specs.Laws.Idle.{IsQuietSince}
+use Rattle.prims.specs.Llx.Known.{load, IsSnapshot, LlxIsReady, LlxWaits}
+use Rattle.prims.specs.Moments.{AreFinished}
+use Rattle.prims.specs.Scx.Known.{ScxIsReady, ScxWaits, job_of}
+use Rattle.prims.specs.Shares.{IsShare}
+use Rattle.prims.specs.Snap.{child_of, snap_at}
+use Rattle.prims.specs.declared.llx.LlxRun.{LlxRun}
+use Rattle.prims.specs.declared.scx.ScxRun.{ScxRun}
+use Rattle.prims.specs.declared.snap.Snap.{Snap}
+use Rattle.prims.specs.declared.update.Update.{Update}
+use Rattle.ordered_map.specs.OrderedMap.{MapEdit, edit_key, get}
+use Rattle.ordered_map.specs.Runs.{IsTreeRun, IsEditAt}
+use Rattle.ordered_map.specs.Spelled.{Spells}
+use Rattle.ordered_map.specs.TreeShape.{TreeAllows, edit_leaf}
+use Rattle.ordered_map.specs.declared.pair.Pair.{Pair}
+use Rattle.template.specs.FoundLeaf.{path_key, HasFoundGoal}
+use Rattle.template.specs.Promises.{IsFresh}
+use Rattle.template.specs.Tracked.{Tracks}
+use Rattle.template.specs.Walk.Known.{WalkIsReady, WalkWaits}
+use Rattle.template.specs.declared.walk.Found.{Found}
+use Rattle.template.specs.declared.walk.Goal.{Goal}
+use Rattle.edits.specs.declared.edit.Loaded.{Loaded}
+use Rattle.edits.specs.declared.edit.Look.TheVariants.{At, Enough}
+use Rattle.edits.specs.declared.edit.Need.{Need}
+use Rattle.edits.specs.declared.edit.Need.TheVariants.{Nothing, One, Three}
+use Rattle.edits.specs.declared.edit.Nodes.{Nodes}
+use Rattle.edits.specs.declared.edit.Nth.{Nth}
+use Rattle.edits.specs.declared.edit.Nth.TheVariants.{First, Second, Third}
+use Rattle.edits.specs.declared.edit.Piece.{Piece}
+use Rattle.edits.specs.declared.update.Updated.{Updated}
+use Rattle.edits.specs.declared.update.Updated.TheVariants.{Done, Contended, Full as FullAnswer}
+use Rattle.edits.specs.declared.update.UpdateAt.{UpdateAt}
+use Rattle.edits.specs.declared.update.UpdateAt.TheVariants.{Start, Walk, Look, Load, Fill, Scx}
+use Rattle.edits.specs.declared.update.UpdateRun.{UpdateRun}
+use Rattle.template.specs.Blame.{IsContended, HasLostTriesTo}
+use Rattle.edits.specs.Edits.{EditMeaning}
+use Rattle.edits.specs.Laws.Hand.{IsBefore, IsUpTo, IsPieceWord, HoldsWords, HasFilledTo, IsForField, FieldMay}
+use Rattle.edits.specs.Laws.HandScx.{from}
+use Rattle.edits.specs.Laws.NodeFills.{node_fill}
+use Rattle.edits.specs.Pieces.{many_nodes, nth_node, top_of, plan_over, word_of}
+use Rattle.edits.specs.Tries.{HasEnteredOnly, HasEnteredNone, MayTry, IsTry, IsTryAt, CoversSnaps}
+
+-- a node of the table other than the root
+abbrev pub IsBelowRoot : Layout → ℕ → Type 0
+IsBelowRoot lay n = (n ≢ 0) × (n < all_nodes lay)
+
+-- Between its SCXs
+
+-- what is left of its share is untouched, and all its SCX-records are finished
+pub record RestsWith (c : Call) (h : History) (left : Remaining) : Type 0 where
+  pub share : IsShare c.layout h c.pass left left.next_node left.next_scx
+  pub over : AreFinished c.layout c.pass 0 h
+
+-- nothing of the share was taken since the call began; or a try was lost to another pass
+abbrev pub IsUntouched : Call → History → Remaining → Type 0
+IsUntouched c h left = RestsWith c c.start left ⊎ ((n : ℕ) × (s : ℕ) × IsContended c h n s)
+
+-- the share has as many nodes as are needed, and an SCX-record
+abbrev pub HasNodesFor : Need → Remaining → Type 0
+HasNodesFor One left = (0 < left.nodes) × (0 < left.scx)
+HasNodesFor Three left = (2 < left.nodes) × (0 < left.scx)
+HasNodesFor _ left = ⊥
+
+-- the share has fewer nodes than are needed; or as many, and no SCX-record. So many are left
+abbrev pub IsShort : Need → Remaining → Resource → ℕ → Type 0
+IsShort need left FreshNodes k = (left.nodes < many_nodes need) × (k ≡ left.nodes)
+IsShort need left ScxRecords k = (many_nodes need ≤ left.nodes) × (left.scx ≡ 0) × (k ≡ 0)
+
+-- What it has found
+
+-- the snapshot was right at a moment of the call, by which that had found this leaf, to which its
+-- walk was to go, and the snapshot's SCX-record in the node's info
+pub record HasSnappedAfterWalk (c : Call) (h : History) (goal : Goal) (f : Found) (snap : Snap) : Type 0 where
+  pub moment : History
+  pub within : Extends h moment
+  pub since : Extends moment c.start
+  pub found : HasFoundGoal goal c moment f
+  pub is : IsSnapshot c.layout moment snap.node.0 snap
+  pub met : HasFoundThere c.pass moment c.start snap.node.0 snap.scx.0
+
+-- each of these snapshots was, and so it may be used
+abbrev pub AreUsable : Call → History → Goal → Found → List Snap → Type 0
+AreUsable c h goal f snaps = (i : ℕ) → i < length snaps → HasSnappedAfterWalk c h goal f (snap_at snaps i)
+
+-- the word that was loaded, if it was, is what the node holds
+abbrev pub IsLoaded : Option ℕ → ℕ → Type 0
+IsLoaded None v = Unit {0}
+IsLoaded (Some w) v = w ≡ v
+
+-- the words that were loaded are those of this node
+pub record AreLoaded (f : Word → ℕ) (n : ℕ) (ld : Loaded) : Type 0 where
+  pub head : IsLoaded ld.head (f (node n HeadWord))
+  pub key : IsLoaded ld.key (f (node n KeyWord))
+  pub value : IsLoaded ld.value (f (node n ValueWord))
+
+-- none is loaded
+abbrev pub nothing_loaded : Loaded
+nothing_loaded = record { head = None; key = None; value = None }
+
+-- Its fresh nodes
+
+-- this fresh node comes before that one
+abbrev pub ComesBefore : Nth → Nth → Type 0
+ComesBefore First Second = Unit {0}
+ComesBefore First Third = Unit {0}
+ComesBefore Second Third = Unit {0}
+ComesBefore _ _ = ⊥
+
+-- this one is needed
+abbrev pub IsNeeded : Need → Nth → Type 0
+IsNeeded One First = Unit {0}
+IsNeeded Three nth = Unit {0}
+IsNeeded _ _ = ⊥
+
+-- three nodes stand one behind the other
+abbrev pub AreInOrder : Need → Nodes → Type 0
+AreInOrder Three ns = (ns.second.0 ≡ suc ns.first.0) × (ns.third.0 ≡ suc ns.second.0)
+AreInOrder _ ns = Unit {0}
+
+-- what the edit says of them, by their numbers
+abbrev pub pieces_by : (Nth → Piece) → Nodes → ℕ → Piece
+pieces_by p ns n = cond (eqb n ns.first.0) (p First) (cond (eqb n ns.second.0) (p Second) (p Third))
+
+-- this node is fresh, and holds what the piece says
+pub record HoldsPiece (c : Call) (h : History) (n : ℕ) (p : Piece) : Type 0 where
+  pub fresh : IsFresh c.layout c.pass h n
+  pub words : HoldsWords h n p (IsPieceWord p)
+
+-- What it makes
+
+-- The call of this number has made its edit. Its pass has just one entry since the call began.
+-- Just before that the map had `old` at the key; just after it, the map is what the edit leaves.
+pub record HasMade (edit : MapEdit) (c : Call) (h : History) (number : ℕ) (old : Option ℕ) : Type 0 where
+  pub scx : ℕ
+  pub own : IsOwnScx c.layout c.pass scx
+  pub once : HasEnteredOnly c.layout c.pass scx h c.start
+  -- the row that made it
+  pub row : Row
+  pub before : History
+  pub within : Extends h (row ⊳ before)
+  pub since : Extends before c.start
+  pub wins : IsWin before row scx
+  pub edits : IsEditAt c.layout before row scx edit
+  pub told : (map : List Pair) → Spells c.layout (value before) map → get (edit_key edit) map ≡ old
+  -- its entry
+  pub entry : Entry
+  pub logged : log c.layout (row ⊳ before) ≡ entry ∷ log c.layout before
+  pub of_scx : entry.scx ≡ scx
+  pub owner : entry.owner ≡ c.pass
+  pub call : entry.call ≡ number
+
+-- what an update answers that is done at this leaf
+abbrev pub done_at : Found → Updated
+done_at f = Done f.key f.value
+
+module _ {E : Type 0} (e : EditMeaning E) where
+  -- each snapshot is of the node that the edit has named behind those before it
+  abbrev pub AreSeen : E → Found → List Snap → Type 0
+  AreSeen ed f snaps = (i : ℕ) → i < length snaps → e.looks ed f (take i snaps) ≡ At (snap_at snaps i).node
+
+  -- what is known of the leaf and of the snapshots
+  pub record HasLooked (c : Call) (h : History) (ed : E) (f : Found) (snaps : List Snap) : Type 0 where
+    pub small : path_key (e.goal ed) < 2 ^ 64
+    pub found : HasFoundGoal (e.goal ed) c h f
+    pub usable : AreUsable c h (e.goal ed) f snaps
+    pub seen : AreSeen ed f snaps
+
+  -- all is looked at, all that the edit wants is loaded, and its fresh nodes hold what they are to
+  pub record HasFilledAll (c : Call) (h : History) (ed : E) (f : Found) (snaps : List Snap) (ns : Nodes) (ld : Loaded) : Type 0 where
+    pub looked : HasLooked c h ed f snaps
+    pub enough : e.looks ed f snaps ≡ Enough
+    pub in_order : AreInOrder (e.needs ed f) ns
+    pub loaded : AreLoaded (value h) (e.copies ed f snaps).0 ld
+    pub done : (i : Nth) → IsNeeded (e.needs ed f) i → e.wants ed f snaps ld i ≡ None
+    pub holds : (i : Nth) → IsNeeded (e.needs ed f) i → HoldsPiece c h (nth_node ns i).0 (e.pieces ed f snaps ns ld i)
+
+  -- the update covers all that was looked at, finalizes all but the first, and puts the last fresh
+  -- node into a field of that
+  pub record IsUpdateFor (ed : E) (f : Found) (snaps : List Snap) (ns : Nodes) (u : Update) : Type 0 where
+    pub covers : u.snaps ≡ snaps
+    pub plan : u.plan.0 ≡ plan_over (length snaps) (e.side ed f)
+    pub old : u.old ≡ child_of (snap_at snaps 0) (e.side ed f)
+    pub fresh : u.fresh.0 ≡ top_of (e.needs ed f) ns
+
+  -- whatever the SCX-record s makes of these snapshots later, the leaf of the edit is the one that
+  -- was found
+  abbrev pub CoversLeaf : E → Found → Call → History → ℕ → List Snap → Type 0
+  CoversLeaf ed f c begin s snaps = (k : History) → IsTreeRun c.layout k → Extends k begin → CoversSnaps k s snaps → edit_leaf k s (e.edit ed f) ≡ f.trail.node.0
+
+  -- what each fresh node is to hold
+  abbrev pub piece : {A : Type 0} → UpdateRun E A → Found → ℕ → Piece
+  piece m f n = pieces_by (λ nth. e.pieces m.edit f m.snaps.items m.nodes m.loaded nth) m.nodes n
+
+  -- the last fresh node
+  abbrev pub top : {A : Type 0} → UpdateRun E A → Found → ℕ
+  top m f = top_of (e.needs m.edit f) m.nodes
+
+  -- the node of which the edit copies words
+  abbrev pub copied : {A : Type 0} → UpdateRun E A → Found → ℕ
+  copied m f = (e.copies m.edit f m.snaps.items).0
+
+  -- all is looked at, and the fresh nodes before this one are done with
+  pub record WorksAtNode {A : Type 0} (m : UpdateRun E A) (c : Call) (h : History) (f : Found) (nth : Nth) : Type 0 where
+    pub run : IsTreeRun c.layout h
+    pub since : Extends h c.start
+    pub quiet : IsQuietSince c.layout c.pass c.start h
+    pub looked : HasLooked c h m.edit f m.snaps.items
+    pub enough : e.looks m.edit f m.snaps.items ≡ Enough
+    pub need : IsNeeded (e.needs m.edit f) nth
+    pub in_order : AreInOrder (e.needs m.edit f) m.nodes
+    pub some : 0 < m.share.scx
+    -- what is copied
+    pub named : IsNamed c.layout h (copied m f)
+    pub inside : IsBelowRoot c.layout (copied m f)
+    pub loaded : AreLoaded (value h) (copied m f) m.loaded
+    -- nothing more is to be loaded for the nodes before
+    pub before : (i : Nth) → ComesBefore i nth → e.wants m.edit f m.snaps.items m.loaded i ≡ None
+
+  -- those before it are full
+  abbrev pub AreFull : {A : Type 0} → UpdateRun E A → Call → History → Found → Nth → Type 0
+  AreFull m c h f nth = HasFilledTo c.layout h c.pass m.share m.nodes.first.0 (top m f) (nth_node m.nodes nth).0 (piece m f)
+
+  -- this one is one of them
+  pub record IsInHand {A : Type 0} (m : UpdateRun E A) (f : Found) (nth : Nth) : Type 0 where
+    pub lowest : m.nodes.first.0 ≤ (nth_node m.nodes nth).0
+    pub highest : (nth_node m.nodes nth).0 ≤ top m f
+
+  -- What it waits for
+
+  -- a step of an LLX, which has begun at a moment of the call
+  pub record Looks {A : Type 0} (m : UpdateRun E A) (c : Call) (h : History) (f : Found) (llx : LlxRun) (begin : History) : Type 0 where
+    pub run : IsTreeRun c.layout h
+    pub looked : HasLooked c h m.edit f m.snaps.items
+    pub rests : RestsWith c h m.share
+    pub room : HasNodesFor (e.needs m.edit f) m.share
+    pub named : e.looks m.edit f m.snaps.items ≡ At llx.node
+    pub now : Extends h c.start
+    pub quiet : IsQuietSince c.layout c.pass c.start h
+    pub since : Extends begin c.start
+
+  -- the load of a word for a fresh node
+  pub record Loads {A : Type 0} (m : UpdateRun E A) (c : Call) (h : History) (f : Found) (nth : Nth) (part : NodeWord) : Type 0 where
+    pub works : WorksAtNode m c h f nth
+    pub full : AreFull m c h f nth
+    pub hand : IsInHand m f nth
+    pub wanted : e.wants m.edit f m.snaps.items m.loaded nth ≡ Some part
+    pub settled : IsSettled (node (copied m f) part)
+
+  -- the fill of a word of it, with what the piece says
+  pub record FillsPiece {A : Type 0} (m : UpdateRun E A) (c : Call) (h : History) (f : Found) (nth : Nth) (part : NodeWord) : Type 0 where
+    pub works : WorksAtNode m c h f nth
+    pub full : AreFull m c h f nth
+    pub hand : IsInHand m f nth
+    pub done : e.wants m.edit f m.snaps.items m.loaded nth ≡ None
+    pub part_is : IsPieceWord (piece m f (nth_node m.nodes nth).0) part
+
+  -- that word is filled, as those before it
+  abbrev pub IsFilledUpTo : {A : Type 0} → UpdateRun E A → Call → History → Found → Nth → NodeWord → Type 0
+  IsFilledUpTo m c h f nth part = FillsPiece m c h f nth part × HoldsWords h (nth_node m.nodes nth).0 (piece m f (nth_node m.nodes nth).0) (IsUpTo part) × IsTakenNode h (nth_node m.nodes nth).0
+
+  -- a step of its SCX, which has the fresh nodes and an SCX-record in hand
+  pub record Scxs {A : Type 0} (m : UpdateRun E A) (c : Call) (h : History) (f : Found) (scx : ScxRun) (begin : History) : Type 0 where
+    pub run : IsTreeRun c.layout h
+    pub small : path_key (e.goal m.edit) < 2 ^ 64
+    pub now : Extends h c.start
+    pub since : Extends begin c.start
+    pub share : IsShare c.layout h c.pass m.share m.share.next_node scx.scx.0
+    pub next_node : m.share.next_node ≡ suc scx.update.fresh.0
+    pub next_scx : m.share.next_scx ≡ suc scx.scx.0
+    pub call : scx.call ≡ m.call
+    pub own : IsOwnNode c.layout c.pass scx.update.fresh.0
+    pub own_scx : IsOwnScx c.layout c.pass scx.scx.0
+    pub over : AreFinished c.layout c.pass scx.scx.0 h
+    -- it makes the edit, if it makes any, and no other of the pass has won since the try began
+    pub tracks : Tracks c.layout c.pass h (job_of scx) (e.edit m.edit f)
+    pub only : HasEnteredOnly c.layout c.pass scx.scx.0 h c.start
+    -- as it began the leaf was found, at which there is something to make, the snapshots could be
+    -- used, and it covers that leaf
+    pub found : HasFoundGoal (e.goal m.edit) c begin f
+    pub need : e.needs m.edit f ≢ Nothing
+    pub usable : AreUsable c begin (e.goal m.edit) f scx.update.snaps
+    pub quiet : IsQuietSince c.layout c.pass c.start begin
+    pub leaf : CoversLeaf m.edit f c begin scx.scx.0 scx.update.snaps
+
+  -- the walk goes where the edit's is to go, and the pass is at rest
+  pub record Walks {A : Type 0} (m : UpdateRun E A) (c : Call) (h : History) (goal : Goal) : Type 0 where
+    pub small : path_key (e.goal m.edit) < 2 ^ 64
+    pub rests : RestsWith c h m.share
+    pub quiet : IsQuietSince c.layout c.pass c.start h
+    pub same : goal ≡ e.goal m.edit
+
+  -- the word that is filled
+  abbrev pub piece_fill_step : {A : Type 0} → UpdateRun E A → Found → Nth → NodeWord → Step
+  piece_fill_step m f nth part = node_fill (nth_node m.nodes nth).0 part (word_of (piece m f (nth_node m.nodes nth).0) part)
+
+  -- what holds while it waits for this step at this place
+  abbrev pub UpdateWaitsAt : {A : Type 0} → UpdateRun E A → Call → History → Step → UpdateAt → Type 0
+  UpdateWaitsAt m c h s Start = ⊥
+  UpdateWaitsAt m c h s (Walk walk) = Walks m c h walk.goal × WalkWaits walk c h s
+  UpdateWaitsAt m c h s (Look f llx) = (begin : History) × Looks m c h f llx begin × LlxWaits TreeAllows llx (from c begin) h s
+  UpdateWaitsAt m c h s (Load f nth part) = Loads m c h f nth part × (s ≡ load LoadSettled (node (copied m f) part))
+  UpdateWaitsAt m c h s (Fill f nth part) = FillsPiece m c h f nth part × FieldMay part (IsForField c.layout h m.nodes.first.0 (top m f) (word_of (piece m f (nth_node m.nodes nth).0) part)) × HoldsWords h (nth_node m.nodes nth).0 (piece m f (nth_node m.nodes nth).0) (IsBefore part) × (s ≡ piece_fill_step m f nth part)
+  UpdateWaitsAt m c h s (Scx f scx) = (begin : History) × Scxs m c h f scx begin × ScxWaits TreeAllows scx (from c begin) h s
+
+  -- what holds once the step of this place has told v
+  abbrev pub UpdateIsToldAt : {A : Type 0} → UpdateRun E A → Call → History → ℕ → UpdateAt → Type 0
+  UpdateIsToldAt m c h v Start = ⊥
+  UpdateIsToldAt m c h v (Walk walk) = Walks m c h walk.goal × WalkIsReady walk c h (Some v)
+  UpdateIsToldAt m c h v (Look f llx) = (begin : History) × Looks m c h f llx begin × LlxIsReady TreeAllows llx (from c begin) h (Some v)
+  UpdateIsToldAt m c h v (Load f nth part) = Loads m c h f nth part × (value h (node (copied m f) part) ≡ v)
+  UpdateIsToldAt m c h v (Fill f nth part) = IsFilledUpTo m c h f nth part
+  UpdateIsToldAt m c h v (Scx f scx) = (begin : History) × Scxs m c h f scx begin × ScxIsReady TreeAllows scx (from c begin) h (Some v)
+
+  -- it may begin a try
+  pub record MayBeginTry {A : Type 0} (m : UpdateRun E A) (c : Call) (h : History) : Type 0 where
+    pub run : IsTreeRun c.layout h
+    pub small : path_key (e.goal m.edit) < 2 ^ 64
+    pub since : Extends h c.start
+    pub rests : RestsWith c h m.share
+
+  -- while it walks in its first try nothing of its share is taken
+  abbrev pub FirstOrLost : {A : Type 0} → UpdateRun E A → Call → History → UpdateAt → Type 0
+  FirstOrLost m c begin (Walk walk) = IsUntouched c begin m.share
+  FirstOrLost m c begin _ = Unit {0}
+
+  -- the try that began at this moment is its pass's newest; while its walk waits for the root's
+  -- head it has yet to begin
+  abbrev pub Tries : {A : Type 0} → UpdateRun E A → Call → History → History → UpdateAt → Type 0
+  Tries m c begin h (Walk walk) = IsTryAt c begin h m.limit m.tries walk.at
+  Tries m c begin h _ = IsTry c begin h m.limit m.tries
+
+  -- it may be called with this: with nothing at its start, then with what its step told
+  abbrev pub UpdateIsReady : UpdateRun E UpdateAt → Call → History → Option ℕ → Type 0
+  UpdateIsReady m c h None = MayBeginTry m c h × MayTry c h h m.limit m.tries × RestsWith c c.start m.share × (m.at ≡ Start)
+  UpdateIsReady m c h (Some v) = (begin : History) × IsTry c begin h m.limit m.tries × FirstOrLost m c begin m.at × UpdateIsToldAt m (from c begin) h v m.at
+
+  -- in the try that this call is, it waits for this step where it stands
+  abbrev pub TryWaits : UpdateRun E UpdateAt → Call → History → Step → Type 0
+  TryWaits m c h s = UpdateWaitsAt m c h s m.at
+
+  -- it waits for this step in the try that began at some moment
+  abbrev pub UpdateWaits : UpdateRun E UpdateAt → Call → History → Step → Type 0
+  UpdateWaits m c h s = (begin : History) × Tries m c begin h m.at × FirstOrLost m c begin m.at × TryWaits m (from c begin) h s
+
+  -- What its turns are asked for
+
+  -- it may look at the next node, where these snapshots are there
+  pub record CanLook {A : Type 0} (m : UpdateRun E A) (c : Call) (h : History) (f : Found) : Type 0 where
+    pub begins : MayBeginTry m c h
+    pub quiet : IsQuietSince c.layout c.pass c.start h
+    pub looked : HasLooked c h m.edit f m.snaps.items
+    pub room : HasNodesFor (e.needs m.edit f) m.share
+
+  -- it may load for the fresh node of this place
+  pub record CanLoad {A : Type 0} (m : UpdateRun E A) (c : Call) (h : History) (f : Found) (nth : Nth) : Type 0 where
+    pub works : WorksAtNode m c h f nth
+    pub full : AreFull m c h f nth
+    pub hand : IsInHand m f nth
+
+  -- it may fill this word of that node
+  pub record CanFill {A : Type 0} (m : UpdateRun E A) (c : Call) (h : History) (f : Found) (nth : Nth) (part : NodeWord) : Type 0 where
+    pub fills : FillsPiece m c h f nth part
+    pub same : piece m f (nth_node m.nodes nth).0 ≡ e.pieces m.edit f m.snaps.items m.nodes m.loaded nth
+    pub may : FieldMay part (IsForField c.layout h m.nodes.first.0 (top m f) (word_of (piece m f (nth_node m.nodes nth).0) part))
+    pub words : HoldsWords h (nth_node m.nodes nth).0 (piece m f (nth_node m.nodes nth).0) (IsBefore part)
+
+  -- it may begin its SCX: all its fresh nodes are full
+  pub record CanScx {A : Type 0} (m : UpdateRun E A) (c : Call) (h : History) (f : Found) : Type 0 where
+    pub run : IsTreeRun c.layout h
+    pub since : Extends h c.start
+    pub quiet : IsQuietSince c.layout c.pass c.start h
+    pub need : e.needs m.edit f ≢ Nothing
+    pub some : 0 < m.share.scx
+    pub all : HasFilledAll c h m.edit f m.snaps.items m.nodes m.loaded
+    pub full : HasFilledTo c.layout h c.pass m.share m.nodes.first.0 (top m f) (suc (top m f)) (piece m f)
+
+  -- What it answers
+
+  -- there was nothing to make at the leaf that it tells, which it has found, and the pass has
+  -- entered nothing
+  pub record HasNothingToMake (ed : E) (c : Call) (h : History) (found : Found) : Type 0 where
+    pub has_found : HasFoundGoal (e.goal ed) c h found
+    pub needless : e.needs ed found ≡ Nothing
+    pub none : HasEnteredNone c.layout c.pass h c.start
+
+  -- The share has too little left for the edit at the leaf that was found. Nothing of it was taken
+  -- since the call began, or a try was lost to another pass; and the pass has entered nothing.
+  pub record IsFullFor {A : Type 0} (m : UpdateRun E A) (c : Call) (h : History) (full : Full) : Type 0 where
+    pub found : Found
+    pub has_found : HasFoundGoal (e.goal m.edit) c h found
+    pub needed : e.needs m.edit found ≢ Nothing
+    pub short : IsShort (e.needs m.edit found) m.share full.what full.left
+    pub first : IsUntouched c h m.share
+    pub none : HasEnteredNone c.layout c.pass h c.start
+
+  -- at a moment of the call it had found this leaf, at which there was something to make
+  pub record WasNeeded (ed : E) (c : Call) (h : History) (found : Found) : Type 0 where
+    pub moment : History
+    pub within : Extends h moment
+    pub has_found : HasFoundGoal (e.goal ed) c moment found
+    pub needed : e.needs ed found ≢ Nothing
+
+  -- there was nothing to make at this leaf, or the edit is made there
+  abbrev pub IsDoneAt : E → ℕ → Call → History → Found → Type 0
+  IsDoneAt ed number c h found = HasNothingToMake ed c h found ⊎ (HasMade (e.edit ed found) c h number found.value × WasNeeded ed c h found)
+
+  -- so it is at a leaf of this key, which had this value
+  pub record IsDoneWith (ed : E) (number : ℕ) (c : Call) (h : History) (key : ℕ) (value : Option ℕ) : Type 0 where
+    pub found : Found
+    pub is_key : found.key ≡ key
+    pub is_value : found.value ≡ value
+    pub is_done : IsDoneAt ed number c h found
+
+  -- what its answer says
+  abbrev pub IsUpdateAnswer : {A : Type 0} → UpdateRun E A → Call → History → Updated → Type 0
+  IsUpdateAnswer m c h (Done key value) = IsDoneWith m.edit m.call c h key value
+  IsUpdateAnswer m c h (FullAnswer full) = IsFullFor m c h full
+  IsUpdateAnswer m c h (Contended node scx) = IsContended c h node.0 scx.0 × (m.tries ≡ 0) × HasEnteredNone c.layout c.pass h c.start × HasLostTriesTo c.pass h c.start m.limit node.0 scx.0
+
+  -- and behind it the pass is at rest, with what is left of the share
+  abbrev pub UpdateAnswers : {A : Type 0} → UpdateRun E A → Call → History → Updated → Type 0
+  UpdateAnswers m c h answer = RestsWith c h m.share × IsUpdateAnswer m c h answer
+
+  -- it waits for the step that it asks for, or its answer is right
+  abbrev pub UpdateTurn : Call → History → UpdateRun E UpdateAt → Turn Updated → Type 0
+  UpdateTurn c h m turn = MatchTurn turn (UpdateWaits m c h) (UpdateAnswers m c h)

@@ -1,0 +1,105 @@
+-- What an update knows stays true after any row.
+use Rattle.std.proofs.Common.{◌≡◌, ◌≢◌, ℕ, Some, None, Option, List, inr, refl, sym, ◌∙◌, arith}
+use Rattle.arena.specs.declared.step.Row.{Row}
+use Rattle.arena.specs.declared.step.Kind.TheVariants.{Fill}
+use Rattle.arena.specs.declared.word.NodeWord.TheVariants.{Head, Key, Value}
+use Rattle.arena.specs.declared.word.Word.{Word}
+use Rattle.arena.specs.History.{History, ◌⊳◌, value}
+use Rattle.arena.specs.Lawful.{Lawful}
+use Rattle.arena.specs.Machines.{IsRun, Call}
+use Rattle.arena.specs.Share.{Remaining}
+use Rattle.histories.proofs.Lemmas.{named_more, node_stays}
+use Rattle.prims.specs.Laws.Begun.{takes_by_others, takes_by_step}
+use Rattle.prims.specs.Laws.Idle.{IsIdle, IsQuietSince, idle_if_over, quiet_more}
+use Rattle.prims.specs.Moments.{AreFinished}
+use Rattle.prims.specs.Shares.{IsUsable}
+use Rattle.prims.specs.declared.snap.Snap.{Snap}
+use Rattle.prims.proofs.Lemmas.{over_more, share_by_others, share_by_step, usable_now, usable_since}
+use Rattle.ordered_map.specs.Runs.{IsTreeRun}
+use Rattle.ordered_map.specs.TreeShape.{TreeAllows}
+use Rattle.ordered_map.specs.TreeWords.{said}
+use Rattle.ordered_map.proofs.Lemmas.{SameSettled}
+use Rattle.template.specs.FoundLeaf.{path_key, asked_key}
+use Rattle.template.specs.declared.walk.Found.{Found}
+use Rattle.template.specs.declared.walk.Goal.{Goal}
+use Rattle.edits.specs.declared.edit.Loaded.{Loaded}
+use Rattle.edits.specs.declared.edit.Nth.{Nth}
+use Rattle.edits.specs.declared.update.UpdateRun.{UpdateRun}
+use Rattle.edits.specs.Edits.{EditMeaning}
+use Rattle.template.proofs.Lemmas.{found_more}
+use Rattle.edits.specs.Known.{RestsWith, HasSnappedAfterWalk, AreUsable, IsLoaded, AreLoaded, HasLooked, WorksAtNode, copied}
+
+-- a pass whose SCX-records are all finished is idle
+pub idle_over : (c : Call) (h : History) → Lawful c.layout h → AreFinished c.layout c.pass 0 h → IsIdle c.layout c.pass h
+idle_over c h l over = idle_if_over c.layout c.pass h l (λ s own t. over s own (λ e. let a = own.from in omega (arith, e)) t)
+
+-- a pass at rest is idle
+pub idle_rests : (c : Call) (h : History) (left : Remaining) → Lawful c.layout h → RestsWith c h left → IsIdle c.layout c.pass h
+idle_rests c h left l x = idle_over c h l x.over
+
+-- and stays quiet
+pub quiet_rests : (c : Call) (h : History) (r : Row) (left : Remaining) → Lawful c.layout (r ⊳ h) → RestsWith c (r ⊳ h) left → IsQuietSince c.layout c.pass c.start h → IsQuietSince c.layout c.pass c.start (r ⊳ h)
+quiet_rests c h r left l x = quiet_more c.layout c.pass c.start h r (idle_rests c (r ⊳ h) left l x)
+
+-- rows of other passes leave the pass at rest
+pub rests_by_others : (c : Call) (h : History) (r : Row) (left : Remaining) → Lawful c.layout (r ⊳ h) → r.pass.0 ≢ c.pass → RestsWith c h left → RestsWith c (r ⊳ h) left
+rests_by_others c h r left l other x = record {
+  share = share_by_others c.layout h r c.pass left left.next_node left.next_scx l c.is_pass other x.share;
+  over = over_more c.layout c.pass 0 h r l (takes_by_others c.layout c.pass 0 h r l other) x.over;
+}
+
+-- and so do rows that fill nothing
+pub rests_by_step : (c : Call) (h : History) (r : Row) (left : Remaining) → Lawful c.layout (r ⊳ h) → r.kind ≢ Fill → RestsWith c h left → RestsWith c (r ⊳ h) left
+rests_by_step c h r left l no_fill x = record {
+  share = share_by_step c.layout h r c.pass left left.next_node left.next_scx l no_fill x.share;
+  over = over_more c.layout c.pass 0 h r l (takes_by_step c.layout c.pass 0 h r no_fill) x.over;
+}
+
+-- what a leaf says of a key its settled words say
+pub same_said : (f g : Word → ℕ) (k n : ℕ) → SameSettled f g n → said g k n ≡ said f k n
+same_said f g k n e = rw (e Head tt, e Key tt, e Value tt) refl
+
+-- a snapshot that the call has taken may be used
+pub snapped_usable : (c : Call) (h : History) (goal : Goal) (f : Found) (snap : Snap) → Lawful c.layout h → (x : HasSnappedAfterWalk c h goal f snap) → IsUsable c.layout h snap x.moment
+snapped_usable c h goal f snap l x = usable_since c.layout h x.moment snap x.moment l x.within (usable_now c.layout x.moment snap.node.0 snap x.is)
+
+-- snapshots may be used for ever
+pub usable_more : (c : Call) (h : History) (r : Row) (goal : Goal) (f : Found) (snaps : List Snap) → AreUsable c h goal f snaps → AreUsable c (r ⊳ h) goal f snaps
+usable_more c h r goal f snaps x i p = let u = x i p in record { moment = u.moment; within = inr u.within; since = u.since; found = u.found; is = u.is; met = u.met }
+
+loaded_word : (o : Option ℕ) (v w : ℕ) → w ≡ v → IsLoaded o v → IsLoaded o w
+loaded_word None v w e x = tt
+loaded_word (Some u) v w e x = x ∙ sym e
+
+-- and so are the words that were loaded of a named node
+pub loaded_more : (c : Call) (h : History) (r : Row) (n : ℕ) (ld : Loaded) → Lawful c.layout (r ⊳ h) → SameSettled (value h) (value (r ⊳ h)) n → AreLoaded (value h) n ld → AreLoaded (value (r ⊳ h)) n ld
+loaded_more c h r n ld l same x = record {
+  head = loaded_word ld.head _ _ (same Head tt) x.head;
+  key = loaded_word ld.key _ _ (same Key tt) x.key;
+  value = loaded_word ld.value _ _ (same Value tt) x.value;
+}
+
+module _ {E : Type 0} (e : EditMeaning E) where
+  pub looked_more : (c : Call) (h : History) (r : Row) (ed : E) (f : Found) (snaps : List Snap) → IsTreeRun c.layout h → IsRun TreeAllows c.layout (r ⊳ h) → HasLooked e c h ed f snaps → HasLooked e c (r ⊳ h) ed f snaps
+  looked_more c h r ed f snaps g run x = record {
+    small = x.small;
+    found = found_more c h r (path_key (e.goal ed)) (asked_key (e.goal ed) f.key) f g run x.found;
+    usable = usable_more c h r (e.goal ed) f snaps x.usable;
+    seen = x.seen;
+  }
+
+  pub works_more : {A : Type 0} (m : UpdateRun E A) (c : Call) (h : History) (r : Row) (f : Found) (nth : Nth) → IsRun TreeAllows c.layout (r ⊳ h) → IsIdle c.layout c.pass (r ⊳ h) → WorksAtNode e m c h f nth → WorksAtNode e m c (r ⊳ h) f nth
+  works_more m c h r f nth run idle x = record {
+    run = (x.run.0, run);
+    since = inr x.since;
+    quiet = quiet_more c.layout c.pass c.start h r idle x.quiet;
+    looked = looked_more c h r m.edit f m.snaps.items x.run run x.looked;
+    enough = x.enough;
+    need = x.need;
+    in_order = x.in_order;
+    some = x.some;
+    named = named_more r x.named;
+    inside = x.inside;
+    loaded = loaded_more c h r (copied e m f) m.loaded run.lawful (λ part i. node_stays c.layout h r (copied e m f) part run.lawful i x.named) x.loaded;
+    before = x.before;
+  }

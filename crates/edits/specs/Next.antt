@@ -1,0 +1,97 @@
+-- What a try of an update does next, before the update stands there.
+use Rattle.std.specs.Prelude.{◌≡◌, ℕ, suc, ◌*◌, ◌<◌, ◌≤◌, length, Result, Ok, Err}
+use Rattle.arena.specs.declared.machine.Turn.TheVariants.{Ask}
+use Rattle.arena.specs.declared.step.Access.TheVariants.{Load as LoadAccess, Store}
+use Rattle.arena.specs.declared.step.Kind.TheVariants.{LoadMarked, LoadState, LoadSettled, Fill as FillKind}
+use Rattle.arena.specs.declared.step.Step.{Step}
+use Rattle.arena.specs.declared.word.NodeWord.{NodeWord}
+use Rattle.arena.specs.declared.word.NodeWord.TheVariants.{Head, Marked as MarkedWord}
+use Rattle.arena.specs.declared.word.ScxWord.TheVariants.{Plan as PlanWord, State as StateWord}
+use Rattle.arena.specs.declared.word.Word.TheVariants.{Node as NodeOf, Scx as ScxOf}
+use Rattle.arena.specs.History.{History}
+use Rattle.arena.specs.Machines.{Call}
+use Rattle.arena.specs.Share.{Remaining}
+use Rattle.prims.specs.Snap.{child_of, snap_at}
+use Rattle.prims.specs.declared.llx.LlxAt.TheVariants.{Marked, StateAgain}
+use Rattle.prims.specs.declared.scx.ScxAt.TheVariants.{Plan as AtPlan}
+use Rattle.prims.specs.declared.update.Update.{Update}
+use Rattle.template.specs.declared.walk.Found.{Found}
+use Rattle.edits.specs.Edits.{EditMeaning}
+use Rattle.edits.specs.Known.{MayBeginTry, UpdateAnswers, UpdateWaits, done_at}
+use Rattle.edits.specs.Pieces.{nth_node, plan_over, top_of, word_of}
+use Rattle.edits.specs.Steps.{IsSpending, Spends, try_left, update_left}
+use Rattle.edits.specs.Tries.{HasLostTry}
+use Rattle.edits.specs.declared.edit.Nth.{Nth}
+use Rattle.edits.specs.declared.update.Next.{Next}
+use Rattle.edits.specs.declared.update.Next.TheVariants.{Look as LookNext, Wait, Load as LoadNext, Fill as FillNext, Change}
+use Rattle.edits.specs.declared.update.UpdateAt.{UpdateAt}
+use Rattle.edits.specs.declared.update.UpdateAt.TheVariants.{Look, Load, Fill, Scx}
+use Rattle.edits.specs.declared.update.UpdateRun.{UpdateRun}
+use Rattle.edits.specs.declared.update.Stop.{Stop}
+use Rattle.edits.specs.declared.update.Stop.TheVariants.{Nothing, Lost, Full as FullStop}
+use Rattle.edits.specs.declared.update.Updated.TheVariants.{Full as FullAnswer}
+
+-- the update where it stands at this place, or at none
+abbrev pub standing : {E A B : Type 0} → UpdateRun E A → B → UpdateRun E B
+standing m at = record { edit = m.edit; share = m.share; snaps = m.snaps; nodes = m.nodes; loaded = m.loaded; tries = m.tries; limit = m.limit; call = m.call; at = at }
+
+-- it makes the same edit, in the same call, which may try as often
+abbrev pub IsSameUpdate : {E A B : Type 0} → UpdateRun E A → UpdateRun E B → Type 0
+IsSameUpdate old now = (now.edit ≡ old.edit) × (now.call ≡ old.call) × (now.limit ≡ old.limit)
+
+module _ {E : Type 0} (e : EditMeaning E) where
+  -- The SCX covers all that was looked at and finalizes all but the first, of which a field gets
+  -- the last fresh node.
+  abbrev pub update_of : {A : Type 0} → UpdateRun E A → Found → Update
+  update_of m f = record {
+    snaps = m.snaps.items;
+    plan = record { 0 = plan_over (length m.snaps.items) (e.side m.edit f) };
+    old = child_of (snap_at m.snaps.items 0) (e.side m.edit f);
+    fresh = record { 0 = top_of (e.needs m.edit f) m.nodes };
+  }
+
+  -- the fill of a word of the fresh node of this place
+  abbrev pub fills : {A : Type 0} → UpdateRun E A → Found → Nth → NodeWord → Step
+  fills m f nth part = record { kind = FillKind; word = NodeOf (nth_node m.nodes nth) part; access = Store (word_of (e.pieces m.edit f m.snaps.items m.nodes m.loaded nth) part) }
+
+  -- the update where it stands once this has begun
+  abbrev pub placed : {A : Type 0} → UpdateRun E A → Found → Next → UpdateRun E UpdateAt
+  placed m f (LookNext n) = standing m (Look f record { node = n; at = Marked })
+  placed m f (Wait n b scx) = standing m (Look f record { node = n; at = StateAgain b scx })
+  placed m f (LoadNext nth part) = standing m (Load f nth part)
+  placed m f (FillNext nth) = standing m (Fill f nth Head)
+  placed m f (Change scx) = standing m (Scx f record { scx = scx; call = m.call; update = update_of m f; at = AtPlan })
+
+  -- the step with which it begins
+  abbrev pub next_step : {A : Type 0} → UpdateRun E A → Found → Next → Step
+  next_step m f (LookNext n) = record { kind = LoadMarked; word = NodeOf n MarkedWord; access = LoadAccess }
+  next_step m f (Wait n b scx) = record { kind = LoadState; word = ScxOf scx StateWord; access = LoadAccess }
+  next_step m f (LoadNext nth part) = record { kind = LoadSettled; word = NodeOf (e.copies m.edit f m.snaps.items) part; access = LoadAccess }
+  next_step m f (FillNext nth) = fills m f nth Head
+  next_step m f (Change scx) = record { kind = FillKind; word = ScxOf scx PlanWord; access = Store (plan_over (length m.snaps.items) (e.side m.edit f)) }
+
+  -- a try may end so: with what its update answers, or lost to another pass
+  abbrev pub MayStop : {A : Type 0} → Call → History → UpdateRun E A → Found → Stop → Type 0
+  MayStop c h m f Nothing = UpdateAnswers e m c h (done_at f)
+  MayStop c h m f (Lost node scx) = MayBeginTry e m c h × HasLostTry c h m.limit m.tries node.0 scx.0
+  MayStop c h m f (FullStop full) = UpdateAnswers e m c h (FullAnswer full)
+
+  -- once it has begun what it does next, it waits for that step; or it may end so
+  abbrev pub UpdateGoesOn : {A : Type 0} → Call → History → UpdateRun E A → Found → Result Next Stop → Type 0
+  UpdateGoesOn c h m f (Ok next) = UpdateWaits e (placed m f next) c h (next_step m f next)
+  UpdateGoesOn c h m f (Err stop) = MayStop c h m f stop
+
+  -- fewer than n steps are left then; where it ends, at most as many in the tries behind it
+  abbrev pub ComesNearer : {A : Type 0} → UpdateRun E A → Found → Result Next Stop → ℕ → ℕ → Type 0
+  ComesNearer m f (Ok next) nodes n = update_left e (placed m f next) nodes < n
+  ComesNearer m f (Err stop) nodes n = m.tries * try_left e nodes ≤ n
+
+  -- so much is taken of the share, where so many tries might take of it
+  abbrev pub HasSpentForNext : {A : Type 0} → Remaining → UpdateRun E A → Found → Result Next Stop → ℕ → ℕ → Type 0
+  HasSpentForNext old m f (Ok next) nodes scx = IsSpending e (Ask (next_step m f next)) old (placed m f next) nodes scx
+  HasSpentForNext old m f (Err stop) nodes scx = Spends e.most_nodes old m.share nodes m.tries scx m.tries
+
+  -- so many steps are left then
+  abbrev pub left_then : {A : Type 0} → UpdateRun E A → Found → Result Next Stop → ℕ → ℕ
+  left_then m f (Ok next) nodes = suc (update_left e (placed m f next) nodes)
+  left_then m f (Err stop) nodes = m.tries * try_left e nodes

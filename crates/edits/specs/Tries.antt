@@ -1,0 +1,53 @@
+-- The tries of a call, and what its pass has entered into the log since it began.
+use Rattle.std.specs.Prelude.{◌≡◌, ℕ, suc, ◌+◌, ◌<◌, List, length}
+use Rattle.arena.specs.declared.layout.Layout.{Layout}
+use Rattle.arena.specs.declared.step.Row.{Row}
+use Rattle.arena.specs.Fills.{IsOwnScx}
+use Rattle.arena.specs.History.{History, ◌⊳◌, Extends}
+use Rattle.arena.specs.Lawful.{IsWin}
+use Rattle.arena.specs.Machines.{Call}
+use Rattle.arena.specs.ScxRecords.{member}
+use Rattle.prims.specs.Snap.{snap_at}
+use Rattle.prims.specs.declared.snap.Snap.{Snap}
+use Rattle.ordered_map.specs.Tries.{tries_begun, IsNewestTry}
+use Rattle.template.specs.Blame.{IsContended}
+use Rattle.template.specs.declared.walk.WalkAt.{WalkAt}
+use Rattle.template.specs.declared.walk.WalkAt.TheVariants.{Root}
+
+-- behind the moment `start` no update of an SCX-record of the pass c has won, but perhaps of s
+abbrev pub HasEnteredOnly : Layout → ℕ → ℕ → History → History → Type 0
+HasEnteredOnly lay c s h start = (row : Row) (before : History) (t : ℕ) → Extends h (row ⊳ before) → Extends before start → IsWin before row t → IsOwnScx lay c t → t ≡ s
+
+-- nor of any
+abbrev pub HasEnteredNone : Layout → ℕ → History → History → Type 0
+HasEnteredNone lay c h start = (row : Row) (before : History) (t : ℕ) → Extends h (row ⊳ before) → Extends before start → IsWin before row t → ¬ IsOwnScx lay c t
+
+-- A try may begin, of a call that may try `limit` times in all, and so many are left behind it:
+-- until the moment `begin` the pass has entered nothing, and it has begun all others by now.
+pub record MayTry (c : Call) (begin now : History) (limit left : ℕ) : Type 0 where
+  pub since : Extends begin c.start
+  pub none : HasEnteredNone c.layout c.pass begin c.start
+  pub all : tries_begun c.pass now + suc left ≡ tries_begun c.pass c.start + limit
+
+-- it has begun at that moment, and is the newest
+pub record IsTry (c : Call) (begin now : History) (limit left : ℕ) : Type 0 where
+  pub since : Extends begin c.start
+  pub none : HasEnteredNone c.layout c.pass begin c.start
+  pub newest : IsNewestTry c.pass now begin
+  pub all : tries_begun c.pass now + left ≡ tries_begun c.pass c.start + limit
+
+-- which of the two it is while its walk waits: it begins with the load of the root's head
+abbrev pub IsTryAt : Call → History → History → ℕ → ℕ → WalkAt → Type 0
+IsTryAt c begin now limit left Root = MayTry c begin now limit left
+IsTryAt c begin now limit left _ = IsTry c begin now limit left
+
+-- the try is lost: in it the SCX-record s was in the way over the node n
+pub record HasLostTry (c : Call) (now : History) (limit left n s : ℕ) : Type 0 where
+  pub begin : History
+  pub try : IsTry c begin now limit left
+  pub way : IsContended (record c { start = begin }) now n s
+  pub none : HasEnteredNone c.layout c.pass now c.start
+
+-- the SCX-record covers the nodes of these snapshots
+abbrev pub CoversSnaps : History → ℕ → List Snap → Type 0
+CoversSnaps h s snaps = (j : ℕ) → j < length snaps → member h s j ≡ (snap_at snaps j).node.0

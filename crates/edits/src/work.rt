@@ -1,0 +1,335 @@
+//! The work of an update, wherever it stands.
+ghost use Rattle.edits.specs.Steps.{try_left, works_behind, works_left};
+
+use crate::edit::{Edit, Loaded, Look, Need, Nodes, Nth};
+use crate::update::{Next, Stop, UpdateRun};
+use arena::{Full, MemberIndex, NodeNo, NodeWord, Plan, Resource, ScxNo, Share};
+use arrayvec::ArrayVec;
+use prims::{ScxAt, ScxRun, Snap, SnapList, Snaps, Update};
+use template::Found;
+
+impl<E: Edit + Drop, A: Drop> UpdateRun<E, A> {
+    ghost use Rattle.std.specs.Prelude.{◌≡◌, ℕ, ◌<◌, ◌≤◌, ◌*◌, ◌+◌, ◌-◌, length};
+    ghost use Rattle.edits.specs.declared.edit.Nth.TheVariants.{First};
+    ghost use Rattle.std.specs.Prelude.{◌≢◌, IfNone, IfSome, None, Ok};
+    ghost use Rattle.template.specs.FoundLeaf.{HasFoundGoal};
+    ghost use Rattle.edits.specs.Known.{HasNodesFor, IsShort, IsFilledUpTo, CanScx};
+    ghost use Rattle.edits.specs.Pieces.{HasPlace, part_behind};
+    ghost use Rattle.edits.specs.Steps.{IsWanted};
+    ghost use Rattle.edits.specs.Pieces.{less_a_node};
+    ghost use Rattle.arena.specs.History.{History, value};
+    ghost use Rattle.arena.specs.Machines.{Call, IsRun};
+    ghost use Rattle.prims.specs.FoundThere.{HasFoundThere};
+    ghost use Rattle.prims.specs.Llx.Known.{IsSnapshot};
+    ghost use Rattle.ordered_map.specs.TreeShape.{TreeAllows};
+    ghost use Rattle.edits.specs.Known.{MayBeginTry, IsUntouched, CanLook, nothing_loaded, CanLoad, Loads, copied};
+    ghost use Rattle.arena.specs.Words.{node};
+    ghost use Rattle.edits.specs.Laws.HandScx.{from};
+    ghost use Rattle.edits.specs.Steps.{works_after};
+    ghost use Rattle.edits.specs.Next.{IsSameUpdate, standing, update_of, UpdateGoesOn, ComesNearer, HasSpentForNext};
+    ghost use Rattle.edits.specs.Tries.{IsTry};
+    ghost use Rattle.prims.specs.Laws.Idle.{IsQuietSince};
+
+    /// A run at this place, or at none, in the caller's call of this number.
+    #[inline(always)]
+    pub fn new(edit: E, share: Share, tries: u32, call: u64, at: A) -> UpdateRun<E, A>
+        ensures place { result.at ≡ at }
+        ensures share { result.share ≡ share }
+        ensures edit { result.edit ≡ edit }
+        ensures call { result.call ≡ call }
+        ensures tries { result.tries ≡ tries - 1 }
+        ensures limit { result.limit ≡ tries }
+    {
+        UpdateRun {
+            edit,
+            share,
+            snaps: ArrayVec::new(),
+            nodes: Nodes::default(),
+            loaded: Loaded::default(),
+            tries: tries.saturating_sub(1),
+            limit: tries,
+            call,
+            at,
+        }
+    }
+
+    /// The same update, at this place or at none.
+    pub fn stand<B>(self, at: B) -> UpdateRun<E, B>
+        ensures { result ≡ standing self at }
+    {
+        UpdateRun {
+            edit: self.edit,
+            share: self.share,
+            snaps: self.snaps,
+            nodes: self.nodes,
+            loaded: self.loaded,
+            tries: self.tries,
+            limit: self.limit,
+            call: self.call,
+            at,
+        }
+    }
+
+    /// Gives the share back.
+    #[inline(always)]
+    pub fn into_share(self) -> Share
+        ensures { result ≡ self.share }
+    {
+        self.share
+    }
+
+    /// What the share lacks of so many fresh nodes and an SCX-record.
+    #[inline(always)]
+    fn lacks(&self, need: Need) -> Option<Full>
+        ensures enough { need ≢ Need.Nothing → IfNone result (HasNodesFor need self.now.share) }
+        ensures short { IfSome result (λ full. IsShort need self.now.share full.what full.left) }
+    {
+        let (nodes, scx) = self.share.left();
+        if nodes < need.many() {
+            let what = Resource::Nodes;
+            return Some(Full { what, left: nodes });
+        }
+        if scx == 0 {
+            let what = Resource::Scx;
+            return Some(Full { what, left: scx });
+        }
+        None
+    }
+
+    /// What the try does behind its walk, if the share has what the edit needs.
+    #[inline(always)]
+    pub fn test_share(&mut self, found: &Found) -> Result<Next, Stop>
+        ensures turn { (c : Call) (b h : History) → IsRun TreeAllows c.layout h → IsTry c b h self.old.limit self.old.tries → IsUntouched c b self.old.share → MayBeginTry E.means self.old (from c b) h → IsQuietSince c.layout c.pass b h → HasFoundGoal (E.means.goal self.old.edit) (from c b) h found.now → UpdateGoesOn E.means c h self.new found.now result }
+        ensures same { IsSameUpdate self.old self.new }
+        ensures nearer { (nodes : ℕ) → ComesNearer E.means self.new found.now result nodes (self.old.tries * try_left E.means nodes + (64 * E.means.most_looks + works_behind E.means First + 39)) }
+        ensures spends { HasSpentForNext E.means self.old.share self.new found.now result (self.old.tries + 1) (self.old.tries + 1) }
+        ensures tries { self.new.tries ≡ self.old.tries }
+    {
+        let need = self.edit.need(found);
+        if need == Need::Nothing {
+            return Err(Stop::Nothing);
+        }
+        if let Some(full) = self.lacks(need) {
+            return Err(Stop::Full(full));
+        }
+        self.snaps.clear();
+        self.look(found)
+    }
+
+    /// The next node that the edit names to be looked at, or what is done behind the last.
+    #[inline(always)]
+    fn look(&mut self, found: &Found) -> Result<Next, Stop>
+        ensures turn { (c : Call) (b h : History) → IsRun TreeAllows c.layout h → IsTry c b h self.old.limit self.old.tries → CanLook E.means self.old (from c b) h found.now → UpdateGoesOn E.means c h self.new found.now result }
+        ensures same { IsSameUpdate self.old self.new }
+        ensures nearer { (nodes : ℕ) → ComesNearer E.means self.new found.now result nodes (self.old.tries * try_left E.means nodes + (64 * (E.means.most_looks - length self.old.snaps.items) + works_behind E.means First + 39)) }
+        ensures spends { HasSpentForNext E.means self.old.share self.new found.now result (self.old.tries + 1) (self.old.tries + 1) }
+        ensures tries { self.new.tries ≡ self.old.tries }
+    {
+        match self.edit.look(found, self.snaps.as_slice()) {
+            Look::At(node) => Ok(Next::Look(node)),
+            Look::Differs { node, scx } => Err(Stop::Lost { node, scx }),
+            Look::Enough => Ok(self.begin_work(found)),
+        }
+    }
+
+    /// Keeps a snapshot, and tells what is done behind it.
+    #[inline(always)]
+    pub fn looked(&mut self, found: &Found, snap: Snap) -> Result<Next, Stop>
+        ensures turn { (c : Call) (b h : History) → IsRun TreeAllows c.layout h → IsTry c b h self.old.limit self.old.tries → CanLook E.means self.old (from c b) h found.now → E.means.looks self.old.edit found.now self.old.snaps.items ≡ Look.At snap.node → IsSnapshot c.layout h snap.node.0 snap → HasFoundThere c.pass h b snap.node.0 snap.scx.0 → UpdateGoesOn E.means c h self.new found.now result }
+        ensures same { IsSameUpdate self.old self.new }
+        ensures nearer { (nodes : ℕ) → ComesNearer E.means self.new found.now result nodes (self.old.tries * try_left E.means nodes + (64 * (E.means.most_looks - 1 - length self.old.snaps.items) + works_behind E.means First + 39)) }
+        ensures spends { HasSpentForNext E.means self.old.share self.new found.now result (self.old.tries + 1) (self.old.tries + 1) }
+        ensures tries { self.new.tries ≡ self.old.tries }
+    {
+        let _fits = self.snaps.try_push(snap);
+        self.look(found)
+    }
+
+    /// Takes the fresh nodes, once all snapshots are there.
+    #[inline(always)]
+    fn begin_work(&mut self, found: &Found) -> Next
+        ensures turn { (c : Call) (b h : History) → IsRun TreeAllows c.layout h → IsTry c b h self.old.limit self.old.tries → CanLook E.means self.old (from c b) h found.now → E.means.looks self.old.edit found.now self.old.snaps.items ≡ Look.Enough → UpdateGoesOn E.means c h self.new found.now (Ok result) }
+        ensures same { IsSameUpdate self.old self.new }
+        ensures nearer { (nodes : ℕ) → ComesNearer E.means self.new found.now (Ok result) nodes (self.old.tries * try_left E.means nodes + (works_behind E.means First + 39)) }
+        ensures spends { HasSpentForNext E.means self.old.share self.new found.now (Ok result) (self.old.tries + 1) (self.old.tries + 1) }
+        ensures tries { self.new.tries ≡ self.old.tries }
+    {
+        self.loaded = Loaded {
+            head: None,
+            key: None,
+            value: None,
+        };
+        if self.edit.need(found) == Need::Three {
+            self.begin_three(found)
+        } else {
+            self.begin_one(found)
+        }
+    }
+
+    /// Takes one fresh node.
+    #[inline(always)]
+    fn begin_one(&mut self, found: &Found) -> Next
+        ensures turn { (c : Call) (b h : History) → IsRun TreeAllows c.layout h → IsTry c b h self.old.limit self.old.tries → CanLook E.means self.old (from c b) h found.now → E.means.looks self.old.edit found.now self.old.snaps.items ≡ Look.Enough → E.means.needs self.old.edit found.now ≡ Need.One → self.old.loaded ≡ nothing_loaded → UpdateGoesOn E.means c h self.new found.now (Ok result) }
+        ensures same { IsSameUpdate self.old self.new }
+        ensures nearer { (nodes : ℕ) → ComesNearer E.means self.new found.now (Ok result) nodes (self.old.tries * try_left E.means nodes + (works_behind E.means First + 39)) }
+        ensures spends { HasSpentForNext E.means self.old.share self.new found.now (Ok result) (self.old.tries + 1) (self.old.tries + 1) }
+        ensures tries { self.new.tries ≡ self.old.tries }
+    {
+        let first = self.take();
+        self.nodes = Nodes {
+            first,
+            second: NodeNo(0),
+            third: NodeNo(0),
+        };
+        self.load(found, Nth::First)
+    }
+
+    /// Takes three.
+    #[inline(always)]
+    fn begin_three(&mut self, found: &Found) -> Next
+        ensures turn { (c : Call) (b h : History) → IsRun TreeAllows c.layout h → IsTry c b h self.old.limit self.old.tries → CanLook E.means self.old (from c b) h found.now → E.means.looks self.old.edit found.now self.old.snaps.items ≡ Look.Enough → E.means.needs self.old.edit found.now ≡ Need.Three → self.old.loaded ≡ nothing_loaded → UpdateGoesOn E.means c h self.new found.now (Ok result) }
+        ensures same { IsSameUpdate self.old self.new }
+        ensures nearer { (nodes : ℕ) → ComesNearer E.means self.new found.now (Ok result) nodes (self.old.tries * try_left E.means nodes + (works_behind E.means First + 39)) }
+        ensures spends { E.means.needs self.old.edit found.now ≡ Need.Three → HasSpentForNext E.means self.old.share self.new found.now (Ok result) (self.old.tries + 1) (self.old.tries + 1) }
+        ensures tries { self.new.tries ≡ self.old.tries }
+    {
+        let first = self.take();
+        let second = self.take();
+        let third = self.take();
+        self.nodes = Nodes {
+            first,
+            second,
+            third,
+        };
+        self.load(found, Nth::First)
+    }
+
+    /// Takes a fresh node.
+    #[inline(always)]
+    fn take(&mut self) -> NodeNo
+        ensures spent { (self.old.share.nodes ≤ self.new.share.nodes + 1) × (self.new.share.scx ≡ self.old.share.scx) }
+        ensures taken { 0 < self.old.share.nodes → (result.0 ≡ self.old.share.next_node) × (self.new.share ≡ less_a_node self.old.share) }
+        ensures same { self.new ≡ record self.old { share = self.new.share } }
+        ensures tries { self.new.tries ≡ self.old.tries }
+        ensures limit { self.new.limit ≡ self.old.limit }
+    {
+        match self.share.fresh() {
+            Some(fresh) => fresh.node(),
+            None => NodeNo(0),
+        }
+    }
+
+    /// The next word to be loaded for the fresh node of this place, if there is one, before its fills.
+    #[inline(always)]
+    fn load(&self, found: &Found, nth: Nth) -> Next
+        ensures turn { (c : Call) (b h : History) → IsRun TreeAllows c.layout h → IsTry c b h self.now.limit self.now.tries → CanLoad E.means self.now (from c b) h found.now nth → UpdateGoesOn E.means c h self.now found.now (Ok result) }
+        ensures nearer { (nodes : ℕ) → HasPlace (E.means.needs self.now.edit found.now) nth → ComesNearer E.means self.now found.now (Ok result) nodes (self.now.tries * try_left E.means nodes + (works_left E.means self.now found.now nth + 39)) }
+        ensures spends { HasSpentForNext E.means self.now.share self.now found.now (Ok result) self.now.tries (self.now.tries + 1) }
+    {
+        match self
+            .edit
+            .load(found, self.snaps.as_slice(), &self.loaded, nth)
+        {
+            Some(part) => Next::Load { nth, part },
+            None => Next::Fill(nth),
+        }
+    }
+
+    /// Keeps what that load has told, and tells what is done behind it.
+    #[inline(always)]
+    pub fn loaded(&mut self, found: &Found, nth: Nth, part: NodeWord, told: u64) -> Next
+        ensures turn { (c : Call) (b h : History) → IsRun TreeAllows c.layout h → IsTry c b h self.old.limit self.old.tries → Loads E.means self.old (from c b) h found.now nth part → value h (node (copied E.means self.old found.now) part) ≡ told → UpdateGoesOn E.means c h self.new found.now (Ok result) }
+        ensures same { IsSameUpdate self.old self.new }
+        ensures nearer { (nodes : ℕ) → IsWanted E.means self.old found.now nth part → ComesNearer E.means self.new found.now (Ok result) nodes (self.old.tries * try_left E.means nodes + (works_left E.means self.old found.now nth - 1 + 39)) }
+        ensures spends { HasSpentForNext E.means self.old.share self.new found.now (Ok result) self.old.tries (self.old.tries + 1) }
+        ensures tries { self.new.tries ≡ self.old.tries }
+    {
+        self.loaded = self.loaded.with(part, told);
+        self.load(found, nth)
+    }
+
+    /// What is done once the fresh node of this place is filled: with the next node, or the SCX.
+    #[inline(always)]
+    pub fn filled(&mut self, found: &Found, nth: Nth) -> Result<Next, Stop>
+        ensures turn { (c : Call) (b h : History) (part : NodeWord) → IsRun TreeAllows c.layout h → IsTry c b h self.old.limit self.old.tries → IsFilledUpTo E.means self.old (from c b) h found.now nth part → part_behind (E.means.pieces self.old.edit found.now self.old.snaps.items self.old.nodes self.old.loaded nth) part ≡ None → UpdateGoesOn E.means c h self.new found.now result }
+        ensures same { IsSameUpdate self.old self.new }
+        ensures nearer { (nodes : ℕ) → ComesNearer E.means self.new found.now result nodes (self.old.tries * try_left E.means nodes + (works_after E.means nth + 39)) }
+        ensures spends { 0 < self.old.share.scx → HasSpentForNext E.means self.old.share self.new found.now result self.old.tries (self.old.tries + 1) }
+        ensures tries { self.new.tries ≡ self.old.tries }
+    {
+        match self.edit.need(found).behind(nth) {
+            Some(after) => Ok(self.load(found, after)),
+            None => self.take_scx(found),
+        }
+    }
+
+    /// Takes an SCX-record.
+    #[inline(always)]
+    fn take_scx(&mut self, found: &Found) -> Result<Next, Stop>
+        ensures turn { (c : Call) (b h : History) → IsRun TreeAllows c.layout h → IsTry c b h self.old.limit self.old.tries → CanScx E.means self.old (from c b) h found.now → UpdateGoesOn E.means c h self.new found.now result }
+        ensures same { IsSameUpdate self.old self.new }
+        ensures nearer { (nodes : ℕ) → ComesNearer E.means self.new found.now result nodes (self.old.tries * try_left E.means nodes + 39) }
+        ensures spends { 0 < self.old.share.scx → HasSpentForNext E.means self.old.share self.new found.now result self.old.tries (self.old.tries + 1) }
+        ensures tries { self.new.tries ≡ self.old.tries }
+    {
+        match self.share.scx() {
+            Some(scx) => Ok(Next::Change(scx)),
+            None => {
+                let what = Resource::Scx;
+                Err(Stop::Full(Full { what, left: 0 }))
+            }
+        }
+    }
+
+    /// The plan of its SCX, which covers all that was looked at and finalizes all but the first.
+    #[inline(always)]
+    pub fn plan(&self, found: &Found) -> Plan
+        ensures { result ≡ (update_of E.means self.now found.now).plan }
+    {
+        let many = self.snaps.len();
+        let removed = [false, 1 < many, 2 < many, 3 < many];
+        let side = self.edit.side(found);
+        Plan::new(many, removed, MemberIndex::First, side)
+    }
+
+    /// What the field of its SCX holds until then, which is one of the first node.
+    #[inline(always)]
+    pub fn old(&self, found: &Found) -> NodeNo
+        ensures { result ≡ (update_of E.means self.now found.now).old }
+    {
+        let snaps = self.snaps.as_slice();
+        SnapList::get(&snaps, 0).child(self.edit.side(found))
+    }
+
+    /// What that field gets: the last fresh node.
+    #[inline(always)]
+    pub fn fresh(&self, found: &Found) -> NodeNo
+        ensures { result ≡ (update_of E.means self.now found.now).fresh }
+    {
+        self.nodes.last(self.edit.need(found))
+    }
+
+    /// What its SCX is to do.
+    fn update(&self, found: &Found) -> Update
+        ensures { result ≡ update_of E.means self.now found.now }
+    {
+        Update {
+            snaps: Snaps::new(self.snaps.as_slice()),
+            plan: self.plan(found),
+            old: self.old(found),
+            fresh: self.fresh(found),
+        }
+    }
+
+    /// Its SCX with this SCX-record, at this place.
+    pub(crate) fn scx_run(&self, found: &Found, scx: ScxNo, at: ScxAt) -> ScxRun
+        ensures { result ≡ record { scx = scx; call = self.now.call; update = update_of E.means self.now found.now; at = at } }
+    {
+        ScxRun {
+            scx,
+            call: self.call,
+            update: self.update(found),
+            at,
+        }
+    }
+}

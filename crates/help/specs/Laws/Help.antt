@@ -1,0 +1,4 @@
+pub mod Allowing
+pub mod Kept
+pub mod Lawful
+pub mod Made

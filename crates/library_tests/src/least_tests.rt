@@ -1,0 +1,199 @@
+//! An edit that learns its key behind its walk: it takes the least pair away.
+ghost use Rattle.std.specs.Prelude.{◌≡◌};
+
+use crate::same::same;
+use arena::NodeWord::{Child, Head, Key, Value};
+use arena::Side::Left;
+use arena::{
+    Access, Kind, Limits, Machine, Mode, NodeNo, NodeWord, PassNo, PlainWords, Share, Side, Step,
+    Turn, Word,
+};
+use edits::{Edit, Loaded, Look, Need, Nodes, Nth, Piece, UpdateAt, UpdateRun, Updated};
+use prims::Snap;
+use std::alloc::Global;
+use std::process::Abort;
+use std::test::Fail;
+use template::{Found, Goal, WalkRun};
+use tree::{Delete, Insert, Tree};
+
+/// No call of these tests has as many steps.
+const MOST_STEPS: u32 = 1000;
+
+/// Takes the least pair away, as a delete of its key does.
+#[derive(Clone, Copy, Debug, PartialEq, Eq)]
+struct PopFirst;
+
+/// The delete of the key of that leaf.
+fn delete(found: &Found) -> Delete
+    ensures { result.key ≡ found.now.key }
+{
+    Delete { key: found.key }
+}
+
+impl Edit for PopFirst {
+    ghost use Rattle.std.specs.Prelude.{◌≡◌};
+    ghost use Rattle.tree.specs.Laws.Delete.First.{first_means, first_laws};
+
+    ghost means = { first_means };
+
+    fn goal(&self) -> Goal {
+        Goal::Least
+    }
+
+    fn need(&self, found: &Found) -> Need {
+        delete(found).need(found)
+    }
+
+    fn side(&self, found: &Found) -> Side {
+        delete(found).side(found)
+    }
+
+    fn look(&self, found: &Found, snaps: &[Snap]) -> Look {
+        delete(found).look(found, snaps)
+    }
+
+    fn copied(&self, found: &Found, snaps: &[Snap]) -> NodeNo {
+        delete(found).copied(found, snaps)
+    }
+
+    fn load(&self, found: &Found, snaps: &[Snap], loaded: &Loaded, nth: Nth) -> Option<NodeWord> {
+        delete(found).load(found, snaps, loaded, nth)
+    }
+
+    fn piece(
+        &self,
+        found: &Found,
+        snaps: &[Snap],
+        nodes: &Nodes,
+        loaded: &Loaded,
+        nth: Nth,
+    ) -> Piece {
+        delete(found).piece(found, snaps, nodes, loaded, nth)
+    }
+
+    ghost laws = { first_laws };
+}
+
+/// The opening tree of one pass.
+fn opening(alloc: Global) -> Result<PlainWords, Fail> {
+    let limits = Limits {
+        passes: 1,
+        nodes: 20,
+        scx: 20,
+        tries: 3,
+    };
+    Ok(PlainWords::new(alloc, &limits.check(Mode::Tree)?)?)
+}
+
+/// The share of the pass.
+fn share(rt: &impl Abort, table: &PlainWords) -> Share {
+    let layout = table.layout();
+    assert!(rt; layout.passes > 0);
+    Share::of(layout, PassNo(0))
+}
+
+/// What a step finds, where its word is one of the table.
+fn made(table: &mut PlainWords, step: Step) -> Option<u64> {
+    if table.layout().has(step.word) {
+        Some(table.apply(step))
+    } else {
+        None
+    }
+}
+
+/// Runs an update by itself: how many steps it makes, what it answers, and what is left of its share.
+fn plays<E: Edit + Drop>(
+    table: &mut PlainWords,
+    mut run: UpdateRun<E, UpdateAt>,
+) -> (u32, Option<Updated>, Share) {
+    let mut got = None;
+    for steps in 0..MOST_STEPS {
+        match Machine::<Tree>::next(&mut run, got) {
+            Turn::Done(answer) => return (steps, Some(answer), run.into_share()),
+            Turn::Ask(step) => got = made(table, step),
+        }
+    }
+    (MOST_STEPS, None, run.into_share())
+}
+
+/// The tree that has 5 at 50 and 9 at 90, and what is left of the share.
+fn two_pairs(rt: &impl Abort, table: &mut PlainWords) -> Share {
+    let five = Insert { key: 5, value: 50 };
+    let share = share(rt, table);
+    let (_, _, share) = plays(table, five.run(share, 3, 0));
+    let nine = Insert { key: 9, value: 90 };
+    let (_, _, share) = plays(table, nine.run(share, 3, 1));
+    share
+}
+
+/// Takes the least pair away, in the call of this number.
+fn pops(table: &mut PlainWords, share: Share, call: u64) -> (u32, Option<Updated>, Share) {
+    let run = UpdateRun::new(PopFirst, share, 3, call, UpdateAt::Start);
+    plays(table, run)
+}
+
+/// The key and the value that an answer tells, if it tells a pair.
+fn pair(answer: Option<Updated>) -> Option<(u64, u64)> {
+    match answer {
+        Some(Updated::Done { key, value }) => Some((key, value?)),
+        _ => None,
+    }
+}
+
+/// A load of a word of a node.
+fn load(node: u64, part: NodeWord) -> Step {
+    let kind = match part {
+        Child(_) => Kind::LoadChild,
+        _ => Kind::LoadSettled,
+    };
+    let word = Word::Node(NodeNo(node), part);
+    let access = Access::Load;
+    Step { kind, word, access }
+}
+
+#[test]
+fn a_walk_to_the_least_key_loads_no_key_of_a_fork(rt: HostRuntime) -> Result<(), Fail> {
+    let mut table = opening(rt.alloc())?;
+    two_pairs(&rt, &mut table);
+    // fork 8 has the key 9, over leaf 7 of the key 5
+    let loads = [
+        (0, Head),
+        (0, Child(Left)),
+        (5, Head),
+        (5, Child(Left)),
+        (8, Head),
+        (8, Child(Left)),
+        (7, Head),
+        (7, Key),
+        (7, Value),
+    ];
+    let mut walk = WalkRun::new(Goal::Least);
+    let mut got = None;
+    for (node, part) in &loads {
+        let step = load(*node, *part);
+        assert_eq!(rt; Machine::<Tree>::next(&mut walk, got), Turn::Ask(step));
+        got = made(&mut table, step);
+    }
+    let answer = match Machine::<Tree>::next(&mut walk, got) {
+        Turn::Done(found) => Some(Updated::at(&found)),
+        Turn::Ask(_) => None,
+    };
+    same(&rt, pair(answer), Some((5, 50)));
+    Ok(())
+}
+
+#[test]
+fn the_least_pairs_are_taken_one_after_the_other(rt: HostRuntime) -> Result<(), Fail> {
+    let mut table = opening(rt.alloc())?;
+    let share = two_pairs(&rt, &mut table);
+    let (_, first, share) = pops(&mut table, share, 2);
+    same(&rt, pair(first), Some((5, 50)));
+    let (_, second, share) = pops(&mut table, share, 3);
+    same(&rt, pair(second), Some((9, 90)));
+    // the root's head and field, and the head of the leaf above all keys
+    let (steps, third, _) = pops(&mut table, share, 4);
+    same(&rt, steps, 3);
+    assert!(rt; matches!(third, Some(Updated::Done { .. })));
+    same(&rt, pair(third), None);
+    Ok(())
+}

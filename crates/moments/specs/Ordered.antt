@@ -1,0 +1,59 @@
+-- Ordered reads: which keys they look for, and what they tell of the map.
+use Rattle.std.specs.Prelude.{ℕ, ◌<◌, Bool, false, ◌&&◌, ◌||◌, not, eqb, leb, ltb, ◌⊎◌, ◌≡◌, suc, true, List, [], ◌∷◌, length, take, Option, Some}
+use Rattle.std.specs.Option.{option_eq}
+use Rattle.std.specs.List.{filter, list_any}
+use Rattle.ordered_map.specs.declared.pair.Pair.{Pair}
+use Rattle.ordered_map.specs.OrderedMap.{get, MapReply, OnePair, ManyPairs}
+use Rattle.script.specs.declared.command.Command.{Command}
+use Rattle.script.specs.declared.command.Command.TheVariants.{Map}
+use Rattle.ordered_map.specs.declared.request.Request.TheVariants.{Successor, Range}
+use Rattle.moments.specs.declared.places.Change.{Change}
+
+-- it is one
+abbrev pub IsOrderedRead : Command → Type 0
+IsOrderedRead (Map (Successor key)) = Unit {0}
+IsOrderedRead (Map (Range low high most)) = Unit {0}
+IsOrderedRead _ = ⊥
+
+-- whether it looks for this key
+abbrev pub looks_for : Command → ℕ → Bool
+looks_for (Map (Successor above)) key = ltb above key
+looks_for (Map (Range low high most)) key = leb low key && leb key high
+looks_for _ key = false
+
+-- how many pairs it tells at most
+abbrev pub most_told : Command → ℕ
+most_told (Map (Successor above)) = 1
+most_told (Map (Range low high most)) = most
+most_told _ = 0
+
+-- the pairs that it tells of the map m: the first of those that it looks for
+abbrev pub pairs_read : Command → List Pair → List Pair
+pairs_read command m = take (most_told command) (filter (λ p. looks_for command p.key) m)
+
+-- the pairs that a reply tells
+abbrev pub pairs_in : Option MapReply → List Pair
+pairs_in (Some (OnePair p)) = p ∷ []
+pairs_in (Some (ManyPairs ps)) = ps
+pairs_in _ = []
+
+-- whether these pairs, of at most so many, tell what the key has: they are fewer, or go as far
+abbrev pub reaches : ℕ → List Pair → ℕ → Bool
+reaches most pairs key = ltb (length pairs) most || list_any (λ p. leb key p.key) pairs
+
+-- whether a key of this value is not as these pairs tell
+abbrev pub is_unlike : Command → List Pair → ℕ → Option ℕ → Bool
+is_unlike command pairs key value = looks_for command key && (reaches (most_told command) pairs key && not (option_eq eqb (get key pairs) value))
+
+-- the turns of the changes fall, the newest being below this one
+abbrev pub FallFrom : ℕ → List Change → Type 0
+FallFrom turn [] = Unit {0}
+FallFrom turn (c ∷ cs) = (c.turn < turn) × FallFrom c.turn cs
+
+-- What is known of a turn, the best so far, and of an older one, just before a change: which is
+-- better, and how many keys more are not as told after the older one. `was` says that the key of
+-- the change was not as told before it, and `is` that it is not so behind it.
+abbrev pub IsNextBest : Bool → Bool → ℕ → ℕ → ℕ → ℕ → ℕ → Type 0
+IsNextBest true false older best more best' more' = (best' ≡ best) × (more' ≡ suc more)
+IsNextBest false true older best more best' more' = ((more ≡ 0) × (best' ≡ older) × (more' ≡ 0)) ⊎ ((best' ≡ best) × (suc more' ≡ more))
+IsNextBest _ _ older best more best' more' = (best' ≡ best) × (more' ≡ more)

@@ -1,0 +1,128 @@
+-- What an ordered read knows stays so, whatever row comes that takes nothing of its pass's share.
+use Rattle.std.proofs.Common.{◌≡◌, ◌≢◌, ℕ, ◌<◌, ◌≤◌, true, false, eqb, length, List, [], inl, inr, ap, subst, arith}
+use Rattle.std.proofs.Math.Bool.{and-false}
+use Rattle.arena.specs.declared.layout.Layout.{Layout}
+use Rattle.arena.specs.declared.step.Row.{Row}
+use Rattle.arena.specs.declared.step.Step.{Step}
+use Rattle.arena.specs.declared.step.Kind.TheVariants.{LoadSettled}
+use Rattle.arena.specs.declared.word.NodeWord.{NodeWord}
+use Rattle.arena.specs.declared.word.NodeWord.TheVariants.{Head}
+use Rattle.arena.specs.Layout.{all_nodes}
+use Rattle.arena.specs.Words.{node, same_node_word}
+use Rattle.arena.specs.History.{History, Start, ◌⊳◌, value, Extends}
+use Rattle.arena.specs.Lawful.{Lawful}
+use Rattle.arena.specs.Machines.{IsRun, Call}
+use Rattle.arena.specs.TakenNodes.{taken_nodes}
+use Rattle.arena.proofs.Lemmas.{ends_self, ends_trans, taken_more}
+use Rattle.prims.specs.Laws.Begun.{TakesOnly}
+use Rattle.prims.specs.Laws.Idle.{IsIdle, idle_if_over, quiet_at_start, quiet_more}
+use Rattle.prims.specs.Laws.InTheWay.{been_more}
+use Rattle.prims.specs.Llx.Known.{load, IsOpened}
+use Rattle.prims.specs.Moments.{AreFinished}
+use Rattle.prims.specs.declared.snap.Snap.{Snap}
+use Rattle.prims.proofs.Lemmas.{over_more}
+use Rattle.ordered_map.specs.Paths.{Passed, WasInTree}
+use Rattle.ordered_map.specs.Runs.{IsTreeRun}
+use Rattle.ordered_map.specs.TreeShape.{TreeAllows}
+use Rattle.ordered_map.specs.TreeWords.{level}
+use Rattle.ordered_map.specs.Tries.{begins_try}
+use Rattle.ordered_map.proofs.Lemmas.{path_not_final, root_head, run_since, stood_in_field, stood_settled, tree_inside, walk_first, was_passed, SameSettled}
+use Rattle.template.proofs.Lemmas.{BeginsNoTry, newest_more, newest_now, other_node_begins_none, tries_more}
+use Rattle.order.specs.Reads.{begun_at, AreSnapped, Reads, Whenever, HasStood}
+use Rattle.order.specs.Tries.{BeginsTry, IsInTry}
+
+-- a pass whose SCX-records are all finished is idle
+pub idle_if_finished : (c : Call) (h : History) → Lawful c.layout h → AreFinished c.layout c.pass 0 h → IsIdle c.layout c.pass h
+idle_if_finished c h l over = idle_if_over c.layout c.pass h l (λ s own t. over s own (λ e. let a = own.from in omega (arith, e)) t)
+
+-- a node that has stood in the tree is of the table
+pub stood_inside : (lay : Layout) (h : History) (n : ℕ) → IsTreeRun lay h → WasInTree h n → n < all_nodes lay
+stood_inside lay h n run x = tree_inside lay x.moment x.tree (run_since lay h x.moment run x.within).1.lawful x.is_tree n x.has
+
+-- and an LLX may look at it
+pub opened_if_stood : (lay : Layout) (h : History) (n : ℕ) → IsTreeRun lay h → WasInTree h n → IsOpened lay h n
+opened_if_stood lay h n run x = record { in_field = stood_in_field lay h n run x; inside = stood_inside lay h n run x }
+
+-- the root has stood in the tree
+pub root_there : (c : Call) (h : History) → IsTreeRun c.layout h → Extends h c.start → HasStood c h 0
+root_there c h run since = record {
+  stood = was_passed h h 0 0 p;
+  not_final = record { moment = p.0; within = p.1; since = ends_trans p.0 h c.start p.2 since; was = path_not_final c.layout p.0 0 0 (run_since c.layout h p.0 run p.1) p.3 };
+}
+  where
+    p : Passed h h 0 0
+    p = walk_first c.layout h 0 run
+
+-- with no snapshot it knows all that it knows of the call as if that began now
+pub reads_anew : (c : Call) (h : History) (snaps : List Snap) → snaps ≡ [] → IsTreeRun c.layout h → AreFinished c.layout c.pass 0 h → Reads (begun_at c h) h snaps
+reads_anew c h snaps none run over = rw none record {
+  run = run;
+  since = ends_self h;
+  over = over;
+  quiet = quiet_at_start c.layout c.pass h (idle_if_finished c h run.1.lawful over);
+  snapped = λ i p. absurd (omega (arith, p));
+}
+
+-- no node that was taken is untaken
+pub taken_nodes_grow : (h m : History) → Extends h m → length (taken_nodes m) ≤ length (taken_nodes h)
+taken_nodes_grow (Start mode) m e = rw e (omega arith)
+taken_nodes_grow (r ⊳ h) m (inl e) = rw e (omega arith)
+taken_nodes_grow (r ⊳ h) m (inr e) =
+    let x : length (taken_nodes m) ≤ length (taken_nodes h) = taken_nodes_grow h m e in
+    let y : length (taken_nodes h) ≤ length (taken_nodes (r ⊳ h)) = taken_more h r in
+    omega (arith, x, y)
+
+module _ (c : Call) (h : History) (r : Row) where
+  pub stood_more : (n : ℕ) → HasStood c h n → HasStood c (r ⊳ h) n
+  stood_more n x = record {
+    stood = let s = x.stood in record { moment = s.moment; within = inr s.within; tree = s.tree; is_tree = s.is_tree; has = s.has };
+    not_final = been_more r h c.start _ x.not_final;
+  }
+
+  snapped_more : (snaps : List Snap) → AreSnapped c h snaps → AreSnapped c (r ⊳ h) snaps
+  snapped_more snaps x i p = let u = x i p in record { moment = u.moment; within = inr u.within; since = u.since; is = u.is }
+
+  pub whenever_more : (snaps : List Snap) (P : History → Type 0) → Whenever c.layout h snaps P → Whenever c.layout (r ⊳ h) snaps P
+  whenever_more snaps P x b run e = x b run (ends_trans b (r ⊳ h) h e (inr (ends_self h)))
+
+  module _ (run : IsRun TreeAllows c.layout (r ⊳ h)) where
+    pub reads_more : (snaps : List Snap) → TakesOnly c.layout c.pass 0 h r → Reads c h snaps → Reads c (r ⊳ h) snaps
+    reads_more snaps takes x = record {
+      run = (x.run.0, run);
+      since = inr x.since;
+      over = over;
+      quiet = quiet_more c.layout c.pass c.start h r (idle_if_finished c (r ⊳ h) run.lawful over) x.quiet;
+      snapped = snapped_more snaps x.snapped;
+    }
+      where
+        over : AreFinished c.layout c.pass 0 (r ⊳ h)
+        over = over_more c.layout c.pass 0 h r run.lawful takes x.over
+
+    -- the settled words of a node that has stood in the tree stay
+    pub settled_more : (n : ℕ) → IsTreeRun c.layout h → HasStood c h n → SameSettled (value h) (value (r ⊳ h)) n
+    settled_more n g x = stood_settled c.layout (r ⊳ h) h n (g.0, run) (inr (ends_self h)) x.stood
+
+-- Its tries
+
+module _ (c : Call) (h : History) (r : Row) (limit left : ℕ) (idle : IsIdle c.layout c.pass (r ⊳ h)) where
+  -- a row that begins no try leaves it where it is
+  pub begins_more : begins_try c.pass r ≡ false → BeginsTry c h limit left → BeginsTry c (r ⊳ h) limit left
+  begins_more none x = record { since = inr x.since; quiet = quiet_more c.layout c.pass c.start h r idle x.quiet; all = rw (tries_more c.pass r h none) x.all }
+
+  pub in_try_more : (begin : History) → begins_try c.pass r ≡ false → IsInTry c h begin limit left → IsInTry c (r ⊳ h) begin limit left
+  in_try_more begin none x = record { begins = x.begins; quiet = quiet_more c.layout c.pass c.start h r idle x.quiet; newest = newest_more c.pass r h begin none x.newest }
+
+  -- with one that begins a try it is in that
+  pub in_try_now : begins_try c.pass r ≡ true → BeginsTry c h limit left → IsInTry c (r ⊳ h) h limit left
+  in_try_now begins x = record { begins = x; quiet = quiet_more c.layout c.pass c.start h r idle x.quiet; newest = newest_now c.pass r h begins }
+
+-- a load of the head of a node below some fork begins none
+pub head_begins_none : (c : Call) (h : History) (s : Step) (above n : ℕ) → IsTreeRun c.layout h → above < level (value h) n → s ≡ load LoadSettled (node n Head) → BeginsNoTry s
+head_begins_none c h s above n run deep e = other_node_begins_none s n Head (ap (λ (t : Step). t.word) e) below
+  where
+    below : n ≢ 0
+    below z = let low : above < level (value h) 0 = subst (λ k. above < level (value h) k) z deep in let root = root_head c.layout h run in omega (arith, low, root)
+
+-- nor does a load of another word
+pub word_begins_none : (s : Step) (n : ℕ) (part : NodeWord) → s ≡ load LoadSettled (node n part) → same_node_word part Head ≡ false → BeginsNoTry s
+word_begins_none s n part e other = rw (e, other) (and-false (eqb n 0))

@@ -1,0 +1,182 @@
+-- The first leaf of a tree: it stands on the path of 0, below which there is no key.
+use Rattle.std.proofs.Common.{◌≡◌, ◌≢◌, ℕ, ◌^◌, ◌<◌, ◌≤◌, true, false, cond, eqb, ◌%◌, lt-ltb, eq-eqb, ne_eqb, inl, inr, List, [], ◌∷◌, ◌++◌, refl, sym, ◌∙◌, ap, arith, append_assoc, append-nil}
+use Rattle.std.specs.Prelude.{Some, None}
+use native.Mathlib.Decide.{ℕ_discrete}
+use Rattle.arena.specs.declared.layout.Layout.{Layout}
+use Rattle.arena.specs.declared.word.Side.TheVariants.{Left}
+use Rattle.arena.specs.declared.word.NodeWord.TheVariants.{Head, Key, Value, Child}
+use Rattle.arena.specs.declared.word.Word.{Word}
+use Rattle.arena.specs.Words.{node, child}
+use Rattle.arena.specs.History.{History, value}
+use Rattle.arena.proofs.Lemmas.{ends_self}
+use Rattle.histories.proofs.Lemmas.{node_since}
+use Rattle.ordered_map.specs.declared.pair.Pair.{Pair}
+use Rattle.ordered_map.specs.OrderedMap.{pair, first_pair}
+use Rattle.ordered_map.specs.Paths.{Passed, IsFirstAt}
+use Rattle.ordered_map.specs.Runs.{IsTreeRun}
+use Rattle.ordered_map.specs.Spelled.{Spells}
+use Rattle.ordered_map.specs.TreeWords.{Tree, Leaf, Fork, root, Shows, Has, Passes, class, is_leaf, rank, toward, pairs, leaf_pairs, first_said}
+use Rattle.ordered_map.proofs.Trees.{within, passes_has, has_root}
+use Rattle.ordered_map.proofs.Moved.{SameSettled, settled_rank, settled_leaf}
+use Rattle.ordered_map.proofs.TreeFacts.{path_now, all_named}
+use Rattle.ordered_map.proofs.Past.{path_named, Latest, latest, path_level}
+use Rattle.ordered_map.proofs.Meanings.{edits_of, grown, run_spells, run_since}
+
+-- In a tree
+
+-- a tree has a leaf between its bounds
+open_between : (f : Word → ℕ) (t : Tree) (lo hi : ℕ) → Shows f lo hi t → lo < hi
+open_between f t lo hi s = let w = within f t lo hi s in omega (arith, w.0, w.1)
+
+-- its forks are above the lower bound
+fork_above : (f : Word → ℕ) (t : Tree) (lo hi n : ℕ) → Shows f lo hi t → Has t n → is_leaf f n ≡ false → lo < rank f n
+fork_above f (Leaf m) lo hi n s e d = absurd (let x : true ≡ false = sym s.leaf ∙ rw (← e) at d in cc)
+fork_above f (Fork m a b) lo hi n s (inl e) d = rw (← e) (open_between f a lo (rank f m) s.1)
+fork_above f (Fork m a b) lo hi n s (inr (inl q)) d = fork_above f a lo (rank f m) n s.1 q d
+fork_above f (Fork m a b) lo hi n s (inr (inr q)) d =
+    let x : rank f m < rank f n = fork_above f b (rank f m) hi n s.2 q d in
+    let y : lo < rank f m = open_between f a lo (rank f m) s.1 in
+    omega (arith, x, y)
+
+-- and all its nodes below the upper one
+node_below : (f : Word → ℕ) (t : Tree) (lo hi n : ℕ) → Shows f lo hi t → Has t n → rank f n < hi
+node_below f (Leaf m) lo hi n s e = rw (← e) s.below
+node_below f (Fork m a b) lo hi n s (inl e) = rw (← e) (open_between f b (rank f m) hi s.2)
+node_below f (Fork m a b) lo hi n s (inr (inl q)) =
+    let x : rank f n < rank f m = node_below f a lo (rank f m) n s.1 q in
+    let y : rank f m < hi = open_between f b (rank f m) hi s.2 in
+    omega (arith, x, y)
+node_below f (Fork m a b) lo hi n s (inr (inr q)) = node_below f b (rank f m) hi n s.2 q
+
+-- the keys of its leaves are below 2 ^ 64
+leaf_small : (f : Word → ℕ) (t : Tree) (lo hi n : ℕ) → Shows f lo hi t → Has t n → is_leaf f n ≡ true → f (node n Key) < 2 ^ 64
+leaf_small f (Leaf m) lo hi n s e d = rw (← e) s.small
+leaf_small f (Fork m a b) lo hi n s (inl e) d = absurd (let x : true ≡ false = sym d ∙ rw (← e) s.0.fork in cc)
+leaf_small f (Fork m a b) lo hi n s (inr (inl q)) d = leaf_small f a lo (rank f m) n s.1 q d
+leaf_small f (Fork m a b) lo hi n s (inr (inr q)) d = leaf_small f b (rank f m) hi n s.2 q d
+
+-- what stands on the left of a fork comes before it
+left_below : (f : Word → ℕ) (t : Tree) (lo hi n : ℕ) → Shows f lo hi t → Has t n → is_leaf f n ≡ false → rank f (f (child n Left)) < rank f n
+left_below f (Leaf m) lo hi n s e d = absurd (let x : true ≡ false = sym s.leaf ∙ rw (← e) at d in cc)
+left_below f (Fork m a b) lo hi n s (inl e) d =
+    let q : f (child n Left) ≡ root a = rw (← e) s.0.left in
+    rw (q, ← e) (node_below f a lo (rank f m) (root a) s.1 (has_root a))
+left_below f (Fork m a b) lo hi n s (inr (inl q)) d = left_below f a lo (rank f m) n s.1 q d
+left_below f (Fork m a b) lo hi n s (inr (inr q)) d = left_below f b (rank f m) hi n s.2 q d
+
+-- no search for 0 goes to the right
+never_right : (f : Word → ℕ) (a : Tree) (lo m : ℕ) → Shows f lo (rank f m) a → rank f m ≤ 0 → ⊥
+never_right f a lo m s e = let x : lo < rank f m = open_between f a lo (rank f m) s in omega (arith, x, e)
+
+-- what stands on the path of 0 stands on that of every key up to its own
+first_path : (f : Word → ℕ) (k : ℕ) (t : Tree) (lo hi n : ℕ) → Shows f lo hi t → Passes f 0 t n → k ≤ rank f n → Passes f k t n
+first_path f k (Leaf m) lo hi n s e u = e
+first_path f k (Fork m a b) lo hi n s (inl e) u = inl e
+first_path f k (Fork m a b) lo hi n s (inr (inl q)) u =
+    let x : rank f n < rank f m = node_below f a lo (rank f m) n s.1 (passes_has f 0 a n q.1) in
+    inr (inl (omega (arith, x, u), first_path f k a lo (rank f m) n s.1 q.1 u))
+first_path f k (Fork m a b) lo hi n s (inr (inr q)) u = absurd (never_right f a lo m s.1 q.0)
+
+-- its pairs come first
+leaf_first : (f : Word → ℕ) (t : Tree) (lo hi n : ℕ) → Shows f lo hi t → Passes f 0 t n → is_leaf f n ≡ true → (rest : List Pair) × (pairs f t ≡ leaf_pairs f n ++ rest)
+leaf_first f (Leaf m) lo hi n s e d = ([], ap (leaf_pairs f) e ∙ sym (append-nil (leaf_pairs f n)))
+leaf_first f (Fork m a b) lo hi n s (inl e) d = absurd (let x : true ≡ false = sym d ∙ rw (← e) s.0.fork in cc)
+leaf_first f (Fork m a b) lo hi n s (inr (inl q)) d =
+    let x : (rest : List Pair) × (pairs f a ≡ leaf_pairs f n ++ rest) = leaf_first f a lo (rank f m) n s.1 q.1 d in
+    (x.0 ++ pairs f b, ap (λ ps. ps ++ pairs f b) x.1 ∙ append_assoc (leaf_pairs f n) x.0 (pairs f b))
+leaf_first f (Fork m a b) lo hi n s (inr (inr q)) d = absurd (never_right f a lo m s.1 q.0)
+
+-- above all keys there is no pair
+no_pairs : (f : Word → ℕ) (t : Tree) (lo hi : ℕ) → Shows f lo hi t → 2 ^ 64 ≤ lo → pairs f t ≡ []
+no_pairs f (Leaf m) lo hi s u =
+    let high : class f m ≢ 0 = λ z. let a = s.small in let b = s.from in omega (arith, a, b, z, u) in
+    rw (ne_eqb (class f m) 0 high) refl
+no_pairs f (Fork m a b) lo hi s u =
+    let x : lo < rank f m = open_between f a lo (rank f m) s.1 in
+    let left : pairs f a ≡ [] = no_pairs f a lo (rank f m) s.1 u in
+    let right : pairs f b ≡ [] = no_pairs f b (rank f m) hi s.2 (omega (arith, x, u)) in
+    λ i. left i ++ right i
+
+-- so where the first leaf is above all keys there is none
+none_first : (f : Word → ℕ) (t : Tree) (lo hi n : ℕ) → Shows f lo hi t → Passes f 0 t n → is_leaf f n ≡ true → class f n ≢ 0 → pairs f t ≡ []
+none_first f (Leaf m) lo hi n s e d high = rw (ne_eqb (class f m) 0 (λ z. high (rw (← e) z))) refl
+none_first f (Fork m a b) lo hi n s (inl e) d high = absurd (let x : true ≡ false = sym d ∙ rw (← e) s.0.fork in cc)
+none_first f (Fork m a b) lo hi n s (inr (inl q)) d high =
+    let x : rank f n < rank f m = node_below f a lo (rank f m) n s.1 (passes_has f 0 a n q.1) in
+    let left : pairs f a ≡ [] = none_first f a lo (rank f m) n s.1 q.1 d high in
+    let right : pairs f b ≡ [] = no_pairs f b (rank f m) hi s.2 (omega (arith, x, high)) in
+    λ i. left i ++ right i
+none_first f (Fork m a b) lo hi n s (inr (inr q)) d high = absurd (never_right f a lo m s.1 q.0)
+
+-- the first pair of what the tree holds is what its first leaf says
+pairs_first : (f : Word → ℕ) (t : Tree) (lo hi n : ℕ) → Shows f lo hi t → Passes f 0 t n → is_leaf f n ≡ true → first_pair (pairs f t) ≡ first_said f n
+pairs_first f t lo hi n s p d = go (ℕ_discrete (class f n) 0)
+  where
+    go : Dec (class f n ≡ 0) → first_pair (pairs f t) ≡ first_said f n
+    go (no high) = ap first_pair (none_first f t lo hi n s p d high) ∙ sym (ap (λ b. cond b (Some (pair (f (node n Key)) (f (node n Value)))) None) (ne_eqb (class f n) 0 high))
+    go (yes low) =
+        let x : (rest : List Pair) × (pairs f t ≡ leaf_pairs f n ++ rest) = leaf_first f t lo hi n s p d in
+        let held : leaf_pairs f n ≡ pair (f (node n Key)) (f (node n Value)) ∷ [] = ap (λ b. cond b (pair (f (node n Key)) (f (node n Value)) ∷ []) []) (eq-eqb (class f n) 0 low) in
+        ap first_pair (x.1 ∙ ap (λ ps. ps ++ x.0) held) ∙ sym (ap (λ b. cond b (Some (pair (f (node n Key)) (f (node n Value)))) None) (eq-eqb (class f n) 0 low))
+
+-- In a run
+
+-- what was passed says what it said
+same_since : (lay : Layout) (h start : History) (k n : ℕ) → IsTreeRun lay h → (p : Passed h start k n) → SameSettled (value p.0) (value h) n
+same_since lay h start k n g p part i = node_since lay h p.0 n part g.1.lawful p.1 i (path_named lay p.0 k n g.0 p.3)
+
+-- what is on the left of a fork that was passed comes before it
+pub walk_before : (lay : Layout) (h start : History) (k n : ℕ) → IsTreeRun lay h → Passed h start k n → is_leaf (value h) n ≡ false → rank (value h) (value h (child n Left)) < rank (value h) n
+walk_before lay h start k n g p fork =
+    let x : Latest h p.0 k n = latest (edits_of lay h g).edits lay h p.0 k n (grown lay h g) p.1 p.3 in
+    let m : History = x.moment in
+    let at : Passed h m k n = (m, x.within, ends_self m, x.on_path) in
+    let same : SameSettled (value m) (value h) n = same_since lay h m k n g at in
+    let d : is_leaf (value m) n ≡ false = sym (settled_leaf (value m) (value h) n same) ∙ fork in
+    let has = passes_has (value m) k x.on_path.tree n x.on_path.passes in
+    let y : rank (value m) (value m (child n Left)) < rank (value m) n = left_below (value m) x.on_path.tree _ _ n x.on_path.is_tree.shows has d in
+    let below : Has x.on_path.tree (value m (child n Left)) = (path_level (value m) x.on_path.tree _ _ n Left x.on_path.is_tree.shows has d).1 in
+    let there : SameSettled (value m) (value h) (value m (child n Left)) = λ part i. node_since lay h m (value m (child n Left)) part g.1.lawful x.within i (all_named lay m x.on_path.tree _ g.0 x.on_path.is_tree below) in
+    let c : value h (child n Left) ≡ value m (child n Left) = x.same (Child Left) tt in
+    rw (c, settled_rank (value m) (value h) (value m (child n Left)) there, settled_rank (value m) (value h) n same) y
+
+-- the key of a leaf that was passed is below 2 ^ 64
+pub walk_small : (lay : Layout) (h start : History) (k n : ℕ) → IsTreeRun lay h → Passed h start k n → is_leaf (value h) n ≡ true → value h (node n Key) < 2 ^ 64
+walk_small lay h start k n g p leaf =
+    let same : SameSettled (value p.0) (value h) n = same_since lay h start k n g p in
+    let tree = p.3 in
+    let x : value p.0 (node n Key) < 2 ^ 64 = leaf_small (value p.0) tree.tree _ _ n tree.is_tree.shows (passes_has (value p.0) k tree.tree n tree.passes) (sym (settled_leaf (value p.0) (value h) n same) ∙ leaf) in
+    rw (same Key tt) x
+
+-- a search for the least key goes left at each fork
+pub walk_left : (lay : Layout) (h start : History) (n : ℕ) → IsTreeRun lay h → Passed h start 0 n → is_leaf (value h) n ≡ false → toward (value h) n 0 ≡ Left
+walk_left lay h start n g p fork =
+    let same = same_since lay h start 0 n g p in
+    let tree = p.3 in
+    let x : 0 < rank (value p.0) n = fork_above (value p.0) tree.tree _ _ n tree.is_tree.shows (passes_has (value p.0) 0 tree.tree n tree.passes) (sym (settled_leaf (value p.0) (value h) n same) ∙ fork) in
+    rw (lt-ltb 0 (rank (value h) n) (rw (settled_rank (value p.0) (value h) n same) x)) refl
+
+-- what it has passed it has passed on its way to each key up to that
+pub walk_own : (lay : Layout) (h start : History) (k n : ℕ) → IsTreeRun lay h → Passed h start 0 n → k ≤ rank (value h) n → Passed h start k n
+walk_own lay h start k n g p u =
+    let tree = p.3 in
+    let low : k ≤ rank (value p.0) n = rw (settled_rank (value p.0) (value h) n (same_since lay h start 0 n g p)) at u in
+    (p.0, p.1, p.2, record { tree = tree.tree; is_tree = tree.is_tree; passes = first_path (value p.0) k tree.tree _ _ n tree.is_tree.shows tree.passes low })
+
+-- the leaf where it ends says which pair was the first of the map, at a moment since then
+pub walk_least : (lay : Layout) (h start : History) (n : ℕ) → IsTreeRun lay h → Passed h start 0 n → is_leaf (value h) n ≡ true → IsFirstAt lay h start (first_said (value h) n)
+walk_least lay h start n g p leaf =
+    let m = p.0 in
+    let same = same_since lay h start 0 n g p in
+    let spelled : (ps : List Pair) × Spells lay (value m) ps = run_spells lay m (run_since lay h m g p.1) in
+    let tree = spelled.1.tree in
+    let at : Passes (value m) 0 tree n = path_now m tree 0 n spelled.1.is_tree p.3 in
+    let d : is_leaf (value m) n ≡ true = sym (settled_leaf (value m) (value h) n same) ∙ leaf in
+    record {
+      moment = m;
+      within = p.1;
+      since = p.2;
+      map = spelled.0;
+      spelled = spelled.1;
+      is = ap first_pair (sym spelled.1.pairs) ∙ pairs_first (value m) tree _ _ n spelled.1.is_tree.shows at d ∙ (λ i. cond (eqb (sym (same Head tt) i % 4) 0) (Some (pair (sym (same Key tt) i) (sym (same Value tt) i))) None);
+    }

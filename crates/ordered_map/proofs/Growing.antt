@@ -1,0 +1,360 @@
+-- Every lawful history of the tree spells the map of its log.
+use Rattle.std.proofs.Common.{◌≡◌, ◌≢◌, ℕ, ◌<◌, ◌≤◌, ◌+◌, ◌*◌, ◌%◌, ◌^◌, Bool, true, false, eqb, ltb, inl, inr, List, [], ◌∷◌, ◌++◌, refl, sym, ◌∙◌, ap, arith, lt-ltb, le-ltb, ne_eqb, eq-eqb, cond, append_assoc, append-nil, subst, Some, None}
+use Rattle.std.proofs.lemmas.List.{append_cancel_right}
+use Rattle.std.proofs.lemmas.List.Elements.{All-nil, All-cons}
+use Rattle.std.specs.Prelude.{All}
+use Rattle.ordered_map.proofs.Inside.{tree_inside}
+use native.Mathlib.Decide.{ℕ_discrete}
+use Rattle.arena.specs.declared.limits.Mode.TheVariants.{Tree as TreeMode}
+use Rattle.arena.specs.declared.word.Side.TheVariants.{Left, Right}
+use Rattle.arena.specs.declared.word.NodeWord.{NodeWord}
+use Rattle.arena.specs.declared.word.NodeWord.TheVariants.{Head, Key, Value, Child}
+use Rattle.arena.specs.declared.word.Word.{Word}
+use Rattle.arena.specs.declared.layout.Layout.{Layout}
+use Rattle.arena.specs.Words.{node, child}
+use Rattle.arena.specs.History.{History, Start, ◌⊳◌, value, Extends}
+use Rattle.arena.specs.ScxRecords.{field_index, member, plan, side_of}
+use Rattle.arena.specs.Fills.{opening_node}
+use Rattle.arena.specs.Lawful.{IsSettled, Lawful}
+use Rattle.arena.specs.Log.{log}
+use Rattle.arena.proofs.Lemmas.{node_apart, node_word_apart}
+use Rattle.histories.proofs.Lemmas.{Effect, Facts, effect, facts_before, freeze, freeze_keeps_field, lawful_tail, node_since, quiet, start_mode, update, update_keeps_other}
+use Rattle.ordered_map.specs.declared.pair.Pair.{Pair}
+use Rattle.ordered_map.specs.OrderedMap.{pair, MapEdit, get, IsRising}
+use Rattle.ordered_map.proofs.Trees.{items, ends, Above, Below, items_above, items_below, passes_has}
+use Rattle.ordered_map.specs.Runs.{map_of_log}
+use Rattle.ordered_map.specs.Spelled.{IsTree, Spells}
+use Rattle.ordered_map.specs.TreeWords.{Tree, Leaf, Fork, Shows, Has, Passes, class, is_leaf, toward, rank, pairs, leaf_nodes}
+use Rattle.ordered_map.proofs.Searches.{passes_root, path_child, get_leaf}
+use Rattle.ordered_map.proofs.TreeFacts.{TreeFacts}
+use Rattle.ordered_map.proofs.Edited.{root_side}
+use Rattle.ordered_map.proofs.Grown.{IsGrown, tree_facts, grown_tail}
+
+-- the pairs are the items below 2 ^ 64
+pub low : List Pair → List Pair
+low [] = []
+low (p ∷ ps) = cond (ltb p.key (2 ^ 64)) (p ∷ low ps) (low ps)
+
+low_join : (xs ys : List Pair) → low (xs ++ ys) ≡ low xs ++ low ys
+unfolding low
+low_join [] ys = refl
+low_join (x ∷ xs) ys = go (ltb x.key (2 ^ 64)) (low_join xs ys)
+  where
+    go : (b : Bool) → low (xs ++ ys) ≡ low xs ++ low ys → cond b (x ∷ low (xs ++ ys)) (low (xs ++ ys)) ≡ cond b (x ∷ low xs) (low xs) ++ low ys
+    go true e = ap (λ z. x ∷ z) e
+    go false e = e
+
+low_all : (xs : List Pair) → Below (2 ^ 64) xs → low xs ≡ xs
+unfolding low
+low_all [] b = refl
+low_all (x ∷ xs) b = rw (lt-ltb x.key (2 ^ 64) b.0) (ap (λ z. x ∷ z) (low_all xs b.1))
+
+low_above : (k : ℕ) (xs : List Pair) → Above k xs → Above k (low xs)
+unfolding low
+low_above k [] a = tt
+low_above k (x ∷ xs) a = go (ltb x.key (2 ^ 64)) (low_above k xs a.1)
+  where
+    go : (b : Bool) → Above k (low xs) → Above k (cond b (x ∷ low xs) (low xs))
+    go true r = (a.0, r)
+    go false r = r
+
+pub low_rises : (xs : List Pair) → IsRising xs → IsRising (low xs)
+unfolding low
+low_rises [] r = tt
+low_rises (x ∷ xs) r = go (ltb x.key (2 ^ 64)) (low_rises xs r.1)
+  where
+    go : (b : Bool) → IsRising (low xs) → IsRising (cond b (x ∷ low xs) (low xs))
+    go true q = (low_above x.key xs r.0, q)
+    go false q = q
+
+low_ends : low ends ≡ []
+unfolding low
+low_ends = refl
+
+pub pairs_low : (f : Word → ℕ) (t : Tree) (lo hi : ℕ) → Shows f lo hi t → pairs f t ≡ low (items f t)
+unfolding low
+pairs_low f (Fork n a b) lo hi s = (λ i. pairs_low f a lo (rank f n) s.1 i ++ pairs_low f b (rank f n) hi s.2 i) ∙ sym (low_join (items f a) (items f b))
+pairs_low f (Leaf n) lo hi s = go (ℕ_discrete (class f n) 0)
+  where
+    go : Dec (class f n ≡ 0) → cond (eqb (class f n) 0) (pair (f (node n Key)) (f (node n Value)) ∷ []) [] ≡ cond (ltb (rank f n) (2 ^ 64)) (pair (rank f n) (f (node n Value)) ∷ []) []
+    go (yes e) =
+        let r : rank f n ≡ f (node n Key) = omega (arith, e) in
+        let l : rank f n < 2 ^ 64 = let k = s.small in omega (arith, k, r) in
+        rw (eq-eqb (class f n) 0 e, lt-ltb (rank f n) (2 ^ 64) l) (λ i. pair (sym r i) (f (node n Value)) ∷ [])
+    go (no d) =
+        let l : 2 ^ 64 ≤ rank f n = omega (arith, d) in
+        rw (ne_eqb (class f n) 0 d, le-ltb (rank f n) (2 ^ 64) l) refl
+
+above_join : (k : ℕ) (xs ys : List Pair) → Above k xs → Above k ys → Above k (xs ++ ys)
+above_join k [] ys p q = q
+above_join k (x ∷ xs) ys p q = (p.0, above_join k xs ys p.1 q)
+
+above_split : (k : ℕ) (xs ys : List Pair) → Above k (xs ++ ys) → Above k xs × Above k ys
+above_split k [] ys a = (tt, a)
+above_split k (x ∷ xs) ys a = let q = above_split k xs ys a.1 in ((a.0, q.0), q.1)
+
+-- the items rise
+rising_join : (m : ℕ) (xs ys : List Pair) → Below m xs → IsRising xs → IsRising ys → ((k : ℕ) → k < m → Above k ys) → IsRising (xs ++ ys)
+rising_join m [] ys b r s a = s
+rising_join m (x ∷ xs) ys b r s a = (above_join x.key xs ys r.0 (a x.key b.0), rising_join m xs ys b.1 r.1 s a)
+
+pub items_rise : (f : Word → ℕ) (t : Tree) (lo hi : ℕ) → Shows f lo hi t → IsRising (items f t)
+items_rise f (Leaf n) lo hi s = (tt, tt)
+items_rise f (Fork n a b) lo hi s = rising_join (rank f n) (items f a) (items f b) (items_below f a lo (rank f n) (rank f n) s.1 (omega arith)) (items_rise f a lo (rank f n) s.1) (items_rise f b (rank f n) hi s.2) (λ k l. items_above f b (rank f n) hi k s.2 l)
+
+rising_split : (xs ys : List Pair) (y : Pair) → IsRising (xs ++ y ∷ ys) → IsRising xs × Below y.key xs
+rising_split [] ys y r = (tt, tt)
+rising_split (x ∷ xs) ys y r =
+    let q : IsRising xs × Below y.key xs = rising_split xs ys y r.1 in
+    let a : Above x.key xs × Above x.key (y ∷ ys) = above_split x.key xs (y ∷ ys) r.0 in
+    ((a.0, q.0), (a.1.0, q.1))
+
+-- the right field of node 0 never changes
+ends_start : (lay : Layout) (h : History) → Lawful lay h → Extends h (Start lay.mode)
+ends_start lay (Start mode) l = ap Start (sym (start_mode lay mode l))
+ends_start lay (r ⊳ h) l = inr (ends_start lay h (lawful_tail lay h r l))
+
+right_start : value (Start TreeMode) (child 0 Right) ≡ 2
+unfolding value
+right_start = refl
+
+opening_root : value (Start TreeMode) (node 0 Head) ≡ 2
+unfolding value
+opening_root = refl
+
+opening_two : value (Start TreeMode) (node 2 Head) ≡ 14
+unfolding value
+opening_two = refl
+
+zero_key : value (Start TreeMode) (node 2 Key) ≡ 0
+unfolding value
+zero_key = refl
+
+zero_value : value (Start TreeMode) (node 2 Value) ≡ 0
+unfolding value
+zero_value = refl
+
+-- the settled words of the opening nodes stay
+opening_stays : (calls : ℕ → MapEdit) (lay : Layout) (h : History) (n : ℕ) (a : NodeWord) → IsGrown calls lay h → n < 3 → IsSettled (node n a) → value h (node n a) ≡ value (Start TreeMode) (node n a)
+opening_stays calls lay h n a g i s =
+    node_since lay h (Start lay.mode) n a g.lawful (ends_start lay h g.lawful) s (opening_node (rw g.mode i)) ∙ ap (λ m. value (Start m) (node n a)) g.mode
+
+-- so node 0 is a fork above all keys
+pub grown_root : (calls : ℕ → MapEdit) (lay : Layout) (h : History) → IsGrown calls lay h → value h (node 0 Head) ≡ 2
+grown_root calls lay h g = opening_stays calls lay h 0 Head g (omega arith) tt ∙ opening_root
+
+right_stays : (calls : ℕ → MapEdit) (lay : Layout) (h : History) → IsGrown calls lay h → value h (child 0 Right) ≡ 2
+right_stays calls lay (Start mode) g = ap (λ m. value (Start m) (child 0 Right)) (start_mode lay mode g.lawful ∙ g.mode) ∙ right_start
+right_stays calls lay (r ⊳ h) g = go (effect lay h r g.lawful) (right_stays calls lay h (grown_tail calls lay h r g))
+  where
+    f : Facts lay h
+    f = facts_before lay h r g.lawful
+
+    t : TreeFacts calls lay h
+    t = tree_facts calls lay h (grown_tail calls lay h r g)
+
+    head : value h (node 0 Head) ≡ 2
+    head = grown_root calls lay h (grown_tail calls lay h r g)
+
+    go : Effect lay h r → value h (child 0 Right) ≡ 2 → value (r ⊳ h) (child 0 Right) ≡ 2
+    go (quiet k) e = k.node 0 (Child Right) tt (opening_node (rw g.mode (omega arith))) ∙ e
+    go (freeze s j w) e = freeze_keeps_field f w 0 Right ∙ e
+    go (update s w) e = other (ℕ_discrete (member h s (field_index h s)) 0)
+      where
+        big : 2 ^ 64 ≤ rank (value h) 0
+        big = omega (arith, head)
+
+        other : Dec (member h s (field_index h s) ≡ 0) → value (r ⊳ h) (child 0 Right) ≡ 2
+        other (no q) = update_keeps_other f w (child 0 Right) (node_apart (member h s (field_index h s)) 0 (Child (side_of (plan h s))) (Child Right) q) ∙ e
+        other (yes q) =
+            let d : side_of (plan h s) ≡ Left = root_side calls lay h r s f w g.mode g.lawful t q big in
+            update_keeps_other f w (child 0 Right) (node_word_apart (member h s (field_index h s)) 0 (Child (side_of (plan h s))) (Child Right) (rw d refl)) ∙ e
+
+-- the shape of the tree: node 0 over all, and leaf 2 on its right
+record IsCrown (f : Word → ℕ) (t : Tree) : Type 0 where
+  left : Tree
+  is : t ≡ Fork 0 left (Leaf 2)
+  shows : Shows f 0 (rank f 0) left
+
+crown : (f : Word → ℕ) (t : Tree) → IsTree f t → is_leaf f 0 ≡ false → is_leaf f 2 ≡ true → f (child 0 Right) ≡ 2 → IsCrown f t
+crown f (Leaf n) i d e r = absurd (let x : true ≡ false = sym i.shows.leaf ∙ rw (← i.is) at d in cc)
+crown f (Fork n a (Fork m b c)) i d e r =
+    let q : m ≡ 2 = sym i.shows.0.right ∙ rw (← i.is) at r in
+    absurd (let x : true ≡ false = sym e ∙ rw q at i.shows.2.0.fork in cc)
+crown f (Fork n a (Leaf m)) i d e r =
+    let q : m ≡ 2 = sym i.shows.0.right ∙ rw (← i.is) at r in
+    record { left = a; is = λ j. Fork (i.is j) a (Leaf (q j)); shows = rw i.is at i.shows.1 }
+
+last_key : ℕ → List Pair → ℕ
+last_key d [] = d
+last_key d (p ∷ ps) = last_key p.key ps
+
+last_is : (d : ℕ) (xs : List Pair) (p : Pair) → last_key d (xs ++ p ∷ []) ≡ p.key
+unfolding last_key
+last_is d [] p = refl
+last_is d (x ∷ xs) p = last_is x.key xs p
+
+-- all but the last
+but_last : {A : Type 0} → List A → List A
+but_last [] = []
+but_last (x ∷ []) = []
+but_last (x ∷ y ∷ ys) = x ∷ but_last (y ∷ ys)
+
+but_last_is : {A : Type 0} (xs : List A) (x : A) → but_last (xs ++ x ∷ []) ≡ xs
+unfolding but_last
+but_last_is [] x = refl
+but_last_is (y ∷ []) x = refl
+but_last_is (y ∷ z ∷ xs) x = ap (λ w. y ∷ w) (but_last_is (z ∷ xs) x)
+
+-- lists that agree but for the last agree
+pub front_same : {A : Type 0} (xs ys : List A) (x y : A) → xs ++ x ∷ [] ≡ ys ++ y ∷ [] → xs ≡ ys
+front_same xs ys x y e = sym (but_last_is xs x) ∙ ap but_last e ∙ but_last_is ys y
+
+-- the leaves as items
+abbrev leaf_items : (Word → ℕ) → List ℕ → List Pair
+leaf_items f [] = []
+leaf_items f (n ∷ ns) = pair (rank f n) (f (node n Value)) ∷ leaf_items f ns
+
+leaf_items_join : (f : Word → ℕ) (ms ns : List ℕ) → leaf_items f (ms ++ ns) ≡ leaf_items f ms ++ leaf_items f ns
+leaf_items_join f [] ns = refl
+leaf_items_join f (m ∷ ms) ns = ap (λ z. pair (rank f m) (f (node m Value)) ∷ z) (leaf_items_join f ms ns)
+
+items_leaves : (f : Word → ℕ) (t : Tree) → items f t ≡ leaf_items f (leaf_nodes t)
+items_leaves f (Leaf n) = refl
+items_leaves f (Fork n a b) = (λ i. items_leaves f a i ++ items_leaves f b i) ∙ sym (leaf_items_join f (leaf_nodes a) (leaf_nodes b))
+
+-- leaves whose items are below 2 ^ 64 are of class 0
+low_leaves : (f : Word → ℕ) (ns : List ℕ) → Below (2 ^ 64) (leaf_items f ns) → All (λ n. class f n ≡ 0) ns
+low_leaves f [] b = All-nil (λ n. class f n ≡ 0)
+low_leaves f (n ∷ ns) b = All-cons (λ n. class f n ≡ 0) n ns (let x = b.0 in omega (arith, x)) (low_leaves f ns b.1)
+
+-- a shown tree has a last leaf
+record LastLeaf (f : Word → ℕ) (t : Tree) : Type 0 where
+  others : List ℕ
+  node_no : ℕ
+  leaves_are : leaf_nodes t ≡ others ++ node_no ∷ []
+  small : f (node node_no Key) < 2 ^ 64
+
+last_leaf : (f : Word → ℕ) (t : Tree) (lo hi : ℕ) → Shows f lo hi t → LastLeaf f t
+last_leaf f (Leaf n) lo hi s = record { others = []; node_no = n; leaves_are = refl; small = s.small }
+last_leaf f (Fork n a b) lo hi s =
+    let x : LastLeaf f b = last_leaf f b (rank f n) hi s.2 in
+    record {
+      others = leaf_nodes a ++ x.others;
+      node_no = x.node_no;
+      leaves_are = ap (λ z. leaf_nodes a ++ z) x.leaves_are ∙ sym (append_assoc (leaf_nodes a) x.others (x.node_no ∷ []));
+      small = x.small;
+    }
+
+pub spells : (calls : ℕ → MapEdit) (lay : Layout) (h : History) → IsGrown calls lay h → Spells lay (value h) (map_of_log calls (log lay h))
+spells calls lay h g = record {
+  tree = t.tree;
+  is_tree = t.is_tree;
+  inside = tree_inside lay h t.tree g.lawful t.is_tree;
+  pairs = pairs_low (value h) t.tree _ _ t.is_tree.shows ∙ ap low t.items ∙ low_join (map_of_log calls (log lay h)) ends ∙ (λ i. low_all (map_of_log calls (log lay h)) risen.1 i ++ low_ends i) ∙ append-nil (map_of_log calls (log lay h));
+  rising = risen.0;
+  others = end.others;
+  one = end.node_no;
+  last = ap leaf_nodes c.is ∙ ap (λ z. z ++ (2 ∷ [])) end.leaves_are ∙ append_assoc end.others (end.node_no ∷ []) (2 ∷ []);
+  low = low_leaves (value h) end.others (subst (Below (2 ^ 64)) (sym others_items) risen.1);
+  class_one = class_one;
+  class_two = rw head_2 refl;
+}
+  where
+    t : TreeFacts calls lay h
+    t = tree_facts calls lay h g
+
+    risen : IsRising (map_of_log calls (log lay h)) × Below (2 ^ 64) (map_of_log calls (log lay h))
+    risen = rising_split (map_of_log calls (log lay h)) (pair (2 * 2 ^ 64) 0 ∷ []) (pair (2 ^ 64) 0) (rw t.items at (items_rise (value h) t.tree _ _ t.is_tree.shows))
+
+    head_0 : (value h) (node 0 Head) ≡ 2
+    head_0 = grown_root calls lay h g
+
+    head_2 : (value h) (node 2 Head) ≡ 14
+    head_2 = opening_stays calls lay h 2 Head g (omega arith) tt ∙ opening_two
+
+    key_2 : (value h) (node 2 Key) ≡ 0
+    key_2 = opening_stays calls lay h 2 Key g (omega arith) tt ∙ zero_key
+
+    value_2 : (value h) (node 2 Value) ≡ 0
+    value_2 = opening_stays calls lay h 2 Value g (omega arith) tt ∙ zero_value
+
+    item_2 : pair (rank (value h) 2) ((value h) (node 2 Value)) ≡ pair (2 * 2 ^ 64) 0
+    item_2 = λ i. pair (head_2 i % 4 * 2 ^ 64 + key_2 i) (value_2 i)
+
+    c : IsCrown (value h) t.tree
+    c = crown (value h) t.tree t.is_tree (rw head_0 refl) (rw head_2 refl) (right_stays calls lay h g)
+
+    end : LastLeaf (value h) c.left
+    end = last_leaf (value h) c.left _ _ c.shows
+
+    left_items : items (value h) c.left ≡ (map_of_log calls (log lay h)) ++ (pair (2 ^ 64) 0 ∷ [])
+    left_items =
+        let x : items (value h) c.left ++ (pair (2 * 2 ^ 64) 0 ∷ []) ≡ (map_of_log calls (log lay h)) ++ ends = ap (λ z. items (value h) c.left ++ (z ∷ [])) (sym item_2) ∙ sym (ap (items (value h)) c.is) ∙ t.items in
+        append_cancel_right (items (value h) c.left) ((map_of_log calls (log lay h)) ++ (pair (2 ^ 64) 0 ∷ [])) (pair (2 * 2 ^ 64) 0 ∷ []) (x ∙ sym (append_assoc (map_of_log calls (log lay h)) (pair (2 ^ 64) 0 ∷ []) (pair (2 * 2 ^ 64) 0 ∷ [])))
+
+    end_items : leaf_items (value h) end.others ++ pair (rank (value h) end.node_no) (value h (node end.node_no Value)) ∷ [] ≡ map_of_log calls (log lay h) ++ (pair (2 ^ 64) 0 ∷ [])
+    end_items = sym (leaf_items_join (value h) end.others (end.node_no ∷ [])) ∙ ap (leaf_items (value h)) (sym end.leaves_are) ∙ sym (items_leaves (value h) c.left) ∙ left_items
+
+    others_items : leaf_items (value h) end.others ≡ map_of_log calls (log lay h)
+    others_items = front_same (leaf_items (value h) end.others) (map_of_log calls (log lay h)) (pair (rank (value h) end.node_no) (value h (node end.node_no Value))) (pair (2 ^ 64) 0) end_items
+
+    rank_one : rank (value h) end.node_no ≡ 2 ^ 64
+    rank_one =
+        sym (last_is 0 (leaf_items (value h) end.others) (pair (rank (value h) end.node_no) ((value h) (node end.node_no Value))))
+        ∙ ap (last_key 0) end_items
+        ∙ last_is 0 (map_of_log calls (log lay h)) (pair (2 ^ 64) 0)
+
+    class_one : class (value h) end.node_no ≡ 1
+    class_one = let r = rank_one in let k = end.small in omega (arith, r, k)
+
+-- The leaf below the root
+
+some_found : (k v : ℕ) (xs ys : List Pair) → get k (xs ++ pair k v ∷ ys) ≡ None → ⊥
+some_found k v [] ys e = let q : eqb k k ≡ true = eq-eqb k k refl in let x : Some v ≡ None = sym (rw q refl) ∙ e in absurd (cc)
+some_found k v (x ∷ xs) ys e = go (eqb k x.key) e (some_found k v xs ys)
+  where
+    go : (b : Bool) → cond b (Some x.value) (get k (xs ++ pair k v ∷ ys)) ≡ None → (get k (xs ++ pair k v ∷ ys) ≡ None → ⊥) → ⊥
+    go true e more = absurd (let q : Some x.value ≡ None = e in cc)
+    go false e more = more e
+
+leaf_small : (f : Word → ℕ) (t : Tree) (lo hi n : ℕ) → Shows f lo hi t → Has t n → is_leaf f n ≡ true → f (node n Key) < 2 ^ 64
+leaf_small f (Leaf m) lo hi n s e d = rw (← e) s.small
+leaf_small f (Fork m a b) lo hi n s (inl e) d = absurd (let x : true ≡ false = sym d ∙ rw e at s.0.fork in cc)
+leaf_small f (Fork m a b) lo hi n s (inr (inl p)) d = leaf_small f a lo _ n s.1 p d
+leaf_small f (Fork m a b) lo hi n s (inr (inr p)) d = leaf_small f b _ hi n s.2 p d
+
+-- where the root's left child is a leaf, it is that of class 1
+pub root_leaf : (calls : ℕ → MapEdit) (lay : Layout) (h : History) → IsGrown calls lay h → is_leaf (value h) (value h (child 0 Left)) ≡ true → class (value h) (value h (child 0 Left)) ≡ 0 → ⊥
+root_leaf calls lay h g leaf low = some_found (2 ^ 64) 0 (map_of_log calls (log lay h)) (pair (2 * 2 ^ 64) 0 ∷ []) none
+  where
+    t : TreeFacts calls lay h
+    t = tree_facts calls lay h g
+
+    head : value h (node 0 Head) ≡ 2
+    head = grown_root calls lay h g
+
+    below : 2 ^ 64 < rank (value h) 0
+    below = omega (arith, head)
+
+    left : toward (value h) 0 (2 ^ 64) ≡ Left
+    left = rw (lt-ltb (2 ^ 64) (rank (value h) 0) below) refl
+
+    at_root : Passes (value h) (2 ^ 64) t.tree 0
+    at_root = subst (Passes (value h) (2 ^ 64) t.tree) t.is_tree.is (passes_root (value h) (2 ^ 64) t.tree)
+
+    at_child : Passes (value h) (2 ^ 64) t.tree (value h (child 0 Left))
+    at_child = subst (λ s. Passes (value h) (2 ^ 64) t.tree (value h (child 0 s))) left (path_child (value h) (2 ^ 64) t.tree _ _ 0 t.is_tree.shows at_root (rw head refl))
+
+    small_leaf : value h (node (value h (child 0 Left)) Key) < 2 ^ 64
+    small_leaf = leaf_small (value h) t.tree _ _ _ t.is_tree.shows (passes_has (value h) (2 ^ 64) t.tree _ at_child) leaf
+
+    other : 2 ^ 64 ≢ rank (value h) (value h (child 0 Left))
+    other e = let s = small_leaf in omega (arith, e, low, s)
+
+    none : get (2 ^ 64) (map_of_log calls (log lay h) ++ pair (2 ^ 64) 0 ∷ pair (2 * 2 ^ 64) 0 ∷ []) ≡ None
+    none = ap (get (2 ^ 64)) (sym t.items) ∙ get_leaf (value h) (2 ^ 64) t.tree _ _ (value h (child 0 Left)) t.is_tree.shows at_child leaf ∙ rw (ne_eqb (2 ^ 64) (rank (value h) (value h (child 0 Left))) other) refl
+
+-- each key is on the left of the root
+pub root_left : (calls : ℕ → MapEdit) (lay : Layout) (h : History) (k : ℕ) → IsGrown calls lay h → k < 2 ^ 64 → toward (value h) 0 k ≡ Left
+root_left calls lay h k g small = rw (lt-ltb k (rank (value h) 0) (let e = grown_root calls lay h g in omega (arith, e, small))) refl

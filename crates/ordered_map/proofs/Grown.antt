@@ -1,0 +1,94 @@
+-- What is known after every history of the tree.
+use Rattle.std.proofs.Common.{◌≡◌, ◌≢◌, ℕ, inl, ◌++◌, refl, sym, ◌∙◌, arith, subst}
+use Rattle.arena.specs.declared.limits.Mode.{Mode}
+use Rattle.arena.specs.declared.limits.Mode.TheVariants.{Tree as TreeMode}
+use Rattle.arena.specs.declared.layout.Layout.{Layout}
+use Rattle.arena.specs.declared.step.Row.{Row}
+use Rattle.arena.specs.Words.{info}
+use Rattle.arena.specs.History.{History, Start, ◌⊳◌, value, HasHeld, Extends}
+use Rattle.arena.specs.ScxRecords.{seen}
+use Rattle.arena.specs.Lawful.{Lawful}
+use Rattle.arena.specs.Log.{log}
+use Rattle.arena.specs.Shape.{IsBegin, Shaped}
+use Rattle.arena.proofs.Lemmas.{held_start, opening_info}
+use Rattle.histories.proofs.Lemmas.{Effect, Facts, FreezeWins, effect, facts_before, freeze, freeze_in_progress, freeze_rest, lawful_since, lawful_tail, quiet, shaped_begin, shaped_since, shaped_tail, update}
+use Rattle.ordered_map.specs.OrderedMap.{MapEdit}
+use Rattle.ordered_map.proofs.Pending.{AllowsGiven}
+use Rattle.ordered_map.proofs.Trees.{items, ends}
+use Rattle.ordered_map.specs.Runs.{map_of_log}
+use Rattle.ordered_map.specs.Spelled.{IsTree}
+use Rattle.ordered_map.specs.TreeWords.{Leaf, Fork}
+use Rattle.ordered_map.proofs.TreeFacts.{TreeFacts, path_now, tree_kept, tree_frozen}
+use Rattle.ordered_map.proofs.Edited.{tree_updated}
+
+-- the history is one of the tree, and its SCX-records make these edits
+pub record IsGrown (calls : ℕ → MapEdit) (lay : Layout) (h : History) : Type 0 where
+  pub mode : lay.mode ≡ TreeMode
+  pub lawful : Lawful lay h
+  pub shaped : Shaped (AllowsGiven calls) lay h
+
+pub opening_tree : IsTree (value (Start TreeMode)) (Fork 0 (Leaf 1) (Leaf 2))
+unfolding value
+opening_tree = record {
+  shows = (
+    record { fork = refl; left = refl; right = refl; low = omega arith; high = omega arith },
+    record { leaf = refl; small = omega arith; from = omega arith; below = omega arith },
+    record { leaf = refl; small = omega arith; from = omega arith; below = omega arith },
+  );
+  is = refl;
+}
+
+opening_items : (calls : ℕ → MapEdit) (lay : Layout) → items (value (Start TreeMode)) (Fork 0 (Leaf 1) (Leaf 2)) ≡ map_of_log calls (log lay (Start TreeMode)) ++ ends
+unfolding value log
+opening_items calls lay = refl
+
+-- no info word names anything but the dummy at the start
+opened : (s n : ℕ) → s ≢ 0 → HasHeld (Start TreeMode) (info n) s → ⊥
+opened s n d p = d (sym (held_start TreeMode (info n) s p) ∙ opening_info TreeMode n)
+
+tree_at_start : (calls : ℕ → MapEdit) (lay : Layout) → TreeFacts calls lay (Start TreeMode)
+tree_at_start calls lay = record {
+  tree = Fork 0 (Leaf 1) (Leaf 2);
+  is_tree = opening_tree;
+  items = opening_items calls lay;
+  pending = λ s n d p w. absurd (opened s n d p);
+  one_new = λ s u m n d c p q e. absurd (opened s m d p);
+  unborn = λ s n d p w e. absurd (opened s n d p);
+  path = λ m k n e p. inl (path_now (Start TreeMode) (Fork 0 (Leaf 1) (Leaf 2)) k n opening_tree (rw e at p));
+}
+
+-- the first freezing exchange of an SCX-record that wins begins it
+pub first_begins : (lay : Layout) (h : History) (r : Row) (s j : ℕ) → Facts lay h → FreezeWins lay h r s j → j ≡ 0 → IsBegin h r s
+first_begins lay h r s j f w q = record { kind = w.kind; word = rw q at w.freeze.word; found = rw q at w.found; stored = w.stored; changed = changed }
+  where
+    changed : r.before ≢ r.after
+    changed e =
+        let x : seen h s j ≡ s = sym w.found ∙ e ∙ w.stored in
+        freeze_rest f w j w.freeze.within (rw x (freeze_in_progress f w))
+
+tree_step : (calls : ℕ → MapEdit) (lay : Layout) (h : History) (r : Row) → lay.mode ≡ TreeMode → Lawful lay (r ⊳ h) → ((s : ℕ) → IsBegin h r s → AllowsGiven calls lay h s) → TreeFacts calls lay h → TreeFacts calls lay (r ⊳ h)
+tree_step calls lay h r o l allowed t = go (effect lay h r l)
+  where
+    f : Facts lay h
+    f = facts_before lay h r l
+
+    go : Effect lay h r → TreeFacts calls lay (r ⊳ h)
+    go (quiet k) = tree_kept calls lay h r f o l t k
+    go (freeze s j w) = tree_frozen calls lay h r s j f w o l t (λ q. allowed s (first_begins lay h r s j f w q))
+    go (update s w) = tree_updated calls lay h r s f w o l t
+
+start_mode : (lay : Layout) (mode : Mode) → Lawful lay (Start mode) → mode ≡ lay.mode
+unfolding Lawful
+start_mode lay mode l = l
+
+pub tree_facts : (calls : ℕ → MapEdit) (lay : Layout) (h : History) → IsGrown calls lay h → TreeFacts calls lay h
+tree_facts calls lay (Start mode) g = subst (λ m. TreeFacts calls lay (Start m)) (sym (start_mode lay mode g.lawful ∙ g.mode)) (tree_at_start calls lay)
+tree_facts calls lay (r ⊳ h) g =
+    tree_step calls lay h r g.mode g.lawful (λ s b. shaped_begin (AllowsGiven calls) lay h r s g.shaped b)
+    (tree_facts calls lay h record { mode = g.mode; lawful = lawful_tail lay h r g.lawful; shaped = shaped_tail (AllowsGiven calls) lay h r g.shaped })
+
+pub grown_tail : (calls : ℕ → MapEdit) (lay : Layout) (h : History) (r : Row) → IsGrown calls lay (r ⊳ h) → IsGrown calls lay h
+grown_tail calls lay h r g = record { mode = g.mode; lawful = lawful_tail lay h r g.lawful; shaped = shaped_tail (AllowsGiven calls) lay h r g.shaped }
+
+pub grown_since : (calls : ℕ → MapEdit) (lay : Layout) (h m : History) → Extends h m → IsGrown calls lay h → IsGrown calls lay m
+grown_since calls lay h m e g = record { mode = g.mode; lawful = lawful_since lay h m g.lawful e; shaped = shaped_since (AllowsGiven calls) lay h m g.shaped e }

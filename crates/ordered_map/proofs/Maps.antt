@@ -1,0 +1,207 @@
+-- The calls of a map, told by its values.
+use Rattle.std.proofs.Common.{◌≡◌, ◌≢◌, ℕ, ◌<◌, ◌≤◌, Bool, true, false, cond, ◌&&◌, eqb, leb, ltb, ◌⊎◌, inl, inr, List, [], ◌∷◌, refl, sym, ◌∙◌, ap, arith, lt-ltb, le-ltb, eq-eqb, ne_eqb}
+use Rattle.std.specs.Prelude.{Option, Some, None}
+use native.Mathlib.Decide.{ℕ_discrete}
+use Rattle.ordered_map.specs.declared.pair.Pair.{Pair}
+use Rattle.ordered_map.specs.OrderedMap.{pair, AllAbove, IsRising, get, insert, delete, successor, between, MapEdit, Insert, Delete, edited}
+use Rattle.ordered_map.specs.MapLaws.{IsSuccessor, within}
+use Rattle.ordered_map.proofs.Trees.{split_at}
+
+-- a key is below another one, is it, or is above
+data Order (j k : ℕ) : Type 0 where
+  below : j < k → Order j k
+  same : j ≡ k → Order j k
+  above : k < j → Order j k
+
+order : (j k : ℕ) → Order j k
+order j k = go (split_at j k) (ℕ_discrete j k)
+  where
+    go : (j < k) ⊎ (k ≤ j) → Dec (j ≡ k) → Order j k
+    go (inl l) d = below l
+    go (inr l) (yes e) = same e
+    go (inr l) (no d) = above (omega (arith, l, d))
+
+at_key : (k : ℕ) → eqb k k ≡ true
+at_key k = eq-eqb k k refl
+
+not_below : (j k : ℕ) → k ≤ j → ltb j k ≡ false
+not_below j k l = le-ltb j k l
+
+-- keys above k
+pub get_above : (k : ℕ) (m : List Pair) → AllAbove k m → get k m ≡ None
+get_above k [] a = refl
+get_above k (p ∷ ps) a = rw (ne_eqb k p.key (λ e. let x = a.0 in omega (arith, e, x))) (get_above k ps a.1)
+
+above_less : (j k : ℕ) (m : List Pair) → j ≤ k → AllAbove k m → AllAbove j m
+above_less j k [] l a = tt
+above_less j k (p ∷ ps) l a = ((let x = a.0 in omega (arith, l, x)), above_less j k ps l a.1)
+
+-- Insert
+
+pub inserted : (k v : ℕ) (m : List Pair) → get k (insert k v m) ≡ Some v
+inserted k v [] = rw (at_key k) refl
+inserted k v (p ∷ ps) = go (order k p.key) (inserted k v ps)
+  where
+    go : Order k p.key → (get k (insert k v ps) ≡ Some v) → get k (cond (ltb k p.key) (pair k v ∷ p ∷ ps) (cond (eqb k p.key) (pair k v ∷ ps) (p ∷ insert k v ps))) ≡ Some v
+    go (below l) more = rw (lt-ltb k p.key l, at_key k) refl
+    go (same e) more = rw (not_below k p.key (omega (arith, e)), eq-eqb k p.key e, at_key k) refl
+    go (above l) more = rw (not_below k p.key (omega (arith, l)), ne_eqb k p.key (λ e. omega (arith, e, l)), ne_eqb k p.key (λ e. omega (arith, e, l))) more
+
+pub insert_keeps : (j k v : ℕ) (m : List Pair) → j ≢ k → get j (insert k v m) ≡ get j m
+insert_keeps j k v [] d = rw (ne_eqb j k d) refl
+insert_keeps j k v (p ∷ ps) d = go (order k p.key) (insert_keeps j k v ps d)
+  where
+    go : Order k p.key → (get j (insert k v ps) ≡ get j ps) → get j (cond (ltb k p.key) (pair k v ∷ p ∷ ps) (cond (eqb k p.key) (pair k v ∷ ps) (p ∷ insert k v ps))) ≡ cond (eqb j p.key) (Some p.value) (get j ps)
+    go (below l) more = rw (lt-ltb k p.key l, ne_eqb j k d) refl
+    go (same e) more = rw (not_below k p.key (omega (arith, e)), eq-eqb k p.key e, ne_eqb j k d, ne_eqb j p.key (λ q. d (q ∙ sym e))) refl
+    go (above l) more = rw (not_below k p.key (omega (arith, l)), ne_eqb k p.key (λ e. omega (arith, e, l))) (ap (λ z. cond (eqb j p.key) (Some p.value) z) more)
+
+insert_above : (j k v : ℕ) (m : List Pair) → j < k → AllAbove j m → AllAbove j (insert k v m)
+insert_above j k v [] l a = (l, tt)
+insert_above j k v (p ∷ ps) l a = go (order k p.key) (insert_above j k v ps l a.1)
+  where
+    go : Order k p.key → (AllAbove j (insert k v ps)) → AllAbove j (cond (ltb k p.key) (pair k v ∷ p ∷ ps) (cond (eqb k p.key) (pair k v ∷ ps) (p ∷ insert k v ps)))
+    go (below i) more = rw (lt-ltb k p.key i) (l, (a.0, a.1))
+    go (same e) more = rw (not_below k p.key (omega (arith, e)), eq-eqb k p.key e) (l, a.1)
+    go (above i) more = rw (not_below k p.key (omega (arith, i)), ne_eqb k p.key (λ e. omega (arith, e, i))) (a.0, more)
+
+insert_rises : (k v : ℕ) (m : List Pair) → IsRising m → IsRising (insert k v m)
+insert_rises k v [] r = (tt, tt)
+insert_rises k v (p ∷ ps) r = go (order k p.key) (insert_rises k v ps r.1)
+  where
+    go : Order k p.key → (IsRising (insert k v ps)) → IsRising (cond (ltb k p.key) (pair k v ∷ p ∷ ps) (cond (eqb k p.key) (pair k v ∷ ps) (p ∷ insert k v ps)))
+    go (below l) more = rw (lt-ltb k p.key l) ((l, above_less k p.key ps (omega (arith, l)) r.0), (r.0, r.1))
+    go (same e) more = rw (not_below k p.key (omega (arith, e)), eq-eqb k p.key e) (above_less k p.key ps (omega (arith, e)) r.0, r.1)
+    go (above l) more = rw (not_below k p.key (omega (arith, l)), ne_eqb k p.key (λ e. omega (arith, e, l))) (insert_above p.key k v ps l r.0, more)
+
+-- Delete
+
+pub deleted : (k : ℕ) (m : List Pair) → IsRising m → get k (delete k m) ≡ None
+deleted k [] r = refl
+deleted k (p ∷ ps) r = go (ℕ_discrete k p.key) (deleted k ps r.1)
+  where
+    go : Dec (k ≡ p.key) → (get k (delete k ps) ≡ None) → get k (cond (eqb k p.key) ps (p ∷ delete k ps)) ≡ None
+    go (yes e) more = rw (eq-eqb k p.key e) (get_above k ps (above_less k p.key ps (omega (arith, e)) r.0))
+    go (no d) more = rw (ne_eqb k p.key d, ne_eqb k p.key d) more
+
+pub delete_keeps : (j k : ℕ) (m : List Pair) → j ≢ k → get j (delete k m) ≡ get j m
+delete_keeps j k [] d = refl
+delete_keeps j k (p ∷ ps) d = go (ℕ_discrete k p.key) (delete_keeps j k ps d)
+  where
+    go : Dec (k ≡ p.key) → (get j (delete k ps) ≡ get j ps) → get j (cond (eqb k p.key) ps (p ∷ delete k ps)) ≡ cond (eqb j p.key) (Some p.value) (get j ps)
+    go (yes e) more = rw (eq-eqb k p.key e, ne_eqb j p.key (λ q. d (q ∙ sym e))) refl
+    go (no q) more = rw (ne_eqb k p.key q) (ap (λ z. cond (eqb j p.key) (Some p.value) z) more)
+
+delete_above : (j k : ℕ) (m : List Pair) → AllAbove j m → AllAbove j (delete k m)
+delete_above j k [] a = tt
+delete_above j k (p ∷ ps) a = go (eqb k p.key) (delete_above j k ps a.1)
+  where
+    go : (b : Bool) → (AllAbove j (delete k ps)) → AllAbove j (cond b ps (p ∷ delete k ps))
+    go true more = a.1
+    go false more = (a.0, more)
+
+delete_rises : (k : ℕ) (m : List Pair) → IsRising m → IsRising (delete k m)
+delete_rises k [] r = tt
+delete_rises k (p ∷ ps) r = go (eqb k p.key) (delete_rises k ps r.1)
+  where
+    go : (b : Bool) → (IsRising (delete k ps)) → IsRising (cond b ps (p ∷ delete k ps))
+    go true more = r.1
+    go false more = (delete_above p.key k ps r.0, more)
+
+pub edited_rises : (e : MapEdit) (m : List Pair) → IsRising m → IsRising (edited e m)
+edited_rises (Insert k v) m r = insert_rises k v m r
+edited_rises (Delete k) m r = delete_rises k m r
+
+-- Maps of the same values
+
+some_same : (a b : ℕ) → Some a ≡ Some b → a ≡ b
+some_same a b e = cc
+
+no_value : (a : ℕ) → Some a ≡ None → ⊥
+no_value a e = cc
+
+-- what the rest gives, where the whole gives the same
+rest_gives : (p q : Pair) (ps qs : List Pair) → p.key ≡ q.key → IsRising (p ∷ ps) → IsRising (q ∷ qs) → ((k : ℕ) → get k (p ∷ ps) ≡ get k (q ∷ qs)) → (k : ℕ) → get k ps ≡ get k qs
+rest_gives p q ps qs e r s f k = go (ℕ_discrete k p.key)
+  where
+    go : Dec (k ≡ p.key) → get k ps ≡ get k qs
+    go (yes d) = get_above k ps (above_less k p.key ps (omega (arith, d)) r.0) ∙ sym (get_above k qs (above_less k q.key qs (omega (arith, d, e)) s.0))
+    go (no d) = rw (ne_eqb k p.key d, ne_eqb k q.key (λ z. d (z ∙ sym e))) at (f k)
+
+-- the first keys are the same: a lesser one would have a value in one map alone
+first_not_less : (p q : Pair) (ps qs : List Pair) → IsRising (q ∷ qs) → ((k : ℕ) → get k (p ∷ ps) ≡ get k (q ∷ qs)) → p.key < q.key → ⊥
+first_not_less p q ps qs s f l =
+    let a : get p.key (q ∷ qs) ≡ None = get_above p.key (q ∷ qs) (l, above_less p.key q.key qs (omega (arith, l)) s.0) in
+    let b : get p.key (p ∷ ps) ≡ Some p.value = rw (at_key p.key) refl in
+    no_value p.value (sym b ∙ f p.key ∙ a)
+
+pub same_values : (m n : List Pair) → IsRising m → IsRising n → ((k : ℕ) → get k m ≡ get k n) → m ≡ n
+same_values [] [] r s f = refl
+same_values [] (q ∷ qs) r s f = absurd (no_value q.value (sym (let b : get q.key (q ∷ qs) ≡ Some q.value = rw (at_key q.key) refl in b) ∙ sym (f q.key)))
+same_values (p ∷ ps) [] r s f = absurd (no_value p.value (sym (let b : get p.key (p ∷ ps) ≡ Some p.value = rw (at_key p.key) refl in b) ∙ f p.key))
+same_values (p ∷ ps) (q ∷ qs) r s f = go (order p.key q.key) (λ g. same_values ps qs r.1 s.1 g)
+  where
+    go : Order p.key q.key → (((k : ℕ) → get k ps ≡ get k qs) → ps ≡ qs) → p ∷ ps ≡ q ∷ qs
+    go (below l) more = absurd (first_not_less p q ps qs s f l)
+    go (above l) more = absurd (first_not_less q p qs ps r (λ k. sym (f k)) l)
+    go (same e) more =
+        let v : p.value ≡ q.value = some_same p.value q.value (sym (let b : get p.key (p ∷ ps) ≡ Some p.value = rw (at_key p.key) refl in b) ∙ f p.key ∙ (rw (eq-eqb p.key q.key e) refl)) in
+        let rest : ps ≡ qs = more (rest_gives p q ps qs e r s f) in
+        λ i. pair (e i) (v i) ∷ rest i
+
+-- The least key above
+
+below_first : (k j : ℕ) (p : Pair) (ps : List Pair) → IsRising (p ∷ ps) → j < p.key → get j (p ∷ ps) ≡ None
+below_first k j p ps r l = get_above j (p ∷ ps) (l, above_less j p.key ps (omega (arith, l)) r.0)
+
+pub successor_is : (k : ℕ) (m : List Pair) → IsRising m → IsSuccessor k m (successor k m)
+successor_is k [] r = λ j l. refl
+successor_is k (p ∷ ps) r = go (split_at k p.key) (successor_is k ps r.1)
+  where
+    found : (o : Option Pair) → p.key ≤ k → successor k ps ≡ o → IsSuccessor k ps o → IsSuccessor k (p ∷ ps) o
+    found None l e x = λ j i. rw (ne_eqb j p.key (λ z. omega (arith, z, l, i))) (x j i)
+    found (Some q) l e x = (
+      x.0,
+      rw (ne_eqb q.key p.key (λ z. let y = x.0 in omega (arith, z, l, y))) x.1,
+      λ j i u. rw (ne_eqb j p.key (λ z. omega (arith, z, l, i))) (x.2 j i u),
+    )
+
+    go : (k < p.key) ⊎ (p.key ≤ k) → IsSuccessor k ps (successor k ps) → IsSuccessor k (p ∷ ps) (cond (ltb k p.key) (Some p) (successor k ps))
+    go (inl l) x = rw (lt-ltb k p.key l) (l, rw (at_key p.key) refl, λ j i u. below_first k j p ps r u)
+    go (inr l) x = rw (le-ltb k p.key l) (found (successor k ps) l refl x)
+
+-- Keys between two
+
+abbrev no_number : Option ℕ
+no_number = None
+
+either_none : (b : Bool) → no_number ≡ cond b no_number no_number
+either_none true = refl
+either_none false = refl
+
+pub between_gives : (low high j : ℕ) (m : List Pair) → get j (between low high m) ≡ within low high j (get j m)
+between_gives low high j [] = either_none (leb low j && leb j high)
+between_gives low high j (p ∷ ps) = go (ℕ_discrete j p.key) (leb low p.key && leb p.key high) refl (between_gives low high j ps)
+  where
+    go : Dec (j ≡ p.key) → (b : Bool) → (leb low p.key && leb p.key high) ≡ b → get j (between low high ps) ≡ cond (leb low j && leb j high) (get j ps) None
+        → get j (cond b (p ∷ between low high ps) (between low high ps)) ≡ cond (leb low j && leb j high) (cond (eqb j p.key) (Some p.value) (get j ps)) None
+    go (yes e) true b x = rw (eq-eqb j p.key e, e, b) refl
+    go (yes e) false b x = rw (e, b) (rw (e, b) at x)
+    go (no d) true b x = rw (ne_eqb j p.key d) x
+    go (no d) false b x = rw (ne_eqb j p.key d) x
+
+between_above : (k low high : ℕ) (m : List Pair) → AllAbove k m → AllAbove k (between low high m)
+between_above k low high [] a = tt
+between_above k low high (p ∷ ps) a = go (leb low p.key && leb p.key high) (between_above k low high ps a.1)
+  where
+    go : (b : Bool) → (AllAbove k (between low high ps)) → AllAbove k (cond b (p ∷ between low high ps) (between low high ps))
+    go true more = (a.0, more)
+    go false more = more
+
+pub between_rises : (low high : ℕ) (m : List Pair) → IsRising m → IsRising (between low high m)
+between_rises low high [] r = tt
+between_rises low high (p ∷ ps) r = go (leb low p.key && leb p.key high) (between_rises low high ps r.1)
+  where
+    go : (b : Bool) → (IsRising (between low high ps)) → IsRising (cond b (p ∷ between low high ps) (between low high ps))
+    go true more = (between_above p.key low high ps r.0, more)
+    go false more = more

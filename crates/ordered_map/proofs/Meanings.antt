@@ -1,0 +1,246 @@
+-- What a run under the shape of the tree says, whatever edits it makes: the map that the words
+-- spell, what a winning update makes of it, and what walks find.
+use Rattle.std.proofs.Common.{◌≡◌, ◌≢◌, ℕ, ◌^◌, ◌<◌, true, false, inl, inr, ⊎_elim, List, [], ◌∷◌, refl, sym, ◌∙◌, ap, arith, subst}
+use native.Mathlib.Decide.{ℕ_discrete}
+use Rattle.arena.specs.declared.limits.Mode.TheVariants.{Tree as TreeMode}
+use Rattle.arena.specs.declared.word.Side.{Side}
+use Rattle.arena.specs.declared.word.Side.TheVariants.{Left}
+use Rattle.arena.specs.declared.word.Word.{Word}
+use Rattle.arena.specs.declared.layout.Layout.{Layout}
+use Rattle.arena.specs.declared.step.Row.{Row}
+use Rattle.arena.specs.Words.{info, child}
+use Rattle.arena.specs.History.{History, Start, ◌⊳◌, value, Extends}
+use Rattle.arena.specs.ScxRecords.{member}
+use Rattle.arena.specs.Fills.{IsNamed, IsNamedScx}
+use Rattle.arena.specs.Lawful.{Lawful, IsWin, HasWon}
+use Rattle.arena.specs.Log.{Entry, log, IsEntered}
+use Rattle.arena.specs.Shape.{IsBegin, Shaped}
+use Rattle.arena.proofs.Lemmas.{held_back, held_start, opening_info, ends_self, ends_trans}
+use Rattle.histories.proofs.Lemmas.{Effect, Facts, Logs, logs, same, wins, UpdateWins, effect, entered_won, facts, facts_before, freeze, freeze_held, lawful_row, lawful_since, lawful_tail, named_since, quiet, shaped_begin, shaped_since, shaped_tail, some_is_real, update, update_flagged, update_held, won_named, won_real}
+use Rattle.ordered_map.specs.declared.pair.Pair.{Pair}
+use Rattle.ordered_map.specs.OrderedMap.{MapEdit, Insert, Delete, edit_key, edited, get}
+use Rattle.ordered_map.proofs.Pending.{AllowsGiven, Pending}
+use Rattle.ordered_map.proofs.Trees.{same_tree}
+use Rattle.ordered_map.specs.Paths.{Passed, IsAnswerAt}
+use Rattle.ordered_map.specs.Laws.{AreEdits, SpellsLog}
+use Rattle.ordered_map.specs.Runs.{IsTreeRun, Makes, map_of_log, IsEditAt}
+use Rattle.ordered_map.specs.Spelled.{Spells}
+use Rattle.ordered_map.specs.TreeShape.{leaf_place, edit_leaf, TreeAllows}
+use Rattle.ordered_map.specs.TreeWords.{class, is_leaf, level, toward, pairs, said}
+use Rattle.ordered_map.proofs.Moved.{settled_toward}
+use Rattle.ordered_map.proofs.TreeFacts.{TreeFacts}
+use Rattle.ordered_map.proofs.Edited.{past, content_now, leaf_is, replies}
+use Rattle.ordered_map.proofs.Grown.{IsGrown, tree_facts, first_begins, grown_tail, grown_since}
+use Rattle.ordered_map.proofs.Past.{path_named, Answered, walk_begins, walk_goes_on, walk_ends, level_rises}
+use Rattle.ordered_map.proofs.Growing.{spells, root_leaf, root_left}
+use Rattle.ordered_map.proofs.Runs.{HasEdits, has_edits, makes_one}
+
+pub edits_of : (lay : Layout) (h : History) → IsTreeRun lay h → HasEdits lay h
+edits_of lay h g = has_edits lay h g.1.lawful g.1.shaped
+
+pub grown : (lay : Layout) (h : History) (g : IsTreeRun lay h) → IsGrown (edits_of lay h g).edits lay h
+grown lay h g = record { mode = g.0; lawful = g.1.lawful; shaped = (edits_of lay h g).shaped }
+
+-- One spelling
+
+pub one_spelling : (lay : Layout) (f : Word → ℕ) (ps qs : List Pair) → Spells lay f ps → Spells lay f qs → ps ≡ qs
+one_spelling lay f ps qs x y =
+    let e : x.tree ≡ y.tree = same_tree f x.tree y.tree _ _ _ _ x.is_tree.shows y.is_tree.shows (x.is_tree.is ∙ sym y.is_tree.is) in
+    sym x.pairs ∙ ap (pairs f) e ∙ y.pairs
+
+-- what words spell after a run
+pub run_spells : (lay : Layout) (h : History) → IsTreeRun lay h → (ps : List Pair) × Spells lay (value h) ps
+run_spells lay h g = (map_of_log (edits_of lay h g).edits (log lay h), spells (edits_of lay h g).edits lay h (grown lay h g))
+
+-- the opening words are a run, and spell the empty map
+pub opening_run : (lay : Layout) → lay.mode ≡ TreeMode → IsTreeRun lay (Start lay.mode)
+unfolding Lawful Shaped
+opening_run lay mode = (mode, record { lawful = refl; shaped = tt })
+
+opening_log : (calls : ℕ → MapEdit) (lay : Layout) → map_of_log calls (log lay (Start lay.mode)) ≡ []
+unfolding log
+opening_log calls lay = refl
+
+pub opening_spells : (lay : Layout) → lay.mode ≡ TreeMode → Spells lay (value (Start lay.mode)) []
+opening_spells lay mode =
+    let g : IsTreeRun lay (Start lay.mode) = opening_run lay mode in
+    subst (Spells lay (value (Start lay.mode))) (opening_log (edits_of lay (Start lay.mode) g).edits lay) (spells (edits_of lay (Start lay.mode) g).edits lay (Start lay.mode) (grown lay (Start lay.mode) g))
+
+-- What has begun
+
+pub record HasBegun (A : Layout → History → ℕ → Type 0) (lay : Layout) (h : History) (s : ℕ) : Type 0 where
+  pub row : Row
+  pub before : History
+  pub within : Extends h (row ⊳ before)
+  pub begins : IsBegin before row s
+  pub allowed : A lay before s
+
+begun_more : (A : Layout → History → ℕ → Type 0) (lay : Layout) (h : History) (r : Row) (s : ℕ) → HasBegun A lay h s → HasBegun A lay (r ⊳ h) s
+begun_more A lay h r s x = record { row = x.row; before = x.before; within = inr x.within; begins = x.begins; allowed = x.allowed }
+
+begun_step : (A : Layout → History → ℕ → Type 0) (lay : Layout) (h : History) (r : Row) (s : ℕ) → Lawful lay (r ⊳ h) → Shaped A lay (r ⊳ h) → (IsNamedScx h s → HasBegun A lay h s) → IsNamedScx (r ⊳ h) s → HasBegun A lay (r ⊳ h) s
+begun_step A lay h r s l p earlier named = go (effect lay h r l)
+  where
+    f : Facts lay h
+    f = facts_before lay h r l
+
+    old : IsNamedScx h s → HasBegun A lay (r ⊳ h) s
+    old q = begun_more A lay h r s (earlier q)
+
+    go : Effect lay h r → HasBegun A lay (r ⊳ h) s
+    go (quiet k) = old (named.0, held_back r h _ s (k.info named.0) named.1)
+    go (update u w) = old (named.0, update_held f w named.0 s named.1)
+    go (freeze u j w) = ⊎_elim (λ e. at_place e.0 (ℕ_discrete j 0)) (λ q. old (named.0, q)) (freeze_held f w named.0 s named.1)
+      where
+        at_place : s ≡ u → Dec (j ≡ 0) → HasBegun A lay (r ⊳ h) s
+        at_place e (yes q) =
+            let b : IsBegin h r s = rw e (first_begins lay h r u j f w q) in
+            record { row = r; before = h; within = inl refl; begins = b; allowed = shaped_begin A lay h r s p b }
+        at_place e (no q) = old (rw e (member h u 0, w.freeze.earlier 0 (omega arith)))
+
+-- an SCX-record that an info word has named has begun
+pub has_begun : (A : Layout → History → ℕ → Type 0) (lay : Layout) (h : History) (s : ℕ) → Lawful lay h → Shaped A lay h → s ≢ 0 → IsNamedScx h s → HasBegun A lay h s
+has_begun A lay (Start m) s l p d q = absurd (d (sym (held_start m (info q.0) s q.1) ∙ opening_info m q.0))
+has_begun A lay (r ⊳ h) s l p d q = begun_step A lay h r s l p (has_begun A lay h s (lawful_tail lay h r l) (shaped_tail A lay h r p) d) q
+
+-- so one that has won makes an edit
+pub won_makes : (lay : Layout) (h : History) (s : ℕ) (g : IsTreeRun lay h) → HasWon h s → Makes lay h s ((edits_of lay h g).edits s)
+won_makes lay h s g w =
+    let f : Facts lay h = facts lay h g.1.lawful in
+    let x : HasBegun (AllowsGiven (edits_of lay h g).edits) lay h s = has_begun (AllowsGiven (edits_of lay h g).edits) lay h s g.1.lawful (edits_of lay h g).shaped (won_real s f w) (won_named s f w) in
+    record { row = x.row; before = x.before; within = x.within; begins = x.begins; edit = x.allowed }
+
+-- The map of the log
+
+content_same : (a b : ℕ → MapEdit) (es : List Entry) → ((s : ℕ) → IsEntered es s → a s ≡ b s) → map_of_log a es ≡ map_of_log b es
+content_same a b [] f = refl
+content_same a b (e ∷ es) f = λ i. edited (f e.scx (inl refl) i) (content_same a b es (λ s p. f s (inr p)) i)
+
+-- the words spell the map that the log gives, by any calls that are the edits of its entries
+pub run_spells_log : (lay : Layout) (h : History) (calls : ℕ → MapEdit) → IsTreeRun lay h → ((s : ℕ) (e : MapEdit) → IsEntered (log lay h) s → Makes lay h s e → calls s ≡ e) → Spells lay (value h) (map_of_log calls (log lay h))
+run_spells_log lay h calls g agree =
+    let e : map_of_log calls (log lay h) ≡ map_of_log (edits_of lay h g).edits (log lay h) = content_same calls (edits_of lay h g).edits (log lay h) (λ s p. agree s _ p (won_makes lay h s g (entered_won lay h s g.1.lawful p))) in
+    subst (Spells lay (value h)) (sym e) (spells (edits_of lay h g).edits lay h (grown lay h g))
+
+pub makes_since : (lay : Layout) (h m : History) (s : ℕ) (e : MapEdit) → Extends h m → Makes lay m s e → Makes lay h s e
+makes_since lay h m s e w x = record { row = x.row; before = x.before; within = ends_trans h m (x.row ⊳ x.before) w x.within; begins = x.begins; edit = x.edit }
+
+-- an SCX-record with an entry keeps it
+entered_more : (lay : Layout) (h m : History) (s : ℕ) → Lawful lay h → Extends h m → IsEntered (log lay m) s → IsEntered (log lay h) s
+entered_more lay (Start mode) m s l e x = subst (λ k. IsEntered (log lay k) s) e x
+entered_more lay (r ⊳ h) m s l (inl e) x = subst (λ k. IsEntered (log lay k) s) e x
+entered_more lay (r ⊳ h) m s l (inr e) x = go (logs lay h r l) (entered_more lay h m s (lawful_tail lay h r l) e x)
+  where
+    go : Logs lay h r → IsEntered (log lay h) s → IsEntered (log lay (r ⊳ h)) s
+    go (same q _) y = subst (λ es. IsEntered es s) (sym q) y
+    go (wins u w q) y = subst (λ es. IsEntered es s) (sym q) (inr y)
+
+-- the edits of the log's entries
+pub log_edits : (lay : Layout) (h : History) → IsTreeRun lay h → (edits : ℕ → MapEdit) × AreEdits edits lay h
+log_edits lay h g = ((edits_of lay h g).edits, λ s p. won_makes lay h s g (entered_won lay h s g.1.lawful p))
+
+pub run_since : (lay : Layout) (h m : History) → IsTreeRun lay h → Extends h m → IsTreeRun lay m
+run_since lay h m g e = (g.0, record { lawful = lawful_since lay h m g.1.lawful e; shaped = shaped_since TreeAllows lay h m g.1.shaped e })
+
+-- after each row the words spell the map of the log so far
+pub spells_log : (lay : Layout) (h : History) (edits : ℕ → MapEdit) → IsTreeRun lay h → AreEdits edits lay h → SpellsLog edits lay h
+spells_log lay h edits g a m e = run_spells_log lay m edits (run_since lay h m g e)
+    (λ s d p x. makes_one lay h s (edits s) d g.1.lawful (a s (entered_more lay h m s g.1.lawful e p)) (makes_since lay h m s d e x))
+
+-- A winning update
+
+same_leaf : (calls : ℕ → MapEdit) (lay : Layout) (h : History) (u : ℕ) (p : Pending calls lay h u) (e : MapEdit) → edit_leaf p.before u e ≡ edit_leaf h u e
+same_leaf calls lay h u p (Insert k v) = λ i. (p.same i).member 1
+same_leaf calls lay h u p (Delete k) =
+    let d : toward (value h) (member p.before u 1) k ≡ toward (value p.before) (member p.before u 1) k = settled_toward (value p.before) (value h) (member p.before u 1) k (λ a i. p.settled (member p.before u 1) (inr (inr (1, refl))) a i) in
+    let m : member p.before u 1 ≡ member h u 1 = λ i. (p.same i).member 1 in
+    let e : toward (value p.before) (member p.before u 1) k ≡ toward (value h) (member h u 1) k = sym d ∙ ap (λ n. toward (value h) n k) m in
+    λ i. (p.same i).member (leaf_place (e i))
+
+pub win_edits : (lay : Layout) (h : History) (r : Row) (u : ℕ) → IsTreeRun lay (r ⊳ h) → UpdateWins h r u → (e : MapEdit) × IsEditAt lay h r u e
+win_edits lay h r u g w = (calls u, record { makes = makes; changes = changes; replies = replying })
+  where
+    calls : ℕ → MapEdit
+    calls = (edits_of lay (r ⊳ h) g).edits
+
+    now : IsGrown calls lay (r ⊳ h)
+    now = grown lay (r ⊳ h) g
+
+    before : IsGrown calls lay h
+    before = grown_tail calls lay h r now
+
+    f : Facts lay h
+    f = facts lay h before.lawful
+
+    t : TreeFacts calls lay h
+    t = tree_facts calls lay h before
+
+    makes : Makes lay h u (calls u)
+    makes =
+        let x : HasBegun (AllowsGiven calls) lay h u = has_begun (AllowsGiven calls) lay h u before.lawful before.shaped (some_is_real f (update_flagged f w).some) (member h u 0, (update_flagged f w).frozen 0 (update_flagged f w).some) in
+        record { row = x.row; before = x.before; within = x.within; begins = x.begins; edit = x.allowed }
+
+    changes : (ps : List Pair) → Spells lay (value h) ps → Spells lay (value (r ⊳ h)) (edited (calls u) ps)
+    changes ps s =
+        let e : ps ≡ map_of_log calls (log lay h) = one_spelling lay (value h) ps (map_of_log calls (log lay h)) s (spells calls lay h before) in
+        let d : map_of_log calls (log lay (r ⊳ h)) ≡ edited (calls u) (map_of_log calls (log lay h)) = content_now calls lay h r u f w now.mode now.lawful t in
+        subst (Spells lay (value (r ⊳ h))) (d ∙ ap (edited (calls u)) (sym e)) (spells calls lay (r ⊳ h) now)
+
+    replying : (ps : List Pair) → Spells lay (value h) ps → get (edit_key (calls u)) ps ≡ said (value h) (edit_key (calls u)) (edit_leaf h u (calls u))
+    replying ps s =
+        let e : ps ≡ map_of_log calls (log lay h) = one_spelling lay (value h) ps (map_of_log calls (log lay h)) s (spells calls lay h before) in
+        ap (get (edit_key (calls u))) e ∙ replies calls lay h r u f w now.mode now.lawful t
+        ∙ ap (said (value h) (edit_key (calls u))) (leaf_is calls lay h r u f w now.mode now.lawful t (calls u) ∙ same_leaf calls lay h u (past calls lay h r u f w now.mode now.lawful t) (calls u))
+
+-- other rows leave what is spelled
+pub quiet_spells : (lay : Layout) (h : History) (r : Row) (ps : List Pair) → IsTreeRun lay (r ⊳ h) → log lay (r ⊳ h) ≡ log lay h → Spells lay (value h) ps → Spells lay (value (r ⊳ h)) ps
+quiet_spells lay h r ps g e s =
+    let calls : ℕ → MapEdit = (edits_of lay (r ⊳ h) g).edits in
+    let now : IsGrown calls lay (r ⊳ h) = grown lay (r ⊳ h) g in
+    let d : ps ≡ map_of_log calls (log lay h) = one_spelling lay (value h) ps (map_of_log calls (log lay h)) s (spells calls lay h (grown_tail calls lay h r now)) in
+    subst (Spells lay (value (r ⊳ h))) (ap (map_of_log calls) e ∙ sym d) (spells calls lay (r ⊳ h) now)
+
+-- Walks
+
+pub walk_first : (lay : Layout) (h : History) (k : ℕ) → IsTreeRun lay h → Passed h h k 0
+walk_first lay h k g = walk_begins (edits_of lay h g).edits lay h k (grown lay h g)
+
+pub walk_next : (lay : Layout) (h start : History) (k n : ℕ) → IsTreeRun lay h → Passed h start k n → is_leaf (value h) n ≡ false → Passed h start k (value h (child n (toward (value h) n k)))
+walk_next lay h start k n g p d = walk_goes_on (edits_of lay h g).edits lay h start k n (grown lay h g) p d
+
+pub walk_rises : (lay : Layout) (h start : History) (k n : ℕ) (side : Side) → IsTreeRun lay h → Passed h start k n → is_leaf (value h) n ≡ false → level (value h) n < level (value h) (value h (child n side))
+walk_rises lay h start k n side g p d = level_rises (edits_of lay h g).edits lay h p.0 k n side (grown lay h g) p.1 p.3 d
+
+pub walk_named : (lay : Layout) (h start : History) (k n : ℕ) → IsTreeRun lay h → Passed h start k n → IsNamed lay h n
+walk_named lay h start k n g p = named_since lay h p.0 n g.1.lawful p.1 (path_named lay p.0 k n g.0 p.3)
+
+pub walk_answers : (lay : Layout) (h start : History) (k n : ℕ) → k < 2 ^ 64 → IsTreeRun lay h → Passed h start k n → is_leaf (value h) n ≡ true → IsAnswerAt lay h start k (said (value h) k n)
+walk_answers lay h start k n small g p d =
+    let calls : ℕ → MapEdit = (edits_of lay h g).edits in
+    let x : Answered calls lay h start k (said (value h) k n) = walk_ends calls lay h start k n small (grown lay h g) p d in
+    record {
+      moment = x.moment;
+      within = x.within;
+      since = x.since;
+      map = map_of_log calls (log lay x.moment);
+      spelled = spells calls lay x.moment (grown_since calls lay h x.moment x.within (grown lay h g));
+      gives = x.gives;
+    }
+
+-- The entry of an SCX-record that is known to make an edit
+
+pub wins_of : (lay : Layout) (before : History) (row : Row) (s : ℕ) → Lawful lay (row ⊳ before) → IsWin before row s → UpdateWins before row s
+wins_of lay before row s l w = record { kind = w.kind; update = w.update; before = (lawful_row lay before row l).before; found = w.found; stored = w.update.exchange.won w.found }
+
+pub win_makes : (lay : Layout) (h before : History) (row : Row) (s : ℕ) (e : MapEdit) → IsTreeRun lay h → Extends h (row ⊳ before) → IsWin before row s → Makes lay h s e → IsEditAt lay before row s e
+win_makes lay h before row s e g w won x =
+    let l : Lawful lay (row ⊳ before) = lawful_since lay h (row ⊳ before) g.1.lawful w in
+    let y : (d : MapEdit) × IsEditAt lay before row s d = win_edits lay before row s (g.0, record { lawful = l; shaped = shaped_since TreeAllows lay h (row ⊳ before) g.1.shaped w }) (wins_of lay before row s l won) in
+    let d : y.0 ≡ e = makes_one lay h s y.0 e g.1.lawful (makes_since lay h before s y.0 (ends_trans h (row ⊳ before) before w (inr (ends_self before))) y.1.makes) x in
+    subst (IsEditAt lay before row s) d y.1
+
+-- a leaf below the root is above all keys
+pub below_root : (lay : Layout) (h : History) (k : ℕ) → IsTreeRun lay h → k < 2 ^ 64 → is_leaf (value h) (value h (child 0 (toward (value h) 0 k))) ≡ true → class (value h) (value h (child 0 (toward (value h) 0 k))) ≡ 0 → ⊥
+below_root lay h k g small leaf low =
+    let e : toward (value h) 0 k ≡ Left = root_left (edits_of lay h g).edits lay h k (grown lay h g) small in
+    root_leaf (edits_of lay h g).edits lay h (grown lay h g) (subst (λ s. is_leaf (value h) (value h (child 0 s)) ≡ true) e leaf) (subst (λ s. class (value h) (value h (child 0 s)) ≡ 0) e low)

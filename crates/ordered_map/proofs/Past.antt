@@ -1,0 +1,190 @@
+-- A walk by child loads visits only nodes that were on the search path at a moment since its begin.
+use Rattle.std.proofs.Common.{◌≡◌, ◌≢◌, ℕ, ◌<◌, ◌≤◌, ◌*◌, ◌/◌, ◌%◌, ◌^◌, true, false, eqb, ltb, ◌⊎◌, inl, inr, ⊎_elim, refl, sym, ◌∙◌, ap, arith, subst, cond}
+use Rattle.std.specs.Prelude.{Option, Some, None}
+use native.Mathlib.Decide.{ℕ_discrete}
+use Rattle.arena.specs.declared.limits.Mode.TheVariants.{Tree as TreeMode}
+use Rattle.arena.specs.declared.word.Side.{Side}
+use Rattle.arena.specs.declared.word.Side.TheVariants.{Left, Right}
+use Rattle.arena.specs.declared.word.NodeWord.TheVariants.{Head, Key, Value, Child}
+use Rattle.arena.specs.declared.word.Word.{Word}
+use Rattle.arena.specs.declared.layout.Layout.{Layout}
+use Rattle.arena.specs.declared.step.Row.{Row}
+use Rattle.arena.specs.Words.{node, marked, child}
+use Rattle.arena.specs.History.{History, Start, ◌⊳◌, value, Extends}
+use Rattle.arena.specs.ScxRecords.{field_index, member, plan, side_of}
+use Rattle.arena.specs.Fills.{IsNamed}
+use Rattle.arena.specs.Log.{log}
+use Rattle.arena.proofs.Lemmas.{node_apart, ends_self, ends_trans}
+use Rattle.histories.proofs.Lemmas.{Effect, Facts, effect, facts_before, freeze, freeze_keeps_field, lawful_tail, named_since, node_since, node_stays, quiet, update, update_keeps_mark, update_keeps_other}
+use Rattle.ordered_map.specs.OrderedMap.{MapEdit, get}
+use Rattle.ordered_map.proofs.Trees.{items, ends, Same, same_rank, passes_has, has_root, Above, within, least}
+use Rattle.ordered_map.specs.Paths.{IsOnPath, Passed, WasInTree}
+use Rattle.ordered_map.specs.Runs.{map_of_log}
+use Rattle.ordered_map.specs.TreeWords.{Tree, Leaf, Fork, root, Shows, Has, Passes, is_leaf, level, rank, toward, said}
+use Rattle.ordered_map.proofs.Searches.{told, told_said, passes_root, path_child, get_left, get_leaf}
+use Rattle.ordered_map.proofs.TreeFacts.{TreeFacts, all_named, path_now}
+use Rattle.ordered_map.proofs.Edited.{spot_unmarked}
+use Rattle.ordered_map.proofs.Grown.{IsGrown, tree_facts, grown_tail, grown_since}
+
+pub path_named : (lay : Layout) (m : History) (k n : ℕ) → lay.mode ≡ TreeMode → IsOnPath m k n → IsNamed lay m n
+path_named lay m k n o p = all_named lay m p.tree n o p.is_tree (passes_has (value m) k p.tree n p.passes)
+
+-- a row changes no field of a node that is marked after it
+marked_keeps : (calls : ℕ → MapEdit) (lay : Layout) (h : History) (r : Row) (n : ℕ) → IsGrown calls lay (r ⊳ h) → IsNamed lay h n → value (r ⊳ h) (marked n) ≢ 0 → (side : Side) → value (r ⊳ h) (child n side) ≡ value h (child n side)
+marked_keeps calls lay h r n g p d side = go (effect lay h r g.lawful)
+  where
+    f : Facts lay h
+    f = facts_before lay h r g.lawful
+
+    t : TreeFacts calls lay h
+    t = tree_facts calls lay h (grown_tail calls lay h r g)
+
+    go : Effect lay h r → value (r ⊳ h) (child n side) ≡ value h (child n side)
+    go (quiet k) = k.node n (Child side) tt p
+    go (freeze s j w) = freeze_keeps_field f w n side
+    go (update s w) = other (ℕ_discrete (member h s (field_index h s)) n)
+      where
+        other : Dec (member h s (field_index h s) ≡ n) → value (r ⊳ h) (child n side) ≡ value h (child n side)
+        other (no q) = update_keeps_other f w (child n side) (node_apart (member h s (field_index h s)) n (Child (side_of (plan h s))) (Child side) q)
+        other (yes q) =
+            let e : value (r ⊳ h) (marked n) ≡ value h (marked n) = update_keeps_mark f w n in
+            absurd (spot_unmarked calls lay h r s f w g.mode g.lawful t (rw q (λ y. d (e ∙ y))))
+
+-- The latest moment at which a node was on the path: its settled words and its fields are still
+-- those of that moment.
+pub record Latest (h m : History) (k n : ℕ) : Type 0 where
+  pub moment : History
+  pub within : Extends h moment
+  pub since : Extends moment m
+  pub on_path : IsOnPath moment k n
+  pub same : Same (value moment) (value h) n
+
+same_refl : (f : Word → ℕ) (n : ℕ) → Same f f n
+same_refl f n a i = refl
+
+same_trans : (f g e : Word → ℕ) (n : ℕ) → Same f g n → Same g e n → Same f e n
+same_trans f g e n p q a i = q a i ∙ p a i
+
+pub latest : (calls : ℕ → MapEdit) (lay : Layout) (h m : History) (k n : ℕ) → IsGrown calls lay h → Extends h m → IsOnPath m k n → Latest h m k n
+latest calls lay (Start mode) m k n g e p = record { moment = Start mode; within = refl; since = rw e refl; on_path = rw e at p; same = same_refl (value (Start mode)) n }
+latest calls lay (r ⊳ h) m k n g (inl e) p = record { moment = r ⊳ h; within = inl refl; since = rw e (inl refl); on_path = rw e at p; same = same_refl (value (r ⊳ h)) n }
+latest calls lay (r ⊳ h) m k n g (inr e) p = go (latest calls lay h m k n (grown_tail calls lay h r g) e p) (t.path m k n (inr e) p)
+  where
+    t : TreeFacts calls lay (r ⊳ h)
+    t = tree_facts calls lay (r ⊳ h) g
+
+    named : IsNamed lay h n
+    named = named_since lay h m n (lawful_tail lay h r g.lawful) e (path_named lay m k n g.mode p)
+
+    row_same : value (r ⊳ h) (marked n) ≢ 0 → Same (value h) (value (r ⊳ h)) n
+    row_same d Head i = node_stays lay h r n Head g.lawful tt named
+    row_same d Key i = node_stays lay h r n Key g.lawful tt named
+    row_same d Value i = node_stays lay h r n Value g.lawful tt named
+    row_same d (Child side) i = marked_keeps calls lay h r n g named d side
+    row_same d _ i = absurd i
+
+    go : Latest h m k n → Passes (value (r ⊳ h)) k t.tree n ⊎ (value (r ⊳ h) (marked n) ≢ 0) → Latest (r ⊳ h) m k n
+    go x (inl q) = record { moment = r ⊳ h; within = inl refl; since = inr e; on_path = record { tree = t.tree; is_tree = t.is_tree; passes = q }; same = same_refl (value (r ⊳ h)) n }
+    go x (inr d) = record { moment = x.moment; within = inr x.within; since = x.since; on_path = x.on_path; same = same_trans (value x.moment) (value h) (value (r ⊳ h)) n x.same (row_same d) }
+
+-- At the begin of a walk: node 0.
+pub walk_begins : (calls : ℕ → MapEdit) (lay : Layout) (h : History) (k : ℕ) → IsGrown calls lay h → Passed h h k 0
+walk_begins calls lay h k g =
+    let t : TreeFacts calls lay h = tree_facts calls lay h g in
+    (h, ends_self h, ends_self h, record { tree = t.tree; is_tree = t.is_tree; passes = subst (λ n. Passes (value h) k t.tree n) t.is_tree.is (passes_root (value h) k t.tree) })
+
+-- Rows of others keep it.
+pub walk_stays : (r : Row) (h start : History) (k n : ℕ) → Passed h start k n → Passed (r ⊳ h) start k n
+walk_stays r h start k n p = (p.0, inr p.1, p.2, p.3)
+
+-- One more child load.
+pub walk_goes_on : (calls : ℕ → MapEdit) (lay : Layout) (h start : History) (k n : ℕ) → IsGrown calls lay h → Passed h start k n → is_leaf (value h) n ≡ false → Passed h start k (value h (child n (toward (value h) n k)))
+walk_goes_on calls lay h start k n g p fork =
+    let x : Latest h p.0 k n = latest calls lay h p.0 k n g p.1 p.3 in
+    let m : History = x.moment in
+    let head : value h (node n Head) ≡ value m (node n Head) = x.same Head tt in
+    let r : rank (value h) n ≡ rank (value m) n = same_rank (value m) (value h) n x.same in
+    let side : toward (value h) n k ≡ toward (value m) n k = ap (λ v. cond (ltb k v) Left Right) r in
+    let c : value h (child n (toward (value h) n k)) ≡ value m (child n (toward (value m) n k)) = ap (λ s. value h (child n s)) side ∙ x.same (Child (toward (value m) n k)) tt in
+    let q : Passes (value m) k x.on_path.tree (value m (child n (toward (value m) n k))) = path_child (value m) k x.on_path.tree _ _ n x.on_path.is_tree.shows x.on_path.passes (ap (λ v. eqb (v / 4 % 2) 1) (sym head) ∙ fork) in
+    (m, x.within, ends_trans m p.0 start x.since p.2, record { tree = x.on_path.tree; is_tree = x.on_path.is_tree; passes = rw c q })
+
+-- The map at a moment since the begin gives what the leaf says now.
+pub record Answered (calls : ℕ → MapEdit) (lay : Layout) (h start : History) (k : ℕ) (answer : Option ℕ) : Type 0 where
+  pub moment : History
+  pub within : Extends h moment
+  pub since : Extends moment start
+  pub gives : get k (map_of_log calls (log lay moment)) ≡ answer
+
+pub walk_ends : (calls : ℕ → MapEdit) (lay : Layout) (h start : History) (k n : ℕ) → k < 2 ^ 64 → IsGrown calls lay h → Passed h start k n → is_leaf (value h) n ≡ true → Answered calls lay h start k (said (value h) k n)
+walk_ends calls lay h start k n small g p leaf =
+    let x : Latest h p.0 k n = latest calls lay h p.0 k n g p.1 p.3 in
+    let m : History = x.moment in
+    let t : TreeFacts calls lay m = tree_facts calls lay m (grown_since calls lay h m x.within g) in
+    let q : Passes (value m) k t.tree n = path_now m t.tree k n t.is_tree x.on_path in
+    let head : value h (node n Head) ≡ value m (node n Head) = x.same Head tt in
+    let d : is_leaf (value m) n ≡ true = ap (λ v. eqb (v / 4 % 2) 1) (sym head) ∙ leaf in
+    let r : rank (value h) n ≡ rank (value m) n = same_rank (value m) (value h) n x.same in
+    let w : value h (node n Value) ≡ value m (node n Value) = x.same Value tt in
+    let a : Above k ends = (omega (arith, small), (omega (arith, small), tt)) in
+    let e : get k (items (value m) t.tree) ≡ told (value m) k n = get_leaf (value m) k t.tree _ _ n t.is_tree.shows q d in
+    let same_told : told (value m) k n ≡ told (value h) k n = sym (λ i. cond (eqb k (r i)) (Some (w i)) None) in
+    record {
+      moment = m;
+      within = x.within;
+      since = ends_trans m p.0 start x.since p.2;
+      gives = sym (get_left k (map_of_log calls (log lay m)) ends a) ∙ ap (get k) (sym t.items) ∙ e ∙ same_told ∙ told_said (value h) k n small;
+    }
+
+-- Levels rise, in the tree and in removed nodes.
+
+-- the children of a fork of the tree stand in the tree, on levels above its own
+pub path_level : (f : Word → ℕ) (t : Tree) (lo hi n : ℕ) (side : Side) → Shows f lo hi t → Has t n → is_leaf f n ≡ false → (level f n < level f (f (child n side))) × Has t (f (child n side))
+path_level f (Leaf m) lo hi n side s e d = absurd (let x : true ≡ false = sym s.leaf ∙ rw (← e) at d in cc)
+path_level f (Fork m a b) lo hi n Left s (inl e) d =
+    let q : f (child n Left) ≡ root a = rw (← e) s.0.left in
+    rw (q, ← e) (s.0.low, inr (inl (has_root a)))
+path_level f (Fork m a b) lo hi n Right s (inl e) d =
+    let q : f (child n Right) ≡ root b = rw (← e) s.0.right in
+    rw (q, ← e) (s.0.high, inr (inr (has_root b)))
+path_level f (Fork m a b) lo hi n side s (inr (inl h)) d = let x : (level f n < level f (f (child n side))) × Has a (f (child n side)) = path_level f a lo (rank f m) n side s.1 h d in (x.0, inr (inl x.1))
+path_level f (Fork m a b) lo hi n side s (inr (inr h)) d = let x : (level f n < level f (f (child n side))) × Has b (f (child n side)) = path_level f b (rank f m) hi n side s.2 h d in (x.0, inr (inr x.1))
+
+pub level_rises : (calls : ℕ → MapEdit) (lay : Layout) (h m : History) (k n : ℕ) (side : Side) → IsGrown calls lay h → Extends h m → IsOnPath m k n → is_leaf (value h) n ≡ false → level (value h) n < level (value h) (value h (child n side))
+level_rises calls lay h m k n side g e p fork =
+    let x : Latest h m k n = latest calls lay h m k n g e p in
+    let l : History = x.moment in
+    let head : value h (node n Head) ≡ value l (node n Head) = x.same Head tt in
+    let d : is_leaf (value l) n ≡ false = ap (λ v. eqb (v / 4 % 2) 1) (sym head) ∙ fork in
+    let y : (level (value l) n < level (value l) (value l (child n side))) × Has x.on_path.tree (value l (child n side)) = path_level (value l) x.on_path.tree _ _ n side x.on_path.is_tree.shows (passes_has (value l) k x.on_path.tree n x.on_path.passes) d in
+    let c : value h (child n side) ≡ value l (child n side) = x.same (Child side) tt in
+    let named : IsNamed lay l (value l (child n side)) = all_named lay l x.on_path.tree _ g.mode x.on_path.is_tree y.1 in
+    let child_head : value h (node (value l (child n side)) Head) ≡ value l (node (value l (child n side)) Head) = node_since lay h l (value l (child n side)) Head g.lawful x.within tt named in
+    rw (c, head, child_head) y.0
+
+-- A node that was on the path and is not marked is on it now.
+pub grown_on_path : (calls : ℕ → MapEdit) (lay : Layout) (h start : History) (k n : ℕ) → IsGrown calls lay h → Passed h start k n → value h (marked n) ≡ 0 → IsOnPath h k n
+grown_on_path calls lay h start k n g p e =
+    let t : TreeFacts calls lay h = tree_facts calls lay h g in
+    ⊎_elim (λ q. record { tree = t.tree; is_tree = t.is_tree; passes = q }) (λ d. absurd (d e)) (t.path p.0 k n p.1 p.3)
+
+-- every node of the tree is on the path of a key
+pub reach : (f : Word → ℕ) (t : Tree) (lo hi n : ℕ) → Shows f lo hi t → Has t n → (k : ℕ) × (lo ≤ k) × (k < hi) × Passes f k t n
+reach f (Leaf m) lo hi n s e = (rank f m, s.from, s.below, e)
+reach f (Fork m a b) lo hi n s (inl e) =
+    let w : (lo ≤ least f (Fork m a b)) × (least f (Fork m a b) < hi) = within f (Fork m a b) lo hi s in
+    (least f (Fork m a b), w.0, w.1, inl e)
+reach f (Fork m a b) lo hi n s (inr (inl q)) =
+    let x : (k : ℕ) × (lo ≤ k) × (k < rank f m) × Passes f k a n = reach f a lo (rank f m) n s.1 q in
+    let w : (rank f m ≤ least f b) × (least f b < hi) = within f b (rank f m) hi s.2 in
+    (x.0, x.1, (let u = x.2 in let y = w.0 in let z = w.1 in omega arith), inr (inl (x.2, x.3)))
+reach f (Fork m a b) lo hi n s (inr (inr q)) =
+    let x : (k : ℕ) × (rank f m ≤ k) × (k < hi) × Passes f k b n = reach f b (rank f m) hi n s.2 q in
+    let w : (lo ≤ least f a) × (least f a < rank f m) = within f a lo (rank f m) s.1 in
+    (x.0, (let u = x.1 in let y = w.0 in let z = w.1 in omega arith), x.2, inr (inr (x.1, x.3)))
+
+-- in every node that was ever in the tree each child's level is above its own
+pub grown_rises : (calls : ℕ → MapEdit) (lay : Layout) (h : History) (n : ℕ) (side : Side) → IsGrown calls lay h → WasInTree h n → is_leaf (value h) n ≡ false → level (value h) n < level (value h) (value h (child n side))
+grown_rises calls lay h n side g w d =
+    let x : (k : ℕ) × (0 ≤ k) × (k < 3 * 2 ^ 64) × Passes (value w.moment) k w.tree n = reach (value w.moment) w.tree _ _ n w.is_tree.shows w.has in
+    level_rises calls lay h w.moment x.0 n side g w.within record { tree = w.tree; is_tree = w.is_tree; passes = x.3 } d

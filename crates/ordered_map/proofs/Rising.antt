@@ -1,0 +1,171 @@
+-- Levels rise from each fork that a field has ever named, where machines fill nodes in order: such
+-- a node has stood in the tree, or is a leaf.
+use Rattle.std.proofs.Common.{◌≡◌, ℕ, zero, suc, ◌<◌, ◌/◌, ◌%◌, ◌⊎◌, inl, inr, ⊎_elim, Bool, true, false, cond, eqb, refl, sym, ◌∙◌, ap, subst, arith}
+use native.Mathlib.Decide.{ℕ_discrete}
+use Rattle.arena.specs.declared.limits.Mode.{Mode}
+use Rattle.arena.specs.declared.limits.Mode.TheVariants.{Tree as TreeMode}
+use Rattle.arena.specs.declared.layout.Layout.{Layout}
+use Rattle.arena.specs.declared.step.Kind.TheVariants.{Fill}
+use Rattle.arena.specs.declared.step.Row.{Row}
+use Rattle.arena.specs.declared.word.Side.{Side}
+use Rattle.arena.specs.declared.word.Side.TheVariants.{Left, Right}
+use Rattle.arena.specs.declared.word.NodeWord.{NodeWord}
+use Rattle.arena.specs.declared.word.Word.{Word}
+use Rattle.arena.specs.declared.word.NodeWord.TheVariants.{Head, Key, Value, Child, Info, Marked}
+use Rattle.arena.specs.declared.word.ScxWord.TheVariants.{AllFrozen}
+use Rattle.arena.specs.Layout.{opening}
+use Rattle.arena.specs.Words.{node, scx, info, marked, child, state, same_word}
+use Rattle.arena.specs.History.{History, Start, ◌⊳◌, value, Extends, HasHeld}
+use Rattle.arena.specs.Log.{log, is_final}
+use Rattle.arena.specs.Lawful.{Lawful}
+use Rattle.arena.specs.ScxRecords.{member, new, field, plan, side_of}
+use Rattle.arena.proofs.Lemmas.{held_at, held_split, held_start, node_apart, node_word_apart, value_apart, value_at, value_other, value_quiet, word_same}
+use Rattle.histories.proofs.Lemmas.{Change, UpdateWins, aborts, change, commits, fills_node, fills_scx, freezes, lawful_row, lawful_tail, marks, nothing, sets_frozen, shaped_tail, start_mode, updates}
+use Rattle.ordered_map.specs.TreeShape.{TreeAllows}
+use Rattle.ordered_map.specs.TreeWords.{Tree, Leaf, Fork, root, Has, is_leaf}
+use Rattle.ordered_map.specs.Paths.{WasInTree}
+use Rattle.ordered_map.specs.Runs.{IsTreeRun}
+use Rattle.ordered_map.specs.Spelled.{Spells}
+use Rattle.ordered_map.specs.FillOrder.{HasStoodInField, HasRisingLevels, AreFilledInOrder}
+use Rattle.ordered_map.proofs.Meanings.{run_since, run_spells}
+use Rattle.ordered_map.proofs.Stood.{was_more, was_now}
+use Rattle.ordered_map.proofs.TreeRuns.{child_stood, levels_rise, new_stood}
+
+-- Heads
+
+-- a row leaves the head of a node, or fills it
+head_came : (lay : Layout) (h : History) (r : Row) (n : ℕ) → Lawful lay (r ⊳ h) → (value (r ⊳ h) (node n Head) ≡ value h (node n Head)) ⊎ ((r.kind ≡ Fill) × (r.word ≡ node n Head))
+head_came lay h r n l = go (change lay h r l)
+  where
+    by_part : (k : ℕ) (part : NodeWord) → r.kind ≡ Fill → r.word ≡ node k part → Dec (k ≡ n) → (value (r ⊳ h) (node n Head) ≡ value h (node n Head)) ⊎ ((r.kind ≡ Fill) × (r.word ≡ node n Head))
+    by_part k part f e (no d) = inl (value_apart r h (node k part) (node n Head) e (node_apart k n part Head d))
+    by_part k Head f e (yes q) = inr (f, e ∙ ap (λ (i : ℕ). node i Head) q)
+    by_part k Key f e (yes q) = inl (value_apart r h (node k Key) (node n Head) e (node_word_apart k n Key Head refl))
+    by_part k Value f e (yes q) = inl (value_apart r h (node k Value) (node n Head) e (node_word_apart k n Value Head refl))
+    by_part k (Child side) f e (yes q) = inl (value_apart r h (child k side) (node n Head) e (node_word_apart k n (Child side) Head refl))
+    by_part k Info f e (yes q) = inl (value_apart r h (info k) (node n Head) e (node_word_apart k n Info Head refl))
+    by_part k Marked f e (yes q) = inl (value_apart r h (marked k) (node n Head) e (node_word_apart k n Marked Head refl))
+
+    go : Change lay h r → (value (r ⊳ h) (node n Head) ≡ value h (node n Head)) ⊎ ((r.kind ≡ Fill) × (r.word ≡ node n Head))
+    go (nothing i a) = inl (value_quiet r h (lawful_row lay h r l).before a (node n Head))
+    go (fills_node k part x) = by_part k part x.kind x.word (ℕ_discrete k n)
+    go (fills_scx s part x) = inl (value_apart r h (scx s part) (node n Head) x.word refl)
+    go (freezes s j x) = inl (value_apart r h (info (member h s j)) (node n Head) x.freeze.word (node_word_apart (member h s j) n Info Head refl))
+    go (sets_frozen s k x) = inl (value_apart r h (scx s AllFrozen) (node n Head) x.word refl)
+    go (marks s j k x) = inl (value_apart r h (marked (member h s j)) (node n Head) x.word (node_word_apart (member h s j) n Marked Head refl))
+    go (updates s x) = inl (value_apart r h (field h s) (node n Head) x.update.word (node_word_apart _ n (Child (side_of (plan h s))) Head refl))
+    go (commits s k x) = inl (value_apart r h (state s) (node n Head) x.word refl)
+    go (aborts s j k x) = inl (value_apart r h (state s) (node n Head) x.word refl)
+
+-- Fields
+
+-- what a field holds after a row: what it held, what the row has filled in, or the new node of an
+-- update that has won
+field_came : (lay : Layout) (h : History) (r : Row) (m : ℕ) (side : Side) (n : ℕ) → Lawful lay (r ⊳ h) → value (r ⊳ h) (child m side) ≡ n → HasHeld h (child m side) n ⊎ (((r.kind ≡ Fill) × (r.word ≡ child m side) × (r.after ≡ n)) ⊎ ((u : ℕ) × UpdateWins h r u × (new h u ≡ n)))
+field_came lay h r m side n l q = test (same_word r.word (child m side)) refl
+  where
+    stored : r.word ≡ child m side → r.after ≡ n
+    stored e = sym (value_at r h (child m side) e) ∙ q
+
+    by_word : r.word ≡ child m side → Change lay h r → HasHeld h (child m side) n ⊎ (((r.kind ≡ Fill) × (r.word ≡ child m side) × (r.after ≡ n)) ⊎ ((u : ℕ) × UpdateWins h r u × (new h u ≡ n)))
+    by_word e (nothing i a) = inl (held_at h _ _ (sym (value_quiet r h (lawful_row lay h r l).before a (child m side)) ∙ q))
+    by_word e (fills_node k part x) = inr (inl (x.kind, e, stored e))
+    by_word e (updates u w) = inr (inr (u, w, sym w.stored ∙ stored e))
+    by_word e (fills_scx u part x) = let y : scx u part ≡ child m side = sym x.word ∙ e in cc
+    by_word e (freezes u j w) = let y : info (member h u j) ≡ child m side = sym w.freeze.word ∙ e in cc
+    by_word e (sets_frozen u k x) = let y : scx u AllFrozen ≡ child m side = sym x.word ∙ e in cc
+    by_word e (marks u j k x) = let y : marked (member h u j) ≡ child m side = sym x.word ∙ e in cc
+    by_word e (commits u k x) = let y : state u ≡ child m side = sym x.word ∙ e in cc
+    by_word e (aborts u j k x) = let y : state u ≡ child m side = sym x.word ∙ e in cc
+
+    test : (t : Bool) → same_word r.word (child m side) ≡ t → HasHeld h (child m side) n ⊎ (((r.kind ≡ Fill) × (r.word ≡ child m side) × (r.after ≡ n)) ⊎ ((u : ℕ) × UpdateWins h r u × (new h u ≡ n)))
+    test false e = inl (held_at h _ _ (sym (value_other r h (child m side) e) ∙ q))
+    test true e = by_word (word_same r.word (child m side) e) (change lay h r l)
+
+-- Nodes that a field has named
+
+-- such a node has stood in the tree, or is a leaf
+abbrev StoodOrLeaf : History → ℕ → Type 0
+StoodOrLeaf h n = WasInTree h n ⊎ (is_leaf (value h) n ≡ true)
+
+small_if : (b : Bool) (k : ℕ) → k < 3 → cond b k 0 < 3
+small_if true k i = i
+small_if false k i = omega arith
+
+-- the fields of the opening tree name opening nodes
+field_small : (n : ℕ) (side : Side) → opening TreeMode (child n side) < 3
+field_small n Left = small_if (eqb n 0) 1 (omega arith)
+field_small n Right = small_if (eqb n 0) 2 (omega arith)
+
+start_word : (mode : Mode) (w : Word) → mode ≡ TreeMode → opening TreeMode w ≡ value (Start mode) w
+unfolding value
+start_word mode w e = ap (λ (m : Mode). opening m w) (sym e)
+
+root_stood : (lay : Layout) (h : History) → IsTreeRun lay h → WasInTree h 0
+root_stood lay h g = was_now h spelled.tree 0 spelled.is_tree (subst (λ k. Has spelled.tree k) spelled.is_tree.is (root_has spelled.tree))
+  where
+    spelled : Spells lay (value h) (run_spells lay h g).0
+    spelled = (run_spells lay h g).1
+
+    root_has : (t : Tree) → Has t (root t)
+    root_has (Leaf n) = refl
+    root_has (Fork n a b) = inl refl
+
+opening_stood : (lay : Layout) (n : ℕ) → IsTreeRun lay (Start TreeMode) → n < 3 → StoodOrLeaf (Start TreeMode) n
+unfolding value
+opening_stood lay zero g i = inl (root_stood lay (Start TreeMode) g)
+opening_stood lay (suc zero) g i = inr refl
+opening_stood lay (suc (suc zero)) g i = inr refl
+opening_stood lay (suc (suc (suc n))) g i = absurd (omega (i, arith))
+
+-- a row that leaves its head leaves it so
+stood_more : (h : History) (r : Row) (n : ℕ) → value (r ⊳ h) (node n Head) ≡ value h (node n Head) → StoodOrLeaf h n → StoodOrLeaf (r ⊳ h) n
+stood_more h r n same (inl x) = inl (was_more h r n x)
+stood_more h r n same (inr e) = inr (ap (λ v. eqb (v / 4 % 2) 1) same ∙ e)
+
+-- and so does one that fills it in order
+stood_filled : (lay : Layout) (h : History) (r : Row) (n : ℕ) → Lawful lay (r ⊳ h) → (r.kind ≡ Fill → r.word ≡ node n Head → (eqb (r.after / 4 % 2) 1 ≡ true) ⊎ (¬ HasStoodInField h n)) → HasStoodInField h n → StoodOrLeaf h n → StoodOrLeaf (r ⊳ h) n
+stood_filled lay h r n l order named x = ⊎_elim (λ e. stood_more h r n e x) (λ y. ⊎_elim (λ leaf. inr (ap (λ v. eqb (v / 4 % 2) 1) (value_at r h (node n Head) y.1) ∙ leaf)) (λ none. absurd (none named)) (order y.0 y.1)) (head_came lay h r n l)
+
+came_stood : (lay : Layout) (h : History) (r : Row) (m : ℕ) (side : Side) (n : ℕ) → IsTreeRun lay (r ⊳ h) → AreFilledInOrder (r ⊳ h) → value (r ⊳ h) (child m side) ≡ n → (HasStoodInField h n → StoodOrLeaf h n) → HasStoodInField h n ⊎ StoodOrLeaf (r ⊳ h) n
+came_stood lay h r m side n g order q before = go (field_came lay h r m side n g.1.lawful q)
+  where
+    go : HasHeld h (child m side) n ⊎ (((r.kind ≡ Fill) × (r.word ≡ child m side) × (r.after ≡ n)) ⊎ ((u : ℕ) × UpdateWins h r u × (new h u ≡ n))) → HasStoodInField h n ⊎ StoodOrLeaf (r ⊳ h) n
+    go (inl x) = inl (inr (m, side, x))
+    go (inr (inl x)) = inr (stood_more h r n (value_apart r h (child m side) (node n Head) x.1 (node_word_apart m n (Child side) Head refl)) (subst (StoodOrLeaf h) x.2 (order.1.field m side x.0 x.1)))
+    go (inr (inr x)) = inr (inl (subst (WasInTree (r ⊳ h)) x.2 (new_stood lay h r x.0 g x.1)))
+
+row_stood : (lay : Layout) (h : History) (r : Row) (n : ℕ) → IsTreeRun lay (r ⊳ h) → AreFilledInOrder (r ⊳ h) → (HasStoodInField h n → StoodOrLeaf h n) → HasStoodInField (r ⊳ h) n → StoodOrLeaf (r ⊳ h) n
+row_stood lay h r n g order before x = ⊎_elim (λ i. old (inl i)) (λ y. held y.0 y.1 (held_split r h (child y.0 y.1) n y.2)) x
+  where
+    old : HasStoodInField h n → StoodOrLeaf (r ⊳ h) n
+    old y = stood_filled lay h r n g.1.lawful (order.1.head n) y (before y)
+
+    held : (m : ℕ) (side : Side) → (value (r ⊳ h) (child m side) ≡ n) ⊎ HasHeld h (child m side) n → StoodOrLeaf (r ⊳ h) n
+    held m side (inl q) = ⊎_elim old (λ y. y) (came_stood lay h r m side n g order q before)
+    held m side (inr y) = old (inr (m, side, y))
+
+stood : (lay : Layout) (h : History) (n : ℕ) → IsTreeRun lay h → AreFilledInOrder h → HasStoodInField h n → StoodOrLeaf h n
+stood lay (Start mode) n g order x = subst (λ (m : Mode). StoodOrLeaf (Start m) n) (sym tree) (opening_stood lay n (subst (λ (m : Mode). IsTreeRun lay (Start m)) tree g) (⊎_elim (λ i. i) small x))
+  where
+    tree : mode ≡ TreeMode
+    tree = start_mode lay mode g.1.lawful ∙ g.0
+
+    small : ((m : ℕ) × (from : Side) × HasHeld (Start mode) (child m from) n) → n < 3
+    small y = subst (λ k. k < 3) (start_word mode (child y.0 y.1) tree ∙ held_start mode (child y.0 y.1) n y.2) (field_small y.0 y.1)
+stood lay (r ⊳ h) n g order x = row_stood lay h r n g order (stood lay h n (g.0, record { lawful = lawful_tail lay h r g.1.lawful; shaped = shaped_tail TreeAllows lay h r g.1.shaped }) order.0) x
+
+-- Where the steps are a run of the tree whose nodes were filled in order, levels rise from each fork
+-- that a field has ever named.
+pub rising_levels : (lay : Layout) (h : History) → IsTreeRun lay h → AreFilledInOrder h → HasRisingLevels h
+rising_levels lay h g order n side named fork = ⊎_elim (λ x. levels_rise lay h n side g x fork) (λ e. let y : true ≡ false = sym e ∙ fork in absurd (cc)) (stood lay h n g order named)
+
+-- nodes were filled in order up to each moment before
+filled_since : (h m : History) → Extends h m → AreFilledInOrder h → AreFilledInOrder m
+filled_since (Start mode) m e x = subst AreFilledInOrder (sym e) x
+filled_since (r ⊳ h) m (inl e) x = subst AreFilledInOrder (sym e) x
+filled_since (r ⊳ h) m (inr e) x = filled_since h m e x.0
+
+-- What such a fork has held in a field while it was not final has stood in the tree.
+pub held_stood : (lay : Layout) (h m : History) (n : ℕ) (side : Side) → IsTreeRun lay h → AreFilledInOrder h → Extends h m → HasStoodInField m n → is_final (log lay m) n ≡ false → is_leaf (value m) n ≡ false → WasInTree h (value m (child n side))
+held_stood lay h m n side g order e named not_final fork = ⊎_elim (λ x. child_stood lay h m n side g e x not_final fork) (λ leaf. let y : true ≡ false = sym leaf ∙ fork in absurd (cc)) (stood lay m n (run_since lay h m g e) (filled_since h m e order) named)

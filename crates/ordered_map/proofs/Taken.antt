@@ -1,0 +1,223 @@
+-- The log is no longer than the nodes that were taken are many: so no walk is longer than they
+-- allow.
+use Rattle.std.proofs.Common.{◌≡◌, ◌≢◌, ℕ, ◌+◌, ◌<◌, ◌≤◌, suc, Bool, true, false, cond, eqb, eq-eqb, ne_eqb, length, ◌⊎◌, inl, inr, ⊎_elim, List, [], ◌∷◌, refl, sym, ◌∙◌, ap, arith, subst}
+use native.Mathlib.Decide.{ℕ_discrete}
+use Rattle.arena.specs.declared.limits.Mode.{Mode}
+use Rattle.arena.specs.declared.word.NodeWord.{NodeWord}
+use Rattle.arena.specs.declared.word.NodeWord.TheVariants.{Head, Child, Info, Marked}
+use Rattle.arena.specs.declared.word.ScxWord.TheVariants.{AllFrozen, New}
+use Rattle.arena.specs.declared.word.Word.{Word}
+use Rattle.arena.specs.declared.word.Word.TheVariants.{Node, Scx}
+use Rattle.arena.specs.declared.layout.Layout.{Layout}
+use Rattle.arena.specs.declared.step.Row.{Row}
+use Rattle.arena.specs.declared.step.Kind.{Kind}
+use Rattle.arena.specs.declared.step.Kind.TheVariants.{Fill}
+use Rattle.arena.specs.Layout.{opening_nodes}
+use Rattle.arena.specs.Words.{node, scx, info, marked, state}
+use Rattle.arena.specs.History.{History, Start, ◌⊳◌, value}
+use Rattle.arena.specs.ScxRecords.{member, new, field, field_index, side_of, plan}
+use Rattle.arena.specs.Fills.{IsTakenNode}
+use Rattle.arena.specs.Lawful.{HasWon, Lawful}
+use Rattle.arena.specs.Log.{Entry, log, has}
+use Rattle.arena.proofs.Lemmas.{value_quiet, value_apart, node_apart, node_word_apart, taken_node_more, fill_takes_node}
+use Rattle.histories.proofs.Lemmas.{Change, Facts, Logs, UpdateWins, aborts, change, commits, facts_before, fills_node, fills_scx, freezes, lawful_row, lawful_tail, logs, marks, nothing, same, scx_stays, sets_frozen, some_is_real, update_about, update_flagged, update_is_first, update_won, updates, value_start, wins, won_more, won_named, won_real}
+use Rattle.arena.specs.TakenNodes.{with_fill, taken_nodes}
+use Rattle.ordered_map.specs.OrderedMap.{MapEdit}
+use Rattle.ordered_map.specs.Paths.{Passed}
+use Rattle.ordered_map.specs.TreeWords.{level}
+use Rattle.ordered_map.proofs.TreeFacts.{TreeFacts}
+use Rattle.ordered_map.proofs.Edited.{result, tree_now, new_in}
+use Rattle.ordered_map.proofs.Grown.{IsGrown, tree_facts, grown_tail}
+use Rattle.ordered_map.proofs.Inside.{no_head, has_head}
+use Rattle.ordered_map.proofs.Levels.{grown_level}
+use Rattle.ordered_map.proofs.Stood.{was_passed}
+
+-- Lists
+
+abbrev pub In : ℕ → List ℕ → Type 0
+In k [] = ⊥
+In k (x ∷ xs) = (x ≡ k) ⊎ In k xs
+
+abbrev Distinct : List ℕ → Type 0
+Distinct [] = Unit {0}
+Distinct (x ∷ xs) = ¬ In x xs × Distinct xs
+
+without : ℕ → List ℕ → List ℕ
+without k [] = []
+without k (y ∷ ys) = cond (eqb y k) ys (y ∷ without k ys)
+
+without_shorter : (k : ℕ) (ys : List ℕ) → In k ys → suc (length (without k ys)) ≡ length ys
+unfolding without
+without_shorter k [] p = absurd p
+without_shorter k (y ∷ ys) p = go (eqb y k) refl p (without_shorter k ys)
+  where
+    go : (b : Bool) → eqb y k ≡ b → (y ≡ k) ⊎ In k ys → (In k ys → suc (length (without k ys)) ≡ length ys) → suc (length (cond b ys (y ∷ without k ys))) ≡ suc (length ys)
+    go true e p more = refl
+    go false e (inl q) more = absurd (let x : true ≡ false = sym (rw q (let z : eqb k k ≡ true = eq-eqb k k refl in z)) ∙ e in cc)
+    go false e (inr q) more = ap suc (more q)
+
+without_has : (k j : ℕ) (ys : List ℕ) → In j ys → j ≢ k → In j (without k ys)
+unfolding without
+without_has k j [] p d = absurd p
+without_has k j (y ∷ ys) p d = go (ℕ_discrete y k) p (λ q. without_has k j ys q d)
+  where
+    go : Dec (y ≡ k) → (y ≡ j) ⊎ In j ys → (In j ys → In j (without k ys)) → In j (cond (eqb y k) ys (y ∷ without k ys))
+    go (yes e) (inl q) more = absurd (d (sym q ∙ e))
+    go (yes e) (inr q) more = rw (eq-eqb y k e) q
+    go (no e) (inl q) more = rw (ne_eqb y k e) (inl q)
+    go (no e) (inr q) more = rw (ne_eqb y k e) (inr (more q))
+
+-- different numbers, all of a list, are no more than it has
+fits : (xs ys : List ℕ) → Distinct xs → ((k : ℕ) → In k xs → In k ys) → length xs ≤ length ys
+fits [] ys d f = omega arith
+fits (x ∷ xs) ys d f =
+    let a : length xs ≤ length (without x ys) = fits xs (without x ys) d.1 (λ k p. without_has x k ys (f k (inr p)) (λ e. d.0 (rw e at p))) in
+    let b : suc (length (without x ys)) ≡ length ys = without_shorter x ys (f x (inl refl)) in
+    omega (arith, a, b)
+
+has_in : (ns : List ℕ) (n : ℕ) → has ns n ≡ true → In n ns
+has_in [] n e = absurd (let x : false ≡ true = e in cc)
+has_in (m ∷ ms) n e = go (ℕ_discrete m n) (has_in ms n)
+  where
+    go : Dec (m ≡ n) → (has ms n ≡ true → In n ms) → (m ≡ n) ⊎ In n ms
+    go (yes q) more = inl q
+    go (no d) more = inr (more (rw (ne_eqb m n d) at e))
+
+-- Taken nodes
+
+taken_in : (h : History) (n : ℕ) → IsTakenNode h n → In n (taken_nodes h)
+unfolding IsTakenNode taken_nodes
+taken_in (Start mode) n p = absurd p
+taken_in (r ⊳ h) n (inl x) = subst (λ k. In n (with_fill k r.word (taken_nodes h))) (sym x.1) (subst (λ w. In n (with_fill Fill w (taken_nodes h))) (sym x.2) (go (has (taken_nodes h) n) refl))
+  where
+    go : (b : Bool) → has (taken_nodes h) n ≡ b → In n (cond (has (taken_nodes h) n) (taken_nodes h) (n ∷ taken_nodes h))
+    go true e = rw e (has_in (taken_nodes h) n e)
+    go false e = rw e (inl refl)
+taken_in (r ⊳ h) n (inr p) = more r.kind r.word (taken_in h n p)
+  where
+    node_more : (m : ℕ) → In n (taken_nodes h) → (b : Bool) → In n (cond b (taken_nodes h) (m ∷ taken_nodes h))
+    node_more m q true = q
+    node_more m q false = inr q
+
+    more : (k : Kind) (w : Word) → In n (taken_nodes h) → In n (with_fill k w (taken_nodes h))
+    more Fill (Node m part) q = node_more m.0 q (has (taken_nodes h) m.0)
+    more Fill (Scx s part) q = q
+    more _ _ q = q
+
+-- a node behind the opening ones whose head is not 0 was taken
+head_taken : (lay : Layout) (h : History) (n : ℕ) → Lawful lay h → 3 ≤ n → value h (node n Head) ≢ 0 → IsTakenNode h n
+head_taken lay (Start mode) n l i d = absurd (d (value_start mode (node n Head) ∙ no_head mode n (λ e. omega (arith, e)) (λ e. omega (arith, e)) (λ e. omega (arith, e))))
+head_taken lay (r ⊳ h) n l i d = go (change lay h r l) (head_taken lay h n (lawful_tail lay h r l) i)
+  where
+    old : value (r ⊳ h) (node n Head) ≡ value h (node n Head) → (value h (node n Head) ≢ 0 → IsTakenNode h n) → IsTakenNode (r ⊳ h) n
+    old e more = taken_node_more r h n (more (λ q. d (e ∙ q)))
+
+    at_node : (m : ℕ) (part : NodeWord) → r.kind ≡ Fill → r.word ≡ node m part → (value h (node n Head) ≢ 0 → IsTakenNode h n) → Dec (m ≡ n) → IsTakenNode (r ⊳ h) n
+    at_node m part k w more (yes e) = fill_takes_node r h n part k (w ∙ ap (λ z. node z part) e)
+    at_node m part k w more (no e) = old (value_apart r h (node m part) (node n Head) w (node_apart m n part Head e)) more
+
+    go : Change lay h r → (value h (node n Head) ≢ 0 → IsTakenNode h n) → IsTakenNode (r ⊳ h) n
+    go (nothing j e) more = old (value_quiet r h (lawful_row lay h r l).before e (node n Head)) more
+    go (fills_node m part x) more = at_node m part x.kind x.word more (ℕ_discrete m n)
+    go (fills_scx u part x) more = old (value_apart r h (scx u part) (node n Head) x.word refl) more
+    go (freezes u j w) more = old (value_apart r h (info (member h u j)) (node n Head) w.freeze.word (node_word_apart (member h u j) n Info Head refl)) more
+    go (sets_frozen u k x) more = old (value_apart r h (scx u AllFrozen) (node n Head) x.word refl) more
+    go (marks u j k x) more = old (value_apart r h (marked (member h u j)) (node n Head) x.word (node_word_apart (member h u j) n Marked Head refl)) more
+    go (updates u w) more = old (value_apart r h (field h u) (node n Head) w.update.word (node_word_apart (member h u (field_index h u)) n (Child (side_of (plan h u))) Head refl)) more
+    go (commits u k x) more = old (value_apart r h (state u) (node n Head) x.word refl) more
+    go (aborts u j k x) more = old (value_apart r h (state u) (node n Head) x.word refl) more
+
+-- The nodes that the entries have put into the tree
+
+abbrev news : List Entry → List ℕ
+news [] = []
+news (e ∷ es) = e.new ∷ news es
+
+news_length : (es : List Entry) → length (news es) ≡ length es
+news_length [] = refl
+news_length (e ∷ es) = ap suc (news_length es)
+
+-- each is the new node of an SCX-record that has won, all are different, and all were taken
+record NewsFacts (lay : Layout) (h : History) : Type 0 where
+  won : (k : ℕ) → In k (news (log lay h)) → (s : ℕ) × HasWon h s × (new h s ≡ k)
+  distinct : Distinct (news (log lay h))
+  taken : (k : ℕ) → In k (news (log lay h)) → IsTakenNode h k
+
+module _ (calls : ℕ → MapEdit) (lay : Layout) (h : History) (r : Row) (g : IsGrown calls lay (r ⊳ h)) (x : NewsFacts lay h) where
+  f : Facts lay h
+  f = facts_before lay h r g.lawful
+
+  before : IsGrown calls lay h
+  before = grown_tail calls lay h r g
+
+  t : TreeFacts calls lay h
+  t = tree_facts calls lay h before
+
+  new_stays : (s : ℕ) → HasWon h s → new (r ⊳ h) s ≡ new h s
+  new_stays s w = scx_stays lay h r s g.lawful (won_real s f w) (won_named s f w) New tt
+
+  old_won : (k : ℕ) → In k (news (log lay h)) → (s : ℕ) × HasWon (r ⊳ h) s × (new (r ⊳ h) s ≡ k)
+  old_won k p = let y : (s : ℕ) × HasWon h s × (new h s ≡ k) = x.won k p in (y.0, won_more r h y.0 y.1, new_stays y.0 y.1 ∙ y.2)
+
+  same_news : log lay (r ⊳ h) ≡ log lay h → NewsFacts lay (r ⊳ h)
+  same_news e = record {
+    won = λ k p. old_won k (subst (λ es. In k (news es)) e p);
+    distinct = subst (λ es. Distinct (news es)) (sym e) x.distinct;
+    taken = λ k p. taken_node_more r h k (x.taken k (subst (λ es. In k (news es)) e p));
+  }
+
+  module _ (u : ℕ) (w : UpdateWins h r u) where
+    u_won : HasWon (r ⊳ h) u
+    u_won = update_won f w
+
+    now_new : new (r ⊳ h) u ≡ new h u
+    now_new = scx_stays lay h r u g.lawful (some_is_real f (update_flagged f w).some) (member h u 0, (update_flagged f w).frozen 0 (update_flagged f w).some) New tt
+
+    fresh : ¬ In (new h u) (news (log lay h))
+    fresh p =
+        let y : (s : ℕ) × HasWon h s × (new h s ≡ new h u) = x.won (new h u) p in
+        let e : y.0 ≡ u = t.one_new y.0 u _ _ (won_real y.0 f y.1) (some_is_real f (update_flagged f w).some) (won_named y.0 f y.1).1 ((update_flagged f w).frozen 0 (update_flagged f w).some) y.2 in
+        update_is_first f w (rw e at y.1)
+
+    own_high : 3 ≤ new h u
+    own_high = let a = (update_about f w).owned.new.from in let b : opening_nodes lay.mode ≡ 3 = rw g.mode refl in omega (arith, a, b)
+
+    new_taken : IsTakenNode (r ⊳ h) (new h u)
+    new_taken = head_taken lay (r ⊳ h) (new h u) g.lawful own_high (⊎_elim
+        (λ e. absurd (let a : new h u ≡ 0 = e ∙ (tree_now calls lay h r u f w g.mode g.lawful t).is in let b = own_high in omega (arith, a, b)))
+        (λ d. d)
+        (has_head (value (r ⊳ h)) (result calls lay h r u f w g.mode g.lawful t).tree _ _ (new h u) (tree_now calls lay h r u f w g.mode g.lawful t).shows (new_in calls lay h r u f w g.mode g.lawful t)))
+
+    won_news : (e : Entry) → e.new ≡ new h u → log lay (r ⊳ h) ≡ e ∷ log lay h → NewsFacts lay (r ⊳ h)
+    won_news e n q = record {
+      won = λ k p. ⊎_elim (λ z. (u, u_won, now_new ∙ sym n ∙ z)) (old_won k) (subst (λ es. In k (news es)) q p);
+      distinct = subst (λ es. Distinct (news es)) (sym q) ((λ p. fresh (rw n at p)), x.distinct);
+      taken = λ k p. ⊎_elim (λ z. subst (IsTakenNode (r ⊳ h)) (sym n ∙ z) new_taken) (λ z. taken_node_more r h k (x.taken k z)) (subst (λ es. In k (news es)) q p);
+    }
+
+  news_step : Logs lay h r → NewsFacts lay (r ⊳ h)
+  news_step (same e _) = same_news e
+  news_step (wins u w q) = won_news u w _ refl q
+
+no_news : (lay : Layout) (mode : Mode) → NewsFacts lay (Start mode)
+unfolding log
+no_news lay mode = record { won = λ k p. absurd p; distinct = tt; taken = λ k p. absurd p }
+
+news_facts : (calls : ℕ → MapEdit) (lay : Layout) (h : History) → IsGrown calls lay h → NewsFacts lay h
+news_facts calls lay (Start mode) g = no_news lay mode
+news_facts calls lay (r ⊳ h) g = news_step calls lay h r g (news_facts calls lay h (grown_tail calls lay h r g)) (logs lay h r g.lawful)
+
+pub grown_log : (calls : ℕ → MapEdit) (lay : Layout) (h : History) → IsGrown calls lay h → length (log lay h) ≤ length (taken_nodes h)
+grown_log calls lay h g =
+    let x : NewsFacts lay h = news_facts calls lay h g in
+    let a : length (news (log lay h)) ≤ length (taken_nodes h) = fits (news (log lay h)) (taken_nodes h) x.distinct (λ k p. taken_in h k (x.taken k p)) in
+    let b : length (news (log lay h)) ≡ length (log lay h) = news_length (log lay h) in
+    omega (arith, a, b)
+
+-- a node that was passed has fewer above it than the nodes of the tree: two that are not taken, and
+-- those that are
+pub grown_depth : (calls : ℕ → MapEdit) (lay : Layout) (h start : History) (k n : ℕ) → IsGrown calls lay h → Passed h start k n → level (value h) n < 2 + length (taken_nodes h)
+grown_depth calls lay h start k n g p =
+    let a : level (value h) n ≤ suc (length (log lay h)) = grown_level calls lay h g n (was_passed h start k n p) in
+    let b : length (log lay h) ≤ length (taken_nodes h) = grown_log calls lay h g in
+    omega (arith, a, b)

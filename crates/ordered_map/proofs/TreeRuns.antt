@@ -1,0 +1,144 @@
+-- What a history of the tree keeps, whatever edits it makes: levels, how deep it is, what is blank,
+-- and which nodes are final.
+use Rattle.std.proofs.Common.{◌≡◌, ◌≢◌, ◌⊎◌, inl, inr, ◌+◌, ◌<◌, ◌≤◌, Bool, true, false, suc, ℕ, length, refl, sym, ◌∙◌, subst, arith}
+use Rattle.arena.specs.declared.layout.Layout.{Layout}
+use Rattle.arena.specs.declared.word.Side.{Side}
+use Rattle.arena.specs.declared.word.Side.TheVariants.{Left, Right}
+use Rattle.arena.specs.declared.word.NodeWord.TheVariants.{Head}
+use Rattle.arena.specs.Words.{node, child, marked}
+use Rattle.arena.specs.declared.step.Row.{Row}
+use Rattle.arena.specs.ScxRecords.{new}
+use Rattle.arena.specs.History.{History, ◌⊳◌, value, Extends}
+use Rattle.arena.specs.Log.{log, is_final}
+use Rattle.arena.specs.Fills.{IsInField}
+use Rattle.arena.specs.Layout.{opening_nodes}
+use Rattle.arena.specs.TakenNodes.{taken_nodes}
+use Rattle.histories.proofs.Lemmas.{Facts, UpdateWins, facts_before, node_since}
+use Rattle.ordered_map.specs.OrderedMap.{MapEdit}
+use Rattle.ordered_map.specs.TreeWords.{Tree, Has, is_leaf, level, IsBlankAboveKeys, root}
+use Rattle.arena.proofs.Lemmas.{held_at, held_since}
+use Rattle.ordered_map.specs.Spelled.{IsTree, Spells}
+use Rattle.ordered_map.specs.Paths.{IsOnPath, Passed, WasInTree}
+use Rattle.ordered_map.specs.Runs.{IsTreeRun}
+use Rattle.ordered_map.proofs.Past.{path_level, grown_on_path, grown_rises}
+use Rattle.ordered_map.proofs.Removed.{grown_not_final}
+use Rattle.ordered_map.proofs.Levels.{grown_level}
+use Rattle.ordered_map.proofs.Blanks.{grown_blank}
+use Rattle.ordered_map.proofs.Remaining.{grown_remains}
+use Rattle.ordered_map.proofs.Growing.{grown_root}
+use Rattle.ordered_map.proofs.Stood.{was_now, was_passed, was_named}
+use Rattle.ordered_map.proofs.TreeFacts.{TreeFacts}
+use Rattle.ordered_map.proofs.Edited.{result, tree_now, new_in}
+use Rattle.ordered_map.proofs.Grown.{tree_facts, grown_tail}
+use Rattle.ordered_map.proofs.Trees.{passes_has, IsBelowFork, has_above, fields_apart}
+use Rattle.ordered_map.proofs.Moved.{SameSettled}
+use Rattle.ordered_map.proofs.Taken.{grown_log, grown_depth}
+use Rattle.ordered_map.proofs.Meanings.{edits_of, grown, run_since, run_spells}
+
+-- a node of the tree is not final
+pub tree_not_final : (lay : Layout) (h : History) (t : Tree) (n : ℕ) → IsTreeRun lay h → IsTree (value h) t → Has t n → is_final (log lay h) n ≡ false
+tree_not_final lay h t n g i p = go (is_final (log lay h) n) refl
+  where
+    go : (b : Bool) → is_final (log lay h) n ≡ b → b ≡ false
+    go false e = refl
+    go true e = absurd (grown_not_final (edits_of lay h g).edits lay h t n (grown lay h g) i p e)
+
+-- nor is one on a search path in the tree
+pub path_not_final : (lay : Layout) (h : History) (k n : ℕ) → IsTreeRun lay h → IsOnPath h k n → is_final (log lay h) n ≡ false
+path_not_final lay h k n g x = tree_not_final lay h x.tree n g x.is_tree (passes_has (value h) k x.tree n x.passes)
+
+-- a node that stood in the tree and is not final still stands there
+pub tree_remains : (lay : Layout) (h : History) (t : Tree) (n : ℕ) → IsTreeRun lay h → WasInTree h n → is_final (log lay h) n ≡ false → IsTree (value h) t → Has t n
+tree_remains lay h t n g x e i = grown_remains (edits_of lay h g).edits lay h t n (grown lay h g) x e i
+
+-- the new node of an update that has won stands in the tree
+pub new_stood : (lay : Layout) (h : History) (r : Row) (u : ℕ) → IsTreeRun lay (r ⊳ h) → UpdateWins h r u → WasInTree (r ⊳ h) (new h u)
+new_stood lay h r u g w = was_now (r ⊳ h) (result edits lay h r u f w g.0 g.1.lawful then).tree (new h u) (tree_now edits lay h r u f w g.0 g.1.lawful then) (new_in edits lay h r u f w g.0 g.1.lawful then)
+  where
+    edits : ℕ → MapEdit
+    edits = (edits_of lay (r ⊳ h) g).edits
+
+    f : Facts lay h
+    f = facts_before lay h r g.1.lawful
+
+    then : TreeFacts edits lay h
+    then = tree_facts edits lay h (grown_tail edits lay h r (grown lay (r ⊳ h) g))
+
+-- the levels of a node that was ever in the tree and of its children rise for ever
+pub levels_rise : (lay : Layout) (h : History) (n : ℕ) (side : Side) → IsTreeRun lay h → WasInTree h n → is_leaf (value h) n ≡ false → level (value h) n < level (value h) (value h (child n side))
+levels_rise lay h n side g x fork = grown_rises (edits_of lay h g).edits lay h n side (grown lay h g) x fork
+
+-- what was ever in the tree above all keys is blank
+pub stood_blank : (lay : Layout) (h : History) (n : ℕ) → IsTreeRun lay h → WasInTree h n → IsBlankAboveKeys (value h) n
+stood_blank lay h n g x = grown_blank (edits_of lay h g).edits lay h (grown lay h g) n x
+
+-- so is a node that was passed
+pub passed_blank : (lay : Layout) (h start : History) (k n : ℕ) → IsTreeRun lay h → Passed h start k n → IsBlankAboveKeys (value h) n
+passed_blank lay h start k n g p = stood_blank lay h n g (was_passed h start k n p)
+
+-- the root's head is as at the start: a fork of class 2, whose level is 0
+pub root_head : (lay : Layout) (h : History) → IsTreeRun lay h → value h (node 0 Head) ≡ 2
+root_head lay h g = grown_root (edits_of lay h g).edits lay h (grown lay h g)
+
+-- a node that was passed and is not marked is still on the path
+pub passed_unmarked : (lay : Layout) (h start : History) (k n : ℕ) → IsTreeRun lay h → Passed h start k n → value h (marked n) ≡ 0 → IsOnPath h k n
+passed_unmarked lay h start k n g p e = grown_on_path (edits_of lay h g).edits lay h start k n (grown lay h g) p e
+
+-- a node that was passed is at most as deep as the log is long, and one
+pub passed_level : (lay : Layout) (h start : History) (k n : ℕ) → IsTreeRun lay h → Passed h start k n → level (value h) n ≤ suc (length (log lay h))
+passed_level lay h start k n g p = grown_level (edits_of lay h g).edits lay h (grown lay h g) n (was_passed h start k n p)
+
+-- the log is no longer than the taken nodes are many
+pub log_short : (lay : Layout) (h : History) → IsTreeRun lay h → length (log lay h) ≤ length (taken_nodes h)
+log_short lay h g = grown_log (edits_of lay h g).edits lay h (grown lay h g)
+
+-- so a node that was passed is not as deep as they are many, and two
+pub passed_depth : (lay : Layout) (h start : History) (k n : ℕ) → IsTreeRun lay h → Passed h start k n → level (value h) n < 2 + length (taken_nodes h)
+passed_depth lay h start k n g p = grown_depth (edits_of lay h g).edits lay h start k n (grown lay h g) p
+
+-- and so is one that stood there
+pub stood_depth : (lay : Layout) (h : History) (n : ℕ) → IsTreeRun lay h → WasInTree h n → level (value h) n < 2 + length (taken_nodes h)
+stood_depth lay h n g x =
+    let a : level (value h) n ≤ suc (length (log lay h)) = grown_level (edits_of lay h g).edits lay h (grown lay h g) n x in
+    let b : length (log lay h) ≤ length (taken_nodes h) = log_short lay h g in
+    omega (arith, a, b)
+
+-- the settled words of a node that stood in the tree stay as they were
+pub stood_settled : (lay : Layout) (h m : History) (n : ℕ) → IsTreeRun lay h → Extends h m → WasInTree m n → SameSettled (value m) (value h) n
+stood_settled lay h m n g e x part i = node_since lay h m n part g.1.lawful e i (was_named lay m n g.0 (run_since lay h m g e).1.lawful x)
+
+-- a node that stood in the tree is the root, or a field of the fork above it has held it
+pub stood_in_field : (lay : Layout) (h : History) (n : ℕ) → IsTreeRun lay h → WasInTree h n → IsInField lay h n
+stood_in_field lay h n g x = go (has_above (value x.moment) x.tree _ _ n x.is_tree.shows x.has)
+  where
+    go : (n ≡ root x.tree) ⊎ IsBelowFork (value x.moment) x.tree n → IsInField lay h n
+    go (inl e) = let z : n ≡ 0 = e ∙ x.is_tree.is in inl (subst (λ m. n < opening_nodes m) (sym g.0) (omega (arith, z)))
+    go (inr y) = inr (y.fork, y.side, was_named lay h y.fork g.0 g.1.lawful record { moment = x.moment; within = x.within; tree = x.tree; is_tree = x.is_tree; has = y.has }, held_since h x.moment (child y.fork y.side) n x.within (held_at x.moment (child y.fork y.side) n y.holds))
+
+-- the children of a fork that has stood in the tree and is not final stand in the tree
+child_has : (lay : Layout) (h : History) (t : Tree) (n : ℕ) (side : Side) → IsTreeRun lay h → IsTree (value h) t → WasInTree h n → is_final (log lay h) n ≡ false → is_leaf (value h) n ≡ false → Has t (value h (child n side))
+child_has lay h t n side g i x e fork = (path_level (value h) t _ _ n side i.shows (tree_remains lay h t n g x e i) fork).1
+
+-- what a fork holds in its fields that has stood in the tree and is not final stands in the tree
+pub child_stood : (lay : Layout) (h m : History) (n : ℕ) (side : Side) → IsTreeRun lay h → Extends h m → WasInTree m n → is_final (log lay m) n ≡ false → is_leaf (value m) n ≡ false → WasInTree h (value m (child n side))
+child_stood lay h m n side g e x not_final fork = record { moment = m; within = e; tree = spelled.tree; is_tree = spelled.is_tree; has = child_has lay m spelled.tree n side run spelled.is_tree x not_final fork }
+  where
+    run : IsTreeRun lay m
+    run = run_since lay h m g e
+
+    spelled : Spells lay (value m) (run_spells lay m run).0
+    spelled = (run_spells lay m run).1
+
+-- its two children are apart
+pub children_apart : (lay : Layout) (h : History) (n : ℕ) → IsTreeRun lay h → WasInTree h n → is_final (log lay h) n ≡ false → is_leaf (value h) n ≡ false → value h (child n Left) ≢ value h (child n Right)
+children_apart lay h n g x not_final fork = fields_apart (value h) spelled.tree _ _ n spelled.is_tree.shows (tree_remains lay h spelled.tree n g x not_final spelled.is_tree) fork
+  where
+    spelled : Spells lay (value h) (run_spells lay h g).0
+    spelled = (run_spells lay h g).1
+
+-- what such a fork holds is not final
+pub child_not_final : (lay : Layout) (h : History) (n : ℕ) (side : Side) → IsTreeRun lay h → WasInTree h n → is_final (log lay h) n ≡ false → is_leaf (value h) n ≡ false → is_final (log lay h) (value h (child n side)) ≡ false
+child_not_final lay h n side g x not_final fork = tree_not_final lay h spelled.tree (value h (child n side)) g spelled.is_tree (child_has lay h spelled.tree n side g spelled.is_tree x not_final fork)
+  where
+    spelled : Spells lay (value h) (run_spells lay h g).0
+    spelled = (run_spells lay h g).1

@@ -1,0 +1,29 @@
+use Rattle.ordered_map.proofs.Maps.{inserted, insert_keeps, deleted, delete_keeps, edited_rises, same_values, successor_is, between_gives, between_rises}
+use Rattle.ordered_map.proofs.laws.map_laws_hold.Goals as goal
+
+pub returns-clause-inserted : goal.returns-clause-inserted
+returns-clause-inserted c = inserted
+
+pub returns-clause-insert_keeps : goal.returns-clause-insert_keeps
+returns-clause-insert_keeps c = insert_keeps
+
+pub returns-clause-deleted : goal.returns-clause-deleted
+returns-clause-deleted c = deleted
+
+pub returns-clause-delete_keeps : goal.returns-clause-delete_keeps
+returns-clause-delete_keeps c = delete_keeps
+
+pub returns-clause-rising : goal.returns-clause-rising
+returns-clause-rising c = edited_rises
+
+pub returns-clause-same : goal.returns-clause-same
+returns-clause-same c = same_values
+
+pub returns-clause-successor : goal.returns-clause-successor
+returns-clause-successor c = successor_is
+
+pub returns-clause-between : goal.returns-clause-between
+returns-clause-between c = between_gives
+
+pub returns-clause-between_rises : goal.returns-clause-between_rises
+returns-clause-between_rises c = between_rises

@@ -1,0 +1,158 @@
+-- What a call of the map may do, whoever makes it: how many steps and of which kinds, what it takes
+-- of its pass's share, what it needs, and which form its reply has.
+use Rattle.std.specs.Prelude.{◌≡◌, ◌≢◌, ◌⊎◌, ℕ, ◌+◌, ◌*◌, ◌<◌, List, Option, Some, None}
+use Rattle.arena.specs.declared.step.Kind.{Kind}
+use Rattle.arena.specs.declared.step.Kind.TheVariants.{Fill, LoadChild, LoadSettled}
+use Rattle.ordered_map.specs.declared.pair.Pair.{Pair as PairOf}
+use Rattle.ordered_map.specs.declared.reply.Reply.{Reply}
+use Rattle.ordered_map.specs.declared.reply.Reply.TheVariants as replies
+use Rattle.ordered_map.specs.OrderedMap.{MapCall, MapEdit, Edit, Insert, Delete, Get, Successor, Range, get}
+
+-- the form of a reply: a value, a pair or pairs, or a refusal
+pub data Form : Type 0 where
+  Value : Form
+  Pair : Form
+  Pairs : Form
+  Contended : Form
+  Full : Form
+  NoMemory : Form
+
+-- the form of this reply
+abbrev pub form_of : {K V : Type 0} → Reply K V → Form
+form_of (replies.Value told) = Value
+form_of (replies.Pair found) = Pair
+form_of (replies.Pairs found) = Pairs
+form_of (replies.Contended node scx) = Contended
+form_of (replies.Full full) = Full
+form_of replies.NoMemory = NoMemory
+
+-- what is said of one call of the map, whoever makes it
+pub record CallRules : Type 1 where
+  -- how many steps it makes at most, with so many tries, where so many nodes are taken when it ends
+  pub most_steps : ℕ → ℕ → ℕ
+  -- the kinds of step that it may make
+  pub MayMake : Kind → Type 0
+  -- at most so many SCX-records, with so many tries, and so many nodes for each
+  pub most_scx : ℕ → ℕ
+  pub most_nodes : ℕ
+  -- how many nodes it needs on a map
+  pub need : List PairOf → ℕ
+  -- the forms of reply that it may give
+  pub MayReply : Form → Type 0
+
+-- Edits
+
+-- at most so many steps in a try, besides three for each level of the walk
+abbrev pub steps_behind_walk : MapEdit → ℕ
+steps_behind_walk (Insert key value) = 178
+steps_behind_walk (Delete key) = 301
+
+-- an insert makes two leaves and a fork over them, or a leaf in place of another; a delete makes a
+-- copy of the leaf's sibling
+abbrev pub nodes_in_try : MapEdit → ℕ
+nodes_in_try (Insert key value) = 3
+nodes_in_try (Delete key) = 1
+
+-- how many nodes an insert needs, where the key has this value
+abbrev pub insert_nodes : Option ℕ → ℕ
+insert_nodes None = 3
+insert_nodes (Some value) = 1
+
+-- how many a delete needs
+abbrev pub delete_nodes : Option ℕ → ℕ
+delete_nodes None = 0
+delete_nodes (Some value) = 1
+
+-- how many an edit needs on a map
+abbrev pub edit_needs : MapEdit → List PairOf → ℕ
+edit_needs (Insert key value) map = insert_nodes (get key map)
+edit_needs (Delete key) map = delete_nodes (get key map)
+
+-- it tells what the key had before, or is refused
+abbrev pub IsFormOfEdit : Form → Type 0
+IsFormOfEdit Value = Unit {0}
+IsFormOfEdit Contended = Unit {0}
+IsFormOfEdit Full = Unit {0}
+IsFormOfEdit _ = ⊥
+
+-- Reads
+
+-- a get tells what the key has, and is never refused
+abbrev pub IsFormOfGet : Form → Type 0
+IsFormOfGet Value = Unit {0}
+IsFormOfGet _ = ⊥
+
+-- a successor tells a pair, or none, or is refused
+abbrev pub IsFormOfSuccessor : Form → Type 0
+IsFormOfSuccessor Pair = Unit {0}
+IsFormOfSuccessor Contended = Unit {0}
+IsFormOfSuccessor NoMemory = Unit {0}
+IsFormOfSuccessor _ = ⊥
+
+-- a range takes no pair, whatever the map has: none is asked for, or no key is from `low` to `high`
+abbrev pub TakesNothing : ℕ → ℕ → ℕ → Type 0
+TakesNothing low high most = (most ≡ 0) ⊎ (high < low)
+
+-- it tells pairs, or is refused
+abbrev pub IsFormOfRange : Form → Type 0
+IsFormOfRange Pairs = Unit {0}
+IsFormOfRange Contended = Unit {0}
+IsFormOfRange NoMemory = Unit {0}
+IsFormOfRange _ = ⊥
+
+-- The one match from calls to their rules. A walk makes at most three steps for each level that the
+-- tree may have, two more than nodes are taken; a search with snapshots 67, and a successor makes
+-- two of these behind a walk, a range one for each pair that it may take and for two more.
+abbrev pub call_rules : MapCall → CallRules
+call_rules (Edit e) = record {
+  most_steps = λ tries nodes. tries * (3 * (2 + nodes) + steps_behind_walk e);
+  MayMake = λ kind. Unit {0};
+  most_scx = λ tries. tries;
+  most_nodes = nodes_in_try e;
+  need = edit_needs e;
+  MayReply = IsFormOfEdit;
+}
+call_rules (Get key) = record {
+  most_steps = λ tries nodes. 3 * (2 + nodes);
+  MayMake = λ kind. (kind ≡ LoadSettled) ⊎ (kind ≡ LoadChild);
+  most_scx = λ tries. 0;
+  most_nodes = 0;
+  need = λ map. 0;
+  MayReply = IsFormOfGet;
+}
+call_rules (Successor key) = record {
+  most_steps = λ tries nodes. tries * (137 * (2 + nodes));
+  MayMake = λ kind. kind ≢ Fill;
+  most_scx = λ tries. 0;
+  most_nodes = 0;
+  need = λ map. 0;
+  MayReply = IsFormOfSuccessor;
+}
+call_rules (Range low high most) = record {
+  most_steps = λ tries nodes. tries * ((most + 2) * (67 * (2 + nodes)));
+  MayMake = λ kind. (kind ≢ Fill) × ¬ TakesNothing low high most;
+  most_scx = λ tries. 0;
+  most_nodes = 0;
+  need = λ map. 0;
+  MayReply = IsFormOfRange;
+}
+
+-- how many steps a call makes at most, with so many tries, where so many nodes are taken
+abbrev pub most_steps : MapCall → ℕ → ℕ → ℕ
+most_steps call = (call_rules call).most_steps
+
+-- at most so many nodes for each SCX-record, of which a try takes one at most
+abbrev pub most_nodes : MapCall → ℕ
+most_nodes call = (call_rules call).most_nodes
+
+-- at most so many SCX-records, with so many tries
+abbrev pub most_scx : MapCall → ℕ → ℕ
+most_scx call = (call_rules call).most_scx
+
+-- how many nodes the call needs on this map
+abbrev pub need : MapCall → List PairOf → ℕ
+need call = (call_rules call).need
+
+-- the call may give a reply of this form
+abbrev pub MayReply : MapCall → Form → Type 0
+MayReply call = (call_rules call).MayReply

@@ -1,0 +1,13 @@
+-- What the laws of the map say of the least key above another one, and of the keys between two.
+use Rattle.std.specs.Prelude.{◌≡◌, ℕ, ◌<◌, cond, ◌&&◌, leb, List, Option, Some, None}
+use Rattle.ordered_map.specs.declared.pair.Pair.{Pair}
+use Rattle.ordered_map.specs.OrderedMap.{get}
+
+-- a pair of the map with a key above k, below which no key above k has a value; or none has one
+abbrev pub IsSuccessor : ℕ → List Pair → Option Pair → Type 0
+IsSuccessor k m (Some p) = (k < p.key) × (get p.key m ≡ Some p.value) × ((j : ℕ) → k < j → j < p.key → get j m ≡ None)
+IsSuccessor k m None = (j : ℕ) → k < j → get j m ≡ None
+
+-- this, for a key from `low` to `high`, and nothing for any other
+abbrev pub within : ℕ → ℕ → ℕ → Option ℕ → Option ℕ
+within low high j v = cond (leb low j && leb j high) v None

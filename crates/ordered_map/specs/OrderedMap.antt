@@ -1,0 +1,109 @@
+-- The ordered map from keys to values: what each call replies, and the map that it leaves.
+use Rattle.std.specs.Prelude.{ℕ, ◌<◌, Bool, true, false, cond, ◌&&◌, eqb, leb, ltb, List, [], ◌∷◌, take, Option, Some, None}
+use Rattle.ordered_map.specs.declared.pair.Pair.{Pair}
+
+-- A map is the list of its pairs by rising key; the empty list is the empty map.
+
+-- the pair of this key and this value
+abbrev pub pair : ℕ → ℕ → Pair
+pair k v = record { key = k; value = v }
+
+-- all keys are above k
+abbrev pub AllAbove : ℕ → List Pair → Type 0
+AllAbove k [] = Unit {0}
+AllAbove k (p ∷ ps) = (k < p.key) × AllAbove k ps
+
+-- the keys rise
+abbrev pub IsRising : List Pair → Type 0
+IsRising [] = Unit {0}
+IsRising (p ∷ ps) = AllAbove p.key ps × IsRising ps
+
+-- the value of k, if it has one
+abbrev pub get : ℕ → List Pair → Option ℕ
+get k [] = None
+get k (p ∷ ps) = cond (eqb k p.key) (Some p.value) (get k ps)
+
+-- the map with k at v
+abbrev pub insert : ℕ → ℕ → List Pair → List Pair
+insert k v [] = pair k v ∷ []
+insert k v (p ∷ ps) = cond (ltb k p.key) (pair k v ∷ p ∷ ps) (cond (eqb k p.key) (pair k v ∷ ps) (p ∷ insert k v ps))
+
+-- the map without k
+abbrev pub delete : ℕ → List Pair → List Pair
+delete k [] = []
+delete k (p ∷ ps) = cond (eqb k p.key) ps (p ∷ delete k ps)
+
+-- the pair with the least key, if there is one
+abbrev pub first_pair : List Pair → Option Pair
+first_pair [] = None
+first_pair (p ∷ ps) = Some p
+
+-- the pair with the least key above k, if there is one
+abbrev pub successor : ℕ → List Pair → Option Pair
+successor k [] = None
+successor k (p ∷ ps) = cond (ltb k p.key) (Some p) (successor k ps)
+
+-- the pairs with keys from `low` to `high`, both with them
+abbrev pub between : ℕ → ℕ → List Pair → List Pair
+between low high [] = []
+between low high (p ∷ ps) = cond (leb low p.key && leb p.key high) (p ∷ between low high ps) (between low high ps)
+
+-- the first of these by key, at most so many
+abbrev pub range : ℕ → ℕ → ℕ → List Pair → List Pair
+range low high most m = take most (between low high m)
+
+-- Calls
+
+-- the calls that may change a map
+pub data MapEdit : Type 0 where
+  Insert : ℕ → ℕ → MapEdit
+  Delete : ℕ → MapEdit
+
+-- the key of which an edit speaks
+abbrev pub edit_key : MapEdit → ℕ
+edit_key (Insert k v) = k
+edit_key (Delete k) = k
+
+-- the map that an edit leaves
+abbrev pub edited : MapEdit → List Pair → List Pair
+edited (Insert k v) m = insert k v m
+edited (Delete k) m = delete k m
+
+-- all calls of a map; the last: from this key, to this key, at most so many pairs
+pub data MapCall : Type 0 where
+  Edit : MapEdit → MapCall
+  Get : ℕ → MapCall
+  Successor : ℕ → MapCall
+  Range : ℕ → ℕ → ℕ → MapCall
+
+-- what a call may reply: a value, or none; a pair; some pairs
+pub data MapReply : Type 0 where
+  OneValue : Option ℕ → MapReply
+  OnePair : Pair → MapReply
+  ManyPairs : List Pair → MapReply
+
+-- the pair if there is one, and else none, which is the same reply for all calls
+abbrev pub pair_or_none : Option Pair → MapReply
+pair_or_none (Some p) = OnePair p
+pair_or_none None = OneValue None
+
+-- what the call replies on the map m: an edit tells the value that its key has in m, if it has one
+abbrev pub reply : MapCall → List Pair → MapReply
+reply (Edit e) m = OneValue (get (edit_key e) m)
+reply (Get k) m = OneValue (get k m)
+reply (Successor k) m = pair_or_none (successor k m)
+reply (Range low high most) m = ManyPairs (range low high most m)
+
+-- the map that the call leaves
+abbrev pub after : MapCall → List Pair → List Pair
+after (Edit e) m = edited e m
+after (Get k) m = m
+after (Successor k) m = m
+after (Range low high most) m = m
+
+-- whether a call with this reply has changed the map: an insert always has, a delete where it tells
+-- a value; all other calls with a reply are readings
+abbrev pub changes_map : MapCall → MapReply → Bool
+changes_map (Edit (Insert k v)) told = true
+changes_map (Edit (Delete k)) (OneValue (Some v)) = true
+changes_map _ _ = false

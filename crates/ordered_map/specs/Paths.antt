@@ -1,0 +1,51 @@
+-- Which nodes a search for a key passes, and which stand in the tree, now or at a moment before;
+-- and what a search may answer.
+use Rattle.std.specs.Prelude.{◌≡◌, ℕ, List, Option}
+use Rattle.arena.specs.declared.layout.Layout.{Layout}
+use Rattle.arena.specs.History.{History, value, Extends}
+use Rattle.ordered_map.specs.declared.pair.Pair.{Pair}
+use Rattle.ordered_map.specs.OrderedMap.{get, first_pair}
+use Rattle.ordered_map.specs.TreeWords.{Tree, Has, Passes}
+use Rattle.ordered_map.specs.Spelled.{IsTree, Spells}
+
+-- after the history n stands in the tree, on the search path of k
+pub record IsOnPath (h : History) (k n : ℕ) : Type 0 where
+  pub tree : Tree
+  pub is_tree : IsTree (value h) tree
+  pub passes : Passes (value h) k tree n
+
+-- n was on the search path of k, in the tree, at a moment of the history
+abbrev pub WasOnPath : History → ℕ → ℕ → Type 0
+WasOnPath h k n = (m : History) × Extends h m × IsOnPath m k n
+
+-- n was on the search path of k, in the tree, at a moment that is not before `start`
+abbrev pub Passed : History → History → ℕ → ℕ → Type 0
+Passed h start k n = (m : History) × Extends h m × Extends m start × IsOnPath m k n
+
+-- n stood in the tree at a moment of the history
+pub record WasInTree (h : History) (n : ℕ) : Type 0 where
+  pub moment : History
+  pub within : Extends h moment
+  pub tree : Tree
+  pub is_tree : IsTree (value moment) tree
+  pub has : Has tree n
+
+-- at a moment of the history that is not before `start` the words spell a map that gives this value
+-- of k
+pub record IsAnswerAt (lay : Layout) (h start : History) (k : ℕ) (answer : Option ℕ) : Type 0 where
+  pub moment : History
+  pub within : Extends h moment
+  pub since : Extends moment start
+  pub map : List Pair
+  pub spelled : Spells lay (value moment) map
+  pub gives : get k map ≡ answer
+
+-- at a moment of the history that is not before `start` the words spell a map whose first pair this
+-- is; if there is none, the map is empty
+pub record IsFirstAt (lay : Layout) (h start : History) (answer : Option Pair) : Type 0 where
+  pub moment : History
+  pub within : Extends h moment
+  pub since : Extends moment start
+  pub map : List Pair
+  pub spelled : Spells lay (value moment) map
+  pub is : first_pair map ≡ answer

@@ -1,0 +1,39 @@
+-- Histories of the tree, the edits that their SCX-records make, and the map of their log.
+use Rattle.std.specs.Prelude.{◌≡◌, ℕ, List, [], ◌∷◌}
+use Rattle.arena.specs.declared.layout.Layout.{Layout}
+use Rattle.arena.specs.declared.limits.Mode.TheVariants.{Tree as TreeMode}
+use Rattle.arena.specs.declared.step.Row.{Row}
+use Rattle.arena.specs.History.{History, ◌⊳◌, value, Extends}
+use Rattle.arena.specs.Log.{Entry}
+use Rattle.arena.specs.Machines.{IsRun}
+use Rattle.arena.specs.Shape.{IsBegin}
+use Rattle.ordered_map.specs.declared.pair.Pair.{Pair}
+use Rattle.ordered_map.specs.OrderedMap.{MapEdit, edit_key, edited, get}
+use Rattle.ordered_map.specs.TreeWords.{said}
+use Rattle.ordered_map.specs.Spelled.{Spells}
+use Rattle.ordered_map.specs.TreeShape.{MayEdit, TreeAllows, edit_leaf}
+
+-- a lawful history in tree mode, in which only edits of the tree begin
+abbrev pub IsTreeRun : Layout → History → Type 0
+IsTreeRun lay h = (lay.mode ≡ TreeMode) × IsRun TreeAllows lay h
+
+-- s has begun, with this edit
+pub record Makes (lay : Layout) (h : History) (s : ℕ) (e : MapEdit) : Type 0 where
+  pub row : Row
+  pub before : History
+  pub within : Extends h (row ⊳ before)
+  pub begins : IsBegin before row s
+  pub edit : MayEdit lay before s e
+
+-- the map that these entries make of the empty map, the newest coming first, where `edits` says
+-- which edit each SCX-record makes
+abbrev pub map_of_log : (ℕ → MapEdit) → List Entry → List Pair
+map_of_log edits [] = []
+map_of_log edits (e ∷ es) = edited (edits e.scx) (map_of_log edits es)
+
+-- The row makes the edit of s: it leaves the map that the edit leaves, and just before it the leaf
+-- of the edit's key says what the map does.
+pub record IsEditAt (lay : Layout) (h : History) (r : Row) (s : ℕ) (e : MapEdit) : Type 0 where
+  pub makes : Makes lay h s e
+  pub changes : (m : List Pair) → Spells lay (value h) m → Spells lay (value (r ⊳ h)) (edited e m)
+  pub replies : (m : List Pair) → Spells lay (value h) m → get (edit_key e) m ≡ said (value h) (edit_key e) (edit_leaf h s e)

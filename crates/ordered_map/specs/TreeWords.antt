@@ -1,0 +1,101 @@
+-- What the settled words of a node say, and the tree of nodes that words show.
+use Rattle.std.specs.Prelude.{◌≡◌, ◌≢◌, ℕ, ◌+◌, ◌*◌, ◌/◌, ◌%◌, ◌^◌, ◌<◌, ◌≤◌, Bool, true, false, cond, eqb, ltb, ◌⊎◌, List, [], ◌∷◌, ◌++◌, Option, Some, None}
+use Rattle.arena.specs.declared.word.Side.{Side}
+use Rattle.arena.specs.declared.word.Side.TheVariants.{Left, Right}
+use Rattle.arena.specs.declared.word.NodeWord.TheVariants.{Head, Key, Value}
+use Rattle.arena.specs.declared.word.Word.{Word}
+use Rattle.arena.specs.Words.{node, child}
+use Rattle.ordered_map.specs.declared.pair.Pair.{Pair}
+use Rattle.ordered_map.specs.OrderedMap.{pair, get}
+
+-- The settled words of a node; `f` says what each word holds
+
+-- keys of class 0 are those of the map; above all of them stand those of class 1, then of class 2
+abbrev pub class : (Word → ℕ) → ℕ → ℕ
+class f n = f (node n Head) % 4
+
+-- whether it is a leaf; otherwise it is a fork
+abbrev pub is_leaf : (Word → ℕ) → ℕ → Bool
+is_leaf f n = eqb (f (node n Head) / 4 % 2) 1
+
+-- what rises from each fork to its children
+abbrev pub level : (Word → ℕ) → ℕ → ℕ
+level f n = f (node n Head) / 8
+
+-- class and key as one number: the class is compared first, since keys are below 2 ^ 64
+abbrev pub rank : (Word → ℕ) → ℕ → ℕ
+rank f n = class f n * 2 ^ 64 + f (node n Key)
+
+-- a node that is above all keys is blank: its key is 0, and if it is a leaf its value too
+pub record IsBlankAboveKeys (f : Word → ℕ) (n : ℕ) : Type 0 where
+  pub key : class f n ≢ 0 → f (node n Key) ≡ 0
+  pub value : class f n ≢ 0 → is_leaf f n ≡ true → f (node n Value) ≡ 0
+
+-- on which side of the fork n the key k stands
+abbrev pub toward : (Word → ℕ) → ℕ → ℕ → Side
+toward f n k = cond (ltb k (rank f n)) Left Right
+
+-- what the leaf n holds: its pairs, by rising key
+abbrev pub leaf_pairs : (Word → ℕ) → ℕ → List Pair
+leaf_pairs f n = cond (eqb (class f n) 0) (pair (f (node n Key)) (f (node n Value)) ∷ []) []
+
+-- what the leaf n says of the key k
+abbrev pub said : (Word → ℕ) → ℕ → ℕ → Option ℕ
+said f k n = get k (leaf_pairs f n)
+
+-- what the leaf n says of the least key, where it is the first leaf
+abbrev pub first_said : (Word → ℕ) → ℕ → Option Pair
+first_said f n = cond (eqb (class f n) 0) (Some (pair (f (node n Key)) (f (node n Value)))) None
+
+-- A tree of nodes, by their numbers
+
+-- a leaf, or a fork over two trees
+pub data Tree : Type 0 where
+  Leaf : ℕ → Tree
+  Fork : ℕ → Tree → Tree → Tree
+
+-- the node on its top
+abbrev pub root : Tree → ℕ
+root (Leaf n) = n
+root (Fork n a b) = n
+
+-- the fork n is over the trees a and b: its fields name their roots, whose levels are above its own
+pub record IsForkOver (f : Word → ℕ) (n : ℕ) (a b : Tree) : Type 0 where
+  pub fork : is_leaf f n ≡ false
+  pub left : f (child n Left) ≡ root a
+  pub right : f (child n Right) ≡ root b
+  pub low : level f n < level f (root a)
+  pub high : level f n < level f (root b)
+
+-- node n is a leaf with a rank from `low` to below `high`
+pub record IsLeaf (f : Word → ℕ) (n low high : ℕ) : Type 0 where
+  pub leaf : is_leaf f n ≡ true
+  pub small : f (node n Key) < 2 ^ 64
+  pub from : low ≤ rank f n
+  pub below : rank f n < high
+
+-- the words show the tree, and all its leaves have ranks from `low` to below `high`:
+-- below a fork all on the left is below it, and all on the right is at it or above
+abbrev pub Shows : (Word → ℕ) → ℕ → ℕ → Tree → Type 0
+Shows f low high (Leaf n) = IsLeaf f n low high
+Shows f low high (Fork n a b) = IsForkOver f n a b × Shows f low (rank f n) a × Shows f (rank f n) high b
+
+-- the pairs of its leaves, from left to right
+abbrev pub pairs : (Word → ℕ) → Tree → List Pair
+pairs f (Leaf n) = leaf_pairs f n
+pairs f (Fork n a b) = pairs f a ++ pairs f b
+
+-- the leaves from left to right
+abbrev pub leaf_nodes : Tree → List ℕ
+leaf_nodes (Leaf n) = n ∷ []
+leaf_nodes (Fork n a b) = leaf_nodes a ++ leaf_nodes b
+
+-- the node m is in the tree
+abbrev pub Has : Tree → ℕ → Type 0
+Has (Leaf n) m = n ≡ m
+Has (Fork n a b) m = (n ≡ m) ⊎ (Has a m ⊎ Has b m)
+
+-- the search for k from the root of the tree passes the node m
+abbrev pub Passes : (Word → ℕ) → ℕ → Tree → ℕ → Type 0
+Passes f k (Leaf n) m = n ≡ m
+Passes f k (Fork n a b) m = (n ≡ m) ⊎ (((k < rank f n) × Passes f k a m) ⊎ ((rank f n ≤ k) × Passes f k b m))

@@ -1,0 +1,53 @@
+//! The laws of the tree and of the map.
+ghost use Rattle.std.specs.Prelude.{◌≡◌, ◌≢◌, ℕ, ◌+◌, ◌^◌, ◌<◌, true, false, length, List, Some, None};
+ghost use Rattle.arena.specs.declared.layout.Layout.{Layout};
+ghost use Rattle.arena.specs.declared.step.Row.{Row};
+ghost use Rattle.arena.specs.declared.word.Word.{Word};
+ghost use Rattle.arena.specs.History.{History, ◌⊳◌, value, Extends};
+ghost use Rattle.arena.specs.Lawful.{IsWin};
+ghost use Rattle.arena.specs.Log.{log, is_final};
+ghost use Rattle.arena.specs.TakenNodes.{taken_nodes};
+ghost use Rattle.ordered_map.specs.declared.pair.Pair.{Pair};
+ghost use Rattle.ordered_map.specs.OrderedMap.{MapEdit, IsRising, get, insert, delete, edited, successor, between};
+ghost use Rattle.ordered_map.specs.TreeWords.{Tree, Has, is_leaf, level, said, IsBlankAboveKeys};
+ghost use Rattle.ordered_map.specs.Spelled.{IsTree, Spells};
+ghost use Rattle.ordered_map.specs.Paths.{Passed, WasInTree, IsAnswerAt};
+ghost use Rattle.ordered_map.specs.Runs.{IsTreeRun, Makes, IsEditAt};
+ghost use Rattle.ordered_map.specs.Laws.{AreEdits, SpellsLog};
+ghost use Rattle.ordered_map.specs.MapLaws.{IsSuccessor, within};
+
+/// What every history of the tree keeps in which only edits of the map begin. Each SCX-record that has
+/// begun makes one edit; after each row the words spell one map, that of the log so far; an update
+/// leaves the map that its edit leaves, and its leaf tells the old value; a walk's leaf tells what the
+/// map gave at a moment of the walk, and is at most one level deeper than the taken nodes are many; of
+/// the nodes that ever stood in the tree just those that are not final still stand there; one that is
+/// above all keys has the key 0, and a leaf the value 0. It does nothing; a caller learns the laws
+/// from its contract.
+pub fn laws_hold()
+    ensures edits { (lay : Layout) (h : History) → IsTreeRun lay h → (edits : ℕ → MapEdit) × AreEdits edits lay h }
+    ensures one_edit { (lay : Layout) (h : History) (s : ℕ) (a b : MapEdit) → IsTreeRun lay h → Makes lay h s a → Makes lay h s b → a ≡ b }
+    ensures spelled { (lay : Layout) (h : History) (edits : ℕ → MapEdit) → IsTreeRun lay h → AreEdits edits lay h → SpellsLog edits lay h }
+    ensures one_map { (lay : Layout) (f : Word → ℕ) (m n : List Pair) → Spells lay f m → Spells lay f n → m ≡ n }
+    ensures updates { (lay : Layout) (h before : History) (row : Row) (s : ℕ) (e : MapEdit) → IsTreeRun lay h → Extends h (row ⊳ before) → IsWin before row s → Makes lay h s e → IsEditAt lay before row s e }
+    ensures walks { (lay : Layout) (h start : History) (k n : ℕ) → k < 2 ^ 64 → IsTreeRun lay h → Passed h start k n → is_leaf (value h) n ≡ true → IsAnswerAt lay h start k (said (value h) k n) }
+    ensures depth { (lay : Layout) (h start : History) (k n : ℕ) → IsTreeRun lay h → Passed h start k n → level (value h) n < 2 + length (taken_nodes h) }
+    ensures not_final { (lay : Layout) (h : History) (t : Tree) (n : ℕ) → IsTreeRun lay h → IsTree (value h) t → Has t n → is_final (log lay h) n ≡ false }
+    ensures remains { (lay : Layout) (h : History) (t : Tree) (n : ℕ) → IsTreeRun lay h → WasInTree h n → is_final (log lay h) n ≡ false → IsTree (value h) t → Has t n }
+    ensures blank { (lay : Layout) (h : History) (n : ℕ) → IsTreeRun lay h → WasInTree h n → IsBlankAboveKeys (value h) n }
+{}
+
+/// What the calls of a map do, told by its values: an edit changes the value of its key alone and
+/// keeps the keys rising; maps of the same values are the same list; the successor is the pair with
+/// the least key above; between two keys are the pairs of just those keys. It does nothing; a caller
+/// learns the laws from its contract.
+pub fn map_laws_hold()
+    ensures inserted { (k v : ℕ) (m : List Pair) → get k (insert k v m) ≡ Some v }
+    ensures insert_keeps { (j k v : ℕ) (m : List Pair) → j ≢ k → get j (insert k v m) ≡ get j m }
+    ensures deleted { (k : ℕ) (m : List Pair) → IsRising m → get k (delete k m) ≡ None }
+    ensures delete_keeps { (j k : ℕ) (m : List Pair) → j ≢ k → get j (delete k m) ≡ get j m }
+    ensures rising { (e : MapEdit) (m : List Pair) → IsRising m → IsRising (edited e m) }
+    ensures same { (m n : List Pair) → IsRising m → IsRising n → ((k : ℕ) → get k m ≡ get k n) → m ≡ n }
+    ensures successor { (k : ℕ) (m : List Pair) → IsRising m → IsSuccessor k m (successor k m) }
+    ensures between { (low high j : ℕ) (m : List Pair) → get j (between low high m) ≡ within low high j (get j m) }
+    ensures between_rises { (low high : ℕ) (m : List Pair) → IsRising m → IsRising (between low high m) }
+{}

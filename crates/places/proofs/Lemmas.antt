@@ -1,6 +1,0 @@
--- The lemmas of this crate that the layers above may cite.
-pub use Rattle.places.proofs.Turns.{IsAnsweredIn, map_now, answer_turn, had_turn, IsRepliedIn, replied_turn}
-pub use Rattle.places.proofs.Readings.{IsFoundFor, get_turn, get_placed, absent_turn, absent_placed, ordered_placed, nothing_taken}
-pub use Rattle.places.proofs.Falls.{falls}
-pub use Rattle.places.proofs.Spelled.{spelled, are_spelled}
-pub use Rattle.places.proofs.OrderedReads.{successor_first, between_all}

@@ -1,8 +1,0 @@
-use Rattle.spelling.proofs.Reading.{IsReading, parts_size}
-use Rattle.spelling.proofs.reader.leaves.Given as goal
-
-abbrev pub invariant-loop-part : goal.invariant-loop-part
-invariant-loop-part l = IsReading l.words l.parts.items l.leaves.items
-
-abbrev pub decreases-loop-part : goal.decreases-loop-part
-decreases-loop-part l = parts_size l.parts.items

@@ -1,0 +1,26 @@
+-- What every run under the shape of the tree keeps: the words are a tree.
+use Rattle.std.proofs.Common.{◌≡◌, List, refl}
+use Rattle.arena.specs.declared.limits.Mode.TheVariants.{Tree as TreeMode}
+use Rattle.arena.specs.declared.layout.Layout.{Layout}
+use Rattle.arena.specs.declared.step.Row.{Row}
+use Rattle.arena.specs.History.{History, Start, ◌⊳◌, value}
+use Rattle.arena.specs.Lawful.{Lawful}
+use Rattle.arena.specs.Shape.{Shaped}
+use Rattle.arena.specs.Machines.{IsRun}
+use Rattle.ordered_map.specs.declared.pair.Pair.{Pair}
+use Rattle.ordered_map.proofs.Lemmas.{run_spells}
+use Rattle.ordered_map.specs.Spelled.{Spells}
+use Rattle.ordered_map.specs.TreeShape.{TreeAllows}
+
+-- in tree mode the words spell a map
+abbrev pub IsTreeThere : Layout → History → Type 0
+IsTreeThere lay h = lay.mode ≡ TreeMode → (m : List Pair) × Spells lay (value h) m
+
+-- they do so at the start
+pub tree_opens : (lay : Layout) → IsTreeThere lay (Start lay.mode)
+unfolding Lawful Shaped
+tree_opens lay mode = run_spells lay (Start lay.mode) (mode, record { lawful = refl; shaped = tt })
+
+-- and after every row of a run in which only edits of the tree begin
+pub tree_stays : (lay : Layout) (h : History) (r : Row) → IsRun TreeAllows lay (r ⊳ h) → IsTreeThere lay h → IsTreeThere lay (r ⊳ h)
+tree_stays lay h r run there mode = run_spells lay (r ⊳ h) (mode, run)

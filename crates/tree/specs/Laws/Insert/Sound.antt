@@ -1,0 +1,325 @@
+-- What an insert looks at, loads and fills, and that it makes the edit.
+use Rattle.std.proofs.Common.{◌≡◌, ◌≢◌, ℕ, ◌+◌, ◌-◌, ◌%◌, ◌^◌, ◌<◌, ◌⊎◌, inl, inr, Bool, true, false, eqb, eqb-true, eq-eqb, cond, List, [], ◌∷◌, length, Option, Some, None, refl, sym, ◌∙◌, ap, subst, arith}
+use Rattle.std.specs.Prelude.{min, unwrap_or}
+use native.Mathlib.Decide.{ℕ_discrete}
+use Rattle.arena.specs.declared.number.NodeNo.{NodeNo}
+use Rattle.arena.specs.declared.number.ScxNo.{ScxNo}
+use Rattle.arena.specs.declared.word.NodeWord.{NodeWord}
+use Rattle.arena.specs.declared.word.NodeWord.TheVariants.{Head, Key, Value, Child}
+use Rattle.arena.specs.declared.word.Side.{Side}
+use Rattle.arena.specs.declared.word.Side.TheVariants.{Left, Right}
+use Rattle.arena.specs.Heads.{head_word}
+use Rattle.arena.specs.History.{History, value}
+use Rattle.arena.specs.Lawful.{IsSettled}
+use Rattle.arena.specs.Machines.{Call}
+use Rattle.arena.specs.Words.{node}
+use Rattle.histories.specs.Descriptor.{Descriptor}
+use Rattle.prims.specs.Laws.Idle.{IsQuietSince}
+use Rattle.prims.specs.Llx.Known.{IsOpened}
+use Rattle.prims.specs.Scx.Known.{Job, Says}
+use Rattle.prims.specs.Snap.{child_of, snap_at}
+use Rattle.prims.specs.Snaps.{AreDistinct}
+use Rattle.prims.specs.declared.snap.Snap.{Snap}
+use Rattle.ordered_map.specs.OrderedMap.{Insert as PutEdit}
+use Rattle.ordered_map.specs.Runs.{IsTreeRun}
+use Rattle.ordered_map.specs.TreeShape.{insert_plan, edit_leaf}
+use Rattle.ordered_map.specs.TreeWords.{is_leaf}
+use Rattle.ordered_map.proofs.Lemmas.{run_since}
+use Rattle.template.specs.FoundLeaf.{HasFoundLeaf}
+use Rattle.template.specs.FreshNodes.{IsLeafWith, IsForkWith, IsInsertAt, HasFreshLeaf, HasFreshFork}
+use Rattle.template.specs.Promises.{IsPromised}
+use Rattle.template.specs.Trails.{HasTurned}
+use Rattle.template.specs.declared.walk.Found.{Found}
+use Rattle.template.specs.declared.walk.Goal.TheVariants.{Key as ToKey}
+use Rattle.template.proofs.Lemmas.{found_below, found_class, found_level, found_no_value, insert_words, swap_promised, split_promised}
+use Rattle.tree.specs.declared.insert.Insert.{Insert}
+use Rattle.tree.specs.Insert.Laws.{insert_bounds}
+use Rattle.tree.specs.Laws.Looks.{same_node, goes_on, not_enough, is_other}
+use Rattle.tree.specs.Insert.Means.{insert_means, insert_need, insert_looks, insert_wants, insert_pieces, value_if_none, leaf_level, is_below, lower}
+use Rattle.edits.specs.declared.edit.Loaded.{Loaded}
+use Rattle.edits.specs.declared.edit.Look.TheVariants.{At, Differs, Enough}
+use Rattle.edits.specs.declared.edit.Nodes.{Nodes}
+use Rattle.edits.specs.declared.edit.Nth.{Nth}
+use Rattle.edits.specs.declared.edit.Nth.TheVariants.{First, Second, Third}
+use Rattle.edits.specs.declared.edit.Piece.TheVariants.{Leaf, Fork}
+use Rattle.template.specs.Blame.{IsContended, WasNotFinal}
+use Rattle.edits.specs.Known.{ComesBefore, IsNeeded, IsLoaded, HasSnappedAfterWalk, AreSeen, HasLooked, HasFilledAll, HoldsPiece, IsUpdateFor}
+use Rattle.edits.specs.Laws.Contended.{passed_not_final, turned_contended}
+use Rattle.edits.specs.Laws.Hand.{IsPieceWord, HoldsWords}
+use Rattle.edits.specs.Laws.Opened.{found_named, found_opened, above_opened}
+use Rattle.edits.specs.Pieces.{nth_node, with_word, word_of, plan_over, piece_head, top_of}
+use Rattle.edits.specs.Tries.{CoversSnaps}
+use Rattle.edits.specs.Sound.{LooksWell, LoadsWell, FillsWell, MakesWell, EditLaws}
+
+-- What it loads
+
+wants_value : (f : Found) (ld : Loaded) (nth : Nth) (part : NodeWord) → insert_wants f ld nth ≡ Some part → (Value ≡ part) × (nth ≡ Second)
+wants_value f ld First part e = absurd (let d : None ≡ Some part = e in cc)
+wants_value f ld Third part e = absurd (let d : None ≡ Some part = e in cc)
+wants_value f ld Second part e = (go (eqb f.head.class 0) ld.value e, refl)
+  where
+    go : (b : Bool) (old : Option ℕ) → cond b (value_if_none old) None ≡ Some part → Value ≡ part
+    go false old d = absurd (let z : None ≡ Some part = d in cc)
+    go true (Some v) d = absurd (let z : None ≡ Some part = d in cc)
+    go true None d = let z : Some Value ≡ Some part = d in ap (λ (o : Option NodeWord). unwrap_or o Value) z
+
+-- only the second node's piece has what was loaded
+steady_wants : (f : Found) (ld : Loaded) (nth : Nth) (part : NodeWord) → insert_wants f ld nth ≡ Some part → (v : ℕ) (i : Nth) → ComesBefore i nth → insert_wants f (with_word ld part v) i ≡ insert_wants f ld i
+steady_wants f ld First part e v i b = absurd (let d : None ≡ Some part = e in cc)
+steady_wants f ld Third part e v i b = absurd (let d : None ≡ Some part = e in cc)
+steady_wants f ld Second part e v First b = refl
+steady_wants f ld Second part e v Second b = absurd b
+steady_wants f ld Second part e v Third b = absurd b
+
+steady_pieces : (k w : ℕ) (f : Found) (ld : Loaded) (nth : Nth) (part : NodeWord) → insert_wants f ld nth ≡ Some part → (v : ℕ) (i : Nth) → ComesBefore i nth → (ns : Nodes) → insert_pieces k w f ns (with_word ld part v) i ≡ insert_pieces k w f ns ld i
+steady_pieces k w f ld First part e v i b ns = absurd (let d : None ≡ Some part = e in cc)
+steady_pieces k w f ld Third part e v i b ns = absurd (let d : None ≡ Some part = e in cc)
+steady_pieces k w f ld Second part e v First b ns = refl
+steady_pieces k w f ld Second part e v Second b ns = absurd b
+steady_pieces k w f ld Second part e v Third b ns = absurd b
+
+-- it loads settled words, and what it loads is for the node at hand
+pub insert_loads : LoadsWell insert_means
+insert_loads = record {
+  settled = λ e f snaps ld nth part d n. subst (λ q. IsSettled (node n q)) (wants_value f ld nth part d).0 tt;
+  steady_wants = λ e f snaps ld nth part d v i b. steady_wants f ld nth part d v i b;
+  steady_pieces = λ e f snaps ld nth part d v i b ns. steady_pieces e.key e.value f ld nth part d v i b ns;
+}
+
+-- What it looks at
+
+-- it looks at the leaf's parent or at the leaf
+looks_at : (f : Found) (snaps : List Snap) (n : NodeNo) → insert_looks f snaps ≡ At n → (f.trail.parent ≡ n) ⊎ (f.trail.node ≡ n)
+looks_at f [] n e = inl (same_node f.trail.parent n e)
+looks_at f (p ∷ []) n e = inr (goes_on (eqb (child_of p f.trail.side).0 f.trail.node.0) f.trail.node p n e).1
+looks_at f (p ∷ l ∷ snaps) n e = absurd (let d : Enough ≡ At n = e in cc)
+
+insert_opens : (ed : Insert) (c : Call) (h : History) (f : Found) (snaps : List Snap) (n : NodeNo) → IsTreeRun c.layout h → HasLooked insert_means c h ed f snaps → insert_looks f snaps ≡ At n → IsOpened c.layout h n.0
+insert_opens ed c h f snaps n run x e = go (looks_at f snaps n e)
+  where
+    go : (f.trail.parent ≡ n) ⊎ (f.trail.node ≡ n) → IsOpened c.layout h n.0
+    go (inl q) = subst (λ (k : NodeNo). IsOpened c.layout h k.0) q (above_opened c h ed.key run f x.found)
+    go (inr q) = subst (λ (k : NodeNo). IsOpened c.layout h k.0) q (found_opened c h ed.key run f x.found)
+
+-- the call has passed both
+insert_stood : (ed : Insert) (c : Call) (h : History) (f : Found) (snaps : List Snap) (n : NodeNo) → IsTreeRun c.layout h → HasLooked insert_means c h ed f snaps → insert_looks f snaps ≡ At n → WasNotFinal c h n.0
+insert_stood ed c h f snaps n run x e = go (looks_at f snaps n e)
+  where
+    go : (f.trail.parent ≡ n) ⊎ (f.trail.node ≡ n) → WasNotFinal c h n.0
+    go (inl q) = subst (λ (k : NodeNo). WasNotFinal c h k.0) q (passed_not_final c h ed.key f.trail.parent.0 run (x.found.trail.parent (found_below ed.key c h f run x.found)).passed)
+    go (inr q) = subst (λ (k : NodeNo). WasNotFinal c h k.0) q (passed_not_final c h ed.key f.trail.node.0 run x.found.trail.node)
+
+-- the walk has found the leaf there, and the snapshot came later
+insert_differs : (ed : Insert) (c : Call) (h : History) (f : Found) (snaps : List Snap) (n : NodeNo) (s : ScxNo) → IsTreeRun c.layout h → HasLooked insert_means c h ed f snaps → insert_looks f snaps ≡ Differs n s → IsQuietSince c.layout c.pass c.start h → IsContended c h n.0 s.0
+insert_differs ed c h f [] n s run x e quiet = absurd (let d : At f.trail.parent ≡ Differs n s = e in cc)
+insert_differs ed c h f (p ∷ l ∷ snaps) n s run x e quiet = absurd (let d : Enough ≡ Differs n s = e in cc)
+insert_differs ed c h f (p ∷ []) n s run x e quiet = rw (sym other.1, sym other.2) (turned_contended c h ed.key f p f.trail.side f.trail.node.0 run quiet snapped turned apart)
+  where
+    other : (eqb (child_of p f.trail.side).0 f.trail.node.0 ≡ false) × (p.node ≡ n) × (p.scx ≡ s)
+    other = is_other (eqb (child_of p f.trail.side).0 f.trail.node.0) f.trail.node p n s e
+
+    parent : f.trail.parent ≡ p.node
+    parent = same_node f.trail.parent p.node (x.seen 0 (omega arith))
+
+    snapped : HasSnappedAfterWalk c h (ToKey ed.key) f p
+    snapped = x.usable 0 (omega arith)
+
+    turned : HasTurned c snapped.moment ed.key p.node.0 f.trail.side f.trail.node.0
+    turned = subst (λ (k : NodeNo). HasTurned c snapped.moment ed.key k.0 f.trail.side f.trail.node.0) parent
+        (snapped.found.trail.parent (found_below ed.key c snapped.moment f (run_since c.layout h snapped.moment run snapped.within) snapped.found))
+
+    apart : (child_of p f.trail.side).0 ≢ f.trail.node.0
+    apart q = let d : false ≡ true = sym other.0 ∙ eq-eqb (child_of p f.trail.side).0 f.trail.node.0 q in cc
+
+-- an LLX may look at both nodes, which were not final, the leaf may be copied, and where the parent
+-- has another child its last SCX-record was in the way
+pub insert_look : LooksWell insert_means
+insert_look = record {
+  opens = λ e c h f snaps n run d x at. insert_opens e c h f snaps n run x at;
+  stood = λ e c h f snaps n run d x at. insert_stood e c h f snaps n run x at;
+  differs = λ e c h f snaps n s run d x at quiet. insert_differs e c h f snaps n s run x at quiet;
+  copied = λ e c h f snaps run d x enough. (found_named c h e.key run f x.found, (found_below e.key c h f run x.found, (found_opened c h e.key run f x.found).inside));
+}
+
+-- once it has looked at enough, it has a snapshot of the parent and one of the leaf, which is still
+-- the parent's child
+record HasBoth (f : Found) (snaps : List Snap) : Type 0 where
+  two : length snaps ≡ 2
+  parent : (snap_at snaps 0).node.0 ≡ f.trail.parent.0
+  leaf : (snap_at snaps 1).node.0 ≡ f.trail.node.0
+  child : (child_of (snap_at snaps 0) f.trail.side).0 ≡ f.trail.node.0
+
+has_both : (ed : Insert) (f : Found) (snaps : List Snap) → insert_looks f snaps ≡ Enough → AreSeen insert_means ed f snaps → HasBoth f snaps
+has_both ed f [] e x = absurd (let d : At f.trail.parent ≡ Enough = e in cc)
+has_both ed f (p ∷ []) e x = absurd (not_enough (eqb (child_of p f.trail.side).0 f.trail.node.0) f.trail.node p e)
+has_both ed f (p ∷ l ∷ []) e x =
+    let parent : f.trail.parent ≡ p.node = same_node f.trail.parent p.node (x 0 (omega arith)) in
+    let leaf : (eqb (child_of p f.trail.side).0 f.trail.node.0 ≡ true) × (f.trail.node ≡ l.node) = goes_on (eqb (child_of p f.trail.side).0 f.trail.node.0) f.trail.node p l.node (x 1 (omega arith)) in
+    record {
+      two = refl;
+      parent = ap (λ (n : NodeNo). n.0) (sym parent);
+      leaf = ap (λ (n : NodeNo). n.0) (sym leaf.1);
+      child = eqb-true (child_of p f.trail.side).0 f.trail.node.0 leaf.0;
+    }
+has_both ed f (p ∷ l ∷ s ∷ snaps) e x = absurd (let d : Enough ≡ At s.node = x 2 (omega arith) in cc)
+
+-- the SCX-record of both covers the leaf at its second place
+covered_leaf : (ed : Insert) (f : Found) (snaps : List Snap) (k : History) (s : ℕ) → HasBoth f snaps → CoversSnaps k s snaps → edit_leaf k s (PutEdit ed.key ed.value) ≡ f.trail.node.0
+covered_leaf ed f snaps k s both covers = covers 1 (let two = both.two in omega (arith, two)) ∙ both.leaf
+
+-- the parent is a fork, and so is not the leaf
+insert_distinct : (ed : Insert) (c : Call) (h : History) (f : Found) (snaps : List Snap) → IsTreeRun c.layout h → HasLooked insert_means c h ed f snaps → insert_looks f snaps ≡ Enough → AreDistinct snaps
+insert_distinct ed c h f snaps run x enough i j p q d e = go (two_places i j (rw both.two at p) (rw both.two at q) d)
+  where
+    both : HasBoth f snaps
+    both = has_both ed f snaps enough x.seen
+
+    apart : f.trail.parent.0 ≢ f.trail.node.0
+    apart z =
+        let fork : is_leaf (value h) f.trail.parent.0 ≡ false = (x.found.trail.parent (found_below ed.key c h f run x.found)).fork in
+        let leaf : is_leaf (value h) f.trail.parent.0 ≡ true = subst (λ n. is_leaf (value h) n ≡ true) (sym z) x.found.leaf in
+        let w : true ≡ false = sym leaf ∙ fork in
+        cc
+
+    two_places : (i j : ℕ) → i < 2 → j < 2 → i ≢ j → ((i ≡ 0) × (j ≡ 1)) ⊎ ((i ≡ 1) × (j ≡ 0))
+    two_places i j a b n = split (ℕ_discrete i 0)
+      where
+        split : Dec (i ≡ 0) → ((i ≡ 0) × (j ≡ 1)) ⊎ ((i ≡ 1) × (j ≡ 0))
+        split (yes z) = inl (z, omega (arith, z, b, n))
+        split (no z) = inr (omega (arith, z, a), omega (arith, z, a, b, n))
+
+    go : ((i ≡ 0) × (j ≡ 1)) ⊎ ((i ≡ 1) × (j ≡ 0)) → ⊥
+    go (inl z) = apart (sym both.parent ∙ (rw (z.0, z.1) at e) ∙ both.leaf)
+    go (inr z) = apart (sym both.parent ∙ sym (rw (z.0, z.1) at e) ∙ both.leaf)
+
+-- What it fills
+
+both_before : (b : Bool) (level class other key k : ℕ) (ns : Nodes) (side : Side) → IsPieceWord (cond b (Fork level class key ns.first ns.second) (Fork level other k ns.second ns.first)) (Child side)
+    → (i : Nth) × ComesBefore i Third × (word_of (cond b (Fork level class key ns.first ns.second) (Fork level other k ns.second ns.first)) (Child side) ≡ (nth_node ns i).0)
+both_before true level class other key k ns Left p = (First, tt, refl)
+both_before true level class other key k ns Right p = (Second, tt, refl)
+both_before false level class other key k ns Left p = (Second, tt, refl)
+both_before false level class other key k ns Right p = (First, tt, refl)
+
+pub insert_fields : (k v : ℕ) (f : Found) (ns : Nodes) (ld : Loaded) (nth : Nth) (side : Side) → IsPieceWord (insert_pieces k v f ns ld nth) (Child side) → (i : Nth) × ComesBefore i nth × (word_of (insert_pieces k v f ns ld nth) (Child side) ≡ (nth_node ns i).0)
+insert_fields k v f ns ld First side p = absurd p
+insert_fields k v f ns ld Second side p = absurd p
+insert_fields k v f ns ld Third side p = both_before (is_below k f) f.head.level f.head.class 0 f.key k ns side p
+
+-- the fields of its fork hold its leaves
+pub insert_fills : FillsWell insert_means
+insert_fills = record { fields = λ e c h f snaps ns ld nth side run x enough n p. inl (insert_fields e.key e.value f ns ld nth side p) }
+
+-- What it makes
+
+-- a level that a word holds is filled as it is
+pub head_is : (level class : ℕ) (leaf : Bool) → level < 2 ^ 61 → class < 4 → piece_head level leaf class ≡ head_word record { level = level; leaf = leaf; class = class }
+head_is level class leaf deep small = λ i. head_word record { level = least i; leaf = leaf; class = rest i }
+  where
+    least : min level (2 ^ 61 - 1) ≡ level
+    least = omega (arith, deep)
+
+    rest : class % 4 ≡ class
+    rest = omega (arith, small)
+
+lower_is : (level : ℕ) → level + 1 < 2 ^ 61 → lower level ≡ level + 1
+lower_is level deep = omega (arith, deep)
+
+-- a level may be said in another way
+leaf_at : (h : History) (n low level class k v : ℕ) → low ≡ level → HoldsWords h n (Leaf low class k v) (IsPieceWord (Leaf low class k v)) → HoldsWords h n (Leaf level class k v) (IsPieceWord (Leaf level class k v))
+leaf_at h n low level class k v e w = subst (λ l. HoldsWords h n (Leaf l class k v) (IsPieceWord (Leaf l class k v))) e w
+
+leaf_with : (h : History) (n level class k v : ℕ) → level < 2 ^ 61 → class < 4 → HoldsWords h n (Leaf level class k v) (IsPieceWord (Leaf level class k v)) → IsLeafWith (value h) n level class k v
+leaf_with h n level class k v deep small w = record { head = w Head tt ∙ head_is level class true deep small; key = w Key tt; value = w Value tt }
+
+fork_with : (h : History) (n level class k : ℕ) (x y : NodeNo) → level < 2 ^ 61 → class < 4 → HoldsWords h n (Fork level class k x y) (IsPieceWord (Fork level class k x y)) → IsForkWith (value h) n level class k x.0 y.0
+fork_with h n level class k x y deep small w = record { head = w Head tt ∙ head_is level class false deep small; key = w Key tt; left = w (Child Left) tt; right = w (Child Right) tt }
+
+fork_over_both : (b : Bool) (h : History) (n level class key k : ℕ) (x y : NodeNo) → level < 2 ^ 61 → class < 4
+    → HoldsWords h n (cond b (Fork level class key x y) (Fork level 0 k y x)) (IsPieceWord (cond b (Fork level class key x y) (Fork level 0 k y x)))
+    → IsForkWith (value h) n level (cond b class 0) (cond b key k) (cond b x.0 y.0) (cond b y.0 x.0)
+fork_over_both true h n level class key k x y deep small w = fork_with h n level class key x y deep small w
+fork_over_both false h n level class key k x y deep small w = fork_with h n level 0 k y x deep (omega arith) w
+
+-- the plan word of both is an insert's
+plan_both : (n : ℕ) (side : Side) → n ≡ 2 → plan_over n side ≡ insert_plan side
+plan_both n Left e = rw e refl
+plan_both n Right e = rw e refl
+
+module _ (ed : Insert) (c : Call) (h : History) (f : Found) (snaps : List Snap) (ns : Nodes) (ld : Loaded) (run : IsTreeRun c.layout h) (x : HasFilledAll insert_means c h ed f snaps ns ld) where
+  abbrev found : HasFoundLeaf c h ed.key f
+  found = x.looked.found
+
+  both : HasBoth f snaps
+  both = has_both ed f snaps x.enough x.looked.seen
+
+  deep : f.head.level + 1 < 2 ^ 61
+  deep = found_level ed.key c h f run found
+
+  small : f.head.class < 4
+  small = found_class ed.key c h f run found
+
+  -- its SCX-record is one of an insert, which puts the last fresh node into the place of the leaf
+  is_insert : (j : Job) (d : Descriptor) (n : ℕ) → IsUpdateFor insert_means ed f snaps ns j.update → j.update.fresh.0 ≡ n → Says d j → IsInsertAt f d n
+  is_insert j d n is fresh says = insert_words j d f n says
+      (is.plan ∙ plan_both (length snaps) f.trail.side both.two)
+      (ap length is.covers ∙ both.two)
+      (ap (λ (xs : List Snap). (snap_at xs 0).node.0) is.covers ∙ both.parent)
+      (ap (λ (xs : List Snap). (snap_at xs 1).node.0) is.covers ∙ both.leaf)
+      (ap (λ (m : NodeNo). m.0) is.old ∙ both.child)
+      fresh
+
+  -- a present key: its leaf
+  one_leaf : (old : ℕ) → f.value ≡ Some old → HoldsPiece c h ns.first.0 (insert_pieces ed.key ed.value f ns ld First) → HasFreshLeaf c.layout c.pass h f ed.key ed.value ns.first.0
+  one_leaf old e p = record {
+    fresh = p.fresh;
+    words = leaf_with h ns.first.0 f.head.level 0 ed.key ed.value (let a = deep in omega (arith, a)) (omega arith) (leaf_at h ns.first.0 (leaf_level f f.value) f.head.level 0 ed.key ed.value (ap (λ (o : Option ℕ). leaf_level f o) e) p.words);
+  }
+
+  -- a new key: the fork, over its leaf and the copy of the other
+  copied_value : (o : Option ℕ) (b : Bool) (v : ℕ) → IsLoaded o v → cond b (value_if_none o) None ≡ None → b ≡ true → unwrap_or o 0 ≡ v
+  copied_value (Some w) b v is none e = is
+  copied_value None true v is none e = absurd (let d : Some Value ≡ None = none in cc)
+  copied_value None false v is none e = absurd (let d : false ≡ true = e in cc)
+
+  no_value : (o : Option ℕ) (v : ℕ) → IsLoaded o v → v ≡ 0 → unwrap_or o 0 ≡ 0
+  no_value (Some w) v is e = is ∙ e
+  no_value None v is e = refl
+
+  three_nodes : f.value ≡ None → IsNeeded (insert_need f.value) First → IsNeeded (insert_need f.value) Second → IsNeeded (insert_need f.value) Third → HasFreshFork c.layout c.pass h f ed.key ed.value ns.third.0 ns.first.0 ns.second.0
+  three_nodes e one two three = record {
+    fork_fresh = (x.holds Third three).fresh;
+    leaf_fresh = (x.holds First one).fresh;
+    copy_fresh = (x.holds Second two).fresh;
+    leaf = leaf_with h ns.first.0 (f.head.level + 1) 0 ed.key ed.value deep (omega arith) (leaf_at h ns.first.0 (leaf_level f f.value) (f.head.level + 1) 0 ed.key ed.value (ap (λ (o : Option ℕ). leaf_level f o) e ∙ below) (x.holds First one).words);
+    copied = unwrap_or ld.value 0;
+    copy = leaf_with h ns.second.0 (f.head.level + 1) f.head.class f.key (unwrap_or ld.value 0) deep small (leaf_at h ns.second.0 (lower f.head.level) (f.head.level + 1) f.head.class f.key (unwrap_or ld.value 0) below (x.holds Second two).words);
+    copied_low = λ low. copied_value ld.value (eqb f.head.class 0) (value h (node f.trail.node.0 Value)) x.loaded.value (x.done Second two) (eq-eqb f.head.class 0 low);
+    copied_high = λ high. no_value ld.value (value h (node f.trail.node.0 Value)) x.loaded.value (found_no_value ed.key c h f run found high);
+    fork = fork_over_both (is_below ed.key f) h ns.third.0 f.head.level f.head.class f.key ed.key ns.first ns.second (let a = deep in omega (arith, a)) small (x.holds Third three).words;
+  }
+    where
+      below : lower f.head.level ≡ f.head.level + 1
+      below = lower_is f.head.level deep
+
+  needed : (i : Nth) (o : Option ℕ) → f.value ≡ o → IsNeeded (insert_need o) i → IsNeeded (insert_need f.value) i
+  needed i o e n = subst (λ q. IsNeeded (insert_need q) i) (sym e) n
+
+  promised_by : (j : Job) (d : Descriptor) → IsUpdateFor insert_means ed f snaps ns j.update → Says d j → (o : Option ℕ) → f.value ≡ o → IsPromised c.layout c.pass h j.scx.0 d (PutEdit ed.key ed.value)
+  promised_by j d is says (Some old) e = swap_promised c h j.scx.0 ed.key ed.value f d ns.first.0 old run x.looked.small found e
+      (is_insert j d ns.first.0 is (is.fresh ∙ ap (λ o. (top_of (insert_need o) ns)) e) says) (one_leaf old e (x.holds First (needed First (Some old) e tt)))
+  promised_by j d is says None e = split_promised c h j.scx.0 ed.key ed.value f d ns.third.0 ns.first.0 ns.second.0 run x.looked.small found e
+      (is_insert j d ns.third.0 is (is.fresh ∙ ap (λ o. (top_of (insert_need o) ns)) e) says) (three_nodes e (needed First None e tt) (needed Second None e tt) (needed Third None e tt))
+
+-- its two nodes are apart, and what it has filled is promised to insert the key
+pub insert_makes : MakesWell insert_means
+insert_makes = record {
+  some = λ e f d. let z : At f.trail.parent ≡ Enough = d in cc;
+  distinct = λ e c h f snaps run d x enough. insert_distinct e c h f snaps run x enough;
+  leaf = λ e c h f snaps s run n x enough k later since covers. covered_leaf e f snaps k s (has_both e f snaps enough x.seen) covers;
+  promised = λ e c h f snaps ns ld j d run n x is says. promised_by e c h f snaps ns ld run x j d is says f.value refl;
+}
+
+-- an insert is an edit that an update can make
+pub insert_laws : EditLaws insert_means
+insert_laws = record { at_found = λ e f. refl; bounds = insert_bounds; looks = insert_look; loads = insert_loads; fills = insert_fills; makes = insert_makes }
