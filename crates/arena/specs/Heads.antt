@@ -1,12 +1,12 @@
 -- What the word `head` of a node of the tree packs.
-use Rattle.std.specs.Prelude.{ℕ, ◌+◌, ◌*◌, ◌/◌, ◌%◌, ◌^◌, ◌<◌, eqb}
+use Rattle.std.specs.Prelude.{ℕ, ◌+◌, ◌*◌, ◌/◌, ◌%◌, ◌^◌, ◌<◌, ◌==◌}
 use Rattle.arena.specs.declared.head.Head.{Head}
 use Rattle.arena.specs.ScxRecords.{bit}
 
 -- what a word says as a head: its class in the two lowest bits, above them whether it is a leaf,
 -- and its level in the rest
 abbrev pub head_of : ℕ → Head
-head_of w = record { level = w / 8; leaf = eqb (w / 4 % 2) 1; class = w % 4 }
+head_of w = record { level = w / 8; leaf = w / 4 % 2 == 1; class = w % 4 }
 
 -- the word of a head
 abbrev pub head_word : Head → ℕ

@@ -1,6 +1,6 @@
 -- Histories: rows over the opening words of a mode, what each
 -- word holds after them, and the moments before.
-use Rattle.std.specs.Prelude.{◌≡◌, ℕ, cond, ◌⊎◌, List, [], ◌∷◌}
+use Rattle.std.specs.Prelude.{◌≡◌, ℕ, if◌then◌else◌, ◌⊎◌, List, [], ◌∷◌}
 use Rattle.arena.specs.declared.limits.Mode.{Mode}
 use Rattle.arena.specs.declared.word.Word.{Word}
 use Rattle.arena.specs.declared.step.Row.{Row}
@@ -18,7 +18,7 @@ pub data History : Type 0 where
 -- what a word holds after a history: what the last row on that word left in it, or its opening word
 unfoldable pub value : History → Word → ℕ
 value (Start mode) w = opening mode w
-value (r ⊳ h) w = cond (same_word r.word w) r.after (value h w)
+value (r ⊳ h) w = if same_word r.word w then r.after else value h w
 
 -- the word holds v after the history, or has held it after a beginning of the history
 unfoldable pub HasHeld : History → Word → ℕ → Type 0

@@ -1,6 +1,6 @@
 -- The table of a layout: how many words it has, where each stands, what each
 -- holds at the start, and which pass owns what.
-use Rattle.std.specs.Prelude.{ℕ, ◌+◌, ◌*◌, ◌<◌, cond, eqb}
+use Rattle.std.specs.Prelude.{ℕ, ◌+◌, ◌*◌, ◌<◌, if◌then◌else◌, ◌==◌}
 use Rattle.arena.specs.declared.limits.Mode.{Mode}
 use Rattle.arena.specs.declared.limits.Mode.TheVariants.{Tree, Records}
 use Rattle.arena.specs.declared.layout.Layout.{Layout}
@@ -47,15 +47,17 @@ IsWord lay (Scx s part) = (s.0 < all_scx lay) × IsScxWord part
 -- what a word holds at the start in a tree: node 0 is a root of class 2, over a leaf of class 1 on
 -- its left and a leaf of class 2 on its right; the dummy is aborted; all else is 0
 abbrev pub tree_opening : Word → ℕ
-tree_opening (Node n Head) = cond (eqb n.0 0) 2 (cond (eqb n.0 1) 13 (cond (eqb n.0 2) 14 0))
-tree_opening (Node n (Child Left)) = cond (eqb n.0 0) 1 0
-tree_opening (Node n (Child Right)) = cond (eqb n.0 0) 2 0
-tree_opening (Scx s State) = cond (eqb s.0 0) 2 0
+tree_opening (Node n Head) =
+    if n.0 == 0 then 2
+    else (if n.0 == 1 then 13 else (if n.0 == 2 then 14 else 0))
+tree_opening (Node n (Child Left)) = if n.0 == 0 then 1 else 0
+tree_opening (Node n (Child Right)) = if n.0 == 0 then 2 else 0
+tree_opening (Scx s State) = if s.0 == 0 then 2 else 0
 tree_opening _ = 0
 
 -- what a word holds at the start in cells: 0, but that the dummy is aborted
 abbrev pub records_opening : Word → ℕ
-records_opening (Scx s State) = cond (eqb s.0 0) 2 0
+records_opening (Scx s State) = if s.0 == 0 then 2 else 0
 records_opening _ = 0
 
 -- what a word holds before the first row, in a table of this mode

@@ -12,6 +12,7 @@ pub mod Heads
 pub mod Fills
 pub mod Lawful
 pub mod Blame
+pub mod Undisturbed
 pub mod Found
 pub mod Log
 pub mod Shape

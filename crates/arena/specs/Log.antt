@@ -1,6 +1,6 @@
 -- The log of a history, and what it says of a node: its
 -- fields, its last entry, and whether it is final.
-use Rattle.std.specs.Prelude.{◌≡◌, ℕ, zero, suc, ◌-◌, ◌/◌, Bool, true, false, cond, ◌&&◌, ◌||◌, eqb, ◌⊎◌, List, [], ◌∷◌, length}
+use Rattle.std.specs.Prelude.{◌≡◌, ℕ, zero, suc, ◌-◌, ◌/◌, Bool, true, false, if◌then◌else◌, ◌&&◌, ◌||◌, ◌==◌, ◌⊎◌, List, [], ◌∷◌, length}
 use Rattle.arena.specs.declared.word.Side.{Side}
 use Rattle.arena.specs.declared.word.NodeWord.TheVariants.{Child}
 use Rattle.arena.specs.declared.word.ScxWord.TheVariants.{Call}
@@ -41,7 +41,9 @@ members_from h s j (suc k) = member h s j ∷ members_from h s (suc j) k
 -- those of the k nodes of s from its j-th on that s finalizes
 abbrev pub finalized_from : History → ℕ → ℕ → ℕ → List ℕ
 finalized_from h s j zero = []
-finalized_from h s j (suc k) = cond (scx_finalizes h s j) (member h s j ∷ finalized_from h s (suc j) k) (finalized_from h s (suc j) k)
+finalized_from h s j (suc k) =
+    if scx_finalizes h s j then member h s j ∷ finalized_from h s (suc j) k
+    else finalized_from h s (suc j) k
 
 -- the entry of an update of s that stores v into that field of n
 abbrev pub entry : Layout → History → ℕ → ℕ → Side → ℕ → Entry
@@ -60,7 +62,9 @@ entry lay h s n side v =
 -- what a row adds to the log: where an update changes its field, an entry of the SCX-record that
 -- the info of the field's node names
 abbrev pub with_row : Layout → History → Row → Kind → Word → List Entry → List Entry
-with_row lay h r Update (Node n (Child side)) es = cond (eqb r.before r.after) es (entry lay h (value h (info n.0)) n.0 side r.after ∷ es)
+with_row lay h r Update (Node n (Child side)) es =
+    if r.before == r.after then es
+    else entry lay h (value h (info n.0)) n.0 side r.after ∷ es
 with_row lay h r _ _ es = es
 
 -- the updates that have won, the newest first; the place
@@ -77,12 +81,14 @@ is_fill _ = false
 -- what the last fill of a word left in it, or its opening word
 unfoldable pub filled : History → Word → ℕ
 filled (Start mode) w = opening mode w
-filled (r ⊳ h) w = cond (is_fill r.kind && same_word r.word w) r.after (filled h w)
+filled (r ⊳ h) w = if is_fill r.kind && same_word r.word w then r.after else filled h w
 
 -- what the field on this side of n holds after the entries, if it held `start` before them
 abbrev pub field_after : ℕ → List Entry → ℕ → Side → ℕ
 field_after start [] n side = start
-field_after start (e ∷ es) n side = cond (eqb e.node n && same_side e.side side) e.new (field_after start es n side)
+field_after start (e ∷ es) n side =
+    if e.node == n && same_side e.side side then e.new
+    else field_after start es n side
 
 -- a field of a node as the log has it: what it was filled with, changed by the entries in order
 abbrev pub fields : Layout → History → ℕ → Side → ℕ
@@ -91,12 +97,12 @@ fields lay h n side = field_after (filled h (child n side)) (log lay h) n side
 -- whether the list has n
 abbrev pub has : List ℕ → ℕ → Bool
 has [] n = false
-has (m ∷ ms) n = eqb m n || has ms n
+has (m ∷ ms) n = m == n || has ms n
 
 -- the place of the last entry that covers the node, counted from 1, or 0 where none does
 abbrev pub last : List Entry → ℕ → ℕ
 last [] n = 0
-last (e ∷ es) n = cond (has e.members n) (suc (length es)) (last es n)
+last (e ∷ es) n = if has e.members n then suc (length es) else last es n
 
 -- whether some entry finalizes the node: it is final
 abbrev pub is_final : List Entry → ℕ → Bool

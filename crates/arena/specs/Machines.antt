@@ -31,6 +31,10 @@ pub record Call : Type 0 where
   pub number : ℕ
   pub start : History
 
+-- the same call, as if it had begun later
+abbrev pub begun_at : Call → History → Call
+begun_at c begin = record c { start = begin }
+
 -- the row that a call's step leaves when it is made after the history
 abbrev pub row_of : Call → Step → History → Row
 row_of c s h = record { pass = record { 0 = c.pass }; call = c.number; kind = s.kind; word = s.word; before = value h s.word; after = word_after s.access (value h s.word) }

@@ -1,6 +1,6 @@
 -- What the words of an SCX-record say: the nodes that it covers, those
 -- that it finalizes, and the field that it changes.
-use Rattle.std.specs.Prelude.{ℕ, ◌+◌, ◌*◌, ◌/◌, ◌%◌, ◌^◌, ◌<◌, Bool, cond, ◌&&◌, eqb, ltb, leb, List, [], ◌∷◌}
+use Rattle.std.specs.Prelude.{ℕ, ◌+◌, ◌*◌, ◌/◌, ◌%◌, ◌^◌, ◌<◌, Bool, if◌then◌else◌, ◌&&◌, ◌==◌, nat_lt, nat_le, List, [], ◌∷◌}
 use Rattle.arena.specs.declared.word.Side.{Side}
 use Rattle.arena.specs.declared.word.Side.TheVariants.{Left, Right}
 use Rattle.arena.specs.declared.word.ScxWord.TheVariants.{Plan, New, Old, Member, Seen}
@@ -18,11 +18,11 @@ raw_count p = p % 8
 -- how many nodes a plan word covers, at most four; a word that says more of them, or is 1024 or
 -- more, is no plan and covers none
 abbrev pub count_of : ℕ → ℕ
-count_of p = cond (ltb p 1024 && leb (p % 8) 4) (p % 8) 0
+count_of p = if nat_lt p 1024 && nat_le (p % 8) 4 then p % 8 else 0
 
 -- whether the plan word has the j-th node finalized
 abbrev pub plan_finalizes : ℕ → ℕ → Bool
-plan_finalizes p j = eqb (p / 8 / 2 ^ j % 2) 1
+plan_finalizes p j = p / 8 / 2 ^ j % 2 == 1
 
 -- which of the covered nodes has the field: its place among them, 0 to 3
 abbrev pub field_index_of : ℕ → ℕ
@@ -30,7 +30,7 @@ field_index_of p = p / 128 % 4
 
 -- on which side of its node the field is
 abbrev pub side_of : ℕ → Side
-side_of p = cond (eqb (p / 512) 0) Left Right
+side_of p = if p / 512 == 0 then Left else Right
 
 -- the side as a plan word packs it
 abbrev pub side_no : Side → ℕ
@@ -39,7 +39,7 @@ side_no Right = 1
 
 -- a bit, and the bits of the nodes that are to be finalized, the first node's lowest
 abbrev pub bit : Bool → ℕ
-bit b = cond b 1 0
+bit b = if b then 1 else 0
 
 abbrev pub removed_bits : List Bool → ℕ
 removed_bits [] = 0

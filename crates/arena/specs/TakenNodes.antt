@@ -1,5 +1,5 @@
 -- Which nodes have been taken, by whatever pass.
-use Rattle.std.specs.Prelude.{ℕ, cond, List, [], ◌∷◌}
+use Rattle.std.specs.Prelude.{ℕ, if◌then◌else◌, List, [], ◌∷◌}
 use Rattle.arena.specs.declared.word.Word.{Word}
 use Rattle.arena.specs.declared.word.Word.TheVariants.{Node}
 use Rattle.arena.specs.declared.step.Kind.{Kind}
@@ -9,7 +9,7 @@ use Rattle.arena.specs.Log.{has}
 
 -- the list with the word's node in front, if the step is a fill and the list has not got the node
 abbrev pub with_fill : Kind → Word → List ℕ → List ℕ
-with_fill Fill (Node n part) ns = cond (has ns n.0) ns (n.0 ∷ ns)
+with_fill Fill (Node n part) ns = if has ns n.0 then ns else n.0 ∷ ns
 with_fill _ _ ns = ns
 
 -- the nodes of which some word was filled, the newest first, each once

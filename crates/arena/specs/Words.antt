@@ -1,5 +1,5 @@
 -- What each word of a node and of an SCX-record is called, and how words are told apart.
-use Rattle.std.specs.Prelude.{ℕ, ◌+◌, ◌<◌, Bool, true, false, cond, ◌&&◌, eqb}
+use Rattle.std.specs.Prelude.{ℕ, ◌+◌, ◌<◌, Bool, true, false, if◌then◌else◌, ◌&&◌, ◌==◌}
 use Rattle.arena.specs.declared.word.Side.{Side}
 use Rattle.arena.specs.declared.word.Side.TheVariants.{Left, Right}
 use Rattle.arena.specs.declared.word.NodeWord.{NodeWord}
@@ -87,15 +87,15 @@ same_scx_word AllFrozen AllFrozen = true
 same_scx_word Plan Plan = true
 same_scx_word New New = true
 same_scx_word Old Old = true
-same_scx_word (Member j) (Member k) = eqb j k
-same_scx_word (Seen j) (Seen k) = eqb j k
+same_scx_word (Member j) (Member k) = j == k
+same_scx_word (Seen j) (Seen k) = j == k
 same_scx_word Call Call = true
 same_scx_word _ _ = false
 
 -- whether two words are one: the same word of the same node or of the same SCX-record
 abbrev pub same_word : Word → Word → Bool
-same_word (Node n a) (Node m b) = eqb n.0 m.0 && same_node_word a b
-same_word (Scx s a) (Scx t b) = eqb s.0 t.0 && same_scx_word a b
+same_word (Node n a) (Node m b) = n.0 == m.0 && same_node_word a b
+same_word (Scx s a) (Scx t b) = s.0 == t.0 && same_scx_word a b
 same_word (Node _ _) (Scx _ _) = false
 same_word (Scx _ _) (Node _ _) = false
 
@@ -103,4 +103,4 @@ same_word (Scx _ _) (Node _ _) = false
 abbrev pub word_after : Access → ℕ → ℕ
 word_after Load found = found
 word_after (Store v) found = v
-word_after (Exchange expected v) found = cond (eqb found expected) v found
+word_after (Exchange expected v) found = if found == expected then v else found

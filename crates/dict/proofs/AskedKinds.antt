@@ -2,11 +2,10 @@
 use Rattle.std.proofs.Common.{ℕ, ◌<◌, ◌≤◌, inl, inr, arith}
 use Rattle.arena.specs.declared.step.Step.{Step}
 use Rattle.arena.specs.History.{History}
-use Rattle.arena.specs.Machines.{Call}
+use Rattle.arena.specs.Machines.{Call, begun_at}
 use Rattle.ordered_map.specs.CallRules.{TakesNothing, call_rules}
 use Rattle.order.specs.Range.Known.{AsksForSome, RangeWaits, RangeWaitsAt, Visits}
 use Rattle.order.specs.Range.Laws.{range_fills_not}
-use Rattle.order.specs.Reads.{begun_at}
 use Rattle.order.specs.Successor.Laws.{successor_fills_not}
 use Rattle.order.specs.declared.range.RangeAt.{RangeAt}
 use Rattle.order.specs.declared.range.RangeAt.TheVariants.{Start, Root, Head, Key, Value, Look, Validate}

@@ -2,6 +2,7 @@
 use Rattle.std.proofs.Common.{◌≡◌, ◌∙◌, ◌<◌, ℕ, inl, inr, Bool, true, false, cond, eqb, List, [], ◌∷◌, Option, Some, None, refl, sym, ap, subst}
 use Rattle.arena.specs.History.{History, ◌⊳◌, value, Extends}
 use Rattle.arena.specs.Machines.{Call}
+use Rattle.arena.specs.Undisturbed.{IsUndisturbed}
 use Rattle.arena.proofs.Lemmas.{ends_self, ends_trans}
 use Rattle.ordered_map.specs.declared.pair.Pair.{Pair}
 use Rattle.ordered_map.specs.OrderedMap.{MapCall, Edit, Get, Successor, Range, MapEdit, Insert, Delete, MapReply, OneValue, reply, after, changes_map, edited, edit_key, get, delete}
@@ -11,7 +12,6 @@ use Rattle.ordered_map.proofs.Lemmas.{one_spelling, run_since}
 use Rattle.template.specs.Blame.{IsContended}
 use Rattle.edits.specs.Known.{HasMade, RestsWith, IsUntouched}
 use Rattle.edits.specs.Tries.{HasEnteredNone}
-use Rattle.edits.specs.Undisturbed.{IsUndisturbed}
 use Rattle.arena.specs.declared.fault.Full.{Full as FullOf}
 use Rattle.arena.specs.Share.{Remaining}
 use Rattle.ordered_map.specs.CallRules.{need}

@@ -1,5 +1,5 @@
 -- The words of short names.
-use Rattle.std.specs.Prelude.{◌≡◌, ℕ, ◌≤◌, ◌-◌, ◌==◌, Bool, true, cond, ◌&&◌, List, [], ◌∷◌, ◌++◌, length}
+use Rattle.std.specs.Prelude.{◌≡◌, ℕ, ◌≤◌, ◌-◌, ◌==◌, Bool, true, if◌then◌else◌, ◌&&◌, List, [], ◌∷◌, ◌++◌, length}
 use Rattle.std.specs.List.{list_all, repeat}
 use Rattle.std.specs.Char.{is_ascii_graphic}
 use Rattle.std.specs.Int.{w64, from_be_bytes, to_be_bytes}
@@ -19,7 +19,9 @@ name_word bs = from_be_bytes w64 (zero_padded bs)
 -- characters from '!' to '~', and zero bytes alone behind them
 abbrev pub is_padded : List ℕ → Bool
 is_padded [] = true
-is_padded (b ∷ bs) = cond (b == 0) (list_all (λ c. c == 0) bs) (is_ascii_graphic b && is_padded bs)
+is_padded (b ∷ bs) =
+    if b == 0 then list_all (λ c. c == 0) bs
+    else is_ascii_graphic b && is_padded bs
 
 -- a word that is a name's
 unfoldable pub is_name_word : ℕ → Bool

@@ -2,12 +2,12 @@
 ghost use Rattle.std.specs.Prelude.{◌≡◌, ◌<◌, ℕ, List};
 ghost use Rattle.arena.specs.History.{History, value};
 ghost use Rattle.arena.specs.Machines.{Call};
+ghost use Rattle.arena.specs.Undisturbed.{IsUndisturbed};
 ghost use Rattle.ordered_map.specs.declared.pair.Pair.{Pair};
 ghost use Rattle.ordered_map.specs.OrderedMap.{MapCall, MapReply, reply, after};
 ghost use Rattle.ordered_map.specs.Runs.{IsTreeRun};
 ghost use Rattle.ordered_map.specs.Spelled.{Spells};
 ghost use Rattle.edits.specs.Tries.{HasEnteredNone};
-ghost use Rattle.edits.specs.Undisturbed.{IsUndisturbed};
 ghost use Rattle.arena.specs.declared.fault.Full.{Full};
 ghost use Rattle.arena.specs.Share.{Remaining};
 ghost use Rattle.edits.specs.Known.{RestsWith};

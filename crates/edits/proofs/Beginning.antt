@@ -11,7 +11,7 @@ use Rattle.arena.specs.declared.step.Step.{Step}
 use Rattle.arena.specs.declared.word.Side.{Side}
 use Rattle.arena.specs.Fills.{IsOwnNode, IsOwnScx}
 use Rattle.arena.specs.History.{History}
-use Rattle.arena.specs.Machines.{Call, MatchTurn}
+use Rattle.arena.specs.Machines.{Call, MatchTurn, begun_at}
 use Rattle.arena.specs.ScxRecords.{IsPlan, count_of, field_index_of, side_of}
 use Rattle.arena.specs.Share.{Remaining, HasScx}
 use Rattle.arena.proofs.Lemmas.{packed_count, packed_field, packed_side, packed_within}
@@ -39,7 +39,7 @@ use Rattle.edits.specs.Next.{standing}
 use Rattle.edits.specs.Edits.{EditBounds, EditMeaning}
 use Rattle.edits.specs.Known.{AreSeen, AreUsable, CoversLeaf, CanScx, IsUpdateFor, TryWaits, piece, top}
 use Rattle.edits.specs.Laws.Entered.{none_quiet}
-use Rattle.edits.specs.Laws.HandScx.{from, hand_ready, hand_share}
+use Rattle.edits.specs.Laws.HandScx.{hand_ready, hand_share}
 use Rattle.edits.specs.Laws.Kept.{snapped_usable}
 use Rattle.edits.specs.Pieces.{all_but_first, plan_over}
 use Rattle.edits.specs.Sound.{MakesWell}
@@ -105,7 +105,7 @@ module _ {E : Type 0} (e : EditMeaning E) {A : Type 0} (m : UpdateRun E A) (run 
   usable = subst (λ (xs : List Snap). AreUsable c h (e.goal m.edit) f xs) (sym is.covers) x.all.looked.usable
 
   -- its SCX may begin
-  pub scx_ready : ScxIsReady TreeAllows run (from c h) h None
+  pub scx_ready : ScxIsReady TreeAllows run (begun_at c h) h None
   scx_ready = hand_ready c h m.share m.nodes.first.0 (top e m f) (piece e m f) run x.run.1.lawful x.full x.some over
       (λ i p. let u = usable i p in (u.moment, snapped_usable c h (e.goal m.edit) f (snap_at run.update.snaps i) x.run.1.lawful u)) at is.fresh is_scx
       (λ d says. promised_allowed c.layout c.pass h run.scx.0 d (e.edit m.edit f) (sound.promised m.edit c h f m.snaps.items m.nodes m.loaded (job_of run) d x.run x.need x.all is says))
@@ -130,7 +130,7 @@ module _ {E : Type 0} (e : EditMeaning E) {A : Type 0} (m : UpdateRun E A) (run 
   leaf = subst (λ (u : Update). CoversLeaf e m.edit f c h after.scx.0 u.snaps) (sym same_update)
       (subst (λ (xs : List Snap). CoversLeaf e m.edit f c h after.scx.0 xs) (sym is.covers) (sound.leaf m.edit c h f m.snaps.items after.scx.0 x.run x.need x.all.looked x.all.enough))
 
-  first_waits : (turn : Turn ScxAnswer) (step : Step) → turn ≡ Ask step → MatchTurn turn (ScxWaits TreeAllows after (from c h) h) (ScxAnswers after (from c h) h) → TryWaits e (standing (record m { share = less_an_scx m.share }) (Scx f after)) c h step
+  first_waits : (turn : Turn ScxAnswer) (step : Step) → turn ≡ Ask step → MatchTurn turn (ScxWaits TreeAllows after (begun_at c h) h) (ScxAnswers after (begun_at c h) h) → TryWaits e (standing (record m { share = less_an_scx m.share }) (Scx f after)) c h step
   first_waits turn step asked w = (
     h,
     record {
@@ -158,7 +158,7 @@ module _ {E : Type 0} (e : EditMeaning E) {A : Type 0} (m : UpdateRun E A) (run 
 
   -- it waits for the first step of its SCX
   pub scx_begins : (share : Remaining) (turn : Turn ScxAnswer) (step : Step) → share ≡ record m.share { next_scx = m.share.next_scx + 1; scx = m.share.scx - 1 } → turn ≡ Ask step
-      → (ScxIsReady TreeAllows run (from c h) h None → MatchTurn turn (ScxWaits TreeAllows after (from c h) h) (ScxAnswers after (from c h) h)) → TryWaits e (standing (record m { share = share }) (Scx f after)) c h step
+      → (ScxIsReady TreeAllows run (begun_at c h) h None → MatchTurn turn (ScxWaits TreeAllows after (begun_at c h) h) (ScxAnswers after (begun_at c h) h)) → TryWaits e (standing (record m { share = share }) (Scx f after)) c h step
   scx_begins share turn step less asked w =
       subst (λ (s : Remaining). TryWaits e (standing (record m { share = s }) (Scx f after)) c h step) (sym (less ∙ (λ i. record m.share { next_scx = plus_one m.share.next_scx i; scx = m.share.scx - 1 })))
       (first_waits turn step asked (w scx_ready))

@@ -5,7 +5,7 @@ use Rattle.arena.specs.declared.number.ScxNo.{ScxNo}
 use Rattle.arena.specs.declared.step.Kind.TheVariants.{Freeze}
 use Rattle.arena.specs.History.{History, ◌⊳◌, Extends}
 use Rattle.arena.specs.Lawful.{Lawful}
-use Rattle.arena.specs.Machines.{Call}
+use Rattle.arena.specs.Machines.{Call, begun_at}
 use Rattle.arena.proofs.Lemmas.{ends_trans}
 use Rattle.histories.proofs.Lemmas.{lawful_since}
 use Rattle.prims.specs.Laws.FoundThere.{there_wider}
@@ -26,12 +26,11 @@ use Rattle.edits.specs.declared.edit.Look.TheVariants.{At, Differs}
 use Rattle.edits.specs.declared.edit.Need.TheVariants.{Nothing}
 use Rattle.edits.specs.Edits.{EditMeaning}
 use Rattle.edits.specs.Known.{HasSnappedAfterWalk, AreUsable, HasLooked}
-use Rattle.edits.specs.Laws.HandScx.{from}
 use Rattle.edits.specs.Laws.Kept.{snapped_usable}
 use Rattle.edits.specs.Sound.{LooksWell}
 
 -- its SCX, which begins at this moment of the try, is lost
-pub lost_contended : (c : Call) (begin h : History) (goal : Goal) (f : Found) (m : ScxRun) (n s : ℕ) → Lawful c.layout h → IsQuietSince c.layout c.pass c.start begin → AreUsable c begin goal f m.update.snaps → IsLost (from c begin) h m n s → IsContended c h n s
+pub lost_contended : (c : Call) (begin h : History) (goal : Goal) (f : Found) (m : ScxRun) (n s : ℕ) → Lawful c.layout h → IsQuietSince c.layout c.pass c.start begin → AreUsable c begin goal f m.update.snaps → IsLost (begun_at c begin) h m n s → IsContended c h n s
 lost_contended c begin h goal f m n s l quiet usable x = changed_contended c Freeze begin h m.update.snaps n s l quiet x.changed snapped.moment snapped.since (snapped_usable c begin goal f (snap_at m.update.snaps i) then snapped).found
   where
     i : ℕ
@@ -46,10 +45,10 @@ lost_contended c begin h goal f m n s l quiet usable x = changed_contended c Fre
 module _ {E : Type 0} (e : EditMeaning E) (looks : LooksWell e) (ed : E) (c : Call) (h : History) (f : Found) (snaps : List Snap) (run : IsTreeRun c.layout h) (needed : e.needs ed f ≢ Nothing) (looked : HasLooked e c h ed f snaps) where
   -- an LLX of what the edit looks at, begun in the try, ends without a snapshot
   module _ (llx : LlxRun) (begin : History) (since : Extends begin c.start) (named : e.looks ed f snaps ≡ At llx.node) (n : NodeNo) (s : ScxNo) where
-    pub look_failed : LlxAnswers llx (from c begin) h (Fail n s) → IsContended c h n.0 s.0
+    pub look_failed : LlxAnswers llx (begun_at c begin) h (Fail n s) → IsContended c h n.0 s.0
     look_failed x = subst (λ k. IsContended c h k s.0) (sym x.0) (failed_contended c begin h llx.node.0 s.0 since x.1)
 
-    pub look_finalized : IsQuietSince c.layout c.pass c.start h → LlxAnswers llx (from c begin) h (Finalized n s) → IsContended c h n.0 s.0
+    pub look_finalized : IsQuietSince c.layout c.pass c.start h → LlxAnswers llx (begun_at c begin) h (Finalized n s) → IsContended c h n.0 s.0
     look_finalized quiet x = subst (λ k. IsContended c h k s.0) (sym x.0) (finalized_contended c h llx.node.0 s.0 run.1.lawful quiet (looks.stood ed c h f snaps llx.node run needed looked named) x.1 (there_wider c.pass h begin c.start llx.node.0 s.0 since x.2))
 
   -- the edit finds that its snapshots differ from what the walk has found

@@ -5,12 +5,11 @@ use Rattle.arena.specs.declared.machine.Turn.{Turn}
 use Rattle.arena.specs.declared.machine.Turn.TheVariants.{Ask, Done}
 use Rattle.arena.specs.declared.word.NodeWord.{NodeWord}
 use Rattle.arena.specs.History.{History}
-use Rattle.arena.specs.Machines.{Call}
+use Rattle.arena.specs.Machines.{Call, begun_at}
 use Rattle.arena.specs.Share.{Remaining}
 use Rattle.template.specs.declared.walk.Found.{Found}
 use Rattle.edits.specs.Edits.{EditMeaning}
 use Rattle.edits.specs.Known.{CanFill, UpdateTurn}
-use Rattle.edits.specs.Laws.HandScx.{from}
 use Rattle.edits.specs.Next.{IsSameUpdate, placed, standing, next_step, fills, UpdateGoesOn, ComesNearer, HasSpentForNext, left_then}
 use Rattle.edits.specs.Steps.{IsNearer, IsSpending, Spends, fills_left, node_tries, scx_tries, try_left}
 use Rattle.edits.specs.Tries.{IsTry}
@@ -37,8 +36,8 @@ module _ {E : Type 0} (e : EditMeaning E) {A : Type 0} (m : UpdateRun E A) (now 
 
   -- so it does where it fills a word
   module _ (nth : Nth) (part : NodeWord) (turn : Turn Updated) (place : now ≡ standing m (Fill f nth part)) (is : turn ≡ Ask (fills e m f nth part)) where
-    pub fill_goes_on : (c : Call) (b h : History) → IsTry c b h m.limit m.tries → CanFill e m (from c b) h f nth part → UpdateTurn e c h now turn
-    fill_goes_on c b h try x = rw (place, is) (b, try, tt, fills_word e m f nth part _ _ _ (from c b) h x refl refl refl)
+    pub fill_goes_on : (c : Call) (b h : History) → IsTry c b h m.limit m.tries → CanFill e m (begun_at c b) h f nth part → UpdateTurn e c h now turn
+    fill_goes_on c b h try x = rw (place, is) (b, try, tt, fills_word e m f nth part _ _ _ (begun_at c b) h x refl refl refl)
 
     pub fill_nearer : (nodes bound : ℕ) → m.tries * try_left e nodes + (fills_left e m f nth part + 39) < bound → IsNearer e now nodes turn bound
     fill_nearer nodes bound i = rw (place, is) i

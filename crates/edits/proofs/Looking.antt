@@ -5,7 +5,7 @@ use Rattle.std.proofs.lemmas.List.{take-append-le}
 use Rattle.arena.specs.declared.number.NodeNo.{NodeNo}
 use Rattle.arena.specs.Fills.{IsNamed, IsOwnNode}
 use Rattle.arena.specs.History.{History, value, Extends}
-use Rattle.arena.specs.Machines.{Call, MatchTurn}
+use Rattle.arena.specs.Machines.{Call, MatchTurn, begun_at}
 use Rattle.arena.specs.Share.{Remaining, HasNode}
 use Rattle.arena.proofs.Lemmas.{ends_self}
 use Rattle.histories.proofs.Lemmas.{unmentioned_unnamed}
@@ -22,7 +22,6 @@ use Rattle.prims.specs.declared.llx.LlxRun.{LlxRun}
 use Rattle.ordered_map.specs.TreeShape.{TreeAllows}
 use Rattle.edits.specs.declared.edit.Nodes.{Nodes}
 use Rattle.edits.specs.declared.update.UpdateAt.TheVariants.{Look}
-use Rattle.edits.specs.Laws.HandScx.{from}
 use Rattle.prims.specs.Snap.{snap_at}
 use Rattle.prims.specs.declared.snap.Snap.{Snap}
 use Rattle.prims.proofs.Lemmas.{left_own_node}
@@ -335,7 +334,7 @@ pushed (Ok v) P n most i j p full = p
 pushed (Err v) P n most i j p full = absurd (omega (arith, i, j, full))
 
 module _ {E : Type 0} (e : EditMeaning E) {A : Type 0} (m : UpdateRun E A) (llx after : LlxRun) (f : Found) (begin : History) (c : Call) (h : History) (turn : Turn Llx) (x : Looks e m c h f llx begin) (same : after.node ≡ llx.node)
-    (w : MatchTurn turn (LlxWaits TreeAllows after (from c begin) h) (LlxAnswers after (from c begin) h)) where
+    (w : MatchTurn turn (LlxWaits TreeAllows after (begun_at c begin) h) (LlxAnswers after (begun_at c begin) h)) where
   -- its LLX asks for a step
   pub looks_on : (step : Step) → turn ≡ Ask step → TryWaits e (standing m (Look f after)) c h step
   looks_on step asked = (

@@ -6,7 +6,7 @@ use Rattle.arena.specs.Fills.{IsNamed, IsOwnScx}
 use Rattle.arena.specs.History.{History, ◌⊳◌, value, Extends}
 use Rattle.arena.specs.Lawful.{Lawful, HasWon}
 use Rattle.arena.specs.Log.{Entry, log, members_from}
-use Rattle.arena.specs.Machines.{Call}
+use Rattle.arena.specs.Machines.{Call, begun_at}
 use Rattle.arena.specs.ScxRecords.{member, count}
 use Rattle.arena.proofs.Lemmas.{ends_self, ends_trans}
 use Rattle.histories.proofs.Lemmas.{entry_of, facts_before, lawful_since, log_wins, node_since}
@@ -28,7 +28,6 @@ use Rattle.edits.specs.Edits.{EditMeaning}
 use Rattle.edits.specs.Sound.{IsAtFound}
 use Rattle.edits.specs.Known.{Scxs, HasMade}
 use Rattle.edits.specs.Laws.Entered.{only_joined}
-use Rattle.edits.specs.Laws.HandScx.{from}
 use Rattle.edits.specs.Laws.Kept.{same_said}
 use Rattle.edits.specs.Tries.{HasEnteredOnly, IsTry, CoversSnaps}
 
@@ -65,15 +64,15 @@ module _ (c : Call) (h : History) (m : ScxRun) (row : Row) (before : History) (l
   covers : CoversSnaps before m.scx.0 m.update.snaps
   covers j p = ap (member before m.scx.0) (let z : j ≡ j + 0 = omega arith in z) ∙ members_are before m.scx.0 0 (count before m.scx.0) m.update.snaps (ap (λ (e : Entry). e.members) entry_is) j p
 
-module _ {E : Type 0} (e : EditMeaning E) (at_found : IsAtFound e) {A : Type 0} (m : UpdateRun E A) (scx after : ScxRun) (f : Found) (c : Call) (b begin h : History) (try : IsTry c b h m.limit m.tries) (x : Scxs e m (from c b) h f scx begin)
-    (same_scx : after.scx ≡ scx.scx) (same_update : after.update ≡ scx.update) (same_call : after.call ≡ scx.call) (done : IsDone (from c begin) h after) where
+module _ {E : Type 0} (e : EditMeaning E) (at_found : IsAtFound e) {A : Type 0} (m : UpdateRun E A) (scx after : ScxRun) (f : Found) (c : Call) (b begin h : History) (try : IsTry c b h m.limit m.tries) (x : Scxs e m (begun_at c b) h f scx begin)
+    (same_scx : after.scx ≡ scx.scx) (same_update : after.update ≡ scx.update) (same_call : after.call ≡ scx.call) (done : IsDone (begun_at c begin) h after) where
   abbrev k : ℕ
   k = edit_key (e.edit m.edit f)
 
   abbrev before : History
   before = done.entry.before
 
-  abbrev y : IsEntryAt (from c begin) h after done.entry.row before
+  abbrev y : IsEntryAt (begun_at c begin) h after done.entry.row before
   y = done.entry.is
 
   within : Extends h before
@@ -91,7 +90,7 @@ module _ {E : Type 0} (e : EditMeaning E) (at_found : IsAtFound e) {A : Type 0} 
 
   leaf : edit_leaf before after.scx.0 (e.edit m.edit f) ≡ f.trail.node.0
   leaf = ap (λ (s : ScxNo). edit_leaf before s.0 (e.edit m.edit f)) same_scx ∙ x.leaf before run y.since
-      (subst (λ (u : Update). CoversSnaps before scx.scx.0 u.snaps) same_update (subst (λ (s : ScxNo). CoversSnaps before s.0 after.update.snaps) same_scx (covers (from c begin) h after done.entry.row before x.run.1.lawful y)))
+      (subst (λ (u : Update). CoversSnaps before scx.scx.0 u.snaps) same_update (subst (λ (s : ScxNo). CoversSnaps before s.0 after.update.snaps) same_scx (covers (begun_at c begin) h after done.entry.row before x.run.1.lawful y)))
 
   named : IsNamed c.layout begin f.trail.node.0
   named = walk_named c.layout begin x.found.trail.node.first (path_key (e.goal m.edit)) f.trail.node.0 (run_since c.layout h begin x.run (ends_trans h before begin within y.since)) x.found.trail.node.passed

@@ -2,7 +2,7 @@
 use Rattle.std.proofs.Common.{◌≡◌, ℕ, Option, Some, None, unwrap_or, refl, sym, ◌∙◌, subst}
 use Rattle.arena.specs.declared.word.NodeWord.{NodeWord}
 use Rattle.arena.specs.History.{History, value}
-use Rattle.arena.specs.Machines.{Call}
+use Rattle.arena.specs.Machines.{Call, begun_at}
 use Rattle.arena.specs.Words.{node}
 use Rattle.prims.specs.Llx.Known.{LlxIsReady}
 use Rattle.prims.specs.Scx.Known.{ScxIsReady}
@@ -18,30 +18,29 @@ use Rattle.edits.specs.declared.update.UpdateAt.TheVariants.{Start, Walk, Look, 
 use Rattle.edits.specs.declared.update.UpdateRun.{UpdateRun}
 use Rattle.edits.specs.Edits.{EditMeaning}
 use Rattle.edits.specs.Known.{RestsWith, IsUntouched, FirstOrLost, MayBeginTry, Walks, Looks, Loads, Scxs, IsFilledUpTo, UpdateIsToldAt, UpdateIsReady, copied}
-use Rattle.edits.specs.Laws.HandScx.{from}
 use Rattle.edits.specs.Tries.{MayTry, IsTry}
 
 module _ {E : Type 0} (e : EditMeaning E) (m : UpdateRun E UpdateAt) (c : Call) (h : History) where
   pub at_start : (got : Option ℕ) → m.at ≡ Start → UpdateIsReady e m c h got → MayBeginTry e m c h × MayTry c h h m.limit m.tries × RestsWith c c.start m.share
   at_start None is r = (r.0, r.1, r.2)
-  at_start (Some v) is r = absurd (subst (λ p. UpdateIsToldAt e m (from c r.0) h v p) is r.3)
+  at_start (Some v) is r = absurd (subst (λ p. UpdateIsToldAt e m (begun_at c r.0) h v p) is r.3)
 
-  pub at_walk : (got : Option ℕ) (walk : WalkRun) → m.at ≡ Walk walk → UpdateIsReady e m c h got → (b : History) × IsTry c b h m.limit m.tries × IsUntouched c b m.share × Walks e m (from c b) h walk.goal × (v : ℕ) × (got ≡ Some v) × WalkIsTold walk (from c b) h v
+  pub at_walk : (got : Option ℕ) (walk : WalkRun) → m.at ≡ Walk walk → UpdateIsReady e m c h got → (b : History) × IsTry c b h m.limit m.tries × IsUntouched c b m.share × Walks e m (begun_at c b) h walk.goal × (v : ℕ) × (got ≡ Some v) × WalkIsTold walk (begun_at c b) h v
   at_walk None walk is r = absurd (let d : Walk walk ≡ Start = sym is ∙ r.3 in cc)
-  at_walk (Some v) walk is r = let t = subst (λ p. UpdateIsToldAt e m (from c r.0) h v p) is r.3 in (r.0, r.1, subst (λ p. FirstOrLost e m c r.0 p) is r.2, t.0, v, refl, t.1)
+  at_walk (Some v) walk is r = let t = subst (λ p. UpdateIsToldAt e m (begun_at c r.0) h v p) is r.3 in (r.0, r.1, subst (λ p. FirstOrLost e m c r.0 p) is r.2, t.0, v, refl, t.1)
 
-  pub at_look : (got : Option ℕ) (f : Found) (llx : LlxRun) → m.at ≡ Look f llx → UpdateIsReady e m c h got → (b : History) × IsTry c b h m.limit m.tries × (begin : History) × Looks e m (from c b) h f llx begin × LlxIsReady TreeAllows llx (from (from c b) begin) h got
+  pub at_look : (got : Option ℕ) (f : Found) (llx : LlxRun) → m.at ≡ Look f llx → UpdateIsReady e m c h got → (b : History) × IsTry c b h m.limit m.tries × (begin : History) × Looks e m (begun_at c b) h f llx begin × LlxIsReady TreeAllows llx (begun_at (begun_at c b) begin) h got
   at_look None f llx is r = absurd (let d : Look f llx ≡ Start = sym is ∙ r.3 in cc)
-  at_look (Some v) f llx is r = let t = subst (λ p. UpdateIsToldAt e m (from c r.0) h v p) is r.3 in (r.0, r.1, t.0, t.1, t.2)
+  at_look (Some v) f llx is r = let t = subst (λ p. UpdateIsToldAt e m (begun_at c r.0) h v p) is r.3 in (r.0, r.1, t.0, t.1, t.2)
 
-  pub at_load : (got : Option ℕ) (f : Found) (nth : Nth) (part : NodeWord) → m.at ≡ Load f nth part → UpdateIsReady e m c h got → (b : History) × IsTry c b h m.limit m.tries × Loads e m (from c b) h f nth part × (value h (node (copied e m f) part) ≡ unwrap_or got 0)
+  pub at_load : (got : Option ℕ) (f : Found) (nth : Nth) (part : NodeWord) → m.at ≡ Load f nth part → UpdateIsReady e m c h got → (b : History) × IsTry c b h m.limit m.tries × Loads e m (begun_at c b) h f nth part × (value h (node (copied e m f) part) ≡ unwrap_or got 0)
   at_load None f nth part is r = absurd (let d : Load f nth part ≡ Start = sym is ∙ r.3 in cc)
-  at_load (Some v) f nth part is r = let t = subst (λ p. UpdateIsToldAt e m (from c r.0) h v p) is r.3 in (r.0, r.1, t.0, t.1)
+  at_load (Some v) f nth part is r = let t = subst (λ p. UpdateIsToldAt e m (begun_at c r.0) h v p) is r.3 in (r.0, r.1, t.0, t.1)
 
-  pub at_fill : (got : Option ℕ) (f : Found) (nth : Nth) (part : NodeWord) → m.at ≡ Fill f nth part → UpdateIsReady e m c h got → (b : History) × IsTry c b h m.limit m.tries × IsFilledUpTo e m (from c b) h f nth part
+  pub at_fill : (got : Option ℕ) (f : Found) (nth : Nth) (part : NodeWord) → m.at ≡ Fill f nth part → UpdateIsReady e m c h got → (b : History) × IsTry c b h m.limit m.tries × IsFilledUpTo e m (begun_at c b) h f nth part
   at_fill None f nth part is r = absurd (let d : Fill f nth part ≡ Start = sym is ∙ r.3 in cc)
-  at_fill (Some v) f nth part is r = (r.0, r.1, subst (λ p. UpdateIsToldAt e m (from c r.0) h v p) is r.3)
+  at_fill (Some v) f nth part is r = (r.0, r.1, subst (λ p. UpdateIsToldAt e m (begun_at c r.0) h v p) is r.3)
 
-  pub at_scx : (got : Option ℕ) (f : Found) (scx : ScxRun) → m.at ≡ Scx f scx → UpdateIsReady e m c h got → (b : History) × IsTry c b h m.limit m.tries × (begin : History) × Scxs e m (from c b) h f scx begin × ScxIsReady TreeAllows scx (from (from c b) begin) h got
+  pub at_scx : (got : Option ℕ) (f : Found) (scx : ScxRun) → m.at ≡ Scx f scx → UpdateIsReady e m c h got → (b : History) × IsTry c b h m.limit m.tries × (begin : History) × Scxs e m (begun_at c b) h f scx begin × ScxIsReady TreeAllows scx (begun_at (begun_at c b) begin) h got
   at_scx None f scx is r = absurd (let d : Scx f scx ≡ Start = sym is ∙ r.3 in cc)
-  at_scx (Some v) f scx is r = let t = subst (λ p. UpdateIsToldAt e m (from c r.0) h v p) is r.3 in (r.0, r.1, t.0, t.1, t.2)
+  at_scx (Some v) f scx is r = let t = subst (λ p. UpdateIsToldAt e m (begun_at c r.0) h v p) is r.3 in (r.0, r.1, t.0, t.1, t.2)

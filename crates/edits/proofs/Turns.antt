@@ -13,7 +13,7 @@ use Rattle.arena.specs.declared.word.Word.TheVariants.{Node as NodeOf}
 use Rattle.arena.specs.History.{History, ◌⊳◌, value, Extends}
 use Rattle.arena.specs.Fills.{IsOwnNode, IsOwnScx}
 use Rattle.arena.specs.Lawful.{Lawful}
-use Rattle.arena.specs.Machines.{Call, IsRun, MatchTurn}
+use Rattle.arena.specs.Machines.{Call, IsRun, MatchTurn, begun_at}
 use Rattle.arena.specs.Share.{Remaining}
 use Rattle.arena.specs.Words.{marked, node, state}
 use Rattle.arena.proofs.Lemmas.{ends_self, ends_trans}
@@ -50,7 +50,6 @@ use Rattle.edits.specs.Edits.{EditMeaning}
 use Rattle.edits.specs.Sound.{IsAtFound}
 use Rattle.edits.specs.Known.{RestsWith, AreUsable, CoversLeaf, MayBeginTry, Walks, CanLook, CanFill, Scxs, IsUntouched, TryWaits, UpdateWaits, UpdateAnswers, done_at}
 use Rattle.edits.specs.Laws.Entered.{none_joined, none_lost, none_quiet}
-use Rattle.edits.specs.Laws.HandScx.{from}
 use Rattle.edits.specs.Laws.Kept.{idle_rests}
 use Rattle.edits.specs.Laws.Trying.{past_root}
 use Rattle.edits.specs.Pieces.{nth_node, word_of}
@@ -97,7 +96,7 @@ module _ {E : Type 0} (e : EditMeaning E) where
   )
 
   -- its walk asks for a step, past the root's head
-  pub walks_on : {A : Type 0} (m : UpdateRun E A) (walk after : WalkRun) (c : Call) (b h : History) (turn : Turn Found) (step : Step) → IsTry c b h m.limit m.tries → IsUntouched c b m.share → Walks e m (from c b) h walk.goal → after.goal ≡ walk.goal → IsPastRoot after.at → turn ≡ Ask step → MatchTurn turn (WalkWaits after (from c b) h) (WalkAnswers after (from c b) h) → UpdateWaits e (standing m (Walk after)) c h step
+  pub walks_on : {A : Type 0} (m : UpdateRun E A) (walk after : WalkRun) (c : Call) (b h : History) (turn : Turn Found) (step : Step) → IsTry c b h m.limit m.tries → IsUntouched c b m.share → Walks e m (begun_at c b) h walk.goal → after.goal ≡ walk.goal → IsPastRoot after.at → turn ≡ Ask step → MatchTurn turn (WalkWaits after (begun_at c b) h) (WalkAnswers after (begun_at c b) h) → UpdateWaits e (standing m (Walk after)) c h step
   walks_on m walk after c b h turn step try first x same past asked w = (b, past_root after.at past try, first, (record { small = x.small; rests = x.rests; quiet = x.quiet; same = same ∙ x.same }, rw asked at w))
 
   -- its walk is told something, at a moment of the call
@@ -122,7 +121,7 @@ module _ {E : Type 0} (e : EditMeaning E) where
       quiet = x.quiet;
       since = x.begins.since;
     },
-    turn_first TreeAllows (from c h) h run (record { node = n; at = LlxStart }) (record { node = n; at = AtMarked }) (Ask (load LoadMarked (marked n.0))) record {
+    turn_first TreeAllows (begun_at c h) h run (record { node = n; at = LlxStart }) (record { node = n; at = AtMarked }) (Ask (load LoadMarked (marked n.0))) record {
       opened = opened;
       since = ends_self h;
       quiet = quiet_at_start c.layout c.pass h (idle_rests c h m.share x.begins.run.1.lawful x.begins.rests);
@@ -159,7 +158,7 @@ module _ {E : Type 0} (e : EditMeaning E) where
   )
 
   -- its SCX asks for a step
-  pub scx_asks : {A : Type 0} (m : UpdateRun E A) (scx after : ScxRun) (f : Found) (begin : History) (c : Call) (h : History) (turn : Turn ScxAnswer) (step : Step) → Scxs e m c h f scx begin → after.scx ≡ scx.scx → after.update ≡ scx.update → after.call ≡ scx.call → turn ≡ Ask step → MatchTurn turn (ScxWaits TreeAllows after (from c begin) h) (ScxAnswers after (from c begin) h) → TryWaits e (standing m (Scx f after)) c h step
+  pub scx_asks : {A : Type 0} (m : UpdateRun E A) (scx after : ScxRun) (f : Found) (begin : History) (c : Call) (h : History) (turn : Turn ScxAnswer) (step : Step) → Scxs e m c h f scx begin → after.scx ≡ scx.scx → after.update ≡ scx.update → after.call ≡ scx.call → turn ≡ Ask step → MatchTurn turn (ScxWaits TreeAllows after (begun_at c begin) h) (ScxAnswers after (begun_at c begin) h) → TryWaits e (standing m (Scx f after)) c h step
   scx_asks m scx after f begin c h turn step x is_scx is_update is_call asked w = (
     begin,
     record {
@@ -186,11 +185,11 @@ module _ {E : Type 0} (e : EditMeaning E) where
   )
 
   -- where its SCX is finished, the pass is at rest
-  scx_rests : {A : Type 0} (m : UpdateRun E A) (scx : ScxRun) (f : Found) (c : Call) (b begin h : History) → Scxs e m (from c b) h f scx begin → value h (state scx.scx.0) ≢ 0 → RestsWith c h m.share
+  scx_rests : {A : Type 0} (m : UpdateRun E A) (scx : ScxRun) (f : Found) (c : Call) (b begin h : History) → Scxs e m (begun_at c b) h f scx begin → value h (state scx.scx.0) ≢ 0 → RestsWith c h m.share
   scx_rests m scx f c b begin h x finished = rests_again c h m.share scx x.run.1.lawful x.share x.next_scx x.over (λ z. (let a = x.own_scx.from in omega (arith, z))) finished
 
   -- its SCX is done
-  pub scx_done : IsAtFound e → {A : Type 0} (m : UpdateRun E A) (scx after : ScxRun) (f : Found) (c : Call) (b begin h : History) (turn : Turn ScxAnswer) → IsTry c b h m.limit m.tries → Scxs e m (from c b) h f scx begin → after.scx ≡ scx.scx → after.update ≡ scx.update → after.call ≡ scx.call → turn ≡ Done ScxDone → MatchTurn turn (ScxWaits TreeAllows after (from c begin) h) (ScxAnswers after (from c begin) h) → UpdateAnswers e m c h (done_at f)
+  pub scx_done : IsAtFound e → {A : Type 0} (m : UpdateRun E A) (scx after : ScxRun) (f : Found) (c : Call) (b begin h : History) (turn : Turn ScxAnswer) → IsTry c b h m.limit m.tries → Scxs e m (begun_at c b) h f scx begin → after.scx ≡ scx.scx → after.update ≡ scx.update → after.call ≡ scx.call → turn ≡ Done ScxDone → MatchTurn turn (ScxWaits TreeAllows after (begun_at c begin) h) (ScxAnswers after (begun_at c begin) h) → UpdateAnswers e m c h (done_at f)
   scx_done laws m scx after f c b begin h turn try x is_scx is_update is_call done w = (
     scx_rests m scx f c b begin h x finished,
     record {
@@ -209,20 +208,20 @@ module _ {E : Type 0} (e : EditMeaning E) where
     },
   )
     where
-      is_done : IsDone (from c begin) h after
+      is_done : IsDone (begun_at c begin) h after
       is_done = rw done at w
 
       finished : value h (state scx.scx.0) ≢ 0
       finished z = let a : value h (state scx.scx.0) ≡ 1 = subst (λ (t : ScxNo). value h (state t.0) ≡ 1) is_scx is_done.committed in omega (arith, a, z)
 
   -- its SCX is lost: it may try again
-  pub scx_lost : {A : Type 0} (m : UpdateRun E A) (scx after : ScxRun) (f : Found) (c : Call) (b begin h : History) (turn : Turn ScxAnswer) (n : NodeNo) (s : ScxNo) → IsTry c b h m.limit m.tries → Scxs e m (from c b) h f scx begin → after.scx ≡ scx.scx → after.update ≡ scx.update → turn ≡ Done (Lost n s) → MatchTurn turn (ScxWaits TreeAllows after (from c begin) h) (ScxAnswers after (from c begin) h) → MayBeginTry e m c h × HasLostTry c h m.limit m.tries n.0 s.0
+  pub scx_lost : {A : Type 0} (m : UpdateRun E A) (scx after : ScxRun) (f : Found) (c : Call) (b begin h : History) (turn : Turn ScxAnswer) (n : NodeNo) (s : ScxNo) → IsTry c b h m.limit m.tries → Scxs e m (begun_at c b) h f scx begin → after.scx ≡ scx.scx → after.update ≡ scx.update → turn ≡ Done (Lost n s) → MatchTurn turn (ScxWaits TreeAllows after (begun_at c begin) h) (ScxAnswers after (begun_at c begin) h) → MayBeginTry e m c h × HasLostTry c h m.limit m.tries n.0 s.0
   scx_lost m scx after f c b begin h turn n s try x is_scx is_update done w = (
     record { run = x.run; small = x.small; since = since; rests = scx_rests m scx f c b begin h x finished },
     record {
       begin = b;
       try = try;
-      way = lost_contended (from c b) begin h (e.goal m.edit) f after n.0 s.0 x.run.1.lawful x.quiet (subst (λ (u : Update). AreUsable (from c b) begin (e.goal m.edit) f u.snaps) (sym is_update) x.usable) lost;
+      way = lost_contended (begun_at c b) begin h (e.goal m.edit) f after n.0 s.0 x.run.1.lawful x.quiet (subst (λ (u : Update). AreUsable (begun_at c b) begin (e.goal m.edit) f u.snaps) (sym is_update) x.usable) lost;
       none = none_joined c.layout c.pass h b c.start x.now try.none (none_lost c.layout c.pass scx.scx.0 h b x.run.1.lawful aborted x.only);
     },
   )
@@ -230,7 +229,7 @@ module _ {E : Type 0} (e : EditMeaning E) where
       since : Extends h c.start
       since = ends_trans h b c.start x.now try.since
 
-      lost : IsLost (from c begin) h after n.0 s.0
+      lost : IsLost (begun_at c begin) h after n.0 s.0
       lost = rw done at w
 
       aborted : value h (state scx.scx.0) ≡ 2
@@ -240,11 +239,11 @@ module _ {E : Type 0} (e : EditMeaning E) where
       finished z = let a = aborted in omega (arith, a, z)
 
   -- while it only looks, it has entered nothing
-  pub nothing_entered : {A : Type 0} (m : UpdateRun E A) (c : Call) (b h : History) → IsTry c b h m.limit m.tries → MayBeginTry e m (from c b) h → IsQuietSince c.layout c.pass b h → HasEnteredNone c.layout c.pass h c.start
+  pub nothing_entered : {A : Type 0} (m : UpdateRun E A) (c : Call) (b h : History) → IsTry c b h m.limit m.tries → MayBeginTry e m (begun_at c b) h → IsQuietSince c.layout c.pass b h → HasEnteredNone c.layout c.pass h c.start
   nothing_entered m c b h try x quiet = none_joined c.layout c.pass h b c.start x.since try.none (none_quiet c.layout c.pass h b x.run.1.lawful quiet)
 
   -- and its try is lost, if another was in its way
-  pub look_lost : {A : Type 0} (m : UpdateRun E A) (c : Call) (b h : History) (n s : ℕ) → IsTry c b h m.limit m.tries → MayBeginTry e m (from c b) h → IsQuietSince c.layout c.pass b h → IsContended (from c b) h n s → MayBeginTry e m c h × HasLostTry c h m.limit m.tries n s
+  pub look_lost : {A : Type 0} (m : UpdateRun E A) (c : Call) (b h : History) (n s : ℕ) → IsTry c b h m.limit m.tries → MayBeginTry e m (begun_at c b) h → IsQuietSince c.layout c.pass b h → IsContended (begun_at c b) h n s → MayBeginTry e m c h × HasLostTry c h m.limit m.tries n s
   look_lost m c b h n s try x quiet way = (
     record { run = x.run; small = x.small; since = ends_trans h b c.start x.since try.since; rests = record { share = x.rests.share; over = x.rests.over } },
     record { begin = b; try = try; way = way; none = nothing_entered m c b h try x quiet },
@@ -266,7 +265,7 @@ module _ {E : Type 0} (e : EditMeaning E) where
   }
 
   -- at rest in a try it is so in the call
-  pub at_rest : {A : Type 0} (m : UpdateRun E A) (c : Call) (b h : History) → MayBeginTry e m (from c b) h → RestsWith c h m.share
+  pub at_rest : {A : Type 0} (m : UpdateRun E A) (c : Call) (b h : History) → MayBeginTry e m (begun_at c b) h → RestsWith c h m.share
   at_rest m c b h x = record { share = x.rests.share; over = x.rests.over }
 
 -- a turn that always asks for a step answers nothing

@@ -9,6 +9,7 @@ use Rattle.arena.specs.History.{History, Start, ◌⊳◌, value, Extends}
 use Rattle.arena.specs.Lawful.{Lawful, HasWon, IsWin}
 use Rattle.arena.specs.Log.{log}
 use Rattle.arena.specs.Machines.{Call}
+use Rattle.arena.specs.Undisturbed.{IsUndisturbed}
 use Rattle.arena.specs.Words.{state}
 use Rattle.arena.proofs.Lemmas.{ends_self, ends_trans}
 use Rattle.histories.specs.Descriptor.{descriptor}
@@ -27,7 +28,6 @@ use Rattle.ordered_map.proofs.Lemmas.{log_edits, one_spelling, spells_log, walk_
 use Rattle.template.proofs.Lemmas.{own_since}
 use Rattle.template.specs.FoundLeaf.{HasFoundLeaf}
 use Rattle.template.specs.declared.walk.Found.{Found}
-use Rattle.edits.specs.Undisturbed.{IsUndisturbed}
 use Rattle.template.specs.Blame.{IsContended}
 use Rattle.edits.specs.Known.{HasMade}
 use Rattle.edits.specs.Tries.{HasEnteredNone}

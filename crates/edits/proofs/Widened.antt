@@ -2,21 +2,20 @@
 use Rattle.std.proofs.Common.{ℕ}
 use Rattle.arena.specs.declared.word.Side.{Side}
 use Rattle.arena.specs.History.{History, Extends}
-use Rattle.arena.specs.Machines.{Call}
+use Rattle.arena.specs.Machines.{Call, begun_at}
 use Rattle.arena.proofs.Lemmas.{ends_trans}
 use Rattle.template.specs.FoundLeaf.{HasEnded}
 use Rattle.template.specs.Trails.{IsOwnMoment, WasPassed, HasTurned}
 use Rattle.template.specs.declared.walk.Found.{Found}
-use Rattle.edits.specs.Laws.HandScx.{from}
 
 module _ (c : Call) (b : History) (since : Extends b c.start) where
-  own_wider : (h : History) → IsOwnMoment (from c b) h → IsOwnMoment c h
+  own_wider : (h : History) → IsOwnMoment (begun_at c b) h → IsOwnMoment c h
   own_wider h x = record { row = x.row; before = x.before; is = x.is; since = ends_trans x.before b c.start x.since since; own = x.own }
 
-  passed_wider : (h : History) (k n : ℕ) → WasPassed (from c b) h k n → WasPassed c h k n
+  passed_wider : (h : History) (k n : ℕ) → WasPassed (begun_at c b) h k n → WasPassed c h k n
   passed_wider h k n x = record { first = x.first; own = own_wider x.first x.own; passed = x.passed }
 
-  turned_wider : (h : History) (k n : ℕ) (side : Side) (next : ℕ) → HasTurned (from c b) h k n side next → HasTurned c h k n side next
+  turned_wider : (h : History) (k n : ℕ) (side : Side) (next : ℕ) → HasTurned (begun_at c b) h k n side next → HasTurned c h k n side next
   turned_wider h k n side next x = record {
     passed = passed_wider h k n x.passed;
     fork = x.fork;
@@ -30,7 +29,7 @@ module _ (c : Call) (b : History) (since : Extends b c.start) where
     };
   }
 
-  pub found_wider : {asked : ℕ} (h : History) (k : ℕ) (f : Found) → HasEnded (from c b) h k asked f → HasEnded c h k asked f
+  pub found_wider : {asked : ℕ} (h : History) (k : ℕ) (f : Found) → HasEnded (begun_at c b) h k asked f → HasEnded c h k asked f
   found_wider h k f x = record {
     trail = record {
       node = passed_wider h k f.trail.node.0 x.trail.node;

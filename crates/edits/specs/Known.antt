@@ -1,5 +1,5 @@
 -- When an update may go on, and what it waits for.
-use Rattle.std.specs.Prelude.{◌≡◌, ◌≢◌, ℕ, suc, ◌^◌, ◌<◌, ◌≤◌, ◌⊎◌, eqb, cond, List, ◌∷◌, length, take, Option, Some, None}
+use Rattle.std.specs.Prelude.{◌≡◌, ◌≢◌, ℕ, suc, ◌^◌, ◌<◌, ◌≤◌, ◌⊎◌, ◌==◌, if◌then◌else◌, List, ◌∷◌, length, take, Option, Some, None}
 use Rattle.arena.specs.declared.fault.Full.{Full}
 use Rattle.arena.specs.declared.fault.Resource.{Resource}
 use Rattle.arena.specs.declared.fault.Resource.TheVariants.{Nodes as FreshNodes, Scx as ScxRecords}
@@ -16,7 +16,7 @@ use Rattle.arena.specs.History.{History, ◌⊳◌, value, Extends}
 use Rattle.arena.specs.Lawful.{IsSettled, IsWin}
 use Rattle.arena.specs.Layout.{all_nodes}
 use Rattle.arena.specs.Log.{Entry, log}
-use Rattle.arena.specs.Machines.{Call, MatchTurn}
+use Rattle.arena.specs.Machines.{Call, MatchTurn, begun_at}
 use Rattle.arena.specs.Share.{Remaining}
 use Rattle.arena.specs.Words.{node}
 use Rattle.prims.specs.FoundThere.{HasFoundThere}
@@ -57,7 +57,6 @@ use Rattle.edits.specs.declared.update.UpdateRun.{UpdateRun}
 use Rattle.template.specs.Blame.{IsContended, HasLostTriesTo}
 use Rattle.edits.specs.Edits.{EditMeaning}
 use Rattle.edits.specs.Laws.Hand.{IsBefore, IsUpTo, IsPieceWord, HoldsWords, HasFilledTo, IsForField, FieldMay}
-use Rattle.edits.specs.Laws.HandScx.{from}
 use Rattle.edits.specs.Laws.NodeFills.{node_fill}
 use Rattle.edits.specs.Pieces.{many_nodes, nth_node, top_of, plan_over, word_of}
 use Rattle.edits.specs.Tries.{HasEnteredOnly, HasEnteredNone, MayTry, IsTry, IsTryAt, CoversSnaps}
@@ -141,7 +140,9 @@ AreInOrder _ ns = Unit {0}
 
 -- what the edit says of them, by their numbers
 abbrev pub pieces_by : (Nth → Piece) → Nodes → ℕ → Piece
-pieces_by p ns n = cond (eqb n ns.first.0) (p First) (cond (eqb n ns.second.0) (p Second) (p Third))
+pieces_by p ns n =
+    if n == ns.first.0 then p First
+    else (if n == ns.second.0 then p Second else p Third)
 
 -- this node is fresh, and holds what the piece says
 pub record HoldsPiece (c : Call) (h : History) (n : ℕ) (p : Piece) : Type 0 where
@@ -319,19 +320,19 @@ module _ {E : Type 0} (e : EditMeaning E) where
   abbrev pub UpdateWaitsAt : {A : Type 0} → UpdateRun E A → Call → History → Step → UpdateAt → Type 0
   UpdateWaitsAt m c h s Start = ⊥
   UpdateWaitsAt m c h s (Walk walk) = Walks m c h walk.goal × WalkWaits walk c h s
-  UpdateWaitsAt m c h s (Look f llx) = (begin : History) × Looks m c h f llx begin × LlxWaits TreeAllows llx (from c begin) h s
+  UpdateWaitsAt m c h s (Look f llx) = (begin : History) × Looks m c h f llx begin × LlxWaits TreeAllows llx (begun_at c begin) h s
   UpdateWaitsAt m c h s (Load f nth part) = Loads m c h f nth part × (s ≡ load LoadSettled (node (copied m f) part))
   UpdateWaitsAt m c h s (Fill f nth part) = FillsPiece m c h f nth part × FieldMay part (IsForField c.layout h m.nodes.first.0 (top m f) (word_of (piece m f (nth_node m.nodes nth).0) part)) × HoldsWords h (nth_node m.nodes nth).0 (piece m f (nth_node m.nodes nth).0) (IsBefore part) × (s ≡ piece_fill_step m f nth part)
-  UpdateWaitsAt m c h s (Scx f scx) = (begin : History) × Scxs m c h f scx begin × ScxWaits TreeAllows scx (from c begin) h s
+  UpdateWaitsAt m c h s (Scx f scx) = (begin : History) × Scxs m c h f scx begin × ScxWaits TreeAllows scx (begun_at c begin) h s
 
   -- what holds once the step of this place has told v
   abbrev pub UpdateIsToldAt : {A : Type 0} → UpdateRun E A → Call → History → ℕ → UpdateAt → Type 0
   UpdateIsToldAt m c h v Start = ⊥
   UpdateIsToldAt m c h v (Walk walk) = Walks m c h walk.goal × WalkIsReady walk c h (Some v)
-  UpdateIsToldAt m c h v (Look f llx) = (begin : History) × Looks m c h f llx begin × LlxIsReady TreeAllows llx (from c begin) h (Some v)
+  UpdateIsToldAt m c h v (Look f llx) = (begin : History) × Looks m c h f llx begin × LlxIsReady TreeAllows llx (begun_at c begin) h (Some v)
   UpdateIsToldAt m c h v (Load f nth part) = Loads m c h f nth part × (value h (node (copied m f) part) ≡ v)
   UpdateIsToldAt m c h v (Fill f nth part) = IsFilledUpTo m c h f nth part
-  UpdateIsToldAt m c h v (Scx f scx) = (begin : History) × Scxs m c h f scx begin × ScxIsReady TreeAllows scx (from c begin) h (Some v)
+  UpdateIsToldAt m c h v (Scx f scx) = (begin : History) × Scxs m c h f scx begin × ScxIsReady TreeAllows scx (begun_at c begin) h (Some v)
 
   -- it may begin a try
   pub record MayBeginTry {A : Type 0} (m : UpdateRun E A) (c : Call) (h : History) : Type 0 where
@@ -354,7 +355,7 @@ module _ {E : Type 0} (e : EditMeaning E) where
   -- it may be called with this: with nothing at its start, then with what its step told
   abbrev pub UpdateIsReady : UpdateRun E UpdateAt → Call → History → Option ℕ → Type 0
   UpdateIsReady m c h None = MayBeginTry m c h × MayTry c h h m.limit m.tries × RestsWith c c.start m.share × (m.at ≡ Start)
-  UpdateIsReady m c h (Some v) = (begin : History) × IsTry c begin h m.limit m.tries × FirstOrLost m c begin m.at × UpdateIsToldAt m (from c begin) h v m.at
+  UpdateIsReady m c h (Some v) = (begin : History) × IsTry c begin h m.limit m.tries × FirstOrLost m c begin m.at × UpdateIsToldAt m (begun_at c begin) h v m.at
 
   -- in the try that this call is, it waits for this step where it stands
   abbrev pub TryWaits : UpdateRun E UpdateAt → Call → History → Step → Type 0
@@ -362,7 +363,7 @@ module _ {E : Type 0} (e : EditMeaning E) where
 
   -- it waits for this step in the try that began at some moment
   abbrev pub UpdateWaits : UpdateRun E UpdateAt → Call → History → Step → Type 0
-  UpdateWaits m c h s = (begin : History) × Tries m c begin h m.at × FirstOrLost m c begin m.at × TryWaits m (from c begin) h s
+  UpdateWaits m c h s = (begin : History) × Tries m c begin h m.at × FirstOrLost m c begin m.at × TryWaits m (begun_at c begin) h s
 
   -- What its turns are asked for
 

@@ -2,7 +2,6 @@ pub mod Pieces
 pub mod Edits
 pub mod Steps
 pub mod Tries
-pub mod Undisturbed
 pub mod Known
 pub mod Next
 pub mod Sound

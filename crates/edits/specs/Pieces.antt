@@ -1,5 +1,5 @@
 -- What fresh nodes are to hold.
-use Rattle.std.specs.Prelude.{◌≡◌, ℕ, ◌+◌, ◌*◌, ◌-◌, ◌%◌, ◌^◌, min, ltb, Bool, true, false, List, [], ◌∷◌, Option, Some, None}
+use Rattle.std.specs.Prelude.{◌≡◌, ℕ, ◌+◌, ◌*◌, ◌-◌, ◌%◌, ◌^◌, min, nat_lt, Bool, true, false, List, [], ◌∷◌, Option, Some, None}
 use Rattle.arena.specs.declared.word.Side.{Side}
 use Rattle.arena.specs.declared.number.NodeNo.{NodeNo}
 use Rattle.arena.specs.declared.word.Side.TheVariants.{Left, Right}
@@ -90,7 +90,7 @@ HasPlace need nth = need ≡ Three
 
 -- which of so many nodes an update finalizes: all but the first
 abbrev pub all_but_first : ℕ → List Bool
-all_but_first n = false ∷ ltb 1 n ∷ ltb 2 n ∷ ltb 3 n ∷ []
+all_but_first n = false ∷ nat_lt 1 n ∷ nat_lt 2 n ∷ nat_lt 3 n ∷ []
 
 -- the plan word of an update of so many nodes that changes the first one's field on this side
 abbrev pub plan_over : ℕ → Side → ℕ

@@ -2,6 +2,7 @@
 ghost use Rattle.std.specs.Prelude.{◌≡◌, ℕ, ◌^◌, ◌<◌, List, Option};
 ghost use Rattle.arena.specs.History.{History, value, Extends};
 ghost use Rattle.arena.specs.Machines.{Call};
+ghost use Rattle.arena.specs.Undisturbed.{IsUndisturbed};
 ghost use Rattle.ordered_map.specs.declared.pair.Pair.{Pair};
 ghost use Rattle.ordered_map.specs.OrderedMap.{MapEdit, edit_key, edited, get};
 ghost use Rattle.ordered_map.specs.Paths.{IsAnswerAt};
@@ -9,7 +10,6 @@ ghost use Rattle.ordered_map.specs.Runs.{IsTreeRun};
 ghost use Rattle.ordered_map.specs.Spelled.{Spells};
 ghost use Rattle.template.specs.FoundLeaf.{HasFoundLeaf};
 ghost use Rattle.template.specs.declared.walk.Found.{Found};
-ghost use Rattle.edits.specs.Undisturbed.{IsUndisturbed};
 ghost use Rattle.template.specs.Blame.{IsContended};
 ghost use Rattle.edits.specs.Known.{HasMade};
 ghost use Rattle.edits.specs.Tries.{HasEnteredNone};

@@ -171,12 +171,11 @@ impl<E: Edit + Drop> UpdateRun<E, UpdateAt> {
     ghost use Rattle.edits.specs.Known.{Walks, IsFilledUpTo, UpdateIsReady};
     ghost use Rattle.edits.specs.Steps.{UpdateFits, fills_left};
     ghost use Rattle.arena.specs.History.{History};
-    ghost use Rattle.arena.specs.Machines.{Call, IsRun};
+    ghost use Rattle.arena.specs.Machines.{Call, IsRun, begun_at};
     ghost use Rattle.prims.specs.Llx.Known.{LlxIsReady};
     ghost use Rattle.prims.specs.Scx.Known.{ScxIsReady};
     ghost use Rattle.ordered_map.specs.TreeShape.{TreeAllows};
     ghost use Rattle.edits.specs.Known.{MayBeginTry, IsUntouched, Looks, Scxs, UpdateTurn};
-    ghost use Rattle.edits.specs.Laws.HandScx.{from};
     ghost use Rattle.edits.specs.Steps.{HasScxForFill, IsSpending, node_tries, scx_tries};
     ghost use Rattle.edits.specs.Next.{IsSameUpdate, placed, next_step, fills, update_of, MayStop, UpdateGoesOn, ComesNearer, HasSpentForNext};
     ghost use Rattle.arena.specs.Share.{Remaining};
@@ -220,7 +219,7 @@ impl<E: Edit + Drop> UpdateRun<E, UpdateAt> {
 
     /// Goes on with what the last step of the walk found.
     fn walk_on(&mut self, mut walk: WalkRun, got: Option<u64>) -> Turn<Updated>
-        ensures turn { (c : Call) (b h : History) (v : ℕ) → got ≡ Some v → IsRun TreeAllows c.layout h → IsTry c b h self.old.limit self.old.tries → IsUntouched c b self.old.share → Walks E.means self.old (from c b) h walk.goal → WalkIsTold walk (from c b) h v → UpdateTurn E.means c h self.new result }
+        ensures turn { (c : Call) (b h : History) (v : ℕ) → got ≡ Some v → IsRun TreeAllows c.layout h → IsTry c b h self.old.limit self.old.tries → IsUntouched c b self.old.share → Walks E.means self.old (begun_at c b) h walk.goal → WalkIsTold walk (begun_at c b) h v → UpdateTurn E.means c h self.new result }
         ensures same { IsSameUpdate self.old self.new }
         ensures nearer { (nodes : ℕ) → WalkFits walk got nodes → IsNearer E.means self.new nodes result (self.old.tries * try_left E.means nodes + (walk_left walk.at nodes + (64 * E.means.most_looks + works_behind E.means First + 39))) }
         ensures spends { IsSpending E.means result self.old.share self.new (self.old.tries + 1) (self.old.tries + 1) }
@@ -240,7 +239,7 @@ impl<E: Edit + Drop> UpdateRun<E, UpdateAt> {
 
     /// Goes on with what the last step of an LLX found.
     fn look_on(&mut self, found: Found, mut llx: LlxRun, got: Option<u64>) -> Turn<Updated>
-        ensures turn { (c : Call) (b begin h : History) → IsRun TreeAllows c.layout h → IsTry c b h self.old.limit self.old.tries → Looks E.means self.old (from c b) h found llx begin → LlxIsReady TreeAllows llx (from (from c b) begin) h got → UpdateTurn E.means c h self.new result }
+        ensures turn { (c : Call) (b begin h : History) → IsRun TreeAllows c.layout h → IsTry c b h self.old.limit self.old.tries → Looks E.means self.old (begun_at c b) h found llx begin → LlxIsReady TreeAllows llx (begun_at (begun_at c b) begin) h got → UpdateTurn E.means c h self.new result }
         ensures same { IsSameUpdate self.old self.new }
         ensures nearer { (nodes : ℕ) → IsNearer E.means self.new nodes result (self.old.tries * try_left E.means nodes + (llx_left llx.at + 64 * (E.means.most_looks - 1 - length self.old.snaps.items) + works_behind E.means First + 39)) }
         ensures spends { IsSpending E.means result self.old.share self.new (self.old.tries + 1) (self.old.tries + 1) }
@@ -280,7 +279,7 @@ impl<E: Edit + Drop> UpdateRun<E, UpdateAt> {
 
     /// Goes on behind that fill: with the next word, or with what is done behind the last.
     fn fill_on(&mut self, found: Found, nth: Nth, part: NodeWord) -> Turn<Updated>
-        ensures turn { (c : Call) (b h : History) → IsRun TreeAllows c.layout h → IsTry c b h self.old.limit self.old.tries → IsFilledUpTo E.means self.old (from c b) h found nth part → UpdateTurn E.means c h self.new result }
+        ensures turn { (c : Call) (b h : History) → IsRun TreeAllows c.layout h → IsTry c b h self.old.limit self.old.tries → IsFilledUpTo E.means self.old (begun_at c b) h found nth part → UpdateTurn E.means c h self.new result }
         ensures same { IsSameUpdate self.old self.new }
         ensures nearer { (nodes : ℕ) → IsNearer E.means self.new nodes result (self.old.tries * try_left E.means nodes + (fills_left E.means self.old found nth part + 39)) }
         ensures spends { 0 < self.old.share.scx → IsSpending E.means result self.old.share self.new self.old.tries (self.old.tries + 1) }
@@ -416,7 +415,7 @@ impl<E: Edit + Drop> UpdateRun<E, UpdateAt> {
 
     /// Goes on with what the last step of the SCX found.
     fn scx_on(&mut self, found: Found, mut scx: ScxRun, got: Option<u64>) -> Turn<Updated>
-        ensures turn { (c : Call) (b begin h : History) → IsRun TreeAllows c.layout h → IsTry c b h self.old.limit self.old.tries → Scxs E.means self.old (from c b) h found scx begin → ScxIsReady TreeAllows scx (from (from c b) begin) h got → UpdateTurn E.means c h self.new result }
+        ensures turn { (c : Call) (b begin h : History) → IsRun TreeAllows c.layout h → IsTry c b h self.old.limit self.old.tries → Scxs E.means self.old (begun_at c b) h found scx begin → ScxIsReady TreeAllows scx (begun_at (begun_at c b) begin) h got → UpdateTurn E.means c h self.new result }
         ensures same { IsSameUpdate self.old self.new }
         ensures nearer { (nodes : ℕ) → IsNearer E.means self.new nodes result (self.old.tries * try_left E.means nodes + scx_left scx.at) }
         ensures spends { IsSpending E.means result self.old.share self.new self.old.tries self.old.tries }

@@ -14,9 +14,8 @@ use Rattle.arena.specs.declared.word.Side.{Side}
 use Rattle.arena.specs.declared.word.Side.TheVariants.{Left}
 use Rattle.arena.specs.Heads.{head_of}
 use Rattle.arena.specs.History.{History}
-use Rattle.arena.specs.Machines.{Call, IsRun, MatchTurn}
+use Rattle.arena.specs.Machines.{Call, IsRun, MatchTurn, begun_at}
 use Rattle.arena.specs.Words.{info, marked, node, state}
-use Rattle.order.specs.Reads.{begun_at}
 use Rattle.order.specs.Successor.Known.{SuccessorGoes, HasHead, IsSameSuccessor, LooksAt, SuccessorStandsAt, SuccessorAnswers, SuccessorIsReady, SuccessorWaits, head_at, key_at}
 use Rattle.order.specs.Successor.Laws.{successor_told}
 use Rattle.order.specs.Successor.Next.{SuccessorComesNearer, SuccessorGoesOn, SuccessorMayDo, SuccessorMayGoOn, successor_next_step, successor_placed}
@@ -220,7 +219,7 @@ module _ {M : Type 0} {o : Calls M} (r : SuccessorReader o) where
             record { reads = y.2.reads; small = y.2.small },
             (
               b,
-              record { own = t.own; within = t.within; then = t.then; right = t.right },
+              record { own = t.own; within = t.within; reads = t.reads; right = t.right },
               subst (λ (l : List Snap). VlxWaits l now d h s) e (turn d (y.2.reads.run.1.lawful, subst (λ (l : List Snap). VlxIsTold l old d h v) (sym e) y.4.2)),
             ),
           );

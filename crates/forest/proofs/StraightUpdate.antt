@@ -33,12 +33,12 @@ use Rattle.edits.proofs.Lemmas.{fills_next, fills_word, joined_spends, placed_sa
 use Rattle.forest.specs.declared.straight.changing.Change.{Change}
 use Rattle.forest.specs.StraightChange.{Changer, all_frozen_load, changing_at, scx_fill}
 use Rattle.arena.specs.History.{History, value}
-use Rattle.arena.specs.Machines.{Call, IsRun}
+use Rattle.arena.specs.Machines.{Call, IsRun, begun_at}
 use Rattle.arena.specs.Words.{marked, node, state}
 use Rattle.arena.proofs.Lemmas.{ends_self}
 use Rattle.prims.specs.FoundThere.{HasFoundThere}
 use Rattle.prims.specs.Laws.FoundThere.{there_wider}
-use Rattle.prims.specs.Laws.Idle.{quiet_at_start}
+use Rattle.prims.specs.Laws.Idle.{quiet_at_start, idle_if_finished}
 use Rattle.prims.specs.Llx.Known.{load, IsSnapshot}
 use Rattle.prims.specs.declared.llx.LlxAt.TheVariants.{Marked, StateAgain}
 use Rattle.prims.specs.declared.llx.LlxRun.{LlxRun}
@@ -55,8 +55,6 @@ use Rattle.template.specs.declared.walk.WalkRun.{WalkRun}
 use Rattle.template.proofs.Lemmas.{own_since, walk_begins}
 use Rattle.edits.specs.Edits.{EditMeaning}
 use Rattle.edits.specs.Known.{MayBeginTry, CanFill, CanLook, IsFilledUpTo, IsNeeded, IsUntouched, Loads, Looks, IsFullFor, UpdateAnswers, UpdateIsReady, UpdateWaits, UpdateTurn, Walks, copied, done_at as done_with}
-use Rattle.edits.specs.Laws.HandScx.{from}
-use Rattle.edits.specs.Laws.Kept.{idle_over}
 use Rattle.edits.specs.Steps.{HasScxForFill, IsSpending, IsWanted, UpdateFits, fills_left, node_tries, scx_tries, try_left, update_left, works_after}
 use Rattle.edits.specs.Tries.{IsTry, IsTryAt}
 use Rattle.edits.specs.Next.{IsSameUpdate, placed, standing, next_step, update_of, MayStop, UpdateGoesOn, HasSpentForNext, left_then}
@@ -142,12 +140,12 @@ module _ {M E : Type 0} {o : Calls M} {e : EditMeaning E} (u : Updater o e) wher
     is_number = u.is_number;
     first = u.first;
     with_run = λ w. u.with_run (walking m w.0);
-    tells = λ w h v run x. let y = u.tells (walking m w.0) h (Some v) x in (from u.call y.0, y.3.1);
+    tells = λ w h v run x. let y = u.tells (walking m w.0) h (Some v) x in (begun_at u.call y.0, y.3.1);
     turns = λ old now h v s goes next run x.
         let y = u.tells (walking m old.0) h (Some v) x in
         let w = y.3.0 in
         u.turns (walking m old.0) (walking m now.0) h (Some v) s record { edit = refl; called = refl; limit = refl; tries = (omega arith, omega arith); spends = (omega arith, omega arith, omega arith) } x
-        (y.0, try_past u.call y.0 h m.limit m.tries now.0.at goes.0 y.1, y.2, (record { small = w.small; rests = w.rests; quiet = w.quiet; same = goes.1 ∙ w.same }, next (from u.call y.0) y.3.1));
+        (y.0, try_past u.call y.0 h m.limit m.tries now.0.at goes.0 y.1, y.2, (record { small = w.small; rests = w.rests; quiet = w.quiet; same = goes.1 ∙ w.same }, next (begun_at u.call y.0) y.3.1));
     stays = λ old now goes. u.stays (walking m old.0) (walking m now.0) refl (omega arith, omega arith);
   }
 
@@ -171,8 +169,8 @@ module _ {M E : Type 0} {o : Calls M} {e : EditMeaning E} (u : Updater o e) wher
             r.1,
             inl r.2,
             (
-              record { small = b.small; rests = record { share = b.rests.share; over = b.rests.over }; quiet = quiet_at_start u.call.layout u.call.pass h (idle_over u.call h b.run.1.lawful b.rests.over); same = sym goal },
-              walk_begins key (from u.call h) h b.run (rw goal at b.small) (ends_self h),
+              record { small = b.small; rests = record { share = b.rests.share; over = b.rests.over }; quiet = quiet_at_start u.call.layout u.call.pass h (idle_if_finished u.call h b.run.1.lawful b.rests.over); same = sym goal },
+              walk_begins key (begun_at u.call h) h b.run (rw goal at b.small) (ends_self h),
             ),
           )
 
@@ -224,16 +222,16 @@ module _ {M E : Type 0} {o : Calls M} {e : EditMeaning E} (u : Updater o e) wher
 
   -- behind its walk it goes on as its try does
   pub finds : (ps : List SeatedPass) {A : Type 0} (m now : UpdateRun E A) (key : ℕ) (turn : NodeNo) (f : Found) (next : Result Next Stop) → e.goal m.edit ≡ ToKey key → IsSameUpdate m now → now.tries ≡ m.tries → HasSpentForNext e m.share now f next (m.tries + 1) (m.tries + 1)
-      → ((b h : History) → IsRun TreeAllows u.call.layout h → IsTry u.call b h m.limit m.tries → IsUntouched u.call b m.share → MayBeginTry e m (from u.call b) h → IsQuietSince u.call.layout u.call.pass b h → HasFoundGoal (e.goal m.edit) (from u.call b) h f → UpdateGoesOn e u.call h now f next)
+      → ((b h : History) → IsRun TreeAllows u.call.layout h → IsTry u.call b h m.limit m.tries → IsUntouched u.call b m.share → MayBeginTry e m (begun_at u.call b) h → IsQuietSince u.call.layout u.call.pass b h → HasFoundGoal (e.goal m.edit) (begun_at u.call b) h f → UpdateGoesOn e u.call h now f next)
       → WalkerFinds (walker m) ps key turn f → UpdaterGoesOn u ps now f next
   unfolding walker
   finds ps m now key turn f next goal is tries spent goes x =
-      goes_behind ps now f (walking m x.last) x.told next is tries spent x.so (goes y.0 _ (u.tree _ x.so.sound) y.1 y.2 record { run = w.1.run; small = w.0.small; since = own_since (from u.call y.0) _ w.1.own; rests = record { share = w.0.rests.share; over = w.0.rests.over } } w.0.quiet (rw goal (x.finds (from u.call y.0) _ w.1)))
+      goes_behind ps now f (walking m x.last) x.told next is tries spent x.so (goes y.0 _ (u.tree _ x.so.sound) y.1 y.2 record { run = w.1.run; small = w.0.small; since = own_since (begun_at u.call y.0) _ w.1.own; rests = record { share = w.0.rests.share; over = w.0.rests.over } } w.0.quiet (rw goal (x.finds (begun_at u.call y.0) _ w.1)))
     where
       y : UpdateIsReady e (walking m x.last) u.call (history_of u.call.layout.mode x.so.known) (Some x.told)
       y = u.tells (walking m x.last) _ (Some x.told) x.so.so.0
 
-      w : Walks e (walking m x.last) (from u.call y.0) (history_of u.call.layout.mode x.so.known) x.last.goal × WalkIsTold x.last (from u.call y.0) (history_of u.call.layout.mode x.so.known) x.told
+      w : Walks e (walking m x.last) (begun_at u.call y.0) (history_of u.call.layout.mode x.so.known) x.last.goal × WalkIsTold x.last (begun_at u.call y.0) (history_of u.call.layout.mode x.so.known) x.told
       w = y.3
 
   -- what it goes on with is what its equal is
@@ -252,7 +250,7 @@ module _ {M E : Type 0} {o : Calls M} {e : EditMeaning E} (u : Updater o e) wher
     is_number = u.is_number;
     first = u.first;
     with_run = λ llx. u.with_run (looking m f llx);
-    tells = λ llx h v run x. let y = u.tells (looking m f llx) h (Some v) x in (from (from u.call y.0) y.3.0, (u.tree h run, y.3.2));
+    tells = λ llx h v run x. let y = u.tells (looking m f llx) h (Some v) x in (begun_at (begun_at u.call y.0) y.3.0, (u.tree h run, y.3.2));
     turns = λ llx now h v s node turn run x.
         let y = u.tells (looking m f llx) h (Some v) x in
         let l = y.3.1 in
@@ -263,7 +261,7 @@ module _ {M E : Type 0} {o : Calls M} {e : EditMeaning E} (u : Updater o e) wher
           (
             y.3.0,
             record { run = l.run; looked = l.looked; rests = record { share = l.rests.share; over = l.rests.over }; room = l.room; named = l.named ∙ ap At (sym node); now = l.now; quiet = l.quiet; since = l.since },
-            turn (from (from u.call y.0) y.3.0) (u.tree h run, y.3.2),
+            turn (begun_at (begun_at u.call y.0) y.3.0) (u.tree h run, y.3.2),
           ),
         );
     stays = λ llx now node. u.stays (looking m f llx) (looking m f now) refl (omega arith, omega arith);
@@ -276,7 +274,7 @@ module _ {M E : Type 0} {o : Calls M} {e : EditMeaning E} (u : Updater o e) wher
 
   -- with the snapshot it goes on as its turn says
   pub looks_on : (ps : List SeatedPass) {A : Type 0} (m now : UpdateRun E A) (f : Found) (node : NodeNo) (snap : Snap) (next : Result Next Stop) → IsSameUpdate m now → now.tries ≡ m.tries → HasSpentForNext e m.share now f next (m.tries + 1) (m.tries + 1)
-      → ((b h : History) → IsRun TreeAllows u.call.layout h → IsTry u.call b h m.limit m.tries → CanLook e m (from u.call b) h f → e.looks m.edit f m.snaps.items ≡ At snap.node → IsSnapshot u.call.layout h snap.node.0 snap → HasFoundThere u.call.pass h b snap.node.0 snap.scx.0 → UpdateGoesOn e u.call h now f next)
+      → ((b h : History) → IsRun TreeAllows u.call.layout h → IsTry u.call b h m.limit m.tries → CanLook e m (begun_at u.call b) h f → e.looks m.edit f m.snaps.items ≡ At snap.node → IsSnapshot u.call.layout h snap.node.0 snap → HasFoundThere u.call.pass h b snap.node.0 snap.scx.0 → UpdateGoesOn e u.call h now f next)
       → LookerSnaps (looker m f) ps node snap → UpdaterGoesOn u ps now f next
   unfolding looker
   looks_on ps m now f node snap next is tries spent goes x = goes_behind ps now f (looking m f x.last) x.told next is tries spent x.so (goes y.0 h (u.tree h x.so.sound) y.1 can named snapped met)
@@ -287,20 +285,20 @@ module _ {M E : Type 0} {o : Calls M} {e : EditMeaning E} (u : Updater o e) wher
       y : UpdateIsReady e (looking m f x.last) u.call h (Some x.told)
       y = u.tells (looking m f x.last) h (Some x.told) x.so.so.0
 
-      l : Looks e (looking m f x.last) (from u.call y.0) h f x.last y.3.0
+      l : Looks e (looking m f x.last) (begun_at u.call y.0) h f x.last y.3.0
       l = y.3.1
 
-      can : CanLook e m (from u.call y.0) h f
+      can : CanLook e m (begun_at u.call y.0) h f
       can = record { begins = record { run = l.run; small = l.looked.small; since = l.now; rests = record { share = l.rests.share; over = l.rests.over } }; quiet = l.quiet; looked = l.looked; room = l.room }
 
       named : e.looks m.edit f m.snaps.items ≡ At snap.node
       named = l.named ∙ ap At (x.is_node ∙ sym x.of_node)
 
       snapped : IsSnapshot u.call.layout h snap.node.0 snap
-      snapped = subst (λ (n : NodeNo). IsSnapshot u.call.layout h n.0 snap) (sym x.of_node) (x.snaps (from (from u.call y.0) y.3.0) h (u.tree h x.so.sound) y.3.2)
+      snapped = subst (λ (n : NodeNo). IsSnapshot u.call.layout h n.0 snap) (sym x.of_node) (x.snaps (begun_at (begun_at u.call y.0) y.3.0) h (u.tree h x.so.sound) y.3.2)
 
       met : HasFoundThere u.call.pass h y.0 snap.node.0 snap.scx.0
-      met = there_wider u.call.pass h y.3.0 y.0 snap.node.0 snap.scx.0 l.since (subst (λ (n : NodeNo). HasFoundThere u.call.pass h y.3.0 n.0 snap.scx.0) (sym x.of_node) (x.found (from (from u.call y.0) y.3.0) h (u.tree h x.so.sound) y.3.2))
+      met = there_wider u.call.pass h y.3.0 y.0 snap.node.0 snap.scx.0 l.since (subst (λ (n : NodeNo). HasFoundThere u.call.pass h y.3.0 n.0 snap.scx.0) (sym x.of_node) (x.found (begun_at (begun_at u.call y.0) y.3.0) h (u.tree h x.so.sound) y.3.2))
 
   -- where something is in the way, it waits for the state again
   pub looks_again : (ps : List SeatedPass) {A : Type 0} (m : UpdateRun E A) (f : Found) (node : NodeNo) (b : Bool) (scx : ScxNo) → InnerWaits (looker m f) ps (llx_at node (StateAgain b scx)) (load LoadState (state scx.0)) → UpdaterTries u ps m f (WaitNext node b scx)
@@ -372,7 +370,7 @@ module _ {M E : Type 0} {o : Calls M} {e : EditMeaning E} (u : Updater o e) wher
   pub wants_word : (ps : List SeatedPass) {A : Type 0} (m : UpdateRun E A) (f : Found) (nth : Nth) (part : NodeWord) → UpdaterTries u ps m f (LoadNext nth part) → IsWanted e m f nth part
   wants_word ps m f nth part x = (loads.wanted, has_place (e.needs m.edit f) nth loads.works.need)
     where
-      loads : Loads e (placed e m f (LoadNext nth part)) (from u.call (u.opens (placed e m f (LoadNext nth part)) (history_of u.call.layout.mode x.known) (next_step e m f (LoadNext nth part)) x.so.0).0) (history_of u.call.layout.mode x.known) f nth part
+      loads : Loads e (placed e m f (LoadNext nth part)) (begun_at u.call (u.opens (placed e m f (LoadNext nth part)) (history_of u.call.layout.mode x.known) (next_step e m f (LoadNext nth part)) x.so.0).0) (history_of u.call.layout.mode x.known) f nth part
       loads = (u.opens (placed e m f (LoadNext nth part)) (history_of u.call.layout.mode x.known) (next_step e m f (LoadNext nth part)) x.so.0).3.0
 
   -- what is known of loads does not depend on the place of the update
@@ -400,9 +398,9 @@ module _ {M E : Type 0} {o : Calls M} {e : EditMeaning E} (u : Updater o e) wher
 
   -- with what the load has told it goes on as its turn says
   pub loads_on : (ps : List SeatedPass) {A : Type 0} (m now : UpdateRun E A) (f : Found) (nth : Nth) (part : NodeWord) (v : ℕ) (next : Result Next Stop) → IsSameUpdate m now → now.tries ≡ m.tries → HasSpentForNext e m.share now f next m.tries (m.tries + 1)
-      → ((b h : History) → IsRun TreeAllows u.call.layout h → IsTry u.call b h m.limit m.tries → Loads e m (from u.call b) h f nth part → value h (node (copied e m f) part) ≡ v → UpdateGoesOn e u.call h now f next)
+      → ((b h : History) → IsRun TreeAllows u.call.layout h → IsTry u.call b h m.limit m.tries → Loads e m (begun_at u.call b) h f nth part → value h (node (copied e m f) part) ≡ v → UpdateGoesOn e u.call h now f next)
       → UpdaterIsTold u ps (placed e m f (LoadNext nth part)) v → UpdaterGoesOn u ps now f next
-  loads_on ps m now f nth part v next is tries spent goes x = goes_behind ps now f (placed e m f (LoadNext nth part)) v next is tries spent x (goes y.0 h (u.tree h x.sound) y.1 (loads_anywhere m f nth part (from u.call y.0) h y.3.0) y.3.1)
+  loads_on ps m now f nth part v next is tries spent goes x = goes_behind ps now f (placed e m f (LoadNext nth part)) v next is tries spent x (goes y.0 h (u.tree h x.sound) y.1 (loads_anywhere m f nth part (begun_at u.call y.0) h y.3.0) y.3.1)
     where
       h : History
       h = history_of u.call.layout.mode x.known
@@ -428,7 +426,7 @@ module _ {M E : Type 0} {o : Calls M} {e : EditMeaning E} (u : Updater o e) wher
     is = x.is;
     sound = x.sound;
     so = (
-      u.turns (filling m f nth part) (filling m f nth next) h (Some told) _ record { edit = refl; called = refl; limit = refl; tries = (omega arith, omega arith); spends = (omega arith, omega arith, omega arith) } x.so.0 (y.0, y.1, tt, fills_word e (filling m f nth part) f nth next p n v (from u.call y.0) h can is_p is_n is_v),
+      u.turns (filling m f nth part) (filling m f nth next) h (Some told) _ record { edit = refl; called = refl; limit = refl; tries = (omega arith, omega arith); spends = (omega arith, omega arith, omega arith) } x.so.0 (y.0, y.1, tt, fills_word e (filling m f nth part) f nth next p n v (begun_at u.call y.0) h can is_p is_n is_v),
       goes_on (u.with_run (filling m f nth part)) (u.stays (filling m f nth part) (filling m f nth next) refl (omega arith, omega arith)) x.so.1,
     );
   }
@@ -439,8 +437,8 @@ module _ {M E : Type 0} {o : Calls M} {e : EditMeaning E} (u : Updater o e) wher
       y : UpdateIsReady e (filling m f nth part) u.call h (Some told)
       y = u.tells (filling m f nth part) h (Some told) x.so.0
 
-      can : CanFill e (filling m f nth part) (from u.call y.0) h f nth next
-      can = fills_next e (filling m f nth part) (from u.call y.0) h f nth part y.3 next sound (subst (λ q. part_behind q part ≡ Some next) is_p behind)
+      can : CanFill e (filling m f nth part) (begun_at u.call y.0) h f nth next
+      can = fills_next e (filling m f nth part) (begun_at u.call y.0) h f nth part y.3 next sound (subst (λ q. part_behind q part ≡ Some next) is_p behind)
 
   -- what is known of fresh nodes does not depend on the place of the update
   filled_anywhere : {A : Type 0} (m : UpdateRun E A) (f : Found) (nth : Nth) (part : NodeWord) (c : Call) (h : History) → IsFilledUpTo e (filling m f nth part) c h f nth part → IsFilledUpTo e m c h f nth part
@@ -471,9 +469,9 @@ module _ {M E : Type 0} {o : Calls M} {e : EditMeaning E} (u : Updater o e) wher
 
   -- behind a node's last fill it goes on as its turn says
   pub fills_end : (ps : List SeatedPass) {A : Type 0} (m now : UpdateRun E A) (f : Found) (nth : Nth) (part : NodeWord) (v : ℕ) (next : Result Next Stop) → IsSameUpdate m now → now.tries ≡ m.tries → (0 < m.share.scx → HasSpentForNext e m.share now f next m.tries (m.tries + 1))
-      → ((b h : History) → IsRun TreeAllows u.call.layout h → IsTry u.call b h m.limit m.tries → IsFilledUpTo e m (from u.call b) h f nth part → UpdateGoesOn e u.call h now f next)
+      → ((b h : History) → IsRun TreeAllows u.call.layout h → IsTry u.call b h m.limit m.tries → IsFilledUpTo e m (begun_at u.call b) h f nth part → UpdateGoesOn e u.call h now f next)
       → UpdaterIsTold u ps (filling m f nth part) v → UpdaterGoesOn u ps now f next
-  fills_end ps m now f nth part v next is tries spent goes x = goes_behind ps now f (filling m f nth part) v next is tries (spent y.3.0.works.some) x (goes y.0 h (u.tree h x.sound) y.1 (filled_anywhere m f nth part (from u.call y.0) h y.3))
+  fills_end ps m now f nth part v next is tries spent goes x = goes_behind ps now f (filling m f nth part) v next is tries (spent y.3.0.works.some) x (goes y.0 h (u.tree h x.sound) y.1 (filled_anywhere m f nth part (begun_at u.call y.0) h y.3))
     where
       h : History
       h = history_of u.call.layout.mode x.known
@@ -495,11 +493,11 @@ module _ {M E : Type 0} {o : Calls M} {e : EditMeaning E} (u : Updater o e) wher
     is_number = u.is_number;
     first = u.first;
     with_run = λ scx. u.with_run (scxing m f scx);
-    tells = λ scx h v run x. let y = u.tells (scxing m f scx) h (Some v) x in (from (from u.call y.0) y.3.0, (u.tree h run, y.3.2));
+    tells = λ scx h v run x. let y = u.tells (scxing m f scx) h (Some v) x in (begun_at (begun_at u.call y.0) y.3.0, (u.tree h run, y.3.2));
     turns = λ old now h v s goes turn run x.
         let y = u.tells (scxing m f old) h (Some v) x in
         u.turns (scxing m f old) (scxing m f now) h (Some v) s record { edit = refl; called = refl; limit = refl; tries = (omega arith, omega arith); spends = (omega arith, omega arith, omega arith) } x
-        (y.0, y.1, tt, scx_asks e (scxing m f old) old now f y.3.0 (from u.call y.0) h (Ask s) s y.3.1 goes.0 goes.1 goes.2 refl (turn (from (from u.call y.0) y.3.0) (u.tree h run, y.3.2)));
+        (y.0, y.1, tt, scx_asks e (scxing m f old) old now f y.3.0 (begun_at u.call y.0) h (Ask s) s y.3.1 goes.0 goes.1 goes.2 refl (turn (begun_at (begun_at u.call y.0) y.3.0) (u.tree h run, y.3.2)));
     stays = λ old now goes. u.stays (scxing m f old) (scxing m f now) refl (omega arith, omega arith);
   }
 
@@ -536,7 +534,7 @@ module _ {M E : Type 0} {o : Calls M} {e : EditMeaning E} (u : Updater o e) wher
 
       answers : UpdateAnswers e m u.call h (done_with f)
       answers = scx_done e sound here scx scx f u.call y.0 y.3.0 h (Done ScxDone) y.1 y.3.1 refl refl refl refl
-          (let k = y.3.2 in done_at (from (from u.call y.0) y.3.0) h scx (record help { at = HelpCommit }) (u.tree h x.sound).lawful k.2 k.1 true (record help { at = HelpCommit }) k.0 refl refl)
+          (let k = y.3.2 in done_at (begun_at (begun_at u.call y.0) y.3.0) h scx (record help { at = HelpCommit }) (u.tree h x.sound).lawful k.2 k.1 true (record help { at = HelpCommit }) k.0 refl refl)
 
   -- where a node could not be frozen, it waits to look whether all were
   pub is_blocked : (ps : List SeatedPass) {A : Type 0} (m : UpdateRun E A) (f : Found) (scx : ScxNo) (help : HelpRun) (run : ScxRun) → run ≡ record { scx = scx; call = m.call; update = update_of e m f; at = Help help } → InnerWaits (changer m f) ps run (all_frozen_load scx) → UpdaterIsBlocked u ps m f scx help

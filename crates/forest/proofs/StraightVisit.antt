@@ -11,13 +11,12 @@ use Rattle.arena.specs.declared.step.Kind.TheVariants.{LoadInfo, LoadMarked, Loa
 use Rattle.arena.specs.declared.step.Step.{Step}
 use Rattle.arena.specs.Heads.{head_of}
 use Rattle.arena.specs.History.{History}
-use Rattle.arena.specs.Machines.{Call, IsRun, MatchTurn}
+use Rattle.arena.specs.Machines.{Call, IsRun, MatchTurn, begun_at}
 use Rattle.arena.specs.Words.{info, marked, state}
 use Rattle.order.specs.Range.Known.{RangeGoes, HasKey, HasLowHead, IsSameRange, LooksIn, RangeAnswers, RangeIsReady, RangeIsToldAt, RangeWaits, Visits}
 use Rattle.order.specs.Range.Laws.{range_told}
 use Rattle.order.specs.Range.Next.{RangeComesNearer, RangeGoesOn, RangeMayDo, RangeMayGoOn, range_next_step, range_placed}
 use Rattle.order.specs.Range.Steps.{RangeFits, RangeFitsAt, leaves_left, range_phase_left, range_left, range_try_left}
-use Rattle.order.specs.Reads.{begun_at}
 use Rattle.order.specs.Successor.Known.{head_at, key_at, value_at}
 use Rattle.order.specs.Successor.Steps.{HeadFits}
 use Rattle.order.specs.declared.range.RangeAt.TheVariants.{Root, Look, Validate}
@@ -264,7 +263,7 @@ module _ {M : Type 0} {o : Calls M} (r : RangeReader o) where
             record { reads = y.2.reads; small = y.2.small; few = y.2.few },
             (
               b,
-              record { own = t.own; asks = t.asks; within = t.within; then = t.then; right = t.right },
+              record { own = t.own; asks = t.asks; within = t.within; reads = t.reads; right = t.right },
               subst (λ (l : List Snap). VlxWaits l now d h s) e (turn d (y.2.reads.run.1.lawful, subst (λ (l : List Snap). VlxIsTold l old d h v) (sym e) y.4.2)),
             ),
           );

@@ -1,5 +1,5 @@
 -- What contracts see of a pass, and what its calls say.
-use Rattle.std.specs.Prelude.{◌≡◌, ◌≢◌, ◌+◌, ◌-◌, ◌<◌, ◌≤◌, ◌⊎◌, ◌↔◌, ℕ, suc, true, eqb, List, [], ◌∷◌, length, slice_get, Some, map}
+use Rattle.std.specs.Prelude.{◌≡◌, ◌≢◌, ◌+◌, ◌-◌, ◌<◌, ◌≤◌, ◌⊎◌, ◌↔◌, ℕ, suc, true, List, [], ◌∷◌, length, slice_get, Some, map, nat_eq}
 use Rattle.std.specs.List.{All, AllPairs, Contains, count_by}
 use Rattle.atomic_table.specs.Seated.{TableId}
 use Rattle.arena.specs.declared.layout.Layout.{Layout}
@@ -131,7 +131,7 @@ Each P (x ∷ xs) = P x × Each P xs
 
 -- how often the SCX-record s stands in a list
 abbrev pub times_in : List ℕ → ℕ → ℕ
-times_in blamed s = count_by (eqb s) blamed
+times_in blamed s = count_by (nat_eq s) blamed
 
 -- In a run the SCX-record s has frozen these nodes, no two of them the same. It stands in the blame
 -- list once at most for each of them, and if it is finished there once more at most.

@@ -1,5 +1,5 @@
 -- A pass between two calls, and its entries in the log.
-use Rattle.std.specs.Prelude.{ℕ, cond, eqb, List, [], ◌∷◌}
+use Rattle.std.specs.Prelude.{ℕ, if◌then◌else◌, ◌==◌, List, [], ◌∷◌}
 use Rattle.arena.specs.declared.layout.Layout.{Layout}
 use Rattle.arena.specs.Share.{Remaining}
 use Rattle.arena.specs.History.{History}
@@ -16,4 +16,4 @@ pub record IsBetweenCalls (lay : Layout) (c : ℕ) (h : History) (left : Remaini
 -- the entries of pass c among these
 abbrev pub entries_of : ℕ → List Entry → List Entry
 entries_of c [] = []
-entries_of c (e ∷ es) = cond (eqb e.owner c) (e ∷ entries_of c es) (entries_of c es)
+entries_of c (e ∷ es) = if e.owner == c then e ∷ entries_of c es else entries_of c es

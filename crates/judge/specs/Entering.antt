@@ -1,5 +1,5 @@
 -- The log, as it is remembered.
-use Rattle.std.specs.Prelude.{◌≡◌, ◌↔◌, ℕ, zero, suc, ◌+◌, ◌<◌, ◌^◌, cond, Bool, true, List, length, slice_index_or, slice_set}
+use Rattle.std.specs.Prelude.{◌≡◌, ◌↔◌, ℕ, zero, suc, ◌+◌, ◌<◌, ◌^◌, if◌then◌else◌, Bool, true, List, length, slice_index_or, slice_set}
 use Rattle.arena.specs.declared.layout.Layout.{Layout}
 use Rattle.arena.specs.declared.word.ScxWord.TheVariants.{Plan, Member}
 use Rattle.arena.specs.declared.word.Word.{Word}
@@ -39,7 +39,10 @@ last_after c s (suc k) entry last = slice_set (last_after c s k entry last) (mem
 -- the flags of final nodes, where an entry is over the first k nodes of s
 abbrev pub finals_after : Contents → ℕ → ℕ → List Bool → List Bool
 finals_after c s zero finals = finals
-finals_after c s (suc k) finals = cond (plan_finalizes (plan_in c s) k) (slice_set (finals_after c s k finals) (member_in c s k) true) (finals_after c s k finals)
+finals_after c s (suc k) finals =
+    if plan_finalizes (plan_in c s) k
+    then slice_set (finals_after c s k finals) (member_in c s k) true
+    else finals_after c s k finals
 
 -- an entry of s may be made: s and its nodes are of the table
 pub record MayEnter (c : Contents) (e : Entering) (s : ℕ) : Type 0 where

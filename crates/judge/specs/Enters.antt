@@ -1,5 +1,5 @@
 -- Which rows make an entry of the log.
-use Rattle.std.specs.Prelude.{Bool, true, false, ◌&&◌, not, eqb}
+use Rattle.std.specs.Prelude.{Bool, true, false, ◌&&◌, not, ◌==◌}
 use Rattle.arena.specs.declared.word.NodeWord.TheVariants.{Child}
 use Rattle.arena.specs.declared.word.Word.{Word}
 use Rattle.arena.specs.declared.word.Word.TheVariants.{Node}
@@ -14,4 +14,4 @@ is_field_update _ _ = false
 
 -- whether the row makes an entry: it is an update that changes its field
 abbrev pub makes_entry : Row → Bool
-makes_entry r = is_field_update r.kind r.word && not (eqb r.before r.after)
+makes_entry r = is_field_update r.kind r.word && not (r.before == r.after)

@@ -1,5 +1,5 @@
 -- How many nodes of each SCX-record were ever frozen for it.
-use Rattle.std.specs.Prelude.{◌≡◌, ◌↔◌, ℕ, ◌+◌, ◌<◌, cond, ◌&&◌, not, eqb, Bool, true, false, List, length, slice_index_or, slice_set}
+use Rattle.std.specs.Prelude.{◌≡◌, ◌↔◌, ℕ, ◌+◌, ◌<◌, if◌then◌else◌, ◌&&◌, not, ◌==◌, Bool, true, false, List, length, slice_index_or, slice_set}
 use Rattle.arena.specs.declared.layout.Layout.{Layout}
 use Rattle.arena.specs.declared.step.Row.{Row}
 use Rattle.arena.specs.declared.step.Kind.{Kind}
@@ -21,11 +21,13 @@ is_freeze _ = false
 
 -- whether the row is a freeze that changes its word
 abbrev pub freezes : Row → Bool
-freezes r = is_freeze r.kind && not (eqb r.before r.after)
+freezes r = is_freeze r.kind && not (r.before == r.after)
 
 -- the list after the row: one more for the SCX-record that it stores
 abbrev pub frozen_after : Row → List ℕ → List ℕ
-frozen_after r frozen = cond (freezes r) (slice_set frozen r.after (frozen_of frozen r.after + 1)) frozen
+frozen_after r frozen =
+    if freezes r then slice_set frozen r.after (frozen_of frozen r.after + 1)
+    else frozen
 
 -- one that freezes is of an SCX-record in the list with fewer than four
 abbrev pub MayFreeze : List ℕ → Row → Type 0

@@ -1,5 +1,5 @@
 -- Places, and which of them links lead to.
-use Rattle.std.specs.Prelude.{◌≡◌, ℕ, ◌+◌, ◌<◌, ◌≤◌, ◌⊎◌, Bool, true, false, cond, Option, Some, None, IfSome, List, [], ◌∷◌, length, slice_index_or, vec_len}
+use Rattle.std.specs.Prelude.{◌≡◌, ℕ, ◌+◌, ◌<◌, ◌≤◌, ◌⊎◌, Bool, true, false, if◌then◌else◌, Option, Some, None, IfSome, List, [], ◌∷◌, length, slice_index_or, vec_len}
 use Rattle.std.specs.Vec.{vec_capacity}
 use Rattle.judge.specs.declared.graph.Link.{Link}
 use Rattle.judge.specs.declared.graph.LinkList.{LinkList}
@@ -36,7 +36,7 @@ has_flag flags v = slice_index_or flags v false
 -- how many places have no flag
 abbrev pub count_unset : List Bool → ℕ
 count_unset [] = 0
-count_unset (b ∷ flags) = cond b (count_unset flags) (1 + count_unset flags)
+count_unset (b ∷ flags) = if b then count_unset flags else 1 + count_unset flags
 
 -- where the newest link that is kept of a place stands
 abbrev pub newest_from : List (Option ℕ) → ℕ → Option ℕ

@@ -1,5 +1,5 @@
 -- What is named, as places that links lead to.
-use Rattle.std.specs.Prelude.{◌≡◌, ℕ, zero, suc, ◌+◌, ◌*◌, ◌<◌, ◌≤◌, cond, ltb, List, [], ◌∷◌, ◌++◌, length}
+use Rattle.std.specs.Prelude.{◌≡◌, ℕ, zero, suc, ◌+◌, ◌*◌, ◌<◌, ◌≤◌, if◌then◌else◌, nat_lt, List, [], ◌∷◌, ◌++◌, length}
 use Rattle.arena.specs.declared.layout.Layout.{Layout}
 use Rattle.arena.specs.declared.word.NodeWord.TheVariants.{Child, Info}
 use Rattle.arena.specs.declared.word.ScxWord.TheVariants.{New, Old, Member}
@@ -24,12 +24,14 @@ begun_place nodes s = 2 * nodes + s
 
 -- where a word of SCX-record s holds v, that names v with s
 abbrev pub scx_links : ℕ → ℕ → ℕ → List (ℕ × ℕ)
-scx_links nodes s v = cond (ltb v nodes) ((begun_place nodes s, v) ∷ []) []
+scx_links nodes s v = if nat_lt v nodes then (begun_place nodes s, v) ∷ [] else []
 
 -- the links that are added where the word holds v, among so many nodes and SCX-records
 abbrev pub word_links : ℕ → ℕ → Word → ℕ → List (ℕ × ℕ)
-word_links nodes scxs (Node m (Child side)) v = cond (ltb v nodes) ((m.0, shown_place nodes v) ∷ (m.0, v) ∷ []) []
-word_links nodes scxs (Node m Info) v = cond (ltb v scxs) ((0, begun_place nodes v) ∷ []) []
+word_links nodes scxs (Node m (Child side)) v =
+    if nat_lt v nodes then (m.0, shown_place nodes v) ∷ (m.0, v) ∷ []
+    else []
+word_links nodes scxs (Node m Info) v = if nat_lt v scxs then (0, begun_place nodes v) ∷ [] else []
 word_links nodes scxs (Node m _) v = []
 word_links nodes scxs (Scx s New) v = scx_links nodes s.0 v
 word_links nodes scxs (Scx s Old) v = scx_links nodes s.0 v

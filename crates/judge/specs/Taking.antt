@@ -1,5 +1,5 @@
 -- How much is taken of the shares.
-use Rattle.std.specs.Prelude.{◌≡◌, ◌↔◌, ℕ, ◌+◌, ◌*◌, ◌<◌, ◌≤◌, eqb, Bool, false, List, length, slice_index_or, slice_set}
+use Rattle.std.specs.Prelude.{◌≡◌, ◌↔◌, ℕ, ◌+◌, ◌*◌, ◌<◌, ◌≤◌, ◌==◌, Bool, false, List, length, slice_index_or, slice_set}
 use Rattle.arena.specs.declared.layout.Layout.{Layout}
 use Rattle.arena.specs.declared.word.Word.{Word}
 use Rattle.arena.specs.declared.word.Word.TheVariants.{Node, Scx}
@@ -21,12 +21,12 @@ one_more taken c = slice_set taken c (taken_by taken c + 1)
 
 -- whether a step of this kind on the word, by pass c, takes the next node of its share
 abbrev pub takes_node : Layout → ℕ → Kind → Word → List ℕ → Bool
-takes_node lay c Fill (Node n part) taken = eqb n.0 (first_node lay c + taken_by taken c)
+takes_node lay c Fill (Node n part) taken = n.0 == first_node lay c + taken_by taken c
 takes_node lay c _ _ taken = false
 
 -- whether it takes the next SCX-record of its share
 abbrev pub takes_scx : Layout → ℕ → Kind → Word → List ℕ → Bool
-takes_scx lay c Fill (Scx s part) taken = eqb s.0 (first_scx lay c + taken_by taken c)
+takes_scx lay c Fill (Scx s part) taken = s.0 == first_scx lay c + taken_by taken c
 takes_scx lay c _ _ taken = false
 
 -- each pass has its numbers, and there is room for one more

@@ -1,5 +1,5 @@
 -- Which nodes fields have held, and `new` of which SCX-records.
-use Rattle.std.specs.Prelude.{◌≡◌, ℕ, ◌<◌, cond, eqb, Bool, true, false, List, length, slice_index_or, slice_set}
+use Rattle.std.specs.Prelude.{◌≡◌, ℕ, ◌<◌, if◌then◌else◌, ◌==◌, Bool, true, false, List, length, slice_index_or, slice_set}
 use Rattle.arena.specs.declared.layout.Layout.{Layout}
 use Rattle.arena.specs.declared.word.Side.{Side}
 use Rattle.arena.specs.declared.word.NodeWord.TheVariants.{Child}
@@ -22,7 +22,7 @@ MayBe Several s = Unit {0}
 -- the users with s
 abbrev pub with_user : Users → ℕ → Users
 with_user Nobody s = One s
-with_user (One u) s = cond (eqb u s) (One u) Several
+with_user (One u) s = if u == s then One u else Several
 with_user Several s = Several
 
 -- the users of a node

@@ -16,7 +16,7 @@ pub(crate) struct Entering {
 }
 
 impl Entering {
-    ghost use Rattle.std.specs.Prelude.{◌≡◌, ◌+◌, ◌<◌, ℕ, IfOk, cond, true, false, length, slice_index_or, slice_set};
+    ghost use Rattle.std.specs.Prelude.{◌≡◌, ◌+◌, ◌<◌, ℕ, IfOk, if◌then◌else◌, true, false, length, slice_index_or, slice_set};
     ghost use Rattle.arena.specs.History.{Start};
     ghost use Rattle.arena.specs.Layout.{all_nodes, IsWord};
     ghost use Rattle.arena.specs.ScxRecords.{count_of, plan_finalizes};
@@ -67,10 +67,19 @@ impl Entering {
     pub(crate) fn note(&mut self, words: &PlainWords, row: &Row)
         requires word { IsWord words.now.layout row.now.word }
         requires may { makes_entry row.now ≡ true → MayEnter words.now self.old (holder_in words.now row.now.word) }
-        ensures entries { self.new.entries ≡ cond (makes_entry row.now) (self.old.entries + 1) self.old.entries }
-        ensures won { self.new.won.items ≡ cond (makes_entry row.now) (slice_set self.old.won.items (holder_in words.now row.now.word) true) self.old.won.items }
-        ensures last { let s = holder_in words.now row.now.word in self.new.last.items ≡ cond (makes_entry row.now) (last_after words.now s (count_of (plan_in words.now s)) (self.old.entries + 1) self.old.last.items) self.old.last.items }
-        ensures finals { let s = holder_in words.now row.now.word in self.new.finals.items ≡ cond (makes_entry row.now) (finals_after words.now s (count_of (plan_in words.now s)) self.old.finals.items) self.old.finals.items }
+        ensures entries { self.new.entries ≡ (if makes_entry row.now then self.old.entries + 1 else self.old.entries) }
+        ensures won { self.new.won.items ≡
+            (if makes_entry row.now
+            then slice_set self.old.won.items (holder_in words.now row.now.word) true
+            else self.old.won.items) }
+        ensures last { let s = holder_in words.now row.now.word in self.new.last.items ≡
+            (if makes_entry row.now
+            then last_after words.now s (count_of (plan_in words.now s)) (self.old.entries + 1) self.old.last.items
+            else self.old.last.items) }
+        ensures finals { let s = holder_in words.now row.now.word in self.new.finals.items ≡
+            (if makes_entry row.now
+            then finals_after words.now s (count_of (plan_in words.now s)) self.old.finals.items
+            else self.old.finals.items) }
     {
         if let Word::Node(node, _) = row.word {
             if makes_entry(row) {
@@ -105,7 +114,10 @@ impl Entering {
         ensures entries { self.new.entries ≡ self.old.entries }
         ensures won { self.new.won.items ≡ self.old.won.items }
         ensures last { self.new.last.items ≡ slice_set self.old.last.items node.0 self.old.entries }
-        ensures finals { self.new.finals.items ≡ cond (plan_finalizes plan.0 place) (slice_set self.old.finals.items node.0 true) self.old.finals.items }
+        ensures finals { self.new.finals.items ≡
+            (if plan_finalizes plan.0 place
+            then slice_set self.old.finals.items node.0 true
+            else self.old.finals.items) }
     {
         self.last[node.0 as usize] = self.entries;
         if finalizes(plan, place) {

@@ -33,7 +33,7 @@ pub(crate) struct Graph {
 }
 
 impl Graph {
-    ghost use Rattle.std.specs.Prelude.{◌≡◌, ◌↔◌, ℕ, ◌+◌, ◌<◌, IsTrue, IfOk, OnOk, true, false, cond, [], ◌∷◌, ◌++◌, slice_set, vec_len, length};
+    ghost use Rattle.std.specs.Prelude.{◌≡◌, ◌↔◌, ℕ, ◌+◌, ◌<◌, IsTrue, IfOk, OnOk, true, false, if◌then◌else◌, [], ◌∷◌, ◌++◌, slice_set, vec_len, length};
     ghost use Rattle.judge.specs.Graph.{IsReached, Spreads, IsGraph, HasRoomLeft, HasSpare, has_flag, count_unset, newest_from, links_of};
 
     /// So many places, of which the first alone is reached. The only error is want of memory.
@@ -141,7 +141,10 @@ impl Graph {
         requires inside { at < length self.old.reached.items }
         requires room { HasRoomLeft self.old }
         ensures reached { self.new.reached.items ≡ slice_set self.old.reached.items at true }
-        ensures fresh { self.new.fresh.items ≡ cond (has_flag self.old.reached.items at) self.old.fresh.items (self.old.fresh.items ++ at ∷ []) }
+        ensures fresh { self.new.fresh.items ≡
+            (if has_flag self.old.reached.items at
+            then self.old.fresh.items
+            else self.old.fresh.items ++ at ∷ []) }
         ensures count { vec_len self.new.fresh + count_unset self.new.reached.items ≡ vec_len self.old.fresh + count_unset self.old.reached.items }
         ensures room { HasRoomLeft self.new }
         ensures newest { self.new.newest ≡ self.old.newest }

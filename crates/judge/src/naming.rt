@@ -13,7 +13,7 @@ pub(crate) struct Naming {
 }
 
 impl Naming {
-    ghost use Rattle.std.specs.Prelude.{◌≡◌, ◌↔◌, ℕ, ◌+◌, ◌*◌, ◌<◌, IsTrue, IfOk, OnOk, cond, ltb, [], ◌∷◌, ◌++◌};
+    ghost use Rattle.std.specs.Prelude.{◌≡◌, ◌↔◌, ℕ, ◌+◌, ◌*◌, ◌<◌, IsTrue, IfOk, OnOk, if◌then◌else◌, nat_lt, [], ◌∷◌, ◌++◌};
     ghost use Rattle.arena.specs.History.{Start};
     ghost use Rattle.judge.specs.Graph.{IsReached, HasSpare, links_of};
     ghost use Rattle.judge.specs.Naming.{NamingStands, IsNaming, IsInside, word_links, scx_links, shown_place, begun_place};
@@ -97,7 +97,11 @@ impl Naming {
         ensures naming { IsNaming self.new }
         ensures nodes { self.new.nodes ≡ self.old.nodes }
         ensures scxs { self.new.scxs ≡ self.old.scxs }
-        ensures links { links_of self.new.graph ≡ cond (ltb node self.old.nodes) ((holder, shown_place self.old.nodes node) ∷ (holder, node) ∷ []) [] ++ links_of self.old.graph }
+        ensures links { links_of self.new.graph ≡
+            (if nat_lt node self.old.nodes
+            then (holder, shown_place self.old.nodes node) ∷ (holder, node) ∷ []
+            else [])
+            ++ links_of self.old.graph }
     {
         if node < self.nodes {
             self.graph.link(holder as usize, node as usize);
@@ -112,7 +116,9 @@ impl Naming {
         ensures naming { IsNaming self.new }
         ensures nodes { self.new.nodes ≡ self.old.nodes }
         ensures scxs { self.new.scxs ≡ self.old.scxs }
-        ensures links { links_of self.new.graph ≡ cond (ltb scx self.old.scxs) ((0, begun_place self.old.nodes scx) ∷ []) [] ++ links_of self.old.graph }
+        ensures links { links_of self.new.graph ≡
+            (if nat_lt scx self.old.scxs then (0, begun_place self.old.nodes scx) ∷ [] else [])
+            ++ links_of self.old.graph }
     {
         if scx < self.scxs {
             self.graph.start(0, (2 * self.nodes + scx) as usize);

@@ -12,7 +12,7 @@ pub(crate) struct Taking {
 }
 
 impl Taking {
-    ghost use Rattle.std.specs.Prelude.{◌≡◌, ◌+◌, ℕ, IfOk, cond, eqb};
+    ghost use Rattle.std.specs.Prelude.{◌≡◌, ◌+◌, ℕ, IfOk, if◌then◌else◌, ◌==◌};
     ghost use Rattle.arena.specs.History.{Start};
     ghost use Rattle.arena.specs.Layout.{first_node, first_scx};
     ghost use Rattle.judge.specs.Taking.{TakingStands, MayTake, taken_by, one_more, takes_node, takes_scx};
@@ -32,9 +32,18 @@ impl Taking {
     /// Takes in a lawful row.
     pub(crate) fn note(&mut self, layout: &Layout, row: &Row)
         requires { MayTake layout.now self.old row.now.pass.0 }
-        ensures nodes { self.new.nodes.items ≡ cond (takes_node layout.now row.now.pass.0 row.now.kind row.now.word self.old.nodes.items) (one_more self.old.nodes.items row.now.pass.0) self.old.nodes.items }
-        ensures scx { self.new.scx.items ≡ cond (takes_scx layout.now row.now.pass.0 row.now.kind row.now.word self.old.scx.items) (one_more self.old.scx.items row.now.pass.0) self.old.scx.items }
-        ensures all { self.new.all_nodes ≡ cond (takes_node layout.now row.now.pass.0 row.now.kind row.now.word self.old.nodes.items) (self.old.all_nodes + 1) self.old.all_nodes }
+        ensures nodes { self.new.nodes.items ≡
+            (if takes_node layout.now row.now.pass.0 row.now.kind row.now.word self.old.nodes.items
+            then one_more self.old.nodes.items row.now.pass.0
+            else self.old.nodes.items) }
+        ensures scx { self.new.scx.items ≡
+            (if takes_scx layout.now row.now.pass.0 row.now.kind row.now.word self.old.scx.items
+            then one_more self.old.scx.items row.now.pass.0
+            else self.old.scx.items) }
+        ensures all { self.new.all_nodes ≡
+            (if takes_node layout.now row.now.pass.0 row.now.kind row.now.word self.old.nodes.items
+            then self.old.all_nodes + 1
+            else self.old.all_nodes) }
     {
         if let Kind::Fill = row.kind {
             match row.word {
@@ -47,9 +56,15 @@ impl Taking {
     /// Takes a node, if it is the next one of the share.
     fn take_node(&mut self, layout: &Layout, pass: PassNo, node: u64)
         requires { MayTake layout.now self.old pass.0 }
-        ensures nodes { self.new.nodes.items ≡ cond (eqb node (first_node layout.now pass.0 + taken_by self.old.nodes.items pass.0)) (one_more self.old.nodes.items pass.0) self.old.nodes.items }
+        ensures nodes { self.new.nodes.items ≡
+            (if node == first_node layout.now pass.0 + taken_by self.old.nodes.items pass.0
+            then one_more self.old.nodes.items pass.0
+            else self.old.nodes.items) }
         ensures scx { self.new.scx.items ≡ self.old.scx.items }
-        ensures all { self.new.all_nodes ≡ cond (eqb node (first_node layout.now pass.0 + taken_by self.old.nodes.items pass.0)) (self.old.all_nodes + 1) self.old.all_nodes }
+        ensures all { self.new.all_nodes ≡
+            (if node == first_node layout.now pass.0 + taken_by self.old.nodes.items pass.0
+            then self.old.all_nodes + 1
+            else self.old.all_nodes) }
     {
         let at = pass.0 as usize;
         if node == u64::from(layout.first_node(pass)) + u64::from(self.nodes[at]) {
@@ -62,7 +77,10 @@ impl Taking {
     fn take_scx(&mut self, layout: &Layout, pass: PassNo, scx: u64)
         requires { MayTake layout.now self.old pass.0 }
         ensures nodes { self.new.nodes.items ≡ self.old.nodes.items }
-        ensures scx { self.new.scx.items ≡ cond (eqb scx (first_scx layout.now pass.0 + taken_by self.old.scx.items pass.0)) (one_more self.old.scx.items pass.0) self.old.scx.items }
+        ensures scx { self.new.scx.items ≡
+            (if scx == first_scx layout.now pass.0 + taken_by self.old.scx.items pass.0
+            then one_more self.old.scx.items pass.0
+            else self.old.scx.items) }
         ensures all { self.new.all_nodes ≡ self.old.all_nodes }
     {
         let at = pass.0 as usize;

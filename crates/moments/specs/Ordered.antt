@@ -1,5 +1,5 @@
 -- Ordered reads: which keys they look for, and what they tell of the map.
-use Rattle.std.specs.Prelude.{ℕ, ◌<◌, Bool, false, ◌&&◌, ◌||◌, not, eqb, leb, ltb, ◌⊎◌, ◌≡◌, suc, true, List, [], ◌∷◌, length, take, Option, Some}
+use Rattle.std.specs.Prelude.{ℕ, ◌<◌, Bool, false, ◌&&◌, ◌||◌, not, nat_le, nat_lt, ◌⊎◌, ◌≡◌, suc, true, List, [], ◌∷◌, length, take, Option, Some, nat_eq}
 use Rattle.std.specs.Option.{option_eq}
 use Rattle.std.specs.List.{filter, list_any}
 use Rattle.ordered_map.specs.declared.pair.Pair.{Pair}
@@ -17,8 +17,8 @@ IsOrderedRead _ = ⊥
 
 -- whether it looks for this key
 abbrev pub looks_for : Command → ℕ → Bool
-looks_for (Map (Successor above)) key = ltb above key
-looks_for (Map (Range low high most)) key = leb low key && leb key high
+looks_for (Map (Successor above)) key = nat_lt above key
+looks_for (Map (Range low high most)) key = nat_le low key && nat_le key high
 looks_for _ key = false
 
 -- how many pairs it tells at most
@@ -39,11 +39,11 @@ pairs_in _ = []
 
 -- whether these pairs, of at most so many, tell what the key has: they are fewer, or go as far
 abbrev pub reaches : ℕ → List Pair → ℕ → Bool
-reaches most pairs key = ltb (length pairs) most || list_any (λ p. leb key p.key) pairs
+reaches most pairs key = nat_lt (length pairs) most || list_any (λ p. nat_le key p.key) pairs
 
 -- whether a key of this value is not as these pairs tell
 abbrev pub is_unlike : Command → List Pair → ℕ → Option ℕ → Bool
-is_unlike command pairs key value = looks_for command key && (reaches (most_told command) pairs key && not (option_eq eqb (get key pairs) value))
+is_unlike command pairs key value = looks_for command key && (reaches (most_told command) pairs key && not (option_eq nat_eq (get key pairs) value))
 
 -- the turns of the changes fall, the newest being below this one
 abbrev pub FallFrom : ℕ → List Change → Type 0

@@ -1,5 +1,5 @@
 //! Ordered reads: which keys they look for, and what they tell of the map.
-ghost use Rattle.std.specs.Prelude.{◌≡◌, ◌≢◌, ℕ, ◌+◌, ◌^◌, ◌<◌, List, ◌∷◌, IfSome, IfNone, leb};
+ghost use Rattle.std.specs.Prelude.{◌≡◌, ◌≢◌, ℕ, ◌+◌, ◌^◌, ◌<◌, List, ◌∷◌, IfSome, IfNone, nat_le};
 ghost use Rattle.std.specs.List.{list_any};
 ghost use Rattle.std.specs.Ordering.{nat_cmp};
 ghost use Rattle.std.specs.Range.Bound.{IsForward};
@@ -85,7 +85,7 @@ fn reaches(most: usize, pairs: &[(u64, u64)], key: u64) -> bool
 
 /// Whether one of these pairs has this key, or a key above it.
 fn go_as_far(pairs: &[(u64, u64)], key: u64) -> bool
-    ensures { result ≡ list_any (λ p. leb key p.key) (number_pairs pairs.now) }
+    ensures { result ≡ list_any (λ p. nat_le key p.key) (number_pairs pairs.now) }
 {
     for pair in pairs {
         if key <= pair.0 {

@@ -7,7 +7,7 @@ use Rattle.arena.specs.declared.number.ScxNo.{ScxNo}
 use Rattle.arena.specs.declared.step.Kind.TheVariants.{LoadInfo}
 use Rattle.arena.specs.History.{History, Extends}
 use Rattle.arena.specs.Lawful.{Lawful}
-use Rattle.arena.specs.Machines.{Call, MatchTurn}
+use Rattle.arena.specs.Machines.{Call, MatchTurn, begun_at}
 use Rattle.arena.proofs.Lemmas.{ends_self, ends_trans}
 use Rattle.prims.specs.Laws.FoundThere.{there_wider}
 use Rattle.prims.specs.Laws.Idle.{IsIdle, IsQuietSince, quiet_at_start}
@@ -19,7 +19,7 @@ use Rattle.prims.specs.declared.llx.Llx.TheVariants.{Finalized, Fail}
 use Rattle.prims.specs.declared.llx.LlxRun.{LlxRun}
 use Rattle.prims.specs.declared.snap.Snap.{Snap}
 use Rattle.prims.proofs.Lemmas.{usable_now, usable_since}
-use Rattle.order.specs.Reads.{begun_at, HasSnapped, Reads, HasStood}
+use Rattle.order.specs.Reads.{HasSnapped, Reads, HasStood}
 use Rattle.ordered_map.specs.OrderedMap.{MapCall, MapReply}
 use Rattle.ordered_map.specs.Tries.{tries_begun}
 use Rattle.order.specs.Replies.{IsReplyAt, KeepsTries}

@@ -7,9 +7,9 @@ use Rattle.arena.specs.declared.word.Side.TheVariants.{Left, Right}
 use Rattle.arena.specs.declared.word.Word.{Word}
 use Rattle.arena.specs.Words.{node, child}
 use Rattle.arena.specs.History.{History, value, Extends}
-use Rattle.arena.specs.Machines.{Call}
+use Rattle.arena.specs.Machines.{Call, begun_at}
 use Rattle.arena.proofs.Lemmas.{ends_self, ends_trans}
-use Rattle.prims.specs.Laws.Idle.{quiet_at_start}
+use Rattle.prims.specs.Laws.Idle.{quiet_at_start, idle_if_finished}
 use Rattle.prims.specs.Llx.Known.{IsSnapshot, LlxKnows, LlxIsReady}
 use Rattle.prims.specs.Snap.{child_of}
 use Rattle.prims.specs.Vlx.Known.{IsSame, VlxIsReady}
@@ -27,9 +27,8 @@ use Rattle.ordered_map.proofs.Lemmas.{passed_unmarked, path_not_final, root_head
 use Rattle.template.specs.FoundLeaf.{HasEnded}
 use Rattle.template.specs.Trails.{IsOwnMoment}
 use Rattle.template.specs.declared.walk.Found.{Found}
-use Rattle.template.proofs.Lemmas.{own_since}
-use Rattle.order.specs.Laws.Kept.{idle_if_finished, opened_if_stood}
-use Rattle.order.specs.Reads.{begun_at, AllHold, Whenever, HasStood}
+use Rattle.template.proofs.Lemmas.{own_since, opened_if_stood}
+use Rattle.order.specs.Reads.{AllHold, Whenever, HasStood}
 use Rattle.order.specs.Replies.{IsReplyAt}
 use Rattle.order.specs.Laws.Search.{IsSearched, IsFirstBehind, IsNextAt}
 use Rattle.order.specs.Successor.Known.{head_at, key_at, successor_asks_key, is_answer, HasTurnedLeft, IsLastTurn, IsOnRoute, IsSideOf, IsRightThere, LooksAt, SuccessorStandsAt, HasHead, HasLeaf, SuccessorValidates, SuccessorGoes}
@@ -380,7 +379,7 @@ tells_this m c h n key v x d b run e hold ps spelled = first_tells b m.key n fir
 -- The VLX
 
 pub validates : (m : SuccessorRun) (c : Call) (h : History) (found : Option Pair) → SuccessorGoes m c h → IsOwnMoment c h → Whenever c.layout h m.snaps.items (λ b. IsNextAt c.layout b m.key found) → SuccessorValidates m c h h found
-validates m c h found goes own x = record { own = own; within = ends_self h; then = goes.reads; right = λ hold. x h goes.reads.run (ends_self h) hold }
+validates m c h found goes own x = record { own = own; within = ends_self h; reads = goes.reads; right = λ hold. x h goes.reads.run (ends_self h) hold }
 
 pub vlx_ready : (m : SuccessorRun) (c : Call) (h : History) → SuccessorGoes m c h → 0 < length m.snaps.items → VlxIsReady m.snaps.items 0 (begun_at c h) h None
 vlx_ready m c h goes some = first_look c h m.snaps.items goes.reads some
@@ -397,4 +396,4 @@ replies m c begin h found x same = record {
 }
   where
     spelled : (ps : List Pair) × Spells c.layout (value begin) ps
-    spelled = run_spells c.layout begin x.then.run
+    spelled = run_spells c.layout begin x.reads.run

@@ -8,7 +8,7 @@ use Rattle.arena.specs.declared.step.Kind.TheVariants.{LoadMarked}
 use Rattle.arena.specs.declared.word.Side.TheVariants.{Left}
 use Rattle.arena.specs.Words.{marked}
 use Rattle.arena.specs.History.{History}
-use Rattle.arena.specs.Machines.{Call, MatchTurn}
+use Rattle.arena.specs.Machines.{Call, MatchTurn, begun_at}
 use Rattle.prims.specs.Llx.Known.{load}
 use Rattle.prims.specs.Vlx.Laws.{first_looked, looks_next}
 use Rattle.prims.specs.declared.llx.LlxAt.{LlxAt}
@@ -16,7 +16,6 @@ use Rattle.prims.specs.declared.llx.LlxAt.TheVariants.{Start, Marked}
 use Rattle.prims.specs.declared.llx.LlxRun.{LlxRun}
 use Rattle.prims.proofs.Lemmas.{turn_first}
 use Rattle.ordered_map.specs.TreeShape.{TreeAllows}
-use Rattle.order.specs.Reads.{begun_at}
 use Rattle.order.specs.Tries.{IsInTry}
 use Rattle.template.specs.FoundLeaf.{HasFoundGoal}
 use Rattle.template.specs.Trails.{IsOwnMoment}

@@ -12,7 +12,7 @@ use Rattle.arena.specs.declared.step.Kind.TheVariants.{LoadSettled}
 use Rattle.arena.specs.declared.word.NodeWord.TheVariants.{Head as HeadWord, Key as KeyWord, Value as ValueWord}
 use Rattle.arena.specs.Words.{node}
 use Rattle.arena.specs.History.{History, value, Extends}
-use Rattle.arena.specs.Machines.{Call, IsRun, MatchTurn}
+use Rattle.arena.specs.Machines.{Call, IsRun, MatchTurn, begun_at}
 use Rattle.prims.specs.Moments.{AreFinished}
 use Rattle.prims.specs.Llx.Known.{load, IsSnapshot, LlxIsReady, LlxWaits, LlxAnswers}
 use Rattle.prims.specs.Vlx.Known.{VlxIsReady, VlxWaits, VlxAnswers}
@@ -28,7 +28,6 @@ use Rattle.ordered_map.specs.OrderedMap.{range}
 use Rattle.ordered_map.specs.TreeShape.{TreeAllows}
 use Rattle.ordered_map.specs.TreeWords.{level, rank}
 use Rattle.template.specs.Trails.{IsOwnMoment}
-use Rattle.order.specs.Reads.{begun_at}
 use Rattle.order.specs.Tries.{BeginsTry, IsInTry}
 use Rattle.template.specs.Blame.{IsContended}
 use Rattle.order.specs.Range.Known.{AsksForNothing, TellsNone, Visits, IsChoice, LooksIn, HasLowHead, HasKey, RangeValidates, RangeGoes, HasToldPairs, RangeIsToldAt, RangeWaits, RangeIsReady, RangeReplies, RangeTurn}
@@ -130,14 +129,14 @@ module _ (m : RangeRun) (c : Call) (begin look h : History) (asked : ℕ) (turn 
     begin,
     try,
     goes_at m (Validate asked) (begun_at c begin) h goes,
-    (look, record { own = x.own; asks = x.asks; within = x.within; then = x.then; right = x.right }, rw is at w),
+    (look, record { own = x.own; asks = x.asks; within = x.within; reads = x.reads; right = x.right }, rw is at w),
   )
 
   pub told : turn ≡ Done Same → IsInTry c h begin m.limit m.tries → RangeReplies m c h m.taken.items
   told is try = inl (reply_wider c begin h _ _ try.begins.since (replies m (begun_at c begin) look h x (rw is at w)))
 
   pub changed : (n : NodeNo) (s : ScxNo) → turn ≡ Done (Changed n s) → IsContended (begun_at c begin) h n.0 s.0
-  changed n s is = look_changed (begun_at c begin) look h m.snaps.items n.0 s.0 goes.reads.run.1.lawful x.then (rw is at w)
+  changed n s is = look_changed (begun_at c begin) look h m.snaps.items n.0 s.0 goes.reads.run.1.lawful x.reads (rw is at w)
 
 -- As it is told something
 

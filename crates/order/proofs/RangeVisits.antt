@@ -12,9 +12,9 @@ use Rattle.arena.specs.declared.word.Side.TheVariants.{Left, Right}
 use Rattle.arena.specs.Heads.{head_of}
 use Rattle.arena.specs.Words.{node, child}
 use Rattle.arena.specs.History.{History, value, Extends}
-use Rattle.arena.specs.Machines.{Call}
+use Rattle.arena.specs.Machines.{Call, begun_at}
 use Rattle.arena.proofs.Lemmas.{ends_self}
-use Rattle.prims.specs.Laws.Idle.{quiet_at_start}
+use Rattle.prims.specs.Laws.Idle.{quiet_at_start, idle_if_finished}
 use Rattle.prims.specs.Llx.Known.{IsSnapshot, LlxKnows, LlxIsReady}
 use Rattle.prims.specs.Snap.{child_of}
 use Rattle.prims.specs.Vlx.Known.{IsSame}
@@ -29,8 +29,9 @@ use Rattle.ordered_map.specs.TreeShape.{TreeAllows}
 use Rattle.ordered_map.specs.TreeWords.{class, is_leaf, level, rank}
 use Rattle.ordered_map.proofs.Lemmas.{root_head, run_spells, stood_settled, SameSettled, settled_class, settled_leaf, settled_rank}
 use Rattle.template.specs.Trails.{IsOwnMoment}
-use Rattle.order.specs.Laws.Kept.{idle_if_finished, root_there, opened_if_stood}
-use Rattle.order.specs.Reads.{begun_at, AllHold, Whenever, HasStood}
+use Rattle.template.proofs.Lemmas.{opened_if_stood}
+use Rattle.order.specs.Laws.Kept.{root_there}
+use Rattle.order.specs.Reads.{AllHold, Whenever, HasStood}
 use Rattle.order.specs.Replies.{IsReplyAt}
 use Rattle.order.specs.Visits.{IsVisiting, HasVisited, IsRangeAt}
 use Rattle.order.specs.Successor.Known.{key_at, value_at}
@@ -338,7 +339,7 @@ last_visited m c h leaves x none b run e hold = ends_last c.layout b (bounds_of 
 -- The VLX
 
 pub validates : (m : RangeRun) (c : Call) (h : History) → RangeGoes m c h → AsksForSome m → IsOwnMoment c h → Whenever c.layout h m.snaps.items (λ b. IsRangeAt c.layout b (bounds_of m) m.taken.items) → RangeValidates m c h h
-validates m c h goes asks own x = record { own = own; asks = asks; within = ends_self h; then = goes.reads; right = λ hold. x h goes.reads.run (ends_self h) hold }
+validates m c h goes asks own x = record { own = own; asks = asks; within = ends_self h; reads = goes.reads; right = λ hold. x h goes.reads.run (ends_self h) hold }
 
 -- all nodes are as they were found: the answer is the map's as the VLX began
 pub replies : (m : RangeRun) (c : Call) (begin h : History) → RangeValidates m c h begin → IsSame (begun_at c begin) h m.snaps.items → IsReplyAt c h (Range m.low m.high m.most) (ManyPairs m.taken.items)
@@ -352,7 +353,7 @@ replies m c begin h x same = record {
 }
   where
     spelled : (ps : List Pair) × Spells c.layout (value begin) ps
-    spelled = run_spells c.layout begin x.then.run
+    spelled = run_spells c.layout begin x.reads.run
 
 -- The leaves of a try
 

@@ -1,11 +1,12 @@
 -- How an ordered read begins.
 use Rattle.std.proofs.Common.{◌≡◌, ◌^◌, ◌<◌, suc, [], subst, None}
 use Rattle.arena.specs.History.{History}
-use Rattle.arena.specs.Machines.{Call}
+use Rattle.arena.specs.Machines.{Call, begun_at}
 use Rattle.prims.specs.Moments.{AreFinished}
+use Rattle.prims.specs.Laws.Idle.{idle_if_finished}
 use Rattle.ordered_map.specs.Runs.{IsTreeRun}
-use Rattle.order.specs.Laws.Kept.{idle_if_finished, reads_anew}
-use Rattle.order.specs.Reads.{begun_at, Reads}
+use Rattle.order.specs.Laws.Kept.{reads_anew}
+use Rattle.order.specs.Reads.{Reads}
 use Rattle.order.specs.Successor.Known.{SuccessorIsReady}
 use Rattle.order.specs.declared.successor.SuccessorAt.TheVariants.{Start}
 use Rattle.order.specs.declared.successor.SuccessorRun.{SuccessorRun}

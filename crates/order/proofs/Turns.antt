@@ -12,7 +12,7 @@ use Rattle.arena.specs.declared.word.Side.{Side}
 use Rattle.arena.specs.declared.word.Side.TheVariants.{Left, Right}
 use Rattle.arena.specs.Words.{node}
 use Rattle.arena.specs.History.{History, value, Extends}
-use Rattle.arena.specs.Machines.{Call, MatchTurn}
+use Rattle.arena.specs.Machines.{Call, MatchTurn, begun_at}
 use Rattle.prims.specs.Llx.Known.{load, IsSnapshot, LlxIsReady, LlxWaits, LlxAnswers}
 use Rattle.prims.specs.Vlx.Known.{VlxIsReady, VlxWaits, VlxAnswers}
 use Rattle.prims.specs.declared.llx.Llx.{Llx}
@@ -33,7 +33,6 @@ use Rattle.template.specs.declared.walk.Goal.TheVariants.{Key as ToKey}
 use Rattle.template.specs.declared.walk.WalkAt.{WalkAt}
 use Rattle.template.specs.declared.walk.WalkAt.TheVariants.{Start as WalkStart, Root, Head as AtHead, Key as AtKey, Child, Value as AtValue}
 use Rattle.template.specs.declared.walk.WalkRun.{WalkRun}
-use Rattle.order.specs.Reads.{begun_at}
 use Rattle.order.specs.Tries.{BeginsTry, IsInTry}
 use Rattle.template.specs.Blame.{IsContended}
 use Rattle.order.specs.Successor.Known.{HasTurnedLeft, IsLastTurn, WalksInTry, LooksAt, SuccessorStandsAt, HasHead, HasLeaf, SuccessorValidates, SuccessorGoes, SuccessorIsToldAt, SuccessorWaits, SuccessorIsReady, SuccessorAnswers, SuccessorTurn}
@@ -188,14 +187,14 @@ module _ (m : SuccessorRun) (c : Call) (begin look h : History) (asked : ℕ) (f
     begin,
     try,
     goes_at m (Validate asked found) (begun_at c begin) h goes,
-    (look, record { own = x.own; within = x.within; then = x.then; right = x.right }, rw is at w),
+    (look, record { own = x.own; within = x.within; reads = x.reads; right = x.right }, rw is at w),
   )
 
   pub told : turn ≡ Done Same → IsInTry c h begin m.limit m.tries → SuccessorAnswers m c h (Ok found)
   told is try = (goes.reads.over, reply_wider c begin h _ _ try.begins.since (replies m (begun_at c begin) look h found x (rw is at w)))
 
   pub changed : (n : NodeNo) (s : ScxNo) → turn ≡ Done (Changed n s) → IsContended (begun_at c begin) h n.0 s.0
-  changed n s is = look_changed (begun_at c begin) look h m.snaps.items n.0 s.0 goes.reads.run.1.lawful x.then (rw is at w)
+  changed n s is = look_changed (begun_at c begin) look h m.snaps.items n.0 s.0 goes.reads.run.1.lawful x.reads (rw is at w)
 
 -- As it is told something
 

@@ -8,6 +8,7 @@ use Rattle.arena.specs.History.{History, Start, ◌⊳◌, value, Extends}
 use Rattle.arena.specs.Lawful.{Lawful}
 use Rattle.arena.specs.Log.{log}
 use Rattle.arena.specs.Machines.{Call, MatchTurn}
+use Rattle.arena.specs.Undisturbed.{IsUndisturbed}
 use Rattle.arena.specs.Words.{state}
 use Rattle.arena.specs.declared.machine.Turn.{Turn}
 use Rattle.arena.specs.declared.machine.Turn.TheVariants.{Ask, Done}
@@ -29,7 +30,7 @@ use Rattle.order.specs.Replies.{IsReplyAt, KeepsTries}
 use Rattle.template.specs.Blame.{IsContended}
 use Rattle.order.specs.Successor.Known.{SuccessorIsReady, SuccessorAnswers, SuccessorTurn}
 use Rattle.order.specs.Successor.Steps.{successor_left, SuccessorIsNearer, successor_phase_left, successor_try_left}
-use Rattle.order.specs.Undisturbed.{HasLeftAll, HasLessOfTry, IsCallUndisturbed, TellsNext, TellsRange}
+use Rattle.order.specs.Undisturbed.{HasLeftAll, HasLessOfTry, TellsNext, TellsRange}
 use Rattle.order.specs.declared.range.RangeRun.{RangeRun}
 use Rattle.order.specs.declared.refused.Refused.{Refused}
 use Rattle.order.specs.declared.refused.Refused.TheVariants.{Contended, NoMemory}
@@ -65,7 +66,7 @@ less a b t x y e i = drop (a * t) (rw e at i)
     drop : (p : ℕ) → p + x < p + y → x < y
     drop p j = omega (arith, j)
 
-module _ (c : Call) (h : History) (run : IsTreeRun c.layout h) (alone : IsCallUndisturbed c h) where
+module _ (c : Call) (h : History) (run : IsTreeRun c.layout h) (alone : IsUndisturbed c h) where
   -- no other's SCX-record is in progress at any moment of the call
   others_rest : (k : History) → Extends h k → Extends k c.start → (t : ℕ) → IsOthersScx c.layout c.pass t → ¬ IsInProgress k t
   others_rest (Start mode) e f t o x = alone.rest t (subst (λ m. IsInProgress m t) (sym f) x)
@@ -140,7 +141,7 @@ module _ (c : Call) (h : History) (run : IsTreeRun c.layout h) (alone : IsCallUn
     alone_replies : (call : MapCall) (told : MapReply) (map : List Pair) → IsReplyAt c h call told → Spells c.layout (value c.start) map → told ≡ reply call map
     alone_replies call told map x spells = sym x.gives ∙ ap (reply call) (one_spelling c.layout (value x.moment) x.map map x.spelled (still map spells x.moment x.within (own_since c x.moment x.own)).spelled)
 
-module _ (c : Call) (h : History) (alone : IsCallUndisturbed c h) (map : List Pair) (spells : Spells c.layout (value c.start) map) (run : IsTreeRun c.layout h) (quiet : IsQuietSince c.layout c.pass c.start h) where
+module _ (c : Call) (h : History) (alone : IsUndisturbed c h) (map : List Pair) (spells : Spells c.layout (value c.start) map) (run : IsTreeRun c.layout h) (quiet : IsQuietSince c.layout c.pass c.start h) where
   -- a successor by itself
   module _ (old now : SuccessorRun) (key : now.key ≡ old.key) where
     next_told : (answer : Result (Option Pair) Refused) → SuccessorAnswers now c h answer → TellsNext map old.key answer
@@ -168,7 +169,7 @@ module _ (c : Call) (h : History) (alone : IsCallUndisturbed c h) (map : List Pa
     range_turn (Done answer) x = (still c h run alone quiet map spells h (ends_self h) alone.since, range_told answer x)
 
 -- what a read may be called with tells that its pass was idle since the call began
-module _ (c : Call) (h : History) (alone : IsCallUndisturbed c h) (map : List Pair) (spells : Spells c.layout (value c.start) map) where
+module _ (c : Call) (h : History) (alone : IsUndisturbed c h) (map : List Pair) (spells : Spells c.layout (value c.start) map) where
   pub alone_next : (old now : SuccessorRun) (turn : Turn (Result (Option Pair) Refused)) (got : Option ℕ) → SuccessorIsReady old c h got → now.key ≡ old.key → SuccessorTurn c h now turn → HasLeftAll c h map × MatchTurn turn (λ _. Unit {0}) (TellsNext map old.key)
   alone_next old now turn None ready key x = next_turn c h alone map spells ready.0.reads.run ready.0.reads.quiet old now key turn x
   alone_next old now turn (Some v) ready key x = next_turn c h alone map spells ready.2.reads.run ready.1.quiet old now key turn x

@@ -15,10 +15,6 @@ use Rattle.prims.specs.declared.snap.Snap.{Snap}
 use Rattle.ordered_map.specs.Paths.{WasInTree}
 use Rattle.ordered_map.specs.Runs.{IsTreeRun}
 
--- the same call, as if it had begun later
-abbrev pub begun_at : Call → History → Call
-begun_at c b = record c { start = b }
-
 -- the snapshot was right at a moment of the call
 pub record HasSnapped (c : Call) (h : History) (snap : Snap) : Type 0 where
   pub moment : History

@@ -1,9 +1,7 @@
--- A call by itself, and what an ordered read tells and leaves then.
+-- What an ordered read tells and leaves that is a call by itself.
 use Rattle.std.specs.Prelude.{◌≡◌, ℕ, ◌<◌, List, Option, Result, Ok, Err, Vec}
 use Rattle.std.specs.Global.{Global}
-use Rattle.arena.specs.declared.step.Row.{Row}
-use Rattle.arena.specs.Blame.{IsInProgress}
-use Rattle.arena.specs.History.{History, ◌⊳◌, value, Extends}
+use Rattle.arena.specs.History.{History, value}
 use Rattle.arena.specs.Log.{log}
 use Rattle.arena.specs.Machines.{Call, MatchTurn}
 use Rattle.arena.specs.declared.machine.Turn.{Turn}
@@ -12,16 +10,6 @@ use Rattle.ordered_map.specs.OrderedMap.{successor, range}
 use Rattle.ordered_map.specs.Spelled.{Spells}
 use Rattle.order.specs.declared.refused.Refused.{Refused}
 use Rattle.order.specs.declared.refused.Refused.TheVariants.{Contended, NoMemory}
-
--- no SCX-record is in progress
-abbrev pub HasNoneInProgress : History → Type 0
-HasNoneInProgress h = (s : ℕ) → ¬ IsInProgress h s
-
--- Nothing was in progress as the call began, and each row since then is its pass's.
-pub record IsCallUndisturbed (c : Call) (h : History) : Type 0 where
-  pub since : Extends h c.start
-  pub rest : HasNoneInProgress c.start
-  pub own : (row : Row) (before : History) → Extends h (row ⊳ before) → Extends before c.start → row.pass.0 ≡ c.pass
 
 -- where a turn asks for a step, fewer are left then in this try than were before it
 abbrev pub HasLessOfTry : {A : Type 0} → Turn A → ℕ → ℕ → Type 0

@@ -108,14 +108,14 @@ pub struct RangeRun {
 impl RangeRun {
     ghost use Rattle.std.specs.Prelude.{◌≡◌, ℕ, ◌+◌, ◌-◌, ◌*◌, ◌<◌, ◌≤◌, length, [], IfOk, None, Ok};
     ghost use Rattle.arena.specs.History.{History, Extends};
-    ghost use Rattle.arena.specs.Machines.{MatchTurn, Call};
+    ghost use Rattle.arena.specs.Machines.{MatchTurn, Call, begun_at};
     ghost use Rattle.prims.specs.Llx.Known.{IsSnapshot, LlxIsReady, load};
     ghost use Rattle.prims.specs.Llx.Steps.{llx_left};
     ghost use Rattle.prims.specs.Vlx.Known.{VlxIsReady};
     ghost use Rattle.prims.specs.Vlx.Steps.{vlx_left};
     ghost use Rattle.ordered_map.specs.TreeShape.{TreeAllows};
     ghost use Rattle.template.specs.Trails.{IsOwnMoment};
-    ghost use Rattle.order.specs.Reads.{begun_at, Whenever};
+    ghost use Rattle.order.specs.Reads.{Whenever};
     ghost use Rattle.order.specs.Replies.{KeepsTries};
     ghost use Rattle.order.specs.Tries.{BeginsTry, IsInTry};
     ghost use Rattle.template.specs.Blame.{IsContended};

@@ -115,9 +115,9 @@ pub struct SuccessorRun {
 }
 
 impl SuccessorRun {
-    ghost use Rattle.std.specs.Prelude.{◌≡◌, ℕ, ◌+◌, ◌-◌, ◌*◌, ◌<◌, ◌≤◌, cond, ltb, length, [], IfOk, None, Some};
+    ghost use Rattle.std.specs.Prelude.{◌≡◌, ℕ, ◌+◌, ◌-◌, ◌*◌, ◌<◌, ◌≤◌, if◌then◌else◌, nat_lt, length, [], IfOk, None, Some};
     ghost use Rattle.arena.specs.History.{History, Extends};
-    ghost use Rattle.arena.specs.Machines.{MatchTurn, Call};
+    ghost use Rattle.arena.specs.Machines.{MatchTurn, Call, begun_at};
     ghost use Rattle.prims.specs.Llx.Known.{IsSnapshot, LlxIsReady};
     ghost use Rattle.prims.specs.Llx.Steps.{llx_left};
     ghost use Rattle.prims.specs.Vlx.Known.{VlxIsReady};
@@ -126,7 +126,7 @@ impl SuccessorRun {
     ghost use Rattle.template.specs.Trails.{IsOwnMoment};
     ghost use Rattle.template.specs.Walk.Known.{WalkIsReady};
     ghost use Rattle.template.specs.Walk.Steps.{walk_left, WalkFits};
-    ghost use Rattle.order.specs.Reads.{begun_at, Whenever};
+    ghost use Rattle.order.specs.Reads.{Whenever};
     ghost use Rattle.order.specs.Replies.{KeepsTries};
     ghost use Rattle.order.specs.Tries.{BeginsTry, IsInTry};
     ghost use Rattle.template.specs.Blame.{IsContended};
@@ -337,7 +337,7 @@ impl SuccessorRun {
 
     /// Where the path of the key goes at a fork of class 0 with this key.
     fn side(&self, key: u64) -> Side
-        ensures { result ≡ cond (ltb self.now.key key) Side.Left Side.Right }
+        ensures { result ≡ (if nat_lt self.now.key key then Side.Left else Side.Right) }
     {
         if self.key < key {
             Side::Left

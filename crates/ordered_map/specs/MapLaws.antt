@@ -1,5 +1,5 @@
 -- What the laws of the map say of the least key above another one, and of the keys between two.
-use Rattle.std.specs.Prelude.{◌≡◌, ℕ, ◌<◌, cond, ◌&&◌, leb, List, Option, Some, None}
+use Rattle.std.specs.Prelude.{◌≡◌, ℕ, ◌<◌, if◌then◌else◌, ◌&&◌, nat_le, List, Option, Some, None}
 use Rattle.ordered_map.specs.declared.pair.Pair.{Pair}
 use Rattle.ordered_map.specs.OrderedMap.{get}
 
@@ -10,4 +10,4 @@ IsSuccessor k m None = (j : ℕ) → k < j → get j m ≡ None
 
 -- this, for a key from `low` to `high`, and nothing for any other
 abbrev pub within : ℕ → ℕ → ℕ → Option ℕ → Option ℕ
-within low high j v = cond (leb low j && leb j high) v None
+within low high j v = if nat_le low j && nat_le j high then v else None

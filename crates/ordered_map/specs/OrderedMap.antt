@@ -1,5 +1,5 @@
 -- The ordered map from keys to values: what each call replies, and the map that it leaves.
-use Rattle.std.specs.Prelude.{ℕ, ◌<◌, Bool, true, false, cond, ◌&&◌, eqb, leb, ltb, List, [], ◌∷◌, take, Option, Some, None}
+use Rattle.std.specs.Prelude.{ℕ, ◌<◌, Bool, true, false, if◌then◌else◌, ◌&&◌, ◌==◌, nat_le, nat_lt, List, [], ◌∷◌, take, Option, Some, None}
 use Rattle.ordered_map.specs.declared.pair.Pair.{Pair}
 
 -- A map is the list of its pairs by rising key; the empty list is the empty map.
@@ -21,17 +21,19 @@ IsRising (p ∷ ps) = AllAbove p.key ps × IsRising ps
 -- the value of k, if it has one
 abbrev pub get : ℕ → List Pair → Option ℕ
 get k [] = None
-get k (p ∷ ps) = cond (eqb k p.key) (Some p.value) (get k ps)
+get k (p ∷ ps) = if k == p.key then Some p.value else get k ps
 
 -- the map with k at v
 abbrev pub insert : ℕ → ℕ → List Pair → List Pair
 insert k v [] = pair k v ∷ []
-insert k v (p ∷ ps) = cond (ltb k p.key) (pair k v ∷ p ∷ ps) (cond (eqb k p.key) (pair k v ∷ ps) (p ∷ insert k v ps))
+insert k v (p ∷ ps) =
+    if nat_lt k p.key then pair k v ∷ p ∷ ps
+    else (if k == p.key then pair k v ∷ ps else p ∷ insert k v ps)
 
 -- the map without k
 abbrev pub delete : ℕ → List Pair → List Pair
 delete k [] = []
-delete k (p ∷ ps) = cond (eqb k p.key) ps (p ∷ delete k ps)
+delete k (p ∷ ps) = if k == p.key then ps else p ∷ delete k ps
 
 -- the pair with the least key, if there is one
 abbrev pub first_pair : List Pair → Option Pair
@@ -41,12 +43,14 @@ first_pair (p ∷ ps) = Some p
 -- the pair with the least key above k, if there is one
 abbrev pub successor : ℕ → List Pair → Option Pair
 successor k [] = None
-successor k (p ∷ ps) = cond (ltb k p.key) (Some p) (successor k ps)
+successor k (p ∷ ps) = if nat_lt k p.key then Some p else successor k ps
 
 -- the pairs with keys from `low` to `high`, both with them
 abbrev pub between : ℕ → ℕ → List Pair → List Pair
 between low high [] = []
-between low high (p ∷ ps) = cond (leb low p.key && leb p.key high) (p ∷ between low high ps) (between low high ps)
+between low high (p ∷ ps) =
+    if nat_le low p.key && nat_le p.key high then p ∷ between low high ps
+    else between low high ps
 
 -- the first of these by key, at most so many
 abbrev pub range : ℕ → ℕ → ℕ → List Pair → List Pair

@@ -1,5 +1,5 @@
 -- What the settled words of a node say, and the tree of nodes that words show.
-use Rattle.std.specs.Prelude.{◌≡◌, ◌≢◌, ℕ, ◌+◌, ◌*◌, ◌/◌, ◌%◌, ◌^◌, ◌<◌, ◌≤◌, Bool, true, false, cond, eqb, ltb, ◌⊎◌, List, [], ◌∷◌, ◌++◌, Option, Some, None}
+use Rattle.std.specs.Prelude.{◌≡◌, ◌≢◌, ℕ, ◌+◌, ◌*◌, ◌/◌, ◌%◌, ◌^◌, ◌<◌, ◌≤◌, Bool, true, false, if◌then◌else◌, ◌==◌, nat_lt, ◌⊎◌, List, [], ◌∷◌, ◌++◌, Option, Some, None}
 use Rattle.arena.specs.declared.word.Side.{Side}
 use Rattle.arena.specs.declared.word.Side.TheVariants.{Left, Right}
 use Rattle.arena.specs.declared.word.NodeWord.TheVariants.{Head, Key, Value}
@@ -16,7 +16,7 @@ class f n = f (node n Head) % 4
 
 -- whether it is a leaf; otherwise it is a fork
 abbrev pub is_leaf : (Word → ℕ) → ℕ → Bool
-is_leaf f n = eqb (f (node n Head) / 4 % 2) 1
+is_leaf f n = f (node n Head) / 4 % 2 == 1
 
 -- what rises from each fork to its children
 abbrev pub level : (Word → ℕ) → ℕ → ℕ
@@ -33,11 +33,11 @@ pub record IsBlankAboveKeys (f : Word → ℕ) (n : ℕ) : Type 0 where
 
 -- on which side of the fork n the key k stands
 abbrev pub toward : (Word → ℕ) → ℕ → ℕ → Side
-toward f n k = cond (ltb k (rank f n)) Left Right
+toward f n k = if nat_lt k (rank f n) then Left else Right
 
 -- what the leaf n holds: its pairs, by rising key
 abbrev pub leaf_pairs : (Word → ℕ) → ℕ → List Pair
-leaf_pairs f n = cond (eqb (class f n) 0) (pair (f (node n Key)) (f (node n Value)) ∷ []) []
+leaf_pairs f n = if class f n == 0 then pair (f (node n Key)) (f (node n Value)) ∷ [] else []
 
 -- what the leaf n says of the key k
 abbrev pub said : (Word → ℕ) → ℕ → ℕ → Option ℕ
@@ -45,7 +45,7 @@ said f k n = get k (leaf_pairs f n)
 
 -- what the leaf n says of the least key, where it is the first leaf
 abbrev pub first_said : (Word → ℕ) → ℕ → Option Pair
-first_said f n = cond (eqb (class f n) 0) (Some (pair (f (node n Key)) (f (node n Value)))) None
+first_said f n = if class f n == 0 then Some (pair (f (node n Key)) (f (node n Value))) else None
 
 -- A tree of nodes, by their numbers
 

@@ -1,7 +1,7 @@
 -- The tries of calls of the map. Each begins with a load of the root's head, which such a call
 -- makes nowhere else: so a history shows how many tries a pass has
 -- begun, and where the newest began.
-use Rattle.std.specs.Prelude.{◌≡◌, ℕ, suc, ◌+◌, Bool, true, false, cond, ◌&&◌, eqb}
+use Rattle.std.specs.Prelude.{◌≡◌, ℕ, suc, ◌+◌, Bool, true, false, if◌then◌else◌, ◌&&◌, ◌==◌}
 use Rattle.arena.specs.declared.step.Row.{Row}
 use Rattle.arena.specs.declared.step.Kind.{Kind}
 use Rattle.arena.specs.declared.step.Kind.TheVariants.{LoadSettled}
@@ -17,12 +17,12 @@ is_settled_load _ = false
 
 -- whether the row begins a try of the pass c: it loads the root's head
 abbrev pub begins_try : ℕ → Row → Bool
-begins_try c r = eqb r.pass.0 c && (is_settled_load r.kind && same_word r.word (node 0 Head))
+begins_try c r = r.pass.0 == c && (is_settled_load r.kind && same_word r.word (node 0 Head))
 
 -- how many tries the pass c has begun
 unfoldable pub tries_begun : ℕ → History → ℕ
 tries_begun c (Start mode) = 0
-tries_begun c (r ⊳ h) = cond (begins_try c r) (suc (tries_begun c h)) (tries_begun c h)
+tries_begun c (r ⊳ h) = if begins_try c r then suc (tries_begun c h) else tries_begun c h
 
 -- the newest try of the pass c began right behind the moment `begin`
 pub record IsNewestTry (c : ℕ) (now begin : History) : Type 0 where

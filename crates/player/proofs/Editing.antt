@@ -11,7 +11,7 @@ use Rattle.arena.specs.History.{History, value}
 use Rattle.arena.specs.Blame.{IsInProgress}
 use Rattle.arena.specs.Fills.{IsOwnScx, IsNamedScx}
 use Rattle.arena.specs.Lawful.{Lawful}
-use Rattle.arena.specs.Machines.{Call as MachineCall}
+use Rattle.arena.specs.Machines.{Call as MachineCall, begun_at}
 use Rattle.arena.proofs.Lemmas.{ends_self}
 use Rattle.help.specs.Laws.Help.Lawful.{help_fills_not}
 use Rattle.prims.specs.Cells.{AllowsAll}
@@ -41,7 +41,6 @@ use Rattle.tree.proofs.Lemmas.{get_fills_not}
 use Rattle.edits.specs.Edits.{EditMeaning}
 use Rattle.edits.specs.Known.{Tries, UpdateWaitsAt}
 use Rattle.edits.specs.Laws.Entered.{only_joined}
-use Rattle.edits.specs.Laws.HandScx.{from}
 use Rattle.edits.specs.Laws.Kept.{idle_rests}
 use Rattle.edits.specs.Tries.{HasEnteredOnly}
 use Rattle.edits.specs.declared.update.UpdateAt.{UpdateAt}
@@ -96,15 +95,15 @@ module _ {E : Type 0} (means : EditMeaning E) (m : UpdateRun E UpdateAt) where
     makes_it j e (Tracks.begun x) = rw e at x
     makes_it j e (Tracks.over x) = absurd (let z = p.unfinished in let y = rw e at x in omega (arith, z, y))
 
-    hand_at : (b : History) (s : Step) (at : UpdateAt) → Tries means m call b h at → UpdateWaitsAt means m (from call b) h s at → IsHandOf m.call edit call h t
+    hand_at : (b : History) (s : Step) (at : UpdateAt) → Tries means m call b h at → UpdateWaitsAt means m (begun_at call b) h s at → IsHandOf m.call edit call h t
     hand_at b s Start try w = absurd w
-    hand_at b s (Walk walk) try w = absurd (idle_rests (from call b) h m.share l w.0.rests t own p)
-    hand_at b s (Look f llx) try w = absurd (idle_rests (from call b) h m.share l w.1.rests t own p)
+    hand_at b s (Walk walk) try w = absurd (idle_rests (begun_at call b) h m.share l w.0.rests t own p)
+    hand_at b s (Look f llx) try w = absurd (idle_rests (begun_at call b) h m.share l w.1.rests t own p)
     hand_at b s (Load f nth part) try w = absurd (w.0.works.quiet h (ends_self h) w.0.works.since t own p)
     hand_at b s (Fill f nth part) try w = absurd (w.0.works.quiet h (ends_self h) w.0.works.since t own p)
     hand_at b s (Scx f scx) try (begin, x, w) =
         let same : t ≡ scx.scx.0 = own_in_hand call.layout h call.pass t scx.scx.0 l x.over own p in
-        let filled = scx_filled TreeAllows (job_of scx) (from (from call b) begin) h scx.at s (rw same at p.named) w in
+        let filled = scx_filled TreeAllows (job_of scx) (begun_at (begun_at call b) begin) h scx.at s (rw same at p.named) w in
         record {
           called = rw same (filled.called ∙ x.call);
           makes = makes_it (job_of scx) (sym same) (subst (Tracks call.layout call.pass h (job_of scx)) (fixed f) x.tracks);
@@ -116,10 +115,10 @@ module _ {E : Type 0} (means : EditMeaning E) (m : UpdateRun E UpdateAt) where
   update_says_at : (call : MachineCall) (h : History) (s : Step) (t v : ℕ) (at : UpdateAt) → UpdateWaitsAt means m call h s at → s.kind ≡ FillKind → s.word ≡ scx_word t CallWord → word_after s.access v ≡ m.call
   update_says_at call h s t v Start w kind word = absurd w
   update_says_at call h s t v (Walk walk) w kind word = absurd (walk_fills_not walk call h s w.1 kind)
-  update_says_at call h s t v (Look f llx) w kind word = absurd (llx_fills_not TreeAllows llx (from call w.0) h s w.2 kind)
+  update_says_at call h s t v (Look f llx) w kind word = absurd (llx_fills_not TreeAllows llx (begun_at call w.0) h s w.2 kind)
   update_says_at call h s t v (Load f nth part) w kind word = absurd (let z : LoadSettled ≡ FillKind = ap (λ (q : Step). q.kind) (sym w.1) ∙ kind in cc)
   update_says_at call h s t v (Fill f nth part) w kind word = absurd (let z = ap (λ (q : Step). q.word) (sym w.3) ∙ word in cc)
-  update_says_at call h s t v (Scx f scx) w kind word = scx_says TreeAllows (job_of scx) (from call w.0) h scx.at s t v w.2 kind word ∙ w.1.call
+  update_says_at call h s t v (Scx f scx) w kind word = scx_says TreeAllows (job_of scx) (begun_at call w.0) h scx.at s t v w.2 kind word ∙ w.1.call
 
 -- a pass that rests has none in progress
 module _ (call : MachineCall) (h : History) (t : ℕ) (l : Lawful call.layout h) (own : IsOwnScx call.layout call.pass t) (p : IsInProgress h t) (s : Step) where
@@ -129,8 +128,8 @@ module _ (call : MachineCall) (h : History) (t : ℕ) (l : Lawful call.layout h)
   map_hand m number w = absurd (idle_rests call h (share_of m) l w.1.now t own p)
 
 map_says : (m : MapRun) (call : MachineCall) (h : History) (s : Step) (t v : ℕ) → IsNumbered m call.number → WaitsInside m call h s → s.kind ≡ FillKind → s.word ≡ scx_word t CallWord → word_after s.access v ≡ call.number
-map_says (Insert m) call h s t v number w kind word = update_says_at insert_means m (from call w.0) h s t v m.at w.3 kind word ∙ number
-map_says (Delete m) call h s t v number w kind word = update_says_at delete_means m (from call w.0) h s t v m.at w.3 kind word ∙ number
+map_says (Insert m) call h s t v number w kind word = update_says_at insert_means m (begun_at call w.0) h s t v m.at w.3 kind word ∙ number
+map_says (Delete m) call h s t v number w kind word = update_says_at delete_means m (begun_at call w.0) h s t v m.at w.3 kind word ∙ number
 map_says (Get m share) call h s t v number w kind word = absurd (get_fills_not m call h s w.0 kind)
 map_says (Successor m share) call h s t v number w kind word = absurd (successor_fills_not m call h s w.0 kind)
 map_says (Range m share) call h s t v number w kind word = absurd (range_fills_not m call h s w.0 kind)

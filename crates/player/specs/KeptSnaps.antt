@@ -1,5 +1,5 @@
 -- What a client keeps of the snapshots that it took.
-use Rattle.std.specs.Prelude.{◌≡◌, ℕ, ◌<◌, ◌≤◌, List, length, get_or, Option, Some, None, IsSome}
+use Rattle.std.specs.Prelude.{◌≡◌, ℕ, ◌<◌, ◌≤◌, List, length, slice_index_or, Option, Some, None, IsSome}
 use Rattle.arena.specs.declared.layout.Layout.{Layout}
 use Rattle.arena.specs.History.{History}
 use Rattle.prims.specs.Moments.{IsLeftAlone}
@@ -14,7 +14,7 @@ use Rattle.player.specs.declared.kept.Kept.{Kept}
 
 -- what the client keeps of node n: what its last LLX found there, if it keeps that
 abbrev pub kept_of : Kept → ℕ → Option Found
-kept_of kept n = get_or kept.found n None
+kept_of kept n = slice_index_or kept.found n None
 
 -- the snapshot of node n that found this there
 abbrev pub snap_of : ℕ → Found → Snap

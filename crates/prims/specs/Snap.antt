@@ -1,5 +1,5 @@
 -- Snapshots: their fields, and lists of them.
-use Rattle.std.specs.Prelude.{ℕ, List, get_or}
+use Rattle.std.specs.Prelude.{ℕ, List, slice_index_or}
 use Rattle.arena.specs.declared.number.NodeNo.{NodeNo}
 use Rattle.arena.specs.declared.word.Side.{Side}
 use Rattle.arena.specs.declared.word.Side.TheVariants.{Left, Right}
@@ -12,4 +12,4 @@ child_of snap Right = snap.right
 
 -- the i-th snapshot of the list, or a blank one (all numbers 0) beyond its end
 abbrev pub snap_at : List Snap → ℕ → Snap
-snap_at snaps i = get_or snaps i record { node = record { 0 = 0 }; scx = record { 0 = 0 }; left = record { 0 = 0 }; right = record { 0 = 0 } }
+snap_at snaps i = slice_index_or snaps i record { node = record { 0 = 0 }; scx = record { 0 = 0 }; left = record { 0 = 0 }; right = record { 0 = 0 } }

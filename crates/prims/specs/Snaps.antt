@@ -1,5 +1,5 @@
 -- Lists of snapshots.
-use Rattle.std.specs.Prelude.{◌≡◌, ◌≢◌, ℕ, ◌<◌, Bool, ◌&&◌, ltb, eqb, List, length, map}
+use Rattle.std.specs.Prelude.{◌≡◌, ◌≢◌, ℕ, ◌<◌, Bool, ◌&&◌, nat_lt, ◌==◌, List, length, map}
 use Rattle.std.specs.List.{Contains, list_any}
 use Rattle.arena.specs.declared.number.NodeNo.{NodeNo}
 use Rattle.prims.specs.Snap.{snap_at}
@@ -21,8 +21,8 @@ ListsNode nodes n = Contains (map (λ (m : NodeNo). m.0) nodes) n
 
 -- whether node n is one of the list
 abbrev pub has_node : List NodeNo → ℕ → Bool
-has_node nodes n = list_any (λ (m : NodeNo). eqb m.0 n) nodes
+has_node nodes n = list_any (λ (m : NodeNo). m.0 == n) nodes
 
 -- whether the list has a j-th snapshot, and its node is among those to be finalized
 abbrev pub finalizes : List Snap → List NodeNo → ℕ → Bool
-finalizes snaps nodes j = ltb j (length snaps) && has_node nodes (snap_at snaps j).node.0
+finalizes snaps nodes j = nat_lt j (length snaps) && has_node nodes (snap_at snaps j).node.0

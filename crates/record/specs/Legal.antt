@@ -1,6 +1,6 @@
 -- All replies are those of one ordered map that takes the calls one after another, in the order of
 -- their moments. Lines stand here with the newest first.
-use Rattle.std.specs.Prelude.{◌≡◌, ℕ, suc, ◌+◌, ◌*◌, ◌≤◌, Bool, true, false, cond, ◌&&◌, eqb, ltb, not, is_none, List, [], ◌∷◌, Option, Some, None}
+use Rattle.std.specs.Prelude.{◌≡◌, ℕ, suc, ◌+◌, ◌*◌, ◌≤◌, Bool, true, false, if◌then◌else◌, ◌&&◌, ◌==◌, nat_lt, not, is_none, List, [], ◌∷◌, Option, Some, None}
 use Rattle.ordered_map.specs.declared.pair.Pair.{Pair}
 use Rattle.ordered_map.specs.OrderedMap.{MapCall, MapReply, reply, changes_map}
 use Rattle.script.specs.declared.call.Call.{Call}
@@ -36,7 +36,9 @@ event_place (Read m r) = 2 * m + 1
 -- the events with this one behind all that stand before it or with it
 abbrev pub with_event : Event → List Event → List Event
 with_event x [] = x ∷ []
-with_event x (y ∷ ys) = cond (ltb (event_place x) (event_place y)) (x ∷ y ∷ ys) (y ∷ with_event x ys)
+with_event x (y ∷ ys) =
+    if nat_lt (event_place x) (event_place y) then x ∷ y ∷ ys
+    else y ∷ with_event x ys
 
 -- whether an answered call is a reading: it has told something, and has not changed the map
 abbrev pub has_read : Option MapCall → Option MapReply → Bool
@@ -62,7 +64,9 @@ abbrev pub answer_to : List Line → ℕ → ℕ → Option Answer
 answer_to [] c j = None
 answer_to (Step row ∷ lines) c j = answer_to lines c j
 answer_to (Log e ∷ lines) c j = answer_to lines c j
-answer_to (ReplyLine r ∷ lines) c j = cond (eqb r.client.0 c && eqb r.call j) (Some r.answer) (answer_to lines c j)
+answer_to (ReplyLine r ∷ lines) c j =
+    if r.client.0 == c && r.call == j then Some r.answer
+    else answer_to lines c j
 
 -- it is a call of the map, and if it is answered it has told what it replies on the map m
 abbrev pub IsReplyOn : List Pair → Option MapCall → Option Answer → Type 0
@@ -82,7 +86,9 @@ AreReplies calls answers m (x ∷ xs) =
 -- how often call j of client c does
 abbrev pub times : ℕ → ℕ → List Event → ℕ
 times c j [] = 0
-times c j (x ∷ xs) = cond (eqb c (event_client x) && eqb j (event_call x)) (suc (times c j xs)) (times c j xs)
+times c j (x ∷ xs) =
+    if c == event_client x && j == event_call x then suc (times c j xs)
+    else times c j xs
 
 -- how often an answered call has to: once if it has told something, and nowhere if it was refused
 abbrev pub times_due : Option MapReply → ℕ
@@ -104,7 +110,9 @@ StandOnce (x ∷ xs) = (times (event_client x) (event_call x) xs ≡ 0) × Stand
 -- how many calls of client c stand there that are not answered
 abbrev pub unanswered : (ℕ → ℕ → Option Answer) → ℕ → List Event → ℕ
 unanswered answers c [] = 0
-unanswered answers c (x ∷ xs) = cond (eqb c (event_client x) && is_none (answers c (event_call x))) (suc (unanswered answers c xs)) (unanswered answers c xs)
+unanswered answers c (x ∷ xs) =
+    if c == event_client x && is_none (answers c (event_call x)) then suc (unanswered answers c xs)
+    else unanswered answers c xs
 
 -- of each client at most one
 abbrev pub AreFewUnanswered : (ℕ → ℕ → Option Answer) → List Event → Type 0

@@ -1,5 +1,5 @@
 -- The snapshots that clients keep, by the lines.
-use Rattle.std.specs.Prelude.{ℕ, cond, eqb, List, [], ◌∷◌, Option, None}
+use Rattle.std.specs.Prelude.{ℕ, if◌then◌else◌, ◌==◌, List, [], ◌∷◌, Option, None}
 use Rattle.arena.specs.declared.limits.Mode.{Mode}
 use Rattle.arena.specs.History.{History}
 use Rattle.script.specs.declared.call.Call.{Call}
@@ -14,4 +14,7 @@ abbrev pub linked : List Call → Mode → List Line → ℕ → ℕ → Option 
 linked calls mode [] c n = None
 linked calls mode (Step row ∷ lines) c n = linked calls mode lines c n
 linked calls mode (Log entry ∷ lines) c n = linked calls mode lines c n
-linked calls mode (ReplyLine reply ∷ lines) c n = cond (eqb reply.client.0 c) (linked_then (next_command calls lines c) reply.answer (history mode lines) n (linked calls mode lines c n)) (linked calls mode lines c n)
+linked calls mode (ReplyLine reply ∷ lines) c n =
+    if reply.client.0 == c
+    then linked_then (next_command calls lines c) reply.answer (history mode lines) n (linked calls mode lines c n)
+    else linked calls mode lines c n

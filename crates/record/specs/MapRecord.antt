@@ -1,6 +1,6 @@
 -- What the lines of a record say of the map: its calls, the log, the map after each turn. Lines
 -- stand here with the newest first.
-use Rattle.std.specs.Prelude.{ℕ, suc, Bool, cond, ◌&&◌, eqb, leb, List, [], ◌∷◌, map, Option, Some, None, slice_get}
+use Rattle.std.specs.Prelude.{ℕ, suc, Bool, if◌then◌else◌, ◌&&◌, ◌==◌, nat_le, List, [], ◌∷◌, map, Option, Some, None, slice_get}
 use Rattle.ordered_map.specs.declared.pair.Pair.{Pair}
 use Rattle.ordered_map.specs.OrderedMap.{MapCall, MapReply, after}
 use Rattle.ordered_map.specs.Requests.{map_request}
@@ -43,16 +43,18 @@ written_log (ReplyLine reply ∷ lines) = written_log lines
 -- those of the turns up to m
 abbrev pub entries_until : ℕ → List Entry → List Entry
 entries_until m [] = []
-entries_until m (e ∷ es) = cond (leb e.step m) (e ∷ entries_until m es) (entries_until m es)
+entries_until m (e ∷ es) = if nat_le e.step m then e ∷ entries_until m es else entries_until m es
 
 -- whether the entry is of call j of client c
 abbrev pub is_of_call : ℕ → ℕ → Entry → Bool
-is_of_call c j e = eqb c e.client.0 && eqb j e.call
+is_of_call c j e = c == e.client.0 && j == e.call
 
 -- how many entries call j of client c has
 abbrev pub entries_of_call : ℕ → ℕ → List Entry → ℕ
 entries_of_call c j [] = 0
-entries_of_call c j (e ∷ es) = cond (is_of_call c j e) (suc (entries_of_call c j es)) (entries_of_call c j es)
+entries_of_call c j (e ∷ es) =
+    if is_of_call c j e then suc (entries_of_call c j es)
+    else entries_of_call c j es
 
 -- the map that the call leaves, if it is a call of the map
 abbrev pub after_maybe : Option MapCall → List Pair → List Pair

@@ -1,5 +1,5 @@
 -- Snapshots that clients keep, and what calls ask of them.
-use Rattle.std.specs.Prelude.{◌≡◌, ℕ, ◌<◌, List, Option, Some, None, IsSome, slice_get, get_or}
+use Rattle.std.specs.Prelude.{◌≡◌, ℕ, ◌<◌, List, Option, Some, None, IsSome, slice_get, slice_index_or}
 use Rattle.std.specs.List.{Contains}
 use Rattle.arena.specs.declared.step.Row.{Row as StepRow}
 use Rattle.arena.specs.declared.step.Kind.TheVariants.{LoadInfo}
@@ -24,7 +24,7 @@ AreLinked linked cells = (n : ℕ) → Contains cells n → IsSome (linked n)
 pub record IsBehindAll (P : ℕ → Type 0) (cells : List ℕ) (node : ℕ) : Type 0 where
   pub place : ℕ
   pub is : slice_get cells place ≡ Some node
-  pub before : (i : ℕ) → i < place → P (get_or cells i 0)
+  pub before : (i : ℕ) → i < place → P (slice_index_or cells i 0)
 
 -- this is the first of the cells of which the client keeps no snapshot
 abbrev pub IsFirstUnlinked : (ℕ → Option History) → List ℕ → ℕ → Type 0

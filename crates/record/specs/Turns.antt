@@ -1,5 +1,5 @@
 -- What the lines of a run say. Lines stand here with the newest first.
-use Rattle.std.specs.Prelude.{ℕ, suc, Bool, true, false, cond, ◌&&◌, ◌||◌, eqb, not, List, [], ◌∷◌, Option, Some, None, unwrap_or, is_some}
+use Rattle.std.specs.Prelude.{ℕ, suc, Bool, true, false, if◌then◌else◌, ◌&&◌, ◌||◌, ◌==◌, not, List, [], ◌∷◌, Option, Some, None, unwrap_or, is_some}
 use Rattle.arena.specs.declared.limits.Mode.{Mode}
 use Rattle.arena.specs.declared.layout.Layout.{Layout}
 use Rattle.arena.specs.declared.step.Row.{Row as StepRow}
@@ -51,7 +51,7 @@ kind_place Abort = 12
 
 -- whether a turn made a step of this kind
 abbrev pub is_of : Kind → Row → Bool
-is_of kind (Made number row) = eqb (kind_place row.kind) (kind_place kind)
+is_of kind (Made number row) = kind_place row.kind == kind_place kind
 is_of kind (Idle number client) = false
 
 -- the history of the steps that the turns made
@@ -88,35 +88,47 @@ abbrev pub answered : List Line → ℕ → ℕ
 answered [] c = 0
 answered (Step row ∷ lines) c = answered lines c
 answered (Log entry ∷ lines) c = answered lines c
-answered (Reply reply ∷ lines) c = cond (eqb reply.client.0 c) (suc (answered lines c)) (answered lines c)
+answered (Reply reply ∷ lines) c =
+    if reply.client.0 == c then suc (answered lines c)
+    else answered lines c
 
 -- the number of the client's first turn since its last reply: where its call has begun
 abbrev pub begin : List Line → ℕ → Option ℕ
 begin [] c = None
-begin (Step row ∷ lines) c = cond (eqb (client_of row) c) (Some (unwrap_or (begin lines c) (number_of row))) (begin lines c)
+begin (Step row ∷ lines) c =
+    if client_of row == c then Some (unwrap_or (begin lines c) (number_of row))
+    else begin lines c
 begin (Log entry ∷ lines) c = begin lines c
-begin (Reply reply ∷ lines) c = cond (eqb reply.client.0 c) None (begin lines c)
+begin (Reply reply ∷ lines) c = if reply.client.0 == c then None else begin lines c
 
 -- the steps up to the begin of the client's call, which is its first turn since
 -- its last reply; all of them if it has made none
 abbrev pub start : Mode → List Line → ℕ → History
 start mode [] c = Start mode
-start mode (Step row ∷ lines) c = cond (eqb (client_of row) c || is_some (begin lines c)) (start mode lines c) (history mode (Step row ∷ lines))
+start mode (Step row ∷ lines) c =
+    if client_of row == c || is_some (begin lines c) then start mode lines c
+    else history mode (Step row ∷ lines)
 start mode (Log entry ∷ lines) c = start mode lines c
-start mode (Reply reply ∷ lines) c = cond (eqb reply.client.0 c) (history mode lines) (start mode lines c)
+start mode (Reply reply ∷ lines) c =
+    if reply.client.0 == c then history mode lines
+    else start mode lines c
 
 -- how many steps a client has made since its last reply
 abbrev pub steps : List Line → ℕ → ℕ
 steps [] c = 0
-steps (Step (Made number row) ∷ lines) c = cond (eqb row.pass.0 c) (suc (steps lines c)) (steps lines c)
+steps (Step (Made number row) ∷ lines) c =
+    if row.pass.0 == c then suc (steps lines c)
+    else steps lines c
 steps (Step (Idle number client) ∷ lines) c = steps lines c
 steps (Log entry ∷ lines) c = steps lines c
-steps (Reply reply ∷ lines) c = cond (eqb reply.client.0 c) 0 (steps lines c)
+steps (Reply reply ∷ lines) c = if reply.client.0 == c then 0 else steps lines c
 
 -- how many steps of a kind a client has made in all
 abbrev pub made : List Line → ℕ → Kind → ℕ
 made [] c kind = 0
-made (Step row ∷ lines) c kind = cond (eqb (client_of row) c && is_of kind row) (suc (made lines c kind)) (made lines c kind)
+made (Step row ∷ lines) c kind =
+    if client_of row == c && is_of kind row then suc (made lines c kind)
+    else made lines c kind
 made (Log entry ∷ lines) c kind = made lines c kind
 made (Reply reply ∷ lines) c kind = made lines c kind
 
@@ -150,7 +162,10 @@ entry_at lay h place number _ = None
 
 -- the entry that the step of a turn asks for: one if it is an update that changes its field
 abbrev pub entry_of : Layout → List Line → ℕ → StepRow → Option Entry
-entry_of lay lines number row = cond (is_update row.kind && not (eqb row.before row.after)) (entry_at lay (history lay.mode lines) (suc (entries lines)) number row.word) None
+entry_of lay lines number row =
+    if is_update row.kind && not (row.before == row.after)
+    then entry_at lay (history lay.mode lines) (suc (entries lines)) number row.word
+    else None
 
 -- the entry that has to stand behind the newest line
 abbrev pub entry_owed : Layout → List Line → Option Entry
@@ -160,12 +175,14 @@ entry_owed lay _ = None
 -- whether this is an entry, and of an update of this client's
 abbrev pub is_entry_of : Option Entry → ℕ → Bool
 is_entry_of None c = false
-is_entry_of (Some entry) c = eqb entry.client.0 c
+is_entry_of (Some entry) c = entry.client.0 == c
 
 -- the turn in which an update of the client's has won since its last reply
 abbrev pub won : Layout → List Line → ℕ → Option ℕ
 won lay [] c = None
-won lay (Step (Made number row) ∷ lines) c = cond (is_entry_of (entry_of lay lines number row) c) (Some number) (won lay lines c)
+won lay (Step (Made number row) ∷ lines) c =
+    if is_entry_of (entry_of lay lines number row) c then Some number
+    else won lay lines c
 won lay (Step (Idle number client) ∷ lines) c = won lay lines c
 won lay (Log entry ∷ lines) c = won lay lines c
-won lay (Reply reply ∷ lines) c = cond (eqb reply.client.0 c) None (won lay lines c)
+won lay (Reply reply ∷ lines) c = if reply.client.0 == c then None else won lay lines c

@@ -1,5 +1,5 @@
 -- What was counted, and what was kept by clients.
-use Rattle.std.specs.Prelude.{◌≡◌, ◌<◌, ℕ, List, Some, get_or, slice_get}
+use Rattle.std.specs.Prelude.{◌≡◌, ◌<◌, ℕ, List, Some, slice_index_or, slice_get}
 use Rattle.std.specs.Option.{option_map}
 use Rattle.record.specs.declared.record.Line.{Line}
 use Rattle.record.specs.Turns.{answered}
@@ -11,7 +11,7 @@ use Rattle.report.specs.Report.{calls_by}
 
 -- how many calls of a client were counted
 abbrev pub calls_counted : Counts → ℕ → ℕ
-calls_counted counts client = get_or counts.calls.items client 0
+calls_counted counts client = slice_index_or counts.calls.items client 0
 
 -- of each client as many calls were counted as these have
 abbrev pub HasCounted : Counts → List Call → Type 0

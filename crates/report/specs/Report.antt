@@ -1,6 +1,6 @@
 -- The text of a report: the rows of its head, of the script's calls,
 -- of the run's lines, and one that counts them.
-use Rattle.std.specs.Prelude.{ℕ, suc, List, [], ◌∷◌, ◌++◌, codes, cond, decimal, eqb, map, Option, Some, None}
+use Rattle.std.specs.Prelude.{ℕ, suc, List, [], ◌∷◌, ◌++◌, codes, if◌then◌else◌, decimal, ◌==◌, map, Option, Some, None}
 use Rattle.arena.specs.declared.limits.Mode.{Mode}
 use Rattle.arena.specs.declared.limits.Mode.TheVariants.{Tree, Records}
 use Rattle.script.specs.Kinds.{kind_text}
@@ -35,7 +35,7 @@ title_row mode = codes "report" ∷ decimal 1 ∷ mode_text mode ∷ []
 -- how many of the calls are this client's
 abbrev pub calls_by : ℕ → List Call → ℕ
 calls_by c [] = 0
-calls_by c (call ∷ calls) = cond (eqb call.client.0 c) (suc (calls_by c calls)) (calls_by c calls)
+calls_by c (call ∷ calls) = if call.client.0 == c then suc (calls_by c calls) else calls_by c calls
 
 -- the row of a call behind these: its client's number, its own among the client's, and its command
 abbrev pub reported_call_row : List Call → Call → List (List ℕ)

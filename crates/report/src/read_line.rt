@@ -1,5 +1,5 @@
 //! The lines of a run, as rows say them.
-ghost use Rattle.std.specs.Prelude.{◌≡◌, ◌<◌, ◌-◌, ◌^◌, List, [], ◌∷◌, ◌++◌, ℕ, All, get_or, IfOk, IfSome, length, map, reverse};
+ghost use Rattle.std.specs.Prelude.{◌≡◌, ◌<◌, ◌-◌, ◌^◌, List, [], ◌∷◌, ◌++◌, ℕ, All, slice_index_or, IfOk, IfSome, length, map, reverse};
 ghost use Rattle.record.specs.declared.record.Line.{Line};
 ghost use Rattle.record.specs.declared.record.Line.TheVariants.{Step as StepLine, Log};
 ghost use Rattle.report.specs.Counts.{HasCommands, HasCountedReplies, calls_counted};
@@ -151,7 +151,7 @@ fn entry_of(fields: [&str; 7]) -> Option<Entry>
 
 /// The reply with this answer, which the last field spells, in the form that answers its call.
 fn reply_of(fields: [&str; 7], answer: Answer, commands: &Commands) -> Option<Line>
-    requires { get_or (texts fields) 6 [] ≡ answer_text answer }
+    requires { slice_index_or (texts fields) 6 [] ≡ answer_text answer }
     ensures row { IfSome result (λ line. texts fields.entry ≡ seven (line_row line)) }
     ensures call { (calls : ℕ → ℕ) → IfSome result (IsOfNextCall calls) }
     ensures form { (passes : ℕ) (calls : List CallOf) → HasCommands commands.now passes calls → IfSome result (HasForm passes calls) }

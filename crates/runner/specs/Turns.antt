@@ -1,5 +1,5 @@
 -- Which call waits for which.
-use Rattle.std.specs.Prelude.{ℕ, zero, suc, Bool, true, false, cond, ltb, List, length, Option, Some, None}
+use Rattle.std.specs.Prelude.{ℕ, zero, suc, Bool, true, false, if◌then◌else◌, nat_lt, List, length, Option, Some, None}
 use Rattle.arena.specs.declared.number.PassNo.{PassNo}
 use Rattle.script.specs.declared.call.Call.{Call}
 use Rattle.record.specs.Commands.{commands}
@@ -10,7 +10,7 @@ call_count calls c = length (commands calls c)
 
 -- call j of client c, if that client has one; `counts` says how many calls each has
 abbrev pub call_if : (ℕ → ℕ) → ℕ → ℕ → Option (PassNo × ℕ)
-call_if counts c j = cond (ltb j (counts c)) (Some (record { 0 = c }, j)) None
+call_if counts c j = if nat_lt j (counts c) then Some (record { 0 = c }, j) else None
 
 -- Where so many clients take turns, call j of a client waits for call j of the client before it;
 -- the first client's waits for call j - 1 of the last client, and its first call for none.

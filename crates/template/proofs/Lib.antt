@@ -1,6 +1,7 @@
 mod WalkTurns
 mod WalkBounds
 mod WalkEdges
+mod Stood
 mod FirstFound
 mod Promised
 mod Inserting

@@ -1,5 +1,5 @@
 -- What an insert or a delete has filled once it has found the leaf of its key.
-use Rattle.std.specs.Prelude.{◌≡◌, ◌≢◌, ℕ, ◌+◌, Bool, true, false, cond, eqb, ltb}
+use Rattle.std.specs.Prelude.{◌≡◌, ◌≢◌, ℕ, ◌+◌, Bool, true, false, if◌then◌else◌, ◌==◌, nat_lt}
 use Rattle.arena.specs.declared.layout.Layout.{Layout}
 use Rattle.arena.specs.declared.word.Side.{Side}
 use Rattle.arena.specs.declared.word.Side.TheVariants.{Left, Right}
@@ -31,7 +31,7 @@ pub record IsForkWith (f : Word → ℕ) (n level class k x y : ℕ) : Type 0 wh
 
 -- whether the key k comes before the leaf
 abbrev pub comes_before : ℕ → Found → Bool
-comes_before k f = cond (eqb f.head.class 0) (ltb k f.key) true
+comes_before k f = if f.head.class == 0 then nat_lt k f.key else true
 
 -- the words of an SCX-record that puts the fresh node n into the place of the leaf: it covers the
 -- leaf's parent and the leaf, and finalizes the leaf
@@ -60,7 +60,11 @@ pub record HasFreshFork (lay : Layout) (c : ℕ) (h : History) (f : Found) (k v 
   pub copy : IsLeafWith (value h) y (f.head.level + 1) f.head.class f.key copied
   pub copied_low : f.head.class ≡ 0 → copied ≡ value h (node f.trail.node.0 Value)
   pub copied_high : f.head.class ≢ 0 → copied ≡ 0
-  pub fork : IsForkWith (value h) n f.head.level (cond (comes_before k f) f.head.class 0) (cond (comes_before k f) f.key k) (cond (comes_before k f) x y) (cond (comes_before k f) y x)
+  pub fork : IsForkWith (value h) n f.head.level
+      (if comes_before k f then f.head.class else 0)
+      (if comes_before k f then f.key else k)
+      (if comes_before k f then x else y)
+      (if comes_before k f then y else x)
 
 -- the words of an SCX-record that puts the fresh node n into the place of the leaf's parent: it
 -- covers the fork above the parent, the parent, and the parent's children as this snapshot found

@@ -68,7 +68,7 @@ pub struct WalkRun {
 }
 
 impl WalkRun {
-    ghost use Rattle.std.specs.Prelude.{◌≡◌, ℕ, ◌+◌, ◌-◌, ◌*◌, ◌^◌, ◌<◌, ◌≤◌, true, false, cond, eqb, ltb};
+    ghost use Rattle.std.specs.Prelude.{◌≡◌, ℕ, ◌+◌, ◌-◌, ◌*◌, ◌^◌, ◌<◌, ◌≤◌, true, false, if◌then◌else◌, ◌==◌, nat_lt};
     ghost use Rattle.arena.specs.Heads.{head_of};
     ghost use Rattle.arena.specs.declared.word.NodeWord.TheVariants.{Head as HeadWord, Key as KeyWord, Child as ChildWord};
     ghost use Rattle.arena.specs.History.{History, value};
@@ -151,7 +151,7 @@ impl WalkRun {
 
     /// Where the walk goes at a fork of class 0 with this key. At any other fork it goes left.
     fn side(&self, key: u64) -> Side
-        ensures { result ≡ cond (ltb (path_key self.now.goal) key) Side.Left Side.Right }
+        ensures { result ≡ (if nat_lt (path_key self.now.goal) key then Side.Left else Side.Right) }
     {
         let wanted = match self.goal {
             Goal::Key(wanted) => wanted,
@@ -166,7 +166,7 @@ impl WalkRun {
 
     /// Whether the walk tells the value of a leaf of class 0 with this key.
     fn asks_value(&self, key: u64) -> bool
-        ensures { result ≡ eqb (asked_key self.now.goal key) key }
+        ensures { result ≡ (asked_key self.now.goal key == key) }
     {
         match self.goal {
             Goal::Key(wanted) => wanted == key,

@@ -14,7 +14,7 @@ use Rattle.arena.specs.declared.word.Word.TheVariants.{Node, Scx as ScxOf}
 use Rattle.arena.specs.Fills.{IsOwnNode}
 use Rattle.arena.specs.History.{History}
 use Rattle.arena.specs.Layout.{opening_nodes}
-use Rattle.arena.specs.Machines.{Call, row_of}
+use Rattle.arena.specs.Machines.{Call, row_of, begun_at}
 use Rattle.arena.specs.Words.{node, scx, child}
 use Rattle.help.specs.Laws.Help.Lawful.{help_fills_not}
 use Rattle.histories.specs.Unmentioned.{IsUnmentioned}
@@ -40,7 +40,6 @@ use Rattle.edits.specs.declared.update.UpdateAt.{UpdateAt}
 use Rattle.edits.specs.declared.update.UpdateAt.TheVariants.{Start, Walk, Look, Load, Fill, Scx}
 use Rattle.edits.specs.declared.update.UpdateRun.{UpdateRun}
 use Rattle.edits.specs.Known.{IsNeeded, AreInOrder, FillsPiece, UpdateWaits, UpdateWaitsAt, piece_fill_step, pieces_by}
-use Rattle.edits.specs.Laws.HandScx.{from}
 use Rattle.edits.specs.Pieces.{nth_node, piece_head}
 
 -- each holds its own piece
@@ -104,13 +103,13 @@ scx_in_order c begun h j scx_at.Call s w = subst (λ (t : Step). IsFillInOrder h
 pub update_in_order : {E : Type 0} (means : EditMeaning E) (m : UpdateRun E UpdateAt) (c : Call) (h : History) (s : Step) → ((d : Call) (f : Found) (nth : Nth) (part : NodeWord) → FillsPiece means m d h f nth part → IsFillInOrder h (row_of d (piece_fill_step means m f nth part) h)) → UpdateWaits means m c h s → IsFillInOrder h (row_of c s h)
 update_in_order means m c h s fills x = go m.at x.3
   where
-    go : (at : UpdateAt) → UpdateWaitsAt means m (from c x.0) h s at → IsFillInOrder h (row_of c s h)
+    go : (at : UpdateAt) → UpdateWaitsAt means m (begun_at c x.0) h s at → IsFillInOrder h (row_of c s h)
     go Start w = absurd w
-    go (Walk walk) w = no_fill c h s (walk_fills_not walk (from c x.0) h s w.1)
-    go (Look f llx) w = no_fill c h s (llx_fills_not TreeAllows llx (from (from c x.0) w.0) h s w.2)
+    go (Walk walk) w = no_fill c h s (walk_fills_not walk (begun_at c x.0) h s w.1)
+    go (Look f llx) w = no_fill c h s (llx_fills_not TreeAllows llx (begun_at (begun_at c x.0) w.0) h s w.2)
     go (Load f nth part) w = no_fill c h s (λ k. let e : s.kind ≡ LoadSettled = ap (λ (t : Step). t.kind) w.1 in cc)
-    go (Fill f nth part) w = subst (λ (t : Step). IsFillInOrder h (row_of c t h)) (sym w.3) (fills (from c x.0) f nth part w.0)
-    go (Scx f run) w = scx_in_order c (from (from c x.0) w.0) h (job_of run) run.at s w.2
+    go (Fill f nth part) w = subst (λ (t : Step). IsFillInOrder h (row_of c t h)) (sym w.3) (fills (begun_at c x.0) f nth part w.0)
+    go (Scx f run) w = scx_in_order c (begun_at (begun_at c x.0) w.0) h (job_of run) run.at s w.2
 
 -- a get fills nothing
 pub get_in_order : (m : GetRun) (c : Call) (h : History) (s : Step) → GetWaits m c h s → IsFillInOrder h (row_of c s h)

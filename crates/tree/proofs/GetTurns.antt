@@ -8,7 +8,7 @@ use Rattle.arena.specs.declared.step.Kind.TheVariants.{Fill, LoadSettled, LoadCh
 use Rattle.arena.specs.History.{History}
 use Rattle.arena.specs.Machines.{MatchTurn, Call}
 use Rattle.arena.proofs.Lemmas.{ends_self, ends_trans}
-use Rattle.prims.specs.Laws.Idle.{quiet_at_start}
+use Rattle.prims.specs.Laws.Idle.{quiet_at_start, idle_if_finished}
 use Rattle.prims.specs.Moments.{AreFinished}
 use Rattle.ordered_map.specs.Paths.{IsAnswerAt}
 use Rattle.ordered_map.specs.Runs.{IsTreeRun}
@@ -22,7 +22,6 @@ use Rattle.template.proofs.Lemmas.{found_gives, walk_ready_run, walk_ready_first
 use Rattle.tree.specs.declared.get.GetRun.{GetRun}
 use Rattle.tree.specs.Get.Known.{GetIsReady, GetWaits, GetAnswers}
 use Rattle.edits.specs.Laws.Entered.{none_quiet}
-use Rattle.edits.specs.Laws.Kept.{idle_over}
 
 -- its walk asks for a step
 pub turn_asked : (c : Call) (h : History) (m : GetRun) (now : WalkRun) (turn : Turn Found) (step : Step) (got : Option ℕ) → GetIsReady m c h got → now.goal ≡ m.walk.goal → turn ≡ Ask step → MatchTurn turn (WalkWaits now c h) (WalkAnswers now c h) → GetWaits (record { key = m.key; walk = now }) c h step
@@ -40,7 +39,7 @@ turn_found c h m now turn f got ready same e t = gives (subst (λ goal. HasFound
 
 -- a get that has not begun may be called where its pass is at rest
 pub get_ready_first : (m : GetRun) (c : Call) → IsTreeRun c.layout c.start → m.key < 2 ^ 64 → AreFinished c.layout c.pass 0 c.start → m.walk.at ≡ Start → m.walk.trail.node.0 ≡ 0 → m.walk.goal ≡ ToKey m.key → GetIsReady m c c.start None
-get_ready_first m c run small over at root goal = (walk_ready_first m.walk c c.start run (rw goal small) (ends_self c.start) at root, goal, record { over = over; quiet = quiet_at_start c.layout c.pass c.start (idle_over c c.start run.1.lawful over) })
+get_ready_first m c run small over at root goal = (walk_ready_first m.walk c c.start run (rw goal small) (ends_self c.start) at root, goal, record { over = over; quiet = quiet_at_start c.layout c.pass c.start (idle_if_finished c c.start run.1.lawful over) })
 
 -- a get asks for loads alone, of settled words and of fields
 pub get_loads : (m : GetRun) (c : Call) (h : History) (s : Step) → GetWaits m c h s → ((s.kind ≡ LoadSettled) ⊎ (s.kind ≡ LoadChild)) × (s.access ≡ Load)

@@ -5,7 +5,7 @@ use Rattle.arena.specs.Machines.{Call, IsRun}
 use Rattle.arena.specs.Share.{Remaining}
 use Rattle.arena.proofs.Lemmas.{ends_self}
 use Rattle.order.proofs.Lemmas.{successor_ready_first, range_ready_first}
-use Rattle.prims.specs.Laws.Idle.{quiet_at_start}
+use Rattle.prims.specs.Laws.Idle.{quiet_at_start, idle_if_finished}
 use Rattle.ordered_map.specs.Runs.{IsTreeRun}
 use Rattle.template.specs.FoundLeaf.{path_key}
 use Rattle.tree.specs.Delete.Means.{delete_means}
@@ -14,7 +14,6 @@ use Rattle.tree.proofs.Lemmas.{get_ready_first}
 use Rattle.edits.specs.Edits.{EditMeaning}
 use Rattle.edits.specs.Known.{RestsWith, UpdateIsReady}
 use Rattle.edits.specs.Laws.Entered.{none_yet}
-use Rattle.edits.specs.Laws.Kept.{idle_over}
 use Rattle.edits.specs.Steps.{node_tries, scx_tries}
 use Rattle.edits.specs.declared.update.UpdateAt.TheVariants.{Start}
 use Rattle.edits.specs.declared.update.UpdateAt.{UpdateAt}
@@ -31,7 +30,7 @@ use Rattle.dict.specs.declared.run.MapRun.TheVariants.{Insert, Delete, Get, Succ
 module _ (c : Call) (run : IsTreeRun c.layout c.start) where
   -- a read rests
   rests : (share : Remaining) → RestsWith c c.start share → HasRested c c.start share
-  rests share x = record { run = run; since = ends_self c.start; now = x; quiet = quiet_at_start c.layout c.pass c.start (idle_over c c.start run.1.lawful x.over) }
+  rests share x = record { run = run; since = ends_self c.start; now = x; quiet = quiet_at_start c.layout c.pass c.start (idle_if_finished c c.start run.1.lawful x.over) }
 
   -- an update may begin
   module _ {E : Type 0} (e : EditMeaning E) (m : UpdateRun E UpdateAt) (at : m.at ≡ Start) (share : RestsWith c c.start m.share) where

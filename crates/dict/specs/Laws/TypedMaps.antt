@@ -1,6 +1,6 @@
 -- Every run in which edits of typed words alone begin is one of the tree, and its words spell a map
 -- of such words.
-use Rattle.std.proofs.Common.{◌≡◌, ℕ, List, [], ◌∷◌, Bool, true, false, cond, eqb, ltb, inl, inr, refl, sym, subst}
+use Rattle.std.proofs.Common.{◌≡◌, ℕ, List, [], ◌∷◌, Bool, true, false, if◌then◌else◌, ◌==◌, nat_lt, inl, inr, refl, sym, subst}
 use Rattle.arena.specs.declared.layout.Layout.{Layout}
 use Rattle.arena.specs.declared.limits.Mode.TheVariants.{Tree as TreeMode}
 use Rattle.arena.specs.declared.step.Row.{Row}
@@ -29,19 +29,19 @@ module _ (keys values : ℕ → Type 0) where
   typed_since lay h m run e = record { lawful = lawful_since lay h m run.lawful e; shaped = shaped_since (TypedAllows keys values) lay h m run.shaped e }
 
   -- an edit of such words leaves a map of such words
-  if_typed : (b : Bool) (ps qs : List Pair) → AreTyped keys values ps → AreTyped keys values qs → AreTyped keys values (cond b ps qs)
+  if_typed : (b : Bool) (ps qs : List Pair) → AreTyped keys values ps → AreTyped keys values qs → AreTyped keys values (if b then ps else qs)
   if_typed true ps qs x y = x
   if_typed false ps qs x y = y
 
   insert_typed : (k v : ℕ) (ps : List Pair) → keys k → values v → AreTyped keys values ps → AreTyped keys values (insert k v ps)
   insert_typed k v [] a b x = (a, b, tt)
   insert_typed k v (p ∷ ps) a b x =
-      if_typed (ltb k p.key) (pair k v ∷ p ∷ ps) (cond (eqb k p.key) (pair k v ∷ ps) (p ∷ insert k v ps)) (a, b, x)
-      (if_typed (eqb k p.key) (pair k v ∷ ps) (p ∷ insert k v ps) (a, b, x.2) (x.0, x.1, insert_typed k v ps a b x.2))
+      if_typed (nat_lt k p.key) (pair k v ∷ p ∷ ps) (if k == p.key then pair k v ∷ ps else p ∷ insert k v ps) (a, b, x)
+      (if_typed (k == p.key) (pair k v ∷ ps) (p ∷ insert k v ps) (a, b, x.2) (x.0, x.1, insert_typed k v ps a b x.2))
 
   delete_typed : (k : ℕ) (ps : List Pair) → AreTyped keys values ps → AreTyped keys values (delete k ps)
   delete_typed k [] x = tt
-  delete_typed k (p ∷ ps) x = if_typed (eqb k p.key) ps (p ∷ delete k ps) x.2 (x.0, x.1, delete_typed k ps x.2)
+  delete_typed k (p ∷ ps) x = if_typed (k == p.key) ps (p ∷ delete k ps) x.2 (x.0, x.1, delete_typed k ps x.2)
 
   edited_typed : (e : MapEdit) (ps : List Pair) → IsTypedEdit keys values e → AreTyped keys values ps → AreTyped keys values (edited e ps)
   edited_typed (Insert k v) ps e x = insert_typed k v ps e.0 e.1 x
@@ -50,8 +50,8 @@ module _ (keys values : ℕ → Type 0) where
   -- what has begun makes an edit of such words
   pub makes_typed : (lay : Layout) (h : History) (s : ℕ) (e : MapEdit) → IsRun (TypedAllows keys values) lay h → Makes lay h s e → IsTypedEdit keys values e
   makes_typed lay h s e run x =
-      let then : IsRun (TypedAllows keys values) lay (x.row ⊳ x.before) = typed_since lay h (x.row ⊳ x.before) run x.within in
-      let a : TypedAllows keys values lay x.before s = shaped_begin (TypedAllows keys values) lay x.before x.row s then.shaped x.begins in
+      let begun : IsRun (TypedAllows keys values) lay (x.row ⊳ x.before) = typed_since lay h (x.row ⊳ x.before) run x.within in
+      let a : TypedAllows keys values lay x.before s = shaped_begin (TypedAllows keys values) lay x.before x.row s begun.shaped x.begins in
       let y : Makes lay h s a.0 = record { row = x.row; before = x.before; within = x.within; begins = x.begins; edit = a.1 } in
       subst (IsTypedEdit keys values) (makes_one lay h s a.0 e run.lawful y x) a.2
 

@@ -12,7 +12,7 @@ use Rattle.arena.specs.declared.word.ScxWord.TheVariants.{State}
 use Rattle.arena.specs.Blame.{IsInProgress}
 use Rattle.arena.specs.History.{History, ◌⊳◌, value}
 use Rattle.arena.specs.Lawful.{Lawful}
-use Rattle.arena.specs.Machines.{Call, IsRun, IsTold, row_of}
+use Rattle.arena.specs.Machines.{Call, IsRun, IsTold, row_of, begun_at}
 use Rattle.arena.specs.Shape.{IsBegin}
 use Rattle.arena.specs.Words.{state}
 use Rattle.histories.proofs.Lemmas.{Change, nothing, fills_node, fills_scx, freezes, sets_frozen, marks, updates, commits, aborts, change, IsFirst, facts_before, freeze_in_progress, freeze_keeps_scx, shaped_begin, shaped_more}
@@ -27,7 +27,6 @@ use Rattle.template.specs.Tracked.{Tracks, waits, begun, over}
 use Rattle.template.specs.declared.walk.Found.{Found}
 use Rattle.edits.specs.Edits.{EditMeaning}
 use Rattle.edits.specs.Known.{Scxs, UpdateWaitsAt, UpdateIsToldAt, UpdateWaits}
-use Rattle.edits.specs.Laws.HandScx.{from}
 use Rattle.edits.specs.Laws.Update.{update_lawful, update_made}
 use Rattle.edits.specs.declared.edit.Need.TheVariants.{Nothing}
 use Rattle.edits.specs.declared.update.UpdateAt.{UpdateAt}
@@ -93,7 +92,7 @@ module _ (keys values : ℕ → Type 0) where
   -- a step of an update continues a run of a typed dictionary, if its edit is of such words
   module _ {E : Type 0} (e : EditMeaning E) (m : UpdateRun E UpdateAt) (c : Call) (h : History) (s : Step) (run : IsRun (TypedAllows keys values) c.layout h) (typed : (f : Found) → e.needs m.edit f ≢ Nothing → IsTypedEdit keys values (e.edit m.edit f)) where
     -- the SCX in hand makes the edit that it tracks
-    in_hand : (b : History) (f : Found) (scx : ScxRun) (begin : History) → IsRun TreeAllows c.layout (row_of c s h ⊳ h) → Scxs e m (from c b) (row_of c s h ⊳ h) f scx begin → (t : ℕ) → IsFirst c.layout h (row_of c s h) t → IsBegin h (row_of c s h) t → (d : MapEdit) × Makes c.layout (row_of c s h ⊳ h) t d × IsTypedEdit keys values d
+    in_hand : (b : History) (f : Found) (scx : ScxRun) (begin : History) → IsRun TreeAllows c.layout (row_of c s h ⊳ h) → Scxs e m (begun_at c b) (row_of c s h ⊳ h) f scx begin → (t : ℕ) → IsFirst c.layout h (row_of c s h) t → IsBegin h (row_of c s h) t → (d : MapEdit) × Makes c.layout (row_of c s h ⊳ h) t d × IsTypedEdit keys values d
     in_hand b f scx begin tree x t first begins = go x.tracks
       where
         running : IsInProgress (row_of c s h ⊳ h) t
@@ -107,7 +106,7 @@ module _ (keys values : ℕ → Type 0) where
         go (begun makes) = (e.edit m.edit f, rw same makes, typed f x.need)
         go (over z) = absurd (let u : value (row_of c s h ⊳ h) (state scx.scx.0) ≡ 0 = rw same at running.unfinished in omega (arith, u, z))
 
-    lawful_at : (a b : History) (at : UpdateAt) → IsRun TreeAllows c.layout (row_of c s h ⊳ h) → UpdateWaitsAt e m (from c a) h s at → UpdateIsToldAt e m (from c b) (row_of c s h ⊳ h) (value h s.word) at → IsRun (TypedAllows keys values) c.layout (row_of c s h ⊳ h)
+    lawful_at : (a b : History) (at : UpdateAt) → IsRun TreeAllows c.layout (row_of c s h ⊳ h) → UpdateWaitsAt e m (begun_at c a) h s at → UpdateIsToldAt e m (begun_at c b) (row_of c s h ⊳ h) (value h s.word) at → IsRun (TypedAllows keys values) c.layout (row_of c s h ⊳ h)
     lawful_at a b Start tree w x = absurd w
     lawful_at a b (Walk walk) tree w x = typed_quiet c.layout h (row_of c s h) run tree x.0.rests.over
     lawful_at a b (Look f llx) tree w x = typed_quiet c.layout h (row_of c s h) run tree x.1.rests.over

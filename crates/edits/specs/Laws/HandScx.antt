@@ -8,7 +8,7 @@ use Rattle.arena.specs.Words.{state}
 use Rattle.arena.specs.History.{History, value}
 use Rattle.arena.specs.Fills.{IsOwnNode, IsTakenNode, IsOwnScx, IsTakenScx}
 use Rattle.arena.specs.Lawful.{Lawful}
-use Rattle.arena.specs.Machines.{Call}
+use Rattle.arena.specs.Machines.{Call, begun_at}
 use Rattle.arena.proofs.Lemmas.{ends_self}
 use Rattle.histories.specs.Descriptor.{Descriptor}
 use Rattle.histories.proofs.Lemmas.{named_scx_taken, finished_taken}
@@ -22,10 +22,6 @@ use Rattle.prims.proofs.Lemmas.{left_own_scx}
 use Rattle.ordered_map.specs.TreeShape.{TreeAllows}
 use Rattle.edits.specs.declared.edit.Piece.{Piece}
 use Rattle.edits.specs.Laws.Hand.{HasFilledTo}
-
--- the same call, as if it had begun later
-abbrev pub from : Call → History → Call
-from c b = record c { start = b }
 
 module _ (c : Call) (h : History) (left : Remaining) (first top : ℕ) (piece : ℕ → Piece) (m : ScxRun) (l : Lawful c.layout h)
     (x : HasFilledTo c.layout h c.pass left first top (suc top) piece) (some : 0 < left.scx)
@@ -61,7 +57,7 @@ module _ (c : Call) (h : History) (left : Remaining) (first top : ℕ) (piece : 
     allowed = allowed;
   }
 
-  under_way : IsUnderWay (from c h) h m.scx.0 m.update.snaps
+  under_way : IsUnderWay (begun_at c h) h m.scx.0 m.update.snaps
   under_way = record {
     begun = record {
       since = ends_self h;
@@ -72,7 +68,7 @@ module _ (c : Call) (h : History) (left : Remaining) (first top : ℕ) (piece : 
   }
 
   -- the SCX may begin
-  pub hand_ready : ScxIsReady TreeAllows m (from c h) h None
+  pub hand_ready : ScxIsReady TreeAllows m (begun_at c h) h None
   hand_ready = (at, in_hand, under_way)
 
 -- as the SCX begins all fresh nodes are taken, and the share is that of an SCX in hand

@@ -10,8 +10,7 @@ use Rattle.arena.specs.Machines.{IsRun, Call}
 use Rattle.arena.specs.Share.{Remaining}
 use Rattle.histories.proofs.Lemmas.{named_more, node_stays}
 use Rattle.prims.specs.Laws.Begun.{takes_by_others, takes_by_step}
-use Rattle.prims.specs.Laws.Idle.{IsIdle, IsQuietSince, idle_if_over, quiet_more}
-use Rattle.prims.specs.Moments.{AreFinished}
+use Rattle.prims.specs.Laws.Idle.{IsIdle, IsQuietSince, quiet_more, idle_if_finished}
 use Rattle.prims.specs.Shares.{IsUsable}
 use Rattle.prims.specs.declared.snap.Snap.{Snap}
 use Rattle.prims.proofs.Lemmas.{over_more, share_by_others, share_by_step, usable_now, usable_since}
@@ -29,13 +28,9 @@ use Rattle.edits.specs.Edits.{EditMeaning}
 use Rattle.template.proofs.Lemmas.{found_more}
 use Rattle.edits.specs.Known.{RestsWith, HasSnappedAfterWalk, AreUsable, IsLoaded, AreLoaded, HasLooked, WorksAtNode, copied}
 
--- a pass whose SCX-records are all finished is idle
-pub idle_over : (c : Call) (h : History) → Lawful c.layout h → AreFinished c.layout c.pass 0 h → IsIdle c.layout c.pass h
-idle_over c h l over = idle_if_over c.layout c.pass h l (λ s own t. over s own (λ e. let a = own.from in omega (arith, e)) t)
-
 -- a pass at rest is idle
 pub idle_rests : (c : Call) (h : History) (left : Remaining) → Lawful c.layout h → RestsWith c h left → IsIdle c.layout c.pass h
-idle_rests c h left l x = idle_over c h l x.over
+idle_rests c h left l x = idle_if_finished c h l x.over
 
 -- and stays quiet
 pub quiet_rests : (c : Call) (h : History) (r : Row) (left : Remaining) → Lawful c.layout (r ⊳ h) → RestsWith c (r ⊳ h) left → IsQuietSince c.layout c.pass c.start h → IsQuietSince c.layout c.pass c.start (r ⊳ h)

@@ -1,29 +1,20 @@
 -- Nodes that an LLX may look at: those that have stood in the tree, as the leaf that a walk has
 -- found and its parent.
 use Rattle.std.proofs.Common.{ℕ}
-use Rattle.arena.specs.declared.layout.Layout.{Layout}
 use Rattle.arena.specs.Fills.{IsNamed}
 use Rattle.arena.specs.History.{History}
 use Rattle.arena.specs.Machines.{Call}
 use Rattle.prims.specs.Llx.Known.{IsOpened}
-use Rattle.ordered_map.specs.Paths.{WasInTree}
 use Rattle.ordered_map.specs.Runs.{IsTreeRun}
-use Rattle.ordered_map.proofs.Lemmas.{run_since, stood_in_field, tree_inside, walk_named, was_passed}
+use Rattle.ordered_map.proofs.Lemmas.{walk_named, was_passed}
 use Rattle.template.specs.FoundLeaf.{HasEnded}
 use Rattle.template.specs.Trails.{WasPassed}
 use Rattle.template.specs.declared.walk.Found.{Found}
-use Rattle.template.proofs.Lemmas.{found_below}
-
--- an LLX may look at a node that has stood in the tree
-pub stood_opened : (lay : Layout) (h : History) (n : ℕ) → IsTreeRun lay h → WasInTree h n → IsOpened lay h n
-stood_opened lay h n run x = record {
-  in_field = stood_in_field lay h n run x;
-  inside = tree_inside lay x.moment x.tree (run_since lay h x.moment run x.within).1.lawful x.is_tree n x.has;
-}
+use Rattle.template.proofs.Lemmas.{found_below, opened_if_stood}
 
 module _ (c : Call) (h : History) (k : ℕ) (run : IsTreeRun c.layout h) where
   passed_opened : (n : ℕ) → WasPassed c h k n → IsOpened c.layout h n
-  passed_opened n p = stood_opened c.layout h n run (was_passed h p.first k n p.passed)
+  passed_opened n p = opened_if_stood c.layout h n run (was_passed h p.first k n p.passed)
 
   module _ {asked : ℕ} (f : Found) (a : HasEnded c h k asked f) where
     -- passes other than its owner may know the leaf

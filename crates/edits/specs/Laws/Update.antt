@@ -10,7 +10,7 @@ use Rattle.arena.specs.declared.word.NodeWord.TheVariants.{Head, Key, Value, Chi
 use Rattle.arena.specs.History.{History, ◌⊳◌, value}
 use Rattle.arena.specs.Fills.{IsTakenNode}
 use Rattle.arena.specs.declared.word.Word.{Word}
-use Rattle.arena.specs.Machines.{IsRun, Call, row_of, IsTold}
+use Rattle.arena.specs.Machines.{IsRun, Call, row_of, IsTold, begun_at}
 use Rattle.arena.specs.TakenNodes.{taken_nodes}
 use Rattle.arena.specs.Words.{node}
 use Rattle.arena.specs.Lawful.{Lawful}
@@ -25,6 +25,7 @@ use Rattle.prims.specs.Scx.Known.{job_of, ScxWaits}
 use Rattle.prims.specs.declared.llx.LlxRun.{LlxRun}
 use Rattle.prims.specs.declared.scx.ScxRun.{ScxRun}
 use Rattle.prims.proofs.Lemmas.{llx_fills_not, over_more, share_by_others, share_by_scx, untaken_at}
+use Rattle.prims.specs.Laws.Idle.{idle_if_finished}
 use Rattle.ordered_map.specs.TreeShape.{TreeAllows}
 use Rattle.ordered_map.specs.Tries.{begins_try}
 use Rattle.template.specs.Walk.Known.{WalkKnows, WalkIsReady, WalkWaits, walk_step}
@@ -49,8 +50,7 @@ use Rattle.edits.specs.Steps.{HasScxForFill, UpdateFitsAt, UpdateFits}
 use Rattle.edits.specs.Pieces.{HasPlace, nth_node, word_of}
 use Rattle.edits.specs.Known.{IsNeeded, RestsWith, IsUntouched, Looks, Loads, FillsPiece, Scxs, Walks, FirstOrLost, Tries, piece_fill_step, UpdateWaitsAt, UpdateIsToldAt, UpdateWaits, UpdateIsReady, piece, top, copied}
 use Rattle.edits.specs.Laws.Hand.{IsBefore, IsUpTo, HoldsWords, HasFilledTo, IsForField, FieldMay, piece_fill, by_others, by_load, filled_to_more, words_by_others, words_more, taken_now, may_fill}
-use Rattle.edits.specs.Laws.HandScx.{from}
-use Rattle.edits.specs.Laws.Kept.{idle_over, quiet_rests, rests_by_others, rests_by_step, looked_more, works_more}
+use Rattle.edits.specs.Laws.Kept.{quiet_rests, rests_by_others, rests_by_step, looked_more, works_more}
 use Rattle.edits.specs.Laws.Entered.{none_joined, none_quiet, only_more}
 use Rattle.edits.specs.Laws.NodeFills.{fill_lawful}
 use Rattle.edits.specs.Laws.Trying.{try_more, try_at_more, try_begins, untouched_later}
@@ -117,18 +117,18 @@ module _ {E : Type 0} (e : EditMeaning E) where
   kept_at : (m : UpdateRun E UpdateAt) (c : Call) (h : History) (s : Step) (r : Row) (at : UpdateAt) → IsRun TreeAllows c.layout (r ⊳ h) → r.pass.0 ≢ c.pass → UpdateWaitsAt e m c h s at → UpdateWaitsAt e m c (r ⊳ h) s at
   kept_at m c h s r Start run other w = w
   kept_at m c h s r (Walk walk) run other w = (walks_by_others m c h r walk.goal run other w.0, walk_keeps walk c h s r run other w.1)
-  kept_at m c h s r (Look f llx) run other w = (w.0, looks_by_others m c h r f llx w.0 run other w.1, llx_keeps TreeAllows llx (from c w.0) h s r run other w.2)
+  kept_at m c h s r (Look f llx) run other w = (w.0, looks_by_others m c h r f llx w.0 run other w.1, llx_keeps TreeAllows llx (begun_at c w.0) h s r run other w.2)
   kept_at m c h s r (Load f nth part) run other w = (
-    record { works = works_more e m c h r f nth run (idle_over c (r ⊳ h) run.lawful (full_by_others m c h r f nth run other w.0.full).over) w.0.works; full = full_by_others m c h r f nth run other w.0.full; hand = w.0.hand; wanted = w.0.wanted; settled = w.0.settled },
+    record { works = works_more e m c h r f nth run (idle_if_finished c (r ⊳ h) run.lawful (full_by_others m c h r f nth run other w.0.full).over) w.0.works; full = full_by_others m c h r f nth run other w.0.full; hand = w.0.hand; wanted = w.0.wanted; settled = w.0.settled },
     w.1,
   )
   kept_at m c h s r (Fill f nth part) run other w = (
-    record { works = works_more e m c h r f nth run (idle_over c (r ⊳ h) run.lawful (full_by_others m c h r f nth run other w.0.full).over) w.0.works; full = full_by_others m c h r f nth run other w.0.full; hand = w.0.hand; done = w.0.done; part_is = w.0.part_is },
+    record { works = works_more e m c h r f nth run (idle_if_finished c (r ⊳ h) run.lawful (full_by_others m c h r f nth run other w.0.full).over) w.0.works; full = full_by_others m c h r f nth run other w.0.full; hand = w.0.hand; done = w.0.done; part_is = w.0.part_is },
     field_may_more part _ _ (for_field_more c.layout h r m.nodes.first.0 (top e m f) (word_of (piece e m f (nth_node m.nodes nth).0) part)) w.1,
     words_by_others c.layout h r c.pass m.share m.nodes.first.0 (top e m f) (piece e m f) c.is_pass run.lawful other (nth_node m.nodes nth).0 (piece e m f (nth_node m.nodes nth).0) (IsBefore part) w.0.full.hand w.0.hand.lowest w.0.hand.highest w.2,
     w.3,
   )
-  kept_at m c h s r (Scx f scx) run other w = (w.0, scxs_by_others m c h r f scx w.0 run other w.1, scx_keeps TreeAllows scx (from c w.0) h s r run other w.2)
+  kept_at m c h s r (Scx f scx) run other w = (w.0, scxs_by_others m c h r f scx w.0 run other w.1, scx_keeps TreeAllows scx (begun_at c w.0) h s r run other w.2)
 
   -- a row that begins no try leaves its try the newest
   tries_more : (m : UpdateRun E UpdateAt) (c : Call) (b h : History) (r : Row) (at : UpdateAt) → begins_try c.pass r ≡ false → Tries e m c b h at → Tries e m c b (r ⊳ h) at
@@ -141,23 +141,23 @@ module _ {E : Type 0} (e : EditMeaning E) where
 
   -- rows of other passes leave an update waiting for the same step
   pub update_keeps : (m : UpdateRun E UpdateAt) (c : Call) (h : History) (s : Step) (r : Row) → IsRun TreeAllows c.layout (r ⊳ h) → r.pass.0 ≢ c.pass → UpdateWaits e m c h s → UpdateWaits e m c (r ⊳ h) s
-  update_keeps m c h s r run other w = (w.0, tries_more m c w.0 h r m.at (others_begin_none c.pass r other) w.1, w.2, kept_at m (from c w.0) h s r m.at run other w.3)
+  update_keeps m c h s r run other w = (w.0, tries_more m c w.0 h r m.at (others_begin_none c.pass r other) w.1, w.2, kept_at m (begun_at c w.0) h s r m.at run other w.3)
 
   -- The step that it waits for
 
   lawful_at : (m : UpdateRun E UpdateAt) (c : Call) (h : History) (s : Step) (at : UpdateAt) → IsRun TreeAllows c.layout h → UpdateWaitsAt e m c h s at → IsRun TreeAllows c.layout (row_of c s h ⊳ h)
   lawful_at m c h s Start run w = absurd w
   lawful_at m c h s (Walk walk) run w = walk_lawful walk c h s run w.1
-  lawful_at m c h s (Look f llx) run w = llx_lawful TreeAllows llx (from c w.0) h s run w.2
+  lawful_at m c h s (Look f llx) run w = llx_lawful TreeAllows llx (begun_at c w.0) h s run w.2
   lawful_at m c h s (Load f nth part) run w = load_lawful TreeAllows c h LoadSettled (node (copied e m f) part) s run w.1 record { word = w.0.settled; same = refl } (λ q. cc) w.0.works.inside.1
   lawful_at m c h s (Fill f nth part) run w = fill_lawful TreeAllows c h (nth_node m.nodes nth).0 part (word_of (piece e m f (nth_node m.nodes nth).0) part) s run w.3
       (w.0.full.hand.own (nth_node m.nodes nth).0 w.0.hand.lowest w.0.hand.highest)
       (may_fill c.layout h c.pass m.share m.nodes.first.0 (top e m f) (nth_node m.nodes nth).0 (piece e m f) part (word_of (piece e m f (nth_node m.nodes nth).0) part) (piece_fill (piece e m f (nth_node m.nodes nth).0) part w.0.part_is) w.0.hand.lowest w.0.hand.highest w.1 w.0.full)
-  lawful_at m c h s (Scx f scx) run w = scx_lawful TreeAllows scx (from c w.0) h s run w.2
+  lawful_at m c h s (Scx f scx) run w = scx_lawful TreeAllows scx (begun_at c w.0) h s run w.2
 
   -- the step that an update waits for continues the run
   pub update_lawful : (m : UpdateRun E UpdateAt) (c : Call) (h : History) (s : Step) → IsRun TreeAllows c.layout h → UpdateWaits e m c h s → IsRun TreeAllows c.layout (row_of c s h ⊳ h)
-  update_lawful m c h s run w = lawful_at m (from c w.0) h s m.at run w.3
+  update_lawful m c h s run w = lawful_at m (begun_at c w.0) h s m.at run w.3
 
   -- Its own row
 
@@ -181,7 +181,7 @@ module _ {E : Type 0} (e : EditMeaning E) where
   -- a load changes nothing
   loads_made : (m : UpdateRun E UpdateAt) (c : Call) (h : History) (s : Step) (f : Found) (nth : Nth) (part : NodeWord) → IsRun TreeAllows c.layout (row_of c s h ⊳ h) → s ≡ load LoadSettled (node (copied e m f) part) → Loads e m c h f nth part → Loads e m c (row_of c s h ⊳ h) f nth part
   loads_made m c h s f nth part run asked x = record {
-    works = works_more e m c h (row_of c s h) f nth run (idle_over c (row_of c s h ⊳ h) run.lawful full.over) x.works;
+    works = works_more e m c h (row_of c s h) f nth run (idle_if_finished c (row_of c s h ⊳ h) run.lawful full.over) x.works;
     full = full;
     hand = x.hand;
     wanted = x.wanted;
@@ -214,7 +214,7 @@ module _ {E : Type 0} (e : EditMeaning E) where
     fills_made : IsRun TreeAllows c.layout (r ⊳ h) → FillsPiece e m c h f nth part → May → HoldsWords h n p (IsBefore part) → Then (r ⊳ h)
     fills_made run x may words = (
       record {
-        works = works_more e m c h r f nth run (idle_over c (r ⊳ h) run.lawful full.over) x.works;
+        works = works_more e m c h r f nth run (idle_if_finished c (r ⊳ h) run.lawful full.over) x.works;
         full = full;
         hand = x.hand;
         done = x.done;
@@ -230,20 +230,20 @@ module _ {E : Type 0} (e : EditMeaning E) where
     fills_then : (s : Step) → s ≡ piece_fill_step e m f nth part → IsRun TreeAllows c.layout (row_of c s h ⊳ h) → FillsPiece e m c h f nth part → May → HoldsWords h n p (IsBefore part) → Then (row_of c s h ⊳ h)
     fills_then s asked run x may words = rw asked (fills_made (rw asked at run) x may words)
 
-  scxs_made : (m : UpdateRun E UpdateAt) (c : Call) (h : History) (s : Step) (f : Found) (scx : ScxRun) (begin : History) → IsRun TreeAllows c.layout (row_of c s h ⊳ h) → Scxs e m c h f scx begin → ScxWaits TreeAllows scx (from c begin) h s → Scxs e m c (row_of c s h ⊳ h) f scx begin
+  scxs_made : (m : UpdateRun E UpdateAt) (c : Call) (h : History) (s : Step) (f : Found) (scx : ScxRun) (begin : History) → IsRun TreeAllows c.layout (row_of c s h ⊳ h) → Scxs e m c h f scx begin → ScxWaits TreeAllows scx (begun_at c begin) h s → Scxs e m c (row_of c s h ⊳ h) f scx begin
   scxs_made m c h s f scx begin run x w = record {
     run = (x.run.0, run);
     small = x.small;
     now = inr x.now;
     since = x.since;
-    share = share_by_scx TreeAllows scx (from c begin) h s m.share m.share.next_node scx.scx.0 run.lawful w (let a = x.next_node in omega (arith, a)) (let a = x.next_scx in omega (arith, a)) x.share;
+    share = share_by_scx TreeAllows scx (begun_at c begin) h s m.share m.share.next_node scx.scx.0 run.lawful w (let a = x.next_node in omega (arith, a)) (let a = x.next_scx in omega (arith, a)) x.share;
     next_node = x.next_node;
     next_scx = x.next_scx;
     call = x.call;
     own = x.own;
     own_scx = x.own_scx;
-    over = over_more c.layout c.pass scx.scx.0 h (row_of c s h) run.lawful (λ t own d free. untaken_at TreeAllows (job_of scx) (from c begin) h scx.at s t w d free) x.over;
-    tracks = tracks_by_scx (from c begin) h scx s (e.edit m.edit f) run x.run.1 w x.tracks;
+    over = over_more c.layout c.pass scx.scx.0 h (row_of c s h) run.lawful (λ t own d free. untaken_at TreeAllows (job_of scx) (begun_at c begin) h scx.at s t w d free) x.over;
+    tracks = tracks_by_scx (begun_at c begin) h scx s (e.edit m.edit f) run x.run.1 w x.tracks;
     only = only_more c.layout c.pass scx.scx.0 h (row_of c s h) c.start run.lawful x.over x.only;
     found = x.found;
     need = x.need;
@@ -253,19 +253,19 @@ module _ {E : Type 0} (e : EditMeaning E) where
   }
 
   -- once the load of the root's head is made, its try has begun just before it
-  module _ (m : UpdateRun E UpdateAt) (c : Call) (b h : History) (s : Step) (v : ℕ) (walk : WalkRun) (run : IsRun TreeAllows c.layout (row_of c s h ⊳ h)) (t : IsTold s.access (value h s.word) v) (first : IsUntouched c b m.share) (x : Walks e m (from c b) h walk.goal) (w : WalkWaits walk (from c b) h s) where
+  module _ (m : UpdateRun E UpdateAt) (c : Call) (b h : History) (s : Step) (v : ℕ) (walk : WalkRun) (run : IsRun TreeAllows c.layout (row_of c s h ⊳ h)) (t : IsTold s.access (value h s.word) v) (first : IsUntouched c b m.share) (x : Walks e m (begun_at c b) h walk.goal) (w : WalkWaits walk (begun_at c b) h s) where
     abbrev after : History
     after = row_of c s h ⊳ h
 
     abbrev WalkThen : Type 0
-    WalkThen = (begin : History) × IsTry c begin after m.limit m.tries × IsUntouched c begin m.share × (Walks e m (from c begin) after walk.goal × WalkIsReady walk (from c begin) after (Some v))
+    WalkThen = (begin : History) × IsTry c begin after m.limit m.tries × IsUntouched c begin m.share × (Walks e m (begun_at c begin) after walk.goal × WalkIsReady walk (begun_at c begin) after (Some v))
 
-    walks_then : Walks e m (from c b) after walk.goal
-    walks_then = walks_by_step m (from c b) h (row_of c s h) walk.goal run (walk_fills_not walk (from c b) h s w) x
+    walks_then : Walks e m (begun_at c b) after walk.goal
+    walks_then = walks_by_step m (begun_at c b) h (row_of c s h) walk.goal run (walk_fills_not walk (begun_at c b) h s w) x
 
     -- past the root's head it goes on
     goes_past : IsPastRoot walk.at → IsTry c b h m.limit m.tries → WalkThen
-    goes_past past try = (b, try_more c b h (row_of c s h) m.limit m.tries (own_begins_none c s h (walk_begins_none walk (from c b) h s past w)) try, first, (walks_then, walk_made walk (from c b) h s v run t w))
+    goes_past past try = (b, try_more c b h (row_of c s h) m.limit m.tries (own_begins_none c s h (walk_begins_none walk (begun_at c b) h s past w)) try, first, (walks_then, walk_made walk (begun_at c b) h s v run t w))
 
     begins_try_now : walk.at ≡ walks.Root → MayTry c b h m.limit m.tries → WalkThen
     begins_try_now at may = (
@@ -279,7 +279,7 @@ module _ {E : Type 0} (e : EditMeaning E) where
           quiet = λ k e f. walks_then.quiet k e (ends_trans k h b f w.since);
           same = x.same;
         },
-        walk_made walk (from c h) h s v run t record { run = w.run; small = w.small; since = ends_self h; known = subst (WalkKnows (from c h) h walk) (sym at) root; asked = w.asked },
+        walk_made walk (begun_at c h) h s v run t record { run = w.run; small = w.small; since = ends_self h; known = subst (WalkKnows (begun_at c h) h walk) (sym at) root; asked = w.asked },
       ),
     )
       where
@@ -287,13 +287,13 @@ module _ {E : Type 0} (e : EditMeaning E) where
         lawful = w.run.1.lawful
 
         root : walk.trail.node.0 ≡ 0
-        root = subst (WalkKnows (from c b) h walk) at w.known
+        root = subst (WalkKnows (begun_at c b) h walk) at w.known
 
         asked : s ≡ load LoadSettled (node 0 Head)
         asked = w.asked ∙ ap (walk_step walk) at ∙ ap (λ n. load LoadSettled (node n Head)) root
 
     walk_goes : (p : WalkAt) → walk.at ≡ p → IsTryAt c b h m.limit m.tries p → WalkThen
-    walk_goes walks.Start at try = absurd (subst (WalkKnows (from c b) h walk) at w.known)
+    walk_goes walks.Start at try = absurd (subst (WalkKnows (begun_at c b) h walk) at w.known)
     walk_goes walks.Root at try = begins_try_now at try
     walk_goes (walks.Head above) at try = goes_past (subst IsPastRoot (sym at) tt) try
     walk_goes (walks.Key head) at try = goes_past (subst IsPastRoot (sym at) tt) try
@@ -302,34 +302,34 @@ module _ {E : Type 0} (e : EditMeaning E) where
 
   -- what is known once the step of this place has told v
   abbrev ToldThen : UpdateRun E UpdateAt → Call → History → ℕ → UpdateAt → Type 0
-  ToldThen m c h v at = (begin : History) × IsTry c begin h m.limit m.tries × FirstOrLost e m c begin at × UpdateIsToldAt e m (from c begin) h v at
+  ToldThen m c h v at = (begin : History) × IsTry c begin h m.limit m.tries × FirstOrLost e m c begin at × UpdateIsToldAt e m (begun_at c begin) h v at
 
-  made_at : (m : UpdateRun E UpdateAt) (c : Call) (b h : History) (s : Step) (v : ℕ) (at : UpdateAt) → IsRun TreeAllows c.layout (row_of c s h ⊳ h) → IsTold s.access (value h s.word) v → Tries e m c b h at → FirstOrLost e m c b at → UpdateWaitsAt e m (from c b) h s at → ToldThen m c (row_of c s h ⊳ h) v at
+  made_at : (m : UpdateRun E UpdateAt) (c : Call) (b h : History) (s : Step) (v : ℕ) (at : UpdateAt) → IsRun TreeAllows c.layout (row_of c s h ⊳ h) → IsTold s.access (value h s.word) v → Tries e m c b h at → FirstOrLost e m c b at → UpdateWaitsAt e m (begun_at c b) h s at → ToldThen m c (row_of c s h ⊳ h) v at
   made_at m c b h s v Start run t try first w = absurd w
   made_at m c b h s v (Walk walk) run t try first w = walk_goes m c b h s v walk run t first w.0 w.1 walk.at refl try
   made_at m c b h s v (Look f llx) run t try first w = (
     b,
-    try_more c b h (row_of c s h) m.limit m.tries (own_begins_none c s h (llx_begins_none TreeAllows llx (from (from c b) w.0) h s w.2)) try,
+    try_more c b h (row_of c s h) m.limit m.tries (own_begins_none c s h (llx_begins_none TreeAllows llx (begun_at (begun_at c b) w.0) h s w.2)) try,
     tt,
-    (w.0, looks_by_step m (from c b) h (row_of c s h) f llx w.0 run (llx_fills_not TreeAllows llx (from (from c b) w.0) h s w.2) w.1, llx_made TreeAllows llx (from (from c b) w.0) h s v run t w.2),
+    (w.0, looks_by_step m (begun_at c b) h (row_of c s h) f llx w.0 run (llx_fills_not TreeAllows llx (begun_at (begun_at c b) w.0) h s w.2) w.1, llx_made TreeAllows llx (begun_at (begun_at c b) w.0) h s v run t w.2),
   )
   made_at m c b h s v (Load f nth part) run t try first w = (
     b,
     try_more c b h (row_of c s h) m.limit m.tries (own_begins_none c s h (other_node_begins_none s (copied e m f) part (ap (λ (q : Step). q.word) w.1) w.0.works.inside.0)) try,
     tt,
-    (loads_made m (from c b) h s f nth part run w.1 w.0, load_told (from c b) h LoadSettled (node (copied e m f) part) s v w.1 t),
+    (loads_made m (begun_at c b) h s f nth part run w.1 w.0, load_told (begun_at c b) h LoadSettled (node (copied e m f) part) s v w.1 t),
   )
   made_at m c b h s v (Fill f nth part) run t try first w = (
     b,
     try_more c b h (row_of c s h) m.limit m.tries (own_begins_none c s h (other_kind_begins_none s (λ q. let z : FillKind ≡ LoadSettled = ap (λ (k : Step). k.kind) (sym w.3) ∙ q in cc))) try,
     tt,
-    fills_then m (from c b) h f nth part s w.3 run w.0 w.1 w.2,
+    fills_then m (begun_at c b) h f nth part s w.3 run w.0 w.1 w.2,
   )
   made_at m c b h s v (Scx f scx) run t try first w = (
     b,
-    try_more c b h (row_of c s h) m.limit m.tries (own_begins_none c s h (scx_begins_none TreeAllows scx (from (from c b) w.0) h s w.2)) try,
+    try_more c b h (row_of c s h) m.limit m.tries (own_begins_none c s h (scx_begins_none TreeAllows scx (begun_at (begun_at c b) w.0) h s w.2)) try,
     tt,
-    (w.0, scxs_made m (from c b) h s f scx w.0 run w.1 w.2, scx_made TreeAllows scx (from (from c b) w.0) h s v run t w.2),
+    (w.0, scxs_made m (begun_at c b) h s f scx w.0 run w.1 w.2, scx_made TreeAllows scx (begun_at (begun_at c b) w.0) h s v run t w.2),
   )
 
   -- once the step is made, an update may be called with what it told
@@ -347,7 +347,7 @@ module _ {E : Type 0} (e : EditMeaning E) where
   -- while it fills a fresh node there is an SCX-record left
   pub update_scx_left : (m : UpdateRun E UpdateAt) (c : Call) (h : History) (got : Option ℕ) → UpdateIsReady e m c h got → HasScxForFill m m.at
   update_scx_left m c h None x = subst (HasScxForFill m) (sym x.3) tt
-  update_scx_left m c h (Some v) x = scx_left_at m (from c x.0) h v m.at x.3
+  update_scx_left m c h (Some v) x = scx_left_at m (begun_at c x.0) h v m.at x.3
 
   -- What it is told
 
@@ -371,4 +371,4 @@ module _ {E : Type 0} (e : EditMeaning E) where
   -- what an update may be told fits the nodes that are taken by then
   pub update_told : (m : UpdateRun E UpdateAt) (c : Call) (h : History) (got : Option ℕ) (nodes : ℕ) → IsRun TreeAllows c.layout h → UpdateIsReady e m c h got → length (taken_nodes h) ≤ nodes → UpdateFits e m got nodes
   update_told m c h None nodes run x few = subst (λ at. UpdateFitsAt e m None nodes at) (sym x.3) tt
-  update_told m c h (Some v) nodes run x few = fits_at m (from c x.0) h v nodes m.at run x.3 few
+  update_told m c h (Some v) nodes run x few = fits_at m (begun_at c x.0) h v nodes m.at run x.3 few

@@ -1,5 +1,5 @@
 //! Walks to a key, of whatever machine walks.
-ghost use Rattle.std.specs.Prelude.{◌≡◌, ◌≢◌, ◌≤◌, ◌+◌, ◌*◌, ℕ, suc, true, false, cond, ltb, IfOk, IfErr};
+ghost use Rattle.std.specs.Prelude.{◌≡◌, ◌≢◌, ◌≤◌, ◌+◌, ◌*◌, ℕ, suc, true, false, if◌then◌else◌, nat_lt, IfOk, IfErr};
 ghost use Rattle.arena.specs.Heads.{head_of};
 ghost use Rattle.arena.specs.declared.number.NodeNo.{NodeNo};
 ghost use Rattle.forest.specs.Seats.{IsSeatAt, StaysAtTable};
@@ -43,7 +43,7 @@ fn read<S: Shape, M: Machine<S>>(
 /// On which side of a fork with this key the walk goes on.
 #[inline(always)]
 fn side_of(wanted: u64, key: u64) -> Side
-    ensures { result ≡ cond (ltb wanted key) Side.Left Side.Right }
+    ensures { result ≡ (if nat_lt wanted key then Side.Left else Side.Right) }
 {
     if wanted < key {
         Side::Left

@@ -1,5 +1,5 @@
 -- When a run of HELP may go on, what it waits for, and what its answer says.
-use Rattle.std.specs.Prelude.{◌≡◌, ◌≢◌, ℕ, suc, ◌<◌, ◌≤◌, true, false, Bool, ◌⊎◌, List, Option, Some, None, get_or}
+use Rattle.std.specs.Prelude.{◌≡◌, ◌≢◌, ℕ, suc, ◌<◌, ◌≤◌, true, false, Bool, ◌⊎◌, List, Option, Some, None, slice_index_or}
 use Rattle.arena.specs.declared.layout.Layout.{Layout}
 use Rattle.arena.specs.declared.number.NodeNo.{NodeNo}
 use Rattle.arena.specs.declared.number.MemberIndex.{MemberIndex}
@@ -45,7 +45,7 @@ reading m = record { scx = m.scx.0; plan = m.plan.0; members = m.members }
 
 -- the number of the i-th node in the list, 0 beyond its end
 abbrev pub node_at : List NodeNo → ℕ → ℕ
-node_at nodes i = (get_or nodes i record { 0 = 0 }).0
+node_at nodes i = (slice_index_or nodes i record { 0 = 0 }).0
 
 -- the first k nodes that the run has read are those of its SCX-record
 abbrev pub HasReadMembers : Reading → History → ℕ → Type 0
@@ -212,7 +212,7 @@ HelpAnswers lay c m h false = HasAborted lay c h (reading m) m.at
 -- the node that could not be frozen and the SCX-record that its info
 -- named, once the run has aborted; else 0 and 0
 abbrev pub blocked_at : List NodeNo → HelpAt → NodeNo × ScxNo
-blocked_at nodes (AtAbort j found) = (get_or nodes (member_index j) record { 0 = 0 }, record { 0 = found })
+blocked_at nodes (AtAbort j found) = (slice_index_or nodes (member_index j) record { 0 = 0 }, record { 0 = found })
 blocked_at nodes _ = (record { 0 = 0 }, record { 0 = 0 })
 
 -- the run goes to this place, keeps all else, and asks for this step

@@ -1,47 +1,32 @@
 -- What an ordered read knows stays so, whatever row comes that takes nothing of its pass's share.
-use Rattle.std.proofs.Common.{◌≡◌, ◌≢◌, ℕ, ◌<◌, ◌≤◌, true, false, eqb, length, List, [], inl, inr, ap, subst, arith}
+use Rattle.std.proofs.Common.{◌≡◌, ◌≢◌, ℕ, ◌<◌, ◌≤◌, true, false, ◌==◌, length, List, [], inl, inr, ap, subst, arith}
 use Rattle.std.proofs.Math.Bool.{and-false}
-use Rattle.arena.specs.declared.layout.Layout.{Layout}
 use Rattle.arena.specs.declared.step.Row.{Row}
 use Rattle.arena.specs.declared.step.Step.{Step}
 use Rattle.arena.specs.declared.step.Kind.TheVariants.{LoadSettled}
 use Rattle.arena.specs.declared.word.NodeWord.{NodeWord}
 use Rattle.arena.specs.declared.word.NodeWord.TheVariants.{Head}
-use Rattle.arena.specs.Layout.{all_nodes}
 use Rattle.arena.specs.Words.{node, same_node_word}
 use Rattle.arena.specs.History.{History, Start, ◌⊳◌, value, Extends}
-use Rattle.arena.specs.Lawful.{Lawful}
-use Rattle.arena.specs.Machines.{IsRun, Call}
+use Rattle.arena.specs.Machines.{IsRun, Call, begun_at}
 use Rattle.arena.specs.TakenNodes.{taken_nodes}
 use Rattle.arena.proofs.Lemmas.{ends_self, ends_trans, taken_more}
 use Rattle.prims.specs.Laws.Begun.{TakesOnly}
-use Rattle.prims.specs.Laws.Idle.{IsIdle, idle_if_over, quiet_at_start, quiet_more}
+use Rattle.prims.specs.Laws.Idle.{IsIdle, quiet_at_start, quiet_more, idle_if_finished}
 use Rattle.prims.specs.Laws.InTheWay.{been_more}
-use Rattle.prims.specs.Llx.Known.{load, IsOpened}
+use Rattle.prims.specs.Llx.Known.{load}
 use Rattle.prims.specs.Moments.{AreFinished}
 use Rattle.prims.specs.declared.snap.Snap.{Snap}
 use Rattle.prims.proofs.Lemmas.{over_more}
-use Rattle.ordered_map.specs.Paths.{Passed, WasInTree}
+use Rattle.ordered_map.specs.Paths.{Passed}
 use Rattle.ordered_map.specs.Runs.{IsTreeRun}
 use Rattle.ordered_map.specs.TreeShape.{TreeAllows}
 use Rattle.ordered_map.specs.TreeWords.{level}
 use Rattle.ordered_map.specs.Tries.{begins_try}
-use Rattle.ordered_map.proofs.Lemmas.{path_not_final, root_head, run_since, stood_in_field, stood_settled, tree_inside, walk_first, was_passed, SameSettled}
+use Rattle.ordered_map.proofs.Lemmas.{path_not_final, root_head, run_since, stood_settled, walk_first, was_passed, SameSettled}
 use Rattle.template.proofs.Lemmas.{BeginsNoTry, newest_more, newest_now, other_node_begins_none, tries_more}
-use Rattle.order.specs.Reads.{begun_at, AreSnapped, Reads, Whenever, HasStood}
+use Rattle.order.specs.Reads.{AreSnapped, Reads, Whenever, HasStood}
 use Rattle.order.specs.Tries.{BeginsTry, IsInTry}
-
--- a pass whose SCX-records are all finished is idle
-pub idle_if_finished : (c : Call) (h : History) → Lawful c.layout h → AreFinished c.layout c.pass 0 h → IsIdle c.layout c.pass h
-idle_if_finished c h l over = idle_if_over c.layout c.pass h l (λ s own t. over s own (λ e. let a = own.from in omega (arith, e)) t)
-
--- a node that has stood in the tree is of the table
-pub stood_inside : (lay : Layout) (h : History) (n : ℕ) → IsTreeRun lay h → WasInTree h n → n < all_nodes lay
-stood_inside lay h n run x = tree_inside lay x.moment x.tree (run_since lay h x.moment run x.within).1.lawful x.is_tree n x.has
-
--- and an LLX may look at it
-pub opened_if_stood : (lay : Layout) (h : History) (n : ℕ) → IsTreeRun lay h → WasInTree h n → IsOpened lay h n
-opened_if_stood lay h n run x = record { in_field = stood_in_field lay h n run x; inside = stood_inside lay h n run x }
 
 -- the root has stood in the tree
 pub root_there : (c : Call) (h : History) → IsTreeRun c.layout h → Extends h c.start → HasStood c h 0
@@ -125,4 +110,4 @@ head_begins_none c h s above n run deep e = other_node_begins_none s n Head (ap 
 
 -- nor does a load of another word
 pub word_begins_none : (s : Step) (n : ℕ) (part : NodeWord) → s ≡ load LoadSettled (node n part) → same_node_word part Head ≡ false → BeginsNoTry s
-word_begins_none s n part e other = rw (e, other) (and-false (eqb n 0))
+word_begins_none s n part e other = rw (e, other) (and-false (n == 0))

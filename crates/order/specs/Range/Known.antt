@@ -11,7 +11,7 @@ use Rattle.arena.specs.declared.word.NodeWord.TheVariants.{Head as HeadWord, Key
 use Rattle.arena.specs.Heads.{head_of}
 use Rattle.arena.specs.Words.{node}
 use Rattle.arena.specs.History.{History, value, Extends}
-use Rattle.arena.specs.Machines.{Call, MatchTurn}
+use Rattle.arena.specs.Machines.{Call, MatchTurn, begun_at}
 use Rattle.prims.specs.Llx.Known.{load, LlxIsReady, LlxWaits}
 use Rattle.prims.specs.Moments.{AreFinished}
 use Rattle.prims.specs.Vlx.Known.{VlxIsReady, VlxWaits}
@@ -20,7 +20,7 @@ use Rattle.ordered_map.specs.OrderedMap.{Range, ManyPairs, range}
 use Rattle.ordered_map.specs.TreeShape.{TreeAllows}
 use Rattle.ordered_map.specs.TreeWords.{class, is_leaf, level, rank}
 use Rattle.template.specs.Trails.{IsOwnMoment}
-use Rattle.order.specs.Reads.{begun_at, Reads, AllHold, Whenever, HasStood}
+use Rattle.order.specs.Reads.{Reads, AllHold, Whenever, HasStood}
 use Rattle.order.specs.Replies.{IsReplyAt}
 use Rattle.order.specs.Tries.{BeginsTry, IsInTry}
 use Rattle.template.specs.Blame.{IsContended, HasLostTriesTo}
@@ -110,7 +110,7 @@ pub record RangeValidates (m : RangeRun) (c : Call) (h begin : History) : Type 0
   pub own : IsOwnMoment c begin
   pub asks : AsksForSome m
   pub within : Extends h begin
-  pub then : Reads c begin m.snaps.items
+  pub reads : Reads c begin m.snaps.items
   pub right : AllHold begin m.snaps.items → IsRangeAt c.layout begin (bounds_of m) m.taken.items
 
 -- What it waits for

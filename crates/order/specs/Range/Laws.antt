@@ -11,10 +11,10 @@ use Rattle.arena.specs.declared.word.Word.{Word}
 use Rattle.arena.specs.Heads.{head_of}
 use Rattle.arena.specs.Words.{node}
 use Rattle.arena.specs.History.{History, ◌⊳◌, value}
-use Rattle.arena.specs.Machines.{IsRun, Call, row_of, IsTold}
+use Rattle.arena.specs.Machines.{IsRun, Call, row_of, IsTold, begun_at}
 use Rattle.arena.specs.TakenNodes.{taken_nodes}
 use Rattle.arena.proofs.Lemmas.{ends_self}
-use Rattle.prims.specs.Laws.Idle.{IsIdle}
+use Rattle.prims.specs.Laws.Idle.{IsIdle, idle_if_finished}
 use Rattle.prims.specs.Laws.Begun.{TakesOnly, takes_by_others, takes_by_step}
 use Rattle.prims.specs.Llx.Known.{load}
 use Rattle.prims.specs.Llx.Laws.{llx_keeps, llx_lawful, llx_made, load_lawful, load_told}
@@ -26,10 +26,10 @@ use Rattle.ordered_map.specs.TreeWords.{level, rank}
 use Rattle.ordered_map.specs.Tries.{begins_try}
 use Rattle.ordered_map.proofs.Lemmas.{SameSettled, settled_class, settled_leaf, settled_level, settled_rank}
 use Rattle.template.specs.Trails.{IsOwnMoment}
-use Rattle.template.proofs.Lemmas.{BeginsNoTry, llx_begins_none, others_begin_none, own_begins, own_begins_none, vlx_begins_none}
+use Rattle.template.proofs.Lemmas.{BeginsNoTry, llx_begins_none, others_begin_none, own_begins, own_begins_none, vlx_begins_none, stood_inside}
 use Rattle.order.specs.Laws.Depth.{fork_depth, head_fits}
-use Rattle.order.specs.Laws.Kept.{begins_more, head_begins_none, idle_if_finished, in_try_more, in_try_now, reads_anew, root_there, stood_inside, stood_more, whenever_more, reads_more, settled_more, word_begins_none}
-use Rattle.order.specs.Reads.{begun_at, HasStood}
+use Rattle.order.specs.Laws.Kept.{begins_more, head_begins_none, in_try_more, in_try_now, reads_anew, root_there, stood_more, whenever_more, reads_more, settled_more, word_begins_none}
+use Rattle.order.specs.Reads.{HasStood}
 use Rattle.order.specs.Tries.{IsInTry}
 use Rattle.order.specs.Range.Known.{waiting_of, RangeStandsInTry, AreThere, Visits, IsChoice, LooksIn, HasLowHead, HasKey, RangeValidates, RangeGoes, RangeWaitsAt, RangeIsToldAt, RangeWaits, RangeIsReady}
 use Rattle.order.specs.Range.Steps.{RangeFitsAt, RangeFits}
@@ -89,7 +89,7 @@ module _ (m : RangeRun) (c : Call) (h : History) (r : Row) (g : IsTreeRun c.layo
       same = settled_more c h r run n g x.visits.stood
 
   validates_more : (begin : History) → RangeValidates m c h begin → RangeValidates m c (r ⊳ h) begin
-  validates_more begin x = record { own = x.own; asks = x.asks; within = inr x.within; then = x.then; right = x.right }
+  validates_more begin x = record { own = x.own; asks = x.asks; within = inr x.within; reads = x.reads; right = x.right }
 
   goes_more : TakesOnly c.layout c.pass 0 h r → RangeGoes m c h → RangeGoes m c (r ⊳ h)
   goes_more takes x = record { reads = reads_more c h r run m.snaps.items takes x.reads; small = x.small; few = x.few }

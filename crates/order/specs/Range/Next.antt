@@ -5,7 +5,7 @@ use Rattle.arena.specs.declared.step.Kind.TheVariants.{LoadInfo, LoadMarked, Loa
 use Rattle.arena.specs.declared.word.NodeWord.TheVariants.{Head as HeadWord, Key as KeyWord, Value as ValueWord}
 use Rattle.arena.specs.Words.{info, marked, node}
 use Rattle.arena.specs.History.{History, value}
-use Rattle.arena.specs.Machines.{Call}
+use Rattle.arena.specs.Machines.{Call, begun_at}
 use Rattle.prims.specs.Llx.Known.{load}
 use Rattle.prims.specs.Snap.{snap_at}
 use Rattle.prims.specs.declared.llx.LlxAt.TheVariants.{Marked}
@@ -13,7 +13,7 @@ use Rattle.ordered_map.specs.TreeWords.{level}
 use Rattle.template.specs.Trails.{IsOwnMoment}
 use Rattle.order.specs.Range.Known.{AsksForSome, RangeGoes, HasKey, HasLowHead, LooksIn, RangeAnswers, Visits, bounds_of}
 use Rattle.order.specs.Range.Steps.{leaves_left}
-use Rattle.order.specs.Reads.{begun_at, Whenever}
+use Rattle.order.specs.Reads.{Whenever}
 use Rattle.order.specs.Tries.{IsInTry}
 use Rattle.order.specs.Visits.{IsRangeAt}
 use Rattle.order.specs.declared.range.RangeAt.TheVariants.{Head, Key, Value, Look, Validate}

@@ -1,5 +1,5 @@
 -- When a successor may go on, what it waits for, and what its answer says.
-use Rattle.std.specs.Prelude.{◌≡◌, ℕ, ◌+◌, ◌^◌, ◌<◌, ◌≤◌, Bool, true, false, cond, eqb, ltb, ◌⊎◌, [], length, Option, Some, None, Result, Ok, Err}
+use Rattle.std.specs.Prelude.{◌≡◌, ℕ, ◌+◌, ◌^◌, ◌<◌, ◌≤◌, Bool, true, false, if◌then◌else◌, ◌==◌, nat_lt, ◌⊎◌, [], length, Option, Some, None, Result, Ok, Err}
 use Rattle.arena.specs.declared.head.Head.{Head as HeadParts}
 use Rattle.arena.specs.declared.machine.Turn.{Turn}
 use Rattle.arena.specs.declared.number.NodeNo.{NodeNo}
@@ -11,7 +11,7 @@ use Rattle.arena.specs.declared.word.Side.TheVariants.{Left, Right}
 use Rattle.arena.specs.Heads.{head_of}
 use Rattle.arena.specs.Words.{node, marked}
 use Rattle.arena.specs.History.{History, value, Extends}
-use Rattle.arena.specs.Machines.{Call, MatchTurn}
+use Rattle.arena.specs.Machines.{Call, MatchTurn, begun_at}
 use Rattle.prims.specs.Llx.Known.{load, LlxIsReady, LlxWaits}
 use Rattle.prims.specs.Moments.{AreFinished}
 use Rattle.prims.specs.Vlx.Known.{VlxIsReady, VlxWaits}
@@ -25,7 +25,7 @@ use Rattle.template.specs.Walk.Known.{WalkIsReady, WalkWaits}
 use Rattle.template.specs.declared.walk.Goal.TheVariants.{Key as ToKey}
 use Rattle.template.specs.declared.walk.WalkAt.{WalkAt}
 use Rattle.template.specs.declared.walk.WalkAt.TheVariants.{Root}
-use Rattle.order.specs.Reads.{begun_at, Reads, AllHold, Whenever, HasStood}
+use Rattle.order.specs.Reads.{Reads, AllHold, Whenever, HasStood}
 use Rattle.order.specs.Replies.{IsReplyAt}
 use Rattle.order.specs.Tries.{BeginsTry, IsInTry}
 use Rattle.template.specs.Blame.{IsContended, HasLostTriesTo}
@@ -61,12 +61,12 @@ IsLastTurn c h k n = (n ≡ 0) ⊎ HasTurnedLeft c h k n
 
 -- whether it loads the key of a node with this head
 abbrev pub successor_asks_key : Route → HeadParts → Bool
-successor_asks_key Along head = eqb head.class 0
-successor_asks_key Beyond head = cond (eqb head.class 0) head.leaf false
+successor_asks_key Along head = head.class == 0
+successor_asks_key Beyond head = if head.class == 0 then head.leaf else false
 
 -- whether a leaf of class 0 with this key is the answer of k
 abbrev pub is_answer : Route → ℕ → ℕ → Bool
-is_answer Along k key = ltb k key
+is_answer Along k key = nat_lt k key
 is_answer Beyond k key = true
 
 -- where the search stands on this part of its way
@@ -125,7 +125,7 @@ pub record HasLeaf (m : SuccessorRun) (c : Call) (h : History) (n key : ℕ) : T
 pub record SuccessorValidates (m : SuccessorRun) (c : Call) (h begin : History) (found : Option Pair) : Type 0 where
   pub own : IsOwnMoment c begin
   pub within : Extends h begin
-  pub then : Reads c begin m.snaps.items
+  pub reads : Reads c begin m.snaps.items
   pub right : AllHold begin m.snaps.items → IsNextAt c.layout begin m.key found
 
 -- the second is the first, further on: it has given up one try at most

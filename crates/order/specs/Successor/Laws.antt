@@ -12,10 +12,10 @@ use Rattle.arena.specs.declared.word.Word.{Word}
 use Rattle.arena.specs.Heads.{head_of}
 use Rattle.arena.specs.Words.{node}
 use Rattle.arena.specs.History.{History, ◌⊳◌, value}
-use Rattle.arena.specs.Machines.{IsRun, Call, row_of, IsTold}
+use Rattle.arena.specs.Machines.{IsRun, Call, row_of, IsTold, begun_at}
 use Rattle.arena.specs.TakenNodes.{taken_nodes}
 use Rattle.arena.proofs.Lemmas.{ends_self}
-use Rattle.prims.specs.Laws.Idle.{IsIdle}
+use Rattle.prims.specs.Laws.Idle.{IsIdle, idle_if_finished}
 use Rattle.prims.specs.Laws.Begun.{TakesOnly, takes_by_others, takes_by_step}
 use Rattle.prims.specs.Llx.Known.{load}
 use Rattle.prims.specs.Llx.Laws.{llx_keeps, llx_lawful, llx_made, load_lawful, load_told}
@@ -34,10 +34,10 @@ use Rattle.template.specs.Walk.Places.{IsPastRoot}
 use Rattle.template.specs.declared.walk.WalkAt.{WalkAt}
 use Rattle.template.specs.declared.walk.WalkAt.TheVariants as places
 use Rattle.template.specs.declared.walk.WalkRun.{WalkRun}
-use Rattle.template.proofs.Lemmas.{BeginsNoTry, llx_begins_none, others_begin_none, own_begins, own_begins_none, vlx_begins_none, walk_begins_none, walk_fills_not}
+use Rattle.template.proofs.Lemmas.{BeginsNoTry, llx_begins_none, others_begin_none, own_begins, own_begins_none, vlx_begins_none, walk_begins_none, walk_fills_not, stood_inside}
 use Rattle.order.specs.Laws.Depth.{fork_depth, head_fits}
-use Rattle.order.specs.Laws.Kept.{begins_more, head_begins_none, idle_if_finished, in_try_more, in_try_now, reads_anew, stood_inside, stood_more, whenever_more, reads_more, settled_more, word_begins_none}
-use Rattle.order.specs.Reads.{begun_at, HasStood}
+use Rattle.order.specs.Laws.Kept.{begins_more, head_begins_none, in_try_more, in_try_now, reads_anew, stood_more, whenever_more, reads_more, settled_more, word_begins_none}
+use Rattle.order.specs.Reads.{HasStood}
 use Rattle.order.specs.Tries.{IsInTry}
 use Rattle.order.specs.Successor.Known.{IsLastTurn, WalksInTry, SuccessorStandsInTry, IsSideOf, IsRightThere, LooksAt, SuccessorStandsAt, HasHead, HasLeaf, SuccessorValidates, SuccessorGoes, SuccessorWaitsAt, SuccessorIsToldAt, SuccessorWaits, SuccessorIsReady}
 use Rattle.order.specs.Successor.Steps.{HeadFits, SuccessorFitsAt, SuccessorFits}
@@ -112,7 +112,7 @@ module _ (m : SuccessorRun) (c : Call) (h : History) (r : Row) (g : IsTreeRun c.
       same = settled_more c h r run n g x.stood
 
   validates_more : (begin : History) (found : Option Pair) → SuccessorValidates m c h begin found → SuccessorValidates m c (r ⊳ h) begin found
-  validates_more begin found x = record { own = x.own; within = inr x.within; then = x.then; right = x.right }
+  validates_more begin found x = record { own = x.own; within = inr x.within; reads = x.reads; right = x.right }
 
   goes_more : TakesOnly c.layout c.pass 0 h r → SuccessorGoes m c h → SuccessorGoes m c (r ⊳ h)
   goes_more takes x = record { reads = reads_more c h r run m.snaps.items takes x.reads; small = x.small }

@@ -5,13 +5,13 @@ use Rattle.arena.specs.declared.step.Kind.TheVariants.{LoadInfo, LoadMarked, Loa
 use Rattle.arena.specs.declared.word.NodeWord.TheVariants.{Head as HeadWord, Key as KeyWord, Value as ValueWord}
 use Rattle.arena.specs.Words.{info, marked, node}
 use Rattle.arena.specs.History.{History, value}
-use Rattle.arena.specs.Machines.{Call}
+use Rattle.arena.specs.Machines.{Call, begun_at}
 use Rattle.prims.specs.Llx.Known.{load}
 use Rattle.prims.specs.Snap.{snap_at}
 use Rattle.prims.specs.declared.llx.LlxAt.TheVariants.{Marked}
 use Rattle.ordered_map.specs.TreeWords.{level}
 use Rattle.template.specs.Trails.{IsOwnMoment}
-use Rattle.order.specs.Reads.{begun_at, Whenever}
+use Rattle.order.specs.Reads.{Whenever}
 use Rattle.order.specs.Tries.{IsInTry}
 use Rattle.order.specs.Laws.Search.{IsNextAt}
 use Rattle.order.specs.Successor.Known.{SuccessorGoes, HasHead, HasLeaf, LooksAt, SuccessorStandsAt, SuccessorAnswers}

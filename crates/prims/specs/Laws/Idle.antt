@@ -22,6 +22,7 @@ use Rattle.help.specs.Laws.Help.Lawful.{exchange_of}
 use Rattle.help.specs.declared.state.HelpRun.{HelpRun}
 use Rattle.help.specs.declared.state.HelpAt.{HelpAt}
 use Rattle.help.specs.declared.state.HelpAt.TheVariants.{Start as HelpStart, Plan as AtPlan, Member as AtMember, Seen as AtSeen, Freeze as AtFreeze, AllFrozen as AtAllFrozen, Abort as AtAbort, SetFrozen as AtSetFrozen, Mark as AtMark, New as AtNew, Old as AtOld, Update as AtUpdate, Commit as AtCommit}
+use Rattle.prims.specs.Moments.{AreFinished}
 
 -- none of the pass's own SCX-records is in progress: the pass is idle
 abbrev pub IsIdle : Layout → ℕ → History → Type 0
@@ -38,6 +39,10 @@ IsQuietSince lay c start h = (m : History) → Extends h m → Extends m start �
 -- a pass is idle if each of its SCX-records that is taken is finished
 pub idle_if_over : (lay : Layout) (c : ℕ) (h : History) → Lawful lay h → ((s : ℕ) → IsOwnScx lay c s → IsTakenScx h s → value h (state s) ≢ 0) → IsIdle lay c h
 idle_if_over lay c h l over s own x = over s own (named_scx_taken lay h s l (λ e. let p = own.from in omega arith) x.named) x.unfinished
+
+-- and if all of them are finished
+pub idle_if_finished : (c : Call) (h : History) → Lawful c.layout h → AreFinished c.layout c.pass 0 h → IsIdle c.layout c.pass h
+idle_if_finished c h l over = idle_if_over c.layout c.pass h l (λ s own t. over s own (λ e. let a = own.from in omega (arith, e)) t)
 
 -- One more row
 

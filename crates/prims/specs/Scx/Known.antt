@@ -1,5 +1,5 @@
 -- When a run of SCX may go on, what it waits for, and what its answer says.
-use Rattle.std.specs.Prelude.{◌≡◌, ◌≢◌, ◌⊎◌, ℕ, suc, ◌<◌, cond, List, [], ◌∷◌, length, map, Option, Some, None}
+use Rattle.std.specs.Prelude.{◌≡◌, ◌≢◌, ◌⊎◌, ℕ, suc, ◌<◌, if◌then◌else◌, List, [], ◌∷◌, length, map, Option, Some, None}
 use Rattle.arena.specs.declared.layout.Layout.{Layout}
 use Rattle.arena.specs.declared.step.Row.{Row}
 use Rattle.arena.specs.declared.step.Step.{Step}
@@ -198,7 +198,9 @@ nodes_of snaps = map (λ (snap : Snap). snap.node.0) snaps
 -- those of the snapshots' nodes that the plan word finalizes, where the first has the place j
 abbrev pub removed_nodes : ℕ → List Snap → ℕ → List ℕ
 removed_nodes p [] j = []
-removed_nodes p (snap ∷ snaps) j = cond (plan_finalizes p j) (snap.node.0 ∷ removed_nodes p snaps (suc j)) (removed_nodes p snaps (suc j))
+removed_nodes p (snap ∷ snaps) j =
+    if plan_finalizes p j then snap.node.0 ∷ removed_nodes p snaps (suc j)
+    else removed_nodes p snaps (suc j)
 
 -- the entry of this update in the log, for a call of the pass c
 abbrev pub update_entry : ℕ → ScxRun → Entry

@@ -1,5 +1,5 @@
 -- The rules of `llx`.
-use Rattle.std.specs.Prelude.{◌≡◌, ◌≢◌, ℕ, true, false, cond, eqb, Option}
+use Rattle.std.specs.Prelude.{◌≡◌, ◌≢◌, ℕ, true, false, if◌then◌else◌, ◌==◌, Option}
 use Rattle.arena.specs.declared.layout.Layout.{Layout}
 use Rattle.arena.specs.declared.step.Kind.TheVariants.{Fill}
 use Rattle.arena.specs.History.{History}
@@ -20,7 +20,7 @@ LlxAfterStep _ = ⊥
 
 -- an LLX renews or drops the client's snapshot of its cell
 abbrev pub llx_linked : ℕ → Answer → History → ℕ → Option History → Option History
-llx_linked cell answer now n old = cond (eqb cell n) (snapshot_of answer now) old
+llx_linked cell answer now n old = if cell == n then snapshot_of answer now else old
 
 -- what its answers say of the cell
 abbrev pub LlxIsRight : ℕ → Layout → ℕ → History → History → (ℕ → Option History) → Answer → Type 0

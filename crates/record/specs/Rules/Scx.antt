@@ -1,5 +1,5 @@
 -- The rules of `scx`.
-use Rattle.std.specs.Prelude.{◌≡◌, ℕ, Bool, true, false, cond, ◌&&◌, Option, Some, None}
+use Rattle.std.specs.Prelude.{◌≡◌, ℕ, Bool, true, false, if◌then◌else◌, ◌&&◌, Option, Some, None}
 use Rattle.arena.specs.declared.layout.Layout.{Layout}
 use Rattle.arena.specs.declared.step.Kind.TheVariants.{Freeze}
 use Rattle.arena.specs.History.{History}
@@ -34,7 +34,9 @@ has_run _ = false
 
 -- an SCX that has run drops the client's snapshots of its cells
 abbrev pub scx_linked : Update → Answer → History → ℕ → Option History → Option History
-scx_linked update answer now n old = cond (has_run answer && has (update_cells update) n) None old
+scx_linked update answer now n old =
+    if has_run answer && has (update_cells update) n then None
+    else old
 
 -- what its answers say; of one that is done, its entry says all the rest
 abbrev pub ScxIsRight : Update → Layout → ℕ → History → History → (ℕ → Option History) → Answer → Type 0

@@ -1,5 +1,5 @@
 -- The rules of `set`.
-use Rattle.std.specs.Prelude.{◌≡◌, ℕ, true, false, cond, eqb, [], ◌∷◌, Option}
+use Rattle.std.specs.Prelude.{◌≡◌, ℕ, true, false, if◌then◌else◌, ◌==◌, [], ◌∷◌, Option}
 use Rattle.arena.specs.declared.layout.Layout.{Layout}
 use Rattle.arena.specs.declared.word.Side.{Side}
 use Rattle.arena.specs.declared.step.Kind.TheVariants.{Freeze}
@@ -26,7 +26,7 @@ SetAfterStep _ = ⊥
 -- a `set` drops the client's snapshot of its cell; one
 -- whose share is too small keeps that of its LLX
 abbrev pub set_linked : ℕ × Side → Answer → History → ℕ → Option History → Option History
-set_linked field answer now n old = cond (eqb field.0 n) (snapshot_of answer now) old
+set_linked field answer now n old = if field.0 == n then snapshot_of answer now else old
 
 -- what its answers say of the cell; of one that is done, its entry says all the rest
 abbrev pub SetIsRight : ℕ × Side → ℕ → Layout → ℕ → History → History → (ℕ → Option History) → Answer → Type 0

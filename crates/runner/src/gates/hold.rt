@@ -1,5 +1,5 @@
 //! A gate at which the first client waits for the second.
-ghost use Rattle.std.specs.Prelude.{◌≡◌, ltb};
+ghost use Rattle.std.specs.Prelude.{◌≡◌, nat_lt};
 ghost use Rattle.runner.specs.Turns.{call_count, held_back};
 
 use crate::answers::{Answers, MOST_LOOKS};
@@ -19,7 +19,7 @@ pub struct Hold {
 impl Hold {
     /// The gate of a script. A call has waited in vain after 1,000,000,000 looks.
     pub fn new(script: &Script) -> Hold
-        ensures holds { result.holds ≡ ltb 0 (call_count script.now.calls.items 1) }
+        ensures holds { result.holds ≡ nat_lt 0 (call_count script.now.calls.items 1) }
         ensures looks { result.answers.most_looks ≡ 1000000000 }
     {
         Hold::with_looks(script, MOST_LOOKS)
@@ -27,7 +27,7 @@ impl Hold {
 
     /// The gate of a script, at which a call has waited in vain after so many looks.
     pub fn with_looks(script: &Script, most_looks: u64) -> Hold
-        ensures holds { result.holds ≡ ltb 0 (call_count script.now.calls.items 1) }
+        ensures holds { result.holds ≡ nat_lt 0 (call_count script.now.calls.items 1) }
         ensures looks { result.answers.most_looks ≡ most_looks }
     {
         let counts = counts(&script.calls);

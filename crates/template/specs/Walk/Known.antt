@@ -1,5 +1,5 @@
 -- When a walk may go on, what it waits for, and what its answer says.
-use Rattle.std.specs.Prelude.{◌≡◌, ℕ, ◌^◌, ◌<◌, Bool, true, false, cond, eqb, Option, Some, None}
+use Rattle.std.specs.Prelude.{◌≡◌, ℕ, ◌^◌, ◌<◌, Bool, true, false, if◌then◌else◌, ◌==◌, Option, Some, None}
 use Rattle.arena.specs.declared.head.Head.{Head as HeadParts}
 use Rattle.arena.specs.declared.machine.Turn.{Turn}
 use Rattle.arena.specs.declared.machine.Turn.TheVariants.{Ask, Done}
@@ -30,8 +30,8 @@ here h m part = value h (node m.trail.node.0 part)
 
 -- whether a walk loads the key of a node with this head: not of a fork where it always goes left
 abbrev pub asks_key : Goal → HeadParts → Bool
-asks_key (ToKey k) head = eqb head.class 0
-asks_key Least head = cond (eqb head.class 0) head.leaf false
+asks_key (ToKey k) head = head.class == 0
+asks_key Least head = if head.class == 0 then head.leaf else false
 
 -- what holds while a walk waits at this place
 abbrev pub WalkKnows : Call → History → WalkRun → WalkAt → Type 0

@@ -1,5 +1,5 @@
 -- The bounds of a delete.
-use Rattle.std.proofs.Common.{◌≡◌, ◌≢◌, ℕ, ◌+◌, ◌<◌, ◌≤◌, Bool, true, false, eqb, cond, List, [], ◌∷◌, length, Option, Some, None, refl, sym, subst, arith}
+use Rattle.std.proofs.Common.{◌≡◌, ◌≢◌, ℕ, ◌+◌, ◌<◌, ◌≤◌, Bool, true, false, ◌==◌, if◌then◌else◌, List, [], ◌∷◌, length, Option, Some, None, refl, sym, subst, arith}
 use Rattle.std.specs.Prelude.{unwrap_or}
 use Rattle.arena.specs.declared.number.NodeNo.{NodeNo}
 use Rattle.arena.specs.declared.word.NodeWord.{NodeWord}
@@ -29,7 +29,7 @@ one_load None = omega arith
 one_load (Some v) = omega arith
 
 -- once the head is loaded: five at most, of a node that is low or not, a leaf or not
-few_loaded : (low leaf : Bool) (k v : Option ℕ) → cond low (load_of k + cond leaf (load_of v) 0) 0 + cond leaf 3 4 < 6
+few_loaded : (low leaf : Bool) (k v : Option ℕ) → (if low then load_of k + (if leaf then load_of v else 0) else 0) + (if leaf then 3 else 4) < 6
 few_loaded true true k v = let a = one_load k in let b = one_load v in omega (arith, a, b)
 few_loaded true false k v = let a = one_load k in omega (arith, a)
 few_loaded false true k v = omega arith
@@ -37,7 +37,7 @@ few_loaded false false k v = omega arith
 
 few_copy : (o k v : Option ℕ) → copy_works o k v ≤ 6
 few_copy None k v = omega arith
-few_copy (Some w) k v = let a = few_loaded (eqb (head_of w).class 0) (head_of w).leaf k v in omega (arith, a)
+few_copy (Some w) k v = let a = few_loaded ((head_of w).class == 0) (head_of w).leaf k v in omega (arith, a)
 
 few_works : (ld : Loaded) (nth : Nth) → delete_works ld nth ≤ delete_means.most_works nth
 few_works ld First = few_copy ld.head ld.key ld.value
@@ -49,9 +49,9 @@ abbrev with_words : Option ℕ → Option ℕ → Option ℕ → Loaded
 with_words o k v = record { head = o; key = k; value = v }
 
 -- a load is one less, of a node that is low or not, a leaf or not; the head stays loaded
-load_less : (low leaf : Bool) (w : ℕ) (k v : Option ℕ) (part : NodeWord) (x : ℕ) → cond low (then_key leaf k v) None ≡ Some part
+load_less : (low leaf : Bool) (w : ℕ) (k v : Option ℕ) (part : NodeWord) (x : ℕ) → (if low then then_key leaf k v else None) ≡ Some part
     → ((with_word (with_words (Some w) k v) part x).head ≡ Some w)
-    × (cond low (load_of (with_word (with_words (Some w) k v) part x).key + cond leaf (load_of (with_word (with_words (Some w) k v) part x).value) 0) 0 + cond leaf 3 4 < cond low (load_of k + cond leaf (load_of v) 0) 0 + cond leaf 3 4)
+    × ((if low then load_of (with_word (with_words (Some w) k v) part x).key + (if leaf then load_of (with_word (with_words (Some w) k v) part x).value else 0) else 0) + (if leaf then 3 else 4) < (if low then load_of k + (if leaf then load_of v else 0) else 0) + (if leaf then 3 else 4))
 load_less false leaf w k v part x e = absurd (let d : None ≡ Some part = e in cc)
 load_less true true w (Some k) (Some v) part x e = absurd (let d : None ≡ Some part = e in cc)
 load_less true false w (Some k) v part x e = absurd (let d : None ≡ Some part = e in cc)
@@ -62,7 +62,7 @@ load_less true true w (Some k) None part x e = go part e
     go q d = absurd (let z = d in cc)
 load_less true leaf w None v part x e = go part e
   where
-    go : (q : NodeWord) → Some Key ≡ Some q → ((with_word (with_words (Some w) None v) q x).head ≡ Some w) × (load_of (with_word (with_words (Some w) None v) q x).key + cond leaf (load_of (with_word (with_words (Some w) None v) q x).value) 0 + cond leaf 3 4 < 1 + cond leaf (load_of v) 0 + cond leaf 3 4)
+    go : (q : NodeWord) → Some Key ≡ Some q → ((with_word (with_words (Some w) None v) q x).head ≡ Some w) × (load_of (with_word (with_words (Some w) None v) q x).key + (if leaf then load_of (with_word (with_words (Some w) None v) q x).value else 0) + (if leaf then 3 else 4) < 1 + (if leaf then load_of v else 0) + (if leaf then 3 else 4))
     go Key d = (refl, omega arith)
     go q d = absurd (let z = d in cc)
 
@@ -70,10 +70,10 @@ load_first : (o k v : Option ℕ) (part : NodeWord) (x : ℕ) → copy_wants o k
 load_first None k v part x e = go part e
   where
     go : (q : NodeWord) → Some Head ≡ Some q → delete_works (with_word (with_words None k v) q x) First < 6
-    go Head d = few_loaded (eqb (head_of x).class 0) (head_of x).leaf k v
+    go Head d = few_loaded ((head_of x).class == 0) (head_of x).leaf k v
     go q d = absurd (let z = d in cc)
 load_first (Some w) k v part x e =
-    let y = load_less (eqb (head_of w).class 0) (head_of w).leaf w k v part x e in
+    let y = load_less ((head_of w).class == 0) (head_of w).leaf w k v part x e in
     let now : Loaded = with_word (with_words (Some w) k v) part x in
     subst (λ (o : Option ℕ). copy_works o now.key now.value < copy_works (Some w) k v) (sym y.0) y.1
 
@@ -82,13 +82,13 @@ load_works ld First part e v = load_first ld.head ld.key ld.value part v e
 load_works ld Second part e v = absurd (let d : None ≡ Some part = e in cc)
 load_works ld Third part e v = absurd (let d : None ≡ Some part = e in cc)
 
-copy_fills : (leaf : Bool) (level class k v loads : ℕ) (x y : NodeNo) → fills_behind (cond leaf (Leaf level class k v) (Fork level class k x y)) Head < loads + cond leaf 3 4
+copy_fills : (leaf : Bool) (level class k v loads : ℕ) (x y : NodeNo) → fills_behind (if leaf then Leaf level class k v else Fork level class k x y) Head < loads + (if leaf then 3 else 4)
 copy_fills true level class k v loads x y = omega arith
 copy_fills false level class k v loads x y = omega arith
 
 fill_first : (s : Snap) (o k v : Option ℕ) → copy_wants o k v ≡ None → fills_behind (sibling_copy s (head_of (unwrap_or o 0)) (with_words o k v)) Head < copy_works o k v
 fill_first s None k v e = absurd (let d : Some Head ≡ None = e in cc)
-fill_first s (Some w) k v e = copy_fills (head_of w).leaf (head_of w).level (head_of w).class (unwrap_or k 0) (unwrap_or v 0) (cond (eqb (head_of w).class 0) (load_of k + cond (head_of w).leaf (load_of v) 0) 0) s.left s.right
+fill_first s (Some w) k v e = copy_fills (head_of w).leaf (head_of w).level (head_of w).class (unwrap_or k 0) (unwrap_or v 0) (if (head_of w).class == 0 then load_of k + (if (head_of w).leaf then load_of v else 0) else 0) s.left s.right
 
 -- no delete needs three nodes
 never_three : (o : Option ℕ) → delete_need o ≢ Three

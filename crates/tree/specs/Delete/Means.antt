@@ -1,5 +1,5 @@
 -- What a delete needs, looks at, loads and fills.
-use Rattle.std.specs.Prelude.{ℕ, ◌+◌, eqb, cond, Bool, List, [], ◌∷◌, Option, Some, None, unwrap_or}
+use Rattle.std.specs.Prelude.{ℕ, ◌+◌, ◌==◌, if◌then◌else◌, Bool, List, [], ◌∷◌, Option, Some, None, unwrap_or}
 use Rattle.arena.specs.declared.head.Head.{Head}
 use Rattle.arena.specs.declared.number.NodeNo.{NodeNo}
 use Rattle.arena.specs.declared.word.NodeWord.{NodeWord}
@@ -31,7 +31,7 @@ delete_need (Some v) = One
 
 -- it goes on to the next node, where the snapshot still shows the child that was found
 abbrev pub past : Snap → Side → NodeNo → NodeNo → Look
-past s side n next = cond (eqb (child_of s side).0 n.0) (At next) (Differs s.node s.scx)
+past s side n next = if (child_of s side).0 == n.0 then At next else Differs s.node s.scx
 
 -- it looks at the fork above the parent, at the parent if that is still its child, and at both
 -- children of the parent if the leaf is still one
@@ -54,12 +54,12 @@ then_value (Some v) = None
 -- the key of a node of class 0, and then a leaf's value, as long as they are not loaded
 abbrev pub then_key : Bool → Option ℕ → Option ℕ → Option NodeWord
 then_key leaf None v = Some KeyWord
-then_key leaf (Some k) v = cond leaf (then_value v) None
+then_key leaf (Some k) v = if leaf then then_value v else None
 
 -- of the sibling it loads the head, and then these
 abbrev pub copy_wants : Option ℕ → Option ℕ → Option ℕ → Option NodeWord
 copy_wants None k v = Some HeadWord
-copy_wants (Some w) k v = cond (eqb (head_of w).class 0) (then_key (head_of w).leaf k v) None
+copy_wants (Some w) k v = if (head_of w).class == 0 then then_key (head_of w).leaf k v else None
 
 -- all before it fills the one node
 abbrev pub delete_wants : Loaded → Nth → Option NodeWord
@@ -68,7 +68,9 @@ delete_wants ld _ = None
 
 -- a copy of the sibling, of which this is the head: a fork has the fields of its snapshot
 abbrev pub sibling_copy : Snap → Head → Loaded → Piece
-sibling_copy s head ld = cond head.leaf (Leaf head.level head.class (unwrap_or ld.key 0) (unwrap_or ld.value 0)) (Fork head.level head.class (unwrap_or ld.key 0) s.left s.right)
+sibling_copy s head ld =
+    if head.leaf then Leaf head.level head.class (unwrap_or ld.key 0) (unwrap_or ld.value 0)
+    else Fork head.level head.class (unwrap_or ld.key 0) s.left s.right
 
 -- that is its one piece
 abbrev pub delete_piece : Found → List Snap → Loaded → Piece
@@ -82,7 +84,9 @@ load_of (Some v) = 0
 -- at most six loads and fills; once the head is loaded so many as its class and kind need
 abbrev pub copy_works : Option ℕ → Option ℕ → Option ℕ → ℕ
 copy_works None k v = 6
-copy_works (Some w) k v = cond (eqb (head_of w).class 0) (load_of k + cond (head_of w).leaf (load_of v) 0) 0 + cond (head_of w).leaf 3 4
+copy_works (Some w) k v =
+    (if (head_of w).class == 0 then load_of k + (if (head_of w).leaf then load_of v else 0) else 0)
+    + (if (head_of w).leaf then 3 else 4)
 
 -- how many loads and fills are left for the fresh node
 abbrev pub delete_works : Loaded → Nth → ℕ

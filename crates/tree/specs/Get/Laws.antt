@@ -7,7 +7,7 @@ use Rattle.arena.specs.Machines.{IsRun, Call, row_of, IsTold}
 use Rattle.arena.specs.TakenNodes.{taken_nodes}
 use Rattle.arena.specs.Lawful.{Lawful}
 use Rattle.prims.specs.Laws.Begun.{takes_by_others, takes_by_step}
-use Rattle.prims.specs.Laws.Idle.{quiet_more}
+use Rattle.prims.specs.Laws.Idle.{quiet_more, idle_if_finished}
 use Rattle.prims.specs.Moments.{AreFinished}
 use Rattle.prims.proofs.Lemmas.{over_more}
 use Rattle.ordered_map.specs.TreeShape.{TreeAllows}
@@ -16,11 +16,10 @@ use Rattle.template.specs.Walk.Laws.{walk_keeps, walk_lawful, walk_made, walk_to
 use Rattle.tree.specs.declared.get.GetRun.{GetRun}
 use Rattle.tree.specs.Get.Known.{GetRests, GetIsReady, GetWaits}
 use Rattle.tree.specs.Get.Steps.{GetFits}
-use Rattle.edits.specs.Laws.Kept.{idle_over}
 
 -- its pass rests on behind one row more, if that takes nothing of its share
 rests_more : (c : Call) (h : History) (r : Row) → Lawful c.layout (r ⊳ h) → AreFinished c.layout c.pass 0 (r ⊳ h) → GetRests c h → GetRests c (r ⊳ h)
-rests_more c h r l over x = record { over = over; quiet = quiet_more c.layout c.pass c.start h r (idle_over c (r ⊳ h) l over) x.quiet }
+rests_more c h r l over x = record { over = over; quiet = quiet_more c.layout c.pass c.start h r (idle_if_finished c (r ⊳ h) l over) x.quiet }
 
 -- rows of other passes leave a get waiting for the same step
 pub get_keeps : (m : GetRun) (c : Call) (h : History) (s : Step) (r : Row) → IsRun TreeAllows c.layout (r ⊳ h) → r.pass.0 ≢ c.pass → GetWaits m c h s → GetWaits m c (r ⊳ h) s

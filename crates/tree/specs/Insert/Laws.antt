@@ -1,5 +1,5 @@
 -- The bounds of an insert.
-use Rattle.std.proofs.Common.{◌≡◌, ℕ, ◌<◌, ◌≤◌, Bool, true, false, eqb, cond, List, [], ◌∷◌, length, Option, Some, None, refl, arith}
+use Rattle.std.proofs.Common.{◌≡◌, ℕ, ◌<◌, ◌≤◌, Bool, true, false, ◌==◌, if◌then◌else◌, List, [], ◌∷◌, length, Option, Some, None, refl, arith}
 use Rattle.arena.specs.declared.number.NodeNo.{NodeNo}
 use Rattle.arena.specs.declared.word.NodeWord.{NodeWord}
 use Rattle.arena.specs.declared.word.NodeWord.TheVariants.{Head, Value}
@@ -21,17 +21,17 @@ few_looks f [] n e = omega arith
 few_looks f (p ∷ []) n e = omega arith
 few_looks f (p ∷ l ∷ snaps) n e = absurd (let d : Enough ≡ At n = e in cc)
 
-most_at_second : (b : Bool) (v : Option ℕ) → cond b (leaf_copy_works v) 3 ≤ 4
+most_at_second : (b : Bool) (v : Option ℕ) → (if b then leaf_copy_works v else 3) ≤ 4
 most_at_second true None = omega arith
 most_at_second true (Some v) = omega arith
 most_at_second false v = omega arith
 
 few_works : (f : Found) (ld : Loaded) (nth : Nth) → insert_works f ld nth ≤ insert_means.most_works nth
 few_works f ld First = omega arith
-few_works f ld Second = most_at_second (eqb f.head.class 0) ld.value
+few_works f ld Second = most_at_second (f.head.class == 0) ld.value
 few_works f ld Third = omega arith
 
-load_at_second : (b : Bool) (old : Option ℕ) (ld : Loaded) (part : NodeWord) (v : ℕ) → ld.value ≡ old → cond b (value_if_none old) None ≡ Some part → cond b (leaf_copy_works (with_word ld part v).value) 3 < cond b (leaf_copy_works old) 3
+load_at_second : (b : Bool) (old : Option ℕ) (ld : Loaded) (part : NodeWord) (v : ℕ) → ld.value ≡ old → (if b then value_if_none old else None) ≡ Some part → (if b then leaf_copy_works (with_word ld part v).value else 3) < (if b then leaf_copy_works old else 3)
 load_at_second false old ld part v is e = absurd (let d : None ≡ Some part = e in cc)
 load_at_second true (Some w) ld part v is e = absurd (let d : None ≡ Some part = e in cc)
 load_at_second true None ld part v is e = go part e
@@ -41,22 +41,22 @@ load_at_second true None ld part v is e = go part e
     go q d = absurd (let z = d in cc)
 
 load_works : (f : Found) (ld : Loaded) (nth : Nth) (part : NodeWord) → insert_wants f ld nth ≡ Some part → (v : ℕ) → insert_works f (with_word ld part v) nth < insert_works f ld nth
-load_works f ld Second part e v = load_at_second (eqb f.head.class 0) ld.value ld part v refl e
+load_works f ld Second part e v = load_at_second (f.head.class == 0) ld.value ld part v refl e
 load_works f ld First part e v = absurd (let d : None ≡ Some part = e in cc)
 load_works f ld Third part e v = absurd (let d : None ≡ Some part = e in cc)
 
-fill_at_second : (b : Bool) (old : Option ℕ) → cond b (value_if_none old) None ≡ None → 2 < cond b (leaf_copy_works old) 3
+fill_at_second : (b : Bool) (old : Option ℕ) → (if b then value_if_none old else None) ≡ None → 2 < (if b then leaf_copy_works old else 3)
 fill_at_second false old e = omega arith
 fill_at_second true (Some w) e = omega arith
 fill_at_second true None e = absurd (let d : Some Value ≡ None = e in cc)
 
-fork_fills : (b : Bool) (level class other key k : ℕ) (x y : NodeNo) → fills_behind (cond b (Fork level class key x y) (Fork level other k y x)) Head < 4
+fork_fills : (b : Bool) (level class other key k : ℕ) (x y : NodeNo) → fills_behind (if b then Fork level class key x y else Fork level other k y x) Head < 4
 fork_fills true level class other key k x y = omega arith
 fork_fills false level class other key k x y = omega arith
 
 fill_works : (e : Insert) (f : Found) (ld : Loaded) (nth : Nth) → insert_wants f ld nth ≡ None → (ns : Nodes) → fills_behind (insert_pieces e.key e.value f ns ld nth) Head < insert_works f ld nth
 fill_works e f ld First d ns = omega arith
-fill_works e f ld Second d ns = fill_at_second (eqb f.head.class 0) ld.value d
+fill_works e f ld Second d ns = fill_at_second (f.head.class == 0) ld.value d
 fill_works e f ld Third d ns = fork_fills (is_below e.key f) f.head.level f.head.class 0 f.key e.key ns.first ns.second
 
 few_nodes : (o : Option ℕ) → many_nodes (insert_need o) ≤ 3

@@ -1,5 +1,5 @@
 -- What an insert needs, looks at, loads and fills.
-use Rattle.std.specs.Prelude.{ℕ, ◌+◌, ◌-◌, ◌^◌, min, ltb, eqb, cond, Bool, true, List, [], ◌∷◌, Option, Some, None, unwrap_or}
+use Rattle.std.specs.Prelude.{ℕ, ◌+◌, ◌-◌, ◌^◌, min, nat_lt, ◌==◌, if◌then◌else◌, Bool, true, List, [], ◌∷◌, Option, Some, None, unwrap_or}
 use Rattle.arena.specs.declared.word.NodeWord.{NodeWord}
 use Rattle.arena.specs.declared.word.NodeWord.TheVariants.{Value}
 use Rattle.prims.specs.declared.snap.Snap.{Snap}
@@ -28,7 +28,9 @@ insert_need (Some v) = One
 -- it looks at the leaf's parent, and then at the leaf if that is still the child
 abbrev pub insert_looks : Found → List Snap → Look
 insert_looks f [] = At f.trail.parent
-insert_looks f (p ∷ []) = cond (eqb (child_of p f.trail.side).0 f.trail.node.0) (At f.trail.node) (Differs p.node p.scx)
+insert_looks f (p ∷ []) =
+    if (child_of p f.trail.side).0 == f.trail.node.0 then At f.trail.node
+    else Differs p.node p.scx
 insert_looks f (p ∷ l ∷ snaps) = Enough
 
 -- the value of the leaf, if that is not loaded
@@ -38,12 +40,12 @@ value_if_none (Some v) = None
 
 -- it loads the value of a leaf of class 0 before it fills the second node
 abbrev pub insert_wants : Found → Loaded → Nth → Option NodeWord
-insert_wants f ld Second = cond (eqb f.head.class 0) (value_if_none ld.value) None
+insert_wants f ld Second = if f.head.class == 0 then value_if_none ld.value else None
 insert_wants f ld _ = None
 
 -- whether the key comes before the leaf
 abbrev pub is_below : ℕ → Found → Bool
-is_below k f = cond (eqb f.head.class 0) (ltb k f.key) true
+is_below k f = if f.head.class == 0 then nat_lt k f.key else true
 
 -- the level below, if a word can hold it
 abbrev pub lower : ℕ → ℕ
@@ -64,7 +66,9 @@ leaf_copy f ld = Leaf (lower f.head.level) f.head.class f.key (unwrap_or ld.valu
 
 -- the fork over both: the leaf that comes first is its left child, and its key is that of the other
 abbrev pub fork_over : ℕ → Found → Nodes → Piece
-fork_over k f ns = cond (is_below k f) (Fork f.head.level f.head.class f.key ns.first ns.second) (Fork f.head.level 0 k ns.second ns.first)
+fork_over k f ns =
+    if is_below k f then Fork f.head.level f.head.class f.key ns.first ns.second
+    else Fork f.head.level 0 k ns.second ns.first
 
 -- a leaf of the key; if that is new a copy of the leaf, and a fork over both
 abbrev pub insert_pieces : ℕ → ℕ → Found → Nodes → Loaded → Nth → Piece
@@ -79,7 +83,7 @@ leaf_copy_works (Some v) = 3
 
 -- how many loads and fills are left for a fresh node
 abbrev pub insert_works : Found → Loaded → Nth → ℕ
-insert_works f ld Second = cond (eqb f.head.class 0) (leaf_copy_works ld.value) 3
+insert_works f ld Second = if f.head.class == 0 then leaf_copy_works ld.value else 3
 insert_works f ld First = 3
 insert_works f ld Third = 4
 

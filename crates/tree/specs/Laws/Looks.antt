@@ -1,5 +1,5 @@
 -- What looks name, and how they go on behind a snapshot.
-use Rattle.std.proofs.Common.{◌≡◌, Bool, true, false, cond, refl, ap}
+use Rattle.std.proofs.Common.{◌≡◌, Bool, true, false, if◌then◌else◌, refl, ap}
 use Rattle.arena.specs.declared.number.NodeNo.{NodeNo}
 use Rattle.arena.specs.declared.number.ScxNo.{ScxNo}
 use Rattle.prims.specs.declared.snap.Snap.{Snap}
@@ -23,16 +23,16 @@ same_node a b e = ap looked_node e
 -- A look that goes on to the next node, if the snapshot shows what it is to show
 
 -- goes on only if it does
-pub goes_on : (b : Bool) (next : NodeNo) (p : Snap) (n : NodeNo) → cond b (At next) (Differs p.node p.scx) ≡ At n → (b ≡ true) × (next ≡ n)
+pub goes_on : (b : Bool) (next : NodeNo) (p : Snap) (n : NodeNo) → (if b then At next else Differs p.node p.scx) ≡ At n → (b ≡ true) × (next ≡ n)
 goes_on true next p n e = (refl, same_node next n e)
 goes_on false next p n e = absurd (let d : Differs p.node p.scx ≡ At n = e in cc)
 
 -- never has enough
-pub not_enough : (b : Bool) (next : NodeNo) (p : Snap) → cond b (At next) (Differs p.node p.scx) ≡ Enough → ⊥
+pub not_enough : (b : Bool) (next : NodeNo) (p : Snap) → (if b then At next else Differs p.node p.scx) ≡ Enough → ⊥
 not_enough true next p e = let d : At next ≡ Enough = e in cc
 not_enough false next p e = let d : Differs p.node p.scx ≡ Enough = e in cc
 
 -- and otherwise names the snapshot's node and SCX-record
-pub is_other : (b : Bool) (next : NodeNo) (p : Snap) (n : NodeNo) (s : ScxNo) → cond b (At next) (Differs p.node p.scx) ≡ Differs n s → (b ≡ false) × (p.node ≡ n) × (p.scx ≡ s)
+pub is_other : (b : Bool) (next : NodeNo) (p : Snap) (n : NodeNo) (s : ScxNo) → (if b then At next else Differs p.node p.scx) ≡ Differs n s → (b ≡ false) × (p.node ≡ n) × (p.scx ≡ s)
 is_other true next p n s e = absurd (let d : At next ≡ Differs n s = e in cc)
 is_other false next p n s e = (refl, ap looked_node e, ap scx_of e)

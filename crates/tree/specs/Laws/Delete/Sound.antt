@@ -1,6 +1,6 @@
 -- What a delete looks at, loads and fills, and that it makes the edit.
-use Rattle.std.proofs.Common.{◌≡◌, ◌≢◌, ℕ, zero, suc, ◌+◌, ◌*◌, ◌/◌, ◌%◌, ◌^◌, ◌<◌, ◌≤◌, ◌⊎◌, inr, ⊎_elim, Bool, true, false, eqb, eqb-true, eq-eqb, ne_eqb, cond, List, [], ◌∷◌, length, Option, Some, None, refl, sym, ◌∙◌, ap, subst, arith}
-use Rattle.std.specs.Prelude.{unwrap_or}
+use Rattle.std.proofs.Common.{◌≡◌, ◌≢◌, ℕ, zero, suc, ◌+◌, ◌*◌, ◌/◌, ◌%◌, ◌^◌, ◌<◌, ◌≤◌, ◌⊎◌, inr, ⊎_elim, Bool, true, false, ◌==◌, eqb-true, eq-eqb, ne_eqb, if◌then◌else◌, List, [], ◌∷◌, length, Option, Some, None, refl, sym, ◌∙◌, ap, subst, arith, IsTrue}
+use Rattle.std.specs.Prelude.{unwrap_or, IsTrue}
 use Rattle.std.proofs.lemmas.Nat.{mul-le}
 use native.Mathlib.Decide.{ℕ_discrete}
 use Rattle.arena.specs.declared.number.NodeNo.{NodeNo}
@@ -38,7 +38,7 @@ use Rattle.template.specs.Promises.{IsPromised, IsSnapOf}
 use Rattle.template.specs.Trails.{HasTurned}
 use Rattle.template.specs.declared.walk.Found.{Found}
 use Rattle.template.specs.declared.walk.Goal.TheVariants.{Key as ToKey}
-use Rattle.template.proofs.Lemmas.{found_below, join_promised, said_some}
+use Rattle.template.proofs.Lemmas.{found_below, join_promised, said_some, opened_if_stood}
 use Rattle.tree.specs.declared.delete.Delete.{Delete}
 use Rattle.tree.specs.Delete.Laws.{delete_bounds}
 use Rattle.tree.specs.Delete.Means.{delete_means, delete_need, delete_looks, delete_wants, delete_piece, sibling_of, sibling_copy, copy_wants, then_key}
@@ -57,7 +57,6 @@ use Rattle.template.specs.Blame.{IsContended, WasNotFinal}
 use Rattle.edits.specs.Known.{IsBelowRoot, ComesBefore, IsNeeded, IsLoaded, HasSnappedAfterWalk, AreSeen, HasLooked, HasFilledAll, IsUpdateFor}
 use Rattle.edits.specs.Laws.Contended.{passed_not_final, shown_not_final, turned_contended}
 use Rattle.edits.specs.Laws.Hand.{IsPieceWord, HoldsWords}
-use Rattle.edits.specs.Laws.Opened.{stood_opened}
 use Rattle.edits.specs.Pieces.{piece_head, plan_over, top_of, word_of}
 use Rattle.edits.specs.Tries.{CoversSnaps}
 use Rattle.edits.specs.Sound.{LooksWell, LoadsWell, FillsWell, MakesWell, EditLaws}
@@ -69,7 +68,7 @@ abbrev IsSettledWord : Option NodeWord → Type 0
 IsSettledWord None = Unit {0}
 IsSettledWord (Some part) = (n : ℕ) → IsSettled (node n part)
 
-key_settled : (low leaf : Bool) (k v : Option ℕ) → IsSettledWord (cond low (then_key leaf k v) None)
+key_settled : (low leaf : Bool) (k v : Option ℕ) → IsSettledWord (if low then then_key leaf k v else None)
 key_settled false leaf k v = tt
 key_settled true leaf None v = λ n. tt
 key_settled true true (Some k) None = λ n. tt
@@ -78,7 +77,7 @@ key_settled true false (Some k) v = tt
 
 copy_settled : (o k v : Option ℕ) → IsSettledWord (copy_wants o k v)
 copy_settled None k v = λ n. tt
-copy_settled (Some w) k v = key_settled (eqb (head_of w).class 0) (head_of w).leaf k v
+copy_settled (Some w) k v = key_settled ((head_of w).class == 0) (head_of w).leaf k v
 
 wants_settled : (ld : Loaded) (nth : Nth) (part : NodeWord) → delete_wants ld nth ≡ Some part → (n : ℕ) → IsSettled (node n part)
 wants_settled ld First part e = subst IsSettledWord e (copy_settled ld.head ld.key ld.value)
@@ -113,11 +112,11 @@ key_there (Some v) d = (v, refl)
 seen_grand : (ed : Delete) (f : Found) (g : Snap) (snaps : List Snap) → AreSeen delete_means ed f (g ∷ snaps) → f.trail.grand ≡ g.node
 seen_grand ed f g snaps x = same_node f.trail.grand g.node (x 0 (omega arith))
 
-seen_parent : (ed : Delete) (f : Found) (g p : Snap) (snaps : List Snap) → AreSeen delete_means ed f (g ∷ p ∷ snaps) → (eqb (child_of g f.trail.grand_side).0 f.trail.parent.0 ≡ true) × (f.trail.parent ≡ p.node)
-seen_parent ed f g p snaps x = goes_on (eqb (child_of g f.trail.grand_side).0 f.trail.parent.0) f.trail.parent g p.node (x 1 (omega arith))
+seen_parent : (ed : Delete) (f : Found) (g p : Snap) (snaps : List Snap) → AreSeen delete_means ed f (g ∷ p ∷ snaps) → IsTrue ((child_of g f.trail.grand_side).0 == f.trail.parent.0) × (f.trail.parent ≡ p.node)
+seen_parent ed f g p snaps x = goes_on ((child_of g f.trail.grand_side).0 == f.trail.parent.0) f.trail.parent g p.node (x 1 (omega arith))
 
-seen_left : (ed : Delete) (f : Found) (g p l : Snap) (snaps : List Snap) → AreSeen delete_means ed f (g ∷ p ∷ l ∷ snaps) → (eqb (child_of p f.trail.side).0 f.trail.node.0 ≡ true) × (p.left ≡ l.node)
-seen_left ed f g p l snaps x = goes_on (eqb (child_of p f.trail.side).0 f.trail.node.0) p.left p l.node (x 2 (omega arith))
+seen_left : (ed : Delete) (f : Found) (g p l : Snap) (snaps : List Snap) → AreSeen delete_means ed f (g ∷ p ∷ l ∷ snaps) → IsTrue ((child_of p f.trail.side).0 == f.trail.node.0) × (p.left ≡ l.node)
+seen_left ed f g p l snaps x = goes_on ((child_of p f.trail.side).0 == f.trail.node.0) p.left p l.node (x 2 (omega arith))
 
 module _ (ed : Delete) (c : Call) (h : History) (f : Found) (run : IsTreeRun c.layout h) (needed : delete_need f.value ≢ Nothing) where
   there : (old : ℕ) × (f.value ≡ Some old)
@@ -152,9 +151,9 @@ module _ (ed : Delete) (c : Call) (h : History) (f : Found) (run : IsTreeRun c.l
   looks_stood [] n x e = let t = grand_turned h run x.found in subst (λ (k : NodeNo). WasInTree h k.0) (same_node f.trail.grand n e) (was_passed h t.passed.first ed.key f.trail.grand.0 t.passed.passed)
   looks_stood (g ∷ []) n x e =
       let t = parent_turned h run x.found in
-      subst (λ (k : NodeNo). WasInTree h k.0) (goes_on (eqb (child_of g f.trail.grand_side).0 f.trail.parent.0) f.trail.parent g n e).1 (was_passed h t.passed.first ed.key f.trail.parent.0 t.passed.passed)
+      subst (λ (k : NodeNo). WasInTree h k.0) (goes_on ((child_of g f.trail.grand_side).0 == f.trail.parent.0) f.trail.parent g n e).1 (was_passed h t.passed.first ed.key f.trail.parent.0 t.passed.passed)
   looks_stood (g ∷ p ∷ []) n x e =
-      subst (λ (k : NodeNo). WasInTree h k.0) (goes_on (eqb (child_of p f.trail.side).0 f.trail.node.0) p.left p n e).1
+      subst (λ (k : NodeNo). WasInTree h k.0) (goes_on ((child_of p f.trail.side).0 == f.trail.node.0) p.left p n e).1
       (below_parent p (x.usable 1 (omega arith)) (same_no f.trail.parent p.node (seen_parent ed f g p [] x.seen).1) Left)
   looks_stood (g ∷ p ∷ l ∷ []) n x e =
       subst (λ (k : NodeNo). WasInTree h k.0) (same_node p.right n e)
@@ -165,28 +164,28 @@ module _ (ed : Delete) (c : Call) (h : History) (f : Found) (run : IsTreeRun c.l
   looks_not_final : (snaps : List Snap) (n : NodeNo) → HasLooked delete_means c h ed f snaps → delete_looks f snaps ≡ At n → WasNotFinal c h n.0
   looks_not_final [] n x e = subst (λ (k : NodeNo). WasNotFinal c h k.0) (same_node f.trail.grand n e) (passed_not_final c h ed.key f.trail.grand.0 run (grand_turned h run x.found).passed)
   looks_not_final (g ∷ []) n x e =
-      subst (λ (k : NodeNo). WasNotFinal c h k.0) (goes_on (eqb (child_of g f.trail.grand_side).0 f.trail.parent.0) f.trail.parent g n e).1
+      subst (λ (k : NodeNo). WasNotFinal c h k.0) (goes_on ((child_of g f.trail.grand_side).0 == f.trail.parent.0) f.trail.parent g n e).1
       (passed_not_final c h ed.key f.trail.parent.0 run (parent_turned h run x.found).passed)
   looks_not_final (g ∷ p ∷ []) n x e =
-      subst (λ (k : NodeNo). WasNotFinal c h k.0) (goes_on (eqb (child_of p f.trail.side).0 f.trail.node.0) p.left p n e).1
+      subst (λ (k : NodeNo). WasNotFinal c h k.0) (goes_on ((child_of p f.trail.side).0 == f.trail.node.0) p.left p n e).1
       (not_final_below p (x.usable 1 (omega arith)) (same_no f.trail.parent p.node (seen_parent ed f g p [] x.seen).1) Left)
   looks_not_final (g ∷ p ∷ l ∷ []) n x e =
       subst (λ (k : NodeNo). WasNotFinal c h k.0) (same_node p.right n e)
       (not_final_below p (x.usable 1 (omega arith)) (same_no f.trail.parent p.node (seen_parent ed f g p (l ∷ []) x.seen).1) Right)
   looks_not_final (g ∷ p ∷ l ∷ r ∷ snaps) n x e = absurd (let d : Enough ≡ At n = e in cc)
 
-  other_child : (a b : ℕ) → eqb a b ≡ false → a ≢ b
+  other_child : (a b : ℕ) → (a == b) ≡ false → a ≢ b
   other_child a b e q = let d : false ≡ true = sym e ∙ eq-eqb a b q in cc
 
   -- where one of the two forks has another child, its last SCX-record was in the way
   looks_differ : (snaps : List Snap) (n : NodeNo) (s : ScxNo) → HasLooked delete_means c h ed f snaps → delete_looks f snaps ≡ Differs n s → IsQuietSince c.layout c.pass c.start h → IsContended c h n.0 s.0
   looks_differ [] n s x e quiet = absurd (let d : At f.trail.grand ≡ Differs n s = e in cc)
   looks_differ (g ∷ []) n s x e quiet =
-      let o = is_other (eqb (child_of g f.trail.grand_side).0 f.trail.parent.0) f.trail.parent g n s e in
+      let o = is_other ((child_of g f.trail.grand_side).0 == f.trail.parent.0) f.trail.parent g n s e in
       let u : HasSnappedAfterWalk c h (ToKey ed.key) f g = x.usable 0 (omega arith) in
       rw (sym o.1, sym o.2) (turned_contended c h ed.key f g f.trail.grand_side f.trail.parent.0 run quiet u (grand_snap g u (same_no f.trail.grand g.node (seen_grand ed f g [] x.seen))) (other_child (child_of g f.trail.grand_side).0 f.trail.parent.0 o.0))
   looks_differ (g ∷ p ∷ []) n s x e quiet =
-      let o = is_other (eqb (child_of p f.trail.side).0 f.trail.node.0) p.left p n s e in
+      let o = is_other ((child_of p f.trail.side).0 == f.trail.node.0) p.left p n s e in
       let u : HasSnappedAfterWalk c h (ToKey ed.key) f p = x.usable 1 (omega arith) in
       rw (sym o.1, sym o.2) (turned_contended c h ed.key f p f.trail.side f.trail.node.0 run quiet u (parent_snap p u (same_no f.trail.parent p.node (seen_parent ed f g p [] x.seen).1)) (other_child (child_of p f.trail.side).0 f.trail.node.0 o.0))
   looks_differ (g ∷ p ∷ l ∷ []) n s x e quiet = absurd (let d : At p.right ≡ Differs n s = e in cc)
@@ -205,8 +204,8 @@ pub record HasFour (f : Found) (snaps : List Snap) : Type 0 where
 
 pub has_four : (ed : Delete) (f : Found) (snaps : List Snap) → delete_looks f snaps ≡ Enough → AreSeen delete_means ed f snaps → HasFour f snaps
 has_four ed f [] e x = absurd (let d : At f.trail.grand ≡ Enough = e in cc)
-has_four ed f (g ∷ []) e x = absurd (not_enough (eqb (child_of g f.trail.grand_side).0 f.trail.parent.0) f.trail.parent g e)
-has_four ed f (g ∷ p ∷ []) e x = absurd (not_enough (eqb (child_of p f.trail.side).0 f.trail.node.0) p.left p e)
+has_four ed f (g ∷ []) e x = absurd (not_enough ((child_of g f.trail.grand_side).0 == f.trail.parent.0) f.trail.parent g e)
+has_four ed f (g ∷ p ∷ []) e x = absurd (not_enough ((child_of p f.trail.side).0 == f.trail.node.0) p.left p e)
 has_four ed f (g ∷ p ∷ l ∷ []) e x = absurd (let d : At p.right ≡ Enough = e in cc)
 has_four ed f (g ∷ p ∷ l ∷ r ∷ []) e x = record {
   four = refl;
@@ -263,14 +262,14 @@ sibling_below ed c h f snaps run d four x = go f.trail.side
 delete_copied : (ed : Delete) (c : Call) (h : History) (f : Found) (snaps : List Snap) → IsTreeRun c.layout h → delete_need f.value ≢ Nothing → HasLooked delete_means c h ed f snaps → delete_looks f snaps ≡ Enough → IsNamed c.layout h (sibling_of f snaps).node.0 × IsBelowRoot c.layout (sibling_of f snaps).node.0
 delete_copied ed c h f snaps run d x enough =
     let four : HasFour f snaps = has_four ed f snaps enough x.seen in
-    let o : IsOpened c.layout h (sibling_of f snaps).node.0 = stood_opened c.layout h (sibling_of f snaps).node.0 run (sibling_stood ed c h f snaps run d four x) in
+    let o : IsOpened c.layout h (sibling_of f snaps).node.0 = opened_if_stood c.layout h (sibling_of f snaps).node.0 run (sibling_stood ed c h f snaps run d four x) in
     (in_field_named (sibling_of f snaps).node.0 o.in_field, (sibling_below ed c h f snaps run d four x, o.inside))
 
 -- an LLX may look at the four nodes, which were not final, the sibling may be copied, and where one
 -- of the two forks has another child its last SCX-record was in the way
 pub delete_look : LooksWell delete_means
 delete_look = record {
-  opens = λ e c h f snaps n run d x at. stood_opened c.layout h n.0 run (looks_stood e c h f run d snaps n x at);
+  opens = λ e c h f snaps n run d x at. opened_if_stood c.layout h n.0 run (looks_stood e c h f run d snaps n x at);
   stood = λ e c h f snaps n run d x at. looks_not_final e c h f run d snaps n x at;
   differs = λ e c h f snaps n s run d x at quiet. looks_differ e c h f run d snaps n s x at quiet;
   copied = λ e c h f snaps run d x enough. delete_copied e c h f snaps run d x enough;
@@ -334,7 +333,7 @@ some_need : (need : Need) (nth : Nth) → IsNeeded need nth → need ≢ Nothing
 some_need need nth x e = subst (λ q. IsNeeded q nth) e x
 
 -- the fields of a copied fork are those of the snapshot
-pub copy_fields : (leaf : Bool) (level class k v : ℕ) (s : Snap) (side : Side) → IsPieceWord (cond leaf (Leaf level class k v) (Fork level class k s.left s.right)) (Child side) → (child_of s side).0 ≡ word_of (cond leaf (Leaf level class k v) (Fork level class k s.left s.right)) (Child side)
+pub copy_fields : (leaf : Bool) (level class k v : ℕ) (s : Snap) (side : Side) → IsPieceWord (if leaf then Leaf level class k v else Fork level class k s.left s.right) (Child side) → (child_of s side).0 ≡ word_of (if leaf then Leaf level class k v else Fork level class k s.left s.right) (Child side)
 copy_fields true level class k v s side p = absurd p
 copy_fields false level class k v s Left p = refl
 copy_fields false level class k v s Right p = refl
@@ -359,13 +358,13 @@ loaded_head None k v w e is = absurd (let d : Some Head ≡ None = e in cc)
 loaded_head (Some z) k v w e is = ap Some is
 
 -- so is the key of a low node
-low_key : (low leaf : Bool) (k v : Option ℕ) (w : ℕ) → cond low (then_key leaf k v) None ≡ None → low ≡ true → IsLoaded k w → unwrap_or k 0 ≡ w
+low_key : (low leaf : Bool) (k v : Option ℕ) (w : ℕ) → (if low then then_key leaf k v else None) ≡ None → low ≡ true → IsLoaded k w → unwrap_or k 0 ≡ w
 low_key true leaf (Some z) v w e t is = is
 low_key true leaf None v w e t is = absurd (let d : Some Key ≡ None = e in cc)
 low_key false leaf k v w e t is = absurd (let d : false ≡ true = t in cc)
 
 -- and the value of a low leaf
-low_value : (low leaf : Bool) (k v : Option ℕ) (w : ℕ) → cond low (then_key leaf k v) None ≡ None → low ≡ true → leaf ≡ true → IsLoaded v w → unwrap_or v 0 ≡ w
+low_value : (low leaf : Bool) (k v : Option ℕ) (w : ℕ) → (if low then then_key leaf k v else None) ≡ None → low ≡ true → leaf ≡ true → IsLoaded v w → unwrap_or v 0 ≡ w
 low_value true true (Some z) (Some y) w e t l is = is
 low_value true true (Some z) None w e t l is = absurd (let d : Some Value ≡ None = e in cc)
 low_value true true None v w e t l is = absurd (let d : Some Key ≡ None = e in cc)
@@ -378,18 +377,18 @@ blank_word (Some z) w is e = is ∙ e
 blank_word None w is e = refl
 
 -- the word of a head that was read is that word
-bit_back : (b : ℕ) → b < 2 → bit (eqb b 1) ≡ b
+bit_back : (b : ℕ) → b < 2 → bit (b == 1) ≡ b
 bit_back b few = go (ℕ_discrete b 1)
   where
-    go : Dec (b ≡ 1) → bit (eqb b 1) ≡ b
+    go : Dec (b ≡ 1) → bit (b == 1) ≡ b
     go (yes e) = rw e refl
     go (no d) = rw (ne_eqb b 1 d) (omega (arith, few, d))
 
-head_back : (w : ℕ) → w / 8 < 2 ^ 61 → piece_head (w / 8) (eqb (w / 4 % 2) 1) (w % 4) ≡ w
-head_back w fits = head_is (w / 8) (w % 4) (eqb (w / 4 % 2) 1) fits (omega arith) ∙ whole
+head_back : (w : ℕ) → w / 8 < 2 ^ 61 → piece_head (w / 8) (w / 4 % 2 == 1) (w % 4) ≡ w
+head_back w fits = head_is (w / 8) (w % 4) (w / 4 % 2 == 1) fits (omega arith) ∙ whole
   where
     whole : head_word (head_of w) ≡ w
-    whole = let b : bit (eqb (w / 4 % 2) 1) ≡ w / 4 % 2 = bit_back (w / 4 % 2) (omega arith) in omega (arith, b)
+    whole = let b : bit (w / 4 % 2 == 1) ≡ w / 4 % 2 = bit_back (w / 4 % 2) (omega arith) in omega (arith, b)
 
 -- what a copy holds that is filled
 record HoldsCopy (h : History) (n : ℕ) (leaf : Bool) (level class k v : ℕ) (s : Snap) : Type 0 where
@@ -398,7 +397,7 @@ record HoldsCopy (h : History) (n : ℕ) (leaf : Bool) (level class k v : ℕ) (
   leaf_value : leaf ≡ true → value h (node n Value) ≡ v
   fields : leaf ≡ false → (side : Side) → value h (child n side) ≡ (child_of s side).0
 
-copy_holds : (leaf : Bool) (h : History) (n level class k v : ℕ) (s : Snap) → HoldsWords h n (cond leaf (Leaf level class k v) (Fork level class k s.left s.right)) (IsPieceWord (cond leaf (Leaf level class k v) (Fork level class k s.left s.right))) → HoldsCopy h n leaf level class k v s
+copy_holds : (leaf : Bool) (h : History) (n level class k v : ℕ) (s : Snap) → HoldsWords h n (if leaf then Leaf level class k v else Fork level class k s.left s.right) (IsPieceWord (if leaf then Leaf level class k v else Fork level class k s.left s.right)) → HoldsCopy h n leaf level class k v s
 copy_holds true h n level class k v s w = record { head = w Head tt; key = w Key tt; leaf_value = λ e. w Value tt; fields = λ e side. absurd (let d : true ≡ false = e in cc) }
 copy_holds false h n level class k v s w = record { head = w Head tt; key = w Key tt; leaf_value = λ e. absurd (let d : false ≡ true = e in cc); fields = λ e side. go side }
   where
@@ -455,9 +454,9 @@ module _ (ed : Delete) (c : Call) (h : History) (f : Found) (snaps : List Snap) 
   copy = record {
     fresh = (x.holds First one).fresh;
     head = held_words.head ∙ head_back w fits;
-    key_low = λ low. held_words.key ∙ low_key (eqb (head_of w).class 0) (head_of w).leaf ld.key ld.value (value h (node sibling.node.0 Key)) all_loaded (eq-eqb (head_of w).class 0 low) x.loaded.key;
+    key_low = λ low. held_words.key ∙ low_key ((head_of w).class == 0) (head_of w).leaf ld.key ld.value (value h (node sibling.node.0 Key)) all_loaded (eq-eqb (head_of w).class 0 low) x.loaded.key;
     key_high = λ high. held_words.key ∙ blank_word ld.key (value h (node sibling.node.0 Key)) x.loaded.key (blank.key high);
-    value_low = λ leaf low. held_words.leaf_value leaf ∙ low_value (eqb (head_of w).class 0) (head_of w).leaf ld.key ld.value (value h (node sibling.node.0 Value)) all_loaded (eq-eqb (head_of w).class 0 low) leaf x.loaded.value;
+    value_low = λ leaf low. held_words.leaf_value leaf ∙ low_value ((head_of w).class == 0) (head_of w).leaf ld.key ld.value (value h (node sibling.node.0 Value)) all_loaded (eq-eqb (head_of w).class 0 low) leaf x.loaded.value;
     value_high = λ leaf high. held_words.leaf_value leaf ∙ blank_word ld.value (value h (node sibling.node.0 Value)) x.loaded.value (blank.value high leaf);
     fields = λ fork side. held_words.fields fork side;
   }

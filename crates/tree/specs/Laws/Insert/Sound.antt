@@ -1,6 +1,6 @@
 -- What an insert looks at, loads and fills, and that it makes the edit.
-use Rattle.std.proofs.Common.{◌≡◌, ◌≢◌, ℕ, ◌+◌, ◌-◌, ◌%◌, ◌^◌, ◌<◌, ◌⊎◌, inl, inr, Bool, true, false, eqb, eqb-true, eq-eqb, cond, List, [], ◌∷◌, length, Option, Some, None, refl, sym, ◌∙◌, ap, subst, arith}
-use Rattle.std.specs.Prelude.{min, unwrap_or}
+use Rattle.std.proofs.Common.{◌≡◌, ◌≢◌, ℕ, ◌+◌, ◌-◌, ◌%◌, ◌^◌, ◌<◌, ◌⊎◌, inl, inr, Bool, true, false, ◌==◌, eqb-true, eq-eqb, if◌then◌else◌, List, [], ◌∷◌, length, Option, Some, None, refl, sym, ◌∙◌, ap, subst, arith, IsTrue}
+use Rattle.std.specs.Prelude.{min, unwrap_or, IsTrue}
 use native.Mathlib.Decide.{ℕ_discrete}
 use Rattle.arena.specs.declared.number.NodeNo.{NodeNo}
 use Rattle.arena.specs.declared.number.ScxNo.{ScxNo}
@@ -56,9 +56,9 @@ use Rattle.edits.specs.Sound.{LooksWell, LoadsWell, FillsWell, MakesWell, EditLa
 wants_value : (f : Found) (ld : Loaded) (nth : Nth) (part : NodeWord) → insert_wants f ld nth ≡ Some part → (Value ≡ part) × (nth ≡ Second)
 wants_value f ld First part e = absurd (let d : None ≡ Some part = e in cc)
 wants_value f ld Third part e = absurd (let d : None ≡ Some part = e in cc)
-wants_value f ld Second part e = (go (eqb f.head.class 0) ld.value e, refl)
+wants_value f ld Second part e = (go (f.head.class == 0) ld.value e, refl)
   where
-    go : (b : Bool) (old : Option ℕ) → cond b (value_if_none old) None ≡ Some part → Value ≡ part
+    go : (b : Bool) (old : Option ℕ) → (if b then value_if_none old else None) ≡ Some part → Value ≡ part
     go false old d = absurd (let z : None ≡ Some part = d in cc)
     go true (Some v) d = absurd (let z : None ≡ Some part = d in cc)
     go true None d = let z : Some Value ≡ Some part = d in ap (λ (o : Option NodeWord). unwrap_or o Value) z
@@ -91,7 +91,7 @@ insert_loads = record {
 -- it looks at the leaf's parent or at the leaf
 looks_at : (f : Found) (snaps : List Snap) (n : NodeNo) → insert_looks f snaps ≡ At n → (f.trail.parent ≡ n) ⊎ (f.trail.node ≡ n)
 looks_at f [] n e = inl (same_node f.trail.parent n e)
-looks_at f (p ∷ []) n e = inr (goes_on (eqb (child_of p f.trail.side).0 f.trail.node.0) f.trail.node p n e).1
+looks_at f (p ∷ []) n e = inr (goes_on ((child_of p f.trail.side).0 == f.trail.node.0) f.trail.node p n e).1
 looks_at f (p ∷ l ∷ snaps) n e = absurd (let d : Enough ≡ At n = e in cc)
 
 insert_opens : (ed : Insert) (c : Call) (h : History) (f : Found) (snaps : List Snap) (n : NodeNo) → IsTreeRun c.layout h → HasLooked insert_means c h ed f snaps → insert_looks f snaps ≡ At n → IsOpened c.layout h n.0
@@ -115,8 +115,8 @@ insert_differs ed c h f [] n s run x e quiet = absurd (let d : At f.trail.parent
 insert_differs ed c h f (p ∷ l ∷ snaps) n s run x e quiet = absurd (let d : Enough ≡ Differs n s = e in cc)
 insert_differs ed c h f (p ∷ []) n s run x e quiet = rw (sym other.1, sym other.2) (turned_contended c h ed.key f p f.trail.side f.trail.node.0 run quiet snapped turned apart)
   where
-    other : (eqb (child_of p f.trail.side).0 f.trail.node.0 ≡ false) × (p.node ≡ n) × (p.scx ≡ s)
-    other = is_other (eqb (child_of p f.trail.side).0 f.trail.node.0) f.trail.node p n s e
+    other : (((child_of p f.trail.side).0 == f.trail.node.0) ≡ false) × (p.node ≡ n) × (p.scx ≡ s)
+    other = is_other ((child_of p f.trail.side).0 == f.trail.node.0) f.trail.node p n s e
 
     parent : f.trail.parent ≡ p.node
     parent = same_node f.trail.parent p.node (x.seen 0 (omega arith))
@@ -151,10 +151,10 @@ record HasBoth (f : Found) (snaps : List Snap) : Type 0 where
 
 has_both : (ed : Insert) (f : Found) (snaps : List Snap) → insert_looks f snaps ≡ Enough → AreSeen insert_means ed f snaps → HasBoth f snaps
 has_both ed f [] e x = absurd (let d : At f.trail.parent ≡ Enough = e in cc)
-has_both ed f (p ∷ []) e x = absurd (not_enough (eqb (child_of p f.trail.side).0 f.trail.node.0) f.trail.node p e)
+has_both ed f (p ∷ []) e x = absurd (not_enough ((child_of p f.trail.side).0 == f.trail.node.0) f.trail.node p e)
 has_both ed f (p ∷ l ∷ []) e x =
     let parent : f.trail.parent ≡ p.node = same_node f.trail.parent p.node (x 0 (omega arith)) in
-    let leaf : (eqb (child_of p f.trail.side).0 f.trail.node.0 ≡ true) × (f.trail.node ≡ l.node) = goes_on (eqb (child_of p f.trail.side).0 f.trail.node.0) f.trail.node p l.node (x 1 (omega arith)) in
+    let leaf : IsTrue ((child_of p f.trail.side).0 == f.trail.node.0) × (f.trail.node ≡ l.node) = goes_on ((child_of p f.trail.side).0 == f.trail.node.0) f.trail.node p l.node (x 1 (omega arith)) in
     record {
       two = refl;
       parent = ap (λ (n : NodeNo). n.0) (sym parent);
@@ -194,8 +194,8 @@ insert_distinct ed c h f snaps run x enough i j p q d e = go (two_places i j (rw
 
 -- What it fills
 
-both_before : (b : Bool) (level class other key k : ℕ) (ns : Nodes) (side : Side) → IsPieceWord (cond b (Fork level class key ns.first ns.second) (Fork level other k ns.second ns.first)) (Child side)
-    → (i : Nth) × ComesBefore i Third × (word_of (cond b (Fork level class key ns.first ns.second) (Fork level other k ns.second ns.first)) (Child side) ≡ (nth_node ns i).0)
+both_before : (b : Bool) (level class other key k : ℕ) (ns : Nodes) (side : Side) → IsPieceWord (if b then Fork level class key ns.first ns.second else Fork level other k ns.second ns.first) (Child side)
+    → (i : Nth) × ComesBefore i Third × (word_of (if b then Fork level class key ns.first ns.second else Fork level other k ns.second ns.first) (Child side) ≡ (nth_node ns i).0)
 both_before true level class other key k ns Left p = (First, tt, refl)
 both_before true level class other key k ns Right p = (Second, tt, refl)
 both_before false level class other key k ns Left p = (Second, tt, refl)
@@ -236,8 +236,8 @@ fork_with : (h : History) (n level class k : ℕ) (x y : NodeNo) → level < 2 ^
 fork_with h n level class k x y deep small w = record { head = w Head tt ∙ head_is level class false deep small; key = w Key tt; left = w (Child Left) tt; right = w (Child Right) tt }
 
 fork_over_both : (b : Bool) (h : History) (n level class key k : ℕ) (x y : NodeNo) → level < 2 ^ 61 → class < 4
-    → HoldsWords h n (cond b (Fork level class key x y) (Fork level 0 k y x)) (IsPieceWord (cond b (Fork level class key x y) (Fork level 0 k y x)))
-    → IsForkWith (value h) n level (cond b class 0) (cond b key k) (cond b x.0 y.0) (cond b y.0 x.0)
+    → HoldsWords h n (if b then Fork level class key x y else Fork level 0 k y x) (IsPieceWord (if b then Fork level class key x y else Fork level 0 k y x))
+    → IsForkWith (value h) n level (if b then class else 0) (if b then key else k) (if b then x.0 else y.0) (if b then y.0 else x.0)
 fork_over_both true h n level class key k x y deep small w = fork_with h n level class key x y deep small w
 fork_over_both false h n level class key k x y deep small w = fork_with h n level 0 k y x deep (omega arith) w
 
@@ -277,7 +277,7 @@ module _ (ed : Insert) (c : Call) (h : History) (f : Found) (snaps : List Snap) 
   }
 
   -- a new key: the fork, over its leaf and the copy of the other
-  copied_value : (o : Option ℕ) (b : Bool) (v : ℕ) → IsLoaded o v → cond b (value_if_none o) None ≡ None → b ≡ true → unwrap_or o 0 ≡ v
+  copied_value : (o : Option ℕ) (b : Bool) (v : ℕ) → IsLoaded o v → (if b then value_if_none o else None) ≡ None → b ≡ true → unwrap_or o 0 ≡ v
   copied_value (Some w) b v is none e = is
   copied_value None true v is none e = absurd (let d : Some Value ≡ None = none in cc)
   copied_value None false v is none e = absurd (let d : false ≡ true = e in cc)
@@ -294,7 +294,7 @@ module _ (ed : Insert) (c : Call) (h : History) (f : Found) (snaps : List Snap) 
     leaf = leaf_with h ns.first.0 (f.head.level + 1) 0 ed.key ed.value deep (omega arith) (leaf_at h ns.first.0 (leaf_level f f.value) (f.head.level + 1) 0 ed.key ed.value (ap (λ (o : Option ℕ). leaf_level f o) e ∙ below) (x.holds First one).words);
     copied = unwrap_or ld.value 0;
     copy = leaf_with h ns.second.0 (f.head.level + 1) f.head.class f.key (unwrap_or ld.value 0) deep small (leaf_at h ns.second.0 (lower f.head.level) (f.head.level + 1) f.head.class f.key (unwrap_or ld.value 0) below (x.holds Second two).words);
-    copied_low = λ low. copied_value ld.value (eqb f.head.class 0) (value h (node f.trail.node.0 Value)) x.loaded.value (x.done Second two) (eq-eqb f.head.class 0 low);
+    copied_low = λ low. copied_value ld.value (f.head.class == 0) (value h (node f.trail.node.0 Value)) x.loaded.value (x.done Second two) (eq-eqb f.head.class 0 low);
     copied_high = λ high. no_value ld.value (value h (node f.trail.node.0 Value)) x.loaded.value (found_no_value ed.key c h f run found high);
     fork = fork_over_both (is_below ed.key f) h ns.third.0 f.head.level f.head.class f.key ed.key ns.first ns.second (let a = deep in omega (arith, a)) small (x.holds Third three).words;
   }

@@ -1,4 +1,4 @@
-use Rattle.edits.specs.Laws.HandScx.{from}
+use Rattle.arena.specs.Machines.{begun_at}
 use Rattle.edits.proofs.GoingOn.{still_nearer}
 use Rattle.arena.specs.declared.machine.Turn.TheVariants.{Done}
 use Rattle.std.proofs.Common.{sym, ◌∙◌, ap}
@@ -22,13 +22,13 @@ pub returns-in-Done-Fail-clause-nearer : goal.returns-in-Done-Fail-clause-nearer
 returns-in-Done-Fail-clause-nearer g c nodes = below c.lost-in-Done-Fail.result _ _ _ (c.lost-in-Done-Fail.ensures.nearer nodes) (to_tries _ _)
 
 pub returns-in-Ask-clause-turn : goal.returns-in-Ask-clause-turn
-returns-in-Ask-clause-turn g c d b begin h run try x ready = (b, try, tt, looks_on g.E.Edit.means c.args.self.now c.args.llx c.next.new.self c.args.found begin (from d b) h c.next.result x c.next.ensures.same (c.next.ensures.turn (from (from d b) begin) h run ready) c.in-Ask.step c.in-Ask.is)
+returns-in-Ask-clause-turn g c d b begin h run try x ready = (b, try, tt, looks_on g.E.Edit.means c.args.self.now c.args.llx c.next.new.self c.args.found begin (begun_at d b) h c.next.result x c.next.ensures.same (c.next.ensures.turn (begun_at (begun_at d b) begin) h run ready) c.in-Ask.step c.in-Ask.is)
 
 pub returns-in-Done-Snapshot-clause-turn : goal.returns-in-Done-Snapshot-clause-turn
 returns-in-Done-Snapshot-clause-turn g c d b begin h run try x ready =
-    let w = c.next.ensures.turn (from (from d b) begin) h run ready in
-    let s = snapped g.E.Edit.means c.args.self.now c.args.llx c.next.new.self c.args.found begin (from d b) h c.next.result x c.next.ensures.same w c.in-Done-Snapshot.snap (c.in-Done-Snapshot.is ∙ ap (λ a. Done a) c.in-Done-Snapshot.field-0-is) in
-    c.go_on.ensures.turn d h run (c.looked-next.ensures.turn d b h run try (can_look g.E.Edit.means c.args.self.now c.args.llx c.next.new.self c.args.found begin (from d b) h c.next.result x c.next.ensures.same w)
+    let w = c.next.ensures.turn (begun_at (begun_at d b) begin) h run ready in
+    let s = snapped g.E.Edit.means c.args.self.now c.args.llx c.next.new.self c.args.found begin (begun_at d b) h c.next.result x c.next.ensures.same w c.in-Done-Snapshot.snap (c.in-Done-Snapshot.is ∙ ap (λ a. Done a) c.in-Done-Snapshot.field-0-is) in
+    c.go_on.ensures.turn d h run (c.looked-next.ensures.turn d b h run try (can_look g.E.Edit.means c.args.self.now c.args.llx c.next.new.self c.args.found begin (begun_at d b) h c.next.result x c.next.ensures.same w)
     (rw (← c.in-Done-Snapshot.snap-is) at s.0) (rw (← c.in-Done-Snapshot.snap-is) at s.1) (rw (← c.in-Done-Snapshot.snap-is) at s.2))
 
 pub returns-in-Done-Snapshot-clause-spends : goal.returns-in-Done-Snapshot-clause-spends
@@ -36,18 +36,18 @@ returns-in-Done-Snapshot-clause-spends g c = c.go_on.ensures.spends c.args.self.
 
 pub returns-in-Done-Finalized-clause-turn : goal.returns-in-Done-Finalized-clause-turn
 returns-in-Done-Finalized-clause-turn g c d b begin h run try x ready =
-    let w = c.next.ensures.turn (from (from d b) begin) h run ready in
-    let can = can_look g.E.Edit.means c.args.self.now c.args.llx c.next.new.self c.args.found begin (from d b) h c.next.result x c.next.ensures.same w in
-    let way = look_finalized g.E.Edit.means g.met.E.Edit.laws.looks c.args.self.now.edit (from d b) h c.args.found c.args.self.now.snaps.items x.run (is_needed g.E.Edit.means c.args.self.now (from d b) h c.args.found can) x.looked c.next.new.self begin x.since (x.named ∙ ap At (sym c.next.ensures.same)) c.in-Done-Finalized.node c.in-Done-Finalized.scx x.quiet
+    let w = c.next.ensures.turn (begun_at (begun_at d b) begin) h run ready in
+    let can = can_look g.E.Edit.means c.args.self.now c.args.llx c.next.new.self c.args.found begin (begun_at d b) h c.next.result x c.next.ensures.same w in
+    let way = look_finalized g.E.Edit.means g.met.E.Edit.laws.looks c.args.self.now.edit (begun_at d b) h c.args.found c.args.self.now.snaps.items x.run (is_needed g.E.Edit.means c.args.self.now (begun_at d b) h c.args.found can) x.looked c.next.new.self begin x.since (x.named ∙ ap At (sym c.next.ensures.same)) c.in-Done-Finalized.node c.in-Done-Finalized.scx x.quiet
     (rw (c.in-Done-Finalized.is ∙ ap (λ a. Done a) c.in-Done-Finalized.field-0-is) at w) in
     let t = look_lost g.E.Edit.means c.args.self.now d b h c.in-Done-Finalized.node.0 c.in-Done-Finalized.scx.0 try can.begins can.quiet way in
     c.lost.ensures.turn d h run t.0 (rw (← c.in-Done-Finalized.node-is, ← c.in-Done-Finalized.scx-is) at t.1)
 
 pub returns-in-Done-Fail-clause-turn : goal.returns-in-Done-Fail-clause-turn
 returns-in-Done-Fail-clause-turn g c d b begin h run try x ready =
-    let w = c.next.ensures.turn (from (from d b) begin) h run ready in
-    let can = can_look g.E.Edit.means c.args.self.now c.args.llx c.next.new.self c.args.found begin (from d b) h c.next.result x c.next.ensures.same w in
-    let way = look_failed g.E.Edit.means g.met.E.Edit.laws.looks c.args.self.now.edit (from d b) h c.args.found c.args.self.now.snaps.items x.run (is_needed g.E.Edit.means c.args.self.now (from d b) h c.args.found can) x.looked c.next.new.self begin x.since (x.named ∙ ap At (sym c.next.ensures.same)) c.in-Done-Fail.node c.in-Done-Fail.scx
+    let w = c.next.ensures.turn (begun_at (begun_at d b) begin) h run ready in
+    let can = can_look g.E.Edit.means c.args.self.now c.args.llx c.next.new.self c.args.found begin (begun_at d b) h c.next.result x c.next.ensures.same w in
+    let way = look_failed g.E.Edit.means g.met.E.Edit.laws.looks c.args.self.now.edit (begun_at d b) h c.args.found c.args.self.now.snaps.items x.run (is_needed g.E.Edit.means c.args.self.now (begun_at d b) h c.args.found can) x.looked c.next.new.self begin x.since (x.named ∙ ap At (sym c.next.ensures.same)) c.in-Done-Fail.node c.in-Done-Fail.scx
     (rw (c.in-Done-Fail.is ∙ ap (λ a. Done a) c.in-Done-Fail.field-0-is) at w) in
     let t = look_lost g.E.Edit.means c.args.self.now d b h c.in-Done-Fail.node.0 c.in-Done-Fail.scx.0 try can.begins can.quiet way in
     c.lost-in-Done-Fail.ensures.turn d h run t.0 (rw (← c.in-Done-Fail.node-is, ← c.in-Done-Fail.scx-is) at t.1)

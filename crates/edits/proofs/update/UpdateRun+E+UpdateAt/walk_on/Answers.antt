@@ -1,5 +1,5 @@
 use Rattle.template.proofs.Lemmas.{walk_past_root}
-use Rattle.edits.specs.Laws.HandScx.{from}
+use Rattle.arena.specs.Machines.{begun_at}
 use Rattle.edits.proofs.GoingOn.{still_nearer}
 use Rattle.edits.proofs.Nearer.{from_walk}
 use Rattle.edits.proofs.Turns.{walks_on, walk_rests, walk_found}
@@ -10,13 +10,13 @@ returns-in-Done-clause-nearer g c nodes fits = c.go_on.ensures.nearer nodes _ (s
 
 pub returns-in-Ask-clause-turn : goal.returns-in-Ask-clause-turn
 returns-in-Ask-clause-turn g c d b h v got run try first x told =
-    let past = walk_past_root c.args.walk (from d b) h c.next.new.self v run told (λ nodes fits. rw c.in-Ask.is at c.next.ensures.nearer nodes (rw got fits)) in
-    walks_on g.E.Edit.means c.args.self.now c.args.walk c.next.new.self d b h c.next.result c.in-Ask.step try first x c.next.ensures.same past c.in-Ask.is (c.next.ensures.turn (from d b) h run (rw got told))
+    let past = walk_past_root c.args.walk (begun_at d b) h c.next.new.self v run told (λ nodes fits. rw c.in-Ask.is at c.next.ensures.nearer nodes (rw got fits)) in
+    walks_on g.E.Edit.means c.args.self.now c.args.walk c.next.new.self d b h c.next.result c.in-Ask.step try first x c.next.ensures.same past c.in-Ask.is (c.next.ensures.turn (begun_at d b) h run (rw got told))
 
 pub returns-in-Done-clause-turn : goal.returns-in-Done-clause-turn
 returns-in-Done-clause-turn g c d b h v got run try first x told = c.go_on.ensures.turn d h run (c.test_share-next.ensures.turn d b h run try first
-    (walk_rests g.E.Edit.means c.args.self.now c.args.walk (from d b) h v x told) x.quiet
-    (walk_found g.E.Edit.means c.args.self.now c.args.walk c.next.new.self (from d b) h c.next.result c.in-Done.found x c.next.ensures.same c.in-Done.is (c.next.ensures.turn (from d b) h run (rw got told))))
+    (walk_rests g.E.Edit.means c.args.self.now c.args.walk (begun_at d b) h v x told) x.quiet
+    (walk_found g.E.Edit.means c.args.self.now c.args.walk c.next.new.self (begun_at d b) h c.next.result c.in-Done.found x c.next.ensures.same c.in-Done.is (c.next.ensures.turn (begun_at d b) h run (rw got told))))
 
 pub returns-in-Done-clause-spends : goal.returns-in-Done-clause-spends
 returns-in-Done-clause-spends g c = c.go_on.ensures.spends c.args.self.now.share _ _ c.test_share-next.ensures.spends

@@ -1,5 +1,5 @@
 use Rattle.std.proofs.Common.{sym, arith}
-use Rattle.edits.specs.Laws.HandScx.{from}
+use Rattle.arena.specs.Machines.{begun_at}
 use Rattle.edits.proofs.Nearer.{less_than, from_work}
 use Rattle.edits.proofs.GoingOn.{taken_before}
 use Rattle.edits.proofs.Looking.{one_then, same_tries}
@@ -9,7 +9,7 @@ pub returns-clause-nearer : goal.returns-clause-nearer
 returns-clause-nearer g c nodes = rw (sym c.take-first.ensures.tries) (less_than _ _ _ (c.load.ensures.nearer nodes tt) (from_work _ _ _ _ (g.met.E.Edit.laws.bounds.few_works _ _ _ _ _)))
 
 pub returns-clause-turn : goal.returns-clause-turn
-returns-clause-turn g c d b h run try x enough one blank = c.load.ensures.turn d b h run (same_tries c.take-first.ensures.limit c.take-first.ensures.tries try) (one_then g.E.Edit.means c.args.self.now (from d b) h c.args.found.now g.met.E.Edit.laws.looks x enough blank c.take-first.new.self c.take-first.result one c.take-first.ensures.same c.take-first.ensures.taken)
+returns-clause-turn g c d b h run try x enough one blank = c.load.ensures.turn d b h run (same_tries c.take-first.ensures.limit c.take-first.ensures.tries try) (one_then g.E.Edit.means c.args.self.now (begun_at d b) h c.args.found.now g.met.E.Edit.laws.looks x enough blank c.take-first.new.self c.take-first.result one c.take-first.ensures.same c.take-first.ensures.taken)
 
 pub returns-clause-spends : goal.returns-clause-spends
 returns-clause-spends g c =

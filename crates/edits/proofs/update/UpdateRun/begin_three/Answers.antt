@@ -1,5 +1,5 @@
 use Rattle.std.proofs.Common.{◌≤◌, sym, ◌∙◌, subst, arith}
-use Rattle.edits.specs.Laws.HandScx.{from}
+use Rattle.arena.specs.Machines.{begun_at}
 use Rattle.edits.proofs.Nearer.{less_than, from_work}
 use Rattle.edits.proofs.GoingOn.{taken_before}
 use Rattle.edits.proofs.Looking.{same_tries, three_then}
@@ -10,7 +10,7 @@ pub returns-clause-nearer : goal.returns-clause-nearer
 returns-clause-nearer g c nodes = rw (sym c.take-first.ensures.tries, sym c.take-second.ensures.tries, sym c.take-third.ensures.tries) (less_than _ _ _ (c.load.ensures.nearer nodes tt) (from_work _ _ _ _ (g.met.E.Edit.laws.bounds.few_works _ _ _ _ _)))
 
 pub returns-clause-turn : goal.returns-clause-turn
-returns-clause-turn g c d b h run try x enough three blank = c.load.ensures.turn d b h run (same_tries (c.take-third.ensures.limit ∙ c.take-second.ensures.limit ∙ c.take-first.ensures.limit) (c.take-third.ensures.tries ∙ c.take-second.ensures.tries ∙ c.take-first.ensures.tries) try) (three_then g.E.Edit.means c.args.self.now (from d b) h c.args.found.now g.met.E.Edit.laws.looks x enough blank c.take-first.new.self c.take-second.new.self c.take-third.new.self c.take-first.result c.take-second.result c.take-third.result three c.take-first.ensures.same c.take-first.ensures.taken c.take-second.ensures.same c.take-second.ensures.taken c.take-third.ensures.same c.take-third.ensures.taken)
+returns-clause-turn g c d b h run try x enough three blank = c.load.ensures.turn d b h run (same_tries (c.take-third.ensures.limit ∙ c.take-second.ensures.limit ∙ c.take-first.ensures.limit) (c.take-third.ensures.tries ∙ c.take-second.ensures.tries ∙ c.take-first.ensures.tries) try) (three_then g.E.Edit.means c.args.self.now (begun_at d b) h c.args.found.now g.met.E.Edit.laws.looks x enough blank c.take-first.new.self c.take-second.new.self c.take-third.new.self c.take-first.result c.take-second.result c.take-third.result three c.take-first.ensures.same c.take-first.ensures.taken c.take-second.ensures.same c.take-second.ensures.taken c.take-third.ensures.same c.take-third.ensures.taken)
 
 pub returns-clause-spends : goal.returns-clause-spends
 returns-clause-spends g c three =

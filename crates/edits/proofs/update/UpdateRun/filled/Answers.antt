@@ -1,5 +1,5 @@
 use Rattle.std.proofs.Common.{sym, ◌∙◌}
-use Rattle.edits.specs.Laws.HandScx.{from}
+use Rattle.arena.specs.Machines.{begun_at}
 use Rattle.edits.proofs.Filling.{loads_next, scx_next}
 use Rattle.edits.proofs.GoingOn.{still_nearer}
 use Rattle.edits.proofs.Nearer.{less_than, to_next_node, to_scx, after_next, place_behind}
@@ -12,7 +12,7 @@ pub returns-in-None-clause-nearer : goal.returns-in-None-clause-nearer
 returns-in-None-clause-nearer g c nodes = still_nearer g.E.Edit.means c.take_scx.new.self c.args.found.now c.take_scx.result nodes _ _ (c.take_scx.ensures.nearer nodes) (to_scx _ _)
 
 pub returns-in-Some-clause-turn : goal.returns-in-Some-clause-turn
-returns-in-Some-clause-turn g c d b h part run try x last = c.load.ensures.turn d b h run try (loads_next g.E.Edit.means c.args.self.now (from d b) h c.args.found.now c.args.nth part x c.in-Some.after last (rw (sym c.need.ensures) (sym c.behind.ensures ∙ c.in-Some.is)))
+returns-in-Some-clause-turn g c d b h part run try x last = c.load.ensures.turn d b h run try (loads_next g.E.Edit.means c.args.self.now (begun_at d b) h c.args.found.now c.args.nth part x c.in-Some.after last (rw (sym c.need.ensures) (sym c.behind.ensures ∙ c.in-Some.is)))
 
 pub returns-in-None-clause-turn : goal.returns-in-None-clause-turn
-returns-in-None-clause-turn g c d b h part run try x last = c.take_scx.ensures.turn d b h run try (scx_next g.E.Edit.means c.args.self.now (from d b) h c.args.found.now c.args.nth part x last (rw (sym c.need.ensures) (sym c.behind.ensures ∙ c.in-None.is)))
+returns-in-None-clause-turn g c d b h part run try x last = c.take_scx.ensures.turn d b h run try (scx_next g.E.Edit.means c.args.self.now (begun_at d b) h c.args.found.now c.args.nth part x last (rw (sym c.need.ensures) (sym c.behind.ensures ∙ c.in-None.is)))

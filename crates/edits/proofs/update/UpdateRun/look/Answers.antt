@@ -1,6 +1,6 @@
 use Rattle.std.proofs.Common.{◌≡◌, sym, ◌∙◌}
 use Rattle.edits.specs.declared.edit.Look.TheVariants.{At}
-use Rattle.edits.specs.Laws.HandScx.{from}
+use Rattle.arena.specs.Machines.{begun_at}
 use Rattle.edits.proofs.Looking.{is_needed}
 use Rattle.edits.proofs.Blaming.{look_differs}
 use Rattle.edits.proofs.Turns.{look_lost, looks_at}
@@ -19,12 +19,12 @@ returns-in-Enough-clause-nearer g c nodes = less_than _ _ _ (c.begin_work.ensure
 pub returns-in-Differs-clause-turn : goal.returns-in-Differs-clause-turn
 returns-in-Differs-clause-turn g c d b h run try x =
     let t = look_lost g.E.Edit.means c.args.self.now d b h c.in-Differs.node.0 c.in-Differs.scx.0 try x.begins x.quiet
-    (look_differs g.E.Edit.means g.met.E.Edit.laws.looks c.args.self.now.edit (from d b) h c.args.found.now c.args.self.now.snaps.items x.begins.run (is_needed g.E.Edit.means c.args.self.now (from d b) h c.args.found.now x) x.looked c.in-Differs.node c.in-Differs.scx x.quiet
+    (look_differs g.E.Edit.means g.met.E.Edit.laws.looks c.args.self.now.edit (begun_at d b) h c.args.found.now c.args.self.now.snaps.items x.begins.run (is_needed g.E.Edit.means c.args.self.now (begun_at d b) h c.args.found.now x) x.looked c.in-Differs.node c.in-Differs.scx x.quiet
     (rw (sym c.as_slice.ensures.value) (sym c.look.ensures ∙ c.in-Differs.is))) in
     (t.0, t.1)
 
 pub returns-in-At-clause-turn : goal.returns-in-At-clause-turn
-returns-in-At-clause-turn g c d b h run try x = (b, try, tt, looks_at g.E.Edit.means c.args.self.now c.args.found.now c.in-At.node (from d b) h run x named (g.met.E.Edit.laws.looks.opens c.args.self.now.edit (from d b) h c.args.found.now c.args.self.now.snaps.items c.in-At.node x.begins.run (is_needed g.E.Edit.means c.args.self.now (from d b) h c.args.found.now x) x.looked named))
+returns-in-At-clause-turn g c d b h run try x = (b, try, tt, looks_at g.E.Edit.means c.args.self.now c.args.found.now c.in-At.node (begun_at d b) h run x named (g.met.E.Edit.laws.looks.opens c.args.self.now.edit (begun_at d b) h c.args.found.now c.args.self.now.snaps.items c.in-At.node x.begins.run (is_needed g.E.Edit.means c.args.self.now (begun_at d b) h c.args.found.now x) x.looked named))
   where
     named : g.E.Edit.means.looks c.args.self.now.edit c.args.found.now c.args.self.now.snaps.items ≡ At c.in-At.node
     named = rw (sym c.as_slice.ensures.value) (sym c.look.ensures ∙ c.in-At.is)

@@ -5,7 +5,7 @@ use Rattle.prims.specs.declared.scx.ScxRun.{ScxRun}
 use Rattle.prims.specs.declared.scx.ScxAt.{ScxAt}
 use Rattle.prims.specs.declared.scx.ScxAt.TheVariants.{Start, Plan}
 use Rattle.ordered_map.specs.TreeShape.{TreeAllows}
-use Rattle.edits.specs.Laws.HandScx.{from}
+use Rattle.arena.specs.Machines.{begun_at}
 use Rattle.edits.specs.Next.{next_step, update_of}
 use Rattle.edits.specs.declared.update.Next.TheVariants.{Change}
 use Rattle.edits.proofs.Beginning.{few_snaps, scx_begins}
@@ -20,11 +20,11 @@ returns-in-Some-clause-turn g c d b h run try x = (
   b,
   try,
   tt,
-  scx_begins g.E.Edit.means c.args.self.now (scx Start) (scx Plan) c.args.found.now (from d b) h g.met.E.Edit.laws.makes (few_snaps g.E.Edit.means c.args.self.now.edit c.args.found.now c.args.self.now.snaps.items g.met.E.Edit.laws.bounds x.all.looked.seen) x
+  scx_begins g.E.Edit.means c.args.self.now (scx Start) (scx Plan) c.args.found.now (begun_at d b) h g.met.E.Edit.laws.makes (few_snaps g.E.Edit.means c.args.self.now.edit c.args.found.now c.args.self.now.snaps.items g.met.E.Edit.laws.bounds x.all.looked.seen) x
       record { covers = refl; plan = refl; old = refl; fresh = refl }
       refl taken.0 refl refl refl refl
       c.scx.new.self (Ask (next_step g.E.Edit.means c.args.self.now c.args.found.now (Change c.in-Some.scx))) _ taken.2 refl
-      (λ ready. turn_start TreeAllows (from (from d b) h) h (scx Start) (scx Plan) (Ask _) ready.1 ready.2 record { stands = refl; asked = refl }),
+      (λ ready. turn_start TreeAllows (begun_at (begun_at d b) h) h (scx Start) (scx Plan) (Ask _) ready.1 ready.2 record { stands = refl; asked = refl }),
 )
   where
     scx : ScxAt → ScxRun

@@ -1,7 +1,7 @@
 use Rattle.std.proofs.Common.{◌≡◌, ◌≢◌, refl, rules, inl}
 use Rattle.edits.specs.declared.edit.Need.TheVariants.{Nothing}
 use Rattle.edits.proofs.Looking.{may_look}
-use Rattle.edits.specs.Laws.HandScx.{from}
+use Rattle.arena.specs.Machines.{begun_at}
 use Rattle.edits.specs.Laws.Trying.{untouched_later}
 use Rattle.edits.proofs.Turns.{at_rest, nothing_entered}
 use Rattle.edits.proofs.Widened.{found_wider}
@@ -15,7 +15,7 @@ returns-clause-nearer g c nodes = still_nearer g.E.Edit.means c.look.new.self c.
 pub returns-clause-turn : goal.returns-clause-turn
 returns-clause-turn g c d b h run try first x quiet found =
     let some : c.need-need.result ≢ Nothing = search rules in
-    c.look.ensures.turn d b h run try (may_look g.E.Edit.means c.args.self.now _ (from d b) h c.args.found.now refl refl c.clear.ensures x quiet found (rw c.need-need.ensures at (rw c.in_default.is at c.lacks.ensures.enough some)))
+    c.look.ensures.turn d b h run try (may_look g.E.Edit.means c.args.self.now _ (begun_at d b) h c.args.found.now refl refl c.clear.ensures x quiet found (rw c.need-need.ensures at (rw c.in_default.is at c.lacks.ensures.enough some)))
 
 pub returns-then-eq-clause-turn : goal.returns-then-eq-clause-turn
 returns-then-eq-clause-turn g c d b h run try first x quiet found =

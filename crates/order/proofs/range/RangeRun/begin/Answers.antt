@@ -1,5 +1,5 @@
 use Rattle.std.proofs.Common.{inr, refl, arith}
-use Rattle.order.specs.Reads.{begun_at}
+use Rattle.arena.specs.Machines.{begun_at}
 use Rattle.order.proofs.RangeTurns.{asks_root, goes_again, tells_none, told_none}
 use Rattle.order.proofs.RangeVisits.{so_many_leaves, visits_first}
 use Rattle.order.proofs.range.RangeRun.begin.Goals as goal

@@ -1,5 +1,5 @@
 use Rattle.std.proofs.Common.{◌-◌, refl}
-use Rattle.order.specs.Reads.{begun_at}
+use Rattle.arena.specs.Machines.{begun_at}
 use Rattle.order.proofs.Blaming.{all_lost, begins_again, gives_up, try_contended}
 use Rattle.order.proofs.Nearer.{below, try_less}
 use Rattle.order.proofs.RangeTurns.{goes_less}

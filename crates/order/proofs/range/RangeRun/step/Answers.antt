@@ -1,6 +1,6 @@
 use Rattle.std.proofs.Common.{sym, ◌∙◌, ap}
 use Rattle.arena.specs.Heads.{head_of}
-use Rattle.order.specs.Reads.{begun_at}
+use Rattle.arena.specs.Machines.{begun_at}
 use Rattle.order.proofs.Blaming.{keeps_wider, try_as}
 use Rattle.order.proofs.Nearer.{below}
 use Rattle.order.proofs.RangeNearer.{head_at_root, head_below}

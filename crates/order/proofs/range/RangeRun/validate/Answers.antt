@@ -1,4 +1,4 @@
-use Rattle.order.specs.Reads.{begun_at}
+use Rattle.arena.specs.Machines.{begun_at}
 use Rattle.order.proofs.Blaming.{first_look}
 use Rattle.order.proofs.Nearer.{below, from_validate}
 use Rattle.order.proofs.RangeVisits.{validates}

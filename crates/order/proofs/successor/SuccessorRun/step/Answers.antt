@@ -1,7 +1,7 @@
 use Rattle.std.proofs.Common.{◌≡◌, sym, ◌∙◌, ap}
 use Rattle.arena.specs.Heads.{head_of}
 use Rattle.order.specs.declared.successor.SuccessorAt.TheVariants.{Start, Walk, Look, Key, Validate}
-use Rattle.order.specs.Reads.{begun_at}
+use Rattle.arena.specs.Machines.{begun_at}
 use Rattle.order.proofs.Blaming.{keeps_wider}
 use Rattle.order.proofs.Finding.{tells_this}
 use Rattle.order.proofs.Nearer.{below, head_nearer}

@@ -1,6 +1,6 @@
 use Rattle.std.proofs.Common.{ap, ◌∙◌}
 use Rattle.arena.specs.declared.machine.Turn.TheVariants.{Done}
-use Rattle.order.specs.Reads.{begun_at}
+use Rattle.arena.specs.Machines.{begun_at}
 use Rattle.order.proofs.Nearer.{below, less_vlx, to_tries}
 use Rattle.order.proofs.Turns.{validates_on, told, changed}
 use Rattle.order.proofs.successor.SuccessorRun.validate_on.Goals as goal

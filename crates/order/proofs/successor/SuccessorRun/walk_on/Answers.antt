@@ -1,6 +1,6 @@
 use Rattle.std.proofs.Common.{arith}
 use Rattle.template.proofs.Lemmas.{walk_past_root}
-use Rattle.order.specs.Reads.{begun_at}
+use Rattle.arena.specs.Machines.{begun_at}
 use Rattle.order.proofs.Finding.{looks_first}
 use Rattle.order.proofs.Nearer.{less_walk}
 use Rattle.order.proofs.Turns.{walks_on, walk_turned}

@@ -1,0 +1,17 @@
+-- Nodes that have stood in the tree.
+use Rattle.std.specs.Prelude.{ℕ, ◌<◌}
+use Rattle.arena.specs.declared.layout.Layout.{Layout}
+use Rattle.arena.specs.History.{History}
+use Rattle.arena.specs.Layout.{all_nodes}
+use Rattle.prims.specs.Llx.Known.{IsOpened}
+use Rattle.ordered_map.specs.Paths.{WasInTree}
+use Rattle.ordered_map.specs.Runs.{IsTreeRun}
+use Rattle.ordered_map.proofs.Lemmas.{run_since, stood_in_field, tree_inside}
+
+-- a node that has stood in the tree is of the table
+pub stood_inside : (lay : Layout) (h : History) (n : ℕ) → IsTreeRun lay h → WasInTree h n → n < all_nodes lay
+stood_inside lay h n run x = tree_inside lay x.moment x.tree (run_since lay h x.moment run x.within).1.lawful x.is_tree n x.has
+
+-- and an LLX may look at it
+pub opened_if_stood : (lay : Layout) (h : History) (n : ℕ) → IsTreeRun lay h → WasInTree h n → IsOpened lay h n
+opened_if_stood lay h n run x = record { in_field = stood_in_field lay h n run x; inside = stood_inside lay h n run x }
