@@ -14,6 +14,8 @@ use Rattle.ordered_map.specs.OrderedMap.{MapCall, Edit, Successor as SuccessorOf
 use Rattle.ordered_map.specs.Runs.{IsTreeRun}
 use Rattle.ordered_map.specs.declared.pair.Pair.{Pair}
 use Rattle.template.specs.Blame.{HasLostTriesTo}
+use Rattle.template.specs.Tries.{HasTriedAtMost, HasTriedAllBut}
+use Rattle.template.proofs.Lemmas.{tried_few}
 use Rattle.template.specs.declared.walk.Found.{Found}
 use Rattle.tree.specs.Delete.Means.{delete_means, delete_need}
 use Rattle.tree.specs.Get.Known.{GetAnswers}
@@ -31,7 +33,7 @@ use Rattle.edits.specs.declared.update.UpdateRun.{UpdateRun}
 use Rattle.edits.specs.declared.update.Updated.{Updated}
 use Rattle.edits.specs.declared.update.Updated.TheVariants.{Done, Contended, Full}
 use Rattle.ordered_map.specs.CallRules.{insert_nodes, delete_nodes}
-use Rattle.dict.specs.Calls.{call_in, AsksForPairs, HasSpent}
+use Rattle.dict.specs.Calls.{call_in, most_tries, AsksForPairs, HasSpent}
 use Rattle.dict.specs.Known.{HasRested, HasSpentSo}
 use Rattle.dict.specs.Says.{WordSays, HasReadMap}
 use Rattle.dict.specs.WordReplies.{word_reply, successor_reply, range_reply}
@@ -131,8 +133,8 @@ module _ (tries : ℕ) (c : Call) (h : History) where
 -- What is gone of the share
 
 -- what a read has taken is nothing
-pub read_spent : (c : Call) (call : MapCall) (tries : ℕ) (share : Remaining) → RestsWith c c.start share → HasSpent c call tries share
-read_spent c call tries share x = record { left = share; first = x; nodes = omega arith; scx = omega arith; each = omega arith }
+pub read_spent : (c : Call) (h : History) (call : MapCall) (tries : ℕ) (share : Remaining) → RestsWith c c.start share → HasTriedAtMost c.layout c.pass h c.start (most_tries call tries) → HasSpent c h call tries share
+read_spent c h call tries share x tried = record { tried = tried; left = share; first = x; nodes = omega arith; scx = omega arith; each = omega arith }
 
 -- what an edit has taken by now
 pub edit_spends : (c : Call) (most : ℕ) (old now : Remaining) (tries nodes nodes_then scx scx_then : ℕ) → HasSpentSo c most old tries nodes scx → Spends most old now nodes nodes_then scx scx_then → HasSpentSo c most now tries nodes_then scx_then
@@ -142,9 +144,23 @@ edit_spends c most old now tries nodes nodes_then scx scx_then x y = record {
   spends = (let a = x.spends.0 in let b = y.0 in omega (arith, a, b), let a = x.spends.1 in let b = y.1 in omega (arith, a, b), let a = x.spends.2 in let b = y.2 in omega (arith, a, b));
 }
 
--- and once it has answered
-pub insert_spent : (c : Call) (key value tries : ℕ) (share : Remaining) → HasSpentSo c 3 share tries 0 0 → HasSpent c (Edit (PutEdit key value)) tries share
-insert_spent c key value tries share x = record { left = x.left; first = x.first; nodes = let s = x.spends.0 in omega (arith, s); scx = let s = x.spends.1 in omega (arith, s); each = let s = x.spends.2 in omega (arith, s) }
+-- and once it has answered, with so many tries left
+pub insert_spent : (c : Call) (h : History) (key value tries left : ℕ) (share : Remaining) → HasSpentSo c 3 share tries left left → HasTriedAllBut c h tries left → HasSpent c h (Edit (PutEdit key value)) tries share
+insert_spent c h key value tries left share x tried = record {
+  tried = tried_few c h tries left tried;
+  left = x.left;
+  first = x.first;
+  nodes = let all = tried.all in let s = x.spends.0 in omega (arith, all, s);
+  scx = let all = tried.all in let s = x.spends.1 in omega (arith, all, s);
+  each = let s = x.spends.2 in omega (arith, s);
+}
 
-pub delete_spent : (c : Call) (key tries : ℕ) (share : Remaining) → HasSpentSo c 1 share tries 0 0 → HasSpent c (Edit (TakeEdit key)) tries share
-delete_spent c key tries share x = record { left = x.left; first = x.first; nodes = let s = x.spends.0 in omega (arith, s); scx = let s = x.spends.1 in omega (arith, s); each = let s = x.spends.2 in omega (arith, s) }
+pub delete_spent : (c : Call) (h : History) (key tries left : ℕ) (share : Remaining) → HasSpentSo c 1 share tries left left → HasTriedAllBut c h tries left → HasSpent c h (Edit (TakeEdit key)) tries share
+delete_spent c h key tries left share x tried = record {
+  tried = tried_few c h tries left tried;
+  left = x.left;
+  first = x.first;
+  nodes = let all = tried.all in let s = x.spends.0 in omega (arith, all, s);
+  scx = let all = tried.all in let s = x.spends.1 in omega (arith, all, s);
+  each = let s = x.spends.2 in omega (arith, s);
+}

@@ -1,5 +1,5 @@
 -- What the machine of a call has answered is right, where the machine inside has answered.
-use Rattle.std.proofs.Common.{◌≡◌, ℕ, ◌^◌, ◌<◌, Option, Result, Ok, Err, Vec, ◌∙◌}
+use Rattle.std.proofs.Common.{◌≡◌, ℕ, ◌^◌, ◌<◌, Option, Result, Ok, Err, Vec, ◌∙◌, subst}
 use Rattle.std.specs.Global.{Global}
 use Rattle.arena.specs.History.{History}
 use Rattle.arena.specs.Machines.{Call, IsRun}
@@ -13,6 +13,7 @@ use Rattle.order.specs.declared.successor.SuccessorRun.{SuccessorRun}
 use Rattle.ordered_map.specs.OrderedMap.{MapEdit, Edit, Get as GetOf, Successor as SuccessorOf, Range as RangeOf, Insert as PutEdit, Delete as TakeEdit}
 use Rattle.ordered_map.specs.TreeShape.{TreeAllows}
 use Rattle.ordered_map.specs.declared.pair.Pair.{Pair}
+use Rattle.template.specs.Tries.{HasTriedAtMost, HasTriedAllBut}
 use Rattle.tree.specs.Delete.Means.{delete_means}
 use Rattle.tree.specs.Get.Known.{GetAnswers}
 use Rattle.tree.specs.Insert.Means.{insert_means}
@@ -75,31 +76,31 @@ module _ (tries : ℕ) (c : Call) where
 -- Their answers
 
 module _ (tries : ℕ) (c : Call) (h : History) where
-  pub insert_ends : (old now : UpdateRun Inserted UpdateAt) (a : Updated) → IsRun TreeAllows c.layout h → Goes (Insert old) tries c → now.edit ≡ old.edit → now.call ≡ old.call → now.limit ≡ old.limit → Spends 3 old.share now.share (node_tries old old.at) 0 (scx_tries old old.at) 0 → UpdateAnswers insert_means now c h a → MapAnswers tries (Insert now) c h (word_reply a)
+  pub insert_ends : (old now : UpdateRun Inserted UpdateAt) (a : Updated) → IsRun TreeAllows c.layout h → Goes (Insert old) tries c → now.edit ≡ old.edit → now.call ≡ old.call → now.limit ≡ old.limit → Spends 3 old.share now.share (node_tries old old.at) now.tries (scx_tries old old.at) now.tries → UpdateAnswers insert_means now c h a → MapAnswers tries (Insert now) c h (word_reply a)
   insert_ends old now a run goes edit call limit spends x =
       let small : now.edit.key < 2 ^ 64 = rw edit goes.small in
       record {
         rests = x.0;
-        spent = insert_spent c now.edit.key now.edit.value tries now.share (edit_spends c 3 old.share now.share tries (node_tries old old.at) 0 (scx_tries old old.at) 0 goes.spent spends);
+        spent = insert_spent c h now.edit.key now.edit.value tries now.tries now.share (edit_spends c 3 old.share now.share tries (node_tries old old.at) now.tries (scx_tries old old.at) now.tries goes.spent spends) (subst (λ n. HasTriedAllBut c h n now.tries) (limit ∙ goes.limit) x.2);
         form = update_form (PutEdit now.edit.key now.edit.value) a;
         says = insert_says tries c h now a (goes.mode, run) small (call ∙ goes.number) (limit ∙ goes.limit) x.1;
       }
 
-  pub delete_ends : (old now : UpdateRun Deleted UpdateAt) (a : Updated) → IsRun TreeAllows c.layout h → Goes (Delete old) tries c → now.edit ≡ old.edit → now.call ≡ old.call → now.limit ≡ old.limit → Spends 1 old.share now.share (node_tries old old.at) 0 (scx_tries old old.at) 0 → UpdateAnswers delete_means now c h a → MapAnswers tries (Delete now) c h (word_reply a)
+  pub delete_ends : (old now : UpdateRun Deleted UpdateAt) (a : Updated) → IsRun TreeAllows c.layout h → Goes (Delete old) tries c → now.edit ≡ old.edit → now.call ≡ old.call → now.limit ≡ old.limit → Spends 1 old.share now.share (node_tries old old.at) now.tries (scx_tries old old.at) now.tries → UpdateAnswers delete_means now c h a → MapAnswers tries (Delete now) c h (word_reply a)
   delete_ends old now a run goes edit call limit spends x =
       let small : now.edit.key < 2 ^ 64 = rw edit goes.small in
       record {
         rests = x.0;
-        spent = delete_spent c now.edit.key tries now.share (edit_spends c 1 old.share now.share tries (node_tries old old.at) 0 (scx_tries old old.at) 0 goes.spent spends);
+        spent = delete_spent c h now.edit.key tries now.tries now.share (edit_spends c 1 old.share now.share tries (node_tries old old.at) now.tries (scx_tries old old.at) now.tries goes.spent spends) (subst (λ n. HasTriedAllBut c h n now.tries) (limit ∙ goes.limit) x.2);
         form = update_form (TakeEdit now.edit.key) a;
         says = delete_says tries c h now a (goes.mode, run) small (call ∙ goes.number) (limit ∙ goes.limit) x.1;
       }
 
   pub get_ends : (now : GetRun) (share : Remaining) (a : Option ℕ) → HasRested c h share → RestsWith c c.start share → GetAnswers now c h a → MapAnswers tries (Get now share) c h (words.Value a)
-  get_ends now share a x spent y = record { rests = x.now; spent = read_spent c (GetOf now.key) tries share spent; form = tt; says = get_says tries c h now share a x y }
+  get_ends now share a x spent y = record { rests = x.now; spent = read_spent c h (GetOf now.key) tries share spent y.tried; form = tt; says = get_says tries c h now share a x y }
 
   pub successor_ends : (now : SuccessorRun) (share : Remaining) (a : Result (Option Pair) Refused) → HasRested c h share → RestsWith c c.start share → now.limit ≡ tries → SuccessorAnswers now c h a → MapAnswers tries (Successor now share) c h (successor_reply a)
-  successor_ends now share a x spent limit y = record { rests = x.now; spent = read_spent c (SuccessorOf now.key) tries share spent; form = successor_form now.key a; says = successor_says tries c h now share a x limit y }
+  successor_ends now share a x spent limit y = record { rests = x.now; spent = read_spent c h (SuccessorOf now.key) tries share spent (subst (λ n. HasTriedAtMost c.layout c.pass h c.start n) limit y.2); form = successor_form now.key a; says = successor_says tries c h now share a x limit y }
 
   pub range_ends : (now : RangeRun) (share : Remaining) (a : Result (Vec Pair Global) Refused) → HasRested c h share → RestsWith c c.start share → now.limit ≡ tries → RangeAnswers now c h a → MapAnswers tries (Range now share) c h (range_reply a)
-  range_ends now share a x spent limit y = record { rests = x.now; spent = read_spent c (RangeOf now.low now.high now.most) tries share spent; form = range_form now.low now.high now.most a; says = range_says tries c h now share a x limit y }
+  range_ends now share a x spent limit y = record { rests = x.now; spent = read_spent c h (RangeOf now.low now.high now.most) tries share spent (subst (λ n. HasTriedAtMost c.layout c.pass h c.start n) limit y.2); form = range_form now.low now.high now.most a; says = range_says tries c h now share a x limit y }

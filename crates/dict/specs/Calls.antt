@@ -1,10 +1,12 @@
 -- The machine of a call of the map: what it is a call of, what it has left, and what such a call
 -- may take of its share.
 use Rattle.std.specs.Prelude.{ℕ, ◌*◌, ◌+◌, ◌^◌, ◌<◌, ◌≤◌}
+use Rattle.arena.specs.History.{History}
 use Rattle.arena.specs.Machines.{Call}
 use Rattle.arena.specs.Share.{Remaining}
 use Rattle.ordered_map.specs.CallRules.{most_nodes, most_scx}
 use Rattle.ordered_map.specs.OrderedMap.{MapCall, Edit, Get, Successor, Range, Insert, Delete, edit_key}
+use Rattle.template.specs.Tries.{tries_since, HasTriedAtMost}
 use Rattle.edits.specs.Known.{RestsWith}
 use Rattle.dict.specs.declared.run.MapRun.{MapRun}
 use Rattle.dict.specs.declared.run.MapRun.TheVariants as runs
@@ -42,15 +44,22 @@ abbrev pub IsSmallCall : MapCall → Type 0
 IsSmallCall (Edit e) = edit_key e < 2 ^ 64
 IsSmallCall _ = Unit {0}
 
--- What a call may take
+-- What a call may try and take
 
--- Of the share with which a call began no more is gone than so many tries may take.
-pub record HasSpent (c : Call) (call : MapCall) (tries : ℕ) (share : Remaining) : Type 0 where
+-- how many tries it may begin, where the limits allow so many: a get has one alone
+abbrev pub most_tries : MapCall → ℕ → ℕ
+most_tries (Get key) tries = 1
+most_tries _ tries = tries
+
+-- The call has begun no more tries than it may, each only as needed. Of the share with which it
+-- began no more is gone than the tries that it has begun may take.
+pub record HasSpent (c : Call) (h : History) (call : MapCall) (tries : ℕ) (share : Remaining) : Type 0 where
+  pub tried : HasTriedAtMost c.layout c.pass h c.start (most_tries call tries)
   -- what there was as it began
   pub left : Remaining
   pub first : RestsWith c c.start left
-  pub nodes : left.nodes ≤ share.nodes + most_nodes call * tries
-  pub scx : left.scx ≤ share.scx + most_scx call tries
+  pub nodes : left.nodes ≤ share.nodes + most_nodes call * tries_since c.pass h c.start
+  pub scx : left.scx ≤ share.scx + most_scx call (tries_since c.pass h c.start)
   -- and for each SCX-record that is gone at most so many nodes
   pub each : left.nodes + most_nodes call * share.scx ≤ share.nodes + most_nodes call * left.scx
 

@@ -36,10 +36,10 @@ DictRefuses c h call share tries NoMemory = KeepsLists call × HasEnteredNone c.
 DictRefuses c h call share tries _ = Unit {0}
 
 -- Its answer is right. Behind it the pass is at rest with what is left of the share, of which no
--- more is gone than the tries may take. Its keys and values are of their types.
+-- more is gone than the tries that it has begun may take. Its keys and values are of their types.
 pub record DictAnswers {K V : Type 0} (valid_key : K → Type 0) (key : K → ℕ) (valid_value : V → Type 0) (value : V → ℕ) (m : DictRun K V) (c : Call) (h : History) (reply : Reply K V) : Type 0 where
   pub rests : RestsWith c h (share_of m.run)
-  pub spent : HasSpent c (call_in m.run) m.tries (share_of m.run)
+  pub spent : HasSpent c h (call_in m.run) m.tries (share_of m.run)
   pub form : MayReply (call_in m.run) (form_of reply)
   pub valid : IsValidReply valid_key valid_value reply
   pub tells : TellsOfMap c h (call_in m.run) (told_of key value reply)

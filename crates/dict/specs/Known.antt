@@ -97,10 +97,10 @@ abbrev pub MapWaits : ℕ → MapRun → Call → History → Step → Type 0
 MapWaits tries m c h s = Goes m tries c × WaitsInside m c h s
 
 -- Its answer is right. Behind it the pass is at rest with what is left of the share, of which no
--- more is gone than the tries may take.
+-- more is gone than the tries that it has begun may take.
 pub record MapAnswers (tries : ℕ) (m : MapRun) (c : Call) (h : History) (reply : WordReply) : Type 0 where
   pub rests : RestsWith c h (share_of m)
-  pub spent : HasSpent c (call_in m) tries (share_of m)
+  pub spent : HasSpent c h (call_in m) tries (share_of m)
   pub form : MayReply (call_in m) (word_form reply)
   pub says : WordSays c h (call_in m) (share_of m) tries reply
 

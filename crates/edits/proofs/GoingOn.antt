@@ -81,4 +81,4 @@ taken_before e old mid m f next nodes scx i same x = (omega (arith, i, x.0), ome
 -- what is spent up to the end of a try, and behind it
 pub spends_on : {E : Type 0} (e : EditMeaning E) (turn : Turn Updated) (old mid : Remaining) (m : UpdateRun E UpdateAt) (nodes scx tries : ℕ) → Spends e.most_nodes old mid nodes tries scx tries → IsSpending e turn mid m tries tries → IsSpending e turn old m nodes scx
 spends_on e (Ask s) old mid m nodes scx tries x y = joined_spends e.most_nodes old mid m.share nodes (node_tries m m.at) scx (scx_tries m m.at) tries x y
-spends_on e (Done u) old mid m nodes scx tries x y = joined_spends e.most_nodes old mid m.share nodes 0 scx 0 tries x y
+spends_on e (Done u) old mid m nodes scx tries x y = joined_spends e.most_nodes old mid m.share nodes m.tries scx m.tries tries x y

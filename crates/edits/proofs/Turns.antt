@@ -30,7 +30,7 @@ use Rattle.prims.specs.declared.scx.ScxRun.{ScxRun}
 use Rattle.prims.specs.declared.update.Update.{Update}
 use Rattle.prims.proofs.Lemmas.{over_ends, turn_first}
 use Rattle.ordered_map.specs.TreeShape.{TreeAllows}
-use Rattle.template.proofs.Lemmas.{contended_wider, own_since}
+use Rattle.template.proofs.Lemmas.{contended_wider, lost_to, next_again, own_since, tried_in}
 use Rattle.template.specs.FoundLeaf.{path_key, HasFoundGoal}
 use Rattle.template.specs.Tracked.{Tracks}
 use Rattle.template.specs.Walk.Known.{WalkIsTold, WalkWaits, WalkAnswers}
@@ -45,6 +45,7 @@ use Rattle.edits.specs.declared.update.Updated.{Updated}
 use Rattle.edits.specs.declared.update.UpdateAt.TheVariants.{Walk, Look, Fill, Scx}
 use Rattle.edits.specs.declared.update.UpdateRun.{UpdateRun}
 use Rattle.template.specs.Blame.{IsContended, HasLostTriesTo}
+use Rattle.template.specs.Tries.{HasTriedAllBut}
 use Rattle.edits.specs.Next.{standing}
 use Rattle.edits.specs.Edits.{EditMeaning}
 use Rattle.edits.specs.Sound.{IsAtFound}
@@ -206,6 +207,7 @@ module _ {E : Type 0} (e : EditMeaning E) where
         },
       );
     },
+    tried_in c b h m.limit m.tries try.newest,
   )
     where
       is_done : IsDone (begun_at c begin) h after
@@ -255,14 +257,15 @@ module _ {E : Type 0} (e : EditMeaning E) where
 
   -- the next may begin, if one is left
   pub next_may : {A : Type 0} (m : UpdateRun E A) (c : Call) (h : History) (n s : ℕ) → m.tries ≢ 0 → MayBeginTry e m c h → HasLostTry c h m.limit m.tries n s → MayTry c h h m.limit (m.tries - 1)
-  next_may m c h n s some b x = record { since = b.since; none = x.none; all = let all = x.try.all in omega (arith, all, some) }
+  next_may m c h n s some b x = record { since = b.since; none = x.none; next = next_again c x.begin h m.limit m.tries x.try.newest n s x.way (m.tries - 1) some refl }
 
   -- and if none is left, all are lost to it
   pub all_lost : {A : Type 0} (m : UpdateRun E A) (c : Call) (h : History) (n s : ℕ) → m.tries ≡ 0 → HasLostTry c h m.limit m.tries n s → HasLostTriesTo c.pass h c.start m.limit n s
-  all_lost m c h n s none x = record {
-    lost = record { begin = x.begin; since = x.try.since; newest = x.try.newest; all = let all = x.try.all in omega (arith, all, none); in_the_way = x.way.in_the_way };
-    found = x.way.found;
-  }
+  all_lost m c h n s none x = lost_to c x.begin h m.limit m.tries x.try.newest n s x.way x.try.since none
+
+  -- what it has tried, then, was needed
+  pub lost_tried : {A : Type 0} (m : UpdateRun E A) (c : Call) (h : History) (n s : ℕ) → HasLostTry c h m.limit m.tries n s → HasTriedAllBut c h m.limit m.tries
+  lost_tried m c h n s x = tried_in c x.begin h m.limit m.tries x.try.newest
 
   -- at rest in a try it is so in the call
   pub at_rest : {A : Type 0} (m : UpdateRun E A) (c : Call) (b h : History) → MayBeginTry e m (begun_at c b) h → RestsWith c h m.share

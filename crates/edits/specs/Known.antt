@@ -55,6 +55,7 @@ use Rattle.edits.specs.declared.update.UpdateAt.{UpdateAt}
 use Rattle.edits.specs.declared.update.UpdateAt.TheVariants.{Start, Walk, Look, Load, Fill, Scx}
 use Rattle.edits.specs.declared.update.UpdateRun.{UpdateRun}
 use Rattle.template.specs.Blame.{IsContended, HasLostTriesTo}
+use Rattle.template.specs.Tries.{HasTriedAllBut}
 use Rattle.edits.specs.Edits.{EditMeaning}
 use Rattle.edits.specs.Laws.Hand.{IsBefore, IsUpTo, IsPieceWord, HoldsWords, HasFilledTo, IsForField, FieldMay}
 use Rattle.edits.specs.Laws.NodeFills.{node_fill}
@@ -440,9 +441,10 @@ module _ {E : Type 0} (e : EditMeaning E) where
   IsUpdateAnswer m c h (FullAnswer full) = IsFullFor m c h full
   IsUpdateAnswer m c h (Contended node scx) = IsContended c h node.0 scx.0 × (m.tries ≡ 0) × HasEnteredNone c.layout c.pass h c.start × HasLostTriesTo c.pass h c.start m.limit node.0 scx.0
 
-  -- and behind it the pass is at rest, with what is left of the share
+  -- and behind it the pass is at rest, with what is left of the share, and has begun all tries but
+  -- those that are left, each only as needed
   abbrev pub UpdateAnswers : {A : Type 0} → UpdateRun E A → Call → History → Updated → Type 0
-  UpdateAnswers m c h answer = RestsWith c h m.share × IsUpdateAnswer m c h answer
+  UpdateAnswers m c h answer = RestsWith c h m.share × IsUpdateAnswer m c h answer × HasTriedAllBut c h m.limit m.tries
 
   -- it waits for the step that it asks for, or its answer is right
   abbrev pub UpdateTurn : Call → History → UpdateRun E UpdateAt → Turn Updated → Type 0

@@ -100,6 +100,7 @@ Spends most old now nodes nodes_then scx scx_then =
     × (old.scx + scx_then ≤ now.scx + scx)
     × (old.nodes + most * (now.scx + scx + nodes_then) ≤ now.nodes + most * (old.scx + nodes + scx_then))
 
--- so much is taken of the share, where so many tries might take of it
+-- so much is taken of the share, where so many tries might take of it; behind an answer those
+-- that are left still may
 abbrev pub IsSpending : {E : Type 0} → EditMeaning E → Turn Updated → Remaining → UpdateRun E UpdateAt → ℕ → ℕ → Type 0
-IsSpending e turn old m nodes scx = MatchTurn turn (λ _. Spends e.most_nodes old m.share nodes (node_tries m m.at) scx (scx_tries m m.at)) (λ _. Spends e.most_nodes old m.share nodes 0 scx 0)
+IsSpending e turn old m nodes scx = MatchTurn turn (λ _. Spends e.most_nodes old m.share nodes (node_tries m m.at) scx (scx_tries m m.at)) (λ _. Spends e.most_nodes old m.share nodes m.tries scx m.tries)

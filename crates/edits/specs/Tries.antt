@@ -1,5 +1,5 @@
 -- The tries of a call, and what its pass has entered into the log since it began.
-use Rattle.std.specs.Prelude.{◌≡◌, ℕ, suc, ◌+◌, ◌<◌, List, length}
+use Rattle.std.specs.Prelude.{◌≡◌, ℕ, ◌<◌, List, length}
 use Rattle.arena.specs.declared.layout.Layout.{Layout}
 use Rattle.arena.specs.declared.step.Row.{Row}
 use Rattle.arena.specs.Fills.{IsOwnScx}
@@ -9,8 +9,8 @@ use Rattle.arena.specs.Machines.{Call}
 use Rattle.arena.specs.ScxRecords.{member}
 use Rattle.prims.specs.Snap.{snap_at}
 use Rattle.prims.specs.declared.snap.Snap.{Snap}
-use Rattle.ordered_map.specs.Tries.{tries_begun, IsNewestTry}
 use Rattle.template.specs.Blame.{IsContended}
+use Rattle.template.specs.Tries.{MayTryNext, IsInNewest}
 use Rattle.template.specs.declared.walk.WalkAt.{WalkAt}
 use Rattle.template.specs.declared.walk.WalkAt.TheVariants.{Root}
 
@@ -23,18 +23,17 @@ abbrev pub HasEnteredNone : Layout → ℕ → History → History → Type 0
 HasEnteredNone lay c h start = (row : Row) (before : History) (t : ℕ) → Extends h (row ⊳ before) → Extends before start → IsWin before row t → ¬ IsOwnScx lay c t
 
 -- A try may begin, of a call that may try `limit` times in all, and so many are left behind it:
--- until the moment `begin` the pass has entered nothing, and it has begun all others by now.
+-- until the moment `begin` the pass has entered nothing, and by now it has lost all others.
 pub record MayTry (c : Call) (begin now : History) (limit left : ℕ) : Type 0 where
   pub since : Extends begin c.start
   pub none : HasEnteredNone c.layout c.pass begin c.start
-  pub all : tries_begun c.pass now + suc left ≡ tries_begun c.pass c.start + limit
+  pub next : MayTryNext c now limit left
 
 -- it has begun at that moment, and is the newest
 pub record IsTry (c : Call) (begin now : History) (limit left : ℕ) : Type 0 where
   pub since : Extends begin c.start
   pub none : HasEnteredNone c.layout c.pass begin c.start
-  pub newest : IsNewestTry c.pass now begin
-  pub all : tries_begun c.pass now + left ≡ tries_begun c.pass c.start + limit
+  pub newest : IsInNewest c begin now limit left
 
 -- which of the two it is while its walk waits: it begins with the load of the root's head
 abbrev pub IsTryAt : Call → History → History → ℕ → ℕ → WalkAt → Type 0

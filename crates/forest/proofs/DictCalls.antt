@@ -16,6 +16,7 @@ use Rattle.prims.proofs.Lemmas.{all_over, taken_node_since}
 use Rattle.edits.specs.Known.{RestsWith}
 use Rattle.dict.specs.Laws.Begins.{dict_begins}
 use Rattle.ordered_map.specs.CallRules.{most_nodes, most_scx}
+use Rattle.template.specs.Tries.{tries_since}
 use Rattle.dict.specs.Calls.{call_in, share_of, IsFewCall}
 use Rattle.dict.specs.DictKnown.{DictIsReady, DictWaits, DictAnswers, DictRefuses}
 use Rattle.dict.specs.Known.{IsUnbegun}
@@ -181,10 +182,12 @@ module _ {K V : Type 0} (valid_key : K → Type 0) (key : K → ℕ) (valid_valu
       pub dict_spends : HasSpentAtMost (pass_view p) now (call_in m.run) m.tries
       dict_spends =
           let z = y.answers.spent in
+          let tried : ℕ = tries_since p.number.0 (run_of now) (run_of (pass_view p)) in
           let whole : z.left ≡ p.share = one_share (call_of p x called) (run_of (pass_view p)) z.left p.share z.first rests in
           record {
-            nodes = subst (λ (r : Remaining). r.nodes ≤ (share_of m.run).nodes + most_nodes (call_in m.run) * m.tries) whole z.nodes;
-            scx = subst (λ (r : Remaining). r.scx ≤ (share_of m.run).scx + most_scx (call_in m.run) m.tries) whole z.scx;
+            tried = z.tried;
+            nodes = subst (λ (r : Remaining). r.nodes ≤ (share_of m.run).nodes + most_nodes (call_in m.run) * tried) whole z.nodes;
+            scx = subst (λ (r : Remaining). r.scx ≤ (share_of m.run).scx + most_scx (call_in m.run) tried) whole z.scx;
             each = subst (λ (r : Remaining). r.nodes + most_nodes (call_in m.run) * (share_of m.run).scx ≤ (share_of m.run).nodes + most_nodes (call_in m.run) * r.scx) whole z.each;
             gone_nodes = share_nodes p.layout p.number.0 (run_of now) (run_of (pass_view p)) p.share (share_of m.run) y.since x.rest.share rest.share;
             gone_scx = share_scx p.layout p.number.0 (run_of now) (run_of (pass_view p)) p.share (share_of m.run) y.since x.rest.share rest.share;

@@ -34,6 +34,7 @@ mod StraightUpdate
 mod Took
 mod Versions
 mod DictCalls
+mod AloneCalls
 mod StepKinds
 mod OpenCalls
 mod OpenSteps

@@ -21,8 +21,9 @@ use Rattle.template.specs.declared.walk.Found.{Found}
 use Rattle.template.specs.declared.walk.Goal.TheVariants.{Key as ToKey}
 use Rattle.template.specs.declared.walk.WalkAt.TheVariants.{Start}
 use Rattle.template.specs.declared.walk.WalkRun.{WalkRun}
-use Rattle.template.proofs.Lemmas.{found_gives, walk_begins}
+use Rattle.template.proofs.Lemmas.{found_gives, tried_one, walk_begins}
 use Rattle.tree.specs.Get.Known.{GetAnswers}
+use Rattle.tree.proofs.Lemmas.{once_past}
 use Rattle.tree.specs.declared.get.GetRun.{GetRun}
 use Rattle.edits.specs.Laws.Entered.{none_quiet}
 use Rattle.dict.specs.DictKnown.{DictIsReady, DictWaits, DictAnswers}
@@ -75,7 +76,7 @@ module _ {K V : Type 0} (valid_key : K → Type 0) (key : K → ℕ) (valid_valu
       first = at (walk_at wanted root_trail Start);
       with_run = λ w. at w.0;
       tells = λ w h v run x. (c, x.1.1.0.0);
-      turns = λ old now h v s goes next run x. (x.0, (record { mode = x.1.0.mode; small = x.1.0.small; number = x.1.0.number; limit = tt; spent = x.1.0.spent }, ((next c x.1.1.0.0, goes.1 ∙ x.1.1.0.1, x.1.1.0.2), x.1.1.1)));
+      turns = λ old now h v s goes next run x. (x.0, (record { mode = x.1.0.mode; small = x.1.0.small; number = x.1.0.number; limit = tt; spent = x.1.0.spent }, ((next c x.1.1.0.0, goes.1 ∙ x.1.1.0.1, x.1.1.0.2, once_past now.0.at _ _ goes.0 x.1.1.0.3), x.1.1.1)));
       stays = λ old now goes. (refl, refl, (omega arith, omega arith));
     }
 
@@ -87,7 +88,7 @@ module _ {K V : Type 0} (valid_key : K → Type 0) (key : K → ℕ) (valid_valu
       let first : DictRun K V = getting p.share tries wanted (walk_at wanted root_trail Start) in
       let c : Call = call_of p x (taken_of (pass_view p)) in
       starts allows ready waits same c p.seat.me.0.passes first (getting p.share tries wanted (walk_from wanted)) _ (refl, refl, (omega arith, omega arith))
-      (λ h run r. (r.0, (record { mode = r.1.0.mode; small = r.1.0.small; number = r.1.0.number; limit = tt; spent = r.1.0.spent }, ((walk_begins wanted c h r.1.1.0.0.run r.1.1.0.0.small r.1.1.0.0.since, refl, r.1.1.0.2), r.1.1.1))))
+      (λ h run r. (r.0, (record { mode = r.1.0.mode; small = r.1.0.small; number = r.1.0.number; limit = tt; spent = r.1.0.spent }, ((walk_begins wanted c h r.1.1.0.0.run r.1.1.0.0.small r.1.1.0.0.since, refl, r.1.1.0.2, r.1.1.0.3), r.1.1.1))))
       (dict_starts valid_key key valid_value value_word p x first tt (refl, refl, refl, small) tt refl)
 
   -- the value of its word
@@ -110,7 +111,7 @@ module _ {K V : Type 0} (valid_key : K → Type 0) (key : K → ℕ) (valid_valu
       answers h run r =
           let t : WalkIsTold x.last c h x.told = r.1.1.0.0 in
           let found : HasFoundGoal (ToKey wanted) c h f = x.finds c h t in
-          let got : GetAnswers m c h f.value = record { first = found.trail.node.first; own = found.trail.node.own; right = found_gives c h wanted f t.run (rw x.goal at t.small) found; none = none_quiet c.layout c.pass h c.start run.lawful r.1.1.0.2.quiet } in
+          let got : GetAnswers m c h f.value = record { first = found.trail.node.first; own = found.trail.node.own; right = found_gives c h wanted f t.run (rw x.goal at t.small) found; none = none_quiet c.layout c.pass h c.start run.lawful r.1.1.0.2.quiet; tried = tried_one c.layout c.pass h c.start r.1.1.0.3 } in
           dict_ends valid_key key valid_value value_word (getting share tries wanted x.last) c h (words.Value f.value) (replies.Value v) mode run
           (get_ends tries c h m share f.value r.1.1.1 r.1.0.spent got) valid (λ typed. same_told f.value v same_word typed) (inl refl)
 

@@ -28,7 +28,7 @@ use Rattle.order.specs.declared.successor.SuccessorAt.TheVariants.{Start, Look, 
 use Rattle.order.specs.declared.successor.SuccessorNext.{SuccessorNext}
 use Rattle.order.specs.declared.successor.SuccessorNext.TheVariants.{Look as LookNext, Head as HeadNext, Key as KeyNext, Value as ValueNext, Validate as ValidateNext}
 use Rattle.order.specs.declared.successor.SuccessorRun.{SuccessorRun}
-use Rattle.order.proofs.Lemmas.{next_waits, placed_nearer, value_found, walk_found, walk_waits}
+use Rattle.order.proofs.Lemmas.{ends_refused, next_waits, placed_nearer, value_found, walk_found, walk_waits}
 use Rattle.prims.specs.Llx.Known.{load, IsSnapshot}
 use Rattle.prims.specs.Snap.{snap_at}
 use Rattle.prims.specs.declared.llx.LlxAt.TheVariants.{Marked, StateAgain}
@@ -64,10 +64,6 @@ same_placed old m (HeadNext route above n) is = is
 same_placed old m (KeyNext route head n) is = is
 same_placed old m (ValueNext key n) is = is
 same_placed old m (ValidateNext found) is = is
-
--- want of memory is an answer of the whole call too
-no_memory : (m : SuccessorRun) (c : Call) (begin h : History) (a : Refused) → SuccessorGoesOn (begun_at c begin) h m (Err a) → SuccessorAnswers m c h (Err a)
-no_memory m c begin h a x = rw x.0 (x.1.0, tt)
 
 goes_there : (m now : SuccessorRun) (c : Call) (h : History) → now.key ≡ m.key → now.snaps ≡ m.snaps → SuccessorGoes m c h → SuccessorGoes now c h
 goes_there m now c h k s x = record { reads = rw s x.reads; small = rw k x.small }
@@ -185,7 +181,7 @@ module _ {M : Type 0} {o : Calls M} (r : SuccessorReader o) where
     pub looks_last : (ps : List SeatedPass) (now : SuccessorRun) (n : NodeNo) (snap : Snap) (a : Refused) → IsSameSuccessor m now
         → ((c : Call) (h : History) → SuccessorGoes m c h → LooksAt m c h route level side snap.node.0 → IsSnapshot c.layout h snap.node.0 snap → SuccessorGoesOn c h now (Err a))
         → LookerSnaps looker ps n snap → SearchEnds r ps now (Err a)
-    looks_last ps now n snap a is goes = looked ps now n snap (Done (Err a)) is (λ begin h try g l s. no_memory now r.call begin h a (goes (begun_at r.call begin) h g l s))
+    looks_last ps now n snap a is goes = looked ps now n snap (Done (Err a)) is (λ begin h try g l s. ends_refused now r.call begin h a m.tries (rw is.1 try) (goes (begun_at r.call begin) h g l s))
 
     -- its fork is no deeper than the taken nodes allow
     pub level_fits : (ps : List SeatedPass) (n : NodeNo) (snap : Snap) → LookerSnaps looker ps n snap → level + 1 < 2 + shared_nodes o.layout

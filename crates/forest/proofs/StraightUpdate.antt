@@ -112,21 +112,17 @@ full_there e c h m at full x = record { found = x.found; has_found = x.has_found
 pub answers_there : {E A B : Type 0} (e : EditMeaning E) (c : Call) (h : History) (m : UpdateRun E A) (at : B) (a : Updated) → UpdateAnswers e m c h a → UpdateAnswers e (standing m at) c h a
 answers_there e c h m at (DoneAnswer key value) x = x
 answers_there e c h m at (ContendedAnswer n s) x = x
-answers_there e c h m at (FullAnswer full) x = (x.0, full_there e c h m at full x.1)
+answers_there e c h m at (FullAnswer full) x = (x.0, full_there e c h m at full x.1, x.2)
 
 may_stop_there : {E A : Type 0} (e : EditMeaning E) (c : Call) (h : History) (m : UpdateRun E A) (f : Found) (stop : Stop) → MayStop e c h m f stop → MayStop e c h (standing m Start) f stop
 may_stop_there e c h m f NothingStop x = x
 may_stop_there e c h m f (LostStop n s) x = (record { run = x.0.run; small = x.0.small; since = x.0.since; rests = x.0.rests }, x.1)
-may_stop_there e c h m f (FullStop full) x = (x.0, full_there e c h m Start full x.1)
+may_stop_there e c h m f (FullStop full) x = (x.0, full_there e c h m Start full x.1, x.2)
 
 module _ {M E : Type 0} {o : Calls M} {e : EditMeaning E} (u : Updater o e) where
   -- a call is made by one of the passes
   pub has_passes : 0 < o.layout.passes
   has_passes = subst (λ (l : Layout). 0 < l.passes) u.is_layout (let i = u.call.is_pass in omega (arith, i))
-
-  -- once it is over no try may take any more
-  all_spent : {A : Type 0} (old : UpdateRun E UpdateAt) (m : UpdateRun E A) (left : ℕ) → HasUpdateGoneOn e old m left left → HasUpdateGoneOn e old m 0 0
-  all_spent old m left x = record { edit = x.edit; called = x.called; limit = x.limit; tries = x.tries; spends = (let s = x.spends.0 in omega (arith, s), let s = x.spends.1 in omega (arith, s), let s = x.spends.2 in omega (arith, s)) }
 
   -- the update with its walk at a place
   abbrev pub walking : {A : Type 0} → UpdateRun E A → WalkRun → UpdateRun E UpdateAt
@@ -217,7 +213,7 @@ module _ {M E : Type 0} {o : Calls M} {e : EditMeaning E} (u : Updater o e) wher
       known = x.known;
       is = x.is;
       sound = x.sound;
-      so = record { old = x.so.old; got = x.so.got; was = x.so.was; goes = record { edit = is.0 ∙ x.so.goes.edit; called = is.1 ∙ x.so.goes.called; limit = is.2 ∙ x.so.goes.limit; tries = fewer_then x.so.tries fewer; spends = joined_spends e.most_nodes x.so.old.share m.share now.share (node_tries x.so.old x.so.old.at) 0 (scx_tries x.so.old x.so.old.at) 0 m.tries x.so.goes.spends spent }; answers = next _ (u.tree _ x.sound) x.so.may; course = x.so.course };
+      so = record { old = x.so.old; got = x.so.got; was = x.so.was; goes = record { edit = is.0 ∙ x.so.goes.edit; called = is.1 ∙ x.so.goes.called; limit = is.2 ∙ x.so.goes.limit; tries = fewer_then x.so.tries fewer; spends = joined_spends e.most_nodes x.so.old.share m.share now.share (node_tries x.so.old x.so.old.at) now.tries (scx_tries x.so.old x.so.old.at) now.tries m.tries x.so.goes.spends spent }; answers = next _ (u.tree _ x.sound) x.so.may; course = x.so.course };
     }
 
   -- behind its walk it goes on as its try does
@@ -307,10 +303,10 @@ module _ {M E : Type 0} {o : Calls M} {e : EditMeaning E} (u : Updater o e) wher
 
   -- where the try ends with nothing to make, or with too little left, it has answered so
   pub ends_needless : (ps : List SeatedPass) {A : Type 0} (m : UpdateRun E A) (f : Found) → UpdaterStops u ps m f NothingStop → UpdaterEnds u ps m (done_with f)
-  ends_needless ps m f x = record { known = x.known; is = x.is; sound = x.sound; so = let y = x.so in record { old = y.old; got = y.got; was = y.was; goes = all_spent y.old m m.tries y.goes; answers = y.may; course = y.course } }
+  ends_needless ps m f x = record { known = x.known; is = x.is; sound = x.sound; so = let y = x.so in record { old = y.old; got = y.got; was = y.was; goes = y.goes; answers = y.may; course = y.course } }
 
   pub ends_full : (ps : List SeatedPass) {A : Type 0} (m : UpdateRun E A) (f : Found) (full : Full) → UpdaterStops u ps m f (FullStop full) → UpdaterEnds u ps m (FullAnswer full)
-  ends_full ps m f full x = record { known = x.known; is = x.is; sound = x.sound; so = let y = x.so in record { old = y.old; got = y.got; was = y.was; goes = all_spent y.old m m.tries y.goes; answers = y.may; course = y.course } }
+  ends_full ps m f full x = record { known = x.known; is = x.is; sound = x.sound; so = let y = x.so in record { old = y.old; got = y.got; was = y.was; goes = y.goes; answers = y.may; course = y.course } }
 
   -- Its machine goes on
 

@@ -25,7 +25,7 @@ use Rattle.order.specs.declared.range.RangeNext.TheVariants.{Head as HeadNext, K
 use Rattle.order.specs.declared.range.RangeRun.{RangeRun}
 use Rattle.order.specs.Tries.{IsInTry}
 use Rattle.order.specs.declared.refused.Refused.{Refused}
-use Rattle.order.proofs.Lemmas.{range_next_waits, range_placed_nearer}
+use Rattle.order.proofs.Lemmas.{range_ends_refused, range_next_waits, range_placed_nearer}
 use Rattle.prims.specs.Llx.Known.{load, IsSnapshot}
 use Rattle.prims.specs.Snap.{snap_at}
 use Rattle.prims.specs.declared.llx.LlxAt.TheVariants.{Marked, StateAgain}
@@ -57,10 +57,6 @@ same_placed old m (KeyNext head n) is = is
 same_placed old m (ValueNext key n) is = is
 same_placed old m (LookNext level left right n) is = is
 same_placed old m ValidateNext is = is
-
--- want of memory is an answer of the whole call too
-no_memory : (m : RangeRun) (c : Call) (begin h : History) (a : Refused) → RangeGoesOn (begun_at c begin) h m (Err a) → RangeAnswers m c h (Err a)
-no_memory m c begin h a x = rw x.0 (x.1.0, tt)
 
 -- what it knows does not depend on where it stands
 
@@ -125,7 +121,7 @@ module _ {M : Type 0} {o : Calls M} (r : RangeReader o) where
 
   pub value_last : (ps : List SeatedPass) (m now : RangeRun) (key : ℕ) (n : NodeNo) (v : ℕ) (a : Refused) → IsSameRange m now → ((c : Call) (h : History) (k : ℕ) → RangeGoes m c h → IsOwnMoment c h → HasKey m c h k key → value_at h k ≡ v → RangeGoesOn c h now (Err a)) → IsTold ps (range_placed m (ValueNext key n)) v → VisitEnds r ps now (Err a)
   value_last ps m now key n v a is goes = ends_at ps (range_placed m (ValueNext key n)) now (Err a) v is
-      (λ h run y. let c = begun_at r.call y.0 in no_memory now r.call y.0 h a (goes c h n.0 (goes_there (range_placed m (ValueNext key n)) m c h refl y.2) y.3 (key_there (range_placed m (ValueNext key n)) m c h n.0 key refl y.4.0) y.4.1))
+      (λ h run y. let c = begun_at r.call y.0 in range_ends_refused now r.call y.0 h a m.tries (rw is.3 y.1) (goes c h n.0 (goes_there (range_placed m (ValueNext key n)) m c h refl y.2) y.3 (key_there (range_placed m (ValueNext key n)) m c h n.0 key refl y.4.0) y.4.1))
 
   -- what it is told fits the taken nodes
   pub told_fits : (ps : List SeatedPass) (m : RangeRun) (v : ℕ) → IsTold ps m v → RangeFits m (Some v) (shared_nodes o.layout)
@@ -229,7 +225,7 @@ module _ {M : Type 0} {o : Calls M} (r : RangeReader o) where
     pub looks_last : (ps : List SeatedPass) (now : RangeRun) (n : NodeNo) (snap : Snap) (a : Refused) → IsSameRange m now
         → ((c : Call) (h : History) → RangeGoes m c h → LooksIn m c h level left right snap.node.0 → IsSnapshot c.layout h snap.node.0 snap → RangeGoesOn c h now (Err a))
         → LookerSnaps looker ps n snap → VisitEnds r ps now (Err a)
-    looks_last ps now n snap a is goes = looked ps now n snap (Done (Err a)) is (λ begin h try g l s. no_memory now r.call begin h a (goes (begun_at r.call begin) h g l s))
+    looks_last ps now n snap a is goes = looked ps now n snap (Done (Err a)) is (λ begin h try g l s. range_ends_refused now r.call begin h a m.tries (rw is.3 try) (goes (begun_at r.call begin) h g l s))
 
     -- its fork is no deeper than the taken nodes allow
     pub level_fits : (ps : List SeatedPass) (n : NodeNo) (snap : Snap) → LookerSnaps looker ps n snap → level + 1 < 2 + shared_nodes o.layout

@@ -15,8 +15,9 @@ use Rattle.ordered_map.specs.OrderedMap.{MapCall, Edit, Successor, Range, MapRep
 use Rattle.ordered_map.specs.Runs.{Makes, map_of_log}
 use Rattle.ordered_map.specs.Spelled.{Spells}
 use Rattle.template.specs.Blame.{IsOverOrNew, HasLostTriesTo}
+use Rattle.template.specs.Tries.{tries_since, HasTriedAtMost}
 use Rattle.ordered_map.specs.CallRules.{need, most_nodes, most_scx, most_steps}
-use Rattle.dict.specs.Calls.{AsksForPairs}
+use Rattle.dict.specs.Calls.{AsksForPairs, most_tries}
 use Rattle.dict.specs.Says.{HasMadeRow, HasTooLittle, KeepsLists}
 use Rattle.dict.specs.Typed.{TypedAllows}
 use Rattle.dict.specs.Words.{IsWordOf}
@@ -128,12 +129,15 @@ IsRefusalOf tries old new call (Full full) = IsFullCall old new call full
 IsRefusalOf tries old new call NoMemory = KeepsLists call × (done_of new ≡ done_of old)
 IsRefusalOf tries old new call _ = Unit {0}
 
--- What a call takes and blames
+-- What a call tries, takes and blames
 
--- of the share no more is gone than so many tries of the call may take
+-- The call, which may try so often, has begun no more tries, and each only as needed: each but the
+-- newest was lost to another pass by the begin of the next. Of the share no more is gone than the
+-- tries that it has begun may take.
 pub record HasSpentAtMost (old new : PassView) (call : MapCall) (tries : ℕ) : Type 0 where
-  pub nodes : old.share.nodes ≤ new.share.nodes + most_nodes call * tries
-  pub scx : old.share.scx ≤ new.share.scx + most_scx call tries
+  pub tried : HasTriedAtMost new.layout new.number (run_of new) (run_of old) (most_tries call tries)
+  pub nodes : old.share.nodes ≤ new.share.nodes + most_nodes call * tries_since new.number (run_of new) (run_of old)
+  pub scx : old.share.scx ≤ new.share.scx + most_scx call (tries_since new.number (run_of new) (run_of old))
   -- for each SCX-record that is gone no more nodes than a try may take
   pub each : old.share.nodes + most_nodes call * new.share.scx ≤ new.share.nodes + most_nodes call * old.share.scx
   -- and nothing has come back

@@ -58,7 +58,7 @@ pub record HasAnswered {M E : Type 0} {o : Calls M} {e : EditMeaning E} (u : Upd
   pub old : UpdateRun E UpdateAt
   pub got : Option ℕ
   pub was : o.ready (u.with_run old) u.call h got
-  pub goes : HasUpdateGoneOn e old m 0 0
+  pub goes : HasUpdateGoneOn e old m m.tries m.tries
   pub answers : UpdateAnswers e m u.call h a
   pub course : Trace o.allows o.waits o.same u.call u.first (u.with_run old) h
 

@@ -21,11 +21,11 @@ use Rattle.prims.specs.declared.snap.Snap.{Snap}
 use Rattle.prims.proofs.Lemmas.{usable_now, usable_since}
 use Rattle.order.specs.Reads.{HasSnapped, Reads, HasStood}
 use Rattle.ordered_map.specs.OrderedMap.{MapCall, MapReply}
-use Rattle.ordered_map.specs.Tries.{tries_begun}
 use Rattle.order.specs.Replies.{IsReplyAt, KeepsTries}
 use Rattle.order.specs.Tries.{BeginsTry, IsInTry}
 use Rattle.template.specs.Blame.{IsContended, HasLostTriesTo}
-use Rattle.template.proofs.Lemmas.{changed_contended, contended_wider, failed_contended, finalized_contended, tries_begin}
+use Rattle.template.specs.Tries.{HasTriedAtMost, MayTryNext, IsInNewest}
+use Rattle.template.proofs.Lemmas.{changed_contended, contended_wider, failed_contended, finalized_contended, lost_to, next_again, next_first, tried_few, tried_in}
 
 module _ (c : Call) (h : History) (snaps : List Snap) (reads : Reads c h snaps) where
   -- an LLX that has begun in the call fails
@@ -64,9 +64,17 @@ gives_up c h before now (Done answer) n s begins some is way = absurd begins
 
 -- Its tries
 
--- in a try it has begun one more than before
-tries_in : (c : Call) (h begin : History) (limit left : ℕ) → IsInTry c h begin limit left → tries_begun c.pass h ≡ suc (tries_begun c.pass begin)
-tries_in c h begin limit left try = try.newest.none_since ∙ tries_begin c.pass try.newest.first begin try.newest.begins
+-- in a try it is in its newest
+in_newest : (c : Call) (h begin : History) (limit left : ℕ) → IsInTry c h begin limit left → IsInNewest c begin h limit left
+in_newest c h begin limit left try = record { next = try.begins.next; newest = try.newest }
+
+-- and has tried as needed
+pub tried_here : (c : Call) (h begin : History) (limit left : ℕ) → IsInTry c h begin limit left → HasTriedAtMost c.layout c.pass h c.start limit
+tried_here c h begin limit left try = tried_few c h limit left (tried_in c begin h limit left (in_newest c h begin limit left try))
+
+-- so has a call that is about to begin one
+pub tried_before : (c : Call) (h : History) (limit left : ℕ) → BeginsTry c h limit left → HasTriedAtMost c.layout c.pass h c.start limit
+tried_before c h limit left x = record { few = let all = x.next.all in omega (arith, all); as_needed = x.next.as_needed }
 
 -- it is in it whatever the numbers are called
 pub try_as : (c : Call) (h begin : History) (limit left most now : ℕ) → most ≡ limit → now ≡ left → IsInTry c h begin limit left → IsInTry c h begin most now
@@ -78,23 +86,14 @@ try_contended c begin h n s limit left try way = contended_wider c begin h n s t
 
 -- and where that was the last, all are lost to it
 pub all_lost : (c : Call) (begin h : History) (n s limit left : ℕ) → IsInTry c h begin limit left → left ≡ 0 → IsContended (begun_at c begin) h n s → HasLostTriesTo c.pass h c.start limit n s
-all_lost c begin h n s limit left try last way = record {
-  lost = record {
-    begin = begin;
-    since = try.begins.since;
-    newest = try.newest;
-    all = let one = tries_in c h begin limit left try in let all = try.begins.all in omega (arith, one, all, last);
-    in_the_way = way.in_the_way;
-  };
-  found = way.found;
-}
+all_lost c begin h n s limit left try last way = lost_to c begin h limit left (in_newest c h begin limit left try) n s way try.begins.since last
 
 -- else it may begin another
-pub begins_again : (c : Call) (begin h : History) (limit left now : ℕ) → IsInTry c h begin limit left → Extends h begin → left ≢ 0 → now ≡ left - 1 → BeginsTry c h limit now
-begins_again c begin h limit left now try since some is = record {
+pub begins_again : (c : Call) (begin h : History) (n s limit left now : ℕ) → IsInTry c h begin limit left → IsContended (begun_at c begin) h n s → Extends h begin → left ≢ 0 → now ≡ left - 1 → BeginsTry c h limit now
+begins_again c begin h n s limit left now try way since some is = record {
   since = ends_trans h begin c.start since try.begins.since;
   quiet = try.quiet;
-  all = let one = tries_in c h begin limit left try in let all = try.begins.all in omega (arith, one, all, some, is);
+  next = next_again c begin h limit left (in_newest c h begin limit left try) n s way now some is;
 }
 
 -- the first of a call that has just begun
@@ -102,7 +101,7 @@ pub begins_first : (c : Call) (h : History) (limit left : ℕ) → h ≡ c.start
 begins_first c h limit left e idle all = record {
   since = subst (Extends h) e (ends_self h);
   quiet = subst (λ k. IsQuietSince c.layout c.pass k h) e (quiet_at_start c.layout c.pass h idle);
-  all = let same : tries_begun c.pass h ≡ tries_begun c.pass c.start = ap (tries_begun c.pass) e in omega (arith, same, all);
+  next = subst (λ k. MayTryNext c k limit left) (sym e) (next_first c limit left all);
 }
 
 -- a try that is given up in a part of the call is given up in the call

@@ -17,6 +17,7 @@ use Rattle.prims.specs.declared.llx.LlxRun.{LlxRun}
 use Rattle.prims.proofs.Lemmas.{turn_first}
 use Rattle.ordered_map.specs.TreeShape.{TreeAllows}
 use Rattle.order.specs.Tries.{IsInTry}
+use Rattle.order.proofs.Blaming.{tried_here}
 use Rattle.template.specs.FoundLeaf.{HasFoundGoal}
 use Rattle.template.specs.Trails.{IsOwnMoment}
 use Rattle.template.specs.Walk.Known.{WalkWaits}
@@ -51,8 +52,8 @@ pub stands_there : (m now : SuccessorRun) (c : Call) (h : History) (turn : Turn 
 stands_there m now c h turn next is asked x = rw (asked, is) (next_waits m c h next x)
 
 -- or it ends, for want of memory
-pub ends_refused : (m : SuccessorRun) (c : Call) (begin h : History) (refused : Refused) → SuccessorGoesOn (begun_at c begin) h m (Err refused) → SuccessorAnswers m c h (Err refused)
-ends_refused m c begin h refused x = rw x.0 (x.1.0, tt)
+pub ends_refused : (m : SuccessorRun) (c : Call) (begin h : History) (refused : Refused) (left : ℕ) → IsInTry c h begin m.limit left → SuccessorGoesOn (begun_at c begin) h m (Err refused) → SuccessorAnswers m c h (Err refused)
+ends_refused m c begin h refused left try x = rw x.0 (x.1, tt, tried_here c h begin m.limit left try)
 
 -- and has fewer steps left than before
 pub placed_nearer : (m : SuccessorRun) (next : SuccessorNext) (nodes n : ℕ) → 0 < n → SuccessorComesNearer m next nodes n → successor_left (successor_placed m next) nodes < m.tries * successor_try_left nodes + n

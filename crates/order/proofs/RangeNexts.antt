@@ -21,7 +21,8 @@ use Rattle.order.specs.declared.range.RangeNext.{RangeNext}
 use Rattle.order.specs.declared.range.RangeNext.TheVariants.{Look, Head, Key, Value, Validate}
 use Rattle.order.specs.declared.range.RangeRun.{RangeRun}
 use Rattle.order.specs.declared.refused.Refused.{Refused}
-use Rattle.order.proofs.Blaming.{first_look}
+use Rattle.order.specs.Tries.{IsInTry}
+use Rattle.order.proofs.Blaming.{first_look, tried_here}
 use Rattle.order.proofs.RangeTurns.{Told, asks_head, asks_key, asks_value, looks_on, validates_on}
 use Rattle.order.proofs.RangeVisits.{look_ready, validates}
 
@@ -40,8 +41,8 @@ pub stands_there : (m now : RangeRun) (c : Call) (h : History) (turn : Turn Told
 stands_there m now c h turn next is asked x = rw (asked, is) (next_waits m c h next x)
 
 -- or it ends, for want of memory
-pub ends_refused : (m : RangeRun) (c : Call) (begin h : History) (refused : Refused) → RangeGoesOn (begun_at c begin) h m (Err refused) → RangeAnswers m c h (Err refused)
-ends_refused m c begin h refused x = rw x.0 (x.1.0, tt)
+pub ends_refused : (m : RangeRun) (c : Call) (begin h : History) (refused : Refused) (left : ℕ) → IsInTry c h begin m.limit left → RangeGoesOn (begun_at c begin) h m (Err refused) → RangeAnswers m c h (Err refused)
+ends_refused m c begin h refused left try x = rw x.0 (x.1, tt, tried_here c h begin m.limit left try)
 
 -- and has fewer steps left than before
 pub placed_nearer : (m : RangeRun) (next : RangeNext) (nodes n : ℕ) → 0 < n → RangeComesNearer m next nodes n → range_left (range_placed m next) nodes < m.tries * range_try_left m.most nodes + n

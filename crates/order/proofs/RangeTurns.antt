@@ -36,7 +36,8 @@ use Rattle.order.specs.declared.refused.Refused.{Refused}
 use Rattle.order.specs.declared.range.RangeAt.{RangeAt}
 use Rattle.order.specs.declared.range.RangeAt.TheVariants.{Start, Root, Head, Key, Value, Look, Validate}
 use Rattle.order.specs.declared.range.RangeRun.{RangeRun}
-use Rattle.order.proofs.Blaming.{look_failed, look_finalized, look_changed, reply_wider}
+use Rattle.order.proofs.Blaming.{look_failed, look_finalized, look_changed, reply_wider, tried_before}
+use Rattle.template.specs.Tries.{HasTriedAtMost}
 use Rattle.order.proofs.RangeVisits.{replies, none_of_none, no_keys, take_none}
 
 abbrev pub Told : Type 0
@@ -68,16 +69,16 @@ visits_at m at c h n x = record { stood = x.stood; ordered = x.ordered; room = x
 -- It ends
 
 -- with the pairs that it has taken
-pub told_all : (m now : RangeRun) (c : Call) (h : History) (turn : Turn Told) → HasToldPairs m now turn → AreFinished c.layout c.pass 0 h → RangeReplies m c h m.taken.items → RangeTurn c h now turn
-told_all m now c h turn x over right = rw x.done (over, rw (x.taken, x.low, x.high, x.most) right)
+pub told_all : (m now : RangeRun) (c : Call) (h : History) (turn : Turn Told) → HasToldPairs m now turn → AreFinished c.layout c.pass 0 h → RangeReplies m c h m.taken.items → HasTriedAtMost c.layout c.pass h c.start m.limit → RangeTurn c h now turn
+told_all m now c h turn x over right tried = rw x.done (over, rw (x.taken, x.low, x.high, x.most) right, rw x.limit tried)
 
 -- with none, at once
 nothing_told : (m : RangeRun) → AsksForNothing m → (map : List Pair) → range m.low m.high m.most map ≡ []
 nothing_told m (inl e) map = rw e (none_of_none m.low m.high map)
 nothing_told m (inr i) map = ap (λ ps. take m.most ps) (no_keys m.low m.high map i) ∙ take_none m.most
 
-pub told_none : (m now : RangeRun) (c : Call) (h : History) (turn : Turn Told) → HasToldPairs m now turn → m.taken.items ≡ [] → AsksForNothing m → AreFinished c.layout c.pass 0 h → RangeTurn c h now turn
-told_none m now c h turn x none nothing over = told_all m now c h turn x over (rw none (inr (nothing, nothing_told m nothing)))
+pub told_none : (m now : RangeRun) (c : Call) (h : History) (turn : Turn Told) → HasToldPairs m now turn → m.taken.items ≡ [] → AsksForNothing m → AreFinished c.layout c.pass 0 h → BeginsTry c h m.limit m.tries → RangeTurn c h now turn
+told_none m now c h turn x none nothing over try = told_all m now c h turn x over (rw none (inr (nothing, nothing_told m nothing))) (tried_before c h m.limit m.tries try)
 
 pub tells_none : (m now : RangeRun) (turn : Turn Told) → HasToldPairs m now turn → m.taken.items ≡ [] → TellsNone turn
 tells_none m now turn x none = (x.told, x.done, x.taken ∙ none)

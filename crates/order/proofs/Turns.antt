@@ -42,7 +42,7 @@ use Rattle.order.specs.declared.successor.Route.{Route}
 use Rattle.order.specs.declared.successor.SuccessorAt.{SuccessorAt}
 use Rattle.order.specs.declared.successor.SuccessorAt.TheVariants.{Start, Walk, Look, Head, Key, Value, Validate}
 use Rattle.order.specs.declared.successor.SuccessorRun.{SuccessorRun}
-use Rattle.order.proofs.Blaming.{look_failed, look_finalized, look_changed, reply_wider}
+use Rattle.order.proofs.Blaming.{look_failed, look_finalized, look_changed, reply_wider, tried_here}
 use Rattle.order.proofs.Finding.{last_turned, replies}
 
 abbrev pub Told : Type 0
@@ -191,7 +191,7 @@ module _ (m : SuccessorRun) (c : Call) (begin look h : History) (asked : ℕ) (f
   )
 
   pub told : turn ≡ Done Same → IsInTry c h begin m.limit m.tries → SuccessorAnswers m c h (Ok found)
-  told is try = (goes.reads.over, reply_wider c begin h _ _ try.begins.since (replies m (begun_at c begin) look h found x (rw is at w)))
+  told is try = (goes.reads.over, reply_wider c begin h _ _ try.begins.since (replies m (begun_at c begin) look h found x (rw is at w)), tried_here c h begin m.limit m.tries try)
 
   pub changed : (n : NodeNo) (s : ScxNo) → turn ≡ Done (Changed n s) → IsContended (begun_at c begin) h n.0 s.0
   changed n s is = look_changed (begun_at c begin) look h m.snaps.items n.0 s.0 goes.reads.run.1.lawful x.reads (rw is at w)

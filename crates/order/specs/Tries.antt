@@ -1,17 +1,18 @@
 -- The tries of an ordered read: it begins one with the load of the root's head, and is in it from
 -- then on, until it begins the next.
-use Rattle.std.specs.Prelude.{◌≡◌, ℕ, suc, ◌+◌}
+use Rattle.std.specs.Prelude.{ℕ}
 use Rattle.arena.specs.History.{History, Extends}
 use Rattle.arena.specs.Machines.{Call}
 use Rattle.prims.specs.Laws.Idle.{IsQuietSince}
-use Rattle.ordered_map.specs.Tries.{tries_begun, IsNewestTry}
+use Rattle.ordered_map.specs.Tries.{IsNewestTry}
+use Rattle.template.specs.Tries.{MayTryNext}
 
--- The call is about to begin a try, of `limit` in all, behind which so many will be left. None of
--- its pass's SCX-records was in progress since the call began.
+-- The call is about to begin a try, of `limit` in all, behind which so many will be left: it has lost
+-- all others. None of its pass's SCX-records was in progress since the call began.
 pub record BeginsTry (c : Call) (h : History) (limit left : ℕ) : Type 0 where
   pub since : Extends h c.start
   pub quiet : IsQuietSince c.layout c.pass c.start h
-  pub all : suc (tries_begun c.pass h + left) ≡ tries_begun c.pass c.start + limit
+  pub next : MayTryNext c h limit left
 
 -- The call is in the try that it was about to begin at the moment `begin`, which is its newest.
 pub record IsInTry (c : Call) (h begin : History) (limit left : ℕ) : Type 0 where

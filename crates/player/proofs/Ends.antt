@@ -412,7 +412,7 @@ ends_map v c (Map m) then a x =
     let call = machine_call v c works.is_pass v.start in
     let answers : DictAnswers IsSmall (λ k. k) IsSmall (λ w. w) m call v.past a = subst (λ (k : History). DictAnswers IsSmall (λ k. k) IsSmall (λ w. w) m (machine_call v c works.is_pass k) v.past a) works.begun x.answers in
     let refuses : DictRefuses call v.past (map_request request) share m.tries a = subst (λ (k : MapCall). DictRefuses call v.past k share m.tries a) of answers.refuses in
-    let spent : HasSpent call (map_request request) m.tries share = subst (λ (k : MapCall). HasSpent call k m.tries share) of answers.spent in
+    let spent : HasSpent call v.past (map_request request) m.tries share = subst (λ (k : MapCall). HasSpent call v.past k m.tries share) of answers.spent in
     let right =
     map_ends v c works.is_pass works.won request a share (subst AsksForPairs of works.run_of.asks) answers.rests
     (subst (λ (k : MapCall). MayReply k (form_of a)) of answers.form)
@@ -420,7 +420,7 @@ ends_map v c (Map m) then a x =
     (subst (λ (n : ℕ). DictRefuses call v.past (map_request request) share n a) works.limit refuses) in
     let took =
     map_took call v.past request v.tries share (subst (λ (k : History). Extends v.past k) works.begun works.since) answers.rests
-    (subst (λ (n : ℕ). HasSpent call (map_request request) n share) works.limit spent) in
+    (subst (λ (n : ℕ). HasSpent call v.past (map_request request) n share) works.limit spent) in
     ends_as v c works.command (MapAnswer a) works.is works.stands (holds_back v c share works.is_pass x.back answers.rests) x.none
     (subst (λ (k : Command). IsOutcome v c.pass.0 [] k (MapAnswer a)) (sym works.run_of.is) (map_outcome v c request (MapAnswer a) right took))
     works.late

@@ -11,3 +11,4 @@ pub use Rattle.template.proofs.FirstFound.{found_small, found_own, found_first}
 pub use Rattle.template.proofs.Contending.{changed_contended, contended_later, contended_wider, failed_contended, finalized_contended, way_contended}
 pub use Rattle.template.proofs.WalkEdges.{walk_begins, head_to_key, head_ends, head_to_child, key_to_child, key_to_value, key_ends, value_ends, child_to_head}
 pub use Rattle.template.proofs.Tries.{BeginsNoTry, others_begin_none, own_begins, own_begins_none, tries_more, tries_begin, newest_more, newest_now, other_kind_begins_none, scx_word_begins_none, other_node_begins_none, help_begins_none, llx_begins_none, vlx_begins_none, scx_begins_none, walk_begins_none, walk_past_root}
+pub use Rattle.template.proofs.Needed.{one_row, tried_one, next_more, in_newest_more, in_newest_now, next_first, tried_in, next_again, lost_to, tried_few, alone_once}

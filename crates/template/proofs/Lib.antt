@@ -9,4 +9,5 @@ mod Deleting
 mod Tracking
 mod Contending
 mod Tries
+mod Needed
 pub mod Lemmas

@@ -5,4 +5,5 @@ pub mod Promises
 pub mod FreshNodes
 pub mod Tracked
 pub mod Blame
+pub mod Tries
 pub mod Laws

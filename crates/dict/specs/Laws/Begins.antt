@@ -8,6 +8,7 @@ use Rattle.order.proofs.Lemmas.{successor_ready_first, range_ready_first}
 use Rattle.prims.specs.Laws.Idle.{quiet_at_start, idle_if_finished}
 use Rattle.ordered_map.specs.Runs.{IsTreeRun}
 use Rattle.template.specs.FoundLeaf.{path_key}
+use Rattle.template.proofs.Lemmas.{next_first}
 use Rattle.tree.specs.Delete.Means.{delete_means}
 use Rattle.tree.specs.Insert.Means.{insert_means}
 use Rattle.tree.proofs.Lemmas.{get_ready_first}
@@ -37,7 +38,7 @@ module _ (c : Call) (run : IsTreeRun c.layout c.start) where
     update_ready : path_key (e.goal m.edit) < 2 ^ 64 → m.limit ≡ m.tries + 1 → UpdateIsReady e m c c.start None
     update_ready small all = (
       record { run = run; small = small; since = ends_self c.start; rests = share },
-      record { since = ends_self c.start; none = none_yet c.layout c.pass c.start; all = omega (arith, all) },
+      record { since = ends_self c.start; none = none_yet c.layout c.pass c.start; next = next_first c m.limit m.tries (omega (arith, all)) },
       share,
       at,
     )

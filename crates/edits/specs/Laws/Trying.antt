@@ -1,5 +1,5 @@
 -- The tries of a call, row by row.
-use Rattle.std.proofs.Common.{◌≡◌, ℕ, suc, ◌+◌, inl, inr, true, false, ◌∙◌, ap, arith}
+use Rattle.std.proofs.Common.{◌≡◌, ℕ, inl, inr, true, false}
 use Rattle.arena.specs.declared.step.Row.{Row}
 use Rattle.arena.specs.declared.step.Step.{Step}
 use Rattle.arena.specs.declared.step.Kind.TheVariants.{LoadSettled}
@@ -14,17 +14,17 @@ use Rattle.ordered_map.specs.Tries.{begins_try}
 use Rattle.template.specs.Walk.Places.{IsPastRoot}
 use Rattle.template.specs.declared.walk.WalkAt.{WalkAt}
 use Rattle.template.specs.declared.walk.WalkAt.TheVariants.{Start, Root, Head, Key, Child, Value}
-use Rattle.template.proofs.Lemmas.{contended_later, newest_more, newest_now, own_begins, tries_begin, tries_more}
+use Rattle.template.proofs.Lemmas.{contended_later, in_newest_more, in_newest_now, next_more, own_begins}
 use Rattle.edits.specs.Known.{IsUntouched}
 use Rattle.edits.specs.Tries.{HasEnteredNone, MayTry, IsTry, IsTryAt}
 
 -- a row that begins no try of the pass leaves its newest the newest
 module _ (c : Call) (begin h : History) (r : Row) (limit left : ℕ) (none : begins_try c.pass r ≡ false) where
   pub may_more : MayTry c begin h limit left → MayTry c begin (r ⊳ h) limit left
-  may_more x = record { since = x.since; none = x.none; all = ap (λ n. n + suc left) (tries_more c.pass r h none) ∙ x.all }
+  may_more x = record { since = x.since; none = x.none; next = next_more c r h limit left none x.next }
 
   pub try_more : IsTry c begin h limit left → IsTry c begin (r ⊳ h) limit left
-  try_more x = record { since = x.since; none = x.none; newest = newest_more c.pass r h begin none x.newest; all = ap (λ n. n + left) (tries_more c.pass r h none) ∙ x.all }
+  try_more x = record { since = x.since; none = x.none; newest = in_newest_more c r h limit left begin none x.newest }
 
   pub try_at_more : (at : WalkAt) → IsTryAt c begin h limit left at → IsTryAt c begin (r ⊳ h) limit left at
   try_at_more Start x = try_more x
@@ -48,8 +48,7 @@ pub try_begins : (c : Call) (begin h : History) (s : Step) (limit left : ℕ) �
 try_begins c begin h s limit left asked since none x = record {
   since = since;
   none = none;
-  newest = newest_now c.pass (row_of c s h) h begins;
-  all = let more = tries_begin c.pass (row_of c s h) h begins in let all = x.all in omega (arith, more, all);
+  newest = in_newest_now c (row_of c s h) h limit left begins x.next;
 }
   where
     begins : begins_try c.pass (row_of c s h) ≡ true

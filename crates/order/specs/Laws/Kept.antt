@@ -24,7 +24,7 @@ use Rattle.ordered_map.specs.TreeShape.{TreeAllows}
 use Rattle.ordered_map.specs.TreeWords.{level}
 use Rattle.ordered_map.specs.Tries.{begins_try}
 use Rattle.ordered_map.proofs.Lemmas.{path_not_final, root_head, run_since, stood_settled, walk_first, was_passed, SameSettled}
-use Rattle.template.proofs.Lemmas.{BeginsNoTry, newest_more, newest_now, other_node_begins_none, tries_more}
+use Rattle.template.proofs.Lemmas.{BeginsNoTry, newest_more, newest_now, next_more, other_node_begins_none}
 use Rattle.order.specs.Reads.{AreSnapped, Reads, Whenever, HasStood}
 use Rattle.order.specs.Tries.{BeginsTry, IsInTry}
 
@@ -92,7 +92,7 @@ module _ (c : Call) (h : History) (r : Row) where
 module _ (c : Call) (h : History) (r : Row) (limit left : ℕ) (idle : IsIdle c.layout c.pass (r ⊳ h)) where
   -- a row that begins no try leaves it where it is
   pub begins_more : begins_try c.pass r ≡ false → BeginsTry c h limit left → BeginsTry c (r ⊳ h) limit left
-  begins_more none x = record { since = inr x.since; quiet = quiet_more c.layout c.pass c.start h r idle x.quiet; all = rw (tries_more c.pass r h none) x.all }
+  begins_more none x = record { since = inr x.since; quiet = quiet_more c.layout c.pass c.start h r idle x.quiet; next = next_more c r h limit left none x.next }
 
   pub in_try_more : (begin : History) → begins_try c.pass r ≡ false → IsInTry c h begin limit left → IsInTry c (r ⊳ h) begin limit left
   in_try_more begin none x = record { begins = x.begins; quiet = quiet_more c.layout c.pass c.start h r idle x.quiet; newest = newest_more c.pass r h begin none x.newest }

@@ -24,6 +24,7 @@ use Rattle.order.specs.Reads.{Reads, AllHold, Whenever, HasStood}
 use Rattle.order.specs.Replies.{IsReplyAt}
 use Rattle.order.specs.Tries.{BeginsTry, IsInTry}
 use Rattle.template.specs.Blame.{IsContended, HasLostTriesTo}
+use Rattle.template.specs.Tries.{HasTriedAtMost}
 use Rattle.order.specs.Visits.{Bounds, IsVisiting, HasVisited, IsRangeAt}
 use Rattle.order.specs.declared.refused.Refused.{Refused}
 use Rattle.order.specs.declared.refused.Refused.TheVariants.{Contended, NoMemory}
@@ -171,9 +172,9 @@ IsRangeAnswer m c h (Ok told) = RangeReplies m c h told.items
 IsRangeAnswer m c h (Err (Contended n s)) = IsContended c h n.0 s.0 × (m.tries ≡ 0) × HasLostTriesTo c.pass h c.start m.limit n.0 s.0
 IsRangeAnswer m c h (Err NoMemory) = Unit {0}
 
--- and behind it the pass is at rest
+-- and behind it the pass is at rest, and has begun no more tries than it may, each only as needed
 abbrev pub RangeAnswers : RangeRun → Call → History → Result (Vec Pair Global) Refused → Type 0
-RangeAnswers m c h answer = AreFinished c.layout c.pass 0 h × IsRangeAnswer m c h answer
+RangeAnswers m c h answer = AreFinished c.layout c.pass 0 h × IsRangeAnswer m c h answer × HasTriedAtMost c.layout c.pass h c.start m.limit
 
 -- it ends with the pairs that it has taken
 pub record HasToldPairs (old now : RangeRun) (turn : Turn (Result (Vec Pair Global) Refused)) : Type 0 where

@@ -6,12 +6,13 @@ use Rattle.arena.specs.declared.word.NodeWord.TheVariants.{Head as HeadWord, Key
 use Rattle.arena.specs.Words.{info, marked, node}
 use Rattle.arena.specs.History.{History, value}
 use Rattle.arena.specs.Machines.{Call, begun_at}
+use Rattle.prims.specs.Moments.{AreFinished}
 use Rattle.prims.specs.Llx.Known.{load}
 use Rattle.prims.specs.Snap.{snap_at}
 use Rattle.prims.specs.declared.llx.LlxAt.TheVariants.{Marked}
 use Rattle.ordered_map.specs.TreeWords.{level}
 use Rattle.template.specs.Trails.{IsOwnMoment}
-use Rattle.order.specs.Range.Known.{AsksForSome, RangeGoes, HasKey, HasLowHead, LooksIn, RangeAnswers, Visits, bounds_of}
+use Rattle.order.specs.Range.Known.{AsksForSome, RangeGoes, HasKey, HasLowHead, LooksIn, Visits, bounds_of}
 use Rattle.order.specs.Range.Steps.{leaves_left}
 use Rattle.order.specs.Reads.{Whenever}
 use Rattle.order.specs.Tries.{IsInTry}
@@ -54,7 +55,7 @@ RangeMayGoOn c h m next = (begin : History) × IsInTry c h begin m.limit m.tries
 -- it goes on so; or it ends, for want of memory
 abbrev pub RangeGoesOn : Call → History → RangeRun → Result RangeNext Refused → Type 0
 RangeGoesOn c h m (Ok next) = RangeGoes m c h × RangeMayDo m c h next
-RangeGoesOn c h m (Err refused) = (refused ≡ NoMemory) × RangeAnswers m c h (Err refused)
+RangeGoesOn c h m (Err refused) = (refused ≡ NoMemory) × AreFinished c.layout c.pass 0 h
 
 -- how many steps are left in this try before this has begun
 abbrev pub range_next_left : RangeRun → ℕ → RangeNext → ℕ

@@ -29,6 +29,7 @@ use Rattle.order.specs.Reads.{Reads, AllHold, Whenever, HasStood}
 use Rattle.order.specs.Replies.{IsReplyAt}
 use Rattle.order.specs.Tries.{BeginsTry, IsInTry}
 use Rattle.template.specs.Blame.{IsContended, HasLostTriesTo}
+use Rattle.template.specs.Tries.{HasTriedAtMost}
 use Rattle.order.specs.Laws.Search.{IsSearched, IsFirstBehind, IsNextAt}
 use Rattle.order.specs.declared.refused.Refused.{Refused}
 use Rattle.order.specs.declared.refused.Refused.TheVariants.{Contended, NoMemory}
@@ -191,9 +192,9 @@ IsSuccessorAnswer m c h (Ok found) = IsReplyAt c h (Successor m.key) (pair_or_no
 IsSuccessorAnswer m c h (Err (Contended n s)) = IsContended c h n.0 s.0 × (m.tries ≡ 0) × HasLostTriesTo c.pass h c.start m.limit n.0 s.0
 IsSuccessorAnswer m c h (Err NoMemory) = Unit {0}
 
--- and behind it the pass is at rest
+-- and behind it the pass is at rest, and has begun no more tries than it may, each only as needed
 abbrev pub SuccessorAnswers : SuccessorRun → Call → History → Result (Option Pair) Refused → Type 0
-SuccessorAnswers m c h answer = AreFinished c.layout c.pass 0 h × IsSuccessorAnswer m c h answer
+SuccessorAnswers m c h answer = AreFinished c.layout c.pass 0 h × IsSuccessorAnswer m c h answer × HasTriedAtMost c.layout c.pass h c.start m.limit
 
 -- it waits for the step that it asks for, or its answer is right
 abbrev pub SuccessorTurn : Call → History → SuccessorRun → Turn (Result (Option Pair) Refused) → Type 0

@@ -6,6 +6,7 @@ use Rattle.arena.specs.declared.word.NodeWord.TheVariants.{Head as HeadWord, Key
 use Rattle.arena.specs.Words.{info, marked, node}
 use Rattle.arena.specs.History.{History, value}
 use Rattle.arena.specs.Machines.{Call, begun_at}
+use Rattle.prims.specs.Moments.{AreFinished}
 use Rattle.prims.specs.Llx.Known.{load}
 use Rattle.prims.specs.Snap.{snap_at}
 use Rattle.prims.specs.declared.llx.LlxAt.TheVariants.{Marked}
@@ -14,7 +15,7 @@ use Rattle.template.specs.Trails.{IsOwnMoment}
 use Rattle.order.specs.Reads.{Whenever}
 use Rattle.order.specs.Tries.{IsInTry}
 use Rattle.order.specs.Laws.Search.{IsNextAt}
-use Rattle.order.specs.Successor.Known.{SuccessorGoes, HasHead, HasLeaf, LooksAt, SuccessorStandsAt, SuccessorAnswers}
+use Rattle.order.specs.Successor.Known.{SuccessorGoes, HasHead, HasLeaf, LooksAt, SuccessorStandsAt}
 use Rattle.order.specs.Successor.Steps.{behind}
 use Rattle.order.specs.declared.refused.Refused.{Refused}
 use Rattle.order.specs.declared.refused.Refused.TheVariants.{NoMemory}
@@ -54,7 +55,7 @@ SuccessorMayGoOn c h m next = (begin : History) × IsInTry c h begin m.limit m.t
 -- it goes on so; or it ends, for want of memory
 abbrev pub SuccessorGoesOn : Call → History → SuccessorRun → Result SuccessorNext Refused → Type 0
 SuccessorGoesOn c h m (Ok next) = SuccessorGoes m c h × SuccessorMayDo m c h next
-SuccessorGoesOn c h m (Err refused) = (refused ≡ NoMemory) × SuccessorAnswers m c h (Err refused)
+SuccessorGoesOn c h m (Err refused) = (refused ≡ NoMemory) × AreFinished c.layout c.pass 0 h
 
 -- how many steps are left in this try before this has begun
 abbrev pub successor_next_left : SuccessorRun → ℕ → SuccessorNext → ℕ

@@ -1,4 +1,5 @@
 use Rattle.std.proofs.Common.{◌≡◌, ◌≢◌, refl, rules, inl}
+use Rattle.template.proofs.Lemmas.{tried_in}
 use Rattle.edits.specs.declared.edit.Need.TheVariants.{Nothing}
 use Rattle.edits.proofs.Looking.{may_look}
 use Rattle.arena.specs.Machines.{begun_at}
@@ -31,6 +32,7 @@ returns-then-eq-clause-turn g c d b h run try first x quiet found =
           none = nothing_entered g.E.Edit.means c.args.self.now d b h try x quiet;
         };
       },
+      tried_in d b h c.args.self.now.limit c.args.self.now.tries try.newest,
     )
 
 pub returns-in-Some-clause-turn : goal.returns-in-Some-clause-turn
@@ -45,4 +47,5 @@ returns-in-Some-clause-turn g c d b h run try first x quiet found =
         first = untouched_later d b h c.args.self.now.share run.lawful x.since first;
         none = nothing_entered g.E.Edit.means c.args.self.now d b h try x quiet;
       },
+      tried_in d b h c.args.self.now.limit c.args.self.now.tries try.newest,
     )

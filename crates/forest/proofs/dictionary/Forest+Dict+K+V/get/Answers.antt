@@ -4,7 +4,7 @@ use Rattle.forest.specs.Passes.{Ground, taken_of}
 use Rattle.forest.specs.PassInvariant.{pass_view}
 use Rattle.forest.specs.StraightGet.{getting}
 use Rattle.forest.specs.Traces.{shared_nodes}
-use Rattle.forest.proofs.DictCalls.{dict_pass, dict_goes_on, dict_tells}
+use Rattle.forest.proofs.DictCalls.{dict_pass, dict_goes_on, dict_spends, dict_tells}
 use Rattle.forest.proofs.Passes.{layout_of, call_of}
 use Rattle.forest.proofs.StraightGet.{walker, get_walks, get_has_ended, get_kinds}
 use Rattle.forest.proofs.dictionary.Forest+Dict+K+V.get.Goals as goal
@@ -43,6 +43,19 @@ returns-clause-goes_on g c =
     let layout_is = ap (λ (f : Ground). f.layout) (sym c.self.view_is) in
     let nodes = shared_nodes c.self.inside.layout in
     rw (← c.pass.view_is, layout_is) (dict_goes_on g.K.WordKey.is_valid g.K.WordKey.word_of g.V.WordValue.is_valid g.V.WordValue.word_of c.pass.inside c.pass.invariant c.call.new.seat m (Value c.value_of.result) ended (3 * (2 + nodes)) (3 * (2 + nodes)) c.call.ensures.table.0 c.call.ensures.steps (omega arith))
+
+pub returns-clause-spends : goal.returns-clause-spends
+returns-clause-spends g c =
+    let named = ap taken_of c.pass.view_is ∙ sym c.taken-number.ensures in
+    let lay = layout_of c.pass.view_is c.self.view_is c.requires.pass in
+    let small = subst (λ (n : ℕ). n < 2 ^ 64) (sym c.word-key.ensures) (g.met.K.WordKey.fits c.args.key.now c.valid.ensures) in
+    let w = walker g.K.WordKey.is_valid g.K.WordKey.word_of g.V.WordValue.is_valid g.V.WordValue.word_of c.pass.inside.share c.self.inside.tries c.word-key.result (call_of c.pass.inside c.pass.invariant (taken_of (pass_view c.pass.inside))) c.self.inside.layout c.taken-number.result lay named in
+    let begun = get_walks g.K.WordKey.is_valid g.K.WordKey.word_of g.V.WordValue.is_valid g.V.WordValue.word_of c.pass.inside c.pass.invariant c.self.inside.tries c.word-key.result c.taken-number.result c.self.inside.layout lay named small in
+    let found = c.call.ensures.finds w begun in
+    let m = getting c.pass.inside.share c.self.inside.tries c.word-key.result found.last in
+    let ended = get_has_ended g.K.WordKey.is_valid g.K.WordKey.word_of g.V.WordValue.is_valid g.V.WordValue.word_of c.pass.inside c.pass.invariant c.call.new.seat c.self.inside.tries c.word-key.result c.taken-number.result c.self.inside.layout lay named c.call.result.1 c.call.result.0 c.value_of.result c.value_of.ensures.valid c.value_of.ensures.word found in
+    let tries_is = ap (λ (f : Ground). f.tries) (sym c.self.view_is) in
+    rw (← c.pass.view_is, ← c.word-key.ensures, tries_is) (dict_spends g.K.WordKey.is_valid g.K.WordKey.word_of g.V.WordValue.is_valid g.V.WordValue.word_of c.pass.inside c.pass.invariant c.call.new.seat m (Value c.value_of.result) ended)
 
 pub returns-clause-says : goal.returns-clause-says
 returns-clause-says g c =

@@ -8,7 +8,7 @@ pub returns-then-self-eq0-clause-nothing : goal.returns-then-self-eq0-clause-not
 returns-then-self-eq0-clause-nothing c nothing = tells_none (record c.args.self.now { snaps = c.clear.new.self; waiting = c.clear-2.new.self; taken = c.clear-3.new.self; leaves = c.saturating_add-self.result }) _ _ c.tell.ensures.told c.clear-3.ensures.items
 
 pub returns-then-self-clause-turn : goal.returns-then-self-clause-turn
-returns-then-self-clause-turn c d begin h try goes = told_none (record c.args.self.now { snaps = c.clear.new.self; waiting = c.clear-2.new.self; taken = c.clear-3.new.self; leaves = c.saturating_add-self.result }) _ d h _ c.tell-then-self.ensures.told c.clear-3.ensures.items (inr c.if-self.true) goes.reads.over
+returns-then-self-clause-turn c d begin h try goes = told_none (record c.args.self.now { snaps = c.clear.new.self; waiting = c.clear-2.new.self; taken = c.clear-3.new.self; leaves = c.saturating_add-self.result }) _ d h _ c.tell-then-self.ensures.told c.clear-3.ensures.items (inr c.if-self.true) goes.reads.over try
 
 pub returns-then-self-clause-nothing : goal.returns-then-self-clause-nothing
 returns-then-self-clause-nothing c nothing = tells_none (record c.args.self.now { snaps = c.clear.new.self; waiting = c.clear-2.new.self; taken = c.clear-3.new.self; leaves = c.saturating_add-self.result }) _ _ c.tell-then-self.ensures.told c.clear-3.ensures.items

@@ -40,7 +40,7 @@ returns-in-false-default-clause-goes_on c d h goes x is =
     )
 
 pub returns-then-is_err-clause-goes_on : goal.returns-then-is_err-clause-goes_on
-returns-then-is_err-clause-goes_on c d h goes x is = (refl, (goes.reads.over, tt))
+returns-then-is_err-clause-goes_on c d h goes x is = (refl, goes.reads.over)
 
 pub returns-then-is_err-2-clause-goes_on : goal.returns-then-is_err-2-clause-goes_on
-returns-then-is_err-2-clause-goes_on c d h goes x is = (refl, (goes.reads.over, tt))
+returns-then-is_err-2-clause-goes_on c d h goes x is = (refl, goes.reads.over)

@@ -12,7 +12,7 @@ pub returns-in-Ok-clause-tries : goal.returns-in-Ok-clause-tries
 returns-in-Ok-clause-tries c d h x = let y = rw c.in-Ok.is at x in c.stand.ensures.tries d h y.0 y.1
 
 pub returns-in-Err-clause-turn : goal.returns-in-Err-clause-turn
-returns-in-Err-clause-turn c d begin h try x = ends_refused c.args.self.now d begin h c.in-Err.refused (rw c.in-Err.is at x)
+returns-in-Err-clause-turn c d begin h try x = ends_refused c.args.self.now d begin h c.in-Err.refused _ try (rw c.in-Err.is at x)
 
 pub returns-in-Err-clause-tries : goal.returns-in-Err-clause-tries
 returns-in-Err-clause-tries c d h x = inl refl

@@ -4,6 +4,7 @@ use Rattle.prims.specs.declared.vlx.Vlx.TheVariants.{Same, Changed}
 use Rattle.prims.specs.declared.snap.Snap.{Snap}
 use Rattle.order.proofs.Nearer.{below, to_tries}
 use Rattle.order.proofs.RangeNearer.{less_validate}
+use Rattle.order.proofs.Blaming.{tried_here}
 use Rattle.order.proofs.RangeTurns.{told_all, vlx_turn, vlx_nearer, validates_on, told, changed}
 use Rattle.order.proofs.range.RangeRun.validate_on.Goals as goal
 
@@ -16,7 +17,7 @@ returns-in-Ask-clause-nearer c nodes = less_validate _ _ _ (vlx_nearer c.args.se
 pub returns-in-Done-Same-clause-turn : goal.returns-in-Done-Same-clause-turn
 returns-in-Done-Same-clause-turn c d begin look h try goes x ready =
     let is_same : c.in-Done-Same.field-0 ≡ Same = rw c.in-Done-Same.is at c.in-Done-Same.field-0-is in
-    told_all c.args.self.now _ d h _ c.tell.ensures.told goes.reads.over (told c.args.self.now d begin look h c.next-turn.new.self.asked c.next-turn.result goes x (vlx_turn c.args.self.now d begin look h _ _ c.args.asked _ c.args.got _ c.as_slice.ensures.value (ap (λ (b : Bor (List Snap)). b.now) c.next-turn.ensures.same) c.next-turn.ensures.turn goes ready) (c.in-Done-Same.is ∙ ap (λ a. Done a) is_same) try)
+    told_all c.args.self.now _ d h _ c.tell.ensures.told goes.reads.over (told c.args.self.now d begin look h c.next-turn.new.self.asked c.next-turn.result goes x (vlx_turn c.args.self.now d begin look h _ _ c.args.asked _ c.args.got _ c.as_slice.ensures.value (ap (λ (b : Bor (List Snap)). b.now) c.next-turn.ensures.same) c.next-turn.ensures.turn goes ready) (c.in-Done-Same.is ∙ ap (λ a. Done a) is_same) try) (tried_here d h begin _ _ try)
 
 pub returns-in-Done-Changed-clause-turn : goal.returns-in-Done-Changed-clause-turn
 returns-in-Done-Changed-clause-turn c d begin look h try goes x ready =

@@ -10,4 +10,4 @@ returns-clause-goes_on c d h n goes own x is =
     c.visited.ensures.goes_on d h (goes_less c.args.self.now (record c.args.self.now { taken = c.push.new.self }) d h refl refl refl goes) (pair_taken c.args.self.now d h n c.args.pair c.push.new.self goes own x is items)
 
 pub returns-then-is_err-clause-goes_on : goal.returns-then-is_err-clause-goes_on
-returns-then-is_err-clause-goes_on c d h n goes own x is = (refl, (goes.reads.over, tt))
+returns-then-is_err-clause-goes_on c d h n goes own x is = (refl, goes.reads.over)

@@ -4,7 +4,7 @@ use Rattle.order.proofs.Finding.{goes_one_more, stands_left, stands_right, stand
 use Rattle.order.proofs.successor.SuccessorRun.looked.Goals as goal
 
 pub returns-then-is_err-clause-goes_on : goal.returns-then-is_err-clause-goes_on
-returns-then-is_err-clause-goes_on c d h goes x is = (refl, (goes.reads.over, tt))
+returns-then-is_err-clause-goes_on c d h goes x is = (refl, goes.reads.over)
 
 pub returns-in-Along-Left-clause-goes_on : goal.returns-in-Along-Left-clause-goes_on
 returns-in-Along-Left-clause-goes_on c d h goes x is =

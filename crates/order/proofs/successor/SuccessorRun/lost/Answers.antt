@@ -1,6 +1,6 @@
 use Rattle.std.proofs.Common.{refl}
 use Rattle.arena.specs.Machines.{begun_at}
-use Rattle.order.proofs.Blaming.{all_lost, begins_again, gives_up, try_contended}
+use Rattle.order.proofs.Blaming.{all_lost, begins_again, gives_up, tried_here, try_contended}
 use Rattle.order.proofs.Nearer.{below, try_less}
 use Rattle.order.proofs.Turns.{goes_less}
 use Rattle.order.proofs.successor.SuccessorRun.lost.Goals as goal
@@ -9,10 +9,10 @@ pub returns-clause-nearer : goal.returns-clause-nearer
 returns-clause-nearer c nodes = below c.begin.result _ _ _ (c.begin.ensures.nearer nodes) (try_less _ _ c.if-self-eq0.false)
 
 pub returns-clause-turn : goal.returns-clause-turn
-returns-clause-turn c d begin h try goes way = c.begin.ensures.turn d begin h (begins_again d begin h _ _ _ try goes.reads.since c.if-self-eq0.false refl) (goes_less c.args.self.now _ (begun_at d begin) h refl refl goes)
+returns-clause-turn c d begin h try goes way = c.begin.ensures.turn d begin h (begins_again d begin h _ _ _ _ _ try way goes.reads.since c.if-self-eq0.false refl) (goes_less c.args.self.now _ (begun_at d begin) h refl refl goes)
 
 pub returns-then-self-eq0-clause-turn : goal.returns-then-self-eq0-clause-turn
-returns-then-self-eq0-clause-turn c d begin h try goes way = (goes.reads.over, (try_contended d begin h _ _ _ _ try way, c.if-self-eq0.true, all_lost d begin h _ _ _ _ try c.if-self-eq0.true way))
+returns-then-self-eq0-clause-turn c d begin h try goes way = (goes.reads.over, (try_contended d begin h _ _ _ _ try way, c.if-self-eq0.true, all_lost d begin h _ _ _ _ try c.if-self-eq0.true way), tried_here d h begin _ _ try)
 
 pub returns-clause-tries : goal.returns-clause-tries
 returns-clause-tries c d h way = gives_up d h c.args.self.now.tries _ c.begin.result _ _ c.begin.ensures.begins c.if-self-eq0.false c.begin.ensures.tries way

@@ -1,0 +1,36 @@
+-- That what is said of a call's tries bites: with nobody about, a call of a dictionary begins one try
+-- at most, and takes what one may.
+use Rattle.std.proofs.Common.{ℕ, ◌+◌, ◌*◌, ◌≤◌, arith}
+use Rattle.arena.specs.Blame.{WasInTheWay}
+use Rattle.arena.specs.Fills.{IsOthersScx}
+use Rattle.arena.specs.History.{Extends}
+use Rattle.ordered_map.specs.CallRules.{most_nodes, most_scx}
+use Rattle.ordered_map.specs.OrderedMap.{MapCall, Edit, Get, Successor, Range, Insert, Delete}
+use Rattle.template.specs.Tries.{tries_since}
+use Rattle.template.proofs.Lemmas.{alone_once}
+use Rattle.forest.specs.Dictionary.{HasSpentAtMost}
+use Rattle.forest.specs.Passes.{PassView, run_of}
+
+one_try : (call : MapCall) (begun old left : ℕ) → begun ≤ 1 → old ≤ left + most_scx call begun → old ≤ left + most_scx call 1
+one_try (Edit e) begun old left one spent = omega (arith, one, spent)
+one_try (Get key) begun old left one spent = spent
+one_try (Successor key) begun old left one spent = spent
+one_try (Range low high most) begun old left one spent = spent
+
+its_nodes : (call : MapCall) (begun old left : ℕ) → begun ≤ 1 → old ≤ left + most_nodes call * begun → old ≤ left + most_nodes call
+its_nodes (Edit (Insert key value)) begun old left one spent = omega (arith, one, spent)
+its_nodes (Edit (Delete key)) begun old left one spent = omega (arith, one, spent)
+its_nodes (Get key) begun old left one spent = omega (arith, spent)
+its_nodes (Successor key) begun old left one spent = omega (arith, spent)
+its_nodes (Range low high most) begun old left one spent = omega (arith, spent)
+
+-- no SCX-record of another pass was in the way of the call
+module _ (old new : PassView) (call : MapCall) (tries : ℕ) (since : Extends (run_of new) (run_of old)) (alone : (n s : ℕ) → IsOthersScx new.layout new.number s → ¬ WasInTheWay (run_of new) (run_of old) n s) (x : HasSpentAtMost old new call tries) where
+  pub tries_once : tries_since new.number (run_of new) (run_of old) ≤ 1
+  tries_once = alone_once new.layout new.number (run_of new) (run_of old) since alone x.tried.as_needed
+
+  pub takes_one : old.share.scx ≤ new.share.scx + most_scx call 1
+  takes_one = one_try call (tries_since new.number (run_of new) (run_of old)) old.share.scx new.share.scx tries_once x.scx
+
+  pub takes_its_nodes : old.share.nodes ≤ new.share.nodes + most_nodes call
+  takes_its_nodes = its_nodes call (tries_since new.number (run_of new) (run_of old)) old.share.nodes new.share.nodes tries_once x.nodes

@@ -1,0 +1,54 @@
+-- Which tries a call on the tree begins: the next only once all before it are lost.
+use Rattle.std.specs.Prelude.{◌≡◌, ℕ, suc, ◌+◌, ◌-◌, ◌≤◌, true}
+use Rattle.arena.specs.declared.layout.Layout.{Layout}
+use Rattle.arena.specs.declared.step.Row.{Row}
+use Rattle.arena.specs.Blame.{WasInTheWay}
+use Rattle.arena.specs.Fills.{IsOthersScx}
+use Rattle.arena.specs.History.{History, ◌⊳◌, Extends}
+use Rattle.arena.specs.Machines.{Call}
+use Rattle.prims.specs.FoundThere.{HasFoundThere}
+use Rattle.ordered_map.specs.Tries.{begins_try, tries_begun, IsNewestTry}
+
+-- how many tries the pass c has begun since the moment `start`
+abbrev pub tries_since : ℕ → History → History → ℕ
+tries_since c now start = tries_begun c now - tries_begun c start
+
+-- The try that the pass c has begun at the moment `begin` is lost by now: since then some SCX-record
+-- of another pass was in the way over some node, and c has itself found it in the node's info.
+pub record WasLost (lay : Layout) (c : ℕ) (now begin : History) : Type 0 where
+  pub node : ℕ
+  pub scx : ℕ
+  pub others : IsOthersScx lay c scx
+  pub in_the_way : WasInTheWay now begin node scx
+  pub found : HasFoundThere c now begin node scx
+
+-- so is each try that the pass has begun since the moment `start`
+abbrev pub HasLostAll : Layout → ℕ → History → History → Type 0
+HasLostAll lay c now start = (first : Row) (begin : History) → begins_try c first ≡ true → Extends now (first ⊳ begin) → Extends begin start → WasLost lay c now begin
+
+-- as the pass has begun a try since the moment `start`, it had lost each that it had begun before:
+-- so each but the newest was lost, by the begin of the next
+abbrev pub HasTriedAsNeeded : Layout → ℕ → History → History → Type 0
+HasTriedAsNeeded lay c now start = (first : Row) (begin : History) → begins_try c first ≡ true → Extends now (first ⊳ begin) → Extends begin start → HasLostAll lay c begin start
+
+-- The pass has begun at most so many tries since the moment `start`, each only as needed.
+pub record HasTriedAtMost (lay : Layout) (c : ℕ) (now start : History) (limit : ℕ) : Type 0 where
+  pub few : tries_since c now start ≤ limit
+  pub as_needed : HasTriedAsNeeded lay c now start
+
+-- A call that may try `limit` times may begin the next try, behind which so many are left: it has
+-- begun all others, each only as needed, and has lost them all.
+pub record MayTryNext (c : Call) (now : History) (limit left : ℕ) : Type 0 where
+  pub all : tries_begun c.pass now + suc left ≡ tries_begun c.pass c.start + limit
+  pub as_needed : HasTriedAsNeeded c.layout c.pass now c.start
+  pub lost : HasLostAll c.layout c.pass now c.start
+
+-- it is in the try that it has so begun at the moment `begin`, which is its newest
+pub record IsInNewest (c : Call) (begin now : History) (limit left : ℕ) : Type 0 where
+  pub next : MayTryNext c begin limit left
+  pub newest : IsNewestTry c.pass now begin
+
+-- of the tries that it may begin it has begun all but so many, each only as needed
+pub record HasTriedAllBut (c : Call) (now : History) (limit left : ℕ) : Type 0 where
+  pub all : tries_begun c.pass now + left ≡ tries_begun c.pass c.start + limit
+  pub as_needed : HasTriedAsNeeded c.layout c.pass now c.start
