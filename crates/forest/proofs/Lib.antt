@@ -21,14 +21,13 @@ mod Places
 mod Inside
 mod StraightLlx
 mod StraightHelp
-mod StraightChange
 mod StraightScx
+mod StraightPut
 mod StraightVlx
 mod StraightWalk
-mod StraightLook
 mod StraightReads
-mod StraightSearch
-mod StraightVisit
+mod StraightSuccessor
+mod StraightRange
 mod StraightValidate
 mod StraightUpdate
 mod Took

@@ -1,88 +1,120 @@
--- From place to place of an SCX with a fresh cell, in line.
-use Rattle.std.proofs.Common.{◌≡◌, ℕ, List, true, refl, sym, subst}
+-- From place to place of an SCX, of whatever machine makes one.
+use Rattle.std.proofs.Common.{◌≡◌, ◌↔◌, ℕ, suc, ◌+◌, ◌<◌, List, Option, Some, None, IsSome, refl, arith, ◌∙◌, inl, inr}
+use Rattle.std.specs.Prelude.{IfSome, IfNone}
+use Rattle.arena.specs.ScxRecords.{raw_count}
 use Rattle.arena.specs.declared.layout.Layout.{Layout}
-use Rattle.arena.specs.declared.machine.Turn.TheVariants.{Ask, Done as End}
-use Rattle.arena.specs.declared.number.ScxNo.{ScxNo}
+use Rattle.arena.specs.declared.number.MemberIndex.{MemberIndex}
+use Rattle.arena.specs.declared.number.MemberIndex.TheVariants.{First}
+use Rattle.arena.specs.declared.machine.Turn.TheVariants.{Ask}
 use Rattle.arena.specs.declared.step.Step.{Step}
-use Rattle.arena.specs.declared.word.ScxWord.TheVariants.{Plan}
+use Rattle.arena.specs.declared.word.ScxWord.TheVariants.{Plan, New, Old, Member, Seen, Call as CallWord}
+use Rattle.arena.specs.MemberIndex.{member_index}
 use Rattle.arena.specs.History.{History}
 use Rattle.arena.specs.Machines.{Call}
-use Rattle.help.specs.declared.state.HelpAt.TheVariants.{Commit as HelpCommit}
+use Rattle.help.specs.Help.Known.{settled_load}
+use Rattle.help.specs.declared.state.HelpAt.TheVariants.{Start as HelpStart, Plan as HelpPlan}
 use Rattle.help.specs.declared.state.HelpRun.{HelpRun}
-use Rattle.prims.specs.Put.Known.{HasValue, put_step, PutIsReady, PutWaits}
-use Rattle.prims.proofs.Lemmas.{turn_start as scx_start, done_at, put_turn_start, turn_scx}
-use Rattle.prims.specs.declared.put.PutRun.{PutRun}
-use Rattle.prims.specs.declared.put.PutAt.TheVariants.{Fill as AtFill, Scx as AtScx}
-use Rattle.prims.specs.declared.scx.Scx.TheVariants.{Done}
-use Rattle.prims.specs.declared.scx.ScxAt.TheVariants.{Plan as AtPlan, Help}
-use Rattle.prims.specs.declared.scx.ScxRun.{ScxRun}
-use Rattle.prims.specs.declared.update.Update.{Update}
+use Rattle.prims.specs.Snap.{snap_at}
+use Rattle.prims.specs.Scx.Known.{job_of, FillMade, ScxTurn, ScxIsToldAt}
+use Rattle.prims.proofs.Lemmas.{turn_plan, turn_new, turn_old, turn_member, turn_seen, begin_help}
+use Rattle.prims.specs.declared.scx.ScxAt.{ScxAt}
+use Rattle.prims.specs.declared.scx.ScxAt.TheVariants.{Plan as AtPlan, New as AtNew, Old as AtOld, Member as AtMember, Seen as AtSeen, Call as AtCall, Help}
+use Rattle.prims.specs.declared.snap.Snap.{Snap}
+use Rattle.forest.specs.declared.straight.scx.Change.{Change}
 use Rattle.forest.specs.declared.view.SeatedPass.{SeatedPass}
-use Rattle.forest.specs.StraightChange.{Changer, scx_fill, all_frozen_load}
-use Rattle.forest.specs.StraightScx.{IsSamePut, scx_at, SeatPutBegins, SeatPutWaits, SeatPutTold, SeatPutEnds}
-use Rattle.forest.specs.Traces.{begins, goes_on}
+use Rattle.forest.specs.StraightScx.{Changer, inner_scx, changing_at, scx_fill}
+use Rattle.forest.specs.StraightHelp.{Helper, inner_help}
 use Rattle.forest.specs.CallKinds.{Calls}
 use Rattle.forest.specs.Inside.{InnerIsTold, InnerWaits}
+use Rattle.forest.proofs.Inside.{Nested, compose, goes_to}
 
-module _ (allows : Layout → History → ℕ → Type 0) (c : Call) (ps : List SeatedPass) (first : PutRun) where
-  -- it fills the value, and then the plan
-  pub to_value : SeatPutBegins allows c ps first → SeatPutWaits allows c ps first (record first { at = AtFill }) (put_step first)
-  to_value x = record { known = x.known; is = x.is; sound = x.sound; so = (put_turn_start allows first c _ x.so.1, goes_on first (refl, refl, refl, refl) (begins refl (sym x.so.0))) }
+-- where HELP of its own SCX-record stands inside an SCX
+abbrev helps : (inner : Layout → History → ℕ → Type 0) (snaps : List Snap) (change : Change) → Nested (inner_scx inner) (inner_help inner)
+helps inner snaps change = record {
+  with_run = λ help. changing_at snaps change (Help help);
+  tells = λ m h v d t. ((d.layout, d.pass), (t.0.lawful, t.1.0));
+  turns = λ old now h v s is turn d t. (turn (d.layout, d.pass) (t.0.lawful, t.1.0), is ∙ t.1.1, t.1.2);
+  stays = λ old now is. (refl, refl, refl);
+}
 
-  pub to_plan : (v : ℕ) → SeatPutTold allows c ps first (record first { at = AtFill }) v → SeatPutWaits allows c ps first (scx_at first AtPlan) (scx_fill first.scx.scx Plan first.scx.update.plan.0)
-  to_plan v x = let t = x.so.0 in record {
-    known = x.known;
-    is = x.is;
-    sound = x.sound;
-    so = (
-      (t.0, scx_start allows c _ first.scx (scx_at first AtPlan).scx (Ask _) t.2 t.3 record { stands = refl; asked = refl }),
-      goes_on (record first { at = AtFill }) (refl, refl, refl, refl) x.so.1,
-    );
-  }
+module _ {M : Type 0} {inner : Layout → History → ℕ → Type 0} {o : Calls M} (k : Changer inner o) (snaps : List Snap) (change : Change) where
+  -- a machine that makes an SCX helps
+  pub helper : Helper inner o
+  helper = compose k (helps inner snaps change)
 
-  -- what holds of a run holds of its equal
-  pub blocked_as : (m same : PutRun) → same ≡ m → SeatPutWaits allows c ps first m (all_frozen_load m.scx.scx) → SeatPutWaits allows c ps first same (all_frozen_load same.scx.scx)
-  blocked_as m same is x = subst (λ (n : PutRun). SeatPutWaits allows c ps first n (all_frozen_load n.scx.scx)) (sym is) x
+  module _ (ps : List SeatedPass) where
+    -- it waits for this step at this place
+    abbrev At : ScxAt → Step → Type 0
+    At at step = InnerWaits k ps (changing_at snaps change at) step
 
--- the run with another SCX of its fresh cell
-abbrev pub with_scx : PutRun → ScxRun → PutRun
-with_scx m scx = record { value = m.value; scx = scx; at = AtScx }
+    -- the step of this place has told v
+    abbrev Tells : ScxAt → ℕ → Type 0
+    Tells at v = InnerIsTold k ps (changing_at snaps change at) v
 
--- its calls of a layout and a number
-abbrev put_calls : (Layout → History → ℕ → Type 0) → Layout → ℕ → Calls PutRun
-put_calls allows layout number = record { allows = allows; ready = PutIsReady allows; waits = PutWaits allows; same = IsSamePut; layout = layout; number = number }
+    -- one fill after another
+    fills : (A B : ScxAt) (v : ℕ) (step : Step) → ((d : Call) (h : History) → ScxIsToldAt inner d h (job_of (changing_at snaps change A)) A v → FillMade inner d h (job_of (changing_at snaps change A)) A) → ((d : Call) (h : History) → FillMade inner d h (job_of (changing_at snaps change A)) A → ScxTurn inner d h (changing_at snaps change B) (Ask step)) → Tells A v → At B step
+    fills A B v step made turn = goes_to k ps (changing_at snaps change A) (changing_at snaps change B) v step (refl, refl, refl) (λ d h t. turn d h (made d h t.1))
 
-module _ (allows : Layout → History → ℕ → Type 0) (layout : Layout) (number : ℕ) (c : Call) (is_layout : c.layout ≡ layout) (is_number : c.number ≡ number) (first : PutRun) where
-  -- a run of SCX with a fresh cell makes an SCX
-  pub putter : Changer allows (put_calls allows layout number)
-  putter = record {
-    call = c;
-    is_layout = is_layout;
-    is_number = is_number;
-    first = first;
-    with_run = with_scx first;
-    tells = λ m h v run x. (c, (run, x.1));
-    turns = λ old now h v s goes turn run x. (
-      subst (λ (t : ScxNo). HasValue c h t.0 now.update.fresh.0 first.value) (sym goes.0) (subst (λ (u : Update). HasValue c h old.scx.0 u.fresh.0 first.value) (sym goes.1) x.0),
-      turn c (run, x.1),
-    );
-    stays = λ old now goes. (goes.0, goes.1, goes.2, refl);
-  }
+    pub to_new : (v : ℕ) → Tells AtPlan v → At AtNew (scx_fill change.scx New change.fresh.0)
+    to_new v = fills AtPlan AtNew v _ (λ d h x. x) (λ d h x. turn_plan inner d h (changing_at snaps change AtPlan) (changing_at snaps change AtNew) (Ask _) x record { stands = refl; asked = refl })
 
-  module _ (ps : List SeatedPass) (m : ScxRun) where
-    -- what it waits for, its SCX does
-    pub begins_change : (step : Step) → SeatPutWaits allows c ps first (with_scx first m) step → InnerWaits putter ps m step
-    unfolding putter
-    begins_change step x = x
+    pub to_old : (v : ℕ) → Tells AtNew v → At AtOld (scx_fill change.scx Old change.old.0)
+    to_old v = fills AtNew AtOld v _ (λ d h x. x) (λ d h x. turn_new inner d h (changing_at snaps change AtNew) (changing_at snaps change AtOld) (Ask _) x record { stands = refl; asked = refl })
 
-    pub change_waits : (step : Step) → InnerWaits putter ps m step → SeatPutWaits allows c ps first (with_scx first m) step
-    unfolding putter
-    change_waits step x = x
+    pub to_member : (v : ℕ) → Tells AtOld v → At (AtMember First) (scx_fill change.scx (Member 0) (snap_at snaps 0).node.0)
+    to_member v = fills AtOld (AtMember First) v _ (λ d h x. x) (λ d h x. turn_old inner d h (changing_at snaps change AtOld) (changing_at snaps change (AtMember First)) (Ask _) x record { stands = refl; asked = refl })
 
-    -- what HELP has told once it is committed, the SCX answers
-    pub put_done : (help : HelpRun) (v : ℕ) → InnerIsTold putter ps (record m { at = Help (record help { at = HelpCommit }) }) v → SeatPutEnds allows c ps first (with_scx first (record m { at = Help (record help { at = HelpCommit }) })) Done
-    unfolding putter
-    put_done help v x =
-        let run : ScxRun = record m { at = Help (record help { at = HelpCommit }) } in
-        let t = x.so.0.1 in
-        record { known = x.known; is = x.is; sound = x.sound; so = (turn_scx allows c _ x.sound.lawful (with_scx first run) (with_scx first run) (End Done) refl refl refl refl x.so.0.0 (done_at c _ run (record help { at = HelpCommit }) x.sound.lawful t.2 t.1 true (record help { at = HelpCommit }) t.0 refl refl), x.so.1) }
+    pub next_member : (j next : MemberIndex) (v : ℕ) → member_index next ≡ suc (member_index j) → member_index next < raw_count change.plan.0 → Tells (AtMember j) v → At (AtMember next) (scx_fill change.scx (Member (member_index next)) (snap_at snaps (member_index next)).node.0)
+    next_member j next v is within = fills (AtMember j) (AtMember next) v _ (λ d h x. x) (λ d h x. turn_member inner d h (changing_at snaps change (AtMember j)) j (changing_at snaps change (AtMember next)) (Ask _) x (inl record { next = next; is = is; within = within; fills = record { stands = refl; asked = refl } }))
+
+    pub to_seen : (j : MemberIndex) (v : ℕ) → ((member_index j < 3) × (suc (member_index j) < raw_count change.plan.0) → ⊥) → Tells (AtMember j) v → At (AtSeen First) (scx_fill change.scx (Seen 0) (snap_at snaps 0).scx.0)
+    to_seen j v none = fills (AtMember j) (AtSeen First) v _ (λ d h x. x) (λ d h x. turn_member inner d h (changing_at snaps change (AtMember j)) j (changing_at snaps change (AtSeen First)) (Ask _) x (inr record { none = none; fills = record { stands = refl; asked = refl } }))
+
+    pub next_seen : (j next : MemberIndex) (v : ℕ) → member_index next ≡ suc (member_index j) → member_index next < raw_count change.plan.0 → Tells (AtSeen j) v → At (AtSeen next) (scx_fill change.scx (Seen (member_index next)) (snap_at snaps (member_index next)).scx.0)
+    next_seen j next v is within = fills (AtSeen j) (AtSeen next) v _ (λ d h x. x) (λ d h x. turn_seen inner d h (changing_at snaps change (AtSeen j)) j (changing_at snaps change (AtSeen next)) (Ask _) x (inl record { next = next; is = is; within = within; fills = record { stands = refl; asked = refl } }))
+
+    pub to_call : (j : MemberIndex) (v : ℕ) → ((member_index j < 3) × (suc (member_index j) < raw_count change.plan.0) → ⊥) → Tells (AtSeen j) v → At AtCall (scx_fill change.scx CallWord change.call)
+    to_call j v none = fills (AtSeen j) AtCall v _ (λ d h x. x) (λ d h x. turn_seen inner d h (changing_at snaps change (AtSeen j)) j (changing_at snaps change AtCall) (Ask _) x (inr record { none = none; fills = record { stands = refl; asked = refl } }))
+
+    -- once all is filled, it helps its own SCX-record
+    pub to_help : (begun : HelpRun) (v : ℕ) → begun.scx ≡ change.scx → begun.at ≡ HelpStart → Tells AtCall v → InnerWaits helper ps (record begun { at = HelpPlan }) (settled_load begun.scx.0 Plan)
+    unfolding helper
+    to_help begun v is start = goes_to k ps (changing_at snaps change AtCall) (changing_at snaps change (Help (record begun { at = HelpPlan }))) v _ (refl, refl, refl)
+        (λ d h t. let y = begin_help inner d h (changing_at snaps change AtCall) begun t.0 t.1 is start in (record { known = y.ready.1; asked = refl }, is, y.filled))
+
+    -- what its HELP waits for or is told, it waits for or is told
+    pub help_waits : (help : HelpRun) (step : Step) → InnerWaits helper ps help step → At (Help help) step
+    unfolding helper
+    help_waits help step x = x
+
+    pub help_told : (help : HelpRun) (v : ℕ) → InnerIsTold helper ps help v → Tells (Help help) v
+    unfolding helper
+    help_told help v x = x
+
+-- of the place behind this one, if there is one, and if there is none
+module _ (r : Option MemberIndex) (j : MemberIndex) (count : ℕ) (valid : IsSome r ↔ ((member_index j < 3) × (member_index j + 1 < count))) (is : IfSome r (λ k. member_index k ≡ member_index j + 1)) where
+  pub behind_is : IfSome r (λ next. (member_index next ≡ member_index j + 1) × (member_index next < 4))
+  behind_is = go r valid is
+    where
+      go : (q : Option MemberIndex) → (IsSome q ↔ ((member_index j < 3) × (member_index j + 1 < count))) → IfSome q (λ k. member_index k ≡ member_index j + 1) → IfSome q (λ next. (member_index next ≡ member_index j + 1) × (member_index next < 4))
+      go (Some k) v e = (e, let w = (v.0 refl).0 in omega (arith, e, w))
+      go None v e = tt
+
+  pub behind_some : (P : MemberIndex → Type 0) → ((next : MemberIndex) → member_index next ≡ suc (member_index j) → member_index next < count → P next) → IfSome r P
+  behind_some P f = go r valid is
+    where
+      go : (q : Option MemberIndex) → (IsSome q ↔ ((member_index j < 3) × (member_index j + 1 < count))) → IfSome q (λ k. member_index k ≡ member_index j + 1) → IfSome q P
+      go (Some k) v e = f k (omega (arith, e)) (let w = (v.0 refl).1 in omega (arith, e, w))
+      go None v e = tt
+
+  pub behind_none : (Q : Type 0) → (((member_index j < 3) × (suc (member_index j) < count) → ⊥) → Q) → IfNone r Q
+  behind_none Q f = go r valid
+    where
+      go : (q : Option MemberIndex) → (IsSome q ↔ ((member_index j < 3) × (member_index j + 1 < count))) → IfNone q Q
+      go (Some k) v = tt
+      go None v = f (λ y. let z = v.1 (y.0, let w = y.1 in omega (arith, w)) in cc)
+
+-- behind the fourth there is none
+pub none_behind : (r : Option MemberIndex) (n : ℕ) → IfSome r (λ next. (member_index next ≡ n + 1) × (member_index next < 4)) → n ≡ 3 → (Q : Type 0) → IfNone r Q → Q
+none_behind (Some k) n x is Q q = absurd (let a = x.0 in let b = x.1 in omega (arith, a, b, is))
+none_behind None n x is Q q = q

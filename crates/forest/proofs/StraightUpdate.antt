@@ -30,8 +30,8 @@ use Rattle.edits.specs.declared.edit.Piece.TheVariants.{Leaf, Fork}
 use Rattle.edits.specs.Pieces.{fills_behind, nth_node, part_behind, word_of, HasPlace}
 use Rattle.edits.specs.Sound.{FillsWell, IsAtFound}
 use Rattle.edits.proofs.Lemmas.{fills_next, fills_word, joined_spends, placed_same, scx_asks, scx_done}
-use Rattle.forest.specs.declared.straight.changing.Change.{Change}
-use Rattle.forest.specs.StraightChange.{Changer, all_frozen_load, changing_at, scx_fill}
+use Rattle.forest.specs.declared.straight.scx.Change.{Change}
+use Rattle.forest.specs.StraightScx.{Changer, all_frozen_load, changing_at, scx_fill}
 use Rattle.arena.specs.History.{History, value}
 use Rattle.arena.specs.Machines.{Call, IsRun, begun_at}
 use Rattle.arena.specs.Words.{marked, node, state}
@@ -74,8 +74,7 @@ use Rattle.edits.specs.declared.update.UpdateRun.{UpdateRun}
 use Rattle.edits.specs.declared.update.Updated.{Updated}
 use Rattle.prims.specs.Laws.Idle.{IsQuietSince}
 use Rattle.forest.specs.declared.view.SeatedPass.{SeatedPass}
-use Rattle.forest.specs.StraightLlx.{llx_at}
-use Rattle.forest.specs.StraightLook.{Looker, LookerSnaps}
+use Rattle.forest.specs.StraightLlx.{llx_at, Looker, LookerSnaps}
 use Rattle.forest.specs.StraightUpdate.{Updater, HasUpdateGoneOn, UpdaterBegins, UpdaterEnds, UpdaterGoesOn, UpdaterIsBlocked, UpdaterIsTold, UpdaterStops, UpdaterTries, UpdaterWaits, UpdaterStands}
 use Rattle.forest.specs.StraightWalk.{Walker, WalkerWaits, WalkerFinds}
 use Rattle.forest.specs.TableRule.{history_of}

@@ -5,14 +5,13 @@ pub mod Copies
 pub mod Blames
 pub mod StraightLlx
 pub mod StraightHelp
-pub mod StraightChange
 pub mod StraightScx
+pub mod StraightPut
 pub mod StraightVlx
 pub mod StraightWalk
 pub mod StraightGet
 pub mod StraightUpdate
 pub mod StraightCalls
-pub mod StraightLook
 pub mod StraightReads
 pub mod StraightValidate
 pub mod Traces

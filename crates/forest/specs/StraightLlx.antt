@@ -1,17 +1,24 @@
--- Calls of LLX that stand at a place of its machine.
-use Rattle.std.specs.Prelude.{◌≡◌, ℕ, List}
+-- LLXs that stand at a place: as calls of their own, and of whatever machine looks at nodes.
+use Rattle.std.specs.Prelude.{◌≡◌, ℕ, List, Bool, Some}
 use Rattle.arena.specs.declared.layout.Layout.{Layout}
 use Rattle.arena.specs.declared.number.NodeNo.{NodeNo}
 use Rattle.arena.specs.declared.step.Step.{Step}
 use Rattle.arena.specs.History.{History}
-use Rattle.arena.specs.Machines.{Call}
-use Rattle.prims.specs.Llx.Known.{LlxIsReady, LlxWaits, LlxAnswers}
+use Rattle.arena.specs.Machines.{Call, IsRun}
+use Rattle.prims.specs.Llx.Known.{LlxIsReady, LlxWaits, LlxAnswers, load, HasJustLooked, IsSnapshot}
 use Rattle.prims.specs.declared.llx.Llx.{Llx}
 use Rattle.prims.specs.declared.llx.LlxRun.{LlxRun}
 use Rattle.prims.specs.declared.llx.LlxAt.{LlxAt}
-use Rattle.prims.specs.declared.llx.LlxAt.TheVariants.{Start}
+use Rattle.prims.specs.declared.llx.LlxAt.TheVariants.{Start, Marked, StateAgain}
 use Rattle.forest.specs.declared.view.SeatedPass.{SeatedPass}
 use Rattle.forest.specs.Traces.{CallBegins, Waits, Ends}
+use Rattle.prims.specs.FoundThere.{HasFoundThere}
+use Rattle.prims.specs.declared.snap.Snap.{Snap}
+use Rattle.forest.specs.CallKinds.{Calls}
+use Rattle.forest.specs.Inside.{Inner, Inside, InnerIsTold, InnerWaits}
+use Rattle.arena.specs.declared.number.ScxNo.{ScxNo}
+use Rattle.arena.specs.declared.step.Kind.TheVariants.{LoadMarked, LoadState}
+use Rattle.arena.specs.Words.{marked, state}
 
 -- the run of LLX of the node that stands at a place
 abbrev pub llx_at : NodeNo → LlxAt → LlxRun
@@ -33,3 +40,38 @@ module _ (allows : Layout → History → ℕ → Type 0) (c : Call) (ps : List 
   -- the call has ended with this answer
   abbrev pub SeatLlxEnds : Llx → Type 0
   SeatLlxEnds a = (m : LlxRun) × Ends allows (LlxWaits allows) IsSameNode c ps (llx_at node Start) LlxAnswers m a
+
+-- an LLX of a node, in a call of its own, which is said to wait and to be told in the runs that
+-- `inner` allows
+abbrev pub inner_llx : (Layout → History → ℕ → Type 0) → Inner LlxRun
+inner_llx inner = record {
+  Context = Call;
+  told = λ d m h v. IsRun inner d.layout h × LlxIsReady inner m d h (Some v);
+  waits = λ d m h s. LlxWaits inner m d h s;
+  goes = λ old now. now.node ≡ old.node;
+}
+
+-- a call of a machine that looks at nodes
+abbrev pub Looker : {M : Type 0} → (Layout → History → ℕ → Type 0) → Calls M → Type 0
+Looker inner o = Inside o (inner_llx inner)
+
+module _ {M : Type 0} {inner : Layout → History → ℕ → Type 0} {o : Calls M} (k : Looker inner o) (ps : List SeatedPass) (node : NodeNo) where
+  -- its LLX of the node waits to load the node's mark, with which it begins
+  abbrev pub LoadsMark : Type 0
+  LoadsMark = InnerWaits k ps (llx_at node Marked) (load LoadMarked (marked node.0))
+
+  -- something was in the way, and it waits to load the state of this SCX-record again
+  abbrev pub LoadsStateAgain : Bool → ScxNo → Type 0
+  LoadsStateAgain b s = InnerWaits k ps (llx_at node (StateAgain b s)) (load LoadState (state s.0))
+
+-- the last step of its LLX of the node has told what makes this snapshot right, and its
+-- SCX-record one that the call has found in the node's info; the call has just looked at the node
+pub record LookerSnaps {M : Type 0} {inner : Layout → History → ℕ → Type 0} {o : Calls M} (k : Looker inner o) (ps : List SeatedPass) (node : NodeNo) (snap : Snap) : Type 0 where
+  pub of_node : snap.node ≡ node
+  pub last : LlxRun
+  pub is_node : last.node ≡ node
+  pub told : ℕ
+  pub snaps : (d : Call) (h : History) → IsRun inner d.layout h → LlxIsReady inner last d h (Some told) → IsSnapshot d.layout h node.0 snap
+  pub found : (d : Call) (h : History) → IsRun inner d.layout h → LlxIsReady inner last d h (Some told) → HasFoundThere d.pass h d.start node.0 snap.scx.0
+  pub looked : (d : Call) (h : History) → IsRun inner d.layout h → LlxIsReady inner last d h (Some told) → HasJustLooked d.pass h d.start node.0
+  pub so : InnerIsTold k ps last told

@@ -1,51 +1,66 @@
--- Calls of an SCX with a fresh cell that stand at a place of its machine.
-use Rattle.std.specs.Prelude.{◌≡◌, ℕ, List}
+-- Calls that stand at a place of an SCX, of whatever machine makes one.
+use Rattle.std.specs.Prelude.{◌≡◌, ℕ, List, Some}
 use Rattle.arena.specs.declared.layout.Layout.{Layout}
+use Rattle.arena.specs.declared.number.ScxNo.{ScxNo}
 use Rattle.arena.specs.declared.step.Step.{Step}
+use Rattle.arena.specs.declared.step.Access.TheVariants.{Load, Store}
+use Rattle.arena.specs.declared.step.Kind.TheVariants.{Fill, LoadAllFrozen}
+use Rattle.arena.specs.declared.word.ScxWord.{ScxWord}
+use Rattle.arena.specs.declared.word.ScxWord.TheVariants.{AllFrozen, Plan, Member, Seen, Call as CallWord}
+use Rattle.arena.specs.Words.{scx}
 use Rattle.arena.specs.History.{History}
-use Rattle.arena.specs.Machines.{Call}
-use Rattle.prims.specs.Put.Known.{PutIsReady, PutWaits, PutAnswers}
-use Rattle.prims.specs.declared.put.PutRun.{PutRun}
-use Rattle.prims.specs.declared.put.PutAt.TheVariants.{Start, Scx as AtScx}
-use Rattle.prims.specs.declared.scx.Scx.{Scx}
+use Rattle.arena.specs.Machines.{Call, IsRun}
+use Rattle.prims.specs.Scx.Known.{ScxIsReady, ScxWaits}
 use Rattle.prims.specs.declared.scx.ScxAt.{ScxAt}
-use Rattle.prims.specs.declared.scx.ScxAt.TheVariants.{Start as ScxStart}
-use Rattle.prims.specs.declared.put.PutAt.{PutAt}
+use Rattle.prims.specs.declared.scx.ScxRun.{ScxRun}
 use Rattle.prims.specs.declared.snap.Snap.{Snap}
-use Rattle.forest.specs.declared.straight.scx.Put.{Put}
+use Rattle.forest.specs.declared.straight.scx.Change.{Change}
+use Rattle.forest.specs.CallKinds.{Calls}
+use Rattle.forest.specs.Inside.{Inner, Inside, InnerWaits}
+use Rattle.arena.specs.declared.number.MemberIndex.{MemberIndex}
+use Rattle.arena.specs.MemberIndex.{member_index}
+use Rattle.prims.specs.Snap.{snap_at}
+use Rattle.prims.specs.declared.scx.ScxAt.TheVariants.{Plan as AtPlan, Member as AtMember, Seen as AtSeen, Call as AtCall}
 use Rattle.forest.specs.declared.view.SeatedPass.{SeatedPass}
-use Rattle.forest.specs.Traces.{CallBegins, Waits, Told, Ends}
 
--- the two runs are of one SCX: of one SCX-record, update, call and value
-abbrev pub IsSamePut : PutRun → PutRun → Type 0
-IsSamePut old now = (now.scx.scx ≡ old.scx.scx) × (now.scx.update ≡ old.scx.update) × (now.scx.call ≡ old.scx.call) × (now.value ≡ old.value)
+-- the run of SCX over these snapshots that makes this change and stands at a place
+abbrev pub changing_at : List Snap → Change → ScxAt → ScxRun
+changing_at snaps change at = record { scx = change.scx; call = change.call; update = record { snaps = snaps; plan = change.plan; old = change.old; fresh = change.fresh }; at = at }
 
--- the run over these snapshots of what is to be put, in the
--- call of this number, that stands at these places
-abbrev pub standing_put : List Snap → Put → ℕ → ScxAt → PutAt → PutRun
-standing_put snaps put number scx at = record { value = put.value; scx = record { scx = put.scx; call = number; update = record { snaps = snaps; plan = put.plan; old = put.old; fresh = put.fresh }; at = scx }; at = at }
+-- the fill of this word of the SCX-record with v
+abbrev pub scx_fill : ScxNo → ScxWord → ℕ → Step
+scx_fill s part v = record { kind = Fill; word = scx s.0 part; access = Store v }
 
--- the same run at its start
-abbrev pub fresh_put : List Snap → Put → ℕ → PutRun
-fresh_put snaps put number = standing_put snaps put number ScxStart Start
+-- the load of the flag that its nodes were all frozen
+abbrev pub all_frozen_load : ScxNo → Step
+all_frozen_load s = record { kind = LoadAllFrozen; word = scx s.0 AllFrozen; access = Load }
 
--- a run with its SCX at a place
-abbrev pub scx_at : PutRun → ScxAt → PutRun
-scx_at m at = record { value = m.value; scx = record { scx = m.scx.scx; call = m.scx.call; update = m.scx.update; at = at }; at = AtScx }
+-- an SCX in a call of its own, which is said to wait and to be told in the runs that `inner` allows
+abbrev pub inner_scx : (Layout → History → ℕ → Type 0) → Inner ScxRun
+inner_scx inner = record {
+  Context = Call;
+  told = λ d m h v. IsRun inner d.layout h × ScxIsReady inner m d h (Some v);
+  waits = λ d m h s. ScxWaits inner m d h s;
+  goes = λ old now. (now.scx ≡ old.scx) × (now.update ≡ old.update) × (now.call ≡ old.call);
+}
 
-module _ (allows : Layout → History → ℕ → Type 0) (c : Call) (ps : List SeatedPass) (first : PutRun) where
-  -- a call of SCX with a fresh cell begins with the run `first`
-  abbrev pub SeatPutBegins : Type 0
-  SeatPutBegins = CallBegins allows (PutIsReady allows) c ps first
+-- a call of a machine that makes an SCX
+abbrev pub Changer : {M : Type 0} → (Layout → History → ℕ → Type 0) → Calls M → Type 0
+Changer inner o = Inside o (inner_scx inner)
 
-  -- the call waits for this step, with the run at its place
-  abbrev pub SeatPutWaits : PutRun → Step → Type 0
-  SeatPutWaits = Waits allows (PutWaits allows) IsSamePut c ps first
+module _ {M : Type 0} {inner : Layout → History → ℕ → Type 0} {o : Calls M} (k : Changer inner o) (ps : List SeatedPass) (snaps : List Snap) (change : Change) where
+  -- its SCX waits for the fill of its plan
+  abbrev pub FillsPlan : Type 0
+  FillsPlan = InnerWaits k ps (changing_at snaps change AtPlan) (scx_fill change.scx Plan change.plan.0)
 
-  -- the step of the place has told v
-  abbrev pub SeatPutTold : PutRun → ℕ → Type 0
-  SeatPutTold = Told allows (PutWaits allows) IsSamePut c ps first (PutIsReady allows)
+  -- for that of the node of this place
+  abbrev pub FillsMember : MemberIndex → Type 0
+  FillsMember j = InnerWaits k ps (changing_at snaps change (AtMember j)) (scx_fill change.scx (Member (member_index j)) (snap_at snaps (member_index j)).node.0)
 
-  -- the call has ended with this answer
-  abbrev pub SeatPutEnds : PutRun → Scx → Type 0
-  SeatPutEnds = Ends allows (PutWaits allows) IsSamePut c ps first PutAnswers
+  -- for that of what the info of the node of this place was
+  abbrev pub FillsSeen : MemberIndex → Type 0
+  FillsSeen j = InnerWaits k ps (changing_at snaps change (AtSeen j)) (scx_fill change.scx (Seen (member_index j)) (snap_at snaps (member_index j)).scx.0)
+
+  -- for that of the number of its call
+  abbrev pub FillsCall : Type 0
+  FillsCall = InnerWaits k ps (changing_at snaps change AtCall) (scx_fill change.scx CallWord change.call)

@@ -19,7 +19,7 @@ use Rattle.edits.specs.declared.update.Updated.{Updated}
 use Rattle.arena.specs.declared.number.ScxNo.{ScxNo}
 use Rattle.help.specs.declared.state.HelpRun.{HelpRun}
 use Rattle.prims.specs.declared.scx.ScxAt.TheVariants.{Help}
-use Rattle.forest.specs.StraightChange.{all_frozen_load}
+use Rattle.forest.specs.StraightScx.{all_frozen_load}
 use Rattle.forest.specs.declared.view.SeatedPass.{SeatedPass}
 use Rattle.forest.specs.CallKinds.{Calls}
 use Rattle.forest.specs.Traces.{Trace, HoldsForCall, Waits, Told}

@@ -4,18 +4,16 @@
 //! an ordered read is also told of the last load of its VLX, behind which it answers.
 
 pub(crate) mod calls;
-pub(crate) mod changing;
-pub(crate) mod helping;
+pub(crate) mod fresh_nodes;
+pub(crate) mod help;
 pub(crate) mod llx;
-pub(crate) mod looking;
-pub(crate) mod placed;
-pub(crate) mod reading;
-pub(crate) mod resuming;
+pub(crate) mod ordered_read;
+pub(crate) mod put;
+pub(crate) mod range;
+pub(crate) mod resume;
 pub(crate) mod scx;
-pub(crate) mod searching;
-pub(crate) mod updating;
-pub(crate) mod validating;
-pub(crate) mod visiting;
+pub(crate) mod step;
+pub(crate) mod successor;
+pub(crate) mod update;
 pub(crate) mod vlx;
 pub(crate) mod walk;
-pub(crate) mod working;

@@ -16,7 +16,7 @@ ghost use Rattle.forest.specs.Traces.{seat_steps, shared_nodes};
 ghost use Rattle.forest.specs.StraightCalls.{EditHasEnded, IsFreshEdit, SeatDictBegins, SeatDictEnds, SeatWordEnds, map_edit};
 
 use crate::fault::UpdateFault;
-use crate::straight::{searching, updating, visiting};
+use crate::straight::{range, successor, update};
 use crate::view::SeatView;
 use crate::words::Words;
 use arena::{Layout, Share};
@@ -68,14 +68,14 @@ pub(crate) fn make<K: WordKey, V: WordValue>(
     match edit {
         WordEdit::Insert(edit) => {
             let mut run = UpdateRun::new(edit, share, tries, number, ());
-            let updated = updating::call::<Dict<K, V>, DictRun<K, V>, Insert>(
+            let updated = update::call::<Dict<K, V>, DictRun<K, V>, Insert>(
                 words, layout, seat, number, &mut run, edit.key,
             );
             (of_update::<K, V>(updated), run.into_share())
         }
         WordEdit::Delete(edit) => {
             let mut run = UpdateRun::new(edit, share, tries, number, ());
-            let updated = updating::call::<Dict<K, V>, DictRun<K, V>, Delete>(
+            let updated = update::call::<Dict<K, V>, DictRun<K, V>, Delete>(
                 words, layout, seat, number, &mut run, edit.key,
             );
             (of_update::<K, V>(updated), run.into_share())
@@ -104,7 +104,7 @@ fn in_words<K: WordKey, V: WordValue>(
             run: inner,
             share: _,
         } => {
-            let told = searching::call::<Dict<K, V>, DictRun<K, V>>(
+            let told = successor::call::<Dict<K, V>, DictRun<K, V>>(
                 words, layout, seat, number, inner,
             );
             WordReply::of_successor(told)
@@ -113,9 +113,7 @@ fn in_words<K: WordKey, V: WordValue>(
             run: inner,
             share: _,
         } => {
-            let told = visiting::call::<Dict<K, V>, DictRun<K, V>>(
-                words, layout, seat, number, inner,
-            );
+            let told = range::call::<Dict<K, V>, DictRun<K, V>>(words, layout, seat, number, inner);
             WordReply::of_range(told)
         }
         // Never: its callers make ordered reads alone, by the clause `ordered`.

@@ -1,140 +1,243 @@
-//! An SCX with a fresh cell, with its steps in line.
-ghost use Rattle.std.specs.Prelude.{◌≡◌, ◌≤◌, ◌+◌, suc, length};
-ghost use Rattle.arena.specs.Machines.{Call};
-ghost use Rattle.prims.specs.Put.Steps.{put_left};
-ghost use Rattle.prims.specs.declared.put.PutRun.{PutRun};
+//! SCX with an SCX-record of the share, of whatever machine makes one: its steps in line.
+ghost use Rattle.std.specs.Prelude.{◌≡◌, ◌≤◌, ◌<◌, ◌+◌, ℕ, suc, true, false, IfSome, IfNone};
+ghost use Rattle.arena.specs.MemberIndex.{member_index};
 ghost use Rattle.forest.specs.Seats.{IsSeatAt, StaysAtTable};
 ghost use Rattle.forest.specs.Traces.{seat_steps};
-ghost use Rattle.forest.specs.StraightChange.{scx_fill, all_frozen_load};
-ghost use Rattle.forest.specs.StraightScx.{SeatPutBegins, SeatPutWaits, SeatPutEnds, fresh_put, scx_at, standing_put};
+ghost use Rattle.forest.specs.StraightScx.{Changer, changing_at, scx_fill, all_frozen_load, FillsPlan, FillsMember, FillsSeen, FillsCall};
+ghost use Rattle.forest.specs.CallKinds.{calls};
+ghost use Rattle.forest.specs.Inside.{InnerIsTold, InnerWaits};
+ghost use Rattle.help.specs.Help.Steps.{help_left};
+ghost use Rattle.help.specs.declared.state.HelpRun.{HelpRun};
+ghost use Rattle.prims.specs.declared.scx.ScxRun.{ScxRun};
+ghost use Rattle.prims.specs.declared.scx.ScxAt.{ScxAt};
+ghost use Rattle.help.specs.declared.state.HelpAt.{HelpAt};
 
-use crate::steps::complete;
-use crate::straight::changing::{self, Change};
-use crate::straight::placed::step;
+use crate::straight::step::step;
 use crate::view::SeatView;
 use crate::words::Words;
 use arena::{
-    Access, Kind, Layout, NodeNo, NodeWord, Plan, ScxNo, ScxWord, Shape, Step, Turn, Word,
+    Access, Kind, Layout, Machine, MemberIndex, NodeNo, Plan, ScxNo, ScxWord, Shape, Step, Word,
 };
 use atomic_table::Seat;
 use help::HelpRun;
-use prims::{PutAt, PutRun, Scx, ScxAt, ScxRun, Snap, Snaps, Update};
+use prims::SnapList;
 
-/// What an SCX with a fresh cell is to do, beside the snapshots, which stay where the caller has
-/// them.
+/// What an SCX is to do, beside the snapshots, which stay where the caller has them.
 #[derive(Clone, Copy)]
-pub(crate) struct Put {
+pub(crate) struct Change {
+    pub(crate) scx: ScxNo,
+    pub(crate) call: u64,
     pub(crate) plan: Plan,
     pub(crate) old: NodeNo,
     pub(crate) fresh: NodeNo,
-    pub(crate) value: u64,
-    pub(crate) scx: ScxNo,
 }
 
-/// Its machine, which only says where the call stands.
+/// Fills a word of the SCX-record.
 #[inline(always)]
-fn machine(snaps: &[Snap], put: Put, number: u64, scx: ScxAt, at: PutAt) -> PutRun
-    requires fits { length snaps.now ≤ 4 }
-    ensures { result ≡ standing_put snaps.now put number scx at }
-{
-    let update = Update {
-        snaps: Snaps::new(snaps),
-        plan: put.plan,
-        old: put.old,
-        fresh: put.fresh,
-    };
-    let scx = ScxRun {
-        scx: put.scx,
-        call: number,
-        update,
-        at: scx,
-    };
-    PutRun {
-        value: put.value,
-        scx,
-        at,
-    }
-}
-
-/// Fills the value of the fresh cell.
-#[inline(always)]
-fn fill_value<S: Shape>(
+fn fill<S: Shape, M: Machine<S>, T: Shape>(
     words: &Words<S>,
     layout: &Layout,
     seat: &mut Seat<u8, SeatView>,
     number: u64,
-    snaps: &[Snap],
-    put: Put,
-)
+    scx: ScxNo,
+    part: ScxWord,
+    value: u64,
+) -> u64
     requires table { IsSeatAt words.now layout.now seat.old }
-    requires fits { length snaps.now ≤ 4 }
-    requires begins { (c : Call) × (c.layout ≡ layout.now) × (c.number ≡ number) × SeatPutBegins S.allows c seat.old.me.0.passes (fresh_put snaps.now put number) }
+    requires waits { (k : Changer T.allows (calls S.Shape M.Machine layout.now number)) × (m : ScxRun) × InnerWaits k seat.old.me.0.passes m (scx_fill scx part value) }
     ensures table { StaysAtTable seat.old seat.new }
     ensures one { seat_steps seat.new.me.0.passes ≡ suc (seat_steps seat.old.me.0.passes) }
-    ensures waits { (c : Call) → c.layout ≡ layout.now → c.number ≡ number → SeatPutBegins S.allows c seat.old.me.0.passes (fresh_put snaps.now put number) → SeatPutWaits S.allows c seat.new.me.0.passes (fresh_put snaps.now put number) (scx_at (fresh_put snaps.now put number) ScxAt.Plan) (scx_fill put.scx ScxWord.Plan put.plan.0) }
+    ensures told { (k : Changer T.allows (calls S.Shape M.Machine layout.now number)) (m : ScxRun) → InnerWaits k seat.old.me.0.passes m (scx_fill scx part value) → InnerIsTold k seat.new.me.0.passes m result }
 {
-    let asked = Step {
-        kind: Kind::Fill,
-        word: Word::Node(put.fresh, NodeWord::Value),
-        access: Access::Store(put.value),
-    };
-    step::<S, PutRun>(words, layout, seat, number, asked);
+    let (kind, word) = (Kind::Fill, Word::Scx(scx, part));
+    let access = Access::Store(value);
+    step::<S, M>(words, layout, seat, number, Step { kind, word, access })
 }
 
-/// Goes on by the machine, where a node could not be frozen: it waits to look whether all were. The
-/// layout is a copy, so that the caller's, which is not handed out of line, stays in registers.
+/// Fills the node of this place, and tells the place behind it.
 #[inline(always)]
-fn complete_blocked<S: Shape>(
-    words: &Words<S>,
-    layout: Layout,
-    seat: &mut Seat<u8, SeatView>,
-    number: u64,
-    mut run: PutRun,
-) -> Scx
-    requires table { IsSeatAt words.now layout seat.old }
-    requires waits { (c : Call) × (first : PutRun) × (c.layout ≡ layout) × (c.number ≡ number) × SeatPutWaits S.allows c seat.old.me.0.passes first run (all_frozen_load run.scx.scx) }
-    ensures table { StaysAtTable seat.old seat.new }
-    ensures steps { seat_steps seat.new.me.0.passes ≤ seat_steps seat.old.me.0.passes + suc (put_left run) }
-    ensures ends { (c : Call) (first : PutRun) → c.layout ≡ layout → c.number ≡ number → SeatPutWaits S.allows c seat.old.me.0.passes first run (all_frozen_load run.scx.scx) → (m : PutRun) × SeatPutEnds S.allows c seat.new.me.0.passes first m result }
-{
-    let step = Step {
-        kind: Kind::LoadAllFrozen,
-        word: Word::Scx(run.scx.scx, ScxWord::AllFrozen),
-        access: Access::Load,
-    };
-    complete::<S, PutRun>(words, &layout, seat, number, &mut run, Turn::Ask(step))
-}
-
-/// SCX of an update by this SCX-record, whose fresh cell gets the value.
-#[inline(always)]
-pub(crate) fn call<S: Shape>(
+fn fill_member<S: Shape, M: Machine<S>, T: Shape, L: SnapList>(
     words: &Words<S>,
     layout: &Layout,
     seat: &mut Seat<u8, SeatView>,
     number: u64,
-    snaps: &[Snap],
-    put: Put,
-) -> Scx
+    snaps: &L,
+    change: Change,
+    j: MemberIndex,
+) -> Option<MemberIndex>
     requires table { IsSeatAt words.now layout.now seat.old }
-    requires fits { length snaps.now ≤ 4 }
-    requires begins { (c : Call) × (c.layout ≡ layout.now) × (c.number ≡ number) × SeatPutBegins S.allows c seat.old.me.0.passes (fresh_put snaps.now put number) }
+    requires waits { (k : Changer T.allows (calls S.Shape M.Machine layout.now number)) × FillsMember k seat.old.me.0.passes (L.list snaps.now) change j }
     ensures table { StaysAtTable seat.old seat.new }
-    ensures steps { seat_steps seat.new.me.0.passes ≤ seat_steps seat.old.me.0.passes + 40 }
-    ensures ends { (c : Call) → c.layout ≡ layout.now → c.number ≡ number → SeatPutBegins S.allows c seat.old.me.0.passes (fresh_put snaps.now put number) → (m : PutRun) × SeatPutEnds S.allows c seat.new.me.0.passes (fresh_put snaps.now put number) m result }
+    ensures one { seat_steps seat.new.me.0.passes ≡ suc (seat_steps seat.old.me.0.passes) }
+    ensures behind { IfSome result (λ next. (member_index next ≡ member_index j + 1) × (member_index next < 4)) }
+    ensures next { IfSome result (λ next. (k : Changer T.allows (calls S.Shape M.Machine layout.now number)) → FillsMember k seat.old.me.0.passes (L.list snaps.now) change j → FillsMember k seat.new.me.0.passes (L.list snaps.now) change next) }
+    ensures last { IfNone result ((k : Changer T.allows (calls S.Shape M.Machine layout.now number)) → FillsMember k seat.old.me.0.passes (L.list snaps.now) change j → FillsSeen k seat.new.me.0.passes (L.list snaps.now) change MemberIndex.First) }
 {
-    fill_value(words, layout, seat, number, snaps, put);
-    let change = Change {
-        scx: put.scx,
-        call: number,
-        plan: put.plan,
-        old: put.old,
-        fresh: put.fresh,
+    let part = ScxWord::Member(j.number());
+    let wanted = snaps.get(j.index()).node.0;
+    fill::<S, M, T>(words, layout, seat, number, change.scx, part, wanted);
+    change.plan.member_behind(j)
+}
+
+/// Fills the nodes that the SCX-record covers.
+#[inline(always)]
+fn fill_members<S: Shape, M: Machine<S>, T: Shape, L: SnapList>(
+    words: &Words<S>,
+    layout: &Layout,
+    seat: &mut Seat<u8, SeatView>,
+    number: u64,
+    snaps: &L,
+    change: Change,
+)
+    requires table { IsSeatAt words.now layout.now seat.old }
+    requires waits { (k : Changer T.allows (calls S.Shape M.Machine layout.now number)) × FillsMember k seat.old.me.0.passes (L.list snaps.now) change MemberIndex.First }
+    ensures table { StaysAtTable seat.old seat.new }
+    ensures steps { seat_steps seat.new.me.0.passes ≤ seat_steps seat.old.me.0.passes + 4 }
+    ensures waits { (k : Changer T.allows (calls S.Shape M.Machine layout.now number))
+        → FillsMember k seat.old.me.0.passes (L.list snaps.now) change MemberIndex.First
+        → FillsSeen k seat.new.me.0.passes (L.list snaps.now) change MemberIndex.First }
+{
+    let first = MemberIndex::First;
+    let Some(second) = fill_member::<S, M, T, L>(words, layout, seat, number, snaps, change, first)
+    else {
+        return;
     };
-    let mut help = HelpRun::new(put.scx);
-    let own = &mut help;
-    if changing::call::<S, PutRun, S, &[Snap]>(words, layout, seat, number, &snaps, change, own) {
-        return Scx::Done;
-    }
-    let run = machine(snaps, put, number, ScxAt::Help { help }, PutAt::Scx);
-    complete_blocked(words, *layout, seat, number, run)
+    let Some(third) = fill_member::<S, M, T, L>(words, layout, seat, number, snaps, change, second)
+    else {
+        return;
+    };
+    let Some(fourth) = fill_member::<S, M, T, L>(words, layout, seat, number, snaps, change, third)
+    else {
+        return;
+    };
+    fill_member::<S, M, T, L>(words, layout, seat, number, snaps, change, fourth);
+}
+
+/// Fills what the info of the node of this place was, and tells the place behind it.
+#[inline(always)]
+fn fill_seen<S: Shape, M: Machine<S>, T: Shape, L: SnapList>(
+    words: &Words<S>,
+    layout: &Layout,
+    seat: &mut Seat<u8, SeatView>,
+    number: u64,
+    snaps: &L,
+    change: Change,
+    j: MemberIndex,
+) -> Option<MemberIndex>
+    requires table { IsSeatAt words.now layout.now seat.old }
+    requires waits { (k : Changer T.allows (calls S.Shape M.Machine layout.now number)) × FillsSeen k seat.old.me.0.passes (L.list snaps.now) change j }
+    ensures table { StaysAtTable seat.old seat.new }
+    ensures one { seat_steps seat.new.me.0.passes ≡ suc (seat_steps seat.old.me.0.passes) }
+    ensures behind { IfSome result (λ next. (member_index next ≡ member_index j + 1) × (member_index next < 4)) }
+    ensures next { IfSome result (λ next. (k : Changer T.allows (calls S.Shape M.Machine layout.now number)) → FillsSeen k seat.old.me.0.passes (L.list snaps.now) change j → FillsSeen k seat.new.me.0.passes (L.list snaps.now) change next) }
+    ensures last { IfNone result ((k : Changer T.allows (calls S.Shape M.Machine layout.now number)) → FillsSeen k seat.old.me.0.passes (L.list snaps.now) change j → FillsCall k seat.new.me.0.passes (L.list snaps.now) change) }
+{
+    let part = ScxWord::Seen(j.number());
+    let wanted = snaps.get(j.index()).scx.0;
+    fill::<S, M, T>(words, layout, seat, number, change.scx, part, wanted);
+    change.plan.member_behind(j)
+}
+
+/// Fills what the infos of these nodes were.
+#[inline(always)]
+fn fill_infos<S: Shape, M: Machine<S>, T: Shape, L: SnapList>(
+    words: &Words<S>,
+    layout: &Layout,
+    seat: &mut Seat<u8, SeatView>,
+    number: u64,
+    snaps: &L,
+    change: Change,
+)
+    requires table { IsSeatAt words.now layout.now seat.old }
+    requires waits { (k : Changer T.allows (calls S.Shape M.Machine layout.now number)) × FillsSeen k seat.old.me.0.passes (L.list snaps.now) change MemberIndex.First }
+    ensures table { StaysAtTable seat.old seat.new }
+    ensures steps { seat_steps seat.new.me.0.passes ≤ seat_steps seat.old.me.0.passes + 4 }
+    ensures waits { (k : Changer T.allows (calls S.Shape M.Machine layout.now number))
+        → FillsSeen k seat.old.me.0.passes (L.list snaps.now) change MemberIndex.First
+        → FillsCall k seat.new.me.0.passes (L.list snaps.now) change }
+{
+    let first = MemberIndex::First;
+    let Some(second) = fill_seen::<S, M, T, L>(words, layout, seat, number, snaps, change, first)
+    else {
+        return;
+    };
+    let Some(third) = fill_seen::<S, M, T, L>(words, layout, seat, number, snaps, change, second)
+    else {
+        return;
+    };
+    let Some(fourth) = fill_seen::<S, M, T, L>(words, layout, seat, number, snaps, change, third)
+    else {
+        return;
+    };
+    fill_seen::<S, M, T, L>(words, layout, seat, number, snaps, change, fourth);
+}
+
+/// Fills the words of the SCX-record, from its plan on.
+#[inline(always)]
+fn fill_all<S: Shape, M: Machine<S>, T: Shape, L: SnapList>(
+    words: &Words<S>,
+    layout: &Layout,
+    seat: &mut Seat<u8, SeatView>,
+    number: u64,
+    snaps: &L,
+    change: Change,
+) -> u64
+    requires table { IsSeatAt words.now layout.now seat.old }
+    requires waits { (k : Changer T.allows (calls S.Shape M.Machine layout.now number)) × FillsPlan k seat.old.me.0.passes (L.list snaps.now) change }
+    ensures table { StaysAtTable seat.old seat.new }
+    ensures steps { seat_steps seat.new.me.0.passes ≤ seat_steps seat.old.me.0.passes + 12 }
+    ensures told { (k : Changer T.allows (calls S.Shape M.Machine layout.now number))
+        → FillsPlan k seat.old.me.0.passes (L.list snaps.now) change
+        → InnerIsTold k seat.new.me.0.passes (changing_at (L.list snaps.now) change ScxAt.Call) result }
+{
+    let scx = change.scx;
+    fill::<S, M, T>(
+        words,
+        layout,
+        seat,
+        number,
+        scx,
+        ScxWord::Plan,
+        change.plan.0,
+    );
+    fill::<S, M, T>(
+        words,
+        layout,
+        seat,
+        number,
+        scx,
+        ScxWord::New,
+        change.fresh.0,
+    );
+    fill::<S, M, T>(words, layout, seat, number, scx, ScxWord::Old, change.old.0);
+    fill_members::<S, M, T, L>(words, layout, seat, number, snaps, change);
+    fill_infos::<S, M, T, L>(words, layout, seat, number, snaps, change);
+    fill::<S, M, T>(words, layout, seat, number, scx, ScxWord::Call, change.call)
+}
+
+/// SCX that begins with the fill of its plan, and then by this run of HELP, which has not begun;
+/// tells whether it is done. Where a node could not be frozen the run waits to look whether all
+/// were.
+#[inline(always)]
+pub(crate) fn call<S: Shape, M: Machine<S>, T: Shape, L: SnapList>(
+    words: &Words<S>,
+    layout: &Layout,
+    seat: &mut Seat<u8, SeatView>,
+    number: u64,
+    snaps: &L,
+    change: Change,
+    help: &mut HelpRun,
+) -> bool
+    requires table { IsSeatAt words.now layout.now seat.old }
+    requires waits { (k : Changer T.allows (calls S.Shape M.Machine layout.now number)) × FillsPlan k seat.old.me.0.passes (L.list snaps.now) change }
+    requires begins { (help.old.scx ≡ change.scx) × (help.old.at ≡ HelpAt.Start) }
+    ensures table { StaysAtTable seat.old seat.new }
+    ensures steps { seat_steps seat.new.me.0.passes ≤ seat_steps seat.old.me.0.passes + 34 }
+    ensures left { result ≡ false → seat_steps seat.new.me.0.passes + suc (help_left help.new.at) ≤ seat_steps seat.old.me.0.passes + 34 }
+    ensures commits { result ≡ true → (k : Changer T.allows (calls S.Shape M.Machine layout.now number)) → FillsPlan k seat.old.me.0.passes (L.list snaps.now) change → (v : ℕ) × InnerIsTold k seat.new.me.0.passes (changing_at (L.list snaps.now) change (ScxAt.Help (record help.new { at = HelpAt.Commit }))) v }
+    ensures blocked { result ≡ false → (k : Changer T.allows (calls S.Shape M.Machine layout.now number)) → FillsPlan k seat.old.me.0.passes (L.list snaps.now) change → InnerWaits k seat.new.me.0.passes (changing_at (L.list snaps.now) change (ScxAt.Help help.new)) (all_frozen_load change.scx) }
+{
+    let layout = *layout;
+    fill_all::<S, M, T, L>(words, &layout, seat, number, snaps, change);
+    super::help::call::<S, M, T>(words, &layout, seat, number, help)
 }

@@ -1,16 +1,54 @@
-//! VLX.
-ghost use Rattle.std.specs.Prelude.{◌≡◌, ◌≤◌, ◌+◌, length};
+//! VLX, of whatever machine validates snapshots, and as a call of its own.
+ghost use Rattle.std.specs.Prelude.{◌≡◌, ◌≤◌, ◌<◌, ◌+◌, length};
 ghost use Rattle.arena.specs.Machines.{Call};
+ghost use Rattle.forest.specs.CallKinds.{calls};
+ghost use Rattle.forest.specs.Inside.{InnerIsTold};
 ghost use Rattle.forest.specs.Seats.{IsSeatAt, StaysAtTable};
 ghost use Rattle.forest.specs.Traces.{seat_steps};
+ghost use Rattle.forest.specs.StraightValidate.{LoadsFirstInfo, Validator};
 ghost use Rattle.forest.specs.StraightVlx.{SeatVlxBegins, SeatVlxEnds};
 
-use crate::straight::placed;
+use crate::straight::step::step;
 use crate::view::SeatView;
 use crate::words::Words;
-use arena::{Access, Kind, Layout, NodeWord, ScxNo, Shape, Step, Word};
+use arena::{Access, Kind, Layout, Machine, NodeWord, ScxNo, Shape, Step, Word};
 use atomic_table::Seat;
 use prims::{SnapList, Vlx, VlxRun};
+
+/// VLX of which the first info is asked for: loads the infos of the snapshots' nodes, up to the
+/// first that is not what its snapshot found, or else the last. It tells how many it has loaded,
+/// and what the last of these is.
+#[inline(always)]
+pub(crate) fn validate<S: Shape, M: Machine<S>, L: SnapList + Copy>(
+    words: &Words<S>,
+    layout: &Layout,
+    seat: &mut Seat<u8, SeatView>,
+    number: u64,
+    snaps: L,
+) -> (usize, u64)
+    requires table { IsSeatAt words.now layout.now seat.old }
+    requires some { 0 < length (L.list snaps) }
+    requires waits { (v : Validator (calls S.Shape M.Machine layout.now number) (L.list snaps)) × LoadsFirstInfo v seat.old.me.0.passes }
+    ensures table { StaysAtTable seat.old seat.new }
+    ensures told { (v : Validator (calls S.Shape M.Machine layout.now number) (L.list snaps)) → LoadsFirstInfo v seat.old.me.0.passes → InnerIsTold v seat.new.me.0.passes result.0 result.1 }
+    ensures some { 0 < result.0 }
+    ensures within { result.0 ≤ length (L.list snaps) }
+    ensures steps { seat_steps seat.new.me.0.passes ≡ seat_steps seat.old.me.0.passes + result.0 }
+{
+    let layout = *layout;
+    let count = snaps.len();
+    let mut asked = 0;
+    loop {
+        let snap = snaps.get(asked);
+        let (kind, word) = (Kind::LoadInfo, Word::Node(snap.node, NodeWord::Info));
+        let access = Access::Load;
+        let told = step::<S, M>(words, &layout, seat, number, Step { kind, word, access });
+        asked += 1;
+        if told != snap.scx.0 || asked >= count {
+            return (asked, told);
+        }
+    }
+}
 
 /// VLX: loads the infos of the snapshots' nodes, up to the first that is not what its snapshot
 /// found.
@@ -31,12 +69,10 @@ pub(crate) fn call<S: Shape, L: SnapList + Copy>(
     let layout = *layout;
     for index in 0..snaps.len() {
         let snap = snaps.get(index);
-        let step = Step {
-            kind: Kind::LoadInfo,
-            word: Word::Node(snap.node, NodeWord::Info),
-            access: Access::Load,
-        };
-        let found = placed::step::<S, VlxRun<L>>(words, &layout, seat, number, step);
+        let (kind, word) = (Kind::LoadInfo, Word::Node(snap.node, NodeWord::Info));
+        let access = Access::Load;
+        let asked = Step { kind, word, access };
+        let found = step::<S, VlxRun<L>>(words, &layout, seat, number, asked);
         if found != snap.scx.0 {
             let (node, scx) = (snap.node, ScxNo(found));
             return Vlx::Changed { node, scx };

@@ -11,7 +11,7 @@ ghost use Rattle.prims.specs.Llx.Known.{load};
 ghost use Rattle.template.specs.declared.walk.WalkRun.{WalkRun};
 ghost use Rattle.template.specs.Walk.Places.{walk_at, LoadsHead};
 
-use crate::straight::placed::step;
+use crate::straight::step::step;
 use crate::view::SeatView;
 use crate::words::Words;
 use arena::{Access, Head, Kind, Layout, Machine, NodeNo, NodeWord, Shape, Side, Step, Word};

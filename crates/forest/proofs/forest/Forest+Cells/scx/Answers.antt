@@ -3,8 +3,8 @@ use Rattle.prims.specs.Cells.{AllowsAll}
 use Rattle.forest.specs.Passes.{PassView, CanUse, Each, taken_of}
 use Rattle.forest.specs.PassInvariant.{pass_view}
 use Rattle.forest.specs.Puts.{IsPutOver}
-use Rattle.forest.specs.StraightScx.{fresh_put, SeatPutBegins}
-use Rattle.forest.specs.declared.straight.scx.Put.{Put}
+use Rattle.forest.specs.StraightPut.{fresh_put, SeatPutBegins}
+use Rattle.forest.specs.declared.straight.put.Put.{Put}
 use Rattle.prims.specs.Scx.Known.{IsUpdateOver}
 use Rattle.prims.specs.declared.update.Update.{Update}
 use Rattle.prims.specs.declared.snap.Snap.{Snap}

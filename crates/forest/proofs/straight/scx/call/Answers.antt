@@ -1,25 +1,17 @@
-use Rattle.prims.specs.declared.scx.ScxAt.TheVariants.{Plan as AtPlan, Help}
-use Rattle.forest.specs.declared.straight.changing.Change.{Change}
-use Rattle.forest.specs.StraightChange.{changing_at}
-use Rattle.forest.specs.StraightScx.{fresh_put}
-use Rattle.forest.proofs.StraightScx.{putter, begins_change, change_waits, put_done, blocked_as}
+use Rattle.std.proofs.Common.{◌∙◌, subst}
+use Rattle.forest.proofs.StraightScx.{helper, to_help, help_waits, help_told}
+use Rattle.prims.specs.declared.scx.ScxAt.TheVariants.{Help}
+use Rattle.help.specs.declared.state.HelpAt.TheVariants.{Commit}
+use Rattle.forest.specs.StraightScx.{changing_at, all_frozen_load}
+use Rattle.forest.specs.Inside.{InnerWaits}
 use Rattle.forest.proofs.straight.scx.call.Goals as goal
 
 pub call-requires-clause-waits : goal.call-requires-clause-waits
-call-requires-clause-waits g c = let r = c.requires.begins in let change : Change = record { scx = c.args.put.scx; call = c.args.number; plan = c.args.put.plan; old = c.args.put.old; fresh = c.args.put.fresh } in
-    ((putter g.S.Shape.allows c.args.layout.now c.args.number r.0 r.1 r.2 (fresh_put c.args.snaps.now c.args.put c.args.number)), begins_change g.S.Shape.allows c.args.layout.now c.args.number r.0 r.1 r.2 (fresh_put c.args.snaps.now c.args.put c.args.number) _ (changing_at c.args.snaps.now change AtPlan) _ (c.fill_value.ensures.waits r.0 r.1 r.2 r.3))
+call-requires-clause-waits g c = let r = c.requires.waits in let k = r.0 in (helper k (g.L.SnapList.list c.args.snaps.now) c.args.change, to_help k (g.L.SnapList.list c.args.snaps.now) c.args.change _ c.args.help.now c.fill_all.result c.requires.begins.0 c.requires.begins.1 (c.fill_all.ensures.told k r.1))
 
-pub returns-then-call-clause-ends : goal.returns-then-call-clause-ends
-returns-then-call-clause-ends g c = λ k lay number x. let change : Change = record { scx = c.args.put.scx; call = c.args.number; plan = c.args.put.plan; old = c.args.put.old; fresh = c.args.put.fresh } in
-    let t = c.call.ensures.commits c.if-call.true (putter g.S.Shape.allows c.args.layout.now c.args.number k lay number (fresh_put c.args.snaps.now c.args.put c.args.number)) (begins_change g.S.Shape.allows c.args.layout.now c.args.number k lay number (fresh_put c.args.snaps.now c.args.put c.args.number) _ (changing_at c.args.snaps.now change AtPlan) _ (c.fill_value.ensures.waits k lay number x)) in
-    (_, put_done g.S.Shape.allows c.args.layout.now c.args.number k lay number (fresh_put c.args.snaps.now c.args.put c.args.number) _ (changing_at c.args.snaps.now change AtPlan) c.call.new.help t.0 t.1)
+pub returns-clause-commits : goal.returns-clause-commits
+returns-clause-commits g c = λ yes k x. let t = c.call.ensures.commits yes (helper k (g.L.SnapList.list c.args.snaps.now) c.args.change) (to_help k (g.L.SnapList.list c.args.snaps.now) c.args.change _ c.args.help.now c.fill_all.result c.requires.begins.0 c.requires.begins.1 (c.fill_all.ensures.told k x)) in (t.0, help_told k (g.L.SnapList.list c.args.snaps.now) c.args.change _ (record c.call.new.run { at = Commit }) t.0 t.1)
 
-pub complete_blocked-requires-clause-waits : goal.complete_blocked-requires-clause-waits
-complete_blocked-requires-clause-waits g c = let r = c.requires.begins in let change : Change = record { scx = c.args.put.scx; call = c.args.number; plan = c.args.put.plan; old = c.args.put.old; fresh = c.args.put.fresh } in let u = (fresh_put c.args.snaps.now c.args.put c.args.number) in
-    let x = change_waits g.S.Shape.allows c.args.layout.now c.args.number r.0 r.1 r.2 u _ (changing_at c.args.snaps.now change (Help c.call.new.help)) _ (c.call.ensures.blocked c.if-call.false (putter g.S.Shape.allows c.args.layout.now c.args.number r.0 r.1 r.2 (fresh_put c.args.snaps.now c.args.put c.args.number)) (begins_change g.S.Shape.allows c.args.layout.now c.args.number r.0 r.1 r.2 (fresh_put c.args.snaps.now c.args.put c.args.number) _ (changing_at c.args.snaps.now change AtPlan) _ (c.fill_value.ensures.waits r.0 r.1 r.2 r.3))) in
-    (r.0, u, r.1, r.2, blocked_as g.S.Shape.allows r.0 _ u _ _ c.machine-run.ensures x)
-
-pub returns-clause-ends : goal.returns-clause-ends
-returns-clause-ends g c = λ k lay number x. let change : Change = record { scx = c.args.put.scx; call = c.args.number; plan = c.args.put.plan; old = c.args.put.old; fresh = c.args.put.fresh } in let u = (fresh_put c.args.snaps.now c.args.put c.args.number) in
-    let y = change_waits g.S.Shape.allows c.args.layout.now c.args.number k lay number u _ (changing_at c.args.snaps.now change (Help c.call.new.help)) _ (c.call.ensures.blocked c.if-call.false (putter g.S.Shape.allows c.args.layout.now c.args.number k lay number (fresh_put c.args.snaps.now c.args.put c.args.number)) (begins_change g.S.Shape.allows c.args.layout.now c.args.number k lay number (fresh_put c.args.snaps.now c.args.put c.args.number) _ (changing_at c.args.snaps.now change AtPlan) _ (c.fill_value.ensures.waits k lay number x))) in
-    c.complete_blocked.ensures.ends k u lay number (blocked_as g.S.Shape.allows k _ u _ _ c.machine-run.ensures y)
+pub returns-clause-blocked : goal.returns-clause-blocked
+returns-clause-blocked g c = λ no k x.
+    subst (λ s. InnerWaits k c.call.new.seat.me.0.passes (changing_at (g.L.SnapList.list c.args.snaps.now) c.args.change (Help c.call.new.run)) (all_frozen_load s)) (c.call.ensures.same ∙ c.requires.begins.0) (help_waits k (g.L.SnapList.list c.args.snaps.now) c.args.change _ c.call.new.run _ (c.call.ensures.blocked no (helper k (g.L.SnapList.list c.args.snaps.now) c.args.change) (to_help k (g.L.SnapList.list c.args.snaps.now) c.args.change _ c.args.help.now c.fill_all.result c.requires.begins.0 c.requires.begins.1 (c.fill_all.ensures.told k x))))

@@ -1,0 +1,15 @@
+use Rattle.std.proofs.Common.{◌<◌, arith}
+use Rattle.forest.proofs.StraightHelp.{to_new}
+use Rattle.forest.proofs.straight.help.mark_all.Goals as goal
+
+pub mark-requires-2-clause-marks : goal.mark-requires-2-clause-marks
+mark-requires-2-clause-marks g c = let r = c.requires.marks in (r.0, c.mark.ensures.marked r.0 r.1)
+
+pub mark-requires-3-clause-marks : goal.mark-requires-3-clause-marks
+mark-requires-3-clause-marks g c = let r = c.requires.marks in (r.0, c.mark-2.ensures.marked r.0 (c.mark.ensures.marked r.0 r.1))
+
+pub mark-requires-4-clause-marks : goal.mark-requires-4-clause-marks
+mark-requires-4-clause-marks g c = let r = c.requires.marks in (r.0, c.mark-3.ensures.marked r.0 (c.mark-2.ensures.marked r.0 (c.mark.ensures.marked r.0 r.1)))
+
+pub returns-clause-marked : goal.returns-clause-marked
+returns-clause-marked g c = λ k x. to_new k _ c.args.run.now 4 (λ i a b. absurd (let z : i < i = omega (arith, a, b) in omega (arith, z))) (c.mark-4.ensures.marked k (c.mark-3.ensures.marked k (c.mark-2.ensures.marked k (c.mark.ensures.marked k x))))

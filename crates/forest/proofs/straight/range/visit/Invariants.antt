@@ -1,0 +1,19 @@
+use Rattle.std.proofs.Common.{◌≡◌, ◌+◌, ◌≤◌, suc}
+use Rattle.forest.specs.StraightReads.{RangeReader, VisitRoots, VisitWaits}
+use Rattle.forest.specs.Traces.{seat_steps, shared_nodes}
+use Rattle.forest.specs.CallKinds.{calls}
+use Rattle.order.specs.Range.Next.{range_placed}
+use Rattle.order.specs.Range.Steps.{range_left}
+use Rattle.forest.proofs.straight.range.visit.Given as goal
+
+abbrev pub invariant-loop-after : goal.invariant-loop-after
+invariant-loop-after g l = record {
+  here : (l.seat.table_id ≡ l.fn.seat.table_id) × (l.seat.me.1 ≡ l.fn.seat.me.1);
+  steps : seat_steps l.seat.me.0.passes + suc (range_left (range_placed l.run l.next) (shared_nodes l.layout)) ≤ seat_steps l.fn.seat.me.0.passes + suc (range_left l.fn.run (shared_nodes l.layout));
+  waits : (r : RangeReader (calls g.S.Shape g.M.Machine l.layout l.number))
+      → VisitRoots r l.fn.seat.me.0.passes l.fn.run
+      → VisitWaits r l.seat.me.0.passes l.run l.next;
+}
+
+abbrev pub decreases-loop-after : goal.decreases-loop-after
+decreases-loop-after g l = range_left (range_placed l.run l.next) (shared_nodes l.layout)

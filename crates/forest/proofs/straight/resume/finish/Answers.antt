@@ -1,0 +1,34 @@
+use Rattle.std.proofs.Common.{◌∙◌, arith}
+use Rattle.forest.specs.StraightUpdate.{Updater, UpdaterIsTold, UpdaterStands}
+use Rattle.forest.specs.Traces.{shared_nodes}
+use Rattle.forest.specs.CallKinds.{calls}
+use Rattle.edits.specs.Steps.{IsNearer, update_left}
+use Rattle.forest.proofs.Advances.{weighs}
+use Rattle.forest.proofs.StraightUpdate.{ends_nowhere, told_on, told_fits}
+use Rattle.forest.proofs.straight.resume.finish.Given.{Over}
+use Rattle.forest.proofs.straight.resume.finish.Goals.{After-step-turn}
+use Rattle.forest.proofs.straight.resume.finish.Goals as goal
+
+-- the update is told what its step has found
+told : (g : Over) (c : After-step-turn g) (u : Updater (calls g.S.Shape g.M.Machine c.args.layout.now c.args.number) g.E.Edit.means) → UpdaterStands u c.args.seat.now.me.0.passes c.args.machine c.args.turn → UpdaterIsTold u c.step-told.new.seat.me.0.passes c.loop-turn.machine c.step-told.result
+told g c u x = c.step-told.ensures.told u.call u.first (u.with_run c.loop-turn.machine) u.is_layout u.is_number (rw c.in-Ask.is at c.loop-turn.invariant.stands u x)
+
+-- it has fewer steps left than before
+nearer : (g : Over) (c : After-step-turn g) → IsNearer g.E.Edit.means c.step-turn.new.self (shared_nodes c.args.layout.now) c.step-turn.result (update_left g.E.Edit.means c.loop-turn.machine (shared_nodes c.args.layout.now))
+nearer g c = let r = c.requires.stands in c.step-turn.ensures.nearer (shared_nodes c.args.layout.now) (told_fits r.0 _ c.loop-turn.machine c.step-told.result (told g c r.0 r.1))
+
+pub step-told-requires-clause-waits : goal.step-told-requires-clause-waits
+step-told-requires-clause-waits g c = let r = c.requires.stands in let u = r.0 in (u.call, u.first, u.with_run c.loop-turn.machine, u.is_layout, u.is_number, rw c.in-Ask.is at c.loop-turn.invariant.stands u r.1)
+
+pub loop-turn-preserved : goal.loop-turn-preserved
+loop-turn-preserved g c = record {
+  here = (c.step-told.ensures.table.0 ∙ c.loop-turn.invariant.here.0, c.step-told.ensures.table.1 ∙ c.loop-turn.invariant.here.1);
+  stands = λ u x. told_on u _ c.loop-turn.machine c.step-turn.new.self c.step-told.result c.step-turn.result c.step-turn.ensures.same c.step-turn.ensures.tries c.step-turn.ensures.spends (λ h. c.step-turn.ensures.turn u.call h) (told g c u x);
+  steps = (let w = weighs c.step-turn.result _ _ (nearer g c) in let one = c.step-told.ensures.one in let old = rw c.in-Ask.is at c.loop-turn.invariant.steps in omega (arith, w, one, old));
+}
+
+pub loop-turn-smaller : goal.loop-turn-smaller
+loop-turn-smaller g c = rw c.in-Ask.is (let w = weighs c.step-turn.result _ _ (nearer g c) in omega (arith, w))
+
+pub returns-in-Done-clause-ends : goal.returns-in-Done-clause-ends
+returns-in-Done-clause-ends g c = λ u x. ends_nowhere u _ c.loop-turn.machine _ c.stand.result c.in-Done.updated c.stand.ensures (rw c.in-Done.is at c.loop-turn.invariant.stands u x)

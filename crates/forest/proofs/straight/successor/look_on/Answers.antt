@@ -1,0 +1,40 @@
+use Rattle.std.proofs.Common.{ℕ, ◌+◌, ◌-◌, ◌*◌, ◌<◌, length, subst, arith}
+use Rattle.order.specs.Successor.Next.{SuccessorComesNearer, successor_placed}
+use Rattle.order.specs.Successor.Steps.{behind, successor_left, successor_try_left}
+use Rattle.order.proofs.Lemmas.{placed_nearer}
+use Rattle.forest.specs.Traces.{shared_nodes}
+use Rattle.forest.proofs.StraightSuccessor.{begins_look, level_fits, looker, looks_again, looks_last, looks_on}
+use Rattle.forest.proofs.straight.successor.look_on.Given.{Over}
+use Rattle.forest.proofs.straight.successor.look_on.Goals.{In-Ok-looked}
+use Rattle.forest.proofs.straight.successor.look_on.Goals as goal
+
+pub look-requires-clause-waits : goal.look-requires-clause-waits
+look-requires-clause-waits g c = let w = c.requires.waits in (looker w.0 c.args.run.now c.args.route c.args.level c.args.side, begins_look w.0 c.args.run.now c.args.route c.args.level c.args.side _ c.args.node w.1)
+
+pub returns-in-Ok-looked-clause-goes_on : goal.returns-in-Ok-looked-clause-goes_on
+returns-in-Ok-looked-clause-goes_on g c = λ r x. looks_on r c.args.run.now c.args.route c.args.level c.args.side _ c.looked.new.self c.args.node c.in-Ok.snap c.in-Ok-looked.next c.looked.ensures.same c.looked.ensures.tries (rw c.in-Ok-looked.is at c.looked.ensures.goes_on)
+    (c.in-Ok.ensures.snaps (looker r c.args.run.now c.args.route c.args.level c.args.side) (begins_look r c.args.run.now c.args.route c.args.level c.args.side _ c.args.node x))
+
+pub returns-in-Err-looked-clause-goes_on : goal.returns-in-Err-looked-clause-goes_on
+returns-in-Err-looked-clause-goes_on g c = λ r x. looks_last r c.args.run.now c.args.route c.args.level c.args.side _ c.looked.new.self c.args.node c.in-Ok.snap c.in-Err-looked.refused c.looked.ensures.same (rw c.in-Err-looked.is at c.looked.ensures.goes_on)
+    (c.in-Ok.ensures.snaps (looker r c.args.run.now c.args.route c.args.level c.args.side) (begins_look r c.args.run.now c.args.route c.args.level c.args.side _ c.args.node x))
+
+-- with its snapshot it has fewer steps left in this try
+lighter : (g : Over) (c : In-Ok-looked g) → successor_left (successor_placed c.looked.new.self c.in-Ok-looked.next) (shared_nodes c.args.layout.now) < c.args.run.now.tries * successor_try_left (shared_nodes c.args.layout.now) + (length c.args.run.now.snaps.items + 1 + 67 * (1 + shared_nodes c.args.layout.now - c.args.level) + behind c.args.route (shared_nodes c.args.layout.now))
+lighter g c =
+    let w = c.requires.waits in
+    let fits = level_fits w.0 c.args.run.now c.args.route c.args.level c.args.side _ c.args.node c.in-Ok.snap (c.in-Ok.ensures.snaps (looker w.0 c.args.run.now c.args.route c.args.level c.args.side) (begins_look w.0 c.args.run.now c.args.route c.args.level c.args.side _ c.args.node w.1)) in
+    let near : SuccessorComesNearer c.looked.new.self c.in-Ok-looked.next (shared_nodes c.args.layout.now) (length c.args.run.now.snaps.items + 1 + 67 * (1 + shared_nodes c.args.layout.now - c.args.level) + behind c.args.route (shared_nodes c.args.layout.now)) = rw c.in-Ok-looked.is at (c.looked.ensures.nearer (shared_nodes c.args.layout.now) fits) in
+    subst (λ (t : ℕ). successor_left (successor_placed c.looked.new.self c.in-Ok-looked.next) (shared_nodes c.args.layout.now) < t * successor_try_left (shared_nodes c.args.layout.now) + (length c.args.run.now.snaps.items + 1 + 67 * (1 + shared_nodes c.args.layout.now - c.args.level) + behind c.args.route (shared_nodes c.args.layout.now))) c.looked.ensures.tries (placed_nearer c.looked.new.self c.in-Ok-looked.next (shared_nodes c.args.layout.now) (length c.args.run.now.snaps.items + 1 + 67 * (1 + shared_nodes c.args.layout.now - c.args.level) + behind c.args.route (shared_nodes c.args.layout.now)) (omega arith) near)
+
+pub returns-in-Ok-looked-clause-steps : goal.returns-in-Ok-looked-clause-steps
+returns-in-Ok-looked-clause-steps g c = let n = lighter g (goal.at.returns-in-Ok-looked-clause-steps g c).In-Ok-looked in let few = c.look.ensures.steps in omega (arith, n, few)
+
+pub returns-in-Ok-looked-clause-nearer : goal.returns-in-Ok-looked-clause-nearer
+returns-in-Ok-looked-clause-nearer g c = let n = lighter g (goal.at.returns-in-Ok-looked-clause-nearer g c).In-Ok-looked in omega (arith, n)
+
+pub finish-requires-clause-stands : goal.finish-requires-clause-stands
+finish-requires-clause-stands g c = let w = c.requires.waits in (w.0, looks_again w.0 c.args.run.now c.args.route c.args.level c.args.side _ _ c.args.node c.in-Err.marked c.in-Err.scx c.load.ensures (c.in-Err.ensures.waits (looker w.0 c.args.run.now c.args.route c.args.level c.args.side) (begins_look w.0 c.args.run.now c.args.route c.args.level c.args.side _ c.args.node w.1)))
+
+pub returns-in-Err-clause-goes_on : goal.returns-in-Err-clause-goes_on
+returns-in-Err-clause-goes_on g c = λ r x. c.finish.ensures.ends r (looks_again r c.args.run.now c.args.route c.args.level c.args.side _ _ c.args.node c.in-Err.marked c.in-Err.scx c.load.ensures (c.in-Err.ensures.waits (looker r c.args.run.now c.args.route c.args.level c.args.side) (begins_look r c.args.run.now c.args.route c.args.level c.args.side _ c.args.node x)))

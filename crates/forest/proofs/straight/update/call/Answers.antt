@@ -1,0 +1,34 @@
+use Rattle.std.proofs.Common.{subst, sym}
+use Rattle.template.specs.declared.walk.Found.{Found}
+use Rattle.forest.specs.StraightWalk.{WalkerFinds}
+use Rattle.forest.specs.StraightUpdate.{Updater, UpdaterBegins, UpdaterGoesOn}
+use Rattle.forest.specs.Traces.{shared_nodes}
+use Rattle.forest.specs.CallKinds.{calls}
+use Rattle.edits.proofs.Lemmas.{weighs_next}
+use Rattle.forest.proofs.StraightUpdate.{walker, walks, finds, walk_steps, both_steps}
+use Rattle.forest.proofs.straight.update.call.Given.{Over}
+use Rattle.forest.proofs.straight.update.call.Goals.{After-test_share-next}
+use Rattle.forest.proofs.straight.update.call.Goals as goal
+
+-- whichever call began, behind its walk it goes on as its try does
+goes_on : (g : Over) (c : After-test_share-next g) (u : Updater (calls g.S.Shape g.M.Machine c.args.layout.now c.args.number) g.E.Edit.means) → UpdaterBegins u c.args.seat.now.me.0.passes c.args.run.now → UpdaterGoesOn u c.call.new.seat.me.0.passes c.test_share-next.new.self c.anew-found.result c.test_share-next.result
+goes_on g c u x = finds u _ c.args.run.now c.test_share-next.new.self c.args.key c.call.result.1 c.anew-found.result c.test_share-next.result c.requires.goal c.test_share-next.ensures.same c.test_share-next.ensures.tries c.test_share-next.ensures.spends
+    (λ b h. c.test_share-next.ensures.turn u.call b h)
+    (subst (λ (f : Found). WalkerFinds (walker u c.args.run.now) c.call.new.seat.me.0.passes c.args.key c.call.result.1 f) (sym c.anew-found.ensures)
+    (c.call.ensures.finds (walker u c.args.run.now) (walks u _ c.args.run.now c.args.key c.requires.goal x)))
+
+pub call-requires-clause-waits : goal.call-requires-clause-waits
+call-requires-clause-waits g c = let r = c.requires.begins in (
+  walker r.0 c.args.run.now,
+  walks r.0 _ c.args.run.now c.args.key c.requires.goal r.1,
+)
+
+pub try_on-requires-clause-goes_on : goal.try_on-requires-clause-goes_on
+try_on-requires-clause-goes_on g c = let r = c.requires.begins in (r.0, goes_on g (goal.at.try_on-requires-clause-goes_on g c).After-test_share-next r.0 r.1)
+
+pub returns-clause-ends : goal.returns-clause-ends
+returns-clause-ends g c = λ u x. c.try_on.ensures.ends u (goes_on g (goal.at.returns-clause-ends g c).After-test_share-next u x)
+
+pub returns-clause-steps : goal.returns-clause-steps
+returns-clause-steps g c =
+    both_steps _ _ _ c.try_on.ensures.steps (walk_steps _ _ _ _ _ _ c.call.ensures.steps (weighs_next g.E.Edit.means c.test_share-next.new.self c.anew-found.result c.test_share-next.result _ _ (c.test_share-next.ensures.nearer (shared_nodes c.args.layout.now))))

@@ -1,0 +1,51 @@
+-- Calls of an SCX with a fresh cell that stand at a place of its machine.
+use Rattle.std.specs.Prelude.{◌≡◌, ℕ, List}
+use Rattle.arena.specs.declared.layout.Layout.{Layout}
+use Rattle.arena.specs.declared.step.Step.{Step}
+use Rattle.arena.specs.History.{History}
+use Rattle.arena.specs.Machines.{Call}
+use Rattle.prims.specs.Put.Known.{PutIsReady, PutWaits, PutAnswers}
+use Rattle.prims.specs.declared.put.PutRun.{PutRun}
+use Rattle.prims.specs.declared.put.PutAt.TheVariants.{Start, Scx as AtScx}
+use Rattle.prims.specs.declared.scx.Scx.{Scx}
+use Rattle.prims.specs.declared.scx.ScxAt.{ScxAt}
+use Rattle.prims.specs.declared.scx.ScxAt.TheVariants.{Start as ScxStart}
+use Rattle.prims.specs.declared.put.PutAt.{PutAt}
+use Rattle.prims.specs.declared.snap.Snap.{Snap}
+use Rattle.forest.specs.declared.straight.put.Put.{Put}
+use Rattle.forest.specs.declared.view.SeatedPass.{SeatedPass}
+use Rattle.forest.specs.Traces.{CallBegins, Waits, Told, Ends}
+
+-- the two runs are of one SCX: of one SCX-record, update, call and value
+abbrev pub IsSamePut : PutRun → PutRun → Type 0
+IsSamePut old now = (now.scx.scx ≡ old.scx.scx) × (now.scx.update ≡ old.scx.update) × (now.scx.call ≡ old.scx.call) × (now.value ≡ old.value)
+
+-- the run over these snapshots of what is to be put, in the
+-- call of this number, that stands at these places
+abbrev pub standing_put : List Snap → Put → ℕ → ScxAt → PutAt → PutRun
+standing_put snaps put number scx at = record { value = put.value; scx = record { scx = put.scx; call = number; update = record { snaps = snaps; plan = put.plan; old = put.old; fresh = put.fresh }; at = scx }; at = at }
+
+-- the same run at its start
+abbrev pub fresh_put : List Snap → Put → ℕ → PutRun
+fresh_put snaps put number = standing_put snaps put number ScxStart Start
+
+-- a run with its SCX at a place
+abbrev pub scx_at : PutRun → ScxAt → PutRun
+scx_at m at = record { value = m.value; scx = record { scx = m.scx.scx; call = m.scx.call; update = m.scx.update; at = at }; at = AtScx }
+
+module _ (allows : Layout → History → ℕ → Type 0) (c : Call) (ps : List SeatedPass) (first : PutRun) where
+  -- a call of SCX with a fresh cell begins with the run `first`
+  abbrev pub SeatPutBegins : Type 0
+  SeatPutBegins = CallBegins allows (PutIsReady allows) c ps first
+
+  -- the call waits for this step, with the run at its place
+  abbrev pub SeatPutWaits : PutRun → Step → Type 0
+  SeatPutWaits = Waits allows (PutWaits allows) IsSamePut c ps first
+
+  -- the step of the place has told v
+  abbrev pub SeatPutTold : PutRun → ℕ → Type 0
+  SeatPutTold = Told allows (PutWaits allows) IsSamePut c ps first (PutIsReady allows)
+
+  -- the call has ended with this answer
+  abbrev pub SeatPutEnds : PutRun → Scx → Type 0
+  SeatPutEnds = Ends allows (PutWaits allows) IsSamePut c ps first PutAnswers

@@ -1,0 +1,140 @@
+//! An SCX with a fresh cell, with its steps in line.
+ghost use Rattle.std.specs.Prelude.{◌≡◌, ◌≤◌, ◌+◌, suc, length};
+ghost use Rattle.arena.specs.Machines.{Call};
+ghost use Rattle.prims.specs.Put.Steps.{put_left};
+ghost use Rattle.prims.specs.declared.put.PutRun.{PutRun};
+ghost use Rattle.forest.specs.Seats.{IsSeatAt, StaysAtTable};
+ghost use Rattle.forest.specs.Traces.{seat_steps};
+ghost use Rattle.forest.specs.StraightScx.{scx_fill, all_frozen_load};
+ghost use Rattle.forest.specs.StraightPut.{SeatPutBegins, SeatPutWaits, SeatPutEnds, fresh_put, scx_at, standing_put};
+
+use crate::steps::complete;
+use crate::straight::scx::{self, Change};
+use crate::straight::step::step;
+use crate::view::SeatView;
+use crate::words::Words;
+use arena::{
+    Access, Kind, Layout, NodeNo, NodeWord, Plan, ScxNo, ScxWord, Shape, Step, Turn, Word,
+};
+use atomic_table::Seat;
+use help::HelpRun;
+use prims::{PutAt, PutRun, Scx, ScxAt, ScxRun, Snap, Snaps, Update};
+
+/// What an SCX with a fresh cell is to do, beside the snapshots, which stay where the caller has
+/// them.
+#[derive(Clone, Copy)]
+pub(crate) struct Put {
+    pub(crate) plan: Plan,
+    pub(crate) old: NodeNo,
+    pub(crate) fresh: NodeNo,
+    pub(crate) value: u64,
+    pub(crate) scx: ScxNo,
+}
+
+/// Its machine, which only says where the call stands.
+#[inline(always)]
+fn machine(snaps: &[Snap], put: Put, number: u64, scx: ScxAt, at: PutAt) -> PutRun
+    requires fits { length snaps.now ≤ 4 }
+    ensures { result ≡ standing_put snaps.now put number scx at }
+{
+    let update = Update {
+        snaps: Snaps::new(snaps),
+        plan: put.plan,
+        old: put.old,
+        fresh: put.fresh,
+    };
+    let scx = ScxRun {
+        scx: put.scx,
+        call: number,
+        update,
+        at: scx,
+    };
+    PutRun {
+        value: put.value,
+        scx,
+        at,
+    }
+}
+
+/// Fills the value of the fresh cell.
+#[inline(always)]
+fn fill_value<S: Shape>(
+    words: &Words<S>,
+    layout: &Layout,
+    seat: &mut Seat<u8, SeatView>,
+    number: u64,
+    snaps: &[Snap],
+    put: Put,
+)
+    requires table { IsSeatAt words.now layout.now seat.old }
+    requires fits { length snaps.now ≤ 4 }
+    requires begins { (c : Call) × (c.layout ≡ layout.now) × (c.number ≡ number) × SeatPutBegins S.allows c seat.old.me.0.passes (fresh_put snaps.now put number) }
+    ensures table { StaysAtTable seat.old seat.new }
+    ensures one { seat_steps seat.new.me.0.passes ≡ suc (seat_steps seat.old.me.0.passes) }
+    ensures waits { (c : Call) → c.layout ≡ layout.now → c.number ≡ number → SeatPutBegins S.allows c seat.old.me.0.passes (fresh_put snaps.now put number) → SeatPutWaits S.allows c seat.new.me.0.passes (fresh_put snaps.now put number) (scx_at (fresh_put snaps.now put number) ScxAt.Plan) (scx_fill put.scx ScxWord.Plan put.plan.0) }
+{
+    let asked = Step {
+        kind: Kind::Fill,
+        word: Word::Node(put.fresh, NodeWord::Value),
+        access: Access::Store(put.value),
+    };
+    step::<S, PutRun>(words, layout, seat, number, asked);
+}
+
+/// Goes on by the machine, where a node could not be frozen: it waits to look whether all were. The
+/// layout is a copy, so that the caller's, which is not handed out of line, stays in registers.
+#[inline(always)]
+fn complete_blocked<S: Shape>(
+    words: &Words<S>,
+    layout: Layout,
+    seat: &mut Seat<u8, SeatView>,
+    number: u64,
+    mut run: PutRun,
+) -> Scx
+    requires table { IsSeatAt words.now layout seat.old }
+    requires waits { (c : Call) × (first : PutRun) × (c.layout ≡ layout) × (c.number ≡ number) × SeatPutWaits S.allows c seat.old.me.0.passes first run (all_frozen_load run.scx.scx) }
+    ensures table { StaysAtTable seat.old seat.new }
+    ensures steps { seat_steps seat.new.me.0.passes ≤ seat_steps seat.old.me.0.passes + suc (put_left run) }
+    ensures ends { (c : Call) (first : PutRun) → c.layout ≡ layout → c.number ≡ number → SeatPutWaits S.allows c seat.old.me.0.passes first run (all_frozen_load run.scx.scx) → (m : PutRun) × SeatPutEnds S.allows c seat.new.me.0.passes first m result }
+{
+    let step = Step {
+        kind: Kind::LoadAllFrozen,
+        word: Word::Scx(run.scx.scx, ScxWord::AllFrozen),
+        access: Access::Load,
+    };
+    complete::<S, PutRun>(words, &layout, seat, number, &mut run, Turn::Ask(step))
+}
+
+/// SCX of an update by this SCX-record, whose fresh cell gets the value.
+#[inline(always)]
+pub(crate) fn call<S: Shape>(
+    words: &Words<S>,
+    layout: &Layout,
+    seat: &mut Seat<u8, SeatView>,
+    number: u64,
+    snaps: &[Snap],
+    put: Put,
+) -> Scx
+    requires table { IsSeatAt words.now layout.now seat.old }
+    requires fits { length snaps.now ≤ 4 }
+    requires begins { (c : Call) × (c.layout ≡ layout.now) × (c.number ≡ number) × SeatPutBegins S.allows c seat.old.me.0.passes (fresh_put snaps.now put number) }
+    ensures table { StaysAtTable seat.old seat.new }
+    ensures steps { seat_steps seat.new.me.0.passes ≤ seat_steps seat.old.me.0.passes + 40 }
+    ensures ends { (c : Call) → c.layout ≡ layout.now → c.number ≡ number → SeatPutBegins S.allows c seat.old.me.0.passes (fresh_put snaps.now put number) → (m : PutRun) × SeatPutEnds S.allows c seat.new.me.0.passes (fresh_put snaps.now put number) m result }
+{
+    fill_value(words, layout, seat, number, snaps, put);
+    let change = Change {
+        scx: put.scx,
+        call: number,
+        plan: put.plan,
+        old: put.old,
+        fresh: put.fresh,
+    };
+    let mut help = HelpRun::new(put.scx);
+    let own = &mut help;
+    if scx::call::<S, PutRun, S, &[Snap]>(words, layout, seat, number, &snaps, change, own) {
+        return Scx::Done;
+    }
+    let run = machine(snaps, put, number, ScxAt::Help { help }, PutAt::Scx);
+    complete_blocked(words, *layout, seat, number, run)
+}

@@ -1,0 +1,117 @@
+//! Updates that meet something in their way: their machine goes on from there.
+ghost use Rattle.std.specs.Prelude.{◌≡◌, ◌≤◌, ◌<◌, ◌+◌, ◌*◌, suc};
+ghost use Rattle.forest.specs.Seats.{IsSeatAt, StaysAtTable};
+ghost use Rattle.forest.specs.Traces.{seat_steps, shared_nodes, weight};
+ghost use Rattle.forest.specs.StraightUpdate.{Updater, UpdaterEnds, UpdaterGoesOn, UpdaterIsBlocked, UpdaterStands};
+ghost use Rattle.forest.specs.CallKinds.{calls};
+ghost use Rattle.prims.specs.Scx.Steps.{scx_left};
+ghost use Rattle.prims.specs.declared.scx.ScxAt.{ScxAt};
+ghost use Rattle.edits.specs.Next.{left_then, standing};
+ghost use Rattle.edits.specs.Steps.{try_left, update_left};
+ghost use Rattle.edits.specs.declared.update.UpdateAt.{UpdateAt as Places};
+
+use crate::straight::step::step;
+use crate::view::SeatView;
+use crate::words::Words;
+use arena::{Layout, Machine, PassNo, ScxNo, Shape, Share, Turn};
+use atomic_table::Seat;
+use edits::{Edit, Next, Stop, UpdateAt, UpdateRun, Updated};
+use help::HelpRun;
+use std::mem::replace;
+use template::Found;
+
+/// Takes an update out, to be put at a place. Until it comes back, another stands in for it, whose
+/// share nobody takes from: that of some pass, since a share is always one's.
+fn take_up<E: Edit + Copy>(run: &mut UpdateRun<E, ()>, layout: &Layout) -> UpdateRun<E, UpdateAt>
+    requires some { 0 < layout.now.passes }
+    ensures { result ≡ standing run.old Places.Start }
+{
+    let share = Share::of(layout, PassNo(0));
+    let other = UpdateRun::new(run.edit, share, 0, 0, ());
+    replace(run, other).stand(UpdateAt::Start)
+}
+
+/// Makes the rest of an update from this turn of its machine on, and puts it back.
+fn finish<S: Shape, M: Machine<S>, E: Edit + Copy>(
+    words: &Words<S>,
+    layout: &Layout,
+    seat: &mut Seat<u8, SeatView>,
+    number: u64,
+    run: &mut UpdateRun<E, ()>,
+    mut machine: UpdateRun<E, UpdateAt>,
+    mut turn: Turn<Updated>,
+) -> Updated
+    requires table { IsSeatAt words.now layout.now seat.old }
+    requires stands { (u : Updater (calls S.Shape M.Machine layout.now number) E.means) × UpdaterStands u seat.old.me.0.passes machine turn }
+    ensures table { StaysAtTable seat.old seat.new }
+    ensures ends { (u : Updater (calls S.Shape M.Machine layout.now number) E.means) → UpdaterStands u seat.old.me.0.passes machine turn → UpdaterEnds u seat.new.me.0.passes run.new result }
+    ensures steps { seat_steps seat.new.me.0.passes ≤ seat_steps seat.old.me.0.passes + weight turn (update_left E.means machine (shared_nodes layout.now)) }
+{
+    loop {
+        match turn {
+            Turn::Ask(asked) => {
+                let told = step::<S, M>(words, layout, seat, number, asked);
+                turn = machine.step(Some(told));
+            }
+            Turn::Done(updated) => {
+                *run = machine.stand(());
+                return updated;
+            }
+        }
+    }
+}
+
+/// Makes the rest of an update from what its try does next on.
+#[cold]
+#[inline(never)]
+pub(crate) fn from_next<S: Shape, M: Machine<S>, E: Edit + Copy>(
+    words: &Words<S>,
+    layout: &Layout,
+    seat: &mut Seat<u8, SeatView>,
+    number: u64,
+    run: &mut UpdateRun<E, ()>,
+    found: &Found,
+    next: Result<Next, Stop>,
+) -> Updated
+    requires table { IsSeatAt words.now layout.now seat.old }
+    requires goes_on { (u : Updater (calls S.Shape M.Machine layout.now number) E.means) × UpdaterGoesOn u seat.old.me.0.passes run.old found.now next }
+    ensures table { StaysAtTable seat.old seat.new }
+    ensures ends { (u : Updater (calls S.Shape M.Machine layout.now number) E.means) → UpdaterGoesOn u seat.old.me.0.passes run.old found.now next → UpdaterEnds u seat.new.me.0.passes run.new result }
+    ensures steps { seat_steps seat.new.me.0.passes ≤ seat_steps seat.old.me.0.passes + left_then E.means run.old found.now next (shared_nodes layout.now) }
+{
+    let mut machine = take_up(run, layout);
+    match next {
+        Ok(next) => {
+            let turn = machine.begin(*found, next);
+            finish::<S, M, E>(words, layout, seat, number, run, machine, turn)
+        }
+        Err(stop) => {
+            let turn = machine.stop(found, stop);
+            finish::<S, M, E>(words, layout, seat, number, run, machine, turn)
+        }
+    }
+}
+
+/// Makes the rest of an update whose SCX could not freeze a node.
+#[cold]
+#[inline(never)]
+pub(crate) fn from_block<S: Shape, M: Machine<S>, E: Edit + Copy>(
+    words: &Words<S>,
+    layout: &Layout,
+    seat: &mut Seat<u8, SeatView>,
+    number: u64,
+    run: &mut UpdateRun<E, ()>,
+    found: &Found,
+    scx: ScxNo,
+    help: &HelpRun,
+) -> Updated
+    requires table { IsSeatAt words.now layout.now seat.old }
+    requires blocked { (u : Updater (calls S.Shape M.Machine layout.now number) E.means) × UpdaterIsBlocked u seat.old.me.0.passes run.old found.now scx help.now }
+    ensures table { StaysAtTable seat.old seat.new }
+    ensures ends { (u : Updater (calls S.Shape M.Machine layout.now number) E.means) → UpdaterIsBlocked u seat.old.me.0.passes run.old found.now scx help.now → UpdaterEnds u seat.new.me.0.passes run.new result }
+    ensures steps { seat_steps seat.new.me.0.passes ≤ seat_steps seat.old.me.0.passes + suc (run.old.tries * try_left E.means (shared_nodes layout.now) + scx_left (ScxAt.Help help.now)) }
+{
+    let mut machine = take_up(run, layout);
+    let turn = machine.block(*found, scx, *help);
+    finish::<S, M, E>(words, layout, seat, number, run, machine, turn)
+}

@@ -1,0 +1,172 @@
+//! Successors, of whatever machine makes one: the first try in line, as long as nothing is in its
+//! way. Where something is, or has come between, the machine of the successor goes on from there;
+//! until then its place is left as it was.
+ghost use Rattle.std.specs.Prelude.{◌≡◌, ◌≤◌, ◌<◌, ◌+◌, suc};
+ghost use Rattle.forest.specs.StraightReads.{SuccessorReader, SearchBegins, SearchEnds, SearchGoesOn, SearchWaits, search_left};
+ghost use Rattle.forest.specs.Seats.{IsSeatAt, StaysAtTable};
+ghost use Rattle.forest.specs.Traces.{seat_steps, shared_nodes};
+ghost use Rattle.forest.specs.CallKinds.{calls};
+ghost use Rattle.order.specs.Successor.Next.{successor_placed};
+ghost use Rattle.order.specs.Successor.Steps.{successor_left};
+ghost use Rattle.order.specs.declared.successor.SuccessorNext.{SuccessorNext};
+
+use crate::straight::llx::{load, look};
+use crate::straight::ordered_read::{finish, read, tell};
+use crate::straight::vlx::validate;
+use crate::straight::walk;
+use crate::view::SeatView;
+use crate::words::Words;
+use arena::{Head, Kind, Layout, Machine, NodeNo, NodeWord, ScxWord, Shape, Side, Turn, Word};
+use atomic_table::Seat;
+use order::{Refused, Route, SuccessorAt, SuccessorNext, SuccessorRun};
+use ordered_map::Pair;
+use prims::{LlxAt, LlxRun, Snap};
+use template::Tree;
+
+/// What a successor answers.
+type Told = Result<Option<Pair>, Refused>;
+
+/// Looks at a fork, and tells what comes behind that, or what the successor has answered: that
+/// there is no memory to keep what was found, or, where something is in the way, what its machine
+/// says.
+#[inline(always)]
+fn look_on<S: Shape, M: Machine<S>>(
+    words: &Words<S>,
+    layout: &Layout,
+    seat: &mut Seat<u8, SeatView>,
+    number: u64,
+    run: &mut SuccessorRun,
+    route: Route,
+    level: u64,
+    side: Side,
+    node: NodeNo,
+) -> Result<SuccessorNext, Told>
+    requires table { IsSeatAt words.now layout.now seat.old }
+    requires waits { (r : SuccessorReader (calls S.Shape M.Machine layout.now number)) × SearchWaits r seat.old.me.0.passes run.old (SuccessorNext.Look route level side node) }
+    ensures table { StaysAtTable seat.old seat.new }
+    ensures goes_on { (r : SuccessorReader (calls S.Shape M.Machine layout.now number)) → SearchWaits r seat.old.me.0.passes run.old (SuccessorNext.Look route level side node) → SearchGoesOn r seat.new.me.0.passes run.new result }
+    ensures steps { seat_steps seat.new.me.0.passes + search_left (shared_nodes layout.now) run.new result ≤ seat_steps seat.old.me.0.passes + suc (successor_left (successor_placed run.old (SuccessorNext.Look route level side node)) (shared_nodes layout.now)) }
+    ensures nearer { search_left (shared_nodes layout.now) run.new result < suc (successor_left (successor_placed run.old (SuccessorNext.Look route level side node)) (shared_nodes layout.now)) }
+{
+    match look::<S, M, Tree>(words, layout, seat, number, node) {
+        Ok(snap) => match run.looked(route, level, side, snap) {
+            Ok(next) => Ok(next),
+            Err(refused) => Err(Err(refused)),
+        },
+        Err((marked, scx)) => {
+            let at = LlxAt::StateAgain { marked, scx };
+            let llx = LlxRun { node, at };
+            run.at = SuccessorAt::Look {
+                route,
+                level,
+                side,
+                llx,
+            };
+            let turn = Turn::Ask(load(Kind::LoadState, Word::Scx(scx, ScxWord::State)));
+            Err(finish::<S, M, SuccessorRun>(words, layout, seat, number, run, turn))
+        }
+    }
+}
+
+/// Validates what it has looked at, and tells what the successor has answered. Its machine is told
+/// of the last load; where that is not what was found, it goes on to the end.
+#[inline(always)]
+fn validate_on<S: Shape, M: Machine<S>>(
+    words: &Words<S>,
+    layout: &Layout,
+    seat: &mut Seat<u8, SeatView>,
+    number: u64,
+    run: &mut SuccessorRun,
+    found: Option<Pair>,
+) -> Told
+    requires table { IsSeatAt words.now layout.now seat.old }
+    requires waits { (r : SuccessorReader (calls S.Shape M.Machine layout.now number)) × SearchWaits r seat.old.me.0.passes run.old (SuccessorNext.Validate found) }
+    ensures table { StaysAtTable seat.old seat.new }
+    ensures ends { (r : SuccessorReader (calls S.Shape M.Machine layout.now number)) → SearchWaits r seat.old.me.0.passes run.old (SuccessorNext.Validate found) → SearchEnds r seat.new.me.0.passes run.new result }
+    ensures steps { seat_steps seat.new.me.0.passes ≤ seat_steps seat.old.me.0.passes + suc (successor_left (successor_placed run.old (SuccessorNext.Validate found)) (shared_nodes layout.now)) }
+{
+    let snaps = run.snaps.as_slice();
+    let (asked, told) = validate::<S, M, &[Snap]>(words, layout, seat, number, snaps);
+    run.at = SuccessorAt::Validate { asked, found };
+    tell::<S, M, SuccessorRun>(words, layout, seat, number, run, told)
+}
+
+/// Does what comes next, and tells what comes behind that, or what the successor has answered.
+#[inline(always)]
+fn search_on<S: Shape, M: Machine<S>>(
+    words: &Words<S>,
+    layout: &Layout,
+    seat: &mut Seat<u8, SeatView>,
+    number: u64,
+    run: &mut SuccessorRun,
+    next: SuccessorNext,
+) -> Result<SuccessorNext, Told>
+    requires table { IsSeatAt words.now layout.now seat.old }
+    requires waits { (r : SuccessorReader (calls S.Shape M.Machine layout.now number)) × SearchWaits r seat.old.me.0.passes run.old next }
+    ensures table { StaysAtTable seat.old seat.new }
+    ensures goes_on { (r : SuccessorReader (calls S.Shape M.Machine layout.now number)) → SearchWaits r seat.old.me.0.passes run.old next → SearchGoesOn r seat.new.me.0.passes run.new result }
+    ensures steps { seat_steps seat.new.me.0.passes + search_left (shared_nodes layout.now) run.new result ≤ seat_steps seat.old.me.0.passes + suc (successor_left (successor_placed run.old next) (shared_nodes layout.now)) }
+    ensures nearer { search_left (shared_nodes layout.now) run.new result < suc (successor_left (successor_placed run.old next) (shared_nodes layout.now)) }
+{
+    match next {
+        SuccessorNext::Look {
+            route,
+            level,
+            side,
+            node,
+        } => look_on::<S, M>(words, layout, seat, number, run, route, level, side, node),
+        SuccessorNext::Head {
+            route,
+            above: _,
+            node,
+        } => {
+            let part = NodeWord::Head;
+            let word = read::<S, M, SuccessorRun>(words, layout, seat, number, node, part);
+            Ok(run.head_on(route, Head::of(word), node))
+        }
+        SuccessorNext::Key { route, head, node } => {
+            let part = NodeWord::Key;
+            let key = read::<S, M, SuccessorRun>(words, layout, seat, number, node, part);
+            Ok(run.key_on(route, head, node, key))
+        }
+        SuccessorNext::Value { key, node } => {
+            let part = NodeWord::Value;
+            let value = read::<S, M, SuccessorRun>(words, layout, seat, number, node, part);
+            Ok(SuccessorNext::Validate(Some(Pair { key, value })))
+        }
+        SuccessorNext::Validate(found) => {
+            Err(validate_on::<S, M>(words, layout, seat, number, run, found))
+        }
+    }
+}
+
+/// Makes a successor.
+pub(crate) fn call<S: Shape, M: Machine<S>>(
+    words: &Words<S>,
+    layout: &Layout,
+    seat: &mut Seat<u8, SeatView>,
+    number: u64,
+    run: &mut SuccessorRun,
+) -> Told
+    requires table { IsSeatAt words.now layout.now seat.old }
+    requires begins { (r : SuccessorReader (calls S.Shape M.Machine layout.now number)) × SearchBegins r seat.old.me.0.passes run.old }
+    ensures table { StaysAtTable seat.old seat.new }
+    ensures ends { (r : SuccessorReader (calls S.Shape M.Machine layout.now number)) → SearchBegins r seat.old.me.0.passes run.old → SearchEnds r seat.new.me.0.passes run.new result }
+    ensures steps { seat_steps seat.new.me.0.passes ≤ seat_steps seat.old.me.0.passes + successor_left run.old (shared_nodes layout.now) }
+{
+    run.snaps.clear();
+    let (_, node) = walk::call::<S, M>(words, layout, seat, number, run.key);
+    let (route, level, side) = (Route::Along, 0, Side::Left);
+    let mut next = SuccessorNext::Look {
+        route,
+        level,
+        side,
+        node,
+    };
+    loop {
+        match search_on::<S, M>(words, layout, seat, number, run, next) {
+            Ok(after) => next = after,
+            Err(told) => return told,
+        }
+    }
+}

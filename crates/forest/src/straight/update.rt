@@ -1,0 +1,205 @@
+//! Updates, of whatever machine updates.
+ghost use Rattle.std.specs.Prelude.{◌≡◌, ◌≤◌, ◌<◌, ◌+◌, suc};
+ghost use Rattle.forest.specs.Seats.{IsSeatAt, StaysAtTable};
+ghost use Rattle.forest.specs.Traces.{seat_steps, shared_nodes};
+ghost use Rattle.forest.specs.StraightUpdate.{Updater, UpdaterBegins, UpdaterEnds, UpdaterTries, UpdaterGoesOn};
+ghost use Rattle.forest.specs.CallKinds.{calls};
+ghost use Rattle.template.specs.declared.walk.Goal.{Goal};
+ghost use Rattle.edits.specs.Next.{placed, standing, left_then};
+ghost use Rattle.edits.specs.Steps.{update_left};
+ghost use Rattle.edits.specs.declared.update.Next.{Next};
+ghost use Rattle.edits.specs.declared.update.UpdateAt.{UpdateAt};
+
+use crate::straight::fresh_nodes::{fill_node, load};
+use crate::straight::llx::look;
+use crate::straight::scx::{self, Change};
+use crate::straight::{resume, walk};
+use crate::view::SeatView;
+use crate::words::Words;
+use arena::{Layout, Machine, NodeNo, ScxNo, Shape};
+use atomic_table::Seat;
+use edits::{Edit, Next, Stop, UpdateRun, Updated, anew};
+use help::HelpRun;
+use prims::Snap;
+use template::{Found, Tree};
+
+/// Makes an update that walks to this key: its first try in line, as long as nothing is in its way.
+/// Where something is, its machine goes on from there; until then the update has no place. It is a
+/// function of its own, since the compiler puts nothing into a function that would grow very large,
+/// as one with both edits would.
+#[inline(never)]
+pub(crate) fn call<S: Shape, M: Machine<S>, E: Edit + Copy>(
+    words: &Words<S>,
+    layout: &Layout,
+    seat: &mut Seat<u8, SeatView>,
+    number: u64,
+    run: &mut UpdateRun<E, ()>,
+    key: u64,
+) -> Updated
+    requires table { IsSeatAt words.now layout.now seat.old }
+    requires goal { E.means.goal run.old.edit ≡ Goal.Key key }
+    requires begins { (u : Updater (calls S.Shape M.Machine layout.now number) E.means) × UpdaterBegins u seat.old.me.0.passes run.old }
+    ensures table { StaysAtTable seat.old seat.new }
+    ensures ends { (u : Updater (calls S.Shape M.Machine layout.now number) E.means) → UpdaterBegins u seat.old.me.0.passes run.old → UpdaterEnds u seat.new.me.0.passes run.new result }
+    ensures steps { seat_steps seat.new.me.0.passes ≤ seat_steps seat.old.me.0.passes + update_left E.means (standing run.old UpdateAt.Start) (shared_nodes layout.now) }
+{
+    let found = anew(&walk::call::<S, M>(words, layout, seat, number, key).0);
+    let next = run.test_share(&found);
+    try_on::<S, M, E>(words, layout, seat, number, run, &found, next)
+}
+
+/// Makes what a try does next and all behind it.
+#[inline(always)]
+fn try_on<S: Shape, M: Machine<S>, E: Edit + Copy>(
+    words: &Words<S>,
+    layout: &Layout,
+    seat: &mut Seat<u8, SeatView>,
+    number: u64,
+    run: &mut UpdateRun<E, ()>,
+    found: &Found,
+    next: Result<Next, Stop>,
+) -> Updated
+    requires table { IsSeatAt words.now layout.now seat.old }
+    requires goes_on { (u : Updater (calls S.Shape M.Machine layout.now number) E.means) × UpdaterGoesOn u seat.old.me.0.passes run.old found.now next }
+    ensures table { StaysAtTable seat.old seat.new }
+    ensures ends { (u : Updater (calls S.Shape M.Machine layout.now number) E.means) → UpdaterGoesOn u seat.old.me.0.passes run.old found.now next → UpdaterEnds u seat.new.me.0.passes run.new result }
+    ensures steps { seat_steps seat.new.me.0.passes ≤ seat_steps seat.old.me.0.passes + left_then E.means run.old found.now next (shared_nodes layout.now) }
+{
+    let looked = look_on::<S, M, E>(words, layout, seat, number, run, found, next);
+    let worked = work_on::<S, M, E>(words, layout, seat, number, run, found, looked);
+    match worked {
+        Ok(now) => match now {
+            Next::Change(scx) => change::<S, M, E>(words, layout, seat, number, run, found, scx),
+            _ => resume::from_next::<S, M, E>(words, layout, seat, number, run, found, Ok(now)),
+        },
+        Err(stop) => match stop {
+            Stop::Nothing => Updated::at(found),
+            Stop::Full(full) => Updated::Full(full),
+            Stop::Lost { .. } => {
+                resume::from_next::<S, M, E>(words, layout, seat, number, run, found, Err(stop))
+            }
+        },
+    }
+}
+
+/// Makes the looks that come next.
+#[inline(always)]
+fn look_on<S: Shape, M: Machine<S>, E: Edit + Copy>(
+    words: &Words<S>,
+    layout: &Layout,
+    seat: &mut Seat<u8, SeatView>,
+    number: u64,
+    run: &mut UpdateRun<E, ()>,
+    found: &Found,
+    mut next: Result<Next, Stop>,
+) -> Result<Next, Stop>
+    requires table { IsSeatAt words.now layout.now seat.old }
+    requires goes_on { (u : Updater (calls S.Shape M.Machine layout.now number) E.means) × UpdaterGoesOn u seat.old.me.0.passes run.old found.now next }
+    ensures table { StaysAtTable seat.old seat.new }
+    ensures goes_on { (u : Updater (calls S.Shape M.Machine layout.now number) E.means) → UpdaterGoesOn u seat.old.me.0.passes run.old found.now next → UpdaterGoesOn u seat.new.me.0.passes run.new found.now result }
+    ensures steps { seat_steps seat.new.me.0.passes + left_then E.means run.new found.now result (shared_nodes layout.now) ≤ seat_steps seat.old.me.0.passes + left_then E.means run.old found.now next (shared_nodes layout.now) }
+{
+    loop {
+        let now = match next {
+            Ok(now) => now,
+            Err(stop) => return Err(stop),
+        };
+        match now {
+            Next::Look(node) => {
+                next = look_at::<S, M, E>(words, layout, seat, number, run, found, node);
+            }
+            _ => return Ok(now),
+        }
+    }
+}
+
+/// Makes the loads and fills that come next.
+#[inline(always)]
+fn work_on<S: Shape, M: Machine<S>, E: Edit + Copy>(
+    words: &Words<S>,
+    layout: &Layout,
+    seat: &mut Seat<u8, SeatView>,
+    number: u64,
+    run: &mut UpdateRun<E, ()>,
+    found: &Found,
+    mut next: Result<Next, Stop>,
+) -> Result<Next, Stop>
+    requires table { IsSeatAt words.now layout.now seat.old }
+    requires goes_on { (u : Updater (calls S.Shape M.Machine layout.now number) E.means) × UpdaterGoesOn u seat.old.me.0.passes run.old found.now next }
+    ensures table { StaysAtTable seat.old seat.new }
+    ensures goes_on { (u : Updater (calls S.Shape M.Machine layout.now number) E.means) → UpdaterGoesOn u seat.old.me.0.passes run.old found.now next → UpdaterGoesOn u seat.new.me.0.passes run.new found.now result }
+    ensures steps { seat_steps seat.new.me.0.passes + left_then E.means run.new found.now result (shared_nodes layout.now) ≤ seat_steps seat.old.me.0.passes + left_then E.means run.old found.now next (shared_nodes layout.now) }
+{
+    loop {
+        let now = match next {
+            Ok(now) => now,
+            Err(stop) => return Err(stop),
+        };
+        match now {
+            Next::Load { nth, part } => {
+                next = Ok(load::<S, M, E>(words, layout, seat, number, run, found, nth, part));
+            }
+            Next::Fill(nth) => {
+                next = fill_node::<S, M, E>(words, layout, seat, number, run, found, nth);
+            }
+            _ => return Ok(now),
+        }
+    }
+}
+
+/// Looks at a node.
+#[inline(always)]
+fn look_at<S: Shape, M: Machine<S>, E: Edit + Copy>(
+    words: &Words<S>,
+    layout: &Layout,
+    seat: &mut Seat<u8, SeatView>,
+    number: u64,
+    run: &mut UpdateRun<E, ()>,
+    found: &Found,
+    node: NodeNo,
+) -> Result<Next, Stop>
+    requires table { IsSeatAt words.now layout.now seat.old }
+    requires tries { (u : Updater (calls S.Shape M.Machine layout.now number) E.means) × UpdaterTries u seat.old.me.0.passes run.old found.now (Next.Look node) }
+    ensures table { StaysAtTable seat.old seat.new }
+    ensures goes_on { (u : Updater (calls S.Shape M.Machine layout.now number) E.means) → UpdaterTries u seat.old.me.0.passes run.old found.now (Next.Look node) → UpdaterGoesOn u seat.new.me.0.passes run.new found.now result }
+    ensures steps { seat_steps seat.new.me.0.passes + left_then E.means run.new found.now result (shared_nodes layout.now) ≤ seat_steps seat.old.me.0.passes + suc (update_left E.means (placed E.means run.old found.now (Next.Look node)) (shared_nodes layout.now)) }
+    ensures nearer { left_then E.means run.new found.now result (shared_nodes layout.now) < suc (update_left E.means (placed E.means run.old found.now (Next.Look node)) (shared_nodes layout.now)) }
+{
+    match look::<S, M, Tree>(words, layout, seat, number, node) {
+        Ok(snap) => run.looked(found, snap),
+        Err((marked, scx)) => Ok(Next::Wait { node, marked, scx }),
+    }
+}
+
+/// Makes the SCX.
+#[inline(always)]
+fn change<S: Shape, M: Machine<S>, E: Edit + Copy>(
+    words: &Words<S>,
+    layout: &Layout,
+    seat: &mut Seat<u8, SeatView>,
+    number: u64,
+    run: &mut UpdateRun<E, ()>,
+    found: &Found,
+    scx: ScxNo,
+) -> Updated
+    requires table { IsSeatAt words.now layout.now seat.old }
+    requires tries { (u : Updater (calls S.Shape M.Machine layout.now number) E.means) × UpdaterTries u seat.old.me.0.passes run.old found.now (Next.Change scx) }
+    ensures table { StaysAtTable seat.old seat.new }
+    ensures ends { (u : Updater (calls S.Shape M.Machine layout.now number) E.means) → UpdaterTries u seat.old.me.0.passes run.old found.now (Next.Change scx) → UpdaterEnds u seat.new.me.0.passes run.new result }
+    ensures steps { seat_steps seat.new.me.0.passes ≤ seat_steps seat.old.me.0.passes + suc (update_left E.means (placed E.means run.old found.now (Next.Change scx)) (shared_nodes layout.now)) }
+{
+    let change = Change {
+        scx,
+        call: run.call,
+        plan: run.plan(found),
+        old: run.old(found),
+        fresh: run.fresh(found),
+    };
+    let snaps = run.snaps.as_slice();
+    let mut help = HelpRun::new(scx);
+    let own = &mut help;
+    if scx::call::<S, M, Tree, &[Snap]>(words, layout, seat, number, &snaps, change, own) {
+        return Updated::at(found);
+    }
+    resume::from_block::<S, M, E>(words, layout, seat, number, run, found, scx, &help)
+}
