@@ -1,6 +1,7 @@
 //! Allocations that are refused.
 use arena::Mode;
-use program::{Fault, run};
+use player::play_by;
+use program::Fault;
 use report::{ReportFault, read_record, write_record};
 use script::{read_schedule, read_script};
 use std::alloc::Global;
@@ -21,7 +22,7 @@ fn written_twice(
 ) -> Result<(Vec<u8>, Vec<u8>), Fault> {
     let script = read_script(alloc, Mode::Records, &mut Metered::new(SET.as_bytes()))?;
     let schedule = read_schedule(alloc, &script, &mut Metered::new(IN_TURN.as_bytes()))?;
-    let record = run(alloc, &script, &schedule)?;
+    let record = play_by(alloc, &script, &schedule)?;
     let mut report = Metered::new(first);
     write_record(alloc, &record, &mut report)?;
     let record = match read_record(alloc, &mut Metered::new(report.inner.as_slice())) {

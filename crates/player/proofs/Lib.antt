@@ -26,4 +26,3 @@ mod Winners
 mod Plays
 mod TurnsMore
 mod SameKinds
-pub mod Lemmas

@@ -5,9 +5,11 @@ mod client;
 mod interleaving;
 mod kept;
 mod lines;
+mod orders;
 mod place;
 mod player;
 mod run;
 
+pub use orders::play_by;
 pub use player::{Player, play};
 pub use record::{Answer, Entry, Finished, Line, Record, Row};

@@ -4,12 +4,10 @@
 
 mod audited;
 mod fault;
-mod orders;
 mod play;
 mod threaded;
 
 pub use audited::audit_over;
 pub use fault::Fault;
-pub use orders::run;
 pub use play::play_over;
 pub use threaded::run_over;

@@ -5,8 +5,8 @@ ghost use Rattle.program.specs.Status.{status_of};
 ghost use Rattle.program.specs.declared.fault.Fault.{Fault};
 
 use crate::fault::Fault;
-use crate::orders::run;
 use arena::Mode;
+use player::play_by;
 use report::write_record;
 use script::{read_schedule, read_script};
 use std::alloc::Global;
@@ -52,7 +52,7 @@ fn play<S: Read, T: Read, O: Write>(
 {
     let script = read_script(alloc, mode, &mut Metered::new(script))?;
     let schedule = read_schedule(alloc, &script, &mut Metered::new(schedule))?;
-    let record = run(alloc, &script, &schedule)?;
+    let record = play_by(alloc, &script, &schedule)?;
     write_record(alloc, &record, out)?;
     Ok(())
 }

@@ -1,6 +1,7 @@
 //! A script and a schedule as texts, and the record of their play.
 use arena::Mode;
-use program::{Fault, run};
+use player::play_by;
+use program::Fault;
 use record::Record;
 use script::{read_schedule, read_script};
 use std::alloc::Global;
@@ -23,5 +24,5 @@ pub(crate) fn played_in(
 ) -> Result<Record, Fault> {
     let script = read_script(alloc, mode, &mut Metered::new(script.as_bytes()))?;
     let schedule = read_schedule(alloc, &script, &mut Metered::new(schedule.as_bytes()))?;
-    Ok(run(alloc, &script, &schedule)?)
+    Ok(play_by(alloc, &script, &schedule)?)
 }

@@ -2,7 +2,7 @@ use Rattle.std.proofs.Common.{◌≡◌, List, [], drop}
 use Rattle.record.specs.declared.record.Line.{Line}
 use Rattle.player.specs.Player.{script_view}
 use Rattle.record.specs.Schedules.{AreOrdered}
-use Rattle.program.proofs.orders.run.Given as goal
+use Rattle.player.proofs.orders.play_by.Given as goal
 
 -- whatever the orders that are left mean from here, all mean from the start
 abbrev pub invariant-loop-order : goal.invariant-loop-order

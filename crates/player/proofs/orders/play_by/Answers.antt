@@ -5,7 +5,7 @@ use Rattle.record.specs.Schedules.{AreOrdered}
 use Rattle.record.specs.Turns.{clients}
 use Rattle.record.specs.declared.record.Line.{Line}
 use Rattle.player.specs.Player.{ScriptView}
-use Rattle.program.proofs.orders.run.Goals as goal
+use Rattle.player.proofs.orders.play_by.Goals as goal
 
 pub returns-clause-run : goal.returns-clause-run
 returns-clause-run c =

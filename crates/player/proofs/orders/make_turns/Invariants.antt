@@ -3,7 +3,7 @@ use Rattle.script.specs.declared.schedule.Order.TheVariants.{Step}
 use Rattle.record.specs.Turns.{turns}
 use Rattle.player.specs.TurnsMore.{AreTurnsWhile}
 use Rattle.record.specs.Schedules.{AsksForMore}
-use Rattle.program.proofs.orders.make_turns.Given as goal
+use Rattle.player.proofs.orders.make_turns.Given as goal
 
 abbrev pub invariant-loop : goal.invariant-loop
 invariant-loop l = record {

@@ -1,4 +1,4 @@
-//! The run of a script by a schedule.
+//! A script played by a schedule.
 ghost use Rattle.std.specs.Prelude.{◌≡◌, ◌<◌, All, IfOk, OnOk};
 ghost use Rattle.player.specs.Player.{script_view};
 ghost use Rattle.player.specs.TurnsMore.{AreTurnsWhile};
@@ -6,14 +6,15 @@ ghost use Rattle.record.specs.Schedules.{AsksForMore, IsObeyed, IsOrdered, IsRun
 ghost use Rattle.script.specs.Orders.{IsOrder};
 ghost use Rattle.script.specs.declared.schedule.Order.{Order};
 
+use crate::player::Player;
 use arena::{NoMemory, PassNo};
-use player::{Player, Record};
+use record::Record;
 use script::{Order, Schedule, Script};
 use std::alloc::Global;
 
-/// The record of the script's run by the schedule: a lawful run, whose turns are those that the
-/// schedule means. The only error is want of memory.
-pub fn run(alloc: Global, script: &Script, schedule: &Schedule) -> Result<Record, NoMemory>
+/// Plays the script by the schedule: the record is that of a lawful run, whose turns are those that
+/// the schedule means. The only error is want of memory.
+pub fn play_by(alloc: Global, script: &Script, schedule: &Schedule) -> Result<Record, NoMemory>
     requires { All (IsOrder script.now.layout.passes) schedule.now.orders.items }
     ensures script { IfOk result (λ r. script_view r.script ≡ script_view script.now) }
     ensures run { IfOk result (λ r. IsRunOf script.now schedule.now r.lines.items) }

@@ -1,6 +1,6 @@
 use Rattle.std.proofs.Common.{arith}
-use Rattle.player.proofs.Lemmas.{no_turns, turn_more, one_more}
-use Rattle.program.proofs.orders.make_turns.Goals as goal
+use Rattle.player.proofs.TurnsMore.{no_turns, turn_more, one_more}
+use Rattle.player.proofs.orders.make_turns.Goals as goal
 
 pub loop-init : goal.loop-init
 loop-init c = record { asked = no_turns _ c.args.client.0 c.args.player.now; made = omega arith }
