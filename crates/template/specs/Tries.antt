@@ -26,8 +26,8 @@ pub record WasLost (lay : Layout) (c : ℕ) (now begin : History) : Type 0 where
 abbrev pub HasLostAll : Layout → ℕ → History → History → Type 0
 HasLostAll lay c now start = (first : Row) (begin : History) → begins_try c first ≡ true → Extends now (first ⊳ begin) → Extends begin start → WasLost lay c now begin
 
--- as the pass has begun a try since the moment `start`, it had lost each that it had begun before:
--- so each but the newest was lost, by the begin of the next
+-- whenever the pass has begun a try since then, it had lost each that it had begun before: so each
+-- but the newest was lost by the begin of the next
 abbrev pub HasTriedAsNeeded : Layout → ℕ → History → History → Type 0
 HasTriedAsNeeded lay c now start = (first : Row) (begin : History) → begins_try c first ≡ true → Extends now (first ⊳ begin) → Extends begin start → HasLostAll lay c begin start
 
