@@ -75,7 +75,7 @@ use Rattle.edits.specs.declared.update.Updated.{Updated}
 use Rattle.prims.specs.Laws.Idle.{IsQuietSince}
 use Rattle.forest.specs.declared.view.SeatedPass.{SeatedPass}
 use Rattle.forest.specs.StraightLlx.{llx_at, Looker, LookerSnaps}
-use Rattle.forest.specs.StraightUpdate.{Updater, HasUpdateGoneOn, UpdaterBegins, UpdaterEnds, UpdaterGoesOn, UpdaterIsBlocked, UpdaterIsTold, UpdaterStops, UpdaterTries, UpdaterWaits, UpdaterStands}
+use Rattle.forest.specs.StraightUpdate.{Updater, UpdaterBegins, UpdaterEnds, UpdaterGoesOn, UpdaterIsBlocked, UpdaterIsTold, UpdaterStops, UpdaterTries, UpdaterWaits, UpdaterStands}
 use Rattle.forest.specs.StraightWalk.{Walker, WalkerWaits, WalkerFinds}
 use Rattle.forest.specs.TableRule.{history_of}
 use Rattle.forest.specs.Traces.{goes_on, shared_nodes, weight}

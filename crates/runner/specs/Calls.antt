@@ -27,8 +27,8 @@ NumbersAllow = TypedAllows IsNumber IsNumber
 
 -- The pass, which knew `old` as the call began and `new` at its end, has made the call, which may
 -- try so often, and has this reply: what the reply tells is right, and so is what it refuses. The
--- pass blames whom the reply names, and has made no more steps, and spent no more of its share,
--- than so many tries may.
+-- pass blames whom the reply names, and has made no more steps than so many tries may. It has begun
+-- tries only as needed, and spent no more of its share than these may.
 pub record HasCalled (tries : ℕ) (old new : PassView) (call : MapCall) (reply : Reply ℕ ℕ) : Type 0 where
   pub later : IsLaterView old new
   pub lawful : IsRun NumbersAllow new.layout (run_of new)

@@ -76,7 +76,8 @@ pub record IsAnswered (lay : Layout) (tries : ℕ) (run : History) (edits : ℕ 
   pub form : MayReply call (form_of reply)
   -- the pass blames whom the reply names, and nobody more than five times
   pub blames : (new.blamed ≡ blamed_by_reply reply old.blamed) × HasBlamed new
-  -- of its share no more is gone than so many tries of the call may take
+  -- it has begun a try only once all before it were lost to other passes, and of its share no more is
+  -- gone than the tries that it has begun may take
   pub spends : HasSpentAtMost old new call tries
   -- it has made no more steps than so many tries of the call may make, each in this call of the
   -- pass and of a kind for such a call

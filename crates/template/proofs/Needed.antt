@@ -13,7 +13,7 @@ use Rattle.prims.specs.Laws.FoundThere.{there_later}
 use Rattle.prims.specs.Laws.Wins.{ends_either}
 use Rattle.ordered_map.specs.Tries.{begins_try, tries_begun, IsNewestTry}
 use Rattle.template.specs.Blame.{IsContended, HasLostTriesTo}
-use Rattle.template.specs.Tries.{tries_since, WasLost, HasLostAll, HasTriedAsNeeded, HasTriedAtMost, MayTryNext, IsInNewest, HasTriedAllBut}
+use Rattle.template.specs.Tries.{tries_since, WasLost, HasBegunTry, HasLostAll, HasTriedAsNeeded, HasTriedAtMost, MayTryNext, IsInNewest, HasTriedAllBut}
 use Rattle.template.proofs.Tries.{tries_more, tries_begin, newest_more, newest_now}
 
 -- Moments
@@ -46,12 +46,16 @@ module _ (c : ℕ) where
   other_row r first h begin none b e = cc
 
   -- a row that begins a try is the one that began the newest, or stands before it
-  not_behind : (now begin : History) (x : IsNewestTry c now begin) (first : Row) (then : History) → begins_try c first ≡ true → Extends now (first ⊳ then) → Extends (x.first ⊳ begin) (first ⊳ then)
-  not_behind now begin x first then b e = ⊎_elim (λ d. d) later (ends_either now (x.first ⊳ begin) (first ⊳ then) x.within e)
+  not_behind : (now begin start then : History) (x : IsNewestTry c now begin) (y : HasBegunTry c now start then) → Extends (x.first ⊳ begin) (y.first ⊳ then)
+  not_behind now begin start then x y = ⊎_elim (λ d. d) later (ends_either now (x.first ⊳ begin) (y.first ⊳ then) x.within y.within)
     where
-      later : Extends (first ⊳ then) (x.first ⊳ begin) → Extends (x.first ⊳ begin) (first ⊳ then)
+      later : Extends (y.first ⊳ then) (x.first ⊳ begin) → Extends (x.first ⊳ begin) (y.first ⊳ then)
       later (inl d) = inl (sym d)
-      later (inr d) = absurd (let grow = tries_grow then (x.first ⊳ begin) d in let more = more_behind now then first b e in let all = x.none_since in omega (arith, grow, more, all))
+      later (inr d) = absurd (let grow = tries_grow then (x.first ⊳ begin) d in let more = more_behind now then y.first y.begins y.within in let all = x.none_since in omega (arith, grow, more, all))
+
+  -- a try was begun before its row
+  begun_before : (now start begin : History) → HasBegunTry c now start begin → tries_begun c start < tries_begun c now
+  begun_before now start begin x = let more = more_behind now begin x.first x.begins x.within in let grow = tries_grow begin start x.since in omega (arith, more, grow)
 
 -- What is lost
 
@@ -62,15 +66,14 @@ module _ (lay : Layout) (c : ℕ) where
 
   -- nothing is begun between a moment and itself
   lost_none : (start : History) → HasLostAll lay c start start
-  lost_none start first begin b e f = absurd (let more = more_behind c start begin first b e in let grow = tries_grow c begin start f in omega (arith, more, grow))
+  lost_none start begin x = absurd (let more = begun_before c start start begin x in omega (arith, more))
 
   needed_none : (start : History) → HasTriedAsNeeded lay c start start
-  needed_none start first begin b e f = absurd (let more = more_behind c start begin first b e in let grow = tries_grow c begin start f in omega (arith, more, grow))
+  needed_none start begin x = absurd (let more = begun_before c start start begin x in omega (arith, more))
 
   -- who has begun one try at most has needed it
   needed_one : (now start : History) → tries_begun c now ≤ suc (tries_begun c start) → HasTriedAsNeeded lay c now start
-  needed_one now start few next then b e f first begin b' e' f' = absurd
-      (let last = more_behind c now then next b e in let before = more_behind c then begin first b' e' in let grow = tries_grow c begin start f' in omega (arith, few, last, before, grow))
+  needed_one now start few then x begin y = absurd (let last = more_behind c now then x.first x.begins x.within in let before = begun_before c then start begin y in omega (arith, few, last, before))
 
   pub tried_one : (now start : History) → tries_begun c now ≤ suc (tries_begun c start) → HasTriedAtMost lay c now start 1
   tried_one now start few = record { few = omega (arith, few); as_needed = needed_one now start few }
@@ -80,15 +83,18 @@ module _ (lay : Layout) (c : ℕ) where
 module _ (c : Call) (r : Row) (h : History) (limit left : ℕ) where
   -- a row that begins no try leaves what may be tried
   pub next_more : begins_try c.pass r ≡ false → MayTryNext c h limit left → MayTryNext c (r ⊳ h) limit left
-  next_more none x = record { all = rw (tries_more c.pass r h none) x.all; as_needed = needed; lost = lost }
+  next_more none x = record {
+    all = rw (tries_more c.pass r h none) x.all;
+    as_needed = λ begin y. x.as_needed begin (before begin y);
+    lost = λ begin y. lost_later c.layout c.pass (r ⊳ h) h begin (inr (ends_self h)) (x.lost begin (before begin y));
+  }
     where
-      needed : HasTriedAsNeeded c.layout c.pass (r ⊳ h) c.start
-      needed first begin b (inl e) f = absurd (other_row c.pass r first h begin none b e)
-      needed first begin b (inr e) f = x.as_needed first begin b e f
-
-      lost : HasLostAll c.layout c.pass (r ⊳ h) c.start
-      lost first begin b (inl e) f = absurd (other_row c.pass r first h begin none b e)
-      lost first begin b (inr e) f = lost_later c.layout c.pass (r ⊳ h) h begin (inr (ends_self h)) (x.lost first begin b e f)
+      before : (begin : History) → HasBegunTry c.pass (r ⊳ h) c.start begin → HasBegunTry c.pass h c.start begin
+      before begin y = record { first = y.first; begins = y.begins; within = inside y.within; since = y.since }
+        where
+          inside : Extends (r ⊳ h) (y.first ⊳ begin) → Extends h (y.first ⊳ begin)
+          inside (inl e) = absurd (other_row c.pass r y.first h begin none y.begins e)
+          inside (inr e) = e
 
   pub in_newest_more : (begin : History) → begins_try c.pass r ≡ false → IsInNewest c begin h limit left → IsInNewest c begin (r ⊳ h) limit left
   in_newest_more begin none x = record { next = x.next; newest = newest_more c.pass r h begin none x.newest }
@@ -118,12 +124,16 @@ module _ (c : Call) (begin h : History) (limit left : ℕ) (x : IsInNewest c beg
   same_moment : (r s : Row) (a b : History) → r ⊳ a ≡ s ⊳ b → a ≡ b
   same_moment r s a b e = cc
 
+  -- another try was begun before this one
+  earlier : (then : History) (y : HasBegunTry c.pass h c.start then) → Extends begin (y.first ⊳ then) → HasBegunTry c.pass begin c.start then
+  earlier then y d = record { first = y.first; begins = y.begins; within = d; since = y.since }
+
   needed : HasTriedAsNeeded c.layout c.pass h c.start
-  needed first then b e f = go (not_behind c.pass h begin x.newest first then b e)
+  needed then y = go (not_behind c.pass h begin c.start then x.newest y)
     where
-      go : Extends (x.newest.first ⊳ begin) (first ⊳ then) → HasLostAll c.layout c.pass then c.start
-      go (inl d) = subst (λ k. HasLostAll c.layout c.pass k c.start) (sym (same_moment first x.newest.first then begin d)) x.next.lost
-      go (inr d) = x.next.as_needed first then b d f
+      go : Extends (x.newest.first ⊳ begin) (y.first ⊳ then) → HasLostAll c.layout c.pass then c.start
+      go (inl d) = subst (λ k. HasLostAll c.layout c.pass k c.start) (sym (same_moment y.first x.newest.first then begin d)) x.next.lost
+      go (inr d) = x.next.as_needed then (earlier then y d)
 
   -- a call that ends in its newest try has tried as needed
   pub tried_in : HasTriedAllBut c h limit left
@@ -132,11 +142,11 @@ module _ (c : Call) (begin h : History) (limit left : ℕ) (x : IsInNewest c beg
   module _ (n s : ℕ) (way : IsContended (record c { start = begin }) h n s) where
     -- where another was in its way, it is lost, and so are all before it
     all_lost : HasLostAll c.layout c.pass h c.start
-    all_lost first then b e f = go (not_behind c.pass h begin x.newest first then b e)
+    all_lost then y = go (not_behind c.pass h begin c.start then x.newest y)
       where
-        go : Extends (x.newest.first ⊳ begin) (first ⊳ then) → WasLost c.layout c.pass h then
-        go (inl d) = subst (λ k. WasLost c.layout c.pass h k) (sym (same_moment first x.newest.first then begin d)) record { node = n; scx = s; others = way.others; in_the_way = way.in_the_way; found = way.found }
-        go (inr d) = lost_later c.layout c.pass h begin then inside (x.next.lost first then b d f)
+        go : Extends (x.newest.first ⊳ begin) (y.first ⊳ then) → WasLost c.layout c.pass h then
+        go (inl d) = subst (λ k. WasLost c.layout c.pass h k) (sym (same_moment y.first x.newest.first then begin d)) record { node = n; scx = s; others = way.others; in_the_way = way.in_the_way; found = way.found }
+        go (inr d) = lost_later c.layout c.pass h begin then inside (x.next.lost then (earlier then y d))
 
     -- so the next may begin, if one is left
     pub next_again : (fewer : ℕ) → left ≢ 0 → fewer ≡ left - 1 → MayTryNext c h limit fewer
@@ -156,19 +166,24 @@ tried_few c h limit left x = record { few = let all = x.all in omega (arith, all
 -- With nobody about
 
 module _ (c : ℕ) where
-  -- the row that has begun the newest of the tries since a moment
-  abbrev NewestSince : History → History → Type 0
-  NewestSince now start = (first : Row) × (begin : History) × (begins_try c first ≡ true) × Extends now (first ⊳ begin) × Extends begin start × (suc (tries_begun c begin) ≡ tries_begun c now)
+  -- the newest of the tries since a moment
+  record NewestSince (now start : History) : Type 0 where
+    begin : History
+    is : HasBegunTry c now start begin
+    last : suc (tries_begun c begin) ≡ tries_begun c now
 
-  -- where one is begun there is such a row
+  -- where one is begun there is such a try
   newest_since : (now start : History) → Extends now start → tries_begun c start < tries_begun c now → NewestSince now start
   newest_since (Start mode) start e some = absurd (let same : tries_begun c start ≡ tries_begun c (Start mode) = ap (tries_begun c) e in omega (arith, same, some))
   newest_since (r ⊳ h) start (inl e) some = absurd (let same : tries_begun c start ≡ tries_begun c (r ⊳ h) = ap (tries_begun c) e in omega (arith, same, some))
   newest_since (r ⊳ h) start (inr e) some = go (begins_try c r) refl (newest_since h start e)
     where
       go : (b : Bool) → begins_try c r ≡ b → (tries_begun c start < tries_begun c h → NewestSince h start) → NewestSince (r ⊳ h) start
-      go true begins before = (r, h, begins, inl refl, e, sym (tries_begin c r h begins))
-      go false none before = let same = tries_more c r h none in let x = before (omega (arith, same, some)) in (x.0, x.1, x.2, inr x.3, x.4, x.5 ∙ sym same)
+      go true begins before = record { begin = h; is = record { first = r; begins = begins; within = inl refl; since = e }; last = sym (tries_begin c r h begins) }
+      go false none before =
+          let same = tries_more c r h none in
+          let x = before (omega (arith, same, some)) in
+          record { begin = x.begin; is = record { first = x.is.first; begins = x.is.begins; within = inr x.is.within; since = x.is.since }; last = x.last ∙ sym same }
 
 -- where no SCX-record of another pass was in the way, one try is begun at most
 pub alone_once : (lay : Layout) (c : ℕ) (now start : History) → Extends now start → ((n s : ℕ) → IsOthersScx lay c s → ¬ WasInTheWay now start n s) → HasTriedAsNeeded lay c now start → tries_since c now start ≤ 1
@@ -177,14 +192,14 @@ alone_once lay c now start since alone needed = let few : tries_begun c now < su
     twice : ¬ suc (suc (tries_begun c start)) ≤ tries_begun c now
     twice two =
         let last = newest_since c now start since (omega (arith, two)) in
-        let before = newest_since c last.1 start last.4 (let one = last.5 in omega (arith, one, two)) in
-        let lost = needed last.0 last.1 last.2 last.3 last.4 before.0 before.1 before.2 before.3 before.4 in
+        let before = newest_since c last.begin start last.is.since (let one = last.last in omega (arith, one, two)) in
+        let lost = needed last.begin last.is before.begin before.is in
         let way = lost.in_the_way in
         alone lost.node lost.scx lost.others record {
           row = way.row;
           before = way.before;
-          within = ends_trans now (last.0 ⊳ last.1) (way.row ⊳ way.before) last.3 (inr way.within);
-          since = ends_trans way.before before.1 start way.since before.4;
+          within = ends_trans now (last.is.first ⊳ last.begin) (way.row ⊳ way.before) last.is.within (inr way.within);
+          since = ends_trans way.before before.begin start way.since before.is.since;
           running = way.running;
           covers = way.covers;
         }

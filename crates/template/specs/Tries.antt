@@ -22,14 +22,21 @@ pub record WasLost (lay : Layout) (c : ℕ) (now begin : History) : Type 0 where
   pub in_the_way : WasInTheWay now begin node scx
   pub found : HasFoundThere c now begin node scx
 
--- so is each try that the pass has begun since the moment `start`
-abbrev pub HasLostAll : Layout → ℕ → History → History → Type 0
-HasLostAll lay c now start = (first : Row) (begin : History) → begins_try c first ≡ true → Extends now (first ⊳ begin) → Extends begin start → WasLost lay c now begin
+-- since the moment `start` the pass c has begun a try, at the moment `begin`
+pub record HasBegunTry (c : ℕ) (now start begin : History) : Type 0 where
+  pub first : Row
+  pub begins : begins_try c first ≡ true
+  pub within : Extends now (first ⊳ begin)
+  pub since : Extends begin start
 
--- as the pass has begun a try since the moment `start`, it had lost each that it had begun before:
--- so each but the newest was lost, by the begin of the next
+-- each try that the pass has begun since then is lost by now
+abbrev pub HasLostAll : Layout → ℕ → History → History → Type 0
+HasLostAll lay c now start = (begin : History) → HasBegunTry c now start begin → WasLost lay c now begin
+
+-- whenever the pass has begun a try since then, it had lost each that it had begun before: so each
+-- but the newest was lost by the begin of the next
 abbrev pub HasTriedAsNeeded : Layout → ℕ → History → History → Type 0
-HasTriedAsNeeded lay c now start = (first : Row) (begin : History) → begins_try c first ≡ true → Extends now (first ⊳ begin) → Extends begin start → HasLostAll lay c begin start
+HasTriedAsNeeded lay c now start = (begin : History) → HasBegunTry c now start begin → HasLostAll lay c begin start
 
 -- The pass has begun at most so many tries since the moment `start`, each only as needed.
 pub record HasTriedAtMost (lay : Layout) (c : ℕ) (now start : History) (limit : ℕ) : Type 0 where

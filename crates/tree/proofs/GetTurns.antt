@@ -13,7 +13,6 @@ use Rattle.prims.specs.Moments.{AreFinished}
 use Rattle.ordered_map.specs.Paths.{IsAnswerAt}
 use Rattle.ordered_map.specs.Runs.{IsTreeRun}
 use Rattle.ordered_map.specs.TreeShape.{TreeAllows}
-use Rattle.ordered_map.specs.Tries.{tries_begun}
 use Rattle.template.specs.FoundLeaf.{path_key, HasFoundGoal, HasFoundLeaf}
 use Rattle.template.specs.declared.walk.Found.{Found}
 use Rattle.template.specs.declared.walk.Goal.TheVariants.{Key as ToKey}
