@@ -27,8 +27,12 @@ GetWaits m c h step = WalkWaits m.walk c h step × (m.walk.goal ≡ ToKey m.key)
 
 -- at a moment of the call, from its first own row on, the map gave this value of the key; and the
 -- pass has entered nothing since the call began
-pub record GetAnswers (m : GetRun) (c : Call) (h : History) (answer : Option ℕ) : Type 0 where
+pub record HasReadKey (c : Call) (h : History) (key : ℕ) (told : Option ℕ) : Type 0 where
   pub first : History
   pub own : IsOwnMoment c first
-  pub right : IsAnswerAt c.layout h first m.key answer
+  pub right : IsAnswerAt c.layout h first key told
   pub none : HasEnteredNone c.layout c.pass h c.start
+
+-- what a get answers it has read
+abbrev pub GetAnswers : GetRun → Call → History → Option ℕ → Type 0
+GetAnswers m c h answer = HasReadKey c h m.key answer
