@@ -22,7 +22,7 @@ use Rattle.ordered_map.specs.Paths.{WasOnPath}
 use Rattle.ordered_map.specs.Runs.{IsTreeRun, Makes, IsEditAt}
 use Rattle.ordered_map.specs.TreeShape.{edit_leaf}
 use Rattle.ordered_map.specs.TreeWords.{first_said, is_leaf, said}
-use Rattle.ordered_map.proofs.Lemmas.{SameSettled, makes_since, run_since, settled_first, settled_leaf, walk_named, win_first, win_makes, wins_of}
+use Rattle.ordered_map.proofs.Lemmas.{SameSettled, run_since, settled_first, settled_leaf, walk_named, win_first, win_makes, wins_of}
 use Rattle.template.proofs.Lemmas.{found_told, tracked_makes}
 use Rattle.template.specs.FoundLeaf.{path_key, HasFoundGoal}
 use Rattle.template.specs.declared.walk.Found.{Found}
@@ -97,7 +97,7 @@ module _ {E : Type 0} (e : EditMeaning E) (ed : E) (c : Call) (f : Found) (begin
   first_at : (goal : Goal) → HasFoundGoal goal c begin f → ToldFirst goal c.layout before f
   first_at (ToKey key) x = tt
   first_at Least x = λ map spells.
-      win_first c.layout (row ⊳ before) before row s (e.edit ed f) now (ends_self (row ⊳ before)) won (makes_since c.layout (row ⊳ before) before s (e.edit ed f) (inr (ends_self before)) makes) was is_leaf_then map spells
+      win_first c.layout before row s (e.edit ed f) now won makes was is_leaf_then map spells
       ∙ ap (first_said (value before)) leaf ∙ settled_first (value begin) (value before) f.trail.node.0 settled ∙ found_told c begin f begun x
     where
       was : WasOnPath before 0 (edit_leaf before s (e.edit ed f))

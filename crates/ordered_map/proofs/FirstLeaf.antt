@@ -8,7 +8,7 @@ use Rattle.arena.specs.declared.word.NodeWord.TheVariants.{Key, Value, Child}
 use Rattle.arena.specs.declared.word.Word.{Word}
 use Rattle.arena.specs.Words.{node, child}
 use Rattle.arena.specs.declared.step.Row.{Row}
-use Rattle.arena.specs.History.{History, ◌⊳◌, value, Extends}
+use Rattle.arena.specs.History.{History, ◌⊳◌, value}
 use Rattle.arena.specs.Lawful.{IsWin}
 use Rattle.arena.specs.Log.{log, is_final}
 use Rattle.arena.proofs.Lemmas.{ends_self}
@@ -24,7 +24,7 @@ use Rattle.ordered_map.specs.TreeShape.{edit_leaf}
 use Rattle.ordered_map.proofs.Moved.{SameSettled, settled_rank, settled_leaf, settled_first}
 use Rattle.ordered_map.proofs.TreeFacts.{path_now, all_named}
 use Rattle.ordered_map.proofs.Past.{path_named, Latest, latest, path_level}
-use Rattle.ordered_map.proofs.Meanings.{edits_of, grown, run_spells, run_since, win_makes, wins_of, leaf_covered}
+use Rattle.ordered_map.proofs.Meanings.{edits_of, grown, run_spells, run_since, wins_of, leaf_covered}
 use Rattle.ordered_map.proofs.TreeRuns.{path_remains}
 
 -- In a tree
@@ -190,18 +190,11 @@ walk_least lay h start n g p leaf =
 
 -- Just before an SCX-record wins whose leaf was on the path of 0, that leaf says which pair is the
 -- first of the map: it is not final, so it is on that path still.
-pub win_first : (lay : Layout) (h before : History) (row : Row) (s : ℕ) (e : MapEdit) → IsTreeRun lay h → Extends h (row ⊳ before) → IsWin before row s → Makes lay h s e → WasOnPath before 0 (edit_leaf before s e) → is_leaf (value before) (edit_leaf before s e) ≡ true
-    → (ps : List Pair) → Spells lay (value before) ps → first_pair ps ≡ first_said (value before) (edit_leaf before s e)
-win_first lay h before row s e g w won x was leaf ps spells = spelled_first lay before (edit_leaf before s e) ps spells (path_remains lay before 0 (edit_leaf before s e) run was not_final) leaf
+pub win_first : (lay : Layout) (h : History) (row : Row) (s : ℕ) (e : MapEdit) → IsTreeRun lay (row ⊳ h) → IsWin h row s → Makes lay h s e → WasOnPath h 0 (edit_leaf h s e) → is_leaf (value h) (edit_leaf h s e) ≡ true → (ps : List Pair) → Spells lay (value h) ps → first_pair ps ≡ first_said (value h) (edit_leaf h s e)
+win_first lay h row s e g won makes was leaf ps spells = spelled_first lay h (edit_leaf h s e) ps spells (path_remains lay h 0 (edit_leaf h s e) run was not_final) leaf
   where
-    now : IsTreeRun lay (row ⊳ before)
-    now = run_since lay h (row ⊳ before) g w
+    run : IsTreeRun lay h
+    run = run_since lay (row ⊳ h) h g (inr (ends_self h))
 
-    run : IsTreeRun lay before
-    run = run_since lay (row ⊳ before) before now (inr (ends_self before))
-
-    makes : Makes lay before s e
-    makes = (win_makes lay h before row s e g w won x).makes
-
-    not_final : is_final (log lay before) (edit_leaf before s e) ≡ false
-    not_final = win_not_final lay before row s (edit_leaf before s e) now.1.lawful (wins_of lay before row s now.1.lawful won) (leaf_covered lay before s e run.1.lawful makes)
+    not_final : is_final (log lay h) (edit_leaf h s e) ≡ false
+    not_final = win_not_final lay h row s (edit_leaf h s e) g.1.lawful (wins_of lay h row s g.1.lawful won) (leaf_covered lay h s e run.1.lawful makes)

@@ -89,8 +89,8 @@ abbrev pub pop_edit : Option Pair → Option MapEdit
 pop_edit None = None
 pop_edit (Some p) = Some (Delete p.key)
 
--- the edit that a replacement of e has made which tells this value; where it tells another, or none,
--- it has made none
+-- the edit that a replacement of e has made which tells e; where it tells another value, or none, it
+-- has made none
 abbrev pub replace_edit : ℕ → ℕ → ℕ → Option ℕ → Option MapEdit
 replace_edit k e v told = cond (is_value e told) (Some (Insert k v)) None
 

@@ -18,7 +18,8 @@ use Rattle.template.proofs.Lemmas.{found_first}
 use Rattle.tree.specs.declared.delete.Delete.{Delete}
 use Rattle.tree.specs.declared.pop_first.PopFirst.{PopFirst}
 use Rattle.tree.specs.Delete.Means.{delete_means, delete_need}
-use Rattle.tree.specs.Laws.PopFirst.{own_looked, some_needed}
+use Rattle.tree.specs.Laws.Looks.{some_need}
+use Rattle.tree.specs.Laws.PopFirst.{own_looked}
 use Rattle.tree.specs.PopFirst.Known.{PopTells}
 use Rattle.tree.specs.PopFirst.Means.{delete_at, pop_means}
 use Rattle.tree.proofs.DeleteFills.{fill_in_order}
@@ -61,7 +62,7 @@ own_fills m c h f nth part x = record {
     run = x.works.run;
     since = x.works.since;
     quiet = x.works.quiet;
-    looked = own_looked m.edit c f (some_needed f.value nth x.works.need) h m.snaps.items x.works.run x.works.looked;
+    looked = own_looked m.edit c f (some_need (delete_need f.value) nth x.works.need) h m.snaps.items x.works.run x.works.looked;
     enough = x.works.enough;
     need = x.works.need;
     in_order = x.works.in_order;

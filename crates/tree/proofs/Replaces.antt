@@ -14,7 +14,8 @@ use Rattle.tree.specs.declared.insert.Insert.{Insert}
 use Rattle.tree.specs.declared.replace_if.ReplaceIf.{ReplaceIf}
 use Rattle.tree.specs.Get.Known.{HasReadKey}
 use Rattle.tree.specs.Insert.Means.{insert_means, insert_need}
-use Rattle.tree.specs.Laws.ReplaceIf.{own_looked, same_need, some_needed}
+use Rattle.tree.specs.Laws.Looks.{some_need}
+use Rattle.tree.specs.Laws.ReplaceIf.{own_looked, same_need}
 use Rattle.tree.specs.ReplaceIf.Known.{ReplaceTells, ReplaceTellsBy}
 use Rattle.tree.specs.ReplaceIf.Means.{insert_of, replace_means, replace_need}
 use Rattle.tree.proofs.Fills.{update_in_order}
@@ -78,7 +79,7 @@ own_fills m c h f nth part x = record {
 }
   where
     same : replace_need m.edit.expected f.value ≡ insert_need f.value
-    same = same_need m.edit.expected f.value (some_needed m.edit.expected f.value nth x.works.need)
+    same = same_need m.edit.expected f.value (some_need (replace_need m.edit.expected f.value) nth x.works.need)
 
 -- whatever step a replacement waits for
 pub replace_in_order : (m : UpdateRun ReplaceIf UpdateAt) (c : Call) (h : History) (s : Step) → UpdateWaits replace_means m c h s → IsFillInOrder h (row_of c s h)

@@ -1,6 +1,6 @@
--- What a pop looks at, loads and fills, and that it makes the edit: at the first leaf it does what a
--- delete of that leaf's key does.
-use Rattle.std.proofs.Common.{◌≡◌, ◌≢◌, ℕ, List, Option, Some, None, refl, sym, ◌∙◌, ap}
+-- What a pop looks at, loads and fills, and that it makes the edit: at the first leaf it does what
+-- a delete of that leaf's key does.
+use Rattle.std.proofs.Common.{◌≡◌, ◌≢◌, ℕ, List, Some, refl, sym, ◌∙◌, ap}
 use Rattle.arena.specs.History.{History, value}
 use Rattle.arena.specs.Machines.{Call}
 use Rattle.prims.specs.Snap.{snap_at}
@@ -16,19 +16,14 @@ use Rattle.tree.specs.declared.pop_first.PopFirst.{PopFirst}
 use Rattle.tree.specs.Delete.Means.{delete_means, delete_need}
 use Rattle.tree.specs.PopFirst.Laws.{pop_bounds}
 use Rattle.tree.specs.PopFirst.Means.{delete_at, pop_means}
+use Rattle.tree.specs.Laws.Looks.{some_need}
 use Rattle.tree.specs.Laws.Delete.Sound.{key_there, delete_loads, delete_look, delete_fills, delete_makes}
 use Rattle.edits.specs.declared.edit.Loaded.{Loaded}
 use Rattle.edits.specs.declared.edit.Need.TheVariants.{Nothing}
 use Rattle.edits.specs.declared.edit.Nodes.{Nodes}
-use Rattle.edits.specs.declared.edit.Nth.{Nth}
-use Rattle.edits.specs.Known.{IsNeeded, HasSnappedAfterWalk, HasLooked, HasFilledAll, IsUpdateFor}
+use Rattle.edits.specs.Known.{HasSnappedAfterWalk, HasLooked, HasFilledAll, IsUpdateFor}
 use Rattle.edits.specs.Sound.{LooksWell, LoadsWell, FillsWell, MakesWell, EditLaws}
 use Rattle.prims.specs.declared.update.Update.{Update}
-
--- what is needed is something
-pub some_needed : (o : Option ℕ) (nth : Nth) → IsNeeded (delete_need o) nth → delete_need o ≢ Nothing
-some_needed (Some v) nth n e = cc
-some_needed None nth n e = absurd n
 
 module _ (e : PopFirst) (c : Call) (f : Found) (needed : delete_need f.value ≢ Nothing) where
   -- the first leaf has a key, where it tells a value
@@ -76,7 +71,7 @@ pop_loads = record {
 }
 
 pop_fills : FillsWell pop_means
-pop_fills = record { fields = λ e c h f snaps ns ld nth side run x enough n p. delete_fills.fields (delete_at f) c h f snaps ns ld nth side run (own_looked e c f (some_needed f.value nth n) h snaps run x) enough n p }
+pop_fills = record { fields = λ e c h f snaps ns ld nth side run x enough n p. delete_fills.fields (delete_at f) c h f snaps ns ld nth side run (own_looked e c f (some_need (delete_need f.value) nth n) h snaps run x) enough n p }
 
 pop_makes : MakesWell pop_means
 pop_makes = record {

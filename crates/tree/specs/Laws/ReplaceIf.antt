@@ -1,5 +1,5 @@
--- What a replacement looks at, loads and fills, and that it makes the edit: where it needs a node, it
--- does what an insert of a present key does.
+-- What a replacement looks at, loads and fills, and that it makes the edit: where it needs a node,
+-- it does what an insert of a present key does.
 use Rattle.std.proofs.Common.{◌≡◌, ◌≢◌, ℕ, Bool, true, false, eqb, eqb-true, eq-eqb, cond, List, Option, Some, None, refl, sym, ◌∙◌, ap, subst}
 use Rattle.arena.specs.History.{History}
 use Rattle.arena.specs.Machines.{Call}
@@ -10,6 +10,7 @@ use Rattle.tree.specs.declared.replace_if.ReplaceIf.{ReplaceIf}
 use Rattle.tree.specs.Insert.Means.{insert_means, insert_need}
 use Rattle.tree.specs.ReplaceIf.Laws.{replace_bounds}
 use Rattle.tree.specs.ReplaceIf.Means.{insert_of, replace_means, replace_need}
+use Rattle.tree.specs.Laws.Looks.{some_need}
 use Rattle.tree.specs.Laws.Insert.Sound.{insert_loads, insert_look, insert_fills, insert_makes}
 use Rattle.edits.specs.declared.edit.Loaded.{Loaded}
 use Rattle.edits.specs.declared.edit.Need.{Need}
@@ -36,10 +37,6 @@ same_need v o d = rw (has_expected v o d) (rw (eq-eqb v v refl) refl)
 insert_needed : (o : Option ℕ) → insert_need o ≢ Nothing
 insert_needed None e = let d : Three ≡ Nothing = e in cc
 insert_needed (Some v) e = let d : One ≡ Nothing = e in cc
-
--- what is needed is something
-pub some_needed : (v : ℕ) (o : Option ℕ) (nth : Nth) → IsNeeded (replace_need v o) nth → replace_need v o ≢ Nothing
-some_needed v o nth n e = subst (λ (need : Need). IsNeeded need nth) e n
 
 -- what was looked at serves the insert
 pub own_looked : (e : ReplaceIf) (c : Call) (h : History) (f : Found) (snaps : List Snap) → HasLooked replace_means c h e f snaps → HasLooked insert_means c h (insert_of e) f snaps
@@ -83,7 +80,7 @@ replace_loads = record {
 replace_fills : FillsWell replace_means
 replace_fills = record {
   fields = λ e c h f snaps ns ld nth side run x enough n p.
-      let need : IsNeeded (insert_need f.value) nth = subst (λ (need : Need). IsNeeded need nth) (same_need e.expected f.value (some_needed e.expected f.value nth n)) n in
+      let need : IsNeeded (insert_need f.value) nth = subst (λ (need : Need). IsNeeded need nth) (same_need e.expected f.value (some_need (replace_need e.expected f.value) nth n)) n in
       insert_fills.fields (insert_of e) c h f snaps ns ld nth side run (own_looked e c h f snaps x) enough need p;
 }
 

@@ -7,8 +7,8 @@ use Rattle.tree.specs.declared.replace_if.ReplaceIf.{ReplaceIf}
 use Rattle.tree.specs.Get.Known.{HasReadKey}
 use Rattle.edits.specs.Known.{HasMade}
 
--- the call of this number has made its insert, of which this tells what the key had before; or it has
--- read this of the key
+-- the call of this number has made its insert, of which this tells what the key had before; or it
+-- has read this of the key
 abbrev pub ReplaceTellsBy : Bool → ReplaceIf → Call → History → ℕ → Option ℕ → Type 0
 ReplaceTellsBy true e c h number told = HasMade (PutEdit e.key e.value) c h number told
 ReplaceTellsBy false e c h number told = HasReadKey c h e.key told
