@@ -113,7 +113,7 @@ module _ (tries : ℕ) (c : Call) (h : History) where
 
   -- a get has read what it tells
   pub get_says : (m : GetRun) (share : Remaining) (a : Option ℕ) → HasRested c h share → GetAnswers m c h a → WordSays c h (call_in (runs.Get m share)) share tries (words.Value a)
-  get_says m share a x y = (answer_read c h y.first m.key a y.own y.right y.none, tt)
+  get_says m share a x y = (answer_read c h y.0.first m.key a y.0.own y.0.right y.0.none, tt)
 
   -- so has a successor
   pub successor_says : (m : SuccessorRun) (share : Remaining) (a : Result (Option Pair) Refused) → HasRested c h share → m.limit ≡ tries → SuccessorAnswers m c h a → WordSays c h (SuccessorOf m.key) share tries (successor_reply a)

@@ -97,7 +97,7 @@ module _ (tries : ℕ) (c : Call) (h : History) where
       }
 
   pub get_ends : (now : GetRun) (share : Remaining) (a : Option ℕ) → HasRested c h share → RestsWith c c.start share → GetAnswers now c h a → MapAnswers tries (Get now share) c h (words.Value a)
-  get_ends now share a x spent y = record { rests = x.now; spent = read_spent c h (GetOf now.key) tries share spent y.tried; form = tt; says = get_says tries c h now share a x y }
+  get_ends now share a x spent y = record { rests = x.now; spent = read_spent c h (GetOf now.key) tries share spent y.1; form = tt; says = get_says tries c h now share a x y }
 
   pub successor_ends : (now : SuccessorRun) (share : Remaining) (a : Result (Option Pair) Refused) → HasRested c h share → RestsWith c c.start share → now.limit ≡ tries → SuccessorAnswers now c h a → MapAnswers tries (Successor now share) c h (successor_reply a)
   successor_ends now share a x spent limit y = record { rests = x.now; spent = read_spent c h (SuccessorOf now.key) tries share spent (subst (λ n. HasTriedAtMost c.layout c.pass h c.start n) limit y.2); form = successor_form now.key a; says = successor_says tries c h now share a x limit y }

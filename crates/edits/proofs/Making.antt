@@ -1,10 +1,10 @@
 -- What the call has made once its SCX is done.
-use Rattle.std.proofs.Common.{◌≡◌, ℕ, zero, suc, ◌+◌, ◌<◌, inr, List, [], ◌∷◌, length, get_or, refl, sym, ◌∙◌, ap, subst, arith}
+use Rattle.std.proofs.Common.{◌≡◌, ℕ, zero, suc, ◌+◌, ◌<◌, true, inr, List, [], ◌∷◌, length, get_or, refl, sym, ◌∙◌, ap, subst, arith}
 use Rattle.arena.specs.declared.number.ScxNo.{ScxNo}
 use Rattle.arena.specs.declared.step.Row.{Row}
-use Rattle.arena.specs.Fills.{IsNamed, IsOwnScx}
+use Rattle.arena.specs.Fills.{IsOwnScx}
 use Rattle.arena.specs.History.{History, ◌⊳◌, value, Extends}
-use Rattle.arena.specs.Lawful.{Lawful, HasWon}
+use Rattle.arena.specs.Lawful.{Lawful, HasWon, IsWin}
 use Rattle.arena.specs.Log.{Entry, log, members_from}
 use Rattle.arena.specs.Machines.{Call, begun_at}
 use Rattle.arena.specs.ScxRecords.{member, count}
@@ -15,18 +15,23 @@ use Rattle.prims.specs.Snap.{snap_at}
 use Rattle.prims.specs.declared.snap.Snap.{Snap}
 use Rattle.prims.specs.declared.scx.ScxRun.{ScxRun}
 use Rattle.prims.specs.declared.update.Update.{Update}
-use Rattle.ordered_map.specs.OrderedMap.{edit_key}
+use Rattle.ordered_map.specs.OrderedMap.{edit_key, get}
+use Rattle.ordered_map.specs.Spelled.{Spells}
+use Rattle.ordered_map.specs.declared.pair.Pair.{Pair}
+use Rattle.ordered_map.specs.Paths.{WasOnPath}
 use Rattle.ordered_map.specs.Runs.{IsTreeRun, Makes, IsEditAt}
 use Rattle.ordered_map.specs.TreeShape.{edit_leaf}
-use Rattle.ordered_map.specs.TreeWords.{said}
-use Rattle.ordered_map.proofs.Lemmas.{SameSettled, run_since, walk_named, win_makes, wins_of}
-use Rattle.template.proofs.Lemmas.{tracked_makes}
-use Rattle.template.specs.FoundLeaf.{path_key}
+use Rattle.ordered_map.specs.TreeWords.{first_said, is_leaf, said}
+use Rattle.ordered_map.proofs.Lemmas.{SameSettled, run_since, settled_first, settled_leaf, walk_named, win_first, win_makes, wins_of}
+use Rattle.template.proofs.Lemmas.{found_told, tracked_makes}
+use Rattle.template.specs.FoundLeaf.{path_key, HasFoundGoal}
 use Rattle.template.specs.declared.walk.Found.{Found}
+use Rattle.template.specs.declared.walk.Goal.{Goal}
+use Rattle.template.specs.declared.walk.Goal.TheVariants.{Key as ToKey, Least}
 use Rattle.edits.specs.declared.update.UpdateRun.{UpdateRun}
 use Rattle.edits.specs.Edits.{EditMeaning}
 use Rattle.edits.specs.Sound.{IsAtFound}
-use Rattle.edits.specs.Known.{Scxs, HasMade}
+use Rattle.edits.specs.Known.{CoversLeaf, Scxs, HasMade, ToldFirst}
 use Rattle.edits.specs.Laws.Entered.{only_joined}
 use Rattle.edits.specs.Laws.Kept.{same_said}
 use Rattle.edits.specs.Tries.{HasEnteredOnly, IsTry, CoversSnaps}
@@ -64,56 +69,93 @@ module _ (c : Call) (h : History) (m : ScxRun) (row : Row) (before : History) (l
   covers : CoversSnaps before m.scx.0 m.update.snaps
   covers j p = ap (member before m.scx.0) (let z : j ≡ j + 0 = omega arith in z) ∙ members_are before m.scx.0 0 (count before m.scx.0) m.update.snaps (ap (λ (e : Entry). e.members) entry_is) j p
 
+-- At the row at which the SCX-record of an edit wins that covers these snapshots, of a leaf that was
+-- found before.
+module _ {E : Type 0} (e : EditMeaning E) (ed : E) (c : Call) (f : Found) (begin before : History) (row : Row) (s : ℕ) (snaps : List Snap)
+    (now : IsTreeRun c.layout (row ⊳ before)) (since : Extends before begin) (won : IsWin before row s) (makes : Makes c.layout before s (e.edit ed f))
+    (found : HasFoundGoal (e.goal ed) c begin f) (covers_leaf : CoversLeaf e ed f c begin s snaps) (covers_snaps : CoversSnaps before s snaps) where
+  then : IsTreeRun c.layout before
+  then = run_since c.layout (row ⊳ before) before now (inr (ends_self before))
+
+  begun : IsTreeRun c.layout begin
+  begun = run_since c.layout before begin then since
+
+  leaf : edit_leaf before s (e.edit ed f) ≡ f.trail.node.0
+  leaf = covers_leaf before then since covers_snaps
+
+  settled : SameSettled (value begin) (value before) f.trail.node.0
+  settled part i = node_since c.layout before begin f.trail.node.0 part then.1.lawful since i (walk_named c.layout begin found.trail.node.first (path_key (e.goal ed)) f.trail.node.0 begun found.trail.node.passed)
+
+  -- that leaf told what the map had at the key
+  leaf_told : IsAtFound e → IsEditAt c.layout before row s (e.edit ed f) → (map : List Pair) → Spells c.layout (value before) map → get (edit_key (e.edit ed f)) map ≡ f.value
+  leaf_told at_found edits map spells =
+      let k : ℕ = edit_key (e.edit ed f) in
+      edits.replies map spells ∙ ap (said (value before) k) leaf ∙ same_said (value begin) (value before) k f.trail.node.0 settled ∙ ap (λ q. said (value begin) q f.trail.node.0) (at_found ed f) ∙ sym found.says
+
+  -- and if the walk went to the least key, its first pair
+  first_at : (goal : Goal) → HasFoundGoal goal c begin f → ToldFirst goal c.layout before f
+  first_at (ToKey key) x = tt
+  first_at Least x = λ map spells.
+      win_first c.layout before row s (e.edit ed f) now won makes was is_leaf_then map spells
+      ∙ ap (first_said (value before)) leaf ∙ settled_first (value begin) (value before) f.trail.node.0 settled ∙ found_told c begin f begun x
+    where
+      was : WasOnPath before 0 (edit_leaf before s (e.edit ed f))
+      was = let p = x.trail.node.passed in subst (WasOnPath before 0) (sym leaf) (p.0, ends_trans before begin p.0 since p.1, p.3)
+
+      is_leaf_then : is_leaf (value before) (edit_leaf before s (e.edit ed f)) ≡ true
+      is_leaf_then = ap (is_leaf (value before)) leaf ∙ settled_leaf (value begin) (value before) f.trail.node.0 settled ∙ found.leaf
+
+  pub told_first : ToldFirst (e.goal ed) c.layout before f
+  told_first = first_at (e.goal ed) found
+
 module _ {E : Type 0} (e : EditMeaning E) (at_found : IsAtFound e) {A : Type 0} (m : UpdateRun E A) (scx after : ScxRun) (f : Found) (c : Call) (b begin h : History) (try : IsTry c b h m.limit m.tries) (x : Scxs e m (begun_at c b) h f scx begin)
     (same_scx : after.scx ≡ scx.scx) (same_update : after.update ≡ scx.update) (same_call : after.call ≡ scx.call) (done : IsDone (begun_at c begin) h after) where
-  abbrev k : ℕ
-  k = edit_key (e.edit m.edit f)
-
   abbrev before : History
   before = done.entry.before
 
-  abbrev y : IsEntryAt (begun_at c begin) h after done.entry.row before
+  abbrev row : Row
+  row = done.entry.row
+
+  abbrev y : IsEntryAt (begun_at c begin) h after row before
   y = done.entry.is
-
-  within : Extends h before
-  within = ends_trans h (done.entry.row ⊳ before) before y.within (inr (ends_self before))
-
-  run : IsTreeRun c.layout before
-  run = run_since c.layout h before x.run within
 
   made : Makes c.layout h after.scx.0 (e.edit m.edit f)
   made = subst (λ (s : ScxNo). Makes c.layout h s.0 (e.edit m.edit f)) (sym same_scx)
       (tracked_makes c.layout c.pass h (job_of scx) (e.edit m.edit f) x.run.1.lawful (subst (λ (s : ScxNo). HasWon h s.0) same_scx done.won) x.tracks)
 
-  edits : IsEditAt c.layout before done.entry.row after.scx.0 (e.edit m.edit f)
-  edits = win_makes c.layout h before done.entry.row after.scx.0 (e.edit m.edit f) x.run y.within y.wins made
+  edits : IsEditAt c.layout before row after.scx.0 (e.edit m.edit f)
+  edits = win_makes c.layout h before row after.scx.0 (e.edit m.edit f) x.run y.within y.wins made
 
-  leaf : edit_leaf before after.scx.0 (e.edit m.edit f) ≡ f.trail.node.0
-  leaf = ap (λ (s : ScxNo). edit_leaf before s.0 (e.edit m.edit f)) same_scx ∙ x.leaf before run y.since
-      (subst (λ (u : Update). CoversSnaps before scx.scx.0 u.snaps) same_update (subst (λ (s : ScxNo). CoversSnaps before s.0 after.update.snaps) same_scx (covers (begun_at c begin) h after done.entry.row before x.run.1.lawful y)))
+  now : IsTreeRun c.layout (row ⊳ before)
+  now = run_since c.layout h (row ⊳ before) x.run y.within
 
-  named : IsNamed c.layout begin f.trail.node.0
-  named = walk_named c.layout begin x.found.trail.node.first (path_key (e.goal m.edit)) f.trail.node.0 (run_since c.layout h begin x.run (ends_trans h before begin within y.since)) x.found.trail.node.passed
+  covers_leaf : CoversLeaf e m.edit f c begin after.scx.0 scx.update.snaps
+  covers_leaf = subst (λ (s : ScxNo). CoversLeaf e m.edit f c begin s.0 scx.update.snaps) (sym same_scx) x.leaf
 
-  settled : SameSettled (value begin) (value before) f.trail.node.0
-  settled part i = node_since c.layout before begin f.trail.node.0 part run.1.lawful y.since i named
+  covers_snaps : CoversSnaps before after.scx.0 scx.update.snaps
+  covers_snaps = subst (λ (u : Update). CoversSnaps before after.scx.0 u.snaps) same_update (covers (begun_at c begin) h after row before x.run.1.lawful y)
 
   -- its edit is made by one entry, and just before that the leaf that was found told what the map did
-  pub has_made : HasMade (e.edit m.edit f) c h m.call f.value
+  has_made : HasMade (e.edit m.edit f) c h m.call f.value
   has_made = record {
     scx = after.scx.0;
     own = subst (λ (s : ScxNo). IsOwnScx c.layout c.pass s.0) (sym same_scx) x.own_scx;
     once = subst (λ (s : ScxNo). HasEnteredOnly c.layout c.pass s.0 h c.start) (sym same_scx) (only_joined c.layout c.pass scx.scx.0 h b c.start x.now try.none x.only);
-    row = done.entry.row;
+    row = row;
     before = before;
     within = y.within;
     since = ends_trans before begin c.start y.since (ends_trans begin b c.start x.since try.since);
     wins = y.wins;
     edits = edits;
-    told = λ map spells. edits.replies map spells ∙ ap (said (value before) k) leaf ∙ same_said (value begin) (value before) k f.trail.node.0 settled ∙ ap (λ q. said (value begin) q f.trail.node.0) (at_found m.edit f) ∙ sym x.found.says;
+    told = leaf_told e m.edit (begun_at c b) f begin before row after.scx.0 scx.update.snaps now y.since y.wins edits.makes x.found covers_leaf covers_snaps at_found edits;
     entry = update_entry c.pass after;
     logged = y.logged;
     of_scx = refl;
     owner = refl;
     call = same_call ∙ x.call;
   }
+
+  -- and, if the walk went to the least key, which pair was its first
+  pub made_at_leaf : (made : HasMade (e.edit m.edit f) c h m.call f.value) × ToldFirst (e.goal m.edit) c.layout made.before f
+  unfolding has_made
+  made_at_leaf = (has_made, told_first e m.edit (begun_at c b) f begin before row after.scx.0 scx.update.snaps now y.since y.wins edits.makes x.found covers_leaf covers_snaps)

@@ -49,14 +49,14 @@ use Rattle.template.specs.Tries.{HasTriedAllBut}
 use Rattle.edits.specs.Next.{standing}
 use Rattle.edits.specs.Edits.{EditMeaning}
 use Rattle.edits.specs.Sound.{IsAtFound}
-use Rattle.edits.specs.Known.{RestsWith, AreUsable, CoversLeaf, MayBeginTry, Walks, CanLook, CanFill, Scxs, IsUntouched, TryWaits, UpdateWaits, UpdateAnswers, done_at}
+use Rattle.edits.specs.Known.{RestsWith, AreUsable, CoversLeaf, MayBeginTry, Walks, CanLook, CanFill, Scxs, IsUntouched, TryWaits, UpdateWaits, UpdateAnswers, HasMade, ToldFirst, done_at}
 use Rattle.edits.specs.Laws.Entered.{none_joined, none_lost, none_quiet}
 use Rattle.edits.specs.Laws.Kept.{idle_rests}
 use Rattle.edits.specs.Laws.Trying.{past_root}
 use Rattle.edits.specs.Pieces.{nth_node, word_of}
 use Rattle.edits.specs.Tries.{HasEnteredOnly, HasEnteredNone, MayTry, IsTry, HasLostTry}
 use Rattle.edits.proofs.Blaming.{lost_contended}
-use Rattle.edits.proofs.Making.{has_made}
+use Rattle.edits.proofs.Making.{made_at_leaf}
 use Rattle.edits.proofs.Widened.{found_wider}
 
 -- where the SCX-record in hand is finished, the pass is at rest again
@@ -198,13 +198,14 @@ module _ {E : Type 0} (e : EditMeaning E) where
       is_key = refl;
       is_value = refl;
       is_done = inr (
-        has_made e laws m scx after f c b begin h try x is_scx is_update is_call is_done,
+        made.0,
         record {
           moment = begin;
           within = ends_trans h (is_done.entry.row ⊳ is_done.entry.before) begin is_done.entry.is.within (inr is_done.entry.is.since);
           has_found = found_wider c b try.since begin (path_key (e.goal m.edit)) f x.found;
           needed = x.need;
         },
+        made.1,
       );
     },
     tried_in c b h m.limit m.tries try.newest,
@@ -212,6 +213,9 @@ module _ {E : Type 0} (e : EditMeaning E) where
     where
       is_done : IsDone (begun_at c begin) h after
       is_done = rw done at w
+
+      made : (made : HasMade (e.edit m.edit f) c h m.call f.value) × ToldFirst (e.goal m.edit) c.layout made.before f
+      made = made_at_leaf e laws m scx after f c b begin h try x is_scx is_update is_call is_done
 
       finished : value h (state scx.scx.0) ≢ 0
       finished z = let a : value h (state scx.scx.0) ≡ 1 = subst (λ (t : ScxNo). value h (state t.0) ≡ 1) is_scx is_done.committed in omega (arith, a, z)

@@ -30,17 +30,18 @@ use Rattle.prims.specs.declared.llx.LlxRun.{LlxRun}
 use Rattle.prims.specs.declared.scx.ScxRun.{ScxRun}
 use Rattle.prims.specs.declared.snap.Snap.{Snap}
 use Rattle.prims.specs.declared.update.Update.{Update}
-use Rattle.ordered_map.specs.OrderedMap.{MapEdit, edit_key, get}
+use Rattle.ordered_map.specs.OrderedMap.{MapEdit, edit_key, first_pair, get}
 use Rattle.ordered_map.specs.Runs.{IsTreeRun, IsEditAt}
 use Rattle.ordered_map.specs.Spelled.{Spells}
 use Rattle.ordered_map.specs.TreeShape.{TreeAllows, edit_leaf}
 use Rattle.ordered_map.specs.declared.pair.Pair.{Pair}
-use Rattle.template.specs.FoundLeaf.{path_key, HasFoundGoal}
+use Rattle.template.specs.FoundLeaf.{path_key, first_told, HasFoundGoal}
 use Rattle.template.specs.Promises.{IsFresh}
 use Rattle.template.specs.Tracked.{Tracks}
 use Rattle.template.specs.Walk.Known.{WalkIsReady, WalkWaits}
 use Rattle.template.specs.declared.walk.Found.{Found}
 use Rattle.template.specs.declared.walk.Goal.{Goal}
+use Rattle.template.specs.declared.walk.Goal.TheVariants.{Key as ToKey, Least}
 use Rattle.edits.specs.declared.edit.Loaded.{Loaded}
 use Rattle.edits.specs.declared.edit.Look.TheVariants.{At, Enough}
 use Rattle.edits.specs.declared.edit.Need.{Need}
@@ -172,6 +173,11 @@ pub record HasMade (edit : MapEdit) (c : Call) (h : History) (number : ℕ) (old
   pub of_scx : entry.scx ≡ scx
   pub owner : entry.owner ≡ c.pass
   pub call : entry.call ≡ number
+
+-- a walk to the least key told the first pair of the map of this moment
+abbrev pub ToldFirst : Goal → Layout → History → Found → Type 0
+ToldFirst (ToKey k) lay moment f = Unit {0}
+ToldFirst Least lay moment f = (map : List Pair) → Spells lay (value moment) map → first_pair map ≡ first_told f
 
 -- what an update answers that is done at this leaf
 abbrev pub done_at : Found → Updated
@@ -424,9 +430,11 @@ module _ {E : Type 0} (e : EditMeaning E) where
     pub has_found : HasFoundGoal (e.goal ed) c moment found
     pub needed : e.needs ed found ≢ Nothing
 
-  -- there was nothing to make at this leaf, or the edit is made there
+  -- There was nothing to make at this leaf, or the edit is made there. Where the walk goes to the
+  -- least key, the leaf tells the first pair of the map just before the entry.
   abbrev pub IsDoneAt : E → ℕ → Call → History → Found → Type 0
-  IsDoneAt ed number c h found = HasNothingToMake ed c h found ⊎ (HasMade (e.edit ed found) c h number found.value × WasNeeded ed c h found)
+  IsDoneAt ed number c h found = HasNothingToMake ed c h found
+      ⊎ ((made : HasMade (e.edit ed found) c h number found.value) × WasNeeded ed c h found × ToldFirst (e.goal ed) c.layout made.before found)
 
   -- so it is at a leaf of this key, which had this value
   pub record IsDoneWith (ed : E) (number : ℕ) (c : Call) (h : History) (key : ℕ) (value : Option ℕ) : Type 0 where

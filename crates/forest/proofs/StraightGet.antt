@@ -111,7 +111,7 @@ module _ {K V : Type 0} (valid_key : K → Type 0) (key : K → ℕ) (valid_valu
       answers h run r =
           let t : WalkIsTold x.last c h x.told = r.1.1.0.0 in
           let found : HasFoundGoal (ToKey wanted) c h f = x.finds c h t in
-          let got : GetAnswers m c h f.value = record { first = found.trail.node.first; own = found.trail.node.own; right = found_gives c h wanted f t.run (rw x.goal at t.small) found; none = none_quiet c.layout c.pass h c.start run.lawful r.1.1.0.2.quiet; tried = tried_one c.layout c.pass h c.start r.1.1.0.3 } in
+          let got : GetAnswers m c h f.value = (record { first = found.trail.node.first; own = found.trail.node.own; right = found_gives c h wanted f t.run (rw x.goal at t.small) found; none = none_quiet c.layout c.pass h c.start run.lawful r.1.1.0.2.quiet }, tried_one c.layout c.pass h c.start r.1.1.0.3) in
           dict_ends valid_key key valid_value value_word (getting share tries wanted x.last) c h (words.Value f.value) (replies.Value v) mode run
           (get_ends tries c h m share f.value r.1.1.1 r.1.0.spent got) valid (λ typed. same_told f.value v same_word typed) (inl refl)
 

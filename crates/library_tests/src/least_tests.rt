@@ -1,78 +1,21 @@
-//! An edit that learns its key behind its walk: it takes the least pair away.
-ghost use Rattle.std.specs.Prelude.{◌≡◌};
+//! Walks to the least key, and pops of the first pair.
 
 use crate::same::same;
 use arena::NodeWord::{Child, Head, Key, Value};
 use arena::Side::Left;
 use arena::{
-    Access, Kind, Limits, Machine, Mode, NodeNo, NodeWord, PassNo, PlainWords, Share, Side, Step,
-    Turn, Word,
+    Access, Kind, Limits, Machine, Mode, NodeNo, NodeWord, PassNo, PlainWords, Share, Step, Turn,
+    Word,
 };
-use edits::{Edit, Loaded, Look, Need, Nodes, Nth, Piece, UpdateAt, UpdateRun, Updated};
-use prims::Snap;
+use edits::{Edit, UpdateAt, UpdateRun, Updated};
 use std::alloc::Global;
 use std::process::Abort;
 use std::test::Fail;
-use template::{Found, Goal, WalkRun};
-use tree::{Delete, Insert, Tree};
+use template::{Goal, WalkRun};
+use tree::{Insert, PopFirst, Tree};
 
 /// No call of these tests has as many steps.
 const MOST_STEPS: u32 = 1000;
-
-/// Takes the least pair away, as a delete of its key does.
-#[derive(Clone, Copy, Debug, PartialEq, Eq)]
-struct PopFirst;
-
-/// The delete of the key of that leaf.
-fn delete(found: &Found) -> Delete
-    ensures { result.key ≡ found.now.key }
-{
-    Delete { key: found.key }
-}
-
-impl Edit for PopFirst {
-    ghost use Rattle.std.specs.Prelude.{◌≡◌};
-    ghost use Rattle.tree.specs.Laws.Delete.First.{first_means, first_laws};
-
-    ghost means = { first_means };
-
-    fn goal(&self) -> Goal {
-        Goal::Least
-    }
-
-    fn need(&self, found: &Found) -> Need {
-        delete(found).need(found)
-    }
-
-    fn side(&self, found: &Found) -> Side {
-        delete(found).side(found)
-    }
-
-    fn look(&self, found: &Found, snaps: &[Snap]) -> Look {
-        delete(found).look(found, snaps)
-    }
-
-    fn copied(&self, found: &Found, snaps: &[Snap]) -> NodeNo {
-        delete(found).copied(found, snaps)
-    }
-
-    fn load(&self, found: &Found, snaps: &[Snap], loaded: &Loaded, nth: Nth) -> Option<NodeWord> {
-        delete(found).load(found, snaps, loaded, nth)
-    }
-
-    fn piece(
-        &self,
-        found: &Found,
-        snaps: &[Snap],
-        nodes: &Nodes,
-        loaded: &Loaded,
-        nth: Nth,
-    ) -> Piece {
-        delete(found).piece(found, snaps, nodes, loaded, nth)
-    }
-
-    ghost laws = { first_laws };
-}
 
 /// The opening tree of one pass.
 fn opening(alloc: Global) -> Result<PlainWords, Fail> {
@@ -128,8 +71,7 @@ fn two_pairs(rt: &impl Abort, table: &mut PlainWords) -> Share {
 
 /// Takes the least pair away, in the call of this number.
 fn pops(table: &mut PlainWords, share: Share, call: u64) -> (u32, Option<Updated>, Share) {
-    let run = UpdateRun::new(PopFirst, share, 3, call, UpdateAt::Start);
-    plays(table, run)
+    plays(table, PopFirst.run(share, 3, call))
 }
 
 /// The key and the value that an answer tells, if it tells a pair.

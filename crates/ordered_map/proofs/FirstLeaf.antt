@@ -1,26 +1,31 @@
 -- The first leaf of a tree: it stands on the path of 0, below which there is no key.
-use Rattle.std.proofs.Common.{◌≡◌, ◌≢◌, ℕ, ◌^◌, ◌<◌, ◌≤◌, true, false, cond, eqb, ◌%◌, lt-ltb, eq-eqb, ne_eqb, inl, inr, List, [], ◌∷◌, ◌++◌, refl, sym, ◌∙◌, ap, arith, append_assoc, append-nil}
+use Rattle.std.proofs.Common.{◌≡◌, ◌≢◌, ℕ, ◌^◌, ◌<◌, ◌≤◌, true, false, cond, lt-ltb, eq-eqb, ne_eqb, inl, inr, List, [], ◌∷◌, ◌++◌, refl, sym, ◌∙◌, ap, arith, append_assoc, append-nil}
 use Rattle.std.specs.Prelude.{Some, None}
 use native.Mathlib.Decide.{ℕ_discrete}
 use Rattle.arena.specs.declared.layout.Layout.{Layout}
 use Rattle.arena.specs.declared.word.Side.TheVariants.{Left}
-use Rattle.arena.specs.declared.word.NodeWord.TheVariants.{Head, Key, Value, Child}
+use Rattle.arena.specs.declared.word.NodeWord.TheVariants.{Key, Value, Child}
 use Rattle.arena.specs.declared.word.Word.{Word}
 use Rattle.arena.specs.Words.{node, child}
-use Rattle.arena.specs.History.{History, value}
+use Rattle.arena.specs.declared.step.Row.{Row}
+use Rattle.arena.specs.History.{History, ◌⊳◌, value}
+use Rattle.arena.specs.Lawful.{IsWin}
+use Rattle.arena.specs.Log.{log, is_final}
 use Rattle.arena.proofs.Lemmas.{ends_self}
-use Rattle.histories.proofs.Lemmas.{node_since}
+use Rattle.histories.proofs.Lemmas.{node_since, win_not_final}
 use Rattle.ordered_map.specs.declared.pair.Pair.{Pair}
-use Rattle.ordered_map.specs.OrderedMap.{pair, first_pair}
-use Rattle.ordered_map.specs.Paths.{Passed, IsFirstAt}
-use Rattle.ordered_map.specs.Runs.{IsTreeRun}
+use Rattle.ordered_map.specs.OrderedMap.{MapEdit, pair, first_pair}
+use Rattle.ordered_map.specs.Paths.{IsOnPath, Passed, WasOnPath, IsFirstAt}
+use Rattle.ordered_map.specs.Runs.{IsTreeRun, Makes}
 use Rattle.ordered_map.specs.Spelled.{Spells}
 use Rattle.ordered_map.specs.TreeWords.{Tree, Leaf, Fork, root, Shows, Has, Passes, class, is_leaf, rank, toward, pairs, leaf_pairs, first_said}
 use Rattle.ordered_map.proofs.Trees.{within, passes_has, has_root}
-use Rattle.ordered_map.proofs.Moved.{SameSettled, settled_rank, settled_leaf}
+use Rattle.ordered_map.specs.TreeShape.{edit_leaf}
+use Rattle.ordered_map.proofs.Moved.{SameSettled, settled_rank, settled_leaf, settled_first}
 use Rattle.ordered_map.proofs.TreeFacts.{path_now, all_named}
 use Rattle.ordered_map.proofs.Past.{path_named, Latest, latest, path_level}
-use Rattle.ordered_map.proofs.Meanings.{edits_of, grown, run_spells, run_since}
+use Rattle.ordered_map.proofs.Meanings.{edits_of, grown, run_spells, run_since, wins_of, leaf_covered}
+use Rattle.ordered_map.proofs.TreeRuns.{path_remains}
 
 -- In a tree
 
@@ -163,20 +168,33 @@ walk_own lay h start k n g p u =
     let low : k ≤ rank (value p.0) n = rw (settled_rank (value p.0) (value h) n (same_since lay h start 0 n g p)) at u in
     (p.0, p.1, p.2, record { tree = tree.tree; is_tree = tree.is_tree; passes = first_path (value p.0) k tree.tree _ _ n tree.is_tree.shows tree.passes low })
 
+-- the first pair of the map that words spell is what the leaf on the path of 0 says
+spelled_first : (lay : Layout) (h : History) (n : ℕ) (ps : List Pair) → Spells lay (value h) ps → IsOnPath h 0 n → is_leaf (value h) n ≡ true → first_pair ps ≡ first_said (value h) n
+spelled_first lay h n ps s p leaf = ap first_pair (sym s.pairs) ∙ pairs_first (value h) s.tree _ _ n s.is_tree.shows (path_now h s.tree 0 n s.is_tree p) leaf
+
 -- the leaf where it ends says which pair was the first of the map, at a moment since then
 pub walk_least : (lay : Layout) (h start : History) (n : ℕ) → IsTreeRun lay h → Passed h start 0 n → is_leaf (value h) n ≡ true → IsFirstAt lay h start (first_said (value h) n)
 walk_least lay h start n g p leaf =
     let m = p.0 in
     let same = same_since lay h start 0 n g p in
     let spelled : (ps : List Pair) × Spells lay (value m) ps = run_spells lay m (run_since lay h m g p.1) in
-    let tree = spelled.1.tree in
-    let at : Passes (value m) 0 tree n = path_now m tree 0 n spelled.1.is_tree p.3 in
-    let d : is_leaf (value m) n ≡ true = sym (settled_leaf (value m) (value h) n same) ∙ leaf in
+    let then : is_leaf (value m) n ≡ true = sym (settled_leaf (value m) (value h) n same) ∙ leaf in
     record {
       moment = m;
       within = p.1;
       since = p.2;
       map = spelled.0;
       spelled = spelled.1;
-      is = ap first_pair (sym spelled.1.pairs) ∙ pairs_first (value m) tree _ _ n spelled.1.is_tree.shows at d ∙ (λ i. cond (eqb (sym (same Head tt) i % 4) 0) (Some (pair (sym (same Key tt) i) (sym (same Value tt) i))) None);
+      is = spelled_first lay m n spelled.0 spelled.1 p.3 then ∙ sym (settled_first (value m) (value h) n same);
     }
+
+-- Just before an SCX-record wins whose leaf was on the path of 0, that leaf says which pair is the
+-- first of the map: it is not final, so it is on that path still.
+pub win_first : (lay : Layout) (h : History) (row : Row) (s : ℕ) (e : MapEdit) → IsTreeRun lay (row ⊳ h) → IsWin h row s → Makes lay h s e → WasOnPath h 0 (edit_leaf h s e) → is_leaf (value h) (edit_leaf h s e) ≡ true → (ps : List Pair) → Spells lay (value h) ps → first_pair ps ≡ first_said (value h) (edit_leaf h s e)
+win_first lay h row s e g won makes was leaf ps spells = spelled_first lay h (edit_leaf h s e) ps spells (path_remains lay h 0 (edit_leaf h s e) run was not_final) leaf
+  where
+    run : IsTreeRun lay h
+    run = run_since lay (row ⊳ h) h g (inr (ends_self h))
+
+    not_final : is_final (log lay h) (edit_leaf h s e) ≡ false
+    not_final = win_not_final lay h row s (edit_leaf h s e) g.1.lawful (wins_of lay h row s g.1.lawful won) (leaf_covered lay h s e run.1.lawful makes)

@@ -3,8 +3,8 @@ use Rattle.std.proofs.Common.{◌≡◌, ◌≢◌, ℕ, ◌<◌, ◌≤◌, Boo
 use Rattle.std.specs.Prelude.{Option, Some, None}
 use native.Mathlib.Decide.{ℕ_discrete}
 use Rattle.ordered_map.specs.declared.pair.Pair.{Pair}
-use Rattle.ordered_map.specs.OrderedMap.{pair, AllAbove, IsRising, get, insert, delete, successor, between, MapEdit, Insert, Delete, edited}
-use Rattle.ordered_map.specs.MapLaws.{IsSuccessor, within}
+use Rattle.ordered_map.specs.OrderedMap.{pair, AllAbove, IsRising, get, insert, delete, first_pair, without_first, is_value, replace_if, successor, between, MapEdit, Insert, Delete, edited, pop_edit, replace_edit, after_edit}
+use Rattle.ordered_map.specs.MapLaws.{IsLeast, IsSuccessor, within}
 use Rattle.ordered_map.proofs.Trees.{split_at}
 
 -- a key is below another one, is it, or is above
@@ -151,8 +151,8 @@ same_values (p ∷ ps) (q ∷ qs) r s f = go (order p.key q.key) (λ g. same_val
 
 -- The least key above
 
-below_first : (k j : ℕ) (p : Pair) (ps : List Pair) → IsRising (p ∷ ps) → j < p.key → get j (p ∷ ps) ≡ None
-below_first k j p ps r l = get_above j (p ∷ ps) (l, above_less j p.key ps (omega (arith, l)) r.0)
+below_first : (j : ℕ) (p : Pair) (ps : List Pair) → IsRising (p ∷ ps) → j < p.key → get j (p ∷ ps) ≡ None
+below_first j p ps r l = get_above j (p ∷ ps) (l, above_less j p.key ps (omega (arith, l)) r.0)
 
 pub successor_is : (k : ℕ) (m : List Pair) → IsRising m → IsSuccessor k m (successor k m)
 successor_is k [] r = λ j l. refl
@@ -167,7 +167,7 @@ successor_is k (p ∷ ps) r = go (split_at k p.key) (successor_is k ps r.1)
     )
 
     go : (k < p.key) ⊎ (p.key ≤ k) → IsSuccessor k ps (successor k ps) → IsSuccessor k (p ∷ ps) (cond (ltb k p.key) (Some p) (successor k ps))
-    go (inl l) x = rw (lt-ltb k p.key l) (l, rw (at_key p.key) refl, λ j i u. below_first k j p ps r u)
+    go (inl l) x = rw (lt-ltb k p.key l) (l, rw (at_key p.key) refl, λ j i u. below_first j p ps r u)
     go (inr l) x = rw (le-ltb k p.key l) (found (successor k ps) l refl x)
 
 -- Keys between two
@@ -205,3 +205,20 @@ between_rises low high (p ∷ ps) r = go (leb low p.key && leb p.key high) (betw
     go : (b : Bool) → (IsRising (between low high ps)) → IsRising (cond b (p ∷ between low high ps) (between low high ps))
     go true more = (between_above p.key low high ps r.0, more)
     go false more = more
+
+-- The least key, and what pops and replacements leave
+
+pub first_is : (m : List Pair) → IsRising m → IsLeast m (first_pair m)
+first_is [] r = λ j. refl
+first_is (p ∷ ps) r = (rw (at_key p.key) refl, λ j l. below_first j p ps r l)
+
+pub popped : (m : List Pair) → without_first m ≡ after_edit (pop_edit (first_pair m)) m
+popped [] = refl
+popped (p ∷ ps) = rw (at_key p.key) refl
+
+pub replaced : (k e v : ℕ) (m : List Pair) → replace_if k e v m ≡ after_edit (replace_edit k e v (get k m)) m
+replaced k e v m = go (is_value e (get k m))
+  where
+    go : (b : Bool) → cond b (insert k v m) m ≡ after_edit (cond b (Some (Insert k v)) None) m
+    go true = refl
+    go false = refl

@@ -4,19 +4,21 @@ use Rattle.std.proofs.Common.{◌≡◌, ◌≢◌, ℕ, ◌^◌, ◌<◌, true,
 use native.Mathlib.Decide.{ℕ_discrete}
 use Rattle.arena.specs.declared.limits.Mode.TheVariants.{Tree as TreeMode}
 use Rattle.arena.specs.declared.word.Side.{Side}
-use Rattle.arena.specs.declared.word.Side.TheVariants.{Left}
+use Rattle.arena.specs.declared.word.Side.TheVariants.{Left, Right}
+use Rattle.arena.specs.declared.word.ScxWord.TheVariants.{Plan}
 use Rattle.arena.specs.declared.word.Word.{Word}
 use Rattle.arena.specs.declared.layout.Layout.{Layout}
 use Rattle.arena.specs.declared.step.Row.{Row}
-use Rattle.arena.specs.Words.{info, child}
+use Rattle.arena.specs.Words.{info, scx, child}
 use Rattle.arena.specs.History.{History, Start, ◌⊳◌, value, Extends}
-use Rattle.arena.specs.ScxRecords.{member}
+use Rattle.arena.specs.Blame.{IsMember}
+use Rattle.arena.specs.ScxRecords.{member, plan}
 use Rattle.arena.specs.Fills.{IsNamed, IsNamedScx}
 use Rattle.arena.specs.Lawful.{Lawful, IsWin, HasWon}
 use Rattle.arena.specs.Log.{Entry, log, IsEntered}
 use Rattle.arena.specs.Shape.{IsBegin, Shaped}
-use Rattle.arena.proofs.Lemmas.{held_back, held_start, opening_info, ends_self, ends_trans}
-use Rattle.histories.proofs.Lemmas.{Effect, Facts, Logs, logs, same, wins, UpdateWins, effect, entered_won, facts, facts_before, freeze, freeze_held, lawful_row, lawful_since, lawful_tail, named_since, quiet, shaped_begin, shaped_since, shaped_tail, some_is_real, update, update_flagged, update_held, won_named, won_real}
+use Rattle.arena.proofs.Lemmas.{held_back, held_start, opening_info, ends_self, ends_trans, value_apart}
+use Rattle.histories.proofs.Lemmas.{Effect, Facts, IsFirst, Logs, begins_once, scx_since, logs, same, wins, UpdateWins, effect, entered_won, facts, facts_before, freeze, freeze_held, lawful_row, lawful_since, lawful_tail, named_since, quiet, shaped_begin, shaped_since, shaped_tail, some_is_real, update, update_flagged, update_held, won_named, won_real}
 use Rattle.ordered_map.specs.declared.pair.Pair.{Pair}
 use Rattle.ordered_map.specs.OrderedMap.{MapEdit, Insert, Delete, edit_key, edited, get}
 use Rattle.ordered_map.proofs.Pending.{AllowsGiven, Pending}
@@ -29,11 +31,11 @@ use Rattle.ordered_map.specs.TreeShape.{leaf_place, edit_leaf, TreeAllows}
 use Rattle.ordered_map.specs.TreeWords.{class, is_leaf, level, toward, pairs, said}
 use Rattle.ordered_map.proofs.Moved.{settled_toward}
 use Rattle.ordered_map.proofs.TreeFacts.{TreeFacts}
-use Rattle.ordered_map.proofs.Edited.{past, content_now, leaf_is, replies}
+use Rattle.ordered_map.proofs.Edited.{past, plan_insert, plan_delete, content_now, leaf_is, replies}
 use Rattle.ordered_map.proofs.Grown.{IsGrown, tree_facts, first_begins, grown_tail, grown_since}
 use Rattle.ordered_map.proofs.Past.{path_named, Answered, walk_begins, walk_goes_on, walk_ends, level_rises}
 use Rattle.ordered_map.proofs.Growing.{spells, root_leaf, root_left}
-use Rattle.ordered_map.proofs.Runs.{HasEdits, has_edits, makes_one}
+use Rattle.ordered_map.proofs.Runs.{HasEdits, begin_names, has_edits, makes_one}
 
 pub edits_of : (lay : Layout) (h : History) → IsTreeRun lay h → HasEdits lay h
 edits_of lay h g = has_edits lay h g.1.lawful g.1.shaped
@@ -244,3 +246,26 @@ pub below_root : (lay : Layout) (h : History) (k : ℕ) → IsTreeRun lay h → 
 below_root lay h k g small leaf low =
     let e : toward (value h) 0 k ≡ Left = root_left (edits_of lay h g).edits lay h k (grown lay h g) small in
     root_leaf (edits_of lay h g).edits lay h (grown lay h g) (subst (λ s. is_leaf (value h) (value h (child 0 s)) ≡ true) e leaf) (subst (λ s. class (value h) (value h (child 0 s)) ≡ 0) e low)
+
+-- The leaf of an edit
+
+-- what has begun keeps its plan
+begun_plan : (lay : Layout) (h : History) (s : ℕ) (e : MapEdit) → Lawful lay h → (x : Makes lay h s e) → plan h s ≡ plan x.before s
+begun_plan lay h s e l x =
+    let first : IsFirst lay x.before x.row s = begins_once lay x.before x.row s (lawful_since lay h (x.row ⊳ x.before) l x.within) x.begins in
+    let real : s ≢ 0 = λ z. let i = first.own.from in omega (arith, i, z) in
+    let named : IsNamedScx (x.row ⊳ x.before) s = (member x.before s 0, begin_names x.before x.row s x.begins) in
+    scx_since lay h (x.row ⊳ x.before) s l x.within real named Plan tt ∙ value_apart x.row x.before (info (member x.before s 0)) (scx s Plan) x.begins.word refl
+
+-- it covers the leaf of its edit
+pub leaf_covered : (lay : Layout) (h : History) (s : ℕ) (e : MapEdit) → Lawful lay h → Makes lay h s e → IsMember h s (edit_leaf h s e)
+leaf_covered lay h s (Insert k v) l x = record { index = 1; within = rw (begun_plan lay h s (Insert k v) l x, (plan_insert _ _ x.edit.edit.plan).3) (omega arith); is = refl }
+leaf_covered lay h s (Delete k) l x = record {
+  index = leaf_place (toward (value h) (member h s 1) k);
+  within = rw (begun_plan lay h s (Delete k) l x, (plan_delete _ _ x.edit.edit.plan).3) (few (toward (value h) (member h s 1) k));
+  is = refl;
+}
+  where
+    few : (side : Side) → leaf_place side < 4
+    few Left = omega arith
+    few Right = omega arith

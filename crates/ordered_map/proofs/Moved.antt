@@ -7,7 +7,9 @@ use Rattle.arena.specs.declared.word.NodeWord.TheVariants.{Head, Key, Value}
 use Rattle.arena.specs.declared.word.Word.{Word}
 use Rattle.arena.specs.Words.{node, child}
 use Rattle.arena.specs.Lawful.{IsSettled}
-use Rattle.ordered_map.specs.TreeWords.{class, is_leaf, level, rank, toward}
+use Rattle.std.specs.Prelude.{Some, None}
+use Rattle.ordered_map.specs.OrderedMap.{pair}
+use Rattle.ordered_map.specs.TreeWords.{class, is_leaf, level, rank, toward, first_said}
 use Rattle.ordered_map.specs.Edits.{IsPairLeaf, IsAlike, IsSwap, IsSplit, IsJoin}
 
 abbrev pub SameSettled : (Word → ℕ) → (Word → ℕ) → ℕ → Type 0
@@ -27,6 +29,9 @@ settled_leaf b f n e = ap (λ v. eqb (v / 4 % 2) 1) (e Head tt)
 
 pub settled_level : (b f : Word → ℕ) (n : ℕ) → SameSettled b f n → level f n ≡ level b n
 settled_level b f n e = ap (λ v. v / 8) (e Head tt)
+
+pub settled_first : (b f : Word → ℕ) (n : ℕ) → SameSettled b f n → first_said f n ≡ first_said b n
+settled_first b f n e = λ i. cond (eqb (e Head tt i % 4) 0) (Some (pair (e Key tt i) (e Value tt i))) None
 
 module _ (b f : Word → ℕ) where
   move_pair : (n k v : ℕ) → SameSettled b f n → IsPairLeaf b n k v → IsPairLeaf f n k v

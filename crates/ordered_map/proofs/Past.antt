@@ -1,5 +1,5 @@
 -- A walk by child loads visits only nodes that were on the search path at a moment since its begin.
-use Rattle.std.proofs.Common.{◌≡◌, ◌≢◌, ℕ, ◌<◌, ◌≤◌, ◌*◌, ◌/◌, ◌%◌, ◌^◌, true, false, eqb, ltb, ◌⊎◌, inl, inr, ⊎_elim, refl, sym, ◌∙◌, ap, arith, subst, cond}
+use Rattle.std.proofs.Common.{◌≡◌, ◌≢◌, ℕ, ◌<◌, ◌≤◌, ◌*◌, ◌/◌, ◌%◌, ◌^◌, true, false, eqb, ltb, ◌⊎◌, inl, inr, refl, sym, ◌∙◌, ap, arith, subst, cond}
 use Rattle.std.specs.Prelude.{Option, Some, None}
 use native.Mathlib.Decide.{ℕ_discrete}
 use Rattle.arena.specs.declared.limits.Mode.TheVariants.{Tree as TreeMode}
@@ -161,12 +161,6 @@ level_rises calls lay h m k n side g e p fork =
     let named : IsNamed lay l (value l (child n side)) = all_named lay l x.on_path.tree _ g.mode x.on_path.is_tree y.1 in
     let child_head : value h (node (value l (child n side)) Head) ≡ value l (node (value l (child n side)) Head) = node_since lay h l (value l (child n side)) Head g.lawful x.within tt named in
     rw (c, head, child_head) y.0
-
--- A node that was on the path and is not marked is on it now.
-pub grown_on_path : (calls : ℕ → MapEdit) (lay : Layout) (h start : History) (k n : ℕ) → IsGrown calls lay h → Passed h start k n → value h (marked n) ≡ 0 → IsOnPath h k n
-grown_on_path calls lay h start k n g p e =
-    let t : TreeFacts calls lay h = tree_facts calls lay h g in
-    ⊎_elim (λ q. record { tree = t.tree; is_tree = t.is_tree; passes = q }) (λ d. absurd (d e)) (t.path p.0 k n p.1 p.3)
 
 -- every node of the tree is on the path of a key
 pub reach : (f : Word → ℕ) (t : Tree) (lo hi n : ℕ) → Shows f lo hi t → Has t n → (k : ℕ) × (lo ≤ k) × (k < hi) × Passes f k t n

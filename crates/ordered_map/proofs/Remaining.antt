@@ -1,27 +1,25 @@
--- A node that stood in the tree, and is not final, still stands there.
-use Rattle.std.proofs.Common.{◌≡◌, ℕ, ◌<◌, ◌≤◌, ◌*◌, ◌^◌, true, false, Bool, ⊎_elim, refl, sym, ◌∙◌, subst}
+-- A node that was on a search path, and is not final, still is on it; so what stood in the tree, and
+-- is not final, still stands there.
+use Rattle.std.proofs.Common.{◌≡◌, ℕ, ◌<◌, ◌≤◌, ◌*◌, ◌^◌, true, false, Bool, inl, inr, ⊎_elim, refl, sym, ◌∙◌, subst}
 use Rattle.arena.specs.declared.layout.Layout.{Layout}
 use Rattle.arena.specs.declared.step.Row.{Row}
 use Rattle.arena.specs.declared.word.NodeWord.TheVariants.{Child}
-use Rattle.arena.specs.History.{History, Start, ◌⊳◌, value}
+use Rattle.arena.specs.History.{History, Start, ◌⊳◌, value, Extends}
 use Rattle.arena.specs.ScxRecords.{plan_finalizes, member}
 use Rattle.arena.specs.Log.{log, is_final}
 use Rattle.histories.specs.Descriptor.{Descriptor, count_in}
 use Rattle.histories.specs.Finalizing.{IsRemoved}
 use Rattle.histories.proofs.Lemmas.{Effect, UpdateWins, by_final, descriptor_stays, effect, final_by, finalized_by_stays, freeze, freeze_keeps_field, lawful_tail, quiet, removed_stays, some_is_real, update, update_flagged, update_won}
 use Rattle.ordered_map.specs.OrderedMap.{MapEdit}
-use Rattle.ordered_map.specs.Paths.{WasInTree}
+use Rattle.ordered_map.specs.Paths.{IsOnPath, WasInTree}
 use Rattle.ordered_map.specs.Spelled.{IsTree}
 use Rattle.ordered_map.specs.TreeWords.{Tree, Has, Passes}
 use Rattle.ordered_map.proofs.Trees.{passes_has}
 use Rattle.ordered_map.proofs.Edited.{IsCut, past, result, tree_now}
 use Rattle.ordered_map.proofs.Grown.{IsGrown, grown_tail}
 use Rattle.ordered_map.proofs.Past.{reach}
-use Rattle.ordered_map.proofs.Stood.{facts_then, tree_then, tree_stays, one_tree, was_split}
-
--- the tree of the history has it
-abbrev StillHas : History → ℕ → Type 0
-StillHas h n = (t : Tree) × IsTree (value h) t × Has t n
+use Rattle.ordered_map.proofs.TreeFacts.{path_now}
+use Rattle.ordered_map.proofs.Stood.{facts_then, tree_then, path_stays}
 
 module _ (calls : ℕ → MapEdit) (lay : Layout) (h : History) (r : Row) (g : IsGrown calls lay (r ⊳ h)) (n : ℕ) where
   -- what is final stays so
@@ -54,35 +52,34 @@ module _ (calls : ℕ → MapEdit) (lay : Layout) (h : History) (r : Row) (g : I
           removed = removed_stays h (r ⊳ h) n u (descriptor_stays lay h r u g.lawful (some_is_real f (update_flagged f w).some) (member h u 0, (update_flagged f w).frozen 0 (update_flagged f w).some)) (its x);
         }
 
-    -- all else that stood there still does
-    after_update : is_final (log lay (r ⊳ h)) n ≡ false → Has (tree_then calls lay h r g).tree n → StillHas (r ⊳ h) n
-    after_update e q =
+    -- all else stays on its paths
+    after_update : (k : ℕ) → is_final (log lay (r ⊳ h)) n ≡ false → Passes (value h) k (tree_then calls lay h r g).tree n → IsOnPath (r ⊳ h) k n
+    after_update k e q =
         let t = tree_then calls lay h r g in
         let x = result calls lay h r u (facts_then calls lay h r g) w g.mode g.lawful t in
-        let k : (k : ℕ) × (0 ≤ k) × (k < 3 * 2 ^ 64) × Passes (value h) k t.tree n = reach (value h) t.tree _ _ n t.is_tree.shows q in
         ⊎_elim
-        (λ p. (x.tree, tree_now calls lay h r u (facts_then calls lay h r g) w g.mode g.lawful t, passes_has (value (r ⊳ h)) k.0 x.tree n p))
+        (λ p. record { tree = x.tree; is_tree = tree_now calls lay h r u (facts_then calls lay h r g) w g.mode g.lawful t; passes = p })
         (λ c. absurd (let y : true ≡ false = sym (cut_final c) ∙ e in cc))
-        (x.paths k.0 n k.3)
+        (x.paths k n q)
 
-  still : is_final (log lay (r ⊳ h)) n ≡ false → Has (tree_then calls lay h r g).tree n → StillHas (r ⊳ h) n
-  still e q = go (effect lay h r g.lawful)
+  still_there : (k : ℕ) → is_final (log lay (r ⊳ h)) n ≡ false → Passes (value h) k (tree_then calls lay h r g).tree n → IsOnPath (r ⊳ h) k n
+  still_there k e q = go (effect lay h r g.lawful)
     where
-      go : Effect lay h r → StillHas (r ⊳ h) n
-      go (quiet k) = ((tree_then calls lay h r g).tree, tree_stays calls lay h r g (λ m side y. k.node m (Child side) tt y), q)
-      go (freeze s j w) = ((tree_then calls lay h r g).tree, tree_stays calls lay h r g (λ m side y. freeze_keeps_field (facts_then calls lay h r g) w m side), q)
-      go (update u w) = after_update u w e q
+      go : Effect lay h r → IsOnPath (r ⊳ h) k n
+      go (quiet x) = path_stays calls lay h r g (λ m side y. x.node m (Child side) tt y) k n q
+      go (freeze s j w) = path_stays calls lay h r g (λ m side y. freeze_keeps_field (facts_then calls lay h r g) w m side) k n q
+      go (update u w) = after_update u w k e q
 
-still_has : (calls : ℕ → MapEdit) (lay : Layout) (h : History) (n : ℕ) → IsGrown calls lay h → WasInTree h n → is_final (log lay h) n ≡ false → StillHas h n
-still_has calls lay (Start mode) n g x e = (x.tree, subst (λ m. IsTree (value m) x.tree) x.within x.is_tree, x.has)
-still_has calls lay (r ⊳ h) n g x e =
-    ⊎_elim
-    (λ y. then (still_has calls lay h n (grown_tail calls lay h r g) y (not_final_then calls lay h r g n e)))
-    (λ y. y)
-    (was_split h r n x)
-  where
-    then : StillHas h n → StillHas (r ⊳ h) n
-    then y = still calls lay h r g n e (subst (λ t. Has t n) (one_tree h y.0 (tree_then calls lay h r g).tree y.1 (tree_then calls lay h r g).is_tree) y.2)
+pub grown_on_path : (calls : ℕ → MapEdit) (lay : Layout) (h m : History) (k n : ℕ) → IsGrown calls lay h → Extends h m → IsOnPath m k n → is_final (log lay h) n ≡ false → IsOnPath h k n
+grown_on_path calls lay (Start mode) m k n g w p e = subst (λ x. IsOnPath x k n) w p
+grown_on_path calls lay (r ⊳ h) m k n g (inl w) p e = subst (λ x. IsOnPath x k n) w p
+grown_on_path calls lay (r ⊳ h) m k n g (inr w) p e =
+    let y : IsOnPath h k n = grown_on_path calls lay h m k n (grown_tail calls lay h r g) w p (not_final_then calls lay h r g n e) in
+    let t = tree_then calls lay h r g in
+    still_there calls lay h r g n k e (path_now h t.tree k n t.is_tree y)
 
 pub grown_remains : (calls : ℕ → MapEdit) (lay : Layout) (h : History) (t : Tree) (n : ℕ) → IsGrown calls lay h → WasInTree h n → is_final (log lay h) n ≡ false → IsTree (value h) t → Has t n
-grown_remains calls lay h t n g x e i = let y = still_has calls lay h n g x e in subst (λ v. Has v n) (one_tree h y.0 t y.1 i) y.2
+grown_remains calls lay h t n g x e i =
+    let k : (k : ℕ) × (0 ≤ k) × (k < 3 * 2 ^ 64) × Passes (value x.moment) k x.tree n = reach (value x.moment) x.tree _ _ n x.is_tree.shows x.has in
+    let y : IsOnPath h k.0 n = grown_on_path calls lay h x.moment k.0 n g x.within record { tree = x.tree; is_tree = x.is_tree; passes = k.3 } e in
+    passes_has (value h) k.0 t n (path_now h t k.0 n i y)

@@ -12,10 +12,10 @@ use Rattle.arena.specs.Lawful.{Lawful}
 use Rattle.arena.proofs.Lemmas.{ends_self}
 use Rattle.histories.proofs.Lemmas.{Effect, Facts, UpdateWins, effect, facts_before, freeze, freeze_keeps_field, named_since, node_stays, quiet, start_mode, update}
 use Rattle.ordered_map.specs.OrderedMap.{MapEdit}
-use Rattle.ordered_map.specs.Paths.{Passed, WasInTree}
+use Rattle.ordered_map.specs.Paths.{IsOnPath, Passed, WasInTree}
 use Rattle.ordered_map.specs.Spelled.{IsTree}
-use Rattle.ordered_map.specs.TreeWords.{Tree, Leaf, Fork, Has}
-use Rattle.ordered_map.proofs.Trees.{Same, frame, same_tree, passes_has}
+use Rattle.ordered_map.specs.TreeWords.{Tree, Leaf, Fork, Has, Passes}
+use Rattle.ordered_map.proofs.Trees.{Same, frame, frame_path, same_tree, passes_has}
 use Rattle.ordered_map.proofs.TreeFacts.{TreeFacts, all_named}
 use Rattle.ordered_map.proofs.Edited.{Born, result, tree_now}
 use Rattle.ordered_map.proofs.Grown.{IsGrown, opening_tree, tree_facts, grown_tail}
@@ -68,6 +68,14 @@ module _ (calls : ℕ → MapEdit) (lay : Layout) (h : History) (r : Row) (g : I
 
     pub tree_stays : IsTree (value (r ⊳ h)) tree_then.tree
     tree_stays = record { shows = frame (value h) (value (r ⊳ h)) tree_then.tree _ _ (λ n p. same_words n (all_named lay h tree_then.tree n g.mode tree_then.is_tree p)) tree_then.is_tree.shows; is = tree_then.is_tree.is }
+
+    -- and its paths
+    pub path_stays : (k n : ℕ) → Passes (value h) k tree_then.tree n → IsOnPath (r ⊳ h) k n
+    path_stays k n p = record {
+      tree = tree_then.tree;
+      is_tree = tree_stays;
+      passes = frame_path (value h) (value (r ⊳ h)) k tree_then.tree n (λ m q. same_words m (all_named lay h tree_then.tree m g.mode tree_then.is_tree q)) p;
+    }
 
     stood_before : (tree : Tree) (n : ℕ) → IsTree (value (r ⊳ h)) tree → Has tree n → Has tree_then.tree n
     stood_before tree n i p = subst (λ v. Has v n) (one_tree (r ⊳ h) tree tree_then.tree i tree_stays) p

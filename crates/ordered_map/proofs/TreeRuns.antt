@@ -13,18 +13,18 @@ use Rattle.arena.specs.Log.{log, is_final}
 use Rattle.arena.specs.Fills.{IsInField}
 use Rattle.arena.specs.Layout.{opening_nodes}
 use Rattle.arena.specs.TakenNodes.{taken_nodes}
-use Rattle.histories.proofs.Lemmas.{Facts, UpdateWins, facts_before, node_since}
+use Rattle.histories.proofs.Lemmas.{Facts, UpdateWins, facts_before, node_since, not_final}
 use Rattle.ordered_map.specs.OrderedMap.{MapEdit}
 use Rattle.ordered_map.specs.TreeWords.{Tree, Has, is_leaf, level, IsBlankAboveKeys, root}
 use Rattle.arena.proofs.Lemmas.{held_at, held_since}
 use Rattle.ordered_map.specs.Spelled.{IsTree, Spells}
-use Rattle.ordered_map.specs.Paths.{IsOnPath, Passed, WasInTree}
+use Rattle.ordered_map.specs.Paths.{IsOnPath, Passed, WasInTree, WasOnPath}
 use Rattle.ordered_map.specs.Runs.{IsTreeRun}
-use Rattle.ordered_map.proofs.Past.{path_level, grown_on_path, grown_rises}
+use Rattle.ordered_map.proofs.Past.{path_level, grown_rises}
 use Rattle.ordered_map.proofs.Removed.{grown_not_final}
 use Rattle.ordered_map.proofs.Levels.{grown_level}
 use Rattle.ordered_map.proofs.Blanks.{grown_blank}
-use Rattle.ordered_map.proofs.Remaining.{grown_remains}
+use Rattle.ordered_map.proofs.Remaining.{grown_on_path, grown_remains}
 use Rattle.ordered_map.proofs.Growing.{grown_root}
 use Rattle.ordered_map.proofs.Stood.{was_now, was_passed, was_named}
 use Rattle.ordered_map.proofs.TreeFacts.{TreeFacts}
@@ -80,9 +80,13 @@ passed_blank lay h start k n g p = stood_blank lay h n g (was_passed h start k n
 pub root_head : (lay : Layout) (h : History) → IsTreeRun lay h → value h (node 0 Head) ≡ 2
 root_head lay h g = grown_root (edits_of lay h g).edits lay h (grown lay h g)
 
--- a node that was passed and is not marked is still on the path
+-- a node that was on a path and is not final still is on it
+pub path_remains : (lay : Layout) (h : History) (k n : ℕ) → IsTreeRun lay h → WasOnPath h k n → is_final (log lay h) n ≡ false → IsOnPath h k n
+path_remains lay h k n g p e = grown_on_path (edits_of lay h g).edits lay h p.0 k n (grown lay h g) p.1 p.2 e
+
+-- so is one that was passed and is not marked
 pub passed_unmarked : (lay : Layout) (h start : History) (k n : ℕ) → IsTreeRun lay h → Passed h start k n → value h (marked n) ≡ 0 → IsOnPath h k n
-passed_unmarked lay h start k n g p e = grown_on_path (edits_of lay h g).edits lay h start k n (grown lay h g) p e
+passed_unmarked lay h start k n g p e = path_remains lay h k n g (p.0, p.1, p.3) (not_final lay h n g.1.lawful e)
 
 -- a node that was passed is at most as deep as the log is long, and one
 pub passed_level : (lay : Layout) (h start : History) (k n : ℕ) → IsTreeRun lay h → Passed h start k n → level (value h) n ≤ suc (length (log lay h))

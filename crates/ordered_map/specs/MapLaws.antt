@@ -1,4 +1,5 @@
--- What the laws of the map say of the least key above another one, and of the keys between two.
+-- What the laws of the map say of the least key, of the least above another one, and of the keys
+-- between two.
 use Rattle.std.specs.Prelude.{◌≡◌, ℕ, ◌<◌, if◌then◌else◌, ◌&&◌, nat_le, List, Option, Some, None}
 use Rattle.ordered_map.specs.declared.pair.Pair.{Pair}
 use Rattle.ordered_map.specs.OrderedMap.{get}
@@ -7,6 +8,11 @@ use Rattle.ordered_map.specs.OrderedMap.{get}
 abbrev pub IsSuccessor : ℕ → List Pair → Option Pair → Type 0
 IsSuccessor k m (Some p) = (k < p.key) × (get p.key m ≡ Some p.value) × ((j : ℕ) → k < j → j < p.key → get j m ≡ None)
 IsSuccessor k m None = (j : ℕ) → k < j → get j m ≡ None
+
+-- a pair of the map below whose key no key has a value; or none has one
+abbrev pub IsLeast : List Pair → Option Pair → Type 0
+IsLeast m (Some p) = (get p.key m ≡ Some p.value) × ((j : ℕ) → j < p.key → get j m ≡ None)
+IsLeast m None = (j : ℕ) → get j m ≡ None
 
 -- this, for a key from `low` to `high`, and nothing for any other
 abbrev pub within : ℕ → ℕ → ℕ → Option ℕ → Option ℕ

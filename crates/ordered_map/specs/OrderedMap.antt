@@ -40,6 +40,21 @@ abbrev pub first_pair : List Pair → Option Pair
 first_pair [] = None
 first_pair (p ∷ ps) = Some p
 
+-- the map without that pair: a pop leaves this, and tells the pair
+abbrev pub without_first : List Pair → List Pair
+without_first [] = []
+without_first (p ∷ ps) = ps
+
+-- whether this is the value told
+abbrev pub is_value : ℕ → Option ℕ → Bool
+is_value v None = false
+is_value v (Some told) = told == v
+
+-- the map with k at v where k has the value e, and else the map as it is: a replacement leaves
+-- this, and tells what k had
+abbrev pub replace_if : ℕ → ℕ → ℕ → List Pair → List Pair
+replace_if k e v m = if is_value e (get k m) then insert k v m else m
+
 -- the pair with the least key above k, if there is one
 abbrev pub successor : ℕ → List Pair → Option Pair
 successor k [] = None
@@ -72,6 +87,21 @@ edit_key (Delete k) = k
 abbrev pub edited : MapEdit → List Pair → List Pair
 edited (Insert k v) m = insert k v m
 edited (Delete k) m = delete k m
+
+-- the edit that a pop has made which tells this pair; where it tells none it has made none
+abbrev pub pop_edit : Option Pair → Option MapEdit
+pop_edit None = None
+pop_edit (Some p) = Some (Delete p.key)
+
+-- the edit that a replacement of e has made which tells e; where it tells another value, or none, it
+-- has made none
+abbrev pub replace_edit : ℕ → ℕ → ℕ → Option ℕ → Option MapEdit
+replace_edit k e v told = if is_value e told then Some (Insert k v) else None
+
+-- the map that is left where an edit is made, or none
+abbrev pub after_edit : Option MapEdit → List Pair → List Pair
+after_edit None m = m
+after_edit (Some e) m = edited e m
 
 -- all calls of a map; the last: from this key, to this key, at most so many pairs
 pub data MapCall : Type 0 where

@@ -8,13 +8,13 @@ ghost use Rattle.arena.specs.Lawful.{IsWin};
 ghost use Rattle.arena.specs.Log.{log, is_final};
 ghost use Rattle.arena.specs.TakenNodes.{taken_nodes};
 ghost use Rattle.ordered_map.specs.declared.pair.Pair.{Pair};
-ghost use Rattle.ordered_map.specs.OrderedMap.{MapEdit, IsRising, get, insert, delete, edited, successor, between};
+ghost use Rattle.ordered_map.specs.OrderedMap.{MapEdit, IsRising, get, insert, delete, edited, first_pair, without_first, replace_if, pop_edit, replace_edit, after_edit, successor, between};
 ghost use Rattle.ordered_map.specs.TreeWords.{Tree, Has, is_leaf, level, said, IsBlankAboveKeys};
 ghost use Rattle.ordered_map.specs.Spelled.{IsTree, Spells};
 ghost use Rattle.ordered_map.specs.Paths.{Passed, WasInTree, IsAnswerAt};
 ghost use Rattle.ordered_map.specs.Runs.{IsTreeRun, Makes, IsEditAt};
 ghost use Rattle.ordered_map.specs.Laws.{AreEdits, SpellsLog};
-ghost use Rattle.ordered_map.specs.MapLaws.{IsSuccessor, within};
+ghost use Rattle.ordered_map.specs.MapLaws.{IsLeast, IsSuccessor, within};
 
 /// What every history of the tree keeps in which only edits of the map begin. Each SCX-record that has
 /// begun makes one edit; after each row the words spell one map, that of the log so far; an update
@@ -37,9 +37,10 @@ pub fn laws_hold()
 {}
 
 /// What the calls of a map do, told by its values: an edit changes the value of its key alone and
-/// keeps the keys rising; maps of the same values are the same list; the successor is the pair with
-/// the least key above; between two keys are the pairs of just those keys. It does nothing; a caller
-/// learns the laws from its contract.
+/// keeps the keys rising; maps of the same values are the same list; the first pair has the least
+/// key, and the successor the least above; between two keys are the pairs of just those keys; a pop
+/// and a replacement leave what the edits leave that they have made, if they have made one. It does
+/// nothing; a caller learns the laws from its contract.
 pub fn map_laws_hold()
     ensures inserted { (k v : ℕ) (m : List Pair) → get k (insert k v m) ≡ Some v }
     ensures insert_keeps { (j k v : ℕ) (m : List Pair) → j ≢ k → get j (insert k v m) ≡ get j m }
@@ -47,6 +48,9 @@ pub fn map_laws_hold()
     ensures delete_keeps { (j k : ℕ) (m : List Pair) → j ≢ k → get j (delete k m) ≡ get j m }
     ensures rising { (e : MapEdit) (m : List Pair) → IsRising m → IsRising (edited e m) }
     ensures same { (m n : List Pair) → IsRising m → IsRising n → ((k : ℕ) → get k m ≡ get k n) → m ≡ n }
+    ensures first { (m : List Pair) → IsRising m → IsLeast m (first_pair m) }
+    ensures popped { (m : List Pair) → without_first m ≡ after_edit (pop_edit (first_pair m)) m }
+    ensures replaced { (k e v : ℕ) (m : List Pair) → replace_if k e v m ≡ after_edit (replace_edit k e v (get k m)) m }
     ensures successor { (k : ℕ) (m : List Pair) → IsRising m → IsSuccessor k m (successor k m) }
     ensures between { (low high j : ℕ) (m : List Pair) → get j (between low high m) ≡ within low high j (get j m) }
     ensures between_rises { (low high : ℕ) (m : List Pair) → IsRising m → IsRising (between low high m) }

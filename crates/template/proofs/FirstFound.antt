@@ -1,6 +1,6 @@
 -- What the walk to the first leaf has found: the leaf on the path of its own key, and the first pair
 -- of the map.
-use Rattle.std.proofs.Common.{false, ◌≡◌, ◌≢◌, ℕ, ◌<◌, ◌≤◌, ◌^◌, eq-eqb, ne_eqb, lt-ltb, refl, sym, ◌∙◌, ap, arith, subst, Some}
+use Rattle.std.proofs.Common.{false, ◌≡◌, ◌≢◌, ℕ, ◌<◌, ◌≤◌, ◌^◌, eqb, eq-eqb, ne_eqb, lt-ltb, refl, sym, ◌∙◌, ap, arith, subst, Some, None}
 use native.Mathlib.Decide.{ℕ_discrete}
 use Rattle.arena.specs.declared.word.Side.{Side}
 use Rattle.arena.specs.declared.word.Side.TheVariants.{Left}
@@ -106,23 +106,27 @@ module _ (c : Call) (h : History) (f : Found) (run : IsTreeRun c.layout h) (a : 
           let y = above_parent d in
           omega (arith, x, y)
 
-  -- it tells the first pair of the map, at a moment of the call
-  pub found_first : IsFirstAt c.layout h a.trail.node.first (first_told f)
-  found_first = subst (IsFirstAt c.layout h a.trail.node.first) told (walk_least c.layout h a.trail.node.first leaf run a.trail.node.passed a.leaf)
+  -- what its words say is what was told of it
+  pub found_told : first_said (value h) leaf ≡ first_told f
+  found_told = go (ℕ_discrete f.head.class 0)
     where
       at_low : f.head.class ≡ 0 → first_said (value h) leaf ≡ first_told f
       at_low z =
           let low : class (value h) leaf ≡ 0 = class_is ∙ z in
           let key : value h (node leaf KeyWord) ≡ f.key = a.key z in
           let says : f.value ≡ Some (value h (node leaf ValueWord)) = a.says ∙ rw (eq-eqb (class (value h) leaf) 0 low, eq-eqb f.key (value h (node leaf KeyWord)) (sym key)) refl in
-          rw (eq-eqb (class (value h) leaf) 0 low, eq-eqb f.head.class 0 z, says) (λ i. Some (pair (key i) (value h (node leaf ValueWord))))
+          rw (eq-eqb (class (value h) leaf) 0 low, says) (λ i. Some (pair (key i) (value h (node leaf ValueWord))))
 
       at_high : f.head.class ≢ 0 → first_said (value h) leaf ≡ first_told f
-      at_high d = rw (ne_eqb (class (value h) leaf) 0 (λ z. d (sym class_is ∙ z)), ne_eqb f.head.class 0 d) refl
+      at_high d =
+          let high : eqb (class (value h) leaf) 0 ≡ false = ne_eqb (class (value h) leaf) 0 (λ z. d (sym class_is ∙ z)) in
+          let says : f.value ≡ None = a.says ∙ rw high refl in
+          rw (high, says) refl
 
       go : Dec (f.head.class ≡ 0) → first_said (value h) leaf ≡ first_told f
       go (yes z) = at_low z
       go (no d) = at_high d
 
-      told : first_said (value h) leaf ≡ first_told f
-      told = go (ℕ_discrete f.head.class 0)
+  -- so it tells the first pair of the map, at a moment of the call
+  pub found_first : IsFirstAt c.layout h a.trail.node.first (first_told f)
+  found_first = subst (IsFirstAt c.layout h a.trail.node.first) found_told (walk_least c.layout h a.trail.node.first leaf run a.trail.node.passed a.leaf)

@@ -7,7 +7,7 @@ pub use Rattle.template.proofs.Tracking.{tracks_by_others, tracks_by_scx, tracke
 pub use Rattle.template.proofs.Inserting.{insert_words, swap_promised, split_promised}
 pub use Rattle.template.proofs.Deleting.{join_promised}
 pub use Rattle.template.proofs.Stood.{stood_inside, opened_if_stood}
-pub use Rattle.template.proofs.FirstFound.{found_small, found_own, found_first}
+pub use Rattle.template.proofs.FirstFound.{found_small, found_own, found_told, found_first}
 pub use Rattle.template.proofs.Contending.{changed_contended, contended_later, contended_wider, failed_contended, finalized_contended, way_contended}
 pub use Rattle.template.proofs.WalkEdges.{walk_begins, head_to_key, head_ends, head_to_child, key_to_child, key_to_value, key_ends, value_ends, child_to_head}
 pub use Rattle.template.proofs.Tries.{BeginsNoTry, others_begin_none, own_begins, own_begins_none, tries_more, tries_begin, newest_more, newest_now, other_kind_begins_none, scx_word_begins_none, other_node_begins_none, help_begins_none, llx_begins_none, vlx_begins_none, scx_begins_none, walk_begins_none, walk_past_root}

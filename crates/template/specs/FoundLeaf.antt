@@ -1,5 +1,6 @@
 -- What a call knows of the leaf that it has found on its way to a key, or to the least one.
-use Rattle.std.specs.Prelude.{◌≡◌, ◌≢◌, ℕ, ◌+◌, ◌<◌, true, if◌then◌else◌, ◌==◌, length, Option, Some, None, unwrap_or}
+use Rattle.std.specs.Prelude.{◌≡◌, ◌≢◌, ℕ, ◌+◌, ◌<◌, true, length, Option}
+use Rattle.std.specs.Option.{option_map}
 use Rattle.arena.specs.declared.word.NodeWord.TheVariants.{Head, Key}
 use Rattle.arena.specs.Heads.{head_of}
 use Rattle.arena.specs.Words.{node}
@@ -45,6 +46,6 @@ HasFoundLeaf c h k f = HasEnded c h k k f
 abbrev pub HasFoundGoal : Goal → Call → History → Found → Type 0
 HasFoundGoal goal c h f = HasEnded c h (path_key goal) (asked_key goal f.key) f
 
--- the first pair, as the first leaf tells it: none where that is above all keys
+-- the first pair, as the first leaf tells it: none where that has no value
 abbrev pub first_told : Found → Option Pair
-first_told f = if f.head.class == 0 then Some (pair f.key (unwrap_or f.value 0)) else None
+first_told f = option_map (pair f.key) f.value

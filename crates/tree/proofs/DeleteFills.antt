@@ -104,7 +104,7 @@ module _ (m : UpdateRun Delete UpdateAt) (c : Call) (h : History) (f : Found) (n
       subst (WasInTree h) (held ∙ sym same) (field_stood side filled (ap (λ v. eqb (v / 4 % 2) 1) (sym head_is) ∙ fork))
 
   -- a fill of its node is in order
-  fill_in_order : AreFilledInOrder h → IsFillInOrder h (row_of c (piece_fill_step delete_means m f nth part) h)
+  pub fill_in_order : AreFilledInOrder h → IsFillInOrder h (row_of c (piece_fill_step delete_means m f nth part) h)
   fill_in_order filled = record { head = λ k kind e. inr (head_ordered k e); field = λ k side kind e. inl (field_ordered k side filled e) }
 
 -- whatever step a delete waits for, where nodes were filled in order before

@@ -69,7 +69,7 @@ turn_found c h m now turn f got ready same e t = gives (subst (λ goal. HasFound
     run = walk_ready_run m.walk c h got ready.0
 
     gives : HasFoundLeaf c h m.key f → GetAnswers (record { key = m.key; walk = now }) c h f.value
-    gives a = record { first = a.trail.node.first; own = a.trail.node.own; right = found_gives c h m.key f run.0 (rw ready.1 at run.1) a; none = none_quiet c.layout c.pass h c.start run.0.1.lawful ready.2.quiet; tried = tried_one c.layout c.pass h c.start (tried_once got _ _ ready.3) }
+    gives a = (record { first = a.trail.node.first; own = a.trail.node.own; right = found_gives c h m.key f run.0 (rw ready.1 at run.1) a; none = none_quiet c.layout c.pass h c.start run.0.1.lawful ready.2.quiet }, tried_one c.layout c.pass h c.start (tried_once got _ _ ready.3))
 
 -- a get that has not begun may be called where its pass is at rest
 pub get_ready_first : (m : GetRun) (c : Call) → IsTreeRun c.layout c.start → m.key < 2 ^ 64 → AreFinished c.layout c.pass 0 c.start → m.walk.at ≡ Start → m.walk.trail.node.0 ≡ 0 → m.walk.goal ≡ ToKey m.key → GetIsReady m c c.start None
@@ -85,4 +85,6 @@ get_fills_not m c h s w = walk_fills_not m.walk c h s w.0
 
 -- what a get answers stood at a moment of its call
 pub get_says : (m : GetRun) (c : Call) (h : History) (a : Option ℕ) → GetAnswers m c h a → IsAnswerAt c.layout h c.start m.key a
-get_says m c h a x = record { moment = x.right.moment; within = x.right.within; since = ends_trans x.right.moment x.first c.start x.right.since (own_since c x.first x.own); map = x.right.map; spelled = x.right.spelled; gives = x.right.gives }
+get_says m c h a x =
+    let read = x.0 in
+    record { moment = read.right.moment; within = read.right.within; since = ends_trans read.right.moment read.first c.start read.right.since (own_since c read.first read.own); map = read.right.map; spelled = read.right.spelled; gives = read.right.gives }

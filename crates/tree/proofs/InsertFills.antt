@@ -81,7 +81,7 @@ module _ (m : UpdateRun Insert UpdateAt) (c : Call) (h : History) (f : Found) wh
       subst (λ n. is_leaf (value h) n ≡ true) (sym w) (before_third part y.0 x y.1)
 
   -- a fill of its nodes is in order
-  fill_in_order : (nth : Nth) (part : NodeWord) → FillsPiece insert_means m c h f nth part → IsFillInOrder h (row_of c (piece_fill_step insert_means m f nth part) h)
+  pub fill_in_order : (nth : Nth) (part : NodeWord) → FillsPiece insert_means m c h f nth part → IsFillInOrder h (row_of c (piece_fill_step insert_means m f nth part) h)
   fill_in_order nth part x = record { head = λ k kind e. head_ordered nth part k x e; field = λ k side kind e. inr (field_ordered nth part k side x e) }
 
 -- whatever step an insert waits for

@@ -1,7 +1,8 @@
--- What the layers above know of gets beside their clauses, passed on from one place: no other
--- module
--- of these proofs can be named outside. Declares nothing.
+-- What the layers above know of the machines of the tree beside their clauses, passed on from one
+-- place: no other module of these proofs can be named outside. Declares nothing.
 pub use Rattle.tree.proofs.GetTurns.{get_ready_first, get_loads, get_fills_not, get_says, once_past}
 pub use Rattle.tree.proofs.Fills.{get_in_order}
 pub use Rattle.tree.proofs.InsertFills.{insert_in_order}
 pub use Rattle.tree.proofs.DeleteFills.{delete_in_order}
+pub use Rattle.tree.proofs.Pops.{pop_says, pop_in_order}
+pub use Rattle.tree.proofs.Replaces.{replace_says, replace_in_order}

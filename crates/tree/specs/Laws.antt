@@ -1,3 +1,5 @@
 pub mod Looks
 pub mod Insert
 pub mod Delete
+pub mod PopFirst
+pub mod ReplaceIf

@@ -1,4 +1,6 @@
 pub mod Get
 pub mod Insert
 pub mod Delete
+pub mod PopFirst
+pub mod ReplaceIf
 pub mod Laws

@@ -41,10 +41,13 @@ abbrev pub GetWaits : GetRun → Call → History → Step → Type 0
 GetWaits m c h step = WalkWaits m.walk c h step × (m.walk.goal ≡ ToKey m.key) × GetRests c h × HasTriedOnceAt m.walk.at (tries_begun c.pass h) (tries_begun c.pass c.start)
 
 -- at a moment of the call, from its first own row on, the map gave this value of the key; and the
--- pass has entered nothing since the call began, and has begun one try at most
-pub record GetAnswers (m : GetRun) (c : Call) (h : History) (answer : Option ℕ) : Type 0 where
+-- pass has entered nothing since the call began
+pub record HasReadKey (c : Call) (h : History) (key : ℕ) (told : Option ℕ) : Type 0 where
   pub first : History
   pub own : IsOwnMoment c first
-  pub right : IsAnswerAt c.layout h first m.key answer
+  pub right : IsAnswerAt c.layout h first key told
   pub none : HasEnteredNone c.layout c.pass h c.start
-  pub tried : HasTriedAtMost c.layout c.pass h c.start 1
+
+-- what a get answers it has read, and it has begun one try at most
+abbrev pub GetAnswers : GetRun → Call → History → Option ℕ → Type 0
+GetAnswers m c h answer = HasReadKey c h m.key answer × HasTriedAtMost c.layout c.pass h c.start 1

@@ -1,3 +1,2 @@
 pub mod Shown
 pub mod Sound
-pub mod First

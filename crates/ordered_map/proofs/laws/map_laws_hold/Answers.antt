@@ -1,4 +1,4 @@
-use Rattle.ordered_map.proofs.Maps.{inserted, insert_keeps, deleted, delete_keeps, edited_rises, same_values, successor_is, between_gives, between_rises}
+use Rattle.ordered_map.proofs.Maps.{inserted, insert_keeps, deleted, delete_keeps, edited_rises, same_values, first_is, popped, replaced, successor_is, between_gives, between_rises}
 use Rattle.ordered_map.proofs.laws.map_laws_hold.Goals as goal
 
 pub returns-clause-inserted : goal.returns-clause-inserted
@@ -18,6 +18,15 @@ returns-clause-rising c = edited_rises
 
 pub returns-clause-same : goal.returns-clause-same
 returns-clause-same c = same_values
+
+pub returns-clause-first : goal.returns-clause-first
+returns-clause-first c = first_is
+
+pub returns-clause-popped : goal.returns-clause-popped
+returns-clause-popped c = popped
+
+pub returns-clause-replaced : goal.returns-clause-replaced
+returns-clause-replaced c = replaced
 
 pub returns-clause-successor : goal.returns-clause-successor
 returns-clause-successor c = successor_is

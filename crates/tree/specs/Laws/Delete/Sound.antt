@@ -47,7 +47,6 @@ use Rattle.tree.specs.Laws.Insert.Sound.{head_is}
 use Rattle.tree.specs.Laws.Looks.{same_node, goes_on, not_enough, is_other}
 use Rattle.edits.specs.declared.edit.Loaded.{Loaded}
 use Rattle.edits.specs.declared.edit.Look.TheVariants.{At, Differs, Enough}
-use Rattle.edits.specs.declared.edit.Need.{Need}
 use Rattle.edits.specs.declared.edit.Need.TheVariants.{Nothing}
 use Rattle.edits.specs.declared.edit.Nodes.{Nodes}
 use Rattle.edits.specs.declared.edit.Nth.{Nth}
@@ -328,9 +327,6 @@ module _ (ed : Delete) (c : Call) (h : History) (f : Found) (snaps : List Snap) 
   four_apart i j p q d e = ⊎_elim (λ less. differ i j less (rw four.four at q) e) (λ less. differ j i less (rw four.four at p) (sym e)) (either i j d)
 
 -- What it fills
-
-some_need : (need : Need) (nth : Nth) → IsNeeded need nth → need ≢ Nothing
-some_need need nth x e = subst (λ q. IsNeeded q nth) e x
 
 -- the fields of a copied fork are those of the snapshot
 pub copy_fields : (leaf : Bool) (level class k v : ℕ) (s : Snap) (side : Side) → IsPieceWord (if leaf then Leaf level class k v else Fork level class k s.left s.right) (Child side) → (child_of s side).0 ≡ word_of (if leaf then Leaf level class k v else Fork level class k s.left s.right) (Child side)

@@ -1,0 +1,3 @@
+pub mod Means
+pub mod Laws
+pub mod Known
