@@ -148,9 +148,9 @@ module _ (c : Call) (h : History) (run : IsTreeRun c.layout h) (alone : IsUndist
     before_spells : Spells c.layout (value x.before) map
     before_spells = spells_still c.layout h x.before c.start map run before_in x.since (log_still c.layout x.before c.start (lawful_tail c.layout x.before x.row here) x.since before_it) spells
 
-    pub alone_made : (get (edit_key edit) map ≡ old) × Spells c.layout (value h) (edited edit map)
+    pub alone_made : Spells c.layout (value x.before) map × Spells c.layout (value h) (edited edit map)
     alone_made = (
-      x.told map before_spells,
+      before_spells,
       spells_still c.layout h h after (edited edit map) run (ends_self h) x.within (log_still c.layout h after run.1.lawful x.within behind_it) (x.edits.changes map before_spells),
     )
 

@@ -3,7 +3,7 @@ ghost use Rattle.std.specs.Prelude.{◌≡◌, ℕ, ◌^◌, ◌<◌, List, Opti
 ghost use Rattle.arena.specs.History.{History, value, Extends};
 ghost use Rattle.arena.specs.Machines.{Call};
 ghost use Rattle.ordered_map.specs.declared.pair.Pair.{Pair};
-ghost use Rattle.ordered_map.specs.OrderedMap.{MapEdit, edit_key, edited, get};
+ghost use Rattle.ordered_map.specs.OrderedMap.{MapEdit, edited, get};
 ghost use Rattle.ordered_map.specs.Paths.{IsAnswerAt};
 ghost use Rattle.ordered_map.specs.Runs.{IsTreeRun};
 ghost use Rattle.ordered_map.specs.Spelled.{Spells};
@@ -16,12 +16,12 @@ ghost use Rattle.edits.specs.Tries.{HasEnteredNone};
 
 /// What an update's answers say of a call by itself: nothing was in progress as it began, and no
 /// other pass makes a row while it runs. It is never contended. What it has made it has made of the
-/// map that was there as it began: it tells what that map had at the key, and leaves the map that
-/// its edit leaves. Where it has made nothing, the leaf that it has found tells what the map has, and
+/// map that was there as it began, which was there just before it, and leaves the map that its edit
+/// leaves. Where it has made nothing, the leaf that it has found tells what the map has, and
 /// the map stays; what a reading tells of the map at a moment of its call it tells of that map. With
 /// one pass no call is ever contended. It does nothing; a caller learns the laws from its contract.
 pub fn alone_holds()
-    ensures made { (c : Call) (h : History) (edit : MapEdit) (number : ℕ) (old : Option ℕ) (map : List Pair) → IsTreeRun c.layout h → IsUndisturbed c h → HasMade edit c h number old → Spells c.layout (value c.start) map → (get (edit_key edit) map ≡ old) × Spells c.layout (value h) (edited edit map) }
+    ensures made { (c : Call) (h : History) (edit : MapEdit) (number : ℕ) (old : Option ℕ) (map : List Pair) → IsTreeRun c.layout h → IsUndisturbed c h → (made : HasMade edit c h number old) → Spells c.layout (value c.start) map → Spells c.layout (value made.before) map × Spells c.layout (value h) (edited edit map) }
     ensures found { (c : Call) (h : History) (k : ℕ) (f : Found) (map : List Pair) → k < 2 ^ 64 → IsTreeRun c.layout h → IsUndisturbed c h → HasFoundLeaf c h k f → HasEnteredNone c.layout c.pass h c.start → Spells c.layout (value c.start) map → f.value ≡ get k map }
     ensures read { (c : Call) (h : History) (k : ℕ) (told : Option ℕ) (map : List Pair) → IsTreeRun c.layout h → IsUndisturbed c h → IsAnswerAt c.layout h c.start k told → HasEnteredNone c.layout c.pass h c.start → Spells c.layout (value c.start) map → told ≡ get k map }
     ensures kept { (c : Call) (h : History) (map : List Pair) → IsTreeRun c.layout h → IsUndisturbed c h → HasEnteredNone c.layout c.pass h c.start → Spells c.layout (value c.start) map → Spells c.layout (value h) map }
