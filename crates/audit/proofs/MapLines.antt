@@ -13,10 +13,10 @@ use Rattle.arena.specs.Machines.{IsRun}
 use Rattle.arena.specs.Shape.{Shaped, IsBegin}
 use Rattle.ordered_map.specs.FillOrder.{HasRisingLevels}
 use Rattle.ordered_map.specs.TreeShape.{TreeAllows}
-use Rattle.ordered_map.specs.OrderedMap.{MapCall, Edit, Get, Successor, Range, Insert, Delete}
+use Rattle.ordered_map.specs.OrderedMap.{MapCall, Edit, edit_key, value_left}
+use Rattle.ordered_map.specs.Requests.{map_request}
 use Rattle.script.specs.declared.call.Call.{Call}
 use Rattle.script.specs.declared.command.Command.{Command}
-use Rattle.ordered_map.specs.declared.request.Request.TheVariants.{Insert as InsertOf, Delete as DeleteOf, Get as GetOf, Successor as SuccessorOf, Range as RangeOf}
 use Rattle.script.specs.declared.command.Command.TheVariants.{Llx as LlxOf, Scx as ScxOf, Vlx as VlxOf, Set as SetOf, Map}
 use Rattle.script.specs.Commands.{mode_of}
 use Rattle.record.specs.declared.record.Line.{Line}
@@ -25,6 +25,7 @@ use Rattle.record.specs.declared.record.Row.TheVariants.{Step as Made, Idle}
 use Rattle.record.specs.declared.record.Entry.{Entry}
 use Rattle.record.specs.declared.record.Finished.{Finished}
 use Rattle.record.specs.CommandRules.{IsEntryFor}
+use Rattle.record.specs.Rules.Map.{IsMapEntry}
 use Rattle.record.specs.Commands.{commands, next_command}
 use Rattle.record.specs.Entries.{IsLog}
 use Rattle.record.specs.LawfulRun.{AreLines, IsWhole}
@@ -66,11 +67,7 @@ pub map_calls : (mode : Mode) (calls : List Call) → mode ≡ Tree → AreOf mo
 map_calls mode calls e all c j command is = go command (of_commands (λ k. mode_of k ≡ mode) calls c j command all is ∙ e)
   where
     go : (command : Command) → mode_of command ≡ Tree → (call : MapCall) × (map_call (Some command) ≡ Some call)
-    go (Map (GetOf key)) e = (Get key, refl)
-    go (Map (SuccessorOf key)) e = (Successor key, refl)
-    go (Map (RangeOf low high most)) e = (Range low high most, refl)
-    go (Map (InsertOf key value)) e = (Edit (Insert key value), refl)
-    go (Map (DeleteOf key)) e = (Edit (Delete key), refl)
+    go (Map request) e = (map_request request, refl)
     go (LlxOf cell) e = cc
     go (ScxOf update) e = cc
     go (VlxOf cells) e = cc
@@ -95,12 +92,12 @@ next_of_mode mode calls lines c command all is = of_commands (λ k. mode_of k �
 -- Entries
 
 -- an entry of a call of the tree changes the map
+change_of : (lay : Layout) (before : History) (e : Entered) (turn : ℕ) (call : MapCall) → IsMapEntry call lay before e → (change : Change) × (change.turn ≡ turn) × IsChangeBy (Some call) change
+change_of lay before e turn (Edit edit) x = (record { turn = turn; key = edit_key edit; value = value_left edit }, refl, (refl, refl))
+change_of lay before e turn call x = absurd x
+
 change_for : (lay : Layout) (c : ℕ) (before start : History) (linked : ℕ → Option History) (e : Entered) (turn : ℕ) (command : Command) → mode_of command ≡ Tree → IsEntryFor lay c before start linked e command → (change : Change) × (change.turn ≡ turn) × IsChangeBy (map_call (Some command)) change
-change_for lay c before start linked e turn (Map (InsertOf key value)) mode x = (record { turn = turn; key = key; value = Some value }, refl, (refl, refl))
-change_for lay c before start linked e turn (Map (DeleteOf key)) mode x = (record { turn = turn; key = key; value = None }, refl, (refl, refl))
-change_for lay c before start linked e turn (Map (GetOf key)) mode x = absurd x
-change_for lay c before start linked e turn (Map (SuccessorOf key)) mode x = absurd x
-change_for lay c before start linked e turn (Map (RangeOf low high most)) mode x = absurd x
+change_for lay c before start linked e turn (Map request) mode x = change_of lay before e turn (map_request request) x
 change_for lay c before start linked e turn (LlxOf cell) mode x = absurd x
 change_for lay c before start linked e turn (VlxOf cells) mode x = absurd x
 change_for lay c before start linked e turn (ScxOf update) mode x = absurd (let z : Records ≡ Tree = mode in cc)
@@ -165,7 +162,7 @@ module _ (lay : Layout) (tries : ℕ) (calls : List Call) (of_mode : AreOf lay.m
       allows : lay.mode ≡ Tree → (s : ℕ) → IsBegin now row s → TreeAllows lay now s
       allows mode s b =
           let y = may mode (here (λ k. IsBegin k row row.after) (subst (λ (n : ℕ). IsBegin now row n) (sym b.stored) b)) in
-          subst (λ (n : ℕ). TreeAllows lay now n) b.stored (there (λ k. TreeAllows lay k row.after) (edit_allowed lay h row.after y.0 y.2))
+          subst (λ (n : ℕ). TreeAllows lay now n) b.stored (there (λ k. TreeAllows lay k row.after) (edit_allowed lay h row.after (map_call (Some y.0)) y.2))
 
       edits : lay.mode ≡ Tree → AreRememberedEdits lay (row ⊳ now) more
       edits mode = go edit refl begins next some

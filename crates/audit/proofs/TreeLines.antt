@@ -12,10 +12,10 @@ use Rattle.arena.specs.Shape.{Shaped, IsBegin}
 use Rattle.arena.proofs.Lemmas.{ends_self}
 use Rattle.script.specs.declared.call.Call.{Call}
 use Rattle.script.specs.declared.command.Command.{Command}
-use Rattle.ordered_map.specs.declared.request.Request.TheVariants.{Insert as InsertOf, Delete as DeleteOf, Get, Successor, Range}
-use Rattle.script.specs.declared.command.Command.TheVariants.{Llx, Scx, Vlx, Set, Map}
+use Rattle.script.specs.declared.command.Command.TheVariants.{Map}
 use Rattle.ordered_map.specs.FillOrder.{HasRisingLevels}
-use Rattle.ordered_map.specs.OrderedMap.{Insert, Delete}
+use Rattle.ordered_map.specs.OrderedMap.{MapCall, Edit}
+use Rattle.ordered_map.specs.Requests.{map_request}
 use Rattle.ordered_map.specs.Runs.{IsTreeRun}
 use Rattle.ordered_map.specs.TreeShape.{TreeAllows}
 use Rattle.ordered_map.proofs.Lemmas.{makes_since}
@@ -25,6 +25,8 @@ use Rattle.record.specs.declared.record.Row.TheVariants.{Step as Made, Idle}
 use Rattle.record.specs.declared.record.Entry.{Entry}
 use Rattle.record.specs.declared.record.Finished.{Finished}
 use Rattle.record.specs.CommandRules.{IsEntryFor}
+use Rattle.record.specs.MapRecord.{map_call}
+use Rattle.record.specs.Rules.Map.{IsMapEntry}
 use Rattle.record.specs.LawfulRun.{AreLines}
 use Rattle.record.specs.SpelledMap.{AreSpelled}
 use Rattle.record.specs.Turns.{history}
@@ -32,62 +34,38 @@ use Rattle.record.proofs.Lemmas.{AreMapCalls}
 use Rattle.moments.specs.declared.places.Change.{Change}
 use Rattle.moments.specs.Entries.{IsChangeOf}
 use Rattle.moments.proofs.Lemmas.{spelled}
-use Rattle.audit.specs.Edits.{MayMakeFor, HasBegunFor, AreRememberedEdits}
+use Rattle.audit.specs.Edits.{MayMakeFor, MayMakeOf, HasBegunFor, HasBegunOf, AreRememberedEdits}
 use Rattle.audit.specs.Trees.{IsTreeSoFar}
 
 -- Edits
 
 -- an SCX-record that begins with an edit has begun with it
-pub begun_now : (lay : Layout) (h : History) (r : StepRow) (s : ℕ) (command : Command) → IsBegin h r s → MayMakeFor lay h s command → HasBegunFor lay (r ⊳ h) s command
-begun_now lay h r s (Map (InsertOf k v)) b x = record { row = r; before = h; within = ends_self (r ⊳ h); begins = b; edit = x }
-begun_now lay h r s (Map (DeleteOf k)) b x = record { row = r; before = h; within = ends_self (r ⊳ h); begins = b; edit = x }
-begun_now lay h r s (Llx cell) b x = absurd x
-begun_now lay h r s (Scx update) b x = absurd x
-begun_now lay h r s (Vlx cells) b x = absurd x
-begun_now lay h r s (Set field v) b x = absurd x
-begun_now lay h r s (Map (Get k)) b x = absurd x
-begun_now lay h r s (Map (Successor k)) b x = absurd x
-begun_now lay h r s (Map (Range low high most)) b x = absurd x
+begun_now : (lay : Layout) (h : History) (r : StepRow) (s : ℕ) (call : Option MapCall) → IsBegin h r s → MayMakeOf call lay h s → HasBegunOf call lay (r ⊳ h) s
+begun_now lay h r s (Some (Edit edit)) b x = record { row = r; before = h; within = ends_self (r ⊳ h); begins = b; edit = x }
+begun_now lay h r s call b x = absurd x
 
 -- it has with one row more
-begun_since : (lay : Layout) (h : History) (r : StepRow) (s : ℕ) (command : Command) → HasBegunFor lay h s command → HasBegunFor lay (r ⊳ h) s command
-begun_since lay h r s (Map (InsertOf k v)) x = makes_since lay (r ⊳ h) h s (Insert k v) (inr (ends_self h)) x
-begun_since lay h r s (Map (DeleteOf k)) x = makes_since lay (r ⊳ h) h s (Delete k) (inr (ends_self h)) x
-begun_since lay h r s (Llx cell) x = absurd x
-begun_since lay h r s (Scx update) x = absurd x
-begun_since lay h r s (Vlx cells) x = absurd x
-begun_since lay h r s (Set field v) x = absurd x
-begun_since lay h r s (Map (Get k)) x = absurd x
-begun_since lay h r s (Map (Successor k)) x = absurd x
-begun_since lay h r s (Map (Range low high most)) x = absurd x
+begun_since : (lay : Layout) (h : History) (r : StepRow) (s : ℕ) (call : Option MapCall) → HasBegunOf call lay h s → HasBegunOf call lay (r ⊳ h) s
+begun_since lay h r s (Some (Edit edit)) x = makes_since lay (r ⊳ h) h s edit (inr (ends_self h)) x
+begun_since lay h r s call x = absurd x
 
 -- the shape of the tree allows it
-pub edit_allowed : (lay : Layout) (h : History) (s : ℕ) (command : Command) → MayMakeFor lay h s command → TreeAllows lay h s
-edit_allowed lay h s (Map (InsertOf k v)) x = (Insert k v, x)
-edit_allowed lay h s (Map (DeleteOf k)) x = (Delete k, x)
-edit_allowed lay h s (Llx cell) x = absurd x
-edit_allowed lay h s (Scx update) x = absurd x
-edit_allowed lay h s (Vlx cells) x = absurd x
-edit_allowed lay h s (Set field v) x = absurd x
-edit_allowed lay h s (Map (Get k)) x = absurd x
-edit_allowed lay h s (Map (Successor k)) x = absurd x
-edit_allowed lay h s (Map (Range low high most)) x = absurd x
+pub edit_allowed : (lay : Layout) (h : History) (s : ℕ) (call : Option MapCall) → MayMakeOf call lay h s → TreeAllows lay h s
+edit_allowed lay h s (Some (Edit edit)) x = (edit, x)
+edit_allowed lay h s call x = absurd x
 
 -- an entry of it is one that a call with this command makes
+entry_makes : (lay : Layout) (h : History) (e : Entered) (call : MapCall) → HasBegunOf (Some call) lay h e.scx → IsMapEntry call lay h e
+entry_makes lay h e (Edit edit) x = x
+entry_makes lay h e call x = absurd x
+
 pub edit_entry : (lay : Layout) (c : ℕ) (h start : History) (linked : ℕ → Option History) (e : Entered) (command : Command) → HasBegunFor lay h e.scx command → IsEntryFor lay c h start linked e command
-edit_entry lay c h start linked e (Map (InsertOf k v)) x = x
-edit_entry lay c h start linked e (Map (DeleteOf k)) x = x
-edit_entry lay c h start linked e (Llx cell) x = absurd x
-edit_entry lay c h start linked e (Scx update) x = absurd x
-edit_entry lay c h start linked e (Vlx cells) x = absurd x
-edit_entry lay c h start linked e (Set field v) x = absurd x
-edit_entry lay c h start linked e (Map (Get k)) x = absurd x
-edit_entry lay c h start linked e (Map (Successor k)) x = absurd x
-edit_entry lay c h start linked e (Map (Range low high most)) x = absurd x
+edit_entry lay c h start linked e (Map request) x = entry_makes lay h e (map_request request) x
+edit_entry lay c h start linked e command x = absurd x
 
 -- what is remembered stays true with one row more
 pub edits_kept : (lay : Layout) (h : History) (r : StepRow) (begun : List (Option Command)) → AreRememberedEdits lay h begun → AreRememberedEdits lay (r ⊳ h) begun
-edits_kept lay h r begun x s command is = begun_since lay h r s command (x s command is)
+edits_kept lay h r begun x s command is = begun_since lay h r s (map_call (Some command)) (x s command is)
 
 got_set : {X : Type 0} (xs : List X) (i j : ℕ) (new y : X) → slice_get (set xs i new) j ≡ Some y → ((j ≡ i) × (Some new ≡ Some y)) ⊎ (slice_get xs j ≡ Some y)
 got_set [] i j new y e = inr e
@@ -99,8 +77,8 @@ got_set (x ∷ xs) (suc i) (suc j) new y e = ⊎_elim (λ q. inl (ap suc q.0, q.
 -- and with the edit of one that has just begun
 pub edits_set : (lay : Layout) (h : History) (r : StepRow) (begun : List (Option Command)) (s : ℕ) (command : Command) → AreRememberedEdits lay h begun → IsBegin h r s → MayMakeFor lay h s command → AreRememberedEdits lay (r ⊳ h) (set begun s (Some command))
 edits_set lay h r begun s command x b may t other is = ⊎_elim
-    (λ q. let same : command ≡ other = some_command command other (some_some (Some command) (Some other) q.1) in subst (λ (k : Command). HasBegunFor lay (r ⊳ h) t k) same (subst (λ (n : ℕ). HasBegunFor lay (r ⊳ h) n command) (sym q.0) (begun_now lay h r s command b may)))
-    (λ q. begun_since lay h r t other (x t other q))
+    (λ q. let same : command ≡ other = some_command command other (some_some (Some command) (Some other) q.1) in subst (λ (k : Command). HasBegunFor lay (r ⊳ h) t k) same (subst (λ (n : ℕ). HasBegunFor lay (r ⊳ h) n command) (sym q.0) (begun_now lay h r s (map_call (Some command)) b may)))
+    (λ q. begun_since lay h r t (map_call (Some other)) (x t other q))
     (got_set begun s t (Some command) (Some other) is)
   where
     some_command : (a b : Command) → Some a ≡ Some b → a ≡ b

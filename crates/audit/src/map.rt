@@ -22,7 +22,7 @@ ghost use Rattle.audit.specs.declared.client.Client.{Client as ClientOf};
 use crate::client::Client;
 use crate::steps::Steps;
 use arena::Resource;
-use moments::{Places, pairs_told};
+use moments::{Places, edited, pairs_told};
 use ordered_map::{Reply, Request};
 use record::{Answer, Finished};
 use script::Command;
@@ -89,10 +89,9 @@ fn had_before(
         return false;
     };
     let before = turn.saturating_sub(1);
-    match request {
-        Request::Insert { key, value: _ } => has_at(places, *key, *value, before),
-        Request::Delete { key } => has_at(places, *key, *value, before),
-        _ => false,
+    match edited(Command::Map(*request)) {
+        Some((key, _)) => has_at(places, key, *value, before),
+        None => false,
     }
 }
 

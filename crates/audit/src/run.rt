@@ -18,8 +18,7 @@ use crate::levels::do_levels_rise;
 use crate::steps::Steps;
 use crate::{cells, map};
 use arena::{Kind, Mode, NoMemory, NodeWord, PassNo, ScxNo, ScxWord, Word};
-use moments::{Change, Places};
-use ordered_map::Request;
+use moments::{Change, Places, edited};
 use record::{Entry, Finished, Line, Record, Row};
 use script::{Call, Command, Script};
 use std::alloc::Global;
@@ -674,19 +673,12 @@ fn change(places: &mut Places, turn: u64, command: Command) -> Result<(), Refuse
     ensures keys { (key : ℕ) → Knows places.old key → Knows places.new key }
     ensures change { OnOk result ((c : ChangeOf) → c.turn ≡ turn → IsChangeBy (map_call (Some command)) c → changes places.new ≡ c ∷ changes places.old) }
 {
-    let Command::Map(request) = command else {
-        return Ok(());
-    };
-    match request {
-        Request::Insert { key, value } => {
-            push(places, turn, (key, Some(value)))?;
+    match edited(command) {
+        Some(to) => {
+            push(places, turn, to)?;
             Ok(())
         }
-        Request::Delete { key } => {
-            push(places, turn, (key, None))?;
-            Ok(())
-        }
-        _ => Ok(()),
+        None => Ok(()),
     }
 }
 

@@ -11,10 +11,10 @@ use Rattle.order.specs.declared.range.RangeAt.{RangeAt}
 use Rattle.order.specs.declared.range.RangeAt.TheVariants.{Start, Root, Head, Key, Value, Look, Validate}
 use Rattle.order.specs.declared.range.RangeRun.{RangeRun}
 use Rattle.tree.proofs.Lemmas.{get_loads}
-use Rattle.dict.specs.Calls.{AsksForPairs, call_in}
+use Rattle.dict.specs.Calls.{AsksForPairs, inner_call}
 use Rattle.dict.specs.Known.{WaitsInside}
-use Rattle.dict.specs.declared.run.MapRun.{MapRun}
-use Rattle.dict.specs.declared.run.MapRun.TheVariants as runs
+use Rattle.dict.specs.Inner.{InnerRun}
+use Rattle.dict.specs.Inner as runs
 
 -- a range that visits a node asks for some pairs
 visits_some : (m : RangeRun) (c : Call) (h : History) (n : ℕ) → Visits m c h n → AsksForSome m
@@ -34,9 +34,8 @@ range_asks : (m : RangeRun) (c : Call) (h : History) (s : Step) → RangeWaits m
 range_asks m c h s w = asks_at m (begun_at c w.0) h s m.at w.3
 
 -- a call that waits for a step asks for pairs, if it is a range
-pub asks_inside : (m : MapRun) (c : Call) (h : History) (s : Step) → WaitsInside m c h s → AsksForPairs (call_in m)
-asks_inside (runs.Insert m) c h s w = tt
-asks_inside (runs.Delete m) c h s w = tt
+pub asks_inside : (m : InnerRun) (c : Call) (h : History) (s : Step) → WaitsInside m c h s → AsksForPairs (inner_call m)
+asks_inside (runs.Update k m) c h s w = tt
 asks_inside (runs.Get m share) c h s w = tt
 asks_inside (runs.Successor m share) c h s w = tt
 asks_inside (runs.Range m share) c h s w = range_asks m c h s w.0
@@ -47,9 +46,8 @@ takes_some low high most x (inl e) = let some = x.0 in omega (arith, e, some)
 takes_some low high most x (inr i) = let rises = x.1 in omega (arith, i, rises)
 
 -- the step that a call waits for is of one of its kinds
-pub kind_inside : (m : MapRun) (c : Call) (h : History) (s : Step) → WaitsInside m c h s → (call_rules (call_in m)).MayMake s.kind
-kind_inside (runs.Insert m) c h s w = tt
-kind_inside (runs.Delete m) c h s w = tt
+pub kind_inside : (m : InnerRun) (c : Call) (h : History) (s : Step) → WaitsInside m c h s → (call_rules (inner_call m)).MayMake s.kind
+kind_inside (runs.Update k m) c h s w = tt
 kind_inside (runs.Get m share) c h s w = (get_loads m c h s w.0).0
 kind_inside (runs.Successor m share) c h s w = successor_fills_not m c h s w.0
 kind_inside (runs.Range m share) c h s w = (range_fills_not m c h s w.0, takes_some m.low m.high m.most (range_asks m c h s w.0))

@@ -6,10 +6,9 @@ use Rattle.arena.specs.History.{History, ◌⊳◌, value, Extends}
 use Rattle.arena.specs.Machines.{Call, IsRun}
 use Rattle.arena.specs.Share.{Remaining}
 use Rattle.arena.proofs.Lemmas.{ends_self, ends_trans}
-use Rattle.ordered_map.specs.OrderedMap.{edit_key, MapCall, Edit, Get, Successor, Range, Insert, Delete, MapReply, OneValue, ManyPairs, changes_map, get, pair_or_none, reply, successor, between}
+use Rattle.ordered_map.specs.OrderedMap.{edit_key, MapCall, MapEdit, Edit, Get, Successor, Range, MapReply, OneValue, ManyPairs, edit_of, get, pair_or_none, reply, successor, between}
 use Rattle.ordered_map.specs.Spelled.{Spells}
 use Rattle.ordered_map.specs.declared.pair.Pair.{Pair}
-use Rattle.ordered_map.proofs.Lemmas.{run_spells}
 use Rattle.edits.specs.Tries.{HasEnteredNone}
 use Rattle.dict.specs.Calls.{call_in, share_of}
 use Rattle.dict.specs.DictKnown.{DictRefuses, DictAnswers}
@@ -73,32 +72,33 @@ module _ (keys values : ℕ → Type 0) where
     map_typed : (moment : History) (m : List Pair) → Extends h moment → Spells c.layout (value moment) m → AreTyped keys values m
     map_typed moment m within x = typed_map keys values c.layout moment mode (typed_since keys values c.layout h moment run within) m x
 
-    changed_typed : (call : MapCall) (told : MapReply) → HasMadeEdit c h call told → IsTypedReply keys values told
-    changed_typed call told x =
+    changed_typed : (call : MapCall) (told : MapReply) (edit : MapEdit) → HasMadeEdit c h call told edit → IsTypedReply keys values told
+    changed_typed call told edit x =
         let within : Extends h x.made.before = ends_trans h (x.made.row ⊳ x.made.before) x.made.before x.made.within (inr (ends_self x.made.before)) in
-        let map : (m : List Pair) × Spells c.layout (value x.made.before) m = run_spells c.layout x.made.before (mode, typed_run keys values c.layout x.made.before (typed_since keys values c.layout h x.made.before run within)) in
-        let typed : IsTypedValue values (get (edit_key x.edit) map.0) = get_typed (edit_key x.edit) map.0 (map_typed x.made.before map.0 within map.1) in
-        let old : IsTypedValue values x.old = subst (IsTypedValue values) (x.made.told map.0 map.1) typed in
-        subst (IsTypedReply keys values) (sym x.tells) old
+        subst (IsTypedReply keys values) x.gives (reply_typed call x.map (map_typed x.made.before x.map within x.spelled))
 
     read_typed : (call : MapCall) (told : MapReply) → HasReadMap c h call told → IsTypedReply keys values told
     read_typed call told x = subst (IsTypedReply keys values) x.gives (reply_typed call x.map (map_typed x.moment x.map x.within x.spelled))
 
-    by_typed : (b : Bool) (call : MapCall) (told : MapReply) → HasToldBy b c h call told → IsTypedReply keys values told
-    by_typed true call told x = changed_typed call told x
-    by_typed false call told x = read_typed call told x
+    by_typed : (made : Option MapEdit) (call : MapCall) (told : MapReply) → HasToldBy made c h call told → IsTypedReply keys values told
+    by_typed (Some edit) call told x = changed_typed call told edit x
+    by_typed None call told x = read_typed call told x
 
     pub told_typed : (call : MapCall) (told : Option MapReply) → TellsOfMap c h call told → TellsTyped keys values told
     told_typed call None x = tt
-    told_typed call (Some told) x = by_typed (changes_map call told) call told x
+    told_typed call (Some told) x = by_typed (edit_of call told) call told x
 
 -- What the reply of keys and values says
 
 module _ (c : Call) (h : History) where
+  -- what is told a map replies
+  told_by : (made : Option MapEdit) (call : MapCall) (told : MapReply) → HasToldBy made c h call told → (map : List Pair) × (reply call map ≡ told)
+  told_by (Some edit) call told x = (x.map, x.gives)
+  told_by None call told x = (x.map, x.gives)
+
   -- a call that tells pairs keeps lists, and has entered nothing
   keeps : (call : MapCall) (ps : List Pair) → HasTold c h call (ManyPairs ps) → KeepsLists call × HasEnteredNone c.layout c.pass h c.start
-  keeps (Edit (Insert k v)) ps x = absurd (let e = x.tells in cc)
-  keeps (Edit (Delete k)) ps x = absurd (let e = x.gives in cc)
+  keeps (Edit edit) ps x = absurd (let e = (told_by (edit_of (Edit edit) (ManyPairs ps)) (Edit edit) (ManyPairs ps) x).1 in cc)
   keeps (Get k) ps x = absurd (let e = x.gives in cc)
   keeps (Successor k) ps x = (tt, x.none)
   keeps (Range low high most) ps x = (tt, x.none)

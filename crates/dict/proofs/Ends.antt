@@ -10,29 +10,26 @@ use Rattle.order.specs.declared.range.RangeRun.{RangeRun}
 use Rattle.order.specs.declared.refused.Refused.{Refused}
 use Rattle.order.specs.declared.refused.Refused.TheVariants as refused
 use Rattle.order.specs.declared.successor.SuccessorRun.{SuccessorRun}
-use Rattle.ordered_map.specs.OrderedMap.{MapEdit, Edit, Get as GetOf, Successor as SuccessorOf, Range as RangeOf, Insert as PutEdit, Delete as TakeEdit}
+use Rattle.ordered_map.specs.OrderedMap.{MapEdit, Edit, Get as GetOf, Successor as SuccessorOf, Range as RangeOf}
 use Rattle.ordered_map.specs.TreeShape.{TreeAllows}
 use Rattle.ordered_map.specs.declared.pair.Pair.{Pair}
 use Rattle.template.specs.Tries.{HasTriedAtMost, HasTriedAllBut}
-use Rattle.tree.specs.Delete.Means.{delete_means}
 use Rattle.tree.specs.Get.Known.{GetAnswers}
-use Rattle.tree.specs.Insert.Means.{insert_means}
-use Rattle.tree.specs.declared.delete.Delete.{Delete as Deleted}
 use Rattle.tree.specs.declared.get.GetRun.{GetRun}
-use Rattle.tree.specs.declared.insert.Insert.{Insert as Inserted}
 use Rattle.edits.specs.Known.{RestsWith, UpdateAnswers}
 use Rattle.edits.specs.Steps.{node_tries, scx_tries, Spends}
 use Rattle.edits.specs.declared.update.UpdateAt.{UpdateAt}
 use Rattle.edits.specs.declared.update.UpdateRun.{UpdateRun}
 use Rattle.edits.specs.declared.update.Updated.{Updated}
 use Rattle.edits.specs.declared.update.Updated.TheVariants as updated
-use Rattle.ordered_map.specs.CallRules.{MayReply}
+use Rattle.ordered_map.specs.CallRules.{MayReply, nodes_in_try}
 use Rattle.dict.specs.Forms.{word_form}
-use Rattle.dict.specs.Known.{HasRested, Goes, MapAnswers}
+use Rattle.dict.specs.Known.{HasRested, Goes, InnerAnswers}
 use Rattle.dict.specs.WordReplies.{word_reply, successor_reply, range_reply}
-use Rattle.dict.specs.declared.run.MapRun.TheVariants.{Insert, Delete, Get, Successor, Range}
+use Rattle.dict.specs.Inner.{EditKind, Update, Get, Successor, Range}
+use Rattle.dict.specs.Laws.Kinds.{IsEditKind}
 use Rattle.dict.specs.declared.told.WordReply.TheVariants as words
-use Rattle.dict.proofs.Endings.{insert_says, delete_says, get_says, successor_says, range_says, read_spent, edit_spends, insert_spent, delete_spent}
+use Rattle.dict.proofs.Endings.{edit_says, get_says, successor_says, range_says, read_spent, edit_spends, edit_spent}
 
 -- What they answer is of a form that such a call may reply
 
@@ -55,52 +52,33 @@ range_form low high most (Err refused.NoMemory) = tt
 
 module _ (tries : ℕ) (c : Call) where
   -- an edit that goes on is the same
-  pub insert_goes : (old now : UpdateRun Inserted UpdateAt) → Goes (Insert old) tries c → now.edit ≡ old.edit → now.call ≡ old.call → now.limit ≡ old.limit → Spends 3 old.share now.share (node_tries old old.at) (node_tries now now.at) (scx_tries old old.at) (scx_tries now now.at) → Goes (Insert now) tries c
-  insert_goes old now goes edit call limit spends = record {
+  pub edit_goes : (k : EditKind) (is : IsEditKind k) (old now : UpdateRun k.E UpdateAt) → Goes (Update k old) tries c → now.edit ≡ old.edit → now.call ≡ old.call → now.limit ≡ old.limit → Spends k.means.most_nodes old.share now.share (node_tries old old.at) (node_tries now now.at) (scx_tries old old.at) (scx_tries now now.at) → Goes (Update k now) tries c
+  edit_goes k is old now goes edit call limit spends = record {
     mode = goes.mode;
     small = rw edit goes.small;
     number = call ∙ goes.number;
     limit = limit ∙ goes.limit;
-    spent = edit_spends c 3 old.share now.share tries (node_tries old old.at) (node_tries now now.at) (scx_tries old old.at) (scx_tries now now.at) goes.spent spends;
-  }
-
-  pub delete_goes : (old now : UpdateRun Deleted UpdateAt) → Goes (Delete old) tries c → now.edit ≡ old.edit → now.call ≡ old.call → now.limit ≡ old.limit → Spends 1 old.share now.share (node_tries old old.at) (node_tries now now.at) (scx_tries old old.at) (scx_tries now now.at) → Goes (Delete now) tries c
-  delete_goes old now goes edit call limit spends = record {
-    mode = goes.mode;
-    small = rw edit goes.small;
-    number = call ∙ goes.number;
-    limit = limit ∙ goes.limit;
-    spent = edit_spends c 1 old.share now.share tries (node_tries old old.at) (node_tries now now.at) (scx_tries old old.at) (scx_tries now now.at) goes.spent spends;
+    spent = rw edit (edit_spends c (nodes_in_try (k.edit old.edit)) old.share now.share tries (node_tries old old.at) (node_tries now now.at) (scx_tries old old.at) (scx_tries now now.at) goes.spent (rw (is.most old.edit) at spends));
   }
 
 -- Their answers
 
 module _ (tries : ℕ) (c : Call) (h : History) where
-  pub insert_ends : (old now : UpdateRun Inserted UpdateAt) (a : Updated) → IsRun TreeAllows c.layout h → Goes (Insert old) tries c → now.edit ≡ old.edit → now.call ≡ old.call → now.limit ≡ old.limit → Spends 3 old.share now.share (node_tries old old.at) now.tries (scx_tries old old.at) now.tries → UpdateAnswers insert_means now c h a → MapAnswers tries (Insert now) c h (word_reply a)
-  insert_ends old now a run goes edit call limit spends x =
-      let small : now.edit.key < 2 ^ 64 = rw edit goes.small in
-      record {
-        rests = x.0;
-        spent = insert_spent c h now.edit.key now.edit.value tries now.tries now.share (edit_spends c 3 old.share now.share tries (node_tries old old.at) now.tries (scx_tries old old.at) now.tries goes.spent spends) (subst (λ n. HasTriedAllBut c h n now.tries) (limit ∙ goes.limit) x.2);
-        form = update_form (PutEdit now.edit.key now.edit.value) a;
-        says = insert_says tries c h now a (goes.mode, run) small (call ∙ goes.number) (limit ∙ goes.limit) x.1;
-      }
+  pub edit_ends : (k : EditKind) (is : IsEditKind k) (old now : UpdateRun k.E UpdateAt) (a : Updated) → IsRun TreeAllows c.layout h → Goes (Update k old) tries c → now.edit ≡ old.edit → now.call ≡ old.call → now.limit ≡ old.limit → Spends k.means.most_nodes old.share now.share (node_tries old old.at) now.tries (scx_tries old old.at) now.tries → UpdateAnswers k.means now c h a → InnerAnswers tries (Update k now) c h (word_reply a)
+  edit_ends k is old now a run goes edit call limit spends x = record {
+    rests = x.0;
+    spent = edit_spent c h (k.edit now.edit) tries now.tries now.share
+        (rw edit (edit_spends c (nodes_in_try (k.edit old.edit)) old.share now.share tries (node_tries old old.at) now.tries (scx_tries old old.at) now.tries goes.spent (rw (is.most old.edit) at spends)))
+        (subst (λ n. HasTriedAllBut c h n now.tries) (limit ∙ goes.limit) x.2);
+    form = update_form (k.edit now.edit) a;
+    says = edit_says tries c h k is now (goes.mode, run) (rw edit goes.small) a (call ∙ goes.number) (limit ∙ goes.limit) x.1;
+  }
 
-  pub delete_ends : (old now : UpdateRun Deleted UpdateAt) (a : Updated) → IsRun TreeAllows c.layout h → Goes (Delete old) tries c → now.edit ≡ old.edit → now.call ≡ old.call → now.limit ≡ old.limit → Spends 1 old.share now.share (node_tries old old.at) now.tries (scx_tries old old.at) now.tries → UpdateAnswers delete_means now c h a → MapAnswers tries (Delete now) c h (word_reply a)
-  delete_ends old now a run goes edit call limit spends x =
-      let small : now.edit.key < 2 ^ 64 = rw edit goes.small in
-      record {
-        rests = x.0;
-        spent = delete_spent c h now.edit.key tries now.tries now.share (edit_spends c 1 old.share now.share tries (node_tries old old.at) now.tries (scx_tries old old.at) now.tries goes.spent spends) (subst (λ n. HasTriedAllBut c h n now.tries) (limit ∙ goes.limit) x.2);
-        form = update_form (TakeEdit now.edit.key) a;
-        says = delete_says tries c h now a (goes.mode, run) small (call ∙ goes.number) (limit ∙ goes.limit) x.1;
-      }
-
-  pub get_ends : (now : GetRun) (share : Remaining) (a : Option ℕ) → HasRested c h share → RestsWith c c.start share → GetAnswers now c h a → MapAnswers tries (Get now share) c h (words.Value a)
+  pub get_ends : (now : GetRun) (share : Remaining) (a : Option ℕ) → HasRested c h share → RestsWith c c.start share → GetAnswers now c h a → InnerAnswers tries (Get now share) c h (words.Value a)
   get_ends now share a x spent y = record { rests = x.now; spent = read_spent c h (GetOf now.key) tries share spent y.1; form = tt; says = get_says tries c h now share a x y }
 
-  pub successor_ends : (now : SuccessorRun) (share : Remaining) (a : Result (Option Pair) Refused) → HasRested c h share → RestsWith c c.start share → now.limit ≡ tries → SuccessorAnswers now c h a → MapAnswers tries (Successor now share) c h (successor_reply a)
+  pub successor_ends : (now : SuccessorRun) (share : Remaining) (a : Result (Option Pair) Refused) → HasRested c h share → RestsWith c c.start share → now.limit ≡ tries → SuccessorAnswers now c h a → InnerAnswers tries (Successor now share) c h (successor_reply a)
   successor_ends now share a x spent limit y = record { rests = x.now; spent = read_spent c h (SuccessorOf now.key) tries share spent (subst (λ n. HasTriedAtMost c.layout c.pass h c.start n) limit y.2); form = successor_form now.key a; says = successor_says tries c h now share a x limit y }
 
-  pub range_ends : (now : RangeRun) (share : Remaining) (a : Result (Vec Pair Global) Refused) → HasRested c h share → RestsWith c c.start share → now.limit ≡ tries → RangeAnswers now c h a → MapAnswers tries (Range now share) c h (range_reply a)
+  pub range_ends : (now : RangeRun) (share : Remaining) (a : Result (Vec Pair Global) Refused) → HasRested c h share → RestsWith c c.start share → now.limit ≡ tries → RangeAnswers now c h a → InnerAnswers tries (Range now share) c h (range_reply a)
   range_ends now share a x spent limit y = record { rests = x.now; spent = read_spent c h (RangeOf now.low now.high now.most) tries share spent (subst (λ n. HasTriedAtMost c.layout c.pass h c.start n) limit y.2); form = range_form now.low now.high now.most a; says = range_says tries c h now share a x limit y }

@@ -1,14 +1,14 @@
 -- What a call by itself tells and leaves.
-use Rattle.std.proofs.Common.{◌≡◌, ◌∙◌, ◌<◌, ℕ, inl, inr, Bool, true, false, cond, eqb, List, [], ◌∷◌, Option, Some, None, refl, sym, ap, subst}
+use Rattle.std.proofs.Common.{◌≡◌, ◌∙◌, ◌<◌, ℕ, inl, inr, List, Option, Some, None, refl, sym, ap, subst}
 use Rattle.arena.specs.History.{History, ◌⊳◌, value, Extends}
 use Rattle.arena.specs.Machines.{Call}
 use Rattle.arena.specs.Undisturbed.{IsUndisturbed}
 use Rattle.arena.proofs.Lemmas.{ends_self, ends_trans}
 use Rattle.ordered_map.specs.declared.pair.Pair.{Pair}
-use Rattle.ordered_map.specs.OrderedMap.{MapCall, Edit, Get, Successor, Range, MapEdit, Insert, Delete, MapReply, OneValue, reply, after, changes_map, edited, edit_key, get, delete}
+use Rattle.ordered_map.specs.OrderedMap.{MapCall, MapEdit, MapReply, reply, after, edit_of, edited, after_edit}
 use Rattle.ordered_map.specs.Runs.{IsTreeRun}
 use Rattle.ordered_map.specs.Spelled.{Spells}
-use Rattle.ordered_map.proofs.Lemmas.{one_spelling, run_since}
+use Rattle.ordered_map.proofs.Lemmas.{after_is, one_spelling, run_since}
 use Rattle.template.specs.Blame.{IsContended}
 use Rattle.edits.specs.Known.{HasMade, RestsWith, IsUntouched}
 use Rattle.edits.specs.Tries.{HasEnteredNone}
@@ -17,18 +17,9 @@ use Rattle.arena.specs.Share.{Remaining}
 use Rattle.ordered_map.specs.CallRules.{need}
 use Rattle.dict.specs.Says.{HasToldBy, HasRunOut, HasTooLittle}
 
--- an absent key may be taken away, and nothing changes
-pub delete_absent : (k : ℕ) (m : List Pair) → get k m ≡ None → delete k m ≡ m
-delete_absent k [] e = refl
-delete_absent k (p ∷ ps) e = go (eqb k p.key) (delete_absent k ps) e
-  where
-    go : (same : Bool) → (get k ps ≡ None → delete k ps ≡ ps) → cond same (Some p.value) (get k ps) ≡ None → cond same ps (p ∷ delete k ps) ≡ p ∷ ps
-    go true rest x = let y : Some p.value ≡ None = x in cc
-    go false rest x = ap (λ qs. p ∷ qs) (rest x)
-
 -- what a made edit leaves, and what a call by itself that has entered nothing leaves
 abbrev pub Makes : Type 0
-Makes = (c : Call) (h : History) (edit : MapEdit) (number : ℕ) (old : Option ℕ) (map : List Pair) → IsTreeRun c.layout h → IsUndisturbed c h → HasMade edit c h number old → Spells c.layout (value c.start) map → (get (edit_key edit) map ≡ old) × Spells c.layout (value h) (edited edit map)
+Makes = (c : Call) (h : History) (edit : MapEdit) (number : ℕ) (old : Option ℕ) (map : List Pair) → IsTreeRun c.layout h → IsUndisturbed c h → (made : HasMade edit c h number old) → Spells c.layout (value c.start) map → Spells c.layout (value made.before) map × Spells c.layout (value h) (edited edit map)
 
 abbrev pub Keeps : Type 0
 Keeps = (c : Call) (h : History) (map : List Pair) → IsTreeRun c.layout h → IsUndisturbed c h → HasEnteredNone c.layout c.pass h c.start → Spells c.layout (value c.start) map → Spells c.layout (value h) map
@@ -48,26 +39,20 @@ module _ (makes : Makes) (keeps : Keeps) (c : Call) (h : History) (map : List Pa
       record { since = f; rest = alone.rest; own = λ row before w x. alone.own row before (ends_trans h moment (row ⊳ before) e w) x }
       (λ row before t w x y. none row before t (ends_trans h moment (row ⊳ before) e w) x y) s
 
-  -- a reading leaves the map as it was
-  after_reading : (call : MapCall) (told : MapReply) → changes_map call told ≡ false → told ≡ reply call map → after call map ≡ map
-  after_reading (Edit (Insert k v)) told e same = let x : true ≡ false = e in cc
-  after_reading (Edit (Delete k)) told e same = delete_absent k map (go (get k map) (subst (λ t. changes_map (Edit (Delete k)) t ≡ false) same e))
-    where
-      go : (v : Option ℕ) → changes_map (Edit (Delete k)) (OneValue v) ≡ false → v ≡ None
-      go None x = refl
-      go (Some w) x = let y : true ≡ false = x in cc
-  after_reading (Get k) told e same = refl
-  after_reading (Successor k) told e same = refl
-  after_reading (Range low high most) told e same = refl
+  -- what it leaves, where its reply says which edit it has made
+  left : (call : MapCall) (told : MapReply) (made : Option MapEdit) → edit_of call told ≡ made → told ≡ reply call map → after call map ≡ after_edit made map
+  left call told made e is = after_is call map made (subst (λ t. edit_of call t ≡ made) is e)
 
-  told_by : (b : Bool) (call : MapCall) (told : MapReply) → changes_map call told ≡ b → HasToldBy b c h call told → (told ≡ reply call map) × Spells c.layout (value h) (after call map)
-  told_by true call told e x =
-      let y = makes c h x.edit c.number x.old map run alone x.made s in
-      (x.tells ∙ ap OneValue (sym y.0) ∙ ap (λ k. reply k map) (sym x.is_edit), subst (λ k. Spells c.layout (value h) (after k map)) (sym x.is_edit) y.1)
-  told_by false call told e x =
+  told_by : (made : Option MapEdit) (call : MapCall) (told : MapReply) → edit_of call told ≡ made → HasToldBy made c h call told → (told ≡ reply call map) × Spells c.layout (value h) (after call map)
+  told_by (Some edit) call told e x =
+      let y = makes c h edit c.number x.old map run alone x.made s in
+      let same : x.map ≡ map = one_spelling c.layout (value x.made.before) x.map map x.spelled y.0 in
+      let is : told ≡ reply call map = sym x.gives ∙ ap (reply call) same in
+      (is, subst (Spells c.layout (value h)) (sym (left call told (Some edit) e is)) y.1)
+  told_by None call told e x =
       let same : x.map ≡ map = one_spelling c.layout (value x.moment) x.map map x.spelled (keeps_at x.moment x.within x.since x.none) in
       let is : told ≡ reply call map = sym x.gives ∙ ap (reply call) same in
-      (is, subst (Spells c.layout (value h)) (sym (after_reading call told e is)) (keeps_at h (ends_self h) alone.since x.none))
+      (is, subst (Spells c.layout (value h)) (sym (left call told None e is)) (keeps_at h (ends_self h) alone.since x.none))
 
   -- what is refused for want of its share had all of it as it began, and too little for that map
   pub full_alone : ((n t : ℕ) → ¬ IsContended c h n t) → (call : MapCall) (share : Remaining) (full : FullOf) → HasRunOut c h call share full → RestsWith c c.start share × (0 < need call map) × HasTooLittle (need call map) share full.what full.left
@@ -77,5 +62,5 @@ module _ (makes : Makes) (keeps : Keeps) (c : Call) (h : History) (map : List Pa
       let short : HasTooLittle (need call map) share full.what full.left = subst (λ m. HasTooLittle (need call m) share full.what full.left) same x.short in
       (untouched c h share never x.first, some, short)
 
-  pub told_alone : (call : MapCall) (told : MapReply) → HasToldBy (changes_map call told) c h call told → (told ≡ reply call map) × Spells c.layout (value h) (after call map)
-  told_alone call told x = told_by (changes_map call told) call told refl x
+  pub told_alone : (call : MapCall) (told : MapReply) → HasToldBy (edit_of call told) c h call told → (told ≡ reply call map) × Spells c.layout (value h) (after call map)
+  told_alone call told x = told_by (edit_of call told) call told refl x

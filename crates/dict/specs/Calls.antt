@@ -5,35 +5,44 @@ use Rattle.arena.specs.History.{History}
 use Rattle.arena.specs.Machines.{Call}
 use Rattle.arena.specs.Share.{Remaining}
 use Rattle.ordered_map.specs.CallRules.{most_nodes, most_scx}
-use Rattle.ordered_map.specs.OrderedMap.{MapCall, Edit, Get, Successor, Range, Insert, Delete, edit_key}
+use Rattle.ordered_map.specs.OrderedMap.{MapCall, Edit, Get, Successor, Range, edit_key}
 use Rattle.template.specs.Tries.{tries_since, HasTriedAtMost}
 use Rattle.edits.specs.Known.{RestsWith}
 use Rattle.dict.specs.declared.run.MapRun.{MapRun}
-use Rattle.dict.specs.declared.run.MapRun.TheVariants as runs
+use Rattle.dict.specs.Inner.{InnerRun, Update, Get as GetRun, Successor as SuccessorRun, Range as RangeRun, inner}
+
+-- what a call is of whose inner machine this is
+abbrev pub inner_call : InnerRun → MapCall
+inner_call (Update k m) = Edit (k.edit m.edit)
+inner_call (GetRun m share) = Get m.key
+inner_call (SuccessorRun m share) = Successor m.key
+inner_call (RangeRun m share) = Range m.low m.high m.most
 
 -- what it is a call of
 abbrev pub call_in : MapRun → MapCall
-call_in (runs.Insert m) = Edit (Insert m.edit.key m.edit.value)
-call_in (runs.Delete m) = Edit (Delete m.edit.key)
-call_in (runs.Get m share) = Get m.key
-call_in (runs.Successor m share) = Successor m.key
-call_in (runs.Range m share) = Range m.low m.high m.most
+call_in m = inner_call (inner m)
+
+-- what is left of the share of a call with this inner machine
+abbrev pub inner_share : InnerRun → Remaining
+inner_share (Update k m) = m.share
+inner_share (GetRun m share) = share
+inner_share (SuccessorRun m share) = share
+inner_share (RangeRun m share) = share
 
 -- what is left of its share
 abbrev pub share_of : MapRun → Remaining
-share_of (runs.Insert m) = m.share
-share_of (runs.Delete m) = m.share
-share_of (runs.Get m share) = share
-share_of (runs.Successor m share) = share
-share_of (runs.Range m share) = share
+share_of m = inner_share (inner m)
 
--- how many tries are left behind this one; a get has one alone
+-- how many tries are left behind this one to a call with this inner machine; a get has one alone
+abbrev pub inner_tries : InnerRun → ℕ
+inner_tries (Update k m) = m.tries
+inner_tries (GetRun m share) = 0
+inner_tries (SuccessorRun m share) = m.tries
+inner_tries (RangeRun m share) = m.tries
+
+-- so many to the machine
 abbrev pub tries_behind : MapRun → ℕ
-tries_behind (runs.Insert m) = m.tries
-tries_behind (runs.Delete m) = m.tries
-tries_behind (runs.Get m share) = 0
-tries_behind (runs.Successor m share) = m.tries
-tries_behind (runs.Range m share) = m.tries
+tries_behind m = inner_tries (inner m)
 
 -- of the tries that were left behind this one no more is gone than one
 abbrev pub KeepsTriesButOne : MapRun → MapRun → Type 0

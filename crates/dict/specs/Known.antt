@@ -13,18 +13,17 @@ use Rattle.prims.specs.Laws.Idle.{IsQuietSince}
 use Rattle.ordered_map.specs.Runs.{IsTreeRun}
 use Rattle.template.specs.declared.walk.Goal.TheVariants.{Key as ToKey}
 use Rattle.template.specs.declared.walk.WalkAt.TheVariants.{Start as WalkStart}
-use Rattle.tree.specs.Delete.Means.{delete_means}
 use Rattle.tree.specs.Get.Known.{GetIsReady, GetWaits}
-use Rattle.tree.specs.Insert.Means.{insert_means}
 use Rattle.edits.specs.Known.{RestsWith, UpdateIsReady, UpdateWaits}
 use Rattle.edits.specs.Steps.{node_tries, scx_tries, Spends}
 use Rattle.edits.specs.declared.update.UpdateAt.TheVariants.{Start as UpdateStart}
-use Rattle.dict.specs.Calls.{call_in, share_of, AsksForPairs, IsSmallCall, HasSpent}
-use Rattle.ordered_map.specs.CallRules.{MayReply}
+use Rattle.dict.specs.Calls.{call_in, inner_call, inner_share, AsksForPairs, IsSmallCall, HasSpent}
+use Rattle.ordered_map.specs.CallRules.{MayReply, nodes_in_try}
+use Rattle.ordered_map.specs.OrderedMap.{edit_key}
 use Rattle.dict.specs.Forms.{word_form}
 use Rattle.dict.specs.Says.{WordSays}
 use Rattle.dict.specs.declared.run.MapRun.{MapRun}
-use Rattle.dict.specs.declared.run.MapRun.TheVariants.{Insert, Delete, Get, Successor, Range}
+use Rattle.dict.specs.Inner.{InnerRun, Update, Get, Successor, Range, inner}
 use Rattle.dict.specs.declared.told.WordReply.{WordReply}
 
 -- A read rests all the way: its share is untouched, all its pass's SCX-records are finished, and
@@ -43,66 +42,65 @@ pub record HasSpentSo (c : Call) (most : ℕ) (share : Remaining) (tries nodes s
   pub spends : Spends most left share tries nodes tries scx
 
 -- what is gone of the share of a call with so many tries: of a read nothing
-abbrev pub HasSpentIn : MapRun → ℕ → Call → Type 0
-HasSpentIn (Insert m) tries c = HasSpentSo c 3 m.share tries (node_tries m m.at) (scx_tries m m.at)
-HasSpentIn (Delete m) tries c = HasSpentSo c 1 m.share tries (node_tries m m.at) (scx_tries m m.at)
+abbrev pub HasSpentIn : InnerRun → ℕ → Call → Type 0
+HasSpentIn (Update k m) tries c = HasSpentSo c (nodes_in_try (k.edit m.edit)) m.share tries (node_tries m m.at) (scx_tries m m.at)
 HasSpentIn (Get m share) tries c = RestsWith c c.start share
 HasSpentIn (Successor m share) tries c = RestsWith c c.start share
 HasSpentIn (Range m share) tries c = RestsWith c c.start share
 
 -- an edit knows the number of its call, which goes into its entry
-abbrev pub IsNumbered : MapRun → ℕ → Type 0
-IsNumbered (Insert m) number = m.call ≡ number
-IsNumbered (Delete m) number = m.call ≡ number
+abbrev pub IsNumbered : InnerRun → ℕ → Type 0
+IsNumbered (Update k m) number = m.call ≡ number
 IsNumbered m number = Unit {0}
 
 -- an edit or an ordered read may try so often
-abbrev pub HasTries : MapRun → ℕ → Type 0
-HasTries (Insert m) tries = m.limit ≡ tries
-HasTries (Delete m) tries = m.limit ≡ tries
+abbrev pub HasTries : InnerRun → ℕ → Type 0
+HasTries (Update k m) tries = m.limit ≡ tries
 HasTries (Get m share) tries = Unit {0}
 HasTries (Successor m share) tries = m.limit ≡ tries
 HasTries (Range m share) tries = m.limit ≡ tries
 
--- what holds of the machine all the way of its call, which has so many tries
-pub record Goes (m : MapRun) (tries : ℕ) (c : Call) : Type 0 where
+-- what holds of the machine inside all the way of its call, which has so many tries
+pub record Goes (m : InnerRun) (tries : ℕ) (c : Call) : Type 0 where
   pub mode : c.layout.mode ≡ TreeMode
-  pub small : IsSmallCall (call_in m)
+  pub small : IsSmallCall (inner_call m)
   pub number : IsNumbered m c.number
   pub limit : HasTries m tries
   pub spent : HasSpentIn m tries c
 
 -- the machine inside may be called with this
-abbrev pub IsReadyInside : MapRun → Call → History → Option ℕ → Type 0
-IsReadyInside (Insert m) c h got = UpdateIsReady insert_means m c h got
-IsReadyInside (Delete m) c h got = UpdateIsReady delete_means m c h got
+abbrev pub IsReadyInside : InnerRun → Call → History → Option ℕ → Type 0
+IsReadyInside (Update k m) c h got = UpdateIsReady k.means m c h got
 IsReadyInside (Get m share) c h got = GetIsReady m c h got × HasRested c h share
 IsReadyInside (Successor m share) c h got = SuccessorIsReady m c h got × HasRested c h share
 IsReadyInside (Range m share) c h got = RangeIsReady m c h got × HasRested c h share
 
 -- the machine inside waits for this step
-abbrev pub WaitsInside : MapRun → Call → History → Step → Type 0
-WaitsInside (Insert m) c h s = UpdateWaits insert_means m c h s
-WaitsInside (Delete m) c h s = UpdateWaits delete_means m c h s
+abbrev pub WaitsInside : InnerRun → Call → History → Step → Type 0
+WaitsInside (Update k m) c h s = UpdateWaits k.means m c h s
 WaitsInside (Get m share) c h s = GetWaits m c h s × HasRested c h share
 WaitsInside (Successor m share) c h s = SuccessorWaits m c h s × HasRested c h share
 WaitsInside (Range m share) c h s = RangeWaits m c h s × HasRested c h share
 
 -- the machine may be called with this
 abbrev pub MapIsReady : ℕ → MapRun → Call → History → Option ℕ → Type 0
-MapIsReady tries m c h got = Goes m tries c × IsReadyInside m c h got
+MapIsReady tries m c h got = Goes (inner m) tries c × IsReadyInside (inner m) c h got
 
 -- it waits for this step
 abbrev pub MapWaits : ℕ → MapRun → Call → History → Step → Type 0
-MapWaits tries m c h s = Goes m tries c × WaitsInside m c h s
+MapWaits tries m c h s = Goes (inner m) tries c × WaitsInside (inner m) c h s
 
--- Its answer is right. Behind it the pass is at rest with what is left of the share, of which no
--- more is gone than the tries that it has begun may take.
-pub record MapAnswers (tries : ℕ) (m : MapRun) (c : Call) (h : History) (reply : WordReply) : Type 0 where
-  pub rests : RestsWith c h (share_of m)
-  pub spent : HasSpent c h (call_in m) tries (share_of m)
-  pub form : MayReply (call_in m) (word_form reply)
-  pub says : WordSays c h (call_in m) (share_of m) tries reply
+-- The answer of a call with this inner machine is right. Behind it the pass is at rest with what is
+-- left of the share, of which no more is gone than the tries that it has begun may take.
+pub record InnerAnswers (tries : ℕ) (m : InnerRun) (c : Call) (h : History) (reply : WordReply) : Type 0 where
+  pub rests : RestsWith c h (inner_share m)
+  pub spent : HasSpent c h (inner_call m) tries (inner_share m)
+  pub form : MayReply (inner_call m) (word_form reply)
+  pub says : WordSays c h (inner_call m) (inner_share m) tries reply
+
+-- so is the machine's
+abbrev pub MapAnswers : ℕ → MapRun → Call → History → WordReply → Type 0
+MapAnswers tries m c h reply = InnerAnswers tries (inner m) c h reply
 
 -- all but a range that takes no pair ask for a step before they answer
 abbrev pub AsksFirst : MapRun → Type 0
@@ -110,10 +108,13 @@ AsksFirst m = AsksForPairs (call_in m)
 
 -- Before it begins
 
--- it stands at its start, with so many tries in all, in the call of this number
+-- the machine inside stands at its start, with so many tries in all, in the call of this number
+abbrev pub StandsAtStart : InnerRun → ℕ → ℕ → Type 0
+StandsAtStart (Update k m) tries call = (m.at ≡ UpdateStart) × (m.tries + 1 ≡ tries) × (m.call ≡ call) × (edit_key (k.edit m.edit) < 2 ^ 64) × (m.limit ≡ tries)
+StandsAtStart (Get m share) tries call = (m.walk.at ≡ WalkStart) × (m.walk.trail.node.0 ≡ 0) × (m.walk.goal ≡ ToKey m.key) × (m.key < 2 ^ 64)
+StandsAtStart (Successor m share) tries call = (m.at ≡ SuccessorStart) × (m.tries + 1 ≡ tries) × (m.snaps.items ≡ []) × (m.key < 2 ^ 64) × (m.limit ≡ tries)
+StandsAtStart (Range m share) tries call = (m.at ≡ RangeStart) × (m.tries + 1 ≡ tries) × (m.snaps.items ≡ []) × (m.high < 2 ^ 64) × (m.limit ≡ tries)
+
+-- so does the machine
 abbrev pub IsUnbegun : MapRun → ℕ → ℕ → Type 0
-IsUnbegun (Insert m) tries call = (m.at ≡ UpdateStart) × (m.tries + 1 ≡ tries) × (m.call ≡ call) × (m.edit.key < 2 ^ 64) × (m.limit ≡ tries)
-IsUnbegun (Delete m) tries call = (m.at ≡ UpdateStart) × (m.tries + 1 ≡ tries) × (m.call ≡ call) × (m.edit.key < 2 ^ 64) × (m.limit ≡ tries)
-IsUnbegun (Get m share) tries call = (m.walk.at ≡ WalkStart) × (m.walk.trail.node.0 ≡ 0) × (m.walk.goal ≡ ToKey m.key) × (m.key < 2 ^ 64)
-IsUnbegun (Successor m share) tries call = (m.at ≡ SuccessorStart) × (m.tries + 1 ≡ tries) × (m.snaps.items ≡ []) × (m.key < 2 ^ 64) × (m.limit ≡ tries)
-IsUnbegun (Range m share) tries call = (m.at ≡ RangeStart) × (m.tries + 1 ≡ tries) × (m.snaps.items ≡ []) × (m.high < 2 ^ 64) × (m.limit ≡ tries)
+IsUnbegun m tries call = StandsAtStart (inner m) tries call

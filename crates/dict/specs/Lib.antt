@@ -2,9 +2,11 @@ pub mod Names
 pub mod Words
 pub mod WordReplies
 pub mod Forms
+pub mod Inner
 pub mod Calls
 pub mod Says
 pub mod Known
+pub mod Around
 pub mod Steps
 pub mod Typed
 pub mod Translated

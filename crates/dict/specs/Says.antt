@@ -1,5 +1,5 @@
 -- What the reply of a call of the map says, in words.
-use Rattle.std.specs.Prelude.{◌≡◌, ℕ, ◌<◌, ◌≤◌, Bool, true, false, List, Option, Some, None}
+use Rattle.std.specs.Prelude.{◌≡◌, ℕ, ◌<◌, ◌≤◌, List, Option, Some, None}
 use Rattle.arena.specs.declared.fault.Full.{Full as FullOf}
 use Rattle.arena.specs.declared.fault.Resource.{Resource}
 use Rattle.arena.specs.declared.fault.Resource.TheVariants.{Nodes, Scx as ScxRecords}
@@ -7,7 +7,7 @@ use Rattle.arena.specs.declared.step.Row.{Row}
 use Rattle.arena.specs.History.{History, ◌⊳◌, value, Extends}
 use Rattle.arena.specs.Machines.{Call}
 use Rattle.arena.specs.Share.{Remaining}
-use Rattle.ordered_map.specs.OrderedMap.{MapEdit, MapCall, Edit, Successor, Range, MapReply, OneValue, reply, changes_map}
+use Rattle.ordered_map.specs.OrderedMap.{MapEdit, MapCall, Successor, Range, MapReply, reply, edit_of}
 use Rattle.ordered_map.specs.Spelled.{Spells}
 use Rattle.ordered_map.specs.declared.pair.Pair.{Pair}
 use Rattle.template.specs.Blame.{IsContended, HasLostTriesTo}
@@ -19,13 +19,14 @@ use Rattle.dict.specs.declared.told.WordReply.{WordReply}
 use Rattle.dict.specs.declared.told.WordReply.TheVariants as words
 use Rattle.dict.specs.WordReplies.{told_in}
 
--- A change: the call has made its edit, and tells the value that the key had just before.
-pub record HasMadeEdit (c : Call) (h : History) (call : MapCall) (told : MapReply) : Type 0 where
-  pub edit : MapEdit
-  pub is_edit : call ≡ Edit edit
+-- A change: the call has made this edit, and tells what the map just before replies.
+pub record HasMadeEdit (c : Call) (h : History) (call : MapCall) (told : MapReply) (edit : MapEdit) : Type 0 where
+  -- the value that the edit's key had
   pub old : Option ℕ
-  pub tells : told ≡ OneValue old
   pub made : HasMade edit c h c.number old
+  pub map : List Pair
+  pub spelled : Spells c.layout (value made.before) map
+  pub gives : reply call map ≡ told
 
 -- by this moment the pass has made a row of its own behind the start
 pub record HasMadeRow (pass : ℕ) (start moment : History) : Type 0 where
@@ -48,14 +49,14 @@ pub record HasReadMap (c : Call) (h : History) (call : MapCall) (told : MapReply
   pub gives : reply call map ≡ told
   pub none : HasEnteredNone c.layout c.pass h c.start
 
--- what is told is told of a change, or of a reading
-abbrev pub HasToldBy : Bool → Call → History → MapCall → MapReply → Type 0
-HasToldBy true c h call told = HasMadeEdit c h call told
-HasToldBy false c h call told = HasReadMap c h call told
+-- what is told is told of a change by this edit, or of a reading
+abbrev pub HasToldBy : Option MapEdit → Call → History → MapCall → MapReply → Type 0
+HasToldBy (Some edit) c h call told = HasMadeEdit c h call told edit
+HasToldBy None c h call told = HasReadMap c h call told
 
--- which of the two it is, the call and what is told say
+-- which of the two it is, and by which edit, the call and what is told say
 abbrev pub HasTold : Call → History → MapCall → MapReply → Type 0
-HasTold c h call told = HasToldBy (changes_map call told) c h call told
+HasTold c h call told = HasToldBy (edit_of call told) c h call told
 
 -- All tries of the call, so many, were lost: in the last this SCX-record was in the way over this
 -- node, and the call has itself found it in the node's info. The pass has entered nothing since the

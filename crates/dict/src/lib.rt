@@ -4,6 +4,7 @@
 
 mod alone;
 mod dict;
+mod edit_call;
 mod key;
 mod name;
 mod name_key;
@@ -15,6 +16,7 @@ mod value;
 
 pub use alone::alone_holds;
 pub use dict::DictRun;
+pub use edit_call::EditCall;
 pub use key::WordKey;
 pub use name::Name8;
 pub use ordered_map::{Reply, Request};

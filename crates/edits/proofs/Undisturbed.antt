@@ -159,9 +159,9 @@ module _ (c : Call) (h : History) (run : IsTreeRun c.layout h) (alone : IsUndist
     pub alone_made_first : (f : Found) → ToldFirst Least c.layout x.before f → first_pair map ≡ first_told f
     alone_made_first f told = told map before_spells
 
-    pub alone_made : (get (edit_key edit) map ≡ old) × Spells c.layout (value h) (edited edit map)
+    pub alone_made : Spells c.layout (value x.before) map × Spells c.layout (value h) (edited edit map)
     alone_made = (
-      x.told map before_spells,
+      before_spells,
       spells_still c.layout h h after (edited edit map) run (ends_self h) x.within (log_still c.layout h after run.1.lawful x.within behind_it) (x.edits.changes map before_spells),
     )
 

@@ -4,7 +4,7 @@ ghost use Rattle.arena.specs.History.{History, value, Extends};
 ghost use Rattle.arena.specs.Machines.{Call};
 ghost use Rattle.arena.specs.Undisturbed.{IsUndisturbed};
 ghost use Rattle.ordered_map.specs.declared.pair.Pair.{Pair};
-ghost use Rattle.ordered_map.specs.OrderedMap.{MapEdit, edit_key, edited, first_pair, get};
+ghost use Rattle.ordered_map.specs.OrderedMap.{MapEdit, edited, first_pair, get};
 ghost use Rattle.ordered_map.specs.Paths.{IsAnswerAt};
 ghost use Rattle.ordered_map.specs.Runs.{IsTreeRun};
 ghost use Rattle.ordered_map.specs.Spelled.{Spells};
@@ -17,13 +17,13 @@ ghost use Rattle.edits.specs.Tries.{HasEnteredNone};
 
 /// What an update's answers say of a call by itself: nothing was in progress as it began, and no
 /// other pass makes a row while it runs. It is never contended. What it has made it has made of the
-/// map that was there as it began: it tells what that map had at the key, and leaves the map that
-/// its edit leaves. Where it has made nothing, the leaf that it has found tells what the map has, and
-/// the map stays; what a reading tells of the map at a moment of its call it tells of that map. On
-/// its way to the least key it tells the first pair of that map, made or not. With one pass no call
-/// is ever contended. It does nothing; a caller learns the laws from its contract.
+/// map that was there as it began, which was there just before it, and leaves the map that its edit
+/// leaves. Where it has made nothing, the leaf that it has found tells what the map has, and the map
+/// stays; what a reading tells of the map at a moment of its call it tells of that map. On its way to
+/// the least key it tells the first pair of that map, made or not. With one pass no call is ever
+/// contended. It does nothing; a caller learns the laws from its contract.
 pub fn alone_holds()
-    ensures made { (c : Call) (h : History) (edit : MapEdit) (number : ℕ) (old : Option ℕ) (map : List Pair) → IsTreeRun c.layout h → IsUndisturbed c h → HasMade edit c h number old → Spells c.layout (value c.start) map → (get (edit_key edit) map ≡ old) × Spells c.layout (value h) (edited edit map) }
+    ensures made { (c : Call) (h : History) (edit : MapEdit) (number : ℕ) (old : Option ℕ) (map : List Pair) → IsTreeRun c.layout h → IsUndisturbed c h → (made : HasMade edit c h number old) → Spells c.layout (value c.start) map → Spells c.layout (value made.before) map × Spells c.layout (value h) (edited edit map) }
     ensures found { (c : Call) (h : History) (k : ℕ) (f : Found) (map : List Pair) → k < 2 ^ 64 → IsTreeRun c.layout h → IsUndisturbed c h → HasFoundLeaf c h k f → HasEnteredNone c.layout c.pass h c.start → Spells c.layout (value c.start) map → f.value ≡ get k map }
     ensures made_first { (c : Call) (h : History) (edit : MapEdit) (number : ℕ) (old : Option ℕ) (f : Found) (map : List Pair) → IsTreeRun c.layout h → IsUndisturbed c h → (made : HasMade edit c h number old) → ToldFirst Least c.layout made.before f → Spells c.layout (value c.start) map → first_pair map ≡ first_told f }
     ensures found_first { (c : Call) (h : History) (f : Found) (map : List Pair) → IsTreeRun c.layout h → IsUndisturbed c h → HasFoundGoal Least c h f → HasEnteredNone c.layout c.pass h c.start → Spells c.layout (value c.start) map → first_pair map ≡ first_told f }

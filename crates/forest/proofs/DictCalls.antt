@@ -1,5 +1,5 @@
 -- What a call of a dictionary leaves of its pass.
-use Rattle.std.proofs.Common.{◌≡◌, ◌∙◌, arith, ℕ, suc, ◌+◌, ◌*◌, ◌<◌, ◌≤◌, ◌∷◌, List, Option, Some, None, true, ap, refl, sym, subst}
+use Rattle.std.proofs.Common.{◌≡◌, ◌∙◌, arith, ℕ, suc, ◌+◌, ◌*◌, ◌<◌, ◌≤◌, ◌∷◌, List, Option, Some, None, refl, sym, subst}
 use Rattle.std.proofs.Math.Nat.{lt_of_not-le}
 use Rattle.atomic_table.specs.declared.shared.Seat.{Seat}
 use Rattle.arena.specs.declared.layout.Layout.{Layout}
@@ -7,8 +7,7 @@ use Rattle.arena.specs.declared.limits.Mode.TheVariants.{Tree}
 use Rattle.arena.specs.History.{History, Extends}
 use Rattle.arena.specs.Share.{Remaining}
 use Rattle.std.specs.Prelude.{Result, Ok, Err, IfOk, IfSome}
-use Rattle.std.specs.Option.{option_map}
-use Rattle.ordered_map.specs.OrderedMap.{MapCall, Edit as EditCall, MapEdit, Insert, Delete, MapReply, OneValue}
+use Rattle.ordered_map.specs.OrderedMap.{MapCall, Edit as EditCall, MapEdit, MapReply}
 use Rattle.ordered_map.specs.Runs.{IsTreeRun}
 use Rattle.prims.specs.Laws.Begun.{taken_since}
 use Rattle.prims.specs.Shares.{IsShare}
@@ -34,11 +33,10 @@ use Rattle.ordered_map.specs.declared.reply.Reply.{Reply}
 use Rattle.ordered_map.specs.declared.reply.Reply.TheVariants as replies
 use Rattle.forest.specs.declared.view.SeatView.{SeatView}
 use Rattle.forest.specs.declared.pass.Pass.TheInside.{Inside}
-use Rattle.forest.specs.Dictionary.{IsChange, IsChangeOrReading, IsToldOf, IsRefusalOf, HasEdited, HasSpentAtMost, UpdateSays, blamed_by_reply, blamed_by_update, update_reply}
-use Rattle.forest.specs.StraightCalls.{IsFreshEdit, IsSameDictCall, map_edit}
+use Rattle.forest.specs.Dictionary.{IsToldOf, IsRefusalOf, HasSpentAtMost, UpdateSays, blamed_by_reply, blamed_by_update, update_reply}
+use Rattle.forest.specs.StraightCalls.{IsFreshEdit, IsSameDictCall}
 use Rattle.forest.specs.declared.fault.UpdateFault.{UpdateFault}
 use Rattle.forest.specs.declared.fault.UpdateFault.TheVariants as faults
-use Rattle.forest.specs.declared.straight.calls.WordEdit.{WordEdit}
 use Rattle.forest.specs.Passes.{PassView, HasBlamed, HasGoneOn, run_of, taken_of}
 use Rattle.forest.specs.PassInvariant.{pass_view, IsPass}
 use Rattle.forest.specs.Shares.{IsBetweenCalls}
@@ -75,11 +73,8 @@ module _ (lay : Layout) (c : ℕ) (h start : History) (a b : Remaining) (e : Ext
 
 -- a range that asks for few pairs is such a call
 pub few_of : {K V : Type 0} (key : K → ℕ) (value_word : V → ℕ) (request : Request K V) (call : MapCall) → call ≡ as_map_call key value_word request → AsksForFew request → IsFewCall call
-few_of key value_word (requests.Insert k v) call e few = subst IsFewCall (sym e) tt
-few_of key value_word (requests.Delete k) call e few = subst IsFewCall (sym e) tt
-few_of key value_word (requests.Get k) call e few = subst IsFewCall (sym e) tt
-few_of key value_word (requests.Successor k) call e few = subst IsFewCall (sym e) tt
 few_of key value_word (requests.Range low high most) call e few = subst IsFewCall (sym e) few
+few_of key value_word request call e few = subst IsFewCall (sym e) tt
 
 -- What a call leaves
 
@@ -114,7 +109,7 @@ module _ {K V : Type 0} (valid_key : K → Type 0) (key : K → ℕ) (valid_valu
   request_starts p x m request tries number named call typed same fresh few share = dict_starts p x m typed (rw (same, named) fresh) (few_of key value_word request (call_in m.run) call few) share
 
   -- and so may a machine of an edit
-  pub edit_starts : {T : Type 0} (p : Inside T) (x : IsPass allows Tree p) (m : DictRun K V) (ed : WordEdit) (tries number : ℕ) → taken_of (pass_view p) ≡ number → IsTypedCall keys values (EditCall (map_edit ed)) → IsFreshEdit ed p.share tries number m → CallBegins allows (DictIsReady keys values) (call_of p x (taken_of (pass_view p))) p.seat.me.0.passes m
+  pub edit_starts : {T : Type 0} (p : Inside T) (x : IsPass allows Tree p) (m : DictRun K V) (ed : MapEdit) (tries number : ℕ) → taken_of (pass_view p) ≡ number → IsTypedCall keys values (EditCall ed) → IsFreshEdit ed p.share tries number m → CallBegins allows (DictIsReady keys values) (call_of p x (taken_of (pass_view p))) p.seat.me.0.passes m
   edit_starts p x m ed tries number named typed fresh = dict_starts p x m (rw fresh.is_call typed) (rw (fresh.has_tries, named) fresh.unbegun) (rw fresh.is_call tt) fresh.has_share
 
   module _ {T : Type 0} (p : Inside T) (x : IsPass allows Tree p) (s : Seat ℕ SeatView) (m : DictRun K V) (reply : Reply K V) where
@@ -217,28 +212,10 @@ module _ {K V : Type 0} (valid_key : K → Type 0) (key : K → ℕ) (valid_valu
 
 -- What an edit has answered
 
--- which edit a call makes, if it makes one
-abbrev edit_in : MapEdit → MapCall → MapEdit
-edit_in other (EditCall e) = e
-edit_in other _ = other
-
--- which value a reply tells
-abbrev told_in : MapReply → Option ℕ
-told_in (OneValue v) = v
-told_in _ = None
-
 module _ {K V : Type 0} (key : K → ℕ) (value_word : V → ℕ) (old new : PassView) where
-  changed : (ed : MapEdit) (v : Option ℕ) → IsChangeOrReading true old new (EditCall ed) (OneValue v) → IsChange old new ed v
-  changed ed v x = subst (λ w. IsChange old new ed w) (sym (ap told_in x.3)) (subst (λ (e : MapEdit). IsChange old new e x.1) (sym (ap (edit_in ed) x.2)) x.4)
-
-  edited_so : (ed : MapEdit) (v : Option ℕ) → IsToldOf old new (EditCall ed) (Some (OneValue v)) → HasEdited old new ed v
-  edited_so (Insert k w) v x = changed (Insert k w) v x
-  edited_so (Delete k) (Some v) x = changed (Delete k) (Some v) x
-  edited_so (Delete k) None x = x
-
   -- what is told of the map, or why nothing is, is what the answer says
   pub update_says : (tries : ℕ) (ed : MapEdit) (r : Result (Option V) UpdateFault) → IsToldOf old new (EditCall ed) (told_of key value_word (update_reply r)) → IsRefusalOf {K = K} tries old new (EditCall ed) (update_reply r) → UpdateSays value_word tries old new ed r
-  update_says tries ed (Ok v) told refused = edited_so ed (option_map value_word v) told
+  update_says tries ed (Ok v) told refused = told
   update_says tries ed (Err (faults.Contended n s)) told refused = refused
   update_says tries ed (Err (faults.Full full)) told refused = refused
 

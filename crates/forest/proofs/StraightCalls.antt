@@ -12,33 +12,33 @@ use Rattle.order.specs.declared.range.RangeRun.{RangeRun}
 use Rattle.order.specs.declared.refused.Refused.{Refused}
 use Rattle.order.specs.declared.successor.SuccessorRun.{SuccessorRun}
 use Rattle.ordered_map.specs.declared.pair.Pair.{Pair}
-use Rattle.ordered_map.specs.OrderedMap.{MapCall, Edit, Insert as InsertEdit, Delete as DeleteEdit, Successor as SuccessorCall, Range as RangeCall}
-use Rattle.tree.specs.Delete.Means.{delete_means}
-use Rattle.tree.specs.Insert.Means.{insert_means}
-use Rattle.tree.specs.declared.delete.Delete.{Delete as Deleted}
-use Rattle.tree.specs.declared.insert.Insert.{Insert as Inserted}
-use Rattle.edits.specs.Steps.{node_tries, scx_tries}
+use Rattle.ordered_map.specs.OrderedMap.{MapCall, Edit, edit_key, Successor as SuccessorCall, Range as RangeCall}
 use Rattle.edits.specs.Next.{standing}
+use Rattle.edits.specs.Steps.{node_tries, scx_tries}
 use Rattle.edits.specs.declared.update.UpdateAt.{UpdateAt}
 use Rattle.edits.specs.declared.update.UpdateAt.TheVariants.{Start}
 use Rattle.edits.specs.declared.update.UpdateRun.{UpdateRun}
 use Rattle.edits.specs.declared.update.Updated.{Updated}
-use Rattle.dict.specs.Known.{Goes}
 use Rattle.dict.specs.Typed.{IsTypedCall}
 use Rattle.dict.specs.Laws.TypedMaps.{typed_run}
 use Rattle.dict.specs.Words.{IsWordOf, IsValidReply}
 use Rattle.dict.specs.declared.dict.DictRun.{DictRun}
-use Rattle.dict.specs.declared.run.MapRun.TheVariants.{Insert, Delete, Successor, Range}
+use Rattle.dict.specs.Around.{IsAround}
+use Rattle.dict.specs.Calls.{KeepsTriesButOne, call_in}
+use Rattle.dict.specs.Inner.{EditKind, Update, inner}
+use Rattle.dict.specs.Known.{Goes}
+use Rattle.dict.specs.Laws.Kinds.{IsEditKind}
+use Rattle.dict.specs.declared.run.MapRun.{MapRun}
+use Rattle.dict.specs.declared.run.MapRun.TheVariants.{Successor, Range}
 use Rattle.dict.specs.Translated.{IsTranslated, HasFormOf}
 use Rattle.dict.specs.WordReplies.{word_reply, successor_reply, range_reply}
 use Rattle.ordered_map.specs.declared.reply.Reply.{Reply}
 use Rattle.dict.specs.declared.told.WordReply.{WordReply}
-use Rattle.dict.proofs.Lemmas.{insert_ends, delete_ends, successor_ends, range_ends, edit_spends, dict_ends}
+use Rattle.dict.proofs.Lemmas.{edit_goes, edit_ends, successor_ends, range_ends, dict_ends}
 use Rattle.forest.specs.declared.view.SeatedPass.{SeatedPass}
 use Rattle.forest.specs.StraightCalls.{DictAllows, DictCallIsReady, DictCallWaits, IsSameDictCall, SeatDictBegins, SeatDictEnds, SeatWordEnds, IsFreshEdit}
 use Rattle.forest.specs.StraightReads.{RangeReader, SearchBegins, SearchEnds, SuccessorReader, VisitBegins, VisitEnds}
 use Rattle.forest.specs.StraightUpdate.{Updater, HasUpdateGoneOn, UpdaterBegins, UpdaterEnds}
-use Rattle.forest.specs.declared.straight.calls.WordEdit.TheVariants as edits
 use Rattle.forest.proofs.StraightUpdate.{answers_there}
 use Rattle.forest.specs.TableRule.{history_of}
 use Rattle.forest.specs.Traces.{begins, goes_on}
@@ -72,101 +72,58 @@ module _ {K V : Type 0} (valid_key : K → Type 0) (key : K → ℕ) (valid_valu
   ends = SeatWordEnds valid_key key valid_value value_word
 
   module _ (machine : DictRun K V) (c : Call) (layout : Layout) (number : ℕ) (is_layout : c.layout ≡ layout) (is_number : c.number ≡ number) where
-    -- Inserts
+    -- Edits
 
-    abbrev inserting : UpdateRun Inserted UpdateAt → DictRun K V
-    inserting m = record machine { run = Insert m }
+    module _ (k : EditKind) (kind : IsEditKind k) (around : UpdateRun k.E UpdateAt → MapRun) (is : IsAround k around) where
+      abbrev pub editing : UpdateRun k.E UpdateAt → DictRun K V
+      editing m = record machine { run = around m }
 
-    insert_call : Inserted → MapCall
-    insert_call e = Edit (InsertEdit e.key e.value)
+      edit_call : k.E → MapCall
+      edit_call e = Edit (k.edit e)
 
-    insert_goes : (old now : UpdateRun Inserted UpdateAt) → HasUpdateGoneOn insert_means old now (node_tries now now.at) (scx_tries now now.at) → Goes (Insert old) machine.tries c → Goes (Insert now) machine.tries c
-    insert_goes old now on x = record {
-      mode = x.mode;
-      small = subst (λ (e : Inserted). e.key < 2 ^ 64) (sym on.edit) x.small;
-      number = on.called ∙ x.number;
-      limit = on.limit ∙ x.limit;
-      spent = edit_spends c 3 old.share now.share machine.tries (node_tries old old.at) (node_tries now now.at) (scx_tries old old.at) (scx_tries now now.at) x.spent on.spends;
-    }
+      -- it stays of the same call
+      same_call : (old now : UpdateRun k.E UpdateAt) → now.edit ≡ old.edit → call_in (around now) ≡ call_in (around old)
+      unfolding edit_call
+      same_call old now e = is.is_call now ∙ ap edit_call e ∙ sym (is.is_call old)
 
-    pub inserter : Updater (dict_calls layout number) insert_means
-    unfolding insert_call
-    inserter = record {
-      call = c;
-      is_layout = is_layout;
-      is_number = is_number;
-      tree = λ h run. typed_run keys values c.layout h run;
-      first = machine;
-      with_run = inserting;
-      opens = λ m h s x. x.1.1;
-      tells = λ m h got x. x.1.1;
-      turns = λ old now h got s on x w. (subst (λ (e : Inserted). IsTypedCall keys values (insert_call e)) (sym on.edit) x.0, (insert_goes old now on x.1.0, w));
-      stays = λ old now e fewer. (ap insert_call e, refl, (fewer.1, fewer.0));
-    }
+      goes : (old now : UpdateRun k.E UpdateAt) → HasUpdateGoneOn k.means old now (node_tries now now.at) (scx_tries now now.at) → Goes (inner (around old)) machine.tries c → Goes (inner (around now)) machine.tries c
+      goes old now on x = is.goes now machine.tries c (edit_goes machine.tries c k kind old now (is.goes_inside old machine.tries c x) on.edit on.called on.limit on.spends)
 
-    pub insert_begins : (ps : List SeatedPass) {A : Type 0} (m : UpdateRun Inserted A) → machine.run ≡ Insert (standing m Start) → SeatDictBegins valid_key key valid_value value_word c ps machine → UpdaterBegins inserter ps m
-    unfolding inserter
-    insert_begins ps m is x = record { known = x.known; is = x.is; sound = x.sound; so = (subst (λ r. ready (record machine { run = r }) c (history_of c.layout.mode x.known) None) is x.so.1, begins (λ i. record machine { run = sym is i }) (sym x.so.0)) }
+      fewer : (old now : UpdateRun k.E UpdateAt) → (old.tries ≤ now.tries + 1) × (now.tries ≤ old.tries) → KeepsTriesButOne (around old) (around now)
+      fewer old now x = rw (is.is_behind old, is.is_behind now) (x.1, x.0)
 
-    pub insert_ended : (ps : List SeatedPass) {A : Type 0} (m : UpdateRun Inserted A) (a : Updated) → UpdaterEnds inserter ps m a → ends c ps machine (inserting (standing m Start)) (word_reply a)
-    unfolding inserter insert_call
-    insert_ended ps m a x = let y = x.so in record {
-      known = x.known;
-      is = x.is;
-      sound = x.sound;
-      so = (
-        (y.was.1.0.mode, insert_ends machine.tries c _ y.old (standing m Start) a (typed_run keys values c.layout _ x.sound) y.was.1.0 y.goes.edit y.goes.called y.goes.limit y.goes.spends (answers_there insert_means c _ m Start a y.answers)),
-        goes_on (inserting y.old) (ap insert_call y.goes.edit, refl, (y.goes.tries.1, y.goes.tries.0)) y.course,
-      );
-    }
+      pub editor : Updater (dict_calls layout number) k.means
+      editor = record {
+        call = c;
+        is_layout = is_layout;
+        is_number = is_number;
+        tree = λ h run. typed_run keys values c.layout h run;
+        first = machine;
+        with_run = editing;
+        opens = λ m h s x. is.waits_inside m c h s x.1.1;
+        tells = λ m h got x. is.ready m c h got x.1.1;
+        turns = λ old now h got s on x w. (subst (IsTypedCall keys values) (sym (same_call old now on.edit)) x.0, (goes old now on x.1.0, is.waits now c h s w));
+        stays = λ old now e few. (same_call old now e, refl, fewer old now few);
+      }
 
-    -- Deletes
+      pub edit_begins : (ps : List SeatedPass) {A : Type 0} (m : UpdateRun k.E A) → machine.run ≡ around (standing m Start) → SeatDictBegins valid_key key valid_value value_word c ps machine → UpdaterBegins editor ps m
+      unfolding editor
+      edit_begins ps m same x = record { known = x.known; is = x.is; sound = x.sound; so = (subst (λ r. ready (record machine { run = r }) c (history_of c.layout.mode x.known) None) same x.so.1, begins (λ i. record machine { run = sym same i }) (sym x.so.0)) }
 
-    abbrev deleting : UpdateRun Deleted UpdateAt → DictRun K V
-    deleting m = record machine { run = Delete m }
-
-    delete_call : Deleted → MapCall
-    delete_call e = Edit (DeleteEdit e.key)
-
-    delete_goes : (old now : UpdateRun Deleted UpdateAt) → HasUpdateGoneOn delete_means old now (node_tries now now.at) (scx_tries now now.at) → Goes (Delete old) machine.tries c → Goes (Delete now) machine.tries c
-    delete_goes old now on x = record {
-      mode = x.mode;
-      small = subst (λ (e : Deleted). e.key < 2 ^ 64) (sym on.edit) x.small;
-      number = on.called ∙ x.number;
-      limit = on.limit ∙ x.limit;
-      spent = edit_spends c 1 old.share now.share machine.tries (node_tries old old.at) (node_tries now now.at) (scx_tries old old.at) (scx_tries now now.at) x.spent on.spends;
-    }
-
-    pub deleter : Updater (dict_calls layout number) delete_means
-    unfolding delete_call
-    deleter = record {
-      call = c;
-      is_layout = is_layout;
-      is_number = is_number;
-      tree = λ h run. typed_run keys values c.layout h run;
-      first = machine;
-      with_run = deleting;
-      opens = λ m h s x. x.1.1;
-      tells = λ m h got x. x.1.1;
-      turns = λ old now h got s on x w. (subst (λ (e : Deleted). IsTypedCall keys values (delete_call e)) (sym on.edit) x.0, (delete_goes old now on x.1.0, w));
-      stays = λ old now e fewer. (ap delete_call e, refl, (fewer.1, fewer.0));
-    }
-
-    pub delete_begins : (ps : List SeatedPass) {A : Type 0} (m : UpdateRun Deleted A) → machine.run ≡ Delete (standing m Start) → SeatDictBegins valid_key key valid_value value_word c ps machine → UpdaterBegins deleter ps m
-    unfolding deleter
-    delete_begins ps m is x = record { known = x.known; is = x.is; sound = x.sound; so = (subst (λ r. ready (record machine { run = r }) c (history_of c.layout.mode x.known) None) is x.so.1, begins (λ i. record machine { run = sym is i }) (sym x.so.0)) }
-
-    pub delete_ended : (ps : List SeatedPass) {A : Type 0} (m : UpdateRun Deleted A) (a : Updated) → UpdaterEnds deleter ps m a → ends c ps machine (deleting (standing m Start)) (word_reply a)
-    unfolding deleter delete_call
-    delete_ended ps m a x = let y = x.so in record {
-      known = x.known;
-      is = x.is;
-      sound = x.sound;
-      so = (
-        (y.was.1.0.mode, delete_ends machine.tries c _ y.old (standing m Start) a (typed_run keys values c.layout _ x.sound) y.was.1.0 y.goes.edit y.goes.called y.goes.limit y.goes.spends (answers_there delete_means c _ m Start a y.answers)),
-        goes_on (deleting y.old) (ap delete_call y.goes.edit, refl, (y.goes.tries.1, y.goes.tries.0)) y.course,
-      );
-    }
+      pub edit_ended : (ps : List SeatedPass) {A : Type 0} (m : UpdateRun k.E A) (a : Updated) → UpdaterEnds editor ps m a → ends c ps machine (editing (standing m Start)) (word_reply a)
+      unfolding editor
+      edit_ended ps m a x =
+          let y = x.so in
+          let went : Goes (Update k y.old) machine.tries c = is.goes_inside y.old machine.tries c y.was.1.0 in
+          record {
+            known = x.known;
+            is = x.is;
+            sound = x.sound;
+            so = (
+              (went.mode, is.answers (standing m Start) machine.tries c _ (word_reply a) (edit_ends machine.tries c _ k kind y.old (standing m Start) a (typed_run keys values c.layout _ x.sound) went y.goes.edit y.goes.called y.goes.limit y.goes.spends (answers_there k.means c _ m Start a y.answers))),
+              goes_on (editing y.old) (same_call y.old (standing m Start) y.goes.edit, refl, fewer y.old (standing m Start) y.goes.tries) y.course,
+            );
+          }
 
     -- Successors
 
@@ -255,31 +212,18 @@ module _ {K V : Type 0} (valid_key : K → Type 0) (key : K → ℕ) (valid_valu
 all_tries : (left tries : ℕ) → 0 < tries → left ≡ tries - 1 → left + 1 ≡ tries
 all_tries left tries some is = omega (arith, some, is)
 
-module _ {K V A : Type 0} where
-  -- the machine of an insert
-  abbrev pub insert_machine : ℕ → UpdateRun Inserted A → DictRun K V
-  insert_machine tries m = record { run = Insert (standing m Start); tries = tries; alloc = None; types = record {} }
+module _ {K V A : Type 0} (k : EditKind) (around : UpdateRun k.E UpdateAt → MapRun) (is : IsAround k around) where
+  -- the machine of an edit
+  abbrev pub edit_machine : ℕ → UpdateRun k.E A → DictRun K V
+  edit_machine tries m = record { run = around (standing m Start); tries = tries; alloc = None; types = record {} }
 
-  -- and of a delete
-  abbrev pub delete_machine : ℕ → UpdateRun Deleted A → DictRun K V
-  delete_machine tries m = record { run = Delete (standing m Start); tries = tries; alloc = None; types = record {} }
-
-  module _ (share : Remaining) (tries number : ℕ) (some : 0 < tries) where
-    pub insert_fresh : (m : UpdateRun Inserted A) (ed : Inserted) → m.edit ≡ ed → m.share ≡ share → m.call ≡ number → m.tries ≡ tries - 1 → m.limit ≡ tries → ed.key < 2 ^ 64 → IsFreshEdit (edits.Insert ed) share tries number (insert_machine tries m)
-    insert_fresh m ed is_edit is_share is_call is_tries is_limit small = record {
-      is_call = ap (λ (e : Inserted). Edit (InsertEdit e.key e.value)) is_edit;
-      has_tries = refl;
-      unbegun = (refl, all_tries m.tries tries some is_tries, is_call, subst (λ (e : Inserted). e.key < 2 ^ 64) (sym is_edit) small, is_limit);
-      has_share = is_share;
-    }
-
-    pub delete_fresh : (m : UpdateRun Deleted A) (ed : Deleted) → m.edit ≡ ed → m.share ≡ share → m.call ≡ number → m.tries ≡ tries - 1 → m.limit ≡ tries → ed.key < 2 ^ 64 → IsFreshEdit (edits.Delete ed) share tries number (delete_machine tries m)
-    delete_fresh m ed is_edit is_share is_call is_tries is_limit small = record {
-      is_call = ap (λ (e : Deleted). Edit (DeleteEdit e.key)) is_edit;
-      has_tries = refl;
-      unbegun = (refl, all_tries m.tries tries some is_tries, is_call, subst (λ (e : Deleted). e.key < 2 ^ 64) (sym is_edit) small, is_limit);
-      has_share = is_share;
-    }
+  pub edit_fresh : (share : Remaining) (tries number : ℕ) → 0 < tries → (m : UpdateRun k.E A) (ed : k.E) → m.edit ≡ ed → m.share ≡ share → m.call ≡ number → m.tries ≡ tries - 1 → m.limit ≡ tries → edit_key (k.edit ed) < 2 ^ 64 → IsFreshEdit (k.edit ed) share tries number (edit_machine tries m)
+  edit_fresh share tries number some m ed is_edit is_share is_call is_tries is_limit small = record {
+    is_call = is.is_call (standing m Start) ∙ ap (λ (e : k.E). Edit (k.edit e)) is_edit;
+    has_tries = refl;
+    unbegun = is.unbegun (standing m Start) tries number (refl, all_tries m.tries tries some is_tries, is_call, subst (λ (e : k.E). edit_key (k.edit e) < 2 ^ 64) (sym is_edit) small, is_limit);
+    has_share = is.is_share (standing m Start) ∙ is_share;
+  }
 
 -- all tries have as many steps as each of them so many times
 pub tries_steps : (now old left tries each : ℕ) → 0 < tries → left ≡ tries - 1 → now ≤ old + (left * each + each) → now ≤ old + tries * each

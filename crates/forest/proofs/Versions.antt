@@ -1,5 +1,5 @@
 -- What the calls of a dictionary say.
-use Rattle.std.proofs.Common.{◌≡◌, ◌∙◌, ℕ, ◌<◌, ◌⊎◌, Bool, true, false, inl, inr, List, Option, sym, subst}
+use Rattle.std.proofs.Common.{◌≡◌, ◌∙◌, ℕ, ◌<◌, ◌⊎◌, inl, inr, List, Option, Some, None, sym, subst}
 use Rattle.atomic_table.specs.Seated.{TableId}
 use Rattle.arena.specs.declared.fault.Full.{Full as FullOf}
 use Rattle.arena.specs.declared.step.Row.{Row}
@@ -10,14 +10,14 @@ use Rattle.arena.specs.Machines.{Call}
 use Rattle.arena.specs.Share.{Remaining}
 use Rattle.arena.proofs.Lemmas.{ends_self, ends_trans}
 use Rattle.ordered_map.specs.declared.pair.Pair.{Pair}
-use Rattle.ordered_map.specs.OrderedMap.{MapCall, MapReply, MapEdit, edited, changes_map}
+use Rattle.ordered_map.specs.OrderedMap.{MapCall, MapReply, MapEdit, edited, edit_of}
 use Rattle.ordered_map.specs.Runs.{IsTreeRun, Makes}
 use Rattle.ordered_map.specs.Spelled.{Spells}
-use Rattle.ordered_map.proofs.Lemmas.{one_spelling, run_spells, run_since, spells_log, makes_since}
-use Rattle.edits.specs.Known.{HasMade, RestsWith, IsUntouched}
+use Rattle.ordered_map.proofs.Lemmas.{one_spelling, spells_log, makes_since}
+use Rattle.edits.specs.Known.{RestsWith, IsUntouched}
 use Rattle.edits.specs.Tries.{HasEnteredNone}
 use Rattle.dict.specs.Laws.OneShare.{one_share}
-use Rattle.dict.specs.Says.{HasToldBy, HasTold, HasLost, HasRunOut}
+use Rattle.dict.specs.Says.{HasMadeEdit, HasToldBy, HasTold, HasLost, HasRunOut}
 use Rattle.forest.specs.Dictionary.{IsVersion, IsChange, IsChangeOrReading, IsContendedCall, IsFullCall}
 use Rattle.forest.specs.Passes.{PassView, run_of, done_of, taken_of}
 use Rattle.forest.proofs.Entered.{none_entered, one_entered}
@@ -40,11 +40,11 @@ module _ (was : PassView) (is_pass : was.number < was.layout.passes) (number : �
     none_more none = none_entered was.layout was.number (run_of then) (run_of was) run.1.lawful since none
 
     -- an edit that is made
-    change_says : (edit : MapEdit) (told : Option ℕ) → RestsWith call_by (run_of was) was.share → RestsWith call_by (run_of then) left → HasMade edit call_by (run_of then) number told → IsChange was then edit told
-    change_says edit told first rests y =
+    change_says : (call : MapCall) (told : MapReply) (edit : MapEdit) → RestsWith call_by (run_of was) was.share → RestsWith call_by (run_of then) left → HasMadeEdit call_by (run_of then) call told edit → IsChange was then call told edit
+    change_says call told edit first rests x =
+        let y = x.made in
         let before : History = y.before in
         let within : Extends (run_of then) before = ends_trans (run_of then) (y.row ⊳ before) before y.within (inr (ends_self before)) in
-        let m = run_spells was.layout before (run_since was.layout (run_of then) before run within) in
         record {
           row = y.row;
           before = before;
@@ -60,15 +60,15 @@ module _ (was : PassView) (is_pass : was.number < was.layout.passes) (number : �
           was_left = rw y.of_scx (took_from call_by (run_of then) run.1.lawful y was.share first);
           is_taken = rw y.of_scx (took_below call_by (run_of then) run.1.lawful y was.share first left rests);
           took = took_some call_by (run_of then) run.1.lawful y was.share first left rests;
-          map = m.0;
-          was = version_at then run before within m.0 m.1;
-          tells = y.told m.0 m.1;
-          is = version_at then run (y.row ⊳ before) y.within (edited edit m.0) (y.edits.changes m.0 m.1);
+          map = x.map;
+          was = version_at then run before within x.map x.spelled;
+          gives = x.gives;
+          is = version_at then run (y.row ⊳ before) y.within (edited edit x.map) (y.edits.changes x.map x.spelled);
         }
 
-    told_by : (b : Bool) (call : MapCall) (told : MapReply) → RestsWith call_by (run_of was) was.share → RestsWith call_by (run_of then) left → HasToldBy b call_by (run_of then) call told → IsChangeOrReading b was then call told
-    told_by true call told first rests y = (y.edit, y.old, y.is_edit, y.tells, change_says y.edit y.old first rests y.made)
-    told_by false call told first rests y = record {
+    told_by : (made : Option MapEdit) (call : MapCall) (told : MapReply) → RestsWith call_by (run_of was) was.share → RestsWith call_by (run_of then) left → HasToldBy made call_by (run_of then) call told → IsChangeOrReading made was then call told
+    told_by (Some edit) call told first rests y = change_says call told edit first rests y
+    told_by None call told first rests y = record {
       moment = y.moment;
       within = y.within;
       since = y.since;
@@ -80,8 +80,8 @@ module _ (was : PassView) (is_pass : was.number < was.layout.passes) (number : �
     }
 
     -- what is told, with what its share had as the call began, and has now
-    pub told_says : (call : MapCall) (told : MapReply) → RestsWith call_by (run_of was) was.share → RestsWith call_by (run_of then) left → HasTold call_by (run_of then) call told → IsChangeOrReading (changes_map call told) was then call told
-    told_says call told first rests y = told_by (changes_map call told) call told first rests y
+    pub told_says : (call : MapCall) (told : MapReply) → RestsWith call_by (run_of was) was.share → RestsWith call_by (run_of then) left → HasTold call_by (run_of then) call told → IsChangeOrReading (edit_of call told) was then call told
+    told_says call told first rests y = told_by (edit_of call told) call told first rests y
 
     -- refusals
     pub lost_says : (tries n s : ℕ) → HasLost call_by (run_of then) tries n s → IsContendedCall tries was then n s

@@ -1,5 +1,5 @@
 -- What the calls of a dictionary say of the pass that makes them.
-use Rattle.std.specs.Prelude.{◌≡◌, ℕ, ◌+◌, ◌*◌, ◌<◌, ◌≤◌, ◌⊎◌, Bool, true, false, List, ◌∷◌, Option, Some, None, Result, Ok, Err, Vec, map}
+use Rattle.std.specs.Prelude.{◌≡◌, ℕ, ◌+◌, ◌*◌, ◌<◌, ◌≤◌, ◌⊎◌, List, ◌∷◌, Option, Some, None, Result, Ok, Err, Vec, map}
 use Rattle.std.specs.Global.{Global}
 use Rattle.std.specs.Option.{option_map}
 use Rattle.arena.specs.declared.fault.Full.{Full as FullOf}
@@ -11,7 +11,7 @@ use Rattle.arena.specs.History.{History, ◌⊳◌, value, Extends}
 use Rattle.arena.specs.Log.{Entry, log}
 use Rattle.ordered_map.specs.declared.pair.Pair.{Pair as PairOf}
 use Rattle.ordered_map.specs.Laws.{AreEdits}
-use Rattle.ordered_map.specs.OrderedMap.{MapCall, Edit, Successor, Range, MapReply, OneValue, ManyPairs, pair_or_none, MapEdit, edit_key, edited, get, reply, changes_map}
+use Rattle.ordered_map.specs.OrderedMap.{MapCall, Edit, Successor, Range, MapReply, OneValue, ManyPairs, pair_or_none, MapEdit, edited, reply, edit_of}
 use Rattle.ordered_map.specs.Runs.{Makes, map_of_log}
 use Rattle.ordered_map.specs.Spelled.{Spells}
 use Rattle.template.specs.Blame.{IsOverOrNew, HasLostTriesTo}
@@ -42,9 +42,9 @@ pub record IsVersion (p : PassView) (moment : History) (m : List PairOf) : Type 
 
 -- What a call tells of the map
 
--- The call has made this edit: the pass has one entry more. Just before it the map told this of the
--- edit's key, and just after it the map is what the edit leaves.
-pub record IsChange (old new : PassView) (edit : MapEdit) (told : Option ℕ) : Type 0 where
+-- The call has made this edit: the pass has one entry more. Just before it the map gave this reply,
+-- and just after it the map is what the edit leaves.
+pub record IsChange (old new : PassView) (call : MapCall) (told : MapReply) (edit : MapEdit) : Type 0 where
   -- the row that has put the entry there, which may be another pass's, is behind what was known
   -- before
   pub row : Row
@@ -68,7 +68,7 @@ pub record IsChange (old new : PassView) (edit : MapEdit) (told : Option ℕ) : 
   -- the maps just before it and just after it
   pub map : List PairOf
   pub was : IsVersion new before map
-  pub tells : get (edit_key edit) map ≡ told
+  pub gives : reply call map ≡ told
   pub is : IsVersion new (row ⊳ before) (edited edit map)
 
 -- The call has read the map: at a moment from what was known before to what is known now it gave
@@ -84,14 +84,14 @@ pub record IsReading (old new : PassView) (call : MapCall) (told : MapReply) : T
   pub gives : reply call map ≡ told
   pub done : done_of new ≡ done_of old
 
--- a change, or a reading
-abbrev pub IsChangeOrReading : Bool → PassView → PassView → MapCall → MapReply → Type 0
-IsChangeOrReading true old new call told = (edit : MapEdit) × (v : Option ℕ) × (call ≡ Edit edit) × (told ≡ OneValue v) × IsChange old new edit v
-IsChangeOrReading false old new call told = IsReading old new call told
+-- a change by this edit, or a reading
+abbrev pub IsChangeOrReading : Option MapEdit → PassView → PassView → MapCall → MapReply → Type 0
+IsChangeOrReading (Some edit) old new call told = IsChange old new call told edit
+IsChangeOrReading None old new call told = IsReading old new call told
 
 -- what is told of the map, if anything, is of a version of it
 abbrev pub IsToldOf : PassView → PassView → MapCall → Option MapReply → Type 0
-IsToldOf old new call (Some told) = IsChangeOrReading (changes_map call told) old new call told
+IsToldOf old new call (Some told) = IsChangeOrReading (edit_of call told) old new call told
 IsToldOf old new call None = Unit {0}
 
 -- Refusals
@@ -166,15 +166,10 @@ update_reply (Ok old) = Value old
 update_reply (Err (updates.Contended node scx)) = Contended node scx
 update_reply (Err (updates.Full full)) = Full full
 
--- an insert has changed the map, and so has a delete that tells a value; else that has read it
-abbrev pub HasEdited : PassView → PassView → MapEdit → Option ℕ → Type 0
-HasEdited old new (MapEdit.Insert k v) told = IsChange old new (MapEdit.Insert k v) told
-HasEdited old new (MapEdit.Delete k) (Some told) = IsChange old new (MapEdit.Delete k) (Some told)
-HasEdited old new (MapEdit.Delete k) None = IsReading old new (Edit (MapEdit.Delete k)) (OneValue None)
-
--- what an answer of `insert` or `delete` says, which may try so often
+-- what an answer of `insert` or `delete` says, which may try so often: an insert has changed the
+-- map, and so has a delete that tells a value; else that has read it
 abbrev pub UpdateSays : {V : Type 0} → (V → ℕ) → ℕ → PassView → PassView → MapEdit → Result (Option V) UpdateFault → Type 0
-UpdateSays value_word tries old new edit (Ok told) = HasEdited old new edit (option_map value_word told)
+UpdateSays value_word tries old new edit (Ok told) = IsToldOf old new (Edit edit) (Some (OneValue (option_map value_word told)))
 UpdateSays value_word tries old new edit (Err (updates.Contended node scx)) = IsContendedCall tries old new node.0 scx.0
 UpdateSays value_word tries old new edit (Err (updates.Full full)) = IsFullCall old new (Edit edit) full
 

@@ -14,23 +14,16 @@ use Rattle.dict.specs.Words.{IsWordOf}
 use Rattle.dict.specs.declared.dict.DictRun.{DictRun}
 use Rattle.dict.specs.declared.told.WordReply.{WordReply}
 use Rattle.ordered_map.specs.declared.reply.Reply.{Reply}
-use Rattle.ordered_map.specs.OrderedMap.{MapEdit, Edit, Insert, Delete}
+use Rattle.ordered_map.specs.OrderedMap.{MapEdit, Edit}
 use Rattle.forest.specs.Dictionary.{update_reply as answer}
 use Rattle.forest.specs.declared.fault.UpdateFault.{UpdateFault}
-use Rattle.forest.specs.declared.straight.calls.WordEdit.{WordEdit}
-use Rattle.forest.specs.declared.straight.calls.WordEdit.TheVariants as edits
 use Rattle.forest.specs.declared.view.SeatedPass.{SeatedPass}
 use Rattle.forest.specs.Traces.{CallBegins, Ends, HoldsForCall, Trace}
 
--- the edit of the map that this is
-abbrev pub map_edit : WordEdit → MapEdit
-map_edit (edits.Insert e) = Insert e.key e.value
-map_edit (edits.Delete e) = Delete e.key
-
 -- a machine that makes this edit with so many tries and this share, in the call of this number, has
 -- not begun
-pub record IsFreshEdit {K V : Type 0} (edit : WordEdit) (share : Remaining) (tries number : ℕ) (m : DictRun K V) : Type 0 where
-  pub is_call : call_in m.run ≡ Edit (map_edit edit)
+pub record IsFreshEdit {K V : Type 0} (edit : MapEdit) (share : Remaining) (tries number : ℕ) (m : DictRun K V) : Type 0 where
+  pub is_call : call_in m.run ≡ Edit edit
   pub has_tries : m.tries ≡ tries
   pub has_share : share_of m.run ≡ share
   pub unbegun : IsUnbegun m.run tries number
@@ -68,7 +61,7 @@ module _ {K V : Type 0} (valid_key : K → Type 0) (key : K → ℕ) (valid_valu
 
   -- The call of an edit has ended with this answer: a machine of the edit has begun it, and one
   -- that has so much of the share left has ended it.
-  pub record EditHasEnded (c : Call) (ps : List SeatedPass) (edit : WordEdit) (share : Remaining) (tries number : ℕ) (left : Remaining) (told : Result (Option V) UpdateFault) : Type 0 where
+  pub record EditHasEnded (c : Call) (ps : List SeatedPass) (edit : MapEdit) (share : Remaining) (tries number : ℕ) (left : Remaining) (told : Result (Option V) UpdateFault) : Type 0 where
     pub first : DictRun K V
     pub last : DictRun K V
     pub fresh : IsFreshEdit edit share tries number first

@@ -15,15 +15,13 @@ ghost use Rattle.ordered_map.specs.Requests.{AsksForFew, as_map_call};
 ghost use Rattle.forest.specs.Dictionary.{IsReading, IsToldOf, IsRefusalOf, HasMadeCall, HasSpentAtMost, UpdateSays, SuccessorSays, RangeSays, blamed_by_reply, blamed_by_update, blamed_by_read};
 ghost use Rattle.forest.specs.Passes.{IsOf, AreNew};
 ghost use Rattle.forest.specs.StepKinds.{HasKeptToKinds};
-ghost use Rattle.forest.specs.StraightCalls.{map_edit};
 
 use crate::fault::{NewFault, OrderFault, UpdateFault};
 use crate::forest::Forest;
 use crate::pass::Pass;
-use crate::straight::calls::{self, WordEdit};
-use crate::straight::walk;
+use crate::straight::{calls, walk};
 use arena::{Limits, Mode, NoMemory, Share};
-use dict::{Dict, DictRun, Reply, Request, WordKey, WordValue, value_of};
+use dict::{Dict, DictRun, EditCall, Reply, Request, WordKey, WordValue, value_of};
 use std::alloc::Global;
 use std::mem::replace;
 use tree::{Delete, Insert};
@@ -71,7 +69,7 @@ impl<K: WordKey, V: WordValue> Forest<Dict<K, V>> {
         key.valid();
         value.valid();
         let (key, value) = (key.word(), value.word());
-        self.edit(pass, WordEdit::Insert(Insert { key, value }))
+        self.edit(pass, Insert { key, value })
     }
 
     /// Takes a key away, and tells the value that it had just before. It takes at most a node and
@@ -87,7 +85,7 @@ impl<K: WordKey, V: WordValue> Forest<Dict<K, V>> {
     {
         key.valid();
         let key = key.word();
-        self.edit(pass, WordEdit::Delete(Delete { key }))
+        self.edit(pass, Delete { key })
     }
 
     /// The value of a key, if it has one. It takes nothing, and is never refused.
@@ -171,15 +169,19 @@ impl<K: WordKey, V: WordValue> Forest<Dict<K, V>> {
 
     /// Makes an edit.
     #[inline(always)]
-    fn edit(&self, pass: &mut Pass<Dict<K, V>>, edit: WordEdit) -> Result<Option<V>, UpdateFault>
+    fn edit<E: EditCall>(
+        &self,
+        pass: &mut Pass<Dict<K, V>>,
+        edit: E,
+    ) -> Result<Option<V>, UpdateFault>
         requires pass { IsOf self.now pass.old }
-        requires typed { IsTypedCall (IsWordOf K.is_valid K.word_of) (IsWordOf V.is_valid V.word_of) (Edit (map_edit edit)) }
-        requires small { edit_key (map_edit edit) < 2 ^ 64 }
+        requires typed { IsTypedCall (IsWordOf K.is_valid K.word_of) (IsWordOf V.is_valid V.word_of) (Edit (E.edit edit)) }
+        requires small { edit_key (E.edit edit) < 2 ^ 64 }
         ensures pass { IsOf self.now pass.new }
         ensures tree { pass.new.layout.mode ≡ Tree }
-        ensures goes_on { HasMadeCall K.is_valid K.word_of V.is_valid V.word_of self.now.tries self.now.layout pass.old pass.new (Edit (map_edit edit)) (blamed_by_update result pass.old.blamed) }
-        ensures spends { HasSpentAtMost pass.old pass.new (Edit (map_edit edit)) self.now.tries }
-        ensures says { UpdateSays V.word_of self.now.tries pass.old pass.new (map_edit edit) result }
+        ensures goes_on { HasMadeCall K.is_valid K.word_of V.is_valid V.word_of self.now.tries self.now.layout pass.old pass.new (Edit (E.edit edit)) (blamed_by_update result pass.old.blamed) }
+        ensures spends { HasSpentAtMost pass.old pass.new (Edit (E.edit edit)) self.now.tries }
+        ensures says { UpdateSays V.word_of self.now.tries pass.old pass.new (E.edit edit) result }
         ensures valid { IfOk result (λ old. IfSome old V.is_valid) }
     {
         let number = pass.taken();

@@ -6,8 +6,8 @@ use Rattle.ordered_map.specs.declared.pair.Pair.{Pair}
 use Rattle.ordered_map.specs.OrderedMap.{MapCall, Successor, Range, MapReply, ManyPairs, pair_or_none, first_pair, successor, between, range, reply, get, IsRising}
 use Rattle.script.specs.declared.call.Call.{Call}
 use Rattle.script.specs.declared.command.Command.{Command}
-use Rattle.script.specs.declared.command.Command.TheVariants.{Llx, Scx, Vlx, Set, Map}
-use Rattle.ordered_map.specs.declared.request.Request.TheVariants.{Insert as InsertOf, Delete as DeleteOf, Get as GetOf, Successor as SuccessorOf, Range as RangeOf}
+use Rattle.script.specs.declared.command.Command.TheVariants.{Map}
+use Rattle.ordered_map.specs.declared.request.Request.TheVariants.{Successor as SuccessorOf, Range as RangeOf}
 use Rattle.record.specs.declared.record.Line.{Line}
 use Rattle.record.specs.MapRecord.{map_call, map_at, written_log}
 use Rattle.record.specs.Placed.{IsGreatestTurn}
@@ -54,13 +54,7 @@ reply_tells (Map (SuccessorOf k)) call m ordered is =
 reply_tells (Map (RangeOf low high most)) call m ordered is =
     let same : Range low high most ≡ call = cc in
     ap (λ (c : MapCall). pairs_in (Some (reply c m))) (sym same) ∙ ap (take most) (between_all low high m)
-reply_tells (Llx cell) call m ordered is = absurd ordered
-reply_tells (Scx update) call m ordered is = absurd ordered
-reply_tells (Vlx cells) call m ordered is = absurd ordered
-reply_tells (Set field value) call m ordered is = absurd ordered
-reply_tells (Map (InsertOf key value)) call m ordered is = absurd ordered
-reply_tells (Map (DeleteOf key)) call m ordered is = absurd ordered
-reply_tells (Map (GetOf key)) call m ordered is = absurd ordered
+reply_tells command call m ordered is = absurd ordered
 
 -- and maps of which it tells the same pairs have the same reply
 pub same_reply : (command : Command) (call : MapCall) (m n : List Pair) → IsOrderedRead command → map_call (Some command) ≡ Some call → pairs_read command m ≡ pairs_read command n → reply call m ≡ reply call n
@@ -72,13 +66,7 @@ same_reply (Map (RangeOf low high most)) call m n ordered is same =
     let this : Range low high most ≡ call = cc in
     let all : range low high most m ≡ range low high most n = ap (take most) (between_all low high m) ∙ same ∙ sym (ap (take most) (between_all low high n)) in
     subst (λ (c : MapCall). reply c m ≡ reply c n) this (ap ManyPairs all)
-same_reply (Llx cell) call m n ordered is same = absurd ordered
-same_reply (Scx update) call m n ordered is same = absurd ordered
-same_reply (Vlx cells) call m n ordered is same = absurd ordered
-same_reply (Set field value) call m n ordered is same = absurd ordered
-same_reply (Map (InsertOf key value)) call m n ordered is same = absurd ordered
-same_reply (Map (DeleteOf key)) call m n ordered is same = absurd ordered
-same_reply (Map (GetOf key)) call m n ordered is same = absurd ordered
+same_reply command call m n ordered is same = absurd ordered
 
 -- what is the greatest turn by the pairs is that by the reply
 pub greatest_reply : (command : Command) (call : MapCall) (told : Option MapReply) (calls : List Call) (lines : List Line) (n first last m : ℕ) → IsOrderedRead command → map_call (Some command) ≡ Some call → told ≡ Some (reply call (map_at calls lines n)) → IsGreatestTurn (λ j. pairs_read command (map_at calls lines j) ≡ pairs_in told) first last m → IsGreatestTurn (λ j. told ≡ Some (reply call (map_at calls lines j))) first last m

@@ -11,7 +11,7 @@ use Rattle.arena.specs.ScxRecords.{field}
 use Rattle.arena.proofs.Lemmas.{ends_self}
 use Rattle.histories.proofs.Lemmas.{Logs, facts_before, logs, same, update_changes, wins}
 use Rattle.ordered_map.specs.declared.pair.Pair.{Pair}
-use Rattle.ordered_map.specs.OrderedMap.{MapEdit, Insert, Delete, edited}
+use Rattle.ordered_map.specs.OrderedMap.{MapCall, MapEdit, Edit, edited}
 use Rattle.ordered_map.specs.FillOrder.{AreFilledInOrder}
 use Rattle.ordered_map.specs.Runs.{IsTreeRun, Makes}
 use Rattle.ordered_map.specs.Spelled.{Spells}
@@ -19,7 +19,7 @@ use Rattle.ordered_map.proofs.Lemmas.{makes_since, opening_spells, quiet_spells,
 use Rattle.script.specs.declared.call.Call.{Call}
 use Rattle.script.specs.declared.command.Command.{Command}
 use Rattle.script.specs.declared.command.Command.TheVariants.{Llx, Scx, Vlx, Set, Map}
-use Rattle.ordered_map.specs.declared.request.Request.TheVariants.{Insert as InsertOf, Delete as DeleteOf, Get as GetOf, Successor as SuccessorOf, Range as RangeOf}
+use Rattle.ordered_map.specs.Requests.{map_request}
 use Rattle.record.specs.declared.record.Line.{Line}
 use Rattle.record.specs.declared.record.Line.TheVariants.{Step, Log, Reply as ReplyLine}
 use Rattle.record.specs.declared.record.Row.TheVariants.{Step as Made, Idle}
@@ -27,6 +27,7 @@ use Rattle.record.specs.declared.record.Entry.{Entry}
 use Rattle.record.specs.Turns.{history, start, entry_at, entry_of, entry_owed, entries, is_update}
 use Rattle.record.specs.Commands.{commands, next_command}
 use Rattle.record.specs.CommandRules.{IsEntryFor}
+use Rattle.record.specs.Rules.Map.{IsMapEntry}
 use Rattle.record.specs.Entries.{IsWinOf}
 use Rattle.record.specs.Linked.{linked}
 use Rattle.record.specs.MapRecord.{map_call, map_call_of, after_maybe, written_log, map_of}
@@ -66,12 +67,12 @@ module _ (lay : Layout) (tries : ℕ) (calls : List Call) (mode : lay.mode ≡ T
       other : (command : Command) → next_command calls lines e.client.0 ≡ Some command → map_call (Some command) ≡ None → ⊥
       other command is none = let y = all e.client.0 _ command is in let d : None ≡ Some y.0 = sym none ∙ y.1 in cc
 
+      by_call : (call : MapCall) → map_call_of calls e.client.0 e.call ≡ Some call → IsMapEntry call lay (history lay.mode lines) x.entered → Spells lay (value (row ⊳ history lay.mode lines)) (after_maybe (map_call_of calls e.client.0 e.call) ps)
+      by_call (Edit edit) is does = rw is (edits edit does)
+      by_call call is does = absurd does
+
       go : (command : Command) → next_command calls lines e.client.0 ≡ Some command → IsEntryFor lay e.client.0 (history lay.mode lines) (start lay.mode lines e.client.0) (linked calls lay.mode lines e.client.0) x.entered command → Spells lay (value (row ⊳ history lay.mode lines)) (after_maybe (map_call_of calls e.client.0 e.call) ps)
-      go (Map (InsertOf key v)) is does = rw (call_is (Map (InsertOf key v)) is) (edits (Insert key v) does)
-      go (Map (DeleteOf key)) is does = rw (call_is (Map (DeleteOf key)) is) (edits (Delete key) does)
-      go (Map (GetOf key)) is does = absurd does
-      go (Map (SuccessorOf key)) is does = absurd does
-      go (Map (RangeOf low high most)) is does = absurd does
+      go (Map request) is does = by_call (map_request request) (call_is (Map request) is) does
       go (Llx cell) is does = absurd (other (Llx cell) is refl)
       go (Scx update) is does = absurd (other (Scx update) is refl)
       go (Vlx cells) is does = absurd (other (Vlx cells) is refl)

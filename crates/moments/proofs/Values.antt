@@ -1,35 +1,24 @@
 -- The value of a key after a turn, by the changes: what the map of the entries up to then gives.
 use Rattle.std.proofs.Common.{◌≡◌, ℕ, Bool, true, false, cond, eqb, List, [], ◌∷◌, Option, Some, None, refl, ◌∙◌, ap}
 use Rattle.std.specs.Prelude.{leb}
-use Rattle.std.proofs.lemmas.Bool.{eqb-true, eqb-false}
 use Rattle.ordered_map.specs.declared.pair.Pair.{Pair}
-use Rattle.ordered_map.specs.OrderedMap.{MapCall, Edit, Get, Successor, Range, MapEdit, Insert, Delete, edit_key, edited, get, IsRising}
-use Rattle.ordered_map.proofs.Lemmas.{inserted, insert_keeps, deleted, delete_keeps, edited_rises}
+use Rattle.ordered_map.specs.OrderedMap.{MapCall, Edit, edit_key, get, IsRising}
+use Rattle.ordered_map.proofs.Lemmas.{edit_gives, edited_rises}
 use Rattle.script.specs.declared.call.Call.{Call}
 use Rattle.record.specs.declared.record.Entry.{Entry}
 use Rattle.record.specs.MapRecord.{map_call_of, after_maybe, entries_until, map_of}
 use Rattle.moments.specs.declared.places.Change.{Change}
-use Rattle.moments.specs.Entries.{value_left, IsChangeBy, AreChangesOf}
+use Rattle.moments.specs.Entries.{IsChangeBy, AreChangesOf}
 
 -- the value of the key after turn m: that of its newest change up to then
 abbrev pub value_at : ℕ → ℕ → List Change → Option ℕ
 value_at key m [] = None
 value_at key m (c ∷ cs) = cond (leb c.turn m) (cond (eqb key c.key) c.value (value_at key m cs)) (value_at key m cs)
 
--- an edit changes the value of its key alone
-edit_gives : (e : MapEdit) (m : List Pair) (key : ℕ) → IsRising m → (b : Bool) → eqb key (edit_key e) ≡ b → get key (edited e m) ≡ cond b (value_left e) (get key m)
-edit_gives (Insert k v) m key rising true same = rw (eqb-true key k same) (inserted k v m)
-edit_gives (Insert k v) m key rising false other = insert_keeps key k v m (eqb-false key k other)
-edit_gives (Delete k) m key rising true same = rw (eqb-true key k same) (deleted k m rising)
-edit_gives (Delete k) m key rising false other = delete_keeps key k m (eqb-false key k other)
-
--- so does the change of a call
+-- the change of a call changes the value of its key alone
 change_gives : (call : Option MapCall) (c : Change) (m : List Pair) → IsChangeBy call c → IsRising m → IsRising (after_maybe call m) × ((key : ℕ) → get key (after_maybe call m) ≡ cond (eqb key c.key) c.value (get key m))
 change_gives (Some (Edit e)) c m x rising = (edited_rises e m rising, λ key. rw (x.0, x.1) (edit_gives e m key rising (eqb key (edit_key e)) refl))
-change_gives (Some (Get k)) c m x rising = absurd x
-change_gives (Some (Successor k)) c m x rising = absurd x
-change_gives (Some (Range low high most)) c m x rising = absurd x
-change_gives None c m x rising = absurd x
+change_gives call c m x rising = absurd x
 
 -- with one more of both, whether its turn has come or not
 value_more : (calls : List Call) (e : Entry) (es : List Entry) (c : Change) (cs : List Change) (m : ℕ) → IsChangeBy (map_call_of calls e.client.0 e.call) c → IsRising (map_of calls (entries_until m es)) × ((key : ℕ) → get key (map_of calls (entries_until m es)) ≡ value_at key m cs) → (b : Bool) → IsRising (map_of calls (cond b (e ∷ entries_until m es) (entries_until m es))) × ((key : ℕ) → get key (map_of calls (cond b (e ∷ entries_until m es) (entries_until m es))) ≡ cond b (cond (eqb key c.key) c.value (value_at key m cs)) (value_at key m cs))

@@ -1,17 +1,12 @@
 -- Which changes of the map the entries of a record's log are. Entries and changes stand here with
 -- the newest first.
 use Rattle.std.specs.Prelude.{◌≡◌, ℕ, ◌≤◌, List, [], ◌∷◌, Option, Some, None}
-use Rattle.ordered_map.specs.OrderedMap.{MapCall, Edit, MapEdit, Insert, Delete, edit_key, get}
+use Rattle.ordered_map.specs.OrderedMap.{MapCall, Edit, edit_key, get, value_left}
 use Rattle.script.specs.declared.call.Call.{Call}
 use Rattle.record.specs.declared.record.Line.{Line}
 use Rattle.record.specs.declared.record.Entry.{Entry}
 use Rattle.record.specs.MapRecord.{map_call_of, written_log, map_at}
 use Rattle.moments.specs.declared.places.Change.{Change}
-
--- the value that an edit leaves to its key
-abbrev pub value_left : MapEdit → Option ℕ
-value_left (Insert k v) = Some v
-value_left (Delete k) = None
 
 -- the change is that of this call, which is an edit
 abbrev pub IsChangeBy : Option MapCall → Change → Type 0

@@ -6,5 +6,6 @@ mod changed;
 mod ordered;
 mod places;
 
+pub use changed::edited;
 pub use ordered::pairs_told;
 pub use places::{Change, Places};

@@ -11,6 +11,6 @@ pub use Rattle.ordered_map.proofs.Runs.{one_edit, makes_one, begun_named, shaped
 pub use Rattle.ordered_map.proofs.Edited.{plan_insert, plan_delete}
 pub use Rattle.ordered_map.proofs.Moved.{SameSettled, settled_rank, settled_toward, settled_class, settled_leaf, settled_level, settled_first, move_swap, move_split, move_join}
 pub use Rattle.ordered_map.proofs.Next.{first, search_next, search_is}
-pub use Rattle.ordered_map.proofs.Maps.{get_above, inserted, insert_keeps, deleted, delete_keeps, edited_rises, same_values, first_is, popped, replaced, successor_is, between_gives, between_rises}
+pub use Rattle.ordered_map.proofs.Maps.{get_above, inserted, insert_keeps, deleted, delete_keeps, edited_rises, same_values, first_is, popped, replaced, successor_is, between_gives, between_rises, edit_gives, after_is}
 pub use Rattle.ordered_map.proofs.Rising.{rising_levels, held_stood}
 pub use Rattle.ordered_map.proofs.FirstLeaf.{walk_small, walk_left, walk_before, walk_own, walk_least, win_first}

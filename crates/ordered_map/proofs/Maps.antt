@@ -1,9 +1,10 @@
 -- The calls of a map, told by its values.
-use Rattle.std.proofs.Common.{◌≡◌, ◌≢◌, ℕ, ◌<◌, ◌≤◌, Bool, true, false, cond, ◌&&◌, eqb, leb, ltb, ◌⊎◌, inl, inr, List, [], ◌∷◌, refl, sym, ◌∙◌, ap, arith, lt-ltb, le-ltb, eq-eqb, ne_eqb}
+use Rattle.std.proofs.Common.{◌≡◌, ◌≢◌, ℕ, ◌<◌, ◌≤◌, Bool, true, false, cond, ◌&&◌, eqb, leb, ltb, ◌⊎◌, inl, inr, List, [], ◌∷◌, refl, sym, ◌∙◌, ap, subst, arith, lt-ltb, le-ltb, eq-eqb, ne_eqb}
 use Rattle.std.specs.Prelude.{Option, Some, None}
+use Rattle.std.proofs.lemmas.Bool.{eqb-true, eqb-false}
 use native.Mathlib.Decide.{ℕ_discrete}
 use Rattle.ordered_map.specs.declared.pair.Pair.{Pair}
-use Rattle.ordered_map.specs.OrderedMap.{pair, AllAbove, IsRising, get, insert, delete, first_pair, without_first, is_value, replace_if, successor, between, MapEdit, Insert, Delete, edited, pop_edit, replace_edit, after_edit}
+use Rattle.ordered_map.specs.OrderedMap.{pair, AllAbove, IsRising, get, insert, delete, first_pair, without_first, is_value, replace_if, successor, between, MapEdit, Insert, Delete, edit_key, edited, value_left, pop_edit, replace_edit, after_edit, MapCall, OneValue, Edit, Get, Successor, Range, reply, after, edit_of}
 use Rattle.ordered_map.specs.MapLaws.{IsLeast, IsSuccessor, within}
 use Rattle.ordered_map.proofs.Trees.{split_at}
 
@@ -222,3 +223,38 @@ replaced k e v m = go (is_value e (get k m))
     go : (b : Bool) → cond b (insert k v m) m ≡ after_edit (cond b (Some (Insert k v)) None) m
     go true = refl
     go false = refl
+
+-- What an edit leaves
+
+-- an edit changes the value of its key alone
+pub edit_gives : (e : MapEdit) (m : List Pair) (key : ℕ) → IsRising m → (b : Bool) → eqb key (edit_key e) ≡ b → get key (edited e m) ≡ cond b (value_left e) (get key m)
+edit_gives (Insert k v) m key rising true is = rw (eqb-true key k is) (inserted k v m)
+edit_gives (Insert k v) m key rising false other = insert_keeps key k v m (eqb-false key k other)
+edit_gives (Delete k) m key rising true is = rw (eqb-true key k is) (deleted k m rising)
+edit_gives (Delete k) m key rising false other = delete_keeps key k m (eqb-false key k other)
+
+-- What a call leaves
+
+-- an absent key may be taken away, and nothing changes
+delete_absent : (k : ℕ) (m : List Pair) → get k m ≡ None → delete k m ≡ m
+delete_absent k [] e = refl
+delete_absent k (p ∷ ps) e = go (eqb k p.key) (delete_absent k ps) e
+  where
+    go : (same : Bool) → (get k ps ≡ None → delete k ps ≡ ps) → cond same (Some p.value) (get k ps) ≡ None → cond same ps (p ∷ delete k ps) ≡ p ∷ ps
+    go true rest x = let y : Some p.value ≡ None = x in cc
+    go false rest x = ap (λ qs. p ∷ qs) (rest x)
+
+left_after : (call : MapCall) (m : List Pair) → after call m ≡ after_edit (edit_of call (reply call m)) m
+left_after (Edit (Insert k v)) m = refl
+left_after (Edit (Delete k)) m = go (get k m) refl
+  where
+    go : (told : Option ℕ) → get k m ≡ told → delete k m ≡ after_edit (edit_of (Edit (Delete k)) (OneValue told)) m
+    go None e = delete_absent k m e
+    go (Some v) e = refl
+left_after (Get k) m = refl
+left_after (Successor k) m = refl
+left_after (Range low high most) m = refl
+
+-- a call leaves what the edit leaves that its reply says it has made; a reading leaves the map
+pub after_is : (call : MapCall) (m : List Pair) (made : Option MapEdit) → edit_of call (reply call m) ≡ made → after call m ≡ after_edit made m
+after_is call m made e = subst (λ (o : Option MapEdit). after call m ≡ after_edit o m) e (left_after call m)

@@ -1,5 +1,5 @@
 -- The ordered map from keys to values: what each call replies, and the map that it leaves.
-use Rattle.std.specs.Prelude.{ℕ, ◌<◌, Bool, true, false, if◌then◌else◌, ◌&&◌, ◌==◌, nat_le, nat_lt, List, [], ◌∷◌, take, Option, Some, None}
+use Rattle.std.specs.Prelude.{ℕ, ◌<◌, Bool, true, false, if◌then◌else◌, ◌&&◌, ◌==◌, nat_le, nat_lt, List, [], ◌∷◌, take, Option, Some, None, is_some}
 use Rattle.ordered_map.specs.declared.pair.Pair.{Pair}
 
 -- A map is the list of its pairs by rising key; the empty list is the empty map.
@@ -83,6 +83,11 @@ abbrev pub edit_key : MapEdit → ℕ
 edit_key (Insert k v) = k
 edit_key (Delete k) = k
 
+-- the value that an edit leaves to its key
+abbrev pub value_left : MapEdit → Option ℕ
+value_left (Insert k v) = Some v
+value_left (Delete k) = None
+
 -- the map that an edit leaves
 abbrev pub edited : MapEdit → List Pair → List Pair
 edited (Insert k v) m = insert k v m
@@ -135,9 +140,13 @@ after (Get k) m = m
 after (Successor k) m = m
 after (Range low high most) m = m
 
--- whether a call with this reply has changed the map: an insert always has, a delete where it tells
--- a value; all other calls with a reply are readings
+-- the edit of the map that a call with this reply has made, if it has made one: an insert always
+-- has, a delete where it tells a value; all other calls with a reply are readings
+abbrev pub edit_of : MapCall → MapReply → Option MapEdit
+edit_of (Edit (Insert k v)) told = Some (Insert k v)
+edit_of (Edit (Delete k)) (OneValue (Some v)) = Some (Delete k)
+edit_of _ _ = None
+
+-- whether a call with this reply has changed the map
 abbrev pub changes_map : MapCall → MapReply → Bool
-changes_map (Edit (Insert k v)) told = true
-changes_map (Edit (Delete k)) (OneValue (Some v)) = true
-changes_map _ _ = false
+changes_map call told = is_some (edit_of call told)

@@ -37,7 +37,6 @@ use Rattle.record.specs.SpelledMap.{AreSpelled}
 use Rattle.record.specs.Turns.{history, turns, answered, begin, start, won, entry_owed, client_of}
 use Rattle.player.specs.Allowed.{PlayedAllows}
 use Rattle.moments.specs.declared.places.Change.{Change}
-use Rattle.player.specs.Edits.{edit_command}
 use Rattle.player.specs.Moments.{IsMomentBy}
 use Rattle.player.specs.ClientView.{client_view, Tells, HasEditedKey}
 use Rattle.record.proofs.Lemmas.{entries_none, value_told}
@@ -205,8 +204,8 @@ module _ (lay : Layout) (tries : ℕ) (calls : List Call) (lines : List Line) (c
   refused : (command : Command) → IsEditReply lay tries calls lines changes r c command → HasItsEntry false (won lay lines c) → r.moment ≡ None → IsRefused lines r
   refused command x y none = record { none = rw (x.client, x.number) (entries_none lay tries calls lines x.lines_are c (unwon_none (won lay lines c) y)); moment = none }
 
-  told : (e : MapEdit) (old : Option ℕ) → IsEditReply lay tries calls lines changes r c (edit_command e) → r.answer ≡ MapAnswer (Value old) → HasEditedKey (client_view lay tries calls lines c) c (edit_key e) old → r.moment ≡ won lay lines c → IsPlacedChange calls lines (Edit e) r
-  told e old x is y at =
+  told : (command : Command) (e : MapEdit) (old : Option ℕ) → IsEditReply lay tries calls lines changes r c command → r.answer ≡ MapAnswer (Value old) → HasEditedKey (client_view lay tries calls lines c) c (edit_key e) old → r.moment ≡ won lay lines c → IsPlacedChange calls lines (Edit e) r
+  told command e old x is y at =
       let f = find_win lay tries calls c x.mode x.all y.row y.before y.scx y.win.wins y.win.own lines x.run x.lines_are x.owed y.win.within y.win.since in
       record {
         entry = f.entry;
@@ -228,19 +227,15 @@ module _ (lay : Layout) (tries : ℕ) (calls : List Call) (lines : List Line) (c
       let none = unwon_none (won lay lines c) (rw is at x.entry) in
       absent_placed lay tries calls lines r key x.lines_are x.spells x.owed (rw x.client x.next) (rw x.client none) (rw x.client x.number) (rw x.client x.began) x.ended is (rw x.client had) record { found = found.0; none = found.1 }
 
-  insert_placed : (key put : ℕ) (answer : Answer) → IsEditReply lay tries calls lines changes r c (Map (InsertOf key put)) → r.answer ≡ answer → IsPlacedOnMap (reply_told answer) calls lines (Edit (Insert key put)) r
-  insert_placed key put (MapAnswer (Value old)) x is = told (Insert key put) old x is (rw is at x.tells) (rw is at x.moment)
+  pub insert_placed : (key put : ℕ) (answer : Answer) → IsEditReply lay tries calls lines changes r c (Map (InsertOf key put)) → r.answer ≡ answer → IsPlacedOnMap (reply_told answer) calls lines (Edit (Insert key put)) r
+  insert_placed key put (MapAnswer (Value old)) x is = told (Map (InsertOf key put)) (Insert key put) old x is (rw is at x.tells) (rw is at x.moment)
   insert_placed key put (MapAnswer (Full full)) x is = refused (Map (InsertOf key put)) x (rw is at x.entry) (rw is at x.moment)
   insert_placed key put (MapAnswer (Contended node scx)) x is = refused (Map (InsertOf key put)) x (rw is at x.entry) (rw is at x.moment)
   insert_placed key put answer x is = absurd (rw is at x.right)
 
-  delete_placed : (key : ℕ) (answer : Answer) → IsEditReply lay tries calls lines changes r c (Map (DeleteOf key)) → r.answer ≡ answer → IsPlacedOnMap (reply_told answer) calls lines (Edit (Delete key)) r
-  delete_placed key (MapAnswer (Value (Some old))) x is = told (Delete key) (Some old) x is (rw is at x.tells) (rw is at x.moment)
+  pub delete_placed : (key : ℕ) (answer : Answer) → IsEditReply lay tries calls lines changes r c (Map (DeleteOf key)) → r.answer ≡ answer → IsPlacedOnMap (reply_told answer) calls lines (Edit (Delete key)) r
+  delete_placed key (MapAnswer (Value (Some old))) x is = told (Map (DeleteOf key)) (Delete key) (Some old) x is (rw is at x.tells) (rw is at x.moment)
   delete_placed key (MapAnswer (Value None)) x is = absent key x is
   delete_placed key (MapAnswer (Full full)) x is = refused (Map (DeleteOf key)) x (rw is at x.entry) (rw is at x.moment)
   delete_placed key (MapAnswer (Contended node scx)) x is = refused (Map (DeleteOf key)) x (rw is at x.entry) (rw is at x.moment)
   delete_placed key answer x is = absurd (rw is at x.right)
-
-  pub edit_placed : (e : MapEdit) → IsEditReply lay tries calls lines changes r c (edit_command e) → IsPlacedOnMap (reply_told r.answer) calls lines (Edit e) r
-  edit_placed (Insert key put) x = insert_placed key put r.answer x refl
-  edit_placed (Delete key) x = delete_placed key r.answer x refl

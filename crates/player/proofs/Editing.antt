@@ -23,20 +23,18 @@ use Rattle.prims.specs.declared.put.PutAt.TheVariants.{Start as PutStart, Fill a
 use Rattle.prims.specs.declared.scx.ScxAt.{ScxAt}
 use Rattle.prims.specs.declared.scx.ScxAt.TheVariants.{Start as ScxStart, Help}
 use Rattle.prims.proofs.Lemmas.{llx_fills_not, vlx_fills_not, own_in_hand}
-use Rattle.dict.specs.Calls.{call_in, share_of}
+use Rattle.dict.specs.Calls.{inner_call, inner_share}
 use Rattle.dict.specs.Known.{IsNumbered, WaitsInside}
-use Rattle.dict.specs.declared.run.MapRun.{MapRun}
-use Rattle.dict.specs.declared.run.MapRun.TheVariants.{Insert, Delete, Get, Successor, Range}
+use Rattle.dict.specs.Inner.{InnerRun, Update, Get, Successor, Range, inner}
+use Rattle.dict.specs.Laws.Kinds.{IsOfKind}
 use Rattle.order.specs.Range.Laws.{range_fills_not}
 use Rattle.order.specs.Successor.Laws.{successor_fills_not}
-use Rattle.ordered_map.specs.OrderedMap.{MapEdit, Edit as EditCall, Insert as PutEdit, Delete as TakeEdit}
+use Rattle.ordered_map.specs.OrderedMap.{MapEdit, Edit as EditCall}
 use Rattle.ordered_map.specs.Runs.{Makes}
 use Rattle.ordered_map.specs.TreeShape.{TreeAllows}
 use Rattle.template.proofs.Lemmas.{walk_fills_not}
 use Rattle.template.specs.Tracked.{Tracks}
 use Rattle.template.specs.declared.walk.Found.{Found}
-use Rattle.tree.specs.Delete.Means.{delete_means}
-use Rattle.tree.specs.Insert.Means.{insert_means}
 use Rattle.tree.proofs.Lemmas.{get_fills_not}
 use Rattle.edits.specs.Edits.{EditMeaning}
 use Rattle.edits.specs.Known.{Tries, UpdateWaitsAt}
@@ -80,10 +78,10 @@ pub record IsHandOf (number : ℕ) (edit : MapEdit) (call : MachineCall) (h : Hi
   pub makes : Makes call.layout h t edit
   pub only : HasEnteredOnly call.layout call.pass t h call.start
 
--- it is of the edit that the machine makes
-pub record IsEditHand (m : MapRun) (call : MachineCall) (h : History) (t : ℕ) : Type 0 where
+-- it is of the edit that the machine inside makes
+pub record IsEditHand (m : InnerRun) (call : MachineCall) (h : History) (t : ℕ) : Type 0 where
   pub edit : MapEdit
-  pub is : call_in m ≡ EditCall edit
+  pub is : inner_call m ≡ EditCall edit
   pub hand : IsHandOf call.number edit call h t
 
 module _ {E : Type 0} (means : EditMeaning E) (m : UpdateRun E UpdateAt) where
@@ -122,14 +120,12 @@ module _ {E : Type 0} (means : EditMeaning E) (m : UpdateRun E UpdateAt) where
 
 -- a pass that rests has none in progress
 module _ (call : MachineCall) (h : History) (t : ℕ) (l : Lawful call.layout h) (own : IsOwnScx call.layout call.pass t) (p : IsInProgress h t) (s : Step) where
-  pub map_hand : (m : MapRun) → IsNumbered m call.number → WaitsInside m call h s → IsEditHand m call h t
-  map_hand (Insert m) number w = record { edit = PutEdit m.edit.key m.edit.value; is = refl; hand = subst (λ (n : ℕ). IsHandOf n (PutEdit m.edit.key m.edit.value) call h t) number (hand_at insert_means m (PutEdit m.edit.key m.edit.value) (λ f. refl) call h t l own p w.0 s m.at w.1 w.3) }
-  map_hand (Delete m) number w = record { edit = TakeEdit m.edit.key; is = refl; hand = subst (λ (n : ℕ). IsHandOf n (TakeEdit m.edit.key) call h t) number (hand_at delete_means m (TakeEdit m.edit.key) (λ f. refl) call h t l own p w.0 s m.at w.1 w.3) }
-  map_hand m number w = absurd (idle_rests call h (share_of m) l w.1.now t own p)
+  pub map_hand : (m : InnerRun) → IsOfKind m → IsNumbered m call.number → WaitsInside m call h s → IsEditHand m call h t
+  map_hand (Update k m) kind number w = record { edit = k.edit m.edit; is = refl; hand = subst (λ (n : ℕ). IsHandOf n (k.edit m.edit) call h t) number (hand_at k.means m (k.edit m.edit) (kind.makes m.edit) call h t l own p w.0 s m.at w.1 w.3) }
+  map_hand m kind number w = absurd (idle_rests call h (inner_share m) l w.1.now t own p)
 
-map_says : (m : MapRun) (call : MachineCall) (h : History) (s : Step) (t v : ℕ) → IsNumbered m call.number → WaitsInside m call h s → s.kind ≡ FillKind → s.word ≡ scx_word t CallWord → word_after s.access v ≡ call.number
-map_says (Insert m) call h s t v number w kind word = update_says_at insert_means m (begun_at call w.0) h s t v m.at w.3 kind word ∙ number
-map_says (Delete m) call h s t v number w kind word = update_says_at delete_means m (begun_at call w.0) h s t v m.at w.3 kind word ∙ number
+map_says : (m : InnerRun) (call : MachineCall) (h : History) (s : Step) (t v : ℕ) → IsNumbered m call.number → WaitsInside m call h s → s.kind ≡ FillKind → s.word ≡ scx_word t CallWord → word_after s.access v ≡ call.number
+map_says (Update k m) call h s t v number w kind word = update_says_at k.means m (begun_at call w.0) h s t v m.at w.3 kind word ∙ number
 map_says (Get m share) call h s t v number w kind word = absurd (get_fills_not m call h s w.0 kind)
 map_says (Successor m share) call h s t v number w kind word = absurd (successor_fills_not m call h s w.0 kind)
 map_says (Range m share) call h s t v number w kind word = absurd (range_fills_not m call h s w.0 kind)
@@ -149,4 +145,4 @@ pub run_says : (command : Command) (run : Run) (then : Option Put) (call : Machi
 run_says command (Llx m) then call h s t v of w kind word = absurd (llx_fills_not AllowsAll m call h s w kind)
 run_says command (Vlx m) then call h s t v of w kind word = absurd (vlx_fills_not m.snaps m.asked call h s w kind)
 run_says command (ScxRun m) then call h s t v of w kind word = put_says_at m call h s t v m.at w kind word ∙ put_called command call.number m then of
-run_says command (Map m) then call h s t v of w kind word = map_says m.run call h s t v w.1.0.number w.1.1 kind word
+run_says command (Map m) then call h s t v of w kind word = map_says (inner m.run) call h s t v w.1.0.number w.1.1 kind word

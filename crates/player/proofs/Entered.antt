@@ -36,16 +36,18 @@ use Rattle.player.specs.declared.client.Put.{Put}
 use Rattle.record.specs.Snapshots.{IsLastLook}
 use Rattle.record.specs.Answers.{IsUnchanged, AreUnchanged}
 use Rattle.record.specs.Updates.{IsEntryOver}
+use Rattle.record.specs.Rules.Map.{IsMapEntry}
 use Rattle.record.specs.CommandRules.{IsEntryFor}
 use Rattle.player.specs.Allowed.{PlayedAllows}
 use Rattle.player.specs.RunKnown.{RunWaits, RunIsReady}
 use Rattle.player.proofs.RunLaws.{run_keeps, run_made}
 use Rattle.player.specs.ClientView.{ClientView, IsSound, IsPutOf, IsScxOf, IsStart, IsOwnWin, IsWonSince, held, HoldsShare, HaveMoments, no_hand, Rests, Works, WaitsForStep, machine_call, command_of}
+use Rattle.dict.specs.Inner.{inner}
+use Rattle.dict.specs.Laws.Kinds.{is_of_kind}
 use Rattle.dict.specs.declared.dict.DictRun.{DictRun}
 use Rattle.ordered_map.specs.Requests.{map_request}
 use Rattle.ordered_map.specs.declared.request.Request.{Request}
-use Rattle.ordered_map.specs.declared.request.Request.TheVariants.{Insert as InsertOf, Delete as DeleteOf}
-use Rattle.ordered_map.specs.OrderedMap.{MapEdit, Edit as EditCall, Insert as PutEdit, Delete as TakeEdit}
+use Rattle.ordered_map.specs.OrderedMap.{MapEdit, Edit as EditCall}
 use Rattle.ordered_map.specs.Runs.{Makes}
 use Rattle.edits.specs.Tries.{HasEnteredOnly}
 use Rattle.player.proofs.Editing.{IsEditHand, map_hand}
@@ -186,11 +188,9 @@ module _ (v : ClientView) (c : Client) (sound : IsSound v) (row : Row) (s : ℕ)
 
   -- an edit's SCX-record makes the edit of its request
   edit_does : (request : Request ℕ ℕ) (e : MapEdit) → EditCall e ≡ map_request request → Makes v.layout v.past s e → IsEntryFor v.layout c.pass.0 v.past v.start v.linked (entry_of v.layout v.past s) (MapOf request)
-  edit_does (InsertOf key value) e is makes = subst (λ (d : MapEdit). Makes v.layout v.past s d) (let d : EditCall e ≡ EditCall (PutEdit key value) = is in let same : e ≡ PutEdit key value = cc in same) makes
-  edit_does (DeleteOf key) e is makes = subst (λ (d : MapEdit). Makes v.layout v.past s d) (let d : EditCall e ≡ EditCall (TakeEdit key) = is in let same : e ≡ TakeEdit key = cc in same) makes
-  edit_does request e is makes = absurd (let other = is in cc)
+  edit_does request e is makes = subst (λ call. IsMapEntry call v.layout v.past (entry_of v.layout v.past s)) is makes
 
-  from_map : (m : DictRun ℕ ℕ) (then : Option Put) (x : Works v c (Map m) then) → IsEditHand m.run (machine_call v c x.is_pass v.start) v.past s → IsEntryFrom v c row s
+  from_map : (m : DictRun ℕ ℕ) (then : Option Put) (x : Works v c (Map m) then) → IsEditHand (inner m.run) (machine_call v c x.is_pass v.start) v.past s → IsEntryFrom v c row s
   from_map m then x h = record {
     first = edit_first h.hand.only x.won;
     number = x.stands.number;
@@ -205,7 +205,7 @@ module _ (v : ClientView) (c : Client) (sound : IsSound v) (row : Row) (s : ℕ)
     does = subst (λ (k : Command). IsEntryFor v.layout c.pass.0 v.past v.start v.linked (entry_of v.layout v.past s) k) (sym x.run_of.is) (edit_does x.run_of.request h.edit (sym h.is ∙ x.run_of.called) h.hand.makes);
   }
 
-  from_run : (run : Run) (then : Option Put) (x : Works v c run then) → ((m : PutRun) → run ≡ Scx m → m.scx.scx.0 ≡ s → IsOfPut v c row m x.start x.is_pass) → ((m : DictRun ℕ ℕ) → run ≡ Map m → IsEditHand m.run (machine_call v c x.is_pass v.start) v.past s) → IsEntryFrom v c row s
+  from_run : (run : Run) (then : Option Put) (x : Works v c run then) → ((m : PutRun) → run ≡ Scx m → m.scx.scx.0 ≡ s → IsOfPut v c row m x.start x.is_pass) → ((m : DictRun ℕ ℕ) → run ≡ Map m → IsEditHand (inner m.run) (machine_call v c x.is_pass v.start) v.past s) → IsEntryFrom v c row s
   from_run (Scx m) then x f g =
       let same : s ≡ m.scx.scx.0 = own_in_hand v.layout v.past c.pass.0 s m.scx.scx.0 sound.lawful x.holds.over own in_progress in
       let y = f m refl (sym same) in
@@ -244,12 +244,12 @@ module _ (v : ClientView) (c : Client) (sound : IsSound v) (row : Row) (s : ℕ)
   rest_wins_not x = no_hand_wins x.holds
 
 -- what a call of the map that waits has in hand
-map_waits : (v : ClientView) (c : Client) (q : Running) (m : DictRun ℕ ℕ) (s : ℕ) → IsSound v → (w : WaitsForStep v c q) → q.run ≡ Map m → IsOwnScx v.layout c.pass.0 s → IsInProgress v.past s → IsEditHand m.run (machine_call v c w.works.is_pass v.start) v.past s
+map_waits : (v : ClientView) (c : Client) (q : Running) (m : DictRun ℕ ℕ) (s : ℕ) → IsSound v → (w : WaitsForStep v c q) → q.run ≡ Map m → IsOwnScx v.layout c.pass.0 s → IsInProgress v.past s → IsEditHand (inner m.run) (machine_call v c w.works.is_pass v.start) v.past s
 map_waits v c q m s sound w e own p =
     let begun : w.works.start ≡ v.start = subst (λ (k : Run). IsStart k w.works.start v.start) e w.works.begun in
     let call = machine_call v c w.works.is_pass v.start in
     let waits : RunWaits (Map m) call v.past q.step = subst (λ (k : Run). RunWaits k call v.past q.step) e (subst (λ (k : History). RunWaits q.run (machine_call v c w.works.is_pass k) v.past q.step) begun w.waits) in
-    map_hand call v.past s sound.lawful own p q.step m.run waits.1.0.number waits.1.1
+    map_hand call v.past s sound.lawful own p q.step (inner m.run) (is_of_kind m.run) waits.1.0.number waits.1.1
 
 -- a row of another client
 pub entry_by_others : (v : ClientView) (c : Client) (q : Running) (row : Row) (s : ℕ) → IsSound v → WaitsForStep v c q → IsRun PlayedAllows v.layout (row ⊳ v.past) → row.pass.0 ≢ c.pass.0 → UpdateWins v.past row s → IsOwnScx v.layout c.pass.0 s → IsEntryFrom v c row s
@@ -258,7 +258,7 @@ entry_by_others v c q row s sound w run other wins own = from_run v c sound row 
     call : MachineCall
     call = machine_call v c w.works.is_pass w.works.start
 
-    of_map : (m : DictRun ℕ ℕ) → q.run ≡ Map m → IsEditHand m.run (machine_call v c w.works.is_pass v.start) v.past s
+    of_map : (m : DictRun ℕ ℕ) → q.run ≡ Map m → IsEditHand (inner m.run) (machine_call v c w.works.is_pass v.start) v.past s
     of_map m e = map_waits v c q m s sound w e own (in_progress v c sound row s run.lawful wins own)
 
     of_put : (m : PutRun) → q.run ≡ Scx m → m.scx.scx.0 ≡ s → IsOfPut v c row m w.works.start w.works.is_pass
@@ -281,7 +281,7 @@ entry_by_own v c q s sound w wins own told = from_run v c sound (own_row v c q.s
     run : IsRun PlayedAllows v.layout (own_row v c q.step ⊳ v.past)
     run = step_sound v c q sound w v.won
 
-    of_map : (m : DictRun ℕ ℕ) → q.run ≡ Map m → IsEditHand m.run (machine_call v c w.works.is_pass v.start) v.past s
+    of_map : (m : DictRun ℕ ℕ) → q.run ≡ Map m → IsEditHand (inner m.run) (machine_call v c w.works.is_pass v.start) v.past s
     of_map m e = map_waits v c q m s sound w e own (in_progress v c sound (own_row v c q.step) s run.lawful wins own)
 
     of_put : (m : PutRun) → q.run ≡ Scx m → m.scx.scx.0 ≡ s → IsOfPut v c (own_row v c q.step) m w.works.start w.works.is_pass

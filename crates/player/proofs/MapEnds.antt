@@ -1,5 +1,5 @@
 -- How a call of the map ends: what its reply says of the call.
-use Rattle.std.proofs.Common.{◌≡◌, ◌⊎◌, ℕ, ◌<◌, inl, inr, ⊎_elim, true, false, Option, Some, None, refl, ap, subst, arith}
+use Rattle.std.proofs.Common.{◌≡◌, ◌⊎◌, ℕ, ◌<◌, inl, inr, ⊎_elim, true, false, Option, Some, None, refl, sym, ◌∙◌, ap, subst, arith}
 use Rattle.arena.specs.declared.fault.Full.{Full as FullOf}
 use Rattle.arena.specs.Machines.{Call as MachineCall}
 use Rattle.arena.specs.Share.{Remaining}
@@ -67,26 +67,23 @@ module _ (v : ClientView) (c : Client) (is_pass : c.pass.0 < v.layout.passes) (w
 
   -- A change
 
+  -- the value of a reply
+  abbrev value_in : MapReply → Option ℕ
+  value_in (OneValue told) = told
+  value_in _ = None
+
   -- the call has made this edit
-  has_made : (e : MapEdit) (old : Option ℕ) → HasMadeEdit call v.past (Edit e) (OneValue old) → HasMade e call v.past c.number old
-  has_made e old x =
-      let same : x.edit ≡ e = let d : Edit e ≡ Edit x.edit = x.is_edit in cc in
-      let told : x.old ≡ old = let d : OneValue old ≡ OneValue x.old = x.tells in cc in
-      subst (λ o. HasMade e call v.past c.number o) told (subst (λ d. HasMade d call v.past c.number x.old) same x.made)
+  has_made : (e : MapEdit) (old : Option ℕ) → HasMadeEdit call v.past (Edit e) (OneValue old) e → HasMade e call v.past c.number old
+  has_made e old x = subst (λ o. HasMade e call v.past c.number o) (sym (x.made.told x.map x.spelled) ∙ ap value_in x.gives) x.made
 
   -- so it tells what its own row has found
-  changed : (e : MapEdit) (old : Option ℕ) → HasMadeEdit call v.past (Edit e) (OneValue old) → ((turn : ℕ) × (v.won ≡ Some turn)) × HasEditedKey v c.pass.0 (edit_key e) old
+  changed : (e : MapEdit) (old : Option ℕ) → HasMadeEdit call v.past (Edit e) (OneValue old) e → ((turn : ℕ) × (v.won ≡ Some turn)) × HasEditedKey v c.pass.0 (edit_key e) old
   changed e old x =
       let made = has_made e old x in
       let win : IsOwnWin v c.pass.0 made.row made.before made.scx = record { within = made.within; since = made.since; wins = made.wins; own = made.own } in
       (won.yes made.row made.before made.scx win, record { row = made.row; before = made.before; scx = made.scx; win = win; told = made.told })
 
   -- A reading
-
-  -- the value of a reply
-  abbrev value_in : MapReply → Option ℕ
-  value_in (OneValue told) = told
-  value_in _ = None
 
   -- the map had this at a moment of the call
   answer_at : (key : ℕ) (old : Option ℕ) → HasReadMap call v.past (Get key) (OneValue old) → IsAnswerAt v.layout v.past v.start key old

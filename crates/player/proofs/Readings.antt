@@ -39,7 +39,7 @@ use Rattle.record.proofs.Lemmas.{begin_within, entries_none, lawful_is_legal}
 use Rattle.player.specs.BetweenTurns.{IsLawfulSoFar}
 use Rattle.moments.proofs.Lemmas.{IsRepliedIn, are_spelled, falls, get_placed, ordered_placed, replied_turn}
 use Rattle.player.proofs.MapCalls.{command_mode, map_calls, tree_run}
-use Rattle.player.proofs.EditPlaces.{IsEditReply, edit_placed, unwon_none}
+use Rattle.player.proofs.EditPlaces.{IsEditReply, insert_placed, delete_placed, unwon_none}
 
 -- a call of cells replies nothing of the map, and its moment is that of its answer
 cell_moment : (calls : List Call) (lines : List Line) (changes : List Change) (command : Command) (answer : Answer) (first last : ℕ) (won moment : Option ℕ) → ((reply : Reply ℕ ℕ) → answer ≡ MapAnswer reply → ⊥) → IsMomentBy calls lines changes command answer first last won moment → moment ≡ moment_of answer first last won
@@ -130,8 +130,8 @@ edit_reply lay tries calls words lines changes reply c command x mode entries ow
 -- where the call of a reply took place
 pub placed : (lay : Layout) (tries : ℕ) (calls : List Call) (words : Contents) (lines : List Line) (changes : List Change) (reply : Finished) (c : ℕ) (command : Command) → IsLawfulSoFar lay tries calls words lines → (lay.mode ≡ Tree → AreEntries calls lines changes) → entry_owed lay lines ≡ None → reply.client.0 ≡ c → reply.call ≡ answered lines c → IsRight lay tries c (history lay.mode lines) (start lay.mode lines c) (linked calls lay.mode lines c) command reply.answer → Tells (client_view lay tries calls lines c) c command reply.answer → HasItsEntry (enters command reply.answer) (won lay lines c) → next_command calls lines c ≡ Some command → begin lines c ≡ Some reply.begin → reply.end ≡ turns lines
     → IsMomentBy calls lines changes command reply.answer reply.begin reply.end (won lay lines c) reply.moment → IsPlaced lay calls lines reply command
-placed lay tries calls words lines changes reply c (Map (InsertOf key value)) x entries owed own called right tells entry is begin end moment = edit_placed lay tries calls lines changes reply c (PutEdit key value) (edit_reply lay tries calls words lines changes reply c (Map (InsertOf key value)) x (sym (command_mode lay.mode calls c _ (Map (InsertOf key value)) x.of_mode is)) entries owed own called right tells entry is begin end moment)
-placed lay tries calls words lines changes reply c (Map (DeleteOf key)) x entries owed own called right tells entry is begin end moment = edit_placed lay tries calls lines changes reply c (TakeEdit key) (edit_reply lay tries calls words lines changes reply c (Map (DeleteOf key)) x (sym (command_mode lay.mode calls c _ (Map (DeleteOf key)) x.of_mode is)) entries owed own called right tells entry is begin end moment)
+placed lay tries calls words lines changes reply c (Map (InsertOf key value)) x entries owed own called right tells entry is begin end moment = insert_placed lay tries calls lines changes reply c key value reply.answer (edit_reply lay tries calls words lines changes reply c (Map (InsertOf key value)) x (sym (command_mode lay.mode calls c _ (Map (InsertOf key value)) x.of_mode is)) entries owed own called right tells entry is begin end moment) refl
+placed lay tries calls words lines changes reply c (Map (DeleteOf key)) x entries owed own called right tells entry is begin end moment = delete_placed lay tries calls lines changes reply c key reply.answer (edit_reply lay tries calls words lines changes reply c (Map (DeleteOf key)) x (sym (command_mode lay.mode calls c _ (Map (DeleteOf key)) x.of_mode is)) entries owed own called right tells entry is begin end moment) refl
 placed lay tries calls words lines changes reply c (Map (GetOf key)) x entries owed own called right tells entry is begin end moment =
     let mode = sym (command_mode lay.mode calls c _ (Map (GetOf key)) x.of_mode is) in
     get_reads lay tries calls words lines changes reply key x mode (entries mode) owed (rw own called) (rw own right) (rw own entry) (rw own is) (rw own begin) end (rw own moment)

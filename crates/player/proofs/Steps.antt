@@ -24,15 +24,16 @@ use Rattle.player.proofs.InOrder.{run_in_order}
 use Rattle.player.proofs.MapCalls.{command_mode}
 use Rattle.player.proofs.Commands.{none_left, next_at}
 use Rattle.player.specs.Place.{IsNextCallAt}
-use Rattle.ordered_map.specs.OrderedMap.{MapCall, MapEdit, edit_key, Insert as PutEdit, Delete as TakeEdit, Edit as EditCall}
+use Rattle.ordered_map.specs.OrderedMap.{MapCall, MapEdit, edit_key, value_left, Edit as EditCall}
+use Rattle.ordered_map.specs.Requests.{map_request}
 use Rattle.moments.specs.declared.places.Change.{Change}
 use Rattle.moments.specs.declared.places.Places.{Places}
 use Rattle.moments.specs.Changed.{changed_key}
 use Rattle.moments.specs.Places.{changes, Knows, HoldsOfKey}
-use Rattle.moments.specs.Entries.{AreEntries, IsChangeBy, value_left}
+use Rattle.moments.specs.Entries.{AreEntries, IsChangeBy}
 use Rattle.record.specs.MapRecord.{map_call}
 use Rattle.script.specs.declared.command.Command.TheVariants.{Scx as ScxOf, Set as SetOf, Map}
-use Rattle.ordered_map.specs.declared.request.Request.TheVariants.{Insert as InsertOf, Delete as DeleteOf}
+use Rattle.ordered_map.specs.declared.request.Request.{Request}
 use Rattle.script.specs.declared.call.Call.{Call}
 use Rattle.script.specs.declared.command.Command.{Command}
 use Rattle.record.specs.declared.record.Line.{Line}
@@ -49,6 +50,7 @@ use Rattle.player.specs.Player.{ScriptView, script_view}
 use Rattle.arena.specs.TakenNodes.{taken_nodes}
 use Rattle.record.specs.Turns.{history, turns, answered, clients, begin, start, won, last_client, entry_of, entry_owed}
 use Rattle.record.specs.Commands.{commands}
+use Rattle.record.specs.Rules.Map.{IsMapEntry}
 use Rattle.record.specs.CommandRules.{MayAnswerAfterStep, HasTakenFew, enters, IsRight, IsEntryFor}
 use Rattle.record.specs.Linked.{linked}
 use Rattle.player.proofs.Editing.{run_says}
@@ -57,7 +59,6 @@ use Rattle.record.specs.Replies.{IsFitting, IsReplyOwed}
 use Rattle.record.specs.Entries.{IsWinOf}
 use Rattle.player.specs.ClientView.{ClientView, client_view, Tells, IsSound, Hears, IsClient, GoesOn, EndsCall, machine_call}
 use Rattle.player.specs.BetweenTurns.{IsLawfulSoFar, IsTurnOf, AreBetweenTurns, IsBetweenTurns, IsStepAsked, IsEnd, AreWins, ArePlaces, IsAtEdit}
-use Rattle.player.specs.Edits.{edit_command}
 use Rattle.player.proofs.Views.{own_row, step_sound, hears}
 use Rattle.player.proofs.Middles.{IsOver, get_there, others_step, others_log, so_far_same, step_made, turn_changed, turn_ends, replied}
 use Rattle.player.proofs.MayMakes.{may_make}
@@ -211,19 +212,21 @@ module _ (p : Interleaving) (i number : ℕ) (step : Ask) (a : IsStepAsked p i n
       own : slice_get (commands calls entry.client.0) (answered lines entry.client.0) ≡ slice_get (commands calls c.pass.0) c.number
       own = ap (λ (k : ℕ). slice_get (commands calls k) (answered lines entry.client.0)) (sym is) ∙ ap (λ (k : ℕ). slice_get (commands calls c.pass.0) k) (sym number)
 
-      stands : (e : MapEdit) → map_call (Some (edit_command e)) ≡ Some (EditCall e) → slice_get (commands calls entry.client.0) (answered lines entry.client.0) ≡ Some (edit_command e) → (next : Option ℕ) → c.next ≡ next → IsAtEdit calls p.clients.items entry
-      stands e is_edit here None q =
+      stands : (command : Command) (e : MapEdit) → map_call (Some command) ≡ Some (EditCall e) → slice_get (commands calls entry.client.0) (answered lines entry.client.0) ≡ Some command → (next : Option ℕ) → c.next ≡ next → IsAtEdit calls p.clients.items entry
+      stands command e is_edit here None q =
           let none : slice_get (commands calls entry.client.0) (answered lines entry.client.0) ≡ None = own ∙ none_left calls c.pass.0 c.number (rw q at place) in
-          absurd (let z : None ≡ Some (edit_command e) = sym none ∙ here in cc)
-      stands e is_edit here (Some at) q =
+          absurd (let z : None ≡ Some command = sym none ∙ here in cc)
+      stands command e is_edit here (Some at) q =
           let y = next_at calls c.pass.0 c.number at (rw q at place) in
           let z : slice_get (commands calls entry.client.0) (answered lines entry.client.0) ≡ Some y.0.command = own ∙ y.3 in
-          let same : y.0.command ≡ edit_command e = let d : Some y.0.command ≡ Some (edit_command e) = sym z ∙ here in cc in
-          record { client = c; there = there; at = at; next = q; call = y.0; here = y.1; edit = e; command = same; edits = ap (λ (j : ℕ). map_call (slice_get (commands calls entry.client.0) j)) w.call ∙ ap map_call here ∙ is_edit }
+          record { client = c; there = there; at = at; next = q; call = y.0; here = y.1; edit = e; command = ap map_call (sym z ∙ here) ∙ is_edit; edits = ap (λ (j : ℕ). map_call (slice_get (commands calls entry.client.0) j)) w.call ∙ ap map_call here ∙ is_edit }
+
+      by_call : (request : Request ℕ ℕ) (call : MapCall) → map_request request ≡ call → slice_get (commands calls entry.client.0) (answered lines entry.client.0) ≡ Some (Map request) → IsMapEntry call lay (history lay.mode lines) w.entered → IsAtEdit calls p.clients.items entry
+      by_call request (EditCall e) same here does = stands (Map request) e (ap (λ (k : MapCall). Some k) same) here c.next refl
+      by_call request call same here does = absurd does
 
       by_command : (command : Command) → slice_get (commands calls entry.client.0) (answered lines entry.client.0) ≡ Some command → IsEntryFor lay entry.client.0 (history lay.mode lines) (start lay.mode lines entry.client.0) (linked calls lay.mode lines entry.client.0) w.entered command → IsAtEdit calls p.clients.items entry
-      by_command (Map (InsertOf key put)) here does = stands (PutEdit key put) refl here c.next refl
-      by_command (Map (DeleteOf key)) here does = stands (TakeEdit key) refl here c.next refl
+      by_command (Map request) here does = by_call request (map_request request) refl here does
       by_command (ScxOf update) here does = absurd (let z : Records ≡ Tree = command_mode lay.mode calls entry.client.0 _ (ScxOf update) a.turn.so_far.of_mode here ∙ tree in cc)
       by_command (SetOf field put) here does = absurd (let z : Records ≡ Tree = command_mode lay.mode calls entry.client.0 _ (SetOf field put) a.turn.so_far.of_mode here ∙ tree in cc)
       by_command command here does = absurd does

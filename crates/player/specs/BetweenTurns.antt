@@ -25,9 +25,8 @@ use Rattle.player.specs.Player.{PlayerView, script_view}
 use Rattle.player.specs.declared.interleaving.Interleaving.{Interleaving}
 use Rattle.record.specs.Turns.{history, begin, turns, won}
 use Rattle.ordered_map.specs.OrderedMap.{MapEdit, Edit}
-use Rattle.player.specs.Edits.{edit_command}
 use Rattle.record.specs.declared.record.Entry.{Entry}
-use Rattle.record.specs.MapRecord.{map_call_of}
+use Rattle.record.specs.MapRecord.{map_call, map_call_of}
 use Rattle.moments.specs.declared.places.Change.{Change}
 use Rattle.moments.specs.declared.places.Places.{Places}
 use Rattle.moments.specs.Places.{changes, Knows, HoldsOfKey}
@@ -117,7 +116,7 @@ pub record IsAtEdit (calls : List Call) (clients : List Client) (e : Entry) : Ty
   pub call : Call
   pub here : slice_get calls at ≡ Some call
   pub edit : MapEdit
-  pub command : call.command ≡ edit_command edit
+  pub command : map_call (Some call.command) ≡ Some (Edit edit)
   pub edits : map_call_of calls e.client.0 e.call ≡ Some (Edit edit)
 
 -- the reply ends the client's call in this turn; `won` is the turn of its last update that has won

@@ -1,5 +1,4 @@
 pub mod Allowed
-pub mod Edits
 pub mod Moments
 pub mod RunSteps
 pub mod RunKnown

@@ -1,19 +1,15 @@
 //! An interleaving of a script's calls.
 ghost use Rattle.std.specs.Prelude.{◌≡◌, ℕ, ◌≤◌, [], Some, vec_len, slice_get, IfOk, IfSome};
 ghost use Rattle.player.specs.declared.client.Client.{Client};
-ghost use Rattle.moments.specs.Entries.{value_left};
-ghost use Rattle.moments.specs.Changed.{changed_key};
 ghost use Rattle.player.specs.ClientView.{client_view, Rests};
-ghost use Rattle.player.specs.Edits.{edit_command};
 ghost use Rattle.ordered_map.specs.OrderedMap.{MapEdit, edit_key};
 
 use crate::client::{Client, NextAction};
 use crate::lines::Lines;
 use arena::{Kind, NoMemory, NodeNo, NodeWord, PassNo, PlainWords, ScxNo, ScxWord, Step, Word};
-use moments::{Change, Places};
-use ordered_map::Request;
+use moments::{Change, Places, edited};
 use record::{Answer, Entry, Record, Row};
-use script::{Command, Script};
+use script::Script;
 use std::alloc::Global;
 
 /// A script, and what the turns of its clients have left so far.
@@ -39,7 +35,7 @@ impl Interleaving {
     ghost use Rattle.record.specs.declared.record.Entry.{Entry as LogEntry};
     ghost use Rattle.record.specs.Commands.{next_command};
     ghost use Rattle.record.specs.Turns.{answered, entry_owed};
-    ghost use Rattle.moments.specs.Entries.{value_left};
+    ghost use Rattle.ordered_map.specs.OrderedMap.{value_left};
     ghost use Rattle.moments.specs.Places.{changes, room_for_changes, Knows, HoldsOfKey};
     ghost use Rattle.ordered_map.specs.OrderedMap.{edit_key};
     ghost use Rattle.player.specs.Lines.{room, newest};
@@ -240,18 +236,6 @@ impl Interleaving {
             script: self.script,
             lines: self.lines.into_list(),
         }
-    }
-}
-
-/// The key that a command edits, and what it leaves there.
-fn edited(command: Command) -> Option<(u64, Option<u64>)>
-    ensures edits { (e : MapEdit) → command ≡ edit_command e → result ≡ Some (edit_key e, value_left e) }
-    ensures key { IfSome result (λ r. changed_key command ≡ Some r.0) }
-{
-    match command {
-        Command::Map(Request::Insert { key, value }) => Some((key, Some(value))),
-        Command::Map(Request::Delete { key }) => Some((key, None)),
-        _ => None,
     }
 }
 

@@ -2,9 +2,10 @@
 -- calls.
 use Rattle.std.proofs.Common.{◌≡◌, ℕ, zero, suc, ◌+◌, ◌*◌, ◌≤◌, Bool, true, false, cond, ◌&&◌, eqb, ltb, leb, List, [], ◌∷◌, ◌++◌, refl, sym, ◌∙◌, ap, subst, arith}
 use Rattle.std.proofs.lemmas.Bool.{ltb-true, ltb-false, le-ltb, le-leb, lt-leb, eqb-true, eq-eqb, and_parts}
-use Rattle.std.specs.Prelude.{Option, Some, None, is_none}
+use Rattle.std.specs.Prelude.{Option, Some, None, is_none, is_some}
 use Rattle.ordered_map.specs.declared.pair.Pair.{Pair}
-use Rattle.ordered_map.specs.OrderedMap.{MapCall, Insert, Delete, Edit, Get, Successor, Range, MapReply, OneValue, get, delete, reply, after, changes_map}
+use Rattle.ordered_map.specs.OrderedMap.{MapCall, MapEdit, MapReply, reply, after, changes_map, edit_of}
+use Rattle.ordered_map.proofs.Lemmas.{after_is}
 use Rattle.script.specs.declared.call.Call.{Call}
 use Rattle.record.specs.declared.record.Line.{Line}
 use Rattle.record.specs.declared.record.Line.TheVariants.{Step, Log, Reply as ReplyLine}
@@ -218,24 +219,12 @@ counted calls answers c j es (Read m q ∷ xs) n a = counted calls answers c j e
 
 -- A reading changes nothing
 
-cut_absent : (k : ℕ) (m : List Pair) → get k m ≡ None → delete k m ≡ m
-cut_absent k [] e = refl
-cut_absent k (p ∷ ps) e = go (eqb k p.key) e (cut_absent k ps)
-  where
-    go : (b : Bool) → cond b (Some p.value) (get k ps) ≡ None → (get k ps ≡ None → delete k ps ≡ ps) → cond b ps (p ∷ delete k ps) ≡ p ∷ ps
-    go true u rest = let x : Some p.value ≡ None = u in absurd (cc)
-    go false u rest = ap (λ qs. p ∷ qs) (rest u)
+none_made : (made : Option MapEdit) → is_some made ≡ false → made ≡ None
+none_made None e = refl
+none_made (Some edit) e = let x : true ≡ false = e in absurd (cc)
 
 silent_call : (call : MapCall) (m : List Pair) → changes_map call (reply call m) ≡ false → after call m ≡ m
-silent_call (Edit (Insert k v)) m e = let x : true ≡ false = e in absurd (cc)
-silent_call (Edit (Delete k)) m e = go (get k m) refl e
-  where
-    go : (a : Option ℕ) → get k m ≡ a → changes_map (Edit (Delete k)) (OneValue a) ≡ false → delete k m ≡ m
-    go (Some v) i u = let x : true ≡ false = u in absurd (cc)
-    go None i u = cut_absent k m i
-silent_call (Get k) m e = refl
-silent_call (Successor k) m e = refl
-silent_call (Range low high most) m e = refl
+silent_call call m e = after_is call m None (none_made (edit_of call (reply call m)) e)
 
 -- Counts
 

@@ -53,4 +53,3 @@ pub record MapRules : Type 1 where
   pub IsAtOnce : Answer → Type 0
   pub enters : Answer → Bool
   pub IsRight : Layout → ℕ → ℕ → History → History → (ℕ → Option History) → Answer → Type 0
-  pub IsEntryFor : Layout → ℕ → History → History → (ℕ → Option History) → Entered → Type 0

@@ -1,5 +1,5 @@
 -- Where the calls of a client stand in the history of the whole run.
-use Rattle.std.proofs.Common.{◌≡◌, ◌∙◌, ℕ, ◌+◌, ◌≤◌, Bool, true, false, inl, inr, List, [], ◌∷◌, Option, Some, None, refl, sym, ap, subst}
+use Rattle.std.proofs.Common.{◌≡◌, ◌∙◌, ℕ, ◌+◌, ◌≤◌, inl, inr, List, [], ◌∷◌, Option, Some, None, refl, sym, ap, subst}
 use Rattle.arena.specs.declared.layout.Layout.{Layout}
 use Rattle.arena.specs.declared.step.Row.{Row}
 use Rattle.arena.specs.History.{History, Start, ◌⊳◌, value, Extends}
@@ -9,7 +9,7 @@ use Rattle.arena.proofs.Lemmas.{ends_self, ends_trans}
 use Rattle.histories.proofs.Lemmas.{Logs, logs, same, wins, lawful_tail}
 use Rattle.ordered_map.specs.declared.pair.Pair.{Pair}
 use Rattle.ordered_map.specs.Laws.{AreEdits}
-use Rattle.ordered_map.specs.OrderedMap.{MapCall, Edit, MapEdit, MapReply, OneValue, reply, changes_map}
+use Rattle.ordered_map.specs.OrderedMap.{MapCall, MapEdit, MapReply, reply, edit_of}
 use Rattle.ordered_map.specs.Runs.{IsTreeRun, Makes}
 use Rattle.ordered_map.proofs.Lemmas.{makes_one, makes_since, one_spelling, spells_log}
 use Rattle.ordered_map.specs.Replies.{told_of}
@@ -51,7 +51,7 @@ module _ (lay : Layout) (tries : ℕ) (run : History) (edits : ℕ → MapEdit) 
     }
 
     -- the edit of an entry of the pass is the call's
-    module _ (edit : MapEdit) (v : Option ℕ) (x : IsChange old new edit v) where
+    module _ (call : MapCall) (told : MapReply) (edit : MapEdit) (x : IsChange old new call told edit) where
       logged : log lay (x.row ⊳ x.before) ≡ x.entry ∷ log lay x.before
       logged = rw layout at x.logged
 
@@ -65,8 +65,8 @@ module _ (lay : Layout) (tries : ℕ) (run : History) (edits : ℕ → MapEdit) 
       before_within : Extends (run_of new) x.before
       before_within = ends_trans (run_of new) (x.row ⊳ x.before) x.before x.within (inr (ends_self x.before))
 
-      entry_placed : (call : MapCall) (told : MapReply) → call ≡ Edit edit → told ≡ OneValue v → IsEnteredCall lay edits old new call told
-      entry_placed call told is_edit is_told = record {
+      entry_placed : IsEnteredCall lay edits old new call told edit
+      entry_placed = record {
         row = x.row;
         before = x.before;
         within = x.within;
@@ -77,19 +77,19 @@ module _ (lay : Layout) (tries : ℕ) (run : History) (edits : ℕ → MapEdit) 
         done = x.done;
         of_pass = x.of_pass;
         of_call = x.of_call;
-        makes = is_edit ∙ ap Edit (sym edit_is);
-        gives = ap (λ k. reply k (map_at_moment lay edits x.before)) is_edit ∙ ap (λ m. reply (Edit edit) m) (sym (version_is x.before x.map before_within x.was)) ∙ ap OneValue x.tells ∙ sym is_told;
+        makes = edit_is;
+        gives = ap (reply call) (sym (version_is x.before x.map before_within x.was)) ∙ x.gives;
       }
 
-    placed_as : (b : Bool) (call : MapCall) (told : MapReply) → IsChangeOrReading b old new call told → IsPlacedAs b lay edits old new call told
-    placed_as true call told x = entry_placed x.0 x.1 x.4 call told x.2 x.3
-    placed_as false call told x = read_placed call told x
+    placed_as : (made : Option MapEdit) (call : MapCall) (told : MapReply) → IsChangeOrReading made old new call told → IsPlacedAs made lay edits old new call told
+    placed_as (Some edit) call told x = entry_placed call told edit x
+    placed_as None call told x = read_placed call told x
 
     -- what a reply tells, or that the call has no entry
     placed : (call : MapCall) (r : Reply ℕ ℕ) → IsToldOf old new call (told_of (λ n. n) (λ n. n) r) → IsRefusalOf tries old new call r → IsPlacedInRun lay edits old new call (told_of (λ n. n) (λ n. n) r)
-    placed call (replies.Value v) x y = placed_as (changes_map call _) call _ x
-    placed call (replies.Pair p) x y = placed_as (changes_map call _) call _ x
-    placed call (replies.Pairs ps) x y = placed_as (changes_map call _) call _ x
+    placed call (replies.Value v) x y = placed_as (edit_of call _) call _ x
+    placed call (replies.Pair p) x y = placed_as (edit_of call _) call _ x
+    placed call (replies.Pairs ps) x y = placed_as (edit_of call _) call _ x
     placed call (replies.Contended n s) x y = y.done
     placed call (replies.Full f) x y = y.done
     placed call replies.NoMemory x y = y.1

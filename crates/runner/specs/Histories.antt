@@ -1,11 +1,11 @@
 -- The one history in which all calls of a run stand.
-use Rattle.std.specs.Prelude.{◌≡◌, ℕ, ◌+◌, ◌≤◌, List, ◌∷◌, Bool, true, false, Option, Some, None}
+use Rattle.std.specs.Prelude.{◌≡◌, ℕ, ◌+◌, ◌≤◌, List, ◌∷◌, Option, Some, None}
 use Rattle.arena.specs.declared.layout.Layout.{Layout}
 use Rattle.arena.specs.declared.step.Row.{Row}
 use Rattle.arena.specs.History.{History, ◌⊳◌, Extends}
 use Rattle.arena.specs.Log.{Entry, log}
 use Rattle.ordered_map.specs.declared.pair.Pair.{Pair}
-use Rattle.ordered_map.specs.OrderedMap.{MapCall, Edit, MapEdit, MapReply, reply, changes_map}
+use Rattle.ordered_map.specs.OrderedMap.{MapCall, MapEdit, MapReply, reply, edit_of}
 use Rattle.ordered_map.specs.Runs.{map_of_log}
 use Rattle.dict.specs.Calls.{AsksForPairs}
 use Rattle.ordered_map.specs.CallRules.{MayReply, form_of, most_steps}
@@ -25,8 +25,9 @@ abbrev pub map_at_moment : Layout → (ℕ → MapEdit) → History → List Pai
 map_at_moment lay edits moment = map_of_log edits (log lay moment)
 
 -- A changing call has exactly one entry, behind all that its pass knew as it began. The entry is of
--- this pass and call and makes this call's own edit, and the reply is the map's just before it.
-pub record IsEnteredCall (lay : Layout) (edits : ℕ → MapEdit) (old new : PassView) (call : MapCall) (told : MapReply) : Type 0 where
+-- this pass and call and makes this edit, which is the call's own, and the reply is the map's just
+-- before it.
+pub record IsEnteredCall (lay : Layout) (edits : ℕ → MapEdit) (old new : PassView) (call : MapCall) (told : MapReply) (edit : MapEdit) : Type 0 where
   -- the row that has put it there, which may be another pass's
   pub row : Row
   pub before : History
@@ -40,7 +41,7 @@ pub record IsEnteredCall (lay : Layout) (edits : ℕ → MapEdit) (old new : Pas
   pub done : done_of new ≡ entry ∷ done_of old
   pub of_pass : entry.owner ≡ old.number
   pub of_call : entry.call ≡ taken_of old
-  pub makes : call ≡ Edit (edits entry.scx)
+  pub makes : edits entry.scx ≡ edit
   pub gives : reply call (map_at_moment lay edits before) ≡ told
 
 -- A reading call has no entry; its reply is that of the map at a moment from its first own row to
@@ -53,14 +54,14 @@ pub record IsReadCall (lay : Layout) (edits : ℕ → MapEdit) (old new : PassVi
   pub gives : reply call (map_at_moment lay edits moment) ≡ told
   pub done : done_of new ≡ done_of old
 
--- the call has changed the map, or has read it
-abbrev pub IsPlacedAs : Bool → Layout → (ℕ → MapEdit) → PassView → PassView → MapCall → MapReply → Type 0
-IsPlacedAs true lay edits old new call told = IsEnteredCall lay edits old new call told
-IsPlacedAs false lay edits old new call told = IsReadCall lay edits old new call told
+-- the call has changed the map by this edit, or has read it
+abbrev pub IsPlacedAs : Option MapEdit → Layout → (ℕ → MapEdit) → PassView → PassView → MapCall → MapReply → Type 0
+IsPlacedAs (Some edit) lay edits old new call told = IsEnteredCall lay edits old new call told edit
+IsPlacedAs None lay edits old new call told = IsReadCall lay edits old new call told
 
 -- where a call stands that tells something of the map; a refused one stands nowhere
 abbrev pub IsPlacedInRun : Layout → (ℕ → MapEdit) → PassView → PassView → MapCall → Option MapReply → Type 0
-IsPlacedInRun lay edits old new call (Some told) = IsPlacedAs (changes_map call told) lay edits old new call told
+IsPlacedInRun lay edits old new call (Some told) = IsPlacedAs (edit_of call told) lay edits old new call told
 IsPlacedInRun lay edits old new call None = done_of new ≡ done_of old
 
 -- The call, which may try so often, began where its pass knew `old` and ended where it knew `new`.

@@ -10,8 +10,8 @@ use Rattle.script.proofs.Spaced.{parts_of, no_space, small}
 use Rattle.script.specs.Part.{is_subsequence}
 use Rattle.script.specs.Update.{update_cells, update_finalize, update_field, update_value}
 use Rattle.script.specs.declared.command.Command.{Command}
-use Rattle.script.specs.declared.command.Command.TheVariants.{Llx, Scx, Vlx, Set, Map}
-use Rattle.ordered_map.specs.declared.request.Request.TheVariants.{Insert, Delete, Get, Successor, Range}
+use Rattle.script.specs.declared.command.Command.TheVariants.{Scx, Set, Map}
+use Rattle.ordered_map.specs.declared.request.Request.TheVariants.{Successor}
 use Rattle.script.specs.declared.command.Update.{Update}
 
 -- these texts are an update's cells, those finalized, and the change
@@ -29,17 +29,13 @@ letter k row = get_or (get_or row 0 []) k 0
 
 -- only a row of an update is a row of an SCX
 pub no_update : (cells finalize change : List ℕ) → ((update : Update) → ¬ (SaysUpdate cells finalize change update)) → (command : Command) → IsCommand command → codes "scx" ∷ cells ∷ finalize ∷ change ∷ [] ≢ command_row command
-no_update cells finalize change none (Llx cell) valid row = absurd (omega (arith, ap (letter 0) row))
 no_update cells finalize change none (Scx update) valid row =
     ∥∥₁_elim update.inside (λ a b. absurd a) (λ (has : Contains (update_cells update) (update_field update).0).
     none update (record { are = valid.0; fits = valid.1; inside = has; cells_is = cc; finalize_is = cc; change_is = cc }))
-no_update cells finalize change none (Vlx others) valid row = absurd (omega (arith, ap (letter 0) row))
+-- two names begin as that of an SCX does
 no_update cells finalize change none (Set field value) valid row = absurd (omega (arith, ap (letter 1) row))
-no_update cells finalize change none (Map (Insert key value)) valid row = absurd (omega (arith, ap (letter 0) row))
-no_update cells finalize change none (Map (Delete key)) valid row = absurd (omega (arith, ap (letter 0) row))
-no_update cells finalize change none (Map (Get key)) valid row = absurd (omega (arith, ap (letter 0) row))
 no_update cells finalize change none (Map (Successor key)) valid row = absurd (omega (arith, ap (letter 1) row))
-no_update cells finalize change none (Map (Range low high most)) valid row = absurd (omega (arith, ap (letter 0) row))
+no_update cells finalize change none command valid row = absurd (omega (arith, ap (letter 0) row))
 
 taken_or_left : (x y : ℕ) (part whole : List ℕ) (b : Bool) → (b ≡ true → x ≡ y) → IsCell y → (is_subsequence part whole ≡ true → All IsCell part) → (is_subsequence (x ∷ part) whole ≡ true → All IsCell (x ∷ part)) → cond b (is_subsequence part whole) (is_subsequence (x ∷ part) whole) ≡ true → All IsCell (x ∷ part)
 taken_or_left x y part whole true same cell taken left is = All-cons IsCell x part (rw (same refl) cell) (taken is)

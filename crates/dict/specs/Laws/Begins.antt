@@ -1,5 +1,5 @@
 -- A call that has not begun may be called: its pass is at rest with the share that it has.
-use Rattle.std.proofs.Common.{◌≡◌, ℕ, ◌+◌, ◌<◌, ◌^◌, None, refl, sym, ◌∙◌, arith}
+use Rattle.std.proofs.Common.{◌≡◌, ℕ, ◌+◌, ◌<◌, ◌^◌, None, refl, sym, ◌∙◌, ap, subst, arith}
 use Rattle.arena.specs.declared.limits.Mode.TheVariants.{Tree as TreeMode}
 use Rattle.arena.specs.Machines.{Call, IsRun}
 use Rattle.arena.specs.Share.{Remaining}
@@ -9,24 +9,24 @@ use Rattle.prims.specs.Laws.Idle.{quiet_at_start, idle_if_finished}
 use Rattle.ordered_map.specs.Runs.{IsTreeRun}
 use Rattle.template.specs.FoundLeaf.{path_key}
 use Rattle.template.proofs.Lemmas.{next_first}
-use Rattle.tree.specs.Delete.Means.{delete_means}
-use Rattle.tree.specs.Insert.Means.{insert_means}
 use Rattle.tree.proofs.Lemmas.{get_ready_first}
 use Rattle.edits.specs.Edits.{EditMeaning}
 use Rattle.edits.specs.Known.{RestsWith, UpdateIsReady}
+use Rattle.ordered_map.specs.CallRules.{nodes_in_try}
 use Rattle.edits.specs.Laws.Entered.{none_yet}
 use Rattle.edits.specs.Steps.{node_tries, scx_tries}
 use Rattle.edits.specs.declared.update.UpdateAt.TheVariants.{Start}
 use Rattle.edits.specs.declared.update.UpdateAt.{UpdateAt}
 use Rattle.edits.specs.declared.update.UpdateRun.{UpdateRun}
-use Rattle.dict.specs.Calls.{call_in, share_of, IsFewCall}
+use Rattle.dict.specs.Calls.{call_in, inner_call, inner_share, share_of, IsFewCall}
 use Rattle.dict.specs.DictKnown.{DictIsReady}
-use Rattle.dict.specs.Known.{HasRested, Goes, HasSpentSo, IsReadyInside, IsUnbegun, MapIsReady}
+use Rattle.dict.specs.Known.{HasRested, Goes, HasSpentSo, IsReadyInside, IsUnbegun, StandsAtStart, MapIsReady}
 use Rattle.dict.specs.Typed.{IsTypedCall, TypedAllows}
 use Rattle.dict.specs.Laws.TypedMaps.{typed_run}
 use Rattle.dict.specs.declared.dict.DictRun.{DictRun}
 use Rattle.dict.specs.declared.run.MapRun.{MapRun}
-use Rattle.dict.specs.declared.run.MapRun.TheVariants.{Insert, Delete, Get, Successor, Range}
+use Rattle.dict.specs.Inner.{InnerRun, Update, Get, Successor, Range, inner}
+use Rattle.dict.specs.Laws.Kinds.{IsOfKind, is_of_kind}
 
 module _ (c : Call) (run : IsTreeRun c.layout c.start) where
   -- a read rests
@@ -51,23 +51,21 @@ module _ (c : Call) (run : IsTreeRun c.layout c.start) where
       spends = (rw (at, all) (omega arith), rw (at, all) (omega arith), rw (at, all) (omega arith));
     }
 
-  goes : (m : MapRun) (tries : ℕ) → IsUnbegun m tries c.number → RestsWith c c.start (share_of m) → Goes m tries c
-  goes (Insert m) tries x r = record { mode = run.0; small = x.3; number = x.2; limit = x.4; spent = spent insert_means m x.0 r 3 tries x.1 }
-  goes (Delete m) tries x r = record { mode = run.0; small = x.3; number = x.2; limit = x.4; spent = spent delete_means m x.0 r 1 tries x.1 }
+  goes : (m : InnerRun) (tries : ℕ) → StandsAtStart m tries c.number → RestsWith c c.start (inner_share m) → Goes m tries c
+  goes (Update k m) tries x r = record { mode = run.0; small = x.3; number = x.2; limit = x.4; spent = spent k.means m x.0 r (nodes_in_try (k.edit m.edit)) tries x.1 }
   goes (Get m share) tries x r = record { mode = run.0; small = tt; number = tt; limit = tt; spent = r }
   goes (Successor m share) tries x r = record { mode = run.0; small = tt; number = tt; limit = x.4; spent = r }
   goes (Range m share) tries x r = record { mode = run.0; small = tt; number = tt; limit = x.4; spent = r }
 
-  inside : (m : MapRun) (tries : ℕ) → IsUnbegun m tries c.number → IsFewCall (call_in m) → RestsWith c c.start (share_of m) → IsReadyInside m c c.start None
-  inside (Insert m) tries x few r = update_ready insert_means m x.0 r x.3 (x.4 ∙ sym x.1)
-  inside (Delete m) tries x few r = update_ready delete_means m x.0 r x.3 (x.4 ∙ sym x.1)
-  inside (Get m share) tries x few r = (get_ready_first m c run x.3 r.over x.0 x.1 x.2, rests share r)
-  inside (Successor m share) tries x few r = (successor_ready_first m c c.start run refl x.3 r.over x.0 x.2 (let e = x.4 in let f = x.1 in omega (arith, e, f)), rests share r)
-  inside (Range m share) tries x few r = (range_ready_first m c c.start run refl x.3 few r.over x.0 x.2 (let e = x.4 in let f = x.1 in omega (arith, e, f)), rests share r)
+  inside : (m : InnerRun) (tries : ℕ) → IsOfKind m → StandsAtStart m tries c.number → IsFewCall (inner_call m) → RestsWith c c.start (inner_share m) → IsReadyInside m c c.start None
+  inside (Update k m) tries kind x few r = update_ready k.means m x.0 r (subst (λ n. n < 2 ^ 64) (sym (ap path_key (kind.walks m.edit))) x.3) (x.4 ∙ sym x.1)
+  inside (Get m share) tries kind x few r = (get_ready_first m c run x.3 r.over x.0 x.1 x.2, rests share r)
+  inside (Successor m share) tries kind x few r = (successor_ready_first m c c.start run refl x.3 r.over x.0 x.2 (let e = x.4 in let f = x.1 in omega (arith, e, f)), rests share r)
+  inside (Range m share) tries kind x few r = (range_ready_first m c c.start run refl x.3 few r.over x.0 x.2 (let e = x.4 in let f = x.1 in omega (arith, e, f)), rests share r)
 
   -- the machine may be called where the call begins
   pub map_begins : (m : MapRun) (tries : ℕ) → IsUnbegun m tries c.number → IsFewCall (call_in m) → RestsWith c c.start (share_of m) → MapIsReady tries m c c.start None
-  map_begins m tries x few r = (goes m tries x r, inside m tries x few r)
+  map_begins m tries x few r = (goes (inner m) tries x r, inside (inner m) tries (is_of_kind m) x few r)
 
 -- so may that of a dictionary
 pub dict_begins : (keys values : ℕ → Type 0) {K V : Type 0} (m : DictRun K V) (c : Call) → c.layout.mode ≡ TreeMode → IsRun (TypedAllows keys values) c.layout c.start → IsTypedCall keys values (call_in m.run) → IsUnbegun m.run m.tries c.number → IsFewCall (call_in m.run) → RestsWith c c.start (share_of m.run) → DictIsReady keys values m c c.start None

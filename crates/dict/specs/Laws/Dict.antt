@@ -1,6 +1,6 @@
 -- The laws of the machine of a call of a dictionary: rows of others leave it waiting, its steps are
 -- lawful and begin edits of typed words alone, and what it is told is so.
-use Rattle.std.proofs.Common.{◌≢◌, ℕ, ◌≤◌, length, Option, Some}
+use Rattle.std.proofs.Common.{◌≢◌, ℕ, ◌≤◌, length, Option, Some, sym, subst}
 use Rattle.arena.specs.declared.step.Kind.TheVariants.{Fill}
 use Rattle.arena.specs.declared.step.Row.{Row}
 use Rattle.arena.specs.declared.step.Step.{Step}
@@ -11,33 +11,30 @@ use Rattle.arena.specs.TakenNodes.{taken_nodes}
 use Rattle.order.specs.Range.Laws.{range_fills_not}
 use Rattle.order.specs.Successor.Laws.{successor_fills_not}
 use Rattle.ordered_map.specs.TreeShape.{TreeAllows}
-use Rattle.tree.specs.Delete.Means.{delete_means}
-use Rattle.tree.specs.Insert.Means.{insert_means}
 use Rattle.tree.proofs.Lemmas.{get_fills_not}
-use Rattle.dict.specs.Calls.{call_in}
+use Rattle.dict.specs.Calls.{inner_call}
 use Rattle.dict.specs.DictKnown.{DictIsReady, DictWaits}
 use Rattle.dict.specs.Known.{HasRested, WaitsInside}
-use Rattle.dict.specs.Laws.Map.{map_keeps, map_lawful, map_made, map_told, on}
+use Rattle.dict.specs.Laws.Map.{map_keeps, inner_lawful, map_made, map_told, on}
 use Rattle.dict.specs.Steps.{MapFits}
-use Rattle.dict.specs.Typed.{IsTypedCall, TypedAllows}
+use Rattle.dict.specs.Typed.{IsTypedCall, IsTypedEdit, TypedAllows}
 use Rattle.dict.specs.Laws.TypedMaps.{typed_run}
 use Rattle.dict.specs.Laws.TypedSteps.{typed_quiet, typed_update_lawful}
 use Rattle.dict.specs.declared.dict.DictRun.{DictRun}
-use Rattle.dict.specs.declared.run.MapRun.{MapRun}
-use Rattle.dict.specs.declared.run.MapRun.TheVariants.{Insert, Delete, Get, Successor, Range}
+use Rattle.dict.specs.Inner.{InnerRun, Update, Get, Successor, Range, inner}
+use Rattle.dict.specs.Laws.Kinds.{IsOfKind, is_of_kind}
 
 module _ (keys values : ℕ → Type 0) where
   -- a read begins none: its pass is at rest behind its step too
-  read_lawful : (m : MapRun) (c : Call) (h : History) (s : Step) (share : Remaining) → s.kind ≢ Fill → IsRun (TypedAllows keys values) c.layout h → IsRun TreeAllows c.layout (row_of c s h ⊳ h) → HasRested c h share → IsRun (TypedAllows keys values) c.layout (row_of c s h ⊳ h)
-  read_lawful m c h s share fills_not run tree x = typed_quiet keys values c.layout h (row_of c s h) run tree (on c h (row_of c s h) share tree fills_not x).now.over
+  read_lawful : (c : Call) (h : History) (s : Step) (share : Remaining) → s.kind ≢ Fill → IsRun (TypedAllows keys values) c.layout h → IsRun TreeAllows c.layout (row_of c s h ⊳ h) → HasRested c h share → IsRun (TypedAllows keys values) c.layout (row_of c s h ⊳ h)
+  read_lawful c h s share fills_not run tree x = typed_quiet keys values c.layout h (row_of c s h) run tree (on c h (row_of c s h) share tree fills_not x).now.over
 
   -- the step of the machine inside continues a run of the dictionary
-  lawful_inside : (m : MapRun) (c : Call) (h : History) (s : Step) → IsRun (TypedAllows keys values) c.layout h → IsRun TreeAllows c.layout (row_of c s h ⊳ h) → IsTypedCall keys values (call_in m) → WaitsInside m c h s → IsRun (TypedAllows keys values) c.layout (row_of c s h ⊳ h)
-  lawful_inside (Insert m) c h s run tree typed w = typed_update_lawful keys values insert_means m c h s run (λ f need. typed) w
-  lawful_inside (Delete m) c h s run tree typed w = typed_update_lawful keys values delete_means m c h s run (λ f need. typed) w
-  lawful_inside (Get m share) c h s run tree typed w = read_lawful (Get m share) c h s share (get_fills_not m c h s w.0) run tree w.1
-  lawful_inside (Successor m share) c h s run tree typed w = read_lawful (Successor m share) c h s share (successor_fills_not m c h s w.0) run tree w.1
-  lawful_inside (Range m share) c h s run tree typed w = read_lawful (Range m share) c h s share (range_fills_not m c h s w.0) run tree w.1
+  lawful_inside : (m : InnerRun) (c : Call) (h : History) (s : Step) → IsOfKind m → IsRun (TypedAllows keys values) c.layout h → IsRun TreeAllows c.layout (row_of c s h ⊳ h) → IsTypedCall keys values (inner_call m) → WaitsInside m c h s → IsRun (TypedAllows keys values) c.layout (row_of c s h ⊳ h)
+  lawful_inside (Update k m) c h s kind run tree typed w = typed_update_lawful keys values k.means m c h s run (λ f need. subst (IsTypedEdit keys values) (sym (kind.makes m.edit f)) typed) w
+  lawful_inside (Get m share) c h s kind run tree typed w = read_lawful c h s share (get_fills_not m c h s w.0) run tree w.1
+  lawful_inside (Successor m share) c h s kind run tree typed w = read_lawful c h s share (successor_fills_not m c h s w.0) run tree w.1
+  lawful_inside (Range m share) c h s kind run tree typed w = read_lawful c h s share (range_fills_not m c h s w.0) run tree w.1
 
   module _ {K V : Type 0} where
     -- rows of other passes leave the machine waiting for the same step
@@ -46,7 +43,7 @@ module _ (keys values : ℕ → Type 0) where
 
     -- the step that it waits for continues the run
     pub dict_lawful : (m : DictRun K V) (c : Call) (h : History) (s : Step) → IsRun (TypedAllows keys values) c.layout h → DictWaits keys values m c h s → IsRun (TypedAllows keys values) c.layout (row_of c s h ⊳ h)
-    dict_lawful m c h s run w = lawful_inside m.run c h s run (map_lawful m.run c h s (typed_run keys values c.layout h run) w.1.1) w.0 w.1.1
+    dict_lawful m c h s run w = lawful_inside (inner m.run) c h s (is_of_kind m.run) run (inner_lawful (inner m.run) c h s (typed_run keys values c.layout h run) w.1.1) w.0 w.1.1
 
     -- once the step is made, it may be called with what that told
     pub dict_made : (m : DictRun K V) (c : Call) (h : History) (s : Step) (v : ℕ) → IsRun (TypedAllows keys values) c.layout (row_of c s h ⊳ h) → IsTold s.access (value h s.word) v → DictWaits keys values m c h s → DictIsReady keys values m c (row_of c s h ⊳ h) (Some v)

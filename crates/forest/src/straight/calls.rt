@@ -9,11 +9,11 @@ ghost use Rattle.dict.specs.Translated.{HasFormOf, IsTranslated};
 ghost use Rattle.dict.specs.WordReplies.{word_reply};
 ghost use Rattle.dict.specs.Words.{IsValidReply};
 ghost use Rattle.dict.specs.declared.dict.DictRun.{DictRun as Run};
-ghost use Rattle.ordered_map.specs.OrderedMap.{Edit as EditCall, edit_key};
+ghost use Rattle.ordered_map.specs.OrderedMap.{Edit as CallOf, edit_key};
 ghost use Rattle.forest.specs.Dictionary.{update_reply};
 ghost use Rattle.forest.specs.Seats.{IsSeatAt, StaysAtTable};
 ghost use Rattle.forest.specs.Traces.{seat_steps, shared_nodes};
-ghost use Rattle.forest.specs.StraightCalls.{EditHasEnded, IsFreshEdit, SeatDictBegins, SeatDictEnds, SeatWordEnds, map_edit};
+ghost use Rattle.forest.specs.StraightCalls.{EditHasEnded, IsFreshEdit, SeatDictBegins, SeatDictEnds, SeatWordEnds};
 
 use crate::fault::UpdateFault;
 use crate::straight::{range, successor, update};
@@ -21,16 +21,10 @@ use crate::view::SeatView;
 use crate::words::Words;
 use arena::{Layout, Share};
 use atomic_table::Seat;
-use dict::{Dict, DictRun, MapRun, Reply, WordKey, WordReply, WordValue, translated, value_of};
+use dict::{
+    Dict, DictRun, EditCall, MapRun, Reply, WordKey, WordReply, WordValue, translated, value_of,
+};
 use edits::{UpdateRun, Updated};
-use tree::{Delete, Insert};
-
-/// An edit, in words.
-#[derive(Clone, Copy)]
-pub(crate) enum WordEdit {
-    Insert(Insert),
-    Delete(Delete),
-}
 
 /// What the caller of an edit gets of what its update has answered.
 #[inline(always)]
@@ -48,39 +42,29 @@ fn of_update<K: WordKey, V: WordValue>(updated: Updated) -> Result<Option<V>, Up
 
 /// Makes an edit with so many tries and this share, and tells what is left of that.
 #[inline(always)]
-pub(crate) fn make<K: WordKey, V: WordValue>(
+pub(crate) fn make<K: WordKey, V: WordValue, E: EditCall>(
     words: &Words<Dict<K, V>>,
     layout: &Layout,
     seat: &mut Seat<u8, SeatView>,
     number: u64,
     share: Share,
     tries: u32,
-    edit: WordEdit,
+    edit: E,
 ) -> (Result<Option<V>, UpdateFault>, Share)
     requires table { IsSeatAt words.now layout.now seat.old }
     requires tries { 0 < tries }
-    requires small { edit_key (map_edit edit) < 2 ^ 64 }
-    requires begins { (c : Call) × (c.layout ≡ layout.now) × (c.number ≡ number) × ((first : Run K V) → IsFreshEdit edit share tries number first → SeatDictBegins K.is_valid K.word_of V.is_valid V.word_of c seat.old.me.0.passes first) }
+    requires small { edit_key (E.edit edit) < 2 ^ 64 }
+    requires begins { (c : Call) × (c.layout ≡ layout.now) × (c.number ≡ number) × ((first : Run K V) → IsFreshEdit (E.edit edit) share tries number first → SeatDictBegins K.is_valid K.word_of V.is_valid V.word_of c seat.old.me.0.passes first) }
     ensures table { StaysAtTable seat.old seat.new }
-    ensures ends { (c : Call) → c.layout ≡ layout.now → c.number ≡ number → ((first : Run K V) → IsFreshEdit edit share tries number first → SeatDictBegins K.is_valid K.word_of V.is_valid V.word_of c seat.old.me.0.passes first) → EditHasEnded K.is_valid K.word_of V.is_valid V.word_of c seat.new.me.0.passes edit share tries number result.1 result.0 }
-    ensures steps { seat_steps seat.new.me.0.passes ≤ seat_steps seat.old.me.0.passes + most_steps (EditCall (map_edit edit)) tries (shared_nodes layout.now) }
+    ensures ends { (c : Call) → c.layout ≡ layout.now → c.number ≡ number → ((first : Run K V) → IsFreshEdit (E.edit edit) share tries number first → SeatDictBegins K.is_valid K.word_of V.is_valid V.word_of c seat.old.me.0.passes first) → EditHasEnded K.is_valid K.word_of V.is_valid V.word_of c seat.new.me.0.passes (E.edit edit) share tries number result.1 result.0 }
+    ensures steps { seat_steps seat.new.me.0.passes ≤ seat_steps seat.old.me.0.passes + most_steps (CallOf (E.edit edit)) tries (shared_nodes layout.now) }
 {
-    match edit {
-        WordEdit::Insert(edit) => {
-            let mut run = UpdateRun::new(edit, share, tries, number, ());
-            let updated = update::call::<Dict<K, V>, DictRun<K, V>, Insert>(
-                words, layout, seat, number, &mut run, edit.key,
-            );
-            (of_update::<K, V>(updated), run.into_share())
-        }
-        WordEdit::Delete(edit) => {
-            let mut run = UpdateRun::new(edit, share, tries, number, ());
-            let updated = update::call::<Dict<K, V>, DictRun<K, V>, Delete>(
-                words, layout, seat, number, &mut run, edit.key,
-            );
-            (of_update::<K, V>(updated), run.into_share())
-        }
-    }
+    let key = edit.key();
+    let mut run = UpdateRun::new(edit, share, tries, number, ());
+    let updated = update::call::<Dict<K, V>, DictRun<K, V>, E>(
+        words, layout, seat, number, &mut run, key,
+    );
+    (of_update::<K, V>(updated), run.into_share())
 }
 
 /// Makes an ordered read, in words.
@@ -117,7 +101,7 @@ fn in_words<K: WordKey, V: WordValue>(
             WordReply::of_range(told)
         }
         // Never: its callers make ordered reads alone, by the clause `ordered`.
-        MapRun::Insert(_) | MapRun::Delete(_) | MapRun::Get { .. } => unreachable!(),
+        _ => unreachable!(),
     }
 }
 

@@ -2,8 +2,6 @@
 use Rattle.std.specs.Prelude.{ℕ, Bool, true, false, Option, Some, None}
 use Rattle.arena.specs.declared.layout.Layout.{Layout}
 use Rattle.arena.specs.History.{History}
-use Rattle.ordered_map.specs.OrderedMap.{Delete}
-use Rattle.ordered_map.specs.Runs.{Makes}
 use Rattle.ordered_map.specs.declared.reply.Reply.TheVariants.{Value, Contended, Full}
 use Rattle.record.specs.declared.record.Answer.{Answer}
 use Rattle.record.specs.declared.record.Answer.TheVariants.{Map}
@@ -29,11 +27,10 @@ DeleteIsRight key lay tries c now start linked (Map (Contended node scx)) = HasL
 DeleteIsRight key lay tries c now start linked (Map (Full full)) = (old : ℕ) × HadAtKey lay now start key (Some old) × HasTooFewToTry lay c now start 1 full.what full.left
 DeleteIsRight key lay tries c now start linked _ = ⊥
 
--- its entry is of an SCX-record that takes the key out
+-- what a record says of a delete of the key
 abbrev pub delete_rules : ℕ → MapRules
 delete_rules key = record {
   IsAtOnce = λ answer. ⊥;
   enters = has_deleted;
   IsRight = DeleteIsRight key;
-  IsEntryFor = λ lay c before start linked e. Makes lay before e.scx (Delete key);
 }

@@ -14,11 +14,10 @@ abbrev pub GetIsRight : ℕ → Layout → ℕ → History → History → (ℕ 
 GetIsRight key lay c now start linked (Map (Value answer)) = IsAnswerAt lay now start key answer
 GetIsRight key lay c now start linked _ = ⊥
 
--- it has no entry
+-- what a record says of a get of the key
 abbrev pub get_rules : ℕ → MapRules
 get_rules key = record {
   IsAtOnce = λ answer. ⊥;
   enters = λ answer. false;
   IsRight = λ lay tries. GetIsRight key lay;
-  IsEntryFor = λ lay c before start linked e. ⊥;
 }

@@ -3,8 +3,6 @@ use Rattle.std.specs.Prelude.{ℕ, Bool, true, false, Option}
 use Rattle.arena.specs.declared.layout.Layout.{Layout}
 use Rattle.arena.specs.History.{History}
 use Rattle.ordered_map.specs.CallRules.{insert_nodes}
-use Rattle.ordered_map.specs.OrderedMap.{Insert}
-use Rattle.ordered_map.specs.Runs.{Makes}
 use Rattle.ordered_map.specs.declared.reply.Reply.TheVariants.{Value, Contended, Full}
 use Rattle.record.specs.declared.record.Answer.{Answer}
 use Rattle.record.specs.declared.record.Answer.TheVariants.{Map}
@@ -27,11 +25,10 @@ InsertIsRight key lay tries c now start linked (Map (Contended node scx)) = HasL
 InsertIsRight key lay tries c now start linked (Map (Full full)) = (old : Option ℕ) × HadAtKey lay now start key old × HasTooFewToTry lay c now start (insert_nodes old) full.what full.left
 InsertIsRight key lay tries c now start linked _ = ⊥
 
--- its entry is of an SCX-record that inserts the key with this value
-abbrev pub insert_rules : ℕ → ℕ → MapRules
-insert_rules key value = record {
+-- what a record says of an insert of the key
+abbrev pub insert_rules : ℕ → MapRules
+insert_rules key = record {
   IsAtOnce = λ answer. ⊥;
   enters = has_inserted;
   IsRight = InsertIsRight key;
-  IsEntryFor = λ lay c before start linked e. Makes lay before e.scx (Insert key value);
 }

@@ -1,6 +1,11 @@
 -- The rules of the calls of the map.
+use Rattle.std.specs.Prelude.{ℕ}
+use Rattle.arena.specs.declared.layout.Layout.{Layout}
+use Rattle.arena.specs.History.{History}
+use Rattle.arena.specs.Log.{Entry as Entered}
 use Rattle.ordered_map.specs.CallRules.{MayReply, call_rules, form_of, most_nodes, most_scx, most_steps}
 use Rattle.ordered_map.specs.OrderedMap.{MapCall, Edit, Insert, Delete, Get, Successor, Range}
+use Rattle.ordered_map.specs.Runs.{Makes}
 use Rattle.record.specs.declared.record.Answer.{Answer}
 use Rattle.record.specs.declared.record.Answer.TheVariants.{Map}
 use Rattle.record.specs.MapRecord.{reply_told}
@@ -17,9 +22,14 @@ abbrev pub RepliesAfterStep : MapCall → Answer → Type 0
 RepliesAfterStep call (Map reply) = MayReply call (form_of reply)
 RepliesAfterStep call _ = ⊥
 
+-- an entry of an edit is of an SCX-record that makes it; a read has none
+abbrev pub IsMapEntry : MapCall → Layout → History → Entered → Type 0
+IsMapEntry (Edit edit) lay before e = Makes lay before e.scx edit
+IsMapEntry _ lay before e = ⊥
+
 -- the one match from calls of the map to what a record says of each
 abbrev pub own_rules : MapCall → MapRules
-own_rules (Edit (Insert key value)) = insert_rules key value
+own_rules (Edit (Insert key value)) = insert_rules key
 own_rules (Edit (Delete key)) = delete_rules key
 own_rules (Get key) = get_rules key
 own_rules (Successor key) = successor_rules
@@ -38,6 +48,6 @@ map_rules call = record {
   enters = (own_rules call).enters;
   linked_then = λ answer now n old. old;
   IsRight = (own_rules call).IsRight;
-  IsEntryFor = (own_rules call).IsEntryFor;
+  IsEntryFor = λ lay c before start linked e. IsMapEntry call lay before e;
   IsPlaced = λ lay calls lines reply. IsPlacedOnMap (reply_told reply.answer) calls lines call reply;
 }

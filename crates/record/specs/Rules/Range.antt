@@ -23,11 +23,10 @@ RangeIsRight lay tries c now start linked (Map (Contended node scx)) = HasLostAl
 RangeIsRight lay tries c now start linked (Map NoMemory) = Unit {0}
 RangeIsRight lay tries c now start linked _ = ⊥
 
--- it has no entry
+-- what a record says of a range of these
 abbrev pub range_rules : ℕ → ℕ → ℕ → MapRules
 range_rules low high most = record {
   IsAtOnce = RangeAtOnce low high most;
   enters = λ answer. false;
   IsRight = RangeIsRight;
-  IsEntryFor = λ lay c before start linked e. ⊥;
 }

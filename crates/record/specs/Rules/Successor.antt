@@ -21,11 +21,10 @@ SuccessorIsRight lay tries c now start linked (Map (Contended node scx)) = HasLo
 SuccessorIsRight lay tries c now start linked (Map NoMemory) = Unit {0}
 SuccessorIsRight lay tries c now start linked _ = ⊥
 
--- it has no entry
+-- what a record says of a successor
 abbrev pub successor_rules : MapRules
 successor_rules = record {
   IsAtOnce = SuccessorAtOnce;
   enters = λ answer. false;
   IsRight = SuccessorIsRight;
-  IsEntryFor = λ lay c before start linked e. ⊥;
 }

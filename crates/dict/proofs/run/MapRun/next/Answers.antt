@@ -4,20 +4,22 @@ use Rattle.tree.specs.Insert.Means.{insert_means}
 use Rattle.edits.specs.Laws.Update.{update_scx_left}
 use Rattle.dict.specs.Known.{MapIsReady}
 use Rattle.dict.specs.declared.run.MapRun.TheVariants.{Insert, Delete, Get, Successor, Range}
-use Rattle.dict.proofs.Ends.{insert_goes, delete_goes, insert_ends, delete_ends, get_ends, successor_ends, range_ends}
+use Rattle.dict.specs.Inner.{insert_kind, delete_kind}
+use Rattle.dict.specs.Laws.Kinds.{insert_is, delete_is}
+use Rattle.dict.proofs.Ends.{edit_goes, edit_ends, get_ends, successor_ends, range_ends}
 use Rattle.dict.proofs.run.MapRun.next.Goals as goal
 
 pub returns-in-Done-clause-turn : goal.returns-in-Done-clause-turn
 returns-in-Done-clause-turn c tries d h run ready =
     let r : MapIsReady tries (Insert c.in-Insert.run') d h c.args.got = rw c.in-Insert.is at ready in
     let same = c.step.ensures.same in
-    rw c.of_update.ensures (insert_ends tries d h c.in-Insert.run' c.step.new.self c.in-Done.updated run r.0 same.0 same.1 same.2 (c.in-Done.ensures.spends (update_scx_left insert_means c.in-Insert.run' d h c.args.got r.1)) (c.in-Done.ensures.turn d h run r.1))
+    rw c.of_update.ensures (edit_ends tries d h insert_kind insert_is c.in-Insert.run' c.step.new.self c.in-Done.updated run r.0 same.0 same.1 same.2 (c.in-Done.ensures.spends (update_scx_left insert_means c.in-Insert.run' d h c.args.got r.1)) (c.in-Done.ensures.turn d h run r.1))
 
 pub returns-in-Done-step-clause-turn : goal.returns-in-Done-step-clause-turn
 returns-in-Done-step-clause-turn c tries d h run ready =
     let r : MapIsReady tries (Delete c.in-Delete.run') d h c.args.got = rw c.in-Delete.is at ready in
     let same = c.step-in-Delete.ensures.same in
-    rw c.of_update-in-Done-step.ensures (delete_ends tries d h c.in-Delete.run' c.step-in-Delete.new.self c.in-Done-step.updated run r.0 same.0 same.1 same.2 (c.in-Done-step.ensures.spends (update_scx_left delete_means c.in-Delete.run' d h c.args.got r.1)) (c.in-Done-step.ensures.turn d h run r.1))
+    rw c.of_update-in-Done-step.ensures (edit_ends tries d h delete_kind delete_is c.in-Delete.run' c.step-in-Delete.new.self c.in-Done-step.updated run r.0 same.0 same.1 same.2 (c.in-Done-step.ensures.spends (update_scx_left delete_means c.in-Delete.run' d h c.args.got r.1)) (c.in-Done-step.ensures.turn d h run r.1))
 
 pub returns-in-Done-next-clause-turn : goal.returns-in-Done-next-clause-turn
 returns-in-Done-next-clause-turn c tries d h run ready =
@@ -38,13 +40,13 @@ pub returns-in-Ask-clause-turn : goal.returns-in-Ask-clause-turn
 returns-in-Ask-clause-turn c tries d h run ready =
     let r : MapIsReady tries (Insert c.in-Insert.run') d h c.args.got = rw c.in-Insert.is at ready in
     let same = c.step.ensures.same in
-    (insert_goes tries d c.in-Insert.run' c.step.new.self r.0 same.0 same.1 same.2 (c.in-Ask.ensures.spends (update_scx_left insert_means c.in-Insert.run' d h c.args.got r.1)), c.in-Ask.ensures.turn d h run r.1)
+    (edit_goes tries d insert_kind insert_is c.in-Insert.run' c.step.new.self r.0 same.0 same.1 same.2 (c.in-Ask.ensures.spends (update_scx_left insert_means c.in-Insert.run' d h c.args.got r.1)), c.in-Ask.ensures.turn d h run r.1)
 
 pub returns-in-Ask-step-clause-turn : goal.returns-in-Ask-step-clause-turn
 returns-in-Ask-step-clause-turn c tries d h run ready =
     let r : MapIsReady tries (Delete c.in-Delete.run') d h c.args.got = rw c.in-Delete.is at ready in
     let same = c.step-in-Delete.ensures.same in
-    (delete_goes tries d c.in-Delete.run' c.step-in-Delete.new.self r.0 same.0 same.1 same.2 (c.in-Ask-step.ensures.spends (update_scx_left delete_means c.in-Delete.run' d h c.args.got r.1)), c.in-Ask-step.ensures.turn d h run r.1)
+    (edit_goes tries d delete_kind delete_is c.in-Delete.run' c.step-in-Delete.new.self r.0 same.0 same.1 same.2 (c.in-Ask-step.ensures.spends (update_scx_left delete_means c.in-Delete.run' d h c.args.got r.1)), c.in-Ask-step.ensures.turn d h run r.1)
 
 pub returns-in-Ask-step-2-clause-turn : goal.returns-in-Ask-step-2-clause-turn
 returns-in-Ask-step-2-clause-turn c tries d h run ready =

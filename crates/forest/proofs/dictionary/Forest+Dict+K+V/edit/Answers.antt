@@ -10,7 +10,7 @@ use Rattle.forest.specs.Dictionary.{HasSpentAtMost, IsRefusalOf, UpdateSays, bla
 use Rattle.arena.specs.declared.limits.Mode.TheVariants.{Tree}
 use Rattle.forest.specs.Passes.{Ground, HasGoneOn, taken_of}
 use Rattle.forest.specs.PassInvariant.{IsPass, pass_view}
-use Rattle.forest.specs.StraightCalls.{IsFreshEdit, EditHasEnded, SeatDictBegins, map_edit}
+use Rattle.forest.specs.StraightCalls.{IsFreshEdit, EditHasEnded, SeatDictBegins}
 use Rattle.forest.specs.Traces.{shared_nodes}
 use Rattle.forest.proofs.DictCalls.{Answered, IsSameCall, behind, blames_same, edit_starts, dict_ended, dict_pass, dict_goes_on, dict_spends, dict_tells, dict_refuses, so_behind, update_says, update_valid}
 use Rattle.forest.proofs.Entered.{HasEnded}
@@ -20,8 +20,8 @@ use Rattle.forest.proofs.dictionary.Forest+Dict+K+V.edit.Goals.{After-note_updat
 use Rattle.forest.proofs.dictionary.Forest+Dict+K+V.edit.Goals as goal
 
 -- a machine of the edit may begin the call
-begins : (g : Over) (c : After-replace-share g) (first : DictRun g.row.K.Denot g.row.V.Denot) → IsFreshEdit c.args.edit c.replace-share.result c.self.inside.tries c.taken-number.result first → SeatDictBegins g.K.WordKey.is_valid g.K.WordKey.word_of g.V.WordValue.is_valid g.V.WordValue.word_of (call_of c.pass.inside c.pass.invariant (taken_of (pass_view c.pass.inside))) c.pass.inside.seat.me.0.passes first
-begins g c first fresh = edit_starts g.K.WordKey.is_valid g.K.WordKey.word_of g.V.WordValue.is_valid g.V.WordValue.word_of c.pass.inside c.pass.invariant first c.args.edit c.self.inside.tries c.taken-number.result (ap taken_of c.pass.view_is ∙ sym c.taken-number.ensures) c.requires.typed (subst (λ share. IsFreshEdit c.args.edit share c.self.inside.tries c.taken-number.result first) c.replace-share.ensures.value fresh)
+begins : (g : Over) (c : After-replace-share g) (first : DictRun g.row.K.Denot g.row.V.Denot) → IsFreshEdit (g.E.EditCall.edit c.args.edit) c.replace-share.result c.self.inside.tries c.taken-number.result first → SeatDictBegins g.K.WordKey.is_valid g.K.WordKey.word_of g.V.WordValue.is_valid g.V.WordValue.word_of (call_of c.pass.inside c.pass.invariant (taken_of (pass_view c.pass.inside))) c.pass.inside.seat.me.0.passes first
+begins g c first fresh = edit_starts g.K.WordKey.is_valid g.K.WordKey.word_of g.V.WordValue.is_valid g.V.WordValue.word_of c.pass.inside c.pass.invariant first (g.E.EditCall.edit c.args.edit) c.self.inside.tries c.taken-number.result (ap taken_of c.pass.view_is ∙ sym c.taken-number.ensures) c.requires.typed (subst (λ share. IsFreshEdit (g.E.EditCall.edit c.args.edit) share c.self.inside.tries c.taken-number.result first) c.replace-share.ensures.value fresh)
 
 pub make-told-requires-clause-begins : goal.make-told-requires-clause-begins
 make-told-requires-clause-begins g c = (
@@ -32,7 +32,7 @@ make-told-requires-clause-begins g c = (
 )
 
 -- how it has ended
-call_ended : (g : Over) (c : After-note_update g) → EditHasEnded g.K.WordKey.is_valid g.K.WordKey.word_of g.V.WordValue.is_valid g.V.WordValue.word_of (call_of c.pass.inside c.pass.invariant (taken_of (pass_view c.pass.inside))) c.make-told.new.seat.me.0.passes c.args.edit c.replace-share.result c.self.inside.tries c.taken-number.result c.make-told.result.1 c.make-told.result.0
+call_ended : (g : Over) (c : After-note_update g) → EditHasEnded g.K.WordKey.is_valid g.K.WordKey.word_of g.V.WordValue.is_valid g.V.WordValue.word_of (call_of c.pass.inside c.pass.invariant (taken_of (pass_view c.pass.inside))) c.make-told.new.seat.me.0.passes (g.E.EditCall.edit c.args.edit) c.replace-share.result c.self.inside.tries c.taken-number.result c.make-told.result.1 c.make-told.result.0
 call_ended g c = c.make-told.ensures.ends (call_of c.pass.inside c.pass.invariant (taken_of (pass_view c.pass.inside))) (layout_of c.pass.view_is c.self.view_is c.requires.pass) (ap taken_of c.pass.view_is ∙ sym c.taken-number.ensures) (begins g (goal.at.returns-clause-says g c).After-replace-share)
 
 -- the machine with which it has ended, and the reply
@@ -46,7 +46,7 @@ ended : (g : Over) (c : After-note_update g) → HasEnded (TypedAllows (IsWordOf
 ended g c = let e = call_ended g c in dict_ended g.K.WordKey.is_valid g.K.WordKey.word_of g.V.WordValue.is_valid g.V.WordValue.word_of c.pass.inside c.pass.invariant c.make-told.new.seat e.last (answer g c) e.first e.ends
 
 -- it is of the call that was asked for
-same_call : (g : Over) (c : After-note_update g) → call_in (last g c).run ≡ Edit (map_edit c.args.edit)
+same_call : (g : Over) (c : After-note_update g) → call_in (last g c).run ≡ Edit (g.E.EditCall.edit c.args.edit)
 same_call g c = (ended g c).1.0 ∙ (call_ended g c).fresh.is_call
 
 same_tries : (g : Over) (c : After-note_update g) → (last g c).tries ≡ c.self.inside.tries
@@ -67,22 +67,22 @@ layout_is : (g : Over) (c : After-note_update g) → c.args.self.now.layout ≡ 
 layout_is g c = ap (λ (f : Ground). f.layout) (sym c.self.view_is)
 
 pub returns-clause-goes_on : goal.returns-clause-goes_on
-returns-clause-goes_on g c = let most = most_steps (Edit (map_edit c.args.edit)) c.self.inside.tries (shared_nodes c.self.inside.layout) in
+returns-clause-goes_on g c = let most = most_steps (Edit (g.E.EditCall.edit c.args.edit)) c.self.inside.tries (shared_nodes c.self.inside.layout) in
     rw (← c.pass.view_is, tries_are g c, layout_is g c, blames_same g.row.K.Denot c.make-told.result.0 c.pass.inside.blamed) (so_behind g.K.WordKey.is_valid g.K.WordKey.word_of g.V.WordValue.is_valid g.V.WordValue.word_of c.pass.inside c.pass.invariant c.make-told.new.seat (last g c) (answer g c) (λ q. HasGoneOn (TypedAllows (IsWordOf g.K.WordKey.is_valid g.K.WordKey.word_of) (IsWordOf g.V.WordValue.is_valid g.V.WordValue.word_of)) (pass_view c.pass.inside) (pass_view q) (taken_of (pass_view c.pass.inside)) most (blamed_by_reply (answer g c) c.pass.inside.blamed)) c.make-told.result.1 c.note_update.new.self (call_ended g c).is_left (blamed g c) (dict_goes_on g.K.WordKey.is_valid g.K.WordKey.word_of g.V.WordValue.is_valid g.V.WordValue.word_of c.pass.inside c.pass.invariant c.make-told.new.seat (last g c) (answer g c) (ended g c).0 most most c.make-told.ensures.table.0 c.make-told.ensures.steps (omega arith)))
 
 pub returns-clause-spends : goal.returns-clause-spends
 returns-clause-spends g c =
-    rw (← c.pass.view_is, tries_are g c) (so_behind g.K.WordKey.is_valid g.K.WordKey.word_of g.V.WordValue.is_valid g.V.WordValue.word_of c.pass.inside c.pass.invariant c.make-told.new.seat (last g c) (answer g c) (λ q. HasSpentAtMost (pass_view c.pass.inside) (pass_view q) (Edit (map_edit c.args.edit)) c.self.inside.tries) c.make-told.result.1 c.note_update.new.self (call_ended g c).is_left (blamed g c) (subst (λ n. HasSpentAtMost (pass_view c.pass.inside) (pass_view (behind g.K.WordKey.is_valid g.K.WordKey.word_of g.V.WordValue.is_valid g.V.WordValue.word_of c.pass.inside c.pass.invariant c.make-told.new.seat (last g c) (answer g c))) (Edit (map_edit c.args.edit)) n) (same_tries g c) (subst (λ k. HasSpentAtMost (pass_view c.pass.inside) (pass_view (behind g.K.WordKey.is_valid g.K.WordKey.word_of g.V.WordValue.is_valid g.V.WordValue.word_of c.pass.inside c.pass.invariant c.make-told.new.seat (last g c) (answer g c))) k (last g c).tries) (same_call g c) (dict_spends g.K.WordKey.is_valid g.K.WordKey.word_of g.V.WordValue.is_valid g.V.WordValue.word_of c.pass.inside c.pass.invariant c.make-told.new.seat (last g c) (answer g c) (ended g c).0))))
+    rw (← c.pass.view_is, tries_are g c) (so_behind g.K.WordKey.is_valid g.K.WordKey.word_of g.V.WordValue.is_valid g.V.WordValue.word_of c.pass.inside c.pass.invariant c.make-told.new.seat (last g c) (answer g c) (λ q. HasSpentAtMost (pass_view c.pass.inside) (pass_view q) (Edit (g.E.EditCall.edit c.args.edit)) c.self.inside.tries) c.make-told.result.1 c.note_update.new.self (call_ended g c).is_left (blamed g c) (subst (λ n. HasSpentAtMost (pass_view c.pass.inside) (pass_view (behind g.K.WordKey.is_valid g.K.WordKey.word_of g.V.WordValue.is_valid g.V.WordValue.word_of c.pass.inside c.pass.invariant c.make-told.new.seat (last g c) (answer g c))) (Edit (g.E.EditCall.edit c.args.edit)) n) (same_tries g c) (subst (λ k. HasSpentAtMost (pass_view c.pass.inside) (pass_view (behind g.K.WordKey.is_valid g.K.WordKey.word_of g.V.WordValue.is_valid g.V.WordValue.word_of c.pass.inside c.pass.invariant c.make-told.new.seat (last g c) (answer g c))) k (last g c).tries) (same_call g c) (dict_spends g.K.WordKey.is_valid g.K.WordKey.word_of g.V.WordValue.is_valid g.V.WordValue.word_of c.pass.inside c.pass.invariant c.make-told.new.seat (last g c) (answer g c) (ended g c).0))))
 
 -- why it tells nothing
-refuses : (g : Over) (c : After-note_update g) → IsRefusalOf c.self.inside.tries (pass_view c.pass.inside) (pass_view (behind g.K.WordKey.is_valid g.K.WordKey.word_of g.V.WordValue.is_valid g.V.WordValue.word_of c.pass.inside c.pass.invariant c.make-told.new.seat (last g c) (answer g c))) (Edit (map_edit c.args.edit)) (answer g c)
+refuses : (g : Over) (c : After-note_update g) → IsRefusalOf c.self.inside.tries (pass_view c.pass.inside) (pass_view (behind g.K.WordKey.is_valid g.K.WordKey.word_of g.V.WordValue.is_valid g.V.WordValue.word_of c.pass.inside c.pass.invariant c.make-told.new.seat (last g c) (answer g c))) (Edit (g.E.EditCall.edit c.args.edit)) (answer g c)
 refuses g c =
-    subst (λ tries. IsRefusalOf tries (pass_view c.pass.inside) (pass_view (behind g.K.WordKey.is_valid g.K.WordKey.word_of g.V.WordValue.is_valid g.V.WordValue.word_of c.pass.inside c.pass.invariant c.make-told.new.seat (last g c) (answer g c))) (Edit (map_edit c.args.edit)) (answer g c)) (same_tries g c)
+    subst (λ tries. IsRefusalOf tries (pass_view c.pass.inside) (pass_view (behind g.K.WordKey.is_valid g.K.WordKey.word_of g.V.WordValue.is_valid g.V.WordValue.word_of c.pass.inside c.pass.invariant c.make-told.new.seat (last g c) (answer g c))) (Edit (g.E.EditCall.edit c.args.edit)) (answer g c)) (same_tries g c)
     (subst (λ k. IsRefusalOf (last g c).tries (pass_view c.pass.inside) (pass_view (behind g.K.WordKey.is_valid g.K.WordKey.word_of g.V.WordValue.is_valid g.V.WordValue.word_of c.pass.inside c.pass.invariant c.make-told.new.seat (last g c) (answer g c))) k (answer g c)) (same_call g c) (dict_refuses g.K.WordKey.is_valid g.K.WordKey.word_of g.V.WordValue.is_valid g.V.WordValue.word_of c.pass.inside c.pass.invariant c.make-told.new.seat (last g c) (answer g c) (ended g c).0))
 
 pub returns-clause-says : goal.returns-clause-says
 returns-clause-says g c =
-    rw (← c.pass.view_is, tries_are g c) (so_behind g.K.WordKey.is_valid g.K.WordKey.word_of g.V.WordValue.is_valid g.V.WordValue.word_of c.pass.inside c.pass.invariant c.make-told.new.seat (last g c) (answer g c) (λ q. UpdateSays g.V.WordValue.word_of c.self.inside.tries (pass_view c.pass.inside) (pass_view q) (map_edit c.args.edit) c.make-told.result.0) c.make-told.result.1 c.note_update.new.self (call_ended g c).is_left (blamed g c) (update_says g.K.WordKey.word_of g.V.WordValue.word_of (pass_view c.pass.inside) (pass_view (behind g.K.WordKey.is_valid g.K.WordKey.word_of g.V.WordValue.is_valid g.V.WordValue.word_of c.pass.inside c.pass.invariant c.make-told.new.seat (last g c) (answer g c))) c.self.inside.tries (map_edit c.args.edit) c.make-told.result.0 (rw (← same_call g c) (dict_tells g.K.WordKey.is_valid g.K.WordKey.word_of g.V.WordValue.is_valid g.V.WordValue.word_of c.pass.inside c.pass.invariant c.make-told.new.seat (last g c) (answer g c) (ended g c).0)) (refuses g c)))
+    rw (← c.pass.view_is, tries_are g c) (so_behind g.K.WordKey.is_valid g.K.WordKey.word_of g.V.WordValue.is_valid g.V.WordValue.word_of c.pass.inside c.pass.invariant c.make-told.new.seat (last g c) (answer g c) (λ q. UpdateSays g.V.WordValue.word_of c.self.inside.tries (pass_view c.pass.inside) (pass_view q) (g.E.EditCall.edit c.args.edit) c.make-told.result.0) c.make-told.result.1 c.note_update.new.self (call_ended g c).is_left (blamed g c) (update_says g.K.WordKey.word_of g.V.WordValue.word_of (pass_view c.pass.inside) (pass_view (behind g.K.WordKey.is_valid g.K.WordKey.word_of g.V.WordValue.is_valid g.V.WordValue.word_of c.pass.inside c.pass.invariant c.make-told.new.seat (last g c) (answer g c))) c.self.inside.tries (g.E.EditCall.edit c.args.edit) c.make-told.result.0 (rw (← same_call g c) (dict_tells g.K.WordKey.is_valid g.K.WordKey.word_of g.V.WordValue.is_valid g.V.WordValue.word_of c.pass.inside c.pass.invariant c.make-told.new.seat (last g c) (answer g c) (ended g c).0)) (refuses g c)))
 
 pub returns-clause-valid : goal.returns-clause-valid
 returns-clause-valid g c = update_valid g.K.WordKey.word_of g.V.WordValue.word_of (pass_view c.pass.inside) (pass_view c.pass.inside) g.K.WordKey.is_valid g.V.WordValue.is_valid c.make-told.result.0 (ended g c).0.answers.valid
