@@ -19,9 +19,10 @@ const SIGNS: [(&str, &str); 8] = [
 ];
 
 /// What else is to be known.
-const REMARKS: [&str; 2] = [
+const REMARKS: [&str; 3] = [
     "A hollow sign has changed nothing. Its colour is that of the client whose SCX-record the step is of; where it helps another client, that one is named below.",
     "Below a freeze or a mark: its node. A dashed call is not answered. In the legal order a full dot is an update and a hollow one a reading.",
+    "With more than 600 turns a bar stands for loads, and a thick one for fills, their number below it.",
 ];
 
 /// Draws the head.

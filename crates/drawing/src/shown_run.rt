@@ -169,22 +169,29 @@ impl ShownRun {
 
     /// Puts entries and readings into their order.
     fn order(&mut self) -> Result<(), AllocError> {
-        for entry in self.entries.iter() {
-            let Some(call) = self.place_of(entry.client, entry.call) else {
-                continue;
-            };
-            if let Some(shown) = self.calls.get_mut(call) {
-                shown.has_entry = true;
+        for place in 0..self.entries.len() {
+            if let Some(entry) = self.entries.get(place).copied() {
+                self.order_entry(entry)?;
             }
-            self.moments.push(ShownMoment {
-                turn: entry.step,
-                reads: false,
-                call,
-            })?;
         }
         self.add_readings()?;
         self.moments
             .sort_by_key(|moment| (moment.turn, moment.reads))?;
+        Ok(())
+    }
+
+    fn order_entry(&mut self, entry: Entry) -> Result<(), AllocError> {
+        let Some(call) = self.place_of(entry.client, entry.call) else {
+            return Ok(());
+        };
+        if let Some(shown) = self.calls.get_mut(call) {
+            shown.has_entry = true;
+        }
+        self.moments.push(ShownMoment {
+            turn: entry.step,
+            reads: false,
+            call,
+        })?;
         Ok(())
     }
 

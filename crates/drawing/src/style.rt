@@ -49,6 +49,7 @@ text{fill:#ddd}
 .c5{fill:#8fd0ff;stroke:#8fd0ff}
 .c6{fill:#eee;stroke:#eee}
 .page,.call,.hollow{fill:#14171a}
+.help,.bar{stroke:none}
 }
 </style>
 ";

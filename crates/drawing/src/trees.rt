@@ -61,12 +61,17 @@ impl Tree {
         let left = self.grow(table, shown.left, y + LEVEL, levels - 1)?;
         let own = self.add(node, y)?;
         let right = self.grow(table, shown.right, y + LEVEL, levels - 1)?;
-        for below in [left, right] {
-            if let Some(below) = below {
-                self.edges.push((own, below))?;
-            }
-        }
+        self.tie(own, left)?;
+        self.tie(own, right)?;
         Ok(Some(own))
+    }
+
+    /// Hangs a node below another, if there is one.
+    fn tie(&mut self, above: usize, below: Option<usize>) -> Result<(), AllocError> {
+        if let Some(below) = below {
+            self.edges.push((above, below))?;
+        }
+        Ok(())
     }
 
     fn add(&mut self, node: u64, y: f64) -> Result<usize, AllocError> {
