@@ -1,5 +1,4 @@
 //! Rows of labels, of which none lies over another.
-use crate::canvas::width_of;
 use std::alloc::{AllocError, Global};
 
 /// How many letters a label has at most.
@@ -9,11 +8,11 @@ const MOST_LETTERS: usize = 44;
 const GAP: f64 = 8.0;
 
 /// Rows of labels, from the one next to what is labelled. The labels come from right to left, and
-/// each gets the first row with room for it. So the rows that its line passes have labels only to
-/// the right of it.
+/// each gets the first row with room for it. A line from its left end passes the rows before that
+/// one, so none of these has room there any more.
 #[derive(Drop)]
 pub(crate) struct LabelRows {
-    /// Where the leftmost label of each row begins.
+    /// Up to where each row has room.
     begins: Vec<f64>,
 }
 
@@ -25,12 +24,12 @@ impl LabelRows {
         }
     }
 
-    /// The row, from 0, of a label that begins there.
-    pub(crate) fn place(&mut self, left: f64, words: &str) -> Result<usize, AllocError> {
-        let right = left + width_of(words) + GAP;
+    /// The row, from 0, of a label that reaches from there to there.
+    pub(crate) fn place(&mut self, left: f64, right: f64) -> Result<usize, AllocError> {
         for (row, begin) in self.begins.iter_mut().enumerate() {
-            if right <= *begin {
-                *begin = left;
+            let has_room = right + GAP <= *begin;
+            *begin = left;
+            if has_room {
                 return Ok(row);
             }
         }

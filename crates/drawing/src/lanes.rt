@@ -1,5 +1,5 @@
 //! A lane for each client: its calls as boxes, and its steps in them.
-use crate::canvas::{Canvas, Spot};
+use crate::canvas::{Canvas, Spot, width_of};
 use crate::columns::{Columns, Group, LEFT, colour_of, node_name};
 use crate::labels::{LabelRows, shortened};
 use crate::shown_call::ShownCall;
@@ -126,7 +126,7 @@ fn labels_of(
         if call.client == client
             && let Some((left, text)) = label_of(alloc, columns, call)?
         {
-            let row = rows.place(left, text.as_str())?;
+            let row = rows.place(left, left + width_of(text.as_str()))?;
             labels.push(Label { call: place, row })?;
         }
     }

@@ -1,5 +1,5 @@
 //! The entries and the readings of a run in their order, below the lanes.
-use crate::canvas::{Canvas, Spot};
+use crate::canvas::{Canvas, Spot, width_of};
 use crate::columns::{Columns, colour_of};
 use crate::labels::{LabelRows, shortened};
 use crate::lanes::Lanes;
@@ -29,14 +29,11 @@ pub(crate) fn draw_legal_order(
         };
         let text = shortened(alloc, call.text.as_str())?;
         let text = format!(in alloc; "{} {text}", place.saturating_add(1))?;
-        let row = rows.place(group.middle() - 4.0, text.as_str())?;
+        let x = group.middle();
+        let row = rows.place(x - 4.0, x + 6.0 + width_of(text.as_str()))?;
         let y = top + ROW * nearest_usize_to_f64(row);
-        let at = Spot {
-            x: group.middle(),
-            y,
-        };
-        draw_moment(alloc, canvas, lanes, moment, call, at)?;
-        canvas.words(Spot { x: at.x + 6.0, y }, "", text.as_str())?;
+        draw_moment(alloc, canvas, lanes, moment, call, Spot { x, y })?;
+        canvas.words(Spot { x: x + 6.0, y }, "", text.as_str())?;
     }
     Ok(())
 }
