@@ -1,5 +1,5 @@
 //! Where another client may take a turn.
-use crate::stretch::{Begun, Stretch, add_turn, begun, turns_of};
+use crate::stretch::{Begun, Stretch, add_turn, branch_off, turns_of};
 use arena::PassNo;
 use record::{Line, Record, Row};
 use script::Call;
@@ -79,10 +79,10 @@ impl Branches {
             if has_call {
                 let interruptions = self.interruptions.saturating_add(1);
                 self.above
-                    .push(begun(alloc, stretches, other, interruptions)?)?;
+                    .push(branch_off(alloc, stretches, other, interruptions)?)?;
             } else {
                 self.beside
-                    .push(begun(alloc, stretches, other, self.interruptions)?)?;
+                    .push(branch_off(alloc, stretches, other, self.interruptions)?)?;
             }
         }
         Ok(())

@@ -4,7 +4,7 @@ use crate::fault::ExploreFault;
 use crate::found::FoundOutcome;
 use crate::outcome::outcome_text;
 use crate::playing::play_on;
-use crate::stretch::{Begun, begun};
+use crate::stretch::{Begun, branch_off};
 use arena::PassNo;
 use audit::audit;
 use record::Record;
@@ -129,12 +129,13 @@ impl Exploration {
             }
         }
         audit(alloc, record)?;
-        self.outcomes.push(FoundOutcome {
+        let outcome = FoundOutcome {
             text,
             schedules: 1,
             interruptions,
             first: branches.into_stretches(),
-        })?;
+        };
+        self.outcomes.push(outcome).map_err(AllocError::from)?;
         Ok(())
     }
 
@@ -152,11 +153,11 @@ fn first_of(alloc: Global, script: &Script) -> Result<Vec<Begun>, AllocError> {
     for (number, calls) in calls.iter().enumerate().rev() {
         if *calls > 0 {
             let client = PassNo(u32::try_from(number).unwrap_or(u32::MAX));
-            first.push(begun(alloc, &[], client, 0)?)?;
+            first.push(branch_off(alloc, &[], client, 0)?)?;
         }
     }
     if first.is_empty() {
-        first.push(begun(alloc, &[], PassNo(0), 0)?)?;
+        first.push(branch_off(alloc, &[], PassNo(0), 0)?)?;
     }
     Ok(first)
 }

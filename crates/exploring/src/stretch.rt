@@ -39,7 +39,7 @@ pub(crate) fn turns_of(stretches: &[Stretch]) -> u64 {
 }
 
 /// A schedule that begins with these turns.
-pub(crate) fn begun(
+pub(crate) fn branch_off(
     alloc: Global,
     stretches: &[Stretch],
     next: PassNo,
