@@ -3,6 +3,9 @@ use crate::explore::Exploration;
 use crate::stretch::Stretch;
 use std::alloc::{AllocError, Global};
 
+/// How many turns a row of a schedule has at most.
+const MOST_TURNS: u32 = 1_000_000;
+
 /// An outcome.
 #[derive(Drop)]
 pub(crate) struct FoundOutcome {
@@ -32,8 +35,23 @@ pub fn outcomes_text(alloc: Global, found: &Exploration) -> Result<String, Alloc
 
 /// Adds the rows of a schedule.
 fn put_schedule(text: &mut String, stretches: &[Stretch]) -> Result<(), AllocError> {
+    let mut rows: u64 = 0;
     for stretch in stretches {
-        writeln!(text, "step,{},,{}", stretch.client.0, stretch.turns)?;
+        rows = rows.saturating_add(put_stretch(text, *stretch)?);
     }
-    writeln!(text, "end,{},,", stretches.len())
+    writeln!(text, "end,{rows},,")
+}
+
+/// Adds the rows of a stretch, and answers how many they are.
+fn put_stretch(text: &mut String, stretch: Stretch) -> Result<u64, AllocError> {
+    let (client, most) = (stretch.client.0, MOST_TURNS);
+    let (full, rest) = (stretch.turns / MOST_TURNS, stretch.turns % MOST_TURNS);
+    for _ in 0..full {
+        writeln!(text, "step,{client},,{most}")?;
+    }
+    if rest == 0 {
+        return Ok(u64::from(full));
+    }
+    writeln!(text, "step,{client},,{rest}")?;
+    Ok(u64::from(full) + 1)
 }
