@@ -1,5 +1,6 @@
-//! The commands of the program, and one that copies a report.
+//! The commands of the program, one that copies a report, and one that draws it.
 use crate::copy::copy_over;
+use crate::drawn::draw_over;
 use crate::ended::Ended;
 use anyhow::{Result, bail};
 use arena::Mode;
@@ -20,6 +21,8 @@ pub(crate) enum Command<'a> {
     Audit,
     /// To read a report, and write it again.
     Copy,
+    /// To read a report, and draw it.
+    Picture,
 }
 
 impl<'a> Command<'a> {
@@ -30,6 +33,7 @@ impl<'a> Command<'a> {
             ("records", _) => Ok(Command::Play(Mode::Records)),
             ("audit", _) => Ok(Command::Audit),
             ("copy", _) => Ok(Command::Copy),
+            ("picture", _) => Ok(Command::Picture),
             (_, Some(("run", gate))) => Ok(Command::Run { gate }),
             _ => bail!("no command: {words}"),
         }
@@ -50,6 +54,7 @@ impl<'a> Command<'a> {
             Command::Run { gate } => run_over(rt, alloc, gate, first, &mut out, &mut err),
             Command::Audit => audit_over(alloc, first, &mut out, &mut err),
             Command::Copy => copy_over(alloc, first, &mut out, &mut err),
+            Command::Picture => draw_over(alloc, first, &mut out, &mut err),
         };
         let out = out.inner;
         Ended { status, out, err }

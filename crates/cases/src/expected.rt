@@ -39,6 +39,7 @@ impl Expected {
                 "report.csv",
             )?),
             Command::Run { gate: _ } => Expected::Output(file_of(rt, folder, "outcome.csv")?),
+            Command::Picture => Expected::Output(file_of(rt, folder, "picture.svg")?),
             Command::Audit => Expected::Output(b"lawful\n".to_vec(rt.alloc())?),
         })
     }

@@ -31,7 +31,10 @@ impl Inputs {
                 )
             }
             Command::Run { gate: _ } => (file_of(rt, folder, "script.csv")?, none),
-            Command::Audit | Command::Copy => (file_of(rt, folder, "report.csv")?, none),
+            Command::Audit | Command::Copy | Command::Picture => (
+                file_of(rt, folder, "report.csv")?,
+                none,
+            ),
         };
         Ok(Inputs { first, second })
     }

@@ -9,6 +9,7 @@ mod change;
 mod command;
 mod copy;
 mod devices;
+mod drawn;
 mod ended;
 mod expected;
 mod files;

@@ -21,9 +21,11 @@ mod totals;
 mod word;
 mod write;
 
+pub use answer::answer_text;
 pub use fault::ReportFault;
 pub use outcome::write_outcome;
 pub use read::read_record;
 pub use reply::reply_text;
 pub use texts::WriteFault;
+pub use word::word_text;
 pub use write::write_record;

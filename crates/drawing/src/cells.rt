@@ -1,0 +1,147 @@
+//! The cells of a script at some turn.
+use crate::canvas::{Canvas, Spot, width_of};
+use crate::flow::Flow;
+use crate::node_table::{NodeTable, short_number};
+use arena::{NodeNo, NodeWord, Side, Word};
+use script::{Call, Command};
+use std::alloc::{AllocError, Global};
+
+/// How many nodes a script may name, counted from node 0.
+const NODES: usize = 9;
+
+/// How wide a field of a cell is, and how high.
+const WIDE: f64 = 62.0;
+
+const HIGH: f64 = 18.0;
+
+/// Which nodes the calls of a script name.
+#[derive(Clone, Copy, Debug)]
+pub(crate) struct CellRow {
+    named: [bool; NODES],
+}
+
+/// The cells that some calls name.
+pub(crate) fn cells_of(calls: &[Call]) -> CellRow {
+    let mut row = CellRow {
+        named: [false; NODES],
+    };
+    for call in calls {
+        match &call.command {
+            Command::Llx { cell } => row.name(cell.node()),
+            Command::Set { field, value: _ } => row.name(field.0.node()),
+            Command::Vlx { cells } => row.name_all(cells.as_slice()),
+            Command::Scx(update) => row.name_all(update.cells()),
+            Command::Map(_) => {}
+        }
+    }
+    row
+}
+
+impl CellRow {
+    fn name(&mut self, node: NodeNo) {
+        if let Some(named) = self.named.get_mut(node.0 as usize) {
+            *named = true;
+        }
+    }
+
+    fn name_all(&mut self, cells: &[script::Cell]) {
+        for cell in cells {
+            self.name(cell.node());
+        }
+    }
+
+    /// Draws the cells under a caption, with the word that has changed tinted.
+    pub(crate) fn draw(
+        &self,
+        alloc: Global,
+        canvas: &mut Canvas,
+        flow: &mut Flow,
+        table: &NodeTable,
+        changed: Option<Word>,
+        caption: &str,
+    ) -> Result<(), AllocError> {
+        let count = self.named.iter().filter(|named| **named).count();
+        let wide = (2.0 * WIDE + 12.0) * std::num::nearest_usize_to_f64(count) + 20.0;
+        let corner = flow.place(Spot {
+            x: wide.max(width_of(caption) + 30.0),
+            y: 70.0,
+        });
+        canvas.words(corner, "quiet", caption)?;
+        let mut x = corner.x;
+        for (number, named) in self.named.iter().enumerate() {
+            if *named {
+                let at = Spot {
+                    x,
+                    y: corner.y + 20.0,
+                };
+                draw_cell(alloc, canvas, table, number as u64, changed, at)?;
+                x += 2.0 * WIDE + 12.0;
+            }
+        }
+        Ok(())
+    }
+}
+
+/// Draws a cell: its name, and its two fields side by side.
+fn draw_cell(
+    alloc: Global,
+    canvas: &mut Canvas,
+    table: &NodeTable,
+    node: u64,
+    changed: Option<Word>,
+    corner: Spot,
+) -> Result<(), AllocError> {
+    let shown = table.get(node);
+    let finalized = if shown.is_marked { " final" } else { "" };
+    let name = format!(in alloc; "n{node}{finalized}")?;
+    canvas.words(
+        Spot {
+            x: corner.x,
+            y: corner.y - 3.0,
+        },
+        "small quiet",
+        name.as_str(),
+    )?;
+    let beside = Spot {
+        x: corner.x + WIDE,
+        y: corner.y,
+    };
+    for (side, held, at) in [
+        (Side::Left, shown.left, corner),
+        (Side::Right, shown.right, beside),
+    ] {
+        let word = Word::Node(NodeNo(node), NodeWord::Child(side));
+        let class = match shown.is_marked {
+            _ if changed == Some(word) => "new",
+            true => "final",
+            false => "node",
+        };
+        draw_field(alloc, canvas, table, held, class, at)?;
+    }
+    Ok(())
+}
+
+/// Draws a field: the node that it holds, and what that node holds.
+fn draw_field(
+    alloc: Global,
+    canvas: &mut Canvas,
+    table: &NodeTable,
+    held: u64,
+    class: &str,
+    corner: Spot,
+) -> Result<(), AllocError> {
+    let value = table.get(held).value;
+    let text = if held == 0 {
+        format!(in alloc; "0")?
+    } else {
+        let value = short_number(alloc, value)?;
+        format!(in alloc; "n{held}: {value}")?
+    };
+    let told = format!(in alloc; "node {held}, value {value}")?;
+    canvas.rectangle(corner, Spot { x: WIDE, y: HIGH }, class, told.as_str())?;
+    let middle = Spot {
+        x: corner.x + WIDE / 2.0,
+        y: corner.y + 12.0,
+    };
+    canvas.middle_words(middle, "small", text.as_str())
+}

@@ -1,0 +1,172 @@
+//! Where each turn stands, from left to right.
+use crate::canvas::SMALL_LETTER;
+use crate::shown_run::{ShownTurn, has_sign};
+use crate::window::Window;
+use arena::{Kind, PassNo, Word};
+use std::alloc::{AllocError, Global};
+use std::num::nearest_usize_to_f64;
+
+/// Where the first turn begins.
+pub(crate) const LEFT: f64 = 84.0;
+
+/// With more turns than these, loads and fills that follow each other are one bar.
+const MOST_TICKS: u64 = 600;
+
+/// Some turns that are drawn as one: a turn, or loads or fills of a call without another step
+/// between them.
+#[derive(Clone, Copy, Debug)]
+pub(crate) struct Group {
+    /// The number of its first turn, and how many it has.
+    pub(crate) first: u64,
+    pub(crate) count: u64,
+    pub(crate) turn: ShownTurn,
+    pub(crate) left: f64,
+    pub(crate) right: f64,
+    /// Whether its last turn ends a call.
+    is_last: bool,
+}
+
+/// The turns of a window.
+#[derive(Drop)]
+pub(crate) struct Columns {
+    pub(crate) window: Window,
+    pub(crate) groups: Vec<Group>,
+    /// The group of each turn.
+    of_turns: Vec<usize>,
+    /// Whether loads and fills are gathered.
+    gathers: bool,
+}
+
+impl Group {
+    pub(crate) fn middle(&self) -> f64 {
+        (self.left + self.right) / 2.0
+    }
+
+    /// Whether one more turn of it can go on with it.
+    fn takes(&self, turn: &ShownTurn) -> bool {
+        match (self.turn.step, turn.step) {
+            (Some(row), Some(next)) => {
+                !self.is_last
+                    && row.pass == next.pass
+                    && !has_sign(row.kind)
+                    && !has_sign(next.kind)
+                    && (row.kind == Kind::Fill) == (next.kind == Kind::Fill)
+            }
+            _ => false,
+        }
+    }
+}
+
+impl Columns {
+    /// Those of the turns of a window.
+    pub(crate) fn of(
+        alloc: Global,
+        turns: &[ShownTurn],
+        window: Window,
+    ) -> Result<Columns, AllocError> {
+        let last = window.to.min(turns.len() as u64);
+        let mut columns = Columns {
+            window,
+            groups: Vec::new(alloc),
+            of_turns: Vec::new(alloc),
+            gathers: MOST_TICKS < last.saturating_sub(window.from),
+        };
+        for (place, turn) in turns.iter().enumerate() {
+            let number = (place as u64).saturating_add(1);
+            if window.has(number) {
+                columns.add(number, turn)?;
+            }
+        }
+        columns.spread(alloc)?;
+        Ok(columns)
+    }
+
+    fn add(&mut self, number: u64, turn: &ShownTurn) -> Result<(), AllocError> {
+        let count = self.groups.len();
+        if self.gathers
+            && let Some(group) = self.groups.last_mut()
+            && group.takes(turn)
+        {
+            group.count = group.count.saturating_add(1);
+            group.is_last = turn.is_last;
+            self.of_turns.push(count.saturating_sub(1))?;
+            return Ok(());
+        }
+        self.groups.push(Group {
+            first: number,
+            count: 1,
+            turn: *turn,
+            left: 0.0,
+            right: 0.0,
+            is_last: turn.is_last,
+        })?;
+        self.of_turns.push(count)?;
+        Ok(())
+    }
+
+    /// Gives each group its place.
+    fn spread(&mut self, alloc: Global) -> Result<(), AllocError> {
+        let mut x = LEFT;
+        for group in self.groups.iter_mut() {
+            group.left = x;
+            x += width_of_group(alloc, group)?;
+            group.right = x;
+        }
+        Ok(())
+    }
+
+    /// The group of a turn of this number, if it is drawn.
+    pub(crate) fn group(&self, turn: u64) -> Option<&Group> {
+        let place = turn.checked_sub(self.window.from)? as usize;
+        self.groups.get(*self.of_turns.get(place)?)
+    }
+
+    /// From where to where a call reaches in the window, if it does.
+    pub(crate) fn reach(&self, begin: u64, end: u64) -> Option<(f64, f64)> {
+        let (first, last) = self.window.part(begin, end)?;
+        Some((self.group(first)?.left, self.group(last)?.right))
+    }
+}
+
+/// How wide a group is drawn.
+fn width_of_group(alloc: Global, group: &Group) -> Result<f64, AllocError> {
+    if group.count > 1 {
+        let number = format!(in alloc; "{}", group.count)?;
+        return Ok(small_width(number.as_str()).max(12.0));
+    }
+    Ok(match group.turn.step {
+        None => 10.0,
+        Some(row) if has_sign(row.kind) => {
+            let name = node_name(alloc, row.word)?;
+            small_width(name.as_str()).max(17.0)
+        }
+        Some(row) if row.kind == Kind::Fill => 4.0,
+        Some(_) => 3.0,
+    })
+}
+
+/// How wide some words in small letters are, with what is left free beside them.
+fn small_width(words: &str) -> f64 {
+    SMALL_LETTER * nearest_usize_to_f64(words.chars().count()) + 3.0
+}
+
+/// The name of the node that a word is of; nothing if it is of an SCX-record.
+pub(crate) fn node_name(alloc: Global, word: Word) -> Result<String, AllocError> {
+    match word {
+        Word::Node(node, _) => format!(in alloc; "n{}", node.0),
+        Word::Scx(_, _) => Ok(String::new(alloc)),
+    }
+}
+
+/// The class of a client's colour.
+pub(crate) fn colour_of(client: PassNo) -> &'static str {
+    match client.0 % 7 {
+        0 => "c0",
+        1 => "c1",
+        2 => "c2",
+        3 => "c3",
+        4 => "c4",
+        5 => "c5",
+        _ => "c6",
+    }
+}

@@ -1,0 +1,87 @@
+//! The first lines of a picture: what was run, and what the signs mean.
+use crate::canvas::{Canvas, Spot, width_of};
+use crate::columns::LEFT;
+use crate::shown_run::ShownRun;
+use crate::window::Window;
+use arena::Mode;
+use std::alloc::{AllocError, Global};
+
+/// The signs of steps, and their meanings.
+const SIGNS: [(&str, &str); 8] = [
+    ("load", "load"),
+    ("fill", "fill"),
+    ("freeze", "freeze"),
+    ("frozen", "all frozen"),
+    ("mark", "mark"),
+    ("update", "update"),
+    ("commit", "commit"),
+    ("abort", "abort"),
+];
+
+/// What else is to be known.
+const REMARKS: [&str; 3] = [
+    "A hollow sign has changed nothing. Its colour is that of the client whose SCX-record the step is of; where it helps another client, that one is named below.",
+    "Below a freeze or a mark: its node. A dashed call is not answered. In the legal order a full dot is an update and a hollow one a reading.",
+    "With more than 600 turns a bar stands for loads, and a thick one for fills, their number below it.",
+];
+
+/// Draws the head.
+pub(crate) fn draw_head(
+    alloc: Global,
+    canvas: &mut Canvas,
+    run: &ShownRun,
+    window: Window,
+) -> Result<(), AllocError> {
+    let title = title_of(alloc, run, window)?;
+    canvas.words(Spot { x: 6.0, y: 20.0 }, "head", title.as_str())?;
+    canvas.reach(1.5 * width_of(title.as_str()), 0.0);
+    let mut x = 12.0;
+    for (sign, meaning) in SIGNS {
+        let class = match sign {
+            "load" => "tick",
+            "fill" => "fill",
+            _ => "c0",
+        };
+        canvas.mark(sign, Spot { x, y: 38.0 }, class)?;
+        canvas.words(
+            Spot {
+                x: x + 10.0,
+                y: 41.0,
+            },
+            "quiet",
+            meaning,
+        )?;
+        x += width_of(meaning) + 36.0;
+    }
+    let mut y = 55.0;
+    for remark in REMARKS {
+        canvas.words(Spot { x: 6.0, y }, "small quiet", remark)?;
+        y += 11.0;
+    }
+    Ok(())
+}
+
+/// What was run, in numbers.
+fn title_of(alloc: Global, run: &ShownRun, window: Window) -> Result<String, AllocError> {
+    let mode = match run.layout.mode {
+        Mode::Tree => "tree",
+        Mode::Records => "cells",
+    };
+    let answered = run.calls.iter().filter(|call| call.is_answered).count();
+    let (steps, updates) = (run.turns.len(), run.entries.len());
+    let calls = run.clients.iter().map(|client| client.calls.len());
+    let calls = calls.fold(0, |all: usize, own| all.saturating_add(own));
+    let clients = run
+        .clients
+        .iter()
+        .filter(|client| !client.calls.is_empty())
+        .count();
+    let mut title = format!(in alloc;
+        "{mode} · clients: {clients} · calls answered: {answered} of {calls} · turns: {steps} · updates: {updates}",
+    )?;
+    if window.from > 1 || window.to < steps as u64 {
+        let (from, to) = (window.from, window.to.min(steps as u64));
+        write!(title, " · here: turns {from} to {to}")?;
+    }
+    Ok(title)
+}

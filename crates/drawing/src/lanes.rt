@@ -1,0 +1,347 @@
+//! A lane for each client: its calls as boxes, and its steps in them.
+use crate::canvas::{Canvas, Spot, width_of};
+use crate::columns::{Columns, Group, LEFT, colour_of, node_name};
+use crate::labels::{LabelRows, shortened};
+use crate::shown_call::ShownCall;
+use crate::shown_run::{ShownRun, ShownTurn, has_sign};
+use arena::{Kind, PassNo};
+use report::word_text;
+use script::kind_name;
+use std::alloc::{AllocError, Global};
+use std::num::nearest_usize_to_f64;
+
+/// How high a row of labels is, the box of a call, and what stands below it.
+const ROW: f64 = 13.0;
+
+const BOX: f64 = 22.0;
+
+const BELOW: f64 = 26.0;
+
+/// A client's lane: where its boxes begin and end.
+#[derive(Clone, Copy, Debug)]
+pub(crate) struct Lane {
+    client: PassNo,
+    top: f64,
+    pub(crate) bottom: f64,
+}
+
+/// The label of a call.
+#[derive(Clone, Copy, Debug)]
+struct Label {
+    call: usize,
+    row: usize,
+}
+
+/// The lanes of the clients that have a call or make a turn.
+#[derive(Drop)]
+pub(crate) struct Lanes {
+    lanes: Vec<Lane>,
+}
+
+impl Lanes {
+    /// Draws the lanes from there on downwards.
+    pub(crate) fn draw(
+        alloc: Global,
+        canvas: &mut Canvas,
+        run: &ShownRun,
+        columns: &Columns,
+    ) -> Result<Lanes, AllocError> {
+        let mut lanes = Lanes {
+            lanes: Vec::new(alloc),
+        };
+        for (number, client) in run.clients.iter().enumerate() {
+            let client_number = PassNo(u32::try_from(number).unwrap_or(u32::MAX));
+            let is_there = |turn: &ShownTurn| turn.client == client_number;
+            if !client.calls.is_empty() || run.turns.iter().any(is_there) {
+                lanes.add(alloc, canvas, run, columns, client_number)?;
+            }
+        }
+        for group in columns.groups.iter() {
+            if let Some(lane) = lanes.of(group.turn.client) {
+                draw_group(alloc, canvas, group, lane)?;
+            }
+        }
+        Ok(lanes)
+    }
+
+    /// The lane of a client.
+    pub(crate) fn of(&self, client: PassNo) -> Option<Lane> {
+        self.lanes
+            .iter()
+            .find(|lane| lane.client == client)
+            .copied()
+    }
+
+    /// Draws a client's lane below the others, with its calls.
+    fn add(
+        &mut self,
+        alloc: Global,
+        canvas: &mut Canvas,
+        run: &ShownRun,
+        columns: &Columns,
+        client: PassNo,
+    ) -> Result<(), AllocError> {
+        let (labels, rows) = labels_of(alloc, run, columns, client)?;
+        let above = canvas.bottom;
+        let top = above + 8.0 + ROW * nearest_usize_to_f64(rows);
+        let bottom = top + BOX;
+        let lane = Lane {
+            client,
+            top,
+            bottom,
+        };
+        canvas.band(above + 2.0, bottom + BELOW - above - 2.0)?;
+        name_lane(alloc, canvas, lane)?;
+        for label in labels.iter() {
+            if let Some(call) = run.calls.get(label.call) {
+                draw_call(alloc, canvas, columns, lane, call, label.row)?;
+            }
+        }
+        self.lanes.push(lane)?;
+        Ok(())
+    }
+}
+
+/// Where a call's label begins, and its text.
+fn label_of(
+    alloc: Global,
+    columns: &Columns,
+    call: &ShownCall,
+) -> Result<Option<(f64, String)>, AllocError> {
+    Ok(match columns.reach(call.begin, call.end) {
+        Some((left, _)) => Some((left + 3.0, shortened(alloc, call.text.as_str())?)),
+        None => None,
+    })
+}
+
+/// The labels of a client's calls, and how many rows they need.
+fn labels_of(
+    alloc: Global,
+    run: &ShownRun,
+    columns: &Columns,
+    client: PassNo,
+) -> Result<(Vec<Label>, usize), AllocError> {
+    let (mut labels, mut rows) = (Vec::new(alloc), LabelRows::new(alloc));
+    for (place, call) in run.calls.iter().enumerate().rev() {
+        if call.client == client
+            && let Some((left, text)) = label_of(alloc, columns, call)?
+        {
+            let row = rows.place(left, left + width_of(text.as_str()))?;
+            labels.push(Label { call: place, row })?;
+        }
+    }
+    Ok((labels, rows.count()))
+}
+
+/// Writes whose lane it is.
+fn name_lane(alloc: Global, canvas: &mut Canvas, lane: Lane) -> Result<(), AllocError> {
+    let name = format!(in alloc; "client {}", lane.client.0)?;
+    let (corner, size) = (
+        Spot {
+            x: 6.0,
+            y: lane.top,
+        },
+        Spot { x: 8.0, y: BOX },
+    );
+    canvas.rectangle(corner, size, colour_of(lane.client), name.as_str())?;
+    let at = Spot {
+        x: 18.0,
+        y: lane.top + 15.0,
+    };
+    canvas.words(at, "", name.as_str())
+}
+
+/// Draws the box of a call, with its label in this row above it.
+fn draw_call(
+    alloc: Global,
+    canvas: &mut Canvas,
+    columns: &Columns,
+    lane: Lane,
+    call: &ShownCall,
+    row: usize,
+) -> Result<(), AllocError> {
+    let Some((left, right)) = columns.reach(call.begin, call.end) else {
+        return Ok(());
+    };
+    let colour = colour_of(call.client);
+    let open = if call.is_answered { "" } else { " open" };
+    let class = format!(in alloc; "{colour} call{open}")?;
+    let (begin, end, text) = (call.begin, call.end, call.text.as_str());
+    let told = format!(in alloc; "{text}, turns {begin} to {end}")?;
+    let (corner, size) = (
+        Spot {
+            x: left,
+            y: lane.top,
+        },
+        Spot {
+            x: right - left,
+            y: BOX,
+        },
+    );
+    canvas.rectangle(corner, size, class.as_str(), told.as_str())?;
+    let text = shortened(alloc, text)?;
+    let y = lane.top - 4.0 - ROW * nearest_usize_to_f64(row);
+    if row > 0 {
+        let class = format!(in alloc; "{colour} thin")?;
+        let (high, low) = (
+            Spot {
+                x: left + 1.0,
+                y: y - 8.0,
+            },
+            Spot {
+                x: left + 1.0,
+                y: lane.top,
+            },
+        );
+        canvas.line(high, low, class.as_str())?;
+    }
+    canvas.words(Spot { x: left + 3.0, y }, colour, text.as_str())
+}
+
+/// Draws the turns of a group.
+fn draw_group(
+    alloc: Global,
+    canvas: &mut Canvas,
+    group: &Group,
+    lane: Lane,
+) -> Result<(), AllocError> {
+    let at = Spot {
+        x: group.middle(),
+        y: lane.top + BOX / 2.0,
+    };
+    match group.turn.step {
+        None => canvas.sign("idle", at, "quiet", "idle"),
+        Some(row) if has_sign(row.kind) => draw_sign(alloc, canvas, group, &row, at),
+        Some(row) if group.count > 1 => draw_bar(alloc, canvas, group, &row, at),
+        Some(row) if row.kind == Kind::Fill => canvas.mark("fill", at, "fill"),
+        Some(_) => canvas.mark("load", at, "tick"),
+    }
+}
+
+/// Draws loads or fills as one bar, with their number below it.
+fn draw_bar(
+    alloc: Global,
+    canvas: &mut Canvas,
+    group: &Group,
+    row: &arena::Row,
+    at: Spot,
+) -> Result<(), AllocError> {
+    let (first, count) = (group.first, group.count);
+    let (name, high) = if row.kind == Kind::Fill {
+        ("fills", 8.0)
+    } else {
+        ("loads", 4.0)
+    };
+    let told = format!(in alloc; "{count} {name} from turn {first} on")?;
+    let (wide, number) = (
+        group.right - group.left - 2.0,
+        format!(in alloc; "{count}")?,
+    );
+    let (corner, size) = (
+        Spot {
+            x: group.left + 1.0,
+            y: at.y - high / 2.0,
+        },
+        Spot { x: wide, y: high },
+    );
+    canvas.rectangle(corner, size, "bar", told.as_str())?;
+    let below = Spot {
+        x: at.x,
+        y: at.y + 20.0,
+    };
+    canvas.middle_words(below, "small quiet", number.as_str())
+}
+
+/// Draws a step of an SCX in the colour of the client whose SCX-record it is.
+fn draw_sign(
+    alloc: Global,
+    canvas: &mut Canvas,
+    group: &Group,
+    row: &arena::Row,
+    at: Spot,
+) -> Result<(), AllocError> {
+    let owner = group.turn.owner.unwrap_or(row.pass);
+    if owner != row.pass {
+        draw_help(alloc, canvas, group, owner, at)?;
+    }
+    let hollow = if row.before == row.after {
+        " hollow"
+    } else {
+        ""
+    };
+    let class = format!(in alloc; "{}{hollow}", colour_of(owner))?;
+    let (number, name) = (group.first, kind_name(row.kind));
+    let (before, after) = (row.before, row.after);
+    let word = word_text(alloc, row.word)?;
+    let told = format!(in alloc; "turn {number}: {name} {word}, {before} to {after}")?;
+    canvas.sign(name, at, class.as_str(), told.as_str())?;
+    if row.kind == Kind::Freeze || row.kind == Kind::Mark {
+        let below = Spot {
+            x: at.x,
+            y: at.y + 20.0,
+        };
+        canvas.middle_words(below, "small quiet", node_name(alloc, row.word)?.as_str())?;
+    }
+    Ok(())
+}
+
+/// Tints the place of a step that helps this client, and writes its number below.
+fn draw_help(
+    alloc: Global,
+    canvas: &mut Canvas,
+    group: &Group,
+    owner: PassNo,
+    at: Spot,
+) -> Result<(), AllocError> {
+    let colour = colour_of(owner);
+    let class = format!(in alloc; "{colour} help")?;
+    let told = format!(in alloc; "helps client {}", owner.0)?;
+    let (corner, size) = (
+        Spot {
+            x: group.left,
+            y: at.y - BOX / 2.0,
+        },
+        Spot {
+            x: group.right - group.left,
+            y: BOX,
+        },
+    );
+    canvas.rectangle(corner, size, class.as_str(), told.as_str())?;
+    let (below, class) = (
+        Spot {
+            x: at.x,
+            y: at.y + 29.0,
+        },
+        format!(in alloc; "small {colour}")?,
+    );
+    canvas.middle_words(
+        below,
+        class.as_str(),
+        format!(in alloc; "c{}", owner.0)?.as_str(),
+    )
+}
+
+/// Draws the numbers of some turns above all lanes.
+pub(crate) fn draw_numbers(
+    alloc: Global,
+    canvas: &mut Canvas,
+    columns: &Columns,
+) -> Result<(), AllocError> {
+    let (y, mut free) = (canvas.bottom + 10.0, LEFT);
+    canvas.words(Spot { x: 18.0, y }, "small quiet", "turn")?;
+    for group in columns.groups.iter() {
+        let x = group.middle();
+        if group.first != 1 && group.first % 10 != 0 {
+            continue;
+        }
+        let (high, low) = (Spot { x, y: y + 2.0 }, Spot { x, y: y + 5.0 });
+        canvas.line(high, low, "tick")?;
+        if x >= free {
+            let number = format!(in alloc; "{}", group.first)?;
+            canvas.middle_words(Spot { x, y }, "small quiet", number.as_str())?;
+            free = x + 36.0;
+        }
+    }
+    canvas.reach(0.0, y + 4.0);
+    Ok(())
+}

@@ -1,0 +1,37 @@
+//! Calls as a picture shows them.
+use arena::PassNo;
+use script::{Command, CommandText};
+use std::alloc::{AllocError, Global};
+
+/// A call that has begun.
+#[derive(Drop)]
+pub(crate) struct ShownCall {
+    pub(crate) client: PassNo,
+    /// The numbers of its first and its last turn so far.
+    pub(crate) begin: u64,
+    pub(crate) end: u64,
+    /// Where it took place, if it told or changed something.
+    pub(crate) moment: Option<u64>,
+    /// Whether it is answered.
+    pub(crate) is_answered: bool,
+    /// Whether an update of its own has won.
+    pub(crate) has_entry: bool,
+    /// What it does, and what it has answered.
+    pub(crate) text: String,
+}
+
+/// The text of a call.
+pub(crate) fn call_text(alloc: Global, command: &Command) -> Result<String, AllocError> {
+    let CommandText { name, a, b, c } = CommandText::of(alloc, command)?;
+    if let Command::Scx(_) = command {
+        return format!(in alloc; "{name} {a} | {b} | {c}");
+    }
+    let mut text = String::from_str(alloc, name)?;
+    for field in [&a, &b, &c] {
+        if !field.is_empty() {
+            text.push(' ')?;
+            text.push_str(field.as_str())?;
+        }
+    }
+    Ok(text)
+}

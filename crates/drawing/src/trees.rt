@@ -1,0 +1,200 @@
+//! The tree of a dictionary at some turn.
+use crate::canvas::{Canvas, Spot, width_of};
+use crate::flow::Flow;
+use crate::node_table::{NodeTable, ShownNode, short_number};
+use std::alloc::{AllocError, Global};
+use std::num::nearest_usize_to_f64;
+
+/// How many nodes are drawn at most, and how many levels.
+const MOST_NODES: usize = 127;
+
+const MOST_LEVELS: u32 = 64;
+
+/// How far apart neighbours by key are, and two levels.
+const STEP: f64 = 26.0;
+
+const LEVEL: f64 = 42.0;
+
+/// A node of a tree: which one, and how far below the root.
+#[derive(Clone, Copy, Debug)]
+struct Branch {
+    node: u64,
+    y: f64,
+}
+
+/// The nodes of a tree from left to right, so that a fork stands between its two sides.
+#[derive(Drop)]
+struct Tree {
+    branches: Vec<Branch>,
+    /// Which of them hangs below which.
+    edges: Vec<(usize, usize)>,
+    deepest: f64,
+}
+
+impl Tree {
+    fn of(alloc: Global, table: &NodeTable) -> Result<Tree, AllocError> {
+        let mut tree = Tree {
+            branches: Vec::new(alloc),
+            edges: Vec::new(alloc),
+            deepest: 0.0,
+        };
+        tree.grow(table, 0, 0.0, MOST_LEVELS)?;
+        Ok(tree)
+    }
+
+    /// Adds a node and what hangs below it, as long as there are levels left; answers where it
+    /// stands.
+    fn grow(
+        &mut self,
+        table: &NodeTable,
+        node: u64,
+        y: f64,
+        levels: u32,
+    ) -> Result<Option<usize>, AllocError> {
+        if levels == 0 || self.branches.len() >= MOST_NODES {
+            return Ok(None);
+        }
+        let shown = table.get(node);
+        if shown.head().leaf {
+            return Ok(Some(self.add(node, y)?));
+        }
+        let left = self.grow(table, shown.left, y + LEVEL, levels - 1)?;
+        let own = self.add(node, y)?;
+        let right = self.grow(table, shown.right, y + LEVEL, levels - 1)?;
+        self.tie(own, left)?;
+        self.tie(own, right)?;
+        Ok(Some(own))
+    }
+
+    /// Hangs a node below another, if there is one.
+    fn tie(&mut self, above: usize, below: Option<usize>) -> Result<(), AllocError> {
+        if let Some(below) = below {
+            self.edges.push((above, below))?;
+        }
+        Ok(())
+    }
+
+    fn add(&mut self, node: u64, y: f64) -> Result<usize, AllocError> {
+        let place = self.branches.len();
+        self.branches.push(Branch { node, y })?;
+        self.deepest = self.deepest.max(y);
+        Ok(place)
+    }
+
+    /// Where a node stands in the picture, if the root is on this level.
+    fn spot(&self, place: usize, corner: Spot) -> Spot {
+        let down = match self.branches.get(place) {
+            Some(branch) => branch.y,
+            None => 0.0,
+        };
+        Spot {
+            x: corner.x + 20.0 + STEP * nearest_usize_to_f64(place),
+            y: corner.y + 34.0 + down,
+        }
+    }
+}
+
+/// Draws the tree under a caption, and answers its nodes. Those that an earlier one does not have
+/// are tinted, if there is one.
+pub(crate) fn draw_tree(
+    alloc: Global,
+    canvas: &mut Canvas,
+    flow: &mut Flow,
+    table: &NodeTable,
+    earlier: &[u64],
+    caption: &str,
+) -> Result<Vec<u64>, AllocError> {
+    let tree = Tree::of(alloc, table)?;
+    let wide = STEP * nearest_usize_to_f64(tree.branches.len()) + 40.0;
+    let corner = flow.place(Spot {
+        x: wide.max(width_of(caption) + 30.0),
+        y: tree.deepest + 74.0,
+    });
+    canvas.words(corner, "quiet", caption)?;
+    for (above, below) in tree.edges.iter() {
+        canvas.line(tree.spot(*above, corner), tree.spot(*below, corner), "edge")?;
+    }
+    let mut nodes = Vec::new(alloc);
+    for (place, branch) in tree.branches.iter().enumerate() {
+        let is_new = !earlier.is_empty() && !earlier.contains(&branch.node);
+        draw_node(
+            alloc,
+            canvas,
+            table,
+            branch.node,
+            is_new,
+            tree.spot(place, corner),
+        )?;
+        nodes.push(branch.node)?;
+    }
+    Ok(nodes)
+}
+
+/// Draws a node around a spot.
+fn draw_node(
+    alloc: Global,
+    canvas: &mut Canvas,
+    table: &NodeTable,
+    node: u64,
+    is_new: bool,
+    at: Spot,
+) -> Result<(), AllocError> {
+    let shown = table.get(node);
+    let class = if is_new { "new" } else { "node" };
+    let (key, value) = (shown.key, shown.value);
+    let told = format!(in alloc; "n{node}: key {key}, value {value}")?;
+    let high = if shown.head().leaf { 24.0 } else { 16.0 };
+    let (corner, size) = (
+        Spot {
+            x: at.x - 18.0,
+            y: at.y - high / 2.0,
+        },
+        Spot { x: 36.0, y: high },
+    );
+    canvas.rectangle(corner, size, class, told.as_str())?;
+    draw_texts(alloc, canvas, &shown, at)?;
+    let name = format!(in alloc; "n{node}")?;
+    let above = Spot {
+        x: at.x,
+        y: corner.y - 2.0,
+    };
+    canvas.middle_words(above, "small quiet", name.as_str())
+}
+
+/// Writes what a node holds around a spot: its key, and a leaf's value.
+fn draw_texts(
+    alloc: Global,
+    canvas: &mut Canvas,
+    shown: &ShownNode,
+    at: Spot,
+) -> Result<(), AllocError> {
+    let head = shown.head();
+    let key = match head.class {
+        0 => short_number(alloc, shown.key)?,
+        class => format!(in alloc; "∞{class}")?,
+    };
+    if !head.leaf || head.class != 0 {
+        return canvas.middle_words(
+            Spot {
+                x: at.x,
+                y: at.y + 3.0,
+            },
+            "small",
+            key.as_str(),
+        );
+    }
+    let value = short_number(alloc, shown.value)?;
+    canvas.middle_words(
+        Spot {
+            x: at.x,
+            y: at.y - 2.0,
+        },
+        "small",
+        key.as_str(),
+    )?;
+    let below = Spot {
+        x: at.x,
+        y: at.y + 8.0,
+    };
+    canvas.middle_words(below, "small quiet", value.as_str())
+}

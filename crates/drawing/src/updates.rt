@@ -1,0 +1,109 @@
+//! What there is after each update.
+use crate::canvas::{Canvas, Spot};
+use crate::cells::{CellRow, cells_of};
+use crate::columns::LEFT;
+use crate::flow::Flow;
+use crate::node_table::NodeTable;
+use crate::shown_run::{ShownRun, ShownTurn};
+use crate::trees::draw_tree;
+use crate::window::Window;
+use arena::{Mode, Word};
+use record::Record;
+use std::alloc::{AllocError, Global};
+
+/// How many updates are drawn at most.
+const MOST: u64 = 12;
+
+/// How wide the rows of drawings are, if the picture is not wider.
+const WIDTH: f64 = 1000.0;
+
+/// The drawings so far.
+#[derive(Drop)]
+struct Updates {
+    flow: Flow,
+    table: NodeTable,
+    cells: CellRow,
+    /// The nodes of the newest tree.
+    earlier: Vec<u64>,
+    count: u64,
+}
+
+/// Draws the tree, or the cells that the script names, at the window's begin and after each of its
+/// first updates.
+pub(crate) fn draw_updates(
+    alloc: Global,
+    canvas: &mut Canvas,
+    run: &ShownRun,
+    record: &Record,
+    window: Window,
+) -> Result<(), AllocError> {
+    let corner = Spot {
+        x: LEFT,
+        y: canvas.bottom + 30.0,
+    };
+    let mut updates = Updates {
+        flow: Flow::new(corner, canvas.right.max(WIDTH)),
+        table: NodeTable::new(alloc, run.layout)?,
+        cells: cells_of(record.script.calls.as_slice()),
+        earlier: Vec::new(alloc),
+        count: 0,
+    };
+    if window.from <= 1 {
+        updates.draw(alloc, canvas, None, "at the start")?;
+    }
+    for (place, turn) in run.turns.iter().enumerate() {
+        let number = (place as u64).saturating_add(1);
+        updates.turn(alloc, canvas, turn, number, window)?;
+    }
+    Ok(())
+}
+
+impl Updates {
+    /// Goes on by a turn.
+    fn turn(
+        &mut self,
+        alloc: Global,
+        canvas: &mut Canvas,
+        turn: &ShownTurn,
+        number: u64,
+        window: Window,
+    ) -> Result<(), AllocError> {
+        let Some(row) = turn.step else {
+            return Ok(());
+        };
+        self.table.note(row.word, row.after)?;
+        if number.saturating_add(1) == window.from {
+            self.draw(alloc, canvas, None, "before these turns")?;
+        }
+        if let Some(entry) = turn.entry
+            && window.has(number)
+            && self.count < MOST
+        {
+            self.count = self.count.saturating_add(1);
+            let caption = format!(in alloc; "after update {}, turn {number}", entry.place)?;
+            self.draw(alloc, canvas, Some(row.word), caption.as_str())?;
+        }
+        Ok(())
+    }
+
+    /// Draws what there is now, after an update of this word.
+    fn draw(
+        &mut self,
+        alloc: Global,
+        canvas: &mut Canvas,
+        changed: Option<Word>,
+        caption: &str,
+    ) -> Result<(), AllocError> {
+        match self.table.mode() {
+            Mode::Tree => {
+                let earlier = self.earlier.as_slice();
+                let flow = &mut self.flow;
+                self.earlier = draw_tree(alloc, canvas, flow, &self.table, earlier, caption)?;
+                Ok(())
+            }
+            Mode::Records => {
+                self.cells.draw(alloc, canvas, &mut self.flow, &self.table, changed, caption)
+            }
+        }
+    }
+}
