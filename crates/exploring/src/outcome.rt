@@ -1,6 +1,6 @@
 //! What a schedule leaves behind.
 use arena::PassNo;
-use ordered_map::Request;
+use moments::edited;
 use record::{Entry, Line, Record};
 use report::answer_text;
 use script::{Call, Command};
@@ -55,13 +55,12 @@ fn pairs_of(alloc: Global, record: &Record) -> Result<Vec<(u64, u64)>, AllocErro
 
 /// Makes the update of a command on some pairs.
 fn update(pairs: &mut Vec<(u64, u64)>, command: Option<Command>) -> Result<(), AllocError> {
-    match command {
-        Some(Command::Map(Request::Insert { key, value })) => {
-            pairs.retain(|pair| pair.0 != key);
-            pairs.push((key, value))?;
-        }
-        Some(Command::Map(Request::Delete { key })) => pairs.retain(|pair| pair.0 != key),
-        _ => {}
+    let Some((key, value)) = command.and_then(|command| edited(command)) else {
+        return Ok(());
+    };
+    pairs.retain(|pair| pair.0 != key);
+    if let Some(value) = value {
+        pairs.push((key, value))?;
     }
     Ok(())
 }

@@ -1,11 +1,12 @@
 -- That what is said of a call's tries bites: with nobody about, a call of a dictionary begins one try
 -- at most, and takes what one may.
 use Rattle.std.proofs.Common.{ℕ, ◌+◌, ◌*◌, ◌≤◌, arith}
+use Rattle.std.proofs.Math.Nat.{mul-le-mul_left}
 use Rattle.arena.specs.Blame.{WasInTheWay}
 use Rattle.arena.specs.Fills.{IsOthersScx}
 use Rattle.arena.specs.History.{Extends}
 use Rattle.ordered_map.specs.CallRules.{most_nodes, most_scx}
-use Rattle.ordered_map.specs.OrderedMap.{MapCall, Edit, Get, Successor, Range, Insert, Delete}
+use Rattle.ordered_map.specs.OrderedMap.{MapCall, Edit, Get, Successor, Range}
 use Rattle.template.specs.Tries.{tries_since}
 use Rattle.template.proofs.Lemmas.{alone_once}
 use Rattle.forest.specs.Dictionary.{HasSpentAtMost}
@@ -18,11 +19,7 @@ one_try (Successor key) begun old left one spent = spent
 one_try (Range low high most) begun old left one spent = spent
 
 its_nodes : (call : MapCall) (begun old left : ℕ) → begun ≤ 1 → old ≤ left + most_nodes call * begun → old ≤ left + most_nodes call
-its_nodes (Edit (Insert key value)) begun old left one spent = omega (arith, one, spent)
-its_nodes (Edit (Delete key)) begun old left one spent = omega (arith, one, spent)
-its_nodes (Get key) begun old left one spent = omega (arith, spent)
-its_nodes (Successor key) begun old left one spent = omega (arith, spent)
-its_nodes (Range low high most) begun old left one spent = omega (arith, spent)
+its_nodes call begun old left one spent = let few = mul-le-mul_left (most_nodes call) one in omega (arith, few, spent)
 
 -- no SCX-record of another pass was in the way of the call
 module _ (old new : PassView) (call : MapCall) (tries : ℕ) (since : Extends (run_of new) (run_of old)) (alone : (n s : ℕ) → IsOthersScx new.layout new.number s → ¬ WasInTheWay (run_of new) (run_of old) n s) (x : HasSpentAtMost old new call tries) where
