@@ -53,7 +53,7 @@ module _ (c : ℕ) where
       later (inl d) = inl (sym d)
       later (inr d) = absurd (let grow = tries_grow then (x.first ⊳ begin) d in let more = more_behind now then y.first y.begins y.within in let all = x.none_since in omega (arith, grow, more, all))
 
-  -- a try was begun before its row
+  -- where a try was begun since a moment, more are begun than by that
   begun_before : (now start begin : History) → HasBegunTry c now start begin → tries_begun c start < tries_begun c now
   begun_before now start begin x = let more = more_behind now begin x.first x.begins x.within in let grow = tries_grow begin start x.since in omega (arith, more, grow)
 
