@@ -11,7 +11,7 @@ use std::num::nearest_usize_to_f64;
 /// How high a row of labels is.
 const ROW: f64 = 14.0;
 
-/// Draws the legal order, with a dotted line to each of its places from the turn where it was taken.
+/// Draws the legal order, with a dotted line to each place in it from the turn where it was taken.
 pub(crate) fn draw_legal_order(
     alloc: Global,
     canvas: &mut Canvas,

@@ -68,10 +68,9 @@ impl Updates {
         number: u64,
         window: Window,
     ) -> Result<(), AllocError> {
-        let Some(row) = turn.step else {
-            return Ok(());
-        };
-        self.table.note(row.word, row.after)?;
+        if let Some(row) = turn.step {
+            self.table.note(row.word, row.after)?;
+        }
         if number.saturating_add(1) == window.from {
             self.draw(alloc, canvas, None, "before these turns")?;
         }
@@ -81,7 +80,8 @@ impl Updates {
         {
             self.count = self.count.saturating_add(1);
             let caption = format!(in alloc; "after update {}, turn {number}", entry.place)?;
-            self.draw(alloc, canvas, Some(row.word), caption.as_str())?;
+            let changed = turn.step.map(|row| row.word);
+            self.draw(alloc, canvas, changed, caption.as_str())?;
         }
         Ok(())
     }

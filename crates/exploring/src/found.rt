@@ -1,5 +1,5 @@
 //! Outcomes, and how often they came.
-use crate::explore::Exploration;
+use crate::search::Exploration;
 use crate::stretch::Stretch;
 use std::alloc::{AllocError, Global};
 

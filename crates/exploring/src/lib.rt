@@ -2,13 +2,13 @@
 #![tactic(auto)]
 
 mod branches;
-mod explore;
 mod fault;
 mod found;
 mod outcome;
 mod playing;
+mod search;
 mod stretch;
 
-pub use explore::{Exploration, explore};
 pub use fault::ExploreFault;
 pub use found::outcomes_text;
+pub use search::{Exploration, explore};
