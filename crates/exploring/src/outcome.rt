@@ -3,7 +3,7 @@ use arena::PassNo;
 use moments::edited;
 use record::{Entry, Line, Record};
 use report::answer_text;
-use script::{Call, Command};
+use script::Call;
 use std::alloc::{AllocError, Global};
 
 /// The rows of a record's outcome: the replies by client and call, and the pairs that are left in
@@ -42,22 +42,18 @@ fn put_replies(
 fn pairs_of(alloc: Global, record: &Record) -> Result<Vec<(u64, u64)>, AllocError> {
     let mut pairs = Vec::new(alloc);
     for line in record.lines.iter() {
-        if let Line::Log(entry) = line {
-            update(
-                &mut pairs,
-                command_of(record.script.calls.as_slice(), entry),
-            )?;
+        if let Line::Log(entry) = line
+            && let Some((key, value)) = edit_of(record.script.calls.as_slice(), entry)
+        {
+            update(&mut pairs, key, value)?;
         }
     }
     pairs.sort()?;
     Ok(pairs)
 }
 
-/// Makes the update of a command on some pairs.
-fn update(pairs: &mut Vec<(u64, u64)>, command: Option<Command>) -> Result<(), AllocError> {
-    let Some((key, value)) = command.and_then(|command| edited(command)) else {
-        return Ok(());
-    };
+/// Leaves this value to a key, or none.
+fn update(pairs: &mut Vec<(u64, u64)>, key: u64, value: Option<u64>) -> Result<(), AllocError> {
     pairs.retain(|pair| pair.0 != key);
     if let Some(value) = value {
         pairs.push((key, value))?;
@@ -65,8 +61,8 @@ fn update(pairs: &mut Vec<(u64, u64)>, command: Option<Command>) -> Result<(), A
     Ok(())
 }
 
-/// The command that has made an entry.
-fn command_of(calls: &[Call], entry: &Entry) -> Option<Command> {
+/// The key that an entry edits, and what it leaves there.
+fn edit_of(calls: &[Call], entry: &Entry) -> Option<(u64, Option<u64>)> {
     let mut own = calls.iter().filter(|call| call.client == entry.client);
-    Some(own.nth(entry.call as usize)?.command)
+    edited(own.nth(entry.call as usize)?.command)
 }
