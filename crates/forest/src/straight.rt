@@ -5,7 +5,7 @@
 
 pub(crate) mod calls;
 pub(crate) mod fresh_nodes;
-pub(crate) mod help;
+pub(crate) mod helps;
 pub(crate) mod llx;
 pub(crate) mod ordered_read;
 pub(crate) mod put;

@@ -12,6 +12,7 @@ ghost use Rattle.prims.specs.declared.scx.ScxRun.{ScxRun};
 ghost use Rattle.prims.specs.declared.scx.ScxAt.{ScxAt};
 ghost use Rattle.help.specs.declared.state.HelpAt.{HelpAt};
 
+use crate::straight::helps;
 use crate::straight::step::step;
 use crate::view::SeatView;
 use crate::words::Words;
@@ -239,5 +240,5 @@ pub(crate) fn call<S: Shape, M: Machine<S>, T: Shape, L: SnapList>(
 {
     let layout = *layout;
     fill_all::<S, M, T, L>(words, &layout, seat, number, snaps, change);
-    super::help::call::<S, M, T>(words, &layout, seat, number, help)
+    helps::call::<S, M, T>(words, &layout, seat, number, help)
 }

@@ -1,6 +1,6 @@
 use Rattle.std.proofs.Common.{◌<◌, arith}
 use Rattle.forest.proofs.StraightHelp.{to_new}
-use Rattle.forest.proofs.straight.help.mark_all.Goals as goal
+use Rattle.forest.proofs.straight.helps.mark_all.Goals as goal
 
 pub mark-requires-2-clause-marks : goal.mark-requires-2-clause-marks
 mark-requires-2-clause-marks g c = let r = c.requires.marks in (r.0, c.mark.ensures.marked r.0 r.1)

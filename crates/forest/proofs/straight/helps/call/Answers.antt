@@ -12,9 +12,9 @@ use Rattle.forest.specs.StraightHelp.{Helper, HelperMarks, LoadsPlan}
 use Rattle.forest.specs.CallKinds.{calls}
 use Rattle.forest.specs.Inside.{InnerWaits}
 use Rattle.forest.proofs.StraightHelp.{to_member, no_marks, to_old, to_update, to_commit}
-use Rattle.forest.proofs.straight.help.call.Given.{Over}
-use Rattle.forest.proofs.straight.help.call.Goals.{After-read-word, After-freeze_all, After-act, After-mark_all, After-read-new, After-read-old, After-act-2}
-use Rattle.forest.proofs.straight.help.call.Goals as goal
+use Rattle.forest.proofs.straight.helps.call.Given.{Over}
+use Rattle.forest.proofs.straight.helps.call.Goals.{After-read-word, After-freeze_all, After-act, After-mark_all, After-read-new, After-read-old, After-act-2}
+use Rattle.forest.proofs.straight.helps.call.Goals as goal
 
 -- whichever call waited for the plan, it goes from place to place
 at_member : (g : Over) (c : After-read-word g) (k : Helper g.T.Shape.allows (calls g.S.Shape g.M.Machine c.args.layout.now c.args.number)) → LoadsPlan k c.args.seat.now.me.0.passes c.args.run.now → InnerWaits k c.read-word.new.seat.me.0.passes (record c.args.run.now { plan = record { 0 = c.read-word.result }; at = AtMember First }) (settled_load c.args.run.now.scx.0 (Member 0))

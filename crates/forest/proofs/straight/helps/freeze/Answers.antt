@@ -11,9 +11,9 @@ use Rattle.forest.specs.StraightHelp.{Helper, LoadsMember}
 use Rattle.forest.specs.CallKinds.{calls}
 use Rattle.forest.specs.Inside.{InnerIsTold, InnerWaits}
 use Rattle.forest.proofs.StraightHelp.{to_seen, to_freeze, to_next, to_set_frozen, to_all_frozen}
-use Rattle.forest.proofs.straight.help.freeze.Given.{Over}
-use Rattle.forest.proofs.straight.help.freeze.Goals.{After-read-seen, After-act-found}
-use Rattle.forest.proofs.straight.help.freeze.Goals as goal
+use Rattle.forest.proofs.straight.helps.freeze.Given.{Over}
+use Rattle.forest.proofs.straight.helps.freeze.Goals.{After-read-seen, After-act-found}
+use Rattle.forest.proofs.straight.helps.freeze.Goals as goal
 
 -- the run with one node more
 abbrev with_node : HelpRun → ℕ → ℕ → HelpRun

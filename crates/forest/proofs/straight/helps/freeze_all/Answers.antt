@@ -1,5 +1,5 @@
 use Rattle.std.proofs.Common.{arith, refl}
-use Rattle.forest.proofs.straight.help.freeze_all.Goals as goal
+use Rattle.forest.proofs.straight.helps.freeze_all.Goals as goal
 
 pub freeze-requires-2-clause-waits : goal.freeze-requires-2-clause-waits
 freeze-requires-2-clause-waits g c = let r = c.requires.waits in (r.0, c.freeze.ensures.next c.if-not-freeze.false c.in-Some.second c.in-Some.ensures.value (let v = (c.in-Some.ensures.valid.0 refl).1 in let e = c.in-Some.ensures.value in omega arith) r.0 r.1)

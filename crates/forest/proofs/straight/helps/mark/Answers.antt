@@ -2,7 +2,7 @@ use Rattle.std.proofs.Common.{◌∙◌, ◌<◌, sym, arith}
 use Rattle.arena.specs.MemberIndex.{member_index}
 use Rattle.help.specs.declared.state.HelpAt.TheVariants.{Mark as AtMark}
 use Rattle.forest.proofs.StraightHelp.{to_mark, more_marks, next_place, skips}
-use Rattle.forest.proofs.straight.help.mark.Goals as goal
+use Rattle.forest.proofs.straight.helps.mark.Goals as goal
 
 pub act-requires-clause-waits : goal.act-requires-clause-waits
 act-requires-clause-waits g c = let r = c.requires.marks in (r.0, record c.args.run.now { at = AtMark c.args.j }, rw c.index.ensures.value (to_mark r.0 _ c.args.run.now (member_index c.args.j) c.args.j (sym c.finalizes.ensures ∙ c.if-finalizes.true) (λ i a b. absurd (let z : member_index c.args.j < member_index c.args.j = omega (arith, a, b) in omega (arith, z))) r.1))
