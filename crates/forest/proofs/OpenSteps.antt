@@ -16,6 +16,7 @@ use Rattle.ordered_map.specs.declared.reply.Reply.{Reply}
 use Rattle.forest.specs.declared.open.OpenCall.TheInside.{Inside}
 use Rattle.forest.specs.declared.view.SeatedPass.{SeatedPass}
 use Rattle.forest.specs.declared.view.SeatView.{SeatView}
+use Rattle.forest.specs.Hosts.{Host, HostedStands}
 use Rattle.forest.specs.OpenInvariant.{IsOpen, next_call}
 use Rattle.forest.specs.Passes.{steps_of}
 use Rattle.forest.specs.StraightCalls.{IsSameDictCall}
@@ -24,7 +25,9 @@ use Rattle.forest.specs.Traces.{Stands, seat_steps, shared_nodes, weight}
 use Rattle.forest.proofs.Advances.{weighs}
 use Rattle.forest.proofs.Calls.{course_keeps}
 use Rattle.forest.proofs.DictCalls.{IsSameCall}
+use Rattle.forest.proofs.Hosts.{own, own_call, own_stands}
 use Rattle.forest.proofs.StepKinds.{waits_asks}
+use Rattle.forest.proofs.StraightCalls.{dict_calls}
 
 pub differ : true ≡ false → ⊥
 differ e = cc
@@ -52,10 +55,17 @@ module _ {K V : Type 0} (valid_key : K → Type 0) (key : K → ℕ) (valid_valu
     pub open_asks : AsksForPairs (call_in o.run.run)
     open_asks = waits_asks valid_key key valid_value value o.run (next_call o.began.value x.pass.is_pass) (history_of o.began.value.layout.mode open_waits.known) step open_waits.so.0
 
-    module _ (s : Seat ℕ SeatView) (m : DictRun K V) (turn : Turn (Reply K V)) (table : s.table_id ≡ o.seat.table_id) (bare : s.me.1 ≡ o.seat.me.1) (one : seat_steps s.me.0.passes ≡ suc (seat_steps o.seat.me.0.passes)) (y : DictStands (next_call o.began.value x.pass.is_pass) s.me.0.passes x.first m turn) where
+    -- the call, of its own machine
+    abbrev pub open_host : Host (dict_calls valid_key key valid_value value o.layout o.call) (own_call (dict_calls valid_key key valid_value value o.layout o.call) (DictAnswers valid_key key valid_value value))
+    open_host = own (dict_calls valid_key key valid_value value o.layout o.call) (DictAnswers valid_key key valid_value value) (next_call o.began.value x.pass.is_pass) (sym x.layout) (sym x.call) x.first
+
+    module _ (s : Seat ℕ SeatView) (m : DictRun K V) (turn : Turn (Reply K V)) (table : s.table_id ≡ o.seat.table_id) (bare : s.me.1 ≡ o.seat.me.1) (one : seat_steps s.me.0.passes ≡ suc (seat_steps o.seat.me.0.passes)) (y : HostedStands open_host s.me.0.passes m turn) where
+      stood : DictStands (next_call o.began.value x.pass.is_pass) s.me.0.passes x.first m turn
+      stood = own_stands (dict_calls valid_key key valid_value value o.layout o.call) (DictAnswers valid_key key valid_value value) (next_call o.began.value x.pass.is_pass) (sym x.layout) (sym x.call) x.first s.me.0.passes m turn y
+
       -- it is of the same call as before
       pub same_call : IsSameCall valid_key key valid_value value o.run m
-      same_call = let a = same_so_far _ _ x.first o.run o.turn x.stands in let b = same_so_far _ _ x.first m turn y in (b.0 ∙ sym a.0, b.1 ∙ sym a.1)
+      same_call = let a = same_so_far _ _ x.first o.run o.turn x.stands in let b = same_so_far _ _ x.first m turn stood in (b.0 ∙ sym a.0, b.1 ∙ sym a.1)
 
       -- it has made one step more
       pub one_more : seat_steps s.me.0.passes - steps_of o.began.value ≡ suc (seat_steps o.seat.me.0.passes - steps_of o.began.value)
@@ -79,7 +89,7 @@ module _ {K V : Type 0} (valid_key : K → Type 0) (key : K → ℕ) (valid_valu
           call = x.call;
           blamed = x.blamed;
           first = x.first;
-          stands = y;
+          stands = stood;
           since = let z = x.since in omega (arith, one, z);
           steps = rw (same_call.0, same_call.1) few;
           over = ends;

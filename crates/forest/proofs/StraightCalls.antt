@@ -39,7 +39,6 @@ use Rattle.forest.specs.StraightCalls.{DictAllows, DictCallIsReady, DictCallWait
 use Rattle.forest.specs.StraightReads.{RangeReader, SearchBegins, SearchEnds, SuccessorReader, VisitBegins, VisitEnds}
 use Rattle.forest.specs.StraightUpdate.{Updater, HasUpdateGoneOn, UpdaterBegins, UpdaterEnds}
 use Rattle.forest.specs.declared.straight.calls.WordEdit.TheVariants as edits
-use Rattle.forest.proofs.StraightUpdate.{answers_there}
 use Rattle.forest.specs.TableRule.{history_of}
 use Rattle.forest.specs.Traces.{begins, goes_on}
 use Rattle.forest.specs.CallKinds.{Calls}
@@ -95,13 +94,13 @@ module _ {K V : Type 0} (valid_key : K → Type 0) (key : K → ℕ) (valid_valu
       call = c;
       is_layout = is_layout;
       is_number = is_number;
-      tree = λ h run. typed_run keys values c.layout h run;
+      runs = λ h run. typed_run keys values c.layout h run;
       first = machine;
       with_run = inserting;
       opens = λ m h s x. x.1.1;
       tells = λ m h got x. x.1.1;
       turns = λ old now h got s on x w. (subst (λ (e : Inserted). IsTypedCall keys values (insert_call e)) (sym on.edit) x.0, (insert_goes old now on x.1.0, w));
-      stays = λ old now e fewer. (ap insert_call e, refl, (fewer.1, fewer.0));
+      stays = λ old now goes. (ap insert_call goes.edit, refl, (goes.tries.1, goes.tries.0));
     }
 
     pub insert_begins : (ps : List SeatedPass) {A : Type 0} (m : UpdateRun Inserted A) → machine.run ≡ Insert (standing m Start) → SeatDictBegins valid_key key valid_value value_word c ps machine → UpdaterBegins inserter ps m
@@ -115,7 +114,7 @@ module _ {K V : Type 0} (valid_key : K → Type 0) (key : K → ℕ) (valid_valu
       is = x.is;
       sound = x.sound;
       so = (
-        (y.was.1.0.mode, insert_ends machine.tries c _ y.old (standing m Start) a (typed_run keys values c.layout _ x.sound) y.was.1.0 y.goes.edit y.goes.called y.goes.limit y.goes.spends (answers_there insert_means c _ m Start a y.answers)),
+        (y.was.1.0.mode, insert_ends machine.tries c _ y.old (standing m Start) a (typed_run keys values c.layout _ x.sound) y.was.1.0 y.goes.edit y.goes.called y.goes.limit y.goes.spends y.answers),
         goes_on (inserting y.old) (ap insert_call y.goes.edit, refl, (y.goes.tries.1, y.goes.tries.0)) y.course,
       );
     }
@@ -143,13 +142,13 @@ module _ {K V : Type 0} (valid_key : K → Type 0) (key : K → ℕ) (valid_valu
       call = c;
       is_layout = is_layout;
       is_number = is_number;
-      tree = λ h run. typed_run keys values c.layout h run;
+      runs = λ h run. typed_run keys values c.layout h run;
       first = machine;
       with_run = deleting;
       opens = λ m h s x. x.1.1;
       tells = λ m h got x. x.1.1;
       turns = λ old now h got s on x w. (subst (λ (e : Deleted). IsTypedCall keys values (delete_call e)) (sym on.edit) x.0, (delete_goes old now on x.1.0, w));
-      stays = λ old now e fewer. (ap delete_call e, refl, (fewer.1, fewer.0));
+      stays = λ old now goes. (ap delete_call goes.edit, refl, (goes.tries.1, goes.tries.0));
     }
 
     pub delete_begins : (ps : List SeatedPass) {A : Type 0} (m : UpdateRun Deleted A) → machine.run ≡ Delete (standing m Start) → SeatDictBegins valid_key key valid_value value_word c ps machine → UpdaterBegins deleter ps m
@@ -163,7 +162,7 @@ module _ {K V : Type 0} (valid_key : K → Type 0) (key : K → ℕ) (valid_valu
       is = x.is;
       sound = x.sound;
       so = (
-        (y.was.1.0.mode, delete_ends machine.tries c _ y.old (standing m Start) a (typed_run keys values c.layout _ x.sound) y.was.1.0 y.goes.edit y.goes.called y.goes.limit y.goes.spends (answers_there delete_means c _ m Start a y.answers)),
+        (y.was.1.0.mode, delete_ends machine.tries c _ y.old (standing m Start) a (typed_run keys values c.layout _ x.sound) y.was.1.0 y.goes.edit y.goes.called y.goes.limit y.goes.spends y.answers),
         goes_on (deleting y.old) (ap delete_call y.goes.edit, refl, (y.goes.tries.1, y.goes.tries.0)) y.course,
       );
     }
@@ -178,7 +177,7 @@ module _ {K V : Type 0} (valid_key : K → Type 0) (key : K → ℕ) (valid_valu
       call = c;
       is_layout = is_layout;
       is_number = is_number;
-      tree = λ h run. typed_run keys values c.layout h run;
+      runs = λ h run. typed_run keys values c.layout h run;
       first = machine;
       with_run = searching share;
       opens = λ m h s x. x.1.1.0;
@@ -198,8 +197,8 @@ module _ {K V : Type 0} (valid_key : K → Type 0) (key : K → ℕ) (valid_valu
       is = x.is;
       sound = x.sound;
       so = (
-        (y.was.1.0.mode, successor_ends machine.tries c _ m share a y.was.1.1.1 y.was.1.0.spent (y.is_same.1 ∙ y.was.1.0.limit) y.answers),
-        goes_on (searching share y.old) (ap SuccessorCall y.is_same.0, refl, (y.is_same.2, y.is_same.3)) y.course,
+        (y.was.1.0.mode, successor_ends machine.tries c _ m share a y.was.1.1.1 y.was.1.0.spent (y.goes.1 ∙ y.was.1.0.limit) y.answers),
+        goes_on (searching share y.old) (ap SuccessorCall y.goes.0, refl, (y.goes.2, y.goes.3)) y.course,
       );
     }
 
@@ -216,7 +215,7 @@ module _ {K V : Type 0} (valid_key : K → Type 0) (key : K → ℕ) (valid_valu
       call = c;
       is_layout = is_layout;
       is_number = is_number;
-      tree = λ h run. typed_run keys values c.layout h run;
+      runs = λ h run. typed_run keys values c.layout h run;
       first = machine;
       with_run = ranging share;
       opens = λ m h s x. x.1.1.0;
@@ -236,8 +235,8 @@ module _ {K V : Type 0} (valid_key : K → Type 0) (key : K → ℕ) (valid_valu
       is = x.is;
       sound = x.sound;
       so = (
-        (y.was.1.0.mode, range_ends machine.tries c _ m share a y.was.1.1.1 y.was.1.0.spent (y.is_same.3 ∙ y.was.1.0.limit) y.answers),
-        goes_on (ranging share y.old) (range_call y.old m y.is_same, refl, (y.is_same.4, y.is_same.5)) y.course,
+        (y.was.1.0.mode, range_ends machine.tries c _ m share a y.was.1.1.1 y.was.1.0.spent (y.goes.3 ∙ y.was.1.0.limit) y.answers),
+        goes_on (ranging share y.old) (range_call y.old m y.goes, refl, (y.goes.4, y.goes.5)) y.course,
       );
     }
 

@@ -120,7 +120,7 @@ impl<K: WordKey, V: WordValue> OpenCall<K, V> {
             return Stepped::Done(None);
         };
         let (step, layout) = (*step, self.layout);
-        self.turn = advance(
+        self.turn = advance::<Dict<K, V>, DictRun<K, V>, Dict<K, V>, DictRun<K, V>>(
             &forest.words,
             &layout,
             &mut self.seat,

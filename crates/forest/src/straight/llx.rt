@@ -125,7 +125,7 @@ fn hand_over<S: Shape>(
     let at = LlxAt::StateAgain { marked, scx };
     let turn = Turn::Ask(load(Kind::LoadState, Word::Scx(scx, ScxWord::State)));
     let mut run = LlxRun { node, at };
-    complete(words, layout, seat, number, &mut run, turn)
+    complete::<S, LlxRun, S, LlxRun>(words, layout, seat, number, &mut run, turn)
 }
 
 /// LLX of a node: the loads of a snapshot; where something is in the way, the machine goes on.

@@ -102,7 +102,7 @@ fn complete_blocked<S: Shape>(
         word: Word::Scx(run.scx.scx, ScxWord::AllFrozen),
         access: Access::Load,
     };
-    complete::<S, PutRun>(words, &layout, seat, number, &mut run, Turn::Ask(step))
+    complete::<S, PutRun, S, PutRun>(words, &layout, seat, number, &mut run, Turn::Ask(step))
 }
 
 /// SCX of an update by this SCX-record, whose fresh cell gets the value.

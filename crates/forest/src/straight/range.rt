@@ -12,8 +12,9 @@ ghost use Rattle.order.specs.Range.Steps.{range_left};
 ghost use Rattle.order.specs.declared.range.RangeAt.{RangeAt};
 ghost use Rattle.order.specs.declared.range.RangeNext.{RangeNext};
 
+use crate::steps::complete;
 use crate::straight::llx::{load, look};
-use crate::straight::ordered_read::{finish, read, tell};
+use crate::straight::ordered_read::{read, tell};
 use crate::straight::vlx::validate;
 use crate::view::SeatView;
 use crate::words::Words;
@@ -63,7 +64,7 @@ fn look_on<S: Shape, M: Machine<S>>(
                 llx,
             };
             let turn = Turn::Ask(load(Kind::LoadState, Word::Scx(scx, ScxWord::State)));
-            Err(finish::<S, M, RangeRun>(words, layout, seat, number, run, turn))
+            Err(complete::<S, M, Tree, RangeRun>(words, layout, seat, number, run, turn))
         }
     }
 }

@@ -10,8 +10,9 @@ ghost use Rattle.order.specs.Successor.Next.{successor_placed};
 ghost use Rattle.order.specs.Successor.Steps.{successor_left};
 ghost use Rattle.order.specs.declared.successor.SuccessorNext.{SuccessorNext};
 
+use crate::steps::complete;
 use crate::straight::llx::{load, look};
-use crate::straight::ordered_read::{finish, read, tell};
+use crate::straight::ordered_read::{read, tell};
 use crate::straight::vlx::validate;
 use crate::straight::walk;
 use crate::view::SeatView;
@@ -63,7 +64,7 @@ fn look_on<S: Shape, M: Machine<S>>(
                 llx,
             };
             let turn = Turn::Ask(load(Kind::LoadState, Word::Scx(scx, ScxWord::State)));
-            Err(finish::<S, M, SuccessorRun>(words, layout, seat, number, run, turn))
+            Err(complete::<S, M, Tree, SuccessorRun>(words, layout, seat, number, run, turn))
         }
     }
 }
