@@ -25,10 +25,13 @@ pub(crate) fn read<S: Shape, M: Machine<S>, N: Machine<Tree>>(
     part: NodeWord,
 ) -> u64
     requires table { IsSeatAt words.now layout.now seat.old }
-    requires waits { (r : Host (calls S.Shape M.Machine layout.now number) (inner_call Tree.Shape N.Machine)) × (m : N) × HostedWaits r seat.old.me.0.passes m (load Kind.LoadSettled (Word.Node node part)) }
+    requires waits { (r : Host (calls S.Shape M.Machine layout.now number) (inner_call Tree.Shape N.Machine)) × (m : N)
+        × HostedWaits r seat.old.me.0.passes m (load Kind.LoadSettled (Word.Node node part)) }
     ensures table { StaysAtTable seat.old seat.new }
     ensures one { seat_steps seat.new.me.0.passes ≡ suc (seat_steps seat.old.me.0.passes) }
-    ensures told { (r : Host (calls S.Shape M.Machine layout.now number) (inner_call Tree.Shape N.Machine)) (m : N) → HostedWaits r seat.old.me.0.passes m (load Kind.LoadSettled (Word.Node node part)) → HostedIsTold r seat.new.me.0.passes m result }
+    ensures told { (r : Host (calls S.Shape M.Machine layout.now number) (inner_call Tree.Shape N.Machine)) (m : N)
+        → HostedWaits r seat.old.me.0.passes m (load Kind.LoadSettled (Word.Node node part))
+        → HostedIsTold r seat.new.me.0.passes m result }
 {
     let (kind, word) = (Kind::LoadSettled, Word::Node(node, part));
     let access = Access::Load;
@@ -46,9 +49,12 @@ pub(crate) fn tell<S: Shape, M: Machine<S>, N: Machine<Tree>>(
     told: u64,
 ) -> N::Answer
     requires table { IsSeatAt words.now layout.now seat.old }
-    requires told { (r : Host (calls S.Shape M.Machine layout.now number) (inner_call Tree.Shape N.Machine)) × HostedIsTold r seat.old.me.0.passes run.old told }
+    requires told { (r : Host (calls S.Shape M.Machine layout.now number) (inner_call Tree.Shape N.Machine))
+        × HostedIsTold r seat.old.me.0.passes run.old told }
     ensures table { StaysAtTable seat.old seat.new }
-    ensures ends { (r : Host (calls S.Shape M.Machine layout.now number) (inner_call Tree.Shape N.Machine)) → HostedIsTold r seat.old.me.0.passes run.old told → HostedEnds r seat.new.me.0.passes run.new result }
+    ensures ends { (r : Host (calls S.Shape M.Machine layout.now number) (inner_call Tree.Shape N.Machine))
+        → HostedIsTold r seat.old.me.0.passes run.old told
+        → HostedEnds r seat.new.me.0.passes run.new result }
     ensures steps { seat_steps seat.new.me.0.passes ≤ seat_steps seat.old.me.0.passes + N.left run.old (shared_nodes layout.now) }
 {
     let turn = run.next(Some(told));

@@ -30,7 +30,9 @@ pub(crate) fn validate<S: Shape, M: Machine<S>, L: SnapList + Copy>(
     requires some { 0 < length (L.list snaps) }
     requires waits { (v : Validator (calls S.Shape M.Machine layout.now number) (L.list snaps)) × LoadsFirstInfo v seat.old.me.0.passes }
     ensures table { StaysAtTable seat.old seat.new }
-    ensures told { (v : Validator (calls S.Shape M.Machine layout.now number) (L.list snaps)) → LoadsFirstInfo v seat.old.me.0.passes → InnerIsTold v seat.new.me.0.passes result.0 result.1 }
+    ensures told { (v : Validator (calls S.Shape M.Machine layout.now number) (L.list snaps))
+        → LoadsFirstInfo v seat.old.me.0.passes
+        → InnerIsTold v seat.new.me.0.passes result.0 result.1 }
     ensures some { 0 < result.0 }
     ensures within { result.0 ≤ length (L.list snaps) }
     ensures all { (last : ℕ) → suc last ≡ result.0 → (snap_at (L.list snaps) last).scx.0 ≡ result.1 → result.0 ≡ length (L.list snaps) }
@@ -67,7 +69,9 @@ pub(crate) fn call<S: Shape, L: SnapList + Copy>(
     requires table { IsSeatAt words.now layout.now seat.old }
     requires begins { (c : Call) × (c.layout ≡ layout.now) × (c.number ≡ number) × SeatVlxBegins L.list S.allows c seat.old.me.0.passes snaps }
     ensures table { StaysAtTable seat.old seat.new }
-    ensures ends { (c : Call) → c.layout ≡ layout.now → c.number ≡ number → SeatVlxBegins L.list S.allows c seat.old.me.0.passes snaps → SeatVlxEnds L.list S.allows c seat.new.me.0.passes snaps result }
+    ensures ends { (c : Call) → c.layout ≡ layout.now → c.number ≡ number
+        → SeatVlxBegins L.list S.allows c seat.old.me.0.passes snaps
+        → SeatVlxEnds L.list S.allows c seat.new.me.0.passes snaps result }
     ensures steps { seat_steps seat.new.me.0.passes ≤ seat_steps seat.old.me.0.passes + length (L.list snaps) }
 {
     let (asked, told) = validate::<S, VlxRun<L>, L>(words, layout, seat, number, snaps);
