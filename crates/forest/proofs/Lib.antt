@@ -19,6 +19,7 @@ pub mod AllBack
 pub mod Crowds
 mod Places
 mod Inside
+mod Hosts
 mod StraightLlx
 mod StraightHelp
 mod StraightScx
@@ -28,7 +29,6 @@ mod StraightWalk
 mod StraightReads
 mod StraightSuccessor
 mod StraightRange
-mod StraightValidate
 mod StraightUpdate
 mod Took
 mod Versions

@@ -4,7 +4,7 @@ use Rattle.atomic_table.specs.declared.shared.Seat.{Seat}
 use Rattle.arena.specs.declared.step.Step.{Step}
 use Rattle.arena.specs.declared.machine.Turn.{Turn}
 use Rattle.arena.specs.declared.machine.Turn.TheVariants.{Ask, Done}
-use Rattle.arena.specs.Machines.{Call, MatchTurn}
+use Rattle.arena.specs.Machines.{Call, IsRun, MatchTurn}
 use Rattle.dict.specs.Calls.{call_in, AsksForPairs}
 use Rattle.dict.specs.DictKnown.{DictWaits, DictAnswers}
 use Rattle.ordered_map.specs.CallRules.{most_steps}
@@ -16,15 +16,18 @@ use Rattle.ordered_map.specs.declared.reply.Reply.{Reply}
 use Rattle.forest.specs.declared.open.OpenCall.TheInside.{Inside}
 use Rattle.forest.specs.declared.view.SeatedPass.{SeatedPass}
 use Rattle.forest.specs.declared.view.SeatView.{SeatView}
+use Rattle.forest.specs.Hosts.{Host, HostedStands, HostedWaits}
 use Rattle.forest.specs.OpenInvariant.{IsOpen, next_call}
 use Rattle.forest.specs.Passes.{steps_of}
 use Rattle.forest.specs.StraightCalls.{IsSameDictCall}
 use Rattle.forest.specs.TableRule.{history_of}
-use Rattle.forest.specs.Traces.{Stands, seat_steps, shared_nodes, weight}
+use Rattle.forest.specs.Traces.{Stands, known_of, seat_steps, shared_nodes, weight}
 use Rattle.forest.proofs.Advances.{weighs}
 use Rattle.forest.proofs.Calls.{course_keeps}
 use Rattle.forest.proofs.DictCalls.{IsSameCall}
+use Rattle.forest.proofs.Hosts.{own, own_call, own_stands}
 use Rattle.forest.proofs.StepKinds.{waits_asks}
+use Rattle.forest.proofs.StraightCalls.{dict_calls}
 
 pub differ : true ≡ false → ⊥
 differ e = cc
@@ -52,10 +55,26 @@ module _ {K V : Type 0} (valid_key : K → Type 0) (key : K → ℕ) (valid_valu
     pub open_asks : AsksForPairs (call_in o.run.run)
     open_asks = waits_asks valid_key key valid_value value o.run (next_call o.began.value x.pass.is_pass) (history_of o.began.value.layout.mode open_waits.known) step open_waits.so.0
 
-    module _ (s : Seat ℕ SeatView) (m : DictRun K V) (turn : Turn (Reply K V)) (table : s.table_id ≡ o.seat.table_id) (bare : s.me.1 ≡ o.seat.me.1) (one : seat_steps s.me.0.passes ≡ suc (seat_steps o.seat.me.0.passes)) (y : DictStands (next_call o.began.value x.pass.is_pass) s.me.0.passes x.first m turn) where
+    -- the call, of its own machine
+    abbrev pub open_host : Host (dict_calls valid_key key valid_value value o.layout o.call) (own_call (dict_calls valid_key key valid_value value o.layout o.call) (DictAnswers valid_key key valid_value value))
+    open_host = own (dict_calls valid_key key valid_value value o.layout o.call) (DictAnswers valid_key key valid_value value) (next_call o.began.value x.pass.is_pass) (sym x.layout) (sym x.call) x.first
+
+    module _ (s : Seat ℕ SeatView) (m : DictRun K V) (turn : Turn (Reply K V)) (table : s.table_id ≡ o.seat.table_id) (bare : s.me.1 ≡ o.seat.me.1) (one : seat_steps s.me.0.passes ≡ suc (seat_steps o.seat.me.0.passes))
+        (stands : (k : Host (dict_calls valid_key key valid_value value o.layout o.call) (own_call (dict_calls valid_key key valid_value value o.layout o.call) (DictAnswers valid_key key valid_value value))) → HostedWaits k o.seat.me.0.passes o.run step → HostedStands k s.me.0.passes m turn) where
+      stood : DictStands (next_call o.began.value x.pass.is_pass) s.me.0.passes x.first m turn
+      stood = own_stands (dict_calls valid_key key valid_value value o.layout o.call) (DictAnswers valid_key key valid_value value) (next_call o.began.value x.pass.is_pass) (sym x.layout) (sym x.call) x.first s.me.0.passes m turn (stands open_host open_waits)
+
       -- it is of the same call as before
       pub same_call : IsSameCall valid_key key valid_value value o.run m
-      same_call = let a = same_so_far _ _ x.first o.run o.turn x.stands in let b = same_so_far _ _ x.first m turn y in (b.0 ∙ sym a.0, b.1 ∙ sym a.1)
+      same_call = let a = same_so_far _ _ x.first o.run o.turn x.stands in let b = same_so_far _ _ x.first m turn stood in (b.0 ∙ sym a.0, b.1 ∙ sym a.1)
+
+      -- what its pass knows by now is a run
+      pub stays_lawful : IsRun (TypedAllows (IsWordOf valid_key key) (IsWordOf valid_value value)) o.began.value.layout (history_of o.began.value.layout.mode (known_of s.me.0.passes))
+      stays_lawful = on turn stood
+        where
+          on : (t : Turn (Reply K V)) → DictStands (next_call o.began.value x.pass.is_pass) s.me.0.passes x.first m t → IsRun (TypedAllows (IsWordOf valid_key key) (IsWordOf valid_value value)) o.began.value.layout (history_of o.began.value.layout.mode (known_of s.me.0.passes))
+          on (Ask u) z = rw z.is z.sound
+          on (Done a) z = rw z.is z.sound
 
       -- it has made one step more
       pub one_more : seat_steps s.me.0.passes - steps_of o.began.value ≡ suc (seat_steps o.seat.me.0.passes - steps_of o.began.value)
@@ -79,7 +98,7 @@ module _ {K V : Type 0} (valid_key : K → Type 0) (key : K → ℕ) (valid_valu
           call = x.call;
           blamed = x.blamed;
           first = x.first;
-          stands = y;
+          stands = stood;
           since = let z = x.since in omega (arith, one, z);
           steps = rw (same_call.0, same_call.1) few;
           over = ends;

@@ -18,7 +18,6 @@ use Rattle.ordered_map.specs.OrderedMap.{MapCall}
 use Rattle.ordered_map.specs.declared.reply.Reply.{Reply}
 use Rattle.ordered_map.specs.declared.reply.Reply.TheVariants as replies
 use Rattle.order.specs.Range.Known.{AsksForNothing, AsksForSome, TellsNone}
-use Rattle.order.specs.declared.range.RangeAt.TheVariants.{Value}
 use Rattle.order.specs.declared.range.RangeRun.{RangeRun}
 use Rattle.edits.specs.Known.{RestsWith}
 use Rattle.dict.specs.Inner.{inner}

@@ -39,7 +39,6 @@ use Rattle.forest.specs.declared.view.SeatedPass.{SeatedPass}
 use Rattle.forest.specs.StraightCalls.{DictAllows, DictCallIsReady, DictCallWaits, IsSameDictCall, SeatDictBegins, SeatDictEnds, SeatWordEnds, IsFreshEdit}
 use Rattle.forest.specs.StraightReads.{RangeReader, SearchBegins, SearchEnds, SuccessorReader, VisitBegins, VisitEnds}
 use Rattle.forest.specs.StraightUpdate.{Updater, HasUpdateGoneOn, UpdaterBegins, UpdaterEnds}
-use Rattle.forest.proofs.StraightUpdate.{answers_there}
 use Rattle.forest.specs.TableRule.{history_of}
 use Rattle.forest.specs.Traces.{begins, goes_on}
 use Rattle.forest.specs.CallKinds.{Calls}
@@ -97,13 +96,13 @@ module _ {K V : Type 0} (valid_key : K → Type 0) (key : K → ℕ) (valid_valu
         call = c;
         is_layout = is_layout;
         is_number = is_number;
-        tree = λ h run. typed_run keys values c.layout h run;
+        runs = λ h run. typed_run keys values c.layout h run;
         first = machine;
         with_run = editing;
         opens = λ m h s x. is.waits_inside m c h s x.1.1;
         tells = λ m h got x. is.ready m c h got x.1.1;
         turns = λ old now h got s on x w. (subst (IsTypedCall keys values) (sym (same_call old now on.edit)) x.0, (goes old now on x.1.0, is.waits now c h s w));
-        stays = λ old now e few. (same_call old now e, refl, fewer old now few);
+        stays = λ old now on. (same_call old now on.edit, refl, fewer old now on.tries);
       }
 
       pub edit_begins : (ps : List SeatedPass) {A : Type 0} (m : UpdateRun k.E A) → machine.run ≡ around (standing m Start) → SeatDictBegins valid_key key valid_value value_word c ps machine → UpdaterBegins editor ps m
@@ -120,7 +119,7 @@ module _ {K V : Type 0} (valid_key : K → Type 0) (key : K → ℕ) (valid_valu
             is = x.is;
             sound = x.sound;
             so = (
-              (went.mode, is.answers (standing m Start) machine.tries c _ (word_reply a) (edit_ends machine.tries c _ k kind y.old (standing m Start) a (typed_run keys values c.layout _ x.sound) went y.goes.edit y.goes.called y.goes.limit y.goes.spends (answers_there k.means c _ m Start a y.answers))),
+              (went.mode, is.answers (standing m Start) machine.tries c _ (word_reply a) (edit_ends machine.tries c _ k kind y.old (standing m Start) a (typed_run keys values c.layout _ x.sound) went y.goes.edit y.goes.called y.goes.limit y.goes.spends y.answers)),
               goes_on (editing y.old) (same_call y.old (standing m Start) y.goes.edit, refl, fewer y.old (standing m Start) y.goes.tries) y.course,
             );
           }
@@ -135,7 +134,7 @@ module _ {K V : Type 0} (valid_key : K → Type 0) (key : K → ℕ) (valid_valu
       call = c;
       is_layout = is_layout;
       is_number = is_number;
-      tree = λ h run. typed_run keys values c.layout h run;
+      runs = λ h run. typed_run keys values c.layout h run;
       first = machine;
       with_run = searching share;
       opens = λ m h s x. x.1.1.0;
@@ -155,8 +154,8 @@ module _ {K V : Type 0} (valid_key : K → Type 0) (key : K → ℕ) (valid_valu
       is = x.is;
       sound = x.sound;
       so = (
-        (y.was.1.0.mode, successor_ends machine.tries c _ m share a y.was.1.1.1 y.was.1.0.spent (y.is_same.1 ∙ y.was.1.0.limit) y.answers),
-        goes_on (searching share y.old) (ap SuccessorCall y.is_same.0, refl, (y.is_same.2, y.is_same.3)) y.course,
+        (y.was.1.0.mode, successor_ends machine.tries c _ m share a y.was.1.1.1 y.was.1.0.spent (y.goes.1 ∙ y.was.1.0.limit) y.answers),
+        goes_on (searching share y.old) (ap SuccessorCall y.goes.0, refl, (y.goes.2, y.goes.3)) y.course,
       );
     }
 
@@ -173,7 +172,7 @@ module _ {K V : Type 0} (valid_key : K → Type 0) (key : K → ℕ) (valid_valu
       call = c;
       is_layout = is_layout;
       is_number = is_number;
-      tree = λ h run. typed_run keys values c.layout h run;
+      runs = λ h run. typed_run keys values c.layout h run;
       first = machine;
       with_run = ranging share;
       opens = λ m h s x. x.1.1.0;
@@ -193,8 +192,8 @@ module _ {K V : Type 0} (valid_key : K → Type 0) (key : K → ℕ) (valid_valu
       is = x.is;
       sound = x.sound;
       so = (
-        (y.was.1.0.mode, range_ends machine.tries c _ m share a y.was.1.1.1 y.was.1.0.spent (y.is_same.3 ∙ y.was.1.0.limit) y.answers),
-        goes_on (ranging share y.old) (range_call y.old m y.is_same, refl, (y.is_same.4, y.is_same.5)) y.course,
+        (y.was.1.0.mode, range_ends machine.tries c _ m share a y.was.1.1.1 y.was.1.0.spent (y.goes.3 ∙ y.was.1.0.limit) y.answers),
+        goes_on (ranging share y.old) (range_call y.old m y.goes, refl, (y.goes.4, y.goes.5)) y.course,
       );
     }
 

@@ -85,7 +85,7 @@ module _ {M : Type 0} {inner : Layout → History → ℕ → Type 0} {o : Calls
           (knows inner (llx_at node (InfoAgain b s x y)) d h (Some v) v (InfoAgain b s x y) refl (λ z. cc) refl r) (inl record { same = e; run = refl; done = refl })
 
 -- its calls of a layout and a number
-abbrev llx_calls : (Layout → History → ℕ → Type 0) → Layout → ℕ → Calls LlxRun
+abbrev pub llx_calls : (Layout → History → ℕ → Type 0) → Layout → ℕ → Calls LlxRun
 llx_calls allows layout number = record { allows = allows; ready = LlxIsReady allows; waits = LlxWaits allows; same = IsSameNode; layout = layout; number = number }
 
 module _ (allows : Layout → History → ℕ → Type 0) (layout : Layout) (number : ℕ) (c : Call) (is_layout : c.layout ≡ layout) (is_number : c.number ≡ number) (node : NodeNo) where

@@ -49,7 +49,7 @@ abbrev pub with_scx : PutRun → ScxRun → PutRun
 with_scx m scx = record { value = m.value; scx = scx; at = AtScx }
 
 -- its calls of a layout and a number
-abbrev put_calls : (Layout → History → ℕ → Type 0) → Layout → ℕ → Calls PutRun
+abbrev pub put_calls : (Layout → History → ℕ → Type 0) → Layout → ℕ → Calls PutRun
 put_calls allows layout number = record { allows = allows; ready = PutIsReady allows; waits = PutWaits allows; same = IsSamePut; layout = layout; number = number }
 
 module _ (allows : Layout → History → ℕ → Type 0) (layout : Layout) (number : ℕ) (c : Call) (is_layout : c.layout ≡ layout) (is_number : c.number ≡ number) (first : PutRun) where

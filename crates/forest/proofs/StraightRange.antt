@@ -36,15 +36,16 @@ use Rattle.ordered_map.specs.declared.pair.Pair.{Pair}
 use Rattle.template.specs.Trails.{IsOwnMoment}
 use Rattle.forest.specs.declared.view.SeatedPass.{SeatedPass}
 use Rattle.forest.specs.StraightLlx.{llx_at, Looker, LookerSnaps}
-use Rattle.forest.specs.StraightReads.{RangeReader, ReaderIsTold, ReaderStands, ReaderWaits, VisitEnds, VisitWaits}
-use Rattle.forest.specs.StraightValidate.{Validator}
+use Rattle.forest.specs.StraightReads.{RangeReader, VisitEnds, VisitWaits}
+use Rattle.forest.specs.StraightVlx.{Validator}
 use Rattle.forest.specs.TableRule.{history_of}
 use Rattle.forest.specs.Traces.{shared_nodes}
 use Rattle.forest.specs.CallKinds.{Calls}
 use Rattle.forest.specs.Inside.{InnerIsTold, InnerWaits}
 use Rattle.prims.specs.Vlx.Known.{VlxIsTold, VlxWaits}
 use Rattle.forest.proofs.Advances.{few_taken}
-use Rattle.forest.proofs.StraightReads.{told_on}
+use Rattle.forest.specs.Hosts.{HostedIsTold, HostedStands, HostedWaits}
+use Rattle.forest.proofs.Hosts.{either_turn, told_on}
 
 itself : (m : RangeRun) → IsSameRange m m
 itself m = (refl, refl, refl, refl, omega arith, omega arith)
@@ -93,14 +94,14 @@ nearer_as m next now nodes a e i = subst (λ (k : RangeNext). a < suc (range_lef
 module _ {M : Type 0} {o : Calls M} (r : RangeReader o) where
   -- its step has told this
   abbrev IsTold : List SeatedPass → RangeRun → ℕ → Type 0
-  IsTold ps m v = ReaderIsTold r ps m v
+  IsTold ps m v = HostedIsTold r ps m v
 
   -- what it is told takes it to what comes next, or to its answer
   on_to : (ps : List SeatedPass) (old m : RangeRun) (next : RangeNext) (v : ℕ) → IsSameRange old m → ((h : History) → IsRun TreeAllows r.call.layout h → RangeIsReady old r.call h (Some v) → RangeMayGoOn r.call h m next) → IsTold ps old v → VisitWaits r ps m next
-  on_to ps old m next v is know x = told_on RangeAnswers r ps old (range_placed m next) (Some v) (Ask (range_next_step m next)) (same_placed old m next is) (λ h run y. range_next_waits m r.call h next (know h run y)) x
+  on_to ps old m next v is know x = told_on r ps old (range_placed m next) (Some v) (Ask (range_next_step m next)) (same_placed old m next is) (λ h run y. range_next_waits m r.call h next (know h run y)) x
 
   ends_at : (ps : List SeatedPass) (old m : RangeRun) (a : Result (Vec Pair Global) Refused) (v : ℕ) → IsSameRange old m → ((h : History) → IsRun TreeAllows r.call.layout h → RangeIsReady old r.call h (Some v) → RangeAnswers m r.call h a) → IsTold ps old v → VisitEnds r ps m a
-  ends_at ps old m a v is know x = told_on RangeAnswers r ps old m (Some v) (Done a) is know x
+  ends_at ps old m a v is know x = told_on r ps old m (Some v) (Done a) is know x
 
   -- behind its loads
   pub root_goes_on : (ps : List SeatedPass) (m now : RangeRun) (v : ℕ) (next : RangeNext) → m.at ≡ Root → now.tries ≡ m.tries → IsSameRange m now → ((c : Call) (h : History) → RangeGoes m c h → IsOwnMoment c h → Visits m c h 0 → head_at h 0 ≡ head_of v → RangeGoesOn c h now (Ok next)) → IsTold ps m v → VisitWaits r ps now next
@@ -124,7 +125,7 @@ module _ {M : Type 0} {o : Calls M} (r : RangeReader o) where
 
   -- what it is told fits the taken nodes
   pub told_fits : (ps : List SeatedPass) (m : RangeRun) (v : ℕ) → IsTold ps m v → RangeFits m (Some v) (shared_nodes o.layout)
-  told_fits ps m v x = range_told m r.call _ (Some v) (shared_nodes o.layout) (r.tree _ x.sound) (r.tells m _ (Some v) x.so.0) (few_taken o.allows o.layout r.call _ r.is_layout x.sound)
+  told_fits ps m v x = range_told m r.call _ (Some v) (shared_nodes o.layout) (r.runs _ x.sound) (r.tells m _ (Some v) x.so.0) (few_taken o.allows o.layout r.call _ r.is_layout x.sound)
 
   -- a range that goes on so has some steps left, fewer than before
   lighter : (m now : RangeRun) (c : Call) (h : History) (next : RangeNext) (n : ℕ) → now.tries ≡ m.tries → IsSameRange m now → RangeMayDo now c h next → RangeComesNearer now next (shared_nodes o.layout) n → range_left (range_placed now next) (shared_nodes o.layout) < m.tries * range_try_left m.most (shared_nodes o.layout) + n
@@ -181,7 +182,7 @@ module _ {M : Type 0} {o : Calls M} (r : RangeReader o) where
       is_number = r.is_number;
       first = r.first;
       with_run = λ llx. r.with_run (at llx);
-      tells = λ llx h v run x. let y = r.tells (at llx) h (Some v) x in (begun_at (begun_at r.call y.0) y.4.1.0, (r.tree h run, y.4.1.2));
+      tells = λ llx h v run x. let y = r.tells (at llx) h (Some v) x in (begun_at (begun_at r.call y.0) y.4.1.0, (r.runs h run, y.4.1.2));
       turns = λ llx now h v s node turn run x.
           let y = r.tells (at llx) h (Some v) x in
           r.turns (at llx) (at now) h (Some v) s (itself (at llx)) x (
@@ -190,7 +191,7 @@ module _ {M : Type 0} {o : Calls M} (r : RangeReader o) where
             record { reads = y.2.reads; small = y.2.small; few = y.2.few },
             (
               subst (λ (k : NodeNo). LooksIn (at now) (begun_at r.call y.0) h level left right k.0) (sym node) (looks_there (at llx) (at now) (begun_at r.call y.0) h level left right llx.node.0 refl y.4.0),
-              (y.4.1.0, y.4.1.1, turn (begun_at (begun_at r.call y.0) y.4.1.0) (r.tree h run, y.4.1.2)),
+              (y.4.1.0, y.4.1.1, turn (begun_at (begun_at r.call y.0) y.4.1.0) (r.runs h run, y.4.1.2)),
             ),
           );
       stays = λ llx now node. r.stays (at llx) (at now) (itself (at llx));
@@ -204,9 +205,9 @@ module _ {M : Type 0} {o : Calls M} (r : RangeReader o) where
     -- with the snapshot it goes on as its turn says
     looked : (ps : List SeatedPass) (now : RangeRun) (n : NodeNo) (snap : Snap) (turn : Turn (Result (Vec Pair Global) Refused)) → IsSameRange m now
         → ((begin h : History) → IsInTry r.call h begin m.limit m.tries → RangeGoes m (begun_at r.call begin) h → LooksIn m (begun_at r.call begin) h level left right snap.node.0 → IsSnapshot r.call.layout h snap.node.0 snap → MatchTurn turn (RangeWaits now r.call h) (RangeAnswers now r.call h))
-        → LookerSnaps looker ps n snap → ReaderStands r ps RangeAnswers now turn
+        → LookerSnaps looker ps n snap → HostedStands r ps now turn
     unfolding looker
-    looked ps now n snap turn is goes x = told_on RangeAnswers r ps (at x.last) now (Some x.told) turn is next x.so
+    looked ps now n snap turn is goes x = told_on r ps (at x.last) now (Some x.told) turn (either_turn turn is) next x.so
       where
         here : x.last.node ≡ snap.node
         here = x.is_node ∙ sym x.of_node
@@ -232,7 +233,7 @@ module _ {M : Type 0} {o : Calls M} (r : RangeReader o) where
     level_fits ps n snap x = told_fits ps (at x.last) x.told x.so
 
     -- where something is in the way, it stands there
-    pub looks_again : (ps : List SeatedPass) (asked : Step) (n : NodeNo) (b : Bool) (scx : ScxNo) → asked ≡ load LoadState (state scx.0) → InnerWaits looker ps (llx_at n (StateAgain b scx)) (load LoadState (state scx.0)) → ReaderWaits r ps (at (llx_at n (StateAgain b scx))) asked
+    pub looks_again : (ps : List SeatedPass) (asked : Step) (n : NodeNo) (b : Bool) (scx : ScxNo) → asked ≡ load LoadState (state scx.0) → InnerWaits looker ps (llx_at n (StateAgain b scx)) (load LoadState (state scx.0)) → HostedWaits r ps (at (llx_at n (StateAgain b scx))) asked
     unfolding looker
     looks_again ps asked n b scx step x = rw step x
 
@@ -267,7 +268,7 @@ module _ {M : Type 0} {o : Calls M} (r : RangeReader o) where
 
     pub begins_vlx : (ps : List SeatedPass) → VisitWaits r ps m ValidateNext → InnerWaits validator ps 1 (load LoadInfo (info (snap_at snaps 0).node.0))
     unfolding validator
-    begins_vlx ps x = subst (λ (l : List Snap). ReaderWaits r ps (asking 1) (load LoadInfo (info (snap_at l 0).node.0))) (sym e) x
+    begins_vlx ps x = subst (λ (l : List Snap). HostedWaits r ps (asking 1) (load LoadInfo (info (snap_at l 0).node.0))) (sym e) x
 
     pub told_vlx : (ps : List SeatedPass) (n v : ℕ) → InnerIsTold validator ps n v → IsTold ps (asking n) v
     unfolding validator

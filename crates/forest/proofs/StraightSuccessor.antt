@@ -43,15 +43,16 @@ use Rattle.template.specs.declared.walk.WalkRun.{WalkRun}
 use Rattle.template.proofs.Lemmas.{walk_begins}
 use Rattle.forest.specs.declared.view.SeatedPass.{SeatedPass}
 use Rattle.forest.specs.StraightLlx.{llx_at, Looker, LookerSnaps}
-use Rattle.forest.specs.StraightReads.{ReaderIsTold, ReaderStands, ReaderWaits, SearchBegins, SearchEnds, SearchWaits, SuccessorReader}
-use Rattle.forest.specs.StraightValidate.{Validator}
+use Rattle.forest.specs.StraightReads.{SearchBegins, SearchEnds, SearchWaits, SuccessorReader}
+use Rattle.forest.specs.StraightVlx.{Validator}
 use Rattle.forest.specs.StraightWalk.{Walker, WalkerFinds, WalkerWaits}
 use Rattle.forest.specs.Traces.{goes_on, shared_nodes}
 use Rattle.forest.specs.CallKinds.{Calls}
 use Rattle.forest.specs.Inside.{InnerIsTold, InnerWaits}
 use Rattle.prims.specs.Vlx.Known.{VlxIsTold, VlxWaits}
 use Rattle.forest.proofs.Advances.{few_taken}
-use Rattle.forest.proofs.StraightReads.{told_on}
+use Rattle.forest.specs.Hosts.{HostedIsTold, HostedStands, HostedWaits}
+use Rattle.forest.proofs.Hosts.{either_turn, told_on}
 
 itself : (m : SuccessorRun) → IsSameSuccessor m m
 itself m = (refl, refl, omega arith, omega arith)
@@ -81,11 +82,11 @@ begins_with_walk old none turn nodes before after empty at few = subst (λ a. af
 module _ {M : Type 0} {o : Calls M} (r : SuccessorReader o) where
   -- its step has told this
   abbrev IsTold : List SeatedPass → SuccessorRun → ℕ → Type 0
-  IsTold ps m v = ReaderIsTold r ps m v
+  IsTold ps m v = HostedIsTold r ps m v
 
   -- what it is told takes it to what comes next
   on_to : (ps : List SeatedPass) (old m : SuccessorRun) (next : SuccessorNext) (v : ℕ) → IsSameSuccessor old m → ((h : History) → IsRun TreeAllows r.call.layout h → SuccessorIsReady old r.call h (Some v) → SuccessorMayGoOn r.call h m next) → IsTold ps old v → SearchWaits r ps m next
-  on_to ps old m next v is know x = told_on SuccessorAnswers r ps old (successor_placed m next) (Some v) (Ask (successor_next_step m next)) (same_placed old m next is) (λ h run y. next_waits m r.call h next (know h run y)) x
+  on_to ps old m next v is know x = told_on r ps old (successor_placed m next) (Some v) (Ask (successor_next_step m next)) (same_placed old m next is) (λ h run y. next_waits m r.call h next (know h run y)) x
 
   -- behind its loads
   pub head_goes_on : (ps : List SeatedPass) (m : SuccessorRun) (route : Route) (above : ℕ) (n : NodeNo) (v : ℕ) (next : SuccessorNext) → ((c : Call) (h : History) → SuccessorGoes m c h → IsOwnMoment c h → SuccessorStandsAt m c h route n.0 → head_at h n.0 ≡ head_of v → SuccessorMayDo m c h next) → IsTold ps (successor_placed m (HeadNext route above n)) v → SearchWaits r ps m next
@@ -102,7 +103,7 @@ module _ {M : Type 0} {o : Calls M} (r : SuccessorReader o) where
 
   -- what it is told fits the taken nodes
   pub told_fits : (ps : List SeatedPass) (m : SuccessorRun) (v : ℕ) → IsTold ps m v → SuccessorFits m (Some v) (shared_nodes o.layout)
-  told_fits ps m v x = successor_told m r.call _ (Some v) (shared_nodes o.layout) (r.tree _ x.sound) (r.tells m _ (Some v) x.so.0) (few_taken o.allows o.layout r.call _ r.is_layout x.sound)
+  told_fits ps m v x = successor_told m r.call _ (Some v) (shared_nodes o.layout) (r.runs _ x.sound) (r.tells m _ (Some v) x.so.0) (few_taken o.allows o.layout r.call _ r.is_layout x.sound)
 
   -- behind each it has fewer steps left
   pub head_lighter : (ps : List SeatedPass) (m : SuccessorRun) (route : Route) (above : ℕ) (n : NodeNo) (v : ℕ) (next : SuccessorNext) → ((nodes : ℕ) → HeadFits (head_of v) nodes → SuccessorComesNearer m next nodes (length m.snaps.items + 67 * (2 + nodes - (head_of v).level) - 1 + behind route nodes)) → IsTold ps (successor_placed m (HeadNext route above n)) v → successor_left (successor_placed m next) (shared_nodes o.layout) < successor_left (successor_placed m (HeadNext route above n)) (shared_nodes o.layout)
@@ -136,7 +137,7 @@ module _ {M : Type 0} {o : Calls M} (r : SuccessorReader o) where
       is_number = r.is_number;
       first = r.first;
       with_run = λ llx. r.with_run (at llx);
-      tells = λ llx h v run x. let y = r.tells (at llx) h (Some v) x in (begun_at (begun_at r.call y.0) y.4.1.0, (r.tree h run, y.4.1.2));
+      tells = λ llx h v run x. let y = r.tells (at llx) h (Some v) x in (begun_at (begun_at r.call y.0) y.4.1.0, (r.runs h run, y.4.1.2));
       turns = λ llx now h v s node turn run x.
           let y = r.tells (at llx) h (Some v) x in
           r.turns (at llx) (at now) h (Some v) s (itself (at llx)) x (
@@ -145,7 +146,7 @@ module _ {M : Type 0} {o : Calls M} (r : SuccessorReader o) where
             record { reads = y.2.reads; small = y.2.small },
             (
               subst (λ (k : NodeNo). LooksAt (at now) (begun_at r.call y.0) h route level side k.0) (sym node) (looks_there (at llx) (at now) (begun_at r.call y.0) h llx.node.0 refl refl refl y.4.0),
-              (y.4.1.0, y.4.1.1, turn (begun_at (begun_at r.call y.0) y.4.1.0) (r.tree h run, y.4.1.2)),
+              (y.4.1.0, y.4.1.1, turn (begun_at (begun_at r.call y.0) y.4.1.0) (r.runs h run, y.4.1.2)),
             ),
           );
       stays = λ llx now node. r.stays (at llx) (at now) (itself (at llx));
@@ -159,9 +160,9 @@ module _ {M : Type 0} {o : Calls M} (r : SuccessorReader o) where
     -- with the snapshot it goes on as its turn says
     looked : (ps : List SeatedPass) (now : SuccessorRun) (n : NodeNo) (snap : Snap) (turn : Turn (Result (Option Pair) Refused)) → IsSameSuccessor m now
         → ((begin h : History) → IsInTry r.call h begin m.limit m.tries → SuccessorGoes m (begun_at r.call begin) h → LooksAt m (begun_at r.call begin) h route level side snap.node.0 → IsSnapshot r.call.layout h snap.node.0 snap → MatchTurn turn (SuccessorWaits now r.call h) (SuccessorAnswers now r.call h))
-        → LookerSnaps looker ps n snap → ReaderStands r ps SuccessorAnswers now turn
+        → LookerSnaps looker ps n snap → HostedStands r ps now turn
     unfolding looker
-    looked ps now n snap turn is goes x = told_on SuccessorAnswers r ps (at x.last) now (Some x.told) turn is next x.so
+    looked ps now n snap turn is goes x = told_on r ps (at x.last) now (Some x.told) turn (either_turn turn is) next x.so
       where
         here : x.last.node ≡ snap.node
         here = x.is_node ∙ sym x.of_node
@@ -188,7 +189,7 @@ module _ {M : Type 0} {o : Calls M} (r : SuccessorReader o) where
     level_fits ps n snap x = told_fits ps (at x.last) x.told x.so
 
     -- where something is in the way, it stands there
-    pub looks_again : (ps : List SeatedPass) (asked : Step) (n : NodeNo) (b : Bool) (scx : ScxNo) → asked ≡ load LoadState (state scx.0) → InnerWaits looker ps (llx_at n (StateAgain b scx)) (load LoadState (state scx.0)) → ReaderWaits r ps (at (llx_at n (StateAgain b scx))) asked
+    pub looks_again : (ps : List SeatedPass) (asked : Step) (n : NodeNo) (b : Bool) (scx : ScxNo) → asked ≡ load LoadState (state scx.0) → InnerWaits looker ps (llx_at n (StateAgain b scx)) (load LoadState (state scx.0)) → HostedWaits r ps (at (llx_at n (StateAgain b scx))) asked
     unfolding looker
     looks_again ps asked n b scx step x = rw step x
 
@@ -223,7 +224,7 @@ module _ {M : Type 0} {o : Calls M} (r : SuccessorReader o) where
 
     pub begins_vlx : (ps : List SeatedPass) → SearchWaits r ps m (ValidateNext found) → InnerWaits validator ps 1 (load LoadInfo (info (snap_at snaps 0).node.0))
     unfolding validator
-    begins_vlx ps x = subst (λ (l : List Snap). ReaderWaits r ps (asking 1) (load LoadInfo (info (snap_at l 0).node.0))) (sym e) x
+    begins_vlx ps x = subst (λ (l : List Snap). HostedWaits r ps (asking 1) (load LoadInfo (info (snap_at l 0).node.0))) (sym e) x
 
     pub told_vlx : (ps : List SeatedPass) (n v : ℕ) → InnerIsTold validator ps n v → IsTold ps (asking n) v
     unfolding validator

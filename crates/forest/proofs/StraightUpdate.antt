@@ -1,5 +1,5 @@
 -- From place to place of an update, of whatever machine updates.
-use Rattle.std.proofs.Common.{◌≡◌, ℕ, suc, Bool, true, ap, subst, ◌+◌, ◌*◌, ◌<◌, ◌≤◌, List, Option, None, Some, inl, refl, sym, arith, ◌∙◌}
+use Rattle.std.proofs.Common.{◌≡◌, ℕ, suc, Bool, true, ap, subst, ◌+◌, ◌*◌, ◌<◌, ◌≤◌, List, None, Some, inl, refl, sym, arith, ◌∙◌}
 use Rattle.std.specs.Prelude.{Result, Ok, Err}
 use Rattle.arena.specs.declared.fault.Full.{Full}
 use Rattle.arena.specs.declared.layout.Layout.{Layout}
@@ -33,7 +33,7 @@ use Rattle.edits.proofs.Lemmas.{fills_next, fills_word, joined_spends, placed_sa
 use Rattle.forest.specs.declared.straight.scx.Change.{Change}
 use Rattle.forest.specs.StraightScx.{Changer, all_frozen_load, changing_at, scx_fill}
 use Rattle.arena.specs.History.{History, value}
-use Rattle.arena.specs.Machines.{Call, IsRun, begun_at}
+use Rattle.arena.specs.Machines.{Call, IsRun, MatchTurn, begun_at}
 use Rattle.arena.specs.Words.{marked, node, state}
 use Rattle.arena.proofs.Lemmas.{ends_self}
 use Rattle.prims.specs.FoundThere.{HasFoundThere}
@@ -55,7 +55,7 @@ use Rattle.template.specs.declared.walk.WalkRun.{WalkRun}
 use Rattle.template.proofs.Lemmas.{own_since, walk_begins}
 use Rattle.edits.specs.Edits.{EditMeaning}
 use Rattle.edits.specs.Known.{MayBeginTry, CanFill, CanLook, IsFilledUpTo, IsNeeded, IsUntouched, Loads, Looks, IsFullFor, UpdateAnswers, UpdateIsReady, UpdateWaits, UpdateTurn, Walks, copied, done_at as done_with}
-use Rattle.edits.specs.Steps.{HasScxForFill, IsSpending, IsWanted, UpdateFits, fills_left, node_tries, scx_tries, try_left, update_left, works_after}
+use Rattle.edits.specs.Steps.{HasScxForFill, IsSpending, Spends, IsWanted, UpdateFits, fills_left, node_tries, scx_tries, try_left, update_left, works_after}
 use Rattle.edits.specs.Tries.{IsTry, IsTryAt}
 use Rattle.edits.specs.Next.{IsSameUpdate, placed, standing, next_step, update_of, MayStop, UpdateGoesOn, HasSpentForNext, left_then}
 use Rattle.edits.specs.declared.update.Stop.{Stop}
@@ -75,7 +75,8 @@ use Rattle.edits.specs.declared.update.Updated.{Updated}
 use Rattle.prims.specs.Laws.Idle.{IsQuietSince}
 use Rattle.forest.specs.declared.view.SeatedPass.{SeatedPass}
 use Rattle.forest.specs.StraightLlx.{llx_at, Looker, LookerSnaps}
-use Rattle.forest.specs.StraightUpdate.{Updater, UpdaterBegins, UpdaterEnds, UpdaterGoesOn, UpdaterIsBlocked, UpdaterIsTold, UpdaterStops, UpdaterTries, UpdaterWaits, UpdaterStands}
+use Rattle.forest.specs.Hosts.{HostedEnds, HostedIsTold, HostedStands, HostedWaits}
+use Rattle.forest.specs.StraightUpdate.{Updater, HasUpdateGoneOn, inner_update, UpdaterBegins, UpdaterEnds, UpdaterGoesOn, UpdaterIsBlocked, UpdaterStops, UpdaterTries}
 use Rattle.forest.specs.StraightWalk.{Walker, WalkerWaits, WalkerFinds}
 use Rattle.forest.specs.TableRule.{history_of}
 use Rattle.forest.specs.Traces.{goes_on, shared_nodes, weight}
@@ -123,6 +124,14 @@ module _ {M E : Type 0} {o : Calls M} {e : EditMeaning E} (u : Updater o e) wher
   pub has_passes : 0 < o.layout.passes
   has_passes = subst (λ (l : Layout). 0 < l.passes) u.is_layout (let i = u.call.is_pass in omega (arith, i))
 
+  -- what it has gone on with does not depend on the place of the update
+  gone_anywhere : {A B : Type 0} (old : UpdateRun E UpdateAt) (m : UpdateRun E A) (at : B) (left : ℕ) → HasUpdateGoneOn e old m left left → HasUpdateGoneOn e old (standing m at) left left
+  gone_anywhere old m at left x = record { edit = x.edit; called = x.called; limit = x.limit; tries = x.tries; spends = x.spends }
+
+  -- an update goes from a place to another where its tries may still take as much
+  moves : {A : Type 0} (m : UpdateRun E A) (at next : UpdateAt) → node_tries (standing m next) next ≡ node_tries (standing m at) at → scx_tries (standing m next) next ≡ scx_tries (standing m at) at → HasUpdateGoneOn e (standing m at) (standing m next) (node_tries (standing m next) next) (scx_tries (standing m next) next)
+  moves m at next nodes scx = rw (nodes, scx) record { edit = refl; called = refl; limit = refl; tries = (omega arith, omega arith); spends = (omega arith, omega arith, omega arith) }
+
   -- the update with its walk at a place
   abbrev pub walking : {A : Type 0} → UpdateRun E A → WalkRun → UpdateRun E UpdateAt
   walking m walk = standing m (Walk walk)
@@ -139,9 +148,9 @@ module _ {M E : Type 0} {o : Calls M} {e : EditMeaning E} (u : Updater o e) wher
     turns = λ old now h v s goes next run x.
         let y = u.tells (walking m old.0) h (Some v) x in
         let w = y.3.0 in
-        u.turns (walking m old.0) (walking m now.0) h (Some v) s record { edit = refl; called = refl; limit = refl; tries = (omega arith, omega arith); spends = (omega arith, omega arith, omega arith) } x
+        u.turns (walking m old.0) (walking m now.0) h (Some v) s (moves m (Walk old.0) (Walk now.0) refl refl) x
         (y.0, try_past u.call y.0 h m.limit m.tries now.0.at goes.0 y.1, y.2, (record { small = w.small; rests = w.rests; quiet = w.quiet; same = goes.1 ∙ w.same }, next (begun_at u.call y.0) y.3.1));
-    stays = λ old now goes. u.stays (walking m old.0) (walking m now.0) refl (omega arith, omega arith);
+    stays = λ old now goes. u.stays (walking m old.0) (walking m now.0) (moves m (Walk old.0) (Walk now.0) refl refl);
   }
 
   -- an update that may begin begins its walk
@@ -152,8 +161,8 @@ module _ {M E : Type 0} {o : Calls M} {e : EditMeaning E} (u : Updater o e) wher
     is = x.is;
     sound = x.sound;
     so = (
-      u.turns (standing m Start) (walking m (walk_from key)) _ None _ record { edit = refl; called = refl; limit = refl; tries = (omega arith, omega arith); spends = (omega arith, omega arith, omega arith) } x.so.0 (waiting _ (u.tells (standing m Start) _ None x.so.0)),
-      goes_on (u.with_run (standing m Start)) (u.stays (standing m Start) (walking m (walk_from key)) refl (omega arith, omega arith)) x.so.1,
+      u.turns (standing m Start) (walking m (walk_from key)) _ None _ (moves m Start (Walk (walk_from key)) refl refl) x.so.0 (waiting _ (u.tells (standing m Start) _ None x.so.0)),
+      goes_on (u.with_run (standing m Start)) (u.stays (standing m Start) (walking m (walk_from key)) (moves m Start (Walk (walk_from key)) refl refl)) x.so.1,
     );
   }
     where
@@ -183,37 +192,31 @@ module _ {M E : Type 0} {o : Calls M} {e : EditMeaning E} (u : Updater o e) wher
 
   -- what its try does next, once it has told so and no more of the share is taken than may
   module _ (ps : List SeatedPass) {A : Type 0} (m : UpdateRun E A) (f : Found) where
-    goes_from : (old : UpdateRun E UpdateAt) (h : History) (got : Option ℕ) (next : Next) → o.ready (u.with_run old) u.call h got → IsSameUpdate old m → m.tries ≡ old.tries → HasSpentForNext e old.share m f (Ok next) (node_tries old old.at) (scx_tries old old.at) → UpdateGoesOn e u.call h m f (Ok next) → o.waits (u.with_run (placed e m f next)) u.call h (next_step e m f next)
-    goes_from old h got next was same tries spent z = u.turns old (placed e m f next) h got (next_step e m f next) record { edit = p.0 ∙ same.0; called = p.1 ∙ same.1; limit = p.2 ∙ same.2; tries = keeps_tries old.tries (placed e m f next).tries (placed_tries m f next ∙ tries); spends = spent } was z
+    gone_to : (old : UpdateRun E UpdateAt) (next : Next) → IsSameUpdate old m → m.tries ≡ old.tries → HasSpentForNext e old.share m f (Ok next) (node_tries old old.at) (scx_tries old old.at) → HasUpdateGoneOn e old (placed e m f next) (node_tries (placed e m f next) (placed e m f next).at) (scx_tries (placed e m f next) (placed e m f next).at)
+    gone_to old next same tries spent = record { edit = p.0 ∙ same.0; called = p.1 ∙ same.1; limit = p.2 ∙ same.2; tries = keeps_tries old.tries (placed e m f next).tries (placed_tries m f next ∙ tries); spends = spent }
       where
         p : IsSameUpdate m (placed e m f next)
         p = placed_same e m f next
 
     -- behind the step of which it was told it goes on so
-    pub goes_behind : (old : UpdateRun E UpdateAt) (v : ℕ) (next : Result Next Stop) → IsSameUpdate old m → m.tries ≡ old.tries → HasSpentForNext e old.share m f next (node_tries old old.at) (scx_tries old old.at) → (x : UpdaterIsTold u ps old v) → UpdateGoesOn e u.call (history_of u.call.layout.mode x.known) m f next → UpdaterGoesOn u ps m f next
-    goes_behind old v (Ok next) is tries spent x z = record { known = x.known; is = x.is; sound = x.sound; so = (goes_from old (history_of u.call.layout.mode x.known) (Some v) next x.so.0 is tries spent z, goes_on (u.with_run old) (u.stays old (placed e m f next) ((placed_same e m f next).0 ∙ is.0) (keeps_tries old.tries (placed e m f next).tries (placed_tries m f next ∙ tries))) x.so.1) }
+    pub goes_behind : (old : UpdateRun E UpdateAt) (v : ℕ) (next : Result Next Stop) → IsSameUpdate old m → m.tries ≡ old.tries → HasSpentForNext e old.share m f next (node_tries old old.at) (scx_tries old old.at) → (x : HostedIsTold u ps old v) → UpdateGoesOn e u.call (history_of u.call.layout.mode x.known) m f next → UpdaterGoesOn u ps m f next
+    goes_behind old v (Ok next) is tries spent x z =
+        let gone = gone_to old next is tries spent in
+        record { known = x.known; is = x.is; sound = x.sound; so = (u.turns old (placed e m f next) _ (Some v) (next_step e m f next) gone x.so.0 z, goes_on (u.with_run old) (u.stays old (placed e m f next) gone) x.so.1) }
     goes_behind old v (Err stop) is tries spent x z = record { known = x.known; is = x.is; sound = x.sound; so = record { old = old; got = Some v; was = x.so.0; goes = record { edit = is.0; called = is.1; limit = is.2; tries = keeps_tries old.tries m.tries tries; spends = spent }; tries = tries; may = z; course = x.so.1 } }
 
     fewer_then : {old mid now : ℕ} → mid ≡ old → (mid ≤ now + 1) × (now ≤ mid) → (old ≤ now + 1) × (now ≤ old)
     fewer_then {old} {mid} {now} e x = subst (λ (k : ℕ). (k ≤ now + 1) × (now ≤ k)) e x
 
+    gone_behind : (old now : UpdateRun E UpdateAt) (nodes scx : ℕ) → IsSameUpdate m now → (m.tries ≤ now.tries + 1) × (now.tries ≤ m.tries) → Spends e.most_nodes m.share now.share m.tries nodes m.tries scx → m.tries ≡ old.tries → HasUpdateGoneOn e old m m.tries m.tries → HasUpdateGoneOn e old now nodes scx
+    gone_behind old now nodes scx is fewer spent tries x = record { edit = is.0 ∙ x.edit; called = is.1 ∙ x.called; limit = is.2 ∙ x.limit; tries = fewer_then tries fewer; spends = joined_spends e.most_nodes old.share m.share now.share (node_tries old old.at) nodes (scx_tries old old.at) scx m.tries x.spends spent }
+
     -- where its try ends so, it stands as the turn says that it makes of that
-    pub stops : (now : UpdateRun E UpdateAt) (stop : Stop) (turn : Turn Updated) → IsSameUpdate m now → (m.tries ≤ now.tries + 1) × (now.tries ≤ m.tries) → IsSpending e turn m.share now m.tries m.tries → ((h : History) → IsRun TreeAllows u.call.layout h → MayStop e u.call h m f stop → UpdateTurn e u.call h now turn) → UpdaterStops u ps m f stop → UpdaterStands u ps now turn
-    stops now stop (Ask s) is fewer spent next x = record {
-      known = x.known;
-      is = x.is;
-      sound = x.sound;
-      so = (
-        u.turns x.so.old now _ x.so.got s record { edit = is.0 ∙ x.so.goes.edit; called = is.1 ∙ x.so.goes.called; limit = is.2 ∙ x.so.goes.limit; tries = fewer_then x.so.tries fewer; spends = joined_spends e.most_nodes x.so.old.share m.share now.share (node_tries x.so.old x.so.old.at) (node_tries now now.at) (scx_tries x.so.old x.so.old.at) (scx_tries now now.at) m.tries x.so.goes.spends spent } x.so.was (next _ (u.tree _ x.sound) x.so.may),
-        goes_on (u.with_run x.so.old) (u.stays x.so.old now (is.0 ∙ x.so.goes.edit) (fewer_then x.so.tries fewer)) x.so.course,
-      );
-    }
-    stops now stop (Done a) is fewer spent next x = record {
-      known = x.known;
-      is = x.is;
-      sound = x.sound;
-      so = record { old = x.so.old; got = x.so.got; was = x.so.was; goes = record { edit = is.0 ∙ x.so.goes.edit; called = is.1 ∙ x.so.goes.called; limit = is.2 ∙ x.so.goes.limit; tries = fewer_then x.so.tries fewer; spends = joined_spends e.most_nodes x.so.old.share m.share now.share (node_tries x.so.old x.so.old.at) now.tries (scx_tries x.so.old x.so.old.at) now.tries m.tries x.so.goes.spends spent }; answers = next _ (u.tree _ x.sound) x.so.may; course = x.so.course };
-    }
+    pub stops : (now : UpdateRun E UpdateAt) (stop : Stop) (turn : Turn Updated) → IsSameUpdate m now → (m.tries ≤ now.tries + 1) × (now.tries ≤ m.tries) → IsSpending e turn m.share now m.tries m.tries → ((h : History) → IsRun TreeAllows u.call.layout h → MayStop e u.call h m f stop → UpdateTurn e u.call h now turn) → UpdaterStops u ps m f stop → HostedStands u ps now turn
+    stops now stop (Ask s) is fewer spent next x =
+        let gone = gone_behind x.so.old now (node_tries now now.at) (scx_tries now now.at) is fewer spent x.so.tries x.so.goes in
+        record { known = x.known; is = x.is; sound = x.sound; so = (u.turns x.so.old now _ x.so.got s gone x.so.was (next _ (u.runs _ x.sound) x.so.may), goes_on (u.with_run x.so.old) (u.stays x.so.old now gone) x.so.course) }
+    stops now stop (Done a) is fewer spent next x = record { known = x.known; is = x.is; sound = x.sound; so = record { old = x.so.old; got = x.so.got; was = x.so.was; goes = gone_behind x.so.old now now.tries now.tries is fewer spent x.so.tries x.so.goes; answers = next _ (u.runs _ x.sound) x.so.may; course = x.so.course } }
 
   -- behind its walk it goes on as its try does
   pub finds : (ps : List SeatedPass) {A : Type 0} (m now : UpdateRun E A) (key : ℕ) (turn : NodeNo) (f : Found) (next : Result Next Stop) → e.goal m.edit ≡ ToKey key → IsSameUpdate m now → now.tries ≡ m.tries → HasSpentForNext e m.share now f next (m.tries + 1) (m.tries + 1)
@@ -221,7 +224,7 @@ module _ {M E : Type 0} {o : Calls M} {e : EditMeaning E} (u : Updater o e) wher
       → WalkerFinds (walker m) ps key turn f → UpdaterGoesOn u ps now f next
   unfolding walker
   finds ps m now key turn f next goal is tries spent goes x =
-      goes_behind ps now f (walking m x.last) x.told next is tries spent x.so (goes y.0 _ (u.tree _ x.so.sound) y.1 y.2 record { run = w.1.run; small = w.0.small; since = own_since (begun_at u.call y.0) _ w.1.own; rests = record { share = w.0.rests.share; over = w.0.rests.over } } w.0.quiet (rw goal (x.finds (begun_at u.call y.0) _ w.1)))
+      goes_behind ps now f (walking m x.last) x.told next is tries spent x.so (goes y.0 _ (u.runs _ x.so.sound) y.1 y.2 record { run = w.1.run; small = w.0.small; since = own_since (begun_at u.call y.0) _ w.1.own; rests = record { share = w.0.rests.share; over = w.0.rests.over } } w.0.quiet (rw goal (x.finds (begun_at u.call y.0) _ w.1)))
     where
       y : UpdateIsReady e (walking m x.last) u.call (history_of u.call.layout.mode x.so.known) (Some x.told)
       y = u.tells (walking m x.last) _ (Some x.told) x.so.so.0
@@ -245,21 +248,21 @@ module _ {M E : Type 0} {o : Calls M} {e : EditMeaning E} (u : Updater o e) wher
     is_number = u.is_number;
     first = u.first;
     with_run = λ llx. u.with_run (looking m f llx);
-    tells = λ llx h v run x. let y = u.tells (looking m f llx) h (Some v) x in (begun_at (begun_at u.call y.0) y.3.0, (u.tree h run, y.3.2));
+    tells = λ llx h v run x. let y = u.tells (looking m f llx) h (Some v) x in (begun_at (begun_at u.call y.0) y.3.0, (u.runs h run, y.3.2));
     turns = λ llx now h v s node turn run x.
         let y = u.tells (looking m f llx) h (Some v) x in
         let l = y.3.1 in
-        u.turns (looking m f llx) (looking m f now) h (Some v) s record { edit = refl; called = refl; limit = refl; tries = (omega arith, omega arith); spends = (omega arith, omega arith, omega arith) } x (
+        u.turns (looking m f llx) (looking m f now) h (Some v) s (moves m (Look f llx) (Look f now) refl refl) x (
           y.0,
           y.1,
           tt,
           (
             y.3.0,
             record { run = l.run; looked = l.looked; rests = record { share = l.rests.share; over = l.rests.over }; room = l.room; named = l.named ∙ ap At (sym node); now = l.now; quiet = l.quiet; since = l.since },
-            turn (begun_at (begun_at u.call y.0) y.3.0) (u.tree h run, y.3.2),
+            turn (begun_at (begun_at u.call y.0) y.3.0) (u.runs h run, y.3.2),
           ),
         );
-    stays = λ llx now node. u.stays (looking m f llx) (looking m f now) refl (omega arith, omega arith);
+    stays = λ llx now node. u.stays (looking m f llx) (looking m f now) (moves m (Look f llx) (Look f now) refl refl);
   }
 
   -- an update whose try looks at a node has begun to look at it
@@ -272,7 +275,7 @@ module _ {M E : Type 0} {o : Calls M} {e : EditMeaning E} (u : Updater o e) wher
       → ((b h : History) → IsRun TreeAllows u.call.layout h → IsTry u.call b h m.limit m.tries → CanLook e m (begun_at u.call b) h f → e.looks m.edit f m.snaps.items ≡ At snap.node → IsSnapshot u.call.layout h snap.node.0 snap → HasFoundThere u.call.pass h b snap.node.0 snap.scx.0 → UpdateGoesOn e u.call h now f next)
       → LookerSnaps (looker m f) ps node snap → UpdaterGoesOn u ps now f next
   unfolding looker
-  looks_on ps m now f node snap next is tries spent goes x = goes_behind ps now f (looking m f x.last) x.told next is tries spent x.so (goes y.0 h (u.tree h x.so.sound) y.1 can named snapped met)
+  looks_on ps m now f node snap next is tries spent goes x = goes_behind ps now f (looking m f x.last) x.told next is tries spent x.so (goes y.0 h (u.runs h x.so.sound) y.1 can named snapped met)
     where
       h : History
       h = history_of u.call.layout.mode x.so.known
@@ -290,10 +293,10 @@ module _ {M E : Type 0} {o : Calls M} {e : EditMeaning E} (u : Updater o e) wher
       named = l.named ∙ ap At (x.is_node ∙ sym x.of_node)
 
       snapped : IsSnapshot u.call.layout h snap.node.0 snap
-      snapped = subst (λ (n : NodeNo). IsSnapshot u.call.layout h n.0 snap) (sym x.of_node) (x.snaps (begun_at (begun_at u.call y.0) y.3.0) h (u.tree h x.so.sound) y.3.2)
+      snapped = subst (λ (n : NodeNo). IsSnapshot u.call.layout h n.0 snap) (sym x.of_node) (x.snaps (begun_at (begun_at u.call y.0) y.3.0) h (u.runs h x.so.sound) y.3.2)
 
       met : HasFoundThere u.call.pass h y.0 snap.node.0 snap.scx.0
-      met = there_wider u.call.pass h y.3.0 y.0 snap.node.0 snap.scx.0 l.since (subst (λ (n : NodeNo). HasFoundThere u.call.pass h y.3.0 n.0 snap.scx.0) (sym x.of_node) (x.found (begun_at (begun_at u.call y.0) y.3.0) h (u.tree h x.so.sound) y.3.2))
+      met = there_wider u.call.pass h y.3.0 y.0 snap.node.0 snap.scx.0 l.since (subst (λ (n : NodeNo). HasFoundThere u.call.pass h y.3.0 n.0 snap.scx.0) (sym x.of_node) (x.found (begun_at (begun_at u.call y.0) y.3.0) h (u.runs h x.so.sound) y.3.2))
 
   -- where something is in the way, it waits for the state again
   pub looks_again : (ps : List SeatedPass) {A : Type 0} (m : UpdateRun E A) (f : Found) (node : NodeNo) (b : Bool) (scx : ScxNo) → InnerWaits (looker m f) ps (llx_at node (StateAgain b scx)) (load LoadState (state scx.0)) → UpdaterTries u ps m f (WaitNext node b scx)
@@ -302,15 +305,15 @@ module _ {M E : Type 0} {o : Calls M} {e : EditMeaning E} (u : Updater o e) wher
 
   -- where the try ends with nothing to make, or with too little left, it has answered so
   pub ends_needless : (ps : List SeatedPass) {A : Type 0} (m : UpdateRun E A) (f : Found) → UpdaterStops u ps m f NothingStop → UpdaterEnds u ps m (done_with f)
-  ends_needless ps m f x = record { known = x.known; is = x.is; sound = x.sound; so = let y = x.so in record { old = y.old; got = y.got; was = y.was; goes = y.goes; answers = y.may; course = y.course } }
+  ends_needless ps m f x = record { known = x.known; is = x.is; sound = x.sound; so = let y = x.so in record { old = y.old; got = y.got; was = y.was; goes = gone_anywhere y.old m Start m.tries y.goes; answers = answers_there e u.call _ m Start (done_with f) y.may; course = y.course } }
 
   pub ends_full : (ps : List SeatedPass) {A : Type 0} (m : UpdateRun E A) (f : Found) (full : Full) → UpdaterStops u ps m f (FullStop full) → UpdaterEnds u ps m (FullAnswer full)
-  ends_full ps m f full x = record { known = x.known; is = x.is; sound = x.sound; so = let y = x.so in record { old = y.old; got = y.got; was = y.was; goes = y.goes; answers = y.may; course = y.course } }
+  ends_full ps m f full x = record { known = x.known; is = x.is; sound = x.sound; so = let y = x.so in record { old = y.old; got = y.got; was = y.was; goes = gone_anywhere y.old m Start m.tries y.goes; answers = answers_there e u.call _ m Start (FullAnswer full) y.may; course = y.course } }
 
   -- Its machine goes on
 
   -- once its machine has begun what comes next, it stands there
-  pub stands_there : (ps : List SeatedPass) {A : Type 0} (m : UpdateRun E A) (start now : UpdateRun E UpdateAt) (f : Found) (next : Next) (turn : Turn Updated) → start ≡ standing m Start → now ≡ placed e start f next → turn ≡ Ask (next_step e start f next) → UpdaterTries u ps m f next → UpdaterStands u ps now turn
+  pub stands_there : (ps : List SeatedPass) {A : Type 0} (m : UpdateRun E A) (start now : UpdateRun E UpdateAt) (f : Found) (next : Next) (turn : Turn Updated) → start ≡ standing m Start → now ≡ placed e start f next → turn ≡ Ask (next_step e start f next) → UpdaterTries u ps m f next → HostedStands u ps now turn
   stands_there ps m start now f next turn is place asks x = rw (place, asks, is) (there next x)
     where
       there : (n : Next) → UpdaterTries u ps m f n → UpdaterTries u ps (standing m Start) f n
@@ -321,43 +324,30 @@ module _ {M E : Type 0} {o : Calls M} {e : EditMeaning E} (u : Updater o e) wher
       there (ChangeNext scx) y = y
 
   -- so too where its try ends
-  pub stops_there : (ps : List SeatedPass) {A : Type 0} (m : UpdateRun E A) (start now : UpdateRun E UpdateAt) (f : Found) (stop : Stop) (turn : Turn Updated) → start ≡ standing m Start → IsSameUpdate start now → (start.tries ≤ now.tries + 1) × (now.tries ≤ start.tries) → IsSpending e turn start.share now start.tries start.tries → ((h : History) → IsRun TreeAllows u.call.layout h → MayStop e u.call h start f stop → UpdateTurn e u.call h now turn) → UpdaterStops u ps m f stop → UpdaterStands u ps now turn
+  pub stops_there : (ps : List SeatedPass) {A : Type 0} (m : UpdateRun E A) (start now : UpdateRun E UpdateAt) (f : Found) (stop : Stop) (turn : Turn Updated) → start ≡ standing m Start → IsSameUpdate start now → (start.tries ≤ now.tries + 1) × (now.tries ≤ start.tries) → IsSpending e turn start.share now start.tries start.tries → ((h : History) → IsRun TreeAllows u.call.layout h → MayStop e u.call h start f stop → UpdateTurn e u.call h now turn) → UpdaterStops u ps m f stop → HostedStands u ps now turn
   stops_there ps m start now f stop turn is same_run fewer spent next x = stops ps start f now stop turn same_run fewer spent next (subst (λ (r : UpdateRun E UpdateAt). UpdaterStops u ps r f stop) (sym is)
-      record { known = x.known; is = x.is; sound = x.sound; so = let y = x.so in record { old = y.old; got = y.got; was = y.was; goes = record { edit = y.goes.edit; called = y.goes.called; limit = y.goes.limit; tries = y.goes.tries; spends = y.goes.spends }; tries = y.tries; may = may_stop_there e u.call _ m f stop y.may; course = y.course } })
+      record { known = x.known; is = x.is; sound = x.sound; so = let y = x.so in record { old = y.old; got = y.got; was = y.was; goes = gone_anywhere y.old m Start m.tries y.goes; tries = y.tries; may = may_stop_there e u.call _ m f stop y.may; course = y.course } })
 
   -- so too where its SCX could not freeze a node
-  pub blocks_there : (ps : List SeatedPass) {A : Type 0} (m : UpdateRun E A) (start now : UpdateRun E UpdateAt) (f : Found) (scx : ScxNo) (help : HelpRun) (turn : Turn Updated) → start ≡ standing m Start → now ≡ standing start (Scx f record { scx = scx; call = start.call; update = update_of e start f; at = Help help }) → turn ≡ Ask (all_frozen_load scx) → UpdaterIsBlocked u ps m f scx help → UpdaterStands u ps now turn
+  pub blocks_there : (ps : List SeatedPass) {A : Type 0} (m : UpdateRun E A) (start now : UpdateRun E UpdateAt) (f : Found) (scx : ScxNo) (help : HelpRun) (turn : Turn Updated) → start ≡ standing m Start → now ≡ standing start (Scx f record { scx = scx; call = start.call; update = update_of e start f; at = Help help }) → turn ≡ Ask (all_frozen_load scx) → UpdaterIsBlocked u ps m f scx help → HostedStands u ps now turn
   blocks_there ps m start now f scx help turn is place asks x = rw (place, asks, is) x
 
   -- while it fills a fresh node there is an SCX-record left
-  scx_is_left : (ps : List SeatedPass) (m : UpdateRun E UpdateAt) (v : ℕ) → UpdaterIsTold u ps m v → HasScxForFill m m.at
+  scx_is_left : (ps : List SeatedPass) (m : UpdateRun E UpdateAt) (v : ℕ) → HostedIsTold u ps m v → HasScxForFill m m.at
   scx_is_left ps m v x = update_scx_left e m u.call _ (Some v) (u.tells m _ (Some v) x.so.0)
 
-  -- told what its step has found, it stands as its turn says
-  pub told_on : (ps : List SeatedPass) (m now : UpdateRun E UpdateAt) (v : ℕ) (turn : Turn Updated) → IsSameUpdate m now → (m.tries ≤ now.tries + 1) × (now.tries ≤ m.tries) → (HasScxForFill m m.at → IsSpending e turn m.share now (node_tries m m.at) (scx_tries m m.at)) → ((h : History) → IsRun TreeAllows u.call.layout h → UpdateIsReady e m u.call h (Some v) → UpdateTurn e u.call h now turn) → UpdaterIsTold u ps m v → UpdaterStands u ps now turn
-  told_on ps m now v (Ask s) is fewer spent next x = record {
-    known = x.known;
-    is = x.is;
-    sound = x.sound;
-    so = (
-      u.turns m now _ (Some v) s record { edit = is.0; called = is.1; limit = is.2; tries = fewer; spends = spent (scx_is_left ps m v x) } x.so.0 (next _ (u.tree _ x.sound) (u.tells m _ (Some v) x.so.0)),
-      goes_on (u.with_run m) (u.stays m now is.0 fewer) x.so.1,
-    );
-  }
-  told_on ps m now v (Done a) is fewer spent next x = record {
-    known = x.known;
-    is = x.is;
-    sound = x.sound;
-    so = record { old = m; got = Some v; was = x.so.0; goes = record { edit = is.0; called = is.1; limit = is.2; tries = fewer; spends = spent (scx_is_left ps m v x) }; answers = next _ (u.tree _ x.sound) (u.tells m _ (Some v) x.so.0); course = x.so.1 };
-  }
+  -- told what its step has found, it has gone on as its turn says
+  pub goes_told : (ps : List SeatedPass) (m now : UpdateRun E UpdateAt) (v : ℕ) (turn : Turn Updated) → IsSameUpdate m now → (m.tries ≤ now.tries + 1) × (now.tries ≤ m.tries) → (HasScxForFill m m.at → IsSpending e turn m.share now (node_tries m m.at) (scx_tries m m.at)) → HostedIsTold u ps m v → MatchTurn turn (λ _. (inner_update e).goes m now) (λ _. (inner_update e).ends m now)
+  goes_told ps m now v (Ask s) is fewer spent x = record { edit = is.0; called = is.1; limit = is.2; tries = fewer; spends = spent (scx_is_left ps m v x) }
+  goes_told ps m now v (Done a) is fewer spent x = record { edit = is.0; called = is.1; limit = is.2; tries = fewer; spends = spent (scx_is_left ps m v x) }
 
   -- what it is told fits the taken nodes
-  pub told_fits : (ps : List SeatedPass) (m : UpdateRun E UpdateAt) (v : ℕ) → UpdaterIsTold u ps m v → UpdateFits e m (Some v) (shared_nodes o.layout)
-  told_fits ps m v x = update_told e m u.call _ (Some v) (shared_nodes o.layout) (u.tree _ x.sound) (u.tells m _ (Some v) x.so.0) (few_taken o.allows o.layout u.call _ u.is_layout x.sound)
+  pub told_fits : (ps : List SeatedPass) (m : UpdateRun E UpdateAt) (v : ℕ) → HostedIsTold u ps m v → UpdateFits e m (Some v) (shared_nodes o.layout)
+  told_fits ps m v x = update_told e m u.call _ (Some v) (shared_nodes o.layout) (u.runs _ x.sound) (u.tells m _ (Some v) x.so.0) (few_taken o.allows o.layout u.call _ u.is_layout x.sound)
 
   -- its answer is that of the update that stands nowhere again
-  pub ends_nowhere : (ps : List SeatedPass) {A B : Type 0} (m : UpdateRun E A) (at : B) (now : UpdateRun E B) (a : Updated) → now ≡ standing m at → UpdaterEnds u ps m a → UpdaterEnds u ps now a
-  ends_nowhere ps m at now a is x = rw is record { known = x.known; is = x.is; sound = x.sound; so = let y = x.so in record { old = y.old; got = y.got; was = y.was; goes = record { edit = y.goes.edit; called = y.goes.called; limit = y.goes.limit; tries = y.goes.tries; spends = y.goes.spends }; answers = answers_there e u.call _ m at a y.answers; course = y.course } }
+  pub ends_nowhere : (ps : List SeatedPass) {B : Type 0} (m : UpdateRun E UpdateAt) (at : B) (now : UpdateRun E B) (a : Updated) → now ≡ standing m at → HostedEnds u ps m a → UpdaterEnds u ps now a
+  ends_nowhere ps m at now a is x = rw is record { known = x.known; is = x.is; sound = x.sound; so = let y = x.so in record { old = y.old; got = y.got; was = y.was; goes = gone_anywhere y.old m Start m.tries y.goes; answers = answers_there e u.call _ m Start a y.answers; course = y.course } }
 
   -- Loads and fills
 
@@ -394,8 +384,8 @@ module _ {M E : Type 0} {o : Calls M} {e : EditMeaning E} (u : Updater o e) wher
   -- with what the load has told it goes on as its turn says
   pub loads_on : (ps : List SeatedPass) {A : Type 0} (m now : UpdateRun E A) (f : Found) (nth : Nth) (part : NodeWord) (v : ℕ) (next : Result Next Stop) → IsSameUpdate m now → now.tries ≡ m.tries → HasSpentForNext e m.share now f next m.tries (m.tries + 1)
       → ((b h : History) → IsRun TreeAllows u.call.layout h → IsTry u.call b h m.limit m.tries → Loads e m (begun_at u.call b) h f nth part → value h (node (copied e m f) part) ≡ v → UpdateGoesOn e u.call h now f next)
-      → UpdaterIsTold u ps (placed e m f (LoadNext nth part)) v → UpdaterGoesOn u ps now f next
-  loads_on ps m now f nth part v next is tries spent goes x = goes_behind ps now f (placed e m f (LoadNext nth part)) v next is tries spent x (goes y.0 h (u.tree h x.sound) y.1 (loads_anywhere m f nth part (begun_at u.call y.0) h y.3.0) y.3.1)
+      → HostedIsTold u ps (placed e m f (LoadNext nth part)) v → UpdaterGoesOn u ps now f next
+  loads_on ps m now f nth part v next is tries spent goes x = goes_behind ps now f (placed e m f (LoadNext nth part)) v next is tries spent x (goes y.0 h (u.runs h x.sound) y.1 (loads_anywhere m f nth part (begun_at u.call y.0) h y.3.0) y.3.1)
     where
       h : History
       h = history_of u.call.layout.mode x.known
@@ -408,21 +398,21 @@ module _ {M E : Type 0} {o : Calls M} {e : EditMeaning E} (u : Updater o e) wher
   filling m f nth part = standing m (Fill f nth part)
 
   -- an update whose try fills a node waits for the first fill
-  pub begins_fill : (ps : List SeatedPass) {A : Type 0} (m : UpdateRun E A) (f : Found) (nth : Nth) (p : Piece) (n : NodeNo) (v : ℕ) → p ≡ e.pieces m.edit f m.snaps.items m.nodes m.loaded nth → n ≡ nth_node m.nodes nth → v ≡ word_of p Head → UpdaterTries u ps m f (FillNext nth) → UpdaterWaits u ps (filling m f nth Head) record { kind = FillKind; word = NodeOf n Head; access = Store v }
-  begins_fill ps m f nth p n v is_p is_n is_v x = subst (λ s. UpdaterWaits u ps (filling m f nth Head) s) asked x
+  pub begins_fill : (ps : List SeatedPass) {A : Type 0} (m : UpdateRun E A) (f : Found) (nth : Nth) (p : Piece) (n : NodeNo) (v : ℕ) → p ≡ e.pieces m.edit f m.snaps.items m.nodes m.loaded nth → n ≡ nth_node m.nodes nth → v ≡ word_of p Head → UpdaterTries u ps m f (FillNext nth) → HostedWaits u ps (filling m f nth Head) record { kind = FillKind; word = NodeOf n Head; access = Store v }
+  begins_fill ps m f nth p n v is_p is_n is_v x = subst (λ s. HostedWaits u ps (filling m f nth Head) s) asked x
     where
       asked : next_step e m f (FillNext nth) ≡ record { kind = FillKind; word = NodeOf n Head; access = Store v }
       asked i = record { kind = FillKind; word = NodeOf (sym is_n i) Head; access = Store (sym (is_v ∙ ap (λ q. word_of q Head) is_p) i) }
 
   -- behind a fill that is not a node's last it waits for the next
-  pub fills_on : (ps : List SeatedPass) {A : Type 0} (m : UpdateRun E A) (f : Found) (nth : Nth) (part next : NodeWord) (told : ℕ) (p : Piece) (n : NodeNo) (v : ℕ) → FillsWell e → part_behind p part ≡ Some next → p ≡ e.pieces m.edit f m.snaps.items m.nodes m.loaded nth → n ≡ nth_node m.nodes nth → v ≡ word_of p next → UpdaterIsTold u ps (filling m f nth part) told → UpdaterWaits u ps (filling m f nth next) record { kind = FillKind; word = NodeOf n next; access = Store v }
+  pub fills_on : (ps : List SeatedPass) {A : Type 0} (m : UpdateRun E A) (f : Found) (nth : Nth) (part next : NodeWord) (told : ℕ) (p : Piece) (n : NodeNo) (v : ℕ) → FillsWell e → part_behind p part ≡ Some next → p ≡ e.pieces m.edit f m.snaps.items m.nodes m.loaded nth → n ≡ nth_node m.nodes nth → v ≡ word_of p next → HostedIsTold u ps (filling m f nth part) told → HostedWaits u ps (filling m f nth next) record { kind = FillKind; word = NodeOf n next; access = Store v }
   fills_on ps m f nth part next told p n v sound behind is_p is_n is_v x = record {
     known = x.known;
     is = x.is;
     sound = x.sound;
     so = (
-      u.turns (filling m f nth part) (filling m f nth next) h (Some told) _ record { edit = refl; called = refl; limit = refl; tries = (omega arith, omega arith); spends = (omega arith, omega arith, omega arith) } x.so.0 (y.0, y.1, tt, fills_word e (filling m f nth part) f nth next p n v (begun_at u.call y.0) h can is_p is_n is_v),
-      goes_on (u.with_run (filling m f nth part)) (u.stays (filling m f nth part) (filling m f nth next) refl (omega arith, omega arith)) x.so.1,
+      u.turns (filling m f nth part) (filling m f nth next) h (Some told) _ (moves m (Fill f nth part) (Fill f nth next) refl refl) x.so.0 (y.0, y.1, tt, fills_word e (filling m f nth part) f nth next p n v (begun_at u.call y.0) h can is_p is_n is_v),
+      goes_on (u.with_run (filling m f nth part)) (u.stays (filling m f nth part) (filling m f nth next) (moves m (Fill f nth part) (Fill f nth next) refl refl)) x.so.1,
     );
   }
     where
@@ -465,8 +455,8 @@ module _ {M E : Type 0} {o : Calls M} {e : EditMeaning E} (u : Updater o e) wher
   -- behind a node's last fill it goes on as its turn says
   pub fills_end : (ps : List SeatedPass) {A : Type 0} (m now : UpdateRun E A) (f : Found) (nth : Nth) (part : NodeWord) (v : ℕ) (next : Result Next Stop) → IsSameUpdate m now → now.tries ≡ m.tries → (0 < m.share.scx → HasSpentForNext e m.share now f next m.tries (m.tries + 1))
       → ((b h : History) → IsRun TreeAllows u.call.layout h → IsTry u.call b h m.limit m.tries → IsFilledUpTo e m (begun_at u.call b) h f nth part → UpdateGoesOn e u.call h now f next)
-      → UpdaterIsTold u ps (filling m f nth part) v → UpdaterGoesOn u ps now f next
-  fills_end ps m now f nth part v next is tries spent goes x = goes_behind ps now f (filling m f nth part) v next is tries (spent y.3.0.works.some) x (goes y.0 h (u.tree h x.sound) y.1 (filled_anywhere m f nth part (begun_at u.call y.0) h y.3))
+      → HostedIsTold u ps (filling m f nth part) v → UpdaterGoesOn u ps now f next
+  fills_end ps m now f nth part v next is tries spent goes x = goes_behind ps now f (filling m f nth part) v next is tries (spent y.3.0.works.some) x (goes y.0 h (u.runs h x.sound) y.1 (filled_anywhere m f nth part (begun_at u.call y.0) h y.3))
     where
       h : History
       h = history_of u.call.layout.mode x.known
@@ -488,19 +478,19 @@ module _ {M E : Type 0} {o : Calls M} {e : EditMeaning E} (u : Updater o e) wher
     is_number = u.is_number;
     first = u.first;
     with_run = λ scx. u.with_run (scxing m f scx);
-    tells = λ scx h v run x. let y = u.tells (scxing m f scx) h (Some v) x in (begun_at (begun_at u.call y.0) y.3.0, (u.tree h run, y.3.2));
+    tells = λ scx h v run x. let y = u.tells (scxing m f scx) h (Some v) x in (begun_at (begun_at u.call y.0) y.3.0, (u.runs h run, y.3.2));
     turns = λ old now h v s goes turn run x.
         let y = u.tells (scxing m f old) h (Some v) x in
-        u.turns (scxing m f old) (scxing m f now) h (Some v) s record { edit = refl; called = refl; limit = refl; tries = (omega arith, omega arith); spends = (omega arith, omega arith, omega arith) } x
-        (y.0, y.1, tt, scx_asks e (scxing m f old) old now f y.3.0 (begun_at u.call y.0) h (Ask s) s y.3.1 goes.0 goes.1 goes.2 refl (turn (begun_at (begun_at u.call y.0) y.3.0) (u.tree h run, y.3.2)));
-    stays = λ old now goes. u.stays (scxing m f old) (scxing m f now) refl (omega arith, omega arith);
+        u.turns (scxing m f old) (scxing m f now) h (Some v) s (moves m (Scx f old) (Scx f now) refl refl) x
+        (y.0, y.1, tt, scx_asks e (scxing m f old) old now f y.3.0 (begun_at u.call y.0) h (Ask s) s y.3.1 goes.0 goes.1 goes.2 refl (turn (begun_at (begun_at u.call y.0) y.3.0) (u.runs h run, y.3.2)));
+    stays = λ old now goes. u.stays (scxing m f old) (scxing m f now) (moves m (Scx f old) (Scx f now) refl refl);
   }
 
   -- an update whose try makes its SCX waits for the fill of its plan
   pub begins_change : (ps : List SeatedPass) {A : Type 0} (m : UpdateRun E A) (f : Found) (scx : ScxNo) (snaps : List Snap) (plan : PlanOf) (old fresh : NodeNo) → snaps ≡ m.snaps.items → plan ≡ (update_of e m f).plan → old ≡ (update_of e m f).old → fresh ≡ (update_of e m f).fresh
       → UpdaterTries u ps m f (ChangeNext scx) → InnerWaits (changer m f) ps (changing_at snaps record { scx = scx; call = m.call; plan = plan; old = old; fresh = fresh } AtPlan) (scx_fill scx Plan plan.0)
   unfolding changer
-  begins_change ps m f scx snaps plan old fresh is_snaps is_plan is_old is_fresh y = subst (λ (w : Update). UpdaterWaits u ps (scxing m f record { scx = scx; call = m.call; update = w; at = AtPlan }) (scx_fill scx Plan w.plan.0)) is y
+  begins_change ps m f scx snaps plan old fresh is_snaps is_plan is_old is_fresh y = subst (λ (w : Update). HostedWaits u ps (scxing m f record { scx = scx; call = m.call; update = w; at = AtPlan }) (scx_fill scx Plan w.plan.0)) is y
     where
       is : update_of e m f ≡ record { snaps = snaps; plan = plan; old = old; fresh = fresh }
       is = update_is (update_of e m f) snaps plan old fresh is_snaps is_plan is_old is_fresh
@@ -512,7 +502,7 @@ module _ {M E : Type 0} {o : Calls M} {e : EditMeaning E} (u : Updater o e) wher
     known = x.known;
     is = x.is;
     sound = x.sound;
-    so = record { old = here; got = Some v; was = x.so.0; goes = record { edit = refl; called = refl; limit = refl; tries = (omega arith, omega arith); spends = (omega arith, omega arith, omega arith) }; answers = answers; course = x.so.1 };
+    so = record { old = here; got = Some v; was = x.so.0; goes = record { edit = refl; called = refl; limit = refl; tries = (omega arith, omega arith); spends = (omega arith, omega arith, omega arith) }; answers = answers_there e u.call _ m Start (done_with f) answers; course = x.so.1 };
   }
     where
       scx : ScxRun
@@ -529,12 +519,12 @@ module _ {M E : Type 0} {o : Calls M} {e : EditMeaning E} (u : Updater o e) wher
 
       answers : UpdateAnswers e m u.call h (done_with f)
       answers = scx_done e sound here scx scx f u.call y.0 y.3.0 h (Done ScxDone) y.1 y.3.1 refl refl refl refl
-          (let k = y.3.2 in done_at (begun_at (begun_at u.call y.0) y.3.0) h scx (record help { at = HelpCommit }) (u.tree h x.sound).lawful k.2 k.1 true (record help { at = HelpCommit }) k.0 refl refl)
+          (let k = y.3.2 in done_at (begun_at (begun_at u.call y.0) y.3.0) h scx (record help { at = HelpCommit }) (u.runs h x.sound).lawful k.2 k.1 true (record help { at = HelpCommit }) k.0 refl refl)
 
   -- where a node could not be frozen, it waits to look whether all were
   pub is_blocked : (ps : List SeatedPass) {A : Type 0} (m : UpdateRun E A) (f : Found) (scx : ScxNo) (help : HelpRun) (run : ScxRun) → run ≡ record { scx = scx; call = m.call; update = update_of e m f; at = Help help } → InnerWaits (changer m f) ps run (all_frozen_load scx) → UpdaterIsBlocked u ps m f scx help
   unfolding changer
-  is_blocked ps m f scx help run is x = subst (λ (r : ScxRun). UpdaterWaits u ps (scxing m f r) (all_frozen_load scx)) is x
+  is_blocked ps m f scx help run is x = subst (λ (r : ScxRun). HostedWaits u ps (scxing m f r) (all_frozen_load scx)) is x
 
 -- its steps are those of its walk, and those that are left behind it
 pub walk_steps : (now old walk left tries rest : ℕ) → now ≤ old + walk → left ≤ tries + rest → now + left ≤ old + (tries + (walk + rest))

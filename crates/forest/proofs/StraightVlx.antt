@@ -1,5 +1,6 @@
--- From place to place of VLX, in line.
-use Rattle.std.proofs.Common.{◌≡◌, ◌≢◌, ℕ, suc, ◌<◌, List, length, refl, sym}
+-- From info to info of a VLX, of whatever machine validates; and calls of VLX, which validate their
+-- own snapshots.
+use Rattle.std.proofs.Common.{◌≡◌, ◌≢◌, ℕ, suc, ◌<◌, List, length, refl, subst}
 use Rattle.arena.specs.declared.layout.Layout.{Layout}
 use Rattle.arena.specs.declared.step.Kind.TheVariants.{LoadInfo}
 use Rattle.arena.specs.Words.{info}
@@ -7,25 +8,56 @@ use Rattle.arena.specs.History.{History}
 use Rattle.arena.specs.Machines.{Call}
 use Rattle.prims.specs.Llx.Known.{load}
 use Rattle.prims.specs.Snap.{snap_at}
+use Rattle.prims.specs.Vlx.Known.{HasFoundUnchanged}
 use Rattle.prims.specs.Vlx.Laws.{first_looked, looks_next, looked_on, turn_changed, all_same}
 use Rattle.prims.specs.declared.snap.Snap.{Snap}
 use Rattle.prims.specs.declared.vlx.Vlx.TheVariants.{Same, Changed}
+use Rattle.prims.specs.declared.vlx.VlxRun.{VlxRun}
 use Rattle.forest.specs.declared.view.SeatedPass.{SeatedPass}
-use Rattle.forest.specs.Traces.{begins, goes_on}
-use Rattle.forest.specs.StraightVlx.{vlx_at, SeatVlxBegins, SeatVlxWaits, SeatVlxTold, SeatVlxLooked, SeatVlxEnds}
+use Rattle.forest.specs.CallKinds.{Calls}
+use Rattle.forest.specs.Inside.{InnerIsTold, InnerWaits}
+use Rattle.forest.specs.StraightVlx.{vlx_at, AreSameSnaps, ready_over, waits_over, SeatVlxBegins, SeatVlxEnds, Validator, LoadsFirstInfo}
+use Rattle.forest.specs.TableRule.{history_of}
+use Rattle.forest.proofs.Inside.{goes_to}
+use Rattle.forest.proofs.Places.{starts}
 
-module _ {L : Type 0} (list : L → List Snap) (allows : Layout → History → ℕ → Type 0) (c : Call) (ps : List SeatedPass) (snaps : L) where
-  pub to_none : SeatVlxBegins list allows c ps snaps → SeatVlxLooked list allows c ps snaps 0
-  to_none x = record { known = x.known; is = x.is; sound = x.sound; so = (first_looked c _ (list snaps) 0 x.so.1, begins refl (sym x.so.0)) }
+-- where the last info was what its snapshot found, it waits for the next, if there is one
+pub to_next : {M : Type 0} {o : Calls M} {snaps : List Snap} (k : Validator o snaps) (ps : List SeatedPass) (n asked v : ℕ) → suc n ≡ asked → (snap_at snaps n).scx.0 ≡ v → asked < length snaps → InnerIsTold k ps asked v → InnerWaits k ps (suc asked) (load LoadInfo (info (snap_at snaps asked).node.0))
+to_next {snaps = snaps} k ps n asked v is found more = goes_to k ps asked (suc asked) v _ refl (λ d h t. looks_next d h snaps asked (looked_on d h snaps asked n v t.0 t.1 is found) more)
 
-  pub to_info : (n asked : ℕ) → suc n ≡ asked → n < length (list snaps) → SeatVlxLooked list allows c ps snaps n → SeatVlxWaits list allows c ps snaps asked (load LoadInfo (info (snap_at (list snaps) n).node.0))
-  to_info n asked e i x = rw (← e) record { known = x.known; is = x.is; sound = x.sound; so = (looks_next c _ (list snaps) n x.so.0 i, goes_on (vlx_at snaps n) refl x.so.1) }
+-- its calls over such lists, of a layout and a number
+abbrev vlx_calls : {L : Type 0} → (L → List Snap) → (Layout → History → ℕ → Type 0) → Layout → ℕ → Calls (VlxRun L)
+vlx_calls list allows layout number = record { allows = allows; ready = ready_over list; waits = waits_over list; same = AreSameSnaps; layout = layout; number = number }
 
-  pub to_next : (n asked v : ℕ) → suc n ≡ asked → (snap_at (list snaps) n).scx.0 ≡ v → SeatVlxTold list allows c ps snaps asked v → SeatVlxLooked list allows c ps snaps asked
-  to_next n asked v e same x = record { known = x.known; is = x.is; sound = x.sound; so = (looked_on c _ (list snaps) asked n v x.sound.lawful x.so.0 e same, x.so.1) }
+module _ {L : Type 0} (list : L → List Snap) (allows : Layout → History → ℕ → Type 0) (layout : Layout) (number : ℕ) (c : Call) (is_layout : c.layout ≡ layout) (is_number : c.number ≡ number) (snaps : L) where
+  -- a run of VLX validates its snapshots itself
+  pub validator : Validator (vlx_calls list allows layout number) (list snaps)
+  validator = record {
+    call = c;
+    is_layout = is_layout;
+    is_number = is_number;
+    first = vlx_at snaps 0;
+    with_run = vlx_at snaps;
+    tells = λ n h v run x. (c, (run.lawful, x));
+    turns = λ old now h v s is turn run x. turn c (run.lawful, x);
+    stays = λ old now is. refl;
+  }
 
-  pub to_changed : (n asked v : ℕ) → suc n ≡ asked → (snap_at (list snaps) n).scx.0 ≢ v → SeatVlxTold list allows c ps snaps asked v → SeatVlxEnds list allows c ps snaps (Changed (snap_at (list snaps) n).node record { 0 = v })
-  to_changed n asked v e other x = (vlx_at snaps asked, record { known = x.known; is = x.is; sound = x.sound; so = (turn_changed c _ (list snaps) asked n v (snap_at (list snaps) n) x.sound.lawful x.so.0 e refl other, x.so.1) })
+  module _ (ps : List SeatedPass) where
+    -- its first turn takes it to the load of the first info
+    pub begins_looking : SeatVlxBegins list allows c ps snaps → LoadsFirstInfo validator ps
+    unfolding validator
+    begins_looking = starts allows (ready_over list) (waits_over list) AreSameSnaps c ps (vlx_at snaps 0) (vlx_at snaps 1) _ refl (λ h run x. looks_next c h (list snaps) 0 (first_looked c h (list snaps) 0 x) x.some)
 
-  pub to_same : SeatVlxLooked list allows c ps snaps (length (list snaps)) → SeatVlxEnds list allows c ps snaps Same
-  to_same x = (vlx_at snaps (length (list snaps)), record { known = x.known; is = x.is; sound = x.sound; so = (all_same c _ (list snaps) x.sound.lawful x.so.0, x.so.1) })
+    -- where the last info was not what its snapshot found, that is the answer
+    pub answers_changed : (n asked v : ℕ) → suc n ≡ asked → (snap_at (list snaps) n).scx.0 ≢ v → InnerIsTold validator ps asked v → SeatVlxEnds list allows c ps snaps (Changed (snap_at (list snaps) n).node record { 0 = v })
+    unfolding validator
+    answers_changed n asked v e other x = (vlx_at snaps asked, record { known = x.known; is = x.is; sound = x.sound; so = (turn_changed c _ (list snaps) asked n v (snap_at (list snaps) n) x.sound.lawful x.so.0 e refl other, x.so.1) })
+
+    -- where all were, they are the same
+    pub answers_same : (n asked v : ℕ) → suc n ≡ asked → (snap_at (list snaps) n).scx.0 ≡ v → asked ≡ length (list snaps) → InnerIsTold validator ps asked v → SeatVlxEnds list allows c ps snaps Same
+    unfolding validator
+    answers_same n asked v e found all x = (vlx_at snaps asked, record { known = x.known; is = x.is; sound = x.sound; so = (all_same c _ (list snaps) x.sound.lawful looked, x.so.1) })
+      where
+        looked : HasFoundUnchanged c (history_of c.layout.mode x.known) (list snaps) (length (list snaps))
+        looked = subst (λ (k : ℕ). HasFoundUnchanged c (history_of c.layout.mode x.known) (list snaps) k) all (looked_on c _ (list snaps) asked n v x.sound.lawful x.so.0 e found)

@@ -13,10 +13,10 @@ pub mod StraightGet
 pub mod StraightUpdate
 pub mod StraightCalls
 pub mod StraightReads
-pub mod StraightValidate
 pub mod Traces
 pub mod CallKinds
 pub mod Inside
+pub mod Hosts
 pub mod TableRule
 pub mod Seats
 pub mod JoinedSeats

@@ -59,6 +59,10 @@ module _ {K V : Type 0} (valid_key : K → Type 0) (key : K → ℕ) (valid_valu
     abbrev pub SeatDictEnds : DictRun K V → Reply K V → Type 0
     SeatDictEnds = Ends DictAllows DictCallWaits IsSameDictCall c ps first (DictAnswers valid_key key valid_value value)
 
+  -- a call of an edit begins, with whichever machine of the edit that has not begun
+  abbrev pub SeatEditBegins : Call → List SeatedPass → MapEdit → Remaining → ℕ → ℕ → Type 0
+  SeatEditBegins c ps edit share tries number = (first : DictRun K V) → IsFreshEdit edit share tries number first → SeatDictBegins c ps first
+
   -- The call of an edit has ended with this answer: a machine of the edit has begun it, and one
   -- that has so much of the share left has ended it.
   pub record EditHasEnded (c : Call) (ps : List SeatedPass) (edit : MapEdit) (share : Remaining) (tries number : ℕ) (left : Remaining) (told : Result (Option V) UpdateFault) : Type 0 where

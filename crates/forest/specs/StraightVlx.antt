@@ -1,15 +1,22 @@
--- Calls of VLX that stand at a place of their machine.
-use Rattle.std.specs.Prelude.{◌≡◌, ℕ, List, Option}
+-- VLXs that stand at a place: as calls of their own, and of whatever machine validates snapshots.
+use Rattle.std.specs.Prelude.{◌≡◌, ℕ, List, Option, suc}
 use Rattle.arena.specs.declared.layout.Layout.{Layout}
 use Rattle.arena.specs.declared.step.Step.{Step}
 use Rattle.arena.specs.History.{History}
 use Rattle.arena.specs.Machines.{Call}
-use Rattle.prims.specs.Vlx.Known.{HasFoundUnchanged, VlxIsReady, VlxWaits, VlxAnswers}
+use Rattle.prims.specs.Vlx.Known.{VlxIsReady, VlxWaits, VlxAnswers, VlxIsTold}
 use Rattle.prims.specs.declared.snap.Snap.{Snap}
 use Rattle.prims.specs.declared.vlx.Vlx.{Vlx}
 use Rattle.prims.specs.declared.vlx.VlxRun.{VlxRun}
 use Rattle.forest.specs.declared.view.SeatedPass.{SeatedPass}
-use Rattle.forest.specs.Traces.{Trace, HoldsForCall, CallBegins, Waits, Told, Ends}
+use Rattle.forest.specs.Traces.{CallBegins, Ends}
+use Rattle.arena.specs.Lawful.{Lawful}
+use Rattle.arena.specs.declared.step.Kind.TheVariants.{LoadInfo}
+use Rattle.arena.specs.Words.{info}
+use Rattle.prims.specs.Llx.Known.{load}
+use Rattle.prims.specs.Snap.{snap_at}
+use Rattle.forest.specs.CallKinds.{Calls}
+use Rattle.forest.specs.Inside.{Inner, Inside, InnerWaits}
 
 -- the run of VLX over the snapshots that has asked for so many infos
 abbrev pub vlx_at : {L : Type 0} → L → ℕ → VlxRun L
@@ -37,18 +44,23 @@ module _ {L : Type 0} (list : L → List Snap) (allows : Layout → History → 
   abbrev pub SeatVlxBegins : Type 0
   SeatVlxBegins = CallBegins allows (ready_over list) c ps (vlx_at snaps 0)
 
-  -- the call, having asked for n infos, waits for this step
-  abbrev pub SeatVlxWaits : ℕ → Step → Type 0
-  SeatVlxWaits n = Waits allows (waits_over list) AreSameSnaps c ps (vlx_at snaps 0) (vlx_at snaps n)
-
-  -- the last of the n infos that it has asked for has told v
-  abbrev pub SeatVlxTold : ℕ → ℕ → Type 0
-  SeatVlxTold n = Told allows (waits_over list) AreSameSnaps c ps (vlx_at snaps 0) (ready_over list) (vlx_at snaps n)
-
-  -- as the call began, the first n of the infos were what the snapshots had found
-  abbrev pub SeatVlxLooked : ℕ → Type 0
-  SeatVlxLooked n = HoldsForCall allows ps c (λ h. HasFoundUnchanged c h (list snaps) n × Trace allows (waits_over list) AreSameSnaps c (vlx_at snaps 0) (vlx_at snaps n) h)
-
   -- the call has ended with this answer
   abbrev pub SeatVlxEnds : Vlx → Type 0
   SeatVlxEnds a = (m : VlxRun L) × Ends allows (waits_over list) AreSameSnaps c ps (vlx_at snaps 0) (answers_over list) m a
+
+-- a VLX of these snapshots, in a call of its own, that has asked for so many infos
+abbrev pub inner_vlx : List Snap → Inner ℕ
+inner_vlx snaps = record {
+  Context = Call;
+  told = λ d n h v. Lawful d.layout h × VlxIsTold snaps n d h v;
+  waits = λ d n h s. VlxWaits snaps n d h s;
+  goes = λ old now. now ≡ suc old;
+}
+
+-- a call of a machine that validates these snapshots
+abbrev pub Validator : {M : Type 0} → Calls M → List Snap → Type 0
+Validator o snaps = Inside o (inner_vlx snaps)
+
+-- its VLX waits for the info of the first of the snapshots, with which it begins
+abbrev pub LoadsFirstInfo : {M : Type 0} {o : Calls M} {snaps : List Snap} → Validator o snaps → List SeatedPass → Type 0
+LoadsFirstInfo {snaps = snaps} k ps = InnerWaits k ps 1 (load LoadInfo (info (snap_at snaps 0).node.0))

@@ -4,16 +4,19 @@ use Rattle.arena.specs.declared.number.NodeNo.{NodeNo}
 use Rattle.arena.specs.declared.step.Step.{Step}
 use Rattle.arena.specs.History.{History}
 use Rattle.arena.specs.Machines.{Call}
-use Rattle.arena.specs.declared.step.Kind.TheVariants.{LoadSettled}
+use Rattle.arena.specs.declared.step.Kind.TheVariants.{LoadChild, LoadSettled}
 use Rattle.arena.specs.declared.word.NodeWord.TheVariants.{Head as HeadWord}
-use Rattle.arena.specs.Words.{node}
+use Rattle.arena.specs.declared.word.Side.{Side}
+use Rattle.arena.specs.Words.{child, node}
 use Rattle.prims.specs.Llx.Known.{load}
 use Rattle.order.specs.Successor.Steps.{last_turn}
 use Rattle.template.specs.FoundLeaf.{HasFoundGoal}
 use Rattle.template.specs.Walk.Known.{WalkIsTold, WalkWaits}
-use Rattle.template.specs.Walk.Places.{IsPastRoot, walk_from}
+use Rattle.template.specs.Walk.Places.{IsPastRoot, walk_at, walk_from}
 use Rattle.template.specs.declared.walk.Found.{Found}
 use Rattle.template.specs.declared.walk.Goal.TheVariants.{Key as ToKey}
+use Rattle.template.specs.declared.walk.Trail.{Trail}
+use Rattle.template.specs.declared.walk.WalkAt.TheVariants.{Child}
 use Rattle.template.specs.declared.walk.WalkRun.{WalkRun}
 use Rattle.forest.specs.declared.view.SeatedPass.{SeatedPass}
 use Rattle.forest.specs.CallKinds.{Calls}
@@ -41,6 +44,11 @@ module _ {M : Type 0} {o : Calls M} (w : Walker o) (ps : List SeatedPass) where
   -- the step of its walk has told v
   abbrev pub WalkerIsTold : WalkRun → NodeNo → ℕ → Type 0
   WalkerIsTold m turn v = InnerIsTold w ps (m, turn) v
+
+  -- its walk to this key waits for the child on this side of the node to which its trail has come,
+  -- whose head is of this level; it had turned left last at this fork before that
+  abbrev pub WalkerGoesDown : ℕ → Trail → ℕ → Side → NodeNo → Type 0
+  WalkerGoesDown key trail level side turn = WalkerWaits (walk_at key trail (Child level side)) (last_turn (Child level side) trail.node turn) (load LoadChild (child trail.node.0 side))
 
   -- its walk to this key waits for the head of the root, with which it begins
   abbrev pub WalksFromRoot : ℕ → Type 0

@@ -44,7 +44,8 @@ impl<S: Shape> Model for Closed<S> {
 
     ghost view = { λ c. record { layout = c.layout; words = c.words.words.items } };
 
-    ghost invariant = { λ c. IsFull c.words.words × (slots_len c.words.words ≡ table_size c.layout) × (slots_len c.words.slots ≡ 0) × (c.layout.mode ≡ S.mode) };
+    ghost invariant = { λ c. IsFull c.words.words × (slots_len c.words.words ≡ table_size c.layout)
+        × (slots_len c.words.slots ≡ 0) × (c.layout.mode ≡ S.mode) };
 }
 
 impl Closed<Cells> {
@@ -68,7 +69,9 @@ impl<K: WordKey, V: WordValue> Closed<Dict<K, V>> {
     /// memory.
     pub fn pairs(&self, alloc: Global) -> Result<Vec<(K, V)>, NoMemory>
         ensures valid { IfOk result (λ pairs. All (IsValidPair K.is_valid V.is_valid) pairs.items) }
-        ensures pairs { (lay : Layout) (passes : List PassView) (c : IsClosed (TypedAllows (IsWordOf K.is_valid K.word_of) (IsWordOf V.is_valid V.word_of)) lay passes self.now) → IfOk result (λ pairs. Spells lay (value (history_of lay.mode c.rows)) (map (word_pair K.word_of V.word_of) pairs.items)) }
+        ensures pairs { (lay : Layout) (passes : List PassView)
+            (c : IsClosed (TypedAllows (IsWordOf K.is_valid K.word_of) (IsWordOf V.is_valid V.word_of)) lay passes self.now)
+            → IfOk result (λ pairs. Spells lay (value (history_of lay.mode c.rows)) (map (word_pair K.word_of V.word_of) pairs.items)) }
     {
         match spelled(alloc, &self.plain(alloc)?)? {
             Some(pairs) => pairs_of(alloc, &pairs),

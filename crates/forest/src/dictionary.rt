@@ -61,7 +61,8 @@ impl<K: WordKey, V: WordValue> Forest<Dict<K, V>> {
         requires pass { IsOf self.now pass.old }
         ensures pass { IsOf self.now pass.new }
         ensures tree { pass.new.layout.mode ≡ Tree }
-        ensures goes_on { HasMadeCall K.is_valid K.word_of V.is_valid V.word_of self.now.tries self.now.layout pass.old pass.new (Edit (InsertEdit (K.word_of key) (V.word_of value))) (blamed_by_update result pass.old.blamed) }
+        ensures goes_on { HasMadeCall K.is_valid K.word_of V.is_valid V.word_of self.now.tries self.now.layout
+            pass.old pass.new (Edit (InsertEdit (K.word_of key) (V.word_of value))) (blamed_by_update result pass.old.blamed) }
         ensures spends { HasSpentAtMost pass.old pass.new (Edit (InsertEdit (K.word_of key) (V.word_of value))) self.now.tries }
         ensures says { UpdateSays V.word_of self.now.tries pass.old pass.new (InsertEdit (K.word_of key) (V.word_of value)) result }
         ensures valid { IfOk result (λ old. IfSome old V.is_valid) }
@@ -78,7 +79,8 @@ impl<K: WordKey, V: WordValue> Forest<Dict<K, V>> {
         requires pass { IsOf self.now pass.old }
         ensures pass { IsOf self.now pass.new }
         ensures tree { pass.new.layout.mode ≡ Tree }
-        ensures goes_on { HasMadeCall K.is_valid K.word_of V.is_valid V.word_of self.now.tries self.now.layout pass.old pass.new (Edit (DeleteEdit (K.word_of key.now))) (blamed_by_update result pass.old.blamed) }
+        ensures goes_on { HasMadeCall K.is_valid K.word_of V.is_valid V.word_of self.now.tries self.now.layout
+            pass.old pass.new (Edit (DeleteEdit (K.word_of key.now))) (blamed_by_update result pass.old.blamed) }
         ensures spends { HasSpentAtMost pass.old pass.new (Edit (DeleteEdit (K.word_of key.now))) self.now.tries }
         ensures says { UpdateSays V.word_of self.now.tries pass.old pass.new (DeleteEdit (K.word_of key.now)) result }
         ensures valid { IfOk result (λ old. IfSome old V.is_valid) }
@@ -93,7 +95,8 @@ impl<K: WordKey, V: WordValue> Forest<Dict<K, V>> {
         requires pass { IsOf self.now pass.old }
         ensures pass { IsOf self.now pass.new }
         ensures tree { pass.new.layout.mode ≡ Tree }
-        ensures goes_on { HasMadeCall K.is_valid K.word_of V.is_valid V.word_of self.now.tries self.now.layout pass.old pass.new (Get (K.word_of key.now)) pass.old.blamed }
+        ensures goes_on { HasMadeCall K.is_valid K.word_of V.is_valid V.word_of self.now.tries self.now.layout
+            pass.old pass.new (Get (K.word_of key.now)) pass.old.blamed }
         ensures spends { HasSpentAtMost pass.old pass.new (Get (K.word_of key.now)) self.now.tries }
         ensures says { IsReading pass.old pass.new (Get (K.word_of key.now)) (OneValue (option_map V.word_of result)) }
         ensures kinds { HasKeptToKinds pass.old pass.new (Get (K.word_of key.now)) }
@@ -118,7 +121,8 @@ impl<K: WordKey, V: WordValue> Forest<Dict<K, V>> {
         requires pass { IsOf self.now pass.old }
         ensures pass { IsOf self.now pass.new }
         ensures tree { pass.new.layout.mode ≡ Tree }
-        ensures goes_on { HasMadeCall K.is_valid K.word_of V.is_valid V.word_of self.now.tries self.now.layout pass.old pass.new (Successor (K.word_of key.now)) (blamed_by_read result pass.old.blamed) }
+        ensures goes_on { HasMadeCall K.is_valid K.word_of V.is_valid V.word_of self.now.tries self.now.layout
+            pass.old pass.new (Successor (K.word_of key.now)) (blamed_by_read result pass.old.blamed) }
         ensures spends { HasSpentAtMost pass.old pass.new (Successor (K.word_of key.now)) self.now.tries }
         ensures says { SuccessorSays K.word_of V.word_of self.now.tries pass.old pass.new (K.word_of key.now) result }
         ensures kinds { HasKeptToKinds pass.old pass.new (Successor (K.word_of key.now)) }
@@ -151,7 +155,8 @@ impl<K: WordKey, V: WordValue> Forest<Dict<K, V>> {
         requires few { most ≤ 64 }
         ensures pass { IsOf self.now pass.new }
         ensures tree { pass.new.layout.mode ≡ Tree }
-        ensures goes_on { HasMadeCall K.is_valid K.word_of V.is_valid V.word_of self.now.tries self.now.layout pass.old pass.new (Range (K.word_of low.now) (K.word_of high.now) most) (blamed_by_read result pass.old.blamed) }
+        ensures goes_on { HasMadeCall K.is_valid K.word_of V.is_valid V.word_of self.now.tries self.now.layout
+            pass.old pass.new (Range (K.word_of low.now) (K.word_of high.now) most) (blamed_by_read result pass.old.blamed) }
         ensures spends { HasSpentAtMost pass.old pass.new (Range (K.word_of low.now) (K.word_of high.now) most) self.now.tries }
         ensures says { RangeSays K.word_of V.word_of self.now.tries pass.old pass.new (K.word_of low.now) (K.word_of high.now) most result }
         ensures kinds { HasKeptToKinds pass.old pass.new (Range (K.word_of low.now) (K.word_of high.now) most) }
@@ -179,7 +184,8 @@ impl<K: WordKey, V: WordValue> Forest<Dict<K, V>> {
         requires small { edit_key (E.edit edit) < 2 ^ 64 }
         ensures pass { IsOf self.now pass.new }
         ensures tree { pass.new.layout.mode ≡ Tree }
-        ensures goes_on { HasMadeCall K.is_valid K.word_of V.is_valid V.word_of self.now.tries self.now.layout pass.old pass.new (Edit (E.edit edit)) (blamed_by_update result pass.old.blamed) }
+        ensures goes_on { HasMadeCall K.is_valid K.word_of V.is_valid V.word_of self.now.tries self.now.layout
+            pass.old pass.new (Edit (E.edit edit)) (blamed_by_update result pass.old.blamed) }
         ensures spends { HasSpentAtMost pass.old pass.new (Edit (E.edit edit)) self.now.tries }
         ensures says { UpdateSays V.word_of self.now.tries pass.old pass.new (E.edit edit) result }
         ensures valid { IfOk result (λ old. IfSome old V.is_valid) }
@@ -205,7 +211,8 @@ impl<K: WordKey, V: WordValue> Forest<Dict<K, V>> {
         requires ordered { KeepsLists (as_map_call K.word_of V.word_of request) }
         ensures pass { IsOf self.now pass.new }
         ensures tree { pass.new.layout.mode ≡ Tree }
-        ensures goes_on { HasMadeCall K.is_valid K.word_of V.is_valid V.word_of self.now.tries self.now.layout pass.old pass.new (as_map_call K.word_of V.word_of request) (blamed_by_reply result pass.old.blamed) }
+        ensures goes_on { HasMadeCall K.is_valid K.word_of V.is_valid V.word_of self.now.tries self.now.layout
+            pass.old pass.new (as_map_call K.word_of V.word_of request) (blamed_by_reply result pass.old.blamed) }
         ensures spends { HasSpentAtMost pass.old pass.new (as_map_call K.word_of V.word_of request) self.now.tries }
         ensures told { IsToldOf pass.old pass.new (as_map_call K.word_of V.word_of request) (told_of K.word_of V.word_of result) }
         ensures refused { IsRefusalOf self.now.tries pass.old pass.new (as_map_call K.word_of V.word_of request) result }

@@ -16,7 +16,9 @@ pub(crate) fn meet<S: Shape>(
     one: &mut Seat<u8, SeatView>,
     other: &mut Seat<u8, SeatView>,
 )
-    requires table { IsTableOf words.now.table.shared.table_id words.now.table.shared.key layout.now × (one.old.table_id ≡ words.now.table.shared.table_id) × (other.old.table_id ≡ words.now.table.shared.table_id) }
+    requires table { IsTableOf words.now.table.shared.table_id words.now.table.shared.key layout.now
+        × (one.old.table_id ≡ words.now.table.shared.table_id)
+        × (other.old.table_id ≡ words.now.table.shared.table_id) }
     requires bare { (one.old.me.1 ≡ []) × (other.old.me.1 ≡ []) }
     requires first { IsAlone layout.now one.old.me.0.passes }
     requires second { IsAlone layout.now other.old.me.0.passes }

@@ -112,7 +112,8 @@ impl<K: WordKey, V: WordValue> OpenCall<K, V> {
         requires goes { self.old.over ≡ false }
         ensures same { IsSameOpen self.old self.new }
         ensures stepped { HasStepped self.old self.new result }
-        ensures lawful { IsRun (TypedAllows (IsWordOf K.is_valid K.word_of) (IsWordOf V.is_valid V.word_of)) self.new.began.layout (run_of (pass_now self.new)) }
+        ensures lawful { IsRun (TypedAllows (IsWordOf K.is_valid K.word_of) (IsWordOf V.is_valid V.word_of))
+            self.new.began.layout (run_of (pass_now self.new)) }
         ensures nothing { ¬ AsksForPairs self.old.call → result ≡ Stepped.Done None }
     {
         let Turn::Ask(step) = &self.turn else {
@@ -120,7 +121,7 @@ impl<K: WordKey, V: WordValue> OpenCall<K, V> {
             return Stepped::Done(None);
         };
         let (step, layout) = (*step, self.layout);
-        self.turn = advance(
+        self.turn = advance::<Dict<K, V>, DictRun<K, V>, Dict<K, V>, DictRun<K, V>>(
             &forest.words,
             &layout,
             &mut self.seat,
@@ -143,7 +144,8 @@ impl<K: WordKey, V: WordValue> OpenCall<K, V> {
         ensures pass { (f : Ground) → IsOf f self.began → IsOf f result.0 }
         ensures known { result.0.known ≡ self.known }
         ensures made { steps_of result.0 ≡ steps_of self.began + self.made }
-        ensures goes_on { HasMadeCall K.is_valid K.word_of V.is_valid V.word_of self.tries self.began.layout self.began result.0 self.call (blamed_by_reply result.1 self.began.blamed) }
+        ensures goes_on { HasMadeCall K.is_valid K.word_of V.is_valid V.word_of self.tries self.began.layout
+            self.began result.0 self.call (blamed_by_reply result.1 self.began.blamed) }
         ensures spends { HasSpentAtMost self.began result.0 self.call self.tries }
         ensures told { IsToldOf self.began result.0 self.call (told_of K.word_of V.word_of result.1) }
         ensures refused { IsRefusalOf self.tries self.began result.0 self.call result.1 }

@@ -40,7 +40,8 @@ impl<S: Shape> Pass<S> {
         requires seat { (seat.me.0.passes ≡ seated_pass number.0 layout.now [] ∷ []) × (seat.me.1 ≡ []) }
         requires pass { number.0 < layout.now.passes }
         requires mode { layout.now.mode ≡ S.mode }
-        ensures { result ≡ record { table = seat.table_id; layout = layout.now; number = number.0; share = whole_share layout.now number.0; known = []; blamed = [] } }
+        ensures { result
+            ≡ record { table = seat.table_id; layout = layout.now; number = number.0; share = whole_share layout.now number.0; known = []; blamed = [] } }
     {
         Pass {
             number,

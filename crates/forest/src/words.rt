@@ -28,7 +28,9 @@ impl<S: Shape> Words<S> {
         alloc: Global,
         layout: &Layout,
     ) -> Result<(Words<S>, Seat<u8, SeatView>), NoMemory>
-        ensures table { IfOk result (λ w. IsTableOf w.0.table.shared.table_id w.0.table.shared.key layout.now × (w.0.table.shared.table_id.slots ≡ 0) × (w.1.table_id ≡ w.0.table.shared.table_id)) }
+        ensures table { IfOk result (λ w. IsTableOf w.0.table.shared.table_id w.0.table.shared.key layout.now
+            × (w.0.table.shared.table_id.slots ≡ 0)
+            × (w.1.table_id ≡ w.0.table.shared.table_id)) }
         ensures seat { IfOk result (λ w. (w.1.me.0.passes ≡ new_passes layout.now 0 layout.now.passes) × (w.1.me.1 ≡ [])) }
     {
         let words = PlainWords::new(alloc, layout)?;
@@ -96,7 +98,9 @@ impl<S: Shape> Words<S> {
         seat: &mut Seat<u8, SeatView>,
         other: Seat<u8, SeatView>,
     )
-        requires table { IsTableOf self.now.table.shared.table_id self.now.table.shared.key layout.now × (seat.old.table_id ≡ self.now.table.shared.table_id) × (other.table_id ≡ self.now.table.shared.table_id) }
+        requires table { IsTableOf self.now.table.shared.table_id self.now.table.shared.key layout.now
+            × (seat.old.table_id ≡ self.now.table.shared.table_id)
+            × (other.table_id ≡ self.now.table.shared.table_id) }
         requires bare { other.me.1 ≡ [] }
         ensures table { StaysAtTable seat.old seat.new }
         ensures passes { seat.new.me.0.passes ≡ seat.old.me.0.passes ++ other.me.0.passes }
@@ -108,7 +112,8 @@ impl<S: Shape> Words<S> {
     pub(crate) fn close(self, seat: Seat<u8, SeatView>) -> Closed<u8, Global>
         requires { seat.table_id ≡ self.table.shared.table_id }
         ensures counts { (slots_len result.words ≡ self.table.shared.table_id.words) × (slots_len result.slots ≡ self.table.shared.table_id.slots) }
-        ensures values { IsFull result.words × IsFull result.slots × Final (Seen (TableIsLawful S.allows self.table.shared.key) seat.id seat.me.0) (slots_items result.words) (slots_items result.slots) }
+        ensures values { IsFull result.words × IsFull result.slots
+            × Final (Seen (TableIsLawful S.allows self.table.shared.key) seat.id seat.me.0) (slots_items result.words) (slots_items result.slots) }
     {
         self.table.close_with(seat)
     }

@@ -13,7 +13,7 @@ ghost use Rattle.ordered_map.specs.OrderedMap.{Edit as CallOf, edit_key};
 ghost use Rattle.forest.specs.Dictionary.{update_reply};
 ghost use Rattle.forest.specs.Seats.{IsSeatAt, StaysAtTable};
 ghost use Rattle.forest.specs.Traces.{seat_steps, shared_nodes};
-ghost use Rattle.forest.specs.StraightCalls.{EditHasEnded, IsFreshEdit, SeatDictBegins, SeatDictEnds, SeatWordEnds};
+ghost use Rattle.forest.specs.StraightCalls.{EditHasEnded, SeatDictBegins, SeatDictEnds, SeatEditBegins, SeatWordEnds};
 
 use crate::fault::UpdateFault;
 use crate::straight::{range, successor, update};
@@ -54,9 +54,12 @@ pub(crate) fn make<K: WordKey, V: WordValue, E: EditCall>(
     requires table { IsSeatAt words.now layout.now seat.old }
     requires tries { 0 < tries }
     requires small { edit_key (E.edit edit) < 2 ^ 64 }
-    requires begins { (c : Call) × (c.layout ≡ layout.now) × (c.number ≡ number) × ((first : Run K V) → IsFreshEdit (E.edit edit) share tries number first → SeatDictBegins K.is_valid K.word_of V.is_valid V.word_of c seat.old.me.0.passes first) }
+    requires begins { (c : Call) × (c.layout ≡ layout.now) × (c.number ≡ number)
+        × SeatEditBegins K.is_valid K.word_of V.is_valid V.word_of c seat.old.me.0.passes (E.edit edit) share tries number }
     ensures table { StaysAtTable seat.old seat.new }
-    ensures ends { (c : Call) → c.layout ≡ layout.now → c.number ≡ number → ((first : Run K V) → IsFreshEdit (E.edit edit) share tries number first → SeatDictBegins K.is_valid K.word_of V.is_valid V.word_of c seat.old.me.0.passes first) → EditHasEnded K.is_valid K.word_of V.is_valid V.word_of c seat.new.me.0.passes (E.edit edit) share tries number result.1 result.0 }
+    ensures ends { (c : Call) → c.layout ≡ layout.now → c.number ≡ number
+        → SeatEditBegins K.is_valid K.word_of V.is_valid V.word_of c seat.old.me.0.passes (E.edit edit) share tries number
+        → EditHasEnded K.is_valid K.word_of V.is_valid V.word_of c seat.new.me.0.passes (E.edit edit) share tries number result.1 result.0 }
     ensures steps { seat_steps seat.new.me.0.passes ≤ seat_steps seat.old.me.0.passes + most_steps (CallOf (E.edit edit)) tries (shared_nodes layout.now) }
 {
     let key = edit.key();
@@ -77,9 +80,12 @@ fn in_words<K: WordKey, V: WordValue>(
 ) -> WordReply
     requires table { IsSeatAt words.now layout.now seat.old }
     requires ordered { KeepsLists (call_in run.old) }
-    requires begins { (c : Call) × (first : Run K V) × (c.layout ≡ layout.now) × (c.number ≡ number) × (first.run ≡ run.old) × SeatDictBegins K.is_valid K.word_of V.is_valid V.word_of c seat.old.me.0.passes first }
+    requires begins { (c : Call) × (first : Run K V) × (c.layout ≡ layout.now) × (c.number ≡ number) × (first.run ≡ run.old)
+        × SeatDictBegins K.is_valid K.word_of V.is_valid V.word_of c seat.old.me.0.passes first }
     ensures table { StaysAtTable seat.old seat.new }
-    ensures ends { (c : Call) (first : Run K V) → c.layout ≡ layout.now → c.number ≡ number → first.run ≡ run.old → SeatDictBegins K.is_valid K.word_of V.is_valid V.word_of c seat.old.me.0.passes first → SeatWordEnds K.is_valid K.word_of V.is_valid V.word_of c seat.new.me.0.passes first record first { run = run.new } result }
+    ensures ends { (c : Call) (first : Run K V) → c.layout ≡ layout.now → c.number ≡ number → first.run ≡ run.old
+        → SeatDictBegins K.is_valid K.word_of V.is_valid V.word_of c seat.old.me.0.passes first
+        → SeatWordEnds K.is_valid K.word_of V.is_valid V.word_of c seat.new.me.0.passes first record first { run = run.new } result }
     ensures steps { seat_steps seat.new.me.0.passes ≤ seat_steps seat.old.me.0.passes + map_left run.old (shared_nodes layout.now) }
     ensures nothing { ¬ AsksForPairs (call_in run.old) → seat.new ≡ seat.old }
 {
@@ -115,9 +121,12 @@ pub(crate) fn read<K: WordKey, V: WordValue>(
 ) -> Reply<K, V>
     requires table { IsSeatAt words.now layout.now seat.old }
     requires ordered { KeepsLists (call_in run.old.run) }
-    requires begins { (c : Call) × (c.layout ≡ layout.now) × (c.number ≡ number) × SeatDictBegins K.is_valid K.word_of V.is_valid V.word_of c seat.old.me.0.passes run.old }
+    requires begins { (c : Call) × (c.layout ≡ layout.now) × (c.number ≡ number)
+        × SeatDictBegins K.is_valid K.word_of V.is_valid V.word_of c seat.old.me.0.passes run.old }
     ensures table { StaysAtTable seat.old seat.new }
-    ensures ends { (c : Call) → c.layout ≡ layout.now → c.number ≡ number → SeatDictBegins K.is_valid K.word_of V.is_valid V.word_of c seat.old.me.0.passes run.old → SeatDictEnds K.is_valid K.word_of V.is_valid V.word_of c seat.new.me.0.passes run.old run.new result }
+    ensures ends { (c : Call) → c.layout ≡ layout.now → c.number ≡ number
+        → SeatDictBegins K.is_valid K.word_of V.is_valid V.word_of c seat.old.me.0.passes run.old
+        → SeatDictEnds K.is_valid K.word_of V.is_valid V.word_of c seat.new.me.0.passes run.old run.new result }
     ensures steps { seat_steps seat.new.me.0.passes ≤ seat_steps seat.old.me.0.passes + map_left run.old.run (shared_nodes layout.now) }
     ensures nothing { ¬ AsksForPairs (call_in run.old.run) → seat.new ≡ seat.old }
 {

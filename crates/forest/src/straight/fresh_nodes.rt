@@ -1,12 +1,11 @@
 //! Loads and fills of updates, of whatever machine updates.
-ghost use Rattle.std.specs.Prelude.{◌≡◌, ◌≤◌, ◌<◌, ◌+◌, suc};
+ghost use Rattle.std.specs.Prelude.{◌≡◌, ◌≤◌, ◌<◌, ◌+◌, suc, Ok};
 ghost use Rattle.arena.specs.Machines.{Call};
 ghost use Rattle.forest.specs.Seats.{IsSeatAt, StaysAtTable};
 ghost use Rattle.forest.specs.Traces.{Waits, Told, seat_steps, shared_nodes};
 ghost use Rattle.forest.specs.StraightUpdate.{Updater, UpdaterTries, UpdaterGoesOn};
 ghost use Rattle.forest.specs.CallKinds.{calls};
-ghost use Rattle.edits.specs.Next.{placed, left_then};
-ghost use Rattle.edits.specs.Steps.{update_left};
+ghost use Rattle.edits.specs.Next.{left_then};
 ghost use Rattle.edits.specs.declared.update.Next.{Next};
 
 use crate::straight::step::step;
@@ -30,11 +29,16 @@ pub(crate) fn load<S: Shape, M: Machine<S>, E: Edit + Copy>(
     part: NodeWord,
 ) -> Next
     requires table { IsSeatAt words.now layout.now seat.old }
-    requires tries { (u : Updater (calls S.Shape M.Machine layout.now number) E.means) × UpdaterTries u seat.old.me.0.passes run.old found.now (Next.Load nth part) }
+    requires tries { (u : Updater (calls S.Shape M.Machine layout.now number) E.means)
+        × UpdaterTries u seat.old.me.0.passes run.old found.now (Next.Load nth part) }
     ensures table { StaysAtTable seat.old seat.new }
-    ensures goes_on { (u : Updater (calls S.Shape M.Machine layout.now number) E.means) → UpdaterTries u seat.old.me.0.passes run.old found.now (Next.Load nth part) → UpdaterTries u seat.new.me.0.passes run.new found.now result }
-    ensures steps { seat_steps seat.new.me.0.passes + suc (update_left E.means (placed E.means run.new found.now result) (shared_nodes layout.now)) ≤ seat_steps seat.old.me.0.passes + suc (update_left E.means (placed E.means run.old found.now (Next.Load nth part)) (shared_nodes layout.now)) }
-    ensures nearer { suc (update_left E.means (placed E.means run.new found.now result) (shared_nodes layout.now)) < suc (update_left E.means (placed E.means run.old found.now (Next.Load nth part)) (shared_nodes layout.now)) }
+    ensures goes_on { (u : Updater (calls S.Shape M.Machine layout.now number) E.means)
+        → UpdaterTries u seat.old.me.0.passes run.old found.now (Next.Load nth part)
+        → UpdaterTries u seat.new.me.0.passes run.new found.now result }
+    ensures steps { seat_steps seat.new.me.0.passes + left_then E.means run.new found.now (Ok result) (shared_nodes layout.now)
+        ≤ seat_steps seat.old.me.0.passes + left_then E.means run.old found.now (Ok (Next.Load nth part)) (shared_nodes layout.now) }
+    ensures nearer { left_then E.means run.new found.now (Ok result) (shared_nodes layout.now)
+        < left_then E.means run.old found.now (Ok (Next.Load nth part)) (shared_nodes layout.now) }
 {
     let node = run.edit.copied(found, run.snaps.as_slice());
     let (kind, word) = (Kind::LoadSettled, Word::Node(node, part));
@@ -56,9 +60,12 @@ fn fill<S: Shape, M: Machine<S>>(
     value: u64,
 ) -> u64
     requires table { IsSeatAt words.now layout.now seat.old }
-    requires waits { (c : Call) × (first : M) × (m : M) × (c.layout ≡ layout.now) × (c.number ≡ number) × Waits S.allows M.waits M.same c seat.old.me.0.passes first m record { kind = Kind.Fill; word = Word.Node node part; access = Access.Store value } }
+    requires waits { (c : Call) × (first : M) × (m : M) × (c.layout ≡ layout.now) × (c.number ≡ number)
+        × Waits S.allows M.waits M.same c seat.old.me.0.passes first m record { kind = Kind.Fill; word = Word.Node node part; access = Access.Store value } }
     ensures table { StaysAtTable seat.old seat.new }
-    ensures told { (c : Call) (first m : M) → c.layout ≡ layout.now → c.number ≡ number → Waits S.allows M.waits M.same c seat.old.me.0.passes first m record { kind = Kind.Fill; word = Word.Node node part; access = Access.Store value } → Told S.allows M.waits M.same c seat.new.me.0.passes first M.ready m result }
+    ensures told { (c : Call) (first m : M) → c.layout ≡ layout.now → c.number ≡ number
+        → Waits S.allows M.waits M.same c seat.old.me.0.passes first m record { kind = Kind.Fill; word = Word.Node node part; access = Access.Store value }
+        → Told S.allows M.waits M.same c seat.new.me.0.passes first M.ready m result }
     ensures one { seat_steps seat.new.me.0.passes ≡ suc (seat_steps seat.old.me.0.passes) }
 {
     let (kind, word) = (Kind::Fill, Word::Node(node, part));
@@ -80,9 +87,13 @@ pub(crate) fn fill_node<S: Shape, M: Machine<S>, E: Edit + Copy>(
     requires table { IsSeatAt words.now layout.now seat.old }
     requires tries { (u : Updater (calls S.Shape M.Machine layout.now number) E.means) × UpdaterTries u seat.old.me.0.passes run.old found.now (Next.Fill nth) }
     ensures table { StaysAtTable seat.old seat.new }
-    ensures goes_on { (u : Updater (calls S.Shape M.Machine layout.now number) E.means) → UpdaterTries u seat.old.me.0.passes run.old found.now (Next.Fill nth) → UpdaterGoesOn u seat.new.me.0.passes run.new found.now result }
-    ensures steps { seat_steps seat.new.me.0.passes + left_then E.means run.new found.now result (shared_nodes layout.now) ≤ seat_steps seat.old.me.0.passes + suc (update_left E.means (placed E.means run.old found.now (Next.Fill nth)) (shared_nodes layout.now)) }
-    ensures nearer { left_then E.means run.new found.now result (shared_nodes layout.now) < suc (update_left E.means (placed E.means run.old found.now (Next.Fill nth)) (shared_nodes layout.now)) }
+    ensures goes_on { (u : Updater (calls S.Shape M.Machine layout.now number) E.means)
+        → UpdaterTries u seat.old.me.0.passes run.old found.now (Next.Fill nth)
+        → UpdaterGoesOn u seat.new.me.0.passes run.new found.now result }
+    ensures steps { seat_steps seat.new.me.0.passes + left_then E.means run.new found.now result (shared_nodes layout.now)
+        ≤ seat_steps seat.old.me.0.passes + left_then E.means run.old found.now (Ok (Next.Fill nth)) (shared_nodes layout.now) }
+    ensures nearer { left_then E.means run.new found.now result (shared_nodes layout.now)
+        < left_then E.means run.old found.now (Ok (Next.Fill nth)) (shared_nodes layout.now) }
 {
     let snaps = run.snaps.as_slice();
     let piece = run.edit.piece(found, snaps, &run.nodes, &run.loaded, nth);

@@ -33,10 +33,13 @@ fn act<S: Shape, M: Machine<S>, T: Shape>(
     access: Access,
 ) -> u64
     requires table { IsSeatAt words.now layout.now seat.old }
-    requires waits { (k : Helper T.allows (calls S.Shape M.Machine layout.now number)) × (m : HelpRun) × InnerWaits k seat.old.me.0.passes m record { kind = kind; word = word; access = access } }
+    requires waits { (k : Helper T.allows (calls S.Shape M.Machine layout.now number)) × (m : HelpRun)
+        × InnerWaits k seat.old.me.0.passes m record { kind = kind; word = word; access = access } }
     ensures table { StaysAtTable seat.old seat.new }
     ensures one { seat_steps seat.new.me.0.passes ≡ suc (seat_steps seat.old.me.0.passes) }
-    ensures told { (k : Helper T.allows (calls S.Shape M.Machine layout.now number)) (m : HelpRun) → InnerWaits k seat.old.me.0.passes m record { kind = kind; word = word; access = access } → InnerIsTold k seat.new.me.0.passes m result }
+    ensures told { (k : Helper T.allows (calls S.Shape M.Machine layout.now number)) (m : HelpRun)
+        → InnerWaits k seat.old.me.0.passes m record { kind = kind; word = word; access = access }
+        → InnerIsTold k seat.new.me.0.passes m result }
 {
     step::<S, M>(words, layout, seat, number, Step { kind, word, access })
 }
@@ -52,10 +55,13 @@ fn read<S: Shape, M: Machine<S>, T: Shape>(
     part: ScxWord,
 ) -> u64
     requires table { IsSeatAt words.now layout.now seat.old }
-    requires waits { (k : Helper T.allows (calls S.Shape M.Machine layout.now number)) × (m : HelpRun) × InnerWaits k seat.old.me.0.passes m (settled_load scx.0 part) }
+    requires waits { (k : Helper T.allows (calls S.Shape M.Machine layout.now number)) × (m : HelpRun)
+        × InnerWaits k seat.old.me.0.passes m (settled_load scx.0 part) }
     ensures table { StaysAtTable seat.old seat.new }
     ensures one { seat_steps seat.new.me.0.passes ≡ suc (seat_steps seat.old.me.0.passes) }
-    ensures told { (k : Helper T.allows (calls S.Shape M.Machine layout.now number)) (m : HelpRun) → InnerWaits k seat.old.me.0.passes m (settled_load scx.0 part) → InnerIsTold k seat.new.me.0.passes m result }
+    ensures told { (k : Helper T.allows (calls S.Shape M.Machine layout.now number)) (m : HelpRun)
+        → InnerWaits k seat.old.me.0.passes m (settled_load scx.0 part)
+        → InnerIsTold k seat.new.me.0.passes m result }
 {
     let (kind, word) = (Kind::LoadSettled, Word::Scx(scx, part));
     act::<S, M, T>(words, layout, seat, number, kind, word, Access::Load)
@@ -87,10 +93,13 @@ fn freeze<S: Shape, M: Machine<S>, T: Shape>(
     ensures steps { seat_steps seat.new.me.0.passes ≡ seat_steps seat.old.me.0.passes + 3 }
     ensures left { result ≡ false → help_left run.new.at ≤ 1 }
     ensures same { (run.new.scx ≡ run.old.scx) × (run.new.plan ≡ run.old.plan) }
-    ensures next { result ≡ true → (next : MemberIndex) → member_index next ≡ member_index j + 1 → member_index next < raw_count run.old.plan.0 → (k : Helper T.allows (calls S.Shape M.Machine layout.now number))
+    ensures next { result ≡ true → (next : MemberIndex) → member_index next ≡ member_index j + 1
+        → member_index next < raw_count run.old.plan.0
+        → (k : Helper T.allows (calls S.Shape M.Machine layout.now number))
         → LoadsMember k seat.old.me.0.passes run.old j
         → LoadsMember k seat.new.me.0.passes run.new next }
-    ensures last { result ≡ true → ((member_index j < 3) × (member_index j + 1 < raw_count run.old.plan.0) → ⊥) → (k : Helper T.allows (calls S.Shape M.Machine layout.now number))
+    ensures last { result ≡ true → ((member_index j < 3) × (member_index j + 1 < raw_count run.old.plan.0) → ⊥)
+        → (k : Helper T.allows (calls S.Shape M.Machine layout.now number))
         → LoadsMember k seat.old.me.0.passes run.old j
         → SetsFlag k seat.new.me.0.passes run.new }
     ensures blocked { result ≡ false → (k : Helper T.allows (calls S.Shape M.Machine layout.now number))
@@ -175,7 +184,9 @@ fn mark<S: Shape, M: Machine<S>, T: Shape>(
     requires marks { (k : Helper T.allows (calls S.Shape M.Machine layout.now number)) × HelperMarks k seat.old.me.0.passes run.now (member_index j) }
     ensures table { StaysAtTable seat.old seat.new }
     ensures steps { seat_steps seat.new.me.0.passes ≤ seat_steps seat.old.me.0.passes + 1 }
-    ensures marked { (k : Helper T.allows (calls S.Shape M.Machine layout.now number)) → HelperMarks k seat.old.me.0.passes run.now (member_index j) → HelperMarks k seat.new.me.0.passes run.now (member_index j + 1) }
+    ensures marked { (k : Helper T.allows (calls S.Shape M.Machine layout.now number))
+        → HelperMarks k seat.old.me.0.passes run.now (member_index j)
+        → HelperMarks k seat.new.me.0.passes run.now (member_index j + 1) }
 {
     if run.plan.finalizes(j) {
         let marked = Word::Node(run.members[j.index()], NodeWord::Marked);
@@ -223,8 +234,12 @@ pub(crate) fn call<S: Shape, M: Machine<S>, T: Shape>(
     ensures steps { seat_steps seat.new.me.0.passes ≤ seat_steps seat.old.me.0.passes + 22 }
     ensures same { run.new.scx ≡ run.old.scx }
     ensures left { result ≡ false → seat_steps seat.new.me.0.passes + suc (help_left run.new.at) ≤ seat_steps seat.old.me.0.passes + 22 }
-    ensures commits { result ≡ true → (k : Helper T.allows (calls S.Shape M.Machine layout.now number)) → LoadsPlan k seat.old.me.0.passes run.old → (v : ℕ) × InnerIsTold k seat.new.me.0.passes (record run.new { at = HelpAt.Commit }) v }
-    ensures blocked { result ≡ false → (k : Helper T.allows (calls S.Shape M.Machine layout.now number)) → LoadsPlan k seat.old.me.0.passes run.old → LoadsFlag k seat.new.me.0.passes run.new }
+    ensures commits { result ≡ true → (k : Helper T.allows (calls S.Shape M.Machine layout.now number))
+        → LoadsPlan k seat.old.me.0.passes run.old
+        → (v : ℕ) × InnerIsTold k seat.new.me.0.passes (record run.new { at = HelpAt.Commit }) v }
+    ensures blocked { result ≡ false → (k : Helper T.allows (calls S.Shape M.Machine layout.now number))
+        → LoadsPlan k seat.old.me.0.passes run.old
+        → LoadsFlag k seat.new.me.0.passes run.new }
 {
     let scx = run.scx;
     let word = read::<S, M, T>(words, layout, seat, number, scx, ScxWord::Plan);

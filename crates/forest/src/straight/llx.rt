@@ -53,7 +53,9 @@ fn read<S: Shape, M: Machine<S>, T: Shape>(
     requires waits { (k : Looker T.allows (calls S.Shape M.Machine layout.now number)) × (m : LlxRun) × InnerWaits k seat.old.me.0.passes m (load kind word) }
     ensures table { StaysAtTable seat.old seat.new }
     ensures one { seat_steps seat.new.me.0.passes ≡ suc (seat_steps seat.old.me.0.passes) }
-    ensures told { (k : Looker T.allows (calls S.Shape M.Machine layout.now number)) (m : LlxRun) → InnerWaits k seat.old.me.0.passes m (load kind word) → InnerIsTold k seat.new.me.0.passes m result }
+    ensures told { (k : Looker T.allows (calls S.Shape M.Machine layout.now number)) (m : LlxRun)
+        → InnerWaits k seat.old.me.0.passes m (load kind word)
+        → InnerIsTold k seat.new.me.0.passes m result }
 {
     let access = Access::Load;
     step::<S, M>(words, layout, seat, number, Step { kind, word, access })
@@ -73,8 +75,12 @@ pub(crate) fn look<S: Shape, M: Machine<S>, T: Shape>(
     requires waits { (k : Looker T.allows (calls S.Shape M.Machine layout.now number)) × LoadsMark k seat.old.me.0.passes node }
     ensures table { StaysAtTable seat.old seat.new }
     ensures steps { seat_steps seat.new.me.0.passes ≤ seat_steps seat.old.me.0.passes + 7 }
-    ensures snaps { IfOk result (λ snap. (k : Looker T.allows (calls S.Shape M.Machine layout.now number)) → LoadsMark k seat.old.me.0.passes node → LookerSnaps k seat.new.me.0.passes node snap) }
-    ensures waits { IfErr result (λ t. (k : Looker T.allows (calls S.Shape M.Machine layout.now number)) → LoadsMark k seat.old.me.0.passes node → LoadsStateAgain k seat.new.me.0.passes node t.0 t.1) }
+    ensures snaps { IfOk result (λ snap. (k : Looker T.allows (calls S.Shape M.Machine layout.now number))
+        → LoadsMark k seat.old.me.0.passes node
+        → LookerSnaps k seat.new.me.0.passes node snap) }
+    ensures waits { IfErr result (λ t. (k : Looker T.allows (calls S.Shape M.Machine layout.now number))
+        → LoadsMark k seat.old.me.0.passes node
+        → LoadsStateAgain k seat.new.me.0.passes node t.0 t.1) }
 {
     let mark = Word::Node(node, NodeWord::Marked);
     let info = Word::Node(node, NodeWord::Info);
@@ -117,15 +123,18 @@ fn hand_over<S: Shape>(
     scx: ScxNo,
 ) -> Llx
     requires table { IsSeatAt words.now layout.now seat.old }
-    requires waits { (c : Call) × (c.layout ≡ layout.now) × (c.number ≡ number) × SeatLlxWaits S.allows c seat.old.me.0.passes node (LlxAt.StateAgain marked scx) (load Kind.LoadState (Word.Scx scx ScxWord.State)) }
+    requires waits { (c : Call) × (c.layout ≡ layout.now) × (c.number ≡ number)
+        × SeatLlxWaits S.allows c seat.old.me.0.passes node (LlxAt.StateAgain marked scx) (load Kind.LoadState (Word.Scx scx ScxWord.State)) }
     ensures table { StaysAtTable seat.old seat.new }
-    ensures ends { (c : Call) → c.layout ≡ layout.now → c.number ≡ number → SeatLlxWaits S.allows c seat.old.me.0.passes node (LlxAt.StateAgain marked scx) (load Kind.LoadState (Word.Scx scx ScxWord.State)) → SeatLlxEnds S.allows c seat.new.me.0.passes node result }
+    ensures ends { (c : Call) → c.layout ≡ layout.now → c.number ≡ number
+        → SeatLlxWaits S.allows c seat.old.me.0.passes node (LlxAt.StateAgain marked scx) (load Kind.LoadState (Word.Scx scx ScxWord.State))
+        → SeatLlxEnds S.allows c seat.new.me.0.passes node result }
     ensures steps { seat_steps seat.new.me.0.passes ≤ seat_steps seat.old.me.0.passes + suc (llx_left (LlxAt.StateAgain marked scx)) }
 {
     let at = LlxAt::StateAgain { marked, scx };
     let turn = Turn::Ask(load(Kind::LoadState, Word::Scx(scx, ScxWord::State)));
     let mut run = LlxRun { node, at };
-    complete(words, layout, seat, number, &mut run, turn)
+    complete::<S, LlxRun, S, LlxRun>(words, layout, seat, number, &mut run, turn)
 }
 
 /// LLX of a node: the loads of a snapshot; where something is in the way, the machine goes on.
@@ -140,7 +149,9 @@ pub(crate) fn call<S: Shape>(
     requires table { IsSeatAt words.now layout.now seat.old }
     requires begins { (c : Call) × (c.layout ≡ layout.now) × (c.number ≡ number) × SeatLlxBegins S.allows c seat.old.me.0.passes node }
     ensures table { StaysAtTable seat.old seat.new }
-    ensures ends { (c : Call) → c.layout ≡ layout.now → c.number ≡ number → SeatLlxBegins S.allows c seat.old.me.0.passes node → SeatLlxEnds S.allows c seat.new.me.0.passes node result }
+    ensures ends { (c : Call) → c.layout ≡ layout.now → c.number ≡ number
+        → SeatLlxBegins S.allows c seat.old.me.0.passes node
+        → SeatLlxEnds S.allows c seat.new.me.0.passes node result }
     ensures steps { seat_steps seat.new.me.0.passes ≤ seat_steps seat.old.me.0.passes + 64 }
 {
     match look::<S, LlxRun, S>(words, layout, seat, number, node) {

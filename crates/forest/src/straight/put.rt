@@ -68,10 +68,14 @@ fn fill_value<S: Shape>(
 )
     requires table { IsSeatAt words.now layout.now seat.old }
     requires fits { length snaps.now ≤ 4 }
-    requires begins { (c : Call) × (c.layout ≡ layout.now) × (c.number ≡ number) × SeatPutBegins S.allows c seat.old.me.0.passes (fresh_put snaps.now put number) }
+    requires begins { (c : Call) × (c.layout ≡ layout.now) × (c.number ≡ number)
+        × SeatPutBegins S.allows c seat.old.me.0.passes (fresh_put snaps.now put number) }
     ensures table { StaysAtTable seat.old seat.new }
     ensures one { seat_steps seat.new.me.0.passes ≡ suc (seat_steps seat.old.me.0.passes) }
-    ensures waits { (c : Call) → c.layout ≡ layout.now → c.number ≡ number → SeatPutBegins S.allows c seat.old.me.0.passes (fresh_put snaps.now put number) → SeatPutWaits S.allows c seat.new.me.0.passes (fresh_put snaps.now put number) (scx_at (fresh_put snaps.now put number) ScxAt.Plan) (scx_fill put.scx ScxWord.Plan put.plan.0) }
+    ensures waits { (c : Call) → c.layout ≡ layout.now → c.number ≡ number
+        → SeatPutBegins S.allows c seat.old.me.0.passes (fresh_put snaps.now put number)
+        → SeatPutWaits S.allows c seat.new.me.0.passes (fresh_put snaps.now put number)
+        (scx_at (fresh_put snaps.now put number) ScxAt.Plan) (scx_fill put.scx ScxWord.Plan put.plan.0) }
 {
     let asked = Step {
         kind: Kind::Fill,
@@ -92,17 +96,20 @@ fn complete_blocked<S: Shape>(
     mut run: PutRun,
 ) -> Scx
     requires table { IsSeatAt words.now layout seat.old }
-    requires waits { (c : Call) × (first : PutRun) × (c.layout ≡ layout) × (c.number ≡ number) × SeatPutWaits S.allows c seat.old.me.0.passes first run (all_frozen_load run.scx.scx) }
+    requires waits { (c : Call) × (first : PutRun) × (c.layout ≡ layout) × (c.number ≡ number)
+        × SeatPutWaits S.allows c seat.old.me.0.passes first run (all_frozen_load run.scx.scx) }
     ensures table { StaysAtTable seat.old seat.new }
     ensures steps { seat_steps seat.new.me.0.passes ≤ seat_steps seat.old.me.0.passes + suc (put_left run) }
-    ensures ends { (c : Call) (first : PutRun) → c.layout ≡ layout → c.number ≡ number → SeatPutWaits S.allows c seat.old.me.0.passes first run (all_frozen_load run.scx.scx) → (m : PutRun) × SeatPutEnds S.allows c seat.new.me.0.passes first m result }
+    ensures ends { (c : Call) (first : PutRun) → c.layout ≡ layout → c.number ≡ number
+        → SeatPutWaits S.allows c seat.old.me.0.passes first run (all_frozen_load run.scx.scx)
+        → (m : PutRun) × SeatPutEnds S.allows c seat.new.me.0.passes first m result }
 {
     let step = Step {
         kind: Kind::LoadAllFrozen,
         word: Word::Scx(run.scx.scx, ScxWord::AllFrozen),
         access: Access::Load,
     };
-    complete::<S, PutRun>(words, &layout, seat, number, &mut run, Turn::Ask(step))
+    complete::<S, PutRun, S, PutRun>(words, &layout, seat, number, &mut run, Turn::Ask(step))
 }
 
 /// SCX of an update by this SCX-record, whose fresh cell gets the value.
@@ -117,10 +124,13 @@ pub(crate) fn call<S: Shape>(
 ) -> Scx
     requires table { IsSeatAt words.now layout.now seat.old }
     requires fits { length snaps.now ≤ 4 }
-    requires begins { (c : Call) × (c.layout ≡ layout.now) × (c.number ≡ number) × SeatPutBegins S.allows c seat.old.me.0.passes (fresh_put snaps.now put number) }
+    requires begins { (c : Call) × (c.layout ≡ layout.now) × (c.number ≡ number)
+        × SeatPutBegins S.allows c seat.old.me.0.passes (fresh_put snaps.now put number) }
     ensures table { StaysAtTable seat.old seat.new }
     ensures steps { seat_steps seat.new.me.0.passes ≤ seat_steps seat.old.me.0.passes + 40 }
-    ensures ends { (c : Call) → c.layout ≡ layout.now → c.number ≡ number → SeatPutBegins S.allows c seat.old.me.0.passes (fresh_put snaps.now put number) → (m : PutRun) × SeatPutEnds S.allows c seat.new.me.0.passes (fresh_put snaps.now put number) m result }
+    ensures ends { (c : Call) → c.layout ≡ layout.now → c.number ≡ number
+        → SeatPutBegins S.allows c seat.old.me.0.passes (fresh_put snaps.now put number)
+        → (m : PutRun) × SeatPutEnds S.allows c seat.new.me.0.passes (fresh_put snaps.now put number) m result }
 {
     fill_value(words, layout, seat, number, snaps, put);
     let change = Change {

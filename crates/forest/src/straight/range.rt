@@ -1,19 +1,19 @@
 //! Ranges, of whatever machine makes one: the first try in line, as long as nothing is in its
 //! way. Where something is, or has come between, the machine of the range goes on from there;
 //! until then its place is left as it was.
-ghost use Rattle.std.specs.Prelude.{◌≡◌, ◌≤◌, ◌<◌, ◌+◌, suc};
+ghost use Rattle.std.specs.Prelude.{◌≡◌, ◌≤◌, ◌<◌, ◌+◌, suc, Ok};
 ghost use Rattle.forest.specs.StraightReads.{RangeReader, VisitBegins, VisitEnds, VisitGoesOn, VisitRoots, VisitWaits, visit_left};
 ghost use Rattle.forest.specs.Seats.{IsSeatAt, StaysAtTable};
 ghost use Rattle.forest.specs.Traces.{seat_steps, shared_nodes};
 ghost use Rattle.forest.specs.CallKinds.{calls};
 ghost use Rattle.order.specs.Range.Known.{AsksForSome};
-ghost use Rattle.order.specs.Range.Next.{range_placed};
 ghost use Rattle.order.specs.Range.Steps.{range_left};
 ghost use Rattle.order.specs.declared.range.RangeAt.{RangeAt};
 ghost use Rattle.order.specs.declared.range.RangeNext.{RangeNext};
 
+use crate::steps::complete;
 use crate::straight::llx::{load, look};
-use crate::straight::ordered_read::{finish, read, tell};
+use crate::straight::ordered_read::{read, tell};
 use crate::straight::vlx::validate;
 use crate::view::SeatView;
 use crate::words::Words;
@@ -42,11 +42,16 @@ fn look_on<S: Shape, M: Machine<S>>(
     node: NodeNo,
 ) -> Result<RangeNext, Told>
     requires table { IsSeatAt words.now layout.now seat.old }
-    requires waits { (r : RangeReader (calls S.Shape M.Machine layout.now number)) × VisitWaits r seat.old.me.0.passes run.old (RangeNext.Look level left right node) }
+    requires waits { (r : RangeReader (calls S.Shape M.Machine layout.now number))
+        × VisitWaits r seat.old.me.0.passes run.old (RangeNext.Look level left right node) }
     ensures table { StaysAtTable seat.old seat.new }
-    ensures goes_on { (r : RangeReader (calls S.Shape M.Machine layout.now number)) → VisitWaits r seat.old.me.0.passes run.old (RangeNext.Look level left right node) → VisitGoesOn r seat.new.me.0.passes run.new result }
-    ensures steps { seat_steps seat.new.me.0.passes + visit_left (shared_nodes layout.now) run.new result ≤ seat_steps seat.old.me.0.passes + suc (range_left (range_placed run.old (RangeNext.Look level left right node)) (shared_nodes layout.now)) }
-    ensures nearer { visit_left (shared_nodes layout.now) run.new result < suc (range_left (range_placed run.old (RangeNext.Look level left right node)) (shared_nodes layout.now)) }
+    ensures goes_on { (r : RangeReader (calls S.Shape M.Machine layout.now number))
+        → VisitWaits r seat.old.me.0.passes run.old (RangeNext.Look level left right node)
+        → VisitGoesOn r seat.new.me.0.passes run.new result }
+    ensures steps { seat_steps seat.new.me.0.passes + visit_left (shared_nodes layout.now) run.new result
+        ≤ seat_steps seat.old.me.0.passes + visit_left (shared_nodes layout.now) run.old (Ok (RangeNext.Look level left right node)) }
+    ensures nearer { visit_left (shared_nodes layout.now) run.new result
+        < visit_left (shared_nodes layout.now) run.old (Ok (RangeNext.Look level left right node)) }
 {
     match look::<S, M, Tree>(words, layout, seat, number, node) {
         Ok(snap) => match run.looked(level, left, right, snap) {
@@ -63,7 +68,7 @@ fn look_on<S: Shape, M: Machine<S>>(
                 llx,
             };
             let turn = Turn::Ask(load(Kind::LoadState, Word::Scx(scx, ScxWord::State)));
-            Err(finish::<S, M, RangeRun>(words, layout, seat, number, run, turn))
+            Err(complete::<S, M, Tree, RangeRun>(words, layout, seat, number, run, turn))
         }
     }
 }
@@ -81,13 +86,15 @@ fn validate_on<S: Shape, M: Machine<S>>(
     requires table { IsSeatAt words.now layout.now seat.old }
     requires waits { (r : RangeReader (calls S.Shape M.Machine layout.now number)) × VisitWaits r seat.old.me.0.passes run.old RangeNext.Validate }
     ensures table { StaysAtTable seat.old seat.new }
-    ensures ends { (r : RangeReader (calls S.Shape M.Machine layout.now number)) → VisitWaits r seat.old.me.0.passes run.old RangeNext.Validate → VisitEnds r seat.new.me.0.passes run.new result }
-    ensures steps { seat_steps seat.new.me.0.passes ≤ seat_steps seat.old.me.0.passes + suc (range_left (range_placed run.old RangeNext.Validate) (shared_nodes layout.now)) }
+    ensures ends { (r : RangeReader (calls S.Shape M.Machine layout.now number))
+        → VisitWaits r seat.old.me.0.passes run.old RangeNext.Validate
+        → VisitEnds r seat.new.me.0.passes run.new result }
+    ensures steps { seat_steps seat.new.me.0.passes ≤ seat_steps seat.old.me.0.passes + visit_left (shared_nodes layout.now) run.old (Ok RangeNext.Validate) }
 {
     let snaps = run.snaps.as_slice();
     let (asked, told) = validate::<S, M, &[Snap]>(words, layout, seat, number, snaps);
     run.at = RangeAt::Validate { asked };
-    tell::<S, M, RangeRun>(words, layout, seat, number, run, told)
+    tell::<S, M, Tree, RangeRun>(words, layout, seat, number, run, told)
 }
 
 /// Does what comes next, and tells what comes behind that, or what the range has answered.
@@ -103,24 +110,27 @@ fn visit_on<S: Shape, M: Machine<S>>(
     requires table { IsSeatAt words.now layout.now seat.old }
     requires waits { (r : RangeReader (calls S.Shape M.Machine layout.now number)) × VisitWaits r seat.old.me.0.passes run.old next }
     ensures table { StaysAtTable seat.old seat.new }
-    ensures goes_on { (r : RangeReader (calls S.Shape M.Machine layout.now number)) → VisitWaits r seat.old.me.0.passes run.old next → VisitGoesOn r seat.new.me.0.passes run.new result }
-    ensures steps { seat_steps seat.new.me.0.passes + visit_left (shared_nodes layout.now) run.new result ≤ seat_steps seat.old.me.0.passes + suc (range_left (range_placed run.old next) (shared_nodes layout.now)) }
-    ensures nearer { visit_left (shared_nodes layout.now) run.new result < suc (range_left (range_placed run.old next) (shared_nodes layout.now)) }
+    ensures goes_on { (r : RangeReader (calls S.Shape M.Machine layout.now number))
+        → VisitWaits r seat.old.me.0.passes run.old next
+        → VisitGoesOn r seat.new.me.0.passes run.new result }
+    ensures steps { seat_steps seat.new.me.0.passes + visit_left (shared_nodes layout.now) run.new result
+        ≤ seat_steps seat.old.me.0.passes + visit_left (shared_nodes layout.now) run.old (Ok next) }
+    ensures nearer { visit_left (shared_nodes layout.now) run.new result < visit_left (shared_nodes layout.now) run.old (Ok next) }
 {
     match next {
         RangeNext::Head { above: _, node } => {
             let part = NodeWord::Head;
-            let word = read::<S, M, RangeRun>(words, layout, seat, number, node, part);
+            let word = read::<S, M, Tree, RangeRun>(words, layout, seat, number, node, part);
             Ok(run.head_on(Head::of(word), node))
         }
         RangeNext::Key { head, node } => {
             let part = NodeWord::Key;
-            let key = read::<S, M, RangeRun>(words, layout, seat, number, node, part);
+            let key = read::<S, M, Tree, RangeRun>(words, layout, seat, number, node, part);
             Ok(run.key_on(head, node, key))
         }
         RangeNext::Value { key, node } => {
             let part = NodeWord::Value;
-            let value = read::<S, M, RangeRun>(words, layout, seat, number, node, part);
+            let value = read::<S, M, Tree, RangeRun>(words, layout, seat, number, node, part);
             match run.value_on(Pair { key, value }) {
                 Ok(next) => Ok(next),
                 Err(refused) => Err(Err(refused)),
@@ -149,11 +159,13 @@ fn visit<S: Shape, M: Machine<S>>(
     requires root { run.old.at ≡ RangeAt.Root }
     requires waits { (r : RangeReader (calls S.Shape M.Machine layout.now number)) × VisitRoots r seat.old.me.0.passes run.old }
     ensures table { StaysAtTable seat.old seat.new }
-    ensures ends { (r : RangeReader (calls S.Shape M.Machine layout.now number)) → VisitRoots r seat.old.me.0.passes run.old → VisitEnds r seat.new.me.0.passes run.new result }
+    ensures ends { (r : RangeReader (calls S.Shape M.Machine layout.now number))
+        → VisitRoots r seat.old.me.0.passes run.old
+        → VisitEnds r seat.new.me.0.passes run.new result }
     ensures steps { seat_steps seat.new.me.0.passes ≤ seat_steps seat.old.me.0.passes + suc (range_left run.old (shared_nodes layout.now)) }
 {
     let root = NodeNo(0);
-    let word = read::<S, M, RangeRun>(words, layout, seat, number, root, NodeWord::Head);
+    let word = read::<S, M, Tree, RangeRun>(words, layout, seat, number, root, NodeWord::Head);
     let mut next = run.head_on(Head::of(word), root);
     loop {
         match visit_on::<S, M>(words, layout, seat, number, run, next) {
@@ -174,7 +186,9 @@ pub(crate) fn call<S: Shape, M: Machine<S>>(
     requires table { IsSeatAt words.now layout.now seat.old }
     requires begins { (r : RangeReader (calls S.Shape M.Machine layout.now number)) × VisitBegins r seat.old.me.0.passes run.old }
     ensures table { StaysAtTable seat.old seat.new }
-    ensures ends { (r : RangeReader (calls S.Shape M.Machine layout.now number)) → VisitBegins r seat.old.me.0.passes run.old → VisitEnds r seat.new.me.0.passes run.new result }
+    ensures ends { (r : RangeReader (calls S.Shape M.Machine layout.now number))
+        → VisitBegins r seat.old.me.0.passes run.old
+        → VisitEnds r seat.new.me.0.passes run.new result }
     ensures steps { seat_steps seat.new.me.0.passes ≤ seat_steps seat.old.me.0.passes + range_left run.old (shared_nodes layout.now) }
     ensures nothing { ¬ AsksForSome run.old → seat.new ≡ seat.old }
 {

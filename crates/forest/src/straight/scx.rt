@@ -45,10 +45,13 @@ fn fill<S: Shape, M: Machine<S>, T: Shape>(
     value: u64,
 ) -> u64
     requires table { IsSeatAt words.now layout.now seat.old }
-    requires waits { (k : Changer T.allows (calls S.Shape M.Machine layout.now number)) × (m : ScxRun) × InnerWaits k seat.old.me.0.passes m (scx_fill scx part value) }
+    requires waits { (k : Changer T.allows (calls S.Shape M.Machine layout.now number)) × (m : ScxRun)
+        × InnerWaits k seat.old.me.0.passes m (scx_fill scx part value) }
     ensures table { StaysAtTable seat.old seat.new }
     ensures one { seat_steps seat.new.me.0.passes ≡ suc (seat_steps seat.old.me.0.passes) }
-    ensures told { (k : Changer T.allows (calls S.Shape M.Machine layout.now number)) (m : ScxRun) → InnerWaits k seat.old.me.0.passes m (scx_fill scx part value) → InnerIsTold k seat.new.me.0.passes m result }
+    ensures told { (k : Changer T.allows (calls S.Shape M.Machine layout.now number)) (m : ScxRun)
+        → InnerWaits k seat.old.me.0.passes m (scx_fill scx part value)
+        → InnerIsTold k seat.new.me.0.passes m result }
 {
     let (kind, word) = (Kind::Fill, Word::Scx(scx, part));
     let access = Access::Store(value);
@@ -71,8 +74,12 @@ fn fill_member<S: Shape, M: Machine<S>, T: Shape, L: SnapList>(
     ensures table { StaysAtTable seat.old seat.new }
     ensures one { seat_steps seat.new.me.0.passes ≡ suc (seat_steps seat.old.me.0.passes) }
     ensures behind { IfSome result (λ next. (member_index next ≡ member_index j + 1) × (member_index next < 4)) }
-    ensures next { IfSome result (λ next. (k : Changer T.allows (calls S.Shape M.Machine layout.now number)) → FillsMember k seat.old.me.0.passes (L.list snaps.now) change j → FillsMember k seat.new.me.0.passes (L.list snaps.now) change next) }
-    ensures last { IfNone result ((k : Changer T.allows (calls S.Shape M.Machine layout.now number)) → FillsMember k seat.old.me.0.passes (L.list snaps.now) change j → FillsSeen k seat.new.me.0.passes (L.list snaps.now) change MemberIndex.First) }
+    ensures next { IfSome result (λ next. (k : Changer T.allows (calls S.Shape M.Machine layout.now number))
+        → FillsMember k seat.old.me.0.passes (L.list snaps.now) change j
+        → FillsMember k seat.new.me.0.passes (L.list snaps.now) change next) }
+    ensures last { IfNone result ((k : Changer T.allows (calls S.Shape M.Machine layout.now number))
+        → FillsMember k seat.old.me.0.passes (L.list snaps.now) change j
+        → FillsSeen k seat.new.me.0.passes (L.list snaps.now) change MemberIndex.First) }
 {
     let part = ScxWord::Member(j.number());
     let wanted = snaps.get(j.index()).node.0;
@@ -91,7 +98,8 @@ fn fill_members<S: Shape, M: Machine<S>, T: Shape, L: SnapList>(
     change: Change,
 )
     requires table { IsSeatAt words.now layout.now seat.old }
-    requires waits { (k : Changer T.allows (calls S.Shape M.Machine layout.now number)) × FillsMember k seat.old.me.0.passes (L.list snaps.now) change MemberIndex.First }
+    requires waits { (k : Changer T.allows (calls S.Shape M.Machine layout.now number))
+        × FillsMember k seat.old.me.0.passes (L.list snaps.now) change MemberIndex.First }
     ensures table { StaysAtTable seat.old seat.new }
     ensures steps { seat_steps seat.new.me.0.passes ≤ seat_steps seat.old.me.0.passes + 4 }
     ensures waits { (k : Changer T.allows (calls S.Shape M.Machine layout.now number))
@@ -130,8 +138,12 @@ fn fill_seen<S: Shape, M: Machine<S>, T: Shape, L: SnapList>(
     ensures table { StaysAtTable seat.old seat.new }
     ensures one { seat_steps seat.new.me.0.passes ≡ suc (seat_steps seat.old.me.0.passes) }
     ensures behind { IfSome result (λ next. (member_index next ≡ member_index j + 1) × (member_index next < 4)) }
-    ensures next { IfSome result (λ next. (k : Changer T.allows (calls S.Shape M.Machine layout.now number)) → FillsSeen k seat.old.me.0.passes (L.list snaps.now) change j → FillsSeen k seat.new.me.0.passes (L.list snaps.now) change next) }
-    ensures last { IfNone result ((k : Changer T.allows (calls S.Shape M.Machine layout.now number)) → FillsSeen k seat.old.me.0.passes (L.list snaps.now) change j → FillsCall k seat.new.me.0.passes (L.list snaps.now) change) }
+    ensures next { IfSome result (λ next. (k : Changer T.allows (calls S.Shape M.Machine layout.now number))
+        → FillsSeen k seat.old.me.0.passes (L.list snaps.now) change j
+        → FillsSeen k seat.new.me.0.passes (L.list snaps.now) change next) }
+    ensures last { IfNone result ((k : Changer T.allows (calls S.Shape M.Machine layout.now number))
+        → FillsSeen k seat.old.me.0.passes (L.list snaps.now) change j
+        → FillsCall k seat.new.me.0.passes (L.list snaps.now) change) }
 {
     let part = ScxWord::Seen(j.number());
     let wanted = snaps.get(j.index()).scx.0;
@@ -150,7 +162,8 @@ fn fill_infos<S: Shape, M: Machine<S>, T: Shape, L: SnapList>(
     change: Change,
 )
     requires table { IsSeatAt words.now layout.now seat.old }
-    requires waits { (k : Changer T.allows (calls S.Shape M.Machine layout.now number)) × FillsSeen k seat.old.me.0.passes (L.list snaps.now) change MemberIndex.First }
+    requires waits { (k : Changer T.allows (calls S.Shape M.Machine layout.now number))
+        × FillsSeen k seat.old.me.0.passes (L.list snaps.now) change MemberIndex.First }
     ensures table { StaysAtTable seat.old seat.new }
     ensures steps { seat_steps seat.new.me.0.passes ≤ seat_steps seat.old.me.0.passes + 4 }
     ensures waits { (k : Changer T.allows (calls S.Shape M.Machine layout.now number))
@@ -235,8 +248,12 @@ pub(crate) fn call<S: Shape, M: Machine<S>, T: Shape, L: SnapList>(
     ensures table { StaysAtTable seat.old seat.new }
     ensures steps { seat_steps seat.new.me.0.passes ≤ seat_steps seat.old.me.0.passes + 34 }
     ensures left { result ≡ false → seat_steps seat.new.me.0.passes + suc (help_left help.new.at) ≤ seat_steps seat.old.me.0.passes + 34 }
-    ensures commits { result ≡ true → (k : Changer T.allows (calls S.Shape M.Machine layout.now number)) → FillsPlan k seat.old.me.0.passes (L.list snaps.now) change → (v : ℕ) × InnerIsTold k seat.new.me.0.passes (changing_at (L.list snaps.now) change (ScxAt.Help (record help.new { at = HelpAt.Commit }))) v }
-    ensures blocked { result ≡ false → (k : Changer T.allows (calls S.Shape M.Machine layout.now number)) → FillsPlan k seat.old.me.0.passes (L.list snaps.now) change → InnerWaits k seat.new.me.0.passes (changing_at (L.list snaps.now) change (ScxAt.Help help.new)) (all_frozen_load change.scx) }
+    ensures commits { result ≡ true → (k : Changer T.allows (calls S.Shape M.Machine layout.now number))
+        → FillsPlan k seat.old.me.0.passes (L.list snaps.now) change
+        → (v : ℕ) × InnerIsTold k seat.new.me.0.passes (changing_at (L.list snaps.now) change (ScxAt.Help (record help.new { at = HelpAt.Commit }))) v }
+    ensures blocked { result ≡ false → (k : Changer T.allows (calls S.Shape M.Machine layout.now number))
+        → FillsPlan k seat.old.me.0.passes (L.list snaps.now) change
+        → InnerWaits k seat.new.me.0.passes (changing_at (L.list snaps.now) change (ScxAt.Help help.new)) (all_frozen_load change.scx) }
 {
     let layout = *layout;
     fill_all::<S, M, T, L>(words, &layout, seat, number, snaps, change);

@@ -23,9 +23,12 @@ pub(crate) fn step<S: Shape, M: Machine<S>>(
     step: Step,
 ) -> u64
     requires table { IsSeatAt words.now layout.now seat.old }
-    requires waits { (c : Call) × (first : M) × (m : M) × (c.layout ≡ layout.now) × (c.number ≡ number) × Waits S.allows M.waits M.same c seat.old.me.0.passes first m step }
+    requires waits { (c : Call) × (first : M) × (m : M) × (c.layout ≡ layout.now) × (c.number ≡ number)
+        × Waits S.allows M.waits M.same c seat.old.me.0.passes first m step }
     ensures table { StaysAtTable seat.old seat.new }
-    ensures told { (c : Call) (first m : M) → c.layout ≡ layout.now → c.number ≡ number → Waits S.allows M.waits M.same c seat.old.me.0.passes first m step → Told S.allows M.waits M.same c seat.new.me.0.passes first M.ready m result }
+    ensures told { (c : Call) (first m : M) → c.layout ≡ layout.now → c.number ≡ number
+        → Waits S.allows M.waits M.same c seat.old.me.0.passes first m step
+        → Told S.allows M.waits M.same c seat.new.me.0.passes first M.ready m result }
     ensures one { seat_steps seat.new.me.0.passes ≡ suc (seat_steps seat.old.me.0.passes) }
     ensures row { (p : SeatedPass) × (seat.old.me.0.passes ≡ p ∷ []) × IsStepBehind p.known (known_of seat.new.me.0.passes) p.number.0 number step.kind }
 {

@@ -1,17 +1,17 @@
 //! Successors, of whatever machine makes one: the first try in line, as long as nothing is in its
 //! way. Where something is, or has come between, the machine of the successor goes on from there;
 //! until then its place is left as it was.
-ghost use Rattle.std.specs.Prelude.{◌≡◌, ◌≤◌, ◌<◌, ◌+◌, suc};
+ghost use Rattle.std.specs.Prelude.{◌≡◌, ◌≤◌, ◌<◌, ◌+◌, suc, Ok};
 ghost use Rattle.forest.specs.StraightReads.{SuccessorReader, SearchBegins, SearchEnds, SearchGoesOn, SearchWaits, search_left};
 ghost use Rattle.forest.specs.Seats.{IsSeatAt, StaysAtTable};
 ghost use Rattle.forest.specs.Traces.{seat_steps, shared_nodes};
 ghost use Rattle.forest.specs.CallKinds.{calls};
-ghost use Rattle.order.specs.Successor.Next.{successor_placed};
 ghost use Rattle.order.specs.Successor.Steps.{successor_left};
 ghost use Rattle.order.specs.declared.successor.SuccessorNext.{SuccessorNext};
 
+use crate::steps::complete;
 use crate::straight::llx::{load, look};
-use crate::straight::ordered_read::{finish, read, tell};
+use crate::straight::ordered_read::{read, tell};
 use crate::straight::vlx::validate;
 use crate::straight::walk;
 use crate::view::SeatView;
@@ -42,11 +42,16 @@ fn look_on<S: Shape, M: Machine<S>>(
     node: NodeNo,
 ) -> Result<SuccessorNext, Told>
     requires table { IsSeatAt words.now layout.now seat.old }
-    requires waits { (r : SuccessorReader (calls S.Shape M.Machine layout.now number)) × SearchWaits r seat.old.me.0.passes run.old (SuccessorNext.Look route level side node) }
+    requires waits { (r : SuccessorReader (calls S.Shape M.Machine layout.now number))
+        × SearchWaits r seat.old.me.0.passes run.old (SuccessorNext.Look route level side node) }
     ensures table { StaysAtTable seat.old seat.new }
-    ensures goes_on { (r : SuccessorReader (calls S.Shape M.Machine layout.now number)) → SearchWaits r seat.old.me.0.passes run.old (SuccessorNext.Look route level side node) → SearchGoesOn r seat.new.me.0.passes run.new result }
-    ensures steps { seat_steps seat.new.me.0.passes + search_left (shared_nodes layout.now) run.new result ≤ seat_steps seat.old.me.0.passes + suc (successor_left (successor_placed run.old (SuccessorNext.Look route level side node)) (shared_nodes layout.now)) }
-    ensures nearer { search_left (shared_nodes layout.now) run.new result < suc (successor_left (successor_placed run.old (SuccessorNext.Look route level side node)) (shared_nodes layout.now)) }
+    ensures goes_on { (r : SuccessorReader (calls S.Shape M.Machine layout.now number))
+        → SearchWaits r seat.old.me.0.passes run.old (SuccessorNext.Look route level side node)
+        → SearchGoesOn r seat.new.me.0.passes run.new result }
+    ensures steps { seat_steps seat.new.me.0.passes + search_left (shared_nodes layout.now) run.new result
+        ≤ seat_steps seat.old.me.0.passes + search_left (shared_nodes layout.now) run.old (Ok (SuccessorNext.Look route level side node)) }
+    ensures nearer { search_left (shared_nodes layout.now) run.new result
+        < search_left (shared_nodes layout.now) run.old (Ok (SuccessorNext.Look route level side node)) }
 {
     match look::<S, M, Tree>(words, layout, seat, number, node) {
         Ok(snap) => match run.looked(route, level, side, snap) {
@@ -63,7 +68,7 @@ fn look_on<S: Shape, M: Machine<S>>(
                 llx,
             };
             let turn = Turn::Ask(load(Kind::LoadState, Word::Scx(scx, ScxWord::State)));
-            Err(finish::<S, M, SuccessorRun>(words, layout, seat, number, run, turn))
+            Err(complete::<S, M, Tree, SuccessorRun>(words, layout, seat, number, run, turn))
         }
     }
 }
@@ -80,15 +85,19 @@ fn validate_on<S: Shape, M: Machine<S>>(
     found: Option<Pair>,
 ) -> Told
     requires table { IsSeatAt words.now layout.now seat.old }
-    requires waits { (r : SuccessorReader (calls S.Shape M.Machine layout.now number)) × SearchWaits r seat.old.me.0.passes run.old (SuccessorNext.Validate found) }
+    requires waits { (r : SuccessorReader (calls S.Shape M.Machine layout.now number))
+        × SearchWaits r seat.old.me.0.passes run.old (SuccessorNext.Validate found) }
     ensures table { StaysAtTable seat.old seat.new }
-    ensures ends { (r : SuccessorReader (calls S.Shape M.Machine layout.now number)) → SearchWaits r seat.old.me.0.passes run.old (SuccessorNext.Validate found) → SearchEnds r seat.new.me.0.passes run.new result }
-    ensures steps { seat_steps seat.new.me.0.passes ≤ seat_steps seat.old.me.0.passes + suc (successor_left (successor_placed run.old (SuccessorNext.Validate found)) (shared_nodes layout.now)) }
+    ensures ends { (r : SuccessorReader (calls S.Shape M.Machine layout.now number))
+        → SearchWaits r seat.old.me.0.passes run.old (SuccessorNext.Validate found)
+        → SearchEnds r seat.new.me.0.passes run.new result }
+    ensures steps { seat_steps seat.new.me.0.passes
+        ≤ seat_steps seat.old.me.0.passes + search_left (shared_nodes layout.now) run.old (Ok (SuccessorNext.Validate found)) }
 {
     let snaps = run.snaps.as_slice();
     let (asked, told) = validate::<S, M, &[Snap]>(words, layout, seat, number, snaps);
     run.at = SuccessorAt::Validate { asked, found };
-    tell::<S, M, SuccessorRun>(words, layout, seat, number, run, told)
+    tell::<S, M, Tree, SuccessorRun>(words, layout, seat, number, run, told)
 }
 
 /// Does what comes next, and tells what comes behind that, or what the successor has answered.
@@ -104,9 +113,12 @@ fn search_on<S: Shape, M: Machine<S>>(
     requires table { IsSeatAt words.now layout.now seat.old }
     requires waits { (r : SuccessorReader (calls S.Shape M.Machine layout.now number)) × SearchWaits r seat.old.me.0.passes run.old next }
     ensures table { StaysAtTable seat.old seat.new }
-    ensures goes_on { (r : SuccessorReader (calls S.Shape M.Machine layout.now number)) → SearchWaits r seat.old.me.0.passes run.old next → SearchGoesOn r seat.new.me.0.passes run.new result }
-    ensures steps { seat_steps seat.new.me.0.passes + search_left (shared_nodes layout.now) run.new result ≤ seat_steps seat.old.me.0.passes + suc (successor_left (successor_placed run.old next) (shared_nodes layout.now)) }
-    ensures nearer { search_left (shared_nodes layout.now) run.new result < suc (successor_left (successor_placed run.old next) (shared_nodes layout.now)) }
+    ensures goes_on { (r : SuccessorReader (calls S.Shape M.Machine layout.now number))
+        → SearchWaits r seat.old.me.0.passes run.old next
+        → SearchGoesOn r seat.new.me.0.passes run.new result }
+    ensures steps { seat_steps seat.new.me.0.passes + search_left (shared_nodes layout.now) run.new result
+        ≤ seat_steps seat.old.me.0.passes + search_left (shared_nodes layout.now) run.old (Ok next) }
+    ensures nearer { search_left (shared_nodes layout.now) run.new result < search_left (shared_nodes layout.now) run.old (Ok next) }
 {
     match next {
         SuccessorNext::Look {
@@ -121,17 +133,17 @@ fn search_on<S: Shape, M: Machine<S>>(
             node,
         } => {
             let part = NodeWord::Head;
-            let word = read::<S, M, SuccessorRun>(words, layout, seat, number, node, part);
+            let word = read::<S, M, Tree, SuccessorRun>(words, layout, seat, number, node, part);
             Ok(run.head_on(route, Head::of(word), node))
         }
         SuccessorNext::Key { route, head, node } => {
             let part = NodeWord::Key;
-            let key = read::<S, M, SuccessorRun>(words, layout, seat, number, node, part);
+            let key = read::<S, M, Tree, SuccessorRun>(words, layout, seat, number, node, part);
             Ok(run.key_on(route, head, node, key))
         }
         SuccessorNext::Value { key, node } => {
             let part = NodeWord::Value;
-            let value = read::<S, M, SuccessorRun>(words, layout, seat, number, node, part);
+            let value = read::<S, M, Tree, SuccessorRun>(words, layout, seat, number, node, part);
             Ok(SuccessorNext::Validate(Some(Pair { key, value })))
         }
         SuccessorNext::Validate(found) => {
@@ -151,7 +163,9 @@ pub(crate) fn call<S: Shape, M: Machine<S>>(
     requires table { IsSeatAt words.now layout.now seat.old }
     requires begins { (r : SuccessorReader (calls S.Shape M.Machine layout.now number)) × SearchBegins r seat.old.me.0.passes run.old }
     ensures table { StaysAtTable seat.old seat.new }
-    ensures ends { (r : SuccessorReader (calls S.Shape M.Machine layout.now number)) → SearchBegins r seat.old.me.0.passes run.old → SearchEnds r seat.new.me.0.passes run.new result }
+    ensures ends { (r : SuccessorReader (calls S.Shape M.Machine layout.now number))
+        → SearchBegins r seat.old.me.0.passes run.old
+        → SearchEnds r seat.new.me.0.passes run.new result }
     ensures steps { seat_steps seat.new.me.0.passes ≤ seat_steps seat.old.me.0.passes + successor_left run.old (shared_nodes layout.now) }
 {
     run.snaps.clear();

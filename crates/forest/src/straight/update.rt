@@ -1,11 +1,11 @@
 //! Updates, of whatever machine updates.
-ghost use Rattle.std.specs.Prelude.{◌≡◌, ◌≤◌, ◌<◌, ◌+◌, suc};
+ghost use Rattle.std.specs.Prelude.{◌≡◌, ◌≤◌, ◌<◌, ◌+◌, suc, Ok};
 ghost use Rattle.forest.specs.Seats.{IsSeatAt, StaysAtTable};
 ghost use Rattle.forest.specs.Traces.{seat_steps, shared_nodes};
 ghost use Rattle.forest.specs.StraightUpdate.{Updater, UpdaterBegins, UpdaterEnds, UpdaterTries, UpdaterGoesOn};
 ghost use Rattle.forest.specs.CallKinds.{calls};
 ghost use Rattle.template.specs.declared.walk.Goal.{Goal};
-ghost use Rattle.edits.specs.Next.{placed, standing, left_then};
+ghost use Rattle.edits.specs.Next.{standing, left_then};
 ghost use Rattle.edits.specs.Steps.{update_left};
 ghost use Rattle.edits.specs.declared.update.Next.{Next};
 ghost use Rattle.edits.specs.declared.update.UpdateAt.{UpdateAt};
@@ -40,8 +40,11 @@ pub(crate) fn call<S: Shape, M: Machine<S>, E: Edit + Copy>(
     requires goal { E.means.goal run.old.edit ≡ Goal.Key key }
     requires begins { (u : Updater (calls S.Shape M.Machine layout.now number) E.means) × UpdaterBegins u seat.old.me.0.passes run.old }
     ensures table { StaysAtTable seat.old seat.new }
-    ensures ends { (u : Updater (calls S.Shape M.Machine layout.now number) E.means) → UpdaterBegins u seat.old.me.0.passes run.old → UpdaterEnds u seat.new.me.0.passes run.new result }
-    ensures steps { seat_steps seat.new.me.0.passes ≤ seat_steps seat.old.me.0.passes + update_left E.means (standing run.old UpdateAt.Start) (shared_nodes layout.now) }
+    ensures ends { (u : Updater (calls S.Shape M.Machine layout.now number) E.means)
+        → UpdaterBegins u seat.old.me.0.passes run.old
+        → UpdaterEnds u seat.new.me.0.passes run.new result }
+    ensures steps { seat_steps seat.new.me.0.passes
+        ≤ seat_steps seat.old.me.0.passes + update_left E.means (standing run.old UpdateAt.Start) (shared_nodes layout.now) }
 {
     let found = anew(&walk::call::<S, M>(words, layout, seat, number, key).0);
     let next = run.test_share(&found);
@@ -62,7 +65,9 @@ fn try_on<S: Shape, M: Machine<S>, E: Edit + Copy>(
     requires table { IsSeatAt words.now layout.now seat.old }
     requires goes_on { (u : Updater (calls S.Shape M.Machine layout.now number) E.means) × UpdaterGoesOn u seat.old.me.0.passes run.old found.now next }
     ensures table { StaysAtTable seat.old seat.new }
-    ensures ends { (u : Updater (calls S.Shape M.Machine layout.now number) E.means) → UpdaterGoesOn u seat.old.me.0.passes run.old found.now next → UpdaterEnds u seat.new.me.0.passes run.new result }
+    ensures ends { (u : Updater (calls S.Shape M.Machine layout.now number) E.means)
+        → UpdaterGoesOn u seat.old.me.0.passes run.old found.now next
+        → UpdaterEnds u seat.new.me.0.passes run.new result }
     ensures steps { seat_steps seat.new.me.0.passes ≤ seat_steps seat.old.me.0.passes + left_then E.means run.old found.now next (shared_nodes layout.now) }
 {
     let looked = look_on::<S, M, E>(words, layout, seat, number, run, found, next);
@@ -96,8 +101,11 @@ fn look_on<S: Shape, M: Machine<S>, E: Edit + Copy>(
     requires table { IsSeatAt words.now layout.now seat.old }
     requires goes_on { (u : Updater (calls S.Shape M.Machine layout.now number) E.means) × UpdaterGoesOn u seat.old.me.0.passes run.old found.now next }
     ensures table { StaysAtTable seat.old seat.new }
-    ensures goes_on { (u : Updater (calls S.Shape M.Machine layout.now number) E.means) → UpdaterGoesOn u seat.old.me.0.passes run.old found.now next → UpdaterGoesOn u seat.new.me.0.passes run.new found.now result }
-    ensures steps { seat_steps seat.new.me.0.passes + left_then E.means run.new found.now result (shared_nodes layout.now) ≤ seat_steps seat.old.me.0.passes + left_then E.means run.old found.now next (shared_nodes layout.now) }
+    ensures goes_on { (u : Updater (calls S.Shape M.Machine layout.now number) E.means)
+        → UpdaterGoesOn u seat.old.me.0.passes run.old found.now next
+        → UpdaterGoesOn u seat.new.me.0.passes run.new found.now result }
+    ensures steps { seat_steps seat.new.me.0.passes + left_then E.means run.new found.now result (shared_nodes layout.now)
+        ≤ seat_steps seat.old.me.0.passes + left_then E.means run.old found.now next (shared_nodes layout.now) }
 {
     loop {
         let now = match next {
@@ -127,8 +135,11 @@ fn work_on<S: Shape, M: Machine<S>, E: Edit + Copy>(
     requires table { IsSeatAt words.now layout.now seat.old }
     requires goes_on { (u : Updater (calls S.Shape M.Machine layout.now number) E.means) × UpdaterGoesOn u seat.old.me.0.passes run.old found.now next }
     ensures table { StaysAtTable seat.old seat.new }
-    ensures goes_on { (u : Updater (calls S.Shape M.Machine layout.now number) E.means) → UpdaterGoesOn u seat.old.me.0.passes run.old found.now next → UpdaterGoesOn u seat.new.me.0.passes run.new found.now result }
-    ensures steps { seat_steps seat.new.me.0.passes + left_then E.means run.new found.now result (shared_nodes layout.now) ≤ seat_steps seat.old.me.0.passes + left_then E.means run.old found.now next (shared_nodes layout.now) }
+    ensures goes_on { (u : Updater (calls S.Shape M.Machine layout.now number) E.means)
+        → UpdaterGoesOn u seat.old.me.0.passes run.old found.now next
+        → UpdaterGoesOn u seat.new.me.0.passes run.new found.now result }
+    ensures steps { seat_steps seat.new.me.0.passes + left_then E.means run.new found.now result (shared_nodes layout.now)
+        ≤ seat_steps seat.old.me.0.passes + left_then E.means run.old found.now next (shared_nodes layout.now) }
 {
     loop {
         let now = match next {
@@ -159,11 +170,16 @@ fn look_at<S: Shape, M: Machine<S>, E: Edit + Copy>(
     node: NodeNo,
 ) -> Result<Next, Stop>
     requires table { IsSeatAt words.now layout.now seat.old }
-    requires tries { (u : Updater (calls S.Shape M.Machine layout.now number) E.means) × UpdaterTries u seat.old.me.0.passes run.old found.now (Next.Look node) }
+    requires tries { (u : Updater (calls S.Shape M.Machine layout.now number) E.means)
+        × UpdaterTries u seat.old.me.0.passes run.old found.now (Next.Look node) }
     ensures table { StaysAtTable seat.old seat.new }
-    ensures goes_on { (u : Updater (calls S.Shape M.Machine layout.now number) E.means) → UpdaterTries u seat.old.me.0.passes run.old found.now (Next.Look node) → UpdaterGoesOn u seat.new.me.0.passes run.new found.now result }
-    ensures steps { seat_steps seat.new.me.0.passes + left_then E.means run.new found.now result (shared_nodes layout.now) ≤ seat_steps seat.old.me.0.passes + suc (update_left E.means (placed E.means run.old found.now (Next.Look node)) (shared_nodes layout.now)) }
-    ensures nearer { left_then E.means run.new found.now result (shared_nodes layout.now) < suc (update_left E.means (placed E.means run.old found.now (Next.Look node)) (shared_nodes layout.now)) }
+    ensures goes_on { (u : Updater (calls S.Shape M.Machine layout.now number) E.means)
+        → UpdaterTries u seat.old.me.0.passes run.old found.now (Next.Look node)
+        → UpdaterGoesOn u seat.new.me.0.passes run.new found.now result }
+    ensures steps { seat_steps seat.new.me.0.passes + left_then E.means run.new found.now result (shared_nodes layout.now)
+        ≤ seat_steps seat.old.me.0.passes + left_then E.means run.old found.now (Ok (Next.Look node)) (shared_nodes layout.now) }
+    ensures nearer { left_then E.means run.new found.now result (shared_nodes layout.now)
+        < left_then E.means run.old found.now (Ok (Next.Look node)) (shared_nodes layout.now) }
 {
     match look::<S, M, Tree>(words, layout, seat, number, node) {
         Ok(snap) => run.looked(found, snap),
@@ -183,10 +199,14 @@ fn change<S: Shape, M: Machine<S>, E: Edit + Copy>(
     scx: ScxNo,
 ) -> Updated
     requires table { IsSeatAt words.now layout.now seat.old }
-    requires tries { (u : Updater (calls S.Shape M.Machine layout.now number) E.means) × UpdaterTries u seat.old.me.0.passes run.old found.now (Next.Change scx) }
+    requires tries { (u : Updater (calls S.Shape M.Machine layout.now number) E.means)
+        × UpdaterTries u seat.old.me.0.passes run.old found.now (Next.Change scx) }
     ensures table { StaysAtTable seat.old seat.new }
-    ensures ends { (u : Updater (calls S.Shape M.Machine layout.now number) E.means) → UpdaterTries u seat.old.me.0.passes run.old found.now (Next.Change scx) → UpdaterEnds u seat.new.me.0.passes run.new result }
-    ensures steps { seat_steps seat.new.me.0.passes ≤ seat_steps seat.old.me.0.passes + suc (update_left E.means (placed E.means run.old found.now (Next.Change scx)) (shared_nodes layout.now)) }
+    ensures ends { (u : Updater (calls S.Shape M.Machine layout.now number) E.means)
+        → UpdaterTries u seat.old.me.0.passes run.old found.now (Next.Change scx)
+        → UpdaterEnds u seat.new.me.0.passes run.new result }
+    ensures steps { seat_steps seat.new.me.0.passes
+        ≤ seat_steps seat.old.me.0.passes + left_then E.means run.old found.now (Ok (Next.Change scx)) (shared_nodes layout.now) }
 {
     let change = Change {
         scx,

@@ -1,12 +1,12 @@
 //! VLX, of whatever machine validates snapshots, and as a call of its own.
-ghost use Rattle.std.specs.Prelude.{◌≡◌, ◌≤◌, ◌<◌, ◌+◌, length};
+ghost use Rattle.std.specs.Prelude.{◌≡◌, ◌≤◌, ◌<◌, ◌+◌, ℕ, suc, length};
 ghost use Rattle.arena.specs.Machines.{Call};
 ghost use Rattle.forest.specs.CallKinds.{calls};
 ghost use Rattle.forest.specs.Inside.{InnerIsTold};
 ghost use Rattle.forest.specs.Seats.{IsSeatAt, StaysAtTable};
 ghost use Rattle.forest.specs.Traces.{seat_steps};
-ghost use Rattle.forest.specs.StraightValidate.{LoadsFirstInfo, Validator};
-ghost use Rattle.forest.specs.StraightVlx.{SeatVlxBegins, SeatVlxEnds};
+ghost use Rattle.prims.specs.Snap.{snap_at};
+ghost use Rattle.forest.specs.StraightVlx.{LoadsFirstInfo, Validator, SeatVlxBegins, SeatVlxEnds};
 
 use crate::straight::step::step;
 use crate::view::SeatView;
@@ -30,9 +30,12 @@ pub(crate) fn validate<S: Shape, M: Machine<S>, L: SnapList + Copy>(
     requires some { 0 < length (L.list snaps) }
     requires waits { (v : Validator (calls S.Shape M.Machine layout.now number) (L.list snaps)) × LoadsFirstInfo v seat.old.me.0.passes }
     ensures table { StaysAtTable seat.old seat.new }
-    ensures told { (v : Validator (calls S.Shape M.Machine layout.now number) (L.list snaps)) → LoadsFirstInfo v seat.old.me.0.passes → InnerIsTold v seat.new.me.0.passes result.0 result.1 }
+    ensures told { (v : Validator (calls S.Shape M.Machine layout.now number) (L.list snaps))
+        → LoadsFirstInfo v seat.old.me.0.passes
+        → InnerIsTold v seat.new.me.0.passes result.0 result.1 }
     ensures some { 0 < result.0 }
     ensures within { result.0 ≤ length (L.list snaps) }
+    ensures all { (last : ℕ) → suc last ≡ result.0 → (snap_at (L.list snaps) last).scx.0 ≡ result.1 → result.0 ≡ length (L.list snaps) }
     ensures steps { seat_steps seat.new.me.0.passes ≡ seat_steps seat.old.me.0.passes + result.0 }
 {
     let layout = *layout;
@@ -44,7 +47,10 @@ pub(crate) fn validate<S: Shape, M: Machine<S>, L: SnapList + Copy>(
         let access = Access::Load;
         let told = step::<S, M>(words, &layout, seat, number, Step { kind, word, access });
         asked += 1;
-        if told != snap.scx.0 || asked >= count {
+        if told != snap.scx.0 {
+            return (asked, told);
+        }
+        if asked >= count {
             return (asked, told);
         }
     }
@@ -63,20 +69,16 @@ pub(crate) fn call<S: Shape, L: SnapList + Copy>(
     requires table { IsSeatAt words.now layout.now seat.old }
     requires begins { (c : Call) × (c.layout ≡ layout.now) × (c.number ≡ number) × SeatVlxBegins L.list S.allows c seat.old.me.0.passes snaps }
     ensures table { StaysAtTable seat.old seat.new }
-    ensures ends { (c : Call) → c.layout ≡ layout.now → c.number ≡ number → SeatVlxBegins L.list S.allows c seat.old.me.0.passes snaps → SeatVlxEnds L.list S.allows c seat.new.me.0.passes snaps result }
+    ensures ends { (c : Call) → c.layout ≡ layout.now → c.number ≡ number
+        → SeatVlxBegins L.list S.allows c seat.old.me.0.passes snaps
+        → SeatVlxEnds L.list S.allows c seat.new.me.0.passes snaps result }
     ensures steps { seat_steps seat.new.me.0.passes ≤ seat_steps seat.old.me.0.passes + length (L.list snaps) }
 {
-    let layout = *layout;
-    for index in 0..snaps.len() {
-        let snap = snaps.get(index);
-        let (kind, word) = (Kind::LoadInfo, Word::Node(snap.node, NodeWord::Info));
-        let access = Access::Load;
-        let asked = Step { kind, word, access };
-        let found = step::<S, VlxRun<L>>(words, &layout, seat, number, asked);
-        if found != snap.scx.0 {
-            let (node, scx) = (snap.node, ScxNo(found));
-            return Vlx::Changed { node, scx };
-        }
+    let (asked, told) = validate::<S, VlxRun<L>, L>(words, layout, seat, number, snaps);
+    let last = snaps.get(asked - 1);
+    if told != last.scx.0 {
+        let (node, scx) = (last.node, ScxNo(told));
+        return Vlx::Changed { node, scx };
     }
     Vlx::Same
 }

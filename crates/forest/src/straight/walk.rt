@@ -4,7 +4,7 @@ ghost use Rattle.arena.specs.Heads.{head_of};
 ghost use Rattle.arena.specs.declared.number.NodeNo.{NodeNo};
 ghost use Rattle.forest.specs.Seats.{IsSeatAt, StaysAtTable};
 ghost use Rattle.forest.specs.Traces.{seat_steps, shared_nodes};
-ghost use Rattle.forest.specs.StraightWalk.{Walker, WalkerWaits, WalkerIsTold, WalkerFinds, WalksFromRoot};
+ghost use Rattle.forest.specs.StraightWalk.{Walker, WalkerFinds, WalkerGoesDown, WalkerIsTold, WalkerWaits, WalksFromRoot};
 ghost use Rattle.forest.specs.CallKinds.{calls};
 ghost use Rattle.order.specs.Successor.Steps.{last_turn};
 ghost use Rattle.prims.specs.Llx.Known.{load};
@@ -30,10 +30,13 @@ fn read<S: Shape, M: Machine<S>>(
     part: NodeWord,
 ) -> u64
     requires table { IsSeatAt words.now layout.now seat.old }
-    requires waits { (w : Walker (calls S.Shape M.Machine layout.now number)) × (m : WalkRun) × (turn : NodeNo) × WalkerWaits w seat.old.me.0.passes m turn (load kind (Word.Node node part)) }
+    requires waits { (w : Walker (calls S.Shape M.Machine layout.now number)) × (m : WalkRun) × (turn : NodeNo)
+        × WalkerWaits w seat.old.me.0.passes m turn (load kind (Word.Node node part)) }
     ensures table { StaysAtTable seat.old seat.new }
     ensures one { seat_steps seat.new.me.0.passes ≡ suc (seat_steps seat.old.me.0.passes) }
-    ensures told { (w : Walker (calls S.Shape M.Machine layout.now number)) (m : WalkRun) (turn : NodeNo) → WalkerWaits w seat.old.me.0.passes m turn (load kind (Word.Node node part)) → WalkerIsTold w seat.new.me.0.passes m turn result }
+    ensures told { (w : Walker (calls S.Shape M.Machine layout.now number)) (m : WalkRun) (turn : NodeNo)
+        → WalkerWaits w seat.old.me.0.passes m turn (load kind (Word.Node node part))
+        → WalkerIsTold w seat.new.me.0.passes m turn result }
 {
     let word = Word::Node(node, part);
     let access = Access::Load;
@@ -84,10 +87,13 @@ fn end<S: Shape, M: Machine<S>>(
 ) -> Found
     requires table { IsSeatAt words.now layout.now seat.old }
     requires leaf { head.leaf ≡ true }
-    requires told { (w : Walker (calls S.Shape M.Machine layout.now number)) × (turn : NodeNo) × WalkerIsTold w seat.old.me.0.passes (walk_at wanted trail (WalkAt.Key head)) turn key }
+    requires told { (w : Walker (calls S.Shape M.Machine layout.now number)) × (turn : NodeNo)
+        × WalkerIsTold w seat.old.me.0.passes (walk_at wanted trail (WalkAt.Key head)) turn key }
     ensures table { StaysAtTable seat.old seat.new }
     ensures steps { seat_steps seat.new.me.0.passes ≤ seat_steps seat.old.me.0.passes + 1 }
-    ensures finds { (w : Walker (calls S.Shape M.Machine layout.now number)) (turn : NodeNo) → WalkerIsTold w seat.old.me.0.passes (walk_at wanted trail (WalkAt.Key head)) turn key → WalkerFinds w seat.new.me.0.passes wanted turn result }
+    ensures finds { (w : Walker (calls S.Shape M.Machine layout.now number)) (turn : NodeNo)
+        → WalkerIsTold w seat.old.me.0.passes (walk_at wanted trail (WalkAt.Key head)) turn key
+        → WalkerFinds w seat.new.me.0.passes wanted turn result }
 {
     if wanted != key {
         return Found {
@@ -121,12 +127,17 @@ fn pass<S: Shape, M: Machine<S>>(
 ) -> Result<Side, Found>
     requires place { LoadsHead at }
     requires table { IsSeatAt words.now layout.now seat.old }
-    requires told { (w : Walker (calls S.Shape M.Machine layout.now number)) × (turn : NodeNo) × WalkerIsTold w seat.old.me.0.passes (walk_at wanted trail at) turn word }
+    requires told { (w : Walker (calls S.Shape M.Machine layout.now number)) × (turn : NodeNo)
+        × WalkerIsTold w seat.old.me.0.passes (walk_at wanted trail at) turn word }
     ensures table { StaysAtTable seat.old seat.new }
     ensures steps { IfOk result (λ _. seat_steps seat.new.me.0.passes ≤ seat_steps seat.old.me.0.passes + 1) }
     ensures last_steps { IfErr result (λ _. seat_steps seat.new.me.0.passes ≤ seat_steps seat.old.me.0.passes + 2) }
-    ensures down { IfOk result (λ side. (w : Walker (calls S.Shape M.Machine layout.now number)) (turn : NodeNo) → WalkerIsTold w seat.old.me.0.passes (walk_at wanted trail at) turn word → WalkerWaits w seat.new.me.0.passes (walk_at wanted trail (WalkAt.Child (head_of word).level side)) (last_turn (WalkAt.Child (head_of word).level side) trail.node turn) (load Kind.LoadChild (Word.Node trail.node (NodeWord.Child side)))) }
-    ensures finds { IfErr result (λ found. (w : Walker (calls S.Shape M.Machine layout.now number)) (turn : NodeNo) → WalkerIsTold w seat.old.me.0.passes (walk_at wanted trail at) turn word → WalkerFinds w seat.new.me.0.passes wanted turn found) }
+    ensures down { IfOk result (λ side. (w : Walker (calls S.Shape M.Machine layout.now number)) (turn : NodeNo)
+        → WalkerIsTold w seat.old.me.0.passes (walk_at wanted trail at) turn word
+        → WalkerGoesDown w seat.new.me.0.passes wanted trail (head_of word).level side turn) }
+    ensures finds { IfErr result (λ found. (w : Walker (calls S.Shape M.Machine layout.now number)) (turn : NodeNo)
+        → WalkerIsTold w seat.old.me.0.passes (walk_at wanted trail at) turn word
+        → WalkerFinds w seat.new.me.0.passes wanted turn found) }
 {
     let head = Head::of(word);
     if is_high(word) {
@@ -174,7 +185,9 @@ pub(crate) fn call<S: Shape, M: Machine<S>>(
     requires waits { (w : Walker (calls S.Shape M.Machine layout.now number)) × WalksFromRoot w seat.old.me.0.passes wanted }
     ensures table { StaysAtTable seat.old seat.new }
     ensures steps { seat_steps seat.new.me.0.passes ≤ seat_steps seat.old.me.0.passes + 3 * (2 + shared_nodes layout.now) }
-    ensures finds { (w : Walker (calls S.Shape M.Machine layout.now number)) → WalksFromRoot w seat.old.me.0.passes wanted → WalkerFinds w seat.new.me.0.passes wanted result.1 result.0 }
+    ensures finds { (w : Walker (calls S.Shape M.Machine layout.now number))
+        → WalksFromRoot w seat.old.me.0.passes wanted
+        → WalkerFinds w seat.new.me.0.passes wanted result.1 result.0 }
 {
     let layout = *layout;
     let root = NodeNo(0);

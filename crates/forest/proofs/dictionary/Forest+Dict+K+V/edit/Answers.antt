@@ -10,7 +10,7 @@ use Rattle.forest.specs.Dictionary.{HasSpentAtMost, IsRefusalOf, UpdateSays, bla
 use Rattle.arena.specs.declared.limits.Mode.TheVariants.{Tree}
 use Rattle.forest.specs.Passes.{Ground, HasGoneOn, taken_of}
 use Rattle.forest.specs.PassInvariant.{IsPass, pass_view}
-use Rattle.forest.specs.StraightCalls.{IsFreshEdit, EditHasEnded, SeatDictBegins}
+use Rattle.forest.specs.StraightCalls.{IsFreshEdit, EditHasEnded, SeatEditBegins}
 use Rattle.forest.specs.Traces.{shared_nodes}
 use Rattle.forest.proofs.DictCalls.{Answered, IsSameCall, behind, blames_same, edit_starts, dict_ended, dict_pass, dict_goes_on, dict_spends, dict_tells, dict_refuses, so_behind, update_says, update_valid}
 use Rattle.forest.proofs.Entered.{HasEnded}
@@ -20,8 +20,8 @@ use Rattle.forest.proofs.dictionary.Forest+Dict+K+V.edit.Goals.{After-note_updat
 use Rattle.forest.proofs.dictionary.Forest+Dict+K+V.edit.Goals as goal
 
 -- a machine of the edit may begin the call
-begins : (g : Over) (c : After-replace-share g) (first : DictRun g.row.K.Denot g.row.V.Denot) → IsFreshEdit (g.E.EditCall.edit c.args.edit) c.replace-share.result c.self.inside.tries c.taken-number.result first → SeatDictBegins g.K.WordKey.is_valid g.K.WordKey.word_of g.V.WordValue.is_valid g.V.WordValue.word_of (call_of c.pass.inside c.pass.invariant (taken_of (pass_view c.pass.inside))) c.pass.inside.seat.me.0.passes first
-begins g c first fresh = edit_starts g.K.WordKey.is_valid g.K.WordKey.word_of g.V.WordValue.is_valid g.V.WordValue.word_of c.pass.inside c.pass.invariant first (g.E.EditCall.edit c.args.edit) c.self.inside.tries c.taken-number.result (ap taken_of c.pass.view_is ∙ sym c.taken-number.ensures) c.requires.typed (subst (λ share. IsFreshEdit (g.E.EditCall.edit c.args.edit) share c.self.inside.tries c.taken-number.result first) c.replace-share.ensures.value fresh)
+begins : (g : Over) (c : After-replace-share g) → SeatEditBegins g.K.WordKey.is_valid g.K.WordKey.word_of g.V.WordValue.is_valid g.V.WordValue.word_of (call_of c.pass.inside c.pass.invariant (taken_of (pass_view c.pass.inside))) c.pass.inside.seat.me.0.passes (g.E.EditCall.edit c.args.edit) c.replace-share.result c.self.inside.tries c.taken-number.result
+begins g c = λ first fresh. edit_starts g.K.WordKey.is_valid g.K.WordKey.word_of g.V.WordValue.is_valid g.V.WordValue.word_of c.pass.inside c.pass.invariant first (g.E.EditCall.edit c.args.edit) c.self.inside.tries c.taken-number.result (ap taken_of c.pass.view_is ∙ sym c.taken-number.ensures) c.requires.typed (subst (λ share. IsFreshEdit (g.E.EditCall.edit c.args.edit) share c.self.inside.tries c.taken-number.result first) c.replace-share.ensures.value fresh)
 
 pub make-told-requires-clause-begins : goal.make-told-requires-clause-begins
 make-told-requires-clause-begins g c = (

@@ -1,16 +1,18 @@
-use Rattle.std.proofs.Common.{◌∙◌, arith}
-use Rattle.forest.specs.StraightUpdate.{Updater, UpdaterIsTold, UpdaterStands}
+use Rattle.std.proofs.Common.{◌∙◌, Some, arith}
+use Rattle.forest.specs.Hosts.{HostedIsTold, HostedStands}
+use Rattle.forest.specs.StraightUpdate.{Updater}
 use Rattle.forest.specs.Traces.{shared_nodes}
 use Rattle.forest.specs.CallKinds.{calls}
 use Rattle.edits.specs.Steps.{IsNearer, update_left}
 use Rattle.forest.proofs.Advances.{weighs}
-use Rattle.forest.proofs.StraightUpdate.{ends_nowhere, told_on, told_fits}
+use Rattle.forest.proofs.Hosts.{told_on}
+use Rattle.forest.proofs.StraightUpdate.{ends_nowhere, goes_told, told_fits}
 use Rattle.forest.proofs.straight.resume.finish.Given.{Over}
 use Rattle.forest.proofs.straight.resume.finish.Goals.{After-step-turn}
 use Rattle.forest.proofs.straight.resume.finish.Goals as goal
 
 -- the update is told what its step has found
-told : (g : Over) (c : After-step-turn g) (u : Updater (calls g.S.Shape g.M.Machine c.args.layout.now c.args.number) g.E.Edit.means) → UpdaterStands u c.args.seat.now.me.0.passes c.args.machine c.args.turn → UpdaterIsTold u c.step-told.new.seat.me.0.passes c.loop-turn.machine c.step-told.result
+told : (g : Over) (c : After-step-turn g) (u : Updater (calls g.S.Shape g.M.Machine c.args.layout.now c.args.number) g.E.Edit.means) → HostedStands u c.args.seat.now.me.0.passes c.args.machine c.args.turn → HostedIsTold u c.step-told.new.seat.me.0.passes c.loop-turn.machine c.step-told.result
 told g c u x = c.step-told.ensures.told u.call u.first (u.with_run c.loop-turn.machine) u.is_layout u.is_number (rw c.in-Ask.is at c.loop-turn.invariant.stands u x)
 
 -- it has fewer steps left than before
@@ -23,7 +25,9 @@ step-told-requires-clause-waits g c = let r = c.requires.stands in let u = r.0 i
 pub loop-turn-preserved : goal.loop-turn-preserved
 loop-turn-preserved g c = record {
   here = (c.step-told.ensures.table.0 ∙ c.loop-turn.invariant.here.0, c.step-told.ensures.table.1 ∙ c.loop-turn.invariant.here.1);
-  stands = λ u x. told_on u _ c.loop-turn.machine c.step-turn.new.self c.step-told.result c.step-turn.result c.step-turn.ensures.same c.step-turn.ensures.tries c.step-turn.ensures.spends (λ h. c.step-turn.ensures.turn u.call h) (told g c u x);
+  stands = λ u x.
+      let t = told g c u x in
+      told_on u _ c.loop-turn.machine c.step-turn.new.self (Some c.step-told.result) c.step-turn.result (goes_told u _ c.loop-turn.machine c.step-turn.new.self c.step-told.result c.step-turn.result c.step-turn.ensures.same c.step-turn.ensures.tries c.step-turn.ensures.spends t) (λ h. c.step-turn.ensures.turn u.call h) t;
   steps = (let w = weighs c.step-turn.result _ _ (nearer g c) in let one = c.step-told.ensures.one in let old = rw c.in-Ask.is at c.loop-turn.invariant.steps in omega (arith, w, one, old));
 }
 

@@ -1,5 +1,6 @@
 use Rattle.std.proofs.Common.{◌≡◌, ◌+◌, ◌≤◌}
-use Rattle.forest.specs.StraightUpdate.{Updater, UpdaterStands}
+use Rattle.forest.specs.Hosts.{HostedStands}
+use Rattle.forest.specs.StraightUpdate.{Updater}
 use Rattle.forest.specs.Traces.{seat_steps, shared_nodes, weight}
 use Rattle.forest.specs.CallKinds.{calls}
 use Rattle.edits.specs.Steps.{update_left}
@@ -9,8 +10,8 @@ abbrev pub invariant-loop-turn : goal.invariant-loop-turn
 invariant-loop-turn g l = record {
   here : (l.seat.table_id ≡ l.fn.seat.table_id) × (l.seat.me.1 ≡ l.fn.seat.me.1);
   stands : (u : Updater (calls g.S.Shape g.M.Machine l.layout l.number) g.E.Edit.means)
-      → UpdaterStands u l.fn.seat.me.0.passes l.fn.machine l.fn.turn
-      → UpdaterStands u l.seat.me.0.passes l.machine l.turn;
+      → HostedStands u l.fn.seat.me.0.passes l.fn.machine l.fn.turn
+      → HostedStands u l.seat.me.0.passes l.machine l.turn;
   steps : seat_steps l.seat.me.0.passes + weight l.turn (update_left g.E.Edit.means l.machine (shared_nodes l.layout)) ≤ seat_steps l.fn.seat.me.0.passes + weight l.fn.turn (update_left g.E.Edit.means l.fn.machine (shared_nodes l.layout));
 }
 

@@ -33,8 +33,8 @@ returns-in-Ok-looked-clause-steps g c = let n = lighter g (goal.at.returns-in-Ok
 pub returns-in-Ok-looked-clause-nearer : goal.returns-in-Ok-looked-clause-nearer
 returns-in-Ok-looked-clause-nearer g c = let n = lighter g (goal.at.returns-in-Ok-looked-clause-nearer g c).In-Ok-looked in omega (arith, n)
 
-pub finish-requires-clause-stands : goal.finish-requires-clause-stands
-finish-requires-clause-stands g c = let w = c.requires.waits in (w.0, looks_again w.0 c.args.run.now c.args.route c.args.level c.args.side _ _ c.args.node c.in-Err.marked c.in-Err.scx c.load.ensures (c.in-Err.ensures.waits (looker w.0 c.args.run.now c.args.route c.args.level c.args.side) (begins_look w.0 c.args.run.now c.args.route c.args.level c.args.side _ c.args.node w.1)))
+pub complete-requires-clause-stands : goal.complete-requires-clause-stands
+complete-requires-clause-stands g c = let w = c.requires.waits in (w.0, looks_again w.0 c.args.run.now c.args.route c.args.level c.args.side _ _ c.args.node c.in-Err.marked c.in-Err.scx c.load.ensures (c.in-Err.ensures.waits (looker w.0 c.args.run.now c.args.route c.args.level c.args.side) (begins_look w.0 c.args.run.now c.args.route c.args.level c.args.side _ c.args.node w.1)))
 
 pub returns-in-Err-clause-goes_on : goal.returns-in-Err-clause-goes_on
-returns-in-Err-clause-goes_on g c = λ r x. c.finish.ensures.ends r (looks_again r c.args.run.now c.args.route c.args.level c.args.side _ _ c.args.node c.in-Err.marked c.in-Err.scx c.load.ensures (c.in-Err.ensures.waits (looker r c.args.run.now c.args.route c.args.level c.args.side) (begins_look r c.args.run.now c.args.route c.args.level c.args.side _ c.args.node x)))
+returns-in-Err-clause-goes_on g c = λ r x. c.complete.ensures.ends r (looks_again r c.args.run.now c.args.route c.args.level c.args.side _ _ c.args.node c.in-Err.marked c.in-Err.scx c.load.ensures (c.in-Err.ensures.waits (looker r c.args.run.now c.args.route c.args.level c.args.side) (begins_look r c.args.run.now c.args.route c.args.level c.args.side _ c.args.node x)))

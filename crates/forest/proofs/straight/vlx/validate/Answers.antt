@@ -1,13 +1,13 @@
-use Rattle.std.proofs.Common.{◌+◌, ◌∙◌, ℕ, suc, sym, ap, subst, arith}
+use Rattle.std.proofs.Common.{◌≡◌, ◌+◌, ◌∙◌, ℕ, suc, sym, ap, subst, arith}
 use Rattle.arena.specs.declared.step.Kind.TheVariants.{LoadInfo}
 use Rattle.arena.specs.Words.{info}
 use Rattle.prims.specs.Llx.Known.{load}
 use Rattle.prims.specs.Snap.{snap_at}
 use Rattle.prims.specs.declared.snap.Snap.{Snap}
-use Rattle.forest.specs.StraightValidate.{Validator}
+use Rattle.forest.specs.StraightVlx.{Validator}
 use Rattle.forest.specs.CallKinds.{calls}
 use Rattle.forest.specs.Inside.{InnerIsTold, InnerWaits}
-use Rattle.forest.proofs.StraightValidate.{to_next}
+use Rattle.forest.proofs.StraightVlx.{to_next}
 use Rattle.forest.proofs.straight.vlx.validate.Given.{Over}
 use Rattle.forest.proofs.straight.vlx.validate.Goals.{After-step-told}
 use Rattle.forest.proofs.straight.vlx.validate.Goals as goal
@@ -21,6 +21,17 @@ step-told-requires-clause-waits g c = let w = c.requires.waits in (w.0.call, w.0
 
 pub returns-then-told-snap-clause-told : goal.returns-then-told-snap-clause-told
 returns-then-told-snap-clause-told g c = λ v x. told g (goal.at.returns-then-told-snap-clause-told g c).After-step-told v x
+
+pub returns-then-asked-count-clause-told : goal.returns-then-asked-count-clause-told
+returns-then-asked-count-clause-told g c = λ v x. told g (goal.at.returns-then-asked-count-clause-told g c).After-step-told v x
+
+pub returns-then-told-snap-clause-all : goal.returns-then-told-snap-clause-all
+returns-then-told-snap-clause-all g c = λ last is found.
+    let same : last ≡ c.loop-snaps.asked = omega (arith, is) in
+    absurd (c.if-told-snap.true (sym found ∙ ap (λ (n : ℕ). (snap_at (g.L.SnapList.list c.args.snaps) n).scx.0) same ∙ ap (λ (s : Snap). s.scx.0) (sym c.get-snap.ensures)))
+
+pub returns-then-asked-count-clause-all : goal.returns-then-asked-count-clause-all
+returns-then-asked-count-clause-all g c = λ last is found. let n = c.len-count.ensures in let i = c.if-asked-count.true in let m = c.loop-snaps.invariant.more in omega (arith, n, i, m)
 
 pub loop-snaps-preserved : goal.loop-snaps-preserved
 loop-snaps-preserved g c = record {

@@ -1,7 +1,7 @@
 use Rattle.std.proofs.Common.{◌≡◌, ◌+◌, ◌-◌, ◌<◌, suc, length}
 use Rattle.arena.specs.declared.step.Kind.TheVariants.{LoadInfo}
 use Rattle.arena.specs.Words.{info}
-use Rattle.forest.specs.StraightValidate.{Validator}
+use Rattle.forest.specs.StraightVlx.{Validator}
 use Rattle.forest.specs.Traces.{seat_steps}
 use Rattle.forest.specs.CallKinds.{calls}
 use Rattle.forest.specs.Inside.{InnerWaits}

@@ -1,0 +1,49 @@
+-- From place to place of a machine that is called inside another's call.
+use Rattle.std.proofs.Common.{◌≡◌, ℕ, List, Option}
+use Rattle.arena.specs.declared.machine.Turn.{Turn}
+use Rattle.arena.specs.declared.machine.Turn.TheVariants.{Ask, Done}
+use Rattle.arena.specs.History.{History}
+use Rattle.arena.specs.Machines.{Call, IsRun, MatchTurn}
+use Rattle.forest.specs.declared.view.SeatedPass.{SeatedPass}
+use Rattle.forest.specs.CallKinds.{Calls}
+use Rattle.forest.specs.Hosts.{InnerCall, Host, HostedEnds, HostedStands}
+use Rattle.forest.specs.Traces.{Ends, HoldsForCall, Stands, Trace, goes_on}
+
+-- told what its step has found, or nothing yet, it stands as its turn says
+pub told_on : {M N A : Type 0} {o : Calls M} {i : InnerCall N A} (k : Host o i) (ps : List SeatedPass) (m now : N) (got : Option ℕ) (turn : Turn A) → MatchTurn turn (λ _. i.goes m now) (λ _. i.ends m now) → ((h : History) → IsRun i.allows k.call.layout h → i.ready m k.call h got → MatchTurn turn (i.waits now k.call h) (i.answers now k.call h))
+    → HoldsForCall o.allows ps k.call (λ h. o.ready (k.with_run m) k.call h got × Trace o.allows o.waits o.same k.call k.first (k.with_run m) h) → HostedStands k ps now turn
+told_on k ps m now got (Ask s) goes next x = record { known = x.known; is = x.is; sound = x.sound; so = (k.turns m now _ got s goes x.so.0 (next _ (k.runs _ x.sound) (k.tells m _ got x.so.0)), goes_on (k.with_run m) (k.stays m now goes) x.so.1) }
+told_on k ps m now got (Done a) goes next x = record { known = x.known; is = x.is; sound = x.sound; so = record { old = m; got = got; was = x.so.0; goes = goes; answers = next _ (k.runs _ x.sound) (k.tells m _ got x.so.0); course = x.so.1 } }
+
+-- what is so whatever the turn is
+pub either_turn : {A : Type 0} (turn : Turn A) {P : Type 0} → P → MatchTurn turn (λ _. P) (λ _. P)
+either_turn (Ask s) x = x
+either_turn (Done a) x = x
+
+-- what a machine's own call says of it, inside which nothing else is called
+abbrev pub own_call : {M A : Type 0} → Calls M → (M → Call → History → A → Type 0) → InnerCall M A
+own_call o answers = record { allows = o.allows; ready = o.ready; waits = o.waits; answers = answers; goes = o.same; ends = o.same }
+
+module _ {M A : Type 0} (o : Calls M) (answers : M → Call → History → A → Type 0) (c : Call) (is_layout : c.layout ≡ o.layout) (is_number : c.number ≡ o.number) (first : M) where
+  -- a call hosts its own machine
+  abbrev pub own : Host o (own_call o answers)
+  own = record {
+    call = c;
+    is_layout = is_layout;
+    is_number = is_number;
+    runs = λ h run. run;
+    first = first;
+    with_run = λ m. m;
+    opens = λ m h s x. x;
+    tells = λ m h got x. x;
+    turns = λ old now h got s goes x w. w;
+    stays = λ old now goes. goes;
+  }
+
+  -- as its machine stands, the call does
+  pub own_ends : (ps : List SeatedPass) (m : M) (a : A) → HostedEnds own ps m a → Ends o.allows o.waits o.same c ps first answers m a
+  own_ends ps m a x = record { known = x.known; is = x.is; sound = x.sound; so = (x.so.answers, goes_on x.so.old x.so.goes x.so.course) }
+
+  pub own_stands : (ps : List SeatedPass) (m : M) (turn : Turn A) → HostedStands own ps m turn → Stands o.allows o.waits o.same c ps first answers m turn
+  own_stands ps m (Ask s) x = x
+  own_stands ps m (Done a) x = own_ends ps m a x
