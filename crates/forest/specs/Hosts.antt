@@ -23,8 +23,8 @@ pub record InnerCall (N A : Type 0) : Type 1 where
   pub ends : N → N → Type 0
 
 -- what a machine's own conditions say of that
-abbrev pub inner_call : {S N A : Type 0} → Shape S → Machine N S A → InnerCall N A
-inner_call s m = record { allows = s.allows; ready = m.ready; waits = m.waits; answers = m.answers; goes = m.same; ends = m.same }
+abbrev pub inner_machine : {S N A : Type 0} → Shape S → Machine N S A → InnerCall N A
+inner_machine s m = record { allows = s.allows; ready = m.ready; waits = m.waits; answers = m.answers; goes = m.same; ends = m.same }
 
 module _ {M N A : Type 0} (o : Calls M) (i : InnerCall N A) where
   -- A call of a machine, of this layout and number, inside which such a machine is called.

@@ -1,6 +1,6 @@
 //! Ordered reads, of whatever machine reads: their loads, and the way to the end by the machine.
 ghost use Rattle.std.specs.Prelude.{◌≡◌, ◌≤◌, ◌+◌, suc};
-ghost use Rattle.forest.specs.Hosts.{Host, HostedEnds, HostedIsTold, HostedWaits, inner_call};
+ghost use Rattle.forest.specs.Hosts.{Host, HostedEnds, HostedIsTold, HostedWaits, inner_machine};
 ghost use Rattle.forest.specs.Seats.{IsSeatAt, StaysAtTable};
 ghost use Rattle.forest.specs.Traces.{seat_steps, shared_nodes};
 ghost use Rattle.forest.specs.CallKinds.{calls};
@@ -24,11 +24,11 @@ pub(crate) fn read<S: Shape, M: Machine<S>, T: Shape, N: Machine<T>>(
     part: NodeWord,
 ) -> u64
     requires table { IsSeatAt words.now layout.now seat.old }
-    requires waits { (r : Host (calls S.Shape M.Machine layout.now number) (inner_call T.Shape N.Machine)) × (m : N)
+    requires waits { (r : Host (calls S.Shape M.Machine layout.now number) (inner_machine T.Shape N.Machine)) × (m : N)
         × HostedWaits r seat.old.me.0.passes m (load Kind.LoadSettled (Word.Node node part)) }
     ensures table { StaysAtTable seat.old seat.new }
     ensures one { seat_steps seat.new.me.0.passes ≡ suc (seat_steps seat.old.me.0.passes) }
-    ensures told { (r : Host (calls S.Shape M.Machine layout.now number) (inner_call T.Shape N.Machine)) (m : N)
+    ensures told { (r : Host (calls S.Shape M.Machine layout.now number) (inner_machine T.Shape N.Machine)) (m : N)
         → HostedWaits r seat.old.me.0.passes m (load Kind.LoadSettled (Word.Node node part))
         → HostedIsTold r seat.new.me.0.passes m result }
 {
@@ -48,10 +48,10 @@ pub(crate) fn tell<S: Shape, M: Machine<S>, T: Shape, N: Machine<T>>(
     told: u64,
 ) -> N::Answer
     requires table { IsSeatAt words.now layout.now seat.old }
-    requires told { (r : Host (calls S.Shape M.Machine layout.now number) (inner_call T.Shape N.Machine))
+    requires told { (r : Host (calls S.Shape M.Machine layout.now number) (inner_machine T.Shape N.Machine))
         × HostedIsTold r seat.old.me.0.passes run.old told }
     ensures table { StaysAtTable seat.old seat.new }
-    ensures ends { (r : Host (calls S.Shape M.Machine layout.now number) (inner_call T.Shape N.Machine))
+    ensures ends { (r : Host (calls S.Shape M.Machine layout.now number) (inner_machine T.Shape N.Machine))
         → HostedIsTold r seat.old.me.0.passes run.old told
         → HostedEnds r seat.new.me.0.passes run.new result }
     ensures steps { seat_steps seat.new.me.0.passes ≤ seat_steps seat.old.me.0.passes + N.left run.old (shared_nodes layout.now) }
