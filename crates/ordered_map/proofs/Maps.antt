@@ -4,7 +4,7 @@ use Rattle.std.specs.Prelude.{Option, Some, None}
 use Rattle.std.proofs.lemmas.Bool.{eqb-true, eqb-false}
 use native.Mathlib.Decide.{ℕ_discrete}
 use Rattle.ordered_map.specs.declared.pair.Pair.{Pair}
-use Rattle.ordered_map.specs.OrderedMap.{pair, AllAbove, IsRising, get, insert, delete, first_pair, without_first, is_value, replace_if, successor, between, MapEdit, Insert, Delete, edit_key, edited, value_left, pop_edit, replace_edit, after_edit, MapCall, OneValue, Edit, Get, Successor, Range, reply, after, edit_of}
+use Rattle.ordered_map.specs.OrderedMap.{pair, AllAbove, IsRising, get, insert, delete, first_pair, without_first, is_value, replace_if, successor, between, MapEdit, Insert, Delete, edit_key, edited, value_left, pop_edit, replace_edit, after_edit, MapCall, OneValue, Edit, PopFirst, ReplaceIf, Get, Successor, Range, reply, after, edit_of}
 use Rattle.ordered_map.specs.MapLaws.{IsLeast, IsSuccessor, within}
 use Rattle.ordered_map.proofs.Trees.{split_at}
 
@@ -251,6 +251,13 @@ left_after (Edit (Delete k)) m = go (get k m) refl
     go : (told : Option ℕ) → get k m ≡ told → delete k m ≡ after_edit (edit_of (Edit (Delete k)) (OneValue told)) m
     go None e = delete_absent k m e
     go (Some v) e = refl
+left_after PopFirst [] = refl
+left_after PopFirst (p ∷ ps) = rw (at_key p.key) refl
+left_after (ReplaceIf k e v) m = go (is_value e (get k m))
+  where
+    go : (is : Bool) → cond is (insert k v m) m ≡ after_edit (cond is (Some (Insert k v)) None) m
+    go true = refl
+    go false = refl
 left_after (Get k) m = refl
 left_after (Successor k) m = refl
 left_after (Range low high most) m = refl

@@ -1,12 +1,12 @@
 -- What a call of the map may do, whoever makes it: how many steps and of which kinds, what it takes
 -- of its pass's share, what it needs, and which form its reply has.
-use Rattle.std.specs.Prelude.{◌≡◌, ◌≢◌, ◌⊎◌, ℕ, ◌+◌, ◌*◌, ◌<◌, List, Option, Some, None}
+use Rattle.std.specs.Prelude.{if◌then◌else◌, ◌≡◌, ◌≢◌, ◌⊎◌, ℕ, ◌+◌, ◌*◌, ◌<◌, List, Option, Some, None}
 use Rattle.arena.specs.declared.step.Kind.{Kind}
 use Rattle.arena.specs.declared.step.Kind.TheVariants.{Fill, LoadChild, LoadSettled}
 use Rattle.ordered_map.specs.declared.pair.Pair.{Pair as PairOf}
 use Rattle.ordered_map.specs.declared.reply.Reply.{Reply}
 use Rattle.ordered_map.specs.declared.reply.Reply.TheVariants as replies
-use Rattle.ordered_map.specs.OrderedMap.{MapCall, MapEdit, Edit, Insert, Delete, Get, Successor, Range, get}
+use Rattle.ordered_map.specs.OrderedMap.{MapCall, Edit, Insert, Delete, PopFirst, ReplaceIf, Get, Successor, Range, get, first_pair, is_value}
 
 -- the form of a reply: a value, a pair or pairs, or a refusal
 pub data Form : Type 0 where
@@ -42,38 +42,51 @@ pub record CallRules : Type 1 where
 
 -- Edits
 
--- at most so many steps in a try, besides three for each level of the walk
-abbrev pub steps_behind_walk : MapEdit → ℕ
-steps_behind_walk (Insert key value) = 178
-steps_behind_walk (Delete key) = 301
-
--- an insert makes two leaves and a fork over them, or a leaf in place of another; a delete makes a
--- copy of the leaf's sibling
-abbrev pub nodes_in_try : MapEdit → ℕ
-nodes_in_try (Insert key value) = 3
-nodes_in_try (Delete key) = 1
-
--- how many nodes an insert needs, where the key has this value
+-- an insert makes two leaves and a fork over them, or a leaf in place of another: so many nodes it
+-- needs, where the key has this value
 abbrev pub insert_nodes : Option ℕ → ℕ
 insert_nodes None = 3
 insert_nodes (Some value) = 1
 
--- how many a delete needs
+-- a delete makes a copy of the leaf's sibling, where it finds its key
 abbrev pub delete_nodes : Option ℕ → ℕ
 delete_nodes None = 0
 delete_nodes (Some value) = 1
 
--- how many an edit needs on a map
-abbrev pub edit_needs : MapEdit → List PairOf → ℕ
-edit_needs (Insert key value) map = insert_nodes (get key map)
-edit_needs (Delete key) map = delete_nodes (get key map)
+-- and a pop, where it finds a pair
+abbrev pub pop_nodes : Option PairOf → ℕ
+pop_nodes None = 0
+pop_nodes (Some p) = 1
 
--- it tells what the key had before, or is refused
+-- a replacement makes a leaf in place of another, where it finds the value that it expects
+abbrev pub replace_nodes : ℕ → Option ℕ → ℕ
+replace_nodes expected told = if is_value expected told then 1 else 0
+
+-- an edit tells what the key had before, or is refused
 abbrev pub IsFormOfEdit : Form → Type 0
 IsFormOfEdit Value = Unit {0}
 IsFormOfEdit Contended = Unit {0}
 IsFormOfEdit Full = Unit {0}
 IsFormOfEdit _ = ⊥
+
+-- a pop tells a pair, or none, or is refused
+abbrev pub IsFormOfPop : Form → Type 0
+IsFormOfPop Pair = Unit {0}
+IsFormOfPop Contended = Unit {0}
+IsFormOfPop Full = Unit {0}
+IsFormOfPop _ = ⊥
+
+-- the rules of a call that edits: in a try it makes at most three steps for each level of its walk
+-- and so many behind it, and takes one SCX-record and so many nodes; so many nodes it needs
+abbrev pub edit_rules : ℕ → ℕ → (List PairOf → ℕ) → (Form → Type 0) → CallRules
+edit_rules behind nodes_in_try needs MayTell = record {
+  most_steps = λ tries nodes. tries * (3 * (2 + nodes) + behind);
+  MayMake = λ kind. Unit {0};
+  most_scx = λ tries. tries;
+  most_nodes = nodes_in_try;
+  need = needs;
+  MayReply = MayTell;
+}
 
 -- Reads
 
@@ -104,14 +117,10 @@ IsFormOfRange _ = ⊥
 -- tree may have, two more than nodes are taken; a search with snapshots 67, and a successor makes
 -- two of these behind a walk, a range one for each pair that it may take and for two more.
 abbrev pub call_rules : MapCall → CallRules
-call_rules (Edit e) = record {
-  most_steps = λ tries nodes. tries * (3 * (2 + nodes) + steps_behind_walk e);
-  MayMake = λ kind. Unit {0};
-  most_scx = λ tries. tries;
-  most_nodes = nodes_in_try e;
-  need = edit_needs e;
-  MayReply = IsFormOfEdit;
-}
+call_rules (Edit (Insert key value)) = edit_rules 178 3 (λ map. insert_nodes (get key map)) IsFormOfEdit
+call_rules (Edit (Delete key)) = edit_rules 301 1 (λ map. delete_nodes (get key map)) IsFormOfEdit
+call_rules PopFirst = edit_rules 301 1 (λ map. pop_nodes (first_pair map)) IsFormOfPop
+call_rules (ReplaceIf key expected value) = edit_rules 178 1 (λ map. replace_nodes expected (get key map)) IsFormOfEdit
 call_rules (Get key) = record {
   most_steps = λ tries nodes. 3 * (2 + nodes);
   MayMake = λ kind. (kind ≡ LoadSettled) ⊎ (kind ≡ LoadChild);

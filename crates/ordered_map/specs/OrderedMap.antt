@@ -108,9 +108,12 @@ abbrev pub after_edit : Option MapEdit → List Pair → List Pair
 after_edit None m = m
 after_edit (Some e) m = edited e m
 
--- all calls of a map; the last: from this key, to this key, at most so many pairs
+-- all calls of a map. `ReplaceIf`: this key, where it has this value, is to have that one; `Range`:
+-- from this key, to this key, at most so many pairs
 pub data MapCall : Type 0 where
   Edit : MapEdit → MapCall
+  PopFirst : MapCall
+  ReplaceIf : ℕ → ℕ → ℕ → MapCall
   Get : ℕ → MapCall
   Successor : ℕ → MapCall
   Range : ℕ → ℕ → ℕ → MapCall
@@ -129,6 +132,8 @@ pair_or_none None = OneValue None
 -- what the call replies on the map m: an edit tells the value that its key has in m, if it has one
 abbrev pub reply : MapCall → List Pair → MapReply
 reply (Edit e) m = OneValue (get (edit_key e) m)
+reply PopFirst m = pair_or_none (first_pair m)
+reply (ReplaceIf k e v) m = OneValue (get k m)
 reply (Get k) m = OneValue (get k m)
 reply (Successor k) m = pair_or_none (successor k m)
 reply (Range low high most) m = ManyPairs (range low high most m)
@@ -136,15 +141,20 @@ reply (Range low high most) m = ManyPairs (range low high most m)
 -- the map that the call leaves
 abbrev pub after : MapCall → List Pair → List Pair
 after (Edit e) m = edited e m
+after PopFirst m = without_first m
+after (ReplaceIf k e v) m = replace_if k e v m
 after (Get k) m = m
 after (Successor k) m = m
 after (Range low high most) m = m
 
 -- the edit of the map that a call with this reply has made, if it has made one: an insert always
--- has, a delete where it tells a value; all other calls with a reply are readings
+-- has, a delete where it tells a value, a pop where it tells a pair, a replacement where it tells
+-- the value that it was to find; all other calls with a reply are readings
 abbrev pub edit_of : MapCall → MapReply → Option MapEdit
 edit_of (Edit (Insert k v)) told = Some (Insert k v)
 edit_of (Edit (Delete k)) (OneValue (Some v)) = Some (Delete k)
+edit_of PopFirst (OnePair p) = Some (Delete p.key)
+edit_of (ReplaceIf k e v) (OneValue told) = replace_edit k e v told
 edit_of _ _ = None
 
 -- whether a call with this reply has changed the map

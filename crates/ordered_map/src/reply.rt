@@ -4,9 +4,9 @@ use arena::{Full, NodeNo, ScxNo};
 /// What a call of a dictionary replies.
 #[derive(Debug, Drop, PartialEq, Eq)]
 pub enum Reply<K, V> {
-    /// To an insert, a delete and a get: the value that the key had, if it had one.
+    /// To an insert, a delete, a replacement and a get: the value that the key had, if it had one.
     Value(Option<V>),
-    /// To a successor: the pair, if there is one.
+    /// To a pop and a successor: the pair, if there is one.
     Pair(Option<(K, V)>),
     /// To a range: the pairs, by rising key.
     Pairs(Vec<(K, V)>),

@@ -7,6 +7,10 @@ pub enum Request<K, V> {
     Insert { key: K, value: V },
     /// Takes a key out.
     Delete { key: K },
+    /// Takes out the pair with the least key.
+    PopFirst,
+    /// Gives a key this value if it has the expected one.
+    ReplaceIf { key: K, expected: V, value: V },
     /// Looks up a key.
     Get { key: K },
     /// Looks for the pair with the least key above this one.
