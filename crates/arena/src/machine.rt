@@ -84,21 +84,25 @@ pub trait Machine<S: Shape> {
     /// Goes on with what the last step found; with nothing at the first call, which may answer at
     /// once. It is not called again after `Done`.
     fn next(&mut self, got: Option<u64>) -> Turn<Self::Answer>
-        ensures turn { (c : Call) (h : History) → IsRun S.allows c.layout h → ready self.old c h got → MatchTurn result (waits self.new c h) (answers self.new c h) }
+        ensures turn { (c : Call) (h : History) → IsRun S.allows c.layout h → ready self.old c h got
+            → MatchTurn result (waits self.new c h) (answers self.new c h) }
         ensures begins { got ≡ None → asks_first self.old → (c : Call) (h : History) → ready self.old c h None → MatchTurn result (λ _. Unit {0}) (λ _. ⊥) }
         ensures same { same self.old self.new }
         ensures nearer { (nodes : ℕ) → fits self.old got nodes → MatchTurn result (λ _. left self.new nodes < left self.old nodes) (λ _. Unit {0}) };
 
     /// Rows of others leave it waiting.
-    ghost keeps: { (m : Self) (c : Call) (h : History) (s : Step) (r : Row) → IsRun S.allows c.layout (r ⊳ h) → r.pass.0 ≢ c.pass → waits m c h s → waits m c (r ⊳ h) s };
+    ghost keeps: { (m : Self) (c : Call) (h : History) (s : Step) (r : Row) → IsRun S.allows c.layout (r ⊳ h) → r.pass.0 ≢ c.pass
+        → waits m c h s → waits m c (r ⊳ h) s };
 
     /// The step that it waits for is lawful, on a word
     /// of the table, and begins only what is allowed.
     ghost lawful: { (m : Self) (c : Call) (h : History) (s : Step) → IsRun S.allows c.layout h → waits m c h s → IsRun S.allows c.layout (row_of c s h ⊳ h) };
 
     /// Once the step is made, it may be called with what that told.
-    ghost made: { (m : Self) (c : Call) (h : History) (s : Step) (v : ℕ) → IsRun S.allows c.layout (row_of c s h ⊳ h) → IsTold s.access (value h s.word) v → waits m c h s → ready m c (row_of c s h ⊳ h) (Some v) };
+    ghost made: { (m : Self) (c : Call) (h : History) (s : Step) (v : ℕ) → IsRun S.allows c.layout (row_of c s h ⊳ h)
+        → IsTold s.access (value h s.word) v → waits m c h s → ready m c (row_of c s h ⊳ h) (Some v) };
 
     /// What it may be told fits the nodes that are taken by then.
-    ghost told: { (m : Self) (c : Call) (h : History) (got : Option ℕ) (nodes : ℕ) → IsRun S.allows c.layout h → ready m c h got → length (taken_nodes h) ≤ nodes → fits m got nodes };
+    ghost told: { (m : Self) (c : Call) (h : History) (got : Option ℕ) (nodes : ℕ) → IsRun S.allows c.layout h → ready m c h got
+        → length (taken_nodes h) ≤ nodes → fits m got nodes };
 }

@@ -72,7 +72,8 @@ impl Plan {
 
     /// The first node to be finalized, from the j-th on.
     pub fn first_finalized_from(self, j: MemberIndex) -> Option<MemberIndex>
-        ensures removed { IfSome result (λ k. (member_index j ≤ member_index k) × (plan_finalizes self.0 (member_index k) ≡ true) × ((i : ℕ) → member_index j ≤ i → i < member_index k → plan_finalizes self.0 i ≡ false)) }
+        ensures removed { IfSome result (λ k. (member_index j ≤ member_index k) × (plan_finalizes self.0 (member_index k) ≡ true)
+            × ((i : ℕ) → member_index j ≤ i → i < member_index k → plan_finalizes self.0 i ≡ false)) }
         ensures none { IfNone result ((i : ℕ) → member_index j ≤ i → i < 4 → plan_finalizes self.0 i ≡ false) }
     {
         for index in j.index()..4 {

@@ -64,7 +64,8 @@ impl Share {
 
     /// Takes the next node: one that this share never gave before.
     pub fn fresh(&mut self) -> Option<Fresh>
-        ensures after_taking { IfSome result (λ f. (f ≡ self.old.next_node) × (0 < self.old.nodes) × (self.new ≡ record self.old { next_node = self.old.next_node + 1; nodes = self.old.nodes - 1 })) }
+        ensures after_taking { IfSome result (λ f. (f ≡ self.old.next_node) × (0 < self.old.nodes)
+            × (self.new ≡ record self.old { next_node = self.old.next_node + 1; nodes = self.old.nodes - 1 })) }
         ensures empty { IfNone result ((self.old.nodes ≡ 0) × (self.new ≡ self.old)) }
     {
         if self.nodes == 0 {
@@ -78,7 +79,8 @@ impl Share {
 
     /// Takes the next SCX-record.
     pub fn scx(&mut self) -> Option<ScxNo>
-        ensures after_taking { IfSome result (λ s. (s.0 ≡ self.old.next_scx) × (0 < self.old.scx) × (self.new ≡ record self.old { next_scx = self.old.next_scx + 1; scx = self.old.scx - 1 })) }
+        ensures after_taking { IfSome result (λ s. (s.0 ≡ self.old.next_scx) × (0 < self.old.scx)
+            × (self.new ≡ record self.old { next_scx = self.old.next_scx + 1; scx = self.old.scx - 1 })) }
         ensures empty { IfNone result ((self.old.scx ≡ 0) × (self.new ≡ self.old)) }
     {
         if self.scx == 0 {

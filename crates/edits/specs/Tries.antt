@@ -5,7 +5,7 @@ use Rattle.arena.specs.declared.step.Row.{Row}
 use Rattle.arena.specs.Fills.{IsOwnScx}
 use Rattle.arena.specs.History.{History, ◌⊳◌, Extends}
 use Rattle.arena.specs.Lawful.{IsWin}
-use Rattle.arena.specs.Machines.{Call}
+use Rattle.arena.specs.Machines.{Call, begun_at}
 use Rattle.arena.specs.ScxRecords.{member}
 use Rattle.prims.specs.Snap.{snap_at}
 use Rattle.prims.specs.declared.snap.Snap.{Snap}
@@ -44,7 +44,7 @@ IsTryAt c begin now limit left _ = IsTry c begin now limit left
 pub record HasLostTry (c : Call) (now : History) (limit left n s : ℕ) : Type 0 where
   pub begin : History
   pub try : IsTry c begin now limit left
-  pub way : IsContended (record c { start = begin }) now n s
+  pub way : IsContended (begun_at c begin) now n s
   pub none : HasEnteredNone c.layout c.pass now c.start
 
 -- the SCX-record covers the nodes of these snapshots

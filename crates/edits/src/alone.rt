@@ -23,12 +23,23 @@ ghost use Rattle.edits.specs.Tries.{HasEnteredNone};
 /// the least key it tells the first pair of that map, made or not. With one pass no call is ever
 /// contended. It does nothing; a caller learns the laws from its contract.
 pub fn alone_holds()
-    ensures made { (c : Call) (h : History) (edit : MapEdit) (number : ℕ) (old : Option ℕ) (map : List Pair) → IsTreeRun c.layout h → IsUndisturbed c h → (made : HasMade edit c h number old) → Spells c.layout (value c.start) map → Spells c.layout (value made.before) map × Spells c.layout (value h) (edited edit map) }
-    ensures found { (c : Call) (h : History) (k : ℕ) (f : Found) (map : List Pair) → k < 2 ^ 64 → IsTreeRun c.layout h → IsUndisturbed c h → HasFoundLeaf c h k f → HasEnteredNone c.layout c.pass h c.start → Spells c.layout (value c.start) map → f.value ≡ get k map }
-    ensures made_first { (c : Call) (h : History) (edit : MapEdit) (number : ℕ) (old : Option ℕ) (f : Found) (map : List Pair) → IsTreeRun c.layout h → IsUndisturbed c h → (made : HasMade edit c h number old) → ToldFirst Least c.layout made.before f → Spells c.layout (value c.start) map → first_pair map ≡ first_told f }
-    ensures found_first { (c : Call) (h : History) (f : Found) (map : List Pair) → IsTreeRun c.layout h → IsUndisturbed c h → HasFoundGoal Least c h f → HasEnteredNone c.layout c.pass h c.start → Spells c.layout (value c.start) map → first_pair map ≡ first_told f }
-    ensures read { (c : Call) (h : History) (k : ℕ) (told : Option ℕ) (map : List Pair) → IsTreeRun c.layout h → IsUndisturbed c h → IsAnswerAt c.layout h c.start k told → HasEnteredNone c.layout c.pass h c.start → Spells c.layout (value c.start) map → told ≡ get k map }
-    ensures kept { (c : Call) (h : History) (map : List Pair) → IsTreeRun c.layout h → IsUndisturbed c h → HasEnteredNone c.layout c.pass h c.start → Spells c.layout (value c.start) map → Spells c.layout (value h) map }
+    ensures made { (c : Call) (h : History) (edit : MapEdit) (number : ℕ) (old : Option ℕ) (map : List Pair)
+        → IsTreeRun c.layout h → IsUndisturbed c h → (made : HasMade edit c h number old) → Spells c.layout (value c.start) map
+        → Spells c.layout (value made.before) map × Spells c.layout (value h) (edited edit map) }
+    ensures found { (c : Call) (h : History) (k : ℕ) (f : Found) (map : List Pair) → k < 2 ^ 64 → IsTreeRun c.layout h
+        → IsUndisturbed c h → HasFoundLeaf c h k f → HasEnteredNone c.layout c.pass h c.start
+        → Spells c.layout (value c.start) map → f.value ≡ get k map }
+    ensures made_first { (c : Call) (h : History) (edit : MapEdit) (number : ℕ) (old : Option ℕ) (f : Found) (map : List Pair)
+        → IsTreeRun c.layout h → IsUndisturbed c h → (made : HasMade edit c h number old)
+        → ToldFirst Least c.layout made.before f → Spells c.layout (value c.start) map → first_pair map ≡ first_told f }
+    ensures found_first { (c : Call) (h : History) (f : Found) (map : List Pair) → IsTreeRun c.layout h → IsUndisturbed c h
+        → HasFoundGoal Least c h f → HasEnteredNone c.layout c.pass h c.start → Spells c.layout (value c.start) map
+        → first_pair map ≡ first_told f }
+    ensures read { (c : Call) (h : History) (k : ℕ) (told : Option ℕ) (map : List Pair) → IsTreeRun c.layout h
+        → IsUndisturbed c h → IsAnswerAt c.layout h c.start k told → HasEnteredNone c.layout c.pass h c.start
+        → Spells c.layout (value c.start) map → told ≡ get k map }
+    ensures kept { (c : Call) (h : History) (map : List Pair) → IsTreeRun c.layout h → IsUndisturbed c h
+        → HasEnteredNone c.layout c.pass h c.start → Spells c.layout (value c.start) map → Spells c.layout (value h) map }
     ensures undisturbed { (c : Call) (h : History) (n s : ℕ) → IsTreeRun c.layout h → IsUndisturbed c h → ¬ IsContended c h n s }
     ensures one_pass { (c : Call) (h : History) (n s : ℕ) → c.layout.passes ≡ 1 → ¬ IsContended c h n s }
 {}

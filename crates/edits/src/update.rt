@@ -183,7 +183,8 @@ impl<E: Edit + Drop> UpdateRun<E, UpdateAt> {
 
     /// Begins a try, with the load of the root's head.
     fn begin_walk(&mut self) -> Turn<Updated>
-        ensures turn { (c : Call) (h : History) → IsRun TreeAllows c.layout h → MayBeginTry E.means self.old c h → MayTry c h h self.old.limit self.old.tries → IsUntouched c h self.old.share → UpdateTurn E.means c h self.new result }
+        ensures turn { (c : Call) (h : History) → IsRun TreeAllows c.layout h → MayBeginTry E.means self.old c h
+            → MayTry c h h self.old.limit self.old.tries → IsUntouched c h self.old.share → UpdateTurn E.means c h self.new result }
         ensures begins { MatchTurn result (λ _. Unit {0}) (λ _. ⊥) }
         ensures same { IsSameUpdate self.old self.new }
         ensures nearer { (nodes : ℕ) → IsNearer E.means self.new nodes result (self.old.tries * try_left E.means nodes + try_left E.means nodes) }
@@ -203,7 +204,8 @@ impl<E: Edit + Drop> UpdateRun<E, UpdateAt> {
     /// Ends a try that is lost to this SCX-record over this node, and begins the next if there is one.
     #[cold]
     fn lost(&mut self, node: NodeNo, scx: ScxNo) -> Turn<Updated>
-        ensures turn { (c : Call) (h : History) → IsRun TreeAllows c.layout h → MayBeginTry E.means self.old c h → HasLostTry c h self.old.limit self.old.tries node.0 scx.0 → UpdateTurn E.means c h self.new result }
+        ensures turn { (c : Call) (h : History) → IsRun TreeAllows c.layout h → MayBeginTry E.means self.old c h
+            → HasLostTry c h self.old.limit self.old.tries node.0 scx.0 → UpdateTurn E.means c h self.new result }
         ensures same { IsSameUpdate self.old self.new }
         ensures gives_up { MatchTurn result (λ _. Unit {0}) (λ _. self.old.tries ≡ 0) }
         ensures nearer { (nodes : ℕ) → IsNearer E.means self.new nodes result (self.old.tries * try_left E.means nodes) }
@@ -219,9 +221,15 @@ impl<E: Edit + Drop> UpdateRun<E, UpdateAt> {
 
     /// Goes on with what the last step of the walk found.
     fn walk_on(&mut self, mut walk: WalkRun, got: Option<u64>) -> Turn<Updated>
-        ensures turn { (c : Call) (b h : History) (v : ℕ) → got ≡ Some v → IsRun TreeAllows c.layout h → IsTry c b h self.old.limit self.old.tries → IsUntouched c b self.old.share → Walks E.means self.old (begun_at c b) h walk.goal → WalkIsTold walk (begun_at c b) h v → UpdateTurn E.means c h self.new result }
+        ensures turn { (c : Call) (b h : History) (v : ℕ) → got ≡ Some v → IsRun TreeAllows c.layout h
+            → IsTry c b h self.old.limit self.old.tries → IsUntouched c b self.old.share
+            → Walks E.means self.old (begun_at c b) h walk.goal → WalkIsTold walk (begun_at c b) h v
+            → UpdateTurn E.means c h self.new result }
         ensures same { IsSameUpdate self.old self.new }
-        ensures nearer { (nodes : ℕ) → WalkFits walk got nodes → IsNearer E.means self.new nodes result (self.old.tries * try_left E.means nodes + (walk_left walk.at nodes + (64 * E.means.most_looks + works_behind E.means First + 39))) }
+        ensures nearer { (nodes : ℕ) → WalkFits walk got nodes
+            → IsNearer E.means self.new nodes result
+            (self.old.tries * try_left E.means nodes +
+            (walk_left walk.at nodes + (64 * E.means.most_looks + works_behind E.means First + 39))) }
         ensures spends { IsSpending E.means result self.old.share self.new (self.old.tries + 1) (self.old.tries + 1) }
         ensures tries { (self.old.tries ≤ self.new.tries + 1) × (self.new.tries ≤ self.old.tries) }
     {
@@ -239,9 +247,13 @@ impl<E: Edit + Drop> UpdateRun<E, UpdateAt> {
 
     /// Goes on with what the last step of an LLX found.
     fn look_on(&mut self, found: Found, mut llx: LlxRun, got: Option<u64>) -> Turn<Updated>
-        ensures turn { (c : Call) (b begin h : History) → IsRun TreeAllows c.layout h → IsTry c b h self.old.limit self.old.tries → Looks E.means self.old (begun_at c b) h found llx begin → LlxIsReady TreeAllows llx (begun_at (begun_at c b) begin) h got → UpdateTurn E.means c h self.new result }
+        ensures turn { (c : Call) (b begin h : History) → IsRun TreeAllows c.layout h → IsTry c b h self.old.limit self.old.tries
+            → Looks E.means self.old (begun_at c b) h found llx begin
+            → LlxIsReady TreeAllows llx (begun_at (begun_at c b) begin) h got → UpdateTurn E.means c h self.new result }
         ensures same { IsSameUpdate self.old self.new }
-        ensures nearer { (nodes : ℕ) → IsNearer E.means self.new nodes result (self.old.tries * try_left E.means nodes + (llx_left llx.at + 64 * (E.means.most_looks - 1 - length self.old.snaps.items) + works_behind E.means First + 39)) }
+        ensures nearer { (nodes : ℕ) → IsNearer E.means self.new nodes result
+            (self.old.tries * try_left E.means nodes +
+            (llx_left llx.at + 64 * (E.means.most_looks - 1 - length self.old.snaps.items) + works_behind E.means First + 39)) }
         ensures spends { IsSpending E.means result self.old.share self.new (self.old.tries + 1) (self.old.tries + 1) }
         ensures tries { (self.old.tries ≤ self.new.tries + 1) × (self.new.tries ≤ self.old.tries) }
     {
@@ -279,9 +291,11 @@ impl<E: Edit + Drop> UpdateRun<E, UpdateAt> {
 
     /// Goes on behind that fill: with the next word, or with what is done behind the last.
     fn fill_on(&mut self, found: Found, nth: Nth, part: NodeWord) -> Turn<Updated>
-        ensures turn { (c : Call) (b h : History) → IsRun TreeAllows c.layout h → IsTry c b h self.old.limit self.old.tries → IsFilledUpTo E.means self.old (begun_at c b) h found nth part → UpdateTurn E.means c h self.new result }
+        ensures turn { (c : Call) (b h : History) → IsRun TreeAllows c.layout h → IsTry c b h self.old.limit self.old.tries
+            → IsFilledUpTo E.means self.old (begun_at c b) h found nth part → UpdateTurn E.means c h self.new result }
         ensures same { IsSameUpdate self.old self.new }
-        ensures nearer { (nodes : ℕ) → IsNearer E.means self.new nodes result (self.old.tries * try_left E.means nodes + (fills_left E.means self.old found nth part + 39)) }
+        ensures nearer { (nodes : ℕ) → IsNearer E.means self.new nodes result
+            (self.old.tries * try_left E.means nodes + (fills_left E.means self.old found nth part + 39)) }
         ensures spends { 0 < self.old.share.scx → IsSpending E.means result self.old.share self.new self.old.tries (self.old.tries + 1) }
         ensures tries { (self.old.tries ≤ self.new.tries + 1) × (self.new.tries ≤ self.old.tries) }
     {
@@ -372,7 +386,14 @@ impl<E: Edit + Drop> UpdateRun<E, UpdateAt> {
     /// Stands in its SCX where a node could not be frozen.
     #[cold]
     pub fn block(&mut self, found: Found, scx: ScxNo, help: HelpRun) -> Turn<Updated>
-        ensures place { self.new ≡ record self.old { at = UpdateAt.Scx found record { scx = scx; call = self.old.call; update = update_of E.means self.old found; at = ScxAt.Help help } } }
+        ensures place { self.new ≡ record self.old {
+          at = UpdateAt.Scx found record {
+            scx = scx;
+            call = self.old.call;
+            update = update_of E.means self.old found;
+            at = ScxAt.Help help;
+          };
+        } }
         ensures asks { result ≡ Turn.Ask record { kind = Kind.LoadAllFrozen; word = Word.Scx scx ScxWord.AllFrozen; access = Access.Load } }
     {
         let run = self.scx_run(&found, scx, ScxAt::Help { help });
@@ -386,10 +407,12 @@ impl<E: Edit + Drop> UpdateRun<E, UpdateAt> {
 
     /// Begins what the try does next, or ends it.
     fn go_on(&mut self, found: Found, next: Result<Next, Stop>) -> Turn<Updated>
-        ensures turn { (c : Call) (h : History) → IsRun TreeAllows c.layout h → UpdateGoesOn E.means c h self.old found next → UpdateTurn E.means c h self.new result }
+        ensures turn { (c : Call) (h : History) → IsRun TreeAllows c.layout h → UpdateGoesOn E.means c h self.old found next
+            → UpdateTurn E.means c h self.new result }
         ensures same { IsSameUpdate self.old self.new }
         ensures nearer { (nodes n : ℕ) → ComesNearer E.means self.old found next nodes n → IsNearer E.means self.new nodes result n }
-        ensures spends { (share : Remaining) (nodes scx : ℕ) → HasSpentForNext E.means share self.old found next nodes scx → IsSpending E.means result share self.new nodes scx }
+        ensures spends { (share : Remaining) (nodes scx : ℕ) → HasSpentForNext E.means share self.old found next nodes scx
+            → IsSpending E.means result share self.new nodes scx }
         ensures tries { (self.old.tries ≤ self.new.tries + 1) × (self.new.tries ≤ self.old.tries) }
     {
         match next {
@@ -400,7 +423,8 @@ impl<E: Edit + Drop> UpdateRun<E, UpdateAt> {
 
     /// Ends a try before its SCX, and begins the next if it is lost and there is one.
     pub fn stop(&mut self, found: &Found, stop: Stop) -> Turn<Updated>
-        ensures turn { (c : Call) (h : History) → IsRun TreeAllows c.layout h → MayStop E.means c h self.old found.now stop → UpdateTurn E.means c h self.new result }
+        ensures turn { (c : Call) (h : History) → IsRun TreeAllows c.layout h → MayStop E.means c h self.old found.now stop
+            → UpdateTurn E.means c h self.new result }
         ensures same { IsSameUpdate self.old self.new }
         ensures nearer { (nodes : ℕ) → IsNearer E.means self.new nodes result (self.old.tries * try_left E.means nodes) }
         ensures spends { IsSpending E.means result self.old.share self.new self.old.tries self.old.tries }
@@ -415,7 +439,9 @@ impl<E: Edit + Drop> UpdateRun<E, UpdateAt> {
 
     /// Goes on with what the last step of the SCX found.
     fn scx_on(&mut self, found: Found, mut scx: ScxRun, got: Option<u64>) -> Turn<Updated>
-        ensures turn { (c : Call) (b begin h : History) → IsRun TreeAllows c.layout h → IsTry c b h self.old.limit self.old.tries → Scxs E.means self.old (begun_at c b) h found scx begin → ScxIsReady TreeAllows scx (begun_at (begun_at c b) begin) h got → UpdateTurn E.means c h self.new result }
+        ensures turn { (c : Call) (b begin h : History) → IsRun TreeAllows c.layout h → IsTry c b h self.old.limit self.old.tries
+            → Scxs E.means self.old (begun_at c b) h found scx begin
+            → ScxIsReady TreeAllows scx (begun_at (begun_at c b) begin) h got → UpdateTurn E.means c h self.new result }
         ensures same { IsSameUpdate self.old self.new }
         ensures nearer { (nodes : ℕ) → IsNearer E.means self.new nodes result (self.old.tries * try_left E.means nodes + scx_left scx.at) }
         ensures spends { IsSpending E.means result self.old.share self.new self.old.tries self.old.tries }
@@ -434,11 +460,13 @@ impl<E: Edit + Drop> UpdateRun<E, UpdateAt> {
     /// Goes on with what the last step found; with nothing at the first call, which asks for a
     /// step.
     pub fn step(&mut self, got: Option<u64>) -> Turn<Updated>
-        ensures turn { (c : Call) (h : History) → IsRun TreeAllows c.layout h → UpdateIsReady E.means self.old c h got → UpdateTurn E.means c h self.new result }
+        ensures turn { (c : Call) (h : History) → IsRun TreeAllows c.layout h → UpdateIsReady E.means self.old c h got
+            → UpdateTurn E.means c h self.new result }
         ensures begins { got ≡ None → (c : Call) (h : History) → UpdateIsReady E.means self.old c h None → MatchTurn result (λ _. Unit {0}) (λ _. ⊥) }
         ensures same { IsSameUpdate self.old self.new }
         ensures nearer { (nodes : ℕ) → UpdateFits E.means self.old got nodes → IsNearer E.means self.new nodes result (update_left E.means self.old nodes) }
-        ensures spends { HasScxForFill self.old self.old.at → IsSpending E.means result self.old.share self.new (node_tries self.old self.old.at) (scx_tries self.old self.old.at) }
+        ensures spends { HasScxForFill self.old self.old.at
+            → IsSpending E.means result self.old.share self.new (node_tries self.old self.old.at) (scx_tries self.old self.old.at) }
         ensures tries { (self.old.tries ≤ self.new.tries + 1) × (self.new.tries ≤ self.old.tries) }
     {
         match self.at {

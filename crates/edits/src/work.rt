@@ -98,9 +98,12 @@ impl<E: Edit + Drop, A: Drop> UpdateRun<E, A> {
     /// What the try does behind its walk, if the share has what the edit needs.
     #[inline(always)]
     pub fn test_share(&mut self, found: &Found) -> Result<Next, Stop>
-        ensures turn { (c : Call) (b h : History) → IsRun TreeAllows c.layout h → IsTry c b h self.old.limit self.old.tries → IsUntouched c b self.old.share → MayBeginTry E.means self.old (begun_at c b) h → IsQuietSince c.layout c.pass b h → HasFoundGoal (E.means.goal self.old.edit) (begun_at c b) h found.now → UpdateGoesOn E.means c h self.new found.now result }
+        ensures turn { (c : Call) (b h : History) → IsRun TreeAllows c.layout h → IsTry c b h self.old.limit self.old.tries
+            → IsUntouched c b self.old.share → MayBeginTry E.means self.old (begun_at c b) h → IsQuietSince c.layout c.pass b h
+            → HasFoundGoal (E.means.goal self.old.edit) (begun_at c b) h found.now → UpdateGoesOn E.means c h self.new found.now result }
         ensures same { IsSameUpdate self.old self.new }
-        ensures nearer { (nodes : ℕ) → ComesNearer E.means self.new found.now result nodes (self.old.tries * try_left E.means nodes + (64 * E.means.most_looks + works_behind E.means First + 39)) }
+        ensures nearer { (nodes : ℕ) → ComesNearer E.means self.new found.now result nodes
+            (self.old.tries * try_left E.means nodes + (64 * E.means.most_looks + works_behind E.means First + 39)) }
         ensures spends { HasSpentForNext E.means self.old.share self.new found.now result (self.old.tries + 1) (self.old.tries + 1) }
         ensures tries { self.new.tries ≡ self.old.tries }
     {
@@ -118,9 +121,12 @@ impl<E: Edit + Drop, A: Drop> UpdateRun<E, A> {
     /// The next node that the edit names to be looked at, or what is done behind the last.
     #[inline(always)]
     fn look(&mut self, found: &Found) -> Result<Next, Stop>
-        ensures turn { (c : Call) (b h : History) → IsRun TreeAllows c.layout h → IsTry c b h self.old.limit self.old.tries → CanLook E.means self.old (begun_at c b) h found.now → UpdateGoesOn E.means c h self.new found.now result }
+        ensures turn { (c : Call) (b h : History) → IsRun TreeAllows c.layout h → IsTry c b h self.old.limit self.old.tries
+            → CanLook E.means self.old (begun_at c b) h found.now → UpdateGoesOn E.means c h self.new found.now result }
         ensures same { IsSameUpdate self.old self.new }
-        ensures nearer { (nodes : ℕ) → ComesNearer E.means self.new found.now result nodes (self.old.tries * try_left E.means nodes + (64 * (E.means.most_looks - length self.old.snaps.items) + works_behind E.means First + 39)) }
+        ensures nearer { (nodes : ℕ) → ComesNearer E.means self.new found.now result nodes
+            (self.old.tries * try_left E.means nodes +
+            (64 * (E.means.most_looks - length self.old.snaps.items) + works_behind E.means First + 39)) }
         ensures spends { HasSpentForNext E.means self.old.share self.new found.now result (self.old.tries + 1) (self.old.tries + 1) }
         ensures tries { self.new.tries ≡ self.old.tries }
     {
@@ -134,9 +140,15 @@ impl<E: Edit + Drop, A: Drop> UpdateRun<E, A> {
     /// Keeps a snapshot, and tells what is done behind it.
     #[inline(always)]
     pub fn looked(&mut self, found: &Found, snap: Snap) -> Result<Next, Stop>
-        ensures turn { (c : Call) (b h : History) → IsRun TreeAllows c.layout h → IsTry c b h self.old.limit self.old.tries → CanLook E.means self.old (begun_at c b) h found.now → E.means.looks self.old.edit found.now self.old.snaps.items ≡ Look.At snap.node → IsSnapshot c.layout h snap.node.0 snap → HasFoundThere c.pass h b snap.node.0 snap.scx.0 → UpdateGoesOn E.means c h self.new found.now result }
+        ensures turn { (c : Call) (b h : History) → IsRun TreeAllows c.layout h → IsTry c b h self.old.limit self.old.tries
+            → CanLook E.means self.old (begun_at c b) h found.now
+            → E.means.looks self.old.edit found.now self.old.snaps.items ≡ Look.At snap.node
+            → IsSnapshot c.layout h snap.node.0 snap → HasFoundThere c.pass h b snap.node.0 snap.scx.0
+            → UpdateGoesOn E.means c h self.new found.now result }
         ensures same { IsSameUpdate self.old self.new }
-        ensures nearer { (nodes : ℕ) → ComesNearer E.means self.new found.now result nodes (self.old.tries * try_left E.means nodes + (64 * (E.means.most_looks - 1 - length self.old.snaps.items) + works_behind E.means First + 39)) }
+        ensures nearer { (nodes : ℕ) → ComesNearer E.means self.new found.now result nodes
+            (self.old.tries * try_left E.means nodes +
+            (64 * (E.means.most_looks - 1 - length self.old.snaps.items) + works_behind E.means First + 39)) }
         ensures spends { HasSpentForNext E.means self.old.share self.new found.now result (self.old.tries + 1) (self.old.tries + 1) }
         ensures tries { self.new.tries ≡ self.old.tries }
     {
@@ -147,9 +159,13 @@ impl<E: Edit + Drop, A: Drop> UpdateRun<E, A> {
     /// Takes the fresh nodes, once all snapshots are there.
     #[inline(always)]
     fn begin_work(&mut self, found: &Found) -> Next
-        ensures turn { (c : Call) (b h : History) → IsRun TreeAllows c.layout h → IsTry c b h self.old.limit self.old.tries → CanLook E.means self.old (begun_at c b) h found.now → E.means.looks self.old.edit found.now self.old.snaps.items ≡ Look.Enough → UpdateGoesOn E.means c h self.new found.now (Ok result) }
+        ensures turn { (c : Call) (b h : History) → IsRun TreeAllows c.layout h → IsTry c b h self.old.limit self.old.tries
+            → CanLook E.means self.old (begun_at c b) h found.now
+            → E.means.looks self.old.edit found.now self.old.snaps.items ≡ Look.Enough
+            → UpdateGoesOn E.means c h self.new found.now (Ok result) }
         ensures same { IsSameUpdate self.old self.new }
-        ensures nearer { (nodes : ℕ) → ComesNearer E.means self.new found.now (Ok result) nodes (self.old.tries * try_left E.means nodes + (works_behind E.means First + 39)) }
+        ensures nearer { (nodes : ℕ) → ComesNearer E.means self.new found.now (Ok result) nodes
+            (self.old.tries * try_left E.means nodes + (works_behind E.means First + 39)) }
         ensures spends { HasSpentForNext E.means self.old.share self.new found.now (Ok result) (self.old.tries + 1) (self.old.tries + 1) }
         ensures tries { self.new.tries ≡ self.old.tries }
     {
@@ -168,9 +184,14 @@ impl<E: Edit + Drop, A: Drop> UpdateRun<E, A> {
     /// Takes one fresh node.
     #[inline(always)]
     fn begin_one(&mut self, found: &Found) -> Next
-        ensures turn { (c : Call) (b h : History) → IsRun TreeAllows c.layout h → IsTry c b h self.old.limit self.old.tries → CanLook E.means self.old (begun_at c b) h found.now → E.means.looks self.old.edit found.now self.old.snaps.items ≡ Look.Enough → E.means.needs self.old.edit found.now ≡ Need.One → self.old.loaded ≡ nothing_loaded → UpdateGoesOn E.means c h self.new found.now (Ok result) }
+        ensures turn { (c : Call) (b h : History) → IsRun TreeAllows c.layout h → IsTry c b h self.old.limit self.old.tries
+            → CanLook E.means self.old (begun_at c b) h found.now
+            → E.means.looks self.old.edit found.now self.old.snaps.items ≡ Look.Enough
+            → E.means.needs self.old.edit found.now ≡ Need.One → self.old.loaded ≡ nothing_loaded
+            → UpdateGoesOn E.means c h self.new found.now (Ok result) }
         ensures same { IsSameUpdate self.old self.new }
-        ensures nearer { (nodes : ℕ) → ComesNearer E.means self.new found.now (Ok result) nodes (self.old.tries * try_left E.means nodes + (works_behind E.means First + 39)) }
+        ensures nearer { (nodes : ℕ) → ComesNearer E.means self.new found.now (Ok result) nodes
+            (self.old.tries * try_left E.means nodes + (works_behind E.means First + 39)) }
         ensures spends { HasSpentForNext E.means self.old.share self.new found.now (Ok result) (self.old.tries + 1) (self.old.tries + 1) }
         ensures tries { self.new.tries ≡ self.old.tries }
     {
@@ -186,10 +207,16 @@ impl<E: Edit + Drop, A: Drop> UpdateRun<E, A> {
     /// Takes three.
     #[inline(always)]
     fn begin_three(&mut self, found: &Found) -> Next
-        ensures turn { (c : Call) (b h : History) → IsRun TreeAllows c.layout h → IsTry c b h self.old.limit self.old.tries → CanLook E.means self.old (begun_at c b) h found.now → E.means.looks self.old.edit found.now self.old.snaps.items ≡ Look.Enough → E.means.needs self.old.edit found.now ≡ Need.Three → self.old.loaded ≡ nothing_loaded → UpdateGoesOn E.means c h self.new found.now (Ok result) }
+        ensures turn { (c : Call) (b h : History) → IsRun TreeAllows c.layout h → IsTry c b h self.old.limit self.old.tries
+            → CanLook E.means self.old (begun_at c b) h found.now
+            → E.means.looks self.old.edit found.now self.old.snaps.items ≡ Look.Enough
+            → E.means.needs self.old.edit found.now ≡ Need.Three → self.old.loaded ≡ nothing_loaded
+            → UpdateGoesOn E.means c h self.new found.now (Ok result) }
         ensures same { IsSameUpdate self.old self.new }
-        ensures nearer { (nodes : ℕ) → ComesNearer E.means self.new found.now (Ok result) nodes (self.old.tries * try_left E.means nodes + (works_behind E.means First + 39)) }
-        ensures spends { E.means.needs self.old.edit found.now ≡ Need.Three → HasSpentForNext E.means self.old.share self.new found.now (Ok result) (self.old.tries + 1) (self.old.tries + 1) }
+        ensures nearer { (nodes : ℕ) → ComesNearer E.means self.new found.now (Ok result) nodes
+            (self.old.tries * try_left E.means nodes + (works_behind E.means First + 39)) }
+        ensures spends { E.means.needs self.old.edit found.now ≡ Need.Three
+            → HasSpentForNext E.means self.old.share self.new found.now (Ok result) (self.old.tries + 1) (self.old.tries + 1) }
         ensures tries { self.new.tries ≡ self.old.tries }
     {
         let first = self.take();
@@ -221,8 +248,11 @@ impl<E: Edit + Drop, A: Drop> UpdateRun<E, A> {
     /// The next word to be loaded for the fresh node of this place, if there is one, before its fills.
     #[inline(always)]
     fn load(&self, found: &Found, nth: Nth) -> Next
-        ensures turn { (c : Call) (b h : History) → IsRun TreeAllows c.layout h → IsTry c b h self.now.limit self.now.tries → CanLoad E.means self.now (begun_at c b) h found.now nth → UpdateGoesOn E.means c h self.now found.now (Ok result) }
-        ensures nearer { (nodes : ℕ) → HasPlace (E.means.needs self.now.edit found.now) nth → ComesNearer E.means self.now found.now (Ok result) nodes (self.now.tries * try_left E.means nodes + (works_left E.means self.now found.now nth + 39)) }
+        ensures turn { (c : Call) (b h : History) → IsRun TreeAllows c.layout h → IsTry c b h self.now.limit self.now.tries
+            → CanLoad E.means self.now (begun_at c b) h found.now nth → UpdateGoesOn E.means c h self.now found.now (Ok result) }
+        ensures nearer { (nodes : ℕ) → HasPlace (E.means.needs self.now.edit found.now) nth
+            → ComesNearer E.means self.now found.now (Ok result) nodes
+            (self.now.tries * try_left E.means nodes + (works_left E.means self.now found.now nth + 39)) }
         ensures spends { HasSpentForNext E.means self.now.share self.now found.now (Ok result) self.now.tries (self.now.tries + 1) }
     {
         match self
@@ -237,9 +267,13 @@ impl<E: Edit + Drop, A: Drop> UpdateRun<E, A> {
     /// Keeps what that load has told, and tells what is done behind it.
     #[inline(always)]
     pub fn loaded(&mut self, found: &Found, nth: Nth, part: NodeWord, told: u64) -> Next
-        ensures turn { (c : Call) (b h : History) → IsRun TreeAllows c.layout h → IsTry c b h self.old.limit self.old.tries → Loads E.means self.old (begun_at c b) h found.now nth part → value h (node (copied E.means self.old found.now) part) ≡ told → UpdateGoesOn E.means c h self.new found.now (Ok result) }
+        ensures turn { (c : Call) (b h : History) → IsRun TreeAllows c.layout h → IsTry c b h self.old.limit self.old.tries
+            → Loads E.means self.old (begun_at c b) h found.now nth part
+            → value h (node (copied E.means self.old found.now) part) ≡ told → UpdateGoesOn E.means c h self.new found.now (Ok result) }
         ensures same { IsSameUpdate self.old self.new }
-        ensures nearer { (nodes : ℕ) → IsWanted E.means self.old found.now nth part → ComesNearer E.means self.new found.now (Ok result) nodes (self.old.tries * try_left E.means nodes + (works_left E.means self.old found.now nth - 1 + 39)) }
+        ensures nearer { (nodes : ℕ) → IsWanted E.means self.old found.now nth part
+            → ComesNearer E.means self.new found.now (Ok result) nodes
+            (self.old.tries * try_left E.means nodes + (works_left E.means self.old found.now nth - 1 + 39)) }
         ensures spends { HasSpentForNext E.means self.old.share self.new found.now (Ok result) self.old.tries (self.old.tries + 1) }
         ensures tries { self.new.tries ≡ self.old.tries }
     {
@@ -250,9 +284,13 @@ impl<E: Edit + Drop, A: Drop> UpdateRun<E, A> {
     /// What is done once the fresh node of this place is filled: with the next node, or the SCX.
     #[inline(always)]
     pub fn filled(&mut self, found: &Found, nth: Nth) -> Result<Next, Stop>
-        ensures turn { (c : Call) (b h : History) (part : NodeWord) → IsRun TreeAllows c.layout h → IsTry c b h self.old.limit self.old.tries → IsFilledUpTo E.means self.old (begun_at c b) h found.now nth part → part_behind (E.means.pieces self.old.edit found.now self.old.snaps.items self.old.nodes self.old.loaded nth) part ≡ None → UpdateGoesOn E.means c h self.new found.now result }
+        ensures turn { (c : Call) (b h : History) (part : NodeWord) → IsRun TreeAllows c.layout h
+            → IsTry c b h self.old.limit self.old.tries → IsFilledUpTo E.means self.old (begun_at c b) h found.now nth part
+            → part_behind (E.means.pieces self.old.edit found.now self.old.snaps.items self.old.nodes self.old.loaded nth) part
+            ≡ None → UpdateGoesOn E.means c h self.new found.now result }
         ensures same { IsSameUpdate self.old self.new }
-        ensures nearer { (nodes : ℕ) → ComesNearer E.means self.new found.now result nodes (self.old.tries * try_left E.means nodes + (works_after E.means nth + 39)) }
+        ensures nearer { (nodes : ℕ) → ComesNearer E.means self.new found.now result nodes
+            (self.old.tries * try_left E.means nodes + (works_after E.means nth + 39)) }
         ensures spends { 0 < self.old.share.scx → HasSpentForNext E.means self.old.share self.new found.now result self.old.tries (self.old.tries + 1) }
         ensures tries { self.new.tries ≡ self.old.tries }
     {
@@ -265,7 +303,8 @@ impl<E: Edit + Drop, A: Drop> UpdateRun<E, A> {
     /// Takes an SCX-record.
     #[inline(always)]
     fn take_scx(&mut self, found: &Found) -> Result<Next, Stop>
-        ensures turn { (c : Call) (b h : History) → IsRun TreeAllows c.layout h → IsTry c b h self.old.limit self.old.tries → CanScx E.means self.old (begun_at c b) h found.now → UpdateGoesOn E.means c h self.new found.now result }
+        ensures turn { (c : Call) (b h : History) → IsRun TreeAllows c.layout h → IsTry c b h self.old.limit self.old.tries
+            → CanScx E.means self.old (begun_at c b) h found.now → UpdateGoesOn E.means c h self.new found.now result }
         ensures same { IsSameUpdate self.old self.new }
         ensures nearer { (nodes : ℕ) → ComesNearer E.means self.new found.now result nodes (self.old.tries * try_left E.means nodes + 39) }
         ensures spends { 0 < self.old.share.scx → HasSpentForNext E.means self.old.share self.new found.now result self.old.tries (self.old.tries + 1) }

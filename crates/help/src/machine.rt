@@ -35,7 +35,11 @@ impl HelpRun {
     }
 
     fn freeze(&mut self, j: MemberIndex, seen: u64) -> Turn<bool>
-        ensures { HelpAsks self.old self.new result (HelpAt.Freeze j seen) record { kind = Kind.Freeze; word = Word.Node record { 0 = node_at self.old.members (member_index j) } NodeWord.Info; access = Access.Exchange seen self.old.scx.0 } }
+        ensures { HelpAsks self.old self.new result (HelpAt.Freeze j seen) record {
+          kind = Kind.Freeze;
+          word = Word.Node record { 0 = node_at self.old.members (member_index j) } NodeWord.Info;
+          access = Access.Exchange seen self.old.scx.0;
+        } }
     {
         let info = Word::Node(self.members[j.index()], NodeWord::Info);
         let new = self.scx.0;
@@ -68,7 +72,11 @@ impl HelpRun {
 
     /// Looks whether `allfrozen` is set, where the info of the j-th node was not to be had.
     fn load_all_frozen(&mut self, j: MemberIndex, found: u64) -> Turn<bool>
-        ensures { HelpAsks self.old self.new result (HelpAt.AllFrozen j found) record { kind = Kind.LoadAllFrozen; word = Word.Scx self.old.scx ScxWord.AllFrozen; access = Access.Load } }
+        ensures { HelpAsks self.old self.new result (HelpAt.AllFrozen j found) record {
+          kind = Kind.LoadAllFrozen;
+          word = Word.Scx self.old.scx ScxWord.AllFrozen;
+          access = Access.Load;
+        } }
     {
         let allfrozen = Word::Scx(self.scx, ScxWord::AllFrozen);
         let at = HelpAt::AllFrozen { j, found };
@@ -91,7 +99,11 @@ impl HelpRun {
     }
 
     fn update(&mut self, old: u64, new: u64) -> Turn<bool>
-        ensures { HelpAsks self.old self.new result HelpAt.Update record { kind = Kind.Update; word = Word.Node record { 0 = node_at self.old.members (field_index_of self.old.plan.0) } (NodeWord.Child (side_of self.old.plan.0)); access = Access.Exchange old new } }
+        ensures { HelpAsks self.old self.new result HelpAt.Update record {
+          kind = Kind.Update;
+          word = Word.Node record { 0 = node_at self.old.members (field_index_of self.old.plan.0) } (NodeWord.Child (side_of self.old.plan.0));
+          access = Access.Exchange old new;
+        } }
     {
         let node = self.members[self.plan.at().index()];
         let field = Word::Node(node, NodeWord::Child(self.plan.side()));

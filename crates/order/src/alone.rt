@@ -25,10 +25,22 @@ ghost use Rattle.order.specs.declared.successor.SuccessorRun.{SuccessorRun};
 /// turn leaves fewer steps of the first. Nor is any read contended where there is one pass alone.
 /// It does nothing; a caller learns the laws from its contract.
 pub fn alone_holds()
-    ensures successor { (old now : SuccessorRun) (turn : Turn (Result (Option Pair) Refused)) (c : Call) (h : History) (got : Option ℕ) (map : List Pair) → IsUndisturbed c h → Spells c.layout (value c.start) map → SuccessorIsReady old c h got → now.key ≡ old.key → SuccessorTurn c h now turn → HasLeftAll c h map × MatchTurn turn (λ _. Unit {0}) (TellsNext map old.key) }
-    ensures range { (old now : RangeRun) (turn : Turn (Result (Vec Pair Global) Refused)) (c : Call) (h : History) (got : Option ℕ) (map : List Pair) → IsUndisturbed c h → Spells c.layout (value c.start) map → RangeIsReady old c h got → IsSameRange old now → RangeTurn c h now turn → HasLeftAll c h map × MatchTurn turn (λ _. Unit {0}) (TellsRange map old.low old.high old.most) }
-    ensures successor_try { (old now : SuccessorRun) (turn : Turn (Result (Option Pair) Refused)) (c : Call) (h : History) (nodes : ℕ) → IsTreeRun c.layout h → IsUndisturbed c h → KeepsTries c h old.tries now.tries turn → SuccessorIsNearer now nodes turn (successor_left old nodes) → (now.tries ≡ old.tries) × HasLessOfTry turn (successor_phase_left now nodes now.at) (successor_phase_left old nodes old.at) }
-    ensures range_try { (old now : RangeRun) (turn : Turn (Result (Vec Pair Global) Refused)) (c : Call) (h : History) (nodes : ℕ) → IsTreeRun c.layout h → IsUndisturbed c h → IsSameRange old now → KeepsTries c h old.tries now.tries turn → RangeIsNearer now nodes turn (range_left old nodes) → (now.tries ≡ old.tries) × HasLessOfTry turn (range_phase_left now nodes now.at) (range_phase_left old nodes old.at) }
+    ensures successor { (old now : SuccessorRun) (turn : Turn (Result (Option Pair) Refused)) (c : Call) (h : History)
+        (got : Option ℕ) (map : List Pair) → IsUndisturbed c h → Spells c.layout (value c.start) map
+        → SuccessorIsReady old c h got → now.key ≡ old.key → SuccessorTurn c h now turn
+        → HasLeftAll c h map × MatchTurn turn (λ _. Unit {0}) (TellsNext map old.key) }
+    ensures range { (old now : RangeRun) (turn : Turn (Result (Vec Pair Global) Refused)) (c : Call) (h : History)
+        (got : Option ℕ) (map : List Pair) → IsUndisturbed c h → Spells c.layout (value c.start) map → RangeIsReady old c h got
+        → IsSameRange old now → RangeTurn c h now turn
+        → HasLeftAll c h map × MatchTurn turn (λ _. Unit {0}) (TellsRange map old.low old.high old.most) }
+    ensures successor_try { (old now : SuccessorRun) (turn : Turn (Result (Option Pair) Refused)) (c : Call) (h : History)
+        (nodes : ℕ) → IsTreeRun c.layout h → IsUndisturbed c h → KeepsTries c h old.tries now.tries turn
+        → SuccessorIsNearer now nodes turn (successor_left old nodes)
+        → (now.tries ≡ old.tries) × HasLessOfTry turn (successor_phase_left now nodes now.at) (successor_phase_left old nodes old.at) }
+    ensures range_try { (old now : RangeRun) (turn : Turn (Result (Vec Pair Global) Refused)) (c : Call) (h : History)
+        (nodes : ℕ) → IsTreeRun c.layout h → IsUndisturbed c h → IsSameRange old now → KeepsTries c h old.tries now.tries turn
+        → RangeIsNearer now nodes turn (range_left old nodes)
+        → (now.tries ≡ old.tries) × HasLessOfTry turn (range_phase_left now nodes now.at) (range_phase_left old nodes old.at) }
     ensures undisturbed { (c : Call) (h : History) (n s : ℕ) → IsTreeRun c.layout h → IsUndisturbed c h → ¬ IsContended c h n s }
     ensures one_pass { (c : Call) (h : History) (n s : ℕ) → c.layout.passes ≡ 1 → ¬ IsContended c h n s }
 {}

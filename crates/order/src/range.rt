@@ -168,12 +168,15 @@ impl RangeRun {
     /// Begins a try with the load of the root's head; of no keys, and of no pairs, it knows the
     /// answer.
     pub fn begin(&mut self) -> Turn<Told>
-        ensures turn { (c : Call) (begin h : History) → BeginsTry c h self.old.limit self.old.tries → RangeGoes self.old (begun_at c begin) h → RangeTurn c h self.new result }
+        ensures turn { (c : Call) (begin h : History) → BeginsTry c h self.old.limit self.old.tries
+            → RangeGoes self.old (begun_at c begin) h → RangeTurn c h self.new result }
         ensures begins { AsksForSome self.old → MatchTurn result (λ _. Unit {0}) (λ _. ⊥) }
         ensures nothing { AsksForNothing self.old → TellsNone result }
-        ensures root { MatchTurn result (λ step. (self.new.at ≡ RangeAt.Root) × (step ≡ load Kind.LoadSettled (Word.Node record { 0 = 0 } NodeWord.Head))) (λ _. Unit {0}) }
+        ensures root { MatchTurn result (λ step. (self.new.at ≡ RangeAt.Root)
+            × (step ≡ load Kind.LoadSettled (Word.Node record { 0 = 0 } NodeWord.Head))) (λ _. Unit {0}) }
         ensures same { IsSameRange self.old self.new }
-        ensures nearer { (nodes : ℕ) → RangeIsNearer self.new nodes result (self.old.tries * range_try_left self.old.most nodes + range_try_left self.old.most nodes) }
+        ensures nearer { (nodes : ℕ) → RangeIsNearer self.new nodes result
+            (self.old.tries * range_try_left self.old.most nodes + range_try_left self.old.most nodes) }
         ensures tries { self.new.tries ≡ self.old.tries }
     {
         self.snaps.clear();
@@ -200,7 +203,8 @@ impl RangeRun {
     /// Ends a try that is lost to this SCX-record over this node, and begins the next if there is
     /// one.
     fn lost(&mut self, node: NodeNo, scx: ScxNo) -> Turn<Told>
-        ensures turn { (c : Call) (begin h : History) → IsInTry c h begin self.old.limit self.old.tries → RangeGoes self.old (begun_at c begin) h → IsContended (begun_at c begin) h node.0 scx.0 → RangeTurn c h self.new result }
+        ensures turn { (c : Call) (begin h : History) → IsInTry c h begin self.old.limit self.old.tries
+            → RangeGoes self.old (begun_at c begin) h → IsContended (begun_at c begin) h node.0 scx.0 → RangeTurn c h self.new result }
         ensures same { IsSameRange self.old self.new }
         ensures nearer { (nodes : ℕ) → RangeIsNearer self.new nodes result (self.old.tries * range_try_left self.old.most nodes) }
         ensures tries { (c : Call) (h : History) → AsksForSome self.old → IsContended c h node.0 scx.0 → KeepsTries c h self.old.tries self.new.tries result }
@@ -216,9 +220,12 @@ impl RangeRun {
     /// pair.
     #[inline(always)]
     pub fn head_on(&mut self, head: Head, node: NodeNo) -> RangeNext
-        ensures goes_on { (c : Call) (h : History) → RangeGoes self.old c h → IsOwnMoment c h → Visits self.old c h node.0 → head_at h node.0 ≡ head → RangeGoesOn c h self.new (Ok result) }
+        ensures goes_on { (c : Call) (h : History) → RangeGoes self.old c h → IsOwnMoment c h → Visits self.old c h node.0
+            → head_at h node.0 ≡ head → RangeGoesOn c h self.new (Ok result) }
         ensures same { IsSameRange self.old self.new }
-        ensures nearer { (nodes : ℕ) → HeadFits head nodes → RangeComesNearer self.new result nodes (length self.old.snaps.items + 67 * (2 + nodes - head.level) - 1 + leaves_left self.old.leaves nodes) }
+        ensures nearer { (nodes : ℕ) → HeadFits head nodes
+            → RangeComesNearer self.new result nodes
+            (length self.old.snaps.items + 67 * (2 + nodes - head.level) - 1 + leaves_left self.old.leaves nodes) }
         ensures tries { self.new.tries ≡ self.old.tries }
     {
         if head.class == 0 {
@@ -239,9 +246,12 @@ impl RangeRun {
     /// What is done behind the key of a node of class 0.
     #[inline(always)]
     pub fn key_on(&mut self, head: Head, node: NodeNo, key: u64) -> RangeNext
-        ensures goes_on { (c : Call) (h : History) → RangeGoes self.old c h → IsOwnMoment c h → Visits self.old c h node.0 → HasLowHead h node.0 head → key_at h node.0 ≡ key → RangeGoesOn c h self.new (Ok result) }
+        ensures goes_on { (c : Call) (h : History) → RangeGoes self.old c h → IsOwnMoment c h → Visits self.old c h node.0
+            → HasLowHead h node.0 head → key_at h node.0 ≡ key → RangeGoesOn c h self.new (Ok result) }
         ensures same { IsSameRange self.old self.new }
-        ensures nearer { (nodes : ℕ) → HeadFits head nodes → RangeComesNearer self.new result nodes (length self.old.snaps.items + 67 * (2 + nodes - head.level) - 2 + leaves_left self.old.leaves nodes) }
+        ensures nearer { (nodes : ℕ) → HeadFits head nodes
+            → RangeComesNearer self.new result nodes
+            (length self.old.snaps.items + 67 * (2 + nodes - head.level) - 2 + leaves_left self.old.leaves nodes) }
         ensures tries { self.new.tries ≡ self.old.tries }
     {
         if !head.leaf {
@@ -266,9 +276,11 @@ impl RangeRun {
     /// `NoMemory` where there is none to keep it.
     #[inline(always)]
     pub fn value_on(&mut self, pair: Pair) -> Result<RangeNext, Refused>
-        ensures goes_on { (c : Call) (h : History) (n : ℕ) → RangeGoes self.old c h → IsOwnMoment c h → HasKey self.old c h n pair.key → value_at h n ≡ pair.value → RangeGoesOn c h self.new result }
+        ensures goes_on { (c : Call) (h : History) (n : ℕ) → RangeGoes self.old c h → IsOwnMoment c h
+            → HasKey self.old c h n pair.key → value_at h n ≡ pair.value → RangeGoesOn c h self.new result }
         ensures same { IsSameRange self.old self.new }
-        ensures nearer { (nodes : ℕ) → IfOk result (λ next. RangeComesNearer self.new next nodes (length self.old.snaps.items + leaves_left self.old.leaves nodes)) }
+        ensures nearer { (nodes : ℕ) → IfOk result (λ next. RangeComesNearer self.new next nodes
+            (length self.old.snaps.items + leaves_left self.old.leaves nodes)) }
         ensures tries { self.new.tries ≡ self.old.tries }
     {
         if self.taken.push(pair).is_err() {
@@ -280,7 +292,8 @@ impl RangeRun {
     /// What is done behind a leaf.
     #[inline(always)]
     fn visited(&mut self) -> RangeNext
-        ensures goes_on { (c : Call) (h : History) → RangeGoes self.old c h → GoesBehind self.old c h (self.old.leaves - 1) → RangeGoesOn c h self.new (Ok result) }
+        ensures goes_on { (c : Call) (h : History) → RangeGoes self.old c h → GoesBehind self.old c h (self.old.leaves - 1)
+            → RangeGoesOn c h self.new (Ok result) }
         ensures same { IsSameRange self.old self.new }
         ensures nearer { (nodes : ℕ) → RangeComesNearer self.new result nodes (length self.old.snaps.items + leaves_left self.old.leaves nodes) }
         ensures tries { self.new.tries ≡ self.old.tries }
@@ -307,10 +320,17 @@ impl RangeRun {
         mut llx: LlxRun,
         got: Option<u64>,
     ) -> Turn<Told>
-        ensures turn { (c : Call) (begin look h : History) → IsInTry c h begin self.old.limit self.old.tries → RangeGoes self.old (begun_at c begin) h → LooksIn self.old (begun_at c begin) h level left right llx.node.0 → Extends look begin → LlxIsReady TreeAllows llx (begun_at c look) h got → RangeTurn c h self.new result }
+        ensures turn { (c : Call) (begin look h : History) → IsInTry c h begin self.old.limit self.old.tries
+            → RangeGoes self.old (begun_at c begin) h → LooksIn self.old (begun_at c begin) h level left right llx.node.0
+            → Extends look begin → LlxIsReady TreeAllows llx (begun_at c look) h got → RangeTurn c h self.new result }
         ensures same { IsSameRange self.old self.new }
-        ensures nearer { (nodes : ℕ) → level + 1 < 2 + nodes → RangeIsNearer self.new nodes result (self.old.tries * range_try_left self.old.most nodes + (llx_left llx.at + length self.old.snaps.items + 1 + 67 * (1 + nodes - level) + leaves_left self.old.leaves nodes)) }
-        ensures tries { (c : Call) (begin h : History) → RangeGoes self.old c h → LooksIn self.old c h level left right llx.node.0 → Extends begin c.start → LlxIsReady TreeAllows llx (begun_at c begin) h got → KeepsTries c h self.old.tries self.new.tries result }
+        ensures nearer { (nodes : ℕ) → level + 1 < 2 + nodes
+            → RangeIsNearer self.new nodes result
+            (self.old.tries * range_try_left self.old.most nodes +
+            (llx_left llx.at + length self.old.snaps.items + 1 + 67 * (1 + nodes - level) + leaves_left self.old.leaves nodes)) }
+        ensures tries { (c : Call) (begin h : History) → RangeGoes self.old c h
+            → LooksIn self.old c h level left right llx.node.0 → Extends begin c.start
+            → LlxIsReady TreeAllows llx (begun_at c begin) h got → KeepsTries c h self.old.tries self.new.tries result }
     {
         match Machine::<Tree>::next(&mut llx, got) {
             Turn::Ask(step) => {
@@ -345,9 +365,12 @@ impl RangeRun {
         right: bool,
         snap: Snap,
     ) -> Result<RangeNext, Refused>
-        ensures goes_on { (c : Call) (h : History) → RangeGoes self.old c h → LooksIn self.old c h level left right snap.node.0 → IsSnapshot c.layout h snap.node.0 snap → RangeGoesOn c h self.new result }
+        ensures goes_on { (c : Call) (h : History) → RangeGoes self.old c h → LooksIn self.old c h level left right snap.node.0
+            → IsSnapshot c.layout h snap.node.0 snap → RangeGoesOn c h self.new result }
         ensures same { IsSameRange self.old self.new }
-        ensures nearer { (nodes : ℕ) → level + 1 < 2 + nodes → IfOk result (λ next. RangeComesNearer self.new next nodes (length self.old.snaps.items + 1 + 67 * (1 + nodes - level) + leaves_left self.old.leaves nodes)) }
+        ensures nearer { (nodes : ℕ) → level + 1 < 2 + nodes
+            → IfOk result (λ next. RangeComesNearer self.new next nodes
+            (length self.old.snaps.items + 1 + 67 * (1 + nodes - level) + leaves_left self.old.leaves nodes)) }
         ensures tries { self.new.tries ≡ self.old.tries }
     {
         if self.snaps.push(snap).is_err() {
@@ -375,20 +398,31 @@ impl RangeRun {
 
     /// Looks whether all nodes are still as they were found.
     fn validate(&mut self) -> Turn<Told>
-        ensures turn { (c : Call) (begin h : History) → IsInTry c h begin self.old.limit self.old.tries → RangeGoes self.old (begun_at c begin) h → AsksForSome self.old → IsOwnMoment (begun_at c begin) h → 0 < length self.old.snaps.items → Whenever c.layout h self.old.snaps.items (λ b. IsRangeAt c.layout b (bounds_of self.old) self.old.taken.items) → RangeTurn c h self.new result }
+        ensures turn { (c : Call) (begin h : History) → IsInTry c h begin self.old.limit self.old.tries
+            → RangeGoes self.old (begun_at c begin) h → AsksForSome self.old → IsOwnMoment (begun_at c begin) h
+            → 0 < length self.old.snaps.items
+            → Whenever c.layout h self.old.snaps.items (λ b. IsRangeAt c.layout b (bounds_of self.old) self.old.taken.items)
+            → RangeTurn c h self.new result }
         ensures same { IsSameRange self.old self.new }
         ensures nearer { (nodes : ℕ) → RangeIsNearer self.new nodes result (self.old.tries * range_try_left self.old.most nodes + length self.old.snaps.items) }
-        ensures tries { (c : Call) (h : History) → RangeGoes self.old c h → AsksForSome self.old → IsOwnMoment c h → 0 < length self.old.snaps.items → Whenever c.layout h self.old.snaps.items (λ b. IsRangeAt c.layout b (bounds_of self.old) self.old.taken.items) → KeepsTries c h self.old.tries self.new.tries result }
+        ensures tries { (c : Call) (h : History) → RangeGoes self.old c h → AsksForSome self.old → IsOwnMoment c h
+            → 0 < length self.old.snaps.items
+            → Whenever c.layout h self.old.snaps.items (λ b. IsRangeAt c.layout b (bounds_of self.old) self.old.taken.items)
+            → KeepsTries c h self.old.tries self.new.tries result }
     {
         self.validate_on(0, None)
     }
 
     /// Goes on with what the last step of the VLX found.
     fn validate_on(&mut self, asked: usize, got: Option<u64>) -> Turn<Told>
-        ensures turn { (c : Call) (begin look h : History) → IsInTry c h begin self.old.limit self.old.tries → RangeGoes self.old (begun_at c begin) h → RangeValidates self.old (begun_at c begin) h look → VlxIsReady self.old.snaps.items asked (begun_at c look) h got → RangeTurn c h self.new result }
+        ensures turn { (c : Call) (begin look h : History) → IsInTry c h begin self.old.limit self.old.tries
+            → RangeGoes self.old (begun_at c begin) h → RangeValidates self.old (begun_at c begin) h look
+            → VlxIsReady self.old.snaps.items asked (begun_at c look) h got → RangeTurn c h self.new result }
         ensures same { IsSameRange self.old self.new }
-        ensures nearer { (nodes : ℕ) → RangeIsNearer self.new nodes result (self.old.tries * range_try_left self.old.most nodes + vlx_left self.old.snaps.items asked) }
-        ensures tries { (c : Call) (begin h : History) → RangeGoes self.old c h → RangeValidates self.old c h begin → VlxIsReady self.old.snaps.items asked (begun_at c begin) h got → KeepsTries c h self.old.tries self.new.tries result }
+        ensures nearer { (nodes : ℕ) → RangeIsNearer self.new nodes result
+            (self.old.tries * range_try_left self.old.most nodes + vlx_left self.old.snaps.items asked) }
+        ensures tries { (c : Call) (begin h : History) → RangeGoes self.old c h → RangeValidates self.old c h begin
+            → VlxIsReady self.old.snaps.items asked (begun_at c begin) h got → KeepsTries c h self.old.tries self.new.tries result }
     {
         let mut vlx = VlxRun {
             snaps: self.snaps.as_slice(),
@@ -410,7 +444,8 @@ impl RangeRun {
     fn stand(&mut self, next: RangeNext) -> Turn<Told>
         ensures turn { (c : Call) (h : History) → RangeMayGoOn c h self.old next → RangeTurn c h self.new result }
         ensures same { IsSameRange self.old self.new }
-        ensures nearer { (nodes n : ℕ) → RangeComesNearer self.old next nodes n → RangeIsNearer self.new nodes result (self.old.tries * range_try_left self.old.most nodes + n) }
+        ensures nearer { (nodes n : ℕ) → RangeComesNearer self.old next nodes n
+            → RangeIsNearer self.new nodes result (self.old.tries * range_try_left self.old.most nodes + n) }
         ensures tries { (c : Call) (h : History) → RangeGoes self.old c h → RangeMayDo self.old c h next → KeepsTries c h self.old.tries self.new.tries result }
     {
         match next {
@@ -450,9 +485,11 @@ impl RangeRun {
 
     /// Begins what comes next, or ends where that is refused.
     fn proceed(&mut self, next: Result<RangeNext, Refused>) -> Turn<Told>
-        ensures turn { (c : Call) (begin h : History) → IsInTry c h begin self.old.limit self.old.tries → RangeGoesOn (begun_at c begin) h self.old next → RangeTurn c h self.new result }
+        ensures turn { (c : Call) (begin h : History) → IsInTry c h begin self.old.limit self.old.tries
+            → RangeGoesOn (begun_at c begin) h self.old next → RangeTurn c h self.new result }
         ensures same { IsSameRange self.old self.new }
-        ensures nearer { (nodes n : ℕ) → IfOk next (λ now. RangeComesNearer self.old now nodes n) → RangeIsNearer self.new nodes result (self.old.tries * range_try_left self.old.most nodes + n) }
+        ensures nearer { (nodes n : ℕ) → IfOk next (λ now. RangeComesNearer self.old now nodes n)
+            → RangeIsNearer self.new nodes result (self.old.tries * range_try_left self.old.most nodes + n) }
         ensures tries { (c : Call) (h : History) → RangeGoesOn c h self.old next → KeepsTries c h self.old.tries self.new.tries result }
     {
         match next {
@@ -466,7 +503,8 @@ impl RangeRun {
     /// SCX-record of another pass was in the way of the call; and none as it ends.
     pub fn step(&mut self, got: Option<u64>) -> Turn<Told>
         ensures turn { (c : Call) (h : History) → RangeIsReady self.old c h got → RangeTurn c h self.new result }
-        ensures begins { got ≡ None → AsksForSome self.old → (c : Call) (h : History) → RangeIsReady self.old c h None → MatchTurn result (λ _. Unit {0}) (λ _. ⊥) }
+        ensures begins { got ≡ None → AsksForSome self.old → (c : Call) (h : History) → RangeIsReady self.old c h None
+            → MatchTurn result (λ _. Unit {0}) (λ _. ⊥) }
         ensures nothing { self.old.at ≡ RangeAt.Start → AsksForNothing self.old → TellsNone result }
         ensures same { IsSameRange self.old self.new }
         ensures nearer { (nodes : ℕ) → RangeFits self.old got nodes → RangeIsNearer self.new nodes result (range_left self.old nodes) }

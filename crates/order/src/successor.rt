@@ -168,7 +168,8 @@ impl SuccessorRun {
 
     /// Begins a try, with the first step of a walk: the load of the root's head.
     fn begin(&mut self) -> Turn<Told>
-        ensures turn { (c : Call) (begin h : History) → BeginsTry c h self.old.limit self.old.tries → SuccessorGoes self.old (begun_at c begin) h → SuccessorTurn c h self.new result }
+        ensures turn { (c : Call) (begin h : History) → BeginsTry c h self.old.limit self.old.tries
+            → SuccessorGoes self.old (begun_at c begin) h → SuccessorTurn c h self.new result }
         ensures begins { MatchTurn result (λ _. Unit {0}) (λ _. ⊥) }
         ensures same { IsSameSuccessor self.old self.new }
         ensures nearer { (nodes : ℕ) → SuccessorIsNearer self.new nodes result (self.old.tries * successor_try_left nodes + successor_try_left nodes) }
@@ -184,7 +185,9 @@ impl SuccessorRun {
     /// Ends a try that is lost to this SCX-record over this node, and begins the next if there is
     /// one.
     fn lost(&mut self, node: NodeNo, scx: ScxNo) -> Turn<Told>
-        ensures turn { (c : Call) (begin h : History) → IsInTry c h begin self.old.limit self.old.tries → SuccessorGoes self.old (begun_at c begin) h → IsContended (begun_at c begin) h node.0 scx.0 → SuccessorTurn c h self.new result }
+        ensures turn { (c : Call) (begin h : History) → IsInTry c h begin self.old.limit self.old.tries
+            → SuccessorGoes self.old (begun_at c begin) h → IsContended (begun_at c begin) h node.0 scx.0
+            → SuccessorTurn c h self.new result }
         ensures same { IsSameSuccessor self.old self.new }
         ensures nearer { (nodes : ℕ) → SuccessorIsNearer self.new nodes result (self.old.tries * successor_try_left nodes) }
         ensures tries { (c : Call) (h : History) → IsContended c h node.0 scx.0 → KeepsTries c h self.old.tries self.new.tries result }
@@ -198,11 +201,18 @@ impl SuccessorRun {
 
     /// Goes on with what the last step of the walk found.
     fn walk_on(&mut self, mut walk: WalkRun, turn: NodeNo, got: Option<u64>) -> Turn<Told>
-        ensures turn { (c : Call) (begin h : History) (v : ℕ) → got ≡ Some v → IsInTry c h begin self.old.limit self.old.tries → SuccessorGoes self.old (begun_at c begin) h → walk.goal ≡ Goal.Key self.old.key → IsLastTurn (begun_at c begin) h self.old.key turn.0 → WalkIsReady walk (begun_at c begin) h (Some v) → SuccessorTurn c h self.new result }
+        ensures turn { (c : Call) (begin h : History) (v : ℕ) → got ≡ Some v → IsInTry c h begin self.old.limit self.old.tries
+            → SuccessorGoes self.old (begun_at c begin) h → walk.goal ≡ Goal.Key self.old.key
+            → IsLastTurn (begun_at c begin) h self.old.key turn.0 → WalkIsReady walk (begun_at c begin) h (Some v)
+            → SuccessorTurn c h self.new result }
         ensures begins { got ≡ None → (c : Call) (h : History) → WalkIsReady walk c h None → MatchTurn result (λ _. Unit {0}) (λ _. ⊥) }
         ensures same { IsSameSuccessor self.old self.new }
-        ensures nearer { (nodes : ℕ) → WalkFits walk got nodes → SuccessorIsNearer self.new nodes result (self.old.tries * successor_try_left nodes + (walk_left walk.at nodes + length self.old.snaps.items + 134 * (2 + nodes))) }
-        ensures tries { (c : Call) (h : History) (v : ℕ) → got ≡ Some v → SuccessorGoes self.old c h → walk.goal ≡ Goal.Key self.old.key → IsLastTurn c h self.old.key turn.0 → WalkIsReady walk c h (Some v) → KeepsTries c h self.old.tries self.new.tries result }
+        ensures nearer { (nodes : ℕ) → WalkFits walk got nodes
+            → SuccessorIsNearer self.new nodes result
+            (self.old.tries * successor_try_left nodes + (walk_left walk.at nodes + length self.old.snaps.items + 134 * (2 + nodes))) }
+        ensures tries { (c : Call) (h : History) (v : ℕ) → got ≡ Some v → SuccessorGoes self.old c h
+            → walk.goal ≡ Goal.Key self.old.key → IsLastTurn c h self.old.key turn.0 → WalkIsReady walk c h (Some v)
+            → KeepsTries c h self.old.tries self.new.tries result }
     {
         match Machine::<Tree>::next(&mut walk, got) {
             Turn::Ask(step) => {
@@ -228,10 +238,17 @@ impl SuccessorRun {
         mut llx: LlxRun,
         got: Option<u64>,
     ) -> Turn<Told>
-        ensures turn { (c : Call) (begin look h : History) → IsInTry c h begin self.old.limit self.old.tries → SuccessorGoes self.old (begun_at c begin) h → LooksAt self.old (begun_at c begin) h route level side llx.node.0 → Extends look begin → LlxIsReady TreeAllows llx (begun_at c look) h got → SuccessorTurn c h self.new result }
+        ensures turn { (c : Call) (begin look h : History) → IsInTry c h begin self.old.limit self.old.tries
+            → SuccessorGoes self.old (begun_at c begin) h → LooksAt self.old (begun_at c begin) h route level side llx.node.0
+            → Extends look begin → LlxIsReady TreeAllows llx (begun_at c look) h got → SuccessorTurn c h self.new result }
         ensures same { IsSameSuccessor self.old self.new }
-        ensures nearer { (nodes : ℕ) → level + 1 < 2 + nodes → SuccessorIsNearer self.new nodes result (self.old.tries * successor_try_left nodes + (llx_left llx.at + length self.old.snaps.items + 1 + 67 * (1 + nodes - level) + behind route nodes)) }
-        ensures tries { (c : Call) (begin h : History) → SuccessorGoes self.old c h → LooksAt self.old c h route level side llx.node.0 → Extends begin c.start → LlxIsReady TreeAllows llx (begun_at c begin) h got → KeepsTries c h self.old.tries self.new.tries result }
+        ensures nearer { (nodes : ℕ) → level + 1 < 2 + nodes
+            → SuccessorIsNearer self.new nodes result
+            (self.old.tries * successor_try_left nodes +
+            (llx_left llx.at + length self.old.snaps.items + 1 + 67 * (1 + nodes - level) + behind route nodes)) }
+        ensures tries { (c : Call) (begin h : History) → SuccessorGoes self.old c h
+            → LooksAt self.old c h route level side llx.node.0 → Extends begin c.start
+            → LlxIsReady TreeAllows llx (begun_at c begin) h got → KeepsTries c h self.old.tries self.new.tries result }
     {
         match Machine::<Tree>::next(&mut llx, got) {
             Turn::Ask(step) => {
@@ -265,9 +282,13 @@ impl SuccessorRun {
         side: Side,
         snap: Snap,
     ) -> Result<SuccessorNext, Refused>
-        ensures goes_on { (c : Call) (h : History) → SuccessorGoes self.old c h → LooksAt self.old c h route level side snap.node.0 → IsSnapshot c.layout h snap.node.0 snap → SuccessorGoesOn c h self.new result }
+        ensures goes_on { (c : Call) (h : History) → SuccessorGoes self.old c h
+            → LooksAt self.old c h route level side snap.node.0 → IsSnapshot c.layout h snap.node.0 snap
+            → SuccessorGoesOn c h self.new result }
         ensures same { IsSameSuccessor self.old self.new }
-        ensures nearer { (nodes : ℕ) → level + 1 < 2 + nodes → IfOk result (λ next. SuccessorComesNearer self.new next nodes (length self.old.snaps.items + 1 + 67 * (1 + nodes - level) + behind route nodes)) }
+        ensures nearer { (nodes : ℕ) → level + 1 < 2 + nodes
+            → IfOk result (λ next. SuccessorComesNearer self.new next nodes
+            (length self.old.snaps.items + 1 + 67 * (1 + nodes - level) + behind route nodes)) }
         ensures tries { self.new.tries ≡ self.old.tries }
     {
         if self.snaps.push(snap).is_err() {
@@ -295,8 +316,11 @@ impl SuccessorRun {
     /// the key it always goes left.
     #[inline(always)]
     pub fn head_on(&self, route: Route, head: Head, node: NodeNo) -> SuccessorNext
-        ensures goes_on { (c : Call) (h : History) → SuccessorGoes self.now c h → IsOwnMoment c h → SuccessorStandsAt self.now c h route node.0 → head_at h node.0 ≡ head → SuccessorMayDo self.now c h result }
-        ensures nearer { (nodes : ℕ) → HeadFits head nodes → SuccessorComesNearer self.now result nodes (length self.now.snaps.items + 67 * (2 + nodes - head.level) - 1 + behind route nodes) }
+        ensures goes_on { (c : Call) (h : History) → SuccessorGoes self.now c h → IsOwnMoment c h
+            → SuccessorStandsAt self.now c h route node.0 → head_at h node.0 ≡ head → SuccessorMayDo self.now c h result }
+        ensures nearer { (nodes : ℕ) → HeadFits head nodes
+            → SuccessorComesNearer self.now result nodes
+            (length self.now.snaps.items + 67 * (2 + nodes - head.level) - 1 + behind route nodes) }
     {
         if asks_key(route, head) {
             SuccessorNext::Key { route, head, node }
@@ -316,8 +340,11 @@ impl SuccessorRun {
     /// What is done behind the key of a node of class 0.
     #[inline(always)]
     pub fn key_on(&self, route: Route, head: Head, node: NodeNo, key: u64) -> SuccessorNext
-        ensures goes_on { (c : Call) (h : History) → SuccessorGoes self.now c h → SuccessorStandsAt self.now c h route node.0 → HasHead h route node.0 head → key_at h node.0 ≡ key → SuccessorMayDo self.now c h result }
-        ensures nearer { (nodes : ℕ) → HeadFits head nodes → SuccessorComesNearer self.now result nodes (length self.now.snaps.items + 67 * (2 + nodes - head.level) - 2 + behind route nodes) }
+        ensures goes_on { (c : Call) (h : History) → SuccessorGoes self.now c h → SuccessorStandsAt self.now c h route node.0
+            → HasHead h route node.0 head → key_at h node.0 ≡ key → SuccessorMayDo self.now c h result }
+        ensures nearer { (nodes : ℕ) → HeadFits head nodes
+            → SuccessorComesNearer self.now result nodes
+            (length self.now.snaps.items + 67 * (2 + nodes - head.level) - 2 + behind route nodes) }
     {
         if !head.leaf {
             let (level, side) = (head.level, self.side(key));
@@ -358,20 +385,28 @@ impl SuccessorRun {
 
     /// Looks whether all nodes are still as they were found.
     fn validate(&mut self, found: Option<Pair>) -> Turn<Told>
-        ensures turn { (c : Call) (begin h : History) → IsInTry c h begin self.old.limit self.old.tries → SuccessorGoes self.old (begun_at c begin) h → IsOwnMoment (begun_at c begin) h → 0 < length self.old.snaps.items → Whenever c.layout h self.old.snaps.items (λ b. IsNextAt c.layout b self.old.key found) → SuccessorTurn c h self.new result }
+        ensures turn { (c : Call) (begin h : History) → IsInTry c h begin self.old.limit self.old.tries
+            → SuccessorGoes self.old (begun_at c begin) h → IsOwnMoment (begun_at c begin) h → 0 < length self.old.snaps.items
+            → Whenever c.layout h self.old.snaps.items (λ b. IsNextAt c.layout b self.old.key found) → SuccessorTurn c h self.new result }
         ensures same { IsSameSuccessor self.old self.new }
         ensures nearer { (nodes : ℕ) → SuccessorIsNearer self.new nodes result (self.old.tries * successor_try_left nodes + length self.old.snaps.items) }
-        ensures tries { (c : Call) (h : History) → SuccessorGoes self.old c h → IsOwnMoment c h → 0 < length self.old.snaps.items → Whenever c.layout h self.old.snaps.items (λ b. IsNextAt c.layout b self.old.key found) → KeepsTries c h self.old.tries self.new.tries result }
+        ensures tries { (c : Call) (h : History) → SuccessorGoes self.old c h → IsOwnMoment c h → 0 < length self.old.snaps.items
+            → Whenever c.layout h self.old.snaps.items (λ b. IsNextAt c.layout b self.old.key found)
+            → KeepsTries c h self.old.tries self.new.tries result }
     {
         self.validate_on(0, found, None)
     }
 
     /// Goes on with what the last step of the VLX found.
     fn validate_on(&mut self, asked: usize, found: Option<Pair>, got: Option<u64>) -> Turn<Told>
-        ensures turn { (c : Call) (begin look h : History) → IsInTry c h begin self.old.limit self.old.tries → SuccessorGoes self.old (begun_at c begin) h → SuccessorValidates self.old (begun_at c begin) h look found → VlxIsReady self.old.snaps.items asked (begun_at c look) h got → SuccessorTurn c h self.new result }
+        ensures turn { (c : Call) (begin look h : History) → IsInTry c h begin self.old.limit self.old.tries
+            → SuccessorGoes self.old (begun_at c begin) h → SuccessorValidates self.old (begun_at c begin) h look found
+            → VlxIsReady self.old.snaps.items asked (begun_at c look) h got → SuccessorTurn c h self.new result }
         ensures same { IsSameSuccessor self.old self.new }
-        ensures nearer { (nodes : ℕ) → SuccessorIsNearer self.new nodes result (self.old.tries * successor_try_left nodes + vlx_left self.old.snaps.items asked) }
-        ensures tries { (c : Call) (begin h : History) → SuccessorGoes self.old c h → SuccessorValidates self.old c h begin found → VlxIsReady self.old.snaps.items asked (begun_at c begin) h got → KeepsTries c h self.old.tries self.new.tries result }
+        ensures nearer { (nodes : ℕ) → SuccessorIsNearer self.new nodes result
+            (self.old.tries * successor_try_left nodes + vlx_left self.old.snaps.items asked) }
+        ensures tries { (c : Call) (begin h : History) → SuccessorGoes self.old c h → SuccessorValidates self.old c h begin found
+            → VlxIsReady self.old.snaps.items asked (begun_at c begin) h got → KeepsTries c h self.old.tries self.new.tries result }
     {
         let mut vlx = VlxRun {
             snaps: self.snaps.as_slice(),
@@ -393,8 +428,10 @@ impl SuccessorRun {
     fn stand(&mut self, next: SuccessorNext) -> Turn<Told>
         ensures turn { (c : Call) (h : History) → SuccessorMayGoOn c h self.old next → SuccessorTurn c h self.new result }
         ensures same { IsSameSuccessor self.old self.new }
-        ensures nearer { (nodes n : ℕ) → SuccessorComesNearer self.old next nodes n → SuccessorIsNearer self.new nodes result (self.old.tries * successor_try_left nodes + n) }
-        ensures tries { (c : Call) (h : History) → SuccessorGoes self.old c h → SuccessorMayDo self.old c h next → KeepsTries c h self.old.tries self.new.tries result }
+        ensures nearer { (nodes n : ℕ) → SuccessorComesNearer self.old next nodes n
+            → SuccessorIsNearer self.new nodes result (self.old.tries * successor_try_left nodes + n) }
+        ensures tries { (c : Call) (h : History) → SuccessorGoes self.old c h → SuccessorMayDo self.old c h next
+            → KeepsTries c h self.old.tries self.new.tries result }
     {
         match next {
             SuccessorNext::Look {
@@ -433,9 +470,11 @@ impl SuccessorRun {
 
     /// Begins what comes next, or ends where that is refused.
     fn proceed(&mut self, next: Result<SuccessorNext, Refused>) -> Turn<Told>
-        ensures turn { (c : Call) (begin h : History) → IsInTry c h begin self.old.limit self.old.tries → SuccessorGoesOn (begun_at c begin) h self.old next → SuccessorTurn c h self.new result }
+        ensures turn { (c : Call) (begin h : History) → IsInTry c h begin self.old.limit self.old.tries
+            → SuccessorGoesOn (begun_at c begin) h self.old next → SuccessorTurn c h self.new result }
         ensures same { IsSameSuccessor self.old self.new }
-        ensures nearer { (nodes n : ℕ) → IfOk next (λ now. SuccessorComesNearer self.old now nodes n) → SuccessorIsNearer self.new nodes result (self.old.tries * successor_try_left nodes + n) }
+        ensures nearer { (nodes n : ℕ) → IfOk next (λ now. SuccessorComesNearer self.old now nodes n)
+            → SuccessorIsNearer self.new nodes result (self.old.tries * successor_try_left nodes + n) }
         ensures tries { (c : Call) (h : History) → SuccessorGoesOn c h self.old next → KeepsTries c h self.old.tries self.new.tries result }
     {
         match next {

@@ -28,11 +28,14 @@ pub fn laws_hold()
     ensures one_edit { (lay : Layout) (h : History) (s : ℕ) (a b : MapEdit) → IsTreeRun lay h → Makes lay h s a → Makes lay h s b → a ≡ b }
     ensures spelled { (lay : Layout) (h : History) (edits : ℕ → MapEdit) → IsTreeRun lay h → AreEdits edits lay h → SpellsLog edits lay h }
     ensures one_map { (lay : Layout) (f : Word → ℕ) (m n : List Pair) → Spells lay f m → Spells lay f n → m ≡ n }
-    ensures updates { (lay : Layout) (h before : History) (row : Row) (s : ℕ) (e : MapEdit) → IsTreeRun lay h → Extends h (row ⊳ before) → IsWin before row s → Makes lay h s e → IsEditAt lay before row s e }
-    ensures walks { (lay : Layout) (h start : History) (k n : ℕ) → k < 2 ^ 64 → IsTreeRun lay h → Passed h start k n → is_leaf (value h) n ≡ true → IsAnswerAt lay h start k (said (value h) k n) }
+    ensures updates { (lay : Layout) (h before : History) (row : Row) (s : ℕ) (e : MapEdit) → IsTreeRun lay h
+        → Extends h (row ⊳ before) → IsWin before row s → Makes lay h s e → IsEditAt lay before row s e }
+    ensures walks { (lay : Layout) (h start : History) (k n : ℕ) → k < 2 ^ 64 → IsTreeRun lay h → Passed h start k n
+        → is_leaf (value h) n ≡ true → IsAnswerAt lay h start k (said (value h) k n) }
     ensures depth { (lay : Layout) (h start : History) (k n : ℕ) → IsTreeRun lay h → Passed h start k n → level (value h) n < 2 + length (taken_nodes h) }
     ensures not_final { (lay : Layout) (h : History) (t : Tree) (n : ℕ) → IsTreeRun lay h → IsTree (value h) t → Has t n → is_final (log lay h) n ≡ false }
-    ensures remains { (lay : Layout) (h : History) (t : Tree) (n : ℕ) → IsTreeRun lay h → WasInTree h n → is_final (log lay h) n ≡ false → IsTree (value h) t → Has t n }
+    ensures remains { (lay : Layout) (h : History) (t : Tree) (n : ℕ) → IsTreeRun lay h → WasInTree h n
+        → is_final (log lay h) n ≡ false → IsTree (value h) t → Has t n }
     ensures blank { (lay : Layout) (h : History) (n : ℕ) → IsTreeRun lay h → WasInTree h n → IsBlankAboveKeys (value h) n }
 {}
 

@@ -130,7 +130,8 @@ impl LlxRun {
     }
 
     fn load_child(&mut self, at: LlxAt, side: Side) -> Turn<Llx>
-        ensures { LlxAsks self.old self.new result at record { kind = Kind.LoadChild; word = Word.Node self.old.node (NodeWord.Child side); access = Access.Load } }
+        ensures { LlxAsks self.old self.new result at
+            record { kind = Kind.LoadChild; word = Word.Node self.old.node (NodeWord.Child side); access = Access.Load } }
     {
         self.load(at, Kind::LoadChild, NodeWord::Child(side))
     }
@@ -143,14 +144,16 @@ impl LlxRun {
 
     /// Reads the info of the node, after its mark.
     fn load_info(&mut self, marked: bool) -> Turn<Llx>
-        ensures { LlxAsks self.old self.new result (LlxAt.Info marked) record { kind = Kind.LoadInfo; word = Word.Node self.old.node NodeWord.Info; access = Access.Load } }
+        ensures { LlxAsks self.old self.new result (LlxAt.Info marked)
+            record { kind = Kind.LoadInfo; word = Word.Node self.old.node NodeWord.Info; access = Access.Load } }
     {
         self.load(LlxAt::Info { marked }, Kind::LoadInfo, NodeWord::Info)
     }
 
     /// Reads the mark of the node once more, after the state of what its info names.
     fn load_mark_again(&mut self, marked: bool, scx: ScxNo, state: u64) -> Turn<Llx>
-        ensures { LlxAsks self.old self.new result (LlxAt.MarkedAgain marked scx state) record { kind = Kind.LoadMarked; word = Word.Node self.old.node NodeWord.Marked; access = Access.Load } }
+        ensures { LlxAsks self.old self.new result (LlxAt.MarkedAgain marked scx state)
+            record { kind = Kind.LoadMarked; word = Word.Node self.old.node NodeWord.Marked; access = Access.Load } }
     {
         let at = LlxAt::MarkedAgain { marked, scx, state };
         self.load(at, Kind::LoadMarked, NodeWord::Marked)
@@ -158,7 +161,8 @@ impl LlxRun {
 
     /// Reads the right field, after the left one.
     fn load_right(&mut self, marked: bool, scx: ScxNo, left: u64) -> Turn<Llx>
-        ensures { LlxAsks self.old self.new result (LlxAt.Right marked scx left) record { kind = Kind.LoadChild; word = Word.Node self.old.node (NodeWord.Child Side.Right); access = Access.Load } }
+        ensures { LlxAsks self.old self.new result (LlxAt.Right marked scx left)
+            record { kind = Kind.LoadChild; word = Word.Node self.old.node (NodeWord.Child Side.Right); access = Access.Load } }
     {
         self.load_child(LlxAt::Right { marked, scx, left }, Side::Right)
     }
@@ -176,7 +180,8 @@ impl LlxRun {
 
     /// Reads the info of the node once more, after its fields.
     fn load_info_again(&mut self, marked: bool, scx: ScxNo, left: u64, right: u64) -> Turn<Llx>
-        ensures { LlxAsks self.old self.new result (LlxAt.InfoAgain marked scx left right) record { kind = Kind.LoadInfo; word = Word.Node self.old.node NodeWord.Info; access = Access.Load } }
+        ensures { LlxAsks self.old self.new result (LlxAt.InfoAgain marked scx left right)
+            record { kind = Kind.LoadInfo; word = Word.Node self.old.node NodeWord.Info; access = Access.Load } }
     {
         let at = LlxAt::InfoAgain {
             marked,
@@ -196,7 +201,9 @@ impl LlxRun {
         right: u64,
         info: u64,
     ) -> Turn<Llx>
-        ensures turn { Snaps self.new self.old result record { node = self.old.node; scx = scx; left = record { 0 = left }; right = record { 0 = right } } info ⊎ Differs self.old self.new result marked scx info }
+        ensures turn { Snaps self.new self.old result
+            record { node = self.old.node; scx = scx; left = record { 0 = left }; right = record { 0 = right } } info
+            ⊎ Differs self.old self.new result marked scx info }
     {
         if info == scx.0 {
             Turn::Done(Llx::Snapshot(Snap {
@@ -225,7 +232,8 @@ impl LlxRun {
 
     fn help_on<S: Shape>(&mut self, marked: bool, mut help: HelpRun, got: Option<u64>) -> Turn<Llx>
         ensures node { self.new.node ≡ self.old.node }
-        ensures turn { (c : Call) (h : History) → LlxHelps S.allows c h self.old.node.0 help got → HasStopped c h self.old.node.0 marked help.scx.0 → LlxTurn S.allows c h self.new result }
+        ensures turn { (c : Call) (h : History) → LlxHelps S.allows c h self.old.node.0 help got
+            → HasStopped c h self.old.node.0 marked help.scx.0 → LlxTurn S.allows c h self.new result }
         ensures nearer { MatchTurn result (λ _. llx_left self.new.at < 24 + help_left help.at) (λ _. Unit {0}) }
     {
         let scx = help.scx;
@@ -254,7 +262,8 @@ impl LlxRun {
     /// Helps the SCX-record that stands in the info now, and fails.
     fn help_last<S: Shape>(&mut self, scx: ScxNo, mut help: HelpRun, got: Option<u64>) -> Turn<Llx>
         ensures node { self.new.node ≡ self.old.node }
-        ensures turn { (c : Call) (h : History) → LlxHelps S.allows c h self.old.node.0 help got → IsToBlame c h self.old.node.0 scx.0 → help.scx ≡ scx → LlxTurn S.allows c h self.new result }
+        ensures turn { (c : Call) (h : History) → LlxHelps S.allows c h self.old.node.0 help got
+            → IsToBlame c h self.old.node.0 scx.0 → help.scx ≡ scx → LlxTurn S.allows c h self.new result }
         ensures nearer { MatchTurn result (λ _. llx_left self.new.at < help_left help.at) (λ _. Unit {0}) }
     {
         match Machine::<S>::next(&mut help, got) {

@@ -40,9 +40,11 @@ impl<L: SnapList> VlxRun<L> {
 
     /// Asks for the info of the next node.
     fn ask_next(&mut self) -> Turn<Vlx>
-        ensures turn { AsksNext (L.list self.old.snaps) self.old.asked self.new.asked result ⊎ IsThrough (L.list self.old.snaps) self.old.asked self.new.asked result }
+        ensures turn { AsksNext (L.list self.old.snaps) self.old.asked self.new.asked result
+            ⊎ IsThrough (L.list self.old.snaps) self.old.asked self.new.asked result }
         ensures same { self.new.snaps ≡ self.old.snaps }
-        ensures nearer { MatchTurn result (λ _. vlx_left (L.list self.old.snaps) self.new.asked < vlx_left (L.list self.old.snaps) self.old.asked) (λ _. Unit {0}) }
+        ensures nearer { MatchTurn result
+            (λ _. vlx_left (L.list self.old.snaps) self.new.asked < vlx_left (L.list self.old.snaps) self.old.asked) (λ _. Unit {0}) }
     {
         if self.asked >= self.snaps.len() {
             return Turn::Done(Vlx::Same);

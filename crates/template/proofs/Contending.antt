@@ -10,7 +10,7 @@ use Rattle.arena.specs.History.{History, Start, ◌⊳◌, value, HasHeld, Exten
 use Rattle.arena.specs.ScxRecords.{member}
 use Rattle.arena.specs.Lawful.{Lawful}
 use Rattle.arena.specs.Blame.{WasInTheWay, HasFailed}
-use Rattle.arena.specs.Machines.{Call}
+use Rattle.arena.specs.Machines.{Call, begun_at}
 use Rattle.arena.proofs.Lemmas.{ends_self, ends_trans, held_at, held_since}
 use Rattle.histories.proofs.Lemmas.{Effect, Facts, committed_won, effect, facts_before, freeze, freeze_is_new, freeze_keeps_info, freeze_stores, lawful_since, lawful_tail, quiet, state_since, update, update_keeps_info}
 use Rattle.prims.specs.Laws.Blamed.{moment_since, way_since}
@@ -79,7 +79,7 @@ contended_later c h m n s l e x = record {
 }
 
 -- what contends with a part of the call that begins later contends with the call
-pub contended_wider : (c : Call) (begin h : History) (n s : ℕ) → Extends begin c.start → IsContended (record c { start = begin }) h n s → IsContended c h n s
+pub contended_wider : (c : Call) (begin h : History) (n s : ℕ) → Extends begin c.start → IsContended (begun_at c begin) h n s → IsContended c h n s
 contended_wider c begin h n s e x = record {
   others = x.others;
   in_the_way = way_wider c h begin n s e x.in_the_way;

@@ -6,7 +6,7 @@ use Rattle.arena.specs.declared.step.Row.{Row}
 use Rattle.arena.specs.Blame.{WasInTheWay}
 use Rattle.arena.specs.Fills.{IsOthersScx}
 use Rattle.arena.specs.History.{History, Start, ◌⊳◌, Extends}
-use Rattle.arena.specs.Machines.{Call}
+use Rattle.arena.specs.Machines.{Call, begun_at}
 use Rattle.arena.proofs.Lemmas.{ends_self, ends_trans}
 use Rattle.prims.specs.Laws.Blamed.{way_since}
 use Rattle.prims.specs.Laws.FoundThere.{there_later}
@@ -139,7 +139,7 @@ module _ (c : Call) (begin h : History) (limit left : ℕ) (x : IsInNewest c beg
   pub tried_in : HasTriedAllBut c h limit left
   tried_in = record { all = all_but; as_needed = needed }
 
-  module _ (n s : ℕ) (way : IsContended (record c { start = begin }) h n s) where
+  module _ (n s : ℕ) (way : IsContended (begun_at c begin) h n s) where
     -- where another was in its way, it is lost, and so are all before it
     all_lost : HasLostAll c.layout c.pass h c.start
     all_lost then y = go (not_behind c.pass h begin c.start then x.newest y)

@@ -119,7 +119,8 @@ impl WalkRun {
 
     /// Asks for a field of a fork of this level.
     fn load_child(&mut self, level: u64, side: Side) -> Turn<Found>
-        ensures { WalkAsks self.old self.new result (WalkAt.Child level side) record { kind = Kind.LoadChild; word = Word.Node self.old.trail.node (NodeWord.Child side); access = Access.Load } }
+        ensures { WalkAsks self.old self.new result (WalkAt.Child level side)
+            record { kind = Kind.LoadChild; word = Word.Node self.old.trail.node (NodeWord.Child side); access = Access.Load } }
     {
         let at = WalkAt::Child { level, side };
         self.load(at, Kind::LoadChild, NodeWord::Child(side))
@@ -178,7 +179,8 @@ impl WalkRun {
     fn read_head(&mut self, head: Head) -> Turn<Found>
         ensures turn { (c : Call) (h : History) → WalkStands self.old c h → head_of (here h self.old HeadWord) ≡ head → WalkTurn c h self.new result }
         ensures same { self.new.goal ≡ self.old.goal }
-        ensures nearer { (nodes : ℕ) → head.level < 2 + nodes → MatchTurn result (λ _. walk_left self.new.at nodes < 3 * (2 + nodes - head.level) - 1) (λ _. Unit {0}) }
+        ensures nearer { (nodes : ℕ) → head.level < 2 + nodes
+            → MatchTurn result (λ _. walk_left self.new.at nodes < 3 * (2 + nodes - head.level) - 1) (λ _. Unit {0}) }
     {
         if self.asks_key(head) {
             self.load_settled(WalkAt::Key { head }, NodeWord::Key)
@@ -191,9 +193,11 @@ impl WalkRun {
 
     /// Goes on with the key of a node of class 0.
     fn read_key(&mut self, head: Head, key: u64) -> Turn<Found>
-        ensures turn { (c : Call) (h : History) → WalkStands self.old c h → head_of (here h self.old HeadWord) ≡ head → head.class ≡ 0 → here h self.old KeyWord ≡ key → WalkTurn c h self.new result }
+        ensures turn { (c : Call) (h : History) → WalkStands self.old c h → head_of (here h self.old HeadWord) ≡ head
+            → head.class ≡ 0 → here h self.old KeyWord ≡ key → WalkTurn c h self.new result }
         ensures same { self.new.goal ≡ self.old.goal }
-        ensures nearer { (nodes : ℕ) → head.level < 2 + nodes → MatchTurn result (λ _. walk_left self.new.at nodes < walk_left (WalkAt.Key head) nodes) (λ _. Unit {0}) }
+        ensures nearer { (nodes : ℕ) → head.level < 2 + nodes
+            → MatchTurn result (λ _. walk_left self.new.at nodes < walk_left (WalkAt.Key head) nodes) (λ _. Unit {0}) }
     {
         if !head.leaf {
             self.load_child(head.level, self.side(key))
@@ -206,9 +210,13 @@ impl WalkRun {
 
     /// Goes down to a child of a fork of the level `above`.
     fn go_down(&mut self, above: u64, side: Side, child: u64) -> Turn<Found>
-        ensures turn { (c : Call) (h : History) → WalkStands self.old c h → level (value h) self.old.trail.node.0 ≡ above → is_leaf (value h) self.old.trail.node.0 ≡ false → toward (value h) self.old.trail.node.0 (path_key self.old.goal) ≡ side → here h self.old (ChildWord side) ≡ child → WalkTurn c h self.new result }
+        ensures turn { (c : Call) (h : History) → WalkStands self.old c h → level (value h) self.old.trail.node.0 ≡ above
+            → is_leaf (value h) self.old.trail.node.0 ≡ false
+            → toward (value h) self.old.trail.node.0 (path_key self.old.goal) ≡ side → here h self.old (ChildWord side) ≡ child
+            → WalkTurn c h self.new result }
         ensures same { self.new.goal ≡ self.old.goal }
-        ensures nearer { (nodes : ℕ) → above + 1 < 2 + nodes → MatchTurn result (λ _. walk_left self.new.at nodes < walk_left (WalkAt.Child above side) nodes) (λ _. Unit {0}) }
+        ensures nearer { (nodes : ℕ) → above + 1 < 2 + nodes
+            → MatchTurn result (λ _. walk_left self.new.at nodes < walk_left (WalkAt.Child above side) nodes) (λ _. Unit {0}) }
     {
         let trail = self.trail;
         self.trail = Trail {

@@ -35,7 +35,8 @@ pub trait Format {
 
     ghost width: { (format : Self) → ((grammar format).width ≡ WIDTH) × (2 ≤ WIDTH) };
 
-    ghost causes: { (format : Self) → ((grammar format).fields ≡ Self.Cause.FIELDS) × ((grammar format).end ≡ Self.Cause.END) × ((grammar format).long ≡ Self.Cause.LONG) };
+    ghost causes: { (format : Self) → ((grammar format).fields ≡ Self.Cause.FIELDS) × ((grammar format).end ≡ Self.Cause.END)
+        × ((grammar format).long ≡ Self.Cause.LONG) };
 }
 
 /// The field of a row at this place; an empty one where the row has none.
@@ -47,7 +48,8 @@ pub fn field(row: &StringRecord, place: usize) -> &str
 
 /// Whether an end row counts so many entries, and says nothing else.
 fn counts(row: &StringRecord, entries: usize) -> bool
-    ensures { (width : ℕ) → 2 ≤ width → length (fields_of row.now) ≡ width → field_of (fields_of row.now) 0 ≡ codes "end" → IsTrue result ↔ (fields_of row.now ≡ end_row width entries) }
+    ensures { (width : ℕ) → 2 ≤ width → length (fields_of row.now) ≡ width → field_of (fields_of row.now) 0 ≡ codes "end"
+        → IsTrue result ↔ (fields_of row.now ≡ end_row width entries) }
 {
     if !is_number(field(row, 1), entries as u64) {
         return false;
@@ -90,8 +92,12 @@ impl<R: Read + Drop> Rows<R> {
     /// `FIELDS`.
     pub fn advance<C: Cause>(&mut self, width: usize) -> Result<bool, TextFault<C>>
         ensures number { self.new.number ≡ min (self.old.number + 1) (2 ^ 64 - 1) }
-        ensures row { (bytes : List ℕ) (so_far : List (List (List ℕ))) → HasRead R.remaining bytes so_far self.old → IfOk result (λ found. MatchBool found (IsRow width (last_row self.new) × HasRead R.remaining bytes (so_far ++ last_row self.new ∷ []) self.new) (AreRows bytes so_far)) }
-        ensures fault { (bytes : List ℕ) (so_far : List (List (List ℕ))) → HasRead R.remaining bytes so_far self.old → IfErr result (IfBad (λ row cause. (row ≡ self.new.number) × (cause ≡ C.FIELDS) × (fields : List (List ℕ)) × BeginWithRows bytes (so_far ++ fields ∷ []) × ¬ (IsRow width fields))) }
+        ensures row { (bytes : List ℕ) (so_far : List (List (List ℕ))) → HasRead R.remaining bytes so_far self.old
+            → IfOk result (λ found. MatchBool found (IsRow width (last_row self.new)
+            × HasRead R.remaining bytes (so_far ++ last_row self.new ∷ []) self.new) (AreRows bytes so_far)) }
+        ensures fault { (bytes : List ℕ) (so_far : List (List (List ℕ))) → HasRead R.remaining bytes so_far self.old
+            → IfErr result (IfBad (λ row cause. (row ≡ self.new.number) × (cause ≡ C.FIELDS) × (fields : List (List ℕ))
+            × BeginWithRows bytes (so_far ++ fields ∷ []) × ¬ (IsRow width fields))) }
     {
         self.number = self.number.saturating_add(1);
         match self.reader.read_record(&mut self.row) {
@@ -131,8 +137,10 @@ impl<R: Read + Drop> Rows<R> {
     ) -> Result<Vec<F::Entry>, TextFault<F::Cause>>
         ensures few { IfOk result (λ entries. vec_len entries ≤ 65536) }
         ensures accepted { IfOk result (λ entries. All (F.grammar format.now).Accepts entries.items) }
-        ensures entries { (bytes : List ℕ) (head : List (List (List ℕ))) → HasRead R.remaining bytes head self.old → IfOk result (λ entries. SayEntries (F.grammar format.now) bytes head entries.items) }
-        ensures fault { (bytes : List ℕ) (head : List (List (List ℕ))) → HasRead R.remaining bytes head self.old → self.old.number ≡ length head → length head < 2 ^ 32 → IfErr result (IfBad (IsFirstFault (F.grammar format.now) bytes head)) }
+        ensures entries { (bytes : List ℕ) (head : List (List (List ℕ))) → HasRead R.remaining bytes head self.old
+            → IfOk result (λ entries. SayEntries (F.grammar format.now) bytes head entries.items) }
+        ensures fault { (bytes : List ℕ) (head : List (List (List ℕ))) → HasRead R.remaining bytes head self.old
+            → self.old.number ≡ length head → length head < 2 ^ 32 → IfErr result (IfBad (IsFirstFault (F.grammar format.now) bytes head)) }
     {
         let mut entries = Vec::new(alloc);
         while self.advance(F::WIDTH)? {
@@ -152,7 +160,8 @@ impl<R: Read + Drop> Rows<R> {
     fn entry<F: Format>(&self, format: &F) -> Result<F::Entry, TextFault<F::Cause>>
         ensures accepted { IfOk result (F.grammar format.now).Accepts }
         ensures row { IfOk result (λ entry. length (last_row self.now) ≡ F.WIDTH → last_row self.now ≡ (F.grammar format.now).row_of entry) }
-        ensures fault { length (last_row self.now) ≡ F.WIDTH → IfErr result (IfBad (λ row cause. (row ≡ self.now.number) × (F.grammar format.now).IsNoEntry (last_row self.now) cause)) }
+        ensures fault { length (last_row self.now) ≡ F.WIDTH
+            → IfErr result (IfBad (λ row cause. (row ≡ self.now.number) × (F.grammar format.now).IsNoEntry (last_row self.now) cause)) }
     {
         match format.entry(&self.row) {
             Ok(entry) => Ok(entry),
@@ -162,8 +171,15 @@ impl<R: Read + Drop> Rows<R> {
 
     /// Tests the end row, and that no row follows. Another fault of that row goes first.
     fn end<F: Format>(&mut self, format: &F, entries: usize) -> Result<(), TextFault<F::Cause>>
-        ensures ok { (bytes : List ℕ) (before : List (List (List ℕ))) → IsAtRow R.remaining bytes before (F.grammar format.now).width self.old → IsEndRow (F.grammar format.now) (last_row self.old) → OnOk result ((last_row self.old ≡ end_row (F.grammar format.now).width entries) × AreRows bytes (before ++ last_row self.old ∷ [])) }
-        ensures fault { (bytes : List ℕ) (before : List (List (List ℕ))) → IsAtRow R.remaining bytes before (F.grammar format.now).width self.old → IsEndRow (F.grammar format.now) (last_row self.old) → self.old.number < 2 ^ 64 - 1 → IfErr result (IfBad (IsEndFault (F.grammar format.now) bytes before (last_row self.old) entries self.old.number)) }
+        ensures ok { (bytes : List ℕ) (before : List (List (List ℕ)))
+            → IsAtRow R.remaining bytes before (F.grammar format.now).width self.old
+            → IsEndRow (F.grammar format.now) (last_row self.old)
+            → OnOk result ((last_row self.old ≡ end_row (F.grammar format.now).width entries)
+            × AreRows bytes (before ++ last_row self.old ∷ [])) }
+        ensures fault { (bytes : List ℕ) (before : List (List (List ℕ)))
+            → IsAtRow R.remaining bytes before (F.grammar format.now).width self.old
+            → IsEndRow (F.grammar format.now) (last_row self.old) → self.old.number < 2 ^ 64 - 1
+            → IfErr result (IfBad (IsEndFault (F.grammar format.now) bytes before (last_row self.old) entries self.old.number)) }
     {
         if !counts(&self.row, entries) {
             return Err(self.fault(F::Cause::END));
