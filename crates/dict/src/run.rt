@@ -15,7 +15,10 @@ use arena::{Machine, Share, Turn};
 use order::{RangeRun, SuccessorRun};
 use ordered_map::Request;
 use std::alloc::Global;
-use tree::{Delete, DeleteRun, GetRun, Insert, InsertRun, Tree};
+use tree::{
+    Delete, DeleteRun, GetRun, Insert, InsertRun, PopFirst, PopFirstRun, ReplaceIf, ReplaceIfRun,
+    Tree,
+};
 
 /// A call that has begun. It has its pass's share until it has answered, of which a read takes
 /// nothing.
@@ -23,6 +26,8 @@ use tree::{Delete, DeleteRun, GetRun, Insert, InsertRun, Tree};
 pub enum MapRun {
     Insert(InsertRun),
     Delete(DeleteRun),
+    PopFirst(PopFirstRun),
+    ReplaceIf(ReplaceIfRun),
     Get { run: GetRun, share: Share },
     Successor { run: SuccessorRun, share: Share },
     Range { run: RangeRun, share: Share },
@@ -52,6 +57,22 @@ impl MapRun {
             (Request::Delete { key }, _) => {
                 MapRun::Delete(Delete { key }.run(share, tries, call))
             }
+            (Request::PopFirst, _) => MapRun::PopFirst(PopFirst.run(share, tries, call)),
+            (
+                Request::ReplaceIf {
+                    key,
+                    expected,
+                    value,
+                },
+                _,
+            ) => {
+                let edit = ReplaceIf {
+                    key,
+                    expected,
+                    value,
+                };
+                MapRun::ReplaceIf(edit.run(share, tries, call))
+            }
             (Request::Get { key }, _) => MapRun::Get {
                 run: GetRun::new(key),
                 share,
@@ -70,8 +91,10 @@ impl MapRun {
 
     /// Goes on with what the last step found, as the machine inside.
     pub(crate) fn next(&mut self, got: Option<u64>) -> Turn<WordReply>
-        ensures turn { (tries : ℕ) (c : Call) (h : History) → IsRun TreeAllows c.layout h → MapIsReady tries self.old c h got → MatchTurn result (MapWaits tries self.new c h) (MapAnswers tries self.new c h) }
-        ensures begins { got ≡ None → AsksFirst self.old → (tries : ℕ) (c : Call) (h : History) → MapIsReady tries self.old c h None → MatchTurn result (λ _. Unit {0}) (λ _. ⊥) }
+        ensures turn { (tries : ℕ) (c : Call) (h : History) → IsRun TreeAllows c.layout h → MapIsReady tries self.old c h got
+            → MatchTurn result (MapWaits tries self.new c h) (MapAnswers tries self.new c h) }
+        ensures begins { got ≡ None → AsksFirst self.old → (tries : ℕ) (c : Call) (h : History) → MapIsReady tries self.old c h None
+            → MatchTurn result (λ _. Unit {0}) (λ _. ⊥) }
         ensures same { call_in self.new ≡ call_in self.old }
         ensures tries { KeepsTriesButOne self.old self.new }
         ensures nearer { (nodes : ℕ) → MapFits self.old got nodes → HasComeNearer self.old self.new nodes result }
@@ -82,6 +105,14 @@ impl MapRun {
                 Turn::Done(updated) => Turn::Done(WordReply::of_update(updated)),
             },
             MapRun::Delete(run) => match run.step(got) {
+                Turn::Ask(step) => Turn::Ask(step),
+                Turn::Done(updated) => Turn::Done(WordReply::of_update(updated)),
+            },
+            MapRun::PopFirst(run) => match run.step(got) {
+                Turn::Ask(step) => Turn::Ask(step),
+                Turn::Done(updated) => Turn::Done(WordReply::of_pop(updated)),
+            },
+            MapRun::ReplaceIf(run) => match run.step(got) {
                 Turn::Ask(step) => Turn::Ask(step),
                 Turn::Done(updated) => Turn::Done(WordReply::of_update(updated)),
             },
@@ -108,6 +139,8 @@ impl MapRun {
         match self {
             MapRun::Insert(run) => run.into_share(),
             MapRun::Delete(run) => run.into_share(),
+            MapRun::PopFirst(run) => run.into_share(),
+            MapRun::ReplaceIf(run) => run.into_share(),
             MapRun::Get { run: _, share } => share,
             MapRun::Successor { run, share } => {
                 drop(run);
