@@ -96,10 +96,7 @@ fn mix(
 }
 
 /// Takes the first pair out, and tells the sum of its key and its value.
-fn pop(
-    forest: &Forest<Numbers>,
-    pass: &mut Pass<Numbers>,
-) -> Result<Option<u64>, UpdateFault>
+fn pop(forest: &Forest<Numbers>, pass: &mut Pass<Numbers>) -> Result<Option<u64>, UpdateFault>
     requires { IsOf forest.now pass.old }
     ensures { IsOf forest.now pass.new }
 {
