@@ -29,7 +29,7 @@ use Rattle.moments.specs.declared.places.Change.{Change}
 use Rattle.moments.specs.Entries.{AreEntries}
 use Rattle.moments.specs.Ordered.{FallFrom, IsOrderedRead}
 use Rattle.player.specs.Moments.{IsMomentBy, IsOrderedMoment}
-use Rattle.player.specs.ClientView.{client_view, HasToldMap, Tells}
+use Rattle.player.specs.ClientView.{client_view, IsToldReading, Tells}
 use Rattle.record.specs.CommandRules.{IsRight, IsPlaced, enters}
 use Rattle.record.specs.MapRecord.{map_at, map_call, number_pairs, reply_told, written_log, entries_of_call}
 use Rattle.record.specs.Placed.{IsGreatestTurn, IsPlacedReading, IsRefused, IsPlacedOnMap}
@@ -70,7 +70,7 @@ get_reads lay tries calls words lines changes reply key x mode entries owed call
 
 -- an ordered read took place in a turn that was found for it
 module _ (lay : Layout) (tries : ℕ) (calls : List Call) (words : Contents) (lines : List Line) (changes : List Change) (reply : Finished) (x : IsLawfulSoFar lay tries calls words lines) (mode : lay.mode ≡ Tree) (entries : AreEntries calls lines changes) (owed : entry_owed lay lines ≡ None) (called : reply.call ≡ answered lines reply.client.0) (unwon : won lay lines reply.client.0 ≡ None) (begins : begin lines reply.client.0 ≡ Some reply.begin) (ends : reply.end ≡ turns lines) where
-  told_reads : (command : Command) (call : MapCall) (given : Reply ℕ ℕ) (told : MapReply) → IsOrderedRead command → map_call (Some command) ≡ Some call → next_command calls lines reply.client.0 ≡ Some command → reply.answer ≡ MapAnswer given → number_reply given ≡ Some told → HasToldMap (client_view lay tries calls lines reply.client.0) call (Some told) → IsOrderedMoment calls lines changes command given reply.begin reply.end reply.moment → IsPlacedReading calls lines call reply
+  told_reads : (command : Command) (call : MapCall) (given : Reply ℕ ℕ) (told : MapReply) → IsOrderedRead command → map_call (Some command) ≡ Some call → next_command calls lines reply.client.0 ≡ Some command → reply.answer ≡ MapAnswer given → number_reply given ≡ Some told → IsToldReading (client_view lay tries calls lines reply.client.0) call told → IsOrderedMoment calls lines changes command given reply.begin reply.end reply.moment → IsPlacedReading calls lines call reply
   told_reads command call given told ordered is_call is e says tells moment =
       ordered_placed lay tries calls lines reply call moment.turn x.in_order unwon called moment.is (subst (λ (a : Answer). IsGreatestTurn (λ m. reply_told a ≡ Some (answer_on call (map_at calls lines m))) reply.begin reply.end moment.turn) (sym e) (moment.greatest call some.0 entries fall ordered is_call some.1 (subst (λ (n : ℕ). some.0 ≤ n) (sym ends) some.2) (says ∙ ap (λ (t : MapReply). Some t) (sym some.3))))
     where
