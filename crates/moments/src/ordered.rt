@@ -45,6 +45,7 @@ fn looks_for(command: &Command, key: u64) -> bool
     ensures { result ≡ looks_for command.now key }
 {
     match command {
+        Command::Map(Request::PopFirst) => true,
         Command::Map(Request::Successor { key: above }) => *above < key,
         Command::Map(Request::Range { low, high, most: _ }) => *low <= key && key <= *high,
         _ => false,
@@ -57,6 +58,7 @@ pub(crate) fn bounds(command: &Command) -> (Bound<u64>, Bound<u64>)
     ensures keys { (key : ℕ) → range_contains nat_cmp result.0 result.1 key ≡ looks_for command.now key }
 {
     match command {
+        Command::Map(Request::PopFirst) => (Bound::Unbounded, Bound::Unbounded),
         Command::Map(Request::Successor { key }) => (Bound::Excluded(*key), Bound::Unbounded),
         Command::Map(Request::Range { low, high, .. }) if *low <= *high => {
             (Bound::Included(*low), Bound::Included(*high))
@@ -70,6 +72,7 @@ pub(crate) fn most_told(command: &Command) -> usize
     ensures { result ≡ most_told command.now }
 {
     match command {
+        Command::Map(Request::PopFirst) => 1,
         Command::Map(Request::Successor { key: _ }) => 1,
         Command::Map(Request::Range { most, .. }) => *most as usize,
         _ => 0,

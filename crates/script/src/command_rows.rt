@@ -30,6 +30,8 @@ pub fn command_of(mode: Mode, name: &str, arguments: [&str; 3]) -> Result<Comman
         (Mode::Records, "set") => set_of(arguments),
         (Mode::Tree, "insert") => insert_of(arguments),
         (Mode::Tree, "delete") => delete_of(arguments),
+        (Mode::Tree, "pop_first") => pop_first_of(arguments),
+        (Mode::Tree, "replace_if") => replace_if_of(arguments),
         (Mode::Tree, "get") => get_of(arguments),
         (Mode::Tree, "successor") => successor_of(arguments),
         (Mode::Tree, "range") => range_of(arguments),
@@ -102,6 +104,26 @@ fn delete_of(arguments: [&str; 3]) -> Option<Command>
     };
     Some(Command::Map(Request::Delete {
         key: number_of(key)?,
+    }))
+}
+
+fn pop_first_of(arguments: [&str; 3]) -> Option<Command>
+    ensures { IsCommandOf (codes "pop_first" ∷ texts arguments.entry) result }
+{
+    match arguments {
+        ["", "", ""] => Some(Command::Map(Request::PopFirst)),
+        _ => None,
+    }
+}
+
+fn replace_if_of(arguments: [&str; 3]) -> Option<Command>
+    ensures { IsCommandOf (codes "replace_if" ∷ texts arguments.entry) result }
+{
+    let [key, expected, value] = arguments;
+    Some(Command::Map(Request::ReplaceIf {
+        key: number_of(key)?,
+        expected: number_of(expected)?,
+        value: number_of(value)?,
     }))
 }
 
@@ -264,6 +286,22 @@ impl CommandText {
                 a: format!(in alloc; "{key}")?,
                 b: String::new(alloc),
                 c: String::new(alloc),
+            }),
+            Request::PopFirst => Ok(CommandText {
+                name: "pop_first",
+                a: String::new(alloc),
+                b: String::new(alloc),
+                c: String::new(alloc),
+            }),
+            Request::ReplaceIf {
+                key,
+                expected,
+                value,
+            } => Ok(CommandText {
+                name: "replace_if",
+                a: format!(in alloc; "{key}")?,
+                b: format!(in alloc; "{expected}")?,
+                c: format!(in alloc; "{value}")?,
             }),
             Request::Get { key } => Ok(CommandText {
                 name: "get",
