@@ -37,6 +37,9 @@ use Rattle.record.specs.Snapshots.{IsLastLook}
 use Rattle.record.specs.Answers.{IsUnchanged, AreUnchanged}
 use Rattle.record.specs.Updates.{IsEntryOver}
 use Rattle.record.specs.Rules.Map.{IsMapEntry}
+use Rattle.record.specs.Rules.PopFirst.{IsPopEntry}
+use Rattle.player.proofs.Keys.{some_edit}
+use Rattle.arena.specs.declared.layout.Layout.{Layout}
 use Rattle.record.specs.CommandRules.{IsEntryFor}
 use Rattle.player.specs.Allowed.{PlayedAllows}
 use Rattle.player.specs.RunKnown.{RunWaits, RunIsReady, edit_in_hand, run_mode}
@@ -50,10 +53,10 @@ use Rattle.dict.specs.declared.dict.DictRun.{DictRun}
 use Rattle.ordered_map.specs.Requests.{map_request}
 use Rattle.ordered_map.specs.declared.request.Request.{Request}
 use Rattle.ordered_map.specs.declared.pair.Pair.{Pair}
-use Rattle.ordered_map.specs.OrderedMap.{MapCall, MapEdit, OneValue, Edit as EditCall, Insert, Delete, Get, Successor, Range, edit_of, get, reply}
+use Rattle.ordered_map.specs.OrderedMap.{MapCall, MapEdit, OneValue, Edit as EditCall, Insert, Delete, PopFirst, ReplaceIf, Get, Successor, Range, edit_of, first_pair, get, replace_edit, reply}
 use Rattle.ordered_map.specs.Runs.{Makes}
 use Rattle.ordered_map.specs.Spelled.{Spells}
-use Rattle.ordered_map.proofs.Lemmas.{run_spells}
+use Rattle.ordered_map.proofs.Lemmas.{one_spelling, run_spells}
 use Rattle.player.proofs.MapCalls.{tree_run}
 use Rattle.edits.specs.Tries.{HasEnteredOnly}
 use Rattle.player.proofs.Editing.{IsEditHand, map_hand}
@@ -124,8 +127,38 @@ pub record IsEntryFrom (v : ClientView) (c : Client) (row : Row) (s : ℕ) : Typ
   pub called : value v.past (scx s CallWord) ≡ c.number
   pub does : IsEntryFor v.layout c.pass.0 v.past v.start v.linked entered command
 
-some_edit : (a b : MapEdit) → Some a ≡ Some b → a ≡ b
-some_edit a b e = cc
+-- an SCX-record that makes an edit has an entry of a call whose reply, on the map just before, says
+-- that it has made the edit
+module _ (lay : Layout) (before : History) (s : ℕ) where
+  -- the first pair goes
+  popped : (edit : MapEdit) (map : List Pair) → Spells lay (value before) map → edit_of PopFirst (reply PopFirst map) ≡ Some edit → Makes lay before s edit → IsPopEntry lay before s
+  popped edit [] spells e makes = cc
+  popped edit (p ∷ ps) spells e makes = (p, subst (Makes lay before s) (sym (some_edit (Delete p.key) edit e)) makes, λ map also. ap first_pair (one_spelling lay (value before) map (p ∷ ps) also spells))
+
+  -- the value expected goes
+  expected_there : (k x y : ℕ) (edit : MapEdit) (told : Option ℕ) → replace_edit k x y told ≡ Some edit → (told ≡ Some x) × (Insert k y ≡ edit)
+  expected_there k x y edit None e = cc
+  expected_there k x y edit (Some old) e = go (eqb old x) refl e
+    where
+      go : (b : Bool) → eqb old x ≡ b → cond b (Some (Insert k y)) None ≡ Some edit → (Some old ≡ Some x) × (Insert k y ≡ edit)
+      go true q e = (ap (λ (n : ℕ). Some n) (eqb-true old x q), some_edit (Insert k y) edit e)
+      go false q e = cc
+
+  entry_makes : (of : MapCall) (edit : MapEdit) (map : List Pair) → Spells lay (value before) map → ((also : List Pair) → Spells lay (value before) also → edit_of of (reply of also) ≡ Some edit) → Makes lay before s edit → IsMapEntry of lay before (entry_of lay before s)
+  entry_makes (EditCall (Insert k x)) edit map spells gives makes = subst (Makes lay before s) (sym (some_edit (Insert k x) edit (gives map spells))) makes
+  entry_makes (EditCall (Delete k)) edit map spells gives makes = go (get k map) (gives map spells)
+    where
+      go : (old : Option ℕ) → edit_of (EditCall (Delete k)) (OneValue old) ≡ Some edit → Makes lay before s (Delete k)
+      go (Some old) e = subst (Makes lay before s) (sym (some_edit (Delete k) edit e)) makes
+      go None e = cc
+  entry_makes PopFirst edit map spells gives makes = popped edit map spells (gives map spells) makes
+  entry_makes (ReplaceIf k x y) edit map spells gives makes = (
+    subst (Makes lay before s) (sym (expected_there k x y edit (get k map) (gives map spells)).1) makes,
+    λ also there. (expected_there k x y edit (get k also) (gives also there)).0,
+  )
+  entry_makes (Get key) edit map spells gives makes = absurd (let e = gives map spells in cc)
+  entry_makes (Successor key) edit map spells gives makes = absurd (let e = gives map spells in cc)
+  entry_makes (Range low high most) edit map spells gives makes = absurd (let e = gives map spells in cc)
 
 -- the entry of an SCX, and what its SCX-record says of its call
 record IsOfPut (v : ClientView) (c : Client) (row : Row) (m : PutRun) (start : History) (is_pass : c.pass.0 < v.layout.passes) : Type 0 where
@@ -195,28 +228,21 @@ module _ (v : ClientView) (c : Client) (sound : IsSound v) (row : Row) (s : ℕ)
           let same : t ≡ s = only other before t w.within w.since w.wins w.own in
           update_is_first (facts_before v.layout v.past row l) wins (rw same at (won_since v.layout v.past (other ⊳ before) t sound.lawful w.within (has_won other before t w.wins)))
 
-  -- just before its update wins the call's reply says that it makes this edit
-  record GivesEdit (of : MapCall) (edit : MapEdit) : Type 0 where
-    map : List Pair
-    spells : Spells v.layout (value v.past) map
-    gives : edit_of of (reply of map) ≡ Some edit
+  -- the reply of the call on the map just before says that it makes this edit
+  Gives : MapCall → MapEdit → Type 0
+  Gives of edit = (map : List Pair) → Spells v.layout (value v.past) map → edit_of of (reply of map) ≡ Some edit
 
-  hand_gives : (m : DictRun ℕ ℕ) (is_pass : c.pass.0 < v.layout.passes) → v.layout.mode ≡ Tree → IsRun PlayedAllows v.layout (row ⊳ v.past) → (x : IsEditHand (inner m.run) (machine_call v c is_pass v.start) v.past s) → GivesEdit (call_in m.run) x.edit
-  hand_gives m is_pass tree run x =
-      let spelled = run_spells v.layout v.past (tree_run v.layout v.past tree sound) in
-      record { map = spelled.0; spells = spelled.1; gives = x.gives row (tree_run v.layout (row ⊳ v.past) tree run) is_win spelled.0 spelled.1 }
+  module _ (m : DictRun ℕ ℕ) (is_pass : c.pass.0 < v.layout.passes) (tree : v.layout.mode ≡ Tree) (run : IsRun PlayedAllows v.layout (row ⊳ v.past)) (x : IsEditHand (inner m.run) (machine_call v c is_pass v.start) v.past s) where
+    hand_gives : Gives (call_in m.run) x.edit
+    hand_gives map spells = x.gives row (tree_run v.layout (row ⊳ v.past) tree run) is_win map spells
 
-  -- so its entry is one that the call makes
-  entry_makes : (of : MapCall) (edit : MapEdit) (map : List Pair) → edit_of of (reply of map) ≡ Some edit → Makes v.layout v.past s edit → IsMapEntry of v.layout v.past (entry_of v.layout v.past s)
-  entry_makes (EditCall (Insert k x)) edit map e makes = subst (Makes v.layout v.past s) (sym (some_edit (Insert k x) edit e)) makes
-  entry_makes (EditCall (Delete k)) edit map e makes = go (get k map) e
-    where
-      go : (old : Option ℕ) → edit_of (EditCall (Delete k)) (OneValue old) ≡ Some edit → Makes v.layout v.past s (Delete k)
-      go (Some old) e = subst (Makes v.layout v.past s) (sym (some_edit (Delete k) edit e)) makes
-      go None e = cc
-  entry_makes (Get key) edit map e makes = cc
-  entry_makes (Successor key) edit map e makes = cc
-  entry_makes (Range low high most) edit map e makes = cc
+    -- there is such a map
+    spelled : (map : List Pair) × Spells v.layout (value v.past) map
+    spelled = run_spells v.layout v.past (tree_run v.layout v.past tree sound)
+
+    -- so its entry is one that the call makes
+    entry_is : IsMapEntry (call_in m.run) v.layout v.past (entry_of v.layout v.past s)
+    entry_is = entry_makes v.layout v.past s (call_in m.run) x.edit spelled.0 spelled.1 hand_gives x.hand.makes
 
   from_map : (m : DictRun ℕ ℕ) (then : Option Put) (x : Works v c (Map m) then) → IsRun PlayedAllows v.layout (row ⊳ v.past) → IsEditHand (inner m.run) (machine_call v c x.is_pass v.start) v.past s → IsEntryFrom v c row s
   from_map m then x run h = record {
@@ -231,7 +257,7 @@ module _ (v : ClientView) (c : Client) (sound : IsSound v) (row : Row) (s : ℕ)
     same_call = h.hand.called;
     called = h.hand.called;
     does = subst (λ (k : Command). IsEntryFor v.layout c.pass.0 v.past v.start v.linked (entry_of v.layout v.past s) k) (sym x.run_of.is)
-        (subst (λ (k : MapCall). IsMapEntry k v.layout v.past (entry_of v.layout v.past s)) x.run_of.called (let y = hand_gives m x.is_pass x.mode run h in entry_makes (call_in m.run) h.edit y.map y.gives h.hand.makes));
+        (subst (λ (k : MapCall). IsMapEntry k v.layout v.past (entry_of v.layout v.past s)) x.run_of.called (entry_is m x.is_pass x.mode run h));
   }
 
   from_run : (run : Run) (then : Option Put) (x : Works v c run then) → ((m : PutRun) → run ≡ Scx m → m.scx.scx.0 ≡ s → IsOfPut v c row m x.start x.is_pass) → ((m : DictRun ℕ ℕ) → run ≡ Map m → IsEditHand (inner m.run) (machine_call v c x.is_pass v.start) v.past s) → IsRun PlayedAllows v.layout (row ⊳ v.past) → IsEntryFrom v c row s
@@ -286,9 +312,7 @@ pub record IsEditOfCall (v : ClientView) (c : Client) (q : Running) : Type 0 whe
   pub is : command_of v c ≡ Some (MapOf request)
   pub edit : MapEdit
   pub in_hand : edit_in_hand q.run ≡ Some edit
-  pub map : List Pair
-  pub spells : Spells v.layout (value v.past) map
-  pub gives : edit_of (map_request request) (reply (map_request request) map) ≡ Some edit
+  pub gives : (map : List Pair) → Spells v.layout (value v.past) map → edit_of (map_request request) (reply (map_request request) map) ≡ Some edit
 
 pub edit_entered : (v : ClientView) (c : Client) (q : Running) (row : Row) (s : ℕ) → IsSound v → WaitsForStep v c q → IsRun PlayedAllows v.layout (row ⊳ v.past) → UpdateWins v.past row s → IsOwnScx v.layout c.pass.0 s → v.layout.mode ≡ Tree → IsEditOfCall v c q
 edit_entered v c q row s sound w run wins own tree = go q.run refl
@@ -297,15 +321,12 @@ edit_entered v c q row s sound w run wins own tree = go q.run refl
     go (Map m) e =
         let of : IsMapOf w.works.command m q.then = subst (λ (k : Run). IsMachineOf w.works.command c.number k q.then) e w.works.run_of in
         let h = map_waits v c q m s sound w e own (in_progress v c sound row s run.lawful wins own) in
-        let y = hand_gives v c sound row s run.lawful wins own m w.works.is_pass tree run h in
         record {
           request = of.request;
           is = w.works.is ∙ ap (λ (k : Command). Some k) of.is;
           edit = h.edit;
           in_hand = ap (λ (k : Run). edit_in_hand k) e ∙ h.is;
-          map = y.map;
-          spells = y.spells;
-          gives = subst (λ (k : MapCall). edit_of k (reply k y.map) ≡ Some h.edit) of.called y.gives;
+          gives = λ map spells. subst (λ (k : MapCall). edit_of k (reply k map) ≡ Some h.edit) of.called (hand_gives v c sound row s run.lawful wins own m w.works.is_pass tree run h map spells);
         }
     go (Llx m) e = absurd (let z : Tree ≡ Records = sym tree ∙ w.works.mode ∙ ap (λ (k : Run). run_mode k) e in cc)
     go (Scx m) e = absurd (let z : Tree ≡ Records = sym tree ∙ w.works.mode ∙ ap (λ (k : Run). run_mode k) e in cc)

@@ -1,14 +1,14 @@
 -- How a call of the map ends: what its reply says of the call.
-use Rattle.std.proofs.Common.{◌≡◌, ◌⊎◌, ℕ, ◌<◌, inl, inr, ⊎_elim, true, false, is_some, List, Option, Some, None, refl, ap, subst, arith}
+use Rattle.std.proofs.Common.{◌≡◌, ◌⊎◌, ℕ, ◌<◌, inl, inr, ⊎_elim, Bool, true, false, cond, eqb, eqb-true, is_some, List, Option, Some, None, refl, ap, subst, arith}
 use Rattle.arena.specs.declared.fault.Full.{Full as FullOf}
 use Rattle.arena.specs.History.{value}
 use Rattle.arena.specs.Machines.{Call as MachineCall}
 use Rattle.arena.specs.Share.{Remaining}
-use Rattle.ordered_map.specs.CallRules.{insert_nodes, delete_nodes, MayReply, form_of}
+use Rattle.ordered_map.specs.CallRules.{insert_nodes, delete_nodes, pop_nodes, replace_nodes, MayReply, form_of}
 use Rattle.dict.specs.Calls.{AsksForPairs}
 use Rattle.dict.specs.DictKnown.{DictRefuses}
 use Rattle.dict.specs.Says.{HasMadeEdit, HasLost, HasReadMap, HasRunOut, HasTooLittle, HasTold, HasToldBy, TellsOfMap}
-use Rattle.ordered_map.specs.OrderedMap.{MapCall, MapEdit, MapReply, OneValue, Edit, Get, changes_map, edit_of, get, reply, Insert as PutEdit, Delete as TakeEdit}
+use Rattle.ordered_map.specs.OrderedMap.{MapCall, MapEdit, MapReply, OneValue, Edit, PopFirst, ReplaceIf, Get, changes_map, edit_of, first_pair, get, is_value, pair_or_none, reply, Insert as PutEdit, Delete as TakeEdit}
 use Rattle.ordered_map.specs.Paths.{IsAnswerAt}
 use Rattle.ordered_map.proofs.Lemmas.{one_spelling}
 use Rattle.ordered_map.specs.Replies.{number_reply}
@@ -17,12 +17,13 @@ use Rattle.ordered_map.specs.declared.pair.Pair.{Pair as PairOf}
 use Rattle.ordered_map.specs.declared.reply.Reply.{Reply}
 use Rattle.ordered_map.specs.declared.reply.Reply.TheVariants.{Value, Pair, Pairs, Contended, Full, NoMemory}
 use Rattle.ordered_map.specs.declared.request.Request.{Request}
-use Rattle.ordered_map.specs.declared.request.Request.TheVariants.{Insert as InsertOf, Delete as DeleteOf, Get as GetOf, Successor as SuccessorOf, Range as RangeOf}
+use Rattle.ordered_map.specs.declared.request.Request.TheVariants.{Insert as InsertOf, Delete as DeleteOf, PopFirst as PopFirstOf, ReplaceIf as ReplaceIfOf, Get as GetOf, Successor as SuccessorOf, Range as RangeOf}
 use Rattle.edits.specs.Known.{RestsWith, IsUntouched}
 use Rattle.edits.specs.Tries.{HasEnteredNone}
 use Rattle.record.specs.Answers.{HasItsEntry, HasLostAllTries}
 use Rattle.record.specs.CommandRules.{MayAnswerAfterStep, enters, IsRight}
-use Rattle.record.specs.Edits.{HadAtKey}
+use Rattle.record.specs.Edits.{HadAtKey, HadFirst}
+use Rattle.record.specs.Rules.ReplaceIf.{ReplaceTold}
 use Rattle.record.specs.Shares.{HasTooFew, HasTooFewToTry, WasBlocked}
 use Rattle.record.specs.declared.record.Answer.{Answer}
 use Rattle.record.specs.declared.record.Answer.TheVariants.{Map as MapAnswer}
@@ -60,6 +61,25 @@ there : (old : Option ℕ) → 0 < delete_nodes old → (v : ℕ) × (old ≡ So
 there None some = absurd (omega (arith, some))
 there (Some v) some = (v, refl)
 
+-- a pop where the map has a pair
+first_there : (first : Option PairOf) → 0 < pop_nodes first → (p : PairOf) × (first ≡ Some p)
+first_there None some = absurd (omega (arith, some))
+first_there (Some p) some = (p, refl)
+
+-- one that tells none found none
+none_first : (first : Option PairOf) → pair_or_none first ≡ OneValue None → first ≡ None
+none_first None e = refl
+none_first (Some p) e = cc
+
+-- a replacement needs a node where it finds the value that it expects
+value_there : (expected : ℕ) (told : Option ℕ) → 0 < replace_nodes expected told → (told ≡ Some expected) × (replace_nodes expected told ≡ 1)
+value_there expected None some = absurd (omega (arith, some))
+value_there expected (Some old) some = go (eqb old expected) refl some
+  where
+    go : (b : Bool) → eqb old expected ≡ b → 0 < cond b 1 0 → (Some old ≡ Some expected) × (cond b 1 0 ≡ 1)
+    go true q some = (ap (λ (n : ℕ). Some n) (eqb-true old expected q), refl)
+    go false q some = absurd (omega (arith, some))
+
 module _ (v : ClientView) (c : Client) (is_pass : c.pass.0 < v.layout.passes) (won : IsWonSince v c.pass.0) where
   abbrev call : MachineCall
   call = machine_call v c is_pass v.start
@@ -94,6 +114,18 @@ module _ (v : ClientView) (c : Client) (is_pass : c.pass.0 < v.layout.passes) (w
   had_at_key key old x =
       let own = x.own tt in
       (own.row, own.before, own.since, record { moment = x.moment; within = x.within; since = own.within; map = x.map; spelled = x.spelled; gives = ap value_in x.gives })
+
+  -- just as a replacement of another value than it expects
+  had_other : (key expected put : ℕ) (old : Option ℕ) → HasReadMap call v.past (ReplaceIf key expected put) (OneValue old) → HadAtKey v.layout v.past v.start key old
+  had_other key expected put old x =
+      let own = x.own tt in
+      (own.row, own.before, own.since, record { moment = x.moment; within = x.within; since = own.within; map = x.map; spelled = x.spelled; gives = ap value_in x.gives })
+
+  -- the map had no pair
+  had_none : HasReadMap call v.past PopFirst (OneValue None) → HadFirst v.layout v.past v.start None
+  had_none x =
+      let own = x.own tt in
+      (own.row, own.before, own.since, record { moment = x.moment; within = x.within; since = own.within; map = x.map; spelled = x.spelled; is = none_first (first_pair x.map) x.gives })
 
   -- it has replied so
   replied : (of : MapCall) (told : MapReply) → AsksForPairs of → HasReadMap call v.past of told → HasReplied v.layout v.past v.start of told
@@ -152,6 +184,29 @@ module _ (v : ClientView) (c : Client) (is_pass : c.pass.0 < v.layout.passes) (w
         entry = entered_none v.won (unwon x.none);
       }
 
+  pop_full : (share : Remaining) (full : FullOf) → RestsWith call v.past share → HasRunOut call v.past PopFirst share full → IsRightSo (MapOf PopFirstOf) (MapAnswer (Full full))
+  pop_full share full rests x =
+      let first = first_there (first_pair x.map) x.some in
+      record {
+        right = (
+          first.0,
+          (x.own.row, x.own.before, x.own.since, record { moment = x.moment; within = x.within; since = x.own.within; map = x.map; spelled = x.spelled; is = first.1 }),
+          subst (λ o. HasTooFewToTry v.layout c.pass.0 v.past v.start (pop_nodes o) full.what full.left) first.1 (too_few PopFirst share full rests x (pop_nodes (first_pair x.map)) x.short),
+        );
+        entry = entered_none v.won (unwon x.none);
+      }
+
+  replace_full : (key expected put : ℕ) (share : Remaining) (full : FullOf) → RestsWith call v.past share → HasRunOut call v.past (ReplaceIf key expected put) share full → IsRightSo (MapOf (ReplaceIfOf key expected put)) (MapAnswer (Full full))
+  replace_full key expected put share full rests x =
+      let old = value_there expected (get key x.map) x.some in
+      record {
+        right = (
+          subst (HadAtKey v.layout v.past v.start key) old.0 (had_then (ReplaceIf key expected put) share full key x),
+          subst (λ n. HasTooFewToTry v.layout c.pass.0 v.past v.start n full.what full.left) old.1 (too_few (ReplaceIf key expected put) share full rests x (replace_nodes expected (get key x.map)) x.short),
+        );
+        entry = entered_none v.won (unwon x.none);
+      }
+
   -- what is told of one value
   one_told : (of : MapCall) (old : Option ℕ) → TellsOfMap call v.past of (number_reply (Value old)) → HasTold call v.past of (OneValue old)
   one_told of old x = subst (TellsOfMap call v.past of) (value_told old) x
@@ -161,6 +216,23 @@ module _ (v : ClientView) (c : Client) (is_pass : c.pass.0 < v.layout.passes) (w
   deleted key None x = record { right = had_at_key key None x; entry = enters_so (Edit (TakeEdit key)) (OneValue None) tt x }
   deleted key (Some old) x = record { right = tt; entry = enters_so (Edit (TakeEdit key)) (OneValue (Some old)) tt x }
 
+  -- a pop that tells a pair has changed the map, and one that tells none has read it
+  popped : (found : Option (ℕ × ℕ)) → TellsOfMap call v.past PopFirst (number_reply (Pair found)) → IsRightSo (MapOf PopFirstOf) (MapAnswer (Pair found))
+  popped None x = record { right = had_none x; entry = enters_so PopFirst (OneValue None) tt x }
+  popped (Some p) x = record { right = tt; entry = enters_so PopFirst _ tt x }
+
+  -- a replacement that tells the value expected has changed the map, and any other has read it
+  replaced : (key expected put : ℕ) (old : Option ℕ) → HasTold call v.past (ReplaceIf key expected put) (OneValue old) → IsRightSo (MapOf (ReplaceIfOf key expected put)) (MapAnswer (Value old))
+  replaced key expected put old x = record { right = right (is_value expected old) x; entry = entry (is_value expected old) (enters_so (ReplaceIf key expected put) (OneValue old) tt x) }
+    where
+      right : (b : Bool) → HasToldBy (cond b (Some (PutEdit key put)) None) call v.past (ReplaceIf key expected put) (OneValue old) → ReplaceTold b v.layout v.past v.start key old
+      right true x = tt
+      right false x = had_other key expected put old x
+
+      entry : (b : Bool) → HasItsEntry (is_some (cond b (Some (PutEdit key put)) None)) v.won → HasItsEntry b v.won
+      entry true x = x
+      entry false x = x
+
   ends : (r : Request ℕ ℕ) (a : Reply ℕ ℕ) (share : Remaining) → AsksForPairs (map_request r) → RestsWith call v.past share → MayReply (map_request r) (form_of a) → TellsOfMap call v.past (map_request r) (number_reply a) → DictRefuses call v.past (map_request r) share v.tries a → IsRightSo (MapOf r) (MapAnswer a)
   ends (InsertOf key value) (Value old) share asks rests form tells why = record { right = tt; entry = enters_so (Edit (PutEdit key value)) _ asks tells }
   ends (InsertOf key value) (Contended node scx) share asks rests form tells why = record { right = lost node.0 scx.0 why; entry = entered_none v.won (unwon why.none) }
@@ -168,6 +240,12 @@ module _ (v : ClientView) (c : Client) (is_pass : c.pass.0 < v.layout.passes) (w
   ends (DeleteOf key) (Value old) share asks rests form tells why = deleted key old (one_told (Edit (TakeEdit key)) old tells)
   ends (DeleteOf key) (Contended node scx) share asks rests form tells why = record { right = lost node.0 scx.0 why; entry = entered_none v.won (unwon why.none) }
   ends (DeleteOf key) (Full full) share asks rests form tells why = delete_full key share full rests why
+  ends PopFirstOf (Pair found) share asks rests form tells why = popped found tells
+  ends PopFirstOf (Contended node scx) share asks rests form tells why = record { right = lost node.0 scx.0 why; entry = entered_none v.won (unwon why.none) }
+  ends PopFirstOf (Full full) share asks rests form tells why = pop_full share full rests why
+  ends (ReplaceIfOf key expected put) (Value old) share asks rests form tells why = replaced key expected put old (one_told (ReplaceIf key expected put) old tells)
+  ends (ReplaceIfOf key expected put) (Contended node scx) share asks rests form tells why = record { right = lost node.0 scx.0 why; entry = entered_none v.won (unwon why.none) }
+  ends (ReplaceIfOf key expected put) (Full full) share asks rests form tells why = replace_full key expected put share full rests why
   ends (GetOf key) (Value old) share asks rests form tells why = let y = one_told (Get key) old tells in record { right = answer_at key old y; entry = entered_none v.won (unwon y.none) }
   ends (SuccessorOf key) (Pair found) share asks rests form tells why = record { right = tt; entry = entered_none v.won (unwon tells.none) }
   ends (SuccessorOf key) (Contended node scx) share asks rests form tells why = record { right = lost node.0 scx.0 why; entry = entered_none v.won (unwon why.none) }

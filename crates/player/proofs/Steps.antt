@@ -1,6 +1,5 @@
 -- The turn of a client that makes a step.
-use Rattle.std.proofs.lemmas.List.Elements.{All-tail}
-use Rattle.std.proofs.Common.{◌≡◌, ℕ, zero, suc, Bool, true, false, cond, eqb, ◌≤◌, ◌≢◌, ◌⊎◌, inl, inr, ⊎_elim, List, ◌∷◌, set, length, Option, Some, None, MatchOption, IsSome, All, get_or, slice_get, unwrap_or, refl, sym, ◌∙◌, ap, subst, eq-eqb, arith, [], ◌++◌, IfSome}
+use Rattle.std.proofs.Common.{◌≡◌, ℕ, suc, true, ◌≤◌, ◌≢◌, ◌⊎◌, inl, inr, ⊎_elim, List, ◌∷◌, set, length, Option, Some, None, MatchOption, IsSome, All, get_or, slice_get, unwrap_or, refl, sym, ◌∙◌, ap, subst, eq-eqb, arith, [], ◌++◌, IfSome}
 use native.Mathlib.Decide.{ℕ_discrete}
 use Rattle.arena.specs.Fills.{IsOwnScx}
 use Rattle.arena.specs.declared.layout.Layout.{Layout}
@@ -23,22 +22,22 @@ use Rattle.player.specs.Allowed.{PlayedAllows}
 use Rattle.ordered_map.specs.FillOrder.{IsFillInOrder}
 use Rattle.player.proofs.InOrder.{run_in_order}
 use Rattle.ordered_map.specs.declared.pair.Pair.{Pair}
-use Rattle.ordered_map.specs.OrderedMap.{MapCall, MapEdit, OneValue, Edit as EditCall, Insert, Delete, Get, Successor, Range, edit_key, edit_of, get, reply, value_left}
+use Rattle.ordered_map.specs.OrderedMap.{MapCall, MapEdit, OneValue, Edit as EditCall, Insert, Delete, PopFirst, ReplaceIf, Get, Successor, Range, edit_key, edit_of, get, reply, value_left}
 use Rattle.ordered_map.specs.Requests.{map_request}
 use Rattle.moments.specs.declared.places.Change.{Change}
 use Rattle.moments.specs.declared.places.Places.{Places}
-use Rattle.moments.specs.Changed.{changed_key}
+use Rattle.moments.specs.Changed.{changed_key, edit_on}
 use Rattle.moments.specs.Places.{changes, Knows, HoldsOfKey}
-use Rattle.moments.specs.Entries.{AreEntries, IsChangeBy}
-use Rattle.record.specs.MapRecord.{map_call, map_call_of}
+use Rattle.moments.specs.Entries.{AreEntries, AreUpTo, IsChangeBy, IsChangeByEdit}
+use Rattle.moments.proofs.Lemmas.{spelled}
+use Rattle.record.specs.MapRecord.{map_call, map_call_of, map_of, written_log}
+use Rattle.record.specs.LawfulRun.{AreLines}
 use Rattle.script.specs.declared.command.Command.TheVariants.{Map}
-use Rattle.ordered_map.specs.declared.request.Request.{Request}
-use Rattle.ordered_map.specs.declared.request.Request.TheVariants.{Insert as InsertOf, Delete as DeleteOf, Get as GetOf, Successor as SuccessorOf, Range as RangeOf}
 use Rattle.script.specs.declared.call.Call.{Call}
 use Rattle.script.specs.declared.command.Command.{Command}
 use Rattle.record.specs.declared.record.Line.{Line}
 use Rattle.record.specs.declared.record.Line.TheVariants.{Step, Log, Reply as ReplyLine}
-use Rattle.record.specs.declared.record.Row.TheVariants.{Step as Made}
+use Rattle.record.specs.declared.record.Row.TheVariants.{Step as Made, Idle}
 use Rattle.record.specs.declared.record.Finished.{Finished}
 use Rattle.record.specs.declared.record.Entry.{Entry}
 use Rattle.record.specs.declared.record.Answer.{Answer}
@@ -62,8 +61,10 @@ use Rattle.player.specs.BetweenTurns.{IsLawfulSoFar, IsTurnOf, AreBetweenTurns, 
 use Rattle.player.proofs.Views.{own_row, step_sound, hears}
 use Rattle.player.proofs.Middles.{IsOver, get_there, others_step, others_log, so_far_same, step_made, turn_changed, turn_ends, replied}
 use Rattle.player.proofs.MayMakes.{may_make}
-use Rattle.record.proofs.Lemmas.{begin_within}
-use Rattle.player.proofs.Winners.{IsEntryOfWin, entry_wins, tells_won}
+use Rattle.record.proofs.Lemmas.{begin_within, log_step}
+use Rattle.player.proofs.Keys.{command_key, edit_of_key, key_there, some_edit}
+use Rattle.player.proofs.MapCalls.{map_calls, tree_run}
+use Rattle.player.proofs.Winners.{IsEntryOfWin, entry_wins, tells_won, win_enters}
 use Rattle.player.proofs.Entered.{IsEditOfCall, IsEntryFrom, edit_entered, entry_by_others, entry_by_own, in_hand_tree, rest_wins_not}
 
 -- the client that makes the turn is about to hear what its step found; turn number `number` has
@@ -98,47 +99,39 @@ row_same pass c call call' kind word before before' after after' p k b a = rw (k
 abbrev change_of : ℕ → MapEdit → Change
 change_of turn edit = record { turn = turn; key = edit_key edit; value = value_left edit }
 
-some_edit : (a b : MapEdit) → Some a ≡ Some b → a ≡ b
-some_edit a b e = cc
+some_entry : (a b : Entry) → Some a ≡ Some b → a ≡ b
+some_entry a b e = cc
 
-of_edit : (a edit : MapEdit) (turn : ℕ) → Some a ≡ Some edit → IsChangeBy (Some (EditCall a)) (change_of turn edit)
-of_edit a edit turn e = let same = some_edit a edit e in (ap edit_key (sym same), ap value_left (sym same))
-
--- it is that of a call whose reply says that it has made the edit
-changes_so : (of : MapCall) (edit : MapEdit) (turn : ℕ) (map : List Pair) → edit_of of (reply of map) ≡ Some edit → IsChangeBy (Some of) (change_of turn edit)
-changes_so (EditCall (Insert k x)) edit turn map e = of_edit (Insert k x) edit turn e
-changes_so (EditCall (Delete k)) edit turn map e = go (get k map) e
+-- it is that of a call whose reply, on the map just before, says that it has made the edit
+changes_so : (of : MapCall) (edit : MapEdit) (turn : ℕ) (map : List Pair) → edit_of of (reply of map) ≡ Some edit → IsChangeBy (Some of) map (change_of turn edit)
+changes_so of edit turn map e = subst (λ (o : Option MapEdit). IsChangeByEdit o (change_of turn edit)) (sym (on of e)) (refl, refl)
   where
-    go : (old : Option ℕ) → edit_of (EditCall (Delete k)) (OneValue old) ≡ Some edit → IsChangeBy (Some (EditCall (Delete k))) (change_of turn edit)
-    go (Some old) e = of_edit (Delete k) edit turn e
-    go None e = cc
-changes_so (Get key) edit turn map e = cc
-changes_so (Successor key) edit turn map e = cc
-changes_so (Range low high most) edit turn map e = cc
-
--- the key of such a call may be changed where those of all calls may
-command_key : (calls : List Call) (c n : ℕ) (P : ℕ → Type 0) (command : Command) → All (λ (call : Call). HoldsOfKey P call.command) calls → slice_get (commands calls c) n ≡ Some command → HoldsOfKey P command
-command_key [] c n P command all e = cc
-command_key (call ∷ calls) c n P command all e = go (λ i d. command_key calls c i P command (All-tail (λ (k : Call). HoldsOfKey P k.command) call calls all) d) (eqb call.client.0 c) n e
-  where
-    go : ((i : ℕ) → slice_get (commands calls c) i ≡ Some command → HoldsOfKey P command) → (b : Bool) (n : ℕ) → slice_get (cond b (call.command ∷ commands calls c) (commands calls c)) n ≡ Some command → HoldsOfKey P command
-    go more false n d = more n d
-    go more true zero d = let same : call.command ≡ command = cc in subst (λ (k : Command). HoldsOfKey P k) same (all 0 call (omega arith))
-    go more true (suc n) d = more n d
-
-known_key : (calls : List Call) (c n : ℕ) (request : Request ℕ ℕ) (edit : MapEdit) (map : List Pair) (places : Places) → All (λ (call : Call). HoldsOfKey (Knows places) call.command) calls → slice_get (commands calls c) n ≡ Some (Map request) → edit_of (map_request request) (reply (map_request request) map) ≡ Some edit → Knows places (edit_key edit)
-known_key calls c n request edit map places all at e = go request e (command_key calls c n (Knows places) (Map request) all at)
-  where
-    go : (r : Request ℕ ℕ) → edit_of (map_request r) (reply (map_request r) map) ≡ Some edit → HoldsOfKey (Knows places) (Map r) → Knows places (edit_key edit)
-    go (InsertOf k x) e known = subst (λ (d : MapEdit). Knows places (edit_key d)) (some_edit (Insert k x) edit e) known
-    go (DeleteOf k) e known = deleted (get k map) e
+    on : (of : MapCall) → edit_of of (reply of map) ≡ Some edit → edit_on of map ≡ Some edit
+    on (EditCall (Insert k x)) e = e
+    on (EditCall (Delete k)) e = go (get k map) e
       where
-        deleted : (old : Option ℕ) → edit_of (EditCall (Delete k)) (OneValue old) ≡ Some edit → Knows places (edit_key edit)
-        deleted (Some old) e = subst (λ (d : MapEdit). Knows places (edit_key d)) (some_edit (Delete k) edit e) known
-        deleted None e = cc
-    go (GetOf k) e known = cc
-    go (SuccessorOf k) e known = cc
-    go (RangeOf low high most) e known = cc
+        go : (old : Option ℕ) → edit_of (EditCall (Delete k)) (OneValue old) ≡ Some edit → Some (Delete k) ≡ Some edit
+        go (Some old) e = e
+        go None e = cc
+    on PopFirst e = e
+    on (ReplaceIf k x y) e = e
+    on (Get key) e = e
+    on (Successor key) e = e
+    on (Range low high most) e = e
+
+-- the entries of a record are of turns so far
+up_to : (lay : Layout) (tries : ℕ) (calls : List Call) (lines : List Line) (turn : ℕ) → AreLines lay tries calls lines → turns lines ≤ turn → AreUpTo turn (written_log lines)
+unfolding AreLines
+up_to lay tries calls [] turn x i = tt
+up_to lay tries calls (Step row ∷ lines) turn x i = up_to lay tries calls lines turn x.0 (omega (arith, i))
+up_to lay tries calls (ReplyLine reply ∷ lines) turn x i = up_to lay tries calls lines turn x.0 i
+up_to lay tries calls (Log e ∷ Step (Made n row) ∷ lines) turn x i =
+    let s : e.step ≡ suc (turns lines) = log_step lay tries calls (Step (Made n row) ∷ lines) e x.0 x.1 in
+    (omega (arith, s, i), up_to lay tries calls lines turn x.0.0 (omega (arith, i)))
+up_to lay tries calls (Log e ∷ Step (Idle n client) ∷ lines) turn x i = absurd x.1
+up_to lay tries calls (Log e ∷ Log d ∷ lines) turn x i = absurd x.1
+up_to lay tries calls (Log e ∷ ReplyLine reply ∷ lines) turn x i = absurd x.1
+up_to lay tries calls (Log e ∷ []) turn x i = absurd x.1
 
 module _ (p : Interleaving) (i number : ℕ) (step : Ask) (a : IsStepAsked p i number step) where
   abbrev lay : Layout
@@ -295,25 +288,47 @@ module _ (p : Interleaving) (i number : ℕ) (step : Ask) (a : IsStepAsked p i n
   has_edit entry o edit is = ap client_edit o.there ∙ ap running_edit o.runs ∙ is
 
   -- on the tree the entry is of the edit that its client has in hand
-  asked_edit : (entry : Entry) → entry_of lay lines number made ≡ Some entry → lay.mode ≡ Tree → IsAtEdit lay calls lines p.clients.items entry
-  asked_edit entry e tree = record {
-    edit = x.edit;
-    is = has_edit entry o x.edit x.in_hand;
-    by = subst (λ (k : Option MapCall). IsChangeBy k (change_of entry.step x.edit)) (sym call) (changes_so (map_request x.request) x.edit entry.step x.map x.gives);
-    known = λ places y. known_key calls entry.client.0 entry.call x.request x.edit x.map places y.keys place x.gives;
-  }
-    where
-      o : IsOwner entry
-      o = owner_of entry e
+  module _ (entry : Entry) (e : entry_of lay lines number made ≡ Some entry) (tree : lay.mode ≡ Tree) where
+    o : IsOwner entry
+    o = owner_of entry e
 
-      x : IsEditOfCall (client_view lay tries calls lines entry.client.0) o.client o.running
-      x = edit_entered (client_view lay tries calls lines entry.client.0) o.client o.running made o.scx a.turn.so_far.sound o.waits sound o.wins o.own tree
+    x : IsEditOfCall (client_view lay tries calls lines entry.client.0) o.client o.running
+    x = edit_entered (client_view lay tries calls lines entry.client.0) o.client o.running made o.scx a.turn.so_far.sound o.waits sound o.wins o.own tree
 
-      place : slice_get (commands calls entry.client.0) entry.call ≡ Some (Map x.request)
-      place = ap (λ (j : ℕ). slice_get (commands calls entry.client.0) j) (log_entry entry e).call ∙ ap (λ (k : ℕ). slice_get (commands calls k) (answered lines entry.client.0)) (sym o.pass) ∙ x.is
+    -- the map just before
+    map_before : List Pair
+    map_before = map_of calls (written_log lines)
 
-      call : map_call_of calls entry.client.0 entry.call ≡ Some (map_request x.request)
-      call = ap map_call place
+    gives : edit_of (map_request x.request) (reply (map_request x.request) map_before) ≡ Some x.edit
+    gives = x.gives map_before (spelled lay tries calls tree (map_calls lay.mode calls tree a.turn.so_far.of_mode) lines a.turn.so_far.in_order (tree_run lay (history lay.mode lines) tree a.turn.so_far.sound) a.settled.entry)
+
+    place : slice_get (commands calls entry.client.0) entry.call ≡ Some (Map x.request)
+    place = ap (λ (j : ℕ). slice_get (commands calls entry.client.0) j) (log_entry entry e).call ∙ ap (λ (k : ℕ). slice_get (commands calls k) (answered lines entry.client.0)) (sym o.pass) ∙ x.is
+
+    call_is : map_call_of calls entry.client.0 entry.call ≡ Some (map_request x.request)
+    call_is = ap map_call place
+
+    -- the entry is of this turn
+    late : turns lines ≤ entry.step
+    late =
+        let w = entry_wins lay lines number made sound.lawful entry e in
+        let y = win_enters lay lines number made sound.lawful w.0 w.1.wins in
+        let step : entry.step ≡ number = ap (λ (k : Entry). k.step) (some_entry entry y.entry (sym e ∙ y.is)) ∙ y.step_is in
+        let n = a.in_turn in
+        omega (arith, step, n)
+
+    key_known : (places : Places) → ArePlaces lay calls lines places → Knows places (edit_key x.edit)
+    key_known places y =
+        ⊎_elim (λ z. subst (λ (k : Option ℕ). IfSome k (Knows places)) z (command_key calls entry.client.0 entry.call (Knows places) (Map x.request) y.keys place)) (λ z. key_there calls (written_log lines) (Knows places) (edit_key x.edit) z.0 y.keys z.1)
+        (edit_of_key (map_request x.request) x.edit map_before gives)
+
+    asked_edit : IsAtEdit lay calls lines p.clients.items entry
+    asked_edit = record {
+      edit = x.edit;
+      is = has_edit entry o x.edit x.in_hand;
+      by = (refl, subst (λ (k : Option MapCall). IsChangeBy k map_before (change_of entry.step x.edit)) (sym call_is) (changes_so (map_request x.request) x.edit entry.step map_before gives), up_to lay tries calls lines entry.step a.turn.so_far.in_order late);
+      known = key_known;
+    }
 
   -- and on cells none has one
   asked_tree : (entry : Entry) → entry_of lay lines number made ≡ Some entry → (edit : MapEdit) → owners_edit p.clients.items entry.client.0 ≡ Some edit → lay.mode ≡ Tree
@@ -437,7 +452,7 @@ pub places_logged : (lay : Layout) (calls : List Call) (clients : List Client) (
 places_logged lay calls clients lines e old new owned change more p = record { entries = λ tree. entries tree (owned.edits tree); keys = keys_kept old new calls more p.keys }
   where
     entries : lay.mode ≡ Tree → IsAtEdit lay calls lines clients e → AreEntries calls (Log e ∷ lines) (changes new)
-    entries tree x = rw (change x.edit x.is) ((refl, x.by), p.entries tree)
+    entries tree x = rw (change x.edit x.is) (x.by, p.entries tree)
 
 -- its key may be changed
 pub place_known : (lay : Layout) (calls : List Call) (clients : List Client) (lines : List Line) (e : Entry) (places : Places) → IsOwned lay calls lines clients e → ArePlaces lay calls lines places → IfSome (owners_edit clients e.client.0) (λ (edit : MapEdit). Knows places (edit_key edit))

@@ -26,11 +26,11 @@ use Rattle.player.specs.declared.interleaving.Interleaving.{Interleaving}
 use Rattle.record.specs.Turns.{history, begin, turns, won}
 use Rattle.ordered_map.specs.OrderedMap.{MapEdit, edit_key, value_left}
 use Rattle.record.specs.declared.record.Entry.{Entry}
-use Rattle.record.specs.MapRecord.{map_call_of}
+use Rattle.record.specs.MapRecord.{written_log}
 use Rattle.moments.specs.declared.places.Change.{Change}
 use Rattle.moments.specs.declared.places.Places.{Places}
 use Rattle.moments.specs.Places.{changes, Knows, HoldsOfKey}
-use Rattle.moments.specs.Entries.{AreEntries, IsChangeBy}
+use Rattle.moments.specs.Entries.{AreEntries, IsChangeOf}
 use Rattle.player.specs.Moments.{IsMomentBy}
 use Rattle.record.specs.LawfulRun.{AreLines, OwesNothing}
 use Rattle.player.specs.ClientView.{client_edit, client_view, IsClient, WaitsForStep, IsAtNextCall}
@@ -116,7 +116,7 @@ owners_edit clients c = client_edit (slice_get clients c)
 pub record IsAtEdit (lay : Layout) (calls : List Call) (lines : List Line) (clients : List Client) (e : Entry) : Type 0 where
   pub edit : MapEdit
   pub is : owners_edit clients e.client.0 ≡ Some edit
-  pub by : IsChangeBy (map_call_of calls e.client.0 e.call) record { turn = e.step; key = edit_key edit; value = value_left edit }
+  pub by : IsChangeOf calls (written_log lines) e record { turn = e.step; key = edit_key edit; value = value_left edit }
   pub known : (places : Places) → ArePlaces lay calls lines places → Knows places (edit_key edit)
 
 -- so it is on the tree; on cells no machine has an edit in hand
