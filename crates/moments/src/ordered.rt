@@ -100,7 +100,8 @@ fn go_as_far(pairs: &[(u64, u64)], key: u64) -> bool
 
 /// The pairs behind the first one, where that has this key and this value.
 pub(crate) fn behind(pairs: &[(u64, u64)], key: u64, value: u64) -> Option<&[(u64, u64)]>
-    ensures some { IfSome result (λ rest. (first : PairOf) × (first.key ≡ key) × (first.value ≡ value) × (number_pairs pairs.now ≡ first ∷ number_pairs rest.now)) }
+    ensures some { IfSome result (λ rest. (first : PairOf) × (first.key ≡ key) × (first.value ≡ value) ×
+        (number_pairs pairs.now ≡ first ∷ number_pairs rest.now)) }
     ensures none { IfNone result ((first : PairOf) (rest : List PairOf) → first.key ≡ key → first.value ≡ value → number_pairs pairs.now ≢ first ∷ rest) }
 {
     let (first, rest) = pairs.split_first()?;

@@ -178,7 +178,8 @@ fn cell_of(text: &str) -> Option<Cell>
 
 /// One to four cells that differ, with one space between two.
 fn cells_of(text: &str) -> Option<Cells>
-    ensures { MatchOption result ((cells : Cells) → AreCells (cells_of cells) → text.now ≢ numbers_text (cells_of cells)) (λ cells. AreCells (cells_of cells) × (text.now ≡ numbers_text (cells_of cells))) }
+    ensures { MatchOption result ((cells : Cells) → AreCells (cells_of cells) → text.now ≢ numbers_text (cells_of cells))
+        (λ cells. AreCells (cells_of cells) × (text.now ≡ numbers_text (cells_of cells))) }
 {
     let mut cells = None;
     for part in text.split(' ') {
@@ -200,7 +201,9 @@ fn one_more(cells: Option<Cells>, cell: Cell) -> Option<Cells>
 
 /// The cells of an SCX that are finalized, if any.
 fn finalize_of(text: &str) -> Option<Option<Cells>>
-    ensures { MatchOption result ((cells : Option Cells) → All IsCell (maybe_cells_of cells) → text.now ≢ numbers_text (maybe_cells_of cells)) (λ cells. All IsCell (maybe_cells_of cells) × (text.now ≡ numbers_text (maybe_cells_of cells))) }
+    ensures { MatchOption result ((cells : Option Cells) → All IsCell (maybe_cells_of cells) →
+        text.now ≢ numbers_text (maybe_cells_of cells))
+        (λ cells. All IsCell (maybe_cells_of cells) × (text.now ≡ numbers_text (maybe_cells_of cells))) }
 {
     match text {
         "" => Some(None),
@@ -210,7 +213,9 @@ fn finalize_of(text: &str) -> Option<Option<Cells>>
 
 /// A field and the value that goes into it: cell, side and value, with one space between two.
 fn change_of(text: &str) -> Option<((Cell, Side), u64)>
-    ensures { MatchOption result ((field : ℕ × Side) (value : ℕ) → IsCell field.0 → value < 2 ^ 64 → text.now ≢ change_text field value) (λ change. IsCell change.0.0 × (change.1 < 2 ^ 64) × (text.now ≡ change_text change.0 change.1)) }
+    ensures { MatchOption result ((field : ℕ × Side) (value : ℕ) → IsCell field.0 → value < 2 ^ 64 →
+        text.now ≢ change_text field value)
+        (λ change. IsCell change.0.0 × (change.1 < 2 ^ 64) × (text.now ≡ change_text change.0 change.1)) }
 {
     let (cell, rest) = text.split_once(' ')?;
     let (side, value) = rest.split_once(' ')?;
