@@ -1,6 +1,5 @@
 -- What runs inside of the machine of a call of the map: an update for a call that may edit,
 -- whichever that is, and a machine for each kind of read.
-use Rattle.std.specs.Prelude.{ℕ}
 use Rattle.arena.specs.Share.{Remaining}
 use Rattle.order.specs.declared.range.RangeRun.{RangeRun}
 use Rattle.order.specs.declared.successor.SuccessorRun.{SuccessorRun}

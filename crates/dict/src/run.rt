@@ -16,7 +16,8 @@ use order::{RangeRun, SuccessorRun};
 use ordered_map::Request;
 use std::alloc::Global;
 use tree::{
-    Delete, DeleteRun, GetRun, Insert, InsertRun, PopFirst, PopFirstRun, ReplaceIf, ReplaceIfRun, Tree,
+    Delete, DeleteRun, GetRun, Insert, InsertRun, PopFirst, PopFirstRun, ReplaceIf, ReplaceIfRun,
+    Tree,
 };
 
 /// A call that has begun. It has its pass's share until it has answered, of which a read takes

@@ -1,5 +1,5 @@
 -- What has to be so of a kind of edit, and that it is so of each that runs inside of a call.
-use Rattle.std.proofs.Common.{◌≡◌, ◌≢◌, ℕ, ◌+◌, ◌*◌, ◌^◌, ◌<◌, Bool, true, false, cond, List, Option, Some, None, refl, sym, ap, ◌∙◌, arith}
+use Rattle.std.proofs.Common.{◌≡◌, ◌≢◌, ℕ, ◌*◌, ◌^◌, ◌<◌, Bool, true, false, cond, List, Option, Some, None, refl, sym, ap, ◌∙◌, arith}
 use Rattle.std.specs.Option.{option_map}
 use Rattle.arena.specs.declared.step.Kind.{Kind}
 use Rattle.arena.specs.declared.step.Step.{Step}
@@ -13,7 +13,6 @@ use Rattle.template.specs.FoundLeaf.{path_key}
 use Rattle.template.specs.declared.walk.Found.{Found}
 use Rattle.tree.specs.Delete.Means.{delete_need}
 use Rattle.tree.specs.Insert.Means.{insert_need}
-use Rattle.tree.specs.ReplaceIf.Means.{replace_need}
 use Rattle.tree.proofs.Lemmas.{insert_in_order, delete_in_order, pop_in_order, replace_in_order}
 use Rattle.edits.specs.Known.{UpdateWaits}
 use Rattle.edits.specs.Pieces.{many_nodes}
@@ -29,7 +28,7 @@ use Rattle.dict.specs.Calls.{AsksForPairs, IsSmallCall, most_tries}
 use Rattle.dict.specs.Forms.{word_form}
 use Rattle.dict.specs.Goals.{goal_told, leaf_told}
 use Rattle.dict.specs.WordReplies.{word_reply, pop_reply, edit_reply}
-use Rattle.dict.specs.Inner.{EditKind, InnerRun, Update, Get, Successor, Range, insert_kind, delete_kind, pop_kind, replace_kind, inner}
+use Rattle.dict.specs.Inner.{EditKind, InnerRun, Update, insert_kind, delete_kind, pop_kind, replace_kind, inner}
 use Rattle.dict.specs.declared.run.MapRun.{MapRun}
 use Rattle.dict.specs.declared.run.MapRun.TheVariants as runs
 

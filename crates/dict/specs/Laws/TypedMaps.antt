@@ -11,7 +11,7 @@ use Rattle.arena.specs.Machines.{IsRun}
 use Rattle.arena.specs.Shape.{Shaped}
 use Rattle.arena.proofs.Lemmas.{ends_self, run_as}
 use Rattle.histories.proofs.Lemmas.{lawful_since, shaped_begin, shaped_since}
-use Rattle.ordered_map.specs.OrderedMap.{MapEdit, Insert, Delete, insert, delete, edited, edit_key, edit_of, MapCall, Edit, PopFirst, ReplaceIf, Get, Successor, Range, MapReply, OneValue, OnePair, ManyPairs, reply, get, first_pair, is_value, successor, between, pair, pair_or_none}
+use Rattle.ordered_map.specs.OrderedMap.{MapEdit, Insert, Delete, insert, delete, edited, edit_key, edit_of, MapCall, Edit, PopFirst, ReplaceIf, Get, Successor, Range, MapReply, OneValue, OnePair, reply, get, first_pair, is_value, successor, between, pair, pair_or_none}
 use Rattle.ordered_map.specs.Runs.{IsTreeRun, Makes, map_of_log}
 use Rattle.ordered_map.specs.Spelled.{Spells}
 use Rattle.ordered_map.specs.TreeShape.{TreeAllows}
