@@ -201,11 +201,11 @@ pub record IsEditReply (lay : Layout) (tries : ℕ) (calls : List Call) (lines :
   pub moment : IsMomentBy calls lines changes command r.answer r.begin r.end (won lay lines c) r.moment
 
 module _ (lay : Layout) (tries : ℕ) (calls : List Call) (lines : List Line) (changes : List Change) (r : Finished) (c : ℕ) where
-  refused : (command : Command) → IsEditReply lay tries calls lines changes r c command → HasItsEntry false (won lay lines c) → r.moment ≡ None → IsRefused lines r
+  pub refused : (command : Command) → IsEditReply lay tries calls lines changes r c command → HasItsEntry false (won lay lines c) → r.moment ≡ None → IsRefused lines r
   refused command x y none = record { none = rw (x.client, x.number) (entries_none lay tries calls lines x.lines_are c (unwon_none (won lay lines c) y)); moment = none }
 
   -- a call that has changed the map took place at its entry
-  changed : (command : Command) (call : MapCall) (told : MapReply) → IsEditReply lay tries calls lines changes r c command → reply_told r.answer ≡ Some told → IsToldChange (client_view lay tries calls lines c) c call told → r.moment ≡ won lay lines c → IsPlacedChange calls lines call r
+  pub changed : (command : Command) (call : MapCall) (told : MapReply) → IsEditReply lay tries calls lines changes r c command → reply_told r.answer ≡ Some told → IsToldChange (client_view lay tries calls lines c) c call told → r.moment ≡ won lay lines c → IsPlacedChange calls lines call r
   changed command call told x says y at =
       let f = find_win lay tries calls c x.mode x.all y.row y.before y.scx y.win.wins y.win.own lines x.run x.lines_are x.owed y.win.within y.win.since in
       record {

@@ -29,7 +29,7 @@ use Rattle.moments.specs.declared.places.Places.{Places}
 use Rattle.moments.specs.Changed.{changed_key, edit_on}
 use Rattle.moments.specs.Places.{changes, Knows, HoldsOfKey}
 use Rattle.moments.specs.Entries.{AreEntries, AreUpTo, IsChangeBy, IsChangeByEdit}
-use Rattle.moments.proofs.Lemmas.{spelled}
+use Rattle.moments.proofs.Lemmas.{knows_told, map_now, spelled}
 use Rattle.record.specs.MapRecord.{map_call, map_call_of, map_of, written_log}
 use Rattle.record.specs.LawfulRun.{AreLines}
 use Rattle.script.specs.declared.command.Command.TheVariants.{Map}
@@ -62,7 +62,7 @@ use Rattle.player.proofs.Views.{own_row, step_sound, hears}
 use Rattle.player.proofs.Middles.{IsOver, get_there, others_step, others_log, so_far_same, step_made, turn_changed, turn_ends, replied}
 use Rattle.player.proofs.MayMakes.{may_make}
 use Rattle.record.proofs.Lemmas.{begin_within, log_step}
-use Rattle.player.proofs.Keys.{command_key, edit_of_key, key_there, some_edit}
+use Rattle.player.proofs.Keys.{command_key, edit_of_key, some_edit}
 use Rattle.player.proofs.MapCalls.{map_calls, tree_run}
 use Rattle.player.proofs.Winners.{IsEntryOfWin, entry_wins, tells_won, win_enters}
 use Rattle.player.proofs.Entered.{IsEditOfCall, IsEntryFrom, edit_entered, entry_by_others, entry_by_own, in_hand_tree, rest_wins_not}
@@ -319,7 +319,7 @@ module _ (p : Interleaving) (i number : ℕ) (step : Ask) (a : IsStepAsked p i n
 
     key_known : (places : Places) → ArePlaces lay calls lines places → Knows places (edit_key x.edit)
     key_known places y =
-        ⊎_elim (λ z. subst (λ (k : Option ℕ). IfSome k (Knows places)) z (command_key calls entry.client.0 entry.call (Knows places) (Map x.request) y.keys place)) (λ z. key_there calls (written_log lines) (Knows places) (edit_key x.edit) z.0 y.keys z.1)
+        ⊎_elim (λ z. subst (λ (k : Option ℕ). IfSome k (Knows places)) z (command_key calls entry.client.0 entry.call (Knows places) (Map x.request) y.keys place)) (λ z. knows_told places calls lines (turns lines) (edit_key x.edit) z.0 (y.entries tree) (ap (get (edit_key x.edit)) (map_now lay tries calls lines a.turn.so_far.in_order) ∙ z.1))
         (edit_of_key (map_request x.request) x.edit map_before gives)
 
     asked_edit : IsAtEdit lay calls lines p.clients.items entry
