@@ -126,7 +126,9 @@ impl Client {
 
     /// How the client stands at this turn, with its next call begun.
     pub(crate) fn next_action(&mut self, calls: &[Call], turn: u64) -> NextAction
-        ensures { (v : ClientView) (began : Option ℕ) → IsSound v → 0 < v.tries → All (λ call. mode_of call.command ≡ v.layout.mode) v.calls → calls.now ≡ v.calls → IsClient v began self.old → IsNextAction v turn self.old self.new result }
+        ensures { (v : ClientView) (began : Option ℕ) → IsSound v → 0 < v.tries →
+            All (λ call. mode_of call.command ≡ v.layout.mode) v.calls → calls.now ≡ v.calls →
+            IsClient v began self.old → IsNextAction v turn self.old self.new result }
     {
         if self.running.is_some() {
             return self.asked();
@@ -146,7 +148,9 @@ impl Client {
 
     /// Begins the next call, if there is one.
     fn begin_next(&mut self, calls: &[Call], turn: u64) -> NextAction
-        ensures { (v : ClientView) (began : Option ℕ) → IsSound v → 0 < v.tries → All (λ call. mode_of call.command ≡ v.layout.mode) v.calls → calls.now ≡ v.calls → Rests v self.old → (self.old.next ≢ None → IsNextCallUnbegun v began) → IsNextAction v turn self.old self.new result }
+        ensures { (v : ClientView) (began : Option ℕ) → IsSound v → 0 < v.tries →
+            All (λ call. mode_of call.command ≡ v.layout.mode) v.calls → calls.now ≡ v.calls → Rests v self.old →
+            (self.old.next ≢ None → IsNextCallUnbegun v began) → IsNextAction v turn self.old self.new result }
     {
         let Some(at) = self.next else {
             return NextAction::Finished;
@@ -163,7 +167,9 @@ impl Client {
     /// Begins a call, which answers at once or asks for a step.
     fn begin(&mut self, command: Command, turn: u64) -> Option<Answer>
         requires { AsksForFewPairs command }
-        ensures { (v : ClientView) (began : Option ℕ) → IsSound v → 0 < v.tries → v.layout.mode ≡ mode_of command → Rests v self.old → IsNextCallUnbegun v began → command_of v self.old ≡ Some command → BeginsOrRefuses v turn self.old self.new result }
+        ensures { (v : ClientView) (began : Option ℕ) → IsSound v → 0 < v.tries → v.layout.mode ≡ mode_of command →
+            Rests v self.old → IsNextCallUnbegun v began → command_of v self.old ≡ Some command →
+            BeginsOrRefuses v turn self.old self.new result }
     {
         self.begin = turn;
         match command {
@@ -188,7 +194,9 @@ impl Client {
     /// Begins a call of the map, which runs with the share; one for nothing answers at once.
     fn begin_request(&mut self, request: Request<u64, u64>) -> Option<Answer>
         requires { AsksForFew request }
-        ensures { (v : ClientView) (began : Option ℕ) → IsSound v → 0 < v.tries → v.layout.mode ≡ Tree → Rests v self.old → IsNextCallUnbegun v began → command_of v self.old ≡ Some (MapCommand request) → BeginsOrRefuses v self.old.begin self.old self.new result }
+        ensures { (v : ClientView) (began : Option ℕ) → IsSound v → 0 < v.tries → v.layout.mode ≡ Tree →
+            Rests v self.old → IsNextCallUnbegun v began → command_of v self.old ≡ Some (MapCommand request) →
+            BeginsOrRefuses v self.old.begin self.old self.new result }
     {
         if is_for_nothing(request) {
             return Some(Answer::Map(Reply::Pairs(Vec::new(self.alloc))));
@@ -200,7 +208,9 @@ impl Client {
 
     /// Takes the snapshots and the records of an `scx`, if they are there.
     fn begin_scx(&mut self, update: &script::Update) -> Option<Answer>
-        ensures { (v : ClientView) (began : Option ℕ) → IsSound v → v.layout.mode ≡ Records → Rests v self.old → IsNextCallUnbegun v began → command_of v self.old ≡ Some (ScxCommand update.now) → BeginsOrRefuses v self.old.begin self.old self.new result }
+        ensures { (v : ClientView) (began : Option ℕ) → IsSound v → v.layout.mode ≡ Records → Rests v self.old →
+            IsNextCallUnbegun v began → command_of v self.old ≡ Some (ScxCommand update.now) →
+            BeginsOrRefuses v self.old.begin self.old self.new result }
     {
         let cells = update.cells();
         match self.kept.linked(cells) {
@@ -225,7 +235,9 @@ impl Client {
         requires fits { length snaps.now ≤ 4 }
         requires distinct { AreDistinct snaps.now }
         requires among { IsAmong snaps.now field.0.0 }
-        ensures { (v : ClientView) (linked : ℕ → Option History) → IsSound v → CanPut v linked self.old snaps.now (map (λ n. n.0) finalize.now) (field.0.0, field.1) value → Puts v linked self.old self.new result }
+        ensures { (v : ClientView) (linked : ℕ → Option History) → IsSound v →
+            CanPut v linked self.old snaps.now (map (λ n. n.0) finalize.now) (field.0.0, field.1) value →
+            Puts v linked self.old self.new result }
     {
         let (fresh, scx) = match self.take() {
             Ok(records) => records,
@@ -382,7 +394,9 @@ impl Client {
         places: &Places,
     ) -> Option<u64>
         requires { self.now.begin ≤ turn }
-        ensures { (call : ScriptCall) (at : ℕ) (lines : List Line) → self.now.next ≡ Some at → slice_get calls.now at ≡ Some call → IsMomentBy calls.now lines (changes places.now) call.command answer.now self.now.begin turn won result }
+        ensures { (call : ScriptCall) (at : ℕ) (lines : List Line) → self.now.next ≡ Some at →
+            slice_get calls.now at ≡ Some call →
+            IsMomentBy calls.now lines (changes places.now) call.command answer.now self.now.begin turn won result }
     {
         match answer {
             Answer::Done => won,
@@ -404,7 +418,9 @@ impl Client {
         places: &Places,
     ) -> Option<u64>
         requires { self.now.begin ≤ turn }
-        ensures { (call : ScriptCall) (at : ℕ) (lines : List Line) → self.now.next ≡ Some at → slice_get calls.now at ≡ Some call → IsReplyMoment calls.now lines (changes places.now) call.command reply.now self.now.begin turn won result }
+        ensures { (call : ScriptCall) (at : ℕ) (lines : List Line) → self.now.next ≡ Some at →
+            slice_get calls.now at ≡ Some call →
+            IsReplyMoment calls.now lines (changes places.now) call.command reply.now self.now.begin turn won result }
     {
         match reply {
             Reply::Value(value) => self.value_moment(calls, turn, *value, won, places),
@@ -470,7 +486,9 @@ impl Client {
         places: &Places,
     ) -> Option<u64>
         requires { self.now.begin ≤ turn }
-        ensures { (call : ScriptCall) (at : ℕ) (lines : List Line) → self.now.next ≡ Some at → slice_get calls.now at ≡ Some call → IsValueMoment calls.now lines (changes places.now) call.command value self.now.begin turn won result }
+        ensures { (call : ScriptCall) (at : ℕ) (lines : List Line) → self.now.next ≡ Some at →
+            slice_get calls.now at ≡ Some call →
+            IsValueMoment calls.now lines (changes places.now) call.command value self.now.begin turn won result }
     {
         let command = self.call(calls)?.command;
         match command {
@@ -500,7 +518,8 @@ impl Client {
         places: &Places,
     ) -> Option<u64>
         requires { self.now.begin ≤ turn }
-        ensures { (calls : List ScriptCall) (lines : List Line) → IsReplaceMoment calls lines (changes places.now) key expected told self.now.begin turn won result }
+        ensures { (calls : List ScriptCall) (lines : List Line) →
+            IsReplaceMoment calls lines (changes places.now) key expected told self.now.begin turn won result }
     {
         if is_expected(expected, told) {
             return won;

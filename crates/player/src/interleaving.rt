@@ -133,11 +133,18 @@ impl Interleaving {
         requires made { IsMade self.old number row.now }
         requires roomy { 1 ≤ room_for_changes self.old.places }
         requires places { ArePlaces self.old.script.layout (self.old.script.calls.items) (newest self.old.lines) self.old.places }
-        requires owner { (e : LogEntry) → entry_owed self.old.script.layout (newest self.old.lines) ≡ Some e → IsOwned self.old.script.layout (self.old.script.calls.items) (newest self.old.lines) self.old.clients.items e }
+        requires owner { (e : LogEntry) → entry_owed self.old.script.layout (newest self.old.lines) ≡ Some e →
+            IsOwned self.old.script.layout (self.old.script.calls.items)
+            (newest self.old.lines) self.old.clients.items e }
         ensures room { 1 ≤ room self.new.lines }
         ensures same { HasSameClients self.old self.new }
-        ensures line { MatchOption (entry_owed self.old.script.layout (newest self.old.lines)) (newest self.new.lines ≡ newest self.old.lines) (λ e. newest self.new.lines ≡ Line.Log e ∷ newest self.old.lines) }
-        ensures wins { MatchOption (entry_owed self.old.script.layout (newest self.old.lines)) (self.new.wins.items ≡ self.old.wins.items) (λ e. (e.client.0 < self.old.script.layout.passes) × (self.new.wins.items ≡ set self.old.wins.items e.client.0 (Some number))) }
+        ensures line { MatchOption (entry_owed self.old.script.layout (newest self.old.lines))
+            (newest self.new.lines ≡ newest self.old.lines)
+            (λ e. newest self.new.lines ≡ Line.Log e ∷ newest self.old.lines) }
+        ensures wins { MatchOption (entry_owed self.old.script.layout (newest self.old.lines))
+            (self.new.wins.items ≡ self.old.wins.items)
+            (λ e. (e.client.0 < self.old.script.layout.passes) ×
+            (self.new.wins.items ≡ set self.old.wins.items e.client.0 (Some number))) }
         ensures places { ArePlaces self.new.script.layout self.new.script.calls.items (newest self.new.lines) self.new.places }
     {
         if let Some(entry) = self.entry(number, row) {
@@ -155,7 +162,8 @@ impl Interleaving {
         requires key { IfSome (owners_edit self.old.clients.items entry.now.client.0) (λ e. Knows self.old.places (edit_key e)) }
         ensures same { self.new ≡ record self.old { places = self.new.places } }
         ensures keys { (key : ℕ) → Knows self.old.places key → Knows self.new.places key }
-        ensures change { (e : MapEdit) → owners_edit self.old.clients.items entry.now.client.0 ≡ Some e → changes self.new.places ≡ record { turn = entry.now.step; key = edit_key e; value = value_left e } ∷ changes self.old.places }
+        ensures change { (e : MapEdit) → owners_edit self.old.clients.items entry.now.client.0 ≡ Some e →
+            changes self.new.places ≡ record { turn = entry.now.step; key = edit_key e; value = value_left e } ∷ changes self.old.places }
     {
         if let Some((key, value)) = self.clients[entry.client.0 as usize].change() {
             let turn = entry.step;
@@ -192,7 +200,8 @@ impl Interleaving {
         requires begun { (c : Client) → slice_get self.old.clients.items client.0 ≡ Some c → c.begin ≤ number }
         ensures same { HasSameWords self.old self.new }
         ensures places { self.new.places ≡ self.old.places }
-        ensures replied { (c : Client) → slice_get self.old.clients.items client.0 ≡ Some c → c.pass.0 ≡ client.0 → IsReplied self.old self.new number answer c }
+        ensures replied { (c : Client) → slice_get self.old.clients.items client.0 ≡ Some c → c.pass.0 ≡ client.0 →
+            IsReplied self.old self.new number answer c }
     {
         let at = client.0 as usize;
         let won = self.wins[at];
@@ -240,7 +249,8 @@ impl Interleaving {
 /// The clients of a script before their first turns.
 fn clients(alloc: Global, script: &Script) -> Result<Vec<Client>, NoMemory>
     ensures count { IfOk result (λ c. vec_len c ≡ script.now.layout.passes) }
-    ensures each { IfOk result (λ c. (j : ℕ) (d : Client) → slice_get c.items j ≡ Some d → (d.pass.0 ≡ j) × Rests (client_view script.now.layout script.now.limits.tries script.now.calls.items [] j) d) }
+    ensures each { IfOk result (λ c. (j : ℕ) (d : Client) → slice_get c.items j ≡ Some d →
+        (d.pass.0 ≡ j) × Rests (client_view script.now.layout script.now.limits.tries script.now.calls.items [] j) d) }
 {
     let mut clients = Vec::new(alloc);
     for pass in 0..script.layout.passes {

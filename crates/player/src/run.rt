@@ -66,10 +66,14 @@ impl Run {
     /// Goes on with what the last step found, as the machine inside, in a run of its mode. It asks for
     /// a step before it answers.
     pub(crate) fn next(&mut self, got: Option<u64>) -> Turn<Ended>
-        ensures turn { (c : Call) (h : History) → c.layout.mode ≡ run_mode self.old → IsRun PlayedAllows c.layout h → RunIsReady self.old c h got → MatchTurn result (RunWaits self.new c h) (RunAnswers self.new c h) }
-        ensures begins { got ≡ None → RunAsksFirst self.old → (c : Call) (h : History) → RunIsReady self.old c h None → MatchTurn result (λ _. Unit {0}) (λ _. ⊥) }
+        ensures turn { (c : Call) (h : History) → c.layout.mode ≡ run_mode self.old → IsRun PlayedAllows c.layout h →
+            RunIsReady self.old c h got → MatchTurn result (RunWaits self.new c h) (RunAnswers self.new c h) }
+        ensures begins { got ≡ None → RunAsksFirst self.old → (c : Call) (h : History) →
+            RunIsReady self.old c h None → MatchTurn result (λ _. Unit {0}) (λ _. ⊥) }
         ensures same { IsSameMachine self.old self.new }
-        ensures nearer { (c : Call) (h : History) (nodes : ℕ) → c.layout.mode ≡ run_mode self.old → IsRun PlayedAllows c.layout h → RunIsReady self.old c h got → length (taken_nodes h) ≤ nodes → MatchTurn result (λ _. run_left self.new nodes < run_left self.old nodes) (λ _. Unit {0}) }
+        ensures nearer { (c : Call) (h : History) (nodes : ℕ) → c.layout.mode ≡ run_mode self.old →
+            IsRun PlayedAllows c.layout h → RunIsReady self.old c h got → length (taken_nodes h) ≤ nodes →
+            MatchTurn result (λ _. run_left self.new nodes < run_left self.old nodes) (λ _. Unit {0}) }
     {
         match self {
             Run::Llx(run) => match Machine::<Cells>::next(run, got) {
