@@ -1,4 +1,4 @@
-// A dictionary on the tree: get, insert, remove, successor, range.
+// A dictionary on the tree: get, insert, remove, pop_first, replace_if, successor, range.
 #pragma once
 #include <optional>
 #include <vector>
@@ -65,14 +65,8 @@ public:
         for (Word tried = 0; tried < tries_; tried++) {
             const Found found = walk(key);
             if (pass.nodes < (found.has ? 1 : 3) || pass.scx == 0) return {End::full, {}};
-            const Llx parent = forest_.llx(found.parent);
-            if (parent.end != LlxEnd::snapshot || parent.snap.child(found.side) != found.leaf) continue;
-            const Llx leaf = forest_.llx(found.leaf);
-            if (leaf.end != LlxEnd::snapshot) continue;
-            const Word fresh = found.has ? swap(pass, found, key, value) : split(pass, found, key, value);
-            const Snap snaps[] = {parent.snap, leaf.snap};
-            const Plan plan(2, 0b10, 0, found.side);
-            if (forest_.put(pass.record(), snaps, plan, fresh, found.leaf, call).done) return told(found);
+            const auto make = [&] { return found.has ? swap(pass, found, key, value) : split(pass, found, key, value); };
+            if (put(pass, found, call, make)) return told(found);
         }
         return {End::contended, {}};
     }
@@ -83,18 +77,29 @@ public:
             const Found found = walk(key);
             if (!found.has) return told(found);
             if (pass.nodes < 1 || pass.scx == 0) return {End::full, {}};
-            const Llx grand = forest_.llx(found.grand);
-            if (grand.end != LlxEnd::snapshot || grand.snap.child(found.grand_side) != found.parent) continue;
-            const Llx parent = forest_.llx(found.parent);
-            if (parent.end != LlxEnd::snapshot || parent.snap.child(found.side) != found.leaf) continue;
-            const Llx left = forest_.llx(parent.snap.left);
-            if (left.end != LlxEnd::snapshot) continue;
-            const Llx right = forest_.llx(parent.snap.right);
-            if (right.end != LlxEnd::snapshot) continue;
-            const Word fresh = copy(pass, found.side == LEFT_SIDE ? right.snap : left.snap);
-            const Snap snaps[] = {grand.snap, parent.snap, left.snap, right.snap};
-            const Plan plan(4, 0b1110, 0, found.grand_side);
-            if (forest_.put(pass.record(), snaps, plan, fresh, found.parent, call).done) return told(found);
+            if (unlink(pass, found, call)) return told(found);
+        }
+        return {End::contended, {}};
+    }
+
+    [[gnu::noinline]] Reply<std::optional<Pair>> pop_first(Pass& pass) const {
+        const Word call = pass.taken();
+        for (Word tried = 0; tried < tries_; tried++) {
+            const Found found = walk_left();
+            if (!found.has) return {End::done, std::nullopt};
+            if (pass.nodes < 1 || pass.scx == 0) return {End::full, {}};
+            if (unlink(pass, found, call)) return {End::done, Pair{found.key, found.value}};
+        }
+        return {End::contended, {}};
+    }
+
+    [[gnu::noinline]] Reply<std::optional<Word>> replace_if(Pass& pass, Word key, Word expected, Word value) const {
+        const Word call = pass.taken();
+        for (Word tried = 0; tried < tries_; tried++) {
+            const Found found = walk(key);
+            if (!found.has || found.value != expected) return told(found);
+            if (pass.nodes < 1 || pass.scx == 0) return {End::full, {}};
+            if (put(pass, found, call, [&] { return swap(pass, found, key, value); })) return told(found);
         }
         return {End::contended, {}};
     }
@@ -156,6 +161,53 @@ private:
             side = next;
             node = child;
         }
+    }
+
+    // The walk to the leaf of the least key, which reads no key on its way.
+    Found walk_left() const {
+        Word grand = 0, parent = 0, node = 0;
+        for (;;) {
+            const Head head(at(node, HEAD));
+            if (head.leaf()) {
+                const bool has = head.class_() == 0;
+                const Word key = has ? at(node, KEY) : 0;
+                const Word value = has ? at(node, VALUE) : 0;
+                return {grand, parent, node, LEFT_SIDE, LEFT_SIDE, head, key, value, has};
+            }
+            const Word child = at(node, LEFT);
+            grand = parent;
+            parent = node;
+            node = child;
+        }
+    }
+
+    // Puts a fresh node, which `make` fills, in the place of the leaf. False where the try is lost.
+    template <class Make>
+    [[gnu::always_inline]] bool put(Pass& pass, const Found& found, Word call, Make make) const {
+        const Llx parent = forest_.llx(found.parent);
+        if (parent.end != LlxEnd::snapshot || parent.snap.child(found.side) != found.leaf) return false;
+        const Llx leaf = forest_.llx(found.leaf);
+        if (leaf.end != LlxEnd::snapshot) return false;
+        const Word fresh = make();
+        const Snap snaps[] = {parent.snap, leaf.snap};
+        const Plan plan(2, 0b10, 0, found.side);
+        return forest_.put(pass.record(), snaps, plan, fresh, found.leaf, call).done;
+    }
+
+    // Puts a copy of the leaf's sibling in the place of their parent. False where the try is lost.
+    [[gnu::always_inline]] bool unlink(Pass& pass, const Found& found, Word call) const {
+        const Llx grand = forest_.llx(found.grand);
+        if (grand.end != LlxEnd::snapshot || grand.snap.child(found.grand_side) != found.parent) return false;
+        const Llx parent = forest_.llx(found.parent);
+        if (parent.end != LlxEnd::snapshot || parent.snap.child(found.side) != found.leaf) return false;
+        const Llx left = forest_.llx(parent.snap.left);
+        if (left.end != LlxEnd::snapshot) return false;
+        const Llx right = forest_.llx(parent.snap.right);
+        if (right.end != LlxEnd::snapshot) return false;
+        const Word fresh = copy(pass, found.side == LEFT_SIDE ? right.snap : left.snap);
+        const Snap snaps[] = {grand.snap, parent.snap, left.snap, right.snap};
+        const Plan plan(4, 0b1110, 0, found.grand_side);
+        return forest_.put(pass.record(), snaps, plan, fresh, found.parent, call).done;
     }
 
     void fill(Word node, NodeWord word, Word value) const { forest_.store(Forest::node(node, word), value); }

@@ -53,11 +53,13 @@ std::string name(Word at) {
 void make(const Dictionary& map, Pass& pass, const char* row) {
     char command[16];
     Word a = 0, b = 0, c = 0;
-    if (std::sscanf(row, "0,%15[a-z],%ju,%ju,%ju", command, &a, &b, &c) < 2) return;
+    if (std::sscanf(row, "0,%15[a-z_],%ju,%ju,%ju", command, &a, &b, &c) < 1) return;
     const std::string word = command;
     if (word == "get") map.get(a);
     if (word == "insert") map.insert(pass, a, b);
     if (word == "delete") map.remove(pass, a);
+    if (word == "pop_first") map.pop_first(pass);
+    if (word == "replace_if") map.replace_if(pass, a, b, c);
     if (word == "successor") map.successor(a);
     if (word == "range") map.range(a, b, c);
 }

@@ -1,11 +1,11 @@
-// Rounds on a dictionary: `get`, `mix90`, `mix50`, `mix0`, `insert`, `succ`, `range64`.
+// Rounds on a dictionary: `get`, `mix90`, `mix50`, `mix0`, `insert`, `pop`, `replace`, `succ`, `range64`.
 #pragma once
 #include "dictionary.hpp"
 #include "tally.hpp"
 
 namespace tree {
 
-enum class Work { get, mix90, mix50, mix0, insert, succ, range64 };
+enum class Work { get, mix90, mix50, mix0, insert, pop, replace, succ, range64 };
 
 // How many pairs a pass puts into the map before the threads start.
 constexpr Word PAIRS_OF_A_PASS = 10000;
@@ -69,8 +69,7 @@ inline void count_value(Tally& tally, const Reply<std::optional<Word>>& reply) {
     count(tally, reply.end);
 }
 
-inline void go_on(const Dictionary& map, Word key, Tally& tally) {
-    const auto reply = map.successor(key);
+inline void count_pair(Tally& tally, const Reply<std::optional<Pair>>& reply) {
     if (reply.end == End::done) tally.tell(reply.told ? reply.told->key + reply.told->value + 1 : 0);
     count(tally, reply.end);
 }
@@ -102,7 +101,9 @@ inline Tally rounds(const Dictionary& map, Work work, Word keys, Word calls, Wor
             case Work::mix50: mix(map, pass, draws, key, call, 50, tally); break;
             case Work::mix0: mix(map, pass, draws, key, call, 0, tally); break;
             case Work::insert: count_value(tally, map.insert(pass, key, call)); break;
-            case Work::succ: go_on(map, key, tally); break;
+            case Work::pop: count_pair(tally, map.pop_first(pass)); break;
+            case Work::replace: count_value(tally, map.replace_if(pass, key, key, key)); break;
+            case Work::succ: count_pair(tally, map.successor(key)); break;
             case Work::range64: list(map, key, tally); break;
         }
     }

@@ -66,6 +66,8 @@ fn round(
         TreeWork::Get => told(Ok(forest.get(pass, key)), tally),
         TreeWork::Mix { looks } => told(mix(forest, pass, draws, pair, looks), tally),
         TreeWork::Insert => told(forest.insert(pass, pair.0, pair.1), tally),
+        TreeWork::Pop => told(pop(forest, pass), tally),
+        TreeWork::Replace => told(forest.replace_if(pass, pair.0, key, pair.0), tally),
         TreeWork::Successor => told_pair(forest.successor(alloc, pass, key), tally),
         TreeWork::Range => told_pairs(forest.range(alloc, pass, key, &u64::MAX, MOST_PAIRS), tally),
     }
@@ -90,6 +92,18 @@ fn mix(
         forest.insert(pass, pair.0, pair.1)
     } else {
         forest.delete(pass, &pair.0)
+    }
+}
+
+/// Takes the first pair out, and tells the sum of its key and its value.
+fn pop(forest: &Forest<Numbers>, pass: &mut Pass<Numbers>) -> Result<Option<u64>, UpdateFault>
+    requires { IsOf forest.now pass.old }
+    ensures { IsOf forest.now pass.new }
+{
+    match forest.pop_first(pass) {
+        Ok(Some((key, value))) => Ok(Some(key.wrapping_add(value))),
+        Ok(None) => Ok(None),
+        Err(fault) => Err(fault),
     }
 }
 

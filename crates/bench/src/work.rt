@@ -35,6 +35,10 @@ pub enum TreeWork {
     Mix { looks: u64 },
     /// It puts the key in.
     Insert,
+    /// It takes the first pair out.
+    Pop,
+    /// It gives the key the value that it has had from the start once more, if it is there.
+    Replace,
     /// It looks for the pair behind the key.
     Successor,
     /// It looks for the first 64 pairs from the key on.
@@ -58,7 +62,7 @@ pub struct Bounds {
 
 impl Work {
     /// Each work once.
-    pub const ALL: [Work; 11] = [
+    pub const ALL: [Work; 13] = [
         Work::Cells(CellWork::Llx),
         Work::Cells(CellWork::Own),
         Work::Cells(CellWork::Two),
@@ -68,6 +72,8 @@ impl Work {
         Work::Tree(TreeWork::Mix { looks: 50 }),
         Work::Tree(TreeWork::Mix { looks: 0 }),
         Work::Tree(TreeWork::Insert),
+        Work::Tree(TreeWork::Pop),
+        Work::Tree(TreeWork::Replace),
         Work::Tree(TreeWork::Successor),
         Work::Tree(TreeWork::Range),
     ];
@@ -131,12 +137,15 @@ impl TreeWork {
             TreeWork::Mix { looks: 50 } => "mix50",
             TreeWork::Mix { .. } => "mix0",
             TreeWork::Insert => "insert",
+            TreeWork::Pop => "pop",
+            TreeWork::Replace => "replace",
             TreeWork::Successor => "succ",
             TreeWork::Range => "range64",
         }
     }
 
-    /// An insert takes three nodes at most and a delete one, of which a thread has a share.
+    /// An insert takes three nodes at most and another edit one, of which a thread has a share. There
+    /// are 500 pairs to take out where the words do not say how many keys there are.
     fn bounds(self) -> Bounds {
         let (calls, usual_calls) = match self {
             TreeWork::Get => (u32::MAX, 100_000),
@@ -144,6 +153,8 @@ impl TreeWork {
             TreeWork::Mix { looks: 50 } => (40_000, 20_000),
             TreeWork::Mix { .. } => (20_000, 20_000),
             TreeWork::Insert => (10_000, 10_000),
+            TreeWork::Pop => (Limits::MOST_RECORDS, 400),
+            TreeWork::Replace => (Limits::MOST_RECORDS, 20_000),
             TreeWork::Successor => (u32::MAX, 20_000),
             TreeWork::Range => (u32::MAX, 2_000),
         };

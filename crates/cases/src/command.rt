@@ -1,8 +1,10 @@
-//! The commands of the program, one that copies a report, and one that draws it.
+//! The commands of the program, one that copies a report, one that draws it, and one that tells the
+//! outcomes of a script.
 use crate::copy::copy_over;
 use crate::drawn::draw_over;
 use crate::ended::Ended;
-use anyhow::{Result, bail};
+use crate::explored::explore_over;
+use anyhow::{Context, Result, bail};
 use arena::Mode;
 use program::{audit_over, play_over, run_over};
 use std::io::{Read, Write};
@@ -23,6 +25,8 @@ pub(crate) enum Command<'a> {
     Copy,
     /// To read a report, and draw it.
     Picture,
+    /// To play a script with so many interruptions at most, by so many schedules.
+    Outcomes { interruptions: u32, most: u64 },
 }
 
 impl<'a> Command<'a> {
@@ -35,8 +39,18 @@ impl<'a> Command<'a> {
             ("copy", _) => Ok(Command::Copy),
             ("picture", _) => Ok(Command::Picture),
             (_, Some(("run", gate))) => Ok(Command::Run { gate }),
+            (_, Some(("outcomes", numbers))) => Command::outcomes(numbers),
             _ => bail!("no command: {words}"),
         }
+    }
+
+    /// The outcomes by these numbers, of which the second may be left out.
+    fn outcomes(numbers: &str) -> Result<Command<'a>> {
+        let (interruptions, most) = numbers.split_once(' ').unwrap_or((numbers, "1000000"));
+        Ok(Command::Outcomes {
+            interruptions: interruptions.parse().ok().context("no number")?,
+            most: most.parse().ok().context("no number")?,
+        })
     }
 
     /// How it ends over these readers, of which only a play has two, and this writer.
@@ -55,6 +69,10 @@ impl<'a> Command<'a> {
             Command::Audit => audit_over(alloc, first, &mut out, &mut err),
             Command::Copy => copy_over(alloc, first, &mut out, &mut err),
             Command::Picture => draw_over(alloc, first, &mut out, &mut err),
+            Command::Outcomes {
+                interruptions,
+                most,
+            } => explore_over(alloc, first, (interruptions, most), &mut out, &mut err),
         };
         let out = out.inner;
         Ended { status, out, err }

@@ -13,7 +13,8 @@ use std::str::from_utf8;
 pub(crate) enum Expected {
     /// Just this to its output.
     Output(Vec<u8>),
-    /// Of a report these rows: all its replies, its last row, and whichever other rows stand here.
+    /// Of a report or of outcomes these rows: all replies and pairs, each last row, and whichever other
+    /// rows stand here.
     Rows(String),
     /// This line to standard error alone.
     Fault(Vec<u8>),
@@ -33,6 +34,7 @@ impl Expected {
             Command::Play(_) if has_file(rt, folder, "rows.csv")? => {
                 Expected::Rows(text_of(rt, folder, "rows.csv")?)
             }
+            Command::Outcomes { .. } => Expected::Rows(text_of(rt, folder, "rows.csv")?),
             Command::Play(_) | Command::Copy => Expected::Output(file_of(
                 rt,
                 folder,
@@ -89,12 +91,15 @@ fn status_of(fault: &[u8]) -> u8 {
     }
 }
 
-/// The lines of a report that are replies, the last row, or among these rows.
+/// The lines of a text that are replies, pairs, a last row, or among these rows.
 fn rows_among(alloc: Global, report: &str, rows: &str) -> Result<String, AllocError> {
     let mut chosen = String::new(alloc);
     for line in report.lines() {
         let is_named = rows.lines().any(|row| row == line);
-        if line.starts_with("reply,") || line.starts_with("end,") || is_named {
+        let is_kind = ["reply,", "pair,", "end,"]
+            .iter()
+            .any(|kind| line.starts_with(*kind));
+        if is_kind || is_named {
             chosen.push_str(line)?;
             chosen.push('\n')?;
         }

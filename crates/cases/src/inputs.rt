@@ -30,7 +30,9 @@ impl Inputs {
                     file_of(rt, folder, "schedule.csv")?,
                 )
             }
-            Command::Run { gate: _ } => (file_of(rt, folder, "script.csv")?, none),
+            Command::Run { .. } | Command::Outcomes { .. } => {
+                (file_of(rt, folder, "script.csv")?, none)
+            }
             Command::Audit | Command::Copy | Command::Picture => (
                 file_of(rt, folder, "report.csv")?,
                 none,

@@ -12,6 +12,7 @@ mod devices;
 mod drawn;
 mod ended;
 mod expected;
+mod explored;
 mod files;
 mod finding;
 mod inputs;

@@ -33,6 +33,15 @@ pub fn outcomes_text(alloc: Global, found: &Exploration) -> Result<String, Alloc
     Ok(text)
 }
 
+/// How many schedules are played and how many are left, as a line; nothing where none is left.
+pub fn left_text(alloc: Global, found: &Exploration) -> Result<String, AllocError> {
+    let (played, left) = (found.played, found.left);
+    if left == 0 {
+        return Ok(String::new(alloc));
+    }
+    format!(in alloc; "{played} schedules are played, and {left} that branch off are left\n")
+}
+
 /// Adds the rows of a schedule.
 fn put_schedule(text: &mut String, stretches: &[Stretch]) -> Result<(), AllocError> {
     let mut rows: u64 = 0;

@@ -10,5 +10,5 @@ mod search;
 mod stretch;
 
 pub use fault::ExploreFault;
-pub use found::outcomes_text;
+pub use found::{left_text, outcomes_text};
 pub use search::{Exploration, explore};

@@ -1,9 +1,9 @@
 //! What a schedule leaves behind.
 use arena::PassNo;
-use moments::edited;
+use ordered_map::Request;
 use record::{Entry, Line, Record};
 use report::answer_text;
-use script::Call;
+use script::{Call, Command};
 use std::alloc::{AllocError, Global};
 
 /// The rows of a record's outcome: the replies by client and call, and the pairs that are left in
@@ -43,26 +43,38 @@ fn pairs_of(alloc: Global, record: &Record) -> Result<Vec<(u64, u64)>, AllocErro
     let mut pairs = Vec::new(alloc);
     for line in record.lines.iter() {
         if let Line::Log(entry) = line
-            && let Some((key, value)) = edit_of(record.script.calls.as_slice(), entry)
+            && let Some(command) = command_of(record.script.calls.as_slice(), entry)
         {
-            update(&mut pairs, key, value)?;
+            edit(&mut pairs, command)?;
         }
     }
-    pairs.sort()?;
     Ok(pairs)
 }
 
-/// Leaves this value to a key, or none.
-fn update(pairs: &mut Vec<(u64, u64)>, key: u64, value: Option<u64>) -> Result<(), AllocError> {
-    pairs.retain(|pair| pair.0 != key);
-    if let Some(value) = value {
-        pairs.push((key, value))?;
+/// The command of which an entry is.
+fn command_of(calls: &[Call], entry: &Entry) -> Option<Command> {
+    let mut own = calls.iter().filter(|call| call.client == entry.client);
+    Some(own.nth(entry.call as usize)?.command)
+}
+
+/// Edits the pairs as a command does that has an entry.
+fn edit(pairs: &mut Vec<(u64, u64)>, command: Command) -> Result<(), AllocError> {
+    match command {
+        Command::Map(Request::Insert { key, value }) => put(pairs, key, value)?,
+        Command::Map(Request::ReplaceIf { key, value, .. }) => put(pairs, key, value)?,
+        Command::Map(Request::Delete { key }) => pairs.retain(|pair| pair.0 != key),
+        Command::Map(Request::PopFirst) => {
+            let first = pairs.first().copied();
+            pairs.retain(|pair| Some(*pair) != first);
+        }
+        _ => {}
     }
     Ok(())
 }
 
-/// The key that an entry edits, and what it leaves there.
-fn edit_of(calls: &[Call], entry: &Entry) -> Option<(u64, Option<u64>)> {
-    let mut own = calls.iter().filter(|call| call.client == entry.client);
-    edited(own.nth(entry.call as usize)?.command)
+/// Gives a key a value.
+fn put(pairs: &mut Vec<(u64, u64)>, key: u64, value: u64) -> Result<(), AllocError> {
+    pairs.retain(|pair| pair.0 != key);
+    pairs.push((key, value))?;
+    pairs.sort()
 }

@@ -2,14 +2,15 @@
 use crate::fault::OutcomesFault;
 use crate::words::read_words;
 use arena::Mode;
-use exploring::{explore, outcomes_text};
+use exploring::{explore, left_text, outcomes_text};
 use script::read_script;
 use std::io::Write;
 use std::rt::{Env, Files};
 use std::{env, fs, io};
 use texts::{Metered, send};
 
-/// Explores the script that its words name, and prints the outcomes.
+/// Explores the script that its words name, and prints the outcomes; to `err` goes how many schedules are
+/// left, if any are.
 pub(crate) fn explore_words<R: Env + Files + AllocGlobal, O: Write, E: Write>(
     rt: &R,
     out: &mut O,
@@ -23,13 +24,8 @@ pub(crate) fn explore_words<R: Env + Files + AllocGlobal, O: Write, E: Write>(
     let found = explore(alloc, &script, asked.interruptions, asked.most)?;
     let text = outcomes_text(alloc, &found)?;
     send(text.as_bytes(), &mut Metered::new(out))?;
-    if found.left > 0 {
-        let (played, left) = (found.played, found.left);
-        let _ = writeln!(
-            err,
-            "{played} schedules are played, and {left} that branch off are left"
-        );
-    }
+    let left = left_text(alloc, &found)?;
+    let _ = err.write_all(left.as_bytes());
     Ok(())
 }
 

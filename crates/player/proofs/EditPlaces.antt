@@ -9,7 +9,7 @@ use Rattle.arena.specs.Fills.{IsOwnScx}
 use Rattle.arena.specs.Lawful.{Lawful, IsWin}
 use Rattle.arena.specs.Machines.{IsRun}
 use Rattle.histories.proofs.Lemmas.{UpdateWins, lawful_row, one_scx_owner}
-use Rattle.ordered_map.specs.OrderedMap.{MapEdit, MapReply, OneValue, Edit, Insert, Delete, edit_key}
+use Rattle.ordered_map.specs.OrderedMap.{MapCall, MapReply, Edit, Insert, Delete}
 use Rattle.ordered_map.specs.Spelled.{Spells}
 use Rattle.edits.specs.Laws.Entered.{none_yet}
 use Rattle.script.specs.declared.call.Call.{Call}
@@ -38,8 +38,8 @@ use Rattle.record.specs.Turns.{history, turns, answered, begin, start, won, entr
 use Rattle.player.specs.Allowed.{PlayedAllows}
 use Rattle.moments.specs.declared.places.Change.{Change}
 use Rattle.player.specs.Moments.{IsMomentBy}
-use Rattle.player.specs.ClientView.{client_view, Tells, HasEditedKey}
-use Rattle.record.proofs.Lemmas.{entries_none, value_told}
+use Rattle.player.specs.ClientView.{client_view, Tells, IsToldChange}
+use Rattle.record.proofs.Lemmas.{entries_none}
 use Rattle.moments.specs.Entries.{AreEntries}
 use Rattle.moments.proofs.Lemmas.{absent_placed, spelled}
 use Rattle.player.proofs.MapCalls.{AreOf, map_calls, run_before, tree_run}
@@ -201,11 +201,12 @@ pub record IsEditReply (lay : Layout) (tries : ℕ) (calls : List Call) (lines :
   pub moment : IsMomentBy calls lines changes command r.answer r.begin r.end (won lay lines c) r.moment
 
 module _ (lay : Layout) (tries : ℕ) (calls : List Call) (lines : List Line) (changes : List Change) (r : Finished) (c : ℕ) where
-  refused : (command : Command) → IsEditReply lay tries calls lines changes r c command → HasItsEntry false (won lay lines c) → r.moment ≡ None → IsRefused lines r
+  pub refused : (command : Command) → IsEditReply lay tries calls lines changes r c command → HasItsEntry false (won lay lines c) → r.moment ≡ None → IsRefused lines r
   refused command x y none = record { none = rw (x.client, x.number) (entries_none lay tries calls lines x.lines_are c (unwon_none (won lay lines c) y)); moment = none }
 
-  told : (command : Command) (e : MapEdit) (old : Option ℕ) → IsEditReply lay tries calls lines changes r c command → r.answer ≡ MapAnswer (Value old) → HasEditedKey (client_view lay tries calls lines c) c (edit_key e) old → r.moment ≡ won lay lines c → IsPlacedChange calls lines (Edit e) r
-  told command e old x is y at =
+  -- a call that has changed the map took place at its entry
+  pub changed : (command : Command) (call : MapCall) (told : MapReply) → IsEditReply lay tries calls lines changes r c command → reply_told r.answer ≡ Some told → IsToldChange (client_view lay tries calls lines c) c call told → r.moment ≡ won lay lines c → IsPlacedChange calls lines call r
+  changed command call told x says y at =
       let f = find_win lay tries calls c x.mode x.all y.row y.before y.scx y.win.wins y.win.own lines x.run x.lines_are x.owed y.win.within y.win.since in
       record {
         entry = f.entry;
@@ -216,7 +217,7 @@ module _ (lay : Layout) (tries : ℕ) (calls : List Call) (lines : List Line) (c
         number = f.call ∙ sym x.number;
         once = rw (x.client, x.number) f.once;
         moment = at ∙ f.won_is;
-        replies = ap reply_told is ∙ value_told old ∙ (ap (λ (o : Option ℕ). let t : MapReply = OneValue o in Some t) (sym (y.told (map_of calls (written_log f.rest)) (subst (λ (h : History). Spells lay (value h) (map_of calls (written_log f.rest))) f.before_is f.spells))));
+        replies = says ∙ ap (λ (t : MapReply). Some t) (sym (y.replies (map_of calls (written_log f.rest)) (subst (λ (h : History). Spells lay (value h) (map_of calls (written_log f.rest))) f.before_is f.spells)));
       }
 
   -- one that finds nothing at the key reads
@@ -228,13 +229,13 @@ module _ (lay : Layout) (tries : ℕ) (calls : List Call) (lines : List Line) (c
       absent_placed lay tries calls lines r key x.lines_are x.spells x.owed (rw x.client x.next) (rw x.client none) (rw x.client x.number) (rw x.client x.began) x.ended is (rw x.client had) record { found = found.0; none = found.1 }
 
   pub insert_placed : (key put : ℕ) (answer : Answer) → IsEditReply lay tries calls lines changes r c (Map (InsertOf key put)) → r.answer ≡ answer → IsPlacedOnMap (reply_told answer) calls lines (Edit (Insert key put)) r
-  insert_placed key put (MapAnswer (Value old)) x is = told (Map (InsertOf key put)) (Insert key put) old x is (rw is at x.tells) (rw is at x.moment)
+  insert_placed key put (MapAnswer (Value old)) x is = changed (Map (InsertOf key put)) (Edit (Insert key put)) _ x (ap reply_told is) (rw is at x.tells) (rw is at x.moment)
   insert_placed key put (MapAnswer (Full full)) x is = refused (Map (InsertOf key put)) x (rw is at x.entry) (rw is at x.moment)
   insert_placed key put (MapAnswer (Contended node scx)) x is = refused (Map (InsertOf key put)) x (rw is at x.entry) (rw is at x.moment)
   insert_placed key put answer x is = absurd (rw is at x.right)
 
   pub delete_placed : (key : ℕ) (answer : Answer) → IsEditReply lay tries calls lines changes r c (Map (DeleteOf key)) → r.answer ≡ answer → IsPlacedOnMap (reply_told answer) calls lines (Edit (Delete key)) r
-  delete_placed key (MapAnswer (Value (Some old))) x is = told (Map (DeleteOf key)) (Delete key) (Some old) x is (rw is at x.tells) (rw is at x.moment)
+  delete_placed key (MapAnswer (Value (Some old))) x is = changed (Map (DeleteOf key)) (Edit (Delete key)) _ x (ap reply_told is) (rw is at x.tells) (rw is at x.moment)
   delete_placed key (MapAnswer (Value None)) x is = absent key x is
   delete_placed key (MapAnswer (Full full)) x is = refused (Map (DeleteOf key)) x (rw is at x.entry) (rw is at x.moment)
   delete_placed key (MapAnswer (Contended node scx)) x is = refused (Map (DeleteOf key)) x (rw is at x.entry) (rw is at x.moment)

@@ -1,19 +1,21 @@
 -- A call of the map that runs: what its SCX-record in progress says, and the word `call` that it
 -- fills.
-use Rattle.std.proofs.Common.{◌≡◌, ℕ, Option, None, refl, sym, ◌∙◌, ap, subst, arith}
+use Rattle.std.proofs.Common.{◌≡◌, ◌≢◌, ℕ, inr, List, Option, Some, None, refl, sym, ◌∙◌, ap, subst, arith}
 use Rattle.arena.specs.declared.layout.Layout.{Layout}
+use Rattle.arena.specs.declared.step.Row.{Row}
 use Rattle.arena.specs.declared.step.Step.{Step}
 use Rattle.arena.specs.declared.step.Kind.TheVariants.{Fill as FillKind, LoadSettled}
 use Rattle.arena.specs.declared.word.ScxWord.{ScxWord}
 use Rattle.arena.specs.declared.word.ScxWord.TheVariants.{Call as CallWord}
 use Rattle.arena.specs.Words.{scx as scx_word, word_after}
-use Rattle.arena.specs.History.{History, value}
+use Rattle.arena.specs.History.{History, ◌⊳◌, value, Extends}
 use Rattle.arena.specs.Blame.{IsInProgress}
 use Rattle.arena.specs.Fills.{IsOwnScx, IsNamedScx}
-use Rattle.arena.specs.Lawful.{Lawful}
+use Rattle.arena.specs.Lawful.{Lawful, IsWin}
 use Rattle.arena.specs.Machines.{Call as MachineCall, begun_at}
 use Rattle.arena.proofs.Lemmas.{ends_self}
 use Rattle.help.specs.Laws.Help.Lawful.{help_fills_not}
+use Rattle.histories.proofs.Lemmas.{node_since}
 use Rattle.prims.specs.Cells.{AllowsAll}
 use Rattle.prims.specs.Put.Known.{PutWaitsAt}
 use Rattle.prims.specs.Scx.Known.{Job, job_of, HasFilled, ScxWaitsAt, part_at, fill_step}
@@ -21,26 +23,39 @@ use Rattle.prims.specs.declared.put.PutRun.{PutRun}
 use Rattle.prims.specs.declared.put.PutAt.{PutAt}
 use Rattle.prims.specs.declared.put.PutAt.TheVariants.{Start as PutStart, Fill as PutFill, Scx as PutScx}
 use Rattle.prims.specs.declared.scx.ScxAt.{ScxAt}
+use Rattle.prims.specs.declared.scx.ScxRun.{ScxRun}
+use Rattle.prims.specs.declared.snap.Snap.{Snap}
 use Rattle.prims.specs.declared.scx.ScxAt.TheVariants.{Start as ScxStart, Help}
 use Rattle.prims.proofs.Lemmas.{llx_fills_not, vlx_fills_not, own_in_hand}
 use Rattle.dict.specs.Calls.{inner_call, inner_share}
 use Rattle.dict.specs.Known.{IsNumbered, WaitsInside}
+use Rattle.dict.specs.Goals.{goal_told, leaf_told}
 use Rattle.dict.specs.Inner.{InnerRun, Update, Get, Successor, Range, inner}
 use Rattle.dict.specs.Laws.Kinds.{IsOfKind}
 use Rattle.order.specs.Range.Laws.{range_fills_not}
 use Rattle.order.specs.Successor.Laws.{successor_fills_not}
-use Rattle.ordered_map.specs.OrderedMap.{MapEdit, Edit as EditCall}
-use Rattle.ordered_map.specs.Runs.{Makes}
+use Rattle.ordered_map.specs.declared.pair.Pair.{Pair}
+use Rattle.ordered_map.specs.OrderedMap.{MapEdit, OneValue, edit_key, edit_of, get, pair_or_none, reply}
+use Rattle.ordered_map.specs.Runs.{IsEditAt, IsTreeRun, Makes}
+use Rattle.ordered_map.specs.Spelled.{Spells}
 use Rattle.ordered_map.specs.TreeShape.{TreeAllows}
+use Rattle.ordered_map.specs.TreeWords.{said}
+use Rattle.ordered_map.proofs.Lemmas.{SameSettled, run_since, walk_named, win_makes}
 use Rattle.template.proofs.Lemmas.{walk_fills_not}
+use Rattle.template.specs.FoundLeaf.{asked_key, path_key, HasFoundGoal}
+use Rattle.template.specs.declared.walk.Goal.{Goal}
+use Rattle.template.specs.declared.walk.Goal.TheVariants.{Key as ToKey, Least}
 use Rattle.template.specs.Tracked.{Tracks}
 use Rattle.template.specs.declared.walk.Found.{Found}
 use Rattle.tree.proofs.Lemmas.{get_fills_not}
 use Rattle.edits.specs.Edits.{EditMeaning}
-use Rattle.edits.specs.Known.{Tries, UpdateWaitsAt}
+use Rattle.edits.specs.Known.{CoversLeaf, Scxs, ToldFirst, Tries, UpdateWaitsAt}
 use Rattle.edits.specs.Laws.Entered.{only_joined}
-use Rattle.edits.specs.Laws.Kept.{idle_rests}
-use Rattle.edits.specs.Tries.{HasEnteredOnly}
+use Rattle.edits.specs.Laws.Kept.{idle_rests, same_said}
+use Rattle.edits.specs.Sound.{IsAtFound}
+use Rattle.edits.specs.Tries.{CoversSnaps, HasEnteredOnly}
+use Rattle.edits.specs.declared.edit.Need.TheVariants.{Nothing}
+use Rattle.edits.proofs.Lemmas.{told_first}
 use Rattle.edits.specs.declared.update.UpdateAt.{UpdateAt}
 use Rattle.edits.specs.declared.update.UpdateAt.TheVariants.{Start, Walk, Look, Load, Fill, Scx}
 use Rattle.edits.specs.declared.update.UpdateRun.{UpdateRun}
@@ -49,7 +64,7 @@ use Rattle.script.specs.declared.command.Command.TheVariants.{Scx as ScxOf, Set 
 use Rattle.player.specs.declared.client.Put.{Put}
 use Rattle.player.specs.declared.run.Run.{Run}
 use Rattle.player.specs.declared.run.Run.TheVariants.{Llx, Scx as ScxRun, Vlx, Map}
-use Rattle.player.specs.RunKnown.{RunWaits}
+use Rattle.player.specs.RunKnown.{RunWaits, edit_at, edit_inside}
 use Rattle.player.specs.ClientView.{IsMachineOf, IsScxOf}
 
 -- The SCX-record in hand
@@ -78,22 +93,62 @@ pub record IsHandOf (number : ℕ) (edit : MapEdit) (call : MachineCall) (h : Hi
   pub makes : Makes call.layout h t edit
   pub only : HasEnteredOnly call.layout call.pass t h call.start
 
--- it is of the edit that the machine inside makes
+-- it is of the edit that the machine inside has in hand; where a row makes its update win, the call's
+-- reply on the map just before says that it has made this edit
 pub record IsEditHand (m : InnerRun) (call : MachineCall) (h : History) (t : ℕ) : Type 0 where
   pub edit : MapEdit
-  pub is : inner_call m ≡ EditCall edit
+  pub is : edit_inside m ≡ Some edit
   pub hand : IsHandOf call.number edit call h t
+  pub gives : (row : Row) → IsTreeRun call.layout (row ⊳ h) → IsWin h row t → (map : List Pair) → Spells call.layout (value h) map → edit_of (inner_call m) (reply (inner_call m) map) ≡ Some edit
 
 module _ {E : Type 0} (means : EditMeaning E) (m : UpdateRun E UpdateAt) where
-  -- whatever leaf it finds, its edit is this
-  module _ (edit : MapEdit) (fixed : (f : Found) → means.edit m.edit f ≡ edit) (call : MachineCall) (h : History) (t : ℕ) (l : Lawful call.layout h) (own : IsOwnScx call.layout call.pass t) (p : IsInProgress h t) where
-    -- what it makes if it is not aborted
-    makes_it : (j : Job) → j.scx.0 ≡ t → Tracks call.layout call.pass h j edit → Makes call.layout h t edit
-    makes_it j e (Tracks.waits f free) = absurd (free (rw e p.named))
-    makes_it j e (Tracks.begun x) = rw e at x
-    makes_it j e (Tracks.over x) = absurd (let z = p.unfinished in let y = rw e at x in omega (arith, z, y))
+  -- where a row makes the update win, the leaf that was found tells what the map has just before
+  record TellsAtWin (f : Found) (lay : Layout) (h : History) (t : ℕ) : Type 0 where
+    value_is : (row : Row) → IsTreeRun lay (row ⊳ h) → IsWin h row t → (map : List Pair) → Spells lay (value h) map → get (edit_key (means.edit m.edit f)) map ≡ f.value
+    first_is : (row : Row) → IsTreeRun lay (row ⊳ h) → IsWin h row t → ToldFirst (means.goal m.edit) lay h f
 
-    hand_at : (b : History) (s : Step) (at : UpdateAt) → Tries means m call b h at → UpdateWaitsAt means m (begun_at call b) h s at → IsHandOf m.call edit call h t
+  -- what its SCX-record says, which it makes for this leaf
+  record IsHandAt (at : UpdateAt) (call : MachineCall) (h : History) (t : ℕ) : Type 0 where
+    found : Found
+    is : edit_at means m.edit at ≡ Some (means.edit m.edit found)
+    needed : means.needs m.edit found ≢ Nothing
+    hand : IsHandOf m.call (means.edit m.edit found) call h t
+    tells : TellsAtWin found call.layout h t
+
+  leaf_value : IsAtFound means → (c : MachineCall) (f : Found) (begin h : History) (row : Row) (s : ℕ) (snaps : List Snap) → IsTreeRun c.layout (row ⊳ h) → Extends h begin → IsWin h row s → Makes c.layout h s (means.edit m.edit f) → HasFoundGoal (means.goal m.edit) c begin f → CoversLeaf means m.edit f c begin s snaps → CoversSnaps h s snaps
+      → (map : List Pair) → Spells c.layout (value h) map → get (edit_key (means.edit m.edit f)) map ≡ f.value
+  leaf_value at_found c f begin h row s snaps now since won makes found covers_leaf covers_snaps map spells =
+      edits.replies map spells
+      ∙ ap (λ (n : ℕ). said (value h) key n) (covers_leaf h then since covers_snaps)
+      ∙ same_said (value begin) (value h) key f.trail.node.0 settled
+      ∙ ap (λ (k : ℕ). said (value begin) k f.trail.node.0) (at_found m.edit f) ∙ sym found.says
+    where
+      key : ℕ
+      key = edit_key (means.edit m.edit f)
+
+      then : IsTreeRun c.layout h
+      then = run_since c.layout (row ⊳ h) h now (inr (ends_self h))
+
+      settled : SameSettled (value begin) (value h) f.trail.node.0
+      settled part i = node_since c.layout h begin f.trail.node.0 part then.1.lawful since i (walk_named c.layout begin found.trail.node.first (path_key (means.goal m.edit)) f.trail.node.0 (run_since c.layout h begin then since) found.trail.node.passed)
+
+      edits : IsEditAt c.layout h row s (means.edit m.edit f)
+      edits = win_makes c.layout (row ⊳ h) h row s (means.edit m.edit f) now (ends_self (row ⊳ h)) won record { row = makes.row; before = makes.before; within = inr makes.within; begins = makes.begins; edit = makes.edit }
+
+  module _ (at_found : IsAtFound means) (call : MachineCall) (h : History) (t : ℕ) (l : Lawful call.layout h) (own : IsOwnScx call.layout call.pass t) (p : IsInProgress h t) where
+    -- what it makes if it is not aborted
+    makes_it : (edit : MapEdit) (j : Job) → j.scx.0 ≡ t → Tracks call.layout call.pass h j edit → Makes call.layout h t edit
+    makes_it edit j e (Tracks.waits f free) = absurd (free (rw e p.named))
+    makes_it edit j e (Tracks.begun x) = rw e at x
+    makes_it edit j e (Tracks.over x) = absurd (let z = p.unfinished in let y = rw e at x in omega (arith, z, y))
+
+    tells_at : (b begin : History) (f : Found) (scx : ScxRun) → Scxs means m (begun_at call b) h f scx begin → HasFilled (begun_at (begun_at call b) begin) h scx.scx.0 scx.call scx.update → Makes call.layout h scx.scx.0 (means.edit m.edit f) → TellsAtWin f call.layout h scx.scx.0
+    tells_at b begin f scx x filled makes = record {
+      value_is = λ row now won map spells. leaf_value at_found (begun_at call b) f begin h row scx.scx.0 scx.update.snaps now filled.way.begun.since won makes x.found x.leaf filled.members map spells;
+      first_is = λ row now won. told_first means m.edit (begun_at call b) f begin h row scx.scx.0 scx.update.snaps now filled.way.begun.since won makes x.found x.leaf filled.members;
+    }
+
+    hand_at : (b : History) (s : Step) (at : UpdateAt) → Tries means m call b h at → UpdateWaitsAt means m (begun_at call b) h s at → IsHandAt at call h t
     hand_at b s Start try w = absurd w
     hand_at b s (Walk walk) try w = absurd (idle_rests (begun_at call b) h m.share l w.0.rests t own p)
     hand_at b s (Look f llx) try w = absurd (idle_rests (begun_at call b) h m.share l w.1.rests t own p)
@@ -102,10 +157,17 @@ module _ {E : Type 0} (means : EditMeaning E) (m : UpdateRun E UpdateAt) where
     hand_at b s (Scx f scx) try (begin, x, w) =
         let same : t ≡ scx.scx.0 = own_in_hand call.layout h call.pass t scx.scx.0 l x.over own p in
         let filled = scx_filled TreeAllows (job_of scx) (begun_at (begun_at call b) begin) h scx.at s (rw same at p.named) w in
+        let makes = makes_it (means.edit m.edit f) (job_of scx) (sym same) x.tracks in
         record {
-          called = rw same (filled.called ∙ x.call);
-          makes = makes_it (job_of scx) (sym same) (subst (Tracks call.layout call.pass h (job_of scx)) (fixed f) x.tracks);
-          only = rw same (only_joined call.layout call.pass scx.scx.0 h b call.start x.now try.none x.only);
+          found = f;
+          is = refl;
+          needed = x.need;
+          hand = record {
+            called = rw same (filled.called ∙ x.call);
+            makes = makes;
+            only = rw same (only_joined call.layout call.pass scx.scx.0 h b call.start x.now try.none x.only);
+          };
+          tells = subst (λ (u : ℕ). TellsAtWin f call.layout h u) (sym same) (tells_at b begin f scx x filled (rw same at makes));
         }
 
   -- The word `call`
@@ -118,10 +180,23 @@ module _ {E : Type 0} (means : EditMeaning E) (m : UpdateRun E UpdateAt) where
   update_says_at call h s t v (Fill f nth part) w kind word = absurd (let z = ap (λ (q : Step). q.word) (sym w.3) ∙ word in cc)
   update_says_at call h s t v (Scx f scx) w kind word = scx_says TreeAllows (job_of scx) (begun_at call w.0) h scx.at s t v w.2 kind word ∙ w.1.call
 
+-- what the map tells a call of which this leaf was found, where it tells of its key, and of the first
+-- pair, what the leaf does
+goal_is : (goal : Goal) (f : Found) (lay : Layout) (h : History) (key : ℕ) (map : List Pair) → key ≡ asked_key goal f.key → get key map ≡ f.value → ToldFirst goal lay h f → Spells lay (value h) map → goal_told goal map ≡ leaf_told goal f
+goal_is (ToKey k) f lay h key map same value_is first_is spells = ap OneValue (subst (λ (n : ℕ). get n map ≡ f.value) same value_is)
+goal_is Least f lay h key map same value_is first_is spells = ap pair_or_none (first_is map spells)
+
 -- a pass that rests has none in progress
 module _ (call : MachineCall) (h : History) (t : ℕ) (l : Lawful call.layout h) (own : IsOwnScx call.layout call.pass t) (p : IsInProgress h t) (s : Step) where
   pub map_hand : (m : InnerRun) → IsOfKind m → IsNumbered m call.number → WaitsInside m call h s → IsEditHand m call h t
-  map_hand (Update k m) kind number w = record { edit = k.edit m.edit; is = refl; hand = subst (λ (n : ℕ). IsHandOf n (k.edit m.edit) call h t) number (hand_at k.means m (k.edit m.edit) (kind.makes m.edit) call h t l own p w.0 s m.at w.1 w.3) }
+  map_hand (Update k m) kind number w =
+      let x = hand_at k.means m kind.at_found call h t l own p w.0 s m.at w.1 w.3 in
+      record {
+        edit = k.means.edit m.edit x.found;
+        is = x.is;
+        hand = subst (λ (n : ℕ). IsHandOf n (k.means.edit m.edit x.found) call h t) number x.hand;
+        gives = λ row now won map spells. ap (edit_of (k.call m.edit)) (kind.walks m.edit map ∙ goal_is (k.means.goal m.edit) x.found call.layout h (edit_key (k.means.edit m.edit x.found)) map (kind.at_found m.edit x.found) (x.tells.value_is row now won map spells) (x.tells.first_is row now won) spells) ∙ kind.changes m.edit x.found x.needed;
+      }
   map_hand m kind number w = absurd (idle_rests call h (inner_share m) l w.1.now t own p)
 
 map_says : (m : InnerRun) (call : MachineCall) (h : History) (s : Step) (t v : ℕ) → IsNumbered m call.number → WaitsInside m call h s → s.kind ≡ FillKind → s.word ≡ scx_word t CallWord → word_after s.access v ≡ call.number

@@ -1,6 +1,6 @@
 -- What the entry of a row that wins says: the update of the call that the owner of its SCX-record
 -- has in hand.
-use Rattle.std.proofs.Common.{◌≡◌, ◌≢◌, ℕ, zero, suc, ◌<◌, inl, ⊎_elim, Bool, true, false, cond, eqb, eqb-true, eq-eqb, ◌↔◌, List, [], ◌∷◌, length, Option, Some, None, refl, sym, ◌∙◌, subst, arith}
+use Rattle.std.proofs.Common.{◌≡◌, ◌≢◌, ℕ, zero, suc, ◌<◌, inl, ⊎_elim, Bool, true, false, cond, eqb, eqb-true, eq-eqb, ◌↔◌, List, [], ◌∷◌, length, Option, Some, None, refl, sym, ◌∙◌, ap, subst, arith}
 use Rattle.std.specs.List.{Contains}
 use Rattle.arena.specs.declared.step.Row.{Row}
 use Rattle.arena.specs.declared.word.NodeWord.TheVariants.{Value}
@@ -37,18 +37,27 @@ use Rattle.record.specs.Snapshots.{IsLastLook}
 use Rattle.record.specs.Answers.{IsUnchanged, AreUnchanged}
 use Rattle.record.specs.Updates.{IsEntryOver}
 use Rattle.record.specs.Rules.Map.{IsMapEntry}
+use Rattle.record.specs.Rules.PopFirst.{IsPopEntry}
+use Rattle.player.proofs.Keys.{some_edit}
+use Rattle.arena.specs.declared.layout.Layout.{Layout}
 use Rattle.record.specs.CommandRules.{IsEntryFor}
 use Rattle.player.specs.Allowed.{PlayedAllows}
-use Rattle.player.specs.RunKnown.{RunWaits, RunIsReady}
+use Rattle.player.specs.RunKnown.{RunWaits, RunIsReady, edit_in_hand, run_mode}
 use Rattle.player.proofs.RunLaws.{run_keeps, run_made}
-use Rattle.player.specs.ClientView.{ClientView, IsSound, IsPutOf, IsScxOf, IsStart, IsOwnWin, IsWonSince, held, HoldsShare, HaveMoments, no_hand, Rests, Works, WaitsForStep, machine_call, command_of}
+use Rattle.player.specs.ClientView.{ClientView, IsSound, IsMachineOf, IsMapOf, IsPutOf, IsScxOf, IsStart, IsOwnWin, IsWonSince, held, HoldsShare, HaveMoments, no_hand, Rests, Works, WaitsForStep, machine_call, command_of}
+use Rattle.arena.specs.declared.limits.Mode.TheVariants.{Records, Tree}
+use Rattle.dict.specs.Calls.{call_in}
 use Rattle.dict.specs.Inner.{inner}
 use Rattle.dict.specs.Laws.Kinds.{is_of_kind}
 use Rattle.dict.specs.declared.dict.DictRun.{DictRun}
 use Rattle.ordered_map.specs.Requests.{map_request}
 use Rattle.ordered_map.specs.declared.request.Request.{Request}
-use Rattle.ordered_map.specs.OrderedMap.{MapEdit, Edit as EditCall}
+use Rattle.ordered_map.specs.declared.pair.Pair.{Pair}
+use Rattle.ordered_map.specs.OrderedMap.{MapCall, MapEdit, OneValue, Edit as EditCall, Insert, Delete, PopFirst, ReplaceIf, Get, Successor, Range, edit_of, first_pair, get, replace_edit, reply}
 use Rattle.ordered_map.specs.Runs.{Makes}
+use Rattle.ordered_map.specs.Spelled.{Spells}
+use Rattle.ordered_map.proofs.Lemmas.{one_spelling, run_spells}
+use Rattle.player.proofs.MapCalls.{tree_run}
 use Rattle.edits.specs.Tries.{HasEnteredOnly}
 use Rattle.player.proofs.Editing.{IsEditHand, map_hand}
 use Rattle.player.proofs.Winners.{owner_is}
@@ -118,6 +127,39 @@ pub record IsEntryFrom (v : ClientView) (c : Client) (row : Row) (s : ℕ) : Typ
   pub called : value v.past (scx s CallWord) ≡ c.number
   pub does : IsEntryFor v.layout c.pass.0 v.past v.start v.linked entered command
 
+-- an SCX-record that makes an edit has an entry of a call whose reply, on the map just before, says
+-- that it has made the edit
+module _ (lay : Layout) (before : History) (s : ℕ) where
+  -- the first pair goes
+  popped : (edit : MapEdit) (map : List Pair) → Spells lay (value before) map → edit_of PopFirst (reply PopFirst map) ≡ Some edit → Makes lay before s edit → IsPopEntry lay before s
+  popped edit [] spells e makes = cc
+  popped edit (p ∷ ps) spells e makes = (p, subst (Makes lay before s) (sym (some_edit (Delete p.key) edit e)) makes, λ map also. ap first_pair (one_spelling lay (value before) map (p ∷ ps) also spells))
+
+  -- the value expected goes
+  expected_there : (k x y : ℕ) (edit : MapEdit) (told : Option ℕ) → replace_edit k x y told ≡ Some edit → (told ≡ Some x) × (Insert k y ≡ edit)
+  expected_there k x y edit None e = cc
+  expected_there k x y edit (Some old) e = go (eqb old x) refl e
+    where
+      go : (b : Bool) → eqb old x ≡ b → cond b (Some (Insert k y)) None ≡ Some edit → (Some old ≡ Some x) × (Insert k y ≡ edit)
+      go true q e = (ap (λ (n : ℕ). Some n) (eqb-true old x q), some_edit (Insert k y) edit e)
+      go false q e = cc
+
+  entry_makes : (of : MapCall) (edit : MapEdit) (map : List Pair) → Spells lay (value before) map → ((also : List Pair) → Spells lay (value before) also → edit_of of (reply of also) ≡ Some edit) → Makes lay before s edit → IsMapEntry of lay before (entry_of lay before s)
+  entry_makes (EditCall (Insert k x)) edit map spells gives makes = subst (Makes lay before s) (sym (some_edit (Insert k x) edit (gives map spells))) makes
+  entry_makes (EditCall (Delete k)) edit map spells gives makes = go (get k map) (gives map spells)
+    where
+      go : (old : Option ℕ) → edit_of (EditCall (Delete k)) (OneValue old) ≡ Some edit → Makes lay before s (Delete k)
+      go (Some old) e = subst (Makes lay before s) (sym (some_edit (Delete k) edit e)) makes
+      go None e = cc
+  entry_makes PopFirst edit map spells gives makes = popped edit map spells (gives map spells) makes
+  entry_makes (ReplaceIf k x y) edit map spells gives makes = (
+    subst (Makes lay before s) (sym (expected_there k x y edit (get k map) (gives map spells)).1) makes,
+    λ also there. (expected_there k x y edit (get k also) (gives also there)).0,
+  )
+  entry_makes (Get key) edit map spells gives makes = absurd (let e = gives map spells in cc)
+  entry_makes (Successor key) edit map spells gives makes = absurd (let e = gives map spells in cc)
+  entry_makes (Range low high most) edit map spells gives makes = absurd (let e = gives map spells in cc)
+
 -- the entry of an SCX, and what its SCX-record says of its call
 record IsOfPut (v : ClientView) (c : Client) (row : Row) (m : PutRun) (start : History) (is_pass : c.pass.0 < v.layout.passes) : Type 0 where
   at : IsEntryAt (machine_call v c is_pass start) (row ⊳ v.past) m.scx row v.past
@@ -186,12 +228,24 @@ module _ (v : ClientView) (c : Client) (sound : IsSound v) (row : Row) (s : ℕ)
           let same : t ≡ s = only other before t w.within w.since w.wins w.own in
           update_is_first (facts_before v.layout v.past row l) wins (rw same at (won_since v.layout v.past (other ⊳ before) t sound.lawful w.within (has_won other before t w.wins)))
 
-  -- an edit's SCX-record makes the edit of its request
-  edit_does : (request : Request ℕ ℕ) (e : MapEdit) → EditCall e ≡ map_request request → Makes v.layout v.past s e → IsEntryFor v.layout c.pass.0 v.past v.start v.linked (entry_of v.layout v.past s) (MapOf request)
-  edit_does request e is makes = subst (λ call. IsMapEntry call v.layout v.past (entry_of v.layout v.past s)) is makes
+  -- the reply of the call on the map just before says that it makes this edit
+  Gives : MapCall → MapEdit → Type 0
+  Gives of edit = (map : List Pair) → Spells v.layout (value v.past) map → edit_of of (reply of map) ≡ Some edit
 
-  from_map : (m : DictRun ℕ ℕ) (then : Option Put) (x : Works v c (Map m) then) → IsEditHand (inner m.run) (machine_call v c x.is_pass v.start) v.past s → IsEntryFrom v c row s
-  from_map m then x h = record {
+  module _ (m : DictRun ℕ ℕ) (is_pass : c.pass.0 < v.layout.passes) (tree : v.layout.mode ≡ Tree) (run : IsRun PlayedAllows v.layout (row ⊳ v.past)) (x : IsEditHand (inner m.run) (machine_call v c is_pass v.start) v.past s) where
+    hand_gives : Gives (call_in m.run) x.edit
+    hand_gives map spells = x.gives row (tree_run v.layout (row ⊳ v.past) tree run) is_win map spells
+
+    -- there is such a map
+    spelled : (map : List Pair) × Spells v.layout (value v.past) map
+    spelled = run_spells v.layout v.past (tree_run v.layout v.past tree sound)
+
+    -- so its entry is one that the call makes
+    entry_is : IsMapEntry (call_in m.run) v.layout v.past (entry_of v.layout v.past s)
+    entry_is = entry_makes v.layout v.past s (call_in m.run) x.edit spelled.0 spelled.1 hand_gives x.hand.makes
+
+  from_map : (m : DictRun ℕ ℕ) (then : Option Put) (x : Works v c (Map m) then) → IsRun PlayedAllows v.layout (row ⊳ v.past) → IsEditHand (inner m.run) (machine_call v c x.is_pass v.start) v.past s → IsEntryFrom v c row s
+  from_map m then x run h = record {
     first = edit_first h.hand.only x.won;
     number = x.stands.number;
     command = x.command;
@@ -202,11 +256,12 @@ module _ (v : ClientView) (c : Client) (sound : IsSound v) (row : Row) (s : ℕ)
     same_owner = owner_is v.layout s c.pass.0 own.from own.below;
     same_call = h.hand.called;
     called = h.hand.called;
-    does = subst (λ (k : Command). IsEntryFor v.layout c.pass.0 v.past v.start v.linked (entry_of v.layout v.past s) k) (sym x.run_of.is) (edit_does x.run_of.request h.edit (sym h.is ∙ x.run_of.called) h.hand.makes);
+    does = subst (λ (k : Command). IsEntryFor v.layout c.pass.0 v.past v.start v.linked (entry_of v.layout v.past s) k) (sym x.run_of.is)
+        (subst (λ (k : MapCall). IsMapEntry k v.layout v.past (entry_of v.layout v.past s)) x.run_of.called (entry_is m x.is_pass x.mode run h));
   }
 
-  from_run : (run : Run) (then : Option Put) (x : Works v c run then) → ((m : PutRun) → run ≡ Scx m → m.scx.scx.0 ≡ s → IsOfPut v c row m x.start x.is_pass) → ((m : DictRun ℕ ℕ) → run ≡ Map m → IsEditHand (inner m.run) (machine_call v c x.is_pass v.start) v.past s) → IsEntryFrom v c row s
-  from_run (Scx m) then x f g =
+  from_run : (run : Run) (then : Option Put) (x : Works v c run then) → ((m : PutRun) → run ≡ Scx m → m.scx.scx.0 ≡ s → IsOfPut v c row m x.start x.is_pass) → ((m : DictRun ℕ ℕ) → run ≡ Map m → IsEditHand (inner m.run) (machine_call v c x.is_pass v.start) v.past s) → IsRun PlayedAllows v.layout (row ⊳ v.past) → IsEntryFrom v c row s
+  from_run (Scx m) then x f g run =
       let same : s ≡ m.scx.scx.0 = own_in_hand v.layout v.past c.pass.0 s m.scx.scx.0 sound.lawful x.holds.over own in_progress in
       let y = f m refl (sym same) in
       subst (λ (k : ℕ). IsEntryFrom v c row k) (sym same) record {
@@ -235,9 +290,9 @@ module _ (v : ClientView) (c : Client) (sound : IsSound v) (row : Row) (s : ℕ)
           none_then : (command : Command) (put : Put) → IsScxOf command c.number m (Some put) → ⊥
           none_then (ScxOf update) put p = p
           none_then command put p = p
-  from_run (Llx m) then x f g = absurd (no_hand_wins x.holds)
-  from_run (Vlx m) then x f g = absurd (no_hand_wins x.holds)
-  from_run (Map m) then x f g = from_map m then x (g m refl)
+  from_run (Llx m) then x f g run = absurd (no_hand_wins x.holds)
+  from_run (Vlx m) then x f g run = absurd (no_hand_wins x.holds)
+  from_run (Map m) then x f g run = from_map m then x run (g m refl)
 
   -- and none wins for a client at rest
   pub rest_wins_not : Rests v c → ⊥
@@ -251,9 +306,45 @@ map_waits v c q m s sound w e own p =
     let waits : RunWaits (Map m) call v.past q.step = subst (λ (k : Run). RunWaits k call v.past q.step) e (subst (λ (k : History). RunWaits q.run (machine_call v c w.works.is_pass k) v.past q.step) begun w.waits) in
     map_hand call v.past s sound.lawful own p q.step (inner m.run) (is_of_kind m.run) waits.1.0.number waits.1.1
 
+-- what a client of the tree has in hand, of whose call a row makes an update win
+pub record IsEditOfCall (v : ClientView) (c : Client) (q : Running) : Type 0 where
+  pub request : Request ℕ ℕ
+  pub is : command_of v c ≡ Some (MapOf request)
+  pub edit : MapEdit
+  pub in_hand : edit_in_hand q.run ≡ Some edit
+  pub gives : (map : List Pair) → Spells v.layout (value v.past) map → edit_of (map_request request) (reply (map_request request) map) ≡ Some edit
+
+pub edit_entered : (v : ClientView) (c : Client) (q : Running) (row : Row) (s : ℕ) → IsSound v → WaitsForStep v c q → IsRun PlayedAllows v.layout (row ⊳ v.past) → UpdateWins v.past row s → IsOwnScx v.layout c.pass.0 s → v.layout.mode ≡ Tree → IsEditOfCall v c q
+edit_entered v c q row s sound w run wins own tree = go q.run refl
+  where
+    go : (run_is : Run) → q.run ≡ run_is → IsEditOfCall v c q
+    go (Map m) e =
+        let of : IsMapOf w.works.command m q.then = subst (λ (k : Run). IsMachineOf w.works.command c.number k q.then) e w.works.run_of in
+        let h = map_waits v c q m s sound w e own (in_progress v c sound row s run.lawful wins own) in
+        record {
+          request = of.request;
+          is = w.works.is ∙ ap (λ (k : Command). Some k) of.is;
+          edit = h.edit;
+          in_hand = ap (λ (k : Run). edit_in_hand k) e ∙ h.is;
+          gives = λ map spells. subst (λ (k : MapCall). edit_of k (reply k map) ≡ Some h.edit) of.called (hand_gives v c sound row s run.lawful wins own m w.works.is_pass tree run h map spells);
+        }
+    go (Llx m) e = absurd (let z : Tree ≡ Records = sym tree ∙ w.works.mode ∙ ap (λ (k : Run). run_mode k) e in cc)
+    go (Scx m) e = absurd (let z : Tree ≡ Records = sym tree ∙ w.works.mode ∙ ap (λ (k : Run). run_mode k) e in cc)
+    go (Vlx m) e = absurd (let z : Tree ≡ Records = sym tree ∙ w.works.mode ∙ ap (λ (k : Run). run_mode k) e in cc)
+
+-- a machine that has an edit in hand is one of the tree
+pub in_hand_tree : (v : ClientView) (c : Client) (q : Running) (edit : MapEdit) → WaitsForStep v c q → edit_in_hand q.run ≡ Some edit → v.layout.mode ≡ Tree
+in_hand_tree v c q edit w is = w.works.mode ∙ go q.run is
+  where
+    go : (run : Run) → edit_in_hand run ≡ Some edit → run_mode run ≡ Tree
+    go (Map m) is = refl
+    go (Llx m) is = cc
+    go (Scx m) is = cc
+    go (Vlx m) is = cc
+
 -- a row of another client
 pub entry_by_others : (v : ClientView) (c : Client) (q : Running) (row : Row) (s : ℕ) → IsSound v → WaitsForStep v c q → IsRun PlayedAllows v.layout (row ⊳ v.past) → row.pass.0 ≢ c.pass.0 → UpdateWins v.past row s → IsOwnScx v.layout c.pass.0 s → IsEntryFrom v c row s
-entry_by_others v c q row s sound w run other wins own = from_run v c sound row s run.lawful wins own q.run q.then w.works of_put of_map
+entry_by_others v c q row s sound w run other wins own = from_run v c sound row s run.lawful wins own q.run q.then w.works of_put of_map run
   where
     call : MachineCall
     call = machine_call v c w.works.is_pass w.works.start
@@ -273,7 +364,7 @@ entry_by_others v c q row s sound w run other wins own = from_run v c sound row 
 
 -- its own row
 pub entry_by_own : (v : ClientView) (c : Client) (q : Running) (s : ℕ) → IsSound v → WaitsForStep v c q → UpdateWins v.past (own_row v c q.step) s → IsOwnScx v.layout c.pass.0 s → IsTold q.step.access (value v.past q.step.word) (value v.past q.step.word) → IsEntryFrom v c (own_row v c q.step) s
-entry_by_own v c q s sound w wins own told = from_run v c sound (own_row v c q.step) s run.lawful wins own q.run q.then w.works of_put of_map
+entry_by_own v c q s sound w wins own told = from_run v c sound (own_row v c q.step) s run.lawful wins own q.run q.then w.works of_put of_map run
   where
     call : MachineCall
     call = machine_call v c w.works.is_pass w.works.start

@@ -9,6 +9,7 @@ mod Left
 mod Placing
 mod MapEnds
 mod Editing
+mod Keys
 mod Puts
 mod Views
 mod Clients

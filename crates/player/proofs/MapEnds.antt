@@ -1,25 +1,29 @@
 -- How a call of the map ends: what its reply says of the call.
-use Rattle.std.proofs.Common.{◌≡◌, ◌⊎◌, ℕ, ◌<◌, inl, inr, ⊎_elim, true, false, Option, Some, None, refl, sym, ◌∙◌, ap, subst, arith}
+use Rattle.std.proofs.Common.{◌≡◌, ◌⊎◌, ℕ, ◌<◌, inl, inr, ⊎_elim, Bool, true, false, cond, eqb, eqb-true, is_some, List, Option, Some, None, refl, ap, subst, arith}
 use Rattle.arena.specs.declared.fault.Full.{Full as FullOf}
+use Rattle.arena.specs.History.{value}
 use Rattle.arena.specs.Machines.{Call as MachineCall}
 use Rattle.arena.specs.Share.{Remaining}
-use Rattle.ordered_map.specs.CallRules.{insert_nodes, delete_nodes, MayReply, form_of}
+use Rattle.ordered_map.specs.CallRules.{insert_nodes, delete_nodes, pop_nodes, replace_nodes, MayReply, form_of}
 use Rattle.dict.specs.Calls.{AsksForPairs}
 use Rattle.dict.specs.DictKnown.{DictRefuses}
-use Rattle.dict.specs.Says.{HasMadeEdit, HasLost, HasReadMap, HasRunOut, HasTooLittle, HasTold, TellsOfMap}
-use Rattle.ordered_map.specs.OrderedMap.{MapCall, MapEdit, MapReply, OneValue, Edit, Get, edit_key, get, Insert as PutEdit, Delete as TakeEdit}
+use Rattle.dict.specs.Says.{HasMadeEdit, HasLost, HasReadMap, HasRunOut, HasTooLittle, HasTold, HasToldBy, TellsOfMap}
+use Rattle.ordered_map.specs.OrderedMap.{MapCall, MapEdit, MapReply, OneValue, Edit, PopFirst, ReplaceIf, Get, changes_map, edit_of, first_pair, get, is_value, pair_or_none, reply, Insert as PutEdit, Delete as TakeEdit}
 use Rattle.ordered_map.specs.Paths.{IsAnswerAt}
+use Rattle.ordered_map.proofs.Lemmas.{one_spelling}
 use Rattle.ordered_map.specs.Replies.{number_reply}
 use Rattle.ordered_map.specs.Requests.{map_request}
+use Rattle.ordered_map.specs.declared.pair.Pair.{Pair as PairOf}
 use Rattle.ordered_map.specs.declared.reply.Reply.{Reply}
 use Rattle.ordered_map.specs.declared.reply.Reply.TheVariants.{Value, Pair, Pairs, Contended, Full, NoMemory}
 use Rattle.ordered_map.specs.declared.request.Request.{Request}
-use Rattle.ordered_map.specs.declared.request.Request.TheVariants.{Insert as InsertOf, Delete as DeleteOf, Get as GetOf, Successor as SuccessorOf, Range as RangeOf}
-use Rattle.edits.specs.Known.{RestsWith, IsUntouched, HasMade}
+use Rattle.ordered_map.specs.declared.request.Request.TheVariants.{Insert as InsertOf, Delete as DeleteOf, PopFirst as PopFirstOf, ReplaceIf as ReplaceIfOf, Get as GetOf, Successor as SuccessorOf, Range as RangeOf}
+use Rattle.edits.specs.Known.{RestsWith, IsUntouched}
 use Rattle.edits.specs.Tries.{HasEnteredNone}
 use Rattle.record.specs.Answers.{HasItsEntry, HasLostAllTries}
 use Rattle.record.specs.CommandRules.{MayAnswerAfterStep, enters, IsRight}
-use Rattle.record.specs.Edits.{HadAtKey}
+use Rattle.record.specs.Edits.{HadAtKey, HadFirst}
+use Rattle.record.specs.Rules.ReplaceIf.{ReplaceTold}
 use Rattle.record.specs.Shares.{HasTooFew, HasTooFewToTry, WasBlocked}
 use Rattle.record.specs.declared.record.Answer.{Answer}
 use Rattle.record.specs.declared.record.Answer.TheVariants.{Map as MapAnswer}
@@ -28,7 +32,7 @@ use Rattle.script.specs.declared.command.Command.{Command}
 use Rattle.script.specs.declared.command.Command.TheVariants.{Map as MapOf}
 use Rattle.moments.specs.Replied.{HasReplied}
 use Rattle.player.specs.declared.client.Client.{Client}
-use Rattle.player.specs.ClientView.{ClientView, IsOwnWin, IsWonSince, HasEditedKey, Tells, machine_call}
+use Rattle.player.specs.ClientView.{ClientView, IsOwnWin, IsToldBy, IsToldChange, IsToldOfMap, IsWonSince, Tells, machine_call}
 use Rattle.player.proofs.Left.{short_left}
 
 -- the answer is one that the command gives, it is right, and an update of the call has won if it
@@ -57,6 +61,25 @@ there : (old : Option ℕ) → 0 < delete_nodes old → (v : ℕ) × (old ≡ So
 there None some = absurd (omega (arith, some))
 there (Some v) some = (v, refl)
 
+-- a pop where the map has a pair
+first_there : (first : Option PairOf) → 0 < pop_nodes first → (p : PairOf) × (first ≡ Some p)
+first_there None some = absurd (omega (arith, some))
+first_there (Some p) some = (p, refl)
+
+-- one that tells none found none
+none_first : (first : Option PairOf) → pair_or_none first ≡ OneValue None → first ≡ None
+none_first None e = refl
+none_first (Some p) e = cc
+
+-- a replacement needs a node where it finds the value that it expects
+value_there : (expected : ℕ) (told : Option ℕ) → 0 < replace_nodes expected told → (told ≡ Some expected) × (replace_nodes expected told ≡ 1)
+value_there expected None some = absurd (omega (arith, some))
+value_there expected (Some old) some = go (eqb old expected) refl some
+  where
+    go : (b : Bool) → eqb old expected ≡ b → 0 < cond b 1 0 → (Some old ≡ Some expected) × (cond b 1 0 ≡ 1)
+    go true q some = (ap (λ (n : ℕ). Some n) (eqb-true old expected q), refl)
+    go false q some = absurd (omega (arith, some))
+
 module _ (v : ClientView) (c : Client) (is_pass : c.pass.0 < v.layout.passes) (won : IsWonSince v c.pass.0) where
   abbrev call : MachineCall
   call = machine_call v c is_pass v.start
@@ -67,23 +90,21 @@ module _ (v : ClientView) (c : Client) (is_pass : c.pass.0 < v.layout.passes) (w
 
   -- A change
 
+  -- the call tells what the map just before its own row replies
+  changed : (of : MapCall) (told : MapReply) (e : MapEdit) → HasMadeEdit call v.past of told e → ((turn : ℕ) × (v.won ≡ Some turn)) × IsToldChange v c.pass.0 of told
+  changed of told e x =
+      let made = x.made in
+      let win : IsOwnWin v c.pass.0 made.row made.before made.scx = record { within = made.within; since = made.since; wins = made.wins; own = made.own } in (
+        won.yes made.row made.before made.scx win,
+        record { row = made.row; before = made.before; scx = made.scx; win = win; replies = λ m s. subst (λ (k : List PairOf). reply of k ≡ told) (one_spelling v.layout (value made.before) x.map m x.spelled s) x.gives },
+      )
+
+  -- A reading
+
   -- the value of a reply
   abbrev value_in : MapReply → Option ℕ
   value_in (OneValue told) = told
   value_in _ = None
-
-  -- the call has made this edit
-  has_made : (e : MapEdit) (old : Option ℕ) → HasMadeEdit call v.past (Edit e) (OneValue old) e → HasMade e call v.past c.number old
-  has_made e old x = subst (λ o. HasMade e call v.past c.number o) (sym (x.made.told x.map x.spelled) ∙ ap value_in x.gives) x.made
-
-  -- so it tells what its own row has found
-  changed : (e : MapEdit) (old : Option ℕ) → HasMadeEdit call v.past (Edit e) (OneValue old) e → ((turn : ℕ) × (v.won ≡ Some turn)) × HasEditedKey v c.pass.0 (edit_key e) old
-  changed e old x =
-      let made = has_made e old x in
-      let win : IsOwnWin v c.pass.0 made.row made.before made.scx = record { within = made.within; since = made.since; wins = made.wins; own = made.own } in
-      (won.yes made.row made.before made.scx win, record { row = made.row; before = made.before; scx = made.scx; win = win; told = made.told })
-
-  -- A reading
 
   -- the map had this at a moment of the call
   answer_at : (key : ℕ) (old : Option ℕ) → HasReadMap call v.past (Get key) (OneValue old) → IsAnswerAt v.layout v.past v.start key old
@@ -94,9 +115,36 @@ module _ (v : ClientView) (c : Client) (is_pass : c.pass.0 < v.layout.passes) (w
       let own = x.own tt in
       (own.row, own.before, own.since, record { moment = x.moment; within = x.within; since = own.within; map = x.map; spelled = x.spelled; gives = ap value_in x.gives })
 
+  -- just as a replacement of another value than it expects
+  had_other : (key expected put : ℕ) (old : Option ℕ) → HasReadMap call v.past (ReplaceIf key expected put) (OneValue old) → HadAtKey v.layout v.past v.start key old
+  had_other key expected put old x =
+      let own = x.own tt in
+      (own.row, own.before, own.since, record { moment = x.moment; within = x.within; since = own.within; map = x.map; spelled = x.spelled; gives = ap value_in x.gives })
+
+  -- the map had no pair
+  had_none : HasReadMap call v.past PopFirst (OneValue None) → HadFirst v.layout v.past v.start None
+  had_none x =
+      let own = x.own tt in
+      (own.row, own.before, own.since, record { moment = x.moment; within = x.within; since = own.within; map = x.map; spelled = x.spelled; is = none_first (first_pair x.map) x.gives })
+
   -- it has replied so
   replied : (of : MapCall) (told : MapReply) → AsksForPairs of → HasReadMap call v.past of told → HasReplied v.layout v.past v.start of told
   replied of told asks x = let own = x.own asks in record { row = own.row; before = own.before; since = own.since; moment = x.moment; behind = own.within; within = x.within; map = x.map; spelled = x.spelled; replies = x.gives }
+
+  -- What is told
+
+  -- of a change or of a reading
+  told_by : (of : MapCall) (told : MapReply) (e : Option MapEdit) → AsksForPairs of → HasToldBy e call v.past of told → HasItsEntry (is_some e) v.won × IsToldBy (is_some e) v c.pass.0 of told
+  told_by of told None asks x = (entered_none v.won (unwon x.none), inl (replied of told asks x))
+  told_by of told (Some e) asks x = let y = changed of told e x in (entered_some v.won y.0.0 y.0.1, y.1)
+
+  tells_so : (of : MapCall) (told : Option MapReply) → AsksForPairs of → TellsOfMap call v.past of told → IsToldOfMap v c.pass.0 of told
+  tells_so of None asks x = tt
+  tells_so of (Some told) asks x = (told_by of told (edit_of of told) asks x).1
+
+  -- and the call has its entry where it has changed the map
+  enters_so : (of : MapCall) (told : MapReply) → AsksForPairs of → HasTold call v.past of told → HasItsEntry (changes_map of told) v.won
+  enters_so of told asks x = (told_by of told (edit_of of told) asks x).0
 
   -- A refusal
 
@@ -115,22 +163,48 @@ module _ (v : ClientView) (c : Client) (is_pass : c.pass.0 < v.layout.passes) (w
   had_then : (of : MapCall) (share : Remaining) (full : FullOf) (key : ℕ) → (x : HasRunOut call v.past of share full) → HadAtKey v.layout v.past v.start key (get key x.map)
   had_then of share full key x = (x.own.row, x.own.before, x.own.since, record { moment = x.moment; within = x.within; since = x.own.within; map = x.map; spelled = x.spelled; gives = refl })
 
-  insert_full : (key value : ℕ) (share : Remaining) (full : FullOf) → RestsWith call v.past share → HasRunOut call v.past (Edit (PutEdit key value)) share full → IsRightEnd v c.pass.0 (MapOf (InsertOf key value)) (MapAnswer (Full full))
+  -- Ends
+
+  -- what an answer says, beside what it tells
+  record IsRightSo (command : Command) (answer : Answer) : Type 0 where
+    right : IsRight v.layout v.tries c.pass.0 v.past v.start v.linked command answer
+    entry : HasItsEntry (enters command answer) v.won
+
+  insert_full : (key value : ℕ) (share : Remaining) (full : FullOf) → RestsWith call v.past share → HasRunOut call v.past (Edit (PutEdit key value)) share full → IsRightSo (MapOf (InsertOf key value)) (MapAnswer (Full full))
   insert_full key value share full rests x = record {
-    answers = tt;
     right = (get key x.map, had_then (Edit (PutEdit key value)) share full key x, subst (λ n. HasTooFewToTry v.layout c.pass.0 v.past v.start n full.what full.left) (insert_many (get key x.map)) (too_few (Edit (PutEdit key value)) share full rests x (insert_nodes (get key x.map)) x.short));
     entry = entered_none v.won (unwon x.none);
-    tells = tt;
   }
 
-  delete_full : (key : ℕ) (share : Remaining) (full : FullOf) → RestsWith call v.past share → HasRunOut call v.past (Edit (TakeEdit key)) share full → IsRightEnd v c.pass.0 (MapOf (DeleteOf key)) (MapAnswer (Full full))
+  delete_full : (key : ℕ) (share : Remaining) (full : FullOf) → RestsWith call v.past share → HasRunOut call v.past (Edit (TakeEdit key)) share full → IsRightSo (MapOf (DeleteOf key)) (MapAnswer (Full full))
   delete_full key share full rests x =
       let old = there (get key x.map) x.some in
       record {
-        answers = tt;
         right = (old.0, subst (HadAtKey v.layout v.past v.start key) old.1 (had_then (Edit (TakeEdit key)) share full key x), subst (λ o. HasTooFewToTry v.layout c.pass.0 v.past v.start (delete_nodes o) full.what full.left) old.1 (too_few (Edit (TakeEdit key)) share full rests x (delete_nodes (get key x.map)) x.short));
         entry = entered_none v.won (unwon x.none);
-        tells = tt;
+      }
+
+  pop_full : (share : Remaining) (full : FullOf) → RestsWith call v.past share → HasRunOut call v.past PopFirst share full → IsRightSo (MapOf PopFirstOf) (MapAnswer (Full full))
+  pop_full share full rests x =
+      let first = first_there (first_pair x.map) x.some in
+      record {
+        right = (
+          first.0,
+          (x.own.row, x.own.before, x.own.since, record { moment = x.moment; within = x.within; since = x.own.within; map = x.map; spelled = x.spelled; is = first.1 }),
+          subst (λ o. HasTooFewToTry v.layout c.pass.0 v.past v.start (pop_nodes o) full.what full.left) first.1 (too_few PopFirst share full rests x (pop_nodes (first_pair x.map)) x.short),
+        );
+        entry = entered_none v.won (unwon x.none);
+      }
+
+  replace_full : (key expected put : ℕ) (share : Remaining) (full : FullOf) → RestsWith call v.past share → HasRunOut call v.past (ReplaceIf key expected put) share full → IsRightSo (MapOf (ReplaceIfOf key expected put)) (MapAnswer (Full full))
+  replace_full key expected put share full rests x =
+      let old = value_there expected (get key x.map) x.some in
+      record {
+        right = (
+          subst (HadAtKey v.layout v.past v.start key) old.0 (had_then (ReplaceIf key expected put) share full key x),
+          subst (λ n. HasTooFewToTry v.layout c.pass.0 v.past v.start n full.what full.left) old.1 (too_few (ReplaceIf key expected put) share full rests x (replace_nodes expected (get key x.map)) x.short),
+        );
+        entry = entered_none v.won (unwon x.none);
       }
 
   -- what is told of one value
@@ -138,22 +212,50 @@ module _ (v : ClientView) (c : Client) (is_pass : c.pass.0 < v.layout.passes) (w
   one_told of old x = subst (TellsOfMap call v.past of) (value_told old) x
 
   -- a delete that tells a value has changed the map, and one that tells none has read it
-  deleted : (key : ℕ) (old : Option ℕ) → HasTold call v.past (Edit (TakeEdit key)) (OneValue old) → IsRightEnd v c.pass.0 (MapOf (DeleteOf key)) (MapAnswer (Value old))
-  deleted key None x = record { answers = tt; right = had_at_key key None x; entry = entered_none v.won (unwon x.none); tells = tt }
-  deleted key (Some old) x = let y = changed (TakeEdit key) (Some old) x in record { answers = tt; right = tt; entry = entered_some v.won y.0.0 y.0.1; tells = y.1 }
+  deleted : (key : ℕ) (old : Option ℕ) → HasTold call v.past (Edit (TakeEdit key)) (OneValue old) → IsRightSo (MapOf (DeleteOf key)) (MapAnswer (Value old))
+  deleted key None x = record { right = had_at_key key None x; entry = enters_so (Edit (TakeEdit key)) (OneValue None) tt x }
+  deleted key (Some old) x = record { right = tt; entry = enters_so (Edit (TakeEdit key)) (OneValue (Some old)) tt x }
+
+  -- a pop that tells a pair has changed the map, and one that tells none has read it
+  popped : (found : Option (ℕ × ℕ)) → TellsOfMap call v.past PopFirst (number_reply (Pair found)) → IsRightSo (MapOf PopFirstOf) (MapAnswer (Pair found))
+  popped None x = record { right = had_none x; entry = enters_so PopFirst (OneValue None) tt x }
+  popped (Some p) x = record { right = tt; entry = enters_so PopFirst _ tt x }
+
+  -- a replacement that tells the value expected has changed the map, and any other has read it
+  replaced : (key expected put : ℕ) (old : Option ℕ) → HasTold call v.past (ReplaceIf key expected put) (OneValue old) → IsRightSo (MapOf (ReplaceIfOf key expected put)) (MapAnswer (Value old))
+  replaced key expected put old x = record { right = right (is_value expected old) x; entry = entry (is_value expected old) (enters_so (ReplaceIf key expected put) (OneValue old) tt x) }
+    where
+      right : (b : Bool) → HasToldBy (cond b (Some (PutEdit key put)) None) call v.past (ReplaceIf key expected put) (OneValue old) → ReplaceTold b v.layout v.past v.start key old
+      right true x = tt
+      right false x = had_other key expected put old x
+
+      entry : (b : Bool) → HasItsEntry (is_some (cond b (Some (PutEdit key put)) None)) v.won → HasItsEntry b v.won
+      entry true x = x
+      entry false x = x
+
+  ends : (r : Request ℕ ℕ) (a : Reply ℕ ℕ) (share : Remaining) → AsksForPairs (map_request r) → RestsWith call v.past share → MayReply (map_request r) (form_of a) → TellsOfMap call v.past (map_request r) (number_reply a) → DictRefuses call v.past (map_request r) share v.tries a → IsRightSo (MapOf r) (MapAnswer a)
+  ends (InsertOf key value) (Value old) share asks rests form tells why = record { right = tt; entry = enters_so (Edit (PutEdit key value)) _ asks tells }
+  ends (InsertOf key value) (Contended node scx) share asks rests form tells why = record { right = lost node.0 scx.0 why; entry = entered_none v.won (unwon why.none) }
+  ends (InsertOf key value) (Full full) share asks rests form tells why = insert_full key value share full rests why
+  ends (DeleteOf key) (Value old) share asks rests form tells why = deleted key old (one_told (Edit (TakeEdit key)) old tells)
+  ends (DeleteOf key) (Contended node scx) share asks rests form tells why = record { right = lost node.0 scx.0 why; entry = entered_none v.won (unwon why.none) }
+  ends (DeleteOf key) (Full full) share asks rests form tells why = delete_full key share full rests why
+  ends PopFirstOf (Pair found) share asks rests form tells why = popped found tells
+  ends PopFirstOf (Contended node scx) share asks rests form tells why = record { right = lost node.0 scx.0 why; entry = entered_none v.won (unwon why.none) }
+  ends PopFirstOf (Full full) share asks rests form tells why = pop_full share full rests why
+  ends (ReplaceIfOf key expected put) (Value old) share asks rests form tells why = replaced key expected put old (one_told (ReplaceIf key expected put) old tells)
+  ends (ReplaceIfOf key expected put) (Contended node scx) share asks rests form tells why = record { right = lost node.0 scx.0 why; entry = entered_none v.won (unwon why.none) }
+  ends (ReplaceIfOf key expected put) (Full full) share asks rests form tells why = replace_full key expected put share full rests why
+  ends (GetOf key) (Value old) share asks rests form tells why = let y = one_told (Get key) old tells in record { right = answer_at key old y; entry = entered_none v.won (unwon y.none) }
+  ends (SuccessorOf key) (Pair found) share asks rests form tells why = record { right = tt; entry = entered_none v.won (unwon tells.none) }
+  ends (SuccessorOf key) (Contended node scx) share asks rests form tells why = record { right = lost node.0 scx.0 why; entry = entered_none v.won (unwon why.none) }
+  ends (SuccessorOf key) NoMemory share asks rests form tells why = record { right = tt; entry = entered_none v.won (unwon why.1) }
+  ends (RangeOf low high most) (Pairs found) share asks rests form tells why = record { right = tt; entry = entered_none v.won (unwon tells.none) }
+  ends (RangeOf low high most) (Contended node scx) share asks rests form tells why = record { right = lost node.0 scx.0 why; entry = entered_none v.won (unwon why.none) }
+  ends (RangeOf low high most) NoMemory share asks rests form tells why = record { right = tt; entry = entered_none v.won (unwon why.1) }
+  ends r a share asks rests form tells why = absurd form
 
   pub map_ends : (r : Request ℕ ℕ) (a : Reply ℕ ℕ) (share : Remaining) → AsksForPairs (map_request r) → RestsWith call v.past share → MayReply (map_request r) (form_of a) → TellsOfMap call v.past (map_request r) (number_reply a) → DictRefuses call v.past (map_request r) share v.tries a → IsRightEnd v c.pass.0 (MapOf r) (MapAnswer a)
-  map_ends (InsertOf key value) (Value old) share asks rests form tells why = let y = changed (PutEdit key value) old (one_told (Edit (PutEdit key value)) old tells) in record { answers = tt; right = tt; entry = entered_some v.won y.0.0 y.0.1; tells = y.1 }
-  map_ends (InsertOf key value) (Contended node scx) share asks rests form tells why = record { answers = tt; right = lost node.0 scx.0 why; entry = entered_none v.won (unwon why.none); tells = tt }
-  map_ends (InsertOf key value) (Full full) share asks rests form tells why = insert_full key value share full rests why
-  map_ends (DeleteOf key) (Value old) share asks rests form tells why = deleted key old (one_told (Edit (TakeEdit key)) old tells)
-  map_ends (DeleteOf key) (Contended node scx) share asks rests form tells why = record { answers = tt; right = lost node.0 scx.0 why; entry = entered_none v.won (unwon why.none); tells = tt }
-  map_ends (DeleteOf key) (Full full) share asks rests form tells why = delete_full key share full rests why
-  map_ends (GetOf key) (Value old) share asks rests form tells why = let y = one_told (Get key) old tells in record { answers = tt; right = answer_at key old y; entry = entered_none v.won (unwon y.none); tells = tt }
-  map_ends (SuccessorOf key) (Pair found) share asks rests form tells why = record { answers = tt; right = tt; entry = entered_none v.won (unwon tells.none); tells = inl (replied (map_request (SuccessorOf key)) _ asks tells) }
-  map_ends (SuccessorOf key) (Contended node scx) share asks rests form tells why = record { answers = tt; right = lost node.0 scx.0 why; entry = entered_none v.won (unwon why.none); tells = tt }
-  map_ends (SuccessorOf key) NoMemory share asks rests form tells why = record { answers = tt; right = tt; entry = entered_none v.won (unwon why.1); tells = tt }
-  map_ends (RangeOf low high most) (Pairs found) share asks rests form tells why = record { answers = tt; right = tt; entry = entered_none v.won (unwon tells.none); tells = inl (replied (map_request (RangeOf low high most)) _ asks tells) }
-  map_ends (RangeOf low high most) (Contended node scx) share asks rests form tells why = record { answers = tt; right = lost node.0 scx.0 why; entry = entered_none v.won (unwon why.none); tells = tt }
-  map_ends (RangeOf low high most) NoMemory share asks rests form tells why = record { answers = tt; right = tt; entry = entered_none v.won (unwon why.1); tells = tt }
-  map_ends r a share asks rests form tells why = absurd form
+  map_ends r a share asks rests form tells why =
+      let x = ends r a share asks rests form tells why in
+      record { answers = form; right = x.right; entry = x.entry; tells = tells_so (map_request r) (number_reply a) asks tells }

@@ -347,13 +347,12 @@ is_refusal v (Map (RangeOf low high most)) (MapAnswer (Pairs found)) x = record 
 is_refusal v (Map (RangeOf low high most)) (MapAnswer NoMemory) x = record { leaves = λ n. refl; not_done = λ e. cc; none = refl }
 is_refusal v command answer x = absurd x
 
--- it tells nothing of an edit
+-- it tells of a range that takes nothing
 refuses_tells : (v : ClientView) (c : ℕ) (command : Command) (answer : Answer) → MayAnswerAtOnce command answer → Tells v c command answer
 refuses_tells v c (LlxOf cell) answer x = tt
 refuses_tells v c (ScxOf update) answer x = tt
 refuses_tells v c (VlxOf cells) answer x = tt
 refuses_tells v c (SetOf field value) answer x = tt
-refuses_tells v c (Map (GetOf key)) answer x = tt
 refuses_tells v c (Map (SuccessorOf key)) (MapAnswer NoMemory) x = tt
 refuses_tells v c (Map (RangeOf low high most)) (MapAnswer (Pairs found)) x = inr (λ m. nothing_taken low high most m x.0 ∙ ap (λ (ps : List (ℕ × ℕ)). ManyPairs (number_pairs ps)) (sym x.1))
 refuses_tells v c (Map (RangeOf low high most)) (MapAnswer NoMemory) x = tt

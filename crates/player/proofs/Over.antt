@@ -17,7 +17,7 @@ use Rattle.edits.specs.Known.{RestsWith}
 use Rattle.ordered_map.specs.CallRules.{most_nodes, most_scx}
 use Rattle.template.specs.Tries.{tries_since}
 use Rattle.dict.specs.Calls.{most_tries, HasSpent}
-use Rattle.ordered_map.specs.OrderedMap.{MapCall, Edit, Get, Successor, Range}
+use Rattle.ordered_map.specs.OrderedMap.{MapCall, Edit, Insert, Delete, PopFirst, ReplaceIf, Get, Successor, Range}
 use Rattle.ordered_map.specs.Requests.{map_request}
 use Rattle.ordered_map.specs.declared.request.Request.{Request}
 use Rattle.script.specs.declared.command.Command.TheVariants.{Map as MapOf}
@@ -127,7 +127,10 @@ taken_few lay c most_scx most now start old left since began share few each = re
 
 -- the tries that it has begun take no more than all that it may begin
 few_tries : (call : MapCall) (begun tries old left : ℕ) → begun ≤ most_tries call tries → old ≤ left + most_scx call begun → old ≤ left + most_scx call tries
-few_tries (Edit e) begun tries old left few spent = omega (arith, few, spent)
+few_tries (Edit (Insert key value)) begun tries old left few spent = omega (arith, few, spent)
+few_tries (Edit (Delete key)) begun tries old left few spent = omega (arith, few, spent)
+few_tries PopFirst begun tries old left few spent = omega (arith, few, spent)
+few_tries (ReplaceIf key expected value) begun tries old left few spent = omega (arith, few, spent)
 few_tries (Get key) begun tries old left few spent = spent
 few_tries (Successor key) begun tries old left few spent = spent
 few_tries (Range low high most) begun tries old left few spent = spent

@@ -1,23 +1,23 @@
 -- Where the calls of a run took place: those of cells where their answer says; an edit at its
 -- entry; a get in the turn that was found for it. All replies of a run on the tree are those of one
 -- map.
-use Rattle.std.proofs.Common.{◌≡◌, ℕ, suc, ◌≤◌, ⊎_elim, List, Option, Some, None, refl, sym, ◌∙◌, ap, subst, arith}
+use Rattle.std.proofs.Common.{◌≡◌, ℕ, suc, ◌≤◌, ⊎_elim, Bool, true, false, cond, is_some, List, Option, Some, None, refl, sym, ◌∙◌, ap, subst, arith}
 use Rattle.std.specs.Option.{option_map}
 use Rattle.arena.specs.declared.limits.Mode.{Mode}
 use Rattle.arena.specs.declared.limits.Mode.TheVariants.{Records, Tree}
 use Rattle.arena.specs.declared.layout.Layout.{Layout}
 use Rattle.arena.specs.PlainWords.{Contents}
 use Rattle.arena.specs.History.{value}
-use Rattle.ordered_map.specs.OrderedMap.{MapCall, Get, Successor, Range, Insert as PutEdit, Delete as TakeEdit, MapReply, ManyPairs, pair_or_none, reply as answer_on}
+use Rattle.ordered_map.specs.OrderedMap.{MapCall, PopFirst, ReplaceIf, Get, Successor, Range, Insert as PutEdit, MapReply, OneValue, ManyPairs, is_value, pair_or_none, reply as answer_on}
 use Rattle.ordered_map.specs.Paths.{IsAnswerAt}
 use Rattle.script.specs.declared.call.Call.{Call}
 use Rattle.script.specs.declared.command.Command.{Command}
 use Rattle.script.specs.declared.command.Command.TheVariants.{Map}
-use Rattle.ordered_map.specs.declared.request.Request.TheVariants.{Insert as InsertOf, Delete as DeleteOf, Get as GetOf, Successor as SuccessorOf, Range as RangeOf}
+use Rattle.ordered_map.specs.declared.request.Request.TheVariants.{Insert as InsertOf, Delete as DeleteOf, PopFirst as PopFirstOf, ReplaceIf as ReplaceIfOf, Get as GetOf, Successor as SuccessorOf, Range as RangeOf}
 use Rattle.record.specs.declared.record.Line.{Line}
 use Rattle.record.specs.declared.record.Finished.{Finished}
 use Rattle.ordered_map.specs.declared.reply.Reply.{Reply}
-use Rattle.ordered_map.specs.declared.reply.Reply.TheVariants.{Value, Pair, Pairs, Contended, NoMemory}
+use Rattle.ordered_map.specs.declared.reply.Reply.TheVariants.{Value, Pair, Pairs, Contended, Full, NoMemory}
 use Rattle.ordered_map.specs.Replies.{word_pair, number_reply}
 use Rattle.record.specs.declared.record.Answer.{Answer}
 use Rattle.record.specs.declared.record.Answer.TheVariants.{Map as MapAnswer}
@@ -28,18 +28,19 @@ use Rattle.record.specs.Answers.{moment_of, HasItsEntry}
 use Rattle.moments.specs.declared.places.Change.{Change}
 use Rattle.moments.specs.Entries.{AreEntries}
 use Rattle.moments.specs.Ordered.{FallFrom, IsOrderedRead}
-use Rattle.player.specs.Moments.{IsMomentBy, IsOrderedMoment}
-use Rattle.player.specs.ClientView.{client_view, HasToldMap, Tells}
+use Rattle.player.specs.Moments.{IsMomentBy, IsOrderedMoment, IsReadMoment, IsWonOrRead}
+use Rattle.player.specs.ClientView.{client_view, IsToldBy, IsToldOfMap, IsToldReading, Tells}
 use Rattle.record.specs.CommandRules.{IsRight, IsPlaced, enters}
+use Rattle.record.specs.Rules.ReplaceIf.{ReplaceTold}
 use Rattle.record.specs.MapRecord.{map_at, map_call, number_pairs, reply_told, written_log, entries_of_call}
-use Rattle.record.specs.Placed.{IsGreatestTurn, IsPlacedReading, IsRefused, IsPlacedOnMap}
+use Rattle.record.specs.Placed.{IsGreatestTurn, IsPlacedChangeOrReading, IsPlacedReading, IsRefused, IsPlacedOnMap}
 use Rattle.record.specs.LawfulRun.{IsWhole}
 use Rattle.record.specs.SpelledMap.{AreSpelled}
-use Rattle.record.proofs.Lemmas.{begin_within, entries_none, lawful_is_legal}
+use Rattle.record.proofs.Lemmas.{begin_within, entries_none, lawful_is_legal, value_told}
 use Rattle.player.specs.BetweenTurns.{IsLawfulSoFar}
-use Rattle.moments.proofs.Lemmas.{IsRepliedIn, are_spelled, falls, get_placed, ordered_placed, replied_turn}
+use Rattle.moments.proofs.Lemmas.{IsRepliedIn, are_spelled, falls, get_placed, kept_placed, ordered_placed, replied_turn}
 use Rattle.player.proofs.MapCalls.{command_mode, map_calls, tree_run}
-use Rattle.player.proofs.EditPlaces.{IsEditReply, insert_placed, delete_placed, unwon_none}
+use Rattle.player.proofs.EditPlaces.{IsEditReply, changed, delete_placed, insert_placed, refused, unwon_none}
 
 -- a call of cells replies nothing of the map, and its moment is that of its answer
 cell_moment : (calls : List Call) (lines : List Line) (changes : List Change) (command : Command) (answer : Answer) (first last : ℕ) (won moment : Option ℕ) → ((reply : Reply ℕ ℕ) → answer ≡ MapAnswer reply → ⊥) → IsMomentBy calls lines changes command answer first last won moment → moment ≡ moment_of answer first last won
@@ -70,7 +71,7 @@ get_reads lay tries calls words lines changes reply key x mode entries owed call
 
 -- an ordered read took place in a turn that was found for it
 module _ (lay : Layout) (tries : ℕ) (calls : List Call) (words : Contents) (lines : List Line) (changes : List Change) (reply : Finished) (x : IsLawfulSoFar lay tries calls words lines) (mode : lay.mode ≡ Tree) (entries : AreEntries calls lines changes) (owed : entry_owed lay lines ≡ None) (called : reply.call ≡ answered lines reply.client.0) (unwon : won lay lines reply.client.0 ≡ None) (begins : begin lines reply.client.0 ≡ Some reply.begin) (ends : reply.end ≡ turns lines) where
-  told_reads : (command : Command) (call : MapCall) (given : Reply ℕ ℕ) (told : MapReply) → IsOrderedRead command → map_call (Some command) ≡ Some call → next_command calls lines reply.client.0 ≡ Some command → reply.answer ≡ MapAnswer given → number_reply given ≡ Some told → HasToldMap (client_view lay tries calls lines reply.client.0) call (Some told) → IsOrderedMoment calls lines changes command given reply.begin reply.end reply.moment → IsPlacedReading calls lines call reply
+  told_reads : (command : Command) (call : MapCall) (given : Reply ℕ ℕ) (told : MapReply) → IsOrderedRead command → map_call (Some command) ≡ Some call → next_command calls lines reply.client.0 ≡ Some command → reply.answer ≡ MapAnswer given → number_reply given ≡ Some told → IsToldReading (client_view lay tries calls lines reply.client.0) call told → IsOrderedMoment calls lines changes command given reply.begin reply.end reply.moment → IsPlacedReading calls lines call reply
   told_reads command call given told ordered is_call is e says tells moment =
       ordered_placed lay tries calls lines reply call moment.turn x.in_order unwon called moment.is (subst (λ (a : Answer). IsGreatestTurn (λ m. reply_told a ≡ Some (answer_on call (map_at calls lines m))) reply.begin reply.end moment.turn) (sym e) (moment.greatest call some.0 entries fall ordered is_call some.1 (subst (λ (n : ℕ). some.0 ≤ n) (sym ends) some.2) (says ∙ ap (λ (t : MapReply). Some t) (sym some.3))))
     where
@@ -127,11 +128,43 @@ edit_reply lay tries calls words lines changes reply c command x mode entries ow
   moment = moment;
 }
 
+-- where a pop took place
+pop_placed : (lay : Layout) (tries : ℕ) (calls : List Call) (words : Contents) (lines : List Line) (changes : List Change) (reply : Finished) (answer : Answer) → IsLawfulSoFar lay tries calls words lines → IsEditReply lay tries calls lines changes reply reply.client.0 (Map PopFirstOf) → reply.answer ≡ answer → IsPlacedOnMap (reply_told answer) calls lines PopFirst reply
+pop_placed lay tries calls words lines changes reply (MapAnswer (Pair (Some p))) x y is = changed lay tries calls lines changes reply reply.client.0 (Map PopFirstOf) PopFirst _ y (ap reply_told is) (rw is at y.tells) (rw is at y.moment)
+pop_placed lay tries calls words lines changes reply (MapAnswer (Pair None)) x y is = told_reads lay tries calls words lines changes reply x y.mode y.entries y.owed y.number (unwon_none (won lay lines reply.client.0) (rw is at y.entry)) y.began y.ended (Map PopFirstOf) PopFirst (Pair None) (pair_or_none None) tt refl y.next is refl (rw is at y.tells) (rw is at y.moment)
+pop_placed lay tries calls words lines changes reply (MapAnswer (Full full)) x y is = refused lay tries calls lines changes reply reply.client.0 (Map PopFirstOf) y (rw is at y.entry) (rw is at y.moment)
+pop_placed lay tries calls words lines changes reply (MapAnswer (Contended node scx)) x y is = refused lay tries calls lines changes reply reply.client.0 (Map PopFirstOf) y (rw is at y.entry) (rw is at y.moment)
+pop_placed lay tries calls words lines changes reply answer x y is = absurd (rw is at y.right)
+
+-- where a replacement took place
+module _ (lay : Layout) (tries : ℕ) (calls : List Call) (lines : List Line) (changes : List Change) (reply : Finished) (key expected put : ℕ) (y : IsEditReply lay tries calls lines changes reply reply.client.0 (Map (ReplaceIfOf key expected put))) where
+  -- by whether it has told the value expected
+  replaced_or_kept : (told : Option ℕ) → reply.answer ≡ MapAnswer (Value told) → (b : Bool) → HasItsEntry b (won lay lines reply.client.0) → ReplaceTold b lay (history lay.mode lines) (start lay.mode lines reply.client.0) key told → IsToldBy (is_some (cond b (Some (PutEdit key put)) None)) (client_view lay tries calls lines reply.client.0) reply.client.0 (ReplaceIf key expected put) (OneValue told) → IsWonOrRead b (IsReadMoment calls lines changes key told reply.begin reply.end reply.moment) (won lay lines reply.client.0) reply.moment
+      → IsPlacedChangeOrReading (is_some (cond b (Some (PutEdit key put)) None)) calls lines (ReplaceIf key expected put) reply
+  replaced_or_kept told is true entry right tells moment = changed lay tries calls lines changes reply reply.client.0 (Map (ReplaceIfOf key expected put)) (ReplaceIf key expected put) (OneValue told) y (ap reply_told is ∙ value_told told) tells moment
+  replaced_or_kept told is false entry right tells moment =
+      let found = moment y.entries in
+      kept_placed lay tries calls lines reply key expected put told y.lines_are y.spells y.owed y.next (unwon_none (won lay lines reply.client.0) entry) y.number y.began y.ended is right record { found = found.0; none = found.1 }
+
+  replace_placed : (answer : Answer) → reply.answer ≡ answer → IsPlacedOnMap (reply_told answer) calls lines (ReplaceIf key expected put) reply
+  replace_placed (MapAnswer (Value told)) is =
+      subst (λ (t : Option MapReply). IsPlacedOnMap t calls lines (ReplaceIf key expected put) reply) (sym (value_told told))
+      (replaced_or_kept told is (is_value expected told) (rw is at y.entry) (rw is at y.right) (subst (IsToldOfMap (client_view lay tries calls lines reply.client.0) reply.client.0 (ReplaceIf key expected put)) (value_told told) (rw is at y.tells)) (rw is at y.moment))
+  replace_placed (MapAnswer (Full full)) is = refused lay tries calls lines changes reply reply.client.0 (Map (ReplaceIfOf key expected put)) y (rw is at y.entry) (rw is at y.moment)
+  replace_placed (MapAnswer (Contended node scx)) is = refused lay tries calls lines changes reply reply.client.0 (Map (ReplaceIfOf key expected put)) y (rw is at y.entry) (rw is at y.moment)
+  replace_placed answer is = absurd (rw is at y.right)
+
 -- where the call of a reply took place
 pub placed : (lay : Layout) (tries : ℕ) (calls : List Call) (words : Contents) (lines : List Line) (changes : List Change) (reply : Finished) (c : ℕ) (command : Command) → IsLawfulSoFar lay tries calls words lines → (lay.mode ≡ Tree → AreEntries calls lines changes) → entry_owed lay lines ≡ None → reply.client.0 ≡ c → reply.call ≡ answered lines c → IsRight lay tries c (history lay.mode lines) (start lay.mode lines c) (linked calls lay.mode lines c) command reply.answer → Tells (client_view lay tries calls lines c) c command reply.answer → HasItsEntry (enters command reply.answer) (won lay lines c) → next_command calls lines c ≡ Some command → begin lines c ≡ Some reply.begin → reply.end ≡ turns lines
     → IsMomentBy calls lines changes command reply.answer reply.begin reply.end (won lay lines c) reply.moment → IsPlaced lay calls lines reply command
 placed lay tries calls words lines changes reply c (Map (InsertOf key value)) x entries owed own called right tells entry is begin end moment = insert_placed lay tries calls lines changes reply c key value reply.answer (edit_reply lay tries calls words lines changes reply c (Map (InsertOf key value)) x (sym (command_mode lay.mode calls c _ (Map (InsertOf key value)) x.of_mode is)) entries owed own called right tells entry is begin end moment) refl
 placed lay tries calls words lines changes reply c (Map (DeleteOf key)) x entries owed own called right tells entry is begin end moment = delete_placed lay tries calls lines changes reply c key reply.answer (edit_reply lay tries calls words lines changes reply c (Map (DeleteOf key)) x (sym (command_mode lay.mode calls c _ (Map (DeleteOf key)) x.of_mode is)) entries owed own called right tells entry is begin end moment) refl
+placed lay tries calls words lines changes reply c (Map PopFirstOf) x entries owed own called right tells entry is begin end moment =
+    let mode = sym (command_mode lay.mode calls c _ (Map PopFirstOf) x.of_mode is) in
+    pop_placed lay tries calls words lines changes reply reply.answer x (edit_reply lay tries calls words lines changes reply reply.client.0 (Map PopFirstOf) x mode entries owed refl (rw own called) (rw own right) (rw own tells) (rw own entry) (rw own is) (rw own begin) end (rw own moment)) refl
+placed lay tries calls words lines changes reply c (Map (ReplaceIfOf key expected put)) x entries owed own called right tells entry is begin end moment =
+    let mode = sym (command_mode lay.mode calls c _ (Map (ReplaceIfOf key expected put)) x.of_mode is) in
+    replace_placed lay tries calls lines changes reply key expected put (edit_reply lay tries calls words lines changes reply reply.client.0 (Map (ReplaceIfOf key expected put)) x mode entries owed refl (rw own called) (rw own right) (rw own tells) (rw own entry) (rw own is) (rw own begin) end (rw own moment)) reply.answer refl
 placed lay tries calls words lines changes reply c (Map (GetOf key)) x entries owed own called right tells entry is begin end moment =
     let mode = sym (command_mode lay.mode calls c _ (Map (GetOf key)) x.of_mode is) in
     get_reads lay tries calls words lines changes reply key x mode (entries mode) owed (rw own called) (rw own right) (rw own entry) (rw own is) (rw own begin) end (rw own moment)

@@ -1,5 +1,5 @@
 -- The turn of a client that makes a step.
-use Rattle.std.proofs.Common.{◌≡◌, ℕ, true, ◌≤◌, ◌≢◌, ◌⊎◌, inl, inr, ⊎_elim, List, ◌∷◌, set, length, Option, Some, None, MatchOption, IsSome, drop, All, get_or, slice_get, unwrap_or, refl, sym, ◌∙◌, ap, subst, eq-eqb, arith, [], ◌++◌, IfSome}
+use Rattle.std.proofs.Common.{◌≡◌, ℕ, suc, true, ◌≤◌, ◌≢◌, ◌⊎◌, inl, inr, ⊎_elim, List, ◌∷◌, set, length, Option, Some, None, MatchOption, IsSome, All, get_or, slice_get, unwrap_or, refl, sym, ◌∙◌, ap, subst, eq-eqb, arith, [], ◌++◌, IfSome}
 use native.Mathlib.Decide.{ℕ_discrete}
 use Rattle.arena.specs.Fills.{IsOwnScx}
 use Rattle.arena.specs.declared.layout.Layout.{Layout}
@@ -16,29 +16,28 @@ use Rattle.arena.specs.PlainWords.{Contents, word_at, IsChanged}
 use Rattle.arena.specs.History.{◌⊳◌, value}
 use Rattle.arena.specs.Lawful.{IsLawful, IsWin}
 use Rattle.arena.specs.Machines.{IsRun, IsTold}
-use Rattle.histories.proofs.Lemmas.{facts_before, lawful_row, update_win}
-use Rattle.arena.specs.declared.limits.Mode.TheVariants.{Records, Tree}
+use Rattle.histories.proofs.Lemmas.{UpdateWins, facts_before, lawful_row, update_win}
+use Rattle.arena.specs.declared.limits.Mode.TheVariants.{Tree}
 use Rattle.player.specs.Allowed.{PlayedAllows}
 use Rattle.ordered_map.specs.FillOrder.{IsFillInOrder}
 use Rattle.player.proofs.InOrder.{run_in_order}
-use Rattle.player.proofs.MapCalls.{command_mode}
-use Rattle.player.proofs.Commands.{none_left, next_at}
-use Rattle.player.specs.Place.{IsNextCallAt}
-use Rattle.ordered_map.specs.OrderedMap.{MapCall, MapEdit, edit_key, value_left, Edit as EditCall}
+use Rattle.ordered_map.specs.declared.pair.Pair.{Pair}
+use Rattle.ordered_map.specs.OrderedMap.{MapCall, MapEdit, OneValue, Edit as EditCall, Insert, Delete, PopFirst, ReplaceIf, Get, Successor, Range, edit_key, edit_of, get, reply, value_left}
 use Rattle.ordered_map.specs.Requests.{map_request}
 use Rattle.moments.specs.declared.places.Change.{Change}
 use Rattle.moments.specs.declared.places.Places.{Places}
-use Rattle.moments.specs.Changed.{changed_key}
+use Rattle.moments.specs.Changed.{changed_key, edit_on}
 use Rattle.moments.specs.Places.{changes, Knows, HoldsOfKey}
-use Rattle.moments.specs.Entries.{AreEntries, IsChangeBy}
-use Rattle.record.specs.MapRecord.{map_call}
-use Rattle.script.specs.declared.command.Command.TheVariants.{Scx as ScxOf, Set as SetOf, Map}
-use Rattle.ordered_map.specs.declared.request.Request.{Request}
+use Rattle.moments.specs.Entries.{AreEntries, AreUpTo, IsChangeBy, IsChangeByEdit}
+use Rattle.moments.proofs.Lemmas.{knows_told, map_now, spelled}
+use Rattle.record.specs.MapRecord.{map_call, map_call_of, map_of, written_log}
+use Rattle.record.specs.LawfulRun.{AreLines}
+use Rattle.script.specs.declared.command.Command.TheVariants.{Map}
 use Rattle.script.specs.declared.call.Call.{Call}
 use Rattle.script.specs.declared.command.Command.{Command}
 use Rattle.record.specs.declared.record.Line.{Line}
 use Rattle.record.specs.declared.record.Line.TheVariants.{Step, Log, Reply as ReplyLine}
-use Rattle.record.specs.declared.record.Row.TheVariants.{Step as Made}
+use Rattle.record.specs.declared.record.Row.TheVariants.{Step as Made, Idle}
 use Rattle.record.specs.declared.record.Finished.{Finished}
 use Rattle.record.specs.declared.record.Entry.{Entry}
 use Rattle.record.specs.declared.record.Answer.{Answer}
@@ -50,21 +49,23 @@ use Rattle.player.specs.Player.{ScriptView, script_view}
 use Rattle.arena.specs.TakenNodes.{taken_nodes}
 use Rattle.record.specs.Turns.{history, turns, answered, clients, begin, start, won, last_client, entry_of, entry_owed}
 use Rattle.record.specs.Commands.{commands}
-use Rattle.record.specs.Rules.Map.{IsMapEntry}
 use Rattle.record.specs.CommandRules.{MayAnswerAfterStep, HasTakenFew, enters, IsRight, IsEntryFor}
 use Rattle.record.specs.Linked.{linked}
 use Rattle.player.proofs.Editing.{run_says}
 use Rattle.player.proofs.Placing.{done_enters}
 use Rattle.record.specs.Replies.{IsFitting, IsReplyOwed}
 use Rattle.record.specs.Entries.{IsWinOf}
-use Rattle.player.specs.ClientView.{ClientView, client_view, Tells, IsSound, Hears, IsClient, GoesOn, EndsCall, machine_call}
-use Rattle.player.specs.BetweenTurns.{IsLawfulSoFar, IsTurnOf, AreBetweenTurns, IsBetweenTurns, IsStepAsked, IsEnd, AreWins, ArePlaces, IsAtEdit}
+use Rattle.player.specs.RunKnown.{edit_in_hand}
+use Rattle.player.specs.ClientView.{ClientView, client_edit, client_view, running_edit, Tells, IsSound, Hears, IsClient, GoesOn, EndsCall, WaitsForStep, machine_call}
+use Rattle.player.specs.BetweenTurns.{IsLawfulSoFar, IsTurnOf, AreBetweenTurns, IsBetweenTurns, IsStepAsked, IsEnd, AreWins, ArePlaces, IsAtEdit, IsOwned, owners_edit}
 use Rattle.player.proofs.Views.{own_row, step_sound, hears}
 use Rattle.player.proofs.Middles.{IsOver, get_there, others_step, others_log, so_far_same, step_made, turn_changed, turn_ends, replied}
 use Rattle.player.proofs.MayMakes.{may_make}
-use Rattle.record.proofs.Lemmas.{begin_within}
-use Rattle.player.proofs.Winners.{IsEntryOfWin, entry_wins, tells_won}
-use Rattle.player.proofs.Entered.{IsEntryFrom, entry_by_others, entry_by_own, rest_wins_not}
+use Rattle.record.proofs.Lemmas.{begin_within, log_step}
+use Rattle.player.proofs.Keys.{command_key, edit_of_key, some_edit}
+use Rattle.player.proofs.MapCalls.{map_calls, tree_run}
+use Rattle.player.proofs.Winners.{IsEntryOfWin, entry_wins, tells_won, win_enters}
+use Rattle.player.proofs.Entered.{IsEditOfCall, IsEntryFrom, edit_entered, entry_by_others, entry_by_own, in_hand_tree, rest_wins_not}
 
 -- the client that makes the turn is about to hear what its step found; turn number `number` has
 -- been written down in full
@@ -93,6 +94,44 @@ begun_at lines number c (inr e) = rw e refl
 -- equal parts make equal rows
 row_same : (pass : PassNo) (c call call' : ℕ) (kind : Kind) (word : Word) (before before' after after' : ℕ) → pass.0 ≡ c → call ≡ call' → before ≡ before' → after ≡ after' → (let r : Row = record { pass = pass; call = call; kind = kind; word = word; before = before; after = after } in r) ≡ record { pass = record { 0 = c }; call = call'; kind = kind; word = word; before = before'; after = after' }
 row_same pass c call call' kind word before before' after after' p k b a = rw (k, b, a) (ap (λ (n : ℕ). let r : Row = record { pass = record { 0 = n }; call = call'; kind = kind; word = word; before = before'; after = after' } in r) p)
+
+-- the change that an edit makes in a turn
+abbrev change_of : ℕ → MapEdit → Change
+change_of turn edit = record { turn = turn; key = edit_key edit; value = value_left edit }
+
+some_entry : (a b : Entry) → Some a ≡ Some b → a ≡ b
+some_entry a b e = cc
+
+-- it is that of a call whose reply, on the map just before, says that it has made the edit
+changes_so : (of : MapCall) (edit : MapEdit) (turn : ℕ) (map : List Pair) → edit_of of (reply of map) ≡ Some edit → IsChangeBy (Some of) map (change_of turn edit)
+changes_so of edit turn map e = subst (λ (o : Option MapEdit). IsChangeByEdit o (change_of turn edit)) (sym (on of e)) (refl, refl)
+  where
+    on : (of : MapCall) → edit_of of (reply of map) ≡ Some edit → edit_on of map ≡ Some edit
+    on (EditCall (Insert k x)) e = e
+    on (EditCall (Delete k)) e = go (get k map) e
+      where
+        go : (old : Option ℕ) → edit_of (EditCall (Delete k)) (OneValue old) ≡ Some edit → Some (Delete k) ≡ Some edit
+        go (Some old) e = e
+        go None e = cc
+    on PopFirst e = e
+    on (ReplaceIf k x y) e = e
+    on (Get key) e = e
+    on (Successor key) e = e
+    on (Range low high most) e = e
+
+-- the entries of a record are of turns so far
+up_to : (lay : Layout) (tries : ℕ) (calls : List Call) (lines : List Line) (turn : ℕ) → AreLines lay tries calls lines → turns lines ≤ turn → AreUpTo turn (written_log lines)
+unfolding AreLines
+up_to lay tries calls [] turn x i = tt
+up_to lay tries calls (Step row ∷ lines) turn x i = up_to lay tries calls lines turn x.0 (omega (arith, i))
+up_to lay tries calls (ReplyLine reply ∷ lines) turn x i = up_to lay tries calls lines turn x.0 i
+up_to lay tries calls (Log e ∷ Step (Made n row) ∷ lines) turn x i =
+    let s : e.step ≡ suc (turns lines) = log_step lay tries calls (Step (Made n row) ∷ lines) e x.0 x.1 in
+    (omega (arith, s, i), up_to lay tries calls lines turn x.0.0 (omega (arith, i)))
+up_to lay tries calls (Log e ∷ Step (Idle n client) ∷ lines) turn x i = absurd x.1
+up_to lay tries calls (Log e ∷ Log d ∷ lines) turn x i = absurd x.1
+up_to lay tries calls (Log e ∷ ReplyLine reply ∷ lines) turn x i = absurd x.1
+up_to lay tries calls (Log e ∷ []) turn x i = absurd x.1
 
 module _ (p : Interleaving) (i number : ℕ) (step : Ask) (a : IsStepAsked p i number step) where
   abbrev lay : Layout
@@ -205,54 +244,107 @@ module _ (p : Interleaving) (i number : ℕ) (step : Ask) (a : IsStepAsked p i n
           let other = a.turn.others entry.client.0 there.0 d there.1 in
           win_of entry w.0 w.1 there.0 other.0 (of_other there.0 other.0 d other.1) (λ z. has_begun there.0 other.0 d other.1)
 
-  -- on the tree the entry is of the edit at which its client stands
-  at_edit : (entry : Entry) (c : Client) → slice_get p.clients.items entry.client.0 ≡ Some c → c.pass.0 ≡ entry.client.0 → c.number ≡ answered lines entry.client.0 → IsNextCallAt calls c.pass.0 (drop c.number (commands calls c.pass.0)) c.next → IsWinOf lay calls lines made entry → lay.mode ≡ Tree → IsAtEdit calls p.clients.items entry
-  at_edit entry c there is number place w tree = by_command w.command w.is w.does
+  -- the row makes an update of this client's win, which waits for a step
+  record IsOwner (entry : Entry) : Type 0 where
+    client : Client
+    there : slice_get p.clients.items entry.client.0 ≡ Some client
+    pass : client.pass.0 ≡ entry.client.0
+    running : Running
+    runs : client.running ≡ Some running
+    waits : WaitsForStep (client_view lay tries calls lines entry.client.0) client running
+    scx : ℕ
+    wins : UpdateWins (history lay.mode lines) made scx
+    own : IsOwnScx lay client.pass.0 scx
+
+  owner_of : (entry : Entry) → entry_of lay lines number made ≡ Some entry → IsOwner entry
+  owner_of entry e = go (ℕ_discrete entry.client.0 a.client.pass.0)
     where
-      own : slice_get (commands calls entry.client.0) (answered lines entry.client.0) ≡ slice_get (commands calls c.pass.0) c.number
-      own = ap (λ (k : ℕ). slice_get (commands calls k) (answered lines entry.client.0)) (sym is) ∙ ap (λ (k : ℕ). slice_get (commands calls c.pass.0) k) (sym number)
+      w : (s : ℕ) × IsEntryOfWin lay (history lay.mode lines) made entry s
+      w = entry_wins lay lines number made sound.lawful entry e
 
-      stands : (command : Command) (e : MapEdit) → map_call (Some command) ≡ Some (EditCall e) → slice_get (commands calls entry.client.0) (answered lines entry.client.0) ≡ Some command → (next : Option ℕ) → c.next ≡ next → IsAtEdit calls p.clients.items entry
-      stands command e is_edit here None q =
-          let none : slice_get (commands calls entry.client.0) (answered lines entry.client.0) ≡ None = own ∙ none_left calls c.pass.0 c.number (rw q at place) in
-          absurd (let z : None ≡ Some command = sym none ∙ here in cc)
-      stands command e is_edit here (Some at) q =
-          let y = next_at calls c.pass.0 c.number at (rw q at place) in
-          let z : slice_get (commands calls entry.client.0) (answered lines entry.client.0) ≡ Some y.0.command = own ∙ y.3 in
-          record { client = c; there = there; at = at; next = q; call = y.0; here = y.1; edit = e; command = ap map_call (sym z ∙ here) ∙ is_edit; edits = ap (λ (j : ℕ). map_call (slice_get (commands calls entry.client.0) j)) w.call ∙ ap map_call here ∙ is_edit }
+      of_other : (c : Client) → slice_get p.clients.items entry.client.0 ≡ Some c → c.pass.0 ≡ entry.client.0 → IsClient (client_view lay tries calls lines entry.client.0) (begin lines entry.client.0) c → IsOwner entry
+      of_other c there is (inr (q, runs, x, b)) = record { client = c; there = there; pass = is; running = q; runs = runs; waits = x; scx = w.0; wins = w.1.wins; own = subst (λ (k : ℕ). IsOwnScx lay k w.0) (sym is) w.1.own }
+      of_other c there is (inl (x, b)) = absurd (rest_wins_not (client_view lay tries calls lines entry.client.0) c a.turn.so_far.sound made w.0 sound.lawful w.1.wins (subst (λ (k : ℕ). IsOwnScx lay k w.0) (sym is) w.1.own) x)
 
-      by_call : (request : Request ℕ ℕ) (call : MapCall) → map_request request ≡ call → slice_get (commands calls entry.client.0) (answered lines entry.client.0) ≡ Some (Map request) → IsMapEntry call lay (history lay.mode lines) w.entered → IsAtEdit calls p.clients.items entry
-      by_call request (EditCall e) same here does = stands (Map request) e (ap (λ (k : MapCall). Some k) same) here c.next refl
-      by_call request call same here does = absurd does
-
-      by_command : (command : Command) → slice_get (commands calls entry.client.0) (answered lines entry.client.0) ≡ Some command → IsEntryFor lay entry.client.0 (history lay.mode lines) (start lay.mode lines entry.client.0) (linked calls lay.mode lines entry.client.0) w.entered command → IsAtEdit calls p.clients.items entry
-      by_command (Map request) here does = by_call request (map_request request) refl here does
-      by_command (ScxOf update) here does = absurd (let z : Records ≡ Tree = command_mode lay.mode calls entry.client.0 _ (ScxOf update) a.turn.so_far.of_mode here ∙ tree in cc)
-      by_command (SetOf field put) here does = absurd (let z : Records ≡ Tree = command_mode lay.mode calls entry.client.0 _ (SetOf field put) a.turn.so_far.of_mode here ∙ tree in cc)
-      by_command command here does = absurd does
-
-  asked_edit : (entry : Entry) → entry_of lay lines number made ≡ Some entry → lay.mode ≡ Tree → IsAtEdit calls p.clients.items entry
-  asked_edit entry e tree = go (ℕ_discrete entry.client.0 a.client.pass.0)
-    where
-      w : IsWinOf lay calls lines made entry
-      w = log_entry entry e
-
-      go : Dec (entry.client.0 ≡ a.client.pass.0) → IsAtEdit calls p.clients.items entry
-      go (yes is) =
-          at_edit entry a.client (ap (λ (k : ℕ). slice_get p.clients.items k) is ∙ a.turn.own) (sym is) (a.waits.works.stands.number ∙ ap (λ (k : ℕ). answered lines k) (sym is)) a.waits.works.stands.place w tree
+      go : Dec (entry.client.0 ≡ a.client.pass.0) → IsOwner entry
+      go (yes is) = record {
+        client = a.client;
+        there = ap (λ (k : ℕ). slice_get p.clients.items k) is ∙ a.turn.own;
+        pass = sym is;
+        running = a.running;
+        runs = a.runs;
+        waits = subst (λ (k : ℕ). WaitsForStep (client_view lay tries calls lines k) a.client a.running) (sym is) a.waits;
+        scx = w.0;
+        wins = w.1.wins;
+        own = subst (λ (k : ℕ). IsOwnScx lay k w.0) is w.1.own;
+      }
       go (no d) =
-          let own = (entry_wins lay lines number made sound.lawful entry e).1 in
-          let there = get_there p.clients.items entry.client.0 (omega (arith, own.is_pass, p.all_clients, p.clients.ok.0)) in
+          let there = get_there p.clients.items entry.client.0 (omega (arith, w.1.is_pass, p.all_clients, p.clients.ok.0)) in
           let other = a.turn.others entry.client.0 there.0 d there.1 in
           of_other there.0 there.1 other.0 other.1
-        where
-          of_other : (c : Client) → slice_get p.clients.items entry.client.0 ≡ Some c → c.pass.0 ≡ entry.client.0 → IsClient (client_view lay tries calls lines entry.client.0) (begin lines entry.client.0) c → IsAtEdit calls p.clients.items entry
-          of_other c at is (inl x) = at_edit entry c at is x.0.stands.number x.0.stands.place w tree
-          of_other c at is (inr x) = at_edit entry c at is x.2.works.stands.number x.2.works.stands.place w tree
+
+  -- the edit of an owner's machine is that of the owner
+  has_edit : (entry : Entry) (o : IsOwner entry) (edit : MapEdit) → edit_in_hand o.running.run ≡ Some edit → owners_edit p.clients.items entry.client.0 ≡ Some edit
+  has_edit entry o edit is = ap client_edit o.there ∙ ap running_edit o.runs ∙ is
+
+  -- on the tree the entry is of the edit that its client has in hand
+  module _ (entry : Entry) (e : entry_of lay lines number made ≡ Some entry) (tree : lay.mode ≡ Tree) where
+    o : IsOwner entry
+    o = owner_of entry e
+
+    x : IsEditOfCall (client_view lay tries calls lines entry.client.0) o.client o.running
+    x = edit_entered (client_view lay tries calls lines entry.client.0) o.client o.running made o.scx a.turn.so_far.sound o.waits sound o.wins o.own tree
+
+    -- the map just before
+    map_before : List Pair
+    map_before = map_of calls (written_log lines)
+
+    gives : edit_of (map_request x.request) (reply (map_request x.request) map_before) ≡ Some x.edit
+    gives = x.gives map_before (spelled lay tries calls tree (map_calls lay.mode calls tree a.turn.so_far.of_mode) lines a.turn.so_far.in_order (tree_run lay (history lay.mode lines) tree a.turn.so_far.sound) a.settled.entry)
+
+    place : slice_get (commands calls entry.client.0) entry.call ≡ Some (Map x.request)
+    place = ap (λ (j : ℕ). slice_get (commands calls entry.client.0) j) (log_entry entry e).call ∙ ap (λ (k : ℕ). slice_get (commands calls k) (answered lines entry.client.0)) (sym o.pass) ∙ x.is
+
+    call_is : map_call_of calls entry.client.0 entry.call ≡ Some (map_request x.request)
+    call_is = ap map_call place
+
+    -- the entry is of this turn
+    late : turns lines ≤ entry.step
+    late =
+        let w = entry_wins lay lines number made sound.lawful entry e in
+        let y = win_enters lay lines number made sound.lawful w.0 w.1.wins in
+        let step : entry.step ≡ number = ap (λ (k : Entry). k.step) (some_entry entry y.entry (sym e ∙ y.is)) ∙ y.step_is in
+        let n = a.in_turn in
+        omega (arith, step, n)
+
+    key_known : (places : Places) → ArePlaces lay calls lines places → Knows places (edit_key x.edit)
+    key_known places y =
+        ⊎_elim (λ z. subst (λ (k : Option ℕ). IfSome k (Knows places)) z (command_key calls entry.client.0 entry.call (Knows places) (Map x.request) y.keys place)) (λ z. knows_told places calls lines (turns lines) (edit_key x.edit) z.0 (y.entries tree) (ap (get (edit_key x.edit)) (map_now lay tries calls lines a.turn.so_far.in_order) ∙ z.1))
+        (edit_of_key (map_request x.request) x.edit map_before gives)
+
+    asked_edit : IsAtEdit lay calls lines p.clients.items entry
+    asked_edit = record {
+      edit = x.edit;
+      is = has_edit entry o x.edit x.in_hand;
+      by = (refl, subst (λ (k : Option MapCall). IsChangeBy k map_before (change_of entry.step x.edit)) (sym call_is) (changes_so (map_request x.request) x.edit entry.step map_before gives), up_to lay tries calls lines entry.step a.turn.so_far.in_order late);
+      known = key_known;
+    }
+
+  -- and on cells none has one
+  asked_tree : (entry : Entry) → entry_of lay lines number made ≡ Some entry → (edit : MapEdit) → owners_edit p.clients.items entry.client.0 ≡ Some edit → lay.mode ≡ Tree
+  asked_tree entry e edit is =
+      let o = owner_of entry e in
+      in_hand_tree (client_view lay tries calls lines entry.client.0) o.client o.running edit o.waits (sym (ap client_edit o.there ∙ ap running_edit o.runs) ∙ is)
 
   -- with the row that the player writes down
-  pub asked_owner : (row : Row) (after : List Line) → row ≡ made → after ≡ Step (Made number row) ∷ lines → (entry : Entry) → entry_owed lay after ≡ Some entry → lay.mode ≡ Tree → IsAtEdit calls p.clients.items entry
-  asked_owner row after e is entry owed = asked_edit entry (ap (λ (r : Row). entry_of lay lines number r) (sym e) ∙ ap (λ (l : List Line). entry_owed lay l) (sym is) ∙ owed)
+  pub asked_owner : (row : Row) (after : List Line) → row ≡ made → after ≡ Step (Made number row) ∷ lines → (entry : Entry) → entry_owed lay after ≡ Some entry → IsOwned lay calls after p.clients.items entry
+  asked_owner row after e is entry owed =
+      let there : entry_of lay lines number made ≡ Some entry = ap (λ (r : Row). entry_of lay lines number r) (sym e) ∙ ap (λ (l : List Line). entry_owed lay l) (sym is) ∙ owed in
+      subst (λ (l : List Line). IsOwned lay calls l p.clients.items entry) (sym is)
+      record {
+        edits = λ tree. let x = asked_edit entry there tree in record { edit = x.edit; is = x.is; by = x.by; known = λ places y. x.known places record { entries = y.entries; keys = y.keys } };
+        tree = asked_tree entry there;
+      }
 
   -- with its entry written down, if there is one, the client hears
   pub asked_heard : (words : Contents) (after : List Line) → IsChanged p.words words made.word made.after → MatchOption (entry_owed lay (Step (Made number made) ∷ lines)) (after ≡ Step (Made number made) ∷ lines) (λ e. after ≡ Log e ∷ Step (Made number made) ∷ lines) → IsHeard lay tries calls words p.clients.items after a.client a.running made.before number
@@ -356,13 +448,21 @@ pub places_roomy : (lay : Layout) (calls : List Call) (lines : List Line) (old n
 places_roomy lay calls lines old new same more x = record { entries = λ tree. rw same (x.entries tree); keys = keys_kept old new calls more x.keys }
 
 -- an entry is kept with the change of its edit
-pub places_logged : (lay : Layout) (calls : List Call) (clients : List Client) (lines : List Line) (e : Entry) (old new : Places) → (lay.mode ≡ Tree → IsAtEdit calls clients e) → ((x : IsAtEdit calls clients e) → changes new ≡ record { turn = e.step; key = edit_key x.edit; value = value_left x.edit } ∷ changes old) → ((key : ℕ) → Knows old key → Knows new key) → ArePlaces lay calls lines old → ArePlaces lay calls (Log e ∷ lines) new
-places_logged lay calls clients lines e old new owner change more p = record { entries = λ tree. entries tree (owner tree); keys = keys_kept old new calls more p.keys }
+pub places_logged : (lay : Layout) (calls : List Call) (clients : List Client) (lines : List Line) (e : Entry) (old new : Places) → IsOwned lay calls lines clients e → ((edit : MapEdit) → owners_edit clients e.client.0 ≡ Some edit → changes new ≡ change_of e.step edit ∷ changes old) → ((key : ℕ) → Knows old key → Knows new key) → ArePlaces lay calls lines old → ArePlaces lay calls (Log e ∷ lines) new
+places_logged lay calls clients lines e old new owned change more p = record { entries = λ tree. entries tree (owned.edits tree); keys = keys_kept old new calls more p.keys }
   where
-    entries : lay.mode ≡ Tree → IsAtEdit calls clients e → AreEntries calls (Log e ∷ lines) (changes new)
-    entries tree x =
-        let c : Change = record { turn = e.step; key = edit_key x.edit; value = value_left x.edit } in
-        rw (change x) ((refl, subst (λ (o : Option MapCall). IsChangeBy o c) (sym x.edits) (refl, refl)), p.entries tree)
+    entries : lay.mode ≡ Tree → IsAtEdit lay calls lines clients e → AreEntries calls (Log e ∷ lines) (changes new)
+    entries tree x = rw (change x.edit x.is) (x.by, p.entries tree)
+
+-- its key may be changed
+pub place_known : (lay : Layout) (calls : List Call) (clients : List Client) (lines : List Line) (e : Entry) (places : Places) → IsOwned lay calls lines clients e → ArePlaces lay calls lines places → IfSome (owners_edit clients e.client.0) (λ (edit : MapEdit). Knows places (edit_key edit))
+place_known lay calls clients lines e places owned p = go (owners_edit clients e.client.0) refl
+  where
+    go : (edit : Option MapEdit) → owners_edit clients e.client.0 ≡ edit → IfSome edit (λ (d : MapEdit). Knows places (edit_key d))
+    go None is = tt
+    go (Some edit) is =
+        let x = owned.edits (owned.tree edit is) in
+        subst (λ (d : MapEdit). Knows places (edit_key d)) (some_edit x.edit edit (sym x.is ∙ is)) (x.known places p)
 
 -- the turns are one more, whatever else is written down behind the row
 pub turns_logged : (lay : Layout) (pushed after : List Line) → MatchOption (entry_owed lay pushed) (after ≡ pushed) (λ e. after ≡ Log e ∷ pushed) → clients after ≡ clients pushed

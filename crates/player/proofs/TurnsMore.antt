@@ -12,7 +12,7 @@ use Rattle.script.specs.Commands.{AsksForFewPairs}
 use Rattle.script.specs.declared.call.Call.{Call}
 use Rattle.script.specs.declared.command.Command.{Command}
 use Rattle.script.specs.declared.command.Command.TheVariants.{Llx, Scx, Vlx, Set, Map}
-use Rattle.ordered_map.specs.declared.request.Request.TheVariants.{Insert, Delete, Get, Successor, Range}
+use Rattle.ordered_map.specs.declared.request.Request.TheVariants.{Insert, Delete, PopFirst, ReplaceIf, Get, Successor, Range}
 use Rattle.record.specs.declared.record.Line.{Line}
 use Rattle.record.specs.declared.record.Line.TheVariants.{Step, Log, Reply}
 use Rattle.record.specs.declared.record.Finished.{Finished}
@@ -160,6 +160,8 @@ most_few lay tries (Vlx cells) taken small i = let few = cells.few in grind (ari
 most_few lay tries (Set field value) taken few i = omega arith
 most_few lay tries (Map (Insert key value)) taken few i = let more : tries * (3 * (2 + taken) + 178) ≤ tries * (4422 * (2 + lay.passes * lay.nodes) + 301) = mul-le-mul_left tries (omega (arith, i)) in omega (arith, more)
 most_few lay tries (Map (Delete key)) taken few i = let more : tries * (3 * (2 + taken) + 301) ≤ tries * (4422 * (2 + lay.passes * lay.nodes) + 301) = mul-le-mul_left tries (omega (arith, i)) in omega (arith, more)
+most_few lay tries (Map PopFirst) taken few i = let more : tries * (3 * (2 + taken) + 301) ≤ tries * (4422 * (2 + lay.passes * lay.nodes) + 301) = mul-le-mul_left tries (omega (arith, i)) in omega (arith, more)
+most_few lay tries (Map (ReplaceIf key expected value)) taken few i = let more : tries * (3 * (2 + taken) + 178) ≤ tries * (4422 * (2 + lay.passes * lay.nodes) + 301) = mul-le-mul_left tries (omega (arith, i)) in omega (arith, more)
 most_few lay tries (Map (Get key)) taken few i = omega (arith, i)
 most_few lay tries (Map (Successor key)) taken few i = let more : tries * (137 * (2 + taken)) ≤ tries * (4422 * (2 + lay.passes * lay.nodes) + 301) = mul-le-mul_left tries (omega (arith, i)) in omega (arith, more)
 most_few lay tries (Map (Range low high most)) taken few i =

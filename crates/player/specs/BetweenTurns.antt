@@ -24,16 +24,16 @@ use Rattle.player.specs.declared.client.Client.{Client}
 use Rattle.player.specs.Player.{PlayerView, script_view}
 use Rattle.player.specs.declared.interleaving.Interleaving.{Interleaving}
 use Rattle.record.specs.Turns.{history, begin, turns, won}
-use Rattle.ordered_map.specs.OrderedMap.{MapEdit, Edit}
+use Rattle.ordered_map.specs.OrderedMap.{MapEdit, edit_key, value_left}
 use Rattle.record.specs.declared.record.Entry.{Entry}
-use Rattle.record.specs.MapRecord.{map_call, map_call_of}
+use Rattle.record.specs.MapRecord.{written_log}
 use Rattle.moments.specs.declared.places.Change.{Change}
 use Rattle.moments.specs.declared.places.Places.{Places}
 use Rattle.moments.specs.Places.{changes, Knows, HoldsOfKey}
-use Rattle.moments.specs.Entries.{AreEntries}
+use Rattle.moments.specs.Entries.{AreEntries, IsChangeOf}
 use Rattle.player.specs.Moments.{IsMomentBy}
 use Rattle.record.specs.LawfulRun.{AreLines, OwesNothing}
-use Rattle.player.specs.ClientView.{client_view, IsClient, WaitsForStep, IsAtNextCall}
+use Rattle.player.specs.ClientView.{client_edit, client_view, IsClient, WaitsForStep, IsAtNextCall}
 
 -- the words hold what the steps have left in them, the steps
 -- are a lawful run, and the lines fit one by one
@@ -107,17 +107,22 @@ pub record IsMade (p : Interleaving) (number : ℕ) (row : Row) : Type 0 where
   pub lines : newest p.lines ≡ Step (Made number row) ∷ older
   pub so_far : IsLawfulSoFar p.script.layout p.script.limits.tries p.script.calls.items p.words (newest p.lines)
 
--- the entry is of the edit at which its client stands
-pub record IsAtEdit (calls : List Call) (clients : List Client) (e : Entry) : Type 0 where
-  pub client : Client
-  pub there : slice_get clients e.client.0 ≡ Some client
-  pub at : ℕ
-  pub next : client.next ≡ Some at
-  pub call : Call
-  pub here : slice_get calls at ≡ Some call
+-- the edit that the machine of client c has in hand, if it has one
+abbrev pub owners_edit : List Client → ℕ → Option MapEdit
+owners_edit clients c = client_edit (slice_get clients c)
+
+-- the entry is of the edit that its client's machine has in hand: that is the change of its call,
+-- and one of a key that may be changed
+pub record IsAtEdit (lay : Layout) (calls : List Call) (lines : List Line) (clients : List Client) (e : Entry) : Type 0 where
   pub edit : MapEdit
-  pub command : map_call (Some call.command) ≡ Some (Edit edit)
-  pub edits : map_call_of calls e.client.0 e.call ≡ Some (Edit edit)
+  pub is : owners_edit clients e.client.0 ≡ Some edit
+  pub by : IsChangeOf calls (written_log lines) e record { turn = e.step; key = edit_key edit; value = value_left edit }
+  pub known : (places : Places) → ArePlaces lay calls lines places → Knows places (edit_key edit)
+
+-- so it is on the tree; on cells no machine has an edit in hand
+pub record IsOwned (lay : Layout) (calls : List Call) (lines : List Line) (clients : List Client) (e : Entry) : Type 0 where
+  pub edits : lay.mode ≡ Tree → IsAtEdit lay calls lines clients e
+  pub tree : (edit : MapEdit) → owners_edit clients e.client.0 ≡ Some edit → lay.mode ≡ Tree
 
 -- the reply ends the client's call in this turn; `won` is the turn of its last update that has won
 pub record IsEnd (calls : List Call) (lines : List Line) (changes : List Change) (old new : Client) (turn : ℕ) (answer : Answer) (won : Option ℕ) (reply : Finished) : Type 0 where

@@ -1,5 +1,5 @@
 -- What a client knows at a moment of the run, and what a turn of it leaves.
-use Rattle.std.specs.Prelude.{◌≡◌, ◌≢◌, ℕ, suc, ◌+◌, ◌^◌, ◌<◌, ◌≤◌, ◌⊎◌, ◌↔◌, true, List, [], ◌∷◌, length, drop, Option, Some, None, slice_get, unwrap_or, IsSome}
+use Rattle.std.specs.Prelude.{◌≡◌, ◌≢◌, ℕ, suc, ◌+◌, ◌^◌, ◌<◌, ◌≤◌, ◌⊎◌, ◌↔◌, Bool, true, false, List, [], ◌∷◌, length, drop, Option, Some, None, slice_get, unwrap_or, IsSome}
 use Rattle.std.specs.List.{Contains}
 use Rattle.arena.specs.TakenNodes.{taken_nodes}
 use Rattle.arena.specs.declared.word.Side.{Side}
@@ -24,7 +24,7 @@ use Rattle.prims.specs.Updates.{update_field_index}
 use Rattle.prims.specs.declared.put.PutRun.{PutRun}
 use Rattle.prims.specs.declared.snap.Snap.{Snap}
 use Rattle.moments.specs.Replied.{HasReplied}
-use Rattle.ordered_map.specs.OrderedMap.{MapCall, Successor, Range, MapReply, get, reply}
+use Rattle.ordered_map.specs.OrderedMap.{MapCall, MapEdit, MapReply, changes_map, reply}
 use Rattle.ordered_map.specs.Spelled.{Spells}
 use Rattle.ordered_map.specs.declared.pair.Pair.{Pair}
 use Rattle.script.specs.declared.call.Call.{Call}
@@ -32,9 +32,7 @@ use Rattle.script.specs.declared.command.Command.{Command}
 use Rattle.script.specs.declared.command.Command.TheVariants.{Llx as LlxOf, Scx as ScxOf, Vlx as VlxOf, Set as SetOf, Map as MapOf}
 use Rattle.ordered_map.specs.Requests.{map_request}
 use Rattle.ordered_map.specs.declared.request.Request.{Request}
-use Rattle.ordered_map.specs.declared.request.Request.TheVariants.{Insert as InsertOf, Delete as DeleteOf, Successor as SuccessorOf, Range as RangeOf}
 use Rattle.record.specs.declared.record.Line.{Line}
-use Rattle.ordered_map.specs.declared.reply.Reply.TheVariants.{Value}
 use Rattle.record.specs.declared.record.Answer.{Answer}
 use Rattle.script.specs.Cells.{cells_of}
 use Rattle.script.specs.Update.{update_cells, update_finalize, update_field, update_value}
@@ -48,7 +46,7 @@ use Rattle.player.specs.declared.client.NextAction.{NextAction}
 use Rattle.player.specs.declared.client.NextAction.TheVariants.{Finished, Answers, Asks}
 use Rattle.player.specs.declared.run.Ended.{Ended}
 use Rattle.player.specs.Allowed.{PlayedAllows}
-use Rattle.player.specs.RunKnown.{RunIsReady, RunWaits, RunAnswers, run_mode, share_behind}
+use Rattle.player.specs.RunKnown.{RunIsReady, RunWaits, RunAnswers, edit_in_hand, run_mode, share_behind}
 use Rattle.player.specs.RunSteps.{then_left, left_of}
 use Rattle.player.specs.KeptSnaps.{AreKept, IsUnspent, kept_of}
 use Rattle.player.specs.Place.{IsNextCallAt}
@@ -183,6 +181,16 @@ pub record HoldsShare (v : ClientView) (c : Client) (hand : Hand) : Type 0 where
 abbrev pub Holds : ClientView → Client → Run → Type 0
 Holds v c (Map m) = Unit {0}
 Holds v c run = HoldsShare v c (in_hand (held c) run)
+
+-- the edit of the map that a machine which runs has in hand, if one runs that has
+abbrev pub running_edit : Option Running → Option MapEdit
+running_edit (Some running) = edit_in_hand running.run
+running_edit None = None
+
+-- that a client's machine has in hand, if there is such a client
+abbrev pub client_edit : Option Client → Option MapEdit
+client_edit (Some c) = running_edit c.running
+client_edit None = None
 
 -- no machine of the client runs, and it has nothing in hand
 pub record Rests (v : ClientView) (c : Client) : Type 0 where
@@ -371,26 +379,31 @@ pub record Refuses (v : ClientView) (c : Client) (answer : Answer) : Type 0 wher
 abbrev pub linked_by : ClientView → Command → Answer → ℕ → Option History
 linked_by v command answer n = linked_then (Some command) answer v.past n (v.linked n)
 
--- an edit of the key is done by one row of the call, just before which the map had this there
-pub record HasEditedKey (v : ClientView) (c key : ℕ) (old : Option ℕ) : Type 0 where
+-- the call has changed the map by one row of its own, just before which the map replies this to it
+pub record IsToldChange (v : ClientView) (c : ℕ) (call : MapCall) (told : MapReply) : Type 0 where
   pub row : Row
   pub before : History
   pub scx : ℕ
   pub win : IsOwnWin v c row before scx
-  pub told : (map : List Pair) → Spells v.layout (value before) map → get key map ≡ old
+  pub replies : (map : List Pair) → Spells v.layout (value before) map → reply call map ≡ told
 
--- what a call tells the map has replied in the call's own time; or it replies so whatever it has
-abbrev pub HasToldMap : ClientView → MapCall → Option MapReply → Type 0
-HasToldMap v call None = Unit {0}
-HasToldMap v call (Some told) = HasReplied v.layout v.past v.start call told ⊎ ((m : List Pair) → reply call m ≡ told)
+-- the map has replied this to it in the call's own time; or it replies so whatever it has
+abbrev pub IsToldReading : ClientView → MapCall → MapReply → Type 0
+IsToldReading v call told = HasReplied v.layout v.past v.start call told ⊎ ((m : List Pair) → reply call m ≡ told)
 
--- what an edit tells is what its own row has found, and a delete of an absent key has none; what an
--- ordered read tells the map has replied
+-- what it tells is told of a change, or of a reading
+abbrev pub IsToldBy : Bool → ClientView → ℕ → MapCall → MapReply → Type 0
+IsToldBy true v c call told = IsToldChange v c call told
+IsToldBy false v c call told = IsToldReading v call told
+
+-- which of the two it is, the call and what it tells say; a refusal tells nothing
+abbrev pub IsToldOfMap : ClientView → ℕ → MapCall → Option MapReply → Type 0
+IsToldOfMap v c call None = Unit {0}
+IsToldOfMap v c call (Some told) = IsToldBy (changes_map call told) v c call told
+
+-- what a call of the map tells is so
 abbrev pub Tells : ClientView → ℕ → Command → Answer → Type 0
-Tells v c (MapOf (InsertOf key value)) (MapAnswer (Value old)) = HasEditedKey v c key old
-Tells v c (MapOf (DeleteOf key)) (MapAnswer (Value (Some old))) = HasEditedKey v c key (Some old)
-Tells v c (MapOf (SuccessorOf key)) answer = HasToldMap v (Successor key) (reply_told answer)
-Tells v c (MapOf (RangeOf low high most)) answer = HasToldMap v (Range low high most) (reply_told answer)
+Tells v c (MapOf request) answer = IsToldOfMap v c (map_request request) (reply_told answer)
 Tells v c command answer = Unit {0}
 
 -- the client's call is answered, and the answer is right

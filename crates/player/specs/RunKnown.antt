@@ -9,7 +9,11 @@ use Rattle.arena.specs.Machines.{Call}
 use Rattle.arena.specs.Share.{Remaining}
 use Rattle.dict.specs.Calls.{call_in, share_of}
 use Rattle.dict.specs.DictKnown.{DictIsReady, DictWaits, DictAnswers}
+use Rattle.dict.specs.Inner.{InnerRun, Update, inner}
 use Rattle.dict.specs.Known.{AsksFirst}
+use Rattle.edits.specs.Edits.{EditMeaning}
+use Rattle.edits.specs.declared.update.UpdateAt.{UpdateAt}
+use Rattle.edits.specs.declared.update.UpdateAt.TheVariants.{Scx as AtScx}
 use Rattle.prims.specs.Cells.{AllowsAll}
 use Rattle.prims.specs.Llx.Known.{LlxIsReady, LlxWaits, LlxAnswers}
 use Rattle.prims.specs.Vlx.Known.{VlxIsReady, VlxWaits, VlxAnswers}
@@ -20,6 +24,7 @@ use Rattle.prims.specs.declared.vlx.Vlx.TheVariants.{Same as VlxSame, Changed as
 use Rattle.record.specs.declared.record.Answer.{Answer}
 use Rattle.record.specs.declared.record.Answer.TheVariants.{Snapshot, Finalized, Fail, Done, Lost, Same, Changed, Map as MapAnswer}
 use Rattle.ordered_map.specs.CallRules.{TakesNothing}
+use Rattle.ordered_map.specs.OrderedMap.{MapEdit}
 use Rattle.ordered_map.specs.declared.request.Request.{Request}
 use Rattle.ordered_map.specs.declared.request.Request.TheVariants.{Range as RangeOf}
 use Rattle.dict.specs.Words.{IsNumber}
@@ -94,3 +99,18 @@ share_in _ = None
 abbrev pub share_behind : Run → Option Remaining → Option Remaining
 share_behind (Map m) had = Some (share_of m.run)
 share_behind _ had = had
+
+-- the edit that an update makes at the leaf that it has found, while its SCX runs
+abbrev pub edit_at : {E : Type 0} → EditMeaning E → E → UpdateAt → Option MapEdit
+edit_at means e (AtScx found scx) = Some (means.edit e found)
+edit_at means e _ = None
+
+-- what runs inside of a call of the map makes this one
+abbrev pub edit_inside : InnerRun → Option MapEdit
+edit_inside (Update k m) = edit_at k.means m.edit m.at
+edit_inside _ = None
+
+-- the edit of the map that the machine has in hand, if it has one
+abbrev pub edit_in_hand : Run → Option MapEdit
+edit_in_hand (Map m) = edit_inside (inner m.run)
+edit_in_hand _ = None

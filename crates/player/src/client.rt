@@ -1,6 +1,8 @@
 //! A client of the player: what it owns and what it is in the middle of.
 ghost use Rattle.std.specs.Prelude.{◌≡◌, ℕ, ◌+◌, ◌<◌, ◌≤◌, length, map, IfOk, MatchBool};
 ghost use Rattle.dict.specs.Calls.{AsksForPairs};
+ghost use Rattle.ordered_map.specs.OrderedMap.{is_value};
+ghost use Rattle.player.specs.Moments.{is_pair};
 ghost use Rattle.player.specs.RunKnown.{IsForNothing};
 ghost use Rattle.ordered_map.specs.Requests.{map_request};
 
@@ -66,7 +68,9 @@ impl Client {
     ghost use Rattle.script.specs.Commands.{mode_of, AsksForFewPairs};
     ghost use Rattle.arena.specs.declared.limits.Mode.TheVariants.{Records};
     ghost use Rattle.script.specs.declared.command.Command.TheVariants.{Scx as ScxCommand, Map as MapCommand};
+    ghost use Rattle.ordered_map.specs.OrderedMap.{edit_key, value_left};
     ghost use Rattle.ordered_map.specs.Requests.{AsksForFew};
+    ghost use Rattle.std.specs.Option.{option_map};
     ghost use Rattle.arena.specs.History.{History};
     ghost use Rattle.prims.specs.declared.snap.Snap.{Snap};
     ghost use Rattle.player.specs.declared.run.Run.{Run};
@@ -80,9 +84,9 @@ impl Client {
     ghost use Rattle.arena.specs.Share.{IsFull, after_taking};
     ghost use Rattle.record.specs.declared.record.Line.{Line};
     ghost use Rattle.moments.specs.Places.{changes};
-    ghost use Rattle.player.specs.Moments.{IsMomentBy, IsPairsMoment, IsReplyMoment, IsValueMoment};
+    ghost use Rattle.player.specs.Moments.{IsMomentBy, IsPairsMoment, IsPopMoment, IsReplaceMoment, IsReplyMoment, IsValueMoment};
     ghost use Rattle.player.specs.RunKnown.{share_behind};
-    ghost use Rattle.player.specs.ClientView.{ClientView, client_view, IsSound, IsAtNextCall, Rests, command_of, Starts, Hears, Answered, HasBeenTold, CanPut, Puts, held, BeginsOrRefuses, IsNextAction, IsNextCallUnbegun, IsClient};
+    ghost use Rattle.player.specs.ClientView.{ClientView, client_view, IsSound, IsAtNextCall, Rests, command_of, Starts, Hears, Answered, HasBeenTold, CanPut, Puts, held, running_edit, BeginsOrRefuses, IsNextAction, IsNextCallUnbegun, IsClient};
 
     pub(crate) fn new(
         alloc: Global,
@@ -122,7 +126,9 @@ impl Client {
 
     /// How the client stands at this turn, with its next call begun.
     pub(crate) fn next_action(&mut self, calls: &[Call], turn: u64) -> NextAction
-        ensures { (v : ClientView) (began : Option ℕ) → IsSound v → 0 < v.tries → All (λ call. mode_of call.command ≡ v.layout.mode) v.calls → calls.now ≡ v.calls → IsClient v began self.old → IsNextAction v turn self.old self.new result }
+        ensures { (v : ClientView) (began : Option ℕ) → IsSound v → 0 < v.tries →
+            All (λ call. mode_of call.command ≡ v.layout.mode) v.calls → calls.now ≡ v.calls →
+            IsClient v began self.old → IsNextAction v turn self.old self.new result }
     {
         if self.running.is_some() {
             return self.asked();
@@ -142,7 +148,9 @@ impl Client {
 
     /// Begins the next call, if there is one.
     fn begin_next(&mut self, calls: &[Call], turn: u64) -> NextAction
-        ensures { (v : ClientView) (began : Option ℕ) → IsSound v → 0 < v.tries → All (λ call. mode_of call.command ≡ v.layout.mode) v.calls → calls.now ≡ v.calls → Rests v self.old → (self.old.next ≢ None → IsNextCallUnbegun v began) → IsNextAction v turn self.old self.new result }
+        ensures { (v : ClientView) (began : Option ℕ) → IsSound v → 0 < v.tries →
+            All (λ call. mode_of call.command ≡ v.layout.mode) v.calls → calls.now ≡ v.calls → Rests v self.old →
+            (self.old.next ≢ None → IsNextCallUnbegun v began) → IsNextAction v turn self.old self.new result }
     {
         let Some(at) = self.next else {
             return NextAction::Finished;
@@ -159,7 +167,9 @@ impl Client {
     /// Begins a call, which answers at once or asks for a step.
     fn begin(&mut self, command: Command, turn: u64) -> Option<Answer>
         requires { AsksForFewPairs command }
-        ensures { (v : ClientView) (began : Option ℕ) → IsSound v → 0 < v.tries → v.layout.mode ≡ mode_of command → Rests v self.old → IsNextCallUnbegun v began → command_of v self.old ≡ Some command → BeginsOrRefuses v turn self.old self.new result }
+        ensures { (v : ClientView) (began : Option ℕ) → IsSound v → 0 < v.tries → v.layout.mode ≡ mode_of command →
+            Rests v self.old → IsNextCallUnbegun v began → command_of v self.old ≡ Some command →
+            BeginsOrRefuses v turn self.old self.new result }
     {
         self.begin = turn;
         match command {
@@ -184,7 +194,9 @@ impl Client {
     /// Begins a call of the map, which runs with the share; one for nothing answers at once.
     fn begin_request(&mut self, request: Request<u64, u64>) -> Option<Answer>
         requires { AsksForFew request }
-        ensures { (v : ClientView) (began : Option ℕ) → IsSound v → 0 < v.tries → v.layout.mode ≡ Tree → Rests v self.old → IsNextCallUnbegun v began → command_of v self.old ≡ Some (MapCommand request) → BeginsOrRefuses v self.old.begin self.old self.new result }
+        ensures { (v : ClientView) (began : Option ℕ) → IsSound v → 0 < v.tries → v.layout.mode ≡ Tree →
+            Rests v self.old → IsNextCallUnbegun v began → command_of v self.old ≡ Some (MapCommand request) →
+            BeginsOrRefuses v self.old.begin self.old self.new result }
     {
         if is_for_nothing(request) {
             return Some(Answer::Map(Reply::Pairs(Vec::new(self.alloc))));
@@ -196,7 +208,9 @@ impl Client {
 
     /// Takes the snapshots and the records of an `scx`, if they are there.
     fn begin_scx(&mut self, update: &script::Update) -> Option<Answer>
-        ensures { (v : ClientView) (began : Option ℕ) → IsSound v → v.layout.mode ≡ Records → Rests v self.old → IsNextCallUnbegun v began → command_of v self.old ≡ Some (ScxCommand update.now) → BeginsOrRefuses v self.old.begin self.old self.new result }
+        ensures { (v : ClientView) (began : Option ℕ) → IsSound v → v.layout.mode ≡ Records → Rests v self.old →
+            IsNextCallUnbegun v began → command_of v self.old ≡ Some (ScxCommand update.now) →
+            BeginsOrRefuses v self.old.begin self.old self.new result }
     {
         let cells = update.cells();
         match self.kept.linked(cells) {
@@ -221,7 +235,9 @@ impl Client {
         requires fits { length snaps.now ≤ 4 }
         requires distinct { AreDistinct snaps.now }
         requires among { IsAmong snaps.now field.0.0 }
-        ensures { (v : ClientView) (linked : ℕ → Option History) → IsSound v → CanPut v linked self.old snaps.now (map (λ n. n.0) finalize.now) (field.0.0, field.1) value → Puts v linked self.old self.new result }
+        ensures { (v : ClientView) (linked : ℕ → Option History) → IsSound v →
+            CanPut v linked self.old snaps.now (map (λ n. n.0) finalize.now) (field.0.0, field.1) value →
+            Puts v linked self.old self.new result }
     {
         let (fresh, scx) = match self.take() {
             Ok(records) => records,
@@ -283,6 +299,13 @@ impl Client {
                 self.after(ended, then)
             }
         }
+    }
+
+    /// The key that its call of the map changes if its SCX wins, and what it leaves there.
+    pub(crate) fn change(&self) -> Option<(u64, Option<u64>)>
+        ensures { result ≡ option_map (λ e. (edit_key e, value_left e)) (running_edit self.now.running) }
+    {
+        self.running.as_ref()?.run.change()
     }
 
     /// Takes the share back from a machine that has answered, if it has that.
@@ -358,10 +381,10 @@ impl Client {
         calls.get(self.next?).copied()
     }
 
-    /// The turn at which an answer stands: of an update that is done, and of an edit, that of its
-    /// entry, of a VLX its first, of an LLX its last, of a reading of the map the greatest within the
-    /// call, whoever's, after which the map was as it tells. `won` is the turn of the last update of
-    /// the client's that has won.
+    /// The turn at which an answer stands: of an update that is done, and of a call that has changed
+    /// the map, that of its entry, of a VLX its first, of an LLX its last, of a reading of the map the
+    /// greatest within the call, whoever's, after which the map was as it tells. `won` is the turn of
+    /// the last update of the client's that has won.
     pub(crate) fn moment(
         &self,
         calls: &[Call],
@@ -371,7 +394,9 @@ impl Client {
         places: &Places,
     ) -> Option<u64>
         requires { self.now.begin ≤ turn }
-        ensures { (call : ScriptCall) (at : ℕ) (lines : List Line) → self.now.next ≡ Some at → slice_get calls.now at ≡ Some call → IsMomentBy calls.now lines (changes places.now) call.command answer.now self.now.begin turn won result }
+        ensures { (call : ScriptCall) (at : ℕ) (lines : List Line) → self.now.next ≡ Some at →
+            slice_get calls.now at ≡ Some call →
+            IsMomentBy calls.now lines (changes places.now) call.command answer.now self.now.begin turn won result }
     {
         match answer {
             Answer::Done => won,
@@ -393,12 +418,14 @@ impl Client {
         places: &Places,
     ) -> Option<u64>
         requires { self.now.begin ≤ turn }
-        ensures { (call : ScriptCall) (at : ℕ) (lines : List Line) → self.now.next ≡ Some at → slice_get calls.now at ≡ Some call → IsReplyMoment calls.now lines (changes places.now) call.command reply.now self.now.begin turn won result }
+        ensures { (call : ScriptCall) (at : ℕ) (lines : List Line) → self.now.next ≡ Some at →
+            slice_get calls.now at ≡ Some call →
+            IsReplyMoment calls.now lines (changes places.now) call.command reply.now self.now.begin turn won result }
     {
         match reply {
             Reply::Value(value) => self.value_moment(calls, turn, *value, won, places),
-            Reply::Pair(_) => self.pairs_moment(calls, turn, reply, places),
-            Reply::Pairs(_) => self.pairs_moment(calls, turn, reply, places),
+            Reply::Pair(_) => self.pairs_moment(calls, turn, reply, won, places),
+            Reply::Pairs(_) => self.pairs_moment(calls, turn, reply, won, places),
             Reply::Contended { .. } | Reply::Full(_) | Reply::NoMemory => None,
         }
     }
@@ -409,13 +436,18 @@ impl Client {
         calls: &[Call],
         turn: u64,
         reply: &Reply<u64, u64>,
+        won: Option<u64>,
         places: &Places,
     ) -> Option<u64>
         requires { self.now.begin ≤ turn }
-        ensures { (call : ScriptCall) (at : ℕ) (lines : List Line) → self.now.next ≡ Some at → slice_get calls.now at ≡ Some call → IsPairsMoment calls.now lines (changes places.now) call.command reply.now self.now.begin turn result }
+        ensures {
+            (call : ScriptCall) (at : ℕ) (lines : List Line) → self.now.next ≡ Some at → slice_get calls.now at ≡ Some call →
+                IsPairsMoment calls.now lines (changes places.now) call.command reply.now self.now.begin turn won result
+        }
     {
         let command = self.call(calls)?.command;
         match command {
+            Command::Map(Request::PopFirst) => self.pop_moment(turn, reply, won, places),
             Command::Map(Request::Successor { .. }) => {
                 Some(places.greatest_of(&command, reply, self.begin, turn))
             }
@@ -424,6 +456,24 @@ impl Client {
             }
             _ => None,
         }
+    }
+
+    /// The turn at which a pop stands that has replied so.
+    fn pop_moment(
+        &self,
+        turn: u64,
+        reply: &Reply<u64, u64>,
+        won: Option<u64>,
+        places: &Places,
+    ) -> Option<u64>
+        requires { self.now.begin ≤ turn }
+        ensures { (calls : List ScriptCall) (lines : List Line) → IsPopMoment calls lines (changes places.now) reply.now self.now.begin turn won result }
+    {
+        if is_pair(reply) {
+            return won;
+        }
+        let pop = Command::Map(Request::PopFirst);
+        Some(places.greatest_of(&pop, reply, self.begin, turn))
     }
 
     /// The turn at which a reply stands that tells a value.
@@ -436,7 +486,9 @@ impl Client {
         places: &Places,
     ) -> Option<u64>
         requires { self.now.begin ≤ turn }
-        ensures { (call : ScriptCall) (at : ℕ) (lines : List Line) → self.now.next ≡ Some at → slice_get calls.now at ≡ Some call → IsValueMoment calls.now lines (changes places.now) call.command value self.now.begin turn won result }
+        ensures { (call : ScriptCall) (at : ℕ) (lines : List Line) → self.now.next ≡ Some at →
+            slice_get calls.now at ≡ Some call →
+            IsValueMoment calls.now lines (changes places.now) call.command value self.now.begin turn won result }
     {
         let command = self.call(calls)?.command;
         match command {
@@ -445,9 +497,51 @@ impl Client {
                 Some(_) => won,
                 None => places.greatest(key, None, self.begin, turn),
             },
+            Command::Map(Request::ReplaceIf {
+                key,
+                expected,
+                value: _,
+            }) => self.replace_moment(turn, key, expected, value, won, places),
             Command::Map(Request::Get { key }) => places.greatest(key, value, self.begin, turn),
             _ => None,
         }
+    }
+
+    /// The turn at which a replacement stands that has told this value of the key.
+    fn replace_moment(
+        &self,
+        turn: u64,
+        key: u64,
+        expected: u64,
+        told: Option<u64>,
+        won: Option<u64>,
+        places: &Places,
+    ) -> Option<u64>
+        requires { self.now.begin ≤ turn }
+        ensures { (calls : List ScriptCall) (lines : List Line) →
+            IsReplaceMoment calls lines (changes places.now) key expected told self.now.begin turn won result }
+    {
+        if is_expected(expected, told) {
+            return won;
+        }
+        places.greatest(key, told, self.begin, turn)
+    }
+}
+
+/// Whether a pop that replies so has taken a pair.
+fn is_pair(reply: &Reply<u64, u64>) -> bool
+    ensures { result ≡ is_pair reply.now }
+{
+    matches!(reply, Reply::Pair(Some(_)))
+}
+
+/// Whether a replacement that tells so has found the value that it expects.
+fn is_expected(expected: u64, told: Option<u64>) -> bool
+    ensures { result ≡ is_value expected told }
+{
+    match told {
+        Some(told) => told == expected,
+        None => false,
     }
 }
 

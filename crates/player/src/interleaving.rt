@@ -7,7 +7,7 @@ ghost use Rattle.ordered_map.specs.OrderedMap.{MapEdit, edit_key};
 use crate::client::{Client, NextAction};
 use crate::lines::Lines;
 use arena::{Kind, NoMemory, NodeNo, NodeWord, PassNo, PlainWords, ScxNo, ScxWord, Step, Word};
-use moments::{Change, Places, edited};
+use moments::{Change, Places};
 use record::{Answer, Entry, Record, Row};
 use script::Script;
 use std::alloc::Global;
@@ -29,18 +29,18 @@ pub(crate) struct Interleaving {
 }
 
 impl Interleaving {
-    ghost use Rattle.std.specs.Prelude.{◌≡◌, ℕ, suc, ◌+◌, ◌<◌, ◌≤◌, ◌∷◌, [], Some, is_some, IfOk, IfErr, IfSome, MatchOption, slice_get, set, reverse, All};
+    ghost use Rattle.std.specs.Prelude.{◌≡◌, ℕ, suc, ◌+◌, ◌<◌, ◌≤◌, ◌∷◌, [], Some, is_some, IfOk, IfErr, IfSome, MatchOption, slice_get, set, reverse};
     ghost use Rattle.arena.specs.declared.limits.Mode.TheVariants.{Tree};
     ghost use Rattle.record.specs.declared.record.Line.{Line};
     ghost use Rattle.record.specs.declared.record.Entry.{Entry as LogEntry};
     ghost use Rattle.record.specs.Commands.{next_command};
     ghost use Rattle.record.specs.Turns.{answered, entry_owed};
-    ghost use Rattle.ordered_map.specs.OrderedMap.{value_left};
-    ghost use Rattle.moments.specs.Places.{changes, room_for_changes, Knows, HoldsOfKey};
+    ghost use Rattle.ordered_map.specs.OrderedMap.{MapEdit, value_left};
+    ghost use Rattle.moments.specs.Places.{changes, room_for_changes, Knows};
     ghost use Rattle.ordered_map.specs.OrderedMap.{edit_key};
     ghost use Rattle.player.specs.Lines.{room, newest};
     ghost use Rattle.player.specs.Player.{script_view, IsTurnMore};
-    ghost use Rattle.player.specs.BetweenTurns.{player_view, IsBetweenTurns, IsStepAsked, IsMade, IsReplied, HasSameClients, HasSameWords, ArePlaces, IsAtEdit};
+    ghost use Rattle.player.specs.BetweenTurns.{player_view, IsBetweenTurns, IsStepAsked, IsMade, IsReplied, HasSameClients, HasSameWords, ArePlaces, IsOwned, owners_edit};
 
     /// An interleaving of a copy of the script, with no turn made. The only error is want of
     /// memory.
@@ -133,11 +133,18 @@ impl Interleaving {
         requires made { IsMade self.old number row.now }
         requires roomy { 1 ≤ room_for_changes self.old.places }
         requires places { ArePlaces self.old.script.layout (self.old.script.calls.items) (newest self.old.lines) self.old.places }
-        requires owner { (e : LogEntry) → entry_owed self.old.script.layout (newest self.old.lines) ≡ Some e → self.old.script.layout.mode ≡ Tree → IsAtEdit (self.old.script.calls.items) self.old.clients.items e }
+        requires owner { (e : LogEntry) → entry_owed self.old.script.layout (newest self.old.lines) ≡ Some e →
+            IsOwned self.old.script.layout (self.old.script.calls.items)
+            (newest self.old.lines) self.old.clients.items e }
         ensures room { 1 ≤ room self.new.lines }
         ensures same { HasSameClients self.old self.new }
-        ensures line { MatchOption (entry_owed self.old.script.layout (newest self.old.lines)) (newest self.new.lines ≡ newest self.old.lines) (λ e. newest self.new.lines ≡ Line.Log e ∷ newest self.old.lines) }
-        ensures wins { MatchOption (entry_owed self.old.script.layout (newest self.old.lines)) (self.new.wins.items ≡ self.old.wins.items) (λ e. (e.client.0 < self.old.script.layout.passes) × (self.new.wins.items ≡ set self.old.wins.items e.client.0 (Some number))) }
+        ensures line { MatchOption (entry_owed self.old.script.layout (newest self.old.lines))
+            (newest self.new.lines ≡ newest self.old.lines)
+            (λ e. newest self.new.lines ≡ Line.Log e ∷ newest self.old.lines) }
+        ensures wins { MatchOption (entry_owed self.old.script.layout (newest self.old.lines))
+            (self.new.wins.items ≡ self.old.wins.items)
+            (λ e. (e.client.0 < self.old.script.layout.passes) ×
+            (self.new.wins.items ≡ set self.old.wins.items e.client.0 (Some number))) }
         ensures places { ArePlaces self.new.script.layout self.new.script.calls.items (newest self.new.lines) self.new.places }
     {
         if let Some(entry) = self.entry(number, row) {
@@ -147,19 +154,18 @@ impl Interleaving {
         }
     }
 
-    /// Keeps the change of the map that an entry makes, if it is of an edit.
+    /// Keeps the change of the map that an entry makes, if it is of an edit: the one that its
+    /// client's machine has in hand.
     fn place(&mut self, entry: &Entry)
         requires room { 1 ≤ room_for_changes self.old.places }
         requires client { entry.now.client.0 < self.old.script.layout.passes }
-        requires keys { All (λ call. HoldsOfKey (Knows self.old.places) call.command) (self.old.script.calls.items) }
+        requires key { IfSome (owners_edit self.old.clients.items entry.now.client.0) (λ e. Knows self.old.places (edit_key e)) }
         ensures same { self.new ≡ record self.old { places = self.new.places } }
         ensures keys { (key : ℕ) → Knows self.old.places key → Knows self.new.places key }
-        ensures change { (x : IsAtEdit (self.old.script.calls.items) self.old.clients.items entry.now) → changes self.new.places ≡ record { turn = entry.now.step; key = edit_key x.edit; value = value_left x.edit } ∷ changes self.old.places }
+        ensures change { (e : MapEdit) → owners_edit self.old.clients.items entry.now.client.0 ≡ Some e →
+            changes self.new.places ≡ record { turn = entry.now.step; key = edit_key e; value = value_left e } ∷ changes self.old.places }
     {
-        let call = self.clients[entry.client.0 as usize].call(&self.script.calls);
-        if let Some(call) = call
-            && let Some((key, value)) = edited(call.command)
-        {
+        if let Some((key, value)) = self.clients[entry.client.0 as usize].change() {
             let turn = entry.step;
             self.places.push(Change { turn, key, value });
         }
@@ -194,7 +200,8 @@ impl Interleaving {
         requires begun { (c : Client) → slice_get self.old.clients.items client.0 ≡ Some c → c.begin ≤ number }
         ensures same { HasSameWords self.old self.new }
         ensures places { self.new.places ≡ self.old.places }
-        ensures replied { (c : Client) → slice_get self.old.clients.items client.0 ≡ Some c → c.pass.0 ≡ client.0 → IsReplied self.old self.new number answer c }
+        ensures replied { (c : Client) → slice_get self.old.clients.items client.0 ≡ Some c → c.pass.0 ≡ client.0 →
+            IsReplied self.old self.new number answer c }
     {
         let at = client.0 as usize;
         let won = self.wins[at];
@@ -242,7 +249,8 @@ impl Interleaving {
 /// The clients of a script before their first turns.
 fn clients(alloc: Global, script: &Script) -> Result<Vec<Client>, NoMemory>
     ensures count { IfOk result (λ c. vec_len c ≡ script.now.layout.passes) }
-    ensures each { IfOk result (λ c. (j : ℕ) (d : Client) → slice_get c.items j ≡ Some d → (d.pass.0 ≡ j) × Rests (client_view script.now.layout script.now.limits.tries script.now.calls.items [] j) d) }
+    ensures each { IfOk result (λ c. (j : ℕ) (d : Client) → slice_get c.items j ≡ Some d →
+        (d.pass.0 ≡ j) × Rests (client_view script.now.layout script.now.limits.tries script.now.calls.items [] j) d) }
 {
     let mut clients = Vec::new(alloc);
     for pass in 0..script.layout.passes {

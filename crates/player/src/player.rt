@@ -83,7 +83,8 @@ impl Player {
     pub fn call(&mut self, client: PassNo) -> Result<(), NoMemory>
         requires { client.0 < self.old.script.layout.passes }
         ensures turns { AreTurnsWhile (AwaitsReply self.old.script.calls client.0 self.old.lines) client.0 self.old self.new }
-        ensures replied { OnOk result (HasCall self.old.script.calls client.0 self.old.lines → answered self.new.lines client.0 ≡ suc (answered self.old.lines client.0)) }
+        ensures replied { OnOk result (HasCall self.old.script.calls client.0 self.old.lines →
+            answered self.new.lines client.0 ≡ suc (answered self.old.lines client.0)) }
         ensures none { HasNoCall self.old.script.calls client.0 self.old.lines → self.new.lines ≡ self.old.lines }
         ensures lawful { IsPlayed self.new }
     {
@@ -99,7 +100,8 @@ impl Player {
     pub fn run_until(&mut self, client: PassNo, kind: Kind, times: u32) -> Result<(), NoMemory>
         requires { client.0 < self.old.script.layout.passes }
         ensures turns { AreTurnsWhile (AwaitsSteps self.old.script.calls client.0 kind times self.old.lines) client.0 self.old self.new }
-        ensures made { OnOk result ((made self.new.lines client.0 kind ≡ made self.old.lines client.0 kind + times) ⊎ HasNoCall self.old.script.calls client.0 self.new.lines) }
+        ensures made { OnOk result ((made self.new.lines client.0 kind ≡ made self.old.lines client.0 kind + times) ⊎
+            HasNoCall self.old.script.calls client.0 self.new.lines) }
         ensures at_most { made self.new.lines client.0 kind ≤ made self.old.lines client.0 kind + times }
         ensures lawful { IsPlayed self.new }
     {
@@ -132,7 +134,8 @@ impl Player {
     pub fn record(self) -> Record
         ensures script { script_view result.script ≡ self.script }
         ensures lines { result.lines.items ≡ reverse self.lines }
-        ensures lawful { (asked : List ℕ) → clients self.lines ≡ reverse asked → IsLawfulRun self.script.layout self.script.limits.tries self.script.calls asked result.lines.items }
+        ensures lawful { (asked : List ℕ) → clients self.lines ≡ reverse asked →
+            IsLawfulRun self.script.layout self.script.limits.tries self.script.calls asked result.lines.items }
     {
         self.interleaving.into_record()
     }

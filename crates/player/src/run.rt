@@ -8,7 +8,8 @@ ghost use Rattle.player.specs.RunKnown.{RunIsReady, RunAsksFirst, RunWaits, RunA
 ghost use Rattle.player.specs.RunSteps.{run_left};
 
 use arena::{Machine, Share, Turn};
-use dict::{Dict, DictRun};
+use dict::{Dict, DictRun, MapRun};
+use edits::{UpdateAt, UpdateRun};
 use ordered_map::Reply;
 use prims::{Cells, Llx, LlxRun, PutRun, Scx, Snaps, Vlx, VlxRun};
 use record::Answer;
@@ -58,15 +59,21 @@ impl Ended {
 
 impl Run {
     ghost use Rattle.std.specs.Prelude.{◌≡◌};
-    ghost use Rattle.player.specs.RunKnown.{share_in};
+    ghost use Rattle.std.specs.Option.{option_map};
+    ghost use Rattle.ordered_map.specs.OrderedMap.{edit_key, value_left};
+    ghost use Rattle.player.specs.RunKnown.{edit_in_hand, share_in};
 
     /// Goes on with what the last step found, as the machine inside, in a run of its mode. It asks for
     /// a step before it answers.
     pub(crate) fn next(&mut self, got: Option<u64>) -> Turn<Ended>
-        ensures turn { (c : Call) (h : History) → c.layout.mode ≡ run_mode self.old → IsRun PlayedAllows c.layout h → RunIsReady self.old c h got → MatchTurn result (RunWaits self.new c h) (RunAnswers self.new c h) }
-        ensures begins { got ≡ None → RunAsksFirst self.old → (c : Call) (h : History) → RunIsReady self.old c h None → MatchTurn result (λ _. Unit {0}) (λ _. ⊥) }
+        ensures turn { (c : Call) (h : History) → c.layout.mode ≡ run_mode self.old → IsRun PlayedAllows c.layout h →
+            RunIsReady self.old c h got → MatchTurn result (RunWaits self.new c h) (RunAnswers self.new c h) }
+        ensures begins { got ≡ None → RunAsksFirst self.old → (c : Call) (h : History) →
+            RunIsReady self.old c h None → MatchTurn result (λ _. Unit {0}) (λ _. ⊥) }
         ensures same { IsSameMachine self.old self.new }
-        ensures nearer { (c : Call) (h : History) (nodes : ℕ) → c.layout.mode ≡ run_mode self.old → IsRun PlayedAllows c.layout h → RunIsReady self.old c h got → length (taken_nodes h) ≤ nodes → MatchTurn result (λ _. run_left self.new nodes < run_left self.old nodes) (λ _. Unit {0}) }
+        ensures nearer { (c : Call) (h : History) (nodes : ℕ) → c.layout.mode ≡ run_mode self.old →
+            IsRun PlayedAllows c.layout h → RunIsReady self.old c h got → length (taken_nodes h) ≤ nodes →
+            MatchTurn result (λ _. run_left self.new nodes < run_left self.old nodes) (λ _. Unit {0}) }
     {
         match self {
             Run::Llx(run) => match Machine::<Cells>::next(run, got) {
@@ -85,6 +92,39 @@ impl Run {
                 Turn::Ask(step) => Turn::Ask(step),
                 Turn::Done(reply) => Turn::Done(Ended::Map(reply)),
             },
+        }
+    }
+
+    /// The key that a call of the map changes if its SCX wins, and what it leaves there; none while
+    /// it has no SCX.
+    pub(crate) fn change(&self) -> Option<(u64, Option<u64>)>
+        ensures { result ≡ option_map (λ e. (edit_key e, value_left e)) (edit_in_hand self.now) }
+    {
+        let Run::Map(run) = self else {
+            return None;
+        };
+        match &run.run {
+            MapRun::Insert(UpdateRun {
+                edit,
+                at: UpdateAt::Scx { .. },
+                ..
+            }) => Some((edit.key, Some(edit.value))),
+            MapRun::Delete(UpdateRun {
+                edit,
+                at: UpdateAt::Scx { .. },
+                ..
+            }) => Some((edit.key, None)),
+            // The key is not in the command: it is that of the leaf.
+            MapRun::PopFirst(UpdateRun {
+                at: UpdateAt::Scx { found, scx: _ },
+                ..
+            }) => Some((found.key, None)),
+            MapRun::ReplaceIf(UpdateRun {
+                edit,
+                at: UpdateAt::Scx { .. },
+                ..
+            }) => Some((edit.key, Some(edit.value))),
+            _ => None,
         }
     }
 

@@ -37,18 +37,28 @@ impl MapCall {
         Ok(Answer::Map(match self.0 {
             Request::Insert { key, value } => Reply::Value(map.insert(key, value)?),
             Request::Delete { key } => Reply::Value(map.delete(key)),
+            Request::PopFirst => Reply::Pair(map.pop_first()),
+            Request::ReplaceIf {
+                key,
+                expected,
+                value,
+            } => Reply::Value(map.replace_if(key, expected, value)?),
             Request::Get { key } => Reply::Value(map.get(key)),
             Request::Successor { key } => Reply::Pair(map.successor(key)),
             Request::Range { low, high, most } => Reply::Pairs(map.range((low, high), most)?),
         }))
     }
 
-    /// Whether the call has changed the map, by an update, if it answers this: a delete that found
-    /// none has only looked.
+    /// Whether the call has changed the map, by an update, if it answers this: a delete or a pop that
+    /// found none has only looked, and so has a replacement that found another value.
     pub(crate) fn enters(self, answer: &Answer) -> bool {
         match self.0 {
             Request::Insert { .. } => true,
             Request::Delete { .. } => *answer != Answer::Map(Reply::Value(None)),
+            Request::PopFirst => *answer != Answer::Map(Reply::Pair(None)),
+            Request::ReplaceIf { expected, .. } => {
+                *answer == Answer::Map(Reply::Value(Some(expected)))
+            }
             _ => false,
         }
     }
@@ -56,8 +66,8 @@ impl MapCall {
     /// Whether the call may change the map.
     pub(crate) fn may_change(self) -> bool {
         match self.0 {
-            Request::Insert { .. } | Request::Delete { .. } => true,
-            _ => false,
+            Request::Get { .. } | Request::Successor { .. } | Request::Range { .. } => false,
+            _ => true,
         }
     }
 

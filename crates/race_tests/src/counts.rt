@@ -38,6 +38,10 @@ impl Answers {
 #[derive(Clone, Copy, Debug, Default)]
 pub(crate) struct Counts {
     deletes: Answers,
+    pops: Answers,
+    /// Replacements that found what they expected, and those that did not.
+    replaced: Answers,
+    kept: Answers,
     successors: Answers,
     ranges: Answers,
     others: Answers,
@@ -61,6 +65,11 @@ impl Counts {
     fn count_reply(&mut self, record: &Record, reply: &Finished) {
         match MapCall::of(&record.script, reply.client, reply.call) {
             Some(MapCall(Request::Delete { .. })) => self.deletes.count(&reply.answer),
+            Some(MapCall(Request::PopFirst)) => self.pops.count(&reply.answer),
+            Some(call @ MapCall(Request::ReplaceIf { .. })) if call.enters(&reply.answer) => {
+                self.replaced.count(&reply.answer)
+            }
+            Some(MapCall(Request::ReplaceIf { .. })) => self.kept.count(&reply.answer),
             Some(MapCall(Request::Successor { .. })) => self.successors.count(&reply.answer),
             Some(MapCall(Request::Range { .. })) => self.count_range(record, reply),
             _ => self.others.count(&reply.answer),
@@ -86,7 +95,15 @@ impl Counts {
         let (deletes, others) = (self.deletes, self.others);
         let reads = self.successors.occurred() && self.ranges.occurred();
         let edits = deletes.occurred() && others.occurred() && deletes.full > 0 && others.full > 0;
-        reads && edits && self.at_once > 0 && self.overtaken > 0 && self.tried_again > 0
+        let new = self.pops.occurred() && self.pops.full > 0 && self.replaced.some > 0;
+        let kept = self.kept.occurred() && self.kept.full > 0;
+        reads
+            && edits
+            && new
+            && kept
+            && self.at_once > 0
+            && self.overtaken > 0
+            && self.tried_again > 0
     }
 }
 

@@ -62,4 +62,23 @@ impl PlainMap {
         self.pairs.retain(|pair| pair.key != key);
         old
     }
+    /// Takes the first pair out, and tells it.
+    pub(crate) fn pop_first(&mut self) -> Option<(u64, u64)> {
+        let first = self.pairs.first().copied()?;
+        self.delete(first.key);
+        Some((first.key, first.value))
+    }
+
+    /// Gives a key a value if it has the one expected, and tells the one that it had.
+    pub(crate) fn replace_if(
+        &mut self,
+        key: u64,
+        expected: u64,
+        value: u64,
+    ) -> Result<Option<u64>, AllocError> {
+        if self.get(key) == Some(expected) {
+            return self.insert(key, value);
+        }
+        Ok(self.get(key))
+    }
 }

@@ -13,7 +13,8 @@ const SEED: u64 = 20260723;
 
 const RACES: u64 = 400;
 
-/// A few calls of so many clients on few keys, under tight limits.
+/// A few calls of so many clients on few keys, under tight limits. Half of the values are one of two, so
+/// that a replacement finds what it expects.
 pub(crate) fn random_script(
     alloc: Global,
     random: &mut Random,
@@ -29,12 +30,16 @@ pub(crate) fn random_script(
     for value in 1..=calls {
         let (client, key) = (random.below(clients), random.below(keys));
         let (other, most) = (random.below(keys), random.below(4));
-        let row = match random.below(10) {
+        let (expected, few) = (random.below(2), random.below(2));
+        let value = random.among([value, value, expected, few]);
+        let row = match random.below(13) {
             0 => format!(in alloc; "{client},get,{key},,\n")?,
             1 | 2 => format!(in alloc; "{client},delete,{key},,\n")?,
             3 | 4 => format!(in alloc; "{client},successor,{key},,\n")?,
             5 => format!(in alloc; "{client},range,{key},{other},{most}\n")?,
             6 => format!(in alloc; "{client},range,0,9,64\n")?,
+            7 => format!(in alloc; "{client},pop_first,,,\n")?,
+            8 | 9 => format!(in alloc; "{client},replace_if,{key},{few},{value}\n")?,
             _ => format!(in alloc; "{client},insert,{key},{value},\n")?,
         };
         text.push_str(row.as_str())?;
@@ -67,8 +72,8 @@ pub(crate) fn random_schedule(
     Ok(text)
 }
 
-/// Among the answers are all kinds, of deletes, ordered reads and other calls, so that each was
-/// checked.
+/// Among the answers are all kinds, of each edit but insert, of ordered reads and of other calls, so
+/// that each was checked.
 #[test]
 fn random_races_pass(rt: HostRuntime) -> Result<(), Fail> {
     let alloc = rt.alloc();

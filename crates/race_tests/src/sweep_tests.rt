@@ -7,7 +7,8 @@ use std::process::Abort;
 use std::test::Fail;
 
 /// A script of two clients, and how many steps client 0 makes by itself: 48 for a key that comes
-/// into the empty map, 45 for another value of it, 72 to take it out again; 52 for a second key, 48
+/// into the empty map, 45 for another value of it, 72 to take it out again, by its name or as the
+/// first; 52 for a second key, 48
 /// for another value of one of two, 34 for a range of both, 20 for the successor of one below both.
 #[derive(Clone, Copy, Debug)]
 struct Race {
@@ -70,7 +71,41 @@ end,8,,,
     steps: 48 + 52 + 34 + 20 + 48,
 };
 
-const RACES: [Race; 4] = [INSERTS, DELETE_AND_INSERT, DELETES, READS];
+/// Both take the first pair out, client 1 a second one if there is one.
+const POPS: Race = Race {
+    script: "\
+limits,2,20,20,2
+0,insert,5,50,
+0,pop_first,,,
+1,pop_first,,,
+1,insert,7,70,
+1,pop_first,,,
+end,5,,,
+",
+    steps: 48 + 72,
+};
+
+/// Both replace one value, client 1 the one that client 0 brings in too.
+const REPLACEMENTS: Race = Race {
+    script: "\
+limits,2,20,20,2
+0,insert,5,50,
+0,replace_if,5,50,51
+1,replace_if,5,50,52
+1,replace_if,5,51,53
+end,4,,,
+",
+    steps: 48 + 45,
+};
+
+const RACES: [Race; 6] = [
+    INSERTS,
+    DELETE_AND_INSERT,
+    DELETES,
+    READS,
+    POPS,
+    REPLACEMENTS,
+];
 
 /// What the others make of a client that has stopped.
 #[derive(Clone, Copy, Debug)]
@@ -127,13 +162,16 @@ fn a_stopped_client_is_left_or_goes_on(rt: HostRuntime) -> Result<(), Fail> {
 /// The other one stops too. Of inserts: behind its walk, in its look at the node above, just before
 /// the update that it helps to make, behind that, and just before its own. Of a delete that is
 /// helped, or beaten: it is made in the 31st step of the insert that helps it, which makes its own in
-/// the 81st; the delete that beats makes its own in the 71st.
+/// the 81st; the delete that beats makes its own in the 71st. A pop does as a delete, a replacement as
+/// an insert of a present key.
 #[test]
 fn each_of_two_stops(rt: HostRuntime) -> Result<(), Fail> {
     let stops = [
         (INSERTS, [7, 12, 23, 26, 43]),
         (DELETE_AND_INSERT, [6, 12, 30, 31, 80]),
         (DELETES, [7, 12, 30, 31, 70]),
+        (POPS, [7, 12, 30, 31, 70]),
+        (REPLACEMENTS, [7, 12, 23, 26, 43]),
     ];
     for (race, places) in stops {
         for steps in places {

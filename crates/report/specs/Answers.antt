@@ -6,7 +6,7 @@ use Rattle.arena.specs.declared.fault.Resource.TheVariants.{Nodes, Scx}
 use Rattle.ordered_map.specs.declared.reply.Reply.{Reply}
 use Rattle.ordered_map.specs.declared.reply.Reply.TheVariants.{Value, Pair, Pairs, Contended, NoMemory, Full as FullShare}
 use Rattle.ordered_map.specs.declared.request.Request.{Request}
-use Rattle.ordered_map.specs.declared.request.Request.TheVariants.{Successor}
+use Rattle.ordered_map.specs.declared.request.Request.TheVariants.{Successor, PopFirst}
 use Rattle.script.specs.declared.call.Call.{Call}
 use Rattle.script.specs.declared.command.Command.{Command}
 use Rattle.script.specs.declared.command.Command.TheVariants.{Map as MapCommand}
@@ -57,11 +57,13 @@ answer_text (Map reply) = reply_text reply
 
 -- Forms: two texts are each that of two answers
 
--- the reply with the same text that answers this request: `none` is no pair to a successor, and no
--- value to any other
+-- the reply with the same text that answers this request: `none` is no pair to a successor and to a
+-- pop, and no value to any other
 abbrev pub reply_to : Request ℕ ℕ → Reply ℕ ℕ → Reply ℕ ℕ
 reply_to (Successor key) (Value None) = Pair None
 reply_to (Successor key) reply = reply
+reply_to PopFirst (Value None) = Pair None
+reply_to PopFirst reply = reply
 reply_to request (Pair None) = Value None
 reply_to request reply = reply
 

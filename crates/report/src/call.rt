@@ -14,8 +14,10 @@ use std::alloc::{AllocError, Global};
 
 /// The lines of some calls, of which `counts` has counted those before.
 pub fn calls_text(alloc: Global, calls: &[Call], counts: &mut Counts) -> Result<Vec<u8>, AllocError>
-    ensures rows { (earlier : List Call) → HasCounted counts.old earlier → length earlier + length calls.now < 2 ^ 64 → IfOk result (λ text. text.items ≡ rows_text 7 (call_rows earlier calls.now)) }
-    ensures counted { (earlier : List Call) → HasCounted counts.old earlier → length earlier + length calls.now < 2 ^ 64 → OnOk result (HasCounted counts.new (reverse calls.now ++ earlier)) }
+    ensures rows { (earlier : List Call) → HasCounted counts.old earlier → length earlier + length calls.now < 2 ^ 64 →
+        IfOk result (λ text. text.items ≡ rows_text 7 (call_rows earlier calls.now)) }
+    ensures counted { (earlier : List Call) → HasCounted counts.old earlier → length earlier + length calls.now < 2 ^ 64 →
+        OnOk result (HasCounted counts.new (reverse calls.now ++ earlier)) }
 {
     let mut page = Page::new(alloc);
     for call in calls {
@@ -30,7 +32,8 @@ fn call_line(alloc: Global, page: &mut Page, call: &Call, number: u64) -> Result
     requires row { page_row page.old ≡ [] }
     ensures ready { OnOk result (IsReady page.new) }
     ensures row { OnOk result (page_row page.new ≡ []) }
-    ensures line { OnOk result (Appends (page_text page.old) (page_text page.new) (line_of 7 (codes "call" ∷ decimal call.now.client.0 ∷ decimal number ∷ command_row call.now.command))) }
+    ensures line { OnOk result (Appends (page_text page.old) (page_text page.new)
+        (line_of 7 (codes "call" ∷ decimal call.now.client.0 ∷ decimal number ∷ command_row call.now.command))) }
 {
     let command = CommandText::of(alloc, &call.command)?;
     page.text("call")?;

@@ -28,7 +28,8 @@ impl Commands {
 
     /// The command of a client's call of this number, if there is one.
     pub fn get(&self, client: PassNo, number: u64) -> Option<Command>
-        ensures { (passes : ℕ) (calls : List CallOf) → HasCommands self.now passes calls → client.0 < passes → result ≡ slice_get (commands calls client.0) number }
+        ensures { (passes : ℕ) (calls : List CallOf) → HasCommands self.now passes calls → client.0 < passes →
+            result ≡ slice_get (commands calls client.0) number }
     {
         let own = self.clients.get(client.0 as usize)?;
         own.get(number as usize).copied()

@@ -49,7 +49,7 @@ fn reply_to(request: &Request<u64, u64>, reply: Reply<u64, u64>) -> Reply<u64, u
     ensures { result ≡ reply_to request.now reply }
 {
     match request {
-        Request::Successor { key: _ } => match reply {
+        Request::Successor { key: _ } | Request::PopFirst => match reply {
             Reply::Value(None) => Reply::Pair(None),
             _ => reply,
         },

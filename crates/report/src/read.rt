@@ -27,8 +27,10 @@ use texts::{Metered, Rows, by_failure_count};
 /// give. Nothing is kept of a text that is refused. What was written of a record is read as one that
 /// has the same report.
 pub fn read_record<R: Read>(alloc: Global, from: &mut Metered<R>) -> Result<Record, ReportFault>
-    ensures rows { (bytes : List ℕ) → R.remaining from.old.inner ≡ Some bytes → IfOk result (λ told. AreRows bytes (map seven (report_rows told.script told.lines.items))) }
-    ensures again { (script : Script) (lines : List Line) → R.remaining from.old.inner ≡ Some (report_text script lines) → IfOk result (λ told. report_text told.script told.lines.items ≡ report_text script lines) }
+    ensures rows { (bytes : List ℕ) → R.remaining from.old.inner ≡ Some bytes →
+        IfOk result (λ told. AreRows bytes (map seven (report_rows told.script told.lines.items))) }
+    ensures again { (script : Script) (lines : List Line) → R.remaining from.old.inner ≡ Some (report_text script lines) →
+        IfOk result (λ told. report_text told.script told.lines.items ≡ report_text script lines) }
     ensures calls { IfOk result (λ told. AreNumbered told.script.layout.passes (reverse told.lines.items)) }
     ensures forms { IfOk result (λ told. All (HasForm told.script.layout.passes told.script.calls.items) told.lines.items) }
 
@@ -43,8 +45,10 @@ pub fn read_record<R: Read>(alloc: Global, from: &mut Metered<R>) -> Result<Reco
 }
 
 fn record_of<R: Read>(alloc: Global, from: &mut Metered<R>) -> Result<Record, RowFault>
-    ensures rows { (bytes : List ℕ) → R.remaining from.old.inner ≡ Some bytes → IfOk result (λ told. AreRows bytes (map seven (report_rows told.script told.lines.items))) }
-    ensures again { (script : Script) (lines : List Line) → R.remaining from.old.inner ≡ Some (report_text script lines) → IfOk result (λ told. report_text told.script told.lines.items ≡ report_text script lines) }
+    ensures rows { (bytes : List ℕ) → R.remaining from.old.inner ≡ Some bytes →
+        IfOk result (λ told. AreRows bytes (map seven (report_rows told.script told.lines.items))) }
+    ensures again { (script : Script) (lines : List Line) → R.remaining from.old.inner ≡ Some (report_text script lines) →
+        IfOk result (λ told. report_text told.script told.lines.items ≡ report_text script lines) }
     ensures calls { IfOk result (λ told. AreNumbered told.script.layout.passes (reverse told.lines.items)) }
     ensures forms { IfOk result (λ told. All (HasForm told.script.layout.passes told.script.calls.items) told.lines.items) }
 {
@@ -62,7 +66,9 @@ fn record_of<R: Read>(alloc: Global, from: &mut Metered<R>) -> Result<Record, Ro
 
 /// Reads the first two rows and the calls, and goes on to the row behind them.
 fn script_of<R: Read + Drop>(alloc: Global, rows: &mut Rows<R>) -> Result<Script, RowFault>
-    ensures { (bytes : List ℕ) → HasRead R.remaining bytes [] rows.old → IfOk result (λ script. IsAtRow R.remaining bytes (map seven (title_row script.layout.mode ∷ limits_row script.limits ∷ call_rows [] script.calls.items)) 7 rows.new) }
+    ensures { (bytes : List ℕ) → HasRead R.remaining bytes [] rows.old →
+        IfOk result (λ script. IsAtRow R.remaining bytes
+        (map seven (title_row script.layout.mode ∷ limits_row script.limits ∷ call_rows [] script.calls.items)) 7 rows.new) }
 {
     next_row(rows)?;
     let Some(mode) = mode_of(row_fields(rows)) else {
@@ -83,7 +89,8 @@ fn script_of<R: Read + Drop>(alloc: Global, rows: &mut Rows<R>) -> Result<Script
 
 /// Tests the end row, and that no row follows.
 fn end_of<R: Read + Drop>(rows: &mut Rows<R>, lines: &[Line]) -> Result<(), RowFault>
-    ensures { (bytes : List ℕ) (before : List (List (List ℕ))) → IsAtRow R.remaining bytes before 7 rows.old → OnOk result (AreRows bytes (before ++ seven (report_end_row lines.now) ∷ [])) }
+    ensures { (bytes : List ℕ) (before : List (List (List ℕ))) → IsAtRow R.remaining bytes before 7 rows.old →
+        OnOk result (AreRows bytes (before ++ seven (report_end_row lines.now) ∷ [])) }
 {
     if !is_end_of(row_fields(rows), lines) || advance(rows)? {
         return Err(rows.fault(NotLawful));

@@ -27,7 +27,8 @@ pub fn calls_of<R: Read + Drop>(
 ) -> Result<Vec<Call>, RowFault>
     ensures few { IfOk result (λ calls. vec_len calls ≤ 65536) }
     ensures accepted { IfOk result (λ calls. All (λ call. (call.client.0 < layout.passes) × (mode_of call.command ≡ layout.mode)) calls.items) }
-    ensures rows { (bytes : List ℕ) (before : List (List (List ℕ))) → IsAtRow R.remaining bytes before 7 rows.old → IfOk result (λ calls. IsAtRow R.remaining bytes (before ++ map seven (call_rows [] calls.items)) 7 rows.new) }
+    ensures rows { (bytes : List ℕ) (before : List (List (List ℕ))) → IsAtRow R.remaining bytes before 7 rows.old →
+        IfOk result (λ calls. IsAtRow R.remaining bytes (before ++ map seven (call_rows [] calls.items)) 7 rows.new) }
 {
     let mut calls = Vec::new(alloc);
     let mut counts = Counts::new(alloc);
@@ -51,8 +52,10 @@ fn next_call<R: Read + Drop>(
     counts: &mut Counts,
 ) -> Result<Call, RowFault>
     ensures accepted { IfOk result (λ call. (call.client.0 < layout.passes) × (mode_of call.command ≡ layout.mode)) }
-    ensures row { (earlier : List Call) → HasCounted counts.old earlier → length (last_row rows.now) ≡ 7 → IfOk result (λ call. last_row rows.now ≡ seven (reported_call_row earlier call)) }
-    ensures counted { (earlier : List Call) → HasCounted counts.old earlier → length earlier < 2 ^ 64 - 1 → IfOk result (λ call. HasCounted counts.new (call ∷ earlier)) }
+    ensures row { (earlier : List Call) → HasCounted counts.old earlier → length (last_row rows.now) ≡ 7 →
+        IfOk result (λ call. last_row rows.now ≡ seven (reported_call_row earlier call)) }
+    ensures counted { (earlier : List Call) → HasCounted counts.old earlier → length earlier < 2 ^ 64 - 1 →
+        IfOk result (λ call. HasCounted counts.new (call ∷ earlier)) }
 {
     let Some((call, number)) = call_of(row_fields(rows), layout) else {
         return Err(rows.fault(NotLawful));

@@ -34,7 +34,8 @@ pub fn lines_of<R: Read + Drop>(
 ) -> Result<Vec<Line>, RowFault>
     ensures calls { IfOk result (λ lines. AreNumbered passes (reverse lines.items)) }
     ensures forms { IfOk result (λ lines. All (HasForm passes calls.now) lines.items) }
-    ensures rows { (bytes : List ℕ) (before : List (List (List ℕ))) → IsAtRow R.remaining bytes before 7 rows.old → IfOk result (λ lines. IsAtRow R.remaining bytes (before ++ map seven (map line_row lines.items)) 7 rows.new) }
+    ensures rows { (bytes : List ℕ) (before : List (List (List ℕ))) → IsAtRow R.remaining bytes before 7 rows.old →
+        IfOk result (λ lines. IsAtRow R.remaining bytes (before ++ map seven (map line_row lines.items)) 7 rows.new) }
 {
     let Ok(commands) = Commands::of(alloc, calls, passes) else {
         return Err(RowFault::NoMemory);
@@ -60,7 +61,8 @@ fn next_line<R: Read + Drop>(
     ensures row { length (last_row rows.now) ≡ 7 → IfOk result (λ line. last_row rows.now ≡ seven (line_row line)) }
     ensures call { IfOk result (IsOfNextCall (calls_counted replies.old)) }
     ensures form { (calls : List CallOf) → HasCommands commands.now passes calls → IfOk result (HasForm passes calls) }
-    ensures counted { (lines : List Line) → HasCountedReplies replies.old passes lines → length lines < 2 ^ 64 - 1 → IfOk result (λ line. HasCountedReplies replies.new passes (line ∷ lines)) }
+    ensures counted { (lines : List Line) → HasCountedReplies replies.old passes lines → length lines < 2 ^ 64 - 1 →
+        IfOk result (λ line. HasCountedReplies replies.new passes (line ∷ lines)) }
 {
     let Ok(line) = line_of(alloc, row_fields(rows), commands, replies) else {
         return Err(RowFault::NoMemory);

@@ -19,14 +19,16 @@ pub(crate) type Page = texts::Page<WIDTH>;
 
 /// Goes on to the next row, or to the place behind the last row, where it answers false.
 pub fn advance<R: Read + Drop>(rows: &mut Rows<R>) -> Result<bool, RowFault>
-    ensures { (bytes : List ℕ) (so_far : List (List (List ℕ))) → HasRead R.remaining bytes so_far rows.old → IfOk result (λ found. MatchBool found (IsAtRow R.remaining bytes so_far 7 rows.new) (AreRows bytes so_far)) }
+    ensures { (bytes : List ℕ) (so_far : List (List (List ℕ))) → HasRead R.remaining bytes so_far rows.old →
+        IfOk result (λ found. MatchBool found (IsAtRow R.remaining bytes so_far 7 rows.new) (AreRows bytes so_far)) }
 {
     rows.advance(WIDTH)
 }
 
 /// Goes on to the next row, which has to be there.
 pub fn next_row<R: Read + Drop>(rows: &mut Rows<R>) -> Result<(), RowFault>
-    ensures { (bytes : List ℕ) (so_far : List (List (List ℕ))) → HasRead R.remaining bytes so_far rows.old → OnOk result (IsAtRow R.remaining bytes so_far 7 rows.new) }
+    ensures { (bytes : List ℕ) (so_far : List (List (List ℕ))) → HasRead R.remaining bytes so_far rows.old →
+        OnOk result (IsAtRow R.remaining bytes so_far 7 rows.new) }
 {
     if advance(rows)? {
         Ok(())

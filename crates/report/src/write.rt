@@ -26,7 +26,8 @@ pub fn write_record<W: Write>(
     to: &mut Metered<W>,
 ) -> Result<(), WriteFault>
     ensures all { OnOk result (Appends (W.contents to.old.inner) (W.contents to.new.inner) (report_text «record».now.script «record».now.lines.items)) }
-    ensures beginning { OnErr result (BeginsWith (W.contents to.old.inner) (W.contents to.new.inner) (report_text «record».now.script «record».now.lines.items)) }
+    ensures beginning { OnErr result (BeginsWith (W.contents to.old.inner) (W.contents to.new.inner)
+        (report_text «record».now.script «record».now.lines.items)) }
     ensures ok { OnOk result (to.new.failures ≡ to.old.failures) }
     ensures no_memory { IsErrOf result WriteFault.NoMemory → to.new.failures ≡ to.old.failures }
     ensures write { IsErrOf result WriteFault.Write → to.new.failures ≡ min (to.old.failures + 1) (2 ^ 64 - 1) }

@@ -91,14 +91,16 @@ const ALONE: &str = "\
 limits,1,10,10,3
 0,insert,5,50,
 0,get,5,,
+0,replace_if,5,50,51
 0,delete,5,,
+0,pop_first,,,
 0,get,5,,
 0,range,1,9,0
-end,5,,,
+end,7,,,
 ";
 
 /// How many they are.
-const CALLS: usize = 5;
+const CALLS: usize = 7;
 
 /// Counts the steps of a client alone, and keeps how many there were as each of its calls began,
 /// and as it was answered.
@@ -149,9 +151,9 @@ impl Gate for Steps {
     }
 }
 
-/// An insert makes 48 steps, a get 7, a delete 72, a get of the empty map 3, and a range of no
-/// pairs none; the insert freezes two nodes and the delete four. Each call begins where the one
-/// before it was answered.
+/// An insert makes 48 steps, a get 7, a replacement 45, a delete 72, a pop and a get of the empty map
+/// 3, and a range of no pairs none; the insert and the replacement freeze two nodes each, the delete
+/// four. Each call begins where the one before it was answered.
 #[test]
 fn a_gate_is_told_of_each_step(rt: HostRuntime) -> Result<(), Fail> {
     let script = script_of(rt.alloc(), ALONE)?;
@@ -159,13 +161,13 @@ fn a_gate_is_told_of_each_step(rt: HostRuntime) -> Result<(), Fail> {
     let outcome = run(&rt, rt.alloc(), &script, &gate);
     assert!(rt; outcome.is_ok());
     let mut begin = 0;
-    for (call, end) in [48u64, 55, 127, 130, 130].iter().enumerate() {
+    for (call, end) in [48u64, 55, 100, 172, 175, 178, 178].iter().enumerate() {
         assert_eq!(rt; gate.began[call].load(Ordering::SeqCst), begin, "{call}");
         assert_eq!(rt; gate.answered[call].load(Ordering::SeqCst), *end, "{call}");
         begin = *end;
     }
-    assert_eq!(rt; gate.made.load(Ordering::SeqCst), 130);
-    assert_eq!(rt; gate.freezes.load(Ordering::SeqCst), 6);
+    assert_eq!(rt; gate.made.load(Ordering::SeqCst), 178);
+    assert_eq!(rt; gate.freezes.load(Ordering::SeqCst), 8);
     Ok(())
 }
 

@@ -29,6 +29,29 @@ pub(super) fn delete<K: WordKey, V: WordValue>(
     forest.delete(pass, &key)
 }
 
+pub(super) fn pop_first<K: WordKey, V: WordValue>(
+    forest: &Forest<Dict<K, V>>,
+    pass: &mut Pass<Dict<K, V>>,
+) -> Result<Option<(K, V)>, UpdateFault>
+    requires { IsOf forest.now pass.old }
+    ensures { IsOf forest.now pass.new }
+{
+    forest.pop_first(pass)
+}
+
+pub(super) fn replace_if<K: WordKey, V: WordValue>(
+    forest: &Forest<Dict<K, V>>,
+    pass: &mut Pass<Dict<K, V>>,
+    key: K,
+    expected: V,
+    value: V,
+) -> Result<Option<V>, UpdateFault>
+    requires { IsOf forest.now pass.old }
+    ensures { IsOf forest.now pass.new }
+{
+    forest.replace_if(pass, key, &expected, value)
+}
+
 pub(super) fn get<K: WordKey, V: WordValue>(
     forest: &Forest<Dict<K, V>>,
     pass: &mut Pass<Dict<K, V>>,

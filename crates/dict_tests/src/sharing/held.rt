@@ -2,7 +2,7 @@
 ghost use Rattle.std.specs.Prelude.{◌≡◌, true, false, IfOk};
 ghost use Rattle.forest.specs.Passes.{IsOf};
 
-use super::answers::{delete, get, insert, range, successor};
+use super::answers::{delete, get, insert, pop_first, range, replace_if, successor};
 use super::{end_two, opened};
 use crate::same::{has, same};
 use arena::Kind;
@@ -132,6 +132,14 @@ fn value(reply: &Reply<u64, u64>) -> Option<Option<u64>> {
     }
 }
 
+/// The pair that a reply tells, if there is one.
+fn pair(reply: &Reply<u64, u64>) -> Option<(u64, u64)> {
+    match reply {
+        Reply::Pair(pair) => *pair,
+        _ => None,
+    }
+}
+
 /// The pairs that a reply tells, if it is one of a range.
 fn pairs(reply: Reply<u64, u64>) -> Option<Vec<(u64, u64)>> {
     match reply {
@@ -223,6 +231,27 @@ fn a_delete_tries_again_behind_a_held_insert(rt: HostRuntime) -> Result<(), Fail
 }
 
 #[test]
+fn a_pop_tries_again_behind_a_held_insert(rt: HostRuntime) -> Result<(), Fail> {
+    let (forest, call, mut second) = frozen_insert(rt.alloc())?;
+    same(&rt, pop_first(&forest, &mut second), Ok(Some((5, 50))));
+    same(&rt, second.left(), (16, 18));
+    let left = end_helped(rt.alloc(), forest, call, second)?;
+    assert!(rt; has(&left, &[(7, 70)]));
+    Ok(())
+}
+
+#[test]
+fn a_replacement_tries_again_behind_a_held_insert(rt: HostRuntime) -> Result<(), Fail> {
+    let (forest, call, mut second) = frozen_insert(rt.alloc())?;
+    let old = replace_if(&forest, &mut second, 7, 70, 71);
+    same(&rt, old, Ok(Some(70)));
+    same(&rt, second.left(), (16, 18));
+    let left = end_helped(rt.alloc(), forest, call, second)?;
+    assert!(rt; has(&left, &[(5, 50), (7, 71)]));
+    Ok(())
+}
+
+#[test]
 fn a_successor_tries_again_behind_a_held_insert(rt: HostRuntime) -> Result<(), Fail> {
     let (forest, call, mut second) = frozen_insert(rt.alloc())?;
     let next = successor(rt.alloc(), &forest, &mut second, 4);
@@ -285,6 +314,23 @@ fn an_insert_that_is_held_too_long_tries_again(rt: HostRuntime) -> Result<(), Fa
     same(&rt, [first.left(), second.left()], [(14, 18), (17, 19)]);
     let left = end_two(rt.alloc(), forest, first, second)?;
     assert!(rt; has(&left, &[(5, 50), (7, 70)]));
+    Ok(())
+}
+
+/// A lesser key comes in just before its first freeze: it takes that one.
+#[test]
+fn a_pop_that_is_held_takes_the_pair_that_is_first_then(rt: HostRuntime) -> Result<(), Fail> {
+    let (forest, first, mut second) = opened::<u64, u64>(rt.alloc())?;
+    let mut kinds = Vec::new(rt.alloc());
+    same(&rt, insert(&forest, &mut second, 7, 70), Ok(None));
+    let call = forest.open(rt.alloc(), first, Request::PopFirst);
+    let call = held(&forest, call, 54, &mut kinds)?;
+    same(&rt, insert(&forest, &mut second, 5, 50), Ok(None));
+    let (first, reply) = rest(&forest, call, &mut kinds)?;
+    same(&rt, pair(&reply), Some((5, 50)));
+    same(&rt, [first.left(), second.left()], [(18, 18), (14, 18)]);
+    let left = end_two(rt.alloc(), forest, first, second)?;
+    assert!(rt; has(&left, &[(7, 70)]));
     Ok(())
 }
 

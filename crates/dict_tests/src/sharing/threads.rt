@@ -3,7 +3,7 @@ ghost use Rattle.std.specs.Prelude.{◌≡◌, IfOk, IfSome};
 ghost use Rattle.std.specs.List.{All};
 ghost use Rattle.forest.specs.Passes.{IsOf};
 
-use super::answers::{delete, insert, range};
+use super::answers::{delete, get, insert, pop_first, range, replace_if};
 use super::{end, limits};
 use crate::same::same;
 use dict::Dict;
@@ -21,6 +21,9 @@ const ROUNDS: u64 = 1000;
 /// How often a call that was contended is asked again.
 const MOST_ASKS: u32 = 1000;
 
+/// How often a thread counts up.
+const COUNTS: u64 = 500;
+
 /// How many keys the window has.
 const WINDOW: u64 = 20;
 
@@ -33,6 +36,12 @@ enum Work {
     Mixed,
     /// The first thread moves a window of keys, and the others look at it.
     Window,
+    /// The first thread puts in so many keys.
+    First { keys: u64 },
+    /// It takes out the first pair.
+    Pop,
+    /// It adds one to the value of the key 0, until it has done so often enough.
+    Count,
 }
 
 /// What came out in a round, where it was right.
@@ -65,6 +74,39 @@ fn take(forest: &Forest<Numbers>, pass: &mut Pass<Numbers>, key: u64) -> Out
         match delete(forest, pass, key) {
             Ok(old) => return Some(old),
             Err(UpdateFault::Contended { .. }) => {}
+            Err(UpdateFault::Full(_)) => return None,
+        }
+    }
+    None
+}
+
+/// Takes out the first pair, and answers its value, which is its key.
+fn pop(forest: &Forest<Numbers>, pass: &mut Pass<Numbers>) -> Out
+    requires { IsOf forest.now pass.old }
+    ensures { IsOf forest.now pass.new }
+{
+    for _ask in 0..MOST_ASKS {
+        match pop_first(forest, pass) {
+            Ok(Some((key, value))) if key == value => return Some(Some(value)),
+            Ok(None) => return Some(None),
+            Err(UpdateFault::Contended { .. }) => {}
+            Ok(Some(_)) | Err(UpdateFault::Full(_)) => return None,
+        }
+    }
+    None
+}
+
+/// Adds one to the value of the key 0, and answers what it was. Where another thread has changed it
+/// meanwhile, it is read again.
+fn count_up(forest: &Forest<Numbers>, pass: &mut Pass<Numbers>) -> Out
+    requires { IsOf forest.now pass.old }
+    ensures { IsOf forest.now pass.new }
+{
+    for _ask in 0..MOST_ASKS {
+        let value = get(forest, pass, 0)?;
+        match replace_if(forest, pass, 0, value, value.wrapping_add(1)) {
+            Ok(old) if old == Some(value) => return Some(old),
+            Ok(_) | Err(UpdateFault::Contended { .. }) => {}
             Err(UpdateFault::Full(_)) => return None,
         }
     }
@@ -163,6 +205,13 @@ fn make_round(
         ),
         Work::Window if number == 0 => move_window(forest, pass, round),
         Work::Window => see_window(alloc, forest, pass),
+        Work::First { keys } if number == 0 && round < keys => {
+            put_fresh(forest, pass, round.wrapping_mul(377) % keys)
+        }
+        Work::First { .. } => Some(None),
+        Work::Pop => pop(forest, pass),
+        Work::Count if round < COUNTS => count_up(forest, pass),
+        Work::Count => Some(None),
     }
 }
 
@@ -265,22 +314,45 @@ impl Ended {
     }
 }
 
-/// So many threads work, and then the forest is closed.
-fn race<R: Threads + Sync>(rt: &R, alloc: Global, threads: u32, work: Work) -> Result<Ended, Fail> {
-    let Ok((forest, passes)) = Forest::<Numbers>::new(alloc, limits(threads, 20_000, 10_000)) else {
+/// The passes work, each in a thread of its own.
+fn worked<R: Threads + Sync>(
+    rt: &R,
+    alloc: Global,
+    forest: &Forest<Numbers>,
+    work: Work,
+    passes: Vec<Pass<Numbers>>,
+) -> Result<(Vec<Pass<Numbers>>, Vec<Outs>), AllocError>
+    requires { All (IsOf forest.now) passes.items }
+    ensures { IfOk result (λ r. All (IsOf forest.now) r.0.items) }
+{
+    part(alloc, forest, crowd(rt, alloc, forest, work, passes)?)
+}
+
+/// So many threads do these works, one after the other, and then the forest is closed. What came out
+/// is that of the second.
+fn race<R: Threads + Sync>(
+    rt: &R,
+    alloc: Global,
+    threads: u32,
+    works: [Work; 2],
+) -> Result<Ended, Fail> {
+    let Ok((forest, passes)) = Forest::<Numbers>::new(alloc, limits(threads, 20_000, 20_000)) else {
         return Err("no forest".into());
     };
-    let workers = crowd(rt, alloc, &forest, work, passes)?;
-    let (passes, outs) = part(alloc, &forest, workers)?;
+    let (passes, _) = worked(rt, alloc, &forest, works[0], passes)?;
+    let (passes, outs) = worked(rt, alloc, &forest, works[1], passes)?;
     match end(alloc, forest, passes) {
         Some(pairs) => Ok(Ended { outs, pairs }),
         None => Err("a pass is missing".into()),
     }
 }
 
+/// Nothing is put in before a race.
+const NOTHING: Work = Work::First { keys: 0 };
+
 #[test]
 fn two_threads_put_in_keys_of_their_own(rt: HostRuntime) -> Result<(), Fail> {
-    let ended = race(&rt, rt.alloc(), 2, Work::Own)?;
+    let ended = race(&rt, rt.alloc(), 2, [NOTHING, Work::Own])?;
     assert!(rt; ended.are_right());
     assert!(rt; ended.has_keys(0, 2000));
     Ok(())
@@ -288,7 +360,7 @@ fn two_threads_put_in_keys_of_their_own(rt: HostRuntime) -> Result<(), Fail> {
 
 #[test]
 fn eight_threads_take_out_what_they_put_in(rt: HostRuntime) -> Result<(), Fail> {
-    let ended = race(&rt, rt.alloc(), 8, Work::Mixed)?;
+    let ended = race(&rt, rt.alloc(), 8, [NOTHING, Work::Mixed])?;
     assert!(rt; ended.are_right());
     let values = ended.values(rt.alloc())?;
     same(&rt, values.len(), 4000);
@@ -299,9 +371,38 @@ fn eight_threads_take_out_what_they_put_in(rt: HostRuntime) -> Result<(), Fail> 
 
 #[test]
 fn three_threads_see_a_window_move(rt: HostRuntime) -> Result<(), Fail> {
-    let ended = race(&rt, rt.alloc(), 4, Work::Window)?;
+    let ended = race(&rt, rt.alloc(), 4, [NOTHING, Work::Window])?;
     assert!(rt; ended.are_right());
     assert!(rt; ended.have_come());
     assert!(rt; ended.has_keys(980, 20));
+    Ok(())
+}
+
+/// Whether these are the numbers from 0 on.
+fn are_all(values: &[u64]) -> bool {
+    values
+        .iter()
+        .enumerate()
+        .all(|(place, value)| *value == place as u64)
+}
+
+#[test]
+fn two_threads_take_out_each_pair_once(rt: HostRuntime) -> Result<(), Fail> {
+    let works = [Work::First { keys: 1000 }, Work::Pop];
+    let ended = race(&rt, rt.alloc(), 2, works)?;
+    assert!(rt; ended.are_right());
+    assert!(rt; ended.pairs.is_empty());
+    let values = ended.values(rt.alloc())?;
+    assert!(rt; values.len() == 1000 && are_all(&values));
+    Ok(())
+}
+
+#[test]
+fn eight_threads_count_up(rt: HostRuntime) -> Result<(), Fail> {
+    let ended = race(&rt, rt.alloc(), 8, [Work::First { keys: 1 }, Work::Count])?;
+    assert!(rt; ended.are_right());
+    assert!(rt; ended.pairs.as_slice() == [(0, 4000)].as_slice());
+    let values = ended.values(rt.alloc())?;
+    assert!(rt; values.len() == 4001 && are_all(&values));
     Ok(())
 }

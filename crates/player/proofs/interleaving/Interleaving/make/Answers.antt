@@ -59,12 +59,12 @@ log-requires-clause-places c =
     record { entries = λ tree. rw c.push_row.ensures.line (x.entries tree); keys = x.keys }
 
 pub log-requires-clause-owner : goal.log-requires-clause-owner
-log-requires-clause-owner c e owed tree =
+log-requires-clause-owner c e owed =
     let p = c.args.self.now in
     let a = c.requires.asked in
     let own = c.index.ensures ∙ get_or_from_slice_get p.clients.items c.args.client.0 a.client c.index.result.now (asked_there p c.args.client.0 c.args.number c.args.step a) in
     let row = asked_row p c.args.client.0 c.args.number c.args.step a c.args.client c.number.result c.apply-before.result c.get.result refl (c.number.ensures ∙ ap (λ (k : Client). k.number) own) c.apply-before.ensures.found (c.get.ensures ∙ c.apply-before.ensures.after.changed) in
-    asked_owner p c.args.client.0 c.args.number c.args.step a _ _ row c.push_row.ensures.line e owed tree
+    asked_owner p c.args.client.0 c.args.number c.args.step a _ _ row c.push_row.ensures.line e owed
 
 pub reply-requires-clause-begun : goal.reply-requires-clause-begun
 reply-requires-clause-begun c d at =
