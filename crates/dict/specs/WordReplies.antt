@@ -32,6 +32,7 @@ abbrev pub goal_reply : Goal → ℕ → Option ℕ → WordReply
 goal_reply (ToKey k) key value = Value value
 goal_reply Least key value = Pair (option_map (pair key) value)
 
+-- what an edit replies that walks there
 abbrev pub edit_reply : Goal → Updated → WordReply
 edit_reply goal = reply_with (goal_reply goal)
 

@@ -5,13 +5,13 @@ use Rattle.ordered_map.specs.OrderedMap.{MapCall, MapEdit, Insert, Delete, Edit,
 use Rattle.script.specs.declared.command.Command.{Command}
 use Rattle.record.specs.MapRecord.{map_call}
 
--- the key of which this call speaks, if it may change one; which one a pop changes it does not say
+-- the key that this call may change, if it names it; which one a pop takes out it does not say
 abbrev pub edited_key : Option MapCall → Option ℕ
 edited_key (Some (Edit edit)) = Some (edit_key edit)
 edited_key (Some (ReplaceIf key expected value)) = Some key
 edited_key _ = None
 
--- the key of which a command speaks whose value it may change, if it may change one
+-- the key that a command may change, if it names it
 abbrev pub changed_key : Command → Option ℕ
 changed_key command = edited_key (map_call (Some command))
 

@@ -25,7 +25,8 @@ abbrev pub AreUpTo : ℕ → List Entry → Type 0
 AreUpTo turn [] = Unit {0}
 AreUpTo turn (e ∷ es) = (e.step ≤ turn) × AreUpTo turn es
 
--- the change is that of the entry's call, in the entry's turn, behind these older entries
+-- the change is that of the entry's call, in the entry's turn, behind these older entries, which are
+-- of turns up to it
 abbrev pub IsChangeOf : List Call → List Entry → Entry → Change → Type 0
 IsChangeOf calls older e change = (change.turn ≡ e.step) × IsChangeBy (map_call_of calls e.client.0 e.call) (map_of calls older) change × AreUpTo e.step older
 

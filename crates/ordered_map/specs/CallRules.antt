@@ -77,15 +77,16 @@ IsFormOfPop Full = Unit {0}
 IsFormOfPop _ = ⊥
 
 -- the rules of a call that edits: in a try it makes at most three steps for each level of its walk
--- and so many behind it, and takes one SCX-record and so many nodes; so many nodes it needs
+-- and so many behind it, and takes at most one SCX-record and so many nodes; so many nodes it needs
+-- on a map, and these are the forms of its replies
 abbrev pub edit_rules : ℕ → ℕ → (List PairOf → ℕ) → (Form → Type 0) → CallRules
-edit_rules behind nodes_in_try needs MayTell = record {
+edit_rules behind nodes_in_try needs IsForm = record {
   most_steps = λ tries nodes. tries * (3 * (2 + nodes) + behind);
   MayMake = λ kind. Unit {0};
   most_scx = λ tries. tries;
   most_nodes = nodes_in_try;
   need = needs;
-  MayReply = MayTell;
+  MayReply = IsForm;
 }
 
 -- Reads

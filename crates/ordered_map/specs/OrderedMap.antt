@@ -73,7 +73,7 @@ range low high most m = take most (between low high m)
 
 -- Calls
 
--- the calls that may change a map
+-- the edits of a map: each change of it is one
 pub data MapEdit : Type 0 where
   Insert : ℕ → ℕ → MapEdit
   Delete : ℕ → MapEdit
@@ -153,7 +153,7 @@ after (Range low high most) m = m
 abbrev pub edit_of : MapCall → MapReply → Option MapEdit
 edit_of (Edit (Insert k v)) told = Some (Insert k v)
 edit_of (Edit (Delete k)) (OneValue (Some v)) = Some (Delete k)
-edit_of PopFirst (OnePair p) = Some (Delete p.key)
+edit_of PopFirst (OnePair p) = pop_edit (Some p)
 edit_of (ReplaceIf k e v) (OneValue told) = replace_edit k e v told
 edit_of _ _ = None
 

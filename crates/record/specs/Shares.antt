@@ -60,6 +60,6 @@ abbrev pub WasBlocked : Layout → ℕ → History → History → Type 0
 WasBlocked lay c now start = (node : ℕ) × (scx : ℕ) × WasBlockedBy lay c now start node scx
 
 -- The share has too little for the next try of a call: it had too little for the first already, as
--- the call began, or a try was lost to another client.
+-- the call began, or another client was in the way since.
 abbrev pub HasTooFewToTry : Layout → ℕ → History → History → ℕ → Resource → ℕ → Type 0
 HasTooFewToTry lay c now start needed what left = HasTooFew lay c now needed what left × (HasTooFew lay c start needed what left ⊎ WasBlocked lay c now start)

@@ -21,7 +21,8 @@ abbrev pub InsertIsRight : ℕ → Layout → ℕ → ℕ → History → Histor
 -- of one that tells a value, its entry and where it took place say all
 InsertIsRight key lay tries c now start linked (Map (Value old)) = Unit {0}
 InsertIsRight key lay tries c now start linked (Map (Contended node scx)) = HasLostAllTries lay tries c now start node.0 scx.0
--- the share has too little for what the map had at the key, and not by the call's own doing
+-- the share has too little for what the map had at the key: already as the call began, or another
+-- client was in the way since
 InsertIsRight key lay tries c now start linked (Map (Full full)) = (old : Option ℕ) × HadAtKey lay now start key old × HasTooFewToTry lay c now start (insert_nodes old) full.what full.left
 InsertIsRight key lay tries c now start linked _ = ⊥
 

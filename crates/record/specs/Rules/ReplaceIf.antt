@@ -31,7 +31,8 @@ abbrev pub ReplaceIsRight : ℕ → ℕ → Layout → ℕ → ℕ → History �
 ReplaceIsRight key expected lay tries c now start linked (Map (Value told)) = ReplaceTold (is_value expected told) lay now start key told
 ReplaceIsRight key expected lay tries c now start linked (Map (Contended node scx)) = HasLostAllTries lay tries c now start node.0 scx.0
 -- after some row behind the call's begin the map had the value that the call expects, and the share
--- has too little for a leaf in place of the key's, and not by the call's own doing
+-- has too little for a leaf in place of the key's: already as the call began, or another client was
+-- in the way since
 ReplaceIsRight key expected lay tries c now start linked (Map (Full full)) = HadAtKey lay now start key (Some expected) × HasTooFewToTry lay c now start 1 full.what full.left
 ReplaceIsRight key expected lay tries c now start linked _ = ⊥
 
