@@ -205,6 +205,7 @@ pub fn by_failure_count<T: Drop, C: Drop>(
     ensures read { IsErrOf result TextFault.Read → before < 2 ^ 64 - 1 → before ≢ after }
     ensures ok { OnOk result (before ≡ after × result ≡ read) }
     ensures bad { IfErr result (IfBad (λ row cause. read ≡ Err (TextFault.Bad row cause))) }
+    ensures kept { before ≡ after → (read ≡ Err TextFault.Read → before ≡ 2 ^ 64 - 1) → result ≡ read }
 {
     match read {
         _ if before != after => Err(TextFault::Read),
