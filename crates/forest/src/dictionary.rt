@@ -24,6 +24,7 @@ use arena::{Limits, Mode, NoMemory, Share};
 use dict::{Dict, DictRun, EditCall, Reply, Request, WordKey, WordValue, value_of};
 use std::alloc::Global;
 use std::mem::replace;
+use template::Goal;
 use tree::{Delete, Insert};
 
 impl<K: WordKey, V: WordValue> Forest<Dict<K, V>> {
@@ -105,8 +106,8 @@ impl<K: WordKey, V: WordValue> Forest<Dict<K, V>> {
         key.valid();
         let number = pass.taken();
         let (words, layout, seat) = (&self.words, &self.layout, &mut pass.seat);
-        let key = key.word();
-        let found = walk::call::<Dict<K, V>, DictRun<K, V>>(words, layout, seat, number, key).0;
+        let goal = Goal::Key(key.word());
+        let found = walk::call::<Dict<K, V>, DictRun<K, V>>(words, layout, seat, number, goal).0;
         value_of(found.value)
     }
 

@@ -62,11 +62,9 @@ pub(crate) fn make<K: WordKey, V: WordValue, E: EditCall>(
         → EditHasEnded K.is_valid K.word_of V.is_valid V.word_of c seat.new.me.0.passes (E.edit edit) share tries number result.1 result.0 }
     ensures steps { seat_steps seat.new.me.0.passes ≤ seat_steps seat.old.me.0.passes + most_steps (CallOf (E.edit edit)) tries (shared_nodes layout.now) }
 {
-    let key = edit.key();
     let mut run = UpdateRun::new(edit, share, tries, number, ());
-    let updated = update::call::<Dict<K, V>, DictRun<K, V>, E>(
-        words, layout, seat, number, &mut run, key,
-    );
+    let updated =
+        update::call::<Dict<K, V>, DictRun<K, V>, E>(words, layout, seat, number, &mut run);
     (of_update::<K, V>(updated), run.into_share())
 }
 

@@ -1,7 +1,6 @@
 use Rattle.std.proofs.Common.{◌≡◌, ◌+◌, ◌*◌, ◌≤◌, refl, sym, ap, ◌∙◌, subst}
 use Rattle.arena.specs.Machines.{Call}
 use Rattle.edits.specs.Steps.{try_left}
-use Rattle.template.specs.declared.walk.Goal.TheVariants.{Key}
 use Rattle.forest.specs.Traces.{seat_steps, shared_nodes}
 use Rattle.dict.specs.Inner.{EditKind}
 use Rattle.dict.specs.WordReplies.{word_reply}
@@ -30,9 +29,6 @@ may_begin g c k lay number x = edit_begins g.K.WordKey.is_valid g.K.WordKey.word
 
 pub call-updated-requires-clause-begins : goal.call-updated-requires-clause-begins
 call-updated-requires-clause-begins g c = let r = c.requires.begins in let k = (goal.at.call-updated-requires-clause-begins g c).After-new-run in (editor g.K.WordKey.is_valid g.K.WordKey.word_of g.V.WordValue.is_valid g.V.WordValue.word_of (first g k) r.0 c.args.layout.now c.args.number r.1 r.2 (kind g) g.met.E.EditCall.is_kind g.E.EditCall.around g.met.E.EditCall.is_around, may_begin g k r.0 r.1 r.2 r.3)
-
-pub call-updated-requires-clause-goal : goal.call-updated-requires-clause-goal
-call-updated-requires-clause-goal g c = ap g.E.Edit.means.goal c.new-run.ensures.edit ∙ g.met.E.EditCall.is_kind.walks c.args.edit ∙ ap Key (sym c.key-key.ensures)
 
 pub returns-clause-steps : goal.returns-clause-steps
 returns-clause-steps g c =
