@@ -15,6 +15,7 @@ use Rattle.dict.specs.Calls.{AsksForPairs, inner_call}
 use Rattle.dict.specs.Known.{WaitsInside}
 use Rattle.dict.specs.Inner.{InnerRun}
 use Rattle.dict.specs.Inner as runs
+use Rattle.dict.specs.Laws.Kinds.{IsOfKind}
 
 -- a range that visits a node asks for some pairs
 visits_some : (m : RangeRun) (c : Call) (h : History) (n : ℕ) → Visits m c h n → AsksForSome m
@@ -34,11 +35,11 @@ range_asks : (m : RangeRun) (c : Call) (h : History) (s : Step) → RangeWaits m
 range_asks m c h s w = asks_at m (begun_at c w.0) h s m.at w.3
 
 -- a call that waits for a step asks for pairs, if it is a range
-pub asks_inside : (m : InnerRun) (c : Call) (h : History) (s : Step) → WaitsInside m c h s → AsksForPairs (inner_call m)
-asks_inside (runs.Update k m) c h s w = tt
-asks_inside (runs.Get m share) c h s w = tt
-asks_inside (runs.Successor m share) c h s w = tt
-asks_inside (runs.Range m share) c h s w = range_asks m c h s w.0
+pub asks_inside : (m : InnerRun) → IsOfKind m → (c : Call) (h : History) (s : Step) → WaitsInside m c h s → AsksForPairs (inner_call m)
+asks_inside (runs.Update k m) kind c h s w = (kind.edits m.edit).asks
+asks_inside (runs.Get m share) kind c h s w = tt
+asks_inside (runs.Successor m share) kind c h s w = tt
+asks_inside (runs.Range m share) kind c h s w = range_asks m c h s w.0
 
 -- one that asks for some pairs does not take nothing
 takes_some : (low high most : ℕ) → (0 < most) × (low ≤ high) → ¬ TakesNothing low high most
@@ -46,8 +47,8 @@ takes_some low high most x (inl e) = let some = x.0 in omega (arith, e, some)
 takes_some low high most x (inr i) = let rises = x.1 in omega (arith, i, rises)
 
 -- the step that a call waits for is of one of its kinds
-pub kind_inside : (m : InnerRun) (c : Call) (h : History) (s : Step) → WaitsInside m c h s → (call_rules (inner_call m)).MayMake s.kind
-kind_inside (runs.Update k m) c h s w = tt
-kind_inside (runs.Get m share) c h s w = (get_loads m c h s w.0).0
-kind_inside (runs.Successor m share) c h s w = successor_fills_not m c h s w.0
-kind_inside (runs.Range m share) c h s w = (range_fills_not m c h s w.0, takes_some m.low m.high m.most (range_asks m c h s w.0))
+pub kind_inside : (m : InnerRun) → IsOfKind m → (c : Call) (h : History) (s : Step) → WaitsInside m c h s → (call_rules (inner_call m)).MayMake s.kind
+kind_inside (runs.Update k m) kind c h s w = (kind.edits m.edit).kinds s.kind
+kind_inside (runs.Get m share) kind c h s w = (get_loads m c h s w.0).0
+kind_inside (runs.Successor m share) kind c h s w = successor_fills_not m c h s w.0
+kind_inside (runs.Range m share) kind c h s w = (range_fills_not m c h s w.0, takes_some m.low m.high m.most (range_asks m c h s w.0))

@@ -1,12 +1,12 @@
 -- What the machine of a call of a dictionary has answered is right, where its reply is that of the
 -- map in words.
-use Rattle.std.proofs.Common.{◌≡◌, ℕ, List, [], ◌∷◌, Bool, true, false, cond, eqb, ltb, leb, ◌&&◌, zero, suc, take, Option, Some, None, inl, inr, sym, subst}
+use Rattle.std.proofs.Common.{◌≡◌, ℕ, List, Option, Some, None, inl, inr, sym, subst}
 use Rattle.arena.specs.declared.limits.Mode.TheVariants.{Tree as TreeMode}
 use Rattle.arena.specs.History.{History, ◌⊳◌, value, Extends}
 use Rattle.arena.specs.Machines.{Call, IsRun}
 use Rattle.arena.specs.Share.{Remaining}
 use Rattle.arena.proofs.Lemmas.{ends_self, ends_trans}
-use Rattle.ordered_map.specs.OrderedMap.{edit_key, MapCall, MapEdit, Edit, Get, Successor, Range, MapReply, OneValue, ManyPairs, edit_of, get, pair_or_none, reply, successor, between}
+use Rattle.ordered_map.specs.OrderedMap.{MapCall, MapEdit, Edit, Insert, Delete, PopFirst, ReplaceIf, Get, Successor, Range, MapReply, OneValue, ManyPairs, edit_of, first_pair, pair_or_none, reply}
 use Rattle.ordered_map.specs.Spelled.{Spells}
 use Rattle.ordered_map.specs.declared.pair.Pair.{Pair}
 use Rattle.edits.specs.Tries.{HasEnteredNone}
@@ -18,8 +18,8 @@ use Rattle.ordered_map.specs.CallRules as form
 use Rattle.dict.specs.Known.{MapAnswers}
 use Rattle.dict.specs.Says.{HasMadeEdit, HasReadMap, HasTold, HasToldBy, KeepsLists, TellsOfMap, WordSays}
 use Rattle.dict.specs.Translated.{TellsTyped, SaysSame, IsTranslated, HasFormOf}
-use Rattle.dict.specs.Typed.{AreTyped, IsTypedValue, IsTypedReply, TypedAllows}
-use Rattle.dict.specs.Laws.TypedMaps.{typed_map, typed_run, typed_since}
+use Rattle.dict.specs.Typed.{AreTyped, IsTypedReply, TypedAllows}
+use Rattle.dict.specs.Laws.TypedMaps.{typed_map, typed_since, reply_typed}
 use Rattle.dict.specs.WordReplies.{told_in}
 use Rattle.dict.specs.Words.{IsWordOf, IsValidReply}
 use Rattle.ordered_map.specs.Replies.{told_of}
@@ -29,45 +29,10 @@ use Rattle.ordered_map.specs.declared.reply.Reply.TheVariants as replies
 use Rattle.dict.specs.declared.told.WordReply.{WordReply}
 use Rattle.dict.specs.declared.told.WordReply.TheVariants as words
 
--- What a map of typed words replies is typed
+-- What is told of a map of typed words is typed
 
 module _ (keys values : ℕ → Type 0) where
-  if_value : (b : Bool) (v w : Option ℕ) → IsTypedValue values v → IsTypedValue values w → IsTypedValue values (cond b v w)
-  if_value true v w x y = x
-  if_value false v w x y = y
-
-  get_typed : (k : ℕ) (m : List Pair) → AreTyped keys values m → IsTypedValue values (get k m)
-  get_typed k [] x = tt
-  get_typed k (p ∷ ps) x = if_value (eqb k p.key) (Some p.value) (get k ps) x.1 (get_typed k ps x.2)
-
-  if_pair : (b : Bool) (p q : Option Pair) → IsTypedReply keys values (pair_or_none p) → IsTypedReply keys values (pair_or_none q) → IsTypedReply keys values (pair_or_none (cond b p q))
-  if_pair true p q x y = x
-  if_pair false p q x y = y
-
-  successor_typed : (k : ℕ) (m : List Pair) → AreTyped keys values m → IsTypedReply keys values (pair_or_none (successor k m))
-  successor_typed k [] x = tt
-  successor_typed k (p ∷ ps) x = if_pair (ltb k p.key) (Some p) (successor k ps) (x.0, x.1) (successor_typed k ps x.2)
-
-  if_pairs : (b : Bool) (ps qs : List Pair) → AreTyped keys values ps → AreTyped keys values qs → AreTyped keys values (cond b ps qs)
-  if_pairs true ps qs x y = x
-  if_pairs false ps qs x y = y
-
-  between_typed : (low high : ℕ) (m : List Pair) → AreTyped keys values m → AreTyped keys values (between low high m)
-  between_typed low high [] x = tt
-  between_typed low high (p ∷ ps) x = let y = between_typed low high ps x.2 in if_pairs (leb low p.key && leb p.key high) (p ∷ between low high ps) (between low high ps) (x.0, x.1, y) y
-
-  take_typed : (most : ℕ) (m : List Pair) → AreTyped keys values m → AreTyped keys values (take most m)
-  take_typed zero m x = tt
-  take_typed (suc most) [] x = tt
-  take_typed (suc most) (p ∷ ps) x = (x.0, x.1, take_typed most ps x.2)
-
-  reply_typed : (call : MapCall) (m : List Pair) → AreTyped keys values m → IsTypedReply keys values (reply call m)
-  reply_typed (Edit e) m x = get_typed (edit_key e) m x
-  reply_typed (Get k) m x = get_typed k m x
-  reply_typed (Successor k) m x = successor_typed k m x
-  reply_typed (Range low high most) m x = take_typed most (between low high m) (between_typed low high m x)
-
-  -- so is what a call tells in a run of the dictionary
+  -- what a call tells in a run of the dictionary
   module _ (c : Call) (h : History) (mode : c.layout.mode ≡ TreeMode) (run : IsRun (TypedAllows keys values) c.layout h) where
     map_typed : (moment : History) (m : List Pair) → Extends h moment → Spells c.layout (value moment) m → AreTyped keys values m
     map_typed moment m within x = typed_map keys values c.layout moment mode (typed_since keys values c.layout h moment run within) m x
@@ -75,10 +40,10 @@ module _ (keys values : ℕ → Type 0) where
     changed_typed : (call : MapCall) (told : MapReply) (edit : MapEdit) → HasMadeEdit c h call told edit → IsTypedReply keys values told
     changed_typed call told edit x =
         let within : Extends h x.made.before = ends_trans h (x.made.row ⊳ x.made.before) x.made.before x.made.within (inr (ends_self x.made.before)) in
-        subst (IsTypedReply keys values) x.gives (reply_typed call x.map (map_typed x.made.before x.map within x.spelled))
+        subst (IsTypedReply keys values) x.gives (reply_typed keys values call x.map (map_typed x.made.before x.map within x.spelled))
 
     read_typed : (call : MapCall) (told : MapReply) → HasReadMap c h call told → IsTypedReply keys values told
-    read_typed call told x = subst (IsTypedReply keys values) x.gives (reply_typed call x.map (map_typed x.moment x.map x.within x.spelled))
+    read_typed call told x = subst (IsTypedReply keys values) x.gives (reply_typed keys values call x.map (map_typed x.moment x.map x.within x.spelled))
 
     by_typed : (made : Option MapEdit) (call : MapCall) (told : MapReply) → HasToldBy made c h call told → IsTypedReply keys values told
     by_typed (Some edit) call told x = changed_typed call told edit x
@@ -96,9 +61,16 @@ module _ (c : Call) (h : History) where
   told_by (Some edit) call told x = (x.map, x.gives)
   told_by None call told x = (x.map, x.gives)
 
+  -- one pair, or none, is not a list of pairs
+  one_pair : (p : Option Pair) (ps : List Pair) → pair_or_none p ≡ ManyPairs ps → ⊥
+  one_pair None ps e = cc
+  one_pair (Some p) ps e = cc
+
   -- a call that tells pairs keeps lists, and has entered nothing
   keeps : (call : MapCall) (ps : List Pair) → HasTold c h call (ManyPairs ps) → KeepsLists call × HasEnteredNone c.layout c.pass h c.start
   keeps (Edit edit) ps x = absurd (let e = (told_by (edit_of (Edit edit) (ManyPairs ps)) (Edit edit) (ManyPairs ps) x).1 in cc)
+  keeps PopFirst ps x = absurd (one_pair (first_pair x.map) ps x.gives)
+  keeps (ReplaceIf k expected value) ps x = absurd (let e = x.gives in cc)
   keeps (Get k) ps x = absurd (let e = x.gives in cc)
   keeps (Successor k) ps x = (tt, x.none)
   keeps (Range low high most) ps x = (tt, x.none)
@@ -130,7 +102,10 @@ module _ (c : Call) (h : History) where
 
 -- a call that may tell pairs may be refused memory
 may_lack : (call : MapCall) → MayReply call form.Pairs → MayReply call form.NoMemory
-may_lack (Edit e) x = x
+may_lack (Edit (Insert k v)) x = absurd x
+may_lack (Edit (Delete k)) x = absurd x
+may_lack PopFirst x = absurd x
+may_lack (ReplaceIf k e v) x = absurd x
 may_lack (Get k) x = x
 may_lack (Successor k) x = absurd x
 may_lack (Range low high most) x = tt

@@ -1,7 +1,8 @@
 -- What the answers of the machines inside say of the call, in words.
-use Rattle.std.proofs.Common.{◌≡◌, ◌≢◌, ℕ, ◌+◌, ◌-◌, ◌*◌, ◌^◌, ◌<◌, ◌≤◌, ◌⊎◌, inl, inr, ⊎_elim, List, Option, Some, None, Result, Ok, Err, Vec, refl, sym, ◌∙◌, ap, subst, arith}
+use Rattle.std.proofs.Common.{◌≡◌, ◌≢◌, ℕ, ◌+◌, ◌-◌, ◌*◌, ◌<◌, ◌≤◌, ◌⊎◌, inl, inr, ⊎_elim, List, Option, Result, Ok, Err, Vec, refl, sym, ◌∙◌, ap, subst, arith}
 use Rattle.std.proofs.Math.Nat.{mul-add, mul-le-mul_left}
 use Rattle.std.specs.Global.{Global}
+use Rattle.std.specs.Option.{option_map}
 use Rattle.arena.specs.History.{History, ◌⊳◌, value, Extends}
 use Rattle.arena.specs.Machines.{Call}
 use Rattle.arena.specs.Share.{Remaining}
@@ -12,19 +13,21 @@ use Rattle.order.specs.declared.range.RangeRun.{RangeRun}
 use Rattle.order.specs.declared.refused.Refused.{Refused}
 use Rattle.order.specs.declared.refused.Refused.TheVariants as refused
 use Rattle.order.specs.declared.successor.SuccessorRun.{SuccessorRun}
-use Rattle.ordered_map.specs.OrderedMap.{MapCall, MapEdit, Edit, Get, Successor as SuccessorOf, Range as RangeOf, OneValue, ManyPairs, edit_key, pair_or_none}
+use Rattle.ordered_map.specs.OrderedMap.{MapCall, MapEdit, Get, Successor as SuccessorOf, Range as RangeOf, OneValue, ManyPairs, edit_key, get, pair, pair_or_none, reply}
 use Rattle.ordered_map.specs.Runs.{IsTreeRun}
 use Rattle.ordered_map.specs.Spelled.{Spells}
 use Rattle.ordered_map.specs.declared.pair.Pair.{Pair}
 use Rattle.ordered_map.proofs.Lemmas.{run_since, run_spells}
 use Rattle.template.specs.Blame.{HasLostTriesTo}
-use Rattle.template.specs.FoundLeaf.{HasFoundGoal}
-use Rattle.template.specs.Tries.{HasTriedAtMost, HasTriedAllBut}
+use Rattle.template.specs.FoundLeaf.{asked_key, HasFoundGoal}
+use Rattle.template.specs.Tries.{tries_since, HasTriedAtMost, HasTriedAllBut}
 use Rattle.template.proofs.Lemmas.{tried_few}
 use Rattle.template.specs.declared.walk.Found.{Found}
+use Rattle.template.specs.declared.walk.Goal.{Goal}
+use Rattle.template.specs.declared.walk.Goal.TheVariants.{Key as ToKey, Least}
 use Rattle.tree.specs.Get.Known.{GetAnswers}
 use Rattle.tree.specs.declared.get.GetRun.{GetRun}
-use Rattle.edits.specs.Known.{RestsWith, HasMade, IsDoneAt, IsUpdateAnswer}
+use Rattle.edits.specs.Known.{RestsWith, HasMade, IsDoneAt, IsUpdateAnswer, ToldFirst}
 use Rattle.edits.specs.Pieces.{many_nodes}
 use Rattle.edits.specs.Steps.{Spends}
 use Rattle.edits.specs.Tries.{HasEnteredNone}
@@ -34,13 +37,14 @@ use Rattle.edits.specs.declared.update.UpdateAt.{UpdateAt}
 use Rattle.edits.specs.declared.update.UpdateRun.{UpdateRun}
 use Rattle.edits.specs.declared.update.Updated.{Updated}
 use Rattle.edits.specs.declared.update.Updated.TheVariants.{Done, Contended, Full}
-use Rattle.ordered_map.specs.CallRules.{nodes_in_try}
-use Rattle.dict.specs.Calls.{most_tries, AsksForPairs, HasSpent}
+use Rattle.ordered_map.specs.CallRules.{most_nodes}
+use Rattle.dict.specs.Calls.{most_tries, AsksForPairs, HasSpent, IsSmallCall}
+use Rattle.dict.specs.Goals.{goal_told, leaf_told}
 use Rattle.dict.specs.Inner.{EditKind}
 use Rattle.dict.specs.Known.{HasRested, HasSpentSo}
-use Rattle.dict.specs.Says.{WordSays, HasMadeEdit, HasReadMap, HasTold, HasToldBy}
-use Rattle.dict.specs.Laws.Kinds.{IsEditKind}
-use Rattle.dict.specs.WordReplies.{word_reply, successor_reply, range_reply}
+use Rattle.dict.specs.Says.{WordSays, IsRefusal, HasMadeEdit, HasReadMap, HasTold, HasToldBy, TellsOfMap}
+use Rattle.dict.specs.Laws.Kinds.{IsEditing, IsEditKind}
+use Rattle.dict.specs.WordReplies.{goal_reply, edit_reply, successor_reply, range_reply, told_in}
 use Rattle.dict.specs.declared.told.WordReply.TheVariants as words
 use Rattle.dict.proofs.Readings.{none_entered, answer_read, reply_read, always_read, leaf_read, ran_out}
 
@@ -56,41 +60,57 @@ takes_none low high most (inl none) asks = let some = asks.0 in omega (arith, no
 takes_none low high most (inr apart) asks = let some = asks.1 in omega (arith, apart, some)
 
 module _ (tries : ℕ) (c : Call) (h : History) where
-  -- an edit that is made tells what the map just before replies
-  made_edit : (e : MapEdit) (old : Option ℕ) → IsTreeRun c.layout h → HasMade e c h c.number old → HasMadeEdit c h (Edit e) (OneValue old) e
-  made_edit e old run x =
+  -- just before an edit is made its leaf tells what the map replies
+  made_told : (goal : Goal) (e : MapEdit) (number : ℕ) (f : Found) → edit_key e ≡ asked_key goal f.key → (x : HasMade e c h number f.value) → ToldFirst goal c.layout x.before f → (map : List Pair) → Spells c.layout (value x.before) map → goal_told goal map ≡ leaf_told goal f
+  made_told (ToKey k) e number f at x first map s = ap OneValue (ap (λ q. get q map) (sym at) ∙ x.told map s)
+  made_told Least e number f at x first map s = ap pair_or_none (first map s)
+
+  -- so does the call that it serves
+  made_edit : (call : MapCall) (goal : Goal) (e : MapEdit) (f : Found) → ((map : List Pair) → reply call map ≡ goal_told goal map) → edit_key e ≡ asked_key goal f.key → IsTreeRun c.layout h → (x : HasMade e c h c.number f.value) → ToldFirst goal c.layout x.before f → HasMadeEdit c h call (leaf_told goal f) e
+  made_edit call goal e f walks at run x first =
       let within : Extends h x.before = ends_trans h (x.row ⊳ x.before) x.before x.within (inr (ends_self x.before)) in
       let map : (m : List Pair) × Spells c.layout (value x.before) m = run_spells c.layout x.before (run_since c.layout h x.before run within) in
-      record { old = old; made = x; map = map.0; spelled = map.1; gives = ap OneValue (x.told map.0 map.1) }
+      record { old = f.value; made = x; map = map.0; spelled = map.1; gives = walks map.0 ∙ made_told goal e c.number f at x first map.0 map.1 }
+
+  -- what a leaf of this key and this value tells is what the update replies that is done there
+  done_says : (goal : Goal) (call : MapCall) (f : Found) (key : ℕ) (old : Option ℕ) → f.key ≡ key → f.value ≡ old → HasTold c h call (leaf_told goal f) → TellsOfMap c h call (told_in (goal_reply goal key old))
+  done_says (ToKey k) call f key old is_key is_value x = subst (λ v. HasTold c h call (OneValue v)) is_value x
+  done_says Least call f key old is_key is_value x = subst (λ p. HasTold c h call (pair_or_none p)) (λ i. option_map (pair (is_key i)) (is_value i)) x
+
+  -- and is no refusal
+  done_refuses : (goal : Goal) (call : MapCall) (share : Remaining) (key : ℕ) (old : Option ℕ) → IsRefusal c h call share tries (goal_reply goal key old)
+  done_refuses (ToKey k) call share key old = tt
+  done_refuses Least call share key old = tt
 
   -- where it has so many tries, so many are lost
   lost : {limit n s : ℕ} → limit ≡ tries → HasLostTriesTo c.pass h c.start limit n s → HasLostTriesTo c.pass h c.start tries n s
   lost {limit} {n} {s} e x = subst (λ k. HasLostTriesTo c.pass h c.start k n s) e x
 
-  module _ (k : EditKind) (is : IsEditKind k) (m : UpdateRun k.E UpdateAt) (run : IsTreeRun c.layout h) (small : edit_key (k.edit m.edit) < 2 ^ 64) where
-    abbrev edit : MapEdit
-    edit = k.edit m.edit
+  module _ (k : EditKind) (is : IsEditKind k) (m : UpdateRun k.E UpdateAt) (run : IsTreeRun c.layout h) (small : IsSmallCall (k.call m.edit)) where
+    abbrev call : MapCall
+    call = k.call m.edit
 
-    -- the leaf that it has found tells what the map had at its key
-    edit_read : (f : Found) → HasFoundGoal (k.means.goal m.edit) c h f → HasEnteredNone c.layout c.pass h c.start → HasReadMap c h (Get (edit_key edit)) (OneValue f.value)
-    edit_read f found none = leaf_read c h (edit_key edit) f small run (subst (λ goal. HasFoundGoal goal c h f) (is.walks m.edit) found) none
+    abbrev goal : Goal
+    goal = k.means.goal m.edit
+
+    -- the leaf that it has found tells what the map replied
+    edit_read : (f : Found) → HasFoundGoal goal c h f → HasEnteredNone c.layout c.pass h c.start → HasReadMap c h call (leaf_told goal f)
+    edit_read f found none = leaf_read c h call goal f (is.walks m.edit) (is.small m.edit small) run found none
 
     -- an edit that is done has changed the map, or has read it
-    edit_done : (found : Found) → m.call ≡ c.number → IsDoneAt k.means m.edit m.call c h found → HasTold c h (Edit edit) (OneValue found.value)
-    edit_done found number (inl x) =
-        let z = edit_read found x.has_found x.none in
-        let read : HasReadMap c h (Edit edit) (OneValue found.value) = record { moment = z.moment; within = z.within; since = z.since; own = λ _. z.own tt; map = z.map; spelled = z.spelled; gives = z.gives; none = z.none } in
-        subst (λ made. HasToldBy made c h (Edit edit) (OneValue found.value)) (sym (is.reads m.edit found x.needless)) read
-    edit_done found number (inr x) =
-        let made : HasMade edit c h c.number found.value = subst (λ n. HasMade edit c h n found.value) number (subst (λ e. HasMade e c h m.call found.value) (is.makes m.edit found) x.0) in
-        subst (λ made. HasToldBy made c h (Edit edit) (OneValue found.value)) (sym (is.changes m.edit found x.1.needed)) (made_edit edit found.value run made)
+    edit_done : (f : Found) → m.call ≡ c.number → IsDoneAt k.means m.edit m.call c h f → HasTold c h call (leaf_told goal f)
+    edit_done f number (inl x) = subst (λ made. HasToldBy made c h call (leaf_told goal f)) (sym (is.reads m.edit f x.needless)) (edit_read f x.has_found x.none)
+    edit_done f number (inr x) =
+        let edit : MapEdit = k.means.edit m.edit f in
+        let made : (made : HasMade edit c h c.number f.value) × ToldFirst goal c.layout made.before f = subst (λ n. (made : HasMade edit c h n f.value) × ToldFirst goal c.layout made.before f) number (x.0, x.2) in
+        subst (λ made. HasToldBy made c h call (leaf_told goal f)) (sym (is.changes m.edit f x.1.needed)) (made_edit call goal edit f (is.walks m.edit) (is.at_found m.edit f) run made.0 made.1)
 
-    pub edit_says : (a : Updated) → m.call ≡ c.number → m.limit ≡ tries → IsUpdateAnswer k.means m c h a → WordSays c h (Edit edit) m.share tries (word_reply a)
-    edit_says (Done key value) number limit x = (subst (λ v. HasTold c h (Edit edit) (OneValue v)) x.is_value (edit_done x.found number x.is_done), tt)
+    pub edit_says : (a : Updated) → m.call ≡ c.number → m.limit ≡ tries → IsUpdateAnswer k.means m c h a → WordSays c h call m.share tries (edit_reply goal a)
+    edit_says (Done key old) number limit x = (done_says goal call x.found key old x.is_key x.is_value (edit_done x.found number x.is_done), done_refuses goal call m.share key old)
     edit_says (Contended node scx) number limit x = (tt, record { way = x.0; all = lost limit x.3; none = x.2 })
     edit_says (Full full) number limit x = (
       tt,
-      ran_out c h (Edit edit) (edit_key edit) x.found (k.means.needs m.edit x.found) m.share full (edit_read x.found x.has_found x.none) (λ map e. is.needs m.edit x.found map e) (needs_some (k.means.needs m.edit x.found) x.needed) x.short x.first,
+      ran_out c h call (leaf_told goal x.found) (k.means.needs m.edit x.found) m.share full (is.edits m.edit).asks (edit_read x.found x.has_found x.none) (λ map e. is.needs m.edit x.found map e) (needs_some (k.means.needs m.edit x.found) x.needed) x.short x.first,
     )
 
   -- a get has read what it tells
@@ -135,12 +155,12 @@ by_begun most old now begun first left limit all s =
     omega (arith, s, more, parts)
 
 -- and once it has answered, with so many tries left
-pub edit_spent : (c : Call) (h : History) (edit : MapEdit) (tries left : ℕ) (share : Remaining) → HasSpentSo c (nodes_in_try edit) share tries left left → HasTriedAllBut c h tries left → HasSpent c h (Edit edit) tries share
-edit_spent c h edit tries left share x tried = record {
-  tried = tried_few c h tries left tried;
+pub edit_spent : (c : Call) (h : History) (call : MapCall) (tries left : ℕ) (share : Remaining) → IsEditing call → HasSpentSo c (most_nodes call) share tries left left → HasTriedAllBut c h tries left → HasSpent c h call tries share
+edit_spent c h call tries left share is x tried = record {
+  tried = subst (HasTriedAtMost c.layout c.pass h c.start) (sym (is.tries tries)) (tried_few c h tries left tried);
   left = x.left;
   first = x.first;
-  nodes = by_begun (nodes_in_try edit) x.left.nodes share.nodes _ _ left tries tried.all x.spends.0;
-  scx = let all = tried.all in let s = x.spends.1 in omega (arith, all, s);
+  nodes = by_begun (most_nodes call) x.left.nodes share.nodes _ _ left tries tried.all x.spends.0;
+  scx = rw (is.scx (tries_since c.pass h c.start)) (let all = tried.all in let s = x.spends.1 in omega (arith, all, s));
   each = let s = x.spends.2 in omega (arith, s);
 }

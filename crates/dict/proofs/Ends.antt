@@ -1,5 +1,5 @@
 -- What the machine of a call has answered is right, where the machine inside has answered.
-use Rattle.std.proofs.Common.{◌≡◌, ℕ, ◌^◌, ◌<◌, Option, Result, Ok, Err, Vec, ◌∙◌, subst}
+use Rattle.std.proofs.Common.{◌≡◌, ℕ, Option, Result, Ok, Err, Vec, ◌∙◌, subst}
 use Rattle.std.specs.Global.{Global}
 use Rattle.arena.specs.History.{History}
 use Rattle.arena.specs.Machines.{Call, IsRun}
@@ -10,7 +10,7 @@ use Rattle.order.specs.declared.range.RangeRun.{RangeRun}
 use Rattle.order.specs.declared.refused.Refused.{Refused}
 use Rattle.order.specs.declared.refused.Refused.TheVariants as refused
 use Rattle.order.specs.declared.successor.SuccessorRun.{SuccessorRun}
-use Rattle.ordered_map.specs.OrderedMap.{MapEdit, Edit, Get as GetOf, Successor as SuccessorOf, Range as RangeOf}
+use Rattle.ordered_map.specs.OrderedMap.{Get as GetOf, Successor as SuccessorOf, Range as RangeOf}
 use Rattle.ordered_map.specs.TreeShape.{TreeAllows}
 use Rattle.ordered_map.specs.declared.pair.Pair.{Pair}
 use Rattle.template.specs.Tries.{HasTriedAtMost, HasTriedAllBut}
@@ -21,22 +21,16 @@ use Rattle.edits.specs.Steps.{node_tries, scx_tries, Spends}
 use Rattle.edits.specs.declared.update.UpdateAt.{UpdateAt}
 use Rattle.edits.specs.declared.update.UpdateRun.{UpdateRun}
 use Rattle.edits.specs.declared.update.Updated.{Updated}
-use Rattle.edits.specs.declared.update.Updated.TheVariants as updated
-use Rattle.ordered_map.specs.CallRules.{MayReply, nodes_in_try}
+use Rattle.ordered_map.specs.CallRules.{MayReply, most_nodes}
 use Rattle.dict.specs.Forms.{word_form}
 use Rattle.dict.specs.Known.{HasRested, Goes, InnerAnswers}
-use Rattle.dict.specs.WordReplies.{word_reply, successor_reply, range_reply}
+use Rattle.dict.specs.WordReplies.{edit_reply, successor_reply, range_reply}
 use Rattle.dict.specs.Inner.{EditKind, Update, Get, Successor, Range}
 use Rattle.dict.specs.Laws.Kinds.{IsEditKind}
 use Rattle.dict.specs.declared.told.WordReply.TheVariants as words
 use Rattle.dict.proofs.Endings.{edit_says, get_says, successor_says, range_says, read_spent, edit_spends, edit_spent}
 
--- What they answer is of a form that such a call may reply
-
-update_form : (e : MapEdit) (a : Updated) → MayReply (Edit e) (word_form (word_reply a))
-update_form e (updated.Done key value) = tt
-update_form e (updated.Contended node scx) = tt
-update_form e (updated.Full full) = tt
+-- What the ordered reads answer is of a form that they may reply
 
 successor_form : (k : ℕ) (a : Result (Option Pair) Refused) → MayReply (SuccessorOf k) (word_form (successor_reply a))
 successor_form k (Ok found) = tt
@@ -58,19 +52,19 @@ module _ (tries : ℕ) (c : Call) where
     small = rw edit goes.small;
     number = call ∙ goes.number;
     limit = limit ∙ goes.limit;
-    spent = rw edit (edit_spends c (nodes_in_try (k.edit old.edit)) old.share now.share tries (node_tries old old.at) (node_tries now now.at) (scx_tries old old.at) (scx_tries now now.at) goes.spent (rw (is.most old.edit) at spends));
+    spent = rw edit (edit_spends c (most_nodes (k.call old.edit)) old.share now.share tries (node_tries old old.at) (node_tries now now.at) (scx_tries old old.at) (scx_tries now now.at) goes.spent (rw (is.most old.edit) at spends));
   }
 
 -- Their answers
 
 module _ (tries : ℕ) (c : Call) (h : History) where
-  pub edit_ends : (k : EditKind) (is : IsEditKind k) (old now : UpdateRun k.E UpdateAt) (a : Updated) → IsRun TreeAllows c.layout h → Goes (Update k old) tries c → now.edit ≡ old.edit → now.call ≡ old.call → now.limit ≡ old.limit → Spends k.means.most_nodes old.share now.share (node_tries old old.at) now.tries (scx_tries old old.at) now.tries → UpdateAnswers k.means now c h a → InnerAnswers tries (Update k now) c h (word_reply a)
+  pub edit_ends : (k : EditKind) (is : IsEditKind k) (old now : UpdateRun k.E UpdateAt) (a : Updated) → IsRun TreeAllows c.layout h → Goes (Update k old) tries c → now.edit ≡ old.edit → now.call ≡ old.call → now.limit ≡ old.limit → Spends k.means.most_nodes old.share now.share (node_tries old old.at) now.tries (scx_tries old old.at) now.tries → UpdateAnswers k.means now c h a → InnerAnswers tries (Update k now) c h (edit_reply (k.means.goal now.edit) a)
   edit_ends k is old now a run goes edit call limit spends x = record {
     rests = x.0;
-    spent = edit_spent c h (k.edit now.edit) tries now.tries now.share
-        (rw edit (edit_spends c (nodes_in_try (k.edit old.edit)) old.share now.share tries (node_tries old old.at) now.tries (scx_tries old old.at) now.tries goes.spent (rw (is.most old.edit) at spends)))
+    spent = edit_spent c h (k.call now.edit) tries now.tries now.share (is.edits now.edit)
+        (rw edit (edit_spends c (most_nodes (k.call old.edit)) old.share now.share tries (node_tries old old.at) now.tries (scx_tries old old.at) now.tries goes.spent (rw (is.most old.edit) at spends)))
         (subst (λ n. HasTriedAllBut c h n now.tries) (limit ∙ goes.limit) x.2);
-    form = update_form (k.edit now.edit) a;
+    form = is.form now.edit a;
     says = edit_says tries c h k is now (goes.mode, run) (rw edit goes.small) a (call ∙ goes.number) (limit ∙ goes.limit) x.1;
   }
 

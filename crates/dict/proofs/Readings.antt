@@ -1,6 +1,6 @@
 -- What a reply of the map comes from: the moment of a read, the leaf that an edit has found, the
 -- edit that it has made.
-use Rattle.std.proofs.Common.{◌≡◌, ℕ, ◌^◌, ◌<◌, List, Option, None, sym, ap, subst}
+use Rattle.std.proofs.Common.{◌≡◌, ℕ, ◌^◌, ◌<◌, List, Option, sym, ◌∙◌, ap, subst}
 use Rattle.arena.specs.declared.fault.Full.{Full as FullOf}
 use Rattle.arena.specs.declared.fault.Resource.{Resource}
 use Rattle.arena.specs.declared.fault.Resource.TheVariants.{Nodes, Scx as ScxRecords}
@@ -9,15 +9,16 @@ use Rattle.arena.specs.Machines.{Call}
 use Rattle.arena.specs.Share.{Remaining}
 use Rattle.arena.proofs.Lemmas.{ends_self, ends_trans}
 use Rattle.order.specs.Replies.{IsReplyAt}
-use Rattle.ordered_map.specs.OrderedMap.{MapCall, Get, MapReply, OneValue, get, reply}
+use Rattle.ordered_map.specs.OrderedMap.{MapCall, Get, MapReply, OneValue, reply}
 use Rattle.ordered_map.specs.Paths.{IsAnswerAt}
 use Rattle.ordered_map.specs.Runs.{IsTreeRun}
 use Rattle.ordered_map.specs.Spelled.{Spells}
 use Rattle.ordered_map.specs.declared.pair.Pair.{Pair}
-use Rattle.ordered_map.proofs.Lemmas.{run_spells, walk_answers}
-use Rattle.template.specs.FoundLeaf.{HasFoundLeaf}
+use Rattle.ordered_map.proofs.Lemmas.{run_spells}
+use Rattle.template.specs.FoundLeaf.{path_key, HasFoundGoal}
 use Rattle.template.specs.Trails.{IsOwnMoment}
 use Rattle.template.specs.declared.walk.Found.{Found}
+use Rattle.template.specs.declared.walk.Goal.{Goal}
 use Rattle.template.proofs.Lemmas.{own_since}
 use Rattle.edits.specs.Known.{IsShort, IsUntouched}
 use Rattle.edits.specs.Laws.Entered.{none_quiet}
@@ -26,7 +27,9 @@ use Rattle.edits.specs.Tries.{HasEnteredNone}
 use Rattle.edits.specs.declared.edit.Need.{Need}
 use Rattle.ordered_map.specs.CallRules.{need}
 use Rattle.dict.specs.Calls.{AsksForPairs}
+use Rattle.dict.specs.Goals.{goal_told, leaf_told}
 use Rattle.dict.specs.Known.{HasRested}
+use Rattle.dict.specs.Laws.Found.{told_at}
 use Rattle.dict.specs.Says.{HasMadeRow, HasReadMap, HasTooLittle, HasRunOut}
 
 module _ (c : Call) (h : History) where
@@ -70,33 +73,38 @@ module _ (c : Call) (h : History) where
       let map : (ps : List Pair) × Spells c.layout (value h) ps = run_spells c.layout h run in
       record { moment = h; within = ends_self h; since = since; own = λ asks. absurd (asks_not asks); map = map.0; spelled = map.1; gives = gives map.0; none = none }
 
-  -- the leaf that was found tells what the map had at a moment of the call
-  pub leaf_read : (key : ℕ) (f : Found) → key < 2 ^ 64 → IsTreeRun c.layout h → HasFoundLeaf c h key f → HasEnteredNone c.layout c.pass h c.start → HasReadMap c h (Get key) (OneValue f.value)
-  leaf_read key f small run x none =
-      let first = x.trail.node.first in
-      answer_read first key f.value x.trail.node.own (subst (IsAnswerAt c.layout h first key) (sym x.says) (walk_answers c.layout h first key f.trail.node.0 small run x.trail.node.passed x.leaf)) none
+  -- the leaf that was found tells what the map replied at a moment of the call
+  pub leaf_read : (call : MapCall) (goal : Goal) (f : Found) → ((map : List Pair) → reply call map ≡ goal_told goal map) → path_key goal < 2 ^ 64 → IsTreeRun c.layout h → HasFoundGoal goal c h f → HasEnteredNone c.layout c.pass h c.start → HasReadMap c h call (leaf_told goal f)
+  leaf_read call goal f walks small run found none =
+      let first = found.trail.node.first in
+      let own = found.trail.node.own in
+      let x = told_at goal c h f small run found in
+      record {
+        moment = x.moment;
+        within = x.within;
+        since = ends_trans x.moment first c.start x.since (own_since c first own);
+        own = λ _. behind_own x.moment first own x.since;
+        map = x.map;
+        spelled = x.spelled;
+        gives = walks x.map ∙ x.gives;
+        none = none;
+      }
 
   -- a share that is too small for the need is too small for as many nodes
   short_of : (want : Need) (many : ℕ) (left : Remaining) (what : Resource) (k : ℕ) → many_nodes want ≡ many → IsShort want left what k → HasTooLittle many left what k
   short_of want many left Nodes k e x = rw (sym e) x
   short_of want many left ScxRecords k e x = rw (sym e) x
 
-  -- the value of a reply
-  abbrev told_value : (told : MapReply) → Option ℕ
-  told_value (OneValue told) = told
-  told_value _ = None
-
   -- so the share has run out for the edit that needs it, where the leaf that was found tells its
   -- need
-  pub ran_out : (call : MapCall) (key : ℕ) (f : Found) (want : Need) (share : Remaining) (full : FullOf) → HasReadMap c h (Get key) (OneValue f.value) → ((map : List Pair) → get key map ≡ f.value → many_nodes want ≡ need call map) → 0 < many_nodes want → IsShort want share full.what full.left → IsUntouched c h share → HasRunOut c h call share full
-  ran_out call key f want share full x needs some short first =
-      let gives : get key x.map ≡ f.value = ap told_value x.gives in
-      let e : many_nodes want ≡ need call x.map = needs x.map gives in
+  pub ran_out : (call : MapCall) (told : MapReply) (want : Need) (share : Remaining) (full : FullOf) → AsksForPairs call → HasReadMap c h call told → ((map : List Pair) → reply call map ≡ told → many_nodes want ≡ need call map) → 0 < many_nodes want → IsShort want share full.what full.left → IsUntouched c h share → HasRunOut c h call share full
+  ran_out call told want share full asks x needs some short first =
+      let e : many_nodes want ≡ need call x.map = needs x.map x.gives in
       record {
         moment = x.moment;
         within = x.within;
         since = x.since;
-        own = x.own tt;
+        own = x.own asks;
         map = x.map;
         spelled = x.spelled;
         some = rw (sym e) some;

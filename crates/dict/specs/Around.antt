@@ -3,7 +3,6 @@ use Rattle.std.specs.Prelude.{◌≡◌, ℕ, Option}
 use Rattle.arena.specs.declared.step.Step.{Step}
 use Rattle.arena.specs.History.{History}
 use Rattle.arena.specs.Machines.{Call}
-use Rattle.ordered_map.specs.OrderedMap.{Edit}
 use Rattle.edits.specs.Known.{UpdateIsReady, UpdateWaits}
 use Rattle.edits.specs.declared.update.UpdateAt.{UpdateAt}
 use Rattle.edits.specs.declared.update.UpdateRun.{UpdateRun}
@@ -13,9 +12,9 @@ use Rattle.dict.specs.Known.{Goes, IsReadyInside, WaitsInside, StandsAtStart, In
 use Rattle.dict.specs.declared.run.MapRun.{MapRun}
 use Rattle.dict.specs.declared.told.WordReply.{WordReply}
 
--- It is a machine of a call of such an edit, whose update stands as it does.
+-- It is a machine of the call that such an edit serves, whose update stands as it does.
 pub record IsAround (k : EditKind) (around : UpdateRun k.E UpdateAt → MapRun) : Type 0 where
-  pub is_call : (m : UpdateRun k.E UpdateAt) → call_in (around m) ≡ Edit (k.edit m.edit)
+  pub is_call : (m : UpdateRun k.E UpdateAt) → call_in (around m) ≡ k.call m.edit
   pub is_share : (m : UpdateRun k.E UpdateAt) → share_of (around m) ≡ m.share
   pub is_behind : (m : UpdateRun k.E UpdateAt) → tries_behind (around m) ≡ m.tries
   pub unbegun : (m : UpdateRun k.E UpdateAt) (tries call : ℕ) → StandsAtStart (Update k m) tries call → IsUnbegun (around m) tries call

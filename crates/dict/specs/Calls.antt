@@ -5,7 +5,7 @@ use Rattle.arena.specs.History.{History}
 use Rattle.arena.specs.Machines.{Call}
 use Rattle.arena.specs.Share.{Remaining}
 use Rattle.ordered_map.specs.CallRules.{most_nodes, most_scx}
-use Rattle.ordered_map.specs.OrderedMap.{MapCall, Edit, Get, Successor, Range, edit_key}
+use Rattle.ordered_map.specs.OrderedMap.{MapCall, Edit, ReplaceIf, Get, Successor, Range, edit_key}
 use Rattle.template.specs.Tries.{tries_since, HasTriedAtMost}
 use Rattle.edits.specs.Known.{RestsWith}
 use Rattle.dict.specs.declared.run.MapRun.{MapRun}
@@ -13,7 +13,7 @@ use Rattle.dict.specs.Inner.{InnerRun, Update, Get as GetRun, Successor as Succe
 
 -- what a call is of whose inner machine this is
 abbrev pub inner_call : InnerRun → MapCall
-inner_call (Update k m) = Edit (k.edit m.edit)
+inner_call (Update k m) = k.call m.edit
 inner_call (GetRun m share) = Get m.key
 inner_call (SuccessorRun m share) = Successor m.key
 inner_call (RangeRun m share) = Range m.low m.high m.most
@@ -48,9 +48,10 @@ tries_behind m = inner_tries (inner m)
 abbrev pub KeepsTriesButOne : MapRun → MapRun → Type 0
 KeepsTriesButOne old now = (tries_behind now ≤ tries_behind old) × (tries_behind old ≤ tries_behind now + 1)
 
--- the key of an edit is one of a word
+-- the key of a call that may edit it is one of a word
 abbrev pub IsSmallCall : MapCall → Type 0
 IsSmallCall (Edit e) = edit_key e < 2 ^ 64
+IsSmallCall (ReplaceIf k e v) = k < 2 ^ 64
 IsSmallCall _ = Unit {0}
 
 -- What a call may try and take

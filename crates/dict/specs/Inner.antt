@@ -1,33 +1,42 @@
--- What runs inside of the machine of a call of the map: an update for an edit, whichever that is,
--- and a machine for each kind of read.
-use Rattle.std.specs.Prelude.{ℕ}
+-- What runs inside of the machine of a call of the map: an update for a call that may edit,
+-- whichever that is, and a machine for each kind of read.
 use Rattle.arena.specs.Share.{Remaining}
 use Rattle.order.specs.declared.range.RangeRun.{RangeRun}
 use Rattle.order.specs.declared.successor.SuccessorRun.{SuccessorRun}
-use Rattle.ordered_map.specs.OrderedMap.{MapEdit, Insert, Delete}
+use Rattle.ordered_map.specs.OrderedMap.{MapCall, Edit, Insert, Delete, PopFirst, ReplaceIf}
 use Rattle.tree.specs.Delete.Means.{delete_means}
 use Rattle.tree.specs.Insert.Means.{insert_means}
+use Rattle.tree.specs.PopFirst.Means.{pop_means}
+use Rattle.tree.specs.ReplaceIf.Means.{replace_means}
 use Rattle.tree.specs.declared.delete.Delete.{Delete as Deleted}
 use Rattle.tree.specs.declared.get.GetRun.{GetRun}
 use Rattle.tree.specs.declared.insert.Insert.{Insert as Inserted}
+use Rattle.tree.specs.declared.pop_first.PopFirst.{PopFirst as Popped}
+use Rattle.tree.specs.declared.replace_if.ReplaceIf.{ReplaceIf as Replaced}
 use Rattle.edits.specs.Edits.{EditMeaning}
 use Rattle.edits.specs.declared.update.UpdateAt.{UpdateAt}
 use Rattle.edits.specs.declared.update.UpdateRun.{UpdateRun}
 use Rattle.dict.specs.declared.run.MapRun.{MapRun}
 use Rattle.dict.specs.declared.run.MapRun.TheVariants as runs
 
--- a kind of edit: what it says to its machine, and which edit of the map it is
+-- a kind of edit: what it says to its machine, and which call of the map it serves
 pub record EditKind : Type 1 where
   pub E : Type 0
   pub means : EditMeaning E
-  pub edit : E → MapEdit
+  pub call : E → MapCall
 
--- that of an insert, and that of a delete
+-- those of the four calls that may edit
 abbrev pub insert_kind : EditKind
-insert_kind = record { E = Inserted; means = insert_means; edit = λ e. Insert e.key e.value }
+insert_kind = record { E = Inserted; means = insert_means; call = λ e. Edit (Insert e.key e.value) }
 
 abbrev pub delete_kind : EditKind
-delete_kind = record { E = Deleted; means = delete_means; edit = λ e. Delete e.key }
+delete_kind = record { E = Deleted; means = delete_means; call = λ e. Edit (Delete e.key) }
+
+abbrev pub pop_kind : EditKind
+pop_kind = record { E = Popped; means = pop_means; call = λ e. PopFirst }
+
+abbrev pub replace_kind : EditKind
+replace_kind = record { E = Replaced; means = replace_means; call = λ e. ReplaceIf e.key e.expected e.value }
 
 -- the machine inside, and the share that lies beside that of a read
 pub data InnerRun : Type 1 where
@@ -40,6 +49,8 @@ pub data InnerRun : Type 1 where
 abbrev pub inner : MapRun → InnerRun
 inner (runs.Insert m) = Update insert_kind m
 inner (runs.Delete m) = Update delete_kind m
+inner (runs.PopFirst m) = Update pop_kind m
+inner (runs.ReplaceIf m) = Update replace_kind m
 inner (runs.Get m share) = Get m share
 inner (runs.Successor m share) = Successor m share
 inner (runs.Range m share) = Range m share

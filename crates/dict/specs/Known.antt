@@ -18,8 +18,7 @@ use Rattle.edits.specs.Known.{RestsWith, UpdateIsReady, UpdateWaits}
 use Rattle.edits.specs.Steps.{node_tries, scx_tries, Spends}
 use Rattle.edits.specs.declared.update.UpdateAt.TheVariants.{Start as UpdateStart}
 use Rattle.dict.specs.Calls.{call_in, inner_call, inner_share, AsksForPairs, IsSmallCall, HasSpent}
-use Rattle.ordered_map.specs.CallRules.{MayReply, nodes_in_try}
-use Rattle.ordered_map.specs.OrderedMap.{edit_key}
+use Rattle.ordered_map.specs.CallRules.{MayReply, most_nodes}
 use Rattle.dict.specs.Forms.{word_form}
 use Rattle.dict.specs.Says.{WordSays}
 use Rattle.dict.specs.declared.run.MapRun.{MapRun}
@@ -43,7 +42,7 @@ pub record HasSpentSo (c : Call) (most : ℕ) (share : Remaining) (tries nodes s
 
 -- what is gone of the share of a call with so many tries: of a read nothing
 abbrev pub HasSpentIn : InnerRun → ℕ → Call → Type 0
-HasSpentIn (Update k m) tries c = HasSpentSo c (nodes_in_try (k.edit m.edit)) m.share tries (node_tries m m.at) (scx_tries m m.at)
+HasSpentIn (Update k m) tries c = HasSpentSo c (most_nodes (k.call m.edit)) m.share tries (node_tries m m.at) (scx_tries m m.at)
 HasSpentIn (Get m share) tries c = RestsWith c c.start share
 HasSpentIn (Successor m share) tries c = RestsWith c c.start share
 HasSpentIn (Range m share) tries c = RestsWith c c.start share
@@ -110,7 +109,7 @@ AsksFirst m = AsksForPairs (call_in m)
 
 -- the machine inside stands at its start, with so many tries in all, in the call of this number
 abbrev pub StandsAtStart : InnerRun → ℕ → ℕ → Type 0
-StandsAtStart (Update k m) tries call = (m.at ≡ UpdateStart) × (m.tries + 1 ≡ tries) × (m.call ≡ call) × (edit_key (k.edit m.edit) < 2 ^ 64) × (m.limit ≡ tries)
+StandsAtStart (Update k m) tries call = (m.at ≡ UpdateStart) × (m.tries + 1 ≡ tries) × (m.call ≡ call) × IsSmallCall (k.call m.edit) × (m.limit ≡ tries)
 StandsAtStart (Get m share) tries call = (m.walk.at ≡ WalkStart) × (m.walk.trail.node.0 ≡ 0) × (m.walk.goal ≡ ToKey m.key) × (m.key < 2 ^ 64)
 StandsAtStart (Successor m share) tries call = (m.at ≡ SuccessorStart) × (m.tries + 1 ≡ tries) × (m.snaps.items ≡ []) × (m.key < 2 ^ 64) × (m.limit ≡ tries)
 StandsAtStart (Range m share) tries call = (m.at ≡ RangeStart) × (m.tries + 1 ≡ tries) × (m.snaps.items ≡ []) × (m.high < 2 ^ 64) × (m.limit ≡ tries)

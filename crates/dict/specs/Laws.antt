@@ -1,5 +1,6 @@
 pub mod Offsets
 pub mod NameKeys
+pub mod Found
 pub mod Kinds
 pub mod Map
 pub mod TypedMaps

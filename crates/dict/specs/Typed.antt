@@ -4,7 +4,7 @@ use Rattle.std.specs.Prelude.{◌≡◌, ℕ, List, [], ◌∷◌, Option, Some,
 use Rattle.arena.specs.declared.layout.Layout.{Layout}
 use Rattle.arena.specs.declared.limits.Mode.TheVariants.{Tree as TreeMode}
 use Rattle.arena.specs.History.{History, value}
-use Rattle.ordered_map.specs.OrderedMap.{MapEdit, Insert, Delete, MapCall, Edit, MapReply, OneValue, OnePair, ManyPairs}
+use Rattle.ordered_map.specs.OrderedMap.{MapEdit, Insert, Delete, MapCall, Edit, ReplaceIf, MapReply, OneValue, OnePair, ManyPairs}
 use Rattle.ordered_map.specs.Spelled.{Spells}
 use Rattle.ordered_map.specs.TreeShape.{MayEdit}
 use Rattle.ordered_map.specs.declared.pair.Pair.{Pair}
@@ -16,9 +16,10 @@ abbrev pub IsTypedEdit : (ℕ → Type 0) → (ℕ → Type 0) → MapEdit → T
 IsTypedEdit keys values (Insert k v) = keys k × values v
 IsTypedEdit keys values (Delete k) = keys k
 
--- a call that edits nothing, or with such an edit
+-- a call that edits nothing of its own, or puts such a value at such a key, or takes such a key away
 abbrev pub IsTypedCall : (ℕ → Type 0) → (ℕ → Type 0) → MapCall → Type 0
 IsTypedCall keys values (Edit e) = IsTypedEdit keys values e
+IsTypedCall keys values (ReplaceIf k e v) = keys k × values v
 IsTypedCall keys values _ = Unit {0}
 
 -- all pairs are of such keys and values

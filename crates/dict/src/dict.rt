@@ -89,6 +89,20 @@ fn in_words<K: WordKey, V: WordValue>(request: Request<K, V>) -> Request<u64, u6
             key.valid();
             Request::Delete { key: key.word() }
         }
+        Request::PopFirst => Request::PopFirst,
+        Request::ReplaceIf {
+            key,
+            expected,
+            value,
+        } => {
+            key.valid();
+            value.valid();
+            Request::ReplaceIf {
+                key: key.word(),
+                expected: expected.word(),
+                value: value.word(),
+            }
+        }
         Request::Get { key } => Request::Get { key: key.word() },
         Request::Successor { key } => Request::Successor { key: key.word() },
         Request::Range { low, high, most } => Request::Range {

@@ -1,4 +1,4 @@
-//! An ordered dictionary on the tree: keys and values of one word each, its five calls, and the
+//! An ordered dictionary on the tree: keys and values of one word each, its seven calls, and the
 //! machine of one.
 #![tactic(auto)]
 

@@ -15,7 +15,10 @@ use arena::{Machine, Share, Turn};
 use order::{RangeRun, SuccessorRun};
 use ordered_map::Request;
 use std::alloc::Global;
-use tree::{Delete, DeleteRun, GetRun, Insert, InsertRun, Tree};
+use tree::{
+    Delete, DeleteRun, GetRun, Insert, InsertRun, PopFirst, PopFirstRun, ReplaceIf, ReplaceIfRun,
+    Tree,
+};
 
 /// A call that has begun. It has its pass's share until it has answered, of which a read takes
 /// nothing.
@@ -23,6 +26,8 @@ use tree::{Delete, DeleteRun, GetRun, Insert, InsertRun, Tree};
 pub enum MapRun {
     Insert(InsertRun),
     Delete(DeleteRun),
+    PopFirst(PopFirstRun),
+    ReplaceIf(ReplaceIfRun),
     Get { run: GetRun, share: Share },
     Successor { run: SuccessorRun, share: Share },
     Range { run: RangeRun, share: Share },
@@ -51,6 +56,22 @@ impl MapRun {
             }
             (Request::Delete { key }, _) => {
                 MapRun::Delete(Delete { key }.run(share, tries, call))
+            }
+            (Request::PopFirst, _) => MapRun::PopFirst(PopFirst.run(share, tries, call)),
+            (
+                Request::ReplaceIf {
+                    key,
+                    expected,
+                    value,
+                },
+                _,
+            ) => {
+                let edit = ReplaceIf {
+                    key,
+                    expected,
+                    value,
+                };
+                MapRun::ReplaceIf(edit.run(share, tries, call))
             }
             (Request::Get { key }, _) => MapRun::Get {
                 run: GetRun::new(key),
@@ -85,6 +106,14 @@ impl MapRun {
                 Turn::Ask(step) => Turn::Ask(step),
                 Turn::Done(updated) => Turn::Done(WordReply::of_update(updated)),
             },
+            MapRun::PopFirst(run) => match run.step(got) {
+                Turn::Ask(step) => Turn::Ask(step),
+                Turn::Done(updated) => Turn::Done(WordReply::of_pop(updated)),
+            },
+            MapRun::ReplaceIf(run) => match run.step(got) {
+                Turn::Ask(step) => Turn::Ask(step),
+                Turn::Done(updated) => Turn::Done(WordReply::of_update(updated)),
+            },
             MapRun::Get { run, share: _ } => match Machine::<Tree>::next(run, got) {
                 Turn::Ask(step) => Turn::Ask(step),
                 Turn::Done(value) => Turn::Done(WordReply::Value(value)),
@@ -108,6 +137,8 @@ impl MapRun {
         match self {
             MapRun::Insert(run) => run.into_share(),
             MapRun::Delete(run) => run.into_share(),
+            MapRun::PopFirst(run) => run.into_share(),
+            MapRun::ReplaceIf(run) => run.into_share(),
             MapRun::Get { run: _, share } => share,
             MapRun::Successor { run, share } => {
                 drop(run);

@@ -1,6 +1,6 @@
 //! What a call replies, in words.
 ghost use Rattle.std.specs.Prelude.{◌≡◌};
-ghost use Rattle.dict.specs.WordReplies.{word_reply, successor_reply, range_reply};
+ghost use Rattle.dict.specs.WordReplies.{word_reply, pop_reply, successor_reply, range_reply};
 
 use arena::{Full, NodeNo, ScxNo};
 use edits::Updated;
@@ -10,9 +10,9 @@ use ordered_map::Pair;
 /// What a call replies, in words, or why it replies nothing.
 #[derive(Debug, Drop, PartialEq, Eq)]
 pub enum WordReply {
-    /// What the key had, of an edit, or has.
+    /// What the key had, of an edit of a key, or has.
     Value(Option<u64>),
-    /// The pair behind a key.
+    /// The pair that is first, of a pop, or behind a key.
     Pair(Option<Pair>),
     /// The pairs between two keys.
     Pairs(Vec<Pair>),
@@ -25,12 +25,25 @@ pub enum WordReply {
 }
 
 impl WordReply {
-    /// What an edit has answered.
-    pub(crate) fn of_update(updated: Updated) -> WordReply
+    /// What an edit of a key has answered.
+    pub fn of_update(updated: Updated) -> WordReply
         ensures { result ≡ word_reply updated }
     {
         match updated {
             Updated::Done { key: _, value } => WordReply::Value(value),
+            Updated::Contended { node, scx } => WordReply::Contended { node, scx },
+            Updated::Full(full) => WordReply::Full(full),
+        }
+    }
+
+    /// What a pop has answered.
+    pub fn of_pop(updated: Updated) -> WordReply
+        ensures { result ≡ pop_reply updated }
+    {
+        match updated {
+            Updated::Done { key, value } => {
+                WordReply::Pair(value.map(|value| Pair { key, value }))
+            }
             Updated::Contended { node, scx } => WordReply::Contended { node, scx },
             Updated::Full(full) => WordReply::Full(full),
         }

@@ -1,5 +1,5 @@
 -- A call that has not begun may be called: its pass is at rest with the share that it has.
-use Rattle.std.proofs.Common.{◌≡◌, ℕ, ◌+◌, ◌<◌, ◌^◌, None, refl, sym, ◌∙◌, ap, subst, arith}
+use Rattle.std.proofs.Common.{◌≡◌, ℕ, ◌+◌, ◌<◌, ◌^◌, None, refl, sym, ◌∙◌, arith}
 use Rattle.arena.specs.declared.limits.Mode.TheVariants.{Tree as TreeMode}
 use Rattle.arena.specs.Machines.{Call, IsRun}
 use Rattle.arena.specs.Share.{Remaining}
@@ -12,7 +12,7 @@ use Rattle.template.proofs.Lemmas.{next_first}
 use Rattle.tree.proofs.Lemmas.{get_ready_first}
 use Rattle.edits.specs.Edits.{EditMeaning}
 use Rattle.edits.specs.Known.{RestsWith, UpdateIsReady}
-use Rattle.ordered_map.specs.CallRules.{nodes_in_try}
+use Rattle.ordered_map.specs.CallRules.{most_nodes}
 use Rattle.edits.specs.Laws.Entered.{none_yet}
 use Rattle.edits.specs.Steps.{node_tries, scx_tries}
 use Rattle.edits.specs.declared.update.UpdateAt.TheVariants.{Start}
@@ -52,13 +52,13 @@ module _ (c : Call) (run : IsTreeRun c.layout c.start) where
     }
 
   goes : (m : InnerRun) (tries : ℕ) → StandsAtStart m tries c.number → RestsWith c c.start (inner_share m) → Goes m tries c
-  goes (Update k m) tries x r = record { mode = run.0; small = x.3; number = x.2; limit = x.4; spent = spent k.means m x.0 r (nodes_in_try (k.edit m.edit)) tries x.1 }
+  goes (Update k m) tries x r = record { mode = run.0; small = x.3; number = x.2; limit = x.4; spent = spent k.means m x.0 r (most_nodes (k.call m.edit)) tries x.1 }
   goes (Get m share) tries x r = record { mode = run.0; small = tt; number = tt; limit = tt; spent = r }
   goes (Successor m share) tries x r = record { mode = run.0; small = tt; number = tt; limit = x.4; spent = r }
   goes (Range m share) tries x r = record { mode = run.0; small = tt; number = tt; limit = x.4; spent = r }
 
   inside : (m : InnerRun) (tries : ℕ) → IsOfKind m → StandsAtStart m tries c.number → IsFewCall (inner_call m) → RestsWith c c.start (inner_share m) → IsReadyInside m c c.start None
-  inside (Update k m) tries kind x few r = update_ready k.means m x.0 r (subst (λ n. n < 2 ^ 64) (sym (ap path_key (kind.walks m.edit))) x.3) (x.4 ∙ sym x.1)
+  inside (Update k m) tries kind x few r = update_ready k.means m x.0 r (kind.small m.edit x.3) (x.4 ∙ sym x.1)
   inside (Get m share) tries kind x few r = (get_ready_first m c run x.3 r.over x.0 x.1 x.2, rests share r)
   inside (Successor m share) tries kind x few r = (successor_ready_first m c c.start run refl x.3 r.over x.0 x.2 (let e = x.4 in let f = x.1 in omega (arith, e, f)), rests share r)
   inside (Range m share) tries kind x few r = (range_ready_first m c c.start run refl x.3 few r.over x.0 x.2 (let e = x.4 in let f = x.1 in omega (arith, e, f)), rests share r)

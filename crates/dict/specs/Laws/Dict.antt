@@ -1,37 +1,51 @@
 -- The laws of the machine of a call of a dictionary: rows of others leave it waiting, its steps are
 -- lawful and begin edits of typed words alone, and what it is told is so.
-use Rattle.std.proofs.Common.{◌≢◌, ℕ, ◌≤◌, length, Option, Some, sym, subst}
+use Rattle.std.proofs.Common.{◌≢◌, ℕ, ◌≤◌, length, Option, Some, ◌∙◌, subst}
 use Rattle.arena.specs.declared.step.Kind.TheVariants.{Fill}
 use Rattle.arena.specs.declared.step.Row.{Row}
 use Rattle.arena.specs.declared.step.Step.{Step}
 use Rattle.arena.specs.History.{History, ◌⊳◌, value}
-use Rattle.arena.specs.Machines.{Call, IsRun, IsTold, row_of}
+use Rattle.arena.specs.Machines.{Call, IsRun, IsTold, begun_at, row_of}
 use Rattle.arena.specs.Share.{Remaining}
 use Rattle.arena.specs.TakenNodes.{taken_nodes}
+use Rattle.arena.proofs.Lemmas.{ends_trans}
 use Rattle.order.specs.Range.Laws.{range_fills_not}
 use Rattle.order.specs.Successor.Laws.{successor_fills_not}
 use Rattle.ordered_map.specs.TreeShape.{TreeAllows}
+use Rattle.template.specs.declared.walk.Found.{Found}
 use Rattle.tree.proofs.Lemmas.{get_fills_not}
+use Rattle.edits.specs.declared.edit.Need.TheVariants.{Nothing}
 use Rattle.dict.specs.Calls.{inner_call}
 use Rattle.dict.specs.DictKnown.{DictIsReady, DictWaits}
+use Rattle.dict.specs.Goals.{leaf_told}
 use Rattle.dict.specs.Known.{HasRested, WaitsInside}
+use Rattle.dict.specs.Laws.Found.{told_at}
 use Rattle.dict.specs.Laws.Map.{map_keeps, inner_lawful, map_made, map_told, on}
 use Rattle.dict.specs.Steps.{MapFits}
-use Rattle.dict.specs.Typed.{IsTypedCall, IsTypedEdit, TypedAllows}
-use Rattle.dict.specs.Laws.TypedMaps.{typed_run}
-use Rattle.dict.specs.Laws.TypedSteps.{typed_quiet, typed_update_lawful}
+use Rattle.dict.specs.Typed.{AreTyped, IsTypedCall, IsTypedEdit, IsTypedReply, TypedAllows}
+use Rattle.dict.specs.Laws.TypedMaps.{typed_run, typed_since, typed_map, reply_typed, edit_typed}
+use Rattle.dict.specs.Laws.TypedSteps.{HasWalkedTo, typed_quiet, typed_update_lawful}
 use Rattle.dict.specs.declared.dict.DictRun.{DictRun}
-use Rattle.dict.specs.Inner.{InnerRun, Update, Get, Successor, Range, inner}
-use Rattle.dict.specs.Laws.Kinds.{IsOfKind, is_of_kind}
+use Rattle.dict.specs.Inner.{EditKind, InnerRun, Update, Get, Successor, Range, inner}
+use Rattle.dict.specs.Laws.Kinds.{IsEditKind, IsOfKind, is_of_kind}
 
 module _ (keys values : ℕ → Type 0) where
   -- a read begins none: its pass is at rest behind its step too
   read_lawful : (c : Call) (h : History) (s : Step) (share : Remaining) → s.kind ≢ Fill → IsRun (TypedAllows keys values) c.layout h → IsRun TreeAllows c.layout (row_of c s h ⊳ h) → HasRested c h share → IsRun (TypedAllows keys values) c.layout (row_of c s h ⊳ h)
   read_lawful c h s share fills_not run tree x = typed_quiet keys values c.layout h (row_of c s h) run tree (on c h (row_of c s h) share tree fills_not x).now.over
 
+  -- what an edit makes at a leaf to which it has walked is of such words
+  edit_found_typed : (k : EditKind) → IsEditKind k → (e : k.E) (c : Call) (h : History) (f : Found) → IsRun (TypedAllows keys values) c.layout h → IsTypedCall keys values (k.call e) → HasWalkedTo k.means e c h f → k.means.needs e f ≢ Nothing → IsTypedEdit keys values (k.means.edit e f)
+  edit_found_typed k is e c h f run typed x needed =
+      let y = told_at (k.means.goal e) (begun_at c x.begin) x.moment f x.small x.run x.found in
+      let there : IsRun (TypedAllows keys values) c.layout y.moment = typed_since keys values c.layout h y.moment run (ends_trans h x.moment y.moment x.within y.within) in
+      let map : AreTyped keys values y.map = typed_map keys values c.layout y.moment x.run.0 there y.map y.spelled in
+      let told : IsTypedReply keys values (leaf_told (k.means.goal e) f) = subst (IsTypedReply keys values) (is.walks e y.map ∙ y.gives) (reply_typed keys values (k.call e) y.map map) in
+      edit_typed keys values (k.call e) (leaf_told (k.means.goal e) f) (k.means.edit e f) (is.changes e f needed) typed told
+
   -- the step of the machine inside continues a run of the dictionary
   lawful_inside : (m : InnerRun) (c : Call) (h : History) (s : Step) → IsOfKind m → IsRun (TypedAllows keys values) c.layout h → IsRun TreeAllows c.layout (row_of c s h ⊳ h) → IsTypedCall keys values (inner_call m) → WaitsInside m c h s → IsRun (TypedAllows keys values) c.layout (row_of c s h ⊳ h)
-  lawful_inside (Update k m) c h s kind run tree typed w = typed_update_lawful keys values k.means m c h s run (λ f need. subst (IsTypedEdit keys values) (sym (kind.makes m.edit f)) typed) w
+  lawful_inside (Update k m) c h s kind run tree typed w = typed_update_lawful keys values k.means m c h s run (λ f walked needed. edit_found_typed k kind m.edit c h f run typed walked needed) w
   lawful_inside (Get m share) c h s kind run tree typed w = read_lawful c h s share (get_fills_not m c h s w.0) run tree w.1
   lawful_inside (Successor m share) c h s kind run tree typed w = read_lawful c h s share (successor_fills_not m c h s w.0) run tree w.1
   lawful_inside (Range m share) c h s kind run tree typed w = read_lawful c h s share (range_fills_not m c h s w.0) run tree w.1

@@ -1,47 +1,99 @@
 -- What has to be so of a kind of edit, and that it is so of each that runs inside of a call.
-use Rattle.std.proofs.Common.{◌≡◌, ◌≢◌, ℕ, ◌+◌, ◌*◌, List, Option, Some, None, refl, sym, ap, ◌∙◌}
+use Rattle.std.proofs.Common.{◌≡◌, ◌≢◌, ℕ, ◌*◌, ◌^◌, ◌<◌, Bool, true, false, cond, List, Option, Some, None, refl, sym, ap, ◌∙◌, arith}
+use Rattle.std.specs.Option.{option_map}
+use Rattle.arena.specs.declared.step.Kind.{Kind}
 use Rattle.arena.specs.declared.step.Step.{Step}
 use Rattle.arena.specs.History.{History}
 use Rattle.arena.specs.Machines.{Call, row_of}
 use Rattle.ordered_map.specs.FillOrder.{AreFilledInOrder, IsFillInOrder}
-use Rattle.ordered_map.specs.CallRules.{insert_nodes, delete_nodes, need, nodes_in_try, steps_behind_walk}
-use Rattle.ordered_map.specs.OrderedMap.{MapEdit, Edit, OneValue, edit_key, edit_of, get}
+use Rattle.ordered_map.specs.CallRules.{insert_nodes, delete_nodes, pop_nodes, replace_nodes, call_rules, most_nodes, most_scx, most_steps, need, MayReply}
+use Rattle.ordered_map.specs.OrderedMap.{MapCall, MapEdit, MapReply, Edit, PopFirst, ReplaceIf, OneValue, OnePair, edit_of, first_pair, get, is_value, pair, pair_or_none, reply}
 use Rattle.ordered_map.specs.declared.pair.Pair.{Pair}
+use Rattle.template.specs.FoundLeaf.{path_key}
 use Rattle.template.specs.declared.walk.Found.{Found}
-use Rattle.template.specs.declared.walk.Goal.TheVariants.{Key as ToKey}
 use Rattle.tree.specs.Delete.Means.{delete_need}
 use Rattle.tree.specs.Insert.Means.{insert_need}
-use Rattle.tree.proofs.Lemmas.{insert_in_order, delete_in_order}
+use Rattle.tree.proofs.Lemmas.{insert_in_order, delete_in_order, pop_in_order, replace_in_order}
 use Rattle.edits.specs.Known.{UpdateWaits}
 use Rattle.edits.specs.Pieces.{many_nodes}
-use Rattle.edits.specs.Steps.{works_behind}
+use Rattle.edits.specs.Sound.{IsAtFound}
+use Rattle.edits.specs.Steps.{try_left}
 use Rattle.edits.specs.declared.edit.Need.TheVariants.{Nothing, One}
-use Rattle.edits.specs.declared.edit.Nth.TheVariants.{First}
 use Rattle.edits.specs.declared.update.UpdateAt.{UpdateAt}
 use Rattle.edits.specs.declared.update.UpdateRun.{UpdateRun}
+use Rattle.edits.specs.declared.update.Updated.{Updated}
+use Rattle.edits.specs.declared.update.Updated.TheVariants.{Done, Contended, Full}
 use Rattle.dict.specs.Around.{IsAround}
-use Rattle.dict.specs.Inner.{EditKind, InnerRun, Update, Get, Successor, Range, insert_kind, delete_kind, inner}
+use Rattle.dict.specs.Calls.{AsksForPairs, IsSmallCall, most_tries}
+use Rattle.dict.specs.Forms.{word_form}
+use Rattle.dict.specs.Goals.{goal_told, leaf_told}
+use Rattle.dict.specs.WordReplies.{word_reply, pop_reply, edit_reply}
+use Rattle.dict.specs.Inner.{EditKind, InnerRun, Update, insert_kind, delete_kind, pop_kind, replace_kind, inner}
 use Rattle.dict.specs.declared.run.MapRun.{MapRun}
 use Rattle.dict.specs.declared.run.MapRun.TheVariants as runs
 
+-- A call that may edit asks for a step before it answers, and may make steps of all kinds; it may
+-- begin all its tries, and takes an SCX-record in each.
+pub record IsEditing (call : MapCall) : Type 0 where
+  pub asks : AsksForPairs call
+  pub kinds : (kind : Kind) → (call_rules call).MayMake kind
+  pub tries : (tries : ℕ) → most_tries call tries ≡ tries
+  pub scx : (tries : ℕ) → most_scx call tries ≡ tries
+
 -- A kind of edit is one that a call of the map makes.
 pub record IsEditKind (k : EditKind) : Type 0 where
-  -- it walks to the leaf of its key
-  pub walks : (e : k.E) → k.means.goal e ≡ ToKey (edit_key (k.edit e))
-  -- whatever leaf it finds, its edit is this
-  pub makes : (e : k.E) (f : Found) → k.means.edit e f ≡ k.edit e
-  -- it takes at most as many nodes in a try as its rules say
-  pub most : (e : k.E) → k.means.most_nodes ≡ nodes_in_try (k.edit e)
-  -- and behind its walk as many steps
-  pub steps : (e : k.E) → 64 * k.means.most_looks + works_behind k.means First + 39 ≡ steps_behind_walk (k.edit e)
-  -- it needs as many nodes on a map that tells what its leaf does
-  pub needs : (e : k.E) (f : Found) (map : List Pair) → get (edit_key (k.edit e)) map ≡ f.value → many_nodes (k.means.needs e f) ≡ need (Edit (k.edit e)) map
+  -- its call may edit
+  pub edits : (e : k.E) → IsEditing (k.call e)
+  -- it walks to a key of a word, where its call has one
+  pub small : (e : k.E) → IsSmallCall (k.call e) → path_key (k.means.goal e) < 2 ^ 64
+  -- it walks to where the map tells what the call replies
+  pub walks : (e : k.E) (map : List Pair) → reply (k.call e) map ≡ goal_told (k.means.goal e) map
+  -- and its edit is of the key of which the leaf tells that
+  pub at_found : IsAtFound k.means
+  -- what it answers is of a form that its call may reply
+  pub form : (e : k.E) (a : Updated) → MayReply (k.call e) (word_form (edit_reply (k.means.goal e) a))
+  -- it takes at most as many nodes in a try as its call may
+  pub most : (e : k.E) → k.means.most_nodes ≡ most_nodes (k.call e)
+  -- and makes at most as many steps
+  pub steps : (e : k.E) (tries nodes : ℕ) → tries * try_left k.means nodes ≡ most_steps (k.call e) tries nodes
+  -- it needs as many nodes on a map that replies what its leaf tells
+  pub needs : (e : k.E) (f : Found) (map : List Pair) → reply (k.call e) map ≡ leaf_told (k.means.goal e) f → many_nodes (k.means.needs e f) ≡ need (k.call e) map
   -- it fills its nodes in order
   pub in_order : (m : UpdateRun k.E UpdateAt) (c : Call) (h : History) (s : Step) → AreFilledInOrder h → UpdateWaits k.means m c h s → IsFillInOrder h (row_of c s h)
   -- where it needs none it is a reading
-  pub reads : (e : k.E) (f : Found) → k.means.needs e f ≡ Nothing → edit_of (Edit (k.edit e)) (OneValue f.value) ≡ None
+  pub reads : (e : k.E) (f : Found) → k.means.needs e f ≡ Nothing → edit_of (k.call e) (leaf_told (k.means.goal e) f) ≡ None
   -- and else it makes its edit
-  pub changes : (e : k.E) (f : Found) → k.means.needs e f ≢ Nothing → edit_of (Edit (k.edit e)) (OneValue f.value) ≡ Some (k.edit e)
+  pub changes : (e : k.E) (f : Found) → k.means.needs e f ≢ Nothing → edit_of (k.call e) (leaf_told (k.means.goal e) f) ≡ Some (k.means.edit e f)
+
+-- the value in a reply of one
+told_value : MapReply → Option ℕ
+told_value (OneValue told) = told
+told_value _ = None
+
+-- replies of the same value
+same_value : (v w : Option ℕ) → OneValue v ≡ OneValue w → v ≡ w
+unfolding told_value
+same_value v w e = ap told_value e
+
+-- an edit of a key answers a value, or is refused
+value_form : (e : MapEdit) (a : Updated) → MayReply (Edit e) (word_form (word_reply a))
+value_form (MapEdit.Insert key value) (Done own told) = tt
+value_form (MapEdit.Insert key value) (Contended node scx) = tt
+value_form (MapEdit.Insert key value) (Full full) = tt
+value_form (MapEdit.Delete key) (Done own told) = tt
+value_form (MapEdit.Delete key) (Contended node scx) = tt
+value_form (MapEdit.Delete key) (Full full) = tt
+
+replace_form : (key expected value : ℕ) (a : Updated) → MayReply (ReplaceIf key expected value) (word_form (word_reply a))
+replace_form key expected value (Done own told) = tt
+replace_form key expected value (Contended node scx) = tt
+replace_form key expected value (Full full) = tt
+
+-- and a pop a pair
+pop_form : (a : Updated) → MayReply PopFirst (word_form (pop_reply a))
+pop_form (Done own told) = tt
+pop_form (Contended node scx) = tt
+pop_form (Full full) = tt
 
 -- an insert always has something to make
 insert_makes : (old : Option ℕ) → insert_need old ≢ Nothing
@@ -56,11 +108,14 @@ insert_many (Some v) = refl
 -- an insert is such a kind
 pub insert_is : IsEditKind insert_kind
 insert_is = record {
-  walks = λ e. refl;
-  makes = λ e f. refl;
+  edits = λ e. record { asks = tt; kinds = λ kind. tt; tries = λ tries. refl; scx = λ tries. refl };
+  small = λ e small. small;
+  walks = λ e map. refl;
+  at_found = λ e f. refl;
+  form = λ e a. value_form (MapEdit.Insert e.key e.value) a;
   most = λ e. refl;
-  steps = λ e. refl;
-  needs = λ e f map is. insert_many f.value ∙ ap insert_nodes (sym is);
+  steps = λ e tries nodes. refl;
+  needs = λ e f map is. insert_many f.value ∙ ap insert_nodes (sym (same_value (get e.key map) f.value is));
   in_order = λ m c h s filled w. insert_in_order m c h s w;
   reads = λ e f nothing. absurd (insert_makes f.value nothing);
   changes = λ e f needed. refl;
@@ -82,14 +137,79 @@ delete_changes key (Some v) d = refl
 -- a delete is such a kind
 pub delete_is : IsEditKind delete_kind
 delete_is = record {
-  walks = λ e. refl;
-  makes = λ e f. refl;
+  edits = λ e. record { asks = tt; kinds = λ kind. tt; tries = λ tries. refl; scx = λ tries. refl };
+  small = λ e small. small;
+  walks = λ e map. refl;
+  at_found = λ e f. refl;
+  form = λ e a. value_form (MapEdit.Delete e.key) a;
   most = λ e. refl;
-  steps = λ e. refl;
-  needs = λ e f map is. delete_many f.value ∙ ap delete_nodes (sym is);
+  steps = λ e tries nodes. refl;
+  needs = λ e f map is. delete_many f.value ∙ ap delete_nodes (sym (same_value (get e.key map) f.value is));
   in_order = λ m c h s filled w. delete_in_order m c h s filled w;
   reads = λ e f nothing. delete_reads e.key f.value nothing;
   changes = λ e f needed. delete_changes e.key f.value needed;
+}
+
+-- a pop needs a node where there is a pair
+pop_many : (key : ℕ) (old : Option ℕ) (p : Option Pair) → pair_or_none p ≡ pair_or_none (option_map (pair key) old) → many_nodes (delete_need old) ≡ pop_nodes p
+pop_many key None None e = refl
+pop_many key (Some v) (Some p) e = refl
+pop_many key None (Some p) e = absurd (let z : OnePair p ≡ OneValue None = e in cc)
+pop_many key (Some v) None e = absurd (let z : OneValue None ≡ OnePair (pair key v) = e in cc)
+
+-- and there it has something to make
+pop_reads : (key : ℕ) (old : Option ℕ) → delete_need old ≡ Nothing → edit_of PopFirst (pair_or_none (option_map (pair key) old)) ≡ None
+pop_reads key None e = refl
+pop_reads key (Some v) e = absurd (let none : One ≡ Nothing = e in cc)
+
+pop_changes : (key : ℕ) (old : Option ℕ) → delete_need old ≢ Nothing → edit_of PopFirst (pair_or_none (option_map (pair key) old)) ≡ Some (MapEdit.Delete key)
+pop_changes key None d = absurd (d refl)
+pop_changes key (Some v) d = refl
+
+-- a pop is such a kind
+pub pop_is : IsEditKind pop_kind
+pop_is = record {
+  edits = λ e. record { asks = tt; kinds = λ kind. tt; tries = λ tries. refl; scx = λ tries. refl };
+  small = λ e small. omega arith;
+  walks = λ e map. refl;
+  at_found = λ e f. refl;
+  form = λ e a. pop_form a;
+  most = λ e. refl;
+  steps = λ e tries nodes. refl;
+  needs = λ e f map is. pop_many f.key f.value (first_pair map) is;
+  in_order = λ m c h s filled w. pop_in_order m c h s filled w;
+  reads = λ e f nothing. pop_reads f.key f.value nothing;
+  changes = λ e f needed. pop_changes f.key f.value needed;
+}
+
+-- a replacement needs a node where the key has the value that it expects
+replace_many : (is : Bool) → many_nodes (cond is One Nothing) ≡ cond is 1 0
+replace_many true = refl
+replace_many false = refl
+
+-- and there it has something to make
+replace_reads : (is : Bool) (edit : MapEdit) → cond is One Nothing ≡ Nothing → cond is (Some edit) None ≡ None
+replace_reads true edit e = absurd (let none : One ≡ Nothing = e in cc)
+replace_reads false edit e = refl
+
+replace_changes : (is : Bool) (edit : MapEdit) → cond is One Nothing ≢ Nothing → cond is (Some edit) None ≡ Some edit
+replace_changes true edit d = refl
+replace_changes false edit d = absurd (d refl)
+
+-- a replacement is such a kind
+pub replace_is : IsEditKind replace_kind
+replace_is = record {
+  edits = λ e. record { asks = tt; kinds = λ kind. tt; tries = λ tries. refl; scx = λ tries. refl };
+  small = λ e small. small;
+  walks = λ e map. refl;
+  at_found = λ e f. refl;
+  form = λ e a. replace_form e.key e.expected e.value a;
+  most = λ e. refl;
+  steps = λ e tries nodes. refl;
+  needs = λ e f map is. replace_many (is_value e.expected f.value) ∙ ap (replace_nodes e.expected) (sym (same_value (get e.key map) f.value is));
+  in_order = λ m c h s filled w. replace_in_order m c h s w;
+  reads = λ e f nothing. replace_reads (is_value e.expected f.value) (MapEdit.Insert e.key e.value) nothing;
+  changes = λ e f needed. replace_changes (is_value e.expected f.value) (MapEdit.Insert e.key e.value) needed;
 }
 
 -- the kind of an update that runs inside is such a one
@@ -101,6 +221,8 @@ IsOfKind m = Unit {0}
 pub is_of_kind : (m : MapRun) → IsOfKind (inner m)
 is_of_kind (runs.Insert m) = insert_is
 is_of_kind (runs.Delete m) = delete_is
+is_of_kind (runs.PopFirst m) = pop_is
+is_of_kind (runs.ReplaceIf m) = replace_is
 is_of_kind (runs.Get m share) = tt
 is_of_kind (runs.Successor m share) = tt
 is_of_kind (runs.Range m share) = tt
@@ -120,9 +242,39 @@ around_insert = record {
   answers = λ m tries c h reply x. x;
 }
 
--- and of deletes
+-- of deletes
 pub around_delete : IsAround delete_kind (λ m. runs.Delete m)
 around_delete = record {
+  is_call = λ m. refl;
+  is_share = λ m. refl;
+  is_behind = λ m. refl;
+  unbegun = λ m tries call x. x;
+  goes_inside = λ m tries c x. x;
+  goes = λ m tries c x. x;
+  ready = λ m c h got x. x;
+  waits_inside = λ m c h s x. x;
+  waits = λ m c h s x. x;
+  answers = λ m tries c h reply x. x;
+}
+
+-- of pops
+pub around_pop : IsAround pop_kind (λ m. runs.PopFirst m)
+around_pop = record {
+  is_call = λ m. refl;
+  is_share = λ m. refl;
+  is_behind = λ m. refl;
+  unbegun = λ m tries call x. x;
+  goes_inside = λ m tries c x. x;
+  goes = λ m tries c x. x;
+  ready = λ m c h got x. x;
+  waits_inside = λ m c h s x. x;
+  waits = λ m c h s x. x;
+  answers = λ m tries c h reply x. x;
+}
+
+-- and of replacements
+pub around_replace : IsAround replace_kind (λ m. runs.ReplaceIf m)
+around_replace = record {
   is_call = λ m. refl;
   is_share = λ m. refl;
   is_behind = λ m. refl;

@@ -1,6 +1,6 @@
 -- A row keeps a run one of a typed dictionary, if what it begins makes an edit of such words; a
 -- pass whose SCX-records are all finished begins none.
-use Rattle.std.proofs.Common.{◌≡◌, ◌≢◌, ℕ, inl, refl, sym, ◌∙◌, ap, subst, arith}
+use Rattle.std.proofs.Common.{◌≡◌, ◌≢◌, ℕ, ◌^◌, ◌<◌, inl, refl, sym, ◌∙◌, ap, subst, arith}
 use Rattle.arena.specs.declared.layout.Layout.{Layout}
 use Rattle.arena.specs.declared.step.Access.{Access}
 use Rattle.arena.specs.declared.step.Access.TheVariants.{Load as LoadAccess, Store, Exchange}
@@ -10,19 +10,20 @@ use Rattle.arena.specs.declared.step.Row.{Row}
 use Rattle.arena.specs.declared.step.Step.{Step}
 use Rattle.arena.specs.declared.word.ScxWord.TheVariants.{State}
 use Rattle.arena.specs.Blame.{IsInProgress}
-use Rattle.arena.specs.History.{History, ◌⊳◌, value}
+use Rattle.arena.specs.History.{History, ◌⊳◌, value, Extends}
 use Rattle.arena.specs.Lawful.{Lawful}
 use Rattle.arena.specs.Machines.{Call, IsRun, IsTold, row_of, begun_at}
 use Rattle.arena.specs.Shape.{IsBegin}
 use Rattle.arena.specs.Words.{state}
 use Rattle.histories.proofs.Lemmas.{Change, nothing, fills_node, fills_scx, freezes, sets_frozen, marks, updates, commits, aborts, change, IsFirst, facts_before, freeze_in_progress, freeze_keeps_scx, shaped_begin, shaped_more}
 use Rattle.prims.specs.Moments.{AreFinished}
-use Rattle.prims.specs.Scx.Known.{job_of}
+use Rattle.prims.specs.Scx.Known.{Job, job_of, ScxWaitsAt}
 use Rattle.prims.proofs.Lemmas.{own_in_hand}
 use Rattle.ordered_map.specs.OrderedMap.{MapEdit}
-use Rattle.ordered_map.specs.Runs.{Makes}
+use Rattle.ordered_map.specs.Runs.{IsTreeRun, Makes}
 use Rattle.ordered_map.specs.TreeShape.{TreeAllows}
-use Rattle.ordered_map.proofs.Lemmas.{begun_named, makes_one}
+use Rattle.ordered_map.proofs.Lemmas.{begun_named, makes_one, run_since}
+use Rattle.template.specs.FoundLeaf.{path_key, HasFoundGoal}
 use Rattle.template.specs.Tracked.{Tracks, waits, begun, over}
 use Rattle.template.specs.declared.walk.Found.{Found}
 use Rattle.edits.specs.Edits.{EditMeaning}
@@ -32,6 +33,8 @@ use Rattle.edits.specs.declared.edit.Need.TheVariants.{Nothing}
 use Rattle.edits.specs.declared.update.UpdateAt.{UpdateAt}
 use Rattle.edits.specs.declared.update.UpdateAt.TheVariants.{Start, Walk, Look, Load, Fill, Scx}
 use Rattle.edits.specs.declared.update.UpdateRun.{UpdateRun}
+use Rattle.prims.specs.declared.scx.ScxAt.{ScxAt}
+use Rattle.prims.specs.declared.scx.ScxAt.TheVariants.{Start as ScxStart, Help}
 use Rattle.prims.specs.declared.scx.ScxRun.{ScxRun}
 use Rattle.dict.specs.Typed.{IsTypedEdit, TypedAllows}
 use Rattle.dict.specs.Laws.TypedMaps.{typed_run}
@@ -56,6 +59,22 @@ begun_runs lay h r s l b = record { unfinished = go (change lay h r l); named = 
         let same : u ≡ s = sym w.stored ∙ b.stored in
         let f = facts_before lay h r l in
         subst (λ t. value (r ⊳ h) (state t) ≡ 0) same (freeze_keeps_scx f w u State ∙ freeze_in_progress f w)
+
+-- a leaf to which an edit had walked at a moment of its call, as far as the call is told of here
+pub record HasWalkedTo {E : Type 0} (e : EditMeaning E) (ed : E) (c : Call) (h : History) (f : Found) : Type 0 where
+  pub moment : History
+  pub within : Extends h moment
+  pub run : IsTreeRun c.layout moment
+  pub small : path_key (e.goal ed) < 2 ^ 64
+  -- its try began here
+  pub begin : History
+  pub found : HasFoundGoal (e.goal ed) (begun_at c begin) moment f
+
+-- an SCX goes on behind its begin
+scx_since : (m : Job) (c : Call) (h : History) (s : Step) (at : ScxAt) → ScxWaitsAt TreeAllows c h m at s → Extends h c.start
+scx_since m c h s ScxStart w = absurd w
+scx_since m c h s (Help help) w = w.2.way.begun.since
+scx_since m c h s at w = w.fills.way.begun.since
 
 -- what a step has found may be told of it
 told_found : (a : Access) (n : ℕ) → IsTold a n n
@@ -89,11 +108,12 @@ module _ (keys values : ℕ → Type 0) where
           let i = first.own.from in
           omega (arith, e, i)
 
-  -- a step of an update continues a run of a typed dictionary, if its edit is of such words
-  module _ {E : Type 0} (e : EditMeaning E) (m : UpdateRun E UpdateAt) (c : Call) (h : History) (s : Step) (run : IsRun (TypedAllows keys values) c.layout h) (typed : (f : Found) → e.needs m.edit f ≢ Nothing → IsTypedEdit keys values (e.edit m.edit f)) where
+  -- a step of an update continues a run of a typed dictionary, if its edit at each leaf to which it
+  -- has walked is of such words
+  module _ {E : Type 0} (e : EditMeaning E) (m : UpdateRun E UpdateAt) (c : Call) (h : History) (s : Step) (run : IsRun (TypedAllows keys values) c.layout h) (typed : (f : Found) → HasWalkedTo e m.edit c h f → e.needs m.edit f ≢ Nothing → IsTypedEdit keys values (e.edit m.edit f)) where
     -- the SCX in hand makes the edit that it tracks
-    in_hand : (b : History) (f : Found) (scx : ScxRun) (begin : History) → IsRun TreeAllows c.layout (row_of c s h ⊳ h) → Scxs e m (begun_at c b) (row_of c s h ⊳ h) f scx begin → (t : ℕ) → IsFirst c.layout h (row_of c s h) t → IsBegin h (row_of c s h) t → (d : MapEdit) × Makes c.layout (row_of c s h ⊳ h) t d × IsTypedEdit keys values d
-    in_hand b f scx begin tree x t first begins = go x.tracks
+    in_hand : (b : History) (f : Found) (scx : ScxRun) (begin : History) → HasWalkedTo e m.edit c h f → IsRun TreeAllows c.layout (row_of c s h ⊳ h) → Scxs e m (begun_at c b) (row_of c s h ⊳ h) f scx begin → (t : ℕ) → IsFirst c.layout h (row_of c s h) t → IsBegin h (row_of c s h) t → (d : MapEdit) × Makes c.layout (row_of c s h ⊳ h) t d × IsTypedEdit keys values d
+    in_hand b f scx begin walked tree x t first begins = go x.tracks
       where
         running : IsInProgress (row_of c s h ⊳ h) t
         running = begun_runs c.layout h (row_of c s h) t tree.lawful begins
@@ -103,8 +123,14 @@ module _ (keys values : ℕ → Type 0) where
 
         go : Tracks c.layout c.pass (row_of c s h ⊳ h) (job_of scx) (e.edit m.edit f) → (d : MapEdit) × Makes c.layout (row_of c s h ⊳ h) t d × IsTypedEdit keys values d
         go (waits promised free) = absurd (free (rw same at running.named))
-        go (begun makes) = (e.edit m.edit f, rw same makes, typed f x.need)
+        go (begun makes) = (e.edit m.edit f, rw same makes, typed f walked x.need)
         go (over z) = absurd (let u : value (row_of c s h ⊳ h) (state scx.scx.0) ≡ 0 = rw same at running.unfinished in omega (arith, u, z))
+
+    -- an SCX's edit has walked to its leaf
+    scx_walked : (a : History) (f : Found) (scx : ScxRun) → UpdateWaitsAt e m (begun_at c a) h s (Scx f scx) → HasWalkedTo e m.edit c h f
+    scx_walked a f scx (begin, x, w) =
+        let within : Extends h begin = scx_since (job_of scx) (begun_at (begun_at c a) begin) h s scx.at w in
+        record { moment = begin; within = within; run = run_since c.layout h begin x.run within; small = x.small; begin = a; found = x.found }
 
     lawful_at : (a b : History) (at : UpdateAt) → IsRun TreeAllows c.layout (row_of c s h ⊳ h) → UpdateWaitsAt e m (begun_at c a) h s at → UpdateIsToldAt e m (begun_at c b) (row_of c s h ⊳ h) (value h s.word) at → IsRun (TypedAllows keys values) c.layout (row_of c s h ⊳ h)
     lawful_at a b Start tree w x = absurd w
@@ -112,7 +138,7 @@ module _ (keys values : ℕ → Type 0) where
     lawful_at a b (Look f llx) tree w x = typed_quiet c.layout h (row_of c s h) run tree x.1.rests.over
     lawful_at a b (Load f nth part) tree w x = typed_no_freeze c.layout h (row_of c s h) run tree (λ q. let z : LoadSettled ≡ Freeze = sym (ap (λ (t : Step). t.kind) w.1) ∙ q in cc)
     lawful_at a b (Fill f nth part) tree w x = typed_no_freeze c.layout h (row_of c s h) run tree (λ q. let z : FillKind ≡ Freeze = sym (ap (λ (t : Step). t.kind) w.3) ∙ q in cc)
-    lawful_at a b (Scx f scx) tree w x = typed_step c.layout h (row_of c s h) run tree (in_hand b f scx x.0 tree x.1)
+    lawful_at a b (Scx f scx) tree w x = typed_step c.layout h (row_of c s h) run tree (in_hand b f scx x.0 (scx_walked a f scx w) tree x.1)
 
     pub typed_update_lawful : UpdateWaits e m c h s → IsRun (TypedAllows keys values) c.layout (row_of c s h ⊳ h)
     typed_update_lawful w =

@@ -1,11 +1,13 @@
 use Rattle.std.proofs.Common.{◌∙◌}
 use Rattle.tree.specs.Delete.Means.{delete_means}
 use Rattle.tree.specs.Insert.Means.{insert_means}
+use Rattle.tree.specs.PopFirst.Means.{pop_means}
+use Rattle.tree.specs.ReplaceIf.Means.{replace_means}
 use Rattle.edits.specs.Laws.Update.{update_scx_left}
 use Rattle.dict.specs.Known.{MapIsReady}
-use Rattle.dict.specs.declared.run.MapRun.TheVariants.{Insert, Delete, Get, Successor, Range}
-use Rattle.dict.specs.Inner.{insert_kind, delete_kind}
-use Rattle.dict.specs.Laws.Kinds.{insert_is, delete_is}
+use Rattle.dict.specs.declared.run.MapRun.TheVariants.{Insert, Delete, PopFirst, ReplaceIf, Get, Successor, Range}
+use Rattle.dict.specs.Inner.{insert_kind, delete_kind, pop_kind, replace_kind}
+use Rattle.dict.specs.Laws.Kinds.{insert_is, delete_is, pop_is, replace_is}
 use Rattle.dict.proofs.Ends.{edit_goes, edit_ends, get_ends, successor_ends, range_ends}
 use Rattle.dict.proofs.run.MapRun.next.Goals as goal
 
@@ -21,20 +23,32 @@ returns-in-Done-step-clause-turn c tries d h run ready =
     let same = c.step-in-Delete.ensures.same in
     rw c.of_update-in-Done-step.ensures (edit_ends tries d h delete_kind delete_is c.in-Delete.run' c.step-in-Delete.new.self c.in-Done-step.updated run r.0 same.0 same.1 same.2 (c.in-Done-step.ensures.spends (update_scx_left delete_means c.in-Delete.run' d h c.args.got r.1)) (c.in-Done-step.ensures.turn d h run r.1))
 
+pub returns-in-Done-step-2-clause-turn : goal.returns-in-Done-step-2-clause-turn
+returns-in-Done-step-2-clause-turn c tries d h run ready =
+    let r : MapIsReady tries (PopFirst c.in-PopFirst.run') d h c.args.got = rw c.in-PopFirst.is at ready in
+    let same = c.step-in-PopFirst.ensures.same in
+    rw c.of_pop.ensures (edit_ends tries d h pop_kind pop_is c.in-PopFirst.run' c.step-in-PopFirst.new.self c.in-Done-step-2.updated run r.0 same.0 same.1 same.2 (c.in-Done-step-2.ensures.spends (update_scx_left pop_means c.in-PopFirst.run' d h c.args.got r.1)) (c.in-Done-step-2.ensures.turn d h run r.1))
+
+pub returns-in-Done-step-3-clause-turn : goal.returns-in-Done-step-3-clause-turn
+returns-in-Done-step-3-clause-turn c tries d h run ready =
+    let r : MapIsReady tries (ReplaceIf c.in-ReplaceIf.run') d h c.args.got = rw c.in-ReplaceIf.is at ready in
+    let same = c.step-in-ReplaceIf.ensures.same in
+    rw c.of_update-in-Done-step-3.ensures (edit_ends tries d h replace_kind replace_is c.in-ReplaceIf.run' c.step-in-ReplaceIf.new.self c.in-Done-step-3.updated run r.0 same.0 same.1 same.2 (c.in-Done-step-3.ensures.spends (update_scx_left replace_means c.in-ReplaceIf.run' d h c.args.got r.1)) (c.in-Done-step-3.ensures.turn d h run r.1))
+
 pub returns-in-Done-next-clause-turn : goal.returns-in-Done-next-clause-turn
 returns-in-Done-next-clause-turn c tries d h run ready =
     let r : MapIsReady tries (Get c.in-Get.run' c.in-Get.share) d h c.args.got = rw c.in-Get.is at ready in
     get_ends tries d h c.next.new.self c.in-Get.share c.in-Done-next.value r.1.1 r.0.spent (c.in-Done-next.ensures.turn d h run r.1.0)
 
-pub returns-in-Done-step-2-clause-turn : goal.returns-in-Done-step-2-clause-turn
-returns-in-Done-step-2-clause-turn c tries d h run ready =
+pub returns-in-Done-step-4-clause-turn : goal.returns-in-Done-step-4-clause-turn
+returns-in-Done-step-4-clause-turn c tries d h run ready =
     let r : MapIsReady tries (Successor c.in-Successor.run' c.in-Successor.share) d h c.args.got = rw c.in-Successor.is at ready in
-    rw c.of_successor.ensures (successor_ends tries d h c.step-in-Successor.new.self c.in-Successor.share c.in-Done-step-2.told r.1.1 r.0.spent (c.step-in-Successor.ensures.same.1 ∙ r.0.limit) (c.in-Done-step-2.ensures.turn d h r.1.0))
+    rw c.of_successor.ensures (successor_ends tries d h c.step-in-Successor.new.self c.in-Successor.share c.in-Done-step-4.told r.1.1 r.0.spent (c.step-in-Successor.ensures.same.1 ∙ r.0.limit) (c.in-Done-step-4.ensures.turn d h r.1.0))
 
-pub returns-in-Done-step-3-clause-turn : goal.returns-in-Done-step-3-clause-turn
-returns-in-Done-step-3-clause-turn c tries d h run ready =
+pub returns-in-Done-step-5-clause-turn : goal.returns-in-Done-step-5-clause-turn
+returns-in-Done-step-5-clause-turn c tries d h run ready =
     let r : MapIsReady tries (Range c.in-Range.run' c.in-Range.share) d h c.args.got = rw c.in-Range.is at ready in
-    rw c.of_range.ensures (range_ends tries d h c.step-in-Range.new.self c.in-Range.share c.in-Done-step-3.told r.1.1 r.0.spent (c.step-in-Range.ensures.same.3 ∙ r.0.limit) (c.in-Done-step-3.ensures.turn d h r.1.0))
+    rw c.of_range.ensures (range_ends tries d h c.step-in-Range.new.self c.in-Range.share c.in-Done-step-5.told r.1.1 r.0.spent (c.step-in-Range.ensures.same.3 ∙ r.0.limit) (c.in-Done-step-5.ensures.turn d h r.1.0))
 
 pub returns-in-Ask-clause-turn : goal.returns-in-Ask-clause-turn
 returns-in-Ask-clause-turn c tries d h run ready =
@@ -50,10 +64,22 @@ returns-in-Ask-step-clause-turn c tries d h run ready =
 
 pub returns-in-Ask-step-2-clause-turn : goal.returns-in-Ask-step-2-clause-turn
 returns-in-Ask-step-2-clause-turn c tries d h run ready =
-    let r : MapIsReady tries (Successor c.in-Successor.run' c.in-Successor.share) d h c.args.got = rw c.in-Successor.is at ready in
-    (record { mode = r.0.mode; small = tt; number = tt; limit = c.step-in-Successor.ensures.same.1 ∙ r.0.limit; spent = r.0.spent }, (c.in-Ask-step-2.ensures.turn d h r.1.0, r.1.1))
+    let r : MapIsReady tries (PopFirst c.in-PopFirst.run') d h c.args.got = rw c.in-PopFirst.is at ready in
+    let same = c.step-in-PopFirst.ensures.same in
+    (edit_goes tries d pop_kind pop_is c.in-PopFirst.run' c.step-in-PopFirst.new.self r.0 same.0 same.1 same.2 (c.in-Ask-step-2.ensures.spends (update_scx_left pop_means c.in-PopFirst.run' d h c.args.got r.1)), c.in-Ask-step-2.ensures.turn d h run r.1)
 
 pub returns-in-Ask-step-3-clause-turn : goal.returns-in-Ask-step-3-clause-turn
 returns-in-Ask-step-3-clause-turn c tries d h run ready =
+    let r : MapIsReady tries (ReplaceIf c.in-ReplaceIf.run') d h c.args.got = rw c.in-ReplaceIf.is at ready in
+    let same = c.step-in-ReplaceIf.ensures.same in
+    (edit_goes tries d replace_kind replace_is c.in-ReplaceIf.run' c.step-in-ReplaceIf.new.self r.0 same.0 same.1 same.2 (c.in-Ask-step-3.ensures.spends (update_scx_left replace_means c.in-ReplaceIf.run' d h c.args.got r.1)), c.in-Ask-step-3.ensures.turn d h run r.1)
+
+pub returns-in-Ask-step-4-clause-turn : goal.returns-in-Ask-step-4-clause-turn
+returns-in-Ask-step-4-clause-turn c tries d h run ready =
+    let r : MapIsReady tries (Successor c.in-Successor.run' c.in-Successor.share) d h c.args.got = rw c.in-Successor.is at ready in
+    (record { mode = r.0.mode; small = tt; number = tt; limit = c.step-in-Successor.ensures.same.1 ∙ r.0.limit; spent = r.0.spent }, (c.in-Ask-step-4.ensures.turn d h r.1.0, r.1.1))
+
+pub returns-in-Ask-step-5-clause-turn : goal.returns-in-Ask-step-5-clause-turn
+returns-in-Ask-step-5-clause-turn c tries d h run ready =
     let r : MapIsReady tries (Range c.in-Range.run' c.in-Range.share) d h c.args.got = rw c.in-Range.is at ready in
-    (record { mode = r.0.mode; small = tt; number = tt; limit = c.step-in-Range.ensures.same.3 ∙ r.0.limit; spent = r.0.spent }, (c.in-Ask-step-3.ensures.turn d h r.1.0, r.1.1))
+    (record { mode = r.0.mode; small = tt; number = tt; limit = c.step-in-Range.ensures.same.3 ∙ r.0.limit; spent = r.0.spent }, (c.in-Ask-step-5.ensures.turn d h r.1.0, r.1.1))

@@ -1,0 +1,21 @@
+-- What the leaf that was found tells the map has replied, at a moment of the call.
+use Rattle.std.proofs.Common.{◌^◌, ◌<◌, ap}
+use Rattle.arena.specs.History.{History}
+use Rattle.arena.specs.Machines.{Call}
+use Rattle.ordered_map.specs.OrderedMap.{OneValue, pair_or_none}
+use Rattle.ordered_map.specs.Paths.{IsAnswerAt, IsFirstAt}
+use Rattle.ordered_map.specs.Runs.{IsTreeRun}
+use Rattle.template.specs.FoundLeaf.{path_key, first_told, HasFoundGoal}
+use Rattle.template.specs.declared.walk.Found.{Found}
+use Rattle.template.specs.declared.walk.Goal.{Goal}
+use Rattle.template.specs.declared.walk.Goal.TheVariants.{Key as ToKey, Least}
+use Rattle.template.proofs.Lemmas.{found_gives, found_first}
+use Rattle.dict.specs.Goals.{leaf_told, IsToldAt}
+
+pub told_at : (goal : Goal) (c : Call) (h : History) (f : Found) → path_key goal < 2 ^ 64 → IsTreeRun c.layout h → (x : HasFoundGoal goal c h f) → IsToldAt c.layout h x.trail.node.first goal (leaf_told goal f)
+told_at (ToKey k) c h f small run x =
+    let y : IsAnswerAt c.layout h x.trail.node.first k f.value = found_gives c h k f run small x in
+    record { moment = y.moment; within = y.within; since = y.since; map = y.map; spelled = y.spelled; gives = ap OneValue y.gives }
+told_at Least c h f small run x =
+    let y : IsFirstAt c.layout h x.trail.node.first (first_told f) = found_first c h f run x in
+    record { moment = y.moment; within = y.within; since = y.since; map = y.map; spelled = y.spelled; gives = ap pair_or_none y.is }
