@@ -7,7 +7,7 @@ ghost use Rattle.moments.specs.Links.{latest, AreLinkedByKey};
 use crate::changed::changed_key;
 use crate::ordered::{behind, bounds, is_unlike, most_told, next_best, pairs_told};
 use arena::NoMemory;
-use ordered_map::Reply;
+use ordered_map::{Reply, Request};
 use script::{Call, Command};
 use std::alloc::Global;
 use std::collections::BTreeMap;
@@ -37,19 +37,20 @@ pub struct Places {
 }
 
 impl Places {
-    ghost use Rattle.std.specs.Prelude.{◌≡◌, ◌≢◌, ℕ, suc, ◌+◌, ◌≤◌, false, List, [], ◌∷◌, ◌++◌, Some, map, reverse, IfOk, IfSome, IfNone, IsTrue, OnOk, All};
+    ghost use Rattle.std.specs.Prelude.{◌≡◌, ◌≢◌, ℕ, suc, ◌+◌, ◌≤◌, false, List, [], ◌∷◌, ◌++◌, Some, None, map, reverse, IfOk, IfSome, IfNone, IsTrue, OnOk, All};
     ghost use Rattle.script.specs.declared.call.Call.{Call};
     ghost use Rattle.record.specs.declared.record.Line.{Line};
     ghost use Rattle.record.specs.MapRecord.{map_at};
     ghost use Rattle.record.specs.Placed.{IsGreatestTurn};
-    ghost use Rattle.ordered_map.specs.OrderedMap.{MapCall, get, reply as replies_on};
+    ghost use Rattle.ordered_map.specs.declared.pair.Pair.{Pair};
+    ghost use Rattle.ordered_map.specs.OrderedMap.{MapCall, first_pair, get, reply as replies_on};
     ghost use Rattle.record.specs.MapRecord.{map_call, number_pairs};
     ghost use Rattle.ordered_map.specs.Replies.{number_reply};
     ghost use Rattle.moments.specs.Ordered.{IsOrderedRead, FallFrom, pairs_read};
     ghost use Rattle.moments.specs.Links.{newest_value};
     ghost use Rattle.moments.specs.declared.places.Place.{Place};
     ghost use Rattle.moments.specs.Places.{changes, room_for_changes, Knows, HoldsOfKey};
-    ghost use Rattle.moments.specs.Entries.{AreEntries, HadWithin};
+    ghost use Rattle.moments.specs.Entries.{AreEntries, HadWithin, HadFirstWithin};
 
     /// No changes yet; of the keys that these calls may change. The only error is want of memory.
     pub fn new(alloc: Global, calls: &[Call]) -> Result<Places, NoMemory>
@@ -98,8 +99,10 @@ impl Places {
     /// The greatest turn from `first` to `last` after which the key has this value; none has one.
     pub fn greatest(&self, key: u64, value: Option<u64>, first: u64, last: u64) -> Option<u64>
         requires { first ≤ last }
-        ensures found { (calls : List Call) (lines : List Line) → AreEntries calls lines (changes self.now) → IfSome result (λ m. IsGreatestTurn (λ n. get key (map_at calls lines n) ≡ value) first last m) }
-        ensures none { (calls : List Call) (lines : List Line) → AreEntries calls lines (changes self.now) → IfNone result ((n : ℕ) → first ≤ n → n ≤ last → get key (map_at calls lines n) ≢ value) }
+        ensures found { (calls : List Call) (lines : List Line) → AreEntries calls lines (changes self.now) → IfSome result
+            (λ m. IsGreatestTurn (λ n. get key (map_at calls lines n) ≡ value) first last m) }
+        ensures none { (calls : List Call) (lines : List Line) → AreEntries calls lines (changes self.now) →
+            IfNone result ((n : ℕ) → first ≤ n → n ≤ last → get key (map_at calls lines n) ≢ value) }
     {
         let mut until = last;
         let mut at = self.newest_of(key);
@@ -121,8 +124,10 @@ impl Places {
     /// back over the changes of this key alone.
     pub fn had_some(&self, key: u64, first: u64, last: u64) -> bool
         requires { first ≤ last }
-        ensures found { (calls : List Call) (lines : List Line) → AreEntries calls lines (changes self.now) → IsTrue result → (v : ℕ) × HadWithin calls lines key (Some v) first last }
-        ensures none { (calls : List Call) (lines : List Line) → AreEntries calls lines (changes self.now) → result ≡ false → (v n : ℕ) → first ≤ n → n ≤ last → get key (map_at calls lines n) ≢ Some v }
+        ensures found { (calls : List Call) (lines : List Line) → AreEntries calls lines (changes self.now) → IsTrue result →
+            (v : ℕ) × HadWithin calls lines key (Some v) first last }
+        ensures none { (calls : List Call) (lines : List Line) → AreEntries calls lines (changes self.now) → result ≡ false →
+            (v n : ℕ) → first ≤ n → n ≤ last → get key (map_at calls lines n) ≢ Some v }
     {
         let mut turn = last;
         let mut at = self.newest_of(key);
@@ -140,11 +145,30 @@ impl Places {
         false
     }
 
+    /// Whether the map had a pair after some turn from `first` to `last`. It goes over the keys, and
+    /// back over the changes of each.
+    pub fn had_pair(&self, first: u64, last: u64) -> bool
+        requires { first ≤ last }
+        ensures found { (calls : List Call) (lines : List Line) → AreEntries calls lines (changes self.now) → IsTrue result →
+            (p : Pair) × HadFirstWithin calls lines (Some p) first last }
+        ensures none { (calls : List Call) (lines : List Line) → AreEntries calls lines (changes self.now) → result ≡ false →
+            (n : ℕ) → first ≤ n → n ≤ last → first_pair (map_at calls lines n) ≡ None }
+    {
+        for (key, _) in self.newest.range(bounds(&Command::Map(Request::PopFirst))) {
+            if self.had_some(*key, first, last) {
+                return true;
+            }
+        }
+        false
+    }
+
     /// Whether these pairs are what an ordered read tells of the map after a turn. It goes over the
     /// keys between which the read looks alone, and no further than the read tells.
     pub fn tells(&self, command: &Command, pairs: &[(u64, u64)], turn: u64) -> bool
-        ensures told { (calls : List Call) (lines : List Line) → AreEntries calls lines (changes self.now) → IsTrue result → pairs_read command.now (map_at calls lines turn) ≡ number_pairs pairs.now }
-        ensures other { (calls : List Call) (lines : List Line) → AreEntries calls lines (changes self.now) → result ≡ false → pairs_read command.now (map_at calls lines turn) ≢ number_pairs pairs.now }
+        ensures told { (calls : List Call) (lines : List Line) → AreEntries calls lines (changes self.now) → IsTrue result →
+            pairs_read command.now (map_at calls lines turn) ≡ number_pairs pairs.now }
+        ensures other { (calls : List Call) (lines : List Line) → AreEntries calls lines (changes self.now) → result ≡ false →
+            pairs_read command.now (map_at calls lines turn) ≢ number_pairs pairs.now }
     {
         let mut untold = most_told(command);
         let mut rest = pairs;
@@ -166,7 +190,8 @@ impl Places {
     /// The value after a turn of the key whose newest change stands here.
     fn value_from(&self, newest: Option<usize>, turn: u64) -> Option<u64>
         requires { (key : ℕ) × (newest ≡ latest key (reverse self.now.list.items)) }
-        ensures { (key : ℕ) (calls : List Call) (lines : List Line) → newest ≡ latest key (reverse self.now.list.items) → AreEntries calls lines (changes self.now) → result ≡ get key (map_at calls lines turn) }
+        ensures { (key : ℕ) (calls : List Call) (lines : List Line) → newest ≡ latest key (reverse self.now.list.items) →
+            AreEntries calls lines (changes self.now) → result ≡ get key (map_at calls lines turn) }
     {
         let mut at = newest;
         while let Some(i) = at {
@@ -189,7 +214,11 @@ impl Places {
         last: u64,
     ) -> u64
         ensures within { first ≤ last → FallFrom (suc last) (changes self.now) → (first ≤ result) × (result ≤ last) }
-        ensures greatest { (calls : List Call) (lines : List Line) (call : MapCall) (n : ℕ) → AreEntries calls lines (changes self.now) → FallFrom (suc last) (changes self.now) → IsOrderedRead command.now → map_call (Some command.now) ≡ Some call → first ≤ n → n ≤ last → number_reply reply.now ≡ Some (replies_on call (map_at calls lines n)) → IsGreatestTurn (λ m. number_reply reply.now ≡ Some (replies_on call (map_at calls lines m))) first last result }
+        ensures greatest { (calls : List Call) (lines : List Line) (call : MapCall) (n : ℕ) →
+            AreEntries calls lines (changes self.now) → FallFrom (suc last) (changes self.now) →
+            IsOrderedRead command.now → map_call (Some command.now) ≡ Some call → first ≤ n → n ≤ last →
+            number_reply reply.now ≡ Some (replies_on call (map_at calls lines n)) → IsGreatestTurn
+            (λ m. number_reply reply.now ≡ Some (replies_on call (map_at calls lines m))) first last result }
     {
         self.greatest_told(command, pairs_told(reply), first, last)
     }
@@ -198,7 +227,10 @@ impl Places {
     /// told, and of these the greatest. It goes back from change to change.
     fn greatest_told(&self, command: &Command, pairs: &[(u64, u64)], first: u64, last: u64) -> u64
         ensures within { first ≤ last → FallFrom (suc last) (changes self.now) → (first ≤ result) × (result ≤ last) }
-        ensures greatest { (calls : List Call) (lines : List Line) (n : ℕ) → AreEntries calls lines (changes self.now) → FallFrom (suc last) (changes self.now) → first ≤ n → n ≤ last → pairs_read command.now (map_at calls lines n) ≡ number_pairs pairs.now → IsGreatestTurn (λ m. pairs_read command.now (map_at calls lines m) ≡ number_pairs pairs.now) first last result }
+        ensures greatest { (calls : List Call) (lines : List Line) (n : ℕ) → AreEntries calls lines (changes self.now) →
+            FallFrom (suc last) (changes self.now) → first ≤ n → n ≤ last →
+            pairs_read command.now (map_at calls lines n) ≡ number_pairs pairs.now → IsGreatestTurn
+            (λ m. pairs_read command.now (map_at calls lines m) ≡ number_pairs pairs.now) first last result }
     {
         let mut best = last;
         let mut more = 0;
@@ -219,7 +251,8 @@ impl Places {
 
     /// The value that the change at a place has left to its key; none where there is no place.
     fn value_at(&self, at: Option<usize>) -> Option<u64>
-        ensures { (key : ℕ) (newer older : List Place) → reverse self.now.list.items ≡ newer ++ older → at ≡ latest key older → result ≡ newest_value key (map (λ (q : Place). q.change) older) }
+        ensures { (key : ℕ) (newer older : List Place) → reverse self.now.list.items ≡ newer ++ older →
+            at ≡ latest key older → result ≡ newest_value key (map (λ (q : Place). q.change) older) }
     {
         let place = self.list.get(at?)?;
         place.change.value
