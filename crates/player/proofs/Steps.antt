@@ -456,7 +456,7 @@ places_logged lay calls clients lines e old new owned change more p = record { e
 
 -- its key may be changed
 pub place_known : (lay : Layout) (calls : List Call) (clients : List Client) (lines : List Line) (e : Entry) (places : Places) → IsOwned lay calls lines clients e → ArePlaces lay calls lines places → IfSome (owners_edit clients e.client.0) (λ (edit : MapEdit). Knows places (edit_key edit))
-place_known lay calls clients lines e places owned p = go (owners_edit clients e.client.0) refl
+place_known _ _ clients _ e places owned p = go (owners_edit clients e.client.0) refl
   where
     go : (edit : Option MapEdit) → owners_edit clients e.client.0 ≡ edit → IfSome edit (λ (d : MapEdit). Knows places (edit_key d))
     go None is = tt
