@@ -296,7 +296,7 @@ module _ (p : Interleaving) (i number : ℕ) (step : Ask) (a : IsStepAsked p i n
     x = edit_entered (client_view lay tries calls lines entry.client.0) o.client o.running made o.scx a.turn.so_far.sound o.waits sound o.wins o.own tree
 
     -- the map just before
-    map_before : List Pair
+    abbrev map_before : List Pair
     map_before = map_of calls (written_log lines)
 
     gives : edit_of (map_request x.request) (reply (map_request x.request) map_before) ≡ Some x.edit
