@@ -38,9 +38,10 @@ use Rattle.moments.specs.Entries.{IsChangeBy, IsChangeOf}
 use Rattle.moments.proofs.Lemmas.{are_spelled}
 use Rattle.moments.specs.declared.places.Places.{Places}
 use Rattle.moments.specs.Places.{changes, Knows, HoldsOfKey}
-use Rattle.audit.specs.Edits.{MayMakeFor, HasBegunFor, AreRememberedEdits}
-use Rattle.audit.specs.Trees.{IsMapSoFar, IsTreeSoFar}
-use Rattle.audit.proofs.TreeLines.{tree_idle, tree_reply, tree_log, tree_step, edits_kept, edits_set, edit_allowed, edit_entry}
+use Rattle.audit.specs.Edits.{MayMake, HasBegunWith, AreRememberedEdits}
+use Rattle.audit.specs.declared.edits.Begun.{Begun}
+use Rattle.audit.specs.Trees.{IsMapSoFar, IsTreeSoFar, HasChangedBy}
+use Rattle.audit.proofs.TreeLines.{tree_idle, tree_reply, tree_log, tree_step, edits_kept, edits_set, edit_allowed, edit_entry, change_made}
 
 -- what holds of the command of each call holds of each command of a client
 pub of_commands : (P : Command → Type 0) (calls : List Call) (c n : ℕ) (command : Command) → All (λ (call : Call). P call.command) calls → slice_get (commands calls c) n ≡ Some command → P command
@@ -91,45 +92,15 @@ next_of_mode mode calls lines c command all is = of_commands (λ k. mode_of k �
 
 -- Entries
 
--- an entry of a call of the tree changes the map
-change_of : (lay : Layout) (before : History) (e : Entered) (turn : ℕ) (call : MapCall) → IsMapEntry call lay before e → (change : Change) × (change.turn ≡ turn) × IsChangeBy (Some call) change
-change_of lay before e turn (Edit edit) x = (record { turn = turn; key = edit_key edit; value = value_left edit }, refl, (refl, refl))
-change_of lay before e turn call x = absurd x
+-- the change by a call with the client's next command is that of its entry
+change_of : (lay : Layout) (calls : List Call) (lines : List Line) (entry : Entry) (command : Command) (change : Change) → IsLog lay calls lines entry → next_command calls lines entry.client.0 ≡ Some command → change.turn ≡ entry.step → IsChangeBy (map_call (Some command)) change → IsChangeOf calls entry change
+change_of lay calls [] entry command change x is turn by = absurd x
+change_of lay calls (Step (Idle n client) ∷ lines) entry command change x is turn by = absurd x
+change_of lay calls (Log d ∷ lines) entry command change x is turn by = absurd x
+change_of lay calls (ReplyLine d ∷ lines) entry command change x is turn by = absurd x
+change_of lay calls (Step (Made n row) ∷ lines) entry command change x is turn by = (turn, subst (λ (o : Option Command). IsChangeBy (map_call o) change) (sym (ap (λ (k : ℕ). slice_get (commands calls entry.client.0) k) x.1.call ∙ is)) by)
 
-change_for : (lay : Layout) (c : ℕ) (before start : History) (linked : ℕ → Option History) (e : Entered) (turn : ℕ) (command : Command) → mode_of command ≡ Tree → IsEntryFor lay c before start linked e command → (change : Change) × (change.turn ≡ turn) × IsChangeBy (map_call (Some command)) change
-change_for lay c before start linked e turn (Map request) mode x = change_of lay before e turn (map_request request) x
-change_for lay c before start linked e turn (LlxOf cell) mode x = absurd x
-change_for lay c before start linked e turn (VlxOf cells) mode x = absurd x
-change_for lay c before start linked e turn (ScxOf update) mode x = absurd (let z : Records ≡ Tree = mode in cc)
-change_for lay c before start linked e turn (SetOf field value) mode x = absurd (let z : Records ≡ Tree = mode in cc)
-
--- what a lawful entry says of the map: the command of its call, and the change
-record IsChanged (calls : List Call) (lines : List Line) (entry : Entry) : Type 0 where
-  command : Command
-  is : next_command calls lines entry.client.0 ≡ Some command
-  change : Change
-  turn : change.turn ≡ entry.step
-  by : IsChangeBy (map_call (Some command)) change
-  of : IsChangeOf calls entry change
-
-changed : (lay : Layout) (calls : List Call) (lines : List Line) (entry : Entry) → lay.mode ≡ Tree → AreOf lay.mode calls → IsLog lay calls lines entry → IsChanged calls lines entry
-changed lay calls [] entry mode all x = absurd x
-changed lay calls (Step (Idle n client) ∷ lines) entry mode all x = absurd x
-changed lay calls (Log d ∷ lines) entry mode all x = absurd x
-changed lay calls (ReplyLine d ∷ lines) entry mode all x = absurd x
-changed lay calls (Step (Made n row) ∷ lines) entry mode all x =
-    let w = x.1 in
-    let k = change_for lay entry.client.0 _ _ _ w.entered entry.step w.command (next_of_mode lay.mode calls lines entry.client.0 w.command all w.is ∙ mode) w.does in
-    record {
-      command = w.command;
-      is = w.is;
-      change = k.0;
-      turn = k.1;
-      by = k.2;
-      of = (k.1, subst (λ (o : Option Command). IsChangeBy (map_call o) k.0) (sym (ap (λ (n : ℕ). slice_get (commands calls entry.client.0) n) w.call ∙ w.is)) k.2);
-    }
-
-module _ (lay : Layout) (tries : ℕ) (calls : List Call) (of_mode : AreOf lay.mode calls) (begun : List (Option Command)) (places : Places) (lines : List Line) (x : IsMapSoFar lay calls begun places lines) where
+module _ (lay : Layout) (tries : ℕ) (calls : List Call) (of_mode : AreOf lay.mode calls) (begun : List (Option Begun)) (places : Places) (lines : List Line) (x : IsMapSoFar lay calls begun places lines) where
   pub map_idle : (number : ℕ) (pass : PassNo) → AreLines lay tries calls (Step (Idle number pass) ∷ lines) → IsMapSoFar lay calls begun places (Step (Idle number pass) ∷ lines)
   map_idle number pass a = record { keys = x.keys; tree = λ mode. tree_idle lay tries calls mode (map_calls lay.mode calls mode of_mode) begun (changes places) lines (x.tree mode) number pass a }
 
@@ -137,18 +108,20 @@ module _ (lay : Layout) (tries : ℕ) (calls : List Call) (of_mode : AreOf lay.m
   map_reply reply a = record { keys = x.keys; tree = λ mode. tree_reply lay tries calls mode (map_calls lay.mode calls mode of_mode) begun (changes places) lines (x.tree mode) reply a }
 
   -- an entry, whose call changes the map
-  pub map_log : (after : Places) (entry : Entry) → AreLines lay tries calls (Log entry ∷ lines) → ((key : ℕ) → Knows places key → Knows after key) → ((command : Command) (c : Change) → next_command calls lines entry.client.0 ≡ Some command → c.turn ≡ entry.step → IsChangeBy (map_call (Some command)) c → changes after ≡ c ∷ changes places) → IsMapSoFar lay calls begun after (Log entry ∷ lines)
+  pub map_log : (after : Places) (entry : Entry) → AreLines lay tries calls (Log entry ∷ lines) → ((key : ℕ) → Knows places key → Knows after key) → (lay.mode ≡ Tree → HasChangedBy calls lines entry begun (changes places) (changes after)) → IsMapSoFar lay calls begun after (Log entry ∷ lines)
   unfolding AreLines
   map_log after entry a kept change = record { keys = keys_kept places after calls kept x.keys; tree = tree }
     where
       tree : lay.mode ≡ Tree → IsTreeSoFar lay calls begun (changes after) (Log entry ∷ lines)
       tree mode =
-          let d = changed lay calls lines entry mode of_mode a.1 in
-          subst (λ (l : List Change). IsTreeSoFar lay calls begun l (Log entry ∷ lines)) (sym (change d.command d.change d.is d.turn d.by)) (tree_log lay tries calls mode (map_calls lay.mode calls mode of_mode) begun (changes places) lines (x.tree mode) entry d.change a d.of)
+          let d = change mode in
+          let made : Change = record { turn = entry.step; key = d.begun.key; value = d.begun.value } in
+          let by = change_made lay (history lay.mode lines) entry.scx.0 entry.step d.begun ((x.tree mode).edits entry.scx.0 d.begun d.known) in
+          subst (λ (l : List Change). IsTreeSoFar lay calls begun l (Log entry ∷ lines)) (sym d.added) (tree_log lay tries calls mode (map_calls lay.mode calls mode of_mode) begun (changes places) lines (x.tree mode) entry made a (change_of lay calls lines entry d.begun.command made a.1 d.own refl by))
 
-  -- a step, with the edit of the SCX-record that it begins, if it begins one
-  pub map_step : (number : ℕ) (row : StepRow) (h : History) (more : List (Option Command)) (edit : Option Command) → h ≡ history lay.mode lines → AreLines lay tries calls (Step (Made number row) ∷ lines) → IsLawful lay (history lay.mode lines) row → (lay.mode ≡ Tree → HasRisingLevels h → HasRisingLevels (row ⊳ h)) → (lay.mode ≡ Tree → IsBegin h row row.after → (command : Command) × (next_command calls lines row.pass.0 ≡ Some command) × MayMakeFor lay h row.after command) → IfSome edit (λ k. IsBegin h row row.after) → IfSome edit (λ k. next_command calls lines row.pass.0 ≡ Some k) → (edit ≡ None → more ≡ begun) → (IsSome edit → more ≡ set begun row.after edit) → IsMapSoFar lay calls more places (Step (Made number row) ∷ lines)
-  map_step number row h more edit same a lawful rising may begins next none some = record { keys = x.keys; tree = tree }
+  -- a step, with the SCX-record that it begins, if it begins one
+  pub map_step : (number : ℕ) (row : StepRow) (h : History) (more : List (Option Begun)) (edit : Option Begun) → h ≡ history lay.mode lines → AreLines lay tries calls (Step (Made number row) ∷ lines) → IsLawful lay (history lay.mode lines) row → (lay.mode ≡ Tree → HasRisingLevels h → HasRisingLevels (row ⊳ h)) → IfSome edit (λ b. IsBegin h row row.after) → IfSome edit (MayMake lay h row.after) → (edit ≡ None → lay.mode ≡ Tree → IsBegin h row row.after → ⊥) → (edit ≡ None → more ≡ begun) → (IsSome edit → more ≡ set begun row.after edit) → IsMapSoFar lay calls more places (Step (Made number row) ∷ lines)
+  map_step number row h more edit same a lawful rising begins may never none some = record { keys = x.keys; tree = tree }
     where
       now : History
       now = history lay.mode lines
@@ -160,34 +133,33 @@ module _ (lay : Layout) (tries : ℕ) (calls : List Call) (of_mode : AreOf lay.m
       here P y = subst P (sym same) y
 
       allows : lay.mode ≡ Tree → (s : ℕ) → IsBegin now row s → TreeAllows lay now s
-      allows mode s b =
-          let y = may mode (here (λ k. IsBegin k row row.after) (subst (λ (n : ℕ). IsBegin now row n) (sym b.stored) b)) in
-          subst (λ (n : ℕ). TreeAllows lay now n) b.stored (there (λ k. TreeAllows lay k row.after) (edit_allowed lay h row.after (map_call (Some y.0)) y.2))
+      allows mode s b = go edit refl may
+        where
+          begun_here : IsBegin h row row.after
+          begun_here = here (λ k. IsBegin k row row.after) (subst (λ (n : ℕ). IsBegin now row n) (sym b.stored) b)
+
+          go : (o : Option Begun) → edit ≡ o → IfSome o (MayMake lay h row.after) → TreeAllows lay now s
+          go None e y = absurd (never e mode begun_here)
+          go (Some d) e y = subst (λ (n : ℕ). TreeAllows lay now n) b.stored (there (λ k. TreeAllows lay k row.after) (edit_allowed lay h row.after d y))
 
       edits : lay.mode ≡ Tree → AreRememberedEdits lay (row ⊳ now) more
-      edits mode = go edit refl begins next some
+      edits mode = go edit refl begins may some
         where
           known : AreRememberedEdits lay now begun
           known = (x.tree mode).edits
 
-          go : (o : Option Command) → edit ≡ o → IfSome o (λ k. IsBegin h row row.after) → IfSome o (λ k. next_command calls lines row.pass.0 ≡ Some k) → (IsSome o → more ≡ set begun row.after o) → AreRememberedEdits lay (row ⊳ now) more
-          go None e b n p = subst (λ (l : List (Option Command)). AreRememberedEdits lay (row ⊳ now) l) (sym (none e)) (edits_kept lay now row begun known)
-          go (Some k) e b n p =
-              let y = may mode b in
-              let own : y.0 ≡ k = some_same y.0 k (sym y.1 ∙ n) in
-              subst (λ (l : List (Option Command)). AreRememberedEdits lay (row ⊳ now) l) (sym (p refl)) (edits_set lay now row begun row.after k known (there (λ g. IsBegin g row row.after) b) (there (λ g. MayMakeFor lay g row.after k) (subst (λ (d : Command). MayMakeFor lay h row.after d) own y.2)))
-            where
-              some_same : (c d : Command) → Some c ≡ Some d → c ≡ d
-              some_same c d e = cc
+          go : (o : Option Begun) → edit ≡ o → IfSome o (λ d. IsBegin h row row.after) → IfSome o (MayMake lay h row.after) → (IsSome o → more ≡ set begun row.after o) → AreRememberedEdits lay (row ⊳ now) more
+          go None e b y p = subst (λ (l : List (Option Begun)). AreRememberedEdits lay (row ⊳ now) l) (sym (none e)) (edits_kept lay now row begun known)
+          go (Some d) e b y p = subst (λ (l : List (Option Begun)). AreRememberedEdits lay (row ⊳ now) l) (sym (p refl)) (edits_set lay now row begun row.after d known (there (λ g. IsBegin g row row.after) b) (there (λ g. MayMake lay g row.after d) y))
 
       tree : lay.mode ≡ Tree → IsTreeSoFar lay calls more (changes places) (Step (Made number row) ∷ lines)
       tree mode = tree_step lay tries calls mode (map_calls lay.mode calls mode of_mode) begun (changes places) lines (x.tree mode) number row more a lawful (allows mode) (there (λ k. HasRisingLevels (row ⊳ k)) (rising mode (here (λ k. HasRisingLevels k) (x.tree mode).rising))) (edits mode)
 
-  -- an entry of an SCX-record, whose edit is that of a client's call, is one that the call makes
-  pub map_entry : (h : History) → h ≡ history lay.mode lines → (c s : ℕ) (command : Command) → next_command calls lines c ≡ Some command → mode_of command ≡ Tree → slice_get begun s ≡ Some (Some command) → (start : History) (linked : ℕ → Option History) (e : Entered) → e.scx ≡ s → IsEntryFor lay c h start linked e command
-  map_entry h same c s command is mode known start linked e own =
-      let tree = sym (next_of_mode lay.mode calls lines c command of_mode is) ∙ mode in
-      edit_entry lay c h start linked e command (subst (λ (k : ℕ). HasBegunFor lay h k command) (sym own) (subst (λ (g : History). HasBegunFor lay g s command) (sym same) ((x.tree tree).edits s command known)))
+  -- an entry of an SCX-record that has begun for a client's call is one that the call makes
+  pub map_entry : (h : History) → h ≡ history lay.mode lines → (c s : ℕ) (begun_with : Begun) → next_command calls lines c ≡ Some begun_with.command → mode_of begun_with.command ≡ Tree → slice_get begun s ≡ Some (Some begun_with) → (start : History) (linked : ℕ → Option History) (e : Entered) → e.scx ≡ s → IsEntryFor lay c h start linked e begun_with.command
+  map_entry h same c s begun_with is mode known start linked e own =
+      let tree = sym (next_of_mode lay.mode calls lines c begun_with.command of_mode is) ∙ mode in
+      edit_entry lay c h start linked e begun_with (subst (λ (k : ℕ). HasBegunWith lay h k begun_with) (sym own) (subst (λ (g : History). HasBegunWith lay g s begun_with) (sym same) ((x.tree tree).edits s begun_with known)))
 
   -- what is said of the whole run at its end
   pub map_whole : AreLines lay tries calls lines → IsWhole lay.mode lay calls lines
@@ -199,13 +171,13 @@ module _ (lay : Layout) (tries : ℕ) (calls : List Call) (of_mode : AreOf lay.m
 
 -- The start
 
-never_begun : (n s : ℕ) (command : Command) → slice_get (replicate n None) s ≡ Some (Some command) → ⊥
-never_begun zero s command e = absurd (let z : None ≡ Some (Some command) = e in cc)
-never_begun (suc n) zero command e = let z : Some None ≡ Some (Some command) = e in absurd (cc)
-never_begun (suc n) (suc s) command e = never_begun n s command e
+never_begun : (n s : ℕ) (first : Begun) → slice_get (replicate n None) s ≡ Some (Some first) → ⊥
+never_begun zero s first e = absurd (let z : None ≡ Some (Some first) = e in cc)
+never_begun (suc n) zero first e = let z : Some None ≡ Some (Some first) = e in absurd (cc)
+never_begun (suc n) (suc s) first e = never_begun n s first e
 
 -- of no line nothing is remembered
-pub map_start : (lay : Layout) (tries : ℕ) (calls : List Call) (begun : List (Option Command)) (places : Places) (n : ℕ) → AreOf lay.mode calls → begun ≡ replicate n None → All (λ (call : Call). HoldsOfKey (Knows places) call.command) calls → changes places ≡ [] → IsMapSoFar lay calls begun places []
+pub map_start : (lay : Layout) (tries : ℕ) (calls : List Call) (begun : List (Option Begun)) (places : Places) (n : ℕ) → AreOf lay.mode calls → begun ≡ replicate n None → All (λ (call : Call). HoldsOfKey (Knows places) call.command) calls → changes places ≡ [] → IsMapSoFar lay calls begun places []
 unfolding AreLines AreSpelled Lawful Shaped
 map_start lay tries calls begun places n of_mode none keys unchanged = record { keys = keys; tree = tree }
   where
@@ -214,7 +186,7 @@ map_start lay tries calls begun places n of_mode none keys unchanged = record { 
       run = run;
       rising = spelled.rising;
       spelled = spelled;
-      edits = λ s command e. absurd (never_begun n s command (subst (λ (l : List (Option Command)). slice_get l s ≡ Some (Some command)) none e));
+      edits = λ s first e. absurd (never_begun n s first (subst (λ (l : List (Option Begun)). slice_get l s ≡ Some (Some first)) none e));
       entries = tt;
     }
       where

@@ -1,5 +1,5 @@
 //! Whether an SCX-record that begins makes the edit of its owner's call.
-ghost use Rattle.std.specs.Prelude.{◌≡◌, ◌≢◌, ◌+◌, ◌<◌, ◌↔◌, ◌⊎◌, ℕ, true, false, IsTrue};
+ghost use Rattle.std.specs.Prelude.{◌≡◌, ◌≢◌, ◌+◌, ◌<◌, ◌↔◌, ◌⊎◌, ℕ, true, false, Some, None, IfSome, IsTrue};
 ghost use Rattle.arena.specs.Heads.{head_of};
 ghost use Rattle.arena.specs.History.{value};
 ghost use Rattle.arena.specs.ScxRecords.{plan, member as member_of, seen as seen_at, new, old};
@@ -13,7 +13,7 @@ ghost use Rattle.ordered_map.specs.Paths.{Passed};
 ghost use Rattle.ordered_map.specs.Runs.{IsTreeRun};
 ghost use Rattle.ordered_map.specs.TreeShape.{IsInsert, IsDelete, insert_plan, delete_plan, leaf_place as leaf_place_of, sibling_place as sibling_place_of};
 ghost use Rattle.ordered_map.specs.TreeWords.{class, is_leaf, level, rank, toward as toward_of};
-ghost use Rattle.audit.specs.Edits.{MayMakeFor};
+ghost use Rattle.audit.specs.Edits.{MayMake};
 ghost use Rattle.judge.specs.Histories.{seen_history};
 
 use arena::{Head, NodeNo, NodeWord, ScxNo, ScxWord, Side, Word};
@@ -21,21 +21,58 @@ use judge::Judge;
 use ordered_map::Request;
 use script::Command;
 
-/// Whether an SCX-record is about to make the edit of a call: below a fork on the search path of
-/// the call's key.
-pub(crate) fn makes_edit(judge: &Judge, scx: u64, command: &Command) -> bool
+/// An SCX-record that has begun: it makes an edit, which leaves this value to this key, for a call
+/// with this command.
+#[derive(Clone, Copy, Debug, PartialEq, Eq)]
+pub(crate) struct Begun {
+    pub(crate) command: Command,
+    pub(crate) key: u64,
+    pub(crate) value: Option<u64>,
+}
+
+/// The edit that an SCX-record is about to make for a call: below a fork on the search path of its
+/// key.
+pub(crate) fn begun_for(judge: &Judge, scx: u64, command: &Command) -> Option<Begun>
     requires { IsTreeRun judge.now.layout (seen_history judge.now) }
-    ensures { IsTrue result → MayMakeFor judge.now.layout (seen_history judge.now) scx command.now }
+    ensures command { IfSome result (λ begun. begun.command ≡ command.now) }
+    ensures edit { IfSome result (MayMake judge.now.layout (seen_history judge.now) scx) }
 {
-    let (key, is_edit) = match command {
+    let (begun, is_edit) = match command {
         Command::Map(Request::Insert { key, value }) => (
-            *key,
+            inserting(command, *key, *value),
             is_insert(judge, scx, (*key, *value)),
         ),
-        Command::Map(Request::Delete { key }) => (*key, is_delete(judge, scx, *key)),
-        _ => return false,
+        Command::Map(Request::Delete { key }) => (
+            deleting(command, *key),
+            is_delete(judge, scx, *key),
+        ),
+        _ => return None,
     };
-    is_edit && is_fork_on_path(judge, key, member(judge, scx, 0))
+    if is_edit && is_fork_on_path(judge, begun.key, member(judge, scx, 0)) {
+        Some(begun)
+    } else {
+        None
+    }
+}
+
+fn inserting(command: &Command, key: u64, value: u64) -> Begun
+    ensures { result ≡ record { command = command.now; key = key; value = Some value } }
+{
+    Begun {
+        command: *command,
+        key,
+        value: Some(value),
+    }
+}
+
+fn deleting(command: &Command, key: u64) -> Begun
+    ensures { result ≡ record { command = command.now; key = key; value = None } }
+{
+    Begun {
+        command: *command,
+        key,
+        value: None,
+    }
 }
 
 fn node_word(judge: &Judge, node: u64, part: NodeWord) -> u64

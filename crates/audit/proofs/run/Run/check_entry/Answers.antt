@@ -1,10 +1,10 @@
-use Rattle.std.proofs.Common.{◌≡◌, Some, slice_get, ap, refl, rules, arith}
+use Rattle.std.proofs.Common.{◌≡◌, Some, slice_get, sym, ◌∙◌, ap, subst, refl, arith}
 use Rattle.std.proofs.lemmas.Option.{slice_get_within}
 use Rattle.arena.specs.declared.limits.Mode.TheVariants.{Tree}
 use Rattle.arena.specs.declared.layout.Layout.{Layout}
 use Rattle.script.specs.Commands.{mode_of}
 use Rattle.script.specs.declared.command.Command.{Command}
-use Rattle.audit.proofs.Fitting.{if_there}
+use Rattle.record.specs.CommandRules.{IsEntryFor}
 use Rattle.audit.proofs.MapLines.{map_entry}
 use Rattle.audit.proofs.run.Run.check_entry.Goals as goal
 
@@ -15,11 +15,12 @@ is_entry_for-requires c =
     let lay = ap (λ (l : Layout). l.passes) c.requires.after.layout in
     omega (arith, few, all, lay)
 
-pub returns-in_ok-hold-in-Map : goal.returns-in_ok-hold-in-Map
-returns-in_ok-hold-in-Map c = λ row n side wins word.
+pub returns-in_ok-begun_of-in-Map : goal.returns-in_ok-begun_of-in-Map
+returns-in_ok-begun_of-in-Map c = λ row n side wins word.
     let run = c.args.self.now in
     let command = c.args.command.now in
-    let same : c.edit_of.result ≡ Some command = search rules in
-    let known = if_there (λ (k : Command). slice_get run.edits.items c.args.scx.0 ≡ Some (Some k)) c.edit_of.result command c.edit_of.ensures same in
-    let mode : mode_of command ≡ Tree = ap mode_of c.in-Map.is in
-    map_entry _ run.record.now.script.limits.tries _ run.record.now.script.of_mode _ _ _ c.requires.map _ c.requires.after.seen c.args.client.now.pass.0 c.args.scx.0 command c.requires.command mode known _ _ _ refl
+    let begun = c.in_ok-begun_of.begun in
+    let own : begun.command ≡ command = c.in_ok-begun_of.ensures.own in
+    let mode : mode_of begun.command ≡ Tree = ap mode_of (own ∙ c.in-Map.is) in
+    let next = c.requires.command ∙ ap (λ (k : Command). Some k) (sym own) in
+    subst (λ k. IsEntryFor _ _ _ _ _ _ k) own (map_entry _ run.record.now.script.limits.tries _ run.record.now.script.of_mode _ _ _ c.requires.map _ c.requires.after.seen c.args.client.now.pass.0 c.args.scx.0 begun next mode c.in_ok-begun_of.ensures.known _ _ _ refl)
