@@ -3,11 +3,11 @@ use Rattle.std.proofs.Common.{◌≡◌, ℕ, suc, ◌≤◌, inl, inr, Bool, tr
 use Rattle.std.specs.List.{filter}
 use Rattle.std.proofs.lemmas.Bool.{cases_lt}
 use Rattle.ordered_map.specs.declared.pair.Pair.{Pair}
-use Rattle.ordered_map.specs.OrderedMap.{MapCall, Successor, Range, MapReply, ManyPairs, pair_or_none, first_pair, successor, between, range, reply, get, IsRising}
+use Rattle.ordered_map.specs.OrderedMap.{MapCall, PopFirst, Successor, Range, MapReply, ManyPairs, pair_or_none, first_pair, successor, between, range, reply, get, IsRising}
 use Rattle.script.specs.declared.call.Call.{Call}
 use Rattle.script.specs.declared.command.Command.{Command}
 use Rattle.script.specs.declared.command.Command.TheVariants.{Map}
-use Rattle.ordered_map.specs.declared.request.Request.TheVariants.{Successor as SuccessorOf, Range as RangeOf}
+use Rattle.ordered_map.specs.declared.request.Request.TheVariants.{PopFirst as PopOf, Successor as SuccessorOf, Range as RangeOf}
 use Rattle.record.specs.declared.record.Line.{Line}
 use Rattle.record.specs.MapRecord.{map_call, map_at, written_log}
 use Rattle.record.specs.Placed.{IsGreatestTurn}
@@ -38,6 +38,10 @@ between_all low high (p ∷ ps) = go (leb low p.key && leb p.key high) (between_
     go true more = ap (λ qs. p ∷ qs) more
     go false more = more
 
+filter_all : (m : List Pair) → m ≡ filter (λ (p : Pair). true) m
+filter_all [] = refl
+filter_all (p ∷ ps) = ap (λ qs. p ∷ qs) (filter_all ps)
+
 one_pair : (ps : List Pair) → pairs_in (Some (pair_or_none (first_pair ps))) ≡ take 1 ps
 one_pair [] = refl
 one_pair (p ∷ ps) = refl
@@ -48,6 +52,9 @@ first_taken (p ∷ ps) = refl
 
 -- the reply to an ordered read tells just its pairs
 pub reply_tells : (command : Command) (call : MapCall) (m : List Pair) → IsOrderedRead command → map_call (Some command) ≡ Some call → pairs_in (Some (reply call m)) ≡ pairs_read command m
+reply_tells (Map PopOf) call m ordered is =
+    let same : PopFirst ≡ call = cc in
+    ap (λ (c : MapCall). pairs_in (Some (reply c m))) (sym same) ∙ one_pair m ∙ ap (take 1) (filter_all m)
 reply_tells (Map (SuccessorOf k)) call m ordered is =
     let same : Successor k ≡ call = cc in
     ap (λ (c : MapCall). pairs_in (Some (reply c m))) (sym same) ∙ ap (λ (o : Option Pair). pairs_in (Some (pair_or_none o))) (successor_first k m) ∙ one_pair (filter (λ (p : Pair). ltb k p.key) m)
@@ -58,6 +65,10 @@ reply_tells command call m ordered is = absurd ordered
 
 -- and maps of which it tells the same pairs have the same reply
 pub same_reply : (command : Command) (call : MapCall) (m n : List Pair) → IsOrderedRead command → map_call (Some command) ≡ Some call → pairs_read command m ≡ pairs_read command n → reply call m ≡ reply call n
+same_reply (Map PopOf) call m n ordered is same =
+    let this : PopFirst ≡ call = cc in
+    let first : first_pair m ≡ first_pair n = first_taken m ∙ ap (λ ps. first_pair (take 1 ps)) (filter_all m) ∙ ap first_pair same ∙ sym (first_taken n ∙ ap (λ ps. first_pair (take 1 ps)) (filter_all n)) in
+    subst (λ (c : MapCall). reply c m ≡ reply c n) this (ap pair_or_none first)
 same_reply (Map (SuccessorOf k)) call m n ordered is same =
     let this : Successor k ≡ call = cc in
     let first : successor k m ≡ successor k n = successor_first k m ∙ first_taken (filter (λ (p : Pair). ltb k p.key) m) ∙ ap first_pair same ∙ sym (first_taken (filter (λ (p : Pair). ltb k p.key) n)) ∙ sym (successor_first k n) in

@@ -2,7 +2,7 @@
 -- record has after that turn.
 use Rattle.std.proofs.Common.{◌≡◌, ℕ, suc, ◌≤◌, ◌⊎◌, inl, inr, ⊎_elim, Bool, true, false, cond, ◌&&◌, eqb, not, List, [], ◌∷◌, Option, Some, None, refl, sym, ◌∙◌, ap, subst, arith}
 use Rattle.std.specs.Prelude.{leb}
-use Rattle.std.proofs.lemmas.Bool.{eqb-true, leb-true, le-leb}
+use Rattle.std.proofs.lemmas.Bool.{eqb-true, leb-true}
 use Rattle.arena.specs.declared.layout.Layout.{Layout}
 use Rattle.arena.specs.declared.step.Kind.{Kind}
 use Rattle.arena.specs.declared.step.Row.{Row as StepRow}
@@ -25,23 +25,38 @@ use Rattle.record.specs.Turns.{client_of, history, turns, begin, start, entry_at
 use Rattle.record.specs.Commands.{next_command}
 use Rattle.record.specs.CommandRules.{MayMake}
 use Rattle.record.specs.Edits.{HadAtKey}
-use Rattle.record.specs.MapRecord.{written_log, entries_until, map_of, map_at}
+use Rattle.record.specs.MapRecord.{map_call_of, written_log, entries_until, map_of, map_at}
 use Rattle.record.specs.SpelledMap.{AreSpelled, IsSpelledAfter}
 use Rattle.record.specs.LawfulRun.{AreLines}
 use Rattle.record.proofs.Lemmas.{start_unbegun, begin_within, log_step}
+use Rattle.moments.specs.declared.places.Change.{Change}
+use Rattle.moments.specs.Entries.{IsChangeBy, AreUpTo, IsChangeOf}
 use Rattle.moments.specs.Replied.{HasReplied}
+use Rattle.moments.proofs.Values.{until_all}
 
 -- The map after the newest turn
 
+later_too : (turn m : ℕ) (es : List Entry) → turn ≤ m → AreUpTo turn es → AreUpTo m es
+later_too turn m [] i a = tt
+later_too turn m (e ∷ es) i a = ((let j = a.0 in omega (i, j, arith)), later_too turn m es i a.1)
+
 -- all entries are of turns so far
-until_now : (lay : Layout) (tries : ℕ) (calls : List Call) (lines : List Line) (m : ℕ) → AreLines lay tries calls lines → turns lines ≤ m → entries_until m (written_log lines) ≡ written_log lines
+so_far : (lay : Layout) (tries : ℕ) (calls : List Call) (lines : List Line) → AreLines lay tries calls lines → AreUpTo (turns lines) (written_log lines)
 unfolding AreLines
-until_now lay tries calls [] m a i = refl
-until_now lay tries calls (Step row ∷ lines) m a i = until_now lay tries calls lines m a.0 (omega (i, arith))
-until_now lay tries calls (Log e ∷ lines) m a i =
+so_far lay tries calls [] a = tt
+so_far lay tries calls (Step row ∷ lines) a = later_too (turns lines) (suc (turns lines)) (written_log lines) (omega arith) (so_far lay tries calls lines a.0)
+so_far lay tries calls (Log e ∷ lines) a =
     let s : e.step ≡ turns lines = log_step lay tries calls lines e a.0 a.1 in
-    rw (le-leb e.step m (omega (s, i, arith))) (ap (λ es. e ∷ es) (until_now lay tries calls lines m a.0 i))
-until_now lay tries calls (ReplyLine reply ∷ lines) m a i = until_now lay tries calls lines m a.0 i
+    (omega (s, arith), so_far lay tries calls lines a.0)
+so_far lay tries calls (ReplyLine reply ∷ lines) a = so_far lay tries calls lines a.0
+
+-- the change of the newest entry is that of its call, on the map of the older ones
+pub change_of_newest : (lay : Layout) (tries : ℕ) (calls : List Call) (lines : List Line) (e : Entry) (c : Change) → AreLines lay tries calls (Log e ∷ lines) → c.turn ≡ e.step → IsChangeBy (map_call_of calls e.client.0 e.call) (map_of calls (written_log lines)) c → IsChangeOf calls (written_log lines) e c
+unfolding AreLines
+change_of_newest lay tries calls lines e c a turn by = (turn, by, subst (λ (k : ℕ). AreUpTo k (written_log lines)) (sym (log_step lay tries calls lines e a.0 a.1)) (so_far lay tries calls lines a.0))
+
+until_now : (lay : Layout) (tries : ℕ) (calls : List Call) (lines : List Line) (m : ℕ) → AreLines lay tries calls lines → turns lines ≤ m → entries_until m (written_log lines) ≡ written_log lines
+until_now lay tries calls lines m a i = until_all (turns lines) m (written_log lines) (so_far lay tries calls lines a) i
 
 pub map_now : (lay : Layout) (tries : ℕ) (calls : List Call) (lines : List Line) → AreLines lay tries calls lines → map_at calls lines (turns lines) ≡ map_of calls (written_log lines)
 map_now lay tries calls lines a = ap (map_of calls) (until_now lay tries calls lines (turns lines) a (omega arith))

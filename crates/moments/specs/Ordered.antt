@@ -1,4 +1,5 @@
--- Ordered reads: which keys they look for, and what they tell of the map.
+-- Ordered reads: which keys they look for, and what they tell of the map. A pop is one too: it tells
+-- the first pair of all, or none.
 use Rattle.std.specs.Prelude.{ℕ, ◌<◌, Bool, false, ◌&&◌, ◌||◌, not, nat_le, nat_lt, ◌⊎◌, ◌≡◌, suc, true, List, [], ◌∷◌, length, take, Option, Some, nat_eq}
 use Rattle.std.specs.Option.{option_eq}
 use Rattle.std.specs.List.{filter, list_any}
@@ -6,23 +7,26 @@ use Rattle.ordered_map.specs.declared.pair.Pair.{Pair}
 use Rattle.ordered_map.specs.OrderedMap.{get, MapReply, OnePair, ManyPairs}
 use Rattle.script.specs.declared.command.Command.{Command}
 use Rattle.script.specs.declared.command.Command.TheVariants.{Map}
-use Rattle.ordered_map.specs.declared.request.Request.TheVariants.{Successor, Range}
+use Rattle.ordered_map.specs.declared.request.Request.TheVariants.{PopFirst, Successor, Range}
 use Rattle.moments.specs.declared.places.Change.{Change}
 
 -- it is one
 abbrev pub IsOrderedRead : Command → Type 0
+IsOrderedRead (Map PopFirst) = Unit {0}
 IsOrderedRead (Map (Successor key)) = Unit {0}
 IsOrderedRead (Map (Range low high most)) = Unit {0}
 IsOrderedRead _ = ⊥
 
 -- whether it looks for this key
 abbrev pub looks_for : Command → ℕ → Bool
+looks_for (Map PopFirst) key = true
 looks_for (Map (Successor above)) key = nat_lt above key
 looks_for (Map (Range low high most)) key = nat_le low key && nat_le key high
 looks_for _ key = false
 
 -- how many pairs it tells at most
 abbrev pub most_told : Command → ℕ
+most_told (Map PopFirst) = 1
 most_told (Map (Successor above)) = 1
 most_told (Map (Range low high most)) = most
 most_told _ = 0

@@ -45,6 +45,7 @@ fn looks_for(command: &Command, key: u64) -> bool
     ensures { result ≡ looks_for command.now key }
 {
     match command {
+        Command::Map(Request::PopFirst) => true,
         Command::Map(Request::Successor { key: above }) => *above < key,
         Command::Map(Request::Range { low, high, most: _ }) => *low <= key && key <= *high,
         _ => false,
@@ -57,6 +58,7 @@ pub(crate) fn bounds(command: &Command) -> (Bound<u64>, Bound<u64>)
     ensures keys { (key : ℕ) → range_contains nat_cmp result.0 result.1 key ≡ looks_for command.now key }
 {
     match command {
+        Command::Map(Request::PopFirst) => (Bound::Unbounded, Bound::Unbounded),
         Command::Map(Request::Successor { key }) => (Bound::Excluded(*key), Bound::Unbounded),
         Command::Map(Request::Range { low, high, .. }) if *low <= *high => {
             (Bound::Included(*low), Bound::Included(*high))
@@ -70,6 +72,7 @@ pub(crate) fn most_told(command: &Command) -> usize
     ensures { result ≡ most_told command.now }
 {
     match command {
+        Command::Map(Request::PopFirst) => 1,
         Command::Map(Request::Successor { key: _ }) => 1,
         Command::Map(Request::Range { most, .. }) => *most as usize,
         _ => 0,
@@ -97,7 +100,8 @@ fn go_as_far(pairs: &[(u64, u64)], key: u64) -> bool
 
 /// The pairs behind the first one, where that has this key and this value.
 pub(crate) fn behind(pairs: &[(u64, u64)], key: u64, value: u64) -> Option<&[(u64, u64)]>
-    ensures some { IfSome result (λ rest. (first : PairOf) × (first.key ≡ key) × (first.value ≡ value) × (number_pairs pairs.now ≡ first ∷ number_pairs rest.now)) }
+    ensures some { IfSome result (λ rest. (first : PairOf) × (first.key ≡ key) × (first.value ≡ value) ×
+        (number_pairs pairs.now ≡ first ∷ number_pairs rest.now)) }
     ensures none { IfNone result ((first : PairOf) (rest : List PairOf) → first.key ≡ key → first.value ≡ value → number_pairs pairs.now ≢ first ∷ rest) }
 {
     let (first, rest) = pairs.split_first()?;

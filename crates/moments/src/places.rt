@@ -105,8 +105,10 @@ impl Places {
     /// The greatest turn from `first` to `last` after which the key has this value; none has one.
     pub fn greatest(&self, key: u64, value: Option<u64>, first: u64, last: u64) -> Option<u64>
         requires { first ≤ last }
-        ensures found { (calls : List Call) (lines : List Line) → AreEntries calls lines (changes self.now) → IfSome result (λ m. IsGreatestTurn (λ n. get key (map_at calls lines n) ≡ value) first last m) }
-        ensures none { (calls : List Call) (lines : List Line) → AreEntries calls lines (changes self.now) → IfNone result ((n : ℕ) → first ≤ n → n ≤ last → get key (map_at calls lines n) ≢ value) }
+        ensures found { (calls : List Call) (lines : List Line) → AreEntries calls lines (changes self.now) → IfSome result
+            (λ m. IsGreatestTurn (λ n. get key (map_at calls lines n) ≡ value) first last m) }
+        ensures none { (calls : List Call) (lines : List Line) → AreEntries calls lines (changes self.now) →
+            IfNone result ((n : ℕ) → first ≤ n → n ≤ last → get key (map_at calls lines n) ≢ value) }
     {
         let mut until = last;
         let mut at = self.newest_of(key);
@@ -128,8 +130,10 @@ impl Places {
     /// back over the changes of this key alone.
     pub fn had_some(&self, key: u64, first: u64, last: u64) -> bool
         requires { first ≤ last }
-        ensures found { (calls : List Call) (lines : List Line) → AreEntries calls lines (changes self.now) → IsTrue result → (v : ℕ) × HadWithin calls lines key (Some v) first last }
-        ensures none { (calls : List Call) (lines : List Line) → AreEntries calls lines (changes self.now) → result ≡ false → (v n : ℕ) → first ≤ n → n ≤ last → get key (map_at calls lines n) ≢ Some v }
+        ensures found { (calls : List Call) (lines : List Line) → AreEntries calls lines (changes self.now) → IsTrue result →
+            (v : ℕ) × HadWithin calls lines key (Some v) first last }
+        ensures none { (calls : List Call) (lines : List Line) → AreEntries calls lines (changes self.now) → result ≡ false →
+            (v n : ℕ) → first ≤ n → n ≤ last → get key (map_at calls lines n) ≢ Some v }
     {
         let mut turn = last;
         let mut at = self.newest_of(key);
@@ -150,8 +154,10 @@ impl Places {
     /// Whether these pairs are what an ordered read tells of the map after a turn. It goes over the
     /// keys between which the read looks alone, and no further than the read tells.
     pub fn tells(&self, command: &Command, pairs: &[(u64, u64)], turn: u64) -> bool
-        ensures told { (calls : List Call) (lines : List Line) → AreEntries calls lines (changes self.now) → IsTrue result → pairs_read command.now (map_at calls lines turn) ≡ number_pairs pairs.now }
-        ensures other { (calls : List Call) (lines : List Line) → AreEntries calls lines (changes self.now) → result ≡ false → pairs_read command.now (map_at calls lines turn) ≢ number_pairs pairs.now }
+        ensures told { (calls : List Call) (lines : List Line) → AreEntries calls lines (changes self.now) → IsTrue result →
+            pairs_read command.now (map_at calls lines turn) ≡ number_pairs pairs.now }
+        ensures other { (calls : List Call) (lines : List Line) → AreEntries calls lines (changes self.now) → result ≡ false →
+            pairs_read command.now (map_at calls lines turn) ≢ number_pairs pairs.now }
     {
         let mut untold = most_told(command);
         let mut rest = pairs;
@@ -173,7 +179,8 @@ impl Places {
     /// The value after a turn of the key whose newest change stands here.
     fn value_from(&self, newest: Option<usize>, turn: u64) -> Option<u64>
         requires { (key : ℕ) × (newest ≡ latest key (reverse self.now.list.items)) }
-        ensures { (key : ℕ) (calls : List Call) (lines : List Line) → newest ≡ latest key (reverse self.now.list.items) → AreEntries calls lines (changes self.now) → result ≡ get key (map_at calls lines turn) }
+        ensures { (key : ℕ) (calls : List Call) (lines : List Line) → newest ≡ latest key (reverse self.now.list.items) →
+            AreEntries calls lines (changes self.now) → result ≡ get key (map_at calls lines turn) }
     {
         let mut at = newest;
         while let Some(i) = at {
@@ -196,7 +203,11 @@ impl Places {
         last: u64,
     ) -> u64
         ensures within { first ≤ last → FallFrom (suc last) (changes self.now) → (first ≤ result) × (result ≤ last) }
-        ensures greatest { (calls : List Call) (lines : List Line) (call : MapCall) (n : ℕ) → AreEntries calls lines (changes self.now) → FallFrom (suc last) (changes self.now) → IsOrderedRead command.now → map_call (Some command.now) ≡ Some call → first ≤ n → n ≤ last → number_reply reply.now ≡ Some (replies_on call (map_at calls lines n)) → IsGreatestTurn (λ m. number_reply reply.now ≡ Some (replies_on call (map_at calls lines m))) first last result }
+        ensures greatest { (calls : List Call) (lines : List Line) (call : MapCall) (n : ℕ) →
+            AreEntries calls lines (changes self.now) → FallFrom (suc last) (changes self.now) →
+            IsOrderedRead command.now → map_call (Some command.now) ≡ Some call → first ≤ n → n ≤ last →
+            number_reply reply.now ≡ Some (replies_on call (map_at calls lines n)) → IsGreatestTurn
+            (λ m. number_reply reply.now ≡ Some (replies_on call (map_at calls lines m))) first last result }
     {
         self.greatest_told(command, pairs_told(reply), first, last)
     }
@@ -205,7 +216,10 @@ impl Places {
     /// told, and of these the greatest. It goes back from change to change.
     fn greatest_told(&self, command: &Command, pairs: &[(u64, u64)], first: u64, last: u64) -> u64
         ensures within { first ≤ last → FallFrom (suc last) (changes self.now) → (first ≤ result) × (result ≤ last) }
-        ensures greatest { (calls : List Call) (lines : List Line) (n : ℕ) → AreEntries calls lines (changes self.now) → FallFrom (suc last) (changes self.now) → first ≤ n → n ≤ last → pairs_read command.now (map_at calls lines n) ≡ number_pairs pairs.now → IsGreatestTurn (λ m. pairs_read command.now (map_at calls lines m) ≡ number_pairs pairs.now) first last result }
+        ensures greatest { (calls : List Call) (lines : List Line) (n : ℕ) → AreEntries calls lines (changes self.now) →
+            FallFrom (suc last) (changes self.now) → first ≤ n → n ≤ last →
+            pairs_read command.now (map_at calls lines n) ≡ number_pairs pairs.now → IsGreatestTurn
+            (λ m. pairs_read command.now (map_at calls lines m) ≡ number_pairs pairs.now) first last result }
     {
         let mut best = last;
         let mut more = 0;
@@ -226,7 +240,8 @@ impl Places {
 
     /// The value that the change at a place has left to its key; none where there is no place.
     fn value_at(&self, at: Option<usize>) -> Option<u64>
-        ensures { (key : ℕ) (newer older : List Place) → reverse self.now.list.items ≡ newer ++ older → at ≡ latest key older → result ≡ newest_value key (map (λ (q : Place). q.change) older) }
+        ensures { (key : ℕ) (newer older : List Place) → reverse self.now.list.items ≡ newer ++ older →
+            at ≡ latest key older → result ≡ newest_value key (map (λ (q : Place). q.change) older) }
     {
         let place = self.list.get(at?)?;
         place.change.value

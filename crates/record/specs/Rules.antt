@@ -5,6 +5,8 @@ pub mod Vlx
 pub mod Set
 pub mod Insert
 pub mod Delete
+pub mod PopFirst
+pub mod ReplaceIf
 pub mod Get
 pub mod Successor
 pub mod Range

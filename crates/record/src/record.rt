@@ -104,15 +104,18 @@ pub enum Answer {
     /// `scx`, `vlx`: the client keeps no snapshot of this cell, the first such.
     Unlinked { node: NodeNo },
     /// A call of the map, by what it replies. `get`: `Value`, the value of its key in the map, if
-    /// the key has one, at the reply's moment. `insert`, `delete`: `Value`, the value that its key
-    /// had, if it had one, just before the reply's moment; a `delete` that tells none has changed
-    /// nothing. `successor`: `Pair`, the pair of the map with the least key above its own, if there
-    /// is one, at the reply's moment. `range`: `Pairs`, the first pairs of the map between its
-    /// keys, by rising key, at the reply's moment. All but `get`: `Contended`, all its tries were
-    /// lost, and in the last of them `scx` was in progress over the node `node` of the tree; an
-    /// edit was not made and never will be. `insert`, `delete`: `Full`, so many of the resource are
-    /// left in the client's share, too few for the call. `successor`, `range`: `NoMemory`, an
-    /// allocation was refused.
+    /// the key has one, at the reply's moment. `insert`, `delete`, `replace_if`: `Value`, the value
+    /// that its key had, if it had one, just before the reply's moment; a `delete` that tells none
+    /// has changed nothing, nor has a `replace_if` that tells another value than it expects, or
+    /// none. `pop_first`: `Pair`, the pair of the map with the least key, if there is one, just
+    /// before the reply's moment; one that tells none has changed nothing. `successor`: `Pair`, the
+    /// pair of the map with the least key above its own, if there is one, at the reply's moment.
+    /// `range`: `Pairs`, the first pairs of the map between its keys, by rising key, at the reply's
+    /// moment. All but `get`: `Contended`, all its tries were lost, and in the last of them `scx`
+    /// was in progress over the node `node` of the tree; an edit was not made and never will be.
+    /// `insert`, `delete`, `pop_first`, `replace_if`: `Full`, so many of the resource are left in
+    /// the client's share, too few for the call. `successor`, `range`: `NoMemory`, an allocation was
+    /// refused.
     Map(Reply<u64, u64>),
     /// `scx`, `set`: `left` of the resource are left in the client's share, too few for the call.
     Full { what: Resource, left: u32 },

@@ -11,7 +11,7 @@ use Rattle.script.specs.Update.{update_cells, update_finalize, update_field, upd
 use Rattle.ordered_map.specs.declared.request.Request.{Request}
 use Rattle.script.specs.declared.command.Command.{Command}
 use Rattle.script.specs.declared.command.Command.TheVariants.{Llx, Scx, Vlx, Set, Map}
-use Rattle.ordered_map.specs.declared.request.Request.TheVariants.{Insert, Delete, Get, Successor, Range}
+use Rattle.ordered_map.specs.declared.request.Request.TheVariants.{Insert, Delete, PopFirst, ReplaceIf, Get, Successor, Range}
 
 -- the word for a side
 abbrev pub side_text : Side → List ℕ
@@ -36,6 +36,8 @@ change_text field value = decimal field.0 ++ (codes " " ++ (side_text field.1 ++
 abbrev pub request_row : Request ℕ ℕ → List (List ℕ)
 request_row (Insert key value) = codes "insert" ∷ decimal key ∷ decimal value ∷ [] ∷ []
 request_row (Delete key) = codes "delete" ∷ decimal key ∷ [] ∷ [] ∷ []
+request_row PopFirst = codes "pop_first" ∷ [] ∷ [] ∷ [] ∷ []
+request_row (ReplaceIf key expected value) = codes "replace_if" ∷ decimal key ∷ decimal expected ∷ decimal value ∷ []
 request_row (Get key) = codes "get" ∷ decimal key ∷ [] ∷ [] ∷ []
 request_row (Successor key) = codes "successor" ∷ decimal key ∷ [] ∷ [] ∷ []
 request_row (Range low high most) = codes "range" ∷ decimal low ∷ decimal high ∷ decimal most ∷ []
@@ -71,11 +73,13 @@ IsCell node = (1 ≤ node) × (node ≤ 8)
 abbrev pub AreCells : List ℕ → Type 0
 AreCells nodes = (1 ≤ length nodes) × All IsCell nodes
 
--- the call of the map is one that there is: its keys and its value fit a word, and it asks for at
+-- the call of the map is one that there is: its keys and its values fit a word, and it asks for at
 -- most 64 pairs
 abbrev pub IsRequest : Request ℕ ℕ → Type 0
 IsRequest (Insert key value) = (key < 2 ^ 64) × (value < 2 ^ 64)
 IsRequest (Delete key) = key < 2 ^ 64
+IsRequest PopFirst = Unit {0}
+IsRequest (ReplaceIf key expected value) = (key < 2 ^ 64) × (expected < 2 ^ 64) × (value < 2 ^ 64)
 IsRequest (Get key) = key < 2 ^ 64
 IsRequest (Successor key) = key < 2 ^ 64
 IsRequest (Range low high most) = (low < 2 ^ 64) × (high < 2 ^ 64) × (most ≤ 64)

@@ -32,7 +32,8 @@ impl Format for CallRows {
     ghost grammar = { λ rows. call_grammar rows.layout };
 
     fn entry(&self, row: &StringRecord) -> Result<Call, ScriptCause>
-        ensures accepted { IfOk result (λ call. (call.client.0 < self.now.layout.passes) × (mode_of call.command ≡ self.now.layout.mode) × IsCommand call.command) }
+        ensures accepted { IfOk result (λ call. (call.client.0 < self.now.layout.passes) ×
+            (mode_of call.command ≡ self.now.layout.mode) × IsCommand call.command) }
         ensures row { IfOk result (λ call. length (fields_of row.now) ≡ 5 → fields_of row.now ≡ call_row call) }
         ensures cause { IfErr result (λ cause. length (fields_of row.now) ≡ 5 → IsNoCall self.now.layout (fields_of row.now) cause) }
     {

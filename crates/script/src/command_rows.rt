@@ -30,6 +30,8 @@ pub fn command_of(mode: Mode, name: &str, arguments: [&str; 3]) -> Result<Comman
         (Mode::Records, "set") => set_of(arguments),
         (Mode::Tree, "insert") => insert_of(arguments),
         (Mode::Tree, "delete") => delete_of(arguments),
+        (Mode::Tree, "pop_first") => pop_first_of(arguments),
+        (Mode::Tree, "replace_if") => replace_if_of(arguments),
         (Mode::Tree, "get") => get_of(arguments),
         (Mode::Tree, "successor") => successor_of(arguments),
         (Mode::Tree, "range") => range_of(arguments),
@@ -105,6 +107,26 @@ fn delete_of(arguments: [&str; 3]) -> Option<Command>
     }))
 }
 
+fn pop_first_of(arguments: [&str; 3]) -> Option<Command>
+    ensures { IsCommandOf (codes "pop_first" ∷ texts arguments.entry) result }
+{
+    match arguments {
+        ["", "", ""] => Some(Command::Map(Request::PopFirst)),
+        _ => None,
+    }
+}
+
+fn replace_if_of(arguments: [&str; 3]) -> Option<Command>
+    ensures { IsCommandOf (codes "replace_if" ∷ texts arguments.entry) result }
+{
+    let [key, expected, value] = arguments;
+    Some(Command::Map(Request::ReplaceIf {
+        key: number_of(key)?,
+        expected: number_of(expected)?,
+        value: number_of(value)?,
+    }))
+}
+
 fn get_of(arguments: [&str; 3]) -> Option<Command>
     ensures { IsCommandOf (codes "get" ∷ texts arguments.entry) result }
 {
@@ -156,7 +178,8 @@ fn cell_of(text: &str) -> Option<Cell>
 
 /// One to four cells that differ, with one space between two.
 fn cells_of(text: &str) -> Option<Cells>
-    ensures { MatchOption result ((cells : Cells) → AreCells (cells_of cells) → text.now ≢ numbers_text (cells_of cells)) (λ cells. AreCells (cells_of cells) × (text.now ≡ numbers_text (cells_of cells))) }
+    ensures { MatchOption result ((cells : Cells) → AreCells (cells_of cells) → text.now ≢ numbers_text (cells_of cells))
+        (λ cells. AreCells (cells_of cells) × (text.now ≡ numbers_text (cells_of cells))) }
 {
     let mut cells = None;
     for part in text.split(' ') {
@@ -178,7 +201,9 @@ fn one_more(cells: Option<Cells>, cell: Cell) -> Option<Cells>
 
 /// The cells of an SCX that are finalized, if any.
 fn finalize_of(text: &str) -> Option<Option<Cells>>
-    ensures { MatchOption result ((cells : Option Cells) → All IsCell (maybe_cells_of cells) → text.now ≢ numbers_text (maybe_cells_of cells)) (λ cells. All IsCell (maybe_cells_of cells) × (text.now ≡ numbers_text (maybe_cells_of cells))) }
+    ensures { MatchOption result ((cells : Option Cells) → All IsCell (maybe_cells_of cells) →
+        text.now ≢ numbers_text (maybe_cells_of cells))
+        (λ cells. All IsCell (maybe_cells_of cells) × (text.now ≡ numbers_text (maybe_cells_of cells))) }
 {
     match text {
         "" => Some(None),
@@ -188,7 +213,9 @@ fn finalize_of(text: &str) -> Option<Option<Cells>>
 
 /// A field and the value that goes into it: cell, side and value, with one space between two.
 fn change_of(text: &str) -> Option<((Cell, Side), u64)>
-    ensures { MatchOption result ((field : ℕ × Side) (value : ℕ) → IsCell field.0 → value < 2 ^ 64 → text.now ≢ change_text field value) (λ change. IsCell change.0.0 × (change.1 < 2 ^ 64) × (text.now ≡ change_text change.0 change.1)) }
+    ensures { MatchOption result ((field : ℕ × Side) (value : ℕ) → IsCell field.0 → value < 2 ^ 64 →
+        text.now ≢ change_text field value)
+        (λ change. IsCell change.0.0 × (change.1 < 2 ^ 64) × (text.now ≡ change_text change.0 change.1)) }
 {
     let (cell, rest) = text.split_once(' ')?;
     let (side, value) = rest.split_once(' ')?;
@@ -264,6 +291,22 @@ impl CommandText {
                 a: format!(in alloc; "{key}")?,
                 b: String::new(alloc),
                 c: String::new(alloc),
+            }),
+            Request::PopFirst => Ok(CommandText {
+                name: "pop_first",
+                a: String::new(alloc),
+                b: String::new(alloc),
+                c: String::new(alloc),
+            }),
+            Request::ReplaceIf {
+                key,
+                expected,
+                value,
+            } => Ok(CommandText {
+                name: "replace_if",
+                a: format!(in alloc; "{key}")?,
+                b: format!(in alloc; "{expected}")?,
+                c: format!(in alloc; "{value}")?,
             }),
             Request::Get { key } => Ok(CommandText {
                 name: "get",

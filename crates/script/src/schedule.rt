@@ -59,7 +59,8 @@ pub fn read_schedule<R: Read>(
     ensures orders { IfOk result (λ schedule. All (IsOrder script.now.layout.passes) schedule.orders.items) }
 
     // Of a reader that tells its bytes: the schedule is what they say, and a fault is their first.
-    ensures says { (bytes : List ℕ) → R.remaining from.old.inner ≡ Some bytes → IfOk result (λ schedule. SayOrders script.now.layout.passes bytes schedule.orders.items) }
+    ensures says { (bytes : List ℕ) → R.remaining from.old.inner ≡ Some bytes → IfOk result
+        (λ schedule. SayOrders script.now.layout.passes bytes schedule.orders.items) }
     ensures fault { (bytes : List ℕ) → R.remaining from.old.inner ≡ Some bytes → IfErr result (IfBad (IsScheduleFault script.now.layout.passes bytes)) }
 
     // Whether a read failed is told by the failure count, as long as it can rise.

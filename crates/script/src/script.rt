@@ -60,7 +60,8 @@ pub fn read_script<R: Read>(
     ensures mode { IfOk result (λ script. script.layout.mode ≡ mode) }
 
     // Of a reader that tells its bytes: the script is what they say, and a fault is their first.
-    ensures says { (bytes : List ℕ) → R.remaining from.old.inner ≡ Some bytes → IfOk result (λ script. SayScript mode bytes script.limits script.layout script.calls.items) }
+    ensures says { (bytes : List ℕ) → R.remaining from.old.inner ≡ Some bytes → IfOk result
+        (λ script. SayScript mode bytes script.limits script.layout script.calls.items) }
     ensures fault { (bytes : List ℕ) → R.remaining from.old.inner ≡ Some bytes → IfErr result (IfBad (IsScriptFault mode bytes)) }
 
     // Whether a read failed is told by the failure count, as long as it can rise.
@@ -79,7 +80,8 @@ fn script_of<R: Read>(
     from: &mut Metered<R>,
 ) -> Result<Script, ScriptFault>
     ensures mode { IfOk result (λ script. script.layout.mode ≡ mode) }
-    ensures says { (bytes : List ℕ) → R.remaining from.old.inner ≡ Some bytes → IfOk result (λ script. SayScript mode bytes script.limits script.layout script.calls.items) }
+    ensures says { (bytes : List ℕ) → R.remaining from.old.inner ≡ Some bytes → IfOk result
+        (λ script. SayScript mode bytes script.limits script.layout script.calls.items) }
     ensures fault { (bytes : List ℕ) → R.remaining from.old.inner ≡ Some bytes → IfErr result (IfBad (IsScriptFault mode bytes)) }
 {
     let mut rows = Rows::new(alloc, from);

@@ -4,7 +4,7 @@ use Rattle.arena.specs.declared.layout.Layout.{Layout}
 use Rattle.arena.specs.History.{History}
 use Rattle.arena.specs.Log.{Entry as Entered}
 use Rattle.ordered_map.specs.CallRules.{MayReply, call_rules, form_of, most_nodes, most_scx, most_steps}
-use Rattle.ordered_map.specs.OrderedMap.{MapCall, Edit, Insert, Delete, Get, Successor, Range}
+use Rattle.ordered_map.specs.OrderedMap.{MapCall, Edit, Insert, Delete, PopFirst, ReplaceIf, Get, Successor, Range}
 use Rattle.ordered_map.specs.Runs.{Makes}
 use Rattle.record.specs.declared.record.Answer.{Answer}
 use Rattle.record.specs.declared.record.Answer.TheVariants.{Map}
@@ -14,7 +14,9 @@ use Rattle.record.specs.Rules.{Rules, MapRules}
 use Rattle.record.specs.Rules.Delete.{delete_rules}
 use Rattle.record.specs.Rules.Get.{get_rules}
 use Rattle.record.specs.Rules.Insert.{insert_rules}
+use Rattle.record.specs.Rules.PopFirst.{IsPopEntry, pop_rules}
 use Rattle.record.specs.Rules.Range.{range_rules}
+use Rattle.record.specs.Rules.ReplaceIf.{IsReplaceEntry, replace_rules}
 use Rattle.record.specs.Rules.Successor.{successor_rules}
 
 -- after a step it gives a reply of the map, of a form that the call may give
@@ -22,15 +24,20 @@ abbrev pub RepliesAfterStep : MapCall → Answer → Type 0
 RepliesAfterStep call (Map reply) = MayReply call (form_of reply)
 RepliesAfterStep call _ = ⊥
 
--- an entry of an edit is of an SCX-record that makes it; a read has none
+-- an entry of an insert or a delete is of an SCX-record that makes it; so is one of a pop and of a
+-- replacement, which suits the map just before it; a read has none
 abbrev pub IsMapEntry : MapCall → Layout → History → Entered → Type 0
 IsMapEntry (Edit edit) lay before e = Makes lay before e.scx edit
+IsMapEntry PopFirst lay before e = IsPopEntry lay before e.scx
+IsMapEntry (ReplaceIf key expected put) lay before e = IsReplaceEntry key expected put lay before e.scx
 IsMapEntry _ lay before e = ⊥
 
 -- the one match from calls of the map to what a record says of each
 abbrev pub own_rules : MapCall → MapRules
 own_rules (Edit (Insert key value)) = insert_rules key
 own_rules (Edit (Delete key)) = delete_rules key
+own_rules PopFirst = pop_rules
+own_rules (ReplaceIf key expected value) = replace_rules key expected
 own_rules (Get key) = get_rules key
 own_rules (Successor key) = successor_rules
 own_rules (Range low high most) = range_rules low high most
