@@ -74,32 +74,34 @@ map_calls mode calls e all c j command is = go command (of_commands (λ k. mode_
     go (VlxOf cells) e = cc
     go (SetOf field value) e = cc
 
--- the key that a client's command may change is known
-pub command_key : (places : Places) (calls : List Call) (c n : ℕ) (command : Command) → All (λ (call : Call). HoldsOfKey (Knows places) call.command) calls → slice_get (commands calls c) n ≡ Some command → HoldsOfKey (Knows places) command
-command_key places calls c n command all is = of_commands (λ k. HoldsOfKey (Knows places) k) calls c n command all is
-
-if_some : (P Q : ℕ → Type 0) (o : Option ℕ) → ((n : ℕ) → P n → Q n) → IfSome o P → IfSome o Q
-if_some P Q None more x = tt
-if_some P Q (Some n) more x = more n x
-
--- keys that were known are
-pub keys_kept : (before after : Places) (calls : List Call) → ((key : ℕ) → Knows before key → Knows after key) → All (λ (call : Call). HoldsOfKey (Knows before) call.command) calls → All (λ (call : Call). HoldsOfKey (Knows after) call.command) calls
-keys_kept before after calls kept all = λ i call less. if_some (Knows before) (Knows after) _ kept (all i call less)
-
 -- the next command of a client has the mode of all
 pub next_of_mode : (mode : Mode) (calls : List Call) (lines : List Line) (c : ℕ) (command : Command) → AreOf mode calls → next_command calls lines c ≡ Some command → mode_of command ≡ mode
 next_of_mode mode calls lines c command all is = of_commands (λ k. mode_of k ≡ mode) calls c (answered lines c) command all is
 
 -- Entries
 
--- the change by a call with the client's next command is that of its entry
-change_of : (lay : Layout) (calls : List Call) (lines : List Line) (entry : Entry) (command : Command) (change : Change) → IsLog lay calls lines entry → next_command calls lines entry.client.0 ≡ Some command → change.turn ≡ entry.step → IsChangeBy (map_call (Some command)) change → IsChangeOf calls entry change
-change_of lay calls [] entry command change x is turn by = absurd x
-change_of lay calls (Step (Idle n client) ∷ lines) entry command change x is turn by = absurd x
-change_of lay calls (Log d ∷ lines) entry command change x is turn by = absurd x
-change_of lay calls (ReplyLine d ∷ lines) entry command change x is turn by = absurd x
-change_of lay calls (Step (Made n row) ∷ lines) entry command change x is turn by = (turn, subst (λ (o : Option Command). IsChangeBy (map_call o) change) (sym (ap (λ (k : ℕ). slice_get (commands calls entry.client.0) k) x.1.call ∙ is)) by)
+-- entries are of turns up to the newest
+entries_up_to : (lay : Layout) (tries : ℕ) (calls : List Call) (lines : List Line) (turn : ℕ) → AreLines lay tries calls lines → turns lines ≤ turn → AreUpTo turn (written_log lines)
+unfolding AreLines
+entries_up_to lay tries calls [] turn a less = tt
+entries_up_to lay tries calls (Step (Made n row) ∷ lines) turn a less = entries_up_to lay tries calls lines turn a.0 (omega (less, arith))
+entries_up_to lay tries calls (Step (Idle n client) ∷ lines) turn a less = entries_up_to lay tries calls lines turn a.0 (omega (less, arith))
+entries_up_to lay tries calls (ReplyLine reply ∷ lines) turn a less = entries_up_to lay tries calls lines turn a.0 less
+entries_up_to lay tries calls (Log entry ∷ lines) turn a less =
+    let step = log_step lay tries calls lines entry a.0 a.1 in
+    (omega (step, less, arith), entries_up_to lay tries calls lines turn a.0 less)
 
+-- the change of an SCX-record that has begun is that of its entry
+change_of : (lay : Layout) (tries : ℕ) (calls : List Call) (lines : List Line) (entry : Entry) (begun : Begun) → lay.mode ≡ Tree → AreOf lay.mode calls → AreLines lay tries calls (Log entry ∷ lines) → AreSpelled lay calls lines → HasBegunWith lay (history lay.mode lines) entry.scx.0 begun → IsChangeOf calls (written_log lines) entry record { turn = entry.step; key = begun.key; value = begun.value }
+unfolding AreLines AreSpelled Lawful
+change_of lay tries calls [] entry begun mode all a x b = absurd a.1
+change_of lay tries calls (Step (Idle n client) ∷ lines) entry begun mode all a x b = absurd a.1
+change_of lay tries calls (Log d ∷ lines) entry begun mode all a x b = absurd a.1
+change_of lay tries calls (ReplyLine d ∷ lines) entry begun mode all a x b = absurd a.1
+change_of lay tries calls (Step (Made n row) ∷ lines) entry begun mode all a x b = (refl, by, entries_up_to lay tries calls lines entry.step a.0.0 (omega (step, arith)))
+  where
+    step : entry.step ≡ suc (turns lines)
+    step = log_step lay tries calls (Step (Made n row) ∷ lines) entry a.0 a.1
 module _ (lay : Layout) (tries : ℕ) (calls : List Call) (of_mode : AreOf lay.mode calls) (begun : List (Option Begun)) (places : Places) (lines : List Line) (x : IsMapSoFar lay calls begun places lines) where
   pub map_idle : (number : ℕ) (pass : PassNo) → AreLines lay tries calls (Step (Idle number pass) ∷ lines) → IsMapSoFar lay calls begun places (Step (Idle number pass) ∷ lines)
   map_idle number pass a = record { keys = x.keys; tree = λ mode. tree_idle lay tries calls mode (map_calls lay.mode calls mode of_mode) begun (changes places) lines (x.tree mode) number pass a }

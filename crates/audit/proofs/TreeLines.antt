@@ -1,39 +1,49 @@
 -- What is remembered of the tree stays what the lines say.
-use Rattle.std.proofs.Common.{◌≡◌, ℕ, zero, suc, ◌⊎◌, inl, inr, ⊎_elim, List, [], ◌∷◌, set, slice_get, Option, Some, None, refl, sym, ap, subst}
+use Rattle.std.proofs.Common.{◌≡◌, ℕ, zero, suc, ◌⊎◌, inl, inr, ⊎_elim, Bool, cond, eq-eqb, ◌∙◌, List, [], ◌∷◌, set, slice_get, Option, Some, None, refl, sym, ap, subst}
 use Rattle.arena.specs.declared.limits.Mode.TheVariants.{Tree}
 use Rattle.arena.specs.declared.layout.Layout.{Layout}
 use Rattle.arena.specs.declared.number.PassNo.{PassNo}
 use Rattle.arena.specs.declared.step.Row.{Row as StepRow}
-use Rattle.arena.specs.History.{History, ◌⊳◌}
-use Rattle.arena.specs.Lawful.{Lawful, IsLawful}
+use Rattle.arena.specs.declared.step.Kind.TheVariants.{Freeze, Update}
+use Rattle.arena.specs.declared.word.NodeWord.TheVariants.{Key, Value}
+use Rattle.arena.specs.History.{History, ◌⊳◌, value}
+use Rattle.arena.specs.Lawful.{Lawful, IsLawful, IsWin}
 use Rattle.arena.specs.Log.{Entry as Entered}
 use Rattle.arena.specs.Machines.{IsRun}
 use Rattle.arena.specs.Shape.{Shaped, IsBegin}
+use Rattle.arena.specs.Words.{node}
 use Rattle.arena.proofs.Lemmas.{ends_self}
+use Rattle.ordered_map.specs.declared.pair.Pair.{Pair}
+use Rattle.ordered_map.proofs.Lemmas.{makes_one, makes_since, win_first, win_makes}
 use Rattle.script.specs.declared.call.Call.{Call}
 use Rattle.script.specs.declared.command.Command.{Command}
 use Rattle.script.specs.declared.command.Command.TheVariants.{Map}
 use Rattle.ordered_map.specs.FillOrder.{HasRisingLevels}
-use Rattle.ordered_map.specs.OrderedMap.{MapCall, MapEdit, Edit, edit_key, value_left}
+use Rattle.ordered_map.specs.OrderedMap.{MapCall, MapEdit, Edit, Insert, Delete, PopFirst, ReplaceIf, OneValue, pair, pair_or_none, edit_key, edit_of, value_left}
 use Rattle.ordered_map.specs.Requests.{map_request}
 use Rattle.ordered_map.specs.Runs.{IsTreeRun, Makes}
-use Rattle.ordered_map.specs.TreeShape.{TreeAllows}
+use Rattle.ordered_map.specs.Spelled.{Spells}
+use Rattle.ordered_map.specs.TreeShape.{TreeAllows, edit_leaf}
+use Rattle.ordered_map.specs.TreeWords.{class, first_said, said}
 use Rattle.record.specs.declared.record.Line.{Line}
 use Rattle.record.specs.declared.record.Line.TheVariants.{Step, Log, Reply as ReplyLine}
 use Rattle.record.specs.declared.record.Row.TheVariants.{Step as Made, Idle}
 use Rattle.record.specs.declared.record.Entry.{Entry}
 use Rattle.record.specs.declared.record.Finished.{Finished}
 use Rattle.record.specs.CommandRules.{IsEntryFor}
-use Rattle.record.specs.MapRecord.{map_call}
+use Rattle.record.specs.MapRecord.{map_call, written_log}
 use Rattle.record.specs.Rules.Map.{IsMapEntry}
+use Rattle.record.specs.Rules.PopFirst.{IsPopEntry}
+use Rattle.record.specs.Rules.ReplaceIf.{IsReplaceEntry}
 use Rattle.record.specs.LawfulRun.{AreLines}
 use Rattle.record.specs.SpelledMap.{AreSpelled}
 use Rattle.record.specs.Turns.{history}
 use Rattle.record.proofs.Lemmas.{AreMapCalls}
 use Rattle.moments.specs.declared.places.Change.{Change}
-use Rattle.moments.specs.Entries.{IsChangeBy, IsChangeOf}
+use Rattle.moments.specs.Changed.{edit_on}
+use Rattle.moments.specs.Entries.{IsChangeBy, IsChangeByEdit, IsChangeOf}
 use Rattle.moments.proofs.Lemmas.{spelled}
-use Rattle.audit.specs.Edits.{IsEditBy, MayMake, HasBegunWith, AreRememberedEdits, edit_begun, edit_to}
+use Rattle.audit.specs.Edits.{IsEditBy, IsFirstLeaf, IsSuited, Suits, MayMake, HasBegunWith, AreRememberedEdits, edit_begun, edit_to}
 use Rattle.audit.specs.declared.edits.Begun.{Begun}
 use Rattle.audit.specs.Trees.{IsTreeSoFar}
 
@@ -55,29 +65,58 @@ begun_since lay h r s begun x = record { row = x.row; before = x.before; within 
 pub edit_allowed : (lay : Layout) (h : History) (s : ℕ) (begun : Begun) → MayMake lay h s begun → TreeAllows lay h s
 edit_allowed lay h s begun x = (edit_begun begun, x.edit)
 
+-- a win makes no SCX-record begin
+win_run : (lay : Layout) (h : History) (row : StepRow) (s : ℕ) → IsTreeRun lay h → IsLawful lay h row → IsWin h row s → IsTreeRun lay (row ⊳ h)
+unfolding Lawful Shaped
+win_run lay h row s g lawful won = (g.0, record { lawful = (g.1.lawful, lawful); shaped = (g.1.shaped, λ t b. absurd (let z : Update ≡ Freeze = sym won.kind ∙ b.kind in cc)) })
+
+-- what the first leaf of the tree says
+first_is : (h : History) (n key : ℕ) → IsFirstLeaf h n key → first_said (value h) n ≡ Some (pair key (value h (node n Value)))
+first_is h n key x = ap (λ b. cond b (Some (pair (value h (node n Key)) (value h (node n Value)))) None) (eq-eqb (class (value h) n) 0 x.class) ∙ ap (λ (k : ℕ). Some (pair k (value h (node n Value)))) x.key
+
 -- an entry of it is one that a call with its command makes
-entry_makes : (lay : Layout) (h : History) (e : Entered) (call : MapCall) (edit : MapEdit) → Makes lay h e.scx edit → IsEditBy (Some call) edit → IsMapEntry call lay h e
-entry_makes lay h e (Edit own) edit x is = subst (λ d. Makes lay h e.scx d) (sym is) x
-entry_makes lay h e call edit x is = absurd is
+module _ (lay : Layout) (h : History) (row : StepRow) (e : Entered) (run : IsTreeRun lay (row ⊳ h)) (won : IsWin h row e.scx) where
+  pop_entry : (key : ℕ) → Makes lay h e.scx (Delete key) → IsFirstLeaf h (edit_leaf h e.scx (Delete key)) key → IsPopEntry lay h e.scx
+  pop_entry key x first =
+      let leaf = edit_leaf h e.scx (Delete key) in
+      (pair key (value h (node leaf Value)), x, λ map spells. win_first lay h row e.scx (Delete key) run won x (first.path.0, first.path.1, first.path.3) first.leaf map spells ∙ first_is h leaf key first)
 
-entry_by : (lay : Layout) (c : ℕ) (h start : History) (linked : ℕ → Option History) (e : Entered) (command : Command) (edit : MapEdit) → Makes lay h e.scx edit → IsEditBy (map_call (Some command)) edit → IsEntryFor lay c h start linked e command
-entry_by lay c h start linked e (Map request) edit x is = entry_makes lay h e (map_request request) edit x is
-entry_by lay c h start linked e command edit x is = absurd is
+  replace_entry : (key expected put : ℕ) → Makes lay h e.scx (Insert key put) → said (value h) key (edit_leaf h e.scx (Insert key put)) ≡ Some expected → IsReplaceEntry key expected put lay h e.scx
+  replace_entry key expected put x says =
+      let edit : MapEdit = Insert key put in
+      let at = win_makes lay (row ⊳ h) h row e.scx edit run (ends_self (row ⊳ h)) won (makes_since lay (row ⊳ h) h e.scx edit (inr (ends_self h)) x) in
+      (x, λ map spells. at.replies map spells ∙ says)
 
-pub edit_entry : (lay : Layout) (c : ℕ) (h start : History) (linked : ℕ → Option History) (e : Entered) (begun : Begun) → HasBegunWith lay h e.scx begun → IsEntryFor lay c h start linked e begun.command
-edit_entry lay c h start linked e begun x = entry_by lay c h start linked e begun.command (edit_begun begun) (made lay h e.scx begun x) x.makes.own
+  entry_makes : (call : MapCall) (edit : MapEdit) → Makes lay h e.scx edit → IsEditBy (Some call) edit → Suits (Some call) h e.scx edit → IsMapEntry call lay h e
+  entry_makes (Edit own) edit x is suited = subst (λ d. Makes lay h e.scx d) (sym is) x
+  entry_makes PopFirst edit x is suited = pop_entry is.0 (subst (λ d. Makes lay h e.scx d) is.1 x) (subst (λ d. IsFirstLeaf h (edit_leaf h e.scx d) (edit_key d)) is.1 suited)
+  entry_makes (ReplaceIf key expected put) edit x is suited = replace_entry key expected put (subst (λ d. Makes lay h e.scx d) is x) (subst (λ d. said (value h) key (edit_leaf h e.scx d) ≡ Some expected) is suited)
+  entry_makes call edit x is suited = absurd is
+
+  entry_by : (c : ℕ) (start : History) (linked : ℕ → Option History) (command : Command) (edit : MapEdit) → Makes lay h e.scx edit → IsEditBy (map_call (Some command)) edit → Suits (map_call (Some command)) h e.scx edit → IsEntryFor lay c h start linked e command
+  entry_by c start linked (Map request) edit x is suited = entry_makes (map_request request) edit x is suited
+  entry_by c start linked command edit x is suited = absurd is
+
+pub edit_entry : (lay : Layout) (c : ℕ) (h start : History) (row : StepRow) (linked : ℕ → Option History) (e : Entered) (begun : Begun) → IsTreeRun lay h → IsLawful lay h row → IsWin h row e.scx → HasBegunWith lay h e.scx begun → IsSuited h e.scx begun → IsEntryFor lay c h start linked e begun.command
+edit_entry lay c h start row linked e begun g lawful won x suited = entry_by lay h row e (win_run lay h row e.scx g lawful won) won c start linked begun.command (edit_begun begun) (made lay h e.scx begun x) x.makes.own suited
+
+-- an entry of a call makes the edit that the call makes of the map that the words spell before it
+entered : (lay : Layout) (h : History) (e : Entered) (call : MapCall) (m : List Pair) → IsMapEntry call lay h e → Spells lay (value h) m → (edit : MapEdit) × (edit_on call m ≡ Some edit) × Makes lay h e.scx edit
+entered lay h e (Edit own) m x spells = (own, refl, x)
+entered lay h e PopFirst m x spells = (Delete x.0.key, ap (λ (o : Option Pair). edit_of PopFirst (pair_or_none o)) (x.2 m spells), x.1)
+entered lay h e (ReplaceIf key expected put) m x spells = (Insert key put, ap (λ (o : Option ℕ). edit_of (ReplaceIf key expected put) (OneValue o)) (x.1 m spells) ∙ ap (λ (b : Bool). cond b (Some (Insert key put)) None) (eq-eqb expected expected refl), x.0)
+entered lay h e call m x spells = absurd x
 
 -- the change that it makes
-change_to : (key : ℕ) (value : Option ℕ) (own : MapEdit) → own ≡ edit_to key value → (key ≡ edit_key own) × (value ≡ value_left own)
-change_to key None own is = (sym (ap edit_key is), sym (ap value_left is))
-change_to key (Some v) own is = (sym (ap edit_key is), sym (ap value_left is))
+change_to : (key turn : ℕ) (value : Option ℕ) (own : MapEdit) → own ≡ edit_to key value → IsChangeByEdit (Some own) record { turn = turn; key = key; value = value }
+change_to key turn None own is = (sym (ap edit_key is), sym (ap value_left is))
+change_to key turn (Some v) own is = (sym (ap edit_key is), sym (ap value_left is))
 
-change_of : (call : Option MapCall) (begun : Begun) (turn : ℕ) → IsEditBy call (edit_begun begun) → IsChangeBy call record { turn = turn; key = begun.key; value = begun.value }
-change_of (Some (Edit own)) begun turn is = change_to begun.key begun.value own is
-change_of call begun turn is = absurd is
-
-pub change_made : (lay : Layout) (h : History) (s turn : ℕ) (begun : Begun) → HasBegunWith lay h s begun → IsChangeBy (map_call (Some begun.command)) record { turn = turn; key = begun.key; value = begun.value }
-change_made lay h s turn begun x = change_of (map_call (Some begun.command)) begun turn x.makes.own
+pub change_made : (lay : Layout) (h : History) (e : Entered) (turn : ℕ) (call : MapCall) (m : List Pair) (begun : Begun) → Lawful lay h → HasBegunWith lay h e.scx begun → IsMapEntry call lay h e → Spells lay (value h) m → IsChangeBy (Some call) m record { turn = turn; key = begun.key; value = begun.value }
+change_made lay h e turn call m begun lawful b x spells =
+    let y = entered lay h e call m x spells in
+    let one : y.0 ≡ edit_begun begun = makes_one lay h e.scx y.0 (edit_begun begun) lawful y.2 (made lay h e.scx begun b) in
+    subst (λ (o : Option MapEdit). IsChangeByEdit o record { turn = turn; key = begun.key; value = begun.value }) (sym y.1) (change_to begun.key turn begun.value y.0 one)
 
 -- what is remembered stays true with one row more
 pub edits_kept : (lay : Layout) (h : History) (r : StepRow) (edits : List (Option Begun)) → AreRememberedEdits lay h edits → AreRememberedEdits lay (r ⊳ h) edits
@@ -116,7 +155,7 @@ module _ (lay : Layout) (tries : ℕ) (calls : List Call) (mode : lay.mode ≡ T
   pub tree_reply : (reply : Finished) → AreLines lay tries calls (ReplyLine reply ∷ lines) → IsTreeSoFar lay calls begun changed (ReplyLine reply ∷ lines)
   tree_reply reply a = record { run = x.run; rising = x.rising; spelled = spelled_more (ReplyLine reply) a (mode, x.run) x.rising; edits = x.edits; entries = x.entries }
 
-  pub tree_log : (entry : Entry) (change : Change) → AreLines lay tries calls (Log entry ∷ lines) → IsChangeOf calls entry change → IsTreeSoFar lay calls begun (change ∷ changed) (Log entry ∷ lines)
+  pub tree_log : (entry : Entry) (change : Change) → AreLines lay tries calls (Log entry ∷ lines) → IsChangeOf calls (written_log lines) entry change → IsTreeSoFar lay calls begun (change ∷ changed) (Log entry ∷ lines)
   tree_log entry change a is = record { run = x.run; rising = x.rising; spelled = spelled_more (Log entry) a (mode, x.run) x.rising; edits = x.edits; entries = (is, x.entries) }
 
   -- a step that begins no SCX-record but one that makes an edit, behind which levels rise

@@ -1,11 +1,15 @@
 -- Which edit of the map an SCX-record makes, and for which call.
-use Rattle.std.specs.Prelude.{◌≡◌, ℕ, List, Option, Some, None, slice_get}
+use Rattle.std.specs.Prelude.{◌≡◌, ℕ, true, List, Option, Some, None, slice_get}
 use Rattle.arena.specs.declared.layout.Layout.{Layout}
 use Rattle.arena.specs.declared.step.Row.{Row}
-use Rattle.arena.specs.History.{History, ◌⊳◌, Extends}
+use Rattle.arena.specs.declared.word.NodeWord.TheVariants.{Key}
+use Rattle.arena.specs.History.{History, ◌⊳◌, value, Extends}
 use Rattle.arena.specs.Shape.{IsBegin}
-use Rattle.ordered_map.specs.OrderedMap.{MapCall, MapEdit, Edit, Insert, Delete}
-use Rattle.ordered_map.specs.TreeShape.{MayEdit}
+use Rattle.arena.specs.Words.{node}
+use Rattle.ordered_map.specs.OrderedMap.{MapCall, MapEdit, Edit, Insert, Delete, PopFirst, ReplaceIf, edit_key}
+use Rattle.ordered_map.specs.Paths.{Passed}
+use Rattle.ordered_map.specs.TreeShape.{MayEdit, edit_leaf}
+use Rattle.ordered_map.specs.TreeWords.{class, is_leaf, said}
 use Rattle.record.specs.MapRecord.{map_call}
 use Rattle.audit.specs.declared.edits.Begun.{Begun}
 
@@ -18,10 +22,30 @@ edit_to key (Some value) = Insert key value
 abbrev pub edit_begun : Begun → MapEdit
 edit_begun begun = edit_to begun.key begun.value
 
--- the call may make this edit
+-- the call may make this edit: a pop takes out some key, a replacement gives its key its value
 abbrev pub IsEditBy : Option MapCall → MapEdit → Type 0
 IsEditBy (Some (Edit own)) edit = own ≡ edit
+IsEditBy (Some PopFirst) edit = (key : ℕ) × (edit ≡ Delete key)
+IsEditBy (Some (ReplaceIf key expected value)) edit = edit ≡ Insert key value
 IsEditBy _ edit = ⊥
+
+-- n is the first leaf of the tree, and has this key
+pub record IsFirstLeaf (h : History) (n key : ℕ) : Type 0 where
+  pub path : Passed h h 0 n
+  pub leaf : is_leaf (value h) n ≡ true
+  pub class : class (value h) n ≡ 0
+  pub key : value h (node n Key) ≡ key
+
+-- the leaf that the SCX-record covers for its edit suits the call: that of a pop is the first one,
+-- that of a replacement says the value that the call expects
+abbrev pub Suits : Option MapCall → History → ℕ → MapEdit → Type 0
+Suits (Some PopFirst) h s edit = IsFirstLeaf h (edit_leaf h s edit) (edit_key edit)
+Suits (Some (ReplaceIf key expected value)) h s edit = said (value h) key (edit_leaf h s edit) ≡ Some expected
+Suits _ h s edit = Unit {0}
+
+-- so does that of an SCX-record that has begun, as it is remembered
+abbrev pub IsSuited : History → ℕ → Begun → Type 0
+IsSuited h s begun = Suits (map_call (Some begun.command)) h s (edit_begun begun)
 
 -- the SCX-record may make the edit that is remembered, which is one of its call
 pub record MayMake (lay : Layout) (h : History) (s : ℕ) (begun : Begun) : Type 0 where

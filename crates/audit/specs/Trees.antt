@@ -1,5 +1,5 @@
 -- What an audit of a record on the tree remembers of it. Lines stand here with the newest first.
-use Rattle.std.specs.Prelude.{◌≡◌, List, ◌∷◌, Option, Some, All, slice_get}
+use Rattle.std.specs.Prelude.{◌≡◌, List, ◌∷◌, Option, Some, slice_get}
 use Rattle.arena.specs.declared.limits.Mode.TheVariants.{Tree}
 use Rattle.arena.specs.declared.layout.Layout.{Layout}
 use Rattle.arena.specs.Machines.{IsRun}
@@ -13,7 +13,7 @@ use Rattle.record.specs.SpelledMap.{AreSpelled}
 use Rattle.record.specs.Turns.{history}
 use Rattle.moments.specs.declared.places.Change.{Change}
 use Rattle.moments.specs.declared.places.Places.{Places}
-use Rattle.moments.specs.Places.{changes, Knows, HoldsOfKey}
+use Rattle.moments.specs.Places.{changes}
 use Rattle.moments.specs.Entries.{AreEntries}
 use Rattle.audit.specs.Edits.{AreRememberedEdits}
 use Rattle.audit.specs.declared.edits.Begun.{Begun}
@@ -27,11 +27,9 @@ pub record IsTreeSoFar (lay : Layout) (calls : List Call) (begun : List (Option 
   pub edits : AreRememberedEdits lay (history lay.mode lines) begun
   pub entries : AreEntries calls lines changed
 
--- the keys that calls may change are known,
--- and on the tree what is remembered is what the lines say
-pub record IsMapSoFar (lay : Layout) (calls : List Call) (begun : List (Option Begun)) (places : Places) (lines : List Line) : Type 0 where
-  pub keys : All (λ (call : Call). HoldsOfKey (Knows places) call.command) calls
-  pub tree : lay.mode ≡ Tree → IsTreeSoFar lay calls begun (changes places) lines
+-- on the tree what is remembered is what the lines say
+abbrev pub IsMapSoFar : Layout → List Call → List (Option Begun) → Places → List Line → Type 0
+IsMapSoFar lay calls begun places lines = lay.mode ≡ Tree → IsTreeSoFar lay calls begun (changes places) lines
 
 -- the change of an entry was added: that of its SCX-record, which has begun for a call with its
 -- client's next command

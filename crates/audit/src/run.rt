@@ -4,12 +4,12 @@ ghost use Rattle.record.specs.declared.record.Entry.{Entry as EntryOf};
 ghost use Rattle.audit.specs.declared.client.Client.{Client as ClientOf};
 ghost use Rattle.audit.specs.After.{lines_of, IsAfter, IsMapAfter, AreRememberedAfter, AreClientsAfter};
 ghost use Rattle.std.specs.Prelude.{◌∷◌, OnOk};
-ghost use Rattle.moments.specs.Places.{changes, Knows};
+ghost use Rattle.moments.specs.Places.{changes};
 ghost use Rattle.record.specs.Steps.{SaysItsCall};
 
 use crate::client::Client;
 use crate::commands::{enters, may_answer_after_step, may_answer_at_once, may_make, most_steps};
-use crate::edits::{Begun, begun_for};
+use crate::edits::{Begun, begun_for, suits};
 use crate::fault::{Refused, hold};
 use crate::levels::do_levels_rise;
 use crate::steps::Steps;
@@ -71,7 +71,7 @@ impl<'a> Run<'a> {
     ghost use Rattle.arena.specs.Shape.{IsBegin};
     ghost use Rattle.script.specs.declared.command.Command.{Command as CommandOf};
     ghost use Rattle.ordered_map.specs.FillOrder.{HasRisingLevels};
-    ghost use Rattle.moments.specs.Places.{changes, Knows};
+    ghost use Rattle.moments.specs.Places.{changes};
     ghost use Rattle.audit.specs.Trees.{HasChangedBy};
     ghost use Rattle.audit.specs.Edits.{MayMake};
     ghost use Rattle.audit.specs.declared.edits.Begun.{Begun as BegunOf};
@@ -358,11 +358,12 @@ impl<'a> Run<'a> {
         requires remembered { AreRememberedAfter self.now (lines_of self.now) }
         requires client { slice_get self.now.clients.items client.now.pass.0 ≡ Some client.now }
         requires command { next_command (calls_of self.now) (lines_of self.now) client.now.pass.0 ≡ Some command.now }
-        ensures { OnOk result ((row : RowOf) (n : ℕ) (side : Side) → IsWin (seen_history self.now.steps.judge) row scx.0 → row.word ≡ child n side → IsEntryFor (layout_of self.now) client.now.pass.0 (seen_history self.now.steps.judge) (start (layout_of self.now).mode (lines_of self.now) client.now.pass.0) (linked (calls_of self.now) (layout_of self.now).mode (lines_of self.now) client.now.pass.0) (entered (layout_of self.now) (seen_history self.now.steps.judge) scx.0 n side row.after) command.now) }
+        ensures { OnOk result ((row : RowOf) (n : ℕ) (side : Side) → IsLawful self.now.steps.judge.layout (seen_history self.now.steps.judge) row → IsWin (seen_history self.now.steps.judge) row scx.0 → row.word ≡ child n side → IsEntryFor (layout_of self.now) client.now.pass.0 (seen_history self.now.steps.judge) (start (layout_of self.now).mode (lines_of self.now) client.now.pass.0) (linked (calls_of self.now) (layout_of self.now).mode (lines_of self.now) client.now.pass.0) (entered (layout_of self.now) (seen_history self.now.steps.judge) scx.0 n side row.after) command.now) }
     {
         match command {
             Command::Map(_) => {
-                self.begun_of(command, scx)?;
+                let begun = self.begun_of(command, scx)?;
+                hold(suits(&self.steps.judge, scx.0, &begun))?;
                 Ok(())
             }
             _ => {
@@ -494,7 +495,6 @@ impl<'a> Run<'a> {
         requires after { IsAfter self.old (lines_of self.old) }
         requires map { IsMapAfter self.old (lines_of self.old) }
         ensures rest { self.new ≡ record self.old { places = self.new.places } }
-        ensures keys { (key : ℕ) → Knows self.old.places key → Knows self.new.places key }
         ensures change { OnOk result ((layout_of self.old).mode ≡ Tree →
             HasChangedBy (calls_of self.old) (lines_of self.old) entry.now self.old.edits.items (changes self.old.places) (changes self.new.places)) }
     {
@@ -665,8 +665,7 @@ fn note_begun(edits: &mut Vec<Option<Begun>>, scx: u64, begun: Option<Begun>)
 
 /// In a turn the key of an edit gets its value; refused if no call names that key.
 fn push(places: &mut Places, turn: u64, begun: Begun) -> Result<(), Refused>
-    ensures keys { (key : ℕ) → Knows places.old key → Knows places.new key }
-    ensures change { OnOk result (changes places.new ≡ record { turn = turn; key = begun.key; value = begun.value } ∷ changes places.old) }
+    ensures { OnOk result (changes places.new ≡ record { turn = turn; key = begun.key; value = begun.value } ∷ changes places.old) }
 {
     hold(places.knows(begun.key))?;
     places.reserve()?;
