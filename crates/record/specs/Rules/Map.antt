@@ -1,5 +1,4 @@
 -- The rules of the calls of the map.
-use Rattle.std.specs.Prelude.{ℕ}
 use Rattle.arena.specs.declared.layout.Layout.{Layout}
 use Rattle.arena.specs.History.{History}
 use Rattle.arena.specs.Log.{Entry as Entered}
