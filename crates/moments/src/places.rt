@@ -151,6 +151,19 @@ impl Places {
         false
     }
 
+    /// Whether the map had a pair, whatever it was, after some turn from `first` to `last`.
+    pub fn had_pair(&self, first: u64, last: u64) -> bool
+        requires { first ≤ last }
+        ensures { (calls : List Call) (lines : List Line) → AreEntries calls lines (changes self.now) → IsTrue result → (key v : ℕ) × HadWithin calls lines key (Some v) first last }
+    {
+        for (key, _) in self.newest.iter() {
+            if self.had_some(*key, first, last) {
+                return true;
+            }
+        }
+        false
+    }
+
     /// Whether these pairs are what an ordered read tells of the map after a turn. It goes over the
     /// keys between which the read looks alone, and no further than the read tells.
     pub fn tells(&self, command: &Command, pairs: &[(u64, u64)], turn: u64) -> bool
