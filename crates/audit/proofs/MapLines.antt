@@ -6,14 +6,17 @@ use Rattle.arena.specs.declared.limits.Mode.TheVariants.{Tree, Records}
 use Rattle.arena.specs.declared.layout.Layout.{Layout}
 use Rattle.arena.specs.declared.number.PassNo.{PassNo}
 use Rattle.arena.specs.declared.step.Row.{Row as StepRow}
-use Rattle.arena.specs.History.{History, ◌⊳◌}
-use Rattle.arena.specs.Lawful.{Lawful, IsLawful}
+use Rattle.arena.specs.History.{History, ◌⊳◌, value}
+use Rattle.arena.specs.Lawful.{Lawful, IsLawful, IsWin}
 use Rattle.arena.specs.Log.{Entry as Entered}
 use Rattle.arena.specs.Machines.{IsRun}
 use Rattle.arena.specs.Shape.{Shaped, IsBegin}
 use Rattle.ordered_map.specs.FillOrder.{HasRisingLevels}
 use Rattle.ordered_map.specs.TreeShape.{TreeAllows}
-use Rattle.ordered_map.specs.OrderedMap.{MapCall, Edit, edit_key, value_left}
+use Rattle.ordered_map.specs.declared.pair.Pair.{Pair}
+use Rattle.ordered_map.specs.OrderedMap.{MapCall}
+use Rattle.ordered_map.specs.Runs.{IsTreeRun}
+use Rattle.ordered_map.specs.Spelled.{Spells}
 use Rattle.ordered_map.specs.Requests.{map_request}
 use Rattle.script.specs.declared.call.Call.{Call}
 use Rattle.script.specs.declared.command.Command.{Command}
@@ -25,23 +28,22 @@ use Rattle.record.specs.declared.record.Row.TheVariants.{Step as Made, Idle}
 use Rattle.record.specs.declared.record.Entry.{Entry}
 use Rattle.record.specs.declared.record.Finished.{Finished}
 use Rattle.record.specs.CommandRules.{IsEntryFor}
-use Rattle.record.specs.Rules.Map.{IsMapEntry}
 use Rattle.record.specs.Commands.{commands, next_command}
-use Rattle.record.specs.Entries.{IsLog}
+use Rattle.record.specs.Entries.{IsWinOf}
 use Rattle.record.specs.LawfulRun.{AreLines, IsWhole}
-use Rattle.record.specs.MapRecord.{map_call}
-use Rattle.record.specs.SpelledMap.{AreSpelled}
-use Rattle.record.specs.Turns.{history, answered}
+use Rattle.record.specs.MapRecord.{map_call, map_call_of, map_of, written_log}
+use Rattle.record.specs.SpelledMap.{AreSpelled, IsSpelledAfter}
+use Rattle.record.specs.Turns.{history, answered, entry_owed}
 use Rattle.record.proofs.Lemmas.{AreMapCalls, lawful_is_legal}
 use Rattle.moments.specs.declared.places.Change.{Change}
-use Rattle.moments.specs.Entries.{IsChangeBy, IsChangeOf}
-use Rattle.moments.proofs.Lemmas.{are_spelled}
+use Rattle.moments.specs.Entries.{IsChangeBy}
+use Rattle.moments.proofs.Lemmas.{are_spelled, change_of_newest}
 use Rattle.moments.specs.declared.places.Places.{Places}
-use Rattle.moments.specs.Places.{changes, Knows, HoldsOfKey}
-use Rattle.audit.specs.Edits.{MayMake, HasBegunWith, AreRememberedEdits}
+use Rattle.moments.specs.Places.{changes}
+use Rattle.audit.specs.Edits.{IsSuited, MayMake, HasBegunWith, AreRememberedEdits}
 use Rattle.audit.specs.declared.edits.Begun.{Begun}
 use Rattle.audit.specs.Trees.{IsMapSoFar, IsTreeSoFar, HasChangedBy}
-use Rattle.audit.proofs.TreeLines.{tree_idle, tree_reply, tree_log, tree_step, edits_kept, edits_set, edit_allowed, edit_entry, change_made}
+use Rattle.audit.proofs.TreeLines.{tree_idle, tree_reply, tree_log, tree_step, edits_kept, edits_set, edit_allowed, edit_entry, change_made, begun_before_win}
 
 -- what holds of the command of each call holds of each command of a client
 pub of_commands : (P : Command → Type 0) (calls : List Call) (c n : ℕ) (command : Command) → All (λ (call : Call). P call.command) calls → slice_get (commands calls c) n ≡ Some command → P command
@@ -80,50 +82,69 @@ next_of_mode mode calls lines c command all is = of_commands (λ k. mode_of k �
 
 -- Entries
 
--- entries are of turns up to the newest
-entries_up_to : (lay : Layout) (tries : ℕ) (calls : List Call) (lines : List Line) (turn : ℕ) → AreLines lay tries calls lines → turns lines ≤ turn → AreUpTo turn (written_log lines)
-unfolding AreLines
-entries_up_to lay tries calls [] turn a less = tt
-entries_up_to lay tries calls (Step (Made n row) ∷ lines) turn a less = entries_up_to lay tries calls lines turn a.0 (omega (less, arith))
-entries_up_to lay tries calls (Step (Idle n client) ∷ lines) turn a less = entries_up_to lay tries calls lines turn a.0 (omega (less, arith))
-entries_up_to lay tries calls (ReplyLine reply ∷ lines) turn a less = entries_up_to lay tries calls lines turn a.0 less
-entries_up_to lay tries calls (Log entry ∷ lines) turn a less =
-    let step = log_step lay tries calls lines entry a.0 a.1 in
-    (omega (step, less, arith), entries_up_to lay tries calls lines turn a.0 less)
+-- where no entry is owed the words spell the map so far
+spelled_now : (lay : Layout) (calls : List Call) (lines : List Line) → AreSpelled lay calls lines → entry_owed lay lines ≡ None → IsSpelledAfter lay calls lines
+unfolding AreSpelled
+spelled_now lay calls [] x owed = x
+spelled_now lay calls (line ∷ lines) x owed = x.1 owed
+
+-- the entry of a call, by what its SCX-record does
+change_by : (lay : Layout) (c : ℕ) (before start : History) (linked : ℕ → Option History) (e : Entered) (turn : ℕ) (command : Command) (m : List Pair) (begun : Begun) → mode_of command ≡ Tree → Lawful lay before → HasBegunWith lay before e.scx begun → IsEntryFor lay c before start linked e command → Spells lay (value before) m → IsChangeBy (map_call (Some command)) m record { turn = turn; key = begun.key; value = begun.value }
+change_by lay c before start linked e turn (Map request) m begun mode lawful b x spells = change_made lay before e turn (map_request request) m begun lawful b x spells
+change_by lay c before start linked e turn (LlxOf cell) m begun mode lawful b x spells = absurd x
+change_by lay c before start linked e turn (VlxOf cells) m begun mode lawful b x spells = absurd x
+change_by lay c before start linked e turn (ScxOf update) m begun mode lawful b x spells = absurd (let z : Records ≡ Tree = mode in cc)
+change_by lay c before start linked e turn (SetOf field value) m begun mode lawful b x spells = absurd (let z : Records ≡ Tree = mode in cc)
 
 -- the change of an SCX-record that has begun is that of its entry
-change_of : (lay : Layout) (tries : ℕ) (calls : List Call) (lines : List Line) (entry : Entry) (begun : Begun) → lay.mode ≡ Tree → AreOf lay.mode calls → AreLines lay tries calls (Log entry ∷ lines) → AreSpelled lay calls lines → HasBegunWith lay (history lay.mode lines) entry.scx.0 begun → IsChangeOf calls (written_log lines) entry record { turn = entry.step; key = begun.key; value = begun.value }
+change_of : (lay : Layout) (tries : ℕ) (calls : List Call) (lines : List Line) (entry : Entry) (begun : Begun) → lay.mode ≡ Tree → AreOf lay.mode calls → AreLines lay tries calls (Log entry ∷ lines) → AreSpelled lay calls lines → IsRun TreeAllows lay (history lay.mode lines) → HasBegunWith lay (history lay.mode lines) entry.scx.0 begun → IsChangeBy (map_call_of calls entry.client.0 entry.call) (map_of calls (written_log lines)) record { turn = entry.step; key = begun.key; value = begun.value }
 unfolding AreLines AreSpelled Lawful
-change_of lay tries calls [] entry begun mode all a x b = absurd a.1
-change_of lay tries calls (Step (Idle n client) ∷ lines) entry begun mode all a x b = absurd a.1
-change_of lay tries calls (Log d ∷ lines) entry begun mode all a x b = absurd a.1
-change_of lay tries calls (ReplyLine d ∷ lines) entry begun mode all a x b = absurd a.1
-change_of lay tries calls (Step (Made n row) ∷ lines) entry begun mode all a x b = (refl, by, entries_up_to lay tries calls lines entry.step a.0.0 (omega (step, arith)))
+change_of lay tries calls [] entry begun mode all a x run b = absurd a.1
+change_of lay tries calls (Step (Idle n client) ∷ lines) entry begun mode all a x run b = absurd a.1
+change_of lay tries calls (Log d ∷ lines) entry begun mode all a x run b = absurd a.1
+change_of lay tries calls (ReplyLine d ∷ lines) entry begun mode all a x run b = absurd a.1
+change_of lay tries calls (Step (Made n row) ∷ lines) entry begun mode all a x run b = subst (λ (o : Option Command). IsChangeBy (map_call o) m made) (sym (ap (λ (k : ℕ). slice_get (commands calls entry.client.0) k) w.call ∙ w.is)) by
   where
-    step : entry.step ≡ suc (turns lines)
-    step = log_step lay tries calls (Step (Made n row) ∷ lines) entry a.0 a.1
+    w : IsWinOf lay calls lines row entry
+    w = a.1.1
+
+    m : List Pair
+    m = map_of calls (written_log lines)
+
+    made : Change
+    made = record { turn = entry.step; key = begun.key; value = begun.value }
+
+    before : History
+    before = history lay.mode lines
+
+    spells : Spells lay (value before) m
+    spells = (spelled_now lay calls lines x.0 a.0.1.0.entry).spelled
+
+    begun_then : HasBegunWith lay before w.entered.scx begun
+    begun_then = subst (λ (s : ℕ). HasBegunWith lay before s begun) (sym w.same_scx) (begun_before_win lay before row entry.scx.0 begun w.wins b)
+
+    by : IsChangeBy (map_call (Some w.command)) m made
+    by = change_by lay entry.client.0 before _ _ w.entered entry.step w.command m begun (next_of_mode lay.mode calls lines entry.client.0 w.command all w.is ∙ mode) run.lawful.0 begun_then w.does spells
+
 module _ (lay : Layout) (tries : ℕ) (calls : List Call) (of_mode : AreOf lay.mode calls) (begun : List (Option Begun)) (places : Places) (lines : List Line) (x : IsMapSoFar lay calls begun places lines) where
   pub map_idle : (number : ℕ) (pass : PassNo) → AreLines lay tries calls (Step (Idle number pass) ∷ lines) → IsMapSoFar lay calls begun places (Step (Idle number pass) ∷ lines)
-  map_idle number pass a = record { keys = x.keys; tree = λ mode. tree_idle lay tries calls mode (map_calls lay.mode calls mode of_mode) begun (changes places) lines (x.tree mode) number pass a }
+  map_idle number pass a = λ mode. tree_idle lay tries calls mode (map_calls lay.mode calls mode of_mode) begun (changes places) lines (x mode) number pass a
 
   pub map_reply : (reply : Finished) → AreLines lay tries calls (ReplyLine reply ∷ lines) → IsMapSoFar lay calls begun places (ReplyLine reply ∷ lines)
-  map_reply reply a = record { keys = x.keys; tree = λ mode. tree_reply lay tries calls mode (map_calls lay.mode calls mode of_mode) begun (changes places) lines (x.tree mode) reply a }
+  map_reply reply a = λ mode. tree_reply lay tries calls mode (map_calls lay.mode calls mode of_mode) begun (changes places) lines (x mode) reply a
 
   -- an entry, whose call changes the map
-  pub map_log : (after : Places) (entry : Entry) → AreLines lay tries calls (Log entry ∷ lines) → ((key : ℕ) → Knows places key → Knows after key) → (lay.mode ≡ Tree → HasChangedBy calls lines entry begun (changes places) (changes after)) → IsMapSoFar lay calls begun after (Log entry ∷ lines)
-  unfolding AreLines
-  map_log after entry a kept change = record { keys = keys_kept places after calls kept x.keys; tree = tree }
-    where
-      tree : lay.mode ≡ Tree → IsTreeSoFar lay calls begun (changes after) (Log entry ∷ lines)
-      tree mode =
-          let d = change mode in
-          let made : Change = record { turn = entry.step; key = d.begun.key; value = d.begun.value } in
-          let by = change_made lay (history lay.mode lines) entry.scx.0 entry.step d.begun ((x.tree mode).edits entry.scx.0 d.begun d.known) in
-          subst (λ (l : List Change). IsTreeSoFar lay calls begun l (Log entry ∷ lines)) (sym d.added) (tree_log lay tries calls mode (map_calls lay.mode calls mode of_mode) begun (changes places) lines (x.tree mode) entry made a (change_of lay calls lines entry d.begun.command made a.1 d.own refl by))
+  pub map_log : (after : Places) (entry : Entry) → AreLines lay tries calls (Log entry ∷ lines) → (lay.mode ≡ Tree → HasChangedBy entry begun (changes places) (changes after)) → IsMapSoFar lay calls begun after (Log entry ∷ lines)
+  map_log after entry a change mode =
+      let d = change mode in
+      let t = x mode in
+      let made : Change = record { turn = entry.step; key = d.begun.key; value = d.begun.value } in
+      let by = change_of lay tries calls lines entry d.begun mode of_mode a t.spelled t.run (t.edits entry.scx.0 d.begun d.known) in
+      subst (λ (l : List Change). IsTreeSoFar lay calls begun l (Log entry ∷ lines)) (sym d.added) (tree_log lay tries calls mode (map_calls lay.mode calls mode of_mode) begun (changes places) lines t entry made a (change_of_newest lay tries calls lines entry made a refl by))
 
   -- a step, with the SCX-record that it begins, if it begins one
   pub map_step : (number : ℕ) (row : StepRow) (h : History) (more : List (Option Begun)) (edit : Option Begun) → h ≡ history lay.mode lines → AreLines lay tries calls (Step (Made number row) ∷ lines) → IsLawful lay (history lay.mode lines) row → (lay.mode ≡ Tree → HasRisingLevels h → HasRisingLevels (row ⊳ h)) → IfSome edit (λ b. IsBegin h row row.after) → IfSome edit (MayMake lay h row.after) → (edit ≡ None → lay.mode ≡ Tree → IsBegin h row row.after → ⊥) → (edit ≡ None → more ≡ begun) → (IsSome edit → more ≡ set begun row.after edit) → IsMapSoFar lay calls more places (Step (Made number row) ∷ lines)
-  map_step number row h more edit same a lawful rising begins may never none some = record { keys = x.keys; tree = tree }
+  map_step number row h more edit same a lawful rising begins may never none some = tree
     where
       now : History
       now = history lay.mode lines
@@ -148,27 +169,28 @@ module _ (lay : Layout) (tries : ℕ) (calls : List Call) (of_mode : AreOf lay.m
       edits mode = go edit refl begins may some
         where
           known : AreRememberedEdits lay now begun
-          known = (x.tree mode).edits
+          known = (x mode).edits
 
           go : (o : Option Begun) → edit ≡ o → IfSome o (λ d. IsBegin h row row.after) → IfSome o (MayMake lay h row.after) → (IsSome o → more ≡ set begun row.after o) → AreRememberedEdits lay (row ⊳ now) more
           go None e b y p = subst (λ (l : List (Option Begun)). AreRememberedEdits lay (row ⊳ now) l) (sym (none e)) (edits_kept lay now row begun known)
           go (Some d) e b y p = subst (λ (l : List (Option Begun)). AreRememberedEdits lay (row ⊳ now) l) (sym (p refl)) (edits_set lay now row begun row.after d known (there (λ g. IsBegin g row row.after) b) (there (λ g. MayMake lay g row.after d) y))
 
       tree : lay.mode ≡ Tree → IsTreeSoFar lay calls more (changes places) (Step (Made number row) ∷ lines)
-      tree mode = tree_step lay tries calls mode (map_calls lay.mode calls mode of_mode) begun (changes places) lines (x.tree mode) number row more a lawful (allows mode) (there (λ k. HasRisingLevels (row ⊳ k)) (rising mode (here (λ k. HasRisingLevels k) (x.tree mode).rising))) (edits mode)
+      tree mode = tree_step lay tries calls mode (map_calls lay.mode calls mode of_mode) begun (changes places) lines (x mode) number row more a lawful (allows mode) (there (λ k. HasRisingLevels (row ⊳ k)) (rising mode (here (λ k. HasRisingLevels k) (x mode).rising))) (edits mode)
 
   -- an entry of an SCX-record that has begun for a client's call is one that the call makes
-  pub map_entry : (h : History) → h ≡ history lay.mode lines → (c s : ℕ) (begun_with : Begun) → next_command calls lines c ≡ Some begun_with.command → mode_of begun_with.command ≡ Tree → slice_get begun s ≡ Some (Some begun_with) → (start : History) (linked : ℕ → Option History) (e : Entered) → e.scx ≡ s → IsEntryFor lay c h start linked e begun_with.command
-  map_entry h same c s begun_with is mode known start linked e own =
-      let tree = sym (next_of_mode lay.mode calls lines c begun_with.command of_mode is) ∙ mode in
-      edit_entry lay c h start linked e begun_with (subst (λ (k : ℕ). HasBegunWith lay h k begun_with) (sym own) (subst (λ (g : History). HasBegunWith lay g s begun_with) (sym same) ((x.tree tree).edits s begun_with known)))
+  pub map_entry : (h : History) → h ≡ history lay.mode lines → (c s : ℕ) (row : StepRow) (known_by : Begun) → IsLawful lay h row → IsWin h row s → next_command calls lines c ≡ Some known_by.command → mode_of known_by.command ≡ Tree → slice_get begun s ≡ Some (Some known_by) → IsSuited h s known_by → (start : History) (linked : ℕ → Option History) (e : Entered) → e.scx ≡ s → IsEntryFor lay c h start linked e known_by.command
+  map_entry h same c s row known_by lawful won is mode known suited start linked e own =
+      let tree = sym (next_of_mode lay.mode calls lines c known_by.command of_mode is) ∙ mode in
+      let here = λ (P : History → Type 0) (y : P (history lay.mode lines)). subst P (sym same) y in
+      edit_entry lay c h start row linked e known_by (here (λ g. IsTreeRun lay g) (tree, (x tree).run)) lawful (subst (λ (k : ℕ). IsWin h row k) (sym own) won) (subst (λ (k : ℕ). HasBegunWith lay h k known_by) (sym own) (here (λ g. HasBegunWith lay g s known_by) ((x tree).edits s known_by known))) (subst (λ (k : ℕ). IsSuited h k known_by) (sym own) suited)
 
   -- what is said of the whole run at its end
   pub map_whole : AreLines lay tries calls lines → IsWhole lay.mode lay calls lines
   map_whole a = go lay.mode refl
     where
       go : (mode : Mode) → lay.mode ≡ mode → IsWhole mode lay calls lines
-      go Tree e = ((x.tree e).spelled, lawful_is_legal lay tries calls lines (map_calls lay.mode calls e of_mode) a)
+      go Tree e = ((x e).spelled, lawful_is_legal lay tries calls lines (map_calls lay.mode calls e of_mode) a)
       go Records e = tt
 
 -- The start
@@ -179,9 +201,9 @@ never_begun (suc n) zero first e = let z : Some None ≡ Some (Some first) = e i
 never_begun (suc n) (suc s) first e = never_begun n s first e
 
 -- of no line nothing is remembered
-pub map_start : (lay : Layout) (tries : ℕ) (calls : List Call) (begun : List (Option Begun)) (places : Places) (n : ℕ) → AreOf lay.mode calls → begun ≡ replicate n None → All (λ (call : Call). HoldsOfKey (Knows places) call.command) calls → changes places ≡ [] → IsMapSoFar lay calls begun places []
+pub map_start : (lay : Layout) (tries : ℕ) (calls : List Call) (begun : List (Option Begun)) (places : Places) (n : ℕ) → AreOf lay.mode calls → begun ≡ replicate n None → changes places ≡ [] → IsMapSoFar lay calls begun places []
 unfolding AreLines AreSpelled Lawful Shaped
-map_start lay tries calls begun places n of_mode none keys unchanged = record { keys = keys; tree = tree }
+map_start lay tries calls begun places n of_mode none unchanged = tree
   where
     tree : lay.mode ≡ Tree → IsTreeSoFar lay calls begun (changes places) []
     tree mode = rw unchanged record {

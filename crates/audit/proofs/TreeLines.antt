@@ -4,9 +4,10 @@ use Rattle.arena.specs.declared.limits.Mode.TheVariants.{Tree}
 use Rattle.arena.specs.declared.layout.Layout.{Layout}
 use Rattle.arena.specs.declared.number.PassNo.{PassNo}
 use Rattle.arena.specs.declared.step.Row.{Row as StepRow}
+use Rattle.arena.specs.declared.step.Kind.{Kind}
 use Rattle.arena.specs.declared.step.Kind.TheVariants.{Freeze, Update}
 use Rattle.arena.specs.declared.word.NodeWord.TheVariants.{Key, Value}
-use Rattle.arena.specs.History.{History, ◌⊳◌, value}
+use Rattle.arena.specs.History.{History, Start, ◌⊳◌, value, Extends}
 use Rattle.arena.specs.Lawful.{Lawful, IsLawful, IsWin}
 use Rattle.arena.specs.Log.{Entry as Entered}
 use Rattle.arena.specs.Machines.{IsRun}
@@ -49,6 +50,11 @@ use Rattle.audit.specs.Trees.{IsTreeSoFar}
 
 -- Edits
 
+-- the kind of the newest row
+kind_of : History → Kind
+kind_of (Start mode) = Freeze
+kind_of (row ⊳ h) = row.kind
+
 -- what has begun makes its edit
 pub made : (lay : Layout) (h : History) (s : ℕ) (begun : Begun) → HasBegunWith lay h s begun → Makes lay h s (edit_begun begun)
 made lay h s begun x = record { row = x.row; before = x.before; within = x.within; begins = x.begins; edit = x.makes.edit }
@@ -60,6 +66,14 @@ begun_now lay h r s begun b x = record { row = r; before = h; within = ends_self
 -- it has with one row more
 begun_since : (lay : Layout) (h : History) (r : StepRow) (s : ℕ) (begun : Begun) → HasBegunWith lay h s begun → HasBegunWith lay (r ⊳ h) s begun
 begun_since lay h r s begun x = record { row = x.row; before = x.before; within = inr x.within; begins = x.begins; makes = x.makes }
+
+-- what has begun had begun before a win
+pub begun_before_win : (lay : Layout) (h : History) (row : StepRow) (s : ℕ) (begun : Begun) → IsWin h row s → HasBegunWith lay (row ⊳ h) s begun → HasBegunWith lay h s begun
+begun_before_win lay h row s begun won x = record { row = x.row; before = x.before; within = older x.within; begins = x.begins; makes = x.makes }
+  where
+    older : Extends (row ⊳ h) (x.row ⊳ x.before) → Extends h (x.row ⊳ x.before)
+    older (inl e) = absurd (let z : Update ≡ Freeze = sym won.kind ∙ ap kind_of e ∙ x.begins.kind in cc)
+    older (inr e) = e
 
 -- the shape of the tree allows it
 pub edit_allowed : (lay : Layout) (h : History) (s : ℕ) (begun : Begun) → MayMake lay h s begun → TreeAllows lay h s

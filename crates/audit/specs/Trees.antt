@@ -7,7 +7,6 @@ use Rattle.script.specs.declared.call.Call.{Call}
 use Rattle.ordered_map.specs.FillOrder.{HasRisingLevels}
 use Rattle.ordered_map.specs.TreeShape.{TreeAllows}
 use Rattle.record.specs.declared.record.Line.{Line}
-use Rattle.record.specs.Commands.{next_command}
 use Rattle.record.specs.declared.record.Entry.{Entry}
 use Rattle.record.specs.SpelledMap.{AreSpelled}
 use Rattle.record.specs.Turns.{history}
@@ -31,10 +30,8 @@ pub record IsTreeSoFar (lay : Layout) (calls : List Call) (begun : List (Option 
 abbrev pub IsMapSoFar : Layout → List Call → List (Option Begun) → Places → List Line → Type 0
 IsMapSoFar lay calls begun places lines = lay.mode ≡ Tree → IsTreeSoFar lay calls begun (changes places) lines
 
--- the change of an entry was added: that of its SCX-record, which has begun for a call with its
--- client's next command
-pub record HasChangedBy (calls : List Call) (lines : List Line) (entry : Entry) (edits : List (Option Begun)) (before after : List Change) : Type 0 where
+-- the change of an entry was added: that of its SCX-record, as it is remembered
+pub record HasChangedBy (entry : Entry) (edits : List (Option Begun)) (before after : List Change) : Type 0 where
   pub begun : Begun
   pub known : slice_get edits entry.scx.0 ≡ Some (Some begun)
-  pub own : next_command calls lines entry.client.0 ≡ Some begun.command
   pub added : after ≡ record { turn = entry.step; key = begun.key; value = begun.value } ∷ before

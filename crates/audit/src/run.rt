@@ -490,25 +490,18 @@ impl<'a> Run<'a> {
         Ok(())
     }
 
-    /// The map is changed by the call of an entry.
+    /// On the tree the map is changed by the SCX-record of an entry.
     fn change(&mut self, entry: &Entry) -> Result<(), Refused>
-        requires after { IsAfter self.old (lines_of self.old) }
-        requires map { IsMapAfter self.old (lines_of self.old) }
         ensures rest { self.new ≡ record self.old { places = self.new.places } }
         ensures change { OnOk result ((layout_of self.old).mode ≡ Tree →
-            HasChangedBy (calls_of self.old) (lines_of self.old) entry.now self.old.edits.items (changes self.old.places) (changes self.new.places)) }
+            HasChangedBy entry.now self.old.edits.items (changes self.old.places) (changes self.new.places)) }
     {
-        let client = self.client(entry.client)?;
-        let Some(command) = self.next(&client) else {
-            return Err(Refused::NotLawful);
-        };
-        match command {
-            Command::Map(_) => {
-                let begun = self.begun_of(&command, entry.scx)?;
-                push(&mut self.places, entry.step, begun)?;
-                Ok(())
-            }
-            _ => Ok(()),
+        if self.record.script.layout.mode != Mode::Tree {
+            return Ok(());
+        }
+        match self.edits.get(entry.scx.0 as usize) {
+            Some(Some(begun)) => push(&mut self.places, entry.step, begun),
+            _ => Err(Refused::NotLawful),
         }
     }
 
@@ -664,12 +657,12 @@ fn note_begun(edits: &mut Vec<Option<Begun>>, scx: u64, begun: Option<Begun>)
 }
 
 /// In a turn the key of an edit gets its value; refused if no call names that key.
-fn push(places: &mut Places, turn: u64, begun: Begun) -> Result<(), Refused>
-    ensures { OnOk result (changes places.new ≡ record { turn = turn; key = begun.key; value = begun.value } ∷ changes places.old) }
+fn push(places: &mut Places, turn: u64, begun: &Begun) -> Result<(), Refused>
+    ensures { OnOk result (changes places.new ≡ record { turn = turn; key = begun.now.key; value = begun.now.value } ∷ changes places.old) }
 {
-    hold(places.knows(begun.key))?;
+    let Begun { key, value, .. } = *begun;
+    hold(places.knows(key))?;
     places.reserve()?;
-    let Begun { key, value, .. } = begun;
     places.push(Change { turn, key, value });
     Ok(())
 }
