@@ -94,7 +94,7 @@ change_by lay c before start linked e turn (Map request) m begun mode lawful b x
 change_by lay c before start linked e turn (LlxOf cell) m begun mode lawful b x spells = absurd x
 change_by lay c before start linked e turn (VlxOf cells) m begun mode lawful b x spells = absurd x
 change_by lay c before start linked e turn (ScxOf update) m begun mode lawful b x spells = absurd (let z : Records ≡ Tree = mode in cc)
-change_by lay c before start linked e turn (SetOf field value) m begun mode lawful b x spells = absurd (let z : Records ≡ Tree = mode in cc)
+change_by lay c before start linked e turn (SetOf field put) m begun mode lawful b x spells = absurd (let z : Records ≡ Tree = mode in cc)
 
 -- the change of an SCX-record that has begun is that of its entry
 change_of : (lay : Layout) (tries : ℕ) (calls : List Call) (lines : List Line) (entry : Entry) (begun : Begun) → lay.mode ≡ Tree → AreOf lay.mode calls → AreLines lay tries calls (Log entry ∷ lines) → AreSpelled lay calls lines → IsRun TreeAllows lay (history lay.mode lines) → HasBegunWith lay (history lay.mode lines) entry.scx.0 begun → IsChangeBy (map_call_of calls entry.client.0 entry.call) (map_of calls (written_log lines)) record { turn = entry.step; key = begun.key; value = begun.value }

@@ -86,7 +86,7 @@ win_run lay h row s g lawful won = (g.0, record { lawful = (g.1.lawful, lawful);
 
 -- what the first leaf of the tree says
 first_is : (h : History) (n key : ℕ) → IsFirstLeaf h n key → first_said (value h) n ≡ Some (pair key (value h (node n Value)))
-first_is h n key x = ap (λ b. cond b (Some (pair (value h (node n Key)) (value h (node n Value)))) None) (eq-eqb (class (value h) n) 0 x.class) ∙ ap (λ (k : ℕ). Some (pair k (value h (node n Value)))) x.key
+first_is h n key x = ap (λ b. cond b (Some (pair (value h (node n Key)) (value h (node n Value)))) None) (eq-eqb (class (value h) n) 0 x.class) ∙ ap (λ (k : ℕ). Some (pair k (value h (node n Value)))) x.same_key
 
 -- an entry of it is one that a call with its command makes
 module _ (lay : Layout) (h : History) (row : StepRow) (e : Entered) (run : IsTreeRun lay (row ⊳ h)) (won : IsWin h row e.scx) where

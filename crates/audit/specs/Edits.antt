@@ -26,7 +26,7 @@ edit_begun begun = edit_to begun.key begun.value
 abbrev pub IsEditBy : Option MapCall → MapEdit → Type 0
 IsEditBy (Some (Edit own)) edit = own ≡ edit
 IsEditBy (Some PopFirst) edit = (key : ℕ) × (edit ≡ Delete key)
-IsEditBy (Some (ReplaceIf key expected value)) edit = edit ≡ Insert key value
+IsEditBy (Some (ReplaceIf key expected put)) edit = edit ≡ Insert key put
 IsEditBy _ edit = ⊥
 
 -- n is the first leaf of the tree, and has this key
@@ -34,13 +34,13 @@ pub record IsFirstLeaf (h : History) (n key : ℕ) : Type 0 where
   pub path : Passed h h 0 n
   pub leaf : is_leaf (value h) n ≡ true
   pub class : class (value h) n ≡ 0
-  pub key : value h (node n Key) ≡ key
+  pub same_key : value h (node n Key) ≡ key
 
 -- the leaf that the SCX-record covers for its edit suits the call: that of a pop is the first one,
 -- that of a replacement says the value that the call expects
 abbrev pub Suits : Option MapCall → History → ℕ → MapEdit → Type 0
 Suits (Some PopFirst) h s edit = IsFirstLeaf h (edit_leaf h s edit) (edit_key edit)
-Suits (Some (ReplaceIf key expected value)) h s edit = said (value h) key (edit_leaf h s edit) ≡ Some expected
+Suits (Some (ReplaceIf key expected put)) h s edit = said (value h) key (edit_leaf h s edit) ≡ Some expected
 Suits _ h s edit = Unit {0}
 
 -- so does that of an SCX-record that has begun, as it is remembered

@@ -81,11 +81,11 @@ fn is_pop(judge: &Judge, scx: u64, key: u64) -> bool
 }
 
 /// Whether an SCX-record gives the key of a pair, where that stands in the leaf that goes, this value.
-fn is_replacement(judge: &Judge, scx: u64, old: (u64, u64), value: u64) -> bool
-    ensures edit { IsTrue result → IsInsert (seen_history judge.now) scx old.0 value }
+fn is_replacement(judge: &Judge, scx: u64, old: (u64, u64), put: u64) -> bool
+    ensures edit { IsTrue result → IsInsert (seen_history judge.now) scx old.0 put }
     ensures fresh { IsTrue result → is_leaf (value (seen_history judge.now)) (new (seen_history judge.now) scx) ≡ false → (side : SideOf) → IsNamed judge.now.layout (seen_history judge.now) (value (seen_history judge.now) (child_of (new (seen_history judge.now) scx) side)) → ⊥ }
 {
-    is_insert(judge, scx, (old.0, value)) && is_pair_leaf(judge, member(judge, scx, 1), old)
+    is_insert(judge, scx, (old.0, put)) && is_pair_leaf(judge, member(judge, scx, 1), old)
 }
 
 /// Whether the leaf that an SCX-record covers for its edit suits the call that it has begun for: a
