@@ -12,10 +12,12 @@ use Rattle.std.proofs.lemmas.List.{length-map}
 use Rattle.std.proofs.lemmas.Map.Keys.{sorted_tail}
 use Rattle.std.proofs.lemmas.Map.Views.{All-after_first}
 use Rattle.ordered_map.specs.declared.pair.Pair.{Pair}
-use Rattle.ordered_map.specs.OrderedMap.{get, AllAbove, IsRising}
+use Rattle.ordered_map.specs.OrderedMap.{get, first_pair, AllAbove, IsRising}
 use Rattle.ordered_map.specs.Replies.{word_pair}
 use Rattle.script.specs.declared.call.Call.{Call}
+use Rattle.ordered_map.specs.declared.request.Request.TheVariants.{PopFirst}
 use Rattle.script.specs.declared.command.Command.{Command}
+use Rattle.script.specs.declared.command.Command.TheVariants.{Map}
 use Rattle.record.specs.declared.record.Line.{Line}
 use Rattle.record.specs.MapRecord.{written_log, map_at, number_pairs}
 use Rattle.moments.specs.declared.places.Place.{Place}
@@ -179,3 +181,23 @@ module _ {X : Type 0} (value : ℕ → Option ℕ) (all : List (ℕ × X)) (most
   pub told_less : (left : ℕ) (rest : List (ℕ × ℕ)) → IsToldBy value all most pairs [] left (number_pairs rest) → (length rest ≡ 0 → ⊥) → take most (held value all) ≢ pairs
   told_less zero rest x some told = some (sym (length-map rest (word_pair (λ n. n) (λ n. n))) ∙ ap length (sym (x.1 told)))
   told_less (suc n) rest x some told = some (sym (length-map rest (word_pair (λ n. n) (λ n. n))) ∙ ap length (sym (x.1 told)))
+
+-- Whether a map has a pair
+
+-- a key without a value holds none
+pub held_less : {X : Type 0} (value : ℕ → Option ℕ) (e : ℕ × X) (es : List (ℕ × X)) → ((v : ℕ) → value e.0 ≢ Some v) → held value (e ∷ es) ≡ held value es
+held_less {X} value e es none = go (value e.0) none
+  where
+    go : (o : Option ℕ) → ((v : ℕ) → o ≢ Some v) → with_pair e.0 o (held value es) ≡ held value es
+    go (Some v) some = absurd (some v refl)
+    go None some = refl
+
+-- a map that has a value of a key has a first pair
+pub first_some : (key value : ℕ) (m : List Pair) → get key m ≡ Some value → (p : Pair) × (first_pair m ≡ Some p)
+first_some key value [] is = let y : None ≡ Some value = is in absurd (cc)
+first_some key value (p ∷ ps) is = (p, refl)
+
+-- and one of which a pop would tell no pair has none
+pub first_none : (m : List Pair) → [] ≡ pairs_read (Map PopFirst) m → first_pair m ≡ None
+first_none [] is = refl
+first_none (p ∷ ps) is = absurd (cc)

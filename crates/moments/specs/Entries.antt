@@ -2,7 +2,7 @@
 -- the newest first.
 use Rattle.std.specs.Prelude.{◌≡◌, ℕ, ◌≤◌, List, [], ◌∷◌, Option, Some, None}
 use Rattle.ordered_map.specs.declared.pair.Pair.{Pair}
-use Rattle.ordered_map.specs.OrderedMap.{MapCall, MapEdit, edit_key, get, value_left}
+use Rattle.ordered_map.specs.OrderedMap.{MapCall, MapEdit, edit_key, first_pair, get, value_left}
 use Rattle.script.specs.declared.call.Call.{Call}
 use Rattle.record.specs.declared.record.Line.{Line}
 use Rattle.record.specs.declared.record.Entry.{Entry}
@@ -42,3 +42,7 @@ AreEntries calls lines changes = AreChangesOf calls (written_log lines) changes
 -- after some turn from `first` to `last` the map had this at the key
 abbrev pub HadWithin : List Call → List Line → ℕ → Option ℕ → ℕ → ℕ → Type 0
 HadWithin calls lines key value first last = (m : ℕ) × (first ≤ m) × (m ≤ last) × (get key (map_at calls lines m) ≡ value)
+
+-- after some turn from `first` to `last` the map had this first pair; or none, if it was empty
+abbrev pub HadFirstWithin : List Call → List Line → Option Pair → ℕ → ℕ → Type 0
+HadFirstWithin calls lines pair first last = (m : ℕ) × (first ≤ m) × (m ≤ last) × (first_pair (map_at calls lines m) ≡ pair)

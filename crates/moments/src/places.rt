@@ -7,7 +7,7 @@ ghost use Rattle.moments.specs.Links.{latest, AreLinkedByKey};
 use crate::changed::changed_key;
 use crate::ordered::{behind, bounds, is_unlike, most_told, next_best, pairs_told};
 use arena::NoMemory;
-use ordered_map::Reply;
+use ordered_map::{Reply, Request};
 use script::{Call, Command};
 use std::alloc::Global;
 use std::collections::BTreeMap;
@@ -37,19 +37,20 @@ pub struct Places {
 }
 
 impl Places {
-    ghost use Rattle.std.specs.Prelude.{◌≡◌, ◌≢◌, ℕ, suc, ◌+◌, ◌≤◌, false, List, [], ◌∷◌, ◌++◌, Some, map, reverse, IfOk, IfSome, IfNone, IsTrue, OnOk, All};
+    ghost use Rattle.std.specs.Prelude.{◌≡◌, ◌≢◌, ℕ, suc, ◌+◌, ◌≤◌, false, List, [], ◌∷◌, ◌++◌, Some, None, map, reverse, IfOk, IfSome, IfNone, IsTrue, OnOk, All};
     ghost use Rattle.script.specs.declared.call.Call.{Call};
     ghost use Rattle.record.specs.declared.record.Line.{Line};
     ghost use Rattle.record.specs.MapRecord.{map_at};
     ghost use Rattle.record.specs.Placed.{IsGreatestTurn};
-    ghost use Rattle.ordered_map.specs.OrderedMap.{MapCall, get, reply as replies_on};
+    ghost use Rattle.ordered_map.specs.declared.pair.Pair.{Pair};
+    ghost use Rattle.ordered_map.specs.OrderedMap.{MapCall, first_pair, get, reply as replies_on};
     ghost use Rattle.record.specs.MapRecord.{map_call, number_pairs};
     ghost use Rattle.ordered_map.specs.Replies.{number_reply};
     ghost use Rattle.moments.specs.Ordered.{IsOrderedRead, FallFrom, pairs_read};
     ghost use Rattle.moments.specs.Links.{newest_value};
     ghost use Rattle.moments.specs.declared.places.Place.{Place};
     ghost use Rattle.moments.specs.Places.{changes, room_for_changes, Knows, HoldsOfKey};
-    ghost use Rattle.moments.specs.Entries.{AreEntries, HadWithin};
+    ghost use Rattle.moments.specs.Entries.{AreEntries, HadWithin, HadFirstWithin};
 
     /// No changes yet; of the keys that these calls may change. The only error is want of memory.
     pub fn new(alloc: Global, calls: &[Call]) -> Result<Places, NoMemory>
@@ -151,12 +152,16 @@ impl Places {
         false
     }
 
-    /// Whether the map had a pair, whatever it was, after some turn from `first` to `last`.
+    /// Whether the map had a pair after some turn from `first` to `last`. It goes over the keys, and
+    /// back over the changes of each.
     pub fn had_pair(&self, first: u64, last: u64) -> bool
         requires { first ≤ last }
-        ensures { (calls : List Call) (lines : List Line) → AreEntries calls lines (changes self.now) → IsTrue result → (key v : ℕ) × HadWithin calls lines key (Some v) first last }
+        ensures found { (calls : List Call) (lines : List Line) → AreEntries calls lines (changes self.now) → IsTrue result →
+            (p : Pair) × HadFirstWithin calls lines (Some p) first last }
+        ensures none { (calls : List Call) (lines : List Line) → AreEntries calls lines (changes self.now) → result ≡ false →
+            (n : ℕ) → first ≤ n → n ≤ last → first_pair (map_at calls lines n) ≡ None }
     {
-        for (key, _) in self.newest.iter() {
+        for (key, _) in self.newest.range(bounds(&Command::Map(Request::PopFirst))) {
             if self.had_some(*key, first, last) {
                 return true;
             }
