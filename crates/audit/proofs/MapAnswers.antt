@@ -1,17 +1,18 @@
 -- What is found of a call of the map makes its answer right, and places it.
-use Rattle.std.proofs.Common.{◌≡◌, ℕ, suc, ◌-◌, ◌≤◌, ◌⊎◌, inl, inr, Bool, true, false, List, [], ◌∷◌, is_some, Option, Some, None, IsSome, refl, sym, ◌∙◌, ap, subst, arith}
+use Rattle.std.proofs.Common.{◌≡◌, ℕ, suc, ◌-◌, ◌≤◌, ◌⊎◌, inl, inr, Bool, true, false, cond, List, [], ◌∷◌, is_some, Option, Some, None, IsSome, refl, sym, ◌∙◌, ap, subst, arith}
 use Rattle.arena.specs.declared.layout.Layout.{Layout}
 use Rattle.arena.specs.declared.fault.Resource.{Resource}
 use Rattle.arena.specs.declared.number.NodeNo.{NodeNo}
 use Rattle.arena.specs.declared.number.ScxNo.{ScxNo}
 use Rattle.arena.specs.History.{History, ◌⊳◌}
 use Rattle.arena.proofs.Lemmas.{ends_trans}
-use Rattle.ordered_map.specs.OrderedMap.{MapCall, MapEdit, Edit, Insert, Delete, Get, Successor, Range, edit_key, MapReply, OneValue, get, reply}
+use Rattle.ordered_map.specs.OrderedMap.{MapCall, Edit, Insert, Delete, PopFirst, ReplaceIf, Get, Successor, Range, MapReply, OneValue, OnePair, first_pair, get, is_value, pair, pair_or_none, reply}
 use Rattle.ordered_map.specs.Paths.{IsAnswerAt}
+use Rattle.ordered_map.specs.declared.pair.Pair.{Pair}
 use Rattle.script.specs.declared.call.Call.{Call}
 use Rattle.script.specs.declared.command.Command.{Command}
 use Rattle.ordered_map.specs.declared.reply.Reply.TheVariants.{Value, Pair as PairOf, Pairs, Contended, NoMemory}
-use Rattle.ordered_map.specs.declared.request.Request.TheVariants.{Insert as InsertOf, Delete as DeleteOf, Get as GetOf, Successor as SuccessorOf, Range as RangeOf}
+use Rattle.ordered_map.specs.declared.request.Request.TheVariants.{Insert as InsertOf, Delete as DeleteOf, PopFirst as PopOf, ReplaceIf as ReplaceOf, Get as GetOf, Successor as SuccessorOf, Range as RangeOf}
 use Rattle.script.specs.declared.command.Command.TheVariants.{Map}
 use Rattle.record.specs.declared.record.Line.{Line}
 use Rattle.record.specs.declared.record.Line.TheVariants.{Step, Log, Reply as ReplyLine}
@@ -21,16 +22,18 @@ use Rattle.record.specs.declared.record.Answer.{Answer}
 use Rattle.record.specs.declared.record.Answer.TheVariants.{Map as MapAnswer}
 use Rattle.record.specs.Answers.{HasItsEntry, HasLostAllTries}
 use Rattle.record.specs.CommandRules.{IsRight, IsPlaced, enters, MayAnswerAtOnce, MayAnswerAfterStep}
-use Rattle.record.specs.Edits.{HadAtKey}
+use Rattle.record.specs.Edits.{HadAtKey, HadFirst}
 use Rattle.record.specs.Linked.{linked}
 use Rattle.record.specs.MapRecord.{map_call, map_at, map_of, reply_told, written_log, entries_of_call}
-use Rattle.record.specs.Placed.{IsGreatestTurn, IsPlacedChange, IsPlacedReading, IsRefused, IsPlacedOnMap}
+use Rattle.record.specs.Placed.{IsGreatestTurn, IsPlacedChange, IsPlacedChangeOrReading, IsPlacedReading, IsRefused, IsPlacedOnMap}
 use Rattle.record.specs.Replies.{IsFitting}
 use Rattle.record.specs.Rules.Delete.{DeleteIsRight, has_deleted}
 use Rattle.record.specs.Rules.Get.{GetIsRight}
 use Rattle.ordered_map.specs.CallRules.{insert_nodes}
-use Rattle.record.specs.Rules.Insert.{has_inserted}
+use Rattle.record.specs.Rules.Insert.{InsertIsRight, has_inserted}
 use Rattle.record.specs.Rules.Map.{RepliesAfterStep}
+use Rattle.record.specs.Rules.PopFirst.{PopIsRight, has_popped}
+use Rattle.record.specs.Rules.ReplaceIf.{ReplaceIsRight, ReplaceTold, has_replaced}
 use Rattle.record.specs.Rules.Range.{RangeAtOnce, RangeIsRight}
 use Rattle.record.specs.Rules.Successor.{SuccessorAtOnce, SuccessorIsRight}
 use Rattle.record.specs.Shares.{HasTooFewToTry}
@@ -42,7 +45,7 @@ use Rattle.moments.specs.Ordered.{FallFrom}
 use Rattle.moments.proofs.Lemmas.{falls, ordered_placed}
 use Rattle.audit.specs.Asked.{IsAsked, IsTooFewFor, IsToldBefore, IsValueAt, IsReadAt}
 use Rattle.audit.specs.declared.client.Client.{Client}
-use Rattle.audit.proofs.TurnMoments.{IsNotIdle, had_at_key}
+use Rattle.audit.proofs.TurnMoments.{IsNotIdle, had_at_key, had_first}
 use Rattle.audit.proofs.WonEntries.{won_entered}
 
 -- Answers that fit
@@ -84,6 +87,8 @@ range_right lay tries c low high most now start kept told answer e fits = absurd
 pub contended_right : (lay : Layout) (tries c : ℕ) (now start : History) (kept : ℕ → Option History) (lines : List Line) (command : Command) (call : MapCall) (node : NodeNo) (scx : ScxNo) → map_call (Some command) ≡ Some call → IsFitting lines command (MapAnswer (Contended node scx)) → HasLostAllTries lay tries c now start node.0 scx.0 → IsRight lay tries c now start kept command (MapAnswer (Contended node scx))
 contended_right lay tries c now start kept lines (Map (InsertOf key value)) call node scx of_map fits way = way
 contended_right lay tries c now start kept lines (Map (DeleteOf key)) call node scx of_map fits way = way
+contended_right lay tries c now start kept lines (Map PopOf) call node scx of_map fits way = way
+contended_right lay tries c now start kept lines (Map (ReplaceOf key expected value)) call node scx of_map fits way = way
 contended_right lay tries c now start kept lines (Map (SuccessorOf key)) call node scx of_map fits way = way
 contended_right lay tries c now start kept lines (Map (RangeOf low high most)) call node scx of_map fits way = way
 contended_right lay tries c now start kept lines (Map (GetOf key)) call node scx of_map fits way = neither (either_fits lines (Map (GetOf key)) (MapAnswer (Contended node scx)) fits)
@@ -95,6 +100,8 @@ no_memory_right lay tries c now start kept lines (Map (SuccessorOf key)) call of
 no_memory_right lay tries c now start kept lines (Map (RangeOf low high most)) call of_map fits = tt
 no_memory_right lay tries c now start kept lines (Map (InsertOf key value)) call of_map fits = neither (either_fits lines (Map (InsertOf key value)) (MapAnswer NoMemory) fits)
 no_memory_right lay tries c now start kept lines (Map (DeleteOf key)) call of_map fits = neither (either_fits lines (Map (DeleteOf key)) (MapAnswer NoMemory) fits)
+no_memory_right lay tries c now start kept lines (Map PopOf) call of_map fits = neither (either_fits lines (Map PopOf) (MapAnswer NoMemory) fits)
+no_memory_right lay tries c now start kept lines (Map (ReplaceOf key expected value)) call of_map fits = neither (either_fits lines (Map (ReplaceOf key expected value)) (MapAnswer NoMemory) fits)
 no_memory_right lay tries c now start kept lines (Map (GetOf key)) call of_map fits = neither (either_fits lines (Map (GetOf key)) (MapAnswer NoMemory) fits)
 no_memory_right lay tries c now start kept lines command call of_map fits = absurd (let z : None ≡ Some call = of_map in cc)
 
@@ -119,6 +126,14 @@ no_delete : (answer : Answer) → reply_told answer ≡ None → has_deleted ans
 no_delete (MapAnswer (Value v)) e = absurd (let z : Some (OneValue v) ≡ None = sym (value_told v) ∙ e in cc)
 no_delete answer e = refl
 
+no_pop : (answer : Answer) → reply_told answer ≡ None → has_popped answer ≡ false
+no_pop (MapAnswer (PairOf (Some p))) e = absurd (let z : Some (OnePair (pair p.0 p.1)) ≡ None = e in cc)
+no_pop answer e = refl
+
+no_replacement : (expected : ℕ) (answer : Answer) → reply_told answer ≡ None → has_replaced expected answer ≡ false
+no_replacement expected (MapAnswer (Value v)) e = absurd (let z : Some (OneValue v) ≡ None = sym (value_told v) ∙ e in cc)
+no_replacement expected answer e = refl
+
 unwon_by : (b : Bool) (has : Option ℕ) → b ≡ false → HasItsEntry b has → has ≡ None
 unwon_by true has e x = absurd (cc)
 unwon_by false has e x = unwon has x
@@ -126,6 +141,8 @@ unwon_by false has e x = unwon has x
 refused_unwon : (command : Command) (call : MapCall) (answer : Answer) (has : Option ℕ) → map_call (Some command) ≡ Some call → reply_told answer ≡ None → HasItsEntry (enters command answer) has → has ≡ None
 refused_unwon (Map (InsertOf key value)) call answer has of_map none x = unwon_by (has_inserted answer) has (no_insert answer none) x
 refused_unwon (Map (DeleteOf key)) call answer has of_map none x = unwon_by (has_deleted answer) has (no_delete answer none) x
+refused_unwon (Map PopOf) call answer has of_map none x = unwon_by (has_popped answer) has (no_pop answer none) x
+refused_unwon (Map (ReplaceOf key expected value)) call answer has of_map none x = unwon_by (has_replaced expected answer) has (no_replacement expected answer none) x
 refused_unwon (Map (GetOf key)) call answer has of_map none x = unwon has x
 refused_unwon (Map (SuccessorOf key)) call answer has of_map none x = unwon has x
 refused_unwon (Map (RangeOf low high most)) call answer has of_map none x = unwon has x
@@ -135,8 +152,94 @@ refused_unwon command call answer has of_map none x = absurd (let z : None ≡ S
 abbrev of_value : Option ℕ → Answer
 of_value v = MapAnswer (Value v)
 
-some_edit : (e d : MapEdit) → Some (Edit e) ≡ Some (Edit d) → e ≡ d
-some_edit e d q = cc
+some_call : (a b : MapCall) → Some a ≡ Some b → a ≡ b
+some_call a b q = cc
+
+-- where an update of the call has won, its answer says so
+won_so : (b : Bool) (turn : ℕ) → HasItsEntry b (Some turn) → b ≡ true
+won_so true turn x = refl
+won_so false turn x = absurd x
+
+-- and where none has, it does not
+unwon_so : (b : Bool) → HasItsEntry b None → b ≡ false
+unwon_so false x = refl
+unwon_so true x = absurd x
+
+is_true : {A : Type 0} → false ≡ true → A
+is_true e = absurd (cc)
+
+-- an answer that says so is right
+insert_right : (lay : Layout) (tries c key : ℕ) (now start : History) (kept : ℕ → Option History) (answer : Answer) → has_inserted answer ≡ true → InsertIsRight key lay tries c now start kept answer
+insert_right lay tries c key now start kept (MapAnswer (Value old)) e = tt
+insert_right lay tries c key now start kept answer e = is_true e
+
+delete_right : (lay : Layout) (tries c key : ℕ) (now start : History) (kept : ℕ → Option History) (answer : Answer) → has_deleted answer ≡ true → DeleteIsRight key lay tries c now start kept answer
+delete_right lay tries c key now start kept (MapAnswer (Value (Some old))) e = tt
+delete_right lay tries c key now start kept answer e = is_true e
+
+pop_right : (lay : Layout) (tries c : ℕ) (now start : History) (kept : ℕ → Option History) (answer : Answer) → has_popped answer ≡ true → PopIsRight lay tries c now start kept answer
+pop_right lay tries c now start kept (MapAnswer (PairOf (Some p))) e = tt
+pop_right lay tries c now start kept answer e = is_true e
+
+replace_right : (lay : Layout) (tries c key expected : ℕ) (now start : History) (kept : ℕ → Option History) (answer : Answer) → has_replaced expected answer ≡ true → ReplaceIsRight key expected lay tries c now start kept answer
+replace_right lay tries c key expected now start kept (MapAnswer (Value told)) e = subst (λ (b : Bool). ReplaceTold b lay now start key told) (sym e) tt
+replace_right lay tries c key expected now start kept answer e = is_true e
+
+-- and stands where it says
+module _ (calls : List Call) (lines : List Line) (r : Finished) where
+  insert_placed : (key value : ℕ) (answer : Answer) → has_inserted answer ≡ true → IsPlacedChange calls lines (Edit (Insert key value)) r → IsPlacedOnMap (reply_told answer) calls lines (Edit (Insert key value)) r
+  insert_placed key value (MapAnswer (Value old)) e x = x
+  insert_placed key value answer e x = is_true e
+
+  delete_placed : (key : ℕ) (answer : Answer) → has_deleted answer ≡ true → IsPlacedChange calls lines (Edit (Delete key)) r → IsPlacedOnMap (reply_told answer) calls lines (Edit (Delete key)) r
+  delete_placed key (MapAnswer (Value (Some old))) e x = x
+  delete_placed key answer e x = is_true e
+
+  pop_placed : (answer : Answer) → has_popped answer ≡ true → IsPlacedChange calls lines PopFirst r → IsPlacedOnMap (reply_told answer) calls lines PopFirst r
+  pop_placed (MapAnswer (PairOf (Some p))) e x = x
+  pop_placed answer e x = is_true e
+
+  -- a replacement has changed the map if it tells the value that it expects
+  abbrev IsPlacedReplacement : ℕ → ℕ → ℕ → Bool → Type 0
+  IsPlacedReplacement key expected value b = IsPlacedChangeOrReading (is_some (cond b (Some (Insert key value)) None)) calls lines (ReplaceIf key expected value) r
+
+  replace_placed : (key expected value : ℕ) (answer : Answer) → has_replaced expected answer ≡ true → IsPlacedChange calls lines (ReplaceIf key expected value) r → IsPlacedOnMap (reply_told answer) calls lines (ReplaceIf key expected value) r
+  replace_placed key expected value (MapAnswer (Value (Some told))) e x = subst (IsPlacedReplacement key expected value) (sym e) x
+  replace_placed key expected value answer e x = is_true e
+
+  kept_placed : (key expected value : ℕ) (told : Option ℕ) → is_value expected told ≡ false → IsPlacedReading calls lines (ReplaceIf key expected value) r → IsPlacedOnMap (reply_told (of_value told)) calls lines (ReplaceIf key expected value) r
+  kept_placed key expected value (Some told) e x = subst (IsPlacedReplacement key expected value) (sym e) x
+  kept_placed key expected value None e x = x
+
+-- what a pop tells that has taken out nothing
+pop_read : (told : MapReply) (answer : Answer) → reply_told answer ≡ Some told → ⊥ ⊎ RepliesAfterStep PopFirst answer → has_popped answer ≡ false → told ≡ OneValue None
+pop_read told (MapAnswer (PairOf None)) e fits n = let z : Some (OneValue None) ≡ Some told = e in cc
+pop_read told (MapAnswer (PairOf (Some p))) e fits n = absurd (let z : true ≡ false = n in cc)
+pop_read told (MapAnswer (Value v)) e fits n = neither fits
+pop_read told (MapAnswer (Pairs ps)) e fits n = neither fits
+pop_read told answer e fits n = absurd (let z : None ≡ Some told = e in cc)
+
+-- is right, if the map had no pair
+pop_read_right : (lay : Layout) (tries c : ℕ) (now start : History) (kept : ℕ → Option History) (told : MapReply) (answer : Answer) → reply_told answer ≡ Some told → ⊥ ⊎ RepliesAfterStep PopFirst answer → HadFirst lay now start None → PopIsRight lay tries c now start kept answer
+pop_read_right lay tries c now start kept told (MapAnswer (PairOf None)) e fits had = had
+pop_read_right lay tries c now start kept told (MapAnswer (PairOf (Some p))) e fits had = tt
+pop_read_right lay tries c now start kept told (MapAnswer (Value v)) e fits had = neither fits
+pop_read_right lay tries c now start kept told (MapAnswer (Pairs ps)) e fits had = neither fits
+pop_read_right lay tries c now start kept told answer e fits had = absurd (let z : None ≡ Some told = e in cc)
+
+no_pair : (o : Option Pair) → pair_or_none o ≡ OneValue None → o ≡ None
+no_pair None e = refl
+no_pair (Some p) e = absurd (cc)
+
+-- a map with a value has a pair
+some_first : (key v : ℕ) (m : List Pair) → get key m ≡ Some v → (first : Pair) × (first_pair m ≡ Some first)
+some_first key v [] e = absurd (let z : None ≡ Some v = e in cc)
+some_first key v (p ∷ ps) e = (p, refl)
+
+pub first_had : (lay : Layout) (now start : History) (key v : ℕ) → HadAtKey lay now start key (Some v) → (first : Pair) × HadFirst lay now start (Some first)
+first_had lay now start key v (row, before, since, at) =
+    let y = some_first key v at.map at.gives in
+    (y.0, (row, before, since, record { moment = at.moment; within = at.within; since = at.since; map = at.map; spelled = at.spelled; is = y.1 }))
 
 module _ (lay : Layout) (tries : ℕ) (calls : List Call) (lines : List Line) (changed : List Change) (client : Client) (command : Command) (r : Finished) (x : IsAsked lay tries calls lines changed client command r) where
   -- the call has turns
@@ -166,8 +269,8 @@ module _ (lay : Layout) (tries : ℕ) (calls : List Call) (lines : List Line) (c
 
   -- Changes
 
-  is_change : (turn : ℕ) (e : MapEdit) (told : Option ℕ) → won lay lines r.client.0 ≡ Some turn → r.moment ≡ Some turn → r.answer ≡ MapAnswer (Value told) → get (edit_key e) (map_at calls lines (turn - 1)) ≡ told → IsPlacedChange calls lines (Edit e) r
-  is_change turn e told has moment answers had =
+  is_change : (turn : ℕ) (call : MapCall) → won lay lines r.client.0 ≡ Some turn → r.moment ≡ Some turn → reply_told r.answer ≡ Some (reply call (map_at calls lines (turn - 1))) → IsPlacedChange calls lines call r
+  is_change turn call has moment told =
       let f = won_entered lay tries calls r.client.0 turn lines x.in_order x.owed has in
       let turn_is = f.in_turn in
       let last : turn - 1 ≡ turns f.rest = omega (turn_is, arith) in
@@ -181,7 +284,7 @@ module _ (lay : Layout) (tries : ℕ) (calls : List Call) (lines : List Line) (c
         number = f.call ∙ sym x.number;
         once = subst (λ (n : ℕ). entries_of_call r.client.0 n (written_log lines) ≡ 1) (sym x.number) f.once;
         moment = moment ∙ ap (λ (n : ℕ). Some n) (sym f.step);
-        replies = ap reply_told answers ∙ value_told told ∙ ap (λ (o : Option ℕ). let t : MapReply = OneValue o in Some t) (sym had ∙ ap (get (edit_key e)) before);
+        replies = told ∙ ap (λ (m : List Pair). Some (reply call m)) before;
       }
 
   -- Readings
@@ -196,6 +299,9 @@ module _ (lay : Layout) (tries : ℕ) (calls : List Call) (lines : List Line) (c
 
   value_reading : (key : ℕ) (call : MapCall) → ((m : List _) → reply call m ≡ OneValue (get key m)) → won lay lines r.client.0 ≡ None → IsValueAt calls lines key r → IsPlacedReading calls lines call r
   value_reading key call says none v = ordered_placed lay tries calls lines r call v.turn x.in_order none x.number v.moment (greatest_value key call says v)
+
+  first_within : (answer : Option Pair) (m : ℕ) → (MayAnswerAtOnce command r.answer → ⊥) → r.begin ≤ m → m ≤ r.end → first_pair (map_at calls lines m) ≡ answer → HadFirst lay (history lay.mode lines) (start lay.mode lines r.client.0) answer
+  first_within answer m never from to gives = had_first lay tries calls r.client.0 command lines r.begin m answer x.in_order x.spelled x.owed (λ _. not_idle_by lines r.client.0 command r.answer x.fits never) x.next x.begun from (subst (λ (n : ℕ). m ≤ n) x.end to) gives
 
   value_had : (key : ℕ) → (MayAnswerAtOnce command r.answer → ⊥) → (v : IsValueAt calls lines key r) → HadAtKey lay (history lay.mode lines) (start lay.mode lines r.client.0) key v.told
   value_had key never v = had_within never key v.told (v.turn, v.greatest.from, v.greatest.to, v.greatest.holds)
@@ -212,6 +318,8 @@ refused_placed lay tries calls lines changed client command r x none nowhere = g
     go : (c : Command) → map_call (Some c) ≡ Some x.of_map.0 → IsPlaced lay calls lines r c
     go (Map (InsertOf key value)) e = there (Edit (Insert key value))
     go (Map (DeleteOf key)) e = there (Edit (Delete key))
+    go (Map PopOf) e = there PopFirst
+    go (Map (ReplaceOf key expected value)) e = there (ReplaceIf key expected value)
     go (Map (GetOf key)) e = there (Get key)
     go (Map (SuccessorOf key)) e = there (Successor key)
     go (Map (RangeOf low high most)) e = there (Range low high most)
@@ -223,36 +331,42 @@ pub record IsAnswered (lay : Layout) (tries : ℕ) (calls : List Call) (lines : 
   pub placed : IsPlaced lay calls lines r command
 
 module _ (lay : Layout) (tries : ℕ) (calls : List Call) (lines : List Line) (changed : List Change) (client : Client) (r : Finished) where
-  insert_answered : (key value turn : ℕ) (t : IsToldBefore calls lines (Map (InsertOf key value)) r.answer turn) → IsAsked lay tries calls lines changed client (Map (InsertOf key value)) r → won lay lines r.client.0 ≡ Some turn → r.moment ≡ Some turn → IsAnswered lay tries calls lines r (Map (InsertOf key value))
-  insert_answered key value turn t x has moment =
-      let same = some_edit (Insert key value) t.edit t.is in
-      let had = subst (λ (e : MapEdit). get (edit_key e) (map_at calls lines (turn - 1)) ≡ t.told) (sym same) t.had in
-      record {
-        right = rw t.answers tt;
-        placed = subst (λ (a : Answer). IsPlacedOnMap (reply_told a) calls lines (Edit (Insert key value)) r) (sym t.answers) (is_change lay tries calls lines changed client (Map (InsertOf key value)) r x turn (Insert key value) t.told has moment t.answers had);
-      }
-
-  delete_answered : (key turn : ℕ) (t : IsToldBefore calls lines (Map (DeleteOf key)) r.answer turn) (told : Option ℕ) → t.told ≡ told → IsAsked lay tries calls lines changed client (Map (DeleteOf key)) r → won lay lines r.client.0 ≡ Some turn → r.moment ≡ Some turn → IsAnswered lay tries calls lines r (Map (DeleteOf key))
-  delete_answered key turn t None none x has moment =
-      let answers : r.answer ≡ MapAnswer (Value None) = t.answers ∙ ap of_value none in
-      absurd (let z : HasItsEntry false (Some turn) = rw (answers, has) at x.entry in z)
-  delete_answered key turn t (Some old) some x has moment =
-      let answers : r.answer ≡ MapAnswer (Value (Some old)) = t.answers ∙ ap of_value some in
-      let same = some_edit (Delete key) t.edit t.is in
-      let had = subst (λ (e : MapEdit). get (edit_key e) (map_at calls lines (turn - 1)) ≡ t.told) (sym same) t.had in
-      record {
-        right = rw answers tt;
-        placed = subst (λ (a : Answer). IsPlacedOnMap (reply_told a) calls lines (Edit (Delete key)) r) (sym answers) (is_change lay tries calls lines changed client (Map (DeleteOf key)) r x turn (Delete key) (Some old) has moment answers (had ∙ some));
-      }
-
   -- a call whose update has won
   pub change_answered : (command : Command) (turn : ℕ) → IsAsked lay tries calls lines changed client command r → client.won ≡ Some turn → r.moment ≡ Some turn → IsToldBefore calls lines command r.answer turn → IsAnswered lay tries calls lines r command
-  change_answered (Map (InsertOf key value)) turn x has moment t = insert_answered key value turn t x (sym x.has_won ∙ has) moment
-  change_answered (Map (DeleteOf key)) turn x has moment t = delete_answered key turn t t.told refl x (sym x.has_won ∙ has) moment
-  change_answered (Map (GetOf key)) turn x has moment t = absurd (let z : Some (Get key) ≡ Some (Edit t.edit) = t.is in cc)
-  change_answered (Map (SuccessorOf key)) turn x has moment t = absurd (let z : Some (Successor key) ≡ Some (Edit t.edit) = t.is in cc)
-  change_answered (Map (RangeOf low high most)) turn x has moment t = absurd (let z : Some (Range low high most) ≡ Some (Edit t.edit) = t.is in cc)
-  change_answered command turn x has moment t = absurd (let z : None ≡ Some (Edit t.edit) = t.is in cc)
+  change_answered command turn x has moment t = go command t.is x
+    where
+      now = history lay.mode lines
+      from = start lay.mode lines r.client.0
+      kept = linked calls lay.mode lines r.client.0
+
+      it_won : won lay lines r.client.0 ≡ Some turn
+      it_won = sym x.has_won ∙ has
+
+      says_so : (b : Bool) → HasItsEntry b (won lay lines r.client.0) → b ≡ true
+      says_so b y = won_so b turn (subst (HasItsEntry b) it_won y)
+
+      change : (k : Command) (call : MapCall) → map_call (Some k) ≡ Some call → map_call (Some k) ≡ Some t.call → IsAsked lay tries calls lines changed client k r → IsPlacedChange calls lines call r
+      change k call own is y =
+          let same : t.call ≡ call = some_call t.call call (sym is ∙ own) in
+          subst (λ (m : MapCall). IsPlacedChange calls lines m r) same (is_change lay tries calls lines changed client k r y turn t.call it_won moment t.told)
+
+      go : (k : Command) → map_call (Some k) ≡ Some t.call → IsAsked lay tries calls lines changed client k r → IsAnswered lay tries calls lines r k
+      go (Map (InsertOf key value)) is y =
+          let so = says_so (has_inserted r.answer) y.entry in
+          record { right = insert_right lay tries r.client.0 key now from kept r.answer so; placed = insert_placed calls lines r key value r.answer so (change (Map (InsertOf key value)) (Edit (Insert key value)) refl is y) }
+      go (Map (DeleteOf key)) is y =
+          let so = says_so (has_deleted r.answer) y.entry in
+          record { right = delete_right lay tries r.client.0 key now from kept r.answer so; placed = delete_placed calls lines r key r.answer so (change (Map (DeleteOf key)) (Edit (Delete key)) refl is y) }
+      go (Map PopOf) is y =
+          let so = says_so (has_popped r.answer) y.entry in
+          record { right = pop_right lay tries r.client.0 now from kept r.answer so; placed = pop_placed calls lines r r.answer so (change (Map PopOf) PopFirst refl is y) }
+      go (Map (ReplaceOf key expected value)) is y =
+          let so = says_so (has_replaced expected r.answer) y.entry in
+          record { right = replace_right lay tries r.client.0 key expected now from kept r.answer so; placed = replace_placed calls lines r key expected value r.answer so (change (Map (ReplaceOf key expected value)) (ReplaceIf key expected value) refl is y) }
+      go (Map (GetOf key)) is y = is_true (says_so false y.entry)
+      go (Map (SuccessorOf key)) is y = is_true (says_so false y.entry)
+      go (Map (RangeOf low high most)) is y = is_true (says_so false y.entry)
+      go k is y = absurd (let z : None ≡ Some t.call = is in cc)
 
   -- a get
   get_answered : (key : ℕ) → IsAsked lay tries calls lines changed client (Map (GetOf key)) r → won lay lines r.client.0 ≡ None → IsValueAt calls lines key r → IsAnswered lay tries calls lines r (Map (GetOf key))
@@ -278,6 +392,31 @@ module _ (lay : Layout) (tries : ℕ) (calls : List Call) (lines : List Line) (c
         placed = subst (λ (a : Answer). IsPlacedOnMap (reply_told a) calls lines (Edit (Delete key)) r) (sym answers) (value_reading lay tries calls lines changed client (Map (DeleteOf key)) r x key (Edit (Delete key)) (λ m. refl) none v);
       }
 
+  -- a replacement that finds another value, or none
+  pub kept_answered : (command : Command) (key expected value : ℕ) → command ≡ Map (ReplaceOf key expected value) → IsAsked lay tries calls lines changed client command r → won lay lines r.client.0 ≡ None → IsValueAt calls lines key r → IsAnswered lay tries calls lines r command
+  kept_answered command key expected value e y none v = subst (λ k. IsAnswered lay tries calls lines r k) (sym e) answered
+    where
+      own : Command
+      own = Map (ReplaceOf key expected value)
+
+      call : MapCall
+      call = ReplaceIf key expected value
+
+      x : IsAsked lay tries calls lines changed client own r
+      x = subst (λ k. IsAsked lay tries calls lines changed client k r) e y
+
+      other : is_value expected v.told ≡ false
+      other = unwon_so (is_value expected v.told) (let z : HasItsEntry (is_value expected v.told) None = rw (v.answers, none) at x.entry in z)
+
+      had : HadAtKey lay (history lay.mode lines) (start lay.mode lines r.client.0) key v.told
+      had = value_had lay tries calls lines changed client own r x key (λ z. z) v
+
+      answered : IsAnswered lay tries calls lines r own
+      answered = record {
+        right = subst (λ (a : Answer). ReplaceIsRight key expected lay tries r.client.0 (history lay.mode lines) (start lay.mode lines r.client.0) (linked calls lay.mode lines r.client.0) a) (sym v.answers) (subst (λ (b : Bool). ReplaceTold b lay (history lay.mode lines) (start lay.mode lines r.client.0) key v.told) (sym other) had);
+        placed = subst (λ (a : Answer). IsPlacedOnMap (reply_told a) calls lines call r) (sym v.answers) (kept_placed calls lines r key expected value v.told other (value_reading lay tries calls lines changed client own r x key call (λ m. refl) none v));
+      }
+
   -- either of them
   pub value_answered : (command : Command) (key : ℕ) → (command ≡ Map (GetOf key)) ⊎ (command ≡ Map (DeleteOf key)) → IsAsked lay tries calls lines changed client command r → won lay lines r.client.0 ≡ None → IsValueAt calls lines key r → IsAnswered lay tries calls lines r command
   value_answered command key (inl e) x none v = subst (λ k. IsAnswered lay tries calls lines r k) (sym e) (get_answered key (subst (λ k. IsAsked lay tries calls lines changed client k r) e x) none v)
@@ -298,5 +437,18 @@ module _ (lay : Layout) (tries : ℕ) (calls : List Call) (lines : List Line) (c
       record {
         right = range_right lay tries r.client.0 low high most (history lay.mode lines) (start lay.mode lines r.client.0) (linked calls lay.mode lines r.client.0) (reply a.call (map_at calls lines a.turn)) r.answer a.greatest.holds (either_fits lines (Map (RangeOf low high most)) r.answer x.fits);
         placed = subst (λ (t : Option MapReply). IsPlacedOnMap t calls lines (Range low high most) r) (sym a.greatest.holds) reading;
+      }
+  read_answered (Map PopOf) x none a =
+      let same : PopFirst ≡ a.call = (let z : Some PopFirst ≡ Some a.call = a.is in cc) in
+      let m = map_at calls lines a.turn in
+      let fits = either_fits lines (Map PopOf) r.answer x.fits in
+      let unpopped = unwon_so (has_popped r.answer) (subst (HasItsEntry (has_popped r.answer)) none x.entry) in
+      let told : reply a.call m ≡ OneValue None = pop_read (reply a.call m) r.answer a.greatest.holds fits unpopped in
+      let empty : first_pair m ≡ None = no_pair (first_pair m) (subst (λ (k : MapCall). reply k m ≡ OneValue None) (sym same) told) in
+      let had = first_within lay tries calls lines changed client (Map PopOf) r x None a.turn (λ z. z) a.greatest.from a.greatest.to empty in
+      let reading = subst (λ (k : MapCall). IsPlacedReading calls lines k r) (sym same) (ordered_placed lay tries calls lines r a.call a.turn x.in_order none x.number a.moment a.greatest) in
+      record {
+        right = pop_read_right lay tries r.client.0 (history lay.mode lines) (start lay.mode lines r.client.0) (linked calls lay.mode lines r.client.0) (reply a.call m) r.answer a.greatest.holds fits had;
+        placed = subst (λ (t : Option MapReply). IsPlacedOnMap t calls lines PopFirst r) (sym (a.greatest.holds ∙ ap (λ (t : MapReply). Some t) told)) reading;
       }
   read_answered command x none a = absurd a.ordered

@@ -6,14 +6,17 @@ use Rattle.arena.specs.declared.limits.Mode.TheVariants.{Tree, Records}
 use Rattle.arena.specs.declared.layout.Layout.{Layout}
 use Rattle.arena.specs.declared.number.PassNo.{PassNo}
 use Rattle.arena.specs.declared.step.Row.{Row as StepRow}
-use Rattle.arena.specs.History.{History, ◌⊳◌}
-use Rattle.arena.specs.Lawful.{Lawful, IsLawful}
+use Rattle.arena.specs.History.{History, ◌⊳◌, value}
+use Rattle.arena.specs.Lawful.{Lawful, IsLawful, IsWin}
 use Rattle.arena.specs.Log.{Entry as Entered}
 use Rattle.arena.specs.Machines.{IsRun}
 use Rattle.arena.specs.Shape.{Shaped, IsBegin}
 use Rattle.ordered_map.specs.FillOrder.{HasRisingLevels}
 use Rattle.ordered_map.specs.TreeShape.{TreeAllows}
-use Rattle.ordered_map.specs.OrderedMap.{MapCall, Edit, edit_key, value_left}
+use Rattle.ordered_map.specs.declared.pair.Pair.{Pair}
+use Rattle.ordered_map.specs.OrderedMap.{MapCall}
+use Rattle.ordered_map.specs.Runs.{IsTreeRun}
+use Rattle.ordered_map.specs.Spelled.{Spells}
 use Rattle.ordered_map.specs.Requests.{map_request}
 use Rattle.script.specs.declared.call.Call.{Call}
 use Rattle.script.specs.declared.command.Command.{Command}
@@ -25,22 +28,22 @@ use Rattle.record.specs.declared.record.Row.TheVariants.{Step as Made, Idle}
 use Rattle.record.specs.declared.record.Entry.{Entry}
 use Rattle.record.specs.declared.record.Finished.{Finished}
 use Rattle.record.specs.CommandRules.{IsEntryFor}
-use Rattle.record.specs.Rules.Map.{IsMapEntry}
 use Rattle.record.specs.Commands.{commands, next_command}
-use Rattle.record.specs.Entries.{IsLog}
+use Rattle.record.specs.Entries.{IsWinOf}
 use Rattle.record.specs.LawfulRun.{AreLines, IsWhole}
-use Rattle.record.specs.MapRecord.{map_call}
-use Rattle.record.specs.SpelledMap.{AreSpelled}
-use Rattle.record.specs.Turns.{history, answered}
+use Rattle.record.specs.MapRecord.{map_call, map_call_of, map_of, written_log}
+use Rattle.record.specs.SpelledMap.{AreSpelled, IsSpelledAfter}
+use Rattle.record.specs.Turns.{history, answered, entry_owed}
 use Rattle.record.proofs.Lemmas.{AreMapCalls, lawful_is_legal}
 use Rattle.moments.specs.declared.places.Change.{Change}
-use Rattle.moments.specs.Entries.{IsChangeBy, IsChangeOf}
-use Rattle.moments.proofs.Lemmas.{are_spelled}
+use Rattle.moments.specs.Entries.{IsChangeBy}
+use Rattle.moments.proofs.Lemmas.{are_spelled, change_of_newest}
 use Rattle.moments.specs.declared.places.Places.{Places}
-use Rattle.moments.specs.Places.{changes, Knows, HoldsOfKey}
-use Rattle.audit.specs.Edits.{MayMakeFor, HasBegunFor, AreRememberedEdits}
-use Rattle.audit.specs.Trees.{IsMapSoFar, IsTreeSoFar}
-use Rattle.audit.proofs.TreeLines.{tree_idle, tree_reply, tree_log, tree_step, edits_kept, edits_set, edit_allowed, edit_entry}
+use Rattle.moments.specs.Places.{changes}
+use Rattle.audit.specs.Edits.{IsSuited, MayMake, HasBegunWith, AreRememberedEdits}
+use Rattle.audit.specs.declared.edits.Begun.{Begun}
+use Rattle.audit.specs.Trees.{IsMapSoFar, IsTreeSoFar, HasChangedBy}
+use Rattle.audit.proofs.TreeLines.{tree_idle, tree_reply, tree_log, tree_step, edits_kept, edits_set, edit_allowed, edit_entry, change_made, begun_before_win}
 
 -- what holds of the command of each call holds of each command of a client
 pub of_commands : (P : Command → Type 0) (calls : List Call) (c n : ℕ) (command : Command) → All (λ (call : Call). P call.command) calls → slice_get (commands calls c) n ≡ Some command → P command
@@ -73,82 +76,75 @@ map_calls mode calls e all c j command is = go command (of_commands (λ k. mode_
     go (VlxOf cells) e = cc
     go (SetOf field value) e = cc
 
--- the key that a client's command may change is known
-pub command_key : (places : Places) (calls : List Call) (c n : ℕ) (command : Command) → All (λ (call : Call). HoldsOfKey (Knows places) call.command) calls → slice_get (commands calls c) n ≡ Some command → HoldsOfKey (Knows places) command
-command_key places calls c n command all is = of_commands (λ k. HoldsOfKey (Knows places) k) calls c n command all is
-
-if_some : (P Q : ℕ → Type 0) (o : Option ℕ) → ((n : ℕ) → P n → Q n) → IfSome o P → IfSome o Q
-if_some P Q None more x = tt
-if_some P Q (Some n) more x = more n x
-
--- keys that were known are
-pub keys_kept : (before after : Places) (calls : List Call) → ((key : ℕ) → Knows before key → Knows after key) → All (λ (call : Call). HoldsOfKey (Knows before) call.command) calls → All (λ (call : Call). HoldsOfKey (Knows after) call.command) calls
-keys_kept before after calls kept all = λ i call less. if_some (Knows before) (Knows after) _ kept (all i call less)
-
 -- the next command of a client has the mode of all
 pub next_of_mode : (mode : Mode) (calls : List Call) (lines : List Line) (c : ℕ) (command : Command) → AreOf mode calls → next_command calls lines c ≡ Some command → mode_of command ≡ mode
 next_of_mode mode calls lines c command all is = of_commands (λ k. mode_of k ≡ mode) calls c (answered lines c) command all is
 
 -- Entries
 
--- an entry of a call of the tree changes the map
-change_of : (lay : Layout) (before : History) (e : Entered) (turn : ℕ) (call : MapCall) → IsMapEntry call lay before e → (change : Change) × (change.turn ≡ turn) × IsChangeBy (Some call) change
-change_of lay before e turn (Edit edit) x = (record { turn = turn; key = edit_key edit; value = value_left edit }, refl, (refl, refl))
-change_of lay before e turn call x = absurd x
+-- where no entry is owed the words spell the map so far
+spelled_now : (lay : Layout) (calls : List Call) (lines : List Line) → AreSpelled lay calls lines → entry_owed lay lines ≡ None → IsSpelledAfter lay calls lines
+unfolding AreSpelled
+spelled_now lay calls [] x owed = x
+spelled_now lay calls (line ∷ lines) x owed = x.1 owed
 
-change_for : (lay : Layout) (c : ℕ) (before start : History) (linked : ℕ → Option History) (e : Entered) (turn : ℕ) (command : Command) → mode_of command ≡ Tree → IsEntryFor lay c before start linked e command → (change : Change) × (change.turn ≡ turn) × IsChangeBy (map_call (Some command)) change
-change_for lay c before start linked e turn (Map request) mode x = change_of lay before e turn (map_request request) x
-change_for lay c before start linked e turn (LlxOf cell) mode x = absurd x
-change_for lay c before start linked e turn (VlxOf cells) mode x = absurd x
-change_for lay c before start linked e turn (ScxOf update) mode x = absurd (let z : Records ≡ Tree = mode in cc)
-change_for lay c before start linked e turn (SetOf field value) mode x = absurd (let z : Records ≡ Tree = mode in cc)
+-- the entry of a call, by what its SCX-record does
+change_by : (lay : Layout) (c : ℕ) (before start : History) (linked : ℕ → Option History) (e : Entered) (turn : ℕ) (command : Command) (m : List Pair) (begun : Begun) → mode_of command ≡ Tree → Lawful lay before → HasBegunWith lay before e.scx begun → IsEntryFor lay c before start linked e command → Spells lay (value before) m → IsChangeBy (map_call (Some command)) m record { turn = turn; key = begun.key; value = begun.value }
+change_by lay c before start linked e turn (Map request) m begun mode lawful b x spells = change_made lay before e turn (map_request request) m begun lawful b x spells
+change_by lay c before start linked e turn (LlxOf cell) m begun mode lawful b x spells = absurd x
+change_by lay c before start linked e turn (VlxOf cells) m begun mode lawful b x spells = absurd x
+change_by lay c before start linked e turn (ScxOf update) m begun mode lawful b x spells = absurd (let z : Records ≡ Tree = mode in cc)
+change_by lay c before start linked e turn (SetOf field put) m begun mode lawful b x spells = absurd (let z : Records ≡ Tree = mode in cc)
 
--- what a lawful entry says of the map: the command of its call, and the change
-record IsChanged (calls : List Call) (lines : List Line) (entry : Entry) : Type 0 where
-  command : Command
-  is : next_command calls lines entry.client.0 ≡ Some command
-  change : Change
-  turn : change.turn ≡ entry.step
-  by : IsChangeBy (map_call (Some command)) change
-  of : IsChangeOf calls entry change
+-- the change of an SCX-record that has begun is that of its entry
+change_of : (lay : Layout) (tries : ℕ) (calls : List Call) (lines : List Line) (entry : Entry) (begun : Begun) → lay.mode ≡ Tree → AreOf lay.mode calls → AreLines lay tries calls (Log entry ∷ lines) → AreSpelled lay calls lines → IsRun TreeAllows lay (history lay.mode lines) → HasBegunWith lay (history lay.mode lines) entry.scx.0 begun → IsChangeBy (map_call_of calls entry.client.0 entry.call) (map_of calls (written_log lines)) record { turn = entry.step; key = begun.key; value = begun.value }
+unfolding AreLines AreSpelled Lawful
+change_of lay tries calls [] entry begun mode all a x run b = absurd a.1
+change_of lay tries calls (Step (Idle n client) ∷ lines) entry begun mode all a x run b = absurd a.1
+change_of lay tries calls (Log d ∷ lines) entry begun mode all a x run b = absurd a.1
+change_of lay tries calls (ReplyLine d ∷ lines) entry begun mode all a x run b = absurd a.1
+change_of lay tries calls (Step (Made n row) ∷ lines) entry begun mode all a x run b = subst (λ (o : Option Command). IsChangeBy (map_call o) m made) (sym (ap (λ (k : ℕ). slice_get (commands calls entry.client.0) k) w.call ∙ w.is)) by
+  where
+    w : IsWinOf lay calls lines row entry
+    w = a.1.1
 
-changed : (lay : Layout) (calls : List Call) (lines : List Line) (entry : Entry) → lay.mode ≡ Tree → AreOf lay.mode calls → IsLog lay calls lines entry → IsChanged calls lines entry
-changed lay calls [] entry mode all x = absurd x
-changed lay calls (Step (Idle n client) ∷ lines) entry mode all x = absurd x
-changed lay calls (Log d ∷ lines) entry mode all x = absurd x
-changed lay calls (ReplyLine d ∷ lines) entry mode all x = absurd x
-changed lay calls (Step (Made n row) ∷ lines) entry mode all x =
-    let w = x.1 in
-    let k = change_for lay entry.client.0 _ _ _ w.entered entry.step w.command (next_of_mode lay.mode calls lines entry.client.0 w.command all w.is ∙ mode) w.does in
-    record {
-      command = w.command;
-      is = w.is;
-      change = k.0;
-      turn = k.1;
-      by = k.2;
-      of = (k.1, subst (λ (o : Option Command). IsChangeBy (map_call o) k.0) (sym (ap (λ (n : ℕ). slice_get (commands calls entry.client.0) n) w.call ∙ w.is)) k.2);
-    }
+    m : List Pair
+    m = map_of calls (written_log lines)
 
-module _ (lay : Layout) (tries : ℕ) (calls : List Call) (of_mode : AreOf lay.mode calls) (begun : List (Option Command)) (places : Places) (lines : List Line) (x : IsMapSoFar lay calls begun places lines) where
+    made : Change
+    made = record { turn = entry.step; key = begun.key; value = begun.value }
+
+    before : History
+    before = history lay.mode lines
+
+    spells : Spells lay (value before) m
+    spells = (spelled_now lay calls lines x.0 a.0.1.0.entry).spelled
+
+    begun_then : HasBegunWith lay before w.entered.scx begun
+    begun_then = subst (λ (s : ℕ). HasBegunWith lay before s begun) (sym w.same_scx) (begun_before_win lay before row entry.scx.0 begun w.wins b)
+
+    by : IsChangeBy (map_call (Some w.command)) m made
+    by = change_by lay entry.client.0 before _ _ w.entered entry.step w.command m begun (next_of_mode lay.mode calls lines entry.client.0 w.command all w.is ∙ mode) run.lawful.0 begun_then w.does spells
+
+module _ (lay : Layout) (tries : ℕ) (calls : List Call) (of_mode : AreOf lay.mode calls) (begun : List (Option Begun)) (places : Places) (lines : List Line) (x : IsMapSoFar lay calls begun places lines) where
   pub map_idle : (number : ℕ) (pass : PassNo) → AreLines lay tries calls (Step (Idle number pass) ∷ lines) → IsMapSoFar lay calls begun places (Step (Idle number pass) ∷ lines)
-  map_idle number pass a = record { keys = x.keys; tree = λ mode. tree_idle lay tries calls mode (map_calls lay.mode calls mode of_mode) begun (changes places) lines (x.tree mode) number pass a }
+  map_idle number pass a = λ mode. tree_idle lay tries calls mode (map_calls lay.mode calls mode of_mode) begun (changes places) lines (x mode) number pass a
 
   pub map_reply : (reply : Finished) → AreLines lay tries calls (ReplyLine reply ∷ lines) → IsMapSoFar lay calls begun places (ReplyLine reply ∷ lines)
-  map_reply reply a = record { keys = x.keys; tree = λ mode. tree_reply lay tries calls mode (map_calls lay.mode calls mode of_mode) begun (changes places) lines (x.tree mode) reply a }
+  map_reply reply a = λ mode. tree_reply lay tries calls mode (map_calls lay.mode calls mode of_mode) begun (changes places) lines (x mode) reply a
 
   -- an entry, whose call changes the map
-  pub map_log : (after : Places) (entry : Entry) → AreLines lay tries calls (Log entry ∷ lines) → ((key : ℕ) → Knows places key → Knows after key) → ((command : Command) (c : Change) → next_command calls lines entry.client.0 ≡ Some command → c.turn ≡ entry.step → IsChangeBy (map_call (Some command)) c → changes after ≡ c ∷ changes places) → IsMapSoFar lay calls begun after (Log entry ∷ lines)
-  unfolding AreLines
-  map_log after entry a kept change = record { keys = keys_kept places after calls kept x.keys; tree = tree }
-    where
-      tree : lay.mode ≡ Tree → IsTreeSoFar lay calls begun (changes after) (Log entry ∷ lines)
-      tree mode =
-          let d = changed lay calls lines entry mode of_mode a.1 in
-          subst (λ (l : List Change). IsTreeSoFar lay calls begun l (Log entry ∷ lines)) (sym (change d.command d.change d.is d.turn d.by)) (tree_log lay tries calls mode (map_calls lay.mode calls mode of_mode) begun (changes places) lines (x.tree mode) entry d.change a d.of)
+  pub map_log : (after : Places) (entry : Entry) → AreLines lay tries calls (Log entry ∷ lines) → (lay.mode ≡ Tree → HasChangedBy entry begun (changes places) (changes after)) → IsMapSoFar lay calls begun after (Log entry ∷ lines)
+  map_log after entry a change mode =
+      let d = change mode in
+      let t = x mode in
+      let made : Change = record { turn = entry.step; key = d.begun.key; value = d.begun.value } in
+      let by = change_of lay tries calls lines entry d.begun mode of_mode a t.spelled t.run (t.edits entry.scx.0 d.begun d.known) in
+      subst (λ (l : List Change). IsTreeSoFar lay calls begun l (Log entry ∷ lines)) (sym d.added) (tree_log lay tries calls mode (map_calls lay.mode calls mode of_mode) begun (changes places) lines t entry made a (change_of_newest lay tries calls lines entry made a refl by))
 
-  -- a step, with the edit of the SCX-record that it begins, if it begins one
-  pub map_step : (number : ℕ) (row : StepRow) (h : History) (more : List (Option Command)) (edit : Option Command) → h ≡ history lay.mode lines → AreLines lay tries calls (Step (Made number row) ∷ lines) → IsLawful lay (history lay.mode lines) row → (lay.mode ≡ Tree → HasRisingLevels h → HasRisingLevels (row ⊳ h)) → (lay.mode ≡ Tree → IsBegin h row row.after → (command : Command) × (next_command calls lines row.pass.0 ≡ Some command) × MayMakeFor lay h row.after command) → IfSome edit (λ k. IsBegin h row row.after) → IfSome edit (λ k. next_command calls lines row.pass.0 ≡ Some k) → (edit ≡ None → more ≡ begun) → (IsSome edit → more ≡ set begun row.after edit) → IsMapSoFar lay calls more places (Step (Made number row) ∷ lines)
-  map_step number row h more edit same a lawful rising may begins next none some = record { keys = x.keys; tree = tree }
+  -- a step, with the SCX-record that it begins, if it begins one
+  pub map_step : (number : ℕ) (row : StepRow) (h : History) (more : List (Option Begun)) (edit : Option Begun) → h ≡ history lay.mode lines → AreLines lay tries calls (Step (Made number row) ∷ lines) → IsLawful lay (history lay.mode lines) row → (lay.mode ≡ Tree → HasRisingLevels h → HasRisingLevels (row ⊳ h)) → IfSome edit (λ b. IsBegin h row row.after) → IfSome edit (MayMake lay h row.after) → (edit ≡ None → lay.mode ≡ Tree → IsBegin h row row.after → ⊥) → (edit ≡ None → more ≡ begun) → (IsSome edit → more ≡ set begun row.after edit) → IsMapSoFar lay calls more places (Step (Made number row) ∷ lines)
+  map_step number row h more edit same a lawful rising begins may never none some = tree
     where
       now : History
       now = history lay.mode lines
@@ -160,61 +156,61 @@ module _ (lay : Layout) (tries : ℕ) (calls : List Call) (of_mode : AreOf lay.m
       here P y = subst P (sym same) y
 
       allows : lay.mode ≡ Tree → (s : ℕ) → IsBegin now row s → TreeAllows lay now s
-      allows mode s b =
-          let y = may mode (here (λ k. IsBegin k row row.after) (subst (λ (n : ℕ). IsBegin now row n) (sym b.stored) b)) in
-          subst (λ (n : ℕ). TreeAllows lay now n) b.stored (there (λ k. TreeAllows lay k row.after) (edit_allowed lay h row.after (map_call (Some y.0)) y.2))
+      allows mode s b = go edit refl may
+        where
+          begun_here : IsBegin h row row.after
+          begun_here = here (λ k. IsBegin k row row.after) (subst (λ (n : ℕ). IsBegin now row n) (sym b.stored) b)
+
+          go : (o : Option Begun) → edit ≡ o → IfSome o (MayMake lay h row.after) → TreeAllows lay now s
+          go None e y = absurd (never e mode begun_here)
+          go (Some d) e y = subst (λ (n : ℕ). TreeAllows lay now n) b.stored (there (λ k. TreeAllows lay k row.after) (edit_allowed lay h row.after d y))
 
       edits : lay.mode ≡ Tree → AreRememberedEdits lay (row ⊳ now) more
-      edits mode = go edit refl begins next some
+      edits mode = go edit refl begins may some
         where
           known : AreRememberedEdits lay now begun
-          known = (x.tree mode).edits
+          known = (x mode).edits
 
-          go : (o : Option Command) → edit ≡ o → IfSome o (λ k. IsBegin h row row.after) → IfSome o (λ k. next_command calls lines row.pass.0 ≡ Some k) → (IsSome o → more ≡ set begun row.after o) → AreRememberedEdits lay (row ⊳ now) more
-          go None e b n p = subst (λ (l : List (Option Command)). AreRememberedEdits lay (row ⊳ now) l) (sym (none e)) (edits_kept lay now row begun known)
-          go (Some k) e b n p =
-              let y = may mode b in
-              let own : y.0 ≡ k = some_same y.0 k (sym y.1 ∙ n) in
-              subst (λ (l : List (Option Command)). AreRememberedEdits lay (row ⊳ now) l) (sym (p refl)) (edits_set lay now row begun row.after k known (there (λ g. IsBegin g row row.after) b) (there (λ g. MayMakeFor lay g row.after k) (subst (λ (d : Command). MayMakeFor lay h row.after d) own y.2)))
-            where
-              some_same : (c d : Command) → Some c ≡ Some d → c ≡ d
-              some_same c d e = cc
+          go : (o : Option Begun) → edit ≡ o → IfSome o (λ d. IsBegin h row row.after) → IfSome o (MayMake lay h row.after) → (IsSome o → more ≡ set begun row.after o) → AreRememberedEdits lay (row ⊳ now) more
+          go None e b y p = subst (λ (l : List (Option Begun)). AreRememberedEdits lay (row ⊳ now) l) (sym (none e)) (edits_kept lay now row begun known)
+          go (Some d) e b y p = subst (λ (l : List (Option Begun)). AreRememberedEdits lay (row ⊳ now) l) (sym (p refl)) (edits_set lay now row begun row.after d known (there (λ g. IsBegin g row row.after) b) (there (λ g. MayMake lay g row.after d) y))
 
       tree : lay.mode ≡ Tree → IsTreeSoFar lay calls more (changes places) (Step (Made number row) ∷ lines)
-      tree mode = tree_step lay tries calls mode (map_calls lay.mode calls mode of_mode) begun (changes places) lines (x.tree mode) number row more a lawful (allows mode) (there (λ k. HasRisingLevels (row ⊳ k)) (rising mode (here (λ k. HasRisingLevels k) (x.tree mode).rising))) (edits mode)
+      tree mode = tree_step lay tries calls mode (map_calls lay.mode calls mode of_mode) begun (changes places) lines (x mode) number row more a lawful (allows mode) (there (λ k. HasRisingLevels (row ⊳ k)) (rising mode (here (λ k. HasRisingLevels k) (x mode).rising))) (edits mode)
 
-  -- an entry of an SCX-record, whose edit is that of a client's call, is one that the call makes
-  pub map_entry : (h : History) → h ≡ history lay.mode lines → (c s : ℕ) (command : Command) → next_command calls lines c ≡ Some command → mode_of command ≡ Tree → slice_get begun s ≡ Some (Some command) → (start : History) (linked : ℕ → Option History) (e : Entered) → e.scx ≡ s → IsEntryFor lay c h start linked e command
-  map_entry h same c s command is mode known start linked e own =
-      let tree = sym (next_of_mode lay.mode calls lines c command of_mode is) ∙ mode in
-      edit_entry lay c h start linked e command (subst (λ (k : ℕ). HasBegunFor lay h k command) (sym own) (subst (λ (g : History). HasBegunFor lay g s command) (sym same) ((x.tree tree).edits s command known)))
+  -- an entry of an SCX-record that has begun for a client's call is one that the call makes
+  pub map_entry : (h : History) → h ≡ history lay.mode lines → (c s : ℕ) (row : StepRow) (known_by : Begun) → IsLawful lay h row → IsWin h row s → next_command calls lines c ≡ Some known_by.command → mode_of known_by.command ≡ Tree → slice_get begun s ≡ Some (Some known_by) → IsSuited h s known_by → (start : History) (linked : ℕ → Option History) (e : Entered) → e.scx ≡ s → IsEntryFor lay c h start linked e known_by.command
+  map_entry h same c s row known_by lawful won is mode known suited start linked e own =
+      let tree = sym (next_of_mode lay.mode calls lines c known_by.command of_mode is) ∙ mode in
+      let here = λ (P : History → Type 0) (y : P (history lay.mode lines)). subst P (sym same) y in
+      edit_entry lay c h start row linked e known_by (here (λ g. IsTreeRun lay g) (tree, (x tree).run)) lawful (subst (λ (k : ℕ). IsWin h row k) (sym own) won) (subst (λ (k : ℕ). HasBegunWith lay h k known_by) (sym own) (here (λ g. HasBegunWith lay g s known_by) ((x tree).edits s known_by known))) (subst (λ (k : ℕ). IsSuited h k known_by) (sym own) suited)
 
   -- what is said of the whole run at its end
   pub map_whole : AreLines lay tries calls lines → IsWhole lay.mode lay calls lines
   map_whole a = go lay.mode refl
     where
       go : (mode : Mode) → lay.mode ≡ mode → IsWhole mode lay calls lines
-      go Tree e = ((x.tree e).spelled, lawful_is_legal lay tries calls lines (map_calls lay.mode calls e of_mode) a)
+      go Tree e = ((x e).spelled, lawful_is_legal lay tries calls lines (map_calls lay.mode calls e of_mode) a)
       go Records e = tt
 
 -- The start
 
-never_begun : (n s : ℕ) (command : Command) → slice_get (replicate n None) s ≡ Some (Some command) → ⊥
-never_begun zero s command e = absurd (let z : None ≡ Some (Some command) = e in cc)
-never_begun (suc n) zero command e = let z : Some None ≡ Some (Some command) = e in absurd (cc)
-never_begun (suc n) (suc s) command e = never_begun n s command e
+never_begun : (n s : ℕ) (first : Begun) → slice_get (replicate n None) s ≡ Some (Some first) → ⊥
+never_begun zero s first e = absurd (let z : None ≡ Some (Some first) = e in cc)
+never_begun (suc n) zero first e = let z : Some None ≡ Some (Some first) = e in absurd (cc)
+never_begun (suc n) (suc s) first e = never_begun n s first e
 
 -- of no line nothing is remembered
-pub map_start : (lay : Layout) (tries : ℕ) (calls : List Call) (begun : List (Option Command)) (places : Places) (n : ℕ) → AreOf lay.mode calls → begun ≡ replicate n None → All (λ (call : Call). HoldsOfKey (Knows places) call.command) calls → changes places ≡ [] → IsMapSoFar lay calls begun places []
+pub map_start : (lay : Layout) (tries : ℕ) (calls : List Call) (begun : List (Option Begun)) (places : Places) (n : ℕ) → AreOf lay.mode calls → begun ≡ replicate n None → changes places ≡ [] → IsMapSoFar lay calls begun places []
 unfolding AreLines AreSpelled Lawful Shaped
-map_start lay tries calls begun places n of_mode none keys unchanged = record { keys = keys; tree = tree }
+map_start lay tries calls begun places n of_mode none unchanged = tree
   where
     tree : lay.mode ≡ Tree → IsTreeSoFar lay calls begun (changes places) []
     tree mode = rw unchanged record {
       run = run;
       rising = spelled.rising;
       spelled = spelled;
-      edits = λ s command e. absurd (never_begun n s command (subst (λ (l : List (Option Command)). slice_get l s ≡ Some (Some command)) none e));
+      edits = λ s first e. absurd (never_begun n s first (subst (λ (l : List (Option Begun)). slice_get l s ≡ Some (Some first)) none e));
       entries = tt;
     }
       where

@@ -7,7 +7,7 @@ use Rattle.arena.specs.declared.number.ScxNo.{ScxNo}
 use Rattle.script.specs.declared.call.Call.{Call}
 use Rattle.script.specs.declared.command.Command.{Command}
 use Rattle.ordered_map.specs.declared.reply.Reply.TheVariants.{Contended, Full, NoMemory}
-use Rattle.ordered_map.specs.declared.request.Request.TheVariants.{Insert, Delete}
+use Rattle.ordered_map.specs.declared.request.Request.TheVariants.{Insert, Delete, PopFirst, ReplaceIf}
 use Rattle.script.specs.declared.command.Command.TheVariants.{Map}
 use Rattle.record.specs.declared.record.Line.{Line}
 use Rattle.record.specs.declared.record.Finished.{Finished}
@@ -21,7 +21,7 @@ use Rattle.record.specs.Turns.{history, begin, start}
 use Rattle.moments.specs.declared.places.Change.{Change}
 use Rattle.audit.specs.Asked.{IsAsked, IsTooFewFor}
 use Rattle.audit.specs.declared.client.Client.{Client}
-use Rattle.audit.proofs.MapAnswers.{contended_right, no_memory_right}
+use Rattle.audit.proofs.MapAnswers.{contended_right, first_had, no_memory_right}
 
 -- no answer at once
 at_once_insert : (command : Command) (answer : Answer) (key value : ℕ) → command ≡ Map (Insert key value) → MayAnswerAtOnce command answer → ⊥
@@ -29,6 +29,12 @@ at_once_insert command answer key value is may = subst (λ (k : Command). MayAns
 
 at_once_delete : (command : Command) (answer : Answer) (key : ℕ) → command ≡ Map (Delete key) → MayAnswerAtOnce command answer → ⊥
 at_once_delete command answer key is may = subst (λ (k : Command). MayAnswerAtOnce k answer) is may
+
+at_once_pop : (command : Command) (answer : Answer) → command ≡ Map PopFirst → MayAnswerAtOnce command answer → ⊥
+at_once_pop command answer is may = subst (λ (k : Command). MayAnswerAtOnce k answer) is may
+
+at_once_replace : (command : Command) (answer : Answer) (key expected value : ℕ) → command ≡ Map (ReplaceIf key expected value) → MayAnswerAtOnce command answer → ⊥
+at_once_replace command answer key expected value is may = subst (λ (k : Command). MayAnswerAtOnce k answer) is may
 
 module _ (lay : Layout) (tries : ℕ) (calls : List Call) (lines : List Line) (changed : List Change) (client : Client) (command : Command) (r : Finished) (x : IsAsked lay tries calls lines changed client command r) where
   abbrev RightIs : Command → Answer → Type 0
@@ -59,3 +65,14 @@ module _ (lay : Layout) (tries : ℕ) (calls : List Call) (lines : List Line) (c
   right_full_delete key what left is few =
       let y = few (at_once_delete command r.answer key is) in
       subst (λ (k : Command). RightIs k (MapAnswer (Full record { what = what; left = left }))) (sym is) (y.0, y.1.0, y.1.1)
+
+  pub right_full_pop : (what : Resource) (left : ℕ) → command ≡ Map PopFirst → ((MayAnswerAtOnce command r.answer → ⊥) → (key v : ℕ) × IsTooFewFor lay lines r key (Some v) what left) → RightIs command (MapAnswer (Full record { what = what; left = left }))
+  right_full_pop what left is few =
+      let y = few (at_once_pop command r.answer is) in
+      let had = first_had lay (history lay.mode lines) (start lay.mode lines r.client.0) y.0 y.1 y.2.0 in
+      subst (λ (k : Command). RightIs k (MapAnswer (Full record { what = what; left = left }))) (sym is) (had.0, had.1, y.2.1)
+
+  pub right_full_replace : (key expected value : ℕ) (what : Resource) (left : ℕ) → command ≡ Map (ReplaceIf key expected value) → ((MayAnswerAtOnce command r.answer → ⊥) → IsTooFewFor lay lines r key (Some expected) what left) → RightIs command (MapAnswer (Full record { what = what; left = left }))
+  right_full_replace key expected value what left is few =
+      let y = few (at_once_replace command r.answer key expected value is) in
+      subst (λ (k : Command). RightIs k (MapAnswer (Full record { what = what; left = left }))) (sym is) y

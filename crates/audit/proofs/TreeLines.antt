@@ -1,71 +1,140 @@
 -- What is remembered of the tree stays what the lines say.
-use Rattle.std.proofs.Common.{◌≡◌, ℕ, zero, suc, ◌⊎◌, inl, inr, ⊎_elim, List, [], ◌∷◌, set, slice_get, Option, Some, refl, sym, ap, subst}
+use Rattle.std.proofs.Common.{◌≡◌, ℕ, zero, suc, ◌⊎◌, inl, inr, ⊎_elim, Bool, cond, eq-eqb, ◌∙◌, List, [], ◌∷◌, set, slice_get, Option, Some, None, refl, sym, ap, subst}
 use Rattle.arena.specs.declared.limits.Mode.TheVariants.{Tree}
 use Rattle.arena.specs.declared.layout.Layout.{Layout}
 use Rattle.arena.specs.declared.number.PassNo.{PassNo}
 use Rattle.arena.specs.declared.step.Row.{Row as StepRow}
-use Rattle.arena.specs.History.{History, ◌⊳◌}
-use Rattle.arena.specs.Lawful.{Lawful, IsLawful}
+use Rattle.arena.specs.declared.step.Kind.{Kind}
+use Rattle.arena.specs.declared.step.Kind.TheVariants.{Freeze, Update}
+use Rattle.arena.specs.declared.word.NodeWord.TheVariants.{Key, Value}
+use Rattle.arena.specs.History.{History, Start, ◌⊳◌, value, Extends}
+use Rattle.arena.specs.Lawful.{Lawful, IsLawful, IsWin}
 use Rattle.arena.specs.Log.{Entry as Entered}
 use Rattle.arena.specs.Machines.{IsRun}
 use Rattle.arena.specs.Shape.{Shaped, IsBegin}
+use Rattle.arena.specs.Words.{node}
 use Rattle.arena.proofs.Lemmas.{ends_self}
+use Rattle.ordered_map.specs.declared.pair.Pair.{Pair}
+use Rattle.ordered_map.proofs.Lemmas.{makes_one, makes_since, win_first, win_makes}
 use Rattle.script.specs.declared.call.Call.{Call}
 use Rattle.script.specs.declared.command.Command.{Command}
 use Rattle.script.specs.declared.command.Command.TheVariants.{Map}
 use Rattle.ordered_map.specs.FillOrder.{HasRisingLevels}
-use Rattle.ordered_map.specs.OrderedMap.{MapCall, Edit}
+use Rattle.ordered_map.specs.OrderedMap.{MapCall, MapEdit, Edit, Insert, Delete, PopFirst, ReplaceIf, OneValue, pair, pair_or_none, edit_key, edit_of, value_left}
 use Rattle.ordered_map.specs.Requests.{map_request}
-use Rattle.ordered_map.specs.Runs.{IsTreeRun}
-use Rattle.ordered_map.specs.TreeShape.{TreeAllows}
-use Rattle.ordered_map.proofs.Lemmas.{makes_since}
+use Rattle.ordered_map.specs.Runs.{IsTreeRun, Makes}
+use Rattle.ordered_map.specs.Spelled.{Spells}
+use Rattle.ordered_map.specs.TreeShape.{TreeAllows, edit_leaf}
+use Rattle.ordered_map.specs.TreeWords.{class, first_said, said}
 use Rattle.record.specs.declared.record.Line.{Line}
 use Rattle.record.specs.declared.record.Line.TheVariants.{Step, Log, Reply as ReplyLine}
 use Rattle.record.specs.declared.record.Row.TheVariants.{Step as Made, Idle}
 use Rattle.record.specs.declared.record.Entry.{Entry}
 use Rattle.record.specs.declared.record.Finished.{Finished}
 use Rattle.record.specs.CommandRules.{IsEntryFor}
-use Rattle.record.specs.MapRecord.{map_call}
+use Rattle.record.specs.MapRecord.{map_call, written_log}
 use Rattle.record.specs.Rules.Map.{IsMapEntry}
+use Rattle.record.specs.Rules.PopFirst.{IsPopEntry}
+use Rattle.record.specs.Rules.ReplaceIf.{IsReplaceEntry}
 use Rattle.record.specs.LawfulRun.{AreLines}
 use Rattle.record.specs.SpelledMap.{AreSpelled}
 use Rattle.record.specs.Turns.{history}
 use Rattle.record.proofs.Lemmas.{AreMapCalls}
 use Rattle.moments.specs.declared.places.Change.{Change}
-use Rattle.moments.specs.Entries.{IsChangeOf}
+use Rattle.moments.specs.Changed.{edit_on}
+use Rattle.moments.specs.Entries.{IsChangeBy, IsChangeByEdit, IsChangeOf}
 use Rattle.moments.proofs.Lemmas.{spelled}
-use Rattle.audit.specs.Edits.{MayMakeFor, MayMakeOf, HasBegunFor, HasBegunOf, AreRememberedEdits}
+use Rattle.audit.specs.Edits.{IsEditBy, IsFirstLeaf, IsSuited, Suits, MayMake, HasBegunWith, AreRememberedEdits, edit_begun, edit_to}
+use Rattle.audit.specs.declared.edits.Begun.{Begun}
 use Rattle.audit.specs.Trees.{IsTreeSoFar}
 
 -- Edits
 
+-- the kind of the newest row
+kind_of : History → Kind
+kind_of (Start mode) = Freeze
+kind_of (row ⊳ h) = row.kind
+
+-- what has begun makes its edit
+pub made : (lay : Layout) (h : History) (s : ℕ) (begun : Begun) → HasBegunWith lay h s begun → Makes lay h s (edit_begun begun)
+made lay h s begun x = record { row = x.row; before = x.before; within = x.within; begins = x.begins; edit = x.makes.edit }
+
 -- an SCX-record that begins with an edit has begun with it
-begun_now : (lay : Layout) (h : History) (r : StepRow) (s : ℕ) (call : Option MapCall) → IsBegin h r s → MayMakeOf call lay h s → HasBegunOf call lay (r ⊳ h) s
-begun_now lay h r s (Some (Edit edit)) b x = record { row = r; before = h; within = ends_self (r ⊳ h); begins = b; edit = x }
-begun_now lay h r s call b x = absurd x
+begun_now : (lay : Layout) (h : History) (r : StepRow) (s : ℕ) (begun : Begun) → IsBegin h r s → MayMake lay h s begun → HasBegunWith lay (r ⊳ h) s begun
+begun_now lay h r s begun b x = record { row = r; before = h; within = ends_self (r ⊳ h); begins = b; makes = x }
 
 -- it has with one row more
-begun_since : (lay : Layout) (h : History) (r : StepRow) (s : ℕ) (call : Option MapCall) → HasBegunOf call lay h s → HasBegunOf call lay (r ⊳ h) s
-begun_since lay h r s (Some (Edit edit)) x = makes_since lay (r ⊳ h) h s edit (inr (ends_self h)) x
-begun_since lay h r s call x = absurd x
+begun_since : (lay : Layout) (h : History) (r : StepRow) (s : ℕ) (begun : Begun) → HasBegunWith lay h s begun → HasBegunWith lay (r ⊳ h) s begun
+begun_since lay h r s begun x = record { row = x.row; before = x.before; within = inr x.within; begins = x.begins; makes = x.makes }
+
+-- what has begun had begun before a win
+pub begun_before_win : (lay : Layout) (h : History) (row : StepRow) (s : ℕ) (begun : Begun) → IsWin h row s → HasBegunWith lay (row ⊳ h) s begun → HasBegunWith lay h s begun
+begun_before_win lay h row s begun won x = record { row = x.row; before = x.before; within = older x.within; begins = x.begins; makes = x.makes }
+  where
+    older : Extends (row ⊳ h) (x.row ⊳ x.before) → Extends h (x.row ⊳ x.before)
+    older (inl e) = absurd (let z : Update ≡ Freeze = sym won.kind ∙ ap kind_of e ∙ x.begins.kind in cc)
+    older (inr e) = e
 
 -- the shape of the tree allows it
-pub edit_allowed : (lay : Layout) (h : History) (s : ℕ) (call : Option MapCall) → MayMakeOf call lay h s → TreeAllows lay h s
-edit_allowed lay h s (Some (Edit edit)) x = (edit, x)
-edit_allowed lay h s call x = absurd x
+pub edit_allowed : (lay : Layout) (h : History) (s : ℕ) (begun : Begun) → MayMake lay h s begun → TreeAllows lay h s
+edit_allowed lay h s begun x = (edit_begun begun, x.edit)
 
--- an entry of it is one that a call with this command makes
-entry_makes : (lay : Layout) (h : History) (e : Entered) (call : MapCall) → HasBegunOf (Some call) lay h e.scx → IsMapEntry call lay h e
-entry_makes lay h e (Edit edit) x = x
-entry_makes lay h e call x = absurd x
+-- a win makes no SCX-record begin
+win_run : (lay : Layout) (h : History) (row : StepRow) (s : ℕ) → IsTreeRun lay h → IsLawful lay h row → IsWin h row s → IsTreeRun lay (row ⊳ h)
+unfolding Lawful Shaped
+win_run lay h row s g lawful won = (g.0, record { lawful = (g.1.lawful, lawful); shaped = (g.1.shaped, λ t b. absurd (let z : Update ≡ Freeze = sym won.kind ∙ b.kind in cc)) })
 
-pub edit_entry : (lay : Layout) (c : ℕ) (h start : History) (linked : ℕ → Option History) (e : Entered) (command : Command) → HasBegunFor lay h e.scx command → IsEntryFor lay c h start linked e command
-edit_entry lay c h start linked e (Map request) x = entry_makes lay h e (map_request request) x
-edit_entry lay c h start linked e command x = absurd x
+-- what the first leaf of the tree says
+first_is : (h : History) (n key : ℕ) → IsFirstLeaf h n key → first_said (value h) n ≡ Some (pair key (value h (node n Value)))
+first_is h n key x = ap (λ b. cond b (Some (pair (value h (node n Key)) (value h (node n Value)))) None) (eq-eqb (class (value h) n) 0 x.class) ∙ ap (λ (k : ℕ). Some (pair k (value h (node n Value)))) x.same_key
+
+-- an entry of it is one that a call with its command makes
+module _ (lay : Layout) (h : History) (row : StepRow) (e : Entered) (run : IsTreeRun lay (row ⊳ h)) (won : IsWin h row e.scx) where
+  pop_entry : (key : ℕ) → Makes lay h e.scx (Delete key) → IsFirstLeaf h (edit_leaf h e.scx (Delete key)) key → IsPopEntry lay h e.scx
+  pop_entry key x first =
+      let leaf = edit_leaf h e.scx (Delete key) in
+      (pair key (value h (node leaf Value)), x, λ map spells. win_first lay h row e.scx (Delete key) run won x (first.path.0, first.path.1, first.path.3) first.leaf map spells ∙ first_is h leaf key first)
+
+  replace_entry : (key expected put : ℕ) → Makes lay h e.scx (Insert key put) → said (value h) key (edit_leaf h e.scx (Insert key put)) ≡ Some expected → IsReplaceEntry key expected put lay h e.scx
+  replace_entry key expected put x says =
+      let edit : MapEdit = Insert key put in
+      let at = win_makes lay (row ⊳ h) h row e.scx edit run (ends_self (row ⊳ h)) won (makes_since lay (row ⊳ h) h e.scx edit (inr (ends_self h)) x) in
+      (x, λ map spells. at.replies map spells ∙ says)
+
+  entry_makes : (call : MapCall) (edit : MapEdit) → Makes lay h e.scx edit → IsEditBy (Some call) edit → Suits (Some call) h e.scx edit → IsMapEntry call lay h e
+  entry_makes (Edit own) edit x is suited = subst (λ d. Makes lay h e.scx d) (sym is) x
+  entry_makes PopFirst edit x is suited = pop_entry is.0 (subst (λ d. Makes lay h e.scx d) is.1 x) (subst (λ d. IsFirstLeaf h (edit_leaf h e.scx d) (edit_key d)) is.1 suited)
+  entry_makes (ReplaceIf key expected put) edit x is suited = replace_entry key expected put (subst (λ d. Makes lay h e.scx d) is x) (subst (λ d. said (value h) key (edit_leaf h e.scx d) ≡ Some expected) is suited)
+  entry_makes call edit x is suited = absurd is
+
+  entry_by : (c : ℕ) (start : History) (linked : ℕ → Option History) (command : Command) (edit : MapEdit) → Makes lay h e.scx edit → IsEditBy (map_call (Some command)) edit → Suits (map_call (Some command)) h e.scx edit → IsEntryFor lay c h start linked e command
+  entry_by c start linked (Map request) edit x is suited = entry_makes (map_request request) edit x is suited
+  entry_by c start linked command edit x is suited = absurd is
+
+pub edit_entry : (lay : Layout) (c : ℕ) (h start : History) (row : StepRow) (linked : ℕ → Option History) (e : Entered) (begun : Begun) → IsTreeRun lay h → IsLawful lay h row → IsWin h row e.scx → HasBegunWith lay h e.scx begun → IsSuited h e.scx begun → IsEntryFor lay c h start linked e begun.command
+edit_entry lay c h start row linked e begun g lawful won x suited = entry_by lay h row e (win_run lay h row e.scx g lawful won) won c start linked begun.command (edit_begun begun) (made lay h e.scx begun x) x.makes.own suited
+
+-- an entry of a call makes the edit that the call makes of the map that the words spell before it
+entered : (lay : Layout) (h : History) (e : Entered) (call : MapCall) (m : List Pair) → IsMapEntry call lay h e → Spells lay (value h) m → (edit : MapEdit) × (edit_on call m ≡ Some edit) × Makes lay h e.scx edit
+entered lay h e (Edit own) m x spells = (own, refl, x)
+entered lay h e PopFirst m x spells = (Delete x.0.key, ap (λ (o : Option Pair). edit_of PopFirst (pair_or_none o)) (x.2 m spells), x.1)
+entered lay h e (ReplaceIf key expected put) m x spells = (Insert key put, ap (λ (o : Option ℕ). edit_of (ReplaceIf key expected put) (OneValue o)) (x.1 m spells) ∙ ap (λ (b : Bool). cond b (Some (Insert key put)) None) (eq-eqb expected expected refl), x.0)
+entered lay h e call m x spells = absurd x
+
+-- the change that it makes
+change_to : (key turn : ℕ) (value : Option ℕ) (own : MapEdit) → own ≡ edit_to key value → IsChangeByEdit (Some own) record { turn = turn; key = key; value = value }
+change_to key turn None own is = (sym (ap edit_key is), sym (ap value_left is))
+change_to key turn (Some v) own is = (sym (ap edit_key is), sym (ap value_left is))
+
+pub change_made : (lay : Layout) (h : History) (e : Entered) (turn : ℕ) (call : MapCall) (m : List Pair) (begun : Begun) → Lawful lay h → HasBegunWith lay h e.scx begun → IsMapEntry call lay h e → Spells lay (value h) m → IsChangeBy (Some call) m record { turn = turn; key = begun.key; value = begun.value }
+change_made lay h e turn call m begun lawful b x spells =
+    let y = entered lay h e call m x spells in
+    let one : y.0 ≡ edit_begun begun = makes_one lay h e.scx y.0 (edit_begun begun) lawful y.2 (made lay h e.scx begun b) in
+    subst (λ (o : Option MapEdit). IsChangeByEdit o record { turn = turn; key = begun.key; value = begun.value }) (sym y.1) (change_to begun.key turn begun.value y.0 one)
 
 -- what is remembered stays true with one row more
-pub edits_kept : (lay : Layout) (h : History) (r : StepRow) (begun : List (Option Command)) → AreRememberedEdits lay h begun → AreRememberedEdits lay (r ⊳ h) begun
-edits_kept lay h r begun x s command is = begun_since lay h r s (map_call (Some command)) (x s command is)
+pub edits_kept : (lay : Layout) (h : History) (r : StepRow) (edits : List (Option Begun)) → AreRememberedEdits lay h edits → AreRememberedEdits lay (r ⊳ h) edits
+edits_kept lay h r edits x s begun is = begun_since lay h r s begun (x s begun is)
 
 got_set : {X : Type 0} (xs : List X) (i j : ℕ) (new y : X) → slice_get (set xs i new) j ≡ Some y → ((j ≡ i) × (Some new ≡ Some y)) ⊎ (slice_get xs j ≡ Some y)
 got_set [] i j new y e = inr e
@@ -74,22 +143,22 @@ got_set (x ∷ xs) zero (suc j) new y e = inr e
 got_set (x ∷ xs) (suc i) zero new y e = inr e
 got_set (x ∷ xs) (suc i) (suc j) new y e = ⊎_elim (λ q. inl (ap suc q.0, q.1)) (λ q. inr q) (got_set xs i j new y e)
 
--- and with the edit of one that has just begun
-pub edits_set : (lay : Layout) (h : History) (r : StepRow) (begun : List (Option Command)) (s : ℕ) (command : Command) → AreRememberedEdits lay h begun → IsBegin h r s → MayMakeFor lay h s command → AreRememberedEdits lay (r ⊳ h) (set begun s (Some command))
-edits_set lay h r begun s command x b may t other is = ⊎_elim
-    (λ q. let same : command ≡ other = some_command command other (some_some (Some command) (Some other) q.1) in subst (λ (k : Command). HasBegunFor lay (r ⊳ h) t k) same (subst (λ (n : ℕ). HasBegunFor lay (r ⊳ h) n command) (sym q.0) (begun_now lay h r s (map_call (Some command)) b may)))
-    (λ q. begun_since lay h r t (map_call (Some other)) (x t other q))
-    (got_set begun s t (Some command) (Some other) is)
+-- and with one that has just begun
+pub edits_set : (lay : Layout) (h : History) (r : StepRow) (edits : List (Option Begun)) (s : ℕ) (begun : Begun) → AreRememberedEdits lay h edits → IsBegin h r s → MayMake lay h s begun → AreRememberedEdits lay (r ⊳ h) (set edits s (Some begun))
+edits_set lay h r edits s begun x b may t other is = ⊎_elim
+    (λ q. let same : begun ≡ other = some_begun begun other (some_some (Some begun) (Some other) q.1) in subst (λ (k : Begun). HasBegunWith lay (r ⊳ h) t k) same (subst (λ (n : ℕ). HasBegunWith lay (r ⊳ h) n begun) (sym q.0) (begun_now lay h r s begun b may)))
+    (λ q. begun_since lay h r t other (x t other q))
+    (got_set edits s t (Some begun) (Some other) is)
   where
-    some_command : (a b : Command) → Some a ≡ Some b → a ≡ b
-    some_command a b e = cc
+    some_begun : (a b : Begun) → Some a ≡ Some b → a ≡ b
+    some_begun a b e = cc
 
-    some_some : (a b : Option Command) → Some a ≡ Some b → a ≡ b
+    some_some : (a b : Option Begun) → Some a ≡ Some b → a ≡ b
     some_some a b e = cc
 
 -- Lines
 
-module _ (lay : Layout) (tries : ℕ) (calls : List Call) (mode : lay.mode ≡ Tree) (all : AreMapCalls calls) (begun : List (Option Command)) (changed : List Change) (lines : List Line) (x : IsTreeSoFar lay calls begun changed lines) where
+module _ (lay : Layout) (tries : ℕ) (calls : List Call) (mode : lay.mode ≡ Tree) (all : AreMapCalls calls) (begun : List (Option Begun)) (changed : List Change) (lines : List Line) (x : IsTreeSoFar lay calls begun changed lines) where
   spelled_more : (line : Line) → AreLines lay tries calls (line ∷ lines) → IsTreeRun lay (history lay.mode (line ∷ lines)) → HasRisingLevels (history lay.mode (line ∷ lines)) → AreSpelled lay calls (line ∷ lines)
   unfolding AreSpelled
   spelled_more line a g rising = (x.spelled, λ owed. record { spelled = spelled lay tries calls mode all (line ∷ lines) a g owed; rising = rising })
@@ -100,11 +169,11 @@ module _ (lay : Layout) (tries : ℕ) (calls : List Call) (mode : lay.mode ≡ T
   pub tree_reply : (reply : Finished) → AreLines lay tries calls (ReplyLine reply ∷ lines) → IsTreeSoFar lay calls begun changed (ReplyLine reply ∷ lines)
   tree_reply reply a = record { run = x.run; rising = x.rising; spelled = spelled_more (ReplyLine reply) a (mode, x.run) x.rising; edits = x.edits; entries = x.entries }
 
-  pub tree_log : (entry : Entry) (change : Change) → AreLines lay tries calls (Log entry ∷ lines) → IsChangeOf calls entry change → IsTreeSoFar lay calls begun (change ∷ changed) (Log entry ∷ lines)
+  pub tree_log : (entry : Entry) (change : Change) → AreLines lay tries calls (Log entry ∷ lines) → IsChangeOf calls (written_log lines) entry change → IsTreeSoFar lay calls begun (change ∷ changed) (Log entry ∷ lines)
   tree_log entry change a is = record { run = x.run; rising = x.rising; spelled = spelled_more (Log entry) a (mode, x.run) x.rising; edits = x.edits; entries = (is, x.entries) }
 
   -- a step that begins no SCX-record but one that makes an edit, behind which levels rise
-  pub tree_step : (number : ℕ) (row : StepRow) (more : List (Option Command)) → AreLines lay tries calls (Step (Made number row) ∷ lines) → IsLawful lay (history lay.mode lines) row → ((s : ℕ) → IsBegin (history lay.mode lines) row s → TreeAllows lay (history lay.mode lines) s) → HasRisingLevels (row ⊳ history lay.mode lines) → AreRememberedEdits lay (row ⊳ history lay.mode lines) more → IsTreeSoFar lay calls more changed (Step (Made number row) ∷ lines)
+  pub tree_step : (number : ℕ) (row : StepRow) (more : List (Option Begun)) → AreLines lay tries calls (Step (Made number row) ∷ lines) → IsLawful lay (history lay.mode lines) row → ((s : ℕ) → IsBegin (history lay.mode lines) row s → TreeAllows lay (history lay.mode lines) s) → HasRisingLevels (row ⊳ history lay.mode lines) → AreRememberedEdits lay (row ⊳ history lay.mode lines) more → IsTreeSoFar lay calls more changed (Step (Made number row) ∷ lines)
   unfolding Lawful Shaped
   tree_step number row more a lawful allows rising edits = record { run = run; rising = rising; spelled = spelled_more (Step (Made number row)) a (mode, run) rising; edits = edits; entries = x.entries }
     where

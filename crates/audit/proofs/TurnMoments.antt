@@ -8,7 +8,7 @@ use Rattle.arena.specs.declared.step.Row.{Row as StepRow}
 use Rattle.arena.specs.History.{History, ◌⊳◌, value, Extends}
 use Rattle.arena.proofs.Lemmas.{ends_self}
 use Rattle.ordered_map.specs.declared.pair.Pair.{Pair}
-use Rattle.ordered_map.specs.OrderedMap.{get}
+use Rattle.ordered_map.specs.OrderedMap.{first_pair, get}
 use Rattle.ordered_map.specs.Spelled.{Spells}
 use Rattle.script.specs.declared.call.Call.{Call}
 use Rattle.script.specs.declared.command.Command.{Command}
@@ -20,7 +20,7 @@ use Rattle.record.specs.declared.record.Entry.{Entry}
 use Rattle.record.specs.declared.record.Finished.{Finished}
 use Rattle.record.specs.Turns.{client_of, number_of, history, turns, last_client, begin, start, entry_owed}
 use Rattle.record.specs.Commands.{next_command}
-use Rattle.record.specs.Edits.{HadAtKey}
+use Rattle.record.specs.Edits.{HadAtKey, HadFirst}
 use Rattle.record.specs.MapRecord.{written_log, entries_until, map_of, map_at}
 use Rattle.record.specs.SpelledMap.{AreSpelled, IsSpelledAfter}
 use Rattle.record.specs.LawfulRun.{AreLines}
@@ -203,3 +203,9 @@ module _ (lay : Layout) (tries : ℕ) (calls : List Call) (c : ℕ) (command : C
   had_at_key lines first m key answer a x owed idle is e from to gives =
       let y = have_spelled lines a x owed idle first m is e from to in
       (y.row, y.before, y.since, record { moment = y.moment; within = y.within; since = y.behind; map = map_at calls lines m; spelled = y.spelled; gives = gives })
+
+  -- and the pair that is its first, or that there is none
+  pub had_first : (lines : List Line) (first m : ℕ) (answer : Option Pair) → AreLines lay tries calls lines → AreSpelled lay calls lines → entry_owed lay lines ≡ None → (next_command calls lines c ≡ Some command → IsNotIdle lines c) → next_command calls lines c ≡ Some command → begin lines c ≡ Some first → first ≤ m → m ≤ turns lines → first_pair (map_at calls lines m) ≡ answer → HadFirst lay (history lay.mode lines) (start lay.mode lines c) answer
+  had_first lines first m answer a x owed idle is e from to gives =
+      let y = have_spelled lines a x owed idle first m is e from to in
+      (y.row, y.before, y.since, record { moment = y.moment; within = y.within; since = y.behind; map = map_at calls lines m; spelled = y.spelled; is = gives })

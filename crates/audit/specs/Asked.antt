@@ -3,7 +3,9 @@
 use Rattle.std.specs.Prelude.{◌≡◌, ℕ, ◌-◌, List, Option, Some, None}
 use Rattle.arena.specs.declared.layout.Layout.{Layout}
 use Rattle.arena.specs.declared.fault.Resource.{Resource}
-use Rattle.ordered_map.specs.OrderedMap.{MapCall, Edit, MapEdit, edit_key, get, reply}
+use Rattle.ordered_map.specs.OrderedMap.{MapCall, get, reply}
+use Rattle.ordered_map.specs.Replies.{number_reply}
+use Rattle.ordered_map.specs.declared.reply.Reply.{Reply}
 use Rattle.ordered_map.specs.declared.reply.Reply.TheVariants.{Value}
 use Rattle.script.specs.declared.call.Call.{Call}
 use Rattle.script.specs.declared.command.Command.{Command}
@@ -53,13 +55,18 @@ pub record IsAsked (lay : Layout) (tries : ℕ) (calls : List Call) (lines : Lis
 abbrev pub IsTooFewFor : Layout → List Line → Finished → ℕ → Option ℕ → Resource → ℕ → Type 0
 IsTooFewFor lay lines r key old what left = HadAtKey lay (history lay.mode lines) (start lay.mode lines r.client.0) key old × HasTooFewToTry lay r.client.0 (history lay.mode lines) (start lay.mode lines r.client.0) (insert_nodes old) what left
 
--- the answer tells what the map had just before the turn at the key of the command, an edit
+-- the answer tells what the map replied to the command just before the turn
 pub record IsToldBefore (calls : List Call) (lines : List Line) (command : Command) (answer : Answer) (turn : ℕ) : Type 0 where
-  pub told : Option ℕ
-  pub answers : answer ≡ Map (Value told)
-  pub edit : MapEdit
-  pub is : map_call (Some command) ≡ Some (Edit edit)
-  pub had : get (edit_key edit) (map_at calls lines (turn - 1)) ≡ told
+  pub call : MapCall
+  pub is : map_call (Some command) ≡ Some call
+  pub told : reply_told answer ≡ Some (reply call (map_at calls lines (turn - 1)))
+
+-- the command is an ordered read, to which the map replies what is told after the turn
+pub record IsToldAt (calls : List Call) (lines : List Line) (command : Command) (told : Reply ℕ ℕ) (turn : ℕ) : Type 0 where
+  pub ordered : IsOrderedRead command
+  pub call : MapCall
+  pub is : map_call (Some command) ≡ Some call
+  pub replied : number_reply told ≡ Some (reply call (map_at calls lines turn))
 
 -- the reply's moment is the greatest turn of the call after which the map had at the key what it
 -- tells

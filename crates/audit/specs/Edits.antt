@@ -1,31 +1,65 @@
--- Which edit of the map an SCX-record makes.
-use Rattle.std.specs.Prelude.{◌≡◌, ℕ, List, Option, Some, slice_get}
+-- Which edit of the map an SCX-record makes, and for which call.
+use Rattle.std.specs.Prelude.{◌≡◌, ℕ, true, List, Option, Some, None, slice_get}
 use Rattle.arena.specs.declared.layout.Layout.{Layout}
-use Rattle.arena.specs.History.{History}
-use Rattle.script.specs.declared.command.Command.{Command}
-use Rattle.ordered_map.specs.OrderedMap.{MapCall, Edit}
-use Rattle.ordered_map.specs.Runs.{Makes}
-use Rattle.ordered_map.specs.TreeShape.{MayEdit}
+use Rattle.arena.specs.declared.step.Row.{Row}
+use Rattle.arena.specs.declared.word.NodeWord.TheVariants.{Key}
+use Rattle.arena.specs.History.{History, ◌⊳◌, value, Extends}
+use Rattle.arena.specs.Shape.{IsBegin}
+use Rattle.arena.specs.Words.{node}
+use Rattle.ordered_map.specs.OrderedMap.{MapCall, MapEdit, Edit, Insert, Delete, PopFirst, ReplaceIf, edit_key}
+use Rattle.ordered_map.specs.Paths.{Passed}
+use Rattle.ordered_map.specs.TreeShape.{MayEdit, edit_leaf}
+use Rattle.ordered_map.specs.TreeWords.{class, is_leaf, said}
 use Rattle.record.specs.MapRecord.{map_call}
+use Rattle.audit.specs.declared.edits.Begun.{Begun}
 
--- the SCX-record may make the edit that this call is
-abbrev pub MayMakeOf : Option MapCall → Layout → History → ℕ → Type 0
-MayMakeOf (Some (Edit edit)) lay h s = MayEdit lay h s edit
-MayMakeOf _ lay h s = ⊥
+-- the edit that leaves this value to the key
+abbrev pub edit_to : ℕ → Option ℕ → MapEdit
+edit_to key None = Delete key
+edit_to key (Some value) = Insert key value
 
--- that of this command
-abbrev pub MayMakeFor : Layout → History → ℕ → Command → Type 0
-MayMakeFor lay h s command = MayMakeOf (map_call (Some command)) lay h s
+-- the edit that is remembered
+abbrev pub edit_begun : Begun → MapEdit
+edit_begun begun = edit_to begun.key begun.value
 
--- it has begun with the edit that this call is
-abbrev pub HasBegunOf : Option MapCall → Layout → History → ℕ → Type 0
-HasBegunOf (Some (Edit edit)) lay h s = Makes lay h s edit
-HasBegunOf _ lay h s = ⊥
+-- the call may make this edit: a pop takes out some key, a replacement gives its key its value
+abbrev pub IsEditBy : Option MapCall → MapEdit → Type 0
+IsEditBy (Some (Edit own)) edit = own ≡ edit
+IsEditBy (Some PopFirst) edit = (key : ℕ) × (edit ≡ Delete key)
+IsEditBy (Some (ReplaceIf key expected put)) edit = edit ≡ Insert key put
+IsEditBy _ edit = ⊥
 
--- with that of this command
-abbrev pub HasBegunFor : Layout → History → ℕ → Command → Type 0
-HasBegunFor lay h s command = HasBegunOf (map_call (Some command)) lay h s
+-- n is the first leaf of the tree, and has this key
+pub record IsFirstLeaf (h : History) (n key : ℕ) : Type 0 where
+  pub path : Passed h h 0 n
+  pub leaf : is_leaf (value h) n ≡ true
+  pub class : class (value h) n ≡ 0
+  pub same_key : value h (node n Key) ≡ key
 
--- of each SCX-record whose edit is remembered that is the one with which it has begun
-abbrev pub AreRememberedEdits : Layout → History → List (Option Command) → Type 0
-AreRememberedEdits lay h edits = (s : ℕ) (command : Command) → slice_get edits s ≡ Some (Some command) → HasBegunFor lay h s command
+-- the leaf that the SCX-record covers for its edit suits the call: that of a pop is the first one,
+-- that of a replacement says the value that the call expects
+abbrev pub Suits : Option MapCall → History → ℕ → MapEdit → Type 0
+Suits (Some PopFirst) h s edit = IsFirstLeaf h (edit_leaf h s edit) (edit_key edit)
+Suits (Some (ReplaceIf key expected put)) h s edit = said (value h) key (edit_leaf h s edit) ≡ Some expected
+Suits _ h s edit = Unit {0}
+
+-- so does that of an SCX-record that has begun, as it is remembered
+abbrev pub IsSuited : History → ℕ → Begun → Type 0
+IsSuited h s begun = Suits (map_call (Some begun.command)) h s (edit_begun begun)
+
+-- the SCX-record may make the edit that is remembered, which is one of its call
+pub record MayMake (lay : Layout) (h : History) (s : ℕ) (begun : Begun) : Type 0 where
+  pub edit : MayEdit lay h s (edit_begun begun)
+  pub own : IsEditBy (map_call (Some begun.command)) (edit_begun begun)
+
+-- it has begun with it
+pub record HasBegunWith (lay : Layout) (h : History) (s : ℕ) (begun : Begun) : Type 0 where
+  pub row : Row
+  pub before : History
+  pub within : Extends h (row ⊳ before)
+  pub begins : IsBegin before row s
+  pub makes : MayMake lay before s begun
+
+-- of each SCX-record of which one is remembered that is the one with which it has begun
+abbrev pub AreRememberedEdits : Layout → History → List (Option Begun) → Type 0
+AreRememberedEdits lay h edits = (s : ℕ) (begun : Begun) → slice_get edits s ≡ Some (Some begun) → HasBegunWith lay h s begun

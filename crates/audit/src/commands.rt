@@ -5,8 +5,9 @@ ghost use Rattle.record.specs.CommandRules.{rules};
 ghost use Rattle.script.specs.declared.command.Command.TheVariants.{Map as MapCommand};
 ghost use Rattle.record.specs.declared.record.Answer.TheVariants.{Map as MapAnswer};
 ghost use Rattle.record.specs.Rules.Llx.{LlxAfterStep};
-ghost use Rattle.ordered_map.specs.CallRules.{IsFormOfEdit, IsFormOfRange, IsFormOfSuccessor, TakesNothing, form_of};
+ghost use Rattle.ordered_map.specs.CallRules.{IsFormOfEdit, IsFormOfPop, IsFormOfRange, IsFormOfSuccessor, TakesNothing, form_of};
 ghost use Rattle.record.specs.Rules.Range.{RangeAtOnce};
+ghost use Rattle.record.specs.Rules.ReplaceIf.{has_replaced};
 ghost use Rattle.record.specs.Rules.Set.{SetAfterStep};
 
 use arena::{Kind, Limits};
@@ -51,6 +52,8 @@ pub(crate) fn most_steps(command: &Command, limits: &Limits, taken: u64) -> u64
         Command::Set { field: _, value: _ } => 104,
         Command::Map(Request::Insert { key: _, value: _ }) => edit_steps(tries, levels, 178),
         Command::Map(Request::Delete { key: _ }) => edit_steps(tries, levels, 301),
+        Command::Map(Request::PopFirst) => edit_steps(tries, levels, 301),
+        Command::Map(Request::ReplaceIf { .. }) => edit_steps(tries, levels, 178),
         Command::Map(Request::Get { key: _ }) => levels.saturating_mul(3),
         Command::Map(Request::Successor { key: _ }) => tries.saturating_mul(levels.saturating_mul(
             137,
@@ -133,6 +136,8 @@ fn may_reply_after_step(request: &Request<u64, u64>, reply: &Reply<u64, u64>) ->
 {
     match request {
         Request::Insert { key: _, value: _ } | Request::Delete { key: _ } => is_of_edit(reply),
+        Request::PopFirst => is_of_pop(reply),
+        Request::ReplaceIf { .. } => is_of_edit(reply),
         Request::Get { key: _ } => matches!(reply, Reply::Value(_)),
         Request::Successor { key: _ } => is_of_successor(reply),
         Request::Range { .. } => is_of_range(reply),
@@ -163,6 +168,15 @@ fn is_of_edit(reply: &Reply<u64, u64>) -> bool
 {
     match reply {
         Reply::Value(_) | Reply::Contended { .. } | Reply::Full(_) => true,
+        _ => false,
+    }
+}
+
+fn is_of_pop(reply: &Reply<u64, u64>) -> bool
+    ensures { IsTrue result → IsFormOfPop (form_of reply.now) }
+{
+    match reply {
+        Reply::Pair(_) | Reply::Contended { .. } | Reply::Full(_) => true,
         _ => false,
     }
 }
@@ -206,6 +220,18 @@ fn has_changed(request: &Request<u64, u64>, reply: &Reply<u64, u64>) -> bool
     match request {
         Request::Insert { .. } => matches!(reply, Reply::Value(_)),
         Request::Delete { .. } => matches!(reply, Reply::Value(Some(_))),
+        Request::PopFirst => matches!(reply, Reply::Pair(Some(_))),
+        Request::ReplaceIf { expected, .. } => tells(reply, *expected),
+        _ => false,
+    }
+}
+
+/// Whether a reply tells this value.
+fn tells(reply: &Reply<u64, u64>, value: u64) -> bool
+    ensures { result ≡ has_replaced value (MapAnswer reply.now) }
+{
+    match reply {
+        Reply::Value(Some(told)) => *told == value,
         _ => false,
     }
 }
@@ -218,6 +244,8 @@ pub(crate) fn nodes_each(command: &Command) -> u32
         Command::Scx(_) | Command::Set { .. } => 1,
         Command::Map(Request::Insert { .. }) => 3,
         Command::Map(Request::Delete { .. }) => 1,
+        Command::Map(Request::PopFirst) => 1,
+        Command::Map(Request::ReplaceIf { .. }) => 1,
         _ => 0,
     }
 }
@@ -229,6 +257,7 @@ pub(crate) fn most_scx(command: &Command, limits: &Limits) -> u32
     match command {
         Command::Scx(_) | Command::Set { .. } => 1,
         Command::Map(Request::Insert { .. }) | Command::Map(Request::Delete { .. }) => limits.tries,
+        Command::Map(Request::PopFirst) | Command::Map(Request::ReplaceIf { .. }) => limits.tries,
         _ => 0,
     }
 }

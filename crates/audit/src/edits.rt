@@ -1,5 +1,5 @@
 //! Whether an SCX-record that begins makes the edit of its owner's call.
-ghost use Rattle.std.specs.Prelude.{◌≡◌, ◌≢◌, ◌+◌, ◌<◌, ◌↔◌, ◌⊎◌, ℕ, true, false, IsTrue};
+ghost use Rattle.std.specs.Prelude.{◌≡◌, ◌≢◌, ◌+◌, ◌<◌, ◌↔◌, ◌⊎◌, ℕ, true, false, Some, None, IfSome, IsTrue};
 ghost use Rattle.arena.specs.Heads.{head_of};
 ghost use Rattle.arena.specs.History.{value};
 ghost use Rattle.arena.specs.ScxRecords.{plan, member as member_of, seen as seen_at, new, old};
@@ -11,9 +11,11 @@ ghost use Rattle.arena.specs.declared.word.Side.TheVariants.{Left, Right};
 ghost use Rattle.ordered_map.specs.Edits.{IsPairLeaf, IsAlike, IsLeafCopy, IsSwap, IsSplit, IsJoin, HasFieldsOf};
 ghost use Rattle.ordered_map.specs.Paths.{Passed};
 ghost use Rattle.ordered_map.specs.Runs.{IsTreeRun};
-ghost use Rattle.ordered_map.specs.TreeShape.{IsInsert, IsDelete, insert_plan, delete_plan, leaf_place as leaf_place_of, sibling_place as sibling_place_of};
+ghost use Rattle.ordered_map.specs.TreeShape.{IsInsert, IsDelete, insert_plan, delete_plan, leaf_place as leaf_place_of, sibling_place as sibling_place_of, edit_leaf};
 ghost use Rattle.ordered_map.specs.TreeWords.{class, is_leaf, level, rank, toward as toward_of};
-ghost use Rattle.audit.specs.Edits.{MayMakeFor};
+ghost use Rattle.ordered_map.specs.OrderedMap.{Delete};
+ghost use Rattle.record.specs.MapRecord.{map_call};
+ghost use Rattle.audit.specs.Edits.{IsEditBy, IsFirstLeaf, IsSuited, MayMake, edit_begun};
 ghost use Rattle.judge.specs.Histories.{seen_history};
 
 use arena::{Head, NodeNo, NodeWord, ScxNo, ScxWord, Side, Word};
@@ -21,21 +23,122 @@ use judge::Judge;
 use ordered_map::Request;
 use script::Command;
 
-/// Whether an SCX-record is about to make the edit of a call: below a fork on the search path of
-/// the call's key.
-pub(crate) fn makes_edit(judge: &Judge, scx: u64, command: &Command) -> bool
+/// An SCX-record that has begun: it makes an edit, which leaves this value to this key, for a call
+/// with this command.
+#[derive(Clone, Copy, Debug, PartialEq, Eq)]
+pub(crate) struct Begun {
+    pub(crate) command: Command,
+    pub(crate) key: u64,
+    pub(crate) value: Option<u64>,
+}
+
+/// The edit that an SCX-record is about to make for a call: below a fork on the search path of its
+/// key.
+pub(crate) fn begun_for(judge: &Judge, scx: u64, command: &Command) -> Option<Begun>
     requires { IsTreeRun judge.now.layout (seen_history judge.now) }
-    ensures { IsTrue result → MayMakeFor judge.now.layout (seen_history judge.now) scx command.now }
+    ensures command { IfSome result (λ begun. begun.command ≡ command.now) }
+    ensures edit { IfSome result (MayMake judge.now.layout (seen_history judge.now) scx) }
 {
-    let (key, is_edit) = match command {
+    let (begun, is_edit) = match command {
         Command::Map(Request::Insert { key, value }) => (
-            *key,
+            inserting(command, *key, *value),
             is_insert(judge, scx, (*key, *value)),
         ),
-        Command::Map(Request::Delete { key }) => (*key, is_delete(judge, scx, *key)),
-        _ => return false,
+        Command::Map(Request::Delete { key }) => (
+            deleting(command, *key),
+            is_delete(judge, scx, *key),
+        ),
+        Command::Map(Request::PopFirst) => {
+            let key = key_of(judge, member(judge, scx, 2));
+            (deleting(command, key), is_pop(judge, scx, key))
+        }
+        Command::Map(
+            Request::ReplaceIf {
+                key,
+                expected,
+                value,
+            },
+        ) => (
+            inserting(command, *key, *value),
+            is_replacement(judge, scx, (*key, *expected), *value),
+        ),
+        _ => return None,
     };
-    is_edit && is_fork_on_path(judge, key, member(judge, scx, 0))
+    if is_edit && is_fork_on_path(judge, begun.key, member(judge, scx, 0)) {
+        Some(begun)
+    } else {
+        None
+    }
+}
+
+/// Whether an SCX-record takes out this key, and does so in the first leaf unless it can win no more.
+fn is_pop(judge: &Judge, scx: u64, key: u64) -> bool
+    requires { IsTreeRun judge.now.layout (seen_history judge.now) }
+    ensures { IsTrue result → IsDelete (seen_history judge.now) scx key (toward_of (value (seen_history judge.now)) (member_of (seen_history judge.now) scx 1) key) }
+{
+    is_delete(judge, scx, key)
+        && (!is_as_seen(judge, scx, 1) || is_first_leaf(judge, taken_leaf(judge, scx, key), key))
+}
+
+/// Whether an SCX-record gives the key of a pair, where that stands in the leaf that goes, this value.
+fn is_replacement(judge: &Judge, scx: u64, old: (u64, u64), put: u64) -> bool
+    ensures edit { IsTrue result → IsInsert (seen_history judge.now) scx old.0 put }
+    ensures fresh { IsTrue result → is_leaf (value (seen_history judge.now)) (new (seen_history judge.now) scx) ≡ false → (side : SideOf) → IsNamed judge.now.layout (seen_history judge.now) (value (seen_history judge.now) (child_of (new (seen_history judge.now) scx) side)) → ⊥ }
+{
+    is_insert(judge, scx, (old.0, put)) && is_pair_leaf(judge, member(judge, scx, 1), old)
+}
+
+/// Whether the leaf that an SCX-record covers for its edit suits the call that it has begun for: a
+/// pop takes out the first leaf, a replacement one with the value that it expects.
+pub(crate) fn suits(judge: &Judge, scx: u64, begun: &Begun) -> bool
+    requires { IsTreeRun judge.now.layout (seen_history judge.now) }
+    ensures { IsTrue result → IsEditBy (map_call (Some begun.now.command)) (edit_begun begun.now) → IsSuited (seen_history judge.now) scx begun.now }
+{
+    match begun.command {
+        Command::Map(Request::PopFirst) => {
+            is_first_leaf(judge, taken_leaf(judge, scx, begun.key), begun.key)
+        }
+        Command::Map(Request::ReplaceIf { key, expected, .. }) => {
+            is_pair_leaf(judge, member(judge, scx, 1), (key, expected))
+        }
+        _ => true,
+    }
+}
+
+/// The leaf that an SCX-record covers which takes out a key.
+fn taken_leaf(judge: &Judge, scx: u64, key: u64) -> u64
+    ensures { result ≡ edit_leaf (seen_history judge.now) scx (Delete key) }
+{
+    let side = toward(judge, member(judge, scx, 1), key);
+    member(judge, scx, leaf_place(side))
+}
+
+/// Whether a node is the first leaf of the tree, and has this key.
+fn is_first_leaf(judge: &Judge, node: u64, key: u64) -> bool
+    requires { IsTreeRun judge.now.layout (seen_history judge.now) }
+    ensures { IsTrue result → IsFirstLeaf (seen_history judge.now) node key }
+{
+    is_leaf_of(judge, node, key) && is_on_path(judge, 0, node)
+}
+
+fn inserting(command: &Command, key: u64, value: u64) -> Begun
+    ensures { result ≡ record { command = command.now; key = key; value = Some value } }
+{
+    Begun {
+        command: *command,
+        key,
+        value: Some(value),
+    }
+}
+
+fn deleting(command: &Command, key: u64) -> Begun
+    ensures { result ≡ record { command = command.now; key = key; value = None } }
+{
+    Begun {
+        command: *command,
+        key,
+        value: None,
+    }
 }
 
 fn node_word(judge: &Judge, node: u64, part: NodeWord) -> u64
@@ -101,19 +204,27 @@ fn is_above(judge: &Judge, node: u64, key: u64) -> bool
     head(judge, node).class == 0 && key_of(judge, node) < key
 }
 
-/// Whether the search for a key passes this fork. Levels rise, so that it ends.
+/// Whether the search for a key passes this fork.
 fn is_fork_on_path(judge: &Judge, key: u64, fork: u64) -> bool
     requires { IsTreeRun judge.now.layout (seen_history judge.now) }
     ensures path { IsTrue result → Passed (seen_history judge.now) (seen_history judge.now) key fork }
     ensures fork { IsTrue result → is_leaf (value (seen_history judge.now)) fork ≡ false }
 {
+    is_on_path(judge, key, fork) && !head(judge, fork).leaf
+}
+
+/// Whether the search for a key passes this node. Levels rise, so that it ends.
+fn is_on_path(judge: &Judge, key: u64, sought: u64) -> bool
+    requires { IsTreeRun judge.now.layout (seen_history judge.now) }
+    ensures { IsTrue result → Passed (seen_history judge.now) (seen_history judge.now) key sought }
+{
     let mut node = 0;
     let mut left = judge.layout().all_nodes();
-    while node != fork && !head(judge, node).leaf && left > 0 {
+    while node != sought && !head(judge, node).leaf && left > 0 {
         node = child(judge, node, toward(judge, node, key));
         left -= 1;
     }
-    node == fork && !head(judge, node).leaf
+    node == sought
 }
 
 /// Whether two nodes have the same class and key.

@@ -1,7 +1,8 @@
 //! Calls of the map: where they took place, and what they told there.
 ghost use Rattle.std.specs.Prelude.{◌≡◌, ℕ, suc, ◌<◌, ◌≤◌, List, Some, None, IsTrue};
 ghost use Rattle.arena.specs.declared.layout.Layout.{Layout};
-ghost use Rattle.ordered_map.specs.OrderedMap.{get};
+ghost use Rattle.ordered_map.specs.OrderedMap.{OneValue, get};
+ghost use Rattle.ordered_map.specs.Replies.{number_reply};
 ghost use Rattle.script.specs.declared.call.Call.{Call as CallOf};
 ghost use Rattle.script.specs.declared.command.Command.{Command as CommandOf};
 ghost use Rattle.script.specs.declared.command.Command.TheVariants.{Map as MapCommand};
@@ -15,14 +16,14 @@ ghost use Rattle.record.specs.Turns.{history, start, won};
 ghost use Rattle.moments.specs.Entries.{AreEntries, HadWithin};
 ghost use Rattle.moments.specs.Ordered.{FallFrom};
 ghost use Rattle.moments.specs.Places.{changes};
-ghost use Rattle.audit.specs.Asked.{IsAsked, IsToldBefore, IsValueAt, IsReadAt, IsTooFewFor};
+ghost use Rattle.audit.specs.Asked.{IsAsked, IsToldAt, IsToldBefore, IsValueAt, IsReadAt, IsTooFewFor};
 ghost use Rattle.audit.specs.Remembered.{AreRemembered};
 ghost use Rattle.audit.specs.declared.client.Client.{Client as ClientOf};
 
 use crate::client::Client;
 use crate::steps::Steps;
 use arena::Resource;
-use moments::{Places, edited, pairs_told};
+use moments::{Places, pairs_told};
 use ordered_map::{Reply, Request};
 use record::{Answer, Finished};
 use script::Command;
@@ -76,7 +77,7 @@ fn is_placed(
     }
 }
 
-/// Whether a reply tells what the key of an edit had just before a turn.
+/// Whether a reply tells what the map replied to an edit just before a turn.
 fn had_before(
     places: &Places,
     request: &Request<u64, u64>,
@@ -85,13 +86,23 @@ fn had_before(
 ) -> bool
     ensures { (calls : List CallOf) (lines : List Line) → AreEntries calls lines (changes places.now) → IsTrue result → IsToldBefore calls lines (MapCommand request.now) (MapAnswer told.now) turn }
 {
-    let Reply::Value(value) = told else {
-        return false;
-    };
     let before = turn.saturating_sub(1);
-    match edited(Command::Map(*request)) {
-        Some((key, _)) => has_at(places, key, *value, before),
-        None => false,
+    match request {
+        Request::Insert { key, value: _ } => tells_of(places, *key, told, before),
+        Request::Delete { key } => tells_of(places, *key, told, before),
+        Request::ReplaceIf { key, .. } => tells_of(places, *key, told, before),
+        Request::PopFirst => tells_at(places, request, told, before),
+        _ => false,
+    }
+}
+
+/// Whether a reply tells what a key has after a turn.
+fn tells_of(places: &Places, key: u64, told: &Reply<u64, u64>, turn: u64) -> bool
+    ensures { (calls : List CallOf) (lines : List Line) → AreEntries calls lines (changes places.now) → IsTrue result → number_reply told.now ≡ Some (OneValue (get key (map_at calls lines turn))) }
+{
+    match told {
+        Reply::Value(value) => has_at(places, key, *value, turn),
+        _ => false,
     }
 }
 
@@ -110,6 +121,7 @@ fn is_read(
     match request {
         Request::Get { key } => is_read_of(places, *key, told, reply),
         Request::Delete { key } => is_read_of(places, *key, told, reply),
+        Request::ReplaceIf { key, .. } => is_read_of(places, *key, told, reply),
         _ => is_read_at(places, request, told, reply),
     }
 }
@@ -147,12 +159,18 @@ fn is_read_at(
     ensures { (calls : List CallOf) (lines : List Line) → AreEntries calls lines (changes places.now) → FallFrom (suc reply.now.end) (changes places.now) → reply.now.begin ≤ reply.now.end → IsTrue result → IsReadAt calls lines (MapCommand request.now) reply.now }
 {
     let command = Command::Map(*request);
-    let pairs = pairs_told(told);
     let turn = places.greatest_of(&command, told, reply.begin, reply.end);
-    if reply.moment != Some(turn) {
-        return false;
-    }
+    reply.moment == Some(turn) && tells_at(places, request, told, turn)
+}
+
+/// Whether an ordered read, or a pop, tells what the map replies to it after a turn.
+fn tells_at(places: &Places, request: &Request<u64, u64>, told: &Reply<u64, u64>, turn: u64) -> bool
+    ensures { (calls : List CallOf) (lines : List Line) → AreEntries calls lines (changes places.now) → IsTrue result → IsToldAt calls lines (MapCommand request.now) told.now turn }
+{
+    let command = Command::Map(*request);
+    let pairs = pairs_told(told);
     match (request, told) {
+        (Request::PopFirst, Reply::Pair(_)) => places.tells(&command, pairs, turn),
         (Request::Successor { key: _ }, Reply::Pair(_)) => places.tells(&command, pairs, turn),
         (Request::Range { .. }, Reply::Pairs(_)) => places.tells(&command, pairs, turn),
         _ => false,
@@ -187,8 +205,9 @@ fn is_refused(
     }
 }
 
-/// Whether the share of a client has too little for its edit, of three nodes where the key had no
-/// value after some turn of the call, or of one where it had one.
+/// Whether the share of a client has too little for its edit: of three nodes where the key had no
+/// value after some turn of the call; of one where it had one, as a delete finds, or the one that a
+/// replacement expects; or where the map had a pair, for a pop.
 fn is_full(
     steps: &Steps,
     places: &Places,
@@ -206,6 +225,11 @@ fn is_full(
                 || is_full_for_old(steps, places, client, *key, reply, full)
         }
         Request::Delete { key } => is_full_for_old(steps, places, client, *key, reply, full),
+        Request::PopFirst => is_full_for_pair(steps, places, client, reply, full),
+        Request::ReplaceIf { key, expected, .. } => {
+            let pair = (*key, *expected);
+            is_full_for_value(steps, places, client, pair, reply, full)
+        }
         _ => false,
     }
 }
@@ -240,6 +264,44 @@ fn is_full_for_old(
     ensures { (lay : Layout) (tries : ℕ) (calls : List CallOf) (lines : List Line) (command : CommandOf) → IsAsked lay tries calls lines (changes places.now) client.now command reply.now → AreRemembered lay calls lines steps.now → (MayAnswerAtOnce command reply.now.answer → ⊥) → IsTrue result → (v : ℕ) × IsTooFewFor lay lines reply.now key (Some v) full.0 full.1 }
 {
     steps.has_too_few_to_try(client.pass, 1, full) && had_some(places, key, reply)
+}
+
+/// Whether a key had this value after some turn of a call, and the share has too little for another
+/// one.
+fn is_full_for_value(
+    steps: &Steps,
+    places: &Places,
+    client: &Client,
+    pair: (u64, u64),
+    reply: &Finished,
+    full: (Resource, u32),
+) -> bool
+    requires { client.now.pass.0 < steps.now.judge.layout.passes }
+    ensures { (lay : Layout) (tries : ℕ) (calls : List CallOf) (lines : List Line) (command : CommandOf) → IsAsked lay tries calls lines (changes places.now) client.now command reply.now → AreRemembered lay calls lines steps.now → (MayAnswerAtOnce command reply.now.answer → ⊥) → IsTrue result → IsTooFewFor lay lines reply.now pair.0 (Some pair.1) full.0 full.1 }
+{
+    steps.has_too_few_to_try(client.pass, 1, full) && had(places, pair.0, Some(pair.1), reply)
+}
+
+/// Whether the map had a pair, whatever it was, after some turn of a call, and the share has too
+/// little for a pop.
+fn is_full_for_pair(
+    steps: &Steps,
+    places: &Places,
+    client: &Client,
+    reply: &Finished,
+    full: (Resource, u32),
+) -> bool
+    requires { client.now.pass.0 < steps.now.judge.layout.passes }
+    ensures { (lay : Layout) (tries : ℕ) (calls : List CallOf) (lines : List Line) (command : CommandOf) → IsAsked lay tries calls lines (changes places.now) client.now command reply.now → AreRemembered lay calls lines steps.now → (MayAnswerAtOnce command reply.now.answer → ⊥) → IsTrue result → (key v : ℕ) × IsTooFewFor lay lines reply.now key (Some v) full.0 full.1 }
+{
+    steps.has_too_few_to_try(client.pass, 1, full) && had_pair(places, reply)
+}
+
+/// Whether the map had a pair after some turn of a call.
+fn had_pair(places: &Places, reply: &Finished) -> bool
+    ensures { (calls : List CallOf) (lines : List Line) → AreEntries calls lines (changes places.now) → IsTrue result → (key v : ℕ) × HadWithin calls lines key (Some v) reply.now.begin reply.now.end }
+{
+    reply.begin <= reply.end && places.had_pair(reply.begin, reply.end)
 }
 
 /// Whether a key had a value, whatever it was, after some turn of a call.

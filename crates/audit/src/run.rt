@@ -4,21 +4,18 @@ ghost use Rattle.record.specs.declared.record.Entry.{Entry as EntryOf};
 ghost use Rattle.audit.specs.declared.client.Client.{Client as ClientOf};
 ghost use Rattle.audit.specs.After.{lines_of, IsAfter, IsMapAfter, AreRememberedAfter, AreClientsAfter};
 ghost use Rattle.std.specs.Prelude.{◌∷◌, OnOk};
-ghost use Rattle.record.specs.MapRecord.{map_call};
-ghost use Rattle.moments.specs.declared.places.Change.{Change as ChangeOf};
-ghost use Rattle.moments.specs.Entries.{IsChangeBy};
-ghost use Rattle.moments.specs.Places.{changes, Knows, HoldsOfKey};
+ghost use Rattle.moments.specs.Places.{changes};
 ghost use Rattle.record.specs.Steps.{SaysItsCall};
 
 use crate::client::Client;
 use crate::commands::{enters, may_answer_after_step, may_answer_at_once, may_make, most_steps};
-use crate::edits::makes_edit;
+use crate::edits::{Begun, begun_for, suits};
 use crate::fault::{Refused, hold};
 use crate::levels::do_levels_rise;
 use crate::steps::Steps;
 use crate::{cells, map};
 use arena::{Kind, Mode, NoMemory, NodeWord, PassNo, ScxNo, ScxWord, Word};
-use moments::{Change, Places, edited};
+use moments::{Change, Places};
 use record::{Entry, Finished, Line, Record, Row};
 use script::{Call, Command, Script};
 use std::alloc::Global;
@@ -31,8 +28,8 @@ pub(crate) struct Run<'a> {
     pub(crate) at: usize,
     pub(crate) steps: Steps,
     pub(crate) places: Places,
-    /// On the tree, by the numbers of SCX-records: the command whose edit one that has begun makes.
-    pub(crate) edits: Vec<Option<Command>>,
+    /// On the tree, by the numbers of SCX-records: those that have begun.
+    pub(crate) edits: Vec<Option<Begun>>,
     pub(crate) clients: Vec<Client>,
     /// How many turns there were.
     pub(crate) turn: u64,
@@ -74,11 +71,10 @@ impl<'a> Run<'a> {
     ghost use Rattle.arena.specs.Shape.{IsBegin};
     ghost use Rattle.script.specs.declared.command.Command.{Command as CommandOf};
     ghost use Rattle.ordered_map.specs.FillOrder.{HasRisingLevels};
-    ghost use Rattle.record.specs.MapRecord.{map_call};
-    ghost use Rattle.moments.specs.declared.places.Change.{Change as ChangeOf};
-    ghost use Rattle.moments.specs.Entries.{IsChangeBy};
-    ghost use Rattle.moments.specs.Places.{changes, Knows};
-    ghost use Rattle.audit.specs.Edits.{MayMakeFor};
+    ghost use Rattle.moments.specs.Places.{changes};
+    ghost use Rattle.audit.specs.Trees.{HasChangedBy};
+    ghost use Rattle.audit.specs.Edits.{MayMake};
+    ghost use Rattle.audit.specs.declared.edits.Begun.{Begun as BegunOf};
     ghost use Rattle.record.specs.CommandRules.{IsEntryFor, IsRight, IsPlaced, HasTakenFew};
     ghost use Rattle.record.specs.Linked.{linked};
     ghost use Rattle.record.specs.Replies.{IsFitting};
@@ -89,20 +85,20 @@ impl<'a> Run<'a> {
     ghost use Rattle.audit.specs.After.{layout_of, tries_of, calls_of, IsClientAfter};
 
     /// A run of no line of a record. The only error is want of memory.
-    pub(crate) fn new(alloc: Global, record: &'a Record) -> Result<Run<'a>, Refused>
+    pub(crate) fn new(alloc: Global, judged: &'a Record) -> Result<Run<'a>, Refused>
         ensures after { IfOk result (λ run. IsAfter run []) }
         ensures map { IfOk result (λ run. IsMapAfter run []) }
         ensures remembered { IfOk result (λ run. AreRememberedAfter run []) }
         ensures at { IfOk result (λ run. run.at ≡ 0) }
-        ensures record { IfOk result (λ run. run.record.now ≡ «record».now) }
+        ensures record { IfOk result (λ run. run.record.now ≡ judged.now) }
     {
         Ok(Run {
-            record,
+            record: judged,
             at: 0,
-            steps: Steps::new(alloc, &record.script.layout)?,
-            places: Places::new(alloc, record.script.calls.as_slice())?,
-            edits: vec![in alloc; None; record.script.layout.all_scx() as usize]?,
-            clients: clients(alloc, &record.script)?,
+            steps: Steps::new(alloc, &judged.script.layout)?,
+            places: Places::new(alloc, judged.script.calls.as_slice())?,
+            edits: vec![in alloc; None; judged.script.layout.all_scx() as usize]?,
+            clients: clients(alloc, &judged.script)?,
             turn: 0,
             entries: 0,
             last: None,
@@ -284,10 +280,11 @@ impl<'a> Run<'a> {
     {
         self.settled()?;
         self.check_step(number, row)?;
-        self.check_edit(row)?;
+        self.check_levels(row)?;
+        let begun = self.begun_by(row)?;
         let owed = self.owed_by(number, row)?;
         let fits = self.fits_with(row, &owed);
-        self.make(number, row, owed, fits)
+        self.make(number, row, begun, (owed, fits))
     }
 
     /// Whether a step wins with this entry, if there is one.
@@ -361,11 +358,12 @@ impl<'a> Run<'a> {
         requires remembered { AreRememberedAfter self.now (lines_of self.now) }
         requires client { slice_get self.now.clients.items client.now.pass.0 ≡ Some client.now }
         requires command { next_command (calls_of self.now) (lines_of self.now) client.now.pass.0 ≡ Some command.now }
-        ensures { OnOk result ((row : RowOf) (n : ℕ) (side : Side) → IsWin (seen_history self.now.steps.judge) row scx.0 → row.word ≡ child n side → IsEntryFor (layout_of self.now) client.now.pass.0 (seen_history self.now.steps.judge) (start (layout_of self.now).mode (lines_of self.now) client.now.pass.0) (linked (calls_of self.now) (layout_of self.now).mode (lines_of self.now) client.now.pass.0) (entered (layout_of self.now) (seen_history self.now.steps.judge) scx.0 n side row.after) command.now) }
+        ensures { OnOk result ((row : RowOf) (n : ℕ) (side : Side) → IsLawful self.now.steps.judge.layout (seen_history self.now.steps.judge) row → IsWin (seen_history self.now.steps.judge) row scx.0 → row.word ≡ child n side → IsEntryFor (layout_of self.now) client.now.pass.0 (seen_history self.now.steps.judge) (start (layout_of self.now).mode (lines_of self.now) client.now.pass.0) (linked (calls_of self.now) (layout_of self.now).mode (lines_of self.now) client.now.pass.0) (entered (layout_of self.now) (seen_history self.now.steps.judge) scx.0 n side row.after) command.now) }
     {
         match command {
             Command::Map(_) => {
-                hold(self.edit_of(scx) == Some(*command))?;
+                let begun = self.begun_of(command, scx)?;
+                hold(suits(&self.steps.judge, scx.0, &begun))?;
                 Ok(())
             }
             _ => {
@@ -375,85 +373,79 @@ impl<'a> Run<'a> {
         }
     }
 
-    /// On the tree: levels still rise behind a step, and the SCX-record that it begins, if it begins
-    /// one, makes the edit of its client's call.
-    fn check_edit(&self, row: &arena::Row) -> Result<(), Refused>
+    /// On the tree levels still rise behind a step.
+    fn check_levels(&self, row: &arena::Row) -> Result<(), Refused>
         requires after { IsAfter self.now (lines_of self.now) }
-        requires map { IsMapAfter self.now (lines_of self.now) }
         requires found { row.now.before ≡ value (seen_history self.now.steps.judge) row.now.word }
-        ensures rising { OnOk result ((layout_of self.now).mode ≡ Tree → HasRisingLevels (seen_history self.now.steps.judge) → HasRisingLevels (row.now ⊳ seen_history self.now.steps.judge)) }
-        ensures edit { OnOk result ((layout_of self.now).mode ≡ Tree → IsBegin (seen_history self.now.steps.judge) row.now row.now.after → (command : CommandOf) × (next_command (calls_of self.now) (lines_of self.now) row.now.pass.0 ≡ Some command) × MayMakeFor (layout_of self.now) (seen_history self.now.steps.judge) row.now.after command) }
+        ensures { OnOk result ((layout_of self.now).mode ≡ Tree →
+            HasRisingLevels (seen_history self.now.steps.judge) →
+            HasRisingLevels (row.now ⊳ seen_history self.now.steps.judge)) }
     {
         if self.record.script.layout.mode != Mode::Tree {
             return Ok(());
         }
         hold(do_levels_rise(&self.steps.judge, row))?;
-        if self.steps.judge.is_begin(row) {
-            self.check_begun(row)?;
-            Ok(())
-        } else {
-            Ok(())
-        }
+        Ok(())
     }
 
-    /// The SCX-record that a step begins makes the edit of its client's call.
-    fn check_begun(&self, row: &arena::Row) -> Result<(), Refused>
+    /// On the tree: the SCX-record that a step begins, if it begins one, which makes an edit for its
+    /// client's call.
+    fn begun_by(&self, row: &arena::Row) -> Result<Option<Begun>, Refused>
         requires after { IsAfter self.now (lines_of self.now) }
         requires map { IsMapAfter self.now (lines_of self.now) }
-        requires mode { (layout_of self.now).mode ≡ Tree }
-        ensures { OnOk result ((command : CommandOf) × (next_command (calls_of self.now) (lines_of self.now) row.now.pass.0 ≡ Some command) × MayMakeFor (layout_of self.now) (seen_history self.now.steps.judge) row.now.after command) }
+        ensures begins { IfOk result (λ o. IfSome o (λ begun. IsBegin (seen_history self.now.steps.judge) row.now row.now.after)) }
+        ensures next { IfOk result (λ o. IfSome o (λ begun.
+            next_command (calls_of self.now) (lines_of self.now) row.now.pass.0 ≡ Some begun.command)) }
+        ensures edit { IfOk result (λ o. IfSome o (MayMake (layout_of self.now) (seen_history self.now.steps.judge) row.now.after)) }
+        ensures none { result ≡ Ok None → (layout_of self.now).mode ≡ Tree → IsBegin (seen_history self.now.steps.judge) row.now row.now.after → ⊥ }
     {
+        if self.record.script.layout.mode != Mode::Tree || !self.steps.judge.is_begin(row) {
+            return Ok(None);
+        }
         let client = self.client(row.pass)?;
         let Some(command) = self.next(&client) else {
             return Err(Refused::NotLawful);
         };
-        hold(makes_edit(&self.steps.judge, row.after, &command))?;
-        Ok(())
-    }
-
-    /// On the tree: the command of the client's call, if a step begins an SCX-record.
-    fn edit_begun(&self, row: &arena::Row) -> Option<Command>
-        requires { IsAfter self.now (lines_of self.now) }
-        ensures begins { IfSome result (λ command. IsBegin (seen_history self.now.steps.judge) row.now row.now.after) }
-        ensures next { IfSome result (λ command. next_command (calls_of self.now) (lines_of self.now) row.now.pass.0 ≡ Some command) }
-    {
-        if self.record.script.layout.mode != Mode::Tree || !self.steps.judge.is_begin(row) {
-            return None;
-        }
-        match self.client(row.pass) {
-            Ok(client) => self.next(&client),
-            Err(_) => None,
+        match begun_for(&self.steps.judge, row.after, &command) {
+            Some(begun) => Ok(Some(begun)),
+            None => Err(Refused::NotLawful),
         }
     }
 
-    /// The command whose edit an SCX-record makes, on the tree.
-    fn edit_of(&self, scx: ScxNo) -> Option<Command>
-        ensures { IfSome result (λ command. slice_get self.now.edits.items scx.0 ≡ Some (Some command)) }
+    /// An SCX-record that has begun for a call with this command.
+    fn begun_of(&self, command: &Command, scx: ScxNo) -> Result<Begun, Refused>
+        ensures known { IfOk result (λ begun. slice_get self.now.edits.items scx.0 ≡ Some (Some begun)) }
+        ensures own { IfOk result (λ begun. begun.command ≡ command.now) }
     {
         match self.edits.get(scx.0 as usize) {
-            Some(edit) => *edit,
-            None => None,
+            Some(Some(begun)) if begun.command == *command => Ok(*begun),
+            _ => Err(Refused::NotLawful),
         }
     }
 
-    /// Makes a lawful step, which asks for this entry.
+    /// Makes a lawful step, which begins this SCX-record, and asks for this entry, a lawful one or not.
     fn make(
         &mut self,
         number: u64,
         row: &arena::Row,
-        owed: Option<Entry>,
-        fits: bool,
+        begun: Option<Begun>,
+        owed: (Option<Entry>, bool),
     ) -> Result<(), Refused>
         requires after { IsAfter self.old (lines_of self.old) }
         requires map { IsMapAfter self.old (lines_of self.old) }
         requires remembered { AreRememberedAfter self.old (lines_of self.old) }
-        requires rising { (layout_of self.old).mode ≡ Tree → HasRisingLevels (seen_history self.old.steps.judge) → HasRisingLevels (row.now ⊳ seen_history self.old.steps.judge) }
-        requires edit { (layout_of self.old).mode ≡ Tree → IsBegin (seen_history self.old.steps.judge) row.now row.now.after → (command : CommandOf) × (next_command (calls_of self.old) (lines_of self.old) row.now.pass.0 ≡ Some command) × MayMakeFor (layout_of self.old) (seen_history self.old.steps.judge) row.now.after command }
+        requires rising { (layout_of self.old).mode ≡ Tree →
+            HasRisingLevels (seen_history self.old.steps.judge) →
+            HasRisingLevels (row.now ⊳ seen_history self.old.steps.judge) }
+        requires begins { IfSome begun (λ b. IsBegin (seen_history self.old.steps.judge) row.now row.now.after) }
+        requires edit { IfSome begun (MayMake (layout_of self.old) (seen_history self.old.steps.judge) row.now.after) }
+        requires none { begun ≡ None → (layout_of self.old).mode ≡ Tree → IsBegin (seen_history self.old.steps.judge) row.now row.now.after → ⊥ }
         requires settled { OwesNothing (layout_of self.old) (calls_of self.old) (lines_of self.old) }
         requires step { IsStep (layout_of self.old) (tries_of self.old) (calls_of self.old) (lines_of self.old) number row.now }
-        requires owed { entry_of (layout_of self.old) (lines_of self.old) number row.now ≡ owed }
-        requires client { IfSome owed (λ e. e.client.0 < (layout_of self.old).passes) }
-        requires fits { (e : EntryOf) → fits ≡ true → owed ≡ Some e → IsWinOf (layout_of self.old) (calls_of self.old) (lines_of self.old) row.now e }
+        requires owed { entry_of (layout_of self.old) (lines_of self.old) number row.now ≡ owed.0 }
+        requires client { IfSome owed.0 (λ e. e.client.0 < (layout_of self.old).passes) }
+        requires fits { (e : EntryOf) → owed.1 ≡ true → owed.0 ≡ Some e →
+            IsWinOf (layout_of self.old) (calls_of self.old) (lines_of self.old) row.now e }
         ensures after { OnOk result (IsAfter self.new (Line.Step (Row.Step number row.now) ∷ lines_of self.old)) }
         ensures map { OnOk result (IsMapAfter self.new (Line.Step (Row.Step number row.now) ∷ lines_of self.old)) }
         ensures remembered { OnOk result (AreRememberedAfter self.new (Line.Step (Row.Step number row.now) ∷ lines_of self.old)) }
@@ -462,17 +454,15 @@ impl<'a> Run<'a> {
     {
         let client = self.client(row.pass)?;
         hold(client.steps < u64::MAX)?;
-        let edit = self.edit_begun(row);
         self.steps
             .begin(&client, self.record.script.calls.as_slice());
         self.steps.make(row)?;
-        note_edit(&mut self.edits, row.after, edit);
+        note_begun(&mut self.edits, row.after, begun);
         self.clients[row.pass.0 as usize] = client.stepped(number);
-        note_win(&mut self.clients, number, &owed);
+        note_win(&mut self.clients, number, &owed.0);
         self.turn = number;
         self.last = Some(row.pass);
-        self.owed = owed;
-        self.fits = fits;
+        (self.owed, self.fits) = owed;
         self.idle = false;
         self.awaits = false;
         Ok(())
@@ -500,20 +490,19 @@ impl<'a> Run<'a> {
         Ok(())
     }
 
-    /// The map is changed by the call of an entry.
+    /// On the tree the map is changed by the SCX-record of an entry.
     fn change(&mut self, entry: &Entry) -> Result<(), Refused>
-        requires after { IsAfter self.old (lines_of self.old) }
-        requires map { IsMapAfter self.old (lines_of self.old) }
         ensures rest { self.new ≡ record self.old { places = self.new.places } }
-        ensures keys { (key : ℕ) → Knows self.old.places key → Knows self.new.places key }
-        ensures change { OnOk result ((command : CommandOf) → (c : ChangeOf) → next_command (calls_of self.old) (lines_of self.old) entry.now.client.0 ≡ Some command → c.turn ≡ entry.now.step → IsChangeBy (map_call (Some command)) c → changes self.new.places ≡ c ∷ changes self.old.places) }
+        ensures change { OnOk result ((layout_of self.old).mode ≡ Tree →
+            HasChangedBy entry.now self.old.edits.items (changes self.old.places) (changes self.new.places)) }
     {
-        let client = self.client(entry.client)?;
-        let Some(command) = self.next(&client) else {
-            return Err(Refused::NotLawful);
-        };
-        change(&mut self.places, entry.step, command)?;
-        Ok(())
+        if self.record.script.layout.mode != Mode::Tree {
+            return Ok(());
+        }
+        match self.edits.get(entry.scx.0 as usize) {
+            Some(Some(begun)) => push(&mut self.places, entry.step, begun),
+            _ => Err(Refused::NotLawful),
+        }
     }
 
     /// The reply to the call whose last turn is the newest one.
@@ -657,39 +646,23 @@ impl<'a> Run<'a> {
     }
 }
 
-/// An SCX-record has begun that makes the edit of this command, if there is one.
-fn note_edit(edits: &mut Vec<Option<Command>>, scx: u64, edit: Option<Command>)
-    ensures none { edit ≡ None → edits.new.items ≡ edits.old.items }
-    ensures some { IsSome edit → edits.new.items ≡ set edits.old.items scx edit }
+/// This SCX-record has begun, if one has.
+fn note_begun(edits: &mut Vec<Option<Begun>>, scx: u64, begun: Option<Begun>)
+    ensures none { begun ≡ None → edits.new.items ≡ edits.old.items }
+    ensures some { IsSome begun → edits.new.items ≡ set edits.old.items scx begun }
 {
-    if edit.is_some() && (scx as usize) < edits.len() {
-        edits[scx as usize] = edit;
+    if begun.is_some() && (scx as usize) < edits.len() {
+        edits[scx as usize] = begun;
     }
 }
 
-/// The map is changed in a turn by an edit.
-fn change(places: &mut Places, turn: u64, command: Command) -> Result<(), Refused>
-    requires { HoldsOfKey (Knows places.old) command }
-    ensures keys { (key : ℕ) → Knows places.old key → Knows places.new key }
-    ensures change { OnOk result ((c : ChangeOf) → c.turn ≡ turn → IsChangeBy (map_call (Some command)) c → changes places.new ≡ c ∷ changes places.old) }
+/// In a turn the key of an edit gets its value; refused if no call names that key.
+fn push(places: &mut Places, turn: u64, begun: &Begun) -> Result<(), Refused>
+    ensures { OnOk result (changes places.new ≡ record { turn = turn; key = begun.now.key; value = begun.now.value } ∷ changes places.old) }
 {
-    match edited(command) {
-        Some(to) => {
-            push(places, turn, to)?;
-            Ok(())
-        }
-        None => Ok(()),
-    }
-}
-
-/// In a turn the key gets this value.
-fn push(places: &mut Places, turn: u64, to: (u64, Option<u64>)) -> Result<(), Refused>
-    requires { Knows places.old to.0 }
-    ensures keys { (key : ℕ) → Knows places.old key → Knows places.new key }
-    ensures change { OnOk result ((c : ChangeOf) → c.turn ≡ turn → c.key ≡ to.0 → c.value ≡ to.1 → changes places.new ≡ c ∷ changes places.old) }
-{
+    let Begun { key, value, .. } = *begun;
+    hold(places.knows(key))?;
     places.reserve()?;
-    let (key, value) = to;
     places.push(Change { turn, key, value });
     Ok(())
 }

@@ -79,6 +79,13 @@ impl Places {
         Ok(())
     }
 
+    /// Whether a change of this key may be pushed: some call names it.
+    pub fn knows(&self, key: u64) -> bool
+        ensures { IsTrue result → Knows self.now key }
+    {
+        self.newest.contains_key(&key)
+    }
+
     /// One change more, of a key that was known from the start.
     pub fn push(&mut self, change: Change)
         requires room { 1 ≤ room_for_changes self.old }

@@ -1,7 +1,7 @@
 use Rattle.std.proofs.Common.{inl, inr, ap}
 use Rattle.script.specs.declared.command.Command.TheVariants.{Map as MapCommand}
 use Rattle.moments.specs.Places.{changes}
-use Rattle.audit.proofs.MapAnswers.{some_turns, changes_fall, value_answered, read_answered}
+use Rattle.audit.proofs.MapAnswers.{some_turns, changes_fall, value_answered, kept_answered, read_answered}
 use Rattle.audit.proofs.map.is_read.Goals as goal
 
 pub returns-in_default : goal.returns-in_default
@@ -21,3 +21,9 @@ returns-in-Delete-clause-right c lay tries calls lines client x none it = (value
 
 pub returns-in-Delete-clause-placed : goal.returns-in-Delete-clause-placed
 returns-in-Delete-clause-placed c lay tries calls lines client x none it = (value_answered lay tries calls lines (changes c.args.places.now) client c.args.reply.now (MapCommand c.args.request.now) c.in-Delete.key (inr (ap MapCommand c.in-Delete.is)) x none (c.is_read_of-in-Delete.ensures calls lines x.entries it)).placed
+
+pub returns-in-ReplaceIf-clause-right : goal.returns-in-ReplaceIf-clause-right
+returns-in-ReplaceIf-clause-right c lay tries calls lines client x none it = (kept_answered lay tries calls lines (changes c.args.places.now) client c.args.reply.now (MapCommand c.args.request.now) c.in-ReplaceIf.key c.in-ReplaceIf.expected c.in-ReplaceIf.value (ap MapCommand c.in-ReplaceIf.is) x none (c.is_read_of-in-ReplaceIf.ensures calls lines x.entries it)).right
+
+pub returns-in-ReplaceIf-clause-placed : goal.returns-in-ReplaceIf-clause-placed
+returns-in-ReplaceIf-clause-placed c lay tries calls lines client x none it = (kept_answered lay tries calls lines (changes c.args.places.now) client c.args.reply.now (MapCommand c.args.request.now) c.in-ReplaceIf.key c.in-ReplaceIf.expected c.in-ReplaceIf.value (ap MapCommand c.in-ReplaceIf.is) x none (c.is_read_of-in-ReplaceIf.ensures calls lines x.entries it)).placed

@@ -20,7 +20,7 @@ returns-clause-map c =
     let run = c.args.self.now in
     let owed : run.owed ≡ Some c.args.entry.now = search rules in
     let order = (after_log _ _ _ _ _ _ _ _ _ _ _ _ _ c.requires.after c.args.entry.now false owed c.in_ok-hold.ensures).in_order in
-    let kept = map_log _ _ _ run.record.now.script.of_mode _ _ _ c.requires.map c.change.new.self.places c.args.entry.now order c.in_ok-change.ensures.keys c.in_ok-change.ensures.change in
+    let kept = map_log _ _ _ run.record.now.script.of_mode _ _ _ c.requires.map c.change.new.self.places c.args.entry.now order c.in_ok-change.ensures.change in
     subst (λ (r : Run). IsMapSoFar (layout_of r) (calls_of r) r.edits.items c.change.new.self.places (Log c.args.entry.now ∷ lines_of run)) (sym c.in_ok-change.ensures.rest) kept
 
 pub returns-clause-remembered : goal.returns-clause-remembered

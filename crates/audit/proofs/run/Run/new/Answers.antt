@@ -8,9 +8,9 @@ returns-clause-after c = after_start _ _ _ _ _ c.in_ok-new.ensures.layout c.in_o
 
 pub returns-clause-map : goal.returns-clause-map
 returns-clause-map c =
-    let script = c.args.record.now.script in
+    let script = c.args.judged.now.script in
     let begun = c.in_ok-vec.ensures.items_if_clones_equal (λ y p. search (rules, p)) in
-    map_start script.layout script.limits.tries script.calls.items c.in_ok-vec.field-0.items c.in_ok-new-2.field-0 c.all_scx.result script.of_mode begun (rw c.as_slice.ensures.value at c.in_ok-new-2.ensures.keys) c.in_ok-new-2.ensures.none
+    map_start script.layout script.limits.tries script.calls.items c.in_ok-vec.field-0.items c.in_ok-new-2.field-0 c.all_scx.result script.of_mode begun c.in_ok-new-2.ensures.none
 
 pub returns-clause-remembered : goal.returns-clause-remembered
 returns-clause-remembered c = c.in_ok-new.ensures.remembered _

@@ -1,6 +1,6 @@
 use Rattle.ordered_map.specs.Paths.{Passed}
 use Rattle.judge.specs.Histories.{seen_history}
-use Rattle.audit.proofs.edits.is_fork_on_path.Given as goal
+use Rattle.audit.proofs.edits.is_on_path.Given as goal
 
 abbrev pub invariant-loop-node : goal.invariant-loop-node
 invariant-loop-node l = Passed (seen_history l.judge) (seen_history l.judge) l.key l.node

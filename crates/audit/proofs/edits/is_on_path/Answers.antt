@@ -6,7 +6,7 @@ use Rattle.ordered_map.specs.Paths.{Passed}
 use Rattle.ordered_map.specs.TreeWords.{is_leaf, toward}
 use Rattle.ordered_map.proofs.Lemmas.{walk_first, walk_next}
 use Rattle.judge.specs.Histories.{seen_history}
-use Rattle.audit.proofs.edits.is_fork_on_path.Goals as goal
+use Rattle.audit.proofs.edits.is_on_path.Goals as goal
 
 is_not : (b : Bool) → not b ≡ true → b ≡ false
 is_not false e = refl
