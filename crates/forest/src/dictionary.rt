@@ -128,7 +128,7 @@ impl<K: WordKey, V: WordValue> Forest<Dict<K, V>> {
     }
 
     /// Takes the pair with the least key away, if there is one, and tells it. It takes at most a node
-    /// and an SCX-record of the pass's share in a try, and no memory; of an empty dictionary nothing.
+    /// and an SCX-record of the pass's share in a try, and no memory.
     pub fn pop_first(&self, pass: &mut Pass<Dict<K, V>>) -> Result<Option<(K, V)>, UpdateFault>
         requires pass { IsOf self.now pass.old }
         ensures pass { IsOf self.now pass.new }
@@ -144,7 +144,7 @@ impl<K: WordKey, V: WordValue> Forest<Dict<K, V>> {
 
     /// Puts a value at a key that has the expected one, and tells the value that the key had just
     /// before: the map is changed where that is the one expected. It takes at most a node and an
-    /// SCX-record of the pass's share in a try, and no memory; of another value nothing.
+    /// SCX-record of the pass's share in a try, and no memory.
     pub fn replace_if(
         &self,
         pass: &mut Pass<Dict<K, V>>,

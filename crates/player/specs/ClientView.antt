@@ -379,7 +379,8 @@ pub record Refuses (v : ClientView) (c : Client) (answer : Answer) : Type 0 wher
 abbrev pub linked_by : ClientView → Command → Answer → ℕ → Option History
 linked_by v command answer n = linked_then (Some command) answer v.past n (v.linked n)
 
--- the call has changed the map by one row of its own, just before which the map replies this to it
+-- the call has changed the map by one row, the update of an SCX-record of its own, whoever made it;
+-- just before that the map replies this to it
 pub record IsToldChange (v : ClientView) (c : ℕ) (call : MapCall) (told : MapReply) : Type 0 where
   pub row : Row
   pub before : History

@@ -62,8 +62,8 @@ IsPairsMoment calls lines changes (Map (Range low high most)) reply first last w
     IsOrderedMoment calls lines changes (Map (Range low high most)) reply first last moment
 IsPairsMoment calls lines changes command reply first last won moment = moment ≡ None
 
--- the moment of a call that tells a value: of an edit the turn of its entry; a get reads, and so
--- does a delete of an absent key
+-- the moment of a call that tells a value: of an edit the turn of its entry; a get reads, and so do
+-- a delete of an absent key and a replacement that finds another value
 abbrev pub IsValueMoment : List Call → List Line → List Change → Command → Option ℕ → ℕ → ℕ → Option ℕ → Option ℕ → Type 0
 IsValueMoment calls lines changes (Map (Insert key value)) told first last won moment = moment ≡ won
 IsValueMoment calls lines changes (Map (Delete key)) (Some old) first last won moment = moment ≡ won
