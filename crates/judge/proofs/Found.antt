@@ -1,8 +1,7 @@
 -- Where the SCX-record of a row is found.
-use Rattle.std.proofs.Common.{◌≡◌, ◌≢◌, ℕ, ◌<◌, ◌≤◌, ◌⊎◌, ⊎_elim, Bool, true, false, sym, ◌∙◌, ap, arith}
+use Rattle.std.proofs.Common.{◌≡◌, ◌≢◌, ℕ, ◌<◌, ◌≤◌, ⊎_elim, Bool, true, false, sym, ◌∙◌, ap, arith}
 use Rattle.std.proofs.lemmas.Bool.{cases_lt}
 use Rattle.arena.specs.declared.layout.Layout.{Layout}
-use Rattle.arena.specs.declared.word.Side.{Side}
 use Rattle.arena.specs.declared.word.NodeWord.{NodeWord}
 use Rattle.arena.specs.declared.word.ScxWord.TheVariants.{AllFrozen, Plan}
 use Rattle.arena.specs.declared.word.Word.{Word}
@@ -11,10 +10,10 @@ use Rattle.arena.specs.declared.step.Kind.TheVariants.{Update}
 use Rattle.arena.specs.declared.step.Row.{Row}
 use Rattle.arena.specs.Layout.{all_scx}
 use Rattle.arena.specs.Words.{node, scx, info}
-use Rattle.arena.specs.History.{History, ◌⊳◌, value}
+use Rattle.arena.specs.History.{History, value}
 use Rattle.arena.specs.Lawful.{Lawful, IsFreeze, IsMark, IsUpdate}
 use Rattle.arena.specs.ScxRecords.{count, count_of, member, seen, old, field_index}
-use Rattle.histories.proofs.Lemmas.{Facts, UpdateWins, facts, update_holds}
+use Rattle.histories.proofs.Lemmas.{UpdateWins, facts, update_holds}
 use Rattle.judge.proofs.Spreading.{same_or}
 use Rattle.judge.proofs.Words.{value_outside}
 

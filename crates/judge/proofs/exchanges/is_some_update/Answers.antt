@@ -1,4 +1,4 @@
-use Rattle.std.proofs.Common.{◌≡◌, ◌≢◌, ℕ, true, false, sym, ◌∙◌, subst, eqb-true}
+use Rattle.std.proofs.Common.{◌≡◌, ◌≢◌, ℕ, true, sym, ◌∙◌, subst, eqb-true}
 use Rattle.arena.specs.History.{value}
 use Rattle.arena.specs.Lawful.{IsUpdate}
 use Rattle.arena.specs.Words.{info}

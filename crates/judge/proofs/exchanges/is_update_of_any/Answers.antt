@@ -1,5 +1,4 @@
 use Rattle.std.proofs.Common.{arith}
-use Rattle.arena.specs.Layout.{all_scx}
 use Rattle.judge.specs.Histories.{seen_history}
 use Rattle.judge.proofs.Found.{flagged_inside}
 use Rattle.judge.proofs.exchanges.is_update_of_any.Goals as goal

@@ -1,7 +1,5 @@
-use Rattle.std.proofs.Common.{◌≡◌, ◌+◌, true, false, length, take, sym, ◌∙◌}
+use Rattle.std.proofs.Common.{◌≡◌, ◌+◌, true, sym, ◌∙◌}
 use Rattle.arena.specs.History.{Start}
-use Rattle.arena.specs.Lawful.{Lawful, IsLawful}
-use Rattle.judge.specs.Histories.{history_after}
 use Rattle.judge.proofs.Judged.{past_step, lawful_next, lawful_newest, lawful_take}
 use Rattle.judge.proofs.run.first_unlawful.Goals as goal
 

@@ -1,9 +1,8 @@
-use Rattle.std.proofs.Common.{◌≡◌, ℕ, ◌<◌, replicate, length, rules, ◌∙◌, sym, arith, get_or-set_other, get_or-set_same}
+use Rattle.std.proofs.Common.{◌≡◌, ◌<◌, replicate, length, rules, ◌∙◌, arith, get_or-set_other, get_or-set_same}
 use Rattle.std.proofs.lemmas.List.{length-replicate}
 use Rattle.std.proofs.Math.ListN.{length-set}
 use Rattle.arena.specs.Layout.{all_nodes}
 use Rattle.histories.proofs.Lemmas.{some_open}
-use Rattle.judge.specs.Uses.{held_nodes}
 use Rattle.judge.specs.declared.uses.Users.TheVariants.{Nobody, Several}
 use Rattle.judge.proofs.Used.{uses_start, no_users}
 use Rattle.judge.proofs.uses.Uses.new.Goals as goal
