@@ -8,7 +8,7 @@ use Rattle.arena.specs.Lawful.{Lawful}
 use Rattle.judge.specs.Graph.{IsReached, links_of}
 use Rattle.judge.specs.Naming.{NamingStands, named_links}
 use Rattle.judge.specs.declared.naming.Naming.{Naming}
-use Rattle.judge.proofs.Names.{node_named, named_node, node_shown, scx_named, named_scx}
+use Rattle.judge.proofs.Names.{node_named, named_node, node_shown, shown_reached, scx_named, named_scx}
 
 module _ (lay : Layout) (h : History) (n : Naming) (lawful : Lawful lay h) (s : NamingStands lay h n) where
   -- the place by the layout, and the links by the history
@@ -21,9 +21,12 @@ module _ (lay : Layout) (h : History) (n : Naming) (lawful : Lawful lay h) (s : 
   pub node_asked : (m : ℕ) (b : Bool) → m < all_nodes lay → IsTrue b ↔ IsReached (links_of n.graph) m → IsTrue b ↔ IsNamed lay h m
   node_asked m b l p = (λ t. node_named lay h lawful m l (there m m refl (p.0 t)), λ q. p.1 (back m m refl (named_node lay h lawful m l q)))
 
-  pub shown_asked : (m : ℕ) (b : Bool) → (IsTrue b → (m < n.nodes) × IsReached (links_of n.graph) (n.nodes + m)) → IsTrue b → IsInField lay h m
+  pub shown_inside : (m : ℕ) (b : Bool) → IsTrue b ↔ ((m < n.nodes) × IsReached (links_of n.graph) (n.nodes + m)) → m < all_nodes lay → IsInField lay h m → IsTrue b
+  shown_inside m b p l q = p.1 (rw s.nodes l, back (all_nodes lay + m) (n.nodes + m) (rw s.nodes refl) (shown_reached lay h lawful m l q))
+
+  pub shown_asked : (m : ℕ) (b : Bool) → IsTrue b ↔ ((m < n.nodes) × IsReached (links_of n.graph) (n.nodes + m)) → IsTrue b → IsInField lay h m
   shown_asked m b p t =
-      let r = p t in
+      let r = p.0 t in
       node_shown lay h lawful m (rw (← s.nodes) (r.0)) (there (n.nodes + m) (all_nodes lay + m) (rw s.nodes refl) r.1)
 
   pub scx_asked : (u : ℕ) (b : Bool) → IsTrue b ↔ ((u < n.scxs) × IsReached (links_of n.graph) (2 * n.nodes + u)) → IsTrue b ↔ IsNamedScx h u

@@ -2,6 +2,7 @@ mod Counts
 mod Chains
 mod Spreading
 mod Names
+mod Found
 mod Frozen
 mod Used
 mod Taken

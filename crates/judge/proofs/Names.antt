@@ -339,6 +339,14 @@ module _ (lay : Layout) (h : History) (lawful : Lawful lay h) where
   pub node_shown : (n : ℕ) → n < all_nodes lay → IsReached (named_links lay h) (all_nodes lay + n) → IsInField lay h n
   node_shown n l p = (means lay h lawful (all_nodes lay + n) p).shown n l refl
 
+  pub shown_reached : (n : ℕ) → n < all_nodes lay → IsInField lay h n → IsReached (named_links lay h) (all_nodes lay + n)
+  shown_reached n l (inl e) = along 0 first ((start_links lay h).0 n e).1
+  shown_reached n l (inr x) = by_link (field_link lay h x.0 x.1 n lawful l x.3)
+    where
+      by_link : FieldLink lay h x.0 n → IsReached (named_links lay h) (all_nodes lay + n)
+      by_link (inl e) = along 0 first ((start_links lay h).0 n e).1
+      by_link (inr k) = along x.0 (named_reached x.0 k.0 x.2) k.2
+
   pub scx_named : (s : ℕ) → IsReached (named_links lay h) (2 * all_nodes lay + s) → IsNamedScx h s
   scx_named s p = (means lay h lawful (2 * all_nodes lay + s) p).begun s refl
 

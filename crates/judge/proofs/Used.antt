@@ -1,50 +1,144 @@
 -- A row, and what fields and `new` have held.
-use Rattle.std.proofs.Common.{◌≡◌, ℕ, ◌<◌, ⊎_elim, Bool, true, false, List, length, refl, sym, ◌∙◌, ap, subst, arith, get_or-set_other, get_or-set_same, eq-eqb, ne_eqb}
+use Rattle.std.proofs.Common.{◌≡◌, ◌≢◌, ◌↔◌, ℕ, zero, suc, ◌+◌, ◌<◌, ◌⊎◌, inl, inr, ⊎_elim, Bool, true, false, not, IsTrue, cond, eqb, List, length, replicate, refl, sym, ◌∙◌, ap, subst, arith, get_or-set_other, get_or-set_same, eq-eqb, ne_eqb}
 use Rattle.std.proofs.Math.ListN.{length-set}
 use Rattle.std.specs.Prelude.{slice_set, slice_index_or}
 use Rattle.arena.specs.declared.layout.Layout.{Layout}
+use Rattle.arena.specs.declared.limits.Mode.{Mode}
+use Rattle.arena.specs.declared.limits.Mode.TheVariants.{Tree, Records}
 use Rattle.arena.specs.declared.word.Side.{Side}
+use Rattle.arena.specs.declared.word.Side.TheVariants.{Left, Right}
 use Rattle.arena.specs.declared.word.NodeWord.TheVariants.{Head, Key, Value, Child, Info, Marked}
 use Rattle.arena.specs.declared.word.ScxWord.TheVariants.{State, AllFrozen, Plan, New, Old, Member, Seen, Call}
 use Rattle.arena.specs.declared.word.Word.{Word}
 use Rattle.arena.specs.declared.word.Word.TheVariants.{Node, Scx}
 use Rattle.arena.specs.declared.step.Row.{Row}
-use Rattle.arena.specs.Layout.{all_nodes, opening_nodes}
+use Rattle.arena.specs.Layout.{all_nodes, opening}
 use Rattle.arena.specs.Words.{child, scx}
-use Rattle.arena.specs.History.{History, Start, ◌⊳◌}
-use Rattle.arena.proofs.Lemmas.{held_start, opening_scx}
-use Rattle.histories.proofs.Lemmas.{value_start, opening_field}
+use Rattle.arena.specs.History.{History, Start, ◌⊳◌, HasHeld}
+use Rattle.arena.proofs.Lemmas.{held_at, held_more, held_start, opening_scx}
+use Rattle.histories.proofs.Lemmas.{value_start}
 use Rattle.judge.specs.declared.uses.Users.{Users}
 use Rattle.judge.specs.declared.uses.Users.TheVariants.{Nobody, One, Several}
 use Rattle.judge.specs.declared.uses.Uses.{Uses}
-use Rattle.judge.specs.Uses.{MayBe, with_user, users_of, fields_after, users_after, UsesStand}
+use Rattle.judge.specs.Uses.{held_nodes, has_other, with_user, users_of, fields_after, users_after, WasInField, WasInOtherNew, AreUsers, UsesStand}
 use Rattle.judge.proofs.Counts.{set_here, set_there}
-use Rattle.judge.proofs.Spreading.{same_or, flag_inside}
-use Rattle.judge.proofs.Names.{held_by_row}
+use Rattle.judge.proofs.Spreading.{same_or}
+use Rattle.judge.proofs.Names.{held_by_row, held_row}
 
--- one more user
-may_new : (o : Users) (s : ℕ) → MayBe (with_user o s) s
-may_new Nobody s = refl
-may_new (One u) s = ⊎_elim (λ e. rw (eq-eqb u s e) e) (λ d. rw (ne_eqb u s d) tt) (same_or u s)
-may_new Several s = tt
+-- whether the word is a field, or `new`
 
-may_keep : (o : Users) (t s : ℕ) → MayBe o s → MayBe (with_user o t) s
-may_keep Nobody t s p = absurd p
-may_keep (One u) t s p = ⊎_elim (λ e. rw (eq-eqb u t e) p) (λ d. rw (ne_eqb u t d) tt) (same_or u t)
-may_keep Several t s p = tt
+abbrev is_field : Word → Bool
+is_field (Node n (Child side)) = true
+is_field _ = false
 
--- what was set stays set
-set_keep : (flags : List Bool) (v n : ℕ) → slice_index_or flags n false ≡ true → slice_index_or (slice_set flags v true) n false ≡ true
-set_keep flags v n e = ⊎_elim (λ same. let l : v < length flags = rw (← same) (flag_inside flags n e) in rw same (set_here flags v l)) (λ d. set_there flags v n d ∙ e) (same_or n v)
+abbrev is_new : Word → Bool
+is_new (Scx s New) = true
+is_new _ = false
 
-fields_keep : (w : Word) (v n : ℕ) (flags : List Bool) → slice_index_or flags n false ≡ true → slice_index_or (fields_after w v flags) n false ≡ true
-fields_keep (Node m (Child side)) v n flags e = set_keep flags v n e
-fields_keep (Node m Head) v n flags e = e
-fields_keep (Node m Key) v n flags e = e
-fields_keep (Node m Value) v n flags e = e
-fields_keep (Node m Info) v n flags e = e
-fields_keep (Node m Marked) v n flags e = e
-fields_keep (Scx s part) v n flags e = e
+abbrev scx_number : Word → ℕ
+scx_number (Scx s part) = s.0
+scx_number (Node n part) = 0
+
+other_word : (b c : Bool) → b ≡ true → c ≡ false → b ≡ c → ⊥
+other_word b c p q e = let both : true ≡ false = sym p ∙ e ∙ q in cc
+
+-- Fields
+
+module _ (r : Row) (h : History) (n : ℕ) (flags : List Bool) where
+  abbrev Flagged : List Bool → History → Type 0
+  Flagged list k = slice_index_or list n false ≡ true ↔ WasInField k n
+
+  field_more : WasInField h n → WasInField (r ⊳ h) n
+  field_more x = (x.0, x.1, held_more r h (child x.0 x.1) n x.2)
+
+  field_back : ((m : ℕ) (side : Side) → ¬ ((r.word ≡ child m side) × (r.after ≡ n))) → WasInField (r ⊳ h) n → WasInField h n
+  field_back never x = (x.0, x.1, ⊎_elim (λ e. absurd (never x.0 x.1 e)) (λ q. q) (held_by_row r h (child x.0 x.1) n x.2))
+
+  flags_same : (w : Word) → r.word ≡ w → is_field w ≡ false → Flagged flags h → Flagged flags (r ⊳ h)
+  flags_same w e b p = (λ t. field_more (p.0 t), λ x. p.1 (field_back (λ m side q. other_word (is_field (child m side)) (is_field w) refl b (ap is_field (sym q.0 ∙ e))) x))
+
+  flag_now : (w : Word) → r.word ≡ w → n < length flags → Flagged flags h → Flagged (fields_after w r.after flags) (r ⊳ h)
+  flag_now (Node m (Child side)) e l p = ⊎_elim
+      (λ same. (λ t. (m.0, side, rw same (held_row r h (child m.0 side) e)), λ x. rw (← same) (set_here flags n l)))
+      (λ d. let there = set_there flags r.after n d in (λ t. field_more (p.0 (sym there ∙ t)), λ x. there ∙ p.1 (field_back (λ k from q. d (sym q.1)) x)))
+      (same_or n r.after)
+  flag_now (Node m Head) e l p = flags_same (Node m Head) e refl p
+  flag_now (Node m Key) e l p = flags_same (Node m Key) e refl p
+  flag_now (Node m Value) e l p = flags_same (Node m Value) e refl p
+  flag_now (Node m Info) e l p = flags_same (Node m Info) e refl p
+  flag_now (Node m Marked) e l p = flags_same (Node m Marked) e refl p
+  flag_now (Scx s part) e l p = flags_same (Scx s part) e refl p
+
+-- Users
+
+module _ (r : Row) (h : History) (n : ℕ) where
+  abbrev NoMore : Type 0
+  NoMore = (s : ℕ) → HasHeld (r ⊳ h) (scx s New) n → HasHeld h (scx s New) n
+
+  users_same : (o : Users) → NoMore → AreUsers h n o → AreUsers (r ⊳ h) n o
+  users_same Nobody b a = λ s p. a s (b s p)
+  users_same (One u) b a = (held_more r h (scx u New) n a.0, λ s p. a.1 s (b s p))
+  users_same Several b a = λ s. let x = a s in (x.0, x.1, held_more r h (scx x.0 New) n x.2)
+
+  back_unless : ((s : ℕ) → ¬ ((r.word ≡ scx s New) × (r.after ≡ n))) → NoMore
+  back_unless never s p = ⊎_elim (λ e. absurd (never s e)) (λ q. q) (held_by_row r h (scx s New) n p)
+
+  module _ (t : ℕ) (e : r.word ≡ scx t New) (d : r.after ≡ n) where
+    here : HasHeld (r ⊳ h) (scx t New) n
+    here = rw (← d) (held_row r h (scx t New) e)
+
+    this_or_old : (s : ℕ) → HasHeld (r ⊳ h) (scx s New) n → (s ≡ t) ⊎ HasHeld h (scx s New) n
+    this_or_old s p = ⊎_elim (λ q. inl (ap scx_number (sym q.0 ∙ e))) (λ q. inr q) (held_by_row r h (scx s New) n p)
+
+    both_are : (u : ℕ) → u ≢ t → HasHeld h (scx u New) n → (s : ℕ) → WasInOtherNew (r ⊳ h) s n
+    both_are u apart p s = ⊎_elim (λ q. (t, λ z. apart (sym q ∙ sym z), here)) (λ q. (u, λ z. q (sym z), held_more r h (scx u New) n p)) (same_or s u)
+
+    user_more : (o : Users) → AreUsers h n o → AreUsers (r ⊳ h) n (with_user o t)
+    user_more Nobody a = (here, λ s p. ⊎_elim (λ q. q) (λ q. absurd (a s q)) (this_or_old s p))
+    user_more (One u) a = ⊎_elim
+        (λ same. rw (eq-eqb u t same) (held_more r h (scx u New) n a.0, λ s p. ⊎_elim (λ q. q ∙ sym same) (λ q. a.1 s q) (this_or_old s p)))
+        (λ apart. rw (ne_eqb u t apart) (both_are u apart a.0))
+        (same_or u t)
+    user_more Several a = λ s. let x = a s in (x.0, x.1, held_more r h (scx x.0 New) n x.2)
+
+  users_other : (users : List Users) (w : Word) → r.word ≡ w → is_new w ≡ false → AreUsers h n (users_of users n) → AreUsers (r ⊳ h) n (users_of users n)
+  users_other users w e b a = users_same (users_of users n) (back_unless (λ s q. other_word (is_new (scx s New)) (is_new w) refl b (ap is_new (sym q.0 ∙ e)))) a
+
+  users_now : (users : List Users) (w : Word) → r.word ≡ w → n < length users → AreUsers h n (users_of users n) → AreUsers (r ⊳ h) n (users_of (users_after w r.after users) n)
+  users_now users (Scx t New) e l a = ⊎_elim
+      (λ same.
+      let at : users_of (users_after (Scx t New) r.after users) n ≡ with_user (users_of users n) t.0 = rw (← same) (get_or-set_same users n (with_user (users_of users n) t.0) Nobody l) in
+      subst (λ (o : Users). AreUsers (r ⊳ h) n o) (sym at) (user_more t.0 e (sym same) (users_of users n) a))
+      (λ d.
+      let at : users_of (users_after (Scx t New) r.after users) n ≡ users_of users n = get_or-set_other users r.after n (with_user (users_of users r.after) t.0) Nobody d in
+      subst (λ (o : Users). AreUsers (r ⊳ h) n o) (sym at) (users_same (users_of users n) (back_unless (λ s q. d (sym q.1))) a))
+      (same_or n r.after)
+  users_now users (Scx t State) e l a = users_other users (Scx t State) e refl a
+  users_now users (Scx t AllFrozen) e l a = users_other users (Scx t AllFrozen) e refl a
+  users_now users (Scx t Plan) e l a = users_other users (Scx t Plan) e refl a
+  users_now users (Scx t Old) e l a = users_other users (Scx t Old) e refl a
+  users_now users (Scx t (Member j)) e l a = users_other users (Scx t (Member j)) e refl a
+  users_now users (Scx t (Seen j)) e l a = users_other users (Scx t (Seen j)) e refl a
+  users_now users (Scx t Call) e l a = users_other users (Scx t Call) e refl a
+  users_now users (Node m part) e l a = users_other users (Node m part) e refl a
+
+-- what they say of others than one SCX-record
+pub others_asked : (h : History) (n u : ℕ) (o : Users) → AreUsers h n o → IsTrue (has_other o u) ↔ WasInOtherNew h u n
+others_asked h n u Nobody a = (λ t. absurd (cc), λ x. absurd (a x.0 x.2))
+others_asked h n u (One v) a = ⊎_elim
+    (λ same. (λ t. absurd (let z : not true ≡ true = rw (eq-eqb v u same) at t in cc), λ x. absurd (x.1 (a.1 x.0 x.2 ∙ same))))
+    (λ d. (λ t. (v, d, a.0), λ x. rw (ne_eqb v u d) refl))
+    (same_or v u)
+others_asked h n u Several a = (λ t. a u, λ x. refl)
+
+-- what the lists say
+pub field_asked : (lay : Layout) (h : History) (u : Uses) → UsesStand lay h u → (n : ℕ) (b : Bool) → n < all_nodes lay → b ≡ slice_index_or u.in_field.items n false → IsTrue b ↔ WasInField h n
+field_asked lay h u s n b l e = rw e (s.fields n l)
+
+pub new_asked : (lay : Layout) (h : History) (u : Uses) → UsesStand lay h u → (t n : ℕ) (b : Bool) → n < all_nodes lay → b ≡ has_other (users_of u.users.items n) t → IsTrue b ↔ WasInOtherNew h t n
+new_asked lay h u s t n b l e = rw e (others_asked h n t (users_of u.users.items n) (s.users n l))
+
+-- The lists
 
 fields_long : (w : Word) (v : ℕ) (flags : List Bool) → length (fields_after w v flags) ≡ length flags
 fields_long (Node m (Child side)) v flags = length-set flags v true
@@ -54,26 +148,6 @@ fields_long (Node m Value) v flags = refl
 fields_long (Node m Info) v flags = refl
 fields_long (Node m Marked) v flags = refl
 fields_long (Scx s part) v flags = refl
-
-user_keep : (users : List Users) (t v n s : ℕ) → n < length users → MayBe (users_of users n) s → MayBe (users_of (slice_set users v (with_user (users_of users v) t)) n) s
-user_keep users t v n s l p = ⊎_elim
-    (λ same.
-    let more = may_keep (users_of users n) t s p in
-    let at : users_of (slice_set users v (with_user (users_of users v) t)) n ≡ with_user (users_of users n) t = ap (λ k. users_of (slice_set users k (with_user (users_of users k) t)) n) (sym same) ∙ get_or-set_same users n (with_user (users_of users n) t) Nobody l in
-    subst (λ (o : Users). MayBe o s) (sym at) more)
-    (λ d. subst (λ (o : Users). MayBe o s) (sym (get_or-set_other users v n (with_user (users_of users v) t) Nobody d)) p)
-    (same_or n v)
-
-users_keep : (w : Word) (v n s : ℕ) (users : List Users) → n < length users → MayBe (users_of users n) s → MayBe (users_of (users_after w v users) n) s
-users_keep (Scx t New) v n s users l p = user_keep users t.0 v n s l p
-users_keep (Scx t State) v n s users l p = p
-users_keep (Scx t AllFrozen) v n s users l p = p
-users_keep (Scx t Plan) v n s users l p = p
-users_keep (Scx t Old) v n s users l p = p
-users_keep (Scx t (Member j)) v n s users l p = p
-users_keep (Scx t (Seen j)) v n s users l p = p
-users_keep (Scx t Call) v n s users l p = p
-users_keep (Node m part) v n s users l p = p
 
 users_long : (w : Word) (v : ℕ) (users : List Users) → length (users_after w v users) ≡ length users
 users_long (Scx t New) v users = length-set users v (with_user (users_of users v) t.0)
@@ -90,24 +164,73 @@ pub uses_more : (lay : Layout) (h : History) (r : Row) (u new : Uses) → UsesSt
 uses_more lay h r u new old f g = record {
   fields_size = ap length f ∙ fields_long r.word r.after u.in_field.items ∙ old.fields_size;
   users_size = ap length g ∙ users_long r.word r.after u.users.items ∙ old.users_size;
-  fields = λ n m side l p. rw f (⊎_elim (λ e. field_now n m side l e.0 e.1) (λ q. fields_keep r.word r.after n u.in_field.items (old.fields n m side l q)) (held_by_row r h (child m side) n p));
-  users = λ n s l p. rw g (⊎_elim (λ e. user_now n s l e.0 e.1) (λ q. users_keep r.word r.after n s u.users.items (rw old.users_size l) (old.users n s l q)) (held_by_row r h (scx s New) n p));
+  fields = λ n l. rw f (flag_now r h n u.in_field.items r.word refl (rw old.fields_size l) (old.fields n l));
+  users = λ n l. rw g (users_now r h n u.users.items r.word refl (rw old.users_size l) (old.users n l));
 }
+
+-- At the start
+
+field_held : (mode : Mode) (m : ℕ) (side : Side) → opening mode (child m side) < held_nodes mode
+field_held Tree m Left = cases (eqb m 0)
   where
-    field_now : (n m : ℕ) (side : Side) → n < all_nodes lay → r.word ≡ child m side → r.after ≡ n → slice_index_or (fields_after r.word r.after u.in_field.items) n false ≡ true
-    field_now n m side l e d = rw (e, d) (set_here u.in_field.items n (rw old.fields_size l))
+    cases : (t : Bool) → cond t 1 0 < 3
+    cases true = omega arith
+    cases false = omega arith
+field_held Tree m Right = cases (eqb m 0)
+  where
+    cases : (t : Bool) → cond t 2 0 < 3
+    cases true = omega arith
+    cases false = omega arith
+field_held Records m side = omega arith
 
-    user_now : (n s : ℕ) → n < all_nodes lay → r.word ≡ scx s New → r.after ≡ n → MayBe (users_of (users_after r.word r.after u.users.items) n) s
-    user_now n s l e d =
-        let size : n < length u.users.items = rw old.users_size l in
-        let at : users_of (users_after r.word r.after u.users.items) n ≡ with_user (users_of u.users.items n) s = rw (e, d) (get_or-set_same u.users.items n (with_user (users_of u.users.items n) s) Nobody size) in
-        subst (λ (o : Users). MayBe o s) (sym at) (may_new (users_of u.users.items n) s)
+held_by_start : (mode : Mode) (m : ℕ) (side : Side) (n : ℕ) → opening mode (child m side) ≡ n → WasInField (Start mode) n
+held_by_start mode m side n e = (m, side, held_at (Start mode) (child m side) n (value_start mode (child m side) ∙ e))
 
--- at the start fields hold nodes of the start, and `new` holds 0
-pub uses_start : (lay : Layout) (u : Uses) → length u.in_field.items ≡ all_nodes lay → length u.users.items ≡ all_nodes lay → ((n : ℕ) → n < opening_nodes lay.mode → slice_index_or u.in_field.items n false ≡ true) → users_of u.users.items 0 ≡ Several → UsesStand lay (Start lay.mode) u
-uses_start lay u f g set several = record {
+start_held : (mode : Mode) (n : ℕ) → n < held_nodes mode → WasInField (Start mode) n
+start_held Tree zero l = held_by_start Tree 1 Left 0 refl
+start_held Tree (suc zero) l = held_by_start Tree 0 Left 1 refl
+start_held Tree (suc (suc zero)) l = held_by_start Tree 0 Right 2 refl
+start_held Tree (suc (suc (suc n))) l = absurd (omega (l, arith))
+start_held Records zero l = held_by_start Records 0 Left 0 refl
+start_held Records (suc n) l = absurd (omega (l, arith))
+
+start_back : (mode : Mode) (n : ℕ) → WasInField (Start mode) n → n < held_nodes mode
+start_back mode n x =
+    let o = field_held mode x.0 x.1 in
+    let e = held_start mode (child x.0 x.1) n x.2 in
+    let v = value_start mode (child x.0 x.1) in
+    omega (o, e, v, arith)
+
+new_is_none : (mode : Mode) (s n : ℕ) → HasHeld (Start mode) (scx s New) n → n ≡ 0
+new_is_none mode s n p = sym (held_start mode (scx s New) n p) ∙ opening_scx mode s New refl
+
+-- `new` holds 0 at the start, of each SCX-record
+zero_users : (mode : Mode) (n : ℕ) → n ≡ 0 → AreUsers (Start mode) n Several
+zero_users mode n e = λ s. (s + 1, (λ q. omega (q, arith)), held_at (Start mode) (scx (s + 1) New) n (opening_scx mode (s + 1) New refl ∙ sym e))
+
+users_at : (mode : Mode) (n : ℕ) (o : Users) → (n ≡ 0 → o ≡ Several) → (n ≢ 0 → o ≡ Nobody) → AreUsers (Start mode) n o
+users_at mode n o a b = ⊎_elim
+    (λ e. subst (λ (x : Users). AreUsers (Start mode) n x) (sym (a e)) (zero_users mode n e))
+    (λ d. subst (λ (x : Users). AreUsers (Start mode) n x) (sym (b d)) (λ s p. d (new_is_none mode s n p)))
+    (same_or n 0)
+
+pub uses_start : (lay : Layout) (u : Uses) → length u.in_field.items ≡ all_nodes lay → length u.users.items ≡ all_nodes lay → ((n : ℕ) → slice_index_or u.in_field.items n false ≡ true ↔ (n < held_nodes lay.mode)) → users_of u.users.items 0 ≡ Several → ((n : ℕ) → n ≢ 0 → users_of u.users.items n ≡ Nobody) → UsesStand lay (Start lay.mode) u
+uses_start lay u f g set several nobody = record {
   fields_size = f;
   users_size = g;
-  fields = λ n m side l p. set n (let o = opening_field lay.mode m side in let e = held_start lay.mode (child m side) n p in let v = value_start lay.mode (child m side) in omega (o, e, v, arith));
-  users = λ n s l p. let zero_is : n ≡ 0 = sym (held_start lay.mode (scx s New) n p) ∙ opening_scx lay.mode s New refl in rw (zero_is, several) tt;
+  fields = λ n l. (λ t. start_held lay.mode n ((set n).0 t), λ x. (set n).1 (start_back lay.mode n x));
+  users = λ n l. users_at lay.mode n (users_of u.users.items n) (λ e. rw e several) (nobody n);
 }
+
+-- how the lists are made
+
+pub no_users : (size n : ℕ) → users_of (replicate size Nobody) n ≡ Nobody
+no_users zero n = refl
+no_users (suc size) zero = refl
+no_users (suc size) (suc n) = no_users size n
+
+pub flag_next : (flags : List Bool) (k : ℕ) → k < length flags → ((n : ℕ) → slice_index_or flags n false ≡ true ↔ (n < k)) → (n : ℕ) → slice_index_or (slice_set flags k true) n false ≡ true ↔ (n < k + 1)
+flag_next flags k l p n = ⊎_elim
+    (λ e. (λ t. omega (e, arith), λ x. rw e (set_here flags k l)))
+    (λ d. let there = set_there flags k n d in (λ t. let x = (p n).0 (sym there ∙ t) in omega (x, arith), λ x. there ∙ (p n).1 (omega (x, d, arith))))
+    (same_or n k)

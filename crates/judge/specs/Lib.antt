@@ -1,3 +1,4 @@
+pub mod Beginning
 pub mod Entering
 pub mod Enters
 pub mod Freezing

@@ -1,6 +1,8 @@
 -- Which nodes fields have held, and `new` of which SCX-records.
-use Rattle.std.specs.Prelude.{◌≡◌, ℕ, ◌<◌, if◌then◌else◌, ◌==◌, Bool, true, false, List, length, slice_index_or, slice_set}
+use Rattle.std.specs.Prelude.{◌≡◌, ◌≢◌, ◌↔◌, ℕ, ◌<◌, if◌then◌else◌, ◌==◌, Bool, true, false, not, List, length, slice_index_or, slice_set}
 use Rattle.arena.specs.declared.layout.Layout.{Layout}
+use Rattle.arena.specs.declared.limits.Mode.{Mode}
+use Rattle.arena.specs.declared.limits.Mode.TheVariants.{Tree, Records}
 use Rattle.arena.specs.declared.word.Side.{Side}
 use Rattle.arena.specs.declared.word.NodeWord.TheVariants.{Child}
 use Rattle.arena.specs.declared.word.ScxWord.TheVariants.{New}
@@ -13,11 +15,36 @@ use Rattle.judge.specs.declared.uses.Users.{Users}
 use Rattle.judge.specs.declared.uses.Users.TheVariants.{Nobody, One, Several}
 use Rattle.judge.specs.declared.uses.Uses.{Uses}
 
--- these users may be of s
-abbrev pub MayBe : Users → ℕ → Type 0
-MayBe Nobody s = ⊥
-MayBe (One u) s = u ≡ s
-MayBe Several s = Unit {0}
+-- how many nodes fields hold at the start, the first ones: the root's child words hold 1 and 2, each
+-- other field 0
+abbrev pub held_nodes : Mode → ℕ
+held_nodes Tree = 3
+held_nodes Records = 1
+
+-- a field holds the node, or has held it
+abbrev pub WasInField : History → ℕ → Type 0
+WasInField h n = (m : ℕ) × (side : Side) × HasHeld h (child m side) n
+
+-- `new` of another SCX-record than s holds the node, or has held it
+abbrev pub WasInOtherNew : History → ℕ → ℕ → Type 0
+WasInOtherNew h s n = (u : ℕ) × (u ≢ s) × HasHeld h (scx u New) n
+
+-- no field, and `new` of no other SCX-record than s, has ever held the node
+pub record IsUnused (h : History) (s n : ℕ) : Type 0 where
+  pub in_no_field : (m : ℕ) (side : Side) → ¬ HasHeld h (child m side) n
+  pub in_no_other : (u : ℕ) → u ≢ s → ¬ HasHeld h (scx u New) n
+
+-- whether these users are not s alone
+abbrev pub has_other : Users → ℕ → Bool
+has_other Nobody s = false
+has_other (One u) s = not (u == s)
+has_other Several s = true
+
+-- these are the SCX-records in whose `new` the node has been: none, this one alone, or more than one
+abbrev pub AreUsers : History → ℕ → Users → Type 0
+AreUsers h n Nobody = (s : ℕ) → ¬ HasHeld h (scx s New) n
+AreUsers h n (One u) = HasHeld h (scx u New) n × ((s : ℕ) → HasHeld h (scx s New) n → s ≡ u)
+AreUsers h n Several = (s : ℕ) → WasInOtherNew h s n
 
 -- the users with s
 abbrev pub with_user : Users → ℕ → Users
@@ -43,5 +70,5 @@ users_after _ v users = users
 pub record UsesStand (lay : Layout) (h : History) (u : Uses) : Type 0 where
   pub fields_size : length u.in_field.items ≡ all_nodes lay
   pub users_size : length u.users.items ≡ all_nodes lay
-  pub fields : (n m : ℕ) (side : Side) → n < all_nodes lay → HasHeld h (child m side) n → slice_index_or u.in_field.items n false ≡ true
-  pub users : (n s : ℕ) → n < all_nodes lay → HasHeld h (scx s New) n → MayBe (users_of u.users.items n) s
+  pub fields : (n : ℕ) → n < all_nodes lay → slice_index_or u.in_field.items n false ≡ true ↔ WasInField h n
+  pub users : (n : ℕ) → n < all_nodes lay → AreUsers h n (users_of u.users.items n)

@@ -1,14 +1,14 @@
 //! What the first freezing exchange that wins for an SCX-record asks.
-ghost use Rattle.std.specs.Prelude.{◌≡◌, ◌≢◌, ℕ, ◌<◌, ◌≤◌, ◌↔◌, IsTrue, false};
+ghost use Rattle.std.specs.Prelude.{◌≡◌, ◌≢◌, ℕ, ◌<◌, ◌↔◌, IsTrue};
 ghost use Rattle.arena.specs.Fills.{IsOwnNode, IsOwnScx};
-ghost use Rattle.arena.specs.History.{value, HasHeld};
+ghost use Rattle.arena.specs.History.{value};
 ghost use Rattle.arena.specs.Layout.{all_nodes};
 ghost use Rattle.arena.specs.Lawful.{MayBegin};
-ghost use Rattle.arena.specs.ScxRecords.{member, seen, old, new, count, field, field_index};
-ghost use Rattle.arena.specs.Words.{state, info, marked, child, scx};
-ghost use Rattle.arena.specs.declared.word.Side.{Side};
-ghost use Rattle.arena.specs.declared.word.ScxWord.TheVariants.{New};
+ghost use Rattle.arena.specs.ScxRecords.{member, seen, old, field, field_index};
+ghost use Rattle.arena.specs.Words.{state, info, marked};
+ghost use Rattle.judge.specs.Beginning.{AreReady};
 ghost use Rattle.judge.specs.Histories.{seen_history};
+ghost use Rattle.judge.specs.Uses.{IsUnused};
 
 use crate::facts::{value_of, was_in_field, was_in_other_new};
 use crate::judge::Judge;
@@ -35,7 +35,8 @@ pub fn is_own_scx(layout: &Layout, pass: PassNo, scx: u64) -> bool
 
 /// Whether the first nodes of an SCX-record, as many as `count`, are nodes of the table.
 fn are_inside(judge: &Judge, scx: u64, count: u8) -> bool
-    ensures { IsTrue result → (j : ℕ) → j < count → member (seen_history judge.now) scx j < all_nodes judge.now.layout }
+    ensures { IsTrue result ↔
+        ((j : ℕ) → j < count → member (seen_history judge.now) scx j < all_nodes judge.now.layout) }
 {
     for place in 0..count {
         if member(judge, scx, place) >= u64::from(judge.layout().all_nodes()) {
@@ -47,7 +48,8 @@ fn are_inside(judge: &Judge, scx: u64, count: u8) -> bool
 
 /// Whether none of these nodes but that at the place is the one that stands there.
 fn is_alone(judge: &Judge, scx: u64, place: u8, count: u8) -> bool
-    ensures { IsTrue result → (k : ℕ) → k < count → place ≢ k → member (seen_history judge.now) scx place ≢ member (seen_history judge.now) scx k }
+    ensures { IsTrue result ↔
+        ((k : ℕ) → k < count → place ≢ k → member (seen_history judge.now) scx place ≢ member (seen_history judge.now) scx k) }
 {
     for other in 0..count {
         if other != place && member(judge, scx, place) == member(judge, scx, other) {
@@ -58,7 +60,8 @@ fn is_alone(judge: &Judge, scx: u64, place: u8, count: u8) -> bool
 }
 
 fn are_distinct(judge: &Judge, scx: u64, count: u8) -> bool
-    ensures { IsTrue result → (j k : ℕ) → j < count → k < count → j ≢ k → member (seen_history judge.now) scx j ≢ member (seen_history judge.now) scx k }
+    ensures { IsTrue result ↔
+        ((j k : ℕ) → j < count → k < count → j ≢ k → member (seen_history judge.now) scx j ≢ member (seen_history judge.now) scx k) }
 {
     for place in 0..count {
         if !is_alone(judge, scx, place, count) {
@@ -70,7 +73,8 @@ fn are_distinct(judge: &Judge, scx: u64, count: u8) -> bool
 
 /// Whether what these nodes were frozen for is finished.
 fn are_at_rest(judge: &Judge, scx: u64, count: u8) -> bool
-    ensures { IsTrue result → (j : ℕ) → j < count → value (seen_history judge.now) (state (seen (seen_history judge.now) scx j)) ≢ 0 }
+    ensures { IsTrue result ↔
+        ((j : ℕ) → j < count → value (seen_history judge.now) (state (seen (seen_history judge.now) scx j)) ≢ 0) }
 {
     for place in 0..count {
         let seen = of_scx(judge, scx, ScxWord::Seen(place));
@@ -83,7 +87,8 @@ fn are_at_rest(judge: &Judge, scx: u64, count: u8) -> bool
 
 /// Whether the info word of the node at a place is as the SCX-record has seen it.
 pub fn is_as_seen(judge: &Judge, scx: u64, place: u8) -> bool
-    ensures { IsTrue result ↔ (value (seen_history judge.now) (info (member (seen_history judge.now) scx place)) ≡ seen (seen_history judge.now) scx place) }
+    ensures { IsTrue result ↔
+        (value (seen_history judge.now) (info (member (seen_history judge.now) scx place)) ≡ seen (seen_history judge.now) scx place) }
 {
     let node = member(judge, scx, place);
     let seen = of_scx(judge, scx, ScxWord::Seen(place));
@@ -99,7 +104,9 @@ fn is_unmarked(judge: &Judge, scx: u64, place: u8) -> bool
 
 /// Whether those of these nodes whose info words are as seen are not marked.
 fn are_unmarked(judge: &Judge, scx: u64, count: u8) -> bool
-    ensures { IsTrue result → (j : ℕ) → j < count → value (seen_history judge.now) (info (member (seen_history judge.now) scx j)) ≡ seen (seen_history judge.now) scx j → value (seen_history judge.now) (marked (member (seen_history judge.now) scx j)) ≡ 0 }
+    ensures { IsTrue result ↔ ((j : ℕ) → j < count →
+        value (seen_history judge.now) (info (member (seen_history judge.now) scx j)) ≡ seen (seen_history judge.now) scx j →
+        value (seen_history judge.now) (marked (member (seen_history judge.now) scx j)) ≡ 0) }
 {
     for place in 0..count {
         if is_as_seen(judge, scx, place) && !is_unmarked(judge, scx, place) {
@@ -111,7 +118,9 @@ fn are_unmarked(judge: &Judge, scx: u64, count: u8) -> bool
 
 /// Whether the field shows `old` where its node's info word is as seen.
 fn shows_old(judge: &Judge, scx: u64) -> bool
-    ensures { IsTrue result → value (seen_history judge.now) (info (member (seen_history judge.now) scx (field_index (seen_history judge.now) scx))) ≡ seen (seen_history judge.now) scx (field_index (seen_history judge.now) scx) → value (seen_history judge.now) (field (seen_history judge.now) scx) ≡ old (seen_history judge.now) scx }
+    ensures { let h = seen_history judge.now in IsTrue result ↔
+        (value h (info (member h scx (field_index h scx))) ≡ seen h scx (field_index h scx) →
+        value h (field h scx) ≡ old h scx) }
 {
     let place = plan(judge, scx).at().number();
     let shown = value_of(judge, field(judge, scx));
@@ -122,8 +131,7 @@ fn shows_old(judge: &Judge, scx: u64) -> bool
 /// start.
 fn is_unused(judge: &Judge, user: u64, node: u64) -> bool
     requires { node < all_nodes judge.now.layout }
-    ensures fields { IsTrue result → (n : ℕ) → (side : Side) → HasHeld (seen_history judge.now) (child n side) node → ⊥ }
-    ensures others { IsTrue result → (u : ℕ) → u ≢ user → HasHeld (seen_history judge.now) (scx u New) node → ⊥ }
+    ensures { IsTrue result ↔ IsUnused (seen_history judge.now) user node }
 {
     !was_in_field(judge, node) && !was_in_other_new(judge, user, node)
 }
@@ -131,19 +139,14 @@ fn is_unused(judge: &Judge, user: u64, node: u64) -> bool
 /// Whether a node is of the pass's own share, and no field and no other `new` has named it.
 fn is_fresh(judge: &Judge, pass: PassNo, user: u64, node: u64) -> bool
     requires { pass.0 < judge.now.layout.passes }
-    ensures own { IsTrue result → IsOwnNode judge.now.layout pass.0 node }
-    ensures fields { IsTrue result → (n : ℕ) → (side : Side) → HasHeld (seen_history judge.now) (child n side) node → ⊥ }
-    ensures others { IsTrue result → (u : ℕ) → u ≢ user → HasHeld (seen_history judge.now) (scx u New) node → ⊥ }
+    ensures { IsTrue result ↔ (IsOwnNode judge.now.layout pass.0 node × IsUnused (seen_history judge.now) user node) }
 {
     is_own_node(judge.layout(), pass, node) && is_unused(judge, user, node)
 }
 
 /// Whether an SCX-record of these nodes may begin.
 fn are_ready(judge: &Judge, scx: u64, count: u8) -> bool
-    ensures inside { IsTrue result → (j : ℕ) → j < count → member (seen_history judge.now) scx j < all_nodes judge.now.layout }
-    ensures distinct { IsTrue result → (j k : ℕ) → j < count → k < count → j ≢ k → member (seen_history judge.now) scx j ≢ member (seen_history judge.now) scx k }
-    ensures at_rest { IsTrue result → (j : ℕ) → j < count → value (seen_history judge.now) (state (seen (seen_history judge.now) scx j)) ≢ 0 }
-    ensures unmarked { IsTrue result → (j : ℕ) → j < count → value (seen_history judge.now) (info (member (seen_history judge.now) scx j)) ≡ seen (seen_history judge.now) scx j → value (seen_history judge.now) (marked (member (seen_history judge.now) scx j)) ≡ 0 }
+    ensures { IsTrue result ↔ AreReady judge.now.layout (seen_history judge.now) scx count }
 {
     are_inside(judge, scx, count)
         && are_distinct(judge, scx, count)
@@ -154,7 +157,7 @@ fn are_ready(judge: &Judge, scx: u64, count: u8) -> bool
 /// Whether the first freezing exchange for an SCX-record may win, by a pass.
 pub fn may_begin(judge: &Judge, pass: PassNo, scx: u64) -> bool
     requires { pass.0 < judge.now.layout.passes }
-    ensures { IsTrue result → MayBegin judge.now.layout (seen_history judge.now) pass.0 scx }
+    ensures { IsTrue result ↔ MayBegin judge.now.layout (seen_history judge.now) pass.0 scx }
 {
     let new = of_scx(judge, scx, ScxWord::New);
     is_own_scx(judge.layout(), pass, scx)

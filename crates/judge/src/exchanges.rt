@@ -5,6 +5,7 @@ ghost use Rattle.arena.specs.History.{value};
 ghost use Rattle.arena.specs.Lawful.{IsExchange, IsFreeze, IsSetFrozen, IsMark, AllAreMarked, IsUpdate, IsCommit, IsAbort, MayBegin, IsFrozen, AreFrozen};
 ghost use Rattle.arena.specs.ScxRecords.{member, count, scx_finalizes};
 ghost use Rattle.arena.specs.Words.{state, marked};
+ghost use Rattle.arena.specs.declared.step.Kind.TheVariants.{Update};
 ghost use Rattle.judge.specs.Histories.{seen_history};
 
 use crate::beginning::{is_as_seen, is_own_scx, may_begin};
@@ -16,7 +17,7 @@ use arena::{NodeNo, NodeWord, PassNo, Row, ScxNo, ScxWord, Word};
 
 /// Whether a row is an exchange of one value for another, won or lost.
 fn is_exchange(row: &Row, expected: u64, stored: u64) -> bool
-    ensures { IsTrue result → IsExchange row.now expected stored }
+    ensures { IsTrue result ↔ IsExchange row.now expected stored }
 {
     if row.before == expected {
         row.after == stored
@@ -28,7 +29,8 @@ fn is_exchange(row: &Row, expected: u64, stored: u64) -> bool
 /// Whether a freezing exchange of the node at a place may win, by a pass.
 fn may_win(judge: &Judge, pass: PassNo, scx: u64, place: u8) -> bool
     requires { pass.0 < judge.now.layout.passes }
-    ensures { IsTrue result → (value (seen_history judge.now) (state scx) ≡ 0) × (place ≡ 0 → MayBegin judge.now.layout (seen_history judge.now) pass.0 scx) }
+    ensures { IsTrue result ↔ ((value (seen_history judge.now) (state scx) ≡ 0) ×
+        (place ≡ 0 → MayBegin judge.now.layout (seen_history judge.now) pass.0 scx)) }
 {
     of_scx(judge, scx, ScxWord::State) == 0 && (place > 0 || may_begin(judge, pass, scx))
 }
@@ -36,7 +38,7 @@ fn may_win(judge: &Judge, pass: PassNo, scx: u64, place: u8) -> bool
 /// Whether a row freezes the node at a place for an SCX-record.
 fn is_freeze(judge: &Judge, row: &Row, scx: u64, place: u8) -> bool
     requires { row.now.pass.0 < judge.now.layout.passes }
-    ensures { IsTrue result → IsFreeze judge.now.layout (seen_history judge.now) row.now scx place }
+    ensures { IsTrue result ↔ IsFreeze judge.now.layout (seen_history judge.now) row.now scx place }
 {
     let info = Word::Node(NodeNo(member(judge, scx, place)), NodeWord::Info);
     let seen = of_scx(judge, scx, ScxWord::Seen(place));
@@ -50,9 +52,9 @@ fn is_freeze(judge: &Judge, row: &Row, scx: u64, place: u8) -> bool
 /// Whether a row freezes some node for an SCX-record.
 fn is_freeze_for(judge: &Judge, row: &Row, scx: u64) -> bool
     requires { row.now.pass.0 < judge.now.layout.passes }
-    ensures { IsTrue result → (j : ℕ) × IsFreeze judge.now.layout (seen_history judge.now) row.now scx j }
+    ensures { IsTrue result ↔ ((j : ℕ) × IsFreeze judge.now.layout (seen_history judge.now) row.now scx j) }
 {
-    for place in 0..4 {
+    for place in 0..count(judge, scx) {
         if is_freeze(judge, row, scx, place) {
             return true;
         }
@@ -65,7 +67,7 @@ fn is_freeze_for(judge: &Judge, row: &Row, scx: u64) -> bool
 /// word last; only where it is for neither are all looked at.
 pub fn is_some_freeze(judge: &Judge, row: &Row) -> bool
     requires { row.now.pass.0 < judge.now.layout.passes }
-    ensures { IsTrue result → (s j : ℕ) × IsFreeze judge.now.layout (seen_history judge.now) row.now s j }
+    ensures { IsTrue result ↔ ((s j : ℕ) × IsFreeze judge.now.layout (seen_history judge.now) row.now s j) }
 {
     is_freeze_for(judge, row, row.after)
         || is_freeze_for(judge, row, last_loaded(judge, row.pass))
@@ -74,8 +76,9 @@ pub fn is_some_freeze(judge: &Judge, row: &Row) -> bool
 
 fn is_freeze_for_any(judge: &Judge, row: &Row) -> bool
     requires { row.now.pass.0 < judge.now.layout.passes }
-    ensures { IsTrue result → (s j : ℕ) × IsFreeze judge.now.layout (seen_history judge.now) row.now s j }
+    ensures { IsTrue result ↔ ((s j : ℕ) × IsFreeze judge.now.layout (seen_history judge.now) row.now s j) }
 {
+    judge.laws_hold();
     for scx in 0..u64::from(judge.layout().all_scx()) {
         if is_freeze_for(judge, row, scx) {
             return true;
@@ -86,7 +89,7 @@ fn is_freeze_for_any(judge: &Judge, row: &Row) -> bool
 
 /// Whether a row says that all nodes of an SCX-record are frozen.
 fn is_set_frozen(judge: &Judge, row: &Row, scx: u64) -> bool
-    ensures { IsTrue result → IsSetFrozen (seen_history judge.now) row.now scx }
+    ensures { IsTrue result ↔ IsSetFrozen (seen_history judge.now) row.now scx }
 {
     let count = count(judge, scx);
     is_same(row.word, Word::Scx(ScxNo(scx), ScxWord::AllFrozen))
@@ -97,7 +100,7 @@ fn is_set_frozen(judge: &Judge, row: &Row, scx: u64) -> bool
 
 /// Whether a row says that all nodes are frozen, for the SCX-record of its word.
 pub fn is_some_set_frozen(judge: &Judge, row: &Row) -> bool
-    ensures { IsTrue result → (s : ℕ) × IsSetFrozen (seen_history judge.now) row.now s }
+    ensures { IsTrue result ↔ ((s : ℕ) × IsSetFrozen (seen_history judge.now) row.now s) }
 {
     match row.word {
         Word::Scx(scx, _) => is_set_frozen(judge, row, scx.0),
@@ -108,7 +111,7 @@ pub fn is_some_set_frozen(judge: &Judge, row: &Row) -> bool
 /// Whether a row marks the node at a place, which an SCX-record finalizes.
 fn is_mark(judge: &Judge, row: &Row, scx: u64, place: u8) -> bool
     requires { place < 4 }
-    ensures { IsTrue result → IsMark (seen_history judge.now) row.now scx place }
+    ensures { IsTrue result ↔ IsMark (seen_history judge.now) row.now scx place }
 {
     let marked = Word::Node(NodeNo(member(judge, scx, place)), NodeWord::Marked);
     let all_frozen = of_scx(judge, scx, ScxWord::AllFrozen);
@@ -120,9 +123,9 @@ fn is_mark(judge: &Judge, row: &Row, scx: u64, place: u8) -> bool
 }
 
 fn is_mark_for(judge: &Judge, row: &Row, scx: u64) -> bool
-    ensures { IsTrue result → (j : ℕ) × IsMark (seen_history judge.now) row.now scx j }
+    ensures { IsTrue result ↔ ((j : ℕ) × IsMark (seen_history judge.now) row.now scx j) }
 {
-    for place in 0..4 {
+    for place in 0..count(judge, scx) {
         if is_mark(judge, row, scx, place) {
             return true;
         }
@@ -132,10 +135,11 @@ fn is_mark_for(judge: &Judge, row: &Row, scx: u64) -> bool
 
 /// Whether a row marks a node for some SCX-record. Its info word still names that one.
 pub fn is_some_mark(judge: &Judge, row: &Row) -> bool
-    ensures { IsTrue result → (s j : ℕ) × IsMark (seen_history judge.now) row.now s j }
+    ensures { IsTrue result ↔ ((s j : ℕ) × IsMark (seen_history judge.now) row.now s j) }
 {
     match row.word {
         Word::Node(node, _) => {
+            judge.laws_hold();
             let scx = of_node(judge, node.0, NodeWord::Info);
             is_mark_for(judge, row, scx)
         }
@@ -145,7 +149,7 @@ pub fn is_some_mark(judge: &Judge, row: &Row) -> bool
 
 /// Whether the node at a place is marked.
 fn is_marked(judge: &Judge, scx: u64, place: u8) -> bool
-    ensures { IsTrue result → value (seen_history judge.now) (marked (member (seen_history judge.now) scx place)) ≡ 1 }
+    ensures { IsTrue result ↔ (value (seen_history judge.now) (marked (member (seen_history judge.now) scx place)) ≡ 1) }
 {
     let node = member(judge, scx, place);
     of_node(judge, node, NodeWord::Marked) == 1
@@ -153,7 +157,7 @@ fn is_marked(judge: &Judge, scx: u64, place: u8) -> bool
 
 /// Whether the nodes that an SCX-record finalizes are marked.
 fn are_marked(judge: &Judge, scx: u64) -> bool
-    ensures { IsTrue result → AllAreMarked (seen_history judge.now) scx }
+    ensures { IsTrue result ↔ AllAreMarked (seen_history judge.now) scx }
 {
     let plan = plan(judge, scx);
     for place in 0..count(judge, scx) {
@@ -166,7 +170,7 @@ fn are_marked(judge: &Judge, scx: u64) -> bool
 
 /// Whether a row is an update by an SCX-record.
 fn is_update(judge: &Judge, row: &Row, scx: u64) -> bool
-    ensures { IsTrue result → IsUpdate (seen_history judge.now) row.now scx }
+    ensures { IsTrue result ↔ IsUpdate (seen_history judge.now) row.now scx }
 {
     let old = of_scx(judge, scx, ScxWord::Old);
     let new = of_scx(judge, scx, ScxWord::New);
@@ -180,20 +184,24 @@ fn is_update(judge: &Judge, row: &Row, scx: u64) -> bool
 /// field's node names. One that loses mostly too, or by the one of which its pass has loaded a word
 /// last; only where it is by neither are all looked at.
 pub fn is_some_update(judge: &Judge, row: &Row) -> bool
-    requires { row.now.pass.0 < judge.now.layout.passes }
-    ensures { IsTrue result → (s : ℕ) × IsUpdate (seen_history judge.now) row.now s }
+    requires pass { row.now.pass.0 < judge.now.layout.passes }
+    requires kind { row.now.kind ≡ Update }
+    requires before { row.now.before ≡ value (seen_history judge.now) row.now.word }
+    ensures { IsTrue result ↔ ((s : ℕ) × IsUpdate (seen_history judge.now) row.now s) }
 {
     let Word::Node(node, _) = row.word else {
         return false;
     };
+    judge.laws_hold();
     is_update(judge, row, of_node(judge, node.0, NodeWord::Info))
         || is_update(judge, row, last_loaded(judge, row.pass))
         || (row.before == row.after && is_update_of_any(judge, row))
 }
 
 fn is_update_of_any(judge: &Judge, row: &Row) -> bool
-    ensures { IsTrue result → (s : ℕ) × IsUpdate (seen_history judge.now) row.now s }
+    ensures { IsTrue result ↔ ((s : ℕ) × IsUpdate (seen_history judge.now) row.now s) }
 {
+    judge.laws_hold();
     for scx in 0..u64::from(judge.layout().all_scx()) {
         if is_update(judge, row, scx) {
             return true;
@@ -204,7 +212,7 @@ fn is_update_of_any(judge: &Judge, row: &Row) -> bool
 
 /// Whether a row commits the SCX-record of its word, of which an update has won.
 pub fn is_some_commit(judge: &Judge, row: &Row) -> bool
-    ensures { IsTrue result → (s : ℕ) × IsCommit (seen_history judge.now) row.now s }
+    ensures { IsTrue result ↔ ((s : ℕ) × IsCommit (seen_history judge.now) row.now s) }
 {
     match row.word {
         Word::Scx(scx, ScxWord::State) => row.after == 1 && has_won(judge, scx.0),
@@ -217,7 +225,7 @@ pub fn is_some_commit(judge: &Judge, row: &Row) -> bool
 fn may_end(judge: &Judge, pass: PassNo, scx: u64) -> bool
     requires is_pass { pass.0 < judge.now.layout.passes }
     requires some { 0 < count (seen_history judge.now) scx }
-    ensures { IsTrue result → IsOwnScx judge.now.layout pass.0 scx ⊎ IsFrozen (seen_history judge.now) scx 0 }
+    ensures { IsTrue result ↔ (IsOwnScx judge.now.layout pass.0 scx ⊎ IsFrozen (seen_history judge.now) scx 0) }
 {
     is_own_scx(judge.layout(), pass, scx) || 0 < frozen_count(judge, scx)
 }
@@ -225,8 +233,8 @@ fn may_end(judge: &Judge, pass: PassNo, scx: u64) -> bool
 /// Whether the node at a place is the first that was never frozen for an SCX-record.
 fn is_next(judge: &Judge, scx: u64, place: u8) -> bool
     requires { place < count (seen_history judge.now) scx }
-    ensures earlier { IsTrue result → AreFrozen (seen_history judge.now) scx place }
-    ensures never { IsTrue result → IsFrozen (seen_history judge.now) scx place → ⊥ }
+    ensures { IsTrue result ↔
+        (AreFrozen (seen_history judge.now) scx place × (IsFrozen (seen_history judge.now) scx place → ⊥)) }
 {
     place == frozen_count(judge, scx)
 }
@@ -234,7 +242,7 @@ fn is_next(judge: &Judge, scx: u64, place: u8) -> bool
 /// Whether a row aborts an SCX-record since the node at a place is no longer as it has seen it.
 fn is_abort(judge: &Judge, row: &Row, scx: u64, place: u8) -> bool
     requires { row.now.pass.0 < judge.now.layout.passes }
-    ensures { IsTrue result → IsAbort judge.now.layout (seen_history judge.now) row.now scx place }
+    ensures { IsTrue result ↔ IsAbort judge.now.layout (seen_history judge.now) row.now scx place }
 {
     is_same(row.word, Word::Scx(ScxNo(scx), ScxWord::State))
         && row.after == 2
@@ -248,7 +256,7 @@ fn is_abort(judge: &Judge, row: &Row, scx: u64, place: u8) -> bool
 /// Whether a row aborts the SCX-record of its word.
 pub fn is_some_abort(judge: &Judge, row: &Row) -> bool
     requires { row.now.pass.0 < judge.now.layout.passes }
-    ensures { IsTrue result → (s j : ℕ) × IsAbort judge.now.layout (seen_history judge.now) row.now s j }
+    ensures { IsTrue result ↔ ((s j : ℕ) × IsAbort judge.now.layout (seen_history judge.now) row.now s j) }
 {
     match row.word {
         Word::Scx(scx, _) => is_abort(judge, row, scx.0, frozen_count(judge, scx.0)),

@@ -1,14 +1,12 @@
 //! What is remembered of the rows, and what it says of their history.
-ghost use Rattle.std.specs.Prelude.{◌≡◌, ◌≢◌, ℕ, ◌+◌, ◌<◌, ◌≤◌, ◌↔◌, IsTrue};
+ghost use Rattle.std.specs.Prelude.{◌≡◌, ℕ, ◌+◌, ◌<◌, ◌≤◌, ◌↔◌, IsTrue};
 ghost use Rattle.arena.specs.Fills.{IsOwnNode, IsOwnScx, IsNamed, IsNamedScx, IsInField, IsTakenNode, IsTakenScx};
-ghost use Rattle.arena.specs.History.{value, HasHeld};
+ghost use Rattle.arena.specs.History.{value};
 ghost use Rattle.arena.specs.Lawful.{IsFrozen, HasWon};
 ghost use Rattle.arena.specs.Layout.{all_nodes, all_scx, first_node, first_scx};
 ghost use Rattle.arena.specs.ScxRecords.{count};
-ghost use Rattle.arena.specs.Words.{child, scx};
-ghost use Rattle.arena.specs.declared.word.ScxWord.TheVariants.{New};
-ghost use Rattle.arena.specs.declared.word.Side.{Side};
 ghost use Rattle.judge.specs.Histories.{seen_history};
+ghost use Rattle.judge.specs.Uses.{WasInField, WasInOtherNew};
 
 use crate::judge::Judge;
 use arena::{PassNo, Word};
@@ -32,9 +30,10 @@ pub fn is_named_node(judge: &Judge, node: u64) -> bool
     judge.naming.has_node(node)
 }
 
-/// Whether a node was there from the start, or a field of a named node has held it.
+/// Whether a node of the table was there from the start, or a field of a named node has held it.
 pub fn is_shown(judge: &Judge, node: u64) -> bool
-    ensures { IsTrue result → IsInField judge.now.layout (seen_history judge.now) node }
+    ensures shown { IsTrue result → IsInField judge.now.layout (seen_history judge.now) node }
+    ensures inside { node < all_nodes judge.now.layout → IsInField judge.now.layout (seen_history judge.now) node → IsTrue result }
 {
     judge.naming.has_shown(node)
 }
@@ -46,18 +45,18 @@ pub fn is_named_scx(judge: &Judge, scx: u64) -> bool
     judge.naming.has_scx(scx)
 }
 
-/// Whether a field may have held a node of the table.
+/// Whether a field has held a node of the table.
 pub fn was_in_field(judge: &Judge, node: u64) -> bool
     requires { node < all_nodes judge.now.layout }
-    ensures { (n : ℕ) → (side : Side) → HasHeld (seen_history judge.now) (child n side) node → IsTrue result }
+    ensures { IsTrue result ↔ WasInField (seen_history judge.now) node }
 {
     judge.uses.was_in_field(node)
 }
 
-/// Whether `new` of another SCX-record may have held a node of the table.
+/// Whether `new` of another SCX-record has held a node of the table.
 pub fn was_in_other_new(judge: &Judge, user: u64, node: u64) -> bool
     requires { node < all_nodes judge.now.layout }
-    ensures { (u : ℕ) → u ≢ user → HasHeld (seen_history judge.now) (scx u New) node → IsTrue result }
+    ensures { IsTrue result ↔ WasInOtherNew (seen_history judge.now) user node }
 {
     judge.uses.was_in_other_new(user, node)
 }
@@ -80,7 +79,8 @@ pub fn has_won(judge: &Judge, scx: u64) -> bool
 pub fn nodes_taken(judge: &Judge, pass: PassNo) -> u32
     requires { pass.0 < judge.now.layout.passes }
     ensures few { result ≤ judge.now.layout.nodes }
-    ensures taken { (n : ℕ) → IsOwnNode judge.now.layout pass.0 n → IsTakenNode (seen_history judge.now) n ↔ (n < first_node judge.now.layout pass.0 + result) }
+    ensures taken { (n : ℕ) → IsOwnNode judge.now.layout pass.0 n →
+        IsTakenNode (seen_history judge.now) n ↔ (n < first_node judge.now.layout pass.0 + result) }
 {
     judge.taking.nodes[pass.0 as usize]
 }
@@ -89,7 +89,8 @@ pub fn nodes_taken(judge: &Judge, pass: PassNo) -> u32
 pub fn scx_taken(judge: &Judge, pass: PassNo) -> u32
     requires { pass.0 < judge.now.layout.passes }
     ensures few { result ≤ judge.now.layout.scx }
-    ensures taken { (s : ℕ) → IsOwnScx judge.now.layout pass.0 s → IsTakenScx (seen_history judge.now) s ↔ (s < first_scx judge.now.layout pass.0 + result) }
+    ensures taken { (s : ℕ) → IsOwnScx judge.now.layout pass.0 s →
+        IsTakenScx (seen_history judge.now) s ↔ (s < first_scx judge.now.layout pass.0 + result) }
 {
     judge.taking.scx[pass.0 as usize]
 }

@@ -56,6 +56,7 @@ impl Judge {
     ghost use Rattle.arena.specs.TakenNodes.{taken_nodes};
     ghost use Rattle.arena.specs.Words.{child, info};
     ghost use Rattle.judge.specs.Histories.{seen_history};
+    ghost use Rattle.judge.specs.Uses.{WasInField};
 
     /// The judge of no row. The only error is want of memory.
     pub fn new(alloc: Global, layout: &Layout) -> Result<Judge, NoMemory>
@@ -103,9 +104,9 @@ impl Judge {
         facts::value_of(self, word)
     }
 
-    /// Whether a row is lawful after those before it. Where it says so, the row is.
+    /// Whether a row is lawful after those before it.
     pub fn is_lawful(&self, row: &Row) -> bool
-        ensures { IsTrue result → IsLawful self.now.layout (seen_history self.now) row.now }
+        ensures { IsTrue result ↔ IsLawful self.now.layout (seen_history self.now) row.now }
     {
         rows::is_lawful(self, row)
     }
@@ -145,10 +146,11 @@ impl Judge {
         node.0 >= u64::from(self.layout().all_nodes()) || facts::is_named_node(self, node.0)
     }
 
-    /// Whether a field may hold a node, or may have held it: of one that is there from the start,
-    /// and of one that is not of the table, it says so, held or not.
+    /// Whether a field holds a node, or has held it. Of one that is not of the table it says so,
+    /// held or not.
     pub fn is_in_field(&self, node: NodeNo) -> bool
-        ensures { result ≡ false → (m : ℕ) → (side : Side) → HasHeld (seen_history self.now) (child m side) node.0 → ⊥ }
+        ensures never { result ≡ false → (m : ℕ) → (side : Side) → HasHeld (seen_history self.now) (child m side) node.0 → ⊥ }
+        ensures inside { node.0 < all_nodes self.now.layout → IsTrue result → WasInField (seen_history self.now) node.0 }
     {
         node.0 >= u64::from(self.layout().all_nodes()) || facts::was_in_field(self, node.0)
     }
@@ -177,8 +179,11 @@ impl Judge {
     pub fn winner(&self, row: &Row) -> Option<ScxNo>
         requires { IsLawful self.now.layout (seen_history self.now) row.now }
         ensures wins { IfSome result (λ s. IsWin (seen_history self.now) row.now s.0) }
-        ensures holds { IfSome result (λ s. (n : ℕ) → (side : Side) → row.now.word ≡ child n side → s.0 ≡ value (seen_history self.now) (info n)) }
-        ensures logged { IfSome result (λ s. (n : ℕ) × (side : Side) × (row.now.word ≡ child n side) × (log self.now.layout (row.now ⊳ seen_history self.now) ≡ entry self.now.layout (seen_history self.now) s.0 n side row.now.after ∷ log self.now.layout (seen_history self.now))) }
+        ensures holds { IfSome result (λ s. (n : ℕ) → (side : Side) →
+            row.now.word ≡ child n side → s.0 ≡ value (seen_history self.now) (info n)) }
+        ensures logged { IfSome result (λ s. (n : ℕ) × (side : Side) × (row.now.word ≡ child n side) ×
+            (log self.now.layout (row.now ⊳ seen_history self.now) ≡
+            entry self.now.layout (seen_history self.now) s.0 n side row.now.after ∷ log self.now.layout (seen_history self.now))) }
         ensures none { IfNone result ((s : ℕ) → IsWin (seen_history self.now) row.now s → ⊥) }
         ensures unlogged { IfNone result (log self.now.layout (row.now ⊳ seen_history self.now) ≡ log self.now.layout (seen_history self.now)) }
     {
@@ -223,7 +228,8 @@ impl Judge {
     pub fn nodes_taken(&self, pass: PassNo) -> u32
         requires { pass.0 < self.now.layout.passes }
         ensures few { result ≤ self.now.layout.nodes }
-        ensures taken { (n : ℕ) → IsOwnNode self.now.layout pass.0 n → IsTakenNode (seen_history self.now) n ↔ (n < first_node self.now.layout pass.0 + result) }
+        ensures taken { (n : ℕ) → IsOwnNode self.now.layout pass.0 n →
+            IsTakenNode (seen_history self.now) n ↔ (n < first_node self.now.layout pass.0 + result) }
     {
         facts::nodes_taken(self, pass)
     }
@@ -232,7 +238,8 @@ impl Judge {
     pub fn scx_taken(&self, pass: PassNo) -> u32
         requires { pass.0 < self.now.layout.passes }
         ensures few { result ≤ self.now.layout.scx }
-        ensures taken { (s : ℕ) → IsOwnScx self.now.layout pass.0 s → IsTakenScx (seen_history self.now) s ↔ (s < first_scx self.now.layout pass.0 + result) }
+        ensures taken { (s : ℕ) → IsOwnScx self.now.layout pass.0 s →
+            IsTakenScx (seen_history self.now) s ↔ (s < first_scx self.now.layout pass.0 + result) }
     {
         facts::scx_taken(self, pass)
     }

@@ -56,7 +56,8 @@ impl Naming {
     /// Whether a node was there from the start, or a field of a named node has held it.
     pub(crate) fn has_shown(&self, node: u64) -> bool
         requires { IsNaming self.now }
-        ensures { IsTrue result → (node < self.now.nodes) × IsReached (links_of self.now.graph) (shown_place self.now.nodes node) }
+        ensures { IsTrue result ↔
+            ((node < self.now.nodes) × IsReached (links_of self.now.graph) (shown_place self.now.nodes node)) }
     {
         node < self.nodes && self.graph.has((self.nodes + node) as usize)
     }

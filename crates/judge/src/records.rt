@@ -65,7 +65,7 @@ pub fn field(judge: &Judge, scx: u64) -> Word
 /// Whether the nodes before a place have been frozen for an SCX-record.
 pub fn are_frozen(judge: &Judge, scx: u64, place: u8) -> bool
     requires { place ≤ count (seen_history judge.now) scx }
-    ensures { IsTrue result → AreFrozen (seen_history judge.now) scx place }
+    ensures { IsTrue result ↔ AreFrozen (seen_history judge.now) scx place }
 {
     place <= frozen_count(judge, scx)
 }

@@ -1,5 +1,6 @@
 //! Which rows are lawful after those before.
-ghost use Rattle.std.specs.Prelude.{◌<◌, IsTrue};
+ghost use Rattle.std.specs.Prelude.{◌≡◌, ◌<◌, ◌↔◌, IsTrue};
+ghost use Rattle.arena.specs.History.{value};
 ghost use Rattle.arena.specs.Lawful.{Obeys, IsLawful};
 ghost use Rattle.judge.specs.Histories.{seen_history};
 
@@ -17,8 +18,9 @@ use arena::{Kind, Row};
 
 /// Whether a row does what its kind allows after the rows before it.
 fn obeys(judge: &Judge, row: &Row) -> bool
-    requires { row.now.pass.0 < judge.now.layout.passes }
-    ensures { IsTrue result → Obeys judge.now.layout (seen_history judge.now) row.now row.now.kind }
+    requires pass { row.now.pass.0 < judge.now.layout.passes }
+    requires before { row.now.before ≡ value (seen_history judge.now) row.now.word }
+    ensures { IsTrue result ↔ Obeys judge.now.layout (seen_history judge.now) row.now row.now.kind }
 {
     match row.kind {
         Kind::Fill => may_fill(judge, row),
@@ -39,7 +41,7 @@ fn obeys(judge: &Judge, row: &Row) -> bool
 
 /// Whether a row is lawful after the rows before it.
 pub fn is_lawful(judge: &Judge, row: &Row) -> bool
-    ensures { IsTrue result → IsLawful judge.now.layout (seen_history judge.now) row.now }
+    ensures { IsTrue result ↔ IsLawful judge.now.layout (seen_history judge.now) row.now }
 {
     row.pass.0 < judge.layout().passes
         && judge.layout().has(row.word)

@@ -1,5 +1,5 @@
 //! A whole run, judged row by row.
-ghost use Rattle.std.specs.Prelude.{ℕ, ◌<◌, IfOk, IfNone, IfSome, length, take};
+ghost use Rattle.std.specs.Prelude.{ℕ, ◌<◌, ◌+◌, IfOk, IfNone, IfSome, length, take};
 ghost use Rattle.arena.specs.History.{Start, rows_after};
 ghost use Rattle.arena.specs.Lawful.{Lawful};
 
@@ -15,7 +15,12 @@ pub fn first_unlawful(
     rows: &[Row],
 ) -> Result<Option<usize>, NoMemory>
     ensures lawful { IfOk result (λ o. IfNone o (Lawful layout.now (rows_after (Start layout.now.mode) rows.now))) }
-    ensures before { IfOk result (λ o. IfSome o (λ i. (i < length rows.now) × Lawful layout.now (rows_after (Start layout.now.mode) (take i rows.now)))) }
+    ensures before { IfOk result (λ o. IfSome o (λ i. (i < length rows.now) ×
+        Lawful layout.now (rows_after (Start layout.now.mode) (take i rows.now)))) }
+    ensures named { IfOk result (λ o. IfSome o (λ i.
+        Lawful layout.now (rows_after (Start layout.now.mode) (take (i + 1) rows.now)) → ⊥)) }
+    ensures unlawful { IfOk result (λ o. IfSome o (λ i.
+        Lawful layout.now (rows_after (Start layout.now.mode) rows.now) → ⊥)) }
 {
     let mut judge = Judge::new(alloc, layout)?;
     for place in 0..rows.len() {

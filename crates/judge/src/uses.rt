@@ -1,5 +1,5 @@
 //! Which nodes fields have held, and `new` of which SCX-records.
-use arena::{Layout, NoMemory, NodeWord, Row, ScxWord, Word};
+use arena::{Layout, Mode, NoMemory, NodeWord, Row, ScxWord, Word};
 use std::alloc::Global;
 
 /// Which SCX-records have had a node in `new`.
@@ -18,9 +18,9 @@ pub(crate) struct Uses {
 }
 
 impl Uses {
-    ghost use Rattle.std.specs.Prelude.{◌≡◌, ◌≢◌, ℕ, ◌<◌, true, IsTrue, IfOk, length, slice_index_or, slice_set};
+    ghost use Rattle.std.specs.Prelude.{◌≡◌, ◌<◌, true, false, IfOk, length, slice_index_or, slice_set};
     ghost use Rattle.arena.specs.History.{Start};
-    ghost use Rattle.judge.specs.Uses.{UsesStand, MayBe, users_of, with_user, fields_after, users_after};
+    ghost use Rattle.judge.specs.Uses.{UsesStand, has_other, users_of, with_user, fields_after, users_after};
 
     /// What the opening words hold. The only error is want of memory.
     pub(crate) fn new(alloc: Global, layout: &Layout) -> Result<Uses, NoMemory>
@@ -28,7 +28,7 @@ impl Uses {
     {
         let size = layout.all_nodes() as usize;
         let mut in_field = vec![in alloc; false; size]?;
-        for node in 0..layout.opening() as usize {
+        for node in 0..held_at_start(layout.mode) {
             in_field[node] = true;
         }
         let mut users = vec![in alloc; Users::Nobody; size]?;
@@ -36,18 +36,18 @@ impl Uses {
         Ok(Uses { in_field, users })
     }
 
-    /// Whether a field may have held a node.
+    /// Whether a field has held a node.
     pub(crate) fn was_in_field(&self, node: u64) -> bool
         requires { node < length self.now.in_field.items }
-        ensures { result ≡ slice_index_or self.now.in_field.items node true }
+        ensures { result ≡ slice_index_or self.now.in_field.items node false }
     {
         self.in_field[node as usize]
     }
 
-    /// Whether `new` of another SCX-record may have held a node.
+    /// Whether `new` of another SCX-record has held a node.
     pub(crate) fn was_in_other_new(&self, scx: u64, node: u64) -> bool
         requires { node < length self.now.users.items }
-        ensures { (s : ℕ) → s ≢ scx → MayBe (users_of self.now.users.items node) s → IsTrue result }
+        ensures { result ≡ has_other (users_of self.now.users.items node) scx }
     {
         match self.users[node as usize] {
             Users::Nobody => false,
@@ -79,7 +79,8 @@ impl Uses {
 
     fn note_new(&mut self, scx: u64, node: u64)
         ensures fields { self.new.in_field.items ≡ self.old.in_field.items }
-        ensures users { self.new.users.items ≡ slice_set self.old.users.items node (with_user (users_of self.old.users.items node) scx) }
+        ensures users { self.new.users.items ≡
+            slice_set self.old.users.items node (with_user (users_of self.old.users.items node) scx) }
     {
         if node < self.users.len() as u64 {
             self.users[node as usize] = joined(self.users[node as usize], scx);
@@ -88,7 +89,17 @@ impl Uses {
 }
 
 ghost use Rattle.std.specs.Prelude.{◌≡◌};
-ghost use Rattle.judge.specs.Uses.{with_user};
+ghost use Rattle.judge.specs.Uses.{with_user, held_nodes};
+
+/// How many nodes fields hold at the start: the first ones.
+fn held_at_start(mode: Mode) -> usize
+    ensures { result ≡ held_nodes mode }
+{
+    match mode {
+        Mode::Tree => 3,
+        Mode::Records => 1,
+    }
+}
 
 /// The users with one more.
 fn joined(users: Users, scx: u64) -> Users
