@@ -48,7 +48,7 @@ pub(crate) struct Run<'a> {
 }
 
 impl<'a> Run<'a> {
-    ghost use Rattle.std.specs.Prelude.{◌≡◌, ◌≢◌, ℕ, suc, ◌+◌, ◌<◌, ◌∷◌, [], Some, None, true, IsTrue, IfOk, IfSome, OnOk, slice_get, vec_len};
+    ghost use Rattle.std.specs.Prelude.{◌≡◌, ◌≢◌, ℕ, suc, ◌+◌, ◌<◌, ◌∷◌, [], Some, None, true, false, IsTrue, IfOk, IfSome, OnOk, slice_get, vec_len};
     ghost use Rattle.arena.specs.declared.step.Row.{Row as RowOf};
     ghost use Rattle.arena.specs.Lawful.{IsLawful};
     ghost use Rattle.record.specs.declared.record.Line.{Line};
@@ -442,11 +442,19 @@ impl<'a> Run<'a> {
         requires { IsTreeRun self.now.steps.judge.layout (seen_history self.now.steps.judge) }
         ensures { IsTrue result → IsReady self.now.edits.items (seen_history self.now.steps.judge) scx.0 command.now }
     {
+        match self.begun_of(scx) {
+            Some(begun) => is_of(&begun, command) && suits(&self.steps.judge, scx.0, &begun),
+            None => false,
+        }
+    }
+
+    /// The SCX-record of this number, if one has begun.
+    fn begun_of(&self, scx: ScxNo) -> Option<Begun>
+        ensures { IfSome result (λ begun. slice_get self.now.edits.items scx.0 ≡ Some (Some begun)) }
+    {
         match self.edits.get(scx.0 as usize) {
-            Some(Some(begun)) => {
-                begun.command == *command && suits(&self.steps.judge, scx.0, begun)
-            }
-            _ => false,
+            Some(begun) => *begun,
+            None => None,
         }
     }
 
@@ -672,6 +680,16 @@ impl<'a> Run<'a> {
     {
         hold(cells::is_right(&self.steps, client, command, reply))?;
         Ok(())
+    }
+}
+
+/// Whether an SCX-record has begun for a call with this command.
+fn is_of(begun: &Begun, command: &Command) -> bool
+    ensures { IsTrue result → begun.now.command ≡ command.now }
+{
+    match (begun.command, *command) {
+        (Command::Map(own), Command::Map(request)) => own == request,
+        _ => false,
     }
 }
 
