@@ -48,7 +48,7 @@ pub(crate) struct Run<'a> {
 }
 
 impl<'a> Run<'a> {
-    ghost use Rattle.std.specs.Prelude.{◌≡◌, ◌≢◌, ℕ, suc, ◌+◌, ◌<◌, ◌∷◌, [], Some, None, true, IsTrue, IfOk, IfSome, OnOk, slice_get, vec_len};
+    ghost use Rattle.std.specs.Prelude.{◌≡◌, ◌≢◌, ℕ, suc, ◌+◌, ◌<◌, ◌∷◌, [], Some, None, true, false, IsTrue, IfOk, IfSome, OnOk, slice_get, vec_len};
     ghost use Rattle.arena.specs.declared.step.Row.{Row as RowOf};
     ghost use Rattle.arena.specs.Lawful.{IsLawful};
     ghost use Rattle.record.specs.declared.record.Line.{Line};
@@ -72,7 +72,8 @@ impl<'a> Run<'a> {
     ghost use Rattle.script.specs.declared.command.Command.{Command as CommandOf};
     ghost use Rattle.ordered_map.specs.FillOrder.{HasRisingLevels};
     ghost use Rattle.moments.specs.Places.{changes};
-    ghost use Rattle.audit.specs.Trees.{HasChangedBy};
+    ghost use Rattle.audit.specs.Trees.{HasChangedBy, IsReady};
+    ghost use Rattle.ordered_map.specs.Runs.{IsTreeRun};
     ghost use Rattle.audit.specs.Edits.{MayMake};
     ghost use Rattle.audit.specs.declared.edits.Begun.{Begun as BegunOf};
     ghost use Rattle.record.specs.CommandRules.{IsEntryFor, IsRight, IsPlaced, HasTakenFew};
@@ -136,7 +137,8 @@ impl<'a> Run<'a> {
         requires after { IsAfter self.now (lines_of self.now) }
         requires map { IsMapAfter self.now (lines_of self.now) }
         requires all { self.now.at ≡ length self.now.record.now.lines.items }
-        ensures { OnOk result (IsLawfulRun (layout_of self.now) (tries_of self.now) (calls_of self.now) (reverse (clients (reverse self.now.record.now.lines.items))) self.now.record.now.lines.items) }
+        ensures { OnOk result (IsLawfulRun (layout_of self.now) (tries_of self.now) (calls_of self.now)
+            (reverse (clients (reverse self.now.record.now.lines.items))) self.now.record.now.lines.items) }
     {
         self.steps.judge.laws_hold();
         self.settled()?;
@@ -195,9 +197,12 @@ impl<'a> Run<'a> {
         requires map { IsMapAfter self.old (lines_of self.old) }
         requires remembered { AreRememberedAfter self.old (lines_of self.old) }
         requires more { self.old.at < vec_len self.old.record.now.lines }
-        ensures after { (line : LineOf) → slice_get self.old.record.now.lines.items self.old.at ≡ Some line → OnOk result (IsAfter self.new (line ∷ lines_of self.old)) }
-        ensures map { (line : LineOf) → slice_get self.old.record.now.lines.items self.old.at ≡ Some line → OnOk result (IsMapAfter self.new (line ∷ lines_of self.old)) }
-        ensures remembered { (line : LineOf) → slice_get self.old.record.now.lines.items self.old.at ≡ Some line → OnOk result (AreRememberedAfter self.new (line ∷ lines_of self.old)) }
+        ensures after { (line : LineOf) → slice_get self.old.record.now.lines.items self.old.at ≡ Some line →
+            OnOk result (IsAfter self.new (line ∷ lines_of self.old)) }
+        ensures map { (line : LineOf) → slice_get self.old.record.now.lines.items self.old.at ≡ Some line →
+            OnOk result (IsMapAfter self.new (line ∷ lines_of self.old)) }
+        ensures remembered { (line : LineOf) → slice_get self.old.record.now.lines.items self.old.at ≡ Some line →
+            OnOk result (AreRememberedAfter self.new (line ∷ lines_of self.old)) }
         ensures at { self.new.at ≡ self.old.at }
         ensures record { self.new.record ≡ self.old.record }
     {
@@ -281,10 +286,10 @@ impl<'a> Run<'a> {
         self.settled()?;
         self.check_step(number, row)?;
         self.check_levels(row)?;
-        let begun = self.begun_by(row)?;
+        self.check_begun(row)?;
         let owed = self.owed_by(number, row)?;
         let fits = self.fits_with(row, &owed);
-        self.make(number, row, begun, (owed, fits))
+        self.make(number, row, owed, fits)
     }
 
     /// Whether a step wins with this entry, if there is one.
@@ -293,7 +298,9 @@ impl<'a> Run<'a> {
         requires map { IsMapAfter self.now (lines_of self.now) }
         requires remembered { AreRememberedAfter self.now (lines_of self.now) }
         requires lawful { IsLawful self.now.steps.judge.layout (seen_history self.now.steps.judge) row.now }
-        ensures { (number : ℕ) → (e : EntryOf) → IsTrue result → owed.now ≡ Some e → entry_of (layout_of self.now) (lines_of self.now) number row.now ≡ Some e → IsWinOf (layout_of self.now) (calls_of self.now) (lines_of self.now) row.now e }
+        ensures { (number : ℕ) → (e : EntryOf) → IsTrue result → owed.now ≡ Some e →
+            entry_of (layout_of self.now) (lines_of self.now) number row.now ≡ Some e →
+            IsWinOf (layout_of self.now) (calls_of self.now) (lines_of self.now) row.now e }
     {
         match owed {
             Some(entry) => self.check_win(row, entry).is_ok(),
@@ -337,7 +344,8 @@ impl<'a> Run<'a> {
         requires map { IsMapAfter self.now (lines_of self.now) }
         requires remembered { AreRememberedAfter self.now (lines_of self.now) }
         requires lawful { IsLawful self.now.steps.judge.layout (seen_history self.now.steps.judge) row.now }
-        ensures { (number : ℕ) → entry_of (layout_of self.now) (lines_of self.now) number row.now ≡ Some entry.now → OnOk result (IsWinOf (layout_of self.now) (calls_of self.now) (lines_of self.now) row.now entry.now) }
+        ensures { (number : ℕ) → entry_of (layout_of self.now) (lines_of self.now) number row.now ≡ Some entry.now →
+            OnOk result (IsWinOf (layout_of self.now) (calls_of self.now) (lines_of self.now) row.now entry.now) }
     {
         let client = self.client(entry.client)?;
         let Some(command) = self.next(&client) else {
@@ -358,12 +366,17 @@ impl<'a> Run<'a> {
         requires remembered { AreRememberedAfter self.now (lines_of self.now) }
         requires client { slice_get self.now.clients.items client.now.pass.0 ≡ Some client.now }
         requires command { next_command (calls_of self.now) (lines_of self.now) client.now.pass.0 ≡ Some command.now }
-        ensures { OnOk result ((row : RowOf) (n : ℕ) (side : Side) → IsLawful self.now.steps.judge.layout (seen_history self.now.steps.judge) row → IsWin (seen_history self.now.steps.judge) row scx.0 → row.word ≡ child n side → IsEntryFor (layout_of self.now) client.now.pass.0 (seen_history self.now.steps.judge) (start (layout_of self.now).mode (lines_of self.now) client.now.pass.0) (linked (calls_of self.now) (layout_of self.now).mode (lines_of self.now) client.now.pass.0) (entered (layout_of self.now) (seen_history self.now.steps.judge) scx.0 n side row.after) command.now) }
+        ensures { OnOk result ((row : RowOf) (n : ℕ) (side : Side) →
+            IsLawful self.now.steps.judge.layout (seen_history self.now.steps.judge) row →
+            IsWin (seen_history self.now.steps.judge) row scx.0 → row.word ≡ child n side →
+            IsEntryFor (layout_of self.now) client.now.pass.0 (seen_history self.now.steps.judge)
+            (start (layout_of self.now).mode (lines_of self.now) client.now.pass.0)
+            (linked (calls_of self.now) (layout_of self.now).mode (lines_of self.now) client.now.pass.0)
+            (entered (layout_of self.now) (seen_history self.now.steps.judge) scx.0 n side row.after) command.now) }
     {
         match command {
             Command::Map(_) => {
-                let begun = self.begun_of(command, scx)?;
-                hold(suits(&self.steps.judge, scx.0, &begun))?;
+                hold(self.is_ready(command, scx))?;
                 Ok(())
             }
             _ => {
@@ -388,48 +401,83 @@ impl<'a> Run<'a> {
         Ok(())
     }
 
-    /// On the tree: the SCX-record that a step begins, if it begins one, which makes an edit for its
-    /// client's call.
-    fn begun_by(&self, row: &arena::Row) -> Result<Option<Begun>, Refused>
+    /// On the tree the SCX-record that a step begins, if it begins one, makes an edit for its client's
+    /// call.
+    fn check_begun(&self, row: &arena::Row) -> Result<(), Refused>
         requires after { IsAfter self.now (lines_of self.now) }
         requires map { IsMapAfter self.now (lines_of self.now) }
-        ensures begins { IfOk result (λ o. IfSome o (λ begun. IsBegin (seen_history self.now.steps.judge) row.now row.now.after)) }
-        ensures next { IfOk result (λ o. IfSome o (λ begun.
-            next_command (calls_of self.now) (lines_of self.now) row.now.pass.0 ≡ Some begun.command)) }
-        ensures edit { IfOk result (λ o. IfSome o (MayMake (layout_of self.now) (seen_history self.now.steps.judge) row.now.after)) }
-        ensures none { result ≡ Ok None → (layout_of self.now).mode ≡ Tree → IsBegin (seen_history self.now.steps.judge) row.now row.now.after → ⊥ }
+        ensures { OnOk result ((layout_of self.now).mode ≡ Tree →
+            IsBegin (seen_history self.now.steps.judge) row.now row.now.after →
+            (begun : BegunOf) × MayMake (layout_of self.now) (seen_history self.now.steps.judge) row.now.after begun) }
     {
-        if self.record.script.layout.mode != Mode::Tree || !self.steps.judge.is_begin(row) {
-            return Ok(None);
+        if !self.begins(row) {
+            return Ok(());
         }
-        let client = self.client(row.pass)?;
-        let Some(command) = self.next(&client) else {
-            return Err(Refused::NotLawful);
-        };
-        match begun_for(&self.steps.judge, row.after, &command) {
-            Some(begun) => Ok(Some(begun)),
+        match self.begun_by(row) {
+            Some(_begun) => Ok(()),
             None => Err(Refused::NotLawful),
         }
     }
 
-    /// An SCX-record that has begun for a call with this command.
-    fn begun_of(&self, command: &Command, scx: ScxNo) -> Result<Begun, Refused>
-        ensures known { IfOk result (λ begun. slice_get self.now.edits.items scx.0 ≡ Some (Some begun)) }
-        ensures own { IfOk result (λ begun. begun.command ≡ command.now) }
+    /// Whether a step on the tree begins an SCX-record.
+    fn begins(&self, row: &arena::Row) -> bool
+        requires { IsAfter self.now (lines_of self.now) }
+        ensures tree { IsTrue result → (layout_of self.now).mode ≡ Tree }
+        ensures begins { IsTrue result → IsBegin (seen_history self.now.steps.judge) row.now row.now.after }
+        ensures none { result ≡ false → (layout_of self.now).mode ≡ Tree →
+            IsBegin (seen_history self.now.steps.judge) row.now row.now.after → ⊥ }
     {
-        match self.edits.get(scx.0 as usize) {
-            Some(Some(begun)) if begun.command == *command => Ok(*begun),
-            _ => Err(Refused::NotLawful),
+        self.record.script.layout.mode == Mode::Tree && self.steps.judge.is_begin(row)
+    }
+
+    /// The SCX-record that a step on the tree begins, if it begins one, with the edit that it makes for
+    /// its client's call.
+    fn begun_by(&self, row: &arena::Row) -> Option<Begun>
+        requires after { IsAfter self.now (lines_of self.now) }
+        requires map { IsMapAfter self.now (lines_of self.now) }
+        ensures begins { IfSome result (λ begun. IsBegin (seen_history self.now.steps.judge) row.now row.now.after) }
+        ensures edit { IfSome result (MayMake (layout_of self.now) (seen_history self.now.steps.judge) row.now.after) }
+    {
+        if !self.begins(row) {
+            return None;
+        }
+        let Ok(client) = self.client(row.pass) else {
+            return None;
+        };
+        match self.next(&client) {
+            Some(command) => begun_for(&self.steps.judge, row.after, &command),
+            None => None,
         }
     }
 
-    /// Makes a lawful step, which begins this SCX-record, and asks for this entry, a lawful one or not.
+    /// Whether an SCX-record that wins has begun for a call with this command, and suits it.
+    fn is_ready(&self, command: &Command, scx: ScxNo) -> bool
+        requires { IsTreeRun self.now.steps.judge.layout (seen_history self.now.steps.judge) }
+        ensures { IsTrue result → IsReady self.now.edits.items (seen_history self.now.steps.judge) scx.0 command.now }
+    {
+        match self.begun_of(scx) {
+            Some(begun) => is_of(&begun, command) && suits(&self.steps.judge, scx.0, &begun),
+            None => false,
+        }
+    }
+
+    /// The SCX-record of this number, if one has begun.
+    fn begun_of(&self, scx: ScxNo) -> Option<Begun>
+        ensures { IfSome result (λ begun. slice_get self.now.edits.items scx.0 ≡ Some (Some begun)) }
+    {
+        match self.edits.get(scx.0 as usize) {
+            Some(begun) => *begun,
+            None => None,
+        }
+    }
+
+    /// Makes a lawful step, which asks for this entry.
     fn make(
         &mut self,
         number: u64,
         row: &arena::Row,
-        begun: Option<Begun>,
-        owed: (Option<Entry>, bool),
+        owed: Option<Entry>,
+        fits: bool,
     ) -> Result<(), Refused>
         requires after { IsAfter self.old (lines_of self.old) }
         requires map { IsMapAfter self.old (lines_of self.old) }
@@ -437,14 +485,14 @@ impl<'a> Run<'a> {
         requires rising { (layout_of self.old).mode ≡ Tree →
             HasRisingLevels (seen_history self.old.steps.judge) →
             HasRisingLevels (row.now ⊳ seen_history self.old.steps.judge) }
-        requires begins { IfSome begun (λ b. IsBegin (seen_history self.old.steps.judge) row.now row.now.after) }
-        requires edit { IfSome begun (MayMake (layout_of self.old) (seen_history self.old.steps.judge) row.now.after) }
-        requires none { begun ≡ None → (layout_of self.old).mode ≡ Tree → IsBegin (seen_history self.old.steps.judge) row.now row.now.after → ⊥ }
+        requires edit { (layout_of self.old).mode ≡ Tree →
+            IsBegin (seen_history self.old.steps.judge) row.now row.now.after →
+            (begun : BegunOf) × MayMake (layout_of self.old) (seen_history self.old.steps.judge) row.now.after begun }
         requires settled { OwesNothing (layout_of self.old) (calls_of self.old) (lines_of self.old) }
         requires step { IsStep (layout_of self.old) (tries_of self.old) (calls_of self.old) (lines_of self.old) number row.now }
-        requires owed { entry_of (layout_of self.old) (lines_of self.old) number row.now ≡ owed.0 }
-        requires client { IfSome owed.0 (λ e. e.client.0 < (layout_of self.old).passes) }
-        requires fits { (e : EntryOf) → owed.1 ≡ true → owed.0 ≡ Some e →
+        requires owed { entry_of (layout_of self.old) (lines_of self.old) number row.now ≡ owed }
+        requires client { IfSome owed (λ e. e.client.0 < (layout_of self.old).passes) }
+        requires fits { (e : EntryOf) → fits ≡ true → owed ≡ Some e →
             IsWinOf (layout_of self.old) (calls_of self.old) (lines_of self.old) row.now e }
         ensures after { OnOk result (IsAfter self.new (Line.Step (Row.Step number row.now) ∷ lines_of self.old)) }
         ensures map { OnOk result (IsMapAfter self.new (Line.Step (Row.Step number row.now) ∷ lines_of self.old)) }
@@ -454,15 +502,17 @@ impl<'a> Run<'a> {
     {
         let client = self.client(row.pass)?;
         hold(client.steps < u64::MAX)?;
+        let begun = self.begun_by(row);
         self.steps
             .begin(&client, self.record.script.calls.as_slice());
         self.steps.make(row)?;
         note_begun(&mut self.edits, row.after, begun);
         self.clients[row.pass.0 as usize] = client.stepped(number);
-        note_win(&mut self.clients, number, &owed.0);
+        note_win(&mut self.clients, number, &owed);
         self.turn = number;
         self.last = Some(row.pass);
-        (self.owed, self.fits) = owed;
+        self.owed = owed;
+        self.fits = fits;
         self.idle = false;
         self.awaits = false;
         Ok(())
@@ -584,8 +634,13 @@ impl<'a> Run<'a> {
         requires fits { IsFitting (lines_of self.now) command.now reply.now.answer }
         requires entry { enters command.now reply.now.answer ≡ is_some client.now.won }
         requires command { next_command (calls_of self.now) (lines_of self.now) client.now.pass.0 ≡ Some command.now }
-        ensures right { OnOk result (IsRight (layout_of self.now) (tries_of self.now) reply.now.client.0 (history (layout_of self.now).mode (lines_of self.now)) (start (layout_of self.now).mode (lines_of self.now) reply.now.client.0) (linked (calls_of self.now) (layout_of self.now).mode (lines_of self.now) reply.now.client.0) command.now reply.now.answer) }
-        ensures took { OnOk result (HasTakenFew (layout_of self.now) (tries_of self.now) reply.now.client.0 (history (layout_of self.now).mode (lines_of self.now)) (start (layout_of self.now).mode (lines_of self.now) reply.now.client.0) command.now) }
+        ensures right { OnOk result (IsRight (layout_of self.now) (tries_of self.now) reply.now.client.0
+            (history (layout_of self.now).mode (lines_of self.now))
+            (start (layout_of self.now).mode (lines_of self.now) reply.now.client.0)
+            (linked (calls_of self.now) (layout_of self.now).mode (lines_of self.now) reply.now.client.0) command.now reply.now.answer) }
+        ensures took { OnOk result (HasTakenFew (layout_of self.now) (tries_of self.now) reply.now.client.0
+            (history (layout_of self.now).mode (lines_of self.now))
+            (start (layout_of self.now).mode (lines_of self.now) reply.now.client.0) command.now) }
         ensures placed { OnOk result (IsPlaced (layout_of self.now) (calls_of self.now) (lines_of self.now) reply.now command.now) }
     {
         let limits = &self.record.script.limits;
@@ -616,7 +671,10 @@ impl<'a> Run<'a> {
         requires fits { IsFitting (lines_of self.now) command.now reply.now.answer }
         requires entry { enters command.now reply.now.answer ≡ is_some client.now.won }
         requires command { next_command (calls_of self.now) (lines_of self.now) client.now.pass.0 ≡ Some command.now }
-        ensures right { OnOk result (IsRight (layout_of self.now) (tries_of self.now) reply.now.client.0 (history (layout_of self.now).mode (lines_of self.now)) (start (layout_of self.now).mode (lines_of self.now) reply.now.client.0) (linked (calls_of self.now) (layout_of self.now).mode (lines_of self.now) reply.now.client.0) command.now reply.now.answer) }
+        ensures right { OnOk result (IsRight (layout_of self.now) (tries_of self.now) reply.now.client.0
+            (history (layout_of self.now).mode (lines_of self.now))
+            (start (layout_of self.now).mode (lines_of self.now) reply.now.client.0)
+            (linked (calls_of self.now) (layout_of self.now).mode (lines_of self.now) reply.now.client.0) command.now reply.now.answer) }
         ensures placed { OnOk result (IsPlaced (layout_of self.now) (calls_of self.now) (lines_of self.now) reply.now command.now) }
     {
         let tries = self.record.script.limits.tries;
@@ -638,11 +696,24 @@ impl<'a> Run<'a> {
         requires own { client.now.pass ≡ reply.now.client }
         requires begun { client.now.begun ≡ Some reply.now.begin }
         requires command { next_command (calls_of self.now) (lines_of self.now) client.now.pass.0 ≡ Some command.now }
-        ensures right { OnOk result (IsRight (layout_of self.now) (tries_of self.now) reply.now.client.0 (history (layout_of self.now).mode (lines_of self.now)) (start (layout_of self.now).mode (lines_of self.now) reply.now.client.0) (linked (calls_of self.now) (layout_of self.now).mode (lines_of self.now) reply.now.client.0) command.now reply.now.answer) }
+        ensures right { OnOk result (IsRight (layout_of self.now) (tries_of self.now) reply.now.client.0
+            (history (layout_of self.now).mode (lines_of self.now))
+            (start (layout_of self.now).mode (lines_of self.now) reply.now.client.0)
+            (linked (calls_of self.now) (layout_of self.now).mode (lines_of self.now) reply.now.client.0) command.now reply.now.answer) }
         ensures placed { OnOk result (IsPlaced (layout_of self.now) (calls_of self.now) (lines_of self.now) reply.now command.now) }
     {
         hold(cells::is_right(&self.steps, client, command, reply))?;
         Ok(())
+    }
+}
+
+/// Whether an SCX-record has begun for a call with this command.
+fn is_of(begun: &Begun, command: &Command) -> bool
+    ensures { IsTrue result → begun.now.command ≡ command.now }
+{
+    match (begun.command, *command) {
+        (Command::Map(own), Command::Map(request)) => own == request,
+        _ => false,
     }
 }
 
@@ -691,7 +762,8 @@ fn note_win(clients: &mut Vec<Client>, number: u64, owed: &Option<Entry>)
     requires there { IfSome owed.now (λ e. e.client.0 < length clients.old.items) }
     ensures same { length clients.new.items ≡ length clients.old.items }
     ensures none { owed.now ≡ None → clients.new.items ≡ clients.old.items }
-    ensures some { (e : EntryOf) → (c : ClientOf) → owed.now ≡ Some e → slice_get clients.old.items e.client.0 ≡ Some c → clients.new.items ≡ set clients.old.items e.client.0 (record c { won = Some number }) }
+    ensures some { (e : EntryOf) → (c : ClientOf) → owed.now ≡ Some e → slice_get clients.old.items e.client.0 ≡ Some c →
+        clients.new.items ≡ set clients.old.items e.client.0 (record c { won = Some number }) }
 {
     if let Some(entry) = owed {
         let client = clients[entry.client.0 as usize];
