@@ -23,8 +23,8 @@ abbrev pub RepliesAfterStep : MapCall → Answer → Type 0
 RepliesAfterStep call (Map reply) = MayReply call (form_of reply)
 RepliesAfterStep call _ = ⊥
 
--- an entry of an insert or a delete is of an SCX-record that makes it; so is one of a pop and of a
--- replacement, which suits the map just before it; a read has none
+-- an entry of an insert or a delete is of an SCX-record that makes it; one of a pop or a replacement
+-- is of one that makes the edit which that makes of the map just before; a read has none
 abbrev pub IsMapEntry : MapCall → Layout → History → Entered → Type 0
 IsMapEntry (Edit edit) lay before e = Makes lay before e.scx edit
 IsMapEntry PopFirst lay before e = IsPopEntry lay before e.scx
