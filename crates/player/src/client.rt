@@ -381,10 +381,10 @@ impl Client {
         calls.get(self.next?).copied()
     }
 
-    /// The turn at which an answer stands: of an update that is done, and of a call that has changed
-    /// the map, that of its entry, of a VLX its first, of an LLX its last, of a reading of the map the
-    /// greatest within the call, whoever's, after which the map was as it tells. `won` is the turn of
-    /// the last update of the client's that has won.
+    /// The turn at which an answer stands: of an update that is done, and of a call that has
+    /// changed the map, that of its entry, of a VLX its first, of an LLX its last, of a reading of
+    /// the map the greatest within the call, whoever's, after which the map was as it tells. `won`
+    /// is the turn of the last update of the client's that has won.
     pub(crate) fn moment(
         &self,
         calls: &[Call],
@@ -440,10 +440,8 @@ impl Client {
         places: &Places,
     ) -> Option<u64>
         requires { self.now.begin ≤ turn }
-        ensures {
-            (call : ScriptCall) (at : ℕ) (lines : List Line) → self.now.next ≡ Some at → slice_get calls.now at ≡ Some call →
-                IsPairsMoment calls.now lines (changes places.now) call.command reply.now self.now.begin turn won result
-        }
+        ensures { (call : ScriptCall) (at : ℕ) (lines : List Line) → self.now.next ≡ Some at → slice_get calls.now at ≡ Some call →
+            IsPairsMoment calls.now lines (changes places.now) call.command reply.now self.now.begin turn won result }
     {
         let command = self.call(calls)?.command;
         match command {
@@ -497,11 +495,13 @@ impl Client {
                 Some(_) => won,
                 None => places.greatest(key, None, self.begin, turn),
             },
-            Command::Map(Request::ReplaceIf {
-                key,
-                expected,
-                value: _,
-            }) => self.replace_moment(turn, key, expected, value, won, places),
+            Command::Map(
+                Request::ReplaceIf {
+                    key,
+                    expected,
+                    value: _,
+                },
+            ) => self.replace_moment(turn, key, expected, value, won, places),
             Command::Map(Request::Get { key }) => places.greatest(key, value, self.begin, turn),
             _ => None,
         }
