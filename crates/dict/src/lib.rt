@@ -23,5 +23,5 @@ pub use ordered_map::{Reply, Request};
 pub use run::MapRun;
 pub use shape::Dict;
 pub use told::WordReply;
-pub use translation::{pairs_of, translated, value_of};
+pub use translation::{pair_of, pairs_of, translated, value_of};
 pub use value::WordValue;

@@ -25,6 +25,7 @@ pub fn value_of<V: WordValue>(word: Option<u64>) -> Option<V>
 }
 
 /// The pair of two words, if they are a key's and a value's.
+#[inline(always)]
 fn known_pair<K: WordKey, V: WordValue>(words: Pair) -> Option<(K, V)>
     ensures { IsPairOf K.is_valid K.word_of V.is_valid V.word_of (Option.Some words) result }
 {
@@ -34,7 +35,8 @@ fn known_pair<K: WordKey, V: WordValue>(words: Pair) -> Option<(K, V)>
 }
 
 /// The same, if there are two words.
-fn pair_of<K: WordKey, V: WordValue>(words: Option<Pair>) -> Option<(K, V)>
+#[inline(always)]
+pub fn pair_of<K: WordKey, V: WordValue>(words: Option<Pair>) -> Option<(K, V)>
     ensures { IsPairOf K.is_valid K.word_of V.is_valid V.word_of words result }
 {
     match words {

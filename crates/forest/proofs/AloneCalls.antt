@@ -6,14 +6,17 @@ use Rattle.arena.specs.Blame.{WasInTheWay}
 use Rattle.arena.specs.Fills.{IsOthersScx}
 use Rattle.arena.specs.History.{Extends}
 use Rattle.ordered_map.specs.CallRules.{most_nodes, most_scx}
-use Rattle.ordered_map.specs.OrderedMap.{MapCall, Edit, Get, Successor, Range}
+use Rattle.ordered_map.specs.OrderedMap.{MapCall, Edit, Insert, Delete, PopFirst, ReplaceIf, Get, Successor, Range}
 use Rattle.template.specs.Tries.{tries_since}
 use Rattle.template.proofs.Lemmas.{alone_once}
 use Rattle.forest.specs.Dictionary.{HasSpentAtMost}
 use Rattle.forest.specs.Passes.{PassView, run_of}
 
 one_try : (call : MapCall) (begun old left : ℕ) → begun ≤ 1 → old ≤ left + most_scx call begun → old ≤ left + most_scx call 1
-one_try (Edit e) begun old left one spent = omega (arith, one, spent)
+one_try (Edit (Insert key value)) begun old left one spent = omega (arith, one, spent)
+one_try (Edit (Delete key)) begun old left one spent = omega (arith, one, spent)
+one_try PopFirst begun old left one spent = omega (arith, one, spent)
+one_try (ReplaceIf key expected value) begun old left one spent = omega (arith, one, spent)
 one_try (Get key) begun old left one spent = spent
 one_try (Successor key) begun old left one spent = spent
 one_try (Range low high most) begun old left one spent = spent

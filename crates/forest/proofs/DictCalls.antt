@@ -7,7 +7,7 @@ use Rattle.arena.specs.declared.limits.Mode.TheVariants.{Tree}
 use Rattle.arena.specs.History.{History, Extends}
 use Rattle.arena.specs.Share.{Remaining}
 use Rattle.std.specs.Prelude.{Result, Ok, Err, IfOk, IfSome}
-use Rattle.ordered_map.specs.OrderedMap.{MapCall, Edit as EditCall, MapEdit, MapReply}
+use Rattle.ordered_map.specs.OrderedMap.{MapCall, PopFirst, Range, MapReply}
 use Rattle.ordered_map.specs.Runs.{IsTreeRun}
 use Rattle.prims.specs.Laws.Begun.{taken_since}
 use Rattle.prims.specs.Shares.{IsShare}
@@ -23,7 +23,8 @@ use Rattle.dict.specs.Laws.OneShare.{one_share}
 use Rattle.dict.specs.Says.{TellsOfMap}
 use Rattle.dict.specs.Typed.{IsTypedCall, TypedAllows}
 use Rattle.dict.specs.Laws.TypedMaps.{typed_run}
-use Rattle.dict.specs.Words.{IsWordOf, IsValidReply}
+use Rattle.dict.specs.Laws.Kinds.{IsEditing}
+use Rattle.dict.specs.Words.{IsWordOf, IsValidPair, IsValidReply}
 use Rattle.ordered_map.specs.Replies.{told_of}
 use Rattle.ordered_map.specs.Requests.{AsksForFew, as_map_call}
 use Rattle.dict.specs.declared.dict.DictRun.{DictRun}
@@ -33,7 +34,7 @@ use Rattle.ordered_map.specs.declared.reply.Reply.{Reply}
 use Rattle.ordered_map.specs.declared.reply.Reply.TheVariants as replies
 use Rattle.forest.specs.declared.view.SeatView.{SeatView}
 use Rattle.forest.specs.declared.pass.Pass.TheInside.{Inside}
-use Rattle.forest.specs.Dictionary.{IsToldOf, IsRefusalOf, HasSpentAtMost, UpdateSays, blamed_by_reply, blamed_by_update, update_reply}
+use Rattle.forest.specs.Dictionary.{IsToldOf, IsRefusalOf, HasSpentAtMost, PopSays, UpdateSays, blamed_by_reply, blamed_by_update, popped_reply, update_reply}
 use Rattle.forest.specs.StraightCalls.{IsFreshEdit, IsSameDictCall}
 use Rattle.forest.specs.declared.fault.UpdateFault.{UpdateFault}
 use Rattle.forest.specs.declared.fault.UpdateFault.TheVariants as faults
@@ -76,6 +77,11 @@ pub few_of : {K V : Type 0} (key : K → ℕ) (value_word : V → ℕ) (request 
 few_of key value_word (requests.Range low high most) call e few = subst IsFewCall (sym e) few
 few_of key value_word request call e few = subst IsFewCall (sym e) tt
 
+-- and so is each call that may edit: it is no range
+pub few_edit : (call : MapCall) → IsEditing call → IsFewCall call
+few_edit (Range low high most) x = absurd (let none : 0 ≡ 1 = x.scx 1 in omega (arith, none))
+few_edit call x = tt
+
 -- What a call leaves
 
 module _ {K V : Type 0} (valid_key : K → Type 0) (key : K → ℕ) (valid_value : V → Type 0) (value_word : V → ℕ) where
@@ -108,9 +114,9 @@ module _ {K V : Type 0} (valid_key : K → Type 0) (key : K → ℕ) (valid_valu
   pub request_starts : {T : Type 0} (p : Inside T) (x : IsPass allows Tree p) (m : DictRun K V) (request : Request K V) (tries number : ℕ) → taken_of (pass_view p) ≡ number → call_in m.run ≡ as_map_call key value_word request → IsTypedCall keys values (call_in m.run) → m.tries ≡ tries → IsUnbegun m.run tries number → AsksForFew request → share_of m.run ≡ p.share → CallBegins allows (DictIsReady keys values) (call_of p x (taken_of (pass_view p))) p.seat.me.0.passes m
   request_starts p x m request tries number named call typed same fresh few share = dict_starts p x m typed (rw (same, named) fresh) (few_of key value_word request (call_in m.run) call few) share
 
-  -- and so may a machine of an edit
-  pub edit_starts : {T : Type 0} (p : Inside T) (x : IsPass allows Tree p) (m : DictRun K V) (ed : MapEdit) (tries number : ℕ) → taken_of (pass_view p) ≡ number → IsTypedCall keys values (EditCall ed) → IsFreshEdit ed p.share tries number m → CallBegins allows (DictIsReady keys values) (call_of p x (taken_of (pass_view p))) p.seat.me.0.passes m
-  edit_starts p x m ed tries number named typed fresh = dict_starts p x m (rw fresh.is_call typed) (rw (fresh.has_tries, named) fresh.unbegun) (rw fresh.is_call tt) fresh.has_share
+  -- and so may a machine of a call that may edit
+  pub edit_starts : {T : Type 0} (p : Inside T) (x : IsPass allows Tree p) (m : DictRun K V) (call : MapCall) (tries number : ℕ) → taken_of (pass_view p) ≡ number → IsTypedCall keys values call → IsFewCall call → IsFreshEdit call p.share tries number m → CallBegins allows (DictIsReady keys values) (call_of p x (taken_of (pass_view p))) p.seat.me.0.passes m
+  edit_starts p x m call tries number named typed few fresh = dict_starts p x m (rw fresh.is_call typed) (rw (fresh.has_tries, named) fresh.unbegun) (rw fresh.is_call few) fresh.has_share
 
   module _ {T : Type 0} (p : Inside T) (x : IsPass allows Tree p) (s : Seat ℕ SeatView) (m : DictRun K V) (reply : Reply K V) where
     -- the number of the call
@@ -214,17 +220,31 @@ module _ {K V : Type 0} (valid_key : K → Type 0) (key : K → ℕ) (valid_valu
 
 module _ {K V : Type 0} (key : K → ℕ) (value_word : V → ℕ) (old new : PassView) where
   -- what is told of the map, or why nothing is, is what the answer says
-  pub update_says : (tries : ℕ) (ed : MapEdit) (r : Result (Option V) UpdateFault) → IsToldOf old new (EditCall ed) (told_of key value_word (update_reply r)) → IsRefusalOf {K = K} tries old new (EditCall ed) (update_reply r) → UpdateSays value_word tries old new ed r
-  update_says tries ed (Ok v) told refused = told
-  update_says tries ed (Err (faults.Contended n s)) told refused = refused
-  update_says tries ed (Err (faults.Full full)) told refused = refused
+  pub update_says : (tries : ℕ) (call : MapCall) (r : Result (Option V) UpdateFault) → IsToldOf old new call (told_of key value_word (update_reply r)) → IsRefusalOf {K = K} tries old new call (update_reply r) → UpdateSays value_word tries old new call r
+  update_says tries call (Ok v) told refused = told
+  update_says tries call (Err (faults.Contended n s)) told refused = refused
+  update_says tries call (Err (faults.Full full)) told refused = refused
+
+  pub popped_says : (tries : ℕ) (r : Result (Option (K × V)) UpdateFault) → IsToldOf old new PopFirst (told_of key value_word (popped_reply r)) → IsRefusalOf {K = K} tries old new PopFirst (popped_reply r) → PopSays key value_word tries old new r
+  popped_says tries (Ok p) told refused = told
+  popped_says tries (Err (faults.Contended n s)) told refused = refused
+  popped_says tries (Err (faults.Full full)) told refused = refused
 
   pub update_valid : (valid_key : K → Type 0) (valid_value : V → Type 0) (r : Result (Option V) UpdateFault) → IsValidReply valid_key valid_value (update_reply r) → IfOk r (λ v. IfSome v valid_value)
   update_valid valid_key valid_value (Ok v) x = x
   update_valid valid_key valid_value (Err f) x = tt
 
+  pub popped_valid : (valid_key : K → Type 0) (valid_value : V → Type 0) (r : Result (Option (K × V)) UpdateFault) → IsValidReply valid_key valid_value (popped_reply r) → IfOk r (λ p. IfSome p (IsValidPair valid_key valid_value))
+  popped_valid valid_key valid_value (Ok p) x = x
+  popped_valid valid_key valid_value (Err f) x = tt
+
 -- whom the answer blames, the reply does
-pub blames_same : (K : Type 0) {V : Type 0} (r : Result (Option V) UpdateFault) (blamed : List ℕ) → blamed_by_update r blamed ≡ blamed_by_reply {K = K} (update_reply r) blamed
+pub blames_same : (K : Type 0) {V : Type 0} (r : Result (Option V) UpdateFault) (blamed : List ℕ) → blamed_by_reply {K = K} (update_reply r) blamed ≡ blamed_by_update r blamed
 blames_same K (Ok v) blamed = refl
 blames_same K (Err (faults.Contended n s)) blamed = refl
 blames_same K (Err (faults.Full full)) blamed = refl
+
+pub popped_blames : {K V : Type 0} (r : Result (Option (K × V)) UpdateFault) (blamed : List ℕ) → blamed_by_reply (popped_reply r) blamed ≡ blamed_by_update r blamed
+popped_blames (Ok p) blamed = refl
+popped_blames (Err (faults.Contended n s)) blamed = refl
+popped_blames (Err (faults.Full full)) blamed = refl

@@ -24,6 +24,7 @@ use Rattle.dict.specs.Inner.{inner}
 use Rattle.dict.specs.Calls.{AsksForPairs, call_in, share_of}
 use Rattle.dict.specs.DictKnown.{DictWaits}
 use Rattle.dict.specs.Laws.OneShare.{one_share}
+use Rattle.dict.specs.Laws.Kinds.{is_of_kind}
 use Rattle.dict.proofs.Lemmas.{asks_inside, kind_inside}
 use Rattle.dict.specs.Typed.{TypedAllows}
 use Rattle.dict.specs.Words.{IsWordOf}
@@ -96,7 +97,7 @@ module _ {K V : Type 0} (valid_key : K → Type 0) (key : K → ℕ) (valid_valu
 
   -- one that waits for a step asks for pairs, if it is a range
   pub waits_asks : (m : DictRun K V) (c : Call) (h : History) (s : Step) → waits m c h s → AsksForPairs (call_in m.run)
-  waits_asks m c h s w = asks_inside (inner m.run) c h s w.1.1
+  waits_asks m c h s w = asks_inside (inner m.run) (is_of_kind m.run) c h s w.1.1
 
   module _ {T : Type 0} (p : Inside T) (x : IsPass allows Tree p) (s : Seat ℕ SeatView) (m : DictRun K V) (reply : Reply K V) where
     abbrev call : Call
@@ -116,7 +117,7 @@ module _ {K V : Type 0} (valid_key : K → Type 0) (key : K → ℕ) (valid_valu
         let known : y.known ≡ known_of s.me.0.passes = sym (ap known_of y.is) in
         let is : call_in m.run ≡ call_in first.run = (course_keeps (λ (k : DictRun K V). IsSameCall valid_key key valid_value value_word first k) (refl, refl) (λ old now e q. (e.0 ∙ q.0, e.1 ∙ q.1)) m _ y.so.1).0 in
         subst (λ (rows : List Row). HoldsOfOwn (λ r. (call_rules (call_in m.run)).MayMake r.kind) p.number.0 (run_of (pass_view p)) (history_of p.layout.mode rows)) known
-        (course_holds waits same call first (λ r. (call_rules (call_in m.run)).MayMake r.kind) (λ (k : DictRun K V). call_in k.run ≡ call_in m.run) (sym is) (λ old now e q. e.0 ∙ q) (λ k h t q w. subst (λ (asked : MapCall). (call_rules asked).MayMake t.kind) q (kind_inside (inner k.run) call h t w.1.1)) m _ y.so.1).1
+        (course_holds waits same call first (λ r. (call_rules (call_in m.run)).MayMake r.kind) (λ (k : DictRun K V). call_in k.run ≡ call_in m.run) (sym is) (λ old now e q. e.0 ∙ q) (λ k h t q w. subst (λ (asked : MapCall). (call_rules asked).MayMake t.kind) q (kind_inside (inner k.run) (is_of_kind k.run) call h t w.1.1)) m _ y.so.1).1
 
     -- a pass of this layout and number
     abbrev seen : TableId → Remaining → List Row → List ℕ → PassView

@@ -1,7 +1,7 @@
 -- Whole calls of a dictionary whose updates are straight.
 use Rattle.std.specs.Global.{Global}
 use Rattle.std.specs.Prelude.{Result, Vec}
-use Rattle.std.proofs.Common.{◌≡◌, ℕ, zero, suc, ◌+◌, ◌*◌, ◌-◌, ◌^◌, ◌<◌, ◌≤◌, List, Option, None, refl, sym, subst, ap, arith, ◌∙◌}
+use Rattle.std.proofs.Common.{◌≡◌, ℕ, zero, suc, ◌+◌, ◌*◌, ◌-◌, ◌<◌, ◌≤◌, List, Option, None, refl, sym, subst, ap, arith, ◌∙◌}
 use Rattle.arena.specs.declared.layout.Layout.{Layout}
 use Rattle.arena.specs.declared.step.Step.{Step}
 use Rattle.arena.specs.History.{History}
@@ -12,7 +12,7 @@ use Rattle.order.specs.declared.range.RangeRun.{RangeRun}
 use Rattle.order.specs.declared.refused.Refused.{Refused}
 use Rattle.order.specs.declared.successor.SuccessorRun.{SuccessorRun}
 use Rattle.ordered_map.specs.declared.pair.Pair.{Pair}
-use Rattle.ordered_map.specs.OrderedMap.{MapCall, Edit, edit_key, Successor as SuccessorCall, Range as RangeCall}
+use Rattle.ordered_map.specs.OrderedMap.{Successor as SuccessorCall, Range as RangeCall}
 use Rattle.edits.specs.Next.{standing}
 use Rattle.edits.specs.Steps.{node_tries, scx_tries}
 use Rattle.edits.specs.declared.update.UpdateAt.{UpdateAt}
@@ -24,14 +24,14 @@ use Rattle.dict.specs.Laws.TypedMaps.{typed_run}
 use Rattle.dict.specs.Words.{IsWordOf, IsValidReply}
 use Rattle.dict.specs.declared.dict.DictRun.{DictRun}
 use Rattle.dict.specs.Around.{IsAround}
-use Rattle.dict.specs.Calls.{KeepsTriesButOne, call_in}
+use Rattle.dict.specs.Calls.{IsSmallCall, KeepsTriesButOne, call_in}
 use Rattle.dict.specs.Inner.{EditKind, Update, inner}
 use Rattle.dict.specs.Known.{Goes}
 use Rattle.dict.specs.Laws.Kinds.{IsEditKind}
 use Rattle.dict.specs.declared.run.MapRun.{MapRun}
 use Rattle.dict.specs.declared.run.MapRun.TheVariants.{Successor, Range}
 use Rattle.dict.specs.Translated.{IsTranslated, HasFormOf}
-use Rattle.dict.specs.WordReplies.{word_reply, successor_reply, range_reply}
+use Rattle.dict.specs.WordReplies.{edit_reply, successor_reply, range_reply}
 use Rattle.ordered_map.specs.declared.reply.Reply.{Reply}
 use Rattle.dict.specs.declared.told.WordReply.{WordReply}
 use Rattle.dict.proofs.Lemmas.{edit_goes, edit_ends, successor_ends, range_ends, dict_ends}
@@ -77,13 +77,9 @@ module _ {K V : Type 0} (valid_key : K → Type 0) (key : K → ℕ) (valid_valu
       abbrev pub editing : UpdateRun k.E UpdateAt → DictRun K V
       editing m = record machine { run = around m }
 
-      edit_call : k.E → MapCall
-      edit_call e = Edit (k.edit e)
-
       -- it stays of the same call
       same_call : (old now : UpdateRun k.E UpdateAt) → now.edit ≡ old.edit → call_in (around now) ≡ call_in (around old)
-      unfolding edit_call
-      same_call old now e = is.is_call now ∙ ap edit_call e ∙ sym (is.is_call old)
+      same_call old now e = is.is_call now ∙ ap k.call e ∙ sym (is.is_call old)
 
       goes : (old now : UpdateRun k.E UpdateAt) → HasUpdateGoneOn k.means old now (node_tries now now.at) (scx_tries now now.at) → Goes (inner (around old)) machine.tries c → Goes (inner (around now)) machine.tries c
       goes old now on x = is.goes now machine.tries c (edit_goes machine.tries c k kind old now (is.goes_inside old machine.tries c x) on.edit on.called on.limit on.spends)
@@ -109,7 +105,7 @@ module _ {K V : Type 0} (valid_key : K → Type 0) (key : K → ℕ) (valid_valu
       unfolding editor
       edit_begins ps m same x = record { known = x.known; is = x.is; sound = x.sound; so = (subst (λ r. ready (record machine { run = r }) c (history_of c.layout.mode x.known) None) same x.so.1, begins (λ i. record machine { run = sym same i }) (sym x.so.0)) }
 
-      pub edit_ended : (ps : List SeatedPass) {A : Type 0} (m : UpdateRun k.E A) (a : Updated) → UpdaterEnds editor ps m a → ends c ps machine (editing (standing m Start)) (word_reply a)
+      pub edit_ended : (ps : List SeatedPass) {A : Type 0} (m : UpdateRun k.E A) (a : Updated) → UpdaterEnds editor ps m a → ends c ps machine (editing (standing m Start)) (edit_reply (k.means.goal m.edit) a)
       unfolding editor
       edit_ended ps m a x =
           let y = x.so in
@@ -119,7 +115,7 @@ module _ {K V : Type 0} (valid_key : K → Type 0) (key : K → ℕ) (valid_valu
             is = x.is;
             sound = x.sound;
             so = (
-              (went.mode, is.answers (standing m Start) machine.tries c _ (word_reply a) (edit_ends machine.tries c _ k kind y.old (standing m Start) a (typed_run keys values c.layout _ x.sound) went y.goes.edit y.goes.called y.goes.limit y.goes.spends y.answers)),
+              (went.mode, is.answers (standing m Start) machine.tries c _ (edit_reply (k.means.goal m.edit) a) (edit_ends machine.tries c _ k kind y.old (standing m Start) a (typed_run keys values c.layout _ x.sound) went y.goes.edit y.goes.called y.goes.limit y.goes.spends y.answers)),
               goes_on (editing y.old) (same_call y.old (standing m Start) y.goes.edit, refl, fewer y.old (standing m Start) y.goes.tries) y.course,
             );
           }
@@ -216,11 +212,11 @@ module _ {K V A : Type 0} (k : EditKind) (around : UpdateRun k.E UpdateAt → Ma
   abbrev pub edit_machine : ℕ → UpdateRun k.E A → DictRun K V
   edit_machine tries m = record { run = around (standing m Start); tries = tries; alloc = None; types = record {} }
 
-  pub edit_fresh : (share : Remaining) (tries number : ℕ) → 0 < tries → (m : UpdateRun k.E A) (ed : k.E) → m.edit ≡ ed → m.share ≡ share → m.call ≡ number → m.tries ≡ tries - 1 → m.limit ≡ tries → edit_key (k.edit ed) < 2 ^ 64 → IsFreshEdit (k.edit ed) share tries number (edit_machine tries m)
+  pub edit_fresh : (share : Remaining) (tries number : ℕ) → 0 < tries → (m : UpdateRun k.E A) (ed : k.E) → m.edit ≡ ed → m.share ≡ share → m.call ≡ number → m.tries ≡ tries - 1 → m.limit ≡ tries → IsSmallCall (k.call ed) → IsFreshEdit (k.call ed) share tries number (edit_machine tries m)
   edit_fresh share tries number some m ed is_edit is_share is_call is_tries is_limit small = record {
-    is_call = is.is_call (standing m Start) ∙ ap (λ (e : k.E). Edit (k.edit e)) is_edit;
+    is_call = is.is_call (standing m Start) ∙ ap k.call is_edit;
     has_tries = refl;
-    unbegun = is.unbegun (standing m Start) tries number (refl, all_tries m.tries tries some is_tries, is_call, subst (λ (e : k.E). edit_key (k.edit e) < 2 ^ 64) (sym is_edit) small, is_limit);
+    unbegun = is.unbegun (standing m Start) tries number (refl, all_tries m.tries tries some is_tries, is_call, subst (λ (e : k.E). IsSmallCall (k.call e)) (sym is_edit) small, is_limit);
     has_share = is.is_share (standing m Start) ∙ is_share;
   }
 

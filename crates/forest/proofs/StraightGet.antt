@@ -73,7 +73,7 @@ module _ {K V : Type 0} (valid_key : K → Type 0) (key : K → ℕ) (valid_valu
       call = c;
       is_layout = is_layout;
       is_number = is_number;
-      first = at (walk_at wanted root_trail Start);
+      first = at (walk_at (ToKey wanted) root_trail Start);
       with_run = λ w. at w.0;
       tells = λ w h v run x. (c, x.1.1.0.0);
       turns = λ old now h v s goes next run x. (x.0, (record { mode = x.1.0.mode; small = x.1.0.small; number = x.1.0.number; limit = tt; spent = x.1.0.spent }, ((next c x.1.1.0.0, goes.1 ∙ x.1.1.0.1, x.1.1.0.2, once_past now.0.at _ _ goes.0 x.1.1.0.3), x.1.1.1)));
@@ -82,13 +82,13 @@ module _ {K V : Type 0} (valid_key : K → Type 0) (key : K → ℕ) (valid_valu
 
   -- its machine waits for the head of the root
   pub get_walks : {T : Type 0} (p : Inside T) (x : IsPass allows Tree p) (tries wanted number : ℕ) (layout : Layout) (is_layout : p.layout ≡ layout) (is_number : taken_of (pass_view p) ≡ number) → wanted < 2 ^ 64
-      → WalkerWaits (walker p.share tries wanted (call_of p x (taken_of (pass_view p))) layout number is_layout is_number) p.seat.me.0.passes (walk_from wanted) record { 0 = 0 } (load LoadSettled (node 0 Head))
+      → WalkerWaits (walker p.share tries wanted (call_of p x (taken_of (pass_view p))) layout number is_layout is_number) p.seat.me.0.passes (walk_from (ToKey wanted)) record { 0 = 0 } (load LoadSettled (node 0 Head))
   unfolding walker
   get_walks p x tries wanted number layout is_layout is_number small =
-      let first : DictRun K V = getting p.share tries wanted (walk_at wanted root_trail Start) in
+      let first : DictRun K V = getting p.share tries wanted (walk_at (ToKey wanted) root_trail Start) in
       let c : Call = call_of p x (taken_of (pass_view p)) in
-      starts allows ready waits same c p.seat.me.0.passes first (getting p.share tries wanted (walk_from wanted)) _ (refl, refl, (omega arith, omega arith))
-      (λ h run r. (r.0, (record { mode = r.1.0.mode; small = r.1.0.small; number = r.1.0.number; limit = tt; spent = r.1.0.spent }, ((walk_begins wanted c h r.1.1.0.0.run r.1.1.0.0.small r.1.1.0.0.since, refl, r.1.1.0.2, r.1.1.0.3), r.1.1.1))))
+      starts allows ready waits same c p.seat.me.0.passes first (getting p.share tries wanted (walk_from (ToKey wanted))) _ (refl, refl, (omega arith, omega arith))
+      (λ h run r. (r.0, (record { mode = r.1.0.mode; small = r.1.0.small; number = r.1.0.number; limit = tt; spent = r.1.0.spent }, ((walk_begins (ToKey wanted) c h r.1.1.0.0.run r.1.1.0.0.small r.1.1.0.0.since, refl, r.1.1.0.2, r.1.1.0.3), r.1.1.1))))
       (dict_starts valid_key key valid_value value_word p x first tt (refl, refl, refl, small) tt refl)
 
   -- the value of its word
@@ -98,8 +98,8 @@ module _ {K V : Type 0} (valid_key : K → Type 0) (key : K → ℕ) (valid_valu
 
   -- what its walk finds, it answers
   pub get_ended : (share : Remaining) (tries wanted number : ℕ) (layout : Layout) (c : Call) (is_layout : c.layout ≡ layout) (is_number : c.number ≡ number) (ps : List SeatedPass) (turn : NodeNo) (f : Found) (v : Option V) → c.layout.mode ≡ Tree → IfSome v valid_value → (IfSome f.value (IsWordOf valid_value value_word) → option_map value_word v ≡ f.value)
-      → (x : WalkerFinds (walker share tries wanted c layout number is_layout is_number) ps wanted turn f)
-      → HoldsForCall allows ps c (λ h. DictAnswers valid_key key valid_value value_word (getting share tries wanted x.last) c h (replies.Value v) × Trace allows waits same c (getting share tries wanted (walk_at wanted root_trail Start)) (getting share tries wanted x.last) h)
+      → (x : WalkerFinds (walker share tries wanted c layout number is_layout is_number) ps (ToKey wanted) turn f)
+      → HoldsForCall allows ps c (λ h. DictAnswers valid_key key valid_value value_word (getting share tries wanted x.last) c h (replies.Value v) × Trace allows waits same c (getting share tries wanted (walk_at (ToKey wanted) root_trail Start)) (getting share tries wanted x.last) h)
   unfolding walker
   get_ended share tries wanted number layout c is_layout is_number ps turn f v mode valid same_word x =
       record { known = x.so.known; is = x.so.is; sound = x.so.sound; so = (answers _ x.so.sound x.so.so.0, x.so.so.1) }
@@ -111,24 +111,24 @@ module _ {K V : Type 0} (valid_key : K → Type 0) (key : K → ℕ) (valid_valu
       answers h run r =
           let t : WalkIsTold x.last c h x.told = r.1.1.0.0 in
           let found : HasFoundGoal (ToKey wanted) c h f = x.finds c h t in
-          let got : GetAnswers m c h f.value = (record { first = found.trail.node.first; own = found.trail.node.own; right = found_gives c h wanted f t.run (rw x.goal at t.small) found; none = none_quiet c.layout c.pass h c.start run.lawful r.1.1.0.2.quiet }, tried_one c.layout c.pass h c.start r.1.1.0.3) in
+          let got : GetAnswers m c h f.value = (record { first = found.trail.node.first; own = found.trail.node.own; right = found_gives c h wanted f t.run (rw x.is_goal at t.small) found; none = none_quiet c.layout c.pass h c.start run.lawful r.1.1.0.2.quiet }, tried_one c.layout c.pass h c.start r.1.1.0.3) in
           dict_ends valid_key key valid_value value_word (getting share tries wanted x.last) c h (words.Value f.value) (replies.Value v) mode run
           (get_ends tries c h m share f.value r.1.1.1 r.1.0.spent got) valid (λ typed. same_told f.value v same_word typed) (inl refl)
 
   -- and so it has ended
   pub get_has_ended : {T : Type 0} (p : Inside T) (x : IsPass allows Tree p) (s : Seat ℕ SeatView) (tries wanted number : ℕ) (layout : Layout) (is_layout : p.layout ≡ layout) (is_number : taken_of (pass_view p) ≡ number) (turn : NodeNo) (f : Found) (v : Option V) → IfSome v valid_value → (IfSome f.value (IsWordOf valid_value value_word) → option_map value_word v ≡ f.value)
-      → (y : WalkerFinds (walker p.share tries wanted (call_of p x (taken_of (pass_view p))) layout number is_layout is_number) s.me.0.passes wanted turn f)
+      → (y : WalkerFinds (walker p.share tries wanted (call_of p x (taken_of (pass_view p))) layout number is_layout is_number) s.me.0.passes (ToKey wanted) turn f)
       → HasEnded allows p s (taken_of (pass_view p)) (Answered valid_key key valid_value value_word p x s (getting p.share tries wanted y.last) (replies.Value v))
   unfolding walker
   get_has_ended p x s tries wanted number layout is_layout is_number turn f v valid same_word y =
-      (dict_ended valid_key key valid_value value_word p x s (getting p.share tries wanted y.last) (replies.Value v) (getting p.share tries wanted (walk_at wanted root_trail Start))
+      (dict_ended valid_key key valid_value value_word p x s (getting p.share tries wanted y.last) (replies.Value v) (getting p.share tries wanted (walk_at (ToKey wanted) root_trail Start))
       (get_ended p.share tries wanted number layout (call_of p x (taken_of (pass_view p))) is_layout is_number s.me.0.passes turn f v x.is_mode valid same_word y)).0
 
   -- and so it has loaded settled words and fields alone
   pub get_kinds : {T : Type 0} (p : Inside T) (x : IsPass allows Tree p) (s : Seat ℕ SeatView) (tries wanted number : ℕ) (layout : Layout) (is_layout : p.layout ≡ layout) (is_number : taken_of (pass_view p) ≡ number) (turn : NodeNo) (f : Found) (v : Option V) → IfSome v valid_value → (IfSome f.value (IsWordOf valid_value value_word) → option_map value_word v ≡ f.value)
-      → (y : WalkerFinds (walker p.share tries wanted (call_of p x (taken_of (pass_view p))) layout number is_layout is_number) s.me.0.passes wanted turn f)
+      → (y : WalkerFinds (walker p.share tries wanted (call_of p x (taken_of (pass_view p))) layout number is_layout is_number) s.me.0.passes (ToKey wanted) turn f)
       → HasKeptToKinds (pass_view p) (pass_view (behind valid_key key valid_value value_word p x s (getting p.share tries wanted y.last) (replies.Value v))) (Get wanted)
   unfolding walker
   get_kinds p x s tries wanted number layout is_layout is_number turn f v valid same_word y =
-      dict_kinds valid_key key valid_value value_word p x s (getting p.share tries wanted y.last) (replies.Value v) (getting p.share tries wanted (walk_at wanted root_trail Start))
+      dict_kinds valid_key key valid_value value_word p x s (getting p.share tries wanted y.last) (replies.Value v) (getting p.share tries wanted (walk_at (ToKey wanted) root_trail Start))
       (get_ended p.share tries wanted number layout (call_of p x (taken_of (pass_view p))) is_layout is_number s.me.0.passes turn f v x.is_mode valid same_word y)

@@ -39,6 +39,7 @@ use Rattle.ordered_map.specs.declared.pair.Pair.{Pair}
 use Rattle.template.specs.Trails.{IsOwnMoment}
 use Rattle.template.specs.Walk.Places.{walk_from}
 use Rattle.template.specs.declared.walk.Found.{Found}
+use Rattle.template.specs.declared.walk.Goal.TheVariants.{Key as ToKey}
 use Rattle.template.specs.declared.walk.WalkRun.{WalkRun}
 use Rattle.template.proofs.Lemmas.{walk_begins}
 use Rattle.forest.specs.declared.view.SeatedPass.{SeatedPass}
@@ -255,22 +256,22 @@ module _ {M : Type 0} {o : Calls M} (r : SuccessorReader o) where
     }
 
     -- it begins its walk, with no snapshot
-    pub walks : (ps : List SeatedPass) (old : SuccessorRun) → m.key ≡ old.key → m.limit ≡ old.limit → m.tries ≡ old.tries → m.snaps.items ≡ [] → SearchBegins r ps old → WalkerWaits walker ps (walk_from m.key) record { 0 = 0 } (load LoadSettled (node 0 HeadWord))
+    pub walks : (ps : List SeatedPass) (old : SuccessorRun) → m.key ≡ old.key → m.limit ≡ old.limit → m.tries ≡ old.tries → m.snaps.items ≡ [] → SearchBegins r ps old → WalkerWaits walker ps (walk_from (ToKey m.key)) record { 0 = 0 } (load LoadSettled (node 0 HeadWord))
     unfolding walker
     walks ps old key limit tries none x = record {
       known = x.known;
       is = x.is;
       sound = x.sound;
       so = (
-        r.turns old (walking (walk_from m.key) record { 0 = 0 }) _ None _ is x.so.0 (waiting _ (r.tells old _ None x.so.0)),
-        goes_on (r.with_run old) (r.stays old (walking (walk_from m.key) record { 0 = 0 }) is) x.so.1,
+        r.turns old (walking (walk_from (ToKey m.key)) record { 0 = 0 }) _ None _ is x.so.0 (waiting _ (r.tells old _ None x.so.0)),
+        goes_on (r.with_run old) (r.stays old (walking (walk_from (ToKey m.key)) record { 0 = 0 }) is) x.so.1,
       );
     }
       where
         is : IsSameSuccessor old m
         is = (key, limit, omega (arith, tries), omega (arith, tries))
 
-        waiting : (h : History) → SuccessorIsReady old r.call h None → SuccessorWaits (walking (walk_from m.key) record { 0 = 0 }) r.call h (load LoadSettled (node 0 HeadWord))
+        waiting : (h : History) → SuccessorIsReady old r.call h None → SuccessorWaits (walking (walk_from (ToKey m.key)) record { 0 = 0 }) r.call h (load LoadSettled (node 0 HeadWord))
         waiting h y =
             let g = y.0 in
             let small : m.key < 2 ^ 64 = rw key g.small in (
@@ -280,11 +281,11 @@ module _ {M : Type 0} {o : Calls M} (r : SuccessorReader o) where
                 reads = rw none record { run = g.reads.run; since = g.reads.since; over = g.reads.over; quiet = g.reads.quiet; snapped = λ i p. absurd (omega (arith, p)) };
                 small = small;
               },
-              (refl, inl refl, walk_begins m.key r.call h g.reads.run small g.reads.since),
+              (refl, inl refl, walk_begins (ToKey m.key) r.call h g.reads.run small g.reads.since),
             )
 
     -- behind the leaf that it finds it looks at the last fork where it has turned left
-    pub walk_looks : (ps : List SeatedPass) (f : Found) (turn : NodeNo) → WalkerFinds walker ps m.key turn f → SearchWaits r ps m (LookNext Along 0 Left turn)
+    pub walk_looks : (ps : List SeatedPass) (f : Found) (turn : NodeNo) → WalkerFinds walker ps (ToKey m.key) turn f → SearchWaits r ps m (LookNext Along 0 Left turn)
     unfolding walker
     walk_looks ps f turn x = on_to ps (walking x.last turn) m (LookNext Along 0 Left turn) x.told (itself m)
         (λ h run y. let c = begun_at r.call y.0 in let k = goes_there (walking x.last turn) m c h refl refl y.2 in (y.0, y.1, k, walk_found m turn f c h k y.4.1 (x.finds c h y.4.2))) x.so

@@ -48,7 +48,7 @@ use Rattle.template.specs.FoundLeaf.{HasFoundGoal}
 use Rattle.template.specs.Walk.Known.{WalkIsTold}
 use Rattle.template.specs.Walk.Places.{walk_from, IsPastRoot}
 use Rattle.template.specs.declared.walk.Found.{Found}
-use Rattle.template.specs.declared.walk.Goal.TheVariants.{Key as ToKey}
+use Rattle.template.specs.declared.walk.Goal.{Goal}
 use Rattle.template.specs.declared.walk.WalkAt.{WalkAt}
 use Rattle.template.specs.declared.walk.WalkAt.TheVariants.{Start as WalkStart, Root as WalkRoot}
 use Rattle.template.specs.declared.walk.WalkRun.{WalkRun}
@@ -154,27 +154,27 @@ module _ {M E : Type 0} {o : Calls M} {e : EditMeaning E} (u : Updater o e) wher
   }
 
   -- an update that may begin begins its walk
-  pub walks : (ps : List SeatedPass) {A : Type 0} (m : UpdateRun E A) (key : ℕ) → e.goal m.edit ≡ ToKey key → UpdaterBegins u ps m → WalkerWaits (walker m) ps (walk_from key) record { 0 = 0 } (load LoadSettled (node 0 Head))
+  pub walks : (ps : List SeatedPass) {A : Type 0} (m : UpdateRun E A) (goal : Goal) → goal ≡ e.goal m.edit → UpdaterBegins u ps m → WalkerWaits (walker m) ps (walk_from goal) record { 0 = 0 } (load LoadSettled (node 0 Head))
   unfolding walker
-  walks ps m key goal x = record {
+  walks ps m goal is_goal x = record {
     known = x.known;
     is = x.is;
     sound = x.sound;
     so = (
-      u.turns (standing m Start) (walking m (walk_from key)) _ None _ (moves m Start (Walk (walk_from key)) refl refl) x.so.0 (waiting _ (u.tells (standing m Start) _ None x.so.0)),
-      goes_on (u.with_run (standing m Start)) (u.stays (standing m Start) (walking m (walk_from key)) (moves m Start (Walk (walk_from key)) refl refl)) x.so.1,
+      u.turns (standing m Start) (walking m (walk_from goal)) _ None _ (moves m Start (Walk (walk_from goal)) refl refl) x.so.0 (waiting _ (u.tells (standing m Start) _ None x.so.0)),
+      goes_on (u.with_run (standing m Start)) (u.stays (standing m Start) (walking m (walk_from goal)) (moves m Start (Walk (walk_from goal)) refl refl)) x.so.1,
     );
   }
     where
-      waiting : (h : History) → UpdateIsReady e (standing m Start) u.call h None → UpdateWaits e (walking m (walk_from key)) u.call h (load LoadSettled (node 0 Head))
+      waiting : (h : History) → UpdateIsReady e (standing m Start) u.call h None → UpdateWaits e (walking m (walk_from goal)) u.call h (load LoadSettled (node 0 Head))
       waiting h r =
           let b = r.0 in (
             h,
             r.1,
             inl r.2,
             (
-              record { small = b.small; rests = record { share = b.rests.share; over = b.rests.over }; quiet = quiet_at_start u.call.layout u.call.pass h (idle_if_finished u.call h b.run.1.lawful b.rests.over); same = sym goal },
-              walk_begins key (begun_at u.call h) h b.run (rw goal at b.small) (ends_self h),
+              record { small = b.small; rests = record { share = b.rests.share; over = b.rests.over }; quiet = quiet_at_start u.call.layout u.call.pass h (idle_if_finished u.call h b.run.1.lawful b.rests.over); same = is_goal },
+              walk_begins goal (begun_at u.call h) h b.run (rw is_goal b.small) (ends_self h),
             ),
           )
 
@@ -219,12 +219,12 @@ module _ {M E : Type 0} {o : Calls M} {e : EditMeaning E} (u : Updater o e) wher
     stops now stop (Done a) is fewer spent next x = record { known = x.known; is = x.is; sound = x.sound; so = record { old = x.so.old; got = x.so.got; was = x.so.was; goes = gone_behind x.so.old now now.tries now.tries is fewer spent x.so.tries x.so.goes; answers = next _ (u.runs _ x.sound) x.so.may; course = x.so.course } }
 
   -- behind its walk it goes on as its try does
-  pub finds : (ps : List SeatedPass) {A : Type 0} (m now : UpdateRun E A) (key : ℕ) (turn : NodeNo) (f : Found) (next : Result Next Stop) → e.goal m.edit ≡ ToKey key → IsSameUpdate m now → now.tries ≡ m.tries → HasSpentForNext e m.share now f next (m.tries + 1) (m.tries + 1)
+  pub finds : (ps : List SeatedPass) {A : Type 0} (m now : UpdateRun E A) (goal : Goal) (turn : NodeNo) (f : Found) (next : Result Next Stop) → goal ≡ e.goal m.edit → IsSameUpdate m now → now.tries ≡ m.tries → HasSpentForNext e m.share now f next (m.tries + 1) (m.tries + 1)
       → ((b h : History) → IsRun TreeAllows u.call.layout h → IsTry u.call b h m.limit m.tries → IsUntouched u.call b m.share → MayBeginTry e m (begun_at u.call b) h → IsQuietSince u.call.layout u.call.pass b h → HasFoundGoal (e.goal m.edit) (begun_at u.call b) h f → UpdateGoesOn e u.call h now f next)
-      → WalkerFinds (walker m) ps key turn f → UpdaterGoesOn u ps now f next
+      → WalkerFinds (walker m) ps goal turn f → UpdaterGoesOn u ps now f next
   unfolding walker
-  finds ps m now key turn f next goal is tries spent goes x =
-      goes_behind ps now f (walking m x.last) x.told next is tries spent x.so (goes y.0 _ (u.runs _ x.so.sound) y.1 y.2 record { run = w.1.run; small = w.0.small; since = own_since (begun_at u.call y.0) _ w.1.own; rests = record { share = w.0.rests.share; over = w.0.rests.over } } w.0.quiet (rw goal (x.finds (begun_at u.call y.0) _ w.1)))
+  finds ps m now goal turn f next is_goal is tries spent goes x =
+      goes_behind ps now f (walking m x.last) x.told next is tries spent x.so (goes y.0 _ (u.runs _ x.so.sound) y.1 y.2 record { run = w.1.run; small = w.0.small; since = own_since (begun_at u.call y.0) _ w.1.own; rests = record { share = w.0.rests.share; over = w.0.rests.over } } w.0.quiet (rw (← is_goal) (x.finds (begun_at u.call y.0) _ w.1)))
     where
       y : UpdateIsReady e (walking m x.last) u.call (history_of u.call.layout.mode x.so.known) (Some x.told)
       y = u.tells (walking m x.last) _ (Some x.told) x.so.so.0

@@ -13,10 +13,12 @@ use Rattle.arena.specs.Machines.{Call}
 use Rattle.arena.specs.Words.{node}
 use Rattle.order.specs.Successor.Steps.{last_turn}
 use Rattle.prims.specs.Llx.Known.{load}
-use Rattle.template.specs.Walk.Known.{WalkIsTold, WalkWaits}
+use Rattle.template.specs.FoundLeaf.{asked_key, path_key}
+use Rattle.template.specs.Walk.Known.{WalkIsTold, WalkWaits, asks_key}
 use Rattle.template.specs.Walk.Laws.{walk_told}
 use Rattle.template.specs.Walk.Places.{walk_at, trail_below, IsPastRoot, LoadsHead}
 use Rattle.template.specs.Walk.Steps.{walk_left, WalkFitsAt}
+use Rattle.template.specs.declared.walk.Goal.{Goal}
 use Rattle.template.specs.declared.walk.Trail.{Trail}
 use Rattle.template.specs.declared.walk.WalkAt.{WalkAt}
 use Rattle.template.specs.declared.walk.WalkAt.TheVariants.{Start, Root, Head, Key, Child, Value}
@@ -34,30 +36,30 @@ module _ {M : Type 0} {o : Calls M} (w : Walker o) (ps : List SeatedPass) where
   goes : (m now : WalkRun) (turn : NodeNo) (v : ℕ) (s : Step) → IsPastRoot now.at → now.goal ≡ m.goal → ((d : Call) (h : History) → WalkIsTold m d h v → WalkWaits now d h s) → WalkerIsTold w ps m turn v → WalkerWaits w ps now (last_turn now.at now.trail.node turn) s
   goes m now turn v s past goal edge = goes_to w ps (m, turn) (now, last_turn now.at now.trail.node turn) v s (past, goal, refl) edge
 
-  module _ (key : ℕ) (t : Trail) (turn : NodeNo) where
-    pub to_key : (p : WalkAt) (v : ℕ) (head : HeadParts) → LoadsHead p → head_of v ≡ head → head.class ≡ 0 → WalkerIsTold w ps (walk_at key t p) turn v → WalkerWaits w ps (walk_at key t (Key head)) turn (load LoadSettled (node t.node.0 KeyWord))
-    to_key p v head at is low = goes (walk_at key t p) (walk_at key t (Key head)) turn v _ tt refl (λ d h x. head_to_key key t d h p v head at is x low)
+  module _ (goal : Goal) (t : Trail) (turn : NodeNo) where
+    pub to_key : (p : WalkAt) (v : ℕ) (head : HeadParts) → LoadsHead p → head_of v ≡ head → asks_key goal head ≡ true → WalkerIsTold w ps (walk_at goal t p) turn v → WalkerWaits w ps (walk_at goal t (Key head)) turn (load LoadSettled (node t.node.0 KeyWord))
+    to_key p v head at is asks = goes (walk_at goal t p) (walk_at goal t (Key head)) turn v _ tt refl (λ d h x. head_to_key goal t d h p v head at is x asks)
 
-    pub leaves : (p : WalkAt) (v : ℕ) (head : HeadParts) → LoadsHead p → head_of v ≡ head → head.class ≢ 0 → head.leaf ≡ true → WalkerIsTold w ps (walk_at key t p) turn v → WalkerFinds w ps key turn record { trail = t; head = head; key = 0; value = None }
-    leaves p v head at is high leaf x = record { last = walk_at key t p; goal = refl; told = v; finds = λ d h y. head_ends key t d h p v head at is y high leaf; so = x }
+    pub leaves : (p : WalkAt) (v : ℕ) (head : HeadParts) → LoadsHead p → head_of v ≡ head → asks_key goal head ≡ false → head.leaf ≡ true → WalkerIsTold w ps (walk_at goal t p) turn v → WalkerFinds w ps goal turn record { trail = t; head = head; key = 0; value = None }
+    leaves p v head at is asks leaf x = record { last = walk_at goal t p; is_goal = refl; told = v; finds = λ d h y. head_ends goal t d h p v head at is y asks leaf; so = x }
 
-    pub to_left : (p : WalkAt) (v : ℕ) (head : HeadParts) → LoadsHead p → head_of v ≡ head → head.class ≢ 0 → head.leaf ≡ false → WalkerIsTold w ps (walk_at key t p) turn v → WalkerWaits w ps (walk_at key t (Child head.level Left)) t.node (load LoadChild (node t.node.0 (ChildWord Left)))
-    to_left p v head at is high fork = goes (walk_at key t p) (walk_at key t (Child head.level Left)) turn v _ tt refl (λ d h x. head_to_child key t d h p v head at is x high fork)
+    pub to_left : (p : WalkAt) (v : ℕ) (head : HeadParts) → LoadsHead p → head_of v ≡ head → asks_key goal head ≡ false → head.leaf ≡ false → WalkerIsTold w ps (walk_at goal t p) turn v → WalkerWaits w ps (walk_at goal t (Child head.level Left)) t.node (load LoadChild (node t.node.0 (ChildWord Left)))
+    to_left p v head at is asks fork = goes (walk_at goal t p) (walk_at goal t (Child head.level Left)) turn v _ tt refl (λ d h x. head_to_child goal t d h p v head at is x asks fork)
 
-    pub to_side : (head : HeadParts) (low : ℕ) (side : Side) → side ≡ cond (ltb key low) Left Right → head.leaf ≡ false → WalkerIsTold w ps (walk_at key t (Key head)) turn low → WalkerWaits w ps (walk_at key t (Child head.level side)) (last_turn (Child head.level side) t.node turn) (load LoadChild (node t.node.0 (ChildWord side)))
-    to_side head low side is fork = goes (walk_at key t (Key head)) (walk_at key t (Child head.level side)) turn low _ tt refl (λ d h x. key_to_child key t d h head low x side is fork)
+    pub to_side : (head : HeadParts) (low : ℕ) (side : Side) → side ≡ cond (ltb (path_key goal) low) Left Right → head.leaf ≡ false → WalkerIsTold w ps (walk_at goal t (Key head)) turn low → WalkerWaits w ps (walk_at goal t (Child head.level side)) (last_turn (Child head.level side) t.node turn) (load LoadChild (node t.node.0 (ChildWord side)))
+    to_side head low side is fork = goes (walk_at goal t (Key head)) (walk_at goal t (Child head.level side)) turn low _ tt refl (λ d h x. key_to_child goal t d h head low x side is fork)
 
-    pub to_value : (head : HeadParts) (low : ℕ) → head.leaf ≡ true → key ≡ low → WalkerIsTold w ps (walk_at key t (Key head)) turn low → WalkerWaits w ps (walk_at key t (Value head low)) turn (load LoadSettled (node t.node.0 ValueWord))
-    to_value head low leaf is = goes (walk_at key t (Key head)) (walk_at key t (Value head low)) turn low _ tt refl (λ d h x. key_to_value key t d h head low x leaf is)
+    pub to_value : (head : HeadParts) (low : ℕ) → head.leaf ≡ true → asked_key goal low ≡ low → WalkerIsTold w ps (walk_at goal t (Key head)) turn low → WalkerWaits w ps (walk_at goal t (Value head low)) turn (load LoadSettled (node t.node.0 ValueWord))
+    to_value head low leaf is = goes (walk_at goal t (Key head)) (walk_at goal t (Value head low)) turn low _ tt refl (λ d h x. key_to_value goal t d h head low x leaf is)
 
-    pub finds_other : (head : HeadParts) (low : ℕ) → head.leaf ≡ true → key ≢ low → WalkerIsTold w ps (walk_at key t (Key head)) turn low → WalkerFinds w ps key turn record { trail = t; head = head; key = low; value = None }
-    finds_other head low leaf other x = record { last = walk_at key t (Key head); goal = refl; told = low; finds = λ d h y. key_ends key t d h head low y leaf other; so = x }
+    pub finds_other : (head : HeadParts) (low : ℕ) → head.leaf ≡ true → asked_key goal low ≢ low → WalkerIsTold w ps (walk_at goal t (Key head)) turn low → WalkerFinds w ps goal turn record { trail = t; head = head; key = low; value = None }
+    finds_other head low leaf other x = record { last = walk_at goal t (Key head); is_goal = refl; told = low; finds = λ d h y. key_ends goal t d h head low y leaf other; so = x }
 
-    pub finds_value : (head : HeadParts) (low v : ℕ) → WalkerIsTold w ps (walk_at key t (Value head low)) turn v → WalkerFinds w ps key turn record { trail = t; head = head; key = low; value = Some v }
-    finds_value head low v x = record { last = walk_at key t (Value head low); goal = refl; told = v; finds = λ d h y. value_ends key t d h head low v y; so = x }
+    pub finds_value : (head : HeadParts) (low v : ℕ) → WalkerIsTold w ps (walk_at goal t (Value head low)) turn v → WalkerFinds w ps goal turn record { trail = t; head = head; key = low; value = Some v }
+    finds_value head low v x = record { last = walk_at goal t (Value head low); is_goal = refl; told = v; finds = λ d h y. value_ends goal t d h head low v y; so = x }
 
-    pub to_head : (level : ℕ) (side : Side) (n : ℕ) → WalkerIsTold w ps (walk_at key t (Child level side)) turn n → WalkerWaits w ps (walk_at key (trail_below t side n) (Head level)) turn (load LoadSettled (node n HeadWord))
-    to_head level side n = goes (walk_at key t (Child level side)) (walk_at key (trail_below t side n) (Head level)) turn n _ tt refl (λ d h x. child_to_head key t d h level side n x)
+    pub to_head : (level : ℕ) (side : Side) (n : ℕ) → WalkerIsTold w ps (walk_at goal t (Child level side)) turn n → WalkerWaits w ps (walk_at goal (trail_below t side n) (Head level)) turn (load LoadSettled (node n HeadWord))
+    to_head level side n = goes (walk_at goal t (Child level side)) (walk_at goal (trail_below t side n) (Head level)) turn n _ tt refl (λ d h x. child_to_head goal t d h level side n x)
 
   -- what it is told leads it no deeper than the taken nodes allow
   pub fits : (m : WalkRun) (turn : NodeNo) (v : ℕ) → WalkerIsTold w ps m turn v → WalkFitsAt m.at v (shared_nodes o.layout)

@@ -11,19 +11,19 @@ use Rattle.arena.specs.History.{History, ◌⊳◌, value, Extends}
 use Rattle.arena.specs.Log.{Entry, log}
 use Rattle.ordered_map.specs.declared.pair.Pair.{Pair as PairOf}
 use Rattle.ordered_map.specs.Laws.{AreEdits}
-use Rattle.ordered_map.specs.OrderedMap.{MapCall, Edit, Successor, Range, MapReply, OneValue, ManyPairs, pair_or_none, MapEdit, edited, reply, edit_of}
+use Rattle.ordered_map.specs.OrderedMap.{MapCall, PopFirst, Successor, Range, MapReply, OneValue, ManyPairs, pair_or_none, MapEdit, edited, reply, edit_of}
 use Rattle.ordered_map.specs.Runs.{Makes, map_of_log}
 use Rattle.ordered_map.specs.Spelled.{Spells}
 use Rattle.template.specs.Blame.{IsOverOrNew, HasLostTriesTo}
 use Rattle.template.specs.Tries.{tries_since, HasTriedAtMost}
-use Rattle.ordered_map.specs.CallRules.{need, most_nodes, most_scx, most_steps}
+use Rattle.ordered_map.specs.CallRules.{Form, IsFormOfEdit, MayReply, need, most_nodes, most_scx, most_steps}
 use Rattle.dict.specs.Calls.{AsksForPairs, most_tries}
 use Rattle.dict.specs.Says.{HasMadeRow, HasTooLittle, KeepsLists}
 use Rattle.dict.specs.Typed.{TypedAllows}
 use Rattle.dict.specs.Words.{IsWordOf}
 use Rattle.ordered_map.specs.Replies.{word_pair}
 use Rattle.ordered_map.specs.declared.reply.Reply.{Reply}
-use Rattle.ordered_map.specs.declared.reply.Reply.TheVariants.{Value, Contended, Full, NoMemory}
+use Rattle.ordered_map.specs.declared.reply.Reply.TheVariants.{Value, Pair, Contended, Full, NoMemory}
 use Rattle.forest.specs.declared.fault.OrderFault.{OrderFault}
 use Rattle.forest.specs.declared.fault.OrderFault.TheVariants as reads
 use Rattle.forest.specs.declared.fault.UpdateFault.{UpdateFault}
@@ -160,21 +160,42 @@ blamed_by_reply _ blamed = blamed
 
 -- What each call answers
 
--- the answer of an edit as a reply
+-- the answer of an edit of a key as a reply
 abbrev pub update_reply : {K V : Type 0} → Result (Option V) UpdateFault → Reply K V
 update_reply (Ok old) = Value old
 update_reply (Err (updates.Contended node scx)) = Contended node scx
 update_reply (Err (updates.Full full)) = Full full
 
--- what an answer of `insert` or `delete` says, which may try so often: an insert has changed the
--- map, and so has a delete that tells a value; else that has read it
-abbrev pub UpdateSays : {V : Type 0} → (V → ℕ) → ℕ → PassView → PassView → MapEdit → Result (Option V) UpdateFault → Type 0
-UpdateSays value_word tries old new edit (Ok told) = IsToldOf old new (Edit edit) (Some (OneValue (option_map value_word told)))
-UpdateSays value_word tries old new edit (Err (updates.Contended node scx)) = IsContendedCall tries old new node.0 scx.0
-UpdateSays value_word tries old new edit (Err (updates.Full full)) = IsFullCall old new (Edit edit) full
+-- and that of a pop
+abbrev pub popped_reply : {K V : Type 0} → Result (Option (K × V)) UpdateFault → Reply K V
+popped_reply (Ok pair) = Pair pair
+popped_reply (Err (updates.Contended node scx)) = Contended node scx
+popped_reply (Err (updates.Full full)) = Full full
 
--- whom it blames
-abbrev pub blamed_by_update : {V : Type 0} → Result (Option V) UpdateFault → List ℕ → List ℕ
+-- the call replies a value, unless it is refused
+abbrev pub RepliesValue : MapCall → Type 0
+RepliesValue call = (form : Form) → MayReply call form → IsFormOfEdit form
+
+-- why an edit has told nothing, which may try so often
+abbrev pub UpdateRefuses : ℕ → PassView → PassView → MapCall → UpdateFault → Type 0
+UpdateRefuses tries old new call (updates.Contended node scx) = IsContendedCall tries old new node.0 scx.0
+UpdateRefuses tries old new call (updates.Full full) = IsFullCall old new call full
+
+-- What an answer of `insert`, `delete` or `replace_if` says. An insert has changed the map, and so
+-- have a delete that tells a value, and a replacement that tells the value expected; else they have
+-- read it.
+abbrev pub UpdateSays : {V : Type 0} → (V → ℕ) → ℕ → PassView → PassView → MapCall → Result (Option V) UpdateFault → Type 0
+UpdateSays value_word tries old new call (Ok told) = IsToldOf old new call (Some (OneValue (option_map value_word told)))
+UpdateSays value_word tries old new call (Err fault) = UpdateRefuses tries old new call fault
+
+-- what an answer of `pop_first` says: one that tells a pair has changed the map, and else it has
+-- read it
+abbrev pub PopSays : {K V : Type 0} → (K → ℕ) → (V → ℕ) → ℕ → PassView → PassView → Result (Option (K × V)) UpdateFault → Type 0
+PopSays key_word value_word tries old new (Ok told) = IsToldOf old new PopFirst (Some (pair_or_none (option_map (word_pair key_word value_word) told)))
+PopSays key_word value_word tries old new (Err fault) = UpdateRefuses tries old new PopFirst fault
+
+-- whom they blame
+abbrev pub blamed_by_update : {A : Type 0} → Result A UpdateFault → List ℕ → List ℕ
 blamed_by_update (Err (updates.Contended node scx)) blamed = scx.0 ∷ blamed
 blamed_by_update _ blamed = blamed
 

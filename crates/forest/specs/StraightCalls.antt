@@ -1,5 +1,5 @@
 -- Whole calls of a dictionary.
-use Rattle.std.specs.Prelude.{◌≡◌, ℕ, List, Option, Result}
+use Rattle.std.specs.Prelude.{◌≡◌, ℕ, List, Option}
 use Rattle.arena.specs.declared.layout.Layout.{Layout}
 use Rattle.arena.specs.declared.limits.Mode.TheVariants.{Tree}
 use Rattle.arena.specs.declared.step.Step.{Step}
@@ -14,16 +14,14 @@ use Rattle.dict.specs.Words.{IsWordOf}
 use Rattle.dict.specs.declared.dict.DictRun.{DictRun}
 use Rattle.dict.specs.declared.told.WordReply.{WordReply}
 use Rattle.ordered_map.specs.declared.reply.Reply.{Reply}
-use Rattle.ordered_map.specs.OrderedMap.{MapEdit, Edit}
-use Rattle.forest.specs.Dictionary.{update_reply as answer}
-use Rattle.forest.specs.declared.fault.UpdateFault.{UpdateFault}
+use Rattle.ordered_map.specs.OrderedMap.{MapCall}
 use Rattle.forest.specs.declared.view.SeatedPass.{SeatedPass}
 use Rattle.forest.specs.Traces.{CallBegins, Ends, HoldsForCall, Trace}
 
--- a machine that makes this edit with so many tries and this share, in the call of this number, has
+-- a machine that makes this call with so many tries and this share, in the call of this number, has
 -- not begun
-pub record IsFreshEdit {K V : Type 0} (edit : MapEdit) (share : Remaining) (tries number : ℕ) (m : DictRun K V) : Type 0 where
-  pub is_call : call_in m.run ≡ Edit edit
+pub record IsFreshEdit {K V : Type 0} (call : MapCall) (share : Remaining) (tries number : ℕ) (m : DictRun K V) : Type 0 where
+  pub is_call : call_in m.run ≡ call
   pub has_tries : m.tries ≡ tries
   pub has_share : share_of m.run ≡ share
   pub unbegun : IsUnbegun m.run tries number
@@ -59,15 +57,15 @@ module _ {K V : Type 0} (valid_key : K → Type 0) (key : K → ℕ) (valid_valu
     abbrev pub SeatDictEnds : DictRun K V → Reply K V → Type 0
     SeatDictEnds = Ends DictAllows DictCallWaits IsSameDictCall c ps first (DictAnswers valid_key key valid_value value)
 
-  -- a call of an edit begins, with whichever machine of the edit that has not begun
-  abbrev pub SeatEditBegins : Call → List SeatedPass → MapEdit → Remaining → ℕ → ℕ → Type 0
-  SeatEditBegins c ps edit share tries number = (first : DictRun K V) → IsFreshEdit edit share tries number first → SeatDictBegins c ps first
+  -- a call that may edit begins, with whichever machine of it that has not begun
+  abbrev pub SeatEditBegins : Call → List SeatedPass → MapCall → Remaining → ℕ → ℕ → Type 0
+  SeatEditBegins c ps call share tries number = (first : DictRun K V) → IsFreshEdit call share tries number first → SeatDictBegins c ps first
 
-  -- The call of an edit has ended with this answer: a machine of the edit has begun it, and one
-  -- that has so much of the share left has ended it.
-  pub record EditHasEnded (c : Call) (ps : List SeatedPass) (edit : MapEdit) (share : Remaining) (tries number : ℕ) (left : Remaining) (told : Result (Option V) UpdateFault) : Type 0 where
+  -- A call that may edit has ended with this reply: a machine of it has begun it, and one that has
+  -- so much of the share left has ended it.
+  pub record EditHasEnded (c : Call) (ps : List SeatedPass) (call : MapCall) (share : Remaining) (tries number : ℕ) (left : Remaining) (told : Reply K V) : Type 0 where
     pub first : DictRun K V
     pub last : DictRun K V
-    pub fresh : IsFreshEdit edit share tries number first
+    pub fresh : IsFreshEdit call share tries number first
     pub is_left : share_of last.run ≡ left
-    pub ends : SeatDictEnds c ps first last (answer told)
+    pub ends : SeatDictEnds c ps first last told

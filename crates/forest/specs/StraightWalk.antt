@@ -14,7 +14,7 @@ use Rattle.template.specs.FoundLeaf.{HasFoundGoal}
 use Rattle.template.specs.Walk.Known.{WalkIsTold, WalkWaits}
 use Rattle.template.specs.Walk.Places.{IsPastRoot, walk_at, walk_from}
 use Rattle.template.specs.declared.walk.Found.{Found}
-use Rattle.template.specs.declared.walk.Goal.TheVariants.{Key as ToKey}
+use Rattle.template.specs.declared.walk.Goal.{Goal}
 use Rattle.template.specs.declared.walk.Trail.{Trail}
 use Rattle.template.specs.declared.walk.WalkAt.TheVariants.{Child}
 use Rattle.template.specs.declared.walk.WalkRun.{WalkRun}
@@ -45,20 +45,20 @@ module _ {M : Type 0} {o : Calls M} (w : Walker o) (ps : List SeatedPass) where
   abbrev pub WalkerIsTold : WalkRun → NodeNo → ℕ → Type 0
   WalkerIsTold m turn v = InnerIsTold w ps (m, turn) v
 
-  -- its walk to this key waits for the child on this side of the node to which its trail has come,
+  -- its walk to this goal waits for the child on this side of the node to which its trail has come,
   -- whose head is of this level; it had turned left last at this fork before that
-  abbrev pub WalkerGoesDown : ℕ → Trail → ℕ → Side → NodeNo → Type 0
-  WalkerGoesDown key trail level side turn = WalkerWaits (walk_at key trail (Child level side)) (last_turn (Child level side) trail.node turn) (load LoadChild (child trail.node.0 side))
+  abbrev pub WalkerGoesDown : Goal → Trail → ℕ → Side → NodeNo → Type 0
+  WalkerGoesDown goal trail level side turn = WalkerWaits (walk_at goal trail (Child level side)) (last_turn (Child level side) trail.node turn) (load LoadChild (child trail.node.0 side))
 
-  -- its walk to this key waits for the head of the root, with which it begins
-  abbrev pub WalksFromRoot : ℕ → Type 0
-  WalksFromRoot key = WalkerWaits (walk_from key) record { 0 = 0 } (load LoadSettled (node 0 HeadWord))
+  -- its walk to this goal waits for the head of the root, with which it begins
+  abbrev pub WalksFromRoot : Goal → Type 0
+  WalksFromRoot goal = WalkerWaits (walk_from goal) record { 0 = 0 } (load LoadSettled (node 0 HeadWord))
 
-  -- the last step of its walk to a key has told what makes this leaf the one that it has found,
+  -- the last step of its walk to a goal has told what makes this leaf the one that it has found,
   -- and this fork is the last where it has turned left
-  pub record WalkerFinds (key : ℕ) (turn : NodeNo) (f : Found) : Type 0 where
+  pub record WalkerFinds (goal : Goal) (turn : NodeNo) (f : Found) : Type 0 where
     pub last : WalkRun
-    pub goal : last.goal ≡ ToKey key
+    pub is_goal : last.goal ≡ goal
     pub told : ℕ
-    pub finds : (d : Call) (h : History) → WalkIsTold last d h told → HasFoundGoal (ToKey key) d h f
+    pub finds : (d : Call) (h : History) → WalkIsTold last d h told → HasFoundGoal goal d h f
     pub so : WalkerIsTold last turn told

@@ -1,7 +1,6 @@
 //! The SCX-records that the calls of a pass have blamed. Only proofs read them: no bytes are kept.
 ghost use Rattle.std.specs.Prelude.{◌≡◌, [], ◌∷◌};
 
-use crate::fault::UpdateFault;
 use arena::ScxNo;
 use dict::Reply;
 use prims::Llx;
@@ -53,7 +52,7 @@ impl Blamed {
 
 impl Blamed {
     ghost use Rattle.forest.specs.Passes.{blamed_by};
-    ghost use Rattle.forest.specs.Dictionary.{blamed_by_reply, blamed_by_update};
+    ghost use Rattle.forest.specs.Dictionary.{blamed_by_reply};
 
     /// Takes in what an answer of `llx` blames.
     pub(crate) fn note(&mut self, answer: &Llx)
@@ -69,15 +68,6 @@ impl Blamed {
         ensures { self.new ≡ blamed_by_reply reply.now self.old }
     {
         if let Reply::Contended { node: _, scx } = reply {
-            self.push(*scx);
-        }
-    }
-
-    /// Takes in what the answer of an edit blames.
-    pub(crate) fn note_update<V>(&mut self, told: &Result<Option<V>, UpdateFault>)
-        ensures { self.new ≡ blamed_by_update told.now self.old }
-    {
-        if let Err(UpdateFault::Contended { node: _, scx }) = told {
             self.push(*scx);
         }
     }

@@ -1,18 +1,18 @@
 //! A dictionary that threads share.
-ghost use Rattle.std.specs.Prelude.{◌≡◌, ◌<◌, ◌≤◌, ◌+◌, ◌*◌, ◌^◌, ◌↔◌, Err, IfOk, IfSome, OnOk};
+ghost use Rattle.std.specs.Prelude.{◌≡◌, ◌≤◌, ◌↔◌, Err, IfOk, IfSome, OnOk};
 ghost use Rattle.std.specs.List.{All};
 ghost use Rattle.std.specs.Option.{option_map};
 ghost use Rattle.arena.specs.Limits.{IsAccepted, IsLayoutOf};
 ghost use Rattle.arena.specs.declared.limits.Mode.TheVariants.{Tree};
-ghost use Rattle.ordered_map.specs.OrderedMap.{Edit, Get, Insert as InsertEdit, Delete as DeleteEdit, edit_key, OneValue, Range, Successor};
-ghost use Rattle.dict.specs.Calls.{AsksForPairs};
-ghost use Rattle.ordered_map.specs.CallRules.{MayReply, form_of};
+ghost use Rattle.ordered_map.specs.OrderedMap.{Edit, Get, Insert as InsertEdit, Delete as DeleteEdit, PopFirst as PopCall, ReplaceIf as ReplaceCall, OneValue, Range, Successor};
+ghost use Rattle.dict.specs.Calls.{AsksForPairs, IsSmallCall};
+ghost use Rattle.ordered_map.specs.CallRules.{IsFormOfEdit, IsFormOfPop, MayReply, form_of};
 ghost use Rattle.dict.specs.Says.{KeepsLists};
 ghost use Rattle.dict.specs.Typed.{IsTypedCall};
 ghost use Rattle.dict.specs.Words.{IsValidPair, IsValidReply, IsWordOf};
 ghost use Rattle.ordered_map.specs.Replies.{told_of};
 ghost use Rattle.ordered_map.specs.Requests.{AsksForFew, as_map_call};
-ghost use Rattle.forest.specs.Dictionary.{IsReading, IsToldOf, IsRefusalOf, HasMadeCall, HasSpentAtMost, UpdateSays, SuccessorSays, RangeSays, blamed_by_reply, blamed_by_update, blamed_by_read};
+ghost use Rattle.forest.specs.Dictionary.{IsReading, IsToldOf, IsRefusalOf, HasMadeCall, HasSpentAtMost, PopSays, RepliesValue, UpdateSays, SuccessorSays, RangeSays, blamed_by_reply, blamed_by_update, blamed_by_read, popped_reply, update_reply};
 ghost use Rattle.forest.specs.Passes.{IsOf, AreNew};
 ghost use Rattle.forest.specs.StepKinds.{HasKeptToKinds};
 
@@ -24,7 +24,44 @@ use arena::{Limits, Mode, NoMemory, Share};
 use dict::{Dict, DictRun, EditCall, Reply, Request, WordKey, WordValue, value_of};
 use std::alloc::Global;
 use std::mem::replace;
-use tree::{Delete, Insert};
+use template::Goal;
+use tree::{Delete, Insert, PopFirst, ReplaceIf};
+
+/// What the caller of an edit of a key gets of its reply.
+#[inline(always)]
+fn told_value<K: WordKey, V: WordValue>(reply: Reply<K, V>) -> Result<Option<V>, UpdateFault>
+    requires form { IsFormOfEdit (form_of reply) }
+    ensures { reply ≡ update_reply result }
+{
+    match reply {
+        Reply::Value(value) => Ok(value),
+        Reply::Contended { node, scx } => Err(UpdateFault::Contended { node, scx }),
+        Reply::Full(full) => Err(UpdateFault::Full(full)),
+        Reply::Pair(_) | Reply::NoMemory => unreachable!(),
+        Reply::Pairs(pairs) => {
+            drop(pairs);
+            unreachable!()
+        }
+    }
+}
+
+/// What the caller of a pop gets of its reply.
+#[inline(always)]
+fn told_pair<K: WordKey, V: WordValue>(reply: Reply<K, V>) -> Result<Option<(K, V)>, UpdateFault>
+    requires form { IsFormOfPop (form_of reply) }
+    ensures { reply ≡ popped_reply result }
+{
+    match reply {
+        Reply::Pair(pair) => Ok(pair),
+        Reply::Contended { node, scx } => Err(UpdateFault::Contended { node, scx }),
+        Reply::Full(full) => Err(UpdateFault::Full(full)),
+        Reply::Value(_) | Reply::NoMemory => unreachable!(),
+        Reply::Pairs(pairs) => {
+            drop(pairs);
+            unreachable!()
+        }
+    }
+}
 
 impl<K: WordKey, V: WordValue> Forest<Dict<K, V>> {
     /// An empty dictionary within these limits, and a pass for each client. Refused are limits out
@@ -50,8 +87,8 @@ impl<K: WordKey, V: WordValue> Forest<Dict<K, V>> {
 
     /// Sets a key to a value, and tells the value that the key had just before. It takes at most
     /// three nodes and an SCX-record of the pass's share in a try, and no memory. The pass blames
-    /// the SCX-record that `Contended` names. After Brown, Ellen and Ruppert (PPoPP 2014), as is
-    /// `delete`.
+    /// the SCX-record that `Contended` names. After Brown, Ellen and Ruppert (PPoPP 2014), as are
+    /// the other edits.
     pub fn insert(
         &self,
         pass: &mut Pass<Dict<K, V>>,
@@ -64,13 +101,13 @@ impl<K: WordKey, V: WordValue> Forest<Dict<K, V>> {
         ensures goes_on { HasMadeCall K.is_valid K.word_of V.is_valid V.word_of self.now.tries self.now.layout
             pass.old pass.new (Edit (InsertEdit (K.word_of key) (V.word_of value))) (blamed_by_update result pass.old.blamed) }
         ensures spends { HasSpentAtMost pass.old pass.new (Edit (InsertEdit (K.word_of key) (V.word_of value))) self.now.tries }
-        ensures says { UpdateSays V.word_of self.now.tries pass.old pass.new (InsertEdit (K.word_of key) (V.word_of value)) result }
+        ensures says { UpdateSays V.word_of self.now.tries pass.old pass.new (Edit (InsertEdit (K.word_of key) (V.word_of value))) result }
         ensures valid { IfOk result (λ old. IfSome old V.is_valid) }
     {
         key.valid();
         value.valid();
         let (key, value) = (key.word(), value.word());
-        self.edit(pass, Insert { key, value })
+        self.edit_at_key(pass, Insert { key, value })
     }
 
     /// Takes a key away, and tells the value that it had just before. It takes at most a node and
@@ -82,12 +119,58 @@ impl<K: WordKey, V: WordValue> Forest<Dict<K, V>> {
         ensures goes_on { HasMadeCall K.is_valid K.word_of V.is_valid V.word_of self.now.tries self.now.layout
             pass.old pass.new (Edit (DeleteEdit (K.word_of key.now))) (blamed_by_update result pass.old.blamed) }
         ensures spends { HasSpentAtMost pass.old pass.new (Edit (DeleteEdit (K.word_of key.now))) self.now.tries }
-        ensures says { UpdateSays V.word_of self.now.tries pass.old pass.new (DeleteEdit (K.word_of key.now)) result }
+        ensures says { UpdateSays V.word_of self.now.tries pass.old pass.new (Edit (DeleteEdit (K.word_of key.now))) result }
         ensures valid { IfOk result (λ old. IfSome old V.is_valid) }
     {
         key.valid();
         let key = key.word();
-        self.edit(pass, Delete { key })
+        self.edit_at_key(pass, Delete { key })
+    }
+
+    /// Takes the pair with the least key away, if there is one, and tells it. It takes at most a node
+    /// and an SCX-record of the pass's share in a try, and no memory; of an empty dictionary nothing.
+    pub fn pop_first(&self, pass: &mut Pass<Dict<K, V>>) -> Result<Option<(K, V)>, UpdateFault>
+        requires pass { IsOf self.now pass.old }
+        ensures pass { IsOf self.now pass.new }
+        ensures tree { pass.new.layout.mode ≡ Tree }
+        ensures goes_on { HasMadeCall K.is_valid K.word_of V.is_valid V.word_of self.now.tries self.now.layout
+            pass.old pass.new PopCall (blamed_by_update result pass.old.blamed) }
+        ensures spends { HasSpentAtMost pass.old pass.new PopCall self.now.tries }
+        ensures says { PopSays K.word_of V.word_of self.now.tries pass.old pass.new result }
+        ensures valid { IfOk result (λ pair. IfSome pair (IsValidPair K.is_valid V.is_valid)) }
+    {
+        told_pair(self.edit(pass, PopFirst))
+    }
+
+    /// Puts a value at a key that has the expected one, and tells the value that the key had just
+    /// before: the map is changed where that is the one expected. It takes at most a node and an
+    /// SCX-record of the pass's share in a try, and no memory; of another value nothing.
+    pub fn replace_if(
+        &self,
+        pass: &mut Pass<Dict<K, V>>,
+        key: K,
+        expected: &V,
+        value: V,
+    ) -> Result<Option<V>, UpdateFault>
+        requires pass { IsOf self.now pass.old }
+        ensures pass { IsOf self.now pass.new }
+        ensures tree { pass.new.layout.mode ≡ Tree }
+        ensures goes_on { HasMadeCall K.is_valid K.word_of V.is_valid V.word_of self.now.tries self.now.layout
+            pass.old pass.new (ReplaceCall (K.word_of key) (V.word_of expected.now) (V.word_of value)) (blamed_by_update result pass.old.blamed) }
+        ensures spends { HasSpentAtMost pass.old pass.new (ReplaceCall (K.word_of key) (V.word_of expected.now) (V.word_of value)) self.now.tries }
+        ensures says { UpdateSays V.word_of self.now.tries pass.old pass.new
+            (ReplaceCall (K.word_of key) (V.word_of expected.now) (V.word_of value)) result }
+        ensures valid { IfOk result (λ old. IfSome old V.is_valid) }
+    {
+        key.valid();
+        value.valid();
+        let (key, expected, value) = (key.word(), expected.word(), value.word());
+        let edit = ReplaceIf {
+            key,
+            expected,
+            value,
+        };
+        self.edit_at_key(pass, edit)
     }
 
     /// The value of a key, if it has one. It takes nothing, and is never refused.
@@ -105,8 +188,8 @@ impl<K: WordKey, V: WordValue> Forest<Dict<K, V>> {
         key.valid();
         let number = pass.taken();
         let (words, layout, seat) = (&self.words, &self.layout, &mut pass.seat);
-        let key = key.word();
-        let found = walk::call::<Dict<K, V>, DictRun<K, V>>(words, layout, seat, number, key).0;
+        let goal = Goal::Key(key.word());
+        let found = walk::call::<Dict<K, V>, DictRun<K, V>>(words, layout, seat, number, goal).0;
         value_of(found.value)
     }
 
@@ -172,30 +255,50 @@ impl<K: WordKey, V: WordValue> Forest<Dict<K, V>> {
         }
     }
 
-    /// Makes an edit.
+    /// Makes an edit of a key.
     #[inline(always)]
-    fn edit<E: EditCall>(
+    fn edit_at_key<E: EditCall>(
         &self,
         pass: &mut Pass<Dict<K, V>>,
         edit: E,
     ) -> Result<Option<V>, UpdateFault>
         requires pass { IsOf self.now pass.old }
-        requires typed { IsTypedCall (IsWordOf K.is_valid K.word_of) (IsWordOf V.is_valid V.word_of) (Edit (E.edit edit)) }
-        requires small { edit_key (E.edit edit) < 2 ^ 64 }
+        requires typed { IsTypedCall (IsWordOf K.is_valid K.word_of) (IsWordOf V.is_valid V.word_of) (E.call edit) }
+        requires small { IsSmallCall (E.call edit) }
+        requires value { RepliesValue (E.call edit) }
         ensures pass { IsOf self.now pass.new }
         ensures tree { pass.new.layout.mode ≡ Tree }
         ensures goes_on { HasMadeCall K.is_valid K.word_of V.is_valid V.word_of self.now.tries self.now.layout
-            pass.old pass.new (Edit (E.edit edit)) (blamed_by_update result pass.old.blamed) }
-        ensures spends { HasSpentAtMost pass.old pass.new (Edit (E.edit edit)) self.now.tries }
-        ensures says { UpdateSays V.word_of self.now.tries pass.old pass.new (E.edit edit) result }
+            pass.old pass.new (E.call edit) (blamed_by_update result pass.old.blamed) }
+        ensures spends { HasSpentAtMost pass.old pass.new (E.call edit) self.now.tries }
+        ensures says { UpdateSays V.word_of self.now.tries pass.old pass.new (E.call edit) result }
         ensures valid { IfOk result (λ old. IfSome old V.is_valid) }
+    {
+        told_value(self.edit(pass, edit))
+    }
+
+    /// Makes an edit.
+    #[inline(always)]
+    fn edit<E: EditCall>(&self, pass: &mut Pass<Dict<K, V>>, edit: E) -> Reply<K, V>
+        requires pass { IsOf self.now pass.old }
+        requires typed { IsTypedCall (IsWordOf K.is_valid K.word_of) (IsWordOf V.is_valid V.word_of) (E.call edit) }
+        requires small { IsSmallCall (E.call edit) }
+        ensures pass { IsOf self.now pass.new }
+        ensures tree { pass.new.layout.mode ≡ Tree }
+        ensures goes_on { HasMadeCall K.is_valid K.word_of V.is_valid V.word_of self.now.tries self.now.layout
+            pass.old pass.new (E.call edit) (blamed_by_reply result pass.old.blamed) }
+        ensures spends { HasSpentAtMost pass.old pass.new (E.call edit) self.now.tries }
+        ensures told { IsToldOf pass.old pass.new (E.call edit) (told_of K.word_of V.word_of result) }
+        ensures refused { IsRefusalOf self.now.tries pass.old pass.new (E.call edit) result }
+        ensures form { MayReply (E.call edit) (form_of result) }
+        ensures valid { IsValidReply K.is_valid V.is_valid result }
     {
         let number = pass.taken();
         let share = replace(&mut pass.share, Share::of(&self.layout, pass.number));
         let (words, layout, seat) = (&self.words, &self.layout, &mut pass.seat);
         let (told, share) = calls::make(words, layout, seat, number, share, self.tries, edit);
         pass.share = share;
-        pass.blamed.note_update(&told);
+        pass.blamed.note_reply(&told);
         told
     }
 

@@ -13,7 +13,7 @@ pub enum NewFault {
     NoMemory,
 }
 
-/// Why an insert or a delete was refused. It has not changed the map.
+/// Why an edit was refused. It has not changed the map.
 #[derive(Clone, Copy, Debug, PartialEq, Eq, Error)]
 pub enum UpdateFault {
     /// All tries were lost: this SCX-record of another pass was in the way, over this node.

@@ -79,7 +79,9 @@ pub(crate) fn start_all<'s, E, G: Gate>(
 
 /// Waits for all threads, and gathers what they give back.
 pub(crate) fn join_all<'s, R: Threads>(rt: &R, alloc: Global, threads: Vec<Thread<'s>>) -> Works
-    ensures { (f : Ground) (calls : List Call) → All (λ t. (t.promise.forest.now ≡ f) × (t.promise.calls.now ≡ calls)) threads.entry.items → IfOk result (λ r. HaveWorked f calls (map (λ t. t.promise.pass.value) threads.entry.items) r.0.items r.1.items) }
+    ensures { (f : Ground) (calls : List Call)
+        → All (λ t. (t.promise.forest.now ≡ f) × (t.promise.calls.now ≡ calls)) threads.entry.items
+        → IfOk result (λ r. HaveWorked f calls (map (λ t. t.promise.pass.value) threads.entry.items) r.0.items r.1.items) }
 {
     let mut works = Ok((Vec::new(alloc), Vec::new(alloc)));
     for thread in threads {
@@ -90,7 +92,10 @@ pub(crate) fn join_all<'s, R: Threads>(rt: &R, alloc: Global, threads: Vec<Threa
 
 /// What the threads have given back, and one more.
 fn with_work(works: Works, worked: Worked) -> Works
-    ensures { (f : Ground) (calls : List Call) (olds : List PassView) (old : PassView) → IfOk works (λ r. HaveWorked f calls olds r.0.items r.1.items) → IfOk worked (λ w. HasWorked f calls old w.0 w.1.items) → IfOk result (λ r. HaveWorked f calls (olds ++ old ∷ []) r.0.items r.1.items) }
+    ensures { (f : Ground) (calls : List Call) (olds : List PassView) (old : PassView)
+        → IfOk works (λ r. HaveWorked f calls olds r.0.items r.1.items)
+        → IfOk worked (λ w. HasWorked f calls old w.0 w.1.items)
+        → IfOk result (λ r. HaveWorked f calls (olds ++ old ∷ []) r.0.items r.1.items) }
 {
     let (mut passes, mut replies) = works?;
     let (pass, own) = worked?;

@@ -1,42 +1,55 @@
 //! Edits and ordered reads of a dictionary.
-ghost use Rattle.std.specs.Prelude.{◌≡◌, ◌≤◌, ◌<◌, ◌+◌, ◌^◌};
+ghost use Rattle.std.specs.Prelude.{◌≡◌, ◌≤◌, ◌<◌, ◌+◌};
 ghost use Rattle.arena.specs.Machines.{Call};
-ghost use Rattle.dict.specs.Calls.{AsksForPairs, call_in};
+ghost use Rattle.dict.specs.Calls.{AsksForPairs, IsSmallCall, call_in};
 ghost use Rattle.dict.specs.Says.{KeepsLists};
 ghost use Rattle.ordered_map.specs.CallRules.{most_steps};
 ghost use Rattle.dict.specs.Steps.{map_left};
 ghost use Rattle.dict.specs.Translated.{HasFormOf, IsTranslated};
-ghost use Rattle.dict.specs.WordReplies.{word_reply};
+ghost use Rattle.dict.specs.WordReplies.{edit_reply, goal_reply};
 ghost use Rattle.dict.specs.Words.{IsValidReply};
 ghost use Rattle.dict.specs.declared.dict.DictRun.{DictRun as Run};
-ghost use Rattle.ordered_map.specs.OrderedMap.{Edit as CallOf, edit_key};
-ghost use Rattle.forest.specs.Dictionary.{update_reply};
 ghost use Rattle.forest.specs.Seats.{IsSeatAt, StaysAtTable};
 ghost use Rattle.forest.specs.Traces.{seat_steps, shared_nodes};
 ghost use Rattle.forest.specs.StraightCalls.{EditHasEnded, SeatDictBegins, SeatDictEnds, SeatEditBegins, SeatWordEnds};
 
-use crate::fault::UpdateFault;
 use crate::straight::{range, successor, update};
 use crate::view::SeatView;
 use crate::words::Words;
 use arena::{Layout, Share};
 use atomic_table::Seat;
 use dict::{
-    Dict, DictRun, EditCall, MapRun, Reply, WordKey, WordReply, WordValue, translated, value_of,
+    Dict, DictRun, EditCall, MapRun, Reply, WordKey, WordReply, WordValue, pair_of, translated,
+    value_of,
 };
 use edits::{UpdateRun, Updated};
+use ordered_map::Pair;
+use template::Goal;
 
-/// What the caller of an edit gets of what its update has answered.
+/// What an edit that walks there replies where its leaf has this key, and tells this value.
 #[inline(always)]
-fn of_update<K: WordKey, V: WordValue>(updated: Updated) -> Result<Option<V>, UpdateFault>
-    ensures valid { IsValidReply K.is_valid V.is_valid (update_reply {K = K} result) }
-    ensures says { IsTranslated K.is_valid K.word_of V.is_valid V.word_of (word_reply updated) (update_reply {K = K} result) }
-    ensures form { HasFormOf (word_reply updated) (update_reply {K = K} result) }
+fn of_leaf<K: WordKey, V: WordValue>(goal: Goal, key: u64, value: Option<u64>) -> Reply<K, V>
+    ensures valid { IsValidReply K.is_valid V.is_valid result }
+    ensures says { IsTranslated K.is_valid K.word_of V.is_valid V.word_of (goal_reply goal key value) result }
+    ensures form { HasFormOf (goal_reply goal key value) result }
+{
+    match goal {
+        Goal::Key(_) => Reply::Value(value_of(value)),
+        Goal::Least => Reply::Pair(pair_of(value.map(|value| Pair { key, value }))),
+    }
+}
+
+/// What an edit that walks there replies of what its update has answered.
+#[inline(always)]
+fn of_update<K: WordKey, V: WordValue>(goal: Goal, updated: Updated) -> Reply<K, V>
+    ensures valid { IsValidReply K.is_valid V.is_valid result }
+    ensures says { IsTranslated K.is_valid K.word_of V.is_valid V.word_of (edit_reply goal updated) result }
+    ensures form { HasFormOf (edit_reply goal updated) result }
 {
     match updated {
-        Updated::Done { key: _, value } => Ok(value_of(value)),
-        Updated::Contended { node, scx } => Err(UpdateFault::Contended { node, scx }),
-        Updated::Full(full) => Err(UpdateFault::Full(full)),
+        Updated::Done { key, value } => of_leaf(goal, key, value),
+        Updated::Contended { node, scx } => Reply::Contended { node, scx },
+        Updated::Full(full) => Reply::Full(full),
     }
 }
 
@@ -50,24 +63,24 @@ pub(crate) fn make<K: WordKey, V: WordValue, E: EditCall>(
     share: Share,
     tries: u32,
     edit: E,
-) -> (Result<Option<V>, UpdateFault>, Share)
+) -> (Reply<K, V>, Share)
     requires table { IsSeatAt words.now layout.now seat.old }
     requires tries { 0 < tries }
-    requires small { edit_key (E.edit edit) < 2 ^ 64 }
+    requires small { IsSmallCall (E.call edit) }
     requires begins { (c : Call) × (c.layout ≡ layout.now) × (c.number ≡ number)
-        × SeatEditBegins K.is_valid K.word_of V.is_valid V.word_of c seat.old.me.0.passes (E.edit edit) share tries number }
+        × SeatEditBegins K.is_valid K.word_of V.is_valid V.word_of c seat.old.me.0.passes (E.call edit) share tries number }
     ensures table { StaysAtTable seat.old seat.new }
     ensures ends { (c : Call) → c.layout ≡ layout.now → c.number ≡ number
-        → SeatEditBegins K.is_valid K.word_of V.is_valid V.word_of c seat.old.me.0.passes (E.edit edit) share tries number
-        → EditHasEnded K.is_valid K.word_of V.is_valid V.word_of c seat.new.me.0.passes (E.edit edit) share tries number result.1 result.0 }
-    ensures steps { seat_steps seat.new.me.0.passes ≤ seat_steps seat.old.me.0.passes + most_steps (CallOf (E.edit edit)) tries (shared_nodes layout.now) }
+        → SeatEditBegins K.is_valid K.word_of V.is_valid V.word_of c seat.old.me.0.passes (E.call edit) share tries number
+        → EditHasEnded K.is_valid K.word_of V.is_valid V.word_of c seat.new.me.0.passes (E.call edit) share tries number result.1 result.0 }
+    ensures steps { seat_steps seat.new.me.0.passes ≤ seat_steps seat.old.me.0.passes + most_steps (E.call edit) tries (shared_nodes layout.now) }
 {
-    let key = edit.key();
     let mut run = UpdateRun::new(edit, share, tries, number, ());
     let updated = update::call::<Dict<K, V>, DictRun<K, V>, E>(
-        words, layout, seat, number, &mut run, key,
+        words, layout, seat, number, &mut run,
     );
-    (of_update::<K, V>(updated), run.into_share())
+    let goal = run.edit.goal();
+    (of_update(goal, updated), run.into_share())
 }
 
 /// Makes an ordered read, in words.

@@ -21,7 +21,7 @@ use atomic_table::Seat;
 use order::{Refused, Route, SuccessorAt, SuccessorNext, SuccessorRun};
 use ordered_map::Pair;
 use prims::{LlxAt, LlxRun, Snap};
-use template::Tree;
+use template::{Goal, Tree};
 
 /// What a successor answers.
 type Told = Result<Option<Pair>, Refused>;
@@ -169,7 +169,7 @@ pub(crate) fn call<S: Shape, M: Machine<S>>(
     ensures steps { seat_steps seat.new.me.0.passes ≤ seat_steps seat.old.me.0.passes + successor_left run.old (shared_nodes layout.now) }
 {
     run.snaps.clear();
-    let (_, node) = walk::call::<S, M>(words, layout, seat, number, run.key);
+    let (_, node) = walk::call::<S, M>(words, layout, seat, number, Goal::Key(run.key));
     let (route, level, side) = (Route::Along, 0, Side::Left);
     let mut next = SuccessorNext::Look {
         route,

@@ -4,7 +4,6 @@ ghost use Rattle.forest.specs.Seats.{IsSeatAt, StaysAtTable};
 ghost use Rattle.forest.specs.Traces.{seat_steps, shared_nodes};
 ghost use Rattle.forest.specs.StraightUpdate.{Updater, UpdaterBegins, UpdaterEnds, UpdaterTries, UpdaterGoesOn};
 ghost use Rattle.forest.specs.CallKinds.{calls};
-ghost use Rattle.template.specs.declared.walk.Goal.{Goal};
 ghost use Rattle.edits.specs.Next.{standing, left_then};
 ghost use Rattle.edits.specs.Steps.{update_left};
 ghost use Rattle.edits.specs.declared.update.Next.{Next};
@@ -23,7 +22,7 @@ use help::HelpRun;
 use prims::Snap;
 use template::{Found, Tree};
 
-/// Makes an update that walks to this key: its first try in line, as long as nothing is in its way.
+/// Makes an update: its first try in line, as long as nothing is in its way.
 /// Where something is, its machine goes on from there; until then the update has no place. It is a
 /// function of its own, since the compiler puts nothing into a function that would grow very large,
 /// as one with both edits would.
@@ -34,10 +33,8 @@ pub(crate) fn call<S: Shape, M: Machine<S>, E: Edit + Copy>(
     seat: &mut Seat<u8, SeatView>,
     number: u64,
     run: &mut UpdateRun<E, ()>,
-    key: u64,
 ) -> Updated
     requires table { IsSeatAt words.now layout.now seat.old }
-    requires goal { E.means.goal run.old.edit ≡ Goal.Key key }
     requires begins { (u : Updater (calls S.Shape M.Machine layout.now number) E.means) × UpdaterBegins u seat.old.me.0.passes run.old }
     ensures table { StaysAtTable seat.old seat.new }
     ensures ends { (u : Updater (calls S.Shape M.Machine layout.now number) E.means)
@@ -46,7 +43,8 @@ pub(crate) fn call<S: Shape, M: Machine<S>, E: Edit + Copy>(
     ensures steps { seat_steps seat.new.me.0.passes
         ≤ seat_steps seat.old.me.0.passes + update_left E.means (standing run.old UpdateAt.Start) (shared_nodes layout.now) }
 {
-    let found = anew(&walk::call::<S, M>(words, layout, seat, number, key).0);
+    let goal = run.edit.goal();
+    let found = anew(&walk::call::<S, M>(words, layout, seat, number, goal).0);
     let next = run.test_share(&found);
     try_on::<S, M, E>(words, layout, seat, number, run, &found, next)
 }

@@ -1,5 +1,5 @@
-//! Walks to a key, of whatever machine walks.
-ghost use Rattle.std.specs.Prelude.{◌≡◌, ◌≢◌, ◌≤◌, ◌+◌, ◌*◌, ℕ, suc, true, false, if◌then◌else◌, nat_lt, IfOk, IfErr};
+//! Walks down the tree, of whatever machine walks.
+ghost use Rattle.std.specs.Prelude.{◌≡◌, ◌≤◌, ◌+◌, ◌*◌, ◌==◌, ℕ, suc, true, if◌then◌else◌, nat_lt, IfOk, IfErr};
 ghost use Rattle.arena.specs.Heads.{head_of};
 ghost use Rattle.arena.specs.declared.number.NodeNo.{NodeNo};
 ghost use Rattle.forest.specs.Seats.{IsSeatAt, StaysAtTable};
@@ -8,7 +8,9 @@ ghost use Rattle.forest.specs.StraightWalk.{Walker, WalkerFinds, WalkerGoesDown,
 ghost use Rattle.forest.specs.CallKinds.{calls};
 ghost use Rattle.order.specs.Successor.Steps.{last_turn};
 ghost use Rattle.prims.specs.Llx.Known.{load};
+ghost use Rattle.template.specs.FoundLeaf.{asked_key, path_key};
 ghost use Rattle.template.specs.declared.walk.WalkRun.{WalkRun};
+ghost use Rattle.template.specs.Walk.Known.{asks_key};
 ghost use Rattle.template.specs.Walk.Places.{walk_at, LoadsHead};
 
 use crate::straight::step::step;
@@ -16,7 +18,7 @@ use crate::view::SeatView;
 use crate::words::Words;
 use arena::{Access, Head, Kind, Layout, Machine, NodeNo, NodeWord, Shape, Side, Step, Word};
 use atomic_table::Seat;
-use template::{Found, Trail, WalkAt};
+use template::{Found, Goal, Trail, WalkAt};
 
 /// Loads a word of a node.
 #[inline(always)]
@@ -45,9 +47,13 @@ fn read<S: Shape, M: Machine<S>>(
 
 /// On which side of a fork with this key the walk goes on.
 #[inline(always)]
-fn side_of(wanted: u64, key: u64) -> Side
-    ensures { result ≡ (if nat_lt wanted key then Side.Left else Side.Right) }
+fn side_of(goal: Goal, key: u64) -> Side
+    ensures { result ≡ (if nat_lt (path_key goal) key then Side.Left else Side.Right) }
 {
+    let wanted = match goal {
+        Goal::Key(wanted) => wanted,
+        Goal::Least => 0,
+    };
     if wanted < key {
         Side::Left
     } else {
@@ -55,22 +61,35 @@ fn side_of(wanted: u64, key: u64) -> Side
     }
 }
 
-/// Whether the head in this word is of a class above 0. A walk asks the word at each node, so that
-/// of the heads that it makes of them the compiler keeps the last alone.
-#[inline(always)]
-fn is_high(word: u64) -> bool
-    ensures high { result ≡ true → (head_of word).class ≢ 0 }
-    ensures low { result ≡ false → (head_of word).class ≡ 0 }
-{
-    word % 4 != 0
-}
-
-/// Whether the head in this word is a leaf's.
+/// Whether the head in this word is a leaf's. A walk asks the word at each node, so that of the
+/// heads that it makes of them the compiler keeps the last alone.
 #[inline(always)]
 fn is_leaf(word: u64) -> bool
     ensures { result ≡ (head_of word).leaf }
 {
     word / 4 % 2 == 1
+}
+
+/// Whether the walk loads the key of a node with the head in this word.
+#[inline(always)]
+fn asks_key(goal: Goal, word: u64) -> bool
+    ensures { result ≡ asks_key goal (head_of word) }
+{
+    match goal {
+        Goal::Key(_) => word % 4 == 0,
+        Goal::Least => word % 4 == 0 && is_leaf(word),
+    }
+}
+
+/// Whether the walk tells the value of a leaf of class 0 with this key.
+#[inline(always)]
+fn asks_value(goal: Goal, key: u64) -> bool
+    ensures { result ≡ (asked_key goal key == key) }
+{
+    match goal {
+        Goal::Key(wanted) => wanted == key,
+        Goal::Least => true,
+    }
 }
 
 /// Ends at a leaf of class 0 that has this key.
@@ -80,7 +99,7 @@ fn end<S: Shape, M: Machine<S>>(
     layout: &Layout,
     seat: &mut Seat<u8, SeatView>,
     number: u64,
-    wanted: u64,
+    goal: Goal,
     trail: Trail,
     head: Head,
     key: u64,
@@ -88,28 +107,28 @@ fn end<S: Shape, M: Machine<S>>(
     requires table { IsSeatAt words.now layout.now seat.old }
     requires leaf { head.leaf ≡ true }
     requires told { (w : Walker (calls S.Shape M.Machine layout.now number)) × (turn : NodeNo)
-        × WalkerIsTold w seat.old.me.0.passes (walk_at wanted trail (WalkAt.Key head)) turn key }
+        × WalkerIsTold w seat.old.me.0.passes (walk_at goal trail (WalkAt.Key head)) turn key }
     ensures table { StaysAtTable seat.old seat.new }
     ensures steps { seat_steps seat.new.me.0.passes ≤ seat_steps seat.old.me.0.passes + 1 }
     ensures finds { (w : Walker (calls S.Shape M.Machine layout.now number)) (turn : NodeNo)
-        → WalkerIsTold w seat.old.me.0.passes (walk_at wanted trail (WalkAt.Key head)) turn key
-        → WalkerFinds w seat.new.me.0.passes wanted turn result }
+        → WalkerIsTold w seat.old.me.0.passes (walk_at goal trail (WalkAt.Key head)) turn key
+        → WalkerFinds w seat.new.me.0.passes goal turn result }
 {
-    if wanted != key {
+    if asks_value(goal, key) {
+        let (kind, part) = (Kind::LoadSettled, NodeWord::Value);
+        let value = read::<S, M>(words, layout, seat, number, kind, trail.node, part);
         return Found {
             trail,
             head,
             key,
-            value: None,
+            value: Some(value),
         };
     }
-    let (kind, part) = (Kind::LoadSettled, NodeWord::Value);
-    let value = read::<S, M>(words, layout, seat, number, kind, trail.node, part);
     Found {
         trail,
         head,
         key,
-        value: Some(value),
+        value: None,
     }
 }
 
@@ -120,7 +139,7 @@ fn pass<S: Shape, M: Machine<S>>(
     layout: &Layout,
     seat: &mut Seat<u8, SeatView>,
     number: u64,
-    wanted: u64,
+    goal: Goal,
     trail: Trail,
     at: WalkAt,
     word: u64,
@@ -128,35 +147,35 @@ fn pass<S: Shape, M: Machine<S>>(
     requires place { LoadsHead at }
     requires table { IsSeatAt words.now layout.now seat.old }
     requires told { (w : Walker (calls S.Shape M.Machine layout.now number)) × (turn : NodeNo)
-        × WalkerIsTold w seat.old.me.0.passes (walk_at wanted trail at) turn word }
+        × WalkerIsTold w seat.old.me.0.passes (walk_at goal trail at) turn word }
     ensures table { StaysAtTable seat.old seat.new }
     ensures steps { IfOk result (λ _. seat_steps seat.new.me.0.passes ≤ seat_steps seat.old.me.0.passes + 1) }
     ensures last_steps { IfErr result (λ _. seat_steps seat.new.me.0.passes ≤ seat_steps seat.old.me.0.passes + 2) }
     ensures down { IfOk result (λ side. (w : Walker (calls S.Shape M.Machine layout.now number)) (turn : NodeNo)
-        → WalkerIsTold w seat.old.me.0.passes (walk_at wanted trail at) turn word
-        → WalkerGoesDown w seat.new.me.0.passes wanted trail (head_of word).level side turn) }
+        → WalkerIsTold w seat.old.me.0.passes (walk_at goal trail at) turn word
+        → WalkerGoesDown w seat.new.me.0.passes goal trail (head_of word).level side turn) }
     ensures finds { IfErr result (λ found. (w : Walker (calls S.Shape M.Machine layout.now number)) (turn : NodeNo)
-        → WalkerIsTold w seat.old.me.0.passes (walk_at wanted trail at) turn word
-        → WalkerFinds w seat.new.me.0.passes wanted turn found) }
+        → WalkerIsTold w seat.old.me.0.passes (walk_at goal trail at) turn word
+        → WalkerFinds w seat.new.me.0.passes goal turn found) }
 {
     let head = Head::of(word);
-    if is_high(word) {
+    if asks_key(goal, word) {
+        let (kind, part) = (Kind::LoadSettled, NodeWord::Key);
+        let key = read::<S, M>(words, layout, seat, number, kind, trail.node, part);
         if is_leaf(word) {
-            return Err(Found {
-                trail,
-                head,
-                key: 0,
-                value: None,
-            });
+            return Err(end::<S, M>(words, layout, seat, number, goal, trail, head, key));
         }
-        return Ok(Side::Left);
+        return Ok(side_of(goal, key));
     }
-    let (kind, part) = (Kind::LoadSettled, NodeWord::Key);
-    let key = read::<S, M>(words, layout, seat, number, kind, trail.node, part);
     if is_leaf(word) {
-        return Err(end::<S, M>(words, layout, seat, number, wanted, trail, head, key));
+        return Err(Found {
+            trail,
+            head,
+            key: 0,
+            value: None,
+        });
     }
-    Ok(side_of(wanted, key))
+    Ok(Side::Left)
 }
 
 /// The last fork where a walk has turned left, which was `turn` before it went on to this side of
@@ -171,23 +190,23 @@ fn turn_at(side: Side, node: NodeNo, turn: NodeNo) -> NodeNo
     }
 }
 
-/// The walk from the root to the leaf where a key stands, or would stand, and the last fork where
-/// it turned left, or the root if it turned left at none.
+/// The walk from the root to the leaf where a key stands, or would stand, or to the first leaf, and
+/// the last fork where it turned left, or the root if it turned left at none.
 #[inline(always)]
 pub(crate) fn call<S: Shape, M: Machine<S>>(
     words: &Words<S>,
     layout: &Layout,
     seat: &mut Seat<u8, SeatView>,
     number: u64,
-    wanted: u64,
+    goal: Goal,
 ) -> (Found, NodeNo)
     requires table { IsSeatAt words.now layout.now seat.old }
-    requires waits { (w : Walker (calls S.Shape M.Machine layout.now number)) × WalksFromRoot w seat.old.me.0.passes wanted }
+    requires waits { (w : Walker (calls S.Shape M.Machine layout.now number)) × WalksFromRoot w seat.old.me.0.passes goal }
     ensures table { StaysAtTable seat.old seat.new }
     ensures steps { seat_steps seat.new.me.0.passes ≤ seat_steps seat.old.me.0.passes + 3 * (2 + shared_nodes layout.now) }
     ensures finds { (w : Walker (calls S.Shape M.Machine layout.now number))
-        → WalksFromRoot w seat.old.me.0.passes wanted
-        → WalkerFinds w seat.new.me.0.passes wanted result.1 result.0 }
+        → WalksFromRoot w seat.old.me.0.passes goal
+        → WalkerFinds w seat.new.me.0.passes goal result.1 result.0 }
 {
     let layout = *layout;
     let root = NodeNo(0);
@@ -204,7 +223,7 @@ pub(crate) fn call<S: Shape, M: Machine<S>>(
         let (kind, part) = (Kind::LoadSettled, NodeWord::Head);
         let word = read::<S, M>(words, &layout, seat, number, kind, node, part);
         let head = Head::of(word);
-        let side = match pass::<S, M>(words, &layout, seat, number, wanted, trail, at, word) {
+        let side = match pass::<S, M>(words, &layout, seat, number, goal, trail, at, word) {
             Ok(side) => side,
             Err(found) => return (found, turn),
         };

@@ -1,24 +1,24 @@
--- A walk to a key, by the place where it stands.
+-- A walk to a goal, by the place where it stands.
 use Rattle.std.specs.Prelude.{ℕ}
 use Rattle.arena.specs.declared.word.Side.{Side}
 use Rattle.arena.specs.declared.word.Side.TheVariants.{Left}
-use Rattle.template.specs.declared.walk.Goal.TheVariants.{Key as ToKey}
+use Rattle.template.specs.declared.walk.Goal.{Goal}
 use Rattle.template.specs.declared.walk.Trail.{Trail}
 use Rattle.template.specs.declared.walk.WalkAt.{WalkAt}
 use Rattle.template.specs.declared.walk.WalkAt.TheVariants.{Start, Root, Head}
 use Rattle.template.specs.declared.walk.WalkRun.{WalkRun}
 
--- the walk to a key that stands at this place of this trail
-abbrev pub walk_at : ℕ → Trail → WalkAt → WalkRun
-walk_at key trail at = record { goal = ToKey key; trail = trail; at = at }
+-- the walk to this goal that stands at this place of this trail
+abbrev pub walk_at : Goal → Trail → WalkAt → WalkRun
+walk_at goal trail at = record { goal = goal; trail = trail; at = at }
 
 -- the trail of a walk that stands at the root
 abbrev pub root_trail : Trail
 root_trail = record { grand = record { 0 = 0 }; grand_side = Left; parent = record { 0 = 0 }; side = Left; node = record { 0 = 0 } }
 
--- the walk to a key that has asked for the head of the root
-abbrev pub walk_from : ℕ → WalkRun
-walk_from key = walk_at key root_trail Root
+-- the walk to this goal that has asked for the head of the root
+abbrev pub walk_from : Goal → WalkRun
+walk_from goal = walk_at goal root_trail Root
 
 -- the trail one node further down, on this side
 abbrev pub trail_below : Trail → Side → ℕ → Trail

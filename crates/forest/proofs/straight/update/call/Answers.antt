@@ -12,15 +12,15 @@ use Rattle.forest.proofs.straight.update.call.Goals as goal
 
 -- whichever call began, behind its walk it goes on as its try does
 goes_on : (g : Over) (c : After-test_share-next g) (u : Updater (calls g.S.Shape g.M.Machine c.args.layout.now c.args.number) g.E.Edit.means) → UpdaterBegins u c.args.seat.now.me.0.passes c.args.run.now → UpdaterGoesOn u c.call.new.seat.me.0.passes c.test_share-next.new.self c.anew-found.result c.test_share-next.result
-goes_on g c u x = finds u _ c.args.run.now c.test_share-next.new.self c.args.key c.call.result.1 c.anew-found.result c.test_share-next.result c.requires.goal c.test_share-next.ensures.same c.test_share-next.ensures.tries c.test_share-next.ensures.spends
+goes_on g c u x = finds u _ c.args.run.now c.test_share-next.new.self c.goal-goal.result c.call.result.1 c.anew-found.result c.test_share-next.result c.goal-goal.ensures c.test_share-next.ensures.same c.test_share-next.ensures.tries c.test_share-next.ensures.spends
     (λ b h. c.test_share-next.ensures.turn u.call b h)
-    (subst (λ (f : Found). WalkerFinds (walker u c.args.run.now) c.call.new.seat.me.0.passes c.args.key c.call.result.1 f) (sym c.anew-found.ensures)
-    (c.call.ensures.finds (walker u c.args.run.now) (walks u _ c.args.run.now c.args.key c.requires.goal x)))
+    (subst (λ (f : Found). WalkerFinds (walker u c.args.run.now) c.call.new.seat.me.0.passes c.goal-goal.result c.call.result.1 f) (sym c.anew-found.ensures)
+    (c.call.ensures.finds (walker u c.args.run.now) (walks u _ c.args.run.now c.goal-goal.result c.goal-goal.ensures x)))
 
 pub call-requires-clause-waits : goal.call-requires-clause-waits
 call-requires-clause-waits g c = let r = c.requires.begins in (
   walker r.0 c.args.run.now,
-  walks r.0 _ c.args.run.now c.args.key c.requires.goal r.1,
+  walks r.0 _ c.args.run.now c.goal-goal.result c.goal-goal.ensures r.1,
 )
 
 pub try_on-requires-clause-goes_on : goal.try_on-requires-clause-goes_on

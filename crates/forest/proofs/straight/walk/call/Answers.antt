@@ -14,27 +14,27 @@ use Rattle.forest.proofs.straight.walk.call.Goals as goal
 
 -- whichever call it is, the head of this node has been told
 told : (g : Over) (c : After-read-word g) (w : Walker (calls g.S.Shape g.M.Machine c.args.layout.now c.args.number))
-    → WalksFromRoot w c.args.seat.now.me.0.passes c.args.wanted
-    → WalkerIsTold w c.read-word.new.seat.me.0.passes (walk_at c.args.wanted c.loop-side.trail c.loop-side.at) c.loop-side.turn c.read-word.result
-told g c w x = c.read-word.ensures.told w (walk_at c.args.wanted c.loop-side.trail c.loop-side.at) c.loop-side.turn (c.loop-side.invariant.waits w x)
+    → WalksFromRoot w c.args.seat.now.me.0.passes c.args.goal
+    → WalkerIsTold w c.read-word.new.seat.me.0.passes (walk_at c.args.goal c.loop-side.trail c.loop-side.at) c.loop-side.turn c.read-word.result
+told g c w x = c.read-word.ensures.told w (walk_at c.args.goal c.loop-side.trail c.loop-side.at) c.loop-side.turn (c.loop-side.invariant.waits w x)
 
 -- and the child on the side to which it goes
 told_child : (g : Over) (c : After-read-child g) (w : Walker (calls g.S.Shape g.M.Machine c.args.layout.now c.args.number))
-    → WalksFromRoot w c.args.seat.now.me.0.passes c.args.wanted
-    → WalkerIsTold w c.read-child.new.seat.me.0.passes (walk_at c.args.wanted c.loop-side.trail (Child (head_of c.read-word.result).level c.in-Ok.side)) (last_turn (Child (head_of c.read-word.result).level c.in-Ok.side) c.loop-side.trail.node c.loop-side.turn) c.read-child.result
-told_child g c w x = c.read-child.ensures.told w (walk_at c.args.wanted c.loop-side.trail (Child (head_of c.read-word.result).level c.in-Ok.side)) (last_turn (Child (head_of c.read-word.result).level c.in-Ok.side) c.loop-side.trail.node c.loop-side.turn)
+    → WalksFromRoot w c.args.seat.now.me.0.passes c.args.goal
+    → WalkerIsTold w c.read-child.new.seat.me.0.passes (walk_at c.args.goal c.loop-side.trail (Child (head_of c.read-word.result).level c.in-Ok.side)) (last_turn (Child (head_of c.read-word.result).level c.in-Ok.side) c.loop-side.trail.node c.loop-side.turn) c.read-child.result
+told_child g c w x = c.read-child.ensures.told w (walk_at c.args.goal c.loop-side.trail (Child (head_of c.read-word.result).level c.in-Ok.side)) (last_turn (Child (head_of c.read-word.result).level c.in-Ok.side) c.loop-side.trail.node c.loop-side.turn)
     (c.in-Ok.ensures.down w c.loop-side.turn (told g (goal.at.read-child-requires-clause-waits g c.before).After-read-word w x))
 
 head_fits : (g : Over) (c : After-read-word g) → WalkFitsAt c.loop-side.at c.read-word.result (shared_nodes c.args.layout.now)
 head_fits g c = let r = c.requires.waits in
-    fits r.0 _ (walk_at c.args.wanted c.loop-side.trail c.loop-side.at) c.loop-side.turn c.read-word.result (told g c r.0 r.1)
+    fits r.0 _ (walk_at c.args.goal c.loop-side.trail c.loop-side.at) c.loop-side.turn c.read-word.result (told g c r.0 r.1)
 
 child_fits : (g : Over) (c : After-read-child g) → (head_of c.read-word.result).level + 1 < 2 + shared_nodes c.args.layout.now
 child_fits g c = let r = c.requires.waits in
-    fits r.0 _ (walk_at c.args.wanted c.loop-side.trail (Child (head_of c.read-word.result).level c.in-Ok.side)) (last_turn (Child (head_of c.read-word.result).level c.in-Ok.side) c.loop-side.trail.node c.loop-side.turn) c.read-child.result (told_child g c r.0 r.1)
+    fits r.0 _ (walk_at c.args.goal c.loop-side.trail (Child (head_of c.read-word.result).level c.in-Ok.side)) (last_turn (Child (head_of c.read-word.result).level c.in-Ok.side) c.loop-side.trail.node c.loop-side.turn) c.read-child.result (told_child g c r.0 r.1)
 
 pub read-word-requires-clause-waits : goal.read-word-requires-clause-waits
-read-word-requires-clause-waits g c = let r = c.requires.waits in (r.0, walk_at c.args.wanted c.loop-side.trail c.loop-side.at, c.loop-side.turn, c.loop-side.invariant.waits r.0 r.1)
+read-word-requires-clause-waits g c = let r = c.requires.waits in (r.0, walk_at c.args.goal c.loop-side.trail c.loop-side.at, c.loop-side.turn, c.loop-side.invariant.waits r.0 r.1)
 
 pub pass-requires-clause-told : goal.pass-requires-clause-told
 pass-requires-clause-told g c = let r = c.requires.waits in (r.0, c.loop-side.turn, told g (goal.at.pass-requires-clause-told g c).After-read-word r.0 r.1)
@@ -51,7 +51,7 @@ returns-in-Err-clause-finds g c = λ w x. c.in-Err.ensures.finds w c.loop-side.t
 pub read-child-requires-clause-waits : goal.read-child-requires-clause-waits
 read-child-requires-clause-waits g c = let r = c.requires.waits in (
   r.0,
-  walk_at c.args.wanted c.loop-side.trail (Child (head_of c.read-word.result).level c.in-Ok.side),
+  walk_at c.args.goal c.loop-side.trail (Child (head_of c.read-word.result).level c.in-Ok.side),
   last_turn (Child (head_of c.read-word.result).level c.in-Ok.side) c.loop-side.trail.node c.loop-side.turn,
   c.in-Ok.ensures.down r.0 c.loop-side.turn (told g (goal.at.read-child-requires-clause-waits g c).After-read-word r.0 r.1),
 )
@@ -70,5 +70,5 @@ loop-side-preserved g c = record {
       let one = c.read-word.ensures.one in let more = c.in-Ok.ensures.steps in let last = c.read-child.ensures.one in let old = c.loop-side.invariant.steps in
       omega (arith, less, one, more, last, old)
       );
-  waits = λ w x. to_head w _ c.args.wanted c.loop-side.trail c.turn_at-turn.result c.of-head.result.level c.in-Ok.side c.read-child.result (rw (c.turn_at-turn.ensures (head_of c.read-word.result).level, c.of-head.ensures) (told_child g (goal.at.loop-side-preserved g c).After-read-child w x));
+  waits = λ w x. to_head w _ c.args.goal c.loop-side.trail c.turn_at-turn.result c.of-head.result.level c.in-Ok.side c.read-child.result (rw (c.turn_at-turn.ensures (head_of c.read-word.result).level, c.of-head.ensures) (told_child g (goal.at.loop-side-preserved g c).After-read-child w x));
 }

@@ -16,8 +16,8 @@ invariant-loop-side g l = record {
   place : LoadsHead l.at;
   steps : seat_steps l.seat.me.0.passes + suc (walk_left l.at (shared_nodes l.layout)) ≤ seat_steps l.fn.seat.me.0.passes + 3 * (2 + shared_nodes l.layout);
   waits : (w : Walker (calls g.S.Shape g.M.Machine l.layout l.number))
-      → WalksFromRoot w l.fn.seat.me.0.passes l.wanted
-      → WalkerWaits w l.seat.me.0.passes (walk_at l.wanted l.trail l.at) l.turn (load LoadSettled (node l.trail.node.0 Head));
+      → WalksFromRoot w l.fn.seat.me.0.passes l.goal
+      → WalkerWaits w l.seat.me.0.passes (walk_at l.goal l.trail l.at) l.turn (load LoadSettled (node l.trail.node.0 Head));
 }
 
 abbrev pub decreases-loop-side : goal.decreases-loop-side
