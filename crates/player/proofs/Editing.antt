@@ -23,7 +23,7 @@ use Rattle.prims.specs.declared.put.PutRun.{PutRun}
 use Rattle.prims.specs.declared.put.PutAt.{PutAt}
 use Rattle.prims.specs.declared.put.PutAt.TheVariants.{Start as PutStart, Fill as PutFill, Scx as PutScx}
 use Rattle.prims.specs.declared.scx.ScxAt.{ScxAt}
-use Rattle.prims.specs.declared.scx.ScxRun.{ScxRun}
+use Rattle.prims.specs.declared.scx.ScxRun.{ScxRun as ScxMachine}
 use Rattle.prims.specs.declared.snap.Snap.{Snap}
 use Rattle.prims.specs.declared.scx.ScxAt.TheVariants.{Start as ScxStart, Help}
 use Rattle.prims.proofs.Lemmas.{llx_fills_not, vlx_fills_not, own_in_hand}
@@ -142,7 +142,7 @@ module _ {E : Type 0} (means : EditMeaning E) (m : UpdateRun E UpdateAt) where
     makes_it edit j e (Tracks.begun x) = rw e at x
     makes_it edit j e (Tracks.over x) = absurd (let z = p.unfinished in let y = rw e at x in omega (arith, z, y))
 
-    tells_at : (b begin : History) (f : Found) (scx : ScxRun) → Scxs means m (begun_at call b) h f scx begin → HasFilled (begun_at (begun_at call b) begin) h scx.scx.0 scx.call scx.update → Makes call.layout h scx.scx.0 (means.edit m.edit f) → TellsAtWin f call.layout h scx.scx.0
+    tells_at : (b begin : History) (f : Found) (scx : ScxMachine) → Scxs means m (begun_at call b) h f scx begin → HasFilled (begun_at (begun_at call b) begin) h scx.scx.0 scx.call scx.update → Makes call.layout h scx.scx.0 (means.edit m.edit f) → TellsAtWin f call.layout h scx.scx.0
     tells_at b begin f scx x filled makes = record {
       value_is = λ row now won map spells. leaf_value at_found (begun_at call b) f begin h row scx.scx.0 scx.update.snaps now filled.way.begun.since won makes x.found x.leaf filled.members map spells;
       first_is = λ row now won. told_first means m.edit (begun_at call b) f begin h row scx.scx.0 scx.update.snaps now filled.way.begun.since won makes x.found x.leaf filled.members;

@@ -229,7 +229,7 @@ module _ (v : ClientView) (c : Client) (sound : IsSound v) (row : Row) (s : ℕ)
           update_is_first (facts_before v.layout v.past row l) wins (rw same at (won_since v.layout v.past (other ⊳ before) t sound.lawful w.within (has_won other before t w.wins)))
 
   -- the reply of the call on the map just before says that it makes this edit
-  Gives : MapCall → MapEdit → Type 0
+  abbrev Gives : MapCall → MapEdit → Type 0
   Gives of edit = (map : List Pair) → Spells v.layout (value v.past) map → edit_of of (reply of map) ≡ Some edit
 
   module _ (m : DictRun ℕ ℕ) (is_pass : c.pass.0 < v.layout.passes) (tree : v.layout.mode ≡ Tree) (run : IsRun PlayedAllows v.layout (row ⊳ v.past)) (x : IsEditHand (inner m.run) (machine_call v c is_pass v.start) v.past s) where

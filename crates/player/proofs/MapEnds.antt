@@ -8,10 +8,10 @@ use Rattle.ordered_map.specs.CallRules.{insert_nodes, delete_nodes, pop_nodes, r
 use Rattle.dict.specs.Calls.{AsksForPairs}
 use Rattle.dict.specs.DictKnown.{DictRefuses}
 use Rattle.dict.specs.Says.{HasMadeEdit, HasLost, HasReadMap, HasRunOut, HasTooLittle, HasTold, HasToldBy, TellsOfMap}
-use Rattle.ordered_map.specs.OrderedMap.{MapCall, MapEdit, MapReply, OneValue, Edit, PopFirst, ReplaceIf, Get, changes_map, edit_of, first_pair, get, is_value, pair_or_none, reply, Insert as PutEdit, Delete as TakeEdit}
+use Rattle.ordered_map.specs.OrderedMap.{MapCall, MapEdit, MapReply, OneValue, OnePair, Edit, PopFirst, ReplaceIf, Get, changes_map, edit_of, first_pair, get, is_value, pair_or_none, reply, Insert as PutEdit, Delete as TakeEdit}
 use Rattle.ordered_map.specs.Paths.{IsAnswerAt}
 use Rattle.ordered_map.proofs.Lemmas.{one_spelling}
-use Rattle.ordered_map.specs.Replies.{number_reply}
+use Rattle.ordered_map.specs.Replies.{number_reply, word_pair}
 use Rattle.ordered_map.specs.Requests.{map_request}
 use Rattle.ordered_map.specs.declared.pair.Pair.{Pair as PairOf}
 use Rattle.ordered_map.specs.declared.reply.Reply.{Reply}
@@ -71,12 +71,15 @@ none_first : (first : Option PairOf) → pair_or_none first ≡ OneValue None �
 none_first None e = refl
 none_first (Some p) e = cc
 
+abbrev one : ℕ
+one = 1
+
 -- a replacement needs a node where it finds the value that it expects
-value_there : (expected : ℕ) (told : Option ℕ) → 0 < replace_nodes expected told → (told ≡ Some expected) × (replace_nodes expected told ≡ 1)
+value_there : (expected : ℕ) (told : Option ℕ) → 0 < replace_nodes expected told → (told ≡ Some expected) × (replace_nodes expected told ≡ one)
 value_there expected None some = absurd (omega (arith, some))
 value_there expected (Some old) some = go (eqb old expected) refl some
   where
-    go : (b : Bool) → eqb old expected ≡ b → 0 < cond b 1 0 → (Some old ≡ Some expected) × (cond b 1 0 ≡ 1)
+    go : (b : Bool) → eqb old expected ≡ b → 0 < cond b one 0 → (Some old ≡ Some expected) × (cond b one 0 ≡ one)
     go true q some = (ap (λ (n : ℕ). Some n) (eqb-true old expected q), refl)
     go false q some = absurd (omega (arith, some))
 
@@ -219,7 +222,7 @@ module _ (v : ClientView) (c : Client) (is_pass : c.pass.0 < v.layout.passes) (w
   -- a pop that tells a pair has changed the map, and one that tells none has read it
   popped : (found : Option (ℕ × ℕ)) → TellsOfMap call v.past PopFirst (number_reply (Pair found)) → IsRightSo (MapOf PopFirstOf) (MapAnswer (Pair found))
   popped None x = record { right = had_none x; entry = enters_so PopFirst (OneValue None) tt x }
-  popped (Some p) x = record { right = tt; entry = enters_so PopFirst _ tt x }
+  popped (Some p) x = record { right = tt; entry = enters_so PopFirst (OnePair (word_pair (λ n. n) (λ n. n) p)) tt x }
 
   -- a replacement that tells the value expected has changed the map, and any other has read it
   replaced : (key expected put : ℕ) (old : Option ℕ) → HasTold call v.past (ReplaceIf key expected put) (OneValue old) → IsRightSo (MapOf (ReplaceIfOf key expected put)) (MapAnswer (Value old))

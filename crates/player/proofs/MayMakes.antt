@@ -10,6 +10,7 @@ use Rattle.script.specs.declared.command.Command.TheVariants.{Llx as LlxOf, Scx 
 use Rattle.ordered_map.specs.CallRules.{call_rules}
 use Rattle.ordered_map.specs.OrderedMap.{MapCall}
 use Rattle.dict.specs.Inner.{inner}
+use Rattle.dict.specs.Laws.Kinds.{is_of_kind}
 use Rattle.dict.proofs.Lemmas.{kind_inside}
 use Rattle.player.specs.declared.run.Run.{Run}
 use Rattle.player.specs.declared.run.Run.TheVariants.{Llx, Scx, Vlx, Map}
@@ -22,7 +23,7 @@ use Rattle.player.specs.ClientView.{IsMachineOf}
 pub may_make : (command : Command) (number : ℕ) (run : Run) (then : Option Put) (call : Call) (h : History) (step : Step) → IsMachineOf command number run then → RunWaits run call h step → MayMake command step.kind
 may_make (ScxOf update) number run then call h step of w = tt
 may_make (SetOf field value) number run then call h step of w = tt
-may_make command number (Map m) then call h step of w = subst (λ (k : Command). MayMake k step.kind) (sym of.is) (subst (λ (k : MapCall). (call_rules k).MayMake step.kind) of.called (kind_inside (inner m.run) call h step w.1.1))
+may_make command number (Map m) then call h step of w = subst (λ (k : Command). MayMake k step.kind) (sym of.is) (subst (λ (k : MapCall). (call_rules k).MayMake step.kind) of.called (kind_inside (inner m.run) (is_of_kind m.run) call h step w.1.1))
 may_make (VlxOf cells) number (Vlx m) then call h step of w = rw w.asked refl
 may_make (LlxOf cell) number (Llx m) then call h step of w = llx_fills_not AllowsAll m call h step w
 may_make (VlxOf cells) number (Llx m) then call h step of w = absurd of.1

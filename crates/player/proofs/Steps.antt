@@ -296,7 +296,7 @@ module _ (p : Interleaving) (i number : ℕ) (step : Ask) (a : IsStepAsked p i n
     x = edit_entered (client_view lay tries calls lines entry.client.0) o.client o.running made o.scx a.turn.so_far.sound o.waits sound o.wins o.own tree
 
     -- the map just before
-    map_before : List Pair
+    abbrev map_before : List Pair
     map_before = map_of calls (written_log lines)
 
     gives : edit_of (map_request x.request) (reply (map_request x.request) map_before) ≡ Some x.edit
@@ -456,7 +456,7 @@ places_logged lay calls clients lines e old new owned change more p = record { e
 
 -- its key may be changed
 pub place_known : (lay : Layout) (calls : List Call) (clients : List Client) (lines : List Line) (e : Entry) (places : Places) → IsOwned lay calls lines clients e → ArePlaces lay calls lines places → IfSome (owners_edit clients e.client.0) (λ (edit : MapEdit). Knows places (edit_key edit))
-place_known lay calls clients lines e places owned p = go (owners_edit clients e.client.0) refl
+place_known _ _ clients _ e places owned p = go (owners_edit clients e.client.0) refl
   where
     go : (edit : Option MapEdit) → owners_edit clients e.client.0 ≡ edit → IfSome edit (λ (d : MapEdit). Knows places (edit_key d))
     go None is = tt

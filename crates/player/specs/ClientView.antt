@@ -36,7 +36,7 @@ use Rattle.record.specs.declared.record.Line.{Line}
 use Rattle.record.specs.declared.record.Answer.{Answer}
 use Rattle.script.specs.Cells.{cells_of}
 use Rattle.script.specs.Update.{update_cells, update_finalize, update_field, update_value}
-use Rattle.record.specs.declared.record.Answer.TheVariants.{Full, Map as MapAnswer}
+use Rattle.record.specs.declared.record.Answer.TheVariants.{Full}
 use Rattle.player.specs.declared.run.Run.{Run}
 use Rattle.player.specs.declared.run.Run.TheVariants.{Llx, Scx, Vlx, Map}
 use Rattle.player.specs.declared.client.Client.{Client}

@@ -440,10 +440,8 @@ impl Client {
         places: &Places,
     ) -> Option<u64>
         requires { self.now.begin ≤ turn }
-        ensures {
-            (call : ScriptCall) (at : ℕ) (lines : List Line) → self.now.next ≡ Some at → slice_get calls.now at ≡ Some call →
-                IsPairsMoment calls.now lines (changes places.now) call.command reply.now self.now.begin turn won result
-        }
+        ensures { (call : ScriptCall) (at : ℕ) (lines : List Line) → self.now.next ≡ Some at → slice_get calls.now at ≡ Some call →
+            IsPairsMoment calls.now lines (changes places.now) call.command reply.now self.now.begin turn won result }
     {
         let command = self.call(calls)?.command;
         match command {
@@ -497,11 +495,13 @@ impl Client {
                 Some(_) => won,
                 None => places.greatest(key, None, self.begin, turn),
             },
-            Command::Map(Request::ReplaceIf {
-                key,
-                expected,
-                value: _,
-            }) => self.replace_moment(turn, key, expected, value, won, places),
+            Command::Map(
+                Request::ReplaceIf {
+                    key,
+                    expected,
+                    value: _,
+                },
+            ) => self.replace_moment(turn, key, expected, value, won, places),
             Command::Map(Request::Get { key }) => places.greatest(key, value, self.begin, turn),
             _ => None,
         }

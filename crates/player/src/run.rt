@@ -104,26 +104,34 @@ impl Run {
             return None;
         };
         match &run.run {
-            MapRun::Insert(UpdateRun {
-                edit,
-                at: UpdateAt::Scx { .. },
-                ..
-            }) => Some((edit.key, Some(edit.value))),
-            MapRun::Delete(UpdateRun {
-                edit,
-                at: UpdateAt::Scx { .. },
-                ..
-            }) => Some((edit.key, None)),
+            MapRun::Insert(
+                UpdateRun {
+                    edit,
+                    at: UpdateAt::Scx { .. },
+                    ..
+                },
+            ) => Some((edit.key, Some(edit.value))),
+            MapRun::Delete(
+                UpdateRun {
+                    edit,
+                    at: UpdateAt::Scx { .. },
+                    ..
+                },
+            ) => Some((edit.key, None)),
             // The key is not in the command: it is that of the leaf.
-            MapRun::PopFirst(UpdateRun {
-                at: UpdateAt::Scx { found, scx: _ },
-                ..
-            }) => Some((found.key, None)),
-            MapRun::ReplaceIf(UpdateRun {
-                edit,
-                at: UpdateAt::Scx { .. },
-                ..
-            }) => Some((edit.key, Some(edit.value))),
+            MapRun::PopFirst(
+                UpdateRun {
+                    at: UpdateAt::Scx { found, scx: _ },
+                    ..
+                },
+            ) => Some((found.key, None)),
+            MapRun::ReplaceIf(
+                UpdateRun {
+                    edit,
+                    at: UpdateAt::Scx { .. },
+                    ..
+                },
+            ) => Some((edit.key, Some(edit.value))),
             _ => None,
         }
     }

@@ -1,4 +1,4 @@
-use Rattle.std.proofs.Common.{◌≡◌, List, drop, reverse, refl, sym, ◌∙◌, ap, subst}
+use Rattle.std.proofs.Common.{◌≡◌, List, drop, reverse, refl, ◌∙◌, ap, subst}
 use Rattle.std.proofs.lemmas.List.{drop_all, reverse-reverse}
 use Rattle.record.specs.LawfulRun.{IsLawfulRun}
 use Rattle.record.specs.Schedules.{AreOrdered}
