@@ -46,8 +46,8 @@ module _ (run : Run) (client : Client) (command : Command) (r : Finished) (x : I
       record {
         in_order = x.in_order;
         owed = owed;
-        spelled = (map mode).spelled;
-        entries = (map mode).entries;
+        spelled = (map.tree mode).spelled;
+        entries = (map.tree mode).entries;
         pass = ap (λ (p : PassNo). p.0) own;
         has_won = known.won;
         next = next;

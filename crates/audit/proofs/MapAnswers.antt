@@ -40,10 +40,10 @@ use Rattle.record.specs.Shares.{HasTooFewToTry}
 use Rattle.record.specs.Turns.{history, turns, begin, start, won}
 use Rattle.record.proofs.Lemmas.{begin_within, entries_none, value_told}
 use Rattle.moments.specs.declared.places.Change.{Change}
-use Rattle.moments.specs.Entries.{HadWithin}
+use Rattle.moments.specs.Entries.{HadFirstWithin, HadWithin}
 use Rattle.moments.specs.Ordered.{FallFrom}
 use Rattle.moments.proofs.Lemmas.{falls, ordered_placed}
-use Rattle.audit.specs.Asked.{IsAsked, IsTooFewFor, IsToldBefore, IsValueAt, IsReadAt}
+use Rattle.audit.specs.Asked.{IsAsked, IsTooFewFor, IsTooFewToTake, IsToldBefore, IsValueAt, IsReadAt}
 use Rattle.audit.specs.declared.client.Client.{Client}
 use Rattle.audit.proofs.TurnMoments.{IsNotIdle, had_at_key, had_first}
 use Rattle.audit.proofs.WonEntries.{won_entered}
@@ -231,16 +231,6 @@ no_pair : (o : Option Pair) → pair_or_none o ≡ OneValue None → o ≡ None
 no_pair None e = refl
 no_pair (Some p) e = absurd (cc)
 
--- a map with a value has a pair
-some_first : (key v : ℕ) (m : List Pair) → get key m ≡ Some v → (first : Pair) × (first_pair m ≡ Some first)
-some_first key v [] e = absurd (let z : None ≡ Some v = e in cc)
-some_first key v (p ∷ ps) e = (p, refl)
-
-pub first_had : (lay : Layout) (now start : History) (key v : ℕ) → HadAtKey lay now start key (Some v) → (first : Pair) × HadFirst lay now start (Some first)
-first_had lay now start key v (row, before, since, at) =
-    let y = some_first key v at.map at.gives in
-    (y.0, (row, before, since, record { moment = at.moment; within = at.within; since = at.since; map = at.map; spelled = at.spelled; is = y.1 }))
-
 module _ (lay : Layout) (tries : ℕ) (calls : List Call) (lines : List Line) (changed : List Change) (client : Client) (command : Command) (r : Finished) (x : IsAsked lay tries calls lines changed client command r) where
   -- the call has turns
   pub some_turns : r.begin ≤ r.end
@@ -254,12 +244,21 @@ module _ (lay : Layout) (tries : ℕ) (calls : List Call) (lines : List Line) (c
   had_within : (MayAnswerAtOnce command r.answer → ⊥) → (key : ℕ) (value : Option ℕ) → HadWithin calls lines key value r.begin r.end → HadAtKey lay (history lay.mode lines) (start lay.mode lines r.client.0) key value
   had_within never key value h = had_at_key lay tries calls r.client.0 command lines r.begin h.0 key value x.in_order x.spelled x.owed (λ _. not_idle_by lines r.client.0 command r.answer x.fits never) x.next x.begun h.1 (subst (λ (n : ℕ). h.0 ≤ n) x.end h.2) h.3
 
+  -- and so it is with the pair that was its first, or that there was none
+  first_within : (answer : Option Pair) (m : ℕ) → (MayAnswerAtOnce command r.answer → ⊥) → r.begin ≤ m → m ≤ r.end → first_pair (map_at calls lines m) ≡ answer → HadFirst lay (history lay.mode lines) (start lay.mode lines r.client.0) answer
+  first_within answer m never from to gives = had_first lay tries calls r.client.0 command lines r.begin m answer x.in_order x.spelled x.owed (λ _. not_idle_by lines r.client.0 command r.answer x.fits never) x.next x.begun from (subst (λ (n : ℕ). m ≤ n) x.end to) gives
+
   -- Refusals
 
   pub too_few_for : (MayAnswerAtOnce command r.answer → ⊥) → (key : ℕ) (value : Option ℕ) (what : Resource) (left : ℕ) → HadWithin calls lines key value r.begin r.end → (IsSome (begin lines client.pass.0) → HasTooFewToTry lay client.pass.0 (history lay.mode lines) (start lay.mode lines client.pass.0) (insert_nodes value) what left) → IsTooFewFor lay lines r key value what left
   too_few_for never key value what left had few =
       let own = subst (λ (n : ℕ). IsSome (begin lines n) → HasTooFewToTry lay n (history lay.mode lines) (start lay.mode lines n) (insert_nodes value) what left) x.pass few in
       (had_within never key value had, own (rw x.begun refl))
+
+  pub too_few_to_take : (MayAnswerAtOnce command r.answer → ⊥) → (first : Pair) (what : Resource) (left : ℕ) → HadFirstWithin calls lines (Some first) r.begin r.end → (IsSome (begin lines client.pass.0) → HasTooFewToTry lay client.pass.0 (history lay.mode lines) (start lay.mode lines client.pass.0) 1 what left) → IsTooFewToTake lay lines r first what left
+  too_few_to_take never first what left had few =
+      let own = subst (λ (n : ℕ). IsSome (begin lines n) → HasTooFewToTry lay n (history lay.mode lines) (start lay.mode lines n) 1 what left) x.pass few in
+      (first_within (Some first) had.0 never had.1 had.2 had.3, own (rw x.begun refl))
 
   is_refused : reply_told r.answer ≡ None → r.moment ≡ None → IsRefused lines r
   is_refused none nowhere = record {
@@ -300,9 +299,6 @@ module _ (lay : Layout) (tries : ℕ) (calls : List Call) (lines : List Line) (c
   value_reading : (key : ℕ) (call : MapCall) → ((m : List _) → reply call m ≡ OneValue (get key m)) → won lay lines r.client.0 ≡ None → IsValueAt calls lines key r → IsPlacedReading calls lines call r
   value_reading key call says none v = ordered_placed lay tries calls lines r call v.turn x.in_order none x.number v.moment (greatest_value key call says v)
 
-  first_within : (answer : Option Pair) (m : ℕ) → (MayAnswerAtOnce command r.answer → ⊥) → r.begin ≤ m → m ≤ r.end → first_pair (map_at calls lines m) ≡ answer → HadFirst lay (history lay.mode lines) (start lay.mode lines r.client.0) answer
-  first_within answer m never from to gives = had_first lay tries calls r.client.0 command lines r.begin m answer x.in_order x.spelled x.owed (λ _. not_idle_by lines r.client.0 command r.answer x.fits never) x.next x.begun from (subst (λ (n : ℕ). m ≤ n) x.end to) gives
-
   value_had : (key : ℕ) → (MayAnswerAtOnce command r.answer → ⊥) → (v : IsValueAt calls lines key r) → HadAtKey lay (history lay.mode lines) (start lay.mode lines r.client.0) key v.told
   value_had key never v = had_within never key v.told (v.turn, v.greatest.from, v.greatest.to, v.greatest.holds)
 
@@ -335,8 +331,13 @@ module _ (lay : Layout) (tries : ℕ) (calls : List Call) (lines : List Line) (c
   pub change_answered : (command : Command) (turn : ℕ) → IsAsked lay tries calls lines changed client command r → client.won ≡ Some turn → r.moment ≡ Some turn → IsToldBefore calls lines command r.answer turn → IsAnswered lay tries calls lines r command
   change_answered command turn x has moment t = go command t.is x
     where
+      now : History
       now = history lay.mode lines
+
+      from : History
       from = start lay.mode lines r.client.0
+
+      kept : ℕ → Option History
       kept = linked calls lay.mode lines r.client.0
 
       it_won : won lay lines r.client.0 ≡ Some turn

@@ -128,23 +128,26 @@ change_of lay tries calls (Step (Made n row) ∷ lines) entry begun mode all a x
 
 module _ (lay : Layout) (tries : ℕ) (calls : List Call) (of_mode : AreOf lay.mode calls) (begun : List (Option Begun)) (places : Places) (lines : List Line) (x : IsMapSoFar lay calls begun places lines) where
   pub map_idle : (number : ℕ) (pass : PassNo) → AreLines lay tries calls (Step (Idle number pass) ∷ lines) → IsMapSoFar lay calls begun places (Step (Idle number pass) ∷ lines)
-  map_idle number pass a = λ mode. tree_idle lay tries calls mode (map_calls lay.mode calls mode of_mode) begun (changes places) lines (x mode) number pass a
+  map_idle number pass a = record { tree = λ mode. tree_idle lay tries calls mode (map_calls lay.mode calls mode of_mode) begun (changes places) lines (x.tree mode) number pass a }
 
   pub map_reply : (reply : Finished) → AreLines lay tries calls (ReplyLine reply ∷ lines) → IsMapSoFar lay calls begun places (ReplyLine reply ∷ lines)
-  map_reply reply a = λ mode. tree_reply lay tries calls mode (map_calls lay.mode calls mode of_mode) begun (changes places) lines (x mode) reply a
+  map_reply reply a = record { tree = λ mode. tree_reply lay tries calls mode (map_calls lay.mode calls mode of_mode) begun (changes places) lines (x.tree mode) reply a }
 
   -- an entry, whose call changes the map
   pub map_log : (after : Places) (entry : Entry) → AreLines lay tries calls (Log entry ∷ lines) → (lay.mode ≡ Tree → HasChangedBy entry begun (changes places) (changes after)) → IsMapSoFar lay calls begun after (Log entry ∷ lines)
-  map_log after entry a change mode =
-      let d = change mode in
-      let t = x mode in
-      let made : Change = record { turn = entry.step; key = d.begun.key; value = d.begun.value } in
-      let by = change_of lay tries calls lines entry d.begun mode of_mode a t.spelled t.run (t.edits entry.scx.0 d.begun d.known) in
-      subst (λ (l : List Change). IsTreeSoFar lay calls begun l (Log entry ∷ lines)) (sym d.added) (tree_log lay tries calls mode (map_calls lay.mode calls mode of_mode) begun (changes places) lines t entry made a (change_of_newest lay tries calls lines entry made a refl by))
+  map_log after entry a change = record { tree = tree }
+    where
+      tree : lay.mode ≡ Tree → IsTreeSoFar lay calls begun (changes after) (Log entry ∷ lines)
+      tree mode =
+          let d = change mode in
+          let t = x.tree mode in
+          let made : Change = record { turn = entry.step; key = d.begun.key; value = d.begun.value } in
+          let by = change_of lay tries calls lines entry d.begun mode of_mode a t.spelled t.run (t.edits entry.scx.0 d.begun d.known) in
+          subst (λ (l : List Change). IsTreeSoFar lay calls begun l (Log entry ∷ lines)) (sym d.added) (tree_log lay tries calls mode (map_calls lay.mode calls mode of_mode) begun (changes places) lines t entry made a (change_of_newest lay tries calls lines entry made a refl by))
 
   -- a step, with the SCX-record that it begins, if it begins one
-  pub map_step : (number : ℕ) (row : StepRow) (h : History) (more : List (Option Begun)) (edit : Option Begun) → h ≡ history lay.mode lines → AreLines lay tries calls (Step (Made number row) ∷ lines) → IsLawful lay (history lay.mode lines) row → (lay.mode ≡ Tree → HasRisingLevels h → HasRisingLevels (row ⊳ h)) → IfSome edit (λ b. IsBegin h row row.after) → IfSome edit (MayMake lay h row.after) → (edit ≡ None → lay.mode ≡ Tree → IsBegin h row row.after → ⊥) → (edit ≡ None → more ≡ begun) → (IsSome edit → more ≡ set begun row.after edit) → IsMapSoFar lay calls more places (Step (Made number row) ∷ lines)
-  map_step number row h more edit same a lawful rising begins may never none some = tree
+  pub map_step : (number : ℕ) (row : StepRow) (h : History) (more : List (Option Begun)) (edit : Option Begun) → h ≡ history lay.mode lines → AreLines lay tries calls (Step (Made number row) ∷ lines) → IsLawful lay (history lay.mode lines) row → (lay.mode ≡ Tree → HasRisingLevels h → HasRisingLevels (row ⊳ h)) → (lay.mode ≡ Tree → IsBegin h row row.after → (b : Begun) × MayMake lay h row.after b) → IfSome edit (λ b. IsBegin h row row.after) → IfSome edit (MayMake lay h row.after) → (edit ≡ None → more ≡ begun) → (IsSome edit → more ≡ set begun row.after edit) → IsMapSoFar lay calls more places (Step (Made number row) ∷ lines)
+  map_step number row h more edit same a lawful rising allowed begins may none some = record { tree = tree }
     where
       now : History
       now = history lay.mode lines
@@ -156,41 +159,36 @@ module _ (lay : Layout) (tries : ℕ) (calls : List Call) (of_mode : AreOf lay.m
       here P y = subst P (sym same) y
 
       allows : lay.mode ≡ Tree → (s : ℕ) → IsBegin now row s → TreeAllows lay now s
-      allows mode s b = go edit refl may
-        where
-          begun_here : IsBegin h row row.after
-          begun_here = here (λ k. IsBegin k row row.after) (subst (λ (n : ℕ). IsBegin now row n) (sym b.stored) b)
-
-          go : (o : Option Begun) → edit ≡ o → IfSome o (MayMake lay h row.after) → TreeAllows lay now s
-          go None e y = absurd (never e mode begun_here)
-          go (Some d) e y = subst (λ (n : ℕ). TreeAllows lay now n) b.stored (there (λ k. TreeAllows lay k row.after) (edit_allowed lay h row.after d y))
+      allows mode s b =
+          let y = allowed mode (here (λ k. IsBegin k row row.after) (subst (λ (n : ℕ). IsBegin now row n) (sym b.stored) b)) in
+          subst (λ (n : ℕ). TreeAllows lay now n) b.stored (there (λ k. TreeAllows lay k row.after) (edit_allowed lay h row.after y.0 y.1))
 
       edits : lay.mode ≡ Tree → AreRememberedEdits lay (row ⊳ now) more
       edits mode = go edit refl begins may some
         where
           known : AreRememberedEdits lay now begun
-          known = (x mode).edits
+          known = (x.tree mode).edits
 
           go : (o : Option Begun) → edit ≡ o → IfSome o (λ d. IsBegin h row row.after) → IfSome o (MayMake lay h row.after) → (IsSome o → more ≡ set begun row.after o) → AreRememberedEdits lay (row ⊳ now) more
           go None e b y p = subst (λ (l : List (Option Begun)). AreRememberedEdits lay (row ⊳ now) l) (sym (none e)) (edits_kept lay now row begun known)
           go (Some d) e b y p = subst (λ (l : List (Option Begun)). AreRememberedEdits lay (row ⊳ now) l) (sym (p refl)) (edits_set lay now row begun row.after d known (there (λ g. IsBegin g row row.after) b) (there (λ g. MayMake lay g row.after d) y))
 
       tree : lay.mode ≡ Tree → IsTreeSoFar lay calls more (changes places) (Step (Made number row) ∷ lines)
-      tree mode = tree_step lay tries calls mode (map_calls lay.mode calls mode of_mode) begun (changes places) lines (x mode) number row more a lawful (allows mode) (there (λ k. HasRisingLevels (row ⊳ k)) (rising mode (here (λ k. HasRisingLevels k) (x mode).rising))) (edits mode)
+      tree mode = tree_step lay tries calls mode (map_calls lay.mode calls mode of_mode) begun (changes places) lines (x.tree mode) number row more a lawful (allows mode) (there (λ k. HasRisingLevels (row ⊳ k)) (rising mode (here (λ k. HasRisingLevels k) (x.tree mode).rising))) (edits mode)
 
   -- an entry of an SCX-record that has begun for a client's call is one that the call makes
   pub map_entry : (h : History) → h ≡ history lay.mode lines → (c s : ℕ) (row : StepRow) (known_by : Begun) → IsLawful lay h row → IsWin h row s → next_command calls lines c ≡ Some known_by.command → mode_of known_by.command ≡ Tree → slice_get begun s ≡ Some (Some known_by) → IsSuited h s known_by → (start : History) (linked : ℕ → Option History) (e : Entered) → e.scx ≡ s → IsEntryFor lay c h start linked e known_by.command
   map_entry h same c s row known_by lawful won is mode known suited start linked e own =
       let tree = sym (next_of_mode lay.mode calls lines c known_by.command of_mode is) ∙ mode in
       let here = λ (P : History → Type 0) (y : P (history lay.mode lines)). subst P (sym same) y in
-      edit_entry lay c h start row linked e known_by (here (λ g. IsTreeRun lay g) (tree, (x tree).run)) lawful (subst (λ (k : ℕ). IsWin h row k) (sym own) won) (subst (λ (k : ℕ). HasBegunWith lay h k known_by) (sym own) (here (λ g. HasBegunWith lay g s known_by) ((x tree).edits s known_by known))) (subst (λ (k : ℕ). IsSuited h k known_by) (sym own) suited)
+      edit_entry lay c h start row linked e known_by (here (λ g. IsTreeRun lay g) (tree, (x.tree tree).run)) lawful (subst (λ (k : ℕ). IsWin h row k) (sym own) won) (subst (λ (k : ℕ). HasBegunWith lay h k known_by) (sym own) (here (λ g. HasBegunWith lay g s known_by) ((x.tree tree).edits s known_by known))) (subst (λ (k : ℕ). IsSuited h k known_by) (sym own) suited)
 
   -- what is said of the whole run at its end
   pub map_whole : AreLines lay tries calls lines → IsWhole lay.mode lay calls lines
   map_whole a = go lay.mode refl
     where
       go : (mode : Mode) → lay.mode ≡ mode → IsWhole mode lay calls lines
-      go Tree e = ((x e).spelled, lawful_is_legal lay tries calls lines (map_calls lay.mode calls e of_mode) a)
+      go Tree e = ((x.tree e).spelled, lawful_is_legal lay tries calls lines (map_calls lay.mode calls e of_mode) a)
       go Records e = tt
 
 -- The start
@@ -203,7 +201,7 @@ never_begun (suc n) (suc s) first e = never_begun n s first e
 -- of no line nothing is remembered
 pub map_start : (lay : Layout) (tries : ℕ) (calls : List Call) (begun : List (Option Begun)) (places : Places) (n : ℕ) → AreOf lay.mode calls → begun ≡ replicate n None → changes places ≡ [] → IsMapSoFar lay calls begun places []
 unfolding AreLines AreSpelled Lawful Shaped
-map_start lay tries calls begun places n of_mode none unchanged = tree
+map_start lay tries calls begun places n of_mode none unchanged = record { tree = tree }
   where
     tree : lay.mode ≡ Tree → IsTreeSoFar lay calls begun (changes places) []
     tree mode = rw unchanged record {

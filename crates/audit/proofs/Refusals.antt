@@ -4,6 +4,7 @@ use Rattle.arena.specs.declared.layout.Layout.{Layout}
 use Rattle.arena.specs.declared.fault.Resource.{Resource}
 use Rattle.arena.specs.declared.number.NodeNo.{NodeNo}
 use Rattle.arena.specs.declared.number.ScxNo.{ScxNo}
+use Rattle.ordered_map.specs.declared.pair.Pair.{Pair}
 use Rattle.script.specs.declared.call.Call.{Call}
 use Rattle.script.specs.declared.command.Command.{Command}
 use Rattle.ordered_map.specs.declared.reply.Reply.TheVariants.{Contended, Full, NoMemory}
@@ -19,9 +20,9 @@ use Rattle.record.specs.Linked.{linked}
 use Rattle.record.specs.Replies.{IsFitting}
 use Rattle.record.specs.Turns.{history, begin, start}
 use Rattle.moments.specs.declared.places.Change.{Change}
-use Rattle.audit.specs.Asked.{IsAsked, IsTooFewFor}
+use Rattle.audit.specs.Asked.{IsAsked, IsTooFewFor, IsTooFewToTake}
 use Rattle.audit.specs.declared.client.Client.{Client}
-use Rattle.audit.proofs.MapAnswers.{contended_right, first_had, no_memory_right}
+use Rattle.audit.proofs.MapAnswers.{contended_right, no_memory_right}
 
 -- no answer at once
 at_once_insert : (command : Command) (answer : Answer) (key value : ℕ) → command ≡ Map (Insert key value) → MayAnswerAtOnce command answer → ⊥
@@ -66,11 +67,10 @@ module _ (lay : Layout) (tries : ℕ) (calls : List Call) (lines : List Line) (c
       let y = few (at_once_delete command r.answer key is) in
       subst (λ (k : Command). RightIs k (MapAnswer (Full record { what = what; left = left }))) (sym is) (y.0, y.1.0, y.1.1)
 
-  pub right_full_pop : (what : Resource) (left : ℕ) → command ≡ Map PopFirst → ((MayAnswerAtOnce command r.answer → ⊥) → (key v : ℕ) × IsTooFewFor lay lines r key (Some v) what left) → RightIs command (MapAnswer (Full record { what = what; left = left }))
+  pub right_full_pop : (what : Resource) (left : ℕ) → command ≡ Map PopFirst → ((MayAnswerAtOnce command r.answer → ⊥) → (first : Pair) × IsTooFewToTake lay lines r first what left) → RightIs command (MapAnswer (Full record { what = what; left = left }))
   right_full_pop what left is few =
       let y = few (at_once_pop command r.answer is) in
-      let had = first_had lay (history lay.mode lines) (start lay.mode lines r.client.0) y.0 y.1 y.2.0 in
-      subst (λ (k : Command). RightIs k (MapAnswer (Full record { what = what; left = left }))) (sym is) (had.0, had.1, y.2.1)
+      subst (λ (k : Command). RightIs k (MapAnswer (Full record { what = what; left = left }))) (sym is) (y.0, y.1.0, y.1.1)
 
   pub right_full_replace : (key expected value : ℕ) (what : Resource) (left : ℕ) → command ≡ Map (ReplaceIf key expected value) → ((MayAnswerAtOnce command r.answer → ⊥) → IsTooFewFor lay lines r key (Some expected) what left) → RightIs command (MapAnswer (Full record { what = what; left = left }))
   right_full_replace key expected value what left is few =

@@ -51,7 +51,7 @@ use Rattle.audit.specs.Trees.{IsTreeSoFar}
 -- Edits
 
 -- the kind of the newest row
-kind_of : History → Kind
+abbrev kind_of : History → Kind
 kind_of (Start mode) = Freeze
 kind_of (row ⊳ h) = row.kind
 
@@ -72,7 +72,7 @@ pub begun_before_win : (lay : Layout) (h : History) (row : StepRow) (s : ℕ) (b
 begun_before_win lay h row s begun won x = record { row = x.row; before = x.before; within = older x.within; begins = x.begins; makes = x.makes }
   where
     older : Extends (row ⊳ h) (x.row ⊳ x.before) → Extends h (x.row ⊳ x.before)
-    older (inl e) = absurd (let z : Update ≡ Freeze = sym won.kind ∙ ap kind_of e ∙ x.begins.kind in cc)
+    older (inl e) = absurd (let z : Update ≡ Freeze = sym won.kind ∙ sym (ap kind_of e) ∙ x.begins.kind in cc)
     older (inr e) = e
 
 -- the shape of the tree allows it

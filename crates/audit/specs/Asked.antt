@@ -3,6 +3,7 @@
 use Rattle.std.specs.Prelude.{◌≡◌, ℕ, ◌-◌, List, Option, Some, None}
 use Rattle.arena.specs.declared.layout.Layout.{Layout}
 use Rattle.arena.specs.declared.fault.Resource.{Resource}
+use Rattle.ordered_map.specs.declared.pair.Pair.{Pair}
 use Rattle.ordered_map.specs.OrderedMap.{MapCall, get, reply}
 use Rattle.ordered_map.specs.Replies.{number_reply}
 use Rattle.ordered_map.specs.declared.reply.Reply.{Reply}
@@ -16,7 +17,7 @@ use Rattle.record.specs.declared.record.Finished.{Finished}
 use Rattle.record.specs.Answers.{HasItsEntry}
 use Rattle.record.specs.CommandRules.{enters}
 use Rattle.record.specs.Commands.{next_command}
-use Rattle.record.specs.Edits.{HadAtKey}
+use Rattle.record.specs.Edits.{HadAtKey, HadFirst}
 use Rattle.ordered_map.specs.CallRules.{insert_nodes}
 use Rattle.record.specs.Shares.{HasTooFewToTry}
 use Rattle.record.specs.LawfulRun.{AreLines}
@@ -54,6 +55,10 @@ pub record IsAsked (lay : Layout) (tries : ℕ) (calls : List Call) (lines : Lis
 -- the share has too little for an edit there, and not by the call's own doing
 abbrev pub IsTooFewFor : Layout → List Line → Finished → ℕ → Option ℕ → Resource → ℕ → Type 0
 IsTooFewFor lay lines r key old what left = HadAtKey lay (history lay.mode lines) (start lay.mode lines r.client.0) key old × HasTooFewToTry lay r.client.0 (history lay.mode lines) (start lay.mode lines r.client.0) (insert_nodes old) what left
+
+-- the same, where the map had this first pair, which a pop would take out
+abbrev pub IsTooFewToTake : Layout → List Line → Finished → Pair → Resource → ℕ → Type 0
+IsTooFewToTake lay lines r first what left = HadFirst lay (history lay.mode lines) (start lay.mode lines r.client.0) (Some first) × HasTooFewToTry lay r.client.0 (history lay.mode lines) (start lay.mode lines r.client.0) 1 what left
 
 -- the answer tells what the map replied to the command just before the turn
 pub record IsToldBefore (calls : List Call) (lines : List Line) (command : Command) (answer : Answer) (turn : ℕ) : Type 0 where

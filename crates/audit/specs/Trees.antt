@@ -1,5 +1,5 @@
 -- What an audit of a record on the tree remembers of it. Lines stand here with the newest first.
-use Rattle.std.specs.Prelude.{◌≡◌, List, ◌∷◌, Option, Some, slice_get}
+use Rattle.std.specs.Prelude.{◌≡◌, ℕ, List, ◌∷◌, Option, Some, slice_get}
 use Rattle.arena.specs.declared.limits.Mode.TheVariants.{Tree}
 use Rattle.arena.specs.declared.layout.Layout.{Layout}
 use Rattle.arena.specs.Machines.{IsRun}
@@ -14,7 +14,10 @@ use Rattle.moments.specs.declared.places.Change.{Change}
 use Rattle.moments.specs.declared.places.Places.{Places}
 use Rattle.moments.specs.Places.{changes}
 use Rattle.moments.specs.Entries.{AreEntries}
-use Rattle.audit.specs.Edits.{AreRememberedEdits}
+use Rattle.audit.specs.Edits.{AreRememberedEdits, IsEditBy, IsSuited, edit_begun}
+use Rattle.arena.specs.History.{History}
+use Rattle.record.specs.MapRecord.{map_call}
+use Rattle.script.specs.declared.command.Command.{Command}
 use Rattle.audit.specs.declared.edits.Begun.{Begun}
 
 -- each SCX-record that has begun makes an edit, levels rise, and the words spell the map so far
@@ -27,11 +30,19 @@ pub record IsTreeSoFar (lay : Layout) (calls : List Call) (begun : List (Option 
   pub entries : AreEntries calls lines changed
 
 -- on the tree what is remembered is what the lines say
-abbrev pub IsMapSoFar : Layout → List Call → List (Option Begun) → Places → List Line → Type 0
-IsMapSoFar lay calls begun places lines = lay.mode ≡ Tree → IsTreeSoFar lay calls begun (changes places) lines
+pub record IsMapSoFar (lay : Layout) (calls : List Call) (begun : List (Option Begun)) (places : Places) (lines : List Line) : Type 0 where
+  pub tree : lay.mode ≡ Tree → IsTreeSoFar lay calls begun (changes places) lines
 
 -- the change of an entry was added: that of its SCX-record, as it is remembered
 pub record HasChangedBy (entry : Entry) (edits : List (Option Begun)) (before after : List Change) : Type 0 where
   pub begun : Begun
   pub known : slice_get edits entry.scx.0 ≡ Some (Some begun)
   pub added : after ≡ record { turn = entry.step; key = begun.key; value = begun.value } ∷ before
+
+-- the SCX-record has begun for a call with this command, as it is remembered, and suits it now if
+-- its edit is one of that call
+pub record IsReady (edits : List (Option Begun)) (h : History) (s : ℕ) (command : Command) : Type 0 where
+  pub begun : Begun
+  pub known : slice_get edits s ≡ Some (Some begun)
+  pub own : begun.command ≡ command
+  pub suited : IsEditBy (map_call (Some begun.command)) (edit_begun begun) → IsSuited h s begun

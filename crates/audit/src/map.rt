@@ -13,10 +13,11 @@ ghost use Rattle.record.specs.CommandRules.{IsRight, IsPlaced, MayAnswerAtOnce};
 ghost use Rattle.record.specs.Linked.{linked};
 ghost use Rattle.record.specs.MapRecord.{map_at, reply_told};
 ghost use Rattle.record.specs.Turns.{history, start, won};
-ghost use Rattle.moments.specs.Entries.{AreEntries, HadWithin};
+ghost use Rattle.moments.specs.Entries.{AreEntries, HadFirstWithin, HadWithin};
+ghost use Rattle.ordered_map.specs.declared.pair.Pair.{Pair as PairOf};
 ghost use Rattle.moments.specs.Ordered.{FallFrom};
 ghost use Rattle.moments.specs.Places.{changes};
-ghost use Rattle.audit.specs.Asked.{IsAsked, IsToldAt, IsToldBefore, IsValueAt, IsReadAt, IsTooFewFor};
+ghost use Rattle.audit.specs.Asked.{IsAsked, IsToldAt, IsToldBefore, IsValueAt, IsReadAt, IsTooFewFor, IsTooFewToTake};
 ghost use Rattle.audit.specs.Remembered.{AreRemembered};
 ghost use Rattle.audit.specs.declared.client.Client.{Client as ClientOf};
 
@@ -292,14 +293,14 @@ fn is_full_for_pair(
     full: (Resource, u32),
 ) -> bool
     requires { client.now.pass.0 < steps.now.judge.layout.passes }
-    ensures { (lay : Layout) (tries : ℕ) (calls : List CallOf) (lines : List Line) (command : CommandOf) → IsAsked lay tries calls lines (changes places.now) client.now command reply.now → AreRemembered lay calls lines steps.now → (MayAnswerAtOnce command reply.now.answer → ⊥) → IsTrue result → (key v : ℕ) × IsTooFewFor lay lines reply.now key (Some v) full.0 full.1 }
+    ensures { (lay : Layout) (tries : ℕ) (calls : List CallOf) (lines : List Line) (command : CommandOf) → IsAsked lay tries calls lines (changes places.now) client.now command reply.now → AreRemembered lay calls lines steps.now → (MayAnswerAtOnce command reply.now.answer → ⊥) → IsTrue result → (first : PairOf) × IsTooFewToTake lay lines reply.now first full.0 full.1 }
 {
     steps.has_too_few_to_try(client.pass, 1, full) && had_pair(places, reply)
 }
 
 /// Whether the map had a pair after some turn of a call.
 fn had_pair(places: &Places, reply: &Finished) -> bool
-    ensures { (calls : List CallOf) (lines : List Line) → AreEntries calls lines (changes places.now) → IsTrue result → (key v : ℕ) × HadWithin calls lines key (Some v) reply.now.begin reply.now.end }
+    ensures { (calls : List CallOf) (lines : List Line) → AreEntries calls lines (changes places.now) → IsTrue result → (first : PairOf) × HadFirstWithin calls lines (Some first) reply.now.begin reply.now.end }
 {
     reply.begin <= reply.end && places.had_pair(reply.begin, reply.end)
 }

@@ -72,7 +72,8 @@ impl<'a> Run<'a> {
     ghost use Rattle.script.specs.declared.command.Command.{Command as CommandOf};
     ghost use Rattle.ordered_map.specs.FillOrder.{HasRisingLevels};
     ghost use Rattle.moments.specs.Places.{changes};
-    ghost use Rattle.audit.specs.Trees.{HasChangedBy};
+    ghost use Rattle.audit.specs.Trees.{HasChangedBy, IsReady};
+    ghost use Rattle.ordered_map.specs.Runs.{IsTreeRun};
     ghost use Rattle.audit.specs.Edits.{MayMake};
     ghost use Rattle.audit.specs.declared.edits.Begun.{Begun as BegunOf};
     ghost use Rattle.record.specs.CommandRules.{IsEntryFor, IsRight, IsPlaced, HasTakenFew};
@@ -281,10 +282,10 @@ impl<'a> Run<'a> {
         self.settled()?;
         self.check_step(number, row)?;
         self.check_levels(row)?;
-        let begun = self.begun_by(row)?;
+        self.check_begun(row)?;
         let owed = self.owed_by(number, row)?;
         let fits = self.fits_with(row, &owed);
-        self.make(number, row, begun, (owed, fits))
+        self.make(number, row, owed, fits)
     }
 
     /// Whether a step wins with this entry, if there is one.
@@ -362,8 +363,7 @@ impl<'a> Run<'a> {
     {
         match command {
             Command::Map(_) => {
-                let begun = self.begun_of(command, scx)?;
-                hold(suits(&self.steps.judge, scx.0, &begun))?;
+                hold(self.is_ready(command, scx))?;
                 Ok(())
             }
             _ => {
@@ -388,48 +388,75 @@ impl<'a> Run<'a> {
         Ok(())
     }
 
-    /// On the tree: the SCX-record that a step begins, if it begins one, which makes an edit for its
-    /// client's call.
-    fn begun_by(&self, row: &arena::Row) -> Result<Option<Begun>, Refused>
+    /// On the tree the SCX-record that a step begins, if it begins one, makes an edit for its client's
+    /// call.
+    fn check_begun(&self, row: &arena::Row) -> Result<(), Refused>
         requires after { IsAfter self.now (lines_of self.now) }
         requires map { IsMapAfter self.now (lines_of self.now) }
-        ensures begins { IfOk result (λ o. IfSome o (λ begun. IsBegin (seen_history self.now.steps.judge) row.now row.now.after)) }
-        ensures next { IfOk result (λ o. IfSome o (λ begun.
-            next_command (calls_of self.now) (lines_of self.now) row.now.pass.0 ≡ Some begun.command)) }
-        ensures edit { IfOk result (λ o. IfSome o (MayMake (layout_of self.now) (seen_history self.now.steps.judge) row.now.after)) }
-        ensures none { result ≡ Ok None → (layout_of self.now).mode ≡ Tree → IsBegin (seen_history self.now.steps.judge) row.now row.now.after → ⊥ }
+        ensures { OnOk result ((layout_of self.now).mode ≡ Tree →
+            IsBegin (seen_history self.now.steps.judge) row.now row.now.after →
+            (begun : BegunOf) × MayMake (layout_of self.now) (seen_history self.now.steps.judge) row.now.after begun) }
     {
-        if self.record.script.layout.mode != Mode::Tree || !self.steps.judge.is_begin(row) {
-            return Ok(None);
+        if !self.begins(row) {
+            return Ok(());
         }
-        let client = self.client(row.pass)?;
-        let Some(command) = self.next(&client) else {
-            return Err(Refused::NotLawful);
-        };
-        match begun_for(&self.steps.judge, row.after, &command) {
-            Some(begun) => Ok(Some(begun)),
+        match self.begun_by(row) {
+            Some(_begun) => Ok(()),
             None => Err(Refused::NotLawful),
         }
     }
 
-    /// An SCX-record that has begun for a call with this command.
-    fn begun_of(&self, command: &Command, scx: ScxNo) -> Result<Begun, Refused>
-        ensures known { IfOk result (λ begun. slice_get self.now.edits.items scx.0 ≡ Some (Some begun)) }
-        ensures own { IfOk result (λ begun. begun.command ≡ command.now) }
+    /// Whether a step on the tree begins an SCX-record.
+    fn begins(&self, row: &arena::Row) -> bool
+        requires { IsAfter self.now (lines_of self.now) }
+        ensures tree { IsTrue result → (layout_of self.now).mode ≡ Tree }
+        ensures begins { IsTrue result → IsBegin (seen_history self.now.steps.judge) row.now row.now.after }
+        ensures none { result ≡ false → (layout_of self.now).mode ≡ Tree →
+            IsBegin (seen_history self.now.steps.judge) row.now row.now.after → ⊥ }
     {
-        match self.edits.get(scx.0 as usize) {
-            Some(Some(begun)) if begun.command == *command => Ok(*begun),
-            _ => Err(Refused::NotLawful),
+        self.record.script.layout.mode == Mode::Tree && self.steps.judge.is_begin(row)
+    }
+
+    /// The SCX-record that a step on the tree begins, if it begins one, with the edit that it makes for
+    /// its client's call.
+    fn begun_by(&self, row: &arena::Row) -> Option<Begun>
+        requires after { IsAfter self.now (lines_of self.now) }
+        requires map { IsMapAfter self.now (lines_of self.now) }
+        ensures begins { IfSome result (λ begun. IsBegin (seen_history self.now.steps.judge) row.now row.now.after) }
+        ensures edit { IfSome result (MayMake (layout_of self.now) (seen_history self.now.steps.judge) row.now.after) }
+    {
+        if !self.begins(row) {
+            return None;
+        }
+        let Ok(client) = self.client(row.pass) else {
+            return None;
+        };
+        match self.next(&client) {
+            Some(command) => begun_for(&self.steps.judge, row.after, &command),
+            None => None,
         }
     }
 
-    /// Makes a lawful step, which begins this SCX-record, and asks for this entry, a lawful one or not.
+    /// Whether an SCX-record that wins has begun for a call with this command, and suits it.
+    fn is_ready(&self, command: &Command, scx: ScxNo) -> bool
+        requires { IsTreeRun self.now.steps.judge.layout (seen_history self.now.steps.judge) }
+        ensures { IsTrue result → IsReady self.now.edits.items (seen_history self.now.steps.judge) scx.0 command.now }
+    {
+        match self.edits.get(scx.0 as usize) {
+            Some(Some(begun)) => {
+                begun.command == *command && suits(&self.steps.judge, scx.0, begun)
+            }
+            _ => false,
+        }
+    }
+
+    /// Makes a lawful step, which asks for this entry.
     fn make(
         &mut self,
         number: u64,
         row: &arena::Row,
-        begun: Option<Begun>,
-        owed: (Option<Entry>, bool),
+        owed: Option<Entry>,
+        fits: bool,
     ) -> Result<(), Refused>
         requires after { IsAfter self.old (lines_of self.old) }
         requires map { IsMapAfter self.old (lines_of self.old) }
@@ -437,14 +464,14 @@ impl<'a> Run<'a> {
         requires rising { (layout_of self.old).mode ≡ Tree →
             HasRisingLevels (seen_history self.old.steps.judge) →
             HasRisingLevels (row.now ⊳ seen_history self.old.steps.judge) }
-        requires begins { IfSome begun (λ b. IsBegin (seen_history self.old.steps.judge) row.now row.now.after) }
-        requires edit { IfSome begun (MayMake (layout_of self.old) (seen_history self.old.steps.judge) row.now.after) }
-        requires none { begun ≡ None → (layout_of self.old).mode ≡ Tree → IsBegin (seen_history self.old.steps.judge) row.now row.now.after → ⊥ }
+        requires edit { (layout_of self.old).mode ≡ Tree →
+            IsBegin (seen_history self.old.steps.judge) row.now row.now.after →
+            (begun : BegunOf) × MayMake (layout_of self.old) (seen_history self.old.steps.judge) row.now.after begun }
         requires settled { OwesNothing (layout_of self.old) (calls_of self.old) (lines_of self.old) }
         requires step { IsStep (layout_of self.old) (tries_of self.old) (calls_of self.old) (lines_of self.old) number row.now }
-        requires owed { entry_of (layout_of self.old) (lines_of self.old) number row.now ≡ owed.0 }
-        requires client { IfSome owed.0 (λ e. e.client.0 < (layout_of self.old).passes) }
-        requires fits { (e : EntryOf) → owed.1 ≡ true → owed.0 ≡ Some e →
+        requires owed { entry_of (layout_of self.old) (lines_of self.old) number row.now ≡ owed }
+        requires client { IfSome owed (λ e. e.client.0 < (layout_of self.old).passes) }
+        requires fits { (e : EntryOf) → fits ≡ true → owed ≡ Some e →
             IsWinOf (layout_of self.old) (calls_of self.old) (lines_of self.old) row.now e }
         ensures after { OnOk result (IsAfter self.new (Line.Step (Row.Step number row.now) ∷ lines_of self.old)) }
         ensures map { OnOk result (IsMapAfter self.new (Line.Step (Row.Step number row.now) ∷ lines_of self.old)) }
@@ -454,15 +481,17 @@ impl<'a> Run<'a> {
     {
         let client = self.client(row.pass)?;
         hold(client.steps < u64::MAX)?;
+        let begun = self.begun_by(row);
         self.steps
             .begin(&client, self.record.script.calls.as_slice());
         self.steps.make(row)?;
         note_begun(&mut self.edits, row.after, begun);
         self.clients[row.pass.0 as usize] = client.stepped(number);
-        note_win(&mut self.clients, number, &owed.0);
+        note_win(&mut self.clients, number, &owed);
         self.turn = number;
         self.last = Some(row.pass);
-        (self.owed, self.fits) = owed;
+        self.owed = owed;
+        self.fits = fits;
         self.idle = false;
         self.awaits = false;
         Ok(())

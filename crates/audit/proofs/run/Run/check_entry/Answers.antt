@@ -20,22 +20,22 @@ is_entry_for-requires c =
     let lay = ap (λ (l : Layout). l.passes) c.requires.after.layout in
     omega (arith, few, all, lay)
 
-pub suits-requires : goal.suits-requires
-suits-requires c =
+pub is_ready-requires : goal.is_ready-requires
+is_ready-requires c =
     let run = c.args.self.now in
     let tree = sym (next_of_mode _ _ (lines_of run) c.args.client.now.pass.0 c.args.command.now run.record.now.script.of_mode c.requires.command) ∙ ap mode_of c.in-Map.is in
-    subst (λ (l : Layout). IsTreeRun l (seen_history run.steps.judge)) (sym c.requires.after.layout) (subst (λ (h : History). IsTreeRun (layout_of run) h) (sym c.requires.after.seen) (tree, (c.requires.map tree).run))
+    subst (λ (l : Layout). IsTreeRun l (seen_history run.steps.judge)) (sym c.requires.after.layout) (subst (λ (h : History). IsTreeRun (layout_of run) h) (sym c.requires.after.seen) (tree, (c.requires.map.tree tree).run))
 
 pub returns-in_ok-hold-in-Map : goal.returns-in_ok-hold-in-Map
 returns-in_ok-hold-in-Map c = λ row n side lawful wins word.
     let run = c.args.self.now in
     let command = c.args.command.now in
-    let begun = c.in_ok-begun_of-begun.begun in
-    let own : begun.command ≡ command = c.in_ok-begun_of-begun.ensures.own in
-    let known = c.in_ok-begun_of-begun.ensures.known in
+    let ready = c.is_ready.ensures c.in_ok-hold-in-Map.ensures in
+    let begun = ready.begun in
+    let own : begun.command ≡ command = ready.own in
     let mode : mode_of begun.command ≡ Tree = ap mode_of (own ∙ c.in-Map.is) in
     let tree = sym (next_of_mode _ _ (lines_of run) c.args.client.now.pass.0 command run.record.now.script.of_mode c.requires.command) ∙ ap mode_of c.in-Map.is in
     let next = c.requires.command ∙ ap (λ (k : Command). Some k) (sym own) in
-    let suited = c.suits.ensures c.in_ok-hold.ensures ((c.requires.map tree).edits c.args.scx.0 begun known).makes.own in
+    let suited = ready.suited ((c.requires.map.tree tree).edits c.args.scx.0 begun ready.known).makes.own in
     let there = subst (λ (l : Layout). IsLawful l (seen_history run.steps.judge) row) c.requires.after.layout lawful in
-    subst (λ (k : Command). IsEntryFor _ _ _ _ _ _ k) own (map_entry _ run.record.now.script.limits.tries _ run.record.now.script.of_mode _ _ _ c.requires.map _ c.requires.after.seen c.args.client.now.pass.0 c.args.scx.0 row begun there wins next mode known suited _ _ _ refl)
+    subst (λ (k : Command). IsEntryFor _ _ _ _ _ _ k) own (map_entry _ run.record.now.script.limits.tries _ run.record.now.script.of_mode _ _ _ c.requires.map _ c.requires.after.seen c.args.client.now.pass.0 c.args.scx.0 row begun there wins next mode ready.known suited _ _ _ refl)

@@ -13,14 +13,14 @@ use Rattle.audit.proofs.run.Run.make.Goals as goal
 pub returns-clause-after : goal.returns-clause-after
 returns-clause-after c =
     let run = c.args.self.now in
-    after_step _ _ _ _ _ _ _ _ _ _ _ _ _ c.requires.after c.args.number c.args.row.now c.args.owed.0 c.args.owed.1 _ _ c.requires.settled c.requires.step c.requires.owed c.requires.fits (c.in_ok-make.ensures.layout ∙ ap (λ (s : Steps). s.judge.layout) c.begin.ensures.same) (c.in_ok-make.ensures.history ∙ ap (λ (s : Steps). c.args.row.now ⊳ seen_history s.judge) c.begin.ensures.same)
-    (made_clients (layout_of run) (calls_of run) (lines_of run) c.args.number c.args.row.now c.args.owed.0 run.clients.items _ _ c.in_ok-client.client c.stepped.result c.requires.owed c.requires.after.clients c.in_ok-client.ensures.here c.stepped.ensures refl (client_within (layout_of run) run.clients.items c.args.row.now.pass.0 c.stepped.result c.args.owed.0 c.requires.after.all c.requires.client) c.note_win.ensures.none c.note_win.ensures.some)
+    after_step _ _ _ _ _ _ _ _ _ _ _ _ _ c.requires.after c.args.number c.args.row.now c.args.owed c.args.fits _ _ c.requires.settled c.requires.step c.requires.owed c.requires.fits (c.in_ok-make.ensures.layout ∙ ap (λ (s : Steps). s.judge.layout) c.begin.ensures.same) (c.in_ok-make.ensures.history ∙ ap (λ (s : Steps). c.args.row.now ⊳ seen_history s.judge) c.begin.ensures.same)
+    (made_clients (layout_of run) (calls_of run) (lines_of run) c.args.number c.args.row.now c.args.owed run.clients.items _ _ c.in_ok-client.client c.stepped.result c.requires.owed c.requires.after.clients c.in_ok-client.ensures.here c.stepped.ensures refl (client_within (layout_of run) run.clients.items c.args.row.now.pass.0 c.stepped.result c.args.owed c.requires.after.all c.requires.client) c.note_win.ensures.none c.note_win.ensures.some)
     (c.note_win.ensures.same ∙ length-set _ _ _)
 
 pub returns-clause-map : goal.returns-clause-map
 returns-clause-map c =
     let run = c.args.self.now in
-    map_step _ _ _ run.record.now.script.of_mode _ _ _ c.requires.map c.args.number c.args.row.now (seen_history run.steps.judge) _ c.args.begun c.requires.after.seen (returns-clause-after c).in_order c.requires.step.lawful c.requires.rising c.requires.begins c.requires.edit c.requires.none c.note_begun.ensures.none c.note_begun.ensures.some
+    map_step _ _ _ run.record.now.script.of_mode _ _ _ c.requires.map c.args.number c.args.row.now (seen_history run.steps.judge) _ c.begun_by-begun.result c.requires.after.seen (returns-clause-after c).in_order c.requires.step.lawful c.requires.rising c.requires.edit c.begun_by-begun.ensures.begins c.begun_by-begun.ensures.edit c.note_begun.ensures.none c.note_begun.ensures.some
 
 pub returns-clause-remembered : goal.returns-clause-remembered
 returns-clause-remembered c =
