@@ -177,11 +177,11 @@ module _ (lay : Layout) (tries : ℕ) (calls : List Call) (of_mode : AreOf lay.m
       tree mode = tree_step lay tries calls mode (map_calls lay.mode calls mode of_mode) begun (changes places) lines (x.tree mode) number row more a lawful (allows mode) (there (λ k. HasRisingLevels (row ⊳ k)) (rising mode (here (λ k. HasRisingLevels k) (x.tree mode).rising))) (edits mode)
 
   -- an entry of an SCX-record that has begun for a client's call is one that the call makes
-  pub map_entry : (h : History) → h ≡ history lay.mode lines → (c s : ℕ) (row : StepRow) (known_by : Begun) → IsLawful lay h row → IsWin h row s → next_command calls lines c ≡ Some known_by.command → mode_of known_by.command ≡ Tree → slice_get begun s ≡ Some (Some known_by) → IsSuited h s known_by → (start : History) (linked : ℕ → Option History) (e : Entered) → e.scx ≡ s → IsEntryFor lay c h start linked e known_by.command
-  map_entry h same c s row known_by lawful won is mode known suited start linked e own =
+  pub map_entry : (h : History) → h ≡ history lay.mode lines → (c s : ℕ) (row : StepRow) (known_by : Begun) → IsLawful lay h row → IsWin h row s → next_command calls lines c ≡ Some known_by.command → mode_of known_by.command ≡ Tree → slice_get begun s ≡ Some (Some known_by) → IsSuited h s known_by → (command : Command) → known_by.command ≡ command → (start : History) (linked : ℕ → Option History) (e : Entered) → e.scx ≡ s → IsEntryFor lay c h start linked e command
+  map_entry h same c s row known_by lawful won is mode known suited command of_command start linked e own =
       let tree = sym (next_of_mode lay.mode calls lines c known_by.command of_mode is) ∙ mode in
       let here = λ (P : History → Type 0) (y : P (history lay.mode lines)). subst P (sym same) y in
-      edit_entry lay c h start row linked e known_by (here (λ g. IsTreeRun lay g) (tree, (x.tree tree).run)) lawful (subst (λ (k : ℕ). IsWin h row k) (sym own) won) (subst (λ (k : ℕ). HasBegunWith lay h k known_by) (sym own) (here (λ g. HasBegunWith lay g s known_by) ((x.tree tree).edits s known_by known))) (subst (λ (k : ℕ). IsSuited h k known_by) (sym own) suited)
+      subst (λ (k : Command). IsEntryFor lay c h start linked e k) of_command (edit_entry lay c h start row linked e known_by (here (λ g. IsTreeRun lay g) (tree, (x.tree tree).run)) lawful (subst (λ (k : ℕ). IsWin h row k) (sym own) won) (subst (λ (k : ℕ). HasBegunWith lay h k known_by) (sym own) (here (λ g. HasBegunWith lay g s known_by) ((x.tree tree).edits s known_by known))) (subst (λ (k : ℕ). IsSuited h k known_by) (sym own) suited))
 
   -- what is said of the whole run at its end
   pub map_whole : AreLines lay tries calls lines → IsWhole lay.mode lay calls lines

@@ -74,7 +74,8 @@ pub(crate) fn begun_for(judge: &Judge, scx: u64, command: &Command) -> Option<Be
 /// Whether an SCX-record takes out this key, and does so in the first leaf unless it can win no more.
 fn is_pop(judge: &Judge, scx: u64, key: u64) -> bool
     requires { IsTreeRun judge.now.layout (seen_history judge.now) }
-    ensures { IsTrue result → IsDelete (seen_history judge.now) scx key (toward_of (value (seen_history judge.now)) (member_of (seen_history judge.now) scx 1) key) }
+    ensures { IsTrue result → IsDelete (seen_history judge.now) scx key
+        (toward_of (value (seen_history judge.now)) (member_of (seen_history judge.now) scx 1) key) }
 {
     is_delete(judge, scx, key)
         && (!is_as_seen(judge, scx, 1) || is_first_leaf(judge, taken_leaf(judge, scx, key), key))
@@ -83,7 +84,9 @@ fn is_pop(judge: &Judge, scx: u64, key: u64) -> bool
 /// Whether an SCX-record gives the key of a pair, where that stands in the leaf that goes, this value.
 fn is_replacement(judge: &Judge, scx: u64, old: (u64, u64), put: u64) -> bool
     ensures edit { IsTrue result → IsInsert (seen_history judge.now) scx old.0 put }
-    ensures fresh { IsTrue result → is_leaf (value (seen_history judge.now)) (new (seen_history judge.now) scx) ≡ false → (side : SideOf) → IsNamed judge.now.layout (seen_history judge.now) (value (seen_history judge.now) (child_of (new (seen_history judge.now) scx) side)) → ⊥ }
+    ensures fresh { IsTrue result → is_leaf (value (seen_history judge.now)) (new (seen_history judge.now) scx) ≡ false → (side : SideOf) →
+        IsNamed judge.now.layout (seen_history judge.now)
+        (value (seen_history judge.now) (child_of (new (seen_history judge.now) scx) side)) → ⊥ }
 {
     is_insert(judge, scx, (old.0, put)) && is_pair_leaf(judge, member(judge, scx, 1), old)
 }
@@ -180,7 +183,8 @@ fn child(judge: &Judge, node: u64, side: Side) -> u64
 
 /// Whether the info word of the node at a place is as the SCX-record has seen it.
 fn is_as_seen(judge: &Judge, scx: u64, place: u8) -> bool
-    ensures { IsTrue result ↔ (value (seen_history judge.now) (info (member_of (seen_history judge.now) scx place)) ≡ seen_at (seen_history judge.now) scx place) }
+    ensures { IsTrue result ↔ (value (seen_history judge.now) (info (member_of (seen_history judge.now) scx place)) ≡ seen_at
+        (seen_history judge.now) scx place) }
 {
     let node = member(judge, scx, place);
     node_word(judge, node, NodeWord::Info) == scx_word(judge, scx, ScxWord::Seen(place))
@@ -256,7 +260,9 @@ fn is_leaf_copy(judge: &Judge, node: u64, leaf: u64) -> bool
 /// fork over two into the parent's field towards the key.
 fn is_insert(judge: &Judge, scx: u64, pair: (u64, u64)) -> bool
     ensures edit { IsTrue result → IsInsert (seen_history judge.now) scx pair.0 pair.1 }
-    ensures fresh { IsTrue result → is_leaf (value (seen_history judge.now)) (new (seen_history judge.now) scx) ≡ false → (side : SideOf) → IsNamed judge.now.layout (seen_history judge.now) (value (seen_history judge.now) (child_of (new (seen_history judge.now) scx) side)) → ⊥ }
+    ensures fresh { IsTrue result → is_leaf (value (seen_history judge.now)) (new (seen_history judge.now) scx) ≡ false → (side : SideOf) →
+        IsNamed judge.now.layout (seen_history judge.now)
+        (value (seen_history judge.now) (child_of (new (seen_history judge.now) scx) side)) → ⊥ }
 {
     let (parent, leaf) = (member(judge, scx, 0), member(judge, scx, 1));
     let plan = insert_plan(toward(judge, parent, pair.0));
@@ -283,7 +289,8 @@ fn is_split(judge: &Judge, leaf: u64, fork: u64, pair: (u64, u64)) -> bool
     requires leaf { is_leaf (value (seen_history judge.now)) leaf ≡ true }
     requires deep { level (value (seen_history judge.now)) fork ≡ level (value (seen_history judge.now)) leaf }
     ensures edit { IsTrue result → (x y : ℕ) × IsSplit (value (seen_history judge.now)) pair.0 pair.1 leaf fork x y }
-    ensures fresh { IsTrue result → (side : SideOf) → IsNamed judge.now.layout (seen_history judge.now) (value (seen_history judge.now) (child_of fork side)) → ⊥ }
+    ensures fresh { IsTrue result → (side : SideOf) → IsNamed judge.now.layout (seen_history judge.now)
+        (value (seen_history judge.now) (child_of fork side)) → ⊥ }
 {
     let left = child(judge, fork, Side::Left);
     let right = child(judge, fork, Side::Right);
@@ -366,7 +373,8 @@ fn sibling_place(side: Side) -> u8
 /// Whether an SCX-record covers a grandparent, a parent and its two children, finalizes all but the
 /// first, and puts a copy of the other child into the grandparent's field towards the key.
 fn is_delete(judge: &Judge, scx: u64, key: u64) -> bool
-    ensures { IsTrue result → IsDelete (seen_history judge.now) scx key (toward_of (value (seen_history judge.now)) (member_of (seen_history judge.now) scx 1) key) }
+    ensures { IsTrue result → IsDelete (seen_history judge.now) scx key
+        (toward_of (value (seen_history judge.now)) (member_of (seen_history judge.now) scx 1) key) }
 {
     let plan = delete_plan(toward(judge, member(judge, scx, 0), key));
     let side = toward(judge, member(judge, scx, 1), key);
@@ -379,8 +387,13 @@ fn is_delete(judge: &Judge, scx: u64, key: u64) -> bool
 /// Whether the parent is a fork, the child on this side, which goes, a leaf of the key, and `new` a
 /// copy of the other child.
 fn is_join(judge: &Judge, scx: u64, side: Side, key: u64) -> bool
-    ensures edit { IsTrue result → IsJoin (value (seen_history judge.now)) key (member_of (seen_history judge.now) scx 1) (member_of (seen_history judge.now) scx (leaf_place_of side)) (member_of (seen_history judge.now) scx (sibling_place_of side)) (new (seen_history judge.now) scx) }
-    ensures copied { IsTrue result → value (seen_history judge.now) (info (member_of (seen_history judge.now) scx (sibling_place_of side))) ≡ seen_at (seen_history judge.now) scx (sibling_place_of side) → HasFieldsOf (value (seen_history judge.now)) (new (seen_history judge.now) scx) (member_of (seen_history judge.now) scx (sibling_place_of side)) }
+    ensures edit { IsTrue result → IsJoin (value (seen_history judge.now)) key (member_of (seen_history judge.now) scx 1)
+        (member_of (seen_history judge.now) scx (leaf_place_of side)) (member_of (seen_history judge.now) scx (sibling_place_of side))
+        (new (seen_history judge.now) scx) }
+    ensures copied { IsTrue result → value (seen_history judge.now)
+        (info (member_of (seen_history judge.now) scx (sibling_place_of side))) ≡ seen_at (seen_history judge.now) scx
+        (sibling_place_of side) → HasFieldsOf (value (seen_history judge.now)) (new (seen_history judge.now) scx)
+        (member_of (seen_history judge.now) scx (sibling_place_of side)) }
 {
     let leaf = member(judge, scx, leaf_place(side));
     !head(judge, member(judge, scx, 1)).leaf
@@ -399,7 +412,10 @@ fn is_leaf_of(judge: &Judge, node: u64, key: u64) -> bool
 
 /// Whether the parent's fields are the children, where it is as it was seen.
 fn are_below(judge: &Judge, scx: u64) -> bool
-    ensures { IsTrue result → value (seen_history judge.now) (info (member_of (seen_history judge.now) scx 1)) ≡ seen_at (seen_history judge.now) scx 1 → (value (seen_history judge.now) (child_of (member_of (seen_history judge.now) scx 1) Left) ≡ member_of (seen_history judge.now) scx 2) × (value (seen_history judge.now) (child_of (member_of (seen_history judge.now) scx 1) Right) ≡ member_of (seen_history judge.now) scx 3) }
+    ensures { IsTrue result → value (seen_history judge.now) (info (member_of (seen_history judge.now) scx 1)) ≡ seen_at
+        (seen_history judge.now) scx 1 → (value (seen_history judge.now) (child_of (member_of (seen_history judge.now) scx 1) Left) ≡
+        member_of (seen_history judge.now) scx 2) × (value (seen_history judge.now)
+        (child_of (member_of (seen_history judge.now) scx 1) Right) ≡ member_of (seen_history judge.now) scx 3) }
 {
     let parent = member(judge, scx, 1);
     !is_as_seen(judge, scx, 1)
@@ -409,10 +425,16 @@ fn are_below(judge: &Judge, scx: u64) -> bool
 
 /// Whether `new` is a copy of the child at a place.
 fn is_copy(judge: &Judge, scx: u64, place: u8) -> bool
-    ensures same_head { IsTrue result → value (seen_history judge.now) (node_of (new (seen_history judge.now) scx) HeadWord) ≡ value (seen_history judge.now) (node_of (member_of (seen_history judge.now) scx place) HeadWord) }
-    ensures same_key { IsTrue result → value (seen_history judge.now) (node_of (new (seen_history judge.now) scx) Key) ≡ value (seen_history judge.now) (node_of (member_of (seen_history judge.now) scx place) Key) }
-    ensures same_value { IsTrue result → is_leaf (value (seen_history judge.now)) (member_of (seen_history judge.now) scx place) ≡ true → value (seen_history judge.now) (node_of (new (seen_history judge.now) scx) ValueWord) ≡ value (seen_history judge.now) (node_of (member_of (seen_history judge.now) scx place) ValueWord) }
-    ensures copied { IsTrue result → value (seen_history judge.now) (info (member_of (seen_history judge.now) scx place)) ≡ seen_at (seen_history judge.now) scx place → HasFieldsOf (value (seen_history judge.now)) (new (seen_history judge.now) scx) (member_of (seen_history judge.now) scx place) }
+    ensures same_head { IsTrue result → value (seen_history judge.now) (node_of (new (seen_history judge.now) scx) HeadWord) ≡ value
+        (seen_history judge.now) (node_of (member_of (seen_history judge.now) scx place) HeadWord) }
+    ensures same_key { IsTrue result → value (seen_history judge.now) (node_of (new (seen_history judge.now) scx) Key) ≡ value
+        (seen_history judge.now) (node_of (member_of (seen_history judge.now) scx place) Key) }
+    ensures same_value { IsTrue result → is_leaf (value (seen_history judge.now)) (member_of (seen_history judge.now) scx place) ≡ true →
+        value (seen_history judge.now) (node_of (new (seen_history judge.now) scx) ValueWord) ≡ value (seen_history judge.now)
+        (node_of (member_of (seen_history judge.now) scx place) ValueWord) }
+    ensures copied { IsTrue result → value (seen_history judge.now) (info (member_of (seen_history judge.now) scx place)) ≡ seen_at
+        (seen_history judge.now) scx place → HasFieldsOf (value (seen_history judge.now)) (new (seen_history judge.now) scx)
+        (member_of (seen_history judge.now) scx place) }
 {
     let (new, sibling) = (
         scx_word(judge, scx, ScxWord::New),
@@ -427,7 +449,8 @@ fn is_copy(judge: &Judge, scx: u64, place: u8) -> bool
 /// Whether a node has the value of another, if that is a leaf; or else its fields, if they are looked
 /// at.
 fn has_content_of(judge: &Judge, one: u64, other: u64, looked_at: bool) -> bool
-    ensures same_value { IsTrue result → is_leaf (value (seen_history judge.now)) other ≡ true → value (seen_history judge.now) (node_of one ValueWord) ≡ value (seen_history judge.now) (node_of other ValueWord) }
+    ensures same_value { IsTrue result → is_leaf (value (seen_history judge.now)) other ≡ true →
+        value (seen_history judge.now) (node_of one ValueWord) ≡ value (seen_history judge.now) (node_of other ValueWord) }
     ensures copied { IsTrue result → looked_at ≡ true → HasFieldsOf (value (seen_history judge.now)) one other }
 {
     if head(judge, other).leaf {

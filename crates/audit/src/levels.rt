@@ -36,8 +36,11 @@ pub(crate) fn do_levels_rise(judge: &Judge, row: &Row) -> bool
 /// Whether a node may be stored into a field of another: levels rise over it and below it.
 fn may_hold(judge: &Judge, node: u64, child: u64) -> bool
     ensures apart { IsTrue result → node ≢ child }
-    ensures over { IsTrue result → HasStoodInField (seen_history judge.now) node → is_leaf (value (seen_history judge.now)) node ≡ false → level (value (seen_history judge.now)) node < level (value (seen_history judge.now)) child }
-    ensures below { IsTrue result → (side : SideOf) → is_leaf (value (seen_history judge.now)) child ≡ false → level (value (seen_history judge.now)) child < level (value (seen_history judge.now)) (value (seen_history judge.now) (child_of child side)) }
+    ensures over { IsTrue result → HasStoodInField (seen_history judge.now) node → is_leaf (value (seen_history judge.now)) node ≡ false →
+        level (value (seen_history judge.now)) node < level (value (seen_history judge.now)) child }
+    ensures below { IsTrue result → (side : SideOf) → is_leaf (value (seen_history judge.now)) child ≡ false →
+        level (value (seen_history judge.now)) child < level (value (seen_history judge.now))
+        (value (seen_history judge.now) (child_of child side)) }
 {
     node != child && rises_to(judge, node, child) && rises(judge, child)
 }
@@ -57,7 +60,8 @@ fn head(judge: &Judge, node: u64) -> Head
 
 /// Whether the level of a fork's child is above its own, if a field has ever held the fork.
 fn rises_to(judge: &Judge, fork: u64, child: u64) -> bool
-    ensures { IsTrue result → HasStoodInField (seen_history judge.now) fork → is_leaf (value (seen_history judge.now)) fork ≡ false → level (value (seen_history judge.now)) fork < level (value (seen_history judge.now)) child }
+    ensures { IsTrue result → HasStoodInField (seen_history judge.now) fork → is_leaf (value (seen_history judge.now)) fork ≡ false →
+        level (value (seen_history judge.now)) fork < level (value (seen_history judge.now)) child }
 {
     !stands(judge, fork)
         || head(judge, fork).leaf
@@ -66,7 +70,9 @@ fn rises_to(judge: &Judge, fork: u64, child: u64) -> bool
 
 /// Whether the levels of a node's children are above its own, if it is a fork.
 fn rises(judge: &Judge, node: u64) -> bool
-    ensures { IsTrue result → (side : SideOf) → is_leaf (value (seen_history judge.now)) node ≡ false → level (value (seen_history judge.now)) node < level (value (seen_history judge.now)) (value (seen_history judge.now) (child_of node side)) }
+    ensures { IsTrue result → (side : SideOf) → is_leaf (value (seen_history judge.now)) node ≡ false →
+        level (value (seen_history judge.now)) node < level (value (seen_history judge.now))
+        (value (seen_history judge.now) (child_of node side)) }
 {
     let of = head(judge, node);
     of.leaf

@@ -40,8 +40,13 @@ pub(crate) fn is_right(
     reply: &Finished,
 ) -> bool
     requires { client.now.pass.0 < steps.now.judge.layout.passes }
-    ensures right { (lay : Layout) (calls : List CallOf) (lines : List Line) → IsAsked lay tries calls lines (changes places.now) client.now command.now reply.now → AreRemembered lay calls lines steps.now → IsTrue result → IsRight lay tries reply.now.client.0 (history lay.mode lines) (start lay.mode lines reply.now.client.0) (linked calls lay.mode lines reply.now.client.0) command.now reply.now.answer }
-    ensures placed { (lay : Layout) (calls : List CallOf) (lines : List Line) → IsAsked lay tries calls lines (changes places.now) client.now command.now reply.now → IsTrue result → IsPlaced lay calls lines reply.now command.now }
+    ensures right { (lay : Layout) (calls : List CallOf) (lines : List Line) →
+        IsAsked lay tries calls lines (changes places.now) client.now command.now reply.now → AreRemembered lay calls lines steps.now →
+        IsTrue result → IsRight lay tries reply.now.client.0 (history lay.mode lines) (start lay.mode lines reply.now.client.0)
+        (linked calls lay.mode lines reply.now.client.0) command.now reply.now.answer }
+    ensures placed { (lay : Layout) (calls : List CallOf) (lines : List Line) →
+        IsAsked lay tries calls lines (changes places.now) client.now command.now reply.now → IsTrue result →
+        IsPlaced lay calls lines reply.now command.now }
 {
     let Command::Map(request) = command else {
         return false;
@@ -69,8 +74,13 @@ fn is_placed(
     reply: &Finished,
 ) -> bool
     requires { reply.now.answer ≡ MapAnswer told.now }
-    ensures right { (lay : Layout) (tries : ℕ) (calls : List CallOf) (lines : List Line) → IsAsked lay tries calls lines (changes places.now) client.now (MapCommand request.now) reply.now → IsTrue result → IsRight lay tries reply.now.client.0 (history lay.mode lines) (start lay.mode lines reply.now.client.0) (linked calls lay.mode lines reply.now.client.0) (MapCommand request.now) reply.now.answer }
-    ensures placed { (lay : Layout) (tries : ℕ) (calls : List CallOf) (lines : List Line) → IsAsked lay tries calls lines (changes places.now) client.now (MapCommand request.now) reply.now → IsTrue result → IsPlaced lay calls lines reply.now (MapCommand request.now) }
+    ensures right { (lay : Layout) (tries : ℕ) (calls : List CallOf) (lines : List Line) →
+        IsAsked lay tries calls lines (changes places.now) client.now (MapCommand request.now) reply.now → IsTrue result →
+        IsRight lay tries reply.now.client.0 (history lay.mode lines) (start lay.mode lines reply.now.client.0)
+        (linked calls lay.mode lines reply.now.client.0) (MapCommand request.now) reply.now.answer }
+    ensures placed { (lay : Layout) (tries : ℕ) (calls : List CallOf) (lines : List Line) →
+        IsAsked lay tries calls lines (changes places.now) client.now (MapCommand request.now) reply.now → IsTrue result →
+        IsPlaced lay calls lines reply.now (MapCommand request.now) }
 {
     match client.won {
         Some(turn) => { reply.moment == Some(turn) && had_before(places, request, told, turn) }
@@ -85,7 +95,8 @@ fn had_before(
     told: &Reply<u64, u64>,
     turn: u64,
 ) -> bool
-    ensures { (calls : List CallOf) (lines : List Line) → AreEntries calls lines (changes places.now) → IsTrue result → IsToldBefore calls lines (MapCommand request.now) (MapAnswer told.now) turn }
+    ensures { (calls : List CallOf) (lines : List Line) → AreEntries calls lines (changes places.now) → IsTrue result →
+        IsToldBefore calls lines (MapCommand request.now) (MapAnswer told.now) turn }
 {
     let before = turn.saturating_sub(1);
     match request {
@@ -99,7 +110,8 @@ fn had_before(
 
 /// Whether a reply tells what a key has after a turn.
 fn tells_of(places: &Places, key: u64, told: &Reply<u64, u64>, turn: u64) -> bool
-    ensures { (calls : List CallOf) (lines : List Line) → AreEntries calls lines (changes places.now) → IsTrue result → number_reply told.now ≡ Some (OneValue (get key (map_at calls lines turn))) }
+    ensures { (calls : List CallOf) (lines : List Line) → AreEntries calls lines (changes places.now) → IsTrue result →
+        number_reply told.now ≡ Some (OneValue (get key (map_at calls lines turn))) }
 {
     match told {
         Reply::Value(value) => has_at(places, key, *value, turn),
@@ -116,8 +128,14 @@ fn is_read(
     reply: &Finished,
 ) -> bool
     requires { reply.now.answer ≡ MapAnswer told.now }
-    ensures right { (lay : Layout) (tries : ℕ) (calls : List CallOf) (lines : List Line) (client : ClientOf) → IsAsked lay tries calls lines (changes places.now) client (MapCommand request.now) reply.now → won lay lines reply.now.client.0 ≡ None → IsTrue result → IsRight lay tries reply.now.client.0 (history lay.mode lines) (start lay.mode lines reply.now.client.0) (linked calls lay.mode lines reply.now.client.0) (MapCommand request.now) reply.now.answer }
-    ensures placed { (lay : Layout) (tries : ℕ) (calls : List CallOf) (lines : List Line) (client : ClientOf) → IsAsked lay tries calls lines (changes places.now) client (MapCommand request.now) reply.now → won lay lines reply.now.client.0 ≡ None → IsTrue result → IsPlaced lay calls lines reply.now (MapCommand request.now) }
+    ensures right { (lay : Layout) (tries : ℕ) (calls : List CallOf) (lines : List Line) (client : ClientOf) →
+        IsAsked lay tries calls lines (changes places.now) client (MapCommand request.now) reply.now →
+        won lay lines reply.now.client.0 ≡ None → IsTrue result →
+        IsRight lay tries reply.now.client.0 (history lay.mode lines) (start lay.mode lines reply.now.client.0)
+        (linked calls lay.mode lines reply.now.client.0) (MapCommand request.now) reply.now.answer }
+    ensures placed { (lay : Layout) (tries : ℕ) (calls : List CallOf) (lines : List Line) (client : ClientOf) →
+        IsAsked lay tries calls lines (changes places.now) client (MapCommand request.now) reply.now →
+        won lay lines reply.now.client.0 ≡ None → IsTrue result → IsPlaced lay calls lines reply.now (MapCommand request.now) }
 {
     match request {
         Request::Get { key } => is_read_of(places, *key, told, reply),
@@ -143,7 +161,8 @@ fn is_read_of(places: &Places, key: u64, told: &Reply<u64, u64>, reply: &Finishe
 
 /// Whether a key has this value after a turn.
 fn has_at(places: &Places, key: u64, value: Option<u64>, turn: u64) -> bool
-    ensures { (calls : List CallOf) (lines : List Line) → AreEntries calls lines (changes places.now) → IsTrue result → get key (map_at calls lines turn) ≡ value }
+    ensures { (calls : List CallOf) (lines : List Line) → AreEntries calls lines (changes places.now) → IsTrue result →
+        get key (map_at calls lines turn) ≡ value }
 {
     places.greatest(key, value, turn, turn).is_some()
 }
@@ -157,7 +176,9 @@ fn is_read_at(
     reply: &Finished,
 ) -> bool
     requires { reply.now.answer ≡ MapAnswer told.now }
-    ensures { (calls : List CallOf) (lines : List Line) → AreEntries calls lines (changes places.now) → FallFrom (suc reply.now.end) (changes places.now) → reply.now.begin ≤ reply.now.end → IsTrue result → IsReadAt calls lines (MapCommand request.now) reply.now }
+    ensures { (calls : List CallOf) (lines : List Line) → AreEntries calls lines (changes places.now) →
+        FallFrom (suc reply.now.end) (changes places.now) → reply.now.begin ≤ reply.now.end → IsTrue result →
+        IsReadAt calls lines (MapCommand request.now) reply.now }
 {
     let command = Command::Map(*request);
     let turn = places.greatest_of(&command, told, reply.begin, reply.end);
@@ -166,7 +187,8 @@ fn is_read_at(
 
 /// Whether an ordered read, or a pop, tells what the map replies to it after a turn.
 fn tells_at(places: &Places, request: &Request<u64, u64>, told: &Reply<u64, u64>, turn: u64) -> bool
-    ensures { (calls : List CallOf) (lines : List Line) → AreEntries calls lines (changes places.now) → IsTrue result → IsToldAt calls lines (MapCommand request.now) told.now turn }
+    ensures { (calls : List CallOf) (lines : List Line) → AreEntries calls lines (changes places.now) → IsTrue result →
+        IsToldAt calls lines (MapCommand request.now) told.now turn }
 {
     let command = Command::Map(*request);
     let pairs = pairs_told(told);
@@ -190,7 +212,11 @@ fn is_refused(
 ) -> bool
     requires pass { client.now.pass.0 < steps.now.judge.layout.passes }
     requires answer { reply.now.answer ≡ MapAnswer told.now }
-    ensures right { (lay : Layout) (calls : List CallOf) (lines : List Line) → IsAsked lay tries calls lines (changes places.now) client.now (MapCommand request.now) reply.now → AreRemembered lay calls lines steps.now → IsTrue result → IsRight lay tries reply.now.client.0 (history lay.mode lines) (start lay.mode lines reply.now.client.0) (linked calls lay.mode lines reply.now.client.0) (MapCommand request.now) reply.now.answer }
+    ensures right { (lay : Layout) (calls : List CallOf) (lines : List Line) →
+        IsAsked lay tries calls lines (changes places.now) client.now (MapCommand request.now) reply.now →
+        AreRemembered lay calls lines steps.now → IsTrue result →
+        IsRight lay tries reply.now.client.0 (history lay.mode lines) (start lay.mode lines reply.now.client.0)
+        (linked calls lay.mode lines reply.now.client.0) (MapCommand request.now) reply.now.answer }
     ensures tells_nothing { IsTrue result → reply_told reply.now.answer ≡ None }
 {
     match told {
@@ -218,7 +244,12 @@ fn is_full(
     full: (Resource, u32),
 ) -> bool
     requires { client.now.pass.0 < steps.now.judge.layout.passes }
-    ensures { (lay : Layout) (tries : ℕ) (calls : List CallOf) (lines : List Line) → IsAsked lay tries calls lines (changes places.now) client.now (MapCommand request.now) reply.now → AreRemembered lay calls lines steps.now → IsTrue result → IsRight lay tries reply.now.client.0 (history lay.mode lines) (start lay.mode lines reply.now.client.0) (linked calls lay.mode lines reply.now.client.0) (MapCommand request.now) (MapAnswer (FullShare record { what = full.0; left = full.1 })) }
+    ensures { (lay : Layout) (tries : ℕ) (calls : List CallOf) (lines : List Line) →
+        IsAsked lay tries calls lines (changes places.now) client.now (MapCommand request.now) reply.now →
+        AreRemembered lay calls lines steps.now → IsTrue result →
+        IsRight lay tries reply.now.client.0 (history lay.mode lines) (start lay.mode lines reply.now.client.0)
+        (linked calls lay.mode lines reply.now.client.0) (MapCommand request.now)
+        (MapAnswer (FullShare record { what = full.0; left = full.1 })) }
 {
     match request {
         Request::Insert { key, value: _ } => {
@@ -246,7 +277,9 @@ fn is_full_for_new(
     full: (Resource, u32),
 ) -> bool
     requires { client.now.pass.0 < steps.now.judge.layout.passes }
-    ensures { (lay : Layout) (tries : ℕ) (calls : List CallOf) (lines : List Line) (command : CommandOf) → IsAsked lay tries calls lines (changes places.now) client.now command reply.now → AreRemembered lay calls lines steps.now → (MayAnswerAtOnce command reply.now.answer → ⊥) → IsTrue result → IsTooFewFor lay lines reply.now key None full.0 full.1 }
+    ensures { (lay : Layout) (tries : ℕ) (calls : List CallOf) (lines : List Line) (command : CommandOf) →
+        IsAsked lay tries calls lines (changes places.now) client.now command reply.now → AreRemembered lay calls lines steps.now →
+        (MayAnswerAtOnce command reply.now.answer → ⊥) → IsTrue result → IsTooFewFor lay lines reply.now key None full.0 full.1 }
 {
     steps.has_too_few_to_try(client.pass, 3, full) && had(places, key, None, reply)
 }
@@ -262,7 +295,10 @@ fn is_full_for_old(
     full: (Resource, u32),
 ) -> bool
     requires { client.now.pass.0 < steps.now.judge.layout.passes }
-    ensures { (lay : Layout) (tries : ℕ) (calls : List CallOf) (lines : List Line) (command : CommandOf) → IsAsked lay tries calls lines (changes places.now) client.now command reply.now → AreRemembered lay calls lines steps.now → (MayAnswerAtOnce command reply.now.answer → ⊥) → IsTrue result → (v : ℕ) × IsTooFewFor lay lines reply.now key (Some v) full.0 full.1 }
+    ensures { (lay : Layout) (tries : ℕ) (calls : List CallOf) (lines : List Line) (command : CommandOf) →
+        IsAsked lay tries calls lines (changes places.now) client.now command reply.now → AreRemembered lay calls lines steps.now →
+        (MayAnswerAtOnce command reply.now.answer → ⊥) → IsTrue result → (v : ℕ) ×
+        IsTooFewFor lay lines reply.now key (Some v) full.0 full.1 }
 {
     steps.has_too_few_to_try(client.pass, 1, full) && had_some(places, key, reply)
 }
@@ -278,7 +314,10 @@ fn is_full_for_value(
     full: (Resource, u32),
 ) -> bool
     requires { client.now.pass.0 < steps.now.judge.layout.passes }
-    ensures { (lay : Layout) (tries : ℕ) (calls : List CallOf) (lines : List Line) (command : CommandOf) → IsAsked lay tries calls lines (changes places.now) client.now command reply.now → AreRemembered lay calls lines steps.now → (MayAnswerAtOnce command reply.now.answer → ⊥) → IsTrue result → IsTooFewFor lay lines reply.now pair.0 (Some pair.1) full.0 full.1 }
+    ensures { (lay : Layout) (tries : ℕ) (calls : List CallOf) (lines : List Line) (command : CommandOf) →
+        IsAsked lay tries calls lines (changes places.now) client.now command reply.now → AreRemembered lay calls lines steps.now →
+        (MayAnswerAtOnce command reply.now.answer → ⊥) → IsTrue result →
+        IsTooFewFor lay lines reply.now pair.0 (Some pair.1) full.0 full.1 }
 {
     steps.has_too_few_to_try(client.pass, 1, full) && had(places, pair.0, Some(pair.1), reply)
 }
@@ -293,28 +332,34 @@ fn is_full_for_pair(
     full: (Resource, u32),
 ) -> bool
     requires { client.now.pass.0 < steps.now.judge.layout.passes }
-    ensures { (lay : Layout) (tries : ℕ) (calls : List CallOf) (lines : List Line) (command : CommandOf) → IsAsked lay tries calls lines (changes places.now) client.now command reply.now → AreRemembered lay calls lines steps.now → (MayAnswerAtOnce command reply.now.answer → ⊥) → IsTrue result → (first : PairOf) × IsTooFewToTake lay lines reply.now first full.0 full.1 }
+    ensures { (lay : Layout) (tries : ℕ) (calls : List CallOf) (lines : List Line) (command : CommandOf) →
+        IsAsked lay tries calls lines (changes places.now) client.now command reply.now → AreRemembered lay calls lines steps.now →
+        (MayAnswerAtOnce command reply.now.answer → ⊥) → IsTrue result → (first : PairOf) ×
+        IsTooFewToTake lay lines reply.now first full.0 full.1 }
 {
     steps.has_too_few_to_try(client.pass, 1, full) && had_pair(places, reply)
 }
 
 /// Whether the map had a pair after some turn of a call.
 fn had_pair(places: &Places, reply: &Finished) -> bool
-    ensures { (calls : List CallOf) (lines : List Line) → AreEntries calls lines (changes places.now) → IsTrue result → (first : PairOf) × HadFirstWithin calls lines (Some first) reply.now.begin reply.now.end }
+    ensures { (calls : List CallOf) (lines : List Line) → AreEntries calls lines (changes places.now) → IsTrue result → (first : PairOf) ×
+        HadFirstWithin calls lines (Some first) reply.now.begin reply.now.end }
 {
     reply.begin <= reply.end && places.had_pair(reply.begin, reply.end)
 }
 
 /// Whether a key had a value, whatever it was, after some turn of a call.
 fn had_some(places: &Places, key: u64, reply: &Finished) -> bool
-    ensures { (calls : List CallOf) (lines : List Line) → AreEntries calls lines (changes places.now) → IsTrue result → (v : ℕ) × HadWithin calls lines key (Some v) reply.now.begin reply.now.end }
+    ensures { (calls : List CallOf) (lines : List Line) → AreEntries calls lines (changes places.now) → IsTrue result → (v : ℕ) ×
+        HadWithin calls lines key (Some v) reply.now.begin reply.now.end }
 {
     reply.begin <= reply.end && places.had_some(key, reply.begin, reply.end)
 }
 
 /// Whether a key had this value, or none, after some turn of a call.
 fn had(places: &Places, key: u64, value: Option<u64>, reply: &Finished) -> bool
-    ensures { (calls : List CallOf) (lines : List Line) → AreEntries calls lines (changes places.now) → IsTrue result → HadWithin calls lines key value reply.now.begin reply.now.end }
+    ensures { (calls : List CallOf) (lines : List Line) → AreEntries calls lines (changes places.now) → IsTrue result →
+        HadWithin calls lines key value reply.now.begin reply.now.end }
 {
     reply.begin <= reply.end
         && places

@@ -48,7 +48,7 @@ pub(crate) struct Run<'a> {
 }
 
 impl<'a> Run<'a> {
-    ghost use Rattle.std.specs.Prelude.{◌≡◌, ◌≢◌, ℕ, suc, ◌+◌, ◌<◌, ◌∷◌, [], Some, None, true, IsTrue, IfOk, IfSome, OnOk, slice_get, vec_len};
+    ghost use Rattle.std.specs.Prelude.{◌≡◌, ◌≢◌, ℕ, suc, ◌+◌, ◌<◌, ◌∷◌, [], Some, None, true, false, IsTrue, IfOk, IfSome, OnOk, slice_get, vec_len};
     ghost use Rattle.arena.specs.declared.step.Row.{Row as RowOf};
     ghost use Rattle.arena.specs.Lawful.{IsLawful};
     ghost use Rattle.record.specs.declared.record.Line.{Line};
@@ -137,7 +137,8 @@ impl<'a> Run<'a> {
         requires after { IsAfter self.now (lines_of self.now) }
         requires map { IsMapAfter self.now (lines_of self.now) }
         requires all { self.now.at ≡ length self.now.record.now.lines.items }
-        ensures { OnOk result (IsLawfulRun (layout_of self.now) (tries_of self.now) (calls_of self.now) (reverse (clients (reverse self.now.record.now.lines.items))) self.now.record.now.lines.items) }
+        ensures { OnOk result (IsLawfulRun (layout_of self.now) (tries_of self.now) (calls_of self.now)
+            (reverse (clients (reverse self.now.record.now.lines.items))) self.now.record.now.lines.items) }
     {
         self.steps.judge.laws_hold();
         self.settled()?;
@@ -196,9 +197,12 @@ impl<'a> Run<'a> {
         requires map { IsMapAfter self.old (lines_of self.old) }
         requires remembered { AreRememberedAfter self.old (lines_of self.old) }
         requires more { self.old.at < vec_len self.old.record.now.lines }
-        ensures after { (line : LineOf) → slice_get self.old.record.now.lines.items self.old.at ≡ Some line → OnOk result (IsAfter self.new (line ∷ lines_of self.old)) }
-        ensures map { (line : LineOf) → slice_get self.old.record.now.lines.items self.old.at ≡ Some line → OnOk result (IsMapAfter self.new (line ∷ lines_of self.old)) }
-        ensures remembered { (line : LineOf) → slice_get self.old.record.now.lines.items self.old.at ≡ Some line → OnOk result (AreRememberedAfter self.new (line ∷ lines_of self.old)) }
+        ensures after { (line : LineOf) → slice_get self.old.record.now.lines.items self.old.at ≡ Some line →
+            OnOk result (IsAfter self.new (line ∷ lines_of self.old)) }
+        ensures map { (line : LineOf) → slice_get self.old.record.now.lines.items self.old.at ≡ Some line →
+            OnOk result (IsMapAfter self.new (line ∷ lines_of self.old)) }
+        ensures remembered { (line : LineOf) → slice_get self.old.record.now.lines.items self.old.at ≡ Some line →
+            OnOk result (AreRememberedAfter self.new (line ∷ lines_of self.old)) }
         ensures at { self.new.at ≡ self.old.at }
         ensures record { self.new.record ≡ self.old.record }
     {
@@ -294,7 +298,9 @@ impl<'a> Run<'a> {
         requires map { IsMapAfter self.now (lines_of self.now) }
         requires remembered { AreRememberedAfter self.now (lines_of self.now) }
         requires lawful { IsLawful self.now.steps.judge.layout (seen_history self.now.steps.judge) row.now }
-        ensures { (number : ℕ) → (e : EntryOf) → IsTrue result → owed.now ≡ Some e → entry_of (layout_of self.now) (lines_of self.now) number row.now ≡ Some e → IsWinOf (layout_of self.now) (calls_of self.now) (lines_of self.now) row.now e }
+        ensures { (number : ℕ) → (e : EntryOf) → IsTrue result → owed.now ≡ Some e →
+            entry_of (layout_of self.now) (lines_of self.now) number row.now ≡ Some e →
+            IsWinOf (layout_of self.now) (calls_of self.now) (lines_of self.now) row.now e }
     {
         match owed {
             Some(entry) => self.check_win(row, entry).is_ok(),
@@ -338,7 +344,8 @@ impl<'a> Run<'a> {
         requires map { IsMapAfter self.now (lines_of self.now) }
         requires remembered { AreRememberedAfter self.now (lines_of self.now) }
         requires lawful { IsLawful self.now.steps.judge.layout (seen_history self.now.steps.judge) row.now }
-        ensures { (number : ℕ) → entry_of (layout_of self.now) (lines_of self.now) number row.now ≡ Some entry.now → OnOk result (IsWinOf (layout_of self.now) (calls_of self.now) (lines_of self.now) row.now entry.now) }
+        ensures { (number : ℕ) → entry_of (layout_of self.now) (lines_of self.now) number row.now ≡ Some entry.now →
+            OnOk result (IsWinOf (layout_of self.now) (calls_of self.now) (lines_of self.now) row.now entry.now) }
     {
         let client = self.client(entry.client)?;
         let Some(command) = self.next(&client) else {
@@ -359,7 +366,13 @@ impl<'a> Run<'a> {
         requires remembered { AreRememberedAfter self.now (lines_of self.now) }
         requires client { slice_get self.now.clients.items client.now.pass.0 ≡ Some client.now }
         requires command { next_command (calls_of self.now) (lines_of self.now) client.now.pass.0 ≡ Some command.now }
-        ensures { OnOk result ((row : RowOf) (n : ℕ) (side : Side) → IsLawful self.now.steps.judge.layout (seen_history self.now.steps.judge) row → IsWin (seen_history self.now.steps.judge) row scx.0 → row.word ≡ child n side → IsEntryFor (layout_of self.now) client.now.pass.0 (seen_history self.now.steps.judge) (start (layout_of self.now).mode (lines_of self.now) client.now.pass.0) (linked (calls_of self.now) (layout_of self.now).mode (lines_of self.now) client.now.pass.0) (entered (layout_of self.now) (seen_history self.now.steps.judge) scx.0 n side row.after) command.now) }
+        ensures { OnOk result ((row : RowOf) (n : ℕ) (side : Side) →
+            IsLawful self.now.steps.judge.layout (seen_history self.now.steps.judge) row →
+            IsWin (seen_history self.now.steps.judge) row scx.0 → row.word ≡ child n side →
+            IsEntryFor (layout_of self.now) client.now.pass.0 (seen_history self.now.steps.judge)
+            (start (layout_of self.now).mode (lines_of self.now) client.now.pass.0)
+            (linked (calls_of self.now) (layout_of self.now).mode (lines_of self.now) client.now.pass.0)
+            (entered (layout_of self.now) (seen_history self.now.steps.judge) scx.0 n side row.after) command.now) }
     {
         match command {
             Command::Map(_) => {
@@ -442,11 +455,19 @@ impl<'a> Run<'a> {
         requires { IsTreeRun self.now.steps.judge.layout (seen_history self.now.steps.judge) }
         ensures { IsTrue result → IsReady self.now.edits.items (seen_history self.now.steps.judge) scx.0 command.now }
     {
+        match self.begun_of(scx) {
+            Some(begun) => is_of(&begun, command) && suits(&self.steps.judge, scx.0, &begun),
+            None => false,
+        }
+    }
+
+    /// The SCX-record of this number, if one has begun.
+    fn begun_of(&self, scx: ScxNo) -> Option<Begun>
+        ensures { IfSome result (λ begun. slice_get self.now.edits.items scx.0 ≡ Some (Some begun)) }
+    {
         match self.edits.get(scx.0 as usize) {
-            Some(Some(begun)) => {
-                begun.command == *command && suits(&self.steps.judge, scx.0, begun)
-            }
-            _ => false,
+            Some(begun) => *begun,
+            None => None,
         }
     }
 
@@ -613,8 +634,13 @@ impl<'a> Run<'a> {
         requires fits { IsFitting (lines_of self.now) command.now reply.now.answer }
         requires entry { enters command.now reply.now.answer ≡ is_some client.now.won }
         requires command { next_command (calls_of self.now) (lines_of self.now) client.now.pass.0 ≡ Some command.now }
-        ensures right { OnOk result (IsRight (layout_of self.now) (tries_of self.now) reply.now.client.0 (history (layout_of self.now).mode (lines_of self.now)) (start (layout_of self.now).mode (lines_of self.now) reply.now.client.0) (linked (calls_of self.now) (layout_of self.now).mode (lines_of self.now) reply.now.client.0) command.now reply.now.answer) }
-        ensures took { OnOk result (HasTakenFew (layout_of self.now) (tries_of self.now) reply.now.client.0 (history (layout_of self.now).mode (lines_of self.now)) (start (layout_of self.now).mode (lines_of self.now) reply.now.client.0) command.now) }
+        ensures right { OnOk result (IsRight (layout_of self.now) (tries_of self.now) reply.now.client.0
+            (history (layout_of self.now).mode (lines_of self.now))
+            (start (layout_of self.now).mode (lines_of self.now) reply.now.client.0)
+            (linked (calls_of self.now) (layout_of self.now).mode (lines_of self.now) reply.now.client.0) command.now reply.now.answer) }
+        ensures took { OnOk result (HasTakenFew (layout_of self.now) (tries_of self.now) reply.now.client.0
+            (history (layout_of self.now).mode (lines_of self.now))
+            (start (layout_of self.now).mode (lines_of self.now) reply.now.client.0) command.now) }
         ensures placed { OnOk result (IsPlaced (layout_of self.now) (calls_of self.now) (lines_of self.now) reply.now command.now) }
     {
         let limits = &self.record.script.limits;
@@ -645,7 +671,10 @@ impl<'a> Run<'a> {
         requires fits { IsFitting (lines_of self.now) command.now reply.now.answer }
         requires entry { enters command.now reply.now.answer ≡ is_some client.now.won }
         requires command { next_command (calls_of self.now) (lines_of self.now) client.now.pass.0 ≡ Some command.now }
-        ensures right { OnOk result (IsRight (layout_of self.now) (tries_of self.now) reply.now.client.0 (history (layout_of self.now).mode (lines_of self.now)) (start (layout_of self.now).mode (lines_of self.now) reply.now.client.0) (linked (calls_of self.now) (layout_of self.now).mode (lines_of self.now) reply.now.client.0) command.now reply.now.answer) }
+        ensures right { OnOk result (IsRight (layout_of self.now) (tries_of self.now) reply.now.client.0
+            (history (layout_of self.now).mode (lines_of self.now))
+            (start (layout_of self.now).mode (lines_of self.now) reply.now.client.0)
+            (linked (calls_of self.now) (layout_of self.now).mode (lines_of self.now) reply.now.client.0) command.now reply.now.answer) }
         ensures placed { OnOk result (IsPlaced (layout_of self.now) (calls_of self.now) (lines_of self.now) reply.now command.now) }
     {
         let tries = self.record.script.limits.tries;
@@ -667,11 +696,24 @@ impl<'a> Run<'a> {
         requires own { client.now.pass ≡ reply.now.client }
         requires begun { client.now.begun ≡ Some reply.now.begin }
         requires command { next_command (calls_of self.now) (lines_of self.now) client.now.pass.0 ≡ Some command.now }
-        ensures right { OnOk result (IsRight (layout_of self.now) (tries_of self.now) reply.now.client.0 (history (layout_of self.now).mode (lines_of self.now)) (start (layout_of self.now).mode (lines_of self.now) reply.now.client.0) (linked (calls_of self.now) (layout_of self.now).mode (lines_of self.now) reply.now.client.0) command.now reply.now.answer) }
+        ensures right { OnOk result (IsRight (layout_of self.now) (tries_of self.now) reply.now.client.0
+            (history (layout_of self.now).mode (lines_of self.now))
+            (start (layout_of self.now).mode (lines_of self.now) reply.now.client.0)
+            (linked (calls_of self.now) (layout_of self.now).mode (lines_of self.now) reply.now.client.0) command.now reply.now.answer) }
         ensures placed { OnOk result (IsPlaced (layout_of self.now) (calls_of self.now) (lines_of self.now) reply.now command.now) }
     {
         hold(cells::is_right(&self.steps, client, command, reply))?;
         Ok(())
+    }
+}
+
+/// Whether an SCX-record has begun for a call with this command.
+fn is_of(begun: &Begun, command: &Command) -> bool
+    ensures { IsTrue result → begun.now.command ≡ command.now }
+{
+    match (begun.command, *command) {
+        (Command::Map(own), Command::Map(request)) => own == request,
+        _ => false,
     }
 }
 
@@ -720,7 +762,8 @@ fn note_win(clients: &mut Vec<Client>, number: u64, owed: &Option<Entry>)
     requires there { IfSome owed.now (λ e. e.client.0 < length clients.old.items) }
     ensures same { length clients.new.items ≡ length clients.old.items }
     ensures none { owed.now ≡ None → clients.new.items ≡ clients.old.items }
-    ensures some { (e : EntryOf) → (c : ClientOf) → owed.now ≡ Some e → slice_get clients.old.items e.client.0 ≡ Some c → clients.new.items ≡ set clients.old.items e.client.0 (record c { won = Some number }) }
+    ensures some { (e : EntryOf) → (c : ClientOf) → owed.now ≡ Some e → slice_get clients.old.items e.client.0 ≡ Some c →
+        clients.new.items ≡ set clients.old.items e.client.0 (record c { won = Some number }) }
 {
     if let Some(entry) = owed {
         let client = clients[entry.client.0 as usize];

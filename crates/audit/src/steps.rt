@@ -92,7 +92,9 @@ impl Steps {
     /// reply.
     pub(crate) fn begin(&mut self, client: &Client, calls: &[Call])
         ensures same { self.new ≡ record self.old { memories = self.new.memories } }
-        ensures remembered { (lay : Layout) (lines : List Line) → AreRemembered lay calls.now lines self.old → IsClientAfter lay calls.now lines client.now.pass.0 client.now → AreRememberedInCall lay calls.now lines client.now.pass.0 self.new }
+        ensures remembered { (lay : Layout) (lines : List Line) → AreRemembered lay calls.now lines self.old →
+            IsClientAfter lay calls.now lines client.now.pass.0 client.now →
+            AreRememberedInCall lay calls.now lines client.now.pass.0 self.new }
     {
         if client.begun.is_none() {
             let memory = self.memory_begun(client, calls);
@@ -102,8 +104,13 @@ impl Steps {
 
     /// What is remembered of a client whose call begins now.
     fn memory_begun(&self, client: &Client, calls: &[Call]) -> Memory
-        ensures same { IfSome (slice_get self.now.memories.items client.now.pass.0) (λ m. result ≡ record m { begun = result.begun; nodes = result.nodes; scx = result.scx; tries = result.tries; same = result.same }) }
-        ensures begun { (lay : Layout) (lines : List Line) → AreRemembered lay calls.now lines self.now → IsClientAfter lay calls.now lines client.now.pass.0 client.now → client.now.begun ≡ None → client.now.pass.0 < length self.now.memories.items → IsBegunWith lay (history lay.mode lines) (start lay.mode lines client.now.pass.0) (linked calls.now lay.mode lines client.now.pass.0) (next_command calls.now lines client.now.pass.0) client.now.pass.0 result }
+        ensures same { IfSome (slice_get self.now.memories.items client.now.pass.0) (λ m.
+            result ≡ record m { begun = result.begun; nodes = result.nodes; scx = result.scx; tries = result.tries; same = result.same }) }
+        ensures begun { (lay : Layout) (lines : List Line) → AreRemembered lay calls.now lines self.now →
+            IsClientAfter lay calls.now lines client.now.pass.0 client.now → client.now.begun ≡ None →
+            client.now.pass.0 < length self.now.memories.items →
+            IsBegunWith lay (history lay.mode lines) (start lay.mode lines client.now.pass.0)
+            (linked calls.now lay.mode lines client.now.pass.0) (next_command calls.now lines client.now.pass.0) client.now.pass.0 result }
     {
         let memory = self.memory(client.pass);
         Memory {
@@ -118,7 +125,9 @@ impl Steps {
 
     /// If this command is a `vlx`, of each of its cells: whether it is as the snapshot says.
     fn same_of(&self, memory: &Memory, command: Option<Command>) -> [bool; 4]
-        ensures { (cells : Cells) (kept : ℕ → Option History) → command ≡ Some (Vlx cells) → AreSnapshotsOf self.now.judge.layout (seen_history self.now.judge) memory.now kept → AreSameAt self.now.judge.layout (seen_history self.now.judge) kept (cells_of cells) result }
+        ensures { (cells : Cells) (kept : ℕ → Option History) → command ≡ Some (Vlx cells) →
+            AreSnapshotsOf self.now.judge.layout (seen_history self.now.judge) memory.now kept →
+            AreSameAt self.now.judge.layout (seen_history self.now.judge) kept (cells_of cells) result }
     {
         match command {
             Some(Command::Vlx { cells }) => same_cells(&self.judge, memory, cells.as_slice()),
@@ -140,7 +149,9 @@ impl Steps {
         requires { IsLawful self.old.judge.layout (seen_history self.old.judge) row.now }
         ensures layout { self.new.judge.layout ≡ self.old.judge.layout }
         ensures history { OnOk result (seen_history self.new.judge ≡ row.now ⊳ seen_history self.old.judge) }
-        ensures remembered { (lay : Layout) (calls : List Call) (lines : List Line) (number : ℕ) → AreRememberedInCall lay calls lines row.now.pass.0 self.old → OnOk result (AreRemembered lay calls (Turn (Made number row.now) ∷ lines) self.new) }
+        ensures remembered { (lay : Layout) (calls : List Call) (lines : List Line) (number : ℕ) →
+            AreRememberedInCall lay calls lines row.now.pass.0 self.old →
+            OnOk result (AreRemembered lay calls (Turn (Made number row.now) ∷ lines) self.new) }
     {
         hold(self.count < u64::MAX)?;
         let ends = self.ends(row);
@@ -157,7 +168,8 @@ impl Steps {
     fn note_end(&mut self, ends: Option<ScxNo>)
         ensures same { self.new ≡ record self.old { until = self.new.until } }
         ensures many { length self.new.until.items ≡ length self.old.until.items }
-        ensures until { (s rows : ℕ) → slice_get self.new.until.items s ≡ Some rows → (slice_get self.old.until.items s ≡ Some rows) ⊎ ((rows ≡ self.old.count) × IfSome ends (λ t. t.0 ≡ s) × IsSome ends) }
+        ensures until { (s rows : ℕ) → slice_get self.new.until.items s ≡ Some rows → (slice_get self.old.until.items s ≡ Some rows) ⊎
+            ((rows ≡ self.old.count) × IfSome ends (λ t. t.0 ≡ s) × IsSome ends) }
     {
         if let Some(scx) = ends
             && let Some(until) = self.until.get_mut(scx.0 as usize)
@@ -171,7 +183,9 @@ impl Steps {
         ensures same { self.new ≡ record self.old { finals = self.new.finals } }
         ensures many { length self.new.finals.items ≡ length self.old.finals.items }
         ensures none { winner ≡ None → self.new.finals.items ≡ self.old.finals.items }
-        ensures noted { (s : ScxNo) → winner ≡ Some s → (n rows : ℕ) → slice_get self.new.finals.items n ≡ Some rows → IsRememberedFinal self.old.judge.layout (seen_history self.old.judge) s.0 4 self.old.count (slice_get self.old.finals.items n) n rows }
+        ensures noted { (s : ScxNo) → winner ≡ Some s → (n rows : ℕ) → slice_get self.new.finals.items n ≡ Some rows →
+            IsRememberedFinal self.old.judge.layout (seen_history self.old.judge) s.0 4 self.old.count (slice_get self.old.finals.items n)
+            n rows }
     {
         let Some(scx) = winner else {
             return;
@@ -185,7 +199,9 @@ impl Steps {
     fn note_final(&mut self, scx: ScxNo, place: u8)
         ensures same { self.new ≡ record self.old { finals = self.new.finals } }
         ensures many { length self.new.finals.items ≡ length self.old.finals.items }
-        ensures noted { (n rows : ℕ) → slice_get self.new.finals.items n ≡ Some rows → IsMadeFinal self.old.judge.layout (seen_history self.old.judge) scx.0 place self.old.count (slice_get self.old.finals.items n) n rows }
+        ensures noted { (n rows : ℕ) → slice_get self.new.finals.items n ≡ Some rows →
+            IsMadeFinal self.old.judge.layout (seen_history self.old.judge) scx.0 place self.old.count (slice_get self.old.finals.items n)
+            n rows }
     {
         let node = NodeNo(self.judge.get(Word::Scx(scx, ScxWord::Member(place))));
         if self.judge.is_final(node)
@@ -198,7 +214,8 @@ impl Steps {
 
     /// Whether a node was final after the first so many steps.
     pub(crate) fn was_final(&self, node: NodeNo, after: u64) -> bool
-        ensures { (lay : Layout) (h g : History) → AreStepsOf lay h self.now → IsMomentAt h after g → node.0 < all_nodes lay → result ≡ is_final (log lay g) node.0 }
+        ensures { (lay : Layout) (h g : History) → AreStepsOf lay h self.now → IsMomentAt h after g → node.0 < all_nodes lay →
+            result ≡ is_final (log lay g) node.0 }
     {
         match self.finals.get(node.0 as usize) {
             Some(final_at) => 0 < *final_at && *final_at <= after,
@@ -223,7 +240,9 @@ impl Steps {
         ensures same { self.new ≡ record self.old { memories = self.new.memories } }
         ensures many { length self.new.memories.items ≡ length self.old.memories.items }
         ensures others { (c : ℕ) → (c ≡ row.now.pass.0 → ⊥) → slice_get self.new.memories.items c ≡ slice_get self.old.memories.items c }
-        ensures own { (m : Memory) → slice_get self.new.memories.items row.now.pass.0 ≡ Some m → (old : Memory) × (slice_get self.old.memories.items row.now.pass.0 ≡ Some old) × IsNoted self.old.judge.layout (seen_history self.old.judge) self.old.count row.now old m }
+        ensures own { (m : Memory) → slice_get self.new.memories.items row.now.pass.0 ≡ Some m → (old : Memory) ×
+            (slice_get self.old.memories.items row.now.pass.0 ≡ Some old) ×
+            IsNoted self.old.judge.layout (seen_history self.old.judge) self.old.count row.now old m }
     {
         let look = self.look_by(row);
         if let Some(memory) = self.memories.get_mut(row.pass.0 as usize) {
@@ -250,7 +269,9 @@ impl Steps {
     /// Which snapshots a client keeps once its next call is answered so.
     pub(crate) fn keep_behind(&mut self, client: &Client, calls: &[Call], answer: &Answer)
         ensures same { self.new ≡ record self.old { memories = self.new.memories } }
-        ensures remembered { (lay : Layout) (lines : List Line) (reply : Finished) → AreRemembered lay calls.now lines self.old → IsClientAfter lay calls.now lines client.now.pass.0 client.now → reply.client ≡ client.now.pass → reply.answer ≡ answer.now → AreRemembered lay calls.now (ReplyLine reply ∷ lines) self.new }
+        ensures remembered { (lay : Layout) (lines : List Line) (reply : Finished) → AreRemembered lay calls.now lines self.old →
+            IsClientAfter lay calls.now lines client.now.pass.0 client.now → reply.client ≡ client.now.pass → reply.answer ≡ answer.now →
+            AreRemembered lay calls.now (ReplyLine reply ∷ lines) self.new }
     {
         if let Some(command) = client.command(calls) {
             let memory = self.memory_behind(self.memory(client.pass), &command, answer);
@@ -261,7 +282,8 @@ impl Steps {
     /// What is remembered of the client then, if this is its command.
     fn memory_behind(&self, memory: Memory, command: &Command, answer: &Answer) -> Memory
         ensures same { result ≡ record memory { snapshots = result.snapshots } }
-        ensures snapshots { (lay : Layout) (h : History) (kept : ℕ → Option History) → AreStepsOf lay h self.now → AreSnapshotsOf lay h memory kept → AreSnapshotsOf lay h result (λ n. linked_then (Some command.now) answer.now h n (kept n)) }
+        ensures snapshots { (lay : Layout) (h : History) (kept : ℕ → Option History) → AreStepsOf lay h self.now →
+            AreSnapshotsOf lay h memory kept → AreSnapshotsOf lay h result (λ n. linked_then (Some command.now) answer.now h n (kept n)) }
     {
         match command {
             Command::Llx { cell } => memory.with(
@@ -315,7 +337,9 @@ impl Steps {
 
     /// Whether the call of a client has taken no more of its share than it may.
     pub(crate) fn has_taken_few(&self, pass: PassNo, command: &Command, limits: &Limits) -> bool
-        ensures { (lay : Layout) (calls : List Call) (lines : List Line) → AreRemembered lay calls lines self.now → pass.0 < lay.passes → IsSome (begin lines pass.0) → IsTrue result → HasTakenFew lay limits.now.tries pass.0 (history lay.mode lines) (start lay.mode lines pass.0) command.now }
+        ensures { (lay : Layout) (calls : List Call) (lines : List Line) → AreRemembered lay calls lines self.now → pass.0 < lay.passes →
+            IsSome (begin lines pass.0) → IsTrue result →
+            HasTakenFew lay limits.now.tries pass.0 (history lay.mode lines) (start lay.mode lines pass.0) command.now }
     {
         let memory = self.memory(pass);
         let taken = memory.scx.saturating_sub(self.scx_left(pass));
@@ -363,7 +387,8 @@ impl Steps {
     /// the first so many.
     pub(crate) fn was_in_the_way(&self, pass: PassNo, blamed: (NodeNo, ScxNo), after: u64) -> bool
         ensures others { IsTrue result → IsOthersScx self.now.judge.layout pass.0 blamed.1.0 }
-        ensures way { (lay : Layout) (h g : History) → AreStepsOf lay h self.now → IsMomentAt h after g → IsTrue result → WasInTheWay h g blamed.0.0 blamed.1.0 }
+        ensures way { (lay : Layout) (h g : History) → AreStepsOf lay h self.now → IsMomentAt h after g → IsTrue result →
+            WasInTheWay h g blamed.0.0 blamed.1.0 }
     {
         self.judge.laws_hold();
         let (node, scx) = blamed;
@@ -379,7 +404,9 @@ impl Steps {
         blamed: (NodeNo, ScxNo),
     ) -> bool
         requires { pass.0 < self.now.judge.layout.passes }
-        ensures { (lay : Layout) (calls : List Call) (lines : List Line) → AreRemembered lay calls lines self.now → IsSome (begin lines pass.0) → IsTrue result → HasLostAllTries lay tries pass.0 (history lay.mode lines) (start lay.mode lines pass.0) blamed.0.0 blamed.1.0 }
+        ensures { (lay : Layout) (calls : List Call) (lines : List Line) → AreRemembered lay calls lines self.now →
+            IsSome (begin lines pass.0) → IsTrue result →
+            HasLostAllTries lay tries pass.0 (history lay.mode lines) (start lay.mode lines pass.0) blamed.0.0 blamed.1.0 }
     {
         let of_call = self.memory(pass).tries;
         of_call.are(tries) && self.was_in_the_way(pass, blamed, of_call.before)
@@ -417,7 +444,9 @@ impl Steps {
         full: (Resource, u32),
     ) -> bool
         requires { pass.0 < self.now.judge.layout.passes }
-        ensures { (lay : Layout) (calls : List Call) (lines : List Line) → AreRemembered lay calls lines self.now → IsSome (begin lines pass.0) → IsTrue result → HasTooFewToTry lay pass.0 (history lay.mode lines) (start lay.mode lines pass.0) needed full.0 full.1 }
+        ensures { (lay : Layout) (calls : List Call) (lines : List Line) → AreRemembered lay calls lines self.now →
+            IsSome (begin lines pass.0) → IsTrue result →
+            HasTooFewToTry lay pass.0 (history lay.mode lines) (start lay.mode lines pass.0) needed full.0 full.1 }
     {
         let memory = self.memory(pass);
         self.has_too_few(pass, needed, full)
@@ -429,7 +458,8 @@ impl Steps {
 /// Whether a share with so many nodes and SCX-records left has just so many of the resource, which
 /// is too little for an update that needs so many nodes.
 fn is_too_few(share: (u32, u32), needed: u32, full: (Resource, u32)) -> bool
-    ensures { (lay : LayoutOf) (c : ℕ) (h : HistoryOf) → NodesLeft lay c h share.0 → ScxLeft lay c h share.1 → IsTrue result → TooFew lay c h needed full.0 full.1 }
+    ensures { (lay : LayoutOf) (c : ℕ) (h : HistoryOf) → NodesLeft lay c h share.0 → ScxLeft lay c h share.1 → IsTrue result →
+        TooFew lay c h needed full.0 full.1 }
 {
     match full {
         (Resource::Nodes, left) => left == share.0 && left < needed,

@@ -13,7 +13,8 @@ use std::alloc::Global;
 /// nothing is owed. Otherwise the fault names the first row of the record's report that does not.
 /// Nothing is played again.
 pub fn audit(alloc: Global, record: &Record) -> Result<(), AuditFault>
-    ensures { OnOk result (IsLawfulRun «record».now.script.layout «record».now.script.limits.tries «record».now.script.calls.items (reverse (clients (reverse «record».now.lines.items))) «record».now.lines.items) }
+    ensures { OnOk result (IsLawfulRun «record».now.script.layout «record».now.script.limits.tries «record».now.script.calls.items
+        (reverse (clients (reverse «record».now.lines.items))) «record».now.lines.items) }
 {
     let before = rows_before(&record.script);
     let mut run = match Run::new(alloc, record) {

@@ -1,10 +1,9 @@
-use Rattle.std.proofs.Common.{◌≡◌, Some, slice_get, sym, ◌∙◌, ap, subst, refl, arith}
+use Rattle.std.proofs.Common.{◌≡◌, Some, sym, ◌∙◌, ap, subst, refl, arith}
 use Rattle.std.proofs.lemmas.Option.{slice_get_within}
 use Rattle.arena.specs.declared.limits.Mode.TheVariants.{Tree}
 use Rattle.arena.specs.declared.layout.Layout.{Layout}
 use Rattle.script.specs.Commands.{mode_of}
 use Rattle.script.specs.declared.command.Command.{Command}
-use Rattle.record.specs.CommandRules.{IsEntryFor}
 use Rattle.arena.specs.History.{History}
 use Rattle.arena.specs.Lawful.{IsLawful}
 use Rattle.ordered_map.specs.Runs.{IsTreeRun}
@@ -38,4 +37,4 @@ returns-in_ok-hold-in-Map c = λ row n side lawful wins word.
     let next = c.requires.command ∙ ap (λ (k : Command). Some k) (sym own) in
     let suited = ready.suited ((c.requires.map.tree tree).edits c.args.scx.0 begun ready.known).makes.own in
     let there = subst (λ (l : Layout). IsLawful l (seen_history run.steps.judge) row) c.requires.after.layout lawful in
-    subst (λ (k : Command). IsEntryFor _ _ _ _ _ _ k) own (map_entry _ run.record.now.script.limits.tries _ run.record.now.script.of_mode _ _ _ c.requires.map _ c.requires.after.seen c.args.client.now.pass.0 c.args.scx.0 row begun there wins next mode ready.known suited _ _ _ refl)
+    map_entry _ run.record.now.script.limits.tries _ run.record.now.script.of_mode _ _ _ c.requires.map _ c.requires.after.seen c.args.client.now.pass.0 c.args.scx.0 row begun there wins next mode ready.known suited command own _ _ _ refl
