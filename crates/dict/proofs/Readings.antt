@@ -29,7 +29,7 @@ use Rattle.ordered_map.specs.CallRules.{need}
 use Rattle.dict.specs.Calls.{AsksForPairs}
 use Rattle.dict.specs.Goals.{goal_told, leaf_told}
 use Rattle.dict.specs.Known.{HasRested}
-use Rattle.dict.specs.Laws.Found.{told_at}
+use Rattle.dict.specs.Laws.Found.{found_tells}
 use Rattle.dict.specs.Says.{HasMadeRow, HasReadMap, HasTooLittle, HasRunOut}
 
 module _ (c : Call) (h : History) where
@@ -78,7 +78,7 @@ module _ (c : Call) (h : History) where
   leaf_read call goal f walks small run found none =
       let first = found.trail.node.first in
       let own = found.trail.node.own in
-      let x = told_at goal c h f small run found in
+      let x = found_tells goal c h f small run found in
       record {
         moment = x.moment;
         within = x.within;

@@ -22,7 +22,7 @@ leaf_told (ToKey k) f = OneValue f.value
 leaf_told Least f = pair_or_none (first_told f)
 
 -- at a moment of the history that is not before `start` the words spell a map that replies this
-pub record IsToldAt (lay : Layout) (h start : History) (goal : Goal) (told : MapReply) : Type 0 where
+pub record IsGoalToldAt (lay : Layout) (h start : History) (goal : Goal) (told : MapReply) : Type 0 where
   pub moment : History
   pub within : Extends h moment
   pub since : Extends moment start

@@ -16,7 +16,8 @@ abbrev pub IsTypedEdit : (ℕ → Type 0) → (ℕ → Type 0) → MapEdit → T
 IsTypedEdit keys values (Insert k v) = keys k × values v
 IsTypedEdit keys values (Delete k) = keys k
 
--- a call that edits nothing of its own, or puts such a value at such a key, or takes such a key away
+-- the edit that a call names, if it names one, is of such words; a replacement names the insert
+-- that it may make
 abbrev pub IsTypedCall : (ℕ → Type 0) → (ℕ → Type 0) → MapCall → Type 0
 IsTypedCall keys values (Edit e) = IsTypedEdit keys values e
 IsTypedCall keys values (ReplaceIf k e v) = keys k × values v

@@ -18,7 +18,7 @@ pub trait EditCall: Edit + Copy {
     /// The machine of that call, with its update inside.
     ghost around: { UpdateRun Self Place → MapRun };
 
-    /// It walks to where the map tells what the call replies, and needs and makes what its call may.
+    /// It walks to where the map tells what the call replies, and needs and makes what that may.
     ghost is_kind: { IsEditKind record { E = Self; means = Self.means; call = call } };
 
     /// What is so of the machine of its call is so of its update.

@@ -91,8 +91,10 @@ impl MapRun {
 
     /// Goes on with what the last step found, as the machine inside.
     pub(crate) fn next(&mut self, got: Option<u64>) -> Turn<WordReply>
-        ensures turn { (tries : ℕ) (c : Call) (h : History) → IsRun TreeAllows c.layout h → MapIsReady tries self.old c h got → MatchTurn result (MapWaits tries self.new c h) (MapAnswers tries self.new c h) }
-        ensures begins { got ≡ None → AsksFirst self.old → (tries : ℕ) (c : Call) (h : History) → MapIsReady tries self.old c h None → MatchTurn result (λ _. Unit {0}) (λ _. ⊥) }
+        ensures turn { (tries : ℕ) (c : Call) (h : History) → IsRun TreeAllows c.layout h → MapIsReady tries self.old c h got
+            → MatchTurn result (MapWaits tries self.new c h) (MapAnswers tries self.new c h) }
+        ensures begins { got ≡ None → AsksFirst self.old → (tries : ℕ) (c : Call) (h : History) → MapIsReady tries self.old c h None
+            → MatchTurn result (λ _. Unit {0}) (λ _. ⊥) }
         ensures same { call_in self.new ≡ call_in self.old }
         ensures tries { KeepsTriesButOne self.old self.new }
         ensures nearer { (nodes : ℕ) → MapFits self.old got nodes → HasComeNearer self.old self.new nodes result }

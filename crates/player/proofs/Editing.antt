@@ -93,8 +93,8 @@ pub record IsHandOf (number : ℕ) (edit : MapEdit) (call : MachineCall) (h : Hi
   pub makes : Makes call.layout h t edit
   pub only : HasEnteredOnly call.layout call.pass t h call.start
 
--- it is of the edit that the machine inside has in hand; where a row makes its update win, the call's
--- reply on the map just before says that it has made this edit
+-- it is of the edit that the machine inside has in hand; where a row makes its update win, what the
+-- call replies on the map just before says that it has made this edit
 pub record IsEditHand (m : InnerRun) (call : MachineCall) (h : History) (t : ℕ) : Type 0 where
   pub edit : MapEdit
   pub is : edit_inside m ≡ Some edit
@@ -115,6 +115,7 @@ module _ {E : Type 0} (means : EditMeaning E) (m : UpdateRun E UpdateAt) where
     hand : IsHandOf m.call (means.edit m.edit found) call h t
     tells : TellsAtWin found call.layout h t
 
+  -- that leaf tells what the map has at the key
   leaf_value : IsAtFound means → (c : MachineCall) (f : Found) (begin h : History) (row : Row) (s : ℕ) (snaps : List Snap) → IsTreeRun c.layout (row ⊳ h) → Extends h begin → IsWin h row s → Makes c.layout h s (means.edit m.edit f) → HasFoundGoal (means.goal m.edit) c begin f → CoversLeaf means m.edit f c begin s snaps → CoversSnaps h s snaps
       → (map : List Pair) → Spells c.layout (value h) map → get (edit_key (means.edit m.edit f)) map ≡ f.value
   leaf_value at_found c f begin h row s snaps now since won makes found covers_leaf covers_snaps map spells =
@@ -142,12 +143,14 @@ module _ {E : Type 0} (means : EditMeaning E) (m : UpdateRun E UpdateAt) where
     makes_it edit j e (Tracks.begun x) = rw e at x
     makes_it edit j e (Tracks.over x) = absurd (let z = p.unfinished in let y = rw e at x in omega (arith, z, y))
 
+    -- so tells the leaf that its SCX covers
     tells_at : (b begin : History) (f : Found) (scx : ScxMachine) → Scxs means m (begun_at call b) h f scx begin → HasFilled (begun_at (begun_at call b) begin) h scx.scx.0 scx.call scx.update → Makes call.layout h scx.scx.0 (means.edit m.edit f) → TellsAtWin f call.layout h scx.scx.0
     tells_at b begin f scx x filled makes = record {
       value_is = λ row now won map spells. leaf_value at_found (begun_at call b) f begin h row scx.scx.0 scx.update.snaps now filled.way.begun.since won makes x.found x.leaf filled.members map spells;
       first_is = λ row now won. told_first means m.edit (begun_at call b) f begin h row scx.scx.0 scx.update.snaps now filled.way.begun.since won makes x.found x.leaf filled.members;
     }
 
+    -- while its SCX runs, and in no other place
     hand_at : (b : History) (s : Step) (at : UpdateAt) → Tries means m call b h at → UpdateWaitsAt means m (begun_at call b) h s at → IsHandAt at call h t
     hand_at b s Start try w = absurd w
     hand_at b s (Walk walk) try w = absurd (idle_rests (begun_at call b) h m.share l w.0.rests t own p)
@@ -180,8 +183,8 @@ module _ {E : Type 0} (means : EditMeaning E) (m : UpdateRun E UpdateAt) where
   update_says_at call h s t v (Fill f nth part) w kind word = absurd (let z = ap (λ (q : Step). q.word) (sym w.3) ∙ word in cc)
   update_says_at call h s t v (Scx f scx) w kind word = scx_says TreeAllows (job_of scx) (begun_at call w.0) h scx.at s t v w.2 kind word ∙ w.1.call
 
--- what the map tells a call of which this leaf was found, where it tells of its key, and of the first
--- pair, what the leaf does
+-- the map tells a call what the leaf does that it has found, where the leaf's value is that of the
+-- key in the map, and of a walk to the first pair where that is the map's
 goal_is : (goal : Goal) (f : Found) (lay : Layout) (h : History) (key : ℕ) (map : List Pair) → key ≡ asked_key goal f.key → get key map ≡ f.value → ToldFirst goal lay h f → Spells lay (value h) map → goal_told goal map ≡ leaf_told goal f
 goal_is (ToKey k) f lay h key map same value_is first_is spells = ap OneValue (subst (λ (n : ℕ). get n map ≡ f.value) same value_is)
 goal_is Least f lay h key map same value_is first_is spells = ap pair_or_none (first_is map spells)

@@ -306,7 +306,8 @@ map_waits v c q m s sound w e own p =
     let waits : RunWaits (Map m) call v.past q.step = subst (λ (k : Run). RunWaits k call v.past q.step) e (subst (λ (k : History). RunWaits q.run (machine_call v c w.works.is_pass k) v.past q.step) begun w.waits) in
     map_hand call v.past s sound.lawful own p q.step (inner m.run) (is_of_kind m.run) waits.1.0.number waits.1.1
 
--- what a client of the tree has in hand, of whose call a row makes an update win
+-- A row makes an update win of this client, which waits for a step: its call is one of the map, and
+-- has an edit in hand; its reply on the map just before says that it makes that.
 pub record IsEditOfCall (v : ClientView) (c : Client) (q : Running) : Type 0 where
   pub request : Request ℕ ℕ
   pub is : command_of v c ≡ Some (MapOf request)

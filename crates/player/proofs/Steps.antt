@@ -287,7 +287,8 @@ module _ (p : Interleaving) (i number : ℕ) (step : Ask) (a : IsStepAsked p i n
   has_edit : (entry : Entry) (o : IsOwner entry) (edit : MapEdit) → edit_in_hand o.running.run ≡ Some edit → owners_edit p.clients.items entry.client.0 ≡ Some edit
   has_edit entry o edit is = ap client_edit o.there ∙ ap running_edit o.runs ∙ is
 
-  -- on the tree the entry is of the edit that its client has in hand
+  -- on the tree the entry is of the edit that its client has in hand, which its call makes of the map
+  -- just before
   module _ (entry : Entry) (e : entry_of lay lines number made ≡ Some entry) (tree : lay.mode ≡ Tree) where
     o : IsOwner entry
     o = owner_of entry e

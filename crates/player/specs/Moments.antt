@@ -46,8 +46,8 @@ abbrev pub IsPopMoment : List Call → List Line → List Change → Reply ℕ �
 IsPopMoment calls lines changes reply first last won moment =
     IsWonOrRead (is_pair reply) (IsOrderedMoment calls lines changes (Map PopFirst) reply first last moment) won moment
 
--- the moment of a replacement that tells this value of its key: one that tells the value expected has
--- changed the map
+-- the moment of a replacement that tells this value of its key: one that tells the value expected
+-- has changed the map
 abbrev pub IsReplaceMoment : List Call → List Line → List Change → ℕ → ℕ → Option ℕ → ℕ → ℕ → Option ℕ → Option ℕ → Type 0
 IsReplaceMoment calls lines changes key expected told first last won moment =
     IsWonOrRead (is_value expected told) (IsReadMoment calls lines changes key told first last moment) won moment

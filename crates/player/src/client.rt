@@ -381,10 +381,10 @@ impl Client {
         calls.get(self.next?).copied()
     }
 
-    /// The turn at which an answer stands: of an update that is done, and of a call that has changed
-    /// the map, that of its entry, of a VLX its first, of an LLX its last, of a reading of the map the
-    /// greatest within the call, whoever's, after which the map was as it tells. `won` is the turn of
-    /// the last update of the client's that has won.
+    /// The turn at which an answer stands: of an update that is done, and of a call that has
+    /// changed the map, that of its entry, of a VLX its first, of an LLX its last, of a reading of
+    /// the map the greatest within the call, whoever's, after which the map was as it tells. `won`
+    /// is the turn of the last update of the client's that has won.
     pub(crate) fn moment(
         &self,
         calls: &[Call],

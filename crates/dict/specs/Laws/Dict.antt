@@ -19,7 +19,7 @@ use Rattle.dict.specs.Calls.{inner_call}
 use Rattle.dict.specs.DictKnown.{DictIsReady, DictWaits}
 use Rattle.dict.specs.Goals.{leaf_told}
 use Rattle.dict.specs.Known.{HasRested, WaitsInside}
-use Rattle.dict.specs.Laws.Found.{told_at}
+use Rattle.dict.specs.Laws.Found.{found_tells}
 use Rattle.dict.specs.Laws.Map.{map_keeps, inner_lawful, map_made, map_told, on}
 use Rattle.dict.specs.Steps.{MapFits}
 use Rattle.dict.specs.Typed.{AreTyped, IsTypedCall, IsTypedEdit, IsTypedReply, TypedAllows}
@@ -37,7 +37,7 @@ module _ (keys values : ℕ → Type 0) where
   -- what an edit makes at a leaf to which it has walked is of such words
   edit_found_typed : (k : EditKind) → IsEditKind k → (e : k.E) (c : Call) (h : History) (f : Found) → IsRun (TypedAllows keys values) c.layout h → IsTypedCall keys values (k.call e) → HasWalkedTo k.means e c h f → k.means.needs e f ≢ Nothing → IsTypedEdit keys values (k.means.edit e f)
   edit_found_typed k is e c h f run typed x needed =
-      let y = told_at (k.means.goal e) (begun_at c x.begin) x.moment f x.small x.run x.found in
+      let y = found_tells (k.means.goal e) (begun_at c x.begin) x.moment f x.small x.run x.found in
       let there : IsRun (TypedAllows keys values) c.layout y.moment = typed_since keys values c.layout h y.moment run (ends_trans h x.moment y.moment x.within y.within) in
       let map : AreTyped keys values y.map = typed_map keys values c.layout y.moment x.run.0 there y.map y.spelled in
       let told : IsTypedReply keys values (leaf_told (k.means.goal e) f) = subst (IsTypedReply keys values) (is.walks e y.map ∙ y.gives) (reply_typed keys values (k.call e) y.map map) in

@@ -10,12 +10,13 @@ use Rattle.template.specs.declared.walk.Found.{Found}
 use Rattle.template.specs.declared.walk.Goal.{Goal}
 use Rattle.template.specs.declared.walk.Goal.TheVariants.{Key as ToKey, Least}
 use Rattle.template.proofs.Lemmas.{found_gives, found_first}
-use Rattle.dict.specs.Goals.{leaf_told, IsToldAt}
+use Rattle.dict.specs.Goals.{leaf_told, IsGoalToldAt}
 
-pub told_at : (goal : Goal) (c : Call) (h : History) (f : Found) → path_key goal < 2 ^ 64 → IsTreeRun c.layout h → (x : HasFoundGoal goal c h f) → IsToldAt c.layout h x.trail.node.first goal (leaf_told goal f)
-told_at (ToKey k) c h f small run x =
+-- a walk to a key has found what the map gives of it, one to the least the first pair
+pub found_tells : (goal : Goal) (c : Call) (h : History) (f : Found) → path_key goal < 2 ^ 64 → IsTreeRun c.layout h → (x : HasFoundGoal goal c h f) → IsGoalToldAt c.layout h x.trail.node.first goal (leaf_told goal f)
+found_tells (ToKey k) c h f small run x =
     let y : IsAnswerAt c.layout h x.trail.node.first k f.value = found_gives c h k f run small x in
     record { moment = y.moment; within = y.within; since = y.since; map = y.map; spelled = y.spelled; gives = ap OneValue y.gives }
-told_at Least c h f small run x =
+found_tells Least c h f small run x =
     let y : IsFirstAt c.layout h x.trail.node.first (first_told f) = found_first c h f run x in
     record { moment = y.moment; within = y.within; since = y.since; map = y.map; spelled = y.spelled; gives = ap pair_or_none y.is }

@@ -60,21 +60,21 @@ begun_runs lay h r s l b = record { unfinished = go (change lay h r l); named = 
         let f = facts_before lay h r l in
         subst (λ t. value (r ⊳ h) (state t) ≡ 0) same (freeze_keeps_scx f w u State ∙ freeze_in_progress f w)
 
--- a leaf to which an edit had walked at a moment of its call, as far as the call is told of here
+-- at a moment of the history, in a try of the call, an edit had walked to this leaf
 pub record HasWalkedTo {E : Type 0} (e : EditMeaning E) (ed : E) (c : Call) (h : History) (f : Found) : Type 0 where
   pub moment : History
   pub within : Extends h moment
   pub run : IsTreeRun c.layout moment
   pub small : path_key (e.goal ed) < 2 ^ 64
-  -- its try began here
+  -- the try began here
   pub begin : History
   pub found : HasFoundGoal (e.goal ed) (begun_at c begin) moment f
 
 -- an SCX goes on behind its begin
-scx_since : (m : Job) (c : Call) (h : History) (s : Step) (at : ScxAt) → ScxWaitsAt TreeAllows c h m at s → Extends h c.start
-scx_since m c h s ScxStart w = absurd w
-scx_since m c h s (Help help) w = w.2.way.begun.since
-scx_since m c h s at w = w.fills.way.begun.since
+scx_went_on : (m : Job) (c : Call) (h : History) (s : Step) (at : ScxAt) → ScxWaitsAt TreeAllows c h m at s → Extends h c.start
+scx_went_on m c h s ScxStart w = absurd w
+scx_went_on m c h s (Help help) w = w.2.way.begun.since
+scx_went_on m c h s at w = w.fills.way.begun.since
 
 -- what a step has found may be told of it
 told_found : (a : Access) (n : ℕ) → IsTold a n n
@@ -129,7 +129,7 @@ module _ (keys values : ℕ → Type 0) where
     -- an SCX's edit has walked to its leaf
     scx_walked : (a : History) (f : Found) (scx : ScxRun) → UpdateWaitsAt e m (begun_at c a) h s (Scx f scx) → HasWalkedTo e m.edit c h f
     scx_walked a f scx (begin, x, w) =
-        let within : Extends h begin = scx_since (job_of scx) (begun_at (begun_at c a) begin) h s scx.at w in
+        let within : Extends h begin = scx_went_on (job_of scx) (begun_at (begun_at c a) begin) h s scx.at w in
         record { moment = begin; within = within; run = run_since c.layout h begin x.run within; small = x.small; begin = a; found = x.found }
 
     lawful_at : (a b : History) (at : UpdateAt) → IsRun TreeAllows c.layout (row_of c s h ⊳ h) → UpdateWaitsAt e m (begun_at c a) h s at → UpdateIsToldAt e m (begun_at c b) (row_of c s h ⊳ h) (value h s.word) at → IsRun (TypedAllows keys values) c.layout (row_of c s h ⊳ h)
