@@ -20,7 +20,7 @@ const FIVE: Before = ("limits,2,60,20,20\n0,insert,5,50,\n", 48);
 const FIVE_AND_NINE: Before = ("limits,2,20,20,3\n0,insert,5,50,\n0,insert,9,90,\n", 100);
 
 /// The second of two deletes of a key changes nothing, nor does the second of two replacements of a value.
-const CALLS: [Calls; 21] = [
+const CALLS: [Calls; 18] = [
     (FIVE, "insert,5,51,", "insert,5,52,", 3, 3),
     (FIVE, "insert,5,51,", "insert,3,30,", 3, 3),
     (FIVE, "insert,3,30,", "insert,5,52,", 3, 3),
@@ -37,10 +37,7 @@ const CALLS: [Calls; 21] = [
     (FIVE_AND_NINE, "insert,7,70,", "delete,5,,", 4, 4),
     (FIVE_AND_NINE, "insert,7,70,", "delete,9,,", 4, 4),
     (FIVE_AND_NINE, "pop_first,,,", "pop_first,,,", 4, 4),
-    (FIVE_AND_NINE, "pop_first,,,", "insert,3,30,", 4, 4),
-    (FIVE_AND_NINE, "delete,9,,", "pop_first,,,", 4, 4),
     (FIVE_AND_NINE, "pop_first,,,", "replace_if,9,90,91", 4, 4),
-    (FIVE_AND_NINE, "replace_if,9,90,91", "pop_first,,,", 4, 4),
     (
         FIVE_AND_NINE,
         "replace_if,5,50,51",

@@ -13,6 +13,8 @@ use std::test::Fail;
 #[derive(Clone, Copy, Debug)]
 struct Race {
     script: &'static str,
+    /// How many steps it makes before it stops for the first time.
+    first: u64,
     steps: u64,
 }
 
@@ -26,6 +28,7 @@ limits,2,20,20,3
 1,insert,5,90,
 end,4,,,
 ",
+    first: 1,
     steps: 48 + 45 + 45,
 };
 
@@ -38,6 +41,7 @@ limits,2,20,20,3
 1,insert,7,70,
 end,3,,,
 ",
+    first: 1,
     steps: 48 + 72,
 };
 
@@ -50,6 +54,7 @@ limits,2,20,20,2
 1,delete,5,,
 end,3,,,
 ",
+    first: 1,
     steps: 48 + 72,
 };
 
@@ -68,6 +73,7 @@ limits,2,20,20,2
 1,range,5,7,2
 end,8,,,
 ",
+    first: 1,
     steps: 48 + 52 + 34 + 20 + 48,
 };
 
@@ -82,6 +88,7 @@ limits,2,20,20,2
 1,pop_first,,,
 end,5,,,
 ",
+    first: 48,
     steps: 48 + 72,
 };
 
@@ -95,6 +102,7 @@ limits,2,20,20,2
 1,replace_if,5,51,53
 end,4,,,
 ",
+    first: 48,
     steps: 48 + 45,
 };
 
@@ -133,7 +141,7 @@ fn schedule(alloc: Global, turns: u64, then: Then) -> Result<String, AllocError>
 
 /// Client 0 stops after each of its steps in turn: each record passes the check.
 fn sweep(rt: &impl Abort, alloc: Global, race: Race, then: Then) -> Result<(), Fail> {
-    for turns in 1..=race.steps {
+    for turns in race.first..=race.steps {
         let schedule = schedule(alloc, turns, then)?;
         let record = played(alloc, race.script, schedule.as_str())?;
         assert_eq!(rt;
