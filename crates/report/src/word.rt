@@ -1,5 +1,5 @@
 //! Words of the table as text.
-ghost use Rattle.std.specs.Prelude.{◌≡◌, IfOk, IfSome, string_bytes};
+ghost use Rattle.std.specs.Prelude.{◌≡◌, ◌++◌, IfOk, IfSome, MatchOption, decimal, string_bytes};
 ghost use Rattle.arena.specs.declared.word.NodeWord.TheVariants.{Child};
 ghost use Rattle.report.specs.Words.{node_part, scx_part, word_text};
 
@@ -11,19 +11,28 @@ use std::alloc::{AllocError, Global};
 pub fn word_text(alloc: Global, word: Word) -> Result<String, AllocError>
     ensures { IfOk result (λ text. string_bytes text ≡ word_text word) }
 {
-    let (scx, part) = match word {
-        Word::Node(node, part) => return format!(in alloc; "n{}.{}", node.0, node_part(part)),
-        Word::Scx(scx, part) => (scx.0, part),
-    };
+    match word {
+        Word::Node(node, part) => format!(in alloc; "n{}.{}", node.0, node_part(part)),
+        Word::Scx(scx, part) => match scx_part(part) {
+            (name, Some(member)) => format!(in alloc; "s{}.{name}{member}", scx.0),
+            (name, None) => format!(in alloc; "s{}.{name}", scx.0),
+        },
+    }
+}
+
+/// The name of a word within its SCX-record, but for the number of a member that ends it.
+fn scx_part(part: ScxWord) -> (&'static str, Option<u8>)
+    ensures { MatchOption result.1 (scx_part part ≡ result.0.now) (λ member. scx_part part ≡ result.0.now ++ decimal member) }
+{
     match part {
-        ScxWord::State => format!(in alloc; "s{scx}.state"),
-        ScxWord::AllFrozen => format!(in alloc; "s{scx}.allfrozen"),
-        ScxWord::Plan => format!(in alloc; "s{scx}.plan"),
-        ScxWord::New => format!(in alloc; "s{scx}.new"),
-        ScxWord::Old => format!(in alloc; "s{scx}.old"),
-        ScxWord::Member(member) => format!(in alloc; "s{scx}.v{member}"),
-        ScxWord::Seen(member) => format!(in alloc; "s{scx}.i{member}"),
-        ScxWord::Call => format!(in alloc; "s{scx}.call"),
+        ScxWord::State => ("state", None),
+        ScxWord::AllFrozen => ("allfrozen", None),
+        ScxWord::Plan => ("plan", None),
+        ScxWord::New => ("new", None),
+        ScxWord::Old => ("old", None),
+        ScxWord::Member(member) => ("v", Some(member)),
+        ScxWord::Seen(member) => ("i", Some(member)),
+        ScxWord::Call => ("call", None),
     }
 }
 
