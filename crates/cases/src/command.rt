@@ -64,9 +64,21 @@ impl<'a> Command<'a> {
         let alloc = rt.alloc();
         let (mut out, mut err) = (Metered::new(out), Vec::new(alloc));
         let status = match self {
-            Command::Play(mode) => play_over(alloc, mode, first, second, &mut out, &mut err),
-            Command::Run { gate } => run_over(rt, alloc, gate, first, &mut out, &mut err),
-            Command::Audit => audit_over(alloc, first, &mut out, &mut err),
+            Command::Play(mode) => {
+                let (mut script, mut schedule) = (Metered::new(first), Metered::new(second));
+                play_over(alloc, mode, &mut script, &mut schedule, &mut out, &mut err)
+            }
+            Command::Run { gate } => {
+                run_over(
+                    rt,
+                    alloc,
+                    gate,
+                    &mut Metered::new(first),
+                    &mut out,
+                    &mut err,
+                )
+            }
+            Command::Audit => audit_over(alloc, &mut Metered::new(first), &mut out, &mut err),
             Command::Copy => copy_over(alloc, first, &mut out, &mut err),
             Command::Picture => draw_over(alloc, first, &mut out, &mut err),
             Command::Outcomes {

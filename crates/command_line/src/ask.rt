@@ -47,12 +47,12 @@ fn play_files<R: Files + AllocGlobal, O: Write, E: Write>(
     ensures { result ≤ 4 }
 {
     match open_both(rt, script, schedule) {
-        Ok((mut script, mut schedule)) => {
+        Ok((script, schedule)) => {
             play_over(
                 rt.alloc(),
                 mode,
-                &mut script,
-                &mut schedule,
+                &mut Metered::new(script),
+                &mut Metered::new(schedule),
                 &mut Metered::new(out),
                 err,
             )
@@ -76,12 +76,12 @@ fn run_file<R: Files + AllocGlobal + Threads + Wait + Sync, O: Write, E: Write>(
     ensures { result ≤ 4 }
 {
     match fs::open(rt, script) {
-        Ok(mut script) => {
+        Ok(script) => {
             run_over(
                 rt,
                 rt.alloc(),
                 gate,
-                &mut script,
+                &mut Metered::new(script),
                 &mut Metered::new(out),
                 err,
             )
@@ -100,7 +100,10 @@ fn audit_file<R: Files + AllocGlobal, O: Write, E: Write>(
     ensures { result ≤ 4 }
 {
     match fs::open(rt, report) {
-        Ok(mut report) => audit_over(rt.alloc(), &mut report, &mut Metered::new(out), err),
+        Ok(report) => {
+            let (mut report, mut out) = (Metered::new(report), Metered::new(out));
+            audit_over(rt.alloc(), &mut report, &mut out, err)
+        }
         Err(error) => Fault::from(error).print(err),
     }
 }

@@ -16,7 +16,10 @@ struct Ended {
 
 /// What a play of calls on cells wrote.
 fn played(alloc: Global, script: &str, schedule: &str) -> Ended {
-    let (mut script, mut schedule) = (script.as_bytes(), schedule.as_bytes());
+    let (mut script, mut schedule) = (
+        Metered::new(script.as_bytes()),
+        Metered::new(schedule.as_bytes()),
+    );
     let (mut out, mut err) = (Metered::new(Vec::new(alloc)), Vec::new(alloc));
     let mode = Mode::Records;
     let status = play_over(alloc, mode, &mut script, &mut schedule, &mut out, &mut err);

@@ -1,5 +1,5 @@
 -- The faults of the program, and their exit status.
-use Rattle.std.specs.Prelude.{ℕ}
+use Rattle.std.specs.Prelude.{ℕ, ◌<◌, ◌-◌, ◌^◌}
 use Rattle.texts.specs.declared.fault.WriteFault.{WriteFault}
 use Rattle.texts.specs.declared.fault.WriteFault.TheVariants as write
 use Rattle.script.specs.declared.fault.ScriptCause.{ScriptCause}
@@ -24,6 +24,10 @@ status_of BadGate = 2
 status_of NoMemory = 3
 status_of Read = 4
 status_of Write = 4
+
+-- the failure count of a reader or a writer can still rise
+abbrev pub CanRise : ℕ → Type 0
+CanRise failures = failures < 2 ^ 64 - 1
 
 -- the program's fault where a script was refused
 abbrev pub fault_of_script : TextFault ScriptCause → Fault

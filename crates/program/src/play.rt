@@ -1,7 +1,7 @@
 //! The commands that play a script.
-ghost use Rattle.std.specs.Prelude.{◌≡◌, ◌≢◌, ◌≤◌, ℕ, List, IfErr, OnOk, Some};
+ghost use Rattle.std.specs.Prelude.{◌≡◌, ◌≢◌, ◌≤◌, ◌↔◌, ◌⊎◌, ℕ, List, IfErr, OnOk, Some};
 ghost use Rattle.program.specs.Printed.{HasPrinted, IsDeserved};
-ghost use Rattle.program.specs.Status.{status_of};
+ghost use Rattle.program.specs.Status.{CanRise, status_of};
 ghost use Rattle.program.specs.declared.fault.Fault.{Fault};
 
 use crate::fault::Fault;
@@ -19,14 +19,23 @@ use texts::Metered;
 pub fn play_over<S: Read, T: Read, O: Write, E: Write>(
     alloc: Global,
     mode: Mode,
-    script: &mut S,
-    schedule: &mut T,
+    script: &mut Metered<S>,
+    schedule: &mut Metered<T>,
     out: &mut Metered<O>,
     err: &mut E,
 ) -> u8
     // Of readers that tell their bytes: what is printed, and why a text is refused.
-    ensures printed { (said ordered : List ℕ) → S.remaining script.old ≡ Some said → T.remaining schedule.old ≡ Some ordered → result ≡ 0 → HasPrinted mode said ordered (O.contents out.old.inner) (O.contents out.new.inner) }
-    ensures deserved { (said ordered : List ℕ) → S.remaining script.old ≡ Some said → T.remaining schedule.old ≡ Some ordered → result ≡ 1 → (fault : Fault) × (status_of fault ≡ 1) × IsDeserved mode said ordered fault }
+    ensures printed { (said ordered : List ℕ) →
+        S.remaining script.old.inner ≡ Some said → T.remaining schedule.old.inner ≡ Some ordered →
+        result ≡ 0 → HasPrinted mode said ordered (O.contents out.old.inner) (O.contents out.new.inner) }
+    ensures deserved { (said ordered : List ℕ) →
+        S.remaining script.old.inner ≡ Some said → T.remaining schedule.old.inner ≡ Some ordered →
+        result ≡ 1 → (fault : Fault) × (status_of fault ≡ 1) × IsDeserved mode said ordered fault }
+
+    // 4 exactly where a read or a write failed, as their counts tell while they can rise.
+    ensures failed { CanRise script.old.failures → CanRise schedule.old.failures → CanRise out.old.failures →
+        result ≡ 4 ↔ ((script.new.failures ≢ script.old.failures)
+        ⊎ (schedule.new.failures ≢ schedule.old.failures) ⊎ (out.new.failures ≢ out.old.failures)) }
 
     ensures refused { result ≡ 1 → out.new ≡ out.old }
     ensures not_usage { result ≢ 2 }
@@ -41,17 +50,26 @@ pub fn play_over<S: Read, T: Read, O: Write, E: Write>(
 fn play<S: Read, T: Read, O: Write>(
     alloc: Global,
     mode: Mode,
-    script: &mut S,
-    schedule: &mut T,
+    script: &mut Metered<S>,
+    schedule: &mut Metered<T>,
     out: &mut Metered<O>,
 ) -> Result<(), Fault>
-    ensures printed { (said ordered : List ℕ) → S.remaining script.old ≡ Some said → T.remaining schedule.old ≡ Some ordered → OnOk result (HasPrinted mode said ordered (O.contents out.old.inner) (O.contents out.new.inner)) }
-    ensures deserved { (said ordered : List ℕ) → S.remaining script.old ≡ Some said → T.remaining schedule.old ≡ Some ordered → IfErr result (IsDeserved mode said ordered) }
+    ensures printed { (said ordered : List ℕ) →
+        S.remaining script.old.inner ≡ Some said → T.remaining schedule.old.inner ≡ Some ordered →
+        OnOk result (HasPrinted mode said ordered (O.contents out.old.inner) (O.contents out.new.inner)) }
+    ensures deserved { (said ordered : List ℕ) →
+        S.remaining script.old.inner ≡ Some said → T.remaining schedule.old.inner ≡ Some ordered →
+        IfErr result (IsDeserved mode said ordered) }
+    ensures well { OnOk result ((script.new.failures ≡ script.old.failures)
+        × (schedule.new.failures ≡ schedule.old.failures) × (out.new.failures ≡ out.old.failures)) }
+    ensures failed { CanRise script.old.failures → CanRise schedule.old.failures → CanRise out.old.failures →
+        IfErr result (λ fault. status_of fault ≡ 4 ↔ ((script.new.failures ≢ script.old.failures)
+        ⊎ (schedule.new.failures ≢ schedule.old.failures) ⊎ (out.new.failures ≢ out.old.failures))) }
     ensures refused { IfErr result (λ fault. status_of fault ≡ 1 → out.new ≡ out.old) }
     ensures not_usage { IfErr result (λ fault. status_of fault ≢ 2) }
 {
-    let script = read_script(alloc, mode, &mut Metered::new(script))?;
-    let schedule = read_schedule(alloc, &script, &mut Metered::new(schedule))?;
+    let script = read_script(alloc, mode, script)?;
+    let schedule = read_schedule(alloc, &script, schedule)?;
     let record = play_by(alloc, &script, &schedule)?;
     write_record(alloc, &record, out)?;
     Ok(())

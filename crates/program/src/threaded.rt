@@ -1,7 +1,7 @@
 //! The command that runs a script with threads.
-ghost use Rattle.std.specs.Prelude.{◌≡◌, ◌≤◌, ◌↔◌, ℕ, List, IsTrue, IfErr, IsErrOf, OnOk, Some};
+ghost use Rattle.std.specs.Prelude.{◌≡◌, ◌≢◌, ◌≤◌, ◌↔◌, ◌⊎◌, ℕ, List, IsTrue, IfErr, IsErrOf, OnOk, Some};
 ghost use Rattle.arena.specs.declared.limits.Mode.TheVariants.{Tree};
-ghost use Rattle.program.specs.Status.{status_of};
+ghost use Rattle.program.specs.Status.{CanRise, status_of};
 ghost use Rattle.program.specs.Threaded.{HasPrintedRun, HasRun, IsDeservedWithThreads, IsGate};
 ghost use Rattle.program.specs.declared.fault.Fault.{Fault};
 
@@ -24,13 +24,19 @@ pub fn run_over<R: Threads + Wait + Sync, S: Read, O: Write, E: Write>(
     rt: &R,
     alloc: Global,
     gate: &str,
-    script: &mut S,
+    script: &mut Metered<S>,
     out: &mut Metered<O>,
     err: &mut E,
 ) -> u8
     // Of a reader that tells its bytes: what is printed, and why a text is refused.
-    ensures printed { (said : List ℕ) → S.remaining script.old ≡ Some said → result ≡ 0 → HasPrintedRun said (O.contents out.old.inner) (O.contents out.new.inner) }
-    ensures deserved { (said : List ℕ) → S.remaining script.old ≡ Some said → result ≡ 1 → (fault : Fault) × (status_of fault ≡ 1) × IsDeservedWithThreads gate.now said fault }
+    ensures printed { (said : List ℕ) → S.remaining script.old.inner ≡ Some said →
+        result ≡ 0 → HasPrintedRun said (O.contents out.old.inner) (O.contents out.new.inner) }
+    ensures deserved { (said : List ℕ) → S.remaining script.old.inner ≡ Some said →
+        result ≡ 1 → (fault : Fault) × (status_of fault ≡ 1) × IsDeservedWithThreads gate.now said fault }
+
+    // 4 exactly where a read or a write failed, as their counts tell while they can rise.
+    ensures failed { CanRise script.old.failures → CanRise out.old.failures →
+        result ≡ 4 ↔ ((script.new.failures ≢ script.old.failures) ⊎ (out.new.failures ≢ out.old.failures)) }
 
     ensures gate { result ≡ 2 ↔ ¬ (IsGate gate.now) }
     ensures refused { result ≡ 1 → out.new ≡ out.old }
@@ -47,11 +53,18 @@ fn run_gated<R: Threads + Wait + Sync, S: Read, O: Write>(
     rt: &R,
     alloc: Global,
     gate: &str,
-    script: &mut S,
+    script: &mut Metered<S>,
     out: &mut Metered<O>,
 ) -> Result<(), Fault>
-    ensures printed { (said : List ℕ) → S.remaining script.old ≡ Some said → OnOk result (HasPrintedRun said (O.contents out.old.inner) (O.contents out.new.inner)) }
-    ensures deserved { (said : List ℕ) → S.remaining script.old ≡ Some said → IfErr result (IsDeservedWithThreads gate.now said) }
+    ensures printed { (said : List ℕ) → S.remaining script.old.inner ≡ Some said →
+        OnOk result (HasPrintedRun said (O.contents out.old.inner) (O.contents out.new.inner)) }
+    ensures deserved { (said : List ℕ) → S.remaining script.old.inner ≡ Some said →
+        IfErr result (IsDeservedWithThreads gate.now said) }
+    ensures well { OnOk result
+        ((script.new.failures ≡ script.old.failures) × (out.new.failures ≡ out.old.failures)) }
+    ensures failed { CanRise script.old.failures → CanRise out.old.failures →
+        IfErr result (λ fault. status_of fault ≡ 4 ↔
+        ((script.new.failures ≢ script.old.failures) ⊎ (out.new.failures ≢ out.old.failures))) }
     ensures bad_gate { ¬ (IsGate gate.now) → IsErrOf result Fault.BadGate }
     ensures gate { IfErr result (λ fault. status_of fault ≡ 2 → ¬ (IsGate gate.now)) }
     ensures refused { IfErr result (λ fault. status_of fault ≡ 1 → out.new ≡ out.old) }
@@ -59,7 +72,7 @@ fn run_gated<R: Threads + Wait + Sync, S: Read, O: Write>(
     if !is_gate(gate) {
         return Err(Fault::BadGate);
     }
-    let script = read_script(alloc, Mode::Tree, &mut Metered::new(script))?;
+    let script = read_script(alloc, Mode::Tree, script)?;
     match gate {
         "alternate" => run_at(rt, alloc, &script, &Alternate::new(&script), out),
         "hold" => run_at(rt, alloc, &script, &Hold::new(&script), out),
@@ -85,6 +98,9 @@ fn run_at<R: Threads + Wait + Sync, G: Gate, O: Write>(
     ensures printed { OnOk result (HasRun script.now (O.contents out.old.inner) (O.contents out.new.inner)) }
     ensures deserved { (name said : List ℕ) → IfErr result (IsDeservedWithThreads name said) }
     ensures late { IfErr result (λ fault. 3 ≤ status_of fault) }
+    ensures well { OnOk result (out.new.failures ≡ out.old.failures) }
+    ensures failed { CanRise out.old.failures →
+        IfErr result (λ fault. status_of fault ≡ 4 ↔ (out.new.failures ≢ out.old.failures)) }
 {
     let outcome = run(rt, alloc, script, gate)?;
     let (replies, pairs) = (outcome.replies.as_slice(), outcome.pairs.as_slice());

@@ -5,6 +5,6 @@ returns-clause-lawful g c told tells =
     record {
       script = c.in_ok-record.record.script;
       lines = c.in_ok-record.record.lines.items;
-      rows = c.in_ok-record.ensures.rows told (rw c.new.ensures.inner tells);
+      rows = c.in_ok-record.ensures.rows told tells;
       run = c.in_ok-audit.ensures;
     }
