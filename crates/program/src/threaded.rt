@@ -19,7 +19,7 @@ use texts::Metered;
 /// Runs a script of the tree with a thread for each client and the gate of this name, and prints
 /// the outcome to `out`; a fault goes to `err` as one line. Answers the exit status: 0, 1 where the
 /// script is refused, 2 for a gate of no such name, 3 for want of memory, 4 where a read or a write
-/// failed. A refused script leaves `out` as it was.
+/// failed. A refused script, or gate, leaves `out` as it was.
 pub fn run_over<R: Threads + Wait + Sync, S: Read, O: Write, E: Write>(
     rt: &R,
     alloc: Global,
@@ -39,7 +39,7 @@ pub fn run_over<R: Threads + Wait + Sync, S: Read, O: Write, E: Write>(
         result ≡ 4 ↔ ((script.new.failures ≢ script.old.failures) ⊎ (out.new.failures ≢ out.old.failures)) }
 
     ensures gate { result ≡ 2 ↔ ¬ (IsGate gate.now) }
-    ensures refused { result ≡ 1 → out.new ≡ out.old }
+    ensures refused { (result ≡ 1) ⊎ (result ≡ 2) → out.new ≡ out.old }
     ensures status { result ≤ 4 }
 {
     match run_gated(rt, alloc, gate, script, out) {
@@ -68,6 +68,7 @@ fn run_gated<R: Threads + Wait + Sync, S: Read, O: Write>(
     ensures bad_gate { ¬ (IsGate gate.now) → IsErrOf result Fault.BadGate }
     ensures gate { IfErr result (λ fault. status_of fault ≡ 2 → ¬ (IsGate gate.now)) }
     ensures refused { IfErr result (λ fault. status_of fault ≡ 1 → out.new ≡ out.old) }
+    ensures idle { IfErr result (λ fault. status_of fault ≡ 2 → out.new ≡ out.old) }
 {
     if !is_gate(gate) {
         return Err(Fault::BadGate);
