@@ -9,8 +9,8 @@ use std::rt::{Env, Files};
 use std::{env, fs, io};
 use texts::{Metered, send};
 
-/// Explores the script that its words name, and prints the outcomes; to `err` goes how many schedules are
-/// left, if any are.
+/// Explores the script that its words name, and prints the outcomes; to `err` goes how many
+/// schedules are left, if any are.
 pub(crate) fn explore_words<R: Env + Files + AllocGlobal, O: Write, E: Write>(
     rt: &R,
     out: &mut O,
