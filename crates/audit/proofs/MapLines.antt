@@ -40,7 +40,7 @@ use Rattle.moments.specs.Entries.{IsChangeBy}
 use Rattle.moments.proofs.Lemmas.{are_spelled, change_of_newest}
 use Rattle.moments.specs.declared.places.Places.{Places}
 use Rattle.moments.specs.Places.{changes}
-use Rattle.audit.specs.Edits.{IsSuited, MayMake, HasBegunWith, AreRememberedEdits}
+use Rattle.audit.specs.Edits.{IsSuited, MayMakeEdit, HasBegunWith, AreRememberedEdits}
 use Rattle.audit.specs.declared.edits.Begun.{Begun}
 use Rattle.audit.specs.Trees.{IsMapSoFar, IsTreeSoFar, HasChangedBy}
 use Rattle.audit.proofs.TreeLines.{tree_idle, tree_reply, tree_log, tree_step, edits_kept, edits_set, edit_allowed, edit_entry, change_made, begun_before_win}
@@ -146,7 +146,7 @@ module _ (lay : Layout) (tries : ℕ) (calls : List Call) (of_mode : AreOf lay.m
           subst (λ (l : List Change). IsTreeSoFar lay calls begun l (Log entry ∷ lines)) (sym d.added) (tree_log lay tries calls mode (map_calls lay.mode calls mode of_mode) begun (changes places) lines t entry made a (change_of_newest lay tries calls lines entry made a refl by))
 
   -- a step, with the SCX-record that it begins, if it begins one
-  pub map_step : (number : ℕ) (row : StepRow) (h : History) (more : List (Option Begun)) (edit : Option Begun) → h ≡ history lay.mode lines → AreLines lay tries calls (Step (Made number row) ∷ lines) → IsLawful lay (history lay.mode lines) row → (lay.mode ≡ Tree → HasRisingLevels h → HasRisingLevels (row ⊳ h)) → (lay.mode ≡ Tree → IsBegin h row row.after → (b : Begun) × MayMake lay h row.after b) → IfSome edit (λ b. IsBegin h row row.after) → IfSome edit (MayMake lay h row.after) → (edit ≡ None → more ≡ begun) → (IsSome edit → more ≡ set begun row.after edit) → IsMapSoFar lay calls more places (Step (Made number row) ∷ lines)
+  pub map_step : (number : ℕ) (row : StepRow) (h : History) (more : List (Option Begun)) (edit : Option Begun) → h ≡ history lay.mode lines → AreLines lay tries calls (Step (Made number row) ∷ lines) → IsLawful lay (history lay.mode lines) row → (lay.mode ≡ Tree → HasRisingLevels h → HasRisingLevels (row ⊳ h)) → (lay.mode ≡ Tree → IsBegin h row row.after → (b : Begun) × MayMakeEdit lay h row.after b) → IfSome edit (λ b. IsBegin h row row.after) → IfSome edit (MayMakeEdit lay h row.after) → (edit ≡ None → more ≡ begun) → (IsSome edit → more ≡ set begun row.after edit) → IsMapSoFar lay calls more places (Step (Made number row) ∷ lines)
   map_step number row h more edit same a lawful rising allowed begins may none some = record { tree = tree }
     where
       now : History
@@ -169,9 +169,9 @@ module _ (lay : Layout) (tries : ℕ) (calls : List Call) (of_mode : AreOf lay.m
           known : AreRememberedEdits lay now begun
           known = (x.tree mode).edits
 
-          go : (o : Option Begun) → edit ≡ o → IfSome o (λ d. IsBegin h row row.after) → IfSome o (MayMake lay h row.after) → (IsSome o → more ≡ set begun row.after o) → AreRememberedEdits lay (row ⊳ now) more
+          go : (o : Option Begun) → edit ≡ o → IfSome o (λ d. IsBegin h row row.after) → IfSome o (MayMakeEdit lay h row.after) → (IsSome o → more ≡ set begun row.after o) → AreRememberedEdits lay (row ⊳ now) more
           go None e b y p = subst (λ (l : List (Option Begun)). AreRememberedEdits lay (row ⊳ now) l) (sym (none e)) (edits_kept lay now row begun known)
-          go (Some d) e b y p = subst (λ (l : List (Option Begun)). AreRememberedEdits lay (row ⊳ now) l) (sym (p refl)) (edits_set lay now row begun row.after d known (there (λ g. IsBegin g row row.after) b) (there (λ g. MayMake lay g row.after d) y))
+          go (Some d) e b y p = subst (λ (l : List (Option Begun)). AreRememberedEdits lay (row ⊳ now) l) (sym (p refl)) (edits_set lay now row begun row.after d known (there (λ g. IsBegin g row row.after) b) (there (λ g. MayMakeEdit lay g row.after d) y))
 
       tree : lay.mode ≡ Tree → IsTreeSoFar lay calls more (changes places) (Step (Made number row) ∷ lines)
       tree mode = tree_step lay tries calls mode (map_calls lay.mode calls mode of_mode) begun (changes places) lines (x.tree mode) number row more a lawful (allows mode) (there (λ k. HasRisingLevels (row ⊳ k)) (rising mode (here (λ k. HasRisingLevels k) (x.tree mode).rising))) (edits mode)

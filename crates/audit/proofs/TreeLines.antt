@@ -44,7 +44,7 @@ use Rattle.moments.specs.declared.places.Change.{Change}
 use Rattle.moments.specs.Changed.{edit_on}
 use Rattle.moments.specs.Entries.{IsChangeBy, IsChangeByEdit, IsChangeOf}
 use Rattle.moments.proofs.Lemmas.{spelled}
-use Rattle.audit.specs.Edits.{IsEditBy, IsFirstLeaf, IsSuited, Suits, MayMake, HasBegunWith, AreRememberedEdits, edit_begun, edit_to}
+use Rattle.audit.specs.Edits.{IsEditBy, IsFirstLeaf, IsSuited, Suits, MayMakeEdit, HasBegunWith, AreRememberedEdits, edit_begun, edit_to}
 use Rattle.audit.specs.declared.edits.Begun.{Begun}
 use Rattle.audit.specs.Trees.{IsTreeSoFar}
 
@@ -60,7 +60,7 @@ pub made : (lay : Layout) (h : History) (s : ℕ) (begun : Begun) → HasBegunWi
 made lay h s begun x = record { row = x.row; before = x.before; within = x.within; begins = x.begins; edit = x.makes.edit }
 
 -- an SCX-record that begins with an edit has begun with it
-begun_now : (lay : Layout) (h : History) (r : StepRow) (s : ℕ) (begun : Begun) → IsBegin h r s → MayMake lay h s begun → HasBegunWith lay (r ⊳ h) s begun
+begun_now : (lay : Layout) (h : History) (r : StepRow) (s : ℕ) (begun : Begun) → IsBegin h r s → MayMakeEdit lay h s begun → HasBegunWith lay (r ⊳ h) s begun
 begun_now lay h r s begun b x = record { row = r; before = h; within = ends_self (r ⊳ h); begins = b; makes = x }
 
 -- it has with one row more
@@ -76,7 +76,7 @@ begun_before_win lay h row s begun won x = record { row = x.row; before = x.befo
     older (inr e) = e
 
 -- the shape of the tree allows it
-pub edit_allowed : (lay : Layout) (h : History) (s : ℕ) (begun : Begun) → MayMake lay h s begun → TreeAllows lay h s
+pub edit_allowed : (lay : Layout) (h : History) (s : ℕ) (begun : Begun) → MayMakeEdit lay h s begun → TreeAllows lay h s
 edit_allowed lay h s begun x = (edit_begun begun, x.edit)
 
 -- a win makes no SCX-record begin
@@ -144,7 +144,7 @@ got_set (x ∷ xs) (suc i) zero new y e = inr e
 got_set (x ∷ xs) (suc i) (suc j) new y e = ⊎_elim (λ q. inl (ap suc q.0, q.1)) (λ q. inr q) (got_set xs i j new y e)
 
 -- and with one that has just begun
-pub edits_set : (lay : Layout) (h : History) (r : StepRow) (edits : List (Option Begun)) (s : ℕ) (begun : Begun) → AreRememberedEdits lay h edits → IsBegin h r s → MayMake lay h s begun → AreRememberedEdits lay (r ⊳ h) (set edits s (Some begun))
+pub edits_set : (lay : Layout) (h : History) (r : StepRow) (edits : List (Option Begun)) (s : ℕ) (begun : Begun) → AreRememberedEdits lay h edits → IsBegin h r s → MayMakeEdit lay h s begun → AreRememberedEdits lay (r ⊳ h) (set edits s (Some begun))
 edits_set lay h r edits s begun x b may t other is = ⊎_elim
     (λ q. let same : begun ≡ other = some_begun begun other (some_some (Some begun) (Some other) q.1) in subst (λ (k : Begun). HasBegunWith lay (r ⊳ h) t k) same (subst (λ (n : ℕ). HasBegunWith lay (r ⊳ h) n begun) (sym q.0) (begun_now lay h r s begun b may)))
     (λ q. begun_since lay h r t other (x t other q))

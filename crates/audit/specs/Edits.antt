@@ -48,7 +48,7 @@ abbrev pub IsSuited : History → ℕ → Begun → Type 0
 IsSuited h s begun = Suits (map_call (Some begun.command)) h s (edit_begun begun)
 
 -- the SCX-record may make the edit that is remembered, which is one of its call
-pub record MayMake (lay : Layout) (h : History) (s : ℕ) (begun : Begun) : Type 0 where
+pub record MayMakeEdit (lay : Layout) (h : History) (s : ℕ) (begun : Begun) : Type 0 where
   pub edit : MayEdit lay h s (edit_begun begun)
   pub own : IsEditBy (map_call (Some begun.command)) (edit_begun begun)
 
@@ -58,7 +58,7 @@ pub record HasBegunWith (lay : Layout) (h : History) (s : ℕ) (begun : Begun) :
   pub before : History
   pub within : Extends h (row ⊳ before)
   pub begins : IsBegin before row s
-  pub makes : MayMake lay before s begun
+  pub makes : MayMakeEdit lay before s begun
 
 -- of each SCX-record of which one is remembered that is the one with which it has begun
 abbrev pub AreRememberedEdits : Layout → History → List (Option Begun) → Type 0

@@ -41,7 +41,7 @@ pub record HasChangedBy (entry : Entry) (edits : List (Option Begun)) (before af
 
 -- the SCX-record has begun for a call with this command, as it is remembered, and suits it now if
 -- its edit is one of that call
-pub record IsReady (edits : List (Option Begun)) (h : History) (s : ℕ) (command : Command) : Type 0 where
+pub record IsReadyFor (edits : List (Option Begun)) (h : History) (s : ℕ) (command : Command) : Type 0 where
   pub begun : Begun
   pub known : slice_get edits s ≡ Some (Some begun)
   pub own : begun.command ≡ command

@@ -15,7 +15,7 @@ ghost use Rattle.ordered_map.specs.TreeShape.{IsInsert, IsDelete, insert_plan, d
 ghost use Rattle.ordered_map.specs.TreeWords.{class, is_leaf, level, rank, toward as toward_of};
 ghost use Rattle.ordered_map.specs.OrderedMap.{Delete};
 ghost use Rattle.record.specs.MapRecord.{map_call};
-ghost use Rattle.audit.specs.Edits.{IsEditBy, IsFirstLeaf, IsSuited, MayMake, edit_begun};
+ghost use Rattle.audit.specs.Edits.{IsEditBy, IsFirstLeaf, IsSuited, MayMakeEdit, edit_begun};
 ghost use Rattle.judge.specs.Histories.{seen_history};
 
 use arena::{Head, NodeNo, NodeWord, ScxNo, ScxWord, Side, Word};
@@ -37,7 +37,7 @@ pub(crate) struct Begun {
 pub(crate) fn begun_for(judge: &Judge, scx: u64, command: &Command) -> Option<Begun>
     requires { IsTreeRun judge.now.layout (seen_history judge.now) }
     ensures command { IfSome result (λ begun. begun.command ≡ command.now) }
-    ensures edit { IfSome result (MayMake judge.now.layout (seen_history judge.now) scx) }
+    ensures edit { IfSome result (MayMakeEdit judge.now.layout (seen_history judge.now) scx) }
 {
     let (begun, is_edit) = match command {
         Command::Map(Request::Insert { key, value }) => (

@@ -72,9 +72,9 @@ impl<'a> Run<'a> {
     ghost use Rattle.script.specs.declared.command.Command.{Command as CommandOf};
     ghost use Rattle.ordered_map.specs.FillOrder.{HasRisingLevels};
     ghost use Rattle.moments.specs.Places.{changes};
-    ghost use Rattle.audit.specs.Trees.{HasChangedBy, IsReady};
+    ghost use Rattle.audit.specs.Trees.{HasChangedBy, IsReadyFor};
     ghost use Rattle.ordered_map.specs.Runs.{IsTreeRun};
-    ghost use Rattle.audit.specs.Edits.{MayMake};
+    ghost use Rattle.audit.specs.Edits.{MayMakeEdit};
     ghost use Rattle.audit.specs.declared.edits.Begun.{Begun as BegunOf};
     ghost use Rattle.record.specs.CommandRules.{IsEntryFor, IsRight, IsPlaced, HasTakenFew};
     ghost use Rattle.record.specs.Linked.{linked};
@@ -408,7 +408,7 @@ impl<'a> Run<'a> {
         requires map { IsMapAfter self.now (lines_of self.now) }
         ensures { OnOk result ((layout_of self.now).mode ≡ Tree →
             IsBegin (seen_history self.now.steps.judge) row.now row.now.after →
-            (begun : BegunOf) × MayMake (layout_of self.now) (seen_history self.now.steps.judge) row.now.after begun) }
+            (begun : BegunOf) × MayMakeEdit (layout_of self.now) (seen_history self.now.steps.judge) row.now.after begun) }
     {
         if !self.begins(row) {
             return Ok(());
@@ -436,7 +436,7 @@ impl<'a> Run<'a> {
         requires after { IsAfter self.now (lines_of self.now) }
         requires map { IsMapAfter self.now (lines_of self.now) }
         ensures begins { IfSome result (λ begun. IsBegin (seen_history self.now.steps.judge) row.now row.now.after) }
-        ensures edit { IfSome result (MayMake (layout_of self.now) (seen_history self.now.steps.judge) row.now.after) }
+        ensures edit { IfSome result (MayMakeEdit (layout_of self.now) (seen_history self.now.steps.judge) row.now.after) }
     {
         if !self.begins(row) {
             return None;
@@ -453,7 +453,7 @@ impl<'a> Run<'a> {
     /// Whether an SCX-record that wins has begun for a call with this command, and suits it.
     fn is_ready(&self, command: &Command, scx: ScxNo) -> bool
         requires { IsTreeRun self.now.steps.judge.layout (seen_history self.now.steps.judge) }
-        ensures { IsTrue result → IsReady self.now.edits.items (seen_history self.now.steps.judge) scx.0 command.now }
+        ensures { IsTrue result → IsReadyFor self.now.edits.items (seen_history self.now.steps.judge) scx.0 command.now }
     {
         match self.begun_of(scx) {
             Some(begun) => is_of(&begun, command) && suits(&self.steps.judge, scx.0, &begun),
@@ -487,7 +487,7 @@ impl<'a> Run<'a> {
             HasRisingLevels (row.now ⊳ seen_history self.old.steps.judge) }
         requires edit { (layout_of self.old).mode ≡ Tree →
             IsBegin (seen_history self.old.steps.judge) row.now row.now.after →
-            (begun : BegunOf) × MayMake (layout_of self.old) (seen_history self.old.steps.judge) row.now.after begun }
+            (begun : BegunOf) × MayMakeEdit (layout_of self.old) (seen_history self.old.steps.judge) row.now.after begun }
         requires settled { OwesNothing (layout_of self.old) (calls_of self.old) (lines_of self.old) }
         requires step { IsStep (layout_of self.old) (tries_of self.old) (calls_of self.old) (lines_of self.old) number row.now }
         requires owed { entry_of (layout_of self.old) (lines_of self.old) number row.now ≡ owed }
