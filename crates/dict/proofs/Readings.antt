@@ -30,7 +30,7 @@ use Rattle.dict.specs.Calls.{AsksForPairs}
 use Rattle.dict.specs.Goals.{goal_told, leaf_told}
 use Rattle.dict.specs.Known.{HasRested}
 use Rattle.dict.specs.Laws.Found.{found_tells}
-use Rattle.dict.specs.Says.{HasMadeRow, HasReadMap, HasTooLittle, HasRunOut}
+use Rattle.dict.specs.Says.{HasMadeRow, HasNeeded, HasReadMap, HasTooLittle, HasRunOut}
 
 module _ (c : Call) (h : History) where
   -- a pass at rest has entered nothing
@@ -95,20 +95,25 @@ module _ (c : Call) (h : History) where
   short_of want many left Nodes k e x = rw (sym e) x
   short_of want many left ScxRecords k e x = rw (sym e) x
 
-  -- so the share has run out for the edit that needs it, where the leaf that was found tells its
-  -- need
-  pub ran_out : (call : MapCall) (told : MapReply) (want : Need) (share : Remaining) (full : FullOf) → AsksForPairs call → HasReadMap c h call told → ((map : List Pair) → reply call map ≡ told → many_nodes want ≡ need call map) → 0 < many_nodes want → IsShort want share full.what full.left → IsUntouched c h share → HasRunOut c h call share full
-  ran_out call told want share full asks x needs some short first =
-      let e : many_nodes want ≡ need call x.map = needs x.map x.gives in
-      record {
-        moment = x.moment;
-        within = x.within;
-        since = x.since;
-        own = x.own asks;
-        map = x.map;
-        spelled = x.spelled;
-        some = rw (sym e) some;
-        short = short_of want (need call x.map) share full.what full.left e short;
-        first = first;
-        none = x.none;
-      }
+  -- the leaf that was found tells what an edit needed at a moment of the call, if it needed something
+  pub leaf_needed : (call : MapCall) (goal : Goal) (f : Found) (want : Need) → ((map : List Pair) → reply call map ≡ goal_told goal map) → path_key goal < 2 ^ 64 → IsTreeRun c.layout h → HasFoundGoal goal c h f → ((map : List Pair) → reply call map ≡ leaf_told goal f → many_nodes want ≡ need call map) → 0 < many_nodes want → (x : HasNeeded c.layout c.pass h c.start call) × (many_nodes want ≡ need call x.map)
+  leaf_needed call goal f want walks small run found needs some =
+      let first = found.trail.node.first in
+      let own = found.trail.node.own in
+      let x = found_tells goal c h f small run found in
+      let e : many_nodes want ≡ need call x.map = needs x.map (walks x.map ∙ x.gives) in (
+        record {
+          moment = x.moment;
+          within = x.within;
+          since = ends_trans x.moment first c.start x.since (own_since c first own);
+          own = behind_own x.moment first own x.since;
+          map = x.map;
+          spelled = x.spelled;
+          some = rw (sym e) some;
+        },
+        e,
+      )
+
+  -- so the share has run out for an edit that needs it
+  pub ran_out : (call : MapCall) (want : Need) (share : Remaining) (full : FullOf) → (x : HasNeeded c.layout c.pass h c.start call) × (many_nodes want ≡ need call x.map) → IsShort want share full.what full.left → IsUntouched c h share → HasEnteredNone c.layout c.pass h c.start → HasRunOut c h call share full
+  ran_out call want share full x short first none = record { needed = x.0; short = short_of want (need call x.0.map) share full.what full.left x.1 short; first = first; none = none }

@@ -430,6 +430,26 @@ module _ {E : Type 0} (e : EditMeaning E) where
     pub has_found : HasFoundGoal (e.goal ed) c moment found
     pub needed : e.needs ed found ≢ Nothing
 
+  -- The try that began at the moment `begin` is lost: in it the SCX-record s was in the way over the
+  -- node n, and in it the call has found a leaf at which there was something to make. The pass has
+  -- entered nothing.
+  pub record HasLostTry (ed : E) (c : Call) (now : History) (limit left n s : ℕ) : Type 0 where
+    pub begin : History
+    pub try : IsTry c begin now limit left
+    pub way : IsContended (begun_at c begin) now n s
+    pub none : HasEnteredNone c.layout c.pass now c.start
+    pub found : Found
+    pub needed : WasNeeded ed (begun_at c begin) now found
+
+  -- All tries of the call, so many, were lost, the newest to the SCX-record s over the node n; in it
+  -- the call has found a leaf at which there was something to make. The pass has entered nothing.
+  pub record HasLostEveryTry (ed : E) (c : Call) (h : History) (limit n s : ℕ) : Type 0 where
+    pub way : IsContended c h n s
+    pub none : HasEnteredNone c.layout c.pass h c.start
+    pub all : HasLostTriesTo c.pass h c.start limit n s
+    pub found : Found
+    pub needed : WasNeeded ed (begun_at c all.lost.begin) h found
+
   -- There was nothing to make at this leaf, or the edit is made there. Where the walk goes to the
   -- least key, the leaf tells the first pair of the map just before the entry.
   abbrev pub IsDoneAt : E → ℕ → Call → History → Found → Type 0
@@ -447,7 +467,7 @@ module _ {E : Type 0} (e : EditMeaning E) where
   abbrev pub IsUpdateAnswer : {A : Type 0} → UpdateRun E A → Call → History → Updated → Type 0
   IsUpdateAnswer m c h (Done key value) = IsDoneWith m.edit m.call c h key value
   IsUpdateAnswer m c h (FullAnswer full) = IsFullFor m c h full
-  IsUpdateAnswer m c h (Contended node scx) = IsContended c h node.0 scx.0 × (m.tries ≡ 0) × HasEnteredNone c.layout c.pass h c.start × HasLostTriesTo c.pass h c.start m.limit node.0 scx.0
+  IsUpdateAnswer m c h (Contended node scx) = (m.tries ≡ 0) × HasLostEveryTry m.edit c h m.limit node.0 scx.0
 
   -- and behind it the pass is at rest, with what is left of the share, and has begun all tries but
   -- those that are left, each only as needed

@@ -5,11 +5,10 @@ use Rattle.arena.specs.declared.step.Row.{Row}
 use Rattle.arena.specs.Fills.{IsOwnScx}
 use Rattle.arena.specs.History.{History, ◌⊳◌, Extends}
 use Rattle.arena.specs.Lawful.{IsWin}
-use Rattle.arena.specs.Machines.{Call, begun_at}
+use Rattle.arena.specs.Machines.{Call}
 use Rattle.arena.specs.ScxRecords.{member}
 use Rattle.prims.specs.Snap.{snap_at}
 use Rattle.prims.specs.declared.snap.Snap.{Snap}
-use Rattle.template.specs.Blame.{IsContended}
 use Rattle.template.specs.Tries.{MayTryNext, IsInNewest}
 use Rattle.template.specs.declared.walk.WalkAt.{WalkAt}
 use Rattle.template.specs.declared.walk.WalkAt.TheVariants.{Root}
@@ -39,13 +38,6 @@ pub record IsTry (c : Call) (begin now : History) (limit left : ℕ) : Type 0 wh
 abbrev pub IsTryAt : Call → History → History → ℕ → ℕ → WalkAt → Type 0
 IsTryAt c begin now limit left Root = MayTry c begin now limit left
 IsTryAt c begin now limit left _ = IsTry c begin now limit left
-
--- the try is lost: in it the SCX-record s was in the way over the node n
-pub record HasLostTry (c : Call) (now : History) (limit left n s : ℕ) : Type 0 where
-  pub begin : History
-  pub try : IsTry c begin now limit left
-  pub way : IsContended (begun_at c begin) now n s
-  pub none : HasEnteredNone c.layout c.pass now c.start
 
 -- the SCX-record covers the nodes of these snapshots
 abbrev pub CoversSnaps : History → ℕ → List Snap → Type 0
