@@ -30,7 +30,7 @@ use Rattle.tree.specs.declared.get.GetRun.{GetRun}
 use Rattle.edits.specs.Known.{RestsWith, HasLostEveryTry, HasMade, IsDoneAt, IsUpdateAnswer, ToldFirst}
 use Rattle.edits.specs.Pieces.{many_nodes}
 use Rattle.edits.specs.Steps.{Spends}
-use Rattle.edits.specs.Tries.{HasEnteredNone}
+use Rattle.edits.specs.Tries.{HasEnteredNone, HasOnlyLooked}
 use Rattle.edits.specs.declared.edit.Need.{Need}
 use Rattle.edits.specs.declared.edit.Need.TheVariants.{Nothing, One, Three}
 use Rattle.edits.specs.declared.update.UpdateAt.{UpdateAt}
@@ -94,12 +94,12 @@ module _ (tries : ℕ) (c : Call) (h : History) where
     goal = k.means.goal m.edit
 
     -- the leaf that it has found tells what the map replied
-    edit_read : (f : Found) → HasFoundGoal goal c h f → HasEnteredNone c.layout c.pass h c.start → HasReadMap c h call (leaf_told goal f)
-    edit_read f found none = leaf_read c h call goal f (is.walks m.edit) (is.small m.edit small) run found none
+    edit_read : (f : Found) → HasFoundGoal goal c h f → HasEnteredNone c.layout c.pass h c.start → HasOnlyLooked c.pass h c.start → HasReadMap c h call (leaf_told goal f)
+    edit_read f found none only_looked = leaf_read c h call goal f (is.walks m.edit) (is.small m.edit small) run found none only_looked
 
     -- an edit that is done has changed the map, or has read it
     edit_done : (f : Found) → m.call ≡ c.number → IsDoneAt k.means m.edit m.call c h f → HasTold c h call (leaf_told goal f)
-    edit_done f number (inl x) = subst (λ made. HasToldBy made c h call (leaf_told goal f)) (sym (is.reads m.edit f x.needless)) (edit_read f x.has_found x.none)
+    edit_done f number (inl x) = subst (λ made. HasToldBy made c h call (leaf_told goal f)) (sym (is.reads m.edit f x.needless)) (edit_read f x.has_found x.none x.only_looked)
     edit_done f number (inr x) =
         let edit : MapEdit = k.means.edit m.edit f in
         let made : (made : HasMade edit c h c.number f.value) × ToldFirst goal c.layout made.before f = subst (λ n. (made : HasMade edit c h n f.value) × ToldFirst goal c.layout made.before f) number (x.0, x.2) in
@@ -127,7 +127,7 @@ module _ (tries : ℕ) (c : Call) (h : History) where
     edit_says (Contended node scx) number limit x = (tt, edit_lost node.0 scx.0 limit x.1)
     edit_says (Full full) number limit x = (
       tt,
-      ran_out c h call (k.means.needs m.edit x.found) m.share full (edit_needed c h run x.found x.has_found x.needed) x.short x.first x.none,
+      ran_out c h call (k.means.needs m.edit x.found) m.share full (edit_needed c h run x.found x.has_found x.needed) x.short x.first x.none x.only_looked,
     )
 
   -- a get has read what it tells
@@ -136,13 +136,13 @@ module _ (tries : ℕ) (c : Call) (h : History) where
 
   -- so has a successor
   pub successor_says : (m : SuccessorRun) (share : Remaining) (a : Result (Option Pair) Refused) → HasRested c h share → m.limit ≡ tries → SuccessorAnswers m c h a → WordSays c h (SuccessorOf m.key) share tries (successor_reply a)
-  successor_says m share (Ok found) x limit y = (reply_read c h (SuccessorOf m.key) (pair_or_none found) y.1 (none_entered c h share x), tt)
+  successor_says m share (Ok found) x limit y = (reply_read c h (SuccessorOf m.key) (pair_or_none found) refl y.1 (none_entered c h share x), tt)
   successor_says m share (Err (refused.Contended node scx)) x limit y = (tt, record { way = y.1.0; all = lost limit y.1.2; needed = λ some. absurd (omega (arith, some)); none = none_entered c h share x })
   successor_says m share (Err refused.NoMemory) x limit y = (tt, (tt, none_entered c h share x))
 
   -- and a range, or it tells what every map replies
   pub range_says : (m : RangeRun) (share : Remaining) (a : Result (Vec Pair Global) Refused) → HasRested c h share → m.limit ≡ tries → RangeAnswers m c h a → WordSays c h (RangeOf m.low m.high m.most) share tries (range_reply a)
-  range_says m share (Ok found) x limit y = (⊎_elim (λ z. reply_read c h (RangeOf m.low m.high m.most) (ManyPairs found.items) z none) (λ z. always_read c h (RangeOf m.low m.high m.most) (ManyPairs found.items) x.run x.since (takes_none m.low m.high m.most z.0) (λ map. ap ManyPairs (z.1 map)) none) y.1, tt)
+  range_says m share (Ok found) x limit y = (⊎_elim (λ z. reply_read c h (RangeOf m.low m.high m.most) (ManyPairs found.items) refl z none) (λ z. always_read c h (RangeOf m.low m.high m.most) (ManyPairs found.items) refl x.run x.since (takes_none m.low m.high m.most z.0) (λ map. ap ManyPairs (z.1 map)) none) y.1, tt)
     where
       none : HasEnteredNone c.layout c.pass h c.start
       none = none_entered c h share x

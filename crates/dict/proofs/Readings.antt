@@ -1,6 +1,6 @@
 -- What a reply of the map comes from: the moment of a read, the leaf that an edit has found, the
 -- edit that it has made.
-use Rattle.std.proofs.Common.{◌≡◌, ℕ, ◌^◌, ◌<◌, List, Option, sym, ◌∙◌, ap, subst}
+use Rattle.std.proofs.Common.{◌≡◌, ℕ, ◌^◌, ◌<◌, List, Option, sym, ◌∙◌, ap, subst, arith}
 use Rattle.arena.specs.declared.fault.Full.{Full as FullOf}
 use Rattle.arena.specs.declared.fault.Resource.{Resource}
 use Rattle.arena.specs.declared.fault.Resource.TheVariants.{Nodes, Scx as ScxRecords}
@@ -23,9 +23,9 @@ use Rattle.template.proofs.Lemmas.{own_since}
 use Rattle.edits.specs.Known.{IsShort, IsUntouched}
 use Rattle.edits.specs.Laws.Entered.{none_quiet}
 use Rattle.edits.specs.Pieces.{many_nodes}
-use Rattle.edits.specs.Tries.{HasEnteredNone}
+use Rattle.edits.specs.Tries.{HasEnteredNone, HasOnlyLooked}
 use Rattle.edits.specs.declared.edit.Need.{Need}
-use Rattle.ordered_map.specs.CallRules.{need}
+use Rattle.ordered_map.specs.CallRules.{most_nodes, need}
 use Rattle.dict.specs.Calls.{AsksForPairs}
 use Rattle.dict.specs.Goals.{goal_told, leaf_told}
 use Rattle.dict.specs.Known.{HasRested}
@@ -52,11 +52,12 @@ module _ (c : Call) (h : History) where
     spelled = x.spelled;
     gives = ap OneValue x.gives;
     none = none;
+    only_looked = λ some. absurd (omega (arith, some));
   }
 
   -- so was what an ordered read has replied
-  pub reply_read : (call : MapCall) (told : MapReply) → IsReplyAt c h call told → HasEnteredNone c.layout c.pass h c.start → HasReadMap c h call told
-  reply_read call told x none = record {
+  pub reply_read : (call : MapCall) (told : MapReply) → most_nodes call ≡ 0 → IsReplyAt c h call told → HasEnteredNone c.layout c.pass h c.start → HasReadMap c h call told
+  reply_read call told reads x none = record {
     moment = x.moment;
     within = x.within;
     since = own_since c x.moment x.own;
@@ -65,17 +66,18 @@ module _ (c : Call) (h : History) where
     spelled = x.spelled;
     gives = x.gives;
     none = none;
+    only_looked = λ some. absurd (omega (arith, some, reads));
   }
 
   -- and what every map replies, of a range that takes no pair
-  pub always_read : (call : MapCall) (told : MapReply) → IsTreeRun c.layout h → Extends h c.start → ¬ AsksForPairs call → ((map : List Pair) → reply call map ≡ told) → HasEnteredNone c.layout c.pass h c.start → HasReadMap c h call told
-  always_read call told run since asks_not gives none =
+  pub always_read : (call : MapCall) (told : MapReply) → most_nodes call ≡ 0 → IsTreeRun c.layout h → Extends h c.start → ¬ AsksForPairs call → ((map : List Pair) → reply call map ≡ told) → HasEnteredNone c.layout c.pass h c.start → HasReadMap c h call told
+  always_read call told reads run since asks_not gives none =
       let map : (ps : List Pair) × Spells c.layout (value h) ps = run_spells c.layout h run in
-      record { moment = h; within = ends_self h; since = since; own = λ asks. absurd (asks_not asks); map = map.0; spelled = map.1; gives = gives map.0; none = none }
+      record { moment = h; within = ends_self h; since = since; own = λ asks. absurd (asks_not asks); map = map.0; spelled = map.1; gives = gives map.0; none = none; only_looked = λ some. absurd (omega (arith, some, reads)) }
 
   -- the leaf that was found tells what the map replied at a moment of the call
-  pub leaf_read : (call : MapCall) (goal : Goal) (f : Found) → ((map : List Pair) → reply call map ≡ goal_told goal map) → path_key goal < 2 ^ 64 → IsTreeRun c.layout h → HasFoundGoal goal c h f → HasEnteredNone c.layout c.pass h c.start → HasReadMap c h call (leaf_told goal f)
-  leaf_read call goal f walks small run found none =
+  pub leaf_read : (call : MapCall) (goal : Goal) (f : Found) → ((map : List Pair) → reply call map ≡ goal_told goal map) → path_key goal < 2 ^ 64 → IsTreeRun c.layout h → HasFoundGoal goal c h f → HasEnteredNone c.layout c.pass h c.start → HasOnlyLooked c.pass h c.start → HasReadMap c h call (leaf_told goal f)
+  leaf_read call goal f walks small run found none only_looked =
       let first = found.trail.node.first in
       let own = found.trail.node.own in
       let x = found_tells goal c h f small run found in
@@ -88,6 +90,7 @@ module _ (c : Call) (h : History) where
         spelled = x.spelled;
         gives = walks x.map ∙ x.gives;
         none = none;
+        only_looked = λ some. only_looked;
       }
 
   -- a share that is too small for the need is too small for as many nodes
@@ -115,5 +118,5 @@ module _ (c : Call) (h : History) where
       )
 
   -- so the share has run out for an edit that needs it
-  pub ran_out : (call : MapCall) (want : Need) (share : Remaining) (full : FullOf) → (x : HasNeeded c.layout c.pass h c.start call) × (many_nodes want ≡ need call x.map) → IsShort want share full.what full.left → IsUntouched c h share → HasEnteredNone c.layout c.pass h c.start → HasRunOut c h call share full
-  ran_out call want share full x short first none = record { needed = x.0; short = short_of want (need call x.0.map) share full.what full.left x.1 short; first = first; none = none }
+  pub ran_out : (call : MapCall) (want : Need) (share : Remaining) (full : FullOf) → (x : HasNeeded c.layout c.pass h c.start call) × (many_nodes want ≡ need call x.map) → IsShort want share full.what full.left → IsUntouched c h share → HasEnteredNone c.layout c.pass h c.start → HasOnlyLooked c.pass h c.start → HasRunOut c h call share full
+  ran_out call want share full x short first none only_looked = record { needed = x.0; short = short_of want (need call x.0.map) share full.what full.left x.1 short; first = first; none = none; only_looked = only_looked }

@@ -13,7 +13,7 @@ use Rattle.ordered_map.specs.Spelled.{Spells}
 use Rattle.ordered_map.specs.declared.pair.Pair.{Pair}
 use Rattle.template.specs.Blame.{IsContended, HasLostTriesTo}
 use Rattle.edits.specs.Known.{HasMade, IsUntouched}
-use Rattle.edits.specs.Tries.{HasEnteredNone}
+use Rattle.edits.specs.Tries.{HasEnteredNone, HasOnlyLooked}
 use Rattle.ordered_map.specs.CallRules.{most_nodes, need}
 use Rattle.dict.specs.Calls.{AsksForPairs}
 use Rattle.dict.specs.declared.told.WordReply.{WordReply}
@@ -39,7 +39,7 @@ pub record HasMadeRow (pass : ℕ) (start moment : History) : Type 0 where
 
 -- A reading: at a moment of the call the words spell a map that replies this, and the pass has
 -- entered nothing since the call began. The moment is not before the call's first own row; a range
--- that takes no pair needs none.
+-- that takes no pair needs none. A call that may take nodes has only looked in its newest try.
 pub record HasReadMap (c : Call) (h : History) (call : MapCall) (told : MapReply) : Type 0 where
   pub moment : History
   pub within : Extends h moment
@@ -49,6 +49,7 @@ pub record HasReadMap (c : Call) (h : History) (call : MapCall) (told : MapReply
   pub spelled : Spells c.layout (value moment) map
   pub gives : reply call map ≡ told
   pub none : HasEnteredNone c.layout c.pass h c.start
+  pub only_looked : 0 < most_nodes call → HasOnlyLooked c.pass h c.start
 
 -- what is told is told of a change by this edit, or of a reading
 abbrev pub HasToldBy : Option MapEdit → Call → History → MapCall → MapReply → Type 0
@@ -86,12 +87,14 @@ HasTooLittle many left ScxRecords k = (many ≤ left.nodes) × (left.scx ≡ 0) 
 
 -- The share has too little left for the next try of the call, which had something to do: there are
 -- not enough nodes for what it needed, or no SCX-record is left. Nothing of it was taken since the
--- call began, or a try was lost to another pass. The pass has entered nothing.
+-- call began, or a try was lost to another pass. The pass has entered nothing, and has only looked
+-- in its newest try.
 pub record HasRunOut (c : Call) (h : History) (call : MapCall) (share : Remaining) (full : FullOf) : Type 0 where
   pub needed : HasNeeded c.layout c.pass h c.start call
   pub short : HasTooLittle (need call needed.map) share full.what full.left
   pub first : IsUntouched c h share
   pub none : HasEnteredNone c.layout c.pass h c.start
+  pub only_looked : HasOnlyLooked c.pass h c.start
 
 -- the call keeps lists, which grow
 abbrev pub KeepsLists : MapCall → Type 0

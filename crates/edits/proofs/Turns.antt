@@ -50,7 +50,7 @@ use Rattle.edits.specs.Next.{standing}
 use Rattle.edits.specs.Edits.{EditMeaning}
 use Rattle.edits.specs.Sound.{IsAtFound}
 use Rattle.edits.specs.Known.{RestsWith, AreUsable, CoversLeaf, MayBeginTry, Walks, CanLook, CanFill, Scxs, IsUntouched, HasLostTry, HasLostEveryTry, TryWaits, UpdateWaits, UpdateAnswers, HasMade, ToldFirst, done_at}
-use Rattle.edits.specs.Laws.Entered.{none_joined, none_lost, none_quiet}
+use Rattle.edits.specs.Laws.Entered.{none_filled_yet, none_joined, none_lost, none_quiet}
 use Rattle.edits.specs.Laws.Kept.{idle_rests}
 use Rattle.edits.specs.Laws.Trying.{past_root}
 use Rattle.edits.specs.Pieces.{nth_node, word_of}
@@ -92,14 +92,14 @@ module _ {E : Type 0} (e : EditMeaning E) where
     try,
     first,
     (
-      record { small = b.small; rests = record { share = b.rests.share; over = b.rests.over }; quiet = quiet_at_start c.layout c.pass h (idle_rests c h m.share b.run.1.lawful b.rests); same = is },
+      record { small = b.small; rests = record { share = b.rests.share; over = b.rests.over }; quiet = quiet_at_start c.layout c.pass h (idle_rests c h m.share b.run.1.lawful b.rests); none_filled = none_filled_yet c.pass h; same = is },
       record { run = b.run; small = rw is b.small; since = ends_self h; known = root; asked = ap (λ n. load LoadSettled (node n HeadWord)) (sym root) },
     ),
   )
 
   -- its walk asks for a step, past the root's head
   pub walks_on : {A : Type 0} (m : UpdateRun E A) (walk after : WalkRun) (c : Call) (b h : History) (turn : Turn Found) (step : Step) → IsTry c b h m.limit m.tries → IsUntouched c b m.share → Walks e m (begun_at c b) h walk.goal → after.goal ≡ walk.goal → IsPastRoot after.at → turn ≡ Ask step → MatchTurn turn (WalkWaits after (begun_at c b) h) (WalkAnswers after (begun_at c b) h) → UpdateWaits e (standing m (Walk after)) c h step
-  walks_on m walk after c b h turn step try first x same past asked w = (b, past_root after.at past try, first, (record { small = x.small; rests = x.rests; quiet = x.quiet; same = same ∙ x.same }, rw asked at w))
+  walks_on m walk after c b h turn step try first x same past asked w = (b, past_root after.at past try, first, (record { small = x.small; rests = x.rests; quiet = x.quiet; none_filled = x.none_filled; same = same ∙ x.same }, rw asked at w))
 
   -- its walk is told something, at a moment of the call
   pub walk_rests : {A : Type 0} (m : UpdateRun E A) (walk : WalkRun) (c : Call) (h : History) (v : ℕ) → Walks e m c h walk.goal → WalkIsTold walk c h v → MayBeginTry e m c h

@@ -77,6 +77,7 @@ module _ (was : PassView) (is_pass : was.number < was.layout.passes) (number : â
       version = version_at then run y.moment y.within y.map y.spelled;
       gives = y.gives;
       done = none_more y.none;
+      only_looked = y.only_looked;
     }
 
     -- what is told, with what its share had as the call began, and has now
@@ -110,6 +111,7 @@ module _ (was : PassView) (is_pass : was.number < was.layout.passes) (number : â
       needed = had_to_do (run_of was) call y.needed;
       short = y.short;
       first = untouched y.first;
+      only_looked = y.only_looked;
       done = none_more y.none;
     }
       where

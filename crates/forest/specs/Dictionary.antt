@@ -15,6 +15,7 @@ use Rattle.ordered_map.specs.OrderedMap.{MapCall, PopFirst, Successor, Range, Ma
 use Rattle.ordered_map.specs.Runs.{Makes, map_of_log}
 use Rattle.ordered_map.specs.Spelled.{Spells}
 use Rattle.template.specs.Blame.{IsOverOrNew, HasLostTriesTo}
+use Rattle.edits.specs.Tries.{HasOnlyLooked}
 use Rattle.template.specs.Tries.{tries_since, HasTriedAtMost}
 use Rattle.ordered_map.specs.CallRules.{Form, IsFormOfEdit, MayReply, need, most_nodes, most_scx, most_steps}
 use Rattle.dict.specs.Calls.{AsksForPairs, most_tries}
@@ -73,7 +74,8 @@ pub record IsChange (old new : PassView) (call : MapCall) (told : MapReply) (edi
 
 -- The call has read the map: at a moment from what was known before to what is known now it gave
 -- this reply. The moment is not before the call's first own row; a range that takes no pair makes
--- none, and tells what every map replies. The pass has no entry more.
+-- none, and tells what every map replies. The pass has no entry more, and a call that may take nodes
+-- has filled nothing in its newest try.
 pub record IsReading (old new : PassView) (call : MapCall) (told : MapReply) : Type 0 where
   pub moment : History
   pub within : Extends (run_of new) moment
@@ -83,6 +85,7 @@ pub record IsReading (old new : PassView) (call : MapCall) (told : MapReply) : T
   pub version : IsVersion new moment map
   pub gives : reply call map ≡ told
   pub done : done_of new ≡ done_of old
+  pub only_looked : 0 < most_nodes call → HasOnlyLooked new.number (run_of new) (run_of old)
 
 -- a change by this edit, or a reading
 abbrev pub IsChangeOrReading : Option MapEdit → PassView → PassView → MapCall → MapReply → Type 0
@@ -120,11 +123,13 @@ pub record IsContendedCall (tries : ℕ) (old new : PassView) (call : MapCall) (
 
 -- The share has too little left for the next try of the call, which had something to do: there are
 -- not enough nodes for what it needed, or no SCX-record is left. The call has taken nothing of the
--- share, or a try was lost to another pass, which was in the way. The pass has no entry more.
+-- share, or a try was lost to another pass, which was in the way. The pass has no entry more, and has
+-- filled nothing in its newest try.
 pub record IsFullCall (old new : PassView) (call : MapCall) (full : FullOf) : Type 0 where
   pub needed : HadToDo new (run_of old) call
   pub short : HasTooLittle (need call needed.map) new.share full.what full.left
   pub first : (new.share ≡ old.share) ⊎ ((n : ℕ) × (s : ℕ) × IsOthersScx new.layout new.number s × WasInTheWay (run_of new) (run_of old) n s)
+  pub only_looked : HasOnlyLooked new.number (run_of new) (run_of old)
   pub done : done_of new ≡ done_of old
 
 -- why nothing is told by a call that may try so often
