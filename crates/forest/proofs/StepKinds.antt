@@ -9,7 +9,7 @@ use Rattle.arena.specs.declared.machine.Turn.TheVariants.{Ask}
 use Rattle.arena.specs.declared.step.Row.{Row}
 use Rattle.arena.specs.declared.step.Step.{Step}
 use Rattle.arena.specs.History.{History, ◌⊳◌, Extends}
-use Rattle.arena.specs.Machines.{Call, row_of}
+use Rattle.arena.specs.Machines.{Call}
 use Rattle.arena.specs.Share.{Remaining}
 use Rattle.arena.proofs.Lemmas.{ends_trans}
 use Rattle.prims.proofs.Lemmas.{all_over}
@@ -37,7 +37,7 @@ use Rattle.forest.specs.PassInvariant.{IsPass, pass_view}
 use Rattle.forest.specs.StepKinds.{HasKeptToKinds}
 use Rattle.forest.specs.StraightCalls.{IsSameDictCall}
 use Rattle.forest.specs.TableRule.{history_of}
-use Rattle.forest.specs.Traces.{HoldsForCall, Trace, begins, others, makes, goes_on, known_of}
+use Rattle.forest.specs.Traces.{HoldsForCall, Trace, known_of}
 use Rattle.forest.proofs.Called.{course_holds, own_start}
 use Rattle.forest.proofs.Calls.{course_keeps}
 use Rattle.forest.proofs.DictCalls.{Answered, IsSameCall, behind, dict_refuses}
