@@ -12,13 +12,12 @@ use Rattle.script.specs.Commands.{mode_of}
 use Rattle.player.proofs.Readings.{whole}
 use Rattle.player.specs.declared.client.Client.{Client}
 use Rattle.player.specs.declared.interleaving.Interleaving.{Interleaving}
-use Rattle.player.specs.Lines.{newest}
 use Rattle.record.specs.declared.record.Line.{Line}
 use Rattle.record.specs.Turns.{history, clients}
 use Rattle.player.specs.ClientView.{client_view, Rests}
 use Rattle.record.specs.LawfulRun.{AreLines, IsLawfulRun}
-use Rattle.player.specs.BetweenTurns.{AreBetweenTurns, IsBetweenTurns, AreWins, player_view}
-use Rattle.player.specs.Player.{PlayerView, IsPlayed}
+use Rattle.player.specs.BetweenTurns.{AreBetweenTurns, IsBetweenTurns, AreWins}
+use Rattle.player.specs.Player.{PlayerView, script_view, IsPlayed}
 
 -- words as they are at the start, and clients that rest, are between two turns
 pub opening_between : (lay : Layout) (tries : ℕ) (calls : List Call) (words : Contents) (all : List Client) → words.layout ≡ lay → IsOpening words → All (λ (call : Call). mode_of call.command ≡ lay.mode) calls → ((j : ℕ) (d : Client) → slice_get all j ≡ Some d → (d.pass.0 ≡ j) × Rests (client_view lay tries calls [] j) d) → AreBetweenTurns lay tries calls words all []
@@ -40,23 +39,24 @@ opening_between lay tries calls words rests same opening all each = record {
 pub no_wins : (lay : Layout) (wins : List (Option ℕ)) → AreWins lay [] wins
 no_wins lay wins c turn e = cc
 
--- the lines of an interleaving are a lawful run of the turns that it made
-played_record : (p : Interleaving) → IsBetweenTurns p → (turns : List ℕ) → clients (newest p.lines) ≡ reverse turns → IsLawfulRun p.script.layout p.script.limits.tries p.script.calls.items turns p.lines.list.items
-played_record p x turns e = record {
+-- lines, the first in front, behind which an interleaving stands are a lawful run of the turns that
+-- they say
+played_record : (p : Interleaving) (told : List Line) → IsBetweenTurns p (reverse told) → (turns : List ℕ) → clients (reverse told) ≡ reverse turns → IsLawfulRun p.script.layout p.script.limits.tries p.script.calls.items turns told
+played_record p told x turns e = record {
   turns = e;
   in_order = x.between.so_far.in_order;
   settled = x.between.settled;
   lawful = x.between.so_far.sound.lawful;
-  spell = λ past n side e. fields_are p.script.layout past n side (lawful_since p.script.layout (history p.script.layout.mode (newest p.lines)) past x.between.so_far.sound.lawful e);
-  once = once p.script.layout (history p.script.layout.mode (newest p.lines)) x.between.so_far.sound.lawful;
-  finalized = λ past n part ends final. finalized_since p.script.layout (history p.script.layout.mode (newest p.lines)) past n part x.between.so_far.sound.lawful ends final;
-  whole = whole p.script.layout p.script.limits.tries p.script.calls.items p.words (newest p.lines) x.between.so_far;
+  spell = λ past n side e. fields_are p.script.layout past n side (lawful_since p.script.layout (history p.script.layout.mode (reverse told)) past x.between.so_far.sound.lawful e);
+  once = once p.script.layout (history p.script.layout.mode (reverse told)) x.between.so_far.sound.lawful;
+  finalized = λ past n part ends final. finalized_since p.script.layout (history p.script.layout.mode (reverse told)) past n part x.between.so_far.sound.lawful ends final;
+  whole = whole p.script.layout p.script.limits.tries p.script.calls.items p.words (reverse told) x.between.so_far;
 }
 
-pub played : (p : Interleaving) → IsBetweenTurns p → IsPlayed (player_view p)
-played p x =
-    subst (λ (l : List Line). IsLawfulRun p.script.layout p.script.limits.tries p.script.calls.items (reverse (clients (newest p.lines))) l) (sym (reverse-reverse p.lines.list.items))
-    (played_record p x (reverse (clients (newest p.lines))) (sym (reverse-reverse (clients (newest p.lines)))))
+pub played : (p : Interleaving) (lines : List Line) → IsBetweenTurns p lines → IsPlayed (record { script = script_view p.script; lines = lines })
+played p lines x =
+    played_record p (reverse lines) (subst (λ (l : List Line). IsBetweenTurns p l) (sym (reverse-reverse lines)) x) (reverse (clients lines))
+    (ap (λ (l : List Line). clients l) (reverse-reverse lines) ∙ sym (reverse-reverse (clients lines)))
 
 -- and of whatever turns are theirs
 pub asked_run : (p : PlayerView) → IsPlayed p → (asked : List ℕ) → clients p.lines ≡ reverse asked → IsLawfulRun p.script.layout p.script.limits.tries p.script.calls asked (reverse p.lines)
