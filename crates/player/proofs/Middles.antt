@@ -430,6 +430,28 @@ wins_step lay lines pushed after number passes row old new many line is changed 
 made_row : (lay : Layout) (tries : ℕ) (calls : List Call) (words : Contents) (older : List Line) (number : ℕ) (row : Row) → IsLawfulSoFar lay tries calls words (Step (Made number row) ∷ older) → IsLawful lay (history lay.mode older) row
 made_row lay tries calls words older number row x = lawful_row lay (history lay.mode older) row x.sound.lawful
 
+-- of the turns so far no two have made an entry
+entries_few : (lay : Layout) (tries : ℕ) (calls : List Call) (lines : List Line) → AreLines lay tries calls lines → entries lines ≤ turns lines
+unfolding AreLines
+entries_few lay tries calls [] x = omega arith
+entries_few lay tries calls (Step row ∷ lines) x = let few = entries_few lay tries calls lines x.0 in omega (arith, few)
+entries_few lay tries calls (ReplyLine reply ∷ lines) x = entries_few lay tries calls lines x.0
+entries_few lay tries calls (Log e ∷ Step (Made n row) ∷ lines) x = let few = entries_few lay tries calls lines x.0.0 in omega (arith, few)
+entries_few lay tries calls (Log e ∷ Step (Idle n client) ∷ lines) x = absurd x.1
+entries_few lay tries calls (Log e ∷ Log d ∷ lines) x = absurd x.1
+entries_few lay tries calls (Log e ∷ ReplyLine reply ∷ lines) x = absurd x.1
+entries_few lay tries calls (Log e ∷ []) x = absurd x.1
+
+-- so it is not yet as many as the number of this step
+pub made_few : (p : Interleaving) (lines : List Line) (number : ℕ) (row : Row) → IsMade p lines number row → p.entries < number
+unfolding AreLines
+made_few p lines number row m =
+    let x : AreLines p.script.layout p.script.limits.tries p.script.calls.items (Step (Made number row) ∷ m.older) = subst (λ (l : List Line). AreLines p.script.layout p.script.limits.tries p.script.calls.items l) m.is m.so_far.in_order in
+    let few = entries_few p.script.layout p.script.limits.tries p.script.calls.items m.older x.0 in
+    let n = x.1.1.in_turn in
+    let same = m.entered ∙ ap (λ (l : List Line). entries l) m.is in
+    omega (arith, few, n, same)
+
 -- its word is one of the table, and so is the info of its node
 pub made_info : (p : Interleaving) (lines : List Line) (number : ℕ) (row : Row) (n : NodeNo) (part : NodeWord) → IsMade p lines number row → row.word ≡ Node n part → n.0 < all_nodes p.words.layout
 made_info p lines number row n part m e =

@@ -469,7 +469,7 @@ turns_logged (Some entry) lines = (refl, refl)
 
 -- it is the one that the newest line asks for
 pub logged_as_owed : (lay : Layout) (entry : Option Entry) (lines : List Line) → entry ≡ entry_owed lay lines → MatchOption (entry_owed lay lines) (with_entry entry lines ≡ lines) (λ e. with_entry entry lines ≡ Log e ∷ lines)
-logged_as_owed lay entry lines e = subst (λ (o : Option Entry). MatchOption o (with_entry entry lines ≡ lines) (λ d. with_entry entry lines ≡ Log d ∷ lines)) e (go entry)
+logged_as_owed _ entry lines e = subst (λ (o : Option Entry). MatchOption o (with_entry entry lines ≡ lines) (λ d. with_entry entry lines ≡ Log d ∷ lines)) e (go entry)
   where
     go : (o : Option Entry) → MatchOption o (with_entry o lines ≡ lines) (λ d. with_entry o lines ≡ Log d ∷ lines)
     go None = refl

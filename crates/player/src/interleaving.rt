@@ -145,7 +145,9 @@ impl Interleaving {
         ensures same { HasSameClients self.old self.new }
         ensures logged { (lines : List Line) → IsEntryDue self.old lines number row.now → HasLogged self.old self.new lines number result }
     {
-        let entry = self.entry(number, row)?;
+        let Some(entry) = self.entry(number, row) else {
+            return None;
+        };
         self.entries = entry.place;
         self.wins[entry.client.0 as usize] = Some(number);
         self.place(&entry);

@@ -40,7 +40,7 @@ impl Core {
     ghost use Rattle.record.specs.declared.record.Line.{Line};
     ghost use Rattle.player.specs.Core.{StandsAt, IsNextTurn, passes_of, steps_of, with_lines};
     ghost use Rattle.player.specs.Player.{PlayerView, script_view, IsPlayed};
-    ghost use Rattle.player.specs.BetweenTurns.{HasTurned};
+    ghost use Rattle.player.specs.BetweenTurns.{IsBetweenTurns, HasTurned};
 
     /// A core that plays a copy of the script, with no turn made. The only error is want of memory.
     pub fn new(alloc: Global, script: &Script) -> Result<Core, NoMemory>
