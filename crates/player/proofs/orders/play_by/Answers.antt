@@ -20,3 +20,11 @@ returns-clause-run c =
       lawful = subst (λ (s : ScriptView). IsLawfulRun s.layout s.limits.tries s.calls (reverse (clients (reverse told))) told) x.script
           (c.record.ensures.lawful (reverse (clients (reverse told))) (rw (back, reverse-reverse (clients lines)) refl));
     }
+
+pub loop-order-preserved : goal.loop-order-preserved
+loop-order-preserved c =
+    let x = c.loop-order.invariant in
+    record {
+      script = c.follow.ensures.script ∙ x.script;
+      ordered = λ newer rest. x.ordered newer (search rules);
+    }
