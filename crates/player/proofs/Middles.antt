@@ -44,7 +44,6 @@ use Rattle.record.specs.declared.record.Answer.TheVariants.{Done, Unlinked, Full
 use Rattle.script.specs.declared.command.Command.TheVariants.{Llx as LlxOf, Scx as ScxOf, Vlx as VlxOf, Set as SetOf, Map}
 use Rattle.ordered_map.specs.declared.request.Request.TheVariants.{Successor as SuccessorOf, Range as RangeOf}
 use Rattle.player.specs.declared.client.Client.{Client}
-use Rattle.player.specs.Lines.{newest}
 use Rattle.record.specs.Turns.{history, turns, entries, answered, begin, start, steps, won, last_client, entry_of, entry_owed, entry_at}
 use Rattle.record.specs.Commands.{commands, next_command}
 use Rattle.record.specs.Linked.{linked}
@@ -431,17 +430,39 @@ wins_step lay lines pushed after number passes row old new many line is changed 
 made_row : (lay : Layout) (tries : ℕ) (calls : List Call) (words : Contents) (older : List Line) (number : ℕ) (row : Row) → IsLawfulSoFar lay tries calls words (Step (Made number row) ∷ older) → IsLawful lay (history lay.mode older) row
 made_row lay tries calls words older number row x = lawful_row lay (history lay.mode older) row x.sound.lawful
 
+-- of the turns so far no two have made an entry
+entries_few : (lay : Layout) (tries : ℕ) (calls : List Call) (lines : List Line) → AreLines lay tries calls lines → entries lines ≤ turns lines
+unfolding AreLines
+entries_few lay tries calls [] x = omega arith
+entries_few lay tries calls (Step row ∷ lines) x = let few = entries_few lay tries calls lines x.0 in omega (arith, few)
+entries_few lay tries calls (ReplyLine reply ∷ lines) x = entries_few lay tries calls lines x.0
+entries_few lay tries calls (Log e ∷ Step (Made n row) ∷ lines) x = let few = entries_few lay tries calls lines x.0.0 in omega (arith, few)
+entries_few lay tries calls (Log e ∷ Step (Idle n client) ∷ lines) x = absurd x.1
+entries_few lay tries calls (Log e ∷ Log d ∷ lines) x = absurd x.1
+entries_few lay tries calls (Log e ∷ ReplyLine reply ∷ lines) x = absurd x.1
+entries_few lay tries calls (Log e ∷ []) x = absurd x.1
+
+-- so it is not yet as many as the number of this step
+pub made_few : (p : Interleaving) (lines : List Line) (number : ℕ) (row : Row) → IsMade p lines number row → p.entries < number
+unfolding AreLines
+made_few p lines number row m =
+    let x : AreLines p.script.layout p.script.limits.tries p.script.calls.items (Step (Made number row) ∷ m.older) = subst (λ (l : List Line). AreLines p.script.layout p.script.limits.tries p.script.calls.items l) m.is m.so_far.in_order in
+    let few = entries_few p.script.layout p.script.limits.tries p.script.calls.items m.older x.0 in
+    let n = x.1.1.in_turn in
+    let same = m.entered ∙ ap (λ (l : List Line). entries l) m.is in
+    omega (arith, few, n, same)
+
 -- its word is one of the table, and so is the info of its node
-pub made_info : (p : Interleaving) (number : ℕ) (row : Row) (n : NodeNo) (part : NodeWord) → IsMade p number row → row.word ≡ Node n part → n.0 < all_nodes p.words.layout
-made_info p number row n part m e =
-    let x : IsLawfulSoFar p.script.layout p.script.limits.tries p.script.calls.items p.words (Step (Made number row) ∷ m.older) = rw (sym m.lines) m.so_far in
+pub made_info : (p : Interleaving) (lines : List Line) (number : ℕ) (row : Row) (n : NodeNo) (part : NodeWord) → IsMade p lines number row → row.word ≡ Node n part → n.0 < all_nodes p.words.layout
+made_info p lines number row n part m e =
+    let x : IsLawfulSoFar p.script.layout p.script.limits.tries p.script.calls.items p.words (Step (Made number row) ∷ m.older) = rw (sym m.is) m.so_far in
     let y : IsWord p.script.layout row.word = (made_row p.script.layout p.script.limits.tries p.script.calls.items p.words m.older number row x).word in
     rw x.layout (rw e at y)
 
 -- the info of the field of an update that has won names an SCX-record of the table
-pub made_winner : (p : Interleaving) (number : ℕ) (row : Row) (n : NodeNo) (side : Side) → IsMade p number row → row.kind ≡ Update → row.before ≢ row.after → row.word ≡ Node n (Child side) → (0 < word_at p.words (info n.0)) × (word_at p.words (info n.0) < all_scx p.script.layout)
-made_winner p number row n side m kind changed word =
-    let x : IsLawfulSoFar p.script.layout p.script.limits.tries p.script.calls.items p.words (Step (Made number row) ∷ m.older) = rw (sym m.lines) m.so_far in
+pub made_winner : (p : Interleaving) (lines : List Line) (number : ℕ) (row : Row) (n : NodeNo) (side : Side) → IsMade p lines number row → row.kind ≡ Update → row.before ≢ row.after → row.word ≡ Node n (Child side) → (0 < word_at p.words (info n.0)) × (word_at p.words (info n.0) < all_scx p.script.layout)
+made_winner p lines number row n side m kind changed word =
+    let x : IsLawfulSoFar p.script.layout p.script.limits.tries p.script.calls.items p.words (Step (Made number row) ∷ m.older) = rw (sym m.is) m.so_far in
     let w = winner_holds p.script.layout (history p.script.layout.mode m.older) row n.0 side x.sound.lawful kind changed word in
     let y : IsWord p.script.layout row.word = (made_row p.script.layout p.script.limits.tries p.script.calls.items p.words m.older number row x).word in
     let same : word_at p.words (info n.0) ≡ value (history p.script.layout.mode m.older) (info n.0) = x.holds (info n.0) (rw word at y) ∙ info_kept p.script.layout (history p.script.layout.mode m.older) row n.0 n.0 side word in
@@ -452,16 +473,16 @@ same_entry : (place place' number scx scx' call call' owner' : ℕ) (client : Pa
 same_entry place place' number scx scx' call call' owner' client p s o c = rw (p, s, o, c) refl
 
 -- what the player reads of a winning update is its entry
-pub made_entry : (p : Interleaving) (number : ℕ) (row : Row) (n : NodeNo) (side : Side) (place scx call : ℕ) (client : PassNo) → IsMade p number row → row.kind ≡ Update → row.before ≢ row.after → row.word ≡ Node n (Child side) → place ≡ suc (entries (newest p.lines)) → scx ≡ word_at p.words (info n.0) → call ≡ word_at p.words (scx_word scx CallWord) → first_scx p.script.layout client.0 ≤ scx → scx < first_scx p.script.layout client.0 + p.script.layout.scx → Some (record { place = place; step = number; scx = record { 0 = scx }; client = client; call = call }) ≡ entry_owed p.script.layout (newest p.lines)
-made_entry p number row n side place scx call client m kind changed word pl sc ca from below =
-    rw m.lines (same_entry place (suc (entries m.older)) number scx (value h (info n.0)) call (value h (scx_word (value h (info n.0)) CallWord)) (owner p.script.layout (value h (info n.0))) client
-    (rw m.lines at pl) holder (rw (sym holder) (owner_is p.script.layout scx client.0 from below)) called ∙ sym owed)
+pub made_entry : (p : Interleaving) (lines : List Line) (number : ℕ) (row : Row) (n : NodeNo) (side : Side) (place scx call : ℕ) (client : PassNo) → IsMade p lines number row → row.kind ≡ Update → row.before ≢ row.after → row.word ≡ Node n (Child side) → place ≡ suc p.entries → scx ≡ word_at p.words (info n.0) → call ≡ word_at p.words (scx_word scx CallWord) → first_scx p.script.layout client.0 ≤ scx → scx < first_scx p.script.layout client.0 + p.script.layout.scx → Some (record { place = place; step = number; scx = record { 0 = scx }; client = client; call = call }) ≡ entry_owed p.script.layout lines
+made_entry p lines number row n side place scx call client m kind changed word pl sc ca from below =
+    rw m.is (same_entry place (suc (entries m.older)) number scx (value h (info n.0)) call (value h (scx_word (value h (info n.0)) CallWord)) (owner p.script.layout (value h (info n.0))) client
+    (pl ∙ ap suc (m.entered ∙ ap (λ (l : List Line). entries l) m.is)) holder (rw (sym holder) (owner_is p.script.layout scx client.0 from below)) called ∙ sym owed)
   where
     h : History
     h = history p.script.layout.mode m.older
 
     x : IsLawfulSoFar p.script.layout p.script.limits.tries p.script.calls.items p.words (Step (Made number row) ∷ m.older)
-    x = rw (sym m.lines) m.so_far
+    x = rw (sym m.is) m.so_far
 
     y : IsWord p.script.layout row.word
     y = (made_row p.script.layout p.script.limits.tries p.script.calls.items p.words m.older number row x).word

@@ -14,7 +14,6 @@ use Rattle.record.specs.declared.record.Answer.{Answer}
 use Rattle.player.specs.declared.client.Client.{Client}
 use Rattle.player.specs.declared.client.NextAction.TheVariants.{Finished, Answers, Asks}
 use Rattle.player.specs.declared.interleaving.Interleaving.{Interleaving}
-use Rattle.player.specs.Lines.{newest}
 use Rattle.player.specs.Place.{IsNextCallAt}
 use Rattle.record.specs.Commands.{commands, next_command}
 use Rattle.record.specs.Turns.{turns, begin, answered}
@@ -44,7 +43,7 @@ has_begun : (v : ClientView) (began : Option ℕ) (old : Client) → IsClient v 
 has_begun v began old (inl x) d = absurd (d x.0.none)
 has_begun v began old (inr (q, runs, w, e)) d = e
 
-module _ (p : Interleaving) (i number : ℕ) (old new : Client) (played : IsBetweenTurns p) (there : slice_get p.clients.items i ≡ Some old) where
+module _ (p : Interleaving) (lines : List Line) (i number : ℕ) (old new : Client) (played : IsBetweenTurns p lines) (there : slice_get p.clients.items i ≡ Some old) where
   abbrev lay : Layout
   lay = p.script.layout
 
@@ -53,9 +52,6 @@ module _ (p : Interleaving) (i number : ℕ) (old new : Client) (played : IsBetw
 
   abbrev calls : List Call
   calls = p.script.calls.items
-
-  abbrev lines : List Line
-  lines = newest p.lines
 
   abbrev v : ClientView
   v = client_view lay tries calls lines i
@@ -74,26 +70,27 @@ module _ (p : Interleaving) (i number : ℕ) (old new : Client) (played : IsBetw
   new_i same = ap (λ (k : PassNo). k.0) same ∙ is_i
 
   -- it asks for a step
-  pub stood_asked : (q : Interleaving) (step : Ask) → q.script.layout ≡ lay → q.script.limits ≡ p.script.limits → q.script.calls.items ≡ calls → q.words ≡ p.words → q.clients.items ≡ set p.clients.items i new → newest q.lines ≡ lines → q.wins.items ≡ p.wins.items → ArePlaces lay calls lines q.places → number ≡ suc (turns (newest q.lines)) → IsNextAction v number old new (Asks step) → IsStepAsked q i number step
-  stood_asked q step a t b w d e f g n s = record {
-    wins = rw (a, e, f) played.wins;
-    places = rw (a, b, e) g;
+  pub stood_asked : (q : Interleaving) (step : Ask) → q.script.layout ≡ lay → q.script.limits ≡ p.script.limits → q.script.calls.items ≡ calls → q.words ≡ p.words → q.clients.items ≡ set p.clients.items i new → q.turns ≡ p.turns → q.entries ≡ p.entries → q.wins.items ≡ p.wins.items → ArePlaces lay calls lines q.places → number ≡ suc (turns lines) → IsNextAction v number old new (Asks step) → IsStepAsked q lines i number step
+  stood_asked q step a t b w d e e' f g n s = record {
+    wins = rw (a, f) played.wins;
+    counted = record { turned = e ∙ played.counted.turned; entered = e' ∙ played.counted.entered };
+    places = rw (a, b) g;
     client = new;
     is = new_i s.0.pass;
-    settled = rw (a, b, e) played.between.settled;
-    turn = rw (a, t, b, w, d, e) (own_turn s.0.pass);
+    settled = rw (a, b) played.between.settled;
+    turn = rw (a, t, b, w, d) (own_turn s.0.pass);
     in_turn = n;
     running = s.1;
     runs = s.2;
     asks = s.3;
-    waits = rw (a, t, b, e) (subst (λ (k : ℕ). WaitsForStep (client_view lay tries calls lines k) new s.1) (sym (new_i s.0.pass)) s.4);
+    waits = rw (a, t, b) (subst (λ (k : ℕ). WaitsForStep (client_view lay tries calls lines k) new s.1) (sym (new_i s.0.pass)) s.4);
     began = began s.5;
   }
     where
-      same_begin : begin (newest q.lines) new.pass.0 ≡ begin lines i
-      same_begin = ap (λ (l : List Line). begin l new.pass.0) e ∙ ap (λ (k : ℕ). begin lines k) (new_i s.0.pass)
+      same_begin : begin lines new.pass.0 ≡ begin lines i
+      same_begin = ap (λ (k : ℕ). begin lines k) (new_i s.0.pass)
 
-      began : (Rests v old × (new.begin ≡ number)) ⊎ ((old.running ≢ None) × (new.begin ≡ old.begin)) → ((begin (newest q.lines) new.pass.0 ≡ None) × (new.begin ≡ number)) ⊎ (begin (newest q.lines) new.pass.0 ≡ Some new.begin)
+      began : (Rests v old × (new.begin ≡ number)) ⊎ ((old.running ≢ None) × (new.begin ≡ old.begin)) → ((begin lines new.pass.0 ≡ None) × (new.begin ≡ number)) ⊎ (begin lines new.pass.0 ≡ Some new.begin)
       began (inl (r, x)) = inl (same_begin ∙ not_begun v (begin lines i) old new s.4.works.command s.0.pass is_client r s.4.works.is, x)
       began (inr (d, x)) = inr (same_begin ∙ has_begun v (begin lines i) old is_client d ∙ ap (λ (k : ℕ). Some k) (sym x))
 

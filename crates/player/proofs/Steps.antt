@@ -44,7 +44,7 @@ use Rattle.record.specs.declared.record.Answer.{Answer}
 use Rattle.player.specs.declared.client.Client.{Client}
 use Rattle.player.specs.declared.client.Running.{Running}
 use Rattle.player.specs.declared.interleaving.Interleaving.{Interleaving}
-use Rattle.player.specs.Lines.{newest}
+use Rattle.player.specs.Lines.{with_entry}
 use Rattle.player.specs.Player.{ScriptView, script_view}
 use Rattle.arena.specs.TakenNodes.{taken_nodes}
 use Rattle.record.specs.Turns.{history, turns, answered, clients, begin, start, won, last_client, entry_of, entry_owed}
@@ -57,7 +57,7 @@ use Rattle.record.specs.Replies.{IsFitting, IsReplyOwed}
 use Rattle.record.specs.Entries.{IsWinOf}
 use Rattle.player.specs.RunKnown.{edit_in_hand}
 use Rattle.player.specs.ClientView.{ClientView, client_edit, client_view, running_edit, Tells, IsSound, Hears, IsClient, GoesOn, EndsCall, WaitsForStep, machine_call}
-use Rattle.player.specs.BetweenTurns.{IsLawfulSoFar, IsTurnOf, AreBetweenTurns, IsBetweenTurns, IsStepAsked, IsEnd, AreWins, ArePlaces, IsAtEdit, IsOwned, owners_edit}
+use Rattle.player.specs.BetweenTurns.{IsLawfulSoFar, IsTurnOf, AreBetweenTurns, HasCounted, IsBetweenTurns, IsStepAsked, IsEnd, AreWins, ArePlaces, IsAtEdit, IsOwned, owners_edit}
 use Rattle.player.proofs.Views.{own_row, step_sound, hears}
 use Rattle.player.proofs.Middles.{IsOver, get_there, others_step, others_log, so_far_same, step_made, turn_changed, turn_ends, replied}
 use Rattle.player.proofs.MayMakes.{may_make}
@@ -133,7 +133,7 @@ up_to lay tries calls (Log e ∷ Log d ∷ lines) turn x i = absurd x.1
 up_to lay tries calls (Log e ∷ ReplyLine reply ∷ lines) turn x i = absurd x.1
 up_to lay tries calls (Log e ∷ []) turn x i = absurd x.1
 
-module _ (p : Interleaving) (i number : ℕ) (step : Ask) (a : IsStepAsked p i number step) where
+module _ (p : Interleaving) (lines : List Line) (i number : ℕ) (step : Ask) (a : IsStepAsked p lines i number step) where
   abbrev lay : Layout
   lay = p.script.layout
 
@@ -142,9 +142,6 @@ module _ (p : Interleaving) (i number : ℕ) (step : Ask) (a : IsStepAsked p i n
 
   abbrev calls : List Call
   calls = p.script.calls.items
-
-  abbrev lines : List Line
-  lines = newest p.lines
 
   abbrev v : ClientView
   v = client_view lay tries calls lines a.client.pass.0
@@ -427,10 +424,10 @@ heard_end lay tries calls words all lines changes c mid new q found number answe
 -- What the player makes of it
 
 -- an interleaving of these parts is between two turns
-pub between_at : (p : Interleaving) (script : ScriptView) (words : Contents) (all : List Client) (lines : List Line) (wins : List (Option ℕ)) (places : Places) → script_view p.script ≡ script → p.words ≡ words → p.clients.items ≡ all → newest p.lines ≡ lines → p.wins.items ≡ wins → p.places ≡ places → AreBetweenTurns script.layout script.limits.tries script.calls words all lines → AreWins script.layout lines wins → ArePlaces script.layout script.calls lines places → IsBetweenTurns p
-between_at p script words all lines wins places s b c d e f x y z =
-    subst (λ (k : ScriptView). AreBetweenTurns k.layout k.limits.tries k.calls words all lines → AreWins k.layout lines wins → ArePlaces k.layout k.calls lines places → IsBetweenTurns p) s
-    (λ x y z. record { between = rw (b, c, d) x; wins = rw (d, e) y; places = rw (d, f) z }) x y z
+pub between_at : (p : Interleaving) (script : ScriptView) (words : Contents) (all : List Client) (lines : List Line) (wins : List (Option ℕ)) (places : Places) → script_view p.script ≡ script → p.words ≡ words → p.clients.items ≡ all → p.wins.items ≡ wins → p.places ≡ places → HasCounted p lines → AreBetweenTurns script.layout script.limits.tries script.calls words all lines → AreWins script.layout lines wins → ArePlaces script.layout script.calls lines places → IsBetweenTurns p lines
+between_at p script words all lines wins places s b c e f counted x y z =
+    subst (λ (k : ScriptView). AreBetweenTurns k.layout k.limits.tries k.calls words all lines → AreWins k.layout lines wins → ArePlaces k.layout k.calls lines places → IsBetweenTurns p lines) s
+    (λ x y z. record { between = rw (b, c) x; wins = rw e y; places = rw f z; counted = counted }) x y z
 
 -- what is remembered of a client is the turn that the lines say
 pub remembered : (lay : Layout) (lines : List Line) (wins : List (Option ℕ)) (k i : ℕ) (said : Option ℕ) → AreWins lay lines wins → slice_get wins k ≡ Some said → k ≡ i → (turn : ℕ) → won lay lines i ≡ Some turn → said ≡ Some turn
@@ -465,13 +462,18 @@ place_known _ _ clients _ e places owned p = go (owners_edit clients e.client.0)
         let x = owned.edits (owned.tree edit is) in
         subst (λ (d : MapEdit). Knows places (edit_key d)) (some_edit x.edit edit (sym x.is ∙ is)) (x.known places p)
 
--- the turns are one more, whatever else is written down behind the row
-pub turns_logged : (lay : Layout) (pushed after : List Line) → MatchOption (entry_owed lay pushed) (after ≡ pushed) (λ e. after ≡ Log e ∷ pushed) → clients after ≡ clients pushed
-turns_logged lay pushed after m = go (entry_owed lay pushed) m
+-- the entry behind the newest line leaves who made the turns, and how many they are
+pub turns_logged : (entry : Option Entry) (lines : List Line) → (clients (with_entry entry lines) ≡ clients lines) × (turns (with_entry entry lines) ≡ turns lines)
+turns_logged None lines = (refl, refl)
+turns_logged (Some entry) lines = (refl, refl)
+
+-- it is the one that the newest line asks for
+pub logged_as_owed : (lay : Layout) (entry : Option Entry) (lines : List Line) → entry ≡ entry_owed lay lines → MatchOption (entry_owed lay lines) (with_entry entry lines ≡ lines) (λ e. with_entry entry lines ≡ Log e ∷ lines)
+logged_as_owed _ entry lines e = subst (λ (o : Option Entry). MatchOption o (with_entry entry lines ≡ lines) (λ d. with_entry entry lines ≡ Log d ∷ lines)) e (go entry)
   where
-    go : (owed : Option Entry) → MatchOption owed (after ≡ pushed) (λ e. after ≡ Log e ∷ pushed) → clients after ≡ clients pushed
-    go None e = ap (λ (l : List Line). clients l) e
-    go (Some entry) e = ap (λ (l : List Line). clients l) e
+    go : (o : Option Entry) → MatchOption o (with_entry o lines ≡ lines) (λ d. with_entry o lines ≡ Log d ∷ lines)
+    go None = refl
+    go (Some entry) = refl
 
 -- what is told to the client as the player has it, is told to that client
 pub told_goes : (v : ClientView) (now c new : Client) (q : Running) (found : ℕ) → now ≡ c → IsSound v → c.running ≡ Some q → Hears v c q found → ((w : ClientView) (r : Running) → IsSound w → now.running ≡ Some r → Hears w now r found → GoesOn w now new) → GoesOn v c new
@@ -483,11 +485,3 @@ told_ends v now c new q found answer e sound runs h f = subst (λ (k : Client). 
 -- a script has few calls
 pub few_calls : (p : Interleaving) → length p.script.calls.items ≤ 65536
 few_calls p = omega (arith, p.script.few, p.script.calls.ok.0)
-
--- what is written down behind the row
-pub logged : (lay : Layout) (pushed after : List Line) → MatchOption (entry_owed lay pushed) (after ≡ pushed) (λ e. after ≡ Log e ∷ pushed) → (behind : List Line) × (after ≡ behind ++ pushed)
-logged lay pushed after m = go (entry_owed lay pushed) m
-  where
-    go : (owed : Option Entry) → MatchOption owed (after ≡ pushed) (λ e. after ≡ Log e ∷ pushed) → (behind : List Line) × (after ≡ behind ++ pushed)
-    go None e = ([], e)
-    go (Some entry) e = (Log entry ∷ [], e)

@@ -1,5 +1,5 @@
 -- What is true of an interleaving between two turns, and in the middle of one.
-use Rattle.std.specs.Prelude.{◌≡◌, ◌≢◌, ℕ, suc, ◌⊎◌, List, ◌∷◌, set, Option, Some, None, slice_get, All}
+use Rattle.std.specs.Prelude.{◌≡◌, ◌≢◌, ℕ, suc, ◌<◌, ◌⊎◌, List, ◌∷◌, set, Option, Some, None, MatchOption, slice_get, All}
 use Rattle.arena.specs.declared.layout.Layout.{Layout}
 use Rattle.arena.specs.declared.word.Word.{Word}
 use Rattle.arena.specs.Layout.{IsWord}
@@ -11,7 +11,7 @@ use Rattle.script.specs.Commands.{mode_of}
 use Rattle.arena.specs.declared.step.Step.{Step as Ask}
 use Rattle.arena.specs.declared.step.Row.{Row}
 use Rattle.record.specs.declared.record.Line.{Line}
-use Rattle.record.specs.declared.record.Line.TheVariants.{Step, Reply as ReplyLine}
+use Rattle.record.specs.declared.record.Line.TheVariants.{Step}
 use Rattle.record.specs.declared.record.Row.TheVariants.{Step as Made}
 use Rattle.record.specs.declared.record.Finished.{Finished}
 use Rattle.record.specs.declared.record.Answer.{Answer}
@@ -19,11 +19,12 @@ use Rattle.player.specs.declared.client.Running.{Running}
 use Rattle.player.specs.Allowed.{PlayedAllows}
 use Rattle.arena.specs.declared.limits.Mode.TheVariants.{Tree}
 use Rattle.ordered_map.specs.FillOrder.{AreFilledInOrder}
-use Rattle.player.specs.Lines.{newest}
+use Rattle.player.specs.Lines.{with_entry, with_turn}
+use Rattle.player.specs.declared.lines.Written.{Written}
 use Rattle.player.specs.declared.client.Client.{Client}
-use Rattle.player.specs.Player.{PlayerView, script_view}
+use Rattle.player.specs.Player.{script_view}
 use Rattle.player.specs.declared.interleaving.Interleaving.{Interleaving}
-use Rattle.record.specs.Turns.{history, begin, turns, won}
+use Rattle.record.specs.Turns.{history, begin, clients, entries, entry_owed, turns, won}
 use Rattle.ordered_map.specs.OrderedMap.{MapEdit, edit_key, value_left}
 use Rattle.record.specs.declared.record.Entry.{Entry}
 use Rattle.record.specs.MapRecord.{written_log}
@@ -73,39 +74,49 @@ pub record ArePlaces (lay : Layout) (calls : List Call) (lines : List Line) (pla
   pub entries : lay.mode ≡ Tree → AreEntries calls lines (changes places)
   pub keys : All (λ call. HoldsOfKey (Knows places) call.command) calls
 
--- what contracts see of a player of this interleaving
-abbrev pub player_view : Interleaving → PlayerView
-player_view p = record { script = script_view p.script; lines = newest p.lines }
+-- the interleaving knows how many of the lines are turns, and how many are entries of the log
+pub record HasCounted (p : Interleaving) (lines : List Line) : Type 0 where
+  pub turned : p.turns ≡ turns lines
+  pub entered : p.entries ≡ entries lines
 
--- what holds of an interleaving between two turns, and so of every player
-pub record IsBetweenTurns (p : Interleaving) : Type 0 where
-  pub between : AreBetweenTurns p.script.layout p.script.limits.tries p.script.calls.items p.words p.clients.items (newest p.lines)
-  pub wins : AreWins p.script.layout (newest p.lines) p.wins.items
-  pub places : ArePlaces p.script.layout p.script.calls.items (newest p.lines) p.places
+-- what holds of an interleaving between two turns, behind these lines, the newest first
+pub record IsBetweenTurns (p : Interleaving) (lines : List Line) : Type 0 where
+  pub between : AreBetweenTurns p.script.layout p.script.limits.tries p.script.calls.items p.words p.clients.items lines
+  pub wins : AreWins p.script.layout lines p.wins.items
+  pub places : ArePlaces p.script.layout p.script.calls.items lines p.places
+  pub counted : HasCounted p lines
+
+-- behind these lines it has made this turn of the i-th client, and is between two turns again
+pub record HasTurned (old new : Interleaving) (lines : List Line) (i : ℕ) (turn : Written) : Type 0 where
+  pub script : script_view new.script ≡ script_view old.script
+  pub between : IsBetweenTurns new (with_turn turn.row turn.entry turn.reply lines)
+  pub turns : clients (with_turn turn.row turn.entry turn.reply lines) ≡ i ∷ clients lines
 
 -- In the middle of a turn
 
--- the i-th client, whose turn it is, asks for this step
-pub record IsStepAsked (p : Interleaving) (i number : ℕ) (step : Ask) : Type 0 where
+-- behind these lines the i-th client, whose turn it is, asks for this step
+pub record IsStepAsked (p : Interleaving) (lines : List Line) (i number : ℕ) (step : Ask) : Type 0 where
   pub client : Client
   pub is : client.pass.0 ≡ i
-  pub settled : OwesNothing p.script.layout p.script.calls.items (newest p.lines)
-  pub turn : IsTurnOf p.script.layout p.script.limits.tries p.script.calls.items p.words p.clients.items (newest p.lines) client
-  pub in_turn : number ≡ suc (turns (newest p.lines))
+  pub settled : OwesNothing p.script.layout p.script.calls.items lines
+  pub turn : IsTurnOf p.script.layout p.script.limits.tries p.script.calls.items p.words p.clients.items lines client
+  pub in_turn : number ≡ suc (turns lines)
   pub running : Running
   pub runs : client.running ≡ Some running
   pub asks : running.step ≡ step
-  pub waits : WaitsForStep (client_view p.script.layout p.script.limits.tries p.script.calls.items (newest p.lines) client.pass.0) client running
-  pub wins : AreWins p.script.layout (newest p.lines) p.wins.items
-  pub places : ArePlaces p.script.layout p.script.calls.items (newest p.lines) p.places
+  pub waits : WaitsForStep (client_view p.script.layout p.script.limits.tries p.script.calls.items lines client.pass.0) client running
+  pub wins : AreWins p.script.layout lines p.wins.items
+  pub places : ArePlaces p.script.layout p.script.calls.items lines p.places
+  pub counted : HasCounted p lines
   -- its call began at this turn, or at the turn that the lines say
-  pub began : ((begin (newest p.lines) client.pass.0 ≡ None) × (client.begin ≡ number)) ⊎ (begin (newest p.lines) client.pass.0 ≡ Some client.begin)
+  pub began : ((begin lines client.pass.0 ≡ None) × (client.begin ≡ number)) ⊎ (begin lines client.pass.0 ≡ Some client.begin)
 
--- the newest line is this step
-pub record IsMade (p : Interleaving) (number : ℕ) (row : Row) : Type 0 where
+-- the newest of these lines is this step, whose entry is not counted yet
+pub record IsMade (p : Interleaving) (lines : List Line) (number : ℕ) (row : Row) : Type 0 where
   pub older : List Line
-  pub lines : newest p.lines ≡ Step (Made number row) ∷ older
-  pub so_far : IsLawfulSoFar p.script.layout p.script.limits.tries p.script.calls.items p.words (newest p.lines)
+  pub is : lines ≡ Step (Made number row) ∷ older
+  pub so_far : IsLawfulSoFar p.script.layout p.script.limits.tries p.script.calls.items p.words lines
+  pub entered : p.entries ≡ entries lines
 
 -- the edit that the machine of client c has in hand, if it has one
 abbrev pub owners_edit : List Client → ℕ → Option MapEdit
@@ -134,24 +145,39 @@ pub record IsEnd (calls : List Call) (lines : List Line) (changes : List Change)
   pub moment : (call : Call) (at : ℕ) → old.next ≡ Some at → slice_get calls at ≡ Some call → IsMomentBy calls lines changes call.command answer old.begin turn won reply.moment
   pub behind : IsAtNextCall calls old new
 
--- the lines have one reply more, to the call of this client, which stands at its next call then
-pub record IsReplied (old new : Interleaving) (turn : ℕ) (answer : Answer) (c : Client) : Type 0 where
+-- the newest of these lines is this step, whose entry is to be written down, if it asks for one
+pub record IsEntryDue (p : Interleaving) (lines : List Line) (number : ℕ) (row : Row) : Type 0 where
+  pub made : IsMade p lines number row
+  pub places : ArePlaces p.script.layout p.script.calls.items lines p.places
+  pub owner : (e : Entry) → entry_owed p.script.layout lines ≡ Some e → IsOwned p.script.layout p.script.calls.items lines p.clients.items e
+
+-- the entry is the one that the newest of these lines asks for, and it has been written down
+pub record HasLogged (old new : Interleaving) (lines : List Line) (number : ℕ) (entry : Option Entry) : Type 0 where
+  pub owed : entry ≡ entry_owed old.script.layout lines
+  pub wins : MatchOption entry (new.wins.items ≡ old.wins.items) (λ e. (e.client.0 < old.script.layout.passes) × (new.wins.items ≡ set old.wins.items e.client.0 (Some number)))
+  pub entered : new.entries ≡ entries (with_entry entry lines)
+  pub places : ArePlaces new.script.layout new.script.calls.items (with_entry entry lines) new.places
+
+-- this is the reply to the call of this client, which stands at its next call then
+pub record IsReplied (old new : Interleaving) (turn : ℕ) (answer : Answer) (c : Client) (reply : Finished) : Type 0 where
   pub client : Client
-  pub reply : Finished
   pub won : Option ℕ
   pub wins : slice_get old.wins.items c.pass.0 ≡ Some won
-  pub end : IsEnd old.script.calls.items (newest old.lines) (changes old.places) c client turn answer won reply
+  pub end : (lines : List Line) → IsEnd old.script.calls.items lines (changes old.places) c client turn answer won reply
   pub clients : new.clients.items ≡ set old.clients.items c.pass.0 client
-  pub line : newest new.lines ≡ ReplyLine reply ∷ newest old.lines
 
--- script, words and clients are as they were
+-- script, words and clients are as they were, and so is how many turns were made
 pub record HasSameClients (old new : Interleaving) : Type 0 where
   pub script : script_view new.script ≡ script_view old.script
   pub words : new.words ≡ old.words
   pub clients : new.clients.items ≡ old.clients.items
+  pub turns : new.turns ≡ old.turns
 
--- script, words and the turns of winning updates are as they were
-pub record HasSameWords (old new : Interleaving) : Type 0 where
+-- all is as it was but for the clients
+pub record HasOtherClients (old new : Interleaving) : Type 0 where
   pub script : script_view new.script ≡ script_view old.script
   pub words : new.words ≡ old.words
   pub wins : new.wins.items ≡ old.wins.items
+  pub places : new.places ≡ old.places
+  pub turns : new.turns ≡ old.turns
+  pub entries : new.entries ≡ old.entries

@@ -9,3 +9,5 @@ pub mod TurnsMore
 pub mod ClientView
 pub mod BetweenTurns
 pub mod KeptSnaps
+pub mod Core
+pub mod Playing

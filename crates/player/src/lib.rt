@@ -8,8 +8,11 @@ mod lines;
 mod orders;
 mod place;
 mod player;
+mod player_core;
 mod run;
 
+pub use lines::Lines;
 pub use orders::play_by;
 pub use player::{Player, play};
+pub use player_core::Core;
 pub use record::{Answer, Entry, Finished, Line, Record, Row};

@@ -1,89 +1,47 @@
-//! The lines of a run, as they come.
-ghost use Rattle.std.specs.Prelude.{◌≡◌, ℕ, ◌+◌, ◌<◌, ◌≤◌, ◌^◌, vec_len, reverse, OnOk, OnErr};
-ghost use Rattle.record.specs.Turns.{turns as turns_in, entries as entries_in};
+//! The lines of one turn.
+ghost use Rattle.std.specs.Prelude.{◌≡◌, ◌≤◌, ◌++◌};
+ghost use Rattle.player.specs.Lines.{room, turn_lines};
 
-use arena::NoMemory;
+use arrayvec::ArrayVec;
 use record::{Entry, Finished, Line, Row};
-use std::alloc::Global;
 
-/// The lines so far, and how many of them are turns and entries of the log.
+/// The lines of one turn, in order: its row, the entry of the log that it has made, if it has made
+/// one, and the reply to the call that it has ended, if it has ended one.
+pub type Lines = ArrayVec<Line, 3>;
+
+/// What one turn leaves, each of its lines by itself.
 #[derive(Drop)]
-pub(crate) struct Lines {
-    list: Vec<Line>,
-    turns: u64,
-    entries: u64,
-    ghost turns_fit: { turns ≤ vec_len list },
-    ghost entries_fit: { entries ≤ vec_len list },
-    ghost turns_are: { turns ≡ turns_in (reverse list.items) },
-    ghost entries_are: { entries ≡ entries_in (reverse list.items) },
+pub(crate) struct Written {
+    pub(crate) row: Row,
+    pub(crate) entry: Option<Entry>,
+    pub(crate) reply: Option<Finished>,
 }
 
-impl Lines {
-    ghost use Rattle.std.specs.Prelude.{◌≡◌, ◌+◌, ◌≤◌, ◌<◌, suc, [], ◌∷◌, ◌++◌, OnOk, OnErr, vec_len};
-    ghost use Rattle.player.specs.Lines.{room, newest};
-    ghost use Rattle.record.specs.Turns.{turns, entries};
-
-    pub(crate) fn new(alloc: Global) -> Lines
-        ensures { newest result ≡ [] }
-    {
-        Lines {
-            list: Vec::new(alloc),
-            turns: 0,
-            entries: 0,
-        }
+/// Its lines.
+pub(crate) fn lines_of(turn: Written) -> Lines
+    ensures { result.items ≡ turn_lines turn.row turn.entry turn.reply }
+{
+    let mut lines = Lines::new();
+    lines.push(Line::Step(turn.row));
+    if let Some(entry) = turn.entry {
+        lines.push(Line::Log(entry));
     }
-
-    /// Makes room for the lines of one turn. It changes no line.
-    pub(crate) fn reserve(&mut self) -> Result<(), NoMemory>
-        ensures room { OnOk result (3 ≤ room self.new) }
-        ensures same { self.new.list.items ≡ self.old.list.items }
-    {
-        self.list.reserve(3)?;
-        Ok(())
+    if let Some(reply) = turn.reply {
+        lines.push(Line::Reply(reply));
     }
+    lines
+}
 
-    /// The number of the next turn.
-    pub(crate) fn next_turn(&self) -> u64
-        ensures { result ≡ suc (turns (newest self.now)) }
-    {
-        self.turns + 1
+/// Writes its lines behind those of the turns before it, for which there must be room.
+pub(crate) fn append(list: &mut Vec<Line>, turn: Written)
+    requires { 3 ≤ room list.old }
+    ensures { list.new.items ≡ list.old.items ++ turn_lines turn.row turn.entry turn.reply }
+{
+    list.push_reserved(Line::Step(turn.row));
+    if let Some(entry) = turn.entry {
+        list.push_reserved(Line::Log(entry));
     }
-
-    /// The place of the next entry.
-    pub(crate) fn next_entry(&self) -> u64
-        ensures { result ≡ suc (entries (newest self.now)) }
-    {
-        self.entries + 1
-    }
-
-    pub(crate) fn push_row(&mut self, row: Row)
-        requires { 1 ≤ room self.old }
-        ensures room { room self.new + 1 ≡ room self.old }
-        ensures line { newest self.new ≡ Line.Step row ∷ newest self.old }
-    {
-        self.list.push_reserved(Line::Step(row));
-        self.turns += 1;
-    }
-
-    pub(crate) fn push_entry(&mut self, entry: Entry)
-        requires { 1 ≤ room self.old }
-        ensures room { room self.new + 1 ≡ room self.old }
-        ensures line { newest self.new ≡ Line.Log entry ∷ newest self.old }
-    {
-        self.list.push_reserved(Line::Log(entry));
-        self.entries += 1;
-    }
-
-    pub(crate) fn push_reply(&mut self, reply: Finished)
-        requires { 1 ≤ room self.old }
-        ensures { newest self.new ≡ Line.Reply reply ∷ newest self.old }
-    {
-        self.list.push_reserved(Line::Reply(reply));
-    }
-
-    pub(crate) fn into_list(self) -> Vec<Line>
-        ensures { result.items ≡ self.list.items }
-    {
-        self.list
+    if let Some(reply) = turn.reply {
+        list.push_reserved(Line::Reply(reply));
     }
 }

@@ -3,17 +3,19 @@ ghost use Rattle.std.specs.Prelude.{◌≡◌, ◌<◌, map, IfOk, All};
 ghost use Rattle.record.specs.LawfulRun.{IsLawfulRun};
 ghost use Rattle.player.specs.Player.{script_view};
 
-use crate::interleaving::Interleaving;
+use crate::lines::append;
+use crate::player_core::Core;
 use arena::{Kind, NoMemory, PassNo};
-use record::{Record, Row};
+use record::{Line, Record, Row};
 use script::Script;
 use std::alloc::Global;
 use std::marker::Model;
 
-/// Plays a script's calls, one turn of a client at a time.
+/// Plays a script's calls, one turn of a client at a time, and keeps the lines of all turns.
 #[derive(Drop)]
 pub struct Player {
-    interleaving: Interleaving,
+    core: Core,
+    lines: Vec<Line>,
 }
 
 impl Model for Player {
@@ -23,11 +25,12 @@ impl Model for Player {
 
     ghost coded = { view_code };
 
-    ghost use Rattle.player.specs.BetweenTurns.{player_view, IsBetweenTurns};
+    ghost use Rattle.player.specs.Core.{StandsAt};
+    ghost use Rattle.player.specs.Playing.{player_view};
 
-    ghost view = { λ p. player_view p.interleaving };
+    ghost view = { player_view };
 
-    ghost invariant = { λ p. IsBetweenTurns p.interleaving };
+    ghost invariant = { λ p. StandsAt p.core (player_view p) };
 }
 
 impl Player {
@@ -45,7 +48,8 @@ impl Player {
         ensures no_turns { IfOk result (λ p. p.lines ≡ []) }
     {
         Ok(Player {
-            interleaving: Interleaving::new(alloc, script)?,
+            core: Core::new(alloc, script)?,
+            lines: Vec::new(alloc),
         })
     }
 
@@ -58,7 +62,11 @@ impl Player {
         ensures refused { IfErr result (λ _. self.new ≡ self.old) }
         ensures lawful { IsPlayed self.new }
     {
-        self.interleaving.step(client)
+        self.lines.reserve(3)?;
+        let turn = self.core.turn(client)?;
+        let row = turn.row;
+        append(&mut self.lines, turn);
+        Ok(row)
     }
 
     /// Whether a client has a call left.
@@ -67,7 +75,7 @@ impl Player {
         ensures is { result ≡ is_some (next_command self.now.script.calls self.now.lines client.0) }
         ensures lawful { IsPlayed self.now }
     {
-        self.interleaving.has_call(client)
+        self.core.has_call(client)
     }
 
     /// How many calls of a client are answered.
@@ -75,7 +83,7 @@ impl Player {
         requires { client.0 < self.now.script.layout.passes }
         ensures { result ≡ answered self.now.lines client.0 }
     {
-        self.interleaving.answered(client)
+        self.core.answered(client)
     }
 
     /// Turns of a client until it has one more reply; none if it has no call left. Turns that were
@@ -137,7 +145,10 @@ impl Player {
         ensures lawful { (asked : List ℕ) → clients self.lines ≡ reverse asked →
             IsLawfulRun self.script.layout self.script.limits.tries self.script.calls asked result.lines.items }
     {
-        self.interleaving.into_record()
+        Record {
+            script: self.core.into_script(),
+            lines: self.lines,
+        }
     }
 }
 

@@ -21,6 +21,17 @@ pub enum Line {
     Reply(Finished),
 }
 
+/// A blank, as a vector of a fixed capacity has where it has no line: a turn of the number 0, which
+/// no run has.
+impl Default for Line {
+    fn default() -> Line {
+        Line::Step(Row::Idle {
+            number: 0,
+            client: PassNo(0),
+        })
+    }
+}
+
 /// A turn of a client. Turns are numbered from 1.
 #[derive(Clone, Copy, Debug, PartialEq, Eq)]
 pub enum Row {

@@ -1,6 +1,8 @@
-use Rattle.std.proofs.Common.{◌≡◌, List, drop, reverse, refl, ◌∙◌, ap, subst}
+use Rattle.std.proofs.Common.{arith, ◌≡◌, ◌+◌, ◌<◌, ℕ, suc, List, ◌∷◌, drop, get_or, length, reverse, refl, sym, ◌∙◌, ap, subst}
+use Rattle.std.proofs.Math.Seq.{drop-cons}
 use Rattle.std.proofs.lemmas.List.{drop_all, reverse-reverse}
 use Rattle.record.specs.LawfulRun.{IsLawfulRun}
+use Rattle.script.specs.declared.schedule.Order.{Order}
 use Rattle.record.specs.Schedules.{AreOrdered}
 use Rattle.record.specs.Turns.{clients}
 use Rattle.record.specs.declared.record.Line.{Line}
@@ -19,4 +21,20 @@ returns-clause-run c =
       ordered = rw back (x.ordered lines rest);
       lawful = subst (λ (s : ScriptView). IsLawfulRun s.layout s.limits.tries s.calls (reverse (clients (reverse told))) told) x.script
           (c.record.ensures.lawful (reverse (clients (reverse told))) (rw (back, reverse-reverse (clients lines)) refl));
+    }
+
+-- the orders from this one on
+from_here : (orders : List Order) (i : ℕ) (d : Order) → i < length orders → drop i orders ≡ get_or orders i d ∷ drop (i + 1) orders
+from_here orders i d less = let next : suc i ≡ i + 1 = omega arith in drop-cons orders i d less ∙ ap (λ (k : ℕ). get_or orders i d ∷ drop k orders) next
+
+pub loop-order-preserved : goal.loop-order-preserved
+loop-order-preserved c =
+    let x = c.loop-order.invariant in
+    let calls = c.args.script.now.calls.items in
+    let orders = c.args.schedule.now.orders.items in
+    let less : c.loop-order.order-index < length orders = rw c.deref-order-items.ensures.value at c.loop-order-test.true in
+    let ordered = rw (x.script, c.deref-order-items.ensures.value) at c.in_ok-follow.ensures.ordered in
+    record {
+      script = c.follow.ensures.script ∙ x.script;
+      ordered = λ newer rest. x.ordered newer (subst (λ (os : List Order). AreOrdered calls os c.loop-order.player.lines newer) (sym (from_here orders c.loop-order.order-index _ less)) (c.follow.new.player.lines, ordered, rest));
     }

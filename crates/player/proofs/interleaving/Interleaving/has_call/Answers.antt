@@ -3,7 +3,7 @@ use Rattle.player.proofs.Stands.{client_there, own_next}
 use Rattle.player.proofs.interleaving.Interleaving.has_call.Goals as goal
 
 pub returns : goal.returns
-returns c =
+returns c lines played =
     let p = c.args.self.now in
     let d = c.index.result.now in
-    c.has_call.ensures ∙ own_next p c.args.client.0 0 d d c.requires.played (client_there p c.args.client.0 d c.requires.client c.index.ensures)
+    c.has_call.ensures ∙ own_next p lines c.args.client.0 0 d d played (client_there p c.args.client.0 d c.requires.client c.index.ensures)

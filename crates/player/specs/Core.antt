@@ -1,0 +1,38 @@
+-- Where a core stands, and what a turn of it adds.
+use Rattle.std.specs.Prelude.{◌≡◌, ℕ, List, ◌∷◌, ◌++◌, reverse, Option}
+use Rattle.record.specs.declared.record.Line.{Line}
+use Rattle.record.specs.declared.record.Row.{Row}
+use Rattle.record.specs.declared.record.Entry.{Entry}
+use Rattle.record.specs.declared.record.Finished.{Finished}
+use Rattle.record.specs.Turns.{clients}
+use Rattle.player.specs.BetweenTurns.{IsBetweenTurns}
+use Rattle.player.specs.Lines.{turn_lines}
+use Rattle.player.specs.Player.{PlayerView, script_view}
+use Rattle.player.specs.declared.interleaving.Interleaving.{Interleaving}
+
+-- how many clients it has
+abbrev pub passes_of : Interleaving → ℕ
+passes_of core = core.script.layout.passes
+
+-- how many turns it has made
+abbrev pub steps_of : Interleaving → ℕ
+steps_of core = core.turns
+
+-- The core stands behind these lines of a run of this script, the newest in front: all that it
+-- keeps is as they have left it. It keeps none of them; a caller may.
+pub record StandsAt (core : Interleaving) (p : PlayerView) : Type 0 where
+  pub script : script_view core.script ≡ p.script
+  pub between : IsBetweenTurns core p.lines
+
+-- what is so far, with the lines of one turn more, of which the first comes first
+abbrev pub with_lines : PlayerView → List Line → PlayerView
+with_lines p more = record { script = p.script; lines = reverse more ++ p.lines }
+
+-- these lines, the first in front, are one turn of client i behind what is so far: its row, the
+-- entry of the log that it has made, and the reply that it has ended with
+pub record IsNextTurn (p : PlayerView) (i : ℕ) (more : List Line) : Type 0 where
+  pub row : Row
+  pub entry : Option Entry
+  pub reply : Option Finished
+  pub lines : more ≡ turn_lines row entry reply
+  pub turns : clients (with_lines p more).lines ≡ i ∷ clients p.lines
