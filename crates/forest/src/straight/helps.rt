@@ -218,6 +218,76 @@ fn mark_all<S: Shape, M: Machine<S>, T: Shape>(
     mark::<S, M, T>(words, layout, seat, number, run, MemberIndex::Fourth);
 }
 
+/// Reads the plan of an SCX-record and freezes its nodes, by a run that has not begun; tells whether
+/// all are frozen. Where one could not be frozen the run waits to look whether all were.
+#[inline(always)]
+pub(crate) fn begin<S: Shape, M: Machine<S>, T: Shape>(
+    words: &Words<S>,
+    layout: &Layout,
+    seat: &mut Seat<u8, SeatView>,
+    number: u64,
+    run: &mut HelpRun,
+) -> bool
+    requires table { IsSeatAt words.now layout.now seat.old }
+    requires waits { (k : Helper T.allows (calls S.Shape M.Machine layout.now number)) × LoadsPlan k seat.old.me.0.passes run.old }
+    ensures table { StaysAtTable seat.old seat.new }
+    ensures steps { seat_steps seat.new.me.0.passes ≤ seat_steps seat.old.me.0.passes + 13 }
+    ensures same { run.new.scx ≡ run.old.scx }
+    ensures left { result ≡ false → help_left run.new.at ≤ 1 }
+    ensures frozen { result ≡ true → (k : Helper T.allows (calls S.Shape M.Machine layout.now number))
+        → LoadsPlan k seat.old.me.0.passes run.old
+        → SetsFlag k seat.new.me.0.passes run.new }
+    ensures blocked { result ≡ false → (k : Helper T.allows (calls S.Shape M.Machine layout.now number))
+        → LoadsPlan k seat.old.me.0.passes run.old
+        → LoadsFlag k seat.new.me.0.passes run.new }
+{
+    let word = read::<S, M, T>(words, layout, seat, number, run.scx, ScxWord::Plan);
+    run.plan = Plan(word);
+    freeze_all::<S, M, T>(words, layout, seat, number, run)
+}
+
+/// Commits an SCX-record whose nodes are frozen: sets its flag, marks the nodes that it finalizes,
+/// and changes its field.
+#[inline(always)]
+pub(crate) fn commit<S: Shape, M: Machine<S>, T: Shape>(
+    words: &Words<S>,
+    layout: &Layout,
+    seat: &mut Seat<u8, SeatView>,
+    number: u64,
+    run: &HelpRun,
+)
+    requires table { IsSeatAt words.now layout.now seat.old }
+    requires waits { (k : Helper T.allows (calls S.Shape M.Machine layout.now number)) × SetsFlag k seat.old.me.0.passes run.now }
+    ensures table { StaysAtTable seat.old seat.new }
+    ensures steps { seat_steps seat.new.me.0.passes ≤ seat_steps seat.old.me.0.passes + 9 }
+    ensures commits { (k : Helper T.allows (calls S.Shape M.Machine layout.now number))
+        → SetsFlag k seat.old.me.0.passes run.now
+        → (v : ℕ) × InnerIsTold k seat.new.me.0.passes (record run.now { at = HelpAt.Commit }) v }
+{
+    let (scx, plan) = (run.scx, run.plan);
+    let all_frozen = Word::Scx(scx, ScxWord::AllFrozen);
+    let flag = Access::Store(1);
+    act::<S, M, T>(
+        words,
+        layout,
+        seat,
+        number,
+        Kind::SetFrozen,
+        all_frozen,
+        flag,
+    );
+    mark_all::<S, M, T>(words, layout, seat, number, run);
+    let new = read::<S, M, T>(words, layout, seat, number, scx, ScxWord::New);
+    let old = read::<S, M, T>(words, layout, seat, number, scx, ScxWord::Old);
+    let node = run.members[plan.at().index()];
+    let field = Word::Node(node, NodeWord::Child(plan.side()));
+    let change = Access::Exchange { expected: old, new };
+    act::<S, M, T>(words, layout, seat, number, Kind::Update, field, change);
+    let state = Word::Scx(scx, ScxWord::State);
+    let commit = Access::Store(COMMITTED);
+    act::<S, M, T>(words, layout, seat, number, Kind::Commit, state, commit);
+}
+
 /// HELP of an SCX-record by a run that has not begun; tells whether it has committed. Where a node
 /// could not be frozen the run waits to look whether all were.
 #[inline(always)]
@@ -241,33 +311,9 @@ pub(crate) fn call<S: Shape, M: Machine<S>, T: Shape>(
         → LoadsPlan k seat.old.me.0.passes run.old
         → LoadsFlag k seat.new.me.0.passes run.new }
 {
-    let scx = run.scx;
-    let word = read::<S, M, T>(words, layout, seat, number, scx, ScxWord::Plan);
-    let plan = Plan(word);
-    run.plan = plan;
-    if !freeze_all::<S, M, T>(words, layout, seat, number, run) {
+    if !begin::<S, M, T>(words, layout, seat, number, run) {
         return false;
     }
-    let all_frozen = Word::Scx(scx, ScxWord::AllFrozen);
-    let flag = Access::Store(1);
-    act::<S, M, T>(
-        words,
-        layout,
-        seat,
-        number,
-        Kind::SetFrozen,
-        all_frozen,
-        flag,
-    );
-    mark_all::<S, M, T>(words, layout, seat, number, run);
-    let new = read::<S, M, T>(words, layout, seat, number, scx, ScxWord::New);
-    let old = read::<S, M, T>(words, layout, seat, number, scx, ScxWord::Old);
-    let node = run.members[plan.at().index()];
-    let field = Word::Node(node, NodeWord::Child(plan.side()));
-    let change = Access::Exchange { expected: old, new };
-    act::<S, M, T>(words, layout, seat, number, Kind::Update, field, change);
-    let state = Word::Scx(scx, ScxWord::State);
-    let commit = Access::Store(COMMITTED);
-    act::<S, M, T>(words, layout, seat, number, Kind::Commit, state, commit);
+    commit::<S, M, T>(words, layout, seat, number, run);
     true
 }

@@ -188,7 +188,7 @@ fn fill_infos<S: Shape, M: Machine<S>, T: Shape, L: SnapList>(
 
 /// Fills the words of the SCX-record, from its plan on.
 #[inline(always)]
-fn fill_all<S: Shape, M: Machine<S>, T: Shape, L: SnapList>(
+pub(crate) fn fill_all<S: Shape, M: Machine<S>, T: Shape, L: SnapList>(
     words: &Words<S>,
     layout: &Layout,
     seat: &mut Seat<u8, SeatView>,

@@ -12,7 +12,7 @@ ghost use Rattle.edits.specs.declared.update.UpdateAt.{UpdateAt};
 use crate::straight::fresh_nodes::{fill_node, load};
 use crate::straight::llx::look;
 use crate::straight::scx::{self, Change};
-use crate::straight::{resume, walk};
+use crate::straight::{helps, resume, walk};
 use crate::view::SeatView;
 use crate::words::Words;
 use arena::{Layout, Machine, NodeNo, ScxNo, Shape};
@@ -185,7 +185,8 @@ fn look_at<S: Shape, M: Machine<S>, E: Edit + Copy>(
     }
 }
 
-/// Makes the SCX.
+/// Makes the SCX, part by part: the compiler puts no function in line that would grow very large, as
+/// one with all of these parts would.
 #[inline(always)]
 fn change<S: Shape, M: Machine<S>, E: Edit + Copy>(
     words: &Words<S>,
@@ -206,6 +207,7 @@ fn change<S: Shape, M: Machine<S>, E: Edit + Copy>(
     ensures steps { seat_steps seat.new.me.0.passes
         ≤ seat_steps seat.old.me.0.passes + left_then E.means run.old found.now (Ok (Next.Change scx)) (shared_nodes layout.now) }
 {
+    let layout = *layout;
     let change = Change {
         scx,
         call: run.call,
@@ -215,9 +217,10 @@ fn change<S: Shape, M: Machine<S>, E: Edit + Copy>(
     };
     let snaps = run.snaps.as_slice();
     let mut help = HelpRun::new(scx);
-    let own = &mut help;
-    if scx::call::<S, M, Tree, &[Snap]>(words, layout, seat, number, &snaps, change, own) {
+    scx::fill_all::<S, M, Tree, &[Snap]>(words, &layout, seat, number, &snaps, change);
+    if helps::begin::<S, M, Tree>(words, &layout, seat, number, &mut help) {
+        helps::commit::<S, M, Tree>(words, &layout, seat, number, &help);
         return Updated::at(found);
     }
-    resume::from_block::<S, M, E>(words, layout, seat, number, run, found, scx, &help)
+    resume::from_block::<S, M, E>(words, &layout, seat, number, run, found, scx, &help)
 }

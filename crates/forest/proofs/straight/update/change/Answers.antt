@@ -1,26 +1,50 @@
-use Rattle.std.proofs.Common.{◌≡◌, sym}
+use Rattle.std.proofs.Common.{◌∙◌, ◌≡◌, subst, sym}
+use Rattle.arena.specs.declared.number.ScxNo.{ScxNo}
+use Rattle.help.specs.declared.state.HelpAt.TheVariants.{Commit}
 use Rattle.prims.specs.declared.scx.ScxAt.TheVariants.{Help}
 use Rattle.prims.specs.declared.scx.ScxRun.{ScxRun}
 use Rattle.prims.specs.declared.update.Update.{Update}
 use Rattle.edits.specs.Next.{update_of}
 use Rattle.edits.specs.declared.update.Next.TheVariants.{Change}
+use Rattle.forest.specs.Inside.{InnerWaits}
+use Rattle.forest.specs.StraightHelp.{LoadsPlan}
+use Rattle.forest.specs.StraightScx.{all_frozen_load}
 use Rattle.forest.specs.StraightUpdate.{Updater, UpdaterIsBlocked, UpdaterTries}
+use Rattle.forest.specs.declared.straight.scx.Change.{Change as ChangeOf}
 use Rattle.forest.specs.CallKinds.{calls}
+use Rattle.forest.proofs.StraightScx.{helper, to_help, help_waits, help_told}
 use Rattle.forest.proofs.StraightUpdate.{changer, begins_change, changed, is_blocked, update_is}
 use Rattle.forest.proofs.straight.update.change.Given.{Over}
-use Rattle.forest.proofs.straight.update.change.Goals.{Else-call}
+use Rattle.forest.proofs.straight.update.change.Goals.{After-begin, After-fill_all, Else-begin}
 use Rattle.forest.proofs.straight.update.change.Goals as goal
 
-pub call-requires-clause-waits : goal.call-requires-clause-waits
-call-requires-clause-waits g c = let r = c.requires.tries in let u = r.0 in (changer u c.args.run.now c.args.found.now, begins_change u _ c.args.run.now c.args.found.now c.args.scx c.as_slice-snaps.result.now c.plan.result c.old.result c.fresh.result c.as_slice-snaps.ensures.value c.plan.ensures c.old.ensures c.fresh.ensures r.1)
+-- what its SCX is to do
+abbrev change_of : (g : Over) (c : After-fill_all g) → ChangeOf
+change_of g c = record { scx = c.args.scx; call = c.args.run.now.call; plan = c.plan.result; old = c.old.result; fresh = c.fresh.result }
 
-pub returns-then-call-clause-ends : goal.returns-then-call-clause-ends
-returns-then-call-clause-ends g c = λ u x. let t = c.call.ensures.commits c.if-call.true (changer u c.args.run.now c.args.found.now) (begins_change u _ c.args.run.now c.args.found.now c.args.scx c.as_slice-snaps.result.now c.plan.result c.old.result c.fresh.result c.as_slice-snaps.ensures.value c.plan.ensures c.old.ensures c.fresh.ensures x) in
-    rw c.at.ensures (changed u _ c.args.run.now c.args.found.now _ _ c.call.new.help t.0 g.met.E.Edit.laws.at_found t.1)
+-- whichever call tries, once all is filled its HELP waits to load the plan
+helps : (g : Over) (c : After-fill_all g) (u : Updater (calls g.S.Shape g.M.Machine c.args.layout.now c.args.number) g.E.Edit.means) → UpdaterTries u c.args.seat.now.me.0.passes c.args.run.now c.args.found.now (Change c.args.scx) → LoadsPlan (helper (changer u c.args.run.now c.args.found.now) c.as_slice-snaps.result.now (change_of g c)) c.fill_all.new.seat.me.0.passes c.new-help.result
+helps g c u x = to_help (changer u c.args.run.now c.args.found.now) c.as_slice-snaps.result.now (change_of g c) _ c.new-help.result c.fill_all.result c.new-help.ensures.scx c.new-help.ensures.start
+    (c.fill_all.ensures.told (changer u c.args.run.now c.args.found.now) (begins_change u _ c.args.run.now c.args.found.now c.args.scx c.as_slice-snaps.result.now c.plan.result c.old.result c.fresh.result c.as_slice-snaps.ensures.value c.plan.ensures c.old.ensures c.fresh.ensures x))
+
+pub fill_all-requires-clause-waits : goal.fill_all-requires-clause-waits
+fill_all-requires-clause-waits g c = let r = c.requires.tries in let u = r.0 in (changer u c.args.run.now c.args.found.now, begins_change u _ c.args.run.now c.args.found.now c.args.scx c.as_slice-snaps.result.now c.plan.result c.old.result c.fresh.result c.as_slice-snaps.ensures.value c.plan.ensures c.old.ensures c.fresh.ensures r.1)
+
+pub begin-requires-clause-waits : goal.begin-requires-clause-waits
+begin-requires-clause-waits g c = let r = c.requires.tries in let b = (goal.at.begin-requires-clause-waits g c).After-fill_all in (helper (changer r.0 c.args.run.now c.args.found.now) c.as_slice-snaps.result.now (change_of g b), helps g b r.0 r.1)
+
+pub commit-requires-clause-waits : goal.commit-requires-clause-waits
+commit-requires-clause-waits g c = let r = c.requires.tries in let b = (goal.at.commit-requires-clause-waits g c).After-fill_all in (helper (changer r.0 c.args.run.now c.args.found.now) c.as_slice-snaps.result.now (change_of g b), c.begin.ensures.frozen c.if-begin.true (helper (changer r.0 c.args.run.now c.args.found.now) c.as_slice-snaps.result.now (change_of g b)) (helps g b r.0 r.1))
+
+pub returns-then-begin-clause-ends : goal.returns-then-begin-clause-ends
+returns-then-begin-clause-ends g c = λ u x. let b = (goal.at.returns-then-begin-clause-ends g c).After-fill_all in
+    let k = changer u c.args.run.now c.args.found.now in
+    let t = c.commit.ensures.commits (helper k c.as_slice-snaps.result.now (change_of g b)) (c.begin.ensures.frozen c.if-begin.true (helper k c.as_slice-snaps.result.now (change_of g b)) (helps g b u x)) in
+    rw c.at.ensures (changed u _ c.args.run.now c.args.found.now c.as_slice-snaps.result.now (change_of g b) c.begin.new.run t.0 g.met.E.Edit.laws.at_found (help_told k c.as_slice-snaps.result.now (change_of g b) _ (record c.begin.new.run { at = Commit }) t.0 t.1))
 
 -- where a node could not be frozen it waits to look whether all were
-blocked : (g : Over) (c : Else-call g) (u : Updater (calls g.S.Shape g.M.Machine c.args.layout.now c.args.number) g.E.Edit.means) → UpdaterTries u c.args.seat.now.me.0.passes c.args.run.now c.args.found.now (Change c.args.scx) → UpdaterIsBlocked u c.call.new.seat.me.0.passes c.args.run.now c.args.found.now c.args.scx c.call.new.help
-blocked g c u x = is_blocked u _ c.args.run.now c.args.found.now c.args.scx c.call.new.help (with_update parts) same (c.call.ensures.blocked c.if-call.false (changer u c.args.run.now c.args.found.now) (begins_change u _ c.args.run.now c.args.found.now c.args.scx c.as_slice-snaps.result.now c.plan.result c.old.result c.fresh.result c.as_slice-snaps.ensures.value c.plan.ensures c.old.ensures c.fresh.ensures x))
+blocked : (g : Over) (c : Else-begin g) (u : Updater (calls g.S.Shape g.M.Machine c.args.layout.now c.args.number) g.E.Edit.means) → UpdaterTries u c.args.seat.now.me.0.passes c.args.run.now c.args.found.now (Change c.args.scx) → UpdaterIsBlocked u c.begin.new.seat.me.0.passes c.args.run.now c.args.found.now c.args.scx c.begin.new.run
+blocked g c u x = is_blocked u _ c.args.run.now c.args.found.now c.args.scx c.begin.new.run (with_update parts) same waits
   where
     parts : Update
     parts = record { snaps = c.as_slice-snaps.result.now; plan = c.plan.result; old = c.old.result; fresh = c.fresh.result }
@@ -29,13 +53,18 @@ blocked g c u x = is_blocked u _ c.args.run.now c.args.found.now c.args.scx c.ca
     is = sym (update_is (update_of g.E.Edit.means c.args.run.now c.args.found.now) parts.snaps parts.plan parts.old parts.fresh c.as_slice-snaps.ensures.value c.plan.ensures c.old.ensures c.fresh.ensures)
 
     with_update : Update → ScxRun
-    with_update up = record { scx = c.args.scx; call = c.args.run.now.call; update = up; at = Help c.call.new.help }
+    with_update up = record { scx = c.args.scx; call = c.args.run.now.call; update = up; at = Help c.begin.new.run }
 
     same : with_update parts ≡ with_update (update_of g.E.Edit.means c.args.run.now c.args.found.now)
     same i = with_update (is i)
 
+    waits : InnerWaits (changer u c.args.run.now c.args.found.now) c.begin.new.seat.me.0.passes (with_update parts) (all_frozen_load c.args.scx)
+    waits = let b = (goal.at.begin-requires-clause-waits g c.before.before).After-fill_all in
+        subst (λ (s : ScxNo). InnerWaits (changer u c.args.run.now c.args.found.now) c.begin.new.seat.me.0.passes (with_update parts) (all_frozen_load s)) (c.begin.ensures.same ∙ c.new-help.ensures.scx)
+        (help_waits (changer u c.args.run.now c.args.found.now) c.as_slice-snaps.result.now (change_of g b) _ c.begin.new.run _ (c.begin.ensures.blocked c.if-begin.false (helper (changer u c.args.run.now c.args.found.now) c.as_slice-snaps.result.now (change_of g b)) (helps g b u x)))
+
 pub from_block-requires-clause-blocked : goal.from_block-requires-clause-blocked
-from_block-requires-clause-blocked g c = let r = c.requires.tries in (r.0, blocked g (goal.at.from_block-requires-clause-blocked g c).Else-call r.0 r.1)
+from_block-requires-clause-blocked g c = let r = c.requires.tries in (r.0, blocked g (goal.at.from_block-requires-clause-blocked g c).Else-begin r.0 r.1)
 
 pub returns-clause-ends : goal.returns-clause-ends
-returns-clause-ends g c = λ u x. c.from_block.ensures.ends u (blocked g (goal.at.returns-clause-ends g c).Else-call u x)
+returns-clause-ends g c = λ u x. c.from_block.ensures.ends u (blocked g (goal.at.returns-clause-ends g c).Else-begin u x)

@@ -1,0 +1,27 @@
+use Rattle.arena.specs.declared.number.MemberIndex.TheVariants.{First}
+use Rattle.arena.specs.declared.word.ScxWord.TheVariants.{Member}
+use Rattle.help.specs.Help.Known.{settled_load}
+use Rattle.help.specs.declared.state.HelpAt.TheVariants.{Plan as AtPlan, Member as AtMember}
+use Rattle.forest.specs.StraightHelp.{Helper, LoadsPlan}
+use Rattle.forest.specs.CallKinds.{calls}
+use Rattle.forest.specs.Inside.{InnerWaits}
+use Rattle.forest.proofs.StraightHelp.{to_member}
+use Rattle.forest.proofs.straight.helps.begin.Given.{Over}
+use Rattle.forest.proofs.straight.helps.begin.Goals.{After-read-word}
+use Rattle.forest.proofs.straight.helps.begin.Goals as goal
+
+-- whichever call waited for the plan, it goes on to the first node
+at_member : (g : Over) (c : After-read-word g) (k : Helper g.T.Shape.allows (calls g.S.Shape g.M.Machine c.args.layout.now c.args.number)) → LoadsPlan k c.args.seat.now.me.0.passes c.args.run.now → InnerWaits k c.read-word.new.seat.me.0.passes (record c.args.run.now { plan = record { 0 = c.read-word.result }; at = AtMember First }) (settled_load c.args.run.now.scx.0 (Member 0))
+at_member g c k x = to_member k _ c.args.run.now c.read-word.result (c.read-word.ensures.told k (record c.args.run.now { at = AtPlan }) x)
+
+pub read-word-requires-clause-waits : goal.read-word-requires-clause-waits
+read-word-requires-clause-waits g c = let r = c.requires.waits in (r.0, record c.args.run.now { at = AtPlan }, r.1)
+
+pub freeze_all-requires-clause-waits : goal.freeze_all-requires-clause-waits
+freeze_all-requires-clause-waits g c = let r = c.requires.waits in (r.0, at_member g (goal.at.freeze_all-requires-clause-waits g c).After-read-word r.0 r.1)
+
+pub returns-clause-frozen : goal.returns-clause-frozen
+returns-clause-frozen g c = λ yes k x. c.freeze_all.ensures.frozen yes k (at_member g (goal.at.returns-clause-frozen g c).After-read-word k x)
+
+pub returns-clause-blocked : goal.returns-clause-blocked
+returns-clause-blocked g c = λ no k x. c.freeze_all.ensures.blocked no k (at_member g (goal.at.returns-clause-blocked g c).After-read-word k x)
