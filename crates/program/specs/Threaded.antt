@@ -1,19 +1,16 @@
 -- What the program prints of a run with threads, and why it refuses one.
-use Rattle.std.specs.Prelude.{◌≡◌, ◌⊎◌, ℕ, Bool, List, Option, Vec, codes, ⊤}
+use Rattle.std.specs.Prelude.{◌≡◌, ℕ, Bool, List, Option, Vec, ⊤}
 use Rattle.std.specs.Global.{Global}
 use Rattle.std.specs.Io.KnownBytes.{Appends}
 use Rattle.arena.specs.declared.limits.Mode.TheVariants.{Tree}
 use Rattle.script.specs.Grammars.{IsScriptFault, SayScript}
 use Rattle.script.specs.declared.script.Script.{Script}
 use Rattle.ordered_map.specs.declared.reply.Reply.{Reply}
+use Rattle.runner.specs.Gates.{IsGate}
 use Rattle.runner.specs.Outcomes.{IsOutcome}
 use Rattle.report.specs.Outcome.{outcome_text}
 use Rattle.program.specs.declared.fault.Fault.{Fault}
 use Rattle.program.specs.declared.fault.Fault.TheVariants.{Usage, BadGate, BadScript, BadSchedule, NotLawful, NoMemory, Read, Write}
-
--- this is the name of a gate
-abbrev pub IsGate : List ℕ → Type 0
-IsGate name = (name ≡ codes "open") ⊎ (name ≡ codes "alternate") ⊎ (name ≡ codes "hold")
 
 -- there was a run of the script with threads, and after the old bytes comes its outcome
 pub record HasRun (script : Script) (old new : Option (List ℕ)) : Type 0 where

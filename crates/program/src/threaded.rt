@@ -1,14 +1,15 @@
 //! The command that runs a script with threads.
-ghost use Rattle.std.specs.Prelude.{◌≡◌, ◌≢◌, ◌≤◌, ◌↔◌, ◌⊎◌, ℕ, List, IsTrue, IfErr, IsErrOf, OnOk, Some};
+ghost use Rattle.std.specs.Prelude.{◌≡◌, ◌≢◌, ◌≤◌, ◌↔◌, ◌⊎◌, ℕ, List, IfErr, IsErrOf, OnOk, Some};
 ghost use Rattle.arena.specs.declared.limits.Mode.TheVariants.{Tree};
 ghost use Rattle.program.specs.Status.{CanRise, status_of};
-ghost use Rattle.program.specs.Threaded.{HasPrintedRun, HasRun, IsDeservedWithThreads, IsGate};
+ghost use Rattle.runner.specs.Gates.{IsGate};
+ghost use Rattle.program.specs.Threaded.{HasPrintedRun, HasRun, IsDeservedWithThreads};
 ghost use Rattle.program.specs.declared.fault.Fault.{Fault};
 
 use crate::fault::Fault;
 use arena::Mode;
 use report::write_outcome;
-use runner::{Alternate, Gate, Hold, Open, run};
+use runner::{Alternate, Freeze, Gate, GateName, Hold, Open, run};
 use script::{Script, read_script};
 use std::alloc::Global;
 use std::io::{Read, Write};
@@ -70,21 +71,16 @@ fn run_gated<R: Threads + Wait + Sync, S: Read, O: Write>(
     ensures refused { IfErr result (λ fault. status_of fault ≡ 1 → out.new ≡ out.old) }
     ensures idle { IfErr result (λ fault. status_of fault ≡ 2 → out.new ≡ out.old) }
 {
-    if !is_gate(gate) {
+    let Some(name) = GateName::of(gate) else {
         return Err(Fault::BadGate);
-    }
+    };
     let script = read_script(alloc, Mode::Tree, script)?;
-    match gate {
-        "alternate" => run_at(rt, alloc, &script, &Alternate::new(&script), out),
-        "hold" => run_at(rt, alloc, &script, &Hold::new(&script), out),
-        _ => run_at(rt, alloc, &script, &Open::new(&script), out),
+    match name {
+        GateName::Open => run_at(rt, alloc, &script, &Open::new(&script), out),
+        GateName::Alternate => run_at(rt, alloc, &script, &Alternate::new(&script), out),
+        GateName::Hold => run_at(rt, alloc, &script, &Hold::new(&script), out),
+        GateName::Freeze => run_at(rt, alloc, &script, &Freeze::new(&script), out),
     }
-}
-
-fn is_gate(name: &str) -> bool
-    ensures { IsTrue result ↔ IsGate name.now }
-{
-    name == "open" || name == "alternate" || name == "hold"
 }
 
 /// Runs a script with this gate.

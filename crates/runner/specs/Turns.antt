@@ -1,6 +1,8 @@
 -- Which call waits for which.
 use Rattle.std.specs.Prelude.{ℕ, zero, suc, Bool, true, false, if◌then◌else◌, nat_lt, List, length, Option, Some, None}
 use Rattle.arena.specs.declared.number.PassNo.{PassNo}
+use Rattle.arena.specs.declared.step.Kind.{Kind}
+use Rattle.arena.specs.declared.step.Kind.TheVariants.{Freeze}
 use Rattle.script.specs.declared.call.Call.{Call}
 use Rattle.record.specs.Commands.{commands}
 
@@ -24,3 +26,9 @@ in_turn counts clients c j = None
 abbrev pub held_back : Bool → ℕ → ℕ → Option (PassNo × ℕ)
 held_back true zero zero = Some (record { 0 = 1 }, 0)
 held_back holds c j = None
+
+-- where the first client is held in the midst of its first call, that call waits behind a step of
+-- kind `freeze` for the first call of client 1; behind no other step a call waits
+abbrev pub held_frozen : Bool → ℕ → ℕ → Kind → Option (PassNo × ℕ)
+held_frozen holds c j Freeze = held_back holds c j
+held_frozen holds c j kind = None

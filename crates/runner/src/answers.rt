@@ -1,5 +1,5 @@
 //! How far the clients of a run are.
-ghost use Rattle.std.specs.Prelude.{◌≡◌};
+ghost use Rattle.std.specs.Prelude.{◌≡◌, ◌↔◌, ◌<◌, IsTrue};
 
 use crate::counts::CLIENTS;
 use arena::PassNo;
@@ -66,8 +66,15 @@ impl Answers {
     /// Whether this call is answered.
     fn has(&self, client: PassNo, call: u64) -> bool {
         match self.counts.get(client.0 as usize) {
-            Some(count) => call < count.load(Ordering::SeqCst),
+            Some(count) => is_answered(call, count.load(Ordering::SeqCst)),
             None => true,
         }
     }
+}
+
+/// Whether this call, counted from 0, is answered where so many calls of its client are.
+fn is_answered(call: u64, answered: u64) -> bool
+    ensures { IsTrue result ↔ call < answered }
+{
+    answered > call
 }

@@ -12,6 +12,6 @@ mod runs;
 mod thread;
 
 pub use gate::Gate;
-pub use gates::{Alternate, Hold, Open};
+pub use gates::{Alternate, Freeze, GateName, Hold, Open};
 pub use outcome::Outcome;
 pub use runs::run;
