@@ -15,7 +15,7 @@ pub(crate) const SMALL_LETTER: f64 = 5.0;
 const MARGIN: f64 = 12.0;
 
 /// A place in the picture: how far from its left edge, and from its upper one.
-#[derive(Clone, Copy, Debug)]
+#[derive(Clone, Copy)]
 pub(crate) struct Spot {
     pub(crate) x: f64,
     pub(crate) y: f64,

@@ -17,7 +17,7 @@ const WIDE: f64 = 62.0;
 const HIGH: f64 = 18.0;
 
 /// Which nodes the calls of a script name.
-#[derive(Clone, Copy, Debug)]
+#[derive(Clone, Copy)]
 pub(crate) struct CellRow {
     named: [bool; NODES],
 }

@@ -15,7 +15,7 @@ const MOST_TICKS: u64 = 600;
 
 /// Some turns that are drawn as one: a turn, or loads or fills of a call without another step
 /// between them.
-#[derive(Clone, Copy, Debug)]
+#[derive(Clone, Copy)]
 pub(crate) struct Group {
     /// The number of its first turn, and how many it has.
     pub(crate) first: u64,

@@ -2,7 +2,7 @@
 use crate::canvas::Spot;
 
 /// Where the next thing is put.
-#[derive(Clone, Copy, Debug)]
+#[derive(Clone, Copy)]
 pub(crate) struct Flow {
     at: Spot,
     left: f64,

@@ -20,7 +20,7 @@ const BOX: f64 = 22.0;
 const BELOW: f64 = 26.0;
 
 /// A client's lane: where its boxes begin and end.
-#[derive(Clone, Copy, Debug)]
+#[derive(Clone, Copy)]
 pub(crate) struct Lane {
     client: PassNo,
     top: f64,
@@ -28,7 +28,7 @@ pub(crate) struct Lane {
 }
 
 /// The label of a call.
-#[derive(Clone, Copy, Debug)]
+#[derive(Clone, Copy)]
 struct Label {
     call: usize,
     row: usize,

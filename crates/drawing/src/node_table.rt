@@ -3,7 +3,7 @@ use arena::{Head, Layout, Mode, NodeNo, NodeWord, Side, Word, opening_word};
 use std::alloc::{AllocError, Global};
 
 /// What a node holds, but for its info.
-#[derive(Clone, Copy, Debug, PartialEq, Eq)]
+#[derive(Clone, Copy)]
 pub(crate) struct ShownNode {
     pub(crate) head: u64,
     pub(crate) key: u64,

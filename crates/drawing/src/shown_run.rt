@@ -9,7 +9,7 @@ use script::Call;
 use std::alloc::{AllocError, Global};
 
 /// A turn. Its number is its place among all turns, counted from 1.
-#[derive(Clone, Copy, Debug)]
+#[derive(Clone, Copy)]
 pub(crate) struct ShownTurn {
     pub(crate) client: PassNo,
     /// Its step; none where it is idle.
@@ -23,7 +23,7 @@ pub(crate) struct ShownTurn {
 }
 
 /// An entry or a reading, in the legal order.
-#[derive(Clone, Copy, Debug)]
+#[derive(Clone, Copy)]
 pub(crate) struct ShownMoment {
     pub(crate) turn: u64,
     /// Whether it only reads.

@@ -17,7 +17,7 @@ const STEP: f64 = 26.0;
 const LEVEL: f64 = 42.0;
 
 /// A node of a tree: which one, and how far below the root.
-#[derive(Clone, Copy, Debug)]
+#[derive(Clone, Copy)]
 struct Branch {
     node: u64,
     y: f64,
