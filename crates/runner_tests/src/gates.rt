@@ -4,7 +4,7 @@ ghost use Rattle.arena.specs.declared.limits.Mode.TheVariants.{Tree};
 
 use arena::{Kind, Mode, PassNo};
 use report::write_outcome;
-use runner::{Alternate, Gate, Hold, Open, Outcome, run};
+use runner::{Alternate, Freeze, Gate, Hold, Open, Outcome, run};
 use script::{Metered, Script, read_script};
 use std::alloc::Global;
 use std::array::from_fn;
@@ -46,14 +46,21 @@ impl Meet {
     }
 
     fn wait(&self, other: &AtomicBool) {
-        for _look in 0..MOST_LOOKS {
-            if other.load(Ordering::SeqCst) {
-                return;
-            }
-            yield_now();
+        if !has_come(other) {
+            self.missed.store(true, Ordering::SeqCst);
         }
-        self.missed.store(true, Ordering::SeqCst);
     }
+}
+
+/// Waits until this is so, and tells whether it was at last.
+fn has_come(awaited: &AtomicBool) -> bool {
+    for _look in 0..MOST_LOOKS {
+        if awaited.load(Ordering::SeqCst) {
+            return true;
+        }
+        yield_now();
+    }
+    false
 }
 
 impl Gate for Meet {
@@ -171,6 +178,66 @@ fn a_gate_is_told_of_each_step(rt: HostRuntime) -> Result<(), Fail> {
     Ok(())
 }
 
+/// Client 1's first call waits until client 0 has made a step of kind `freeze`, behind which the
+/// gate of that name holds client 0 back.
+#[derive(Drop)]
+struct Frozen {
+    gate: Freeze,
+    has_frozen: AtomicBool,
+    /// How many such steps client 0 has made.
+    freezes: AtomicU64,
+    /// How many it had made as client 1's first call was answered.
+    before: AtomicU64,
+}
+
+impl Gate for Frozen {
+    fn began(&self, client: PassNo, _call: u64) {
+        if client == PassNo(1) {
+            has_come(&self.has_frozen);
+        }
+    }
+
+    fn made(&self, client: PassNo, call: u64, kind: Kind) {
+        if client == PassNo(0) && kind == Kind::Freeze {
+            self.freezes.fetch_add(1, Ordering::SeqCst);
+            self.has_frozen.store(true, Ordering::SeqCst);
+        }
+        self.gate.made(client, call, kind);
+    }
+
+    fn answered(&self, client: PassNo, call: u64) {
+        if client == PassNo(1) {
+            let freezes = self.freezes.load(Ordering::SeqCst);
+            self.before.store(freezes, Ordering::SeqCst);
+        }
+        self.gate.answered(client, call);
+    }
+
+    fn missed(&self) -> bool {
+        self.gate.missed()
+    }
+}
+
+/// It has frozen one of the two nodes of its insert; client 1, which helps it, needs no other step
+/// of it. Then it freezes the second, as it would have.
+#[test]
+fn a_frozen_client_waits_for_its_helper(rt: HostRuntime) -> Result<(), Fail> {
+    let text = "limits,2,20,20,3\n0,insert,5,50,\n1,insert,7,70,\nend,2,,,\n";
+    let script = script_of(rt.alloc(), text)?;
+    let gate = Frozen {
+        gate: Freeze::new(&script),
+        has_frozen: AtomicBool::new(false),
+        freezes: AtomicU64::new(0),
+        before: AtomicU64::new(0),
+    };
+    let outcome = run(&rt, rt.alloc(), &script, &gate);
+    assert!(rt; outcome.is_ok_and(|o| o.pairs.as_slice() == [(5, 50), (7, 70)].as_slice()));
+    assert!(rt; !gate.missed());
+    assert_eq!(rt; gate.before.load(Ordering::SeqCst), 1);
+    assert_eq!(rt; gate.freezes.load(Ordering::SeqCst), 2);
+    Ok(())
+}
+
 /// A call that waits for what does not come has waited in vain after so many looks. From then on
 /// every call goes.
 #[test]
@@ -186,6 +253,14 @@ fn what_does_not_come_is_missed(rt: HostRuntime) -> Result<(), Fail> {
     let outcome = run(&rt, rt.alloc(), &script, &alternate);
     assert!(rt; outcome.is_ok());
     assert!(rt; alternate.missed());
+    let freeze = Freeze::with_looks(&script, 3);
+    freeze.began(PassNo(0), 0);
+    freeze.made(PassNo(0), 0, Kind::Fill);
+    freeze.made(PassNo(1), 0, Kind::Freeze);
+    freeze.made(PassNo(0), 1, Kind::Freeze);
+    assert!(rt; !freeze.missed());
+    freeze.made(PassNo(0), 0, Kind::Freeze);
+    assert!(rt; freeze.missed());
     Ok(())
 }
 
@@ -199,6 +274,9 @@ fn what_is_answered_is_not_waited_for(rt: HostRuntime) -> Result<(), Fail> {
     let hold = Hold::new(&one);
     hold.began(PassNo(0), 0);
     assert!(rt; !hold.missed());
+    let freeze = Freeze::new(&one);
+    freeze.made(PassNo(0), 0, Kind::Freeze);
+    assert!(rt; !freeze.missed());
     let alternate = Alternate::new(&one);
     alternate.began(PassNo(0), 1);
     alternate.began(PassNo(1), 5);
@@ -209,6 +287,10 @@ fn what_is_answered_is_not_waited_for(rt: HostRuntime) -> Result<(), Fail> {
     hold.answered(PassNo(1), 0);
     hold.began(PassNo(0), 0);
     assert!(rt; !hold.missed());
+    let freeze = Freeze::new(&script);
+    freeze.answered(PassNo(1), 0);
+    freeze.made(PassNo(0), 0, Kind::Freeze);
+    assert!(rt; !freeze.missed());
     let alternate = Alternate::new(&script);
     alternate.began(PassNo(0), 0);
     alternate.answered(PassNo(0), 0);
