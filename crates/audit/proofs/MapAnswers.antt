@@ -12,6 +12,7 @@ use Rattle.ordered_map.specs.declared.pair.Pair.{Pair}
 use Rattle.script.specs.declared.call.Call.{Call}
 use Rattle.script.specs.declared.command.Command.{Command}
 use Rattle.ordered_map.specs.declared.reply.Reply.TheVariants.{Value, Pair as PairOf, Pairs, Contended, NoMemory}
+use Rattle.ordered_map.specs.declared.request.Request.{Request}
 use Rattle.ordered_map.specs.declared.request.Request.TheVariants.{Insert as InsertOf, Delete as DeleteOf, PopFirst as PopOf, ReplaceIf as ReplaceOf, Get as GetOf, Successor as SuccessorOf, Range as RangeOf}
 use Rattle.script.specs.declared.command.Command.TheVariants.{Map}
 use Rattle.record.specs.declared.record.Line.{Line}
@@ -43,7 +44,7 @@ use Rattle.moments.specs.declared.places.Change.{Change}
 use Rattle.moments.specs.Entries.{HadFirstWithin, HadWithin}
 use Rattle.moments.specs.Ordered.{FallFrom}
 use Rattle.moments.proofs.Lemmas.{falls, ordered_placed}
-use Rattle.audit.specs.Asked.{IsAsked, IsTooFewFor, IsTooFewToTake, IsToldBefore, IsValueAt, IsReadAt}
+use Rattle.audit.specs.Asked.{IsAsked, IsTooFewFor, IsTooFewToTake, NeededSomething, IsToldBefore, IsValueAt, IsReadAt}
 use Rattle.audit.specs.declared.client.Client.{Client}
 use Rattle.audit.proofs.TurnMoments.{IsNotIdle, had_at_key, had_first}
 use Rattle.audit.proofs.WonEntries.{won_entered}
@@ -83,18 +84,7 @@ range_right lay tries c low high most now start kept told (MapAnswer (Value v)) 
 range_right lay tries c low high most now start kept told (MapAnswer (PairOf p)) e fits = neither fits
 range_right lay tries c low high most now start kept told answer e fits = absurd (let z : None ≡ Some told = e in cc)
 
--- a refusal that fits is right, if another client was in the way
-pub contended_right : (lay : Layout) (tries c : ℕ) (now start : History) (kept : ℕ → Option History) (lines : List Line) (command : Command) (call : MapCall) (node : NodeNo) (scx : ScxNo) → map_call (Some command) ≡ Some call → IsFitting lines command (MapAnswer (Contended node scx)) → HasLostAllTries lay tries c now start node.0 scx.0 → IsRight lay tries c now start kept command (MapAnswer (Contended node scx))
-contended_right lay tries c now start kept lines (Map (InsertOf key value)) call node scx of_map fits way = way
-contended_right lay tries c now start kept lines (Map (DeleteOf key)) call node scx of_map fits way = way
-contended_right lay tries c now start kept lines (Map PopOf) call node scx of_map fits way = way
-contended_right lay tries c now start kept lines (Map (ReplaceOf key expected value)) call node scx of_map fits way = way
-contended_right lay tries c now start kept lines (Map (SuccessorOf key)) call node scx of_map fits way = way
-contended_right lay tries c now start kept lines (Map (RangeOf low high most)) call node scx of_map fits way = way
-contended_right lay tries c now start kept lines (Map (GetOf key)) call node scx of_map fits way = neither (either_fits lines (Map (GetOf key)) (MapAnswer (Contended node scx)) fits)
-contended_right lay tries c now start kept lines command call node scx of_map fits way = absurd (let z : None ≡ Some call = of_map in cc)
-
--- and one for want of memory is
+-- a refusal for want of memory that fits is right
 pub no_memory_right : (lay : Layout) (tries c : ℕ) (now start : History) (kept : ℕ → Option History) (lines : List Line) (command : Command) (call : MapCall) → map_call (Some command) ≡ Some call → IsFitting lines command (MapAnswer NoMemory) → IsRight lay tries c now start kept command (MapAnswer NoMemory)
 no_memory_right lay tries c now start kept lines (Map (SuccessorOf key)) call of_map fits = tt
 no_memory_right lay tries c now start kept lines (Map (RangeOf low high most)) call of_map fits = tt
@@ -249,6 +239,16 @@ module _ (lay : Layout) (tries : ℕ) (calls : List Call) (lines : List Line) (c
   first_within answer m never from to gives = had_first lay tries calls r.client.0 command lines r.begin m answer x.in_order x.spelled x.owed (λ _. not_idle_by lines r.client.0 command r.answer x.fits never) x.next x.begun from (subst (λ (n : ℕ). m ≤ n) x.end to) gives
 
   -- Refusals
+
+  -- one that fits is right where all tries were lost, and the call needed something
+  pub contended_right : (request : Request ℕ ℕ) (node : NodeNo) (scx : ScxNo) → command ≡ Map request → r.answer ≡ MapAnswer (Contended node scx) → HasLostAllTries lay tries r.client.0 (history lay.mode lines) (start lay.mode lines r.client.0) node.0 scx.0 → NeededSomething calls lines request r → IsRight lay tries r.client.0 (history lay.mode lines) (start lay.mode lines r.client.0) (linked calls lay.mode lines r.client.0) (Map request) (MapAnswer (Contended node scx))
+  contended_right (InsertOf key value) node scx is answers lost needed = lost
+  contended_right (DeleteOf key) node scx is answers lost needed = (needed.0, had_within (λ may. subst (λ (k : Command). MayAnswerAtOnce k r.answer) is may) key (Some needed.0) needed.1, lost)
+  contended_right PopOf node scx is answers lost needed = let had = needed.1 in (needed.0, first_within (Some needed.0) had.0 (λ may. subst (λ (k : Command). MayAnswerAtOnce k r.answer) is may) had.1 had.2 had.3, lost)
+  contended_right (ReplaceOf key expected value) node scx is answers lost needed = (had_within (λ may. subst (λ (k : Command). MayAnswerAtOnce k r.answer) is may) key (Some expected) needed, lost)
+  contended_right (SuccessorOf key) node scx is answers lost needed = lost
+  contended_right (RangeOf low high most) node scx is answers lost needed = lost
+  contended_right (GetOf key) node scx is answers lost needed = neither (either_fits lines (Map (GetOf key)) (MapAnswer (Contended node scx)) (subst (λ (k : Command). IsFitting lines k (MapAnswer (Contended node scx))) is (subst (IsFitting lines command) answers x.fits)))
 
   pub too_few_for : (MayAnswerAtOnce command r.answer → ⊥) → (key : ℕ) (value : Option ℕ) (what : Resource) (left : ℕ) → HadWithin calls lines key value r.begin r.end → (IsSome (begin lines client.pass.0) → HasTooFewToTry lay client.pass.0 (history lay.mode lines) (start lay.mode lines client.pass.0) (insert_nodes value) what left) → IsTooFewFor lay lines r key value what left
   too_few_for never key value what left had few =

@@ -8,6 +8,7 @@ use Rattle.ordered_map.specs.declared.pair.Pair.{Pair}
 use Rattle.script.specs.declared.call.Call.{Call}
 use Rattle.script.specs.declared.command.Command.{Command}
 use Rattle.ordered_map.specs.declared.reply.Reply.TheVariants.{Contended, Full, NoMemory}
+use Rattle.ordered_map.specs.declared.request.Request.{Request}
 use Rattle.ordered_map.specs.declared.request.Request.TheVariants.{Insert, Delete, PopFirst, ReplaceIf}
 use Rattle.script.specs.declared.command.Command.TheVariants.{Map}
 use Rattle.record.specs.declared.record.Line.{Line}
@@ -20,7 +21,7 @@ use Rattle.record.specs.Linked.{linked}
 use Rattle.record.specs.Replies.{IsFitting}
 use Rattle.record.specs.Turns.{history, begin, start}
 use Rattle.moments.specs.declared.places.Change.{Change}
-use Rattle.audit.specs.Asked.{IsAsked, IsTooFewFor, IsTooFewToTake}
+use Rattle.audit.specs.Asked.{IsAsked, IsTooFewFor, IsTooFewToTake, NeededSomething}
 use Rattle.audit.specs.declared.client.Client.{Client}
 use Rattle.audit.proofs.MapAnswers.{contended_right, no_memory_right}
 
@@ -44,10 +45,10 @@ module _ (lay : Layout) (tries : ℕ) (calls : List Call) (lines : List Line) (c
   begun_now : IsSome (begin lines client.pass.0)
   begun_now = subst (λ (n : ℕ). IsSome (begin lines n)) (sym x.pass) (rw x.begun refl)
 
-  pub right_contended : (node : NodeNo) (scx : ScxNo) → r.answer ≡ MapAnswer (Contended node scx) → (IsSome (begin lines client.pass.0) → HasLostAllTries lay tries client.pass.0 (history lay.mode lines) (start lay.mode lines client.pass.0) node.0 scx.0) → RightIs command r.answer
-  right_contended node scx answers lost =
+  pub right_contended : (request : Request ℕ ℕ) (node : NodeNo) (scx : ScxNo) → command ≡ Map request → r.answer ≡ MapAnswer (Contended node scx) → (IsSome (begin lines client.pass.0) → HasLostAllTries lay tries client.pass.0 (history lay.mode lines) (start lay.mode lines client.pass.0) node.0 scx.0) → NeededSomething calls lines request r → RightIs (Map request) r.answer
+  right_contended request node scx is answers lost needed =
       let own = subst (λ (n : ℕ). HasLostAllTries lay tries n (history lay.mode lines) (start lay.mode lines n) node.0 scx.0) x.pass (lost begun_now) in
-      subst (RightIs command) (sym answers) (contended_right lay tries r.client.0 (history lay.mode lines) (start lay.mode lines r.client.0) (linked calls lay.mode lines r.client.0) lines command x.of_map.0 node scx x.of_map.1 (subst (IsFitting lines command) answers x.fits) own)
+      subst (RightIs (Map request)) (sym answers) (contended_right lay tries calls lines changed client command r x request node scx is answers own needed)
 
   pub right_no_memory : r.answer ≡ MapAnswer NoMemory → RightIs command r.answer
   right_no_memory answers = subst (RightIs command) (sym answers) (no_memory_right lay tries r.client.0 (history lay.mode lines) (start lay.mode lines r.client.0) (linked calls lay.mode lines r.client.0) lines command x.of_map.0 x.of_map.1 (subst (IsFitting lines command) answers x.fits))

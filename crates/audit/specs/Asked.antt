@@ -8,6 +8,8 @@ use Rattle.ordered_map.specs.OrderedMap.{MapCall, get, reply}
 use Rattle.ordered_map.specs.Replies.{number_reply}
 use Rattle.ordered_map.specs.declared.reply.Reply.{Reply}
 use Rattle.ordered_map.specs.declared.reply.Reply.TheVariants.{Value}
+use Rattle.ordered_map.specs.declared.request.Request.{Request}
+use Rattle.ordered_map.specs.declared.request.Request.TheVariants.{Delete, PopFirst, ReplaceIf}
 use Rattle.script.specs.declared.call.Call.{Call}
 use Rattle.script.specs.declared.command.Command.{Command}
 use Rattle.record.specs.declared.record.Line.{Line}
@@ -27,7 +29,7 @@ use Rattle.record.specs.Replies.{IsFitting}
 use Rattle.record.specs.SpelledMap.{AreSpelled}
 use Rattle.record.specs.Turns.{history, turns, answered, begin, start, won, entry_owed}
 use Rattle.moments.specs.declared.places.Change.{Change}
-use Rattle.moments.specs.Entries.{AreEntries}
+use Rattle.moments.specs.Entries.{AreEntries, HadFirstWithin, HadWithin}
 use Rattle.moments.specs.Ordered.{IsOrderedRead}
 use Rattle.audit.specs.declared.client.Client.{Client}
 
@@ -59,6 +61,14 @@ IsTooFewFor lay lines r key old what left = HadAtKey lay (history lay.mode lines
 -- the same, where the map had this first pair, which a pop would take out
 abbrev pub IsTooFewToTake : Layout → List Line → Finished → Pair → Resource → ℕ → Type 0
 IsTooFewToTake lay lines r first what left = HadFirst lay (history lay.mode lines) (start lay.mode lines r.client.0) (Some first) × HasTooFewToTry lay r.client.0 (history lay.mode lines) (start lay.mode lines r.client.0) 1 what left
+
+-- after some turn of the call the map had what such a request needs: the key of a delete, a pair
+-- for a pop, the value that a replacement expects; an insert always needs something, a read nothing
+abbrev pub NeededSomething : List Call → List Line → Request ℕ ℕ → Finished → Type 0
+NeededSomething calls lines (Delete key) r = (old : ℕ) × HadWithin calls lines key (Some old) r.begin r.end
+NeededSomething calls lines PopFirst r = (first : Pair) × HadFirstWithin calls lines (Some first) r.begin r.end
+NeededSomething calls lines (ReplaceIf key expected value) r = HadWithin calls lines key (Some expected) r.begin r.end
+NeededSomething calls lines _ r = Unit {0}
 
 -- the answer tells what the map replied to the command just before the turn
 pub record IsToldBefore (calls : List Call) (lines : List Line) (command : Command) (answer : Answer) (turn : ℕ) : Type 0 where

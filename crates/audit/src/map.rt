@@ -17,7 +17,7 @@ ghost use Rattle.moments.specs.Entries.{AreEntries, HadFirstWithin, HadWithin};
 ghost use Rattle.ordered_map.specs.declared.pair.Pair.{Pair as PairOf};
 ghost use Rattle.moments.specs.Ordered.{FallFrom};
 ghost use Rattle.moments.specs.Places.{changes};
-ghost use Rattle.audit.specs.Asked.{IsAsked, IsToldAt, IsToldBefore, IsValueAt, IsReadAt, IsTooFewFor, IsTooFewToTake};
+ghost use Rattle.audit.specs.Asked.{IsAsked, IsToldAt, IsToldBefore, IsValueAt, IsReadAt, IsTooFewFor, IsTooFewToTake, NeededSomething};
 ghost use Rattle.audit.specs.Remembered.{AreRemembered};
 ghost use Rattle.audit.specs.declared.client.Client.{Client as ClientOf};
 
@@ -222,6 +222,7 @@ fn is_refused(
     match told {
         Reply::Contended { node, scx } => {
             steps.has_lost_all_tries(client.pass, tries, (*node, *scx))
+                && needed_something(places, request, reply)
         }
         Reply::Full(full) => {
             let full = (full.what, full.left);
@@ -229,6 +230,20 @@ fn is_refused(
         }
         Reply::NoMemory => true,
         _ => false,
+    }
+}
+
+/// Whether the map had what an edit needs after some turn of a call: the key of a delete, a pair for
+/// a pop, the value that a replacement expects. An insert always has something to do.
+fn needed_something(places: &Places, request: &Request<u64, u64>, reply: &Finished) -> bool
+    ensures { (calls : List CallOf) (lines : List Line) → AreEntries calls lines (changes places.now) → IsTrue result →
+        NeededSomething calls lines request.now reply.now }
+{
+    match request {
+        Request::Delete { key } => had_some(places, *key, reply),
+        Request::PopFirst => had_pair(places, reply),
+        Request::ReplaceIf { key, expected, .. } => had(places, *key, Some(*expected), reply),
+        _ => true,
     }
 }
 

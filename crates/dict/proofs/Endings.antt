@@ -4,7 +4,7 @@ use Rattle.std.proofs.Math.Nat.{mul-add, mul-le-mul_left}
 use Rattle.std.specs.Global.{Global}
 use Rattle.std.specs.Option.{option_map}
 use Rattle.arena.specs.History.{History, ◌⊳◌, value, Extends}
-use Rattle.arena.specs.Machines.{Call}
+use Rattle.arena.specs.Machines.{Call, begun_at}
 use Rattle.arena.specs.Share.{Remaining}
 use Rattle.arena.proofs.Lemmas.{ends_self, ends_trans}
 use Rattle.order.specs.Range.Known.{RangeAnswers}
@@ -27,26 +27,26 @@ use Rattle.template.specs.declared.walk.Goal.{Goal}
 use Rattle.template.specs.declared.walk.Goal.TheVariants.{Key as ToKey, Least}
 use Rattle.tree.specs.Get.Known.{GetAnswers}
 use Rattle.tree.specs.declared.get.GetRun.{GetRun}
-use Rattle.edits.specs.Known.{RestsWith, HasMade, IsDoneAt, IsUpdateAnswer, ToldFirst}
+use Rattle.edits.specs.Known.{RestsWith, HasLostEveryTry, HasMade, IsDoneAt, IsUpdateAnswer, ToldFirst}
 use Rattle.edits.specs.Pieces.{many_nodes}
 use Rattle.edits.specs.Steps.{Spends}
-use Rattle.edits.specs.Tries.{HasEnteredNone}
+use Rattle.edits.specs.Tries.{HasEnteredNone, HasOnlyLooked}
 use Rattle.edits.specs.declared.edit.Need.{Need}
 use Rattle.edits.specs.declared.edit.Need.TheVariants.{Nothing, One, Three}
 use Rattle.edits.specs.declared.update.UpdateAt.{UpdateAt}
 use Rattle.edits.specs.declared.update.UpdateRun.{UpdateRun}
 use Rattle.edits.specs.declared.update.Updated.{Updated}
 use Rattle.edits.specs.declared.update.Updated.TheVariants.{Done, Contended, Full}
-use Rattle.ordered_map.specs.CallRules.{most_nodes}
+use Rattle.ordered_map.specs.CallRules.{most_nodes, need}
 use Rattle.dict.specs.Calls.{most_tries, AsksForPairs, HasSpent, IsSmallCall}
 use Rattle.dict.specs.Goals.{goal_told, leaf_told}
 use Rattle.dict.specs.Inner.{EditKind}
 use Rattle.dict.specs.Known.{HasRested, HasSpentSo}
-use Rattle.dict.specs.Says.{WordSays, IsRefusal, HasMadeEdit, HasReadMap, HasTold, HasToldBy, TellsOfMap}
+use Rattle.dict.specs.Says.{WordSays, IsRefusal, HasLost, HasMadeEdit, HasNeeded, HasReadMap, HasTold, HasToldBy, TellsOfMap}
 use Rattle.dict.specs.Laws.Kinds.{IsEditing, IsEditKind}
 use Rattle.dict.specs.WordReplies.{goal_reply, edit_reply, successor_reply, range_reply, told_in}
 use Rattle.dict.specs.declared.told.WordReply.TheVariants as words
-use Rattle.dict.proofs.Readings.{none_entered, answer_read, reply_read, always_read, leaf_read, ran_out}
+use Rattle.dict.proofs.Readings.{none_entered, answer_read, reply_read, always_read, leaf_read, leaf_needed, ran_out}
 
 -- what needs something needs some nodes
 needs_some : (want : Need) → want ≢ Nothing → 0 < many_nodes want
@@ -94,23 +94,40 @@ module _ (tries : ℕ) (c : Call) (h : History) where
     goal = k.means.goal m.edit
 
     -- the leaf that it has found tells what the map replied
-    edit_read : (f : Found) → HasFoundGoal goal c h f → HasEnteredNone c.layout c.pass h c.start → HasReadMap c h call (leaf_told goal f)
-    edit_read f found none = leaf_read c h call goal f (is.walks m.edit) (is.small m.edit small) run found none
+    edit_read : (f : Found) → HasFoundGoal goal c h f → HasEnteredNone c.layout c.pass h c.start → HasOnlyLooked c.pass h c.start → HasReadMap c h call (leaf_told goal f)
+    edit_read f found none only_looked = leaf_read c h call goal f (is.walks m.edit) (is.small m.edit small) run found none only_looked
 
     -- an edit that is done has changed the map, or has read it
     edit_done : (f : Found) → m.call ≡ c.number → IsDoneAt k.means m.edit m.call c h f → HasTold c h call (leaf_told goal f)
-    edit_done f number (inl x) = subst (λ made. HasToldBy made c h call (leaf_told goal f)) (sym (is.reads m.edit f x.needless)) (edit_read f x.has_found x.none)
+    edit_done f number (inl x) = subst (λ made. HasToldBy made c h call (leaf_told goal f)) (sym (is.reads m.edit f x.needless)) (edit_read f x.has_found x.none x.only_looked)
     edit_done f number (inr x) =
         let edit : MapEdit = k.means.edit m.edit f in
         let made : (made : HasMade edit c h c.number f.value) × ToldFirst goal c.layout made.before f = subst (λ n. (made : HasMade edit c h n f.value) × ToldFirst goal c.layout made.before f) number (x.0, x.2) in
         subst (λ made. HasToldBy made c h call (leaf_told goal f)) (sym (is.changes m.edit f x.1.needed)) (made_edit call goal edit f (is.walks m.edit) (is.at_found m.edit f) run made.0 made.1)
 
+    -- what it needs at a leaf that it has found, the map needs at a moment of the call
+    edit_needed : (then : Call) (moment : History) → IsTreeRun then.layout moment → (f : Found) → HasFoundGoal goal then moment f → k.means.needs m.edit f ≢ Nothing → (x : HasNeeded then.layout then.pass moment then.start call) × (many_nodes (k.means.needs m.edit f) ≡ need call x.map)
+    edit_needed then moment so f found needed = leaf_needed then moment call goal f (k.means.needs m.edit f) (is.walks m.edit) (is.small m.edit small) so found (λ map e. is.needs m.edit f map e) (needs_some (k.means.needs m.edit f) needed)
+
+    -- one that has lost all its tries had something to do in the newest
+    edit_lost : (n s : ℕ) → m.limit ≡ tries → HasLostEveryTry k.means m.edit c h m.limit n s → HasLost c h call tries n s
+    edit_lost n s limit x = subst (λ t. HasLost c h call t n s) limit record { way = x.way; all = x.all; needed = λ some. needed; none = x.none }
+      where
+        begin : History
+        begin = x.all.lost.begin
+
+        moment : History
+        moment = x.needed.moment
+
+        needed : HasNeeded c.layout c.pass h begin call
+        needed = let y = (edit_needed (begun_at c begin) moment (run_since c.layout h moment run x.needed.within) x.found x.needed.has_found x.needed.needed).0 in record { moment = y.moment; within = ends_trans h moment y.moment x.needed.within y.within; since = y.since; own = y.own; map = y.map; spelled = y.spelled; some = y.some }
+
     pub edit_says : (a : Updated) → m.call ≡ c.number → m.limit ≡ tries → IsUpdateAnswer k.means m c h a → WordSays c h call m.share tries (edit_reply goal a)
     edit_says (Done key old) number limit x = (done_says goal call x.found key old x.is_key x.is_value (edit_done x.found number x.is_done), done_refuses goal call m.share key old)
-    edit_says (Contended node scx) number limit x = (tt, record { way = x.0; all = lost limit x.3; none = x.2 })
+    edit_says (Contended node scx) number limit x = (tt, edit_lost node.0 scx.0 limit x.1)
     edit_says (Full full) number limit x = (
       tt,
-      ran_out c h call (leaf_told goal x.found) (k.means.needs m.edit x.found) m.share full (is.edits m.edit).asks (edit_read x.found x.has_found x.none) (λ map e. is.needs m.edit x.found map e) (needs_some (k.means.needs m.edit x.found) x.needed) x.short x.first,
+      ran_out c h call (k.means.needs m.edit x.found) m.share full (edit_needed c h run x.found x.has_found x.needed) x.short x.first x.none x.only_looked,
     )
 
   -- a get has read what it tells
@@ -119,17 +136,17 @@ module _ (tries : ℕ) (c : Call) (h : History) where
 
   -- so has a successor
   pub successor_says : (m : SuccessorRun) (share : Remaining) (a : Result (Option Pair) Refused) → HasRested c h share → m.limit ≡ tries → SuccessorAnswers m c h a → WordSays c h (SuccessorOf m.key) share tries (successor_reply a)
-  successor_says m share (Ok found) x limit y = (reply_read c h (SuccessorOf m.key) (pair_or_none found) y.1 (none_entered c h share x), tt)
-  successor_says m share (Err (refused.Contended node scx)) x limit y = (tt, record { way = y.1.0; all = lost limit y.1.2; none = none_entered c h share x })
+  successor_says m share (Ok found) x limit y = (reply_read c h (SuccessorOf m.key) (pair_or_none found) refl y.1 (none_entered c h share x), tt)
+  successor_says m share (Err (refused.Contended node scx)) x limit y = (tt, record { way = y.1.0; all = lost limit y.1.2; needed = λ some. absurd (omega (arith, some)); none = none_entered c h share x })
   successor_says m share (Err refused.NoMemory) x limit y = (tt, (tt, none_entered c h share x))
 
   -- and a range, or it tells what every map replies
   pub range_says : (m : RangeRun) (share : Remaining) (a : Result (Vec Pair Global) Refused) → HasRested c h share → m.limit ≡ tries → RangeAnswers m c h a → WordSays c h (RangeOf m.low m.high m.most) share tries (range_reply a)
-  range_says m share (Ok found) x limit y = (⊎_elim (λ z. reply_read c h (RangeOf m.low m.high m.most) (ManyPairs found.items) z none) (λ z. always_read c h (RangeOf m.low m.high m.most) (ManyPairs found.items) x.run x.since (takes_none m.low m.high m.most z.0) (λ map. ap ManyPairs (z.1 map)) none) y.1, tt)
+  range_says m share (Ok found) x limit y = (⊎_elim (λ z. reply_read c h (RangeOf m.low m.high m.most) (ManyPairs found.items) refl z none) (λ z. always_read c h (RangeOf m.low m.high m.most) (ManyPairs found.items) refl x.run x.since (takes_none m.low m.high m.most z.0) (λ map. ap ManyPairs (z.1 map)) none) y.1, tt)
     where
       none : HasEnteredNone c.layout c.pass h c.start
       none = none_entered c h share x
-  range_says m share (Err (refused.Contended node scx)) x limit y = (tt, record { way = y.1.0; all = lost limit y.1.2; none = none_entered c h share x })
+  range_says m share (Err (refused.Contended node scx)) x limit y = (tt, record { way = y.1.0; all = lost limit y.1.2; needed = λ some. absurd (omega (arith, some)); none = none_entered c h share x })
   range_says m share (Err refused.NoMemory) x limit y = (tt, (tt, none_entered c h share x))
 
 -- What is gone of the share

@@ -1,6 +1,6 @@
 -- What a reply of the map comes from: the moment of a read, the leaf that an edit has found, the
 -- edit that it has made.
-use Rattle.std.proofs.Common.{◌≡◌, ℕ, ◌^◌, ◌<◌, List, Option, sym, ◌∙◌, ap, subst}
+use Rattle.std.proofs.Common.{◌≡◌, ℕ, ◌^◌, ◌<◌, List, Option, sym, ◌∙◌, ap, subst, arith}
 use Rattle.arena.specs.declared.fault.Full.{Full as FullOf}
 use Rattle.arena.specs.declared.fault.Resource.{Resource}
 use Rattle.arena.specs.declared.fault.Resource.TheVariants.{Nodes, Scx as ScxRecords}
@@ -23,14 +23,14 @@ use Rattle.template.proofs.Lemmas.{own_since}
 use Rattle.edits.specs.Known.{IsShort, IsUntouched}
 use Rattle.edits.specs.Laws.Entered.{none_quiet}
 use Rattle.edits.specs.Pieces.{many_nodes}
-use Rattle.edits.specs.Tries.{HasEnteredNone}
+use Rattle.edits.specs.Tries.{HasEnteredNone, HasOnlyLooked}
 use Rattle.edits.specs.declared.edit.Need.{Need}
-use Rattle.ordered_map.specs.CallRules.{need}
+use Rattle.ordered_map.specs.CallRules.{most_nodes, need}
 use Rattle.dict.specs.Calls.{AsksForPairs}
 use Rattle.dict.specs.Goals.{goal_told, leaf_told}
 use Rattle.dict.specs.Known.{HasRested}
 use Rattle.dict.specs.Laws.Found.{found_tells}
-use Rattle.dict.specs.Says.{HasMadeRow, HasReadMap, HasTooLittle, HasRunOut}
+use Rattle.dict.specs.Says.{HasMadeRow, HasNeeded, HasReadMap, HasTooLittle, HasRunOut}
 
 module _ (c : Call) (h : History) where
   -- a pass at rest has entered nothing
@@ -52,11 +52,12 @@ module _ (c : Call) (h : History) where
     spelled = x.spelled;
     gives = ap OneValue x.gives;
     none = none;
+    only_looked = λ some. absurd (omega (arith, some));
   }
 
   -- so was what an ordered read has replied
-  pub reply_read : (call : MapCall) (told : MapReply) → IsReplyAt c h call told → HasEnteredNone c.layout c.pass h c.start → HasReadMap c h call told
-  reply_read call told x none = record {
+  pub reply_read : (call : MapCall) (told : MapReply) → most_nodes call ≡ 0 → IsReplyAt c h call told → HasEnteredNone c.layout c.pass h c.start → HasReadMap c h call told
+  reply_read call told reads x none = record {
     moment = x.moment;
     within = x.within;
     since = own_since c x.moment x.own;
@@ -65,17 +66,18 @@ module _ (c : Call) (h : History) where
     spelled = x.spelled;
     gives = x.gives;
     none = none;
+    only_looked = λ some. absurd (omega (arith, some, reads));
   }
 
   -- and what every map replies, of a range that takes no pair
-  pub always_read : (call : MapCall) (told : MapReply) → IsTreeRun c.layout h → Extends h c.start → ¬ AsksForPairs call → ((map : List Pair) → reply call map ≡ told) → HasEnteredNone c.layout c.pass h c.start → HasReadMap c h call told
-  always_read call told run since asks_not gives none =
+  pub always_read : (call : MapCall) (told : MapReply) → most_nodes call ≡ 0 → IsTreeRun c.layout h → Extends h c.start → ¬ AsksForPairs call → ((map : List Pair) → reply call map ≡ told) → HasEnteredNone c.layout c.pass h c.start → HasReadMap c h call told
+  always_read call told reads run since asks_not gives none =
       let map : (ps : List Pair) × Spells c.layout (value h) ps = run_spells c.layout h run in
-      record { moment = h; within = ends_self h; since = since; own = λ asks. absurd (asks_not asks); map = map.0; spelled = map.1; gives = gives map.0; none = none }
+      record { moment = h; within = ends_self h; since = since; own = λ asks. absurd (asks_not asks); map = map.0; spelled = map.1; gives = gives map.0; none = none; only_looked = λ some. absurd (omega (arith, some, reads)) }
 
   -- the leaf that was found tells what the map replied at a moment of the call
-  pub leaf_read : (call : MapCall) (goal : Goal) (f : Found) → ((map : List Pair) → reply call map ≡ goal_told goal map) → path_key goal < 2 ^ 64 → IsTreeRun c.layout h → HasFoundGoal goal c h f → HasEnteredNone c.layout c.pass h c.start → HasReadMap c h call (leaf_told goal f)
-  leaf_read call goal f walks small run found none =
+  pub leaf_read : (call : MapCall) (goal : Goal) (f : Found) → ((map : List Pair) → reply call map ≡ goal_told goal map) → path_key goal < 2 ^ 64 → IsTreeRun c.layout h → HasFoundGoal goal c h f → HasEnteredNone c.layout c.pass h c.start → HasOnlyLooked c.pass h c.start → HasReadMap c h call (leaf_told goal f)
+  leaf_read call goal f walks small run found none only_looked =
       let first = found.trail.node.first in
       let own = found.trail.node.own in
       let x = found_tells goal c h f small run found in
@@ -88,6 +90,7 @@ module _ (c : Call) (h : History) where
         spelled = x.spelled;
         gives = walks x.map ∙ x.gives;
         none = none;
+        only_looked = λ some. only_looked;
       }
 
   -- a share that is too small for the need is too small for as many nodes
@@ -95,20 +98,25 @@ module _ (c : Call) (h : History) where
   short_of want many left Nodes k e x = rw (sym e) x
   short_of want many left ScxRecords k e x = rw (sym e) x
 
-  -- so the share has run out for the edit that needs it, where the leaf that was found tells its
-  -- need
-  pub ran_out : (call : MapCall) (told : MapReply) (want : Need) (share : Remaining) (full : FullOf) → AsksForPairs call → HasReadMap c h call told → ((map : List Pair) → reply call map ≡ told → many_nodes want ≡ need call map) → 0 < many_nodes want → IsShort want share full.what full.left → IsUntouched c h share → HasRunOut c h call share full
-  ran_out call told want share full asks x needs some short first =
-      let e : many_nodes want ≡ need call x.map = needs x.map x.gives in
-      record {
-        moment = x.moment;
-        within = x.within;
-        since = x.since;
-        own = x.own asks;
-        map = x.map;
-        spelled = x.spelled;
-        some = rw (sym e) some;
-        short = short_of want (need call x.map) share full.what full.left e short;
-        first = first;
-        none = x.none;
-      }
+  -- the leaf that was found tells what an edit needed at a moment of the call, if it needed something
+  pub leaf_needed : (call : MapCall) (goal : Goal) (f : Found) (want : Need) → ((map : List Pair) → reply call map ≡ goal_told goal map) → path_key goal < 2 ^ 64 → IsTreeRun c.layout h → HasFoundGoal goal c h f → ((map : List Pair) → reply call map ≡ leaf_told goal f → many_nodes want ≡ need call map) → 0 < many_nodes want → (x : HasNeeded c.layout c.pass h c.start call) × (many_nodes want ≡ need call x.map)
+  leaf_needed call goal f want walks small run found needs some =
+      let first = found.trail.node.first in
+      let own = found.trail.node.own in
+      let x = found_tells goal c h f small run found in
+      let e : many_nodes want ≡ need call x.map = needs x.map (walks x.map ∙ x.gives) in (
+        record {
+          moment = x.moment;
+          within = x.within;
+          since = ends_trans x.moment first c.start x.since (own_since c first own);
+          own = behind_own x.moment first own x.since;
+          map = x.map;
+          spelled = x.spelled;
+          some = rw (sym e) some;
+        },
+        e,
+      )
+
+  -- so the share has run out for an edit that needs it
+  pub ran_out : (call : MapCall) (want : Need) (share : Remaining) (full : FullOf) → (x : HasNeeded c.layout c.pass h c.start call) × (many_nodes want ≡ need call x.map) → IsShort want share full.what full.left → IsUntouched c h share → HasEnteredNone c.layout c.pass h c.start → HasOnlyLooked c.pass h c.start → HasRunOut c h call share full
+  ran_out call want share full x short first none only_looked = record { needed = x.0; short = short_of want (need call x.0.map) share full.what full.left x.1 short; first = first; none = none; only_looked = only_looked }

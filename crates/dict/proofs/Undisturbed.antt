@@ -57,8 +57,9 @@ module _ (makes : Makes) (keeps : Keeps) (c : Call) (h : History) (map : List Pa
   -- what is refused for want of its share had all of it as it began, and too little for that map
   pub full_alone : ((n t : ℕ) → ¬ IsContended c h n t) → (call : MapCall) (share : Remaining) (full : FullOf) → HasRunOut c h call share full → RestsWith c c.start share × (0 < need call map) × HasTooLittle (need call map) share full.what full.left
   full_alone never call share full x =
-      let same : x.map ≡ map = one_spelling c.layout (value x.moment) x.map map x.spelled (keeps_at x.moment x.within x.since x.none) in
-      let some : 0 < need call map = subst (λ m. 0 < need call m) same x.some in
+      let then = x.needed in
+      let same : then.map ≡ map = one_spelling c.layout (value then.moment) then.map map then.spelled (keeps_at then.moment then.within then.since x.none) in
+      let some : 0 < need call map = subst (λ m. 0 < need call m) same then.some in
       let short : HasTooLittle (need call map) share full.what full.left = subst (λ m. HasTooLittle (need call m) share full.what full.left) same x.short in
       (untouched c h share never x.first, some, short)
 

@@ -30,7 +30,7 @@ DictWaits keys values m c h s = IsTypedCall keys values (call_in m.run) × MapWa
 -- why a reply tells nothing of the map, where the call has this share left, and so many tries in
 -- all
 abbrev pub DictRefuses : {K V : Type 0} → Call → History → MapCall → Remaining → ℕ → Reply K V → Type 0
-DictRefuses c h call share tries (Contended node scx) = HasLost c h tries node.0 scx.0
+DictRefuses c h call share tries (Contended node scx) = HasLost c h call tries node.0 scx.0
 DictRefuses c h call share tries (Full full) = HasRunOut c h call share full
 DictRefuses c h call share tries NoMemory = KeepsLists call × HasEnteredNone c.layout c.pass h c.start
 DictRefuses c h call share tries _ = Unit {0}

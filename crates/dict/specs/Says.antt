@@ -3,6 +3,7 @@ use Rattle.std.specs.Prelude.{◌≡◌, ℕ, ◌<◌, ◌≤◌, List, Option, 
 use Rattle.arena.specs.declared.fault.Full.{Full as FullOf}
 use Rattle.arena.specs.declared.fault.Resource.{Resource}
 use Rattle.arena.specs.declared.fault.Resource.TheVariants.{Nodes, Scx as ScxRecords}
+use Rattle.arena.specs.declared.layout.Layout.{Layout}
 use Rattle.arena.specs.declared.step.Row.{Row}
 use Rattle.arena.specs.History.{History, ◌⊳◌, value, Extends}
 use Rattle.arena.specs.Machines.{Call}
@@ -12,8 +13,8 @@ use Rattle.ordered_map.specs.Spelled.{Spells}
 use Rattle.ordered_map.specs.declared.pair.Pair.{Pair}
 use Rattle.template.specs.Blame.{IsContended, HasLostTriesTo}
 use Rattle.edits.specs.Known.{HasMade, IsUntouched}
-use Rattle.edits.specs.Tries.{HasEnteredNone}
-use Rattle.ordered_map.specs.CallRules.{need}
+use Rattle.edits.specs.Tries.{HasEnteredNone, HasOnlyLooked}
+use Rattle.ordered_map.specs.CallRules.{most_nodes, need}
 use Rattle.dict.specs.Calls.{AsksForPairs}
 use Rattle.dict.specs.declared.told.WordReply.{WordReply}
 use Rattle.dict.specs.declared.told.WordReply.TheVariants as words
@@ -38,7 +39,7 @@ pub record HasMadeRow (pass : ℕ) (start moment : History) : Type 0 where
 
 -- A reading: at a moment of the call the words spell a map that replies this, and the pass has
 -- entered nothing since the call began. The moment is not before the call's first own row; a range
--- that takes no pair needs none.
+-- that takes no pair needs none. A call that may take nodes has only looked in its newest try.
 pub record HasReadMap (c : Call) (h : History) (call : MapCall) (told : MapReply) : Type 0 where
   pub moment : History
   pub within : Extends h moment
@@ -48,6 +49,7 @@ pub record HasReadMap (c : Call) (h : History) (call : MapCall) (told : MapReply
   pub spelled : Spells c.layout (value moment) map
   pub gives : reply call map ≡ told
   pub none : HasEnteredNone c.layout c.pass h c.start
+  pub only_looked : 0 < most_nodes call → HasOnlyLooked c.pass h c.start
 
 -- what is told is told of a change by this edit, or of a reading
 abbrev pub HasToldBy : Option MapEdit → Call → History → MapCall → MapReply → Type 0
@@ -58,12 +60,24 @@ HasToldBy None c h call told = HasReadMap c h call told
 abbrev pub HasTold : Call → History → MapCall → MapReply → Type 0
 HasTold c h call told = HasToldBy (edit_of call told) c h call told
 
+-- The call had something to do since the moment `begin`: the map of some moment, from its pass's
+-- first own row since then on, needs some nodes of it.
+pub record HasNeeded (lay : Layout) (pass : ℕ) (now begin : History) (call : MapCall) : Type 0 where
+  pub moment : History
+  pub within : Extends now moment
+  pub since : Extends moment begin
+  pub own : HasMadeRow pass begin moment
+  pub map : List Pair
+  pub spelled : Spells lay (value moment) map
+  pub some : 0 < need call map
+
 -- All tries of the call, so many, were lost: in the last this SCX-record was in the way over this
--- node, and the call has itself found it in the node's info. The pass has entered nothing since the
--- call began.
-pub record HasLost (c : Call) (h : History) (tries n s : ℕ) : Type 0 where
+-- node, and the call has itself found it in the node's info. A call that may take nodes had
+-- something to do in that try. The pass has entered nothing since the call began.
+pub record HasLost (c : Call) (h : History) (call : MapCall) (tries n s : ℕ) : Type 0 where
   pub way : IsContended c h n s
   pub all : HasLostTriesTo c.pass h c.start tries n s
+  pub needed : 0 < most_nodes call → HasNeeded c.layout c.pass h all.lost.begin call
   pub none : HasEnteredNone c.layout c.pass h c.start
 
 -- the share has fewer nodes than these; or enough of them, and no SCX-record. So many are left
@@ -71,21 +85,16 @@ abbrev pub HasTooLittle : ℕ → Remaining → Resource → ℕ → Type 0
 HasTooLittle many left Nodes k = (left.nodes < many) × (k ≡ left.nodes)
 HasTooLittle many left ScxRecords k = (many ≤ left.nodes) × (left.scx ≡ 0) × (k ≡ 0)
 
--- The share has too little left for the next try: the map of a moment of the call, from its first
--- own row on, needs some nodes, of which there are not enough, or no SCX-record is left. Nothing of
--- it was taken since the call began,
--- or a try was lost to another pass. The pass has entered nothing.
+-- The share has too little left for the next try of the call, which had something to do: there are
+-- not enough nodes for what it needed, or no SCX-record is left. Nothing of it was taken since the
+-- call began, or a try was lost to another pass. The pass has entered nothing, and has only looked
+-- in its newest try.
 pub record HasRunOut (c : Call) (h : History) (call : MapCall) (share : Remaining) (full : FullOf) : Type 0 where
-  pub moment : History
-  pub within : Extends h moment
-  pub since : Extends moment c.start
-  pub own : HasMadeRow c.pass c.start moment
-  pub map : List Pair
-  pub spelled : Spells c.layout (value moment) map
-  pub some : 0 < need call map
-  pub short : HasTooLittle (need call map) share full.what full.left
+  pub needed : HasNeeded c.layout c.pass h c.start call
+  pub short : HasTooLittle (need call needed.map) share full.what full.left
   pub first : IsUntouched c h share
   pub none : HasEnteredNone c.layout c.pass h c.start
+  pub only_looked : HasOnlyLooked c.pass h c.start
 
 -- the call keeps lists, which grow
 abbrev pub KeepsLists : MapCall → Type 0
@@ -100,7 +109,7 @@ TellsOfMap c h call (Some told) = HasTold c h call told
 
 -- why there is none, where the call has this share left, and so many tries in all
 abbrev pub IsRefusal : Call → History → MapCall → Remaining → ℕ → WordReply → Type 0
-IsRefusal c h call share tries (words.Contended node scx) = HasLost c h tries node.0 scx.0
+IsRefusal c h call share tries (words.Contended node scx) = HasLost c h call tries node.0 scx.0
 IsRefusal c h call share tries (words.Full full) = HasRunOut c h call share full
 IsRefusal c h call share tries words.NoMemory = KeepsLists call × HasEnteredNone c.layout c.pass h c.start
 IsRefusal c h call share tries _ = Unit {0}

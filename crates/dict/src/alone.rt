@@ -28,8 +28,8 @@ pub fn alone_holds()
     ensures full { (c : Call) (h : History) (call : MapCall) (share : Remaining) (full : Full) (map : List Pair) → IsTreeRun c.layout h
         → IsUndisturbed c h → Spells c.layout (value c.start) map → HasRunOut c h call share full
         → RestsWith c c.start share × (0 < need call map) × HasTooLittle (need call map) share full.what full.left }
-    ensures undisturbed { (c : Call) (h : History) (tries n s : ℕ) → IsTreeRun c.layout h → IsUndisturbed c h → ¬ HasLost c h tries n s }
-    ensures one_pass { (c : Call) (h : History) (tries n s : ℕ) → c.layout.passes ≡ 1 → ¬ HasLost c h tries n s }
+    ensures undisturbed { (c : Call) (h : History) (call : MapCall) (tries n s : ℕ) → IsTreeRun c.layout h → IsUndisturbed c h → ¬ HasLost c h call tries n s }
+    ensures one_pass { (c : Call) (h : History) (call : MapCall) (tries n s : ℕ) → c.layout.passes ≡ 1 → ¬ HasLost c h call tries n s }
     ensures one_pass_full { (c : Call) (h : History) (call : MapCall) (share : Remaining) (full : Full) → c.layout.passes ≡ 1
         → HasRunOut c h call share full → RestsWith c c.start share }
 {

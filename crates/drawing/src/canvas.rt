@@ -1,5 +1,7 @@
 //! The text of a picture, element by element. All that is drawn is made from numbers and names of
 //! this program, so no text has a sign that XML reads otherwise.
+use crate::parts::Part::{Length, Rounded, Text};
+use crate::parts::{Part, add, joined};
 use crate::style::{SIGNS, STYLE};
 use std::alloc::{AllocError, Global};
 use std::num::nearest_usize_to_f64;
@@ -43,29 +45,43 @@ impl Canvas {
         self.bottom = self.bottom.max(bottom);
     }
 
+    /// Puts some parts behind what is drawn.
+    fn add(&mut self, parts: &[Part]) -> Result<(), AllocError> {
+        add(&mut self.text, parts)
+    }
+
+    /// Begins an element that stands at a spot, up to its class.
+    fn open(&mut self, element: &str, at: Spot) -> Result<(), AllocError> {
+        self.add(&[Text("<"), Text(element), Text(" x=\""), Length(at.x)])?;
+        self.add(&[Text("\" y=\""), Length(at.y), Text("\" class=\"")])
+    }
+
     /// Words that begin at a spot.
-    pub(crate) fn words(&mut self, at: Spot, class: &str, words: &str) -> Result<(), AllocError> {
-        let Spot { x, y } = at;
-        self.reach(x + width_of(words), y);
-        writeln!(
-            self.text,
-            "<text x=\"{x:.1}\" y=\"{y:.1}\" class=\"{class}\">{words}</text>",
-        )
+    pub(crate) fn words<'a>(
+        &mut self,
+        at: Spot,
+        class: &'a str,
+        words: &'a str,
+    ) -> Result<(), AllocError> {
+        self.reach(at.x + width_of(words), at.y);
+        self.open("text", at)?;
+        self.add(&[Text(class), Text("\">"), Text(words), Text("</text>\n")])
     }
 
     /// Words around a spot.
     pub(crate) fn middle_words(
         &mut self,
         at: Spot,
-        class: &str,
-        words: &str,
+        class: &[Part],
+        words: &[Part],
     ) -> Result<(), AllocError> {
-        let Spot { x, y } = at;
-        self.reach(x, y);
-        writeln!(
-            self.text,
-            "<text x=\"{x:.1}\" y=\"{y:.1}\" class=\"middle {class}\">{words}</text>",
-        )
+        self.reach(at.x, at.y);
+        self.open("text", at)?;
+        self.add(&[Text("middle ")])?;
+        self.add(class)?;
+        self.add(&[Text("\">")])?;
+        self.add(words)?;
+        self.add(&[Text("</text>\n")])
     }
 
     /// A box with its left upper corner there, which tells this where one points at it.
@@ -73,36 +89,58 @@ impl Canvas {
         &mut self,
         corner: Spot,
         size: Spot,
-        class: &str,
-        told: &str,
+        class: &[Part],
+        told: &[Part],
     ) -> Result<(), AllocError> {
-        let Spot { x, y } = corner;
         let Spot { x: wide, y: high } = size;
-        self.reach(x + wide, y + high);
-        write!(
-            self.text,
-            "<rect x=\"{x:.1}\" y=\"{y:.1}\" width=\"{wide:.1}\" height=\"{high:.1}\" rx=\"4\" ",
-        )?;
-        writeln!(self.text, "class=\"{class}\"><title>{told}</title></rect>")
+        self.reach(corner.x + wide, corner.y + high);
+        self.add(&[
+            Text("<rect x=\""),
+            Length(corner.x),
+            Text("\" y=\""),
+            Length(corner.y),
+        ])?;
+        self.add(&[
+            Text("\" width=\""),
+            Length(wide),
+            Text("\" height=\""),
+            Length(high),
+        ])?;
+        self.add(&[Text("\" rx=\"4\" class=\"")])?;
+        self.add(class)?;
+        self.add(&[Text("\"><title>")])?;
+        self.add(told)?;
+        self.add(&[Text("</title></rect>\n")])
     }
 
     /// A band over the whole width.
     pub(crate) fn band(&mut self, top: f64, high: f64) -> Result<(), AllocError> {
         self.reach(0.0, top + high);
-        writeln!(
-            self.text,
-            "<rect y=\"{top:.1}\" width=\"100%\" height=\"{high:.1}\" class=\"lane\"/>",
-        )
+        self.add(&[
+            Text("<rect y=\""),
+            Length(top),
+            Text("\" width=\"100%\" height=\""),
+        ])?;
+        self.add(&[Length(high), Text("\" class=\"lane\"/>\n")])
     }
 
     /// A line between two spots.
-    pub(crate) fn line(&mut self, from: Spot, to: Spot, class: &str) -> Result<(), AllocError> {
-        let Spot { x, y } = from;
-        let Spot { x: x2, y: y2 } = to;
-        writeln!(
-            self.text,
-            "<path d=\"M{x:.1} {y:.1}L{x2:.1} {y2:.1}\" class=\"{class}\"/>",
-        )
+    pub(crate) fn line(&mut self, from: Spot, to: Spot, class: &[Part]) -> Result<(), AllocError> {
+        self.add(&[
+            Text("<path d=\"M"),
+            Length(from.x),
+            Text(" "),
+            Length(from.y),
+        ])?;
+        self.add(&[
+            Text("L"),
+            Length(to.x),
+            Text(" "),
+            Length(to.y),
+            Text("\" class=\""),
+        ])?;
+        self.add(class)?;
+        self.add(&[Text("\"/>\n")])
     }
 
     /// A sign around a spot, which tells this where one points at it.
@@ -110,38 +148,51 @@ impl Canvas {
         &mut self,
         name: &str,
         at: Spot,
-        class: &str,
-        told: &str,
+        class: &[Part],
+        told: &[Part],
     ) -> Result<(), AllocError> {
-        let Spot { x, y } = at;
-        self.reach(x, y);
-        write!(
-            self.text,
-            "<use href=\"#{name}\" x=\"{x:.1}\" y=\"{y:.1}\" class=\"{class}\">",
-        )?;
-        writeln!(self.text, "<title>{told}</title></use>")
+        self.reach(at.x, at.y);
+        self.use_of(name, at, class)?;
+        self.add(&[Text("\"><title>")])?;
+        self.add(told)?;
+        self.add(&[Text("</title></use>\n")])
     }
 
     /// A sign around a spot that tells nothing.
     pub(crate) fn mark(&mut self, name: &str, at: Spot, class: &str) -> Result<(), AllocError> {
-        let Spot { x, y } = at;
-        writeln!(
-            self.text,
-            "<use href=\"#{name}\" x=\"{x:.1}\" y=\"{y:.1}\" class=\"{class}\"/>"
-        )
+        self.use_of(name, at, &[Text(class)])?;
+        self.add(&[Text("\"/>\n")])
+    }
+
+    /// Begins a sign, up to the end of its class.
+    fn use_of(&mut self, name: &str, at: Spot, class: &[Part]) -> Result<(), AllocError> {
+        self.add(&[
+            Text("<use href=\"#"),
+            Text(name),
+            Text("\" x=\""),
+            Length(at.x),
+        ])?;
+        self.add(&[Text("\" y=\""), Length(at.y), Text("\" class=\"")])?;
+        self.add(class)
     }
 
     /// The whole picture.
     pub(crate) fn into_svg(self, alloc: Global) -> Result<String, AllocError> {
         let (wide, high) = (self.right + MARGIN, self.bottom + MARGIN);
-        let mut svg = format!(in alloc;
-            "<svg xmlns=\"http://www.w3.org/2000/svg\" width=\"{wide:.0}\" height=\"{high:.0}\">\n",
-        )?;
-        svg.push_str(STYLE)?;
-        svg.push_str(SIGNS)?;
-        svg.push_str(self.text.as_str())?;
-        svg.push_str("</svg>\n")?;
-        Ok(svg)
+        joined(
+            alloc,
+            &[
+                Text("<svg xmlns=\"http://www.w3.org/2000/svg\" width=\""),
+                Rounded(wide),
+                Text("\" height=\""),
+                Rounded(high),
+                Text("\">\n"),
+                Text(STYLE),
+                Text(SIGNS),
+                Text(self.text.as_str()),
+                Text("</svg>\n"),
+            ],
+        )
     }
 }
 

@@ -1,7 +1,9 @@
 //! The cells of a script at some turn.
 use crate::canvas::{Canvas, Spot, width_of};
 use crate::flow::Flow;
-use crate::node_table::{NodeTable, short_number};
+use crate::node_table::NodeTable;
+use crate::parts::Part::{Number, Short, Text};
+use crate::parts::joined;
 use arena::{NodeNo, NodeWord, Side, Word};
 use script::{Call, Command};
 use std::alloc::{AllocError, Global};
@@ -92,16 +94,7 @@ fn draw_cell(
     corner: Spot,
 ) -> Result<(), AllocError> {
     let shown = table.get(node);
-    let finalized = if shown.is_marked { " final" } else { "" };
-    let name = format!(in alloc; "n{node}{finalized}")?;
-    canvas.words(
-        Spot {
-            x: corner.x,
-            y: corner.y - 3.0,
-        },
-        "small quiet",
-        name.as_str(),
-    )?;
+    name_cell(alloc, canvas, node, shown.is_marked, corner)?;
     let beside = Spot {
         x: corner.x + WIDE,
         y: corner.y,
@@ -116,14 +109,30 @@ fn draw_cell(
             true => "final",
             false => "node",
         };
-        draw_field(alloc, canvas, table, held, class, at)?;
+        draw_field(canvas, table, held, class, at)?;
     }
     Ok(())
 }
 
+/// Writes the name of a cell above it, and whether it is finalized.
+fn name_cell(
+    alloc: Global,
+    canvas: &mut Canvas,
+    node: u64,
+    is_finalized: bool,
+    corner: Spot,
+) -> Result<(), AllocError> {
+    let above = Spot {
+        x: corner.x,
+        y: corner.y - 3.0,
+    };
+    let finalized = if is_finalized { " final" } else { "" };
+    let name = joined(alloc, &[Text("n"), Number(node), Text(finalized)])?;
+    canvas.words(above, "small quiet", name.as_str())
+}
+
 /// Draws a field: the node that it holds, and what that node holds.
 fn draw_field(
-    alloc: Global,
     canvas: &mut Canvas,
     table: &NodeTable,
     held: u64,
@@ -131,17 +140,15 @@ fn draw_field(
     corner: Spot,
 ) -> Result<(), AllocError> {
     let value = table.get(held).value;
-    let text = if held == 0 {
-        format!(in alloc; "0")?
-    } else {
-        let value = short_number(alloc, value)?;
-        format!(in alloc; "n{held}: {value}")?
-    };
-    let told = format!(in alloc; "node {held}, value {value}")?;
-    canvas.rectangle(corner, Spot { x: WIDE, y: HIGH }, class, told.as_str())?;
+    let told = [Text("node "), Number(held), Text(", value "), Number(value)];
+    canvas.rectangle(corner, Spot { x: WIDE, y: HIGH }, &[Text(class)], &told)?;
     let middle = Spot {
         x: corner.x + WIDE / 2.0,
         y: corner.y + 12.0,
     };
-    canvas.middle_words(middle, "small", text.as_str())
+    if held == 0 {
+        return canvas.middle_words(middle, &[Text("small")], &[Number(0)]);
+    }
+    let parts = [Text("n"), Number(held), Text(": "), Short(value)];
+    canvas.middle_words(middle, &[Text("small")], &parts)
 }

@@ -1,5 +1,6 @@
 //! Where each turn stands, from left to right.
 use crate::canvas::SMALL_LETTER;
+use crate::parts::digits_of;
 use crate::shown_run::{ShownTurn, has_sign};
 use crate::window::Window;
 use arena::{Kind, PassNo, Word};
@@ -77,7 +78,7 @@ impl Columns {
                 columns.add(number, turn)?;
             }
         }
-        columns.spread(alloc)?;
+        columns.spread();
         Ok(columns)
     }
 
@@ -105,14 +106,13 @@ impl Columns {
     }
 
     /// Gives each group its place.
-    fn spread(&mut self, alloc: Global) -> Result<(), AllocError> {
+    fn spread(&mut self) {
         let mut x = LEFT;
         for group in self.groups.iter_mut() {
             group.left = x;
-            x += width_of_group(alloc, group)?;
+            x += width_of_group(group);
             group.right = x;
         }
-        Ok(())
     }
 
     /// The group of a turn of this number, if it is drawn.
@@ -129,44 +129,35 @@ impl Columns {
 }
 
 /// How wide a group is drawn.
-fn width_of_group(alloc: Global, group: &Group) -> Result<f64, AllocError> {
+fn width_of_group(group: &Group) -> f64 {
     if group.count > 1 {
-        let number = format!(in alloc; "{}", group.count)?;
-        return Ok(small_width(number.as_str()).max(12.0));
+        return small_width(digits_of(group.count)).max(12.0);
     }
-    Ok(match group.turn.step {
+    match group.turn.step {
         None => 10.0,
-        Some(row) if has_sign(row.kind) => {
-            let name = node_name(alloc, row.word)?;
-            small_width(name.as_str()).max(17.0)
-        }
+        Some(row) if has_sign(row.kind) => small_width(letters_of(row.word)).max(17.0),
         Some(row) if row.kind == Kind::Fill => 4.0,
         Some(_) => 3.0,
-    })
-}
-
-/// How wide some words in small letters are, with what is left free beside them.
-fn small_width(words: &str) -> f64 {
-    SMALL_LETTER * nearest_usize_to_f64(words.chars().count()) + 3.0
-}
-
-/// The name of the node that a word is of; nothing if it is of an SCX-record.
-pub(crate) fn node_name(alloc: Global, word: Word) -> Result<String, AllocError> {
-    match word {
-        Word::Node(node, _) => format!(in alloc; "n{}", node.0),
-        Word::Scx(_, _) => Ok(String::new(alloc)),
     }
 }
+
+/// How wide so many small letters are, with what is left free beside them.
+fn small_width(letters: usize) -> f64 {
+    SMALL_LETTER * nearest_usize_to_f64(letters) + 3.0
+}
+
+/// How many letters the name of the node has that a word is of; none if it is of an SCX-record.
+fn letters_of(word: Word) -> usize {
+    match word {
+        Word::Node(node, _) => digits_of(node.0).saturating_add(1),
+        Word::Scx(_, _) => 0,
+    }
+}
+
+/// The classes of the clients' colours.
+const COLOURS: [&str; 7] = ["c0", "c1", "c2", "c3", "c4", "c5", "c6"];
 
 /// The class of a client's colour.
 pub(crate) fn colour_of(client: PassNo) -> &'static str {
-    match client.0 % 7 {
-        0 => "c0",
-        1 => "c1",
-        2 => "c2",
-        3 => "c3",
-        4 => "c4",
-        5 => "c5",
-        _ => "c6",
-    }
+    COLOURS[(client.0 % 7) as usize]
 }

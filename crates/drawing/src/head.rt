@@ -1,6 +1,8 @@
 //! The first lines of a picture: what was run, and what the signs mean.
 use crate::canvas::{Canvas, Spot, width_of};
 use crate::columns::LEFT;
+use crate::parts::Part::{Number, Text};
+use crate::parts::{add, joined};
 use crate::shown_run::ShownRun;
 use crate::window::Window;
 use arena::Mode;
@@ -68,7 +70,7 @@ fn title_of(alloc: Global, run: &ShownRun, window: Window) -> Result<String, All
         Mode::Records => "cells",
     };
     let answered = run.calls.iter().filter(|call| call.is_answered).count();
-    let (steps, updates) = (run.turns.len(), run.entries.len());
+    let (steps, updates) = (run.turns.len() as u64, run.entries.len() as u64);
     let calls = run.clients.iter().map(|client| client.calls.len());
     let calls = calls.fold(0, |all: usize, own| all.saturating_add(own));
     let clients = run
@@ -76,12 +78,28 @@ fn title_of(alloc: Global, run: &ShownRun, window: Window) -> Result<String, All
         .iter()
         .filter(|client| !client.calls.is_empty())
         .count();
-    let mut title = format!(in alloc;
-        "{mode} · clients: {clients} · calls answered: {answered} of {calls} · turns: {steps} · updates: {updates}",
+    let mut title = joined(
+        alloc,
+        &[
+            Text(mode),
+            Text(" · clients: "),
+            Number(clients as u64),
+            Text(" · calls answered: "),
+            Number(answered as u64),
+            Text(" of "),
+            Number(calls as u64),
+            Text(" · turns: "),
+            Number(steps),
+            Text(" · updates: "),
+            Number(updates),
+        ],
     )?;
-    if window.from > 1 || window.to < steps as u64 {
-        let (from, to) = (window.from, window.to.min(steps as u64));
-        write!(title, " · here: turns {from} to {to}")?;
+    if window.from > 1 || window.to < steps {
+        let (from, to) = (Number(window.from), Number(window.to.min(steps)));
+        add(
+            &mut title,
+            &[Text(" · here: turns "), from, Text(" to "), to],
+        )?;
     }
     Ok(title)
 }

@@ -1,10 +1,12 @@
 //! A lane for each client: its calls as boxes, and its steps in them.
 use crate::canvas::{Canvas, Spot, width_of};
-use crate::columns::{Columns, Group, LEFT, colour_of, node_name};
+use crate::columns::{Columns, Group, LEFT, colour_of};
 use crate::labels::{LabelRows, shortened};
+use crate::parts::Part::{Number, Text};
+use crate::parts::joined;
 use crate::shown_call::ShownCall;
 use crate::shown_run::{ShownRun, ShownTurn, has_sign};
-use arena::{Kind, PassNo};
+use arena::{Kind, PassNo, Word};
 use report::word_text;
 use script::kind_name;
 use std::alloc::{AllocError, Global};
@@ -135,7 +137,7 @@ fn labels_of(
 
 /// Writes whose lane it is.
 fn name_lane(alloc: Global, canvas: &mut Canvas, lane: Lane) -> Result<(), AllocError> {
-    let name = format!(in alloc; "client {}", lane.client.0)?;
+    let name = [Text("client "), Number(u64::from(lane.client.0))];
     let (corner, size) = (
         Spot {
             x: 6.0,
@@ -143,12 +145,12 @@ fn name_lane(alloc: Global, canvas: &mut Canvas, lane: Lane) -> Result<(), Alloc
         },
         Spot { x: 8.0, y: BOX },
     );
-    canvas.rectangle(corner, size, colour_of(lane.client), name.as_str())?;
+    canvas.rectangle(corner, size, &[Text(colour_of(lane.client))], &name)?;
     let at = Spot {
         x: 18.0,
         y: lane.top + 15.0,
     };
-    canvas.words(at, "", name.as_str())
+    canvas.words(at, "", joined(alloc, &name)?.as_str())
 }
 
 /// Draws the box of a call, with its label in this row above it.
@@ -163,11 +165,16 @@ fn draw_call(
     let Some((left, right)) = columns.reach(call.begin, call.end) else {
         return Ok(());
     };
-    let colour = colour_of(call.client);
-    let open = if call.is_answered { "" } else { " open" };
-    let class = format!(in alloc; "{colour} call{open}")?;
-    let (begin, end, text) = (call.begin, call.end, call.text.as_str());
-    let told = format!(in alloc; "{text}, turns {begin} to {end}")?;
+    let colour = Text(colour_of(call.client));
+    let open = Text(if call.is_answered { "" } else { " open" });
+    let (begin, end) = (Number(call.begin), Number(call.end));
+    let told = [
+        Text(call.text.as_str()),
+        Text(", turns "),
+        begin,
+        Text(" to "),
+        end,
+    ];
     let (corner, size) = (
         Spot {
             x: left,
@@ -178,24 +185,19 @@ fn draw_call(
             y: BOX,
         },
     );
-    canvas.rectangle(corner, size, class.as_str(), told.as_str())?;
-    let text = shortened(alloc, text)?;
+    canvas.rectangle(corner, size, &[colour, Text(" call"), open], &told)?;
     let y = lane.top - 4.0 - ROW * nearest_usize_to_f64(row);
     if row > 0 {
-        let class = format!(in alloc; "{colour} thin")?;
-        let (high, low) = (
-            Spot {
-                x: left + 1.0,
-                y: y - 8.0,
-            },
-            Spot {
-                x: left + 1.0,
-                y: lane.top,
-            },
-        );
-        canvas.line(high, low, class.as_str())?;
+        let x = left + 1.0;
+        let (high, low) = (Spot { x, y: y - 8.0 }, Spot { x, y: lane.top });
+        canvas.line(high, low, &[colour, Text(" thin")])?;
     }
-    canvas.words(Spot { x: left + 3.0, y }, colour, text.as_str())
+    let text = shortened(alloc, call.text.as_str())?;
+    canvas.words(
+        Spot { x: left + 3.0, y },
+        colour_of(call.client),
+        text.as_str(),
+    )
 }
 
 /// Draws the turns of a group.
@@ -210,9 +212,9 @@ fn draw_group(
         y: lane.top + BOX / 2.0,
     };
     match group.turn.step {
-        None => canvas.sign("idle", at, "quiet", "idle"),
+        None => canvas.sign("idle", at, &[Text("quiet")], &[Text("idle")]),
         Some(row) if has_sign(row.kind) => draw_sign(alloc, canvas, group, &row, at),
-        Some(row) if group.count > 1 => draw_bar(alloc, canvas, group, &row, at),
+        Some(row) if group.count > 1 => draw_bar(canvas, group, &row, at),
         Some(row) if row.kind == Kind::Fill => canvas.mark("fill", at, "fill"),
         Some(_) => canvas.mark("load", at, "tick"),
     }
@@ -220,23 +222,19 @@ fn draw_group(
 
 /// Draws loads or fills as one bar, with their number below it.
 fn draw_bar(
-    alloc: Global,
     canvas: &mut Canvas,
     group: &Group,
     row: &arena::Row,
     at: Spot,
 ) -> Result<(), AllocError> {
-    let (first, count) = (group.first, group.count);
+    let (first, count) = (Number(group.first), Number(group.count));
     let (name, high) = if row.kind == Kind::Fill {
-        ("fills", 8.0)
+        (" fills", 8.0)
     } else {
-        ("loads", 4.0)
+        (" loads", 4.0)
     };
-    let told = format!(in alloc; "{count} {name} from turn {first} on")?;
-    let (wide, number) = (
-        group.right - group.left - 2.0,
-        format!(in alloc; "{count}")?,
-    );
+    let told = [count, Text(name), Text(" from turn "), first, Text(" on")];
+    let wide = group.right - group.left - 2.0;
     let (corner, size) = (
         Spot {
             x: group.left + 1.0,
@@ -244,12 +242,12 @@ fn draw_bar(
         },
         Spot { x: wide, y: high },
     );
-    canvas.rectangle(corner, size, "bar", told.as_str())?;
+    canvas.rectangle(corner, size, &[Text("bar")], &told)?;
     let below = Spot {
         x: at.x,
         y: at.y + 20.0,
     };
-    canvas.middle_words(below, "small quiet", number.as_str())
+    canvas.middle_words(below, &[Text("small quiet")], &[count])
 }
 
 /// Draws a step of an SCX in the colour of the client whose SCX-record it is.
@@ -262,40 +260,62 @@ fn draw_sign(
 ) -> Result<(), AllocError> {
     let owner = group.turn.owner.unwrap_or(row.pass);
     if owner != row.pass {
-        draw_help(alloc, canvas, group, owner, at)?;
+        draw_help(canvas, group, owner, at)?;
     }
-    let hollow = if row.before == row.after {
-        " hollow"
-    } else {
-        ""
-    };
-    let class = format!(in alloc; "{}{hollow}", colour_of(owner))?;
-    let (number, name) = (group.first, kind_name(row.kind));
-    let (before, after) = (row.before, row.after);
     let word = word_text(alloc, row.word)?;
-    let told = format!(in alloc; "turn {number}: {name} {word}, {before} to {after}")?;
-    canvas.sign(name, at, class.as_str(), told.as_str())?;
-    if row.kind == Kind::Freeze || row.kind == Kind::Mark {
+    let name = kind_name(row.kind);
+    draw_step(canvas, group, row, name, word.as_str(), at)?;
+    if let Word::Node(node, _) = row.word
+        && (row.kind == Kind::Freeze || row.kind == Kind::Mark)
+    {
         let below = Spot {
             x: at.x,
             y: at.y + 20.0,
         };
-        canvas.middle_words(below, "small quiet", node_name(alloc, row.word)?.as_str())?;
+        canvas.middle_words(below, &[Text("small quiet")], &[Text("n"), Number(node.0)])?;
     }
     Ok(())
 }
 
+/// Draws the sign of a step of this kind and word.
+fn draw_step<'a>(
+    canvas: &mut Canvas,
+    group: &Group,
+    row: &arena::Row,
+    kind: &'a str,
+    word: &'a str,
+    at: Spot,
+) -> Result<(), AllocError> {
+    let owner = group.turn.owner.unwrap_or(row.pass);
+    let hollow = Text(if row.before == row.after {
+        " hollow"
+    } else {
+        ""
+    });
+    let told = [
+        Text("turn "),
+        Number(group.first),
+        Text(": "),
+        Text(kind),
+        Text(" "),
+        Text(word),
+        Text(", "),
+        Number(row.before),
+        Text(" to "),
+        Number(row.after),
+    ];
+    canvas.sign(kind, at, &[Text(colour_of(owner)), hollow], &told)
+}
+
 /// Tints the place of a step that helps this client, and writes its number below.
 fn draw_help(
-    alloc: Global,
     canvas: &mut Canvas,
     group: &Group,
     owner: PassNo,
     at: Spot,
 ) -> Result<(), AllocError> {
-    let colour = colour_of(owner);
-    let class = format!(in alloc; "{colour} help")?;
-    let told = format!(in alloc; "helps client {}", owner.0)?;
+    let colour = Text(colour_of(owner));
+    let number = Number(u64::from(owner.0));
     let (corner, size) = (
         Spot {
             x: group.left,
@@ -306,27 +326,17 @@ fn draw_help(
             y: BOX,
         },
     );
-    canvas.rectangle(corner, size, class.as_str(), told.as_str())?;
-    let (below, class) = (
-        Spot {
-            x: at.x,
-            y: at.y + 29.0,
-        },
-        format!(in alloc; "small {colour}")?,
-    );
-    canvas.middle_words(
-        below,
-        class.as_str(),
-        format!(in alloc; "c{}", owner.0)?.as_str(),
-    )
+    let told = [Text("helps client "), number];
+    canvas.rectangle(corner, size, &[colour, Text(" help")], &told)?;
+    let below = Spot {
+        x: at.x,
+        y: at.y + 29.0,
+    };
+    canvas.middle_words(below, &[Text("small "), colour], &[Text("c"), number])
 }
 
 /// Draws the numbers of some turns above all lanes.
-pub(crate) fn draw_numbers(
-    alloc: Global,
-    canvas: &mut Canvas,
-    columns: &Columns,
-) -> Result<(), AllocError> {
+pub(crate) fn draw_numbers(canvas: &mut Canvas, columns: &Columns) -> Result<(), AllocError> {
     let (y, mut free) = (canvas.bottom + 10.0, LEFT);
     canvas.words(Spot { x: 18.0, y }, "small quiet", "turn")?;
     for group in columns.groups.iter() {
@@ -335,10 +345,13 @@ pub(crate) fn draw_numbers(
             continue;
         }
         let (high, low) = (Spot { x, y: y + 2.0 }, Spot { x, y: y + 5.0 });
-        canvas.line(high, low, "tick")?;
+        canvas.line(high, low, &[Text("tick")])?;
         if x >= free {
-            let number = format!(in alloc; "{}", group.first)?;
-            canvas.middle_words(Spot { x, y }, "small quiet", number.as_str())?;
+            canvas.middle_words(
+                Spot { x, y },
+                &[Text("small quiet")],
+                &[Number(group.first)],
+            )?;
             free = x + 36.0;
         }
     }

@@ -3,6 +3,8 @@ use crate::canvas::{Canvas, Spot, width_of};
 use crate::columns::{Columns, colour_of};
 use crate::labels::{LabelRows, shortened};
 use crate::lanes::Lanes;
+use crate::parts::Part::{Number, Text};
+use crate::parts::joined;
 use crate::shown_call::ShownCall;
 use crate::shown_run::{ShownMoment, ShownRun};
 use std::alloc::{AllocError, Global};
@@ -28,11 +30,12 @@ pub(crate) fn draw_legal_order(
             continue;
         };
         let text = shortened(alloc, call.text.as_str())?;
-        let text = format!(in alloc; "{} {text}", place.saturating_add(1))?;
+        let number = (place as u64).saturating_add(1);
+        let text = joined(alloc, &[Number(number), Text(" "), Text(text.as_str())])?;
         let x = group.middle();
         let row = rows.place(x - 4.0, x + 6.0 + width_of(text.as_str()))?;
         let y = top + ROW * nearest_usize_to_f64(row);
-        draw_moment(alloc, canvas, lanes, moment, call, Spot { x, y })?;
+        draw_moment(canvas, lanes, moment, call, Spot { x, y })?;
         canvas.words(Spot { x: x + 6.0, y }, "", text.as_str())?;
     }
     Ok(())
@@ -40,14 +43,13 @@ pub(crate) fn draw_legal_order(
 
 /// Draws the dot of a moment, and the line that leads to it from its call.
 fn draw_moment(
-    alloc: Global,
     canvas: &mut Canvas,
     lanes: &Lanes,
     moment: &ShownMoment,
     call: &ShownCall,
     at: Spot,
 ) -> Result<(), AllocError> {
-    let colour = colour_of(call.client);
+    let colour = Text(colour_of(call.client));
     if let Some(lane) = lanes.of(call.client) {
         let (high, low) = (
             Spot {
@@ -59,14 +61,17 @@ fn draw_moment(
                 y: at.y - 6.0,
             },
         );
-        canvas.line(high, low, format!(in alloc; "{colour} dots")?.as_str())?;
+        canvas.line(high, low, &[colour, Text(" dots")])?;
     }
-    let hollow = if moment.reads { " hollow" } else { "" };
-    let class = format!(in alloc; "{colour}{hollow}")?;
-    let told = format!(in alloc; "at turn {}", moment.turn)?;
+    let hollow = Text(if moment.reads { " hollow" } else { "" });
     let dot = Spot {
         x: at.x,
         y: at.y - 3.0,
     };
-    canvas.sign("moment", dot, class.as_str(), told.as_str())
+    canvas.sign(
+        "moment",
+        dot,
+        &[colour, hollow],
+        &[Text("at turn "), Number(moment.turn)],
+    )
 }

@@ -10,6 +10,7 @@ mod labels;
 mod lanes;
 mod legal_order;
 mod node_table;
+mod parts;
 mod picture;
 mod shown_call;
 mod shown_run;

@@ -101,18 +101,3 @@ impl NodeTable {
         }
     }
 }
-
-/// A number, or its first and last digits where it is too long for a small place.
-pub(crate) fn short_number(alloc: Global, number: u64) -> Result<String, AllocError> {
-    if number < 1_000_000 {
-        return format!(in alloc; "{number}");
-    }
-    let text = format!(in alloc; "{number}")?;
-    let mut short = String::new(alloc);
-    for letter in text.chars().take(2) {
-        short.push(letter)?;
-    }
-    let last = number % 1000;
-    write!(short, "…{last:03}")?;
-    Ok(short)
-}

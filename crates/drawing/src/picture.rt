@@ -22,7 +22,7 @@ pub fn picture_of(alloc: Global, record: &Record, window: Window) -> Result<Stri
     let columns = Columns::of(alloc, run.turns.as_slice(), window)?;
     let mut canvas = Canvas::new(alloc);
     draw_head(alloc, &mut canvas, &run, window)?;
-    draw_numbers(alloc, &mut canvas, &columns)?;
+    draw_numbers(&mut canvas, &columns)?;
     let lanes = Lanes::draw(alloc, &mut canvas, &run, &columns)?;
     draw_legal_order(alloc, &mut canvas, &run, &columns, &lanes)?;
     draw_updates(alloc, &mut canvas, &run, record, window)?;

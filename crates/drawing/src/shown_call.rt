@@ -23,14 +23,15 @@ pub(crate) struct ShownCall {
 /// The text of a call.
 pub(crate) fn call_text(alloc: Global, command: &Command) -> Result<String, AllocError> {
     let CommandText { name, a, b, c } = CommandText::of(alloc, command)?;
-    if let Command::Scx(_) = command {
-        return format!(in alloc; "{name} {a} | {b} | {c}");
-    }
+    let is_scx = matches!(command, Command::Scx(_));
+    let between = if is_scx { " | " } else { " " };
     let mut text = String::from_str(alloc, name)?;
+    let mut gap = " ";
     for field in [&a, &b, &c] {
-        if !field.is_empty() {
-            text.push(' ')?;
+        if is_scx || !field.is_empty() {
+            text.push_str(gap)?;
             text.push_str(field.as_str())?;
+            gap = between;
         }
     }
     Ok(text)

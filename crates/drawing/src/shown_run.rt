@@ -1,4 +1,6 @@
 //! A run as a picture shows it.
+use crate::parts::Part::Text;
+use crate::parts::joined;
 use crate::shown_call::{ShownCall, call_text};
 use arena::{Kind, Layout, PassNo, ScxNo, Word};
 use record::{Entry, Finished, Line, Record, Row};
@@ -142,7 +144,7 @@ impl ShownRun {
             moment: reply.moment,
             is_answered: true,
             has_entry: false,
-            text: format!(in alloc; "{call} → {answer}")?,
+            text: joined(alloc, &[Text(call), Text(" → "), Text(answer.as_str())])?,
         })?;
         Ok(())
     }
@@ -161,7 +163,7 @@ impl ShownRun {
                 moment: None,
                 is_answered: false,
                 has_entry: false,
-                text: format!(in alloc; "{call} …")?,
+                text: joined(alloc, &[Text(call), Text(" …")])?,
             })?;
         }
         Ok(())

@@ -1,7 +1,8 @@
 //! The tree of a dictionary at some turn.
 use crate::canvas::{Canvas, Spot, width_of};
 use crate::flow::Flow;
-use crate::node_table::{NodeTable, ShownNode, short_number};
+use crate::node_table::{NodeTable, ShownNode};
+use crate::parts::Part::{Number, Short, Text};
 use std::alloc::{AllocError, Global};
 use std::num::nearest_usize_to_f64;
 
@@ -112,19 +113,16 @@ pub(crate) fn draw_tree(
     });
     canvas.words(corner, "quiet", caption)?;
     for (above, below) in tree.edges.iter() {
-        canvas.line(tree.spot(*above, corner), tree.spot(*below, corner), "edge")?;
+        canvas.line(
+            tree.spot(*above, corner),
+            tree.spot(*below, corner),
+            &[Text("edge")],
+        )?;
     }
     let mut nodes = Vec::new(alloc);
     for (place, branch) in tree.branches.iter().enumerate() {
         let is_new = !earlier.is_empty() && !earlier.contains(&branch.node);
-        draw_node(
-            alloc,
-            canvas,
-            table,
-            branch.node,
-            is_new,
-            tree.spot(place, corner),
-        )?;
+        draw_node(canvas, table, branch.node, is_new, tree.spot(place, corner))?;
         nodes.push(branch.node)?;
     }
     Ok(nodes)
@@ -132,7 +130,6 @@ pub(crate) fn draw_tree(
 
 /// Draws a node around a spot.
 fn draw_node(
-    alloc: Global,
     canvas: &mut Canvas,
     table: &NodeTable,
     node: u64,
@@ -141,8 +138,6 @@ fn draw_node(
 ) -> Result<(), AllocError> {
     let shown = table.get(node);
     let class = if is_new { "new" } else { "node" };
-    let (key, value) = (shown.key, shown.value);
-    let told = format!(in alloc; "n{node}: key {key}, value {value}")?;
     let high = if shown.head().leaf { 24.0 } else { 16.0 };
     let (corner, size) = (
         Spot {
@@ -151,50 +146,44 @@ fn draw_node(
         },
         Spot { x: 36.0, y: high },
     );
-    canvas.rectangle(corner, size, class, told.as_str())?;
-    draw_texts(alloc, canvas, &shown, at)?;
-    let name = format!(in alloc; "n{node}")?;
+    let (key, value) = (Number(shown.key), Number(shown.value));
+    let told = [
+        Text("n"),
+        Number(node),
+        Text(": key "),
+        key,
+        Text(", value "),
+        value,
+    ];
+    canvas.rectangle(corner, size, &[Text(class)], &told)?;
+    draw_texts(canvas, &shown, at)?;
     let above = Spot {
         x: at.x,
         y: corner.y - 2.0,
     };
-    canvas.middle_words(above, "small quiet", name.as_str())
+    canvas.middle_words(above, &[Text("small quiet")], &[Text("n"), Number(node)])
 }
 
 /// Writes what a node holds around a spot: its key, and a leaf's value.
-fn draw_texts(
-    alloc: Global,
-    canvas: &mut Canvas,
-    shown: &ShownNode,
-    at: Spot,
-) -> Result<(), AllocError> {
+fn draw_texts(canvas: &mut Canvas, shown: &ShownNode, at: Spot) -> Result<(), AllocError> {
     let head = shown.head();
-    let key = match head.class {
-        0 => short_number(alloc, shown.key)?,
-        class => format!(in alloc; "∞{class}")?,
+    let has_value = head.leaf && head.class == 0;
+    let key = Spot {
+        x: at.x,
+        y: if has_value { at.y - 2.0 } else { at.y + 3.0 },
     };
-    if !head.leaf || head.class != 0 {
-        return canvas.middle_words(
-            Spot {
-                x: at.x,
-                y: at.y + 3.0,
-            },
-            "small",
-            key.as_str(),
-        );
+    if head.class == 0 {
+        canvas.middle_words(key, &[Text("small")], &[Short(shown.key)])?;
+    } else {
+        let class = Number(u64::from(head.class));
+        canvas.middle_words(key, &[Text("small")], &[Text("∞"), class])?;
     }
-    let value = short_number(alloc, shown.value)?;
-    canvas.middle_words(
-        Spot {
-            x: at.x,
-            y: at.y - 2.0,
-        },
-        "small",
-        key.as_str(),
-    )?;
-    let below = Spot {
+    if !has_value {
+        return Ok(());
+    }
+    let value = Spot {
         x: at.x,
         y: at.y + 8.0,
     };
-    canvas.middle_words(below, "small quiet", value.as_str())
+    canvas.middle_words(value, &[Text("small quiet")], &[Short(shown.value)])
 }

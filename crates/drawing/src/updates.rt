@@ -4,6 +4,8 @@ use crate::cells::{CellRow, cells_of};
 use crate::columns::LEFT;
 use crate::flow::Flow;
 use crate::node_table::NodeTable;
+use crate::parts::Part::{Number, Text};
+use crate::parts::joined;
 use crate::shown_run::{ShownRun, ShownTurn};
 use crate::trees::draw_tree;
 use crate::window::Window;
@@ -79,7 +81,15 @@ impl Updates {
             && self.count < MOST
         {
             self.count = self.count.saturating_add(1);
-            let caption = format!(in alloc; "after update {}, turn {number}", entry.place)?;
+            let caption = joined(
+                alloc,
+                &[
+                    Text("after update "),
+                    Number(entry.place),
+                    Text(", turn "),
+                    Number(number),
+                ],
+            )?;
             let changed = turn.step.map(|row| row.word);
             self.draw(alloc, canvas, changed, caption.as_str())?;
         }

@@ -30,7 +30,7 @@ use Rattle.prims.specs.declared.scx.ScxRun.{ScxRun}
 use Rattle.prims.specs.declared.update.Update.{Update}
 use Rattle.prims.proofs.Lemmas.{over_ends, turn_first}
 use Rattle.ordered_map.specs.TreeShape.{TreeAllows}
-use Rattle.template.proofs.Lemmas.{contended_wider, lost_to, next_again, own_since, tried_in}
+use Rattle.template.proofs.Lemmas.{contended_wider, next_again, own_since, tried_in}
 use Rattle.template.specs.FoundLeaf.{path_key, HasFoundGoal}
 use Rattle.template.specs.Tracked.{Tracks}
 use Rattle.template.specs.Walk.Known.{WalkIsTold, WalkWaits, WalkAnswers}
@@ -44,18 +44,19 @@ use Rattle.edits.specs.declared.edit.Piece.{Piece}
 use Rattle.edits.specs.declared.update.Updated.{Updated}
 use Rattle.edits.specs.declared.update.UpdateAt.TheVariants.{Walk, Look, Fill, Scx}
 use Rattle.edits.specs.declared.update.UpdateRun.{UpdateRun}
-use Rattle.template.specs.Blame.{IsContended, HasLostTriesTo}
+use Rattle.template.specs.Blame.{IsContended}
 use Rattle.template.specs.Tries.{HasTriedAllBut}
 use Rattle.edits.specs.Next.{standing}
 use Rattle.edits.specs.Edits.{EditMeaning}
 use Rattle.edits.specs.Sound.{IsAtFound}
-use Rattle.edits.specs.Known.{RestsWith, AreUsable, CoversLeaf, MayBeginTry, Walks, CanLook, CanFill, Scxs, IsUntouched, TryWaits, UpdateWaits, UpdateAnswers, HasMade, ToldFirst, done_at}
-use Rattle.edits.specs.Laws.Entered.{none_joined, none_lost, none_quiet}
+use Rattle.edits.specs.Known.{RestsWith, AreUsable, CoversLeaf, MayBeginTry, Walks, CanLook, CanFill, Scxs, IsUntouched, HasLostTry, HasLostEveryTry, TryWaits, UpdateWaits, UpdateAnswers, HasMade, ToldFirst, done_at}
+use Rattle.edits.specs.Laws.Entered.{none_filled_yet, none_joined, none_lost, none_quiet}
 use Rattle.edits.specs.Laws.Kept.{idle_rests}
 use Rattle.edits.specs.Laws.Trying.{past_root}
 use Rattle.edits.specs.Pieces.{nth_node, word_of}
-use Rattle.edits.specs.Tries.{HasEnteredOnly, HasEnteredNone, MayTry, IsTry, HasLostTry}
+use Rattle.edits.specs.Tries.{HasEnteredOnly, HasEnteredNone, MayTry, IsTry}
 use Rattle.edits.proofs.Blaming.{lost_contended}
+use Rattle.edits.proofs.Looking.{is_needed}
 use Rattle.edits.proofs.Making.{made_at_leaf}
 use Rattle.edits.proofs.Widened.{found_wider}
 
@@ -91,14 +92,14 @@ module _ {E : Type 0} (e : EditMeaning E) where
     try,
     first,
     (
-      record { small = b.small; rests = record { share = b.rests.share; over = b.rests.over }; quiet = quiet_at_start c.layout c.pass h (idle_rests c h m.share b.run.1.lawful b.rests); same = is },
+      record { small = b.small; rests = record { share = b.rests.share; over = b.rests.over }; quiet = quiet_at_start c.layout c.pass h (idle_rests c h m.share b.run.1.lawful b.rests); none_filled = none_filled_yet c.pass h; same = is },
       record { run = b.run; small = rw is b.small; since = ends_self h; known = root; asked = ap (λ n. load LoadSettled (node n HeadWord)) (sym root) },
     ),
   )
 
   -- its walk asks for a step, past the root's head
   pub walks_on : {A : Type 0} (m : UpdateRun E A) (walk after : WalkRun) (c : Call) (b h : History) (turn : Turn Found) (step : Step) → IsTry c b h m.limit m.tries → IsUntouched c b m.share → Walks e m (begun_at c b) h walk.goal → after.goal ≡ walk.goal → IsPastRoot after.at → turn ≡ Ask step → MatchTurn turn (WalkWaits after (begun_at c b) h) (WalkAnswers after (begun_at c b) h) → UpdateWaits e (standing m (Walk after)) c h step
-  walks_on m walk after c b h turn step try first x same past asked w = (b, past_root after.at past try, first, (record { small = x.small; rests = x.rests; quiet = x.quiet; same = same ∙ x.same }, rw asked at w))
+  walks_on m walk after c b h turn step try first x same past asked w = (b, past_root after.at past try, first, (record { small = x.small; rests = x.rests; quiet = x.quiet; none_filled = x.none_filled; same = same ∙ x.same }, rw asked at w))
 
   -- its walk is told something, at a moment of the call
   pub walk_rests : {A : Type 0} (m : UpdateRun E A) (walk : WalkRun) (c : Call) (h : History) (v : ℕ) → Walks e m c h walk.goal → WalkIsTold walk c h v → MayBeginTry e m c h
@@ -221,7 +222,7 @@ module _ {E : Type 0} (e : EditMeaning E) where
       finished z = let a : value h (state scx.scx.0) ≡ 1 = subst (λ (t : ScxNo). value h (state t.0) ≡ 1) is_scx is_done.committed in omega (arith, a, z)
 
   -- its SCX is lost: it may try again
-  pub scx_lost : {A : Type 0} (m : UpdateRun E A) (scx after : ScxRun) (f : Found) (c : Call) (b begin h : History) (turn : Turn ScxAnswer) (n : NodeNo) (s : ScxNo) → IsTry c b h m.limit m.tries → Scxs e m (begun_at c b) h f scx begin → after.scx ≡ scx.scx → after.update ≡ scx.update → turn ≡ Done (Lost n s) → MatchTurn turn (ScxWaits TreeAllows after (begun_at c begin) h) (ScxAnswers after (begun_at c begin) h) → MayBeginTry e m c h × HasLostTry c h m.limit m.tries n.0 s.0
+  pub scx_lost : {A : Type 0} (m : UpdateRun E A) (scx after : ScxRun) (f : Found) (c : Call) (b begin h : History) (turn : Turn ScxAnswer) (n : NodeNo) (s : ScxNo) → IsTry c b h m.limit m.tries → Scxs e m (begun_at c b) h f scx begin → after.scx ≡ scx.scx → after.update ≡ scx.update → turn ≡ Done (Lost n s) → MatchTurn turn (ScxWaits TreeAllows after (begun_at c begin) h) (ScxAnswers after (begun_at c begin) h) → MayBeginTry e m c h × HasLostTry e m.edit c h m.limit m.tries n.0 s.0
   scx_lost m scx after f c b begin h turn n s try x is_scx is_update done w = (
     record { run = x.run; small = x.small; since = since; rests = scx_rests m scx f c b begin h x finished },
     record {
@@ -229,6 +230,8 @@ module _ {E : Type 0} (e : EditMeaning E) where
       try = try;
       way = lost_contended (begun_at c b) begin h (e.goal m.edit) f after n.0 s.0 x.run.1.lawful x.quiet (subst (λ (u : Update). AreUsable (begun_at c b) begin (e.goal m.edit) f u.snaps) (sym is_update) x.usable) lost;
       none = none_joined c.layout c.pass h b c.start x.now try.none (none_lost c.layout c.pass scx.scx.0 h b x.run.1.lawful aborted x.only);
+      found = f;
+      needed = record { moment = begin; within = ends_trans h (lost.changed.found.row ⊳ lost.changed.found.before) begin lost.changed.found.last.within (inr lost.changed.found.since); has_found = x.found; needed = x.need };
     },
   )
     where
@@ -249,26 +252,51 @@ module _ {E : Type 0} (e : EditMeaning E) where
   nothing_entered m c b h try x quiet = none_joined c.layout c.pass h b c.start x.since try.none (none_quiet c.layout c.pass h b x.run.1.lawful quiet)
 
   -- and its try is lost, if another was in its way
-  pub look_lost : {A : Type 0} (m : UpdateRun E A) (c : Call) (b h : History) (n s : ℕ) → IsTry c b h m.limit m.tries → MayBeginTry e m (begun_at c b) h → IsQuietSince c.layout c.pass b h → IsContended (begun_at c b) h n s → MayBeginTry e m c h × HasLostTry c h m.limit m.tries n s
-  look_lost m c b h n s try x quiet way = (
-    record { run = x.run; small = x.small; since = ends_trans h b c.start x.since try.since; rests = record { share = x.rests.share; over = x.rests.over } },
-    record { begin = b; try = try; way = way; none = nothing_entered m c b h try x quiet },
+  pub look_lost : {A : Type 0} (m : UpdateRun E A) (c : Call) (b h : History) (f : Found) (n s : ℕ) → IsTry c b h m.limit m.tries → CanLook e m (begun_at c b) h f → IsContended (begun_at c b) h n s → MayBeginTry e m c h × HasLostTry e m.edit c h m.limit m.tries n s
+  look_lost m c b h f n s try x way = (
+    record { run = begins.run; small = begins.small; since = ends_trans h b c.start begins.since try.since; rests = record { share = begins.rests.share; over = begins.rests.over } },
+    record {
+      begin = b;
+      try = try;
+      way = way;
+      none = nothing_entered m c b h try begins x.quiet;
+      found = f;
+      needed = record { moment = h; within = ends_self h; has_found = x.looked.found; needed = is_needed e m (begun_at c b) h f x };
+    },
   )
+    where
+      begins : MayBeginTry e m (begun_at c b) h
+      begins = x.begins
 
   -- a lost try was in the way of the call
-  pub lost_way : {A : Type 0} (m : UpdateRun E A) (c : Call) (h : History) (n s : ℕ) → HasLostTry c h m.limit m.tries n s → IsContended c h n s
+  pub lost_way : {A : Type 0} (m : UpdateRun E A) (c : Call) (h : History) (n s : ℕ) → HasLostTry e m.edit c h m.limit m.tries n s → IsContended c h n s
   lost_way m c h n s x = contended_wider c x.begin h n s x.try.since x.way
 
   -- the next may begin, if one is left
-  pub next_may : {A : Type 0} (m : UpdateRun E A) (c : Call) (h : History) (n s : ℕ) → m.tries ≢ 0 → MayBeginTry e m c h → HasLostTry c h m.limit m.tries n s → MayTry c h h m.limit (m.tries - 1)
+  pub next_may : {A : Type 0} (m : UpdateRun E A) (c : Call) (h : History) (n s : ℕ) → m.tries ≢ 0 → MayBeginTry e m c h → HasLostTry e m.edit c h m.limit m.tries n s → MayTry c h h m.limit (m.tries - 1)
   next_may m c h n s some b x = record { since = b.since; none = x.none; next = next_again c x.begin h m.limit m.tries x.try.newest n s x.way (m.tries - 1) some refl }
 
   -- and if none is left, all are lost to it
-  pub all_lost : {A : Type 0} (m : UpdateRun E A) (c : Call) (h : History) (n s : ℕ) → m.tries ≡ 0 → HasLostTry c h m.limit m.tries n s → HasLostTriesTo c.pass h c.start m.limit n s
-  all_lost m c h n s none x = lost_to c x.begin h m.limit m.tries x.try.newest n s x.way x.try.since none
+  pub all_lost : {A : Type 0} (m : UpdateRun E A) (c : Call) (h : History) (n s : ℕ) → m.tries ≡ 0 → HasLostTry e m.edit c h m.limit m.tries n s → HasLostEveryTry e m.edit c h m.limit n s
+  all_lost m c h n s none x = record {
+    way = lost_way m c h n s x;
+    none = x.none;
+    all = record {
+      lost = record {
+        begin = x.begin;
+        since = x.try.since;
+        newest = x.try.newest.newest;
+        all = let all = (tried_in c x.begin h m.limit m.tries x.try.newest).all in omega (arith, all, none);
+        in_the_way = x.way.in_the_way;
+      };
+      found = x.way.found;
+    };
+    found = x.found;
+    needed = x.needed;
+  }
 
   -- what it has tried, then, was needed
-  pub lost_tried : {A : Type 0} (m : UpdateRun E A) (c : Call) (h : History) (n s : ℕ) → HasLostTry c h m.limit m.tries n s → HasTriedAllBut c h m.limit m.tries
+  pub lost_tried : {A : Type 0} (m : UpdateRun E A) (c : Call) (h : History) (n s : ℕ) → HasLostTry e m.edit c h m.limit m.tries n s → HasTriedAllBut c h m.limit m.tries
   lost_tried m c h n s x = tried_in c x.begin h m.limit m.tries x.try.newest
 
   -- at rest in a try it is so in the call

@@ -18,7 +18,7 @@ use Rattle.prims.specs.Laws.Idle.{out_by_others}
 use Rattle.prims.proofs.Lemmas.{wins_in_progress}
 use Rattle.ordered_map.specs.Paths.{IsAnswerAt, IsFirstAt}
 use Rattle.ordered_map.specs.TreeWords.{said}
-use Rattle.ordered_map.specs.OrderedMap.{MapEdit, edit_key, edited, first_pair, get}
+use Rattle.ordered_map.specs.OrderedMap.{MapEdit, edited, first_pair, get}
 use Rattle.ordered_map.specs.Runs.{IsTreeRun}
 use Rattle.ordered_map.specs.Spelled.{Spells}
 use Rattle.ordered_map.specs.declared.pair.Pair.{Pair}

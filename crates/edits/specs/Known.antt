@@ -61,7 +61,7 @@ use Rattle.edits.specs.Edits.{EditMeaning}
 use Rattle.edits.specs.Laws.Hand.{IsBefore, IsUpTo, IsPieceWord, HoldsWords, HasFilledTo, IsForField, FieldMay}
 use Rattle.edits.specs.Laws.NodeFills.{node_fill}
 use Rattle.edits.specs.Pieces.{many_nodes, nth_node, top_of, plan_over, word_of}
-use Rattle.edits.specs.Tries.{HasEnteredOnly, HasEnteredNone, MayTry, IsTry, IsTryAt, CoversSnaps}
+use Rattle.edits.specs.Tries.{HasEnteredOnly, HasEnteredNone, HasFilledNone, HasOnlyLooked, MayTry, IsTry, IsTryAt, CoversSnaps}
 
 -- a node of the table other than the root
 abbrev pub IsBelowRoot : Layout → ℕ → Type 0
@@ -312,11 +312,13 @@ module _ {E : Type 0} (e : EditMeaning E) where
     pub quiet : IsQuietSince c.layout c.pass c.start begin
     pub leaf : CoversLeaf m.edit f c begin scx.scx.0 scx.update.snaps
 
-  -- the walk goes where the edit's is to go, and the pass is at rest
+  -- the walk goes where the edit's is to go, the pass is at rest, and has filled nothing since the
+  -- walk's begin
   pub record Walks {A : Type 0} (m : UpdateRun E A) (c : Call) (h : History) (goal : Goal) : Type 0 where
     pub small : path_key (e.goal m.edit) < 2 ^ 64
     pub rests : RestsWith c h m.share
     pub quiet : IsQuietSince c.layout c.pass c.start h
+    pub none_filled : HasFilledNone c.pass h c.start
     pub same : goal ≡ e.goal m.edit
 
   -- the word that is filled
@@ -406,15 +408,17 @@ module _ {E : Type 0} (e : EditMeaning E) where
 
   -- What it answers
 
-  -- there was nothing to make at the leaf that it tells, which it has found, and the pass has
-  -- entered nothing
+  -- there was nothing to make at the leaf that it tells, which it has found; the pass has entered
+  -- nothing, and has only looked in its newest try
   pub record HasNothingToMake (ed : E) (c : Call) (h : History) (found : Found) : Type 0 where
     pub has_found : HasFoundGoal (e.goal ed) c h found
     pub needless : e.needs ed found ≡ Nothing
     pub none : HasEnteredNone c.layout c.pass h c.start
+    pub only_looked : HasOnlyLooked c.pass h c.start
 
   -- The share has too little left for the edit at the leaf that was found. Nothing of it was taken
-  -- since the call began, or a try was lost to another pass; and the pass has entered nothing.
+  -- since the call began, or a try was lost to another pass. The pass has entered nothing, and has
+  -- only looked in its newest try.
   pub record IsFullFor {A : Type 0} (m : UpdateRun E A) (c : Call) (h : History) (full : Full) : Type 0 where
     pub found : Found
     pub has_found : HasFoundGoal (e.goal m.edit) c h found
@@ -422,6 +426,7 @@ module _ {E : Type 0} (e : EditMeaning E) where
     pub short : IsShort (e.needs m.edit found) m.share full.what full.left
     pub first : IsUntouched c h m.share
     pub none : HasEnteredNone c.layout c.pass h c.start
+    pub only_looked : HasOnlyLooked c.pass h c.start
 
   -- at a moment of the call it had found this leaf, at which there was something to make
   pub record WasNeeded (ed : E) (c : Call) (h : History) (found : Found) : Type 0 where
@@ -429,6 +434,26 @@ module _ {E : Type 0} (e : EditMeaning E) where
     pub within : Extends h moment
     pub has_found : HasFoundGoal (e.goal ed) c moment found
     pub needed : e.needs ed found ≢ Nothing
+
+  -- The try that began at the moment `begin` is lost: in it the SCX-record s was in the way over the
+  -- node n, and in it the call has found a leaf at which there was something to make. The pass has
+  -- entered nothing.
+  pub record HasLostTry (ed : E) (c : Call) (now : History) (limit left n s : ℕ) : Type 0 where
+    pub begin : History
+    pub try : IsTry c begin now limit left
+    pub way : IsContended (begun_at c begin) now n s
+    pub none : HasEnteredNone c.layout c.pass now c.start
+    pub found : Found
+    pub needed : WasNeeded ed (begun_at c begin) now found
+
+  -- All tries of the call, so many, were lost, the newest to the SCX-record s over the node n; in it
+  -- the call has found a leaf at which there was something to make. The pass has entered nothing.
+  pub record HasLostEveryTry (ed : E) (c : Call) (h : History) (limit n s : ℕ) : Type 0 where
+    pub way : IsContended c h n s
+    pub none : HasEnteredNone c.layout c.pass h c.start
+    pub all : HasLostTriesTo c.pass h c.start limit n s
+    pub found : Found
+    pub needed : WasNeeded ed (begun_at c all.lost.begin) h found
 
   -- There was nothing to make at this leaf, or the edit is made there. Where the walk goes to the
   -- least key, the leaf tells the first pair of the map just before the entry.
@@ -447,7 +472,7 @@ module _ {E : Type 0} (e : EditMeaning E) where
   abbrev pub IsUpdateAnswer : {A : Type 0} → UpdateRun E A → Call → History → Updated → Type 0
   IsUpdateAnswer m c h (Done key value) = IsDoneWith m.edit m.call c h key value
   IsUpdateAnswer m c h (FullAnswer full) = IsFullFor m c h full
-  IsUpdateAnswer m c h (Contended node scx) = IsContended c h node.0 scx.0 × (m.tries ≡ 0) × HasEnteredNone c.layout c.pass h c.start × HasLostTriesTo c.pass h c.start m.limit node.0 scx.0
+  IsUpdateAnswer m c h (Contended node scx) = (m.tries ≡ 0) × HasLostEveryTry m.edit c h m.limit node.0 scx.0
 
   -- and behind it the pass is at rest, with what is left of the share, and has begun all tries but
   -- those that are left, each only as needed

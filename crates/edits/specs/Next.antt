@@ -17,10 +17,9 @@ use Rattle.prims.specs.declared.scx.ScxAt.TheVariants.{Plan as AtPlan}
 use Rattle.prims.specs.declared.update.Update.{Update}
 use Rattle.template.specs.declared.walk.Found.{Found}
 use Rattle.edits.specs.Edits.{EditMeaning}
-use Rattle.edits.specs.Known.{MayBeginTry, UpdateAnswers, UpdateWaits, done_at}
+use Rattle.edits.specs.Known.{MayBeginTry, HasLostTry, UpdateAnswers, UpdateWaits, done_at}
 use Rattle.edits.specs.Pieces.{nth_node, plan_over, top_of, word_of}
 use Rattle.edits.specs.Steps.{IsSpending, Spends, try_left, update_left}
-use Rattle.edits.specs.Tries.{HasLostTry}
 use Rattle.edits.specs.declared.edit.Nth.{Nth}
 use Rattle.edits.specs.declared.update.Next.{Next}
 use Rattle.edits.specs.declared.update.Next.TheVariants.{Look as LookNext, Wait, Load as LoadNext, Fill as FillNext, Change}
@@ -73,7 +72,7 @@ module _ {E : Type 0} (e : EditMeaning E) where
   -- a try may end so: with what its update answers, or lost to another pass
   abbrev pub MayStop : {A : Type 0} → Call → History → UpdateRun E A → Found → Stop → Type 0
   MayStop c h m f Nothing = UpdateAnswers e m c h (done_at f)
-  MayStop c h m f (Lost node scx) = MayBeginTry e m c h × HasLostTry c h m.limit m.tries node.0 scx.0
+  MayStop c h m f (Lost node scx) = MayBeginTry e m c h × HasLostTry e m.edit c h m.limit m.tries node.0 scx.0
   MayStop c h m f (FullStop full) = UpdateAnswers e m c h (FullAnswer full)
 
   -- once it has begun what it does next, it waits for that step; or it may end so

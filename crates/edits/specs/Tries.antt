@@ -1,15 +1,16 @@
 -- The tries of a call, and what its pass has entered into the log since it began.
-use Rattle.std.specs.Prelude.{◌≡◌, ℕ, ◌<◌, List, length}
+use Rattle.std.specs.Prelude.{◌≡◌, ◌≢◌, ℕ, ◌<◌, List, length}
 use Rattle.arena.specs.declared.layout.Layout.{Layout}
+use Rattle.arena.specs.declared.step.Kind.TheVariants.{Fill}
 use Rattle.arena.specs.declared.step.Row.{Row}
 use Rattle.arena.specs.Fills.{IsOwnScx}
 use Rattle.arena.specs.History.{History, ◌⊳◌, Extends}
 use Rattle.arena.specs.Lawful.{IsWin}
-use Rattle.arena.specs.Machines.{Call, begun_at}
+use Rattle.arena.specs.Machines.{Call}
 use Rattle.arena.specs.ScxRecords.{member}
 use Rattle.prims.specs.Snap.{snap_at}
 use Rattle.prims.specs.declared.snap.Snap.{Snap}
-use Rattle.template.specs.Blame.{IsContended}
+use Rattle.ordered_map.specs.Tries.{IsNewestTry}
 use Rattle.template.specs.Tries.{MayTryNext, IsInNewest}
 use Rattle.template.specs.declared.walk.WalkAt.{WalkAt}
 use Rattle.template.specs.declared.walk.WalkAt.TheVariants.{Root}
@@ -21,6 +22,17 @@ HasEnteredOnly lay c s h start = (row : Row) (before : History) (t : ℕ) → Ex
 -- nor of any
 abbrev pub HasEnteredNone : Layout → ℕ → History → History → Type 0
 HasEnteredNone lay c h start = (row : Row) (before : History) (t : ℕ) → Extends h (row ⊳ before) → Extends before start → IsWin before row t → ¬ IsOwnScx lay c t
+
+-- the pass c has filled no word since the moment `begin`: so it has taken nothing of its share
+abbrev pub HasFilledNone : ℕ → History → History → Type 0
+HasFilledNone c now begin = (row : Row) (before : History) → Extends now (row ⊳ before) → Extends before begin → row.pass.0 ≡ c → row.kind ≢ Fill
+
+-- It has filled none in its newest try since the moment `start`.
+pub record HasOnlyLooked (c : ℕ) (now start : History) : Type 0 where
+  pub begin : History
+  pub since : Extends begin start
+  pub newest : IsNewestTry c now begin
+  pub none : HasFilledNone c now begin
 
 -- A try may begin, of a call that may try `limit` times in all, and so many are left behind it:
 -- until the moment `begin` the pass has entered nothing, and by now it has lost all others.
@@ -39,13 +51,6 @@ pub record IsTry (c : Call) (begin now : History) (limit left : ℕ) : Type 0 wh
 abbrev pub IsTryAt : Call → History → History → ℕ → ℕ → WalkAt → Type 0
 IsTryAt c begin now limit left Root = MayTry c begin now limit left
 IsTryAt c begin now limit left _ = IsTry c begin now limit left
-
--- the try is lost: in it the SCX-record s was in the way over the node n
-pub record HasLostTry (c : Call) (now : History) (limit left n s : ℕ) : Type 0 where
-  pub begin : History
-  pub try : IsTry c begin now limit left
-  pub way : IsContended (begun_at c begin) now n s
-  pub none : HasEnteredNone c.layout c.pass now c.start
 
 -- the SCX-record covers the nodes of these snapshots
 abbrev pub CoversSnaps : History → ℕ → List Snap → Type 0

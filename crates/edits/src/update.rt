@@ -175,11 +175,11 @@ impl<E: Edit + Drop> UpdateRun<E, UpdateAt> {
     ghost use Rattle.prims.specs.Llx.Known.{LlxIsReady};
     ghost use Rattle.prims.specs.Scx.Known.{ScxIsReady};
     ghost use Rattle.ordered_map.specs.TreeShape.{TreeAllows};
-    ghost use Rattle.edits.specs.Known.{MayBeginTry, IsUntouched, Looks, Scxs, UpdateTurn};
+    ghost use Rattle.edits.specs.Known.{MayBeginTry, HasLostTry, IsUntouched, Looks, Scxs, UpdateTurn};
     ghost use Rattle.edits.specs.Steps.{HasScxForFill, IsSpending, node_tries, scx_tries};
     ghost use Rattle.edits.specs.Next.{IsSameUpdate, placed, next_step, fills, update_of, MayStop, UpdateGoesOn, ComesNearer, HasSpentForNext};
     ghost use Rattle.arena.specs.Share.{Remaining};
-    ghost use Rattle.edits.specs.Tries.{MayTry, IsTry, HasLostTry};
+    ghost use Rattle.edits.specs.Tries.{MayTry, IsTry};
 
     /// Begins a try, with the load of the root's head.
     fn begin_walk(&mut self) -> Turn<Updated>
@@ -205,7 +205,7 @@ impl<E: Edit + Drop> UpdateRun<E, UpdateAt> {
     #[cold]
     fn lost(&mut self, node: NodeNo, scx: ScxNo) -> Turn<Updated>
         ensures turn { (c : Call) (h : History) → IsRun TreeAllows c.layout h → MayBeginTry E.means self.old c h
-            → HasLostTry c h self.old.limit self.old.tries node.0 scx.0 → UpdateTurn E.means c h self.new result }
+            → HasLostTry E.means self.old.edit c h self.old.limit self.old.tries node.0 scx.0 → UpdateTurn E.means c h self.new result }
         ensures same { IsSameUpdate self.old self.new }
         ensures gives_up { MatchTurn result (λ _. Unit {0}) (λ _. self.old.tries ≡ 0) }
         ensures nearer { (nodes : ℕ) → IsNearer E.means self.new nodes result (self.old.tries * try_left E.means nodes) }

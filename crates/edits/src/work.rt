@@ -26,7 +26,7 @@ impl<E: Edit + Drop, A: Drop> UpdateRun<E, A> {
     ghost use Rattle.arena.specs.Words.{node};
     ghost use Rattle.edits.specs.Steps.{works_after};
     ghost use Rattle.edits.specs.Next.{IsSameUpdate, standing, update_of, UpdateGoesOn, ComesNearer, HasSpentForNext};
-    ghost use Rattle.edits.specs.Tries.{IsTry};
+    ghost use Rattle.edits.specs.Tries.{IsTry, HasFilledNone};
     ghost use Rattle.prims.specs.Laws.Idle.{IsQuietSince};
 
     /// A run at this place, or at none, in the caller's call of this number.
@@ -100,7 +100,8 @@ impl<E: Edit + Drop, A: Drop> UpdateRun<E, A> {
     pub fn test_share(&mut self, found: &Found) -> Result<Next, Stop>
         ensures turn { (c : Call) (b h : History) → IsRun TreeAllows c.layout h → IsTry c b h self.old.limit self.old.tries
             → IsUntouched c b self.old.share → MayBeginTry E.means self.old (begun_at c b) h → IsQuietSince c.layout c.pass b h
-            → HasFoundGoal (E.means.goal self.old.edit) (begun_at c b) h found.now → UpdateGoesOn E.means c h self.new found.now result }
+            → HasFilledNone c.pass h b → HasFoundGoal (E.means.goal self.old.edit) (begun_at c b) h found.now
+            → UpdateGoesOn E.means c h self.new found.now result }
         ensures same { IsSameUpdate self.old self.new }
         ensures nearer { (nodes : ℕ) → ComesNearer E.means self.new found.now result nodes
             (self.old.tries * try_left E.means nodes + (64 * E.means.most_looks + works_behind E.means First + 39)) }

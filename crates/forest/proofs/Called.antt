@@ -5,7 +5,7 @@ use Rattle.arena.specs.declared.step.Row.{Row}
 use Rattle.arena.specs.declared.step.Step.{Step}
 use Rattle.arena.specs.declared.limits.Mode.{Mode}
 use Rattle.arena.specs.History.{History, Start, ◌⊳◌, Extends}
-use Rattle.arena.specs.Machines.{Call}
+use Rattle.arena.specs.Machines.{Call, row_of}
 use Rattle.arena.proofs.Lemmas.{ends_trans}
 use Rattle.forest.specs.TableRule.{history_of, ByOthers}
 use Rattle.forest.specs.Traces.{Trace, begins, others, makes, goes_on}
@@ -45,3 +45,12 @@ course_calls c m h (begins e k) = subst (AreOfCall c.pass c.number c.start) (sym
 course_calls c m h (others s r g e w other run x) = subst (AreOfCall c.pass c.number c.start) (sym e) (own_more (λ r. r.call ≡ c.number) c.pass c.start g r (λ own. absurd (other own)) (course_calls c m g x))
 course_calls c m h (makes s g e w run x) = subst (AreOfCall c.pass c.number c.start) (sym e) (own_more (λ r. r.call ≡ c.number) c.pass c.start g _ (λ own. refl) (course_calls c m g x))
 course_calls c m h (goes_on old is x) = course_calls c old h x
+
+-- What holds of the row of each step for which the machine waits, as long as Q holds of it, holds of
+-- each own row of the call.
+module _ {M : Type 0} {allows : Layout → History → ℕ → Type 0} (waits : M → Call → History → Step → Type 0) (same : M → M → Type 0) (c : Call) (first : M) (P : Row → Type 0) (Q : M → Type 0) (opens : Q first) (stays : (old now : M) → same old now → Q old → Q now) (steps : (m : M) (h : History) (s : Step) → Q m → waits m c h s → P (row_of c s h)) where
+  pub course_holds : (m : M) (h : History) → Trace allows waits same c first m h → Q m × HoldsOfOwn P c.pass c.start h
+  course_holds m h (begins e k) = (subst Q (sym e) opens, subst (HoldsOfOwn P c.pass c.start) (sym k) (own_start P c.pass c.start))
+  course_holds m h (others s r g e w other run x) = let y = course_holds m g x in (y.0, subst (HoldsOfOwn P c.pass c.start) (sym e) (own_more P c.pass c.start g r (λ own. absurd (other own)) y.1))
+  course_holds m h (makes s g e w run x) = let y = course_holds m g x in (y.0, subst (HoldsOfOwn P c.pass c.start) (sym e) (own_more P c.pass c.start g (row_of c s g) (λ own. steps m g s y.0 w) y.1))
+  course_holds m h (goes_on old is x) = let y = course_holds old h x in (stays old m is y.0, y.1)

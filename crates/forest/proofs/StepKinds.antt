@@ -9,7 +9,7 @@ use Rattle.arena.specs.declared.machine.Turn.TheVariants.{Ask}
 use Rattle.arena.specs.declared.step.Row.{Row}
 use Rattle.arena.specs.declared.step.Step.{Step}
 use Rattle.arena.specs.History.{History, ◌⊳◌, Extends}
-use Rattle.arena.specs.Machines.{Call, row_of}
+use Rattle.arena.specs.Machines.{Call}
 use Rattle.arena.specs.Share.{Remaining}
 use Rattle.arena.proofs.Lemmas.{ends_trans}
 use Rattle.prims.proofs.Lemmas.{all_over}
@@ -37,8 +37,8 @@ use Rattle.forest.specs.PassInvariant.{IsPass, pass_view}
 use Rattle.forest.specs.StepKinds.{HasKeptToKinds}
 use Rattle.forest.specs.StraightCalls.{IsSameDictCall}
 use Rattle.forest.specs.TableRule.{history_of}
-use Rattle.forest.specs.Traces.{HoldsForCall, Trace, begins, others, makes, goes_on, known_of}
-use Rattle.forest.proofs.Called.{own_more, own_start}
+use Rattle.forest.specs.Traces.{HoldsForCall, Trace, known_of}
+use Rattle.forest.proofs.Called.{course_holds, own_start}
 use Rattle.forest.proofs.Calls.{course_keeps}
 use Rattle.forest.proofs.DictCalls.{Answered, IsSameCall, behind, dict_refuses}
 use Rattle.forest.proofs.Entered.{HasEnded}
@@ -56,17 +56,6 @@ asks_some m some = (
 -- so does one that asks for a step where one that asks for nothing tells none
 pub asks_on : (m : RangeRun) (s : Step) → (AsksForNothing m → TellsNone (Ask s)) → AsksForSome m
 asks_on m s tells = asks_some m (λ x. let e = (tells x).1 in cc)
-
--- The steps by which a call has come so far
-
--- What holds of the row of each step for which the machine waits, as long as Q holds of it, holds of
--- each own row of the call.
-module _ {M : Type 0} {allows : Layout → History → ℕ → Type 0} (waits : M → Call → History → Step → Type 0) (same : M → M → Type 0) (c : Call) (first : M) (P : Row → Type 0) (Q : M → Type 0) (opens : Q first) (stays : (old now : M) → same old now → Q old → Q now) (steps : (m : M) (h : History) (s : Step) → Q m → waits m c h s → P (row_of c s h)) where
-  course_holds : (m : M) (h : History) → Trace allows waits same c first m h → Q m × HoldsOfOwn P c.pass c.start h
-  course_holds m h (begins e k) = (subst Q (sym e) opens, subst (HoldsOfOwn P c.pass c.start) (sym k) (own_start P c.pass c.start))
-  course_holds m h (others s r g e w other run x) = let y = course_holds m g x in (y.0, subst (HoldsOfOwn P c.pass c.start) (sym e) (own_more P c.pass c.start g r (λ own. absurd (other own)) y.1))
-  course_holds m h (makes s g e w run x) = let y = course_holds m g x in (y.0, subst (HoldsOfOwn P c.pass c.start) (sym e) (own_more P c.pass c.start g (row_of c s g) (λ own. steps m g s y.0 w) y.1))
-  course_holds m h (goes_on old is x) = let y = course_holds old h x in (stays old m is y.0, y.1)
 
 -- no row of a history is behind it
 no_row : (h : History) (r : Row) (before : History) → Extends h (r ⊳ before) → Extends before h → ⊥

@@ -56,11 +56,12 @@ use Rattle.template.proofs.Lemmas.{own_since, walk_begins}
 use Rattle.edits.specs.Edits.{EditMeaning}
 use Rattle.edits.specs.Known.{MayBeginTry, CanFill, CanLook, IsFilledUpTo, IsNeeded, IsUntouched, Loads, Looks, IsFullFor, UpdateAnswers, UpdateIsReady, UpdateWaits, UpdateTurn, Walks, copied, done_at as done_with}
 use Rattle.edits.specs.Steps.{HasScxForFill, IsSpending, Spends, IsWanted, UpdateFits, fills_left, node_tries, scx_tries, try_left, update_left, works_after}
-use Rattle.edits.specs.Tries.{IsTry, IsTryAt}
+use Rattle.edits.specs.Tries.{IsTry, IsTryAt, HasFilledNone}
 use Rattle.edits.specs.Next.{IsSameUpdate, placed, standing, next_step, update_of, MayStop, UpdateGoesOn, HasSpentForNext, left_then}
 use Rattle.edits.specs.declared.update.Stop.{Stop}
 use Rattle.edits.specs.declared.update.Stop.TheVariants.{Nothing as NothingStop, Lost as LostStop, Full as FullStop}
 use Rattle.edits.specs.declared.update.Updated.TheVariants.{Done as DoneAnswer, Contended as ContendedAnswer, Full as FullAnswer}
+use Rattle.edits.specs.Laws.Entered.{none_filled_yet}
 use Rattle.edits.specs.Laws.Update.{update_scx_left, update_told}
 use Rattle.edits.specs.declared.update.Next.{Next}
 use Rattle.edits.specs.declared.update.Next.TheVariants.{Look as LookNext, Wait as WaitNext, Load as LoadNext, Fill as FillNext, Change as ChangeNext}
@@ -107,7 +108,7 @@ try_past c begin now limit left _ past x = x
 -- An update that stands elsewhere, or nowhere
 
 full_there : {E A B : Type 0} (e : EditMeaning E) (c : Call) (h : History) (m : UpdateRun E A) (at : B) (full : Full) → IsFullFor e m c h full → IsFullFor e (standing m at) c h full
-full_there e c h m at full x = record { found = x.found; has_found = x.has_found; needed = x.needed; short = x.short; first = x.first; none = x.none }
+full_there e c h m at full x = record { found = x.found; has_found = x.has_found; needed = x.needed; short = x.short; first = x.first; none = x.none; only_looked = x.only_looked }
 
 pub answers_there : {E A B : Type 0} (e : EditMeaning E) (c : Call) (h : History) (m : UpdateRun E A) (at : B) (a : Updated) → UpdateAnswers e m c h a → UpdateAnswers e (standing m at) c h a
 answers_there e c h m at (DoneAnswer key value) x = x
@@ -149,7 +150,7 @@ module _ {M E : Type 0} {o : Calls M} {e : EditMeaning E} (u : Updater o e) wher
         let y = u.tells (walking m old.0) h (Some v) x in
         let w = y.3.0 in
         u.turns (walking m old.0) (walking m now.0) h (Some v) s (moves m (Walk old.0) (Walk now.0) refl refl) x
-        (y.0, try_past u.call y.0 h m.limit m.tries now.0.at goes.0 y.1, y.2, (record { small = w.small; rests = w.rests; quiet = w.quiet; same = goes.1 ∙ w.same }, next (begun_at u.call y.0) y.3.1));
+        (y.0, try_past u.call y.0 h m.limit m.tries now.0.at goes.0 y.1, y.2, (record { small = w.small; rests = w.rests; quiet = w.quiet; none_filled = w.none_filled; same = goes.1 ∙ w.same }, next (begun_at u.call y.0) y.3.1));
     stays = λ old now goes. u.stays (walking m old.0) (walking m now.0) (moves m (Walk old.0) (Walk now.0) refl refl);
   }
 
@@ -173,7 +174,7 @@ module _ {M E : Type 0} {o : Calls M} {e : EditMeaning E} (u : Updater o e) wher
             r.1,
             inl r.2,
             (
-              record { small = b.small; rests = record { share = b.rests.share; over = b.rests.over }; quiet = quiet_at_start u.call.layout u.call.pass h (idle_if_finished u.call h b.run.1.lawful b.rests.over); same = is_goal },
+              record { small = b.small; rests = record { share = b.rests.share; over = b.rests.over }; quiet = quiet_at_start u.call.layout u.call.pass h (idle_if_finished u.call h b.run.1.lawful b.rests.over); none_filled = none_filled_yet u.call.pass h; same = is_goal },
               walk_begins goal (begun_at u.call h) h b.run (rw is_goal b.small) (ends_self h),
             ),
           )
@@ -220,11 +221,11 @@ module _ {M E : Type 0} {o : Calls M} {e : EditMeaning E} (u : Updater o e) wher
 
   -- behind its walk it goes on as its try does
   pub finds : (ps : List SeatedPass) {A : Type 0} (m now : UpdateRun E A) (goal : Goal) (turn : NodeNo) (f : Found) (next : Result Next Stop) → goal ≡ e.goal m.edit → IsSameUpdate m now → now.tries ≡ m.tries → HasSpentForNext e m.share now f next (m.tries + 1) (m.tries + 1)
-      → ((b h : History) → IsRun TreeAllows u.call.layout h → IsTry u.call b h m.limit m.tries → IsUntouched u.call b m.share → MayBeginTry e m (begun_at u.call b) h → IsQuietSince u.call.layout u.call.pass b h → HasFoundGoal (e.goal m.edit) (begun_at u.call b) h f → UpdateGoesOn e u.call h now f next)
+      → ((b h : History) → IsRun TreeAllows u.call.layout h → IsTry u.call b h m.limit m.tries → IsUntouched u.call b m.share → MayBeginTry e m (begun_at u.call b) h → IsQuietSince u.call.layout u.call.pass b h → HasFilledNone u.call.pass h b → HasFoundGoal (e.goal m.edit) (begun_at u.call b) h f → UpdateGoesOn e u.call h now f next)
       → WalkerFinds (walker m) ps goal turn f → UpdaterGoesOn u ps now f next
   unfolding walker
   finds ps m now goal turn f next is_goal is tries spent goes x =
-      goes_behind ps now f (walking m x.last) x.told next is tries spent x.so (goes y.0 _ (u.runs _ x.so.sound) y.1 y.2 record { run = w.1.run; small = w.0.small; since = own_since (begun_at u.call y.0) _ w.1.own; rests = record { share = w.0.rests.share; over = w.0.rests.over } } w.0.quiet (rw (← is_goal) (x.finds (begun_at u.call y.0) _ w.1)))
+      goes_behind ps now f (walking m x.last) x.told next is tries spent x.so (goes y.0 _ (u.runs _ x.so.sound) y.1 y.2 record { run = w.1.run; small = w.0.small; since = own_since (begun_at u.call y.0) _ w.1.own; rests = record { share = w.0.rests.share; over = w.0.rests.over } } w.0.quiet w.0.none_filled (rw (← is_goal) (x.finds (begun_at u.call y.0) _ w.1)))
     where
       y : UpdateIsReady e (walking m x.last) u.call (history_of u.call.layout.mode x.so.known) (Some x.told)
       y = u.tells (walking m x.last) _ (Some x.told) x.so.so.0

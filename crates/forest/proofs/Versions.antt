@@ -17,8 +17,8 @@ use Rattle.ordered_map.proofs.Lemmas.{one_spelling, spells_log, makes_since}
 use Rattle.edits.specs.Known.{RestsWith, IsUntouched}
 use Rattle.edits.specs.Tries.{HasEnteredNone}
 use Rattle.dict.specs.Laws.OneShare.{one_share}
-use Rattle.dict.specs.Says.{HasMadeEdit, HasToldBy, HasTold, HasLost, HasRunOut}
-use Rattle.forest.specs.Dictionary.{IsVersion, IsChange, IsChangeOrReading, IsContendedCall, IsFullCall}
+use Rattle.dict.specs.Says.{HasMadeEdit, HasNeeded, HasToldBy, HasTold, HasLost, HasRunOut}
+use Rattle.forest.specs.Dictionary.{HadToDo, IsVersion, IsChange, IsChangeOrReading, IsContendedCall, IsFullCall}
 use Rattle.forest.specs.Passes.{PassView, run_of, done_of, taken_of}
 use Rattle.forest.proofs.Entered.{none_entered, one_entered}
 use Rattle.forest.proofs.Took.{made_row, took_from, took_below, took_some}
@@ -77,6 +77,7 @@ module _ (was : PassView) (is_pass : was.number < was.layout.passes) (number : �
       version = version_at then run y.moment y.within y.map y.spelled;
       gives = y.gives;
       done = none_more y.none;
+      only_looked = y.only_looked;
     }
 
     -- what is told, with what its share had as the call began, and has now
@@ -84,12 +85,8 @@ module _ (was : PassView) (is_pass : was.number < was.layout.passes) (number : �
     told_says call told first rests y = told_by (edit_of call told) call told first rests y
 
     -- refusals
-    pub lost_says : (tries n s : ℕ) → HasLost call_by (run_of then) tries n s → IsContendedCall tries was then n s
-    lost_says tries n s y = record { others = y.way.others; lost = y.all; over_or_new = y.way.over_or_new; done = none_more y.none }
-
-    -- with what its share had as the call began
-    pub full_says : (call : MapCall) (full : FullOf) → RestsWith call_by (run_of was) was.share → HasRunOut call_by (run_of then) call left full → IsFullCall was then call full
-    full_says call full rests y = record {
+    abbrev had_to_do : (begin : History) (call : MapCall) → HasNeeded was.layout was.number (run_of then) begin call → HadToDo then begin call
+    had_to_do begin call y = record {
       moment = y.moment;
       within = y.within;
       since = y.since;
@@ -97,8 +94,24 @@ module _ (was : PassView) (is_pass : was.number < was.layout.passes) (number : �
       map = y.map;
       version = version_at then run y.moment y.within y.map y.spelled;
       some = y.some;
+    }
+
+    pub lost_says : (tries : ℕ) (call : MapCall) (n s : ℕ) → HasLost call_by (run_of then) call tries n s → IsContendedCall tries was then call n s
+    lost_says tries call n s y = record {
+      others = y.way.others;
+      lost = y.all;
+      over_or_new = y.way.over_or_new;
+      needed = λ some. had_to_do y.all.lost.begin call (y.needed some);
+      done = none_more y.none;
+    }
+
+    -- with what its share had as the call began
+    pub full_says : (call : MapCall) (full : FullOf) → RestsWith call_by (run_of was) was.share → HasRunOut call_by (run_of then) call left full → IsFullCall was then call full
+    full_says call full rests y = record {
+      needed = had_to_do (run_of was) call y.needed;
       short = y.short;
       first = untouched y.first;
+      only_looked = y.only_looked;
       done = none_more y.none;
     }
       where

@@ -1,7 +1,10 @@
 -- What a call of `vlx` says.
-use Rattle.std.proofs.Common.{◌≡◌, ◌≢◌, ◌<◌, ℕ, zero, suc, inl, inr, List, [], ◌∷◌, length, refl, sym, ◌∙◌, ap, arith}
+use Rattle.std.proofs.Common.{◌≡◌, ◌≢◌, ◌<◌, ℕ, zero, suc, inl, inr, List, [], ◌∷◌, length, refl, sym, ◌∙◌, ap, subst, arith}
 use Rattle.atomic_table.specs.declared.shared.Seat.{Seat}
 use Rattle.arena.specs.declared.layout.Layout.{Layout}
+use Rattle.arena.specs.declared.step.Kind.TheVariants.{LoadInfo}
+use Rattle.arena.specs.declared.step.Row.{Row}
+use Rattle.arena.specs.declared.step.Step.{Step}
 use Rattle.arena.specs.History.{History}
 use Rattle.arena.specs.declared.limits.Mode.{Mode}
 use Rattle.prims.specs.Snaps.{AreDistinct, IsAmong}
@@ -16,8 +19,11 @@ use Rattle.forest.specs.declared.view.SeatView.{SeatView}
 use Rattle.forest.specs.declared.pass.Pass.TheInside.{Inside}
 use Rattle.forest.specs.Traces.{known_of}
 use Rattle.forest.specs.StraightVlx.{vlx_at, AreSameSnaps, waits_over, SeatVlxBegins, SeatVlxEnds}
-use Rattle.forest.specs.Passes.{CanUse, Each, AreApart, HasNodeOf, VlxSays}
+use Rattle.forest.specs.Passes.{CanUse, Each, AreApart, HasNodeOf, HoldsOfOwn, VlxSays, run_of}
 use Rattle.forest.specs.PassInvariant.{pass_view, IsPass}
+use Rattle.forest.specs.StepKinds.{HasLoadedInfosAlone}
+use Rattle.forest.specs.TableRule.{history_of}
+use Rattle.forest.proofs.Called.{course_holds}
 use Rattle.forest.proofs.Calls.{course_keeps}
 use Rattle.forest.proofs.Passes.{HasCalled, call_of, seated, called}
 
@@ -62,6 +68,13 @@ module _ {L : Type 0} (list : L → List Snap) {allows : Layout → History → 
       let z = called p x s number (waits_over list) AreSameSnaps (vlx_at snaps 0) y.0 (λ h. VlxAnswers (list y.0.snaps) (call_of p x number) h a) (λ k h t w. vlx_fills_not (list k.snaps) k.asked (call_of p x number) h t w) y.1 in
       let is : y.0.snaps ≡ snaps = course_keeps (λ (k : VlxRun L). k.snaps ≡ snaps) refl (λ old now e q. e ∙ q) y.0 _ y.1.so.1 in
       record { seat = z.seat; answers = rw is at z.answers; goes = z.goes; calls = z.calls }
+
+  -- it has loaded info words alone
+  pub vlx_kinds : (s : Seat ℕ SeatView) (snaps : L) (a : Vlx) → SeatVlxEnds list allows (call_of p x number) s.me.0.passes snaps a → HasLoadedInfosAlone (pass_view p) (pass_view (seated p s))
+  vlx_kinds s snaps a y =
+      let known : y.1.known ≡ known_of s.me.0.passes = sym (ap known_of y.1.is) in
+      subst (λ (rows : List Row). HoldsOfOwn (λ r. r.kind ≡ LoadInfo) p.number.0 (run_of (pass_view p)) (history_of p.layout.mode rows)) known
+      (course_holds (waits_over list) AreSameSnaps (call_of p x number) (vlx_at snaps 0) (λ r. r.kind ≡ LoadInfo) (λ m. Unit {0}) tt (λ old now is q. tt) (λ k h t q w. ap (λ (step : Step). step.kind) w.asked) y.0 _ y.1.so.1).1
 
   pub vlx_says : (s : Seat ℕ SeatView) (snaps : L) (a : Vlx) → HasCalled allows p s number (Looked snaps a) → VlxSays (pass_view p) (pass_view (seated p s)) (list snaps) a
   vlx_says s snaps Same y = (y.answers.found, y.answers.asked)

@@ -15,6 +15,7 @@ use Rattle.ordered_map.specs.OrderedMap.{MapCall, PopFirst, Successor, Range, Ma
 use Rattle.ordered_map.specs.Runs.{Makes, map_of_log}
 use Rattle.ordered_map.specs.Spelled.{Spells}
 use Rattle.template.specs.Blame.{IsOverOrNew, HasLostTriesTo}
+use Rattle.edits.specs.Tries.{HasOnlyLooked}
 use Rattle.template.specs.Tries.{tries_since, HasTriedAtMost}
 use Rattle.ordered_map.specs.CallRules.{Form, IsFormOfEdit, MayReply, need, most_nodes, most_scx, most_steps}
 use Rattle.dict.specs.Calls.{AsksForPairs, most_tries}
@@ -73,7 +74,8 @@ pub record IsChange (old new : PassView) (call : MapCall) (told : MapReply) (edi
 
 -- The call has read the map: at a moment from what was known before to what is known now it gave
 -- this reply. The moment is not before the call's first own row; a range that takes no pair makes
--- none, and tells what every map replies. The pass has no entry more.
+-- none, and tells what every map replies. The pass has no entry more, and a call that may take nodes
+-- has filled nothing in its newest try.
 pub record IsReading (old new : PassView) (call : MapCall) (told : MapReply) : Type 0 where
   pub moment : History
   pub within : Extends (run_of new) moment
@@ -83,6 +85,7 @@ pub record IsReading (old new : PassView) (call : MapCall) (told : MapReply) : T
   pub version : IsVersion new moment map
   pub gives : reply call map ≡ told
   pub done : done_of new ≡ done_of old
+  pub only_looked : 0 < most_nodes call → HasOnlyLooked new.number (run_of new) (run_of old)
 
 -- a change by this edit, or a reading
 abbrev pub IsChangeOrReading : Option MapEdit → PassView → PassView → MapCall → MapReply → Type 0
@@ -96,35 +99,42 @@ IsToldOf old new call None = Unit {0}
 
 -- Refusals
 
--- The call has made so many tries and lost them all. The SCX-record s, which is another pass's, was
--- in the way of the last over the node n, and in that try the pass has itself found s in the info
--- of n. It is finished now, or has come to n since what was known before. The pass has no entry
--- more.
-pub record IsContendedCall (tries : ℕ) (old new : PassView) (n s : ℕ) : Type 0 where
-  pub others : IsOthersScx new.layout new.number s
-  pub lost : HasLostTriesTo new.number (run_of new) (run_of old) tries n s
-  pub over_or_new : IsOverOrNew (run_of new) (run_of old) n s
-  pub done : done_of new ≡ done_of old
-
--- The share has too little left for the next try: at a moment from the call's first own row on the
--- call needed some nodes, of which there are not enough, or no SCX-record is left. The call has
--- taken nothing of the share, or a try was lost to another pass, which was in the way. The pass has
--- no entry more.
-pub record IsFullCall (old new : PassView) (call : MapCall) (full : FullOf) : Type 0 where
+-- The call had something to do since the moment `begin`: some version, from the pass's first own row
+-- since then on, needs some nodes of it.
+pub record HadToDo (new : PassView) (begin : History) (call : MapCall) : Type 0 where
   pub moment : History
   pub within : Extends (run_of new) moment
-  pub since : Extends moment (run_of old)
-  pub own : HasMadeRow old.number (run_of old) moment
+  pub since : Extends moment begin
+  pub own : HasMadeRow new.number begin moment
   pub map : List PairOf
   pub version : IsVersion new moment map
   pub some : 0 < need call map
-  pub short : HasTooLittle (need call map) new.share full.what full.left
+
+-- The call has made so many tries and lost them all. The SCX-record s, which is another pass's, was
+-- in the way of the last over the node n, and in that try the pass has itself found s in the info
+-- of n. It is finished now, or has come to n since what was known before. A call that may take nodes
+-- had something to do in that try. The pass has no entry more.
+pub record IsContendedCall (tries : ℕ) (old new : PassView) (call : MapCall) (n s : ℕ) : Type 0 where
+  pub others : IsOthersScx new.layout new.number s
+  pub lost : HasLostTriesTo new.number (run_of new) (run_of old) tries n s
+  pub over_or_new : IsOverOrNew (run_of new) (run_of old) n s
+  pub needed : 0 < most_nodes call → HadToDo new lost.lost.begin call
+  pub done : done_of new ≡ done_of old
+
+-- The share has too little left for the next try of the call, which had something to do: there are
+-- not enough nodes for what it needed, or no SCX-record is left. The call has taken nothing of the
+-- share, or a try was lost to another pass, which was in the way. The pass has no entry more, and has
+-- filled nothing in its newest try.
+pub record IsFullCall (old new : PassView) (call : MapCall) (full : FullOf) : Type 0 where
+  pub needed : HadToDo new (run_of old) call
+  pub short : HasTooLittle (need call needed.map) new.share full.what full.left
   pub first : (new.share ≡ old.share) ⊎ ((n : ℕ) × (s : ℕ) × IsOthersScx new.layout new.number s × WasInTheWay (run_of new) (run_of old) n s)
+  pub only_looked : HasOnlyLooked new.number (run_of new) (run_of old)
   pub done : done_of new ≡ done_of old
 
 -- why nothing is told by a call that may try so often
 abbrev pub IsRefusalOf : {K V : Type 0} → ℕ → PassView → PassView → MapCall → Reply K V → Type 0
-IsRefusalOf tries old new call (Contended node scx) = IsContendedCall tries old new node.0 scx.0
+IsRefusalOf tries old new call (Contended node scx) = IsContendedCall tries old new call node.0 scx.0
 IsRefusalOf tries old new call (Full full) = IsFullCall old new call full
 IsRefusalOf tries old new call NoMemory = KeepsLists call × (done_of new ≡ done_of old)
 IsRefusalOf tries old new call _ = Unit {0}
@@ -178,7 +188,7 @@ RepliesValue call = (form : Form) → MayReply call form → IsFormOfEdit form
 
 -- why an edit has told nothing, which may try so often
 abbrev pub UpdateRefuses : ℕ → PassView → PassView → MapCall → UpdateFault → Type 0
-UpdateRefuses tries old new call (updates.Contended node scx) = IsContendedCall tries old new node.0 scx.0
+UpdateRefuses tries old new call (updates.Contended node scx) = IsContendedCall tries old new call node.0 scx.0
 UpdateRefuses tries old new call (updates.Full full) = IsFullCall old new call full
 
 -- What an answer of `insert`, `delete` or `replace_if` says. An insert has changed the map, and so
@@ -200,19 +210,19 @@ blamed_by_update (Err (updates.Contended node scx)) blamed = scx.0 ∷ blamed
 blamed_by_update _ blamed = blamed
 
 -- why an ordered read has told nothing, which may try so often
-abbrev pub ReadRefuses : ℕ → PassView → PassView → OrderFault → Type 0
-ReadRefuses tries old new (reads.Contended node scx) = IsContendedCall tries old new node.0 scx.0
-ReadRefuses tries old new reads.NoMemory = done_of new ≡ done_of old
+abbrev pub ReadRefuses : ℕ → PassView → PassView → MapCall → OrderFault → Type 0
+ReadRefuses tries old new call (reads.Contended node scx) = IsContendedCall tries old new call node.0 scx.0
+ReadRefuses tries old new call reads.NoMemory = done_of new ≡ done_of old
 
 -- what an answer of `successor` says
 abbrev pub SuccessorSays : {K V : Type 0} → (K → ℕ) → (V → ℕ) → ℕ → PassView → PassView → ℕ → Result (Option (K × V)) OrderFault → Type 0
 SuccessorSays key_word value_word tries old new k (Ok found) = IsReading old new (Successor k) (pair_or_none (option_map (word_pair key_word value_word) found))
-SuccessorSays key_word value_word tries old new k (Err fault) = ReadRefuses tries old new fault
+SuccessorSays key_word value_word tries old new k (Err fault) = ReadRefuses tries old new (Successor k) fault
 
 -- what an answer of `range` says
 abbrev pub RangeSays : {K V : Type 0} → (K → ℕ) → (V → ℕ) → ℕ → PassView → PassView → ℕ → ℕ → ℕ → Result (Vec (K × V) Global) OrderFault → Type 0
 RangeSays key_word value_word tries old new low high most (Ok found) = IsReading old new (Range low high most) (ManyPairs (map (word_pair key_word value_word) found.items))
-RangeSays key_word value_word tries old new low high most (Err fault) = ReadRefuses tries old new fault
+RangeSays key_word value_word tries old new low high most (Err fault) = ReadRefuses tries old new (Range low high most) fault
 
 -- whom an ordered read blames
 abbrev pub blamed_by_read : {A : Type 0} → Result A OrderFault → List ℕ → List ℕ

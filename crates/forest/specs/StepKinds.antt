@@ -1,4 +1,6 @@
--- Which kinds of step the calls of a dictionary make.
+-- Which kinds of step calls make.
+use Rattle.std.specs.Prelude.{◌≡◌}
+use Rattle.arena.specs.declared.step.Kind.TheVariants.{LoadInfo}
 use Rattle.ordered_map.specs.CallRules.{call_rules}
 use Rattle.ordered_map.specs.OrderedMap.{MapCall}
 use Rattle.forest.specs.Passes.{HoldsOfOwn, PassView, run_of}
@@ -7,3 +9,7 @@ use Rattle.forest.specs.Passes.{HoldsOfOwn, PassView, run_of}
 -- of a kind that the call may make
 abbrev pub HasKeptToKinds : PassView → PassView → MapCall → Type 0
 HasKeptToKinds old new call = HoldsOfOwn (λ r. (call_rules call).MayMake r.kind) new.number (run_of old) (run_of new)
+
+-- it has loaded info words alone
+abbrev pub HasLoadedInfosAlone : PassView → PassView → Type 0
+HasLoadedInfosAlone old new = HoldsOfOwn (λ r. r.kind ≡ LoadInfo) new.number (run_of old) (run_of new)

@@ -1,14 +1,15 @@
 -- How a call of the map ends: what its reply says of the call.
 use Rattle.std.proofs.Common.{◌≡◌, ◌⊎◌, ℕ, ◌<◌, inl, inr, ⊎_elim, Bool, true, false, cond, eqb, eqb-true, is_some, List, Option, Some, None, refl, ap, subst, arith}
 use Rattle.arena.specs.declared.fault.Full.{Full as FullOf}
-use Rattle.arena.specs.History.{value}
+use Rattle.arena.specs.History.{History, value, Extends}
 use Rattle.arena.specs.Machines.{Call as MachineCall}
 use Rattle.arena.specs.Share.{Remaining}
+use Rattle.arena.proofs.Lemmas.{ends_self, ends_trans}
 use Rattle.ordered_map.specs.CallRules.{insert_nodes, delete_nodes, pop_nodes, replace_nodes, MayReply, form_of}
 use Rattle.dict.specs.Calls.{AsksForPairs}
 use Rattle.dict.specs.DictKnown.{DictRefuses}
-use Rattle.dict.specs.Says.{HasMadeEdit, HasLost, HasReadMap, HasRunOut, HasTooLittle, HasTold, HasToldBy, TellsOfMap}
-use Rattle.ordered_map.specs.OrderedMap.{MapCall, MapEdit, MapReply, OneValue, OnePair, Edit, PopFirst, ReplaceIf, Get, changes_map, edit_of, first_pair, get, is_value, pair_or_none, reply, Insert as PutEdit, Delete as TakeEdit}
+use Rattle.dict.specs.Says.{HasMadeEdit, HasLost, HasNeeded, HasReadMap, HasRunOut, HasTooLittle, HasTold, HasToldBy, TellsOfMap}
+use Rattle.ordered_map.specs.OrderedMap.{MapCall, MapEdit, MapReply, OneValue, OnePair, Edit, PopFirst, ReplaceIf, Get, Successor, Range, changes_map, edit_of, first_pair, get, is_value, pair_or_none, reply, Insert as PutEdit, Delete as TakeEdit}
 use Rattle.ordered_map.specs.Paths.{IsAnswerAt}
 use Rattle.ordered_map.proofs.Lemmas.{one_spelling}
 use Rattle.ordered_map.specs.Replies.{number_reply, word_pair}
@@ -151,8 +152,8 @@ module _ (v : ClientView) (c : Client) (is_pass : c.pass.0 < v.layout.passes) (w
 
   -- A refusal
 
-  lost : (n s : ℕ) → HasLost call v.past v.tries n s → HasLostAllTries v.layout v.tries c.pass.0 v.past v.start n s
-  lost n s x = (x.way.others, x.all.lost)
+  lost : (of : MapCall) (n s : ℕ) → HasLost call v.past of v.tries n s → HasLostAllTries v.layout v.tries c.pass.0 v.past v.start n s
+  lost of n s x = (x.way.others, x.all.lost)
 
   -- a share that is too small for the next try was so for the first, or a try was lost
   too_few : (of : MapCall) (share : Remaining) (full : FullOf) → RestsWith call v.past share → HasRunOut call v.past of share full → (many : ℕ) → HasTooLittle many share full.what full.left → HasTooFewToTry v.layout c.pass.0 v.past v.start many full.what full.left
@@ -162,9 +163,28 @@ module _ (v : ClientView) (c : Client) (is_pass : c.pass.0 < v.layout.passes) (w
       from (inl at_first) = inl (short_left v.layout v.start c.pass.0 share at_first.share many full.what full.left short)
       from (inr (node, scx, way)) = inr (node, scx, (way.others, way.in_the_way))
 
-  -- the map had at the key what the share has too little for
-  had_then : (of : MapCall) (share : Remaining) (full : FullOf) (key : ℕ) → (x : HasRunOut call v.past of share full) → HadAtKey v.layout v.past v.start key (get key x.map)
-  had_then of share full key x = (x.own.row, x.own.before, x.own.since, record { moment = x.moment; within = x.within; since = x.own.within; map = x.map; spelled = x.spelled; gives = refl })
+  -- What a call needed since a moment of it
+
+  module _ (begin : History) (since : Extends begin v.start) where
+    -- it needed for what the map had at the key
+    had_then : (of : MapCall) (key : ℕ) (x : HasNeeded v.layout c.pass.0 v.past begin of) → HadAtKey v.layout v.past v.start key (get key x.map)
+    had_then of key x = (x.own.row, x.own.before, ends_trans x.own.before begin v.start x.own.since since, record { moment = x.moment; within = x.within; since = x.own.within; map = x.map; spelled = x.spelled; gives = refl })
+
+    -- a delete for the key that was there
+    delete_had : (key : ℕ) (x : HasNeeded v.layout c.pass.0 v.past begin (Edit (TakeEdit key))) → (old : ℕ) × (get key x.map ≡ Some old) × HadAtKey v.layout v.past v.start key (Some old)
+    delete_had key x =
+        let old = there (get key x.map) x.some in
+        (old.0, old.1, subst (HadAtKey v.layout v.past v.start key) old.1 (had_then (Edit (TakeEdit key)) key x))
+
+    -- a pop for the first pair
+    pop_had : (x : HasNeeded v.layout c.pass.0 v.past begin PopFirst) → (first : PairOf) × (first_pair x.map ≡ Some first) × HadFirst v.layout v.past v.start (Some first)
+    pop_had x =
+        let first = first_there (first_pair x.map) x.some in
+        (first.0, first.1, (x.own.row, x.own.before, ends_trans x.own.before begin v.start x.own.since since, record { moment = x.moment; within = x.within; since = x.own.within; map = x.map; spelled = x.spelled; is = first.1 }))
+
+    -- a replacement for the value that it expects
+    replace_had : (key expected put : ℕ) → HasNeeded v.layout c.pass.0 v.past begin (ReplaceIf key expected put) → HadAtKey v.layout v.past v.start key (Some expected)
+    replace_had key expected put x = subst (HadAtKey v.layout v.past v.start key) (value_there expected (get key x.map) x.some).0 (had_then (ReplaceIf key expected put) key x)
 
   -- Ends
 
@@ -174,41 +194,52 @@ module _ (v : ClientView) (c : Client) (is_pass : c.pass.0 < v.layout.passes) (w
     entry : HasItsEntry (enters command answer) v.won
 
   insert_full : (key value : ℕ) (share : Remaining) (full : FullOf) → RestsWith call v.past share → HasRunOut call v.past (Edit (PutEdit key value)) share full → IsRightSo (MapOf (InsertOf key value)) (MapAnswer (Full full))
-  insert_full key value share full rests x = record {
-    right = (get key x.map, had_then (Edit (PutEdit key value)) share full key x, subst (λ n. HasTooFewToTry v.layout c.pass.0 v.past v.start n full.what full.left) (insert_many (get key x.map)) (too_few (Edit (PutEdit key value)) share full rests x (insert_nodes (get key x.map)) x.short));
-    entry = entered_none v.won (unwon x.none);
-  }
+  insert_full key value share full rests x =
+      let old = get key x.needed.map in
+      record {
+        right = (old, had_then v.start (ends_self v.start) (Edit (PutEdit key value)) key x.needed, subst (λ n. HasTooFewToTry v.layout c.pass.0 v.past v.start n full.what full.left) (insert_many old) (too_few (Edit (PutEdit key value)) share full rests x (insert_nodes old) x.short));
+        entry = entered_none v.won (unwon x.none);
+      }
 
   delete_full : (key : ℕ) (share : Remaining) (full : FullOf) → RestsWith call v.past share → HasRunOut call v.past (Edit (TakeEdit key)) share full → IsRightSo (MapOf (DeleteOf key)) (MapAnswer (Full full))
   delete_full key share full rests x =
-      let old = there (get key x.map) x.some in
+      let had = delete_had v.start (ends_self v.start) key x.needed in
       record {
-        right = (old.0, subst (HadAtKey v.layout v.past v.start key) old.1 (had_then (Edit (TakeEdit key)) share full key x), subst (λ o. HasTooFewToTry v.layout c.pass.0 v.past v.start (delete_nodes o) full.what full.left) old.1 (too_few (Edit (TakeEdit key)) share full rests x (delete_nodes (get key x.map)) x.short));
+        right = (had.0, had.2, subst (λ o. HasTooFewToTry v.layout c.pass.0 v.past v.start (delete_nodes o) full.what full.left) had.1 (too_few (Edit (TakeEdit key)) share full rests x (delete_nodes (get key x.needed.map)) x.short));
         entry = entered_none v.won (unwon x.none);
       }
+
+  delete_lost : (key n s : ℕ) → HasLost call v.past (Edit (TakeEdit key)) v.tries n s → (old : ℕ) × HadAtKey v.layout v.past v.start key (Some old) × HasLostAllTries v.layout v.tries c.pass.0 v.past v.start n s
+  delete_lost key n s x =
+      let had = delete_had x.all.lost.begin x.all.lost.since key (x.needed (omega arith)) in
+      (had.0, had.2, lost (Edit (TakeEdit key)) n s x)
 
   pop_full : (share : Remaining) (full : FullOf) → RestsWith call v.past share → HasRunOut call v.past PopFirst share full → IsRightSo (MapOf PopFirstOf) (MapAnswer (Full full))
   pop_full share full rests x =
-      let first = first_there (first_pair x.map) x.some in
+      let had = pop_had v.start (ends_self v.start) x.needed in
+      record {
+        right = (had.0, had.2, subst (λ o. HasTooFewToTry v.layout c.pass.0 v.past v.start (pop_nodes o) full.what full.left) had.1 (too_few PopFirst share full rests x (pop_nodes (first_pair x.needed.map)) x.short));
+        entry = entered_none v.won (unwon x.none);
+      }
+
+  pop_lost : (n s : ℕ) → HasLost call v.past PopFirst v.tries n s → (first : PairOf) × HadFirst v.layout v.past v.start (Some first) × HasLostAllTries v.layout v.tries c.pass.0 v.past v.start n s
+  pop_lost n s x =
+      let had = pop_had x.all.lost.begin x.all.lost.since (x.needed (omega arith)) in
+      (had.0, had.2, lost PopFirst n s x)
+
+  replace_full : (key expected put : ℕ) (share : Remaining) (full : FullOf) → RestsWith call v.past share → HasRunOut call v.past (ReplaceIf key expected put) share full → IsRightSo (MapOf (ReplaceIfOf key expected put)) (MapAnswer (Full full))
+  replace_full key expected put share full rests x =
+      let told = get key x.needed.map in
       record {
         right = (
-          first.0,
-          (x.own.row, x.own.before, x.own.since, record { moment = x.moment; within = x.within; since = x.own.within; map = x.map; spelled = x.spelled; is = first.1 }),
-          subst (λ o. HasTooFewToTry v.layout c.pass.0 v.past v.start (pop_nodes o) full.what full.left) first.1 (too_few PopFirst share full rests x (pop_nodes (first_pair x.map)) x.short),
+          replace_had v.start (ends_self v.start) key expected put x.needed,
+          subst (λ n. HasTooFewToTry v.layout c.pass.0 v.past v.start n full.what full.left) (value_there expected told x.needed.some).1 (too_few (ReplaceIf key expected put) share full rests x (replace_nodes expected told) x.short),
         );
         entry = entered_none v.won (unwon x.none);
       }
 
-  replace_full : (key expected put : ℕ) (share : Remaining) (full : FullOf) → RestsWith call v.past share → HasRunOut call v.past (ReplaceIf key expected put) share full → IsRightSo (MapOf (ReplaceIfOf key expected put)) (MapAnswer (Full full))
-  replace_full key expected put share full rests x =
-      let old = value_there expected (get key x.map) x.some in
-      record {
-        right = (
-          subst (HadAtKey v.layout v.past v.start key) old.0 (had_then (ReplaceIf key expected put) share full key x),
-          subst (λ n. HasTooFewToTry v.layout c.pass.0 v.past v.start n full.what full.left) old.1 (too_few (ReplaceIf key expected put) share full rests x (replace_nodes expected (get key x.map)) x.short),
-        );
-        entry = entered_none v.won (unwon x.none);
-      }
+  replace_lost : (key expected put n s : ℕ) → HasLost call v.past (ReplaceIf key expected put) v.tries n s → HadAtKey v.layout v.past v.start key (Some expected) × HasLostAllTries v.layout v.tries c.pass.0 v.past v.start n s
+  replace_lost key expected put n s x = (replace_had x.all.lost.begin x.all.lost.since key expected put (x.needed (omega arith)), lost (ReplaceIf key expected put) n s x)
 
   -- what is told of one value
   one_told : (of : MapCall) (old : Option ℕ) → TellsOfMap call v.past of (number_reply (Value old)) → HasTold call v.past of (OneValue old)
@@ -238,23 +269,23 @@ module _ (v : ClientView) (c : Client) (is_pass : c.pass.0 < v.layout.passes) (w
 
   ends : (r : Request ℕ ℕ) (a : Reply ℕ ℕ) (share : Remaining) → AsksForPairs (map_request r) → RestsWith call v.past share → MayReply (map_request r) (form_of a) → TellsOfMap call v.past (map_request r) (number_reply a) → DictRefuses call v.past (map_request r) share v.tries a → IsRightSo (MapOf r) (MapAnswer a)
   ends (InsertOf key value) (Value old) share asks rests form tells why = record { right = tt; entry = enters_so (Edit (PutEdit key value)) _ asks tells }
-  ends (InsertOf key value) (Contended node scx) share asks rests form tells why = record { right = lost node.0 scx.0 why; entry = entered_none v.won (unwon why.none) }
+  ends (InsertOf key value) (Contended node scx) share asks rests form tells why = record { right = lost (Edit (PutEdit key value)) node.0 scx.0 why; entry = entered_none v.won (unwon why.none) }
   ends (InsertOf key value) (Full full) share asks rests form tells why = insert_full key value share full rests why
   ends (DeleteOf key) (Value old) share asks rests form tells why = deleted key old (one_told (Edit (TakeEdit key)) old tells)
-  ends (DeleteOf key) (Contended node scx) share asks rests form tells why = record { right = lost node.0 scx.0 why; entry = entered_none v.won (unwon why.none) }
+  ends (DeleteOf key) (Contended node scx) share asks rests form tells why = record { right = delete_lost key node.0 scx.0 why; entry = entered_none v.won (unwon why.none) }
   ends (DeleteOf key) (Full full) share asks rests form tells why = delete_full key share full rests why
   ends PopFirstOf (Pair found) share asks rests form tells why = popped found tells
-  ends PopFirstOf (Contended node scx) share asks rests form tells why = record { right = lost node.0 scx.0 why; entry = entered_none v.won (unwon why.none) }
+  ends PopFirstOf (Contended node scx) share asks rests form tells why = record { right = pop_lost node.0 scx.0 why; entry = entered_none v.won (unwon why.none) }
   ends PopFirstOf (Full full) share asks rests form tells why = pop_full share full rests why
   ends (ReplaceIfOf key expected put) (Value old) share asks rests form tells why = replaced key expected put old (one_told (ReplaceIf key expected put) old tells)
-  ends (ReplaceIfOf key expected put) (Contended node scx) share asks rests form tells why = record { right = lost node.0 scx.0 why; entry = entered_none v.won (unwon why.none) }
+  ends (ReplaceIfOf key expected put) (Contended node scx) share asks rests form tells why = record { right = replace_lost key expected put node.0 scx.0 why; entry = entered_none v.won (unwon why.none) }
   ends (ReplaceIfOf key expected put) (Full full) share asks rests form tells why = replace_full key expected put share full rests why
   ends (GetOf key) (Value old) share asks rests form tells why = let y = one_told (Get key) old tells in record { right = answer_at key old y; entry = entered_none v.won (unwon y.none) }
   ends (SuccessorOf key) (Pair found) share asks rests form tells why = record { right = tt; entry = entered_none v.won (unwon tells.none) }
-  ends (SuccessorOf key) (Contended node scx) share asks rests form tells why = record { right = lost node.0 scx.0 why; entry = entered_none v.won (unwon why.none) }
+  ends (SuccessorOf key) (Contended node scx) share asks rests form tells why = record { right = lost (Successor key) node.0 scx.0 why; entry = entered_none v.won (unwon why.none) }
   ends (SuccessorOf key) NoMemory share asks rests form tells why = record { right = tt; entry = entered_none v.won (unwon why.1) }
   ends (RangeOf low high most) (Pairs found) share asks rests form tells why = record { right = tt; entry = entered_none v.won (unwon tells.none) }
-  ends (RangeOf low high most) (Contended node scx) share asks rests form tells why = record { right = lost node.0 scx.0 why; entry = entered_none v.won (unwon why.none) }
+  ends (RangeOf low high most) (Contended node scx) share asks rests form tells why = record { right = lost (Range low high most) node.0 scx.0 why; entry = entered_none v.won (unwon why.none) }
   ends (RangeOf low high most) NoMemory share asks rests form tells why = record { right = tt; entry = entered_none v.won (unwon why.1) }
   ends r a share asks rests form tells why = absurd form
 

@@ -1,7 +1,8 @@
 -- What the pass of a call has entered since a moment: nothing while it is quiet, and nothing but
 -- its SCX-record in hand.
-use Rattle.std.proofs.Common.{◌≡◌, ℕ, suc, ◌⊎◌, inl, inr, sym, ap, subst, arith}
+use Rattle.std.proofs.Common.{◌≡◌, ◌≢◌, ℕ, suc, ◌⊎◌, inl, inr, sym, ap, subst, arith}
 use Rattle.arena.specs.declared.layout.Layout.{Layout}
+use Rattle.arena.specs.declared.step.Kind.TheVariants.{Fill}
 use Rattle.arena.specs.declared.step.Row.{Row}
 use Rattle.arena.specs.Blame.{IsInProgress}
 use Rattle.arena.specs.History.{History, Start, ◌⊳◌, value, Extends}
@@ -14,12 +15,29 @@ use Rattle.prims.specs.Laws.Wins.{ends_either}
 use Rattle.prims.specs.Moments.{AreFinished}
 use Rattle.prims.proofs.Lemmas.{own_in_hand, wins_in_progress}
 use Rattle.ordered_map.proofs.Lemmas.{wins_of}
-use Rattle.edits.specs.Tries.{HasEnteredOnly, HasEnteredNone}
+use Rattle.edits.specs.Tries.{HasEnteredOnly, HasEnteredNone, HasFilledNone}
 
 -- how many rows a history has
 rows : History → ℕ
 rows (Start mode) = 0
 rows (r ⊳ h) = suc (rows h)
+
+-- no row stands between a moment and itself
+no_row : (h : History) (row : Row) (before : History) → Extends h (row ⊳ before) → Extends before h → ⊥
+unfolding rows
+no_row h row before within since =
+    let e : before ≡ row ⊳ before = sym (same_moment before (row ⊳ before) (ends_trans before h (row ⊳ before) since within) (inr (ends_self before))) in
+    let longer : rows before ≡ suc (rows before) = ap rows e in
+    omega (arith, longer)
+
+-- so none is a fill
+pub none_filled_yet : (c : ℕ) (h : History) → HasFilledNone c h h
+none_filled_yet c h row before within since own = absurd (no_row h row before within since)
+
+-- nor is one more row that is another pass's, or no fill
+pub none_filled_more : (c : ℕ) (h : History) (r : Row) (begin : History) → (r.pass.0 ≡ c → r.kind ≢ Fill) → HasFilledNone c h begin → HasFilledNone c (r ⊳ h) begin
+none_filled_more c h r begin no_fill x row before (inr within) since own = x row before within since own
+none_filled_more c h r begin no_fill x row before (inl e) since own = let same : row ≡ r = cc in rw same (no_fill (rw same at own))
 
 module _ (lay : Layout) (c : ℕ) where
   -- an SCX-record that wins is in progress
@@ -28,11 +46,7 @@ module _ (lay : Layout) (c : ℕ) where
 
   -- behind a moment itself nothing is entered
   pub none_yet : (h : History) → HasEnteredNone lay c h h
-  unfolding rows
-  none_yet h row before t within since w own =
-      let e : before ≡ row ⊳ before = sym (same_moment before (row ⊳ before) (ends_trans before h (row ⊳ before) since within) (inr (ends_self before))) in
-      let longer : rows before ≡ suc (rows before) = ap rows e in
-      omega (arith, longer)
+  none_yet h row before t within since w own = no_row h row before within since
 
   -- a quiet pass has entered nothing
   pub none_quiet : (h start : History) → Lawful lay h → IsQuietSince lay c start h → HasEnteredNone lay c h start

@@ -51,7 +51,7 @@ use Rattle.edits.specs.Pieces.{HasPlace, nth_node, word_of}
 use Rattle.edits.specs.Known.{IsNeeded, RestsWith, IsUntouched, Looks, Loads, FillsPiece, Scxs, Walks, FirstOrLost, Tries, piece_fill_step, UpdateWaitsAt, UpdateIsToldAt, UpdateWaits, UpdateIsReady, piece, top, copied}
 use Rattle.edits.specs.Laws.Hand.{IsBefore, IsUpTo, HoldsWords, HasFilledTo, IsForField, FieldMay, piece_fill, by_others, by_load, filled_to_more, words_by_others, words_more, taken_now, may_fill}
 use Rattle.edits.specs.Laws.Kept.{quiet_rests, rests_by_others, rests_by_step, looked_more, works_more}
-use Rattle.edits.specs.Laws.Entered.{none_joined, none_quiet, only_more}
+use Rattle.edits.specs.Laws.Entered.{none_filled_more, none_joined, none_quiet, only_more}
 use Rattle.edits.specs.Laws.NodeFills.{fill_lawful}
 use Rattle.edits.specs.Laws.Trying.{try_more, try_at_more, try_begins, untouched_later}
 use Rattle.edits.specs.Tries.{MayTry, IsTry, IsTryAt}
@@ -75,7 +75,7 @@ module _ {E : Type 0} (e : EditMeaning E) where
   walks_by_others : (m : UpdateRun E UpdateAt) (c : Call) (h : History) (r : Row) (goal : Goal) → IsRun TreeAllows c.layout (r ⊳ h) → r.pass.0 ≢ c.pass → Walks e m c h goal → Walks e m c (r ⊳ h) goal
   walks_by_others m c h r goal run other x =
       let rests : RestsWith c (r ⊳ h) m.share = rests_by_others c h r m.share run.lawful other x.rests in
-      record { small = x.small; rests = rests; quiet = quiet_rests c h r m.share run.lawful rests x.quiet; same = x.same }
+      record { small = x.small; rests = rests; quiet = quiet_rests c h r m.share run.lawful rests x.quiet; none_filled = none_filled_more c.pass h r c.start (λ own. absurd (other own)) x.none_filled; same = x.same }
 
   looks_by_others : (m : UpdateRun E UpdateAt) (c : Call) (h : History) (r : Row) (f : Found) (llx : LlxRun) (begin : History) → IsRun TreeAllows c.layout (r ⊳ h) → r.pass.0 ≢ c.pass → Looks e m c h f llx begin → Looks e m c (r ⊳ h) f llx begin
   looks_by_others m c h r f llx begin run other x = record {
@@ -164,7 +164,7 @@ module _ {E : Type 0} (e : EditMeaning E) where
   walks_by_step : (m : UpdateRun E UpdateAt) (c : Call) (h : History) (r : Row) (goal : Goal) → IsRun TreeAllows c.layout (r ⊳ h) → r.kind ≢ FillKind → Walks e m c h goal → Walks e m c (r ⊳ h) goal
   walks_by_step m c h r goal run no_fill x =
       let rests : RestsWith c (r ⊳ h) m.share = rests_by_step c h r m.share run.lawful no_fill x.rests in
-      record { small = x.small; rests = rests; quiet = quiet_rests c h r m.share run.lawful rests x.quiet; same = x.same }
+      record { small = x.small; rests = rests; quiet = quiet_rests c h r m.share run.lawful rests x.quiet; none_filled = none_filled_more c.pass h r c.start (λ own. no_fill) x.none_filled; same = x.same }
 
   looks_by_step : (m : UpdateRun E UpdateAt) (c : Call) (h : History) (r : Row) (f : Found) (llx : LlxRun) (begin : History) → IsRun TreeAllows c.layout (r ⊳ h) → r.kind ≢ FillKind → Looks e m c h f llx begin → Looks e m c (r ⊳ h) f llx begin
   looks_by_step m c h r f llx begin run no_fill x = record {
@@ -277,6 +277,7 @@ module _ {E : Type 0} (e : EditMeaning E) where
           small = x.small;
           rests = record { share = walks_then.rests.share; over = walks_then.rests.over };
           quiet = λ k e f. walks_then.quiet k e (ends_trans k h b f w.since);
+          none_filled = λ row before within since own. walks_then.none_filled row before within (ends_trans before h b since w.since) own;
           same = x.same;
         },
         walk_made walk (begun_at c h) h s v run t record { run = w.run; small = w.small; since = ends_self h; known = subst (WalkKnows (begun_at c h) h walk) (sym at) root; asked = w.asked },

@@ -21,7 +21,8 @@ abbrev pub DeleteIsRight : ℕ → Layout → ℕ → ℕ → History → Histor
 DeleteIsRight key lay tries c now start linked (Map (Value (Some old))) = Unit {0}
 -- after some row behind the call's begin the map lacked the key
 DeleteIsRight key lay tries c now start linked (Map (Value None)) = HadAtKey lay now start key None
-DeleteIsRight key lay tries c now start linked (Map (Contended node scx)) = HasLostAllTries lay tries c now start node.0 scx.0
+-- after some row behind the call's begin the map had the key, and all tries were lost
+DeleteIsRight key lay tries c now start linked (Map (Contended node scx)) = (old : ℕ) × HadAtKey lay now start key (Some old) × HasLostAllTries lay tries c now start node.0 scx.0
 -- after some row behind the call's begin the map had the key, and the share has too little for the
 -- copy of its leaf's sibling: already as the call began, or another client was in the way since
 DeleteIsRight key lay tries c now start linked (Map (Full full)) = (old : ℕ) × HadAtKey lay now start key (Some old) × HasTooFewToTry lay c now start 1 full.what full.left

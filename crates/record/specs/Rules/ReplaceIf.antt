@@ -29,7 +29,9 @@ ReplaceTold false lay now start key told = HadAtKey lay now start key told
 -- what its answers say
 abbrev pub ReplaceIsRight : ℕ → ℕ → Layout → ℕ → ℕ → History → History → (ℕ → Option History) → Answer → Type 0
 ReplaceIsRight key expected lay tries c now start linked (Map (Value told)) = ReplaceTold (is_value expected told) lay now start key told
-ReplaceIsRight key expected lay tries c now start linked (Map (Contended node scx)) = HasLostAllTries lay tries c now start node.0 scx.0
+-- after some row behind the call's begin the map had the value that the call expects, and all tries
+-- were lost
+ReplaceIsRight key expected lay tries c now start linked (Map (Contended node scx)) = HadAtKey lay now start key (Some expected) × HasLostAllTries lay tries c now start node.0 scx.0
 -- after some row behind the call's begin the map had the value that the call expects, and the share
 -- has too little for a leaf in place of the key's: already as the call began, or another client was
 -- in the way since

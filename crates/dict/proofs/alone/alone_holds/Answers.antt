@@ -8,10 +8,10 @@ pub returns-clause-refused : goal.returns-clause-refused
 returns-clause-refused g = λ c h map run alone s none. g.alone_holds.ensures.kept c h map run alone none s
 
 pub returns-clause-undisturbed : goal.returns-clause-undisturbed
-returns-clause-undisturbed g = λ c h tries n s run alone x. g.alone_holds.ensures.undisturbed c h n s run alone x.way
+returns-clause-undisturbed g = λ c h call tries n s run alone x. g.alone_holds.ensures.undisturbed c h n s run alone x.way
 
 pub returns-clause-one_pass : goal.returns-clause-one_pass
-returns-clause-one_pass g = λ c h tries n s one x. g.alone_holds.ensures.one_pass c h n s one x.way
+returns-clause-one_pass g = λ c h call tries n s one x. g.alone_holds.ensures.one_pass c h n s one x.way
 
 pub returns-clause-full : goal.returns-clause-full
 returns-clause-full g = λ c h call share full map run alone s x. full_alone g.alone_holds.ensures.made g.alone_holds.ensures.kept c h map run alone s (λ n t. g.alone_holds.ensures.undisturbed c h n t run alone) call share full x

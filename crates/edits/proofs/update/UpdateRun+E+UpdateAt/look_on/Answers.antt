@@ -40,7 +40,7 @@ returns-in-Done-Finalized-clause-turn g c d b begin h run try x ready =
     let can = can_look g.E.Edit.means c.args.self.now c.args.llx c.next.new.self c.args.found begin (begun_at d b) h c.next.result x c.next.ensures.same w in
     let way = look_finalized g.E.Edit.means g.met.E.Edit.laws.looks c.args.self.now.edit (begun_at d b) h c.args.found c.args.self.now.snaps.items x.run (is_needed g.E.Edit.means c.args.self.now (begun_at d b) h c.args.found can) x.looked c.next.new.self begin x.since (x.named ∙ ap At (sym c.next.ensures.same)) c.in-Done-Finalized.node c.in-Done-Finalized.scx x.quiet
     (rw (c.in-Done-Finalized.is ∙ ap (λ a. Done a) c.in-Done-Finalized.field-0-is) at w) in
-    let t = look_lost g.E.Edit.means c.args.self.now d b h c.in-Done-Finalized.node.0 c.in-Done-Finalized.scx.0 try can.begins can.quiet way in
+    let t = look_lost g.E.Edit.means c.args.self.now d b h c.args.found c.in-Done-Finalized.node.0 c.in-Done-Finalized.scx.0 try can way in
     c.lost.ensures.turn d h run t.0 (rw (← c.in-Done-Finalized.node-is, ← c.in-Done-Finalized.scx-is) at t.1)
 
 pub returns-in-Done-Fail-clause-turn : goal.returns-in-Done-Fail-clause-turn
@@ -49,5 +49,5 @@ returns-in-Done-Fail-clause-turn g c d b begin h run try x ready =
     let can = can_look g.E.Edit.means c.args.self.now c.args.llx c.next.new.self c.args.found begin (begun_at d b) h c.next.result x c.next.ensures.same w in
     let way = look_failed g.E.Edit.means g.met.E.Edit.laws.looks c.args.self.now.edit (begun_at d b) h c.args.found c.args.self.now.snaps.items x.run (is_needed g.E.Edit.means c.args.self.now (begun_at d b) h c.args.found can) x.looked c.next.new.self begin x.since (x.named ∙ ap At (sym c.next.ensures.same)) c.in-Done-Fail.node c.in-Done-Fail.scx
     (rw (c.in-Done-Fail.is ∙ ap (λ a. Done a) c.in-Done-Fail.field-0-is) at w) in
-    let t = look_lost g.E.Edit.means c.args.self.now d b h c.in-Done-Fail.node.0 c.in-Done-Fail.scx.0 try can.begins can.quiet way in
+    let t = look_lost g.E.Edit.means c.args.self.now d b h c.args.found c.in-Done-Fail.node.0 c.in-Done-Fail.scx.0 try can way in
     c.lost-in-Done-Fail.ensures.turn d h run t.0 (rw (← c.in-Done-Fail.node-is, ← c.in-Done-Fail.scx-is) at t.1)

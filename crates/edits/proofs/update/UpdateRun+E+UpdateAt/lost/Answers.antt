@@ -23,4 +23,4 @@ returns-clause-turn g c d h run b x =
 pub returns-then-self-eq0-clause-turn : goal.returns-then-self-eq0-clause-turn
 returns-then-self-eq0-clause-turn g c d h run b x =
     let m = c.args.self.now in
-    (b.rests, (lost_way g.E.Edit.means m d h c.args.node.0 c.args.scx.0 x, c.if-self-eq0.true, x.none, all_lost g.E.Edit.means m d h c.args.node.0 c.args.scx.0 c.if-self-eq0.true x), lost_tried g.E.Edit.means m d h c.args.node.0 c.args.scx.0 x)
+    (b.rests, (c.if-self-eq0.true, all_lost g.E.Edit.means m d h c.args.node.0 c.args.scx.0 c.if-self-eq0.true x), lost_tried g.E.Edit.means m d h c.args.node.0 c.args.scx.0 x)

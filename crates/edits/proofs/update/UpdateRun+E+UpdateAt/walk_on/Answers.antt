@@ -15,7 +15,7 @@ returns-in-Ask-clause-turn g c d b h v got run try first x told =
 
 pub returns-in-Done-clause-turn : goal.returns-in-Done-clause-turn
 returns-in-Done-clause-turn g c d b h v got run try first x told = c.go_on.ensures.turn d h run (c.test_share-next.ensures.turn d b h run try first
-    (walk_rests g.E.Edit.means c.args.self.now c.args.walk (begun_at d b) h v x told) x.quiet
+    (walk_rests g.E.Edit.means c.args.self.now c.args.walk (begun_at d b) h v x told) x.quiet x.none_filled
     (walk_found g.E.Edit.means c.args.self.now c.args.walk c.next.new.self (begun_at d b) h c.next.result c.in-Done.found x c.next.ensures.same c.in-Done.is (c.next.ensures.turn (begun_at d b) h run (rw got told))))
 
 pub returns-in-Done-clause-spends : goal.returns-in-Done-clause-spends

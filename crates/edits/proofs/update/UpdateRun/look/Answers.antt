@@ -18,7 +18,7 @@ returns-in-Enough-clause-nearer g c nodes = less_than _ _ _ (c.begin_work.ensure
 
 pub returns-in-Differs-clause-turn : goal.returns-in-Differs-clause-turn
 returns-in-Differs-clause-turn g c d b h run try x =
-    let t = look_lost g.E.Edit.means c.args.self.now d b h c.in-Differs.node.0 c.in-Differs.scx.0 try x.begins x.quiet
+    let t = look_lost g.E.Edit.means c.args.self.now d b h c.args.found.now c.in-Differs.node.0 c.in-Differs.scx.0 try x
     (look_differs g.E.Edit.means g.met.E.Edit.laws.looks c.args.self.now.edit (begun_at d b) h c.args.found.now c.args.self.now.snaps.items x.begins.run (is_needed g.E.Edit.means c.args.self.now (begun_at d b) h c.args.found.now x) x.looked c.in-Differs.node c.in-Differs.scx x.quiet
     (rw (sym c.as_slice.ensures.value) (sym c.look.ensures ∙ c.in-Differs.is))) in
     (t.0, t.1)

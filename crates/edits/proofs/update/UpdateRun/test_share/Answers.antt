@@ -14,12 +14,12 @@ pub returns-clause-nearer : goal.returns-clause-nearer
 returns-clause-nearer g c nodes = still_nearer g.E.Edit.means c.look.new.self c.args.found.now c.look.result nodes _ _ (c.look.ensures.nearer nodes) (from_share _ _ _ _)
 
 pub returns-clause-turn : goal.returns-clause-turn
-returns-clause-turn g c d b h run try first x quiet found =
+returns-clause-turn g c d b h run try first x quiet filled found =
     let some : c.need-need.result ≢ Nothing = search rules in
     c.look.ensures.turn d b h run try (may_look g.E.Edit.means c.args.self.now _ (begun_at d b) h c.args.found.now refl refl c.clear.ensures x quiet found (rw c.need-need.ensures at (rw c.in_default.is at c.lacks.ensures.enough some)))
 
 pub returns-then-eq-clause-turn : goal.returns-then-eq-clause-turn
-returns-then-eq-clause-turn g c d b h run try first x quiet found =
+returns-then-eq-clause-turn g c d b h run try first x quiet filled found =
     let none : c.need-need.result ≡ Nothing = search rules in (
       at_rest g.E.Edit.means c.args.self.now d b h x,
       record {
@@ -30,13 +30,14 @@ returns-then-eq-clause-turn g c d b h run try first x quiet found =
           has_found = found_wider d b try.since h _ c.args.found.now found;
           needless = rw c.need-need.ensures at none;
           none = nothing_entered g.E.Edit.means c.args.self.now d b h try x quiet;
+          only_looked = record { begin = b; since = try.since; newest = try.newest.newest; none = filled };
         };
       },
       tried_in d b h c.args.self.now.limit c.args.self.now.tries try.newest,
     )
 
 pub returns-in-Some-clause-turn : goal.returns-in-Some-clause-turn
-returns-in-Some-clause-turn g c d b h run try first x quiet found =
+returns-in-Some-clause-turn g c d b h run try first x quiet filled found =
     let some : c.need-need.result ≢ Nothing = search rules in (
       at_rest g.E.Edit.means c.args.self.now d b h x,
       record {
@@ -46,6 +47,7 @@ returns-in-Some-clause-turn g c d b h run try first x quiet found =
         short = rw c.need-need.ensures at (rw c.in-Some.is at c.lacks.ensures.short);
         first = untouched_later d b h c.args.self.now.share run.lawful x.since first;
         none = nothing_entered g.E.Edit.means c.args.self.now d b h try x quiet;
+        only_looked = record { begin = b; since = try.since; newest = try.newest.newest; none = filled };
       },
       tried_in d b h c.args.self.now.limit c.args.self.now.tries try.newest,
     )

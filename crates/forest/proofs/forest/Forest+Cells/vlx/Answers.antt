@@ -4,10 +4,11 @@ use Rattle.prims.specs.Cells.{AllowsAll}
 use Rattle.prims.specs.declared.snap.Snap.{Snap}
 use Rattle.forest.specs.Passes.{PassView, VlxSays, CanUse, Each, taken_of}
 use Rattle.forest.specs.PassInvariant.{pass_view}
+use Rattle.forest.specs.StepKinds.{HasLoadedInfosAlone}
 use Rattle.forest.specs.StraightVlx.{SeatVlxBegins}
 use Rattle.forest.specs.declared.pass.Pass.TheInside.{Inside}
 use Rattle.forest.proofs.Passes.{HasCalled, layout_of, call_of, seated, called_pass, called_goes_on, called_nothing}
-use Rattle.forest.proofs.VlxCalls.{Looked, vlx_begins, vlx_called, vlx_says}
+use Rattle.forest.proofs.VlxCalls.{Looked, vlx_begins, vlx_called, vlx_kinds, vlx_says}
 use Rattle.forest.proofs.forest.Forest+Cells.vlx.Goals as goal
 
 -- the list that a slice is
@@ -41,3 +42,9 @@ returns-clause-takes_nothing c = rw (← c.pass.view_is) (called_nothing c.pass.
 
 pub returns-clause-says : goal.returns-clause-says
 returns-clause-says c = subst (λ (v : PassView). VlxSays v (pass_view (seated c.pass.inside c.call.new.seat)) c.args.snaps.now c.call.result) c.pass.view_is (vlx_says list c.pass.inside c.pass.invariant (called c.pass.inside) c.call.new.seat c.args.snaps c.call.result (ended c))
+
+pub returns-clause-kinds : goal.returns-clause-kinds
+returns-clause-kinds c =
+    let p = c.pass.inside in let x = c.pass.invariant in
+    subst (λ (v : PassView). HasLoadedInfosAlone v (pass_view (seated p c.call.new.seat))) c.pass.view_is
+    (vlx_kinds list p x (called p) c.call.new.seat c.args.snaps c.call.result (c.call.ensures.ends (call_of p x (called p)) (layout_of c.pass.view_is c.self.view_is c.requires.pass) (ap taken_of c.pass.view_is ∙ sym c.taken-number.ensures) (begins c.before)))
