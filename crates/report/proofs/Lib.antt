@@ -1,4 +1,5 @@
 mod Texts
+mod PlainTexts
 mod Parts
 mod PairTexts
 mod Counted

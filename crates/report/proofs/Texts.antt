@@ -109,3 +109,13 @@ on_err_of (Err e) f p = f p
 pub on_ok_of : {T E : Type 0} {P Q : Type 0} (r : Result T E) → (P → Q) → OnOk r P → OnOk r Q
 on_ok_of (Ok t) f p = f p
 on_ok_of (Err e) f p = tt
+
+-- what stands on a sheet that was cleared before
+pub chunk_text : (sent new cleared text : List ℕ) → sent ≡ new → new ≡ cleared ++ text → cleared ≡ [] → sent ≡ text
+chunk_text sent new cleared text is put none = is ∙ put ∙ ap (λ t. t ++ text) none
+
+-- the rows of some things and of one more
+pub rows_more : {A : Type 0} (width : ℕ) (row_of : A → List (List ℕ)) (things : List A) (thing : A) → rows_text width (map row_of (things ++ thing ∷ [])) ≡ rows_text width (map row_of things) ++ line_of width (row_of thing)
+unfolding rows_text
+rows_more width row_of things thing =
+    rows_split width row_of (things ++ thing ∷ []) things (thing ∷ []) refl ∙ ap (λ text. rows_text width (map row_of things) ++ text) (append-nil (line_of width (row_of thing)))

@@ -1,14 +1,61 @@
 //! Answers as text.
-ghost use Rattle.std.specs.Prelude.{◌≡◌, ◌++◌, IfOk, IfSome, codes, decimal, string_bytes};
+ghost use Rattle.std.specs.Prelude.{◌≡◌, ◌≤◌, ◌++◌, IfOk, IfSome, OnOk, codes, decimal, length, string_bytes};
 ghost use Rattle.report.specs.Answers.{answer_text, rest_text};
+ghost use Rattle.texts.specs.Sheets.{IsPlain, sheet_room, sheet_text};
 
 use crate::name::{blame_of, node_of};
-use crate::reply::{full_text, pairs_of, reply_text, telling_reply_of};
-use arena::{Full, NodeNo};
+use crate::reply::{full_text, pairs_of, put_full, put_reply, reply_text, telling_reply_of};
+use arena::{Full, NodeNo, ScxNo};
 use ordered_map::Reply;
 use record::Answer;
 use std::alloc::{AllocError, Global};
-use texts::number_of;
+use texts::{Sheet, number_of};
+
+/// Puts the text of an answer: its name, and what it tells.
+pub fn put_answer(sheet: &mut Sheet, answer: &Answer) -> Result<(), AllocError>
+    ensures text { OnOk result (sheet_text sheet.new ≡ sheet_text sheet.old ++ answer_text answer.now) }
+    ensures plain { OnOk result (IsPlain (answer_text answer.now)) }
+{
+    sheet.make_room(64)?;
+    match answer {
+        Answer::Snapshot { left, right } => {
+            sheet.put("snap ");
+            sheet.number(left.0);
+            sheet.put(" ");
+            sheet.number(right.0);
+        }
+        Answer::Finalized => sheet.put("finalized"),
+        Answer::Fail { node, scx } => put_blame(sheet, "fail n", *node, *scx),
+        Answer::Done => sheet.put("done"),
+        Answer::Lost { node, scx } => put_blame(sheet, "lost n", *node, *scx),
+        Answer::Same => sheet.put("same"),
+        Answer::Changed { node, scx } => put_blame(sheet, "changed n", *node, *scx),
+        Answer::Unlinked { node } => {
+            sheet.put("unlinked n");
+            sheet.number(node.0);
+        }
+        Answer::Full { what, left } => {
+            let (what, left) = (*what, *left);
+            put_full(sheet, &Full { what, left });
+        }
+        Answer::Map(reply) => put_reply(sheet, reply)?,
+    }
+    Ok(())
+}
+
+/// Puts a name, a node and the SCX-record that was in the way there.
+fn put_blame(sheet: &mut Sheet, name: &str, node: NodeNo, scx: ScxNo)
+    requires room { 64 ≤ sheet_room sheet.old }
+    requires short { length name.now ≤ 22 }
+    requires plain { IsPlain name.now }
+    ensures text { sheet_text sheet.new ≡ sheet_text sheet.old ++ (name.now ++ (decimal node.0 ++ (codes " s" ++ decimal scx.0))) }
+    ensures plain { IsPlain (name.now ++ (decimal node.0 ++ (codes " s" ++ decimal scx.0))) }
+{
+    sheet.put(name);
+    sheet.number(node.0);
+    sheet.put(" s");
+    sheet.number(scx.0);
+}
 
 /// The text of an answer: its name, and what it tells.
 pub fn answer_text(alloc: Global, answer: &Answer) -> Result<String, AllocError>

@@ -1,114 +1,124 @@
 //! Steps, log entries and replies as rows.
-ghost use Rattle.std.specs.Prelude.{◌≡◌, [], IfOk, OnOk, map};
-ghost use Rattle.std.specs.Io.KnownBytes.{Appends};
+ghost use Rattle.std.specs.Prelude.{◌≡◌, ◌≤◌, ◌+◌, ◌++◌, OnOk, codes, decimal, map};
 ghost use Rattle.record.specs.declared.record.Line.TheVariants.{Step as StepLine, Log, Reply as ReplyLine};
 ghost use Rattle.record.specs.declared.record.Row.TheVariants.{Step as Made, Idle};
-ghost use Rattle.report.specs.Report.{line_row};
-ghost use Rattle.texts.specs.Pages.{IsReady, line_of, page_row, page_text, rows_text};
+ghost use Rattle.report.specs.Report.{line_row, moment_text};
+ghost use Rattle.texts.specs.Pages.{line_of, rows_text};
+ghost use Rattle.texts.specs.Sheets.{IsPlain, sheet_room, sheet_text};
 
-use crate::answer::answer_text;
-use crate::rows::Page;
-use crate::word::word_text;
+use crate::answer::put_answer;
+use crate::word::put_word;
 use arena::PassNo;
 use record::{Entry, Finished, Line, Row};
 use script::kind_name;
-use std::alloc::{AllocError, Global};
+use std::alloc::AllocError;
+use texts::Sheet;
 
-/// The text of some lines of a run.
-pub fn lines_text(alloc: Global, lines: &[Line]) -> Result<Vec<u8>, AllocError>
-    ensures { IfOk result (λ text. text.items ≡ rows_text 7 (map line_row lines.now)) }
+/// How long a row is at most, but for the answer in the row of a reply.
+const LONGEST: usize = 160;
+
+/// Puts the rows of some lines of a run.
+pub fn put_lines(sheet: &mut Sheet, lines: &[Line]) -> Result<(), AllocError>
+    ensures { OnOk result (sheet_text sheet.new ≡ sheet_text sheet.old ++ rows_text 7 (map line_row lines.now)) }
 {
-    let mut page = Page::new(alloc);
     for line in lines {
-        put_line(alloc, &mut page, line)?;
+        put_line(sheet, line)?;
     }
-    page.into_text()
+    Ok(())
 }
 
-fn put_line(alloc: Global, page: &mut Page, line: &Line) -> Result<(), AllocError>
-    requires ready { IsReady page.old }
-    requires row { page_row page.old ≡ [] }
-    ensures ready { OnOk result (IsReady page.new) }
-    ensures row { OnOk result (page_row page.new ≡ []) }
-    ensures text { OnOk result (Appends (page_text page.old) (page_text page.new) (line_of 7 (line_row line.now))) }
+/// Puts the row of a line: room is made once, and its fields are put in place. None of them has a
+/// byte for which csv puts quotes.
+pub fn put_line(sheet: &mut Sheet, line: &Line) -> Result<(), AllocError>
+    ensures { OnOk result (sheet_text sheet.new ≡ sheet_text sheet.old ++ line_of 7 (line_row line.now)) }
 {
+    sheet.make_room(LONGEST)?;
     match line {
-        Line::Step(Row::Step { number, row }) => step_line(alloc, page, *number, row),
-        Line::Step(Row::Idle { number, client }) => idle_line(page, *number, *client),
-        Line::Log(entry) => log_line(alloc, page, entry),
-        Line::Reply(reply) => reply_line(alloc, page, reply),
+        Line::Step(Row::Step { number, row }) => put_step(sheet, *number, row),
+        Line::Step(Row::Idle { number, client }) => put_idle(sheet, *number, *client),
+        Line::Log(entry) => put_entry(sheet, entry),
+        Line::Reply(reply) => put_finished(sheet, reply)?,
+    }
+    Ok(())
+}
+
+#[inline]
+fn put_step(sheet: &mut Sheet, number: u64, row: &arena::Row)
+    requires { 160 ≤ sheet_room sheet.old }
+    ensures { sheet_text sheet.new ≡ sheet_text sheet.old ++ line_of 7 (line_row (StepLine (Made number row.now))) }
+{
+    sheet.put("step,");
+    put_field(sheet, number);
+    put_field(sheet, u64::from(row.pass.0));
+    sheet.put(kind_name(row.kind));
+    sheet.put(",");
+    put_word(sheet, row.word);
+    sheet.put(",");
+    put_field(sheet, row.before);
+    sheet.number(row.after);
+    sheet.put("\n");
+}
+
+fn put_idle(sheet: &mut Sheet, number: u64, client: PassNo)
+    requires { 160 ≤ sheet_room sheet.old }
+    ensures { sheet_text sheet.new ≡ sheet_text sheet.old ++ line_of 7 (line_row (StepLine (Idle number client))) }
+{
+    sheet.put("step,");
+    put_field(sheet, number);
+    put_field(sheet, u64::from(client.0));
+    sheet.put("idle,,,\n");
+}
+
+fn put_entry(sheet: &mut Sheet, entry: &Entry)
+    requires { 160 ≤ sheet_room sheet.old }
+    ensures { sheet_text sheet.new ≡ sheet_text sheet.old ++ line_of 7 (line_row (Log entry.now)) }
+{
+    sheet.put("log,");
+    put_field(sheet, entry.place);
+    put_field(sheet, entry.step);
+    sheet.put("s");
+    put_field(sheet, entry.scx.0);
+    put_field(sheet, u64::from(entry.client.0));
+    put_field(sheet, entry.call);
+    sheet.put("\n");
+}
+
+fn put_finished(sheet: &mut Sheet, reply: &Finished) -> Result<(), AllocError>
+    requires { 160 ≤ sheet_room sheet.old }
+    ensures { OnOk result (sheet_text sheet.new ≡ sheet_text sheet.old ++ line_of 7 (line_row (ReplyLine reply.now))) }
+{
+    sheet.put("reply,");
+    put_field(sheet, u64::from(reply.client.0));
+    put_field(sheet, reply.call);
+    put_field(sheet, reply.begin);
+    put_field(sheet, reply.end);
+    put_moment(sheet, reply.moment);
+    put_answer(sheet, &reply.answer)?;
+    sheet.make_room(1)?;
+    sheet.put("\n");
+    Ok(())
+}
+
+/// Puts the turn of a moment, if there is one, and a comma: at most 21 bytes.
+fn put_moment(sheet: &mut Sheet, moment: Option<u64>)
+    requires { 21 ≤ sheet_room sheet.old }
+    ensures text { sheet_text sheet.new ≡ (sheet_text sheet.old ++ moment_text moment) ++ codes "," }
+    ensures plain { IsPlain (moment_text moment) }
+{
+    match moment {
+        Some(turn) => put_field(sheet, turn),
+        None => sheet.put(","),
     }
 }
 
-fn step_line(
-    alloc: Global,
-    page: &mut Page,
-    number: u64,
-    row: &arena::Row,
-) -> Result<(), AllocError>
-    requires ready { IsReady page.old }
-    requires row { page_row page.old ≡ [] }
-    ensures ready { OnOk result (IsReady page.new) }
-    ensures row { OnOk result (page_row page.new ≡ []) }
-    ensures text { OnOk result (Appends (page_text page.old) (page_text page.new) (line_of 7 (line_row (StepLine (Made number row.now))))) }
+/// Puts the digits of a number and a comma: at most 21 bytes.
+#[inline]
+fn put_field(sheet: &mut Sheet, n: u64)
+    requires { 21 ≤ sheet_room sheet.old }
+    ensures text { sheet_text sheet.new ≡ (sheet_text sheet.old ++ decimal n) ++ codes "," }
+    ensures room { sheet_room sheet.old ≤ sheet_room sheet.new + 21 }
+    ensures plain { IsPlain (decimal n) }
 {
-    page.text("step")?;
-    page.number(number)?;
-    page.number(u64::from(row.pass.0))?;
-    page.text(kind_name(row.kind))?;
-    page.text(word_text(alloc, row.word)?.as_str())?;
-    page.number(row.before)?;
-    page.number(row.after)?;
-    page.end_line()
-}
-
-fn idle_line(page: &mut Page, number: u64, client: PassNo) -> Result<(), AllocError>
-    requires ready { IsReady page.old }
-    requires row { page_row page.old ≡ [] }
-    ensures ready { OnOk result (IsReady page.new) }
-    ensures row { OnOk result (page_row page.new ≡ []) }
-    ensures text { OnOk result (Appends (page_text page.old) (page_text page.new) (line_of 7 (line_row (StepLine (Idle number client))))) }
-{
-    page.text("step")?;
-    page.number(number)?;
-    page.number(u64::from(client.0))?;
-    page.text("idle")?;
-    page.end_line()
-}
-
-fn log_line(alloc: Global, page: &mut Page, entry: &Entry) -> Result<(), AllocError>
-    requires ready { IsReady page.old }
-    requires row { page_row page.old ≡ [] }
-    ensures ready { OnOk result (IsReady page.new) }
-    ensures row { OnOk result (page_row page.new ≡ []) }
-    ensures text { OnOk result (Appends (page_text page.old) (page_text page.new) (line_of 7 (line_row (Log entry.now)))) }
-{
-    let scx = format!(in alloc; "s{}", entry.scx.0)?;
-    page.text("log")?;
-    page.number(entry.place)?;
-    page.number(entry.step)?;
-    page.text(scx.as_str())?;
-    page.number(u64::from(entry.client.0))?;
-    page.number(entry.call)?;
-    page.end_line()
-}
-
-fn reply_line(alloc: Global, page: &mut Page, reply: &Finished) -> Result<(), AllocError>
-    requires ready { IsReady page.old }
-    requires row { page_row page.old ≡ [] }
-    ensures ready { OnOk result (IsReady page.new) }
-    ensures row { OnOk result (page_row page.new ≡ []) }
-    ensures text { OnOk result (Appends (page_text page.old) (page_text page.new) (line_of 7 (line_row (ReplyLine reply.now)))) }
-{
-    page.text("reply")?;
-    page.number(u64::from(reply.client.0))?;
-    page.number(reply.call)?;
-    page.number(reply.begin)?;
-    page.number(reply.end)?;
-    match reply.moment {
-        Some(moment) => page.number(moment)?,
-        None => page.text("")?,
-    }
-    page.text(answer_text(alloc, &reply.answer)?.as_str())?;
-    page.end_line()
+    sheet.number(n);
+    sheet.put(",");
 }

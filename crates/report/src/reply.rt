@@ -1,12 +1,84 @@
 //! Replies of the map as text.
-ghost use Rattle.std.specs.Prelude.{◌≡◌, ◌++◌, IfOk, IfSome, codes, decimal, string_bytes};
+ghost use Rattle.std.specs.Prelude.{◌≡◌, ◌≤◌, ◌++◌, IfOk, IfSome, OnOk, codes, decimal, string_bytes};
 ghost use Rattle.report.specs.Answers.{full_text, reply_text, spaced_pairs, rest_text};
+ghost use Rattle.texts.specs.Sheets.{IsPlain, sheet_room, sheet_text};
 
 use crate::name::{blame_of, small_number_of};
 use arena::{Full, Resource};
 use ordered_map::Reply;
 use std::alloc::{AllocError, Global};
-use texts::number_of;
+use texts::{Sheet, number_of};
+
+/// Puts the text of a reply: its name, and what it tells.
+pub fn put_reply(sheet: &mut Sheet, reply: &Reply<u64, u64>) -> Result<(), AllocError>
+    ensures text { OnOk result (sheet_text sheet.new ≡ sheet_text sheet.old ++ reply_text reply.now) }
+    ensures plain { OnOk result (IsPlain (reply_text reply.now)) }
+{
+    sheet.make_room(64)?;
+    match reply {
+        Reply::Value(Some(value)) => {
+            sheet.put("some ");
+            sheet.number(*value);
+        }
+        Reply::Pair(Some((key, value))) => {
+            sheet.put("pair ");
+            sheet.number(*key);
+            sheet.put(" ");
+            sheet.number(*value);
+        }
+        Reply::Value(None) | Reply::Pair(None) => sheet.put("none"),
+        Reply::Pairs(pairs) => put_pairs(sheet, pairs.as_slice())?,
+        Reply::Contended { node, scx } => {
+            sheet.put("contended n");
+            sheet.number(node.0);
+            sheet.put(" s");
+            sheet.number(scx.0);
+        }
+        Reply::Full(full) => put_full(sheet, full),
+        Reply::NoMemory => sheet.put("no memory"),
+    }
+    Ok(())
+}
+
+/// Puts the text of what a share has run out of: at most 31 bytes.
+pub(crate) fn put_full(sheet: &mut Sheet, full: &Full)
+    requires { 31 ≤ sheet_room sheet.old }
+    ensures text { sheet_text sheet.new ≡ sheet_text sheet.old ++ full_text full.now.what full.now.left }
+    ensures plain { IsPlain (full_text full.now.what full.now.left) }
+{
+    match full.what {
+        Resource::Nodes => sheet.put("full nodes "),
+        Resource::Scx => sheet.put("full scx "),
+    }
+    sheet.number(u64::from(full.left));
+}
+
+/// Puts the text of a reply of many pairs: each is its key and its value.
+fn put_pairs(sheet: &mut Sheet, pairs: &[(u64, u64)]) -> Result<(), AllocError>
+    ensures text { OnOk result (sheet_text sheet.new ≡ sheet_text sheet.old ++ (codes "pairs" ++ spaced_pairs pairs.now)) }
+    ensures plain { OnOk result (IsPlain (codes "pairs" ++ spaced_pairs pairs.now)) }
+{
+    sheet.make_room(5)?;
+    sheet.put("pairs");
+    for (key, value) in pairs {
+        put_pair(sheet, *key, *value)?;
+    }
+    Ok(())
+}
+
+/// Puts a key and its value, each behind a space.
+fn put_pair(sheet: &mut Sheet, key: u64, value: u64) -> Result<(), AllocError>
+    ensures text { OnOk result (sheet_text sheet.new ≡ sheet_text sheet.old ++ (codes " " ++ (decimal key ++ (codes " " ++ decimal value)))) }
+    ensures key { OnOk result (IsPlain (decimal key)) }
+    ensures value { OnOk result (IsPlain (decimal value)) }
+{
+    sheet.make_room(42)?;
+    sheet.put(" ");
+    sheet.number(key);
+    sheet.put(" ");
+    sheet.number(value);
+    Ok(())
+}
 
 /// The text of a reply: its name, and what it tells.
 pub fn reply_text(alloc: Global, reply: &Reply<u64, u64>) -> Result<String, AllocError>

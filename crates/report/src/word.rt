@@ -1,11 +1,52 @@
 //! Words of the table as text.
-ghost use Rattle.std.specs.Prelude.{◌≡◌, ◌++◌, IfOk, IfSome, MatchOption, decimal, string_bytes};
+ghost use Rattle.std.specs.Prelude.{◌≡◌, ◌≤◌, ◌+◌, ◌++◌, IfOk, IfSome, MatchOption, decimal, length, string_bytes};
 ghost use Rattle.arena.specs.declared.word.NodeWord.TheVariants.{Child};
 ghost use Rattle.report.specs.Words.{node_part, scx_part, word_text};
+ghost use Rattle.texts.specs.Sheets.{IsPlain, sheet_room, sheet_text};
 
 use crate::name::{node_of, scx_of};
 use arena::{NodeWord, ScxWord, Side, Word};
 use std::alloc::{AllocError, Global};
+use texts::Sheet;
+
+/// Puts the text of a word of the table, as `n5.left` or `s2.state`: at most 43 bytes.
+#[inline]
+pub fn put_word(sheet: &mut Sheet, word: Word)
+    requires { 43 ≤ sheet_room sheet.old }
+    ensures text { sheet_text sheet.new ≡ sheet_text sheet.old ++ word_text word }
+    ensures plain { IsPlain (word_text word) }
+    ensures room { sheet_room sheet.old ≤ sheet_room sheet.new + 43 }
+{
+    match word {
+        Word::Node(node, part) => {
+            sheet.put("n");
+            sheet.number(node.0);
+            sheet.put(".");
+            sheet.put(node_part(part));
+        }
+        Word::Scx(scx, part) => {
+            sheet.put("s");
+            sheet.number(scx.0);
+            sheet.put(".");
+            put_scx_part(sheet, part);
+        }
+    }
+}
+
+/// Puts the name of a word within its SCX-record: at most 9 bytes.
+#[inline]
+fn put_scx_part(sheet: &mut Sheet, part: ScxWord)
+    requires { 21 ≤ sheet_room sheet.old }
+    ensures text { sheet_text sheet.new ≡ sheet_text sheet.old ++ scx_part part }
+    ensures plain { IsPlain (scx_part part) }
+    ensures room { sheet_room sheet.old ≤ sheet_room sheet.new + 21 }
+{
+    let (name, member) = scx_part(part);
+    sheet.put(name);
+    if let Some(member) = member {
+        sheet.number(u64::from(member));
+    }
+}
 
 /// The text of a word of the table, as `n5.left` or `s2.state`.
 pub fn word_text(alloc: Global, word: Word) -> Result<String, AllocError>
@@ -22,7 +63,9 @@ pub fn word_text(alloc: Global, word: Word) -> Result<String, AllocError>
 
 /// The name of a word within its SCX-record, but for the number of a member that ends it.
 fn scx_part(part: ScxWord) -> (&'static str, Option<u8>)
-    ensures { MatchOption result.1 (scx_part part ≡ result.0.now) (λ member. scx_part part ≡ result.0.now ++ decimal member) }
+    ensures name { MatchOption result.1 (scx_part part ≡ result.0.now) (λ member. scx_part part ≡ result.0.now ++ decimal member) }
+    ensures plain { IsPlain result.0.now }
+    ensures short { MatchOption result.1 (length result.0.now ≤ 9) (λ _. length result.0.now ≤ 1) }
 {
     match part {
         ScxWord::State => ("state", None),
@@ -38,7 +81,9 @@ fn scx_part(part: ScxWord) -> (&'static str, Option<u8>)
 
 /// The name of a word within its node.
 fn node_part(part: NodeWord) -> &'static str
-    ensures { result.now ≡ node_part part }
+    ensures name { result.now ≡ node_part part }
+    ensures plain { IsPlain result.now }
+    ensures short { length result.now ≤ 6 }
 {
     match part {
         NodeWord::Head => "head",
@@ -51,7 +96,9 @@ fn node_part(part: NodeWord) -> &'static str
 }
 
 fn child_part(side: Side) -> &'static str
-    ensures { result.now ≡ node_part (Child side) }
+    ensures name { result.now ≡ node_part (Child side) }
+    ensures plain { IsPlain result.now }
+    ensures short { length result.now ≤ 5 }
 {
     match side {
         Side::Left => "left",

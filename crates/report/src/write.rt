@@ -7,12 +7,12 @@ ghost use Rattle.texts.specs.Pages.{BeginsWith, rows_text};
 use crate::call::calls_text;
 use crate::count::Counts;
 use crate::head::{end_text, head_text};
-use crate::line::lines_text;
+use crate::line::put_lines;
 use record::{Line, Record};
 use script::Call;
 use std::alloc::Global;
 use std::io::Write;
-use texts::{Metered, WriteFault, send};
+use texts::{Metered, Sheet, WriteFault, send};
 
 /// How many rows are made in memory before they go out.
 const ROWS: usize = 64;
@@ -68,8 +68,11 @@ fn write_lines<W: Write>(
     ensures no_memory { IsErrOf result WriteFault.NoMemory → to.new.failures ≡ to.old.failures }
     ensures write { IsErrOf result WriteFault.Write → to.new.failures ≡ min (to.old.failures + 1) (2 ^ 64 - 1) }
 {
+    let mut sheet = Sheet::new(alloc);
     for some in lines.chunks(ROWS) {
-        send(lines_text(alloc, some)?.as_slice(), to)?;
+        sheet.clear();
+        put_lines(&mut sheet, some)?;
+        send(sheet.text(), to)?;
     }
     Ok(())
 }

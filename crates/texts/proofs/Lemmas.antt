@@ -3,3 +3,4 @@
 pub use Rattle.texts.proofs.Numbers.{same_number}
 pub use Rattle.texts.proofs.HaveRead.{begins}
 pub use Rattle.texts.proofs.Refusals.{passed_on, settled_bad, settled_ok}
+pub use Rattle.texts.proofs.PlainRows.{plain_append, plain_number, plain_row}

@@ -1,4 +1,6 @@
 mod Numbers
+mod DigitCounts
+mod PlainRows
 mod HaveRead
 mod EndRows
 mod Refusals

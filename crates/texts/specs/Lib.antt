@@ -2,3 +2,4 @@ pub mod Fields
 pub mod Texts
 pub mod Reads
 pub mod Pages
+pub mod Sheets

@@ -1,6 +1,7 @@
 //! Texts of csv rows, in and out: readers and writers that count their failures, rows, numbers.
 #![tactic(auto)]
 
+mod digits;
 mod fail_at;
 mod fault;
 mod metered;
@@ -8,6 +9,7 @@ mod number;
 mod page;
 mod rows;
 mod sending;
+mod sheet;
 
 pub use fail_at::FailAt;
 pub use fault::{Cause, TextFault, WriteFault};
@@ -16,3 +18,4 @@ pub use number::{is_number, number_of, small_number_of};
 pub use page::Page;
 pub use rows::{Format, Rows, by_failure_count, field};
 pub use sending::send;
+pub use sheet::Sheet;

@@ -1,0 +1,92 @@
+//! Text that is put down in room made before.
+ghost use Rattle.std.specs.Prelude.{◌≡◌, ◌≤◌, ◌+◌, [], ◌++◌, OnOk, decimal, length, vec_len};
+
+use crate::digits::digits_in;
+use itoa::write_digits;
+use std::alloc::{AllocError, Global};
+
+/// Text, and room behind it. Room is made once for many bytes, and names and numbers are then put in
+/// place: nothing is written twice, and nothing fails.
+#[derive(Drop)]
+pub struct Sheet {
+    bytes: Vec<u8>,
+    end: usize,
+    ghost within: { end ≤ vec_len bytes },
+}
+
+impl Sheet {
+    ghost use Rattle.texts.specs.Sheets.{IsPlain, sheet_room, sheet_text};
+
+    /// No text, and no room.
+    pub fn new(alloc: Global) -> Sheet
+        ensures { sheet_text result ≡ [] }
+    {
+        Sheet {
+            bytes: Vec::new(alloc),
+            end: 0,
+        }
+    }
+
+    /// The text.
+    pub fn text(&self) -> &[u8]
+        ensures { result.now ≡ sheet_text self.now }
+    {
+        &self.bytes[..self.end]
+    }
+
+    /// Takes the text away, and keeps the room.
+    pub fn clear(&mut self)
+        ensures { sheet_text self.new ≡ [] }
+    {
+        self.end = 0;
+    }
+
+    /// Makes room for so many bytes, if there is not as much.
+    #[inline]
+    pub fn make_room(&mut self, room: usize) -> Result<(), AllocError>
+        ensures room { OnOk result (room ≤ sheet_room self.new) }
+        ensures text { sheet_text self.new ≡ sheet_text self.old }
+    {
+        if room <= self.bytes.len() - self.end {
+            return Ok(());
+        }
+        self.grow(room)
+    }
+
+    fn grow(&mut self, room: usize) -> Result<(), AllocError>
+        ensures room { OnOk result (room ≤ sheet_room self.new) }
+        ensures text { sheet_text self.new ≡ sheet_text self.old }
+    {
+        let Some(wanted) = self.end.checked_add(room) else {
+            return Err(AllocError);
+        };
+        let wanted = wanted.max(self.bytes.len());
+        self.bytes.resize(wanted, 0)
+    }
+
+    /// Puts a text behind the one that stands.
+    #[inline]
+    pub fn put(&mut self, text: &str)
+        requires { length text.now ≤ sheet_room self.old }
+        ensures text { sheet_text self.new ≡ sheet_text self.old ++ text.now }
+        ensures room { sheet_room self.new + length text.now ≡ sheet_room self.old }
+    {
+        let end = self.end + text.len();
+        self.bytes[self.end..end].copy_from_slice(text.as_bytes());
+        self.end = end;
+    }
+
+    /// Puts the digits of a number behind the text that stands.
+    #[inline]
+    pub fn number(&mut self, n: u64)
+        requires { 20 ≤ sheet_room self.old }
+        ensures text { sheet_text self.new ≡ sheet_text self.old ++ decimal n }
+        ensures room { sheet_room self.new + length (decimal n) ≡ sheet_room self.old }
+        ensures short { length (decimal n) ≤ 20 }
+        ensures plain { IsPlain (decimal n) }
+    {
+        let end = self.end + digits_in(n);
+        write_digits(n, self.bytes.as_mut_slice(), end);
+        self.end = end;
+    }
+}
