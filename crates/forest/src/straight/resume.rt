@@ -64,7 +64,8 @@ fn finish<S: Shape, M: Machine<S>, E: Edit + Copy>(
     }
 }
 
-/// Makes the rest of an update from what its try does next on.
+/// Makes the rest of an update from what its try does next on. The leaf is a copy, as the run of HELP
+/// is below: the compiler keeps in registers only what no call can reach.
 #[cold]
 #[inline(never)]
 pub(crate) fn from_next<S: Shape, M: Machine<S>, E: Edit + Copy>(
@@ -73,25 +74,25 @@ pub(crate) fn from_next<S: Shape, M: Machine<S>, E: Edit + Copy>(
     seat: &mut Seat<u8, SeatView>,
     number: u64,
     run: &mut UpdateRun<E, ()>,
-    found: &Found,
+    found: Found,
     next: Result<Next, Stop>,
 ) -> Updated
     requires table { IsSeatAt words.now layout.now seat.old }
-    requires goes_on { (u : Updater (calls S.Shape M.Machine layout.now number) E.means) × UpdaterGoesOn u seat.old.me.0.passes run.old found.now next }
+    requires goes_on { (u : Updater (calls S.Shape M.Machine layout.now number) E.means) × UpdaterGoesOn u seat.old.me.0.passes run.old found next }
     ensures table { StaysAtTable seat.old seat.new }
     ensures ends { (u : Updater (calls S.Shape M.Machine layout.now number) E.means)
-        → UpdaterGoesOn u seat.old.me.0.passes run.old found.now next
+        → UpdaterGoesOn u seat.old.me.0.passes run.old found next
         → UpdaterEnds u seat.new.me.0.passes run.new result }
-    ensures steps { seat_steps seat.new.me.0.passes ≤ seat_steps seat.old.me.0.passes + left_then E.means run.old found.now next (shared_nodes layout.now) }
+    ensures steps { seat_steps seat.new.me.0.passes ≤ seat_steps seat.old.me.0.passes + left_then E.means run.old found next (shared_nodes layout.now) }
 {
     let mut machine = take_up(run, layout);
     match next {
         Ok(next) => {
-            let turn = machine.begin(*found, next);
+            let turn = machine.begin(found, next);
             finish::<S, M, E>(words, layout, seat, number, run, machine, turn)
         }
         Err(stop) => {
-            let turn = machine.stop(found, stop);
+            let turn = machine.stop(&found, stop);
             finish::<S, M, E>(words, layout, seat, number, run, machine, turn)
         }
     }
@@ -106,21 +107,21 @@ pub(crate) fn from_block<S: Shape, M: Machine<S>, E: Edit + Copy>(
     seat: &mut Seat<u8, SeatView>,
     number: u64,
     run: &mut UpdateRun<E, ()>,
-    found: &Found,
+    found: Found,
     scx: ScxNo,
-    help: &HelpRun,
+    help: HelpRun,
 ) -> Updated
     requires table { IsSeatAt words.now layout.now seat.old }
     requires blocked { (u : Updater (calls S.Shape M.Machine layout.now number) E.means)
-        × UpdaterIsBlocked u seat.old.me.0.passes run.old found.now scx help.now }
+        × UpdaterIsBlocked u seat.old.me.0.passes run.old found scx help }
     ensures table { StaysAtTable seat.old seat.new }
     ensures ends { (u : Updater (calls S.Shape M.Machine layout.now number) E.means)
-        → UpdaterIsBlocked u seat.old.me.0.passes run.old found.now scx help.now
+        → UpdaterIsBlocked u seat.old.me.0.passes run.old found scx help
         → UpdaterEnds u seat.new.me.0.passes run.new result }
     ensures steps { seat_steps seat.new.me.0.passes
-        ≤ seat_steps seat.old.me.0.passes + suc (run.old.tries * try_left E.means (shared_nodes layout.now) + scx_left (ScxAt.Help help.now)) }
+        ≤ seat_steps seat.old.me.0.passes + suc (run.old.tries * try_left E.means (shared_nodes layout.now) + scx_left (ScxAt.Help help)) }
 {
     let mut machine = take_up(run, layout);
-    let turn = machine.block(*found, scx, *help);
+    let turn = machine.block(found, scx, help);
     finish::<S, M, E>(words, layout, seat, number, run, machine, turn)
 }
