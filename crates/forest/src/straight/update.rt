@@ -73,13 +73,13 @@ fn try_on<S: Shape, M: Machine<S>, E: Edit + Copy>(
     match worked {
         Ok(now) => match now {
             Next::Change(scx) => change::<S, M, E>(words, layout, seat, number, run, found, scx),
-            _ => resume::from_next::<S, M, E>(words, layout, seat, number, run, *found, Ok(now)),
+            _ => resume::from_next::<S, M, E>(words, layout, seat, number, run, found, Ok(now)),
         },
         Err(stop) => match stop {
             Stop::Nothing => Updated::at(found),
             Stop::Full(full) => Updated::Full(full),
             Stop::Lost { .. } => {
-                resume::from_next::<S, M, E>(words, layout, seat, number, run, *found, Err(stop))
+                resume::from_next::<S, M, E>(words, layout, seat, number, run, found, Err(stop))
             }
         },
     }
@@ -222,5 +222,5 @@ fn change<S: Shape, M: Machine<S>, E: Edit + Copy>(
         helps::commit::<S, M, Tree>(words, &copy, seat, number, &help);
         return Updated::at(found);
     }
-    resume::from_block::<S, M, E>(words, layout, seat, number, run, *found, scx, help)
+    resume::from_block::<S, M, E>(words, layout, seat, number, run, found, scx, &help)
 }

@@ -1,7 +1,7 @@
 use Rattle.std.proofs.Common.{arith}
 use Rattle.forest.specs.Traces.{shared_nodes}
 use Rattle.forest.proofs.StraightUpdate.{has_passes, blocks_there, left_blocked}
-use Rattle.forest.proofs.straight.resume.from_block.Goals as goal
+use Rattle.forest.proofs.straight.resume.rest_from_block.Goals as goal
 
 pub take_up-machine-requires : goal.take_up-machine-requires
 take_up-machine-requires g c = record { some = has_passes c.requires.blocked.0 }

@@ -2,7 +2,7 @@ use Rattle.std.proofs.Common.{arith}
 use Rattle.forest.specs.Traces.{shared_nodes}
 use Rattle.forest.proofs.Advances.{weighs}
 use Rattle.forest.proofs.StraightUpdate.{has_passes, left_there, stands_there, stops_there}
-use Rattle.forest.proofs.straight.resume.from_next.Goals as goal
+use Rattle.forest.proofs.straight.resume.rest_from_next.Goals as goal
 
 pub take_up-machine-requires : goal.take_up-machine-requires
 take_up-machine-requires g c = record { some = has_passes c.requires.goes_on.0 }
