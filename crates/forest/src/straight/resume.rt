@@ -67,6 +67,39 @@ fn finish<S: Shape, M: Machine<S>, E: Edit + Copy>(
 /// Makes the rest of an update from what its try does next on.
 #[cold]
 #[inline(never)]
+fn rest_from_next<S: Shape, M: Machine<S>, E: Edit + Copy>(
+    words: &Words<S>,
+    layout: &Layout,
+    seat: &mut Seat<u8, SeatView>,
+    number: u64,
+    run: &mut UpdateRun<E, ()>,
+    found: Found,
+    next: Result<Next, Stop>,
+) -> Updated
+    requires table { IsSeatAt words.now layout.now seat.old }
+    requires goes_on { (u : Updater (calls S.Shape M.Machine layout.now number) E.means) × UpdaterGoesOn u seat.old.me.0.passes run.old found next }
+    ensures table { StaysAtTable seat.old seat.new }
+    ensures ends { (u : Updater (calls S.Shape M.Machine layout.now number) E.means)
+        → UpdaterGoesOn u seat.old.me.0.passes run.old found next
+        → UpdaterEnds u seat.new.me.0.passes run.new result }
+    ensures steps { seat_steps seat.new.me.0.passes ≤ seat_steps seat.old.me.0.passes + left_then E.means run.old found next (shared_nodes layout.now) }
+{
+    let mut machine = take_up(run, layout);
+    match next {
+        Ok(next) => {
+            let turn = machine.begin(found, next);
+            finish::<S, M, E>(words, layout, seat, number, run, machine, turn)
+        }
+        Err(stop) => {
+            let turn = machine.stop(&found, stop);
+            finish::<S, M, E>(words, layout, seat, number, run, machine, turn)
+        }
+    }
+}
+
+/// Makes the rest of an update from what its try does next on. In line it makes a copy of the leaf,
+/// since the compiler keeps in registers only what is handed to no function out of line.
+#[inline(always)]
 pub(crate) fn from_next<S: Shape, M: Machine<S>, E: Edit + Copy>(
     words: &Words<S>,
     layout: &Layout,
@@ -84,22 +117,39 @@ pub(crate) fn from_next<S: Shape, M: Machine<S>, E: Edit + Copy>(
         → UpdaterEnds u seat.new.me.0.passes run.new result }
     ensures steps { seat_steps seat.new.me.0.passes ≤ seat_steps seat.old.me.0.passes + left_then E.means run.old found.now next (shared_nodes layout.now) }
 {
-    let mut machine = take_up(run, layout);
-    match next {
-        Ok(next) => {
-            let turn = machine.begin(*found, next);
-            finish::<S, M, E>(words, layout, seat, number, run, machine, turn)
-        }
-        Err(stop) => {
-            let turn = machine.stop(found, stop);
-            finish::<S, M, E>(words, layout, seat, number, run, machine, turn)
-        }
-    }
+    rest_from_next::<S, M, E>(words, layout, seat, number, run, *found, next)
 }
 
 /// Makes the rest of an update whose SCX could not freeze a node.
 #[cold]
 #[inline(never)]
+fn rest_from_block<S: Shape, M: Machine<S>, E: Edit + Copy>(
+    words: &Words<S>,
+    layout: &Layout,
+    seat: &mut Seat<u8, SeatView>,
+    number: u64,
+    run: &mut UpdateRun<E, ()>,
+    found: Found,
+    scx: ScxNo,
+    help: HelpRun,
+) -> Updated
+    requires table { IsSeatAt words.now layout.now seat.old }
+    requires blocked { (u : Updater (calls S.Shape M.Machine layout.now number) E.means)
+        × UpdaterIsBlocked u seat.old.me.0.passes run.old found scx help }
+    ensures table { StaysAtTable seat.old seat.new }
+    ensures ends { (u : Updater (calls S.Shape M.Machine layout.now number) E.means)
+        → UpdaterIsBlocked u seat.old.me.0.passes run.old found scx help
+        → UpdaterEnds u seat.new.me.0.passes run.new result }
+    ensures steps { seat_steps seat.new.me.0.passes
+        ≤ seat_steps seat.old.me.0.passes + suc (run.old.tries * try_left E.means (shared_nodes layout.now) + scx_left (ScxAt.Help help)) }
+{
+    let mut machine = take_up(run, layout);
+    let turn = machine.block(found, scx, help);
+    finish::<S, M, E>(words, layout, seat, number, run, machine, turn)
+}
+
+/// Makes the rest of an update whose SCX could not freeze a node, with copies as above.
+#[inline(always)]
 pub(crate) fn from_block<S: Shape, M: Machine<S>, E: Edit + Copy>(
     words: &Words<S>,
     layout: &Layout,
@@ -120,7 +170,5 @@ pub(crate) fn from_block<S: Shape, M: Machine<S>, E: Edit + Copy>(
     ensures steps { seat_steps seat.new.me.0.passes
         ≤ seat_steps seat.old.me.0.passes + suc (run.old.tries * try_left E.means (shared_nodes layout.now) + scx_left (ScxAt.Help help.now)) }
 {
-    let mut machine = take_up(run, layout);
-    let turn = machine.block(*found, scx, *help);
-    finish::<S, M, E>(words, layout, seat, number, run, machine, turn)
+    rest_from_block::<S, M, E>(words, layout, seat, number, run, *found, scx, *help)
 }

@@ -207,7 +207,7 @@ fn change<S: Shape, M: Machine<S>, E: Edit + Copy>(
     ensures steps { seat_steps seat.new.me.0.passes
         ≤ seat_steps seat.old.me.0.passes + left_then E.means run.old found.now (Ok (Next.Change scx)) (shared_nodes layout.now) }
 {
-    let layout = *layout;
+    let copy = *layout;
     let change = Change {
         scx,
         call: run.call,
@@ -217,10 +217,10 @@ fn change<S: Shape, M: Machine<S>, E: Edit + Copy>(
     };
     let snaps = run.snaps.as_slice();
     let mut help = HelpRun::new(scx);
-    scx::fill_all::<S, M, Tree, &[Snap]>(words, &layout, seat, number, &snaps, change);
-    if helps::begin::<S, M, Tree>(words, &layout, seat, number, &mut help) {
-        helps::commit::<S, M, Tree>(words, &layout, seat, number, &help);
+    scx::fill_all::<S, M, Tree, &[Snap]>(words, &copy, seat, number, &snaps, change);
+    if helps::begin::<S, M, Tree>(words, &copy, seat, number, &mut help) {
+        helps::commit::<S, M, Tree>(words, &copy, seat, number, &help);
         return Updated::at(found);
     }
-    resume::from_block::<S, M, E>(words, &layout, seat, number, run, found, scx, &help)
+    resume::from_block::<S, M, E>(words, layout, seat, number, run, found, scx, &help)
 }
