@@ -86,30 +86,37 @@ fn fill_value<S: Shape>(
 }
 
 /// Goes on by the machine, where a node could not be frozen: it waits to look whether all were. The
-/// layout is a copy, so that the caller's, which is not handed out of line, stays in registers.
+/// layout and the run of HELP are copies, so that the caller's, which are not handed out of line,
+/// stay in registers.
 #[inline(always)]
 fn complete_blocked<S: Shape>(
     words: &Words<S>,
-    layout: Layout,
+    layout: &Layout,
     seat: &mut Seat<u8, SeatView>,
     number: u64,
-    mut run: PutRun,
+    snaps: &[Snap],
+    put: Put,
+    help: &HelpRun,
 ) -> Scx
-    requires table { IsSeatAt words.now layout seat.old }
-    requires waits { (c : Call) × (first : PutRun) × (c.layout ≡ layout) × (c.number ≡ number)
-        × SeatPutWaits S.allows c seat.old.me.0.passes first run (all_frozen_load run.scx.scx) }
+    requires table { IsSeatAt words.now layout.now seat.old }
+    requires fits { length snaps.now ≤ 4 }
+    requires waits { (c : Call) × (first : PutRun) × (c.layout ≡ layout.now) × (c.number ≡ number)
+        × SeatPutWaits S.allows c seat.old.me.0.passes first (standing_put snaps.now put number (ScxAt.Help help.now) PutAt.Scx) (all_frozen_load put.scx) }
     ensures table { StaysAtTable seat.old seat.new }
-    ensures steps { seat_steps seat.new.me.0.passes ≤ seat_steps seat.old.me.0.passes + suc (put_left run) }
-    ensures ends { (c : Call) (first : PutRun) → c.layout ≡ layout → c.number ≡ number
-        → SeatPutWaits S.allows c seat.old.me.0.passes first run (all_frozen_load run.scx.scx)
+    ensures steps { seat_steps seat.new.me.0.passes
+        ≤ seat_steps seat.old.me.0.passes + suc (put_left (standing_put snaps.now put number (ScxAt.Help help.now) PutAt.Scx)) }
+    ensures ends { (c : Call) (first : PutRun) → c.layout ≡ layout.now → c.number ≡ number
+        → SeatPutWaits S.allows c seat.old.me.0.passes first (standing_put snaps.now put number (ScxAt.Help help.now) PutAt.Scx) (all_frozen_load put.scx)
         → (m : PutRun) × SeatPutEnds S.allows c seat.new.me.0.passes first m result }
 {
+    let copy = *layout;
+    let mut run = machine(snaps, put, number, ScxAt::Help { help: *help }, PutAt::Scx);
     let step = Step {
         kind: Kind::LoadAllFrozen,
         word: Word::Scx(run.scx.scx, ScxWord::AllFrozen),
         access: Access::Load,
     };
-    complete::<S, PutRun, S, PutRun>(words, &layout, seat, number, &mut run, Turn::Ask(step))
+    complete::<S, PutRun, S, PutRun>(words, &copy, seat, number, &mut run, Turn::Ask(step))
 }
 
 /// SCX of an update by this SCX-record, whose fresh cell gets the value.
@@ -145,6 +152,5 @@ pub(crate) fn call<S: Shape>(
     if scx::call::<S, PutRun, S, &[Snap]>(words, layout, seat, number, &snaps, change, own) {
         return Scx::Done;
     }
-    let run = machine(snaps, put, number, ScxAt::Help { help }, PutAt::Scx);
-    complete_blocked(words, *layout, seat, number, run)
+    complete_blocked(words, layout, seat, number, snaps, put, &help)
 }

@@ -2,7 +2,7 @@ use Rattle.prims.specs.declared.scx.ScxAt.TheVariants.{Plan as AtPlan, Help}
 use Rattle.forest.specs.declared.straight.scx.Change.{Change}
 use Rattle.forest.specs.StraightScx.{changing_at}
 use Rattle.forest.specs.StraightPut.{fresh_put}
-use Rattle.forest.proofs.StraightPut.{putter, begins_change, change_waits, put_done, blocked_as}
+use Rattle.forest.proofs.StraightPut.{putter, begins_change, change_waits, put_done}
 use Rattle.forest.proofs.straight.put.call.Goals as goal
 
 pub call-requires-clause-waits : goal.call-requires-clause-waits
@@ -17,9 +17,9 @@ returns-then-call-clause-ends g c = λ k lay number x. let change : Change = rec
 pub complete_blocked-requires-clause-waits : goal.complete_blocked-requires-clause-waits
 complete_blocked-requires-clause-waits g c = let r = c.requires.begins in let change : Change = record { scx = c.args.put.scx; call = c.args.number; plan = c.args.put.plan; old = c.args.put.old; fresh = c.args.put.fresh } in let u = (fresh_put c.args.snaps.now c.args.put c.args.number) in
     let x = change_waits g.S.Shape.allows c.args.layout.now c.args.number r.0 r.1 r.2 u _ (changing_at c.args.snaps.now change (Help c.call.new.help)) _ (c.call.ensures.blocked c.if-call.false (putter g.S.Shape.allows c.args.layout.now c.args.number r.0 r.1 r.2 (fresh_put c.args.snaps.now c.args.put c.args.number)) (begins_change g.S.Shape.allows c.args.layout.now c.args.number r.0 r.1 r.2 (fresh_put c.args.snaps.now c.args.put c.args.number) _ (changing_at c.args.snaps.now change AtPlan) _ (c.fill_value.ensures.waits r.0 r.1 r.2 r.3))) in
-    (r.0, u, r.1, r.2, blocked_as g.S.Shape.allows r.0 _ u _ _ c.machine-run.ensures x)
+    (r.0, u, r.1, r.2, x)
 
 pub returns-clause-ends : goal.returns-clause-ends
 returns-clause-ends g c = λ k lay number x. let change : Change = record { scx = c.args.put.scx; call = c.args.number; plan = c.args.put.plan; old = c.args.put.old; fresh = c.args.put.fresh } in let u = (fresh_put c.args.snaps.now c.args.put c.args.number) in
     let y = change_waits g.S.Shape.allows c.args.layout.now c.args.number k lay number u _ (changing_at c.args.snaps.now change (Help c.call.new.help)) _ (c.call.ensures.blocked c.if-call.false (putter g.S.Shape.allows c.args.layout.now c.args.number k lay number (fresh_put c.args.snaps.now c.args.put c.args.number)) (begins_change g.S.Shape.allows c.args.layout.now c.args.number k lay number (fresh_put c.args.snaps.now c.args.put c.args.number) _ (changing_at c.args.snaps.now change AtPlan) _ (c.fill_value.ensures.waits k lay number x))) in
-    c.complete_blocked.ensures.ends k u lay number (blocked_as g.S.Shape.allows k _ u _ _ c.machine-run.ensures y)
+    c.complete_blocked.ensures.ends k u lay number y

@@ -1,12 +1,12 @@
 use Rattle.prims.specs.Put.Known.{PutAnswers}
 use Rattle.forest.proofs.Hosts.{own, own_ends}
-use Rattle.forest.proofs.StraightPut.{put_calls}
+use Rattle.forest.proofs.StraightPut.{put_calls, blocked_as}
 use Rattle.forest.proofs.straight.put.complete_blocked.Goals as goal
 
 pub complete-requires-clause-stands : goal.complete-requires-clause-stands
-complete-requires-clause-stands g c = let w = c.requires.waits in (own (put_calls g.S.Shape.allows c.args.layout c.args.number) PutAnswers w.0 w.2 w.3 w.1, w.4)
+complete-requires-clause-stands g c = let w = c.requires.waits in (own (put_calls g.S.Shape.allows c.args.layout.now c.args.number) PutAnswers w.0 w.2 w.3 w.1, blocked_as g.S.Shape.allows w.0 _ w.1 _ _ c.machine-run.ensures w.4)
 
 pub returns-clause-ends : goal.returns-clause-ends
 returns-clause-ends g c = λ k first lay number x.
-    let o = put_calls g.S.Shape.allows c.args.layout c.args.number in
-    (c.complete.new.machine, own_ends o PutAnswers k lay number first _ c.complete.new.machine c.complete.result (c.complete.ensures.ends (own o PutAnswers k lay number first) x))
+    let o = put_calls g.S.Shape.allows c.args.layout.now c.args.number in
+    (c.complete.new.machine, own_ends o PutAnswers k lay number first _ c.complete.new.machine c.complete.result (c.complete.ensures.ends (own o PutAnswers k lay number first) (blocked_as g.S.Shape.allows k _ first _ _ c.machine-run.ensures x)))
