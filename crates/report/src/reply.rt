@@ -2,11 +2,11 @@
 ghost use Rattle.std.specs.Prelude.{◌≡◌, ◌++◌, IfOk, IfSome, codes, decimal, string_bytes};
 ghost use Rattle.report.specs.Answers.{full_text, reply_text, spaced_pairs, rest_text};
 
-use crate::name::{blame_of, small_number_of};
+use crate::name::blame_of;
 use arena::{Full, Resource};
 use ordered_map::Reply;
 use std::alloc::{AllocError, Global};
-use texts::number_of;
+use texts::{number_of, small_number_of};
 
 /// The text of a reply: its name, and what it tells.
 pub fn reply_text(alloc: Global, reply: &Reply<u64, u64>) -> Result<String, AllocError>

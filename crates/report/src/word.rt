@@ -1,6 +1,5 @@
 //! Words of the table as text.
 ghost use Rattle.std.specs.Prelude.{◌≡◌, ◌++◌, IfOk, IfSome, MatchOption, decimal, string_bytes};
-ghost use Rattle.arena.specs.declared.word.NodeWord.TheVariants.{Child};
 ghost use Rattle.report.specs.Words.{node_part, scx_part, word_text};
 
 use crate::name::{node_of, scx_of};
@@ -44,18 +43,10 @@ fn node_part(part: NodeWord) -> &'static str
         NodeWord::Head => "head",
         NodeWord::Key => "key",
         NodeWord::Value => "value",
-        NodeWord::Child(side) => child_part(side),
+        NodeWord::Child(Side::Left) => "left",
+        NodeWord::Child(Side::Right) => "right",
         NodeWord::Info => "info",
         NodeWord::Marked => "marked",
-    }
-}
-
-fn child_part(side: Side) -> &'static str
-    ensures { result.now ≡ node_part (Child side) }
-{
-    match side {
-        Side::Left => "left",
-        Side::Right => "right",
     }
 }
 
@@ -79,16 +70,8 @@ fn node_part_of(name: &str) -> Option<NodeWord>
         "value" => Some(NodeWord::Value),
         "info" => Some(NodeWord::Info),
         "marked" => Some(NodeWord::Marked),
-        side => Some(NodeWord::Child(side_of(side)?)),
-    }
-}
-
-fn side_of(name: &str) -> Option<Side>
-    ensures { IfSome result (λ side. name.now ≡ node_part (Child side)) }
-{
-    match name {
-        "left" => Some(Side::Left),
-        "right" => Some(Side::Right),
+        "left" => Some(NodeWord::Child(Side::Left)),
+        "right" => Some(NodeWord::Child(Side::Right)),
         _ => None,
     }
 }
