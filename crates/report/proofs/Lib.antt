@@ -1,6 +1,7 @@
 mod Texts
 mod Parts
 mod PairTexts
+mod WordTexts
 mod Counted
 mod CommandLists
 mod CallRows

@@ -1,6 +1,10 @@
 //! Words of the table as text.
-ghost use Rattle.std.specs.Prelude.{◌≡◌, ◌++◌, IfOk, IfSome, MatchOption, decimal, string_bytes};
-ghost use Rattle.report.specs.Words.{node_part, scx_part, word_text};
+ghost use Rattle.std.specs.Prelude.{◌≡◌, ◌≢◌, ◌++◌, IfOk, MatchOption, decimal, string_bytes};
+ghost use Rattle.arena.specs.Words.{IsScxWord};
+ghost use Rattle.arena.specs.declared.word.NodeWord.{NodeWord as NodeWordOf};
+ghost use Rattle.arena.specs.declared.word.ScxWord.{ScxWord as ScxWordOf};
+ghost use Rattle.arena.specs.declared.word.Word.{Word as WordOf};
+ghost use Rattle.report.specs.Words.{IsSpelled, node_part, scx_part, word_text};
 
 use crate::name::{node_of, scx_of};
 use arena::{NodeWord, ScxWord, Side, Word};
@@ -52,7 +56,7 @@ fn node_part(part: NodeWord) -> &'static str
 
 /// The word of the table that a text names.
 pub fn word_of(text: &str) -> Option<Word>
-    ensures { IfSome result (λ word. text.now ≡ word_text word) }
+    ensures { MatchOption result ((word : WordOf) → IsSpelled word → text.now ≢ word_text word) (λ word. text.now ≡ word_text word) }
 {
     let (name, part) = text.split_once('.')?;
     match node_of(name) {
@@ -62,7 +66,7 @@ pub fn word_of(text: &str) -> Option<Word>
 }
 
 fn node_part_of(name: &str) -> Option<NodeWord>
-    ensures { IfSome result (λ part. name.now ≡ node_part part) }
+    ensures { MatchOption result ((part : NodeWordOf) → name.now ≢ node_part part) (λ part. name.now ≡ node_part part) }
 {
     match name {
         "head" => Some(NodeWord::Head),
@@ -77,7 +81,7 @@ fn node_part_of(name: &str) -> Option<NodeWord>
 }
 
 fn scx_part_of(name: &str) -> Option<ScxWord>
-    ensures { IfSome result (λ part. name.now ≡ scx_part part) }
+    ensures { MatchOption result ((part : ScxWordOf) → IsScxWord part → name.now ≢ scx_part part) (λ part. name.now ≡ scx_part part) }
 {
     match name {
         "state" => Some(ScxWord::State),

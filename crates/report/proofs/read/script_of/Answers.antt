@@ -11,7 +11,7 @@ pub returns : goal.returns
 returns g c = λ bytes none.
     let mode : c.in-Some-limits_of.layout.mode ≡ c.in-Some.mode = search rules in
     let first = c.in_ok-next_row.ensures bytes [] none in
-    let title : last_row c.next_row.new.rows ≡ seven (title_row c.in-Some-limits_of.layout.mode) = sym (c.row_fields.ensures first.row.0) ∙ c.in-Some.ensures.some ∙ ap (λ m. seven (title_row m)) (sym mode) in
+    let title : last_row c.next_row.new.rows ≡ seven (title_row c.in-Some-limits_of.layout.mode) = sym (c.row_fields.ensures first.row.0) ∙ c.in-Some.ensures ∙ ap (λ m. seven (title_row m)) (sym mode) in
     let second = c.in_ok-next_row-2.ensures bytes (last_row c.next_row.new.rows ∷ []) first.read in
     let limits : last_row c.next_row-2.new.rows ≡ seven (limits_row c.in-Some-limits_of.limits) = sym (c.row_fields-2.ensures second.row.0) ∙ c.in-Some-limits_of.ensures.row in
     let third = c.in_ok-next_row-3.ensures bytes (last_row c.next_row.new.rows ∷ last_row c.next_row-2.new.rows ∷ []) second.read in
