@@ -1,5 +1,5 @@
 -- The text of a word, cut at its dot.
-use Rattle.std.proofs.Common.{◌≡◌, ◌≢◌, ℕ, zero, suc, ◌<◌, ◌^◌, List, ◌∷◌, ◌++◌, length, get_or, Option, Some, None, MatchOption, Bor, arith, sym, ap, ◌∙◌, codes, decimal, lit<}
+use Rattle.std.proofs.Common.{◌≡◌, ◌≢◌, ℕ, zero, suc, ◌<◌, ◌^◌, List, ◌∷◌, ◌++◌, length, get_or, Option, Some, MatchOption, Bor, arith, sym, ap, ◌∙◌, codes, decimal, lit<}
 use Rattle.std.proofs.lemmas.Fmt.{decimal_is_IsNumeral}
 use Rattle.std.proofs.lemmas.Str.Parse.{digit_at}
 use Rattle.std.proofs.lemmas.Str.Pattern.{IsSplitOnceResult, split_after}
