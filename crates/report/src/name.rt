@@ -2,7 +2,7 @@
 ghost use Rattle.std.specs.Prelude.{◌≡◌, ◌≢◌, ◌<◌, ◌^◌, ◌++◌, ℕ, IfNone, IfSome, codes, decimal};
 
 use arena::{NodeNo, PassNo, ScxNo};
-use texts::number_of;
+use texts::{number_of, small_number_of};
 
 /// The node that a text names, as `n5`.
 pub fn node_of(text: &str) -> Option<NodeNo>
@@ -25,14 +25,7 @@ pub fn client_of(text: &str) -> Option<PassNo>
     ensures some { IfSome result (λ client. text.now ≡ decimal client.0) }
     ensures none { IfNone result ((n : ℕ) → n < 2 ^ 32 → text.now ≢ decimal n) }
 {
-    Some(PassNo(texts::small_number_of(text)?))
-}
-
-/// The number that a text spells, if it is below 2 ^ 32.
-pub fn small_number_of(text: &str) -> Option<u32>
-    ensures { IfSome result (λ n. text.now ≡ decimal n) }
-{
-    texts::small_number_of(text)
+    Some(PassNo(small_number_of(text)?))
 }
 
 /// The node and the SCX-record that was in the way there, as `n5 s2`.
