@@ -2,6 +2,7 @@ mod Texts
 mod PlainTexts
 mod Parts
 mod PairTexts
+mod WordTexts
 mod Counted
 mod CommandLists
 mod CallRows

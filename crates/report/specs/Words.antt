@@ -1,5 +1,6 @@
 -- Words of the table as text.
-use Rattle.std.specs.Prelude.{ℕ, List, ◌++◌, codes, decimal}
+use Rattle.std.specs.Prelude.{ℕ, ◌<◌, ◌^◌, List, ◌++◌, codes, decimal}
+use Rattle.arena.specs.Words.{IsScxWord}
 use Rattle.arena.specs.declared.word.Side.TheVariants.{Left, Right}
 use Rattle.arena.specs.declared.word.NodeWord.{NodeWord}
 use Rattle.arena.specs.declared.word.NodeWord.TheVariants.{Head, Key, Value, Child, Info, Marked}
@@ -33,3 +34,8 @@ scx_part Call = codes "call"
 abbrev pub word_text : Word → List ℕ
 word_text (Node n part) = codes "n" ++ (decimal n.0 ++ (codes "." ++ node_part part))
 word_text (Scx s part) = codes "s" ++ (decimal s.0 ++ (codes "." ++ scx_part part))
+
+-- a word that a table may have: its record's number has 64 bits, and an SCX-record has four members
+abbrev pub IsSpelled : Word → Type 0
+IsSpelled (Node n part) = n.0 < 2 ^ 64
+IsSpelled (Scx s part) = (s.0 < 2 ^ 64) × IsScxWord part

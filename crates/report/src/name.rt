@@ -1,35 +1,31 @@
 //! The names of records and clients in a report.
-ghost use Rattle.std.specs.Prelude.{◌≡◌, ◌++◌, IfSome, codes, decimal};
+ghost use Rattle.std.specs.Prelude.{◌≡◌, ◌≢◌, ◌<◌, ◌^◌, ◌++◌, ℕ, IfNone, IfSome, codes, decimal};
 
 use arena::{NodeNo, PassNo, ScxNo};
-use texts::number_of;
+use texts::{number_of, small_number_of};
 
 /// The node that a text names, as `n5`.
 pub fn node_of(text: &str) -> Option<NodeNo>
-    ensures { IfSome result (λ node. text.now ≡ codes "n" ++ decimal node.0) }
+    ensures some { IfSome result (λ node. text.now ≡ codes "n" ++ decimal node.0) }
+    ensures none { IfNone result ((n : ℕ) → n < 2 ^ 64 → text.now ≢ codes "n" ++ decimal n) }
 {
     Some(NodeNo(number_of(text.strip_prefix('n')?)?))
 }
 
 /// The SCX-record that a text names, as `s2`.
 pub fn scx_of(text: &str) -> Option<ScxNo>
-    ensures { IfSome result (λ scx. text.now ≡ codes "s" ++ decimal scx.0) }
+    ensures some { IfSome result (λ scx. text.now ≡ codes "s" ++ decimal scx.0) }
+    ensures none { IfNone result ((n : ℕ) → n < 2 ^ 64 → text.now ≢ codes "s" ++ decimal n) }
 {
     Some(ScxNo(number_of(text.strip_prefix('s')?)?))
 }
 
 /// The client of this number, whether or not there are so many.
 pub fn client_of(text: &str) -> Option<PassNo>
-    ensures { IfSome result (λ client. text.now ≡ decimal client.0) }
+    ensures some { IfSome result (λ client. text.now ≡ decimal client.0) }
+    ensures none { IfNone result ((n : ℕ) → n < 2 ^ 32 → text.now ≢ decimal n) }
 {
     Some(PassNo(small_number_of(text)?))
-}
-
-/// The number that a text spells, if it is below 2 ^ 32.
-pub fn small_number_of(text: &str) -> Option<u32>
-    ensures { IfSome result (λ n. text.now ≡ decimal n) }
-{
-    u32::try_from(number_of(text)?).ok()
 }
 
 /// The node and the SCX-record that was in the way there, as `n5 s2`.

@@ -5,9 +5,8 @@ ghost use Rattle.script.specs.Rows.{limits_row};
 ghost use Rattle.script.specs.Commands.{texts};
 ghost use Rattle.report.specs.Report.{mode_text, title_row, seven};
 
-use crate::name::small_number_of;
 use arena::{Layout, Limits, Mode};
-use texts::number_of;
+use texts::{number_of, small_number_of};
 
 /// The version of the format.
 const VERSION: u64 = 1;

@@ -3,11 +3,11 @@ ghost use Rattle.std.specs.Prelude.{◌≡◌, ◌≤◌, ◌++◌, IfOk, IfSome
 ghost use Rattle.report.specs.Answers.{full_text, reply_text, spaced_pairs, rest_text};
 ghost use Rattle.texts.specs.Sheets.{IsPlain, sheet_room, sheet_text};
 
-use crate::name::{blame_of, small_number_of};
+use crate::name::blame_of;
 use arena::{Full, Resource};
 use ordered_map::Reply;
 use std::alloc::{AllocError, Global};
-use texts::{Sheet, number_of};
+use texts::{Sheet, number_of, small_number_of};
 
 /// Puts the text of a reply: its name, and what it tells.
 pub fn put_reply(sheet: &mut Sheet, reply: &Reply<u64, u64>) -> Result<(), AllocError>

@@ -1,10 +1,10 @@
 //! How many lines of each kind a run has.
-ghost use Rattle.std.specs.Prelude.{◌≡◌, IsTrue};
+ghost use Rattle.std.specs.Prelude.{◌≡◌, ◌↔◌, IsTrue};
 ghost use Rattle.report.specs.Report.{report_end_row, entries_in, replies_in, steps_in, seven};
 ghost use Rattle.script.specs.Commands.{texts};
 
 use record::Line;
-use texts::number_of;
+use texts::is_number;
 
 /// What the end row of a report counts.
 #[derive(Clone, Copy)]
@@ -37,13 +37,13 @@ impl Totals {
 
 /// Whether a row is the end row of these lines.
 pub fn is_end_of(fields: [&str; 7], lines: &[Line]) -> bool
-    ensures { IsTrue result → texts fields.entry ≡ seven (report_end_row lines.now) }
+    ensures { IsTrue result ↔ (texts fields.entry ≡ seven (report_end_row lines.now)) }
 {
     let ["end", steps, replies, entries, "", "", ""] = fields else {
         return false;
     };
     let totals = Totals::of(lines);
-    number_of(steps) == Some(totals.steps)
-        && number_of(replies) == Some(totals.replies)
-        && number_of(entries) == Some(totals.entries)
+    is_number(steps, totals.steps)
+        && is_number(replies, totals.replies)
+        && is_number(entries, totals.entries)
 }

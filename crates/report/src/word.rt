@@ -1,7 +1,10 @@
 //! Words of the table as text.
-ghost use Rattle.std.specs.Prelude.{◌≡◌, ◌≤◌, ◌+◌, ◌++◌, IfOk, IfSome, MatchOption, decimal, length, string_bytes};
-ghost use Rattle.arena.specs.declared.word.NodeWord.TheVariants.{Child};
-ghost use Rattle.report.specs.Words.{node_part, scx_part, word_text};
+ghost use Rattle.std.specs.Prelude.{◌≡◌, ◌≢◌, ◌≤◌, ◌+◌, ◌++◌, IfOk, MatchOption, decimal, length, string_bytes};
+ghost use Rattle.arena.specs.Words.{IsScxWord};
+ghost use Rattle.arena.specs.declared.word.NodeWord.{NodeWord as NodeWordOf};
+ghost use Rattle.arena.specs.declared.word.ScxWord.{ScxWord as ScxWordOf};
+ghost use Rattle.arena.specs.declared.word.Word.{Word as WordOf};
+ghost use Rattle.report.specs.Words.{IsSpelled, node_part, scx_part, word_text};
 ghost use Rattle.texts.specs.Sheets.{IsPlain, sheet_room, sheet_text};
 
 use crate::name::{node_of, scx_of};
@@ -89,26 +92,16 @@ fn node_part(part: NodeWord) -> &'static str
         NodeWord::Head => "head",
         NodeWord::Key => "key",
         NodeWord::Value => "value",
-        NodeWord::Child(side) => child_part(side),
+        NodeWord::Child(Side::Left) => "left",
+        NodeWord::Child(Side::Right) => "right",
         NodeWord::Info => "info",
         NodeWord::Marked => "marked",
     }
 }
 
-fn child_part(side: Side) -> &'static str
-    ensures name { result.now ≡ node_part (Child side) }
-    ensures plain { IsPlain result.now }
-    ensures short { length result.now ≤ 5 }
-{
-    match side {
-        Side::Left => "left",
-        Side::Right => "right",
-    }
-}
-
 /// The word of the table that a text names.
 pub fn word_of(text: &str) -> Option<Word>
-    ensures { IfSome result (λ word. text.now ≡ word_text word) }
+    ensures { MatchOption result ((word : WordOf) → IsSpelled word → text.now ≢ word_text word) (λ word. text.now ≡ word_text word) }
 {
     let (name, part) = text.split_once('.')?;
     match node_of(name) {
@@ -118,7 +111,7 @@ pub fn word_of(text: &str) -> Option<Word>
 }
 
 fn node_part_of(name: &str) -> Option<NodeWord>
-    ensures { IfSome result (λ part. name.now ≡ node_part part) }
+    ensures { MatchOption result ((part : NodeWordOf) → name.now ≢ node_part part) (λ part. name.now ≡ node_part part) }
 {
     match name {
         "head" => Some(NodeWord::Head),
@@ -126,22 +119,14 @@ fn node_part_of(name: &str) -> Option<NodeWord>
         "value" => Some(NodeWord::Value),
         "info" => Some(NodeWord::Info),
         "marked" => Some(NodeWord::Marked),
-        side => Some(NodeWord::Child(side_of(side)?)),
-    }
-}
-
-fn side_of(name: &str) -> Option<Side>
-    ensures { IfSome result (λ side. name.now ≡ node_part (Child side)) }
-{
-    match name {
-        "left" => Some(Side::Left),
-        "right" => Some(Side::Right),
+        "left" => Some(NodeWord::Child(Side::Left)),
+        "right" => Some(NodeWord::Child(Side::Right)),
         _ => None,
     }
 }
 
 fn scx_part_of(name: &str) -> Option<ScxWord>
-    ensures { IfSome result (λ part. name.now ≡ scx_part part) }
+    ensures { MatchOption result ((part : ScxWordOf) → IsScxWord part → name.now ≢ scx_part part) (λ part. name.now ≡ scx_part part) }
 {
     match name {
         "state" => Some(ScxWord::State),

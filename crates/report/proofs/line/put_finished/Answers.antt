@@ -1,8 +1,8 @@
 use Rattle.std.proofs.Common.{◌≡◌, [], ◌∷◌, ◌++◌, ◌∙◌, ap, arith, codes, decimal, refl, sym}
 use Rattle.report.specs.Answers.{answer_text}
 use Rattle.report.specs.Report.{moment_text}
-use Rattle.texts.specs.Sheets.{IsPlain, plain_line, sheet_text}
-use Rattle.texts.proofs.Lemmas.{plain_append, plain_number, plain_row}
+use Rattle.texts.specs.Sheets.{plain_line, sheet_text}
+use Rattle.texts.proofs.Lemmas.{plain_number, plain_row}
 use Rattle.report.proofs.PlainTexts.{puts}
 use Rattle.report.proofs.line.put_finished.Goals as goal
 

@@ -1,4 +1,4 @@
-use Rattle.std.proofs.Common.{◌≡◌, [], ◌∷◌, ◌++◌, ◌∙◌, ap, append_assoc, append-nil, arith, map, rules, sym, take}
+use Rattle.std.proofs.Common.{[], ◌∷◌, ◌++◌, ◌∙◌, ap, append_assoc, append-nil, arith, map, sym, take}
 use Rattle.std.proofs.lemmas.List.{take_all, take_more}
 use Rattle.record.specs.declared.record.Line.{Line}
 use Rattle.report.specs.Report.{line_row}

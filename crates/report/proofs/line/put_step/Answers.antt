@@ -1,8 +1,8 @@
 use Rattle.std.proofs.Common.{◌≡◌, [], ◌∷◌, ◌++◌, ◌∙◌, ap, arith, codes, decimal, refl, sym}
 use Rattle.script.specs.Kinds.{kind_text}
 use Rattle.report.specs.Words.{word_text}
-use Rattle.texts.specs.Sheets.{IsPlain, plain_line, sheet_text}
-use Rattle.texts.proofs.Lemmas.{plain_append, plain_number, plain_row}
+use Rattle.texts.specs.Sheets.{plain_line, sheet_text}
+use Rattle.texts.proofs.Lemmas.{plain_number, plain_row}
 use Rattle.report.proofs.PlainTexts.{kind_plain, puts}
 use Rattle.report.proofs.line.put_step.Goals as goal
 

@@ -6,5 +6,5 @@ use Rattle.report.proofs.read.end_of.Goals as goal
 pub returns : goal.returns
 returns g c = λ bytes before here.
     let last = seven (report_end_row c.args.lines.now) in
-    let row : last_row c.args.rows.now ≡ last = sym (c.row_fields.ensures here.row.0) ∙ c.is_end_of.ensures (search rules) in
+    let row : last_row c.args.rows.now ≡ last = sym (c.row_fields.ensures here.row.0) ∙ c.is_end_of.ensures.0 (search rules) in
     rw c.if-branch.false at (c.in_ok-advance.ensures bytes (before ++ last ∷ []) (rw row at here.read))

@@ -1,9 +1,8 @@
-use Rattle.std.proofs.Common.{◌≡◌, ℕ, ◌++◌, append_assoc, ap, codes, get_or, refl, rules, sym, take, ◌∙◌}
+use Rattle.std.proofs.Common.{ℕ, ◌++◌, append_assoc, ap, codes, get_or, refl, rules, take, ◌∙◌}
 use Rattle.std.proofs.lemmas.List.{take_all, take_more}
 use Rattle.report.specs.Answers.{spaced_pairs}
-use Rattle.texts.specs.Sheets.{IsPlain, sheet_text}
+use Rattle.texts.specs.Sheets.{sheet_text}
 use Rattle.texts.proofs.Lemmas.{plain_append}
-use Rattle.report.proofs.CallRows.{so_on_ok}
 use Rattle.report.proofs.PairTexts.{pair_text, pairs_more}
 use Rattle.report.proofs.PlainTexts.{pair_plain}
 use Rattle.report.proofs.reply.put_pairs.Goals as goal

@@ -1,5 +1,6 @@
 use Rattle.std.proofs.Common.{rules}
 use Rattle.std.specs.Fmt.{digits}
+use Rattle.report.proofs.WordTexts.{no_scx_part}
 use Rattle.report.proofs.word.scx_part_of.Goals as goal
 
 pub returns-in-v0 : goal.returns-in-v0
@@ -33,3 +34,8 @@ returns-in-i2 c = search rules
 pub returns-in-i3 : goal.returns-in-i3
 unfolding digits
 returns-in-i3 c = search rules
+
+pub returns-in_default : goal.returns-in_default
+returns-in_default c =
+    let no = c.in_default in
+    no_scx_part c.args.name.now no.not-call no.not-state no.not-allfrozen no.not-plan no.not-new no.not-old no.not-v0 no.not-v1 no.not-v2 no.not-v3 no.not-i0 no.not-i1 no.not-i2 no.not-i3
