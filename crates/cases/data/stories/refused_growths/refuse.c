@@ -10,7 +10,9 @@
 /* Blocks for dlsym itself, which may ask for one before the next malloc is known. */
 static char early[4096];
 static size_t early_used;
-static unsigned long calls, refused;
+/* Threads count too. */
+static _Atomic unsigned long calls;
+static unsigned long refused;
 static void *(*next_malloc)(size_t), *(*next_realloc)(void *, size_t);
 static void (*next_free)(void *);
 
