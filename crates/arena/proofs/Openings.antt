@@ -5,7 +5,8 @@ use Rattle.arena.specs.declared.limits.Mode.{Mode}
 use Rattle.arena.specs.declared.limits.Mode.TheVariants.{Tree, Records}
 use Rattle.arena.specs.declared.layout.Layout.{Layout}
 use Rattle.arena.specs.declared.word.Side.TheVariants.{Left, Right}
-use Rattle.arena.specs.declared.word.NodeWord.TheVariants.{Head, Key, Value, Child, Info, Marked}
+use Rattle.arena.specs.declared.word.NodeWord.TheVariants.{Settled, Child, Info, Marked}
+use Rattle.arena.specs.declared.word.SettledPart.TheVariants.{Head}
 use Rattle.arena.specs.declared.word.ScxWord.TheVariants.{State, AllFrozen, Plan, New, Old, Member, Seen, Call}
 use Rattle.arena.specs.declared.word.ScxWord.{ScxWord}
 use Rattle.arena.specs.declared.number.ScxNo.{ScxNo}
@@ -65,7 +66,7 @@ heads (suc (suc (suc n))) =
     rw (a, b, c) refl
 
 -- the words of the tree, put over these one after another
-pub tree_is : (w : Word) → cond (same_word (node 2 Head) w) 14 (cond (same_word (node 1 Head) w) 13 (cond (same_word (child 0 Right) w) 2 (cond (same_word (child 0 Left) w) 1 (cond (same_word (node 0 Head) w) 2 (records_opening w)))))
+pub tree_is : (w : Word) → cond (same_word (node 2 (Settled Head)) w) 14 (cond (same_word (node 1 (Settled Head)) w) 13 (cond (same_word (child 0 Right) w) 2 (cond (same_word (child 0 Left) w) 1 (cond (same_word (node 0 (Settled Head)) w) 2 (records_opening w)))))
     ≡ tree_opening w
 tree_is (Scx s part) = shown s part
   where
@@ -78,16 +79,15 @@ tree_is (Scx s part) = shown s part
     shown s (Member j) = refl
     shown s (Seen j) = refl
     shown s Call = refl
-tree_is (Node n Head) = simp (skip, put) (heads n.0)
+tree_is (Node n (Settled Head)) = simp (skip, put) (heads n.0)
 tree_is (Node n (Child Left)) = simp (skip, put)
 tree_is (Node n (Child Right)) = simp (skip, put)
-tree_is (Node n Key) = simp skip
-tree_is (Node n Value) = simp skip
+tree_is (Node n (Settled _)) = simp skip
 tree_is (Node n Info) = simp skip
 tree_is (Node n Marked) = simp skip
 
 -- five changes of a table that holds the opening words of records make it that of the tree
-pub planted : (a b c d e f : Contents) → IsChanged a b (node 0 Head) 2 → IsChanged b c (child 0 Left) 1 → IsChanged c d (child 0 Right) 2 → IsChanged d e (node 1 Head) 13 → IsChanged e f (node 2 Head) 14
+pub planted : (a b c d e f : Contents) → IsChanged a b (node 0 (Settled Head)) 2 → IsChanged b c (child 0 Left) 1 → IsChanged c d (child 0 Right) 2 → IsChanged d e (node 1 (Settled Head)) 13 → IsChanged e f (node 2 (Settled Head)) 14
     → ((w : Word) → IsWord a.layout w → word_at a w ≡ records_opening w) → (w : Word) → IsWord a.layout w → word_at f w ≡ tree_opening w
 planted a b c d e f p q r s t start w i =
     let j : IsWord b.layout w = rw p.layout i in

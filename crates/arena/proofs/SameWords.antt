@@ -3,12 +3,14 @@ use Rattle.std.proofs.Common.{◌≡◌, ◌≢◌, ℕ, true, false, eqb, refl,
 use Rattle.arena.specs.declared.word.Side.{Side}
 use Rattle.arena.specs.declared.word.Side.TheVariants.{Left, Right}
 use Rattle.arena.specs.declared.word.NodeWord.{NodeWord}
-use Rattle.arena.specs.declared.word.NodeWord.TheVariants.{Head, Key, Value, Child, Info, Marked}
+use Rattle.arena.specs.declared.word.NodeWord.TheVariants.{Settled, Child, Info, Marked}
+use Rattle.arena.specs.declared.word.SettledPart.{SettledPart}
+use Rattle.arena.specs.declared.word.SettledPart.TheVariants.{Head, Key, Value}
 use Rattle.arena.specs.declared.word.ScxWord.{ScxWord}
 use Rattle.arena.specs.declared.word.ScxWord.TheVariants.{State, AllFrozen, Plan, New, Old, Member, Seen, Call}
 use Rattle.arena.specs.declared.word.Word.{Word}
 use Rattle.arena.specs.declared.word.Word.TheVariants.{Node, Scx}
-use Rattle.arena.specs.Words.{same_word, same_side, same_node_word, same_scx_word}
+use Rattle.arena.specs.Words.{same_word, same_side, same_settled, same_node_word, same_scx_word}
 use Rattle.arena.proofs.Bools.{and_left, and_right}
 
 side_same : (a b : Side) → same_side a b ≡ true → a ≡ b
@@ -16,10 +18,14 @@ side_same Left Left e = refl
 side_same Right Right e = refl
 side_same _ _ e = cc
 
+settled_same : (a b : SettledPart) → same_settled a b ≡ true → a ≡ b
+settled_same Head Head e = refl
+settled_same Key Key e = refl
+settled_same Value Value e = refl
+settled_same _ _ e = cc
+
 node_word_same : (a b : NodeWord) → same_node_word a b ≡ true → a ≡ b
-node_word_same Head Head e = refl
-node_word_same Key Key e = refl
-node_word_same Value Value e = refl
+node_word_same (Settled p) (Settled q) e = ap Settled (settled_same p q e)
 node_word_same (Child a) (Child b) e = ap Child (side_same a b e)
 node_word_same Info Info e = refl
 node_word_same Marked Marked e = refl
@@ -55,10 +61,13 @@ side_refl : (a : Side) → same_side a a ≡ true
 side_refl Left = refl
 side_refl Right = refl
 
+settled_refl : (a : SettledPart) → same_settled a a ≡ true
+settled_refl Head = refl
+settled_refl Key = refl
+settled_refl Value = refl
+
 pub node_word_refl : (a : NodeWord) → same_node_word a a ≡ true
-node_word_refl Head = refl
-node_word_refl Key = refl
-node_word_refl Value = refl
+node_word_refl (Settled p) = settled_refl p
 node_word_refl (Child a) = side_refl a
 node_word_refl Info = refl
 node_word_refl Marked = refl

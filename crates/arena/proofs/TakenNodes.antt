@@ -7,7 +7,7 @@ use Rattle.std.proofs.lemmas.Map.Steps.{length-le_from_distinct_below}
 use Rattle.arena.specs.declared.word.Word.{Word}
 use Rattle.arena.specs.declared.word.Word.TheVariants.{Node, Scx}
 use Rattle.arena.specs.declared.word.NodeWord.{NodeWord}
-use Rattle.arena.specs.declared.word.NodeWord.TheVariants.{Head, Key, Value, Child, Info, Marked}
+use Rattle.arena.specs.declared.word.NodeWord.TheVariants.{Settled, Child, Info, Marked}
 use Rattle.arena.specs.declared.layout.Layout.{Layout}
 use Rattle.arena.specs.declared.step.Kind.{Kind}
 use Rattle.arena.specs.declared.step.Row.{Row}
@@ -58,9 +58,7 @@ one_more first size n ns i j x = go (has ns n) refl
 
 -- a fill of a node is of one in the share of its pass
 filled_own : (lay : Layout) (h : History) (c n v : ℕ) (part : NodeWord) → MayFill lay h c (Node record { 0 = n } part) v → IsOwnNode lay c n
-filled_own lay h c n v Head m = m.own
-filled_own lay h c n v Key m = m.own
-filled_own lay h c n v Value m = m.own
+filled_own lay h c n v (Settled p) m = m.own
 filled_own lay h c n v (Child side) m = m.0.own
 filled_own lay h c n v Info m = absurd m
 filled_own lay h c n v Marked m = absurd m

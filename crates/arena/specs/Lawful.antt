@@ -1,7 +1,7 @@
 -- Which rows are lawful after a history: one condition for each of the 13 kinds of step.
 use Rattle.std.specs.Prelude.{◌≡◌, ◌≢◌, ℕ, ◌<◌, true, ◌⊎◌}
 use Rattle.arena.specs.declared.word.Side.{Side}
-use Rattle.arena.specs.declared.word.NodeWord.TheVariants.{Head, Key, Value, Child, Info, Marked}
+use Rattle.arena.specs.declared.word.NodeWord.TheVariants.{Settled, Child, Info, Marked}
 use Rattle.arena.specs.declared.word.ScxWord.TheVariants.{State, AllFrozen, New}
 use Rattle.arena.specs.declared.word.Word.{Word}
 use Rattle.arena.specs.declared.word.Word.TheVariants.{Node, Scx}
@@ -19,9 +19,7 @@ use Rattle.arena.specs.Fills.{IsOwnNode, IsOwnScx, MayFill}
 
 -- a settled word: `head`, `key` or `value` of a node, `plan` to `call` of an SCX-record
 abbrev pub IsSettled : Word → Type 0
-IsSettled (Node n Head) = Unit {0}
-IsSettled (Node n Key) = Unit {0}
-IsSettled (Node n Value) = Unit {0}
+IsSettled (Node n (Settled p)) = Unit {0}
 IsSettled (Node n _) = ⊥
 IsSettled (Scx s State) = ⊥
 IsSettled (Scx s AllFrozen) = ⊥

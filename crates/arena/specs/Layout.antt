@@ -5,7 +5,8 @@ use Rattle.arena.specs.declared.limits.Mode.{Mode}
 use Rattle.arena.specs.declared.limits.Mode.TheVariants.{Tree, Records}
 use Rattle.arena.specs.declared.layout.Layout.{Layout}
 use Rattle.arena.specs.declared.word.Side.TheVariants.{Left, Right}
-use Rattle.arena.specs.declared.word.NodeWord.TheVariants.{Head, Child}
+use Rattle.arena.specs.declared.word.NodeWord.TheVariants.{Settled, Child}
+use Rattle.arena.specs.declared.word.SettledPart.TheVariants.{Head}
 use Rattle.arena.specs.declared.word.ScxWord.TheVariants.{State}
 use Rattle.arena.specs.declared.word.Word.{Word}
 use Rattle.arena.specs.declared.word.Word.TheVariants.{Node, Scx}
@@ -47,7 +48,7 @@ IsWord lay (Scx s part) = (s.0 < all_scx lay) × IsScxWord part
 -- what a word holds at the start in a tree: node 0 is a root of class 2, over a leaf of class 1 on
 -- its left and a leaf of class 2 on its right; the dummy is aborted; all else is 0
 abbrev pub tree_opening : Word → ℕ
-tree_opening (Node n Head) =
+tree_opening (Node n (Settled Head)) =
     if n.0 == 0 then 2
     else (if n.0 == 1 then 13 else (if n.0 == 2 then 14 else 0))
 tree_opening (Node n (Child Left)) = if n.0 == 0 then 1 else 0

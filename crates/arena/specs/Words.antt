@@ -3,7 +3,9 @@ use Rattle.std.specs.Prelude.{ℕ, ◌+◌, ◌<◌, Bool, true, false, if◌the
 use Rattle.arena.specs.declared.word.Side.{Side}
 use Rattle.arena.specs.declared.word.Side.TheVariants.{Left, Right}
 use Rattle.arena.specs.declared.word.NodeWord.{NodeWord}
-use Rattle.arena.specs.declared.word.NodeWord.TheVariants.{Head, Key, Value, Child, Info, Marked}
+use Rattle.arena.specs.declared.word.NodeWord.TheVariants.{Settled, Child, Info, Marked}
+use Rattle.arena.specs.declared.word.SettledPart.{SettledPart}
+use Rattle.arena.specs.declared.word.SettledPart.TheVariants.{Head, Key, Value}
 use Rattle.arena.specs.declared.word.ScxWord.{ScxWord}
 use Rattle.arena.specs.declared.word.ScxWord.TheVariants.{State, AllFrozen, Plan, New, Old, Member, Seen, Call}
 use Rattle.arena.specs.declared.word.Word.{Word}
@@ -13,9 +15,9 @@ use Rattle.arena.specs.declared.step.Access.TheVariants.{Load, Store, Exchange}
 
 -- the place of a word within its node: seven words
 abbrev pub node_place : NodeWord → ℕ
-node_place Head = 0
-node_place Key = 1
-node_place Value = 2
+node_place (Settled Head) = 0
+node_place (Settled Key) = 1
+node_place (Settled Value) = 2
 node_place (Child Left) = 3
 node_place (Child Right) = 4
 node_place Info = 5
@@ -70,11 +72,16 @@ same_side Left Left = true
 same_side Right Right = true
 same_side _ _ = false
 
+-- whether two settled words have the same name within a node
+abbrev pub same_settled : SettledPart → SettledPart → Bool
+same_settled Head Head = true
+same_settled Key Key = true
+same_settled Value Value = true
+same_settled _ _ = false
+
 -- whether two words have the same name within a node; the two fields differ
 abbrev pub same_node_word : NodeWord → NodeWord → Bool
-same_node_word Head Head = true
-same_node_word Key Key = true
-same_node_word Value Value = true
+same_node_word (Settled p) (Settled q) = same_settled p q
 same_node_word (Child a) (Child b) = same_side a b
 same_node_word Info Info = true
 same_node_word Marked Marked = true

@@ -4,7 +4,7 @@ ghost use Rattle.arena.specs.Opening.{opening_nodes};
 
 use crate::limits::{Limits, Mode};
 use crate::number::{PassNo, ScxNo};
-use crate::word::{NodeWord, ScxWord, Side, Word};
+use crate::word::{NodeWord, ScxWord, SettledPart, Side, Word};
 
 /// A table within accepted limits.
 #[derive(Clone, Copy, Debug, PartialEq, Eq)]
@@ -161,9 +161,9 @@ fn node_place(part: NodeWord) -> usize
     ensures { result ≡ node_place part }
 {
     match part {
-        NodeWord::Head => 0,
-        NodeWord::Key => 1,
-        NodeWord::Value => 2,
+        NodeWord::Settled(SettledPart::Head) => 0,
+        NodeWord::Settled(SettledPart::Key) => 1,
+        NodeWord::Settled(SettledPart::Value) => 2,
         NodeWord::Child(Side::Left) => 3,
         NodeWord::Child(Side::Right) => 4,
         NodeWord::Info => 5,

@@ -2,12 +2,13 @@
 ghost use Rattle.std.specs.Prelude.{◌≡◌};
 ghost use Rattle.arena.specs.Layout.{opening, tree_opening};
 ghost use Rattle.arena.specs.declared.word.NodeWord.{NodeWord};
+ghost use Rattle.arena.specs.declared.word.SettledPart.{SettledPart};
 ghost use Rattle.arena.specs.declared.word.Word.{Word};
 
 use crate::head::Head;
 use crate::limits::Mode;
 use crate::number::{NodeNo, ScxNo};
-use crate::word::{ABORTED, NodeWord, ScxWord, Side, Word};
+use crate::word::{ABORTED, NodeWord, ScxWord, SettledPart, Side, Word};
 
 /// What a word holds at the start: the dummy is aborted, the tree is a root of class 2 over a leaf of
 /// class 1 and a leaf of class 2, and all else is 0.
@@ -18,14 +19,14 @@ pub fn opening_word(mode: Mode, word: Word) -> u64
         (_, Word::Scx(ScxNo(0), ScxWord::State)) => ABORTED,
         (Mode::Tree, Word::Node(NodeNo(0), NodeWord::Child(Side::Left))) => 1,
         (Mode::Tree, Word::Node(NodeNo(0), NodeWord::Child(Side::Right))) => 2,
-        (Mode::Tree, Word::Node(node, NodeWord::Head)) => opening_head(node),
+        (Mode::Tree, Word::Node(node, NodeWord::Settled(SettledPart::Head))) => opening_head(node),
         _ => 0,
     }
 }
 
 /// The head of a node of the opening tree.
 fn opening_head(node: NodeNo) -> u64
-    ensures { result ≡ tree_opening (Word.Node node NodeWord.Head) }
+    ensures { result ≡ tree_opening (Word.Node node (NodeWord.Settled SettledPart.Head)) }
 {
     match node {
         NodeNo(0) => Head {

@@ -11,7 +11,7 @@ use crate::limits::Mode;
 use crate::number::{NodeNo, ScxNo};
 use crate::opening::opening_word;
 use crate::step::{Access, Step};
-use crate::word::{ABORTED, NodeWord, ScxWord, Side, Word};
+use crate::word::{ABORTED, NodeWord, ScxWord, SettledPart, Side, Word};
 use std::alloc::Global;
 use std::marker::Model;
 
@@ -72,11 +72,11 @@ impl PlainWords {
         ensures layout { self.new.layout ≡ self.old.layout }
         ensures opening { (w : Word) → IsWord self.old.layout w → word_at self.new w ≡ tree_opening w }
     {
-        self.open(Word::Node(NodeNo(0), NodeWord::Head));
+        self.open(Word::Node(NodeNo(0), NodeWord::Settled(SettledPart::Head)));
         self.open(Word::Node(NodeNo(0), NodeWord::Child(Side::Left)));
         self.open(Word::Node(NodeNo(0), NodeWord::Child(Side::Right)));
-        self.open(Word::Node(NodeNo(1), NodeWord::Head));
-        self.open(Word::Node(NodeNo(2), NodeWord::Head));
+        self.open(Word::Node(NodeNo(1), NodeWord::Settled(SettledPart::Head)));
+        self.open(Word::Node(NodeNo(2), NodeWord::Settled(SettledPart::Head)));
     }
 
     /// Gives a word what it holds in the opening tree.

@@ -18,15 +18,21 @@ pub enum Side {
     Right,
 }
 
-/// A word of a node: three that are settled before the node is shared, two fields, and two that
-/// only SCX-records change.
+/// A word of a node that is settled before the node is shared.
 #[derive(Clone, Copy, Debug, PartialEq, Eq)]
-pub enum NodeWord {
+pub enum SettledPart {
     /// 8 times the level, and 4 for a leaf, and the class; 0 in cells.
     Head,
     Key,
     /// What a cell holds, or a leaf of the dictionary.
     Value,
+}
+
+/// A word of a node: those that are settled before it is shared, two fields, and two that only
+/// SCX-records change.
+#[derive(Clone, Copy, Debug, PartialEq, Eq)]
+pub enum NodeWord {
+    Settled(SettledPart),
     /// The number of the node below it on that side, or 0 for none.
     Child(Side),
     /// The number of the SCX-record that froze the node last.
