@@ -2,7 +2,7 @@
 use Rattle.std.proofs.Common.{◌≡◌, ℕ, ◌<◌, false, refl}
 use native.Mathlib.Decide.{ℕ_discrete}
 use Rattle.arena.specs.declared.word.NodeWord.{NodeWord}
-use Rattle.arena.specs.declared.word.NodeWord.TheVariants.{Head, Key, Value, Child, Info, Marked}
+use Rattle.arena.specs.declared.word.NodeWord.TheVariants.{Settled, Child, Info, Marked}
 use Rattle.arena.specs.declared.word.ScxWord.{ScxWord}
 use Rattle.arena.specs.declared.word.ScxWord.TheVariants.{State, AllFrozen, Plan, New, Old, Member, Seen, Call}
 use Rattle.arena.specs.declared.word.Word.{Word}
@@ -75,9 +75,7 @@ fill : (lay : Layout) (h : History) (r : Row) → r.kind ≡ Fill → (w : Word)
 fill lay h r k (Node n Info) e m = absurd m
 fill lay h r k (Node n Marked) e m = absurd m
 fill lay h r k (Node n (Child side)) e m = fills_node n.0 (Child side) record { kind = k; word = e; fill = tt; is_open = m.0; may = m }
-fill lay h r k (Node n Head) e m = fills_node n.0 Head record { kind = k; word = e; fill = tt; is_open = m; may = m }
-fill lay h r k (Node n Key) e m = fills_node n.0 Key record { kind = k; word = e; fill = tt; is_open = m; may = m }
-fill lay h r k (Node n Value) e m = fills_node n.0 Value record { kind = k; word = e; fill = tt; is_open = m; may = m }
+fill lay h r k (Node n (Settled p)) e m = fills_node n.0 (Settled p) record { kind = k; word = e; fill = tt; is_open = m; may = m }
 fill lay h r k (Scx s State) e m = absurd m
 fill lay h r k (Scx s AllFrozen) e m = absurd m
 fill lay h r k (Scx s Old) e m = fills_scx s.0 Old record { kind = k; word = e; fill = tt; is_open = m.0; may = m }

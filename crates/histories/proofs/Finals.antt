@@ -5,7 +5,7 @@ use native.Mathlib.Decide.{ℕ_discrete}
 use Rattle.arena.specs.declared.layout.Layout.{Layout}
 use Rattle.arena.specs.declared.word.Side.{Side}
 use Rattle.arena.specs.declared.word.NodeWord.{NodeWord}
-use Rattle.arena.specs.declared.word.NodeWord.TheVariants.{Head, Key, Value, Child, Info, Marked}
+use Rattle.arena.specs.declared.word.NodeWord.TheVariants.{Settled, Child, Info, Marked}
 use Rattle.arena.specs.declared.word.ScxWord.TheVariants.{AllFrozen}
 use Rattle.arena.specs.declared.step.Row.{Row}
 use Rattle.arena.specs.Words.{node, info, marked, scx, state, child}
@@ -160,9 +160,7 @@ final_unchanged lay h r n part l e = go part
             absurd (update_is_first f w (rw q at by.1.won))
 
     go : (part : NodeWord) → value (r ⊳ h) (node n part) ≡ value h (node n part)
-    go Head = node_stays lay h r n Head l tt named
-    go Key = node_stays lay h r n Key l tt named
-    go Value = node_stays lay h r n Value l tt named
+    go (Settled p) = node_stays lay h r n (Settled p) l tt named
     go (Child side) = field side (effect lay h r l)
     go Info = sealed lay h r n by.0 l (λ z. let y = mark in omega arith) held ∙ sym held
     go Marked = marked_stays lay h r n l mark ∙ sym mark

@@ -3,7 +3,7 @@ use Rattle.std.proofs.Common.{◌≡◌, ◌≢◌, ℕ, false, inl, inr, ⊎_el
 use native.Mathlib.Decide.{ℕ_discrete}
 use Rattle.arena.specs.declared.word.Side.{Side}
 use Rattle.arena.specs.declared.word.NodeWord.{NodeWord}
-use Rattle.arena.specs.declared.word.NodeWord.TheVariants.{Head, Key, Value, Child, Info, Marked}
+use Rattle.arena.specs.declared.word.NodeWord.TheVariants.{Settled, Child, Info, Marked}
 use Rattle.arena.specs.declared.word.ScxWord.{ScxWord}
 use Rattle.arena.specs.declared.word.ScxWord.TheVariants.{State, AllFrozen}
 use Rattle.arena.specs.declared.layout.Layout.{Layout}
@@ -90,17 +90,13 @@ not_info Marked i = absurd i
 not_info _ i = refl
 
 not_child : (n : ℕ) (side : Side) (a : NodeWord) → IsSettled (node n a) → same_node_word (Child side) a ≡ false
-not_child n side Head i = refl
-not_child n side Key i = refl
-not_child n side Value i = refl
+not_child n side (Settled p) i = refl
 not_child n side (Child b) i = absurd i
 not_child n side Info i = absurd i
 not_child n side Marked i = absurd i
 
 is_fill_of : (n : ℕ) (a : NodeWord) → IsSettled (node n a) → IsNodeFill a
-is_fill_of n Head i = tt
-is_fill_of n Key i = tt
-is_fill_of n Value i = tt
+is_fill_of n (Settled p) i = tt
 is_fill_of n (Child b) i = tt
 is_fill_of n Info i = absurd i
 is_fill_of n Marked i = absurd i
