@@ -3,7 +3,8 @@ use Rattle.std.proofs.Common.{◌≡◌, ◌≢◌, ℕ, ◌<◌, ◌/◌, ◌%�
 use Rattle.arena.specs.declared.limits.Mode.TheVariants.{Tree as TreeMode}
 use Rattle.arena.specs.declared.word.Side.{Side}
 use Rattle.arena.specs.declared.word.Side.TheVariants.{Left, Right}
-use Rattle.arena.specs.declared.word.NodeWord.TheVariants.{Head, Key, Value, Child}
+use Rattle.arena.specs.declared.word.NodeWord.TheVariants.{Settled, Child}
+use Rattle.arena.specs.declared.word.SettledPart.TheVariants.{Key, Value}
 use Rattle.arena.specs.declared.word.Word.{Word}
 use Rattle.arena.specs.declared.layout.Layout.{Layout}
 use Rattle.arena.specs.declared.step.Row.{Row}
@@ -28,8 +29,8 @@ use Rattle.ordered_map.proofs.Stood.{facts_then, tree_then, PutThere, of_all_sto
 
 settled_blank : (b f : Word → ℕ) (n : ℕ) → SameSettled b f n → IsBlankAboveKeys b n → IsBlankAboveKeys f n
 settled_blank b f n e x = record {
-  key = λ d. e Key tt ∙ x.key (λ q. d (settled_class b f n e ∙ q));
-  value = λ d l. e Value tt ∙ x.value (λ q. d (settled_class b f n e ∙ q)) (sym (settled_leaf b f n e) ∙ l);
+  key = λ d. e (Settled Key) tt ∙ x.key (λ q. d (settled_class b f n e ∙ q));
+  value = λ d l. e (Settled Value) tt ∙ x.value (λ q. d (settled_class b f n e ∙ q)) (sym (settled_leaf b f n e) ∙ l);
 }
 
 back : (b f : Word → ℕ) (n : ℕ) → SameSettled b f n → SameSettled f b n
@@ -42,13 +43,13 @@ not_both : (f : Word → ℕ) (n : ℕ) → is_leaf f n ≡ true → is_leaf f n
 not_both f n a b = let x : true ≡ false = sym a ∙ b in cc
 
 module _ (f : Word → ℕ) where
-  copy_blank : (n m : ℕ) → is_leaf f m ≡ true → IsAlike f n m → f (node n Value) ≡ f (node m Value) → IsBlankAboveKeys f m → IsBlankAboveKeys f n
+  copy_blank : (n m : ℕ) → is_leaf f m ≡ true → IsAlike f n m → f (node n (Settled Value)) ≡ f (node m (Settled Value)) → IsBlankAboveKeys f m → IsBlankAboveKeys f n
   copy_blank n m leaf e v x = record { key = λ d. e.key ∙ x.key (λ q. d (e.class ∙ q)); value = λ d _. v ∙ x.value (λ q. d (e.class ∙ q)) leaf }
 
   fork_blank : (k v l c x y : ℕ) → IsSplit f k v l c x y → IsBlankAboveKeys f l → IsBlankAboveKeys f c
   fork_blank k v l c x y s b = record { key = key s.order; value = λ d leaf. absurd (not_both f c leaf s.fork) }
     where
-      key : ((k < rank f l) × IsAlike f c l × (f (child c Left) ≡ x) × (f (child c Right) ≡ y)) ⊎ ((rank f l < k) × IsAlike f c x × (f (child c Left) ≡ y) × (f (child c Right) ≡ x)) → class f c ≢ 0 → f (node c Key) ≡ 0
+      key : ((k < rank f l) × IsAlike f c l × (f (child c Left) ≡ x) × (f (child c Right) ≡ y)) ⊎ ((rank f l < k) × IsAlike f c x × (f (child c Left) ≡ y) × (f (child c Right) ≡ x)) → class f c ≢ 0 → f (node c (Settled Key)) ≡ 0
       key (inl o) d = o.1.key ∙ b.key (λ q. d (o.1.class ∙ q))
       key (inr o) d = absurd (d (o.1.class ∙ s.new.class))
 
@@ -151,9 +152,7 @@ module _ (calls : ℕ → MapEdit) (lay : Layout) where
       (puts_blank calls lay h u (past calls lay h r u (facts_then calls lay h r g) w g.mode g.lawful (tree_then calls lay h r g)) (λ k x. before k ((result calls lay h r u (facts_then calls lay h r g) w g.mode g.lawful (tree_then calls lay h r g)).out k x).0) n m)
     where
       kept : SameSettled (value h) (value (r ⊳ h)) n
-      kept Head i = update_keeps_other (facts_then calls lay h r g) w (node n Head) (node_word_apart (member h u (field_index h u)) n (Child (side_of (plan h u))) Head refl)
-      kept Key i = update_keeps_other (facts_then calls lay h r g) w (node n Key) (node_word_apart (member h u (field_index h u)) n (Child (side_of (plan h u))) Key refl)
-      kept Value i = update_keeps_other (facts_then calls lay h r g) w (node n Value) (node_word_apart (member h u (field_index h u)) n (Child (side_of (plan h u))) Value refl)
+      kept (Settled p) i = update_keeps_other (facts_then calls lay h r g) w (node n (Settled p)) (node_word_apart (member h u (field_index h u)) n (Child (side_of (plan h u))) (Settled p) refl)
       kept _ i = absurd i
 
   pub grown_blank : (h : History) → IsGrown calls lay h → (n : ℕ) → WasInTree h n → IsBlankAboveKeys (value h) n

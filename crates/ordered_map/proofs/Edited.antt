@@ -4,7 +4,8 @@ use native.Mathlib.Decide.{ℕ_discrete}
 use Rattle.arena.specs.declared.limits.Mode.TheVariants.{Tree as TreeMode}
 use Rattle.arena.specs.declared.word.Side.{Side}
 use Rattle.arena.specs.declared.word.Side.TheVariants.{Left, Right}
-use Rattle.arena.specs.declared.word.NodeWord.TheVariants.{Head, Key, Value, Child}
+use Rattle.arena.specs.declared.word.NodeWord.TheVariants.{Settled, Child}
+use Rattle.arena.specs.declared.word.SettledPart.TheVariants.{Head, Key}
 use Rattle.arena.specs.declared.word.ScxWord.TheVariants.{New}
 use Rattle.arena.specs.declared.word.Word.{Word}
 use Rattle.arena.specs.declared.layout.Layout.{Layout}
@@ -129,9 +130,7 @@ module _ (calls : ℕ → MapEdit) (lay : Layout) (h : History) (r : Row) (u : �
 
   is_apart : (x : ℕ) → IsSpot x → Apart (value h) (value (r ⊳ h)) spot_of
   is_apart x s = record {
-    head = λ n. stays (node n Head) (node_word_apart spot_of n (Child (toward (value h) spot_of x)) Head refl);
-    key = λ n. stays (node n Key) (node_word_apart spot_of n (Child (toward (value h) spot_of x)) Key refl);
-    value = λ n. stays (node n Value) (node_word_apart spot_of n (Child (toward (value h) spot_of x)) Value refl);
+    settled = λ n part. stays (node n (Settled part)) (node_word_apart spot_of n (Child (toward (value h) spot_of x)) (Settled part) refl);
     field = λ n side d. stays (child n side) (node_apart spot_of n (Child (toward (value h) spot_of x)) (Child side) d);
   }
     where
@@ -398,7 +397,7 @@ module _ (calls : ℕ → MapEdit) (lay : Layout) (h : History) (r : Row) (u : �
       let g : (s ≢ u) × ¬ HasWon h s = still_going s w in
       let q : HasHeld h (info n) s = back_info s n p in
       let y : is_leaf (value (r ⊳ h)) (new h s) ≡ false = rw (new_stays s) at x in
-      let c : value (r ⊳ h) (node (new h s) Head) ≡ value h (node (new h s) Head) = node_stays lay h r (new h s) Head l tt (by_scx s New (n, q) tt (held_at h (scx s New) (new h s) refl)) in
+      let c : value (r ⊳ h) (node (new h s) (Settled Head)) ≡ value h (node (new h s) (Settled Head)) = node_stays lay h r (new h s) (Settled Head) l tt (by_scx s New (n, q) tt (held_at h (scx s New) (new h s) refl)) in
       let e : is_leaf (value h) (new h s) ≡ false = rw c at y in
       let j : Has result.tree (new h s) = rw (new_stays s) at i in
       ⊎_elim (t.unborn s n d q g.1 e)
@@ -577,10 +576,10 @@ module _ (calls : ℕ → MapEdit) (lay : Layout) (h : History) (r : Row) (u : �
       a = is_apart (edit_key called) is_spot
 
       fork : is_leaf (value (r ⊳ h)) spot_of ≡ false
-      fork = ap (λ v. eqb (v / 4 % 2) 1) (a.head spot_of) ∙ settled_leaf (value past.before) (value h) spot_of (member_card 0) ∙ past.allowed.fork
+      fork = ap (λ v. eqb (v / 4 % 2) 1) (a.settled spot_of Head) ∙ settled_leaf (value past.before) (value h) spot_of (member_card 0) ∙ past.allowed.fork
 
       same_rank_now : rank (value (r ⊳ h)) spot_of ≡ rank (value h) spot_of
-      same_rank_now = λ i. a.head spot_of i % 4 * 2 ^ 64 + a.key spot_of i
+      same_rank_now = λ i. a.settled spot_of Head i % 4 * 2 ^ 64 + a.settled spot_of Key i
 
       child_is : value (r ⊳ h) (child spot_of (toward (value (r ⊳ h)) spot_of (edit_key called))) ≡ new h u
       child_is =

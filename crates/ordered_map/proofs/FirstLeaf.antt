@@ -4,7 +4,8 @@ use Rattle.std.specs.Prelude.{Some, None}
 use native.Mathlib.Decide.{ℕ_discrete}
 use Rattle.arena.specs.declared.layout.Layout.{Layout}
 use Rattle.arena.specs.declared.word.Side.TheVariants.{Left}
-use Rattle.arena.specs.declared.word.NodeWord.TheVariants.{Key, Value, Child}
+use Rattle.arena.specs.declared.word.NodeWord.TheVariants.{Settled, Child}
+use Rattle.arena.specs.declared.word.SettledPart.TheVariants.{Key, Value}
 use Rattle.arena.specs.declared.word.Word.{Word}
 use Rattle.arena.specs.Words.{node, child}
 use Rattle.arena.specs.declared.step.Row.{Row}
@@ -54,7 +55,7 @@ node_below f (Fork m a b) lo hi n s (inr (inl q)) =
 node_below f (Fork m a b) lo hi n s (inr (inr q)) = node_below f b (rank f m) hi n s.2 q
 
 -- the keys of its leaves are below 2 ^ 64
-leaf_small : (f : Word → ℕ) (t : Tree) (lo hi n : ℕ) → Shows f lo hi t → Has t n → is_leaf f n ≡ true → f (node n Key) < 2 ^ 64
+leaf_small : (f : Word → ℕ) (t : Tree) (lo hi n : ℕ) → Shows f lo hi t → Has t n → is_leaf f n ≡ true → f (node n (Settled Key)) < 2 ^ 64
 leaf_small f (Leaf m) lo hi n s e d = rw (← e) s.small
 leaf_small f (Fork m a b) lo hi n s (inl e) d = absurd (let x : true ≡ false = sym d ∙ rw (← e) s.0.fork in cc)
 leaf_small f (Fork m a b) lo hi n s (inr (inl q)) d = leaf_small f a lo (rank f m) n s.1 q d
@@ -118,11 +119,11 @@ pairs_first : (f : Word → ℕ) (t : Tree) (lo hi n : ℕ) → Shows f lo hi t 
 pairs_first f t lo hi n s p d = go (ℕ_discrete (class f n) 0)
   where
     go : Dec (class f n ≡ 0) → first_pair (pairs f t) ≡ first_said f n
-    go (no high) = ap first_pair (none_first f t lo hi n s p d high) ∙ sym (ap (λ b. cond b (Some (pair (f (node n Key)) (f (node n Value)))) None) (ne_eqb (class f n) 0 high))
+    go (no high) = ap first_pair (none_first f t lo hi n s p d high) ∙ sym (ap (λ b. cond b (Some (pair (f (node n (Settled Key))) (f (node n (Settled Value))))) None) (ne_eqb (class f n) 0 high))
     go (yes low) =
         let x : (rest : List Pair) × (pairs f t ≡ leaf_pairs f n ++ rest) = leaf_first f t lo hi n s p d in
-        let held : leaf_pairs f n ≡ pair (f (node n Key)) (f (node n Value)) ∷ [] = ap (λ b. cond b (pair (f (node n Key)) (f (node n Value)) ∷ []) []) (eq-eqb (class f n) 0 low) in
-        ap first_pair (x.1 ∙ ap (λ ps. ps ++ x.0) held) ∙ sym (ap (λ b. cond b (Some (pair (f (node n Key)) (f (node n Value)))) None) (eq-eqb (class f n) 0 low))
+        let held : leaf_pairs f n ≡ pair (f (node n (Settled Key))) (f (node n (Settled Value))) ∷ [] = ap (λ b. cond b (pair (f (node n (Settled Key))) (f (node n (Settled Value))) ∷ []) []) (eq-eqb (class f n) 0 low) in
+        ap first_pair (x.1 ∙ ap (λ ps. ps ++ x.0) held) ∙ sym (ap (λ b. cond b (Some (pair (f (node n (Settled Key))) (f (node n (Settled Value))))) None) (eq-eqb (class f n) 0 low))
 
 -- In a run
 
@@ -146,12 +147,12 @@ walk_before lay h start k n g p fork =
     rw (c, settled_rank (value m) (value h) (value m (child n Left)) there, settled_rank (value m) (value h) n same) y
 
 -- the key of a leaf that was passed is below 2 ^ 64
-pub walk_small : (lay : Layout) (h start : History) (k n : ℕ) → IsTreeRun lay h → Passed h start k n → is_leaf (value h) n ≡ true → value h (node n Key) < 2 ^ 64
+pub walk_small : (lay : Layout) (h start : History) (k n : ℕ) → IsTreeRun lay h → Passed h start k n → is_leaf (value h) n ≡ true → value h (node n (Settled Key)) < 2 ^ 64
 walk_small lay h start k n g p leaf =
     let same : SameSettled (value p.0) (value h) n = same_since lay h start k n g p in
     let tree = p.3 in
-    let x : value p.0 (node n Key) < 2 ^ 64 = leaf_small (value p.0) tree.tree _ _ n tree.is_tree.shows (passes_has (value p.0) k tree.tree n tree.passes) (sym (settled_leaf (value p.0) (value h) n same) ∙ leaf) in
-    rw (same Key tt) x
+    let x : value p.0 (node n (Settled Key)) < 2 ^ 64 = leaf_small (value p.0) tree.tree _ _ n tree.is_tree.shows (passes_has (value p.0) k tree.tree n tree.passes) (sym (settled_leaf (value p.0) (value h) n same) ∙ leaf) in
+    rw (same (Settled Key) tt) x
 
 -- a search for the least key goes left at each fork
 pub walk_left : (lay : Layout) (h start : History) (n : ℕ) → IsTreeRun lay h → Passed h start 0 n → is_leaf (value h) n ≡ false → toward (value h) n 0 ≡ Left

@@ -8,7 +8,8 @@ use native.Mathlib.Decide.{ℕ_discrete}
 use Rattle.arena.specs.declared.limits.Mode.TheVariants.{Tree as TreeMode}
 use Rattle.arena.specs.declared.word.Side.TheVariants.{Left, Right}
 use Rattle.arena.specs.declared.word.NodeWord.{NodeWord}
-use Rattle.arena.specs.declared.word.NodeWord.TheVariants.{Head, Key, Value, Child}
+use Rattle.arena.specs.declared.word.NodeWord.TheVariants.{Settled, Child}
+use Rattle.arena.specs.declared.word.SettledPart.TheVariants.{Head, Key, Value}
 use Rattle.arena.specs.declared.word.Word.{Word}
 use Rattle.arena.specs.declared.layout.Layout.{Layout}
 use Rattle.arena.specs.Words.{node, child}
@@ -76,11 +77,11 @@ unfolding low
 pairs_low f (Fork n a b) lo hi s = (λ i. pairs_low f a lo (rank f n) s.1 i ++ pairs_low f b (rank f n) hi s.2 i) ∙ sym (low_join (items f a) (items f b))
 pairs_low f (Leaf n) lo hi s = go (ℕ_discrete (class f n) 0)
   where
-    go : Dec (class f n ≡ 0) → cond (eqb (class f n) 0) (pair (f (node n Key)) (f (node n Value)) ∷ []) [] ≡ cond (ltb (rank f n) (2 ^ 64)) (pair (rank f n) (f (node n Value)) ∷ []) []
+    go : Dec (class f n ≡ 0) → cond (eqb (class f n) 0) (pair (f (node n (Settled Key))) (f (node n (Settled Value))) ∷ []) [] ≡ cond (ltb (rank f n) (2 ^ 64)) (pair (rank f n) (f (node n (Settled Value))) ∷ []) []
     go (yes e) =
-        let r : rank f n ≡ f (node n Key) = omega (arith, e) in
+        let r : rank f n ≡ f (node n (Settled Key)) = omega (arith, e) in
         let l : rank f n < 2 ^ 64 = let k = s.small in omega (arith, k, r) in
-        rw (eq-eqb (class f n) 0 e, lt-ltb (rank f n) (2 ^ 64) l) (λ i. pair (sym r i) (f (node n Value)) ∷ [])
+        rw (eq-eqb (class f n) 0 e, lt-ltb (rank f n) (2 ^ 64) l) (λ i. pair (sym r i) (f (node n (Settled Value))) ∷ [])
     go (no d) =
         let l : 2 ^ 64 ≤ rank f n = omega (arith, d) in
         rw (ne_eqb (class f n) 0 d, le-ltb (rank f n) (2 ^ 64) l) refl
@@ -118,19 +119,19 @@ right_start : value (Start TreeMode) (child 0 Right) ≡ 2
 unfolding value
 right_start = refl
 
-opening_root : value (Start TreeMode) (node 0 Head) ≡ 2
+opening_root : value (Start TreeMode) (node 0 (Settled Head)) ≡ 2
 unfolding value
 opening_root = refl
 
-opening_two : value (Start TreeMode) (node 2 Head) ≡ 14
+opening_two : value (Start TreeMode) (node 2 (Settled Head)) ≡ 14
 unfolding value
 opening_two = refl
 
-zero_key : value (Start TreeMode) (node 2 Key) ≡ 0
+zero_key : value (Start TreeMode) (node 2 (Settled Key)) ≡ 0
 unfolding value
 zero_key = refl
 
-zero_value : value (Start TreeMode) (node 2 Value) ≡ 0
+zero_value : value (Start TreeMode) (node 2 (Settled Value)) ≡ 0
 unfolding value
 zero_value = refl
 
@@ -140,8 +141,8 @@ opening_stays calls lay h n a g i s =
     node_since lay h (Start lay.mode) n a g.lawful (ends_start lay h g.lawful) s (opening_node (rw g.mode i)) ∙ ap (λ m. value (Start m) (node n a)) g.mode
 
 -- so node 0 is a fork above all keys
-pub grown_root : (calls : ℕ → MapEdit) (lay : Layout) (h : History) → IsGrown calls lay h → value h (node 0 Head) ≡ 2
-grown_root calls lay h g = opening_stays calls lay h 0 Head g (omega arith) tt ∙ opening_root
+pub grown_root : (calls : ℕ → MapEdit) (lay : Layout) (h : History) → IsGrown calls lay h → value h (node 0 (Settled Head)) ≡ 2
+grown_root calls lay h g = opening_stays calls lay h 0 (Settled Head) g (omega arith) tt ∙ opening_root
 
 right_stays : (calls : ℕ → MapEdit) (lay : Layout) (h : History) → IsGrown calls lay h → value h (child 0 Right) ≡ 2
 right_stays calls lay (Start mode) g = ap (λ m. value (Start m) (child 0 Right)) (start_mode lay mode g.lawful ∙ g.mode) ∙ right_start
@@ -153,7 +154,7 @@ right_stays calls lay (r ⊳ h) g = go (effect lay h r g.lawful) (right_stays ca
     t : TreeFacts calls lay h
     t = tree_facts calls lay h (grown_tail calls lay h r g)
 
-    head : value h (node 0 Head) ≡ 2
+    head : value h (node 0 (Settled Head)) ≡ 2
     head = grown_root calls lay h (grown_tail calls lay h r g)
 
     go : Effect lay h r → value h (child 0 Right) ≡ 2 → value (r ⊳ h) (child 0 Right) ≡ 2
@@ -213,11 +214,11 @@ front_same xs ys x y e = sym (but_last_is xs x) ∙ ap but_last e ∙ but_last_i
 -- the leaves as items
 abbrev leaf_items : (Word → ℕ) → List ℕ → List Pair
 leaf_items f [] = []
-leaf_items f (n ∷ ns) = pair (rank f n) (f (node n Value)) ∷ leaf_items f ns
+leaf_items f (n ∷ ns) = pair (rank f n) (f (node n (Settled Value))) ∷ leaf_items f ns
 
 leaf_items_join : (f : Word → ℕ) (ms ns : List ℕ) → leaf_items f (ms ++ ns) ≡ leaf_items f ms ++ leaf_items f ns
 leaf_items_join f [] ns = refl
-leaf_items_join f (m ∷ ms) ns = ap (λ z. pair (rank f m) (f (node m Value)) ∷ z) (leaf_items_join f ms ns)
+leaf_items_join f (m ∷ ms) ns = ap (λ z. pair (rank f m) (f (node m (Settled Value))) ∷ z) (leaf_items_join f ms ns)
 
 items_leaves : (f : Word → ℕ) (t : Tree) → items f t ≡ leaf_items f (leaf_nodes t)
 items_leaves f (Leaf n) = refl
@@ -233,7 +234,7 @@ record LastLeaf (f : Word → ℕ) (t : Tree) : Type 0 where
   others : List ℕ
   node_no : ℕ
   leaves_are : leaf_nodes t ≡ others ++ node_no ∷ []
-  small : f (node node_no Key) < 2 ^ 64
+  small : f (node node_no (Settled Key)) < 2 ^ 64
 
 last_leaf : (f : Word → ℕ) (t : Tree) (lo hi : ℕ) → Shows f lo hi t → LastLeaf f t
 last_leaf f (Leaf n) lo hi s = record { others = []; node_no = n; leaves_are = refl; small = s.small }
@@ -267,19 +268,19 @@ spells calls lay h g = record {
     risen : IsRising (map_of_log calls (log lay h)) × Below (2 ^ 64) (map_of_log calls (log lay h))
     risen = rising_split (map_of_log calls (log lay h)) (pair (2 * 2 ^ 64) 0 ∷ []) (pair (2 ^ 64) 0) (rw t.items at (items_rise (value h) t.tree _ _ t.is_tree.shows))
 
-    head_0 : (value h) (node 0 Head) ≡ 2
+    head_0 : (value h) (node 0 (Settled Head)) ≡ 2
     head_0 = grown_root calls lay h g
 
-    head_2 : (value h) (node 2 Head) ≡ 14
-    head_2 = opening_stays calls lay h 2 Head g (omega arith) tt ∙ opening_two
+    head_2 : (value h) (node 2 (Settled Head)) ≡ 14
+    head_2 = opening_stays calls lay h 2 (Settled Head) g (omega arith) tt ∙ opening_two
 
-    key_2 : (value h) (node 2 Key) ≡ 0
-    key_2 = opening_stays calls lay h 2 Key g (omega arith) tt ∙ zero_key
+    key_2 : (value h) (node 2 (Settled Key)) ≡ 0
+    key_2 = opening_stays calls lay h 2 (Settled Key) g (omega arith) tt ∙ zero_key
 
-    value_2 : (value h) (node 2 Value) ≡ 0
-    value_2 = opening_stays calls lay h 2 Value g (omega arith) tt ∙ zero_value
+    value_2 : (value h) (node 2 (Settled Value)) ≡ 0
+    value_2 = opening_stays calls lay h 2 (Settled Value) g (omega arith) tt ∙ zero_value
 
-    item_2 : pair (rank (value h) 2) ((value h) (node 2 Value)) ≡ pair (2 * 2 ^ 64) 0
+    item_2 : pair (rank (value h) 2) ((value h) (node 2 (Settled Value))) ≡ pair (2 * 2 ^ 64) 0
     item_2 = λ i. pair (head_2 i % 4 * 2 ^ 64 + key_2 i) (value_2 i)
 
     c : IsCrown (value h) t.tree
@@ -293,15 +294,15 @@ spells calls lay h g = record {
         let x : items (value h) c.left ++ (pair (2 * 2 ^ 64) 0 ∷ []) ≡ (map_of_log calls (log lay h)) ++ ends = ap (λ z. items (value h) c.left ++ (z ∷ [])) (sym item_2) ∙ sym (ap (items (value h)) c.is) ∙ t.items in
         append_cancel_right (items (value h) c.left) ((map_of_log calls (log lay h)) ++ (pair (2 ^ 64) 0 ∷ [])) (pair (2 * 2 ^ 64) 0 ∷ []) (x ∙ sym (append_assoc (map_of_log calls (log lay h)) (pair (2 ^ 64) 0 ∷ []) (pair (2 * 2 ^ 64) 0 ∷ [])))
 
-    end_items : leaf_items (value h) end.others ++ pair (rank (value h) end.node_no) (value h (node end.node_no Value)) ∷ [] ≡ map_of_log calls (log lay h) ++ (pair (2 ^ 64) 0 ∷ [])
+    end_items : leaf_items (value h) end.others ++ pair (rank (value h) end.node_no) (value h (node end.node_no (Settled Value))) ∷ [] ≡ map_of_log calls (log lay h) ++ (pair (2 ^ 64) 0 ∷ [])
     end_items = sym (leaf_items_join (value h) end.others (end.node_no ∷ [])) ∙ ap (leaf_items (value h)) (sym end.leaves_are) ∙ sym (items_leaves (value h) c.left) ∙ left_items
 
     others_items : leaf_items (value h) end.others ≡ map_of_log calls (log lay h)
-    others_items = front_same (leaf_items (value h) end.others) (map_of_log calls (log lay h)) (pair (rank (value h) end.node_no) (value h (node end.node_no Value))) (pair (2 ^ 64) 0) end_items
+    others_items = front_same (leaf_items (value h) end.others) (map_of_log calls (log lay h)) (pair (rank (value h) end.node_no) (value h (node end.node_no (Settled Value)))) (pair (2 ^ 64) 0) end_items
 
     rank_one : rank (value h) end.node_no ≡ 2 ^ 64
     rank_one =
-        sym (last_is 0 (leaf_items (value h) end.others) (pair (rank (value h) end.node_no) ((value h) (node end.node_no Value))))
+        sym (last_is 0 (leaf_items (value h) end.others) (pair (rank (value h) end.node_no) ((value h) (node end.node_no (Settled Value)))))
         ∙ ap (last_key 0) end_items
         ∙ last_is 0 (map_of_log calls (log lay h)) (pair (2 ^ 64) 0)
 
@@ -318,7 +319,7 @@ some_found k v (x ∷ xs) ys e = go (eqb k x.key) e (some_found k v xs ys)
     go true e more = absurd (let q : Some x.value ≡ None = e in cc)
     go false e more = more e
 
-leaf_small : (f : Word → ℕ) (t : Tree) (lo hi n : ℕ) → Shows f lo hi t → Has t n → is_leaf f n ≡ true → f (node n Key) < 2 ^ 64
+leaf_small : (f : Word → ℕ) (t : Tree) (lo hi n : ℕ) → Shows f lo hi t → Has t n → is_leaf f n ≡ true → f (node n (Settled Key)) < 2 ^ 64
 leaf_small f (Leaf m) lo hi n s e d = rw (← e) s.small
 leaf_small f (Fork m a b) lo hi n s (inl e) d = absurd (let x : true ≡ false = sym d ∙ rw e at s.0.fork in cc)
 leaf_small f (Fork m a b) lo hi n s (inr (inl p)) d = leaf_small f a lo _ n s.1 p d
@@ -331,7 +332,7 @@ root_leaf calls lay h g leaf low = some_found (2 ^ 64) 0 (map_of_log calls (log 
     t : TreeFacts calls lay h
     t = tree_facts calls lay h g
 
-    head : value h (node 0 Head) ≡ 2
+    head : value h (node 0 (Settled Head)) ≡ 2
     head = grown_root calls lay h g
 
     below : 2 ^ 64 < rank (value h) 0
@@ -346,7 +347,7 @@ root_leaf calls lay h g leaf low = some_found (2 ^ 64) 0 (map_of_log calls (log 
     at_child : Passes (value h) (2 ^ 64) t.tree (value h (child 0 Left))
     at_child = subst (λ s. Passes (value h) (2 ^ 64) t.tree (value h (child 0 s))) left (path_child (value h) (2 ^ 64) t.tree _ _ 0 t.is_tree.shows at_root (rw head refl))
 
-    small_leaf : value h (node (value h (child 0 Left)) Key) < 2 ^ 64
+    small_leaf : value h (node (value h (child 0 Left)) (Settled Key)) < 2 ^ 64
     small_leaf = leaf_small (value h) t.tree _ _ _ t.is_tree.shows (passes_has (value h) (2 ^ 64) t.tree _ at_child) leaf
 
     other : 2 ^ 64 ≢ rank (value h) (value h (child 0 Left))

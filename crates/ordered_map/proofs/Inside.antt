@@ -3,7 +3,8 @@ use Rattle.std.proofs.Common.{◌≡◌, ◌≢◌, ℕ, ◌<◌, Bool, true, fa
 use native.Mathlib.Decide.{ℕ_discrete}
 use Rattle.arena.specs.declared.limits.Mode.{Mode}
 use Rattle.arena.specs.declared.limits.Mode.TheVariants.{Tree as TreeMode, Records}
-use Rattle.arena.specs.declared.word.NodeWord.TheVariants.{Head}
+use Rattle.arena.specs.declared.word.NodeWord.TheVariants.{Settled}
+use Rattle.arena.specs.declared.word.SettledPart.TheVariants.{Head}
 use Rattle.arena.specs.declared.word.Word.{Word}
 use Rattle.arena.specs.declared.layout.Layout.{Layout}
 use Rattle.arena.specs.Layout.{opening_nodes, all_nodes, opening, IsWord}
@@ -17,7 +18,7 @@ use Rattle.ordered_map.specs.Paths.{Passed}
 use Rattle.ordered_map.specs.Spelled.{IsTree}
 use Rattle.ordered_map.specs.TreeWords.{Tree, Leaf, Fork, root, Shows, Has, level}
 
-pub no_head : (mode : Mode) (n : ℕ) → n ≢ 0 → n ≢ 1 → n ≢ 2 → opening mode (node n Head) ≡ 0
+pub no_head : (mode : Mode) (n : ℕ) → n ≢ 0 → n ≢ 1 → n ≢ 2 → opening mode (node n (Settled Head)) ≡ 0
 no_head TreeMode n a b c = rw (ne_eqb n 0 a, ne_eqb n 1 b, ne_eqb n 2 c) refl
 no_head Records n a b c = refl
 
@@ -25,7 +26,7 @@ some_nodes : (mode : Mode) → 2 < opening_nodes mode
 some_nodes TreeMode = omega arith
 some_nodes Records = omega arith
 
-pub head_inside : (lay : Layout) (h : History) (n : ℕ) → Lawful lay h → value h (node n Head) ≢ 0 → n < all_nodes lay
+pub head_inside : (lay : Layout) (h : History) (n : ℕ) → Lawful lay h → value h (node n (Settled Head)) ≢ 0 → n < all_nodes lay
 head_inside lay (Start mode) n l d = go (ℕ_discrete n 0) (ℕ_discrete n 1) (ℕ_discrete n 2)
   where
     few : n < 3 → n < all_nodes lay
@@ -35,15 +36,15 @@ head_inside lay (Start mode) n l d = go (ℕ_discrete n 0) (ℕ_discrete n 1) (�
     go (yes e) _ _ = few (omega arith)
     go (no a) (yes e) _ = few (omega arith)
     go (no a) (no b) (yes e) = few (omega arith)
-    go (no a) (no b) (no c) = absurd (d (value_start mode (node n Head) ∙ no_head mode n a b c))
-head_inside lay (r ⊳ h) n l d = go (same_word r.word (node n Head)) refl (head_inside lay h n (lawful_tail lay h r l))
+    go (no a) (no b) (no c) = absurd (d (value_start mode (node n (Settled Head)) ∙ no_head mode n a b c))
+head_inside lay (r ⊳ h) n l d = go (same_word r.word (node n (Settled Head))) refl (head_inside lay h n (lawful_tail lay h r l))
   where
-    go : (b : Bool) → same_word r.word (node n Head) ≡ b → (value h (node n Head) ≢ 0 → n < all_nodes lay) → n < all_nodes lay
-    go true e old = let w : IsWord lay r.word = (lawful_row lay h r l).word in rw (word_same r.word (node n Head) e) at w
-    go false e old = old (λ q. d (value_other r h (node n Head) e ∙ q))
+    go : (b : Bool) → same_word r.word (node n (Settled Head)) ≡ b → (value h (node n (Settled Head)) ≢ 0 → n < all_nodes lay) → n < all_nodes lay
+    go true e old = let w : IsWord lay r.word = (lawful_row lay h r l).word in rw (word_same r.word (node n (Settled Head)) e) at w
+    go false e old = old (λ q. d (value_other r h (node n (Settled Head)) e ∙ q))
 
 -- all but the root have a level above 0
-pub has_head : (f : Word → ℕ) (t : Tree) (lo hi n : ℕ) → Shows f lo hi t → Has t n → (n ≡ root t) ⊎ (f (node n Head) ≢ 0)
+pub has_head : (f : Word → ℕ) (t : Tree) (lo hi n : ℕ) → Shows f lo hi t → Has t n → (n ≡ root t) ⊎ (f (node n (Settled Head)) ≢ 0)
 has_head f (Leaf m) lo hi n s e = inl (sym e)
 has_head f (Fork m a b) lo hi n s (inl e) = inl (sym e)
 has_head f (Fork m a b) lo hi n s (inr (inl x)) = ⊎_elim (λ e. inr (λ z. let l = s.0.low in let q : level f (root a) ≡ 0 = rw (← e) (rw z refl) in omega (arith, l, q))) inr (has_head f a lo _ n s.1 x)

@@ -1,7 +1,8 @@
 -- No node of the tree is deeper than the log is long.
 use Rattle.std.proofs.Common.{◌≡◌, ℕ, ◌<◌, ◌/◌, ◌≤◌, zero, suc, length, refl, ap, arith}
 use Rattle.arena.specs.declared.limits.Mode.TheVariants.{Tree as TreeMode}
-use Rattle.arena.specs.declared.word.NodeWord.TheVariants.{Head, Child}
+use Rattle.arena.specs.declared.word.NodeWord.TheVariants.{Settled, Child}
+use Rattle.arena.specs.declared.word.SettledPart.TheVariants.{Head}
 use Rattle.arena.specs.declared.layout.Layout.{Layout}
 use Rattle.arena.specs.declared.step.Row.{Row}
 use Rattle.arena.specs.Words.{node}
@@ -38,7 +39,7 @@ module _ (calls : ℕ → MapEdit) (lay : Layout) where
   stays h r n g named x = go (logs lay h r g.lawful)
     where
       e : level (value (r ⊳ h)) n ≡ level (value h) n
-      e = ap (λ v. v / 8) (node_stays lay h r n Head g.lawful tt named)
+      e = ap (λ v. v / 8) (node_stays lay h r n (Settled Head) g.lawful tt named)
 
       go : Logs lay h r → IsWithin (r ⊳ h) n
       go (same q _) = rw q (omega (arith, e, x))
@@ -49,7 +50,7 @@ module _ (calls : ℕ → MapEdit) (lay : Layout) where
       let f = facts_then calls lay h r g in
       let t = tree_then calls lay h r g in
       let y = born_level calls lay h r u f w g.mode g.lawful t n b in
-      let e : level (value (r ⊳ h)) n ≡ level (value h) n = ap (λ v. v / 8) (update_keeps_other f w (node n Head) (node_word_apart (member h u (field_index h u)) n (Child (side_of (plan h u))) Head refl)) in
+      let e : level (value (r ⊳ h)) n ≡ level (value h) n = ap (λ v. v / 8) (update_keeps_other f w (node n (Settled Head)) (node_word_apart (member h u (field_index h u)) n (Child (side_of (plan h u))) (Settled Head) refl)) in
       let d : level (value h) y.0 ≤ suc (length (log lay h)) = before y.0 ((result calls lay h r u f w g.mode g.lawful t).out y.0 y.1).0 in
       let c = y.2 in
       rw (log_wins f w) (omega (arith, e, d, c))

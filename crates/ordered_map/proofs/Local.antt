@@ -2,7 +2,9 @@
 use Rattle.std.proofs.Common.{◌≡◌, ◌≢◌, ℕ, ◌+◌, ◌*◌, ◌/◌, ◌%◌, ◌^◌, ◌<◌, ◌≤◌, true, false, ◌⊎◌, inl, inr, ⊎_elim, [], ◌∷◌, ◌++◌, refl, sym, ◌∙◌, ap, arith, eqb, ltb, lt-ltb, le-ltb, eq-eqb, ne_eqb, subst, append-nil}
 use Rattle.arena.specs.declared.word.Side.{Side}
 use Rattle.arena.specs.declared.word.Side.TheVariants.{Left, Right}
-use Rattle.arena.specs.declared.word.NodeWord.TheVariants.{Head, Key, Value, Child}
+use Rattle.arena.specs.declared.word.NodeWord.TheVariants.{Settled, Child}
+use Rattle.arena.specs.declared.word.SettledPart.{SettledPart}
+use Rattle.arena.specs.declared.word.SettledPart.TheVariants.{Head, Key, Value}
 use Rattle.arena.specs.declared.word.Word.{Word}
 use Rattle.arena.specs.Words.{node, child}
 use Rattle.ordered_map.specs.OrderedMap.{pair, insert, delete}
@@ -13,29 +15,25 @@ use Rattle.ordered_map.specs.Edits.{IsAlike, IsSwap, IsSplit, IsJoin, AreBelow, 
 pub alike_rank : (f : Word → ℕ) (n m : ℕ) → IsAlike f n m → rank f n ≡ rank f m
 alike_rank f n m e = λ i. e.class i * 2 ^ 64 + e.key i
 
-pub pair_rank : (f : Word → ℕ) (n k : ℕ) → class f n ≡ 0 → f (node n Key) ≡ k → rank f n ≡ k
+pub pair_rank : (f : Word → ℕ) (n k : ℕ) → class f n ≡ 0 → f (node n (Settled Key)) ≡ k → rank f n ≡ k
 pair_rank f n k c e = omega (arith, c, e)
 
 -- Field words of the node p alone differ between f and g.
 pub record Apart (f g : Word → ℕ) (p : ℕ) : Type 0 where
-  pub head : (n : ℕ) → g (node n Head) ≡ f (node n Head)
-  pub key : (n : ℕ) → g (node n Key) ≡ f (node n Key)
-  pub value : (n : ℕ) → g (node n Value) ≡ f (node n Value)
+  pub settled : (n : ℕ) (part : SettledPart) → g (node n (Settled part)) ≡ f (node n (Settled part))
   pub field : (n : ℕ) (side : Side) → p ≢ n → g (child n side) ≡ f (child n side)
 
 apart_rank : (f g : Word → ℕ) (p : ℕ) → Apart f g p → (n : ℕ) → rank g n ≡ rank f n
-apart_rank f g p e n = λ i. e.head n i % 4 * 2 ^ 64 + e.key n i
+apart_rank f g p e n = λ i. e.settled n Head i % 4 * 2 ^ 64 + e.settled n Key i
 
 apart_leaf : (f g : Word → ℕ) (p : ℕ) → Apart f g p → (n : ℕ) → is_leaf g n ≡ is_leaf f n
-apart_leaf f g p e n = ap (λ v. eqb (v / 4 % 2) 1) (e.head n)
+apart_leaf f g p e n = ap (λ v. eqb (v / 4 % 2) 1) (e.settled n Head)
 
 apart_level : (f g : Word → ℕ) (p : ℕ) → Apart f g p → (n : ℕ) → level g n ≡ level f n
-apart_level f g p e n = ap (λ v. v / 8) (e.head n)
+apart_level f g p e n = ap (λ v. v / 8) (e.settled n Head)
 
 apart_same : (f g : Word → ℕ) (p : ℕ) → Apart f g p → (n : ℕ) → p ≢ n → Same f g n
-apart_same f g p e n d Head i = e.head n
-apart_same f g p e n d Key i = e.key n
-apart_same f g p e n d Value i = e.value n
+apart_same f g p e n d (Settled part) i = e.settled n part
 apart_same f g p e n d (Child side) i = e.field n side d
 apart_same f g p e n d _ i = absurd i
 
@@ -55,13 +53,13 @@ put_behind k v r w l =
     rw (a, b) refl
 
 module _ (f g : Word → ℕ) (p : ℕ) (e : Apart f g p) where
-  leaf_now : (n lo hi : ℕ) → is_leaf f n ≡ true → f (node n Key) < 2 ^ 64 → lo ≤ rank f n → rank f n < hi → IsLeaf g n lo hi
+  leaf_now : (n lo hi : ℕ) → is_leaf f n ≡ true → f (node n (Settled Key)) < 2 ^ 64 → lo ≤ rank f n → rank f n < hi → IsLeaf g n lo hi
   leaf_now n lo hi l s a b =
       let r : rank g n ≡ rank f n = apart_rank f g p e n in
-      record { leaf = apart_leaf f g p e n ∙ l; small = rw (e.key n) s; from = omega (arith, r); below = omega (arith, r) }
+      record { leaf = apart_leaf f g p e n ∙ l; small = rw (e.settled n Key) s; from = omega (arith, r); below = omega (arith, r) }
 
-  item_now : (n : ℕ) → pair (rank g n) (g (node n Value)) ≡ pair (rank f n) (f (node n Value))
-  item_now n = λ i. pair (apart_rank f g p e n i) (e.value n i)
+  item_now : (n : ℕ) → pair (rank g n) (g (node n (Settled Value))) ≡ pair (rank f n) (f (node n (Settled Value)))
+  item_now n = λ i. pair (apart_rank f g p e n i) (e.settled n Value i)
 
   -- a present key
   pub swap : (k v l c : ℕ) → k < 2 ^ 64 → l ≢ c → IsSwap f k v l c → (lo hi : ℕ) (a : Tree) → lo ≤ k → k < hi → Shows f lo hi a → root a ≡ l → ¬ Has a p → Replaced f g (insert k v) (λ n. l ≡ n) (λ n. n ≡ c) c lo hi a
@@ -75,7 +73,7 @@ module _ (f g : Word → ℕ) (p : ℕ) (e : Apart f g p) where
         shows = leaf_now c lo hi s.new.leaf (rw s.new.key small) (omega arith) (omega arith);
         is = refl;
         deep = let z : level g c ≡ level f c = apart_level f g p e c in let y : level f n ≡ level f l = ap (level f) q in let d = s.deep in omega (arith, z, y, d);
-        items = (λ i. item_now c i ∷ []) ∙ (λ i. pair (r i) (s.new.value i) ∷ []) ∙ sym (insert_here k v (f (node n Value))) ∙ ap (λ z. insert k v (pair z (f (node n Value)) ∷ [])) (sym rn);
+        items = (λ i. item_now c i ∷ []) ∙ (λ i. pair (r i) (s.new.value i) ∷ []) ∙ sym (insert_here k v (f (node n (Settled Value)))) ∙ ap (λ z. insert k v (pair z (f (node n (Settled Value))) ∷ [])) (sym rn);
         paths = λ j m h. inr (sym q ∙ h);
         made = λ m h. inr (sym h);
         out = λ m h. (q ∙ h, λ i. ne (h ∙ sym i));
@@ -101,19 +99,19 @@ module _ (f g : Word → ℕ) (p : ℕ) (e : Apart f g p) where
       rc : rank g c ≡ rank f c
       rc = apart_rank f g p e c
 
-      ix : pair (rank g x) (g (node x Value)) ≡ pair k v
+      ix : pair (rank g x) (g (node x (Settled Value))) ≡ pair k v
       ix = item_now x ∙ (λ i. pair (rx i) (s.new.value i))
 
-      value_y : f (node y Value) ≡ f (node n Value)
+      value_y : f (node y (Settled Value)) ≡ f (node n (Settled Value))
       value_y = rw q s.copy.value
 
       rank_y : rank f y ≡ rank f n
       rank_y = ry ∙ sym rn
 
-      iy : pair (rank g y) (g (node y Value)) ≡ pair (rank f n) (f (node n Value))
+      iy : pair (rank g y) (g (node y (Settled Value))) ≡ pair (rank f n) (f (node n (Settled Value)))
       iy = item_now y ∙ (λ i. pair (rank_y i) (value_y i))
 
-      small_y : f (node y Key) < 2 ^ 64
+      small_y : f (node y (Settled Key)) < 2 ^ 64
       small_y = rw (s.copy.alike.key, ← q) t.small
 
       deep : level f n ≤ level g c
@@ -127,7 +125,7 @@ module _ (f g : Word → ℕ) (p : ℕ) (e : Apart f g p) where
 
       -- the fork over the two leaves i and j, which are x and y
       over : (i j : ℕ) → IsLeaf g i lo (rank g c) → IsLeaf g j (rank g c) hi → f (child c Left) ≡ i → f (child c Right) ≡ j → level f c < level f i → level f c < level f j
-          → pair (rank g i) (g (node i Value)) ∷ pair (rank g j) (g (node j Value)) ∷ [] ≡ insert k v (pair (rank f n) (f (node n Value)) ∷ [])
+          → pair (rank g i) (g (node i (Settled Value))) ∷ pair (rank g j) (g (node j (Settled Value))) ∷ [] ≡ insert k v (pair (rank f n) (f (node n (Settled Value))) ∷ [])
           → ((m : ℕ) → (m ≡ i) ⊎ (m ≡ j) → (m ≡ x) ⊎ (m ≡ y)) → Replaced f g (insert k v) (λ n. l ≡ n) (λ n. (n ≡ c) ⊎ ((n ≡ x) ⊎ (n ≡ y))) c lo hi (Leaf n)
       over i j first second left right below_i below_j items_are among = record {
         tree = Fork c (Leaf i) (Leaf j);
@@ -169,7 +167,7 @@ module _ (f g : Word → ℕ) (p : ℕ) (e : Apart f g p) where
           (leaf_now x lo (rank g c) s.new.leaf (rw s.new.key small) (omega (arith, rx, rc, ec, o.0, tf, tb, rn, u, w)) (omega (arith, ry, rx, rc, ec, o.0, tf, tb, rn, u, w)))
           (leaf_now y (rank g c) hi s.copy.leaf small_y (omega (arith, ry, rc, ec, o.0, tf, tb, rn, rx, u, w)) (omega (arith, ry, rc, ec, o.0, tf, tb, rn, rx, u, w)))
           o.2 o.3 low high
-          ((λ i. ix i ∷ iy i ∷ []) ∙ sym (put_before k v (rank f n) (f (node n Value)) (omega (arith, o.0, rn))))
+          ((λ i. ix i ∷ iy i ∷ []) ∙ sym (put_before k v (rank f n) (f (node n (Settled Value))) (omega (arith, o.0, rn))))
           (λ m h. h)
       go (inr o) =
           let ec : rank f c ≡ rank f x = alike_rank f c x o.1 in
@@ -179,19 +177,19 @@ module _ (f g : Word → ℕ) (p : ℕ) (e : Apart f g p) where
           (leaf_now y lo (rank g c) s.copy.leaf small_y (omega (arith, ry, rx, rc, ec, o.0, tf, tb, rn, u, w)) (omega (arith, ry, rx, rc, ec, o.0, tf, tb, rn, u, w)))
           (leaf_now x (rank g c) hi s.new.leaf (rw s.new.key small) (omega (arith, rx, rc, ec, o.0, tf, tb, rn, u, w)) (omega (arith, rx, rc, ec, o.0, tf, tb, rn, u, w)))
           o.2 o.3 high low
-          ((λ i. iy i ∷ ix i ∷ []) ∙ sym (put_behind k v (rank f n) (f (node n Value)) (omega (arith, o.0, rn))))
+          ((λ i. iy i ∷ ix i ∷ []) ∙ sym (put_behind k v (rank f n) (f (node n (Settled Value))) (omega (arith, o.0, rn))))
           (λ m. ⊎_elim inr inl)
 
   -- a copy c of the root z of a subtree
-  copied : (z c : ℕ) → z ≢ c → (is_leaf f c ≡ false → p ≢ c) → f (node c Head) ≡ f (node z Head) → f (node c Key) ≡ f (node z Key) → (is_leaf f z ≡ true → f (node c Value) ≡ f (node z Value)) → HasFieldsOf f c z
+  copied : (z c : ℕ) → z ≢ c → (is_leaf f c ≡ false → p ≢ c) → f (node c (Settled Head)) ≡ f (node z (Settled Head)) → f (node c (Settled Key)) ≡ f (node z (Settled Key)) → (is_leaf f z ≡ true → f (node c (Settled Value)) ≡ f (node z (Settled Value))) → HasFieldsOf f c z
       → (lo hi : ℕ) (a : Tree) → Shows f lo hi a → root a ≡ z → ¬ Has a p → Replaced f g (λ xs. xs) (λ n. z ≡ n) (λ n. n ≡ c) c lo hi a
   copied z c nc pc head key value below lo hi (Leaf n) t q d =
       let r : rank f c ≡ rank f n = (λ i. head i % 4 * 2 ^ 64 + key i) ∙ sym (ap (rank f) q) in
       let kind : is_leaf f c ≡ is_leaf f z = ap (λ v. eqb (v / 4 % 2) 1) head in
       let deep : level f n ≤ level f c = rw (head, q) (omega arith) in
       let l : is_leaf f z ≡ true = rw q at t.leaf in
-      let k : f (node c Key) ≡ f (node n Key) = key ∙ (λ i. f (node (sym q i) Key)) in
-      let v : f (node c Value) ≡ f (node n Value) = value l ∙ (λ i. f (node (sym q i) Value)) in
+      let k : f (node c (Settled Key)) ≡ f (node n (Settled Key)) = key ∙ (λ i. f (node (sym q i) (Settled Key))) in
+      let v : f (node c (Settled Value)) ≡ f (node n (Settled Value)) = value l ∙ (λ i. f (node (sym q i) (Settled Value))) in
       let lc : level g c ≡ level f c = apart_level f g p e c in
       let tf = t.from in
       let tb = t.below in
@@ -339,8 +337,8 @@ module _ (f g : Word → ℕ) (p : ℕ) (e : Apart f g p) where
           finish r =
               let yf = leaf_l.from in
               let yb = leaf_l.below in
-              let before : delete k (items f a ++ (pair k (f (node l Value)) ∷ [])) ≡ items f a ++ delete k (pair k (f (node l Value)) ∷ []) = (delete_local k).right (items f a) (pair k (f (node l Value)) ∷ []) (items_below f a lo (rank f n) k t.1 (omega (arith, yf, rl))) in
-              let none : delete k (pair k (f (node l Value)) ∷ []) ≡ [] = rw (eq-eqb k k refl) refl in
+              let before : delete k (items f a ++ (pair k (f (node l (Settled Value))) ∷ [])) ≡ items f a ++ delete k (pair k (f (node l (Settled Value))) ∷ []) = (delete_local k).right (items f a) (pair k (f (node l (Settled Value))) ∷ []) (items_below f a lo (rank f n) k t.1 (omega (arith, yf, rl))) in
+              let none : delete k (pair k (f (node l (Settled Value))) ∷ []) ≡ [] = rw (eq-eqb k k refl) refl in
               record {
                 tree = r.tree;
                 shows = wider g r.tree lo (rank f n) lo hi (omega arith) (omega (arith, yf, yb)) r.shows;

@@ -2,7 +2,8 @@
 -- last left turn.
 use Rattle.std.proofs.Common.{◌≡◌, ℕ, ◌<◌, ◌≤◌, Bool, true, false, ltb, ◌⊎◌, inl, inr, List, [], ◌∷◌, ◌++◌, refl, sym, ◌∙◌, ap, arith, lt-ltb, le-ltb, cond}
 use Rattle.std.specs.Prelude.{Option, Some, None}
-use Rattle.arena.specs.declared.word.NodeWord.TheVariants.{Value}
+use Rattle.arena.specs.declared.word.NodeWord.TheVariants.{Settled}
+use Rattle.arena.specs.declared.word.SettledPart.TheVariants.{Value}
 use Rattle.arena.specs.declared.word.Word.{Word}
 use Rattle.arena.specs.Words.{node}
 use Rattle.ordered_map.specs.declared.pair.Pair.{Pair}
@@ -16,12 +17,12 @@ or_else (Some x) d = Some x
 
 -- the leftmost leaf
 abbrev pub first : (Word → ℕ) → Tree → Pair
-first f (Leaf n) = pair (rank f n) (f (node n Value))
+first f (Leaf n) = pair (rank f n) (f (node n (Settled Value)))
 first f (Fork n a b) = first f a
 
 -- down the path of k, with what the last left turn offers
 abbrev pub search_next : (Word → ℕ) → ℕ → Tree → Option Pair → Option Pair
-search_next f k (Leaf n) d = cond (ltb k (rank f n)) (Some (pair (rank f n) (f (node n Value)))) d
+search_next f k (Leaf n) d = cond (ltb k (rank f n)) (Some (pair (rank f n) (f (node n (Settled Value))))) d
 search_next f k (Fork n a b) d = cond (ltb k (rank f n)) (search_next f k a (Some (first f b))) (search_next f k b d)
 
 next_join : (k : ℕ) (xs ys : List Pair) → successor k (xs ++ ys) ≡ or_else (successor k xs) (successor k ys)

@@ -5,7 +5,8 @@ use native.Mathlib.Decide.{ℕ_discrete}
 use Rattle.arena.specs.declared.limits.Mode.TheVariants.{Tree as TreeMode}
 use Rattle.arena.specs.declared.word.Side.{Side}
 use Rattle.arena.specs.declared.word.Side.TheVariants.{Left, Right}
-use Rattle.arena.specs.declared.word.NodeWord.TheVariants.{Head, Key, Value, Child}
+use Rattle.arena.specs.declared.word.NodeWord.TheVariants.{Settled, Child}
+use Rattle.arena.specs.declared.word.SettledPart.TheVariants.{Head, Value}
 use Rattle.arena.specs.declared.word.Word.{Word}
 use Rattle.arena.specs.declared.layout.Layout.{Layout}
 use Rattle.arena.specs.declared.step.Row.{Row}
@@ -77,9 +78,7 @@ latest calls lay (r ⊳ h) m k n g (inr e) p = go (latest calls lay h m k n (gro
     named = named_since lay h m n (lawful_tail lay h r g.lawful) e (path_named lay m k n g.mode p)
 
     row_same : value (r ⊳ h) (marked n) ≢ 0 → Same (value h) (value (r ⊳ h)) n
-    row_same d Head i = node_stays lay h r n Head g.lawful tt named
-    row_same d Key i = node_stays lay h r n Key g.lawful tt named
-    row_same d Value i = node_stays lay h r n Value g.lawful tt named
+    row_same d (Settled p) i = node_stays lay h r n (Settled p) g.lawful tt named
     row_same d (Child side) i = marked_keeps calls lay h r n g named d side
     row_same d _ i = absurd i
 
@@ -102,7 +101,7 @@ pub walk_goes_on : (calls : ℕ → MapEdit) (lay : Layout) (h start : History) 
 walk_goes_on calls lay h start k n g p fork =
     let x : Latest h p.0 k n = latest calls lay h p.0 k n g p.1 p.3 in
     let m : History = x.moment in
-    let head : value h (node n Head) ≡ value m (node n Head) = x.same Head tt in
+    let head : value h (node n (Settled Head)) ≡ value m (node n (Settled Head)) = x.same (Settled Head) tt in
     let r : rank (value h) n ≡ rank (value m) n = same_rank (value m) (value h) n x.same in
     let side : toward (value h) n k ≡ toward (value m) n k = ap (λ v. cond (ltb k v) Left Right) r in
     let c : value h (child n (toward (value h) n k)) ≡ value m (child n (toward (value m) n k)) = ap (λ s. value h (child n s)) side ∙ x.same (Child (toward (value m) n k)) tt in
@@ -122,10 +121,10 @@ walk_ends calls lay h start k n small g p leaf =
     let m : History = x.moment in
     let t : TreeFacts calls lay m = tree_facts calls lay m (grown_since calls lay h m x.within g) in
     let q : Passes (value m) k t.tree n = path_now m t.tree k n t.is_tree x.on_path in
-    let head : value h (node n Head) ≡ value m (node n Head) = x.same Head tt in
+    let head : value h (node n (Settled Head)) ≡ value m (node n (Settled Head)) = x.same (Settled Head) tt in
     let d : is_leaf (value m) n ≡ true = ap (λ v. eqb (v / 4 % 2) 1) (sym head) ∙ leaf in
     let r : rank (value h) n ≡ rank (value m) n = same_rank (value m) (value h) n x.same in
-    let w : value h (node n Value) ≡ value m (node n Value) = x.same Value tt in
+    let w : value h (node n (Settled Value)) ≡ value m (node n (Settled Value)) = x.same (Settled Value) tt in
     let a : Above k ends = (omega (arith, small), (omega (arith, small), tt)) in
     let e : get k (items (value m) t.tree) ≡ told (value m) k n = get_leaf (value m) k t.tree _ _ n t.is_tree.shows q d in
     let same_told : told (value m) k n ≡ told (value h) k n = sym (λ i. cond (eqb k (r i)) (Some (w i)) None) in
@@ -154,12 +153,12 @@ pub level_rises : (calls : ℕ → MapEdit) (lay : Layout) (h m : History) (k n 
 level_rises calls lay h m k n side g e p fork =
     let x : Latest h m k n = latest calls lay h m k n g e p in
     let l : History = x.moment in
-    let head : value h (node n Head) ≡ value l (node n Head) = x.same Head tt in
+    let head : value h (node n (Settled Head)) ≡ value l (node n (Settled Head)) = x.same (Settled Head) tt in
     let d : is_leaf (value l) n ≡ false = ap (λ v. eqb (v / 4 % 2) 1) (sym head) ∙ fork in
     let y : (level (value l) n < level (value l) (value l (child n side))) × Has x.on_path.tree (value l (child n side)) = path_level (value l) x.on_path.tree _ _ n side x.on_path.is_tree.shows (passes_has (value l) k x.on_path.tree n x.on_path.passes) d in
     let c : value h (child n side) ≡ value l (child n side) = x.same (Child side) tt in
     let named : IsNamed lay l (value l (child n side)) = all_named lay l x.on_path.tree _ g.mode x.on_path.is_tree y.1 in
-    let child_head : value h (node (value l (child n side)) Head) ≡ value l (node (value l (child n side)) Head) = node_since lay h l (value l (child n side)) Head g.lawful x.within tt named in
+    let child_head : value h (node (value l (child n side)) (Settled Head)) ≡ value l (node (value l (child n side)) (Settled Head)) = node_since lay h l (value l (child n side)) (Settled Head) g.lawful x.within tt named in
     rw (c, head, child_head) y.0
 
 -- every node of the tree is on the path of a key

@@ -4,7 +4,8 @@ use native.Mathlib.Decide.{ℕ_discrete}
 use Rattle.arena.specs.declared.word.Side.{Side}
 use Rattle.arena.specs.declared.word.Side.TheVariants.{Left, Right}
 use Rattle.arena.specs.declared.word.NodeWord.{NodeWord}
-use Rattle.arena.specs.declared.word.NodeWord.TheVariants.{Head, Child}
+use Rattle.arena.specs.declared.word.NodeWord.TheVariants.{Settled, Child}
+use Rattle.arena.specs.declared.word.SettledPart.TheVariants.{Head}
 use Rattle.arena.specs.declared.word.ScxWord.TheVariants.{State, New, Member}
 use Rattle.arena.specs.declared.layout.Layout.{Layout}
 use Rattle.arena.specs.declared.step.Row.{Row}
@@ -89,7 +90,7 @@ pending_more calls lay h r s l named p same back fields shown = record {
     fields_here = subst (λ d. is_leaf (value h) d.new ≡ false → (side : Side) → value (r ⊳ h) (child d.new side) ≡ value h (child d.new side)) (sym p.same) fields
 
     leaf_here : is_leaf (value p.before) (new p.before s) ≡ false → is_leaf (value h) (new p.before s) ≡ false
-    leaf_here e = rw (p.settled (new p.before s) (inl refl) Head tt) e
+    leaf_here e = rw (p.settled (new p.before s) (inl refl) (Settled Head) tt) e
 
     shown_here : (j : ℕ) → j < count_in (descriptor p.before s) → j ≢ field_index_in (descriptor p.before s) → Holds (descriptor p.before s) (r ⊳ h) s j → (side : Side) → value (r ⊳ h) (child (member p.before s j) side) ≡ value h (child (member p.before s j) side)
     shown_here = subst (λ d. (j : ℕ) → j < count_in d → j ≢ field_index_in d → Holds d (r ⊳ h) s j → (side : Side) → value (r ⊳ h) (child (d.member j) side) ≡ value h (child (d.member j) side)) (sym p.same) shown

@@ -2,7 +2,8 @@
 use Rattle.std.proofs.Common.{◌≡◌, ◌≢◌, ℕ, suc, ◌+◌, ◌-◌, ◌*◌, ◌/◌, ◌%◌, ◌^◌, ◌<◌, ◌≤◌, true, false, inl, inr, List, [], ◌∷◌, ◌++◌, refl, sym, ◌∙◌, ap, arith, subst, append_assoc, append-nil}
 use Rattle.arena.specs.Layout.{all_nodes}
 use Rattle.arena.specs.Words.{node, child}
-use Rattle.arena.specs.declared.word.NodeWord.TheVariants.{Head, Key}
+use Rattle.arena.specs.declared.word.NodeWord.TheVariants.{Settled}
+use Rattle.arena.specs.declared.word.SettledPart.TheVariants.{Head, Key}
 use Rattle.arena.specs.declared.word.Side.TheVariants.{Left, Right}
 use Rattle.arena.specs.PlainWords.{Contents, word_at}
 use Rattle.ordered_map.specs.declared.part.Part.{Part}
@@ -26,7 +27,7 @@ root_fits c p (Fork n a b) i =
     let x0 = x.0 in let x1 = x.1 in let y0 = y.0 in let y1 = y.1 in
     (i.deep, rw (← i.is) (omega (arith, x0, x1)), rw (← i.is) (omega (arith, y0, y1)))
 
-pub no_tree : (c : Contents) (p : Part) (head key r : ℕ) → head ≡ word_at c (node p.node Head) → key ≡ word_at c (node p.node Key) → r ≡ head % 4 * 2 ^ 64 + key → (IsFit p (head / 8) r → ⊥) → (t : Tree) → IsPart c p t → ⊥
+pub no_tree : (c : Contents) (p : Part) (head key r : ℕ) → head ≡ word_at c (node p.node (Settled Head)) → key ≡ word_at c (node p.node (Settled Key)) → r ≡ head % 4 * 2 ^ 64 + key → (IsFit p (head / 8) r → ⊥) → (t : Tree) → IsPart c p t → ⊥
 no_tree c p head key r e d q none t i =
     let x : IsFit p (level (word_at c) p.node) (rank (word_at c) p.node) = root_fits c p t i in
     none (subst (λ v. p.level ≤ v / 8) (sym e) x.0, subst (λ v. p.low ≤ v) (sym is) x.1, subst (λ v. v < p.high) (sym is) x.2)
@@ -35,7 +36,7 @@ no_tree c p head key r e d q none t i =
     is = q ∙ (λ j. e j % 4 * 2 ^ 64 + d j)
 
 -- at a leaf
-pub seen_leaf : (c : Contents) (p : Part) → p.node < all_nodes c.layout → word_at c (node p.node Key) < 2 ^ 64 → IsFit p (level (word_at c) p.node) (rank (word_at c) p.node) → is_leaf (word_at c) p.node ≡ true → IsSeen c p LeafSeen
+pub seen_leaf : (c : Contents) (p : Part) → p.node < all_nodes c.layout → word_at c (node p.node (Settled Key)) < 2 ^ 64 → IsFit p (level (word_at c) p.node) (rank (word_at c) p.node) → is_leaf (word_at c) p.node ≡ true → IsSeen c p LeafSeen
 seen_leaf c p i small fits leaf = (
   record { shows = record { leaf = leaf; small = small; from = fits.1; below = fits.2 }; is = refl; deep = fits.0; inside = λ n e. rw (← e) i },
   only,

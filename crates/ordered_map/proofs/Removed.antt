@@ -3,7 +3,8 @@ use Rattle.std.proofs.Common.{◌≡◌, ◌≢◌, ℕ, true, false, ◌⊎◌,
 use native.Mathlib.Decide.{ℕ_discrete}
 use Rattle.arena.specs.declared.limits.Mode.{Mode}
 use Rattle.arena.specs.declared.word.Side.{Side}
-use Rattle.arena.specs.declared.word.NodeWord.TheVariants.{Head, Child, Info}
+use Rattle.arena.specs.declared.word.NodeWord.TheVariants.{Settled, Child, Info}
+use Rattle.arena.specs.declared.word.SettledPart.TheVariants.{Head}
 use Rattle.arena.specs.declared.word.ScxWord.TheVariants.{Plan, New}
 use Rattle.arena.specs.declared.layout.Layout.{Layout}
 use Rattle.arena.specs.declared.step.Row.{Row}
@@ -68,7 +69,7 @@ module _ (calls : ℕ → MapEdit) (lay : Layout) (h : History) (r : Row) (g : I
   made_back : (s n : ℕ) → IsNamedScx h s → new (r ⊳ h) s ≡ new h s → plan (r ⊳ h) s ≡ plan h s → (is_leaf (value h) (new h s) ≡ false → (side : Side) → value (r ⊳ h) (child (new h s) side) ≡ value h (child (new h s) side)) → IsMadeBy (r ⊳ h) s n → IsMadeBy h s n
   made_back s n p same_new same_plan fields (inl e) = inl (e ∙ same_new)
   made_back s n p same_new same_plan fields (inr y) =
-      let head : value (r ⊳ h) (node (new h s) Head) ≡ value h (node (new h s) Head) = node_stays lay h r (new h s) Head g.lawful tt (by_scx s New p tt (held_at h (scx s New) (new h s) refl)) in
+      let head : value (r ⊳ h) (node (new h s) (Settled Head)) ≡ value h (node (new h s) (Settled Head)) = node_stays lay h r (new h s) (Settled Head) g.lawful tt (by_scx s New p tt (held_at h (scx s New) (new h s) refl)) in
       let a : is_leaf (value (r ⊳ h)) (new h s) ≡ false = subst (λ c. is_leaf (value (r ⊳ h)) c ≡ false) same_new y.0 in
       let b : is_leaf (value h) (new h s) ≡ false = rw head at a in
       inr (b, ap count_of (sym same_plan) ∙ y.1, (y.2.0, sym (fields b y.2.0) ∙ subst (λ c. value (r ⊳ h) (child c y.2.0) ≡ n) same_new y.2.1))
@@ -131,7 +132,7 @@ module _ (calls : ℕ → MapEdit) (lay : Layout) (h : History) (r : Row) (g : I
     begins_made n e (inr m) =
         let same_new : new (r ⊳ h) u ≡ new h u = freeze_keeps_scx f w u New in
         let a : is_leaf (value (r ⊳ h)) (new h u) ≡ false = subst (λ c. is_leaf (value (r ⊳ h)) c ≡ false) same_new m.0 in
-        let head : value (r ⊳ h) (node (new h u) Head) ≡ value h (node (new h u) Head) = value_apart r h (info (member h u j)) (node (new h u) Head) w.freeze.word (node_word_apart (member h u j) (new h u) Info Head refl) in
+        let head : value (r ⊳ h) (node (new h u) (Settled Head)) ≡ value h (node (new h u) (Settled Head)) = value_apart r h (info (member h u j)) (node (new h u) (Settled Head)) w.freeze.word (node_word_apart (member h u j) (new h u) Info (Settled Head) refl) in
         let b : is_leaf (value h) (new h u) ≡ false = rw head at a in
         let two : count h u ≡ 2 = ap count_of (sym (freeze_keeps_scx f w u Plan)) ∙ m.1 in
         let c : value h (child (new h u) m.2.0) ≡ n = sym (freeze_keeps_field f w (new h u) m.2.0) ∙ subst (λ z. value (r ⊳ h) (child z m.2.0) ≡ n) same_new m.2.1 in

@@ -11,7 +11,8 @@ use Rattle.arena.specs.declared.word.Side.{Side}
 use Rattle.arena.specs.declared.word.Side.TheVariants.{Left, Right}
 use Rattle.arena.specs.declared.word.NodeWord.{NodeWord}
 use Rattle.arena.specs.declared.word.Word.{Word}
-use Rattle.arena.specs.declared.word.NodeWord.TheVariants.{Head, Key, Value, Child, Info, Marked}
+use Rattle.arena.specs.declared.word.NodeWord.TheVariants.{Settled, Child, Info, Marked}
+use Rattle.arena.specs.declared.word.SettledPart.TheVariants.{Head}
 use Rattle.arena.specs.declared.word.ScxWord.TheVariants.{AllFrozen}
 use Rattle.arena.specs.Layout.{opening}
 use Rattle.arena.specs.Words.{node, scx, info, marked, child, state, same_word}
@@ -34,28 +35,27 @@ use Rattle.ordered_map.proofs.TreeRuns.{child_stood, levels_rise, new_stood}
 -- Heads
 
 -- a row leaves the head of a node, or fills it
-head_came : (lay : Layout) (h : History) (r : Row) (n : ℕ) → Lawful lay (r ⊳ h) → (value (r ⊳ h) (node n Head) ≡ value h (node n Head)) ⊎ ((r.kind ≡ Fill) × (r.word ≡ node n Head))
+head_came : (lay : Layout) (h : History) (r : Row) (n : ℕ) → Lawful lay (r ⊳ h) → (value (r ⊳ h) (node n (Settled Head)) ≡ value h (node n (Settled Head))) ⊎ ((r.kind ≡ Fill) × (r.word ≡ node n (Settled Head)))
 head_came lay h r n l = go (change lay h r l)
   where
-    by_part : (k : ℕ) (part : NodeWord) → r.kind ≡ Fill → r.word ≡ node k part → Dec (k ≡ n) → (value (r ⊳ h) (node n Head) ≡ value h (node n Head)) ⊎ ((r.kind ≡ Fill) × (r.word ≡ node n Head))
-    by_part k part f e (no d) = inl (value_apart r h (node k part) (node n Head) e (node_apart k n part Head d))
-    by_part k Head f e (yes q) = inr (f, e ∙ ap (λ (i : ℕ). node i Head) q)
-    by_part k Key f e (yes q) = inl (value_apart r h (node k Key) (node n Head) e (node_word_apart k n Key Head refl))
-    by_part k Value f e (yes q) = inl (value_apart r h (node k Value) (node n Head) e (node_word_apart k n Value Head refl))
-    by_part k (Child side) f e (yes q) = inl (value_apart r h (child k side) (node n Head) e (node_word_apart k n (Child side) Head refl))
-    by_part k Info f e (yes q) = inl (value_apart r h (info k) (node n Head) e (node_word_apart k n Info Head refl))
-    by_part k Marked f e (yes q) = inl (value_apart r h (marked k) (node n Head) e (node_word_apart k n Marked Head refl))
+    by_part : (k : ℕ) (part : NodeWord) → r.kind ≡ Fill → r.word ≡ node k part → Dec (k ≡ n) → (value (r ⊳ h) (node n (Settled Head)) ≡ value h (node n (Settled Head))) ⊎ ((r.kind ≡ Fill) × (r.word ≡ node n (Settled Head)))
+    by_part k part f e (no d) = inl (value_apart r h (node k part) (node n (Settled Head)) e (node_apart k n part (Settled Head) d))
+    by_part k (Settled Head) f e (yes q) = inr (f, e ∙ ap (λ (i : ℕ). node i (Settled Head)) q)
+    by_part k (Settled part) f e (yes q) = inl (value_apart r h (node k (Settled part)) (node n (Settled Head)) e (node_word_apart k n (Settled part) (Settled Head) refl))
+    by_part k (Child side) f e (yes q) = inl (value_apart r h (child k side) (node n (Settled Head)) e (node_word_apart k n (Child side) (Settled Head) refl))
+    by_part k Info f e (yes q) = inl (value_apart r h (info k) (node n (Settled Head)) e (node_word_apart k n Info (Settled Head) refl))
+    by_part k Marked f e (yes q) = inl (value_apart r h (marked k) (node n (Settled Head)) e (node_word_apart k n Marked (Settled Head) refl))
 
-    go : Change lay h r → (value (r ⊳ h) (node n Head) ≡ value h (node n Head)) ⊎ ((r.kind ≡ Fill) × (r.word ≡ node n Head))
-    go (nothing i a) = inl (value_quiet r h (lawful_row lay h r l).before a (node n Head))
+    go : Change lay h r → (value (r ⊳ h) (node n (Settled Head)) ≡ value h (node n (Settled Head))) ⊎ ((r.kind ≡ Fill) × (r.word ≡ node n (Settled Head)))
+    go (nothing i a) = inl (value_quiet r h (lawful_row lay h r l).before a (node n (Settled Head)))
     go (fills_node k part x) = by_part k part x.kind x.word (ℕ_discrete k n)
-    go (fills_scx s part x) = inl (value_apart r h (scx s part) (node n Head) x.word refl)
-    go (freezes s j x) = inl (value_apart r h (info (member h s j)) (node n Head) x.freeze.word (node_word_apart (member h s j) n Info Head refl))
-    go (sets_frozen s k x) = inl (value_apart r h (scx s AllFrozen) (node n Head) x.word refl)
-    go (marks s j k x) = inl (value_apart r h (marked (member h s j)) (node n Head) x.word (node_word_apart (member h s j) n Marked Head refl))
-    go (updates s x) = inl (value_apart r h (field h s) (node n Head) x.update.word (node_word_apart _ n (Child (side_of (plan h s))) Head refl))
-    go (commits s k x) = inl (value_apart r h (state s) (node n Head) x.word refl)
-    go (aborts s j k x) = inl (value_apart r h (state s) (node n Head) x.word refl)
+    go (fills_scx s part x) = inl (value_apart r h (scx s part) (node n (Settled Head)) x.word refl)
+    go (freezes s j x) = inl (value_apart r h (info (member h s j)) (node n (Settled Head)) x.freeze.word (node_word_apart (member h s j) n Info (Settled Head) refl))
+    go (sets_frozen s k x) = inl (value_apart r h (scx s AllFrozen) (node n (Settled Head)) x.word refl)
+    go (marks s j k x) = inl (value_apart r h (marked (member h s j)) (node n (Settled Head)) x.word (node_word_apart (member h s j) n Marked (Settled Head) refl))
+    go (updates s x) = inl (value_apart r h (field h s) (node n (Settled Head)) x.update.word (node_word_apart _ n (Child (side_of (plan h s))) (Settled Head) refl))
+    go (commits s k x) = inl (value_apart r h (state s) (node n (Settled Head)) x.word refl)
+    go (aborts s j k x) = inl (value_apart r h (state s) (node n (Settled Head)) x.word refl)
 
 -- Fields
 
@@ -119,20 +119,20 @@ opening_stood lay (suc (suc zero)) g i = inr refl
 opening_stood lay (suc (suc (suc n))) g i = absurd (omega (i, arith))
 
 -- a row that leaves its head leaves it so
-stood_more : (h : History) (r : Row) (n : ℕ) → value (r ⊳ h) (node n Head) ≡ value h (node n Head) → StoodOrLeaf h n → StoodOrLeaf (r ⊳ h) n
+stood_more : (h : History) (r : Row) (n : ℕ) → value (r ⊳ h) (node n (Settled Head)) ≡ value h (node n (Settled Head)) → StoodOrLeaf h n → StoodOrLeaf (r ⊳ h) n
 stood_more h r n same (inl x) = inl (was_more h r n x)
 stood_more h r n same (inr e) = inr (ap (λ v. eqb (v / 4 % 2) 1) same ∙ e)
 
 -- and so does one that fills it in order
-stood_filled : (lay : Layout) (h : History) (r : Row) (n : ℕ) → Lawful lay (r ⊳ h) → (r.kind ≡ Fill → r.word ≡ node n Head → (eqb (r.after / 4 % 2) 1 ≡ true) ⊎ (¬ HasStoodInField h n)) → HasStoodInField h n → StoodOrLeaf h n → StoodOrLeaf (r ⊳ h) n
-stood_filled lay h r n l order named x = ⊎_elim (λ e. stood_more h r n e x) (λ y. ⊎_elim (λ leaf. inr (ap (λ v. eqb (v / 4 % 2) 1) (value_at r h (node n Head) y.1) ∙ leaf)) (λ none. absurd (none named)) (order y.0 y.1)) (head_came lay h r n l)
+stood_filled : (lay : Layout) (h : History) (r : Row) (n : ℕ) → Lawful lay (r ⊳ h) → (r.kind ≡ Fill → r.word ≡ node n (Settled Head) → (eqb (r.after / 4 % 2) 1 ≡ true) ⊎ (¬ HasStoodInField h n)) → HasStoodInField h n → StoodOrLeaf h n → StoodOrLeaf (r ⊳ h) n
+stood_filled lay h r n l order named x = ⊎_elim (λ e. stood_more h r n e x) (λ y. ⊎_elim (λ leaf. inr (ap (λ v. eqb (v / 4 % 2) 1) (value_at r h (node n (Settled Head)) y.1) ∙ leaf)) (λ none. absurd (none named)) (order y.0 y.1)) (head_came lay h r n l)
 
 came_stood : (lay : Layout) (h : History) (r : Row) (m : ℕ) (side : Side) (n : ℕ) → IsTreeRun lay (r ⊳ h) → AreFilledInOrder (r ⊳ h) → value (r ⊳ h) (child m side) ≡ n → (HasStoodInField h n → StoodOrLeaf h n) → HasStoodInField h n ⊎ StoodOrLeaf (r ⊳ h) n
 came_stood lay h r m side n g order q before = go (field_came lay h r m side n g.1.lawful q)
   where
     go : HasHeld h (child m side) n ⊎ (((r.kind ≡ Fill) × (r.word ≡ child m side) × (r.after ≡ n)) ⊎ ((u : ℕ) × UpdateWins h r u × (new h u ≡ n))) → HasStoodInField h n ⊎ StoodOrLeaf (r ⊳ h) n
     go (inl x) = inl (inr (m, side, x))
-    go (inr (inl x)) = inr (stood_more h r n (value_apart r h (child m side) (node n Head) x.1 (node_word_apart m n (Child side) Head refl)) (subst (StoodOrLeaf h) x.2 (order.1.field m side x.0 x.1)))
+    go (inr (inl x)) = inr (stood_more h r n (value_apart r h (child m side) (node n (Settled Head)) x.1 (node_word_apart m n (Child side) (Settled Head) refl)) (subst (StoodOrLeaf h) x.2 (order.1.field m side x.0 x.1)))
     go (inr (inr x)) = inr (inl (subst (WasInTree (r ⊳ h)) x.2 (new_stood lay h r x.0 g x.1)))
 
 row_stood : (lay : Layout) (h : History) (r : Row) (n : ℕ) → IsTreeRun lay (r ⊳ h) → AreFilledInOrder (r ⊳ h) → (HasStoodInField h n → StoodOrLeaf h n) → HasStoodInField (r ⊳ h) n → StoodOrLeaf (r ⊳ h) n

@@ -5,7 +5,8 @@ use native.Mathlib.Decide.{ℕ_discrete}
 use Rattle.arena.specs.declared.limits.Mode.{Mode}
 use Rattle.arena.specs.declared.word.Side.{Side}
 use Rattle.arena.specs.declared.word.Side.TheVariants.{Left, Right}
-use Rattle.arena.specs.declared.word.NodeWord.TheVariants.{Key, Value}
+use Rattle.arena.specs.declared.word.NodeWord.TheVariants.{Settled}
+use Rattle.arena.specs.declared.word.SettledPart.TheVariants.{Key, Value}
 use Rattle.arena.specs.declared.word.Word.{Word}
 use Rattle.arena.specs.declared.layout.Layout.{Layout}
 use Rattle.arena.specs.declared.step.Row.{Row}
@@ -70,8 +71,8 @@ one_insert h s k v j w a b = go a.edit b.edit
     go (inr p) (inl q) = absurd (let x : true ≡ false = sym q.new.leaf ∙ p.2.fork in cc)
     go (inr p) (inr q) =
         let x : p.0 ≡ q.0 = split_keys h k j v w (member h s 1) (new h s) p.0 p.1 q.0 q.1 p.2 q.2 in
-        let e : k ≡ j = sym p.2.new.key ∙ ap (λ n. value h (node n Key)) x ∙ q.2.new.key in
-        let d : v ≡ w = sym p.2.new.value ∙ ap (λ n. value h (node n Value)) x ∙ q.2.new.value in
+        let e : k ≡ j = sym p.2.new.key ∙ ap (λ n. value h (node n (Settled Key))) x ∙ q.2.new.key in
+        let d : v ≡ w = sym p.2.new.value ∙ ap (λ n. value h (node n (Settled Value))) x ∙ q.2.new.value in
         λ i. Insert (e i) (d i)
 
 -- the pair of a copy that has the words of both

@@ -2,7 +2,8 @@
 use Rattle.std.proofs.Common.{eq-eqb, ◌≡◌, ℕ, ◌<◌, ◌≤◌, true, false, eqb, ◌⊎◌, inl, inr, List, [], ◌∷◌, ◌++◌, refl, sym, ◌∙◌, ap, arith, lt-ltb, le-ltb, ne_eqb, cond}
 use Rattle.std.specs.Prelude.{Option, Some, None, ◌^◌}
 use native.Mathlib.Decide.{ℕ_discrete}
-use Rattle.arena.specs.declared.word.NodeWord.TheVariants.{Key, Value}
+use Rattle.arena.specs.declared.word.NodeWord.TheVariants.{Settled}
+use Rattle.arena.specs.declared.word.SettledPart.TheVariants.{Key, Value}
 use Rattle.arena.specs.declared.word.Word.{Word}
 use Rattle.arena.specs.Words.{node, child}
 use Rattle.ordered_map.specs.declared.pair.Pair.{Pair}
@@ -45,14 +46,14 @@ get_right k (x ∷ xs) ys a = rw (ne_eqb k x.key (λ e. omega (arith, a.0, e))) 
 
 -- what the leaf n says of k as an item
 abbrev pub told : (Word → ℕ) → ℕ → ℕ → Option ℕ
-told f k n = cond (eqb k (rank f n)) (Some (f (node n Value))) None
+told f k n = cond (eqb k (rank f n)) (Some (f (node n (Settled Value)))) None
 
 -- of a key of the map it says what its pairs do
 pub told_said : (f : Word → ℕ) (k n : ℕ) → k < 2 ^ 64 → told f k n ≡ said f k n
 told_said f k n small = go (ℕ_discrete (class f n) 0)
   where
-    go : Dec (class f n ≡ 0) → told f k n ≡ get k (cond (eqb (class f n) 0) (pair (f (node n Key)) (f (node n Value)) ∷ []) [])
-    go (yes e) = rw (eq-eqb (class f n) 0 e) (let r : rank f n ≡ f (node n Key) = omega (arith, e) in rw r refl)
+    go : Dec (class f n ≡ 0) → told f k n ≡ get k (cond (eqb (class f n) 0) (pair (f (node n (Settled Key))) (f (node n (Settled Value))) ∷ []) [])
+    go (yes e) = rw (eq-eqb (class f n) 0 e) (let r : rank f n ≡ f (node n (Settled Key)) = omega (arith, e) in rw r refl)
     go (no d) = rw (ne_eqb (class f n) 0 d, ne_eqb k (rank f n) (λ e. omega (arith, e, d, small))) refl
 
 pub get_leaf : (f : Word → ℕ) (k : ℕ) (t : Tree) (lo hi n : ℕ) → Shows f lo hi t → Passes f k t n → is_leaf f n ≡ true → get k (items f t) ≡ told f k n

@@ -2,7 +2,7 @@
 use Rattle.std.proofs.Common.{◌≡◌, ℕ, ◌<◌, ◌⊎◌, inl, inr, ⊎_elim, sym, ◌∙◌, arith, subst}
 use Rattle.arena.specs.declared.limits.Mode.TheVariants.{Tree as TreeMode}
 use Rattle.arena.specs.declared.word.Side.{Side}
-use Rattle.arena.specs.declared.word.NodeWord.TheVariants.{Head, Key, Value, Child}
+use Rattle.arena.specs.declared.word.NodeWord.TheVariants.{Settled, Child}
 use Rattle.arena.specs.declared.layout.Layout.{Layout}
 use Rattle.arena.specs.declared.step.Row.{Row}
 use Rattle.arena.specs.Words.{child}
@@ -60,9 +60,7 @@ module _ (calls : ℕ → MapEdit) (lay : Layout) (h : History) (r : Row) (g : I
   -- a row that leaves the fields of named nodes leaves the tree
   module _ (fields : (n : ℕ) (side : Side) → IsNamed lay h n → value (r ⊳ h) (child n side) ≡ value h (child n side)) where
     same_words : (n : ℕ) → IsNamed lay h n → Same (value h) (value (r ⊳ h)) n
-    same_words n p Head i = node_stays lay h r n Head g.lawful tt p
-    same_words n p Key i = node_stays lay h r n Key g.lawful tt p
-    same_words n p Value i = node_stays lay h r n Value g.lawful tt p
+    same_words n p (Settled q) i = node_stays lay h r n (Settled q) g.lawful tt p
     same_words n p (Child side) i = fields n side p
     same_words n p _ i = absurd i
 

@@ -4,7 +4,8 @@ use Rattle.std.proofs.Common.{◌≡◌, ◌≢◌, ℕ, ◌+◌, ◌<◌, ◌�
 use native.Mathlib.Decide.{ℕ_discrete}
 use Rattle.arena.specs.declared.limits.Mode.{Mode}
 use Rattle.arena.specs.declared.word.NodeWord.{NodeWord}
-use Rattle.arena.specs.declared.word.NodeWord.TheVariants.{Head, Child, Info, Marked}
+use Rattle.arena.specs.declared.word.NodeWord.TheVariants.{Settled, Child, Info, Marked}
+use Rattle.arena.specs.declared.word.SettledPart.TheVariants.{Head}
 use Rattle.arena.specs.declared.word.ScxWord.TheVariants.{AllFrozen, New}
 use Rattle.arena.specs.declared.word.Word.{Word}
 use Rattle.arena.specs.declared.word.Word.TheVariants.{Node, Scx}
@@ -105,27 +106,27 @@ taken_in (r ⊳ h) n (inr p) = more r.kind r.word (taken_in h n p)
     more _ _ q = q
 
 -- a node behind the opening ones whose head is not 0 was taken
-head_taken : (lay : Layout) (h : History) (n : ℕ) → Lawful lay h → 3 ≤ n → value h (node n Head) ≢ 0 → IsTakenNode h n
-head_taken lay (Start mode) n l i d = absurd (d (value_start mode (node n Head) ∙ no_head mode n (λ e. omega (arith, e)) (λ e. omega (arith, e)) (λ e. omega (arith, e))))
+head_taken : (lay : Layout) (h : History) (n : ℕ) → Lawful lay h → 3 ≤ n → value h (node n (Settled Head)) ≢ 0 → IsTakenNode h n
+head_taken lay (Start mode) n l i d = absurd (d (value_start mode (node n (Settled Head)) ∙ no_head mode n (λ e. omega (arith, e)) (λ e. omega (arith, e)) (λ e. omega (arith, e))))
 head_taken lay (r ⊳ h) n l i d = go (change lay h r l) (head_taken lay h n (lawful_tail lay h r l) i)
   where
-    old : value (r ⊳ h) (node n Head) ≡ value h (node n Head) → (value h (node n Head) ≢ 0 → IsTakenNode h n) → IsTakenNode (r ⊳ h) n
+    old : value (r ⊳ h) (node n (Settled Head)) ≡ value h (node n (Settled Head)) → (value h (node n (Settled Head)) ≢ 0 → IsTakenNode h n) → IsTakenNode (r ⊳ h) n
     old e more = taken_node_more r h n (more (λ q. d (e ∙ q)))
 
-    at_node : (m : ℕ) (part : NodeWord) → r.kind ≡ Fill → r.word ≡ node m part → (value h (node n Head) ≢ 0 → IsTakenNode h n) → Dec (m ≡ n) → IsTakenNode (r ⊳ h) n
+    at_node : (m : ℕ) (part : NodeWord) → r.kind ≡ Fill → r.word ≡ node m part → (value h (node n (Settled Head)) ≢ 0 → IsTakenNode h n) → Dec (m ≡ n) → IsTakenNode (r ⊳ h) n
     at_node m part k w more (yes e) = fill_takes_node r h n part k (w ∙ ap (λ z. node z part) e)
-    at_node m part k w more (no e) = old (value_apart r h (node m part) (node n Head) w (node_apart m n part Head e)) more
+    at_node m part k w more (no e) = old (value_apart r h (node m part) (node n (Settled Head)) w (node_apart m n part (Settled Head) e)) more
 
-    go : Change lay h r → (value h (node n Head) ≢ 0 → IsTakenNode h n) → IsTakenNode (r ⊳ h) n
-    go (nothing j e) more = old (value_quiet r h (lawful_row lay h r l).before e (node n Head)) more
+    go : Change lay h r → (value h (node n (Settled Head)) ≢ 0 → IsTakenNode h n) → IsTakenNode (r ⊳ h) n
+    go (nothing j e) more = old (value_quiet r h (lawful_row lay h r l).before e (node n (Settled Head))) more
     go (fills_node m part x) more = at_node m part x.kind x.word more (ℕ_discrete m n)
-    go (fills_scx u part x) more = old (value_apart r h (scx u part) (node n Head) x.word refl) more
-    go (freezes u j w) more = old (value_apart r h (info (member h u j)) (node n Head) w.freeze.word (node_word_apart (member h u j) n Info Head refl)) more
-    go (sets_frozen u k x) more = old (value_apart r h (scx u AllFrozen) (node n Head) x.word refl) more
-    go (marks u j k x) more = old (value_apart r h (marked (member h u j)) (node n Head) x.word (node_word_apart (member h u j) n Marked Head refl)) more
-    go (updates u w) more = old (value_apart r h (field h u) (node n Head) w.update.word (node_word_apart (member h u (field_index h u)) n (Child (side_of (plan h u))) Head refl)) more
-    go (commits u k x) more = old (value_apart r h (state u) (node n Head) x.word refl) more
-    go (aborts u j k x) more = old (value_apart r h (state u) (node n Head) x.word refl) more
+    go (fills_scx u part x) more = old (value_apart r h (scx u part) (node n (Settled Head)) x.word refl) more
+    go (freezes u j w) more = old (value_apart r h (info (member h u j)) (node n (Settled Head)) w.freeze.word (node_word_apart (member h u j) n Info (Settled Head) refl)) more
+    go (sets_frozen u k x) more = old (value_apart r h (scx u AllFrozen) (node n (Settled Head)) x.word refl) more
+    go (marks u j k x) more = old (value_apart r h (marked (member h u j)) (node n (Settled Head)) x.word (node_word_apart (member h u j) n Marked (Settled Head) refl)) more
+    go (updates u w) more = old (value_apart r h (field h u) (node n (Settled Head)) w.update.word (node_word_apart (member h u (field_index h u)) n (Child (side_of (plan h u))) (Settled Head) refl)) more
+    go (commits u k x) more = old (value_apart r h (state u) (node n (Settled Head)) x.word refl) more
+    go (aborts u j k x) more = old (value_apart r h (state u) (node n (Settled Head)) x.word refl) more
 
 -- The nodes that the entries have put into the tree
 

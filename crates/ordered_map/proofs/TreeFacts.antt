@@ -4,7 +4,8 @@ use native.Mathlib.Decide.{ℕ_discrete}
 use Rattle.arena.specs.declared.limits.Mode.TheVariants.{Tree as TreeMode}
 use Rattle.arena.specs.declared.word.Side.{Side}
 use Rattle.arena.specs.declared.word.NodeWord.{NodeWord}
-use Rattle.arena.specs.declared.word.NodeWord.TheVariants.{Head, Key, Value, Child, Info, Marked}
+use Rattle.arena.specs.declared.word.NodeWord.TheVariants.{Settled, Child, Info, Marked}
+use Rattle.arena.specs.declared.word.SettledPart.TheVariants.{Head}
 use Rattle.arena.specs.declared.word.ScxWord.TheVariants.{New, Member}
 use Rattle.arena.specs.declared.layout.Layout.{Layout}
 use Rattle.arena.specs.declared.step.Row.{Row}
@@ -54,9 +55,7 @@ module _ (calls : ℕ → MapEdit) (lay : Layout) (h : History) (r : Row) (o : l
     (same_log : log lay (r ⊳ h) ≡ log lay h)
     (marks : (n : ℕ) → value h (marked n) ≢ 0 → value (r ⊳ h) (marked n) ≢ 0) where
   same_parts : (n : ℕ) → IsNamed lay h n → Same (value h) (value (r ⊳ h)) n
-  same_parts n p Head i = node_stays lay h r n Head l tt p
-  same_parts n p Key i = node_stays lay h r n Key l tt p
-  same_parts n p Value i = node_stays lay h r n Value l tt p
+  same_parts n p (Settled q) i = node_stays lay h r n (Settled q) l tt p
   same_parts n p (Child side) i = field_stays n side p
   same_parts n p _ i = absurd i
 
@@ -108,7 +107,7 @@ tree_kept calls lay h r f o l t k = record {
     unborn s n d p w x =
         let q : new (r ⊳ h) s ≡ new h s = new_same s n d p in
         let y : is_leaf (value (r ⊳ h)) (new h s) ≡ false = rw q at x in
-        let c : value (r ⊳ h) (node (new h s) Head) ≡ value h (node (new h s) Head) = node_stays lay h r (new h s) Head l tt (by_scx s New (n, p) tt (held_at h (scx s New) (new h s) refl)) in
+        let c : value (r ⊳ h) (node (new h s) (Settled Head)) ≡ value h (node (new h s) (Settled Head)) = node_stays lay h r (new h s) (Settled Head) l tt (by_scx s New (n, p) tt (held_at h (scx s New) (new h s) refl)) in
         let z : is_leaf (value h) (new h s) ≡ false = rw c at y in
         λ i. t.unborn s n d p w z (rw q at i)
 
@@ -206,7 +205,7 @@ module _ (calls : ℕ → MapEdit) (lay : Layout) (h : History) (r : Row) (u j :
       g : is_leaf (value h) (new h s) ≡ false
       g =
           let c : is_leaf (value (r ⊳ h)) (new h s) ≡ false = rw (new_same s) at x in
-          let e : value (r ⊳ h) (node (new h s) Head) ≡ value h (node (new h s) Head) = value_apart r h (info (member h u j)) (node (new h s) Head) z.freeze.word (node_word_apart _ (new h s) Info Head refl) in
+          let e : value (r ⊳ h) (node (new h s) (Settled Head)) ≡ value h (node (new h s) (Settled Head)) = value_apart r h (info (member h u j)) (node (new h s) (Settled Head)) z.freeze.word (node_word_apart _ (new h s) Info (Settled Head) refl) in
           rw e at c
 
       new_not : j ≡ 0 → ¬ Has t.tree (new h u)

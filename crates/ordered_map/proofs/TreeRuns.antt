@@ -4,7 +4,8 @@ use Rattle.std.proofs.Common.{◌≡◌, ◌≢◌, ◌⊎◌, inl, inr, ◌+◌
 use Rattle.arena.specs.declared.layout.Layout.{Layout}
 use Rattle.arena.specs.declared.word.Side.{Side}
 use Rattle.arena.specs.declared.word.Side.TheVariants.{Left, Right}
-use Rattle.arena.specs.declared.word.NodeWord.TheVariants.{Head}
+use Rattle.arena.specs.declared.word.NodeWord.TheVariants.{Settled}
+use Rattle.arena.specs.declared.word.SettledPart.TheVariants.{Head}
 use Rattle.arena.specs.Words.{node, child, marked}
 use Rattle.arena.specs.declared.step.Row.{Row}
 use Rattle.arena.specs.ScxRecords.{new}
@@ -77,7 +78,7 @@ pub passed_blank : (lay : Layout) (h start : History) (k n : ℕ) → IsTreeRun 
 passed_blank lay h start k n g p = stood_blank lay h n g (was_passed h start k n p)
 
 -- the root's head is as at the start: a fork of class 2, whose level is 0
-pub root_head : (lay : Layout) (h : History) → IsTreeRun lay h → value h (node 0 Head) ≡ 2
+pub root_head : (lay : Layout) (h : History) → IsTreeRun lay h → value h (node 0 (Settled Head)) ≡ 2
 root_head lay h g = grown_root (edits_of lay h g).edits lay h (grown lay h g)
 
 -- a node that was on a path and is not final still is on it

@@ -3,7 +3,8 @@ use Rattle.std.proofs.Common.{◌≡◌, ◌≢◌, ℕ, ◌+◌, ◌*◌, ◌/�
 use Rattle.arena.specs.declared.word.Side.{Side}
 use Rattle.arena.specs.declared.word.Side.TheVariants.{Left, Right}
 use Rattle.arena.specs.declared.word.NodeWord.{NodeWord}
-use Rattle.arena.specs.declared.word.NodeWord.TheVariants.{Head, Key, Value, Child}
+use Rattle.arena.specs.declared.word.NodeWord.TheVariants.{Settled, Child}
+use Rattle.arena.specs.declared.word.SettledPart.TheVariants.{Head, Key, Value}
 use Rattle.arena.specs.declared.word.Word.{Word}
 use Rattle.arena.specs.Words.{node, child, same_word}
 use Rattle.arena.proofs.Lemmas.{node_word_apart, node_apart}
@@ -16,7 +17,7 @@ use Rattle.ordered_map.specs.TreeWords.{is_leaf, level, rank, toward, Tree, Leaf
 
 -- the leaves from left to right, each with its rank and value
 abbrev pub items : (Word → ℕ) → Tree → List Pair
-items f (Leaf n) = pair (rank f n) (f (node n Value)) ∷ []
+items f (Leaf n) = pair (rank f n) (f (node n (Settled Value))) ∷ []
 items f (Fork n a b) = items f a ++ items f b
 
 -- the two last leaves
@@ -99,7 +100,7 @@ abbrev pub Same : (Word → ℕ) → (Word → ℕ) → ℕ → Type 0
 Same f g n = (a : NodeWord) → IsNodeFill a → g (node n a) ≡ f (node n a)
 
 pub same_rank : (f g : Word → ℕ) (n : ℕ) → Same f g n → rank g n ≡ rank f n
-same_rank f g n e = λ i. e Head tt i % 4 * 2 ^ 64 + e Key tt i
+same_rank f g n e = λ i. e (Settled Head) tt i % 4 * 2 ^ 64 + e (Settled Key) tt i
 
 pub has_root : (t : Tree) → Has t (root t)
 has_root (Leaf n) = refl
@@ -107,9 +108,9 @@ has_root (Fork n a b) = inl refl
 
 still_over : (f g : Word → ℕ) (n : ℕ) (a b : Tree) → ((m : ℕ) → Has (Fork n a b) m → Same f g m) → IsForkOver f n a b → IsForkOver g n a b
 still_over f g n a b e s =
-    let h : g (node n Head) ≡ f (node n Head) = e n (inl refl) Head tt in
-    let ha : g (node (root a) Head) ≡ f (node (root a) Head) = e (root a) (inr (inl (has_root a))) Head tt in
-    let hb : g (node (root b) Head) ≡ f (node (root b) Head) = e (root b) (inr (inr (has_root b))) Head tt in
+    let h : g (node n (Settled Head)) ≡ f (node n (Settled Head)) = e n (inl refl) (Settled Head) tt in
+    let ha : g (node (root a) (Settled Head)) ≡ f (node (root a) (Settled Head)) = e (root a) (inr (inl (has_root a))) (Settled Head) tt in
+    let hb : g (node (root b) (Settled Head)) ≡ f (node (root b) (Settled Head)) = e (root b) (inr (inr (has_root b))) (Settled Head) tt in
     record {
       fork = rw h s.fork;
       left = e n (inl refl) (Child Left) tt ∙ s.left;
@@ -120,9 +121,9 @@ still_over f g n a b e s =
 
 pub frame : (f g : Word → ℕ) (t : Tree) (lo hi : ℕ) → ((n : ℕ) → Has t n → Same f g n) → Shows f lo hi t → Shows g lo hi t
 frame f g (Leaf n) lo hi e s =
-    let h : g (node n Head) ≡ f (node n Head) = e n refl Head tt in
+    let h : g (node n (Settled Head)) ≡ f (node n (Settled Head)) = e n refl (Settled Head) tt in
     let r : rank g n ≡ rank f n = same_rank f g n (e n refl) in
-    record { leaf = rw h s.leaf; small = rw (e n refl Key tt) s.small; from = omega (arith, r, s.from); below = omega (arith, r, s.below) }
+    record { leaf = rw h s.leaf; small = rw (e n refl (Settled Key) tt) s.small; from = omega (arith, r, s.from); below = omega (arith, r, s.below) }
 frame f g (Fork n a b) lo hi e s =
     let r : rank g n ≡ rank f n = same_rank f g n (e n (inl refl)) in
     let x : Shows g lo (rank f n) a = frame f g a lo (rank f n) (λ m h. e m (inr (inl h))) s.1 in
@@ -130,7 +131,7 @@ frame f g (Fork n a b) lo hi e s =
     (still_over f g n a b e s.0, subst (λ v. Shows g lo v a) (sym r) x, subst (λ v. Shows g v hi b) (sym r) y)
 
 pub frame_items : (f g : Word → ℕ) (t : Tree) → ((n : ℕ) → Has t n → Same f g n) → items g t ≡ items f t
-frame_items f g (Leaf n) e = let r : rank g n ≡ rank f n = same_rank f g n (e n refl) in λ i. pair (r i) (e n refl Value tt i) ∷ []
+frame_items f g (Leaf n) e = let r : rank g n ≡ rank f n = same_rank f g n (e n refl) in λ i. pair (r i) (e n refl (Settled Value) tt i) ∷ []
 frame_items f g (Fork n a b) e =
     let x : items g a ≡ items f a = frame_items f g a (λ m h. e m (inr (inl h))) in
     let y : items g b ≡ items f b = frame_items f g b (λ m h. e m (inr (inr h))) in
@@ -284,12 +285,12 @@ module _ (f g : Word → ℕ) (k p old new : ℕ) (change : List Pair → List P
   off_tree : (t : Tree) → ¬ Has t p → (n : ℕ) → Has t n → Same f g n
   off_tree t d n h = off n (λ e. d (rw (← e) at h))
 
-  head_stays : (n : ℕ) → g (node n Head) ≡ f (node n Head)
-  head_stays n = stays (node n Head) (node_word_apart p n (Child (toward f p k)) Head refl)
+  head_stays : (n : ℕ) → g (node n (Settled Head)) ≡ f (node n (Settled Head))
+  head_stays n = stays (node n (Settled Head)) (node_word_apart p n (Child (toward f p k)) (Settled Head) refl)
 
   rank_stays : (n : ℕ) → rank g n ≡ rank f n
   rank_stays n =
-      let e : g (node n Key) ≡ f (node n Key) = stays (node n Key) (node_word_apart p n (Child (toward f p k)) Key refl) in
+      let e : g (node n (Settled Key)) ≡ f (node n (Settled Key)) = stays (node n (Settled Key)) (node_word_apart p n (Child (toward f p k)) (Settled Key) refl) in
       λ i. head_stays n i % 4 * 2 ^ 64 + e i
 
   rank_moves : (n : ℕ) (P : ℕ → Type 0) → P (rank f n) → P (rank g n)

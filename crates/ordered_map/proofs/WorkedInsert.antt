@@ -10,7 +10,8 @@ use Rattle.arena.specs.declared.step.Kind.TheVariants.{Fill, Freeze, SetFrozen, 
 use Rattle.arena.specs.declared.word.Side.{Side}
 use Rattle.arena.specs.declared.word.Side.TheVariants.{Left, Right}
 use Rattle.arena.specs.declared.word.NodeWord.{NodeWord}
-use Rattle.arena.specs.declared.word.NodeWord.TheVariants.{Head, Key, Value, Child, Info, Marked}
+use Rattle.arena.specs.declared.word.NodeWord.TheVariants.{Settled, Child, Info, Marked}
+use Rattle.arena.specs.declared.word.SettledPart.TheVariants.{Head, Key, Value}
 use Rattle.arena.specs.declared.word.ScxWord.{ScxWord}
 use Rattle.arena.specs.declared.word.ScxWord.TheVariants.{AllFrozen, Plan, New, Old, Member}
 use Rattle.arena.specs.declared.word.Word.{Word}
@@ -52,7 +53,7 @@ filled (f ∷ fs) = row Fill f.0 f.1 (filled fs) ⊳ filled fs
 
 -- the fork 3 over a fresh leaf and a copy of leaf 1, and an SCX-record over the root and leaf 1
 abbrev nodes : List Filled
-nodes = (node 5 Head, 21) ∷ (node 4 Value, 70) ∷ (node 4 Key, 7) ∷ (node 4 Head, 20) ∷ (child 3 Right, 5) ∷ (child 3 Left, 4) ∷ (node 3 Head, 9) ∷ []
+nodes = (node 5 (Settled Head), 21) ∷ (node 4 (Settled Value), 70) ∷ (node 4 (Settled Key), 7) ∷ (node 4 (Settled Head), 20) ∷ (child 3 Right, 5) ∷ (child 3 Left, 4) ∷ (node 3 (Settled Head), 9) ∷ []
 
 abbrev fills : List Filled
 fills = (scx 1 (Member 1), 1) ∷ (scx 1 Old, 1) ∷ (scx 1 New, 3) ∷ (scx 1 Plan, 18) ∷ nodes
@@ -80,9 +81,7 @@ not_info _ i = refl
 fresh_apart : (u w : Word) → IsFreshWord u → IsOldWord w → same_word u w ≡ false
 fresh_apart (Node n a) (Node m Info) f o = node_word_apart n.0 m.0 a Info (not_info a f.1)
 fresh_apart (Node n a) (Node m (Child side)) f o = node_apart n.0 m.0 a (Child side) (λ e. let x = f.0 in omega (arith, e, x, o))
-fresh_apart (Node n a) (Node m Head) f o = absurd o
-fresh_apart (Node n a) (Node m Key) f o = absurd o
-fresh_apart (Node n a) (Node m Value) f o = absurd o
+fresh_apart (Node n a) (Node m (Settled p)) f o = absurd o
 fresh_apart (Node n a) (Node m Marked) f o = absurd o
 fresh_apart (Node n a) (Scx s b) f o = refl
 fresh_apart (Scx s a) (Node m b) f o = refl
@@ -178,9 +177,7 @@ fill_node n part v fs fill from below before x = fill_more (node n part, v) fs (
     opened = open_node fs n x.fresh from below (λ m i j. taken fs m (before m i j))
 
     may : (a : NodeWord) → IsNodeFill a → MayFill lay (filled fs) 0 (node n a) v
-    may Head i = opened
-    may Key i = opened
-    may Value i = opened
+    may (Settled p) i = opened
     may (Child side) i = (opened, λ o. absurd (alone_node v o))
     may Info i = absurd i
     may Marked i = absurd i
@@ -214,18 +211,18 @@ is_three_or_four m i j = go (ℕ_discrete 3 m)
     go (no d) = inr (omega (arith, i, j, d))
 
 -- node 3, node 4, node 5, and the SCX-record
-three_filled : AreLawful ((child 3 Right, 5) ∷ (child 3 Left, 4) ∷ (node 3 Head, 9) ∷ [])
+three_filled : AreLawful ((child 3 Right, 5) ∷ (child 3 Left, 4) ∷ (node 3 (Settled Head), 9) ∷ [])
 three_filled =
     fill_node 3 (Child Right) 5 _ tt (lit≤ tt) (lit< tt) (λ m i j. absurd (omega (arith, i, j)))
     (fill_node 3 (Child Left) 4 _ tt (lit≤ tt) (lit< tt) (λ m i j. absurd (omega (arith, i, j)))
-    (fill_node 3 Head 9 _ tt (lit≤ tt) (lit< tt) (λ m i j. absurd (omega (arith, i, j))) none_filled))
+    (fill_node 3 (Settled Head) 9 _ tt (lit≤ tt) (lit< tt) (λ m i j. absurd (omega (arith, i, j))) none_filled))
 
 nodes_filled : AreLawful nodes
 nodes_filled =
-    fill_node 5 Head 21 _ tt (lit≤ tt) (lit< tt) (λ m i j. ⊎_elim (λ e. inr (inr (inr (inl e)))) inl (is_three_or_four m i j))
-    (fill_node 4 Value 70 _ tt (lit≤ tt) (lit< tt) (λ m i j. inr (inr (inl (is_three m i j))))
-    (fill_node 4 Key 7 _ tt (lit≤ tt) (lit< tt) (λ m i j. inr (inl (is_three m i j)))
-    (fill_node 4 Head 20 _ tt (lit≤ tt) (lit< tt) (λ m i j. inl (is_three m i j)) three_filled)))
+    fill_node 5 (Settled Head) 21 _ tt (lit≤ tt) (lit< tt) (λ m i j. ⊎_elim (λ e. inr (inr (inr (inl e)))) inl (is_three_or_four m i j))
+    (fill_node 4 (Settled Value) 70 _ tt (lit≤ tt) (lit< tt) (λ m i j. inr (inr (inl (is_three m i j))))
+    (fill_node 4 (Settled Key) 7 _ tt (lit≤ tt) (lit< tt) (λ m i j. inr (inl (is_three m i j)))
+    (fill_node 4 (Settled Head) 20 _ tt (lit≤ tt) (lit< tt) (λ m i j. inl (is_three m i j)) three_filled)))
 
 all_filled : AreLawful fills
 all_filled =
@@ -314,9 +311,7 @@ field_filled ((Node m (Child s), w) ∷ fs) n side v x = go (same_word (Node m (
     go b e (inr y) more = ⊎_elim inl (λ z. inr (inr z)) (more y)
     go true e (inl y) more = inr (inl (sym (value_at (row Fill (Node m (Child s)) w (filled fs)) (filled fs) (child n side) (word_same (Node m (Child s)) (child n side) e)) ∙ y))
     go false e (inl y) more = ⊎_elim inl (λ z. inr (inr z)) (more (held_at (filled fs) (child n side) v (sym (value_other (row Fill (Node m (Child s)) w (filled fs)) (filled fs) (child n side) e) ∙ y)))
-field_filled ((Node m Head, w) ∷ fs) n side v x = field_filled fs n side v (held_back (row Fill (Node m Head) w (filled fs)) (filled fs) (child n side) v (value_other (row Fill (Node m Head) w (filled fs)) (filled fs) (child n side) (node_word_apart m.0 n Head (Child side) refl)) x)
-field_filled ((Node m Key, w) ∷ fs) n side v x = field_filled fs n side v (held_back (row Fill (Node m Key) w (filled fs)) (filled fs) (child n side) v (value_other (row Fill (Node m Key) w (filled fs)) (filled fs) (child n side) (node_word_apart m.0 n Key (Child side) refl)) x)
-field_filled ((Node m Value, w) ∷ fs) n side v x = field_filled fs n side v (held_back (row Fill (Node m Value) w (filled fs)) (filled fs) (child n side) v (value_other (row Fill (Node m Value) w (filled fs)) (filled fs) (child n side) (node_word_apart m.0 n Value (Child side) refl)) x)
+field_filled ((Node m (Settled p), w) ∷ fs) n side v x = field_filled fs n side v (held_back (row Fill (Node m (Settled p)) w (filled fs)) (filled fs) (child n side) v (value_other (row Fill (Node m (Settled p)) w (filled fs)) (filled fs) (child n side) (node_word_apart m.0 n (Settled p) (Child side) refl)) x)
 field_filled ((Node m Info, w) ∷ fs) n side v x = field_filled fs n side v (held_back (row Fill (Node m Info) w (filled fs)) (filled fs) (child n side) v (value_other (row Fill (Node m Info) w (filled fs)) (filled fs) (child n side) (node_word_apart m.0 n Info (Child side) refl)) x)
 field_filled ((Node m Marked, w) ∷ fs) n side v x = field_filled fs n side v (held_back (row Fill (Node m Marked) w (filled fs)) (filled fs) (child n side) v (value_other (row Fill (Node m Marked) w (filled fs)) (filled fs) (child n side) (node_word_apart m.0 n Marked (Child side) refl)) x)
 field_filled ((Scx s part, w) ∷ fs) n side v x = field_filled fs n side v (held_back (row Fill (Scx s part) w (filled fs)) (filled fs) (child n side) v (value_other (row Fill (Scx s part) w (filled fs)) (filled fs) (child n side) refl) x)

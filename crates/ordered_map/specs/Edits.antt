@@ -2,7 +2,8 @@
 use Rattle.std.specs.Prelude.{◌≡◌, ℕ, ◌+◌, ◌<◌, true, false, ◌⊎◌}
 use Rattle.arena.specs.declared.word.Side.{Side}
 use Rattle.arena.specs.declared.word.Side.TheVariants.{Left, Right}
-use Rattle.arena.specs.declared.word.NodeWord.TheVariants.{Head, Key, Value}
+use Rattle.arena.specs.declared.word.NodeWord.TheVariants.{Settled}
+use Rattle.arena.specs.declared.word.SettledPart.TheVariants.{Head, Key, Value}
 use Rattle.arena.specs.declared.word.Word.{Word}
 use Rattle.arena.specs.Words.{node, child}
 use Rattle.ordered_map.specs.TreeWords.{class, is_leaf, level, rank}
@@ -11,25 +12,25 @@ use Rattle.ordered_map.specs.TreeWords.{class, is_leaf, level, rank}
 pub record IsPairLeaf (f : Word → ℕ) (n k v : ℕ) : Type 0 where
   pub leaf : is_leaf f n ≡ true
   pub class : class f n ≡ 0
-  pub key : f (node n Key) ≡ k
-  pub value : f (node n Value) ≡ v
+  pub key : f (node n (Settled Key)) ≡ k
+  pub value : f (node n (Settled Value)) ≡ v
 
 -- n has the class and the key of m
 pub record IsAlike (f : Word → ℕ) (n m : ℕ) : Type 0 where
   pub class : class f n ≡ class f m
-  pub key : f (node n Key) ≡ f (node m Key)
+  pub key : f (node n (Settled Key)) ≡ f (node m (Settled Key))
 
 -- the leaf c is a copy of the leaf l
 pub record IsLeafCopy (f : Word → ℕ) (c l : ℕ) : Type 0 where
   pub leaf : is_leaf f c ≡ true
   pub alike : IsAlike f c l
-  pub value : f (node c Value) ≡ f (node l Value)
+  pub value : f (node c (Settled Value)) ≡ f (node l (Settled Value))
 
 -- a leaf of the key is replaced by another leaf
 pub record IsSwap (f : Word → ℕ) (k v l c : ℕ) : Type 0 where
   pub leaf : is_leaf f l ≡ true
   pub class : class f l ≡ 0
-  pub key : f (node l Key) ≡ k
+  pub key : f (node l (Settled Key)) ≡ k
   pub new : IsPairLeaf f c k v
   pub deep : level f c ≡ level f l
 
@@ -51,10 +52,10 @@ pub record IsJoin (f : Word → ℕ) (k q l z c : ℕ) : Type 0 where
   pub fork : is_leaf f q ≡ false
   pub leaf : is_leaf f l ≡ true
   pub class : class f l ≡ 0
-  pub key : f (node l Key) ≡ k
-  pub same_head : f (node c Head) ≡ f (node z Head)
-  pub same_key : f (node c Key) ≡ f (node z Key)
-  pub same_value : is_leaf f z ≡ true → f (node c Value) ≡ f (node z Value)
+  pub key : f (node l (Settled Key)) ≡ k
+  pub same_head : f (node c (Settled Head)) ≡ f (node z (Settled Head))
+  pub same_key : f (node c (Settled Key)) ≡ f (node z (Settled Key))
+  pub same_value : is_leaf f z ≡ true → f (node c (Settled Value)) ≡ f (node z (Settled Value))
 
 -- the fields of q are l and z
 abbrev pub AreBelow : (Word → ℕ) → ℕ → ℕ → ℕ → Type 0

@@ -2,7 +2,8 @@
 -- fill the words of nodes so that they do: the table of kinds leaves that open.
 use Rattle.std.specs.Prelude.{◌≡◌, ℕ, ◌/◌, ◌%◌, ◌<◌, true, false, ◌⊎◌, ◌==◌, IsTrue}
 use Rattle.arena.specs.declared.word.Side.{Side}
-use Rattle.arena.specs.declared.word.NodeWord.TheVariants.{Head}
+use Rattle.arena.specs.declared.word.NodeWord.TheVariants.{Settled}
+use Rattle.arena.specs.declared.word.SettledPart.TheVariants.{Head}
 use Rattle.arena.specs.declared.step.Kind.TheVariants.{Fill}
 use Rattle.arena.specs.declared.step.Row.{Row}
 use Rattle.arena.specs.Words.{node, child}
@@ -21,7 +22,7 @@ HasRisingLevels h = (n : ℕ) (side : Side) → HasStoodInField h n → is_leaf 
 -- a node whose head is filled gets the head of a leaf, or no field has named it; what is put into a
 -- field has stood in the tree, or is a leaf by its head
 pub record IsFillInOrder (h : History) (r : Row) : Type 0 where
-  pub head : (n : ℕ) → r.kind ≡ Fill → r.word ≡ node n Head → IsTrue (r.after / 4 % 2 == 1) ⊎ (¬ HasStoodInField h n)
+  pub head : (n : ℕ) → r.kind ≡ Fill → r.word ≡ node n (Settled Head) → IsTrue (r.after / 4 % 2 == 1) ⊎ (¬ HasStoodInField h n)
   pub field : (n : ℕ) (side : Side) → r.kind ≡ Fill → r.word ≡ child n side → WasInTree h r.after ⊎ (is_leaf (value h) r.after ≡ true)
 
 -- each fill of the history is in order

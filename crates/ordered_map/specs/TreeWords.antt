@@ -2,7 +2,8 @@
 use Rattle.std.specs.Prelude.{◌≡◌, ◌≢◌, ℕ, ◌+◌, ◌*◌, ◌/◌, ◌%◌, ◌^◌, ◌<◌, ◌≤◌, Bool, true, false, if◌then◌else◌, ◌==◌, nat_lt, ◌⊎◌, List, [], ◌∷◌, ◌++◌, Option, Some, None}
 use Rattle.arena.specs.declared.word.Side.{Side}
 use Rattle.arena.specs.declared.word.Side.TheVariants.{Left, Right}
-use Rattle.arena.specs.declared.word.NodeWord.TheVariants.{Head, Key, Value}
+use Rattle.arena.specs.declared.word.NodeWord.TheVariants.{Settled}
+use Rattle.arena.specs.declared.word.SettledPart.TheVariants.{Head, Key, Value}
 use Rattle.arena.specs.declared.word.Word.{Word}
 use Rattle.arena.specs.Words.{node, child}
 use Rattle.ordered_map.specs.declared.pair.Pair.{Pair}
@@ -12,24 +13,24 @@ use Rattle.ordered_map.specs.OrderedMap.{pair, get}
 
 -- keys of class 0 are those of the map; above all of them stand those of class 1, then of class 2
 abbrev pub class : (Word → ℕ) → ℕ → ℕ
-class f n = f (node n Head) % 4
+class f n = f (node n (Settled Head)) % 4
 
 -- whether it is a leaf; otherwise it is a fork
 abbrev pub is_leaf : (Word → ℕ) → ℕ → Bool
-is_leaf f n = f (node n Head) / 4 % 2 == 1
+is_leaf f n = f (node n (Settled Head)) / 4 % 2 == 1
 
 -- what rises from each fork to its children
 abbrev pub level : (Word → ℕ) → ℕ → ℕ
-level f n = f (node n Head) / 8
+level f n = f (node n (Settled Head)) / 8
 
 -- class and key as one number: the class is compared first, since keys are below 2 ^ 64
 abbrev pub rank : (Word → ℕ) → ℕ → ℕ
-rank f n = class f n * 2 ^ 64 + f (node n Key)
+rank f n = class f n * 2 ^ 64 + f (node n (Settled Key))
 
 -- a node that is above all keys is blank: its key is 0, and if it is a leaf its value too
 pub record IsBlankAboveKeys (f : Word → ℕ) (n : ℕ) : Type 0 where
-  pub key : class f n ≢ 0 → f (node n Key) ≡ 0
-  pub value : class f n ≢ 0 → is_leaf f n ≡ true → f (node n Value) ≡ 0
+  pub key : class f n ≢ 0 → f (node n (Settled Key)) ≡ 0
+  pub value : class f n ≢ 0 → is_leaf f n ≡ true → f (node n (Settled Value)) ≡ 0
 
 -- on which side of the fork n the key k stands
 abbrev pub toward : (Word → ℕ) → ℕ → ℕ → Side
@@ -37,7 +38,7 @@ toward f n k = if nat_lt k (rank f n) then Left else Right
 
 -- what the leaf n holds: its pairs, by rising key
 abbrev pub leaf_pairs : (Word → ℕ) → ℕ → List Pair
-leaf_pairs f n = if class f n == 0 then pair (f (node n Key)) (f (node n Value)) ∷ [] else []
+leaf_pairs f n = if class f n == 0 then pair (f (node n (Settled Key))) (f (node n (Settled Value))) ∷ [] else []
 
 -- what the leaf n says of the key k
 abbrev pub said : (Word → ℕ) → ℕ → ℕ → Option ℕ
@@ -45,7 +46,7 @@ said f k n = get k (leaf_pairs f n)
 
 -- what the leaf n says of the least key, where it is the first leaf
 abbrev pub first_said : (Word → ℕ) → ℕ → Option Pair
-first_said f n = if class f n == 0 then Some (pair (f (node n Key)) (f (node n Value))) else None
+first_said f n = if class f n == 0 then Some (pair (f (node n (Settled Key))) (f (node n (Settled Value)))) else None
 
 -- A tree of nodes, by their numbers
 
@@ -70,7 +71,7 @@ pub record IsForkOver (f : Word → ℕ) (n : ℕ) (a b : Tree) : Type 0 where
 -- node n is a leaf with a rank from `low` to below `high`
 pub record IsLeaf (f : Word → ℕ) (n low high : ℕ) : Type 0 where
   pub leaf : is_leaf f n ≡ true
-  pub small : f (node n Key) < 2 ^ 64
+  pub small : f (node n (Settled Key)) < 2 ^ 64
   pub from : low ≤ rank f n
   pub below : rank f n < high
 

@@ -5,7 +5,8 @@ use Rattle.std.specs.Prelude.{◌≡◌, ℕ, suc, ◌+◌, Bool, true, false, i
 use Rattle.arena.specs.declared.step.Row.{Row}
 use Rattle.arena.specs.declared.step.Kind.{Kind}
 use Rattle.arena.specs.declared.step.Kind.TheVariants.{LoadSettled}
-use Rattle.arena.specs.declared.word.NodeWord.TheVariants.{Head}
+use Rattle.arena.specs.declared.word.NodeWord.TheVariants.{Settled}
+use Rattle.arena.specs.declared.word.SettledPart.TheVariants.{Head}
 use Rattle.arena.specs.Blame.{WasInTheWay}
 use Rattle.arena.specs.History.{History, Start, ◌⊳◌, Extends}
 use Rattle.arena.specs.Words.{node, same_word}
@@ -17,7 +18,7 @@ is_settled_load _ = false
 
 -- whether the row begins a try of the pass c: it loads the root's head
 abbrev pub begins_try : ℕ → Row → Bool
-begins_try c r = r.pass.0 == c && (is_settled_load r.kind && same_word r.word (node 0 Head))
+begins_try c r = r.pass.0 == c && (is_settled_load r.kind && same_word r.word (node 0 (Settled Head)))
 
 -- how many tries the pass c has begun
 unfoldable pub tries_begun : ℕ → History → ℕ

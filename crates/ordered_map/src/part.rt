@@ -3,10 +3,11 @@ ghost use Rattle.std.specs.Prelude.{◌≡◌, ℕ, ◌+◌, ◌*◌, ◌/◌, �
 ghost use Rattle.arena.specs.Layout.{all_nodes};
 ghost use Rattle.arena.specs.Words.{node};
 ghost use Rattle.arena.specs.PlainWords.{word_at};
-ghost use Rattle.arena.specs.declared.word.NodeWord.TheVariants.{Head, Key};
+ghost use Rattle.arena.specs.declared.word.NodeWord.TheVariants.{Settled};
+ghost use Rattle.arena.specs.declared.word.SettledPart.TheVariants.{Head, Key};
 ghost use Rattle.ordered_map.specs.Parts.{IsFit, IsSeen, IsRoot};
 
-use arena::{NodeNo, NodeWord, PlainWords, Side, Word};
+use arena::{NodeNo, NodeWord, PlainWords, SettledPart, Side, Word};
 
 /// A part of the tree: its root, a level that the root's is not below, and the ranks of its leaves,
 /// from `low` to below `high`.
@@ -42,20 +43,20 @@ pub(crate) fn look(words: &PlainWords, part: Part) -> Seen
         return Seen::Nothing;
     }
     let node = NodeNo(part.node);
-    let head = words.get(Word::Node(node, NodeWord::Head));
+    let head = words.get(Word::Node(node, NodeWord::Settled(SettledPart::Head)));
     look_at(
         words,
         part,
         head,
-        words.get(Word::Node(node, NodeWord::Key)),
+        words.get(Word::Node(node, NodeWord::Settled(SettledPart::Key))),
     )
 }
 
 /// The same, at a root of the table with this head and this key.
 fn look_at(words: &PlainWords, part: Part, head: u64, key: u64) -> Seen
     requires inside { part.node < all_nodes words.now.layout }
-    requires head { head ≡ word_at words.now (node part.node Head) }
-    requires key { key ≡ word_at words.now (node part.node Key) }
+    requires head { head ≡ word_at words.now (node part.node (Settled Head)) }
+    requires key { key ≡ word_at words.now (node part.node (Settled Key)) }
     ensures { IsSeen words.now part result }
 {
     let rank = rank_of(head, key);

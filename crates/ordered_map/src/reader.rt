@@ -8,7 +8,7 @@ ghost use Rattle.ordered_map.specs.Parts.{ShowLeaves, HasEnds, HoldPairs, AreIns
 
 use crate::pair::Pair;
 use crate::part::{Part, Seen, look};
-use arena::{NoMemory, NodeNo, NodeWord, PlainWords, Word};
+use arena::{NoMemory, NodeNo, NodeWord, PlainWords, SettledPart, Word};
 use std::alloc::Global;
 
 /// The map that the words spell: the pairs of the tree that they show from node 0, by rising key.
@@ -59,7 +59,7 @@ fn class_of(words: &PlainWords, node: u64) -> u64
     requires { node < all_nodes words.now.layout }
     ensures { result ≡ class (word_at words.now) node }
 {
-    words.get(Word::Node(NodeNo(node), NodeWord::Head)) % 4
+    words.get(Word::Node(NodeNo(node), NodeWord::Settled(SettledPart::Head))) % 4
 }
 
 /// The map that is spelled where the words show a tree with these leaves.
@@ -118,7 +118,7 @@ fn pair_of(words: &PlainWords, leaf: u64) -> Pair
 {
     let node = NodeNo(leaf);
     Pair {
-        key: words.get(Word::Node(node, NodeWord::Key)),
-        value: words.get(Word::Node(node, NodeWord::Value)),
+        key: words.get(Word::Node(node, NodeWord::Settled(SettledPart::Key))),
+        value: words.get(Word::Node(node, NodeWord::Settled(SettledPart::Value))),
     }
 }
