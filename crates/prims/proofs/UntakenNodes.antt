@@ -2,7 +2,8 @@
 use Rattle.std.proofs.Common.{◌≡◌, ◌≢◌, ℕ, inl, inr, sym, subst}
 use Rattle.arena.specs.declared.layout.Layout.{Layout}
 use Rattle.arena.specs.declared.word.NodeWord.{NodeWord}
-use Rattle.arena.specs.declared.word.NodeWord.TheVariants.{Head, Key, Value, Child, Info, Marked}
+use Rattle.arena.specs.declared.word.NodeWord.TheVariants.{Settled, Child, Info, Marked}
+use Rattle.arena.specs.declared.word.SettledPart.TheVariants.{Value}
 use Rattle.arena.specs.declared.word.Word.{Word}
 use Rattle.arena.specs.declared.word.Word.TheVariants.{Node, Scx as ScxOf}
 use Rattle.arena.specs.declared.step.Row.{Row}
@@ -38,9 +39,7 @@ taken_node_since (r ⊳ h) m n (inr e) t = taken_node_more r h n (taken_node_sin
 
 -- what a pass may fill is its own
 fills_own : (lay : Layout) (h : History) (c n : ℕ) (part : NodeWord) (v : ℕ) → MayFill lay h c (node n part) v → IsOwnNode lay c n
-fills_own lay h c n Head v m = m.own
-fills_own lay h c n Key v m = m.own
-fills_own lay h c n Value v m = m.own
+fills_own lay h c n (Settled p) v m = m.own
 fills_own lay h c n (Child side) v m = m.0.own
 fills_own lay h c n Info v m = absurd m
 fills_own lay h c n Marked v m = absurd m
@@ -82,7 +81,7 @@ node_number (ScxOf s part) = 0
 -- nor a row at a place, but of its fresh node
 fills_no_other : (allows : Layout → History → ℕ → Type 0) (m : PutRun) (c : Call) (h : History) (at : PutAt) (s : Step) (n : ℕ) → PutWaitsAt allows c h m at s → n ≢ m.scx.update.fresh.0 → ¬ IsFillOfNode n (row_of c s h)
 fills_no_other allows m c h Start s n w other = absurd w
-fills_no_other allows m c h AtFill s n w other = λ x. (let e : node m.scx.update.fresh.0 Value ≡ node n x.0 = rw w.2 at x.2 in other (λ i. node_number (sym e i)))
+fills_no_other allows m c h AtFill s n w other = λ x. (let e : node m.scx.update.fresh.0 (Settled Value) ≡ node n x.0 = rw w.2 at x.2 in other (λ i. node_number (sym e i)))
 fills_no_other allows m c h Scx s n w other = fills_no_node allows (job_of m.scx) c h m.scx.at s n w.1
 
 -- it takes no node but its own

@@ -5,7 +5,8 @@ use Rattle.arena.specs.declared.layout.Layout.{Layout}
 use Rattle.arena.specs.declared.step.Row.{Row}
 use Rattle.arena.specs.declared.step.Kind.TheVariants.{Fill}
 use Rattle.arena.specs.declared.word.NodeWord.{NodeWord}
-use Rattle.arena.specs.declared.word.NodeWord.TheVariants.{Value, Child, Info, Marked}
+use Rattle.arena.specs.declared.word.NodeWord.TheVariants.{Settled, Child, Info, Marked}
+use Rattle.arena.specs.declared.word.SettledPart.TheVariants.{Value}
 use Rattle.arena.specs.declared.word.ScxWord.{ScxWord}
 use Rattle.arena.specs.declared.word.ScxWord.TheVariants.{State, AllFrozen}
 use Rattle.arena.specs.ScxRecords.{member, side_of, plan, field, field_index}
@@ -36,30 +37,30 @@ words_unfilled lay h r s l no_fill a i = go (change lay h r l)
     go (aborts u j k x) = value_apart r h (state u) (scx s a) x.word (scx_word_apart u s State a (not_state a i))
 
 -- a row that fills no word of node n leaves its value as it was
-pub value_unfilled : (lay : Layout) (h : History) (r : Row) (n : ℕ) → Lawful lay (r ⊳ h) → ((part : NodeWord) → ¬ FillsNode lay h r n part) → value (r ⊳ h) (node n Value) ≡ value h (node n Value)
+pub value_unfilled : (lay : Layout) (h : History) (r : Row) (n : ℕ) → Lawful lay (r ⊳ h) → ((part : NodeWord) → ¬ FillsNode lay h r n part) → value (r ⊳ h) (node n (Settled Value)) ≡ value h (node n (Settled Value))
 value_unfilled lay h r n l no_fill = go (change lay h r l)
   where
-    go : Change lay h r → value (r ⊳ h) (node n Value) ≡ value h (node n Value)
-    go (nothing j e) = value_quiet r h (lawful_row lay h r l).before e (node n Value)
+    go : Change lay h r → value (r ⊳ h) (node n (Settled Value)) ≡ value h (node n (Settled Value))
+    go (nothing j e) = value_quiet r h (lawful_row lay h r l).before e (node n (Settled Value))
     go (fills_node m part x) = by_fill (ℕ_discrete m n)
       where
-        by_fill : Dec (m ≡ n) → value (r ⊳ h) (node n Value) ≡ value h (node n Value)
+        by_fill : Dec (m ≡ n) → value (r ⊳ h) (node n (Settled Value)) ≡ value h (node n (Settled Value))
         by_fill (yes e) = absurd (no_fill part (subst (λ k. FillsNode lay h r k part) e x))
-        by_fill (no d) = value_apart r h (node m part) (node n Value) x.word (node_apart m n part Value d)
-    go (fills_scx u part x) = value_apart r h (scx u part) (node n Value) x.word refl
-    go (freezes u j w) = value_apart r h (info (member h u j)) (node n Value) w.freeze.word (node_word_apart (member h u j) n Info Value refl)
-    go (sets_frozen u k x) = value_apart r h (scx u AllFrozen) (node n Value) x.word refl
-    go (marks u j k x) = value_apart r h (marked (member h u j)) (node n Value) x.word (node_word_apart (member h u j) n Marked Value refl)
-    go (updates u w) = value_apart r h (field h u) (node n Value) w.update.word (node_word_apart (member h u (field_index h u)) n (Child (side_of (plan h u))) Value refl)
-    go (commits u k x) = value_apart r h (state u) (node n Value) x.word refl
-    go (aborts u j k x) = value_apart r h (state u) (node n Value) x.word refl
+        by_fill (no d) = value_apart r h (node m part) (node n (Settled Value)) x.word (node_apart m n part (Settled Value) d)
+    go (fills_scx u part x) = value_apart r h (scx u part) (node n (Settled Value)) x.word refl
+    go (freezes u j w) = value_apart r h (info (member h u j)) (node n (Settled Value)) w.freeze.word (node_word_apart (member h u j) n Info (Settled Value) refl)
+    go (sets_frozen u k x) = value_apart r h (scx u AllFrozen) (node n (Settled Value)) x.word refl
+    go (marks u j k x) = value_apart r h (marked (member h u j)) (node n (Settled Value)) x.word (node_word_apart (member h u j) n Marked (Settled Value) refl)
+    go (updates u w) = value_apart r h (field h u) (node n (Settled Value)) w.update.word (node_word_apart (member h u (field_index h u)) n (Child (side_of (plan h u))) (Settled Value) refl)
+    go (commits u k x) = value_apart r h (state u) (node n (Settled Value)) x.word refl
+    go (aborts u j k x) = value_apart r h (state u) (node n (Settled Value)) x.word refl
 
 -- rows of other passes leave the settled words of a pass's own SCX-record
 pub own_words_unfilled : (lay : Layout) (h : History) (r : Row) (c s : ℕ) → Lawful lay (r ⊳ h) → r.pass.0 ≢ c → IsOwnScx lay c s → (a : ScxWord) → IsScxFill a → value (r ⊳ h) (scx s a) ≡ value h (scx s a)
 own_words_unfilled lay h r c s l other own = words_unfilled lay h r s l (λ part x. other (one_scx_owner lay r.pass.0 c s x.is_open.own own))
 
 -- rows of other passes leave the value of a pass's own node
-pub own_value_unfilled : (lay : Layout) (h : History) (r : Row) (c n : ℕ) → Lawful lay (r ⊳ h) → r.pass.0 ≢ c → IsOwnNode lay c n → value (r ⊳ h) (node n Value) ≡ value h (node n Value)
+pub own_value_unfilled : (lay : Layout) (h : History) (r : Row) (c n : ℕ) → Lawful lay (r ⊳ h) → r.pass.0 ≢ c → IsOwnNode lay c n → value (r ⊳ h) (node n (Settled Value)) ≡ value h (node n (Settled Value))
 own_value_unfilled lay h r c n l other own = value_unfilled lay h r n l (λ part x. other (one_node_owner lay r.pass.0 c n x.is_open.own own))
 
 -- a row that is no fill leaves the settled words of every SCX-record
@@ -67,5 +68,5 @@ pub step_words : (lay : Layout) (h : History) (r : Row) (s : ℕ) → Lawful lay
 step_words lay h r s l no_fill = words_unfilled lay h r s l (λ part x. no_fill x.kind)
 
 -- a row that is no fill leaves the value of every node
-pub step_value : (lay : Layout) (h : History) (r : Row) (n : ℕ) → Lawful lay (r ⊳ h) → r.kind ≢ Fill → value (r ⊳ h) (node n Value) ≡ value h (node n Value)
+pub step_value : (lay : Layout) (h : History) (r : Row) (n : ℕ) → Lawful lay (r ⊳ h) → r.kind ≢ Fill → value (r ⊳ h) (node n (Settled Value)) ≡ value h (node n (Settled Value))
 step_value lay h r n l no_fill = value_unfilled lay h r n l (λ part x. no_fill x.kind)
