@@ -77,7 +77,7 @@ tree_step calls lay h r o l allowed t = go (effect lay h r l)
     go (freeze s j w) = tree_frozen calls lay h r s j f w o l t (λ q. allowed s (first_begins lay h r s j f w q))
     go (update s w) = tree_updated calls lay h r s f w o l t
 
-start_mode : (lay : Layout) (mode : Mode) → Lawful lay (Start mode) → mode ≡ lay.mode
+pub start_mode : (lay : Layout) (mode : Mode) → Lawful lay (Start mode) → mode ≡ lay.mode
 unfolding Lawful
 start_mode lay mode l = l
 

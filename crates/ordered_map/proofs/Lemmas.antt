@@ -1,13 +1,13 @@
 -- What the layers above know of histories of the tree, passed on from one place: no other module of
 -- these proofs can be named outside. Declares nothing.
-pub use Rattle.ordered_map.proofs.Meanings.{one_spelling, opening_run, opening_spells, run_since, log_edits, spells_log, run_spells, run_spells_log, won_makes, win_edits, win_makes, wins_of, quiet_spells, makes_since, below_root, leaf_covered, walk_first, walk_next, walk_rises, walk_named, walk_answers}
+pub use Rattle.ordered_map.proofs.Meanings.{one_spelling, opening_run, opening_spells, run_since, log_edits, spells_log, run_spells, entered_begun, update_makes, win_makes, wins_of, quiet_spells, makes_since, below_root, leaf_covered, walk_first, walk_next, walk_rises, walk_named, walk_answers}
 pub use Rattle.ordered_map.proofs.Stood.{was_now, was_passed}
 pub use Rattle.ordered_map.proofs.Past.{walk_stays}
 pub use Rattle.ordered_map.proofs.Inside.{tree_inside, walk_inside}
 pub use Rattle.ordered_map.proofs.TreeRuns.{tree_not_final, path_not_final, path_remains, tree_remains, new_stood, levels_rise, stood_blank, passed_blank, root_head, passed_unmarked, passed_level, log_short, passed_depth, child_stood, child_not_final, stood_depth, stood_settled, stood_in_field, children_apart}
 pub use Rattle.ordered_map.proofs.Blamed.{blame_finalizer, passed_finalized}
 pub use Rattle.ordered_map.proofs.ChangedFields.{blame_field}
-pub use Rattle.ordered_map.proofs.Runs.{one_edit, makes_one, begun_named, shaped_change}
+pub use Rattle.ordered_map.proofs.Runs.{makes_at, begun_named, shaped_change}
 pub use Rattle.ordered_map.proofs.Edited.{plan_insert, plan_delete}
 pub use Rattle.ordered_map.proofs.Moved.{SameSettled, settled_rank, settled_toward, settled_class, settled_leaf, settled_level, settled_first, move_swap, move_split, move_join}
 pub use Rattle.ordered_map.proofs.Next.{first, search_next, search_is}

@@ -1,6 +1,6 @@
 -- What a run under the shape of the tree says, whatever edits it makes: the map that the words
 -- spell, what a winning update makes of it, and what walks find.
-use Rattle.std.proofs.Common.{◌≡◌, ◌≢◌, ℕ, ◌^◌, ◌<◌, true, false, inl, inr, ⊎_elim, List, [], ◌∷◌, refl, sym, ◌∙◌, ap, arith, subst}
+use Rattle.std.proofs.Common.{◌≡◌, ◌≢◌, ℕ, ◌^◌, ◌<◌, true, false, cond, eq-eqb, inl, inr, ⊎_elim, List, [], refl, sym, ◌∙◌, ap, arith, subst}
 use native.Mathlib.Decide.{ℕ_discrete}
 use Rattle.arena.specs.declared.limits.Mode.TheVariants.{Tree as TreeMode}
 use Rattle.arena.specs.declared.word.Side.{Side}
@@ -15,7 +15,7 @@ use Rattle.arena.specs.Blame.{IsMember}
 use Rattle.arena.specs.ScxRecords.{member, plan}
 use Rattle.arena.specs.Fills.{IsNamed, IsNamedScx}
 use Rattle.arena.specs.Lawful.{Lawful, IsWin, HasWon}
-use Rattle.arena.specs.Log.{Entry, log, IsEntered}
+use Rattle.arena.specs.Log.{log, IsEntered}
 use Rattle.arena.specs.Shape.{IsBegin, Shaped}
 use Rattle.arena.proofs.Lemmas.{held_back, held_start, opening_info, ends_self, ends_trans, value_apart}
 use Rattle.histories.proofs.Lemmas.{Effect, Facts, IsFirst, Logs, begins_once, scx_since, logs, same, wins, UpdateWins, effect, entered_won, facts, facts_before, freeze, freeze_held, lawful_row, lawful_since, lawful_tail, named_since, quiet, shaped_begin, shaped_since, shaped_tail, some_is_real, update, update_flagged, update_held, won_named, won_real}
@@ -32,10 +32,10 @@ use Rattle.ordered_map.specs.TreeWords.{class, is_leaf, level, toward, pairs, sa
 use Rattle.ordered_map.proofs.Moved.{settled_toward}
 use Rattle.ordered_map.proofs.TreeFacts.{TreeFacts}
 use Rattle.ordered_map.proofs.Edited.{past, plan_insert, plan_delete, content_now, leaf_is, replies}
-use Rattle.ordered_map.proofs.Grown.{IsGrown, tree_facts, first_begins, grown_tail, grown_since}
+use Rattle.ordered_map.proofs.Grown.{IsGrown, tree_facts, first_begins, grown_tail, grown_since, start_mode}
 use Rattle.ordered_map.proofs.Past.{path_named, Answered, walk_begins, walk_goes_on, walk_ends, level_rises}
 use Rattle.ordered_map.proofs.Growing.{spells, root_leaf, root_left}
-use Rattle.ordered_map.proofs.Runs.{HasEdits, begin_names, has_edits, makes_one}
+use Rattle.ordered_map.proofs.Runs.{HasEdits, begin_names, edit_told, has_edits, with_edit}
 
 pub edits_of : (lay : Layout) (h : History) → IsTreeRun lay h → HasEdits lay h
 edits_of lay h g = has_edits lay h g.1.lawful g.1.shaped
@@ -105,24 +105,14 @@ pub has_begun : (A : Layout → History → ℕ → Type 0) (lay : Layout) (h : 
 has_begun A lay (Start m) s l p d q = absurd (d (sym (held_start m (info q.0) s q.1) ∙ opening_info m q.0))
 has_begun A lay (r ⊳ h) s l p d q = begun_step A lay h r s l p (has_begun A lay h s (lawful_tail lay h r l) (shaped_tail A lay h r p) d) q
 
--- so one that has won makes an edit
-pub won_makes : (lay : Layout) (h : History) (s : ℕ) (g : IsTreeRun lay h) → HasWon h s → Makes lay h s ((edits_of lay h g).edits s)
-won_makes lay h s g w =
-    let f : Facts lay h = facts lay h g.1.lawful in
-    let x : HasBegun (AllowsGiven (edits_of lay h g).edits) lay h s = has_begun (AllowsGiven (edits_of lay h g).edits) lay h s g.1.lawful (edits_of lay h g).shaped (won_real s f w) (won_named s f w) in
-    record { row = x.row; before = x.before; within = x.within; begins = x.begins; edit = x.allowed }
+-- Entries
 
--- The map of the log
-
-content_same : (a b : ℕ → MapEdit) (es : List Entry) → ((s : ℕ) → IsEntered es s → a s ≡ b s) → map_of_log a es ≡ map_of_log b es
-content_same a b [] f = refl
-content_same a b (e ∷ es) f = λ i. edited (f e.scx (inl refl) i) (content_same a b es (λ s p. f s (inr p)) i)
-
--- the words spell the map that the log gives, by any calls that are the edits of its entries
-pub run_spells_log : (lay : Layout) (h : History) (calls : ℕ → MapEdit) → IsTreeRun lay h → ((s : ℕ) (e : MapEdit) → IsEntered (log lay h) s → Makes lay h s e → calls s ≡ e) → Spells lay (value h) (map_of_log calls (log lay h))
-run_spells_log lay h calls g agree =
-    let e : map_of_log calls (log lay h) ≡ map_of_log (edits_of lay h g).edits (log lay h) = content_same calls (edits_of lay h g).edits (log lay h) (λ s p. agree s _ p (won_makes lay h s g (entered_won lay h s g.1.lawful p))) in
-    subst (Spells lay (value h)) (sym e) (spells (edits_of lay h g).edits lay h (grown lay h g))
+-- an SCX-record with an entry has begun
+pub entered_begun : (A : Layout → History → ℕ → Type 0) (lay : Layout) (h : History) (s : ℕ) → Lawful lay h → Shaped A lay h → IsEntered (log lay h) s → HasBegun A lay h s
+entered_begun A lay h s l p x =
+    let f : Facts lay h = facts lay h l in
+    let w : HasWon h s = entered_won lay h s l x in
+    has_begun A lay h s l p (won_real s f w) (won_named s f w)
 
 pub makes_since : (lay : Layout) (h m : History) (s : ℕ) (e : MapEdit) → Extends h m → Makes lay m s e → Makes lay h s e
 makes_since lay h m s e w x = record { row = x.row; before = x.before; within = ends_trans h m (x.row ⊳ x.before) w x.within; begins = x.begins; edit = x.edit }
@@ -139,15 +129,18 @@ entered_more lay (r ⊳ h) m s l (inr e) x = go (logs lay h r l) (entered_more l
 
 -- the edits of the log's entries
 pub log_edits : (lay : Layout) (h : History) → IsTreeRun lay h → (edits : ℕ → MapEdit) × AreEdits edits lay h
-log_edits lay h g = ((edits_of lay h g).edits, λ s p. won_makes lay h s g (entered_won lay h s g.1.lawful p))
+log_edits lay h g = (given.edits, makes)
+  where
+    given : HasEdits lay h
+    given = edits_of lay h g
+
+    makes : AreEdits given.edits lay h
+    makes s p =
+        let x = entered_begun (AllowsGiven given.edits) lay h s g.1.lawful given.shaped p in
+        record { row = x.row; before = x.before; within = x.within; begins = x.begins; edit = x.allowed }
 
 pub run_since : (lay : Layout) (h m : History) → IsTreeRun lay h → Extends h m → IsTreeRun lay m
 run_since lay h m g e = (g.0, record { lawful = lawful_since lay h m g.1.lawful e; shaped = shaped_since TreeAllows lay h m g.1.shaped e })
-
--- after each row the words spell the map of the log so far
-pub spells_log : (lay : Layout) (h : History) (edits : ℕ → MapEdit) → IsTreeRun lay h → AreEdits edits lay h → SpellsLog edits lay h
-spells_log lay h edits g a m e = run_spells_log lay m edits (run_since lay h m g e)
-    (λ s d p x. makes_one lay h s (edits s) d g.1.lawful (a s (entered_more lay h m s g.1.lawful e p)) (makes_since lay h m s d e x))
 
 -- A winning update
 
@@ -159,40 +152,36 @@ same_leaf calls lay h u p (Delete k) =
     let e : toward (value p.before) (member p.before u 1) k ≡ toward (value h) (member h u 1) k = sym d ∙ ap (λ n. toward (value h) n k) m in
     λ i. (p.same i).member (leaf_place (e i))
 
-pub win_edits : (lay : Layout) (h : History) (r : Row) (u : ℕ) → IsTreeRun lay (r ⊳ h) → UpdateWins h r u → (e : MapEdit) × IsEditAt lay h r u e
-win_edits lay h r u g w = (calls u, record { makes = makes; changes = changes; replies = replying })
-  where
-    calls : ℕ → MapEdit
-    calls = (edits_of lay (r ⊳ h) g).edits
+module _ (calls : ℕ → MapEdit) (lay : Layout) (h : History) (r : Row) (u : ℕ) (now : IsGrown calls lay (r ⊳ h)) (w : UpdateWins h r u) where
+  grown_then : IsGrown calls lay h
+  grown_then = grown_tail calls lay h r now
 
-    now : IsGrown calls lay (r ⊳ h)
-    now = grown lay (r ⊳ h) g
+  f : Facts lay h
+  f = facts lay h grown_then.lawful
 
-    before : IsGrown calls lay h
-    before = grown_tail calls lay h r now
+  t : TreeFacts calls lay h
+  t = tree_facts calls lay h grown_then
 
-    f : Facts lay h
-    f = facts lay h before.lawful
+  map_then : (ps : List Pair) → Spells lay (value h) ps → ps ≡ map_of_log calls (log lay h)
+  map_then ps s = one_spelling lay (value h) ps (map_of_log calls (log lay h)) s (spells calls lay h grown_then)
 
-    t : TreeFacts calls lay h
-    t = tree_facts calls lay h before
+  makes : Makes lay h u (calls u)
+  makes =
+      let x : HasBegun (AllowsGiven calls) lay h u = has_begun (AllowsGiven calls) lay h u grown_then.lawful grown_then.shaped (some_is_real f (update_flagged f w).some) (member h u 0, (update_flagged f w).frozen 0 (update_flagged f w).some) in
+      record { row = x.row; before = x.before; within = x.within; begins = x.begins; edit = x.allowed }
 
-    makes : Makes lay h u (calls u)
-    makes =
-        let x : HasBegun (AllowsGiven calls) lay h u = has_begun (AllowsGiven calls) lay h u before.lawful before.shaped (some_is_real f (update_flagged f w).some) (member h u 0, (update_flagged f w).frozen 0 (update_flagged f w).some) in
-        record { row = x.row; before = x.before; within = x.within; begins = x.begins; edit = x.allowed }
+  changing : (ps : List Pair) → Spells lay (value h) ps → Spells lay (value (r ⊳ h)) (edited (calls u) ps)
+  changing ps s =
+      let d : map_of_log calls (log lay (r ⊳ h)) ≡ edited (calls u) (map_of_log calls (log lay h)) = content_now calls lay h r u f w now.mode now.lawful t in
+      subst (Spells lay (value (r ⊳ h))) (d ∙ ap (edited (calls u)) (sym (map_then ps s))) (spells calls lay (r ⊳ h) now)
 
-    changes : (ps : List Pair) → Spells lay (value h) ps → Spells lay (value (r ⊳ h)) (edited (calls u) ps)
-    changes ps s =
-        let e : ps ≡ map_of_log calls (log lay h) = one_spelling lay (value h) ps (map_of_log calls (log lay h)) s (spells calls lay h before) in
-        let d : map_of_log calls (log lay (r ⊳ h)) ≡ edited (calls u) (map_of_log calls (log lay h)) = content_now calls lay h r u f w now.mode now.lawful t in
-        subst (Spells lay (value (r ⊳ h))) (d ∙ ap (edited (calls u)) (sym e)) (spells calls lay (r ⊳ h) now)
+  replying : (ps : List Pair) → Spells lay (value h) ps → get (edit_key (calls u)) ps ≡ said (value h) (edit_key (calls u)) (edit_leaf h u (calls u))
+  replying ps s =
+      ap (get (edit_key (calls u))) (map_then ps s) ∙ replies calls lay h r u f w now.mode now.lawful t
+      ∙ ap (said (value h) (edit_key (calls u))) (leaf_is calls lay h r u f w now.mode now.lawful t (calls u) ∙ same_leaf calls lay h u (past calls lay h r u f w now.mode now.lawful t) (calls u))
 
-    replying : (ps : List Pair) → Spells lay (value h) ps → get (edit_key (calls u)) ps ≡ said (value h) (edit_key (calls u)) (edit_leaf h u (calls u))
-    replying ps s =
-        let e : ps ≡ map_of_log calls (log lay h) = one_spelling lay (value h) ps (map_of_log calls (log lay h)) s (spells calls lay h before) in
-        ap (get (edit_key (calls u))) e ∙ replies calls lay h r u f w now.mode now.lawful t
-        ∙ ap (said (value h) (edit_key (calls u))) (leaf_is calls lay h r u f w now.mode now.lawful t (calls u) ∙ same_leaf calls lay h u (past calls lay h r u f w now.mode now.lawful t) (calls u))
+  win_given : IsEditAt lay h r u (calls u)
+  win_given = record { makes = makes; changes = changing; replies = replying }
 
 -- other rows leave what is spelled
 pub quiet_spells : (lay : Layout) (h : History) (r : Row) (ps : List Pair) → IsTreeRun lay (r ⊳ h) → log lay (r ⊳ h) ≡ log lay h → Spells lay (value h) ps → Spells lay (value (r ⊳ h)) ps
@@ -234,12 +223,43 @@ walk_answers lay h start k n small g p d =
 pub wins_of : (lay : Layout) (before : History) (row : Row) (s : ℕ) → Lawful lay (row ⊳ before) → IsWin before row s → UpdateWins before row s
 wins_of lay before row s l w = record { kind = w.kind; update = w.update; before = (lawful_row lay before row l).before; found = w.found; stored = w.update.exchange.won w.found }
 
+-- whatever edit it is said to make, it leaves the map that this edit leaves
+pub update_makes : (lay : Layout) (h before : History) (row : Row) (s : ℕ) (e : MapEdit) → IsTreeRun lay h → Extends h (row ⊳ before) → UpdateWins before row s → Makes lay h s e → IsEditAt lay before row s e
+update_makes lay h before row s e g w won x = subst (IsEditAt lay before row s) (ap (λ b. cond b e (given s)) (eq-eqb s s refl)) (win_given calls lay before row s (grown_since calls lay h (row ⊳ before) w whole) won)
+  where
+    given : ℕ → MapEdit
+    given = (edits_of lay h g).edits
+
+    calls : ℕ → MapEdit
+    calls = with_edit s e given
+
+    whole : IsGrown calls lay h
+    whole = record { mode = g.0; lawful = g.1.lawful; shaped = edit_told lay h s e given g.1.lawful x (edits_of lay h g).shaped }
+
 pub win_makes : (lay : Layout) (h before : History) (row : Row) (s : ℕ) (e : MapEdit) → IsTreeRun lay h → Extends h (row ⊳ before) → IsWin before row s → Makes lay h s e → IsEditAt lay before row s e
-win_makes lay h before row s e g w won x =
-    let l : Lawful lay (row ⊳ before) = lawful_since lay h (row ⊳ before) g.1.lawful w in
-    let y : (d : MapEdit) × IsEditAt lay before row s d = win_edits lay before row s (g.0, record { lawful = l; shaped = shaped_since TreeAllows lay h (row ⊳ before) g.1.shaped w }) (wins_of lay before row s l won) in
-    let d : y.0 ≡ e = makes_one lay h s y.0 e g.1.lawful (makes_since lay h before s y.0 (ends_trans h (row ⊳ before) before w (inr (ends_self before))) y.1.makes) x in
-    subst (IsEditAt lay before row s) d y.1
+win_makes lay h before row s e g w won x = update_makes lay h before row s e g w (wins_of lay before row s (lawful_since lay h (row ⊳ before) g.1.lawful w) won) x
+
+-- The map of the log
+
+spells_row : (lay : Layout) (h m : History) (r : Row) (edits : ℕ → MapEdit) → IsTreeRun lay h → AreEdits edits lay h → Extends h (r ⊳ m) → Spells lay (value m) (map_of_log edits (log lay m)) → Spells lay (value (r ⊳ m)) (map_of_log edits (log lay (r ⊳ m)))
+spells_row lay h m r edits g a e then = go (logs lay m r run.1.lawful)
+  where
+    run : IsTreeRun lay (r ⊳ m)
+    run = run_since lay h (r ⊳ m) g e
+
+    go : Logs lay m r → Spells lay (value (r ⊳ m)) (map_of_log edits (log lay (r ⊳ m)))
+    go (same q _) = subst (Spells lay (value (r ⊳ m))) (sym (ap (map_of_log edits) q)) (quiet_spells lay m r _ run q then)
+    go (wins u w q) =
+        let entry : IsEntered (log lay (r ⊳ m)) u = subst (λ es. IsEntered es u) (sym q) (inl refl) in
+        let made = update_makes lay h m r u (edits u) g e w (a u (entered_more lay h (r ⊳ m) u g.1.lawful e entry)) in
+        subst (Spells lay (value (r ⊳ m))) (sym (ap (map_of_log edits) q)) (made.changes _ then)
+
+-- after each row the words spell the map of the log so far
+pub spells_log : (lay : Layout) (h : History) (edits : ℕ → MapEdit) → IsTreeRun lay h → AreEdits edits lay h → SpellsLog edits lay h
+spells_log lay h edits g a (Start mode) e =
+    let same : mode ≡ lay.mode = start_mode lay mode (run_since lay h (Start mode) g e).1.lawful in
+    subst (λ m. Spells lay (value (Start m)) (map_of_log edits (log lay (Start m)))) (sym same) (subst (Spells lay (value (Start lay.mode))) (sym (opening_log edits lay)) (opening_spells lay g.0))
+spells_log lay h edits g a (r ⊳ m) e = spells_row lay h m r edits g a e (spells_log lay h edits g a m (ends_trans h (r ⊳ m) m e (inr (ends_self m))))
 
 -- a leaf below the root is above all keys
 pub below_root : (lay : Layout) (h : History) (k : ℕ) → IsTreeRun lay h → k < 2 ^ 64 → is_leaf (value h) (value h (child 0 (toward (value h) 0 k))) ≡ true → class (value h) (value h (child 0 (toward (value h) 0 k))) ≡ 0 → ⊥

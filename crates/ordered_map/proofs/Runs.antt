@@ -1,101 +1,24 @@
--- Runs under the shape of the tree: each SCX-record that has begun makes one edit, and the words
--- spell the map that these edits give.
-use Rattle.std.proofs.Common.{◌≡◌, ℕ, ◌+◌, ◌*◌, ◌^◌, ◌%◌, ◌<◌, true, false, cond, eqb, eq-eqb, ne_eqb, ◌⊎◌, inl, inr, refl, sym, ◌∙◌, ap, arith, subst}
+-- Runs under the shape of the tree: each SCX-record that begins does so once, so that an edit can be
+-- named for each; where more than one would do, any.
+use Rattle.std.proofs.Common.{◌≡◌, ℕ, true, false, cond, eqb, eq-eqb, ne_eqb, inl, inr, refl, sym, ◌∙◌, ap, arith, subst}
 use native.Mathlib.Decide.{ℕ_discrete}
 use Rattle.arena.specs.declared.limits.Mode.{Mode}
-use Rattle.arena.specs.declared.word.Side.{Side}
-use Rattle.arena.specs.declared.word.Side.TheVariants.{Left, Right}
-use Rattle.arena.specs.declared.word.NodeWord.TheVariants.{Settled}
-use Rattle.arena.specs.declared.word.SettledPart.TheVariants.{Key, Value}
-use Rattle.arena.specs.declared.word.Word.{Word}
 use Rattle.arena.specs.declared.layout.Layout.{Layout}
 use Rattle.arena.specs.declared.step.Row.{Row}
 use Rattle.arena.specs.declared.step.Kind.TheVariants.{Freeze, Update}
-use Rattle.arena.specs.Words.{node, info, child}
-use Rattle.arena.specs.History.{History, Start, ◌⊳◌, value, HasHeld, Extends}
-use Rattle.arena.specs.ScxRecords.{member, new}
+use Rattle.arena.specs.Words.{info}
+use Rattle.arena.specs.History.{History, Start, ◌⊳◌, HasHeld, Extends}
+use Rattle.arena.specs.ScxRecords.{member}
 use Rattle.arena.specs.Fills.{IsNamedScx}
 use Rattle.arena.specs.Lawful.{Lawful}
 use Rattle.arena.specs.Shape.{IsBegin, Shaped}
 use Rattle.arena.proofs.Lemmas.{value_at, held_at, held_since}
 use Rattle.histories.proofs.Lemmas.{Effect, begins_once, effect, facts_before, freeze, lawful_row, lawful_tail, quiet, shaped_begin, shaped_tail, update}
-use Rattle.ordered_map.specs.OrderedMap.{MapEdit, Insert, Delete}
+use Rattle.ordered_map.specs.OrderedMap.{MapEdit, Delete}
 use Rattle.ordered_map.proofs.Pending.{AllowsGiven}
 use Rattle.ordered_map.specs.Runs.{Makes}
-use Rattle.ordered_map.specs.TreeShape.{insert_plan, delete_plan, IsInsert, IsDelete, IsEdit, MayEdit, TreeAllows}
-use Rattle.ordered_map.specs.TreeWords.{rank}
-use Rattle.ordered_map.specs.Edits.{IsAlike, IsSwap, IsSplit, IsJoin}
-use Rattle.ordered_map.proofs.Local.{alike_rank, pair_rank}
+use Rattle.ordered_map.specs.TreeShape.{MayEdit, TreeAllows}
 use Rattle.ordered_map.proofs.Grown.{first_begins}
-
--- One edit
-
-split_keys : (h : History) (k j v w l c x y z u : ℕ) → IsSplit (value h) k v l c x y → IsSplit (value h) j w l c z u → x ≡ z
-split_keys h k j v w l c x y z u a b = go a.order b.order
-  where
-    rx : rank (value h) x ≡ k
-    rx = pair_rank (value h) x k a.new.class a.new.key
-
-    rz : rank (value h) z ≡ j
-    rz = pair_rank (value h) z j b.new.class b.new.key
-
-    ry : rank (value h) y ≡ rank (value h) l
-    ry = alike_rank (value h) y l a.copy.alike
-
-    ru : rank (value h) u ≡ rank (value h) l
-    ru = alike_rank (value h) u l b.copy.alike
-
-    go : ((k < rank (value h) l) × IsAlike (value h) c l × (value h (child c Left) ≡ x) × (value h (child c Right) ≡ y)) ⊎ ((rank (value h) l < k) × IsAlike (value h) c x × (value h (child c Left) ≡ y) × (value h (child c Right) ≡ x))
-        → ((j < rank (value h) l) × IsAlike (value h) c l × (value h (child c Left) ≡ z) × (value h (child c Right) ≡ u)) ⊎ ((rank (value h) l < j) × IsAlike (value h) c z × (value h (child c Left) ≡ u) × (value h (child c Right) ≡ z)) → x ≡ z
-    go (inl p) (inl q) = (sym p.2 ∙ q.2)
-    go (inr p) (inr q) = (sym p.3 ∙ q.3)
-    go (inl p) (inr q) = absurd (let e : rank (value h) x ≡ rank (value h) u = ap (rank (value h)) (sym p.2 ∙ q.2) in let d = p.0 in omega (arith, e, rx, ru, d))
-    go (inr p) (inl q) = absurd (let e : rank (value h) x ≡ rank (value h) u = ap (rank (value h)) (sym p.3 ∙ q.3) in let d = p.0 in omega (arith, e, rx, ru, d))
-
-plans_differ : (p : ℕ) (a b : Side) → p ≡ insert_plan a → p ≡ delete_plan b → ⊥
-plans_differ p Left Left e d = omega (arith, e, d)
-plans_differ p Left Right e d = omega (arith, e, d)
-plans_differ p Right Left e d = omega (arith, e, d)
-plans_differ p Right Right e d = omega (arith, e, d)
-
-one_insert : (h : History) (s k v j w : ℕ) → IsInsert h s k v → IsInsert h s j w → Insert k v ≡ Insert j w
-one_insert h s k v j w a b = go a.edit b.edit
-  where
-    go : IsSwap (value h) k v (member h s 1) (new h s) ⊎ ((x y : ℕ) × IsSplit (value h) k v (member h s 1) (new h s) x y)
-        → IsSwap (value h) j w (member h s 1) (new h s) ⊎ ((x y : ℕ) × IsSplit (value h) j w (member h s 1) (new h s) x y) → Insert k v ≡ Insert j w
-    go (inl p) (inl q) =
-        let e : k ≡ j = sym p.new.key ∙ q.new.key in
-        let d : v ≡ w = sym p.new.value ∙ q.new.value in
-        λ i. Insert (e i) (d i)
-    go (inl p) (inr q) = absurd (let x : true ≡ false = sym p.new.leaf ∙ q.2.fork in cc)
-    go (inr p) (inl q) = absurd (let x : true ≡ false = sym q.new.leaf ∙ p.2.fork in cc)
-    go (inr p) (inr q) =
-        let x : p.0 ≡ q.0 = split_keys h k j v w (member h s 1) (new h s) p.0 p.1 q.0 q.1 p.2 q.2 in
-        let e : k ≡ j = sym p.2.new.key ∙ ap (λ n. value h (node n (Settled Key))) x ∙ q.2.new.key in
-        let d : v ≡ w = sym p.2.new.value ∙ ap (λ n. value h (node n (Settled Value))) x ∙ q.2.new.value in
-        λ i. Insert (e i) (d i)
-
--- the pair of a copy that has the words of both
-join_keys : (f : Word → ℕ) (k j q a b c : ℕ) → IsJoin f k q a b c → IsJoin f j q b a c → k ≡ j
-join_keys f k j q a b c x y =
-    let ra : rank f a ≡ k = pair_rank f a k x.class x.key in
-    let rb : rank f b ≡ j = pair_rank f b j y.class y.key in
-    let rc : rank f c ≡ rank f b = λ i. x.same_head i % 4 * 2 ^ 64 + x.same_key i in
-    let rd : rank f c ≡ rank f a = λ i. y.same_head i % 4 * 2 ^ 64 + y.same_key i in
-    sym ra ∙ sym rd ∙ rc ∙ rb
-
-one_delete : (h : History) (s k j : ℕ) (a b : Side) → IsDelete h s k a → IsDelete h s j b → k ≡ j
-one_delete h s k j Left Left x y = sym x.edit.key ∙ y.edit.key
-one_delete h s k j Right Right x y = sym x.edit.key ∙ y.edit.key
-one_delete h s k j Left Right x y = join_keys (value h) k j (member h s 1) (member h s 2) (member h s 3) (new h s) x.edit y.edit
-one_delete h s k j Right Left x y = join_keys (value h) k j (member h s 1) (member h s 3) (member h s 2) (new h s) x.edit y.edit
-
--- an SCX-record can make one edit only
-pub one_edit : (h : History) (s : ℕ) (a b : MapEdit) → IsEdit h s a → IsEdit h s b → a ≡ b
-one_edit h s (Insert k v) (Insert j w) x y = one_insert h s k v j w x y
-one_edit h s (Insert k v) (Delete j) x y = absurd (plans_differ _ _ _ x.plan y.plan)
-one_edit h s (Delete k) (Insert j w) x y = absurd (plans_differ _ _ _ y.plan x.plan)
-one_edit h s (Delete k) (Delete j) x y = ap Delete (one_delete h s k j _ _ x y)
 
 -- One begin
 
@@ -125,17 +48,12 @@ begins_at_one lay (z ⊳ h) m k r t s l (inl p) (inr q) b d = absurd (newer lay 
 begins_at_one lay (z ⊳ h) m k r t s l (inr p) (inl q) b d = absurd (newer lay h z k t s l q d (begun_named h m r s p b))
 begins_at_one lay (z ⊳ h) m k r t s l (inr p) (inr q) b d = begins_at_one lay h m k r t s (lawful_tail lay h z l) p q b d
 
-head_of : Row → History → Row
-head_of r (Start mode) = r
-head_of r (t ⊳ h) = t
-
--- so it makes one edit
-pub makes_one : (lay : Layout) (h : History) (s : ℕ) (a b : MapEdit) → Lawful lay h → Makes lay h s a → Makes lay h s b → a ≡ b
+-- so what it is said to make it could make as it began
+pub makes_at : (lay : Layout) (h m : History) (r : Row) (s : ℕ) (e : MapEdit) → Lawful lay h → Extends h (r ⊳ m) → IsBegin m r s → Makes lay h s e → MayEdit lay m s e
 unfolding tail_of
-makes_one lay h s a b l x y =
-    let e : x.row ⊳ x.before ≡ y.row ⊳ y.before = begins_at_one lay h x.before y.before x.row y.row s l x.within y.within x.begins y.begins in
-    let d : x.before ≡ y.before = ap tail_of e in
-    one_edit y.before s a b (subst (λ m. IsEdit m s a) d x.edit.edit) y.edit.edit
+makes_at lay h m r s e l w b x =
+    let same : x.row ⊳ x.before ≡ r ⊳ m = begins_at_one lay h x.before m x.row r s l x.within w x.begins b in
+    subst (λ k. MayEdit lay k s e) (ap tail_of same) x.edit
 
 -- The edits of a run
 
@@ -153,8 +71,8 @@ shaped_start : (A : Layout → History → ℕ → Type 0) (lay : Layout) (m : M
 unfolding Shaped
 shaped_start A lay m = tt
 
--- the edits with one more
-abbrev with_edit : ℕ → MapEdit → (ℕ → MapEdit) → ℕ → MapEdit
+-- the edits, where that of u is e
+abbrev pub with_edit : ℕ → MapEdit → (ℕ → MapEdit) → ℕ → MapEdit
 with_edit u e edits s = cond (eqb s u) e (edits s)
 
 -- the edits that the SCX-records of a run make, by their numbers
@@ -204,3 +122,14 @@ edits_more lay h r l p x = go (effect lay h r l)
 pub has_edits : (lay : Layout) (h : History) → Lawful lay h → Shaped TreeAllows lay h → HasEdits lay h
 has_edits lay (Start m) l p = record { edits = λ s. Delete 0; shaped = shaped_start (AllowsGiven (λ s. Delete 0)) lay m }
 has_edits lay (r ⊳ h) l p = edits_more lay h r l p (has_edits lay h (lawful_tail lay h r l) (shaped_tail TreeAllows lay h r p))
+
+-- an edit that an SCX-record is said to make can stand for it
+pub edit_told : (lay : Layout) (h : History) (u : ℕ) (e : MapEdit) (edits : ℕ → MapEdit) → Lawful lay h → Makes lay h u e → Shaped (AllowsGiven edits) lay h → Shaped (AllowsGiven (with_edit u e edits)) lay h
+edit_told lay h u e edits l x p = shaped_change (AllowsGiven edits) (AllowsGiven (with_edit u e edits)) lay h p told
+  where
+    told : (m : History) (r : Row) (s : ℕ) → Extends h (r ⊳ m) → IsBegin m r s → AllowsGiven edits lay m s → AllowsGiven (with_edit u e edits) lay m s
+    told m r s w b y = at_number (ℕ_discrete s u)
+      where
+        at_number : Dec (s ≡ u) → AllowsGiven (with_edit u e edits) lay m s
+        at_number (yes q) = subst (MayEdit lay m s) (sym (ap (λ c. cond c e (edits s)) (eq-eqb s u q))) (makes_at lay h m r s e l w b (subst (λ n. Makes lay h n e) (sym q) x))
+        at_number (no q) = subst (MayEdit lay m s) (sym (ap (λ c. cond c e (edits s)) (ne_eqb s u q))) y

@@ -7,10 +7,10 @@ use Rattle.ordered_map.specs.OrderedMap.{MapEdit}
 use Rattle.ordered_map.specs.Spelled.{Spells}
 use Rattle.ordered_map.specs.Runs.{Makes, map_of_log}
 
--- `edits` gives the edit that each SCX-record with an entry has made
+-- `edits` gives of each SCX-record with an entry an edit that it may be said to have made
 abbrev pub AreEdits : (ℕ → MapEdit) → Layout → History → Type 0
 AreEdits edits lay h = (s : ℕ) → IsEntered (log lay h) s → Makes lay h s (edits s)
 
--- after each row the words spell the map that the edits of the log so far make of the empty map
+-- after each row the words spell the map that these edits of the log so far make of the empty map
 abbrev pub SpellsLog : (ℕ → MapEdit) → Layout → History → Type 0
 SpellsLog edits lay h = (moment : History) → Extends h moment → Spells lay (value moment) (map_of_log edits (log lay moment))

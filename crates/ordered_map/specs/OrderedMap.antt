@@ -1,5 +1,5 @@
 -- The ordered map from keys to values: what each call replies, and the map that it leaves.
-use Rattle.std.specs.Prelude.{ℕ, ◌<◌, Bool, true, false, if◌then◌else◌, ◌&&◌, ◌==◌, nat_le, nat_lt, List, [], ◌∷◌, take, Option, Some, None, is_some}
+use Rattle.std.specs.Prelude.{ℕ, ◌<◌, Bool, false, if◌then◌else◌, ◌&&◌, ◌==◌, nat_le, nat_lt, List, [], ◌∷◌, take, Option, Some, None, is_some}
 use Rattle.ordered_map.specs.declared.pair.Pair.{Pair}
 
 -- A map is the list of its pairs by rising key; the empty list is the empty map.

@@ -17,7 +17,7 @@ use Rattle.ordered_map.specs.TreeShape.{MayEdit, TreeAllows, edit_leaf}
 abbrev pub IsTreeRun : Layout → History → Type 0
 IsTreeRun lay h = (lay.mode ≡ TreeMode) × IsRun TreeAllows lay h
 
--- s has begun, with this edit
+-- s has begun, and may be said to make this edit, be it the only one or not
 pub record Makes (lay : Layout) (h : History) (s : ℕ) (e : MapEdit) : Type 0 where
   pub row : Row
   pub before : History
@@ -26,12 +26,12 @@ pub record Makes (lay : Layout) (h : History) (s : ℕ) (e : MapEdit) : Type 0 w
   pub edit : MayEdit lay before s e
 
 -- the map that these entries make of the empty map, the newest coming first, where `edits` says
--- which edit each SCX-record makes
+-- an edit of each SCX-record
 abbrev pub map_of_log : (ℕ → MapEdit) → List Entry → List Pair
 map_of_log edits [] = []
 map_of_log edits (e ∷ es) = edited (edits e.scx) (map_of_log edits es)
 
--- The row makes the edit of s: it leaves the map that the edit leaves, and just before it the leaf
+-- The row makes this edit of s: it leaves the map that the edit leaves, and just before it the leaf
 -- of the edit's key says what the map does.
 pub record IsEditAt (lay : Layout) (h : History) (r : Row) (s : ℕ) (e : MapEdit) : Type 0 where
   pub makes : Makes lay h s e

@@ -16,16 +16,16 @@ ghost use Rattle.ordered_map.specs.Runs.{IsTreeRun, Makes, IsEditAt};
 ghost use Rattle.ordered_map.specs.Laws.{AreEdits, SpellsLog};
 ghost use Rattle.ordered_map.specs.MapLaws.{IsLeast, IsSuccessor, within};
 
-/// What every history of the tree keeps in which only edits of the map begin. Each SCX-record that has
-/// begun makes one edit; after each row the words spell one map, that of the log so far; an update
-/// leaves the map that its edit leaves, and its leaf tells the old value; a walk's leaf tells what the
-/// map gave at a moment of the walk, and is at most one level deeper than the taken nodes are many; of
-/// the nodes that ever stood in the tree just those that are not final still stand there; one that is
-/// above all keys has the key 0, and a leaf the value 0. It does nothing; a caller learns the laws
-/// from its contract.
+/// What every history of the tree keeps in which only edits of the map begin. Of each SCX-record with
+/// an entry some edit may be said that it makes. Whichever is said, be it the only one or not, after
+/// each row the words spell one map, that of the log so far, and an update leaves the map that the
+/// edit leaves which is said of it; its leaf tells the old value. A walk's leaf tells what the map gave
+/// at a moment of the walk, and is at most one level deeper than the taken nodes are many; of the nodes
+/// that ever stood in the tree just those that are not final still stand there; one that is above all
+/// keys has the key 0, and a leaf the value 0. It does nothing; a caller learns the laws from its
+/// contract.
 pub fn laws_hold()
     ensures edits { (lay : Layout) (h : History) → IsTreeRun lay h → (edits : ℕ → MapEdit) × AreEdits edits lay h }
-    ensures one_edit { (lay : Layout) (h : History) (s : ℕ) (a b : MapEdit) → IsTreeRun lay h → Makes lay h s a → Makes lay h s b → a ≡ b }
     ensures spelled { (lay : Layout) (h : History) (edits : ℕ → MapEdit) → IsTreeRun lay h → AreEdits edits lay h → SpellsLog edits lay h }
     ensures one_map { (lay : Layout) (f : Word → ℕ) (m n : List Pair) → Spells lay f m → Spells lay f n → m ≡ n }
     ensures updates { (lay : Layout) (h before : History) (row : Row) (s : ℕ) (e : MapEdit) → IsTreeRun lay h

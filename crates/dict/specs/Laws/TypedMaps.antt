@@ -2,21 +2,21 @@
 -- of such words, which replies such ones.
 use Rattle.std.proofs.Common.{◌≡◌, ℕ, zero, suc, List, [], ◌∷◌, take, Bool, true, false, if◌then◌else◌, ◌==◌, nat_lt, nat_le, ◌&&◌, Option, Some, None, inl, inr, refl, sym, subst}
 use Rattle.arena.specs.declared.layout.Layout.{Layout}
+use Rattle.arena.specs.declared.limits.Mode.{Mode}
 use Rattle.arena.specs.declared.limits.Mode.TheVariants.{Tree as TreeMode}
 use Rattle.arena.specs.declared.step.Row.{Row}
 use Rattle.arena.specs.History.{History, Start, ◌⊳◌, value, Extends}
 use Rattle.arena.specs.Lawful.{Lawful}
-use Rattle.arena.specs.Log.{Entry, log, IsEntered}
+use Rattle.arena.specs.Log.{IsEntered}
 use Rattle.arena.specs.Machines.{IsRun}
-use Rattle.arena.specs.Shape.{Shaped}
 use Rattle.arena.proofs.Lemmas.{ends_self, run_as}
-use Rattle.histories.proofs.Lemmas.{lawful_since, shaped_begin, shaped_since}
+use Rattle.histories.proofs.Lemmas.{Logs, lawful_since, logs, same, shaped_since, wins}
 use Rattle.ordered_map.specs.OrderedMap.{MapEdit, Insert, Delete, insert, delete, edited, edit_key, edit_of, MapCall, Edit, PopFirst, ReplaceIf, Get, Successor, Range, MapReply, OneValue, OnePair, reply, get, first_pair, is_value, successor, between, pair, pair_or_none}
-use Rattle.ordered_map.specs.Runs.{IsTreeRun, Makes, map_of_log}
+use Rattle.ordered_map.specs.Runs.{IsTreeRun, Makes}
 use Rattle.ordered_map.specs.Spelled.{Spells}
 use Rattle.ordered_map.specs.TreeShape.{TreeAllows}
 use Rattle.ordered_map.specs.declared.pair.Pair.{Pair}
-use Rattle.ordered_map.proofs.Lemmas.{log_edits, makes_one, one_spelling, run_spells, spells_log}
+use Rattle.ordered_map.proofs.Lemmas.{entered_begun, one_spelling, opening_spells, quiet_spells, update_makes}
 use Rattle.dict.specs.Typed.{IsTypedEdit, IsTypedCall, AreTyped, IsTypedValue, IsTypedReply, TypedAllows, IsTypedThere}
 
 module _ (keys values : ℕ → Type 0) where
@@ -100,37 +100,42 @@ module _ (keys values : ℕ → Type 0) where
   edit_typed (ReplaceIf k expected v) (OneValue told) e is x y = if_replaced (is_value expected told) k v e is x
   edit_typed call told e is x y = absurd (let none : None ≡ Some e = is in cc)
 
-  -- what has begun makes an edit of such words
-  pub makes_typed : (lay : Layout) (h : History) (s : ℕ) (e : MapEdit) → IsRun (TypedAllows keys values) lay h → Makes lay h s e → IsTypedEdit keys values e
-  makes_typed lay h s e run x =
-      let begun : IsRun (TypedAllows keys values) lay (x.row ⊳ x.before) = typed_since lay h (x.row ⊳ x.before) run x.within in
-      let a : TypedAllows keys values lay x.before s = shaped_begin (TypedAllows keys values) lay x.before x.row s begun.shaped x.begins in
-      let y : Makes lay h s a.0 = record { row = x.row; before = x.before; within = x.within; begins = x.begins; edit = a.1 } in
-      subst (IsTypedEdit keys values) (makes_one lay h s a.0 e run.lawful y x) a.2
+  -- The map of a run: of each SCX-record that wins some edit may be said that is of such words, and
+  -- whichever is said, the map behind it is the same.
 
-  log_typed : (lay : Layout) (h : History) (edits : ℕ → MapEdit) (es : List Entry) → IsRun (TypedAllows keys values) lay h → ((s : ℕ) → IsEntered es s → Makes lay h s (edits s)) → AreTyped keys values (map_of_log edits es)
-  log_typed lay h edits [] run x = tt
-  log_typed lay h edits (e ∷ es) run x = edited_typed (edits e.scx) (map_of_log edits es) (makes_typed lay h e.scx (edits e.scx) run (x e.scx (inl refl))) (log_typed lay h edits es run (λ s p. x s (inr p)))
+  typed_row : (lay : Layout) (h : History) (r : Row) → lay.mode ≡ TreeMode → IsRun (TypedAllows keys values) lay (r ⊳ h) → IsTypedThere keys values lay h → (m : List Pair) × Spells lay (value (r ⊳ h)) m × AreTyped keys values m
+  typed_row lay h r mode run there = go (logs lay h r run.lawful)
+    where
+      tree : IsTreeRun lay (r ⊳ h)
+      tree = (mode, typed_run lay (r ⊳ h) run)
 
-  -- the map is of such words
-  pub typed_map : (lay : Layout) (h : History) → lay.mode ≡ TreeMode → IsRun (TypedAllows keys values) lay h → (m : List Pair) → Spells lay (value h) m → AreTyped keys values m
-  typed_map lay h mode run m x =
-      let g : IsTreeRun lay h = (mode, typed_run lay h run) in
-      let edits = log_edits lay h g in
-      let e : m ≡ map_of_log edits.0 (log lay h) = one_spelling lay (value h) m (map_of_log edits.0 (log lay h)) x (spells_log lay h edits.0 g edits.1 h (ends_self h)) in
-      subst (AreTyped keys values) (sym e) (log_typed lay h edits.0 (log lay h) run edits.1)
+      then : (m : List Pair) × Spells lay (value h) m × AreTyped keys values m
+      then = there mode
 
-  -- the words spell such a map
-  pub typed_there : (lay : Layout) (h : History) → IsRun (TypedAllows keys values) lay h → IsTypedThere keys values lay h
-  typed_there lay h run mode =
-      let map : (m : List Pair) × Spells lay (value h) m = run_spells lay h (mode, typed_run lay h run) in
-      (map.0, map.1, typed_map lay h mode run map.0 map.1)
+      go : Logs lay h r → (m : List Pair) × Spells lay (value (r ⊳ h)) m × AreTyped keys values m
+      go (same q _) = (then.0, quiet_spells lay h r then.0 tree q then.1, then.2)
+      go (wins u w q) =
+          let x = entered_begun (TypedAllows keys values) lay (r ⊳ h) u run.lawful run.shaped (subst (λ es. IsEntered es u) (sym q) (inl refl)) in
+          let edit : MapEdit = x.allowed.0 in
+          let makes : Makes lay (r ⊳ h) u edit = record { row = x.row; before = x.before; within = x.within; begins = x.begins; edit = x.allowed.1 } in
+          let made = update_makes lay (r ⊳ h) h r u edit tree (ends_self (r ⊳ h)) w makes in
+          (edited edit then.0, made.changes then.0 then.1, edited_typed edit then.0 x.allowed.2 then.2)
 
-  -- they do so at the start
+  -- the words spell such a map at the start
   pub typed_opens : (lay : Layout) → IsTypedThere keys values lay (Start lay.mode)
-  unfolding Lawful Shaped
-  typed_opens lay = typed_there lay (Start lay.mode) record { lawful = refl; shaped = tt }
+  typed_opens lay mode = ([], opening_spells lay mode, tt)
 
   -- and after every row of a run in which only such edits begin
   pub typed_stays : (lay : Layout) (h : History) (r : Row) → IsRun (TypedAllows keys values) lay (r ⊳ h) → IsTypedThere keys values lay h → IsTypedThere keys values lay (r ⊳ h)
-  typed_stays lay h r run there = typed_there lay (r ⊳ h) run
+  typed_stays lay h r run there mode = typed_row lay h r mode run there
+
+  pub typed_there : (lay : Layout) (h : History) → IsRun (TypedAllows keys values) lay h → IsTypedThere keys values lay h
+  unfolding Lawful
+  typed_there lay (Start mode) run = subst (λ (m : Mode). IsTypedThere keys values lay (Start m)) (sym run.lawful) (typed_opens lay)
+  typed_there lay (r ⊳ h) run = typed_stays lay h r run (typed_there lay h (typed_since lay (r ⊳ h) h run (inr (ends_self h))))
+
+  -- so each map that they spell is of such words
+  pub typed_map : (lay : Layout) (h : History) → lay.mode ≡ TreeMode → IsRun (TypedAllows keys values) lay h → (m : List Pair) → Spells lay (value h) m → AreTyped keys values m
+  typed_map lay h mode run m x =
+      let y = typed_there lay h run mode in
+      subst (AreTyped keys values) (one_spelling lay (value h) y.0 m y.1 x) y.2

@@ -15,14 +15,14 @@ use Rattle.arena.specs.Lawful.{Lawful}
 use Rattle.arena.specs.Machines.{Call, IsRun, IsTold, row_of, begun_at}
 use Rattle.arena.specs.Shape.{IsBegin}
 use Rattle.arena.specs.Words.{state}
-use Rattle.histories.proofs.Lemmas.{Change, nothing, fills_node, fills_scx, freezes, sets_frozen, marks, updates, commits, aborts, change, IsFirst, facts_before, freeze_in_progress, freeze_keeps_scx, shaped_begin, shaped_more}
+use Rattle.histories.proofs.Lemmas.{Change, nothing, fills_node, fills_scx, freezes, sets_frozen, marks, updates, commits, aborts, change, IsFirst, facts_before, freeze_in_progress, freeze_keeps_scx, shaped_more}
 use Rattle.prims.specs.Moments.{AreFinished}
 use Rattle.prims.specs.Scx.Known.{Job, job_of, ScxWaitsAt}
 use Rattle.prims.proofs.Lemmas.{own_in_hand}
 use Rattle.ordered_map.specs.OrderedMap.{MapEdit}
 use Rattle.ordered_map.specs.Runs.{IsTreeRun, Makes}
 use Rattle.ordered_map.specs.TreeShape.{TreeAllows}
-use Rattle.ordered_map.proofs.Lemmas.{begun_named, makes_one, run_since}
+use Rattle.ordered_map.proofs.Lemmas.{begun_named, makes_at, run_since}
 use Rattle.template.specs.FoundLeaf.{path_key, HasFoundGoal}
 use Rattle.template.specs.Tracked.{Tracks, waits, begun, over}
 use Rattle.template.specs.declared.walk.Found.{Found}
@@ -89,10 +89,8 @@ module _ (keys values : ℕ → Type 0) where
     where
       allowed : (s : ℕ) → IsFirst lay h r s → IsBegin h r s → TypedAllows keys values lay h s
       allowed s first b =
-          let a : TreeAllows lay h s = shaped_begin TreeAllows lay h r s tree.shaped b in
-          let y : Makes lay (r ⊳ h) s a.0 = record { row = r; before = h; within = inl refl; begins = b; edit = a.1 } in
           let m : (e : MapEdit) × Makes lay (r ⊳ h) s e × IsTypedEdit keys values e = makes s first b in
-          (a.0, a.1, subst (IsTypedEdit keys values) (makes_one lay (r ⊳ h) s m.0 a.0 tree.lawful m.1 y) m.2)
+          (m.0, makes_at lay (r ⊳ h) h r s m.0 tree.lawful (inl refl) b m.1, m.2)
 
   -- a row that is no freeze begins none
   pub typed_no_freeze : (lay : Layout) (h : History) (r : Row) → IsRun (TypedAllows keys values) lay h → IsRun TreeAllows lay (r ⊳ h) → r.kind ≢ Freeze → IsRun (TypedAllows keys values) lay (r ⊳ h)

@@ -1,13 +1,9 @@
 use Rattle.ordered_map.proofs.Meanings.{log_edits, one_spelling, win_makes, walk_answers, spells_log}
-use Rattle.ordered_map.proofs.Runs.{makes_one}
 use Rattle.ordered_map.proofs.TreeRuns.{tree_not_final, tree_remains, stood_blank, passed_depth}
 use Rattle.ordered_map.proofs.laws.laws_hold.Goals as goal
 
 pub returns-clause-edits : goal.returns-clause-edits
 returns-clause-edits c = log_edits
-
-pub returns-clause-one_edit : goal.returns-clause-one_edit
-returns-clause-one_edit c lay h s a b g x y = makes_one lay h s a b g.1.lawful x y
 
 pub returns-clause-spelled : goal.returns-clause-spelled
 returns-clause-spelled c = spells_log
