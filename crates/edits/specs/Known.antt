@@ -74,7 +74,7 @@ pub record RestsWith (c : Call) (h : History) (left : Remaining) : Type 0 where
   pub share : IsShare c.layout h c.pass left left.next_node left.next_scx
   pub over : AreFinished c.layout c.pass 0 h
 
--- nothing of the share was taken since the call began; or a try was lost to another pass
+-- nothing of the share was taken since the call began; or another pass was in the way of the call
 abbrev pub IsUntouched : Call → History → Remaining → Type 0
 IsUntouched c h left = RestsWith c c.start left ⊎ ((n : ℕ) × (s : ℕ) × IsContended c h n s)
 
@@ -416,17 +416,17 @@ module _ {E : Type 0} (e : EditMeaning E) where
     pub none : HasEnteredNone c.layout c.pass h c.start
     pub only_looked : HasOnlyLooked c.pass h c.start
 
-  -- The share has too little left for the edit at the leaf that was found. Nothing of it was taken
-  -- since the call began, or a try was lost to another pass. The pass has entered nothing, and has
-  -- only looked in its newest try.
+  -- The share has too little left for the edit at the leaf that was found in the newest try, in which
+  -- the pass has only looked. Nothing of the share was taken since the call began, or another pass was
+  -- in the way. The pass has entered nothing.
   pub record IsFullFor {A : Type 0} (m : UpdateRun E A) (c : Call) (h : History) (full : Full) : Type 0 where
+    pub only_looked : HasOnlyLooked c.pass h c.start
     pub found : Found
-    pub has_found : HasFoundGoal (e.goal m.edit) c h found
+    pub has_found : HasFoundGoal (e.goal m.edit) (begun_at c only_looked.begin) h found
     pub needed : e.needs m.edit found ≢ Nothing
     pub short : IsShort (e.needs m.edit found) m.share full.what full.left
     pub first : IsUntouched c h m.share
     pub none : HasEnteredNone c.layout c.pass h c.start
-    pub only_looked : HasOnlyLooked c.pass h c.start
 
   -- at a moment of the call it had found this leaf, at which there was something to make
   pub record WasNeeded (ed : E) (c : Call) (h : History) (found : Found) : Type 0 where

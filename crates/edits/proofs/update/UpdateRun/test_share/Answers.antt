@@ -41,13 +41,13 @@ returns-in-Some-clause-turn g c d b h run try first x quiet filled found =
     let some : c.need-need.result ≢ Nothing = search rules in (
       at_rest g.E.Edit.means c.args.self.now d b h x,
       record {
+        only_looked = record { begin = b; since = try.since; newest = try.newest.newest; none = filled };
         found = c.args.found.now;
-        has_found = found_wider d b try.since h _ c.args.found.now found;
+        has_found = found;
         needed = rw c.need-need.ensures at some;
         short = rw c.need-need.ensures at (rw c.in-Some.is at c.lacks.ensures.short);
         first = untouched_later d b h c.args.self.now.share run.lawful x.since first;
         none = nothing_entered g.E.Edit.means c.args.self.now d b h try x quiet;
-        only_looked = record { begin = b; since = try.since; newest = try.newest.newest; none = filled };
       },
       tried_in d b h c.args.self.now.limit c.args.self.now.tries try.newest,
     )
