@@ -3,7 +3,8 @@ use Rattle.std.proofs.Common.{◌≡◌, ◌≢◌, ℕ, zero, suc, ◌<◌, ◌
 use native.Mathlib.Decide.{ℕ_discrete}
 use Rattle.arena.specs.declared.word.Side.{Side}
 use Rattle.arena.specs.declared.word.Side.TheVariants.{Left, Right}
-use Rattle.arena.specs.declared.word.NodeWord.TheVariants.{Key, Value}
+use Rattle.arena.specs.declared.word.NodeWord.TheVariants.{Settled}
+use Rattle.arena.specs.declared.word.SettledPart.TheVariants.{Key, Value}
 use Rattle.arena.specs.Words.{node, child}
 use Rattle.arena.specs.History.{History, value}
 use Rattle.arena.specs.Fills.{IsNamed}
@@ -32,7 +33,7 @@ module _ (c : Call) (h : History) (k old : ℕ) (f : Found) (d : Descriptor) (ab
     (i : IsDeleteAt f d above n) (above_is : IsSnapOf c.layout h d 1 above) (same : (child_of above f.trail.side).0 ≡ f.trail.node.0)
     (sibling_is : IsSnapOf c.layout h d (sibling_place f.trail.side) sibling) (stood : WasInTree h sibling.node.0)
     (w : HasFreshCopy c.layout c.pass h sibling n) where
-  says : (class (value h) f.trail.node.0 ≡ 0) × (value h (node f.trail.node.0 Key) ≡ k)
+  says : (class (value h) f.trail.node.0 ≡ 0) × (value h (node f.trail.node.0 (Settled Key)) ≡ k)
   says = said_some (value h) k f.trail.node.0 old (sym found ∙ a.says)
 
   below : f.trail.node.0 ≢ 0
@@ -75,11 +76,11 @@ module _ (c : Call) (h : History) (k old : ℕ) (f : Found) (d : Descriptor) (ab
   blank : IsBlankAboveKeys (value h) sibling.node.0
   blank = stood_blank c.layout h sibling.node.0 run stood
 
-  same_key : Dec (class (value h) sibling.node.0 ≡ 0) → value h (node n Key) ≡ value h (node sibling.node.0 Key)
+  same_key : Dec (class (value h) sibling.node.0 ≡ 0) → value h (node n (Settled Key)) ≡ value h (node sibling.node.0 (Settled Key))
   same_key (yes low) = w.key_low low
   same_key (no high) = w.key_high high ∙ sym (blank.key high)
 
-  same_value : is_leaf (value h) sibling.node.0 ≡ true → Dec (class (value h) sibling.node.0 ≡ 0) → value h (node n Value) ≡ value h (node sibling.node.0 Value)
+  same_value : is_leaf (value h) sibling.node.0 ≡ true → Dec (class (value h) sibling.node.0 ≡ 0) → value h (node n (Settled Value)) ≡ value h (node sibling.node.0 (Settled Value))
   same_value leaf (yes low) = w.value_low leaf low
   same_value leaf (no high) = w.value_high leaf high ∙ sym (blank.value high leaf)
 

@@ -4,7 +4,8 @@ use Rattle.std.proofs.Common.{false, ◌≡◌, ◌≢◌, ℕ, ◌<◌, ◌≤�
 use native.Mathlib.Decide.{ℕ_discrete}
 use Rattle.arena.specs.declared.word.Side.{Side}
 use Rattle.arena.specs.declared.word.Side.TheVariants.{Left}
-use Rattle.arena.specs.declared.word.NodeWord.TheVariants.{Key as KeyWord, Value as ValueWord}
+use Rattle.arena.specs.declared.word.NodeWord.TheVariants.{Settled}
+use Rattle.arena.specs.declared.word.SettledPart.TheVariants.{Key as KeyWord, Value as ValueWord}
 use Rattle.arena.specs.Words.{node, child}
 use Rattle.arena.specs.History.{History, value, Extends}
 use Rattle.arena.specs.Machines.{Call}
@@ -113,9 +114,9 @@ module _ (c : Call) (h : History) (f : Found) (run : IsTreeRun c.layout h) (a : 
       at_low : f.head.class ≡ 0 → first_said (value h) leaf ≡ first_told f
       at_low z =
           let low : class (value h) leaf ≡ 0 = class_is ∙ z in
-          let key : value h (node leaf KeyWord) ≡ f.key = a.key z in
-          let says : f.value ≡ Some (value h (node leaf ValueWord)) = a.says ∙ rw (eq-eqb (class (value h) leaf) 0 low, eq-eqb f.key (value h (node leaf KeyWord)) (sym key)) refl in
-          rw (eq-eqb (class (value h) leaf) 0 low, says) (λ i. Some (pair (key i) (value h (node leaf ValueWord))))
+          let key : value h (node leaf (Settled KeyWord)) ≡ f.key = a.key z in
+          let says : f.value ≡ Some (value h (node leaf (Settled ValueWord))) = a.says ∙ rw (eq-eqb (class (value h) leaf) 0 low, eq-eqb f.key (value h (node leaf (Settled KeyWord))) (sym key)) refl in
+          rw (eq-eqb (class (value h) leaf) 0 low, says) (λ i. Some (pair (key i) (value h (node leaf (Settled ValueWord)))))
 
       at_high : f.head.class ≢ 0 → first_said (value h) leaf ≡ first_told f
       at_high d =

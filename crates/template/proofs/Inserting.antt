@@ -3,7 +3,8 @@ use Rattle.std.proofs.Common.{◌≡◌, ◌≢◌, ℕ, ◌+◌, ◌*◌, ◌/�
 use Rattle.std.proofs.lemmas.Bool.{le-ltb}
 use Rattle.std.proofs.Math.Decide.{dec_lt}
 use native.Mathlib.Decide.{ℕ_discrete}
-use Rattle.arena.specs.declared.word.NodeWord.TheVariants.{Head, Key, Value}
+use Rattle.arena.specs.declared.word.NodeWord.TheVariants.{Settled}
+use Rattle.arena.specs.declared.word.SettledPart.TheVariants.{Head, Key, Value}
 use Rattle.arena.specs.declared.word.Word.{Word}
 use Rattle.arena.specs.declared.word.Side.TheVariants.{Left, Right}
 use Rattle.arena.specs.Words.{node, child}
@@ -36,13 +37,13 @@ record HeadSays (f : Word → ℕ) (n l c : ℕ) : Type 0 where
 
 leaf_says : (f : Word → ℕ) (n l c k v : ℕ) → c < 4 → IsLeafWith f n l c k v → (is_leaf f n ≡ true) × HeadSays f n l c
 leaf_says f n l c k v small w =
-    let e : f (node n Head) ≡ 8 * l + 4 * 1 + c = w.head in
-    (eq-eqb (f (node n Head) / 4 % 2) 1 (omega (arith, e, small)), record { class = omega (arith, e, small); level = omega (arith, e, small) })
+    let e : f (node n (Settled Head)) ≡ 8 * l + 4 * 1 + c = w.head in
+    (eq-eqb (f (node n (Settled Head)) / 4 % 2) 1 (omega (arith, e, small)), record { class = omega (arith, e, small); level = omega (arith, e, small) })
 
 fork_says : (f : Word → ℕ) (n l c k x y : ℕ) → c < 4 → IsForkWith f n l c k x y → (is_leaf f n ≡ false) × HeadSays f n l c
 fork_says f n l c k x y small w =
-    let e : f (node n Head) ≡ 8 * l + 4 * 0 + c = w.head in
-    (ne_eqb (f (node n Head) / 4 % 2) 1 (λ z. omega (arith, z, e, small)), record { class = omega (arith, e, small); level = omega (arith, e, small) })
+    let e : f (node n (Settled Head)) ≡ 8 * l + 4 * 0 + c = w.head in
+    (ne_eqb (f (node n (Settled Head)) / 4 % 2) 1 (λ z. omega (arith, z, e, small)), record { class = omega (arith, e, small); level = omega (arith, e, small) })
 
 module _ (c : Call) (h : History) (k v : ℕ) (f : Found) (run : IsTreeRun c.layout h) (small : k < 2 ^ 64) (a : HasFoundLeaf c h k f) where
   abbrev old_leaf : ℕ
@@ -54,7 +55,7 @@ module _ (c : Call) (h : History) (k v : ℕ) (f : Found) (run : IsTreeRun c.lay
   level_is : level (value h) old_leaf ≡ f.head.level
   level_is = ap (λ w. w.level) a.head
 
-  key_is : value h (node old_leaf Key) ≡ f.key
+  key_is : value h (node old_leaf (Settled Key)) ≡ f.key
   key_is = found_key k c h f run a
 
   parent : HasTurned c h k f.trail.parent.0 f.trail.side f.trail.node.0
@@ -103,7 +104,7 @@ module _ (c : Call) (h : History) (k v : ℕ) (f : Found) (run : IsTreeRun c.lay
     leaf_y : (is_leaf (value h) y ≡ true) × HeadSays (value h) y (f.head.level + 1) f.head.class
     leaf_y = leaf_says (value h) y (f.head.level + 1) f.head.class f.key w.copied class_small w.copy
 
-    same_value : Dec (f.head.class ≡ 0) → w.copied ≡ value h (node old_leaf Value)
+    same_value : Dec (f.head.class ≡ 0) → w.copied ≡ value h (node old_leaf (Settled Value))
     same_value (yes low) = w.copied_low low
     same_value (no high) = w.copied_high high ∙ sym (found_no_value k c h f run a high)
 

@@ -6,7 +6,8 @@ use Rattle.arena.specs.declared.step.Kind.TheVariants.{LoadSettled}
 use Rattle.arena.specs.declared.step.Row.{Row}
 use Rattle.arena.specs.declared.step.Step.{Step}
 use Rattle.arena.specs.declared.word.NodeWord.{NodeWord}
-use Rattle.arena.specs.declared.word.NodeWord.TheVariants.{Head as HeadWord}
+use Rattle.arena.specs.declared.word.NodeWord.TheVariants.{Settled}
+use Rattle.arena.specs.declared.word.SettledPart.TheVariants.{Head as HeadWord}
 use Rattle.arena.specs.declared.word.ScxWord.{ScxWord}
 use Rattle.arena.specs.declared.word.Word.{Word}
 use Rattle.arena.specs.Words.{node, scx, same_word}
@@ -67,7 +68,7 @@ module _ (c : ℕ) (r : Row) (h : History) where
 
 -- the step begins no try of the pass that makes it
 abbrev pub BeginsNoTry : Step → Type 0
-BeginsNoTry s = is_settled_load s.kind && same_word s.word (node 0 HeadWord) ≡ false
+BeginsNoTry s = is_settled_load s.kind && same_word s.word (node 0 (Settled HeadWord)) ≡ false
 
 -- so its row begins none
 pub own_begins_none : (c : Call) (s : Step) (h : History) → BeginsNoTry s → begins_try c.pass (row_of c s h) ≡ false
@@ -78,7 +79,7 @@ own_begins_none c s h none = rw none (no_and (eqb c.pass c.pass))
     no_and false = refl
 
 -- the load of the root's head begins one
-pub own_begins : (c : Call) (s : Step) (h : History) → s ≡ load LoadSettled (node 0 HeadWord) → begins_try c.pass (row_of c s h) ≡ true
+pub own_begins : (c : Call) (s : Step) (h : History) → s ≡ load LoadSettled (node 0 (Settled HeadWord)) → begins_try c.pass (row_of c s h) ≡ true
 own_begins c s h e = rw (e, eq-eqb c.pass c.pass refl) refl
 
 not_settled : (k : Kind) → k ≢ LoadSettled → is_settled_load k ≡ false
@@ -171,7 +172,7 @@ module _ (m : WalkRun) (c : Call) (h : History) where
   walk_step_begins_none : (p : WalkAt) → IsTreeRun c.layout h → IsPastRoot p → WalkKnows c h m p → BeginsNoTry (walk_step m p)
   walk_step_begins_none WalkStart run past k = absurd past
   walk_step_begins_none Root run past k = absurd past
-  walk_step_begins_none (Head above) run past k = other_node_begins_none (walk_step m (Head above)) m.trail.node.0 HeadWord refl below
+  walk_step_begins_none (Head above) run past k = other_node_begins_none (walk_step m (Head above)) m.trail.node.0 (Settled HeadWord) refl below
     where
       -- no level is below the root's
       below : m.trail.node.0 ≢ 0

@@ -8,7 +8,8 @@ use Rattle.arena.specs.declared.step.Access.TheVariants.{Load}
 use Rattle.arena.specs.declared.step.Kind.{Kind}
 use Rattle.arena.specs.declared.step.Kind.TheVariants.{Fill, LoadSettled, LoadChild}
 use Rattle.arena.specs.declared.word.Side.{Side}
-use Rattle.arena.specs.declared.word.NodeWord.TheVariants.{Head as HeadWord, Key as KeyWord, Value as ValueWord}
+use Rattle.arena.specs.declared.word.NodeWord.TheVariants.{Settled}
+use Rattle.arena.specs.declared.word.SettledPart.TheVariants.{Head as HeadWord, Key as KeyWord, Value as ValueWord}
 use Rattle.arena.specs.declared.word.Word.{Word}
 use Rattle.arena.specs.Heads.{head_of}
 use Rattle.arena.specs.Words.{node, info, child}
@@ -75,35 +76,35 @@ walk_ready_run m c h (Some v) r = (r.run, r.small)
 -- What a leaf says of a key
 
 -- of a leaf that tells a value: its key is that one
-pub said_some : (f : Word → ℕ) (k n old : ℕ) → Some old ≡ said f k n → (class f n ≡ 0) × (f (node n KeyWord) ≡ k)
+pub said_some : (f : Word → ℕ) (k n old : ℕ) → Some old ≡ said f k n → (class f n ≡ 0) × (f (node n (Settled KeyWord)) ≡ k)
 said_some f k n old e = go (ℕ_discrete (class f n) 0)
   where
     nothing_above : class f n ≢ 0 → said f k n ≡ None
     nothing_above d = rw (ne_eqb (class f n) 0 d) refl
 
-    nothing_of : class f n ≡ 0 → k ≢ f (node n KeyWord) → said f k n ≡ None
-    nothing_of z d = rw (eq-eqb (class f n) 0 z, ne_eqb k (f (node n KeyWord)) d) refl
+    nothing_of : class f n ≡ 0 → k ≢ f (node n (Settled KeyWord)) → said f k n ≡ None
+    nothing_of z d = rw (eq-eqb (class f n) 0 z, ne_eqb k (f (node n (Settled KeyWord))) d) refl
 
-    at_key : class f n ≡ 0 → Dec (k ≡ f (node n KeyWord)) → f (node n KeyWord) ≡ k
+    at_key : class f n ≡ 0 → Dec (k ≡ f (node n (Settled KeyWord))) → f (node n (Settled KeyWord)) ≡ k
     at_key z (yes q) = sym q
     at_key z (no d) = absurd (let y : Some old ≡ None = e ∙ nothing_of z d in cc)
 
-    go : Dec (class f n ≡ 0) → (class f n ≡ 0) × (f (node n KeyWord) ≡ k)
+    go : Dec (class f n ≡ 0) → (class f n ≡ 0) × (f (node n (Settled KeyWord)) ≡ k)
     go (no d) = absurd (let y : Some old ≡ None = e ∙ nothing_above d in cc)
-    go (yes z) = (z, at_key z (ℕ_discrete k (f (node n KeyWord))))
+    go (yes z) = (z, at_key z (ℕ_discrete k (f (node n (Settled KeyWord)))))
 
 -- of one that tells none: the key is another one
 pub said_none : (f : Word → ℕ) (k n : ℕ) → k < 2 ^ 64 → None ≡ said f k n → k ≢ rank f n
-said_none f k n small e at = absurd (let y : None ≡ Some (f (node n ValueWord)) = e ∙ value_of low key in cc)
+said_none f k n small e at = absurd (let y : None ≡ Some (f (node n (Settled ValueWord))) = e ∙ value_of low key in cc)
   where
     low : class f n ≡ 0
     low = omega (arith, at, small)
 
-    key : k ≡ f (node n KeyWord)
+    key : k ≡ f (node n (Settled KeyWord))
     key = omega (arith, at, small)
 
-    value_of : class f n ≡ 0 → k ≡ f (node n KeyWord) → said f k n ≡ Some (f (node n ValueWord))
-    value_of z q = rw (eq-eqb (class f n) 0 z, eq-eqb k (f (node n KeyWord)) q) refl
+    value_of : class f n ≡ 0 → k ≡ f (node n (Settled KeyWord)) → said f k n ≡ Some (f (node n (Settled ValueWord)))
+    value_of z q = rw (eq-eqb (class f n) 0 z, eq-eqb k (f (node n (Settled KeyWord))) q) refl
 
 -- What it has found
 
@@ -123,15 +124,15 @@ module _ {asked : ℕ} (k : ℕ) (c : Call) (h : History) (f : Found) (run : IsT
   high d e = d (sym (ap (λ w. w.class) a.head) ∙ e)
 
   -- the key of the leaf is the one that is found, whether it was loaded or not
-  pub found_key : value h (node f.trail.node.0 KeyWord) ≡ f.key
+  pub found_key : value h (node f.trail.node.0 (Settled KeyWord)) ≡ f.key
   found_key = go (ℕ_discrete f.head.class 0)
     where
-      go : Dec (f.head.class ≡ 0) → value h (node f.trail.node.0 KeyWord) ≡ f.key
+      go : Dec (f.head.class ≡ 0) → value h (node f.trail.node.0 (Settled KeyWord)) ≡ f.key
       go (yes e) = a.key e
       go (no d) = blank.key (high d) ∙ sym (a.blank d)
 
   -- a leaf above all keys has the value 0
-  pub found_no_value : f.head.class ≢ 0 → value h (node f.trail.node.0 ValueWord) ≡ 0
+  pub found_no_value : f.head.class ≢ 0 → value h (node f.trail.node.0 (Settled ValueWord)) ≡ 0
   found_no_value d = blank.value (high d) a.leaf
 
   -- its class is one that a word can hold
@@ -147,16 +148,16 @@ module _ {asked : ℕ} (k : ℕ) (c : Call) (h : History) (f : Found) (run : IsT
       omega (arith, deep, few, most)
 
 same_said : (f g : Word → ℕ) (k n : ℕ) → SameSettled f g n → said g k n ≡ said f k n
-same_said f g k n e = λ i. get k (cond (eqb (e HeadWord tt i % 4) 0) (pair (e KeyWord tt i) (e ValueWord tt i) ∷ []) [])
+same_said f g k n e = λ i. get k (cond (eqb (e (Settled HeadWord) tt i % 4) 0) (pair (e (Settled KeyWord) tt i) (e (Settled ValueWord) tt i) ∷ []) [])
 
 -- what a call has found it has found, whatever row comes
 pub found_more : (c : Call) (h : History) (r : Row) (k asked : ℕ) (f : Found) → IsTreeRun c.layout h → IsRun TreeAllows c.layout (r ⊳ h) → HasEnded c h k asked f → HasEnded c (r ⊳ h) k asked f
 found_more c h r k asked f run run_now a = record {
   trail = trail_more c h r run run_now k f.trail a.trail;
   leaf = settled_leaf (value h) (value (r ⊳ h)) f.trail.node.0 same ∙ a.leaf;
-  head = ap head_of (same HeadWord tt) ∙ a.head;
+  head = ap head_of (same (Settled HeadWord) tt) ∙ a.head;
   deep = let deep : f.head.level < 2 + length (taken_nodes h) = a.deep in let more : length (taken_nodes h) ≤ length (taken_nodes (r ⊳ h)) = taken_more h r in omega (arith, deep, more);
-  key = λ low. same KeyWord tt ∙ a.key low;
+  key = λ low. same (Settled KeyWord) tt ∙ a.key low;
   blank = a.blank;
   says = a.says ∙ sym (same_said (value h) (value (r ⊳ h)) asked f.trail.node.0 same);
 }

@@ -5,7 +5,8 @@ use Rattle.arena.specs.declared.machine.Turn.TheVariants.{Ask, Done}
 use Rattle.arena.specs.declared.step.Kind.TheVariants.{LoadSettled, LoadChild}
 use Rattle.arena.specs.declared.word.Side.{Side}
 use Rattle.arena.specs.declared.word.Side.TheVariants.{Left, Right}
-use Rattle.arena.specs.declared.word.NodeWord.TheVariants.{Head as HeadWord, Key as KeyWord, Value as ValueWord, Child as ChildWord}
+use Rattle.arena.specs.declared.word.NodeWord.TheVariants.{Settled, Child as ChildWord}
+use Rattle.arena.specs.declared.word.SettledPart.TheVariants.{Head as HeadWord, Key as KeyWord, Value as ValueWord}
 use Rattle.arena.specs.Heads.{head_of}
 use Rattle.arena.specs.Words.{node}
 use Rattle.arena.specs.History.{History, Extends}
@@ -22,12 +23,12 @@ use Rattle.template.specs.declared.walk.WalkAt.TheVariants.{Start, Root, Head, K
 use Rattle.template.proofs.WalkTurns.{waits_at, ends_above, ends_low, level_is, fork_is, says_nothing, goes_by_key, turn_value, turn_down, stands_at_root, asked_low, unasked_high, unasked_left}
 
 -- it begins at the root
-pub walk_begins : (goal : Goal) (d : Call) (h : History) → IsTreeRun d.layout h → path_key goal < 2 ^ 64 → Extends h d.start → WalkWaits (walk_from goal) d h (load LoadSettled (node 0 HeadWord))
+pub walk_begins : (goal : Goal) (d : Call) (h : History) → IsTreeRun d.layout h → path_key goal < 2 ^ 64 → Extends h d.start → WalkWaits (walk_from goal) d h (load LoadSettled (node 0 (Settled HeadWord)))
 walk_begins goal d h run small since = record { run = run; small = small; since = since; known = refl; asked = refl }
 
 module _ (goal : Goal) (t : Trail) (d : Call) (h : History) where
   -- at a node whose head it has loaded
-  stands_at_head : (p : WalkAt) (v : ℕ) → LoadsHead p → WalkIsTold (walk_at goal t p) d h v → WalkStands (walk_at goal t p) d h × (here h (walk_at goal t p) HeadWord ≡ v)
+  stands_at_head : (p : WalkAt) (v : ℕ) → LoadsHead p → WalkIsTold (walk_at goal t p) d h v → WalkStands (walk_at goal t p) d h × (here h (walk_at goal t p) (Settled HeadWord) ≡ v)
   stands_at_head Root v x w = (stands_at_root d h (walk_at goal t Root) w.run w.small w.own w.known, w.told)
   stands_at_head (Head above) v x w = (record { run = w.run; small = w.small; own = w.own; trail = w.known.0 }, w.told)
   stands_at_head Start v x w = absurd x
@@ -39,11 +40,11 @@ module _ (goal : Goal) (t : Trail) (d : Call) (h : History) where
     stood : WalkStands (walk_at goal t p) d h
     stood = (stands_at_head p v x w).0
 
-    head_is : head_of (here h (walk_at goal t p) HeadWord) ≡ head
+    head_is : head_of (here h (walk_at goal t p) (Settled HeadWord)) ≡ head
     head_is = rw (stands_at_head p v x w).1 is
 
     -- it loads the key of a node where it asks for it
-    pub head_to_key : asks_key goal head ≡ true → WalkWaits (walk_at goal t (Key head)) d h (load LoadSettled (node t.node.0 KeyWord))
+    pub head_to_key : asks_key goal head ≡ true → WalkWaits (walk_at goal t (Key head)) d h (load LoadSettled (node t.node.0 (Settled KeyWord)))
     head_to_key asks = waits_at d h (walk_at goal t p) (walk_at goal t (Key head)) (Ask _) (Key head) _ stood record { stands = refl; asked = refl } (stood.trail, head_is, asked_low goal head asks) refl
 
     -- it ends at another leaf, which is above all keys
@@ -68,7 +69,7 @@ module _ (goal : Goal) (t : Trail) (d : Call) (h : History) where
         (w.known.0, level_is d h m at_low head w.known.1, fork_is d h m at_low head w.known.1 fork, goes_by_key d h m at_low head w.known.1 w.known.2 low w.told ∙ sym is) refl
 
     -- it loads the value of a leaf of whose key it tells
-    pub key_to_value : head.leaf ≡ true → asked_key goal low ≡ low → WalkWaits (walk_at goal t (Value head low)) d h (load LoadSettled (node t.node.0 ValueWord))
+    pub key_to_value : head.leaf ≡ true → asked_key goal low ≡ low → WalkWaits (walk_at goal t (Value head low)) d h (load LoadSettled (node t.node.0 (Settled ValueWord)))
     key_to_value leaf same = waits_at d h (walk_at goal t (Key head)) (walk_at goal t (Value head low)) (Ask _) (Value head low) _ at_low record { stands = refl; asked = refl }
         (w.known.0, w.known.1, w.known.2, leaf, w.told, same) refl
 
@@ -83,7 +84,7 @@ module _ (goal : Goal) (t : Trail) (d : Call) (h : History) where
   value_ends head low v w = let m = walk_at goal t (Value head low) in turn_value d h m m (Done _) head low v refl w record { stands = refl; done = refl }
 
   -- it goes down to the child that it was told
-  pub child_to_head : (level : ℕ) (side : Side) (n : ℕ) → WalkIsTold (walk_at goal t (Child level side)) d h n → WalkWaits (walk_at goal (trail_below t side n) (Head level)) d h (load LoadSettled (node n HeadWord))
+  pub child_to_head : (level : ℕ) (side : Side) (n : ℕ) → WalkIsTold (walk_at goal t (Child level side)) d h n → WalkWaits (walk_at goal (trail_below t side n) (Head level)) d h (load LoadSettled (node n (Settled HeadWord)))
   child_to_head level side n w = let m = walk_at goal t (Child level side) in
       turn_down d h m (walk_at goal (trail_below t side n) (Head level)) (Ask _) level side n
       record { run = w.run; small = w.small; own = w.own; trail = w.known.0 } w.known.1 w.known.2 w.known.3 w.told record { stands = refl; asked = refl }

@@ -8,7 +8,8 @@ use Rattle.arena.specs.declared.machine.Turn.TheVariants.{Ask, Done}
 use Rattle.arena.specs.declared.step.Step.{Step}
 use Rattle.arena.specs.declared.word.Side.{Side}
 use Rattle.arena.specs.declared.word.Side.TheVariants.{Left, Right}
-use Rattle.arena.specs.declared.word.NodeWord.TheVariants.{Head as HeadWord, Key as KeyWord, Value as ValueWord, Child as ChildWord}
+use Rattle.arena.specs.declared.word.NodeWord.TheVariants.{Settled, Child as ChildWord}
+use Rattle.arena.specs.declared.word.SettledPart.TheVariants.{Head as HeadWord, Key as KeyWord, Value as ValueWord}
 use Rattle.arena.specs.Heads.{head_of}
 use Rattle.arena.specs.Words.{child}
 use Rattle.arena.specs.History.{History, value, Extends}
@@ -38,12 +39,12 @@ pub waits_at : (c : Call) (h : History) (old now : WalkRun) (turn : Turn Found) 
 waits_at c h old now turn at step k a known e = rw (a.asked, a.stands) record { run = k.run; small = k.small; since = own_since c h k.own; known = known; asked = e }
 
 -- it has ended
-answers_at : (c : Call) (h : History) (old now : WalkRun) (turn : Turn Found) (head : HeadParts) (key : ℕ) (found : Option ℕ) → WalkStands old c h → WalkEnds old now turn head key found → is_leaf (value h) old.trail.node.0 ≡ true → head_of (here h old HeadWord) ≡ head → (head.class ≡ 0 → here h old KeyWord ≡ key) → (head.class ≢ 0 → key ≡ 0) → found ≡ said (value h) (asked_key old.goal key) old.trail.node.0 → WalkTurn c h now turn
+answers_at : (c : Call) (h : History) (old now : WalkRun) (turn : Turn Found) (head : HeadParts) (key : ℕ) (found : Option ℕ) → WalkStands old c h → WalkEnds old now turn head key found → is_leaf (value h) old.trail.node.0 ≡ true → head_of (here h old (Settled HeadWord)) ≡ head → (head.class ≡ 0 → here h old (Settled KeyWord) ≡ key) → (head.class ≢ 0 → key ≡ 0) → found ≡ said (value h) (asked_key old.goal key) old.trail.node.0 → WalkTurn c h now turn
 answers_at c h old now turn head key found k a leaf e d blank says =
     let deep : head.level < 2 + length (taken_nodes h) = subst (λ w. w.level < 2 + length (taken_nodes h)) e (passed_depth c.layout h k.trail.node.first (path_key old.goal) old.trail.node.0 k.run k.trail.node.passed) in
     rw (a.done, a.stands) record { trail = k.trail; leaf = leaf; head = e; deep = deep; key = d; blank = blank; says = says }
 
-module _ (c : Call) (h : History) (m : WalkRun) (k : WalkStands m c h) (head : HeadParts) (e : head_of (here h m HeadWord) ≡ head) where
+module _ (c : Call) (h : History) (m : WalkRun) (k : WalkStands m c h) (head : HeadParts) (e : head_of (here h m (Settled HeadWord)) ≡ head) where
   abbrev n : ℕ
   n = m.trail.node.0
 
@@ -71,7 +72,7 @@ module _ (c : Call) (h : History) (m : WalkRun) (k : WalkStands m c h) (head : H
   says_nothing_above asked q = rw (ne_eqb (class (value h) n) 0 (λ x. q (sym class_is ∙ x))) refl
 
   -- at a key
-  module _ (low : head.class ≡ 0) (key : ℕ) (d : here h m KeyWord ≡ key) where
+  module _ (low : head.class ≡ 0) (key : ℕ) (d : here h m (Settled KeyWord) ≡ key) where
     class_zero : class (value h) n ≡ 0
     class_zero = class_is ∙ low
 
@@ -79,20 +80,20 @@ module _ (c : Call) (h : History) (m : WalkRun) (k : WalkStands m c h) (head : H
     at_key = let x = class_zero in omega (arith, x, d)
 
     pub says_nothing : (asked : ℕ) → asked ≢ key → None ≡ said (value h) asked n
-    says_nothing asked q = rw (eq-eqb (class (value h) n) 0 class_zero, ne_eqb asked (here h m KeyWord) (λ x. q (x ∙ d))) refl
+    says_nothing asked q = rw (eq-eqb (class (value h) n) 0 class_zero, ne_eqb asked (here h m (Settled KeyWord)) (λ x. q (x ∙ d))) refl
 
     pub goes_by_key : toward (value h) n (path_key m.goal) ≡ cond (ltb (path_key m.goal) key) Left Right
     goes_by_key = ap (λ r. cond (ltb (path_key m.goal) r) Left Right) at_key
 
-    pub says_value : (asked : ℕ) → asked ≡ key → (v : ℕ) → here h m ValueWord ≡ v → Some v ≡ said (value h) asked n
-    says_value asked q v x = rw (eq-eqb (class (value h) n) 0 class_zero, eq-eqb asked (here h m KeyWord) (q ∙ sym d)) (ap Some (sym x))
+    pub says_value : (asked : ℕ) → asked ≡ key → (v : ℕ) → here h m (Settled ValueWord) ≡ v → Some v ≡ said (value h) asked n
+    says_value asked q v x = rw (eq-eqb (class (value h) n) 0 class_zero, eq-eqb asked (here h m (Settled KeyWord)) (q ∙ sym d)) (ap Some (sym x))
 
 -- it has ended at a leaf above all keys
-pub ends_above : (c : Call) (h : History) (old now : WalkRun) (turn : Turn Found) (head : HeadParts) → WalkStands old c h → WalkEnds old now turn head 0 None → head_of (here h old HeadWord) ≡ head → head.class ≢ 0 → head.leaf ≡ true → WalkTurn c h now turn
+pub ends_above : (c : Call) (h : History) (old now : WalkRun) (turn : Turn Found) (head : HeadParts) → WalkStands old c h → WalkEnds old now turn head 0 None → head_of (here h old (Settled HeadWord)) ≡ head → head.class ≢ 0 → head.leaf ≡ true → WalkTurn c h now turn
 ends_above c h old now turn head k a e high leaf = answers_at c h old now turn head 0 None k a (leaf_is c h old k head e leaf) e (λ q. absurd (high q)) (λ d. refl) (says_nothing_above c h old k head e (asked_key old.goal 0) high)
 
 -- it has ended at a leaf with a key
-pub ends_low : (c : Call) (h : History) (old now : WalkRun) (turn : Turn Found) (head : HeadParts) (key : ℕ) (found : Option ℕ) → WalkStands old c h → WalkEnds old now turn head key found → head_of (here h old HeadWord) ≡ head → head.class ≡ 0 → head.leaf ≡ true → here h old KeyWord ≡ key → found ≡ said (value h) (asked_key old.goal key) old.trail.node.0 → WalkTurn c h now turn
+pub ends_low : (c : Call) (h : History) (old now : WalkRun) (turn : Turn Found) (head : HeadParts) (key : ℕ) (found : Option ℕ) → WalkStands old c h → WalkEnds old now turn head key found → head_of (here h old (Settled HeadWord)) ≡ head → head.class ≡ 0 → head.leaf ≡ true → here h old (Settled KeyWord) ≡ key → found ≡ said (value h) (asked_key old.goal key) old.trail.node.0 → WalkTurn c h now turn
 ends_low c h old now turn head key found k a e low leaf d says = answers_at c h old now turn head key found k a (leaf_is c h old k head e leaf) e (λ q. d) (λ high. absurd (high low)) says
 
 -- Which keys it loads
@@ -115,7 +116,7 @@ unasked_high (ToKey k) head e leaf z = let x : true ≡ false = sym (eq-eqb head
 unasked_high Least head e leaf z = let x : true ≡ false = sym (ap (λ b. cond b head.leaf false) (eq-eqb head.class 0 z) ∙ leaf) ∙ e in cc
 
 -- a fork of which it loads no key it leaves on the left
-pub unasked_left : (c : Call) (h : History) (m : WalkRun) (head : HeadParts) → WalkStands m c h → head_of (here h m HeadWord) ≡ head → asks_key m.goal head ≡ false → head.leaf ≡ false → toward (value h) m.trail.node.0 (path_key m.goal) ≡ Left
+pub unasked_left : (c : Call) (h : History) (m : WalkRun) (head : HeadParts) → WalkStands m c h → head_of (here h m (Settled HeadWord)) ≡ head → asks_key m.goal head ≡ false → head.leaf ≡ false → toward (value h) m.trail.node.0 (path_key m.goal) ≡ Left
 unasked_left c h m head k e asks fork = go m.goal refl
   where
     go : (goal : Goal) → m.goal ≡ goal → toward (value h) m.trail.node.0 (path_key m.goal) ≡ Left
@@ -175,7 +176,7 @@ pub told_at : (m : WalkRun) (c : Call) (h : History) (got : Option ℕ) (found :
 told_at m c h None found at is d e r = absurd (d (sym is ∙ r.at))
 told_at m c h (Some v) found at is d e r = subst (WalkIsTold m c h) (sym e) r
 
-pub told_root : (m : WalkRun) (c : Call) (h : History) (found : ℕ) → m.at ≡ Root → WalkIsTold m c h found → WalkStands m c h × (here h m HeadWord ≡ found)
+pub told_root : (m : WalkRun) (c : Call) (h : History) (found : ℕ) → m.at ≡ Root → WalkIsTold m c h found → WalkStands m c h × (here h m (Settled HeadWord) ≡ found)
 told_root m c h found is t =
     let k : m.trail.node.0 ≡ 0 = subst (WalkKnows c h m) is t.known in
     (stands_at_root c h m t.run t.small t.own k, rw is at t.told)

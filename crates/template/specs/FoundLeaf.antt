@@ -1,7 +1,8 @@
 -- What a call knows of the leaf that it has found on its way to a key, or to the least one.
 use Rattle.std.specs.Prelude.{◌≡◌, ◌≢◌, ℕ, ◌+◌, ◌<◌, true, length, Option}
 use Rattle.std.specs.Option.{option_map}
-use Rattle.arena.specs.declared.word.NodeWord.TheVariants.{Head, Key}
+use Rattle.arena.specs.declared.word.NodeWord.TheVariants.{Settled}
+use Rattle.arena.specs.declared.word.SettledPart.TheVariants.{Head, Key}
 use Rattle.arena.specs.Heads.{head_of}
 use Rattle.arena.specs.Words.{node}
 use Rattle.arena.specs.History.{History, value}
@@ -30,10 +31,10 @@ asked_key Least own = own
 pub record HasEnded (c : Call) (h : History) (k asked : ℕ) (f : Found) : Type 0 where
   pub trail : OnTrail c h k f.trail
   pub leaf : is_leaf (value h) f.trail.node.0 ≡ true
-  pub head : head_of (value h (node f.trail.node.0 Head)) ≡ f.head
+  pub head : head_of (value h (node f.trail.node.0 (Settled Head))) ≡ f.head
   -- it is not deeper than the taken nodes allow
   pub deep : f.head.level < 2 + length (taken_nodes h)
-  pub key : f.head.class ≡ 0 → value h (node f.trail.node.0 Key) ≡ f.key
+  pub key : f.head.class ≡ 0 → value h (node f.trail.node.0 (Settled Key)) ≡ f.key
   -- of a leaf above all keys the key told is 0
   pub blank : f.head.class ≢ 0 → f.key ≡ 0
   pub says : f.value ≡ said (value h) asked f.trail.node.0

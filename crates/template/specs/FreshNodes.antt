@@ -3,7 +3,8 @@ use Rattle.std.specs.Prelude.{◌≡◌, ◌≢◌, ℕ, ◌+◌, Bool, true, fa
 use Rattle.arena.specs.declared.layout.Layout.{Layout}
 use Rattle.arena.specs.declared.word.Side.{Side}
 use Rattle.arena.specs.declared.word.Side.TheVariants.{Left, Right}
-use Rattle.arena.specs.declared.word.NodeWord.TheVariants.{Head, Key, Value}
+use Rattle.arena.specs.declared.word.NodeWord.TheVariants.{Settled}
+use Rattle.arena.specs.declared.word.SettledPart.TheVariants.{Head, Key, Value}
 use Rattle.arena.specs.declared.word.Word.{Word}
 use Rattle.arena.specs.Heads.{head_word}
 use Rattle.arena.specs.Words.{node, child}
@@ -18,14 +19,14 @@ use Rattle.template.specs.declared.walk.Found.{Found}
 
 -- n is a leaf of this level and class, with the key k and the value v
 pub record IsLeafWith (f : Word → ℕ) (n level class k v : ℕ) : Type 0 where
-  pub head : f (node n Head) ≡ head_word record { level = level; leaf = true; class = class }
-  pub key : f (node n Key) ≡ k
-  pub value : f (node n Value) ≡ v
+  pub head : f (node n (Settled Head)) ≡ head_word record { level = level; leaf = true; class = class }
+  pub key : f (node n (Settled Key)) ≡ k
+  pub value : f (node n (Settled Value)) ≡ v
 
 -- n is a fork of this level and class, with the key k, over the nodes x and y
 pub record IsForkWith (f : Word → ℕ) (n level class k x y : ℕ) : Type 0 where
-  pub head : f (node n Head) ≡ head_word record { level = level; leaf = false; class = class }
-  pub key : f (node n Key) ≡ k
+  pub head : f (node n (Settled Head)) ≡ head_word record { level = level; leaf = false; class = class }
+  pub key : f (node n (Settled Key)) ≡ k
   pub left : f (child n Left) ≡ x
   pub right : f (child n Right) ≡ y
 
@@ -58,7 +59,7 @@ pub record HasFreshFork (lay : Layout) (c : ℕ) (h : History) (f : Found) (k v 
   pub leaf : IsLeafWith (value h) x (f.head.level + 1) 0 k v
   pub copied : ℕ
   pub copy : IsLeafWith (value h) y (f.head.level + 1) f.head.class f.key copied
-  pub copied_low : f.head.class ≡ 0 → copied ≡ value h (node f.trail.node.0 Value)
+  pub copied_low : f.head.class ≡ 0 → copied ≡ value h (node f.trail.node.0 (Settled Value))
   pub copied_high : f.head.class ≢ 0 → copied ≡ 0
   pub fork : IsForkWith (value h) n f.head.level
       (if comes_before k f then f.head.class else 0)
@@ -82,9 +83,9 @@ pub record IsDeleteAt (f : Found) (d : Descriptor) (snap : Snap) (n : ℕ) : Typ
 -- class 0 and a leaf's value of class 0 are copied, those of any other class are taken to be 0.
 pub record HasFreshCopy (lay : Layout) (c : ℕ) (h : History) (snap : Snap) (n : ℕ) : Type 0 where
   pub fresh : IsFresh lay c h n
-  pub head : value h (node n Head) ≡ value h (node snap.node.0 Head)
-  pub key_low : class (value h) snap.node.0 ≡ 0 → value h (node n Key) ≡ value h (node snap.node.0 Key)
-  pub key_high : class (value h) snap.node.0 ≢ 0 → value h (node n Key) ≡ 0
-  pub value_low : is_leaf (value h) snap.node.0 ≡ true → class (value h) snap.node.0 ≡ 0 → value h (node n Value) ≡ value h (node snap.node.0 Value)
-  pub value_high : is_leaf (value h) snap.node.0 ≡ true → class (value h) snap.node.0 ≢ 0 → value h (node n Value) ≡ 0
+  pub head : value h (node n (Settled Head)) ≡ value h (node snap.node.0 (Settled Head))
+  pub key_low : class (value h) snap.node.0 ≡ 0 → value h (node n (Settled Key)) ≡ value h (node snap.node.0 (Settled Key))
+  pub key_high : class (value h) snap.node.0 ≢ 0 → value h (node n (Settled Key)) ≡ 0
+  pub value_low : is_leaf (value h) snap.node.0 ≡ true → class (value h) snap.node.0 ≡ 0 → value h (node n (Settled Value)) ≡ value h (node snap.node.0 (Settled Value))
+  pub value_high : is_leaf (value h) snap.node.0 ≡ true → class (value h) snap.node.0 ≢ 0 → value h (node n (Settled Value)) ≡ 0
   pub fields : is_leaf (value h) snap.node.0 ≡ false → (side : Side) → value h (child n side) ≡ (child_of snap side).0

@@ -2,7 +2,7 @@
 ghost use Rattle.std.specs.Prelude.{◌≡◌, ℕ};
 
 use crate::shape::Tree;
-use arena::{Access, Head, Kind, Machine, NodeNo, NodeWord, Side, Step, Turn, Word};
+use arena::{Access, Head, Kind, Machine, NodeNo, NodeWord, SettledPart, Side, Step, Turn, Word};
 
 /// The last nodes of a walk: the node that it has come to, and the two forks above it with the sides
 /// to which it has gone there. A walk that stands at the root has no fork above it, and one that
@@ -70,7 +70,8 @@ pub struct WalkRun {
 impl WalkRun {
     ghost use Rattle.std.specs.Prelude.{◌≡◌, ℕ, ◌+◌, ◌-◌, ◌*◌, ◌^◌, ◌<◌, ◌≤◌, true, false, if◌then◌else◌, ◌==◌, nat_lt};
     ghost use Rattle.arena.specs.Heads.{head_of};
-    ghost use Rattle.arena.specs.declared.word.NodeWord.TheVariants.{Head as HeadWord, Key as KeyWord, Child as ChildWord};
+    ghost use Rattle.arena.specs.declared.word.NodeWord.TheVariants.{Settled, Child as ChildWord};
+    ghost use Rattle.arena.specs.declared.word.SettledPart.TheVariants.{Head as HeadWord, Key as KeyWord};
     ghost use Rattle.arena.specs.History.{History, value};
     ghost use Rattle.arena.specs.Machines.{MatchTurn, Call};
     ghost use Rattle.ordered_map.specs.TreeWords.{is_leaf, level, toward};
@@ -177,13 +178,13 @@ impl WalkRun {
 
     /// Goes on with the head of the node.
     fn read_head(&mut self, head: Head) -> Turn<Found>
-        ensures turn { (c : Call) (h : History) → WalkStands self.old c h → head_of (here h self.old HeadWord) ≡ head → WalkTurn c h self.new result }
+        ensures turn { (c : Call) (h : History) → WalkStands self.old c h → head_of (here h self.old (Settled HeadWord)) ≡ head → WalkTurn c h self.new result }
         ensures same { self.new.goal ≡ self.old.goal }
         ensures nearer { (nodes : ℕ) → head.level < 2 + nodes
             → MatchTurn result (λ _. walk_left self.new.at nodes < 3 * (2 + nodes - head.level) - 1) (λ _. Unit {0}) }
     {
         if self.asks_key(head) {
-            self.load_settled(WalkAt::Key { head }, NodeWord::Key)
+            self.load_settled(WalkAt::Key { head }, NodeWord::Settled(SettledPart::Key))
         } else if head.leaf {
             self.end(head, 0, None)
         } else {
@@ -193,8 +194,8 @@ impl WalkRun {
 
     /// Goes on with the key of a node of class 0.
     fn read_key(&mut self, head: Head, key: u64) -> Turn<Found>
-        ensures turn { (c : Call) (h : History) → WalkStands self.old c h → head_of (here h self.old HeadWord) ≡ head
-            → head.class ≡ 0 → here h self.old KeyWord ≡ key → WalkTurn c h self.new result }
+        ensures turn { (c : Call) (h : History) → WalkStands self.old c h → head_of (here h self.old (Settled HeadWord)) ≡ head
+            → head.class ≡ 0 → here h self.old (Settled KeyWord) ≡ key → WalkTurn c h self.new result }
         ensures same { self.new.goal ≡ self.old.goal }
         ensures nearer { (nodes : ℕ) → head.level < 2 + nodes
             → MatchTurn result (λ _. walk_left self.new.at nodes < walk_left (WalkAt.Key head) nodes) (λ _. Unit {0}) }
@@ -202,7 +203,10 @@ impl WalkRun {
         if !head.leaf {
             self.load_child(head.level, self.side(key))
         } else if self.asks_value(key) {
-            self.load_settled(WalkAt::Value { head, key }, NodeWord::Value)
+            self.load_settled(
+                WalkAt::Value { head, key },
+                NodeWord::Settled(SettledPart::Value),
+            )
         } else {
             self.end(head, key, None)
         }
@@ -226,7 +230,7 @@ impl WalkRun {
             side,
             node: NodeNo(child),
         };
-        self.load_settled(WalkAt::Head { above }, NodeWord::Head)
+        self.load_settled(WalkAt::Head { above }, NodeWord::Settled(SettledPart::Head))
     }
 }
 
@@ -255,7 +259,7 @@ impl Machine<Tree> for WalkRun {
     fn next(&mut self, got: Option<u64>) -> Turn<Found> {
         let found = got.unwrap_or(0);
         match self.at {
-            WalkAt::Start => self.load_settled(WalkAt::Root, NodeWord::Head),
+            WalkAt::Start => self.load_settled(WalkAt::Root, NodeWord::Settled(SettledPart::Head)),
             WalkAt::Root => self.read_head(Head::of(found)),
             WalkAt::Head { above: _ } => self.read_head(Head::of(found)),
             WalkAt::Key { head } => self.read_key(head, found),

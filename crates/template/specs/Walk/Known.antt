@@ -7,7 +7,8 @@ use Rattle.arena.specs.declared.step.Step.{Step}
 use Rattle.arena.specs.declared.step.Kind.{Kind}
 use Rattle.arena.specs.declared.step.Kind.TheVariants.{LoadSettled, LoadChild}
 use Rattle.arena.specs.declared.word.NodeWord.{NodeWord}
-use Rattle.arena.specs.declared.word.NodeWord.TheVariants.{Head as HeadWord, Key as KeyWord, Value as ValueWord, Child as ChildWord}
+use Rattle.arena.specs.declared.word.NodeWord.TheVariants.{Settled, Child as ChildWord}
+use Rattle.arena.specs.declared.word.SettledPart.TheVariants.{Head as HeadWord, Key as KeyWord, Value as ValueWord}
 use Rattle.arena.specs.Heads.{head_of}
 use Rattle.arena.specs.Words.{node}
 use Rattle.arena.specs.History.{History, value, Extends}
@@ -38,16 +39,16 @@ abbrev pub WalkKnows : Call → History → WalkRun → WalkAt → Type 0
 WalkKnows c h m Start = ⊥
 WalkKnows c h m Root = m.trail.node.0 ≡ 0
 WalkKnows c h m (Head above) = OnTrail c h (path_key m.goal) m.trail × (above < level (value h) m.trail.node.0)
-WalkKnows c h m (Key head) = OnTrail c h (path_key m.goal) m.trail × (head_of (here h m HeadWord) ≡ head) × (head.class ≡ 0)
+WalkKnows c h m (Key head) = OnTrail c h (path_key m.goal) m.trail × (head_of (here h m (Settled HeadWord)) ≡ head) × (head.class ≡ 0)
 WalkKnows c h m (Child low side) = OnTrail c h (path_key m.goal) m.trail × (level (value h) m.trail.node.0 ≡ low) × (is_leaf (value h) m.trail.node.0 ≡ false) × (toward (value h) m.trail.node.0 (path_key m.goal) ≡ side)
-WalkKnows c h m (Value head key) = OnTrail c h (path_key m.goal) m.trail × (head_of (here h m HeadWord) ≡ head) × (head.class ≡ 0) × (head.leaf ≡ true) × (here h m KeyWord ≡ key) × (asked_key m.goal key ≡ key)
+WalkKnows c h m (Value head key) = OnTrail c h (path_key m.goal) m.trail × (head_of (here h m (Settled HeadWord)) ≡ head) × (head.class ≡ 0) × (head.leaf ≡ true) × (here h m (Settled KeyWord) ≡ key) × (asked_key m.goal key ≡ key)
 
 -- the word that it loads at this place
 abbrev pub walk_part : WalkAt → NodeWord
-walk_part (Key head) = KeyWord
+walk_part (Key head) = Settled KeyWord
 walk_part (Child low side) = ChildWord side
-walk_part (Value head key) = ValueWord
-walk_part _ = HeadWord
+walk_part (Value head key) = Settled ValueWord
+walk_part _ = Settled HeadWord
 
 -- the kind of the load
 abbrev pub walk_kind : WalkAt → Kind

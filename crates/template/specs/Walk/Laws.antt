@@ -7,7 +7,8 @@ use Rattle.arena.specs.declared.step.Row.{Row}
 use Rattle.arena.specs.declared.step.Step.{Step}
 use Rattle.arena.specs.declared.step.Kind.TheVariants.{LoadSettled, LoadChild}
 use Rattle.arena.specs.declared.word.Side.{Side}
-use Rattle.arena.specs.declared.word.NodeWord.TheVariants.{Head as HeadWord, Key as KeyWord, Value as ValueWord, Child as ChildWord}
+use Rattle.arena.specs.declared.word.NodeWord.TheVariants.{Settled, Child as ChildWord}
+use Rattle.arena.specs.declared.word.SettledPart.TheVariants.{Head as HeadWord, Key as KeyWord, Value as ValueWord}
 use Rattle.arena.specs.Heads.{head_of}
 use Rattle.arena.specs.Layout.{all_nodes}
 use Rattle.arena.specs.Words.{node, child}
@@ -67,13 +68,13 @@ module _ (c : Call) (h : History) (r : Row) (g : IsTreeRun c.layout h) (run : Is
   walk_known_more m (Head above) k =
       let y : level (value (r ⊳ h)) m.trail.node.0 ≡ level (value h) m.trail.node.0 = settled_level (value h) (value (r ⊳ h)) m.trail.node.0 (settled_more (path_key m.goal) m.trail.node.0 k.0.node) in
       (trail_more (path_key m.goal) m.trail k.0, (let z = k.1 in omega (arith, y, z)))
-  walk_known_more m (Key head) k = (trail_more (path_key m.goal) m.trail k.0, ap head_of (settled_more (path_key m.goal) m.trail.node.0 k.0.node HeadWord tt) ∙ k.1, k.2)
+  walk_known_more m (Key head) k = (trail_more (path_key m.goal) m.trail k.0, ap head_of (settled_more (path_key m.goal) m.trail.node.0 k.0.node (Settled HeadWord) tt) ∙ k.1, k.2)
   walk_known_more m (Child low side) k =
       let same : SameSettled (value h) (value (r ⊳ h)) m.trail.node.0 = settled_more (path_key m.goal) m.trail.node.0 k.0.node in
       (trail_more (path_key m.goal) m.trail k.0, settled_level (value h) (value (r ⊳ h)) m.trail.node.0 same ∙ k.1, settled_leaf (value h) (value (r ⊳ h)) m.trail.node.0 same ∙ k.2, settled_toward (value h) (value (r ⊳ h)) m.trail.node.0 (path_key m.goal) same ∙ k.3)
   walk_known_more m (Value head key) k =
       let same : SameSettled (value h) (value (r ⊳ h)) m.trail.node.0 = settled_more (path_key m.goal) m.trail.node.0 k.0.node in
-      (trail_more (path_key m.goal) m.trail k.0, ap head_of (same HeadWord tt) ∙ k.1, k.2, k.3, same KeyWord tt ∙ k.4, k.5)
+      (trail_more (path_key m.goal) m.trail k.0, ap head_of (same (Settled HeadWord) tt) ∙ k.1, k.2, k.3, same (Settled KeyWord) tt ∙ k.4, k.5)
 
 run_more : (c : Call) (h : History) (r : Row) → IsTreeRun c.layout h → IsRun TreeAllows c.layout (r ⊳ h) → IsTreeRun c.layout (r ⊳ h)
 run_more c h r g run = (g.0, run)
@@ -96,12 +97,12 @@ inside c h m (Child low side) g k = walk_inside c.layout h k.0.node.first (path_
 inside c h m (Value head key) g k = walk_inside c.layout h k.0.node.first (path_key m.goal) m.trail.node.0 g.1.lawful k.0.node.passed
 
 lawful_at : (m : WalkRun) (c : Call) (h : History) (at : WalkAt) (s : Step) → IsRun TreeAllows c.layout h → s ≡ walk_step m at → m.trail.node.0 < all_nodes c.layout → IsRun TreeAllows c.layout (row_of c s h ⊳ h)
-lawful_at m c h Start s run e i = load_lawful TreeAllows c h LoadSettled (node m.trail.node.0 HeadWord) s run e record { word = tt; same = refl } (λ q. cc) i
-lawful_at m c h Root s run e i = load_lawful TreeAllows c h LoadSettled (node m.trail.node.0 HeadWord) s run e record { word = tt; same = refl } (λ q. cc) i
-lawful_at m c h (Head above) s run e i = load_lawful TreeAllows c h LoadSettled (node m.trail.node.0 HeadWord) s run e record { word = tt; same = refl } (λ q. cc) i
-lawful_at m c h (Key head) s run e i = load_lawful TreeAllows c h LoadSettled (node m.trail.node.0 KeyWord) s run e record { word = tt; same = refl } (λ q. cc) i
+lawful_at m c h Start s run e i = load_lawful TreeAllows c h LoadSettled (node m.trail.node.0 (Settled HeadWord)) s run e record { word = tt; same = refl } (λ q. cc) i
+lawful_at m c h Root s run e i = load_lawful TreeAllows c h LoadSettled (node m.trail.node.0 (Settled HeadWord)) s run e record { word = tt; same = refl } (λ q. cc) i
+lawful_at m c h (Head above) s run e i = load_lawful TreeAllows c h LoadSettled (node m.trail.node.0 (Settled HeadWord)) s run e record { word = tt; same = refl } (λ q. cc) i
+lawful_at m c h (Key head) s run e i = load_lawful TreeAllows c h LoadSettled (node m.trail.node.0 (Settled KeyWord)) s run e record { word = tt; same = refl } (λ q. cc) i
 lawful_at m c h (Child low side) s run e i = load_lawful TreeAllows c h LoadChild (node m.trail.node.0 (ChildWord side)) s run e record { word = tt; same = refl } (λ q. cc) i
-lawful_at m c h (Value head key) s run e i = load_lawful TreeAllows c h LoadSettled (node m.trail.node.0 ValueWord) s run e record { word = tt; same = refl } (λ q. cc) i
+lawful_at m c h (Value head key) s run e i = load_lawful TreeAllows c h LoadSettled (node m.trail.node.0 (Settled ValueWord)) s run e record { word = tt; same = refl } (λ q. cc) i
 
 -- the step that a walk waits for continues the run
 pub walk_lawful : (m : WalkRun) (c : Call) (h : History) (s : Step) → IsRun TreeAllows c.layout h → WalkWaits m c h s → IsRun TreeAllows c.layout (row_of c s h ⊳ h)
