@@ -4,7 +4,8 @@ use Rattle.arena.specs.declared.number.NodeNo.{NodeNo}
 use Rattle.arena.specs.declared.word.Side.{Side}
 use Rattle.arena.specs.declared.word.Side.TheVariants.{Left, Right}
 use Rattle.arena.specs.declared.word.NodeWord.{NodeWord}
-use Rattle.arena.specs.declared.word.NodeWord.TheVariants.{Head, Key, Value, Child, Info, Marked}
+use Rattle.arena.specs.declared.word.NodeWord.TheVariants.{Settled, Child, Info, Marked}
+use Rattle.arena.specs.declared.word.SettledPart.TheVariants.{Head, Key, Value}
 use Rattle.arena.specs.Fills.{IsInField}
 use Rattle.arena.specs.History.{History}
 use Rattle.arena.specs.Machines.{Call}
@@ -27,23 +28,23 @@ use Rattle.edits.proofs.Nearer.{the_same}
 
 -- The next word
 
-head_key : (q : NodeWord) → IsBefore Key q → IsUpTo Head q
-head_key Head i = tt
+head_key : (q : NodeWord) → IsBefore (Settled Key) q → IsUpTo (Settled Head) q
+head_key (Settled Head) i = tt
 head_key _ i = absurd i
 
-key_value : (q : NodeWord) → IsBefore Value q → IsUpTo Key q
-key_value Head i = tt
-key_value Key i = tt
+key_value : (q : NodeWord) → IsBefore (Settled Value) q → IsUpTo (Settled Key) q
+key_value (Settled Head) i = tt
+key_value (Settled Key) i = tt
 key_value _ i = absurd i
 
-key_left : (q : NodeWord) → IsBefore (Child Left) q → IsUpTo Key q
-key_left Head i = tt
-key_left Key i = tt
+key_left : (q : NodeWord) → IsBefore (Child Left) q → IsUpTo (Settled Key) q
+key_left (Settled Head) i = tt
+key_left (Settled Key) i = tt
 key_left _ i = absurd i
 
 left_right : (q : NodeWord) → IsBefore (Child Right) q → IsUpTo (Child Left) q
-left_right Head i = tt
-left_right Key i = tt
+left_right (Settled Head) i = tt
+left_right (Settled Key) i = tt
 left_right (Child Left) i = tt
 left_right _ i = absurd i
 
@@ -53,28 +54,26 @@ record ComesNext (p : Piece) (part next : NodeWord) : Type 0 where
   before : (q : NodeWord) → IsBefore next q → IsUpTo part q
 
 next_word : (p : Piece) (part next : NodeWord) → part_behind p part ≡ Some next → ComesNext p part next
-next_word (Leaf level class key v) Head next e = subst (λ q. ComesNext (Leaf level class key v) Head q) (the_same Key next e) record { is = tt; before = head_key }
-next_word (Leaf level class key v) Key next e = subst (λ q. ComesNext (Leaf level class key v) Key q) (the_same Value next e) record { is = tt; before = key_value }
+next_word (Leaf level class key v) (Settled Head) next e = subst (λ q. ComesNext (Leaf level class key v) (Settled Head) q) (the_same (Settled Key) next e) record { is = tt; before = head_key }
+next_word (Leaf level class key v) (Settled Key) next e = subst (λ q. ComesNext (Leaf level class key v) (Settled Key) q) (the_same (Settled Value) next e) record { is = tt; before = key_value }
 next_word (Leaf level class key v) _ next e = absurd (let d : None ≡ Some next = e in cc)
-next_word (Fork level class key l r) Head next e = subst (λ q. ComesNext (Fork level class key l r) Head q) (the_same Key next e) record { is = tt; before = head_key }
-next_word (Fork level class key l r) Key next e = subst (λ q. ComesNext (Fork level class key l r) Key q) (the_same (Child Left) next e) record { is = tt; before = key_left }
+next_word (Fork level class key l r) (Settled Head) next e = subst (λ q. ComesNext (Fork level class key l r) (Settled Head) q) (the_same (Settled Key) next e) record { is = tt; before = head_key }
+next_word (Fork level class key l r) (Settled Key) next e = subst (λ q. ComesNext (Fork level class key l r) (Settled Key) q) (the_same (Child Left) next e) record { is = tt; before = key_left }
 next_word (Fork level class key l r) (Child Left) next e = subst (λ q. ComesNext (Fork level class key l r) (Child Left) q) (the_same (Child Right) next e) record { is = tt; before = left_right }
 next_word (Fork level class key l r) _ next e = absurd (let d : None ≡ Some next = e in cc)
 
 -- The last word
 
-leaf_words : (level class key v : ℕ) (q : NodeWord) → IsPieceWord (Leaf level class key v) q → IsUpTo Value q
-leaf_words level class key v Head i = tt
-leaf_words level class key v Key i = tt
-leaf_words level class key v Value i = tt
+leaf_words : (level class key v : ℕ) (q : NodeWord) → IsPieceWord (Leaf level class key v) q → IsUpTo (Settled Value) q
+leaf_words level class key v (Settled p) i = tt
 leaf_words level class key v (Child side) i = absurd i
 leaf_words level class key v Info i = absurd i
 leaf_words level class key v Marked i = absurd i
 
 fork_words : (level class key : ℕ) (l r : NodeNo) (q : NodeWord) → IsPieceWord (Fork level class key l r) q → IsUpTo (Child Right) q
-fork_words level class key l r Head i = tt
-fork_words level class key l r Key i = tt
-fork_words level class key l r Value i = absurd i
+fork_words level class key l r (Settled Head) i = tt
+fork_words level class key l r (Settled Key) i = tt
+fork_words level class key l r (Settled Value) i = absurd i
 fork_words level class key l r (Child Left) i = tt
 fork_words level class key l r (Child Right) i = tt
 fork_words level class key l r Info i = absurd i
@@ -82,17 +81,17 @@ fork_words level class key l r Marked i = absurd i
 
 -- behind the last word all words of the piece are filled
 last_word : (p : Piece) (part : NodeWord) → IsPieceWord p part → part_behind p part ≡ None → (q : NodeWord) → IsPieceWord p q → IsUpTo part q
-last_word (Leaf level class key v) Head i e q j = absurd (let d : Some Key ≡ None = e in cc)
-last_word (Leaf level class key v) Key i e q j = absurd (let d : Some Value ≡ None = e in cc)
-last_word (Leaf level class key v) Value i e q j = leaf_words level class key v q j
+last_word (Leaf level class key v) (Settled Head) i e q j = absurd (let d : Some (Settled Key) ≡ None = e in cc)
+last_word (Leaf level class key v) (Settled Key) i e q j = absurd (let d : Some (Settled Value) ≡ None = e in cc)
+last_word (Leaf level class key v) (Settled Value) i e q j = leaf_words level class key v q j
 last_word (Leaf level class key v) (Child side) i e q j = absurd i
 last_word (Leaf level class key v) Info i e q j = absurd i
 last_word (Leaf level class key v) Marked i e q j = absurd i
-last_word (Fork level class key l r) Head i e q j = absurd (let d : Some Key ≡ None = e in cc)
-last_word (Fork level class key l r) Key i e q j = absurd (let d : Some (Child Left) ≡ None = e in cc)
+last_word (Fork level class key l r) (Settled Head) i e q j = absurd (let d : Some (Settled Key) ≡ None = e in cc)
+last_word (Fork level class key l r) (Settled Key) i e q j = absurd (let d : Some (Child Left) ≡ None = e in cc)
 last_word (Fork level class key l r) (Child Left) i e q j = absurd (let d : Some (Child Right) ≡ None = e in cc)
 last_word (Fork level class key l r) (Child Right) i e q j = fork_words level class key l r q j
-last_word (Fork level class key l r) Value i e q j = absurd i
+last_word (Fork level class key l r) (Settled Value) i e q j = absurd i
 last_word (Fork level class key l r) Info i e q j = absurd i
 last_word (Fork level class key l r) Marked i e q j = absurd i
 
@@ -201,9 +200,7 @@ module _ {E : Type 0} (e : EditMeaning E) {A : Type 0} (m : UpdateRun E A) (c : 
 
   field_may : FillsWell e → (next : NodeWord) → IsPieceWord said next → FieldMay next (IsForField c.layout h m.nodes.first.0 (top e m f) (word_of said next))
   field_may sound (Child side) i = for_field sound side i
-  field_may sound Head i = tt
-  field_may sound Key i = tt
-  field_may sound Value i = tt
+  field_may sound (Settled p) i = tt
   field_may sound Info i = tt
   field_may sound Marked i = tt
 

@@ -6,7 +6,8 @@ use Rattle.arena.specs.declared.number.NodeNo.{NodeNo}
 use Rattle.arena.specs.declared.step.Access.TheVariants.{Load as LoadAccess}
 use Rattle.arena.specs.declared.step.Kind.TheVariants.{LoadSettled}
 use Rattle.arena.specs.declared.word.NodeWord.{NodeWord}
-use Rattle.arena.specs.declared.word.NodeWord.TheVariants.{Head, Key, Value, Child, Info, Marked}
+use Rattle.arena.specs.declared.word.NodeWord.TheVariants.{Settled, Child, Info, Marked}
+use Rattle.arena.specs.declared.word.SettledPart.TheVariants.{Head, Key, Value}
 use Rattle.arena.specs.declared.word.Word.{Word}
 use Rattle.arena.specs.declared.word.Word.TheVariants.{Node as NodeOf}
 use Rattle.arena.specs.History.{History, value}
@@ -82,22 +83,20 @@ filled_same lay h c left first top n p q same x = record {
 
 -- Loads
 
-is_head : (p : Piece) → IsPieceWord p Head
+is_head : (p : Piece) → IsPieceWord p (Settled Head)
 is_head (Leaf level class key v) = tt
 is_head (Fork level class key l r) = tt
 
-none_before : (q : NodeWord) → IsBefore Head q → ⊥
-none_before Head i = absurd i
-none_before Key i = absurd i
-none_before Value i = absurd i
+none_before : (q : NodeWord) → IsBefore (Settled Head) q → ⊥
+none_before (Settled p) i = absurd i
 none_before (Child side) i = absurd i
 none_before Info i = absurd i
 none_before Marked i = absurd i
 
 loaded_one : (f : Word → ℕ) (n : ℕ) (ld : Loaded) (part : NodeWord) (v : ℕ) → IsSettled (node n part) → f (node n part) ≡ v → AreLoaded f n ld → AreLoaded f n (with_word ld part v)
-loaded_one f n ld Head v i e x = record { head = sym e; key = x.key; value = x.value }
-loaded_one f n ld Key v i e x = record { head = x.head; key = sym e; value = x.value }
-loaded_one f n ld Value v i e x = record { head = x.head; key = x.key; value = sym e }
+loaded_one f n ld (Settled Head) v i e x = record { head = sym e; key = x.key; value = x.value }
+loaded_one f n ld (Settled Key) v i e x = record { head = x.head; key = sym e; value = x.value }
+loaded_one f n ld (Settled Value) v i e x = record { head = x.head; key = x.key; value = sym e }
 loaded_one f n ld (Child side) v i e x = absurd i
 loaded_one f n ld Info v i e x = absurd i
 loaded_one f n ld Marked v i e x = absurd i
@@ -130,7 +129,7 @@ module _ {E : Type 0} (e : EditMeaning E) where
   )
 
   -- where nothing is to be loaded, it may fill the head of its node
-  pub fills_head : {A : Type 0} (m : UpdateRun E A) (c : Call) (h : History) (f : Found) (nth : Nth) → CanLoad e m c h f nth → e.wants m.edit f m.snaps.items m.loaded nth ≡ None → CanFill e m c h f nth Head
+  pub fills_head : {A : Type 0} (m : UpdateRun E A) (c : Call) (h : History) (f : Found) (nth : Nth) → CanLoad e m c h f nth → e.wants m.edit f m.snaps.items m.loaded nth ≡ None → CanFill e m c h f nth (Settled Head)
   fills_head m c h f nth x done = record {
     fills = record {
       works = x.works;

@@ -6,7 +6,8 @@ use Rattle.arena.specs.declared.machine.Turn.{Turn}
 use Rattle.arena.specs.declared.machine.Turn.TheVariants.{Ask, Done}
 use Rattle.arena.specs.Machines.{MatchTurn}
 use Rattle.arena.specs.declared.word.NodeWord.{NodeWord}
-use Rattle.arena.specs.declared.word.NodeWord.TheVariants.{Head, Key, Value, Child}
+use Rattle.arena.specs.declared.word.NodeWord.TheVariants.{Settled, Child}
+use Rattle.arena.specs.declared.word.SettledPart.TheVariants.{Head, Key, Value}
 use Rattle.arena.specs.declared.word.Side.TheVariants.{Left, Right}
 use Rattle.edits.specs.declared.edit.Need.{Need}
 use Rattle.edits.specs.declared.edit.Need.TheVariants.{Nothing, One, Three}
@@ -129,11 +130,11 @@ place_behind Three Third after d = absurd (let z : None ≡ Some after = d in cc
 
 -- fewer words are filled behind the next
 pub fewer_fills : (p : Piece) (part next : NodeWord) → part_behind p part ≡ Some next → fills_behind p next < fills_behind p part
-fewer_fills (Leaf level class key v) Head next e = subst (λ q. fills_behind (Leaf level class key v) q < 2) (the_same Key next e) (omega arith)
-fewer_fills (Leaf level class key v) Key next e = subst (λ q. fills_behind (Leaf level class key v) q < 1) (the_same Value next e) (omega arith)
+fewer_fills (Leaf level class key v) (Settled Head) next e = subst (λ q. fills_behind (Leaf level class key v) q < 2) (the_same (Settled Key) next e) (omega arith)
+fewer_fills (Leaf level class key v) (Settled Key) next e = subst (λ q. fills_behind (Leaf level class key v) q < 1) (the_same (Settled Value) next e) (omega arith)
 fewer_fills (Leaf level class key v) _ next e = absurd (let d : None ≡ Some next = e in cc)
-fewer_fills (Fork level class key l r) Head next e = subst (λ q. fills_behind (Fork level class key l r) q < 3) (the_same Key next e) (omega arith)
-fewer_fills (Fork level class key l r) Key next e = subst (λ q. fills_behind (Fork level class key l r) q < 2) (the_same (Child Left) next e) (omega arith)
+fewer_fills (Fork level class key l r) (Settled Head) next e = subst (λ q. fills_behind (Fork level class key l r) q < 3) (the_same (Settled Key) next e) (omega arith)
+fewer_fills (Fork level class key l r) (Settled Key) next e = subst (λ q. fills_behind (Fork level class key l r) q < 2) (the_same (Child Left) next e) (omega arith)
 fewer_fills (Fork level class key l r) (Child Left) next e = subst (λ q. fills_behind (Fork level class key l r) q < 1) (the_same (Child Right) next e) (omega arith)
 fewer_fills (Fork level class key l r) _ next e = absurd (let d : None ≡ Some next = e in cc)
 

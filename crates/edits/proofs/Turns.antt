@@ -8,7 +8,8 @@ use Rattle.arena.specs.declared.step.Step.{Step}
 use Rattle.arena.specs.declared.step.Access.TheVariants.{Store}
 use Rattle.arena.specs.declared.step.Kind.TheVariants.{Fill as FillKind, LoadMarked, LoadSettled}
 use Rattle.arena.specs.declared.word.NodeWord.{NodeWord}
-use Rattle.arena.specs.declared.word.NodeWord.TheVariants.{Head as HeadWord}
+use Rattle.arena.specs.declared.word.NodeWord.TheVariants.{Settled}
+use Rattle.arena.specs.declared.word.SettledPart.TheVariants.{Head as HeadWord}
 use Rattle.arena.specs.declared.word.Word.TheVariants.{Node as NodeOf}
 use Rattle.arena.specs.History.{History, ◌⊳◌, value, Extends}
 use Rattle.arena.specs.Fills.{IsOwnNode, IsOwnScx}
@@ -86,14 +87,14 @@ module _ {E : Type 0} (e : EditMeaning E) where
   begins_again m now c h ed share b = record { run = b.run; small = rw ed b.small; since = b.since; rests = rw share b.rests }
 
   -- its walk begins with the root's head, and a try with it
-  pub begins_walk : {A : Type 0} (m : UpdateRun E A) (walk : WalkRun) (c : Call) (h : History) → MayBeginTry e m c h → MayTry c h h m.limit m.tries → IsUntouched c h m.share → walk.goal ≡ e.goal m.edit → walk.trail.node.0 ≡ 0 → UpdateWaits e (standing m (Walk (record walk { at = Root }))) c h (load LoadSettled (node 0 HeadWord))
+  pub begins_walk : {A : Type 0} (m : UpdateRun E A) (walk : WalkRun) (c : Call) (h : History) → MayBeginTry e m c h → MayTry c h h m.limit m.tries → IsUntouched c h m.share → walk.goal ≡ e.goal m.edit → walk.trail.node.0 ≡ 0 → UpdateWaits e (standing m (Walk (record walk { at = Root }))) c h (load LoadSettled (node 0 (Settled HeadWord)))
   begins_walk m walk c h b try first is root = (
     h,
     try,
     first,
     (
       record { small = b.small; rests = record { share = b.rests.share; over = b.rests.over }; quiet = quiet_at_start c.layout c.pass h (idle_rests c h m.share b.run.1.lawful b.rests); none_filled = none_filled_yet c.pass h; same = is },
-      record { run = b.run; small = rw is b.small; since = ends_self h; known = root; asked = ap (λ n. load LoadSettled (node n HeadWord)) (sym root) },
+      record { run = b.run; small = rw is b.small; since = ends_self h; known = root; asked = ap (λ n. load LoadSettled (node n (Settled HeadWord))) (sym root) },
     ),
   )
 

@@ -2,7 +2,8 @@
 use Rattle.std.specs.Prelude.{◌≡◌, ℕ, ◌<◌, ◌≤◌, List, length, Option, Some, None}
 use Rattle.arena.specs.declared.number.NodeNo.{NodeNo}
 use Rattle.arena.specs.declared.word.NodeWord.{NodeWord}
-use Rattle.arena.specs.declared.word.NodeWord.TheVariants.{Head}
+use Rattle.arena.specs.declared.word.NodeWord.TheVariants.{Settled}
+use Rattle.arena.specs.declared.word.SettledPart.TheVariants.{Head}
 use Rattle.arena.specs.declared.word.Side.{Side}
 use Rattle.prims.specs.declared.snap.Snap.{Snap}
 use Rattle.ordered_map.specs.OrderedMap.{MapEdit}
@@ -54,4 +55,4 @@ pub record EditBounds {E : Type 0} (m : EditMeaning E) : Type 0 where
   -- a load is one of them, whatever it tells
   pub load_works : (e : E) (f : Found) (snaps : List Snap) (ld : Loaded) (nth : Nth) (part : NodeWord) → m.wants e f snaps ld nth ≡ Some part → (v : ℕ) → m.works e f snaps (with_word ld part v) nth < m.works e f snaps ld nth
   -- and so is each fill of a node that is needed
-  pub fill_works : (e : E) (f : Found) (snaps : List Snap) (ld : Loaded) (nth : Nth) → HasPlace (m.needs e f) nth → m.wants e f snaps ld nth ≡ None → (ns : Nodes) → fills_behind (m.pieces e f snaps ns ld nth) Head < m.works e f snaps ld nth
+  pub fill_works : (e : E) (f : Found) (snaps : List Snap) (ld : Loaded) (nth : Nth) → HasPlace (m.needs e f) nth → m.wants e f snaps ld nth ≡ None → (ns : Nodes) → fills_behind (m.pieces e f snaps ns ld nth) (Settled Head) < m.works e f snaps ld nth

@@ -9,7 +9,8 @@ use Rattle.arena.specs.declared.step.Row.{Row}
 use Rattle.arena.specs.declared.step.Step.{Step}
 use Rattle.arena.specs.declared.step.Kind.TheVariants.{LoadSettled}
 use Rattle.arena.specs.declared.word.NodeWord.{NodeWord}
-use Rattle.arena.specs.declared.word.NodeWord.TheVariants.{Head as HeadWord, Key as KeyWord, Value as ValueWord}
+use Rattle.arena.specs.declared.word.NodeWord.TheVariants.{Settled}
+use Rattle.arena.specs.declared.word.SettledPart.TheVariants.{Head as HeadWord, Key as KeyWord, Value as ValueWord}
 use Rattle.arena.specs.declared.word.Word.{Word}
 use Rattle.arena.specs.Fills.{IsNamed, IsOwnNode, IsOwnScx, IsTakenNode}
 use Rattle.arena.specs.History.{History, ◌⊳◌, value, Extends}
@@ -112,9 +113,9 @@ IsLoaded (Some w) v = w ≡ v
 
 -- the words that were loaded are those of this node
 pub record AreLoaded (f : Word → ℕ) (n : ℕ) (ld : Loaded) : Type 0 where
-  pub head : IsLoaded ld.head (f (node n HeadWord))
-  pub key : IsLoaded ld.key (f (node n KeyWord))
-  pub value : IsLoaded ld.value (f (node n ValueWord))
+  pub head : IsLoaded ld.head (f (node n (Settled HeadWord)))
+  pub key : IsLoaded ld.key (f (node n (Settled KeyWord)))
+  pub value : IsLoaded ld.value (f (node n (Settled ValueWord)))
 
 -- none is loaded
 abbrev pub nothing_loaded : Loaded

@@ -5,7 +5,8 @@ use Rattle.arena.specs.declared.step.Access.TheVariants.{Load as LoadAccess, Sto
 use Rattle.arena.specs.declared.step.Kind.TheVariants.{LoadMarked, LoadState, LoadSettled, Fill as FillKind}
 use Rattle.arena.specs.declared.step.Step.{Step}
 use Rattle.arena.specs.declared.word.NodeWord.{NodeWord}
-use Rattle.arena.specs.declared.word.NodeWord.TheVariants.{Head, Marked as MarkedWord}
+use Rattle.arena.specs.declared.word.NodeWord.TheVariants.{Settled, Marked as MarkedWord}
+use Rattle.arena.specs.declared.word.SettledPart.TheVariants.{Head}
 use Rattle.arena.specs.declared.word.ScxWord.TheVariants.{Plan as PlanWord, State as StateWord}
 use Rattle.arena.specs.declared.word.Word.TheVariants.{Node as NodeOf, Scx as ScxOf}
 use Rattle.arena.specs.History.{History}
@@ -58,7 +59,7 @@ module _ {E : Type 0} (e : EditMeaning E) where
   placed m f (LookNext n) = standing m (Look f record { node = n; at = Marked })
   placed m f (Wait n b scx) = standing m (Look f record { node = n; at = StateAgain b scx })
   placed m f (LoadNext nth part) = standing m (Load f nth part)
-  placed m f (FillNext nth) = standing m (Fill f nth Head)
+  placed m f (FillNext nth) = standing m (Fill f nth (Settled Head))
   placed m f (Change scx) = standing m (Scx f record { scx = scx; call = m.call; update = update_of m f; at = AtPlan })
 
   -- the step with which it begins
@@ -66,7 +67,7 @@ module _ {E : Type 0} (e : EditMeaning E) where
   next_step m f (LookNext n) = record { kind = LoadMarked; word = NodeOf n MarkedWord; access = LoadAccess }
   next_step m f (Wait n b scx) = record { kind = LoadState; word = ScxOf scx StateWord; access = LoadAccess }
   next_step m f (LoadNext nth part) = record { kind = LoadSettled; word = NodeOf (e.copies m.edit f m.snaps.items) part; access = LoadAccess }
-  next_step m f (FillNext nth) = fills m f nth Head
+  next_step m f (FillNext nth) = fills m f nth (Settled Head)
   next_step m f (Change scx) = record { kind = FillKind; word = ScxOf scx PlanWord; access = Store (plan_over (length m.snaps.items) (e.side m.edit f)) }
 
   -- a try may end so: with what its update answers, or lost to another pass

@@ -4,7 +4,8 @@ use Rattle.arena.specs.declared.word.Side.{Side}
 use Rattle.arena.specs.declared.number.NodeNo.{NodeNo}
 use Rattle.arena.specs.declared.word.Side.TheVariants.{Left, Right}
 use Rattle.arena.specs.declared.word.NodeWord.{NodeWord}
-use Rattle.arena.specs.declared.word.NodeWord.TheVariants.{Head, Key, Value, Child}
+use Rattle.arena.specs.declared.word.NodeWord.TheVariants.{Settled, Child}
+use Rattle.arena.specs.declared.word.SettledPart.TheVariants.{Head, Key, Value}
 use Rattle.arena.specs.Heads.{head_word}
 use Rattle.arena.specs.ScxRecords.{side_no, removed_bits}
 use Rattle.arena.specs.Share.{Remaining}
@@ -23,29 +24,29 @@ piece_head level leaf class = head_word record { level = min level (2 ^ 61 - 1);
 
 -- what a word of the node is to hold
 abbrev pub word_of : Piece → NodeWord → ℕ
-word_of (Leaf level class key v) Head = piece_head level true class
-word_of (Leaf level class key v) Key = key
-word_of (Leaf level class key v) Value = v
-word_of (Fork level class key l r) Head = piece_head level false class
-word_of (Fork level class key l r) Key = key
+word_of (Leaf level class key v) (Settled Head) = piece_head level true class
+word_of (Leaf level class key v) (Settled Key) = key
+word_of (Leaf level class key v) (Settled Value) = v
+word_of (Fork level class key l r) (Settled Head) = piece_head level false class
+word_of (Fork level class key l r) (Settled Key) = key
 word_of (Fork level class key l r) (Child Left) = l.0
 word_of (Fork level class key l r) (Child Right) = r.0
 word_of _ _ = 0
 
 -- the word that is filled behind this one
 abbrev pub part_behind : Piece → NodeWord → Option NodeWord
-part_behind p Head = Some Key
-part_behind (Leaf level class key v) Key = Some Value
-part_behind (Fork level class key l r) Key = Some (Child Left)
+part_behind p (Settled Head) = Some (Settled Key)
+part_behind (Leaf level class key v) (Settled Key) = Some (Settled Value)
+part_behind (Fork level class key l r) (Settled Key) = Some (Child Left)
 part_behind (Fork level class key l r) (Child Left) = Some (Child Right)
 part_behind _ _ = None
 
 -- how many words are filled behind this one
 abbrev pub fills_behind : Piece → NodeWord → ℕ
-fills_behind (Leaf level class key v) Head = 2
-fills_behind (Leaf level class key v) Key = 1
-fills_behind (Fork level class key l r) Head = 3
-fills_behind (Fork level class key l r) Key = 2
+fills_behind (Leaf level class key v) (Settled Head) = 2
+fills_behind (Leaf level class key v) (Settled Key) = 1
+fills_behind (Fork level class key l r) (Settled Head) = 3
+fills_behind (Fork level class key l r) (Settled Key) = 2
 fills_behind (Fork level class key l r) (Child Left) = 1
 fills_behind _ _ = 0
 
@@ -62,9 +63,9 @@ top_of _ ns = ns.first.0
 
 -- the words that were loaded, with one more
 abbrev pub with_word : Loaded → NodeWord → ℕ → Loaded
-with_word x Head v = record x { head = Some v }
-with_word x Key v = record x { key = Some v }
-with_word x Value v = record x { value = Some v }
+with_word x (Settled Head) v = record x { head = Some v }
+with_word x (Settled Key) v = record x { key = Some v }
+with_word x (Settled Value) v = record x { value = Some v }
 with_word x _ v = x
 
 -- what is left of a share once a node is taken

@@ -3,7 +3,7 @@ ghost use Rattle.std.specs.Prelude.{◌≡◌};
 ghost use Rattle.edits.specs.Edits.{EditMeaning};
 ghost use Rattle.edits.specs.Sound.{EditLaws};
 
-use arena::{Head, NodeNo, NodeWord, ScxNo, Side};
+use arena::{Head, NodeNo, NodeWord, ScxNo, SettledPart, Side};
 use prims::Snap;
 use template::{Found, Goal};
 
@@ -95,11 +95,15 @@ impl Piece {
         ensures { result ≡ word_of self part }
     {
         match (self, part) {
-            (Piece::Leaf { level, class, .. }, NodeWord::Head) => head(level, true, class),
-            (Piece::Leaf { key, .. }, NodeWord::Key) => key,
-            (Piece::Leaf { value, .. }, NodeWord::Value) => value,
-            (Piece::Fork { level, class, .. }, NodeWord::Head) => head(level, false, class),
-            (Piece::Fork { key, .. }, NodeWord::Key) => key,
+            (Piece::Leaf { level, class, .. }, NodeWord::Settled(SettledPart::Head)) => head(
+                level, true, class,
+            ),
+            (Piece::Leaf { key, .. }, NodeWord::Settled(SettledPart::Key)) => key,
+            (Piece::Leaf { value, .. }, NodeWord::Settled(SettledPart::Value)) => value,
+            (Piece::Fork { level, class, .. }, NodeWord::Settled(SettledPart::Head)) => head(
+                level, false, class,
+            ),
+            (Piece::Fork { key, .. }, NodeWord::Settled(SettledPart::Key)) => key,
             (Piece::Fork { left, .. }, NodeWord::Child(Side::Left)) => left.0,
             (Piece::Fork { right, .. }, NodeWord::Child(Side::Right)) => right.0,
             _ => 0,
@@ -111,9 +115,13 @@ impl Piece {
         ensures { result ≡ part_behind self part }
     {
         match (self, part) {
-            (_, NodeWord::Head) => Some(NodeWord::Key),
-            (Piece::Leaf { .. }, NodeWord::Key) => Some(NodeWord::Value),
-            (Piece::Fork { .. }, NodeWord::Key) => Some(NodeWord::Child(Side::Left)),
+            (_, NodeWord::Settled(SettledPart::Head)) => Some(NodeWord::Settled(SettledPart::Key)),
+            (Piece::Leaf { .. }, NodeWord::Settled(SettledPart::Key)) => Some(NodeWord::Settled(
+                SettledPart::Value,
+            )),
+            (Piece::Fork { .. }, NodeWord::Settled(SettledPart::Key)) => Some(NodeWord::Child(
+                Side::Left,
+            )),
             (Piece::Fork { .. }, NodeWord::Child(Side::Left)) => {
                 Some(NodeWord::Child(Side::Right))
             }
@@ -181,15 +189,15 @@ impl Loaded {
         ensures { result ≡ with_word self part value }
     {
         match part {
-            NodeWord::Head => Loaded {
+            NodeWord::Settled(SettledPart::Head) => Loaded {
                 head: Some(value),
                 ..self
             },
-            NodeWord::Key => Loaded {
+            NodeWord::Settled(SettledPart::Key) => Loaded {
                 key: Some(value),
                 ..self
             },
-            NodeWord::Value => Loaded {
+            NodeWord::Settled(SettledPart::Value) => Loaded {
                 value: Some(value),
                 ..self
             },

@@ -5,7 +5,8 @@ ghost use Rattle.edits.specs.Steps.{try_left, works_behind, update_left, IsNeare
 
 use crate::edit::{Edit, Loaded, Nodes, Nth};
 use arena::{
-    Access, Full, Head, Kind, Machine, NodeNo, NodeWord, ScxNo, ScxWord, Share, Step, Turn, Word,
+    Access, Full, Head, Kind, Machine, NodeNo, NodeWord, ScxNo, ScxWord, SettledPart, Share, Step,
+    Turn, Word,
 };
 use arrayvec::ArrayVec;
 use help::HelpRun;
@@ -196,7 +197,7 @@ impl<E: Edit + Drop> UpdateRun<E, UpdateAt> {
         self.at = UpdateAt::Walk { walk };
         Turn::Ask(Step {
             kind: Kind::LoadSettled,
-            word: Word::Node(NodeNo(0), NodeWord::Head),
+            word: Word::Node(NodeNo(0), NodeWord::Settled(SettledPart::Head)),
             access: Access::Load,
         })
     }
@@ -319,7 +320,7 @@ impl<E: Edit + Drop> UpdateRun<E, UpdateAt> {
             Next::Look(node) => self.begin_look(found, node),
             Next::Wait { node, marked, scx } => self.begin_wait(found, node, marked, scx),
             Next::Load { nth, part } => self.begin_load(found, nth, part),
-            Next::Fill(nth) => self.fill(found, nth, NodeWord::Head),
+            Next::Fill(nth) => self.fill(found, nth, NodeWord::Settled(SettledPart::Head)),
             Next::Change(scx) => self.begin_scx(found, scx),
         }
     }

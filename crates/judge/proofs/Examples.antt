@@ -2,7 +2,8 @@
 use Rattle.std.proofs.Common.{◌≡◌, ℕ, List, [], ◌∷◌, refl, lit<, lit≤}
 use Rattle.arena.specs.declared.limits.Mode.TheVariants.{Records}
 use Rattle.arena.specs.declared.word.Side.TheVariants.{Left, Right}
-use Rattle.arena.specs.declared.word.NodeWord.TheVariants.{Value}
+use Rattle.arena.specs.declared.word.NodeWord.TheVariants.{Settled}
+use Rattle.arena.specs.declared.word.SettledPart.TheVariants.{Value}
 use Rattle.arena.specs.declared.word.ScxWord.TheVariants.{AllFrozen, Plan, New, Old, Member, Seen, Call}
 use Rattle.arena.specs.declared.word.Word.{Word}
 use Rattle.arena.specs.declared.layout.Layout.{Layout}
@@ -55,7 +56,7 @@ llx_is_lawful = (
 -- a set of the cell 1 to 70 after it: its fills, and the exchanges that carry it through
 abbrev steps : List Row
 steps =
-    row Fill (node 9 Value) 0 70
+    row Fill (node 9 (Settled Value)) 0 70
     ∷ row Fill (scx 1 Plan) 0 1 ∷ row Fill (scx 1 New) 0 9 ∷ row Fill (scx 1 Old) 0 0
     ∷ row Fill (scx 1 (Member 0)) 0 1 ∷ row Fill (scx 1 (Seen 0)) 0 0 ∷ row Fill (scx 1 Call) 0 0
     ∷ row LoadSettled (scx 1 Plan) 1 1 ∷ row LoadSettled (scx 1 (Member 0)) 1 1 ∷ row LoadSettled (scx 1 (Seen 0)) 0 0

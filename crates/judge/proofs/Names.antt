@@ -6,7 +6,7 @@ use Rattle.arena.specs.declared.layout.Layout.{Layout}
 use Rattle.arena.specs.declared.limits.Mode.{Mode}
 use Rattle.arena.specs.declared.limits.Mode.TheVariants.{Tree, Records}
 use Rattle.arena.specs.declared.word.Side.{Side}
-use Rattle.arena.specs.declared.word.NodeWord.TheVariants.{Head, Key, Value, Child, Info, Marked}
+use Rattle.arena.specs.declared.word.NodeWord.TheVariants.{Settled, Child, Info, Marked}
 use Rattle.arena.specs.declared.word.ScxWord.{ScxWord}
 use Rattle.arena.specs.declared.word.ScxWord.TheVariants.{State, AllFrozen, Plan, New, Old, Member, Seen, Call}
 use Rattle.arena.specs.declared.word.Word.{Word}
@@ -101,9 +101,7 @@ module _ (lay : Layout) (r : Row) (h : History) (word : IsWord lay r.word) (u v 
   word_origin (Node m Info) e i l =
       let t = under_test (ltb r.after (all_scx lay)) _ u v l in
       ⊎_elim (λ d. of_info m.0 r.after (held_row r h (info m.0) e) (ltb_lt r.after (all_scx lay) t.0) (sym d.1)) (λ p. absurd p) t.1
-  word_origin (Node m Head) e i l = absurd l
-  word_origin (Node m Key) e i l = absurd l
-  word_origin (Node m Value) e i l = absurd l
+  word_origin (Node m (Settled p)) e i l = absurd l
   word_origin (Node m Marked) e i l = absurd l
   word_origin (Scx s New) e i l = scx_origin s.0 New tt e i.0 l
   word_origin (Scx s Old) e i l = scx_origin s.0 Old tt e i.0 l

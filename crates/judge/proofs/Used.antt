@@ -7,7 +7,7 @@ use Rattle.arena.specs.declared.limits.Mode.{Mode}
 use Rattle.arena.specs.declared.limits.Mode.TheVariants.{Tree, Records}
 use Rattle.arena.specs.declared.word.Side.{Side}
 use Rattle.arena.specs.declared.word.Side.TheVariants.{Left, Right}
-use Rattle.arena.specs.declared.word.NodeWord.TheVariants.{Head, Key, Value, Child, Info, Marked}
+use Rattle.arena.specs.declared.word.NodeWord.TheVariants.{Settled, Child, Info, Marked}
 use Rattle.arena.specs.declared.word.ScxWord.TheVariants.{State, AllFrozen, Plan, New, Old, Member, Seen, Call}
 use Rattle.arena.specs.declared.word.Word.{Word}
 use Rattle.arena.specs.declared.word.Word.TheVariants.{Node, Scx}
@@ -62,9 +62,7 @@ module _ (r : Row) (h : History) (n : ℕ) (flags : List Bool) where
       (λ same. (λ t. (m.0, side, rw same (held_row r h (child m.0 side) e)), λ x. rw (← same) (set_here flags n l)))
       (λ d. let there = set_there flags r.after n d in (λ t. field_more (p.0 (sym there ∙ t)), λ x. there ∙ p.1 (field_back (λ k from q. d (sym q.1)) x)))
       (same_or n r.after)
-  flag_now (Node m Head) e l p = flags_same (Node m Head) e refl p
-  flag_now (Node m Key) e l p = flags_same (Node m Key) e refl p
-  flag_now (Node m Value) e l p = flags_same (Node m Value) e refl p
+  flag_now (Node m (Settled q)) e l p = flags_same (Node m (Settled q)) e refl p
   flag_now (Node m Info) e l p = flags_same (Node m Info) e refl p
   flag_now (Node m Marked) e l p = flags_same (Node m Marked) e refl p
   flag_now (Scx s part) e l p = flags_same (Scx s part) e refl p
@@ -142,9 +140,7 @@ new_asked lay h u s t n b l e = rw e (others_asked h n t (users_of u.users.items
 
 fields_long : (w : Word) (v : ℕ) (flags : List Bool) → length (fields_after w v flags) ≡ length flags
 fields_long (Node m (Child side)) v flags = length-set flags v true
-fields_long (Node m Head) v flags = refl
-fields_long (Node m Key) v flags = refl
-fields_long (Node m Value) v flags = refl
+fields_long (Node m (Settled p)) v flags = refl
 fields_long (Node m Info) v flags = refl
 fields_long (Node m Marked) v flags = refl
 fields_long (Scx s part) v flags = refl

@@ -4,7 +4,7 @@ use Rattle.std.specs.Prelude.{not}
 use Rattle.arena.specs.declared.layout.Layout.{Layout}
 use Rattle.arena.specs.declared.word.Side.{Side}
 use Rattle.arena.specs.declared.word.NodeWord.{NodeWord}
-use Rattle.arena.specs.declared.word.NodeWord.TheVariants.{Head, Key, Value, Child, Info, Marked}
+use Rattle.arena.specs.declared.word.NodeWord.TheVariants.{Settled, Child, Info, Marked}
 use Rattle.arena.specs.declared.number.ScxNo.{ScxNo}
 use Rattle.arena.specs.declared.word.ScxWord.{ScxWord}
 use Rattle.arena.specs.declared.word.Word.{Word}
@@ -32,9 +32,7 @@ SomeField k w = (k ≡ Update) × ((n : ℕ) × (side : Side) × (w ≡ child n 
 
 field_update : (k : Kind) (w : Word) → is_field_update k w ≡ true → SomeField k w
 field_update Update (Node n (Child side)) e = (refl, (n.0, side, refl))
-field_update Update (Node n Head) e = absurd (cc)
-field_update Update (Node n Key) e = absurd (cc)
-field_update Update (Node n Value) e = absurd (cc)
+field_update Update (Node n (Settled p)) e = absurd (cc)
 field_update Update (Node n Info) e = absurd (cc)
 field_update Update (Node n Marked) e = absurd (cc)
 field_update Update (Scx s part) e = absurd (cc)

@@ -4,7 +4,8 @@ use Rattle.arena.specs.declared.layout.Layout.{Layout}
 use Rattle.arena.specs.declared.limits.Mode.{Mode}
 use Rattle.arena.specs.declared.limits.Mode.TheVariants.{Tree, Records}
 use Rattle.arena.specs.declared.word.Side.TheVariants.{Left, Right}
-use Rattle.arena.specs.declared.word.NodeWord.TheVariants.{Head, Key, Value, Child, Info, Marked}
+use Rattle.arena.specs.declared.word.NodeWord.TheVariants.{Settled, Child, Info, Marked}
+use Rattle.arena.specs.declared.word.SettledPart.TheVariants.{Head}
 use Rattle.arena.specs.declared.word.ScxWord.TheVariants.{State, AllFrozen, Plan, New, Old, Member, Seen, Call}
 use Rattle.arena.specs.declared.word.Word.{Word}
 use Rattle.arena.specs.declared.word.Word.TheVariants.{Node, Scx}
@@ -23,11 +24,10 @@ tree_outside : (all n k : ℕ) → 3 ≤ all → k < 3 → ¬ (n < all) → n �
 tree_outside all n k a l d e = d (omega (a, l, e, arith))
 
 opening_outside : (lay : Layout) (mode : Mode) (w : Word) → opening_nodes mode ≤ all_nodes lay → ¬ IsWord lay w → opening mode w ≡ 0
-opening_outside lay Tree (Node n Head) o d = rw (ne_eqb n.0 0 (tree_outside (all_nodes lay) n.0 0 o (omega arith) d), ne_eqb n.0 1 (tree_outside (all_nodes lay) n.0 1 o (omega arith) d), ne_eqb n.0 2 (tree_outside (all_nodes lay) n.0 2 o (omega arith) d)) refl
+opening_outside lay Tree (Node n (Settled Head)) o d = rw (ne_eqb n.0 0 (tree_outside (all_nodes lay) n.0 0 o (omega arith) d), ne_eqb n.0 1 (tree_outside (all_nodes lay) n.0 1 o (omega arith) d), ne_eqb n.0 2 (tree_outside (all_nodes lay) n.0 2 o (omega arith) d)) refl
 opening_outside lay Tree (Node n (Child Left)) o d = rw (ne_eqb n.0 0 (tree_outside (all_nodes lay) n.0 0 o (omega arith) d)) refl
 opening_outside lay Tree (Node n (Child Right)) o d = rw (ne_eqb n.0 0 (tree_outside (all_nodes lay) n.0 0 o (omega arith) d)) refl
-opening_outside lay Tree (Node n Key) o d = refl
-opening_outside lay Tree (Node n Value) o d = refl
+opening_outside lay Tree (Node n (Settled _)) o d = refl
 opening_outside lay Tree (Node n Info) o d = refl
 opening_outside lay Tree (Node n Marked) o d = refl
 opening_outside lay Tree (Scx s State) o d = rw (ne_eqb s.0 0 (λ e. d (omega (e, arith), tt))) refl

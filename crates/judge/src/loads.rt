@@ -9,7 +9,7 @@ pub fn is_load_of_settled(row: &Row) -> bool
     ensures { IsTrue result ↔ IsLoad IsSettled row.now }
 {
     let settled = match row.word {
-        Word::Node(_, NodeWord::Head | NodeWord::Key | NodeWord::Value) => true,
+        Word::Node(_, NodeWord::Settled(_)) => true,
         Word::Node(_, _) => false,
         Word::Scx(_, ScxWord::State | ScxWord::AllFrozen) => false,
         Word::Scx(_, _) => true,

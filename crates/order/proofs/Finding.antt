@@ -1,7 +1,8 @@
 -- What a successor knows one place further.
 use Rattle.std.proofs.Common.{◌≡◌, ◌≢◌, ℕ, ◌^◌, ◌<◌, ◌≤◌, ◌⊎◌, Bool, true, false, cond, eqb, List, [], ◌∷◌, ◌++◌, length, inl, inr, ⊎_elim, refl, sym, ◌∙◌, ap, subst, arith, lt-ltb, le-ltb, ltb-true, ltb-false, eqb-true, eq-eqb, Option, Some, None}
 use Rattle.arena.specs.declared.head.Head.{Head as HeadParts}
-use Rattle.arena.specs.declared.word.NodeWord.TheVariants.{Head as HeadWord, Key as KeyWord, Value as ValueWord}
+use Rattle.arena.specs.declared.word.NodeWord.TheVariants.{Settled}
+use Rattle.arena.specs.declared.word.SettledPart.TheVariants.{Head as HeadWord, Key as KeyWord, Value as ValueWord}
 use Rattle.arena.specs.declared.word.Side.{Side}
 use Rattle.arena.specs.declared.word.Side.TheVariants.{Left, Right}
 use Rattle.arena.specs.declared.word.Word.{Word}
@@ -71,7 +72,7 @@ no_route P e = absurd (let x : Beyond ≡ Along = e in cc)
 root_turned : (c : Call) (h : History) (k asked : ℕ) (f : Found) → IsTreeRun c.layout h → k < 2 ^ 64 → HasEnded c h k asked f → HasTurnedLeft c h k 0
 root_turned c h k asked f run small a = record { passed = record { first = a.trail.node.first; own = a.trail.node.own; passed = there }; fork = rw head refl; left = rw (lt-ltb k (rank (value h) 0) high) refl }
   where
-    head : value h (node 0 HeadWord) ≡ 2
+    head : value h (node 0 (Settled HeadWord)) ≡ 2
     head = root_head c.layout h run
 
     high : k < rank (value h) 0
@@ -361,8 +362,8 @@ module _ (m : SuccessorRun) (c : Call) (h : History) (route : Route) (n key : �
 
 -- At the leaf of the answer
 
-pub tells_this : (m : SuccessorRun) (c : Call) (h : History) (n key v : ℕ) → HasLeaf m c h n key → value h (node n ValueWord) ≡ v → Whenever c.layout h m.snaps.items (λ b. IsNextAt c.layout b m.key (Some (pair key v)))
-tells_this m c h n key v x d b run e hold ps spelled = first_tells b m.key n first c.layout ps leaf spelled ∙ tells_pair (value b) n key v (settled_class (value h) (value b) n same ∙ x.low) is_key (subst (λ j. j < 2 ^ 64) is_key (first_small b m.key n first leaf)) (same ValueWord tt ∙ d)
+pub tells_this : (m : SuccessorRun) (c : Call) (h : History) (n key v : ℕ) → HasLeaf m c h n key → value h (node n (Settled ValueWord)) ≡ v → Whenever c.layout h m.snaps.items (λ b. IsNextAt c.layout b m.key (Some (pair key v)))
+tells_this m c h n key v x d b run e hold ps spelled = first_tells b m.key n first c.layout ps leaf spelled ∙ tells_pair (value b) n key v (settled_class (value h) (value b) n same ∙ x.low) is_key (subst (λ j. j < 2 ^ 64) is_key (first_small b m.key n first leaf)) (same (Settled ValueWord) tt ∙ d)
   where
     first : IsFirstBehind b m.key n
     first = x.first b run e hold
@@ -373,8 +374,8 @@ tells_this m c h n key v x d b run e hold ps spelled = first_tells b m.key n fir
     leaf : is_leaf (value b) n ≡ true
     leaf = settled_leaf (value h) (value b) n same ∙ x.leaf
 
-    is_key : value b (node n KeyWord) ≡ key
-    is_key = same KeyWord tt ∙ x.key_is
+    is_key : value b (node n (Settled KeyWord)) ≡ key
+    is_key = same (Settled KeyWord) tt ∙ x.key_is
 
 -- The VLX
 

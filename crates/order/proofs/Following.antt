@@ -3,7 +3,8 @@
 use Rattle.std.proofs.Common.{◌≡◌, ◌≢◌, ℕ, ◌^◌, ◌<◌, ◌≤◌, ◌⊎◌, Bool, true, false, cond, ltb, inl, inr, List, [], ◌∷◌, ◌++◌, refl, sym, ◌∙◌, ap, arith, lt-ltb, le-ltb, eq-eqb, ne_eqb, Option, Some, None}
 use native.Mathlib.Decide.{ℕ_discrete}
 use Rattle.arena.specs.declared.layout.Layout.{Layout}
-use Rattle.arena.specs.declared.word.NodeWord.TheVariants.{Key, Value}
+use Rattle.arena.specs.declared.word.NodeWord.TheVariants.{Settled}
+use Rattle.arena.specs.declared.word.SettledPart.TheVariants.{Key, Value}
 use Rattle.arena.specs.declared.word.Word.{Word}
 use Rattle.arena.specs.Words.{node}
 use Rattle.arena.specs.History.{History, value}
@@ -69,21 +70,21 @@ next_join k (x ∷ xs) ys = go (ltb k x.key) (next_join k xs ys)
     go false e = e
 
 -- the pairs of a leaf, by its class
-low_leaf : (f : Word → ℕ) (n : ℕ) → class f n ≡ 0 → leaf_pairs f n ≡ pair (f (node n Key)) (f (node n Value)) ∷ []
+low_leaf : (f : Word → ℕ) (n : ℕ) → class f n ≡ 0 → leaf_pairs f n ≡ pair (f (node n (Settled Key))) (f (node n (Settled Value))) ∷ []
 low_leaf f n z = rw (eq-eqb (class f n) 0 z) refl
 
 high_leaf : (f : Word → ℕ) (n : ℕ) → class f n ≢ 0 → leaf_pairs f n ≡ []
 high_leaf f n d = rw (ne_eqb (class f n) 0 d) refl
 
-low_rank : (f : Word → ℕ) (n : ℕ) → class f n ≡ 0 → rank f n ≡ f (node n Key)
+low_rank : (f : Word → ℕ) (n : ℕ) → class f n ≡ 0 → rank f n ≡ f (node n (Settled Key))
 low_rank f n z = omega (arith, z)
 
 -- what the leaf n says as the first one
 abbrev leaf_pair : (Word → ℕ) → ℕ → Pair
-leaf_pair f n = pair (rank f n) (f (node n Value))
+leaf_pair f n = pair (rank f n) (f (node n (Settled Value)))
 
-low_says : (f : Word → ℕ) (n : ℕ) → class f n ≡ 0 → f (node n Key) < 2 ^ 64 → low_pair (Some (leaf_pair f n)) ≡ Some (pair (f (node n Key)) (f (node n Value)))
-low_says f n z small = rw (low_rank f n z) (rw (lt-ltb (f (node n Key)) (2 ^ 64) small) refl)
+low_says : (f : Word → ℕ) (n : ℕ) → class f n ≡ 0 → f (node n (Settled Key)) < 2 ^ 64 → low_pair (Some (leaf_pair f n)) ≡ Some (pair (f (node n (Settled Key))) (f (node n (Settled Value))))
+low_says f n z small = rw (low_rank f n z) (rw (lt-ltb (f (node n (Settled Key))) (2 ^ 64) small) refl)
 
 high_says : (f : Word → ℕ) (n : ℕ) → class f n ≢ 0 → low_pair (Some (leaf_pair f n)) ≡ None
 high_says f n d = rw (le-ltb (rank f n) (2 ^ 64) (omega (arith, d))) refl
@@ -108,7 +109,7 @@ none_above : (f : Word → ℕ) (k : ℕ) (t : Tree) (lo hi : ℕ) → Shows f l
 none_above f k (Leaf n) lo hi s i = go (ℕ_discrete (class f n) 0)
   where
     go : Dec (class f n ≡ 0) → successor k (leaf_pairs f n) ≡ None
-    go (yes z) = ap (successor k) (low_leaf f n z) ∙ rw (le-ltb k (f (node n Key)) (let a = s.below in omega (arith, a, i, z))) refl
+    go (yes z) = ap (successor k) (low_leaf f n z) ∙ rw (le-ltb k (f (node n (Settled Key))) (let a = s.below in omega (arith, a, i, z))) refl
     go (no d) = ap (successor k) (high_leaf f n d)
 none_above f k (Fork n a b) lo hi s i =
     let l : rank f n < hi = open_part f b (rank f n) hi s.2 in
@@ -121,7 +122,7 @@ first_next f k (Leaf n) lo hi d s i from = go (ℕ_discrete (class f n) 0)
     go : Dec (class f n ≡ 0) → or_else (successor k (leaf_pairs f n)) (low_pair d) ≡ low_pair (Some (leaf_pair f n))
     go (yes z) =
         ap (λ ps. or_else (successor k ps) (low_pair d)) (low_leaf f n z)
-        ∙ ap (λ b. or_else (cond b (Some (pair (f (node n Key)) (f (node n Value)))) None) (low_pair d)) (lt-ltb k (f (node n Key)) (let a = s.from in omega (arith, a, i, z)))
+        ∙ ap (λ b. or_else (cond b (Some (pair (f (node n (Settled Key))) (f (node n (Settled Value))))) None) (low_pair d)) (lt-ltb k (f (node n (Settled Key))) (let a = s.from in omega (arith, a, i, z)))
         ∙ sym (low_says f n z s.small)
     go (no high) =
         ap (λ ps. or_else (successor k ps) (low_pair d)) (high_leaf f n high)
@@ -143,11 +144,11 @@ search_low f k (Leaf n) lo hi d s from = go (ℕ_discrete (class f n) 0) (split_
         ap (λ b. low_pair (cond b (Some (leaf_pair f n)) d)) (lt-ltb k (rank f n) i)
         ∙ low_says f n z s.small
         ∙ sym (ap (λ ps. or_else (successor k ps) (low_pair d)) (low_leaf f n z)
-        ∙ ap (λ b. or_else (cond b (Some (pair (f (node n Key)) (f (node n Value)))) None) (low_pair d)) (lt-ltb k (f (node n Key)) (let r = low_rank f n z in omega (arith, i, r))))
+        ∙ ap (λ b. or_else (cond b (Some (pair (f (node n (Settled Key))) (f (node n (Settled Value))))) None) (low_pair d)) (lt-ltb k (f (node n (Settled Key))) (let r = low_rank f n z in omega (arith, i, r))))
     go (yes z) (inr i) =
         ap (λ b. low_pair (cond b (Some (leaf_pair f n)) d)) (le-ltb k (rank f n) i)
         ∙ sym (ap (λ ps. or_else (successor k ps) (low_pair d)) (low_leaf f n z)
-        ∙ ap (λ b. or_else (cond b (Some (pair (f (node n Key)) (f (node n Value)))) None) (low_pair d)) (le-ltb k (f (node n Key)) (let r = low_rank f n z in omega (arith, i, r))))
+        ∙ ap (λ b. or_else (cond b (Some (pair (f (node n (Settled Key))) (f (node n (Settled Value))))) None) (low_pair d)) (le-ltb k (f (node n (Settled Key))) (let r = low_rank f n z in omega (arith, i, r))))
     go (no high) (inl i) =
         ap (λ b. low_pair (cond b (Some (leaf_pair f n)) d)) (lt-ltb k (rank f n) i)
         ∙ high_says f n high

@@ -9,7 +9,8 @@ use Rattle.arena.specs.declared.number.NodeNo.{NodeNo}
 use Rattle.arena.specs.declared.number.ScxNo.{ScxNo}
 use Rattle.arena.specs.declared.step.Step.{Step}
 use Rattle.arena.specs.declared.step.Kind.TheVariants.{LoadSettled}
-use Rattle.arena.specs.declared.word.NodeWord.TheVariants.{Head as HeadWord, Key as KeyWord, Value as ValueWord}
+use Rattle.arena.specs.declared.word.NodeWord.TheVariants.{Settled}
+use Rattle.arena.specs.declared.word.SettledPart.TheVariants.{Head as HeadWord, Key as KeyWord, Value as ValueWord}
 use Rattle.arena.specs.Words.{node}
 use Rattle.arena.specs.History.{History, value, Extends}
 use Rattle.arena.specs.Machines.{Call, IsRun, MatchTurn, begun_at}
@@ -157,19 +158,19 @@ module _ (m : RangeRun) (c : Call) (h : History) where
   at_look None low left right llx is r = absurd (let d : Look low left right llx ≡ Start = sym is ∙ r.1 in cc)
   at_look (Some v) low left right llx is r = told_at v (Look low left right llx) is r
 
-  pub at_root : (got : Option ℕ) → m.at ≡ Root → RangeIsReady m c h got → ToldInTry (λ d. Visits m d h 0 × (value h (node 0 HeadWord) ≡ unwrap_or got 0))
+  pub at_root : (got : Option ℕ) → m.at ≡ Root → RangeIsReady m c h got → ToldInTry (λ d. Visits m d h 0 × (value h (node 0 (Settled HeadWord)) ≡ unwrap_or got 0))
   at_root None is r = absurd (let d : Root ≡ Start = sym is ∙ r.1 in cc)
   at_root (Some v) is r = told_at v Root is r
 
-  pub at_head : (got : Option ℕ) (above : ℕ) (n : NodeNo) → m.at ≡ Head above n → RangeIsReady m c h got → ToldInTry (λ d. Visits m d h n.0 × (above < level (value h) n.0) × (value h (node n.0 HeadWord) ≡ unwrap_or got 0))
+  pub at_head : (got : Option ℕ) (above : ℕ) (n : NodeNo) → m.at ≡ Head above n → RangeIsReady m c h got → ToldInTry (λ d. Visits m d h n.0 × (above < level (value h) n.0) × (value h (node n.0 (Settled HeadWord)) ≡ unwrap_or got 0))
   at_head None above n is r = absurd (let d : Head above n ≡ Start = sym is ∙ r.1 in cc)
   at_head (Some v) above n is r = told_at v (Head above n) is r
 
-  pub at_key : (got : Option ℕ) (head : HeadParts) (n : NodeNo) → m.at ≡ Key head n → RangeIsReady m c h got → ToldInTry (λ d. Visits m d h n.0 × HasLowHead h n.0 head × (value h (node n.0 KeyWord) ≡ unwrap_or got 0))
+  pub at_key : (got : Option ℕ) (head : HeadParts) (n : NodeNo) → m.at ≡ Key head n → RangeIsReady m c h got → ToldInTry (λ d. Visits m d h n.0 × HasLowHead h n.0 head × (value h (node n.0 (Settled KeyWord)) ≡ unwrap_or got 0))
   at_key None head n is r = absurd (let d : Key head n ≡ Start = sym is ∙ r.1 in cc)
   at_key (Some v) head n is r = told_at v (Key head n) is r
 
-  pub at_value : (got : Option ℕ) (key : ℕ) (n : NodeNo) → m.at ≡ Value key n → RangeIsReady m c h got → ToldInTry (λ d. HasKey m d h n.0 key × (value h (node n.0 ValueWord) ≡ unwrap_or got 0))
+  pub at_value : (got : Option ℕ) (key : ℕ) (n : NodeNo) → m.at ≡ Value key n → RangeIsReady m c h got → ToldInTry (λ d. HasKey m d h n.0 key × (value h (node n.0 (Settled ValueWord)) ≡ unwrap_or got 0))
   at_value None key n is r = absurd (let d : Value key n ≡ Start = sym is ∙ r.1 in cc)
   at_value (Some v) key n is r = told_at v (Value key n) is r
 
@@ -180,17 +181,17 @@ module _ (m : RangeRun) (c : Call) (h : History) where
 -- Its loads
 
 -- with that of the root's head it begins a try
-pub asks_root : (m now : RangeRun) (c : Call) (begin h : History) (turn : Turn Told) → BeginsTry c h m.limit m.tries → m.snaps.items ≡ [] → m.waiting.items ≡ [] → RangeGoes m (begun_at c begin) h → now ≡ record m { at = Root } → turn ≡ Ask (load LoadSettled (node 0 HeadWord)) → Visits m (begun_at c begin) h 0 → RangeTurn c h now turn
+pub asks_root : (m now : RangeRun) (c : Call) (begin h : History) (turn : Turn Told) → BeginsTry c h m.limit m.tries → m.snaps.items ≡ [] → m.waiting.items ≡ [] → RangeGoes m (begun_at c begin) h → now ≡ record m { at = Root } → turn ≡ Ask (load LoadSettled (node 0 (Settled HeadWord))) → Visits m (begun_at c begin) h 0 → RangeTurn c h now turn
 asks_root m now c begin h turn try none nowhere goes is asked x = rw (asked, is) (begin, (try, none, nowhere), goes_at m Root (begun_at c begin) h goes, (visits_at m Root (begun_at c begin) h 0 x, refl))
 
 module _ (m now : RangeRun) (c : Call) (begin h : History) (turn : Turn Told) (try : IsInTry c h begin m.limit m.tries) (goes : RangeGoes m (begun_at c begin) h) where
-  pub asks_head : (above : ℕ) (n : NodeNo) → now ≡ record m { at = Head above n } → turn ≡ Ask (load LoadSettled (node n.0 HeadWord)) → Visits m (begun_at c begin) h n.0 → above < level (value h) n.0 → RangeTurn c h now turn
+  pub asks_head : (above : ℕ) (n : NodeNo) → now ≡ record m { at = Head above n } → turn ≡ Ask (load LoadSettled (node n.0 (Settled HeadWord))) → Visits m (begun_at c begin) h n.0 → above < level (value h) n.0 → RangeTurn c h now turn
   asks_head above n is asked x deep = rw (asked, is) (begin, try, goes_at m (Head above n) (begun_at c begin) h goes, (visits_at m (Head above n) (begun_at c begin) h n.0 x, deep, refl))
 
-  pub asks_key : (head : HeadParts) (n : NodeNo) → now ≡ record m { at = Key head n } → turn ≡ Ask (load LoadSettled (node n.0 KeyWord)) → Visits m (begun_at c begin) h n.0 → HasLowHead h n.0 head → RangeTurn c h now turn
+  pub asks_key : (head : HeadParts) (n : NodeNo) → now ≡ record m { at = Key head n } → turn ≡ Ask (load LoadSettled (node n.0 (Settled KeyWord))) → Visits m (begun_at c begin) h n.0 → HasLowHead h n.0 head → RangeTurn c h now turn
   asks_key head n is asked x has = rw (asked, is) (begin, try, goes_at m (Key head n) (begun_at c begin) h goes, (visits_at m (Key head n) (begun_at c begin) h n.0 x, has, refl))
 
-  pub asks_value : (key : ℕ) (n : NodeNo) → now ≡ record m { at = Value key n } → turn ≡ Ask (load LoadSettled (node n.0 ValueWord)) → HasKey m (begun_at c begin) h n.0 key → RangeTurn c h now turn
+  pub asks_value : (key : ℕ) (n : NodeNo) → now ≡ record m { at = Value key n } → turn ≡ Ask (load LoadSettled (node n.0 (Settled ValueWord))) → HasKey m (begun_at c begin) h n.0 key → RangeTurn c h now turn
   asks_value key n is asked x = rw (asked, is) (
     begin,
     try,

@@ -6,7 +6,8 @@ use Rattle.std.proofs.lemmas.Bool.Decides.{leb_tells}
 use Rattle.std.proofs.lemmas.List.{reverse-append}
 use Rattle.arena.specs.declared.head.Head.{Head as HeadParts}
 use Rattle.arena.specs.declared.number.NodeNo.{NodeNo}
-use Rattle.arena.specs.declared.word.NodeWord.TheVariants.{Head as HeadWord, Key as KeyWord, Value as ValueWord}
+use Rattle.arena.specs.declared.word.NodeWord.TheVariants.{Settled}
+use Rattle.arena.specs.declared.word.SettledPart.TheVariants.{Head as HeadWord, Key as KeyWord, Value as ValueWord}
 use Rattle.arena.specs.declared.word.Side.{Side}
 use Rattle.arena.specs.declared.word.Side.TheVariants.{Left, Right}
 use Rattle.arena.specs.Heads.{head_of}
@@ -213,7 +214,7 @@ module _ (m : RangeRun) (c : Call) (h : History) (n : ℕ) (goes : RangeGoes m c
     where
       go : n ≡ 0 → ⊥
       go e =
-          let head : value h (node 0 HeadWord) ≡ 2 = root_head c.layout h goes.reads.run in
+          let head : value h (node 0 (Settled HeadWord)) ≡ 2 = root_head c.layout h goes.reads.run in
           let l : is_leaf (value h) 0 ≡ true = subst (λ k. is_leaf (value h) k ≡ true) e leaf in
           (let f : false ≡ true = rw head at l in cc)
 
@@ -255,7 +256,7 @@ module _ (m : RangeRun) (c : Call) (h : History) (n : ℕ) (goes : RangeGoes m c
         go false true p q = ge_of m.low key p
         go false false p q = (let i = gt_of key m.high q in let j = ge_of m.low key p in let o = x.ordered in omega (arith, i, j, o))
 
-    pub fork_looks : (head : HeadParts) → head_of (value h (node n HeadWord)) ≡ head → head.leaf ≡ false → LooksIn m c h head.level (ltb m.low key) (leb key m.high) n
+    pub fork_looks : (head : HeadParts) → head_of (value h (node n (Settled HeadWord))) ≡ head → head.leaf ≡ false → LooksIn m c h head.level (ltb m.low key) (leb key m.high) n
     fork_looks head is fork = low_looks head.level (ap (λ (w : HeadParts). w.leaf) is ∙ fork) (let l : level (value h) n ≡ head.level = ap (λ (w : HeadParts). w.level) is in omega (arith, l))
 
     low_leaf : (b : History) → IsTreeRun c.layout b → Extends b h → is_leaf (value h) n ≡ true → is_leaf (value b) n ≡ true
@@ -264,8 +265,8 @@ module _ (m : RangeRun) (c : Call) (h : History) (n : ℕ) (goes : RangeGoes m c
     low_class : (b : History) → IsTreeRun c.layout b → Extends b h → class (value b) n ≡ 0
     low_class b run e = settled_class (value h) (value b) n (same_then b run e) ∙ zero_class
 
-    low_key : (b : History) → IsTreeRun c.layout b → Extends b h → value b (node n KeyWord) ≡ key
-    low_key b run e = same_then b run e KeyWord tt ∙ d
+    low_key : (b : History) → IsTreeRun c.layout b → Extends b h → value b (node n (Settled KeyWord)) ≡ key
+    low_key b run e = same_then b run e (Settled KeyWord) tt ∙ d
 
     pub low_behind : IsOwnMoment c h → is_leaf (value h) n ≡ true → (key < m.low) ⊎ (m.high < key) → GoesBehind m c h (m.leaves - 1)
     low_behind own leaf out = goes_behind own leaf (λ b run e hold. ⊎_elim
@@ -294,13 +295,13 @@ pair_taken m c h n p taken goes own x d items = record {
 }
   where
     visited : Whenever c.layout h m.snaps.items (λ b. HasVisited b (bounds_of m) (m.taken.items ++ p ∷ []) (waiting_of m) (m.leaves - 1))
-    visited b run e hold = rw (key_is, same ValueWord tt ∙ d) at (takes b (bounds_of m) n m.taken.items (waiting_of m) m.leaves (x.visits.visiting b run e hold) (settled_leaf (value h) (value b) n same ∙ x.leaf) (settled_class (value h) (value b) n same ∙ x.low) (rw key_is x.from) (rw key_is x.to))
+    visited b run e hold = rw (key_is, same (Settled ValueWord) tt ∙ d) at (takes b (bounds_of m) n m.taken.items (waiting_of m) m.leaves (x.visits.visiting b run e hold) (settled_leaf (value h) (value b) n same ∙ x.leaf) (settled_class (value h) (value b) n same ∙ x.low) (rw key_is x.from) (rw key_is x.to))
       where
         same : SameSettled (value h) (value b) n
         same = stood_settled c.layout b h n run e x.visits.stood.stood
 
-        key_is : value b (node n KeyWord) ≡ p.key
-        key_is = same KeyWord tt ∙ x.key_is
+        key_is : value b (node n (Settled KeyWord)) ≡ p.key
+        key_is = same (Settled KeyWord) tt ∙ x.key_is
 
 -- Behind a leaf
 

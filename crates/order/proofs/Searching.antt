@@ -1,7 +1,8 @@
 -- How the search for the least key above k goes down a tree.
 use Rattle.std.proofs.Common.{◌≡◌, ◌≢◌, ℕ, ◌^◌, ◌<◌, ◌≤◌, true, false, inl, inr, List, refl, sym, ◌∙◌, ap, arith, lt-ltb, le-ltb, Option, Some, None}
 use Rattle.arena.specs.declared.layout.Layout.{Layout}
-use Rattle.arena.specs.declared.word.NodeWord.TheVariants.{Key, Value}
+use Rattle.arena.specs.declared.word.NodeWord.TheVariants.{Settled}
+use Rattle.arena.specs.declared.word.SettledPart.TheVariants.{Key, Value}
 use Rattle.arena.specs.declared.word.Side.TheVariants.{Left, Right}
 use Rattle.arena.specs.declared.word.Word.{Word}
 use Rattle.arena.specs.Words.{node, child}
@@ -168,27 +169,27 @@ module _ (h : History) (k n : ℕ) (x : IsFirstBehind h k n) where
       }
 
   -- the key of the leaf is below 2 ^ 64
-  pub first_small : is_leaf (value h) n ≡ true → value h (node n Key) < 2 ^ 64
+  pub first_small : is_leaf (value h) n ≡ true → value h (node n (Settled Key)) < 2 ^ 64
   first_small leaf = go x.part.tree x.part.low x.part.high x.part.shows x.part.is
     where
-      go : (p : Tree) (low high : ℕ) → Shows (value h) low high p → root p ≡ n → value h (node n Key) < 2 ^ 64
+      go : (p : Tree) (low high : ℕ) → Shows (value h) low high p → root p ≡ n → value h (node n (Settled Key)) < 2 ^ 64
       go (Fork m a b) low high s e = no_leaf (value h) n _ leaf (rw e at s.0.fork)
       go (Leaf m) low high s e = rw e at s.small
 
   -- the leaf says what the map does
-  pub first_tells : (lay : Layout) (ps : List Pair) → is_leaf (value h) n ≡ true → Spells lay (value h) ps → successor k ps ≡ low_pair (Some (pair (rank (value h) n) (value h (node n Value))))
+  pub first_tells : (lay : Layout) (ps : List Pair) → is_leaf (value h) n ≡ true → Spells lay (value h) ps → successor k ps ≡ low_pair (Some (pair (rank (value h) n) (value h (node n (Settled Value)))))
   first_tells lay ps leaf spelled = search_tells lay (value h) ps k spelled ∙ ap (λ t. low_pair (search_next (value h) k t None)) (one_tree h spelled.tree x.tree spelled.is_tree x.is_tree) ∙ go x.part.tree x.part.low x.part.high x.part.shows x.part.is x.finds
     where
-      go : (p : Tree) (low high : ℕ) → Shows (value h) low high p → root p ≡ n → Ends p → low_pair (search_next (value h) k x.tree None) ≡ low_pair (Some (pair (rank (value h) n) (value h (node n Value))))
+      go : (p : Tree) (low high : ℕ) → Shows (value h) low high p → root p ≡ n → Ends p → low_pair (search_next (value h) k x.tree None) ≡ low_pair (Some (pair (rank (value h) n) (value h (node n (Settled Value)))))
       go (Fork m a b) low high s e d = no_leaf (value h) n _ leaf (rw e at s.0.fork)
-      go (Leaf m) low high s e d = ap low_pair (d ∙ ap (λ j. Some (pair (rank (value h) j) (value h (node j Value)))) e)
+      go (Leaf m) low high s e d = ap low_pair (d ∙ ap (λ j. Some (pair (rank (value h) j) (value h (node j (Settled Value))))) e)
 
 -- a pair of the map
-pub tells_pair : (f : Word → ℕ) (n key v : ℕ) → class f n ≡ 0 → f (node n Key) ≡ key → key < 2 ^ 64 → f (node n Value) ≡ v → low_pair (Some (pair (rank f n) (f (node n Value)))) ≡ Some (pair key v)
+pub tells_pair : (f : Word → ℕ) (n key v : ℕ) → class f n ≡ 0 → f (node n (Settled Key)) ≡ key → key < 2 ^ 64 → f (node n (Settled Value)) ≡ v → low_pair (Some (pair (rank f n) (f (node n (Settled Value))))) ≡ Some (pair key v)
 tells_pair f n key v low d small e =
     let r : rank f n ≡ key = omega (arith, low, d) in
     rw (r, e) (rw (lt-ltb key (2 ^ 64) small) refl)
 
 -- and none
-pub tells_none : (f : Word → ℕ) (n : ℕ) → class f n ≢ 0 → low_pair (Some (pair (rank f n) (f (node n Value)))) ≡ None
+pub tells_none : (f : Word → ℕ) (n : ℕ) → class f n ≢ 0 → low_pair (Some (pair (rank f n) (f (node n (Settled Value))))) ≡ None
 tells_none f n high = rw (le-ltb (rank f n) (2 ^ 64) (omega (arith, high))) refl

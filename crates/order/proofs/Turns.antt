@@ -7,7 +7,8 @@ use Rattle.arena.specs.declared.number.NodeNo.{NodeNo}
 use Rattle.arena.specs.declared.number.ScxNo.{ScxNo}
 use Rattle.arena.specs.declared.step.Step.{Step}
 use Rattle.arena.specs.declared.step.Kind.TheVariants.{LoadSettled}
-use Rattle.arena.specs.declared.word.NodeWord.TheVariants.{Head as HeadWord, Key as KeyWord, Value as ValueWord}
+use Rattle.arena.specs.declared.word.NodeWord.TheVariants.{Settled}
+use Rattle.arena.specs.declared.word.SettledPart.TheVariants.{Head as HeadWord, Key as KeyWord, Value as ValueWord}
 use Rattle.arena.specs.declared.word.Side.{Side}
 use Rattle.arena.specs.declared.word.Side.TheVariants.{Left, Right}
 use Rattle.arena.specs.Words.{node}
@@ -70,7 +71,7 @@ goes_less m now c h key items x = record {
 -- Its loads
 
 module _ (m now : SuccessorRun) (c : Call) (begin h : History) (turn : Turn Told) (try : IsInTry c h begin m.limit m.tries) (goes : SuccessorGoes m (begun_at c begin) h) where
-  pub asks_head : (route : Route) (above : ℕ) (n : NodeNo) → now ≡ record m { at = Head route above n } → turn ≡ Ask (load LoadSettled (node n.0 HeadWord)) → SuccessorStandsAt m (begun_at c begin) h route n.0 → above < level (value h) n.0 → SuccessorTurn c h now turn
+  pub asks_head : (route : Route) (above : ℕ) (n : NodeNo) → now ≡ record m { at = Head route above n } → turn ≡ Ask (load LoadSettled (node n.0 (Settled HeadWord))) → SuccessorStandsAt m (begun_at c begin) h route n.0 → above < level (value h) n.0 → SuccessorTurn c h now turn
   asks_head route above n is asked x deep = rw (asked, is) (
     begin,
     try,
@@ -78,7 +79,7 @@ module _ (m now : SuccessorRun) (c : Call) (begin h : History) (turn : Turn Told
     (record { stood = x.stood; some = x.some; right = x.right; on_route = x.on_route }, deep, refl),
   )
 
-  pub asks_key : (route : Route) (head : HeadParts) (n : NodeNo) → now ≡ record m { at = Key route head n } → turn ≡ Ask (load LoadSettled (node n.0 KeyWord)) → SuccessorStandsAt m (begun_at c begin) h route n.0 → HasHead h route n.0 head → SuccessorTurn c h now turn
+  pub asks_key : (route : Route) (head : HeadParts) (n : NodeNo) → now ≡ record m { at = Key route head n } → turn ≡ Ask (load LoadSettled (node n.0 (Settled KeyWord))) → SuccessorStandsAt m (begun_at c begin) h route n.0 → HasHead h route n.0 head → SuccessorTurn c h now turn
   asks_key route head n is asked x has = rw (asked, is) (
     begin,
     try,
@@ -86,7 +87,7 @@ module _ (m now : SuccessorRun) (c : Call) (begin h : History) (turn : Turn Told
     (record { stood = x.stood; some = x.some; right = x.right; on_route = x.on_route }, has, refl),
   )
 
-  pub asks_value : (key : ℕ) (n : NodeNo) → now ≡ record m { at = Value key n } → turn ≡ Ask (load LoadSettled (node n.0 ValueWord)) → HasLeaf m (begun_at c begin) h n.0 key → SuccessorTurn c h now turn
+  pub asks_value : (key : ℕ) (n : NodeNo) → now ≡ record m { at = Value key n } → turn ≡ Ask (load LoadSettled (node n.0 (Settled ValueWord))) → HasLeaf m (begun_at c begin) h n.0 key → SuccessorTurn c h now turn
   asks_value key n is asked x = rw (asked, is) (
     begin,
     try,
@@ -138,12 +139,12 @@ module _ (m : SuccessorRun) (walk after : WalkRun) (turn : NodeNo) (c : Call) (b
       ended = subst (λ g. HasFoundGoal g (begun_at c begin) h f) (same ∙ goal) found
 
 -- it begins with the load of the root's head, once the snapshots of the last try are forgotten
-pub walks_first : (m empty now : SuccessorRun) (walk : WalkRun) (c : Call) (begin h : History) (turn : Turn Told) → BeginsTry c h empty.limit empty.tries → SuccessorGoes m (begun_at c begin) h → empty.key ≡ m.key → empty.snaps.items ≡ [] → walk.goal ≡ ToKey m.key → walk.trail.node.0 ≡ 0 → now ≡ record empty { at = Walk (record walk { at = Root }) (record { 0 = 0 }) } → turn ≡ Ask (load LoadSettled (node 0 HeadWord)) → SuccessorTurn c h now turn
+pub walks_first : (m empty now : SuccessorRun) (walk : WalkRun) (c : Call) (begin h : History) (turn : Turn Told) → BeginsTry c h empty.limit empty.tries → SuccessorGoes m (begun_at c begin) h → empty.key ≡ m.key → empty.snaps.items ≡ [] → walk.goal ≡ ToKey m.key → walk.trail.node.0 ≡ 0 → now ≡ record empty { at = Walk (record walk { at = Root }) (record { 0 = 0 }) } → turn ≡ Ask (load LoadSettled (node 0 (Settled HeadWord))) → SuccessorTurn c h now turn
 walks_first m empty now walk c begin h turn try goes key items goal root is asked = rw (asked, is) (
   begin,
   (try, items, refl),
   goes_at empty (Walk (record walk { at = Root }) (record { 0 = 0 })) (begun_at c begin) h (goes_again m empty (begun_at c begin) h key items goes),
-  (goal ∙ ap ToKey (sym key), inl refl, record { run = goes.reads.run; small = rw goal goes.small; since = goes.reads.since; known = root; asked = ap (λ n. load LoadSettled (node n HeadWord)) (sym root) }),
+  (goal ∙ ap ToKey (sym key), inl refl, record { run = goes.reads.run; small = rw goal goes.small; since = goes.reads.since; known = root; asked = ap (λ n. load LoadSettled (node n (Settled HeadWord))) (sym root) }),
 )
 
 -- Its LLXs
@@ -218,15 +219,15 @@ module _ (m : SuccessorRun) (c : Call) (h : History) where
   at_look None route low side llx is r = absurd (let d : Look route low side llx ≡ Start = sym is ∙ r.1 in cc)
   at_look (Some v) route low side llx is r = told_at v (Look route low side llx) is r
 
-  pub at_head : (got : Option ℕ) (route : Route) (above : ℕ) (n : NodeNo) → m.at ≡ Head route above n → SuccessorIsReady m c h got → ToldInTry (λ d. SuccessorStandsAt m d h route n.0 × (above < level (value h) n.0) × (value h (node n.0 HeadWord) ≡ unwrap_or got 0))
+  pub at_head : (got : Option ℕ) (route : Route) (above : ℕ) (n : NodeNo) → m.at ≡ Head route above n → SuccessorIsReady m c h got → ToldInTry (λ d. SuccessorStandsAt m d h route n.0 × (above < level (value h) n.0) × (value h (node n.0 (Settled HeadWord)) ≡ unwrap_or got 0))
   at_head None route above n is r = absurd (let d : Head route above n ≡ Start = sym is ∙ r.1 in cc)
   at_head (Some v) route above n is r = told_at v (Head route above n) is r
 
-  pub at_key : (got : Option ℕ) (route : Route) (head : HeadParts) (n : NodeNo) → m.at ≡ Key route head n → SuccessorIsReady m c h got → ToldInTry (λ d. SuccessorStandsAt m d h route n.0 × HasHead h route n.0 head × (value h (node n.0 KeyWord) ≡ unwrap_or got 0))
+  pub at_key : (got : Option ℕ) (route : Route) (head : HeadParts) (n : NodeNo) → m.at ≡ Key route head n → SuccessorIsReady m c h got → ToldInTry (λ d. SuccessorStandsAt m d h route n.0 × HasHead h route n.0 head × (value h (node n.0 (Settled KeyWord)) ≡ unwrap_or got 0))
   at_key None route head n is r = absurd (let d : Key route head n ≡ Start = sym is ∙ r.1 in cc)
   at_key (Some v) route head n is r = told_at v (Key route head n) is r
 
-  pub at_value : (got : Option ℕ) (key : ℕ) (n : NodeNo) → m.at ≡ Value key n → SuccessorIsReady m c h got → ToldInTry (λ d. HasLeaf m d h n.0 key × (value h (node n.0 ValueWord) ≡ unwrap_or got 0))
+  pub at_value : (got : Option ℕ) (key : ℕ) (n : NodeNo) → m.at ≡ Value key n → SuccessorIsReady m c h got → ToldInTry (λ d. HasLeaf m d h n.0 key × (value h (node n.0 (Settled ValueWord)) ≡ unwrap_or got 0))
   at_value None key n is r = absurd (let d : Value key n ≡ Start = sym is ∙ r.1 in cc)
   at_value (Some v) key n is r = told_at v (Value key n) is r
 

@@ -5,7 +5,8 @@ use Rattle.std.proofs.lemmas.Bool.Decides.{leb_tells}
 use native.Mathlib.Decide.{ℕ_discrete}
 use Rattle.arena.specs.declared.layout.Layout.{Layout}
 use Rattle.arena.specs.declared.number.NodeNo.{NodeNo}
-use Rattle.arena.specs.declared.word.NodeWord.TheVariants.{Key, Value}
+use Rattle.arena.specs.declared.word.NodeWord.TheVariants.{Settled}
+use Rattle.arena.specs.declared.word.SettledPart.TheVariants.{Key, Value}
 use Rattle.arena.specs.declared.word.Side.TheVariants.{Left, Right}
 use Rattle.arena.specs.declared.word.Word.{Word}
 use Rattle.arena.specs.Words.{node, child}
@@ -63,14 +64,14 @@ outside_above : (low high k : ℕ) → high < k → (leb low k && leb k high) �
 outside_above low high k i = rw (gt_leb k high i) (no_and (leb low k))
 
 -- the pairs of a leaf
-leaf_taken : (f : Word → ℕ) (w : Bounds) (n : ℕ) → class f n ≡ 0 → w.low ≤ f (node n Key) → f (node n Key) ≤ w.high → between w.low w.high (leaf_pairs f n) ≡ pair (f (node n Key)) (f (node n Value)) ∷ []
-leaf_taken f w n z i j = rw (eq-eqb (class f n) 0 z) (rw (inside w.low w.high (f (node n Key)) i j) refl)
+leaf_taken : (f : Word → ℕ) (w : Bounds) (n : ℕ) → class f n ≡ 0 → w.low ≤ f (node n (Settled Key)) → f (node n (Settled Key)) ≤ w.high → between w.low w.high (leaf_pairs f n) ≡ pair (f (node n (Settled Key))) (f (node n (Settled Value))) ∷ []
+leaf_taken f w n z i j = rw (eq-eqb (class f n) 0 z) (rw (inside w.low w.high (f (node n (Settled Key))) i j) refl)
 
-leaf_below : (f : Word → ℕ) (w : Bounds) (n : ℕ) → class f n ≡ 0 → f (node n Key) < w.low → between w.low w.high (leaf_pairs f n) ≡ []
-leaf_below f w n z i = rw (eq-eqb (class f n) 0 z) (rw (outside_below w.low w.high (f (node n Key)) i) refl)
+leaf_below : (f : Word → ℕ) (w : Bounds) (n : ℕ) → class f n ≡ 0 → f (node n (Settled Key)) < w.low → between w.low w.high (leaf_pairs f n) ≡ []
+leaf_below f w n z i = rw (eq-eqb (class f n) 0 z) (rw (outside_below w.low w.high (f (node n (Settled Key))) i) refl)
 
-leaf_above : (f : Word → ℕ) (w : Bounds) (n : ℕ) → class f n ≡ 0 → w.high < f (node n Key) → between w.low w.high (leaf_pairs f n) ≡ []
-leaf_above f w n z i = rw (eq-eqb (class f n) 0 z) (rw (outside_above w.low w.high (f (node n Key)) i) refl)
+leaf_above : (f : Word → ℕ) (w : Bounds) (n : ℕ) → class f n ≡ 0 → w.high < f (node n (Settled Key)) → between w.low w.high (leaf_pairs f n) ≡ []
+leaf_above f w n z i = rw (eq-eqb (class f n) 0 z) (rw (outside_above w.low w.high (f (node n (Settled Key))) i) refl)
 
 leaf_high : (f : Word → ℕ) (w : Bounds) (n : ℕ) → class f n ≢ 0 → between w.low w.high (leaf_pairs f n) ≡ []
 leaf_high f w n d = rw (ne_eqb (class f n) 0 d) refl
@@ -190,7 +191,7 @@ module _ (h : History) (w : Bounds) (n : ℕ) (taken : List Pair) (waiting : Lis
       holds : part_pairs h w x.part.tree ≡ between w.low w.high (leaf_pairs (value h) n)
       from : x.part.low ≤ rank (value h) n
       to : rank (value h) n < x.part.high
-      small : value h (node n Key) < 2 ^ 64
+      small : value h (node n (Settled Key)) < 2 ^ 64
 
     one_leaf : IsOneLeaf
     one_leaf = go x.part.tree refl x.part.shows x.part.is
@@ -205,14 +206,14 @@ module _ (h : History) (w : Bounds) (n : ℕ) (taken : List Pair) (waiting : Lis
         }
 
     -- its pair is taken
-    pub takes : class (value h) n ≡ 0 → w.low ≤ value h (node n Key) → value h (node n Key) ≤ w.high → HasVisited h w (taken ++ pair (value h (node n Key)) (value h (node n Value)) ∷ []) waiting (leaves - 1)
+    pub takes : class (value h) n ≡ 0 → w.low ≤ value h (node n (Settled Key)) → value h (node n (Settled Key)) ≤ w.high → HasVisited h w (taken ++ pair (value h (node n (Settled Key))) (value h (node n (Settled Value))) ∷ []) waiting (leaves - 1)
     takes z i j = record {
       tree = x.tree;
       is_tree = x.is_tree;
       rest = x.rest;
       waits = x.waits;
-      finds = x.finds ∙ ap (λ y. taken ++ (y ++ x.rest)) (one_leaf.holds ∙ leaf_taken (value h) w n z i j) ∙ sym (append_assoc taken (pair (value h (node n Key)) (value h (node n Value)) ∷ []) x.rest);
-      few = λ d. (let a = x.few in let l : length (taken ++ pair (value h (node n Key)) (value h (node n Value)) ∷ []) ≡ length taken + 1 = one_longer taken _ in omega (arith, a, l));
+      finds = x.finds ∙ ap (λ y. taken ++ (y ++ x.rest)) (one_leaf.holds ∙ leaf_taken (value h) w n z i j) ∙ sym (append_assoc taken (pair (value h (node n (Settled Key))) (value h (node n (Settled Value))) ∷ []) x.rest);
+      few = λ d. (let a = x.few in let l : length (taken ++ pair (value h (node n (Settled Key))) (value h (node n (Settled Value))) ∷ []) ≡ length taken + 1 = one_longer taken _ in omega (arith, a, l));
     }
 
     -- it has none within the bounds
@@ -226,7 +227,7 @@ module _ (h : History) (w : Bounds) (n : ℕ) (taken : List Pair) (waiting : Lis
       few = λ d. (let e = first d in omega (arith, e));
     }
 
-    pub passes_below : class (value h) n ≡ 0 → value h (node n Key) < w.low → HasVisited h w taken waiting (leaves - 1)
+    pub passes_below : class (value h) n ≡ 0 → value h (node n (Settled Key)) < w.low → HasVisited h w taken waiting (leaves - 1)
     passes_below z i = passes_none (leaf_below (value h) w n z i) (λ d. go (ℕ_discrete leaves (w.most + 2)))
       where
         go : Dec (leaves ≡ w.most + 2) → leaves ≡ w.most + 2

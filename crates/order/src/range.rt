@@ -2,7 +2,7 @@
 ghost use Rattle.std.specs.Prelude.{◌≡◌};
 
 use crate::refused::Refused;
-use arena::{Access, Head, Kind, Machine, NodeNo, NodeWord, ScxNo, Step, Turn, Word};
+use arena::{Access, Head, Kind, Machine, NodeNo, NodeWord, ScxNo, SettledPart, Step, Turn, Word};
 use ordered_map::Pair;
 use prims::{Llx, LlxAt, LlxRun, Snap, Vlx, VlxRun};
 use std::alloc::Global;
@@ -173,7 +173,7 @@ impl RangeRun {
         ensures begins { AsksForSome self.old → MatchTurn result (λ _. Unit {0}) (λ _. ⊥) }
         ensures nothing { AsksForNothing self.old → TellsNone result }
         ensures root { MatchTurn result (λ step. (self.new.at ≡ RangeAt.Root)
-            × (step ≡ load Kind.LoadSettled (Word.Node record { 0 = 0 } NodeWord.Head))) (λ _. Unit {0}) }
+            × (step ≡ load Kind.LoadSettled (Word.Node record { 0 = 0 } (NodeWord.Settled SettledPart.Head)))) (λ _. Unit {0}) }
         ensures same { IsSameRange self.old self.new }
         ensures nearer { (nodes : ℕ) → RangeIsNearer self.new nodes result
             (self.old.tries * range_try_left self.old.most nodes + range_try_left self.old.most nodes) }
@@ -189,7 +189,8 @@ impl RangeRun {
         if self.high < self.low {
             return self.tell();
         }
-        self.load(RangeAt::Root, Kind::LoadSettled, NodeNo(0), NodeWord::Head)
+        let part = NodeWord::Settled(SettledPart::Head);
+        self.load(RangeAt::Root, Kind::LoadSettled, NodeNo(0), part)
     }
 
     /// Ends with the pairs that were taken.
@@ -451,15 +452,18 @@ impl RangeRun {
         match next {
             RangeNext::Head { above, node } => {
                 let at = RangeAt::Head { above, node };
-                self.load(at, Kind::LoadSettled, node, NodeWord::Head)
+                let part = NodeWord::Settled(SettledPart::Head);
+                self.load(at, Kind::LoadSettled, node, part)
             }
             RangeNext::Key { head, node } => {
                 let at = RangeAt::Key { head, node };
-                self.load(at, Kind::LoadSettled, node, NodeWord::Key)
+                let part = NodeWord::Settled(SettledPart::Key);
+                self.load(at, Kind::LoadSettled, node, part)
             }
             RangeNext::Value { key, node } => {
                 let at = RangeAt::Value { key, node };
-                self.load(at, Kind::LoadSettled, node, NodeWord::Value)
+                let part = NodeWord::Settled(SettledPart::Value);
+                self.load(at, Kind::LoadSettled, node, part)
             }
             RangeNext::Look {
                 level,

@@ -4,7 +4,9 @@ ghost use Rattle.order.specs.Successor.Known.{successor_asks_key};
 ghost use Rattle.order.specs.Successor.Steps.{last_turn};
 
 use crate::refused::Refused;
-use arena::{Access, Head, Kind, Machine, NodeNo, NodeWord, ScxNo, Side, Step, Turn, Word};
+use arena::{
+    Access, Head, Kind, Machine, NodeNo, NodeWord, ScxNo, SettledPart, Side, Step, Turn, Word,
+};
 use ordered_map::Pair;
 use prims::{Llx, LlxAt, LlxRun, Snap, Vlx, VlxRun};
 use std::alloc::Global;
@@ -179,7 +181,8 @@ impl SuccessorRun {
         let (mut walk, root) = (WalkRun::new(Goal::Key(self.key)), NodeNo(0));
         walk.at = WalkAt::Root;
         let at = SuccessorAt::Walk { walk, turn: root };
-        self.load(at, Kind::LoadSettled, root, NodeWord::Head)
+        let part = NodeWord::Settled(SettledPart::Head);
+        self.load(at, Kind::LoadSettled, root, part)
     }
 
     /// Ends a try that is lost to this SCX-record over this node, and begins the next if there is
@@ -454,15 +457,18 @@ impl SuccessorRun {
             }
             SuccessorNext::Head { route, above, node } => {
                 let at = SuccessorAt::Head { route, above, node };
-                self.load(at, Kind::LoadSettled, node, NodeWord::Head)
+                let part = NodeWord::Settled(SettledPart::Head);
+                self.load(at, Kind::LoadSettled, node, part)
             }
             SuccessorNext::Key { route, head, node } => {
                 let at = SuccessorAt::Key { route, head, node };
-                self.load(at, Kind::LoadSettled, node, NodeWord::Key)
+                let part = NodeWord::Settled(SettledPart::Key);
+                self.load(at, Kind::LoadSettled, node, part)
             }
             SuccessorNext::Value { key, node } => {
                 let at = SuccessorAt::Value { key, node };
-                self.load(at, Kind::LoadSettled, node, NodeWord::Value)
+                let part = NodeWord::Settled(SettledPart::Value);
+                self.load(at, Kind::LoadSettled, node, part)
             }
             SuccessorNext::Validate(found) => self.validate(found),
         }

@@ -4,7 +4,8 @@ use Rattle.std.proofs.Common.{◌≡◌, ℕ, ◌/◌, ◌%◌, ◌<◌, inl, in
 use Rattle.std.specs.Prelude.{unwrap_or}
 use Rattle.arena.specs.declared.limits.Mode.{Mode}
 use Rattle.arena.specs.declared.word.NodeWord.{NodeWord}
-use Rattle.arena.specs.declared.word.NodeWord.TheVariants.{Head, Child}
+use Rattle.arena.specs.declared.word.NodeWord.TheVariants.{Settled, Child}
+use Rattle.arena.specs.declared.word.SettledPart.TheVariants.{Head}
 use Rattle.arena.specs.declared.word.Side.{Side}
 use Rattle.arena.specs.declared.step.Step.{Step}
 use Rattle.arena.specs.Fills.{IsInField}
@@ -66,15 +67,15 @@ module _ (m : UpdateRun Delete UpdateAt) (c : Call) (h : History) (f : Found) (n
   said_is : piece delete_means m f (nth_node m.nodes nth).0 ≡ copy
   said_is = piece_is (delete_need f.value) m.nodes (λ i. delete_piece f m.snaps.items m.loaded) nth x.works.need x.works.in_order
 
-  head_ordered : (k : ℕ) → node (nth_node m.nodes nth).0 part ≡ node k Head → ¬ HasStoodInField h k
-  head_ordered k e = subst (λ n. ¬ HasStoodInField h n) (sym (one_top f.value nth m.nodes x.works.need) ∙ same_number (nth_node m.nodes nth).0 k part Head e) (unstood c.layout h c.pass (top delete_means m f) x.works.run.0 (x.full.hand.own (top delete_means m f) x.full.some (omega arith)) x.full.hand.unmentioned)
+  head_ordered : (k : ℕ) → node (nth_node m.nodes nth).0 part ≡ node k (Settled Head) → ¬ HasStoodInField h k
+  head_ordered k e = subst (λ n. ¬ HasStoodInField h n) (sym (one_top f.value nth m.nodes x.works.need) ∙ same_number (nth_node m.nodes nth).0 k part (Settled Head) e) (unstood c.layout h c.pass (top delete_means m f) x.works.run.0 (x.full.hand.own (top delete_means m f) x.full.some (omega arith)) x.full.hand.unmentioned)
 
   abbrev sibling : Snap
   sibling = sibling_of f m.snaps.items
 
   -- the head of the sibling is loaded
-  head_is : unwrap_or m.loaded.head 0 ≡ value h (node sibling.node.0 Head)
-  head_is = ap (λ o. unwrap_or o 0) (loaded_head m.loaded.head m.loaded.key m.loaded.value (value h (node sibling.node.0 Head)) (subst (λ i. delete_means.wants m.edit f m.snaps.items m.loaded i ≡ None) (one_place f.value nth x.works.need) x.done) x.works.loaded.head)
+  head_is : unwrap_or m.loaded.head 0 ≡ value h (node sibling.node.0 (Settled Head))
+  head_is = ap (λ o. unwrap_or o 0) (loaded_head m.loaded.head m.loaded.key m.loaded.value (value h (node sibling.node.0 (Settled Head))) (subst (λ i. delete_means.wants m.edit f m.snaps.items m.loaded i ≡ None) (one_place f.value nth x.works.need) x.done) x.works.loaded.head)
 
   -- what a field of the sibling held has stood in the tree
   field_stood : (side : Side) → AreFilledInOrder h → is_leaf (value h) sibling.node.0 ≡ false → WasInTree h (child_of sibling side).0
@@ -91,7 +92,7 @@ module _ (m : UpdateRun Delete UpdateAt) (c : Call) (h : History) (f : Found) (n
       named (inr y) = inr (y.0, y.1, y.3)
 
       then : is_leaf (value u.moment) sibling.node.0 ≡ false
-      then = ap (λ w. eqb (w / 4 % 2) 1) (sym (node_since c.layout h u.moment sibling.node.0 Head x.works.run.1.lawful u.within tt (in_field_named sibling.node.0 u.is.linked.in_field))) ∙ fork
+      then = ap (λ w. eqb (w / 4 % 2) 1) (sym (node_since c.layout h u.moment sibling.node.0 (Settled Head) x.works.run.1.lawful u.within tt (in_field_named sibling.node.0 u.is.linked.in_field))) ∙ fork
 
   field_ordered : (k : ℕ) (side : Side) → AreFilledInOrder h → node (nth_node m.nodes nth).0 part ≡ child k side → WasInTree h (word_of (piece delete_means m f (nth_node m.nodes nth).0) part)
   field_ordered k side filled e =

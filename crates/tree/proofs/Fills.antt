@@ -7,7 +7,8 @@ use Rattle.arena.specs.declared.limits.Mode.TheVariants.{Tree as TreeMode}
 use Rattle.arena.specs.declared.step.Kind.TheVariants.{Fill as FillKind, LoadSettled}
 use Rattle.arena.specs.declared.step.Step.{Step}
 use Rattle.arena.specs.declared.word.NodeWord.{NodeWord}
-use Rattle.arena.specs.declared.word.NodeWord.TheVariants.{Head}
+use Rattle.arena.specs.declared.word.NodeWord.TheVariants.{Settled}
+use Rattle.arena.specs.declared.word.SettledPart.TheVariants.{Head}
 use Rattle.arena.specs.declared.word.ScxWord.{ScxWord}
 use Rattle.arena.specs.declared.word.Word.{Word}
 use Rattle.arena.specs.declared.word.Word.TheVariants.{Node, Scx as ScxOf}
@@ -60,7 +61,7 @@ leaf_head level class = eq-eqb (piece_head level true class / 4 % 2) 1 (omega ar
 
 word_part : Word → NodeWord
 word_part (Node n part) = part
-word_part (ScxOf s part) = Head
+word_part (ScxOf s part) = Settled Head
 
 word_number : Word → ℕ
 word_number (Node n part) = n.0
@@ -87,7 +88,7 @@ pub no_fill : (c : Call) (h : History) (s : Step) → s.kind ≢ FillKind → Is
 no_fill c h s none = record { head = λ n k e. absurd (none k); field = λ n side k e. absurd (none k) }
 
 scx_fill_in_order : (c : Call) (h : History) (j : Job) (part : ScxWord) → IsFillInOrder h (row_of c (scx_fill j part) h)
-scx_fill_in_order c h j part = record { head = λ n k e. let y : scx j.scx.0 part ≡ node n Head = e in cc; field = λ n side k e. let y : scx j.scx.0 part ≡ child n side = e in cc }
+scx_fill_in_order c h j part = record { head = λ n k e. let y : scx j.scx.0 part ≡ node n (Settled Head) = e in cc; field = λ n side k e. let y : scx j.scx.0 part ≡ child n side = e in cc }
 
 scx_in_order : (c begun : Call) (h : History) (j : Job) (at : ScxAt) (s : Step) → ScxWaitsAt TreeAllows begun h j at s → IsFillInOrder h (row_of c s h)
 scx_in_order c begun h j scx_at.Start s w = absurd w

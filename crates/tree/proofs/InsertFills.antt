@@ -2,7 +2,8 @@
 use Rattle.std.proofs.Common.{◌≡◌, ℕ, suc, ◌/◌, ◌%◌, ◌<◌, ◌≤◌, ◌⊎◌, inl, inr, true, eqb, refl, sym, ◌∙◌, ap, subst, arith}
 use Rattle.arena.specs.declared.step.Step.{Step}
 use Rattle.arena.specs.declared.word.NodeWord.{NodeWord}
-use Rattle.arena.specs.declared.word.NodeWord.TheVariants.{Head, Child}
+use Rattle.arena.specs.declared.word.NodeWord.TheVariants.{Settled, Child}
+use Rattle.arena.specs.declared.word.SettledPart.TheVariants.{Head}
 use Rattle.arena.specs.declared.word.Side.{Side}
 use Rattle.arena.specs.History.{History, value}
 use Rattle.arena.specs.Machines.{Call, row_of}
@@ -55,17 +56,17 @@ module _ (m : UpdateRun Insert UpdateAt) (c : Call) (h : History) (f : Found) wh
       let third : top insert_means m f ≡ m.nodes.third.0 = third_top (insert_need f.value) m.nodes x.works.need in
       let w : HoldsWords h (nth_node m.nodes i).0 (piece insert_means m f (nth_node m.nodes i).0) (IsPieceWord (piece insert_means m f (nth_node m.nodes i).0)) = x.full.full (nth_node m.nodes i).0 low high (omega (third, high, arith)) in
       let same : piece insert_means m f (nth_node m.nodes i).0 ≡ LeafPiece level class key v = piece_is (insert_need f.value) m.nodes (λ j. insert_pieces m.edit.key m.edit.value f m.nodes m.loaded j) i (all_needed (insert_need f.value) x.works.need i) x.works.in_order ∙ is in
-      ap (λ u. eqb (u / 4 % 2) 1) (w Head tt ∙ ap (λ (p : Piece). word_of p Head) same) ∙ leaf_head level class
+      ap (λ u. eqb (u / 4 % 2) 1) (w (Settled Head) tt ∙ ap (λ (p : Piece). word_of p (Settled Head)) same) ∙ leaf_head level class
 
   before_third : (part : NodeWord) (i : Nth) → FillsPiece insert_means m c h f Third part → ComesBefore i Third → is_leaf (value h) (nth_node m.nodes i).0 ≡ true
   before_third part First x b = let o = three_rise (insert_need f.value) m.nodes x.works.need x.works.in_order in leaf_full part First x _ _ _ _ refl (omega arith) (omega (o.0, o.1, arith))
   before_third part Second x b = let o = three_rise (insert_need f.value) m.nodes x.works.need x.works.in_order in leaf_full part Second x _ _ _ _ refl (omega (o.0, arith)) (omega (o.1, arith))
   before_third part Third x b = absurd b
 
-  head_ordered : (nth : Nth) (part : NodeWord) (k : ℕ) → FillsPiece insert_means m c h f nth part → node (nth_node m.nodes nth).0 part ≡ node k Head → (eqb (word_of (piece insert_means m f (nth_node m.nodes nth).0) part / 4 % 2) 1 ≡ true) ⊎ (¬ HasStoodInField h k)
-  head_ordered First part k x e = inl (rw (same_part m.nodes.first.0 k part Head e, said_is First part x) (leaf_head _ 0))
-  head_ordered Second part k x e = inl (rw (same_part m.nodes.second.0 k part Head e, said_is Second part x) (leaf_head _ f.head.class))
-  head_ordered Third part k x e = inr (subst (λ n. ¬ HasStoodInField h n) (sym third ∙ same_number m.nodes.third.0 k part Head e) (unstood c.layout h c.pass (top insert_means m f) x.works.run.0 (x.full.hand.own (top insert_means m f) x.full.some (omega arith)) x.full.hand.unmentioned))
+  head_ordered : (nth : Nth) (part : NodeWord) (k : ℕ) → FillsPiece insert_means m c h f nth part → node (nth_node m.nodes nth).0 part ≡ node k (Settled Head) → (eqb (word_of (piece insert_means m f (nth_node m.nodes nth).0) part / 4 % 2) 1 ≡ true) ⊎ (¬ HasStoodInField h k)
+  head_ordered First part k x e = inl (rw (same_part m.nodes.first.0 k part (Settled Head) e, said_is First part x) (leaf_head _ 0))
+  head_ordered Second part k x e = inl (rw (same_part m.nodes.second.0 k part (Settled Head) e, said_is Second part x) (leaf_head _ f.head.class))
+  head_ordered Third part k x e = inr (subst (λ n. ¬ HasStoodInField h n) (sym third ∙ same_number m.nodes.third.0 k part (Settled Head) e) (unstood c.layout h c.pass (top insert_means m f) x.works.run.0 (x.full.hand.own (top insert_means m f) x.full.some (omega arith)) x.full.hand.unmentioned))
     where
       third : m.nodes.third.0 ≡ top insert_means m f
       third = sym (third_top (insert_need f.value) m.nodes x.works.need)

@@ -1,7 +1,7 @@
 //! Delete.
 ghost use Rattle.std.specs.Prelude.{◌≡◌};
 
-use arena::{Head, NodeNo, NodeWord, Share, Side};
+use arena::{Head, NodeNo, NodeWord, SettledPart, Share, Side};
 use edits::{Edit, Loaded, Look, Need, Nodes, Nth, Piece, UpdateAt, UpdateRun};
 use prims::Snap;
 use template::{Found, Goal};
@@ -73,15 +73,15 @@ impl Delete {
         ensures { result ≡ copy_wants loaded.now.head loaded.now.key loaded.now.value }
     {
         let Some(word) = loaded.head else {
-            return Some(NodeWord::Head);
+            return Some(NodeWord::Settled(SettledPart::Head));
         };
         let head = Head::of(word);
         if head.class != 0 {
             None
         } else if loaded.key.is_none() {
-            Some(NodeWord::Key)
+            Some(NodeWord::Settled(SettledPart::Key))
         } else if head.leaf && loaded.value.is_none() {
-            Some(NodeWord::Value)
+            Some(NodeWord::Settled(SettledPart::Value))
         } else {
             None
         }

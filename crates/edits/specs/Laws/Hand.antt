@@ -6,7 +6,8 @@ use Rattle.arena.specs.declared.step.Row.{Row}
 use Rattle.arena.specs.declared.step.Kind.TheVariants.{Fill}
 use Rattle.arena.specs.declared.word.Side.TheVariants.{Left, Right}
 use Rattle.arena.specs.declared.word.NodeWord.{NodeWord}
-use Rattle.arena.specs.declared.word.NodeWord.TheVariants.{Head, Key, Value, Child, Info, Marked}
+use Rattle.arena.specs.declared.word.NodeWord.TheVariants.{Settled, Child, Info, Marked}
+use Rattle.arena.specs.declared.word.SettledPart.TheVariants.{Head, Key, Value}
 use Rattle.arena.specs.declared.word.Word.{Word}
 use Rattle.arena.specs.declared.word.Word.TheVariants.{Node, Scx as ScxOf}
 use Rattle.arena.specs.Share.{Remaining}
@@ -30,46 +31,42 @@ use Rattle.edits.specs.Laws.NodeFills.{named_before, others_stay, same_stays}
 
 -- those that were filled before this one
 abbrev pub IsBefore : NodeWord → NodeWord → Type 0
-IsBefore Key Head = Unit {0}
-IsBefore Value Head = Unit {0}
-IsBefore Value Key = Unit {0}
-IsBefore (Child Left) Head = Unit {0}
-IsBefore (Child Left) Key = Unit {0}
-IsBefore (Child Right) Head = Unit {0}
-IsBefore (Child Right) Key = Unit {0}
+IsBefore (Settled Key) (Settled Head) = Unit {0}
+IsBefore (Settled Value) (Settled Head) = Unit {0}
+IsBefore (Settled Value) (Settled Key) = Unit {0}
+IsBefore (Child Left) (Settled Head) = Unit {0}
+IsBefore (Child Left) (Settled Key) = Unit {0}
+IsBefore (Child Right) (Settled Head) = Unit {0}
+IsBefore (Child Right) (Settled Key) = Unit {0}
 IsBefore (Child Right) (Child Left) = Unit {0}
 IsBefore _ _ = ⊥
 
 -- those that are filled once it is too
 abbrev pub IsUpTo : NodeWord → NodeWord → Type 0
-IsUpTo Head Head = Unit {0}
-IsUpTo Key Head = Unit {0}
-IsUpTo Key Key = Unit {0}
-IsUpTo Value Head = Unit {0}
-IsUpTo Value Key = Unit {0}
-IsUpTo Value Value = Unit {0}
-IsUpTo (Child Left) Head = Unit {0}
-IsUpTo (Child Left) Key = Unit {0}
+IsUpTo (Settled Head) (Settled Head) = Unit {0}
+IsUpTo (Settled Key) (Settled Head) = Unit {0}
+IsUpTo (Settled Key) (Settled Key) = Unit {0}
+IsUpTo (Settled Value) (Settled p) = Unit {0}
+IsUpTo (Child Left) (Settled Head) = Unit {0}
+IsUpTo (Child Left) (Settled Key) = Unit {0}
 IsUpTo (Child Left) (Child Left) = Unit {0}
-IsUpTo (Child Right) Head = Unit {0}
-IsUpTo (Child Right) Key = Unit {0}
+IsUpTo (Child Right) (Settled Head) = Unit {0}
+IsUpTo (Child Right) (Settled Key) = Unit {0}
 IsUpTo (Child Right) (Child Left) = Unit {0}
 IsUpTo (Child Right) (Child Right) = Unit {0}
 IsUpTo _ _ = ⊥
 
 -- all of them
 abbrev pub IsPieceWord : Piece → NodeWord → Type 0
-IsPieceWord p Head = Unit {0}
-IsPieceWord p Key = Unit {0}
-IsPieceWord (Leaf level class key v) Value = Unit {0}
+IsPieceWord p (Settled Head) = Unit {0}
+IsPieceWord p (Settled Key) = Unit {0}
+IsPieceWord (Leaf level class key v) (Settled Value) = Unit {0}
 IsPieceWord (Fork level class key l r) (Child side) = Unit {0}
 IsPieceWord _ _ = ⊥
 
 -- each of them is filled
 pub piece_fill : (p : Piece) (part : NodeWord) → IsPieceWord p part → IsNodeFill part
-piece_fill p Head i = tt
-piece_fill p Key i = tt
-piece_fill p Value i = tt
+piece_fill p (Settled q) i = tt
 piece_fill p (Child side) i = tt
 piece_fill (Leaf level class key v) Info i = absurd i
 piece_fill (Leaf level class key v) Marked i = absurd i
@@ -81,28 +78,28 @@ abbrev pub HoldsWords : History → ℕ → Piece → (NodeWord → Type 0) → 
 HoldsWords h n p P = (q : NodeWord) → P q → value h (node n q) ≡ word_of p q
 
 before_apart : (part q : NodeWord) → IsBefore part q → same_node_word part q ≡ false
-before_apart Key Head i = refl
-before_apart Value Head i = refl
-before_apart Value Key i = refl
-before_apart (Child Left) Head i = refl
-before_apart (Child Left) Key i = refl
-before_apart (Child Right) Head i = refl
-before_apart (Child Right) Key i = refl
+before_apart (Settled Key) (Settled Head) i = refl
+before_apart (Settled Value) (Settled Head) i = refl
+before_apart (Settled Value) (Settled Key) i = refl
+before_apart (Child Left) (Settled Head) i = refl
+before_apart (Child Left) (Settled Key) i = refl
+before_apart (Child Right) (Settled Head) i = refl
+before_apart (Child Right) (Settled Key) i = refl
 before_apart (Child Right) (Child Left) i = refl
 before_apart _ _ i = absurd i
 
 up_to : (part q : NodeWord) → IsUpTo part q → IsBefore part q ⊎ (part ≡ q)
-up_to Head Head i = inr refl
-up_to Key Head i = inl tt
-up_to Key Key i = inr refl
-up_to Value Head i = inl tt
-up_to Value Key i = inl tt
-up_to Value Value i = inr refl
-up_to (Child Left) Head i = inl tt
-up_to (Child Left) Key i = inl tt
+up_to (Settled Head) (Settled Head) i = inr refl
+up_to (Settled Key) (Settled Head) i = inl tt
+up_to (Settled Key) (Settled Key) i = inr refl
+up_to (Settled Value) (Settled Head) i = inl tt
+up_to (Settled Value) (Settled Key) i = inl tt
+up_to (Settled Value) (Settled Value) i = inr refl
+up_to (Child Left) (Settled Head) i = inl tt
+up_to (Child Left) (Settled Key) i = inl tt
 up_to (Child Left) (Child Left) i = inr refl
-up_to (Child Right) Head i = inl tt
-up_to (Child Right) Key i = inl tt
+up_to (Child Right) (Settled Head) i = inl tt
+up_to (Child Right) (Settled Key) i = inl tt
 up_to (Child Right) (Child Left) i = inl tt
 up_to (Child Right) (Child Right) i = inr refl
 up_to _ _ i = absurd i
@@ -167,9 +164,7 @@ module _ (lay : Layout) (h : History) (r : Row) (c : ℕ) (left : Remaining) (fi
 
       go : (q : NodeWord) → FieldMay q (IsForField lay h first top r.after) → FieldMay q (r.after ≢ k)
       go (Child side) y = apart y
-      go Head y = tt
-      go Key y = tt
-      go Value y = tt
+      go (Settled p) y = tt
       go Info y = tt
       go Marked y = tt
 
@@ -178,9 +173,7 @@ module _ (lay : Layout) (h : History) (r : Row) (c : ℕ) (left : Remaining) (fi
     where
       mention : (q : NodeWord) → FieldMay q (r.after ≢ k) → IsMention (node n q) → r.after ≢ k
       mention (Child side) y m = y
-      mention Head y m = absurd m
-      mention Key y m = absurd m
-      mention Value y m = absurd m
+      mention (Settled p) y m = absurd m
       mention Info y m = absurd m
       mention Marked y m = absurd m
 
@@ -259,9 +252,7 @@ may_fill lay h c left first top n piece part v fill from to may x = go part fill
 
     go : (q : NodeWord) → IsNodeFill q → FieldMay q (IsForField lay h first top v) → MayFill lay h c (node n q) v
     go (Child side) i m = (is_open, field m)
-    go Head i m = is_open
-    go Key i m = is_open
-    go Value i m = is_open
+    go (Settled p) i m = is_open
     go Info i m = absurd i
     go Marked i m = absurd i
 

@@ -2,7 +2,8 @@
 use Rattle.std.proofs.Common.{◌≡◌, ◌≢◌, ℕ, Some, None, Option, List, inr, refl, sym, ◌∙◌}
 use Rattle.arena.specs.declared.step.Row.{Row}
 use Rattle.arena.specs.declared.step.Kind.TheVariants.{Fill}
-use Rattle.arena.specs.declared.word.NodeWord.TheVariants.{Head, Key, Value}
+use Rattle.arena.specs.declared.word.NodeWord.TheVariants.{Settled}
+use Rattle.arena.specs.declared.word.SettledPart.TheVariants.{Head, Key, Value}
 use Rattle.arena.specs.declared.word.Word.{Word}
 use Rattle.arena.specs.History.{History, ◌⊳◌, value}
 use Rattle.arena.specs.Lawful.{Lawful}
@@ -52,7 +53,7 @@ rests_by_step c h r left l no_fill x = record {
 
 -- what a leaf says of a key its settled words say
 pub same_said : (f g : Word → ℕ) (k n : ℕ) → SameSettled f g n → said g k n ≡ said f k n
-same_said f g k n e = rw (e Head tt, e Key tt, e Value tt) refl
+same_said f g k n e = rw (e (Settled Head) tt, e (Settled Key) tt, e (Settled Value) tt) refl
 
 -- a snapshot that the call has taken may be used
 pub snapped_usable : (c : Call) (h : History) (goal : Goal) (f : Found) (snap : Snap) → Lawful c.layout h → (x : HasSnappedAfterWalk c h goal f snap) → IsUsable c.layout h snap x.moment
@@ -69,9 +70,9 @@ loaded_word (Some u) v w e x = x ∙ sym e
 -- and so are the words that were loaded of a named node
 pub loaded_more : (c : Call) (h : History) (r : Row) (n : ℕ) (ld : Loaded) → Lawful c.layout (r ⊳ h) → SameSettled (value h) (value (r ⊳ h)) n → AreLoaded (value h) n ld → AreLoaded (value (r ⊳ h)) n ld
 loaded_more c h r n ld l same x = record {
-  head = loaded_word ld.head _ _ (same Head tt) x.head;
-  key = loaded_word ld.key _ _ (same Key tt) x.key;
-  value = loaded_word ld.value _ _ (same Value tt) x.value;
+  head = loaded_word ld.head _ _ (same (Settled Head) tt) x.head;
+  key = loaded_word ld.key _ _ (same (Settled Key) tt) x.key;
+  value = loaded_word ld.value _ _ (same (Settled Value) tt) x.value;
 }
 
 module _ {E : Type 0} (e : EditMeaning E) where

@@ -3,7 +3,8 @@ use Rattle.std.proofs.Common.{◌≡◌, ℕ, inl, inr, true, false}
 use Rattle.arena.specs.declared.step.Row.{Row}
 use Rattle.arena.specs.declared.step.Step.{Step}
 use Rattle.arena.specs.declared.step.Kind.TheVariants.{LoadSettled}
-use Rattle.arena.specs.declared.word.NodeWord.TheVariants.{Head as HeadWord}
+use Rattle.arena.specs.declared.word.NodeWord.TheVariants.{Settled}
+use Rattle.arena.specs.declared.word.SettledPart.TheVariants.{Head as HeadWord}
 use Rattle.arena.specs.History.{History, ◌⊳◌, Extends}
 use Rattle.arena.specs.Lawful.{Lawful}
 use Rattle.arena.specs.Machines.{Call, row_of}
@@ -44,7 +45,7 @@ past_root (Child level side) past x = x
 past_root (Value head key) past x = x
 
 -- the load of the root's head begins one, where the pass has entered nothing yet
-pub try_begins : (c : Call) (begin h : History) (s : Step) (limit left : ℕ) → s ≡ load LoadSettled (node 0 HeadWord) → Extends h c.start → HasEnteredNone c.layout c.pass h c.start → MayTry c begin h limit left → IsTry c h (row_of c s h ⊳ h) limit left
+pub try_begins : (c : Call) (begin h : History) (s : Step) (limit left : ℕ) → s ≡ load LoadSettled (node 0 (Settled HeadWord)) → Extends h c.start → HasEnteredNone c.layout c.pass h c.start → MayTry c begin h limit left → IsTry c h (row_of c s h ⊳ h) limit left
 try_begins c begin h s limit left asked since none x = record {
   since = since;
   none = none;

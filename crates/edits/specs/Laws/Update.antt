@@ -6,7 +6,8 @@ use Rattle.arena.specs.declared.step.Row.{Row}
 use Rattle.arena.specs.declared.step.Step.{Step}
 use Rattle.arena.specs.declared.step.Kind.TheVariants.{Fill as FillKind, LoadSettled}
 use Rattle.arena.specs.declared.word.NodeWord.{NodeWord}
-use Rattle.arena.specs.declared.word.NodeWord.TheVariants.{Head, Key, Value, Child, Info, Marked}
+use Rattle.arena.specs.declared.word.NodeWord.TheVariants.{Settled, Child, Info, Marked}
+use Rattle.arena.specs.declared.word.SettledPart.TheVariants.{Head}
 use Rattle.arena.specs.History.{History, ◌⊳◌, value}
 use Rattle.arena.specs.Fills.{IsTakenNode}
 use Rattle.arena.specs.declared.word.Word.{Word}
@@ -63,9 +64,7 @@ for_field_more lay h r first top v (inr y) = inr (in_field_more r v y)
 
 field_may_more : (part : NodeWord) (P Q : Type 0) → (P → Q) → FieldMay part P → FieldMay part Q
 field_may_more (Child side) P Q f x = f x
-field_may_more Head P Q f x = tt
-field_may_more Key P Q f x = tt
-field_may_more Value P Q f x = tt
+field_may_more (Settled p) P Q f x = tt
 field_may_more Info P Q f x = tt
 field_may_more Marked P Q f x = tt
 
@@ -290,8 +289,8 @@ module _ {E : Type 0} (e : EditMeaning E) where
         root : walk.trail.node.0 ≡ 0
         root = subst (WalkKnows (begun_at c b) h walk) at w.known
 
-        asked : s ≡ load LoadSettled (node 0 Head)
-        asked = w.asked ∙ ap (walk_step walk) at ∙ ap (λ n. load LoadSettled (node n Head)) root
+        asked : s ≡ load LoadSettled (node 0 (Settled Head))
+        asked = w.asked ∙ ap (walk_step walk) at ∙ ap (λ n. load LoadSettled (node n (Settled Head))) root
 
     walk_goes : (p : WalkAt) → walk.at ≡ p → IsTryAt c b h m.limit m.tries p → WalkThen
     walk_goes walks.Start at try = absurd (subst (WalkKnows (begun_at c b) h walk) at w.known)

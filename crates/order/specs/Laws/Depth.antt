@@ -2,7 +2,8 @@
 use Rattle.std.proofs.Common.{◌≡◌, ℕ, ◌+◌, ◌<◌, ◌≤◌, false, length, sym, ◌∙◌, ap, arith}
 use Rattle.arena.specs.declared.head.Head.{Head as HeadParts}
 use Rattle.arena.specs.declared.layout.Layout.{Layout}
-use Rattle.arena.specs.declared.word.NodeWord.TheVariants.{Head as HeadWord}
+use Rattle.arena.specs.declared.word.NodeWord.TheVariants.{Settled}
+use Rattle.arena.specs.declared.word.SettledPart.TheVariants.{Head as HeadWord}
 use Rattle.arena.specs.declared.word.Side.TheVariants.{Left}
 use Rattle.arena.specs.Heads.{head_of}
 use Rattle.arena.specs.Words.{node, child}
@@ -32,7 +33,7 @@ fork_depth lay h n g x fork =
     omega (arith, rises, deep, more, same_level)
 
 -- so a head of such a node fits so many taken nodes
-pub head_fits : (lay : Layout) (h : History) (n nodes : ℕ) (head : HeadParts) → IsTreeRun lay h → WasInTree h n → head_of (value h (node n HeadWord)) ≡ head → length (taken_nodes h) ≤ nodes → HeadFits head nodes
+pub head_fits : (lay : Layout) (h : History) (n nodes : ℕ) (head : HeadParts) → IsTreeRun lay h → WasInTree h n → head_of (value h (node n (Settled HeadWord))) ≡ head → length (taken_nodes h) ≤ nodes → HeadFits head nodes
 head_fits lay h n nodes head g x e few = (
   (let d : level (value h) n < 2 + length (taken_nodes h) = stood_depth lay h n g x in let l : level (value h) n ≡ head.level = ap (λ (w : HeadParts). w.level) e in omega (arith, d, l, few)),
   λ fork. (let d : level (value h) n + 1 < 2 + length (taken_nodes h) = fork_depth lay h n g x (ap (λ (w : HeadParts). w.leaf) e ∙ fork) in let l : level (value h) n ≡ head.level = ap (λ (w : HeadParts). w.level) e in omega (arith, d, l, few)),

@@ -5,7 +5,8 @@ use Rattle.arena.specs.declared.step.Row.{Row}
 use Rattle.arena.specs.declared.step.Step.{Step}
 use Rattle.arena.specs.declared.step.Kind.TheVariants.{LoadSettled}
 use Rattle.arena.specs.declared.word.NodeWord.{NodeWord}
-use Rattle.arena.specs.declared.word.NodeWord.TheVariants.{Head}
+use Rattle.arena.specs.declared.word.NodeWord.TheVariants.{Settled}
+use Rattle.arena.specs.declared.word.SettledPart.TheVariants.{Head}
 use Rattle.arena.specs.Words.{node, same_node_word}
 use Rattle.arena.specs.History.{History, Start, ◌⊳◌, value, Extends}
 use Rattle.arena.specs.Machines.{IsRun, Call, begun_at}
@@ -102,12 +103,12 @@ module _ (c : Call) (h : History) (r : Row) (limit left : ℕ) (idle : IsIdle c.
   in_try_now begins x = record { begins = x; quiet = quiet_more c.layout c.pass c.start h r idle x.quiet; newest = newest_now c.pass r h begins }
 
 -- a load of the head of a node below some fork begins none
-pub head_begins_none : (c : Call) (h : History) (s : Step) (above n : ℕ) → IsTreeRun c.layout h → above < level (value h) n → s ≡ load LoadSettled (node n Head) → BeginsNoTry s
-head_begins_none c h s above n run deep e = other_node_begins_none s n Head (ap (λ (t : Step). t.word) e) below
+pub head_begins_none : (c : Call) (h : History) (s : Step) (above n : ℕ) → IsTreeRun c.layout h → above < level (value h) n → s ≡ load LoadSettled (node n (Settled Head)) → BeginsNoTry s
+head_begins_none c h s above n run deep e = other_node_begins_none s n (Settled Head) (ap (λ (t : Step). t.word) e) below
   where
     below : n ≢ 0
     below z = let low : above < level (value h) 0 = subst (λ k. above < level (value h) k) z deep in let root = root_head c.layout h run in omega (arith, low, root)
 
 -- nor does a load of another word
-pub word_begins_none : (s : Step) (n : ℕ) (part : NodeWord) → s ≡ load LoadSettled (node n part) → same_node_word part Head ≡ false → BeginsNoTry s
+pub word_begins_none : (s : Step) (n : ℕ) (part : NodeWord) → s ≡ load LoadSettled (node n part) → same_node_word part (Settled Head) ≡ false → BeginsNoTry s
 word_begins_none s n part e other = rw (e, other) (and-false (n == 0))

@@ -7,7 +7,8 @@ use Rattle.arena.specs.declared.machine.Turn.TheVariants.{Done}
 use Rattle.arena.specs.declared.number.NodeNo.{NodeNo}
 use Rattle.arena.specs.declared.step.Step.{Step}
 use Rattle.arena.specs.declared.step.Kind.TheVariants.{LoadSettled}
-use Rattle.arena.specs.declared.word.NodeWord.TheVariants.{Head as HeadWord, Key as KeyWord, Value as ValueWord}
+use Rattle.arena.specs.declared.word.NodeWord.TheVariants.{Settled}
+use Rattle.arena.specs.declared.word.SettledPart.TheVariants.{Head as HeadWord, Key as KeyWord, Value as ValueWord}
 use Rattle.arena.specs.Heads.{head_of}
 use Rattle.arena.specs.Words.{node}
 use Rattle.arena.specs.History.{History, value, Extends}
@@ -84,7 +85,7 @@ pub record LooksIn (m : RangeRun) (c : Call) (h : History) (low : ℕ) (left rig
 
 -- this is the head of a node of class 0 that it visits
 pub record HasLowHead (h : History) (n : ℕ) (head : HeadParts) : Type 0 where
-  pub head_is : head_of (value h (node n HeadWord)) ≡ head
+  pub head_is : head_of (value h (node n (Settled HeadWord))) ≡ head
   pub low : head.class ≡ 0
 
 -- it visits a leaf of this key, which is one of those asked for
@@ -92,7 +93,7 @@ pub record HasKey (m : RangeRun) (c : Call) (h : History) (n key : ℕ) : Type 0
   pub visits : Visits m c h n
   pub leaf : is_leaf (value h) n ≡ true
   pub low : class (value h) n ≡ 0
-  pub key_is : value h (node n KeyWord) ≡ key
+  pub key_is : value h (node n (Settled KeyWord)) ≡ key
   pub from : m.low ≤ key
   pub to : key ≤ m.high
 
@@ -125,20 +126,20 @@ pub record RangeGoes (m : RangeRun) (c : Call) (h : History) : Type 0 where
 -- what holds while it waits for this step at this place
 abbrev pub RangeWaitsAt : RangeRun → Call → History → Step → RangeAt → Type 0
 RangeWaitsAt m c h s Start = ⊥
-RangeWaitsAt m c h s Root = Visits m c h 0 × (s ≡ load LoadSettled (node 0 HeadWord))
-RangeWaitsAt m c h s (Head above n) = Visits m c h n.0 × (above < level (value h) n.0) × (s ≡ load LoadSettled (node n.0 HeadWord))
-RangeWaitsAt m c h s (Key head n) = Visits m c h n.0 × HasLowHead h n.0 head × (s ≡ load LoadSettled (node n.0 KeyWord))
-RangeWaitsAt m c h s (Value key n) = HasKey m c h n.0 key × (s ≡ load LoadSettled (node n.0 ValueWord))
+RangeWaitsAt m c h s Root = Visits m c h 0 × (s ≡ load LoadSettled (node 0 (Settled HeadWord)))
+RangeWaitsAt m c h s (Head above n) = Visits m c h n.0 × (above < level (value h) n.0) × (s ≡ load LoadSettled (node n.0 (Settled HeadWord)))
+RangeWaitsAt m c h s (Key head n) = Visits m c h n.0 × HasLowHead h n.0 head × (s ≡ load LoadSettled (node n.0 (Settled KeyWord)))
+RangeWaitsAt m c h s (Value key n) = HasKey m c h n.0 key × (s ≡ load LoadSettled (node n.0 (Settled ValueWord)))
 RangeWaitsAt m c h s (Look low left right llx) = LooksIn m c h low left right llx.node.0 × ((begin : History) × Extends begin c.start × LlxWaits TreeAllows llx (begun_at c begin) h s)
 RangeWaitsAt m c h s (Validate asked) = (begin : History) × RangeValidates m c h begin × VlxWaits m.snaps.items asked (begun_at c begin) h s
 
 -- what holds once the step of this place has told v
 abbrev pub RangeIsToldAt : RangeRun → Call → History → ℕ → RangeAt → Type 0
 RangeIsToldAt m c h v Start = ⊥
-RangeIsToldAt m c h v Root = Visits m c h 0 × (value h (node 0 HeadWord) ≡ v)
-RangeIsToldAt m c h v (Head above n) = Visits m c h n.0 × (above < level (value h) n.0) × (value h (node n.0 HeadWord) ≡ v)
-RangeIsToldAt m c h v (Key head n) = Visits m c h n.0 × HasLowHead h n.0 head × (value h (node n.0 KeyWord) ≡ v)
-RangeIsToldAt m c h v (Value key n) = HasKey m c h n.0 key × (value h (node n.0 ValueWord) ≡ v)
+RangeIsToldAt m c h v Root = Visits m c h 0 × (value h (node 0 (Settled HeadWord)) ≡ v)
+RangeIsToldAt m c h v (Head above n) = Visits m c h n.0 × (above < level (value h) n.0) × (value h (node n.0 (Settled HeadWord)) ≡ v)
+RangeIsToldAt m c h v (Key head n) = Visits m c h n.0 × HasLowHead h n.0 head × (value h (node n.0 (Settled KeyWord)) ≡ v)
+RangeIsToldAt m c h v (Value key n) = HasKey m c h n.0 key × (value h (node n.0 (Settled ValueWord)) ≡ v)
 RangeIsToldAt m c h v (Look low left right llx) = LooksIn m c h low left right llx.node.0 × ((begin : History) × Extends begin c.start × LlxIsReady TreeAllows llx (begun_at c begin) h (Some v))
 RangeIsToldAt m c h v (Validate asked) = (begin : History) × RangeValidates m c h begin × VlxIsReady m.snaps.items asked (begun_at c begin) h (Some v)
 

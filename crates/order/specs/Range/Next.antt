@@ -2,7 +2,8 @@
 use Rattle.std.specs.Prelude.{◌≡◌, ℕ, ◌+◌, ◌-◌, ◌*◌, ◌<◌, ◌≤◌, length, Result, Ok, Err}
 use Rattle.arena.specs.declared.step.Step.{Step}
 use Rattle.arena.specs.declared.step.Kind.TheVariants.{LoadInfo, LoadMarked, LoadSettled}
-use Rattle.arena.specs.declared.word.NodeWord.TheVariants.{Head as HeadWord, Key as KeyWord, Value as ValueWord}
+use Rattle.arena.specs.declared.word.NodeWord.TheVariants.{Settled}
+use Rattle.arena.specs.declared.word.SettledPart.TheVariants.{Head as HeadWord, Key as KeyWord, Value as ValueWord}
 use Rattle.arena.specs.Words.{info, marked, node}
 use Rattle.arena.specs.History.{History, value}
 use Rattle.arena.specs.Machines.{Call, begun_at}
@@ -34,9 +35,9 @@ range_placed m ValidateNext = record m { at = Validate 1 }
 
 -- the step with which it begins
 abbrev pub range_next_step : RangeRun → RangeNext → Step
-range_next_step m (HeadNext above n) = load LoadSettled (node n.0 HeadWord)
-range_next_step m (KeyNext head n) = load LoadSettled (node n.0 KeyWord)
-range_next_step m (ValueNext key n) = load LoadSettled (node n.0 ValueWord)
+range_next_step m (HeadNext above n) = load LoadSettled (node n.0 (Settled HeadWord))
+range_next_step m (KeyNext head n) = load LoadSettled (node n.0 (Settled KeyWord))
+range_next_step m (ValueNext key n) = load LoadSettled (node n.0 (Settled ValueWord))
 range_next_step m (LookNext level left right n) = load LoadMarked (marked n.0)
 range_next_step m ValidateNext = load LoadInfo (info (snap_at m.snaps.items 0).node.0)
 

@@ -5,7 +5,8 @@ use Rattle.arena.specs.declared.machine.Turn.{Turn}
 use Rattle.arena.specs.declared.number.NodeNo.{NodeNo}
 use Rattle.arena.specs.declared.step.Step.{Step}
 use Rattle.arena.specs.declared.step.Kind.TheVariants.{LoadSettled}
-use Rattle.arena.specs.declared.word.NodeWord.TheVariants.{Head as HeadWord, Key as KeyWord, Value as ValueWord}
+use Rattle.arena.specs.declared.word.NodeWord.TheVariants.{Settled}
+use Rattle.arena.specs.declared.word.SettledPart.TheVariants.{Head as HeadWord, Key as KeyWord, Value as ValueWord}
 use Rattle.arena.specs.declared.word.Side.{Side}
 use Rattle.arena.specs.declared.word.Side.TheVariants.{Left, Right}
 use Rattle.arena.specs.Heads.{head_of}
@@ -42,13 +43,13 @@ use Rattle.order.specs.declared.successor.SuccessorRun.{SuccessorRun}
 -- What it knows of nodes
 
 abbrev pub head_at : History → ℕ → HeadParts
-head_at h n = head_of (value h (node n HeadWord))
+head_at h n = head_of (value h (node n (Settled HeadWord)))
 
 abbrev pub key_at : History → ℕ → ℕ
-key_at h n = value h (node n KeyWord)
+key_at h n = value h (node n (Settled KeyWord))
 
 abbrev pub value_at : History → ℕ → ℕ
-value_at h n = value h (node n ValueWord)
+value_at h n = value h (node n (Settled ValueWord))
 
 -- the call has passed this fork on its way to k, which is on the left of it
 pub record HasTurnedLeft (c : Call) (h : History) (k n : ℕ) : Type 0 where
@@ -108,7 +109,7 @@ pub record SuccessorStandsAt (m : SuccessorRun) (c : Call) (h : History) (route 
 
 -- this is the head of a node of class 0 where it stands, a leaf on the second part of its way
 pub record HasHead (h : History) (route : Route) (n : ℕ) (head : HeadParts) : Type 0 where
-  pub head_is : head_of (value h (node n HeadWord)) ≡ head
+  pub head_is : head_of (value h (node n (Settled HeadWord))) ≡ head
   pub low : head.class ≡ 0
   pub leaf : route ≡ Beyond → head.leaf ≡ true
 
@@ -118,7 +119,7 @@ pub record HasLeaf (m : SuccessorRun) (c : Call) (h : History) (n key : ℕ) : T
   pub some : 0 < length m.snaps.items
   pub leaf : is_leaf (value h) n ≡ true
   pub low : class (value h) n ≡ 0
-  pub key_is : value h (node n KeyWord) ≡ key
+  pub key_is : value h (node n (Settled KeyWord)) ≡ key
   pub first : Whenever c.layout h m.snaps.items (λ b. IsFirstBehind b m.key n)
 
 -- its VLX has begun at an own moment of the call, at which this was the answer if all infos were as
@@ -145,9 +146,9 @@ abbrev pub SuccessorWaitsAt : SuccessorRun → Call → History → Step → Suc
 SuccessorWaitsAt m c h s Start = ⊥
 SuccessorWaitsAt m c h s (Walk walk turn) = (walk.goal ≡ ToKey m.key) × IsLastTurn c h m.key turn.0 × WalkWaits walk c h s
 SuccessorWaitsAt m c h s (Look route low side llx) = LooksAt m c h route low side llx.node.0 × ((begin : History) × Extends begin c.start × LlxWaits TreeAllows llx (begun_at c begin) h s)
-SuccessorWaitsAt m c h s (Head route above n) = SuccessorStandsAt m c h route n.0 × (above < level (value h) n.0) × (s ≡ load LoadSettled (node n.0 HeadWord))
-SuccessorWaitsAt m c h s (Key route head n) = SuccessorStandsAt m c h route n.0 × HasHead h route n.0 head × (s ≡ load LoadSettled (node n.0 KeyWord))
-SuccessorWaitsAt m c h s (Value key n) = HasLeaf m c h n.0 key × (s ≡ load LoadSettled (node n.0 ValueWord))
+SuccessorWaitsAt m c h s (Head route above n) = SuccessorStandsAt m c h route n.0 × (above < level (value h) n.0) × (s ≡ load LoadSettled (node n.0 (Settled HeadWord)))
+SuccessorWaitsAt m c h s (Key route head n) = SuccessorStandsAt m c h route n.0 × HasHead h route n.0 head × (s ≡ load LoadSettled (node n.0 (Settled KeyWord)))
+SuccessorWaitsAt m c h s (Value key n) = HasLeaf m c h n.0 key × (s ≡ load LoadSettled (node n.0 (Settled ValueWord)))
 SuccessorWaitsAt m c h s (Validate asked found) = (begin : History) × SuccessorValidates m c h begin found × VlxWaits m.snaps.items asked (begun_at c begin) h s
 
 -- what holds once the step of this place has told v
@@ -155,9 +156,9 @@ abbrev pub SuccessorIsToldAt : SuccessorRun → Call → History → ℕ → Suc
 SuccessorIsToldAt m c h v Start = ⊥
 SuccessorIsToldAt m c h v (Walk walk turn) = (walk.goal ≡ ToKey m.key) × IsLastTurn c h m.key turn.0 × WalkIsReady walk c h (Some v)
 SuccessorIsToldAt m c h v (Look route low side llx) = LooksAt m c h route low side llx.node.0 × ((begin : History) × Extends begin c.start × LlxIsReady TreeAllows llx (begun_at c begin) h (Some v))
-SuccessorIsToldAt m c h v (Head route above n) = SuccessorStandsAt m c h route n.0 × (above < level (value h) n.0) × (value h (node n.0 HeadWord) ≡ v)
-SuccessorIsToldAt m c h v (Key route head n) = SuccessorStandsAt m c h route n.0 × HasHead h route n.0 head × (value h (node n.0 KeyWord) ≡ v)
-SuccessorIsToldAt m c h v (Value key n) = HasLeaf m c h n.0 key × (value h (node n.0 ValueWord) ≡ v)
+SuccessorIsToldAt m c h v (Head route above n) = SuccessorStandsAt m c h route n.0 × (above < level (value h) n.0) × (value h (node n.0 (Settled HeadWord)) ≡ v)
+SuccessorIsToldAt m c h v (Key route head n) = SuccessorStandsAt m c h route n.0 × HasHead h route n.0 head × (value h (node n.0 (Settled KeyWord)) ≡ v)
+SuccessorIsToldAt m c h v (Value key n) = HasLeaf m c h n.0 key × (value h (node n.0 (Settled ValueWord)) ≡ v)
 SuccessorIsToldAt m c h v (Validate asked found) = (begin : History) × SuccessorValidates m c h begin found × VlxIsReady m.snaps.items asked (begun_at c begin) h (Some v)
 
 -- Its try

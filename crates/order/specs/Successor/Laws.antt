@@ -6,7 +6,8 @@ use Rattle.arena.specs.declared.step.Row.{Row}
 use Rattle.arena.specs.declared.step.Step.{Step}
 use Rattle.arena.specs.declared.step.Kind.TheVariants.{Fill, LoadSettled}
 use Rattle.arena.specs.declared.number.NodeNo.{NodeNo}
-use Rattle.arena.specs.declared.word.NodeWord.TheVariants.{Head as HeadWord, Key as KeyWord, Value as ValueWord}
+use Rattle.arena.specs.declared.word.NodeWord.TheVariants.{Settled}
+use Rattle.arena.specs.declared.word.SettledPart.TheVariants.{Head as HeadWord, Key as KeyWord, Value as ValueWord}
 use Rattle.arena.specs.declared.word.Side.{Side}
 use Rattle.arena.specs.declared.word.Word.{Word}
 use Rattle.arena.specs.Heads.{head_of}
@@ -96,7 +97,7 @@ module _ (m : SuccessorRun) (c : Call) (h : History) (r : Row) (g : IsTreeRun c.
   deeper_more above n x i = let e : level (value (r ⊳ h)) n ≡ level (value h) n = settled_level (value h) (value (r ⊳ h)) n (settled_more c h r run n g x) in omega (arith, e, i)
 
   head_more : (route : Route) (n : ℕ) (head : HeadParts) → HasStood c h n → HasHead h route n head → HasHead (r ⊳ h) route n head
-  head_more route n head s x = record { head_is = ap head_of (settled_more c h r run n g s HeadWord tt) ∙ x.head_is; low = x.low; leaf = x.leaf }
+  head_more route n head s x = record { head_is = ap head_of (settled_more c h r run n g s (Settled HeadWord) tt) ∙ x.head_is; low = x.low; leaf = x.leaf }
 
   leaf_more : (n key : ℕ) → HasLeaf m c h n key → HasLeaf m c (r ⊳ h) n key
   leaf_more n key x = record {
@@ -104,7 +105,7 @@ module _ (m : SuccessorRun) (c : Call) (h : History) (r : Row) (g : IsTreeRun c.
     some = x.some;
     leaf = settled_leaf (value h) (value (r ⊳ h)) n same ∙ x.leaf;
     low = settled_class (value h) (value (r ⊳ h)) n same ∙ x.low;
-    key_is = same KeyWord tt ∙ x.key_is;
+    key_is = same (Settled KeyWord) tt ∙ x.key_is;
     first = whenever_more c h r m.snaps.items _ x.first;
   }
     where
@@ -155,9 +156,9 @@ lawful_at : (m : SuccessorRun) (c : Call) (h : History) (s : Step) (at : Success
 lawful_at m c h s Start g w = absurd w
 lawful_at m c h s (Walk walk turn) g w = walk_lawful walk c h s g.1 w.2
 lawful_at m c h s (Look route low side llx) g w = llx_lawful TreeAllows llx (begun_at c w.1.0) h s g.1 w.1.2
-lawful_at m c h s (Head route above n) g w = load_lawful TreeAllows c h LoadSettled (node n.0 HeadWord) s g.1 w.2 record { word = tt; same = refl } (λ q. cc) (stood_inside c.layout h n.0 g w.0.stood.stood)
-lawful_at m c h s (Key route head n) g w = load_lawful TreeAllows c h LoadSettled (node n.0 KeyWord) s g.1 w.2 record { word = tt; same = refl } (λ q. cc) (stood_inside c.layout h n.0 g w.0.stood.stood)
-lawful_at m c h s (Value key n) g w = load_lawful TreeAllows c h LoadSettled (node n.0 ValueWord) s g.1 w.1 record { word = tt; same = refl } (λ q. cc) (stood_inside c.layout h n.0 g w.0.stood.stood)
+lawful_at m c h s (Head route above n) g w = load_lawful TreeAllows c h LoadSettled (node n.0 (Settled HeadWord)) s g.1 w.2 record { word = tt; same = refl } (λ q. cc) (stood_inside c.layout h n.0 g w.0.stood.stood)
+lawful_at m c h s (Key route head n) g w = load_lawful TreeAllows c h LoadSettled (node n.0 (Settled KeyWord)) s g.1 w.2 record { word = tt; same = refl } (λ q. cc) (stood_inside c.layout h n.0 g w.0.stood.stood)
+lawful_at m c h s (Value key n) g w = load_lawful TreeAllows c h LoadSettled (node n.0 (Settled ValueWord)) s g.1 w.1 record { word = tt; same = refl } (λ q. cc) (stood_inside c.layout h n.0 g w.0.stood.stood)
 lawful_at m c h s (Validate asked found) g w = vlx_lawful TreeAllows m.snaps.items asked (begun_at c w.0) h s g.1 w.2
 
 -- the step that a successor waits for continues the run
@@ -173,9 +174,9 @@ fills_not_at : (m : SuccessorRun) (c : Call) (h : History) (s : Step) (at : Succ
 fills_not_at m c h s Start w = absurd w
 fills_not_at m c h s (Walk walk turn) w = walk_fills_not walk c h s w.2
 fills_not_at m c h s (Look route low side llx) w = llx_fills_not TreeAllows llx (begun_at c w.1.0) h s w.1.2
-fills_not_at m c h s (Head route above n) w = load_fills_not s (node n.0 HeadWord) w.2
-fills_not_at m c h s (Key route head n) w = load_fills_not s (node n.0 KeyWord) w.2
-fills_not_at m c h s (Value key n) w = load_fills_not s (node n.0 ValueWord) w.1
+fills_not_at m c h s (Head route above n) w = load_fills_not s (node n.0 (Settled HeadWord)) w.2
+fills_not_at m c h s (Key route head n) w = load_fills_not s (node n.0 (Settled KeyWord)) w.2
+fills_not_at m c h s (Value key n) w = load_fills_not s (node n.0 (Settled ValueWord)) w.1
 fills_not_at m c h s (Validate asked found) w = vlx_fills_not m.snaps.items asked (begun_at c w.0) h s w.2
 
 -- a successor never asks for a fill: it takes nothing of its share
@@ -192,9 +193,9 @@ module _ (m : SuccessorRun) (c : Call) (h : History) (s : Step) (v : ℕ) (g : I
   made_at Start w = w
   made_at (Walk walk turn) w = (w.0, last_more m c h r g run turn.0 w.1, walk_made walk c h s v run t w.2)
   made_at (Look route low side llx) w = (looks_more m c h r g run route low side llx.node.0 w.0, (w.1.0, w.1.1, llx_made TreeAllows llx (begun_at c w.1.0) h s v run t w.1.2))
-  made_at (Head route above n) w = (stands_more m c h r g run route n.0 w.0, deeper_more m c h r g run above n.0 w.0.stood w.1, load_told c h LoadSettled (node n.0 HeadWord) s v w.2 t)
-  made_at (Key route head n) w = (stands_more m c h r g run route n.0 w.0, head_more m c h r g run route n.0 head w.0.stood w.1, load_told c h LoadSettled (node n.0 KeyWord) s v w.2 t)
-  made_at (Value key n) w = (leaf_more m c h r g run n.0 key w.0, load_told c h LoadSettled (node n.0 ValueWord) s v w.1 t)
+  made_at (Head route above n) w = (stands_more m c h r g run route n.0 w.0, deeper_more m c h r g run above n.0 w.0.stood w.1, load_told c h LoadSettled (node n.0 (Settled HeadWord)) s v w.2 t)
+  made_at (Key route head n) w = (stands_more m c h r g run route n.0 w.0, head_more m c h r g run route n.0 head w.0.stood w.1, load_told c h LoadSettled (node n.0 (Settled KeyWord)) s v w.2 t)
+  made_at (Value key n) w = (leaf_more m c h r g run n.0 key w.0, load_told c h LoadSettled (node n.0 (Settled ValueWord)) s v w.1 t)
   made_at (Validate asked found) w = (w.0, validates_more m c h r g run w.0 found w.1, vlx_made TreeAllows m.snaps.items asked (begun_at c w.0) h s v run t w.2)
 
 -- so it may be called at this place, once its step has told v
@@ -231,7 +232,7 @@ module _ (m : SuccessorRun) (c : Call) (h : History) (s : Step) (v : ℕ) (run :
       at_root : walk.trail.node.0 ≡ 0
       at_root = subst (WalkKnows (begun_at c begin) h walk) e w.2.known
 
-      loads : s ≡ load LoadSettled (node 0 HeadWord)
+      loads : s ≡ load LoadSettled (node 0 (Settled HeadWord))
       loads = rw (e, at_root) at w.2.asked
 
       again : WalkWaits walk (begun_at c h) h s
@@ -247,8 +248,8 @@ module _ (m : SuccessorRun) (c : Call) (h : History) (s : Step) (v : ℕ) (run :
   ready_at begin (Walk walk turn) try goes w = walk_told_in begin walk turn walk.at refl try goes w
   ready_at begin (Look route low side llx) try goes w = stays_in_try begin (Look route low side llx) try (llx_begins_none TreeAllows llx (begun_at c w.1.0) h s w.1.2) goes w
   ready_at begin (Head route above n) try goes w = stays_in_try begin (Head route above n) try (head_begins_none c h s above n.0 goes.reads.run w.1 w.2) goes w
-  ready_at begin (Key route head n) try goes w = stays_in_try begin (Key route head n) try (word_begins_none s n.0 KeyWord w.2 refl) goes w
-  ready_at begin (Value key n) try goes w = stays_in_try begin (Value key n) try (word_begins_none s n.0 ValueWord w.1 refl) goes w
+  ready_at begin (Key route head n) try goes w = stays_in_try begin (Key route head n) try (word_begins_none s n.0 (Settled KeyWord) w.2 refl) goes w
+  ready_at begin (Value key n) try goes w = stays_in_try begin (Value key n) try (word_begins_none s n.0 (Settled ValueWord) w.1 refl) goes w
   ready_at begin (Validate asked found) try goes w = stays_in_try begin (Validate asked found) try (vlx_begins_none m.snaps.items asked (begun_at c w.0) h s w.2) goes w
 
 -- once the step is made, a successor may be called with what it told

@@ -2,7 +2,8 @@
 use Rattle.std.specs.Prelude.{◌≡◌, ℕ, ◌+◌, ◌-◌, ◌*◌, ◌<◌, ◌≤◌, length, Result, Ok, Err}
 use Rattle.arena.specs.declared.step.Step.{Step}
 use Rattle.arena.specs.declared.step.Kind.TheVariants.{LoadInfo, LoadMarked, LoadSettled}
-use Rattle.arena.specs.declared.word.NodeWord.TheVariants.{Head as HeadWord, Key as KeyWord, Value as ValueWord}
+use Rattle.arena.specs.declared.word.NodeWord.TheVariants.{Settled}
+use Rattle.arena.specs.declared.word.SettledPart.TheVariants.{Head as HeadWord, Key as KeyWord, Value as ValueWord}
 use Rattle.arena.specs.Words.{info, marked, node}
 use Rattle.arena.specs.History.{History, value}
 use Rattle.arena.specs.Machines.{Call, begun_at}
@@ -35,9 +36,9 @@ successor_placed m (ValidateNext found) = record m { at = Validate 1 found }
 -- the step with which it begins
 abbrev pub successor_next_step : SuccessorRun → SuccessorNext → Step
 successor_next_step m (LookNext route level side n) = load LoadMarked (marked n.0)
-successor_next_step m (HeadNext route above n) = load LoadSettled (node n.0 HeadWord)
-successor_next_step m (KeyNext route head n) = load LoadSettled (node n.0 KeyWord)
-successor_next_step m (ValueNext key n) = load LoadSettled (node n.0 ValueWord)
+successor_next_step m (HeadNext route above n) = load LoadSettled (node n.0 (Settled HeadWord))
+successor_next_step m (KeyNext route head n) = load LoadSettled (node n.0 (Settled KeyWord))
+successor_next_step m (ValueNext key n) = load LoadSettled (node n.0 (Settled ValueWord))
 successor_next_step m (ValidateNext found) = load LoadInfo (info (snap_at m.snaps.items 0).node.0)
 
 -- what it knows when this may come next

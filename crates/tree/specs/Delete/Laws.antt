@@ -3,7 +3,8 @@ use Rattle.std.proofs.Common.{◌≡◌, ◌≢◌, ℕ, ◌+◌, ◌<◌, ◌�
 use Rattle.std.specs.Prelude.{unwrap_or}
 use Rattle.arena.specs.declared.number.NodeNo.{NodeNo}
 use Rattle.arena.specs.declared.word.NodeWord.{NodeWord}
-use Rattle.arena.specs.declared.word.NodeWord.TheVariants.{Head, Key, Value}
+use Rattle.arena.specs.declared.word.NodeWord.TheVariants.{Settled}
+use Rattle.arena.specs.declared.word.SettledPart.TheVariants.{Head, Key, Value}
 use Rattle.arena.specs.Heads.{head_of}
 use Rattle.prims.specs.declared.snap.Snap.{Snap}
 use Rattle.template.specs.declared.walk.Found.{Found}
@@ -57,20 +58,20 @@ load_less true true w (Some k) (Some v) part x e = absurd (let d : None ≡ Some
 load_less true false w (Some k) v part x e = absurd (let d : None ≡ Some part = e in cc)
 load_less true true w (Some k) None part x e = go part e
   where
-    go : (q : NodeWord) → Some Value ≡ Some q → ((with_word (with_words (Some w) (Some k) None) q x).head ≡ Some w) × (load_of (with_word (with_words (Some w) (Some k) None) q x).key + load_of (with_word (with_words (Some w) (Some k) None) q x).value + 3 < 4)
-    go Value d = (refl, omega arith)
+    go : (q : NodeWord) → Some (Settled Value) ≡ Some q → ((with_word (with_words (Some w) (Some k) None) q x).head ≡ Some w) × (load_of (with_word (with_words (Some w) (Some k) None) q x).key + load_of (with_word (with_words (Some w) (Some k) None) q x).value + 3 < 4)
+    go (Settled Value) d = (refl, omega arith)
     go q d = absurd (let z = d in cc)
 load_less true leaf w None v part x e = go part e
   where
-    go : (q : NodeWord) → Some Key ≡ Some q → ((with_word (with_words (Some w) None v) q x).head ≡ Some w) × (load_of (with_word (with_words (Some w) None v) q x).key + (if leaf then load_of (with_word (with_words (Some w) None v) q x).value else 0) + (if leaf then 3 else 4) < 1 + (if leaf then load_of v else 0) + (if leaf then 3 else 4))
-    go Key d = (refl, omega arith)
+    go : (q : NodeWord) → Some (Settled Key) ≡ Some q → ((with_word (with_words (Some w) None v) q x).head ≡ Some w) × (load_of (with_word (with_words (Some w) None v) q x).key + (if leaf then load_of (with_word (with_words (Some w) None v) q x).value else 0) + (if leaf then 3 else 4) < 1 + (if leaf then load_of v else 0) + (if leaf then 3 else 4))
+    go (Settled Key) d = (refl, omega arith)
     go q d = absurd (let z = d in cc)
 
 load_first : (o k v : Option ℕ) (part : NodeWord) (x : ℕ) → copy_wants o k v ≡ Some part → delete_works (with_word (with_words o k v) part x) First < copy_works o k v
 load_first None k v part x e = go part e
   where
-    go : (q : NodeWord) → Some Head ≡ Some q → delete_works (with_word (with_words None k v) q x) First < 6
-    go Head d = few_loaded ((head_of x).class == 0) (head_of x).leaf k v
+    go : (q : NodeWord) → Some (Settled Head) ≡ Some q → delete_works (with_word (with_words None k v) q x) First < 6
+    go (Settled Head) d = few_loaded ((head_of x).class == 0) (head_of x).leaf k v
     go q d = absurd (let z = d in cc)
 load_first (Some w) k v part x e =
     let y = load_less ((head_of w).class == 0) (head_of w).leaf w k v part x e in
@@ -82,12 +83,12 @@ load_works ld First part e v = load_first ld.head ld.key ld.value part v e
 load_works ld Second part e v = absurd (let d : None ≡ Some part = e in cc)
 load_works ld Third part e v = absurd (let d : None ≡ Some part = e in cc)
 
-copy_fills : (leaf : Bool) (level class k v loads : ℕ) (x y : NodeNo) → fills_behind (if leaf then Leaf level class k v else Fork level class k x y) Head < loads + (if leaf then 3 else 4)
+copy_fills : (leaf : Bool) (level class k v loads : ℕ) (x y : NodeNo) → fills_behind (if leaf then Leaf level class k v else Fork level class k x y) (Settled Head) < loads + (if leaf then 3 else 4)
 copy_fills true level class k v loads x y = omega arith
 copy_fills false level class k v loads x y = omega arith
 
-fill_first : (s : Snap) (o k v : Option ℕ) → copy_wants o k v ≡ None → fills_behind (sibling_copy s (head_of (unwrap_or o 0)) (with_words o k v)) Head < copy_works o k v
-fill_first s None k v e = absurd (let d : Some Head ≡ None = e in cc)
+fill_first : (s : Snap) (o k v : Option ℕ) → copy_wants o k v ≡ None → fills_behind (sibling_copy s (head_of (unwrap_or o 0)) (with_words o k v)) (Settled Head) < copy_works o k v
+fill_first s None k v e = absurd (let d : Some (Settled Head) ≡ None = e in cc)
 fill_first s (Some w) k v e = copy_fills (head_of w).leaf (head_of w).level (head_of w).class (unwrap_or k 0) (unwrap_or v 0) (if (head_of w).class == 0 then load_of k + (if (head_of w).leaf then load_of v else 0) else 0) s.left s.right
 
 -- no delete needs three nodes
@@ -95,7 +96,7 @@ never_three : (o : Option ℕ) → delete_need o ≢ Three
 never_three None e = let d : Nothing ≡ Three = e in cc
 never_three (Some v) e = let d : One ≡ Three = e in cc
 
-fill_works : (f : Found) (snaps : List Snap) (ld : Loaded) (nth : Nth) → HasPlace (delete_need f.value) nth → delete_wants ld nth ≡ None → fills_behind (delete_piece f snaps ld) Head < delete_works ld nth
+fill_works : (f : Found) (snaps : List Snap) (ld : Loaded) (nth : Nth) → HasPlace (delete_need f.value) nth → delete_wants ld nth ≡ None → fills_behind (delete_piece f snaps ld) (Settled Head) < delete_works ld nth
 fill_works f snaps ld First place e = fill_first (sibling_of f snaps) ld.head ld.key ld.value e
 fill_works f snaps ld Second place e = absurd (never_three f.value place)
 fill_works f snaps ld Third place e = absurd (never_three f.value place)

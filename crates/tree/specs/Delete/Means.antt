@@ -3,7 +3,8 @@ use Rattle.std.specs.Prelude.{ℕ, ◌+◌, ◌==◌, if◌then◌else◌, Bool,
 use Rattle.arena.specs.declared.head.Head.{Head}
 use Rattle.arena.specs.declared.number.NodeNo.{NodeNo}
 use Rattle.arena.specs.declared.word.NodeWord.{NodeWord}
-use Rattle.arena.specs.declared.word.NodeWord.TheVariants.{Head as HeadWord, Key as KeyWord, Value as ValueWord}
+use Rattle.arena.specs.declared.word.NodeWord.TheVariants.{Settled}
+use Rattle.arena.specs.declared.word.SettledPart.TheVariants.{Head as HeadWord, Key as KeyWord, Value as ValueWord}
 use Rattle.arena.specs.declared.word.Side.{Side}
 use Rattle.arena.specs.Heads.{head_of}
 use Rattle.prims.specs.declared.snap.Snap.{Snap}
@@ -48,17 +49,17 @@ sibling_of f snaps = snap_at snaps (sibling_place f.trail.side)
 
 -- the value, if that is not loaded
 abbrev pub then_value : Option ℕ → Option NodeWord
-then_value None = Some ValueWord
+then_value None = Some (Settled ValueWord)
 then_value (Some v) = None
 
 -- the key of a node of class 0, and then a leaf's value, as long as they are not loaded
 abbrev pub then_key : Bool → Option ℕ → Option ℕ → Option NodeWord
-then_key leaf None v = Some KeyWord
+then_key leaf None v = Some (Settled KeyWord)
 then_key leaf (Some k) v = if leaf then then_value v else None
 
 -- of the sibling it loads the head, and then these
 abbrev pub copy_wants : Option ℕ → Option ℕ → Option ℕ → Option NodeWord
-copy_wants None k v = Some HeadWord
+copy_wants None k v = Some (Settled HeadWord)
 copy_wants (Some w) k v = if (head_of w).class == 0 then then_key (head_of w).leaf k v else None
 
 -- all before it fills the one node

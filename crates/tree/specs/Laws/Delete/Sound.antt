@@ -6,7 +6,8 @@ use native.Mathlib.Decide.{ℕ_discrete}
 use Rattle.arena.specs.declared.number.NodeNo.{NodeNo}
 use Rattle.arena.specs.declared.number.ScxNo.{ScxNo}
 use Rattle.arena.specs.declared.word.NodeWord.{NodeWord}
-use Rattle.arena.specs.declared.word.NodeWord.TheVariants.{Head, Key, Value, Child}
+use Rattle.arena.specs.declared.word.NodeWord.TheVariants.{Settled, Child}
+use Rattle.arena.specs.declared.word.SettledPart.TheVariants.{Head, Key, Value}
 use Rattle.arena.specs.declared.word.Side.{Side}
 use Rattle.arena.specs.declared.word.Side.TheVariants.{Left, Right}
 use Rattle.arena.specs.Fills.{IsInField, IsNamed}
@@ -350,20 +351,20 @@ delete_fills = record { fields = λ e c h f snaps ns ld nth side run x enough n 
 
 -- once nothing more is to be loaded, the head is loaded
 pub loaded_head : (o k v : Option ℕ) (w : ℕ) → copy_wants o k v ≡ None → IsLoaded o w → o ≡ Some w
-loaded_head None k v w e is = absurd (let d : Some Head ≡ None = e in cc)
+loaded_head None k v w e is = absurd (let d : Some (Settled Head) ≡ None = e in cc)
 loaded_head (Some z) k v w e is = ap Some is
 
 -- so is the key of a low node
 low_key : (low leaf : Bool) (k v : Option ℕ) (w : ℕ) → (if low then then_key leaf k v else None) ≡ None → low ≡ true → IsLoaded k w → unwrap_or k 0 ≡ w
 low_key true leaf (Some z) v w e t is = is
-low_key true leaf None v w e t is = absurd (let d : Some Key ≡ None = e in cc)
+low_key true leaf None v w e t is = absurd (let d : Some (Settled Key) ≡ None = e in cc)
 low_key false leaf k v w e t is = absurd (let d : false ≡ true = t in cc)
 
 -- and the value of a low leaf
 low_value : (low leaf : Bool) (k v : Option ℕ) (w : ℕ) → (if low then then_key leaf k v else None) ≡ None → low ≡ true → leaf ≡ true → IsLoaded v w → unwrap_or v 0 ≡ w
 low_value true true (Some z) (Some y) w e t l is = is
-low_value true true (Some z) None w e t l is = absurd (let d : Some Value ≡ None = e in cc)
-low_value true true None v w e t l is = absurd (let d : Some Key ≡ None = e in cc)
+low_value true true (Some z) None w e t l is = absurd (let d : Some (Settled Value) ≡ None = e in cc)
+low_value true true None v w e t l is = absurd (let d : Some (Settled Key) ≡ None = e in cc)
 low_value true false k v w e t l is = absurd (let d : false ≡ true = l in cc)
 low_value false leaf k v w e t l is = absurd (let d : false ≡ true = t in cc)
 
@@ -388,14 +389,14 @@ head_back w fits = head_is (w / 8) (w % 4) (w / 4 % 2 == 1) fits (omega arith) �
 
 -- what a copy holds that is filled
 record HoldsCopy (h : History) (n : ℕ) (leaf : Bool) (level class k v : ℕ) (s : Snap) : Type 0 where
-  head : value h (node n Head) ≡ piece_head level leaf class
-  key : value h (node n Key) ≡ k
-  leaf_value : leaf ≡ true → value h (node n Value) ≡ v
+  head : value h (node n (Settled Head)) ≡ piece_head level leaf class
+  key : value h (node n (Settled Key)) ≡ k
+  leaf_value : leaf ≡ true → value h (node n (Settled Value)) ≡ v
   fields : leaf ≡ false → (side : Side) → value h (child n side) ≡ (child_of s side).0
 
 copy_holds : (leaf : Bool) (h : History) (n level class k v : ℕ) (s : Snap) → HoldsWords h n (if leaf then Leaf level class k v else Fork level class k s.left s.right) (IsPieceWord (if leaf then Leaf level class k v else Fork level class k s.left s.right)) → HoldsCopy h n leaf level class k v s
-copy_holds true h n level class k v s w = record { head = w Head tt; key = w Key tt; leaf_value = λ e. w Value tt; fields = λ e side. absurd (let d : true ≡ false = e in cc) }
-copy_holds false h n level class k v s w = record { head = w Head tt; key = w Key tt; leaf_value = λ e. absurd (let d : false ≡ true = e in cc); fields = λ e side. go side }
+copy_holds true h n level class k v s w = record { head = w (Settled Head) tt; key = w (Settled Key) tt; leaf_value = λ e. w (Settled Value) tt; fields = λ e side. absurd (let d : true ≡ false = e in cc) }
+copy_holds false h n level class k v s w = record { head = w (Settled Head) tt; key = w (Settled Key) tt; leaf_value = λ e. absurd (let d : false ≡ true = e in cc); fields = λ e side. go side }
   where
     go : (side : Side) → value h (child n side) ≡ (child_of s side).0
     go Left = w (Child Left) tt
@@ -424,7 +425,7 @@ module _ (ed : Delete) (c : Call) (h : History) (f : Found) (snaps : List Snap) 
 
   -- the copy
   abbrev w : ℕ
-  w = value h (node sibling.node.0 Head)
+  w = value h (node sibling.node.0 (Settled Head))
 
   fits : w / 8 < 2 ^ 61
   fits =
@@ -450,10 +451,10 @@ module _ (ed : Delete) (c : Call) (h : History) (f : Found) (snaps : List Snap) 
   copy = record {
     fresh = (x.holds First one).fresh;
     head = held_words.head ∙ head_back w fits;
-    key_low = λ low. held_words.key ∙ low_key ((head_of w).class == 0) (head_of w).leaf ld.key ld.value (value h (node sibling.node.0 Key)) all_loaded (eq-eqb (head_of w).class 0 low) x.loaded.key;
-    key_high = λ high. held_words.key ∙ blank_word ld.key (value h (node sibling.node.0 Key)) x.loaded.key (blank.key high);
-    value_low = λ leaf low. held_words.leaf_value leaf ∙ low_value ((head_of w).class == 0) (head_of w).leaf ld.key ld.value (value h (node sibling.node.0 Value)) all_loaded (eq-eqb (head_of w).class 0 low) leaf x.loaded.value;
-    value_high = λ leaf high. held_words.leaf_value leaf ∙ blank_word ld.value (value h (node sibling.node.0 Value)) x.loaded.value (blank.value high leaf);
+    key_low = λ low. held_words.key ∙ low_key ((head_of w).class == 0) (head_of w).leaf ld.key ld.value (value h (node sibling.node.0 (Settled Key))) all_loaded (eq-eqb (head_of w).class 0 low) x.loaded.key;
+    key_high = λ high. held_words.key ∙ blank_word ld.key (value h (node sibling.node.0 (Settled Key))) x.loaded.key (blank.key high);
+    value_low = λ leaf low. held_words.leaf_value leaf ∙ low_value ((head_of w).class == 0) (head_of w).leaf ld.key ld.value (value h (node sibling.node.0 (Settled Value))) all_loaded (eq-eqb (head_of w).class 0 low) leaf x.loaded.value;
+    value_high = λ leaf high. held_words.leaf_value leaf ∙ blank_word ld.value (value h (node sibling.node.0 (Settled Value))) x.loaded.value (blank.value high leaf);
     fields = λ fork side. held_words.fields fork side;
   }
 

@@ -5,7 +5,8 @@ use native.Mathlib.Decide.{ℕ_discrete}
 use Rattle.arena.specs.declared.number.NodeNo.{NodeNo}
 use Rattle.arena.specs.declared.number.ScxNo.{ScxNo}
 use Rattle.arena.specs.declared.word.NodeWord.{NodeWord}
-use Rattle.arena.specs.declared.word.NodeWord.TheVariants.{Head, Key, Value, Child}
+use Rattle.arena.specs.declared.word.NodeWord.TheVariants.{Settled, Child}
+use Rattle.arena.specs.declared.word.SettledPart.TheVariants.{Head, Key, Value}
 use Rattle.arena.specs.declared.word.Side.{Side}
 use Rattle.arena.specs.declared.word.Side.TheVariants.{Left, Right}
 use Rattle.arena.specs.Heads.{head_word}
@@ -53,15 +54,15 @@ use Rattle.edits.specs.Sound.{LooksWell, LoadsWell, FillsWell, MakesWell, EditLa
 
 -- What it loads
 
-wants_value : (f : Found) (ld : Loaded) (nth : Nth) (part : NodeWord) → insert_wants f ld nth ≡ Some part → (Value ≡ part) × (nth ≡ Second)
+wants_value : (f : Found) (ld : Loaded) (nth : Nth) (part : NodeWord) → insert_wants f ld nth ≡ Some part → (Settled Value ≡ part) × (nth ≡ Second)
 wants_value f ld First part e = absurd (let d : None ≡ Some part = e in cc)
 wants_value f ld Third part e = absurd (let d : None ≡ Some part = e in cc)
 wants_value f ld Second part e = (go (f.head.class == 0) ld.value e, refl)
   where
-    go : (b : Bool) (old : Option ℕ) → (if b then value_if_none old else None) ≡ Some part → Value ≡ part
+    go : (b : Bool) (old : Option ℕ) → (if b then value_if_none old else None) ≡ Some part → Settled Value ≡ part
     go false old d = absurd (let z : None ≡ Some part = d in cc)
     go true (Some v) d = absurd (let z : None ≡ Some part = d in cc)
-    go true None d = let z : Some Value ≡ Some part = d in ap (λ (o : Option NodeWord). unwrap_or o Value) z
+    go true None d = let z : Some (Settled Value) ≡ Some part = d in ap (λ (o : Option NodeWord). unwrap_or o (Settled Value)) z
 
 -- only the second node's piece has what was loaded
 steady_wants : (f : Found) (ld : Loaded) (nth : Nth) (part : NodeWord) → insert_wants f ld nth ≡ Some part → (v : ℕ) (i : Nth) → ComesBefore i nth → insert_wants f (with_word ld part v) i ≡ insert_wants f ld i
@@ -230,10 +231,10 @@ leaf_at : (h : History) (n low level class k v : ℕ) → low ≡ level → Hold
 leaf_at h n low level class k v e w = subst (λ l. HoldsWords h n (Leaf l class k v) (IsPieceWord (Leaf l class k v))) e w
 
 leaf_with : (h : History) (n level class k v : ℕ) → level < 2 ^ 61 → class < 4 → HoldsWords h n (Leaf level class k v) (IsPieceWord (Leaf level class k v)) → IsLeafWith (value h) n level class k v
-leaf_with h n level class k v deep small w = record { head = w Head tt ∙ head_is level class true deep small; key = w Key tt; value = w Value tt }
+leaf_with h n level class k v deep small w = record { head = w (Settled Head) tt ∙ head_is level class true deep small; key = w (Settled Key) tt; value = w (Settled Value) tt }
 
 fork_with : (h : History) (n level class k : ℕ) (x y : NodeNo) → level < 2 ^ 61 → class < 4 → HoldsWords h n (Fork level class k x y) (IsPieceWord (Fork level class k x y)) → IsForkWith (value h) n level class k x.0 y.0
-fork_with h n level class k x y deep small w = record { head = w Head tt ∙ head_is level class false deep small; key = w Key tt; left = w (Child Left) tt; right = w (Child Right) tt }
+fork_with h n level class k x y deep small w = record { head = w (Settled Head) tt ∙ head_is level class false deep small; key = w (Settled Key) tt; left = w (Child Left) tt; right = w (Child Right) tt }
 
 fork_over_both : (b : Bool) (h : History) (n level class key k : ℕ) (x y : NodeNo) → level < 2 ^ 61 → class < 4
     → HoldsWords h n (if b then Fork level class key x y else Fork level 0 k y x) (IsPieceWord (if b then Fork level class key x y else Fork level 0 k y x))
@@ -279,7 +280,7 @@ module _ (ed : Insert) (c : Call) (h : History) (f : Found) (snaps : List Snap) 
   -- a new key: the fork, over its leaf and the copy of the other
   copied_value : (o : Option ℕ) (b : Bool) (v : ℕ) → IsLoaded o v → (if b then value_if_none o else None) ≡ None → b ≡ true → unwrap_or o 0 ≡ v
   copied_value (Some w) b v is none e = is
-  copied_value None true v is none e = absurd (let d : Some Value ≡ None = none in cc)
+  copied_value None true v is none e = absurd (let d : Some (Settled Value) ≡ None = none in cc)
   copied_value None false v is none e = absurd (let d : false ≡ true = e in cc)
 
   no_value : (o : Option ℕ) (v : ℕ) → IsLoaded o v → v ≡ 0 → unwrap_or o 0 ≡ 0
@@ -294,8 +295,8 @@ module _ (ed : Insert) (c : Call) (h : History) (f : Found) (snaps : List Snap) 
     leaf = leaf_with h ns.first.0 (f.head.level + 1) 0 ed.key ed.value deep (omega arith) (leaf_at h ns.first.0 (leaf_level f f.value) (f.head.level + 1) 0 ed.key ed.value (ap (λ (o : Option ℕ). leaf_level f o) e ∙ below) (x.holds First one).words);
     copied = unwrap_or ld.value 0;
     copy = leaf_with h ns.second.0 (f.head.level + 1) f.head.class f.key (unwrap_or ld.value 0) deep small (leaf_at h ns.second.0 (lower f.head.level) (f.head.level + 1) f.head.class f.key (unwrap_or ld.value 0) below (x.holds Second two).words);
-    copied_low = λ low. copied_value ld.value (f.head.class == 0) (value h (node f.trail.node.0 Value)) x.loaded.value (x.done Second two) (eq-eqb f.head.class 0 low);
-    copied_high = λ high. no_value ld.value (value h (node f.trail.node.0 Value)) x.loaded.value (found_no_value ed.key c h f run found high);
+    copied_low = λ low. copied_value ld.value (f.head.class == 0) (value h (node f.trail.node.0 (Settled Value))) x.loaded.value (x.done Second two) (eq-eqb f.head.class 0 low);
+    copied_high = λ high. no_value ld.value (value h (node f.trail.node.0 (Settled Value))) x.loaded.value (found_no_value ed.key c h f run found high);
     fork = fork_over_both (is_below ed.key f) h ns.third.0 f.head.level f.head.class f.key ed.key ns.first ns.second (let a = deep in omega (arith, a)) small (x.holds Third three).words;
   }
     where
