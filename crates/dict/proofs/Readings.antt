@@ -117,6 +117,6 @@ module _ (c : Call) (h : History) where
         e,
       )
 
-  -- so the share has run out for an edit that needs it
-  pub ran_out : (call : MapCall) (want : Need) (share : Remaining) (full : FullOf) → (x : HasNeeded c.layout c.pass h c.start call) × (many_nodes want ≡ need call x.map) → IsShort want share full.what full.left → IsUntouched c h share → HasEnteredNone c.layout c.pass h c.start → HasOnlyLooked c.pass h c.start → HasRunOut c h call share full
-  ran_out call want share full x short first none only_looked = record { needed = x.0; short = short_of want (need call x.0.map) share full.what full.left x.1 short; first = first; none = none; only_looked = only_looked }
+  -- so the share has run out for an edit that needs it in its newest try
+  pub ran_out : (call : MapCall) (want : Need) (share : Remaining) (full : FullOf) → (only_looked : HasOnlyLooked c.pass h c.start) → (x : HasNeeded c.layout c.pass h only_looked.begin call) × (many_nodes want ≡ need call x.map) → IsShort want share full.what full.left → IsUntouched c h share → HasEnteredNone c.layout c.pass h c.start → HasRunOut c h call share full
+  ran_out call want share full only_looked x short first none = record { only_looked = only_looked; needed = x.0; short = short_of want (need call x.0.map) share full.what full.left x.1 short; first = first; none = none }
