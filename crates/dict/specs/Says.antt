@@ -80,10 +80,10 @@ pub record HasLost (c : Call) (h : History) (call : MapCall) (tries n s : ℕ) :
   pub needed : 0 < most_nodes call → HasNeeded c.layout c.pass h all.lost.begin call
   pub none : HasEnteredNone c.layout c.pass h c.start
 
--- the share has fewer nodes than these; or enough of them, and no SCX-record. So many are left
+-- the share has fewer nodes than these, so many; or some node, and no SCX-record
 abbrev pub HasTooLittle : ℕ → Remaining → Resource → ℕ → Type 0
 HasTooLittle many left Nodes k = (left.nodes < many) × (k ≡ left.nodes)
-HasTooLittle many left ScxRecords k = (many ≤ left.nodes) × (left.scx ≡ 0) × (k ≡ 0)
+HasTooLittle many left ScxRecords k = (0 < left.nodes) × (left.scx ≡ 0) × (k ≡ 0)
 
 -- The share has too little left for the newest try of the call, in which it had something to do: there
 -- are not enough nodes for what it needed there, or no SCX-record is left. In that try the pass has
