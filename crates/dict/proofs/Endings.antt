@@ -127,7 +127,7 @@ module _ (tries : ℕ) (c : Call) (h : History) where
     edit_says (Contended node scx) number limit x = (tt, edit_lost node.0 scx.0 limit x.1)
     edit_says (Full full) number limit x = (
       tt,
-      ran_out c h call (k.means.needs m.edit x.found) m.share full (edit_needed c h run x.found x.has_found x.needed) x.short x.first x.none x.only_looked,
+      ran_out c h call (k.means.needs m.edit x.found) m.share full x.only_looked (edit_needed (begun_at c x.only_looked.begin) h run x.found x.has_found x.needed) x.short x.first x.none,
     )
 
   -- a get has read what it tells

@@ -93,10 +93,10 @@ module _ (c : Call) (h : History) where
         only_looked = λ some. only_looked;
       }
 
-  -- a share that is too small for the need is too small for as many nodes
-  short_of : (want : Need) (many : ℕ) (left : Remaining) (what : Resource) (k : ℕ) → many_nodes want ≡ many → IsShort want left what k → HasTooLittle many left what k
-  short_of want many left Nodes k e x = rw (sym e) x
-  short_of want many left ScxRecords k e x = rw (sym e) x
+  -- a share that is too small for the need, which is some, is too small for as many nodes
+  short_of : (want : Need) (many : ℕ) (left : Remaining) (what : Resource) (k : ℕ) → many_nodes want ≡ many → 0 < many → IsShort want left what k → HasTooLittle many left what k
+  short_of want many left Nodes k e some x = rw (sym e) x
+  short_of want many left ScxRecords k e some x = (let i = x.0 in omega (arith, i, e, some), x.1, x.2)
 
   -- the leaf that was found tells what an edit needed at a moment of the call, if it needed something
   pub leaf_needed : (call : MapCall) (goal : Goal) (f : Found) (want : Need) → ((map : List Pair) → reply call map ≡ goal_told goal map) → path_key goal < 2 ^ 64 → IsTreeRun c.layout h → HasFoundGoal goal c h f → ((map : List Pair) → reply call map ≡ leaf_told goal f → many_nodes want ≡ need call map) → 0 < many_nodes want → (x : HasNeeded c.layout c.pass h c.start call) × (many_nodes want ≡ need call x.map)
@@ -117,6 +117,6 @@ module _ (c : Call) (h : History) where
         e,
       )
 
-  -- so the share has run out for an edit that needs it
-  pub ran_out : (call : MapCall) (want : Need) (share : Remaining) (full : FullOf) → (x : HasNeeded c.layout c.pass h c.start call) × (many_nodes want ≡ need call x.map) → IsShort want share full.what full.left → IsUntouched c h share → HasEnteredNone c.layout c.pass h c.start → HasOnlyLooked c.pass h c.start → HasRunOut c h call share full
-  ran_out call want share full x short first none only_looked = record { needed = x.0; short = short_of want (need call x.0.map) share full.what full.left x.1 short; first = first; none = none; only_looked = only_looked }
+  -- so the share has run out for an edit that needs it in its newest try
+  pub ran_out : (call : MapCall) (want : Need) (share : Remaining) (full : FullOf) → (only_looked : HasOnlyLooked c.pass h c.start) → (x : HasNeeded c.layout c.pass h only_looked.begin call) × (many_nodes want ≡ need call x.map) → IsShort want share full.what full.left → IsUntouched c h share → HasEnteredNone c.layout c.pass h c.start → HasRunOut c h call share full
+  ran_out call want share full only_looked x short first none = record { only_looked = only_looked; needed = x.0; short = short_of want (need call x.0.map) share full.what full.left x.1 x.0.some short; first = first; none = none }

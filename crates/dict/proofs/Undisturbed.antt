@@ -58,7 +58,7 @@ module _ (makes : Makes) (keeps : Keeps) (c : Call) (h : History) (map : List Pa
   pub full_alone : ((n t : ℕ) → ¬ IsContended c h n t) → (call : MapCall) (share : Remaining) (full : FullOf) → HasRunOut c h call share full → RestsWith c c.start share × (0 < need call map) × HasTooLittle (need call map) share full.what full.left
   full_alone never call share full x =
       let then = x.needed in
-      let same : then.map ≡ map = one_spelling c.layout (value then.moment) then.map map then.spelled (keeps_at then.moment then.within then.since x.none) in
+      let same : then.map ≡ map = one_spelling c.layout (value then.moment) then.map map then.spelled (keeps_at then.moment then.within (ends_trans then.moment x.only_looked.begin c.start then.since x.only_looked.since) x.none) in
       let some : 0 < need call map = subst (λ m. 0 < need call m) same then.some in
       let short : HasTooLittle (need call map) share full.what full.left = subst (λ m. HasTooLittle (need call m) share full.what full.left) same x.short in
       (untouched c h share never x.first, some, short)

@@ -80,21 +80,21 @@ pub record HasLost (c : Call) (h : History) (call : MapCall) (tries n s : ℕ) :
   pub needed : 0 < most_nodes call → HasNeeded c.layout c.pass h all.lost.begin call
   pub none : HasEnteredNone c.layout c.pass h c.start
 
--- the share has fewer nodes than these; or enough of them, and no SCX-record. So many are left
+-- the share has fewer nodes than these, so many; or some node, and no SCX-record
 abbrev pub HasTooLittle : ℕ → Remaining → Resource → ℕ → Type 0
 HasTooLittle many left Nodes k = (left.nodes < many) × (k ≡ left.nodes)
-HasTooLittle many left ScxRecords k = (many ≤ left.nodes) × (left.scx ≡ 0) × (k ≡ 0)
+HasTooLittle many left ScxRecords k = (0 < left.nodes) × (left.scx ≡ 0) × (k ≡ 0)
 
--- The share has too little left for the next try of the call, which had something to do: there are
--- not enough nodes for what it needed, or no SCX-record is left. Nothing of it was taken since the
--- call began, or a try was lost to another pass. The pass has entered nothing, and has only looked
--- in its newest try.
+-- The share has too little left for the newest try of the call, in which it had something to do: there
+-- are not enough nodes for what it needed there, or no SCX-record is left. In that try the pass has
+-- only looked. Nothing of the share was taken since the call began, or another pass was in the way.
+-- The pass has entered nothing.
 pub record HasRunOut (c : Call) (h : History) (call : MapCall) (share : Remaining) (full : FullOf) : Type 0 where
-  pub needed : HasNeeded c.layout c.pass h c.start call
+  pub only_looked : HasOnlyLooked c.pass h c.start
+  pub needed : HasNeeded c.layout c.pass h only_looked.begin call
   pub short : HasTooLittle (need call needed.map) share full.what full.left
   pub first : IsUntouched c h share
   pub none : HasEnteredNone c.layout c.pass h c.start
-  pub only_looked : HasOnlyLooked c.pass h c.start
 
 -- the call keeps lists, which grow
 abbrev pub KeepsLists : MapCall → Type 0
