@@ -85,10 +85,10 @@ abbrev pub HasTooLittle : ℕ → Remaining → Resource → ℕ → Type 0
 HasTooLittle many left Nodes k = (left.nodes < many) × (k ≡ left.nodes)
 HasTooLittle many left ScxRecords k = (0 < left.nodes) × (left.scx ≡ 0) × (k ≡ 0)
 
--- The share has too little left for the newest try of the call, in which it had something to do: there
--- are not enough nodes for what it needed there, or no SCX-record is left. In that try the pass has
--- only looked. Nothing of the share was taken since the call began, or another pass was in the way.
--- The pass has entered nothing.
+-- The share has too little left for the newest try of the call, which had something to do in it:
+-- there are not enough nodes for what it needed there, or some, and no SCX-record. In that try the
+-- pass has only looked. Nothing of the share was taken since the call began, or another pass was in
+-- the way. The pass has entered nothing.
 pub record HasRunOut (c : Call) (h : History) (call : MapCall) (share : Remaining) (full : FullOf) : Type 0 where
   pub only_looked : HasOnlyLooked c.pass h c.start
   pub needed : HasNeeded c.layout c.pass h only_looked.begin call

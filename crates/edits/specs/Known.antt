@@ -75,7 +75,7 @@ pub record RestsWith (c : Call) (h : History) (left : Remaining) : Type 0 where
   pub share : IsShare c.layout h c.pass left left.next_node left.next_scx
   pub over : AreFinished c.layout c.pass 0 h
 
--- nothing of the share was taken since the call began; or another pass was in the way of the call
+-- nothing of the share was taken since the call began; or another pass was in the way
 abbrev pub IsUntouched : Call → History → Remaining → Type 0
 IsUntouched c h left = RestsWith c c.start left ⊎ ((n : ℕ) × (s : ℕ) × IsContended c h n s)
 
@@ -417,9 +417,9 @@ module _ {E : Type 0} (e : EditMeaning E) where
     pub none : HasEnteredNone c.layout c.pass h c.start
     pub only_looked : HasOnlyLooked c.pass h c.start
 
-  -- The share has too little left for the edit at the leaf that was found in the newest try, in which
-  -- the pass has only looked. Nothing of the share was taken since the call began, or another pass was
-  -- in the way. The pass has entered nothing.
+  -- The share has too little left for the edit at the leaf that was found in the newest try, in
+  -- which the pass has only looked. Nothing of the share was taken since the call began, or another
+  -- pass was in the way. The pass has entered nothing.
   pub record IsFullFor {A : Type 0} (m : UpdateRun E A) (c : Call) (h : History) (full : Full) : Type 0 where
     pub only_looked : HasOnlyLooked c.pass h c.start
     pub found : Found
