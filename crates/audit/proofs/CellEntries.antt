@@ -3,7 +3,8 @@ use Rattle.std.proofs.Common.{◌≡◌, ℕ, ◌<◌, List, length, slice_get, 
 use Rattle.arena.specs.declared.layout.Layout.{Layout}
 use Rattle.arena.specs.declared.step.Row.{Row}
 use Rattle.arena.specs.declared.word.NodeWord.{NodeWord}
-use Rattle.arena.specs.declared.word.NodeWord.TheVariants.{Value, Child}
+use Rattle.arena.specs.declared.word.NodeWord.TheVariants.{Settled, Child}
+use Rattle.arena.specs.declared.word.SettledPart.TheVariants.{Value}
 use Rattle.arena.specs.declared.word.Side.{Side}
 use Rattle.arena.specs.declared.word.Side.TheVariants.{Left}
 use Rattle.arena.specs.declared.word.Word.{Word}
@@ -53,7 +54,7 @@ entry_over lay c h s n side row cells removed field x win word over at on fresh 
       node_is = ap node_in same ∙ at;
       side_is = ap side_in same ∙ on;
       fresh = subst (λ (v : ℕ). IsOwnNode lay c v) stored fresh.own;
-      value_is = subst (λ (v : ℕ). value h (node v Value) ≡ x) stored fresh.value_is;
+      value_is = subst (λ (v : ℕ). value h (node v (Settled Value)) ≡ x) stored fresh.value_is;
       empty_fields = λ d. subst (λ (v : ℕ). value h (child v d) ≡ 0) stored (fresh.empty d);
     }
 

@@ -13,7 +13,7 @@ use Rattle.arena.specs.declared.step.Kind.TheVariants.{Update}
 use Rattle.arena.specs.declared.word.Side.{Side}
 use Rattle.arena.specs.declared.word.Word.{Word}
 use Rattle.arena.specs.declared.word.Word.TheVariants.{Node, Scx}
-use Rattle.arena.specs.declared.word.NodeWord.TheVariants.{Head, Key, Value, Child, Info, Marked}
+use Rattle.arena.specs.declared.word.NodeWord.TheVariants.{Settled, Child, Info, Marked}
 use Rattle.arena.specs.declared.word.ScxWord.TheVariants.{Call as CallWord}
 use Rattle.arena.specs.Words.{child, info, scx}
 use Rattle.arena.specs.Layout.{first_scx}
@@ -166,9 +166,7 @@ module _ (lay : Layout) (tries : ℕ) (calls : List Call) (judge : Judged) (clie
           at : (b : Bool) (w : Word) → cond b (entry_at lay (history lay.mode lines) (suc (entries lines)) n w) None ≡ Some entry → entry.place ≡ suc (entries lines)
           at false w q = absurd (let z : None ≡ Some entry = q in cc)
           at true (Node m (Child side)) q = sym (ap place_of_some q)
-          at true (Node m Head) q = absurd (let z : None ≡ Some entry = q in cc)
-          at true (Node m Key) q = absurd (let z : None ≡ Some entry = q in cc)
-          at true (Node m Value) q = absurd (let z : None ≡ Some entry = q in cc)
+          at true (Node m (Settled p)) q = absurd (let z : None ≡ Some entry = q in cc)
           at true (Node m Info) q = absurd (let z : None ≡ Some entry = q in cc)
           at true (Node m Marked) q = absurd (let z : None ≡ Some entry = q in cc)
           at true (Scx m part) q = absurd (let z : None ≡ Some entry = q in cc)

@@ -1,7 +1,9 @@
 -- Levels still rise behind a row that is stored where they do.
 use Rattle.std.proofs.Common.{◌≡◌, ◌≢◌, ℕ, ◌<◌, ◌⊎◌, inl, inr, ⊎_elim, Bool, true, false, cond, refl, sym, ◌∙◌, ap, subst}
 use Rattle.arena.specs.declared.word.Side.{Side}
-use Rattle.arena.specs.declared.word.NodeWord.TheVariants.{Head, Child}
+use Rattle.arena.specs.declared.word.NodeWord.TheVariants.{Settled, Child}
+use Rattle.arena.specs.declared.word.SettledPart.{SettledPart}
+use Rattle.arena.specs.declared.word.SettledPart.TheVariants.{Head}
 use Rattle.arena.specs.declared.word.NodeWord.{NodeWord}
 use Rattle.arena.specs.declared.word.ScxWord.{ScxWord}
 use Rattle.arena.specs.declared.number.NodeNo.{NodeNo}
@@ -24,7 +26,7 @@ abbrev holder : Word → ℕ
 holder (Node n part) = n.0
 holder (Scx s part) = s.0
 
-same_node : (m k : ℕ) → node m Head ≡ node k Head → m ≡ k
+same_node : (m k : ℕ) → node m (Settled Head) ≡ node k (Settled Head) → m ≡ k
 same_node m k e = ap holder e
 
 same_holder : (m n : ℕ) (at side : Side) → child m at ≡ child n side → m ≡ n
@@ -42,16 +44,16 @@ stood_before r h fields n (inl few) = inl few
 stood_before r h fields n (inr (m, from, held)) = inr (m, from, held_before r h (child m from) n (fields m from) held)
 
 -- where heads and fields are left as they were, levels rise as before
-pub rising_left : (r : Row) (h : History) → ((n : ℕ) → IsLeft r h (node n Head)) → ((n : ℕ) (side : Side) → IsLeft r h (child n side)) → HasRisingLevels h → HasRisingLevels (r ⊳ h)
+pub rising_left : (r : Row) (h : History) → ((n : ℕ) → IsLeft r h (node n (Settled Head))) → ((n : ℕ) (side : Side) → IsLeft r h (child n side)) → HasRisingLevels h → HasRisingLevels (r ⊳ h)
 rising_left r h heads fields x n side stood fork =
     rw (fields n side, heads n, heads (value h (child n side))) (x n side (stood_before r h fields n stood) (rw (heads n) at fork))
 
 -- where the head of a node changes that no field has held, too
-pub rising_head : (r : Row) (h : History) → (m : ℕ) → r.word ≡ node m Head → (HasStoodInField h m → ⊥) → HasRisingLevels h → HasRisingLevels (r ⊳ h)
+pub rising_head : (r : Row) (h : History) → (m : ℕ) → r.word ≡ node m (Settled Head) → (HasStoodInField h m → ⊥) → HasRisingLevels h → HasRisingLevels (r ⊳ h)
 rising_head r h m word free x n side stood fork = rw (fields n side, heads n there, heads (value h (child n side)) below) (x n side there (rw (heads n there) at fork))
   where
     fields : (n : ℕ) (side : Side) → IsLeft r h (child n side)
-    fields n side = value_apart r h (node m Head) (child n side) word (node_word_apart m n Head (Child side) refl)
+    fields n side = value_apart r h (node m (Settled Head)) (child n side) word (node_word_apart m n (Settled Head) (Child side) refl)
 
     there : HasStoodInField h n
     there = stood_before r h fields n stood
@@ -59,20 +61,20 @@ rising_head r h m word free x n side stood fork = rw (fields n side, heads n the
     below : HasStoodInField h (value h (child n side))
     below = inr (n, side, held_now h (child n side))
 
-    heads : (k : ℕ) → HasStoodInField h k → IsLeft r h (node k Head)
-    heads k y = go (same_word (node m Head) (node k Head)) refl
+    heads : (k : ℕ) → HasStoodInField h k → IsLeft r h (node k (Settled Head))
+    heads k y = go (same_word (node m (Settled Head)) (node k (Settled Head))) refl
       where
-        go : (b : Bool) → same_word (node m Head) (node k Head) ≡ b → IsLeft r h (node k Head)
-        go false e = value_apart r h (node m Head) (node k Head) word e
-        go true e = absurd (free (subst (λ (j : ℕ). HasStoodInField h j) (sym (same_node m k (word_same (node m Head) (node k Head) e))) y))
+        go : (b : Bool) → same_word (node m (Settled Head)) (node k (Settled Head)) ≡ b → IsLeft r h (node k (Settled Head))
+        go false e = value_apart r h (node m (Settled Head)) (node k (Settled Head)) word e
+        go true e = absurd (free (subst (λ (j : ℕ). HasStoodInField h j) (sym (same_node m k (word_same (node m (Settled Head)) (node k (Settled Head)) e))) y))
 
 -- and where a node is put into a field over which levels rise, as they do below it
 pub rising_field : (r : Row) (h : History) → (m : ℕ) (at : Side) → r.word ≡ child m at → m ≢ r.after → (HasStoodInField h m → is_leaf (value h) m ≡ false → level (value h) m < level (value h) r.after) → ((side : Side) → is_leaf (value h) r.after ≡ false → level (value h) r.after < level (value h) (value h (child r.after side))) → HasRisingLevels h → HasRisingLevels (r ⊳ h)
 unfolding HasHeld value
 rising_field r h m at word apart over below x n side stood fork = go (same_word r.word (child n side)) refl
   where
-    heads : (k : ℕ) → IsLeft r h (node k Head)
-    heads k = value_apart r h (child m at) (node k Head) word (node_word_apart m k (Child at) Head refl)
+    heads : (k : ℕ) → IsLeft r h (node k (Settled Head))
+    heads k = value_apart r h (child m at) (node k (Settled Head)) word (node_word_apart m k (Child at) (Settled Head) refl)
 
     fork_before : is_leaf (value h) n ≡ false
     fork_before = rw (heads n) at fork
@@ -98,11 +100,11 @@ rising_field r h m at word apart over below x n side stood fork = go (same_word 
 
 -- a row that leaves what it found leaves all words
 pub rising_quiet : (r : Row) (h : History) → r.before ≡ value h r.word → r.after ≡ r.before → HasRisingLevels h → HasRisingLevels (r ⊳ h)
-rising_quiet r h found same x = rising_left r h (λ n. value_quiet r h found same (node n Head)) (λ n side. value_quiet r h found same (child n side)) x
+rising_quiet r h found same x = rising_left r h (λ n. value_quiet r h found same (node n (Settled Head))) (λ n side. value_quiet r h found same (child n side)) x
 
 -- so does one of a word that is no head and no field
-pub rising_other : (r : Row) (h : History) → ((n : ℕ) → r.word ≡ node n Head → ⊥) → ((n : ℕ) (side : Side) → r.word ≡ child n side → ⊥) → HasRisingLevels h → HasRisingLevels (r ⊳ h)
-rising_other r h head field x = rising_left r h (λ n. value_other r h (node n Head) (other (node n Head) (head n))) (λ n side. value_other r h (child n side) (other (child n side) (field n side))) x
+pub rising_other : (r : Row) (h : History) → ((n : ℕ) → r.word ≡ node n (Settled Head) → ⊥) → ((n : ℕ) (side : Side) → r.word ≡ child n side → ⊥) → HasRisingLevels h → HasRisingLevels (r ⊳ h)
+rising_other r h head field x = rising_left r h (λ n. value_other r h (node n (Settled Head)) (other (node n (Settled Head)) (head n))) (λ n side. value_other r h (child n side) (other (child n side) (field n side))) x
   where
     other : (w : Word) → (r.word ≡ w → ⊥) → same_word r.word w ≡ false
     other w d = go (same_word r.word w) refl
@@ -113,12 +115,17 @@ rising_other r h head field x = rising_left r h (λ n. value_other r h (node n H
 
 abbrev part_of : Word → NodeWord
 part_of (Node n part) = part
-part_of (Scx s part) = Head
+part_of (Scx s part) = Settled Head
 
 -- so does one of another word of a node
-pub of_part : (r : Row) (h : History) (n : NodeNo) (part : NodeWord) → r.word ≡ Node n part → (part ≡ Head → ⊥) → ((side : Side) → part ≡ Child side → ⊥) → HasRisingLevels h → HasRisingLevels (r ⊳ h)
+pub of_part : (r : Row) (h : History) (n : NodeNo) (part : NodeWord) → r.word ≡ Node n part → (part ≡ Settled Head → ⊥) → ((side : Side) → part ≡ Child side → ⊥) → HasRisingLevels h → HasRisingLevels (r ⊳ h)
 of_part r h n part word head field x = rising_other r h (λ m e. head (ap part_of (sym word ∙ e))) (λ m side e. field side (ap part_of (sym word ∙ e))) x
+
+-- a settled word, but the head of a node that a field has held
+pub of_settled : (r : Row) (h : History) (n : NodeNo) (part : SettledPart) → r.word ≡ Node n (Settled part) → (part ≡ Head → HasStoodInField h n.0 → ⊥) → HasRisingLevels h → HasRisingLevels (r ⊳ h)
+of_settled r h n Head word free x = rising_head r h n.0 word (free refl) x
+of_settled r h n part word free x = of_part r h n (Settled part) word (λ e. absurd (let z : Settled part ≡ Settled Head = e in cc)) (λ side e. absurd (let z : Child side ≡ Settled part = sym e in cc)) x
 
 -- and of an SCX-record
 pub of_scx : (r : Row) (h : History) (s : ScxNo) (part : ScxWord) → r.word ≡ Scx s part → HasRisingLevels h → HasRisingLevels (r ⊳ h)
-of_scx r h s part word x = rising_other r h (λ m e. absurd (let z : Scx s part ≡ node m Head = sym word ∙ e in cc)) (λ m side e. absurd (let z : Scx s part ≡ child m side = sym word ∙ e in cc)) x
+of_scx r h s part word x = rising_other r h (λ m e. absurd (let z : Scx s part ≡ node m (Settled Head) = sym word ∙ e in cc)) (λ m side e. absurd (let z : Scx s part ≡ child m side = sym word ∙ e in cc)) x

@@ -6,7 +6,8 @@ use Rattle.arena.specs.declared.number.PassNo.{PassNo}
 use Rattle.arena.specs.declared.step.Row.{Row as StepRow}
 use Rattle.arena.specs.declared.step.Kind.{Kind}
 use Rattle.arena.specs.declared.step.Kind.TheVariants.{Freeze, Update}
-use Rattle.arena.specs.declared.word.NodeWord.TheVariants.{Key, Value}
+use Rattle.arena.specs.declared.word.NodeWord.TheVariants.{Settled}
+use Rattle.arena.specs.declared.word.SettledPart.TheVariants.{Key, Value}
 use Rattle.arena.specs.History.{History, Start, ◌⊳◌, value, Extends}
 use Rattle.arena.specs.Lawful.{Lawful, IsLawful, IsWin}
 use Rattle.arena.specs.Log.{Entry as Entered}
@@ -85,15 +86,15 @@ unfolding Lawful Shaped
 win_run lay h row s g lawful won = (g.0, record { lawful = (g.1.lawful, lawful); shaped = (g.1.shaped, λ t b. absurd (let z : Update ≡ Freeze = sym won.kind ∙ b.kind in cc)) })
 
 -- what the first leaf of the tree says
-first_is : (h : History) (n key : ℕ) → IsFirstLeaf h n key → first_said (value h) n ≡ Some (pair key (value h (node n Value)))
-first_is h n key x = ap (λ b. cond b (Some (pair (value h (node n Key)) (value h (node n Value)))) None) (eq-eqb (class (value h) n) 0 x.class) ∙ ap (λ (k : ℕ). Some (pair k (value h (node n Value)))) x.same_key
+first_is : (h : History) (n key : ℕ) → IsFirstLeaf h n key → first_said (value h) n ≡ Some (pair key (value h (node n (Settled Value))))
+first_is h n key x = ap (λ b. cond b (Some (pair (value h (node n (Settled Key))) (value h (node n (Settled Value))))) None) (eq-eqb (class (value h) n) 0 x.class) ∙ ap (λ (k : ℕ). Some (pair k (value h (node n (Settled Value))))) x.same_key
 
 -- an entry of it is one that a call with its command makes
 module _ (lay : Layout) (h : History) (row : StepRow) (e : Entered) (run : IsTreeRun lay (row ⊳ h)) (won : IsWin h row e.scx) where
   pop_entry : (key : ℕ) → Makes lay h e.scx (Delete key) → IsFirstLeaf h (edit_leaf h e.scx (Delete key)) key → IsPopEntry lay h e.scx
   pop_entry key x first =
       let leaf = edit_leaf h e.scx (Delete key) in
-      (pair key (value h (node leaf Value)), x, λ map spells. win_first lay h row e.scx (Delete key) run won x (first.path.0, first.path.1, first.path.3) first.leaf map spells ∙ first_is h leaf key first)
+      (pair key (value h (node leaf (Settled Value))), x, λ map spells. win_first lay h row e.scx (Delete key) run won x (first.path.0, first.path.1, first.path.3) first.leaf map spells ∙ first_is h leaf key first)
 
   replace_entry : (key expected put : ℕ) → Makes lay h e.scx (Insert key put) → said (value h) key (edit_leaf h e.scx (Insert key put)) ≡ Some expected → IsReplaceEntry key expected put lay h e.scx
   replace_entry key expected put x says =

@@ -2,7 +2,8 @@
 use Rattle.std.specs.Prelude.{◌≡◌, ℕ, ◌<◌, List, slice_get, Bool, true, Option, Some}
 use Rattle.arena.specs.declared.layout.Layout.{Layout}
 use Rattle.arena.specs.declared.step.Kind.TheVariants.{LoadInfo, Freeze}
-use Rattle.arena.specs.declared.word.NodeWord.TheVariants.{Value}
+use Rattle.arena.specs.declared.word.NodeWord.TheVariants.{Settled}
+use Rattle.arena.specs.declared.word.SettledPart.TheVariants.{Value}
 use Rattle.arena.specs.declared.word.Side.{Side}
 use Rattle.arena.specs.Fills.{IsOwnNode}
 use Rattle.arena.specs.History.{History, value, Extends}
@@ -60,5 +61,5 @@ pub record IsOverCells (h : History) (s : ℕ) (cells removed : List ℕ) : Type
 -- the node is of the client's share, has this value, and its fields are 0
 pub record IsFreshWith (lay : Layout) (c : ℕ) (h : History) (n x : ℕ) : Type 0 where
   pub own : IsOwnNode lay c n
-  pub value_is : value h (node n Value) ≡ x
+  pub value_is : value h (node n (Settled Value)) ≡ x
   pub empty : (side : Side) → value h (child n side) ≡ 0

@@ -2,7 +2,8 @@
 use Rattle.std.specs.Prelude.{◌≡◌, ℕ, true, List, Option, Some, None, slice_get}
 use Rattle.arena.specs.declared.layout.Layout.{Layout}
 use Rattle.arena.specs.declared.step.Row.{Row}
-use Rattle.arena.specs.declared.word.NodeWord.TheVariants.{Key}
+use Rattle.arena.specs.declared.word.NodeWord.TheVariants.{Settled}
+use Rattle.arena.specs.declared.word.SettledPart.TheVariants.{Key}
 use Rattle.arena.specs.History.{History, ◌⊳◌, value, Extends}
 use Rattle.arena.specs.Shape.{IsBegin}
 use Rattle.arena.specs.Words.{node}
@@ -34,7 +35,7 @@ pub record IsFirstLeaf (h : History) (n key : ℕ) : Type 0 where
   pub path : Passed h h 0 n
   pub leaf : is_leaf (value h) n ≡ true
   pub class : class (value h) n ≡ 0
-  pub same_key : value h (node n Key) ≡ key
+  pub same_key : value h (node n (Settled Key)) ≡ key
 
 -- the leaf that the SCX-record covers for its edit suits the call: that of a pop is the first one,
 -- that of a replacement says the value that the call expects

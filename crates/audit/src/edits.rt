@@ -5,7 +5,8 @@ ghost use Rattle.arena.specs.History.{value};
 ghost use Rattle.arena.specs.ScxRecords.{plan, member as member_of, seen as seen_at, new, old};
 ghost use Rattle.arena.specs.Fills.{IsNamed};
 ghost use Rattle.arena.specs.Words.{node as node_of, child as child_of, info, scx as scx_of};
-ghost use Rattle.arena.specs.declared.word.NodeWord.TheVariants.{Head as HeadWord, Key, Value as ValueWord};
+ghost use Rattle.arena.specs.declared.word.NodeWord.TheVariants.{Settled};
+ghost use Rattle.arena.specs.declared.word.SettledPart.TheVariants.{Head as HeadWord, Key, Value as ValueWord};
 ghost use Rattle.arena.specs.declared.word.Side.{Side as SideOf};
 ghost use Rattle.arena.specs.declared.word.Side.TheVariants.{Left, Right};
 ghost use Rattle.ordered_map.specs.Edits.{IsPairLeaf, IsAlike, IsLeafCopy, IsSwap, IsSplit, IsJoin, HasFieldsOf};
@@ -18,7 +19,7 @@ ghost use Rattle.record.specs.MapRecord.{map_call};
 ghost use Rattle.audit.specs.Edits.{IsEditBy, IsFirstLeaf, IsSuited, MayMakeEdit, edit_begun};
 ghost use Rattle.judge.specs.Histories.{seen_history};
 
-use arena::{Head, NodeNo, NodeWord, ScxNo, ScxWord, Side, Word};
+use arena::{Head, NodeNo, NodeWord, ScxNo, ScxWord, SettledPart, Side, Word};
 use judge::Judge;
 use ordered_map::Request;
 use script::Command;
@@ -164,15 +165,15 @@ fn member(judge: &Judge, scx: u64, place: u8) -> u64
 
 /// What a node's head says.
 fn head(judge: &Judge, node: u64) -> Head
-    ensures { result ≡ head_of (value (seen_history judge.now) (node_of node HeadWord)) }
+    ensures { result ≡ head_of (value (seen_history judge.now) (node_of node (Settled HeadWord))) }
 {
-    Head::of(node_word(judge, node, NodeWord::Head))
+    Head::of(node_word(judge, node, NodeWord::Settled(SettledPart::Head)))
 }
 
 fn key_of(judge: &Judge, node: u64) -> u64
-    ensures { result ≡ value (seen_history judge.now) (node_of node Key) }
+    ensures { result ≡ value (seen_history judge.now) (node_of node (Settled Key)) }
 {
-    node_word(judge, node, NodeWord::Key)
+    node_word(judge, node, NodeWord::Settled(SettledPart::Key))
 }
 
 fn child(judge: &Judge, node: u64, side: Side) -> u64
@@ -243,7 +244,7 @@ fn is_pair_leaf(judge: &Judge, node: u64, pair: (u64, u64)) -> bool
     ensures { IsTrue result → IsPairLeaf (value (seen_history judge.now)) node pair.0 pair.1 }
 {
     let Head { leaf, class, .. } = head(judge, node);
-    let value = node_word(judge, node, NodeWord::Value);
+    let value = node_word(judge, node, NodeWord::Settled(SettledPart::Value));
     leaf && class == 0 && (key_of(judge, node), value) == pair
 }
 
@@ -251,8 +252,8 @@ fn is_pair_leaf(judge: &Judge, node: u64, pair: (u64, u64)) -> bool
 fn is_leaf_copy(judge: &Judge, node: u64, leaf: u64) -> bool
     ensures { IsTrue result → IsLeafCopy (value (seen_history judge.now)) node leaf }
 {
-    let same_value = node_word(judge, node, NodeWord::Value)
-        == node_word(judge, leaf, NodeWord::Value);
+    let same_value = node_word(judge, node, NodeWord::Settled(SettledPart::Value))
+        == node_word(judge, leaf, NodeWord::Settled(SettledPart::Value));
     head(judge, node).leaf && are_alike(judge, node, leaf) && same_value
 }
 
@@ -405,7 +406,7 @@ fn is_join(judge: &Judge, scx: u64, side: Side, key: u64) -> bool
 fn is_leaf_of(judge: &Judge, node: u64, key: u64) -> bool
     ensures leaf { IsTrue result → is_leaf (value (seen_history judge.now)) node ≡ true }
     ensures class { IsTrue result → class (value (seen_history judge.now)) node ≡ 0 }
-    ensures key { IsTrue result → value (seen_history judge.now) (node_of node Key) ≡ key }
+    ensures key { IsTrue result → value (seen_history judge.now) (node_of node (Settled Key)) ≡ key }
 {
     head(judge, node).leaf && head(judge, node).class == 0 && key_of(judge, node) == key
 }
@@ -425,13 +426,13 @@ fn are_below(judge: &Judge, scx: u64) -> bool
 
 /// Whether `new` is a copy of the child at a place.
 fn is_copy(judge: &Judge, scx: u64, place: u8) -> bool
-    ensures same_head { IsTrue result → value (seen_history judge.now) (node_of (new (seen_history judge.now) scx) HeadWord) ≡ value
-        (seen_history judge.now) (node_of (member_of (seen_history judge.now) scx place) HeadWord) }
-    ensures same_key { IsTrue result → value (seen_history judge.now) (node_of (new (seen_history judge.now) scx) Key) ≡ value
-        (seen_history judge.now) (node_of (member_of (seen_history judge.now) scx place) Key) }
+    ensures same_head { IsTrue result → value (seen_history judge.now) (node_of (new (seen_history judge.now) scx) (Settled HeadWord)) ≡ value
+        (seen_history judge.now) (node_of (member_of (seen_history judge.now) scx place) (Settled HeadWord)) }
+    ensures same_key { IsTrue result → value (seen_history judge.now) (node_of (new (seen_history judge.now) scx) (Settled Key)) ≡ value
+        (seen_history judge.now) (node_of (member_of (seen_history judge.now) scx place) (Settled Key)) }
     ensures same_value { IsTrue result → is_leaf (value (seen_history judge.now)) (member_of (seen_history judge.now) scx place) ≡ true →
-        value (seen_history judge.now) (node_of (new (seen_history judge.now) scx) ValueWord) ≡ value (seen_history judge.now)
-        (node_of (member_of (seen_history judge.now) scx place) ValueWord) }
+        value (seen_history judge.now) (node_of (new (seen_history judge.now) scx) (Settled ValueWord)) ≡ value (seen_history judge.now)
+        (node_of (member_of (seen_history judge.now) scx place) (Settled ValueWord)) }
     ensures copied { IsTrue result → value (seen_history judge.now) (info (member_of (seen_history judge.now) scx place)) ≡ seen_at
         (seen_history judge.now) scx place → HasFieldsOf (value (seen_history judge.now)) (new (seen_history judge.now) scx)
         (member_of (seen_history judge.now) scx place) }
@@ -440,8 +441,8 @@ fn is_copy(judge: &Judge, scx: u64, place: u8) -> bool
         scx_word(judge, scx, ScxWord::New),
         member(judge, scx, place),
     );
-    let head_of_sibling = node_word(judge, sibling, NodeWord::Head);
-    node_word(judge, new, NodeWord::Head) == head_of_sibling
+    let head_of_sibling = node_word(judge, sibling, NodeWord::Settled(SettledPart::Head));
+    node_word(judge, new, NodeWord::Settled(SettledPart::Head)) == head_of_sibling
         && key_of(judge, new) == key_of(judge, sibling)
         && has_content_of(judge, new, sibling, is_as_seen(judge, scx, place))
 }
@@ -450,11 +451,12 @@ fn is_copy(judge: &Judge, scx: u64, place: u8) -> bool
 /// at.
 fn has_content_of(judge: &Judge, one: u64, other: u64, looked_at: bool) -> bool
     ensures same_value { IsTrue result → is_leaf (value (seen_history judge.now)) other ≡ true →
-        value (seen_history judge.now) (node_of one ValueWord) ≡ value (seen_history judge.now) (node_of other ValueWord) }
+        value (seen_history judge.now) (node_of one (Settled ValueWord)) ≡ value (seen_history judge.now) (node_of other (Settled ValueWord)) }
     ensures copied { IsTrue result → looked_at ≡ true → HasFieldsOf (value (seen_history judge.now)) one other }
 {
     if head(judge, other).leaf {
-        node_word(judge, one, NodeWord::Value) == node_word(judge, other, NodeWord::Value)
+        node_word(judge, one, NodeWord::Settled(SettledPart::Value))
+            == node_word(judge, other, NodeWord::Settled(SettledPart::Value))
     } else {
         !looked_at || has_fields_of(judge, one, other)
     }

@@ -4,13 +4,14 @@ ghost use Rattle.arena.specs.Heads.{head_of};
 ghost use Rattle.arena.specs.History.{◌⊳◌, value};
 ghost use Rattle.arena.specs.Lawful.{IsLawful};
 ghost use Rattle.arena.specs.Words.{node as node_of, child as child_of};
-ghost use Rattle.arena.specs.declared.word.NodeWord.TheVariants.{Head as HeadWord};
+ghost use Rattle.arena.specs.declared.word.NodeWord.TheVariants.{Settled};
+ghost use Rattle.arena.specs.declared.word.SettledPart.TheVariants.{Head as HeadWord};
 ghost use Rattle.arena.specs.declared.word.Side.{Side as SideOf};
 ghost use Rattle.ordered_map.specs.FillOrder.{HasStoodInField, HasRisingLevels};
 ghost use Rattle.ordered_map.specs.TreeWords.{is_leaf, level};
 ghost use Rattle.judge.specs.Histories.{seen_history};
 
-use arena::{Head, NodeNo, NodeWord, Row, Side, Word};
+use arena::{Head, NodeNo, NodeWord, Row, SettledPart, Side, Word};
 use judge::Judge;
 
 /// Whether levels still rise behind a lawful row that is to be made: where it stores a node into a
@@ -24,12 +25,20 @@ pub(crate) fn do_levels_rise(judge: &Judge, row: &Row) -> bool
     }
     match row.word {
         Word::Node(node, NodeWord::Child(_)) => may_hold(judge, node.0, row.after),
-        Word::Node(node, NodeWord::Head) => !stands(judge, node.0),
-        Word::Node(_, NodeWord::Key) => true,
-        Word::Node(_, NodeWord::Value) => true,
+        Word::Node(node, NodeWord::Settled(part)) => may_fill(judge, node.0, part),
         Word::Node(_, NodeWord::Info) => true,
         Word::Node(_, NodeWord::Marked) => true,
         Word::Scx(_, _) => true,
+    }
+}
+
+/// Whether a settled word of a node may be filled: not the head of one that a field has held.
+fn may_fill(judge: &Judge, node: u64, part: SettledPart) -> bool
+    ensures { IsTrue result → part ≡ HeadWord → HasStoodInField (seen_history judge.now) node → ⊥ }
+{
+    match part {
+        SettledPart::Head => !stands(judge, node),
+        _ => true,
     }
 }
 
@@ -53,9 +62,9 @@ fn stands(judge: &Judge, node: u64) -> bool
 }
 
 fn head(judge: &Judge, node: u64) -> Head
-    ensures { result ≡ head_of (value (seen_history judge.now) (node_of node HeadWord)) }
+    ensures { result ≡ head_of (value (seen_history judge.now) (node_of node (Settled HeadWord))) }
 {
-    Head::of(judge.get(Word::Node(NodeNo(node), NodeWord::Head)))
+    Head::of(judge.get(Word::Node(NodeNo(node), NodeWord::Settled(SettledPart::Head))))
 }
 
 /// Whether the level of a fork's child is above its own, if a field has ever held the fork.

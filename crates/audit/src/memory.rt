@@ -5,7 +5,7 @@ ghost use Rattle.audit.specs.declared.memory.Snapshot.{Snapshot as SnapshotOf};
 ghost use Rattle.ordered_map.specs.Tries.{begins_try};
 ghost use Rattle.audit.specs.Remembering.{noted, tried};
 
-use arena::{Kind, NodeNo, NodeWord, Row, Word};
+use arena::{Kind, NodeNo, NodeWord, Row, SettledPart, Word};
 use script::Cell;
 
 /// A snapshot that a client keeps of a cell.
@@ -68,7 +68,7 @@ fn begins_try(row: &Row) -> bool
     ensures { result ≡ begins_try row.now.pass.0 row.now }
 {
     match (row.kind, row.word) {
-        (Kind::LoadSettled, Word::Node(node, NodeWord::Head)) => node.0 == 0,
+        (Kind::LoadSettled, Word::Node(node, NodeWord::Settled(SettledPart::Head))) => node.0 == 0,
         _ => false,
     }
 }

@@ -1,5 +1,5 @@
 //! What the nodes hold at some turn.
-use arena::{Head, Layout, Mode, NodeNo, NodeWord, Side, Word, opening_word};
+use arena::{Head, Layout, Mode, NodeNo, NodeWord, SettledPart, Side, Word, opening_word};
 use std::alloc::{AllocError, Global};
 
 /// What a node holds, but for its info.
@@ -38,9 +38,9 @@ impl ShownNode {
     /// What a word holds from now on.
     fn set(&mut self, part: NodeWord, held: u64) {
         match part {
-            NodeWord::Head => self.head = held,
-            NodeWord::Key => self.key = held,
-            NodeWord::Value => self.value = held,
+            NodeWord::Settled(SettledPart::Head) => self.head = held,
+            NodeWord::Settled(SettledPart::Key) => self.key = held,
+            NodeWord::Settled(SettledPart::Value) => self.value = held,
             NodeWord::Child(Side::Left) => self.left = held,
             NodeWord::Child(Side::Right) => self.right = held,
             NodeWord::Info => {}
@@ -58,7 +58,7 @@ impl NodeTable {
         };
         for number in 0..layout.opening() {
             let node = NodeNo(u64::from(number));
-            table.open(node, NodeWord::Head)?;
+            table.open(node, NodeWord::Settled(SettledPart::Head))?;
             table.open(node, NodeWord::Child(Side::Left))?;
             table.open(node, NodeWord::Child(Side::Right))?;
         }

@@ -5,7 +5,8 @@ use Rattle.std.specs.List.{All}
 use Rattle.std.proofs.lemmas.List.Elements.{All-nil, All-cons, All-head, All-tail, All-append}
 use Rattle.arena.specs.declared.layout.Layout.{Layout}
 use Rattle.arena.specs.declared.word.NodeWord.{NodeWord}
-use Rattle.arena.specs.declared.word.NodeWord.TheVariants.{Head, Key, Value, Child, Info, Marked}
+use Rattle.arena.specs.declared.word.NodeWord.TheVariants.{Settled, Child, Info, Marked}
+use Rattle.arena.specs.declared.word.SettledPart.TheVariants.{Head, Key, Value}
 use Rattle.arena.specs.declared.word.Side.TheVariants.{Left, Right}
 use Rattle.arena.specs.declared.word.Word.{Word}
 use Rattle.arena.specs.Layout.{all_nodes, IsWord}
@@ -35,9 +36,9 @@ still_same from old new u x c i e = go (same_word u x) refl
 
 -- what is the same after some of the five copies of a node's words, is so after all
 pub record AreAllCopied (from w0 w1 w2 w3 w4 w5 : Contents) (n : ℕ) : Type 0 where
-  pub head : IsChanged w0 w1 (node n Head) (word_at from (node n Head))
-  pub key : IsChanged w1 w2 (node n Key) (word_at from (node n Key))
-  pub value : IsChanged w2 w3 (node n Value) (word_at from (node n Value))
+  pub head : IsChanged w0 w1 (node n (Settled Head)) (word_at from (node n (Settled Head)))
+  pub key : IsChanged w1 w2 (node n (Settled Key)) (word_at from (node n (Settled Key)))
+  pub value : IsChanged w2 w3 (node n (Settled Value)) (word_at from (node n (Settled Value)))
   pub left : IsChanged w3 w4 (child n Left) (word_at from (child n Left))
   pub right : IsChanged w4 w5 (child n Right) (word_at from (child n Right))
 
@@ -62,18 +63,18 @@ module _ (from w0 w1 w2 w3 w4 w5 : Contents) (n : ℕ) (c : AreAllCopied from w0
     last_two e = last (still_same from w3 w4 (child n Left) (node m part) c.left (subst (λ (l : Layout). IsWord l (node m part)) (sym lay3) i) e)
 
     last_three : Same from w2 (node m part) → Same from w5 (node m part)
-    last_three e = last_two (still_same from w2 w3 (node n Value) (node m part) c.value (subst (λ (l : Layout). IsWord l (node m part)) (sym lay2) i) e)
+    last_three e = last_two (still_same from w2 w3 (node n (Settled Value)) (node m part) c.value (subst (λ (l : Layout). IsWord l (node m part)) (sym lay2) i) e)
 
     last_four : Same from w1 (node m part) → Same from w5 (node m part)
-    last_four e = last_three (still_same from w1 w2 (node n Key) (node m part) c.key (subst (λ (l : Layout). IsWord l (node m part)) (sym lay1) i) e)
+    last_four e = last_three (still_same from w1 w2 (node n (Settled Key)) (node m part) c.key (subst (λ (l : Layout). IsWord l (node m part)) (sym lay1) i) e)
 
     all_five : Same from w0 (node m part) → Same from w5 (node m part)
-    all_five e = last_four (still_same from w0 w1 (node n Head) (node m part) c.head i e)
+    all_five e = last_four (still_same from w0 w1 (node n (Settled Head)) (node m part) c.head i e)
 
   here : (part : NodeWord) → IsMapWord part → Same from w5 (node n part)
-  here Head i = last_four n Head inside c.head.changed
-  here Key i = last_three n Key inside c.key.changed
-  here Value i = last_two n Value inside c.value.changed
+  here (Settled Head) i = last_four n (Settled Head) inside c.head.changed
+  here (Settled Key) i = last_three n (Settled Key) inside c.key.changed
+  here (Settled Value) i = last_two n (Settled Value) inside c.value.changed
   here (Child Left) i = last n (Child Left) inside c.left.changed
   here (Child Right) i = c.right.changed
   here Info i = absurd i
@@ -98,14 +99,14 @@ module _ (f g : Word → ℕ) (size : ℕ) (same : (n : ℕ) (part : NodeWord) �
 
   shows_same : (t : Tree) (low high : ℕ) → ((n : ℕ) → Has t n → n < size) → Shows f low high t → Shows g low high t
   shows_same (Leaf n) low high inside x =
-      let h : g (node n Head) ≡ f (node n Head) = same n Head (inside n refl) tt in
-      let k : g (node n Key) ≡ f (node n Key) = same n Key (inside n refl) tt in
+      let h : g (node n (Settled Head)) ≡ f (node n (Settled Head)) = same n (Settled Head) (inside n refl) tt in
+      let k : g (node n (Settled Key)) ≡ f (node n (Settled Key)) = same n (Settled Key) (inside n refl) tt in
       record { leaf = rw h x.leaf; small = rw k x.small; from = rw (h, k) x.from; below = rw (h, k) x.below }
   shows_same (Fork n a b) low high inside x =
-      let h : g (node n Head) ≡ f (node n Head) = same n Head (inside n (inl refl)) tt in
-      let k : g (node n Key) ≡ f (node n Key) = same n Key (inside n (inl refl)) tt in
-      let ha : g (node (root a) Head) ≡ f (node (root a) Head) = same (root a) Head (inside (root a) (inr (inl (root_has a)))) tt in
-      let hb : g (node (root b) Head) ≡ f (node (root b) Head) = same (root b) Head (inside (root b) (inr (inr (root_has b)))) tt in
+      let h : g (node n (Settled Head)) ≡ f (node n (Settled Head)) = same n (Settled Head) (inside n (inl refl)) tt in
+      let k : g (node n (Settled Key)) ≡ f (node n (Settled Key)) = same n (Settled Key) (inside n (inl refl)) tt in
+      let ha : g (node (root a) (Settled Head)) ≡ f (node (root a) (Settled Head)) = same (root a) (Settled Head) (inside (root a) (inr (inl (root_has a)))) tt in
+      let hb : g (node (root b) (Settled Head)) ≡ f (node (root b) (Settled Head)) = same (root b) (Settled Head) (inside (root b) (inr (inr (root_has b)))) tt in
       let r : rank g n ≡ rank f n = rw (h, k) refl in
       let over : IsForkOver g n a b = record {
         fork = rw h x.0.fork;
@@ -121,14 +122,14 @@ module _ (f g : Word → ℕ) (size : ℕ) (same : (n : ℕ) (part : NodeWord) �
 
   pairs_same : (t : Tree) → ((n : ℕ) → Has t n → n < size) → pairs g t ≡ pairs f t
   pairs_same (Leaf n) inside =
-      let h : g (node n Head) ≡ f (node n Head) = same n Head (inside n refl) tt in
-      let k : g (node n Key) ≡ f (node n Key) = same n Key (inside n refl) tt in
-      let v : g (node n Value) ≡ f (node n Value) = same n Value (inside n refl) tt in
+      let h : g (node n (Settled Head)) ≡ f (node n (Settled Head)) = same n (Settled Head) (inside n refl) tt in
+      let k : g (node n (Settled Key)) ≡ f (node n (Settled Key)) = same n (Settled Key) (inside n refl) tt in
+      let v : g (node n (Settled Value)) ≡ f (node n (Settled Value)) = same n (Settled Value) (inside n refl) tt in
       rw (h, k, v) refl
   pairs_same (Fork n a b) inside = λ j. pairs_same a (λ m i. inside m (inr (inl i))) j ++ pairs_same b (λ m i. inside m (inr (inr i))) j
 
   class_same : (n v : ℕ) → n < size → class f n ≡ v → class g n ≡ v
-  class_same n v i e = rw (same n Head i tt) e
+  class_same n v i e = rw (same n (Settled Head) i tt) e
 
 -- its leaves are in it
 leaves_in : (P : ℕ → Type 0) (t : Tree) → ((n : ℕ) → Has t n → P n) → All P (leaf_nodes t)

@@ -10,7 +10,8 @@ use Rattle.arena.specs.declared.word.Word.{Word}
 use Rattle.arena.specs.declared.step.Row.{Row}
 use Rattle.arena.specs.Layout.{place, table_size, IsWord}
 use Rattle.arena.specs.Words.{node, same_word, word_after}
-use Rattle.arena.specs.declared.word.NodeWord.TheVariants.{Head}
+use Rattle.arena.specs.declared.word.NodeWord.TheVariants.{Settled}
+use Rattle.arena.specs.declared.word.SettledPart.TheVariants.{Head}
 use Rattle.arena.specs.Lawful.{Lawful}
 use Rattle.arena.specs.Shape.{Shaped}
 use Rattle.arena.specs.History.{History, ◌⊳◌, value}
@@ -88,7 +89,7 @@ module _ (allows : Layout → History → ℕ → Type 0) (lay : Layout) (slots 
 -- A look by the first of two passes
 
 -- it is of a word of the table
-pub head_inside : (lay : Layout) → IsWord lay (node 0 Head)
+pub head_inside : (lay : Layout) → IsWord lay (node 0 (Settled Head))
 head_inside lay = let some = some_open lay.mode in omega arith
 
 -- it may always be made
@@ -99,7 +100,7 @@ look_lawful allows lay h c is_pass run = record {
   shaped = (run.shaped, λ s b. let k = b.kind in cc);
 }
 
-module _ (allows : Layout → History → ℕ → Type 0) (lay : Layout) (slots id : ℕ) (me : Me ℕ SeatView) (at : ℕ) (is : at ≡ place lay (node 0 Head)) (small : at < table_size lay) (apart : (w : Word) → IsWord lay w → place lay w ≡ at → w ≡ node 0 Head) where
+module _ (allows : Layout → History → ℕ → Type 0) (lay : Layout) (slots id : ℕ) (me : Me ℕ SeatView) (at : ℕ) (is : at ≡ place lay (node 0 (Settled Head))) (small : at < table_size lay) (apart : (w : Word) → IsWord lay w → place lay w ≡ at → w ≡ node 0 (Settled Head)) where
   pub looks : (p q : SeatedPass) → me.0.passes ≡ p ∷ q ∷ [] → p.number.0 < lay.passes → Allows (TableIsLawful allows lay) slots id me at (λ n. n) (λ n m. Looked allows me.0.passes m.0.passes × (m.1 ≡ me.1))
   looks p q two is_pass s kept sized seat fits =
       let own : Owns lay kept.run kept.owner id (p ∷ q ∷ []) = subst (λ ps. Owns lay kept.run kept.owner id ps) two (kept.passes id me.0 seat) in
@@ -108,7 +109,7 @@ module _ (allows : Layout → History → ℕ → Type 0) (lay : Layout) (slots 
       let r : Row = row p.number.0 look h in
       let mine : List Row = row p.number.0 look (history_of p.layout.mode run) ∷ run in
       let w : SeatView = seat_view (q ∷ seated_pass p.number.0 p.layout mine ∷ []) in
-      let found : slice_index s.words at ≡ value h (node 0 Head) = ap (slice_index s.words) is ∙ kept.holds (node 0 Head) (head_inside lay) in
+      let found : slice_index s.words at ≡ value h (node 0 (Settled Head)) = ap (slice_index s.words) is ∙ kept.holds (node 0 (Settled Head)) (head_inside lay) in
       let apart_passes : p.number.0 ≢ q.number.0 = λ e. own.3.0 (sym e) in
       let mine_is : mine ≡ r ∷ run = ap (λ (l : Layout). row p.number.0 look (history_of l.mode run) ∷ run) own.1 in (
         w,

@@ -6,7 +6,8 @@ use Rattle.arena.specs.declared.limits.Mode.TheVariants.{Tree}
 use Rattle.arena.specs.declared.number.NodeNo.{NodeNo}
 use Rattle.arena.specs.declared.step.Kind.TheVariants.{LoadSettled}
 use Rattle.arena.specs.declared.step.Step.{Step}
-use Rattle.arena.specs.declared.word.NodeWord.TheVariants.{Head}
+use Rattle.arena.specs.declared.word.NodeWord.TheVariants.{Settled}
+use Rattle.arena.specs.declared.word.SettledPart.TheVariants.{Head}
 use Rattle.arena.specs.History.{History}
 use Rattle.arena.specs.Machines.{Call, IsRun}
 use Rattle.arena.specs.Share.{Remaining}
@@ -82,7 +83,7 @@ module _ {K V : Type 0} (valid_key : K → Type 0) (key : K → ℕ) (valid_valu
 
   -- its machine waits for the head of the root
   pub get_walks : {T : Type 0} (p : Inside T) (x : IsPass allows Tree p) (tries wanted number : ℕ) (layout : Layout) (is_layout : p.layout ≡ layout) (is_number : taken_of (pass_view p) ≡ number) → wanted < 2 ^ 64
-      → WalkerWaits (walker p.share tries wanted (call_of p x (taken_of (pass_view p))) layout number is_layout is_number) p.seat.me.0.passes (walk_from (ToKey wanted)) record { 0 = 0 } (load LoadSettled (node 0 Head))
+      → WalkerWaits (walker p.share tries wanted (call_of p x (taken_of (pass_view p))) layout number is_layout is_number) p.seat.me.0.passes (walk_from (ToKey wanted)) record { 0 = 0 } (load LoadSettled (node 0 (Settled Head)))
   unfolding walker
   get_walks p x tries wanted number layout is_layout is_number small =
       let first : DictRun K V = getting p.share tries wanted (walk_at (ToKey wanted) root_trail Start) in

@@ -9,7 +9,8 @@ use Rattle.arena.specs.declared.number.NodeNo.{NodeNo}
 use Rattle.arena.specs.declared.number.ScxNo.{ScxNo}
 use Rattle.arena.specs.declared.step.Kind.TheVariants.{LoadInfo, LoadMarked, LoadSettled, LoadState}
 use Rattle.arena.specs.declared.step.Step.{Step}
-use Rattle.arena.specs.declared.word.NodeWord.TheVariants.{Head as HeadWord}
+use Rattle.arena.specs.declared.word.NodeWord.TheVariants.{Settled}
+use Rattle.arena.specs.declared.word.SettledPart.TheVariants.{Head as HeadWord}
 use Rattle.arena.specs.declared.word.Side.{Side}
 use Rattle.arena.specs.declared.word.Side.TheVariants.{Left}
 use Rattle.arena.specs.Heads.{head_of}
@@ -256,7 +257,7 @@ module _ {M : Type 0} {o : Calls M} (r : SuccessorReader o) where
     }
 
     -- it begins its walk, with no snapshot
-    pub walks : (ps : List SeatedPass) (old : SuccessorRun) → m.key ≡ old.key → m.limit ≡ old.limit → m.tries ≡ old.tries → m.snaps.items ≡ [] → SearchBegins r ps old → WalkerWaits walker ps (walk_from (ToKey m.key)) record { 0 = 0 } (load LoadSettled (node 0 HeadWord))
+    pub walks : (ps : List SeatedPass) (old : SuccessorRun) → m.key ≡ old.key → m.limit ≡ old.limit → m.tries ≡ old.tries → m.snaps.items ≡ [] → SearchBegins r ps old → WalkerWaits walker ps (walk_from (ToKey m.key)) record { 0 = 0 } (load LoadSettled (node 0 (Settled HeadWord)))
     unfolding walker
     walks ps old key limit tries none x = record {
       known = x.known;
@@ -271,7 +272,7 @@ module _ {M : Type 0} {o : Calls M} (r : SuccessorReader o) where
         is : IsSameSuccessor old m
         is = (key, limit, omega (arith, tries), omega (arith, tries))
 
-        waiting : (h : History) → SuccessorIsReady old r.call h None → SuccessorWaits (walking (walk_from (ToKey m.key)) record { 0 = 0 }) r.call h (load LoadSettled (node 0 HeadWord))
+        waiting : (h : History) → SuccessorIsReady old r.call h None → SuccessorWaits (walking (walk_from (ToKey m.key)) record { 0 = 0 }) r.call h (load LoadSettled (node 0 (Settled HeadWord)))
         waiting h y =
             let g = y.0 in
             let small : m.key < 2 ^ 64 = rw key g.small in (

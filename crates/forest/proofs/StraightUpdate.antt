@@ -7,7 +7,8 @@ use Rattle.arena.specs.declared.machine.Turn.{Turn}
 use Rattle.arena.specs.declared.machine.Turn.TheVariants.{Ask, Done}
 use Rattle.arena.specs.declared.number.NodeNo.{NodeNo}
 use Rattle.arena.specs.declared.step.Kind.TheVariants.{LoadMarked, LoadSettled, LoadState}
-use Rattle.arena.specs.declared.word.NodeWord.TheVariants.{Head, Key, Value, Child}
+use Rattle.arena.specs.declared.word.NodeWord.TheVariants.{Settled, Child}
+use Rattle.arena.specs.declared.word.SettledPart.TheVariants.{Head, Key, Value}
 use Rattle.arena.specs.declared.word.Side.TheVariants.{Right}
 use Rattle.arena.specs.declared.step.Access.TheVariants.{Store}
 use Rattle.arena.specs.declared.step.Kind.TheVariants.{Fill as FillKind}
@@ -155,7 +156,7 @@ module _ {M E : Type 0} {o : Calls M} {e : EditMeaning E} (u : Updater o e) wher
   }
 
   -- an update that may begin begins its walk
-  pub walks : (ps : List SeatedPass) {A : Type 0} (m : UpdateRun E A) (goal : Goal) → goal ≡ e.goal m.edit → UpdaterBegins u ps m → WalkerWaits (walker m) ps (walk_from goal) record { 0 = 0 } (load LoadSettled (node 0 Head))
+  pub walks : (ps : List SeatedPass) {A : Type 0} (m : UpdateRun E A) (goal : Goal) → goal ≡ e.goal m.edit → UpdaterBegins u ps m → WalkerWaits (walker m) ps (walk_from goal) record { 0 = 0 } (load LoadSettled (node 0 (Settled Head)))
   unfolding walker
   walks ps m goal is_goal x = record {
     known = x.known;
@@ -167,7 +168,7 @@ module _ {M E : Type 0} {o : Calls M} {e : EditMeaning E} (u : Updater o e) wher
     );
   }
     where
-      waiting : (h : History) → UpdateIsReady e (standing m Start) u.call h None → UpdateWaits e (walking m (walk_from goal)) u.call h (load LoadSettled (node 0 Head))
+      waiting : (h : History) → UpdateIsReady e (standing m Start) u.call h None → UpdateWaits e (walking m (walk_from goal)) u.call h (load LoadSettled (node 0 (Settled Head)))
       waiting h r =
           let b = r.0 in (
             h,
@@ -399,11 +400,11 @@ module _ {M E : Type 0} {o : Calls M} {e : EditMeaning E} (u : Updater o e) wher
   filling m f nth part = standing m (Fill f nth part)
 
   -- an update whose try fills a node waits for the first fill
-  pub begins_fill : (ps : List SeatedPass) {A : Type 0} (m : UpdateRun E A) (f : Found) (nth : Nth) (p : Piece) (n : NodeNo) (v : ℕ) → p ≡ e.pieces m.edit f m.snaps.items m.nodes m.loaded nth → n ≡ nth_node m.nodes nth → v ≡ word_of p Head → UpdaterTries u ps m f (FillNext nth) → HostedWaits u ps (filling m f nth Head) record { kind = FillKind; word = NodeOf n Head; access = Store v }
-  begins_fill ps m f nth p n v is_p is_n is_v x = subst (λ s. HostedWaits u ps (filling m f nth Head) s) asked x
+  pub begins_fill : (ps : List SeatedPass) {A : Type 0} (m : UpdateRun E A) (f : Found) (nth : Nth) (p : Piece) (n : NodeNo) (v : ℕ) → p ≡ e.pieces m.edit f m.snaps.items m.nodes m.loaded nth → n ≡ nth_node m.nodes nth → v ≡ word_of p (Settled Head) → UpdaterTries u ps m f (FillNext nth) → HostedWaits u ps (filling m f nth (Settled Head)) record { kind = FillKind; word = NodeOf n (Settled Head); access = Store v }
+  begins_fill ps m f nth p n v is_p is_n is_v x = subst (λ s. HostedWaits u ps (filling m f nth (Settled Head)) s) asked x
     where
-      asked : next_step e m f (FillNext nth) ≡ record { kind = FillKind; word = NodeOf n Head; access = Store v }
-      asked i = record { kind = FillKind; word = NodeOf (sym is_n i) Head; access = Store (sym (is_v ∙ ap (λ q. word_of q Head) is_p) i) }
+      asked : next_step e m f (FillNext nth) ≡ record { kind = FillKind; word = NodeOf n (Settled Head); access = Store v }
+      asked i = record { kind = FillKind; word = NodeOf (sym is_n i) (Settled Head); access = Store (sym (is_v ∙ ap (λ q. word_of q (Settled Head)) is_p) i) }
 
   -- behind a fill that is not a node's last it waits for the next
   pub fills_on : (ps : List SeatedPass) {A : Type 0} (m : UpdateRun E A) (f : Found) (nth : Nth) (part next : NodeWord) (told : ℕ) (p : Piece) (n : NodeNo) (v : ℕ) → FillsWell e → part_behind p part ≡ Some next → p ≡ e.pieces m.edit f m.snaps.items m.nodes m.loaded nth → n ≡ nth_node m.nodes nth → v ≡ word_of p next → HostedIsTold u ps (filling m f nth part) told → HostedWaits u ps (filling m f nth next) record { kind = FillKind; word = NodeOf n next; access = Store v }
@@ -555,21 +556,21 @@ load_steps now old left tries works a b = omega (arith, a, b)
 pub load_nearer : (left tries works : ℕ) → left < tries + (works + 39) → suc left < suc (tries + (works + 39))
 load_nearer left tries works b = omega (arith, b)
 
-pub head_next : (p : Piece) → part_behind p Head ≡ Some Key
+pub head_next : (p : Piece) → part_behind p (Settled Head) ≡ Some (Settled Key)
 head_next (Leaf level class key v) = refl
 head_next (Fork level class key l r) = refl
 
 module _ {E : Type 0} (e : EditMeaning E) {A : Type 0} (m : UpdateRun E A) (f : Found) (nth : Nth) (p : Piece) (said : p ≡ e.pieces m.edit f m.snaps.items m.nodes m.loaded nth) where
   -- a leaf has two words behind its head, a fork three
-  pub leaf_fewer : (level class key v : ℕ) → p ≡ Leaf level class key v → fills_left e m f nth Head ≡ 2 + works_after e nth
-  leaf_fewer level class key v is = ap (λ q. fills_behind q Head + works_after e nth) (sym said ∙ is)
+  pub leaf_fewer : (level class key v : ℕ) → p ≡ Leaf level class key v → fills_left e m f nth (Settled Head) ≡ 2 + works_after e nth
+  leaf_fewer level class key v is = ap (λ q. fills_behind q (Settled Head) + works_after e nth) (sym said ∙ is)
 
-  pub fork_fewer : (level class key : ℕ) (l r : NodeNo) → p ≡ Fork level class key l r → fills_left e m f nth Head ≡ 3 + works_after e nth
-  fork_fewer level class key l r is = ap (λ q. fills_behind q Head + works_after e nth) (sym said ∙ is)
+  pub fork_fewer : (level class key : ℕ) (l r : NodeNo) → p ≡ Fork level class key l r → fills_left e m f nth (Settled Head) ≡ 3 + works_after e nth
+  fork_fewer level class key l r is = ap (λ q. fills_behind q (Settled Head) + works_after e nth) (sym said ∙ is)
 
   -- and none behind its last
-  pub leaf_ends : (level class key v : ℕ) → p ≡ Leaf level class key v → part_behind (e.pieces m.edit f m.snaps.items m.nodes m.loaded nth) Value ≡ None
-  leaf_ends level class key v is = ap (λ q. part_behind q Value) (sym said ∙ is)
+  pub leaf_ends : (level class key v : ℕ) → p ≡ Leaf level class key v → part_behind (e.pieces m.edit f m.snaps.items m.nodes m.loaded nth) (Settled Value) ≡ None
+  leaf_ends level class key v is = ap (λ q. part_behind q (Settled Value)) (sym said ∙ is)
 
   pub fork_ends : (level class key : ℕ) (l r : NodeNo) → p ≡ Fork level class key l r → part_behind (e.pieces m.edit f m.snaps.items m.nodes m.loaded nth) (Child Right) ≡ None
   fork_ends level class key l r is = ap (λ q. part_behind q (Child Right)) (sym said ∙ is)

@@ -8,7 +8,8 @@ use Rattle.arena.specs.declared.step.Kind.TheVariants.{Freeze, LoadInfo, LoadSet
 use Rattle.arena.specs.Share.{Remaining, whole_share, HasScx, IsFull}
 use Rattle.arena.specs.declared.number.NodeNo.{NodeNo}
 use Rattle.arena.specs.declared.word.Side.{Side}
-use Rattle.arena.specs.declared.word.NodeWord.TheVariants.{Head, Value}
+use Rattle.arena.specs.declared.word.NodeWord.TheVariants.{Settled}
+use Rattle.arena.specs.declared.word.SettledPart.TheVariants.{Head, Value}
 use Rattle.arena.specs.declared.word.Word.{Word}
 use Rattle.arena.specs.Layout.{all_nodes, IsWord}
 use Rattle.arena.specs.Machines.{IsRun}
@@ -109,7 +110,7 @@ AreOfCall c number = HoldsOfOwn (λ r. r.call ≡ number) c
 
 -- the row is a look at the table: it loads the head of node 0, and is of no call (its number is 0)
 abbrev pub IsLook : Row → Type 0
-IsLook r = (r.call ≡ 0) × (r.kind ≡ LoadSettled) × (r.word ≡ node_word 0 Head)
+IsLook r = (r.call ≡ 0) × (r.kind ≡ LoadSettled) × (r.word ≡ node_word 0 (Settled Head))
 
 -- the pass may use the snapshot: it has a moment, and what it says of its node
 -- holds as long as the node's info is what it found
@@ -273,7 +274,7 @@ pub record IsDoneCall (old new : PassView) (snaps : List Snap) (finalize : List 
   pub side : e.side ≡ field.1
   pub fresh : e.new ≡ old.share.next_node
   -- just before it the fresh node had its value, and 0 in its two fields
-  pub has_value : value before (node_word e.new Value) ≡ value_of_cell
+  pub has_value : value before (node_word e.new (Settled Value)) ≡ value_of_cell
   pub empty_fields : (side : Side) → value before (child e.new side) ≡ 0
   -- just before it each node was as its snapshot found it
   pub found : (i : ℕ) → i < length snaps → IsAsFound new.layout (run_of new) before (snap_at snaps i)

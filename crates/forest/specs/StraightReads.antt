@@ -4,7 +4,8 @@ use Rattle.std.specs.Global.{Global}
 use Rattle.std.specs.Prelude.{ℕ, suc, List, Option, Result, Ok, Err, Vec}
 use Rattle.arena.specs.declared.step.Step.{Step}
 use Rattle.arena.specs.declared.step.Kind.TheVariants.{LoadSettled}
-use Rattle.arena.specs.declared.word.NodeWord.TheVariants.{Head as HeadWord}
+use Rattle.arena.specs.declared.word.NodeWord.TheVariants.{Settled}
+use Rattle.arena.specs.declared.word.SettledPart.TheVariants.{Head as HeadWord}
 use Rattle.arena.specs.Words.{node}
 use Rattle.prims.specs.Llx.Known.{load}
 use Rattle.order.specs.Range.Known.{IsSameRange, RangeAnswers, RangeIsReady, RangeWaits}
@@ -75,7 +76,7 @@ module _ {M : Type 0} {o : Calls M} (r : RangeReader o) (ps : List SeatedPass) w
 
   -- its range has begun a try, with the load of the root's head
   abbrev pub VisitRoots : RangeRun → Type 0
-  VisitRoots m = HostedWaits r ps m (load LoadSettled (node 0 HeadWord))
+  VisitRoots m = HostedWaits r ps m (load LoadSettled (node 0 (Settled HeadWord)))
 
   -- its range has begun what comes next
   abbrev pub VisitWaits : RangeRun → RangeNext → Type 0

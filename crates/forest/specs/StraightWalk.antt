@@ -5,7 +5,8 @@ use Rattle.arena.specs.declared.step.Step.{Step}
 use Rattle.arena.specs.History.{History}
 use Rattle.arena.specs.Machines.{Call}
 use Rattle.arena.specs.declared.step.Kind.TheVariants.{LoadChild, LoadSettled}
-use Rattle.arena.specs.declared.word.NodeWord.TheVariants.{Head as HeadWord}
+use Rattle.arena.specs.declared.word.NodeWord.TheVariants.{Settled}
+use Rattle.arena.specs.declared.word.SettledPart.TheVariants.{Head as HeadWord}
 use Rattle.arena.specs.declared.word.Side.{Side}
 use Rattle.arena.specs.Words.{child, node}
 use Rattle.prims.specs.Llx.Known.{load}
@@ -52,7 +53,7 @@ module _ {M : Type 0} {o : Calls M} (w : Walker o) (ps : List SeatedPass) where
 
   -- its walk to this goal waits for the head of the root, with which it begins
   abbrev pub WalksFromRoot : Goal → Type 0
-  WalksFromRoot goal = WalkerWaits (walk_from goal) record { 0 = 0 } (load LoadSettled (node 0 HeadWord))
+  WalksFromRoot goal = WalkerWaits (walk_from goal) record { 0 = 0 } (load LoadSettled (node 0 (Settled HeadWord)))
 
   -- the last step of its walk to a goal has told what makes this leaf the one that it has found,
   -- and this fork is the last where it has turned left

@@ -6,7 +6,8 @@ use Rattle.atomic_table.specs.Seated.{TableId}
 use Rattle.atomic_table.specs.Table.{State}
 use Rattle.arena.specs.declared.limits.Mode.{Mode}
 use Rattle.arena.specs.declared.layout.Layout.{Layout}
-use Rattle.arena.specs.declared.word.NodeWord.TheVariants.{Head}
+use Rattle.arena.specs.declared.word.NodeWord.TheVariants.{Settled}
+use Rattle.arena.specs.declared.word.SettledPart.TheVariants.{Head}
 use Rattle.arena.specs.declared.word.Word.{Word}
 use Rattle.arena.specs.declared.step.Kind.TheVariants.{LoadSettled}
 use Rattle.arena.specs.declared.step.Access.TheVariants.{Load}
@@ -90,7 +91,7 @@ pub record Made (allows : Layout → History → ℕ → Type 0) (said : Asked) 
 
 -- a look at the table: a load of the head of node 0, which is of no call
 abbrev pub look : Asked
-look = record { call = 0; step = record { kind = LoadSettled; word = node 0 Head; access = Load } }
+look = record { call = 0; step = record { kind = LoadSettled; word = node 0 (Settled Head); access = Load } }
 
 -- the first of two passes of a seat has looked at the table behind a run of which both knew a
 -- beginning, and stands behind the other now

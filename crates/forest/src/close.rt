@@ -23,7 +23,8 @@ use crate::rule::Asked;
 use crate::view::SeatView;
 use crate::words::Words;
 use arena::{
-    Access, Kind, Layout, NoMemory, NodeNo, NodeWord, PlainWords, Shape, Side, Step, Word,
+    Access, Kind, Layout, NoMemory, NodeNo, NodeWord, PlainWords, SettledPart, Shape, Side, Step,
+    Word,
 };
 use atomic_table::Seat;
 use dict::{Dict, WordKey, WordValue, pairs_of};
@@ -109,19 +110,20 @@ impl<S: Shape> Closed<S> {
         ensures layout { words.new.layout ≡ self.now.layout }
         ensures copied { AreCopied self.now words.new (node.0 + 1) }
     {
-        self.copy(words, Word::Node(node, NodeWord::Head));
-        self.copy(words, Word::Node(node, NodeWord::Key));
-        self.copy(words, Word::Node(node, NodeWord::Value));
-        self.copy(words, Word::Node(node, NodeWord::Child(Side::Left)));
-        self.copy(words, Word::Node(node, NodeWord::Child(Side::Right)));
+        self.copy(words, node, NodeWord::Settled(SettledPart::Head));
+        self.copy(words, node, NodeWord::Settled(SettledPart::Key));
+        self.copy(words, node, NodeWord::Settled(SettledPart::Value));
+        self.copy(words, node, NodeWord::Child(Side::Left));
+        self.copy(words, node, NodeWord::Child(Side::Right));
     }
 
-    /// Copies a word.
-    fn copy(&self, words: &mut PlainWords, word: Word)
-        requires inside { IsWord self.now.layout word }
+    /// Copies a word of a node.
+    fn copy(&self, words: &mut PlainWords, node: NodeNo, part: NodeWord)
+        requires inside { IsWord self.now.layout (Word.Node node part) }
         requires layout { words.old.layout ≡ self.now.layout }
-        ensures { IsChanged words.old words.new word (word_at self.now word) }
+        ensures { IsChanged words.old words.new (Word.Node node part) (word_at self.now (Word.Node node part)) }
     {
+        let word = Word::Node(node, part);
         let access = Access::Store(self.word(word));
         words.apply(Step {
             kind: Kind::Fill,
@@ -205,7 +207,7 @@ fn seat_of<S: Shape>(words: &Words<S>, layout: &Layout, pass: Pass<S>) -> Seat<u
     let mut seat = seat;
     let step = Step {
         kind: Kind::LoadSettled,
-        word: Word::Node(NodeNo(0), NodeWord::Head),
+        word: Word::Node(NodeNo(0), NodeWord::Settled(SettledPart::Head)),
         access: Access::Load,
     };
     let asked = Asked { call: 0, step };

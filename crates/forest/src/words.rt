@@ -12,7 +12,7 @@ ghost use Rattle.forest.specs.TableRule.{IsTableOf, TableIsLawful, MayStep, Made
 
 use crate::rule::{Asked, Both, Deal, Lawful, Looks, Makes, Says};
 use crate::view::SeatView;
-use arena::{Access, Layout, NoMemory, NodeNo, NodeWord, PlainWords, Shape, Word};
+use arena::{Access, Layout, NoMemory, NodeNo, NodeWord, PlainWords, SettledPart, Shape, Word};
 use atomic_table::{Closed, Seat, Table};
 use std::alloc::Global;
 
@@ -76,7 +76,7 @@ impl<S: Shape> Words<S> {
         ensures table { StaysAtTable seat.old seat.new }
         ensures looked { Looked S.allows seat.old.me.0.passes seat.new.me.0.passes }
     {
-        let head = Word::Node(NodeNo(0), NodeWord::Head);
+        let head = Word::Node(NodeNo(0), NodeWord::Settled(SettledPart::Head));
         let at = layout.place(head);
         self.table.shared.load::<Looks<S>>(seat, at);
     }

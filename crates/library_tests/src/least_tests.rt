@@ -1,7 +1,8 @@
 //! Walks to the least key, and pops of the first pair.
 
 use crate::same::same;
-use arena::NodeWord::{Child, Head, Key, Value};
+use arena::NodeWord::{Child, Settled};
+use arena::SettledPart::{Head, Key, Value};
 use arena::Side::Left;
 use arena::{
     Access, Kind, Limits, Machine, Mode, NodeNo, NodeWord, PassNo, PlainWords, Share, Step, Turn,
@@ -99,15 +100,15 @@ fn a_walk_to_the_least_key_loads_no_key_of_a_fork(rt: HostRuntime) -> Result<(),
     two_pairs(&rt, &mut table);
     // fork 8 has the key 9, over leaf 7 of the key 5
     let loads = [
-        (0, Head),
+        (0, Settled(Head)),
         (0, Child(Left)),
-        (5, Head),
+        (5, Settled(Head)),
         (5, Child(Left)),
-        (8, Head),
+        (8, Settled(Head)),
         (8, Child(Left)),
-        (7, Head),
-        (7, Key),
-        (7, Value),
+        (7, Settled(Head)),
+        (7, Settled(Key)),
+        (7, Settled(Value)),
     ];
     let mut walk = WalkRun::new(Goal::Least);
     let mut got = None;

@@ -1,5 +1,6 @@
 use crate::same::same;
-use arena::NodeWord::{Child, Head, Key, Value};
+use arena::NodeWord::{Child, Settled};
+use arena::SettledPart::{Head, Key, Value};
 use arena::Side::{Left, Right};
 use arena::{Access, Kind, Limits, Mode, NodeNo, NodeWord, PlainWords, Step, Word};
 use ordered_map::{Pair, laws_hold, map_laws_hold, spelled};
@@ -42,9 +43,9 @@ fn fork(number: u64, level: u32, class: u32, key: u64, below: (u64, u64)) -> Nod
 
 fn write(table: &mut PlainWords, node: &Node) {
     let words = [
-        (Head, node.head),
-        (Key, node.key),
-        (Value, node.value),
+        (Settled(Head), node.head),
+        (Settled(Key), node.key),
+        (Settled(Value), node.value),
         (Child(Left), node.left),
         (Child(Right), node.right),
     ];

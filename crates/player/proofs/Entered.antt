@@ -3,7 +3,8 @@
 use Rattle.std.proofs.Common.{◌≡◌, ◌≢◌, ℕ, zero, suc, ◌<◌, inl, ⊎_elim, Bool, true, false, cond, eqb, eqb-true, eq-eqb, ◌↔◌, List, [], ◌∷◌, length, Option, Some, None, refl, sym, ◌∙◌, ap, subst, arith}
 use Rattle.std.specs.List.{Contains}
 use Rattle.arena.specs.declared.step.Row.{Row}
-use Rattle.arena.specs.declared.word.NodeWord.TheVariants.{Value}
+use Rattle.arena.specs.declared.word.NodeWord.TheVariants.{Settled}
+use Rattle.arena.specs.declared.word.SettledPart.TheVariants.{Value}
 use Rattle.arena.specs.declared.word.ScxWord.TheVariants.{Call as CallWord}
 use Rattle.arena.specs.declared.word.Side.{Side}
 use Rattle.arena.specs.Words.{node, scx, child}
@@ -164,7 +165,7 @@ module _ (lay : Layout) (before : History) (s : ℕ) where
 record IsOfPut (v : ClientView) (c : Client) (row : Row) (m : PutRun) (start : History) (is_pass : c.pass.0 < v.layout.passes) : Type 0 where
   at : IsEntryAt (machine_call v c is_pass start) (row ⊳ v.past) m.scx row v.past
   fresh : IsOwnNode v.layout c.pass.0 m.scx.update.fresh.0
-  value_is : value v.past (node m.scx.update.fresh.0 Value) ≡ m.value
+  value_is : value v.past (node m.scx.update.fresh.0 (Settled Value)) ≡ m.value
   empty_fields : (side : Side) → value v.past (child m.scx.update.fresh.0 side) ≡ 0
   called : value v.past (scx m.scx.scx.0 CallWord) ≡ m.scx.call
 

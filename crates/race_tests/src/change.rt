@@ -2,7 +2,9 @@
 ghost use Rattle.std.specs.Prelude.{◌<◌};
 
 use crate::random::Random;
-use arena::{Full, Kind, NodeNo, NodeWord, PassNo, Resource, ScxNo, ScxWord, Side, Word};
+use arena::{
+    Full, Kind, NodeNo, NodeWord, PassNo, Resource, ScxNo, ScxWord, SettledPart, Side, Word,
+};
 use ordered_map::Reply;
 use record::{Answer, Entry, Finished, Line, Record, Row};
 use std::alloc::{AllocError, Global};
@@ -115,9 +117,9 @@ fn other_kind(random: &mut Random) -> Kind {
 
 fn other_node_word(random: &mut Random) -> NodeWord {
     match random.below(7) {
-        0 => NodeWord::Head,
-        1 => NodeWord::Key,
-        2 => NodeWord::Value,
+        0 => NodeWord::Settled(SettledPart::Head),
+        1 => NodeWord::Settled(SettledPart::Key),
+        2 => NodeWord::Settled(SettledPart::Value),
         3 => NodeWord::Child(Side::Left),
         4 => NodeWord::Child(Side::Right),
         5 => NodeWord::Info,

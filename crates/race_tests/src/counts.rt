@@ -1,6 +1,6 @@
 //! How often answers occur in records.
 use crate::call::MapCall;
-use arena::{NodeNo, NodeWord, Word};
+use arena::{NodeNo, NodeWord, SettledPart, Word};
 use ordered_map::{Reply, Request};
 use record::{Answer, Finished, Line, Record, Row};
 
@@ -143,7 +143,7 @@ fn tries(record: &Record, reply: &Finished) -> u64 {
 fn begins_try(line: &Line, reply: &Finished) -> bool {
     match line {
         Line::Step(Row::Step { number: _, row }) => {
-            let word = Word::Node(NodeNo(0), NodeWord::Head);
+            let word = Word::Node(NodeNo(0), NodeWord::Settled(SettledPart::Head));
             row.pass == reply.client && row.call == reply.call && row.word == word
         }
         _ => false,

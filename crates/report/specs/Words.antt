@@ -3,7 +3,8 @@ use Rattle.std.specs.Prelude.{ℕ, ◌<◌, ◌^◌, List, ◌++◌, codes, deci
 use Rattle.arena.specs.Words.{IsScxWord}
 use Rattle.arena.specs.declared.word.Side.TheVariants.{Left, Right}
 use Rattle.arena.specs.declared.word.NodeWord.{NodeWord}
-use Rattle.arena.specs.declared.word.NodeWord.TheVariants.{Head, Key, Value, Child, Info, Marked}
+use Rattle.arena.specs.declared.word.NodeWord.TheVariants.{Settled, Child, Info, Marked}
+use Rattle.arena.specs.declared.word.SettledPart.TheVariants.{Head, Key, Value}
 use Rattle.arena.specs.declared.word.ScxWord.{ScxWord}
 use Rattle.arena.specs.declared.word.ScxWord.TheVariants.{State, AllFrozen, Plan, New, Old, Member, Seen, Call}
 use Rattle.arena.specs.declared.word.Word.{Word}
@@ -11,9 +12,9 @@ use Rattle.arena.specs.declared.word.Word.TheVariants.{Node, Scx}
 
 -- a word's name within its node
 abbrev pub node_part : NodeWord → List ℕ
-node_part Head = codes "head"
-node_part Key = codes "key"
-node_part Value = codes "value"
+node_part (Settled Head) = codes "head"
+node_part (Settled Key) = codes "key"
+node_part (Settled Value) = codes "value"
 node_part (Child Left) = codes "left"
 node_part (Child Right) = codes "right"
 node_part Info = codes "info"

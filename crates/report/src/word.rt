@@ -8,7 +8,7 @@ ghost use Rattle.report.specs.Words.{IsSpelled, node_part, scx_part, word_text};
 ghost use Rattle.texts.specs.Sheets.{IsPlain, sheet_room, sheet_text};
 
 use crate::name::{node_of, scx_of};
-use arena::{NodeWord, ScxWord, Side, Word};
+use arena::{NodeWord, ScxWord, SettledPart, Side, Word};
 use std::alloc::{AllocError, Global};
 use texts::Sheet;
 
@@ -89,9 +89,9 @@ fn node_part(part: NodeWord) -> &'static str
     ensures short { length result.now ≤ 6 }
 {
     match part {
-        NodeWord::Head => "head",
-        NodeWord::Key => "key",
-        NodeWord::Value => "value",
+        NodeWord::Settled(SettledPart::Head) => "head",
+        NodeWord::Settled(SettledPart::Key) => "key",
+        NodeWord::Settled(SettledPart::Value) => "value",
         NodeWord::Child(Side::Left) => "left",
         NodeWord::Child(Side::Right) => "right",
         NodeWord::Info => "info",
@@ -114,9 +114,9 @@ fn node_part_of(name: &str) -> Option<NodeWord>
     ensures { MatchOption result ((part : NodeWordOf) → name.now ≢ node_part part) (λ part. name.now ≡ node_part part) }
 {
     match name {
-        "head" => Some(NodeWord::Head),
-        "key" => Some(NodeWord::Key),
-        "value" => Some(NodeWord::Value),
+        "head" => Some(NodeWord::Settled(SettledPart::Head)),
+        "key" => Some(NodeWord::Settled(SettledPart::Key)),
+        "value" => Some(NodeWord::Settled(SettledPart::Value)),
         "info" => Some(NodeWord::Info),
         "marked" => Some(NodeWord::Marked),
         "left" => Some(NodeWord::Child(Side::Left)),

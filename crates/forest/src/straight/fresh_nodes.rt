@@ -11,7 +11,9 @@ ghost use Rattle.edits.specs.declared.update.Next.{Next};
 use crate::straight::step::step;
 use crate::view::SeatView;
 use crate::words::Words;
-use arena::{Access, Kind, Layout, Machine, NodeNo, NodeWord, Shape, Side, Step, Word};
+use arena::{
+    Access, Kind, Layout, Machine, NodeNo, NodeWord, SettledPart, Shape, Side, Step, Word,
+};
 use atomic_table::Seat;
 use edits::{Edit, Next, Nth, Piece, Stop, UpdateRun};
 use template::Found;
@@ -98,12 +100,15 @@ pub(crate) fn fill_node<S: Shape, M: Machine<S>, E: Edit + Copy>(
     let snaps = run.snaps.as_slice();
     let piece = run.edit.piece(found, snaps, &run.nodes, &run.loaded, nth);
     let node = run.nodes.at(nth);
-    let (head, key) = (piece.word(NodeWord::Head), piece.word(NodeWord::Key));
-    fill::<S, M>(words, layout, seat, number, node, NodeWord::Head, head);
-    fill::<S, M>(words, layout, seat, number, node, NodeWord::Key, key);
+    let first = NodeWord::Settled(SettledPart::Head);
+    let second = NodeWord::Settled(SettledPart::Key);
+    let (head, key) = (piece.word(first), piece.word(second));
+    fill::<S, M>(words, layout, seat, number, node, first, head);
+    fill::<S, M>(words, layout, seat, number, node, second, key);
     match piece {
         Piece::Leaf { value, .. } => {
-            fill::<S, M>(words, layout, seat, number, node, NodeWord::Value, value);
+            let part = NodeWord::Settled(SettledPart::Value);
+            fill::<S, M>(words, layout, seat, number, node, part, value);
             run.filled(found, nth)
         }
         Piece::Fork { left, right, .. } => {

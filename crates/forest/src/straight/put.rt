@@ -14,7 +14,8 @@ use crate::straight::step::step;
 use crate::view::SeatView;
 use crate::words::Words;
 use arena::{
-    Access, Kind, Layout, NodeNo, NodeWord, Plan, ScxNo, ScxWord, Shape, Step, Turn, Word,
+    Access, Kind, Layout, NodeNo, NodeWord, Plan, ScxNo, ScxWord, SettledPart, Shape, Step, Turn,
+    Word,
 };
 use atomic_table::Seat;
 use help::HelpRun;
@@ -79,7 +80,7 @@ fn fill_value<S: Shape>(
 {
     let asked = Step {
         kind: Kind::Fill,
-        word: Word::Node(put.fresh, NodeWord::Value),
+        word: Word::Node(put.fresh, NodeWord::Settled(SettledPart::Value)),
         access: Access::Store(put.value),
     };
     step::<S, PutRun>(words, layout, seat, number, asked);

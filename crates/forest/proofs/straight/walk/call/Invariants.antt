@@ -1,6 +1,7 @@
 use Rattle.std.proofs.Common.{◌≡◌, ◌+◌, ◌*◌, ◌≤◌, suc}
 use Rattle.arena.specs.declared.step.Kind.TheVariants.{LoadSettled}
-use Rattle.arena.specs.declared.word.NodeWord.TheVariants.{Head}
+use Rattle.arena.specs.declared.word.NodeWord.TheVariants.{Settled}
+use Rattle.arena.specs.declared.word.SettledPart.TheVariants.{Head}
 use Rattle.arena.specs.Words.{node}
 use Rattle.forest.specs.StraightWalk.{Walker, WalkerWaits, WalksFromRoot}
 use Rattle.forest.specs.Traces.{seat_steps, shared_nodes}
@@ -17,7 +18,7 @@ invariant-loop-side g l = record {
   steps : seat_steps l.seat.me.0.passes + suc (walk_left l.at (shared_nodes l.layout)) ≤ seat_steps l.fn.seat.me.0.passes + 3 * (2 + shared_nodes l.layout);
   waits : (w : Walker (calls g.S.Shape g.M.Machine l.layout l.number))
       → WalksFromRoot w l.fn.seat.me.0.passes l.goal
-      → WalkerWaits w l.seat.me.0.passes (walk_at l.goal l.trail l.at) l.turn (load LoadSettled (node l.trail.node.0 Head));
+      → WalkerWaits w l.seat.me.0.passes (walk_at l.goal l.trail l.at) l.turn (load LoadSettled (node l.trail.node.0 (Settled Head)));
 }
 
 abbrev pub decreases-loop-side : goal.decreases-loop-side
