@@ -5,27 +5,21 @@ use Rattle.arena.specs.declared.fault.Full.{Full as FullOf}
 use Rattle.arena.specs.declared.step.Row.{Row}
 use Rattle.arena.specs.Blame.{WasInTheWay}
 use Rattle.arena.specs.Fills.{IsOthersScx}
-use Rattle.arena.specs.History.{History, ◌⊳◌, value, Extends}
+use Rattle.arena.specs.History.{History, ◌⊳◌, Extends}
 use Rattle.arena.specs.Machines.{Call}
 use Rattle.arena.specs.Share.{Remaining}
 use Rattle.arena.proofs.Lemmas.{ends_self, ends_trans}
-use Rattle.ordered_map.specs.declared.pair.Pair.{Pair}
-use Rattle.ordered_map.specs.OrderedMap.{MapCall, MapReply, MapEdit, edited, edit_of}
+use Rattle.ordered_map.specs.OrderedMap.{MapCall, MapReply, MapEdit, edit_of}
 use Rattle.ordered_map.specs.Runs.{IsTreeRun, Makes}
-use Rattle.ordered_map.specs.Spelled.{Spells}
-use Rattle.ordered_map.proofs.Lemmas.{one_spelling, spells_log, makes_since}
+use Rattle.ordered_map.proofs.Lemmas.{makes_since}
 use Rattle.edits.specs.Known.{RestsWith, IsUntouched}
 use Rattle.edits.specs.Tries.{HasEnteredNone}
 use Rattle.dict.specs.Laws.OneShare.{one_share}
 use Rattle.dict.specs.Says.{HasMadeEdit, HasNeeded, HasToldBy, HasTold, HasLost, HasRunOut}
-use Rattle.forest.specs.Dictionary.{HadToDo, IsVersion, IsChange, IsChangeOrReading, IsContendedCall, IsFullCall}
+use Rattle.forest.specs.Dictionary.{HadToDo, IsChange, IsChangeOrReading, IsContendedCall, IsFullCall}
 use Rattle.forest.specs.Passes.{PassView, run_of, done_of, taken_of}
 use Rattle.forest.proofs.Entered.{none_entered, one_entered}
 use Rattle.forest.proofs.Took.{made_row, took_from, took_below, took_some}
-
--- what the words spell at a moment of the run is a version
-pub version_at : (p : PassView) → IsTreeRun p.layout (run_of p) → (moment : History) → Extends (run_of p) moment → (m : List Pair) → Spells p.layout (value moment) m → IsVersion p moment m
-version_at p run moment e m s = record { spelled = s; made = λ edits are. one_spelling p.layout (value moment) _ m (spells_log p.layout (run_of p) edits run are moment e) s }
 
 -- a call of the pass `was`, which leaves it at this table with this share, run and blame list
 module _ (was : PassView) (is_pass : was.number < was.layout.passes) (number : ℕ) (same : number ≡ taken_of was) (table : TableId) (left : Remaining) (known : List Row) (blamed : List ℕ) where
@@ -61,9 +55,9 @@ module _ (was : PassView) (is_pass : was.number < was.layout.passes) (number : �
           is_taken = rw y.of_scx (took_below call_by (run_of then) run.1.lawful y was.share first left rests);
           took = took_some call_by (run_of then) run.1.lawful y was.share first left rests;
           map = x.map;
-          was = version_at then run before within x.map x.spelled;
+          was = x.spelled;
           gives = x.gives;
-          is = version_at then run (y.row ⊳ before) y.within (edited edit x.map) (y.edits.changes x.map x.spelled);
+          is = y.edits.changes x.map x.spelled;
         }
 
     told_by : (made : Option MapEdit) (call : MapCall) (told : MapReply) → RestsWith call_by (run_of was) was.share → RestsWith call_by (run_of then) left → HasToldBy made call_by (run_of then) call told → IsChangeOrReading made was then call told
@@ -74,7 +68,7 @@ module _ (was : PassView) (is_pass : was.number < was.layout.passes) (number : �
       since = y.since;
       own = y.own;
       map = y.map;
-      version = version_at then run y.moment y.within y.map y.spelled;
+      version = y.spelled;
       gives = y.gives;
       done = none_more y.none;
       only_looked = y.only_looked;
@@ -92,7 +86,7 @@ module _ (was : PassView) (is_pass : was.number < was.layout.passes) (number : �
       since = y.since;
       own = y.own;
       map = y.map;
-      version = version_at then run y.moment y.within y.map y.spelled;
+      version = y.spelled;
       some = y.some;
     }
 

@@ -10,9 +10,8 @@ use Rattle.arena.specs.Fills.{IsOthersScx}
 use Rattle.arena.specs.History.{History, ◌⊳◌, value, Extends}
 use Rattle.arena.specs.Log.{Entry, log}
 use Rattle.ordered_map.specs.declared.pair.Pair.{Pair as PairOf}
-use Rattle.ordered_map.specs.Laws.{AreEdits}
 use Rattle.ordered_map.specs.OrderedMap.{MapCall, PopFirst, Successor, Range, MapReply, OneValue, ManyPairs, pair_or_none, MapEdit, edited, reply, edit_of}
-use Rattle.ordered_map.specs.Runs.{Makes, map_of_log}
+use Rattle.ordered_map.specs.Runs.{Makes}
 use Rattle.ordered_map.specs.Spelled.{Spells}
 use Rattle.template.specs.Blame.{IsOverOrNew, HasLostTriesTo}
 use Rattle.edits.specs.Tries.{HasOnlyLooked}
@@ -33,13 +32,13 @@ use Rattle.forest.specs.Passes.{HasGoneOn, PassView, run_of, done_of, taken_of}
 use Rattle.forest.specs.Traces.{shared_nodes}
 
 -- The one history of a dictionary is the log of its run: each entry makes an edit of the map. A
--- version is the map that the entries up to a moment of the run make of the empty map.
+-- version is the map that the words spell at a moment of the run. By the laws of the tree there is one
+-- at each, and it is what the entries up to then make of the empty map, whatever edits they are said
+-- to make.
 
--- at this moment of the run that the pass knows the map is m: the words spell it, and it is what
--- the entries so far make of the empty map
-pub record IsVersion (p : PassView) (moment : History) (m : List PairOf) : Type 0 where
-  pub spelled : Spells p.layout (value moment) m
-  pub made : (edits : ℕ → MapEdit) → AreEdits edits p.layout (run_of p) → map_of_log edits (log p.layout moment) ≡ m
+-- at this moment of the run that the pass knows the map is m: the words spell it
+abbrev pub IsVersion : PassView → History → List PairOf → Type 0
+IsVersion p moment m = Spells p.layout (value moment) m
 
 -- What a call tells of the map
 
@@ -58,7 +57,7 @@ pub record IsChange (old new : PassView) (call : MapCall) (told : MapReply) (edi
   pub logged : log new.layout (row ⊳ before) ≡ entry ∷ log new.layout before
   -- it is the pass's only entry behind what the pass had seen
   pub done : done_of new ≡ entry ∷ done_of old
-  -- it is of this call, and makes this edit
+  -- it is of this call, and may be said to make this edit
   pub of_pass : entry.owner ≡ old.number
   pub of_call : entry.call ≡ taken_of old
   pub makes : Makes new.layout (run_of new) entry.scx edit
