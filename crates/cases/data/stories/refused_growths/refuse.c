@@ -1,6 +1,6 @@
 /* Stands in front of the C library's malloc, calloc and realloc, and refuses one call of them: the
-   one whose number, from 1 on, REFUSE gives; 0 refuses none. REFUSE_THREAD does the same to the start
-   of a thread. As the program ends it appends to the file that REFUSE_COUNT names how many calls there
+   one whose number, from 1 on, REFUSE gives; 0 refuses none. REFUSE_THREAD does so to a start of a
+   thread. As the program ends it appends to the file that REFUSE_COUNT names how many calls there
    were, how many threads were started, and how many of these had ended. */
 #define _GNU_SOURCE
 #include <dlfcn.h>
