@@ -6,6 +6,8 @@ ghost use Rattle.forest.specs.Passes.{IsOf};
 mod answers;
 mod calls;
 mod held;
+mod memory;
+mod stopped;
 mod threads;
 
 use arena::Limits;
@@ -14,12 +16,15 @@ use forest::{Forest, Pass};
 use std::alloc::{AllocError, Global};
 use std::test::Fail;
 
+/// How often a call tries, where a test does not say.
+const TRIES: u32 = 3;
+
 fn limits(passes: u32, nodes: u32, scx: u32) -> Limits {
     Limits {
         passes,
         nodes,
         scx,
-        tries: 3,
+        tries: TRIES,
     }
 }
 
@@ -42,11 +47,16 @@ fn end<K: WordKey, V: WordValue>(
 /// A dictionary, and its two passes.
 fn two<K: WordKey, V: WordValue>(
     alloc: Global,
+    tries: u32,
 ) -> Option<(Forest<Dict<K, V>>, Pass<Dict<K, V>>, Pass<Dict<K, V>>)>
     ensures first { IfSome result (λ t. IsOf t.0 t.1) }
     ensures second { IfSome result (λ t. IsOf t.0 t.2) }
 {
-    let Ok((forest, mut passes)) = Forest::<Dict<K, V>>::new(alloc, limits(2, 20, 20)) else {
+    let limits = Limits {
+        tries,
+        ..limits(2, 20, 20)
+    };
+    let Ok((forest, mut passes)) = Forest::<Dict<K, V>>::new(alloc, limits) else {
         return None;
     };
     let second = passes.pop()?;
@@ -54,17 +64,28 @@ fn two<K: WordKey, V: WordValue>(
     Some((forest, first, second))
 }
 
-/// The same for a test, which fails where there is none.
+/// The same for a test, which fails where there is none. Each call tries so often.
+fn opened_with<K: WordKey, V: WordValue>(
+    alloc: Global,
+    tries: u32,
+) -> Result<(Forest<Dict<K, V>>, Pass<Dict<K, V>>, Pass<Dict<K, V>>), Fail>
+    ensures first { IfOk result (λ t. IsOf t.0 t.1) }
+    ensures second { IfOk result (λ t. IsOf t.0 t.2) }
+{
+    match two(alloc, tries) {
+        Some(shared) => Ok(shared),
+        None => Err("no forest".into()),
+    }
+}
+
+/// The same, with calls that try three times.
 fn opened<K: WordKey, V: WordValue>(
     alloc: Global,
 ) -> Result<(Forest<Dict<K, V>>, Pass<Dict<K, V>>, Pass<Dict<K, V>>), Fail>
     ensures first { IfOk result (λ t. IsOf t.0 t.1) }
     ensures second { IfOk result (λ t. IsOf t.0 t.2) }
 {
-    match two(alloc) {
-        Some(shared) => Ok(shared),
-        None => Err("no forest".into()),
-    }
+    opened_with(alloc, TRIES)
 }
 
 /// Ends a forest of two passes.

@@ -51,7 +51,7 @@ const CALLS: [Calls; 18] = [
 const MOST_STEPS: u64 = 78;
 
 /// How many calls a record answers, how many of them by a refusal, and how many updates it has.
-fn counts(record: &Record) -> (usize, usize, usize) {
+pub(crate) fn counts(record: &Record) -> (usize, usize, usize) {
     let (mut answers, mut refusals, mut updates) = (0usize, 0usize, 0usize);
     for line in record.lines.iter() {
         match line {

@@ -1,25 +1,33 @@
 //! Races in which a client stops after each of its steps in turn.
+use crate::answered_tests::counts;
 use crate::check::check;
-use crate::race::played;
+use crate::race::played_in;
+use arena::Mode;
 use audit::audit;
-use std::alloc::{AllocError, Global};
+use record::Record;
+use std::alloc::Global;
 use std::process::Abort;
 use std::test::Fail;
 
-/// A script of two clients, and how many steps client 0 makes by itself: 48 for a key that comes
-/// into the empty map, 45 for another value of it, 72 to take it out again, by its name or as the
-/// first; 52 for a second key, 48
-/// for another value of one of two, 34 for a range of both, 20 for the successor of one below both.
+/// A script of two clients, of which client 0 stops. By itself a client makes 48 steps for a key that
+/// comes into the empty map, 45 for another value of it, 72 to take it out again, by its name or as
+/// the first; 52 for a second key, 48 for another value of one of two, 34 for a range of both, 20 for
+/// the successor of one below both. On cells 7 for a snapshot, 22 for an SCX over two nodes with one
+/// to finalize, and 5 to find that one finalized.
 #[derive(Clone, Copy, Debug)]
 struct Race {
+    mode: Mode,
     script: &'static str,
-    /// How many steps it makes before it stops for the first time.
+    /// The orders that come first.
+    before: &'static str,
+    /// How many steps it makes before it stops, at the least and at the most.
     first: u64,
-    steps: u64,
+    last: u64,
 }
 
 /// Client 0 gives a key three values, client 1 a fourth.
 const INSERTS: Race = Race {
+    mode: Mode::Tree,
     script: "\
 limits,2,20,20,3
 0,insert,5,50,
@@ -28,12 +36,28 @@ limits,2,20,20,3
 1,insert,5,90,
 end,4,,,
 ",
+    before: "",
     first: 1,
-    steps: 48 + 45 + 45,
+    last: 48 + 45 + 45,
+};
+
+/// Each brings a key into the empty map.
+const TWO_KEYS: Race = Race {
+    mode: Mode::Tree,
+    script: "\
+limits,2,20,20,3
+0,insert,5,50,
+1,insert,7,70,
+end,2,,,
+",
+    before: "",
+    first: 1,
+    last: 48,
 };
 
 /// Client 0 takes its key out again, client 1 brings in another one.
 const DELETE_AND_INSERT: Race = Race {
+    mode: Mode::Tree,
     script: "\
 limits,2,20,20,3
 0,insert,5,50,
@@ -41,12 +65,14 @@ limits,2,20,20,3
 1,insert,7,70,
 end,3,,,
 ",
+    before: "",
     first: 1,
-    steps: 48 + 72,
+    last: 48 + 72,
 };
 
 /// Both take client 0's key out.
 const DELETES: Race = Race {
+    mode: Mode::Tree,
     script: "\
 limits,2,20,20,2
 0,insert,5,50,
@@ -54,13 +80,15 @@ limits,2,20,20,2
 1,delete,5,,
 end,3,,,
 ",
+    before: "",
     first: 1,
-    steps: 48 + 72,
+    last: 48 + 72,
 };
 
 /// Client 0 reads in order, and gives a key a new value; client 1 takes one of the keys out that
 /// client 0 has brought in, gives the other a new value, and reads in order too.
 const READS: Race = Race {
+    mode: Mode::Tree,
     script: "\
 limits,2,20,20,2
 0,insert,5,50,
@@ -73,12 +101,14 @@ limits,2,20,20,2
 1,range,5,7,2
 end,8,,,
 ",
+    before: "",
     first: 1,
-    steps: 48 + 52 + 34 + 20 + 48,
+    last: 48 + 52 + 34 + 20 + 48,
 };
 
 /// Both take the first pair out, client 1 a second one if there is one.
 const POPS: Race = Race {
+    mode: Mode::Tree,
     script: "\
 limits,2,20,20,2
 0,insert,5,50,
@@ -88,12 +118,14 @@ limits,2,20,20,2
 1,pop_first,,,
 end,5,,,
 ",
+    before: "",
     first: 48,
-    steps: 48 + 72,
+    last: 48 + 72,
 };
 
 /// Both replace one value, client 1 the one that client 0 brings in too.
 const REPLACEMENTS: Race = Race {
+    mode: Mode::Tree,
     script: "\
 limits,2,20,20,2
 0,insert,5,50,
@@ -102,58 +134,78 @@ limits,2,20,20,2
 1,replace_if,5,51,53
 end,4,,,
 ",
+    before: "",
     first: 48,
-    steps: 48 + 45,
+    last: 48 + 45,
 };
 
-const RACES: [Race; 6] = [
+/// Client 0 finalizes the cell of which client 1 has a snapshot, and client 1 wants to change it.
+const FINALIZED: Race = Race {
+    mode: Mode::Records,
+    script: "\
+limits,2,10,10,1
+1,llx,2,,
+0,llx,1,,
+0,llx,2,,
+0,scx,1 2,2,1 left 70
+0,llx,2,,
+1,scx,2,,2 left 80
+end,6,,,
+",
+    before: "call,1,,\n",
+    first: 1,
+    last: 7 + 7 + 22 + 5,
+};
+
+const RACES: [Race; 8] = [
     INSERTS,
+    TWO_KEYS,
     DELETE_AND_INSERT,
     DELETES,
     READS,
     POPS,
     REPLACEMENTS,
+    FINALIZED,
 ];
 
-/// What the others make of a client that has stopped.
-#[derive(Clone, Copy, Debug)]
-enum Then {
-    /// They finish.
-    Left,
-    /// They finish, and then it does.
-    Finishes,
-    /// The other one makes so many steps, then it finishes, and then the other one does.
-    FinishesBetween(u64),
+/// The record of a race in which client 0 stops after so many steps, and then come these orders.
+fn stopped_after(alloc: Global, race: Race, steps: u64, then: &str) -> Result<Record, Fail> {
+    let before = race.before;
+    let mut schedule = format!(in alloc; "{before}step,0,,{steps}\n{then}")?;
+    let orders = count_lines(schedule.as_str());
+    schedule.push_str(format!(in alloc; "end,{orders},,\n")?.as_str())?;
+    Ok(played_in(alloc, race.mode, race.script, schedule.as_str())?)
 }
 
-/// Client 0 makes so many turns, and then this.
-fn schedule(alloc: Global, turns: u64, then: Then) -> Result<String, AllocError> {
-    match then {
-        Then::Left => format!(in alloc; "step,0,,{turns}\nfinish,1,,\nend,2,,\n"),
-        Then::Finishes => {
-            format!(in alloc; "step,0,,{turns}\nfinish,1,,\nfinish,0,,\nend,3,,\n")
-        }
-        Then::FinishesBetween(steps) => format!(in alloc;
-            "step,0,,{turns}\nstep,1,,{steps}\nfinish,0,,\nfinish,1,,\nend,4,,\n"
-        ),
-    }
+fn count_lines(text: &str) -> usize {
+    text.bytes().filter(|byte| *byte == b'\n').count()
 }
 
-/// Client 0 stops after each of its steps in turn: each record passes the check.
-fn sweep(rt: &impl Abort, alloc: Global, race: Race, then: Then) -> Result<(), Fail> {
-    for turns in race.first..=race.steps {
-        let schedule = schedule(alloc, turns, then)?;
-        let record = played(alloc, race.script, schedule.as_str())?;
-        assert_eq!(rt;
-            check(alloc, &record),
-            Ok(()),
-            "{then:?} after {turns} turns of {race:?}"
-        );
-        assert_eq!(rt;
-            audit(alloc, &record),
-            Ok(()),
-            "{then:?} after {turns} turns of {race:?}"
-        );
+/// The record is lawful, and passes the check too, which knows calls on the tree alone.
+fn is_right(alloc: Global, race: Race, record: &Record) -> bool {
+    let is_checked = race.mode == Mode::Records || check(alloc, record).is_ok();
+    is_checked && audit(alloc, record).is_ok()
+}
+
+/// All calls are answered, and none is refused.
+fn are_all_answered(record: &Record) -> bool {
+    let (answers, refusals, _) = counts(record);
+    answers == record.script.calls.len() && refusals == 0
+}
+
+/// Client 0 stops after each of its steps in turn: each record is right, and where that is wanted
+/// all calls are answered.
+fn sweep(
+    rt: &impl Abort,
+    alloc: Global,
+    race: Race,
+    then: &str,
+    answered: bool,
+) -> Result<(), Fail> {
+    for steps in race.first..=race.last {
+        let record = stopped_after(alloc, race, steps, then)?;
+        let is_right = is_right(alloc, race, &record) && (!answered || are_all_answered(&record));
+        assert!(rt; is_right, "{race:?}\n{then} after {steps} steps");
     }
     Ok(())
 }
@@ -161,17 +213,29 @@ fn sweep(rt: &impl Abort, alloc: Global, race: Race, then: Then) -> Result<(), F
 #[test]
 fn a_stopped_client_is_left_or_goes_on(rt: HostRuntime) -> Result<(), Fail> {
     for race in RACES {
-        sweep(&rt, rt.alloc(), race, Then::Left)?;
-        sweep(&rt, rt.alloc(), race, Then::Finishes)?;
+        sweep(&rt, rt.alloc(), race, "finish,1,,\n", false)?;
+        sweep(&rt, rt.alloc(), race, "finish,1,,\nfinish,0,,\n", true)?;
     }
     Ok(())
+}
+
+/// The other one makes so many steps, then client 0 finishes, and then the other one.
+fn sweep_of_both(
+    rt: &impl Abort,
+    alloc: Global,
+    race: Race,
+    steps: u64,
+    answered: bool,
+) -> Result<(), Fail> {
+    let then = format!(in alloc; "step,1,,{steps}\nfinish,0,,\nfinish,1,,\n")?;
+    sweep(rt, alloc, race, then.as_str(), answered)
 }
 
 /// The other one stops too. Of inserts: behind its walk, in its look at the node above, just before
 /// the update that it helps to make, behind that, and just before its own. Of a delete that is
 /// helped, or beaten: it is made in the 31st step of the insert that helps it, which makes its own in
 /// the 81st; the delete that beats makes its own in the 71st. A pop does as a delete, a replacement as
-/// an insert of a present key.
+/// an insert of a present key. With two tries both may be lost.
 #[test]
 fn each_of_two_stops(rt: HostRuntime) -> Result<(), Fail> {
     let stops = [
@@ -183,8 +247,26 @@ fn each_of_two_stops(rt: HostRuntime) -> Result<(), Fail> {
     ];
     for (race, places) in stops {
         for steps in places {
-            sweep(&rt, rt.alloc(), race, Then::FinishesBetween(steps))?;
+            sweep_of_both(&rt, rt.alloc(), race, steps, false)?;
         }
+    }
+    Ok(())
+}
+
+/// An insert of client 1 that helps makes no more steps.
+const HELPER_STEPS: u64 = 75;
+
+/// Client 0 stops with its second insert between the first freeze and the commit, so that client 1
+/// helps. It stops after each of its steps in turn.
+#[test]
+fn a_helper_that_stops_goes_on(rt: HostRuntime) -> Result<(), Fail> {
+    let race = Race {
+        first: 84,
+        last: 92,
+        ..INSERTS
+    };
+    for steps in 1..=HELPER_STEPS {
+        sweep_of_both(&rt, rt.alloc(), race, steps, true)?;
     }
     Ok(())
 }

@@ -16,10 +16,10 @@ use std::alloc::{AllocError, Global};
 use std::test::Fail;
 
 /// A dictionary of numbers.
-type Numbers = Dict<u64, u64>;
+pub(super) type Numbers = Dict<u64, u64>;
 
 /// A call of it that is held open.
-type Held = OpenCall<u64, u64>;
+pub(super) type Held = OpenCall<u64, u64>;
 
 /// LLX of two nodes.
 const LOOKS: [Kind; 14] = [
@@ -54,7 +54,7 @@ const PUT: [Kind; 21] = [
 
 /// Makes so many steps of a call, or fewer where it is over before, and notes their kinds. It tells
 /// whether the call goes on.
-fn hold(
+pub(super) fn hold(
     forest: &Forest<Numbers>,
     call: &mut Held,
     steps: usize,
@@ -84,7 +84,7 @@ fn open_insert(alloc: Global, forest: &Forest<Numbers>, pass: Pass<Numbers>) -> 
 }
 
 /// Makes so many steps of a call, behind which it goes on.
-fn held(
+pub(super) fn held(
     forest: &Forest<Numbers>,
     mut call: Held,
     steps: usize,
@@ -103,7 +103,7 @@ fn held(
 }
 
 /// Makes the rest of a call, and notes the kinds of its steps.
-fn rest(
+pub(super) fn rest(
     forest: &Forest<Numbers>,
     mut call: Held,
     kinds: &mut Vec<Kind>,

@@ -1,9 +1,11 @@
 /* Stands in front of the C library's malloc, calloc and realloc, and refuses one call of them: the
-   one whose number, from 1 on, REFUSE gives; 0 refuses none. As the program ends it appends to the
-   file that REFUSE_COUNT names how many calls there were. */
+   one whose number, from 1 on, REFUSE gives; 0 refuses none. REFUSE_THREAD does so to a start of a
+   thread. As the program ends it appends to the file that REFUSE_COUNT names how many calls there
+   were, how many threads were started, and how many of these had ended. */
 #define _GNU_SOURCE
 #include <dlfcn.h>
 #include <errno.h>
+#include <pthread.h>
 #include <stdio.h>
 #include <stdlib.h>
 
@@ -12,7 +14,10 @@ static char early[4096];
 static size_t early_used;
 /* Threads count too. */
 static _Atomic unsigned long calls;
-static unsigned long refused;
+static unsigned long refused, refused_thread;
+/* What each thread is to do. */
+static struct work { void *(*go)(void *); void *given; } works[64];
+static _Atomic unsigned long asked, started, ended;
 static void *(*next_malloc)(size_t), *(*next_realloc)(void *, size_t);
 static void (*next_free)(void *);
 
@@ -29,20 +34,21 @@ static void *early_block(size_t size) {
 }
 
 __attribute__((constructor)) static void begin(void) {
-    const char *number = getenv("REFUSE");
+    const char *number = getenv("REFUSE"), *thread = getenv("REFUSE_THREAD");
     next_realloc = dlsym(RTLD_NEXT, "realloc");
     next_free = dlsym(RTLD_NEXT, "free");
     next_malloc = dlsym(RTLD_NEXT, "malloc");
     calls = 0;
     refused = number ? strtoul(number, NULL, 10) : 0;
+    refused_thread = thread ? strtoul(thread, NULL, 10) : 0;
 }
 
 __attribute__((destructor)) static void end(void) {
     const char *name = getenv("REFUSE_COUNT");
     FILE *file;
-    unsigned long counted = calls;
+    unsigned long counted = calls, begun = started, over = ended;
     if (!name || !(file = fopen(name, "a"))) return;
-    fprintf(file, "%lu\n", counted);
+    fprintf(file, "%lu %lu %lu\n", counted, begun, over);
     fclose(file);
 }
 
@@ -72,4 +78,22 @@ void *realloc(void *block, size_t size) {
 
 void free(void *block) {
     if (next_free && !is_early(block)) next_free(block);
+}
+
+static void *make(void *at) {
+    struct work *work = at;
+    void *got = work->go(work->given);
+    ended++;
+    return got;
+}
+
+int pthread_create(pthread_t *thread, const pthread_attr_t *how, void *(*go)(void *), void *given) {
+    int (*next_create)(pthread_t *, const pthread_attr_t *, void *(*)(void *), void *) =
+        dlsym(RTLD_NEXT, "pthread_create");
+    unsigned long number = ++asked;
+    if (number == refused_thread || number > sizeof works / sizeof *works) return EAGAIN;
+    works[number - 1] = (struct work){go, given};
+    int fault = next_create(thread, how, make, &works[number - 1]);
+    if (!fault) started++;
+    return fault;
 }

@@ -1,0 +1,452 @@
+//! Calls that stop after each of their steps in turn, while the other pass makes one of its own.
+ghost use Rattle.std.specs.Prelude.{◌≡◌, false, IfOk};
+ghost use Rattle.ordered_map.specs.Requests.{AsksForFew};
+ghost use Rattle.forest.specs.Passes.{IsOf};
+
+use super::answers::{delete, insert, pop_first, range, replace_if};
+use super::held::{Held, Numbers, held, hold, rest};
+use super::{end_two, opened_with};
+use arena::ScxNo;
+use dict::{Reply, Request};
+use forest::{Forest, Pass, UpdateFault};
+use std::alloc::{AllocError, Global};
+use std::process::Abort;
+use std::test::Fail;
+
+/// An edit of a dictionary of numbers.
+#[derive(Clone, Copy, Debug)]
+enum Edit {
+    Insert(u64, u64),
+    Delete(u64),
+    PopFirst,
+    ReplaceIf(u64, u64, u64),
+}
+
+/// What is known of an edit that has begun.
+#[derive(Clone, Copy, Debug)]
+enum Answer {
+    /// It told the value that its key had.
+    Told(Option<u64>),
+    /// It was contended: this SCX-record was in its way.
+    Contended(ScxNo),
+    /// It told something else.
+    Other,
+    /// It has not answered, and may have been made.
+    Left,
+}
+
+/// An edit, and what is known of it.
+type Made = (Edit, Answer);
+
+/// The values of the keys below 8.
+type Plain = [Option<u64>; 8];
+
+impl Edit {
+    fn request(self) -> Request<u64, u64>
+        ensures { AsksForFew result }
+    {
+        match self {
+            Edit::Insert(key, value) => Request::Insert { key, value },
+            Edit::Delete(key) => Request::Delete { key },
+            Edit::PopFirst => Request::PopFirst,
+            Edit::ReplaceIf(key, expected, value) => Request::ReplaceIf {
+                key,
+                expected,
+                value,
+            },
+        }
+    }
+
+    /// Makes it on a dictionary.
+    fn make(self, forest: &Forest<Numbers>, pass: &mut Pass<Numbers>) -> Answer
+        requires { IsOf forest.now pass.old }
+        ensures { IsOf forest.now pass.new }
+    {
+        told(match self {
+            Edit::Insert(key, value) => insert(forest, pass, key, value),
+            Edit::Delete(key) => delete(forest, pass, key),
+            Edit::PopFirst => match pop_first(forest, pass) {
+                Ok(pair) => Ok(pair.map(|(_, value)| value)),
+                Err(fault) => Err(fault),
+            },
+            Edit::ReplaceIf(key, expected, value) => replace_if(forest, pass, key, expected, value),
+        })
+    }
+
+    /// Makes it on plain values, and tells what its key had.
+    fn make_plain(self, values: &mut Plain) -> Option<u64> {
+        match self {
+            Edit::Insert(key, value) => values.get_mut(key as usize)?.replace(value),
+            Edit::Delete(key) => values.get_mut(key as usize)?.take(),
+            Edit::PopFirst => values.iter_mut().find(|value| value.is_some())?.take(),
+            Edit::ReplaceIf(key, expected, value) => {
+                let slot = values.get_mut(key as usize)?;
+                let old = *slot;
+                if old == Some(expected) {
+                    *slot = Some(value);
+                }
+                old
+            }
+        }
+    }
+}
+
+/// What the caller of an edit was told.
+fn told(said: Result<Option<u64>, UpdateFault>) -> Answer {
+    match said {
+        Ok(old) => Answer::Told(old),
+        Err(UpdateFault::Contended { node: _, scx }) => Answer::Contended(scx),
+        Err(UpdateFault::Full(_)) => Answer::Other,
+    }
+}
+
+/// What a call that was open has told.
+fn replied(reply: Reply<u64, u64>) -> Answer {
+    match reply {
+        Reply::Value(old) => Answer::Told(old),
+        Reply::Pair(pair) => Answer::Told(pair.map(|(_, value)| value)),
+        Reply::Contended { node: _, scx } => Answer::Contended(scx),
+        _ => Answer::Other,
+    }
+}
+
+/// Makes an edit on plain values, if it tells so. One that was refused has changed nothing.
+fn follow(values: &mut Plain, (edit, answer): Made) -> Option<()> {
+    match answer {
+        Answer::Told(old) => if edit.make_plain(values) == old {
+            Some(())
+        } else {
+            None
+        },
+        Answer::Left => {
+            edit.make_plain(values);
+            Some(())
+        }
+        Answer::Contended(_) => Some(()),
+        Answer::Other => None,
+    }
+}
+
+/// The values after the edits of one pass, and that of the other just before that of this place, if
+/// each tells so.
+fn replay(own: &[Made], other: Made, place: usize) -> Option<Plain> {
+    let mut values = [None; 8];
+    for (number, made) in own.iter().enumerate() {
+        if number == place {
+            follow(&mut values, other)?;
+        }
+        follow(&mut values, *made)?;
+    }
+    if place == own.len() {
+        follow(&mut values, other)?;
+    }
+    Some(values)
+}
+
+/// Whether they tell so, and leave these pairs.
+fn leave(own: &[Made], other: Made, place: usize, pairs: &[(u64, u64)]) -> bool {
+    let Some(mut values) = replay(own, other, place) else {
+        return false;
+    };
+    let are_there = pairs.iter().all(|(key, value)| Edit::Delete(*key).make_plain(&mut values)
+        == Some(*value));
+    are_there && values.iter().all(|value| value.is_none())
+}
+
+/// What passes do: the first makes its edits, and stops in one of them; the other has one. And how
+/// often a call tries.
+#[derive(Clone, Copy, Debug)]
+struct Race {
+    own: &'static [Edit],
+    other: Edit,
+    tries: u32,
+}
+
+/// The first gives a key three values, the other a fourth.
+const INSERTS: Race = Race {
+    own: &[
+        Edit::Insert(5, 50),
+        Edit::Insert(5, 51),
+        Edit::Insert(5, 52),
+    ],
+    other: Edit::Insert(5, 90),
+    tries: 3,
+};
+
+/// The first takes its key out again, the other brings in another one.
+const DELETE_AND_INSERT: Race = Race {
+    own: &[Edit::Insert(5, 50), Edit::Delete(5)],
+    other: Edit::Insert(7, 70),
+    tries: 3,
+};
+
+/// Both take the key out.
+const DELETES: Race = Race {
+    own: &[Edit::Insert(5, 50), Edit::Delete(5)],
+    other: Edit::Delete(5),
+    tries: 3,
+};
+
+/// Both take the first pair out.
+const POPS: Race = Race {
+    own: &[Edit::Insert(5, 50), Edit::PopFirst],
+    other: Edit::PopFirst,
+    tries: 3,
+};
+
+/// Both replace one value.
+const REPLACEMENTS: Race = Race {
+    own: &[Edit::Insert(5, 50), Edit::ReplaceIf(5, 50, 51)],
+    other: Edit::ReplaceIf(5, 50, 52),
+    tries: 3,
+};
+
+/// Where the first pass stops: in its edit of this number, behind so many steps.
+#[derive(Clone, Copy, Debug)]
+struct Stop {
+    number: usize,
+    steps: usize,
+}
+
+/// Makes these edits, one behind the other.
+fn make_all(
+    forest: &Forest<Numbers>,
+    pass: &mut Pass<Numbers>,
+    edits: &[Edit],
+    own: &mut Vec<Made>,
+) -> Result<(), AllocError>
+    requires { IsOf forest.now pass.old }
+    ensures { IsOf forest.now pass.new }
+{
+    for edit in edits {
+        let answer = edit.make(forest, pass);
+        own.push((*edit, answer))?;
+    }
+    Ok(())
+}
+
+/// A dictionary in which the first pass has made its edits up to the one of this number, which it
+/// holds open.
+fn opened_at(
+    alloc: Global,
+    race: Race,
+    number: usize,
+    own: &mut Vec<Made>,
+) -> Result<(Forest<Numbers>, Held, Pass<Numbers>), Fail>
+    ensures held { IfOk result (λ t. IsOf t.0 t.1.began × (t.1.over ≡ false)) }
+    ensures second { IfOk result (λ t. IsOf t.0 t.2) }
+{
+    let (forest, mut first, second) = opened_with::<u64, u64>(alloc, race.tries)?;
+    let Some((before, [edit, ..])) = race.own.split_at_checked(number) else {
+        return Err("no such edit".into());
+    };
+    make_all(&forest, &mut first, before, own)?;
+    let call = forest.open(alloc, first, edit.request());
+    Ok((forest, call, second))
+}
+
+/// How many steps the edit of this number makes by itself.
+fn steps_alone(alloc: Global, race: Race, number: usize) -> Result<usize, Fail> {
+    let (mut own, mut kinds) = (Vec::new(alloc), Vec::new(alloc));
+    let (forest, call, _) = opened_at(alloc, race, number, &mut own)?;
+    rest(&forest, call, &mut kinds)?;
+    Ok(kinds.len())
+}
+
+/// The same, behind so many steps.
+fn stopped_after(
+    alloc: Global,
+    race: Race,
+    stop: Stop,
+    own: &mut Vec<Made>,
+) -> Result<(Forest<Numbers>, Held, Pass<Numbers>), Fail>
+    ensures held { IfOk result (λ t. IsOf t.0 t.1.began × (t.1.over ≡ false)) }
+    ensures second { IfOk result (λ t. IsOf t.0 t.2) }
+{
+    let (forest, call, second) = opened_at(alloc, race, stop.number, own)?;
+    let call = held(&forest, call, stop.steps, &mut Vec::new(alloc))?;
+    Ok((forest, call, second))
+}
+
+/// Makes the rest of the edit that was held, and those behind it.
+fn go_on(
+    alloc: Global,
+    forest: &Forest<Numbers>,
+    call: Held,
+    race: Race,
+    number: usize,
+    own: &mut Vec<Made>,
+) -> Result<Pass<Numbers>, Fail>
+    requires forest { IsOf forest.now call.began }
+    requires goes { call.over ≡ false }
+    ensures { IfOk result (λ p. IsOf forest.now p) }
+{
+    let (mut pass, reply) = rest(forest, call, &mut Vec::new(alloc))?;
+    if let Some((_, [edit, behind @ ..])) = race.own.split_at_checked(number) {
+        own.push((*edit, replied(reply)))?;
+        make_all(forest, &mut pass, behind, own)?;
+    }
+    Ok(pass)
+}
+
+/// Whether it told a value, or, where it had one try, that it was contended.
+fn may_tell(race: Race, answer: Answer) -> bool {
+    match answer {
+        Answer::Told(_) => true,
+        Answer::Contended(_) => race.tries == 1,
+        _ => false,
+    }
+}
+
+fn count_contended(own: &[Made], other: Made) -> usize {
+    let is_contended = |made: &&Made| matches!(made.1, Answer::Contended(_));
+    own.iter().filter(is_contended).count() + usize::from(is_contended(&&other))
+}
+
+/// Whether the SCX-record that was in an edit's way has left its owner's share of 20.
+fn has_left(answer: Answer, owner: &Pass<Numbers>) -> bool {
+    let Answer::Contended(scx) = answer else {
+        return true;
+    };
+    let (first, left) = (u64::from(owner.number().0) * 20, u64::from(owner.left().1));
+    first < scx.0 && scx.0.saturating_add(left) <= first + 20
+}
+
+/// The pairs. A look that meets an update that has stopped helps it, and may have no try left: it is
+/// made again.
+fn see(alloc: Global, forest: &Forest<Numbers>, pass: &mut Pass<Numbers>) -> Option<Vec<(u64, u64)>>
+    requires { IsOf forest.now pass.old }
+    ensures { IsOf forest.now pass.new }
+{
+    match range(alloc, forest, pass, 0, 9) {
+        Some(pairs) => Some(pairs),
+        None => range(alloc, forest, pass, 0, 9),
+    }
+}
+
+/// Whether all is right where the first pass stops, the other makes its edit, and the first does not
+/// go on.
+fn is_right_when_left(alloc: Global, race: Race, stop: Stop) -> Result<bool, Fail> {
+    let mut own = Vec::new(alloc);
+    let (forest, call, mut second) = stopped_after(alloc, race, stop, &mut own)?;
+    let other = (race.other, race.other.make(&forest, &mut second));
+    drop(call);
+    if !may_tell(race, other.1) {
+        return Ok(false);
+    }
+    let Some(pairs) = see(alloc, &forest, &mut second) else {
+        return Ok(false);
+    };
+    let pairs = pairs.as_slice();
+    let unmade = leave(&own, other, stop.number, pairs);
+    if let Some(edit) = race.own.get(stop.number) {
+        own.push((*edit, Answer::Left))?;
+    }
+    let (before, behind) = (stop.number, stop.number.saturating_add(1));
+    Ok(unmade || leave(&own, other, before, pairs) || leave(&own, other, behind, pairs))
+}
+
+/// Whether all is right at the end, where the other's edit has come between these places of the
+/// first's.
+fn is_right_at_the_end(
+    alloc: Global,
+    race: Race,
+    ends: (Forest<Numbers>, Pass<Numbers>, Pass<Numbers>),
+    own: &[Made],
+    other: Made,
+    places: (usize, usize),
+) -> Result<bool, Fail>
+    requires first { IsOf ends.0 ends.1 }
+    requires second { IsOf ends.0 ends.2 }
+{
+    let (forest, first, second) = ends;
+    let have_told = may_tell(race, other.1) && own.iter().all(|made| may_tell(race, made.1));
+    let have_left = has_left(other.1, &first) && own.iter().all(|made| has_left(made.1, &second));
+    let Some(pairs) = end_two(alloc, forest, first, second)? else {
+        return Ok(false);
+    };
+    let mut places = places.0..=places.1;
+    let are_right = places.any(|place| leave(own, other, place, pairs.as_slice()));
+    Ok(have_told && have_left && are_right)
+}
+
+/// The same where the first goes on. It counts the edits that were contended.
+fn is_right_when_it_goes_on(
+    alloc: Global,
+    race: Race,
+    stop: Stop,
+    contended: &mut usize,
+) -> Result<bool, Fail> {
+    let mut own = Vec::new(alloc);
+    let (forest, call, mut second) = stopped_after(alloc, race, stop, &mut own)?;
+    let other = (race.other, race.other.make(&forest, &mut second));
+    let first = go_on(alloc, &forest, call, race, stop.number, &mut own)?;
+    *contended = contended.saturating_add(count_contended(&own, other));
+    let places = (stop.number, stop.number.saturating_add(1));
+    is_right_at_the_end(alloc, race, (forest, first, second), &own, other, places)
+}
+
+/// The same where the other stops too, behind so many steps, and goes on once the first has made all
+/// its edits. None where it is over before.
+fn is_right_when_both_stop(
+    alloc: Global,
+    race: Race,
+    stop: Stop,
+    steps: usize,
+) -> Result<Option<bool>, Fail> {
+    let (mut own, mut kinds) = (Vec::new(alloc), Vec::new(alloc));
+    let (forest, call, second) = stopped_after(alloc, race, stop, &mut own)?;
+    let mut helper = forest.open(alloc, second, race.other.request());
+    if !hold(&forest, &mut helper, steps, &mut kinds)? {
+        return Ok(None);
+    }
+    let first = go_on(alloc, &forest, call, race, stop.number, &mut own)?;
+    let (second, reply) = rest(&forest, helper, &mut kinds)?;
+    let (other, places) = ((race.other, replied(reply)), (stop.number, own.len()));
+    let ends = (forest, first, second);
+    Ok(Some(is_right_at_the_end(alloc, race, ends, &own, other, places)?))
+}
+
+/// The first stops after each of its steps in turn. It tells how many edits were contended.
+fn sweep(rt: &impl Abort, alloc: Global, race: Race) -> Result<usize, Fail> {
+    let mut contended = 0;
+    for number in 0..race.own.len() {
+        for steps in 0..steps_alone(alloc, race, number)? {
+            let stop = Stop { number, steps };
+            let is_right = is_right_when_left(alloc, race, stop)?
+                && is_right_when_it_goes_on(alloc, race, stop, &mut contended)?;
+            assert!(rt; is_right, "{race:?}, {stop:?}");
+        }
+    }
+    Ok(contended)
+}
+
+/// With one try some edits are contended, with three none.
+#[test]
+fn a_stopped_edit_is_left_or_goes_on(rt: HostRuntime) -> Result<(), Fail> {
+    for race in [INSERTS, DELETE_AND_INSERT, DELETES, POPS, REPLACEMENTS] {
+        let contended = sweep(&rt, rt.alloc(), Race { tries: 1, ..race })?;
+        assert!(rt; contended > 0, "{race:?}");
+        sweep(&rt, rt.alloc(), race)?;
+    }
+    Ok(())
+}
+
+/// No insert of the other makes more steps.
+const MOST_STEPS: usize = 100;
+
+/// The other stops after each of its steps in turn, wherever the first has stopped in its second edit.
+#[test]
+fn an_insert_that_stops_as_it_helps_goes_on(rt: HostRuntime) -> Result<(), Fail> {
+    let number = 1;
+    for own in 0..steps_alone(rt.alloc(), INSERTS, number)? {
+        for steps in 0..MOST_STEPS {
+            let stop = Stop { number, steps: own };
+            match is_right_when_both_stop(rt.alloc(), INSERTS, stop, steps)? {
+                Some(is_right) => assert!(&rt; is_right, "{stop:?}, {steps}"),
+                None => break,
+            }
+        }
+    }
+    Ok(())
+}
