@@ -1,5 +1,6 @@
 //! Commands as fields of a row, read and written.
-ghost use Rattle.std.specs.Prelude.{◌≡◌, ◌≢◌, ◌<◌, ◌≤◌, ◌^◌, ◌↔◌, ℕ, [], ◌∷◌, ◌++◌, All, Contains, length, decimal, codes, IsSome, IfSome, MatchOption, Option, IfOk, IfErr, string_bytes};
+ghost use Rattle.std.specs.Prelude.{◌≡◌, ◌≢◌, ◌<◌, ◌≤◌, ◌^◌, ◌↔◌, ℕ, [], ◌∷◌, ◌++◌, All, Contains, length, map, decimal, codes, IsSome, IfSome, MatchOption, Option, IfOk, IfErr, string_bytes};
+ghost use Rattle.std.specs.Option.{option_map_or};
 ghost use Rattle.arena.specs.declared.word.Side.{Side};
 ghost use Rattle.script.specs.declared.cells.Cells.{Cells};
 ghost use Rattle.script.specs.Calls.{IsNoCommand};
@@ -279,54 +280,58 @@ impl CommandText {
     fn of_request(alloc: Global, request: &Request<u64, u64>) -> Result<CommandText, AllocError>
         ensures { IfOk result (λ t. t.name.now ∷ string_bytes t.a ∷ string_bytes t.b ∷ string_bytes t.c ∷ [] ≡ request_row request.now) }
     {
-        match request {
-            Request::Insert { key, value } => Ok(CommandText {
-                name: "insert",
-                a: format!(in alloc; "{key}")?,
-                b: format!(in alloc; "{value}")?,
-                c: String::new(alloc),
-            }),
-            Request::Delete { key } => Ok(CommandText {
-                name: "delete",
-                a: format!(in alloc; "{key}")?,
-                b: String::new(alloc),
-                c: String::new(alloc),
-            }),
-            Request::PopFirst => Ok(CommandText {
-                name: "pop_first",
-                a: String::new(alloc),
-                b: String::new(alloc),
-                c: String::new(alloc),
-            }),
+        match *request {
+            Request::Insert { key, value } => {
+                CommandText::of_numbers(alloc, "insert", [Some(key), Some(value), None])
+            }
+            Request::Delete { key } => {
+                CommandText::of_numbers(alloc, "delete", [Some(key), None, None])
+            }
+            Request::PopFirst => CommandText::of_numbers(alloc, "pop_first", [None, None, None]),
             Request::ReplaceIf {
                 key,
                 expected,
                 value,
-            } => Ok(CommandText {
-                name: "replace_if",
-                a: format!(in alloc; "{key}")?,
-                b: format!(in alloc; "{expected}")?,
-                c: format!(in alloc; "{value}")?,
-            }),
-            Request::Get { key } => Ok(CommandText {
-                name: "get",
-                a: format!(in alloc; "{key}")?,
-                b: String::new(alloc),
-                c: String::new(alloc),
-            }),
-            Request::Successor { key } => Ok(CommandText {
-                name: "successor",
-                a: format!(in alloc; "{key}")?,
-                b: String::new(alloc),
-                c: String::new(alloc),
-            }),
-            Request::Range { low, high, most } => Ok(CommandText {
-                name: "range",
-                a: format!(in alloc; "{low}")?,
-                b: format!(in alloc; "{high}")?,
-                c: format!(in alloc; "{most}")?,
-            }),
+            } => CommandText::of_numbers(
+                alloc,
+                "replace_if",
+                [Some(key), Some(expected), Some(value)],
+            ),
+            Request::Get { key } => CommandText::of_numbers(alloc, "get", [Some(key), None, None]),
+            Request::Successor { key } => {
+                CommandText::of_numbers(alloc, "successor", [Some(key), None, None])
+            }
+            Request::Range { low, high, most } => {
+                CommandText::of_numbers(alloc, "range", [Some(low), Some(high), Some(most.into())])
+            }
         }
+    }
+
+    /// The text of a command whose arguments are these numbers.
+    fn of_numbers(
+        alloc: Global,
+        name: &'static str,
+        numbers: [Option<u64>; 3],
+    ) -> Result<CommandText, AllocError>
+        ensures { IfOk result (λ t. t.name.now ∷ string_bytes t.a ∷ string_bytes t.b ∷ string_bytes t.c ∷ [] ≡ name.now ∷ map (λ n. option_map_or decimal n []) numbers) }
+    {
+        let [a, b, c] = numbers;
+        Ok(CommandText {
+            name,
+            a: argument_text(alloc, a)?,
+            b: argument_text(alloc, b)?,
+            c: argument_text(alloc, c)?,
+        })
+    }
+}
+
+/// The text of an argument: of none it is empty.
+fn argument_text(alloc: Global, number: Option<u64>) -> Result<String, AllocError>
+    ensures { IfOk result (λ text. string_bytes text ≡ option_map_or decimal number []) }
+{
+    match number {
+        Some(number) => format!(in alloc; "{number}"),
+        None => Ok(String::new(alloc)),
     }
 }
 
