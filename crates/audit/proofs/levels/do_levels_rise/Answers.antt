@@ -16,7 +16,8 @@ returns-in-Node-default-Child c = λ yes x.
 pub returns-in-Node-default-Settled : goal.returns-in-Node-default-Settled
 returns-in-Node-default-Settled c = λ yes x.
     let part : c.in-Node-default-Settled.field-1 ≡ Settled c.in-Node-default-Settled.part = rw c.in-Node-default-Settled.is at c.in-Node-default-Settled.field-1-is in
-    of_settled c.args.row.now (seen_history c.args.judge.now) _ _ (rw part at c.in-Node-default-Settled.is) (c.may_fill.ensures yes) x
+    let word = rw part at c.in-Node-default-Settled.is in
+    of_settled c.args.row.now (seen_history c.args.judge.now) _ _ word (rw word at c.may_fill.ensures yes) x
 
 pub returns-in-Node-default-Info : goal.returns-in-Node-default-Info
 returns-in-Node-default-Info c = λ yes x.
