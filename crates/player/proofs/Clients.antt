@@ -24,6 +24,7 @@ use Rattle.record.specs.CommandRules.{command_steps}
 use Rattle.player.specs.RunKnown.{RunWaits, RunAnswers, IsSameMachine, run_mode, share_behind}
 use Rattle.player.specs.RunSteps.{run_left, then_left, left_of}
 use Rattle.player.specs.ClientView.{ClientView, Hand, in_hand, snaps_of, IsStart, IsPutOf, IsScxOf, held, HoldsShare, Holds, TakesInHand, HasNewest, IsMachineOf, IsRoomy, MayTryAll, IsWonBy, IsClientState, Works, Hears, Answered, machine_call, GoesOn, HasBeenTold}
+use Rattle.player.specs.Hearing.{HasEnded, HasHeard}
 
 -- what does not change while a machine goes on
 record IsKept (left : Remaining) (old now : Run) : Type 0 where
@@ -126,8 +127,24 @@ goes_on v c old now then step w same waits few nearer = record {
 some_same : (p q : Running) → Some p ≡ Some q → p ≡ q
 some_same p q e = cc
 
-pub hears_as : (v : ClientView) (c : Client) (q p : Running) (found : ℕ) → Some p ≡ c.running → c.running ≡ Some q → Hears v c q found → Hears v c p found
-hears_as v c q p found e d x = rw (some_same p q (e ∙ d)) x
+pub hears_as : (v : ClientView) (c : Client) (q p : Running) (found : ℕ) → Some p ≡ Some q → Hears v c q found → Hears v c p found
+hears_as v c q p found e x = rw (some_same p q e) x
+
+pub ended_as : (v : ClientView) (c : Client) (q p : Running) (end : Ended) → Some p ≡ c.running → c.running ≡ Some q → HasEnded v c q end → HasEnded v c p end
+ended_as v c q p end e d x = rw (some_same p q (e ∙ d)) x
+
+-- a machine that has ended in its place
+pub ends_there : (v : ClientView) (c : Client) (q : Running) (now : Run) (end : Ended) (found : ℕ) (x : Hears v c q found) → IsSameMachine q.run now → RunAnswers now (machine_call v c x.works.is_pass x.works.start) v.past end → HasHeard v c (Some (record q { run = now })) (Some end)
+unfolding works_so
+ends_there v c q now end found x same a =
+    let p = record q { run = now } in
+    (p, refl, record { works = works_so v c (Some p) q.run now q.then same x.works; answers = a; few = λ taken i. let few = x.few taken i in omega arith })
+
+is_itself : (run : Run) → IsSameMachine run run
+is_itself (Llx m) = refl
+is_itself (Scx m) = (refl, refl, refl, refl)
+is_itself (Vlx m) = refl
+is_itself (Map m) = (refl, refl)
 
 -- with its share back, the client is the same
 back_so : (v : ClientView) (c : Client) (run : Run) (then : Option Put) → Works v c run then → Works v (record c { share = share_behind run c.share }) run then
@@ -163,11 +180,12 @@ unfolding back_so
 answered_back v c (Map m) then end w none a few = record { works = back_so v c (Map m) then w; none = none; answers = a; back = refl; few = few }
 answered_back v c run then end w none a few = record { works = back_so v c run then w; none = none; answers = a; back = refl; few = few }
 
-pub answered_so : (v : ClientView) (c : Client) (p : Running) (now : Run) (end : Ended) (found : ℕ) (rest : Option Running) (mid : Client) (x : Hears v c p found) → rest ≡ None → mid ≡ record c { running = rest; share = share_behind now c.share } → IsSameMachine p.run now → RunAnswers now (machine_call v c x.works.is_pass x.works.start) v.past end → Answered v mid now p.then end
+-- it has answered once it is taken out, with its share back
+pub answered_so : (v : ClientView) (c : Client) (p : Running) (end : Ended) (rest : Option Running) (mid : Client) → HasEnded v c p end → rest ≡ None → mid ≡ record c { running = rest; share = share_behind p.run c.share } → Answered v mid p.run p.then end
 unfolding works_so
-answered_so v c p now end found rest mid x e is same a =
-    subst (λ (k : Client). Answered v k now p.then end) (sym is)
-    (answered_back v (record c { running = rest }) now p.then end (works_so v c rest p.run now p.then same x.works) e a (λ taken i. let few = x.few taken i in omega arith))
+answered_so v c p end rest mid x e is =
+    subst (λ (k : Client). Answered v k p.run p.then end) (sym is)
+    (answered_back v (record c { running = rest }) p.run p.then end (works_so v c rest p.run p.run p.then (is_itself p.run) x.works) e x.answers x.few)
 
 -- what is told does not ask whether a machine ran, nor who had the share
 told_so : (v : ClientView) (c new : Client) (rest : Option Running) (share : Option Remaining) (answer : Option Answer) → HasBeenTold v (record c { running = rest; share = share }) new answer → HasBeenTold v c new answer

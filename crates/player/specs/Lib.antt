@@ -7,6 +7,7 @@ pub mod Player
 pub mod Place
 pub mod TurnsMore
 pub mod ClientView
+pub mod Hearing
 pub mod BetweenTurns
 pub mod KeptSnaps
 pub mod Core

@@ -1,10 +1,14 @@
 //! A client of the player: what it owns and what it is in the middle of.
-ghost use Rattle.std.specs.Prelude.{◌≡◌, ℕ, ◌+◌, ◌<◌, ◌≤◌, length, map, IfOk, MatchBool};
+ghost use Rattle.std.specs.Prelude.{◌≡◌, Some, ℕ, ◌+◌, ◌<◌, ◌≤◌, length, map, IfOk, MatchBool};
 ghost use Rattle.dict.specs.Calls.{AsksForPairs};
 ghost use Rattle.ordered_map.specs.OrderedMap.{is_value};
 ghost use Rattle.player.specs.Moments.{is_pair};
 ghost use Rattle.player.specs.RunKnown.{IsForNothing};
 ghost use Rattle.ordered_map.specs.Requests.{map_request};
+ghost use Rattle.player.specs.declared.client.Client.{Client};
+ghost use Rattle.player.specs.declared.client.Running.{Running};
+ghost use Rattle.player.specs.ClientView.{ClientView, IsSound, Hears};
+ghost use Rattle.player.specs.Hearing.{HasHeard};
 
 use crate::kept::Kept;
 use crate::place::next_call;
@@ -86,6 +90,7 @@ impl Client {
     ghost use Rattle.moments.specs.Places.{changes};
     ghost use Rattle.player.specs.Moments.{IsMomentBy, IsPairsMoment, IsPopMoment, IsReplaceMoment, IsReplyMoment, IsValueMoment};
     ghost use Rattle.player.specs.RunKnown.{share_behind};
+    ghost use Rattle.player.specs.Hearing.{HasEnded};
     ghost use Rattle.player.specs.ClientView.{ClientView, client_view, IsSound, IsAtNextCall, Rests, command_of, Starts, Hears, Answered, HasBeenTold, CanPut, Puts, held, running_edit, BeginsOrRefuses, IsNextAction, IsNextCallUnbegun, IsClient};
 
     pub(crate) fn new(
@@ -284,21 +289,19 @@ impl Client {
     pub(crate) fn tell(&mut self, found: u64) -> Option<Answer>
         ensures { (v : ClientView) (q : Running) → IsSound v → self.old.running ≡ Some q → Hears v self.old q found → HasBeenTold v self.old self.new result }
     {
-        let Running {
-            mut run,
-            then,
-            step: _,
-        } = self.running.take()?;
-        match run.next(Some(found)) {
-            Turn::Ask(step) => {
-                self.running = Some(Running { run, then, step });
-                None
-            }
-            Turn::Done(ended) => {
-                self.take_back(run);
-                self.after(ended, then)
-            }
-        }
+        let ended = hear(&mut self.running, found)?;
+        self.conclude(ended)
+    }
+
+    /// What follows once the machine has ended: the client's answer, or the SCX of a `set`. Not in
+    /// line, so that a turn that only makes a step has no room to clear for the machine.
+    #[inline(never)]
+    fn conclude(&mut self, ended: Ended) -> Option<Answer>
+        ensures { (v : ClientView) (q : Running) → IsSound v → self.old.running ≡ Some q → HasEnded v self.old q ended → HasBeenTold v self.old self.new result }
+    {
+        let Running { run, then, step: _ } = self.running.take()?;
+        self.take_back(run);
+        self.after(ended, then)
     }
 
     /// The key that its call of the map changes if its SCX wins, and what it leaves there.
@@ -525,6 +528,22 @@ impl Client {
             return won;
         }
         places.greatest(key, told, self.begin, turn)
+    }
+}
+
+/// Tells a machine what its step found, in its place: it asks for another step, or has ended.
+fn hear(running: &mut Option<Running>, found: u64) -> Option<Ended>
+    ensures { (v : ClientView) (c : Client) (q : Running) → IsSound v → running.old ≡ Some q → Hears v c q found → HasHeard v c running.new result }
+{
+    match running {
+        Some(here) => match here.run.next(Some(found)) {
+            Turn::Ask(step) => {
+                here.step = step;
+                None
+            }
+            Turn::Done(ended) => Some(ended),
+        },
+        None => None,
     }
 }
 
