@@ -27,3 +27,4 @@ mod Winners
 mod Plays
 mod TurnsMore
 mod SameKinds
+pub mod Lemmas

@@ -1,5 +1,6 @@
 -- What is true of a player before its first turn and after its last.
-use Rattle.std.proofs.Common.{arith, ◌≡◌, ℕ, ◌+◌, ◌<◌, ◌≤◌, List, [], ◌∷◌, ◌++◌, length, map, reverse, take, get_or, Option, Some, None, slice_get, All, inl, inr, refl, sym, ◌∙◌, ap, subst}
+use Rattle.std.proofs.Common.{arith, ◌≡◌, ℕ, suc, ◌+◌, ◌<◌, ◌≤◌, List, [], ◌∷◌, ◌++◌, length, map, reverse, take, get_or, Option, Some, None, Result, Ok, Err, IfOk, slice_get, All, inl, inr, refl, sym, ◌∙◌, ap, subst}
+use Rattle.std.specs.Prelude.{OnOk}
 use Rattle.std.proofs.lemmas.List.{map_more, reverse-append, reverse-reverse}
 use Rattle.arena.specs.declared.layout.Layout.{Layout}
 use Rattle.arena.specs.PlainWords.{Contents, IsOpening}
@@ -12,6 +13,7 @@ use Rattle.script.specs.Commands.{mode_of}
 use Rattle.player.proofs.Readings.{whole}
 use Rattle.player.specs.declared.client.Client.{Client}
 use Rattle.player.specs.declared.interleaving.Interleaving.{Interleaving}
+use Rattle.player.specs.declared.lines.Written.{Written}
 use Rattle.record.specs.declared.record.Line.{Line}
 use Rattle.record.specs.declared.record.Line.TheVariants.{Step, Log, Reply}
 use Rattle.record.specs.declared.record.Row.{Row}
@@ -21,7 +23,7 @@ use Rattle.record.specs.Turns.{history, clients, turns}
 use Rattle.player.specs.Lines.{turn_lines, with_entry, with_reply, with_turn}
 use Rattle.player.specs.ClientView.{client_view, Rests}
 use Rattle.record.specs.LawfulRun.{AreLines, IsLawfulRun}
-use Rattle.player.specs.BetweenTurns.{AreBetweenTurns, IsBetweenTurns, AreWins}
+use Rattle.player.specs.BetweenTurns.{AreBetweenTurns, HasTurned, IsBetweenTurns, AreWins}
 use Rattle.player.specs.Core.{StandsAt}
 use Rattle.player.specs.Player.{PlayerView, ScriptView, script_view, IsPlayed}
 
@@ -82,6 +84,20 @@ turns_few [] = omega arith
 turns_few (Step row ∷ lines) = let few = turns_few lines in omega (arith, few)
 turns_few (Log entry ∷ lines) = let few = turns_few lines in omega (arith, few)
 turns_few (Reply reply ∷ lines) = let few = turns_few lines in omega (arith, few)
+
+-- a turn is one more
+pub turn_counted : (row : Row) (entry : Option Entry) (reply : Option Finished) (lines : List Line) → turns (with_turn row entry reply lines) ≡ suc (turns lines)
+turn_counted row None None lines = refl
+turn_counted row None (Some reply) lines = refl
+turn_counted row (Some entry) None lines = refl
+turn_counted row (Some entry) (Some reply) lines = refl
+
+-- so the interleaving counts it
+pub counts_one : {E : Type 0} (r : Result Written E) (old new : Interleaving) (lines : List Line) (i : ℕ) → IsBetweenTurns old lines → IfOk r (λ turn. (lines : List Line) → IsBetweenTurns old lines → HasTurned old new lines i turn) → OnOk r (new.turns ≡ suc old.turns)
+counts_one (Ok turn) old new lines i x made =
+    let t = made lines x in
+    t.between.counted.turned ∙ turn_counted turn.row turn.entry turn.reply lines ∙ ap suc (sym x.counted.turned)
+counts_one (Err e) old new lines i x made = tt
 
 -- a turn's lines behind those of a list, the newest first
 pub turned_lines : (list : List Line) (row : Row) (entry : Option Entry) (reply : Option Finished) → reverse (list ++ turn_lines row entry reply) ≡ with_turn row entry reply (reverse list)

@@ -34,7 +34,7 @@ impl Model for Core {
 }
 
 impl Core {
-    ghost use Rattle.std.specs.Prelude.{◌≡◌, ◌<◌, ◌-◌, ◌^◌, List, [], is_some, IfOk, IfErr};
+    ghost use Rattle.std.specs.Prelude.{◌≡◌, ◌<◌, ◌-◌, ◌^◌, suc, List, [], is_some, IfOk, IfErr, OnOk};
     ghost use Rattle.record.specs.Commands.{next_command};
     ghost use Rattle.record.specs.Turns.{answered, turns};
     ghost use Rattle.record.specs.declared.record.Line.{Line};
@@ -61,6 +61,8 @@ impl Core {
         ensures stands { IfOk result (λ more. (p : PlayerView) → StandsAt self.old p → StandsAt self.new (with_lines p more.items)) }
         ensures refused { IfErr result (λ _. (p : PlayerView) → StandsAt self.old p → StandsAt self.new p) }
         ensures lawful { (p : PlayerView) → StandsAt self.new p → IsPlayed p }
+        ensures script { script_view self.new.script ≡ script_view self.old.script }
+        ensures counted { OnOk result (steps_of self.new ≡ suc (steps_of self.old)) }
     {
         Ok(lines_of(self.turn(client)?))
     }
@@ -70,6 +72,7 @@ impl Core {
         requires client { client.0 < passes_of self.old }
         requires steps { steps_of self.old < 2 ^ 64 - 1 }
         ensures script { script_view self.new.script ≡ script_view self.old.script }
+        ensures counted { OnOk result (steps_of self.new ≡ suc (steps_of self.old)) }
         ensures turn { IfOk result (λ turn. (lines : List Line) → IsBetweenTurns self.old lines → HasTurned self.old self.new lines client.0 turn) }
         ensures refused { IfErr result (λ _. (lines : List Line) → IsBetweenTurns self.old lines → IsBetweenTurns self.new lines) }
     {
