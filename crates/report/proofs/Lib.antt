@@ -1,6 +1,7 @@
 mod Texts
 mod PlainTexts
 mod Parts
+mod Streams
 mod PairTexts
 mod WordTexts
 mod Counted

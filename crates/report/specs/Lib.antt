@@ -1,6 +1,8 @@
 pub mod Words
 pub mod Answers
 pub mod Report
+pub mod StreamFaults
+pub mod Streams
 pub mod Outcome
 pub mod Counts
 pub mod Faults

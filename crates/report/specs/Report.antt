@@ -83,9 +83,13 @@ entries_in (Step row ∷ lines) = entries_in lines
 entries_in (Log entry ∷ lines) = suc (entries_in lines)
 entries_in (Reply reply ∷ lines) = entries_in lines
 
+-- the row that tells these counts
+abbrev pub counts_row : ℕ → ℕ → ℕ → List (List ℕ)
+counts_row steps replies entries = codes "end" ∷ decimal steps ∷ decimal replies ∷ decimal entries ∷ []
+
 -- the row that counts the others by their kind
 abbrev pub report_end_row : List Line → List (List ℕ)
-report_end_row lines = codes "end" ∷ decimal (steps_in lines) ∷ decimal (replies_in lines) ∷ decimal (entries_in lines) ∷ []
+report_end_row lines = counts_row (steps_in lines) (replies_in lines) (entries_in lines)
 
 -- The whole
 

@@ -2,13 +2,12 @@
 ghost use Rattle.std.specs.Prelude.{◌≡◌, [], ◌∷◌, IfOk, OnOk};
 ghost use Rattle.std.specs.Io.KnownBytes.{Appends};
 ghost use Rattle.script.specs.Rows.{limits_row};
-ghost use Rattle.report.specs.Report.{report_end_row, title_row};
+ghost use Rattle.report.specs.Report.{counts_row, title_row};
 ghost use Rattle.texts.specs.Pages.{IsReady, line_of, page_row, page_text, rows_text};
 
 use crate::rows::Page;
 use crate::totals::Totals;
 use arena::{Limits, Mode};
-use record::Line;
 use script::Script;
 use std::alloc::{AllocError, Global};
 
@@ -55,10 +54,9 @@ fn limits_line(page: &mut Page, limits: &Limits) -> Result<(), AllocError>
 }
 
 /// The line that counts the others by their kind.
-pub fn end_text(alloc: Global, lines: &[Line]) -> Result<Vec<u8>, AllocError>
-    ensures { IfOk result (λ text. text.items ≡ rows_text 7 (report_end_row lines.now ∷ [])) }
+pub fn end_text(alloc: Global, totals: Totals) -> Result<Vec<u8>, AllocError>
+    ensures { IfOk result (λ text. text.items ≡ rows_text 7 (counts_row totals.steps totals.replies totals.entries ∷ [])) }
 {
-    let totals = Totals::of(lines);
     let mut page = Page::new(alloc);
     page.text("end")?;
     page.number(totals.steps)?;

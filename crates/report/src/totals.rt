@@ -1,5 +1,5 @@
 //! How many lines of each kind a run has.
-ghost use Rattle.std.specs.Prelude.{◌≡◌, ◌↔◌, IsTrue};
+ghost use Rattle.std.specs.Prelude.{◌≡◌, ◌↔◌, ◌+◌, ◌-◌, ◌^◌, IsTrue, min};
 ghost use Rattle.report.specs.Report.{report_end_row, entries_in, replies_in, steps_in, seven};
 ghost use Rattle.script.specs.Commands.{texts};
 
@@ -18,6 +18,29 @@ pub struct Totals {
 }
 
 impl Totals {
+    /// The counts of no lines.
+    pub fn none() -> Totals
+        ensures { result ≡ record { steps = 0; replies = 0; entries = 0 } }
+    {
+        Totals {
+            steps: 0,
+            replies: 0,
+            entries: 0,
+        }
+    }
+
+    /// Counts these lines too. A count that would be too large stays at the largest `u64`.
+    pub fn count(&mut self, lines: &[Line])
+        ensures steps { self.new.steps ≡ min (self.old.steps + steps_in lines.now) (2 ^ 64 - 1) }
+        ensures replies { self.new.replies ≡ min (self.old.replies + replies_in lines.now) (2 ^ 64 - 1) }
+        ensures entries { self.new.entries ≡ min (self.old.entries + entries_in lines.now) (2 ^ 64 - 1) }
+    {
+        let more = Totals::of(lines);
+        self.steps = self.steps.saturating_add(more.steps);
+        self.replies = self.replies.saturating_add(more.replies);
+        self.entries = self.entries.saturating_add(more.entries);
+    }
+
     /// The counts of these lines.
     pub fn of(lines: &[Line]) -> Totals
         ensures steps { result.steps ≡ steps_in lines.now }

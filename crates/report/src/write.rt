@@ -8,6 +8,7 @@ use crate::call::calls_text;
 use crate::count::Counts;
 use crate::head::{end_text, head_text};
 use crate::line::put_lines;
+use crate::totals::Totals;
 use record::{Line, Record};
 use script::Call;
 use std::alloc::Global;
@@ -36,10 +37,12 @@ pub fn write_record<W: Write>(
     send(head_text(alloc, script)?.as_slice(), to)?;
     write_calls(alloc, script.calls.as_slice(), to)?;
     write_lines(alloc, record.lines.as_slice(), to)?;
-    send(end_text(alloc, record.lines.as_slice())?.as_slice(), to)
+    let totals = Totals::of(record.lines.as_slice());
+    send(end_text(alloc, totals)?.as_slice(), to)
 }
 
-fn write_calls<W: Write>(
+/// Writes the rows of calls.
+pub fn write_calls<W: Write>(
     alloc: Global,
     calls: &[Call],
     to: &mut Metered<W>,

@@ -41,7 +41,7 @@ returns-clause-all g c =
     (rw c.as_slice-2.ensures.value at c.in_ok-write_calls.ensures.all)
     (rw c.as_slice-3.ensures.value at c.in_ok-write_lines.ensures.all))
     all)
-    (rw (c.as_slice-5.ensures.value ∙ c.in_ok-end_text.ensures, c.as_slice-4.ensures.value) at c.send-2.ensures.all)
+    (rw (c.as_slice-5.ensures.value ∙ c.in_ok-end_text.ensures, c.of-totals.ensures.steps, c.of-totals.ensures.replies, c.of-totals.ensures.entries, c.as_slice-4.ensures.value) at c.send-2.ensures.all)
 
 pub returns-clause-beginning : goal.returns-clause-beginning
 returns-clause-beginning g c =
@@ -52,4 +52,4 @@ returns-clause-beginning g c =
     (rw c.as_slice-2.ensures.value at c.in_ok-write_calls.ensures.all)
     (rw c.as_slice-3.ensures.value at c.in_ok-write_lines.ensures.all))
     part)
-    (rw (c.as_slice-5.ensures.value ∙ c.in_ok-end_text.ensures, c.as_slice-4.ensures.value) at c.send-2.ensures.beginning)
+    (rw (c.as_slice-5.ensures.value ∙ c.in_ok-end_text.ensures, c.of-totals.ensures.steps, c.of-totals.ensures.replies, c.of-totals.ensures.entries, c.as_slice-4.ensures.value) at c.send-2.ensures.beginning)

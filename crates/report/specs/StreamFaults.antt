@@ -1,0 +1,10 @@
+-- Why a part of a streamed report did not go out.
+use Rattle.texts.specs.declared.fault.WriteFault.{WriteFault}
+use Rattle.texts.specs.declared.fault.WriteFault.TheVariants as write
+use Rattle.report.specs.declared.stream.StreamFault.{StreamFault}
+use Rattle.report.specs.declared.stream.StreamFault.TheVariants as stream
+
+-- the stream's fault where bytes were not written
+abbrev pub fault_of_write : WriteFault → StreamFault
+fault_of_write write.NoMemory = stream.NoMemory
+fault_of_write write.Write = stream.Write

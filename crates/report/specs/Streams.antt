@@ -1,0 +1,36 @@
+-- What a stream has written of its report, and what it stands behind.
+use Rattle.std.specs.Prelude.{◌≡◌, ◌≤◌, ℕ, false, List, [], ◌∷◌, ◌++◌, Option, map, reverse}
+use Rattle.std.specs.Io.KnownBytes.{Appends}
+use Rattle.texts.specs.Pages.{BeginsWith, rows_text}
+use Rattle.script.specs.Rows.{limits_row}
+use Rattle.record.specs.declared.record.Line.{Line}
+use Rattle.player.specs.Core.{IsNextTurn, StandsAt, with_lines}
+use Rattle.player.specs.Player.{PlayerView}
+use Rattle.report.specs.Report.{call_rows, entries_in, line_row, replies_in, steps_in, title_row}
+use Rattle.report.specs.declared.stream.Stream.{Stream}
+use Rattle.report.specs.declared.totals.Totals.{Totals}
+
+-- the text of the report so far: all of its rows but the last, which counts the others
+abbrev pub text_so_far : PlayerView → List ℕ
+text_so_far p = rows_text 7 (title_row p.script.layout.mode ∷ limits_row p.script.limits ∷ (call_rows [] p.script.calls ++ map line_row (reverse p.lines)))
+
+-- the counts of these lines, among which no turn has more than one reply and one entry
+pub record AreTotals (totals : Totals) (lines : List Line) : Type 0 where
+  pub steps : totals.steps ≡ steps_in lines
+  pub replies : totals.replies ≡ replies_in lines
+  pub entries : totals.entries ≡ entries_in lines
+  pub few_replies : replies_in lines ≤ steps_in lines
+  pub few_entries : entries_in lines ≤ steps_in lines
+
+-- the stream goes on behind these turns, and their report so far stands behind the old bytes
+pub record HasWritten (stream : Stream) (old new : Option (List ℕ)) (p : PlayerView) : Type 0 where
+  pub goes_on : stream.ended ≡ false
+  pub stands : StandsAt stream.core p
+  pub totals : AreTotals stream.totals (reverse p.lines)
+  pub text : Appends old new (text_so_far p)
+
+-- behind the old bytes stands a beginning of the report so far, with one turn more of client i
+pub record IsCutAt (old new : Option (List ℕ)) (p : PlayerView) (i : ℕ) : Type 0 where
+  pub more : List Line
+  pub turn : IsNextTurn p i more
+  pub text : BeginsWith old new (text_so_far (with_lines p more))

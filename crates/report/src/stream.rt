@@ -1,0 +1,210 @@
+//! The report of a run, written while the run is played.
+ghost use Rattle.std.specs.Prelude.{◌≡◌, ◌≢◌, false, ℕ, suc, ◌+◌, ◌-◌, ◌^◌, ◌<◌, List, [], Option, is_some, IfOk, IsErrOf, IsTrue, OnErr, OnOk, min, reverse};
+ghost use Rattle.std.specs.Io.KnownBytes.{Appends, Keeps};
+ghost use Rattle.texts.specs.Pages.{BeginsWith};
+ghost use Rattle.record.specs.Commands.{next_command};
+ghost use Rattle.record.specs.Turns.{turns};
+ghost use Rattle.script.specs.declared.script.Script.{Script};
+ghost use Rattle.player.specs.Core.{IsNextTurn, StandsAt, passes_of, steps_of, with_lines};
+ghost use Rattle.player.specs.Player.{IsPlayed, PlayerView, script_view};
+ghost use Rattle.report.specs.Report.{report_text};
+ghost use Rattle.report.specs.StreamFaults.{fault_of_write};
+ghost use Rattle.report.specs.declared.stream.StreamFault.TheVariants as fault;
+
+use crate::head::{end_text, head_text};
+use crate::line::put_lines;
+use crate::totals::Totals;
+use crate::write::write_calls;
+use arena::{NoMemory, PassNo};
+use player::{Core, Lines};
+use script::Script;
+use std::alloc::{AllocError, Global};
+use std::io::Write;
+use texts::{Metered, Sheet, WriteFault, send};
+use thiserror::Error;
+
+/// How much room the rows of one turn take at most: three rows, and in a reply 64 pairs of numbers.
+const ROOM: usize = 4096;
+
+/// Why a part of a report did not go out.
+#[derive(Clone, Copy, Debug, PartialEq, Eq, Error)]
+pub enum StreamFault {
+    /// An allocation was refused.
+    #[error("no memory")]
+    NoMemory,
+    /// The writer failed in this call.
+    #[error("write failed")]
+    Write,
+    /// A call before this one has failed while it wrote.
+    #[error("ended")]
+    Ended,
+}
+
+impl From<WriteFault> for StreamFault {
+    ghost from_gives = { λ given made. made ≡ fault_of_write given };
+
+    fn from(fault: WriteFault) -> StreamFault {
+        match fault {
+            WriteFault::NoMemory => StreamFault::NoMemory,
+            WriteFault::Write => StreamFault::Write,
+        }
+    }
+}
+
+impl From<AllocError> for StreamFault {
+    ghost from_gives = { λ _ made. made ≡ fault.NoMemory };
+
+    fn from(_error: AllocError) -> StreamFault {
+        StreamFault::NoMemory
+    }
+}
+
+impl From<NoMemory> for StreamFault {
+    ghost from_gives = { λ _ made. made ≡ fault.NoMemory };
+
+    fn from(_fault: NoMemory) -> StreamFault {
+        StreamFault::NoMemory
+    }
+}
+
+/// Plays a script, one turn of a client at a time, and writes its report as it goes. It keeps no
+/// line that was written. A writer is lent to each call; it flushes what the call has written.
+#[derive(Drop)]
+pub struct Stream {
+    core: Core,
+    alloc: Global,
+    sheet: Sheet,
+    totals: Totals,
+    ended: bool,
+}
+
+impl Stream {
+    ghost use Rattle.report.specs.Streams.{HasWritten, IsCutAt, text_so_far};
+
+    /// Writes the rows before the first turn: those of the format, the limits and the calls. After a
+    /// fault what went out is a beginning of them. The faults are `NoMemory` and `Write`.
+    pub fn new<W: Write>(
+        alloc: Global,
+        script: &Script,
+        to: &mut Metered<W>,
+    ) -> Result<Stream, StreamFault>
+        ensures begun { IfOk result (λ stream. HasWritten stream (W.contents to.old.inner) (W.contents to.new.inner)
+            record { script = script_view script.now; lines = [] }) }
+        ensures beginning { OnErr result (BeginsWith (W.contents to.old.inner) (W.contents to.new.inner)
+            (text_so_far record { script = script_view script.now; lines = [] })) }
+        ensures ok { OnOk result (to.new.failures ≡ to.old.failures) }
+        ensures no_memory { IsErrOf result StreamFault.NoMemory → to.new.failures ≡ to.old.failures }
+        ensures write { IsErrOf result StreamFault.Write → to.new.failures ≡ min (to.old.failures + 1) (2 ^ 64 - 1) }
+        ensures not_ended { result ≢ Err StreamFault.Ended }
+    {
+        let core = Core::new(alloc, script)?;
+        send(head_text(alloc, script)?.as_slice(), to)?;
+        write_calls(alloc, script.calls.as_slice(), to)?;
+        flush(to)?;
+        Ok(Stream {
+            core,
+            alloc,
+            sheet: Sheet::new(alloc),
+            totals: Totals::none(),
+            ended: false,
+        })
+    }
+
+    /// One turn of a client, as `Core::step` makes it, and its lines, which are written and
+    /// answered. Where memory for them is refused before the turn, nothing has changed, and the same
+    /// turn can be asked again. Where a write fails, or memory is refused after the turn, what went
+    /// out is a beginning of the report, and the stream has ended.
+    pub fn step<W: Write>(
+        &mut self,
+        client: PassNo,
+        to: &mut Metered<W>,
+    ) -> Result<Lines, StreamFault>
+        requires client { client.0 < passes_of self.old.core }
+        requires steps { steps_of self.old.core < 2 ^ 64 - 1 }
+        ensures turn { IfOk result (λ more. (p : PlayerView) → StandsAt self.old.core p → IsNextTurn p client.0 more.items) }
+        ensures written { (start : Option (List ℕ)) (p : PlayerView) → HasWritten self.old start (W.contents to.old.inner) p →
+            IfOk result (λ more. HasWritten self.new start (W.contents to.new.inner) (with_lines p more.items)) }
+
+        // A fault before the turn leaves all as it was.
+        ensures refused { (start : Option (List ℕ)) (p : PlayerView) → HasWritten self.old start (W.contents to.old.inner) p →
+            OnErr result (self.new.ended ≡ false → HasWritten self.new start (W.contents to.new.inner) p × to.new ≡ to.old) }
+
+        // One behind it ends the stream.
+        ensures cut { (start : Option (List ℕ)) (p : PlayerView) → HasWritten self.old start (W.contents to.old.inner) p →
+            OnErr result (IsTrue self.new.ended → IsCutAt start (W.contents to.new.inner) p client.0) }
+        ensures failed { IsErrOf result StreamFault.Write → IsTrue self.new.ended }
+        ensures over { IsTrue self.old.ended → (result ≡ Err StreamFault.Ended) × (self.new ≡ self.old) × (to.new ≡ to.old) }
+        ensures why { result ≡ Err StreamFault.Ended → IsTrue self.old.ended }
+
+        ensures lawful { (p : PlayerView) → StandsAt self.new.core p → IsPlayed p }
+        ensures passes { passes_of self.new.core ≡ passes_of self.old.core }
+        ensures counted { OnOk result (steps_of self.new.core ≡ suc (steps_of self.old.core)) }
+        ensures ok { OnOk result (to.new.failures ≡ to.old.failures) }
+        ensures no_memory { IsErrOf result StreamFault.NoMemory → to.new.failures ≡ to.old.failures }
+        ensures write { IsErrOf result StreamFault.Write → to.new.failures ≡ min (to.old.failures + 1) (2 ^ 64 - 1) }
+    {
+        if self.ended {
+            return Err(StreamFault::Ended);
+        }
+        self.sheet.clear();
+        self.sheet.make_room(ROOM)?;
+        let lines = self.core.step(client)?;
+        // The turn is made, and can't be asked again until its lines are out.
+        self.ended = true;
+        put_lines(&mut self.sheet, lines.as_slice())?;
+        send(self.sheet.text(), to)?;
+        flush(to)?;
+        self.totals.count(lines.as_slice());
+        self.ended = false;
+        Ok(lines)
+    }
+
+    /// Writes the last row, which counts the others. After a fault what went out is a beginning of
+    /// the report.
+    pub fn end<W: Write>(self, to: &mut Metered<W>) -> Result<(), StreamFault>
+        ensures all { (start : Option (List ℕ)) (p : PlayerView) (script : Script) →
+            HasWritten self start (W.contents to.old.inner) p → script_view script ≡ p.script →
+            OnOk result (Appends start (W.contents to.new.inner) (report_text script (reverse p.lines))) }
+        ensures beginning { (start : Option (List ℕ)) (p : PlayerView) (script : Script) →
+            HasWritten self start (W.contents to.old.inner) p → script_view script ≡ p.script →
+            OnErr result (BeginsWith start (W.contents to.new.inner) (report_text script (reverse p.lines))) }
+        ensures over { IsTrue self.ended → (result ≡ Err StreamFault.Ended) × (to.new ≡ to.old) }
+        ensures why { result ≡ Err StreamFault.Ended → IsTrue self.ended }
+        ensures ok { OnOk result (to.new.failures ≡ to.old.failures) }
+        ensures no_memory { IsErrOf result StreamFault.NoMemory → to.new.failures ≡ to.old.failures }
+        ensures write { IsErrOf result StreamFault.Write → to.new.failures ≡ min (to.old.failures + 1) (2 ^ 64 - 1) }
+    {
+        if self.ended {
+            return Err(StreamFault::Ended);
+        }
+        send(end_text(self.alloc, self.totals)?.as_slice(), to)?;
+        flush(to)?;
+        Ok(())
+    }
+
+    /// How many turns were made so far.
+    pub fn steps(&self) -> u64
+        ensures steps { result ≡ steps_of self.now.core }
+        ensures turns { (p : PlayerView) → StandsAt self.now.core p → result ≡ turns p.lines }
+    {
+        self.core.steps()
+    }
+
+    /// Whether a client has a call left.
+    pub fn has_call(&self, client: PassNo) -> bool
+        requires { client.0 < passes_of self.now.core }
+        ensures { (p : PlayerView) → StandsAt self.now.core p →
+            result ≡ is_some (next_command p.script.calls p.lines client.0) }
+    {
+        self.core.has_call(client)
+    }
+}
+
+fn flush<W: Write>(to: &mut Metered<W>) -> Result<(), WriteFault>
+    ensures bytes { Keeps (W.contents to.old.inner) (W.contents to.new.inner) }
+    ensures ok { OnOk result (to.new.failures ≡ to.old.failures) }
+    ensures err { OnErr result (to.new.failures ≡ min (to.old.failures + 1) (2 ^ 64 - 1)) }
+    ensures why { OnErr result (result ≡ Err WriteFault.Write) }
+{
+    to.flush().map_err(|_| WriteFault::Write)
+}
