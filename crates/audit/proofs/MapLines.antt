@@ -40,7 +40,7 @@ use Rattle.moments.specs.Entries.{IsChangeBy}
 use Rattle.moments.proofs.Lemmas.{are_spelled, change_of_newest}
 use Rattle.moments.specs.declared.places.Places.{Places}
 use Rattle.moments.specs.Places.{changes}
-use Rattle.audit.specs.Edits.{IsSuited, MayMakeEdit, HasBegunWith, AreRememberedEdits}
+use Rattle.audit.specs.Edits.{IsEditBy, IsSuited, MayMakeEdit, HasBegunWith, AreRememberedEdits, edit_begun}
 use Rattle.audit.specs.declared.edits.Begun.{Begun}
 use Rattle.audit.specs.Trees.{IsMapSoFar, IsTreeSoFar, HasChangedBy}
 use Rattle.audit.proofs.TreeLines.{tree_idle, tree_reply, tree_log, tree_step, edits_kept, edits_set, edit_allowed, edit_entry, change_made, begun_before_win}
@@ -88,22 +88,19 @@ unfolding AreSpelled
 spelled_now lay calls [] x owed = x
 spelled_now lay calls (line ∷ lines) x owed = x.1 owed
 
--- the entry of a call, by what its SCX-record does
-change_by : (lay : Layout) (c : ℕ) (before start : History) (linked : ℕ → Option History) (e : Entered) (turn : ℕ) (command : Command) (m : List Pair) (begun : Begun) → mode_of command ≡ Tree → Lawful lay before → HasBegunWith lay before e.scx begun → IsEntryFor lay c before start linked e command → Spells lay (value before) m → IsChangeBy (map_call (Some command)) m record { turn = turn; key = begun.key; value = begun.value }
-change_by lay c before start linked e turn (Map request) m begun mode lawful b x spells = change_made lay before e turn (map_request request) m begun lawful b x spells
-change_by lay c before start linked e turn (LlxOf cell) m begun mode lawful b x spells = absurd x
-change_by lay c before start linked e turn (VlxOf cells) m begun mode lawful b x spells = absurd x
-change_by lay c before start linked e turn (ScxOf update) m begun mode lawful b x spells = absurd (let z : Records ≡ Tree = mode in cc)
-change_by lay c before start linked e turn (SetOf field put) m begun mode lawful b x spells = absurd (let z : Records ≡ Tree = mode in cc)
+-- the entry of a call, by what its SCX-record does, which has begun for it
+change_by : (lay : Layout) (c : ℕ) (before start : History) (linked : ℕ → Option History) (row : StepRow) (e : Entered) (turn : ℕ) (m : List Pair) (begun : Begun) → IsTreeRun lay (row ⊳ before) → IsWin before row e.scx → HasBegunWith lay before e.scx begun → Spells lay (value before) m → (command : Command) → IsEditBy (map_call (Some command)) (edit_begun begun) → IsEntryFor lay c before start linked e command → IsChangeBy (map_call (Some command)) m record { turn = turn; key = begun.key; value = begun.value }
+change_by lay c before start linked row e turn m begun run won b spells (Map request) by x = change_made lay before row e turn m begun run won b spells (map_request request) by x
+change_by lay c before start linked row e turn m begun run won b spells command by x = absurd by
 
 -- the change of an SCX-record that has begun is that of its entry
-change_of : (lay : Layout) (tries : ℕ) (calls : List Call) (lines : List Line) (entry : Entry) (begun : Begun) → lay.mode ≡ Tree → AreOf lay.mode calls → AreLines lay tries calls (Log entry ∷ lines) → AreSpelled lay calls lines → IsRun TreeAllows lay (history lay.mode lines) → HasBegunWith lay (history lay.mode lines) entry.scx.0 begun → IsChangeBy (map_call_of calls entry.client.0 entry.call) (map_of calls (written_log lines)) record { turn = entry.step; key = begun.key; value = begun.value }
-unfolding AreLines AreSpelled Lawful
-change_of lay tries calls [] entry begun mode all a x run b = absurd a.1
-change_of lay tries calls (Step (Idle n client) ∷ lines) entry begun mode all a x run b = absurd a.1
-change_of lay tries calls (Log d ∷ lines) entry begun mode all a x run b = absurd a.1
-change_of lay tries calls (ReplyLine d ∷ lines) entry begun mode all a x run b = absurd a.1
-change_of lay tries calls (Step (Made n row) ∷ lines) entry begun mode all a x run b = subst (λ (o : Option Command). IsChangeBy (map_call o) m made) (sym (ap (λ (k : ℕ). slice_get (commands calls entry.client.0) k) w.call ∙ w.is)) by
+change_of : (lay : Layout) (tries : ℕ) (calls : List Call) (lines : List Line) (entry : Entry) (begun : Begun) → lay.mode ≡ Tree → AreLines lay tries calls (Log entry ∷ lines) → AreSpelled lay calls lines → IsRun TreeAllows lay (history lay.mode lines) → HasBegunWith lay (history lay.mode lines) entry.scx.0 begun → next_command calls lines entry.client.0 ≡ Some begun.command → IsChangeBy (map_call_of calls entry.client.0 entry.call) (map_of calls (written_log lines)) record { turn = entry.step; key = begun.key; value = begun.value }
+unfolding AreLines AreSpelled
+change_of lay tries calls [] entry begun mode a x run b own = absurd a.1
+change_of lay tries calls (Step (Idle n client) ∷ lines) entry begun mode a x run b own = absurd a.1
+change_of lay tries calls (Log d ∷ lines) entry begun mode a x run b own = absurd a.1
+change_of lay tries calls (ReplyLine d ∷ lines) entry begun mode a x run b own = absurd a.1
+change_of lay tries calls (Step (Made n row) ∷ lines) entry begun mode a x run b own = subst (λ (o : Option Command). IsChangeBy (map_call o) m made) (sym (ap (λ (k : ℕ). slice_get (commands calls entry.client.0) k) w.call ∙ w.is)) by
   where
     w : IsWinOf lay calls lines row entry
     w = a.1.1
@@ -123,8 +120,11 @@ change_of lay tries calls (Step (Made n row) ∷ lines) entry begun mode all a x
     begun_then : HasBegunWith lay before w.entered.scx begun
     begun_then = subst (λ (s : ℕ). HasBegunWith lay before s begun) (sym w.same_scx) (begun_before_win lay before row entry.scx.0 begun w.wins b)
 
+    for_it : IsEditBy (map_call (Some w.command)) (edit_begun begun)
+    for_it = subst (λ (o : Option Command). IsEditBy (map_call o) (edit_begun begun)) (sym own ∙ w.is) b.makes.own
+
     by : IsChangeBy (map_call (Some w.command)) m made
-    by = change_by lay entry.client.0 before _ _ w.entered entry.step w.command m begun (next_of_mode lay.mode calls lines entry.client.0 w.command all w.is ∙ mode) run.lawful.0 begun_then w.does spells
+    by = change_by lay entry.client.0 before _ _ row w.entered entry.step m begun (mode, run) (subst (λ (s : ℕ). IsWin before row s) (sym w.same_scx) w.wins) begun_then spells w.command for_it w.does
 
 module _ (lay : Layout) (tries : ℕ) (calls : List Call) (of_mode : AreOf lay.mode calls) (begun : List (Option Begun)) (places : Places) (lines : List Line) (x : IsMapSoFar lay calls begun places lines) where
   pub map_idle : (number : ℕ) (pass : PassNo) → AreLines lay tries calls (Step (Idle number pass) ∷ lines) → IsMapSoFar lay calls begun places (Step (Idle number pass) ∷ lines)
@@ -134,16 +134,18 @@ module _ (lay : Layout) (tries : ℕ) (calls : List Call) (of_mode : AreOf lay.m
   map_reply reply a = record { tree = λ mode. tree_reply lay tries calls mode (map_calls lay.mode calls mode of_mode) begun (changes places) lines (x.tree mode) reply a }
 
   -- an entry, whose call changes the map
-  pub map_log : (after : Places) (entry : Entry) → AreLines lay tries calls (Log entry ∷ lines) → (lay.mode ≡ Tree → HasChangedBy entry begun (changes places) (changes after)) → IsMapSoFar lay calls begun after (Log entry ∷ lines)
+  pub map_log : (after : Places) (entry : Entry) → AreLines lay tries calls (Log entry ∷ lines) → (lay.mode ≡ Tree → HasChangedBy calls lines entry begun (changes places) (changes after)) → IsMapSoFar lay calls begun after (Log entry ∷ lines)
   map_log after entry a change = record { tree = tree }
     where
       tree : lay.mode ≡ Tree → IsTreeSoFar lay calls begun (changes after) (Log entry ∷ lines)
       tree mode =
           let d = change mode in
+          let one : Begun = d.by.begun in
           let t = x.tree mode in
-          let made : Change = record { turn = entry.step; key = d.begun.key; value = d.begun.value } in
-          let by = change_of lay tries calls lines entry d.begun mode of_mode a t.spelled t.run (t.edits entry.scx.0 d.begun d.known) in
-          subst (λ (l : List Change). IsTreeSoFar lay calls begun l (Log entry ∷ lines)) (sym d.added) (tree_log lay tries calls mode (map_calls lay.mode calls mode of_mode) begun (changes places) lines t entry made a (change_of_newest lay tries calls lines entry made a refl by))
+          let made : Change = record { turn = entry.step; key = one.key; value = one.value } in
+          let by = change_of lay tries calls lines entry one mode a t.spelled t.run (t.edits entry.scx.0 one d.by.known) d.by.own in
+          let added : changes after ≡ made ∷ changes places = d.added ∙ ap (λ (c : Change). c ∷ changes places) d.by.is in
+          subst (λ (l : List Change). IsTreeSoFar lay calls begun l (Log entry ∷ lines)) (sym added) (tree_log lay tries calls mode (map_calls lay.mode calls mode of_mode) begun (changes places) lines t entry made a (change_of_newest lay tries calls lines entry made a refl by))
 
   -- a step, with the SCX-record that it begins, if it begins one
   pub map_step : (number : ℕ) (row : StepRow) (h : History) (more : List (Option Begun)) (edit : Option Begun) → h ≡ history lay.mode lines → AreLines lay tries calls (Step (Made number row) ∷ lines) → IsLawful lay (history lay.mode lines) row → (lay.mode ≡ Tree → HasRisingLevels h → HasRisingLevels (row ⊳ h)) → (lay.mode ≡ Tree → IsBegin h row row.after → (b : Begun) × MayMakeEdit lay h row.after b) → IfSome edit (λ b. IsBegin h row row.after) → IfSome edit (MayMakeEdit lay h row.after) → (edit ≡ None → more ≡ begun) → (IsSome edit → more ≡ set begun row.after edit) → IsMapSoFar lay calls more places (Step (Made number row) ∷ lines)

@@ -1,5 +1,6 @@
 -- What is remembered of the tree stays what the lines say.
-use Rattle.std.proofs.Common.{◌≡◌, ℕ, zero, suc, ◌⊎◌, inl, inr, ⊎_elim, Bool, cond, eq-eqb, ◌∙◌, List, [], ◌∷◌, set, slice_get, Option, Some, None, refl, sym, ap, subst}
+use Rattle.std.proofs.Common.{◌≡◌, ℕ, zero, suc, ◌⊎◌, inl, inr, ⊎_elim, Bool, cond, eq-eqb, ne_eqb, ◌∙◌, List, [], ◌∷◌, set, slice_get, Option, Some, None, refl, sym, ap, subst, arith}
+use native.Mathlib.Decide.{ℕ_discrete}
 use Rattle.arena.specs.declared.limits.Mode.TheVariants.{Tree}
 use Rattle.arena.specs.declared.layout.Layout.{Layout}
 use Rattle.arena.specs.declared.number.PassNo.{PassNo}
@@ -16,12 +17,12 @@ use Rattle.arena.specs.Shape.{Shaped, IsBegin}
 use Rattle.arena.specs.Words.{node}
 use Rattle.arena.proofs.Lemmas.{ends_self}
 use Rattle.ordered_map.specs.declared.pair.Pair.{Pair}
-use Rattle.ordered_map.proofs.Lemmas.{makes_one, makes_since, win_first, win_makes}
+use Rattle.ordered_map.proofs.Lemmas.{makes_since, one_spelling, win_first, win_makes}
 use Rattle.script.specs.declared.call.Call.{Call}
 use Rattle.script.specs.declared.command.Command.{Command}
 use Rattle.script.specs.declared.command.Command.TheVariants.{Map}
 use Rattle.ordered_map.specs.FillOrder.{HasRisingLevels}
-use Rattle.ordered_map.specs.OrderedMap.{MapCall, MapEdit, Edit, Insert, Delete, PopFirst, ReplaceIf, OneValue, pair, pair_or_none, edit_key, edit_of, value_left}
+use Rattle.ordered_map.specs.OrderedMap.{MapCall, MapEdit, Edit, Insert, Delete, PopFirst, ReplaceIf, OneValue, AllAbove, IsRising, delete, edited, first_pair, pair, pair_or_none, edit_key, edit_of, value_left}
 use Rattle.ordered_map.specs.Requests.{map_request}
 use Rattle.ordered_map.specs.Runs.{IsTreeRun, Makes}
 use Rattle.ordered_map.specs.Spelled.{Spells}
@@ -115,23 +116,48 @@ module _ (lay : Layout) (h : History) (row : StepRow) (e : Entered) (run : IsTre
 pub edit_entry : (lay : Layout) (c : ℕ) (h start : History) (row : StepRow) (linked : ℕ → Option History) (e : Entered) (begun : Begun) → IsTreeRun lay h → IsLawful lay h row → IsWin h row e.scx → HasBegunWith lay h e.scx begun → IsSuited h e.scx begun → IsEntryFor lay c h start linked e begun.command
 edit_entry lay c h start row linked e begun g lawful won x suited = entry_by lay h row e (win_run lay h row e.scx g lawful won) won c start linked begun.command (edit_begun begun) (made lay h e.scx begun x) x.makes.own suited
 
--- an entry of a call makes the edit that the call makes of the map that the words spell before it
-entered : (lay : Layout) (h : History) (e : Entered) (call : MapCall) (m : List Pair) → IsMapEntry call lay h e → Spells lay (value h) m → (edit : MapEdit) × (edit_on call m ≡ Some edit) × Makes lay h e.scx edit
-entered lay h e (Edit own) m x spells = (own, refl, x)
-entered lay h e PopFirst m x spells = (Delete x.0.key, ap (λ (o : Option Pair). edit_of PopFirst (pair_or_none o)) (x.2 m spells), x.1)
-entered lay h e (ReplaceIf key expected put) m x spells = (Insert key put, ap (λ (o : Option ℕ). edit_of (ReplaceIf key expected put) (OneValue o)) (x.1 m spells) ∙ ap (λ (b : Bool). cond b (Some (Insert key put)) None) (eq-eqb expected expected refl), x.0)
-entered lay h e call m x spells = absurd x
+-- an edit that leaves what a pop leaves takes out the same key
+popped_key : (k : ℕ) (m : List Pair) (first : Pair) → IsRising m → first_pair m ≡ Some first → delete k m ≡ delete first.key m → k ≡ first.key
+popped_key k [] first rising is same = absurd (let none : None ≡ Some first = is in cc)
+popped_key k (p ∷ ps) first rising is same = go (ℕ_discrete k p.key)
+  where
+    first_is : p ≡ first
+    first_is = let e : Some p ≡ Some first = is in cc
 
--- the change that it makes
+    left : delete first.key (p ∷ ps) ≡ ps
+    left = subst (λ (q : Pair). delete q.key (p ∷ ps) ≡ ps) first_is (ap (λ b. cond b ps (p ∷ delete p.key ps)) (eq-eqb p.key p.key refl))
+
+    go : Dec (k ≡ p.key) → k ≡ first.key
+    go (yes q) = q ∙ ap (λ (r : Pair). r.key) first_is
+    go (no q) =
+        let all : p ∷ delete k ps ≡ ps = sym (ap (λ b. cond b ps (p ∷ delete k ps)) (ne_eqb k p.key q)) ∙ same ∙ left in
+        let above : AllAbove p.key (p ∷ delete k ps) = subst (AllAbove p.key) (sym all) rising.0 in
+        absurd (let i = above.0 in omega (arith, i))
+
+-- the change of an edit
 change_to : (key turn : ℕ) (value : Option ℕ) (own : MapEdit) → own ≡ edit_to key value → IsChangeByEdit (Some own) record { turn = turn; key = key; value = value }
 change_to key turn None own is = (sym (ap edit_key is), sym (ap value_left is))
 change_to key turn (Some v) own is = (sym (ap edit_key is), sym (ap value_left is))
 
-pub change_made : (lay : Layout) (h : History) (e : Entered) (turn : ℕ) (call : MapCall) (m : List Pair) (begun : Begun) → Lawful lay h → HasBegunWith lay h e.scx begun → IsMapEntry call lay h e → Spells lay (value h) m → IsChangeBy (Some call) m record { turn = turn; key = begun.key; value = begun.value }
-change_made lay h e turn call m begun lawful b x spells =
-    let y = entered lay h e call m x spells in
-    let one : y.0 ≡ edit_begun begun = makes_one lay h e.scx y.0 (edit_begun begun) lawful y.2 (made lay h e.scx begun b) in
-    subst (λ (o : Option MapEdit). IsChangeByEdit o record { turn = turn; key = begun.key; value = begun.value }) (sym y.1) (change_to begun.key turn begun.value y.0 one)
+-- the change of an SCX-record that has begun for a call is that of the call's entry
+module _ (lay : Layout) (h : History) (row : StepRow) (e : Entered) (turn : ℕ) (m : List Pair) (begun : Begun) (run : IsTreeRun lay (row ⊳ h)) (won : IsWin h row e.scx) (b : HasBegunWith lay h e.scx begun) (spells : Spells lay (value h) m) where
+  leaves : (edit : MapEdit) → Makes lay h e.scx edit → Spells lay (value (row ⊳ h)) (edited edit m)
+  leaves edit x = (win_makes lay (row ⊳ h) h row e.scx edit run (ends_self (row ⊳ h)) won (makes_since lay (row ⊳ h) h e.scx edit (inr (ends_self h)) x)).changes m spells
+
+  -- which it makes of the map that the words spell just before
+  makes_on : (call : MapCall) → IsEditBy (Some call) (edit_begun begun) → IsMapEntry call lay h e → edit_on call m ≡ Some (edit_begun begun)
+  makes_on (Edit own) by x = ap Some by
+  makes_on PopFirst (key, by) (first, makes, says) =
+      let taken : Spells lay (value (row ⊳ h)) (delete key m) = subst (λ (d : MapEdit). Spells lay (value (row ⊳ h)) (edited d m)) by (leaves (edit_begun begun) (made lay h e.scx begun b)) in
+      let same : delete key m ≡ delete first.key m = one_spelling lay (value (row ⊳ h)) (delete key m) (delete first.key m) taken (leaves (Delete first.key) makes) in
+      let key_is : key ≡ first.key = popped_key key m first spells.rising (says m spells) same in
+      ap (λ (o : Option Pair). edit_of PopFirst (pair_or_none o)) (says m spells) ∙ ap (λ (k : ℕ). Some (Delete k)) (sym key_is) ∙ ap Some (sym by)
+  makes_on (ReplaceIf key expected put) by x =
+      ap (λ (o : Option ℕ). edit_of (ReplaceIf key expected put) (OneValue o)) (x.1 m spells) ∙ ap (λ (c : Bool). cond c (Some (Insert key put)) None) (eq-eqb expected expected refl) ∙ ap Some (sym by)
+  makes_on call by x = absurd x
+
+  pub change_made : (call : MapCall) → IsEditBy (Some call) (edit_begun begun) → IsMapEntry call lay h e → IsChangeBy (Some call) m record { turn = turn; key = begun.key; value = begun.value }
+  change_made call by x = subst (λ (o : Option MapEdit). IsChangeByEdit o record { turn = turn; key = begun.key; value = begun.value }) (sym (makes_on call by x)) (change_to begun.key turn begun.value (edit_begun begun) refl)
 
 -- what is remembered stays true with one row more
 pub edits_kept : (lay : Layout) (h : History) (r : StepRow) (edits : List (Option Begun)) → AreRememberedEdits lay h edits → AreRememberedEdits lay (r ⊳ h) edits

@@ -16,6 +16,7 @@ use Rattle.moments.specs.Places.{changes}
 use Rattle.moments.specs.Entries.{AreEntries}
 use Rattle.audit.specs.Edits.{AreRememberedEdits, IsEditBy, IsSuited, edit_begun}
 use Rattle.arena.specs.History.{History}
+use Rattle.record.specs.Commands.{next_command}
 use Rattle.record.specs.MapRecord.{map_call}
 use Rattle.script.specs.declared.command.Command.{Command}
 use Rattle.audit.specs.declared.edits.Begun.{Begun}
@@ -33,11 +34,19 @@ pub record IsTreeSoFar (lay : Layout) (calls : List Call) (begun : List (Option 
 pub record IsMapSoFar (lay : Layout) (calls : List Call) (begun : List (Option Begun)) (places : Places) (lines : List Line) : Type 0 where
   pub tree : lay.mode ≡ Tree → IsTreeSoFar lay calls begun (changes places) lines
 
--- the change of an entry was added: that of its SCX-record, as it is remembered
-pub record HasChangedBy (entry : Entry) (edits : List (Option Begun)) (before after : List Change) : Type 0 where
+-- the change is that of the entry's SCX-record, as it is remembered, which has begun for the next call
+-- of the entry's client
+pub record IsChangeBegun (calls : List Call) (lines : List Line) (entry : Entry) (edits : List (Option Begun)) (change : Change) : Type 0 where
   pub begun : Begun
   pub known : slice_get edits entry.scx.0 ≡ Some (Some begun)
-  pub added : after ≡ record { turn = entry.step; key = begun.key; value = begun.value } ∷ before
+  pub own : next_command calls lines entry.client.0 ≡ Some begun.command
+  pub is : change ≡ record { turn = entry.step; key = begun.key; value = begun.value }
+
+-- such a change was added
+pub record HasChangedBy (calls : List Call) (lines : List Line) (entry : Entry) (edits : List (Option Begun)) (before after : List Change) : Type 0 where
+  pub change : Change
+  pub by : IsChangeBegun calls lines entry edits change
+  pub added : after ≡ change ∷ before
 
 -- the SCX-record has begun for a call with this command, as it is remembered, and suits it now if
 -- its edit is one of that call

@@ -72,7 +72,7 @@ impl<'a> Run<'a> {
     ghost use Rattle.script.specs.declared.command.Command.{Command as CommandOf};
     ghost use Rattle.ordered_map.specs.FillOrder.{HasRisingLevels};
     ghost use Rattle.moments.specs.Places.{changes};
-    ghost use Rattle.audit.specs.Trees.{HasChangedBy, IsReadyFor};
+    ghost use Rattle.audit.specs.Trees.{HasChangedBy, IsChangeBegun, IsReadyFor};
     ghost use Rattle.ordered_map.specs.Runs.{IsTreeRun};
     ghost use Rattle.audit.specs.Edits.{MayMakeEdit};
     ghost use Rattle.audit.specs.declared.edits.Begun.{Begun as BegunOf};
@@ -542,16 +542,54 @@ impl<'a> Run<'a> {
 
     /// On the tree the map is changed by the SCX-record of an entry.
     fn change(&mut self, entry: &Entry) -> Result<(), Refused>
+        requires { IsAfter self.old (lines_of self.old) }
         ensures rest { self.new ≡ record self.old { places = self.new.places } }
         ensures change { OnOk result ((layout_of self.old).mode ≡ Tree →
-            HasChangedBy entry.now self.old.edits.items (changes self.old.places) (changes self.new.places)) }
+            HasChangedBy (calls_of self.old) (lines_of self.old) entry.now
+            self.old.edits.items (changes self.old.places) (changes self.new.places)) }
     {
         if self.record.script.layout.mode != Mode::Tree {
             return Ok(());
         }
-        match self.edits.get(entry.scx.0 as usize) {
-            Some(Some(begun)) => push(&mut self.places, entry.step, begun),
-            _ => Err(Refused::NotLawful),
+        let change = self.change_of(entry)?;
+        push(&mut self.places, change)
+    }
+
+    /// The change of the map that the SCX-record of an entry makes.
+    fn change_of(&self, entry: &Entry) -> Result<Change, Refused>
+        requires { IsAfter self.now (lines_of self.now) }
+        ensures { IfOk result (IsChangeBegun (calls_of self.now) (lines_of self.now) entry.now self.now.edits.items) }
+    {
+        match self.begun_for_entry(entry) {
+            Some(begun) => Ok(Change {
+                turn: entry.step,
+                key: begun.key,
+                value: begun.value,
+            }),
+            None => Err(Refused::NotLawful),
+        }
+    }
+
+    /// The SCX-record of an entry, if it has begun for the next call of the entry's client.
+    fn begun_for_entry(&self, entry: &Entry) -> Option<Begun>
+        requires { IsAfter self.now (lines_of self.now) }
+        ensures known { IfSome result (λ begun. slice_get self.now.edits.items entry.now.scx.0 ≡ Some (Some begun)) }
+        ensures own { IfSome result (λ begun.
+            next_command (calls_of self.now) (lines_of self.now) entry.now.client.0 ≡ Some begun.command) }
+    {
+        let Ok(client) = self.client(entry.client) else {
+            return None;
+        };
+        let Some(command) = self.next(&client) else {
+            return None;
+        };
+        let Some(begun) = self.begun_of(entry.scx) else {
+            return None;
+        };
+        if is_of(&begun, &command) {
+            Some(begun)
+        } else {
+            None
         }
     }
 
@@ -727,14 +765,13 @@ fn note_begun(edits: &mut Vec<Option<Begun>>, scx: u64, begun: Option<Begun>)
     }
 }
 
-/// In a turn the key of an edit gets its value; refused if no call names that key.
-fn push(places: &mut Places, turn: u64, begun: &Begun) -> Result<(), Refused>
-    ensures { OnOk result (changes places.new ≡ record { turn = turn; key = begun.now.key; value = begun.now.value } ∷ changes places.old) }
+/// The key of a change gets its value; refused if no call names that key.
+fn push(places: &mut Places, change: Change) -> Result<(), Refused>
+    ensures { OnOk result (changes places.new ≡ change ∷ changes places.old) }
 {
-    let Begun { key, value, .. } = *begun;
-    hold(places.knows(key))?;
+    hold(places.knows(change.key))?;
     places.reserve()?;
-    places.push(Change { turn, key, value });
+    places.push(change);
     Ok(())
 }
 

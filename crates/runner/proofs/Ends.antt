@@ -1,5 +1,5 @@
 -- What a run whose passes are all back leaves behind.
-use Rattle.std.proofs.Common.{◌≡◌, ◌∙◌, ℕ, zero, suc, List, [], ◌∷◌, length, map, slice_get, Some, refl, sym, ap, subst}
+use Rattle.std.proofs.Common.{◌≡◌, ◌∙◌, ℕ, zero, suc, List, [], ◌∷◌, map, slice_get, Some, refl, ap, subst}
 use Rattle.std.specs.Prelude.{Vec}
 use Rattle.std.specs.Global.{Global}
 use Rattle.arena.specs.declared.limits.Mode.TheVariants.{Tree}
@@ -11,7 +11,8 @@ use Rattle.arena.specs.Log.{log}
 use Rattle.arena.specs.PlainWords.{Contents}
 use Rattle.ordered_map.specs.Laws.{AreEdits}
 use Rattle.ordered_map.specs.OrderedMap.{MapEdit}
-use Rattle.ordered_map.specs.Runs.{IsTreeRun}
+use Rattle.ordered_map.specs.Runs.{IsTreeRun, map_of_log}
+use Rattle.ordered_map.specs.declared.pair.Pair.{Pair}
 use Rattle.ordered_map.specs.Spelled.{Spells}
 use Rattle.ordered_map.proofs.Lemmas.{log_edits, one_spelling, spells_log}
 use Rattle.arena.proofs.Lemmas.{ends_self}
@@ -25,7 +26,7 @@ use Rattle.forest.specs.Passes.{Ground, PassView, AreNew, AreBegun, IsClosed, ne
 use Rattle.forest.specs.Shares.{entries_of}
 use Rattle.dict.specs.Words.{IsNumber}
 use Rattle.runner.specs.Calls.{NumbersAllow, HasCalled, HaveReplies, HaveWorked}
-use Rattle.runner.specs.Histories.{map_at_moment}
+use Rattle.runner.specs.Histories.{AreVersions}
 use Rattle.runner.specs.Outcomes.{IsClientOfRun, IsOutcome}
 use Rattle.runner.proofs.Gathered.{WorkedAt, worked_at, worked_count, none_some, some_same}
 use Rattle.runner.proofs.Placed.{all_answered}
@@ -47,7 +48,19 @@ module _ (script : Script) (f : Ground) (layout : IsLayoutOf script.limits Tree 
   edits : (e : ℕ → MapEdit) × AreEdits e f.layout whole
   edits = log_edits f.layout whole tree
 
-  client : (c : ℕ) (own : Vec (Reply ℕ ℕ) Global) → slice_get owns c ≡ Some own → IsClientOfRun f whole edits.0 news c (commands script.calls.items c) own.items
+  -- the map at each moment
+  abbrev versions : History → List Pair
+  versions moment = map_of_log edits.0 (log f.layout moment)
+
+  are : AreVersions f.layout whole versions
+  unfolding log
+  are = record {
+    spelled = spells_log f.layout whole edits.0 tree edits.1;
+    opens = refl;
+    stays = λ row before within same. ap (map_of_log edits.0) same;
+  }
+
+  client : (c : ℕ) (own : Vec (Reply ℕ ℕ) Global) → slice_get owns c ≡ Some own → IsClientOfRun f whole versions news c (commands script.calls.items c) own.items
   client c own e =
       let w : WorkedAt f script.calls.items olds news c own.items = worked_at f script.calls.items olds news owns worked c own e in
       let old : w.old ≡ new_pass f c = are_new.each c w.old w.was in
@@ -59,7 +72,7 @@ module _ (script : Script) (f : Ground) (layout : IsLayoutOf script.limits Tree 
       record {
         last = w.new;
         is_last = w.is;
-        stand = all_answered f.layout f.tries whole edits.0 tree edits.1 (new_pass f c) w.new (commands script.calls.items c) own.items refl within replies;
+        stand = all_answered f.layout f.tries whole versions are (new_pass f c) w.new (commands script.calls.items c) own.items refl within replies;
         within = within;
         entries = subst (λ (l : Layout). entries_of c (log l (history_of l.mode closed.rows)) ≡ done_of w.new) lay (subst (λ n. entries_of n (log w.new.layout (history_of w.new.layout.mode closed.rows)) ≡ done_of w.new) number b.1);
       }
@@ -71,12 +84,12 @@ module _ (script : Script) (f : Ground) (layout : IsLayoutOf script.limits Tree 
     tries = tries;
     run = whole;
     lawful = closed.sound;
-    edits = edits.0;
-    makes = edits.1;
+    versions = versions;
+    are = are;
     count = worked_count f script.calls.items olds news owns worked ∙ are_new.count ∙ layout.passes;
     lasts = news;
     clients = client;
     blamed = closed.blamed;
-    last_map = one_spelling f.layout (value whole) _ _ spells (spells_log f.layout whole edits.0 tree edits.1 whole (ends_self whole));
+    last_map = one_spelling f.layout (value whole) _ _ spells (are.spelled whole (ends_self whole));
     rising = spells.rising;
   }

@@ -1,12 +1,13 @@
 -- The one history in which all calls of a run stand.
-use Rattle.std.specs.Prelude.{◌≡◌, ℕ, ◌+◌, ◌≤◌, List, ◌∷◌, Option, Some, None}
+use Rattle.std.specs.Prelude.{◌≡◌, ℕ, ◌+◌, ◌≤◌, List, [], ◌∷◌, Option, Some, None}
 use Rattle.arena.specs.declared.layout.Layout.{Layout}
 use Rattle.arena.specs.declared.step.Row.{Row}
-use Rattle.arena.specs.History.{History, ◌⊳◌, Extends}
+use Rattle.arena.specs.History.{History, Start, ◌⊳◌, value, Extends}
 use Rattle.arena.specs.Log.{Entry, log}
 use Rattle.ordered_map.specs.declared.pair.Pair.{Pair}
-use Rattle.ordered_map.specs.OrderedMap.{MapCall, MapEdit, MapReply, reply, edit_of}
-use Rattle.ordered_map.specs.Runs.{map_of_log}
+use Rattle.ordered_map.specs.OrderedMap.{MapCall, MapEdit, MapReply, after, reply, edit_of}
+use Rattle.ordered_map.specs.Runs.{Makes}
+use Rattle.ordered_map.specs.Spelled.{Spells}
 use Rattle.dict.specs.Calls.{AsksForPairs}
 use Rattle.ordered_map.specs.CallRules.{MayReply, form_of, most_steps}
 use Rattle.dict.specs.Says.{HasMadeRow}
@@ -18,16 +19,18 @@ use Rattle.forest.specs.Shares.{IsBetweenCalls}
 use Rattle.forest.specs.StepKinds.{HasKeptToKinds}
 use Rattle.forest.specs.Traces.{shared_nodes}
 
--- The history is the log of the run. `edits` says which edit of the map each SCX-record with an
--- entry has made, so that each moment of the run has a map, a version: what the edits of the
--- entries up to then make of the empty map.
-abbrev pub map_at_moment : Layout → (ℕ → MapEdit) → History → List Pair
-map_at_moment lay edits moment = map_of_log edits (log lay moment)
+-- The history is the log of the run, and each moment of the run has a map, its version, which the
+-- words spell there. It is empty at the start, and a row without an entry leaves it as it is. What an
+-- entry makes of it is said of the call that has the entry.
+pub record AreVersions (lay : Layout) (run : History) (versions : History → List Pair) : Type 0 where
+  pub spelled : (moment : History) → Extends run moment → Spells lay (value moment) (versions moment)
+  pub opens : versions (Start lay.mode) ≡ []
+  pub stays : (row : Row) (before : History) → Extends run (row ⊳ before) → log lay (row ⊳ before) ≡ log lay before → versions (row ⊳ before) ≡ versions before
 
 -- A changing call has exactly one entry, behind all that its pass knew as it began. The entry is of
--- this pass and call and makes this edit, which is the call's own, and the reply is the map's just
--- before it.
-pub record IsEnteredCall (lay : Layout) (edits : ℕ → MapEdit) (old new : PassView) (call : MapCall) (told : MapReply) (edit : MapEdit) : Type 0 where
+-- this pass and call. The version just before it replies what the call tells, and the one just behind
+-- it is what the call leaves of that.
+pub record IsEnteredCall (lay : Layout) (versions : History → List Pair) (old new : PassView) (call : MapCall) (told : MapReply) (edit : MapEdit) : Type 0 where
   -- the row that has put it there, which may be another pass's
   pub row : Row
   pub before : History
@@ -41,37 +44,39 @@ pub record IsEnteredCall (lay : Layout) (edits : ℕ → MapEdit) (old new : Pas
   pub done : done_of new ≡ entry ∷ done_of old
   pub of_pass : entry.owner ≡ old.number
   pub of_call : entry.call ≡ taken_of old
-  pub makes : edits entry.scx ≡ edit
-  pub gives : reply call (map_at_moment lay edits before) ≡ told
+  -- its SCX-record may be said to make the edit that the call has made
+  pub makes : Makes lay (run_of new) entry.scx edit
+  pub gives : reply call (versions before) ≡ told
+  pub leaves : versions (row ⊳ before) ≡ after call (versions before)
 
--- A reading call has no entry; its reply is that of the map at a moment from its first own row to
+-- A reading call has no entry; its reply is that of the version at a moment from its first own row to
 -- its end. A range that takes no pair makes no row, and replies what every map does.
-pub record IsReadCall (lay : Layout) (edits : ℕ → MapEdit) (old new : PassView) (call : MapCall) (told : MapReply) : Type 0 where
+pub record IsReadCall (versions : History → List Pair) (old new : PassView) (call : MapCall) (told : MapReply) : Type 0 where
   pub moment : History
   pub within : Extends (run_of new) moment
   pub since : Extends moment (run_of old)
   pub own : AsksForPairs call → HasMadeRow old.number (run_of old) moment
-  pub gives : reply call (map_at_moment lay edits moment) ≡ told
+  pub gives : reply call (versions moment) ≡ told
   pub done : done_of new ≡ done_of old
 
 -- the call has changed the map by this edit, or has read it
-abbrev pub IsPlacedAs : Option MapEdit → Layout → (ℕ → MapEdit) → PassView → PassView → MapCall → MapReply → Type 0
-IsPlacedAs (Some edit) lay edits old new call told = IsEnteredCall lay edits old new call told edit
-IsPlacedAs None lay edits old new call told = IsReadCall lay edits old new call told
+abbrev pub IsPlacedAs : Option MapEdit → Layout → (History → List Pair) → PassView → PassView → MapCall → MapReply → Type 0
+IsPlacedAs (Some edit) lay versions old new call told = IsEnteredCall lay versions old new call told edit
+IsPlacedAs None lay versions old new call told = IsReadCall versions old new call told
 
 -- where a call stands that tells something of the map; a refused one stands nowhere
-abbrev pub IsPlacedInRun : Layout → (ℕ → MapEdit) → PassView → PassView → MapCall → Option MapReply → Type 0
-IsPlacedInRun lay edits old new call (Some told) = IsPlacedAs (edit_of call told) lay edits old new call told
-IsPlacedInRun lay edits old new call None = done_of new ≡ done_of old
+abbrev pub IsPlacedInRun : Layout → (History → List Pair) → PassView → PassView → MapCall → Option MapReply → Type 0
+IsPlacedInRun lay versions old new call (Some told) = IsPlacedAs (edit_of call told) lay versions old new call told
+IsPlacedInRun lay versions old new call None = done_of new ≡ done_of old
 
 -- The call, which may try so often, began where its pass knew `old` and ended where it knew `new`.
 -- It stands in the history of this run with this reply.
-pub record IsAnswered (lay : Layout) (tries : ℕ) (run : History) (edits : ℕ → MapEdit) (old new : PassView) (call : MapCall) (reply : Reply ℕ ℕ) : Type 0 where
+pub record IsAnswered (lay : Layout) (tries : ℕ) (run : History) (versions : History → List Pair) (old new : PassView) (call : MapCall) (reply : Reply ℕ ℕ) : Type 0 where
   -- its begin and its end are moments of the run, the one not behind the other
   pub within : Extends run (run_of new)
   pub later : IsLaterView old new
   -- what it tells is right there
-  pub told : IsPlacedInRun lay edits old new call (told_of (λ n. n) (λ n. n) reply)
+  pub told : IsPlacedInRun lay versions old new call (told_of (λ n. n) (λ n. n) reply)
   -- and so is why it tells nothing, as the calls of the forest say it
   pub refused : IsRefusalOf tries old new call reply
   pub form : MayReply call (form_of reply)

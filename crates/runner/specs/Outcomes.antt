@@ -6,8 +6,8 @@ use Rattle.arena.specs.Limits.{IsLayoutOf}
 use Rattle.arena.specs.History.{History, Extends}
 use Rattle.arena.specs.Log.{log}
 use Rattle.arena.specs.Machines.{IsRun}
-use Rattle.ordered_map.specs.Laws.{AreEdits}
-use Rattle.ordered_map.specs.OrderedMap.{MapEdit, IsRising}
+use Rattle.ordered_map.specs.OrderedMap.{IsRising}
+use Rattle.ordered_map.specs.declared.pair.Pair.{Pair}
 use Rattle.ordered_map.specs.Replies.{word_pair}
 use Rattle.ordered_map.specs.declared.reply.Reply.{Reply}
 use Rattle.script.specs.declared.command.Command.{Command}
@@ -16,33 +16,33 @@ use Rattle.record.specs.Commands.{commands}
 use Rattle.forest.specs.Passes.{Ground, PassView, HaveLeftShares, new_pass, run_of, done_of}
 use Rattle.forest.specs.Shares.{entries_of}
 use Rattle.runner.specs.Calls.{NumbersAllow, HaveReplies}
-use Rattle.runner.specs.Histories.{IsAnswered, map_at_moment}
+use Rattle.runner.specs.Histories.{AreVersions, IsAnswered}
 
 -- All calls of client c stand in the history of this run, one behind the other from its start on,
 -- each with its reply. `lasts` says of each client what its pass knew at the end of its last call.
-pub record IsClientOfRun (forest : Ground) (run : History) (edits : ℕ → MapEdit) (lasts : List PassView) (c : ℕ) (calls : List Command) (replies : List (Reply ℕ ℕ)) : Type 0 where
+pub record IsClientOfRun (forest : Ground) (run : History) (versions : History → List Pair) (lasts : List PassView) (c : ℕ) (calls : List Command) (replies : List (Reply ℕ ℕ)) : Type 0 where
   pub last : PassView
   pub is_last : slice_get lasts c ≡ Some last
-  pub stand : HaveReplies (IsAnswered forest.layout forest.tries run edits) (new_pass forest c) calls replies last
+  pub stand : HaveReplies (IsAnswered forest.layout forest.tries run versions) (new_pass forest c) calls replies last
   pub within : Extends run (run_of last)
   -- its entries in the run are those of its changing calls, and no others
   pub entries : entries_of c (log forest.layout run) ≡ done_of last
 
 -- There is one lawful run of a dictionary within the script's limits, whose calls try as often as
 -- the script says. All calls of all clients stand in its history, each client's in the script's
--- order, with one reply for each call; the pairs are those of the history's map.
+-- order, with one reply for each call; the pairs are those of the last version.
 pub record IsOutcome (script : Script) (replies : List (Vec (Reply ℕ ℕ) Global)) (pairs : List (ℕ × ℕ)) : Type 0 where
   pub forest : Ground
   pub layout : IsLayoutOf script.limits Tree forest.layout
   pub tries : forest.tries ≡ script.limits.tries
   pub run : History
   pub lawful : IsRun NumbersAllow forest.layout run
-  pub edits : ℕ → MapEdit
-  pub makes : AreEdits edits forest.layout run
+  pub versions : History → List Pair
+  pub are : AreVersions forest.layout run versions
   pub count : length replies ≡ script.limits.passes
   pub lasts : List PassView
-  pub clients : (c : ℕ) (own : Vec (Reply ℕ ℕ) Global) → slice_get replies c ≡ Some own → IsClientOfRun forest run edits lasts c (commands script.calls.items c) own.items
+  pub clients : (c : ℕ) (own : Vec (Reply ℕ ℕ) Global) → slice_get replies c ≡ Some own → IsClientOfRun forest run versions lasts c (commands script.calls.items c) own.items
   -- in the end no client's share still holds an SCX-record that one of them has blamed
   pub blamed : HaveLeftShares lasts
-  pub last_map : map (word_pair (λ n. n) (λ n. n)) pairs ≡ map_at_moment forest.layout edits run
+  pub last_map : map (word_pair (λ n. n) (λ n. n)) pairs ≡ versions run
   pub rising : IsRising (map (word_pair (λ n. n) (λ n. n)) pairs)
