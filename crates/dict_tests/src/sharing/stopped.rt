@@ -1,6 +1,5 @@
 //! Calls that stop after each of their steps in turn, while the other pass makes one of its own.
 ghost use Rattle.std.specs.Prelude.{◌≡◌, false, IfOk};
-ghost use Rattle.ordered_map.specs.Requests.{AsksForFew};
 ghost use Rattle.forest.specs.Passes.{IsOf};
 
 use super::answers::{delete, insert, pop_first, range, replace_if};
@@ -42,18 +41,24 @@ type Made = (Edit, Answer);
 type Plain = [Option<u64>; 8];
 
 impl Edit {
-    fn request(self) -> Request<u64, u64>
-        ensures { AsksForFew result }
+    /// Begins it.
+    fn open(self, alloc: Global, forest: &Forest<Numbers>, pass: Pass<Numbers>) -> Held
+        requires { IsOf forest.now pass }
+        ensures forest { IsOf forest.now result.began }
+        ensures goes { result.over ≡ false }
     {
         match self {
-            Edit::Insert(key, value) => Request::Insert { key, value },
-            Edit::Delete(key) => Request::Delete { key },
-            Edit::PopFirst => Request::PopFirst,
-            Edit::ReplaceIf(key, expected, value) => Request::ReplaceIf {
-                key,
-                expected,
-                value,
-            },
+            Edit::Insert(key, value) => forest.open(alloc, pass, Request::Insert { key, value }),
+            Edit::Delete(key) => forest.open(alloc, pass, Request::Delete { key }),
+            Edit::PopFirst => forest.open(alloc, pass, Request::PopFirst),
+            Edit::ReplaceIf(key, expected, value) => {
+                let request = Request::ReplaceIf {
+                    key,
+                    expected,
+                    value,
+                };
+                forest.open(alloc, pass, request)
+            }
         }
     }
 
@@ -241,7 +246,7 @@ fn opened_at(
         return Err("no such edit".into());
     };
     make_all(&forest, &mut first, before, own)?;
-    let call = forest.open(alloc, first, edit.request());
+    let call = edit.open(alloc, &forest, first);
     Ok((forest, call, second))
 }
 
@@ -396,7 +401,7 @@ fn is_right_when_both_stop(
 ) -> Result<Option<bool>, Fail> {
     let (mut own, mut kinds) = (Vec::new(alloc), Vec::new(alloc));
     let (forest, call, second) = stopped_after(alloc, race, stop, &mut own)?;
-    let mut helper = forest.open(alloc, second, race.other.request());
+    let mut helper = race.other.open(alloc, &forest, second);
     if !hold(&forest, &mut helper, steps, &mut kinds)? {
         return Ok(None);
     }
