@@ -67,15 +67,17 @@ impl Edit {
         requires { IsOf forest.now pass.old }
         ensures { IsOf forest.now pass.new }
     {
-        told(match self {
-            Edit::Insert(key, value) => insert(forest, pass, key, value),
-            Edit::Delete(key) => delete(forest, pass, key),
+        match self {
+            Edit::Insert(key, value) => told(insert(forest, pass, key, value)),
+            Edit::Delete(key) => told(delete(forest, pass, key)),
             Edit::PopFirst => match pop_first(forest, pass) {
-                Ok(pair) => Ok(pair.map(|(_, value)| value)),
-                Err(fault) => Err(fault),
+                Ok(pair) => told(Ok(pair.map(|(_, value)| value))),
+                Err(fault) => told(Err(fault)),
             },
-            Edit::ReplaceIf(key, expected, value) => replace_if(forest, pass, key, expected, value),
-        })
+            Edit::ReplaceIf(key, expected, value) => {
+                told(replace_if(forest, pass, key, expected, value))
+            }
+        }
     }
 
     /// Makes it on plain values, and tells what its key had.
@@ -303,9 +305,13 @@ fn may_tell(race: Race, answer: Answer) -> bool {
     }
 }
 
+fn is_contended(made: &Made) -> bool {
+    matches!(made.1, Answer::Contended(_))
+}
+
 fn count_contended(own: &[Made], other: Made) -> usize {
-    let is_contended = |made: &&Made| matches!(made.1, Answer::Contended(_));
-    own.iter().filter(is_contended).count() + usize::from(is_contended(&&other))
+    let count = own.iter().filter(|made| is_contended(made)).count();
+    count.saturating_add(usize::from(is_contended(&other)))
 }
 
 /// Whether the SCX-record that was in an edit's way has left its owner's share of 20.
