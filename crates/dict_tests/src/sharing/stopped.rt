@@ -85,7 +85,7 @@ impl Edit {
         match self {
             Edit::Insert(key, value) => values.get_mut(key as usize)?.replace(value),
             Edit::Delete(key) => values.get_mut(key as usize)?.take(),
-            Edit::PopFirst => values.iter_mut().find(|value| value.is_some())?.take(),
+            Edit::PopFirst => take_first(values),
             Edit::ReplaceIf(key, expected, value) => {
                 let slot = values.get_mut(key as usize)?;
                 let old = *slot;
@@ -96,6 +96,16 @@ impl Edit {
             }
         }
     }
+}
+
+/// Takes the first value there is.
+fn take_first(values: &mut Plain) -> Option<u64> {
+    for place in 0..8usize {
+        if let Some(value) = values[place].take() {
+            return Some(value);
+        }
+    }
+    None
 }
 
 /// What the caller of an edit was told.
