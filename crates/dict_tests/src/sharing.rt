@@ -12,7 +12,7 @@ mod threads;
 
 use arena::Limits;
 use dict::{Dict, WordKey, WordValue};
-use forest::{Forest, Pass};
+use forest::{Closed, Forest, Pass};
 use std::alloc::{AllocError, Global};
 use std::test::Fail;
 
@@ -28,6 +28,20 @@ fn limits(passes: u32, nodes: u32, scx: u32) -> Limits {
     }
 }
 
+/// Ends the forest, if all its passes are there.
+fn closed<K: WordKey, V: WordValue>(
+    forest: Forest<Dict<K, V>>,
+    passes: Vec<Pass<Dict<K, V>>>,
+) -> Option<Closed<Dict<K, V>>>
+    requires { All (IsOf forest) passes.items }
+{
+    if forest.all_back(&passes) {
+        Some(forest.close(passes))
+    } else {
+        None
+    }
+}
+
 /// Ends the forest, and answers its pairs, if all its passes are there.
 fn end<K: WordKey, V: WordValue>(
     alloc: Global,
@@ -36,12 +50,7 @@ fn end<K: WordKey, V: WordValue>(
 ) -> Option<Vec<(K, V)>>
     requires { All (IsOf forest) passes.items }
 {
-    if forest.all_back(&passes) {
-        let closed = forest.close(passes);
-        closed.pairs(alloc).ok()
-    } else {
-        None
-    }
+    closed(forest, passes)?.pairs(alloc).ok()
 }
 
 /// A dictionary, and its two passes.

@@ -1,6 +1,5 @@
 //! Calls that stop after each of their steps in turn, while the other pass makes one of its own.
 ghost use Rattle.std.specs.Prelude.{◌≡◌, false, IfOk};
-ghost use Rattle.ordered_map.specs.Requests.{AsksForFew};
 ghost use Rattle.forest.specs.Passes.{IsOf};
 
 use super::answers::{delete, insert, pop_first, range, replace_if};
@@ -42,18 +41,24 @@ type Made = (Edit, Answer);
 type Plain = [Option<u64>; 8];
 
 impl Edit {
-    fn request(self) -> Request<u64, u64>
-        ensures { AsksForFew result }
+    /// Begins it.
+    fn open(self, alloc: Global, forest: &Forest<Numbers>, pass: Pass<Numbers>) -> Held
+        requires { IsOf forest.now pass }
+        ensures forest { IsOf forest.now result.began }
+        ensures goes { result.over ≡ false }
     {
         match self {
-            Edit::Insert(key, value) => Request::Insert { key, value },
-            Edit::Delete(key) => Request::Delete { key },
-            Edit::PopFirst => Request::PopFirst,
-            Edit::ReplaceIf(key, expected, value) => Request::ReplaceIf {
-                key,
-                expected,
-                value,
-            },
+            Edit::Insert(key, value) => forest.open(alloc, pass, Request::Insert { key, value }),
+            Edit::Delete(key) => forest.open(alloc, pass, Request::Delete { key }),
+            Edit::PopFirst => forest.open(alloc, pass, Request::PopFirst),
+            Edit::ReplaceIf(key, expected, value) => {
+                let request = Request::ReplaceIf {
+                    key,
+                    expected,
+                    value,
+                };
+                forest.open(alloc, pass, request)
+            }
         }
     }
 
@@ -62,15 +67,17 @@ impl Edit {
         requires { IsOf forest.now pass.old }
         ensures { IsOf forest.now pass.new }
     {
-        told(match self {
-            Edit::Insert(key, value) => insert(forest, pass, key, value),
-            Edit::Delete(key) => delete(forest, pass, key),
+        match self {
+            Edit::Insert(key, value) => told(insert(forest, pass, key, value)),
+            Edit::Delete(key) => told(delete(forest, pass, key)),
             Edit::PopFirst => match pop_first(forest, pass) {
-                Ok(pair) => Ok(pair.map(|(_, value)| value)),
-                Err(fault) => Err(fault),
+                Ok(pair) => told(Ok(pair.map(|(_, value)| value))),
+                Err(fault) => told(Err(fault)),
             },
-            Edit::ReplaceIf(key, expected, value) => replace_if(forest, pass, key, expected, value),
-        })
+            Edit::ReplaceIf(key, expected, value) => {
+                told(replace_if(forest, pass, key, expected, value))
+            }
+        }
     }
 
     /// Makes it on plain values, and tells what its key had.
@@ -78,7 +85,7 @@ impl Edit {
         match self {
             Edit::Insert(key, value) => values.get_mut(key as usize)?.replace(value),
             Edit::Delete(key) => values.get_mut(key as usize)?.take(),
-            Edit::PopFirst => values.iter_mut().find(|value| value.is_some())?.take(),
+            Edit::PopFirst => take_first(values),
             Edit::ReplaceIf(key, expected, value) => {
                 let slot = values.get_mut(key as usize)?;
                 let old = *slot;
@@ -89,6 +96,16 @@ impl Edit {
             }
         }
     }
+}
+
+/// Takes the first value there is.
+fn take_first(values: &mut Plain) -> Option<u64> {
+    for place in 0..8usize {
+        if let Some(value) = values[place].take() {
+            return Some(value);
+        }
+    }
+    None
 }
 
 /// What the caller of an edit was told.
@@ -241,7 +258,7 @@ fn opened_at(
         return Err("no such edit".into());
     };
     make_all(&forest, &mut first, before, own)?;
-    let call = forest.open(alloc, first, edit.request());
+    let call = edit.open(alloc, &forest, first);
     Ok((forest, call, second))
 }
 
@@ -298,9 +315,13 @@ fn may_tell(race: Race, answer: Answer) -> bool {
     }
 }
 
+fn is_contended(made: &Made) -> bool {
+    matches!(made.1, Answer::Contended(_))
+}
+
 fn count_contended(own: &[Made], other: Made) -> usize {
-    let is_contended = |made: &&Made| matches!(made.1, Answer::Contended(_));
-    own.iter().filter(is_contended).count() + usize::from(is_contended(&&other))
+    let count = own.iter().filter(|made| is_contended(made)).count();
+    count.saturating_add(usize::from(is_contended(&other)))
 }
 
 /// Whether the SCX-record that was in an edit's way has left its owner's share of 20.
@@ -396,7 +417,7 @@ fn is_right_when_both_stop(
 ) -> Result<Option<bool>, Fail> {
     let (mut own, mut kinds) = (Vec::new(alloc), Vec::new(alloc));
     let (forest, call, second) = stopped_after(alloc, race, stop, &mut own)?;
-    let mut helper = forest.open(alloc, second, race.other.request());
+    let mut helper = race.other.open(alloc, &forest, second);
     if !hold(&forest, &mut helper, steps, &mut kinds)? {
         return Ok(None);
     }

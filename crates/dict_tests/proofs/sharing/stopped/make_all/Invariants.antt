@@ -2,7 +2,4 @@ use Rattle.forest.specs.Passes.{IsOf}
 use Rattle.dict_tests.proofs.sharing.stopped.make_all.Given as goal
 
 abbrev pub invariant-loop-edit : goal.invariant-loop-edit
-invariant-loop-edit l =
-    (goal.iterator-loop-edit).can_next l.edit-iterator ×
-    (goal.iterator-loop-edit).is_finite l.edit-iterator ×
-    IsOf l.forest l.pass
+invariant-loop-edit l = IsOf l.forest l.pass
