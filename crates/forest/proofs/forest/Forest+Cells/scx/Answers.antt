@@ -58,15 +58,14 @@ named c = ap taken_of c.pass.view_is ∙ sym c.taken-number.ensures
 pub call-requires-clause-begins : goal.call-requires-clause-begins
 call-requires-clause-begins c = (
   call_of c.pass.inside c.pass.invariant (called c.pass.inside),
-  layout_of c.pass.view_is c.self.view_is c.requires.pass,
-  named c,
+  (layout_of c.pass.view_is c.self.view_is c.requires.pass, named c),
   rw (← named c) (begins c (called c.pass.inside)),
 )
 
 -- what the call leaves
 ended : (c : goal.After-call) → HasPut c.pass.inside c.pass.invariant c.in-Ok.ensures.some.0 c.in-Ok.ensures.some.1 c.args.snaps.now c.args.finalize.now (c.args.field.0.0, c.args.field.1) c.args.value (called c.pass.inside) c.call.new.seat c.call.result
 ended c = let p = c.pass.inside in let x = c.pass.invariant in let some = c.in-Ok.ensures.some in
-    let ends = c.call.ensures.ends (call_of p x (called p)) (layout_of c.pass.view_is c.self.view_is c.requires.pass) (named c.before) (rw (← named c.before) (begins c.before (called p))) in
+    let ends = c.call.ensures.ends (call_of p x (called p)) (layout_of c.pass.view_is c.self.view_is c.requires.pass, named c.before) (rw (← named c.before) (begins c.before (called p))) in
     put_called p x some.0 some.1 c.args.snaps.now c.args.finalize.now (c.args.field.0.0, c.args.field.1) c.args.value (called p) c.call.new.seat _ ends.0 c.call.result (rw (← named c.before) (is_of c.before (called p))) ends.1
 
 pub invariant_of-pass-2 : goal.invariant_of-pass-2

@@ -13,11 +13,11 @@ use Rattle.forest.proofs.straight.vlx.validate.Goals.{After-step-told}
 use Rattle.forest.proofs.straight.vlx.validate.Goals as goal
 
 -- whichever call it is has been told the info of this snapshot's node
-told : (g : Over) (c : After-step-told g) (v : Validator (calls g.S.Shape g.M.Machine c.args.layout.now c.args.number) (g.L.SnapList.list c.args.snaps)) → InnerWaits v c.args.seat.now.me.0.passes 1 (load LoadInfo (info (snap_at (g.L.SnapList.list c.args.snaps) 0).node.0)) → InnerIsTold v c.step-told.new.seat.me.0.passes (c.loop-snaps.asked + 1) c.step-told.result
-told g c v x = subst (λ (n : ℕ). InnerIsTold v c.step-told.new.seat.me.0.passes n c.step-told.result) (omega arith) (c.step-told.ensures.told v.call v.first (v.with_run (suc c.loop-snaps.asked)) v.is_layout v.is_number (rw c.get-snap.ensures (c.loop-snaps.invariant.waits v x)))
+told : (g : Over) (c : After-step-told g) (v : Validator (calls g.S.Shape g.M.Machine c.args.hand.layout.now c.args.hand.number) (g.L.SnapList.list c.args.snaps)) → InnerWaits v c.args.seat.now.me.0.passes 1 (load LoadInfo (info (snap_at (g.L.SnapList.list c.args.snaps) 0).node.0)) → InnerIsTold v c.step-told.new.seat.me.0.passes (c.loop-snaps.asked + 1) c.step-told.result
+told g c v x = subst (λ (n : ℕ). InnerIsTold v c.step-told.new.seat.me.0.passes n c.step-told.result) (omega arith) (c.step-told.ensures.told v.call v.first (v.with_run (suc c.loop-snaps.asked)) (v.is_layout, v.is_number) (rw c.get-snap.ensures (c.loop-snaps.invariant.waits v x)))
 
 pub step-told-requires-clause-waits : goal.step-told-requires-clause-waits
-step-told-requires-clause-waits g c = let w = c.requires.waits in (w.0.call, w.0.first, w.0.with_run (suc c.loop-snaps.asked), w.0.is_layout, w.0.is_number, rw c.get-snap.ensures (c.loop-snaps.invariant.waits w.0 w.1))
+step-told-requires-clause-waits g c = let w = c.requires.waits in (w.0.call, w.0.first, w.0.with_run (suc c.loop-snaps.asked), (w.0.is_layout, w.0.is_number), rw c.get-snap.ensures (c.loop-snaps.invariant.waits w.0 w.1))
 
 pub returns-then-told-snap-clause-told : goal.returns-then-told-snap-clause-told
 returns-then-told-snap-clause-told g c = λ v x. told g (goal.at.returns-then-told-snap-clause-told g c).After-step-told v x
