@@ -20,7 +20,7 @@ abbrev called : {T : Type 0} → Inside T → ℕ
 called p = taken_of (pass_view p)
 
 -- the call may begin
-begins : (c : goal.After-call-arg-1) → SeatVlxBegins list AllowsAll (call_of c.pass.inside c.pass.invariant (called c.pass.inside)) c.pass.inside.seat.me.0.passes c.args.snaps
+begins : (c : goal.After-call-arg-2-1) → SeatVlxBegins list AllowsAll (call_of c.pass.inside c.pass.invariant (called c.pass.inside)) c.pass.inside.seat.me.0.passes c.args.snaps
 begins c = vlx_begins list c.pass.inside c.pass.invariant (called c.pass.inside) c.args.snaps c.requires.some (subst (λ (v : PassView). Each (CanUse v) c.args.snaps.now) (sym c.pass.view_is) c.requires.usable)
 
 pub call-requires-clause-begins : goal.call-requires-clause-begins
