@@ -15,6 +15,7 @@ pub mod StraightCalls
 pub mod StraightReads
 pub mod Traces
 pub mod CallKinds
+pub mod Hands
 pub mod Inside
 pub mod Hosts
 pub mod TableRule

@@ -19,6 +19,7 @@ ghost use Rattle.forest.specs.StepKinds.{HasKeptToKinds};
 use crate::fault::{NewFault, OrderFault, UpdateFault};
 use crate::forest::Forest;
 use crate::pass::Pass;
+use crate::straight::hand::Hand;
 use crate::straight::{calls, walk};
 use arena::{Limits, Mode, NoMemory, Share};
 use dict::{Dict, DictRun, EditCall, Reply, Request, WordKey, WordValue, value_of};
@@ -187,9 +188,14 @@ impl<K: WordKey, V: WordValue> Forest<Dict<K, V>> {
     {
         key.valid();
         let number = pass.taken();
-        let (words, layout, seat) = (&self.words, &self.layout, &mut pass.seat);
+        let hand = Hand {
+            words: &self.words,
+            layout: &self.layout,
+            number,
+        };
+        let seat = &mut pass.seat;
         let goal = Goal::Key(key.word());
-        let found = walk::call::<Dict<K, V>, DictRun<K, V>>(words, layout, seat, number, goal).0;
+        let found = walk::call::<Dict<K, V>, DictRun<K, V>>(hand, seat, goal).0;
         value_of(found.value)
     }
 
@@ -295,8 +301,13 @@ impl<K: WordKey, V: WordValue> Forest<Dict<K, V>> {
     {
         let number = pass.taken();
         let share = replace(&mut pass.share, Share::of(&self.layout, pass.number));
-        let (words, layout, seat) = (&self.words, &self.layout, &mut pass.seat);
-        let (told, share) = calls::make(words, layout, seat, number, share, self.tries, edit);
+        let hand = Hand {
+            words: &self.words,
+            layout: &self.layout,
+            number,
+        };
+        let seat = &mut pass.seat;
+        let (told, share) = calls::make(hand, seat, share, self.tries, edit);
         pass.share = share;
         pass.blamed.note_reply(&told);
         told
@@ -327,8 +338,13 @@ impl<K: WordKey, V: WordValue> Forest<Dict<K, V>> {
         let number = pass.taken();
         let share = replace(&mut pass.share, Share::of(&self.layout, pass.number));
         let mut run = DictRun::new(Some(alloc), request, share, self.tries, number);
-        let (words, layout, seat) = (&self.words, &self.layout, &mut pass.seat);
-        let reply = calls::read(words, layout, seat, number, &mut run);
+        let hand = Hand {
+            words: &self.words,
+            layout: &self.layout,
+            number,
+        };
+        let seat = &mut pass.seat;
+        let reply = calls::read(hand, seat, &mut run);
         pass.share = run.into_share();
         pass.blamed.note_reply(&reply);
         reply

@@ -17,6 +17,7 @@ use crate::blamed::Blamed;
 use crate::forest::Forest;
 use crate::pass::Pass;
 use crate::steps::advance;
+use crate::straight::hand::Hand;
 use crate::view::SeatView;
 use arena::{Kind, Layout, Machine, PassNo, Turn};
 use atomic_table::Seat;
@@ -121,11 +122,14 @@ impl<K: WordKey, V: WordValue> OpenCall<K, V> {
             return Stepped::Done(None);
         };
         let (step, layout) = (*step, self.layout);
+        let hand = Hand {
+            words: &forest.words,
+            layout: &layout,
+            number: self.call,
+        };
         self.turn = advance::<Dict<K, V>, DictRun<K, V>, Dict<K, V>, DictRun<K, V>>(
-            &forest.words,
-            &layout,
+            hand,
             &mut self.seat,
-            self.call,
             &mut self.run,
             step,
         );

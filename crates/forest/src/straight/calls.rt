@@ -9,14 +9,15 @@ ghost use Rattle.dict.specs.Translated.{HasFormOf, IsTranslated};
 ghost use Rattle.dict.specs.WordReplies.{edit_reply, goal_reply};
 ghost use Rattle.dict.specs.Words.{IsValidReply};
 ghost use Rattle.dict.specs.declared.dict.DictRun.{DictRun as Run};
-ghost use Rattle.forest.specs.Seats.{IsSeatAt, StaysAtTable};
+ghost use Rattle.forest.specs.Hands.{IsAt, IsCallOf};
+ghost use Rattle.forest.specs.Seats.{StaysAtTable};
 ghost use Rattle.forest.specs.Traces.{seat_steps, shared_nodes};
 ghost use Rattle.forest.specs.StraightCalls.{EditHasEnded, SeatDictBegins, SeatDictEnds, SeatEditBegins, SeatWordEnds};
 
+use crate::straight::hand::Hand;
 use crate::straight::{range, successor, update};
 use crate::view::SeatView;
-use crate::words::Words;
-use arena::{Layout, Share};
+use arena::Share;
 use atomic_table::Seat;
 use dict::{
     Dict, DictRun, EditCall, MapRun, Reply, WordKey, WordReply, WordValue, pair_of, translated,
@@ -56,50 +57,44 @@ fn of_update<K: WordKey, V: WordValue>(goal: Goal, updated: Updated) -> Reply<K,
 /// Makes an edit with so many tries and this share, and tells what is left of that.
 #[inline(always)]
 pub(crate) fn make<K: WordKey, V: WordValue, E: EditCall>(
-    words: &Words<Dict<K, V>>,
-    layout: &Layout,
+    hand: Hand<Dict<K, V>>,
     seat: &mut Seat<u8, SeatView>,
-    number: u64,
     share: Share,
     tries: u32,
     edit: E,
 ) -> (Reply<K, V>, Share)
-    requires table { IsSeatAt words.now layout.now seat.old }
+    requires table { IsAt hand seat.old }
     requires tries { 0 < tries }
     requires small { IsSmallCall (E.call edit) }
-    requires begins { (c : Call) × (c.layout ≡ layout.now) × (c.number ≡ number)
-        × SeatEditBegins K.is_valid K.word_of V.is_valid V.word_of c seat.old.me.0.passes (E.call edit) share tries number }
+    requires begins { (c : Call) × IsCallOf hand c
+        × SeatEditBegins K.is_valid K.word_of V.is_valid V.word_of c seat.old.me.0.passes (E.call edit) share tries hand.number }
     ensures table { StaysAtTable seat.old seat.new }
-    ensures ends { (c : Call) → c.layout ≡ layout.now → c.number ≡ number
-        → SeatEditBegins K.is_valid K.word_of V.is_valid V.word_of c seat.old.me.0.passes (E.call edit) share tries number
-        → EditHasEnded K.is_valid K.word_of V.is_valid V.word_of c seat.new.me.0.passes (E.call edit) share tries number result.1 result.0 }
-    ensures steps { seat_steps seat.new.me.0.passes ≤ seat_steps seat.old.me.0.passes + most_steps (E.call edit) tries (shared_nodes layout.now) }
+    ensures ends { (c : Call) → IsCallOf hand.entry c
+        → SeatEditBegins K.is_valid K.word_of V.is_valid V.word_of c seat.old.me.0.passes (E.call edit) share tries hand.entry.number
+        → EditHasEnded K.is_valid K.word_of V.is_valid V.word_of c seat.new.me.0.passes (E.call edit) share tries hand.entry.number result.1 result.0 }
+    ensures steps { seat_steps seat.new.me.0.passes ≤ seat_steps seat.old.me.0.passes + most_steps (E.call edit) tries (shared_nodes hand.entry.layout.now) }
 {
-    let mut run = UpdateRun::new(edit, share, tries, number, ());
-    let updated = update::call::<Dict<K, V>, DictRun<K, V>, E>(
-        words, layout, seat, number, &mut run,
-    );
+    let mut run = UpdateRun::new(edit, share, tries, hand.number, ());
+    let updated = update::call::<Dict<K, V>, DictRun<K, V>, E>(hand, seat, &mut run);
     let goal = run.edit.goal();
     (of_update(goal, updated), run.into_share())
 }
 
 /// Makes an ordered read, in words.
 fn in_words<K: WordKey, V: WordValue>(
-    words: &Words<Dict<K, V>>,
-    layout: &Layout,
+    hand: Hand<Dict<K, V>>,
     seat: &mut Seat<u8, SeatView>,
-    number: u64,
     run: &mut MapRun,
 ) -> WordReply
-    requires table { IsSeatAt words.now layout.now seat.old }
+    requires table { IsAt hand seat.old }
     requires ordered { KeepsLists (call_in run.old) }
-    requires begins { (c : Call) × (first : Run K V) × (c.layout ≡ layout.now) × (c.number ≡ number) × (first.run ≡ run.old)
+    requires begins { (c : Call) × (first : Run K V) × IsCallOf hand c × (first.run ≡ run.old)
         × SeatDictBegins K.is_valid K.word_of V.is_valid V.word_of c seat.old.me.0.passes first }
     ensures table { StaysAtTable seat.old seat.new }
-    ensures ends { (c : Call) (first : Run K V) → c.layout ≡ layout.now → c.number ≡ number → first.run ≡ run.old
+    ensures ends { (c : Call) (first : Run K V) → IsCallOf hand.entry c → first.run ≡ run.old
         → SeatDictBegins K.is_valid K.word_of V.is_valid V.word_of c seat.old.me.0.passes first
         → SeatWordEnds K.is_valid K.word_of V.is_valid V.word_of c seat.new.me.0.passes first record first { run = run.new } result }
-    ensures steps { seat_steps seat.new.me.0.passes ≤ seat_steps seat.old.me.0.passes + map_left run.old (shared_nodes layout.now) }
+    ensures steps { seat_steps seat.new.me.0.passes ≤ seat_steps seat.old.me.0.passes + map_left run.old (shared_nodes hand.entry.layout.now) }
     ensures nothing { ¬ AsksForPairs (call_in run.old) → seat.new ≡ seat.old }
 {
     match run {
@@ -107,16 +102,14 @@ fn in_words<K: WordKey, V: WordValue>(
             run: inner,
             share: _,
         } => {
-            let told = successor::call::<Dict<K, V>, DictRun<K, V>>(
-                words, layout, seat, number, inner,
-            );
+            let told = successor::call::<Dict<K, V>, DictRun<K, V>>(hand, seat, inner);
             WordReply::of_successor(told)
         }
         MapRun::Range {
             run: inner,
             share: _,
         } => {
-            let told = range::call::<Dict<K, V>, DictRun<K, V>>(words, layout, seat, number, inner);
+            let told = range::call::<Dict<K, V>, DictRun<K, V>>(hand, seat, inner);
             WordReply::of_range(told)
         }
         // Never: its callers make ordered reads alone, by the clause `ordered`.
@@ -126,23 +119,21 @@ fn in_words<K: WordKey, V: WordValue>(
 
 /// Makes an ordered read.
 pub(crate) fn read<K: WordKey, V: WordValue>(
-    words: &Words<Dict<K, V>>,
-    layout: &Layout,
+    hand: Hand<Dict<K, V>>,
     seat: &mut Seat<u8, SeatView>,
-    number: u64,
     run: &mut DictRun<K, V>,
 ) -> Reply<K, V>
-    requires table { IsSeatAt words.now layout.now seat.old }
+    requires table { IsAt hand seat.old }
     requires ordered { KeepsLists (call_in run.old.run) }
-    requires begins { (c : Call) × (c.layout ≡ layout.now) × (c.number ≡ number)
+    requires begins { (c : Call) × IsCallOf hand c
         × SeatDictBegins K.is_valid K.word_of V.is_valid V.word_of c seat.old.me.0.passes run.old }
     ensures table { StaysAtTable seat.old seat.new }
-    ensures ends { (c : Call) → c.layout ≡ layout.now → c.number ≡ number
+    ensures ends { (c : Call) → IsCallOf hand.entry c
         → SeatDictBegins K.is_valid K.word_of V.is_valid V.word_of c seat.old.me.0.passes run.old
         → SeatDictEnds K.is_valid K.word_of V.is_valid V.word_of c seat.new.me.0.passes run.old run.new result }
-    ensures steps { seat_steps seat.new.me.0.passes ≤ seat_steps seat.old.me.0.passes + map_left run.old.run (shared_nodes layout.now) }
+    ensures steps { seat_steps seat.new.me.0.passes ≤ seat_steps seat.old.me.0.passes + map_left run.old.run (shared_nodes hand.entry.layout.now) }
     ensures nothing { ¬ AsksForPairs (call_in run.old.run) → seat.new ≡ seat.old }
 {
-    let told = in_words::<K, V>(words, layout, seat, number, &mut run.run);
+    let told = in_words::<K, V>(hand, seat, &mut run.run);
     translated(run.alloc, told)
 }

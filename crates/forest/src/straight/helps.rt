@@ -5,18 +5,18 @@ ghost use Rattle.arena.specs.MemberIndex.{member_index};
 ghost use Rattle.help.specs.Help.Steps.{help_left};
 ghost use Rattle.help.specs.Help.Known.{settled_load};
 ghost use Rattle.help.specs.declared.state.HelpRun.{HelpRun};
-ghost use Rattle.forest.specs.Seats.{IsSeatAt, StaysAtTable};
+ghost use Rattle.forest.specs.Hands.{IsAt, hand_calls};
+ghost use Rattle.forest.specs.Seats.{StaysAtTable};
 ghost use Rattle.forest.specs.Traces.{seat_steps};
 ghost use Rattle.forest.specs.StraightHelp.{Helper, HelperMarks, LoadsPlan, LoadsMember, SetsFlag, LoadsFlag};
-ghost use Rattle.forest.specs.CallKinds.{calls};
 ghost use Rattle.forest.specs.Inside.{InnerIsTold, InnerWaits};
 
+use crate::straight::hand::Hand;
 use crate::straight::step::step;
 use crate::view::SeatView;
-use crate::words::Words;
 use arena::{
-    Access, COMMITTED, Kind, Layout, Machine, MemberIndex, NodeNo, NodeWord, Plan, ScxNo, ScxWord,
-    Shape, Step, Word,
+    Access, COMMITTED, Kind, Machine, MemberIndex, NodeNo, NodeWord, Plan, ScxNo, ScxWord, Shape,
+    Step, Word,
 };
 use atomic_table::Seat;
 use help::{HelpAt, HelpRun};
@@ -24,47 +24,43 @@ use help::{HelpAt, HelpRun};
 /// Makes the step that a HELP waits for.
 #[inline(always)]
 fn act<S: Shape, M: Machine<S>, T: Shape>(
-    words: &Words<S>,
-    layout: &Layout,
+    hand: Hand<S>,
     seat: &mut Seat<u8, SeatView>,
-    number: u64,
     kind: Kind,
     word: Word,
     access: Access,
 ) -> u64
-    requires table { IsSeatAt words.now layout.now seat.old }
-    requires waits { (k : Helper T.allows (calls S.Shape M.Machine layout.now number)) × (m : HelpRun)
+    requires table { IsAt hand seat.old }
+    requires waits { (k : Helper T.allows (hand_calls S.Shape M.Machine hand)) × (m : HelpRun)
         × InnerWaits k seat.old.me.0.passes m record { kind = kind; word = word; access = access } }
     ensures table { StaysAtTable seat.old seat.new }
     ensures one { seat_steps seat.new.me.0.passes ≡ suc (seat_steps seat.old.me.0.passes) }
-    ensures told { (k : Helper T.allows (calls S.Shape M.Machine layout.now number)) (m : HelpRun)
+    ensures told { (k : Helper T.allows (hand_calls S.Shape M.Machine hand.entry)) (m : HelpRun)
         → InnerWaits k seat.old.me.0.passes m record { kind = kind; word = word; access = access }
         → InnerIsTold k seat.new.me.0.passes m result }
 {
-    step::<S, M>(words, layout, seat, number, Step { kind, word, access })
+    step::<S, M>(hand, seat, Step { kind, word, access })
 }
 
 /// Loads a settled word of the SCX-record.
 #[inline(always)]
 fn read<S: Shape, M: Machine<S>, T: Shape>(
-    words: &Words<S>,
-    layout: &Layout,
+    hand: Hand<S>,
     seat: &mut Seat<u8, SeatView>,
-    number: u64,
     scx: ScxNo,
     part: ScxWord,
 ) -> u64
-    requires table { IsSeatAt words.now layout.now seat.old }
-    requires waits { (k : Helper T.allows (calls S.Shape M.Machine layout.now number)) × (m : HelpRun)
+    requires table { IsAt hand seat.old }
+    requires waits { (k : Helper T.allows (hand_calls S.Shape M.Machine hand)) × (m : HelpRun)
         × InnerWaits k seat.old.me.0.passes m (settled_load scx.0 part) }
     ensures table { StaysAtTable seat.old seat.new }
     ensures one { seat_steps seat.new.me.0.passes ≡ suc (seat_steps seat.old.me.0.passes) }
-    ensures told { (k : Helper T.allows (calls S.Shape M.Machine layout.now number)) (m : HelpRun)
+    ensures told { (k : Helper T.allows (hand_calls S.Shape M.Machine hand.entry)) (m : HelpRun)
         → InnerWaits k seat.old.me.0.passes m (settled_load scx.0 part)
         → InnerIsTold k seat.new.me.0.passes m result }
 {
     let (kind, word) = (Kind::LoadSettled, Word::Scx(scx, part));
-    act::<S, M, T>(words, layout, seat, number, kind, word, Access::Load)
+    act::<S, M, T>(hand, seat, kind, word, Access::Load)
 }
 
 /// Whether an info that a freezing exchange found so is frozen now.
@@ -80,44 +76,42 @@ fn is_frozen(found: u64, seen: u64, scx: ScxNo) -> bool
 /// frozen.
 #[inline(always)]
 fn freeze<S: Shape, M: Machine<S>, T: Shape>(
-    words: &Words<S>,
-    layout: &Layout,
+    hand: Hand<S>,
     seat: &mut Seat<u8, SeatView>,
-    number: u64,
     run: &mut HelpRun,
     j: MemberIndex,
 ) -> bool
-    requires table { IsSeatAt words.now layout.now seat.old }
-    requires waits { (k : Helper T.allows (calls S.Shape M.Machine layout.now number)) × LoadsMember k seat.old.me.0.passes run.old j }
+    requires table { IsAt hand seat.old }
+    requires waits { (k : Helper T.allows (hand_calls S.Shape M.Machine hand)) × LoadsMember k seat.old.me.0.passes run.old j }
     ensures table { StaysAtTable seat.old seat.new }
     ensures steps { seat_steps seat.new.me.0.passes ≡ seat_steps seat.old.me.0.passes + 3 }
     ensures left { result ≡ false → help_left run.new.at ≤ 1 }
     ensures same { (run.new.scx ≡ run.old.scx) × (run.new.plan ≡ run.old.plan) }
     ensures next { result ≡ true → (next : MemberIndex) → member_index next ≡ member_index j + 1
         → member_index next < raw_count run.old.plan.0
-        → (k : Helper T.allows (calls S.Shape M.Machine layout.now number))
+        → (k : Helper T.allows (hand_calls S.Shape M.Machine hand.entry))
         → LoadsMember k seat.old.me.0.passes run.old j
         → LoadsMember k seat.new.me.0.passes run.new next }
     ensures last { result ≡ true → ((member_index j < 3) × (member_index j + 1 < raw_count run.old.plan.0) → ⊥)
-        → (k : Helper T.allows (calls S.Shape M.Machine layout.now number))
+        → (k : Helper T.allows (hand_calls S.Shape M.Machine hand.entry))
         → LoadsMember k seat.old.me.0.passes run.old j
         → SetsFlag k seat.new.me.0.passes run.new }
-    ensures blocked { result ≡ false → (k : Helper T.allows (calls S.Shape M.Machine layout.now number))
+    ensures blocked { result ≡ false → (k : Helper T.allows (hand_calls S.Shape M.Machine hand.entry))
         → LoadsMember k seat.old.me.0.passes run.old j
         → LoadsFlag k seat.new.me.0.passes run.new }
 {
     let scx = run.scx;
     let part = ScxWord::Member(j.number());
-    let member = read::<S, M, T>(words, layout, seat, number, scx, part);
+    let member = read::<S, M, T>(hand, seat, scx, part);
     run.members[j.index()] = NodeNo(member);
     let part = ScxWord::Seen(j.number());
-    let seen = read::<S, M, T>(words, layout, seat, number, scx, part);
+    let seen = read::<S, M, T>(hand, seat, scx, part);
     let info = Word::Node(run.members[j.index()], NodeWord::Info);
     let freeze = Access::Exchange {
         expected: seen,
         new: scx.0,
     };
-    let found = act::<S, M, T>(words, layout, seat, number, Kind::Freeze, info, freeze);
+    let found = act::<S, M, T>(hand, seat, Kind::Freeze, info, freeze);
     if !is_frozen(found, seen, scx) {
         run.at = HelpAt::AllFrozen { j, found };
         return false;
@@ -128,192 +122,172 @@ fn freeze<S: Shape, M: Machine<S>, T: Shape>(
 /// Freezes the nodes of an SCX-record whose plan has been read; tells whether all are frozen.
 #[inline(always)]
 fn freeze_all<S: Shape, M: Machine<S>, T: Shape>(
-    words: &Words<S>,
-    layout: &Layout,
+    hand: Hand<S>,
     seat: &mut Seat<u8, SeatView>,
-    number: u64,
     run: &mut HelpRun,
 ) -> bool
-    requires table { IsSeatAt words.now layout.now seat.old }
-    requires waits { (k : Helper T.allows (calls S.Shape M.Machine layout.now number)) × LoadsMember k seat.old.me.0.passes run.old MemberIndex.First }
+    requires table { IsAt hand seat.old }
+    requires waits { (k : Helper T.allows (hand_calls S.Shape M.Machine hand)) × LoadsMember k seat.old.me.0.passes run.old MemberIndex.First }
     ensures table { StaysAtTable seat.old seat.new }
     ensures steps { seat_steps seat.new.me.0.passes ≤ seat_steps seat.old.me.0.passes + 12 }
     ensures left { result ≡ false → help_left run.new.at ≤ 1 }
     ensures same { (run.new.scx ≡ run.old.scx) × (run.new.plan ≡ run.old.plan) }
-    ensures frozen { result ≡ true → (k : Helper T.allows (calls S.Shape M.Machine layout.now number))
+    ensures frozen { result ≡ true → (k : Helper T.allows (hand_calls S.Shape M.Machine hand.entry))
         → LoadsMember k seat.old.me.0.passes run.old MemberIndex.First
         → SetsFlag k seat.new.me.0.passes run.new }
-    ensures blocked { result ≡ false → (k : Helper T.allows (calls S.Shape M.Machine layout.now number))
+    ensures blocked { result ≡ false → (k : Helper T.allows (hand_calls S.Shape M.Machine hand.entry))
         → LoadsMember k seat.old.me.0.passes run.old MemberIndex.First
         → LoadsFlag k seat.new.me.0.passes run.new }
 {
     let plan = run.plan;
     let first = MemberIndex::First;
-    if !freeze::<S, M, T>(words, layout, seat, number, run, first) {
+    if !freeze::<S, M, T>(hand, seat, run, first) {
         return false;
     }
     let Some(second) = plan.member_behind(first) else {
         return true;
     };
-    if !freeze::<S, M, T>(words, layout, seat, number, run, second) {
+    if !freeze::<S, M, T>(hand, seat, run, second) {
         return false;
     }
     let Some(third) = plan.member_behind(second) else {
         return true;
     };
-    if !freeze::<S, M, T>(words, layout, seat, number, run, third) {
+    if !freeze::<S, M, T>(hand, seat, run, third) {
         return false;
     }
     let Some(fourth) = plan.member_behind(third) else {
         return true;
     };
-    freeze::<S, M, T>(words, layout, seat, number, run, fourth)
+    freeze::<S, M, T>(hand, seat, run, fourth)
 }
 
 /// Marks the node of this place, if the SCX-record, whose flag is set, finalizes it.
 #[inline(always)]
 fn mark<S: Shape, M: Machine<S>, T: Shape>(
-    words: &Words<S>,
-    layout: &Layout,
+    hand: Hand<S>,
     seat: &mut Seat<u8, SeatView>,
-    number: u64,
     run: &HelpRun,
     j: MemberIndex,
 )
-    requires table { IsSeatAt words.now layout.now seat.old }
-    requires marks { (k : Helper T.allows (calls S.Shape M.Machine layout.now number)) × HelperMarks k seat.old.me.0.passes run.now (member_index j) }
+    requires table { IsAt hand seat.old }
+    requires marks { (k : Helper T.allows (hand_calls S.Shape M.Machine hand)) × HelperMarks k seat.old.me.0.passes run.now (member_index j) }
     ensures table { StaysAtTable seat.old seat.new }
     ensures steps { seat_steps seat.new.me.0.passes ≤ seat_steps seat.old.me.0.passes + 1 }
-    ensures marked { (k : Helper T.allows (calls S.Shape M.Machine layout.now number))
+    ensures marked { (k : Helper T.allows (hand_calls S.Shape M.Machine hand.entry))
         → HelperMarks k seat.old.me.0.passes run.now (member_index j)
         → HelperMarks k seat.new.me.0.passes run.now (member_index j + 1) }
 {
     if run.plan.finalizes(j) {
         let marked = Word::Node(run.members[j.index()], NodeWord::Marked);
         let mark = Access::Store(1);
-        act::<S, M, T>(words, layout, seat, number, Kind::Mark, marked, mark);
+        act::<S, M, T>(hand, seat, Kind::Mark, marked, mark);
     }
 }
 
 /// Marks those nodes of an SCX-record whose flag is set that it finalizes.
 #[inline(always)]
 fn mark_all<S: Shape, M: Machine<S>, T: Shape>(
-    words: &Words<S>,
-    layout: &Layout,
+    hand: Hand<S>,
     seat: &mut Seat<u8, SeatView>,
-    number: u64,
     run: &HelpRun,
 )
-    requires table { IsSeatAt words.now layout.now seat.old }
-    requires marks { (k : Helper T.allows (calls S.Shape M.Machine layout.now number)) × HelperMarks k seat.old.me.0.passes run.now 0 }
+    requires table { IsAt hand seat.old }
+    requires marks { (k : Helper T.allows (hand_calls S.Shape M.Machine hand)) × HelperMarks k seat.old.me.0.passes run.now 0 }
     ensures table { StaysAtTable seat.old seat.new }
     ensures steps { seat_steps seat.new.me.0.passes ≤ seat_steps seat.old.me.0.passes + 4 }
-    ensures marked { (k : Helper T.allows (calls S.Shape M.Machine layout.now number))
+    ensures marked { (k : Helper T.allows (hand_calls S.Shape M.Machine hand.entry))
         → HelperMarks k seat.old.me.0.passes run.now 0
         → InnerWaits k seat.new.me.0.passes (record run.now { at = HelpAt.New }) (settled_load run.now.scx.0 ScxWord.New) }
 {
-    mark::<S, M, T>(words, layout, seat, number, run, MemberIndex::First);
-    mark::<S, M, T>(words, layout, seat, number, run, MemberIndex::Second);
-    mark::<S, M, T>(words, layout, seat, number, run, MemberIndex::Third);
-    mark::<S, M, T>(words, layout, seat, number, run, MemberIndex::Fourth);
+    mark::<S, M, T>(hand, seat, run, MemberIndex::First);
+    mark::<S, M, T>(hand, seat, run, MemberIndex::Second);
+    mark::<S, M, T>(hand, seat, run, MemberIndex::Third);
+    mark::<S, M, T>(hand, seat, run, MemberIndex::Fourth);
 }
 
 /// Reads the plan of an SCX-record and freezes its nodes, by a run that has not begun; tells whether
 /// all are frozen. Where one could not be frozen the run waits to look whether all were.
 #[inline(always)]
 pub(crate) fn begin<S: Shape, M: Machine<S>, T: Shape>(
-    words: &Words<S>,
-    layout: &Layout,
+    hand: Hand<S>,
     seat: &mut Seat<u8, SeatView>,
-    number: u64,
     run: &mut HelpRun,
 ) -> bool
-    requires table { IsSeatAt words.now layout.now seat.old }
-    requires waits { (k : Helper T.allows (calls S.Shape M.Machine layout.now number)) × LoadsPlan k seat.old.me.0.passes run.old }
+    requires table { IsAt hand seat.old }
+    requires waits { (k : Helper T.allows (hand_calls S.Shape M.Machine hand)) × LoadsPlan k seat.old.me.0.passes run.old }
     ensures table { StaysAtTable seat.old seat.new }
     ensures steps { seat_steps seat.new.me.0.passes ≤ seat_steps seat.old.me.0.passes + 13 }
     ensures same { run.new.scx ≡ run.old.scx }
     ensures left { result ≡ false → help_left run.new.at ≤ 1 }
-    ensures frozen { result ≡ true → (k : Helper T.allows (calls S.Shape M.Machine layout.now number))
+    ensures frozen { result ≡ true → (k : Helper T.allows (hand_calls S.Shape M.Machine hand.entry))
         → LoadsPlan k seat.old.me.0.passes run.old
         → SetsFlag k seat.new.me.0.passes run.new }
-    ensures blocked { result ≡ false → (k : Helper T.allows (calls S.Shape M.Machine layout.now number))
+    ensures blocked { result ≡ false → (k : Helper T.allows (hand_calls S.Shape M.Machine hand.entry))
         → LoadsPlan k seat.old.me.0.passes run.old
         → LoadsFlag k seat.new.me.0.passes run.new }
 {
-    let word = read::<S, M, T>(words, layout, seat, number, run.scx, ScxWord::Plan);
+    let word = read::<S, M, T>(hand, seat, run.scx, ScxWord::Plan);
     run.plan = Plan(word);
-    freeze_all::<S, M, T>(words, layout, seat, number, run)
+    freeze_all::<S, M, T>(hand, seat, run)
 }
 
 /// Commits an SCX-record whose nodes are frozen: sets its flag, marks the nodes that it finalizes,
 /// and changes its field.
 #[inline(always)]
 pub(crate) fn commit<S: Shape, M: Machine<S>, T: Shape>(
-    words: &Words<S>,
-    layout: &Layout,
+    hand: Hand<S>,
     seat: &mut Seat<u8, SeatView>,
-    number: u64,
     run: &HelpRun,
 )
-    requires table { IsSeatAt words.now layout.now seat.old }
-    requires waits { (k : Helper T.allows (calls S.Shape M.Machine layout.now number)) × SetsFlag k seat.old.me.0.passes run.now }
+    requires table { IsAt hand seat.old }
+    requires waits { (k : Helper T.allows (hand_calls S.Shape M.Machine hand)) × SetsFlag k seat.old.me.0.passes run.now }
     ensures table { StaysAtTable seat.old seat.new }
     ensures steps { seat_steps seat.new.me.0.passes ≤ seat_steps seat.old.me.0.passes + 9 }
-    ensures commits { (k : Helper T.allows (calls S.Shape M.Machine layout.now number))
+    ensures commits { (k : Helper T.allows (hand_calls S.Shape M.Machine hand.entry))
         → SetsFlag k seat.old.me.0.passes run.now
         → (v : ℕ) × InnerIsTold k seat.new.me.0.passes (record run.now { at = HelpAt.Commit }) v }
 {
     let (scx, plan) = (run.scx, run.plan);
     let all_frozen = Word::Scx(scx, ScxWord::AllFrozen);
     let flag = Access::Store(1);
-    act::<S, M, T>(
-        words,
-        layout,
-        seat,
-        number,
-        Kind::SetFrozen,
-        all_frozen,
-        flag,
-    );
-    mark_all::<S, M, T>(words, layout, seat, number, run);
-    let new = read::<S, M, T>(words, layout, seat, number, scx, ScxWord::New);
-    let old = read::<S, M, T>(words, layout, seat, number, scx, ScxWord::Old);
+    act::<S, M, T>(hand, seat, Kind::SetFrozen, all_frozen, flag);
+    mark_all::<S, M, T>(hand, seat, run);
+    let new = read::<S, M, T>(hand, seat, scx, ScxWord::New);
+    let old = read::<S, M, T>(hand, seat, scx, ScxWord::Old);
     let node = run.members[plan.at().index()];
     let field = Word::Node(node, NodeWord::Child(plan.side()));
     let change = Access::Exchange { expected: old, new };
-    act::<S, M, T>(words, layout, seat, number, Kind::Update, field, change);
+    act::<S, M, T>(hand, seat, Kind::Update, field, change);
     let state = Word::Scx(scx, ScxWord::State);
     let commit = Access::Store(COMMITTED);
-    act::<S, M, T>(words, layout, seat, number, Kind::Commit, state, commit);
+    act::<S, M, T>(hand, seat, Kind::Commit, state, commit);
 }
 
 /// HELP of an SCX-record by a run that has not begun; tells whether it has committed. Where a node
 /// could not be frozen the run waits to look whether all were.
 #[inline(always)]
 pub(crate) fn call<S: Shape, M: Machine<S>, T: Shape>(
-    words: &Words<S>,
-    layout: &Layout,
+    hand: Hand<S>,
     seat: &mut Seat<u8, SeatView>,
-    number: u64,
     run: &mut HelpRun,
 ) -> bool
-    requires table { IsSeatAt words.now layout.now seat.old }
-    requires waits { (k : Helper T.allows (calls S.Shape M.Machine layout.now number)) × LoadsPlan k seat.old.me.0.passes run.old }
+    requires table { IsAt hand seat.old }
+    requires waits { (k : Helper T.allows (hand_calls S.Shape M.Machine hand)) × LoadsPlan k seat.old.me.0.passes run.old }
     ensures table { StaysAtTable seat.old seat.new }
     ensures steps { seat_steps seat.new.me.0.passes ≤ seat_steps seat.old.me.0.passes + 22 }
     ensures same { run.new.scx ≡ run.old.scx }
     ensures left { result ≡ false → seat_steps seat.new.me.0.passes + suc (help_left run.new.at) ≤ seat_steps seat.old.me.0.passes + 22 }
-    ensures commits { result ≡ true → (k : Helper T.allows (calls S.Shape M.Machine layout.now number))
+    ensures commits { result ≡ true → (k : Helper T.allows (hand_calls S.Shape M.Machine hand.entry))
         → LoadsPlan k seat.old.me.0.passes run.old
         → (v : ℕ) × InnerIsTold k seat.new.me.0.passes (record run.new { at = HelpAt.Commit }) v }
-    ensures blocked { result ≡ false → (k : Helper T.allows (calls S.Shape M.Machine layout.now number))
+    ensures blocked { result ≡ false → (k : Helper T.allows (hand_calls S.Shape M.Machine hand.entry))
         → LoadsPlan k seat.old.me.0.passes run.old
         → LoadsFlag k seat.new.me.0.passes run.new }
 {
-    if !begin::<S, M, T>(words, layout, seat, number, run) {
+    if !begin::<S, M, T>(hand, seat, run) {
         return false;
     }
-    commit::<S, M, T>(words, layout, seat, number, run);
+    commit::<S, M, T>(hand, seat, run);
     true
 }

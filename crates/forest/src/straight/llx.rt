@@ -1,9 +1,9 @@
 //! LLX, of whatever machine looks at nodes, and as a call of its own.
 ghost use Rattle.std.specs.Prelude.{◌≡◌, ◌≢◌, ◌≤◌, ◌+◌, ◌⊎◌, suc, true, false, IfOk, IfErr};
 ghost use Rattle.arena.specs.Machines.{Call};
-ghost use Rattle.forest.specs.CallKinds.{calls};
 ghost use Rattle.forest.specs.Inside.{InnerIsTold, InnerWaits};
-ghost use Rattle.forest.specs.Seats.{IsSeatAt, StaysAtTable};
+ghost use Rattle.forest.specs.Hands.{IsAt, IsCallOf, hand_calls};
+ghost use Rattle.forest.specs.Seats.{StaysAtTable};
 ghost use Rattle.forest.specs.Traces.{seat_steps};
 ghost use Rattle.forest.specs.StraightLlx.{SeatLlxBegins, SeatLlxWaits, SeatLlxEnds, Looker, LookerSnaps, LoadsMark, LoadsStateAgain};
 ghost use Rattle.prims.specs.Llx.Steps.{llx_left};
@@ -11,12 +11,12 @@ ghost use Rattle.prims.specs.Llx.Known.{load};
 ghost use Rattle.prims.specs.declared.llx.LlxRun.{LlxRun};
 
 use crate::steps::complete;
+use crate::straight::hand::Hand;
 use crate::straight::step::step;
 use crate::view::SeatView;
-use crate::words::Words;
 use arena::{
-    ABORTED, Access, COMMITTED, Kind, Layout, Machine, NodeNo, NodeWord, ScxNo, ScxWord, Shape,
-    Side, Step, Turn, Word,
+    ABORTED, Access, COMMITTED, Kind, Machine, NodeNo, NodeWord, ScxNo, ScxWord, Shape, Side, Step,
+    Turn, Word,
 };
 use atomic_table::Seat;
 use prims::{Llx, LlxAt, LlxRun, Snap};
@@ -42,63 +42,59 @@ pub(crate) fn leaves(state: u64, marked: bool) -> bool
 /// Loads a word.
 #[inline(always)]
 fn read<S: Shape, M: Machine<S>, T: Shape>(
-    words: &Words<S>,
-    layout: &Layout,
+    hand: Hand<S>,
     seat: &mut Seat<u8, SeatView>,
-    number: u64,
     kind: Kind,
     word: Word,
 ) -> u64
-    requires table { IsSeatAt words.now layout.now seat.old }
-    requires waits { (k : Looker T.allows (calls S.Shape M.Machine layout.now number)) × (m : LlxRun) × InnerWaits k seat.old.me.0.passes m (load kind word) }
+    requires table { IsAt hand seat.old }
+    requires waits { (k : Looker T.allows (hand_calls S.Shape M.Machine hand)) × (m : LlxRun) × InnerWaits k seat.old.me.0.passes m (load kind word) }
     ensures table { StaysAtTable seat.old seat.new }
     ensures one { seat_steps seat.new.me.0.passes ≡ suc (seat_steps seat.old.me.0.passes) }
-    ensures told { (k : Looker T.allows (calls S.Shape M.Machine layout.now number)) (m : LlxRun)
+    ensures told { (k : Looker T.allows (hand_calls S.Shape M.Machine hand.entry)) (m : LlxRun)
         → InnerWaits k seat.old.me.0.passes m (load kind word)
         → InnerIsTold k seat.new.me.0.passes m result }
 {
     let access = Access::Load;
-    step::<S, M>(words, layout, seat, number, Step { kind, word, access })
+    step::<S, M>(hand, seat, Step { kind, word, access })
 }
 
 /// LLX of a node whose mark is asked for: the loads of a snapshot. Where something is in the way,
 /// it tells whether the node was marked, and by which SCX-record, whose state is asked for again.
 #[inline(always)]
 pub(crate) fn look<S: Shape, M: Machine<S>, T: Shape>(
-    words: &Words<S>,
-    layout: &Layout,
+    hand: Hand<S>,
     seat: &mut Seat<u8, SeatView>,
-    number: u64,
     node: NodeNo,
 ) -> Result<Snap, (bool, ScxNo)>
-    requires table { IsSeatAt words.now layout.now seat.old }
-    requires waits { (k : Looker T.allows (calls S.Shape M.Machine layout.now number)) × LoadsMark k seat.old.me.0.passes node }
+    requires table { IsAt hand seat.old }
+    requires waits { (k : Looker T.allows (hand_calls S.Shape M.Machine hand)) × LoadsMark k seat.old.me.0.passes node }
     ensures table { StaysAtTable seat.old seat.new }
     ensures steps { seat_steps seat.new.me.0.passes ≤ seat_steps seat.old.me.0.passes + 7 }
-    ensures snaps { IfOk result (λ snap. (k : Looker T.allows (calls S.Shape M.Machine layout.now number))
+    ensures snaps { IfOk result (λ snap. (k : Looker T.allows (hand_calls S.Shape M.Machine hand.entry))
         → LoadsMark k seat.old.me.0.passes node
         → LookerSnaps k seat.new.me.0.passes node snap) }
-    ensures waits { IfErr result (λ t. (k : Looker T.allows (calls S.Shape M.Machine layout.now number))
+    ensures waits { IfErr result (λ t. (k : Looker T.allows (hand_calls S.Shape M.Machine hand.entry))
         → LoadsMark k seat.old.me.0.passes node
         → LoadsStateAgain k seat.new.me.0.passes node t.0 t.1) }
 {
     let mark = Word::Node(node, NodeWord::Marked);
     let info = Word::Node(node, NodeWord::Info);
-    let found = read::<S, M, T>(words, layout, seat, number, Kind::LoadMarked, mark);
+    let found = read::<S, M, T>(hand, seat, Kind::LoadMarked, mark);
     let marked = found != 0;
-    let named = read::<S, M, T>(words, layout, seat, number, Kind::LoadInfo, info);
+    let named = read::<S, M, T>(hand, seat, Kind::LoadInfo, info);
     let scx = ScxNo(named);
     let finished = Word::Scx(scx, ScxWord::State);
-    let state = read::<S, M, T>(words, layout, seat, number, Kind::LoadState, finished);
-    let again = read::<S, M, T>(words, layout, seat, number, Kind::LoadMarked, mark);
+    let state = read::<S, M, T>(hand, seat, Kind::LoadState, finished);
+    let again = read::<S, M, T>(hand, seat, Kind::LoadMarked, mark);
     if !leaves(state, again != 0) {
         return Err((marked, scx));
     }
     let one = Word::Node(node, NodeWord::Child(Side::Left));
-    let left = read::<S, M, T>(words, layout, seat, number, Kind::LoadChild, one);
+    let left = read::<S, M, T>(hand, seat, Kind::LoadChild, one);
     let other = Word::Node(node, NodeWord::Child(Side::Right));
-    let right = read::<S, M, T>(words, layout, seat, number, Kind::LoadChild, other);
-    let last = read::<S, M, T>(words, layout, seat, number, Kind::LoadInfo, info);
+    let right = read::<S, M, T>(hand, seat, Kind::LoadChild, other);
+    let last = read::<S, M, T>(hand, seat, Kind::LoadInfo, info);
     if last != scx.0 {
         return Err((marked, scx));
     }
@@ -114,19 +110,17 @@ pub(crate) fn look<S: Shape, M: Machine<S>, T: Shape>(
 /// out of line would take that of a call which meets nothing through memory too.
 #[inline(always)]
 fn hand_over<S: Shape>(
-    words: &Words<S>,
-    layout: &Layout,
+    hand: Hand<S>,
     seat: &mut Seat<u8, SeatView>,
-    number: u64,
     node: NodeNo,
     marked: bool,
     scx: ScxNo,
 ) -> Llx
-    requires table { IsSeatAt words.now layout.now seat.old }
-    requires waits { (c : Call) × (c.layout ≡ layout.now) × (c.number ≡ number)
+    requires table { IsAt hand seat.old }
+    requires waits { (c : Call) × IsCallOf hand c
         × SeatLlxWaits S.allows c seat.old.me.0.passes node (LlxAt.StateAgain marked scx) (load Kind.LoadState (Word.Scx scx ScxWord.State)) }
     ensures table { StaysAtTable seat.old seat.new }
-    ensures ends { (c : Call) → c.layout ≡ layout.now → c.number ≡ number
+    ensures ends { (c : Call) → IsCallOf hand.entry c
         → SeatLlxWaits S.allows c seat.old.me.0.passes node (LlxAt.StateAgain marked scx) (load Kind.LoadState (Word.Scx scx ScxWord.State))
         → SeatLlxEnds S.allows c seat.new.me.0.passes node result }
     ensures steps { seat_steps seat.new.me.0.passes ≤ seat_steps seat.old.me.0.passes + suc (llx_left (LlxAt.StateAgain marked scx)) }
@@ -134,28 +128,22 @@ fn hand_over<S: Shape>(
     let at = LlxAt::StateAgain { marked, scx };
     let turn = Turn::Ask(load(Kind::LoadState, Word::Scx(scx, ScxWord::State)));
     let mut run = LlxRun { node, at };
-    complete::<S, LlxRun, S, LlxRun>(words, layout, seat, number, &mut run, turn)
+    complete::<S, LlxRun, S, LlxRun>(hand.words, hand.layout, seat, hand.number, &mut run, turn)
 }
 
 /// LLX of a node: the loads of a snapshot; where something is in the way, the machine goes on.
 #[inline(always)]
-pub(crate) fn call<S: Shape>(
-    words: &Words<S>,
-    layout: &Layout,
-    seat: &mut Seat<u8, SeatView>,
-    number: u64,
-    node: NodeNo,
-) -> Llx
-    requires table { IsSeatAt words.now layout.now seat.old }
-    requires begins { (c : Call) × (c.layout ≡ layout.now) × (c.number ≡ number) × SeatLlxBegins S.allows c seat.old.me.0.passes node }
+pub(crate) fn call<S: Shape>(hand: Hand<S>, seat: &mut Seat<u8, SeatView>, node: NodeNo) -> Llx
+    requires table { IsAt hand seat.old }
+    requires begins { (c : Call) × IsCallOf hand c × SeatLlxBegins S.allows c seat.old.me.0.passes node }
     ensures table { StaysAtTable seat.old seat.new }
-    ensures ends { (c : Call) → c.layout ≡ layout.now → c.number ≡ number
+    ensures ends { (c : Call) → IsCallOf hand.entry c
         → SeatLlxBegins S.allows c seat.old.me.0.passes node
         → SeatLlxEnds S.allows c seat.new.me.0.passes node result }
     ensures steps { seat_steps seat.new.me.0.passes ≤ seat_steps seat.old.me.0.passes + 64 }
 {
-    match look::<S, LlxRun, S>(words, layout, seat, number, node) {
+    match look::<S, LlxRun, S>(hand, seat, node) {
         Ok(snap) => Llx::Snapshot(snap),
-        Err((marked, scx)) => hand_over(words, layout, seat, number, node, marked, scx),
+        Err((marked, scx)) => hand_over(hand, seat, node, marked, scx),
     }
 }

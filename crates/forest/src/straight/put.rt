@@ -3,20 +3,18 @@ ghost use Rattle.std.specs.Prelude.{◌≡◌, ◌≤◌, ◌+◌, suc, length};
 ghost use Rattle.arena.specs.Machines.{Call};
 ghost use Rattle.prims.specs.Put.Steps.{put_left};
 ghost use Rattle.prims.specs.declared.put.PutRun.{PutRun};
-ghost use Rattle.forest.specs.Seats.{IsSeatAt, StaysAtTable};
+ghost use Rattle.forest.specs.Hands.{IsAt, IsCallOf};
+ghost use Rattle.forest.specs.Seats.{StaysAtTable};
 ghost use Rattle.forest.specs.Traces.{seat_steps};
 ghost use Rattle.forest.specs.StraightScx.{scx_fill, all_frozen_load};
 ghost use Rattle.forest.specs.StraightPut.{SeatPutBegins, SeatPutWaits, SeatPutEnds, fresh_put, scx_at, standing_put};
 
 use crate::steps::complete;
+use crate::straight::hand::Hand;
 use crate::straight::scx::{self, Change};
 use crate::straight::step::step;
 use crate::view::SeatView;
-use crate::words::Words;
-use arena::{
-    Access, Kind, Layout, NodeNo, NodeWord, Plan, ScxNo, ScxWord, SettledPart, Shape, Step, Turn,
-    Word,
-};
+use arena::{Access, Kind, NodeNo, NodeWord, Plan, ScxNo, ScxWord, Shape, Step, Turn, Word};
 use atomic_table::Seat;
 use help::HelpRun;
 use prims::{PutAt, PutRun, Scx, ScxAt, ScxRun, Snap, Snaps, Update};
@@ -59,31 +57,24 @@ fn machine(snaps: &[Snap], put: Put, number: u64, scx: ScxAt, at: PutAt) -> PutR
 
 /// Fills the value of the fresh cell.
 #[inline(always)]
-fn fill_value<S: Shape>(
-    words: &Words<S>,
-    layout: &Layout,
-    seat: &mut Seat<u8, SeatView>,
-    number: u64,
-    snaps: &[Snap],
-    put: Put,
-)
-    requires table { IsSeatAt words.now layout.now seat.old }
+fn fill_value<S: Shape>(hand: Hand<S>, seat: &mut Seat<u8, SeatView>, snaps: &[Snap], put: Put)
+    requires table { IsAt hand seat.old }
     requires fits { length snaps.now ≤ 4 }
-    requires begins { (c : Call) × (c.layout ≡ layout.now) × (c.number ≡ number)
-        × SeatPutBegins S.allows c seat.old.me.0.passes (fresh_put snaps.now put number) }
+    requires begins { (c : Call) × IsCallOf hand c
+        × SeatPutBegins S.allows c seat.old.me.0.passes (fresh_put snaps.now put hand.number) }
     ensures table { StaysAtTable seat.old seat.new }
     ensures one { seat_steps seat.new.me.0.passes ≡ suc (seat_steps seat.old.me.0.passes) }
-    ensures waits { (c : Call) → c.layout ≡ layout.now → c.number ≡ number
-        → SeatPutBegins S.allows c seat.old.me.0.passes (fresh_put snaps.now put number)
-        → SeatPutWaits S.allows c seat.new.me.0.passes (fresh_put snaps.now put number)
-        (scx_at (fresh_put snaps.now put number) ScxAt.Plan) (scx_fill put.scx ScxWord.Plan put.plan.0) }
+    ensures waits { (c : Call) → IsCallOf hand.entry c
+        → SeatPutBegins S.allows c seat.old.me.0.passes (fresh_put snaps.now put hand.entry.number)
+        → SeatPutWaits S.allows c seat.new.me.0.passes (fresh_put snaps.now put hand.entry.number)
+        (scx_at (fresh_put snaps.now put hand.entry.number) ScxAt.Plan) (scx_fill put.scx ScxWord.Plan put.plan.0) }
 {
     let asked = Step {
         kind: Kind::Fill,
         word: Word::Node(put.fresh, NodeWord::Settled(SettledPart::Value)),
         access: Access::Store(put.value),
     };
-    step::<S, PutRun>(words, layout, seat, number, asked);
+    step::<S, PutRun>(hand, seat, asked);
 }
 
 /// Goes on by the machine, where a node could not be frozen: it waits to look whether all were. The
@@ -91,26 +82,24 @@ fn fill_value<S: Shape>(
 /// stay in registers.
 #[inline(always)]
 fn complete_blocked<S: Shape>(
-    words: &Words<S>,
-    layout: &Layout,
+    hand: Hand<S>,
     seat: &mut Seat<u8, SeatView>,
-    number: u64,
     snaps: &[Snap],
     put: Put,
     help: &HelpRun,
 ) -> Scx
-    requires table { IsSeatAt words.now layout.now seat.old }
+    requires table { IsAt hand seat.old }
     requires fits { length snaps.now ≤ 4 }
-    requires waits { (c : Call) × (first : PutRun) × (c.layout ≡ layout.now) × (c.number ≡ number)
-        × SeatPutWaits S.allows c seat.old.me.0.passes first (standing_put snaps.now put number (ScxAt.Help help.now) PutAt.Scx) (all_frozen_load put.scx) }
+    requires waits { (c : Call) × (first : PutRun) × IsCallOf hand c
+        × SeatPutWaits S.allows c seat.old.me.0.passes first (standing_put snaps.now put hand.number (ScxAt.Help help.now) PutAt.Scx) (all_frozen_load put.scx) }
     ensures table { StaysAtTable seat.old seat.new }
     ensures steps { seat_steps seat.new.me.0.passes
-        ≤ seat_steps seat.old.me.0.passes + suc (put_left (standing_put snaps.now put number (ScxAt.Help help.now) PutAt.Scx)) }
-    ensures ends { (c : Call) (first : PutRun) → c.layout ≡ layout.now → c.number ≡ number
-        → SeatPutWaits S.allows c seat.old.me.0.passes first (standing_put snaps.now put number (ScxAt.Help help.now) PutAt.Scx) (all_frozen_load put.scx)
+        ≤ seat_steps seat.old.me.0.passes + suc (put_left (standing_put snaps.now put hand.entry.number (ScxAt.Help help.now) PutAt.Scx)) }
+    ensures ends { (c : Call) (first : PutRun) → IsCallOf hand.entry c
+        → SeatPutWaits S.allows c seat.old.me.0.passes first (standing_put snaps.now put hand.entry.number (ScxAt.Help help.now) PutAt.Scx) (all_frozen_load put.scx)
         → (m : PutRun) × SeatPutEnds S.allows c seat.new.me.0.passes first m result }
 {
-    let copy = *layout;
+    let (words, copy, number) = (hand.words, *hand.layout, hand.number);
     let mut run = machine(snaps, put, number, ScxAt::Help { help: *help }, PutAt::Scx);
     let step = Step {
         kind: Kind::LoadAllFrozen,
@@ -123,35 +112,33 @@ fn complete_blocked<S: Shape>(
 /// SCX of an update by this SCX-record, whose fresh cell gets the value.
 #[inline(always)]
 pub(crate) fn call<S: Shape>(
-    words: &Words<S>,
-    layout: &Layout,
+    hand: Hand<S>,
     seat: &mut Seat<u8, SeatView>,
-    number: u64,
     snaps: &[Snap],
     put: Put,
 ) -> Scx
-    requires table { IsSeatAt words.now layout.now seat.old }
+    requires table { IsAt hand seat.old }
     requires fits { length snaps.now ≤ 4 }
-    requires begins { (c : Call) × (c.layout ≡ layout.now) × (c.number ≡ number)
-        × SeatPutBegins S.allows c seat.old.me.0.passes (fresh_put snaps.now put number) }
+    requires begins { (c : Call) × IsCallOf hand c
+        × SeatPutBegins S.allows c seat.old.me.0.passes (fresh_put snaps.now put hand.number) }
     ensures table { StaysAtTable seat.old seat.new }
     ensures steps { seat_steps seat.new.me.0.passes ≤ seat_steps seat.old.me.0.passes + 40 }
-    ensures ends { (c : Call) → c.layout ≡ layout.now → c.number ≡ number
-        → SeatPutBegins S.allows c seat.old.me.0.passes (fresh_put snaps.now put number)
-        → (m : PutRun) × SeatPutEnds S.allows c seat.new.me.0.passes (fresh_put snaps.now put number) m result }
+    ensures ends { (c : Call) → IsCallOf hand.entry c
+        → SeatPutBegins S.allows c seat.old.me.0.passes (fresh_put snaps.now put hand.entry.number)
+        → (m : PutRun) × SeatPutEnds S.allows c seat.new.me.0.passes (fresh_put snaps.now put hand.entry.number) m result }
 {
-    fill_value(words, layout, seat, number, snaps, put);
+    fill_value(hand, seat, snaps, put);
     let change = Change {
         scx: put.scx,
-        call: number,
+        call: hand.number,
         plan: put.plan,
         old: put.old,
         fresh: put.fresh,
     };
     let mut help = HelpRun::new(put.scx);
     let own = &mut help;
-    if scx::call::<S, PutRun, S, &[Snap]>(words, layout, seat, number, &snaps, change, own) {
+    if scx::call::<S, PutRun, S, &[Snap]>(hand, seat, &snaps, change, own) {
         return Scx::Done;
     }
-    complete_blocked(words, layout, seat, number, snaps, put, &help)
+    complete_blocked(hand, seat, snaps, put, &help)
 }

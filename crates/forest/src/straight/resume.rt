@@ -1,19 +1,19 @@
 //! Updates that meet something in their way: their machine goes on from there.
 ghost use Rattle.std.specs.Prelude.{◌≡◌, ◌≤◌, ◌<◌, ◌+◌, ◌*◌, suc};
 ghost use Rattle.forest.specs.Hosts.{HostedStands};
-ghost use Rattle.forest.specs.Seats.{IsSeatAt, StaysAtTable};
+ghost use Rattle.forest.specs.Hands.{IsAt, hand_calls};
+ghost use Rattle.forest.specs.Seats.{StaysAtTable};
 ghost use Rattle.forest.specs.Traces.{seat_steps, shared_nodes, weight};
 ghost use Rattle.forest.specs.StraightUpdate.{Updater, UpdaterEnds, UpdaterGoesOn, UpdaterIsBlocked};
-ghost use Rattle.forest.specs.CallKinds.{calls};
 ghost use Rattle.prims.specs.Scx.Steps.{scx_left};
 ghost use Rattle.prims.specs.declared.scx.ScxAt.{ScxAt};
 ghost use Rattle.edits.specs.Next.{left_then, standing};
 ghost use Rattle.edits.specs.Steps.{try_left, update_left};
 ghost use Rattle.edits.specs.declared.update.UpdateAt.{UpdateAt as Places};
 
+use crate::straight::hand::Hand;
 use crate::straight::step::step;
 use crate::view::SeatView;
-use crate::words::Words;
 use arena::{Layout, Machine, PassNo, ScxNo, Shape, Share, Turn};
 use atomic_table::Seat;
 use edits::{Edit, Next, Stop, UpdateAt, UpdateRun, Updated};
@@ -34,26 +34,24 @@ fn take_up<E: Edit + Copy>(run: &mut UpdateRun<E, ()>, layout: &Layout) -> Updat
 
 /// Makes the rest of an update from this turn of its machine on, and puts it back.
 fn finish<S: Shape, M: Machine<S>, E: Edit + Copy>(
-    words: &Words<S>,
-    layout: &Layout,
+    hand: Hand<S>,
     seat: &mut Seat<u8, SeatView>,
-    number: u64,
     run: &mut UpdateRun<E, ()>,
     mut machine: UpdateRun<E, UpdateAt>,
     mut turn: Turn<Updated>,
 ) -> Updated
-    requires table { IsSeatAt words.now layout.now seat.old }
-    requires stands { (u : Updater (calls S.Shape M.Machine layout.now number) E.means) × HostedStands u seat.old.me.0.passes machine turn }
+    requires table { IsAt hand seat.old }
+    requires stands { (u : Updater (hand_calls S.Shape M.Machine hand) E.means) × HostedStands u seat.old.me.0.passes machine turn }
     ensures table { StaysAtTable seat.old seat.new }
-    ensures ends { (u : Updater (calls S.Shape M.Machine layout.now number) E.means)
+    ensures ends { (u : Updater (hand_calls S.Shape M.Machine hand.entry) E.means)
         → HostedStands u seat.old.me.0.passes machine turn
         → UpdaterEnds u seat.new.me.0.passes run.new result }
-    ensures steps { seat_steps seat.new.me.0.passes ≤ seat_steps seat.old.me.0.passes + weight turn (update_left E.means machine (shared_nodes layout.now)) }
+    ensures steps { seat_steps seat.new.me.0.passes ≤ seat_steps seat.old.me.0.passes + weight turn (update_left E.means machine (shared_nodes hand.entry.layout.now)) }
 {
     loop {
         match turn {
             Turn::Ask(asked) => {
-                let told = step::<S, M>(words, layout, seat, number, asked);
+                let told = step::<S, M>(hand, seat, asked);
                 turn = machine.step(Some(told));
             }
             Turn::Done(updated) => {
@@ -68,31 +66,29 @@ fn finish<S: Shape, M: Machine<S>, E: Edit + Copy>(
 #[cold]
 #[inline(never)]
 fn rest_from_next<S: Shape, M: Machine<S>, E: Edit + Copy>(
-    words: &Words<S>,
-    layout: &Layout,
+    hand: Hand<S>,
     seat: &mut Seat<u8, SeatView>,
-    number: u64,
     run: &mut UpdateRun<E, ()>,
     found: Found,
     next: Result<Next, Stop>,
 ) -> Updated
-    requires table { IsSeatAt words.now layout.now seat.old }
-    requires goes_on { (u : Updater (calls S.Shape M.Machine layout.now number) E.means) × UpdaterGoesOn u seat.old.me.0.passes run.old found next }
+    requires table { IsAt hand seat.old }
+    requires goes_on { (u : Updater (hand_calls S.Shape M.Machine hand) E.means) × UpdaterGoesOn u seat.old.me.0.passes run.old found next }
     ensures table { StaysAtTable seat.old seat.new }
-    ensures ends { (u : Updater (calls S.Shape M.Machine layout.now number) E.means)
+    ensures ends { (u : Updater (hand_calls S.Shape M.Machine hand.entry) E.means)
         → UpdaterGoesOn u seat.old.me.0.passes run.old found next
         → UpdaterEnds u seat.new.me.0.passes run.new result }
-    ensures steps { seat_steps seat.new.me.0.passes ≤ seat_steps seat.old.me.0.passes + left_then E.means run.old found next (shared_nodes layout.now) }
+    ensures steps { seat_steps seat.new.me.0.passes ≤ seat_steps seat.old.me.0.passes + left_then E.means run.old found next (shared_nodes hand.entry.layout.now) }
 {
-    let mut machine = take_up(run, layout);
+    let mut machine = take_up(run, hand.layout);
     match next {
         Ok(next) => {
             let turn = machine.begin(found, next);
-            finish::<S, M, E>(words, layout, seat, number, run, machine, turn)
+            finish::<S, M, E>(hand, seat, run, machine, turn)
         }
         Err(stop) => {
             let turn = machine.stop(&found, stop);
-            finish::<S, M, E>(words, layout, seat, number, run, machine, turn)
+            finish::<S, M, E>(hand, seat, run, machine, turn)
         }
     }
 }
@@ -101,74 +97,68 @@ fn rest_from_next<S: Shape, M: Machine<S>, E: Edit + Copy>(
 /// since the compiler keeps in registers only what is handed to no function out of line.
 #[inline(always)]
 pub(crate) fn from_next<S: Shape, M: Machine<S>, E: Edit + Copy>(
-    words: &Words<S>,
-    layout: &Layout,
+    hand: Hand<S>,
     seat: &mut Seat<u8, SeatView>,
-    number: u64,
     run: &mut UpdateRun<E, ()>,
     found: &Found,
     next: Result<Next, Stop>,
 ) -> Updated
-    requires table { IsSeatAt words.now layout.now seat.old }
-    requires goes_on { (u : Updater (calls S.Shape M.Machine layout.now number) E.means) × UpdaterGoesOn u seat.old.me.0.passes run.old found.now next }
+    requires table { IsAt hand seat.old }
+    requires goes_on { (u : Updater (hand_calls S.Shape M.Machine hand) E.means) × UpdaterGoesOn u seat.old.me.0.passes run.old found.now next }
     ensures table { StaysAtTable seat.old seat.new }
-    ensures ends { (u : Updater (calls S.Shape M.Machine layout.now number) E.means)
+    ensures ends { (u : Updater (hand_calls S.Shape M.Machine hand.entry) E.means)
         → UpdaterGoesOn u seat.old.me.0.passes run.old found.now next
         → UpdaterEnds u seat.new.me.0.passes run.new result }
-    ensures steps { seat_steps seat.new.me.0.passes ≤ seat_steps seat.old.me.0.passes + left_then E.means run.old found.now next (shared_nodes layout.now) }
+    ensures steps { seat_steps seat.new.me.0.passes ≤ seat_steps seat.old.me.0.passes + left_then E.means run.old found.now next (shared_nodes hand.entry.layout.now) }
 {
-    rest_from_next::<S, M, E>(words, layout, seat, number, run, *found, next)
+    rest_from_next::<S, M, E>(hand, seat, run, *found, next)
 }
 
 /// Makes the rest of an update whose SCX could not freeze a node.
 #[cold]
 #[inline(never)]
 fn rest_from_block<S: Shape, M: Machine<S>, E: Edit + Copy>(
-    words: &Words<S>,
-    layout: &Layout,
+    hand: Hand<S>,
     seat: &mut Seat<u8, SeatView>,
-    number: u64,
     run: &mut UpdateRun<E, ()>,
     found: Found,
     scx: ScxNo,
     help: HelpRun,
 ) -> Updated
-    requires table { IsSeatAt words.now layout.now seat.old }
-    requires blocked { (u : Updater (calls S.Shape M.Machine layout.now number) E.means)
+    requires table { IsAt hand seat.old }
+    requires blocked { (u : Updater (hand_calls S.Shape M.Machine hand) E.means)
         × UpdaterIsBlocked u seat.old.me.0.passes run.old found scx help }
     ensures table { StaysAtTable seat.old seat.new }
-    ensures ends { (u : Updater (calls S.Shape M.Machine layout.now number) E.means)
+    ensures ends { (u : Updater (hand_calls S.Shape M.Machine hand.entry) E.means)
         → UpdaterIsBlocked u seat.old.me.0.passes run.old found scx help
         → UpdaterEnds u seat.new.me.0.passes run.new result }
     ensures steps { seat_steps seat.new.me.0.passes
-        ≤ seat_steps seat.old.me.0.passes + suc (run.old.tries * try_left E.means (shared_nodes layout.now) + scx_left (ScxAt.Help help)) }
+        ≤ seat_steps seat.old.me.0.passes + suc (run.old.tries * try_left E.means (shared_nodes hand.entry.layout.now) + scx_left (ScxAt.Help help)) }
 {
-    let mut machine = take_up(run, layout);
+    let mut machine = take_up(run, hand.layout);
     let turn = machine.block(found, scx, help);
-    finish::<S, M, E>(words, layout, seat, number, run, machine, turn)
+    finish::<S, M, E>(hand, seat, run, machine, turn)
 }
 
 /// Makes the rest of an update whose SCX could not freeze a node, with copies as above.
 #[inline(always)]
 pub(crate) fn from_block<S: Shape, M: Machine<S>, E: Edit + Copy>(
-    words: &Words<S>,
-    layout: &Layout,
+    hand: Hand<S>,
     seat: &mut Seat<u8, SeatView>,
-    number: u64,
     run: &mut UpdateRun<E, ()>,
     found: &Found,
     scx: ScxNo,
     help: &HelpRun,
 ) -> Updated
-    requires table { IsSeatAt words.now layout.now seat.old }
-    requires blocked { (u : Updater (calls S.Shape M.Machine layout.now number) E.means)
+    requires table { IsAt hand seat.old }
+    requires blocked { (u : Updater (hand_calls S.Shape M.Machine hand) E.means)
         × UpdaterIsBlocked u seat.old.me.0.passes run.old found.now scx help.now }
     ensures table { StaysAtTable seat.old seat.new }
-    ensures ends { (u : Updater (calls S.Shape M.Machine layout.now number) E.means)
+    ensures ends { (u : Updater (hand_calls S.Shape M.Machine hand.entry) E.means)
         → UpdaterIsBlocked u seat.old.me.0.passes run.old found.now scx help.now
         → UpdaterEnds u seat.new.me.0.passes run.new result }
     ensures steps { seat_steps seat.new.me.0.passes
-        ≤ seat_steps seat.old.me.0.passes + suc (run.old.tries * try_left E.means (shared_nodes layout.now) + scx_left (ScxAt.Help help.now)) }
+        ≤ seat_steps seat.old.me.0.passes + suc (run.old.tries * try_left E.means (shared_nodes hand.entry.layout.now) + scx_left (ScxAt.Help help.now)) }
 {
-    rest_from_block::<S, M, E>(words, layout, seat, number, run, *found, scx, *help)
+    rest_from_block::<S, M, E>(hand, seat, run, *found, scx, *help)
 }

@@ -1,10 +1,10 @@
 //! SCX with an SCX-record of the share, of whatever machine makes one: its steps in line.
 ghost use Rattle.std.specs.Prelude.{◌≡◌, ◌≤◌, ◌<◌, ◌+◌, ℕ, suc, true, false, IfSome, IfNone};
 ghost use Rattle.arena.specs.MemberIndex.{member_index};
-ghost use Rattle.forest.specs.Seats.{IsSeatAt, StaysAtTable};
+ghost use Rattle.forest.specs.Hands.{IsAt, hand_calls};
+ghost use Rattle.forest.specs.Seats.{StaysAtTable};
 ghost use Rattle.forest.specs.Traces.{seat_steps};
 ghost use Rattle.forest.specs.StraightScx.{Changer, changing_at, scx_fill, all_frozen_load, FillsPlan, FillsMember, FillsSeen, FillsCall};
-ghost use Rattle.forest.specs.CallKinds.{calls};
 ghost use Rattle.forest.specs.Inside.{InnerIsTold, InnerWaits};
 ghost use Rattle.help.specs.Help.Steps.{help_left};
 ghost use Rattle.help.specs.declared.state.HelpRun.{HelpRun};
@@ -12,13 +12,11 @@ ghost use Rattle.prims.specs.declared.scx.ScxRun.{ScxRun};
 ghost use Rattle.prims.specs.declared.scx.ScxAt.{ScxAt};
 ghost use Rattle.help.specs.declared.state.HelpAt.{HelpAt};
 
+use crate::straight::hand::Hand;
 use crate::straight::helps;
 use crate::straight::step::step;
 use crate::view::SeatView;
-use crate::words::Words;
-use arena::{
-    Access, Kind, Layout, Machine, MemberIndex, NodeNo, Plan, ScxNo, ScxWord, Shape, Step, Word,
-};
+use arena::{Access, Kind, Machine, MemberIndex, NodeNo, Plan, ScxNo, ScxWord, Shape, Step, Word};
 use atomic_table::Seat;
 use help::HelpRun;
 use prims::SnapList;
@@ -36,197 +34,163 @@ pub(crate) struct Change {
 /// Fills a word of the SCX-record.
 #[inline(always)]
 fn fill<S: Shape, M: Machine<S>, T: Shape>(
-    words: &Words<S>,
-    layout: &Layout,
+    hand: Hand<S>,
     seat: &mut Seat<u8, SeatView>,
-    number: u64,
     scx: ScxNo,
     part: ScxWord,
     value: u64,
 ) -> u64
-    requires table { IsSeatAt words.now layout.now seat.old }
-    requires waits { (k : Changer T.allows (calls S.Shape M.Machine layout.now number)) × (m : ScxRun)
+    requires table { IsAt hand seat.old }
+    requires waits { (k : Changer T.allows (hand_calls S.Shape M.Machine hand)) × (m : ScxRun)
         × InnerWaits k seat.old.me.0.passes m (scx_fill scx part value) }
     ensures table { StaysAtTable seat.old seat.new }
     ensures one { seat_steps seat.new.me.0.passes ≡ suc (seat_steps seat.old.me.0.passes) }
-    ensures told { (k : Changer T.allows (calls S.Shape M.Machine layout.now number)) (m : ScxRun)
+    ensures told { (k : Changer T.allows (hand_calls S.Shape M.Machine hand.entry)) (m : ScxRun)
         → InnerWaits k seat.old.me.0.passes m (scx_fill scx part value)
         → InnerIsTold k seat.new.me.0.passes m result }
 {
     let (kind, word) = (Kind::Fill, Word::Scx(scx, part));
     let access = Access::Store(value);
-    step::<S, M>(words, layout, seat, number, Step { kind, word, access })
+    step::<S, M>(hand, seat, Step { kind, word, access })
 }
 
 /// Fills the node of this place, and tells the place behind it.
 #[inline(always)]
 fn fill_member<S: Shape, M: Machine<S>, T: Shape, L: SnapList>(
-    words: &Words<S>,
-    layout: &Layout,
+    hand: Hand<S>,
     seat: &mut Seat<u8, SeatView>,
-    number: u64,
     snaps: &L,
     change: Change,
     j: MemberIndex,
 ) -> Option<MemberIndex>
-    requires table { IsSeatAt words.now layout.now seat.old }
-    requires waits { (k : Changer T.allows (calls S.Shape M.Machine layout.now number)) × FillsMember k seat.old.me.0.passes (L.list snaps.now) change j }
+    requires table { IsAt hand seat.old }
+    requires waits { (k : Changer T.allows (hand_calls S.Shape M.Machine hand)) × FillsMember k seat.old.me.0.passes (L.list snaps.now) change j }
     ensures table { StaysAtTable seat.old seat.new }
     ensures one { seat_steps seat.new.me.0.passes ≡ suc (seat_steps seat.old.me.0.passes) }
     ensures behind { IfSome result (λ next. (member_index next ≡ member_index j + 1) × (member_index next < 4)) }
-    ensures next { IfSome result (λ next. (k : Changer T.allows (calls S.Shape M.Machine layout.now number))
+    ensures next { IfSome result (λ next. (k : Changer T.allows (hand_calls S.Shape M.Machine hand.entry))
         → FillsMember k seat.old.me.0.passes (L.list snaps.now) change j
         → FillsMember k seat.new.me.0.passes (L.list snaps.now) change next) }
-    ensures last { IfNone result ((k : Changer T.allows (calls S.Shape M.Machine layout.now number))
+    ensures last { IfNone result ((k : Changer T.allows (hand_calls S.Shape M.Machine hand.entry))
         → FillsMember k seat.old.me.0.passes (L.list snaps.now) change j
         → FillsSeen k seat.new.me.0.passes (L.list snaps.now) change MemberIndex.First) }
 {
     let part = ScxWord::Member(j.number());
     let wanted = snaps.get(j.index()).node.0;
-    fill::<S, M, T>(words, layout, seat, number, change.scx, part, wanted);
+    fill::<S, M, T>(hand, seat, change.scx, part, wanted);
     change.plan.member_behind(j)
 }
 
 /// Fills the nodes that the SCX-record covers.
 #[inline(always)]
 fn fill_members<S: Shape, M: Machine<S>, T: Shape, L: SnapList>(
-    words: &Words<S>,
-    layout: &Layout,
+    hand: Hand<S>,
     seat: &mut Seat<u8, SeatView>,
-    number: u64,
     snaps: &L,
     change: Change,
 )
-    requires table { IsSeatAt words.now layout.now seat.old }
-    requires waits { (k : Changer T.allows (calls S.Shape M.Machine layout.now number))
+    requires table { IsAt hand seat.old }
+    requires waits { (k : Changer T.allows (hand_calls S.Shape M.Machine hand))
         × FillsMember k seat.old.me.0.passes (L.list snaps.now) change MemberIndex.First }
     ensures table { StaysAtTable seat.old seat.new }
     ensures steps { seat_steps seat.new.me.0.passes ≤ seat_steps seat.old.me.0.passes + 4 }
-    ensures waits { (k : Changer T.allows (calls S.Shape M.Machine layout.now number))
+    ensures waits { (k : Changer T.allows (hand_calls S.Shape M.Machine hand.entry))
         → FillsMember k seat.old.me.0.passes (L.list snaps.now) change MemberIndex.First
         → FillsSeen k seat.new.me.0.passes (L.list snaps.now) change MemberIndex.First }
 {
     let first = MemberIndex::First;
-    let Some(second) = fill_member::<S, M, T, L>(words, layout, seat, number, snaps, change, first)
-    else {
+    let Some(second) = fill_member::<S, M, T, L>(hand, seat, snaps, change, first) else {
         return;
     };
-    let Some(third) = fill_member::<S, M, T, L>(words, layout, seat, number, snaps, change, second)
-    else {
+    let Some(third) = fill_member::<S, M, T, L>(hand, seat, snaps, change, second) else {
         return;
     };
-    let Some(fourth) = fill_member::<S, M, T, L>(words, layout, seat, number, snaps, change, third)
-    else {
+    let Some(fourth) = fill_member::<S, M, T, L>(hand, seat, snaps, change, third) else {
         return;
     };
-    fill_member::<S, M, T, L>(words, layout, seat, number, snaps, change, fourth);
+    fill_member::<S, M, T, L>(hand, seat, snaps, change, fourth);
 }
 
 /// Fills what the info of the node of this place was, and tells the place behind it.
 #[inline(always)]
 fn fill_seen<S: Shape, M: Machine<S>, T: Shape, L: SnapList>(
-    words: &Words<S>,
-    layout: &Layout,
+    hand: Hand<S>,
     seat: &mut Seat<u8, SeatView>,
-    number: u64,
     snaps: &L,
     change: Change,
     j: MemberIndex,
 ) -> Option<MemberIndex>
-    requires table { IsSeatAt words.now layout.now seat.old }
-    requires waits { (k : Changer T.allows (calls S.Shape M.Machine layout.now number)) × FillsSeen k seat.old.me.0.passes (L.list snaps.now) change j }
+    requires table { IsAt hand seat.old }
+    requires waits { (k : Changer T.allows (hand_calls S.Shape M.Machine hand)) × FillsSeen k seat.old.me.0.passes (L.list snaps.now) change j }
     ensures table { StaysAtTable seat.old seat.new }
     ensures one { seat_steps seat.new.me.0.passes ≡ suc (seat_steps seat.old.me.0.passes) }
     ensures behind { IfSome result (λ next. (member_index next ≡ member_index j + 1) × (member_index next < 4)) }
-    ensures next { IfSome result (λ next. (k : Changer T.allows (calls S.Shape M.Machine layout.now number))
+    ensures next { IfSome result (λ next. (k : Changer T.allows (hand_calls S.Shape M.Machine hand.entry))
         → FillsSeen k seat.old.me.0.passes (L.list snaps.now) change j
         → FillsSeen k seat.new.me.0.passes (L.list snaps.now) change next) }
-    ensures last { IfNone result ((k : Changer T.allows (calls S.Shape M.Machine layout.now number))
+    ensures last { IfNone result ((k : Changer T.allows (hand_calls S.Shape M.Machine hand.entry))
         → FillsSeen k seat.old.me.0.passes (L.list snaps.now) change j
         → FillsCall k seat.new.me.0.passes (L.list snaps.now) change) }
 {
     let part = ScxWord::Seen(j.number());
     let wanted = snaps.get(j.index()).scx.0;
-    fill::<S, M, T>(words, layout, seat, number, change.scx, part, wanted);
+    fill::<S, M, T>(hand, seat, change.scx, part, wanted);
     change.plan.member_behind(j)
 }
 
 /// Fills what the infos of these nodes were.
 #[inline(always)]
 fn fill_infos<S: Shape, M: Machine<S>, T: Shape, L: SnapList>(
-    words: &Words<S>,
-    layout: &Layout,
+    hand: Hand<S>,
     seat: &mut Seat<u8, SeatView>,
-    number: u64,
     snaps: &L,
     change: Change,
 )
-    requires table { IsSeatAt words.now layout.now seat.old }
-    requires waits { (k : Changer T.allows (calls S.Shape M.Machine layout.now number))
+    requires table { IsAt hand seat.old }
+    requires waits { (k : Changer T.allows (hand_calls S.Shape M.Machine hand))
         × FillsSeen k seat.old.me.0.passes (L.list snaps.now) change MemberIndex.First }
     ensures table { StaysAtTable seat.old seat.new }
     ensures steps { seat_steps seat.new.me.0.passes ≤ seat_steps seat.old.me.0.passes + 4 }
-    ensures waits { (k : Changer T.allows (calls S.Shape M.Machine layout.now number))
+    ensures waits { (k : Changer T.allows (hand_calls S.Shape M.Machine hand.entry))
         → FillsSeen k seat.old.me.0.passes (L.list snaps.now) change MemberIndex.First
         → FillsCall k seat.new.me.0.passes (L.list snaps.now) change }
 {
     let first = MemberIndex::First;
-    let Some(second) = fill_seen::<S, M, T, L>(words, layout, seat, number, snaps, change, first)
-    else {
+    let Some(second) = fill_seen::<S, M, T, L>(hand, seat, snaps, change, first) else {
         return;
     };
-    let Some(third) = fill_seen::<S, M, T, L>(words, layout, seat, number, snaps, change, second)
-    else {
+    let Some(third) = fill_seen::<S, M, T, L>(hand, seat, snaps, change, second) else {
         return;
     };
-    let Some(fourth) = fill_seen::<S, M, T, L>(words, layout, seat, number, snaps, change, third)
-    else {
+    let Some(fourth) = fill_seen::<S, M, T, L>(hand, seat, snaps, change, third) else {
         return;
     };
-    fill_seen::<S, M, T, L>(words, layout, seat, number, snaps, change, fourth);
+    fill_seen::<S, M, T, L>(hand, seat, snaps, change, fourth);
 }
 
 /// Fills the words of the SCX-record, from its plan on.
 #[inline(always)]
 pub(crate) fn fill_all<S: Shape, M: Machine<S>, T: Shape, L: SnapList>(
-    words: &Words<S>,
-    layout: &Layout,
+    hand: Hand<S>,
     seat: &mut Seat<u8, SeatView>,
-    number: u64,
     snaps: &L,
     change: Change,
 ) -> u64
-    requires table { IsSeatAt words.now layout.now seat.old }
-    requires waits { (k : Changer T.allows (calls S.Shape M.Machine layout.now number)) × FillsPlan k seat.old.me.0.passes (L.list snaps.now) change }
+    requires table { IsAt hand seat.old }
+    requires waits { (k : Changer T.allows (hand_calls S.Shape M.Machine hand)) × FillsPlan k seat.old.me.0.passes (L.list snaps.now) change }
     ensures table { StaysAtTable seat.old seat.new }
     ensures steps { seat_steps seat.new.me.0.passes ≤ seat_steps seat.old.me.0.passes + 12 }
-    ensures told { (k : Changer T.allows (calls S.Shape M.Machine layout.now number))
+    ensures told { (k : Changer T.allows (hand_calls S.Shape M.Machine hand.entry))
         → FillsPlan k seat.old.me.0.passes (L.list snaps.now) change
         → InnerIsTold k seat.new.me.0.passes (changing_at (L.list snaps.now) change ScxAt.Call) result }
 {
     let scx = change.scx;
-    fill::<S, M, T>(
-        words,
-        layout,
-        seat,
-        number,
-        scx,
-        ScxWord::Plan,
-        change.plan.0,
-    );
-    fill::<S, M, T>(
-        words,
-        layout,
-        seat,
-        number,
-        scx,
-        ScxWord::New,
-        change.fresh.0,
-    );
-    fill::<S, M, T>(words, layout, seat, number, scx, ScxWord::Old, change.old.0);
-    fill_members::<S, M, T, L>(words, layout, seat, number, snaps, change);
-    fill_infos::<S, M, T, L>(words, layout, seat, number, snaps, change);
-    fill::<S, M, T>(words, layout, seat, number, scx, ScxWord::Call, change.call)
+    fill::<S, M, T>(hand, seat, scx, ScxWord::Plan, change.plan.0);
+    fill::<S, M, T>(hand, seat, scx, ScxWord::New, change.fresh.0);
+    fill::<S, M, T>(hand, seat, scx, ScxWord::Old, change.old.0);
+    fill_members::<S, M, T, L>(hand, seat, snaps, change);
+    fill_infos::<S, M, T, L>(hand, seat, snaps, change);
+    fill::<S, M, T>(hand, seat, scx, ScxWord::Call, change.call)
 }
 
 /// SCX that begins with the fill of its plan, and then by this run of HELP, which has not begun;
@@ -234,28 +198,31 @@ pub(crate) fn fill_all<S: Shape, M: Machine<S>, T: Shape, L: SnapList>(
 /// were.
 #[inline(always)]
 pub(crate) fn call<S: Shape, M: Machine<S>, T: Shape, L: SnapList>(
-    words: &Words<S>,
-    layout: &Layout,
+    hand: Hand<S>,
     seat: &mut Seat<u8, SeatView>,
-    number: u64,
     snaps: &L,
     change: Change,
     help: &mut HelpRun,
 ) -> bool
-    requires table { IsSeatAt words.now layout.now seat.old }
-    requires waits { (k : Changer T.allows (calls S.Shape M.Machine layout.now number)) × FillsPlan k seat.old.me.0.passes (L.list snaps.now) change }
+    requires table { IsAt hand seat.old }
+    requires waits { (k : Changer T.allows (hand_calls S.Shape M.Machine hand)) × FillsPlan k seat.old.me.0.passes (L.list snaps.now) change }
     requires begins { (help.old.scx ≡ change.scx) × (help.old.at ≡ HelpAt.Start) }
     ensures table { StaysAtTable seat.old seat.new }
     ensures steps { seat_steps seat.new.me.0.passes ≤ seat_steps seat.old.me.0.passes + 34 }
     ensures left { result ≡ false → seat_steps seat.new.me.0.passes + suc (help_left help.new.at) ≤ seat_steps seat.old.me.0.passes + 34 }
-    ensures commits { result ≡ true → (k : Changer T.allows (calls S.Shape M.Machine layout.now number))
+    ensures commits { result ≡ true → (k : Changer T.allows (hand_calls S.Shape M.Machine hand.entry))
         → FillsPlan k seat.old.me.0.passes (L.list snaps.now) change
         → (v : ℕ) × InnerIsTold k seat.new.me.0.passes (changing_at (L.list snaps.now) change (ScxAt.Help (record help.new { at = HelpAt.Commit }))) v }
-    ensures blocked { result ≡ false → (k : Changer T.allows (calls S.Shape M.Machine layout.now number))
+    ensures blocked { result ≡ false → (k : Changer T.allows (hand_calls S.Shape M.Machine hand.entry))
         → FillsPlan k seat.old.me.0.passes (L.list snaps.now) change
         → InnerWaits k seat.new.me.0.passes (changing_at (L.list snaps.now) change (ScxAt.Help help.new)) (all_frozen_load change.scx) }
 {
-    let layout = *layout;
-    fill_all::<S, M, T, L>(words, &layout, seat, number, snaps, change);
-    helps::call::<S, M, T>(words, &layout, seat, number, help)
+    let layout = *hand.layout;
+    let hand = Hand {
+        words: hand.words,
+        layout: &layout,
+        number: hand.number,
+    };
+    fill_all::<S, M, T, L>(hand, seat, snaps, change);
+    helps::call::<S, M, T>(hand, seat, help)
 }

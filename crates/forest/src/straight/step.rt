@@ -3,36 +3,38 @@ ghost use Rattle.std.specs.Prelude.{◌≡◌, suc, [], ◌∷◌};
 ghost use Rattle.arena.specs.Machines.{Call};
 ghost use Rattle.forest.specs.declared.view.SeatedPass.{SeatedPass};
 ghost use Rattle.forest.specs.Opened.{IsStepBehind};
-ghost use Rattle.forest.specs.Seats.{IsSeatAt, StaysAtTable};
+ghost use Rattle.forest.specs.Hands.{IsAt, IsCallOf};
+ghost use Rattle.forest.specs.Seats.{StaysAtTable};
 ghost use Rattle.forest.specs.Traces.{Waits, Told, known_of, seat_steps};
 
 use crate::rule::Asked;
+use crate::straight::hand::Hand;
 use crate::view::SeatView;
-use crate::words::Words;
-use arena::{Layout, Machine, Shape, Step};
+use arena::{Machine, Shape, Step};
 use atomic_table::Seat;
 use std::marker::Brand;
 
 /// Makes the step for which a machine of this type waits, and answers what it may be told.
 #[inline(always)]
 pub(crate) fn step<S: Shape, M: Machine<S>>(
-    words: &Words<S>,
-    layout: &Layout,
+    hand: Hand<S>,
     seat: &mut Seat<u8, SeatView>,
-    number: u64,
     step: Step,
 ) -> u64
-    requires table { IsSeatAt words.now layout.now seat.old }
-    requires waits { (c : Call) × (first : M) × (m : M) × (c.layout ≡ layout.now) × (c.number ≡ number)
+    requires table { IsAt hand seat.old }
+    requires waits { (c : Call) × (first : M) × (m : M) × IsCallOf hand c
         × Waits S.allows M.waits M.same c seat.old.me.0.passes first m step }
     ensures table { StaysAtTable seat.old seat.new }
-    ensures told { (c : Call) (first m : M) → c.layout ≡ layout.now → c.number ≡ number
+    ensures told { (c : Call) (first m : M) → IsCallOf hand.entry c
         → Waits S.allows M.waits M.same c seat.old.me.0.passes first m step
         → Told S.allows M.waits M.same c seat.new.me.0.passes first M.ready m result }
     ensures one { seat_steps seat.new.me.0.passes ≡ suc (seat_steps seat.old.me.0.passes) }
-    ensures row { (p : SeatedPass) × (seat.old.me.0.passes ≡ p ∷ []) × IsStepBehind p.known (known_of seat.new.me.0.passes) p.number.0 number step.kind }
+    ensures row { (p : SeatedPass) × (seat.old.me.0.passes ≡ p ∷ []) × IsStepBehind p.known (known_of seat.new.me.0.passes) p.number.0 hand.entry.number step.kind }
 {
-    let at = layout.place(step.word);
-    let asked = Asked { call: number, step };
-    words.make::<Brand>(seat, &asked, at)
+    let at = hand.layout.place(step.word);
+    let asked = Asked {
+        call: hand.number,
+        step,
+    };
+    hand.words.make::<Brand>(seat, &asked, at)
 }

@@ -1,21 +1,21 @@
 //! Updates, of whatever machine updates.
 ghost use Rattle.std.specs.Prelude.{◌≡◌, ◌≤◌, ◌<◌, ◌+◌, suc, Ok};
-ghost use Rattle.forest.specs.Seats.{IsSeatAt, StaysAtTable};
+ghost use Rattle.forest.specs.Hands.{IsAt, hand_calls};
+ghost use Rattle.forest.specs.Seats.{StaysAtTable};
 ghost use Rattle.forest.specs.Traces.{seat_steps, shared_nodes};
 ghost use Rattle.forest.specs.StraightUpdate.{Updater, UpdaterBegins, UpdaterEnds, UpdaterTries, UpdaterGoesOn};
-ghost use Rattle.forest.specs.CallKinds.{calls};
 ghost use Rattle.edits.specs.Next.{standing, left_then};
 ghost use Rattle.edits.specs.Steps.{update_left};
 ghost use Rattle.edits.specs.declared.update.Next.{Next};
 ghost use Rattle.edits.specs.declared.update.UpdateAt.{UpdateAt};
 
 use crate::straight::fresh_nodes::{fill_node, load};
+use crate::straight::hand::Hand;
 use crate::straight::llx::look;
 use crate::straight::scx::{self, Change};
 use crate::straight::{helps, resume, walk};
 use crate::view::SeatView;
-use crate::words::Words;
-use arena::{Layout, Machine, NodeNo, ScxNo, Shape};
+use arena::{Machine, NodeNo, ScxNo, Shape};
 use atomic_table::Seat;
 use edits::{Edit, Next, Stop, UpdateRun, Updated, anew};
 use help::HelpRun;
@@ -28,59 +28,53 @@ use template::{Found, Tree};
 /// as one with both edits would.
 #[inline(never)]
 pub(crate) fn call<S: Shape, M: Machine<S>, E: Edit + Copy>(
-    words: &Words<S>,
-    layout: &Layout,
+    hand: Hand<S>,
     seat: &mut Seat<u8, SeatView>,
-    number: u64,
     run: &mut UpdateRun<E, ()>,
 ) -> Updated
-    requires table { IsSeatAt words.now layout.now seat.old }
-    requires begins { (u : Updater (calls S.Shape M.Machine layout.now number) E.means) × UpdaterBegins u seat.old.me.0.passes run.old }
+    requires table { IsAt hand seat.old }
+    requires begins { (u : Updater (hand_calls S.Shape M.Machine hand) E.means) × UpdaterBegins u seat.old.me.0.passes run.old }
     ensures table { StaysAtTable seat.old seat.new }
-    ensures ends { (u : Updater (calls S.Shape M.Machine layout.now number) E.means)
+    ensures ends { (u : Updater (hand_calls S.Shape M.Machine hand.entry) E.means)
         → UpdaterBegins u seat.old.me.0.passes run.old
         → UpdaterEnds u seat.new.me.0.passes run.new result }
     ensures steps { seat_steps seat.new.me.0.passes
-        ≤ seat_steps seat.old.me.0.passes + update_left E.means (standing run.old UpdateAt.Start) (shared_nodes layout.now) }
+        ≤ seat_steps seat.old.me.0.passes + update_left E.means (standing run.old UpdateAt.Start) (shared_nodes hand.entry.layout.now) }
 {
     let goal = run.edit.goal();
-    let found = anew(&walk::call::<S, M>(words, layout, seat, number, goal).0);
+    let found = anew(&walk::call::<S, M>(hand, seat, goal).0);
     let next = run.test_share(&found);
-    try_on::<S, M, E>(words, layout, seat, number, run, &found, next)
+    try_on::<S, M, E>(hand, seat, run, &found, next)
 }
 
 /// Makes what a try does next and all behind it.
 #[inline(always)]
 fn try_on<S: Shape, M: Machine<S>, E: Edit + Copy>(
-    words: &Words<S>,
-    layout: &Layout,
+    hand: Hand<S>,
     seat: &mut Seat<u8, SeatView>,
-    number: u64,
     run: &mut UpdateRun<E, ()>,
     found: &Found,
     next: Result<Next, Stop>,
 ) -> Updated
-    requires table { IsSeatAt words.now layout.now seat.old }
-    requires goes_on { (u : Updater (calls S.Shape M.Machine layout.now number) E.means) × UpdaterGoesOn u seat.old.me.0.passes run.old found.now next }
+    requires table { IsAt hand seat.old }
+    requires goes_on { (u : Updater (hand_calls S.Shape M.Machine hand) E.means) × UpdaterGoesOn u seat.old.me.0.passes run.old found.now next }
     ensures table { StaysAtTable seat.old seat.new }
-    ensures ends { (u : Updater (calls S.Shape M.Machine layout.now number) E.means)
+    ensures ends { (u : Updater (hand_calls S.Shape M.Machine hand.entry) E.means)
         → UpdaterGoesOn u seat.old.me.0.passes run.old found.now next
         → UpdaterEnds u seat.new.me.0.passes run.new result }
-    ensures steps { seat_steps seat.new.me.0.passes ≤ seat_steps seat.old.me.0.passes + left_then E.means run.old found.now next (shared_nodes layout.now) }
+    ensures steps { seat_steps seat.new.me.0.passes ≤ seat_steps seat.old.me.0.passes + left_then E.means run.old found.now next (shared_nodes hand.entry.layout.now) }
 {
-    let looked = look_on::<S, M, E>(words, layout, seat, number, run, found, next);
-    let worked = work_on::<S, M, E>(words, layout, seat, number, run, found, looked);
+    let looked = look_on::<S, M, E>(hand, seat, run, found, next);
+    let worked = work_on::<S, M, E>(hand, seat, run, found, looked);
     match worked {
         Ok(now) => match now {
-            Next::Change(scx) => change::<S, M, E>(words, layout, seat, number, run, found, scx),
-            _ => resume::from_next::<S, M, E>(words, layout, seat, number, run, found, Ok(now)),
+            Next::Change(scx) => change::<S, M, E>(hand, seat, run, found, scx),
+            _ => resume::from_next::<S, M, E>(hand, seat, run, found, Ok(now)),
         },
         Err(stop) => match stop {
             Stop::Nothing => Updated::at(found),
             Stop::Full(full) => Updated::Full(full),
-            Stop::Lost { .. } => {
-                resume::from_next::<S, M, E>(words, layout, seat, number, run, found, Err(stop))
-            }
+            Stop::Lost { .. } => { resume::from_next::<S, M, E>(hand, seat, run, found, Err(stop)) }
         },
     }
 }
@@ -88,22 +82,20 @@ fn try_on<S: Shape, M: Machine<S>, E: Edit + Copy>(
 /// Makes the looks that come next.
 #[inline(always)]
 fn look_on<S: Shape, M: Machine<S>, E: Edit + Copy>(
-    words: &Words<S>,
-    layout: &Layout,
+    hand: Hand<S>,
     seat: &mut Seat<u8, SeatView>,
-    number: u64,
     run: &mut UpdateRun<E, ()>,
     found: &Found,
     mut next: Result<Next, Stop>,
 ) -> Result<Next, Stop>
-    requires table { IsSeatAt words.now layout.now seat.old }
-    requires goes_on { (u : Updater (calls S.Shape M.Machine layout.now number) E.means) × UpdaterGoesOn u seat.old.me.0.passes run.old found.now next }
+    requires table { IsAt hand seat.old }
+    requires goes_on { (u : Updater (hand_calls S.Shape M.Machine hand) E.means) × UpdaterGoesOn u seat.old.me.0.passes run.old found.now next }
     ensures table { StaysAtTable seat.old seat.new }
-    ensures goes_on { (u : Updater (calls S.Shape M.Machine layout.now number) E.means)
+    ensures goes_on { (u : Updater (hand_calls S.Shape M.Machine hand.entry) E.means)
         → UpdaterGoesOn u seat.old.me.0.passes run.old found.now next
         → UpdaterGoesOn u seat.new.me.0.passes run.new found.now result }
-    ensures steps { seat_steps seat.new.me.0.passes + left_then E.means run.new found.now result (shared_nodes layout.now)
-        ≤ seat_steps seat.old.me.0.passes + left_then E.means run.old found.now next (shared_nodes layout.now) }
+    ensures steps { seat_steps seat.new.me.0.passes + left_then E.means run.new found.now result (shared_nodes hand.entry.layout.now)
+        ≤ seat_steps seat.old.me.0.passes + left_then E.means run.old found.now next (shared_nodes hand.entry.layout.now) }
 {
     loop {
         let now = match next {
@@ -112,7 +104,7 @@ fn look_on<S: Shape, M: Machine<S>, E: Edit + Copy>(
         };
         match now {
             Next::Look(node) => {
-                next = look_at::<S, M, E>(words, layout, seat, number, run, found, node);
+                next = look_at::<S, M, E>(hand, seat, run, found, node);
             }
             _ => return Ok(now),
         }
@@ -122,22 +114,20 @@ fn look_on<S: Shape, M: Machine<S>, E: Edit + Copy>(
 /// Makes the loads and fills that come next.
 #[inline(always)]
 fn work_on<S: Shape, M: Machine<S>, E: Edit + Copy>(
-    words: &Words<S>,
-    layout: &Layout,
+    hand: Hand<S>,
     seat: &mut Seat<u8, SeatView>,
-    number: u64,
     run: &mut UpdateRun<E, ()>,
     found: &Found,
     mut next: Result<Next, Stop>,
 ) -> Result<Next, Stop>
-    requires table { IsSeatAt words.now layout.now seat.old }
-    requires goes_on { (u : Updater (calls S.Shape M.Machine layout.now number) E.means) × UpdaterGoesOn u seat.old.me.0.passes run.old found.now next }
+    requires table { IsAt hand seat.old }
+    requires goes_on { (u : Updater (hand_calls S.Shape M.Machine hand) E.means) × UpdaterGoesOn u seat.old.me.0.passes run.old found.now next }
     ensures table { StaysAtTable seat.old seat.new }
-    ensures goes_on { (u : Updater (calls S.Shape M.Machine layout.now number) E.means)
+    ensures goes_on { (u : Updater (hand_calls S.Shape M.Machine hand.entry) E.means)
         → UpdaterGoesOn u seat.old.me.0.passes run.old found.now next
         → UpdaterGoesOn u seat.new.me.0.passes run.new found.now result }
-    ensures steps { seat_steps seat.new.me.0.passes + left_then E.means run.new found.now result (shared_nodes layout.now)
-        ≤ seat_steps seat.old.me.0.passes + left_then E.means run.old found.now next (shared_nodes layout.now) }
+    ensures steps { seat_steps seat.new.me.0.passes + left_then E.means run.new found.now result (shared_nodes hand.entry.layout.now)
+        ≤ seat_steps seat.old.me.0.passes + left_then E.means run.old found.now next (shared_nodes hand.entry.layout.now) }
 {
     loop {
         let now = match next {
@@ -146,10 +136,10 @@ fn work_on<S: Shape, M: Machine<S>, E: Edit + Copy>(
         };
         match now {
             Next::Load { nth, part } => {
-                next = Ok(load::<S, M, E>(words, layout, seat, number, run, found, nth, part));
+                next = Ok(load::<S, M, E>(hand, seat, run, found, nth, part));
             }
             Next::Fill(nth) => {
-                next = fill_node::<S, M, E>(words, layout, seat, number, run, found, nth);
+                next = fill_node::<S, M, E>(hand, seat, run, found, nth);
             }
             _ => return Ok(now),
         }
@@ -159,27 +149,25 @@ fn work_on<S: Shape, M: Machine<S>, E: Edit + Copy>(
 /// Looks at a node.
 #[inline(always)]
 fn look_at<S: Shape, M: Machine<S>, E: Edit + Copy>(
-    words: &Words<S>,
-    layout: &Layout,
+    hand: Hand<S>,
     seat: &mut Seat<u8, SeatView>,
-    number: u64,
     run: &mut UpdateRun<E, ()>,
     found: &Found,
     node: NodeNo,
 ) -> Result<Next, Stop>
-    requires table { IsSeatAt words.now layout.now seat.old }
-    requires tries { (u : Updater (calls S.Shape M.Machine layout.now number) E.means)
+    requires table { IsAt hand seat.old }
+    requires tries { (u : Updater (hand_calls S.Shape M.Machine hand) E.means)
         × UpdaterTries u seat.old.me.0.passes run.old found.now (Next.Look node) }
     ensures table { StaysAtTable seat.old seat.new }
-    ensures goes_on { (u : Updater (calls S.Shape M.Machine layout.now number) E.means)
+    ensures goes_on { (u : Updater (hand_calls S.Shape M.Machine hand.entry) E.means)
         → UpdaterTries u seat.old.me.0.passes run.old found.now (Next.Look node)
         → UpdaterGoesOn u seat.new.me.0.passes run.new found.now result }
-    ensures steps { seat_steps seat.new.me.0.passes + left_then E.means run.new found.now result (shared_nodes layout.now)
-        ≤ seat_steps seat.old.me.0.passes + left_then E.means run.old found.now (Ok (Next.Look node)) (shared_nodes layout.now) }
-    ensures nearer { left_then E.means run.new found.now result (shared_nodes layout.now)
-        < left_then E.means run.old found.now (Ok (Next.Look node)) (shared_nodes layout.now) }
+    ensures steps { seat_steps seat.new.me.0.passes + left_then E.means run.new found.now result (shared_nodes hand.entry.layout.now)
+        ≤ seat_steps seat.old.me.0.passes + left_then E.means run.old found.now (Ok (Next.Look node)) (shared_nodes hand.entry.layout.now) }
+    ensures nearer { left_then E.means run.new found.now result (shared_nodes hand.entry.layout.now)
+        < left_then E.means run.old found.now (Ok (Next.Look node)) (shared_nodes hand.entry.layout.now) }
 {
-    match look::<S, M, Tree>(words, layout, seat, number, node) {
+    match look::<S, M, Tree>(hand, seat, node) {
         Ok(snap) => run.looked(found, snap),
         Err((marked, scx)) => Ok(Next::Wait { node, marked, scx }),
     }
@@ -189,25 +177,28 @@ fn look_at<S: Shape, M: Machine<S>, E: Edit + Copy>(
 /// one with all of these parts would.
 #[inline(always)]
 fn change<S: Shape, M: Machine<S>, E: Edit + Copy>(
-    words: &Words<S>,
-    layout: &Layout,
+    hand: Hand<S>,
     seat: &mut Seat<u8, SeatView>,
-    number: u64,
     run: &mut UpdateRun<E, ()>,
     found: &Found,
     scx: ScxNo,
 ) -> Updated
-    requires table { IsSeatAt words.now layout.now seat.old }
-    requires tries { (u : Updater (calls S.Shape M.Machine layout.now number) E.means)
+    requires table { IsAt hand seat.old }
+    requires tries { (u : Updater (hand_calls S.Shape M.Machine hand) E.means)
         × UpdaterTries u seat.old.me.0.passes run.old found.now (Next.Change scx) }
     ensures table { StaysAtTable seat.old seat.new }
-    ensures ends { (u : Updater (calls S.Shape M.Machine layout.now number) E.means)
+    ensures ends { (u : Updater (hand_calls S.Shape M.Machine hand.entry) E.means)
         → UpdaterTries u seat.old.me.0.passes run.old found.now (Next.Change scx)
         → UpdaterEnds u seat.new.me.0.passes run.new result }
     ensures steps { seat_steps seat.new.me.0.passes
-        ≤ seat_steps seat.old.me.0.passes + left_then E.means run.old found.now (Ok (Next.Change scx)) (shared_nodes layout.now) }
+        ≤ seat_steps seat.old.me.0.passes + left_then E.means run.old found.now (Ok (Next.Change scx)) (shared_nodes hand.entry.layout.now) }
 {
-    let copy = *layout;
+    let copy = *hand.layout;
+    let own = Hand {
+        words: hand.words,
+        layout: &copy,
+        number: hand.number,
+    };
     let change = Change {
         scx,
         call: run.call,
@@ -217,10 +208,10 @@ fn change<S: Shape, M: Machine<S>, E: Edit + Copy>(
     };
     let snaps = run.snaps.as_slice();
     let mut help = HelpRun::new(scx);
-    scx::fill_all::<S, M, Tree, &[Snap]>(words, &copy, seat, number, &snaps, change);
-    if helps::begin::<S, M, Tree>(words, &copy, seat, number, &mut help) {
-        helps::commit::<S, M, Tree>(words, &copy, seat, number, &help);
+    scx::fill_all::<S, M, Tree, &[Snap]>(own, seat, &snaps, change);
+    if helps::begin::<S, M, Tree>(own, seat, &mut help) {
+        helps::commit::<S, M, Tree>(own, seat, &help);
         return Updated::at(found);
     }
-    resume::from_block::<S, M, E>(words, layout, seat, number, run, found, scx, &help)
+    resume::from_block::<S, M, E>(hand, seat, run, found, scx, &help)
 }

@@ -1,17 +1,17 @@
 //! VLX, of whatever machine validates snapshots, and as a call of its own.
 ghost use Rattle.std.specs.Prelude.{◌≡◌, ◌≤◌, ◌<◌, ◌+◌, ℕ, suc, length};
 ghost use Rattle.arena.specs.Machines.{Call};
-ghost use Rattle.forest.specs.CallKinds.{calls};
 ghost use Rattle.forest.specs.Inside.{InnerIsTold};
-ghost use Rattle.forest.specs.Seats.{IsSeatAt, StaysAtTable};
+ghost use Rattle.forest.specs.Hands.{IsAt, IsCallOf, hand_calls};
+ghost use Rattle.forest.specs.Seats.{StaysAtTable};
 ghost use Rattle.forest.specs.Traces.{seat_steps};
 ghost use Rattle.prims.specs.Snap.{snap_at};
 ghost use Rattle.forest.specs.StraightVlx.{LoadsFirstInfo, Validator, SeatVlxBegins, SeatVlxEnds};
 
+use crate::straight::hand::Hand;
 use crate::straight::step::step;
 use crate::view::SeatView;
-use crate::words::Words;
-use arena::{Access, Kind, Layout, Machine, NodeWord, ScxNo, Shape, Step, Word};
+use arena::{Access, Kind, Machine, NodeWord, ScxNo, Shape, Step, Word};
 use atomic_table::Seat;
 use prims::{SnapList, Vlx, VlxRun};
 
@@ -20,17 +20,15 @@ use prims::{SnapList, Vlx, VlxRun};
 /// and what the last of these is.
 #[inline(always)]
 pub(crate) fn validate<S: Shape, M: Machine<S>, L: SnapList + Copy>(
-    words: &Words<S>,
-    layout: &Layout,
+    hand: Hand<S>,
     seat: &mut Seat<u8, SeatView>,
-    number: u64,
     snaps: L,
 ) -> (usize, u64)
-    requires table { IsSeatAt words.now layout.now seat.old }
+    requires table { IsAt hand seat.old }
     requires some { 0 < length (L.list snaps) }
-    requires waits { (v : Validator (calls S.Shape M.Machine layout.now number) (L.list snaps)) × LoadsFirstInfo v seat.old.me.0.passes }
+    requires waits { (v : Validator (hand_calls S.Shape M.Machine hand) (L.list snaps)) × LoadsFirstInfo v seat.old.me.0.passes }
     ensures table { StaysAtTable seat.old seat.new }
-    ensures told { (v : Validator (calls S.Shape M.Machine layout.now number) (L.list snaps))
+    ensures told { (v : Validator (hand_calls S.Shape M.Machine hand.entry) (L.list snaps))
         → LoadsFirstInfo v seat.old.me.0.passes
         → InnerIsTold v seat.new.me.0.passes result.0 result.1 }
     ensures some { 0 < result.0 }
@@ -38,14 +36,19 @@ pub(crate) fn validate<S: Shape, M: Machine<S>, L: SnapList + Copy>(
     ensures all { (last : ℕ) → suc last ≡ result.0 → (snap_at (L.list snaps) last).scx.0 ≡ result.1 → result.0 ≡ length (L.list snaps) }
     ensures steps { seat_steps seat.new.me.0.passes ≡ seat_steps seat.old.me.0.passes + result.0 }
 {
-    let layout = *layout;
+    let layout = *hand.layout;
+    let hand = Hand {
+        words: hand.words,
+        layout: &layout,
+        number: hand.number,
+    };
     let count = snaps.len();
     let mut asked = 0;
     loop {
         let snap = snaps.get(asked);
         let (kind, word) = (Kind::LoadInfo, Word::Node(snap.node, NodeWord::Info));
         let access = Access::Load;
-        let told = step::<S, M>(words, &layout, seat, number, Step { kind, word, access });
+        let told = step::<S, M>(hand, seat, Step { kind, word, access });
         asked += 1;
         if told != snap.scx.0 {
             return (asked, told);
@@ -60,21 +63,19 @@ pub(crate) fn validate<S: Shape, M: Machine<S>, L: SnapList + Copy>(
 /// found.
 #[inline(always)]
 pub(crate) fn call<S: Shape, L: SnapList + Copy>(
-    words: &Words<S>,
-    layout: &Layout,
+    hand: Hand<S>,
     seat: &mut Seat<u8, SeatView>,
-    number: u64,
     snaps: L,
 ) -> Vlx
-    requires table { IsSeatAt words.now layout.now seat.old }
-    requires begins { (c : Call) × (c.layout ≡ layout.now) × (c.number ≡ number) × SeatVlxBegins L.list S.allows c seat.old.me.0.passes snaps }
+    requires table { IsAt hand seat.old }
+    requires begins { (c : Call) × IsCallOf hand c × SeatVlxBegins L.list S.allows c seat.old.me.0.passes snaps }
     ensures table { StaysAtTable seat.old seat.new }
-    ensures ends { (c : Call) → c.layout ≡ layout.now → c.number ≡ number
+    ensures ends { (c : Call) → IsCallOf hand.entry c
         → SeatVlxBegins L.list S.allows c seat.old.me.0.passes snaps
         → SeatVlxEnds L.list S.allows c seat.new.me.0.passes snaps result }
     ensures steps { seat_steps seat.new.me.0.passes ≤ seat_steps seat.old.me.0.passes + length (L.list snaps) }
 {
-    let (asked, told) = validate::<S, VlxRun<L>, L>(words, layout, seat, number, snaps);
+    let (asked, told) = validate::<S, VlxRun<L>, L>(hand, seat, snaps);
     let last = snaps.get(asked - 1);
     if told != last.scx.0 {
         let (node, scx) = (last.node, ScxNo(told));

@@ -2,10 +2,10 @@
 ghost use Rattle.std.specs.Prelude.{◌≡◌, ◌≤◌, ◌+◌, ◌*◌, ◌==◌, ℕ, suc, true, if◌then◌else◌, nat_lt, IfOk, IfErr};
 ghost use Rattle.arena.specs.Heads.{head_of};
 ghost use Rattle.arena.specs.declared.number.NodeNo.{NodeNo};
-ghost use Rattle.forest.specs.Seats.{IsSeatAt, StaysAtTable};
+ghost use Rattle.forest.specs.Hands.{IsAt, hand_calls};
+ghost use Rattle.forest.specs.Seats.{StaysAtTable};
 ghost use Rattle.forest.specs.Traces.{seat_steps, shared_nodes};
 ghost use Rattle.forest.specs.StraightWalk.{Walker, WalkerFinds, WalkerGoesDown, WalkerIsTold, WalkerWaits, WalksFromRoot};
-ghost use Rattle.forest.specs.CallKinds.{calls};
 ghost use Rattle.order.specs.Successor.Steps.{last_turn};
 ghost use Rattle.prims.specs.Llx.Known.{load};
 ghost use Rattle.template.specs.FoundLeaf.{asked_key, path_key};
@@ -13,38 +13,34 @@ ghost use Rattle.template.specs.declared.walk.WalkRun.{WalkRun};
 ghost use Rattle.template.specs.Walk.Known.{asks_key};
 ghost use Rattle.template.specs.Walk.Places.{walk_at, LoadsHead};
 
+use crate::straight::hand::Hand;
 use crate::straight::step::step;
 use crate::view::SeatView;
-use crate::words::Words;
-use arena::{
-    Access, Head, Kind, Layout, Machine, NodeNo, NodeWord, SettledPart, Shape, Side, Step, Word,
-};
+use arena::{Access, Head, Kind, Machine, NodeNo, NodeWord, Shape, Side, Step, Word};
 use atomic_table::Seat;
 use template::{Found, Goal, Trail, WalkAt};
 
 /// Loads a word of a node.
 #[inline(always)]
 fn read<S: Shape, M: Machine<S>>(
-    words: &Words<S>,
-    layout: &Layout,
+    hand: Hand<S>,
     seat: &mut Seat<u8, SeatView>,
-    number: u64,
     kind: Kind,
     node: NodeNo,
     part: NodeWord,
 ) -> u64
-    requires table { IsSeatAt words.now layout.now seat.old }
-    requires waits { (w : Walker (calls S.Shape M.Machine layout.now number)) × (m : WalkRun) × (turn : NodeNo)
+    requires table { IsAt hand seat.old }
+    requires waits { (w : Walker (hand_calls S.Shape M.Machine hand)) × (m : WalkRun) × (turn : NodeNo)
         × WalkerWaits w seat.old.me.0.passes m turn (load kind (Word.Node node part)) }
     ensures table { StaysAtTable seat.old seat.new }
     ensures one { seat_steps seat.new.me.0.passes ≡ suc (seat_steps seat.old.me.0.passes) }
-    ensures told { (w : Walker (calls S.Shape M.Machine layout.now number)) (m : WalkRun) (turn : NodeNo)
+    ensures told { (w : Walker (hand_calls S.Shape M.Machine hand.entry)) (m : WalkRun) (turn : NodeNo)
         → WalkerWaits w seat.old.me.0.passes m turn (load kind (Word.Node node part))
         → WalkerIsTold w seat.new.me.0.passes m turn result }
 {
     let word = Word::Node(node, part);
     let access = Access::Load;
-    step::<S, M>(words, layout, seat, number, Step { kind, word, access })
+    step::<S, M>(hand, seat, Step { kind, word, access })
 }
 
 /// On which side of a fork with this key the walk goes on.
@@ -97,28 +93,26 @@ fn asks_value(goal: Goal, key: u64) -> bool
 /// Ends at a leaf of class 0 that has this key.
 #[inline(always)]
 fn end<S: Shape, M: Machine<S>>(
-    words: &Words<S>,
-    layout: &Layout,
+    hand: Hand<S>,
     seat: &mut Seat<u8, SeatView>,
-    number: u64,
     goal: Goal,
     trail: Trail,
     head: Head,
     key: u64,
 ) -> Found
-    requires table { IsSeatAt words.now layout.now seat.old }
+    requires table { IsAt hand seat.old }
     requires leaf { head.leaf ≡ true }
-    requires told { (w : Walker (calls S.Shape M.Machine layout.now number)) × (turn : NodeNo)
+    requires told { (w : Walker (hand_calls S.Shape M.Machine hand)) × (turn : NodeNo)
         × WalkerIsTold w seat.old.me.0.passes (walk_at goal trail (WalkAt.Key head)) turn key }
     ensures table { StaysAtTable seat.old seat.new }
     ensures steps { seat_steps seat.new.me.0.passes ≤ seat_steps seat.old.me.0.passes + 1 }
-    ensures finds { (w : Walker (calls S.Shape M.Machine layout.now number)) (turn : NodeNo)
+    ensures finds { (w : Walker (hand_calls S.Shape M.Machine hand.entry)) (turn : NodeNo)
         → WalkerIsTold w seat.old.me.0.passes (walk_at goal trail (WalkAt.Key head)) turn key
         → WalkerFinds w seat.new.me.0.passes goal turn result }
 {
     if asks_value(goal, key) {
-        let (kind, part) = (Kind::LoadSettled, NodeWord::Settled(SettledPart::Value));
-        let value = read::<S, M>(words, layout, seat, number, kind, trail.node, part);
+        let (kind, part) = (Kind::LoadSettled, NodeWord::Value);
+        let value = read::<S, M>(hand, seat, kind, trail.node, part);
         return Found {
             trail,
             head,
@@ -137,35 +131,33 @@ fn end<S: Shape, M: Machine<S>>(
 /// Goes on behind the head of a node: on a side of a fork, or to the end at a leaf.
 #[inline(always)]
 fn pass<S: Shape, M: Machine<S>>(
-    words: &Words<S>,
-    layout: &Layout,
+    hand: Hand<S>,
     seat: &mut Seat<u8, SeatView>,
-    number: u64,
     goal: Goal,
     trail: Trail,
     at: WalkAt,
     word: u64,
 ) -> Result<Side, Found>
     requires place { LoadsHead at }
-    requires table { IsSeatAt words.now layout.now seat.old }
-    requires told { (w : Walker (calls S.Shape M.Machine layout.now number)) × (turn : NodeNo)
+    requires table { IsAt hand seat.old }
+    requires told { (w : Walker (hand_calls S.Shape M.Machine hand)) × (turn : NodeNo)
         × WalkerIsTold w seat.old.me.0.passes (walk_at goal trail at) turn word }
     ensures table { StaysAtTable seat.old seat.new }
     ensures steps { IfOk result (λ _. seat_steps seat.new.me.0.passes ≤ seat_steps seat.old.me.0.passes + 1) }
     ensures last_steps { IfErr result (λ _. seat_steps seat.new.me.0.passes ≤ seat_steps seat.old.me.0.passes + 2) }
-    ensures down { IfOk result (λ side. (w : Walker (calls S.Shape M.Machine layout.now number)) (turn : NodeNo)
+    ensures down { IfOk result (λ side. (w : Walker (hand_calls S.Shape M.Machine hand.entry)) (turn : NodeNo)
         → WalkerIsTold w seat.old.me.0.passes (walk_at goal trail at) turn word
         → WalkerGoesDown w seat.new.me.0.passes goal trail (head_of word).level side turn) }
-    ensures finds { IfErr result (λ found. (w : Walker (calls S.Shape M.Machine layout.now number)) (turn : NodeNo)
+    ensures finds { IfErr result (λ found. (w : Walker (hand_calls S.Shape M.Machine hand.entry)) (turn : NodeNo)
         → WalkerIsTold w seat.old.me.0.passes (walk_at goal trail at) turn word
         → WalkerFinds w seat.new.me.0.passes goal turn found) }
 {
     let head = Head::of(word);
     if asks_key(goal, word) {
-        let (kind, part) = (Kind::LoadSettled, NodeWord::Settled(SettledPart::Key));
-        let key = read::<S, M>(words, layout, seat, number, kind, trail.node, part);
+        let (kind, part) = (Kind::LoadSettled, NodeWord::Key);
+        let key = read::<S, M>(hand, seat, kind, trail.node, part);
         if is_leaf(word) {
-            return Err(end::<S, M>(words, layout, seat, number, goal, trail, head, key));
+            return Err(end::<S, M>(hand, seat, goal, trail, head, key));
         }
         return Ok(side_of(goal, key));
     }
@@ -196,21 +188,24 @@ fn turn_at(side: Side, node: NodeNo, turn: NodeNo) -> NodeNo
 /// the last fork where it turned left, or the root if it turned left at none.
 #[inline(always)]
 pub(crate) fn call<S: Shape, M: Machine<S>>(
-    words: &Words<S>,
-    layout: &Layout,
+    hand: Hand<S>,
     seat: &mut Seat<u8, SeatView>,
-    number: u64,
     goal: Goal,
 ) -> (Found, NodeNo)
-    requires table { IsSeatAt words.now layout.now seat.old }
-    requires waits { (w : Walker (calls S.Shape M.Machine layout.now number)) × WalksFromRoot w seat.old.me.0.passes goal }
+    requires table { IsAt hand seat.old }
+    requires waits { (w : Walker (hand_calls S.Shape M.Machine hand)) × WalksFromRoot w seat.old.me.0.passes goal }
     ensures table { StaysAtTable seat.old seat.new }
-    ensures steps { seat_steps seat.new.me.0.passes ≤ seat_steps seat.old.me.0.passes + 3 * (2 + shared_nodes layout.now) }
-    ensures finds { (w : Walker (calls S.Shape M.Machine layout.now number))
+    ensures steps { seat_steps seat.new.me.0.passes ≤ seat_steps seat.old.me.0.passes + 3 * (2 + shared_nodes hand.entry.layout.now) }
+    ensures finds { (w : Walker (hand_calls S.Shape M.Machine hand.entry))
         → WalksFromRoot w seat.old.me.0.passes goal
         → WalkerFinds w seat.new.me.0.passes goal result.1 result.0 }
 {
-    let layout = *layout;
+    let layout = *hand.layout;
+    let hand = Hand {
+        words: hand.words,
+        layout: &layout,
+        number: hand.number,
+    };
     let root = NodeNo(0);
     let mut trail = Trail {
         grand: root,
@@ -222,15 +217,15 @@ pub(crate) fn call<S: Shape, M: Machine<S>>(
     let (mut at, mut turn) = (WalkAt::Root, root);
     loop {
         let node = trail.node;
-        let (kind, part) = (Kind::LoadSettled, NodeWord::Settled(SettledPart::Head));
-        let word = read::<S, M>(words, &layout, seat, number, kind, node, part);
+        let (kind, part) = (Kind::LoadSettled, NodeWord::Head);
+        let word = read::<S, M>(hand, seat, kind, node, part);
         let head = Head::of(word);
-        let side = match pass::<S, M>(words, &layout, seat, number, goal, trail, at, word) {
+        let side = match pass::<S, M>(hand, seat, goal, trail, at, word) {
             Ok(side) => side,
             Err(found) => return (found, turn),
         };
         let (kind, part) = (Kind::LoadChild, NodeWord::Child(side));
-        let child = read::<S, M>(words, &layout, seat, number, kind, node, part);
+        let child = read::<S, M>(hand, seat, kind, node, part);
         turn = turn_at(side, node, turn);
         trail = Trail {
             grand: trail.parent,

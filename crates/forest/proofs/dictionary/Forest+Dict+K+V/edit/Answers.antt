@@ -26,14 +26,13 @@ begins g c = λ first fresh. edit_starts g.K.WordKey.is_valid g.K.WordKey.word_o
 pub make-told-requires-clause-begins : goal.make-told-requires-clause-begins
 make-told-requires-clause-begins g c = (
   call_of c.pass.inside c.pass.invariant (taken_of (pass_view c.pass.inside)),
-  layout_of c.pass.view_is c.self.view_is c.requires.pass,
-  ap taken_of c.pass.view_is ∙ sym c.taken-number.ensures,
+  (layout_of c.pass.view_is c.self.view_is c.requires.pass, ap taken_of c.pass.view_is ∙ sym c.taken-number.ensures),
   begins g (goal.at.make-told-requires-clause-begins g c).After-replace-share,
 )
 
 -- how it has ended
 call_ended : (g : Over) (c : After-note_reply g) → EditHasEnded g.K.WordKey.is_valid g.K.WordKey.word_of g.V.WordValue.is_valid g.V.WordValue.word_of (call_of c.pass.inside c.pass.invariant (taken_of (pass_view c.pass.inside))) c.make-told.new.seat.me.0.passes (g.E.EditCall.call c.args.edit) c.replace-share.result c.self.inside.tries c.taken-number.result c.make-told.result.1 c.make-told.result.0
-call_ended g c = c.make-told.ensures.ends (call_of c.pass.inside c.pass.invariant (taken_of (pass_view c.pass.inside))) (layout_of c.pass.view_is c.self.view_is c.requires.pass) (ap taken_of c.pass.view_is ∙ sym c.taken-number.ensures) (begins g (goal.at.returns-clause-told g c).After-replace-share)
+call_ended g c = c.make-told.ensures.ends (call_of c.pass.inside c.pass.invariant (taken_of (pass_view c.pass.inside))) (layout_of c.pass.view_is c.self.view_is c.requires.pass, ap taken_of c.pass.view_is ∙ sym c.taken-number.ensures) (begins g (goal.at.returns-clause-told g c).After-replace-share)
 
 -- the machine with which it has ended, and the reply
 abbrev last : (g : Over) (c : After-note_reply g) → DictRun g.row.K.Denot g.row.V.Denot

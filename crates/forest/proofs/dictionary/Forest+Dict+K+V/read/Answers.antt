@@ -23,8 +23,7 @@ read-reply-requires-clause-begins g c =
     let named = ap taken_of c.pass.view_is ∙ sym c.taken-number.ensures in
     let made = c.new-run.ensures in (
       call_of c.pass.inside c.pass.invariant (taken_of (pass_view c.pass.inside)),
-      layout_of c.pass.view_is c.self.view_is c.requires.pass,
-      named,
+      (layout_of c.pass.view_is c.self.view_is c.requires.pass, named),
       request_starts g.K.WordKey.is_valid g.K.WordKey.word_of g.V.WordValue.is_valid g.V.WordValue.word_of c.pass.inside c.pass.invariant c.new-run.result c.args.request c.self.inside.tries c.taken-number.result named made.call made.typed made.tries (made.fresh c.self.invariant.3) c.requires.few (made.share ∙ c.replace-share.ensures.value),
     )
 
@@ -33,7 +32,7 @@ ends : (g : Over) (c : goal.After-note_reply g) → SeatDictEnds g.K.WordKey.is_
 ends g c =
     let named = ap taken_of c.pass.view_is ∙ sym c.taken-number.ensures in
     let made = c.new-run.ensures in
-    c.read-reply.ensures.ends (call_of c.pass.inside c.pass.invariant (taken_of (pass_view c.pass.inside))) (layout_of c.pass.view_is c.self.view_is c.requires.pass) named
+    c.read-reply.ensures.ends (call_of c.pass.inside c.pass.invariant (taken_of (pass_view c.pass.inside))) (layout_of c.pass.view_is c.self.view_is c.requires.pass, named)
     (request_starts g.K.WordKey.is_valid g.K.WordKey.word_of g.V.WordValue.is_valid g.V.WordValue.word_of c.pass.inside c.pass.invariant c.new-run.result c.args.request c.self.inside.tries c.taken-number.result named made.call made.typed made.tries (made.fresh c.self.invariant.3) c.requires.few (made.share ∙ c.replace-share.ensures.value))
 
 -- how it has ended

@@ -22,12 +22,12 @@ begins p x node small = llx_begins p x (called p) (llx_at node LlxStart) refl sm
 
 pub call-answer-requires-clause-begins : goal.call-answer-requires-clause-begins
 call-answer-requires-clause-begins c = let p = c.pass.inside in let x = c.pass.invariant in
-    (call_of p x (called p), layout_of c.pass.view_is c.self.view_is c.requires.pass, ap taken_of c.pass.view_is ∙ sym c.taken-number.ensures, begins p x c.args.node c.requires.cell)
+    (call_of p x (called p), (layout_of c.pass.view_is c.self.view_is c.requires.pass, ap taken_of c.pass.view_is ∙ sym c.taken-number.ensures), begins p x c.args.node c.requires.cell)
 
 -- what the call leaves
 ended : (c : goal.After-note) → HasCalled AllowsAll c.pass.inside c.call-answer.new.seat (called c.pass.inside) (Answered c.pass.inside c.pass.invariant (called c.pass.inside) c.args.node c.call-answer.result)
 ended c = let p = c.pass.inside in let x = c.pass.invariant in
-    let y = c.call-answer.ensures.ends (call_of p x (called p)) (layout_of c.pass.view_is c.self.view_is c.requires.pass) (ap taken_of c.pass.view_is ∙ sym c.taken-number.ensures) (begins p x c.args.node c.requires.cell) in
+    let y = c.call-answer.ensures.ends (call_of p x (called p)) (layout_of c.pass.view_is c.self.view_is c.requires.pass, ap taken_of c.pass.view_is ∙ sym c.taken-number.ensures) (begins p x c.args.node c.requires.cell) in
     llx_called p x (called p) c.call-answer.new.seat (llx_at c.args.node LlxStart) y.0 c.args.node c.call-answer.result refl y.1
 
 pub invariant_of-pass : goal.invariant_of-pass

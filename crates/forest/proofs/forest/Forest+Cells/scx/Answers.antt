@@ -21,7 +21,7 @@ pub new-update-requires-clause-among : goal.new-update-requires-clause-among
 new-update-requires-clause-among c = among_at c.args.snaps.now c.args.field.0.0 c.requires.may.2
 
 -- what is to be put
-abbrev put_of : goal.After-layout-2-1 → Put
+abbrev put_of : goal.After-call-arg-2-1 → Put
 put_of c = let u = c.new-update.result in record { plan = u.plan; old = u.old; fresh = u.fresh; value = c.args.value; scx = c.in-Ok.records.1 }
 
 -- its update, over the caller's snapshots
@@ -29,7 +29,7 @@ over_them : (u : Update) (snaps : List Snap) → u.snaps ≡ snaps → IsUpdateO
 over_them u snaps is x = rw (← is) x
 
 -- the run that the call makes
-is_of : (c : goal.After-layout-2-1) (number : ℕ) → IsPutOver (fresh_put c.args.snaps.now (put_of c) number) c.args.snaps.now c.args.finalize.now (c.args.field.0.0, c.args.field.1) c.args.value c.pass.inside.share.next_node c.pass.inside.share.next_scx number
+is_of : (c : goal.After-call-arg-2-1) (number : ℕ) → IsPutOver (fresh_put c.args.snaps.now (put_of c) number) c.args.snaps.now c.args.finalize.now (c.args.field.0.0, c.args.field.1) c.args.value c.pass.inside.share.next_node c.pass.inside.share.next_scx number
 is_of c number = let u = c.new-update.ensures in let records = c.in-Ok.ensures.records in record {
   over = over_them c.new-update.result c.args.snaps.now u.snaps u.over;
   snaps_are = refl;
@@ -47,26 +47,25 @@ abbrev called : {T : Type 0} → Inside T → ℕ
 called p = taken_of (pass_view p)
 
 -- the call may begin
-begins : (c : goal.After-layout-2-1) (number : ℕ) → SeatPutBegins AllowsAll (call_of c.pass.inside c.pass.invariant number) c.pass.inside.seat.me.0.passes (fresh_put c.args.snaps.now (put_of c) number)
+begins : (c : goal.After-call-arg-2-1) (number : ℕ) → SeatPutBegins AllowsAll (call_of c.pass.inside c.pass.invariant number) c.pass.inside.seat.me.0.passes (fresh_put c.args.snaps.now (put_of c) number)
 begins c number = let some = c.in-Ok.ensures.some in
     put_begins c.pass.inside c.pass.invariant some.0 some.1 c.args.snaps.now c.args.finalize.now (c.args.field.0.0, c.args.field.1) c.args.value number _ (is_of c number) refl refl (subst (λ (v : PassView). Each (CanUse v) c.args.snaps.now) (sym c.pass.view_is) c.requires.may.3)
 
 -- its number as the code has it
-named : (c : goal.After-layout-2-1) → called c.pass.inside ≡ c.taken-number.result
+named : (c : goal.After-call-arg-2-1) → called c.pass.inside ≡ c.taken-number.result
 named c = ap taken_of c.pass.view_is ∙ sym c.taken-number.ensures
 
 pub call-requires-clause-begins : goal.call-requires-clause-begins
 call-requires-clause-begins c = (
   call_of c.pass.inside c.pass.invariant (called c.pass.inside),
-  layout_of c.pass.view_is c.self.view_is c.requires.pass,
-  named c,
+  (layout_of c.pass.view_is c.self.view_is c.requires.pass, named c),
   rw (← named c) (begins c (called c.pass.inside)),
 )
 
 -- what the call leaves
 ended : (c : goal.After-call) → HasPut c.pass.inside c.pass.invariant c.in-Ok.ensures.some.0 c.in-Ok.ensures.some.1 c.args.snaps.now c.args.finalize.now (c.args.field.0.0, c.args.field.1) c.args.value (called c.pass.inside) c.call.new.seat c.call.result
 ended c = let p = c.pass.inside in let x = c.pass.invariant in let some = c.in-Ok.ensures.some in
-    let ends = c.call.ensures.ends (call_of p x (called p)) (layout_of c.pass.view_is c.self.view_is c.requires.pass) (named c.before) (rw (← named c.before) (begins c.before (called p))) in
+    let ends = c.call.ensures.ends (call_of p x (called p)) (layout_of c.pass.view_is c.self.view_is c.requires.pass, named c.before) (rw (← named c.before) (begins c.before (called p))) in
     put_called p x some.0 some.1 c.args.snaps.now c.args.finalize.now (c.args.field.0.0, c.args.field.1) c.args.value (called p) c.call.new.seat _ ends.0 c.call.result (rw (← named c.before) (is_of c.before (called p))) ends.1
 
 pub invariant_of-pass-2 : goal.invariant_of-pass-2

@@ -20,16 +20,16 @@ abbrev called : {T : Type 0} → Inside T → ℕ
 called p = taken_of (pass_view p)
 
 -- the call may begin
-begins : (c : goal.After-call-arg-1) → SeatVlxBegins list AllowsAll (call_of c.pass.inside c.pass.invariant (called c.pass.inside)) c.pass.inside.seat.me.0.passes c.args.snaps
+begins : (c : goal.After-call-arg-2-1) → SeatVlxBegins list AllowsAll (call_of c.pass.inside c.pass.invariant (called c.pass.inside)) c.pass.inside.seat.me.0.passes c.args.snaps
 begins c = vlx_begins list c.pass.inside c.pass.invariant (called c.pass.inside) c.args.snaps c.requires.some (subst (λ (v : PassView). Each (CanUse v) c.args.snaps.now) (sym c.pass.view_is) c.requires.usable)
 
 pub call-requires-clause-begins : goal.call-requires-clause-begins
-call-requires-clause-begins c = (call_of c.pass.inside c.pass.invariant (called c.pass.inside), layout_of c.pass.view_is c.self.view_is c.requires.pass, ap taken_of c.pass.view_is ∙ sym c.taken-number.ensures, begins c)
+call-requires-clause-begins c = (call_of c.pass.inside c.pass.invariant (called c.pass.inside), (layout_of c.pass.view_is c.self.view_is c.requires.pass, ap taken_of c.pass.view_is ∙ sym c.taken-number.ensures), begins c)
 
 -- what the call leaves
 ended : (c : goal.After-call) → HasCalled AllowsAll c.pass.inside c.call.new.seat (called c.pass.inside) (Looked list c.pass.inside c.pass.invariant (called c.pass.inside) c.args.snaps c.call.result)
 ended c = let p = c.pass.inside in let x = c.pass.invariant in
-    vlx_called list p x (called p) c.call.new.seat c.args.snaps c.call.result (c.call.ensures.ends (call_of p x (called p)) (layout_of c.pass.view_is c.self.view_is c.requires.pass) (ap taken_of c.pass.view_is ∙ sym c.taken-number.ensures) (begins c.before))
+    vlx_called list p x (called p) c.call.new.seat c.args.snaps c.call.result (c.call.ensures.ends (call_of p x (called p)) (layout_of c.pass.view_is c.self.view_is c.requires.pass, ap taken_of c.pass.view_is ∙ sym c.taken-number.ensures) (begins c.before))
 
 pub invariant_of-pass : goal.invariant_of-pass
 invariant_of-pass c = called_pass c.pass.inside c.pass.invariant c.call.new.seat _ _ c.call.ensures.table.1 (ended c)
@@ -47,4 +47,4 @@ pub returns-clause-kinds : goal.returns-clause-kinds
 returns-clause-kinds c =
     let p = c.pass.inside in let x = c.pass.invariant in
     subst (λ (v : PassView). HasLoadedInfosAlone v (pass_view (seated p c.call.new.seat))) c.pass.view_is
-    (vlx_kinds list p x (called p) c.call.new.seat c.args.snaps c.call.result (c.call.ensures.ends (call_of p x (called p)) (layout_of c.pass.view_is c.self.view_is c.requires.pass) (ap taken_of c.pass.view_is ∙ sym c.taken-number.ensures) (begins c.before)))
+    (vlx_kinds list p x (called p) c.call.new.seat c.args.snaps c.call.result (c.call.ensures.ends (call_of p x (called p)) (layout_of c.pass.view_is c.self.view_is c.requires.pass, ap taken_of c.pass.view_is ∙ sym c.taken-number.ensures) (begins c.before)))

@@ -20,28 +20,28 @@ kind g = record { E = g.row.E.Denot; means = g.E.Edit.means; call = g.E.EditCall
 abbrev first : (g : Over) (c : After-new-run g) → DictRun g.row.K.Denot g.row.V.Denot
 first g c = edit_machine (kind g) g.E.EditCall.around g.met.E.EditCall.is_around c.args.tries c.new-run.result
 
-is_fresh : (g : Over) (c : After-new-run g) → IsFreshEdit (g.E.EditCall.call c.args.edit) c.args.share c.args.tries c.args.number (first g c)
-is_fresh g c = edit_fresh (kind g) g.E.EditCall.around g.met.E.EditCall.is_around c.args.share c.args.tries c.args.number c.requires.tries c.new-run.result c.args.edit c.new-run.ensures.edit c.new-run.ensures.share c.new-run.ensures.call c.new-run.ensures.tries c.new-run.ensures.limit c.requires.small
+is_fresh : (g : Over) (c : After-new-run g) → IsFreshEdit (g.E.EditCall.call c.args.edit) c.args.share c.args.tries c.args.hand.number (first g c)
+is_fresh g c = edit_fresh (kind g) g.E.EditCall.around g.met.E.EditCall.is_around c.args.share c.args.tries c.args.hand.number c.requires.tries c.new-run.result c.args.edit c.new-run.ensures.edit c.new-run.ensures.share c.new-run.ensures.call c.new-run.ensures.tries c.new-run.ensures.limit c.requires.small
 
-may_begin : (g : Over) (c : After-new-run g) (k : Call) (lay : k.layout ≡ c.args.layout.now) (number : k.number ≡ c.args.number) → SeatEditBegins g.K.WordKey.is_valid g.K.WordKey.word_of g.V.WordValue.is_valid g.V.WordValue.word_of k c.args.seat.now.me.0.passes (g.E.EditCall.call c.args.edit) c.args.share c.args.tries c.args.number → UpdaterBegins (editor g.K.WordKey.is_valid g.K.WordKey.word_of g.V.WordValue.is_valid g.V.WordValue.word_of (first g c) k c.args.layout.now c.args.number lay number (kind g) g.met.E.EditCall.is_kind g.E.EditCall.around g.met.E.EditCall.is_around) c.args.seat.now.me.0.passes c.new-run.result
-may_begin g c k lay number x = edit_begins g.K.WordKey.is_valid g.K.WordKey.word_of g.V.WordValue.is_valid g.V.WordValue.word_of (first g c) k c.args.layout.now c.args.number lay number (kind g) g.met.E.EditCall.is_kind g.E.EditCall.around g.met.E.EditCall.is_around _ c.new-run.result refl (x (first g c) (is_fresh g c))
+may_begin : (g : Over) (c : After-new-run g) (k : Call) (lay : k.layout ≡ c.args.hand.layout.now) (number : k.number ≡ c.args.hand.number) → SeatEditBegins g.K.WordKey.is_valid g.K.WordKey.word_of g.V.WordValue.is_valid g.V.WordValue.word_of k c.args.seat.now.me.0.passes (g.E.EditCall.call c.args.edit) c.args.share c.args.tries c.args.hand.number → UpdaterBegins (editor g.K.WordKey.is_valid g.K.WordKey.word_of g.V.WordValue.is_valid g.V.WordValue.word_of (first g c) k c.args.hand.layout.now c.args.hand.number lay number (kind g) g.met.E.EditCall.is_kind g.E.EditCall.around g.met.E.EditCall.is_around) c.args.seat.now.me.0.passes c.new-run.result
+may_begin g c k lay number x = edit_begins g.K.WordKey.is_valid g.K.WordKey.word_of g.V.WordValue.is_valid g.V.WordValue.word_of (first g c) k c.args.hand.layout.now c.args.hand.number lay number (kind g) g.met.E.EditCall.is_kind g.E.EditCall.around g.met.E.EditCall.is_around _ c.new-run.result refl (x (first g c) (is_fresh g c))
 
 pub call-updated-requires-clause-begins : goal.call-updated-requires-clause-begins
-call-updated-requires-clause-begins g c = let r = c.requires.begins in let k = (goal.at.call-updated-requires-clause-begins g c).After-new-run in (editor g.K.WordKey.is_valid g.K.WordKey.word_of g.V.WordValue.is_valid g.V.WordValue.word_of (first g k) r.0 c.args.layout.now c.args.number r.1 r.2 (kind g) g.met.E.EditCall.is_kind g.E.EditCall.around g.met.E.EditCall.is_around, may_begin g k r.0 r.1 r.2 r.3)
+call-updated-requires-clause-begins g c = let r = c.requires.begins in let k = (goal.at.call-updated-requires-clause-begins g c).After-new-run in (editor g.K.WordKey.is_valid g.K.WordKey.word_of g.V.WordValue.is_valid g.V.WordValue.word_of (first g k) r.0 c.args.hand.layout.now c.args.hand.number r.1.0 r.1.1 (kind g) g.met.E.EditCall.is_kind g.E.EditCall.around g.met.E.EditCall.is_around, may_begin g k r.0 r.1.0 r.1.1 r.2)
 
 pub returns-clause-steps : goal.returns-clause-steps
 returns-clause-steps g c =
-    let nodes = shared_nodes c.args.layout.now in
+    let nodes = shared_nodes c.args.hand.layout.now in
     subst (λ n. seat_steps c.call-updated.new.seat.me.0.passes ≤ seat_steps c.args.seat.now.me.0.passes + n) (g.met.E.EditCall.is_kind.steps c.args.edit c.args.tries nodes)
     (tries_steps _ _ c.new-run.result.tries c.args.tries (try_left g.E.Edit.means nodes) c.requires.tries c.new-run.ensures.tries c.call-updated.ensures.steps)
 
 pub returns-clause-ends : goal.returns-clause-ends
-returns-clause-ends g c = λ call lay number x. let k = (goal.at.returns-clause-ends g c).After-new-run in record {
+returns-clause-ends g c = λ call fits x. let k = (goal.at.returns-clause-ends g c).After-new-run in record {
   first = first g k;
   last = edit_machine (kind g) g.E.EditCall.around g.met.E.EditCall.is_around c.args.tries c.call-updated.new.run;
   fresh = is_fresh g k;
   is_left = g.met.E.EditCall.is_around.is_share _ ∙ sym c.into_share.ensures;
   ends = replies g.K.WordKey.is_valid g.K.WordKey.word_of g.V.WordValue.is_valid g.V.WordValue.word_of call _ (first g k) (edit_machine (kind g) g.E.EditCall.around g.met.E.EditCall.is_around c.args.tries c.call-updated.new.run) (edit_reply c.goal-goal.result c.call-updated.result) c.of_update.result c.of_update.ensures.valid c.of_update.ensures.says c.of_update.ensures.form
-      (rw c.goal-goal.ensures (edit_ended g.K.WordKey.is_valid g.K.WordKey.word_of g.V.WordValue.is_valid g.V.WordValue.word_of (first g k) call c.args.layout.now c.args.number lay number (kind g) g.met.E.EditCall.is_kind g.E.EditCall.around g.met.E.EditCall.is_around _ c.call-updated.new.run c.call-updated.result
-      (c.call-updated.ensures.ends (editor g.K.WordKey.is_valid g.K.WordKey.word_of g.V.WordValue.is_valid g.V.WordValue.word_of (first g k) call c.args.layout.now c.args.number lay number (kind g) g.met.E.EditCall.is_kind g.E.EditCall.around g.met.E.EditCall.is_around) (may_begin g k call lay number x))));
+      (rw c.goal-goal.ensures (edit_ended g.K.WordKey.is_valid g.K.WordKey.word_of g.V.WordValue.is_valid g.V.WordValue.word_of (first g k) call c.args.hand.layout.now c.args.hand.number fits.0 fits.1 (kind g) g.met.E.EditCall.is_kind g.E.EditCall.around g.met.E.EditCall.is_around _ c.call-updated.new.run c.call-updated.result
+      (c.call-updated.ensures.ends (editor g.K.WordKey.is_valid g.K.WordKey.word_of g.V.WordValue.is_valid g.V.WordValue.word_of (first g k) call c.args.hand.layout.now c.args.hand.number fits.0 fits.1 (kind g) g.met.E.EditCall.is_kind g.E.EditCall.around g.met.E.EditCall.is_around) (may_begin g k call fits.0 fits.1 x))));
 }

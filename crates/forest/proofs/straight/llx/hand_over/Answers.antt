@@ -6,9 +6,9 @@ use Rattle.forest.proofs.StraightLlx.{llx_calls}
 use Rattle.forest.proofs.straight.llx.hand_over.Goals as goal
 
 pub complete-requires-clause-stands : goal.complete-requires-clause-stands
-complete-requires-clause-stands g c = let w = c.requires.waits in (own (llx_calls g.S.Shape.allows c.args.layout.now c.args.number) LlxAnswers w.0 w.1 w.2 (llx_at c.args.node Start), rw c.load.ensures w.3)
+complete-requires-clause-stands g c = let w = c.requires.waits in (own (llx_calls g.S.Shape.allows c.args.hand.layout.now c.args.hand.number) LlxAnswers w.0 w.1.0 w.1.1 (llx_at c.args.node Start), rw c.load.ensures w.2)
 
 pub returns-clause-ends : goal.returns-clause-ends
-returns-clause-ends g c = λ k lay number x.
-    let o = llx_calls g.S.Shape.allows c.args.layout.now c.args.number in
-    (c.complete.new.machine, own_ends o LlxAnswers k lay number (llx_at c.args.node Start) _ c.complete.new.machine c.complete.result (c.complete.ensures.ends (own o LlxAnswers k lay number (llx_at c.args.node Start)) (rw c.load.ensures x)))
+returns-clause-ends g c = λ k fits x.
+    let o = llx_calls g.S.Shape.allows c.args.hand.layout.now c.args.hand.number in
+    (c.complete.new.machine, own_ends o LlxAnswers k fits.0 fits.1 (llx_at c.args.node Start) _ c.complete.new.machine c.complete.result (c.complete.ensures.ends (own o LlxAnswers k fits.0 fits.1 (llx_at c.args.node Start)) (rw c.load.ensures x)))

@@ -12,6 +12,6 @@ returns-clause-ends g c = λ r x. c.complete.ensures.ends r (told_on r _ c.args.
 pub returns-clause-steps : goal.returns-clause-steps
 returns-clause-steps g c =
     let b = c.requires.told in
-    let n = weighs c.next-turn.result _ _ (c.next-turn.ensures.nearer _ (g.met.N.Machine.told c.args.run.now b.0.call _ (Some c.args.told) _ (b.0.runs _ b.1.sound) (b.0.tells c.args.run.now _ (Some c.args.told) b.1.so.0) (few_taken g.S.Shape.allows c.args.layout.now b.0.call _ b.0.is_layout b.1.sound))) in
+    let n = weighs c.next-turn.result _ _ (c.next-turn.ensures.nearer _ (g.met.N.Machine.told c.args.run.now b.0.call _ (Some c.args.told) _ (b.0.runs _ b.1.sound) (b.0.tells c.args.run.now _ (Some c.args.told) b.1.so.0) (few_taken g.S.Shape.allows c.args.hand.layout.now b.0.call _ b.0.is_layout b.1.sound))) in
     let s = c.complete.ensures.steps in
     omega (arith, n, s)

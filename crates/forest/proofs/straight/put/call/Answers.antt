@@ -6,20 +6,20 @@ use Rattle.forest.proofs.StraightPut.{putter, begins_change, change_waits, put_d
 use Rattle.forest.proofs.straight.put.call.Goals as goal
 
 pub call-requires-clause-waits : goal.call-requires-clause-waits
-call-requires-clause-waits g c = let r = c.requires.begins in let change : Change = record { scx = c.args.put.scx; call = c.args.number; plan = c.args.put.plan; old = c.args.put.old; fresh = c.args.put.fresh } in
-    ((putter g.S.Shape.allows c.args.layout.now c.args.number r.0 r.1 r.2 (fresh_put c.args.snaps.now c.args.put c.args.number)), begins_change g.S.Shape.allows c.args.layout.now c.args.number r.0 r.1 r.2 (fresh_put c.args.snaps.now c.args.put c.args.number) _ (changing_at c.args.snaps.now change AtPlan) _ (c.fill_value.ensures.waits r.0 r.1 r.2 r.3))
+call-requires-clause-waits g c = let r = c.requires.begins in let change : Change = record { scx = c.args.put.scx; call = c.args.hand.number; plan = c.args.put.plan; old = c.args.put.old; fresh = c.args.put.fresh } in
+    ((putter g.S.Shape.allows c.args.hand.layout.now c.args.hand.number r.0 r.1.0 r.1.1 (fresh_put c.args.snaps.now c.args.put c.args.hand.number)), begins_change g.S.Shape.allows c.args.hand.layout.now c.args.hand.number r.0 r.1.0 r.1.1 (fresh_put c.args.snaps.now c.args.put c.args.hand.number) _ (changing_at c.args.snaps.now change AtPlan) _ (c.fill_value.ensures.waits r.0 r.1 r.2))
 
 pub returns-then-call-clause-ends : goal.returns-then-call-clause-ends
-returns-then-call-clause-ends g c = λ k lay number x. let change : Change = record { scx = c.args.put.scx; call = c.args.number; plan = c.args.put.plan; old = c.args.put.old; fresh = c.args.put.fresh } in
-    let t = c.call.ensures.commits c.if-call.true (putter g.S.Shape.allows c.args.layout.now c.args.number k lay number (fresh_put c.args.snaps.now c.args.put c.args.number)) (begins_change g.S.Shape.allows c.args.layout.now c.args.number k lay number (fresh_put c.args.snaps.now c.args.put c.args.number) _ (changing_at c.args.snaps.now change AtPlan) _ (c.fill_value.ensures.waits k lay number x)) in
-    (_, put_done g.S.Shape.allows c.args.layout.now c.args.number k lay number (fresh_put c.args.snaps.now c.args.put c.args.number) _ (changing_at c.args.snaps.now change AtPlan) c.call.new.help t.0 t.1)
+returns-then-call-clause-ends g c = λ k fits x. let change : Change = record { scx = c.args.put.scx; call = c.args.hand.number; plan = c.args.put.plan; old = c.args.put.old; fresh = c.args.put.fresh } in
+    let t = c.call.ensures.commits c.if-call.true (putter g.S.Shape.allows c.args.hand.layout.now c.args.hand.number k fits.0 fits.1 (fresh_put c.args.snaps.now c.args.put c.args.hand.number)) (begins_change g.S.Shape.allows c.args.hand.layout.now c.args.hand.number k fits.0 fits.1 (fresh_put c.args.snaps.now c.args.put c.args.hand.number) _ (changing_at c.args.snaps.now change AtPlan) _ (c.fill_value.ensures.waits k fits x)) in
+    (_, put_done g.S.Shape.allows c.args.hand.layout.now c.args.hand.number k fits.0 fits.1 (fresh_put c.args.snaps.now c.args.put c.args.hand.number) _ (changing_at c.args.snaps.now change AtPlan) c.call.new.help t.0 t.1)
 
 pub complete_blocked-requires-clause-waits : goal.complete_blocked-requires-clause-waits
-complete_blocked-requires-clause-waits g c = let r = c.requires.begins in let change : Change = record { scx = c.args.put.scx; call = c.args.number; plan = c.args.put.plan; old = c.args.put.old; fresh = c.args.put.fresh } in let u = (fresh_put c.args.snaps.now c.args.put c.args.number) in
-    let x = change_waits g.S.Shape.allows c.args.layout.now c.args.number r.0 r.1 r.2 u _ (changing_at c.args.snaps.now change (Help c.call.new.help)) _ (c.call.ensures.blocked c.if-call.false (putter g.S.Shape.allows c.args.layout.now c.args.number r.0 r.1 r.2 (fresh_put c.args.snaps.now c.args.put c.args.number)) (begins_change g.S.Shape.allows c.args.layout.now c.args.number r.0 r.1 r.2 (fresh_put c.args.snaps.now c.args.put c.args.number) _ (changing_at c.args.snaps.now change AtPlan) _ (c.fill_value.ensures.waits r.0 r.1 r.2 r.3))) in
-    (r.0, u, r.1, r.2, x)
+complete_blocked-requires-clause-waits g c = let r = c.requires.begins in let change : Change = record { scx = c.args.put.scx; call = c.args.hand.number; plan = c.args.put.plan; old = c.args.put.old; fresh = c.args.put.fresh } in let u = (fresh_put c.args.snaps.now c.args.put c.args.hand.number) in
+    let x = change_waits g.S.Shape.allows c.args.hand.layout.now c.args.hand.number r.0 r.1.0 r.1.1 u _ (changing_at c.args.snaps.now change (Help c.call.new.help)) _ (c.call.ensures.blocked c.if-call.false (putter g.S.Shape.allows c.args.hand.layout.now c.args.hand.number r.0 r.1.0 r.1.1 (fresh_put c.args.snaps.now c.args.put c.args.hand.number)) (begins_change g.S.Shape.allows c.args.hand.layout.now c.args.hand.number r.0 r.1.0 r.1.1 (fresh_put c.args.snaps.now c.args.put c.args.hand.number) _ (changing_at c.args.snaps.now change AtPlan) _ (c.fill_value.ensures.waits r.0 r.1 r.2))) in
+    (r.0, u, r.1, x)
 
 pub returns-clause-ends : goal.returns-clause-ends
-returns-clause-ends g c = λ k lay number x. let change : Change = record { scx = c.args.put.scx; call = c.args.number; plan = c.args.put.plan; old = c.args.put.old; fresh = c.args.put.fresh } in let u = (fresh_put c.args.snaps.now c.args.put c.args.number) in
-    let y = change_waits g.S.Shape.allows c.args.layout.now c.args.number k lay number u _ (changing_at c.args.snaps.now change (Help c.call.new.help)) _ (c.call.ensures.blocked c.if-call.false (putter g.S.Shape.allows c.args.layout.now c.args.number k lay number (fresh_put c.args.snaps.now c.args.put c.args.number)) (begins_change g.S.Shape.allows c.args.layout.now c.args.number k lay number (fresh_put c.args.snaps.now c.args.put c.args.number) _ (changing_at c.args.snaps.now change AtPlan) _ (c.fill_value.ensures.waits k lay number x))) in
-    c.complete_blocked.ensures.ends k u lay number y
+returns-clause-ends g c = λ k fits x. let change : Change = record { scx = c.args.put.scx; call = c.args.hand.number; plan = c.args.put.plan; old = c.args.put.old; fresh = c.args.put.fresh } in let u = (fresh_put c.args.snaps.now c.args.put c.args.hand.number) in
+    let y = change_waits g.S.Shape.allows c.args.hand.layout.now c.args.hand.number k fits.0 fits.1 u _ (changing_at c.args.snaps.now change (Help c.call.new.help)) _ (c.call.ensures.blocked c.if-call.false (putter g.S.Shape.allows c.args.hand.layout.now c.args.hand.number k fits.0 fits.1 (fresh_put c.args.snaps.now c.args.put c.args.hand.number)) (begins_change g.S.Shape.allows c.args.hand.layout.now c.args.hand.number k fits.0 fits.1 (fresh_put c.args.snaps.now c.args.put c.args.hand.number) _ (changing_at c.args.snaps.now change AtPlan) _ (c.fill_value.ensures.waits k fits x))) in
+    c.complete_blocked.ensures.ends k u fits y

@@ -20,12 +20,12 @@ returns-in-Err-looked-clause-goes_on g c = λ r x. looks_last r c.args.run.now c
     (c.in-Ok.ensures.snaps (looker r c.args.run.now c.args.level c.args.left c.args.right) (begins_look r c.args.run.now c.args.level c.args.left c.args.right _ c.args.node x))
 
 -- with its snapshot it has fewer steps left in this try
-lighter : (g : Over) (c : In-Ok-looked g) → range_left (range_placed c.looked.new.self c.in-Ok-looked.next) (shared_nodes c.args.layout.now) < c.args.run.now.tries * range_try_left c.args.run.now.most (shared_nodes c.args.layout.now) + (length c.args.run.now.snaps.items + 1 + 67 * (1 + shared_nodes c.args.layout.now - c.args.level) + leaves_left c.args.run.now.leaves (shared_nodes c.args.layout.now))
+lighter : (g : Over) (c : In-Ok-looked g) → range_left (range_placed c.looked.new.self c.in-Ok-looked.next) (shared_nodes c.args.hand.layout.now) < c.args.run.now.tries * range_try_left c.args.run.now.most (shared_nodes c.args.hand.layout.now) + (length c.args.run.now.snaps.items + 1 + 67 * (1 + shared_nodes c.args.hand.layout.now - c.args.level) + leaves_left c.args.run.now.leaves (shared_nodes c.args.hand.layout.now))
 lighter g c =
     let w = c.requires.waits in
     let fits = level_fits w.0 c.args.run.now c.args.level c.args.left c.args.right _ c.args.node c.in-Ok.snap (c.in-Ok.ensures.snaps (looker w.0 c.args.run.now c.args.level c.args.left c.args.right) (begins_look w.0 c.args.run.now c.args.level c.args.left c.args.right _ c.args.node w.1)) in
-    let near : RangeComesNearer c.looked.new.self c.in-Ok-looked.next (shared_nodes c.args.layout.now) (length c.args.run.now.snaps.items + 1 + 67 * (1 + shared_nodes c.args.layout.now - c.args.level) + leaves_left c.args.run.now.leaves (shared_nodes c.args.layout.now)) = rw c.in-Ok-looked.is at (c.looked.ensures.nearer (shared_nodes c.args.layout.now) fits) in
-    subst (λ (t : ℕ). range_left (range_placed c.looked.new.self c.in-Ok-looked.next) (shared_nodes c.args.layout.now) < t * range_try_left c.args.run.now.most (shared_nodes c.args.layout.now) + (length c.args.run.now.snaps.items + 1 + 67 * (1 + shared_nodes c.args.layout.now - c.args.level) + leaves_left c.args.run.now.leaves (shared_nodes c.args.layout.now))) c.looked.ensures.tries (subst (λ (t : ℕ). range_left (range_placed c.looked.new.self c.in-Ok-looked.next) (shared_nodes c.args.layout.now) < c.looked.new.self.tries * range_try_left t (shared_nodes c.args.layout.now) + (length c.args.run.now.snaps.items + 1 + 67 * (1 + shared_nodes c.args.layout.now - c.args.level) + leaves_left c.args.run.now.leaves (shared_nodes c.args.layout.now))) c.looked.ensures.same.2 (range_placed_nearer c.looked.new.self c.in-Ok-looked.next (shared_nodes c.args.layout.now) (length c.args.run.now.snaps.items + 1 + 67 * (1 + shared_nodes c.args.layout.now - c.args.level) + leaves_left c.args.run.now.leaves (shared_nodes c.args.layout.now)) (omega arith) near))
+    let near : RangeComesNearer c.looked.new.self c.in-Ok-looked.next (shared_nodes c.args.hand.layout.now) (length c.args.run.now.snaps.items + 1 + 67 * (1 + shared_nodes c.args.hand.layout.now - c.args.level) + leaves_left c.args.run.now.leaves (shared_nodes c.args.hand.layout.now)) = rw c.in-Ok-looked.is at (c.looked.ensures.nearer (shared_nodes c.args.hand.layout.now) fits) in
+    subst (λ (t : ℕ). range_left (range_placed c.looked.new.self c.in-Ok-looked.next) (shared_nodes c.args.hand.layout.now) < t * range_try_left c.args.run.now.most (shared_nodes c.args.hand.layout.now) + (length c.args.run.now.snaps.items + 1 + 67 * (1 + shared_nodes c.args.hand.layout.now - c.args.level) + leaves_left c.args.run.now.leaves (shared_nodes c.args.hand.layout.now))) c.looked.ensures.tries (subst (λ (t : ℕ). range_left (range_placed c.looked.new.self c.in-Ok-looked.next) (shared_nodes c.args.hand.layout.now) < c.looked.new.self.tries * range_try_left t (shared_nodes c.args.hand.layout.now) + (length c.args.run.now.snaps.items + 1 + 67 * (1 + shared_nodes c.args.hand.layout.now - c.args.level) + leaves_left c.args.run.now.leaves (shared_nodes c.args.hand.layout.now))) c.looked.ensures.same.2 (range_placed_nearer c.looked.new.self c.in-Ok-looked.next (shared_nodes c.args.hand.layout.now) (length c.args.run.now.snaps.items + 1 + 67 * (1 + shared_nodes c.args.hand.layout.now - c.args.level) + leaves_left c.args.run.now.leaves (shared_nodes c.args.hand.layout.now)) (omega arith) near))
 
 pub returns-in-Ok-looked-clause-steps : goal.returns-in-Ok-looked-clause-steps
 returns-in-Ok-looked-clause-steps g c = let n = lighter g (goal.at.returns-in-Ok-looked-clause-steps g c).In-Ok-looked in let few = c.look.ensures.steps in omega (arith, n, few)

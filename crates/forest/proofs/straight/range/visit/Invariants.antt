@@ -9,11 +9,11 @@ use Rattle.forest.proofs.straight.range.visit.Given as goal
 abbrev pub invariant-loop-after : goal.invariant-loop-after
 invariant-loop-after g l = record {
   here : (l.seat.table_id ≡ l.fn.seat.table_id) × (l.seat.me.1 ≡ l.fn.seat.me.1);
-  steps : seat_steps l.seat.me.0.passes + suc (range_left (range_placed l.run l.next) (shared_nodes l.layout)) ≤ seat_steps l.fn.seat.me.0.passes + suc (range_left l.fn.run (shared_nodes l.layout));
-  waits : (r : RangeReader (calls g.S.Shape g.M.Machine l.layout l.number))
+  steps : seat_steps l.seat.me.0.passes + suc (range_left (range_placed l.run l.next) (shared_nodes l.hand.layout.now)) ≤ seat_steps l.fn.seat.me.0.passes + suc (range_left l.fn.run (shared_nodes l.hand.layout.now));
+  waits : (r : RangeReader (calls g.S.Shape g.M.Machine l.hand.layout.now l.hand.number))
       → VisitRoots r l.fn.seat.me.0.passes l.fn.run
       → VisitWaits r l.seat.me.0.passes l.run l.next;
 }
 
 abbrev pub decreases-loop-after : goal.decreases-loop-after
-decreases-loop-after g l = range_left (range_placed l.run l.next) (shared_nodes l.layout)
+decreases-loop-after g l = range_left (range_placed l.run l.next) (shared_nodes l.hand.layout.now)

@@ -13,4 +13,4 @@ pub returns-clause-ends : goal.returns-clause-ends
 returns-clause-ends g c = λ u x. c.finish.ensures.ends u (blocks_there u _ c.args.run.now c.take_up-machine.result c.block-turn.new.self c.args.found c.args.scx c.args.help c.block-turn.result c.take_up-machine.ensures c.block-turn.ensures.place c.block-turn.ensures.asks x)
 
 pub returns-clause-steps : goal.returns-clause-steps
-returns-clause-steps g c = let w = left_blocked g.E.Edit.means c.args.run.now c.take_up-machine.result c.block-turn.new.self c.args.found c.args.scx c.args.help c.block-turn.result (shared_nodes c.args.layout.now) c.take_up-machine.ensures c.block-turn.ensures.place c.block-turn.ensures.asks in let s = c.finish.ensures.steps in omega (arith, w, s)
+returns-clause-steps g c = let w = left_blocked g.E.Edit.means c.args.run.now c.take_up-machine.result c.block-turn.new.self c.args.found c.args.scx c.args.help c.block-turn.result (shared_nodes c.args.hand.layout.now) c.take_up-machine.ensures c.block-turn.ensures.place c.block-turn.ensures.asks in let s = c.finish.ensures.steps in omega (arith, w, s)

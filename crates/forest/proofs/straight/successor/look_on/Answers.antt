@@ -20,12 +20,12 @@ returns-in-Err-looked-clause-goes_on g c = λ r x. looks_last r c.args.run.now c
     (c.in-Ok.ensures.snaps (looker r c.args.run.now c.args.route c.args.level c.args.side) (begins_look r c.args.run.now c.args.route c.args.level c.args.side _ c.args.node x))
 
 -- with its snapshot it has fewer steps left in this try
-lighter : (g : Over) (c : In-Ok-looked g) → successor_left (successor_placed c.looked.new.self c.in-Ok-looked.next) (shared_nodes c.args.layout.now) < c.args.run.now.tries * successor_try_left (shared_nodes c.args.layout.now) + (length c.args.run.now.snaps.items + 1 + 67 * (1 + shared_nodes c.args.layout.now - c.args.level) + behind c.args.route (shared_nodes c.args.layout.now))
+lighter : (g : Over) (c : In-Ok-looked g) → successor_left (successor_placed c.looked.new.self c.in-Ok-looked.next) (shared_nodes c.args.hand.layout.now) < c.args.run.now.tries * successor_try_left (shared_nodes c.args.hand.layout.now) + (length c.args.run.now.snaps.items + 1 + 67 * (1 + shared_nodes c.args.hand.layout.now - c.args.level) + behind c.args.route (shared_nodes c.args.hand.layout.now))
 lighter g c =
     let w = c.requires.waits in
     let fits = level_fits w.0 c.args.run.now c.args.route c.args.level c.args.side _ c.args.node c.in-Ok.snap (c.in-Ok.ensures.snaps (looker w.0 c.args.run.now c.args.route c.args.level c.args.side) (begins_look w.0 c.args.run.now c.args.route c.args.level c.args.side _ c.args.node w.1)) in
-    let near : SuccessorComesNearer c.looked.new.self c.in-Ok-looked.next (shared_nodes c.args.layout.now) (length c.args.run.now.snaps.items + 1 + 67 * (1 + shared_nodes c.args.layout.now - c.args.level) + behind c.args.route (shared_nodes c.args.layout.now)) = rw c.in-Ok-looked.is at (c.looked.ensures.nearer (shared_nodes c.args.layout.now) fits) in
-    subst (λ (t : ℕ). successor_left (successor_placed c.looked.new.self c.in-Ok-looked.next) (shared_nodes c.args.layout.now) < t * successor_try_left (shared_nodes c.args.layout.now) + (length c.args.run.now.snaps.items + 1 + 67 * (1 + shared_nodes c.args.layout.now - c.args.level) + behind c.args.route (shared_nodes c.args.layout.now))) c.looked.ensures.tries (placed_nearer c.looked.new.self c.in-Ok-looked.next (shared_nodes c.args.layout.now) (length c.args.run.now.snaps.items + 1 + 67 * (1 + shared_nodes c.args.layout.now - c.args.level) + behind c.args.route (shared_nodes c.args.layout.now)) (omega arith) near)
+    let near : SuccessorComesNearer c.looked.new.self c.in-Ok-looked.next (shared_nodes c.args.hand.layout.now) (length c.args.run.now.snaps.items + 1 + 67 * (1 + shared_nodes c.args.hand.layout.now - c.args.level) + behind c.args.route (shared_nodes c.args.hand.layout.now)) = rw c.in-Ok-looked.is at (c.looked.ensures.nearer (shared_nodes c.args.hand.layout.now) fits) in
+    subst (λ (t : ℕ). successor_left (successor_placed c.looked.new.self c.in-Ok-looked.next) (shared_nodes c.args.hand.layout.now) < t * successor_try_left (shared_nodes c.args.hand.layout.now) + (length c.args.run.now.snaps.items + 1 + 67 * (1 + shared_nodes c.args.hand.layout.now - c.args.level) + behind c.args.route (shared_nodes c.args.hand.layout.now))) c.looked.ensures.tries (placed_nearer c.looked.new.self c.in-Ok-looked.next (shared_nodes c.args.hand.layout.now) (length c.args.run.now.snaps.items + 1 + 67 * (1 + shared_nodes c.args.hand.layout.now - c.args.level) + behind c.args.route (shared_nodes c.args.hand.layout.now)) (omega arith) near)
 
 pub returns-in-Ok-looked-clause-steps : goal.returns-in-Ok-looked-clause-steps
 returns-in-Ok-looked-clause-steps g c = let n = lighter g (goal.at.returns-in-Ok-looked-clause-steps g c).In-Ok-looked in let few = c.look.ensures.steps in omega (arith, n, few)

@@ -12,10 +12,10 @@ returns-in-Ok-clause-goes_on g c = λ u x. looks_on u _ c.args.run.now c.looked.
     (c.in-Ok.ensures.snaps (looker u c.args.run.now c.args.found.now) (begins_look u _ c.args.run.now c.args.found.now c.args.node x))
 
 pub returns-in-Ok-clause-steps : goal.returns-in-Ok-clause-steps
-returns-in-Ok-clause-steps g c = look_steps _ _ _ _ _ _ c.look.ensures.steps (weighs_next g.E.Edit.means c.looked.new.self c.args.found.now c.looked.result _ _ (c.looked.ensures.nearer (shared_nodes c.args.layout.now)))
+returns-in-Ok-clause-steps g c = look_steps _ _ _ _ _ _ c.look.ensures.steps (weighs_next g.E.Edit.means c.looked.new.self c.args.found.now c.looked.result _ _ (c.looked.ensures.nearer (shared_nodes c.args.hand.layout.now)))
 
 pub returns-in-Ok-clause-nearer : goal.returns-in-Ok-clause-nearer
-returns-in-Ok-clause-nearer g c = look_nearer _ _ _ _ (weighs_next g.E.Edit.means c.looked.new.self c.args.found.now c.looked.result _ _ (c.looked.ensures.nearer (shared_nodes c.args.layout.now)))
+returns-in-Ok-clause-nearer g c = look_nearer _ _ _ _ (weighs_next g.E.Edit.means c.looked.new.self c.args.found.now c.looked.result _ _ (c.looked.ensures.nearer (shared_nodes c.args.hand.layout.now)))
 
 pub returns-in-Err-clause-goes_on : goal.returns-in-Err-clause-goes_on
 returns-in-Err-clause-goes_on g c = λ u x. looks_again u _ c.args.run.now c.args.found.now c.args.node c.in-Err.marked c.in-Err.scx

@@ -11,21 +11,21 @@ look_at-next-requires-clause-tries g c = let r = c.requires.goes_on in (r.0, (go
 pub loop-next-preserved : goal.loop-next-preserved
 loop-next-preserved g c = record {
   here = (c.look_at-next.ensures.table.0 ∙ c.loop-next.invariant.here.0, c.look_at-next.ensures.table.1 ∙ c.loop-next.invariant.here.1);
-  steps = left_as g.E.Edit.means c.loop-next.run c.args.found.now c.loop-next.next (Ok (Look c.in-Look.node)) (c.in-Ok.is ∙ ap (λ n. Ok n) c.in-Look.is) (shared_nodes c.args.layout.now) _ _ _ c.look_at-next.ensures.steps c.loop-next.invariant.steps;
+  steps = left_as g.E.Edit.means c.loop-next.run c.args.found.now c.loop-next.next (Ok (Look c.in-Look.node)) (c.in-Ok.is ∙ ap (λ n. Ok n) c.in-Look.is) (shared_nodes c.args.hand.layout.now) _ _ _ c.look_at-next.ensures.steps c.loop-next.invariant.steps;
   goes_on = λ u x. c.look_at-next.ensures.goes_on u (goes_as u _ c.loop-next.run c.args.found.now c.loop-next.next (Ok (Look c.in-Look.node)) (c.in-Ok.is ∙ ap (λ n. Ok n) c.in-Look.is) (c.loop-next.invariant.goes_on u x));
 }
 
 pub loop-next-smaller : goal.loop-next-smaller
-loop-next-smaller g c = fewer_as g.E.Edit.means c.loop-next.run c.args.found.now c.loop-next.next (Ok (Look c.in-Look.node)) (c.in-Ok.is ∙ ap (λ n. Ok n) c.in-Look.is) (shared_nodes c.args.layout.now) _ c.look_at-next.ensures.nearer
+loop-next-smaller g c = fewer_as g.E.Edit.means c.loop-next.run c.args.found.now c.loop-next.next (Ok (Look c.in-Look.node)) (c.in-Ok.is ∙ ap (λ n. Ok n) c.in-Look.is) (shared_nodes c.args.hand.layout.now) _ c.look_at-next.ensures.nearer
 
 pub returns-in_default-clause-goes_on : goal.returns-in_default-clause-goes_on
 returns-in_default-clause-goes_on g c = λ u x. goes_as u _ c.loop-next.run c.args.found.now c.loop-next.next (Ok c.in-Ok.now) c.in-Ok.is (c.loop-next.invariant.goes_on u x)
 
 pub returns-in_default-clause-steps : goal.returns-in_default-clause-steps
-returns-in_default-clause-steps g c = left_as g.E.Edit.means c.loop-next.run c.args.found.now c.loop-next.next (Ok c.in-Ok.now) c.in-Ok.is (shared_nodes c.args.layout.now) _ _ _ (omega arith) c.loop-next.invariant.steps
+returns-in_default-clause-steps g c = left_as g.E.Edit.means c.loop-next.run c.args.found.now c.loop-next.next (Ok c.in-Ok.now) c.in-Ok.is (shared_nodes c.args.hand.layout.now) _ _ _ (omega arith) c.loop-next.invariant.steps
 
 pub returns-in-Err-clause-goes_on : goal.returns-in-Err-clause-goes_on
 returns-in-Err-clause-goes_on g c = λ u x. goes_as u _ c.loop-next.run c.args.found.now c.loop-next.next (Err c.in-Err.stop) c.in-Err.is (c.loop-next.invariant.goes_on u x)
 
 pub returns-in-Err-clause-steps : goal.returns-in-Err-clause-steps
-returns-in-Err-clause-steps g c = left_as g.E.Edit.means c.loop-next.run c.args.found.now c.loop-next.next (Err c.in-Err.stop) c.in-Err.is (shared_nodes c.args.layout.now) _ _ _ (omega arith) c.loop-next.invariant.steps
+returns-in-Err-clause-steps g c = left_as g.E.Edit.means c.loop-next.run c.args.found.now c.loop-next.next (Err c.in-Err.stop) c.in-Err.is (shared_nodes c.args.hand.layout.now) _ _ _ (omega arith) c.loop-next.invariant.steps

@@ -11,7 +11,7 @@ use Rattle.forest.proofs.straight.update.try_on.Goals.{After-work_on-worked}
 use Rattle.forest.proofs.straight.update.try_on.Goals as goal
 
 -- behind its loads and fills it goes on so
-worked : (g : Over) (c : After-work_on-worked g) (u : Updater (calls g.S.Shape g.M.Machine c.args.layout.now c.args.number) g.E.Edit.means) → UpdaterGoesOn u c.args.seat.now.me.0.passes c.args.run.now c.args.found.now c.args.next → UpdaterGoesOn u c.work_on-worked.new.seat.me.0.passes c.work_on-worked.new.run c.args.found.now c.work_on-worked.result
+worked : (g : Over) (c : After-work_on-worked g) (u : Updater (calls g.S.Shape g.M.Machine c.args.hand.layout.now c.args.hand.number) g.E.Edit.means) → UpdaterGoesOn u c.args.seat.now.me.0.passes c.args.run.now c.args.found.now c.args.next → UpdaterGoesOn u c.work_on-worked.new.seat.me.0.passes c.work_on-worked.new.run c.args.found.now c.work_on-worked.result
 worked g c u x = c.work_on-worked.ensures.goes_on u (c.look_on-looked.ensures.goes_on u x)
 
 pub work_on-worked-requires-clause-goes_on : goal.work_on-worked-requires-clause-goes_on
@@ -33,7 +33,7 @@ pub returns-in-Change-clause-steps : goal.returns-in-Change-clause-steps
 returns-in-Change-clause-steps g c =
     let w = c.work_on-worked.ensures.steps in
     let l = c.look_on-looked.ensures.steps in
-    left_as g.E.Edit.means c.work_on-worked.new.run c.args.found.now c.work_on-worked.result (Ok (Change c.in-Change.scx)) (c.in-Ok.is ∙ ap (λ n. Ok n) c.in-Change.is) (shared_nodes c.args.layout.now) _ _ _ c.change.ensures.steps (through _ _ _ w l)
+    left_as g.E.Edit.means c.work_on-worked.new.run c.args.found.now c.work_on-worked.result (Ok (Change c.in-Change.scx)) (c.in-Ok.is ∙ ap (λ n. Ok n) c.in-Change.is) (shared_nodes c.args.hand.layout.now) _ _ _ c.change.ensures.steps (through _ _ _ w l)
 
 pub returns-in_default-clause-ends : goal.returns-in_default-clause-ends
 returns-in_default-clause-ends g c = λ u x. c.from_next.ensures.ends u (goes_as u _ c.work_on-worked.new.run c.args.found.now c.work_on-worked.result (Ok c.in-Ok.now) (c.in-Ok.is) (worked g (goal.at.returns-in_default-clause-ends g c).After-work_on-worked u x))
@@ -42,7 +42,7 @@ pub returns-in_default-clause-steps : goal.returns-in_default-clause-steps
 returns-in_default-clause-steps g c =
     let w = c.work_on-worked.ensures.steps in
     let l = c.look_on-looked.ensures.steps in
-    left_as g.E.Edit.means c.work_on-worked.new.run c.args.found.now c.work_on-worked.result (Ok c.in-Ok.now) (c.in-Ok.is) (shared_nodes c.args.layout.now) _ _ _ c.from_next.ensures.steps (through _ _ _ w l)
+    left_as g.E.Edit.means c.work_on-worked.new.run c.args.found.now c.work_on-worked.result (Ok c.in-Ok.now) (c.in-Ok.is) (shared_nodes c.args.hand.layout.now) _ _ _ c.from_next.ensures.steps (through _ _ _ w l)
 
 pub returns-in-Lost-clause-ends : goal.returns-in-Lost-clause-ends
 returns-in-Lost-clause-ends g c = λ u x. c.from_next-in-Lost.ensures.ends u (goes_as u _ c.work_on-worked.new.run c.args.found.now c.work_on-worked.result (Err c.in-Err.stop) (c.in-Err.is) (worked g (goal.at.returns-in-Lost-clause-ends g c).After-work_on-worked u x))
@@ -51,7 +51,7 @@ pub returns-in-Lost-clause-steps : goal.returns-in-Lost-clause-steps
 returns-in-Lost-clause-steps g c =
     let w = c.work_on-worked.ensures.steps in
     let l = c.look_on-looked.ensures.steps in
-    left_as g.E.Edit.means c.work_on-worked.new.run c.args.found.now c.work_on-worked.result (Err c.in-Err.stop) (c.in-Err.is) (shared_nodes c.args.layout.now) _ _ _ c.from_next-in-Lost.ensures.steps (through _ _ _ w l)
+    left_as g.E.Edit.means c.work_on-worked.new.run c.args.found.now c.work_on-worked.result (Err c.in-Err.stop) (c.in-Err.is) (shared_nodes c.args.hand.layout.now) _ _ _ c.from_next-in-Lost.ensures.steps (through _ _ _ w l)
 
 pub returns-in-Nothing-clause-ends : goal.returns-in-Nothing-clause-ends
 returns-in-Nothing-clause-ends g c = λ u x. rw c.at.ensures (ends_needless u _ c.work_on-worked.new.run c.args.found.now (goes_as u _ c.work_on-worked.new.run c.args.found.now c.work_on-worked.result (Err Nothing) (c.in-Err.is ∙ ap (λ s. Err s) c.in-Nothing.is) (worked g (goal.at.returns-in-Nothing-clause-ends g c).After-work_on-worked u x)))

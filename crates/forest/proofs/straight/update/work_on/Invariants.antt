@@ -8,11 +8,11 @@ use Rattle.forest.proofs.straight.update.work_on.Given as goal
 abbrev pub invariant-loop-next : goal.invariant-loop-next
 invariant-loop-next g l = record {
   here : (l.seat.table_id ≡ l.fn.seat.table_id) × (l.seat.me.1 ≡ l.fn.seat.me.1);
-  steps : seat_steps l.seat.me.0.passes + left_then g.E.Edit.means l.run l.found l.next (shared_nodes l.layout) ≤ seat_steps l.fn.seat.me.0.passes + left_then g.E.Edit.means l.fn.run l.found l.fn.next (shared_nodes l.layout);
-  goes_on : (u : Updater (calls g.S.Shape g.M.Machine l.layout l.number) g.E.Edit.means)
+  steps : seat_steps l.seat.me.0.passes + left_then g.E.Edit.means l.run l.found l.next (shared_nodes l.hand.layout.now) ≤ seat_steps l.fn.seat.me.0.passes + left_then g.E.Edit.means l.fn.run l.found l.fn.next (shared_nodes l.hand.layout.now);
+  goes_on : (u : Updater (calls g.S.Shape g.M.Machine l.hand.layout.now l.hand.number) g.E.Edit.means)
       → UpdaterGoesOn u l.fn.seat.me.0.passes l.fn.run l.found l.fn.next
       → UpdaterGoesOn u l.seat.me.0.passes l.run l.found l.next;
 }
 
 abbrev pub decreases-loop-next : goal.decreases-loop-next
-decreases-loop-next g l = left_then g.E.Edit.means l.run l.found l.next (shared_nodes l.layout)
+decreases-loop-next g l = left_then g.E.Edit.means l.run l.found l.next (shared_nodes l.hand.layout.now)

@@ -13,11 +13,11 @@ use Rattle.forest.proofs.straight.vlx.validate.Goals.{After-step-told}
 use Rattle.forest.proofs.straight.vlx.validate.Goals as goal
 
 -- whichever call it is has been told the info of this snapshot's node
-told : (g : Over) (c : After-step-told g) (v : Validator (calls g.S.Shape g.M.Machine c.args.layout.now c.args.number) (g.L.SnapList.list c.args.snaps)) → InnerWaits v c.args.seat.now.me.0.passes 1 (load LoadInfo (info (snap_at (g.L.SnapList.list c.args.snaps) 0).node.0)) → InnerIsTold v c.step-told.new.seat.me.0.passes (c.loop-snaps.asked + 1) c.step-told.result
-told g c v x = subst (λ (n : ℕ). InnerIsTold v c.step-told.new.seat.me.0.passes n c.step-told.result) (omega arith) (c.step-told.ensures.told v.call v.first (v.with_run (suc c.loop-snaps.asked)) v.is_layout v.is_number (rw c.get-snap.ensures (c.loop-snaps.invariant.waits v x)))
+told : (g : Over) (c : After-step-told g) (v : Validator (calls g.S.Shape g.M.Machine c.args.hand.layout.now c.args.hand.number) (g.L.SnapList.list c.args.snaps)) → InnerWaits v c.args.seat.now.me.0.passes 1 (load LoadInfo (info (snap_at (g.L.SnapList.list c.args.snaps) 0).node.0)) → InnerIsTold v c.step-told.new.seat.me.0.passes (c.loop-hand.asked + 1) c.step-told.result
+told g c v x = subst (λ (n : ℕ). InnerIsTold v c.step-told.new.seat.me.0.passes n c.step-told.result) (omega arith) (c.step-told.ensures.told v.call v.first (v.with_run (suc c.loop-hand.asked)) (v.is_layout, v.is_number) (rw c.get-snap.ensures (c.loop-hand.invariant.waits v x)))
 
 pub step-told-requires-clause-waits : goal.step-told-requires-clause-waits
-step-told-requires-clause-waits g c = let w = c.requires.waits in (w.0.call, w.0.first, w.0.with_run (suc c.loop-snaps.asked), w.0.is_layout, w.0.is_number, rw c.get-snap.ensures (c.loop-snaps.invariant.waits w.0 w.1))
+step-told-requires-clause-waits g c = let w = c.requires.waits in (w.0.call, w.0.first, w.0.with_run (suc c.loop-hand.asked), (w.0.is_layout, w.0.is_number), rw c.get-snap.ensures (c.loop-hand.invariant.waits w.0 w.1))
 
 pub returns-then-told-snap-clause-told : goal.returns-then-told-snap-clause-told
 returns-then-told-snap-clause-told g c = λ v x. told g (goal.at.returns-then-told-snap-clause-told g c).After-step-told v x
@@ -27,16 +27,16 @@ returns-then-asked-count-clause-told g c = λ v x. told g (goal.at.returns-then-
 
 pub returns-then-told-snap-clause-all : goal.returns-then-told-snap-clause-all
 returns-then-told-snap-clause-all g c = λ last is found.
-    let same : last ≡ c.loop-snaps.asked = omega (arith, is) in
+    let same : last ≡ c.loop-hand.asked = omega (arith, is) in
     absurd (c.if-told-snap.true (sym found ∙ ap (λ (n : ℕ). (snap_at (g.L.SnapList.list c.args.snaps) n).scx.0) same ∙ ap (λ (s : Snap). s.scx.0) (sym c.get-snap.ensures)))
 
 pub returns-then-asked-count-clause-all : goal.returns-then-asked-count-clause-all
-returns-then-asked-count-clause-all g c = λ last is found. let n = c.len-count.ensures in let i = c.if-asked-count.true in let m = c.loop-snaps.invariant.more in omega (arith, n, i, m)
+returns-then-asked-count-clause-all g c = λ last is found. let n = c.len-count.ensures in let i = c.if-asked-count.true in let m = c.loop-hand.invariant.more in omega (arith, n, i, m)
 
-pub loop-snaps-preserved : goal.loop-snaps-preserved
-loop-snaps-preserved g c = record {
-  here = (c.step-told.ensures.table.0 ∙ c.loop-snaps.invariant.here.0, c.step-told.ensures.table.1 ∙ c.loop-snaps.invariant.here.1);
+pub loop-hand-preserved : goal.loop-hand-preserved
+loop-hand-preserved g c = record {
+  here = (c.step-told.ensures.table.0 ∙ c.loop-hand.invariant.here.0, c.step-told.ensures.table.1 ∙ c.loop-hand.invariant.here.1);
   more = (let e = c.len-count.ensures in let i = c.if-asked-count.false in omega (arith, e, i));
-  steps = (let e = c.loop-snaps.invariant.steps in let i = c.step-told.ensures.one in omega (arith, e, i));
-  waits = λ v x. to_next v _ c.loop-snaps.asked (c.loop-snaps.asked + 1) c.step-told.result (omega arith) (ap (λ (s : Snap). s.scx.0) (sym c.get-snap.ensures) ∙ sym c.if-told-snap.false) (let e = c.len-count.ensures in let i = c.if-asked-count.false in omega (arith, e, i)) (told g (goal.at.loop-snaps-preserved g c).After-step-told v x);
+  steps = (let e = c.loop-hand.invariant.steps in let i = c.step-told.ensures.one in omega (arith, e, i));
+  waits = λ v x. to_next v _ c.loop-hand.asked (c.loop-hand.asked + 1) c.step-told.result (omega arith) (ap (λ (s : Snap). s.scx.0) (sym c.get-snap.ensures) ∙ sym c.if-told-snap.false) (let e = c.len-count.ensures in let i = c.if-asked-count.false in omega (arith, e, i)) (told g (goal.at.loop-hand-preserved g c).After-step-told v x);
 }

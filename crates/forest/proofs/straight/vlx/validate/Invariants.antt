@@ -9,15 +9,15 @@ use Rattle.prims.specs.Llx.Known.{load}
 use Rattle.prims.specs.Snap.{snap_at}
 use Rattle.forest.proofs.straight.vlx.validate.Given as goal
 
-abbrev pub invariant-loop-snaps : goal.invariant-loop-snaps
-invariant-loop-snaps g l = record {
+abbrev pub invariant-loop-hand : goal.invariant-loop-hand
+invariant-loop-hand g l = record {
   here : (l.seat.table_id ≡ l.fn.seat.table_id) × (l.seat.me.1 ≡ l.fn.seat.me.1);
   more : l.asked < length (g.L.SnapList.list l.snaps);
   steps : seat_steps l.seat.me.0.passes ≡ seat_steps l.fn.seat.me.0.passes + l.asked;
-  waits : (v : Validator (calls g.S.Shape g.M.Machine l.layout l.number) (g.L.SnapList.list l.snaps))
+  waits : (v : Validator (calls g.S.Shape g.M.Machine l.fn.hand.layout.now l.fn.hand.number) (g.L.SnapList.list l.snaps))
       → InnerWaits v l.fn.seat.me.0.passes 1 (load LoadInfo (info (snap_at (g.L.SnapList.list l.snaps) 0).node.0))
       → InnerWaits v l.seat.me.0.passes (suc l.asked) (load LoadInfo (info (snap_at (g.L.SnapList.list l.snaps) l.asked).node.0));
 }
 
-abbrev pub decreases-loop-snaps : goal.decreases-loop-snaps
-decreases-loop-snaps g l = length (g.L.SnapList.list l.snaps) - l.asked
+abbrev pub decreases-loop-hand : goal.decreases-loop-hand
+decreases-loop-hand g l = length (g.L.SnapList.list l.snaps) - l.asked

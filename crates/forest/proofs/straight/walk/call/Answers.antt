@@ -13,23 +13,23 @@ use Rattle.forest.proofs.straight.walk.call.Goals.{After-read-word, After-read-c
 use Rattle.forest.proofs.straight.walk.call.Goals as goal
 
 -- whichever call it is, the head of this node has been told
-told : (g : Over) (c : After-read-word g) (w : Walker (calls g.S.Shape g.M.Machine c.args.layout.now c.args.number))
+told : (g : Over) (c : After-read-word g) (w : Walker (calls g.S.Shape g.M.Machine c.args.hand.layout.now c.args.hand.number))
     → WalksFromRoot w c.args.seat.now.me.0.passes c.args.goal
     → WalkerIsTold w c.read-word.new.seat.me.0.passes (walk_at c.args.goal c.loop-side.trail c.loop-side.at) c.loop-side.turn c.read-word.result
 told g c w x = c.read-word.ensures.told w (walk_at c.args.goal c.loop-side.trail c.loop-side.at) c.loop-side.turn (c.loop-side.invariant.waits w x)
 
 -- and the child on the side to which it goes
-told_child : (g : Over) (c : After-read-child g) (w : Walker (calls g.S.Shape g.M.Machine c.args.layout.now c.args.number))
+told_child : (g : Over) (c : After-read-child g) (w : Walker (calls g.S.Shape g.M.Machine c.args.hand.layout.now c.args.hand.number))
     → WalksFromRoot w c.args.seat.now.me.0.passes c.args.goal
     → WalkerIsTold w c.read-child.new.seat.me.0.passes (walk_at c.args.goal c.loop-side.trail (Child (head_of c.read-word.result).level c.in-Ok.side)) (last_turn (Child (head_of c.read-word.result).level c.in-Ok.side) c.loop-side.trail.node c.loop-side.turn) c.read-child.result
 told_child g c w x = c.read-child.ensures.told w (walk_at c.args.goal c.loop-side.trail (Child (head_of c.read-word.result).level c.in-Ok.side)) (last_turn (Child (head_of c.read-word.result).level c.in-Ok.side) c.loop-side.trail.node c.loop-side.turn)
     (c.in-Ok.ensures.down w c.loop-side.turn (told g (goal.at.read-child-requires-clause-waits g c.before).After-read-word w x))
 
-head_fits : (g : Over) (c : After-read-word g) → WalkFitsAt c.loop-side.at c.read-word.result (shared_nodes c.args.layout.now)
+head_fits : (g : Over) (c : After-read-word g) → WalkFitsAt c.loop-side.at c.read-word.result (shared_nodes c.args.hand.layout.now)
 head_fits g c = let r = c.requires.waits in
     fits r.0 _ (walk_at c.args.goal c.loop-side.trail c.loop-side.at) c.loop-side.turn c.read-word.result (told g c r.0 r.1)
 
-child_fits : (g : Over) (c : After-read-child g) → (head_of c.read-word.result).level + 1 < 2 + shared_nodes c.args.layout.now
+child_fits : (g : Over) (c : After-read-child g) → (head_of c.read-word.result).level + 1 < 2 + shared_nodes c.args.hand.layout.now
 child_fits g c = let r = c.requires.waits in
     fits r.0 _ (walk_at c.args.goal c.loop-side.trail (Child (head_of c.read-word.result).level c.in-Ok.side)) (last_turn (Child (head_of c.read-word.result).level c.in-Ok.side) c.loop-side.trail.node c.loop-side.turn) c.read-child.result (told_child g c r.0 r.1)
 
@@ -41,7 +41,7 @@ pass-requires-clause-told g c = let r = c.requires.waits in (r.0, c.loop-side.tu
 
 pub returns-in-Err-clause-steps : goal.returns-in-Err-clause-steps
 returns-in-Err-clause-steps g c =
-    let few = some_left c.loop-side.at c.read-word.result (shared_nodes c.args.layout.now) c.loop-side.invariant.place (head_fits g (goal.at.returns-in-Err-clause-steps g c).After-read-word) in
+    let few = some_left c.loop-side.at c.read-word.result (shared_nodes c.args.hand.layout.now) c.loop-side.invariant.place (head_fits g (goal.at.returns-in-Err-clause-steps g c).After-read-word) in
     let one = c.read-word.ensures.one in let last = c.in-Err.ensures.last_steps in let old = c.loop-side.invariant.steps in
     omega (arith, few, one, last, old)
 
@@ -58,7 +58,7 @@ read-child-requires-clause-waits g c = let r = c.requires.waits in (
 
 pub loop-side-smaller : goal.loop-side-smaller
 loop-side-smaller g c =
-    let less = fewer c.loop-side.at c.read-word.result (shared_nodes c.args.layout.now) c.of-head.result c.loop-side.invariant.place (sym c.of-head.ensures) (head_fits g (goal.at.loop-side-smaller g c).After-read-word) (rw c.of-head.ensures (child_fits g (goal.at.loop-side-smaller g c).After-read-child)) in
+    let less = fewer c.loop-side.at c.read-word.result (shared_nodes c.args.hand.layout.now) c.of-head.result c.loop-side.invariant.place (sym c.of-head.ensures) (head_fits g (goal.at.loop-side-smaller g c).After-read-word) (rw c.of-head.ensures (child_fits g (goal.at.loop-side-smaller g c).After-read-child)) in
     omega (arith, less)
 
 pub loop-side-preserved : goal.loop-side-preserved
@@ -66,7 +66,7 @@ loop-side-preserved g c = record {
   here = (c.read-child.ensures.table.0 ∙ c.in-Ok.ensures.table.0 ∙ c.read-word.ensures.table.0 ∙ c.loop-side.invariant.here.0, c.read-child.ensures.table.1 ∙ c.in-Ok.ensures.table.1 ∙ c.read-word.ensures.table.1 ∙ c.loop-side.invariant.here.1);
   place = tt;
   steps = (
-      let less = fewer c.loop-side.at c.read-word.result (shared_nodes c.args.layout.now) c.of-head.result c.loop-side.invariant.place (sym c.of-head.ensures) (head_fits g (goal.at.loop-side-preserved g c).After-read-word) (rw c.of-head.ensures (child_fits g (goal.at.loop-side-preserved g c).After-read-child)) in
+      let less = fewer c.loop-side.at c.read-word.result (shared_nodes c.args.hand.layout.now) c.of-head.result c.loop-side.invariant.place (sym c.of-head.ensures) (head_fits g (goal.at.loop-side-preserved g c).After-read-word) (rw c.of-head.ensures (child_fits g (goal.at.loop-side-preserved g c).After-read-child)) in
       let one = c.read-word.ensures.one in let more = c.in-Ok.ensures.steps in let last = c.read-child.ensures.one in let old = c.loop-side.invariant.steps in
       omega (arith, less, one, more, last, old)
       );

@@ -1,0 +1,21 @@
+-- What a call has in hand, as the clauses of straight code see it.
+use Rattle.std.specs.Prelude.{◌≡◌, ℕ}
+use Rattle.atomic_table.specs.declared.shared.Seat.{Seat}
+use Rattle.arena.specs.declared.machine.Machine.{Ghosts as Machine}
+use Rattle.arena.specs.declared.machine.Shape.{Ghosts as Shape}
+use Rattle.arena.specs.Machines.{Call}
+use Rattle.forest.specs.declared.straight.hand.Hand.{Hand}
+use Rattle.forest.specs.declared.view.SeatView.{SeatView}
+use Rattle.forest.specs.CallKinds.{Calls, calls}
+
+-- the seat is at the table that has its words
+abbrev pub IsAt : {S : Type 0} → Hand S → Seat ℕ SeatView → Type 0
+IsAt hand seat = seat.table_id ≡ hand.words.now.table.shared.table_id
+
+-- the call has its layout and its number
+abbrev pub IsCallOf : {S : Type 0} → Hand S → Call → Type 0
+IsCallOf hand call = (call.layout ≡ hand.layout.now) × (call.number ≡ hand.number)
+
+-- the calls of a machine under a shape that it is of
+abbrev pub hand_calls : {S T M A : Type 0} → Shape T → Machine M T A → Hand S → Calls M
+hand_calls s m hand = calls s m hand.layout.now hand.number
