@@ -11,7 +11,7 @@ ghost use Rattle.edits.specs.declared.update.Next.{Next};
 use crate::straight::hand::Hand;
 use crate::straight::step::step;
 use crate::view::SeatView;
-use arena::{Access, Kind, Machine, NodeNo, NodeWord, Shape, Side, Step, Word};
+use arena::{Access, Kind, Machine, NodeNo, NodeWord, SettledPart, Shape, Side, Step, Word};
 use atomic_table::Seat;
 use edits::{Edit, Next, Nth, Piece, Stop, UpdateRun};
 use template::Found;
@@ -92,12 +92,15 @@ pub(crate) fn fill_node<S: Shape, M: Machine<S>, E: Edit + Copy>(
     let snaps = run.snaps.as_slice();
     let piece = run.edit.piece(found, snaps, &run.nodes, &run.loaded, nth);
     let node = run.nodes.at(nth);
-    let (head, key) = (piece.word(NodeWord::Head), piece.word(NodeWord::Key));
-    fill::<S, M>(hand, seat, node, NodeWord::Head, head);
-    fill::<S, M>(hand, seat, node, NodeWord::Key, key);
+    let first = NodeWord::Settled(SettledPart::Head);
+    let second = NodeWord::Settled(SettledPart::Key);
+    let (head, key) = (piece.word(first), piece.word(second));
+    fill::<S, M>(hand, seat, node, first, head);
+    fill::<S, M>(hand, seat, node, second, key);
     match piece {
         Piece::Leaf { value, .. } => {
-            fill::<S, M>(hand, seat, node, NodeWord::Value, value);
+            let part = NodeWord::Settled(SettledPart::Value);
+            fill::<S, M>(hand, seat, node, part, value);
             run.filled(found, nth)
         }
         Piece::Fork { left, right, .. } => {

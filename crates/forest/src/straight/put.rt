@@ -14,7 +14,9 @@ use crate::straight::hand::Hand;
 use crate::straight::scx::{self, Change};
 use crate::straight::step::step;
 use crate::view::SeatView;
-use arena::{Access, Kind, NodeNo, NodeWord, Plan, ScxNo, ScxWord, Shape, Step, Turn, Word};
+use arena::{
+    Access, Kind, NodeNo, NodeWord, Plan, ScxNo, ScxWord, SettledPart, Shape, Step, Turn, Word,
+};
 use atomic_table::Seat;
 use help::HelpRun;
 use prims::{PutAt, PutRun, Scx, ScxAt, ScxRun, Snap, Snaps, Update};

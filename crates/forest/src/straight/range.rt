@@ -17,7 +17,7 @@ use crate::straight::llx::{load, look};
 use crate::straight::ordered_read::{read, tell};
 use crate::straight::vlx::validate;
 use crate::view::SeatView;
-use arena::{Head, Kind, Machine, NodeNo, NodeWord, ScxWord, Shape, Turn, Word};
+use arena::{Head, Kind, Machine, NodeNo, NodeWord, ScxWord, SettledPart, Shape, Turn, Word};
 use atomic_table::Seat;
 use order::{RangeAt, RangeNext, RangeRun, Refused};
 use ordered_map::Pair;
@@ -120,17 +120,17 @@ fn visit_on<S: Shape, M: Machine<S>>(
 {
     match next {
         RangeNext::Head { above: _, node } => {
-            let part = NodeWord::Head;
+            let part = NodeWord::Settled(SettledPart::Head);
             let word = read::<S, M, Tree, RangeRun>(hand, seat, node, part);
             Ok(run.head_on(Head::of(word), node))
         }
         RangeNext::Key { head, node } => {
-            let part = NodeWord::Key;
+            let part = NodeWord::Settled(SettledPart::Key);
             let key = read::<S, M, Tree, RangeRun>(hand, seat, node, part);
             Ok(run.key_on(head, node, key))
         }
         RangeNext::Value { key, node } => {
-            let part = NodeWord::Value;
+            let part = NodeWord::Settled(SettledPart::Value);
             let value = read::<S, M, Tree, RangeRun>(hand, seat, node, part);
             match run.value_on(Pair { key, value }) {
                 Ok(next) => Ok(next),
@@ -164,7 +164,8 @@ fn visit<S: Shape, M: Machine<S>>(
     ensures steps { seat_steps seat.new.me.0.passes ≤ seat_steps seat.old.me.0.passes + suc (range_left run.old (shared_nodes hand.entry.layout.now)) }
 {
     let root = NodeNo(0);
-    let word = read::<S, M, Tree, RangeRun>(hand, seat, root, NodeWord::Head);
+    let part = NodeWord::Settled(SettledPart::Head);
+    let word = read::<S, M, Tree, RangeRun>(hand, seat, root, part);
     let mut next = run.head_on(Head::of(word), root);
     loop {
         match visit_on::<S, M>(hand, seat, run, next) {

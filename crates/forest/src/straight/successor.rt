@@ -16,7 +16,7 @@ use crate::straight::ordered_read::{read, tell};
 use crate::straight::vlx::validate;
 use crate::straight::walk;
 use crate::view::SeatView;
-use arena::{Head, Kind, Machine, NodeNo, NodeWord, ScxWord, Shape, Side, Turn, Word};
+use arena::{Head, Kind, Machine, NodeNo, NodeWord, ScxWord, SettledPart, Shape, Side, Turn, Word};
 use atomic_table::Seat;
 use order::{Refused, Route, SuccessorAt, SuccessorNext, SuccessorRun};
 use ordered_map::Pair;
@@ -133,17 +133,17 @@ fn search_on<S: Shape, M: Machine<S>>(
             above: _,
             node,
         } => {
-            let part = NodeWord::Head;
+            let part = NodeWord::Settled(SettledPart::Head);
             let word = read::<S, M, Tree, SuccessorRun>(hand, seat, node, part);
             Ok(run.head_on(route, Head::of(word), node))
         }
         SuccessorNext::Key { route, head, node } => {
-            let part = NodeWord::Key;
+            let part = NodeWord::Settled(SettledPart::Key);
             let key = read::<S, M, Tree, SuccessorRun>(hand, seat, node, part);
             Ok(run.key_on(route, head, node, key))
         }
         SuccessorNext::Value { key, node } => {
-            let part = NodeWord::Value;
+            let part = NodeWord::Settled(SettledPart::Value);
             let value = read::<S, M, Tree, SuccessorRun>(hand, seat, node, part);
             Ok(SuccessorNext::Validate(Some(Pair { key, value })))
         }
