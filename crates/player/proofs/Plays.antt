@@ -1,5 +1,5 @@
 -- What is true of a player before its first turn and after its last.
-use Rattle.std.proofs.Common.{arith, ◌≡◌, ℕ, suc, ◌+◌, ◌<◌, ◌≤◌, List, [], ◌∷◌, ◌++◌, length, map, reverse, take, get_or, Option, Some, None, Result, Ok, Err, IfOk, slice_get, All, inl, inr, refl, sym, ◌∙◌, ap, subst}
+use Rattle.std.proofs.Common.{arith, ◌≡◌, ℕ, suc, ◌+◌, ◌<◌, ◌≤◌, List, [], ◌∷◌, ◌++◌, length, map, reverse, take, get_or, Option, Some, None, Result, Ok, Err, IfOk, IfErr, slice_get, All, inl, inr, refl, sym, ◌∙◌, ap, subst}
 use Rattle.std.specs.Prelude.{OnOk}
 use Rattle.std.proofs.lemmas.List.{map_more, reverse-append, reverse-reverse}
 use Rattle.arena.specs.declared.layout.Layout.{Layout}
@@ -98,6 +98,12 @@ counts_one (Ok turn) old new lines i x made =
     let t = made lines x in
     t.between.counted.turned ∙ turn_counted turn.row turn.entry turn.reply lines ∙ ap suc (sym x.counted.turned)
 counts_one (Err e) old new lines i x made = tt
+
+-- behind a turn, or one that was refused, it stands between turns again
+pub stays_between : {E : Type 0} (r : Result Written E) (old new : Interleaving) (lines : List Line) (i : ℕ) → IsBetweenTurns old lines → IfOk r (λ turn. (lines : List Line) → IsBetweenTurns old lines → HasTurned old new lines i turn)
+    → IfErr r (λ _. (lines : List Line) → IsBetweenTurns old lines → IsBetweenTurns new lines) → (lines : List Line) × IsBetweenTurns new lines
+stays_between (Ok turn) old new lines i x made refused = (with_turn turn.row turn.entry turn.reply lines, (made lines x).between)
+stays_between (Err e) old new lines i x made refused = (lines, refused lines x)
 
 -- a turn's lines behind those of a list, the newest first
 pub turned_lines : (list : List Line) (row : Row) (entry : Option Entry) (reply : Option Finished) → reverse (list ++ turn_lines row entry reply) ≡ with_turn row entry reply (reverse list)
