@@ -101,7 +101,7 @@ fn node_part(part: NodeWord) -> &'static str
 
 /// The word of the table that a text names.
 pub fn word_of(text: &str) -> Option<Word>
-    ensures { MatchOption result ((word : WordOf) → IsSpelled word → text.now ≢ word_text word) (λ word. text.now ≡ word_text word) }
+    ensures { MatchOption result ((word : WordOf) → IsSpelled word → text.now ≢ word_text word) (λ word. IsSpelled word × (text.now ≡ word_text word)) }
 {
     let (name, part) = text.split_once('.')?;
     match node_of(name) {
@@ -126,7 +126,7 @@ fn node_part_of(name: &str) -> Option<NodeWord>
 }
 
 fn scx_part_of(name: &str) -> Option<ScxWord>
-    ensures { MatchOption result ((part : ScxWordOf) → IsScxWord part → name.now ≢ scx_part part) (λ part. name.now ≡ scx_part part) }
+    ensures { MatchOption result ((part : ScxWordOf) → IsScxWord part → name.now ≢ scx_part part) (λ part. IsScxWord part × (name.now ≡ scx_part part)) }
 {
     match name {
         "state" => Some(ScxWord::State),
