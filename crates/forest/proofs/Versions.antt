@@ -108,10 +108,10 @@ module _ (was : PassView) (is_pass : was.number < was.layout.passes) (number : �
     -- with what its share had as the call began
     pub full_says : (call : MapCall) (full : FullOf) → RestsWith call_by (run_of was) was.share → HasRunOut call_by (run_of then) call left full → IsFullCall was then call full
     full_says call full rests y = record {
-      needed = had_to_do (run_of was) call y.needed;
+      only_looked = y.only_looked;
+      needed = had_to_do y.only_looked.begin call y.needed;
       short = y.short;
       first = untouched y.first;
-      only_looked = y.only_looked;
       done = none_more y.none;
     }
       where

@@ -121,15 +121,15 @@ pub record IsContendedCall (tries : ℕ) (old new : PassView) (call : MapCall) (
   pub needed : 0 < most_nodes call → HadToDo new lost.lost.begin call
   pub done : done_of new ≡ done_of old
 
--- The share has too little left for the next try of the call, which had something to do: there are
--- not enough nodes for what it needed, or no SCX-record is left. The call has taken nothing of the
--- share, or a try was lost to another pass, which was in the way. The pass has no entry more, and has
--- filled nothing in its newest try.
+-- The share has too little left for the newest try of the call, which had something to do in it:
+-- there are not enough nodes for what it needed there, or some, and no SCX-record. In that try the
+-- pass has filled nothing. The call has taken nothing of the share, or another pass was in the way.
+-- The pass has no entry more.
 pub record IsFullCall (old new : PassView) (call : MapCall) (full : FullOf) : Type 0 where
-  pub needed : HadToDo new (run_of old) call
+  pub only_looked : HasOnlyLooked new.number (run_of new) (run_of old)
+  pub needed : HadToDo new only_looked.begin call
   pub short : HasTooLittle (need call needed.map) new.share full.what full.left
   pub first : (new.share ≡ old.share) ⊎ ((n : ℕ) × (s : ℕ) × IsOthersScx new.layout new.number s × WasInTheWay (run_of new) (run_of old) n s)
-  pub only_looked : HasOnlyLooked new.number (run_of new) (run_of old)
   pub done : done_of new ≡ done_of old
 
 -- why nothing is told by a call that may try so often
