@@ -50,10 +50,10 @@ pub record HasScxLeft (lay : Layout) (c : ℕ) (now : History) (left : ℕ) : Ty
   pub untaken : (s : ℕ) → IsOwnScx lay c s → first_scx lay c + lay.scx ≤ s + left → ¬ IsTakenScx now s
 
 -- The client's share has too little for an update that needs so many nodes and an SCX-record: so
--- many nodes are left, which are too few; or nodes enough are left, and no SCX-record.
+-- many nodes are left, which are too few; or some node is left, and no SCX-record.
 abbrev pub HasTooFew : Layout → ℕ → History → ℕ → Resource → ℕ → Type 0
 HasTooFew lay c now needed Nodes left = (left < needed) × HasNodesLeft lay c now left
-HasTooFew lay c now needed ScxRecords left = (left ≡ 0) × HasScxLeft lay c now left × ((nodes : ℕ) × (needed ≤ nodes) × HasNodesLeft lay c now nodes)
+HasTooFew lay c now needed ScxRecords left = (left ≡ 0) × HasScxLeft lay c now left × ((nodes : ℕ) × (0 < nodes) × HasNodesLeft lay c now nodes)
 
 -- since the call's begin another client's SCX-record was in progress over some node
 abbrev pub WasBlocked : Layout → ℕ → History → History → Type 0
