@@ -4,7 +4,7 @@ use Rattle.arena.specs.declared.fault.Full.{Full as FullOf}
 use Rattle.arena.specs.History.{History, value, Extends}
 use Rattle.arena.specs.Machines.{Call as MachineCall}
 use Rattle.arena.specs.Share.{Remaining}
-use Rattle.arena.proofs.Lemmas.{ends_self, ends_trans}
+use Rattle.arena.proofs.Lemmas.{ends_trans}
 use Rattle.ordered_map.specs.CallRules.{insert_nodes, delete_nodes, pop_nodes, replace_nodes, MayReply, form_of}
 use Rattle.dict.specs.Calls.{AsksForPairs}
 use Rattle.dict.specs.DictKnown.{DictRefuses}
@@ -197,13 +197,13 @@ module _ (v : ClientView) (c : Client) (is_pass : c.pass.0 < v.layout.passes) (w
   insert_full key value share full rests x =
       let old = get key x.needed.map in
       record {
-        right = (old, had_then v.start (ends_self v.start) (Edit (PutEdit key value)) key x.needed, subst (λ n. HasTooFewToTry v.layout c.pass.0 v.past v.start n full.what full.left) (insert_many old) (too_few (Edit (PutEdit key value)) share full rests x (insert_nodes old) x.short));
+        right = (old, had_then x.only_looked.begin x.only_looked.since (Edit (PutEdit key value)) key x.needed, subst (λ n. HasTooFewToTry v.layout c.pass.0 v.past v.start n full.what full.left) (insert_many old) (too_few (Edit (PutEdit key value)) share full rests x (insert_nodes old) x.short));
         entry = entered_none v.won (unwon x.none);
       }
 
   delete_full : (key : ℕ) (share : Remaining) (full : FullOf) → RestsWith call v.past share → HasRunOut call v.past (Edit (TakeEdit key)) share full → IsRightSo (MapOf (DeleteOf key)) (MapAnswer (Full full))
   delete_full key share full rests x =
-      let had = delete_had v.start (ends_self v.start) key x.needed in
+      let had = delete_had x.only_looked.begin x.only_looked.since key x.needed in
       record {
         right = (had.0, had.2, subst (λ o. HasTooFewToTry v.layout c.pass.0 v.past v.start (delete_nodes o) full.what full.left) had.1 (too_few (Edit (TakeEdit key)) share full rests x (delete_nodes (get key x.needed.map)) x.short));
         entry = entered_none v.won (unwon x.none);
@@ -216,7 +216,7 @@ module _ (v : ClientView) (c : Client) (is_pass : c.pass.0 < v.layout.passes) (w
 
   pop_full : (share : Remaining) (full : FullOf) → RestsWith call v.past share → HasRunOut call v.past PopFirst share full → IsRightSo (MapOf PopFirstOf) (MapAnswer (Full full))
   pop_full share full rests x =
-      let had = pop_had v.start (ends_self v.start) x.needed in
+      let had = pop_had x.only_looked.begin x.only_looked.since x.needed in
       record {
         right = (had.0, had.2, subst (λ o. HasTooFewToTry v.layout c.pass.0 v.past v.start (pop_nodes o) full.what full.left) had.1 (too_few PopFirst share full rests x (pop_nodes (first_pair x.needed.map)) x.short));
         entry = entered_none v.won (unwon x.none);
@@ -232,7 +232,7 @@ module _ (v : ClientView) (c : Client) (is_pass : c.pass.0 < v.layout.passes) (w
       let told = get key x.needed.map in
       record {
         right = (
-          replace_had v.start (ends_self v.start) key expected put x.needed,
+          replace_had x.only_looked.begin x.only_looked.since key expected put x.needed,
           subst (λ n. HasTooFewToTry v.layout c.pass.0 v.past v.start n full.what full.left) (value_there expected told x.needed.some).1 (too_few (ReplaceIf key expected put) share full rests x (replace_nodes expected told) x.short),
         );
         entry = entered_none v.won (unwon x.none);
