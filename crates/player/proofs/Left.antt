@@ -30,14 +30,14 @@ module _ (lay : Layout) (h : History) (c : ℕ) (left : Remaining) (share : IsSh
   few_nodes : (needed k : ℕ) → left.nodes < needed → k ≡ left.nodes → HasTooFew lay c h needed Nodes k
   few_nodes needed k i e = rw e (i, nodes_left)
 
-  -- or with as many, and without an SCX-record
-  few_scx : (needed k : ℕ) → needed ≤ left.nodes → left.scx ≡ 0 → k ≡ 0 → HasTooFew lay c h needed ScxRecords k
+  -- or with some, and without an SCX-record
+  few_scx : (needed k : ℕ) → 0 < left.nodes → left.scx ≡ 0 → k ≡ 0 → HasTooFew lay c h needed ScxRecords k
   few_scx needed k i none e = rw e (refl, rw none at scx_left, (left.nodes, i, nodes_left))
 
   -- one that an SCX finds full
   pub full_left : (what : Resource) (k : ℕ) → IsFullOf left what k → HasTooFew lay c h 1 what k
   full_left Nodes k x = few_nodes 1 k (let z = x.0 in omega (arith, z)) (x.1 ∙ sym x.0)
-  full_left ScxRecords k x = few_scx 1 k (let i = x.0 in omega (arith, i)) x.1 x.2
+  full_left ScxRecords k x = few_scx 1 k x.0 x.1 x.2
 
   -- one that an edit finds too small
   pub short_left : (needed : ℕ) (what : Resource) (k : ℕ) → HasTooLittle needed left what k → HasTooFew lay c h needed what k
