@@ -456,14 +456,15 @@ impl Steps {
 }
 
 /// Whether a share with so many nodes and SCX-records left has just so many of the resource, which
-/// is too little for an update that needs so many nodes.
+/// is too little for an update that needs so many nodes. No SCX-record may be told wherever a node
+/// is left: how many nodes a new key needs goes by its leaf, of which no answer tells.
 fn is_too_few(share: (u32, u32), needed: u32, full: (Resource, u32)) -> bool
     ensures { (lay : LayoutOf) (c : ℕ) (h : HistoryOf) → NodesLeft lay c h share.0 → ScxLeft lay c h share.1 → IsTrue result →
         TooFew lay c h needed full.0 full.1 }
 {
     match full {
         (Resource::Nodes, left) => left == share.0 && left < needed,
-        (Resource::Scx, left) => left == 0 && share.1 == 0 && needed <= share.0,
+        (Resource::Scx, left) => left == 0 && share.1 == 0 && 0 < share.0,
     }
 }
 
