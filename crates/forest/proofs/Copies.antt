@@ -16,6 +16,7 @@ use Rattle.arena.proofs.Lemmas.{word_same, word_apart}
 use Rattle.ordered_map.specs.declared.pair.Pair.{Pair}
 use Rattle.ordered_map.specs.TreeWords.{class, rank, IsForkOver, Tree, Leaf, Fork, root, Shows, Has, pairs, leaf_nodes}
 use Rattle.ordered_map.specs.Spelled.{Spells}
+use Rattle.ordered_map.proofs.Lemmas.{SameSettled, same_leaf, same_pairs}
 use Rattle.forest.specs.Copies.{IsMapWord, AreCopied}
 
 -- One word
@@ -97,11 +98,12 @@ module _ (f g : Word → ℕ) (size : ℕ) (same : (n : ℕ) (part : NodeWord) �
   root_has (Leaf n) = refl
   root_has (Fork n a b) = inl refl
 
+  same_settled : (n : ℕ) → n < size → SameSettled f g n
+  same_settled n i (Settled part) s = same n (Settled part) i tt
+  same_settled n i _ s = absurd s
+
   shows_same : (t : Tree) (low high : ℕ) → ((n : ℕ) → Has t n → n < size) → Shows f low high t → Shows g low high t
-  shows_same (Leaf n) low high inside x =
-      let h : g (node n (Settled Head)) ≡ f (node n (Settled Head)) = same n (Settled Head) (inside n refl) tt in
-      let k : g (node n (Settled Key)) ≡ f (node n (Settled Key)) = same n (Settled Key) (inside n refl) tt in
-      record { leaf = rw h x.leaf; small = rw k x.small; from = rw (h, k) x.from; below = rw (h, k) x.below }
+  shows_same (Leaf n) low high inside x = same_leaf f g n low high (same_settled n (inside n refl)) x
   shows_same (Fork n a b) low high inside x =
       let h : g (node n (Settled Head)) ≡ f (node n (Settled Head)) = same n (Settled Head) (inside n (inl refl)) tt in
       let k : g (node n (Settled Key)) ≡ f (node n (Settled Key)) = same n (Settled Key) (inside n (inl refl)) tt in
@@ -121,11 +123,7 @@ module _ (f g : Word → ℕ) (size : ℕ) (same : (n : ℕ) (part : NodeWord) �
       )
 
   pairs_same : (t : Tree) → ((n : ℕ) → Has t n → n < size) → pairs g t ≡ pairs f t
-  pairs_same (Leaf n) inside =
-      let h : g (node n (Settled Head)) ≡ f (node n (Settled Head)) = same n (Settled Head) (inside n refl) tt in
-      let k : g (node n (Settled Key)) ≡ f (node n (Settled Key)) = same n (Settled Key) (inside n refl) tt in
-      let v : g (node n (Settled Value)) ≡ f (node n (Settled Value)) = same n (Settled Value) (inside n refl) tt in
-      rw (h, k, v) refl
+  pairs_same (Leaf n) inside = same_pairs f g n (same_settled n (inside n refl))
   pairs_same (Fork n a b) inside = λ j. pairs_same a (λ m i. inside m (inr (inl i))) j ++ pairs_same b (λ m i. inside m (inr (inr i))) j
 
   class_same : (n v : ℕ) → n < size → class f n ≡ v → class g n ≡ v

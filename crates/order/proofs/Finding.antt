@@ -38,7 +38,7 @@ use Rattle.order.specs.declared.successor.Route.TheVariants.{Along, Beyond}
 use Rattle.order.specs.declared.successor.SuccessorRun.{SuccessorRun}
 use Rattle.order.proofs.Blaming.{first_look}
 use Rattle.order.proofs.Snapping.{hold_before, some_more, reads_one_more, child_there, child_rises, unmarked_then, field_then}
-use Rattle.order.proofs.Searching.{begins_below, goes_left, goes_right, ends_here, ends_behind, first_left, first_small, first_tells, tells_pair, tells_none}
+use Rattle.order.proofs.Searching.{begins_below, goes_left, goes_right, ends_here, ends_behind, first_left, first_tells, tells_pair, tells_none}
 
 -- Sides
 
@@ -363,7 +363,7 @@ module _ (m : SuccessorRun) (c : Call) (h : History) (route : Route) (n key : �
 -- At the leaf of the answer
 
 pub tells_this : (m : SuccessorRun) (c : Call) (h : History) (n key v : ℕ) → HasLeaf m c h n key → value h (node n (Settled ValueWord)) ≡ v → Whenever c.layout h m.snaps.items (λ b. IsNextAt c.layout b m.key (Some (pair key v)))
-tells_this m c h n key v x d b run e hold ps spelled = first_tells b m.key n first c.layout ps leaf spelled ∙ tells_pair (value b) n key v (settled_class (value h) (value b) n same ∙ x.low) is_key (subst (λ j. j < 2 ^ 64) is_key (first_small b m.key n first leaf)) (same (Settled ValueWord) tt ∙ d)
+tells_this m c h n key v x d b run e hold ps spelled = first_tells b m.key n first c.layout ps leaf spelled ∙ tells_pair (value b) n key v (settled_class (value h) (value b) n same ∙ x.low) is_key (same (Settled ValueWord) tt ∙ d)
   where
     first : IsFirstBehind b m.key n
     first = x.first b run e hold

@@ -1,5 +1,5 @@
 -- How the search for the least key above k goes down a tree.
-use Rattle.std.proofs.Common.{◌≡◌, ◌≢◌, ℕ, ◌^◌, ◌<◌, ◌≤◌, true, false, inl, inr, List, refl, sym, ◌∙◌, ap, arith, lt-ltb, le-ltb, Option, Some, None}
+use Rattle.std.proofs.Common.{◌≡◌, ◌≢◌, ℕ, ◌<◌, ◌≤◌, true, false, inl, inr, List, refl, sym, ◌∙◌, ap, lt-ltb, le-ltb, subst, Option, Some, None}
 use Rattle.arena.specs.declared.layout.Layout.{Layout}
 use Rattle.arena.specs.declared.word.NodeWord.TheVariants.{Settled}
 use Rattle.arena.specs.declared.word.SettledPart.TheVariants.{Key, Value}
@@ -8,13 +8,13 @@ use Rattle.arena.specs.declared.word.Word.{Word}
 use Rattle.arena.specs.Words.{node, child}
 use Rattle.arena.specs.History.{History, value}
 use Rattle.ordered_map.specs.declared.pair.Pair.{Pair}
-use Rattle.ordered_map.specs.OrderedMap.{pair, successor}
+use Rattle.ordered_map.specs.OrderedMap.{pair, first_pair, successor}
 use Rattle.ordered_map.specs.Paths.{IsOnPath}
 use Rattle.ordered_map.specs.Spelled.{Spells}
-use Rattle.ordered_map.specs.TreeWords.{Tree, Leaf, Fork, root, Shows, Passes, class, is_leaf, rank}
-use Rattle.ordered_map.proofs.Lemmas.{first, search_next}
+use Rattle.ordered_map.specs.TreeWords.{Tree, Leaf, Fork, root, Shows, Passes, class, is_leaf, rank, leaf_pairs}
+use Rattle.ordered_map.proofs.Lemmas.{first_of, search_items, search_here, search_behind, search_tells, leaf_tells, low_pair, low_pairs, high_pairs, held_one}
 use Rattle.order.specs.Laws.Search.{IsSearched, IsFirstBehind}
-use Rattle.order.proofs.Following.{low_pair, no_leaf, one_tree, search_tells}
+use Rattle.order.proofs.Following.{no_leaf, one_tree}
 
 -- At a fork on the path, with k on the left of it
 
@@ -30,7 +30,7 @@ record Turns (f : Word → ℕ) (k : ℕ) (t : Tree) (n : ℕ) (d : Option Pair)
   right_high : ℕ
   right_shows : Shows f right_low right_high right
   right_is : root right ≡ f (child n Right)
-  finds : search_next f k t d ≡ search_next f k left (Some (first f right))
+  finds : search_items f k t d ≡ search_items f k left (first_of f right)
 
 turns : (f : Word → ℕ) (k : ℕ) (t : Tree) (lo hi n : ℕ) (d : Option Pair) → Shows f lo hi t → Passes f k t n → is_leaf f n ≡ false → k < rank f n → Turns f k t n d
 turns f k (Leaf m) lo hi n d s e fork l = no_leaf f m _ s.leaf (rw (← e) at fork)
@@ -48,7 +48,7 @@ turns f k (Fork m a b) lo hi n d s (inl e) fork l = record {
   finds = rw (lt-ltb k (rank f m) (rw (← e) at l)) refl;
 }
 turns f k (Fork m a b) lo hi n d s (inr (inl q)) fork l =
-    let x : Turns f k a n (Some (first f b)) = turns f k a lo (rank f m) n (Some (first f b)) s.1 q.1 fork l in
+    let x : Turns f k a n (first_of f b) = turns f k a lo (rank f m) n (first_of f b) s.1 q.1 fork l in
     record {
       left = x.left;
       left_low = x.left_low;
@@ -96,7 +96,7 @@ module _ (h : History) (k n right : ℕ) (x : IsSearched h k n right) where
   f = value h
 
   abbrev Finds : Tree → Type 0
-  Finds p = search_next (value h) k x.tree None ≡ search_next (value h) k p (Some (first (value h) x.behind.tree))
+  Finds p = search_items (value h) k x.tree None ≡ search_items (value h) k p (first_of (value h) x.behind.tree)
 
   pub goes_left : is_leaf (value h) n ≡ false → k < rank (value h) n → IsSearched h k (value h (child n Left)) (value h (child n Right))
   goes_left fork l = go x.part.tree x.part.low x.part.high x.part.shows x.part.is x.finds
@@ -134,7 +134,7 @@ module _ (h : History) (k n right : ℕ) (x : IsSearched h k n right) where
         tree = x.tree;
         is_tree = x.is_tree;
         part = record { tree = Leaf m; low = low; high = high; shows = s; is = e };
-        finds = rw (lt-ltb k (rank f m) (rw (← e) at l)) at d;
+        finds = d ∙ search_here f k m (first_of f x.behind.tree) (subst (λ j. k < rank f j) (sym e) l);
       }
 
   -- at a leaf that is not above k
@@ -147,14 +147,14 @@ module _ (h : History) (k n right : ℕ) (x : IsSearched h k n right) where
         tree = x.tree;
         is_tree = x.is_tree;
         part = x.behind;
-        finds = rw (le-ltb k (rank f m) (rw (← e) at l)) at d;
+        finds = d ∙ search_behind f k m (first_of f x.behind.tree) (subst (λ j. rank f j ≤ k) (sym e) l);
       }
 
 -- On the way to the first leaf
 
 module _ (h : History) (k n : ℕ) (x : IsFirstBehind h k n) where
   abbrev Ends : Tree → Type 0
-  Ends p = search_next (value h) k x.tree None ≡ Some (first (value h) p)
+  Ends p = search_items (value h) k x.tree None ≡ first_of (value h) p
 
   pub first_left : is_leaf (value h) n ≡ false → IsFirstBehind h k (value h (child n Left))
   first_left fork = go x.part.tree x.part.low x.part.high x.part.shows x.part.is x.finds
@@ -168,28 +168,18 @@ module _ (h : History) (k n : ℕ) (x : IsFirstBehind h k n) where
         finds = d;
       }
 
-  -- the key of the leaf is below 2 ^ 64
-  pub first_small : is_leaf (value h) n ≡ true → value h (node n (Settled Key)) < 2 ^ 64
-  first_small leaf = go x.part.tree x.part.low x.part.high x.part.shows x.part.is
-    where
-      go : (p : Tree) (low high : ℕ) → Shows (value h) low high p → root p ≡ n → value h (node n (Settled Key)) < 2 ^ 64
-      go (Fork m a b) low high s e = no_leaf (value h) n _ leaf (rw e at s.0.fork)
-      go (Leaf m) low high s e = rw e at s.small
-
   -- the leaf says what the map does
-  pub first_tells : (lay : Layout) (ps : List Pair) → is_leaf (value h) n ≡ true → Spells lay (value h) ps → successor k ps ≡ low_pair (Some (pair (rank (value h) n) (value h (node n (Settled Value)))))
-  first_tells lay ps leaf spelled = search_tells lay (value h) ps k spelled ∙ ap (λ t. low_pair (search_next (value h) k t None)) (one_tree h spelled.tree x.tree spelled.is_tree x.is_tree) ∙ go x.part.tree x.part.low x.part.high x.part.shows x.part.is x.finds
+  pub first_tells : (lay : Layout) (ps : List Pair) → is_leaf (value h) n ≡ true → Spells lay (value h) ps → successor k ps ≡ first_pair (leaf_pairs (value h) n)
+  first_tells lay ps leaf spelled = search_tells lay (value h) ps k spelled ∙ ap (λ t. low_pair (search_items (value h) k t None)) (one_tree h spelled.tree x.tree spelled.is_tree x.is_tree) ∙ go x.part.tree x.part.low x.part.high x.part.shows x.part.is x.finds
     where
-      go : (p : Tree) (low high : ℕ) → Shows (value h) low high p → root p ≡ n → Ends p → low_pair (search_next (value h) k x.tree None) ≡ low_pair (Some (pair (rank (value h) n) (value h (node n (Settled Value)))))
+      go : (p : Tree) (low high : ℕ) → Shows (value h) low high p → root p ≡ n → Ends p → low_pair (search_items (value h) k x.tree None) ≡ first_pair (leaf_pairs (value h) n)
       go (Fork m a b) low high s e d = no_leaf (value h) n _ leaf (rw e at s.0.fork)
-      go (Leaf m) low high s e d = ap low_pair (d ∙ ap (λ j. Some (pair (rank (value h) j) (value h (node j (Settled Value))))) e)
+      go (Leaf m) low high s e d = ap low_pair d ∙ leaf_tells (value h) m low high s ∙ ap (λ j. first_pair (leaf_pairs (value h) j)) e
 
 -- a pair of the map
-pub tells_pair : (f : Word → ℕ) (n key v : ℕ) → class f n ≡ 0 → f (node n (Settled Key)) ≡ key → key < 2 ^ 64 → f (node n (Settled Value)) ≡ v → low_pair (Some (pair (rank f n) (f (node n (Settled Value))))) ≡ Some (pair key v)
-tells_pair f n key v low d small e =
-    let r : rank f n ≡ key = omega (arith, low, d) in
-    rw (r, e) (rw (lt-ltb key (2 ^ 64) small) refl)
+pub tells_pair : (f : Word → ℕ) (n key v : ℕ) → class f n ≡ 0 → f (node n (Settled Key)) ≡ key → f (node n (Settled Value)) ≡ v → first_pair (leaf_pairs f n) ≡ Some (pair key v)
+tells_pair f n key v low d e = ap first_pair (low_pairs f n low ∙ held_one f n) ∙ (λ i. Some (pair (d i) (e i)))
 
 -- and none
-pub tells_none : (f : Word → ℕ) (n : ℕ) → class f n ≢ 0 → low_pair (Some (pair (rank f n) (f (node n (Settled Value))))) ≡ None
-tells_none f n high = rw (le-ltb (rank f n) (2 ^ 64) (omega (arith, high))) refl
+pub tells_none : (f : Word → ℕ) (n : ℕ) → class f n ≢ 0 → first_pair (leaf_pairs f n) ≡ None
+tells_none f n high = ap first_pair (high_pairs f n high)

@@ -1,5 +1,5 @@
 -- How the visits of a range go down a tree, and on from leaf to leaf.
-use Rattle.std.proofs.Common.{◌≡◌, ◌≢◌, ℕ, zero, suc, ◌+◌, ◌-◌, ◌*◌, ◌^◌, ◌<◌, ◌≤◌, Bool, true, false, cond, ◌&&◌, leb, ⊎_elim, le-leb, List, [], ◌∷◌, ◌++◌, length, refl, sym, ◌∙◌, ap, subst, arith, append_assoc, append-nil, eq-eqb, ne_eqb}
+use Rattle.std.proofs.Common.{◌≡◌, ◌≢◌, ℕ, zero, suc, ◌+◌, ◌-◌, ◌*◌, ◌^◌, ◌<◌, ◌≤◌, Bool, true, false, cond, ◌&&◌, leb, ⊎_elim, le-leb, List, [], ◌∷◌, ◌++◌, length, refl, sym, ◌∙◌, ap, subst, arith, append_assoc, append-nil}
 use Rattle.std.specs.Prelude.{take}
 use Rattle.std.proofs.lemmas.Bool.Decides.{leb_tells}
 use native.Mathlib.Decide.{ℕ_discrete}
@@ -15,8 +15,9 @@ use Rattle.ordered_map.specs.declared.pair.Pair.{Pair}
 use Rattle.ordered_map.specs.OrderedMap.{pair, between}
 use Rattle.ordered_map.specs.Spelled.{IsTree, Spells}
 use Rattle.ordered_map.specs.TreeWords.{Tree, Leaf, Fork, root, Shows, class, is_leaf, rank, pairs, leaf_pairs}
+use Rattle.ordered_map.proofs.Lemmas.{open_between, held_one, low_pairs, high_pairs, rank_from, rank_below}
 use Rattle.order.specs.Visits.{Bounds, part_pairs, IsVisiting, HasVisited, IsRangeAt}
-use Rattle.order.proofs.Following.{no_leaf, one_tree, open_part}
+use Rattle.order.proofs.Following.{no_leaf, one_tree}
 
 -- Pairs within bounds
 
@@ -65,27 +66,27 @@ outside_above low high k i = rw (gt_leb k high i) (no_and (leb low k))
 
 -- the pairs of a leaf
 leaf_taken : (f : Word → ℕ) (w : Bounds) (n : ℕ) → class f n ≡ 0 → w.low ≤ f (node n (Settled Key)) → f (node n (Settled Key)) ≤ w.high → between w.low w.high (leaf_pairs f n) ≡ pair (f (node n (Settled Key))) (f (node n (Settled Value))) ∷ []
-leaf_taken f w n z i j = rw (eq-eqb (class f n) 0 z) (rw (inside w.low w.high (f (node n (Settled Key))) i j) refl)
+leaf_taken f w n z i j = ap (between w.low w.high) (low_pairs f n z ∙ held_one f n) ∙ rw (inside w.low w.high (f (node n (Settled Key))) i j) refl
 
 leaf_below : (f : Word → ℕ) (w : Bounds) (n : ℕ) → class f n ≡ 0 → f (node n (Settled Key)) < w.low → between w.low w.high (leaf_pairs f n) ≡ []
-leaf_below f w n z i = rw (eq-eqb (class f n) 0 z) (rw (outside_below w.low w.high (f (node n (Settled Key))) i) refl)
+leaf_below f w n z i = ap (between w.low w.high) (low_pairs f n z ∙ held_one f n) ∙ rw (outside_below w.low w.high (f (node n (Settled Key))) i) refl
 
 leaf_above : (f : Word → ℕ) (w : Bounds) (n : ℕ) → class f n ≡ 0 → w.high < f (node n (Settled Key)) → between w.low w.high (leaf_pairs f n) ≡ []
-leaf_above f w n z i = rw (eq-eqb (class f n) 0 z) (rw (outside_above w.low w.high (f (node n (Settled Key))) i) refl)
+leaf_above f w n z i = ap (between w.low w.high) (low_pairs f n z ∙ held_one f n) ∙ rw (outside_above w.low w.high (f (node n (Settled Key))) i) refl
 
 leaf_high : (f : Word → ℕ) (w : Bounds) (n : ℕ) → class f n ≢ 0 → between w.low w.high (leaf_pairs f n) ≡ []
-leaf_high f w n d = rw (ne_eqb (class f n) 0 d) refl
+leaf_high f w n d = ap (between w.low w.high) (high_pairs f n d)
 
 -- a part above the bounds holds none
 none_above : (f : Word → ℕ) (w : Bounds) (t : Tree) (lo hi : ℕ) → Shows f lo hi t → w.high < lo → between w.low w.high (pairs f t) ≡ []
 none_above f w (Leaf n) lo hi s i = go (ℕ_discrete (class f n) 0)
   where
     go : Dec (class f n ≡ 0) → between w.low w.high (leaf_pairs f n) ≡ []
-    go (yes z) = leaf_above f w n z (let a = s.from in omega (arith, a, i, z))
+    go (yes z) = leaf_above f w n z (let a : lo ≤ rank f n = rank_from f n lo hi s.items in omega (arith, a, i, z))
     go (no d) = leaf_high f w n d
 none_above f w (Fork n a b) lo hi s i =
     let x : between w.low w.high (pairs f a) ≡ [] = none_above f w a lo (rank f n) s.1 i in
-    let l : lo < rank f n = open_part f a lo (rank f n) s.1 in
+    let l : lo < rank f n = open_between f a lo (rank f n) s.1 in
     let y : between w.low w.high (pairs f b) ≡ [] = none_above f w b (rank f n) hi s.2 (omega (arith, i, l)) in
     between_join w.low w.high (pairs f a) (pairs f b) ∙ (λ j. x j ++ y j)
 
@@ -94,10 +95,10 @@ none_below : (f : Word → ℕ) (w : Bounds) (t : Tree) (lo hi : ℕ) → Shows 
 none_below f w (Leaf n) lo hi s i = go (ℕ_discrete (class f n) 0)
   where
     go : Dec (class f n ≡ 0) → between w.low w.high (leaf_pairs f n) ≡ []
-    go (yes z) = leaf_below f w n z (let a = s.below in omega (arith, a, i, z))
+    go (yes z) = leaf_below f w n z (let a : rank f n < hi = rank_below f n lo hi s.items in omega (arith, a, i, z))
     go (no d) = leaf_high f w n d
 none_below f w (Fork n a b) lo hi s i =
-    let l : rank f n < hi = open_part f b (rank f n) hi s.2 in
+    let l : rank f n < hi = open_between f b (rank f n) hi s.2 in
     let x : between w.low w.high (pairs f a) ≡ [] = none_below f w a lo (rank f n) s.1 (omega (arith, i, l)) in
     let y : between w.low w.high (pairs f b) ≡ [] = none_below f w b (rank f n) hi s.2 i in
     between_join w.low w.high (pairs f a) (pairs f b) ∙ (λ j. x j ++ y j)
@@ -133,8 +134,8 @@ module _ (h : History) (w : Bounds) (n : ℕ) (taken : List Pair) (waiting : Lis
         left_is = rw (← e) (sym s.0.left);
         right_is = rw (← e) (sym s.0.right);
         splits = ap (part_pairs h w) q ∙ between_join w.low w.high (pairs (value h) a) (pairs (value h) b);
-        opens = subst (λ k. x.part.low < rank (value h) k) e (open_part (value h) a x.part.low (rank (value h) m) s.1);
-        closes = subst (λ k. rank (value h) k < x.part.high) e (open_part (value h) b (rank (value h) m) x.part.high s.2);
+        opens = subst (λ k. x.part.low < rank (value h) k) e (open_between (value h) a x.part.low (rank (value h) m) s.1);
+        closes = subst (λ k. rank (value h) k < x.part.high) e (open_between (value h) b (rank (value h) m) x.part.high s.2);
       }
 
   module _ (fork : is_leaf (value h) n ≡ false) where
@@ -200,8 +201,8 @@ module _ (h : History) (w : Bounds) (n : ℕ) (taken : List Pair) (waiting : Lis
         go (Fork m a b) q s e = no_leaf (value h) n _ leaf (rw e at s.0.fork)
         go (Leaf m) q s e = record {
           holds = ap (part_pairs h w) q ∙ ap (λ k. between w.low w.high (leaf_pairs (value h) k)) e;
-          from = rw e at s.from;
-          to = rw e at s.below;
+          from = rw e at (rank_from (value h) m x.part.low x.part.high s.items);
+          to = rw e at (rank_below (value h) m x.part.low x.part.high s.items);
           small = rw e at s.small;
         }
 

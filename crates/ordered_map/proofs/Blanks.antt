@@ -19,7 +19,8 @@ use Rattle.ordered_map.specs.Paths.{WasInTree}
 use Rattle.ordered_map.specs.TreeShape.{IsInsert, IsEdit, leaf_place, sibling_place}
 use Rattle.ordered_map.specs.TreeWords.{Has, class, is_leaf, rank, toward, IsBlankAboveKeys}
 use Rattle.ordered_map.specs.Edits.{IsAlike, IsSwap, IsSplit, IsJoin}
-use Rattle.ordered_map.proofs.Moved.{SameSettled, settled_class, settled_leaf}
+use Rattle.ordered_map.proofs.Holding.{SameSettled}
+use Rattle.ordered_map.proofs.Moved.{settled_class, settled_leaf}
 use Rattle.ordered_map.proofs.Pending.{Mine, Pending}
 use Rattle.ordered_map.proofs.Edited.{past, plan_insert, plan_delete, result}
 use Rattle.ordered_map.proofs.Grown.{IsGrown}

@@ -21,18 +21,20 @@ use Rattle.histories.specs.Descriptor.{Descriptor, descriptor, count_in, field_i
 use Rattle.histories.specs.Finalizing.{IsRemoved}
 use Rattle.histories.proofs.Lemmas.{Facts, IsFlagged, IsMarker, UpdateWins, child_node, log_wins, node_stays, some_is_real, update_differs, update_finds, update_flagged, update_held, update_holds, update_in_progress, update_is_first, update_keeps_mark, update_keeps_other, update_keeps_scx, update_won, won_more}
 use Rattle.ordered_map.specs.declared.pair.Pair.{Pair}
-use Rattle.ordered_map.specs.OrderedMap.{MapEdit, Insert, Delete, edit_key, edited, insert, delete, get}
+use Rattle.ordered_map.specs.OrderedMap.{MapEdit, Insert, Delete, edit_key, edited, delete, get, AllAbove}
 use Rattle.ordered_map.proofs.Pending.{Mine, IsMadeBy, Pending, Holds, pending_update}
-use Rattle.ordered_map.proofs.Trees.{items, ends, Replaced, replace, IsLocal, insert_local, delete_local, passes_has, Above}
+use Rattle.ordered_map.proofs.Trees.{items, ends, Replaced, replace, IsLocal, edited_local, passes_has}
 use Rattle.ordered_map.specs.Paths.{IsOnPath, WasOnPath}
 use Rattle.ordered_map.specs.Runs.{map_of_log}
 use Rattle.ordered_map.specs.Spelled.{IsTree}
-use Rattle.ordered_map.specs.TreeShape.{insert_plan, delete_plan, IsEdit, IsInsert, IsDelete, leaf_place, sibling_place, edit_leaf}
+use Rattle.ordered_map.specs.TreeShape.{insert_plan, delete_plan, IsEdit, IsDelete, leaf_place, sibling_place, edit_leaf}
 use Rattle.ordered_map.specs.TreeWords.{Tree, root, Shows, Has, Passes, is_leaf, level, rank, toward, said}
-use Rattle.ordered_map.specs.Edits.{IsAlike, IsSwap, IsSplit, AreBelow, HasFieldsOf}
+use Rattle.ordered_map.specs.Edits.{IsLeafEdit, AreBelow, HasFieldsOf}
+use Rattle.ordered_map.proofs.OnePair.{insert_by, join_by}
 use Rattle.ordered_map.proofs.Local.{Apart, swap, split, join}
 use Rattle.ordered_map.proofs.Searches.{told, told_said, path_child, get_left, get_leaf}
-use Rattle.ordered_map.proofs.Moved.{SameSettled, settled_toward, settled_leaf, settled_level, move_swap, move_split, move_join}
+use Rattle.ordered_map.proofs.Holding.{SameSettled}
+use Rattle.ordered_map.proofs.Moved.{settled_toward, settled_leaf, settled_level, move_leaf_edit, move_join_by}
 use Rattle.ordered_map.proofs.TreeFacts.{TreeFacts, path_now}
 
 pub plan_insert : (p : ℕ) (side : Side) → p ≡ insert_plan side → (field_index_of p ≡ 0) × (side_of p ≡ side) × (plan_finalizes p 0 ≡ false) × (count_of p ≡ 2) × (plan_finalizes p 1 ≡ true)
@@ -42,10 +44,6 @@ plan_insert p Right e = rw e (refl, refl, refl, refl, refl)
 pub plan_delete : (p : ℕ) (side : Side) → p ≡ delete_plan side → (field_index_of p ≡ 0) × (side_of p ≡ side) × (plan_finalizes p 0 ≡ false) × (count_of p ≡ 4) × (plan_finalizes p 1 ≡ true) × (plan_finalizes p 2 ≡ true) × (plan_finalizes p 3 ≡ true)
 plan_delete p Left e = rw e (refl, refl, refl, refl, refl, refl, refl)
 plan_delete p Right e = rw e (refl, refl, refl, refl, refl, refl, refl)
-
-edited_local : (c : MapEdit) → IsLocal (edit_key c) (edited c)
-edited_local (Insert k v) = insert_local k v
-edited_local (Delete k) = delete_local k
 
 weaken : {f g : Word → ℕ} {change : List Pair → List Pair} {Gone Lost Made Born : ℕ → Type 0} {new lo hi : ℕ} {a : Tree} → ((n : ℕ) → Gone n → Lost n) → ((n : ℕ) → Lost n → Gone n) → ((n : ℕ) → Made n → Born n) → Replaced f g change Gone Made new lo hi a → Replaced f g change Lost Born new lo hi a
 weaken to back born x = record { tree = x.tree; shows = x.shows; is = x.is; deep = x.deep; items = x.items; paths = λ j n p. ⊎_elim inl (λ q. inr (to n q)) (x.paths j n p); made = λ n p. ⊎_elim inl (λ q. inr (born n q)) (x.made n p); out = λ n p. x.out n (back n p) }
@@ -188,15 +186,15 @@ module _ (calls : ℕ → MapEdit) (lay : Layout) (h : History) (r : Row) (u : �
   apart_made : (x : ℕ) → IsSpot x → WasOnPath past.before x spot_of → is_leaf (value h) made_of ≡ false → spot_of ≢ made_of
   apart_made x s p e q = born e (rw q at (passes_has (value h) x t.tree spot_of (on_path x s p)))
 
-  -- an insert
-  inserts : (x y : ℕ) → x < 2 ^ 64 → WasOnPath past.before x spot_of → is_leaf (value past.before) spot_of ≡ false → IsInsert past.before u x y → Result (insert x y)
-  inserts x y small p fork e = at_spot x s p small fork (insert x y) (insert_local x y) (edit e.edit)
+  -- a leaf is replaced
+  leaf_edits : (c : MapEdit) → edit_key c < 2 ^ 64 → WasOnPath past.before (edit_key c) spot_of → is_leaf (value past.before) spot_of ≡ false → plan past.before u ≡ insert_plan (toward (value past.before) spot_of (edit_key c)) → old past.before u ≡ member past.before u 1 → IsLeafEdit (value past.before) c (member past.before u 1) made_of → Result (edited c)
+  leaf_edits c small p fork plan_is old_is e = at_spot (edit_key c) s p small fork (edited c) (edited_local c) (edit (move_leaf_edit (value past.before) (value h) c (member past.before u 1) made_of (member_card 1) made_card (λ side. child_card side (value past.before (child made_of side)) refl) past.fields e))
     where
-      plans : (field_index_of (plan past.before u) ≡ 0) × (side_of (plan past.before u) ≡ toward (value past.before) spot_of x) × (plan_finalizes (plan past.before u) 0 ≡ false) × (count_of (plan past.before u) ≡ 2) × (plan_finalizes (plan past.before u) 1 ≡ true)
-      plans = plan_insert (plan past.before u) (toward (value past.before) spot_of x) e.plan
+      plans : (field_index_of (plan past.before u) ≡ 0) × (side_of (plan past.before u) ≡ toward (value past.before) spot_of (edit_key c)) × (plan_finalizes (plan past.before u) 0 ≡ false) × (count_of (plan past.before u) ≡ 2) × (plan_finalizes (plan past.before u) 1 ≡ true)
+      plans = plan_insert (plan past.before u) (toward (value past.before) spot_of (edit_key c)) plan_is
 
-      s : IsSpot x
-      s = record { zero_place = plans.0; at_side = plans.1 ∙ sym (toward_now x); kept_node = plans.2 }
+      s : IsSpot (edit_key c)
+      s = record { zero_place = plans.0; at_side = plans.1 ∙ sym (toward_now (edit_key c)); kept_node = plans.2 }
 
       to_cut : (n : ℕ) → member past.before u 1 ≡ n → IsCut n
       to_cut n q = (1, rw plans.3 (omega arith), plans.4, q)
@@ -210,42 +208,23 @@ module _ (calls : ℕ → MapEdit) (lay : Layout) (h : History) (r : Row) (u : �
           go (suc (suc j)) i e m = absurd (omega arith)
 
       other : member past.before u 1 ≢ made_of
-      other i = update_differs f z (sym made_is ∙ sym i ∙ sym e.old ∙ (λ j. (past.same j).old))
+      other i = update_differs f z (sym made_is ∙ sym i ∙ sym old_is ∙ (λ j. (past.same j).old))
 
-      edit : IsSwap (value past.before) x y (member past.before u 1) made_of ⊎ ((m n : ℕ) × IsSplit (value past.before) x y (member past.before u 1) made_of m n)
-          → (lo hi : ℕ) (c : Tree) → lo ≤ x → x < hi → Shows (value h) lo hi c → root c ≡ old past.before u → ¬ Has c spot_of → Replaced (value h) (value (r ⊳ h)) (insert x y) IsCut Born made_of lo hi c
-      edit (inl w) lo hi c i j g q d =
-          weaken to_cut from_cut (λ n m. inl m) (swap (value h) (value (r ⊳ h)) spot_of (is_apart x s) x y (member past.before u 1) made_of small other
-          (move_swap (value past.before) (value h) x y (member past.before u 1) made_of (member_card 1) made_card w) lo hi c i j g (q ∙ e.old) d)
-      edit (inr w) lo hi c i j g q d =
-          weaken to_cut from_cut born (split (value h) (value (r ⊳ h)) spot_of (is_apart x s) x y (member past.before u 1) made_of w.0 w.1 small
-          (apart_made x s p moved.fork) other
-          (λ i. let a = moved.deep in let b = moved.low in let c : level (value h) (member past.before u 1) ≡ level (value h) w.0 = ap (level (value h)) i in omega (arith, a, b, c))
-          (λ i. let a = moved.deep in let b = moved.high in let c : level (value h) (member past.before u 1) ≡ level (value h) w.1 = ap (level (value h)) i in omega (arith, a, b, c))
-          moved lo hi c i j g (q ∙ e.old) d)
+      deeper : (x : ℕ) → level (value h) made_of ≡ level (value h) (member past.before u 1) → level (value h) x ≡ level (value h) made_of + 1 → member past.before u 1 ≢ x
+      deeper x a b i = let q : level (value h) (member past.before u 1) ≡ level (value h) x = ap (level (value h)) i in omega (arith, a, b, q)
+
+      edit : IsLeafEdit (value h) c (member past.before u 1) made_of
+          → (lo hi : ℕ) (t : Tree) → lo ≤ edit_key c → edit_key c < hi → Shows (value h) lo hi t → root t ≡ old past.before u → ¬ Has t spot_of → Replaced (value h) (value (r ⊳ h)) (edited c) IsCut Born made_of lo hi t
+      edit (inl w) lo hi t i j g q d =
+          weaken to_cut from_cut (λ n m. inl m) (swap (value h) (value (r ⊳ h)) spot_of (is_apart (edit_key c) s) c (member past.before u 1) made_of small other w lo hi t i j g (q ∙ old_is) d)
+      edit (inr w) lo hi t i j g q d =
+          weaken to_cut from_cut born (split (value h) (value (r ⊳ h)) spot_of (is_apart (edit_key c) s) c (member past.before u 1) made_of w.0 w.1 small
+          (apart_made (edit_key c) s p w.2.fork) other (deeper w.0 w.2.deep w.2.low) (deeper w.1 w.2.deep w.2.high) w.2 lo hi t i j g (q ∙ old_is) d)
         where
-          settled : ((x < rank (value past.before) (member past.before u 1)) × IsAlike (value past.before) made_of (member past.before u 1) × (value past.before (child made_of Left) ≡ w.0) × (value past.before (child made_of Right) ≡ w.1))
-              ⊎ ((rank (value past.before) (member past.before u 1) < x) × IsAlike (value past.before) made_of w.0 × (value past.before (child made_of Left) ≡ w.1) × (value past.before (child made_of Right) ≡ w.0))
-              → SameSettled (value past.before) (value h) w.0 × SameSettled (value past.before) (value h) w.1
-          settled (inl q) = (child_card Left w.0 q.2, child_card Right w.1 q.3)
-          settled (inr q) = (child_card Right w.0 q.3, child_card Left w.1 q.2)
-
-          moved : IsSplit (value h) x y (member past.before u 1) made_of w.0 w.1
-          moved = move_split (value past.before) (value h) x y (member past.before u 1) made_of w.0 w.1 (member_card 1) made_card (settled w.2.order).0 (settled w.2.order).1 (past.fields w.2.fork) w.2
-
-          child_of_made : (n k : ℕ) → n ≡ k → (side : Side) × (value h (child made_of side) ≡ k) → (side : Side) × (value h (child made_of side) ≡ n)
-          child_of_made n k m v = (v.0, v.1 ∙ sym m)
-
-          sides : ((x < rank (value h) (member past.before u 1)) × IsAlike (value h) made_of (member past.before u 1) × (value h (child made_of Left) ≡ w.0) × (value h (child made_of Right) ≡ w.1))
-              ⊎ ((rank (value h) (member past.before u 1) < x) × IsAlike (value h) made_of w.0 × (value h (child made_of Left) ≡ w.1) × (value h (child made_of Right) ≡ w.0))
-              → ((side : Side) × (value h (child made_of side) ≡ w.0)) × ((side : Side) × (value h (child made_of side) ≡ w.1))
-          sides (inl q) = ((Left, q.2), (Right, q.3))
-          sides (inr q) = ((Right, q.3), (Left, q.2))
-
           born : (n : ℕ) → (n ≡ made_of) ⊎ ((n ≡ w.0) ⊎ (n ≡ w.1)) → Born n
           born n (inl m) = inl m
-          born n (inr (inl m)) = inr (moved.fork, plans.3, child_of_made n w.0 m (sides moved.order).0, rw m moved.new.leaf)
-          born n (inr (inr m)) = inr (moved.fork, plans.3, child_of_made n w.1 m (sides moved.order).1, rw m moved.copy.leaf)
+          born n (inr (inl m)) = inr (w.2.fork, plans.3, (Left, w.2.left ∙ sym m), rw m w.2.first.leaf)
+          born n (inr (inr m)) = inr (w.2.fork, plans.3, (Right, w.2.right ∙ sym m), rw m w.2.last.leaf)
 
   -- what a delete saw of its nodes still is
   shown_of : (x : ℕ) → plan past.before u ≡ delete_plan (toward (value past.before) spot_of x) → (j : ℕ) → j < 4 → j ≢ 0 → (side : Side) → value h (child (member past.before u j) side) ≡ value past.before (child (member past.before u j) side)
@@ -267,7 +246,7 @@ module _ (calls : ℕ → MapEdit) (lay : Layout) (h : History) (r : Row) (u : �
 
   -- a delete
   deletes : (x : ℕ) (side : Side) → x < 2 ^ 64 → WasOnPath past.before x spot_of → is_leaf (value past.before) spot_of ≡ false → IsDelete past.before u x side → Result (delete x)
-  deletes x side small p fork e = at_spot x s p small fork (delete x) (delete_local x) edit
+  deletes x side small p fork e = at_spot x s p small fork (delete x) (edited_local (Delete x)) edit
     where
       plans : (field_index_of (plan past.before u) ≡ 0) × (side_of (plan past.before u) ≡ toward (value past.before) spot_of x) × (plan_finalizes (plan past.before u) 0 ≡ false) × (count_of (plan past.before u) ≡ 4) × (plan_finalizes (plan past.before u) 1 ≡ true) × (plan_finalizes (plan past.before u) 2 ≡ true) × (plan_finalizes (plan past.before u) 3 ≡ true)
       plans = plan_delete (plan past.before u) (toward (value past.before) spot_of x) e.plan
@@ -339,12 +318,12 @@ module _ (calls : ℕ → MapEdit) (lay : Layout) (h : History) (r : Row) (u : �
 
       edit : (lo hi : ℕ) (c : Tree) → lo ≤ x → x < hi → Shows (value h) lo hi c → root c ≡ old past.before u → ¬ Has c spot_of → Replaced (value h) (value (r ⊳ h)) (delete x) IsCut Born made_of lo hi c
       edit lo hi c i j g q d =
-          weaken gone from_cut (λ n m. inl m) (join (value h) (value (r ⊳ h)) spot_of (is_apart x s) x (member past.before u 1) (member past.before u (leaf_place side)) (member past.before u (sibling_place side)) made_of other (shown_child side (e.fields (saw 1 (omega arith)))).0 (shown_child side (e.fields (saw 1 (omega arith)))).1 (apart_made x s p)
-          (move_join (value past.before) (value h) x (member past.before u 1) (member past.before u (leaf_place side)) (member past.before u (sibling_place side)) made_of (member_card 1) (member_card (leaf_place side)) (member_card (sibling_place side)) made_card e.edit)
+          weaken gone from_cut (λ n m. inl m) (join (value h) (value (r ⊳ h)) spot_of (is_apart x s) (Delete x) (member past.before u 1) (member past.before u (leaf_place side)) (member past.before u (sibling_place side)) made_of other (shown_child side (e.fields (saw 1 (omega arith)))).0 (shown_child side (e.fields (saw 1 (omega arith)))).1 (apart_made x s p)
+          (move_join_by (value past.before) (value h) (Delete x) (member past.before u 1) (member past.before u (leaf_place side)) (member past.before u (sibling_place side)) made_of (member_card 1) (member_card (leaf_place side)) (member_card (sibling_place side)) made_card (join_by (value past.before) x (member past.before u 1) (member past.before u (leaf_place side)) (member past.before u (sibling_place side)) made_of e.edit))
           (sides side) kids lo hi c i j g (q ∙ e.old) d)
 
   edits : (c : MapEdit) → edit_key c < 2 ^ 64 → WasOnPath past.before (edit_key c) spot_of → is_leaf (value past.before) spot_of ≡ false → IsEdit past.before u c → Result (edited c)
-  edits (Insert x y) small p fork e = inserts x y small p fork e
+  edits (Insert x y) small p fork e = leaf_edits (Insert x y) small p fork e.plan e.old (insert_by (value past.before) x y (member past.before u 1) made_of small e.edit)
   edits (Delete x) small p fork e = deletes x (toward (value past.before) (member past.before u 1) x) small p fork e
 
   spot_for : (c : MapEdit) → IsEdit past.before u c → IsSpot (edit_key c)
@@ -363,7 +342,7 @@ module _ (calls : ℕ → MapEdit) (lay : Layout) (h : History) (r : Row) (u : �
   pub content_now : map_of_log calls (log lay (r ⊳ h)) ≡ edited called (map_of_log calls (log lay h))
   content_now = ap (map_of_log calls) (log_wins f z)
 
-  above_ends : Above (edit_key called) ends
+  above_ends : AllAbove (edit_key called) ends
   above_ends = let s = past.allowed.small in (omega (arith, s), (omega (arith, s), tt))
 
   items_now : items (value (r ⊳ h)) result.tree ≡ map_of_log calls (log lay (r ⊳ h)) ++ ends
@@ -498,12 +477,12 @@ module _ (calls : ℕ → MapEdit) (lay : Layout) (h : History) (r : Row) (u : �
   IsAsDeep : ℕ → Type 0
   IsAsDeep n = (k : ℕ) × IsCut k × (level (value h) n ≤ suc (level (value h) k))
 
-  insert_levels : (x y : ℕ) → IsInsert past.before u x y → (n : ℕ) → Born n → IsAsDeep n
+  leaf_levels : (c : MapEdit) → plan past.before u ≡ insert_plan (toward (value past.before) spot_of (edit_key c)) → IsLeafEdit (value past.before) c (member past.before u 1) made_of → (n : ℕ) → Born n → IsAsDeep n
   unfolding IsAsDeep
-  insert_levels x y e n b = (member past.before u 1, (1, rw plans.3 (omega arith), plans.4, refl), deep e.edit b)
+  leaf_levels c plan_is e n b = (member past.before u 1, (1, rw plans.3 (omega arith), plans.4, refl), deep e b)
     where
-      plans : (field_index_of (plan past.before u) ≡ 0) × (side_of (plan past.before u) ≡ toward (value past.before) spot_of x) × (plan_finalizes (plan past.before u) 0 ≡ false) × (count_of (plan past.before u) ≡ 2) × (plan_finalizes (plan past.before u) 1 ≡ true)
-      plans = plan_insert (plan past.before u) (toward (value past.before) spot_of x) e.plan
+      plans : (field_index_of (plan past.before u) ≡ 0) × (side_of (plan past.before u) ≡ toward (value past.before) spot_of (edit_key c)) × (plan_finalizes (plan past.before u) 0 ≡ false) × (count_of (plan past.before u) ≡ 2) × (plan_finalizes (plan past.before u) 1 ≡ true)
+      plans = plan_insert (plan past.before u) (toward (value past.before) spot_of (edit_key c)) plan_is
 
       lv : (k : ℕ) → Mine past.before u k → level (value h) k ≡ level (value past.before) k
       lv k m = settled_level (value past.before) (value h) k (card k m)
@@ -514,31 +493,24 @@ module _ (calls : ℕ → MapEdit) (lay : Layout) (h : History) (r : Row) (u : �
       ll : level (value h) (member past.before u 1) ≡ level (value past.before) (member past.before u 1)
       ll = lv (member past.before u 1) (inr (inr (1, refl)))
 
-      deep : IsSwap (value past.before) x y (member past.before u 1) made_of ⊎ ((m k : ℕ) × IsSplit (value past.before) x y (member past.before u 1) made_of m k) → Born n → level (value h) n ≤ suc (level (value h) (member past.before u 1))
-      deep (inl w) (inl m) = let a : level (value h) n ≡ level (value h) made_of = ap (level (value h)) m in let d = w.deep in omega (arith, a, lm, ll, d)
-      deep (inr w) (inl m) = let a : level (value h) n ≡ level (value h) made_of = ap (level (value h)) m in let d = w.2.deep in omega (arith, a, lm, ll, d)
+      top : level (value past.before) made_of ≡ level (value past.before) (member past.before u 1) → n ≡ made_of → level (value h) n ≤ suc (level (value h) (member past.before u 1))
+      top d m = let a : level (value h) n ≡ level (value h) made_of = ap (level (value h)) m in omega (arith, a, lm, ll, d)
+
+      deep : IsLeafEdit (value past.before) c (member past.before u 1) made_of → Born n → level (value h) n ≤ suc (level (value h) (member past.before u 1))
+      deep (inl w) (inl m) = top w.deep m
+      deep (inr w) (inl m) = top w.2.deep m
       deep (inl w) (inr m) = absurd (let q : true ≡ false = sym w.new.leaf ∙ sym (settled_leaf (value past.before) (value h) made_of made_card) ∙ m.0 in cc)
-      deep (inr w) (inr m) = below w.2.order m.2.0 (sym (past.fields w.2.fork m.2.0) ∙ m.2.1)
+      deep (inr w) (inr m) = below m.2.0 (sym (past.fields w.2.fork m.2.0) ∙ m.2.1)
         where
-          is_x : n ≡ w.0 → (side : Side) → value past.before (child made_of side) ≡ n → level (value h) n ≤ suc (level (value h) (member past.before u 1))
-          is_x q side c =
-              let a : level (value h) n ≡ level (value past.before) n = lv n (inr (inl (side, c))) in
-              let b : level (value past.before) n ≡ level (value past.before) w.0 = ap (level (value past.before)) q in
-              let d = w.2.deep in let l = w.2.low in omega (arith, a, b, d, l, ll)
+          is_child : (x : ℕ) (side : Side) → level (value past.before) x ≡ level (value past.before) made_of + 1 → value past.before (child made_of side) ≡ x → value past.before (child made_of side) ≡ n → level (value h) n ≤ suc (level (value h) (member past.before u 1))
+          is_child x side l i j =
+              let a : level (value h) n ≡ level (value past.before) n = lv n (inr (inl (side, j))) in
+              let b : level (value past.before) n ≡ level (value past.before) x = ap (level (value past.before)) (sym j ∙ i) in
+              let d = w.2.deep in omega (arith, a, b, d, l, ll)
 
-          is_y : n ≡ w.1 → (side : Side) → value past.before (child made_of side) ≡ n → level (value h) n ≤ suc (level (value h) (member past.before u 1))
-          is_y q side c =
-              let a : level (value h) n ≡ level (value past.before) n = lv n (inr (inl (side, c))) in
-              let b : level (value past.before) n ≡ level (value past.before) w.1 = ap (level (value past.before)) q in
-              let d = w.2.deep in let l = w.2.high in omega (arith, a, b, d, l, ll)
-
-          below : ((x < rank (value past.before) (member past.before u 1)) × IsAlike (value past.before) made_of (member past.before u 1) × (value past.before (child made_of Left) ≡ w.0) × (value past.before (child made_of Right) ≡ w.1))
-              ⊎ ((rank (value past.before) (member past.before u 1) < x) × IsAlike (value past.before) made_of w.0 × (value past.before (child made_of Left) ≡ w.1) × (value past.before (child made_of Right) ≡ w.0))
-              → (side : Side) → value past.before (child made_of side) ≡ n → level (value h) n ≤ suc (level (value h) (member past.before u 1))
-          below (inl o) Left c = is_x (sym c ∙ o.2) Left c
-          below (inl o) Right c = is_y (sym c ∙ o.3) Right c
-          below (inr o) Left c = is_y (sym c ∙ o.2) Left c
-          below (inr o) Right c = is_x (sym c ∙ o.3) Right c
+          below : (side : Side) → value past.before (child made_of side) ≡ n → level (value h) n ≤ suc (level (value h) (member past.before u 1))
+          below Left j = is_child w.0 Left w.2.low w.2.left j
+          below Right j = is_child w.1 Right w.2.high w.2.right j
 
   delete_levels : (x : ℕ) (side : Side) → IsDelete past.before u x side → (n : ℕ) → Born n → IsAsDeep n
   unfolding IsAsDeep
@@ -560,13 +532,13 @@ module _ (calls : ℕ → MapEdit) (lay : Layout) (h : History) (r : Row) (u : �
           let q : level (value past.before) made_of ≡ level (value past.before) (member past.before u (sibling_place side)) = ap (λ v. v / 8) e.edit.same_head in
           omega (arith, a, c, d, q)
 
-  levels_of : (c : MapEdit) → IsEdit past.before u c → (n : ℕ) → Born n → IsAsDeep n
-  levels_of (Insert x y) e = insert_levels x y e
-  levels_of (Delete x) e = delete_levels x (toward (value past.before) (member past.before u 1) x) e
+  levels_of : (c : MapEdit) → edit_key c < 2 ^ 64 → IsEdit past.before u c → (n : ℕ) → Born n → IsAsDeep n
+  levels_of (Insert x y) small e = leaf_levels (Insert x y) e.plan (insert_by (value past.before) x y (member past.before u 1) made_of small e.edit)
+  levels_of (Delete x) small e = delete_levels x (toward (value past.before) (member past.before u 1) x) e
 
   pub born_level : (n : ℕ) → Born n → (k : ℕ) × IsCut k × (level (value h) n ≤ suc (level (value h) k))
   unfolding IsAsDeep
-  born_level n b = levels_of called past.allowed.edit n b
+  born_level n b = levels_of called past.allowed.small past.allowed.edit n b
 
   -- its new node stands in the tree now
   pub new_in : Has result.tree (new h u)

@@ -1,11 +1,10 @@
 -- The first leaf of a tree: it stands on the path of 0, below which there is no key.
-use Rattle.std.proofs.Common.{◌≡◌, ◌≢◌, ℕ, ◌^◌, ◌<◌, ◌≤◌, true, false, cond, lt-ltb, eq-eqb, ne_eqb, inl, inr, List, [], ◌∷◌, ◌++◌, refl, sym, ◌∙◌, ap, arith, append_assoc, append-nil}
-use Rattle.std.specs.Prelude.{Some, None}
+use Rattle.std.proofs.Common.{◌≡◌, ◌≢◌, ℕ, ◌^◌, ◌<◌, ◌≤◌, true, false, lt-ltb, ne_eqb, inl, inr, List, [], ◌∷◌, ◌++◌, refl, sym, ◌∙◌, ap, arith, append_assoc, append-nil, subst}
 use native.Mathlib.Decide.{ℕ_discrete}
 use Rattle.arena.specs.declared.layout.Layout.{Layout}
 use Rattle.arena.specs.declared.word.Side.TheVariants.{Left}
 use Rattle.arena.specs.declared.word.NodeWord.TheVariants.{Settled, Child}
-use Rattle.arena.specs.declared.word.SettledPart.TheVariants.{Key, Value}
+use Rattle.arena.specs.declared.word.SettledPart.TheVariants.{Key}
 use Rattle.arena.specs.declared.word.Word.{Word}
 use Rattle.arena.specs.Words.{node, child}
 use Rattle.arena.specs.declared.step.Row.{Row}
@@ -15,24 +14,22 @@ use Rattle.arena.specs.Log.{log, is_final}
 use Rattle.arena.proofs.Lemmas.{ends_self}
 use Rattle.histories.proofs.Lemmas.{node_since, win_not_final}
 use Rattle.ordered_map.specs.declared.pair.Pair.{Pair}
-use Rattle.ordered_map.specs.OrderedMap.{MapEdit, pair, first_pair}
+use Rattle.ordered_map.specs.OrderedMap.{MapEdit, pair, first_pair, AllBelow, IsRising}
+use Rattle.ordered_map.specs.Holding.{held_pairs, IsWellCounted}
 use Rattle.ordered_map.specs.Paths.{IsOnPath, Passed, WasOnPath, IsFirstAt}
 use Rattle.ordered_map.specs.Runs.{IsTreeRun, Makes}
 use Rattle.ordered_map.specs.Spelled.{Spells}
-use Rattle.ordered_map.specs.TreeWords.{Tree, Leaf, Fork, root, Shows, Has, Passes, class, is_leaf, rank, toward, pairs, leaf_pairs, first_said}
-use Rattle.ordered_map.proofs.Trees.{within, passes_has, has_root}
+use Rattle.ordered_map.specs.TreeWords.{Tree, Leaf, Fork, root, IsLeaf, Shows, Has, Passes, class, is_leaf, rank, toward, pairs, leaf_pairs, first_said}
+use Rattle.ordered_map.proofs.Trees.{open_between, shown_leaf, passes_has, has_root}
 use Rattle.ordered_map.specs.TreeShape.{edit_leaf}
-use Rattle.ordered_map.proofs.Moved.{SameSettled, settled_rank, settled_leaf, settled_first}
+use Rattle.ordered_map.proofs.Holding.{SameSettled, same_leaf, low_items, rank_from, rank_below, held_first, low_pairs, high_pairs, first_says}
+use Rattle.ordered_map.proofs.Moved.{settled_rank, settled_leaf, settled_first}
 use Rattle.ordered_map.proofs.TreeFacts.{path_now, all_named}
 use Rattle.ordered_map.proofs.Past.{path_named, Latest, latest, path_level}
 use Rattle.ordered_map.proofs.Meanings.{edits_of, grown, run_spells, run_since, wins_of, leaf_covered}
 use Rattle.ordered_map.proofs.TreeRuns.{path_remains}
 
 -- In a tree
-
--- a tree has a leaf between its bounds
-open_between : (f : Word → ℕ) (t : Tree) (lo hi : ℕ) → Shows f lo hi t → lo < hi
-open_between f t lo hi s = let w = within f t lo hi s in omega (arith, w.0, w.1)
 
 -- its forks are above the lower bound
 fork_above : (f : Word → ℕ) (t : Tree) (lo hi n : ℕ) → Shows f lo hi t → Has t n → is_leaf f n ≡ false → lo < rank f n
@@ -46,20 +43,13 @@ fork_above f (Fork m a b) lo hi n s (inr (inr q)) d =
 
 -- and all its nodes below the upper one
 node_below : (f : Word → ℕ) (t : Tree) (lo hi n : ℕ) → Shows f lo hi t → Has t n → rank f n < hi
-node_below f (Leaf m) lo hi n s e = rw (← e) s.below
+node_below f (Leaf m) lo hi n s e = rw (← e) (rank_below f m lo hi s.items)
 node_below f (Fork m a b) lo hi n s (inl e) = rw (← e) (open_between f b (rank f m) hi s.2)
 node_below f (Fork m a b) lo hi n s (inr (inl q)) =
     let x : rank f n < rank f m = node_below f a lo (rank f m) n s.1 q in
     let y : rank f m < hi = open_between f b (rank f m) hi s.2 in
     omega (arith, x, y)
 node_below f (Fork m a b) lo hi n s (inr (inr q)) = node_below f b (rank f m) hi n s.2 q
-
--- the keys of its leaves are below 2 ^ 64
-leaf_small : (f : Word → ℕ) (t : Tree) (lo hi n : ℕ) → Shows f lo hi t → Has t n → is_leaf f n ≡ true → f (node n (Settled Key)) < 2 ^ 64
-leaf_small f (Leaf m) lo hi n s e d = rw (← e) s.small
-leaf_small f (Fork m a b) lo hi n s (inl e) d = absurd (let x : true ≡ false = sym d ∙ rw (← e) s.0.fork in cc)
-leaf_small f (Fork m a b) lo hi n s (inr (inl q)) d = leaf_small f a lo (rank f m) n s.1 q d
-leaf_small f (Fork m a b) lo hi n s (inr (inr q)) d = leaf_small f b (rank f m) hi n s.2 q d
 
 -- what stands on the left of a fork comes before it
 left_below : (f : Word → ℕ) (t : Tree) (lo hi n : ℕ) → Shows f lo hi t → Has t n → is_leaf f n ≡ false → rank f (f (child n Left)) < rank f n
@@ -95,7 +85,7 @@ leaf_first f (Fork m a b) lo hi n s (inr (inr q)) d = absurd (never_right f a lo
 -- above all keys there is no pair
 no_pairs : (f : Word → ℕ) (t : Tree) (lo hi : ℕ) → Shows f lo hi t → 2 ^ 64 ≤ lo → pairs f t ≡ []
 no_pairs f (Leaf m) lo hi s u =
-    let high : class f m ≢ 0 = λ z. let a = s.small in let b = s.from in omega (arith, a, b, z, u) in
+    let high : class f m ≢ 0 = λ z. let a = s.small in let b : lo ≤ rank f m = rank_from f m lo hi s.items in omega (arith, a, b, z, u) in
     rw (ne_eqb (class f m) 0 high) refl
 no_pairs f (Fork m a b) lo hi s u =
     let x : lo < rank f m = open_between f a lo (rank f m) s.1 in
@@ -119,11 +109,12 @@ pairs_first : (f : Word → ℕ) (t : Tree) (lo hi n : ℕ) → Shows f lo hi t 
 pairs_first f t lo hi n s p d = go (ℕ_discrete (class f n) 0)
   where
     go : Dec (class f n ≡ 0) → first_pair (pairs f t) ≡ first_said f n
-    go (no high) = ap first_pair (none_first f t lo hi n s p d high) ∙ sym (ap (λ b. cond b (Some (pair (f (node n (Settled Key))) (f (node n (Settled Value))))) None) (ne_eqb (class f n) 0 high))
+    go (no high) = ap first_pair (none_first f t lo hi n s p d high) ∙ sym (first_says f n ∙ ap first_pair (high_pairs f n high))
     go (yes low) =
         let x : (rest : List Pair) × (pairs f t ≡ leaf_pairs f n ++ rest) = leaf_first f t lo hi n s p d in
-        let held : leaf_pairs f n ≡ pair (f (node n (Settled Key))) (f (node n (Settled Value))) ∷ [] = ap (λ b. cond b (pair (f (node n (Settled Key))) (f (node n (Settled Value))) ∷ []) []) (eq-eqb (class f n) 0 low) in
-        ap first_pair (x.1 ∙ ap (λ ps. ps ++ x.0) held) ∙ sym (ap (λ b. cond b (Some (pair (f (node n (Settled Key))) (f (node n (Settled Value))))) None) (eq-eqb (class f n) 0 low))
+        let y = held_first f n in
+        let held : leaf_pairs f n ≡ pair (f (node n (Settled Key))) y.value ∷ y.rest = low_pairs f n low ∙ y.is in
+        ap first_pair (x.1 ∙ ap (λ ps. ps ++ x.0) held) ∙ sym (first_says f n ∙ ap first_pair held)
 
 -- In a run
 
@@ -146,13 +137,25 @@ walk_before lay h start k n g p fork =
     let c : value h (child n Left) ≡ value m (child n Left) = x.same (Child Left) tt in
     rw (c, settled_rank (value m) (value h) (value m (child n Left)) there, settled_rank (value m) (value h) n same) y
 
--- the key of a leaf that was passed is below 2 ^ 64
-pub walk_small : (lay : Layout) (h start : History) (k n : ℕ) → IsTreeRun lay h → Passed h start k n → is_leaf (value h) n ≡ true → value h (node n (Settled Key)) < 2 ^ 64
-walk_small lay h start k n g p leaf =
+-- a leaf that was passed has its items between some bounds
+walk_shown : (lay : Layout) (h start : History) (k n : ℕ) → IsTreeRun lay h → Passed h start k n → is_leaf (value h) n ≡ true → (low high : ℕ) × IsLeaf (value h) n low high
+walk_shown lay h start k n g p leaf =
     let same : SameSettled (value p.0) (value h) n = same_since lay h start k n g p in
     let tree = p.3 in
-    let x : value p.0 (node n (Settled Key)) < 2 ^ 64 = leaf_small (value p.0) tree.tree _ _ n tree.is_tree.shows (passes_has (value p.0) k tree.tree n tree.passes) (sym (settled_leaf (value p.0) (value h) n same) ∙ leaf) in
-    rw (same (Settled Key) tt) x
+    let x = shown_leaf (value p.0) tree.tree _ _ n tree.is_tree.shows (passes_has (value p.0) k tree.tree n tree.passes) (sym (settled_leaf (value p.0) (value h) n same) ∙ leaf) in
+    (x.0, x.1, same_leaf (value p.0) (value h) n x.0 x.1 same x.2)
+
+-- so its key is below 2 ^ 64
+pub walk_small : (lay : Layout) (h start : History) (k n : ℕ) → IsTreeRun lay h → Passed h start k n → is_leaf (value h) n ≡ true → value h (node n (Settled Key)) < 2 ^ 64
+walk_small lay h start k n g p leaf = (walk_shown lay h start k n g p leaf).2.small
+
+-- and, if it is of class 0, the keys of all its pairs are, and rise; and they are as many as a leaf
+-- may hold
+pub walk_holds : (lay : Layout) (h start : History) (k n : ℕ) → IsTreeRun lay h → Passed h start k n → is_leaf (value h) n ≡ true → class (value h) n ≡ 0 → IsWellCounted (value h) n × AllBelow (2 ^ 64) (held_pairs (value h) n) × IsRising (held_pairs (value h) n)
+walk_holds lay h start k n g p leaf low =
+    let x = walk_shown lay h start k n g p leaf in
+    let y = x.2.items in
+    ((y.keys low).0, (y.keys low).1, subst IsRising (low_items (value h) n low) y.rising)
 
 -- a search for the least key goes left at each fork
 pub walk_left : (lay : Layout) (h start : History) (n : ℕ) → IsTreeRun lay h → Passed h start 0 n → is_leaf (value h) n ≡ false → toward (value h) n 0 ≡ Left

@@ -1,5 +1,8 @@
+mod Lists
+mod Holding
 mod Trees
 mod Local
+mod OnePair
 mod Searches
 mod Next
 mod Pending
@@ -10,6 +13,7 @@ mod Grown
 mod Past
 mod Inside
 mod Growing
+mod NextPairs
 mod Runs
 mod Meanings
 mod Stood

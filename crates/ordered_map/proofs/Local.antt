@@ -1,27 +1,32 @@
--- What each edit makes of the subtree that it replaces.
-use Rattle.std.proofs.Common.{◌≡◌, ◌≢◌, ℕ, ◌+◌, ◌*◌, ◌/◌, ◌%◌, ◌^◌, ◌<◌, ◌≤◌, true, false, ◌⊎◌, inl, inr, ⊎_elim, [], ◌∷◌, ◌++◌, refl, sym, ◌∙◌, ap, arith, eqb, ltb, lt-ltb, le-ltb, eq-eqb, ne_eqb, subst, append-nil}
+-- What each edit makes of the subtree that it replaces, whatever its leaves hold.
+use Rattle.std.proofs.Common.{◌≡◌, ◌≢◌, ℕ, ◌+◌, ◌*◌, ◌/◌, ◌%◌, ◌^◌, ◌<◌, ◌≤◌, Bool, true, false, cond, ◌⊎◌, inl, inr, ⊎_elim, List, [], ◌∷◌, ◌++◌, refl, sym, ◌∙◌, ap, arith, eqb, ltb, subst, append-nil}
+use Rattle.std.proofs.lemmas.Bool.{eqb-true}
+use native.Mathlib.Decide.{ℕ_discrete}
 use Rattle.arena.specs.declared.word.Side.{Side}
 use Rattle.arena.specs.declared.word.Side.TheVariants.{Left, Right}
 use Rattle.arena.specs.declared.word.NodeWord.TheVariants.{Settled, Child}
 use Rattle.arena.specs.declared.word.SettledPart.{SettledPart}
-use Rattle.arena.specs.declared.word.SettledPart.TheVariants.{Head, Key, Value}
+use Rattle.arena.specs.declared.word.SettledPart.TheVariants.{Head, Key}
 use Rattle.arena.specs.declared.word.Word.{Word}
 use Rattle.arena.specs.Words.{node, child}
-use Rattle.ordered_map.specs.OrderedMap.{pair, insert, delete}
-use Rattle.ordered_map.proofs.Trees.{items, Replaced, Same, wider, frame, frame_items, frame_path, items_below, delete_local, apart, not_below}
-use Rattle.ordered_map.specs.TreeWords.{class, is_leaf, level, rank, Tree, Leaf, Fork, root, IsLeaf, IsForkOver, Shows, Has, Passes}
-use Rattle.ordered_map.specs.Edits.{IsAlike, IsSwap, IsSplit, IsJoin, AreBelow, HasFieldsOf}
-
-pub alike_rank : (f : Word → ℕ) (n m : ℕ) → IsAlike f n m → rank f n ≡ rank f m
-alike_rank f n m e = λ i. e.class i * 2 ^ 64 + e.key i
-
-pub pair_rank : (f : Word → ℕ) (n k : ℕ) → class f n ≡ 0 → f (node n (Settled Key)) ≡ k → rank f n ≡ k
-pair_rank f n k c e = omega (arith, c, e)
+use Rattle.ordered_map.specs.declared.pair.Pair.{Pair}
+use Rattle.ordered_map.specs.OrderedMap.{pair, insert, MapEdit, Insert, Delete, edit_key, edited, delete, AllBelow, AllFrom, IsRising}
+use Rattle.ordered_map.specs.Holding.{held_pairs, IsWellCounted}
+use Rattle.ordered_map.specs.TreeWords.{class, is_leaf, level, rank, leaf_items, Tree, Leaf, Fork, root, HasItems, IsLeaf, IsForkOver, Shows, Has, Passes}
+use Rattle.ordered_map.specs.Edits.{IsSwapBy, IsSplitBy, IsJoinBy, AreBelow, HasFieldsOf}
+use Rattle.ordered_map.proofs.Lists.{edited_from, edited_below, from_left, below_right, rising_left, rising_right}
+use Rattle.ordered_map.proofs.Maps.{edited_rises}
+use Rattle.ordered_map.proofs.Holding.{SameSettled, held_first, rank_from, rank_below, same_leaf, same_items, low_items, high_items, key_small}
+use Rattle.ordered_map.proofs.Trees.{items, Replaced, Same, wider, frame, frame_items, frame_path, items_above, items_below, open_between, edited_local, apart, not_below}
 
 -- Field words of the node p alone differ between f and g.
 pub record Apart (f g : Word → ℕ) (p : ℕ) : Type 0 where
   pub settled : (n : ℕ) (part : SettledPart) → g (node n (Settled part)) ≡ f (node n (Settled part))
   pub field : (n : ℕ) (side : Side) → p ≢ n → g (child n side) ≡ f (child n side)
+
+apart_settled : (f g : Word → ℕ) (p : ℕ) → Apart f g p → (n : ℕ) → SameSettled f g n
+apart_settled f g p e n (Settled part) i = e.settled n part
+apart_settled f g p e n _ i = absurd i
 
 apart_rank : (f g : Word → ℕ) (p : ℕ) → Apart f g p → (n : ℕ) → rank g n ≡ rank f n
 apart_rank f g p e n = λ i. e.settled n Head i % 4 * 2 ^ 64 + e.settled n Key i
@@ -37,173 +42,205 @@ apart_same f g p e n d (Settled part) i = e.settled n part
 apart_same f g p e n d (Child side) i = e.field n side d
 apart_same f g p e n d _ i = absurd i
 
-insert_here : (k v w : ℕ) → insert k v (pair k w ∷ []) ≡ pair k v ∷ []
-insert_here k v w =
-    let a : ltb k k ≡ false = le-ltb k k (omega arith) in
-    let b : eqb k k ≡ true = eq-eqb k k refl in
-    rw (a, b) refl
-
-put_before : (k v r w : ℕ) → k < r → insert k v (pair r w ∷ []) ≡ pair k v ∷ pair r w ∷ []
-put_before k v r w l = rw (lt-ltb k r l) refl
-
-put_behind : (k v r w : ℕ) → r < k → insert k v (pair r w ∷ []) ≡ pair r w ∷ pair k v ∷ []
-put_behind k v r w l =
-    let a : ltb k r ≡ false = le-ltb k r (omega arith) in
-    let b : eqb k r ≡ false = ne_eqb k r (λ e. omega arith) in
-    rw (a, b) refl
+-- an edit that leaves nothing of a list with a pair takes out this one
+emptied_key : (e : MapEdit) (p : Pair) (ps : List Pair) → edited e (p ∷ ps) ≡ [] → edit_key e ≡ p.key
+emptied_key (Delete k) p ps none = go (eqb k p.key) refl none
+  where
+    go : (b : Bool) → eqb k p.key ≡ b → cond b ps (p ∷ delete k ps) ≡ [] → k ≡ p.key
+    go true is x = eqb-true k p.key is
+    go false is x = absurd (let z : p ∷ delete k ps ≡ [] = x in cc)
+emptied_key (Insert k v) p ps none = go (ltb k p.key) (eqb k p.key) none
+  where
+    go : (b c : Bool) → cond b (pair k v ∷ p ∷ ps) (cond c (pair k v ∷ ps) (p ∷ insert k v ps)) ≡ [] → k ≡ p.key
+    go true c x = absurd (let z : pair k v ∷ p ∷ ps ≡ [] = x in cc)
+    go false true x = absurd (let z : pair k v ∷ ps ≡ [] = x in cc)
+    go false false x = absurd (let z : p ∷ insert k v ps ≡ [] = x in cc)
 
 module _ (f g : Word → ℕ) (p : ℕ) (e : Apart f g p) where
-  leaf_now : (n lo hi : ℕ) → is_leaf f n ≡ true → f (node n (Settled Key)) < 2 ^ 64 → lo ≤ rank f n → rank f n < hi → IsLeaf g n lo hi
-  leaf_now n lo hi l s a b =
-      let r : rank g n ≡ rank f n = apart_rank f g p e n in
-      record { leaf = apart_leaf f g p e n ∙ l; small = rw (e.settled n Key) s; from = omega (arith, r); below = omega (arith, r) }
+  same : (n : ℕ) → SameSettled f g n
+  same n = apart_settled f g p e n
 
-  item_now : (n : ℕ) → pair (rank g n) (g (node n (Settled Value))) ≡ pair (rank f n) (f (node n (Settled Value)))
-  item_now n = λ i. pair (apart_rank f g p e n i) (e.settled n Value i)
-
-  -- a present key
-  pub swap : (k v l c : ℕ) → k < 2 ^ 64 → l ≢ c → IsSwap f k v l c → (lo hi : ℕ) (a : Tree) → lo ≤ k → k < hi → Shows f lo hi a → root a ≡ l → ¬ Has a p → Replaced f g (insert k v) (λ n. l ≡ n) (λ n. n ≡ c) c lo hi a
-  swap k v l c small ne s lo hi (Fork n a b) x y t q d = absurd (let z : true ≡ false = sym s.leaf ∙ rw q at t.0.fork in cc)
-  swap k v l c small ne s lo hi (Leaf n) x y t q d =
-      let r : rank f c ≡ k = pair_rank f c k s.new.class s.new.key in
-      let rl : rank f l ≡ k = pair_rank f l k s.class s.key in
-      let rn : rank f n ≡ k = rw q rl in
-      record {
-        tree = Leaf c;
-        shows = leaf_now c lo hi s.new.leaf (rw s.new.key small) (omega arith) (omega arith);
-        is = refl;
-        deep = let z : level g c ≡ level f c = apart_level f g p e c in let y : level f n ≡ level f l = ap (level f) q in let d = s.deep in omega (arith, z, y, d);
-        items = (λ i. item_now c i ∷ []) ∙ (λ i. pair (r i) (s.new.value i) ∷ []) ∙ sym (insert_here k v (f (node n (Settled Value)))) ∙ ap (λ z. insert k v (pair z (f (node n (Settled Value))) ∷ [])) (sym rn);
-        paths = λ j m h. inr (sym q ∙ h);
-        made = λ m h. inr (sym h);
-        out = λ m h. (q ∙ h, λ i. ne (h ∙ sym i));
-      }
-
-  -- a new key
-  pub split : (k v l c x y : ℕ) → k < 2 ^ 64 → p ≢ c → l ≢ c → l ≢ x → l ≢ y → IsSplit f k v l c x y → (lo hi : ℕ) (a : Tree) → lo ≤ k → k < hi → Shows f lo hi a → root a ≡ l → ¬ Has a p → Replaced f g (insert k v) (λ n. l ≡ n) (λ n. (n ≡ c) ⊎ ((n ≡ x) ⊎ (n ≡ y))) c lo hi a
-  split k v l c x y small pc nc nx ny s lo hi (Fork n a b) u w t q d = absurd (let z : true ≡ false = sym s.leaf ∙ rw q at t.0.fork in cc)
-  split k v l c x y small pc nc nx ny s lo hi (Leaf n) u w t q d = go s.order
+  -- a leaf for a leaf
+  pub swap : (c : MapEdit) (l new : ℕ) → edit_key c < 2 ^ 64 → l ≢ new → IsSwapBy f c l new → (lo hi : ℕ) (a : Tree) → lo ≤ edit_key c → edit_key c < hi → Shows f lo hi a → root a ≡ l → ¬ Has a p → Replaced f g (edited c) (λ n. l ≡ n) (λ n. n ≡ new) new lo hi a
+  swap c l new small ne s lo hi (Fork n a b) u w t q d = absurd (let z : true ≡ false = sym s.leaf ∙ rw q at t.0.fork in cc)
+  swap c l new small ne s lo hi (Leaf n) u w t q d = record {
+    tree = Leaf new;
+    shows = same_leaf f g new lo hi (same new) (record { leaf = s.new.leaf; small = key_small f new below_all; items = there });
+    is = refl;
+    deep = let z : level g new ≡ level f new = apart_level f g p e new in let y : level f n ≡ level f l = ap (level f) q in let m = s.deep in omega (arith, z, y, m);
+    items = same_items f g new (same new) ∙ items_are;
+    paths = λ j m h. inr (sym q ∙ h);
+    made = λ m h. inr (sym h);
+    out = λ m h. (q ∙ h, λ i. ne (h ∙ sym i));
+  }
     where
-      rx : rank f x ≡ k
-      rx = pair_rank f x k s.new.class s.new.key
+      had : HasItems f n lo hi
+      had = t.items
 
-      ry : rank f y ≡ rank f l
-      ry = alike_rank f y l s.copy.alike
+      low : class f n ≡ 0
+      low = ap (class f) q ∙ s.class
 
-      rn : rank f n ≡ rank f l
-      rn = ap (rank f) q
+      items_are : leaf_items f new ≡ edited c (leaf_items f n)
+      items_are = low_items f new s.new.class ∙ s.pairs ∙ ap (λ m. edited c (held_pairs f m)) (sym q) ∙ ap (edited c) (sym (low_items f n low))
 
-      lc : level g c ≡ level f c
-      lc = apart_level f g p e c
+      below_all : AllBelow (2 ^ 64) (held_pairs f new)
+      below_all = subst (AllBelow (2 ^ 64)) (sym s.pairs) (edited_below c (2 ^ 64) (held_pairs f l) (subst (λ m. AllBelow (2 ^ 64) (held_pairs f m)) q (had.keys low).1) small)
 
-      rc : rank g c ≡ rank f c
-      rc = apart_rank f g p e c
-
-      ix : pair (rank g x) (g (node x (Settled Value))) ≡ pair k v
-      ix = item_now x ∙ (λ i. pair (rx i) (s.new.value i))
-
-      value_y : f (node y (Settled Value)) ≡ f (node n (Settled Value))
-      value_y = rw q s.copy.value
-
-      rank_y : rank f y ≡ rank f n
-      rank_y = ry ∙ sym rn
-
-      iy : pair (rank g y) (g (node y (Settled Value))) ≡ pair (rank f n) (f (node n (Settled Value)))
-      iy = item_now y ∙ (λ i. pair (rank_y i) (value_y i))
-
-      small_y : f (node y (Settled Key)) < 2 ^ 64
-      small_y = rw (s.copy.alike.key, ← q) t.small
-
-      deep : level f n ≤ level g c
-      deep = let y : level f n ≡ level f l = ap (level f) q in let d = s.deep in omega (arith, lc, y, d)
-
-      low : level f c < level f x
-      low = let d = s.low in omega (arith, d)
-
-      high : level f c < level f y
-      high = let d = s.high in omega (arith, d)
-
-      -- the fork over the two leaves i and j, which are x and y
-      over : (i j : ℕ) → IsLeaf g i lo (rank g c) → IsLeaf g j (rank g c) hi → f (child c Left) ≡ i → f (child c Right) ≡ j → level f c < level f i → level f c < level f j
-          → pair (rank g i) (g (node i (Settled Value))) ∷ pair (rank g j) (g (node j (Settled Value))) ∷ [] ≡ insert k v (pair (rank f n) (f (node n (Settled Value))) ∷ [])
-          → ((m : ℕ) → (m ≡ i) ⊎ (m ≡ j) → (m ≡ x) ⊎ (m ≡ y)) → Replaced f g (insert k v) (λ n. l ≡ n) (λ n. (n ≡ c) ⊎ ((n ≡ x) ⊎ (n ≡ y))) c lo hi (Leaf n)
-      over i j first second left right below_i below_j items_are among = record {
-        tree = Fork c (Leaf i) (Leaf j);
-        shows = (
-          record {
-            fork = apart_leaf f g p e c ∙ s.fork;
-            left = e.field c Left pc ∙ left;
-            right = e.field c Right pc ∙ right;
-            low = let d = apart_level f g p e i in omega (arith, lc, d, below_i);
-            high = let d = apart_level f g p e j in omega (arith, lc, d, below_j);
-          },
-          first,
-          second,
-        );
-        is = refl;
-        deep = deep;
-        items = items_are;
-        paths = λ j m h. inr (sym q ∙ h);
-        made = λ m h. inr (put m h);
-        out = λ m h. (q ∙ h, λ i. not_l m h (put m i));
+      there : HasItems f new lo hi
+      there = record {
+        keys = λ z. (s.new.counted, below_all);
+        rising = subst IsRising (sym items_are) (edited_rises c (leaf_items f n) had.rising);
+        from = subst (AllFrom lo) (sym items_are) (edited_from c lo (leaf_items f n) had.from u);
+        below = subst (AllBelow hi) (sym items_are) (edited_below c hi (leaf_items f n) had.below w);
       }
-        where
-          put : (m : ℕ) → Has (Fork c (Leaf i) (Leaf j)) m → (m ≡ c) ⊎ ((m ≡ x) ⊎ (m ≡ y))
-          put m (inl h) = inl (sym h)
-          put m (inr (inl h)) = inr (among m (inl (sym h)))
-          put m (inr (inr h)) = inr (among m (inr (sym h)))
 
-          not_l : (m : ℕ) → l ≡ m → (m ≡ c) ⊎ ((m ≡ x) ⊎ (m ≡ y)) → ⊥
-          not_l m h (inl i) = nc (h ∙ i)
-          not_l m h (inr (inl i)) = nx (h ∙ i)
-          not_l m h (inr (inr i)) = ny (h ∙ i)
+  -- a fork over two leaves for a leaf
+  pub split : (c : MapEdit) (l new x y : ℕ) → edit_key c < 2 ^ 64 → p ≢ new → l ≢ new → l ≢ x → l ≢ y → IsSplitBy f c l new x y → (lo hi : ℕ) (a : Tree) → lo ≤ edit_key c → edit_key c < hi → Shows f lo hi a → root a ≡ l → ¬ Has a p
+      → Replaced f g (edited c) (λ n. l ≡ n) (λ n. (n ≡ new) ⊎ ((n ≡ x) ⊎ (n ≡ y))) new lo hi a
+  split c l new x y small pc nc nx ny s lo hi (Fork n a b) u w t q d = absurd (let z : true ≡ false = sym s.leaf ∙ rw q at t.0.fork in cc)
+  split c l new x y small pc nc nx ny s lo hi (Leaf n) u w t q d = record {
+    tree = Fork new (Leaf x) (Leaf y);
+    shows = (
+      record {
+        fork = apart_leaf f g p e new ∙ s.fork;
+        left = e.field new Left pc ∙ s.left;
+        right = e.field new Right pc ∙ s.right;
+        low = let i : level g x ≡ level f x = apart_level f g p e x in let m = s.low in omega (arith, lc, i, m);
+        high = let i : level g y ≡ level f y = apart_level f g p e y in let m = s.high in omega (arith, lc, i, m);
+      },
+      subst (λ r. IsLeaf g x lo r) (sym rc) (same_leaf f g x lo (rank f new) (same x) first),
+      subst (λ r. IsLeaf g y r hi) (sym rc) (same_leaf f g y (rank f new) hi (same y) last),
+    );
+    is = refl;
+    deep = let i : level f n ≡ level f l = ap (level f) q in let m = s.deep in omega (arith, lc, i, m);
+    items = (λ i. same_items f g x (same x) i ++ same_items f g y (same y) i) ∙ all;
+    paths = λ j m h. inr (sym q ∙ h);
+    made = λ m h. inr (put m h);
+    out = λ m h. (q ∙ h, λ i. not_l m h (put m i));
+  }
+    where
+      had : HasItems f n lo hi
+      had = t.items
 
-      go : ((k < rank f l) × IsAlike f c l × (f (child c Left) ≡ x) × (f (child c Right) ≡ y)) ⊎ ((rank f l < k) × IsAlike f c x × (f (child c Left) ≡ y) × (f (child c Right) ≡ x)) → Replaced f g (insert k v) (λ n. l ≡ n) (λ n. (n ≡ c) ⊎ ((n ≡ x) ⊎ (n ≡ y))) c lo hi (Leaf n)
-      go (inl o) =
-          let ec : rank f c ≡ rank f l = alike_rank f c l o.1 in
-          let tf = t.from in
-          let tb = t.below in
-          over x y
-          (leaf_now x lo (rank g c) s.new.leaf (rw s.new.key small) (omega (arith, rx, rc, ec, o.0, tf, tb, rn, u, w)) (omega (arith, ry, rx, rc, ec, o.0, tf, tb, rn, u, w)))
-          (leaf_now y (rank g c) hi s.copy.leaf small_y (omega (arith, ry, rc, ec, o.0, tf, tb, rn, rx, u, w)) (omega (arith, ry, rc, ec, o.0, tf, tb, rn, rx, u, w)))
-          o.2 o.3 low high
-          ((λ i. ix i ∷ iy i ∷ []) ∙ sym (put_before k v (rank f n) (f (node n (Settled Value))) (omega (arith, o.0, rn))))
-          (λ m h. h)
-      go (inr o) =
-          let ec : rank f c ≡ rank f x = alike_rank f c x o.1 in
-          let tf = t.from in
-          let tb = t.below in
-          over y x
-          (leaf_now y lo (rank g c) s.copy.leaf small_y (omega (arith, ry, rx, rc, ec, o.0, tf, tb, rn, u, w)) (omega (arith, ry, rx, rc, ec, o.0, tf, tb, rn, u, w)))
-          (leaf_now x (rank g c) hi s.new.leaf (rw s.new.key small) (omega (arith, rx, rc, ec, o.0, tf, tb, rn, u, w)) (omega (arith, rx, rc, ec, o.0, tf, tb, rn, u, w)))
-          o.2 o.3 high low
-          ((λ i. iy i ∷ ix i ∷ []) ∙ sym (put_behind k v (rank f n) (f (node n (Settled Value))) (omega (arith, o.0, rn))))
-          (λ m. ⊎_elim inr inl)
+      lc : level g new ≡ level f new
+      lc = apart_level f g p e new
+
+      rc : rank g new ≡ rank f new
+      rc = apart_rank f g p e new
+
+      all : leaf_items f x ++ leaf_items f y ≡ edited c (leaf_items f n)
+      all = s.items ∙ ap (λ m. edited c (leaf_items f m)) (sym q)
+
+      rising : IsRising (leaf_items f x ++ leaf_items f y)
+      rising = subst IsRising (sym all) (edited_rises c (leaf_items f n) had.rising)
+
+      from : AllFrom lo (leaf_items f x ++ leaf_items f y)
+      from = subst (AllFrom lo) (sym all) (edited_from c lo (leaf_items f n) had.from u)
+
+      below : AllBelow hi (leaf_items f x ++ leaf_items f y)
+      below = subst (AllBelow hi) (sym all) (edited_below c hi (leaf_items f n) had.below w)
+
+      first : IsLeaf f x lo (rank f new)
+      first = record {
+        leaf = s.first.leaf;
+        small = key_small f x s.small;
+        items = record {
+          keys = λ z. (s.first.counted, s.small);
+          rising = rising_left (leaf_items f x) (leaf_items f y) rising;
+          from = from_left lo (leaf_items f x) (leaf_items f y) from;
+          below = s.before;
+        };
+      }
+
+      -- a leaf of the map holds keys of the map, since what it replaces did
+      small_y : class f y ≡ 0 → AllBelow (2 ^ 64) (held_pairs f y)
+      small_y z =
+          let low : class f n ≡ 0 = ap (class f) q ∙ sym s.last.same_class ∙ z in
+          let was : AllBelow (2 ^ 64) (leaf_items f n) = subst (AllBelow (2 ^ 64)) (sym (low_items f n low)) (had.keys low).1 in
+          subst (AllBelow (2 ^ 64)) (low_items f y z) (below_right (2 ^ 64) (leaf_items f x) (leaf_items f y) (subst (AllBelow (2 ^ 64)) (sym all) (edited_below c (2 ^ 64) (leaf_items f n) was small)))
+
+      key_y : Dec (class f y ≡ 0) → f (node y (Settled Key)) < 2 ^ 64
+      key_y (yes z) = key_small f y (small_y z)
+      key_y (no z) = rw (s.last.key z) (subst (λ m. f (node m (Settled Key)) < 2 ^ 64) q t.small)
+
+      last : IsLeaf f y (rank f new) hi
+      last = record {
+        leaf = s.last.leaf;
+        small = key_y (ℕ_discrete (class f y) 0);
+        items = record {
+          keys = λ z. (s.last.counted z, small_y z);
+          rising = rising_right (leaf_items f x) (leaf_items f y) rising;
+          from = s.behind;
+          below = below_right hi (leaf_items f x) (leaf_items f y) below;
+        };
+      }
+
+      put : (m : ℕ) → Has (Fork new (Leaf x) (Leaf y)) m → (m ≡ new) ⊎ ((m ≡ x) ⊎ (m ≡ y))
+      put m (inl h) = inl (sym h)
+      put m (inr (inl h)) = inr (inl (sym h))
+      put m (inr (inr h)) = inr (inr (sym h))
+
+      not_l : (m : ℕ) → l ≡ m → (m ≡ new) ⊎ ((m ≡ x) ⊎ (m ≡ y)) → ⊥
+      not_l m h (inl i) = nc (h ∙ i)
+      not_l m h (inr (inl i)) = nx (h ∙ i)
+      not_l m h (inr (inr i)) = ny (h ∙ i)
 
   -- a copy c of the root z of a subtree
-  copied : (z c : ℕ) → z ≢ c → (is_leaf f c ≡ false → p ≢ c) → f (node c (Settled Head)) ≡ f (node z (Settled Head)) → f (node c (Settled Key)) ≡ f (node z (Settled Key)) → (is_leaf f z ≡ true → f (node c (Settled Value)) ≡ f (node z (Settled Value))) → HasFieldsOf f c z
+  copied : (z c : ℕ) → z ≢ c → (is_leaf f c ≡ false → p ≢ c) → f (node c (Settled Head)) ≡ f (node z (Settled Head)) → f (node c (Settled Key)) ≡ f (node z (Settled Key)) → (is_leaf f z ≡ true → class f z ≡ 0 → IsWellCounted f c × (held_pairs f c ≡ held_pairs f z)) → HasFieldsOf f c z
       → (lo hi : ℕ) (a : Tree) → Shows f lo hi a → root a ≡ z → ¬ Has a p → Replaced f g (λ xs. xs) (λ n. z ≡ n) (λ n. n ≡ c) c lo hi a
-  copied z c nc pc head key value below lo hi (Leaf n) t q d =
-      let r : rank f c ≡ rank f n = (λ i. head i % 4 * 2 ^ 64 + key i) ∙ sym (ap (rank f) q) in
-      let kind : is_leaf f c ≡ is_leaf f z = ap (λ v. eqb (v / 4 % 2) 1) head in
-      let deep : level f n ≤ level f c = rw (head, q) (omega arith) in
-      let l : is_leaf f z ≡ true = rw q at t.leaf in
-      let k : f (node c (Settled Key)) ≡ f (node n (Settled Key)) = key ∙ (λ i. f (node (sym q i) (Settled Key))) in
-      let v : f (node c (Settled Value)) ≡ f (node n (Settled Value)) = value l ∙ (λ i. f (node (sym q i) (Settled Value))) in
-      let lc : level g c ≡ level f c = apart_level f g p e c in
-      let tf = t.from in
-      let tb = t.below in
-      record {
-        tree = Leaf c;
-        shows = leaf_now c lo hi (kind ∙ l) (rw k t.small) (omega (arith, r, tf)) (omega (arith, r, tb));
-        is = refl;
-        deep = omega (arith, deep, lc);
-        items = (λ i. item_now c i ∷ []) ∙ (λ i. pair (r i) (v i) ∷ []);
-        paths = λ j m h. inr (sym q ∙ h);
-        made = λ m h. inr (sym h);
-        out = λ m h. (q ∙ h, λ i. nc (h ∙ sym i));
+  copied z c nc pc head key pairs below lo hi (Leaf n) t q d = record {
+    tree = Leaf c;
+    shows = same_leaf f g c lo hi (same c) (record { leaf = kind ∙ leaf_z; small = small; items = there });
+    is = refl;
+    deep = let i : level f n ≡ level f c = rw (head, q) refl in let lc : level g c ≡ level f c = apart_level f g p e c in omega (arith, i, lc);
+    items = same_items f g c (same c) ∙ items_are;
+    paths = λ j m h. inr (sym q ∙ h);
+    made = λ m h. inr (sym h);
+    out = λ m h. (q ∙ h, λ i. nc (h ∙ sym i));
+  }
+    where
+      had : HasItems f n lo hi
+      had = t.items
+
+      kind : is_leaf f c ≡ is_leaf f z
+      kind = ap (λ v. eqb (v / 4 % 2) 1) head
+
+      leaf_z : is_leaf f z ≡ true
+      leaf_z = rw q at t.leaf
+
+      class_c : class f c ≡ class f z
+      class_c = ap (λ v. v % 4) head
+
+      small : f (node c (Settled Key)) < 2 ^ 64
+      small = let k : f (node c (Settled Key)) ≡ f (node n (Settled Key)) = key ∙ (λ i. f (node (sym q i) (Settled Key))) in rw k t.small
+
+      rank_c : rank f c ≡ rank f n
+      rank_c = (λ i. head i % 4 * 2 ^ 64 + key i) ∙ sym (ap (rank f) q)
+
+      low_z : class f c ≡ 0 → class f z ≡ 0
+      low_z i = sym class_c ∙ i
+
+      low_n : class f c ≡ 0 → class f n ≡ 0
+      low_n i = ap (class f) q ∙ low_z i
+
+      held_c : class f c ≡ 0 → held_pairs f c ≡ held_pairs f n
+      held_c i = (pairs leaf_z (low_z i)).1 ∙ ap (held_pairs f) (sym q)
+
+      of_class : Dec (class f c ≡ 0) → leaf_items f c ≡ leaf_items f n
+      of_class (yes i) = low_items f c i ∙ held_c i ∙ sym (low_items f n (low_n i))
+      of_class (no i) = high_items f c i ∙ (λ j. pair (rank_c j) 0 ∷ []) ∙ sym (high_items f n (λ k. i (class_c ∙ ap (class f) (sym q) ∙ k)))
+
+      items_are : leaf_items f c ≡ leaf_items f n
+      items_are = of_class (ℕ_discrete (class f c) 0)
+
+      there : HasItems f c lo hi
+      there = record {
+        keys = λ i. ((pairs leaf_z (low_z i)).0, subst (AllBelow (2 ^ 64)) (sym (held_c i)) (had.keys (low_n i)).1);
+        rising = subst IsRising (sym items_are) had.rising;
+        from = subst (AllFrom lo) (sym items_are) had.from;
+        below = subst (AllBelow hi) (sym items_are) had.below;
       }
-  copied z c nc pc head key value below lo hi (Fork n a b) t q d = record {
+  copied z c nc pc head key pairs below lo hi (Fork n a b) t q d = record {
     tree = Fork c a b;
     shows = (over, subst (λ v. Shows g lo v a) (sym rc) (frame f g a lo (rank f n) same_a t.1), subst (λ v. Shows g v hi b) (sym rc) (frame f g b (rank f n) hi same_b t.2));
     is = refl;
@@ -272,13 +309,21 @@ module _ (f g : Word → ℕ) (p : ℕ) (e : Apart f g p) where
   lone_leaf l lo hi (Leaf n) t q x = ap Leaf q
   lone_leaf l lo hi (Fork n a b) t q x = absurd (let z : true ≡ false = sym x ∙ rw q at t.0.fork in cc)
 
-  -- a key goes
-  pub join : (k q l z c : ℕ) → q ≢ c → l ≢ c → z ≢ c → (is_leaf f c ≡ false → p ≢ c) → IsJoin f k q l z c → AreBelow f q l z → HasFieldsOf f c z → (lo hi : ℕ) (a : Tree) → lo ≤ k → k < hi → Shows f lo hi a → root a ≡ q → ¬ Has a p → Replaced f g (delete k) (λ n. (q ≡ n) ⊎ ((l ≡ n) ⊎ (z ≡ n))) (λ n. n ≡ c) c lo hi a
+  -- the leaf goes that is left without a pair
+  pub join : (k : MapEdit) (q l z c : ℕ) → q ≢ c → l ≢ c → z ≢ c → (is_leaf f c ≡ false → p ≢ c) → IsJoinBy f k q l z c → AreBelow f q l z → HasFieldsOf f c z → (lo hi : ℕ) (a : Tree) → lo ≤ edit_key k → edit_key k < hi → Shows f lo hi a → root a ≡ q → ¬ Has a p → Replaced f g (edited k) (λ n. (q ≡ n) ⊎ ((l ≡ n) ⊎ (z ≡ n))) (λ n. n ≡ c) c lo hi a
   join k q l z c qc lc zc pc s fields below lo hi (Leaf n) u w t x d = absurd (let y : true ≡ false = sym t.leaf ∙ rw (← x) at s.fork in cc)
   join k q l z c qc lc zc pc s fields below lo hi (Fork n a b) u w t x d = go fields
     where
-      rl : rank f l ≡ k
-      rl = pair_rank f l k s.class s.key
+      -- its key is that of the leaf
+      rl : rank f l ≡ edit_key k
+      rl =
+          let x = held_first f l in
+          let y : edit_key k ≡ f (node l (Settled Key)) = emptied_key k (pair (f (node l (Settled Key))) x.value) x.rest (ap (edited k) (sym x.is) ∙ s.emptied) in
+          let z = s.low in
+          omega (arith, y, z)
+
+      none : edited k (leaf_items f l) ≡ []
+      none = ap (edited k) (low_items f l s.low) ∙ s.emptied
 
       left_n : f (child q Left) ≡ root a
       left_n = rw x at t.0.left
@@ -286,8 +331,8 @@ module _ (f g : Word → ℕ) (p : ℕ) (e : Apart f g p) where
       right_n : f (child q Right) ≡ root b
       right_n = rw x at t.0.right
 
-      go : ((f (child q Left) ≡ l) × (f (child q Right) ≡ z)) ⊎ ((f (child q Left) ≡ z) × (f (child q Right) ≡ l)) → Replaced f g (delete k) (λ n. (q ≡ n) ⊎ ((l ≡ n) ⊎ (z ≡ n))) (λ n. n ≡ c) c lo hi (Fork n a b)
-      go (inl o) = finish (copied z c zc pc s.same_head s.same_key s.same_value below (rank f n) hi b t.2 root_b (λ h. d (inr (inr h))))
+      go : ((f (child q Left) ≡ l) × (f (child q Right) ≡ z)) ⊎ ((f (child q Left) ≡ z) × (f (child q Right) ≡ l)) → Replaced f g (edited k) (λ n. (q ≡ n) ⊎ ((l ≡ n) ⊎ (z ≡ n))) (λ n. n ≡ c) c lo hi (Fork n a b)
+      go (inl o) = finish (copied z c zc pc s.same_head s.same_key s.same_pairs below (rank f n) hi b t.2 root_b (λ h. d (inr (inr h))))
         where
           root_b : root b ≡ z
           root_b = sym right_n ∙ o.1
@@ -298,16 +343,16 @@ module _ (f g : Word → ℕ) (p : ℕ) (e : Apart f g p) where
           leaf_l : IsLeaf f l lo (rank f n)
           leaf_l = rw is_a at t.1
 
-          finish : Replaced f g (λ xs. xs) (λ n. z ≡ n) (λ n. n ≡ c) c (rank f n) hi b → Replaced f g (delete k) (λ n. (q ≡ n) ⊎ ((l ≡ n) ⊎ (z ≡ n))) (λ n. n ≡ c) c lo hi (Fork n a b)
+          finish : Replaced f g (λ xs. xs) (λ n. z ≡ n) (λ n. n ≡ c) c (rank f n) hi b → Replaced f g (edited k) (λ n. (q ≡ n) ⊎ ((l ≡ n) ⊎ (z ≡ n))) (λ n. n ≡ c) c lo hi (Fork n a b)
           finish r =
-              let yf = leaf_l.from in
-              let yb = leaf_l.below in
+              let l_below : rank f l < rank f n = rank_below f l lo (rank f n) leaf_l.items in
+              let before : edited k (leaf_items f l ++ items f b) ≡ edited k (leaf_items f l) ++ items f b = (edited_local k).left (leaf_items f l) (items f b) (items_above f b (rank f n) hi (edit_key k) t.2 (omega (arith, l_below, rl))) in
               record {
                 tree = r.tree;
-                shows = wider g r.tree (rank f n) hi lo hi (omega (arith, yf, yb)) (omega arith) r.shows;
+                shows = wider g r.tree (rank f n) hi lo hi (let y = open_between f a lo (rank f n) t.1 in omega (arith, y)) (omega arith) r.shows;
                 is = r.is;
                 deep = let v : level f n < level f (root b) = t.0.high in let y = r.deep in omega (arith, v, y);
-                items = r.items ∙ sym (rw (is_a, rl, eq-eqb k k refl) refl);
+                items = r.items ∙ sym (ap (λ (m : Tree). edited k (items f m ++ items f b)) is_a ∙ before ∙ ap (λ xs. xs ++ items f b) none);
                 paths = paths;
                 made = λ m h. ⊎_elim (λ y. inl (inr (inr y))) inr (r.made m h);
                 out = gone;
@@ -322,7 +367,7 @@ module _ (f g : Word → ℕ) (p : ℕ) (e : Apart f g p) where
               paths j m (inl h) = inr (inl (sym x ∙ h))
               paths j m (inr (inl h)) = let y : l ≡ m = rw is_a at h.1 in inr (inr (inl y))
               paths j m (inr (inr h)) = ⊎_elim inl (λ y. inr (inr (inr y))) (r.paths j m h.1)
-      go (inr o) = finish (copied z c zc pc s.same_head s.same_key s.same_value below lo (rank f n) a t.1 root_a (λ h. d (inr (inl h))))
+      go (inr o) = finish (copied z c zc pc s.same_head s.same_key s.same_pairs below lo (rank f n) a t.1 root_a (λ h. d (inr (inl h))))
         where
           root_a : root a ≡ z
           root_a = sym left_n ∙ o.0
@@ -333,18 +378,16 @@ module _ (f g : Word → ℕ) (p : ℕ) (e : Apart f g p) where
           leaf_l : IsLeaf f l (rank f n) hi
           leaf_l = rw is_b at t.2
 
-          finish : Replaced f g (λ xs. xs) (λ n. z ≡ n) (λ n. n ≡ c) c lo (rank f n) a → Replaced f g (delete k) (λ n. (q ≡ n) ⊎ ((l ≡ n) ⊎ (z ≡ n))) (λ n. n ≡ c) c lo hi (Fork n a b)
+          finish : Replaced f g (λ xs. xs) (λ n. z ≡ n) (λ n. n ≡ c) c lo (rank f n) a → Replaced f g (edited k) (λ n. (q ≡ n) ⊎ ((l ≡ n) ⊎ (z ≡ n))) (λ n. n ≡ c) c lo hi (Fork n a b)
           finish r =
-              let yf = leaf_l.from in
-              let yb = leaf_l.below in
-              let before : delete k (items f a ++ (pair k (f (node l (Settled Value))) ∷ [])) ≡ items f a ++ delete k (pair k (f (node l (Settled Value))) ∷ []) = (delete_local k).right (items f a) (pair k (f (node l (Settled Value))) ∷ []) (items_below f a lo (rank f n) k t.1 (omega (arith, yf, rl))) in
-              let none : delete k (pair k (f (node l (Settled Value))) ∷ []) ≡ [] = rw (eq-eqb k k refl) refl in
+              let l_from : rank f n ≤ rank f l = rank_from f l (rank f n) hi leaf_l.items in
+              let before : edited k (items f a ++ leaf_items f l) ≡ items f a ++ edited k (leaf_items f l) = (edited_local k).right (items f a) (leaf_items f l) (items_below f a lo (rank f n) (edit_key k) t.1 (omega (arith, l_from, rl))) in
               record {
                 tree = r.tree;
-                shows = wider g r.tree lo (rank f n) lo hi (omega arith) (omega (arith, yf, yb)) r.shows;
+                shows = wider g r.tree lo (rank f n) lo hi (omega arith) (let y = open_between f b (rank f n) hi t.2 in omega (arith, y)) r.shows;
                 is = r.is;
                 deep = let v : level f n < level f (root a) = t.0.low in let y = r.deep in omega (arith, v, y);
-                items = r.items ∙ sym (rw (is_b, rl) (before ∙ ap (λ ys. items f a ++ ys) none ∙ append-nil (items f a)));
+                items = r.items ∙ sym (ap (λ (m : Tree). edited k (items f a ++ items f m)) is_b ∙ before ∙ ap (λ ys. items f a ++ ys) none ∙ append-nil (items f a));
                 paths = paths;
                 made = λ m h. ⊎_elim (λ y. inl (inr (inl y))) inr (r.made m h);
                 out = gone;

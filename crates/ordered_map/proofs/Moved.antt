@@ -1,20 +1,16 @@
 -- The facts of an edit go over to words that agree on its nodes.
-use Rattle.std.proofs.Common.{◌≡◌, ℕ, ◌<◌, ◌+◌, ◌*◌, ◌/◌, ◌%◌, ◌^◌, eqb, ◌⊎◌, inl, inr, sym, ◌∙◌, ap, arith, ltb, cond}
+use Rattle.std.proofs.Common.{◌≡◌, ℕ, ◌<◌, ◌+◌, ◌*◌, ◌/◌, ◌%◌, ◌^◌, false, eqb, ◌⊎◌, inl, inr, ◌++◌, sym, ◌∙◌, ap, arith, ltb, cond, subst}
 use Rattle.arena.specs.declared.word.Side.{Side}
 use Rattle.arena.specs.declared.word.Side.TheVariants.{Left, Right}
-use Rattle.arena.specs.declared.word.NodeWord.{NodeWord}
 use Rattle.arena.specs.declared.word.NodeWord.TheVariants.{Settled}
 use Rattle.arena.specs.declared.word.SettledPart.TheVariants.{Head, Key, Value}
 use Rattle.arena.specs.declared.word.Word.{Word}
-use Rattle.arena.specs.Words.{node, child}
-use Rattle.arena.specs.Lawful.{IsSettled}
+use Rattle.arena.specs.Words.{child}
 use Rattle.std.specs.Prelude.{Some, None}
-use Rattle.ordered_map.specs.OrderedMap.{pair}
-use Rattle.ordered_map.specs.TreeWords.{class, is_leaf, level, rank, toward, first_said}
-use Rattle.ordered_map.specs.Edits.{IsPairLeaf, IsAlike, IsSwap, IsSplit, IsJoin}
-
-abbrev pub SameSettled : (Word → ℕ) → (Word → ℕ) → ℕ → Type 0
-SameSettled b f n = (a : NodeWord) → IsSettled (node n a) → f (node n a) ≡ b (node n a)
+use Rattle.ordered_map.specs.OrderedMap.{pair, AllBelow, AllFrom, MapEdit, edited}
+use Rattle.ordered_map.specs.TreeWords.{class, is_leaf, level, rank, toward, first_said, leaf_items}
+use Rattle.ordered_map.proofs.Holding.{SameSettled, held_same, counted_same, same_items}
+use Rattle.ordered_map.specs.Edits.{IsLowLeaf, IsLastLeaf, IsSwapBy, IsSplitBy, IsJoinBy, IsLeafEdit, IsPairLeaf, IsAlike, IsSwap, IsSplit, IsJoin}
 
 pub settled_rank : (b f : Word → ℕ) (n : ℕ) → SameSettled b f n → rank f n ≡ rank b n
 settled_rank b f n e = λ i. e (Settled Head) tt i % 4 * 2 ^ 64 + e (Settled Key) tt i
@@ -35,6 +31,64 @@ pub settled_first : (b f : Word → ℕ) (n : ℕ) → SameSettled b f n → fir
 settled_first b f n e = λ i. cond (eqb (e (Settled Head) tt i % 4) 0) (Some (pair (e (Settled Key) tt i) (e (Settled Value) tt i))) None
 
 module _ (b f : Word → ℕ) where
+  -- by lists of pairs
+
+  move_low : (n : ℕ) → SameSettled b f n → IsLowLeaf b n → IsLowLeaf f n
+  move_low n e s = record { leaf = settled_leaf b f n e ∙ s.leaf; class = settled_class b f n e ∙ s.class; counted = counted_same b f n e s.counted }
+
+  move_last : (n l : ℕ) → SameSettled b f n → SameSettled b f l → IsLastLeaf b n l → IsLastLeaf f n l
+  move_last n l e el s = record {
+    leaf = settled_leaf b f n e ∙ s.leaf;
+    same_class = settled_class b f n e ∙ s.same_class ∙ sym (settled_class b f l el);
+    counted = λ z. counted_same b f n e (s.counted (sym (settled_class b f n e) ∙ z));
+    key = λ d. e (Settled Key) tt ∙ s.key (λ z. d (settled_class b f n e ∙ z)) ∙ sym (el (Settled Key) tt);
+  }
+
+  move_swap_by : (e : MapEdit) (l c : ℕ) → SameSettled b f l → SameSettled b f c → IsSwapBy b e l c → IsSwapBy f e l c
+  move_swap_by e l c el ec s = record {
+    leaf = settled_leaf b f l el ∙ s.leaf;
+    class = settled_class b f l el ∙ s.class;
+    new = move_low c ec s.new;
+    pairs = held_same b f c ec ∙ s.pairs ∙ ap (edited e) (sym (held_same b f l el));
+    deep = settled_level b f c ec ∙ s.deep ∙ sym (settled_level b f l el);
+  }
+
+  move_split_by : (e : MapEdit) (l c x y : ℕ) → SameSettled b f l → SameSettled b f c → SameSettled b f x → SameSettled b f y → ((side : Side) → f (child c side) ≡ b (child c side)) → IsSplitBy b e l c x y → IsSplitBy f e l c x y
+  move_split_by e l c x y el ec ex ey fields s = record {
+    leaf = settled_leaf b f l el ∙ s.leaf;
+    fork = settled_leaf b f c ec ∙ s.fork;
+    left = fields Left ∙ s.left;
+    right = fields Right ∙ s.right;
+    first = move_low x ex s.first;
+    small = subst (AllBelow (2 ^ 64)) (sym (held_same b f x ex)) s.small;
+    last = move_last y l ey el s.last;
+    items = (λ i. same_items b f x ex i ++ same_items b f y ey i) ∙ s.items ∙ ap (edited e) (sym (same_items b f l el));
+    before = subst (λ r. AllBelow r (leaf_items f x)) (sym (settled_rank b f c ec)) (subst (AllBelow (rank b c)) (sym (same_items b f x ex)) s.before);
+    behind = subst (λ r. AllFrom r (leaf_items f y)) (sym (settled_rank b f c ec)) (subst (AllFrom (rank b c)) (sym (same_items b f y ey)) s.behind);
+    deep = settled_level b f c ec ∙ s.deep ∙ sym (settled_level b f l el);
+    low = settled_level b f x ex ∙ s.low ∙ ap (λ v. v + 1) (sym (settled_level b f c ec));
+    high = settled_level b f y ey ∙ s.high ∙ ap (λ v. v + 1) (sym (settled_level b f c ec));
+  }
+
+  pub move_leaf_edit : (e : MapEdit) (l c : ℕ) → SameSettled b f l → SameSettled b f c → ((side : Side) → SameSettled b f (b (child c side))) → (is_leaf b c ≡ false → (side : Side) → f (child c side) ≡ b (child c side)) → IsLeafEdit b e l c → IsLeafEdit f e l c
+  move_leaf_edit e l c el ec below fields (inl s) = inl (move_swap_by e l c el ec s)
+  move_leaf_edit e l c el ec below fields (inr s) = inr (s.0, s.1, move_split_by e l c s.0 s.1 el ec (subst (SameSettled b f) s.2.left (below Left)) (subst (SameSettled b f) s.2.right (below Right)) (fields s.2.fork) s.2)
+
+  pub move_join_by : (e : MapEdit) (q l z c : ℕ) → SameSettled b f q → SameSettled b f l → SameSettled b f z → SameSettled b f c → IsJoinBy b e q l z c → IsJoinBy f e q l z c
+  move_join_by e q l z c eq el ez ec s = record {
+    fork = settled_leaf b f q eq ∙ s.fork;
+    leaf = settled_leaf b f l el ∙ s.leaf;
+    low = settled_class b f l el ∙ s.low;
+    emptied = ap (edited e) (held_same b f l el) ∙ s.emptied;
+    same_head = ec (Settled Head) tt ∙ s.same_head ∙ sym (ez (Settled Head) tt);
+    same_key = ec (Settled Key) tt ∙ s.same_key ∙ sym (ez (Settled Key) tt);
+    same_pairs = λ leaf low.
+        let x = s.same_pairs (sym (settled_leaf b f z ez) ∙ leaf) (sym (settled_class b f z ez) ∙ low) in
+        (counted_same b f c ec x.0, held_same b f c ec ∙ x.1 ∙ sym (held_same b f z ez));
+  }
+
+  -- for leaves of one pair each
+
   move_pair : (n k v : ℕ) → SameSettled b f n → IsPairLeaf b n k v → IsPairLeaf f n k v
   move_pair n k v e s = record { leaf = settled_leaf b f n e ∙ s.leaf; class = settled_class b f n e ∙ s.class; key = e (Settled Key) tt ∙ s.key; value = e (Settled Value) tt ∙ s.value }
 

@@ -1,12 +1,12 @@
 -- A walk by child loads visits only nodes that were on the search path at a moment since its begin.
 use Rattle.std.proofs.Common.{◌≡◌, ◌≢◌, ℕ, ◌<◌, ◌≤◌, ◌*◌, ◌/◌, ◌%◌, ◌^◌, true, false, eqb, ltb, ◌⊎◌, inl, inr, refl, sym, ◌∙◌, ap, arith, subst, cond}
-use Rattle.std.specs.Prelude.{Option, Some, None}
+use Rattle.std.specs.Prelude.{Option}
 use native.Mathlib.Decide.{ℕ_discrete}
 use Rattle.arena.specs.declared.limits.Mode.TheVariants.{Tree as TreeMode}
 use Rattle.arena.specs.declared.word.Side.{Side}
 use Rattle.arena.specs.declared.word.Side.TheVariants.{Left, Right}
 use Rattle.arena.specs.declared.word.NodeWord.TheVariants.{Settled, Child}
-use Rattle.arena.specs.declared.word.SettledPart.TheVariants.{Head, Value}
+use Rattle.arena.specs.declared.word.SettledPart.TheVariants.{Head}
 use Rattle.arena.specs.declared.word.Word.{Word}
 use Rattle.arena.specs.declared.layout.Layout.{Layout}
 use Rattle.arena.specs.declared.step.Row.{Row}
@@ -17,8 +17,9 @@ use Rattle.arena.specs.Fills.{IsNamed}
 use Rattle.arena.specs.Log.{log}
 use Rattle.arena.proofs.Lemmas.{node_apart, ends_self, ends_trans}
 use Rattle.histories.proofs.Lemmas.{Effect, Facts, effect, facts_before, freeze, freeze_keeps_field, lawful_tail, named_since, node_since, node_stays, quiet, update, update_keeps_mark, update_keeps_other}
-use Rattle.ordered_map.specs.OrderedMap.{MapEdit, get}
-use Rattle.ordered_map.proofs.Trees.{items, ends, Same, same_rank, passes_has, has_root, Above, within, least}
+use Rattle.ordered_map.specs.OrderedMap.{MapEdit, get, AllAbove}
+use Rattle.ordered_map.proofs.Trees.{items, ends, Same, same_rank, passes_has, has_root, settled_same, open_between}
+use Rattle.ordered_map.proofs.Holding.{same_items}
 use Rattle.ordered_map.specs.Paths.{IsOnPath, Passed, WasInTree}
 use Rattle.ordered_map.specs.Runs.{map_of_log}
 use Rattle.ordered_map.specs.TreeWords.{Tree, Leaf, Fork, root, Shows, Has, Passes, is_leaf, level, rank, toward, said}
@@ -123,11 +124,9 @@ walk_ends calls lay h start k n small g p leaf =
     let q : Passes (value m) k t.tree n = path_now m t.tree k n t.is_tree x.on_path in
     let head : value h (node n (Settled Head)) ≡ value m (node n (Settled Head)) = x.same (Settled Head) tt in
     let d : is_leaf (value m) n ≡ true = ap (λ v. eqb (v / 4 % 2) 1) (sym head) ∙ leaf in
-    let r : rank (value h) n ≡ rank (value m) n = same_rank (value m) (value h) n x.same in
-    let w : value h (node n (Settled Value)) ≡ value m (node n (Settled Value)) = x.same (Settled Value) tt in
-    let a : Above k ends = (omega (arith, small), (omega (arith, small), tt)) in
+    let a : AllAbove k ends = (omega (arith, small), (omega (arith, small), tt)) in
     let e : get k (items (value m) t.tree) ≡ told (value m) k n = get_leaf (value m) k t.tree _ _ n t.is_tree.shows q d in
-    let same_told : told (value m) k n ≡ told (value h) k n = sym (λ i. cond (eqb k (r i)) (Some (w i)) None) in
+    let same_told : told (value m) k n ≡ told (value h) k n = ap (get k) (sym (same_items (value m) (value h) n (settled_same (value m) (value h) n x.same))) in
     record {
       moment = m;
       within = x.within;
@@ -163,18 +162,16 @@ level_rises calls lay h m k n side g e p fork =
 
 -- every node of the tree is on the path of a key
 pub reach : (f : Word → ℕ) (t : Tree) (lo hi n : ℕ) → Shows f lo hi t → Has t n → (k : ℕ) × (lo ≤ k) × (k < hi) × Passes f k t n
-reach f (Leaf m) lo hi n s e = (rank f m, s.from, s.below, e)
-reach f (Fork m a b) lo hi n s (inl e) =
-    let w : (lo ≤ least f (Fork m a b)) × (least f (Fork m a b) < hi) = within f (Fork m a b) lo hi s in
-    (least f (Fork m a b), w.0, w.1, inl e)
+reach f (Leaf m) lo hi n s e = (lo, omega arith, open_between f (Leaf m) lo hi s, e)
+reach f (Fork m a b) lo hi n s (inl e) = (lo, omega arith, open_between f (Fork m a b) lo hi s, inl e)
 reach f (Fork m a b) lo hi n s (inr (inl q)) =
     let x : (k : ℕ) × (lo ≤ k) × (k < rank f m) × Passes f k a n = reach f a lo (rank f m) n s.1 q in
-    let w : (rank f m ≤ least f b) × (least f b < hi) = within f b (rank f m) hi s.2 in
-    (x.0, x.1, (let u = x.2 in let y = w.0 in let z = w.1 in omega arith), inr (inl (x.2, x.3)))
+    let w : rank f m < hi = open_between f b (rank f m) hi s.2 in
+    (x.0, x.1, (let u = x.2 in omega (arith, u, w)), inr (inl (x.2, x.3)))
 reach f (Fork m a b) lo hi n s (inr (inr q)) =
     let x : (k : ℕ) × (rank f m ≤ k) × (k < hi) × Passes f k b n = reach f b (rank f m) hi n s.2 q in
-    let w : (lo ≤ least f a) × (least f a < rank f m) = within f a lo (rank f m) s.1 in
-    (x.0, (let u = x.1 in let y = w.0 in let z = w.1 in omega arith), x.2, inr (inr (x.1, x.3)))
+    let w : lo < rank f m = open_between f a lo (rank f m) s.1 in
+    (x.0, (let u = x.1 in omega (arith, u, w)), x.2, inr (inr (x.1, x.3)))
 
 -- in every node that was ever in the tree each child's level is above its own
 pub grown_rises : (calls : ℕ → MapEdit) (lay : Layout) (h : History) (n : ℕ) (side : Side) → IsGrown calls lay h → WasInTree h n → is_leaf (value h) n ≡ false → level (value h) n < level (value h) (value h (child n side))

@@ -1,5 +1,5 @@
 -- Words are read part by part, and no tree is missed that they may show.
-use Rattle.std.proofs.Common.{◌≡◌, ◌≢◌, ℕ, suc, ◌+◌, ◌-◌, ◌*◌, ◌/◌, ◌%◌, ◌^◌, ◌<◌, ◌≤◌, true, false, inl, inr, List, [], ◌∷◌, ◌++◌, refl, sym, ◌∙◌, ap, arith, subst, append_assoc, append-nil}
+use Rattle.std.proofs.Common.{◌≡◌, ◌≢◌, ℕ, suc, ◌+◌, ◌-◌, ◌*◌, ◌/◌, ◌%◌, ◌^◌, ◌<◌, ◌≤◌, true, false, inl, inr, List, [], ◌∷◌, ◌++◌, refl, sym, ◌∙◌, ap, arith, subst, append_assoc, append-nil, eq-eqb}
 use Rattle.arena.specs.Layout.{all_nodes}
 use Rattle.arena.specs.Words.{node, child}
 use Rattle.arena.specs.declared.word.NodeWord.TheVariants.{Settled}
@@ -11,7 +11,8 @@ use Rattle.ordered_map.specs.declared.part.Seen.TheVariants.{Leaf as LeafSeen, N
 use Rattle.ordered_map.specs.TreeWords.{is_leaf, level, rank, Tree, Leaf, Fork, root, Shows, Has, leaf_nodes}
 use Rattle.ordered_map.specs.Spelled.{IsTree}
 use Rattle.ordered_map.specs.Parts.{IsPart, IsFit, IsRoot, IsSplitInto, IsSeen, ShowLeaves, part_size}
-use Rattle.ordered_map.proofs.Trees.{least, within, has_root}
+use Rattle.ordered_map.proofs.Trees.{open_between, has_root}
+use Rattle.ordered_map.proofs.Holding.{leaf_here, rank_from, rank_below}
 
 -- One part
 
@@ -20,12 +21,13 @@ pub root_inside : (c : Contents) (p : Part) (t : Tree) → IsPart c p t → p.no
 root_inside c p t i = rw (sym i.is) (i.inside (root t) (has_root t))
 
 pub root_fits : (c : Contents) (p : Part) (t : Tree) → IsPart c p t → IsFit p (level (word_at c) p.node) (rank (word_at c) p.node)
-root_fits c p (Leaf n) i = (i.deep, rw (← i.is) i.shows.from, rw (← i.is) i.shows.below)
+root_fits c p (Leaf n) i =
+    let x = i.shows.items in
+    (i.deep, rw (← i.is) (rank_from (word_at c) n p.low p.high x), rw (← i.is) (rank_below (word_at c) n p.low p.high x))
 root_fits c p (Fork n a b) i =
-    let x : (p.low ≤ least (word_at c) a) × (least (word_at c) a < rank (word_at c) n) = within (word_at c) a p.low (rank (word_at c) n) i.shows.1 in
-    let y : (rank (word_at c) n ≤ least (word_at c) b) × (least (word_at c) b < p.high) = within (word_at c) b (rank (word_at c) n) p.high i.shows.2 in
-    let x0 = x.0 in let x1 = x.1 in let y0 = y.0 in let y1 = y.1 in
-    (i.deep, rw (← i.is) (omega (arith, x0, x1)), rw (← i.is) (omega (arith, y0, y1)))
+    let x : p.low < rank (word_at c) n = open_between (word_at c) a p.low (rank (word_at c) n) i.shows.1 in
+    let y : rank (word_at c) n < p.high = open_between (word_at c) b (rank (word_at c) n) p.high i.shows.2 in
+    (i.deep, rw (← i.is) (omega (arith, x)), rw (← i.is) y)
 
 pub no_tree : (c : Contents) (p : Part) (head key r : ℕ) → head ≡ word_at c (node p.node (Settled Head)) → key ≡ word_at c (node p.node (Settled Key)) → r ≡ head % 4 * 2 ^ 64 + key → (IsFit p (head / 8) r → ⊥) → (t : Tree) → IsPart c p t → ⊥
 no_tree c p head key r e d q none t i =
@@ -38,7 +40,7 @@ no_tree c p head key r e d q none t i =
 -- at a leaf
 pub seen_leaf : (c : Contents) (p : Part) → p.node < all_nodes c.layout → word_at c (node p.node (Settled Key)) < 2 ^ 64 → IsFit p (level (word_at c) p.node) (rank (word_at c) p.node) → is_leaf (word_at c) p.node ≡ true → IsSeen c p LeafSeen
 seen_leaf c p i small fits leaf = (
-  record { shows = record { leaf = leaf; small = small; from = fits.1; below = fits.2 }; is = refl; deep = fits.0; inside = λ n e. rw (← e) i },
+  record { shows = leaf_here (word_at c) p.node p.low p.high leaf small fits.1 fits.2; is = refl; deep = fits.0; inside = λ n e. rw (← e) i },
   only,
 )
   where
@@ -46,13 +48,20 @@ seen_leaf c p i small fits leaf = (
     only (Leaf n) x = ap Leaf x.is
     only (Fork n a b) x = absurd (let y : true ≡ false = sym leaf ∙ rw (← x.is) x.shows.0.fork in cc)
 
+-- the same, by the words of its root
+pub seen_at : (c : Contents) (p : Part) (head key r : ℕ) → p.node < all_nodes c.layout → head ≡ word_at c (node p.node (Settled Head)) → key ≡ word_at c (node p.node (Settled Key)) → key < 2 ^ 64 → r ≡ head % 4 * 2 ^ 64 + key → IsFit p (head / 8) r → head / 4 % 2 ≡ 1 → IsSeen c p LeafSeen
+seen_at c p head key r i e d small q fits leaf = seen_leaf c p i (subst (λ v. v < 2 ^ 64) d small) (subst (λ v. p.level ≤ v / 8) e fits.0, subst (λ v. p.low ≤ v) is fits.1, subst (λ v. v < p.high) is fits.2) (eq-eqb (word_at c (node p.node (Settled Head)) / 4 % 2) 1 (subst (λ v. v / 4 % 2 ≡ 1) e leaf))
+  where
+    is : r ≡ rank (word_at c) p.node
+    is = q ∙ (λ j. e j % 4 * 2 ^ 64 + d j)
+
 -- a fork of the lowest rank would have nothing on its left
 pub no_fork : (c : Contents) (p : Part) (least at : ℕ) → IsRoot c p least at → at ≡ p.low → (t : Tree) → IsPart c p t → ⊥
 no_fork c p l at r e (Leaf n) i = absurd (let y : true ≡ false = sym i.shows.leaf ∙ rw i.is r.fork in cc)
 no_fork c p l at r e (Fork n a b) i =
-    let x : (p.low ≤ least (word_at c) a) × (least (word_at c) a < rank (word_at c) n) = within (word_at c) a p.low (rank (word_at c) n) i.shows.1 in
+    let x : p.low < rank (word_at c) n = open_between (word_at c) a p.low (rank (word_at c) n) i.shows.1 in
     let d : rank (word_at c) n ≡ at = ap (rank (word_at c)) i.is ∙ sym r.rank in
-    let x0 = x.0 in let x1 = x.1 in omega (arith, x0, x1, d, e)
+    omega (arith, x, d, e)
 
 -- at another fork
 pub seen_fork : (c : Contents) (p left right : Part) (least at : ℕ) → IsRoot c p least at → at ≢ p.low

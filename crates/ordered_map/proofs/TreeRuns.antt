@@ -32,7 +32,7 @@ use Rattle.ordered_map.proofs.TreeFacts.{TreeFacts}
 use Rattle.ordered_map.proofs.Edited.{result, tree_now, new_in}
 use Rattle.ordered_map.proofs.Grown.{tree_facts, grown_tail}
 use Rattle.ordered_map.proofs.Trees.{passes_has, IsBelowFork, has_above, fields_apart}
-use Rattle.ordered_map.proofs.Moved.{SameSettled}
+use Rattle.ordered_map.proofs.Holding.{SameSettled}
 use Rattle.ordered_map.proofs.Taken.{grown_log, grown_depth}
 use Rattle.ordered_map.proofs.Meanings.{edits_of, grown, run_since, run_spells}
 

@@ -4,20 +4,22 @@ use Rattle.arena.specs.declared.word.Side.{Side}
 use Rattle.arena.specs.declared.word.Side.TheVariants.{Left, Right}
 use Rattle.arena.specs.declared.word.NodeWord.{NodeWord}
 use Rattle.arena.specs.declared.word.NodeWord.TheVariants.{Settled, Child}
-use Rattle.arena.specs.declared.word.SettledPart.TheVariants.{Head, Key, Value}
+use Rattle.arena.specs.declared.word.SettledPart.TheVariants.{Head, Key}
 use Rattle.arena.specs.declared.word.Word.{Word}
 use Rattle.arena.specs.Words.{node, child, same_word}
 use Rattle.arena.proofs.Lemmas.{node_word_apart, node_apart}
 use Rattle.histories.proofs.Lemmas.{IsNodeFill}
 use Rattle.ordered_map.specs.declared.pair.Pair.{Pair}
-use Rattle.ordered_map.specs.OrderedMap.{pair, insert, delete}
-use Rattle.ordered_map.specs.TreeWords.{is_leaf, level, rank, toward, Tree, Leaf, Fork, root, IsForkOver, Shows, Has, Passes}
+use Rattle.ordered_map.specs.OrderedMap.{pair, AllAbove, AllBelow, insert, delete, MapEdit, Insert, Delete, edit_key, edited}
+use Rattle.ordered_map.proofs.Lists.{above_join, below_join, above_from, below_more}
+use Rattle.ordered_map.proofs.Holding.{SameSettled, rank_from, rank_below, wider_leaf, same_leaf, same_items}
+use Rattle.ordered_map.specs.TreeWords.{is_leaf, level, rank, toward, leaf_items, Tree, Leaf, Fork, root, IsForkOver, IsLeaf, Shows, Has, Passes}
 
--- what is proved of the pairs is proved of all leaves first, each with its rank as a key
+-- what is proved of the pairs is proved of all items first
 
--- the leaves from left to right, each with its rank and value
+-- the items of the leaves from left to right
 abbrev pub items : (Word → ℕ) → Tree → List Pair
-items f (Leaf n) = pair (rank f n) (f (node n (Settled Value))) ∷ []
+items f (Leaf n) = leaf_items f n
 items f (Fork n a b) = items f a ++ items f b
 
 -- the two last leaves
@@ -27,19 +29,17 @@ ends = pair (2 ^ 64) 0 ∷ pair (2 * 2 ^ 64) 0 ∷ []
 pub split_at : (k m : ℕ) → (k < m) ⊎ (m ≤ k)
 split_at k m = grind arith
 
--- A shown tree is never empty: the rank of its leftmost leaf
-
-abbrev pub least : (Word → ℕ) → Tree → ℕ
-least f (Leaf n) = rank f n
-least f (Fork n a b) = least f a
-
-pub within : (f : Word → ℕ) (t : Tree) (lo hi : ℕ) → Shows f lo hi t → (lo ≤ least f t) × (least f t < hi)
-within f (Leaf n) lo hi s = (s.from, s.below)
-within f (Fork n a b) lo hi s =
-    let x : (lo ≤ least f a) × (least f a < rank f n) = within f a lo (rank f n) s.1 in
-    let y : (rank f n ≤ least f b) × (least f b < hi) = within f b (rank f n) hi s.2 in
-    let p = x.0 in let q = x.1 in let u = y.0 in let v = y.1 in
-    (p, omega arith)
+-- A shown tree is never empty: it has a leaf between its bounds
+pub open_between : (f : Word → ℕ) (t : Tree) (lo hi : ℕ) → Shows f lo hi t → lo < hi
+open_between f (Leaf n) lo hi s =
+    let x = s.items in
+    let from : lo ≤ rank f n = rank_from f n lo hi x in
+    let below : rank f n < hi = rank_below f n lo hi x in
+    omega (arith, from, below)
+open_between f (Fork n a b) lo hi s =
+    let x : lo < rank f n = open_between f a lo (rank f n) s.1 in
+    let y : rank f n < hi = open_between f b (rank f n) hi s.2 in
+    omega (arith, x, y)
 
 -- the words determine the tree
 pub same_tree : (f : Word → ℕ) (t u : Tree) (lo hi low high : ℕ) → Shows f lo hi t → Shows f low high u → root t ≡ root u → t ≡ u
@@ -50,6 +50,13 @@ same_tree f (Fork n a b) (Fork m c d) lo hi low high s r e =
     let x : a ≡ c = same_tree f a c lo (rank f n) low (rank f m) s.1 r.1 (sym s.0.left ∙ rw e r.0.left) in
     let y : b ≡ d = same_tree f b d (rank f n) hi (rank f m) high s.2 r.2 (sym s.0.right ∙ rw e r.0.right) in
     λ i. Fork (e i) (x i) (y i)
+
+-- a leaf of a shown tree has its items between some bounds
+pub shown_leaf : (f : Word → ℕ) (t : Tree) (lo hi n : ℕ) → Shows f lo hi t → Has t n → is_leaf f n ≡ true → (low high : ℕ) × IsLeaf f n low high
+shown_leaf f (Leaf m) lo hi n s e d = (lo, hi, subst (λ k. IsLeaf f k lo hi) e s)
+shown_leaf f (Fork m a b) lo hi n s (inl e) d = absurd (let x : true ≡ false = sym d ∙ rw (← e) s.0.fork in cc)
+shown_leaf f (Fork m a b) lo hi n s (inr (inl q)) d = shown_leaf f a lo (rank f m) n s.1 q d
+shown_leaf f (Fork m a b) lo hi n s (inr (inr q)) d = shown_leaf f b (rank f m) hi n s.2 q d
 
 -- the part of a shown tree below one of its nodes
 pub record IsPart (f : Word → ℕ) (t : Tree) (lo hi p : ℕ) : Type 0 where
@@ -67,12 +74,23 @@ part_of f (Leaf n) lo hi p s h = record { tree = Leaf n; low = lo; high = hi; sh
 part_of f (Fork n a b) lo hi p s (inl h) = record { tree = Fork n a b; low = lo; high = hi; shows = s; is = h; from = omega arith; to = omega arith; deeper = rw h (omega arith) }
 part_of f (Fork n a b) lo hi p s (inr (inl h)) =
     let x : IsPart f a lo (rank f n) p = part_of f a lo (rank f n) p s.1 h in
-    let y : (rank f n ≤ least f b) × (least f b < hi) = within f b (rank f n) hi s.2 in
-    record { tree = x.tree; low = x.low; high = x.high; shows = x.shows; is = x.is; from = x.from; to = omega (arith, x.to, y.0, y.1); deeper = omega (arith, x.deeper, s.0.low) }
+    let y : rank f n < hi = open_between f b (rank f n) hi s.2 in
+    record { tree = x.tree; low = x.low; high = x.high; shows = x.shows; is = x.is; from = x.from; to = omega (arith, x.to, y); deeper = omega (arith, x.deeper, s.0.low) }
 part_of f (Fork n a b) lo hi p s (inr (inr h)) =
     let x : IsPart f b (rank f n) hi p = part_of f b (rank f n) hi p s.2 h in
-    let y : (lo ≤ least f a) × (least f a < rank f n) = within f a lo (rank f n) s.1 in
-    record { tree = x.tree; low = x.low; high = x.high; shows = x.shows; is = x.is; from = omega (arith, x.from, y.0, y.1); to = x.to; deeper = omega (arith, x.deeper, s.0.high) }
+    let y : lo < rank f n = open_between f a lo (rank f n) s.1 in
+    record { tree = x.tree; low = x.low; high = x.high; shows = x.shows; is = x.is; from = omega (arith, x.from, y); to = x.to; deeper = omega (arith, x.deeper, s.0.high) }
+
+-- the bounds of one tree are not apart
+overlap : (f : Word → ℕ) (t : Tree) (lo hi low high : ℕ) → Shows f lo hi t → Shows f low high t → low < hi
+overlap f (Leaf n) lo hi low high s r =
+    let x : rank f n < hi = rank_below f n lo hi s.items in
+    let y : low ≤ rank f n = rank_from f n low high r.items in
+    omega (arith, x, y)
+overlap f (Fork n a b) lo hi low high s r =
+    let x : rank f n < hi = open_between f b (rank f n) hi s.2 in
+    let y : low < rank f n = open_between f a low (rank f n) r.1 in
+    omega (arith, x, y)
 
 -- no node stands on both sides
 pub apart : (f : Word → ℕ) (a b : Tree) (lo m hi p : ℕ) → Shows f lo m a → Shows f m hi b → Has a p → Has b p → ⊥
@@ -81,17 +99,15 @@ apart f a b lo m hi p s r h i = go (part_of f a lo m p s h) (part_of f b m hi p 
     go : IsPart f a lo m p → IsPart f b m hi p → ⊥
     go x y =
         let e : x.tree ≡ y.tree = same_tree f x.tree y.tree x.low x.high y.low y.high x.shows y.shows (x.is ∙ sym y.is) in
-        let v : (x.low ≤ least f x.tree) × (least f x.tree < x.high) = within f x.tree x.low x.high x.shows in
-        let w : (y.low ≤ least f y.tree) × (least f y.tree < y.high) = within f y.tree y.low y.high y.shows in
-        let z : y.low ≤ least f x.tree = rw e w.0 in
-        omega (arith, v.1, z, x.to, y.from)
+        let z : y.low < x.high = overlap f x.tree x.low x.high y.low y.high x.shows (subst (Shows f y.low y.high) (sym e) y.shows) in
+        omega (arith, z, x.to, y.from)
 
 -- no node stands below itself
 pub not_below : (f : Word → ℕ) (t : Tree) (lo hi p : ℕ) → Shows f lo hi t → level f p < level f (root t) → Has t p → ⊥
 not_below f t lo hi p s l h = let x : level f (root t) ≤ level f p = (part_of f t lo hi p s h).deeper in omega arith
 
 pub wider : (f : Word → ℕ) (t : Tree) (lo hi low high : ℕ) → low ≤ lo → hi ≤ high → Shows f lo hi t → Shows f low high t
-wider f (Leaf n) lo hi low high a b s = record { leaf = s.leaf; small = s.small; from = omega (arith, s.from); below = omega (arith, s.below) }
+wider f (Leaf n) lo hi low high a b s = wider_leaf f n lo hi low high a b s
 wider f (Fork n c d) lo hi low high a b s = (s.0, wider f c lo (rank f n) low (rank f n) a (omega arith) s.1, wider f d (rank f n) hi (rank f n) high (omega arith) b s.2)
 
 -- Words that stay
@@ -101,6 +117,10 @@ Same f g n = (a : NodeWord) → IsNodeFill a → g (node n a) ≡ f (node n a)
 
 pub same_rank : (f g : Word → ℕ) (n : ℕ) → Same f g n → rank g n ≡ rank f n
 same_rank f g n e = λ i. e (Settled Head) tt i % 4 * 2 ^ 64 + e (Settled Key) tt i
+
+pub settled_same : (f g : Word → ℕ) (n : ℕ) → Same f g n → SameSettled f g n
+settled_same f g n e (Settled part) i = e (Settled part) tt
+settled_same f g n e _ i = absurd i
 
 pub has_root : (t : Tree) → Has t (root t)
 has_root (Leaf n) = refl
@@ -120,10 +140,7 @@ still_over f g n a b e s =
     }
 
 pub frame : (f g : Word → ℕ) (t : Tree) (lo hi : ℕ) → ((n : ℕ) → Has t n → Same f g n) → Shows f lo hi t → Shows g lo hi t
-frame f g (Leaf n) lo hi e s =
-    let h : g (node n (Settled Head)) ≡ f (node n (Settled Head)) = e n refl (Settled Head) tt in
-    let r : rank g n ≡ rank f n = same_rank f g n (e n refl) in
-    record { leaf = rw h s.leaf; small = rw (e n refl (Settled Key) tt) s.small; from = omega (arith, r, s.from); below = omega (arith, r, s.below) }
+frame f g (Leaf n) lo hi e s = same_leaf f g n lo hi (settled_same f g n (e n refl)) s
 frame f g (Fork n a b) lo hi e s =
     let r : rank g n ≡ rank f n = same_rank f g n (e n (inl refl)) in
     let x : Shows g lo (rank f n) a = frame f g a lo (rank f n) (λ m h. e m (inr (inl h))) s.1 in
@@ -131,7 +148,7 @@ frame f g (Fork n a b) lo hi e s =
     (still_over f g n a b e s.0, subst (λ v. Shows g lo v a) (sym r) x, subst (λ v. Shows g v hi b) (sym r) y)
 
 pub frame_items : (f g : Word → ℕ) (t : Tree) → ((n : ℕ) → Has t n → Same f g n) → items g t ≡ items f t
-frame_items f g (Leaf n) e = let r : rank g n ≡ rank f n = same_rank f g n (e n refl) in λ i. pair (r i) (e n refl (Settled Value) tt i) ∷ []
+frame_items f g (Leaf n) e = same_items f g n (settled_same f g n (e n refl))
 frame_items f g (Fork n a b) e =
     let x : items g a ≡ items f a = frame_items f g a (λ m h. e m (inr (inl h))) in
     let y : items g b ≡ items f b = frame_items f g b (λ m h. e m (inr (inr h))) in
@@ -180,43 +197,27 @@ fields_apart f (Fork m a b) lo hi n s (inr (inr x)) fork q = fields_apart f b (r
 
 -- Changes of a map that are local to a key
 
-abbrev pub Above : ℕ → List Pair → Type 0
-Above k [] = Unit {0}
-Above k (p ∷ ps) = (k < p.key) × Above k ps
-
-abbrev pub Below : ℕ → List Pair → Type 0
-Below k [] = Unit {0}
-Below k (p ∷ ps) = (p.key < k) × Below k ps
-
-above_join : (k : ℕ) (xs ys : List Pair) → Above k xs → Above k ys → Above k (xs ++ ys)
-above_join k [] ys a b = b
-above_join k (x ∷ xs) ys a b = (a.0, above_join k xs ys a.1 b)
-
-below_join : (k : ℕ) (xs ys : List Pair) → Below k xs → Below k ys → Below k (xs ++ ys)
-below_join k [] ys a b = b
-below_join k (x ∷ xs) ys a b = (a.0, below_join k xs ys a.1 b)
-
-pub items_above : (f : Word → ℕ) (t : Tree) (lo hi k : ℕ) → Shows f lo hi t → k < lo → Above k (items f t)
-items_above f (Leaf n) lo hi k s l = (omega (arith, s.from), tt)
+pub items_above : (f : Word → ℕ) (t : Tree) (lo hi k : ℕ) → Shows f lo hi t → k < lo → AllAbove k (items f t)
+items_above f (Leaf n) lo hi k s l = above_from k lo (leaf_items f n) l s.items.from
 items_above f (Fork n a b) lo hi k s l =
-    let x : (lo ≤ least f a) × (least f a < rank f n) = within f a lo (rank f n) s.1 in
-    above_join k (items f a) (items f b) (items_above f a lo (rank f n) k s.1 l) (items_above f b (rank f n) hi k s.2 (omega (arith, x.0, x.1)))
+    let x : lo < rank f n = open_between f a lo (rank f n) s.1 in
+    above_join k (items f a) (items f b) (items_above f a lo (rank f n) k s.1 l) (items_above f b (rank f n) hi k s.2 (omega (arith, x, l)))
 
-pub items_below : (f : Word → ℕ) (t : Tree) (lo hi k : ℕ) → Shows f lo hi t → hi ≤ k → Below k (items f t)
-items_below f (Leaf n) lo hi k s l = (omega (arith, s.below), tt)
+pub items_below : (f : Word → ℕ) (t : Tree) (lo hi k : ℕ) → Shows f lo hi t → hi ≤ k → AllBelow k (items f t)
+items_below f (Leaf n) lo hi k s l = below_more hi k (leaf_items f n) l s.items.below
 items_below f (Fork n a b) lo hi k s l =
-    let x : (rank f n ≤ least f b) × (least f b < hi) = within f b (rank f n) hi s.2 in
-    below_join k (items f a) (items f b) (items_below f a lo (rank f n) k s.1 (omega (arith, x.0, x.1))) (items_below f b (rank f n) hi k s.2 l)
+    let x : rank f n < hi = open_between f b (rank f n) hi s.2 in
+    below_join k (items f a) (items f b) (items_below f a lo (rank f n) k s.1 (omega (arith, x, l))) (items_below f b (rank f n) hi k s.2 l)
 
 pub record IsLocal (k : ℕ) (g : List Pair → List Pair) : Type 0 where
-  pub left : (xs ys : List Pair) → Above k ys → g (xs ++ ys) ≡ g xs ++ ys
-  pub right : (xs ys : List Pair) → Below k xs → g (xs ++ ys) ≡ xs ++ g ys
+  pub left : (xs ys : List Pair) → AllAbove k ys → g (xs ++ ys) ≡ g xs ++ ys
+  pub right : (xs ys : List Pair) → AllBelow k xs → g (xs ++ ys) ≡ xs ++ g ys
 
-insert_above : (k v : ℕ) (ys : List Pair) → Above k ys → insert k v ys ≡ pair k v ∷ ys
+insert_above : (k v : ℕ) (ys : List Pair) → AllAbove k ys → insert k v ys ≡ pair k v ∷ ys
 insert_above k v [] a = refl
 insert_above k v (y ∷ ys) a = rw (lt-ltb k y.key a.0) refl
 
-insert_left : (k v : ℕ) (xs ys : List Pair) → Above k ys → insert k v (xs ++ ys) ≡ insert k v xs ++ ys
+insert_left : (k v : ℕ) (xs ys : List Pair) → AllAbove k ys → insert k v (xs ++ ys) ≡ insert k v xs ++ ys
 insert_left k v [] ys a = insert_above k v ys a
 insert_left k v (x ∷ xs) ys a = go (ltb k x.key) (eqb k x.key) (insert_left k v xs ys a)
   where
@@ -227,20 +228,20 @@ insert_left k v (x ∷ xs) ys a = go (ltb k x.key) (eqb k x.key) (insert_left k 
     go false true e = refl
     go false false e = ap (λ z. x ∷ z) e
 
-insert_right : (k v : ℕ) (xs ys : List Pair) → Below k xs → insert k v (xs ++ ys) ≡ xs ++ insert k v ys
+insert_right : (k v : ℕ) (xs ys : List Pair) → AllBelow k xs → insert k v (xs ++ ys) ≡ xs ++ insert k v ys
 insert_right k v [] ys a = refl
 insert_right k v (x ∷ xs) ys a =
     let p : ltb k x.key ≡ false = le-ltb k x.key (omega (arith, a.0)) in
     let q : eqb k x.key ≡ false = ne_eqb k x.key (λ e. omega (arith, a.0, e)) in
     rw (p, q) (ap (λ z. x ∷ z) (insert_right k v xs ys a.1))
 
-delete_above : (k : ℕ) (ys : List Pair) → Above k ys → delete k ys ≡ ys
+delete_above : (k : ℕ) (ys : List Pair) → AllAbove k ys → delete k ys ≡ ys
 delete_above k [] a = refl
 delete_above k (y ∷ ys) a =
     let q : eqb k y.key ≡ false = ne_eqb k y.key (λ e. omega (arith, a.0, e)) in
     rw q (ap (λ z. y ∷ z) (delete_above k ys a.1))
 
-delete_left : (k : ℕ) (xs ys : List Pair) → Above k ys → delete k (xs ++ ys) ≡ delete k xs ++ ys
+delete_left : (k : ℕ) (xs ys : List Pair) → AllAbove k ys → delete k (xs ++ ys) ≡ delete k xs ++ ys
 delete_left k [] ys a = delete_above k ys a
 delete_left k (x ∷ xs) ys a = go (eqb k x.key) (delete_left k xs ys a)
   where
@@ -248,17 +249,15 @@ delete_left k (x ∷ xs) ys a = go (eqb k x.key) (delete_left k xs ys a)
     go true e = refl
     go false e = ap (λ z. x ∷ z) e
 
-delete_right : (k : ℕ) (xs ys : List Pair) → Below k xs → delete k (xs ++ ys) ≡ xs ++ delete k ys
+delete_right : (k : ℕ) (xs ys : List Pair) → AllBelow k xs → delete k (xs ++ ys) ≡ xs ++ delete k ys
 delete_right k [] ys a = refl
 delete_right k (x ∷ xs) ys a =
     let q : eqb k x.key ≡ false = ne_eqb k x.key (λ e. omega (arith, a.0, e)) in
     rw q (ap (λ z. x ∷ z) (delete_right k xs ys a.1))
 
-pub insert_local : (k v : ℕ) → IsLocal k (insert k v)
-insert_local k v = record { left = insert_left k v; right = insert_right k v }
-
-pub delete_local : (k : ℕ) → IsLocal k (delete k)
-delete_local k = record { left = delete_left k; right = delete_right k }
+pub edited_local : (e : MapEdit) → IsLocal (edit_key e) (edited e)
+edited_local (Insert k v) = record { left = insert_left k v; right = insert_right k v }
+edited_local (Delete k) = record { left = delete_left k; right = delete_right k }
 
 -- A subtree is replaced
 

@@ -32,6 +32,7 @@ use Rattle.ordered_map.specs.TreeWords.{Leaf, Fork, is_leaf, class, Has}
 use Rattle.ordered_map.specs.TreeShape.{MayEdit, TreeAllows}
 use Rattle.ordered_map.specs.Spelled.{Spells}
 use Rattle.ordered_map.specs.Runs.{IsTreeRun}
+use Rattle.ordered_map.proofs.Holding.{leaf_here}
 use Rattle.ordered_map.proofs.Grown.{opening_tree}
 
 -- one pass that owns nodes 3 to 5 and SCX-record 1
@@ -451,10 +452,10 @@ spells_one = record {
       record { fork = refl; left = refl; right = refl; low = lit< tt; high = lit< tt },
       (
         record { fork = refl; left = refl; right = refl; low = lit< tt; high = lit< tt },
-        record { leaf = refl; small = lit< tt; from = lit≤ tt; below = lit< tt },
-        record { leaf = refl; small = lit< tt; from = lit≤ tt; below = lit< tt },
+        leaf_here (value done) 4 _ _ refl (lit< tt) (lit≤ tt) (lit< tt),
+        leaf_here (value done) 5 _ _ refl (lit< tt) (lit≤ tt) (lit< tt),
       ),
-      record { leaf = refl; small = lit< tt; from = lit≤ tt; below = lit< tt },
+      leaf_here (value done) 2 _ _ refl (lit< tt) (lit≤ tt) (lit< tt),
     );
     is = refl;
   };

@@ -1,12 +1,73 @@
--- The edits of the tree, as facts on the words of the nodes.
-use Rattle.std.specs.Prelude.{◌≡◌, ℕ, ◌+◌, ◌<◌, true, false, ◌⊎◌}
+-- The edits of the tree, as facts on the words of the nodes: by lists of pairs, and for leaves of
+-- one pair each.
+use Rattle.std.specs.Prelude.{◌≡◌, ◌≢◌, ℕ, ◌+◌, ◌^◌, ◌<◌, true, false, ◌⊎◌, [], ◌++◌}
 use Rattle.arena.specs.declared.word.Side.{Side}
 use Rattle.arena.specs.declared.word.Side.TheVariants.{Left, Right}
 use Rattle.arena.specs.declared.word.NodeWord.TheVariants.{Settled}
 use Rattle.arena.specs.declared.word.SettledPart.TheVariants.{Head, Key, Value}
 use Rattle.arena.specs.declared.word.Word.{Word}
 use Rattle.arena.specs.Words.{node, child}
-use Rattle.ordered_map.specs.TreeWords.{class, is_leaf, level, rank}
+use Rattle.ordered_map.specs.OrderedMap.{MapEdit, edited, AllBelow, AllFrom}
+use Rattle.ordered_map.specs.Holding.{held_pairs, IsWellCounted}
+use Rattle.ordered_map.specs.TreeWords.{class, is_leaf, level, rank, leaf_items}
+
+-- By lists of pairs
+
+-- n is a leaf of class 0, which holds as many pairs as a leaf may hold
+pub record IsLowLeaf (f : Word → ℕ) (n : ℕ) : Type 0 where
+  pub leaf : is_leaf f n ≡ true
+  pub class : class f n ≡ 0
+  pub counted : IsWellCounted f n
+
+-- n is a leaf that may stand last in the place of the leaf l: of its class, and, above all keys, of
+-- its key
+pub record IsLastLeaf (f : Word → ℕ) (n l : ℕ) : Type 0 where
+  pub leaf : is_leaf f n ≡ true
+  pub same_class : class f n ≡ class f l
+  pub counted : class f n ≡ 0 → IsWellCounted f n
+  pub key : class f n ≢ 0 → f (node n (Settled Key)) ≡ f (node l (Settled Key))
+
+-- the leaf l is replaced by a leaf c, which holds what the edit makes of its pairs
+pub record IsSwapBy (f : Word → ℕ) (e : MapEdit) (l c : ℕ) : Type 0 where
+  pub leaf : is_leaf f l ≡ true
+  pub class : class f l ≡ 0
+  pub new : IsLowLeaf f c
+  pub pairs : held_pairs f c ≡ edited e (held_pairs f l)
+  pub deep : level f c ≡ level f l
+
+-- the leaf l is replaced by a fork c over two leaves, which between them hold what the edit makes of
+-- its items; the fork stands between them
+pub record IsSplitBy (f : Word → ℕ) (e : MapEdit) (l c x y : ℕ) : Type 0 where
+  pub leaf : is_leaf f l ≡ true
+  pub fork : is_leaf f c ≡ false
+  pub left : f (child c Left) ≡ x
+  pub right : f (child c Right) ≡ y
+  pub first : IsLowLeaf f x
+  pub small : AllBelow (2 ^ 64) (held_pairs f x)
+  pub last : IsLastLeaf f y l
+  pub items : leaf_items f x ++ leaf_items f y ≡ edited e (leaf_items f l)
+  pub before : AllBelow (rank f c) (leaf_items f x)
+  pub behind : AllFrom (rank f c) (leaf_items f y)
+  pub deep : level f c ≡ level f l
+  pub low : level f x ≡ level f c + 1
+  pub high : level f y ≡ level f c + 1
+
+-- the fork q over the leaf l, of whose pairs the edit leaves none, and its sibling z is replaced by
+-- a copy c of z: what the settled words say
+pub record IsJoinBy (f : Word → ℕ) (e : MapEdit) (q l z c : ℕ) : Type 0 where
+  pub fork : is_leaf f q ≡ false
+  pub leaf : is_leaf f l ≡ true
+  pub low : class f l ≡ 0
+  pub emptied : edited e (held_pairs f l) ≡ []
+  pub same_head : f (node c (Settled Head)) ≡ f (node z (Settled Head))
+  pub same_key : f (node c (Settled Key)) ≡ f (node z (Settled Key))
+  pub same_pairs : is_leaf f z ≡ true → class f z ≡ 0 → IsWellCounted f c × (held_pairs f c ≡ held_pairs f z)
+
+-- a leaf l is replaced by what holds what the edit makes of its pairs: by a leaf, or by a fork over two
+abbrev pub IsLeafEdit : (Word → ℕ) → MapEdit → ℕ → ℕ → Type 0
+IsLeafEdit f e l c = IsSwapBy f e l c ⊎ ((x y : ℕ) × IsSplitBy f e l c x y)
+
+-- Of leaves with one pair each
 
 -- n is a leaf with the pair k, v
 pub record IsPairLeaf (f : Word → ℕ) (n k v : ℕ) : Type 0 where
@@ -26,7 +87,7 @@ pub record IsLeafCopy (f : Word → ℕ) (c l : ℕ) : Type 0 where
   pub alike : IsAlike f c l
   pub value : f (node c (Settled Value)) ≡ f (node l (Settled Value))
 
--- a leaf of the key is replaced by another leaf
+-- a leaf of the key is replaced by another leaf: the case of one pair of `IsSwapBy`
 pub record IsSwap (f : Word → ℕ) (k v l c : ℕ) : Type 0 where
   pub leaf : is_leaf f l ≡ true
   pub class : class f l ≡ 0
@@ -34,7 +95,8 @@ pub record IsSwap (f : Word → ℕ) (k v l c : ℕ) : Type 0 where
   pub new : IsPairLeaf f c k v
   pub deep : level f c ≡ level f l
 
--- a leaf without the key is replaced by a fork over a leaf x of the key and a copy y of it
+-- a leaf without the key is replaced by a fork over a leaf x of the key and a copy y of it: the case
+-- of one pair of `IsSplitBy`
 pub record IsSplit (f : Word → ℕ) (k v l c x y : ℕ) : Type 0 where
   pub leaf : is_leaf f l ≡ true
   pub fork : is_leaf f c ≡ false
@@ -46,8 +108,8 @@ pub record IsSplit (f : Word → ℕ) (k v l c x y : ℕ) : Type 0 where
   pub order : ((k < rank f l) × IsAlike f c l × (f (child c Left) ≡ x) × (f (child c Right) ≡ y))
       ⊎ ((rank f l < k) × IsAlike f c x × (f (child c Left) ≡ y) × (f (child c Right) ≡ x))
 
--- the fork q over the leaf l of the key and its sibling z is replaced by a copy c of z:
--- what the settled words say
+-- the fork q over the leaf l of the key and its sibling z is replaced by a copy c of z: the case of
+-- one pair of `IsJoinBy`
 pub record IsJoin (f : Word → ℕ) (k q l z c : ℕ) : Type 0 where
   pub fork : is_leaf f q ≡ false
   pub leaf : is_leaf f l ≡ true

@@ -2,6 +2,7 @@ pub mod OrderedMap
 pub mod Requests
 pub mod Replies
 pub mod CallRules
+pub mod Holding
 pub mod TreeWords
 pub mod Spelled
 pub mod Paths

@@ -1,5 +1,5 @@
 -- The ordered map from keys to values: what each call replies, and the map that it leaves.
-use Rattle.std.specs.Prelude.{ℕ, ◌<◌, Bool, false, if◌then◌else◌, ◌&&◌, ◌==◌, nat_le, nat_lt, List, [], ◌∷◌, take, Option, Some, None, is_some}
+use Rattle.std.specs.Prelude.{ℕ, ◌<◌, ◌≤◌, Bool, false, if◌then◌else◌, ◌&&◌, ◌==◌, nat_le, nat_lt, List, [], ◌∷◌, take, Option, Some, None, is_some}
 use Rattle.ordered_map.specs.declared.pair.Pair.{Pair}
 
 -- A map is the list of its pairs by rising key; the empty list is the empty map.
@@ -12,6 +12,16 @@ pair k v = record { key = k; value = v }
 abbrev pub AllAbove : ℕ → List Pair → Type 0
 AllAbove k [] = Unit {0}
 AllAbove k (p ∷ ps) = (k < p.key) × AllAbove k ps
+
+-- all keys are below k
+abbrev pub AllBelow : ℕ → List Pair → Type 0
+AllBelow k [] = Unit {0}
+AllBelow k (p ∷ ps) = (p.key < k) × AllBelow k ps
+
+-- all keys are k or above
+abbrev pub AllFrom : ℕ → List Pair → Type 0
+AllFrom k [] = Unit {0}
+AllFrom k (p ∷ ps) = (k ≤ p.key) × AllFrom k ps
 
 -- the keys rise
 abbrev pub IsRising : List Pair → Type 0

@@ -7,7 +7,8 @@ use Rattle.arena.specs.declared.word.SettledPart.TheVariants.{Head, Key, Value}
 use Rattle.arena.specs.declared.word.Word.{Word}
 use Rattle.arena.specs.Words.{node, child}
 use Rattle.ordered_map.specs.declared.pair.Pair.{Pair}
-use Rattle.ordered_map.specs.OrderedMap.{pair, get}
+use Rattle.ordered_map.specs.OrderedMap.{pair, AllBelow, AllFrom, IsRising, get}
+use Rattle.ordered_map.specs.Holding.{held_pairs, IsWellCounted}
 
 -- The settled words of a node; `f` says what each word holds
 
@@ -36,15 +37,20 @@ pub record IsBlankAboveKeys (f : Word → ℕ) (n : ℕ) : Type 0 where
 abbrev pub toward : (Word → ℕ) → ℕ → ℕ → Side
 toward f n k = if nat_lt k (rank f n) then Left else Right
 
--- what the leaf n holds: its pairs, by rising key
+-- what the leaf n gives to the map: its pairs, by rising key
 abbrev pub leaf_pairs : (Word → ℕ) → ℕ → List Pair
-leaf_pairs f n = if class f n == 0 then pair (f (node n (Settled Key))) (f (node n (Settled Value))) ∷ [] else []
+leaf_pairs f n = if class f n == 0 then held_pairs f n else []
+
+-- the leaf n in the order of all leaves: its pairs, or one item, its rank, if it is above all keys
+abbrev pub leaf_items : (Word → ℕ) → ℕ → List Pair
+leaf_items f n = if class f n == 0 then held_pairs f n else pair (rank f n) 0 ∷ []
 
 -- what the leaf n says of the key k
 abbrev pub said : (Word → ℕ) → ℕ → ℕ → Option ℕ
 said f k n = get k (leaf_pairs f n)
 
--- what the leaf n says of the least key, where it is the first leaf
+-- what the leaf n says of the least key, where it is the first leaf: the first of its pairs, which
+-- is the only one
 abbrev pub first_said : (Word → ℕ) → ℕ → Option Pair
 first_said f n = if class f n == 0 then Some (pair (f (node n (Settled Key))) (f (node n (Settled Value)))) else None
 
@@ -68,14 +74,21 @@ pub record IsForkOver (f : Word → ℕ) (n : ℕ) (a b : Tree) : Type 0 where
   pub low : level f n < level f (root a)
   pub high : level f n < level f (root b)
 
--- node n is a leaf with a rank from `low` to below `high`
+-- the items of the leaf n rise, from `low` to below `high`; they are as many as a leaf may hold, and
+-- keys of the map if it is of class 0
+pub record HasItems (f : Word → ℕ) (n low high : ℕ) : Type 0 where
+  pub keys : class f n ≡ 0 → IsWellCounted f n × AllBelow (2 ^ 64) (held_pairs f n)
+  pub rising : IsRising (leaf_items f n)
+  pub from : AllFrom low (leaf_items f n)
+  pub below : AllBelow high (leaf_items f n)
+
+-- node n is a leaf with its items from `low` to below `high`
 pub record IsLeaf (f : Word → ℕ) (n low high : ℕ) : Type 0 where
   pub leaf : is_leaf f n ≡ true
   pub small : f (node n (Settled Key)) < 2 ^ 64
-  pub from : low ≤ rank f n
-  pub below : rank f n < high
+  pub items : HasItems f n low high
 
--- the words show the tree, and all its leaves have ranks from `low` to below `high`:
+-- the words show the tree, and all its leaves have items from `low` to below `high`:
 -- below a fork all on the left is below it, and all on the right is at it or above
 abbrev pub Shows : (Word → ℕ) → ℕ → ℕ → Tree → Type 0
 Shows f low high (Leaf n) = IsLeaf f n low high

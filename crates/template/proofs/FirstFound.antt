@@ -10,11 +10,11 @@ use Rattle.arena.specs.Words.{node, child}
 use Rattle.arena.specs.History.{History, value, Extends}
 use Rattle.arena.specs.Machines.{Call}
 use Rattle.histories.proofs.Lemmas.{node_since}
-use Rattle.ordered_map.specs.OrderedMap.{pair}
+use Rattle.ordered_map.specs.OrderedMap.{pair, get}
 use Rattle.ordered_map.specs.Paths.{Passed, IsFirstAt}
 use Rattle.ordered_map.specs.Runs.{IsTreeRun}
 use Rattle.ordered_map.specs.TreeWords.{class, is_leaf, rank, toward, first_said}
-use Rattle.ordered_map.proofs.Lemmas.{run_since, walk_small, walk_before, walk_left, walk_least, walk_named, walk_next, walk_own, SameSettled, settled_rank, settled_leaf}
+use Rattle.ordered_map.proofs.Lemmas.{run_since, walk_small, walk_before, walk_left, walk_least, walk_named, walk_next, walk_own, SameSettled, held_one, low_pairs, settled_rank, settled_leaf}
 use Rattle.template.specs.FoundLeaf.{HasEnded, HasFoundGoal, HasFoundLeaf, first_told}
 use Rattle.template.specs.Trails.{WasPassed, HasTurned}
 use Rattle.template.specs.declared.walk.Found.{Found}
@@ -115,7 +115,7 @@ module _ (c : Call) (h : History) (f : Found) (run : IsTreeRun c.layout h) (a : 
       at_low z =
           let low : class (value h) leaf ≡ 0 = class_is ∙ z in
           let key : value h (node leaf (Settled KeyWord)) ≡ f.key = a.key z in
-          let says : f.value ≡ Some (value h (node leaf (Settled ValueWord))) = a.says ∙ rw (eq-eqb (class (value h) leaf) 0 low, eq-eqb f.key (value h (node leaf (Settled KeyWord))) (sym key)) refl in
+          let says : f.value ≡ Some (value h (node leaf (Settled ValueWord))) = a.says ∙ ap (get f.key) (low_pairs (value h) leaf low ∙ held_one (value h) leaf) ∙ rw (eq-eqb f.key (value h (node leaf (Settled KeyWord))) (sym key)) refl in
           rw (eq-eqb (class (value h) leaf) 0 low, says) (λ i. Some (pair (key i) (value h (node leaf (Settled ValueWord)))))
 
       at_high : f.head.class ≢ 0 → first_said (value h) leaf ≡ first_told f

@@ -1,5 +1,5 @@
 -- What else is known of walks: they ask for loads alone; how they begin, and what they have found.
-use Rattle.std.proofs.Common.{◌≡◌, ◌≢◌, ℕ, ◌+◌, ◌*◌, ◌%◌, ◌^◌, ◌<◌, ◌≤◌, [], ◌∷◌, length, arith, true, false, cond, eqb, ◌⊎◌, inl, inr, eq-eqb, ne_eqb, Option, Some, None, refl, sym, ◌∙◌, ap, subst}
+use Rattle.std.proofs.Common.{◌≡◌, ◌≢◌, ℕ, ◌+◌, ◌*◌, ◌^◌, ◌<◌, ◌≤◌, length, arith, true, false, ◌⊎◌, inl, inr, eq-eqb, ne_eqb, Option, Some, None, refl, sym, ◌∙◌, ap, subst}
 use native.Mathlib.Decide.{ℕ_discrete}
 use Rattle.std.proofs.lemmas.Nat.{mul-le}
 use Rattle.arena.specs.declared.step.Row.{Row}
@@ -20,12 +20,12 @@ use Rattle.arena.specs.Machines.{IsRun, Call}
 use Rattle.arena.specs.TakenNodes.{taken_nodes}
 use Rattle.arena.proofs.Lemmas.{ends_trans, taken_few, taken_more}
 use Rattle.histories.proofs.Lemmas.{node_stays}
-use Rattle.ordered_map.specs.OrderedMap.{pair, get}
+use Rattle.ordered_map.specs.OrderedMap.{get}
 use Rattle.ordered_map.specs.Paths.{IsAnswerAt}
 use Rattle.ordered_map.specs.Runs.{IsTreeRun}
 use Rattle.ordered_map.specs.TreeShape.{TreeAllows}
 use Rattle.ordered_map.specs.TreeWords.{class, is_leaf, rank, said, IsBlankAboveKeys}
-use Rattle.ordered_map.proofs.Lemmas.{walk_answers, walk_named, run_since, root_head, passed_blank, blame_field, SameSettled, settled_leaf}
+use Rattle.ordered_map.proofs.Lemmas.{walk_answers, walk_named, run_since, root_head, passed_blank, blame_field, SameSettled, held_one, low_pairs, same_pairs, settled_leaf}
 use Rattle.template.specs.declared.walk.Found.{Found}
 use Rattle.template.specs.declared.walk.WalkRun.{WalkRun}
 use Rattle.template.specs.declared.walk.WalkAt.{WalkAt}
@@ -83,7 +83,7 @@ said_some f k n old e = go (ℕ_discrete (class f n) 0)
     nothing_above d = rw (ne_eqb (class f n) 0 d) refl
 
     nothing_of : class f n ≡ 0 → k ≢ f (node n (Settled KeyWord)) → said f k n ≡ None
-    nothing_of z d = rw (eq-eqb (class f n) 0 z, ne_eqb k (f (node n (Settled KeyWord))) d) refl
+    nothing_of z d = ap (get k) (low_pairs f n z ∙ held_one f n) ∙ rw (ne_eqb k (f (node n (Settled KeyWord))) d) refl
 
     at_key : class f n ≡ 0 → Dec (k ≡ f (node n (Settled KeyWord))) → f (node n (Settled KeyWord)) ≡ k
     at_key z (yes q) = sym q
@@ -104,7 +104,7 @@ said_none f k n small e at = absurd (let y : None ≡ Some (f (node n (Settled V
     key = omega (arith, at, small)
 
     value_of : class f n ≡ 0 → k ≡ f (node n (Settled KeyWord)) → said f k n ≡ Some (f (node n (Settled ValueWord)))
-    value_of z q = rw (eq-eqb (class f n) 0 z, eq-eqb k (f (node n (Settled KeyWord))) q) refl
+    value_of z q = ap (get k) (low_pairs f n z ∙ held_one f n) ∙ rw (eq-eqb k (f (node n (Settled KeyWord))) q) refl
 
 -- What it has found
 
@@ -148,7 +148,7 @@ module _ {asked : ℕ} (k : ℕ) (c : Call) (h : History) (f : Found) (run : IsT
       omega (arith, deep, few, most)
 
 same_said : (f g : Word → ℕ) (k n : ℕ) → SameSettled f g n → said g k n ≡ said f k n
-same_said f g k n e = λ i. get k (cond (eqb (e (Settled HeadWord) tt i % 4) 0) (pair (e (Settled KeyWord) tt i) (e (Settled ValueWord) tt i) ∷ []) [])
+same_said f g k n e = ap (get k) (same_pairs f g n e)
 
 -- what a call has found it has found, whatever row comes
 pub found_more : (c : Call) (h : History) (r : Row) (k asked : ℕ) (f : Found) → IsTreeRun c.layout h → IsRun TreeAllows c.layout (r ⊳ h) → HasEnded c h k asked f → HasEnded c (r ⊳ h) k asked f

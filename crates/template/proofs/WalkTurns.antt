@@ -16,7 +16,8 @@ use Rattle.arena.specs.History.{History, value, Extends}
 use Rattle.arena.specs.Machines.{Call, MatchTurn}
 use Rattle.arena.specs.TakenNodes.{taken_nodes}
 use Rattle.arena.proofs.Lemmas.{ends_self}
-use Rattle.ordered_map.proofs.Lemmas.{walk_first, walk_next, walk_left, walk_rises, below_root, passed_depth}
+use Rattle.ordered_map.proofs.Lemmas.{walk_first, walk_next, walk_left, walk_rises, below_root, passed_depth, held_one, low_pairs}
+use Rattle.ordered_map.specs.OrderedMap.{get}
 use Rattle.ordered_map.specs.Paths.{Passed}
 use Rattle.ordered_map.specs.Runs.{IsTreeRun}
 use Rattle.ordered_map.specs.TreeWords.{class, is_leaf, level, rank, toward, said}
@@ -80,13 +81,13 @@ module _ (c : Call) (h : History) (m : WalkRun) (k : WalkStands m c h) (head : H
     at_key = let x = class_zero in omega (arith, x, d)
 
     pub says_nothing : (asked : ℕ) → asked ≢ key → None ≡ said (value h) asked n
-    says_nothing asked q = rw (eq-eqb (class (value h) n) 0 class_zero, ne_eqb asked (here h m (Settled KeyWord)) (λ x. q (x ∙ d))) refl
+    says_nothing asked q = sym (ap (get asked) (low_pairs (value h) n class_zero ∙ held_one (value h) n) ∙ rw (ne_eqb asked (here h m (Settled KeyWord)) (λ x. q (x ∙ d))) refl)
 
     pub goes_by_key : toward (value h) n (path_key m.goal) ≡ cond (ltb (path_key m.goal) key) Left Right
     goes_by_key = ap (λ r. cond (ltb (path_key m.goal) r) Left Right) at_key
 
     pub says_value : (asked : ℕ) → asked ≡ key → (v : ℕ) → here h m (Settled ValueWord) ≡ v → Some v ≡ said (value h) asked n
-    says_value asked q v x = rw (eq-eqb (class (value h) n) 0 class_zero, eq-eqb asked (here h m (Settled KeyWord)) (q ∙ sym d)) (ap Some (sym x))
+    says_value asked q v x = sym (ap (get asked) (low_pairs (value h) n class_zero ∙ held_one (value h) n) ∙ rw (eq-eqb asked (here h m (Settled KeyWord)) (q ∙ sym d)) (ap Some x))
 
 -- it has ended at a leaf above all keys
 pub ends_above : (c : Call) (h : History) (old now : WalkRun) (turn : Turn Found) (head : HeadParts) → WalkStands old c h → WalkEnds old now turn head 0 None → head_of (here h old (Settled HeadWord)) ≡ head → head.class ≢ 0 → head.leaf ≡ true → WalkTurn c h now turn
