@@ -1,4 +1,6 @@
 //! Numbers of nodes, SCX-records, passes and members.
+use std::fmt;
+
 /// The number of a node. Words hold numbers of nodes, so it is as wide as a word.
 #[derive(Clone, Copy, Debug, Default, PartialEq, Eq)]
 pub struct NodeNo(pub u64);
@@ -7,7 +9,21 @@ pub struct NodeNo(pub u64);
 #[derive(Clone, Copy, Debug, Default, PartialEq, Eq)]
 pub struct ScxNo(pub u64);
 
-/// The number of a pass, which is a client in the player.
+impl fmt::Display for NodeNo {
+    fn fmt<W: fmt::Write>(&self, f: &mut fmt::Formatter<W>) -> fmt::Result {
+        let number = self.0;
+        write!(f, "{number}")
+    }
+}
+
+impl fmt::Display for ScxNo {
+    fn fmt<W: fmt::Write>(&self, f: &mut fmt::Formatter<W>) -> fmt::Result {
+        let number = self.0;
+        write!(f, "{number}")
+    }
+}
+
+/// The number of a pass, counted from 0: of a client in the player.
 #[derive(Clone, Copy, Debug, PartialEq, Eq)]
 pub struct PassNo(pub u32);
 

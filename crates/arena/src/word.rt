@@ -14,7 +14,9 @@ pub const ABORTED: u64 = 2;
 /// Which of the two fields of a node.
 #[derive(Clone, Copy, Debug, PartialEq, Eq)]
 pub enum Side {
+    /// The first: in a dictionary towards lower keys.
     Left,
+    /// The second.
     Right,
 }
 

@@ -6,7 +6,7 @@ use Rattle.arena.specs.History.{History, ◌⊳◌, value, Extends}
 use Rattle.arena.specs.Machines.{Call, IsRun}
 use Rattle.arena.specs.Share.{Remaining}
 use Rattle.arena.proofs.Lemmas.{ends_self, ends_trans}
-use Rattle.ordered_map.specs.OrderedMap.{MapCall, MapEdit, Edit, Insert, Delete, PopFirst, ReplaceIf, Get, Successor, Range, MapReply, OneValue, ManyPairs, edit_of, first_pair, pair_or_none, reply}
+use Rattle.ordered_map.specs.OrderedMap.{MapCall, MapEdit, MapReply, OneValue, ManyPairs, edit_of, pair_or_none, reply}
 use Rattle.ordered_map.specs.Spelled.{Spells}
 use Rattle.ordered_map.specs.declared.pair.Pair.{Pair}
 use Rattle.edits.specs.Tries.{HasEnteredNone}
@@ -14,12 +14,12 @@ use Rattle.dict.specs.Calls.{call_in, share_of}
 use Rattle.dict.specs.DictKnown.{DictRefuses, DictAnswers}
 use Rattle.ordered_map.specs.CallRules.{MayReply, form_of}
 use Rattle.dict.specs.Forms.{word_form}
-use Rattle.ordered_map.specs.CallRules as form
 use Rattle.dict.specs.Known.{MapAnswers}
 use Rattle.dict.specs.Says.{HasMadeEdit, HasReadMap, HasTold, HasToldBy, KeepsLists, TellsOfMap, WordSays}
 use Rattle.dict.specs.Translated.{TellsTyped, SaysSame, IsTranslated, HasFormOf}
 use Rattle.dict.specs.Typed.{AreTyped, IsTypedReply, TypedAllows}
-use Rattle.dict.specs.Laws.TypedMaps.{typed_map, typed_since, reply_typed}
+use Rattle.dict.specs.Laws.EachCall.{may_lack, reply_typed, tells_lists}
+use Rattle.dict.specs.Laws.TypedMaps.{typed_map, typed_since}
 use Rattle.dict.specs.WordReplies.{told_in}
 use Rattle.dict.specs.Words.{IsWordOf, IsValidReply}
 use Rattle.ordered_map.specs.Replies.{told_of}
@@ -61,19 +61,13 @@ module _ (c : Call) (h : History) where
   told_by (Some edit) call told x = (x.map, x.gives)
   told_by None call told x = (x.map, x.gives)
 
-  -- one pair, or none, is not a list of pairs
-  one_pair : (p : Option Pair) (ps : List Pair) → pair_or_none p ≡ ManyPairs ps → ⊥
-  one_pair None ps e = cc
-  one_pair (Some p) ps e = cc
-
   -- a call that tells pairs keeps lists, and has entered nothing
   keeps : (call : MapCall) (ps : List Pair) → HasTold c h call (ManyPairs ps) → KeepsLists call × HasEnteredNone c.layout c.pass h c.start
-  keeps (Edit edit) ps x = absurd (let e = (told_by (edit_of (Edit edit) (ManyPairs ps)) (Edit edit) (ManyPairs ps) x).1 in cc)
-  keeps PopFirst ps x = absurd (one_pair (first_pair x.map) ps x.gives)
-  keeps (ReplaceIf k expected value) ps x = absurd (let e = x.gives in cc)
-  keeps (Get k) ps x = absurd (let e = x.gives in cc)
-  keeps (Successor k) ps x = (tt, x.none)
-  keeps (Range low high most) ps x = (tt, x.none)
+  keeps call ps x =
+      let told = told_by (edit_of call (ManyPairs ps)) call (ManyPairs ps) x in
+      let lists = tells_lists call told.0 ps told.1 in
+      let read : HasReadMap c h call (ManyPairs ps) = subst (λ (made : Option MapEdit). HasToldBy made c h call (ManyPairs ps)) lists.1 x in
+      (lists.0, read.none)
 
   module _ {K V : Type 0} (key : K → ℕ) (value_of : V → ℕ) (call : MapCall) (share : Remaining) (tries : ℕ) where
     abbrev Right : Reply K V → Type 0
@@ -100,16 +94,7 @@ module _ (c : Call) (h : History) where
     says_right (words.Full full) r e x = subst Right (sym e) (tt, x.1)
     says_right words.NoMemory r e x = subst Right (sym e) (tt, x.1)
 
--- a call that may tell pairs may be refused memory
-may_lack : (call : MapCall) → MayReply call form.Pairs → MayReply call form.NoMemory
-may_lack (Edit (Insert k v)) x = absurd x
-may_lack (Edit (Delete k)) x = absurd x
-may_lack PopFirst x = absurd x
-may_lack (ReplaceIf k e v) x = absurd x
-may_lack (Get k) x = x
-may_lack (Successor k) x = absurd x
-may_lack (Range low high most) x = tt
-
+-- so its reply is of a form that the call may give
 may_reply : {K V : Type 0} (call : MapCall) (w : WordReply) (r : Reply K V) → HasFormOf w r → MayReply call (word_form w) → MayReply call (form_of r)
 may_reply call w r (inl e) x = subst (MayReply call) (sym e) x
 may_reply call w r (inr e) x = subst (MayReply call) (sym e.1) (may_lack call (subst (MayReply call) e.0 x))

@@ -3,6 +3,7 @@ pub mod NameKeys
 pub mod Found
 pub mod Kinds
 pub mod Map
+pub mod EachCall
 pub mod TypedMaps
 pub mod TypedSteps
 pub mod Dict

@@ -15,7 +15,8 @@ pub struct Name8 {
 }
 
 impl Name8 {
-    /// The name of this text, if it is one's.
+    /// The name of this text, if it is one's: `Name8::new("ada")` is some, `Name8::new("a b")` and
+    /// that of nine characters are none.
     pub fn new(text: &str) -> Option<Name8>
         ensures valid { IsSome result ↔ IsName text.now }
         ensures word { IfSome result (λ n. n.word ≡ name_word text.now) }

@@ -9,8 +9,9 @@ use crate::value::WordValue;
 use arena::Shape;
 use std::marker::PhantomData;
 
-/// The shape of a dictionary with keys `K` and values `V`: each SCX-record that begins makes an
-/// edit of the words of such a key, and of such a value.
+/// The shape of a dictionary with keys `K` and values `V`: `Forest<Dict<Name8, u32>>` is one from
+/// names to numbers. Each SCX-record that begins makes an edit of the words of such a key, and of
+/// such a value.
 #[derive(Debug, Drop)]
 pub struct Dict<K, V>(PhantomData<(K, V)>);
 

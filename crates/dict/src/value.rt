@@ -2,12 +2,13 @@
 ghost use Rattle.std.specs.Prelude.{◌≡◌, ◌≢◌, ℕ, ◌<◌, ◌^◌, IfSome, IsNone};
 ghost use Rattle.std.proofs.Common.{arith};
 
-/// A type of values that a word holds: each has a word of its own.
+/// A type of values that a word holds: each has a word of its own. `u64` and `u32` have it.
 pub trait WordValue: Copy {
     /// Whether this is a value of the type. In proofs an integer is any number, also one that the
     /// type does not have.
     ghost is_valid: { Self → Type 0 };
 
+    /// The word of each.
     ghost word_of: { Self → ℕ };
 
     /// The word that stands for it.

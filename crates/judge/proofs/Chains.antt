@@ -3,23 +3,23 @@ use Rattle.std.proofs.Common.{◌≡◌, ℕ, zero, suc, ◌<◌, ◌≤◌, ◌
 use Rattle.std.specs.Prelude.{IfSome}
 use Rattle.std.proofs.lemmas.List.{get_or_append_left, get_or_at, get_or_default}
 use Rattle.judge.specs.declared.graph.Link.{Link}
-use Rattle.judge.specs.Graph.{StandsAt, HasLink, here, older}
+use Rattle.judge.specs.Graph.{IsLinkAt, HasLink, here, older}
 
 -- one link stands at a place
-pub one_there : (list : List Link) (i : ℕ) (k l : Link) → StandsAt list i k → StandsAt list i l → k ≡ l
+pub one_there : (list : List Link) (i : ℕ) (k l : Link) → IsLinkAt list i k → IsLinkAt list i l → k ≡ l
 one_there list i k l a b = a.is ∙ get_or_default list i k l a.within ∙ sym b.is
 
-pub stands_more : (list more : List Link) (i : ℕ) (l : Link) → StandsAt list i l → StandsAt (list ++ more) i l
+pub stands_more : (list more : List Link) (i : ℕ) (l : Link) → IsLinkAt list i l → IsLinkAt (list ++ more) i l
 stands_more list more i l a = record { within = omega (a.within, length-append list more, arith); is = a.is ∙ sym (get_or_append_left list more l i a.within) }
 
-pub stands_back : (list more : List Link) (i : ℕ) (l : Link) → i < length list → StandsAt (list ++ more) i l → StandsAt list i l
+pub stands_back : (list more : List Link) (i : ℕ) (l : Link) → i < length list → IsLinkAt (list ++ more) i l → IsLinkAt list i l
 stands_back list more i l e a = record { within = e; is = a.is ∙ get_or_append_left list more l i e }
 
-pub stands_last : (list : List Link) (l : Link) → StandsAt (list ++ l ∷ []) (length list) l
+pub stands_last : (list : List Link) (l : Link) → IsLinkAt (list ++ l ∷ []) (length list) l
 stands_last list l = record { within = omega (length-append list (l ∷ []), arith); is = sym (get_or_at list l [] l (length list) refl) }
 
 -- a link of a longer list is one of the shorter, or the last
-pub stands_split : (list : List Link) (i : ℕ) (k l : Link) → StandsAt (list ++ l ∷ []) i k → StandsAt list i k ⊎ ((i ≡ length list) × (k ≡ l))
+pub stands_split : (list : List Link) (i : ℕ) (k l : Link) → IsLinkAt (list ++ l ∷ []) i k → IsLinkAt list i k ⊎ ((i ≡ length list) × (k ≡ l))
 stands_split list i k l a = go (before_or i (length list))
   where
     before_or : (m n : ℕ) → (m < n) ⊎ (n ≤ m)
@@ -27,11 +27,11 @@ stands_split list i k l a = go (before_or i (length list))
     before_or zero (suc n) = inl (omega arith)
     before_or (suc m) (suc n) = ⊎_elim (λ e. inl (omega (e, arith))) (λ e. inr (omega (e, arith))) (before_or m n)
 
-    go : (i < length list) ⊎ (length list ≤ i) → StandsAt list i k ⊎ ((i ≡ length list) × (k ≡ l))
+    go : (i < length list) ⊎ (length list ≤ i) → IsLinkAt list i k ⊎ ((i ≡ length list) × (k ≡ l))
     go (inl e) = inl (stands_back list (l ∷ []) i k e a)
     go (inr e) =
         let at : i ≡ length list = omega (a.within, length-append list (l ∷ []), e, arith) in
-        inr (at, one_there (list ++ l ∷ []) (length list) k l (subst (λ j. StandsAt (list ++ l ∷ []) j k) at a) (stands_last list l))
+        inr (at, one_there (list ++ l ∷ []) (length list) k l (subst (λ j. IsLinkAt (list ++ l ∷ []) j k) at a) (stands_last list l))
 
 -- chains
 
@@ -39,7 +39,7 @@ pub no_link : (list : List Link) (v : ℕ) → ¬ HasLink list v None
 no_link list v p = elim p [ ]
 
 -- what is left of a chain behind its first link
-pub link_split : (list : List Link) (v i : ℕ) (l : Link) → StandsAt list i l → HasLink list v (Some i) → (l.to ≡ v) ⊎ HasLink list v l.before
+pub link_split : (list : List Link) (v i : ℕ) (l : Link) → IsLinkAt list i l → HasLink list v (Some i) → (l.to ≡ v) ⊎ HasLink list v l.before
 link_split list v i l a (here j k b e) = inl (ap (λ (m : Link). m.to) (one_there list i l k a b) ∙ e)
 link_split list v i l a (older j k b p) = inr (subst (λ (m : Link). HasLink list v m.before) (one_there list i k l b a) p)
 
@@ -49,7 +49,7 @@ link_more list more v at (older i l a p) = older i l (stands_more list more i l 
 
 -- a chain of the shorter list stays one
 abbrev pub Rises : List Link → Type 0
-Rises list = (i : ℕ) (l : Link) → StandsAt list i l → IfSome l.before (λ b. b < i)
+Rises list = (i : ℕ) (l : Link) → IsLinkAt list i l → IfSome l.before (λ b. b < i)
 
 abbrev pub IsBelow : Option ℕ → ℕ → Type 0
 IsBelow at n = IfSome at (λ i. i < n)

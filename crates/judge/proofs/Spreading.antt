@@ -4,7 +4,7 @@ use Rattle.std.proofs.Math.ListN.{length-set}
 use Rattle.std.proofs.lemmas.List.{get_or_append_left, get_or_at, set-get_or, length-replicate}
 use Rattle.std.specs.Prelude.{IfSome, slice_set}
 use Rattle.judge.specs.declared.graph.Link.{Link}
-use Rattle.judge.specs.Graph.{count_unset, IsLink, IsReached, first, along, has_flag, newest_from, StandsAt, HasLink, here, older, IsUnfollowed, IsSpreading}
+use Rattle.judge.specs.Graph.{count_unset, IsLink, IsReached, first, along, has_flag, newest_from, IsLinkAt, HasLink, here, older, IsUnfollowed, IsSpreading}
 use Rattle.judge.proofs.Counts.{set_here, set_there}
 use Rattle.judge.proofs.Chains.{stands_last, stands_split, no_link, link_split, link_more, link_back, below_more}
 
@@ -104,7 +104,7 @@ module _ (reached : List Bool) (newest : List (Option ℕ)) (list : List Link) (
 
 module _ (reached : List Bool) (newest : List (Option ℕ)) (list : List Link) (fresh : List ℕ) (links : List (ℕ × ℕ)) where
   -- a link is followed
-  pub spread_next : (from i : ℕ) (l : Link) → IsSpreading reached newest list fresh links from (Some i) → StandsAt list i l → has_flag reached l.to ≡ true → IsSpreading reached newest list fresh links from l.before
+  pub spread_next : (from i : ℕ) (l : Link) → IsSpreading reached newest list fresh links from (Some i) → IsLinkAt list i l → has_flag reached l.to ≡ true → IsSpreading reached newest list fresh links from l.before
   spread_next from i l s a set = record {
     flagged = s.flagged;
     sound = s.sound;

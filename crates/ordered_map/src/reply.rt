@@ -2,7 +2,7 @@
 use arena::{Full, NodeNo, ScxNo};
 
 /// What a call of a dictionary replies.
-#[derive(Debug, Drop, PartialEq, Eq)]
+#[derive(Clone, Debug, Drop, PartialEq, Eq)]
 pub enum Reply<K, V> {
     /// To an insert, a delete, a replacement and a get: the value that the key had, if it had one.
     Value(Option<V>),
@@ -13,7 +13,7 @@ pub enum Reply<K, V> {
     /// All tries were lost. During the call this SCX-record of another pass was in progress over
     /// this node.
     Contended { node: NodeNo, scx: ScxNo },
-    /// The share has too little left.
+    /// The share has too little left, of an edit.
     Full(Full),
     /// A growth of what an ordered read keeps was refused.
     NoMemory,

@@ -1,6 +1,6 @@
 //! Calls of a dictionary.
 
-/// A call of a dictionary.
+/// A call of a dictionary, as one that is held open begins.
 #[derive(Clone, Copy, Debug, PartialEq, Eq)]
 pub enum Request<K, V> {
     /// Gives a key a value.
@@ -15,6 +15,7 @@ pub enum Request<K, V> {
     Get { key: K },
     /// Looks for the pair with the least key above this one.
     Successor { key: K },
-    /// Takes the first pairs by key of those with keys from `low` to `high`, at most so many.
+    /// Takes the first pairs by key of those with keys from `low` to `high`, both with them, at most
+    /// so many, 64 at the most.
     Range { low: K, high: K, most: u32 },
 }

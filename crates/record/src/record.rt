@@ -4,14 +4,14 @@ use ordered_map::Reply;
 use script::Script;
 
 /// The script, and the lines of a run in order.
-#[derive(Debug, Drop)]
+#[derive(Clone, Debug, Drop)]
 pub struct Record {
     pub script: Script,
     pub lines: Vec<Line>,
 }
 
 /// One line of a run.
-#[derive(Debug, Drop, PartialEq, Eq)]
+#[derive(Clone, Debug, Drop, PartialEq, Eq)]
 pub enum Line {
     /// A turn.
     Step(Row),
@@ -76,7 +76,7 @@ pub struct Entry {
 }
 
 /// A finished call.
-#[derive(Debug, Drop, PartialEq, Eq)]
+#[derive(Clone, Debug, Drop, PartialEq, Eq)]
 pub struct Finished {
     pub client: PassNo,
     /// The number of the call among the client's own, counted from 0.
@@ -93,7 +93,7 @@ pub struct Finished {
 
 /// What a call answers. In an answer with both, `node` is a cell of the call or a node of the tree,
 /// and `scx` another client's SCX-record that its info has named.
-#[derive(Debug, Drop, PartialEq, Eq)]
+#[derive(Clone, Debug, Drop, PartialEq, Eq)]
 pub enum Answer {
     /// `llx`: the fields of the cell at the call's last turn, where it is not final.
     Snapshot { left: NodeNo, right: NodeNo },

@@ -313,7 +313,8 @@ impl CommandText {
         name: &'static str,
         numbers: [Option<u64>; 3],
     ) -> Result<CommandText, AllocError>
-        ensures { IfOk result (λ t. t.name.now ∷ string_bytes t.a ∷ string_bytes t.b ∷ string_bytes t.c ∷ [] ≡ name.now ∷ map (λ n. option_map_or decimal n []) numbers) }
+        ensures { IfOk result (λ t. t.name.now ∷ string_bytes t.a ∷ string_bytes t.b ∷ string_bytes t.c ∷ []
+            ≡ name.now ∷ map (λ n. option_map_or decimal n []) numbers) }
     {
         let [a, b, c] = numbers;
         Ok(CommandText {

@@ -13,7 +13,7 @@ use crate::call_rows::CallRows;
 use crate::fault::{ScriptCause, ScriptFault};
 use arena::{Layout, Limits, Mode, NoMemory};
 use csv::StringRecord;
-use std::alloc::Global;
+use std::alloc::{AllocError, Global};
 use std::io::Read;
 use texts::{Metered, Rows, by_failure_count, field, small_number_of};
 
@@ -47,6 +47,19 @@ impl Script {
             layout: self.layout,
             calls: self.calls.as_slice().to_vec(alloc)?,
         })
+    }
+}
+
+impl Clone for Script {
+    ghost use Rattle.std.specs.Prelude.{◌≡◌};
+
+    ghost is_clone = { λ s copy. (copy.layout ≡ s.layout) × (copy.limits ≡ s.limits) × (copy.calls.items ≡ s.calls.items) };
+
+    fn clone(&self) -> Result<Script, AllocError> {
+        match self.copy(*self.calls.allocator()) {
+            Ok(copy) => Ok(copy),
+            Err(NoMemory) => Err(AllocError),
+        }
     }
 }
 

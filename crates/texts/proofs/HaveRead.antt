@@ -10,16 +10,16 @@ use Rattle.csv.specs.declared.parser.Config.{Config}
 use Rattle.csv.specs.declared.parser.State.{State}
 use Rattle.csv.specs.declared.parser.State.TheVariants as state
 use Rattle.csv.specs.declared.reader.Reader.{Reader}
-use Rattle.texts.specs.Reads.{HasRead, IsPlain}
+use Rattle.texts.specs.Reads.{HasRead, IsPlainReader}
 use Rattle.texts.specs.Texts.{AreRows, BeginWithRows, IsRow}
 use Rattle.texts.specs.declared.rows.Rows.{Rows}
 
 -- nothing has been read of a reader that was just made
-pub opened : {R : Type 0} (remaining : R → Option (List ℕ)) (bytes : List ℕ) (rows : Rows R) → IsPlain rows.reader → reader_state rows.reader ≡ state.StartRecord → source_of remaining rows.reader ≡ Some (strip_bom bytes) → HasRead remaining bytes [] rows
+pub opened : {R : Type 0} (remaining : R → Option (List ℕ)) (bytes : List ℕ) (rows : Rows R) → IsPlainReader rows.reader → reader_state rows.reader ≡ state.StartRecord → source_of remaining rows.reader ≡ Some (strip_bom bytes) → HasRead remaining bytes [] rows
 unfolding Reached
 opened remaining bytes rows plain start left = record { plain = plain; rest = strip_bom bytes; left = left; reached = (sym start, refl) }
 
-plain_after : {R : Type 0} (remaining : R → Option (List ℕ)) (old new : Reader R) (found : Bool) (fields : List (List ℕ)) → IsPlain old → ReadRecord remaining old new found fields → took_first new ≡ true → is_flexible new ≡ is_flexible old → IsPlain new
+plain_after : {R : Type 0} (remaining : R → Option (List ℕ)) (old new : Reader R) (found : Bool) (fields : List (List ℕ)) → IsPlainReader old → ReadRecord remaining old new found fields → took_first new ≡ true → is_flexible new ≡ is_flexible old → IsPlainReader new
 plain_after remaining old new found fields plain read first flexible = record { config = read.2 ∙ plain.config; trim = read.3 ∙ plain.trim; ready = inl first; flexible = flexible ∙ plain.flexible }
 
 -- a row more has been read

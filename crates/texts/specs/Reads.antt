@@ -13,7 +13,7 @@ abbrev pub last_row : {R : Type 0} → Rows R → List (List ℕ)
 last_row rows = fields_of rows.row
 
 -- the reader yields rows as they stand, of any number of fields, the first one too
-pub record IsPlain {R : Type 0} (reader : Reader R) : Type 0 where
+pub record IsPlainReader {R : Type 0} (reader : Reader R) : Type 0 where
   pub config : reader_config reader ≡ default_config
   pub trim : reader_trim reader ≡ trim.None
   pub ready : Ready reader
@@ -21,7 +21,7 @@ pub record IsPlain {R : Type 0} (reader : Reader R) : Type 0 where
 
 -- these rows of these bytes have been read, and the rest of the bytes is to come
 pub record HasRead {R : Type 0} (remaining : R → Option (List ℕ)) (bytes : List ℕ) (so_far : List (List (List ℕ))) (rows : Rows R) : Type 0 where
-  pub plain : IsPlain rows.reader
+  pub plain : IsPlainReader rows.reader
   pub rest : List ℕ
   pub left : source_of remaining rows.reader ≡ Some rest
   pub reached : Reached default_config state.StartRecord (strip_bom bytes) so_far (reader_state rows.reader) rest

@@ -19,7 +19,8 @@ impl Sheet {
 
     /// No text, and no room.
     pub fn new(alloc: Global) -> Sheet
-        ensures { sheet_text result ≡ [] }
+        ensures text { sheet_text result ≡ [] }
+        ensures room { sheet_room result ≡ 0 }
     {
         Sheet {
             bytes: Vec::new(alloc),
@@ -36,7 +37,8 @@ impl Sheet {
 
     /// Takes the text away, and keeps the room.
     pub fn clear(&mut self)
-        ensures { sheet_text self.new ≡ [] }
+        ensures text { sheet_text self.new ≡ [] }
+        ensures room { sheet_room self.new ≡ sheet_room self.old + length (sheet_text self.old) }
     {
         self.end = 0;
     }
@@ -45,6 +47,7 @@ impl Sheet {
     #[inline]
     pub fn make_room(&mut self, room: usize) -> Result<(), AllocError>
         ensures room { OnOk result (room ≤ sheet_room self.new) }
+        ensures kept { sheet_room self.old ≤ sheet_room self.new }
         ensures text { sheet_text self.new ≡ sheet_text self.old }
     {
         if room <= self.bytes.len() - self.end {
@@ -55,6 +58,7 @@ impl Sheet {
 
     fn grow(&mut self, room: usize) -> Result<(), AllocError>
         ensures room { OnOk result (room ≤ sheet_room self.new) }
+        ensures kept { sheet_room self.old ≤ sheet_room self.new }
         ensures text { sheet_text self.new ≡ sheet_text self.old }
     {
         let Some(wanted) = self.end.checked_add(room) else {

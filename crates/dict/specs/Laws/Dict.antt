@@ -23,7 +23,8 @@ use Rattle.dict.specs.Laws.Found.{found_tells}
 use Rattle.dict.specs.Laws.Map.{map_keeps, inner_lawful, map_made, map_told, on}
 use Rattle.dict.specs.Steps.{MapFits}
 use Rattle.dict.specs.Typed.{AreTyped, IsTypedCall, IsTypedEdit, IsTypedReply, TypedAllows}
-use Rattle.dict.specs.Laws.TypedMaps.{typed_run, typed_since, typed_map, reply_typed, edit_typed}
+use Rattle.dict.specs.Laws.EachCall.{reply_typed, edit_typed}
+use Rattle.dict.specs.Laws.TypedMaps.{typed_run, typed_since, typed_map}
 use Rattle.dict.specs.Laws.TypedSteps.{HasWalkedTo, typed_quiet, typed_update_lawful}
 use Rattle.dict.specs.declared.dict.DictRun.{DictRun}
 use Rattle.dict.specs.Inner.{EditKind, InnerRun, Update, Get, Successor, Range, inner}

@@ -1,6 +1,6 @@
 -- Every run in which edits of typed words alone begin is one of the tree, and its words spell a map
--- of such words, which replies such ones.
-use Rattle.std.proofs.Common.{◌≡◌, ℕ, zero, suc, List, [], ◌∷◌, take, Bool, true, false, if◌then◌else◌, ◌==◌, nat_lt, nat_le, ◌&&◌, Option, Some, None, inl, inr, refl, sym, subst}
+-- of such words.
+use Rattle.std.proofs.Common.{◌≡◌, ℕ, List, [], inl, inr, refl, sym, subst}
 use Rattle.arena.specs.declared.layout.Layout.{Layout}
 use Rattle.arena.specs.declared.limits.Mode.{Mode}
 use Rattle.arena.specs.declared.limits.Mode.TheVariants.{Tree as TreeMode}
@@ -11,13 +11,14 @@ use Rattle.arena.specs.Log.{IsEntered}
 use Rattle.arena.specs.Machines.{IsRun}
 use Rattle.arena.proofs.Lemmas.{ends_self, run_as}
 use Rattle.histories.proofs.Lemmas.{Logs, lawful_since, logs, same, shaped_since, wins}
-use Rattle.ordered_map.specs.OrderedMap.{MapEdit, Insert, Delete, insert, delete, edited, edit_key, edit_of, MapCall, Edit, PopFirst, ReplaceIf, Get, Successor, Range, MapReply, OneValue, OnePair, reply, get, first_pair, is_value, successor, between, pair, pair_or_none}
+use Rattle.ordered_map.specs.OrderedMap.{MapEdit, edited}
 use Rattle.ordered_map.specs.Runs.{IsTreeRun, Makes}
 use Rattle.ordered_map.specs.Spelled.{Spells}
 use Rattle.ordered_map.specs.TreeShape.{TreeAllows}
 use Rattle.ordered_map.specs.declared.pair.Pair.{Pair}
 use Rattle.ordered_map.proofs.Lemmas.{entered_begun, one_spelling, opening_spells, quiet_spells, update_makes}
-use Rattle.dict.specs.Typed.{IsTypedEdit, IsTypedCall, AreTyped, IsTypedValue, IsTypedReply, TypedAllows, IsTypedThere}
+use Rattle.dict.specs.Laws.EachCall.{edited_typed}
+use Rattle.dict.specs.Typed.{AreTyped, TypedAllows, IsTypedThere}
 
 module _ (keys values : ℕ → Type 0) where
   -- a run of a typed dictionary is one of the tree
@@ -27,78 +28,6 @@ module _ (keys values : ℕ → Type 0) where
   -- and so are its beginnings
   pub typed_since : (lay : Layout) (h m : History) → IsRun (TypedAllows keys values) lay h → Extends h m → IsRun (TypedAllows keys values) lay m
   typed_since lay h m run e = record { lawful = lawful_since lay h m run.lawful e; shaped = shaped_since (TypedAllows keys values) lay h m run.shaped e }
-
-  -- an edit of such words leaves a map of such words
-  if_typed : (b : Bool) (ps qs : List Pair) → AreTyped keys values ps → AreTyped keys values qs → AreTyped keys values (if b then ps else qs)
-  if_typed true ps qs x y = x
-  if_typed false ps qs x y = y
-
-  insert_typed : (k v : ℕ) (ps : List Pair) → keys k → values v → AreTyped keys values ps → AreTyped keys values (insert k v ps)
-  insert_typed k v [] a b x = (a, b, tt)
-  insert_typed k v (p ∷ ps) a b x =
-      if_typed (nat_lt k p.key) (pair k v ∷ p ∷ ps) (if k == p.key then pair k v ∷ ps else p ∷ insert k v ps) (a, b, x)
-      (if_typed (k == p.key) (pair k v ∷ ps) (p ∷ insert k v ps) (a, b, x.2) (x.0, x.1, insert_typed k v ps a b x.2))
-
-  delete_typed : (k : ℕ) (ps : List Pair) → AreTyped keys values ps → AreTyped keys values (delete k ps)
-  delete_typed k [] x = tt
-  delete_typed k (p ∷ ps) x = if_typed (k == p.key) ps (p ∷ delete k ps) x.2 (x.0, x.1, delete_typed k ps x.2)
-
-  edited_typed : (e : MapEdit) (ps : List Pair) → IsTypedEdit keys values e → AreTyped keys values ps → AreTyped keys values (edited e ps)
-  edited_typed (Insert k v) ps e x = insert_typed k v ps e.0 e.1 x
-  edited_typed (Delete k) ps e x = delete_typed k ps x
-
-  -- what such a map replies is of such words
-  if_value : (b : Bool) (v w : Option ℕ) → IsTypedValue values v → IsTypedValue values w → IsTypedValue values (if b then v else w)
-  if_value true v w x y = x
-  if_value false v w x y = y
-
-  get_typed : (k : ℕ) (m : List Pair) → AreTyped keys values m → IsTypedValue values (get k m)
-  get_typed k [] x = tt
-  get_typed k (p ∷ ps) x = if_value (k == p.key) (Some p.value) (get k ps) x.1 (get_typed k ps x.2)
-
-  if_pair : (b : Bool) (p q : Option Pair) → IsTypedReply keys values (pair_or_none p) → IsTypedReply keys values (pair_or_none q) → IsTypedReply keys values (pair_or_none (if b then p else q))
-  if_pair true p q x y = x
-  if_pair false p q x y = y
-
-  successor_typed : (k : ℕ) (m : List Pair) → AreTyped keys values m → IsTypedReply keys values (pair_or_none (successor k m))
-  successor_typed k [] x = tt
-  successor_typed k (p ∷ ps) x = if_pair (nat_lt k p.key) (Some p) (successor k ps) (x.0, x.1) (successor_typed k ps x.2)
-
-  between_typed : (low high : ℕ) (m : List Pair) → AreTyped keys values m → AreTyped keys values (between low high m)
-  between_typed low high [] x = tt
-  between_typed low high (p ∷ ps) x = let y = between_typed low high ps x.2 in if_typed (nat_le low p.key && nat_le p.key high) (p ∷ between low high ps) (between low high ps) (x.0, x.1, y) y
-
-  take_typed : (most : ℕ) (m : List Pair) → AreTyped keys values m → AreTyped keys values (take most m)
-  take_typed zero m x = tt
-  take_typed (suc most) [] x = tt
-  take_typed (suc most) (p ∷ ps) x = (x.0, x.1, take_typed most ps x.2)
-
-  first_typed : (m : List Pair) → AreTyped keys values m → IsTypedReply keys values (pair_or_none (first_pair m))
-  first_typed [] x = tt
-  first_typed (p ∷ ps) x = (x.0, x.1)
-
-  pub reply_typed : (call : MapCall) (m : List Pair) → AreTyped keys values m → IsTypedReply keys values (reply call m)
-  reply_typed (Edit e) m x = get_typed (edit_key e) m x
-  reply_typed PopFirst m x = first_typed m x
-  reply_typed (ReplaceIf k e v) m x = get_typed k m x
-  reply_typed (Get k) m x = get_typed k m x
-  reply_typed (Successor k) m x = successor_typed k m x
-  reply_typed (Range low high most) m x = take_typed most (between low high m) (between_typed low high m x)
-
-  -- and the edit that a call of such words has made is one, where what it tells is of such words
-  made_typed : (d e : MapEdit) → Some d ≡ Some e → IsTypedEdit keys values d → IsTypedEdit keys values e
-  made_typed d e is x = subst (IsTypedEdit keys values) (let same : d ≡ e = cc in same) x
-
-  if_replaced : (b : Bool) (k v : ℕ) (e : MapEdit) → (if b then Some (Insert k v) else None) ≡ Some e → keys k × values v → IsTypedEdit keys values e
-  if_replaced true k v e is x = made_typed (Insert k v) e is x
-  if_replaced false k v e is x = absurd (let none : None ≡ Some e = is in cc)
-
-  pub edit_typed : (call : MapCall) (told : MapReply) (e : MapEdit) → edit_of call told ≡ Some e → IsTypedCall keys values call → IsTypedReply keys values told → IsTypedEdit keys values e
-  edit_typed (Edit (Insert k v)) told e is x y = made_typed (Insert k v) e is x
-  edit_typed (Edit (Delete k)) (OneValue (Some v)) e is x y = made_typed (Delete k) e is x
-  edit_typed PopFirst (OnePair p) e is x y = made_typed (Delete p.key) e is y.0
-  edit_typed (ReplaceIf k expected v) (OneValue told) e is x y = if_replaced (is_value expected told) k v e is x
-  edit_typed call told e is x y = absurd (let none : None ≡ Some e = is in cc)
 
   -- The map of a run: of each SCX-record that wins some edit may be said that is of such words, and
   -- whichever is said, the map behind it is the same.
@@ -119,7 +48,7 @@ module _ (keys values : ℕ → Type 0) where
           let edit : MapEdit = x.allowed.0 in
           let makes : Makes lay (r ⊳ h) u edit = record { row = x.row; before = x.before; within = x.within; begins = x.begins; edit = x.allowed.1 } in
           let made = update_makes lay (r ⊳ h) h r u edit tree (ends_self (r ⊳ h)) w makes in
-          (edited edit then.0, made.changes then.0 then.1, edited_typed edit then.0 x.allowed.2 then.2)
+          (edited edit then.0, made.changes then.0 then.1, edited_typed keys values edit then.0 x.allowed.2 then.2)
 
   -- the words spell such a map at the start
   pub typed_opens : (lay : Layout) → IsTypedThere keys values lay (Start lay.mode)

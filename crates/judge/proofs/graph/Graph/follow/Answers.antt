@@ -1,6 +1,6 @@
 use Rattle.std.proofs.Common.{◌≡◌, ℕ, ◌<◌, Option, Some, length, true, refl, ◌∙◌, ap, subst}
 use Rattle.std.proofs.Math.ListN.{length-set}
-use Rattle.judge.specs.Graph.{Spreads, IsSpreading, IsLink, along, has_flag, StandsAt, here, links_of}
+use Rattle.judge.specs.Graph.{Spreads, IsSpreading, IsLink, along, has_flag, IsLinkAt, here, links_of}
 use Rattle.judge.proofs.Counts.{set_here}
 use Rattle.judge.proofs.Chains.{fewer_left}
 use Rattle.judge.proofs.Spreading.{adds_none, spread_visit, spread_next, spread_done, spread_as}
@@ -11,7 +11,7 @@ use Rattle.judge.proofs.graph.Graph.follow.Goals as goal
 stands : (c : After-index) → Spreads c.loop-at.self c.args.from (Some c.in-Some.place)
 stands c = subst (λ (o : Option ℕ). Spreads c.loop-at.self c.args.from o) c.in-Some.is c.loop-at.invariant.spreads
 
-one : (c : After-index) → StandsAt c.loop-at.self.links.items c.in-Some.place c.index.result.now
+one : (c : After-index) → IsLinkAt c.loop-at.self.links.items c.in-Some.place c.index.result.now
 one c = record { within = (stands c).starts; is = c.index.ensures }
 
 leads : (c : After-index) → IsLink (links_of c.loop-at.self) c.args.from c.index.result.now.to

@@ -1,0 +1,132 @@
+-- What is shown of each call of the map by itself, with an arm for each: what it tells of a map, and
+-- what it may take. The other laws and proofs of this crate, and of those above it, speak of any call.
+use Rattle.std.proofs.Common.{◌≡◌, ℕ, zero, suc, ◌≤◌, List, [], ◌∷◌, take, Bool, true, false, if◌then◌else◌, ◌==◌, nat_lt, nat_le, ◌&&◌, Option, Some, None, refl, subst, arith}
+use Rattle.ordered_map.specs.CallRules.{MayReply, most_scx}
+use Rattle.ordered_map.specs.CallRules as form
+use Rattle.ordered_map.specs.OrderedMap.{MapEdit, Insert, Delete, insert, delete, edited, edit_key, edit_of, MapCall, Edit, PopFirst, ReplaceIf, Get, Successor, Range, MapReply, OneValue, OnePair, ManyPairs, reply, get, first_pair, is_value, successor, between, pair, pair_or_none}
+use Rattle.ordered_map.specs.declared.pair.Pair.{Pair}
+use Rattle.dict.specs.Calls.{most_tries}
+use Rattle.dict.specs.Says.{KeepsLists}
+use Rattle.dict.specs.Typed.{IsTypedEdit, IsTypedCall, AreTyped, IsTypedValue, IsTypedReply}
+
+-- Words of types
+
+module _ (keys values : ℕ → Type 0) where
+  -- an edit of such words leaves a map of such words
+  if_typed : (b : Bool) (ps qs : List Pair) → AreTyped keys values ps → AreTyped keys values qs → AreTyped keys values (if b then ps else qs)
+  if_typed true ps qs x y = x
+  if_typed false ps qs x y = y
+
+  insert_typed : (k v : ℕ) (ps : List Pair) → keys k → values v → AreTyped keys values ps → AreTyped keys values (insert k v ps)
+  insert_typed k v [] a b x = (a, b, tt)
+  insert_typed k v (p ∷ ps) a b x =
+      if_typed (nat_lt k p.key) (pair k v ∷ p ∷ ps) (if k == p.key then pair k v ∷ ps else p ∷ insert k v ps) (a, b, x)
+      (if_typed (k == p.key) (pair k v ∷ ps) (p ∷ insert k v ps) (a, b, x.2) (x.0, x.1, insert_typed k v ps a b x.2))
+
+  delete_typed : (k : ℕ) (ps : List Pair) → AreTyped keys values ps → AreTyped keys values (delete k ps)
+  delete_typed k [] x = tt
+  delete_typed k (p ∷ ps) x = if_typed (k == p.key) ps (p ∷ delete k ps) x.2 (x.0, x.1, delete_typed k ps x.2)
+
+  pub edited_typed : (e : MapEdit) (ps : List Pair) → IsTypedEdit keys values e → AreTyped keys values ps → AreTyped keys values (edited e ps)
+  edited_typed (Insert k v) ps e x = insert_typed k v ps e.0 e.1 x
+  edited_typed (Delete k) ps e x = delete_typed k ps x
+
+  -- what such a map replies is of such words
+  if_value : (b : Bool) (v w : Option ℕ) → IsTypedValue values v → IsTypedValue values w → IsTypedValue values (if b then v else w)
+  if_value true v w x y = x
+  if_value false v w x y = y
+
+  get_typed : (k : ℕ) (m : List Pair) → AreTyped keys values m → IsTypedValue values (get k m)
+  get_typed k [] x = tt
+  get_typed k (p ∷ ps) x = if_value (k == p.key) (Some p.value) (get k ps) x.1 (get_typed k ps x.2)
+
+  if_pair : (b : Bool) (p q : Option Pair) → IsTypedReply keys values (pair_or_none p) → IsTypedReply keys values (pair_or_none q) → IsTypedReply keys values (pair_or_none (if b then p else q))
+  if_pair true p q x y = x
+  if_pair false p q x y = y
+
+  successor_typed : (k : ℕ) (m : List Pair) → AreTyped keys values m → IsTypedReply keys values (pair_or_none (successor k m))
+  successor_typed k [] x = tt
+  successor_typed k (p ∷ ps) x = if_pair (nat_lt k p.key) (Some p) (successor k ps) (x.0, x.1) (successor_typed k ps x.2)
+
+  between_typed : (low high : ℕ) (m : List Pair) → AreTyped keys values m → AreTyped keys values (between low high m)
+  between_typed low high [] x = tt
+  between_typed low high (p ∷ ps) x = let y = between_typed low high ps x.2 in if_typed (nat_le low p.key && nat_le p.key high) (p ∷ between low high ps) (between low high ps) (x.0, x.1, y) y
+
+  take_typed : (most : ℕ) (m : List Pair) → AreTyped keys values m → AreTyped keys values (take most m)
+  take_typed zero m x = tt
+  take_typed (suc most) [] x = tt
+  take_typed (suc most) (p ∷ ps) x = (x.0, x.1, take_typed most ps x.2)
+
+  first_typed : (m : List Pair) → AreTyped keys values m → IsTypedReply keys values (pair_or_none (first_pair m))
+  first_typed [] x = tt
+  first_typed (p ∷ ps) x = (x.0, x.1)
+
+  pub reply_typed : (call : MapCall) (m : List Pair) → AreTyped keys values m → IsTypedReply keys values (reply call m)
+  reply_typed (Edit e) m x = get_typed (edit_key e) m x
+  reply_typed PopFirst m x = first_typed m x
+  reply_typed (ReplaceIf k e v) m x = get_typed k m x
+  reply_typed (Get k) m x = get_typed k m x
+  reply_typed (Successor k) m x = successor_typed k m x
+  reply_typed (Range low high most) m x = take_typed most (between low high m) (between_typed low high m x)
+
+  -- and the edit that a call of such words has made is one, where what it tells is of such words
+  made_typed : (d e : MapEdit) → Some d ≡ Some e → IsTypedEdit keys values d → IsTypedEdit keys values e
+  made_typed d e is x = subst (IsTypedEdit keys values) (let same : d ≡ e = cc in same) x
+
+  if_replaced : (b : Bool) (k v : ℕ) (e : MapEdit) → (if b then Some (Insert k v) else None) ≡ Some e → keys k × values v → IsTypedEdit keys values e
+  if_replaced true k v e is x = made_typed (Insert k v) e is x
+  if_replaced false k v e is x = absurd (let none : None ≡ Some e = is in cc)
+
+  pub edit_typed : (call : MapCall) (told : MapReply) (e : MapEdit) → edit_of call told ≡ Some e → IsTypedCall keys values call → IsTypedReply keys values told → IsTypedEdit keys values e
+  edit_typed (Edit (Insert k v)) told e is x y = made_typed (Insert k v) e is x
+  edit_typed (Edit (Delete k)) (OneValue (Some v)) e is x y = made_typed (Delete k) e is x
+  edit_typed PopFirst (OnePair p) e is x y = made_typed (Delete p.key) e is y.0
+  edit_typed (ReplaceIf k expected v) (OneValue told) e is x y = if_replaced (is_value expected told) k v e is x
+  edit_typed call told e is x y = absurd (let none : None ≡ Some e = is in cc)
+
+-- Lists
+
+-- one pair, or none, is not a list of pairs
+one_pair : (p : Option Pair) (ps : List Pair) → pair_or_none p ≡ ManyPairs ps → ⊥
+one_pair None ps e = cc
+one_pair (Some p) ps e = cc
+
+-- a call that tells pairs keeps lists, and has made no edit
+pub tells_lists : (call : MapCall) (m : List Pair) (ps : List Pair) → reply call m ≡ ManyPairs ps → KeepsLists call × (edit_of call (ManyPairs ps) ≡ None)
+tells_lists (Edit e) m ps told = absurd cc
+tells_lists PopFirst m ps told = absurd (one_pair (first_pair m) ps told)
+tells_lists (ReplaceIf k expected v) m ps told = absurd cc
+tells_lists (Get k) m ps told = absurd cc
+tells_lists (Successor k) m ps told = (tt, refl)
+tells_lists (Range low high most) m ps told = (tt, refl)
+
+-- and may be refused memory
+pub may_lack : (call : MapCall) → MayReply call form.Pairs → MayReply call form.NoMemory
+may_lack (Edit (Insert k v)) x = absurd x
+may_lack (Edit (Delete k)) x = absurd x
+may_lack PopFirst x = absurd x
+may_lack (ReplaceIf k e v) x = absurd x
+may_lack (Get k) x = x
+may_lack (Successor k) x = absurd x
+may_lack (Range low high most) x = tt
+
+-- Tries
+
+-- the tries that a call has begun take no more SCX-records than all that it may begin
+pub tries_take : (call : MapCall) (begun tries : ℕ) → begun ≤ most_tries call tries → most_scx call begun ≤ most_scx call tries
+tries_take (Edit (Insert k v)) begun tries few = few
+tries_take (Edit (Delete k)) begun tries few = few
+tries_take PopFirst begun tries few = few
+tries_take (ReplaceIf k e v) begun tries few = few
+tries_take (Get k) begun tries few = omega arith
+tries_take (Successor k) begun tries few = omega arith
+tries_take (Range low high most) begun tries few = omega arith
+
+-- each may begin one try, where it may begin one alone
+pub one_alone : (call : MapCall) → most_tries call 1 ≡ 1
+one_alone (Edit e) = refl
+one_alone PopFirst = refl
+one_alone (ReplaceIf k e v) = refl
+one_alone (Get k) = refl
+one_alone (Successor k) = refl
+one_alone (Range low high most) = refl
