@@ -1,25 +1,20 @@
 -- That what is said of a call's tries bites: with nobody about, a call of a dictionary begins one try
 -- at most, and takes what one may.
-use Rattle.std.proofs.Common.{ℕ, ◌+◌, ◌*◌, ◌≤◌, arith}
+use Rattle.std.proofs.Common.{ℕ, ◌+◌, ◌*◌, ◌≤◌, sym, subst, arith}
 use Rattle.std.proofs.Math.Nat.{mul-le-mul_left}
 use Rattle.arena.specs.Blame.{WasInTheWay}
 use Rattle.arena.specs.Fills.{IsOthersScx}
 use Rattle.arena.specs.History.{Extends}
 use Rattle.ordered_map.specs.CallRules.{most_nodes, most_scx}
-use Rattle.ordered_map.specs.OrderedMap.{MapCall, Edit, Insert, Delete, PopFirst, ReplaceIf, Get, Successor, Range}
+use Rattle.ordered_map.specs.OrderedMap.{MapCall}
 use Rattle.template.specs.Tries.{tries_since}
 use Rattle.template.proofs.Lemmas.{alone_once}
+use Rattle.dict.specs.Laws.EachCall.{one_alone, tries_take}
 use Rattle.forest.specs.Dictionary.{HasSpentAtMost}
 use Rattle.forest.specs.Passes.{PassView, run_of}
 
 one_try : (call : MapCall) (begun old left : ℕ) → begun ≤ 1 → old ≤ left + most_scx call begun → old ≤ left + most_scx call 1
-one_try (Edit (Insert key value)) begun old left one spent = omega (arith, one, spent)
-one_try (Edit (Delete key)) begun old left one spent = omega (arith, one, spent)
-one_try PopFirst begun old left one spent = omega (arith, one, spent)
-one_try (ReplaceIf key expected value) begun old left one spent = omega (arith, one, spent)
-one_try (Get key) begun old left one spent = spent
-one_try (Successor key) begun old left one spent = spent
-one_try (Range low high most) begun old left one spent = spent
+one_try call begun old left one spent = let few = tries_take call begun 1 (subst (λ (n : ℕ). begun ≤ n) (sym (one_alone call)) one) in omega (arith, few, spent)
 
 its_nodes : (call : MapCall) (begun old left : ℕ) → begun ≤ 1 → old ≤ left + most_nodes call * begun → old ≤ left + most_nodes call
 its_nodes call begun old left one spent = let few = mul-le-mul_left (most_nodes call) one in omega (arith, few, spent)

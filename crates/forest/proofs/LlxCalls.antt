@@ -1,8 +1,10 @@
 -- What a call of `llx` says.
-use Rattle.std.proofs.Common.{◌≡◌, ◌≤◌, ◌+◌, ℕ, true, List, ◌∷◌, None, refl, sym, ◌∙◌, subst}
+use Rattle.std.proofs.Common.{◌≡◌, ◌≢◌, ◌≤◌, ◌+◌, ℕ, true, List, ◌∷◌, None, refl, sym, ◌∙◌, ap, subst}
 use Rattle.atomic_table.specs.declared.shared.Seat.{Seat}
 use Rattle.arena.specs.declared.number.NodeNo.{NodeNo}
 use Rattle.arena.specs.declared.layout.Layout.{Layout}
+use Rattle.arena.specs.declared.step.Kind.TheVariants.{Fill}
+use Rattle.arena.specs.declared.step.Row.{Row}
 use Rattle.arena.specs.History.{History}
 use Rattle.arena.specs.Log.{is_final}
 use Rattle.arena.specs.declared.limits.Mode.{Mode}
@@ -16,8 +18,12 @@ use Rattle.prims.specs.declared.llx.LlxAt.TheVariants.{Start}
 use Rattle.forest.specs.declared.view.SeatView.{SeatView}
 use Rattle.forest.specs.declared.pass.Pass.TheInside.{Inside}
 use Rattle.forest.specs.Traces.{Trace, HoldsForCall, known_of, seat_steps}
-use Rattle.forest.specs.Passes.{HasGoneOn, HasTakenNothing, LlxSays, IsFinalizedAnswer, blamed_by, run_of, seen_of}
+use Rattle.forest.specs.Passes.{HasGoneOn, HasTakenNothing, HoldsOfOwn, LlxSays, IsFinalizedAnswer, blamed_by, run_of, seen_of}
 use Rattle.forest.specs.PassInvariant.{pass_view, IsPass}
+use Rattle.forest.specs.StepKinds.{HasFilledNothing}
+use Rattle.forest.specs.StraightLlx.{llx_at, SeatLlxEnds}
+use Rattle.forest.specs.TableRule.{history_of}
+use Rattle.forest.proofs.Called.{course_holds}
 use Rattle.forest.proofs.Calls.{course_keeps}
 use Rattle.forest.proofs.Blames.{blamed_more}
 use Rattle.forest.proofs.Passes.{HasCalled, called_pass, called_goes_on, called_nothing, call_of, seated, called}
@@ -86,3 +92,10 @@ module _ {allows : Layout → History → ℕ → Type 0} {mode : Mode} {T : Typ
 
   pub llx_nothing : (a : Llx) (blamed : List ℕ) → HasCalled allows p s number (Answered p x number node a) → HasTakenNothing (pass_view p) (pass_view (heard blamed))
   llx_nothing a blamed y = let z = called_nothing p s number _ y in record { share = refl; done = z.done; alone = z.alone }
+
+  -- it has filled no word
+  pub llx_kinds : (blamed : List ℕ) (a : Llx) → SeatLlxEnds allows (call_of p x number) s.me.0.passes node a → HasFilledNothing (pass_view p) (pass_view (heard blamed))
+  llx_kinds blamed a y =
+      let known : y.1.known ≡ known_of s.me.0.passes = sym (ap known_of y.1.is) in
+      subst (λ (rows : List Row). HoldsOfOwn (λ r. r.kind ≢ Fill) p.number.0 (run_of (pass_view p)) (history_of p.layout.mode rows)) known
+      (course_holds (LlxWaits allows) (λ old now. now.node ≡ old.node) (call_of p x number) (llx_at node Start) (λ r. r.kind ≢ Fill) (λ m. Unit {0}) tt (λ old now is q. tt) (λ k h t q w. llx_fills_not allows k (call_of p x number) h t w) y.0 _ y.1.so.1).1

@@ -15,8 +15,8 @@ use Rattle.ordered_map.proofs.Lemmas.{makes_since}
 use Rattle.edits.specs.Known.{RestsWith, IsUntouched}
 use Rattle.edits.specs.Tries.{HasEnteredNone}
 use Rattle.dict.specs.Laws.OneShare.{one_share}
-use Rattle.dict.specs.Says.{HasMadeEdit, HasNeeded, HasToldBy, HasTold, HasLost, HasRunOut}
-use Rattle.forest.specs.Dictionary.{HadToDo, IsChange, IsChangeOrReading, IsContendedCall, IsFullCall}
+use Rattle.dict.specs.Says.{HasMadeEdit, HasToldBy, HasTold, HasLost, HasRunOut}
+use Rattle.forest.specs.Dictionary.{IsChange, IsChangeOrReading, IsContendedCall, IsFullCall}
 use Rattle.forest.specs.Passes.{PassView, run_of, done_of, taken_of}
 use Rattle.forest.proofs.Entered.{none_entered, one_entered}
 use Rattle.forest.proofs.Took.{made_row, took_from, took_below, took_some}
@@ -79,23 +79,12 @@ module _ (was : PassView) (is_pass : was.number < was.layout.passes) (number : �
     told_says call told first rests y = told_by (edit_of call told) call told first rests y
 
     -- refusals
-    abbrev had_to_do : (begin : History) (call : MapCall) → HasNeeded was.layout was.number (run_of then) begin call → HadToDo then begin call
-    had_to_do begin call y = record {
-      moment = y.moment;
-      within = y.within;
-      since = y.since;
-      own = y.own;
-      map = y.map;
-      version = y.spelled;
-      some = y.some;
-    }
-
     pub lost_says : (tries : ℕ) (call : MapCall) (n s : ℕ) → HasLost call_by (run_of then) call tries n s → IsContendedCall tries was then call n s
     lost_says tries call n s y = record {
       others = y.way.others;
       lost = y.all;
       over_or_new = y.way.over_or_new;
-      needed = λ some. had_to_do y.all.lost.begin call (y.needed some);
+      needed = y.needed;
       done = none_more y.none;
     }
 
@@ -103,7 +92,7 @@ module _ (was : PassView) (is_pass : was.number < was.layout.passes) (number : �
     pub full_says : (call : MapCall) (full : FullOf) → RestsWith call_by (run_of was) was.share → HasRunOut call_by (run_of then) call left full → IsFullCall was then call full
     full_says call full rests y = record {
       only_looked = y.only_looked;
-      needed = had_to_do y.only_looked.begin call y.needed;
+      needed = y.needed;
       short = y.short;
       first = untouched y.first;
       done = none_more y.none;

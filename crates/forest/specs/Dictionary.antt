@@ -18,7 +18,7 @@ use Rattle.edits.specs.Tries.{HasOnlyLooked}
 use Rattle.template.specs.Tries.{tries_since, HasTriedAtMost}
 use Rattle.ordered_map.specs.CallRules.{Form, IsFormOfEdit, MayReply, need, most_nodes, most_scx, most_steps}
 use Rattle.dict.specs.Calls.{AsksForPairs, most_tries}
-use Rattle.dict.specs.Says.{HasMadeRow, HasTooLittle, KeepsLists}
+use Rattle.dict.specs.Says.{HasMadeRow, HasNeeded, HasTooLittle, KeepsLists}
 use Rattle.dict.specs.Typed.{TypedAllows}
 use Rattle.dict.specs.Words.{IsWordOf}
 use Rattle.ordered_map.specs.Replies.{word_pair}
@@ -98,17 +98,6 @@ IsToldOf old new call None = Unit {0}
 
 -- Refusals
 
--- The call had something to do since the moment `begin`: some version, from the pass's first own row
--- since then on, needs some nodes of it.
-pub record HadToDo (new : PassView) (begin : History) (call : MapCall) : Type 0 where
-  pub moment : History
-  pub within : Extends (run_of new) moment
-  pub since : Extends moment begin
-  pub own : HasMadeRow new.number begin moment
-  pub map : List PairOf
-  pub version : IsVersion new moment map
-  pub some : 0 < need call map
-
 -- The call has made so many tries and lost them all. The SCX-record s, which is another pass's, was
 -- in the way of the last over the node n, and in that try the pass has itself found s in the info
 -- of n. It is finished now, or has come to n since what was known before. A call that may take nodes
@@ -117,7 +106,7 @@ pub record IsContendedCall (tries : ℕ) (old new : PassView) (call : MapCall) (
   pub others : IsOthersScx new.layout new.number s
   pub lost : HasLostTriesTo new.number (run_of new) (run_of old) tries n s
   pub over_or_new : IsOverOrNew (run_of new) (run_of old) n s
-  pub needed : 0 < most_nodes call → HadToDo new lost.lost.begin call
+  pub needed : 0 < most_nodes call → HasNeeded new.layout new.number (run_of new) lost.lost.begin call
   pub done : done_of new ≡ done_of old
 
 -- The share has too little left for the newest try of the call, which had something to do in it:
@@ -126,7 +115,7 @@ pub record IsContendedCall (tries : ℕ) (old new : PassView) (call : MapCall) (
 -- The pass has no entry more.
 pub record IsFullCall (old new : PassView) (call : MapCall) (full : FullOf) : Type 0 where
   pub only_looked : HasOnlyLooked new.number (run_of new) (run_of old)
-  pub needed : HadToDo new only_looked.begin call
+  pub needed : HasNeeded new.layout new.number (run_of new) only_looked.begin call
   pub short : HasTooLittle (need call needed.map) new.share full.what full.left
   pub first : (new.share ≡ old.share) ⊎ ((n : ℕ) × (s : ℕ) × IsOthersScx new.layout new.number s × WasInTheWay (run_of new) (run_of old) n s)
   pub done : done_of new ≡ done_of old

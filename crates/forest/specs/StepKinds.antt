@@ -1,6 +1,6 @@
 -- Which kinds of step calls make.
-use Rattle.std.specs.Prelude.{◌≡◌}
-use Rattle.arena.specs.declared.step.Kind.TheVariants.{LoadInfo}
+use Rattle.std.specs.Prelude.{◌≡◌, ◌≢◌}
+use Rattle.arena.specs.declared.step.Kind.TheVariants.{Fill, LoadInfo}
 use Rattle.ordered_map.specs.CallRules.{call_rules}
 use Rattle.ordered_map.specs.OrderedMap.{MapCall}
 use Rattle.forest.specs.Passes.{HoldsOfOwn, PassView, run_of}
@@ -13,3 +13,7 @@ HasKeptToKinds old new call = HoldsOfOwn (λ r. (call_rules call).MayMake r.kind
 -- it has loaded info words alone
 abbrev pub HasLoadedInfosAlone : PassView → PassView → Type 0
 HasLoadedInfosAlone old new = HoldsOfOwn (λ r. r.kind ≡ LoadInfo) new.number (run_of old) (run_of new)
+
+-- it has filled no word
+abbrev pub HasFilledNothing : PassView → PassView → Type 0
+HasFilledNothing old new = HoldsOfOwn (λ r. r.kind ≢ Fill) new.number (run_of old) (run_of new)

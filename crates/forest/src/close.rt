@@ -31,6 +31,7 @@ use dict::{Dict, WordKey, WordValue, pairs_of};
 use ordered_map::spelled;
 use prims::Cells;
 use std::alloc::Global;
+use std::fmt;
 use std::marker::{Brand, Model, PhantomData};
 
 /// The words of a forest that no thread shares any more.
@@ -67,7 +68,7 @@ impl Closed<Cells> {
 
 impl<K: WordKey, V: WordValue> Closed<Dict<K, V>> {
     /// The pairs of the map, by rising key, as its run has left them. The only error is want of
-    /// memory.
+    /// memory: it copies the words of all nodes first.
     pub fn pairs(&self, alloc: Global) -> Result<Vec<(K, V)>, NoMemory>
         ensures valid { IfOk result (λ pairs. All (IsValidPair K.is_valid V.is_valid) pairs.items) }
         ensures pairs { (lay : Layout) (passes : List PassView)
@@ -133,6 +134,16 @@ impl<S: Shape> Closed<S> {
     }
 }
 
+impl<S: Shape> fmt::Debug for Closed<S> {
+    fn fmt<W: fmt::Write>(&self, f: &mut fmt::Formatter<W>) -> fmt::Result {
+        f.debug_struct("Closed")
+            .field("passes", &self.layout.passes)
+            .field("nodes", &self.layout.nodes)
+            .field("scx", &self.layout.scx)
+            .finish_non_exhaustive()
+    }
+}
+
 impl<S: Shape> Drop for Closed<S> {
     fn drop(self) {
         let Closed {
@@ -145,7 +156,8 @@ impl<S: Shape> Drop for Closed<S> {
 }
 
 impl<S: Shape> Forest<S> {
-    /// Ends the forest: each of its passes, which are all there, looks at the table once more.
+    /// Ends the forest: each of its passes, which are all there, looks at the table once more. It
+    /// takes no memory.
     pub fn close(self, passes: Vec<Pass<S>>) -> Closed<S>
         requires passes { All (IsOf self) passes.items }
         requires all { AreAllBack self.layout passes.items }

@@ -1,5 +1,7 @@
 //! What can be refused here.
-use arena::{Full, NodeNo, ScxNo};
+ghost use Rattle.std.specs.Prelude.{◌≡◌};
+
+use arena::{BadLimits, Full, NoMemory, NodeNo, ScxNo};
 use thiserror::Error;
 
 /// Why a forest was not made.
@@ -13,24 +15,67 @@ pub enum NewFault {
     NoMemory,
 }
 
-/// Why an edit was refused. It has not changed the map.
+impl From<BadLimits> for NewFault {
+    ghost use Rattle.forest.specs.declared.fault.NewFault.{NewFault};
+
+    ghost from_gives = { λ _ fault. fault ≡ NewFault.Limits };
+
+    fn from(_bad: BadLimits) -> NewFault {
+        NewFault::Limits
+    }
+}
+
+impl From<NoMemory> for NewFault {
+    ghost use Rattle.forest.specs.declared.fault.NewFault.{NewFault};
+
+    ghost from_gives = { λ _ fault. fault ≡ NewFault.NoMemory };
+
+    fn from(_none: NoMemory) -> NewFault {
+        NewFault::NoMemory
+    }
+}
+
+/// Why an edit was refused. It has not changed the map, and never will.
 #[derive(Clone, Copy, Debug, PartialEq, Eq, Error)]
 pub enum UpdateFault {
-    /// All tries were lost: this SCX-record of another pass was in the way, over this node.
-    #[error("contended")]
+    /// All tries were lost: this SCX-record of another pass was in the way, over this node. The
+    /// same call may be made again at once.
+    #[error("contended: SCX-record {scx} was in the way, over node {node}")]
     Contended { node: NodeNo, scx: ScxNo },
-    /// The pass's share has too little left for the next try.
-    #[error("full")]
+    /// The pass's share has too little left for the next try, now and ever. Another pass may have
+    /// enough.
+    #[error(transparent)]
     Full(Full),
+}
+
+impl From<Full> for UpdateFault {
+    ghost use Rattle.forest.specs.declared.fault.UpdateFault.{UpdateFault};
+
+    ghost from_gives = { λ full fault. fault ≡ UpdateFault.Full full };
+
+    fn from(full: Full) -> UpdateFault {
+        UpdateFault::Full(full)
+    }
 }
 
 /// Why an ordered read was refused.
 #[derive(Clone, Copy, Debug, PartialEq, Eq, Error)]
 pub enum OrderFault {
-    /// All tries were lost: this SCX-record of another pass was in the way, over this node.
-    #[error("contended")]
+    /// All tries were lost: this SCX-record of another pass was in the way, over this node. The
+    /// same call may be made again at once.
+    #[error("contended: SCX-record {scx} was in the way, over node {node}")]
     Contended { node: NodeNo, scx: ScxNo },
     /// An allocation was refused.
     #[error("no memory")]
     NoMemory,
+}
+
+impl From<NoMemory> for OrderFault {
+    ghost use Rattle.forest.specs.declared.fault.OrderFault.{OrderFault};
+
+    ghost from_gives = { λ _ fault. fault ≡ OrderFault.NoMemory };
+
+    fn from(_none: NoMemory) -> OrderFault {
+        OrderFault::NoMemory
+    }
 }

@@ -23,6 +23,7 @@ use arena::{Kind, Layout, Machine, PassNo, Turn};
 use atomic_table::Seat;
 use dict::{Dict, DictRun, Reply, Request, WordKey, WordValue};
 use std::alloc::Global;
+use std::fmt;
 use std::marker::{Model, PhantomData};
 use std::snapshot::Snapshot;
 
@@ -35,7 +36,8 @@ pub enum Stepped {
     Done(Option<Kind>),
 }
 
-/// A call that has begun, with its pass.
+/// A call that has begun, with its pass: `step` makes one atomic step, and `finish`, once a step
+/// has told `Done`, gives pass and reply.
 #[derive(Drop)]
 pub struct OpenCall<K: WordKey, V: WordValue> {
     number: PassNo,
@@ -183,5 +185,15 @@ impl<K: WordKey, V: WordValue> OpenCall<K, V> {
             shape: PhantomData,
         };
         (pass, reply)
+    }
+}
+
+impl<K: WordKey, V: WordValue> fmt::Debug for OpenCall<K, V> {
+    fn fmt<W: fmt::Write>(&self, f: &mut fmt::Formatter<W>) -> fmt::Result {
+        f.debug_struct("OpenCall")
+            .field("pass", &self.number.0)
+            .field("call", &self.call)
+            .field("over", &self.over)
+            .finish_non_exhaustive()
     }
 }

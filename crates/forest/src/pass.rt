@@ -8,10 +8,11 @@ use crate::blamed::Blamed;
 use crate::view::SeatView;
 use arena::{Layout, PassNo, Shape, Share};
 use atomic_table::Seat;
+use std::fmt;
 use std::marker::{Model, PhantomData};
 
 /// A part in a forest: a number, a share of the nodes and SCX-records, the run that it knows, and
-/// whom its calls have blamed.
+/// whom its calls have blamed. A thread has one, and gives it to each call.
 #[derive(Drop)]
 pub struct Pass<S: Shape> {
     pub(crate) number: PassNo,
@@ -67,10 +68,21 @@ impl<S: Shape> Pass<S> {
         u64::from(self.layout.scx - self.left().1)
     }
 
-    /// How many nodes and SCX-records are left of its share.
+    /// How many nodes and SCX-records are left of its share: never more than before.
     pub fn left(&self) -> (u32, u32)
         ensures { result ≡ (self.now.share.nodes, self.now.share.scx) }
     {
         self.share.left()
+    }
+}
+
+impl<S: Shape> fmt::Debug for Pass<S> {
+    fn fmt<W: fmt::Write>(&self, f: &mut fmt::Formatter<W>) -> fmt::Result {
+        let (nodes, scx) = self.left();
+        f.debug_struct("Pass")
+            .field("number", &self.number.0)
+            .field("nodes", &nodes)
+            .field("scx", &scx)
+            .finish_non_exhaustive()
     }
 }

@@ -13,7 +13,7 @@ use Rattle.ordered_map.specs.declared.reply.Reply.{Reply}
 use Rattle.script.specs.declared.command.Command.{Command}
 use Rattle.script.specs.declared.script.Script.{Script}
 use Rattle.record.specs.Commands.{commands}
-use Rattle.forest.specs.Passes.{Ground, PassView, HaveLeftShares, new_pass, run_of, done_of}
+use Rattle.forest.specs.Passes.{Ground, PassView, HaveLeftShares, HoldsOfOwn, IsLook, new_pass, run_of, done_of}
 use Rattle.forest.specs.Shares.{entries_of}
 use Rattle.runner.specs.Calls.{NumbersAllow, HaveReplies}
 use Rattle.runner.specs.Histories.{AreVersions, IsAnswered}
@@ -27,6 +27,8 @@ pub record IsClientOfRun (forest : Ground) (run : History) (versions : History â
   pub within : Extends run (run_of last)
   -- its entries in the run are those of its changing calls, and no others
   pub entries : entries_of c (log forest.layout run) â‰¡ done_of last
+  -- behind the last it has only looked at the table: it has made no call more
+  pub looks : HoldsOfOwn IsLook c (run_of last) run
 
 -- There is one lawful run of a dictionary within the script's limits, whose calls try as often as
 -- the script says. All calls of all clients stand in its history, each client's in the script's

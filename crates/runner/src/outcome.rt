@@ -2,7 +2,7 @@
 use dict::Reply;
 
 /// What the clients of a script were answered, and what is left in the map.
-#[derive(Debug, Drop)]
+#[derive(Clone, Debug, Drop)]
 pub struct Outcome {
     /// The replies of each client, by its number: one to each of its calls, in the script's order.
     pub replies: Vec<Vec<Reply<u64, u64>>>,

@@ -1,6 +1,6 @@
 //! The words that name gates.
 ghost use Rattle.std.specs.Prelude.{◌≡◌, IfSome, None};
-ghost use Rattle.runner.specs.Gates.{IsGate, word_of};
+ghost use Rattle.runner.specs.Gates.{IsGate, gate_word};
 
 /// A gate of the program.
 #[derive(Clone, Copy, Debug, PartialEq, Eq)]
@@ -14,7 +14,7 @@ pub enum GateName {
 impl GateName {
     /// The gate that this word names.
     pub fn of(word: &str) -> Option<GateName>
-        ensures named { IfSome result (λ name. word.now ≡ word_of name) }
+        ensures named { IfSome result (λ name. word.now ≡ gate_word name) }
         ensures unknown { result ≡ None → ¬ (IsGate word.now) }
     {
         match word {

@@ -1,4 +1,6 @@
 //! A gate at which no call waits.
+ghost use Rattle.std.specs.Prelude.{◌≡◌, false};
+
 use crate::gate::Gate;
 use arena::{Kind, PassNo};
 use script::Script;
@@ -21,7 +23,9 @@ impl Gate for Open {
 
     fn answered(&self, _client: PassNo, _call: u64) {}
 
-    fn missed(&self) -> bool {
+    fn missed(&self) -> bool
+        ensures { result ≡ false }
+    {
         false
     }
 }

@@ -3,13 +3,14 @@ use Rattle.arena.specs.Log.{is_final}
 use Rattle.forest.specs.Passes.{PassView, seen_of, taken_of}
 use Rattle.forest.specs.PassInvariant.{pass_view, IsPass}
 use Rattle.forest.proofs.Passes.{HasCalled, layout_of, call_of}
-use Rattle.forest.proofs.LlxCalls.{Answered, llx_begins, llx_called, llx_goes_on, llx_nothing, llx_says, llx_finalized, llx_pass}
+use Rattle.forest.proofs.LlxCalls.{Answered, heard, llx_begins, llx_called, llx_goes_on, llx_kinds, llx_nothing, llx_says, llx_finalized, llx_pass}
 use Rattle.arena.specs.declared.limits.Mode.TheVariants.{Records}
 use Rattle.prims.specs.Cells.{AllowsAll}
 use Rattle.prims.specs.declared.llx.LlxAt.TheVariants.{Start as LlxStart}
 use Rattle.arena.specs.declared.number.NodeNo.{NodeNo}
 use Rattle.forest.specs.declared.pass.Pass.TheInside.{Inside}
-use Rattle.forest.specs.StraightLlx.{llx_at, SeatLlxBegins}
+use Rattle.forest.specs.StepKinds.{HasFilledNothing}
+use Rattle.forest.specs.StraightLlx.{llx_at, SeatLlxBegins, SeatLlxEnds}
 use Rattle.forest.proofs.forest.Forest+Cells.llx.Goals as goal
 
 -- the number of the call
@@ -24,10 +25,15 @@ pub call-answer-requires-clause-begins : goal.call-answer-requires-clause-begins
 call-answer-requires-clause-begins c = let p = c.pass.inside in let x = c.pass.invariant in
     (call_of p x (called p), (layout_of c.pass.view_is c.self.view_is c.requires.pass, ap taken_of c.pass.view_is ∙ sym c.taken-number.ensures), begins p x c.args.node c.requires.cell)
 
+-- how the call has ended
+ends : (c : goal.After-note) → SeatLlxEnds AllowsAll (call_of c.pass.inside c.pass.invariant (called c.pass.inside)) c.call-answer.new.seat.me.0.passes c.args.node c.call-answer.result
+ends c = let p = c.pass.inside in let x = c.pass.invariant in
+    c.call-answer.ensures.ends (call_of p x (called p)) (layout_of c.pass.view_is c.self.view_is c.requires.pass, ap taken_of c.pass.view_is ∙ sym c.taken-number.ensures) (begins p x c.args.node c.requires.cell)
+
 -- what the call leaves
 ended : (c : goal.After-note) → HasCalled AllowsAll c.pass.inside c.call-answer.new.seat (called c.pass.inside) (Answered c.pass.inside c.pass.invariant (called c.pass.inside) c.args.node c.call-answer.result)
 ended c = let p = c.pass.inside in let x = c.pass.invariant in
-    let y = c.call-answer.ensures.ends (call_of p x (called p)) (layout_of c.pass.view_is c.self.view_is c.requires.pass, ap taken_of c.pass.view_is ∙ sym c.taken-number.ensures) (begins p x c.args.node c.requires.cell) in
+    let y = ends c in
     llx_called p x (called p) c.call-answer.new.seat (llx_at c.args.node LlxStart) y.0 c.args.node c.call-answer.result refl y.1
 
 pub invariant_of-pass : goal.invariant_of-pass
@@ -44,3 +50,6 @@ returns-clause-says c = rw (← c.pass.view_is) (llx_says c.pass.inside c.pass.i
 
 pub returns-clause-finalized : goal.returns-clause-finalized
 returns-clause-finalized c = λ final. llx_finalized c.pass.inside c.pass.invariant _ c.call-answer.new.seat c.args.node c.call-answer.result (ended c) (subst (λ (v : PassView). is_final (seen_of v) c.args.node.0 ≡ true) (sym c.pass.view_is) final)
+
+pub returns-clause-kinds : goal.returns-clause-kinds
+returns-clause-kinds c = subst (λ (v : PassView). HasFilledNothing v (pass_view (heard c.pass.inside c.pass.invariant (called c.pass.inside) c.call-answer.new.seat c.args.node c.note.new.self))) c.pass.view_is (llx_kinds c.pass.inside c.pass.invariant _ c.call-answer.new.seat c.args.node c.note.new.self c.call-answer.result (ends c))
