@@ -12,6 +12,7 @@ mod Remembering
 mod TurnMoments
 mod WonEntries
 mod MapAnswers
+mod EachCall
 mod Refusals
 mod RunMemories
 mod Noted
@@ -22,3 +23,4 @@ mod CellLists
 mod CellCallFacts
 mod CellEntries
 mod Asking
+mod EarlierLines

@@ -1,42 +1,31 @@
 -- What is remembered of a call that is refused makes its answer right.
-use Rattle.std.proofs.Common.{◌≡◌, ℕ, List, Option, Some, IsSome, refl, sym, subst}
+use Rattle.std.proofs.Common.{◌≡◌, ℕ, List, Option, Some, IsSome, refl, sym, subst, None}
 use Rattle.arena.specs.declared.layout.Layout.{Layout}
-use Rattle.arena.specs.declared.fault.Resource.{Resource}
 use Rattle.arena.specs.declared.number.NodeNo.{NodeNo}
 use Rattle.arena.specs.declared.number.ScxNo.{ScxNo}
-use Rattle.ordered_map.specs.declared.pair.Pair.{Pair}
 use Rattle.script.specs.declared.call.Call.{Call}
 use Rattle.script.specs.declared.command.Command.{Command}
-use Rattle.ordered_map.specs.declared.reply.Reply.TheVariants.{Contended, Full, NoMemory}
+use Rattle.ordered_map.specs.declared.reply.Reply.TheVariants.{Contended, NoMemory}
 use Rattle.ordered_map.specs.declared.request.Request.{Request}
-use Rattle.ordered_map.specs.declared.request.Request.TheVariants.{Insert, Delete, PopFirst, ReplaceIf}
 use Rattle.script.specs.declared.command.Command.TheVariants.{Map}
 use Rattle.record.specs.declared.record.Line.{Line}
 use Rattle.record.specs.declared.record.Finished.{Finished}
 use Rattle.record.specs.declared.record.Answer.{Answer}
 use Rattle.record.specs.declared.record.Answer.TheVariants.{Map as MapAnswer}
 use Rattle.record.specs.Answers.{HasLostAllTries}
-use Rattle.record.specs.CommandRules.{IsRight, MayAnswerAtOnce}
+use Rattle.record.specs.CommandRules.{IsRight, IsPlaced}
 use Rattle.record.specs.Linked.{linked}
 use Rattle.record.specs.Replies.{IsFitting}
-use Rattle.record.specs.Turns.{history, begin, start}
+use Rattle.record.specs.Turns.{history, begin, start, won}
 use Rattle.moments.specs.declared.places.Change.{Change}
-use Rattle.audit.specs.Asked.{IsAsked, IsTooFewFor, IsTooFewToTake, NeededSomething}
+use Rattle.audit.specs.Asked.{IsAsked, NeededSomething}
 use Rattle.audit.specs.declared.client.Client.{Client}
-use Rattle.audit.proofs.MapAnswers.{contended_right, no_memory_right}
-
--- no answer at once
-at_once_insert : (command : Command) (answer : Answer) (key value : ℕ) → command ≡ Map (Insert key value) → MayAnswerAtOnce command answer → ⊥
-at_once_insert command answer key value is may = subst (λ (k : Command). MayAnswerAtOnce k answer) is may
-
-at_once_delete : (command : Command) (answer : Answer) (key : ℕ) → command ≡ Map (Delete key) → MayAnswerAtOnce command answer → ⊥
-at_once_delete command answer key is may = subst (λ (k : Command). MayAnswerAtOnce k answer) is may
-
-at_once_pop : (command : Command) (answer : Answer) → command ≡ Map PopFirst → MayAnswerAtOnce command answer → ⊥
-at_once_pop command answer is may = subst (λ (k : Command). MayAnswerAtOnce k answer) is may
-
-at_once_replace : (command : Command) (answer : Answer) (key expected value : ℕ) → command ≡ Map (ReplaceIf key expected value) → MayAnswerAtOnce command answer → ⊥
-at_once_replace command answer key expected value is may = subst (λ (k : Command). MayAnswerAtOnce k answer) is may
+use Rattle.ordered_map.specs.OrderedMap.{MapCall, MapReply}
+use Rattle.record.specs.MapRecord.{map_call, reply_told, written_log, entries_of_call}
+use Rattle.record.specs.Placed.{IsRefused, IsPlacedOnMap}
+use Rattle.record.proofs.Lemmas.{entries_none}
+use Rattle.ordered_map.specs.Requests.{map_request}
+use Rattle.audit.proofs.EachCall.{contended_right, no_memory_right, refused_unwon}
 
 module _ (lay : Layout) (tries : ℕ) (calls : List Call) (lines : List Line) (changed : List Change) (client : Client) (command : Command) (r : Finished) (x : IsAsked lay tries calls lines changed client command r) where
   abbrev RightIs : Command → Answer → Type 0
@@ -53,27 +42,20 @@ module _ (lay : Layout) (tries : ℕ) (calls : List Call) (lines : List Line) (c
   pub right_no_memory : r.answer ≡ MapAnswer NoMemory → RightIs command r.answer
   right_no_memory answers = subst (RightIs command) (sym answers) (no_memory_right lay tries r.client.0 (history lay.mode lines) (start lay.mode lines r.client.0) (linked calls lay.mode lines r.client.0) lines command x.of_map.0 x.of_map.1 (subst (IsFitting lines command) answers x.fits))
 
-  pub right_full_insert : (key value : ℕ) (old : Option ℕ) (what : Resource) (left : ℕ) → command ≡ Map (Insert key value) → ((MayAnswerAtOnce command r.answer → ⊥) → IsTooFewFor lay lines r key old what left) → RightIs command (MapAnswer (Full record { what = what; left = left }))
-  right_full_insert key value old what left is few =
-      let y = few (at_once_insert command r.answer key value is) in
-      subst (λ (k : Command). RightIs k (MapAnswer (Full record { what = what; left = left }))) (sym is) (old, y.0, y.1)
+  -- and is placed nowhere
+  is_refused : reply_told r.answer ≡ None → r.moment ≡ None → IsRefused lines r
+  is_refused none nowhere = record {
+    none = subst (λ (n : ℕ). entries_of_call r.client.0 n (written_log lines) ≡ 0) (sym x.number) (entries_none lay tries calls lines x.in_order r.client.0 (refused_unwon command x.of_map.0 r.answer (won lay lines r.client.0) x.of_map.1 none x.entry));
+    moment = nowhere;
+  }
 
-  pub right_full_old_insert : (key value : ℕ) (what : Resource) (left : ℕ) → command ≡ Map (Insert key value) → ((MayAnswerAtOnce command r.answer → ⊥) → (v : ℕ) × IsTooFewFor lay lines r key (Some v) what left) → RightIs command (MapAnswer (Full record { what = what; left = left }))
-  right_full_old_insert key value what left is few =
-      let y = few (at_once_insert command r.answer key value is) in
-      subst (λ (k : Command). RightIs k (MapAnswer (Full record { what = what; left = left }))) (sym is) (Some y.0, y.1.0, y.1.1)
+-- a refusal that has no moment is placed
+pub refused_placed : (lay : Layout) (tries : ℕ) (calls : List Call) (lines : List Line) (changed : List Change) (client : Client) (command : Command) (r : Finished) → IsAsked lay tries calls lines changed client command r → reply_told r.answer ≡ None → r.moment ≡ None → IsPlaced lay calls lines r command
+refused_placed lay tries calls lines changed client command r x none nowhere = go command x.of_map.1
+  where
+    there : (call : MapCall) → IsPlacedOnMap (reply_told r.answer) calls lines call r
+    there call = subst (λ (t : Option MapReply). IsPlacedOnMap t calls lines call r) (sym none) (is_refused lay tries calls lines changed client command r x none nowhere)
 
-  pub right_full_delete : (key : ℕ) (what : Resource) (left : ℕ) → command ≡ Map (Delete key) → ((MayAnswerAtOnce command r.answer → ⊥) → (v : ℕ) × IsTooFewFor lay lines r key (Some v) what left) → RightIs command (MapAnswer (Full record { what = what; left = left }))
-  right_full_delete key what left is few =
-      let y = few (at_once_delete command r.answer key is) in
-      subst (λ (k : Command). RightIs k (MapAnswer (Full record { what = what; left = left }))) (sym is) (y.0, y.1.0, y.1.1)
-
-  pub right_full_pop : (what : Resource) (left : ℕ) → command ≡ Map PopFirst → ((MayAnswerAtOnce command r.answer → ⊥) → (first : Pair) × IsTooFewToTake lay lines r first what left) → RightIs command (MapAnswer (Full record { what = what; left = left }))
-  right_full_pop what left is few =
-      let y = few (at_once_pop command r.answer is) in
-      subst (λ (k : Command). RightIs k (MapAnswer (Full record { what = what; left = left }))) (sym is) (y.0, y.1.0, y.1.1)
-
-  pub right_full_replace : (key expected value : ℕ) (what : Resource) (left : ℕ) → command ≡ Map (ReplaceIf key expected value) → ((MayAnswerAtOnce command r.answer → ⊥) → IsTooFewFor lay lines r key (Some expected) what left) → RightIs command (MapAnswer (Full record { what = what; left = left }))
-  right_full_replace key expected value what left is few =
-      let y = few (at_once_replace command r.answer key expected value is) in
-      subst (λ (k : Command). RightIs k (MapAnswer (Full record { what = what; left = left }))) (sym is) y
+    go : (c : Command) → map_call (Some c) ≡ Some x.of_map.0 → IsPlaced lay calls lines r c
+    go (Map request) e = there (map_request request)
+    go c e = absurd (let z : None ≡ Some x.of_map.0 = e in cc)

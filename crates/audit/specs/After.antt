@@ -12,7 +12,7 @@ use Rattle.record.specs.Commands.{commands}
 use Rattle.record.specs.Entries.{IsLog}
 use Rattle.record.specs.LawfulRun.{AreLines}
 use Rattle.record.specs.Replies.{IsReplyOwed}
-use Rattle.audit.specs.Calls.{IsAt}
+use Rattle.audit.specs.Calls.{StandsNext}
 use Rattle.audit.specs.Remembered.{AreRemembered}
 use Rattle.audit.specs.Trees.{IsMapSoFar}
 use Rattle.judge.specs.Histories.{Judged, seen_history}
@@ -46,7 +46,7 @@ pass_number (Some pass) = Some pass.0
 -- what is remembered of client c is what the lines say
 pub record IsClientAfter (lay : Layout) (calls : List Call) (lines : List Line) (c : ℕ) (client : Client) : Type 0 where
   pub pass : client.pass.0 ≡ c
-  pub place : IsAt calls c (drop client.answered (commands calls c)) client.at
+  pub place : StandsNext calls c (drop client.answered (commands calls c)) client.at
   pub answered : client.answered ≡ answered lines c
   pub begun : client.begun ≡ begin lines c
   pub steps : client.steps ≡ steps lines c

@@ -6,9 +6,9 @@ use Rattle.record.specs.Commands.{commands}
 
 -- where the first of client c's commands that are still to come
 -- stands among the calls; nowhere if none is to come
-abbrev pub IsAt : List Call → ℕ → List Command → Option ℕ → Type 0
-IsAt calls c left None = left ≡ []
-IsAt calls c left (Some at) = (call : Call) × (slice_get calls at ≡ Some call) × (left ≡ call.command ∷ commands (drop (suc at) calls) c) × (call.client.0 ≡ c)
+abbrev pub StandsNext : List Call → ℕ → List Command → Option ℕ → Type 0
+StandsNext calls c left None = left ≡ []
+StandsNext calls c left (Some at) = (call : Call) × (slice_get calls at ≡ Some call) × (left ≡ call.command ∷ commands (drop (suc at) calls) c) × (call.client.0 ≡ c)
 
 -- the command of a call
 abbrev pub command_of_call : Option Call → Option Command

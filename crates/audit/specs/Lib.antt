@@ -6,3 +6,4 @@ pub mod Remembered
 pub mod Asked
 pub mod CellCalls
 pub mod Remembering
+pub mod Faults

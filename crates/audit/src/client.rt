@@ -1,11 +1,14 @@
 //! Where a client is in its calls.
-ghost use Rattle.std.specs.Prelude.{◌≡◌, List, ◌+◌, ◌<◌, ◌^◌, Some, None, drop, unwrap_or};
+ghost use Rattle.std.specs.Prelude.{◌≡◌, ℕ, List, length, set, slice_get, ◌+◌, ◌<◌, ◌^◌, Some, None, IfSome, IsSome, IsTrue, drop, unwrap_or};
 ghost use Rattle.script.specs.declared.command.Command.{Command as CommandOf};
 ghost use Rattle.record.specs.Commands.{commands};
-ghost use Rattle.audit.specs.Calls.{IsAt, command_at};
+ghost use Rattle.record.specs.declared.record.Entry.{Entry as EntryOf};
+ghost use Rattle.audit.specs.declared.client.Client.{Client as ClientOf};
+ghost use Rattle.audit.specs.Calls.{StandsNext, command_at};
 
 use crate::place::{next_behind, next_call};
 use arena::PassNo;
+use record::Entry;
 use script::{Call, Command};
 
 /// What the lines so far say of a client.
@@ -27,7 +30,7 @@ pub(crate) struct Client {
 impl Client {
     /// A client that has made no turn.
     pub(crate) fn new(pass: PassNo, calls: &[Call]) -> Client
-        ensures at { IsAt calls.now pass.0 (commands (drop 0 calls.now) pass.0) result.at }
+        ensures at { StandsNext calls.now pass.0 (commands (drop 0 calls.now) pass.0) result.at }
         ensures new { result ≡ record { pass = pass; at = result.at; answered = 0; begun = None; steps = 0; won = None } }
     {
         Client {
@@ -72,7 +75,7 @@ impl Client {
     /// The same, with its call answered.
     pub(crate) fn ended(self, calls: &[Call]) -> Client
         requires { self.answered + 1 < 2 ^ 64 }
-        ensures place { (left : List CommandOf) → IsAt calls.now self.pass.0 left self.at → IsAt calls.now self.pass.0 (drop 1 left) result.at }
+        ensures place { (left : List CommandOf) → StandsNext calls.now self.pass.0 left self.at → StandsNext calls.now self.pass.0 (drop 1 left) result.at }
         ensures same { result ≡ record self { at = result.at; answered = self.answered + 1; begun = None; steps = 0; won = None } }
     {
         Client {
@@ -83,5 +86,29 @@ impl Client {
             won: None,
             ..self
         }
+    }
+}
+
+/// Whether the call of a client has begun, unless this is its own turn.
+pub(crate) fn has_begun(client: &Client, pass: PassNo) -> bool
+    ensures { IsTrue result → (pass.0 ≡ client.now.pass.0 → ⊥) → IsSome client.now.begun }
+{
+    pass == client.pass || client.begun.is_some()
+}
+
+/// An update of a client has won in this turn, if this entry is owed.
+pub(crate) fn note_win(clients: &mut Vec<Client>, number: u64, owed: &Option<Entry>)
+    requires there { IfSome owed.now (λ e. e.client.0 < length clients.old.items) }
+    ensures same { length clients.new.items ≡ length clients.old.items }
+    ensures none { owed.now ≡ None → clients.new.items ≡ clients.old.items }
+    ensures some { (e : EntryOf) → (c : ClientOf) → owed.now ≡ Some e → slice_get clients.old.items e.client.0 ≡ Some c →
+        clients.new.items ≡ set clients.old.items e.client.0 (record c { won = Some number }) }
+{
+    if let Some(entry) = owed {
+        let client = clients[entry.client.0 as usize];
+        clients[entry.client.0 as usize] = Client {
+            won: Some(number),
+            ..client
+        };
     }
 }

@@ -1,5 +1,5 @@
 //! Whether an SCX-record that begins makes the edit of its owner's call.
-ghost use Rattle.std.specs.Prelude.{◌≡◌, ◌≢◌, ◌+◌, ◌<◌, ◌↔◌, ◌⊎◌, ℕ, true, false, Some, None, IfSome, IsTrue};
+ghost use Rattle.std.specs.Prelude.{◌≡◌, ◌≢◌, ◌+◌, ◌<◌, ◌↔◌, ◌⊎◌, ℕ, true, false, set, Some, None, IfSome, IsSome, IsTrue};
 ghost use Rattle.arena.specs.Heads.{head_of};
 ghost use Rattle.arena.specs.History.{value};
 ghost use Rattle.arena.specs.ScxRecords.{plan, member as member_of, seen as seen_at, new, old};
@@ -467,4 +467,24 @@ fn has_fields_of(judge: &Judge, one: u64, other: u64) -> bool
 {
     child(judge, one, Side::Left) == child(judge, other, Side::Left)
         && child(judge, one, Side::Right) == child(judge, other, Side::Right)
+}
+
+/// Whether an SCX-record has begun for a call with this command.
+pub(crate) fn is_of(begun: &Begun, command: &Command) -> bool
+    ensures { IsTrue result → begun.now.command ≡ command.now }
+{
+    match (begun.command, *command) {
+        (Command::Map(own), Command::Map(request)) => own == request,
+        _ => false,
+    }
+}
+
+/// This SCX-record has begun, if one has.
+pub(crate) fn note_begun(edits: &mut Vec<Option<Begun>>, scx: u64, begun: Option<Begun>)
+    ensures none { begun ≡ None → edits.new.items ≡ edits.old.items }
+    ensures some { IsSome begun → edits.new.items ≡ set edits.old.items scx begun }
+{
+    if begun.is_some() && (scx as usize) < edits.len() {
+        edits[scx as usize] = begun;
+    }
 }

@@ -1,5 +1,5 @@
 //! What an audit finds wrong.
-ghost use Rattle.std.specs.Prelude.{◌≡◌, true, OnOk};
+ghost use Rattle.std.specs.Prelude.{◌≡◌, ◌≤◌, ℕ, true, OnOk};
 
 use arena::NoMemory;
 use std::alloc::AllocError;
@@ -30,7 +30,9 @@ pub(crate) enum Refused {
 
 impl Refused {
     /// The fault of a record whose row of this number is refused.
-    pub(crate) fn at(self, row: u64) -> AuditFault {
+    pub(crate) fn at(self, row: u64) -> AuditFault
+        ensures { (named : ℕ) → result ≡ AuditFault.NotLawful named → named ≤ row }
+    {
         match self {
             Refused::NoMemory => AuditFault::NoMemory,
             Refused::NotLawful => AuditFault::NotLawful { row },

@@ -24,7 +24,7 @@ ghost use Rattle.audit.specs.declared.client.Client.{Client as ClientOf};
 use crate::client::Client;
 use crate::steps::Steps;
 use arena::Resource;
-use moments::{Places, pairs_told};
+use moments::{Places, edited, pairs_told};
 use ordered_map::{Reply, Request};
 use record::{Answer, Finished};
 use script::Command;
@@ -99,12 +99,10 @@ fn had_before(
         IsToldBefore calls lines (MapCommand request.now) (MapAnswer told.now) turn }
 {
     let before = turn.saturating_sub(1);
-    match request {
-        Request::Insert { key, value: _ } => tells_of(places, *key, told, before),
-        Request::Delete { key } => tells_of(places, *key, told, before),
-        Request::ReplaceIf { key, .. } => tells_of(places, *key, told, before),
-        Request::PopFirst => tells_at(places, request, told, before),
-        _ => false,
+    match edited(Command::Map(*request), None) {
+        Some((key, _)) => tells_of(places, key, told, before),
+        // It names no key, as a pop.
+        None => tells_at(places, request, told, before),
     }
 }
 

@@ -2,14 +2,14 @@
 ghost use Rattle.std.specs.Prelude.{List, drop};
 ghost use Rattle.script.specs.declared.command.Command.{Command};
 ghost use Rattle.record.specs.Commands.{commands};
-ghost use Rattle.audit.specs.Calls.{IsAt};
+ghost use Rattle.audit.specs.Calls.{StandsNext};
 
 use arena::PassNo;
 use script::Call;
 
 /// Where the next call of a client stands, from this place on.
 pub(crate) fn next_call(calls: &[Call], from: usize, pass: PassNo) -> Option<usize>
-    ensures { IsAt calls.now pass.0 (commands (drop from calls.now) pass.0) result }
+    ensures { StandsNext calls.now pass.0 (commands (drop from calls.now) pass.0) result }
 {
     for at in from..calls.len() {
         if calls[at].client == pass {
@@ -21,7 +21,7 @@ pub(crate) fn next_call(calls: &[Call], from: usize, pass: PassNo) -> Option<usi
 
 /// Where the call of a client stands that comes behind this one, which is its next.
 pub(crate) fn next_behind(calls: &[Call], at: Option<usize>, pass: PassNo) -> Option<usize>
-    ensures { (left : List Command) → IsAt calls.now pass.0 left at → IsAt calls.now pass.0 (drop 1 left) result }
+    ensures { (left : List Command) → StandsNext calls.now pass.0 left at → StandsNext calls.now pass.0 (drop 1 left) result }
 {
     let Some(at) = at else {
         return None;

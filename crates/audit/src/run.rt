@@ -1,18 +1,14 @@
 //! A run, judged line by line.
-ghost use Rattle.std.specs.Prelude.{◌≡◌, ℕ, ◌≤◌, ◌<◌, Some, None, Option, set, slice_get, length, [], IfOk, IsSome, IfSome, IsTrue};
-ghost use Rattle.record.specs.declared.record.Entry.{Entry as EntryOf};
-ghost use Rattle.audit.specs.declared.client.Client.{Client as ClientOf};
+ghost use Rattle.std.specs.Prelude.{◌≡◌, ℕ, ◌≤◌, ◌∷◌, [], Some, length, IfOk, OnOk, IsTrue};
 ghost use Rattle.audit.specs.After.{lines_of, IsAfter, IsMapAfter, AreRememberedAfter, AreClientsAfter};
-ghost use Rattle.std.specs.Prelude.{◌∷◌, OnOk};
 ghost use Rattle.moments.specs.Places.{changes};
-ghost use Rattle.record.specs.Steps.{SaysItsCall};
 
-use crate::client::Client;
+use crate::client::{Client, has_begun, note_win};
 use crate::commands::{enters, may_answer_after_step, may_answer_at_once, may_make, most_steps};
-use crate::edits::{Begun, begun_for, suits};
+use crate::edits::{Begun, begun_for, is_of, note_begun, suits};
 use crate::fault::{Refused, hold};
 use crate::levels::do_levels_rise;
-use crate::steps::Steps;
+use crate::steps::{Steps, says_its_call};
 use crate::{cells, map};
 use arena::{Kind, Mode, NoMemory, NodeWord, PassNo, ScxNo, ScxWord, Word};
 use moments::{Change, Places};
@@ -52,6 +48,7 @@ impl<'a> Run<'a> {
     ghost use Rattle.arena.specs.declared.step.Row.{Row as RowOf};
     ghost use Rattle.arena.specs.Lawful.{IsLawful};
     ghost use Rattle.record.specs.declared.record.Line.{Line};
+    ghost use Rattle.record.specs.declared.record.Entry.{Entry as EntryOf};
     ghost use Rattle.record.specs.declared.record.Row.{Row};
     ghost use Rattle.record.specs.declared.record.Line.{Line as LineOf};
     ghost use Rattle.record.specs.Commands.{next_command};
@@ -745,26 +742,6 @@ impl<'a> Run<'a> {
     }
 }
 
-/// Whether an SCX-record has begun for a call with this command.
-fn is_of(begun: &Begun, command: &Command) -> bool
-    ensures { IsTrue result → begun.now.command ≡ command.now }
-{
-    match (begun.command, *command) {
-        (Command::Map(own), Command::Map(request)) => own == request,
-        _ => false,
-    }
-}
-
-/// This SCX-record has begun, if one has.
-fn note_begun(edits: &mut Vec<Option<Begun>>, scx: u64, begun: Option<Begun>)
-    ensures none { begun ≡ None → edits.new.items ≡ edits.old.items }
-    ensures some { IsSome begun → edits.new.items ≡ set edits.old.items scx begun }
-{
-    if begun.is_some() && (scx as usize) < edits.len() {
-        edits[scx as usize] = begun;
-    }
-}
-
 /// The key of a change gets its value; refused if no call names that key.
 fn push(places: &mut Places, change: Change) -> Result<(), Refused>
     ensures { OnOk result (changes places.new ≡ change ∷ changes places.old) }
@@ -787,30 +764,6 @@ fn clients(alloc: Global, script: &Script) -> Result<Vec<Client>, NoMemory>
     Ok(clients)
 }
 
-/// Whether the call of a client has begun, unless this is its own turn.
-fn has_begun(client: &Client, pass: PassNo) -> bool
-    ensures { IsTrue result → (pass.0 ≡ client.now.pass.0 → ⊥) → IsSome client.now.begun }
-{
-    pass == client.pass || client.begun.is_some()
-}
-
-/// An update of a client has won in this turn, if this entry is owed.
-fn note_win(clients: &mut Vec<Client>, number: u64, owed: &Option<Entry>)
-    requires there { IfSome owed.now (λ e. e.client.0 < length clients.old.items) }
-    ensures same { length clients.new.items ≡ length clients.old.items }
-    ensures none { owed.now ≡ None → clients.new.items ≡ clients.old.items }
-    ensures some { (e : EntryOf) → (c : ClientOf) → owed.now ≡ Some e → slice_get clients.old.items e.client.0 ≡ Some c →
-        clients.new.items ≡ set clients.old.items e.client.0 (record c { won = Some number }) }
-{
-    if let Some(entry) = owed {
-        let client = clients[entry.client.0 as usize];
-        clients[entry.client.0 as usize] = Client {
-            won: Some(number),
-            ..client
-        };
-    }
-}
-
 /// Whether the moment of a reply, if there is one, is within the call.
 fn is_within(reply: &Finished) -> bool
     ensures { IsTrue result → (m : ℕ) → reply.now.moment ≡ Some m → (reply.now.begin ≤ m) × (m ≤ reply.now.end) }
@@ -818,15 +771,5 @@ fn is_within(reply: &Finished) -> bool
     match reply.moment {
         Some(moment) => reply.begin <= moment && moment <= reply.end,
         None => true,
-    }
-}
-
-/// Whether a row that fills the word `call` of an SCX-record stores there the number of its own call.
-fn says_its_call(row: &arena::Row) -> bool
-    ensures { IsTrue result → SaysItsCall row.now }
-{
-    match (row.kind, row.word) {
-        (Kind::Fill, Word::Scx(_, ScxWord::Call)) => row.after == row.call,
-        _ => true,
     }
 }

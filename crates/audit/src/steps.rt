@@ -5,6 +5,7 @@ ghost use Rattle.arena.specs.declared.layout.Layout.{Layout as LayoutOf};
 ghost use Rattle.arena.specs.History.{History as HistoryOf, Start, ◌⊳◌};
 ghost use Rattle.arena.specs.Lawful.{IsLawful};
 ghost use Rattle.record.specs.Rules.Scx.{has_run};
+ghost use Rattle.record.specs.Steps.{SaysItsCall};
 ghost use Rattle.record.specs.Shares.{HasNodesLeft as NodesLeft, HasScxLeft as ScxLeft, HasTooFew as TooFew};
 ghost use Rattle.judge.specs.Histories.{seen_history};
 
@@ -473,4 +474,14 @@ fn has_run(answer: &Answer) -> bool
     ensures { result ≡ has_run answer.now }
 {
     matches!(answer, Answer::Done | Answer::Lost { .. })
+}
+
+/// Whether a row that fills the word `call` of an SCX-record stores there the number of its own call.
+pub(crate) fn says_its_call(row: &Row) -> bool
+    ensures { IsTrue result → SaysItsCall row.now }
+{
+    match (row.kind, row.word) {
+        (Kind::Fill, Word::Scx(_, ScxWord::Call)) => row.after == row.call,
+        _ => true,
+    }
 }

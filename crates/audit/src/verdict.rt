@@ -1,5 +1,6 @@
 //! The audit of a record.
-ghost use Rattle.std.specs.Prelude.{OnOk, reverse};
+ghost use Rattle.std.specs.Prelude.{◌≡◌, ◌≤◌, ◌+◌, ℕ, Err, OnOk, length, reverse};
+ghost use Rattle.audit.specs.Faults.{MayBeAtFault};
 ghost use Rattle.record.specs.LawfulRun.{IsLawfulRun};
 ghost use Rattle.record.specs.Turns.{clients};
 
@@ -13,8 +14,11 @@ use std::alloc::Global;
 /// nothing is owed. Otherwise the fault names the first row of the record's report that does not.
 /// Nothing is played again.
 pub fn audit(alloc: Global, record: &Record) -> Result<(), AuditFault>
-    ensures { OnOk result (IsLawfulRun «record».now.script.layout «record».now.script.limits.tries «record».now.script.calls.items
+    ensures lawful { OnOk result (IsLawfulRun «record».now.script.layout «record».now.script.limits.tries «record».now.script.calls.items
         (reverse (clients (reverse «record».now.lines.items))) «record».now.lines.items) }
+
+    // No line before the row that a fault names is at fault.
+    ensures fault { (row : ℕ) → result ≡ Err (AuditFault.NotLawful row) → MayBeAtFault «record».now row }
 {
     let before = rows_before(&record.script);
     let mut run = match Run::new(alloc, record) {
@@ -26,18 +30,22 @@ pub fn audit(alloc: Global, record: &Record) -> Result<(), AuditFault>
             return Err(refused.at(row_of(before, at)));
         }
     }
-    match run.finish() {
-        Ok(()) => Ok(()),
-        Err(refused) => Err(refused.at(row_of(before, record.lines.len()))),
+    if let Err(refused) = run.finish() {
+        return Err(refused.at(row_of(before, record.lines.len())));
     }
+    Ok(())
 }
 
 /// How many rows of a report stand before the lines of the run: its head, the limits and the calls.
-fn rows_before(script: &Script) -> u64 {
+fn rows_before(script: &Script) -> u64
+    ensures { result ≤ length script.now.calls.items + 2 }
+{
     (script.calls.len() as u64).saturating_add(2)
 }
 
 /// The row of a report in which the line stands that comes behind so many.
-fn row_of(before: u64, lines: usize) -> u64 {
+fn row_of(before: u64, lines: usize) -> u64
+    ensures { result ≤ before + lines + 1 }
+{
     before.saturating_add(lines as u64).saturating_add(1)
 }

@@ -24,7 +24,7 @@ use Rattle.record.specs.CommandRules.{command_steps}
 use Rattle.player.specs.RunKnown.{RunWaits, RunAnswers, IsSameMachine, run_mode, share_behind}
 use Rattle.player.specs.RunSteps.{run_left, then_left, left_of}
 use Rattle.player.specs.ClientView.{ClientView, Hand, in_hand, snaps_of, IsStart, IsPutOf, IsScxOf, held, HoldsShare, Holds, TakesInHand, HasNewest, IsMachineOf, IsRoomy, MayTryAll, IsWonBy, IsClientState, Works, Hears, Answered, machine_call, GoesOn, HasBeenTold}
-use Rattle.player.specs.Hearing.{HasEnded, HasHeard}
+use Rattle.player.specs.Hearing.{HasAnswered, HasHeard}
 
 -- what does not change while a machine goes on
 record IsKept (left : Remaining) (old now : Run) : Type 0 where
@@ -130,7 +130,7 @@ some_same p q e = cc
 pub hears_as : (v : ClientView) (c : Client) (q p : Running) (found : ℕ) → Some p ≡ Some q → Hears v c q found → Hears v c p found
 hears_as v c q p found e x = rw (some_same p q e) x
 
-pub ended_as : (v : ClientView) (c : Client) (q p : Running) (end : Ended) → Some p ≡ c.running → c.running ≡ Some q → HasEnded v c q end → HasEnded v c p end
+pub ended_as : (v : ClientView) (c : Client) (q p : Running) (end : Ended) → Some p ≡ c.running → c.running ≡ Some q → HasAnswered v c q end → HasAnswered v c p end
 ended_as v c q p end e d x = rw (some_same p q (e ∙ d)) x
 
 -- a machine that has ended in its place
@@ -181,7 +181,7 @@ answered_back v c (Map m) then end w none a few = record { works = back_so v c (
 answered_back v c run then end w none a few = record { works = back_so v c run then w; none = none; answers = a; back = refl; few = few }
 
 -- it has answered once it is taken out, with its share back
-pub answered_so : (v : ClientView) (c : Client) (p : Running) (end : Ended) (rest : Option Running) (mid : Client) → HasEnded v c p end → rest ≡ None → mid ≡ record c { running = rest; share = share_behind p.run c.share } → Answered v mid p.run p.then end
+pub answered_so : (v : ClientView) (c : Client) (p : Running) (end : Ended) (rest : Option Running) (mid : Client) → HasAnswered v c p end → rest ≡ None → mid ≡ record c { running = rest; share = share_behind p.run c.share } → Answered v mid p.run p.then end
 unfolding works_so
 answered_so v c p end rest mid x e is =
     subst (λ (k : Client). Answered v k p.run p.then end) (sym is)

@@ -1,5 +1,5 @@
--- Where an edit took place: at its one entry, which tells what the map had just before. A delete of
--- an absent key reads; an edit that is refused took place nowhere.
+-- Where a call of the map took place that has changed it: at its one entry, which tells what the map
+-- had just before. One that is refused took place nowhere.
 use Rattle.std.proofs.Common.{◌≡◌, ℕ, suc, ◌⊎◌, inl, inr, ⊎_elim, Bool, true, false, cond, ◌&&◌, ◌||◌, eqb, eqb-true, eq-eqb, ne_eqb, is_some, List, [], ◌∷◌, ◌++◌, Option, Some, None, refl, sym, ◌∙◌, ap, subst}
 use Rattle.arena.specs.declared.limits.Mode.TheVariants.{Tree}
 use Rattle.arena.specs.declared.layout.Layout.{Layout}
@@ -9,30 +9,24 @@ use Rattle.arena.specs.Fills.{IsOwnScx}
 use Rattle.arena.specs.Lawful.{Lawful, IsWin}
 use Rattle.arena.specs.Machines.{IsRun}
 use Rattle.histories.proofs.Lemmas.{UpdateWins, lawful_row, one_scx_owner}
-use Rattle.ordered_map.specs.OrderedMap.{MapCall, MapReply, Edit, Insert, Delete}
+use Rattle.ordered_map.specs.OrderedMap.{MapCall, MapReply}
 use Rattle.ordered_map.specs.Spelled.{Spells}
 use Rattle.edits.specs.Laws.Entered.{none_yet}
 use Rattle.script.specs.declared.call.Call.{Call}
 use Rattle.script.specs.declared.command.Command.{Command}
-use Rattle.script.specs.declared.command.Command.TheVariants.{Map}
-use Rattle.ordered_map.specs.declared.request.Request.TheVariants.{Insert as InsertOf, Delete as DeleteOf}
 use Rattle.record.specs.declared.record.Line.{Line}
 use Rattle.record.specs.declared.record.Line.TheVariants.{Step, Log, Reply as ReplyLine}
 use Rattle.record.specs.declared.record.Row.{Row as Turn}
 use Rattle.record.specs.declared.record.Row.TheVariants.{Step as Made, Idle}
 use Rattle.record.specs.declared.record.Entry.{Entry}
 use Rattle.record.specs.declared.record.Finished.{Finished}
-use Rattle.ordered_map.specs.declared.reply.Reply.TheVariants.{Full, Value, Contended}
-use Rattle.record.specs.declared.record.Answer.{Answer}
-use Rattle.record.specs.declared.record.Answer.TheVariants.{Map as MapAnswer}
 use Rattle.record.specs.Answers.{HasItsEntry}
 use Rattle.record.specs.CommandRules.{enters, IsRight}
 use Rattle.record.specs.LawfulRun.{AreLines}
 use Rattle.record.specs.Linked.{linked}
 use Rattle.record.specs.MapRecord.{map_of, written_log, entries_of_call, reply_told}
 use Rattle.record.specs.Commands.{next_command}
-use Rattle.record.specs.Edits.{HadAtKey}
-use Rattle.record.specs.Placed.{IsPlacedChange, IsPlacedReading, IsRefused, IsPlacedOnMap}
+use Rattle.record.specs.Placed.{IsPlacedChange, IsRefused}
 use Rattle.record.specs.SpelledMap.{AreSpelled}
 use Rattle.record.specs.Turns.{history, turns, answered, begin, start, won, entry_owed, client_of}
 use Rattle.player.specs.Allowed.{PlayedAllows}
@@ -41,7 +35,7 @@ use Rattle.player.specs.Moments.{IsMomentBy}
 use Rattle.player.specs.ClientView.{client_view, Tells, IsToldChange}
 use Rattle.record.proofs.Lemmas.{entries_none}
 use Rattle.moments.specs.Entries.{AreEntries}
-use Rattle.moments.proofs.Lemmas.{absent_placed, spelled}
+use Rattle.moments.proofs.Lemmas.{spelled}
 use Rattle.player.proofs.MapCalls.{AreOf, map_calls, run_before, tree_run}
 use Rattle.player.proofs.Winners.{win_enters}
 
@@ -181,8 +175,8 @@ pub unwon_none : (won : Option ℕ) → HasItsEntry false won → won ≡ None
 unwon_none None x = refl
 unwon_none (Some k) x = absurd x
 
--- what is known of a reply that an edit has given
-pub record IsEditReply (lay : Layout) (tries : ℕ) (calls : List Call) (lines : List Line) (changes : List Change) (r : Finished) (c : ℕ) (command : Command) : Type 0 where
+-- what is known of a reply that a call of the map has given
+pub record IsMapReply (lay : Layout) (tries : ℕ) (calls : List Call) (lines : List Line) (changes : List Change) (r : Finished) (c : ℕ) (command : Command) : Type 0 where
   pub mode : lay.mode ≡ Tree
   pub all : AreOf lay.mode calls
   pub run : IsRun PlayedAllows lay (history lay.mode lines)
@@ -201,11 +195,11 @@ pub record IsEditReply (lay : Layout) (tries : ℕ) (calls : List Call) (lines :
   pub moment : IsMomentBy calls lines changes command r.answer r.begin r.end (won lay lines c) r.moment
 
 module _ (lay : Layout) (tries : ℕ) (calls : List Call) (lines : List Line) (changes : List Change) (r : Finished) (c : ℕ) where
-  pub refused : (command : Command) → IsEditReply lay tries calls lines changes r c command → HasItsEntry false (won lay lines c) → r.moment ≡ None → IsRefused lines r
+  pub refused : (command : Command) → IsMapReply lay tries calls lines changes r c command → HasItsEntry false (won lay lines c) → r.moment ≡ None → IsRefused lines r
   refused command x y none = record { none = rw (x.client, x.number) (entries_none lay tries calls lines x.lines_are c (unwon_none (won lay lines c) y)); moment = none }
 
   -- a call that has changed the map took place at its entry
-  pub changed : (command : Command) (call : MapCall) (told : MapReply) → IsEditReply lay tries calls lines changes r c command → reply_told r.answer ≡ Some told → IsToldChange (client_view lay tries calls lines c) c call told → r.moment ≡ won lay lines c → IsPlacedChange calls lines call r
+  pub changed : (command : Command) (call : MapCall) (told : MapReply) → IsMapReply lay tries calls lines changes r c command → reply_told r.answer ≡ Some told → IsToldChange (client_view lay tries calls lines c) c call told → r.moment ≡ won lay lines c → IsPlacedChange calls lines call r
   changed command call told x says y at =
       let f = find_win lay tries calls c x.mode x.all y.row y.before y.scx y.win.wins y.win.own lines x.run x.lines_are x.owed y.win.within y.win.since in
       record {
@@ -219,24 +213,3 @@ module _ (lay : Layout) (tries : ℕ) (calls : List Call) (lines : List Line) (c
         moment = at ∙ f.won_is;
         replies = says ∙ ap (λ (t : MapReply). Some t) (sym (y.replies (map_of calls (written_log f.rest)) (subst (λ (h : History). Spells lay (value h) (map_of calls (written_log f.rest))) f.before_is f.spells)));
       }
-
-  -- one that finds nothing at the key reads
-  absent : (key : ℕ) → IsEditReply lay tries calls lines changes r c (Map (DeleteOf key)) → r.answer ≡ MapAnswer (Value None) → IsPlacedReading calls lines (Edit (Delete key)) r
-  absent key x is =
-      let found = (rw is at x.moment) x.entries in
-      let had : HadAtKey lay (history lay.mode lines) (start lay.mode lines c) key None = rw is at x.right in
-      let none = unwon_none (won lay lines c) (rw is at x.entry) in
-      absent_placed lay tries calls lines r key x.lines_are x.spells x.owed (rw x.client x.next) (rw x.client none) (rw x.client x.number) (rw x.client x.began) x.ended is (rw x.client had) record { found = found.0; none = found.1 }
-
-  pub insert_placed : (key put : ℕ) (answer : Answer) → IsEditReply lay tries calls lines changes r c (Map (InsertOf key put)) → r.answer ≡ answer → IsPlacedOnMap (reply_told answer) calls lines (Edit (Insert key put)) r
-  insert_placed key put (MapAnswer (Value old)) x is = changed (Map (InsertOf key put)) (Edit (Insert key put)) _ x (ap reply_told is) (rw is at x.tells) (rw is at x.moment)
-  insert_placed key put (MapAnswer (Full full)) x is = refused (Map (InsertOf key put)) x (rw is at x.entry) (rw is at x.moment)
-  insert_placed key put (MapAnswer (Contended node scx)) x is = refused (Map (InsertOf key put)) x (rw is at x.entry) (rw is at x.moment)
-  insert_placed key put answer x is = absurd (rw is at x.right)
-
-  pub delete_placed : (key : ℕ) (answer : Answer) → IsEditReply lay tries calls lines changes r c (Map (DeleteOf key)) → r.answer ≡ answer → IsPlacedOnMap (reply_told answer) calls lines (Edit (Delete key)) r
-  delete_placed key (MapAnswer (Value (Some old))) x is = changed (Map (DeleteOf key)) (Edit (Delete key)) _ x (ap reply_told is) (rw is at x.tells) (rw is at x.moment)
-  delete_placed key (MapAnswer (Value None)) x is = absent key x is
-  delete_placed key (MapAnswer (Full full)) x is = refused (Map (DeleteOf key)) x (rw is at x.entry) (rw is at x.moment)
-  delete_placed key (MapAnswer (Contended node scx)) x is = refused (Map (DeleteOf key)) x (rw is at x.entry) (rw is at x.moment)
-  delete_placed key answer x is = absurd (rw is at x.right)

@@ -38,9 +38,7 @@ use Rattle.record.specs.Snapshots.{IsLastLook}
 use Rattle.record.specs.Answers.{IsUnchanged, AreUnchanged}
 use Rattle.record.specs.Updates.{IsEntryOver}
 use Rattle.record.specs.Rules.Map.{IsMapEntry}
-use Rattle.record.specs.Rules.PopFirst.{IsPopEntry}
-use Rattle.player.proofs.Keys.{some_edit}
-use Rattle.arena.specs.declared.layout.Layout.{Layout}
+use Rattle.player.proofs.EachCall.{entry_makes}
 use Rattle.record.specs.CommandRules.{IsEntryFor}
 use Rattle.player.specs.Allowed.{PlayedAllows}
 use Rattle.player.specs.RunKnown.{RunWaits, RunIsReady, edit_in_hand, run_mode}
@@ -54,10 +52,9 @@ use Rattle.dict.specs.declared.dict.DictRun.{DictRun}
 use Rattle.ordered_map.specs.Requests.{map_request}
 use Rattle.ordered_map.specs.declared.request.Request.{Request}
 use Rattle.ordered_map.specs.declared.pair.Pair.{Pair}
-use Rattle.ordered_map.specs.OrderedMap.{MapCall, MapEdit, OneValue, Edit as EditCall, Insert, Delete, PopFirst, ReplaceIf, Get, Successor, Range, edit_of, first_pair, get, replace_edit, reply}
-use Rattle.ordered_map.specs.Runs.{Makes}
+use Rattle.ordered_map.specs.OrderedMap.{MapCall, MapEdit, edit_of, reply}
 use Rattle.ordered_map.specs.Spelled.{Spells}
-use Rattle.ordered_map.proofs.Lemmas.{one_spelling, run_spells}
+use Rattle.ordered_map.proofs.Lemmas.{run_spells}
 use Rattle.player.proofs.MapCalls.{tree_run}
 use Rattle.edits.specs.Tries.{HasEnteredOnly}
 use Rattle.player.proofs.Editing.{IsEditHand, map_hand}
@@ -127,39 +124,6 @@ pub record IsEntryFrom (v : ClientView) (c : Client) (row : Row) (s : ℕ) : Typ
   pub same_call : entered.call ≡ c.number
   pub called : value v.past (scx s CallWord) ≡ c.number
   pub does : IsEntryFor v.layout c.pass.0 v.past v.start v.linked entered command
-
--- an SCX-record that makes an edit has an entry of a call whose reply, on the map just before, says
--- that it has made the edit
-module _ (lay : Layout) (before : History) (s : ℕ) where
-  -- the first pair goes
-  popped : (edit : MapEdit) (map : List Pair) → Spells lay (value before) map → edit_of PopFirst (reply PopFirst map) ≡ Some edit → Makes lay before s edit → IsPopEntry lay before s
-  popped edit [] spells e makes = cc
-  popped edit (p ∷ ps) spells e makes = (p, subst (Makes lay before s) (sym (some_edit (Delete p.key) edit e)) makes, λ map also. ap first_pair (one_spelling lay (value before) map (p ∷ ps) also spells))
-
-  -- the value expected goes
-  expected_there : (k x y : ℕ) (edit : MapEdit) (told : Option ℕ) → replace_edit k x y told ≡ Some edit → (told ≡ Some x) × (Insert k y ≡ edit)
-  expected_there k x y edit None e = cc
-  expected_there k x y edit (Some old) e = go (eqb old x) refl e
-    where
-      go : (b : Bool) → eqb old x ≡ b → cond b (Some (Insert k y)) None ≡ Some edit → (Some old ≡ Some x) × (Insert k y ≡ edit)
-      go true q e = (ap (λ (n : ℕ). Some n) (eqb-true old x q), some_edit (Insert k y) edit e)
-      go false q e = cc
-
-  entry_makes : (of : MapCall) (edit : MapEdit) (map : List Pair) → Spells lay (value before) map → ((also : List Pair) → Spells lay (value before) also → edit_of of (reply of also) ≡ Some edit) → Makes lay before s edit → IsMapEntry of lay before (entry_of lay before s)
-  entry_makes (EditCall (Insert k x)) edit map spells gives makes = subst (Makes lay before s) (sym (some_edit (Insert k x) edit (gives map spells))) makes
-  entry_makes (EditCall (Delete k)) edit map spells gives makes = go (get k map) (gives map spells)
-    where
-      go : (old : Option ℕ) → edit_of (EditCall (Delete k)) (OneValue old) ≡ Some edit → Makes lay before s (Delete k)
-      go (Some old) e = subst (Makes lay before s) (sym (some_edit (Delete k) edit e)) makes
-      go None e = cc
-  entry_makes PopFirst edit map spells gives makes = popped edit map spells (gives map spells) makes
-  entry_makes (ReplaceIf k x y) edit map spells gives makes = (
-    subst (Makes lay before s) (sym (expected_there k x y edit (get k map) (gives map spells)).1) makes,
-    λ also there. (expected_there k x y edit (get k also) (gives also there)).0,
-  )
-  entry_makes (Get key) edit map spells gives makes = absurd (let e = gives map spells in cc)
-  entry_makes (Successor key) edit map spells gives makes = absurd (let e = gives map spells in cc)
-  entry_makes (Range low high most) edit map spells gives makes = absurd (let e = gives map spells in cc)
 
 -- the entry of an SCX, and what its SCX-record says of its call
 record IsOfPut (v : ClientView) (c : Client) (row : Row) (m : PutRun) (start : History) (is_pass : c.pass.0 < v.layout.passes) : Type 0 where

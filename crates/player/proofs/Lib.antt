@@ -6,6 +6,7 @@ mod MapCalls
 mod EditPlaces
 mod Over
 mod Left
+mod EachCall
 mod Placing
 mod MapEnds
 mod Editing

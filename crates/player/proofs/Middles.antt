@@ -304,14 +304,14 @@ replied lay tries calls words clients lines changes old new answer said reply co
             let place = rw q at o.rests.stands.place in
             let there = next_at calls old.pass.0 old.number at place in
             let same : there.0.command ≡ command = some_command there.0.command command (sym there.3 ∙ ap (λ (k : ℕ). slice_get (commands calls old.pass.0) k) o.rests.stands.number ∙ o.is) in
-            moment_same calls lines changes command answer old.begin number said (won lay lines old.pass.0) reply.moment o.done o.entry wins
+            moment_same lay tries old.pass.0 (history lay.mode lines) (start lay.mode lines old.pass.0) (linked calls lay.mode lines old.pass.0) calls lines changes command answer old.begin number said (won lay lines old.pass.0) reply.moment o.right o.done o.entry wins
             (subst (λ (k : Command). IsMomentBy calls lines changes k answer old.begin number said reply.moment) same (e.moment there.0 at q there.1))
 
     of_tree : mode_of command ≡ Tree → lay.mode ≡ Tree
     of_tree tree = sym (command_mode lay.mode calls old.pass.0 _ command x.so_far.of_mode o.is) ∙ tree
 
     within : (m : ℕ) → reply.moment ≡ Some m → (reply.begin ≤ m) × (m ≤ reply.end)
-    within m q = moment_within calls lines changes reply.begin reply.end m (won lay lines old.pass.0) reply.moment (rw (e.begin, e.end, n) begins) (λ turn w. (rw e.begin (o.late turn w), rw (e.end, n) (won_within lay tries calls lines old.pass.0 turn x.so_far.in_order w))) q command reply.answer (λ tree. entries (of_tree tree)) (λ tree. subst (λ (k : ℕ). FallFrom (suc k) changes) (sym (e.end ∙ n)) (falls lay tries calls lines changes x.so_far.in_order (entries (of_tree tree)))) moment
+    within m q = moment_within calls lines changes reply.begin reply.end m (won lay lines old.pass.0) reply.moment (rw (e.begin, e.end, n) begins) (λ turn w. (rw e.begin (o.late turn w), rw (e.end, n) (won_within lay tries calls lines old.pass.0 turn x.so_far.in_order w))) q lay tries old.pass.0 (history lay.mode lines) (start lay.mode lines old.pass.0) (linked calls lay.mode lines old.pass.0) command reply.answer (rw e.answers o.right) (λ tree. entries (of_tree tree)) (λ tree. subst (λ (k : ℕ). FallFrom (suc k) changes) (sym (e.end ∙ n)) (falls lay tries calls lines changes x.so_far.in_order (entries (of_tree tree)))) moment
 
     is_reply : IsReply lay tries calls lines reply
     is_reply = record {

@@ -16,13 +16,14 @@ use Rattle.prims.specs.Shares.{IsShare}
 use Rattle.edits.specs.Known.{RestsWith}
 use Rattle.ordered_map.specs.CallRules.{most_nodes, most_scx}
 use Rattle.template.specs.Tries.{tries_since}
-use Rattle.dict.specs.Calls.{most_tries, HasSpent}
-use Rattle.ordered_map.specs.OrderedMap.{MapCall, Edit, Insert, Delete, PopFirst, ReplaceIf, Get, Successor, Range}
+use Rattle.dict.specs.Calls.{HasSpent}
+use Rattle.ordered_map.specs.OrderedMap.{MapCall}
 use Rattle.ordered_map.specs.Requests.{map_request}
 use Rattle.ordered_map.specs.declared.request.Request.{Request}
 use Rattle.script.specs.declared.command.Command.TheVariants.{Map as MapOf}
 use Rattle.record.specs.CommandRules.{HasTakenFew}
 use Rattle.record.specs.Shares.{HasTakenAtMost, IsScxTakenSince}
+use Rattle.dict.specs.Laws.EachCall.{tries_take}
 use Rattle.player.specs.RunKnown.{RunWaits}
 use Rattle.player.specs.ClientView.{ClientView, Hand, HasTaken, no_hand, in_hand}
 
@@ -125,19 +126,12 @@ taken_few lay c most_scx most now start old left since began share few each = re
     few_nodes : old.nodes ≤ left.nodes + most * (left.next_scx - old.next_scx)
     few_nodes = nodes_for_each most old.nodes left.nodes old.scx left.scx (left.next_scx - old.next_scx) (let a = began.to_scx in let b = share.to_scx in omega (arith, a, b, less)) each
 
--- the tries that it has begun take no more than all that it may begin
-few_tries : (call : MapCall) (begun tries old left : ℕ) → begun ≤ most_tries call tries → old ≤ left + most_scx call begun → old ≤ left + most_scx call tries
-few_tries (Edit (Insert key value)) begun tries old left few spent = omega (arith, few, spent)
-few_tries (Edit (Delete key)) begun tries old left few spent = omega (arith, few, spent)
-few_tries PopFirst begun tries old left few spent = omega (arith, few, spent)
-few_tries (ReplaceIf key expected value) begun tries old left few spent = omega (arith, few, spent)
-few_tries (Get key) begun tries old left few spent = spent
-few_tries (Successor key) begun tries old left few spent = spent
-few_tries (Range low high most) begun tries old left few spent = spent
-
--- so a call of the map has taken what its tries may
+-- a call of the map has taken what its tries may
 taken_tries : (c : Call) (h : History) (call : MapCall) (tries : ℕ) (left : Remaining) → Extends h c.start → RestsWith c h left → HasSpent c h call tries left → HasTakenAtMost c.layout c.pass h c.start (most_scx call tries) (most_nodes call)
-taken_tries c h call tries left since rests spent = taken_few c.layout c.pass (most_scx call tries) (most_nodes call) h c.start spent.left left since spent.first.share rests.share (few_tries call (tries_since c.pass h c.start) tries spent.left.scx left.scx spent.tried.few spent.scx) spent.each
+taken_tries c h call tries left since rests spent = taken_few c.layout c.pass (most_scx call tries) (most_nodes call) h c.start spent.left left since spent.first.share rests.share few spent.each
+  where
+    few : spent.left.scx ≤ left.scx + most_scx call tries
+    few = let less = tries_take call (tries_since c.pass h c.start) tries spent.tried.few in let taken = spent.scx in omega (arith, less, taken)
 
 -- and that is what its command may
 pub map_took : (c : Call) (h : History) (request : Request ℕ ℕ) (tries : ℕ) (left : Remaining) → Extends h c.start → RestsWith c h left → HasSpent c h (map_request request) tries left → HasTakenFew c.layout tries c.pass h c.start (MapOf request)

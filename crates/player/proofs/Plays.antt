@@ -23,7 +23,7 @@ use Rattle.record.specs.Turns.{history, clients, turns}
 use Rattle.player.specs.Lines.{turn_lines, with_entry, with_reply, with_turn}
 use Rattle.player.specs.ClientView.{client_view, Rests}
 use Rattle.record.specs.LawfulRun.{AreLines, IsLawfulRun}
-use Rattle.player.specs.BetweenTurns.{AreBetweenTurns, HasTurned, IsBetweenTurns, AreWins}
+use Rattle.player.specs.BetweenTurns.{AreBetweenTurns, HasMadeTurn, IsBetweenTurns, AreWins}
 use Rattle.player.specs.Core.{StandsAt}
 use Rattle.player.specs.Player.{PlayerView, ScriptView, script_view, IsPlayed}
 
@@ -93,14 +93,14 @@ turn_counted row (Some entry) None lines = refl
 turn_counted row (Some entry) (Some reply) lines = refl
 
 -- so the interleaving counts it
-pub counts_one : {E : Type 0} (r : Result Written E) (old new : Interleaving) (lines : List Line) (i : ℕ) → IsBetweenTurns old lines → IfOk r (λ turn. (lines : List Line) → IsBetweenTurns old lines → HasTurned old new lines i turn) → OnOk r (new.turns ≡ suc old.turns)
+pub counts_one : {E : Type 0} (r : Result Written E) (old new : Interleaving) (lines : List Line) (i : ℕ) → IsBetweenTurns old lines → IfOk r (λ turn. (lines : List Line) → IsBetweenTurns old lines → HasMadeTurn old new lines i turn) → OnOk r (new.turns ≡ suc old.turns)
 counts_one (Ok turn) old new lines i x made =
     let t = made lines x in
     t.between.counted.turned ∙ turn_counted turn.row turn.entry turn.reply lines ∙ ap suc (sym x.counted.turned)
 counts_one (Err e) old new lines i x made = tt
 
 -- behind a turn, or one that was refused, it stands between turns again
-pub stays_between : {E : Type 0} (r : Result Written E) (old new : Interleaving) (lines : List Line) (i : ℕ) → IsBetweenTurns old lines → IfOk r (λ turn. (lines : List Line) → IsBetweenTurns old lines → HasTurned old new lines i turn)
+pub stays_between : {E : Type 0} (r : Result Written E) (old new : Interleaving) (lines : List Line) (i : ℕ) → IsBetweenTurns old lines → IfOk r (λ turn. (lines : List Line) → IsBetweenTurns old lines → HasMadeTurn old new lines i turn)
     → IfErr r (λ _. (lines : List Line) → IsBetweenTurns old lines → IsBetweenTurns new lines) → (lines : List Line) × IsBetweenTurns new lines
 stays_between (Ok turn) old new lines i x made refused = (with_turn turn.row turn.entry turn.reply lines, (made lines x).between)
 stays_between (Err e) old new lines i x made refused = (lines, refused lines x)

@@ -1,24 +1,22 @@
--- Where the calls of a run took place: those of cells where their answer says; an edit at its
--- entry; a get in the turn that was found for it. All replies of a run on the tree are those of one
+-- Where the calls of a run took place: those of cells where their answer says; a call of the map at
+-- its entry, or in the turn that was found for it. All replies of a run on the tree are those of one
 -- map.
-use Rattle.std.proofs.Common.{◌≡◌, ℕ, suc, ◌≤◌, ⊎_elim, Bool, true, false, cond, is_some, List, Option, Some, None, refl, sym, ◌∙◌, ap, subst, arith}
-use Rattle.std.specs.Option.{option_map}
+use Rattle.std.proofs.Common.{◌≡◌, ℕ, suc, ◌≤◌, ⊎_elim, Bool, true, false, List, Option, Some, None, IfSome, IfNone, refl, sym, ◌∙◌, ap, subst, arith}
 use Rattle.arena.specs.declared.limits.Mode.{Mode}
 use Rattle.arena.specs.declared.limits.Mode.TheVariants.{Records, Tree}
 use Rattle.arena.specs.declared.layout.Layout.{Layout}
 use Rattle.arena.specs.PlainWords.{Contents}
-use Rattle.arena.specs.History.{value}
-use Rattle.ordered_map.specs.OrderedMap.{MapCall, PopFirst, ReplaceIf, Get, Successor, Range, Insert as PutEdit, MapReply, OneValue, ManyPairs, is_value, pair_or_none, reply as answer_on}
-use Rattle.ordered_map.specs.Paths.{IsAnswerAt}
+use Rattle.ordered_map.specs.declared.pair.Pair.{Pair}
+use Rattle.ordered_map.specs.OrderedMap.{MapCall, MapReply, OneValue, changes_map, get, reply as answer_on}
+use Rattle.ordered_map.specs.Requests.{map_request}
 use Rattle.script.specs.declared.call.Call.{Call}
 use Rattle.script.specs.declared.command.Command.{Command}
 use Rattle.script.specs.declared.command.Command.TheVariants.{Map}
-use Rattle.ordered_map.specs.declared.request.Request.TheVariants.{Insert as InsertOf, Delete as DeleteOf, PopFirst as PopFirstOf, ReplaceIf as ReplaceIfOf, Get as GetOf, Successor as SuccessorOf, Range as RangeOf}
+use Rattle.ordered_map.specs.declared.request.Request.{Request}
 use Rattle.record.specs.declared.record.Line.{Line}
 use Rattle.record.specs.declared.record.Finished.{Finished}
 use Rattle.ordered_map.specs.declared.reply.Reply.{Reply}
-use Rattle.ordered_map.specs.declared.reply.Reply.TheVariants.{Value, Pair, Pairs, Contended, Full, NoMemory}
-use Rattle.ordered_map.specs.Replies.{word_pair, number_reply}
+use Rattle.ordered_map.specs.Replies.{number_reply}
 use Rattle.record.specs.declared.record.Answer.{Answer}
 use Rattle.record.specs.declared.record.Answer.TheVariants.{Map as MapAnswer}
 use Rattle.record.specs.Turns.{history, turns, answered, begin, start, won, entry_owed}
@@ -28,19 +26,19 @@ use Rattle.record.specs.Answers.{moment_of, HasItsEntry}
 use Rattle.moments.specs.declared.places.Change.{Change}
 use Rattle.moments.specs.Entries.{AreEntries}
 use Rattle.moments.specs.Ordered.{FallFrom, IsOrderedRead}
-use Rattle.player.specs.Moments.{IsMomentBy, IsOrderedMoment, IsReadMoment, IsWonOrRead}
-use Rattle.player.specs.ClientView.{client_view, IsToldBy, IsToldOfMap, IsToldReading, Tells}
+use Rattle.player.specs.Moments.{IsMomentBy, IsOrderedMoment, IsReadMoment}
+use Rattle.player.specs.ClientView.{ClientView, client_view, IsToldBy, IsToldOfMap, IsToldReading, Tells}
 use Rattle.record.specs.CommandRules.{IsRight, IsPlaced, enters}
-use Rattle.record.specs.Rules.ReplaceIf.{ReplaceTold}
-use Rattle.record.specs.MapRecord.{map_at, map_call, number_pairs, reply_told, written_log, entries_of_call}
-use Rattle.record.specs.Placed.{IsGreatestTurn, IsPlacedChangeOrReading, IsPlacedReading, IsRefused, IsPlacedOnMap}
+use Rattle.record.specs.MapRecord.{map_at, reply_told}
+use Rattle.record.specs.Placed.{IsGreatestTurn, IsPlacedChangeOrReading, IsPlacedReading, IsPlacedOnMap}
 use Rattle.record.specs.LawfulRun.{IsWhole}
 use Rattle.record.specs.SpelledMap.{AreSpelled}
-use Rattle.record.proofs.Lemmas.{begin_within, entries_none, lawful_is_legal, value_told}
+use Rattle.record.proofs.Lemmas.{begin_within, lawful_is_legal}
 use Rattle.player.specs.BetweenTurns.{IsLawfulSoFar}
-use Rattle.moments.proofs.Lemmas.{IsRepliedIn, are_spelled, falls, get_placed, kept_placed, ordered_placed, replied_turn}
+use Rattle.moments.proofs.Lemmas.{IsRepliedIn, are_spelled, falls, ordered_placed, replied_turn}
+use Rattle.player.proofs.EachCall.{TookPlace, ByEntry, ByValue, ByReply, Nowhere, HasTakenPlace, IsMomentSo, TellsSo, is_by_entry, took_place}
 use Rattle.player.proofs.MapCalls.{command_mode, map_calls, tree_run}
-use Rattle.player.proofs.EditPlaces.{IsEditReply, changed, delete_placed, insert_placed, refused, unwon_none}
+use Rattle.player.proofs.EditPlaces.{IsMapReply, changed, refused, unwon_none}
 
 -- a call of cells replies nothing of the map, and its moment is that of its answer
 cell_moment : (calls : List Call) (lines : List Line) (changes : List Change) (command : Command) (answer : Answer) (first last : ℕ) (won moment : Option ℕ) → ((reply : Reply ℕ ℕ) → answer ≡ MapAnswer reply → ⊥) → IsMomentBy calls lines changes command answer first last won moment → moment ≡ moment_of answer first last won
@@ -51,129 +49,98 @@ cell_moment calls lines changes command answer first last won moment d x = x
 spelled_so_far : (lay : Layout) (tries : ℕ) (calls : List Call) (words : Contents) (lines : List Line) → IsLawfulSoFar lay tries calls words lines → lay.mode ≡ Tree → AreSpelled lay calls lines
 spelled_so_far lay tries calls words lines x mode = are_spelled lay tries calls mode (map_calls lay.mode calls mode x.of_mode) lines x.in_order (tree_run lay (history lay.mode lines) mode x.sound) (x.filled mode)
 
--- a get took place in a turn that was found for it
-get_reads : (lay : Layout) (tries : ℕ) (calls : List Call) (words : Contents) (lines : List Line) (changes : List Change) (reply : Finished) (key : ℕ) → IsLawfulSoFar lay tries calls words lines → lay.mode ≡ Tree → AreEntries calls lines changes → entry_owed lay lines ≡ None → reply.call ≡ answered lines reply.client.0 → IsRight lay tries reply.client.0 (history lay.mode lines) (start lay.mode lines reply.client.0) (linked calls lay.mode lines reply.client.0) (Map (GetOf key)) reply.answer → HasItsEntry (enters (Map (GetOf key)) reply.answer) (won lay lines reply.client.0) → next_command calls lines reply.client.0 ≡ Some (Map (GetOf key)) → begin lines reply.client.0 ≡ Some reply.begin → reply.end ≡ turns lines
-    → IsMomentBy calls lines changes (Map (GetOf key)) reply.answer reply.begin reply.end (won lay lines reply.client.0) reply.moment → IsPlacedOnMap (reply_told reply.answer) calls lines (Get key) reply
-get_reads lay tries calls words lines changes reply key x mode entries owed called right entry is begin end moment = go reply.answer refl
-  where
-    spelled : AreSpelled lay calls lines
-    spelled = spelled_so_far lay tries calls words lines x mode
+-- the value of a reply that tells one
+some_value : (a b : Option ℕ) → Some (OneValue a) ≡ Some (OneValue b) → a ≡ b
+some_value a b e = cc
 
-    told : (a : Option ℕ) → reply.answer ≡ MapAnswer (Value a) → IsPlacedReading calls lines (Get key) reply
-    told a e =
-        let found = (rw e at moment) entries in
-        let at : IsAnswerAt lay (history lay.mode lines) (start lay.mode lines reply.client.0) key a = rw e at right in
-        get_placed lay tries calls lines reply key a x.in_order spelled owed is (unwon_none (won lay lines reply.client.0) entry) called begin end e at record { found = found.0; none = found.1 }
+-- Of a call of the map what is known of its reply says where it took place
+module _ (lay : Layout) (tries : ℕ) (calls : List Call) (words : Contents) (lines : List Line) (changes : List Change) (reply : Finished) (request : Request ℕ ℕ) (x : IsLawfulSoFar lay tries calls words lines) (y : IsMapReply lay tries calls lines changes reply reply.client.0 (Map request)) where
+  abbrev view : ClientView
+  view = client_view lay tries calls lines reply.client.0
 
-    go : (answer : Answer) → reply.answer ≡ answer → IsPlacedOnMap (reply_told answer) calls lines (Get key) reply
-    go (MapAnswer (Value a)) e = told a e
-    go answer e = absurd (rw e at right)
+  abbrev call : MapCall
+  call = map_request request
 
--- an ordered read took place in a turn that was found for it
-module _ (lay : Layout) (tries : ℕ) (calls : List Call) (words : Contents) (lines : List Line) (changes : List Change) (reply : Finished) (x : IsLawfulSoFar lay tries calls words lines) (mode : lay.mode ≡ Tree) (entries : AreEntries calls lines changes) (owed : entry_owed lay lines ≡ None) (called : reply.call ≡ answered lines reply.client.0) (unwon : won lay lines reply.client.0 ≡ None) (begins : begin lines reply.client.0 ≡ Some reply.begin) (ends : reply.end ≡ turns lines) where
-  told_reads : (command : Command) (call : MapCall) (given : Reply ℕ ℕ) (told : MapReply) → IsOrderedRead command → map_call (Some command) ≡ Some call → next_command calls lines reply.client.0 ≡ Some command → reply.answer ≡ MapAnswer given → number_reply given ≡ Some told → IsToldReading (client_view lay tries calls lines reply.client.0) call told → IsOrderedMoment calls lines changes command given reply.begin reply.end reply.moment → IsPlacedReading calls lines call reply
-  told_reads command call given told ordered is_call is e says tells moment =
-      ordered_placed lay tries calls lines reply call moment.turn x.in_order unwon called moment.is (subst (λ (a : Answer). IsGreatestTurn (λ m. reply_told a ≡ Some (answer_on call (map_at calls lines m))) reply.begin reply.end moment.turn) (sym e) (moment.greatest call some.0 entries fall ordered is_call some.1 (subst (λ (n : ℕ). some.0 ≤ n) (sym ends) some.2) (says ∙ ap (λ (t : MapReply). Some t) (sym some.3))))
+  -- the map replied this to it after some turn of the call
+  replied : (told : MapReply) → IsToldReading view call told → IsRepliedIn calls lines call told reply.begin
+  replied told tells = ⊎_elim (λ z. replied_turn lay tries calls reply.client.0 (Map request) lines call told reply.begin x.in_order y.spells y.owed y.next y.began z) (λ z. (turns lines, begin_within lay tries calls lines reply.client.0 reply.begin x.in_order y.began, omega arith, z (map_at calls lines (turns lines)))) tells
+
+  -- and is found to be so in the turn where it took place
+  reply_reads : (given : Reply ℕ ℕ) (told : MapReply) → won lay lines reply.client.0 ≡ None → IsOrderedRead (Map request) → reply.answer ≡ MapAnswer given → number_reply given ≡ Some told → IsToldReading view call told → IsOrderedMoment calls lines changes (Map request) given reply.begin reply.end reply.moment → IsPlacedReading calls lines call reply
+  reply_reads given told unwon ordered e says tells moment =
+      let some = replied told tells in
+      ordered_placed lay tries calls lines reply call moment.turn x.in_order unwon y.number moment.is (subst (λ (a : Answer). IsGreatestTurn (λ m. reply_told a ≡ Some (answer_on call (map_at calls lines m))) reply.begin reply.end moment.turn) (sym e) (moment.greatest call some.0 y.entries fall ordered refl some.1 (subst (λ (n : ℕ). some.0 ≤ n) (sym y.ended) some.2) (says ∙ ap (λ (t : MapReply). Some t) (sym some.3))))
     where
-      some : IsRepliedIn calls lines call told reply.begin
-      some = ⊎_elim (λ y. replied_turn lay tries calls reply.client.0 command lines call told reply.begin x.in_order (spelled_so_far lay tries calls words lines x mode) owed is begins y) (λ y. (turns lines, begin_within lay tries calls lines reply.client.0 reply.begin x.in_order begins, omega arith, y (map_at calls lines (turns lines)))) tells
-
       fall : FallFrom (suc reply.end) changes
-      fall = subst (λ (n : ℕ). FallFrom (suc n) changes) (sym ends) (falls lay tries calls lines changes x.in_order entries)
+      fall = subst (λ (n : ℕ). FallFrom (suc n) changes) (sym y.ended) (falls lay tries calls lines changes x.in_order y.entries)
 
-  -- and a refused one nowhere
-  refused_reads : reply.moment ≡ None → IsRefused lines reply
-  refused_reads nowhere = record {
-    none = subst (λ (n : ℕ). entries_of_call reply.client.0 n (written_log lines) ≡ 0) (sym called) (entries_none lay tries calls lines x.in_order reply.client.0 unwon);
-    moment = nowhere;
-  }
-
-  successor_reads : (key : ℕ) → next_command calls lines reply.client.0 ≡ Some (Map (SuccessorOf key)) → IsRight lay tries reply.client.0 (history lay.mode lines) (start lay.mode lines reply.client.0) (linked calls lay.mode lines reply.client.0) (Map (SuccessorOf key)) reply.answer → Tells (client_view lay tries calls lines reply.client.0) reply.client.0 (Map (SuccessorOf key)) reply.answer → IsMomentBy calls lines changes (Map (SuccessorOf key)) reply.answer reply.begin reply.end (won lay lines reply.client.0) reply.moment → IsPlacedOnMap (reply_told reply.answer) calls lines (Successor key) reply
-  successor_reads key is right tells moment = go reply.answer refl
+  -- or the key to have had the value that it tells
+  value_reads : (key : ℕ) (value : Option ℕ) → won lay lines reply.client.0 ≡ None → reply_told reply.answer ≡ Some (OneValue value) → ((m : List Pair) → answer_on call m ≡ OneValue (get key m)) → IsToldReading view call (OneValue value) → IsReadMoment calls lines changes key value reply.begin reply.end reply.moment → IsPlacedReading calls lines call reply
+  value_reads key value unwon says gives tells moment = go reply.moment refl (moment y.entries)
     where
-      go : (answer : Answer) → reply.answer ≡ answer → IsPlacedOnMap (reply_told answer) calls lines (Successor key) reply
-      go (MapAnswer (Pair found)) e = told_reads (Map (SuccessorOf key)) (Successor key) (Pair found) (pair_or_none (option_map (word_pair (λ n. n) (λ n. n)) found)) tt refl is e refl (rw e at tells) (rw e at moment)
-      go (MapAnswer (Contended n scx)) e = refused_reads (rw e at moment)
-      go (MapAnswer NoMemory) e = refused_reads (rw e at moment)
-      go answer e = absurd (rw e at right)
+      some : IsRepliedIn calls lines call (OneValue value) reply.begin
+      some = replied (OneValue value) tells
 
-  range_reads : (low high most : ℕ) → next_command calls lines reply.client.0 ≡ Some (Map (RangeOf low high most)) → IsRight lay tries reply.client.0 (history lay.mode lines) (start lay.mode lines reply.client.0) (linked calls lay.mode lines reply.client.0) (Map (RangeOf low high most)) reply.answer → Tells (client_view lay tries calls lines reply.client.0) reply.client.0 (Map (RangeOf low high most)) reply.answer → IsMomentBy calls lines changes (Map (RangeOf low high most)) reply.answer reply.begin reply.end (won lay lines reply.client.0) reply.moment → IsPlacedOnMap (reply_told reply.answer) calls lines (Range low high most) reply
-  range_reads low high most is right tells moment = go reply.answer refl
+      -- the reply of the map after a turn
+      told_at : (n : ℕ) → Some (answer_on call (map_at calls lines n)) ≡ Some (OneValue (get key (map_at calls lines n)))
+      told_at n = ap (λ (t : MapReply). Some t) (gives (map_at calls lines n))
+
+      go : (at : Option ℕ) → reply.moment ≡ at → IfSome at (λ m. IsGreatestTurn (λ n. get key (map_at calls lines n) ≡ value) reply.begin reply.end m) × IfNone at ((n : ℕ) → reply.begin ≤ n → n ≤ reply.end → ¬ (get key (map_at calls lines n) ≡ value)) → IsPlacedReading calls lines call reply
+      go None is found = absurd (found.1 some.0 some.1 (subst (λ (n : ℕ). some.0 ≤ n) (sym y.ended) some.2) (some_value _ _ (sym (told_at some.0) ∙ ap (λ (t : MapReply). Some t) some.3)))
+      go (Some m) is found = ordered_placed lay tries calls lines reply call m x.in_order unwon y.number is record {
+        from = found.0.from;
+        to = found.0.to;
+        holds = says ∙ ap (λ (v : Option ℕ). Some (OneValue v)) (sym found.0.holds) ∙ sym (told_at m);
+        none_later = λ n i j d. found.0.none_later n i j (some_value _ _ (sym (told_at n) ∙ sym d ∙ says));
+      }
+
+  -- what it tells is told so
+  tells_by : (told : MapReply) (b : Bool) → reply_told reply.answer ≡ Some told → changes_map call told ≡ b → IsToldBy b view reply.client.0 call told
+  tells_by told b is changes = subst (λ (z : Bool). IsToldBy z view reply.client.0 call told) changes (subst (IsToldOfMap view reply.client.0 call) is y.tells)
+
+  -- and has its place so
+  place_by : (told : MapReply) (b : Bool) → reply_told reply.answer ≡ Some told → changes_map call told ≡ b → IsPlacedChangeOrReading b calls lines call reply → IsPlacedOnMap (reply_told reply.answer) calls lines call reply
+  place_by told b is changes place = subst (λ (t : Option MapReply). IsPlacedOnMap t calls lines call reply) (sym is) (subst (λ (z : Bool). IsPlacedChangeOrReading z calls lines call reply) (sym changes) place)
+
+  map_placed : HasTakenPlace request reply.answer → IsPlacedOnMap (reply_told reply.answer) calls lines call reply
+  map_placed p = go p.place entry ((p.moment calls lines changes reply.begin reply.end (won lay lines reply.client.0) reply.moment).0 y.moment) p.tells
     where
-      go : (answer : Answer) → reply.answer ≡ answer → IsPlacedOnMap (reply_told answer) calls lines (Range low high most) reply
-      go (MapAnswer (Pairs found)) e = told_reads (Map (RangeOf low high most)) (Range low high most) (Pairs found) (ManyPairs (number_pairs found.items)) tt refl is e refl (rw e at tells) (rw e at moment)
-      go (MapAnswer (Contended n scx)) e = refused_reads (rw e at moment)
-      go (MapAnswer NoMemory) e = refused_reads (rw e at moment)
-      go answer e = absurd (rw e at right)
+      entry : HasItsEntry (is_by_entry p.place) (won lay lines reply.client.0)
+      entry = subst (λ (b : Bool). HasItsEntry b (won lay lines reply.client.0)) p.entered y.entry
 
--- what is known of an edit's reply
-edit_reply : (lay : Layout) (tries : ℕ) (calls : List Call) (words : Contents) (lines : List Line) (changes : List Change) (reply : Finished) (c : ℕ) (command : Command) (x : IsLawfulSoFar lay tries calls words lines) → lay.mode ≡ Tree → (lay.mode ≡ Tree → AreEntries calls lines changes) → entry_owed lay lines ≡ None → reply.client.0 ≡ c → reply.call ≡ answered lines c → IsRight lay tries c (history lay.mode lines) (start lay.mode lines c) (linked calls lay.mode lines c) command reply.answer → Tells (client_view lay tries calls lines c) c command reply.answer → HasItsEntry (enters command reply.answer) (won lay lines c) → next_command calls lines c ≡ Some command → begin lines c ≡ Some reply.begin → reply.end ≡ turns lines
-    → IsMomentBy calls lines changes command reply.answer reply.begin reply.end (won lay lines c) reply.moment → IsEditReply lay tries calls lines changes reply c command
-edit_reply lay tries calls words lines changes reply c command x mode entries owed own called right tells entry is begin end moment = record {
-  mode = mode;
-  all = x.of_mode;
-  run = x.sound;
-  lines_are = x.in_order;
-  spells = spelled_so_far lay tries calls words lines x mode;
-  entries = entries mode;
-  owed = owed;
-  client = own;
-  number = called;
-  next = is;
-  began = begin;
-  ended = end;
-  right = right;
-  tells = tells;
-  entry = entry;
-  moment = moment;
-}
+      unwon : HasItsEntry false (won lay lines reply.client.0) → won lay lines reply.client.0 ≡ None
+      unwon e = unwon_none (won lay lines reply.client.0) e
 
--- where a pop took place
-pop_placed : (lay : Layout) (tries : ℕ) (calls : List Call) (words : Contents) (lines : List Line) (changes : List Change) (reply : Finished) (answer : Answer) → IsLawfulSoFar lay tries calls words lines → IsEditReply lay tries calls lines changes reply reply.client.0 (Map PopFirstOf) → reply.answer ≡ answer → IsPlacedOnMap (reply_told answer) calls lines PopFirst reply
-pop_placed lay tries calls words lines changes reply (MapAnswer (Pair (Some p))) x y is = changed lay tries calls lines changes reply reply.client.0 (Map PopFirstOf) PopFirst _ y (ap reply_told is) (rw is at y.tells) (rw is at y.moment)
-pop_placed lay tries calls words lines changes reply (MapAnswer (Pair None)) x y is = told_reads lay tries calls words lines changes reply x y.mode y.entries y.owed y.number (unwon_none (won lay lines reply.client.0) (rw is at y.entry)) y.began y.ended (Map PopFirstOf) PopFirst (Pair None) (pair_or_none None) tt refl y.next is refl (rw is at y.tells) (rw is at y.moment)
-pop_placed lay tries calls words lines changes reply (MapAnswer (Full full)) x y is = refused lay tries calls lines changes reply reply.client.0 (Map PopFirstOf) y (rw is at y.entry) (rw is at y.moment)
-pop_placed lay tries calls words lines changes reply (MapAnswer (Contended node scx)) x y is = refused lay tries calls lines changes reply reply.client.0 (Map PopFirstOf) y (rw is at y.entry) (rw is at y.moment)
-pop_placed lay tries calls words lines changes reply answer x y is = absurd (rw is at y.right)
-
--- where a replacement took place
-module _ (lay : Layout) (tries : ℕ) (calls : List Call) (lines : List Line) (changes : List Change) (reply : Finished) (key expected put : ℕ) (y : IsEditReply lay tries calls lines changes reply reply.client.0 (Map (ReplaceIfOf key expected put))) where
-  -- by whether it has told the value expected
-  replaced_or_kept : (told : Option ℕ) → reply.answer ≡ MapAnswer (Value told) → (b : Bool) → HasItsEntry b (won lay lines reply.client.0) → ReplaceTold b lay (history lay.mode lines) (start lay.mode lines reply.client.0) key told → IsToldBy (is_some (cond b (Some (PutEdit key put)) None)) (client_view lay tries calls lines reply.client.0) reply.client.0 (ReplaceIf key expected put) (OneValue told) → IsWonOrRead b (IsReadMoment calls lines changes key told reply.begin reply.end reply.moment) (won lay lines reply.client.0) reply.moment
-      → IsPlacedChangeOrReading (is_some (cond b (Some (PutEdit key put)) None)) calls lines (ReplaceIf key expected put) reply
-  replaced_or_kept told is true entry right tells moment = changed lay tries calls lines changes reply reply.client.0 (Map (ReplaceIfOf key expected put)) (ReplaceIf key expected put) (OneValue told) y (ap reply_told is ∙ value_told told) tells moment
-  replaced_or_kept told is false entry right tells moment =
-      let found = moment y.entries in
-      kept_placed lay tries calls lines reply key expected put told y.lines_are y.spells y.owed y.next (unwon_none (won lay lines reply.client.0) entry) y.number y.began y.ended is right record { found = found.0; none = found.1 }
-
-  replace_placed : (answer : Answer) → reply.answer ≡ answer → IsPlacedOnMap (reply_told answer) calls lines (ReplaceIf key expected put) reply
-  replace_placed (MapAnswer (Value told)) is =
-      subst (λ (t : Option MapReply). IsPlacedOnMap t calls lines (ReplaceIf key expected put) reply) (sym (value_told told))
-      (replaced_or_kept told is (is_value expected told) (rw is at y.entry) (rw is at y.right) (subst (IsToldOfMap (client_view lay tries calls lines reply.client.0) reply.client.0 (ReplaceIf key expected put)) (value_told told) (rw is at y.tells)) (rw is at y.moment))
-  replace_placed (MapAnswer (Full full)) is = refused lay tries calls lines changes reply reply.client.0 (Map (ReplaceIfOf key expected put)) y (rw is at y.entry) (rw is at y.moment)
-  replace_placed (MapAnswer (Contended node scx)) is = refused lay tries calls lines changes reply reply.client.0 (Map (ReplaceIfOf key expected put)) y (rw is at y.entry) (rw is at y.moment)
-  replace_placed answer is = absurd (rw is at y.right)
+      go : (place : TookPlace) → HasItsEntry (is_by_entry place) (won lay lines reply.client.0) → IsMomentSo calls lines changes (Map request) place reply.begin reply.end (won lay lines reply.client.0) reply.moment → TellsSo request reply.answer place → IsPlacedOnMap (reply_told reply.answer) calls lines call reply
+      go ByEntry e m t = place_by t.0 true t.1 t.2 (changed lay tries calls lines changes reply reply.client.0 (Map request) call t.0 y t.1 (tells_by t.0 true t.1 t.2) m)
+      go (ByValue key value) e m t = place_by (OneValue value) false t.0 t.1 (value_reads key value (unwon e) t.0 t.2 (tells_by (OneValue value) false t.0 t.1) m)
+      go (ByReply given) e m t = let is = ap reply_told t.1 ∙ t.2.1 in place_by t.2.0 false is t.2.2 (reply_reads given t.2.0 (unwon e) t.0 t.1 t.2.1 (tells_by t.2.0 false is t.2.2) m)
+      go Nowhere e m t = subst (λ (told : Option MapReply). IsPlacedOnMap told calls lines call reply) (sym t) (refused lay tries calls lines changes reply reply.client.0 (Map request) y e m)
 
 -- where the call of a reply took place
 pub placed : (lay : Layout) (tries : ℕ) (calls : List Call) (words : Contents) (lines : List Line) (changes : List Change) (reply : Finished) (c : ℕ) (command : Command) → IsLawfulSoFar lay tries calls words lines → (lay.mode ≡ Tree → AreEntries calls lines changes) → entry_owed lay lines ≡ None → reply.client.0 ≡ c → reply.call ≡ answered lines c → IsRight lay tries c (history lay.mode lines) (start lay.mode lines c) (linked calls lay.mode lines c) command reply.answer → Tells (client_view lay tries calls lines c) c command reply.answer → HasItsEntry (enters command reply.answer) (won lay lines c) → next_command calls lines c ≡ Some command → begin lines c ≡ Some reply.begin → reply.end ≡ turns lines
     → IsMomentBy calls lines changes command reply.answer reply.begin reply.end (won lay lines c) reply.moment → IsPlaced lay calls lines reply command
-placed lay tries calls words lines changes reply c (Map (InsertOf key value)) x entries owed own called right tells entry is begin end moment = insert_placed lay tries calls lines changes reply c key value reply.answer (edit_reply lay tries calls words lines changes reply c (Map (InsertOf key value)) x (sym (command_mode lay.mode calls c _ (Map (InsertOf key value)) x.of_mode is)) entries owed own called right tells entry is begin end moment) refl
-placed lay tries calls words lines changes reply c (Map (DeleteOf key)) x entries owed own called right tells entry is begin end moment = delete_placed lay tries calls lines changes reply c key reply.answer (edit_reply lay tries calls words lines changes reply c (Map (DeleteOf key)) x (sym (command_mode lay.mode calls c _ (Map (DeleteOf key)) x.of_mode is)) entries owed own called right tells entry is begin end moment) refl
-placed lay tries calls words lines changes reply c (Map PopFirstOf) x entries owed own called right tells entry is begin end moment =
-    let mode = sym (command_mode lay.mode calls c _ (Map PopFirstOf) x.of_mode is) in
-    pop_placed lay tries calls words lines changes reply reply.answer x (edit_reply lay tries calls words lines changes reply reply.client.0 (Map PopFirstOf) x mode entries owed refl (rw own called) (rw own right) (rw own tells) (rw own entry) (rw own is) (rw own begin) end (rw own moment)) refl
-placed lay tries calls words lines changes reply c (Map (ReplaceIfOf key expected put)) x entries owed own called right tells entry is begin end moment =
-    let mode = sym (command_mode lay.mode calls c _ (Map (ReplaceIfOf key expected put)) x.of_mode is) in
-    replace_placed lay tries calls lines changes reply key expected put (edit_reply lay tries calls words lines changes reply reply.client.0 (Map (ReplaceIfOf key expected put)) x mode entries owed refl (rw own called) (rw own right) (rw own tells) (rw own entry) (rw own is) (rw own begin) end (rw own moment)) reply.answer refl
-placed lay tries calls words lines changes reply c (Map (GetOf key)) x entries owed own called right tells entry is begin end moment =
-    let mode = sym (command_mode lay.mode calls c _ (Map (GetOf key)) x.of_mode is) in
-    get_reads lay tries calls words lines changes reply key x mode (entries mode) owed (rw own called) (rw own right) (rw own entry) (rw own is) (rw own begin) end (rw own moment)
-placed lay tries calls words lines changes reply c (Map (SuccessorOf key)) x entries owed own called right tells entry is begin end moment =
-    let mode = sym (command_mode lay.mode calls c _ (Map (SuccessorOf key)) x.of_mode is) in
-    successor_reads lay tries calls words lines changes reply x mode (entries mode) owed (rw own called) (unwon_none (won lay lines reply.client.0) (rw own entry)) (rw own begin) end key (rw own is) (rw own right) (rw own tells) (rw own moment)
-placed lay tries calls words lines changes reply c (Map (RangeOf low high most)) x entries owed own called right tells entry is begin end moment =
-    let mode = sym (command_mode lay.mode calls c _ (Map (RangeOf low high most)) x.of_mode is) in
-    range_reads lay tries calls words lines changes reply x mode (entries mode) owed (rw own called) (unwon_none (won lay lines reply.client.0) (rw own entry)) (rw own begin) end low high most (rw own is) (rw own right) (rw own tells) (rw own moment)
+placed lay tries calls words lines changes reply c (Map request) x entries owed own called right tells entry is begin end moment =
+    let mode = sym (command_mode lay.mode calls c _ (Map request) x.of_mode is) in
+    let y : IsMapReply lay tries calls lines changes reply reply.client.0 (Map request) = record {
+      mode = mode;
+      all = x.of_mode;
+      run = x.sound;
+      lines_are = x.in_order;
+      spells = spelled_so_far lay tries calls words lines x mode;
+      entries = entries mode;
+      owed = owed;
+      client = refl;
+      number = rw own called;
+      next = rw own is;
+      began = rw own begin;
+      ended = end;
+      right = rw own right;
+      tells = rw own tells;
+      entry = rw own entry;
+      moment = rw own moment;
+    } in
+    map_placed lay tries calls words lines changes reply request x y (took_place lay tries reply.client.0 (history lay.mode lines) (start lay.mode lines reply.client.0) (linked calls lay.mode lines reply.client.0) request reply.answer y.right)
 placed lay tries calls words lines changes reply c command x entries owed own called right tells entry is begin end moment = cell_moment calls lines changes command reply.answer reply.begin reply.end (won lay lines c) reply.moment (λ a e. rw e at right) moment ∙ ap (λ (k : ℕ). moment_of reply.answer reply.begin reply.end (won lay lines k)) (sym own)
 
 -- what is said of a whole run by its mode

@@ -22,11 +22,11 @@ use Rattle.player.specs.Allowed.{PlayedAllows}
 use Rattle.ordered_map.specs.FillOrder.{IsFillInOrder}
 use Rattle.player.proofs.InOrder.{run_in_order}
 use Rattle.ordered_map.specs.declared.pair.Pair.{Pair}
-use Rattle.ordered_map.specs.OrderedMap.{MapCall, MapEdit, OneValue, Edit as EditCall, Insert, Delete, PopFirst, ReplaceIf, Get, Successor, Range, edit_key, edit_of, get, reply, value_left}
+use Rattle.ordered_map.specs.OrderedMap.{MapCall, MapEdit, edit_key, edit_of, get, reply, value_left}
 use Rattle.ordered_map.specs.Requests.{map_request}
 use Rattle.moments.specs.declared.places.Change.{Change}
 use Rattle.moments.specs.declared.places.Places.{Places}
-use Rattle.moments.specs.Changed.{changed_key, edit_on}
+use Rattle.moments.specs.Changed.{changed_key}
 use Rattle.moments.specs.Places.{changes, Knows, HoldsOfKey}
 use Rattle.moments.specs.Entries.{AreEntries, AreUpTo, IsChangeBy, IsChangeByEdit}
 use Rattle.moments.proofs.Lemmas.{knows_told, map_now, spelled}
@@ -57,12 +57,13 @@ use Rattle.record.specs.Replies.{IsFitting, IsReplyOwed}
 use Rattle.record.specs.Entries.{IsWinOf}
 use Rattle.player.specs.RunKnown.{edit_in_hand}
 use Rattle.player.specs.ClientView.{ClientView, client_edit, client_view, running_edit, Tells, IsSound, Hears, IsClient, GoesOn, EndsCall, WaitsForStep, machine_call}
-use Rattle.player.specs.BetweenTurns.{IsLawfulSoFar, IsTurnOf, AreBetweenTurns, HasCounted, IsBetweenTurns, IsStepAsked, IsEnd, AreWins, ArePlaces, IsAtEdit, IsOwned, owners_edit}
+use Rattle.player.specs.BetweenTurns.{IsLawfulSoFar, IsTurnOf, AreBetweenTurns, KnowsCounts, IsBetweenTurns, IsStepAsked, IsEnd, AreWins, ArePlaces, IsAtEdit, IsOwned, owners_edit}
 use Rattle.player.proofs.Views.{own_row, step_sound, hears}
 use Rattle.player.proofs.Middles.{IsOver, get_there, others_step, others_log, so_far_same, step_made, turn_changed, turn_ends, replied}
 use Rattle.player.proofs.MayMakes.{may_make}
 use Rattle.record.proofs.Lemmas.{begin_within, log_step}
-use Rattle.player.proofs.Keys.{command_key, edit_of_key, some_edit}
+use Rattle.player.proofs.EachCall.{edit_of_key, entered_on}
+use Rattle.player.proofs.Keys.{command_key, some_edit}
 use Rattle.player.proofs.MapCalls.{map_calls, tree_run}
 use Rattle.player.proofs.Winners.{IsEntryOfWin, entry_wins, tells_won, win_enters}
 use Rattle.player.proofs.Entered.{IsEditOfCall, IsEntryFrom, edit_entered, entry_by_others, entry_by_own, in_hand_tree, rest_wins_not}
@@ -104,20 +105,7 @@ some_entry a b e = cc
 
 -- it is that of a call whose reply, on the map just before, says that it has made the edit
 changes_so : (of : MapCall) (edit : MapEdit) (turn : ℕ) (map : List Pair) → edit_of of (reply of map) ≡ Some edit → IsChangeBy (Some of) map (change_of turn edit)
-changes_so of edit turn map e = subst (λ (o : Option MapEdit). IsChangeByEdit o (change_of turn edit)) (sym (on of e)) (refl, refl)
-  where
-    on : (of : MapCall) → edit_of of (reply of map) ≡ Some edit → edit_on of map ≡ Some edit
-    on (EditCall (Insert k x)) e = e
-    on (EditCall (Delete k)) e = go (get k map) e
-      where
-        go : (old : Option ℕ) → edit_of (EditCall (Delete k)) (OneValue old) ≡ Some edit → Some (Delete k) ≡ Some edit
-        go (Some old) e = e
-        go None e = cc
-    on PopFirst e = e
-    on (ReplaceIf k x y) e = e
-    on (Get key) e = e
-    on (Successor key) e = e
-    on (Range low high most) e = e
+changes_so of edit turn map e = subst (λ (o : Option MapEdit). IsChangeByEdit o (change_of turn edit)) (sym (entered_on of edit map e)) (refl, refl)
 
 -- the entries of a record are of turns so far
 up_to : (lay : Layout) (tries : ℕ) (calls : List Call) (lines : List Line) (turn : ℕ) → AreLines lay tries calls lines → turns lines ≤ turn → AreUpTo turn (written_log lines)
@@ -424,7 +412,7 @@ heard_end lay tries calls words all lines changes c mid new q found number answe
 -- What the player makes of it
 
 -- an interleaving of these parts is between two turns
-pub between_at : (p : Interleaving) (script : ScriptView) (words : Contents) (all : List Client) (lines : List Line) (wins : List (Option ℕ)) (places : Places) → script_view p.script ≡ script → p.words ≡ words → p.clients.items ≡ all → p.wins.items ≡ wins → p.places ≡ places → HasCounted p lines → AreBetweenTurns script.layout script.limits.tries script.calls words all lines → AreWins script.layout lines wins → ArePlaces script.layout script.calls lines places → IsBetweenTurns p lines
+pub between_at : (p : Interleaving) (script : ScriptView) (words : Contents) (all : List Client) (lines : List Line) (wins : List (Option ℕ)) (places : Places) → script_view p.script ≡ script → p.words ≡ words → p.clients.items ≡ all → p.wins.items ≡ wins → p.places ≡ places → KnowsCounts p lines → AreBetweenTurns script.layout script.limits.tries script.calls words all lines → AreWins script.layout lines wins → ArePlaces script.layout script.calls lines places → IsBetweenTurns p lines
 between_at p script words all lines wins places s b c e f counted x y z =
     subst (λ (k : ScriptView). AreBetweenTurns k.layout k.limits.tries k.calls words all lines → AreWins k.layout lines wins → ArePlaces k.layout k.calls lines places → IsBetweenTurns p lines) s
     (λ x y z. record { between = rw (b, c) x; wins = rw e y; places = rw f z; counted = counted }) x y z

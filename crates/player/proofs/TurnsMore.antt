@@ -1,6 +1,6 @@
 -- What the turns of one client add.
 use Rattle.std.proofs.Common.{◌≡◌, ◌≢◌, ℕ, suc, ◌+◌, ◌*◌, ◌-◌, ◌<◌, ◌≤◌, ◌⊎◌, inl, inr, Bool, true, false, cond, eqb, eqb-true, eq-eqb, append_assoc, length-append, List, [], ◌∷◌, ◌++◌, length, replicate, Option, Some, None, is_some, refl, sym, ◌∙◌, ap, subst, arith}
-use Rattle.std.proofs.Math.Nat.{mul-le-mul, mul-le-mul_left}
+use Rattle.std.proofs.Math.Nat.{mul-le-mul_left}
 use Rattle.std.proofs.lemmas.Option.{slice_get_within}
 use Rattle.std.proofs.lemmas.List.{length-take, reverse-reverse}
 use Rattle.histories.proofs.Lemmas.{lawful_tail}
@@ -12,7 +12,6 @@ use Rattle.script.specs.Commands.{AsksForFewPairs}
 use Rattle.script.specs.declared.call.Call.{Call}
 use Rattle.script.specs.declared.command.Command.{Command}
 use Rattle.script.specs.declared.command.Command.TheVariants.{Llx, Scx, Vlx, Set, Map}
-use Rattle.ordered_map.specs.declared.request.Request.TheVariants.{Insert, Delete, PopFirst, ReplaceIf, Get, Successor, Range}
 use Rattle.record.specs.declared.record.Line.{Line}
 use Rattle.record.specs.declared.record.Line.TheVariants.{Step, Log, Reply}
 use Rattle.record.specs.declared.record.Finished.{Finished}
@@ -25,6 +24,7 @@ use Rattle.record.specs.Commands.{commands, next_command}
 use Rattle.record.specs.CommandRules.{command_steps}
 use Rattle.record.specs.LawfulRun.{OwesNothing, AreLines}
 use Rattle.record.specs.Replies.{IsReply}
+use Rattle.player.proofs.EachCall.{few_steps}
 use Rattle.player.proofs.MapCalls.{command_few}
 use Rattle.record.specs.OneClient.{HasCall, AwaitsSteps, AreMadeWhile}
 use Rattle.player.specs.TurnsMore.{AreTurnsWhile, most_of_all, to_go}
@@ -158,16 +158,7 @@ most_few lay tries (Llx cell) taken few i = omega arith
 most_few lay tries (Scx update) taken few i = omega arith
 most_few lay tries (Vlx cells) taken small i = let few = cells.few in grind (arith, length-take)
 most_few lay tries (Set field value) taken few i = omega arith
-most_few lay tries (Map (Insert key value)) taken few i = let more : tries * (3 * (2 + taken) + 178) ≤ tries * (4422 * (2 + lay.passes * lay.nodes) + 301) = mul-le-mul_left tries (omega (arith, i)) in omega (arith, more)
-most_few lay tries (Map (Delete key)) taken few i = let more : tries * (3 * (2 + taken) + 301) ≤ tries * (4422 * (2 + lay.passes * lay.nodes) + 301) = mul-le-mul_left tries (omega (arith, i)) in omega (arith, more)
-most_few lay tries (Map PopFirst) taken few i = let more : tries * (3 * (2 + taken) + 301) ≤ tries * (4422 * (2 + lay.passes * lay.nodes) + 301) = mul-le-mul_left tries (omega (arith, i)) in omega (arith, more)
-most_few lay tries (Map (ReplaceIf key expected value)) taken few i = let more : tries * (3 * (2 + taken) + 178) ≤ tries * (4422 * (2 + lay.passes * lay.nodes) + 301) = mul-le-mul_left tries (omega (arith, i)) in omega (arith, more)
-most_few lay tries (Map (Get key)) taken few i = omega (arith, i)
-most_few lay tries (Map (Successor key)) taken few i = let more : tries * (137 * (2 + taken)) ≤ tries * (4422 * (2 + lay.passes * lay.nodes) + 301) = mul-le-mul_left tries (omega (arith, i)) in omega (arith, more)
-most_few lay tries (Map (Range low high most)) taken few i =
-    let deep : (most + 2) * (67 * (2 + taken)) ≤ 66 * (67 * (2 + lay.passes * lay.nodes)) = mul-le-mul (omega (arith, few)) (omega (arith, i)) in
-    let more : tries * ((most + 2) * (67 * (2 + taken))) ≤ tries * (4422 * (2 + lay.passes * lay.nodes) + 301) = mul-le-mul_left tries (omega (arith, deep)) in
-    omega (arith, more)
+most_few lay tries (Map request) taken few i = few_steps lay tries taken i request few
 
 -- so the client of a lawful run has made few since its last reply
 steps_few : (lay : Layout) (tries : ℕ) (calls : List Call) (lines : List Line) (c : ℕ) → Lawful lay (history lay.mode lines) → AreLines lay tries calls lines → steps lines c ≤ most_of_all lay tries

@@ -75,7 +75,7 @@ pub record ArePlaces (lay : Layout) (calls : List Call) (lines : List Line) (pla
   pub keys : All (λ call. HoldsOfKey (Knows places) call.command) calls
 
 -- the interleaving knows how many of the lines are turns, and how many are entries of the log
-pub record HasCounted (p : Interleaving) (lines : List Line) : Type 0 where
+pub record KnowsCounts (p : Interleaving) (lines : List Line) : Type 0 where
   pub turned : p.turns ≡ turns lines
   pub entered : p.entries ≡ entries lines
 
@@ -84,10 +84,10 @@ pub record IsBetweenTurns (p : Interleaving) (lines : List Line) : Type 0 where
   pub between : AreBetweenTurns p.script.layout p.script.limits.tries p.script.calls.items p.words p.clients.items lines
   pub wins : AreWins p.script.layout lines p.wins.items
   pub places : ArePlaces p.script.layout p.script.calls.items lines p.places
-  pub counted : HasCounted p lines
+  pub counted : KnowsCounts p lines
 
 -- behind these lines it has made this turn of the i-th client, and is between two turns again
-pub record HasTurned (old new : Interleaving) (lines : List Line) (i : ℕ) (turn : Written) : Type 0 where
+pub record HasMadeTurn (old new : Interleaving) (lines : List Line) (i : ℕ) (turn : Written) : Type 0 where
   pub script : script_view new.script ≡ script_view old.script
   pub between : IsBetweenTurns new (with_turn turn.row turn.entry turn.reply lines)
   pub turns : clients (with_turn turn.row turn.entry turn.reply lines) ≡ i ∷ clients lines
@@ -107,7 +107,7 @@ pub record IsStepAsked (p : Interleaving) (lines : List Line) (i number : ℕ) (
   pub waits : WaitsForStep (client_view p.script.layout p.script.limits.tries p.script.calls.items lines client.pass.0) client running
   pub wins : AreWins p.script.layout lines p.wins.items
   pub places : ArePlaces p.script.layout p.script.calls.items lines p.places
-  pub counted : HasCounted p lines
+  pub counted : KnowsCounts p lines
   -- its call began at this turn, or at the turn that the lines say
   pub began : ((begin lines client.pass.0 ≡ None) × (client.begin ≡ number)) ⊎ (begin lines client.pass.0 ≡ Some client.begin)
 

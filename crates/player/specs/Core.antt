@@ -15,8 +15,8 @@ abbrev pub passes_of : Interleaving → ℕ
 passes_of core = core.script.layout.passes
 
 -- how many turns it has made
-abbrev pub steps_of : Interleaving → ℕ
-steps_of core = core.turns
+abbrev pub turns_made : Interleaving → ℕ
+turns_made core = core.turns
 
 -- The core stands behind these lines of a run of this script, the newest in front: all that it
 -- keeps is as they have left it. It keeps none of them; a caller may.

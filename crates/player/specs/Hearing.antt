@@ -10,7 +10,7 @@ use Rattle.player.specs.RunSteps.{then_left}
 use Rattle.player.specs.ClientView.{ClientView, Works, GoesOn, machine_call}
 
 -- the machine has answered, and still stands where it ran
-pub record HasEnded (v : ClientView) (c : Client) (running : Running) (ended : Ended) : Type 0 where
+pub record HasAnswered (v : ClientView) (c : Client) (running : Running) (ended : Ended) : Type 0 where
   pub works : Works v c running.run running.then
   pub answers : RunAnswers running.run (machine_call v c works.is_pass works.start) v.past ended
   pub few : (taken : ℕ) → length (taken_nodes v.past) ≤ taken → v.steps + then_left running.then ≤ command_steps works.command v.tries taken
@@ -18,4 +18,4 @@ pub record HasEnded (v : ClientView) (c : Client) (running : Running) (ended : E
 -- it asks for another step, or has answered
 abbrev pub HasHeard : ClientView → Client → Option Running → Option Ended → Type 0
 HasHeard v c now None = GoesOn v c (record c { running = now })
-HasHeard v c now (Some ended) = (running : Running) × (now ≡ Some running) × HasEnded v (record c { running = now }) running ended
+HasHeard v c now (Some ended) = (running : Running) × (now ≡ Some running) × HasAnswered v (record c { running = now }) running ended

@@ -90,7 +90,7 @@ impl Client {
     ghost use Rattle.moments.specs.Places.{changes};
     ghost use Rattle.player.specs.Moments.{IsMomentBy, IsPairsMoment, IsPopMoment, IsReplaceMoment, IsReplyMoment, IsValueMoment};
     ghost use Rattle.player.specs.RunKnown.{share_behind};
-    ghost use Rattle.player.specs.Hearing.{HasEnded};
+    ghost use Rattle.player.specs.Hearing.{HasAnswered};
     ghost use Rattle.player.specs.ClientView.{ClientView, client_view, IsSound, IsAtNextCall, Rests, command_of, Starts, Hears, Answered, HasBeenTold, CanPut, Puts, held, running_edit, BeginsOrRefuses, IsNextAction, IsNextCallUnbegun, IsClient};
 
     pub(crate) fn new(
@@ -297,7 +297,8 @@ impl Client {
     /// line, so that a turn that only makes a step has no room to clear for the machine.
     #[inline(never)]
     fn conclude(&mut self, ended: Ended) -> Option<Answer>
-        ensures { (v : ClientView) (q : Running) → IsSound v → self.old.running ≡ Some q → HasEnded v self.old q ended → HasBeenTold v self.old self.new result }
+        ensures { (v : ClientView) (q : Running) → IsSound v → self.old.running ≡ Some q →
+            HasAnswered v self.old q ended → HasBeenTold v self.old self.new result }
     {
         let Running { run, then, step: _ } = self.running.take()?;
         self.take_back(run);

@@ -39,7 +39,7 @@ impl Interleaving {
     ghost use Rattle.moments.specs.Places.{changes, room_for_changes, Knows};
     ghost use Rattle.ordered_map.specs.OrderedMap.{edit_key};
     ghost use Rattle.player.specs.Player.{script_view};
-    ghost use Rattle.player.specs.BetweenTurns.{IsBetweenTurns, HasTurned, IsStepAsked, IsMade, IsEntryDue, HasLogged, IsReplied, HasSameClients, HasOtherClients, owners_edit};
+    ghost use Rattle.player.specs.BetweenTurns.{IsBetweenTurns, HasMadeTurn, IsStepAsked, IsMade, IsEntryDue, HasLogged, IsReplied, HasSameClients, HasOtherClients, owners_edit};
 
     /// An interleaving of a copy of the script, with no turn made. The only error is want of
     /// memory.
@@ -70,7 +70,7 @@ impl Interleaving {
         requires turns { self.old.turns < 2 ^ 64 - 1 }
         requires played { (lines : List Line) × IsBetweenTurns self.old lines }
         ensures script { script_view self.new.script ≡ script_view self.old.script }
-        ensures turn { IfOk result (λ turn. (lines : List Line) → IsBetweenTurns self.old lines → HasTurned self.old self.new lines client.0 turn) }
+        ensures turn { IfOk result (λ turn. (lines : List Line) → IsBetweenTurns self.old lines → HasMadeTurn self.old self.new lines client.0 turn) }
         ensures refused { IfErr result (λ _. (lines : List Line) → IsBetweenTurns self.old lines → IsBetweenTurns self.new lines) }
     {
         self.places.reserve()?;
@@ -110,7 +110,7 @@ impl Interleaving {
         requires next { number ≡ suc self.old.turns }
         requires asked { (lines : List Line) × IsStepAsked self.old lines client.0 number step }
         ensures script { script_view self.new.script ≡ script_view self.old.script }
-        ensures turn { (lines : List Line) → IsStepAsked self.old lines client.0 number step → HasTurned self.old self.new lines client.0 result }
+        ensures turn { (lines : List Line) → IsStepAsked self.old lines client.0 number step → HasMadeTurn self.old self.new lines client.0 result }
     {
         let before = self.words.apply(step);
         let row = arena::Row {

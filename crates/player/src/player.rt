@@ -9,6 +9,7 @@ use arena::{Kind, NoMemory, PassNo};
 use record::{Line, Record, Row};
 use script::Script;
 use std::alloc::Global;
+use std::fmt;
 use std::marker::Model;
 
 /// Plays a script's calls, one turn of a client at a time, and keeps the lines of all turns.
@@ -149,6 +150,14 @@ impl Player {
             script: self.core.into_script(),
             lines: self.lines,
         }
+    }
+}
+
+impl fmt::Debug for Player {
+    fn fmt<W: fmt::Write>(&self, f: &mut fmt::Formatter<W>) -> fmt::Result {
+        f.debug_struct("Player")
+            .field("lines", &self.lines.len())
+            .finish_non_exhaustive()
     }
 }
 

@@ -38,9 +38,9 @@ impl Core {
     ghost use Rattle.record.specs.Commands.{next_command};
     ghost use Rattle.record.specs.Turns.{answered, turns};
     ghost use Rattle.record.specs.declared.record.Line.{Line};
-    ghost use Rattle.player.specs.Core.{StandsAt, IsNextTurn, passes_of, steps_of, with_lines};
+    ghost use Rattle.player.specs.Core.{StandsAt, IsNextTurn, passes_of, turns_made, with_lines};
     ghost use Rattle.player.specs.Player.{PlayerView, script_view, IsPlayed};
-    ghost use Rattle.player.specs.BetweenTurns.{IsBetweenTurns, HasTurned};
+    ghost use Rattle.player.specs.BetweenTurns.{IsBetweenTurns, HasMadeTurn};
 
     /// A core that plays a copy of the script, with no turn made. The only error is want of memory.
     pub fn new(alloc: Global, script: &Script) -> Result<Core, NoMemory>
@@ -56,13 +56,13 @@ impl Core {
     /// refusal leaves it where it stood, and the same turn can be asked again.
     pub fn step(&mut self, client: PassNo) -> Result<Lines, NoMemory>
         requires client { client.0 < passes_of self.old }
-        requires steps { steps_of self.old < 2 ^ 64 - 1 }
+        requires steps { turns_made self.old < 2 ^ 64 - 1 }
         ensures turn { IfOk result (λ more. (p : PlayerView) → StandsAt self.old p → IsNextTurn p client.0 more.items) }
         ensures stands { IfOk result (λ more. (p : PlayerView) → StandsAt self.old p → StandsAt self.new (with_lines p more.items)) }
         ensures refused { IfErr result (λ _. (p : PlayerView) → StandsAt self.old p → StandsAt self.new p) }
         ensures lawful { (p : PlayerView) → StandsAt self.new p → IsPlayed p }
         ensures script { script_view self.new.script ≡ script_view self.old.script }
-        ensures counted { OnOk result (steps_of self.new ≡ suc (steps_of self.old)) }
+        ensures counted { OnOk result (turns_made self.new ≡ suc (turns_made self.old)) }
     {
         Ok(lines_of(self.turn(client)?))
     }
@@ -70,10 +70,10 @@ impl Core {
     /// The same, with what the turn leaves.
     pub(crate) fn turn(&mut self, client: PassNo) -> Result<Written, NoMemory>
         requires client { client.0 < passes_of self.old }
-        requires steps { steps_of self.old < 2 ^ 64 - 1 }
+        requires steps { turns_made self.old < 2 ^ 64 - 1 }
         ensures script { script_view self.new.script ≡ script_view self.old.script }
-        ensures counted { OnOk result (steps_of self.new ≡ suc (steps_of self.old)) }
-        ensures turn { IfOk result (λ turn. (lines : List Line) → IsBetweenTurns self.old lines → HasTurned self.old self.new lines client.0 turn) }
+        ensures counted { OnOk result (turns_made self.new ≡ suc (turns_made self.old)) }
+        ensures turn { IfOk result (λ turn. (lines : List Line) → IsBetweenTurns self.old lines → HasMadeTurn self.old self.new lines client.0 turn) }
         ensures refused { IfErr result (λ _. (lines : List Line) → IsBetweenTurns self.old lines → IsBetweenTurns self.new lines) }
     {
         self.interleaving.step(client)
@@ -81,7 +81,7 @@ impl Core {
 
     /// How many turns were made so far.
     pub fn steps(&self) -> u64
-        ensures steps { result ≡ steps_of self.now }
+        ensures steps { result ≡ turns_made self.now }
         ensures turns { (p : PlayerView) → StandsAt self.now p → result ≡ turns p.lines }
     {
         self.interleaving.turns()

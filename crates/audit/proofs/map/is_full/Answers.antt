@@ -1,7 +1,7 @@
 use Rattle.std.proofs.Common.{None, ap}
 use Rattle.script.specs.declared.command.Command.TheVariants.{Map as MapCommand}
 use Rattle.moments.specs.Places.{changes}
-use Rattle.audit.proofs.Refusals.{right_full_insert, right_full_old_insert, right_full_delete, right_full_pop, right_full_replace}
+use Rattle.audit.proofs.EachCall.{right_full_insert, right_full_old_insert, right_full_delete, right_full_pop, right_full_replace}
 use Rattle.audit.proofs.map.is_full.Goals as goal
 
 pub returns-then-is_full_for_new : goal.returns-then-is_full_for_new

@@ -2,7 +2,7 @@ use Rattle.std.proofs.Common.{◌≡◌, Some, sym, subst, ◌∙◌, rules}
 use Rattle.script.specs.declared.command.Command.TheVariants.{Map as MapCommand}
 use Rattle.moments.specs.Places.{changes}
 use Rattle.audit.specs.Asked.{IsToldBefore}
-use Rattle.audit.proofs.MapAnswers.{change_answered}
+use Rattle.audit.proofs.EachCall.{change_answered}
 use Rattle.audit.proofs.map.is_placed.Goals as goal
 
 pub returns-then-eq-clause-right : goal.returns-then-eq-clause-right

@@ -1,7 +1,8 @@
 use Rattle.std.proofs.Common.{inl, inr, ap}
 use Rattle.script.specs.declared.command.Command.TheVariants.{Map as MapCommand}
 use Rattle.moments.specs.Places.{changes}
-use Rattle.audit.proofs.MapAnswers.{some_turns, changes_fall, value_answered, kept_answered, read_answered}
+use Rattle.audit.proofs.EachCall.{value_answered, kept_answered, read_answered}
+use Rattle.audit.proofs.MapAnswers.{some_turns, changes_fall}
 use Rattle.audit.proofs.map.is_read.Goals as goal
 
 pub returns-in_default : goal.returns-in_default

@@ -1,5 +1,6 @@
 use Rattle.moments.specs.Places.{changes}
-use Rattle.audit.proofs.MapAnswers.{none_by, refused_placed}
+use Rattle.audit.proofs.MapAnswers.{none_by}
+use Rattle.audit.proofs.Refusals.{refused_placed}
 use Rattle.audit.proofs.map.is_right.Goals as goal
 
 pub returns-then-is_none-clause-placed : goal.returns-then-is_none-clause-placed

@@ -11,7 +11,7 @@ use Rattle.moments.specs.Places.{changes}
 use Rattle.player.specs.Lines.{with_entry}
 use Rattle.player.specs.Player.{ScriptView, script_view}
 use Rattle.player.specs.ClientView.{client_view}
-use Rattle.player.specs.BetweenTurns.{IsEnd, AreWins, ArePlaces, HasCounted, IsStepAsked, IsEntryDue, HasLogged}
+use Rattle.player.specs.BetweenTurns.{IsEnd, AreWins, ArePlaces, KnowsCounts, IsStepAsked, IsEntryDue, HasLogged}
 use Rattle.player.specs.declared.client.Client.{Client}
 use Rattle.player.specs.declared.interleaving.Interleaving.{Interleaving}
 use Rattle.player.proofs.Middles.{some_client, get_own, wins_step, wins_reply}
@@ -106,7 +106,7 @@ module _ (c : After-tell) (lines : List Line) (a : IsStepAsked c.args.self.now l
   places = subst (λ (k : ScriptView). ArePlaces k.layout k.calls after c.log-entry.new.self.places) c.log-entry.ensures.same.script logged.places
 
   -- the turns are one more
-  counted : HasCounted c.log-entry.new.self after
+  counted : KnowsCounts c.log-entry.new.self after
   counted = record { turned = c.log-entry.ensures.same.turns ∙ a.in_turn ∙ sym (turns_logged c.log-entry.result row_lines).1; entered = logged.entered }
 
 pub reply-requires-clause-begun : goal.reply-requires-clause-begun

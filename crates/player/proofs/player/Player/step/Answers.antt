@@ -2,7 +2,7 @@ use Rattle.std.proofs.Common.{arith, ◌≡◌, List, [], reverse, length, refl,
 use Rattle.std.proofs.lemmas.List.{length-reverse}
 use Rattle.record.specs.declared.record.Line.{Line}
 use Rattle.record.specs.Turns.{clients}
-use Rattle.player.specs.BetweenTurns.{IsBetweenTurns, HasTurned}
+use Rattle.player.specs.BetweenTurns.{IsBetweenTurns, HasMadeTurn}
 use Rattle.player.specs.Core.{StandsAt}
 use Rattle.player.specs.Lines.{turn_lines, with_entry, with_reply, with_turn}
 use Rattle.player.specs.Player.{PlayerView, script_view, IsTurnMore}
@@ -16,7 +16,7 @@ lines_are c =
     let t = c.in_ok-turn.turn in
     ap (λ (l : List Line). reverse l) (c.append.ensures ∙ ap (λ (l : List Line). l ++ turn_lines t.row t.entry t.reply) c.reserve.ensures.items) ∙ turned_lines c.self.inside.lines.items t.row t.entry t.reply
 
-turned : (c : After-append) → HasTurned c.self.inside.core c.turn.new.self (reverse c.self.inside.lines.items) c.args.client.0 c.in_ok-turn.turn
+turned : (c : After-append) → HasMadeTurn c.self.inside.core c.turn.new.self (reverse c.self.inside.lines.items) c.args.client.0 c.in_ok-turn.turn
 turned c = c.in_ok-turn.ensures.turn (reverse c.self.inside.lines.items) c.self.invariant.between
 
 stands : (c : After-append) → StandsAt c.turn.new.self record { script = script_view c.turn.new.self.script; lines = reverse c.append.new.list.items }
