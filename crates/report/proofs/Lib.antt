@@ -1,4 +1,9 @@
 mod Texts
+mod Cuts
+mod Fields
+mod Tellings
+mod LineRows
+mod CallFields
 mod PlainTexts
 mod Parts
 mod Streams

@@ -1,5 +1,5 @@
 -- How known bytes grow line by line.
-use Rattle.std.proofs.Common.{◌≡◌, ℕ, suc, ◌+◌, ◌<◌, ◌≤◌, arith, IfOk, OnErr, OnOk, Result, Ok, Err, List, [], ◌∷◌, ◌++◌, ◌∙◌, ap, append_assoc, append-nil, drop, get_or, length, map, subst, sym, take, Option, Some, None, refl}
+use Rattle.std.proofs.Common.{◌≡◌, ℕ, suc, ◌+◌, ◌<◌, ◌≤◌, arith, IfNone, IfOk, OnErr, OnOk, Result, Ok, Err, List, [], ◌∷◌, ◌++◌, ◌∙◌, ap, append_assoc, append-nil, drop, get_or, length, map, subst, sym, take, Option, Some, None, refl}
 use Rattle.std.proofs.lemmas.List.{drop_all, length-append, map-append, take-append-le}
 use Rattle.std.proofs.Math.Seq.{drop-cons, take-append-add, take-append_seam}
 use Rattle.std.specs.Io.KnownBytes.{Appends, Keeps}
@@ -56,6 +56,11 @@ all_out width row_of things k (Some text) out whole past x keeps = keeps ∙ tex
 pub if_ok : {T E : Type 0} {P Q : T → Type 0} (r : Result T E) → ((t : T) → P t → Q t) → IfOk r P → IfOk r Q
 if_ok (Ok t) f p = f t p
 if_ok (Err e) f p = tt
+
+-- what a reader that finds nothing says, and what follows from that
+pub if_none : {T : Type 0} {P Q : Type 0} (r : Option T) → (P → Q) → IfNone r P → IfNone r Q
+if_none None f p = f p
+if_none (Some t) f p = tt
 
 -- what a writer has while a text goes out piece by piece: what is left makes the text whole
 pub record IsSent (old new : Option (List ℕ)) (left whole : List ℕ) : Type 0 where

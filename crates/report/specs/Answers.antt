@@ -21,6 +21,14 @@ unfoldable pub spaced_pairs : List (ℕ × ℕ) → List ℕ
 spaced_pairs [] = []
 spaced_pairs (p ∷ ps) = codes " " ++ (decimal p.0 ++ (codes " " ++ (decimal p.1 ++ spaced_pairs ps)))
 
+-- two numbers, parted by a space
+abbrev pub both_text : ℕ → ℕ → List ℕ
+both_text first second = decimal first ++ (codes " " ++ decimal second)
+
+-- a node, and the SCX-record that was in the way there
+abbrev pub blame_text : ℕ → ℕ → List ℕ
+blame_text node scx = codes "n" ++ (decimal node ++ (codes " s" ++ decimal scx))
+
 -- what stands behind a space, if anything does
 abbrev pub rest_text : Option (Bor (List ℕ)) → List ℕ
 rest_text None = []

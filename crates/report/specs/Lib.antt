@@ -1,4 +1,5 @@
 pub mod Words
+pub mod Spellings
 pub mod Answers
 pub mod Report
 pub mod StreamFaults

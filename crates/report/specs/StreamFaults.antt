@@ -5,6 +5,6 @@ use Rattle.report.specs.declared.stream.StreamFault.{StreamFault}
 use Rattle.report.specs.declared.stream.StreamFault.TheVariants as stream
 
 -- the stream's fault where bytes were not written
-abbrev pub fault_of_write : WriteFault → StreamFault
-fault_of_write write.NoMemory = stream.NoMemory
-fault_of_write write.Write = stream.Write
+abbrev pub stream_fault_of : WriteFault → StreamFault
+stream_fault_of write.NoMemory = stream.NoMemory
+stream_fault_of write.Write = stream.Write

@@ -1,15 +1,19 @@
 //! Answers as text.
-ghost use Rattle.std.specs.Prelude.{◌≡◌, ◌≤◌, ◌++◌, IfOk, IfSome, OnOk, codes, decimal, length, string_bytes};
-ghost use Rattle.report.specs.Answers.{answer_text, rest_text};
+ghost use Rattle.std.specs.Prelude.{◌≡◌, ◌≢◌, ◌≤◌, ◌++◌, IfNone, IfOk, IfSome, OnOk, codes, decimal, length, string_bytes};
+ghost use Rattle.record.specs.declared.record.Answer.{Answer as AnswerOf};
+ghost use Rattle.report.specs.Answers.{answer_text};
+ghost use Rattle.report.specs.Spellings.{HasNoSpace, IsSpelledAnswer, IsTellingAnswer, TellsPairs};
 ghost use Rattle.texts.specs.Sheets.{IsPlain, sheet_room, sheet_text};
 
 use crate::name::{blame_of, node_of};
-use crate::reply::{full_text, pairs_of, put_full, put_reply, reply_text, telling_reply_of};
+use crate::reply::{
+    both_of, first_word_of, full_text, pairs_of, put_full, put_reply, reply_text, telling_reply_of,
+};
 use arena::{Full, NodeNo, ScxNo};
 use ordered_map::Reply;
 use record::Answer;
 use std::alloc::{AllocError, Global};
-use texts::{Sheet, number_of};
+use texts::Sheet;
 
 /// Puts the text of an answer: its name, and what it tells.
 pub fn put_answer(sheet: &mut Sheet, answer: &Answer) -> Result<(), AllocError>
@@ -81,19 +85,25 @@ pub fn answer_text(alloc: Global, answer: &Answer) -> Result<String, AllocError>
 /// An answer that a text spells: where two do, that of the map, and of these the one that tells of
 /// a value. The only error is want of memory.
 pub fn answer_of(alloc: Global, text: &str) -> Result<Option<Answer>, AllocError>
-    ensures { IfOk result (λ o. IfSome o (λ answer. text.now ≡ answer_text answer)) }
+    ensures some { IfOk result (λ o. IfSome o (λ answer. text.now ≡ answer_text answer)) }
+    ensures none { IfOk result (λ o. IfNone o ((answer : AnswerOf) → IsSpelledAnswer answer → text.now ≢ answer_text answer)) }
 {
-    match text.split_once(' ') {
-        Some(("pairs", told)) => pairs_answer_of(alloc, Some(told)),
-        None if text == "pairs" => pairs_answer_of(alloc, None),
-        _ => Ok(plain_answer_of(text)),
+    match plain_answer_of(text) {
+        Some(answer) => Ok(Some(answer)),
+        None => pairs_answer_of(alloc, text),
     }
 }
 
-/// The answer of the pairs that are told behind its name.
-fn pairs_answer_of(alloc: Global, told: Option<&str>) -> Result<Option<Answer>, AllocError>
-    ensures { IfOk result (λ o. IfSome o (λ answer. codes "pairs" ++ rest_text told.entry ≡ answer_text answer)) }
+/// The answer of many pairs that a text spells.
+fn pairs_answer_of(alloc: Global, text: &str) -> Result<Option<Answer>, AllocError>
+    ensures some { IfOk result (λ o. IfSome o (λ answer. text.now ≡ answer_text answer)) }
+    ensures none { IfOk result (λ o. IfNone o ((answer : AnswerOf) → IsSpelledAnswer answer → TellsPairs answer →
+        text.now ≢ answer_text answer)) }
 {
+    let (name, told) = first_word_of(text);
+    if name != "pairs" {
+        return Ok(None);
+    }
     match pairs_of(alloc, told)? {
         Some(reply) => Ok(Some(Answer::Map(reply))),
         None => Ok(None),
@@ -102,7 +112,8 @@ fn pairs_answer_of(alloc: Global, told: Option<&str>) -> Result<Option<Answer>, 
 
 /// The answer that a text spells which does not tell many pairs.
 fn plain_answer_of(text: &str) -> Option<Answer>
-    ensures { IfSome result (λ answer. text.now ≡ answer_text answer) }
+    ensures some { IfSome result (λ answer. text.now ≡ answer_text answer) }
+    ensures none { IfNone result ((answer : AnswerOf) → IsSpelledAnswer answer → text.now ≡ answer_text answer → TellsPairs answer) }
 {
     match text {
         "finalized" => Some(Answer::Finalized),
@@ -119,12 +130,17 @@ fn plain_answer_of(text: &str) -> Option<Answer>
 
 /// The answer of this name that tells this.
 fn telling_answer_of(name: &str, told: &str) -> Option<Answer>
-    ensures { IfSome result (λ answer. name.now ++ (codes " " ++ told.now) ≡ answer_text answer) }
+    ensures some { IfSome result (λ answer. name.now ++ (codes " " ++ told.now) ≡ answer_text answer) }
+    ensures none { HasNoSpace name.now → IfNone result ((answer : AnswerOf) → IsTellingAnswer answer →
+        name.now ++ (codes " " ++ told.now) ≢ answer_text answer) }
 {
     match name {
         "snap" => {
-            let (left, right) = fields_of(told)?;
-            Some(Answer::Snapshot { left, right })
+            let (left, right) = both_of(told)?;
+            Some(Answer::Snapshot {
+                left: NodeNo(left),
+                right: NodeNo(right),
+            })
         }
         "fail" => {
             let (node, scx) = blame_of(told)?;
@@ -143,12 +159,4 @@ fn telling_answer_of(name: &str, told: &str) -> Option<Answer>
         }),
         _ => Some(Answer::Map(telling_reply_of(name, told)?)),
     }
-}
-
-/// The two fields of a node.
-fn fields_of(told: &str) -> Option<(NodeNo, NodeNo)>
-    ensures { IfSome result (λ fields. told.now ≡ decimal fields.0.0 ++ (codes " " ++ decimal fields.1.0)) }
-{
-    let (left, right) = told.split_once(' ')?;
-    Some((NodeNo(number_of(left)?), NodeNo(number_of(right)?)))
 }

@@ -1,10 +1,11 @@
 //! The calls of a report's script, as rows say them.
-ghost use Rattle.std.specs.Prelude.{◌≡◌, ◌≢◌, ◌≤◌, ◌<◌, ◌^◌, ◌-◌, List, [], ◌∷◌, ◌++◌, ℕ, All, IfOk, IfSome, codes, decimal, length, map, vec_len};
+ghost use Rattle.std.specs.Prelude.{◌≡◌, ◌≢◌, ◌≤◌, ◌<◌, ◌^◌, ◌-◌, List, [], ◌∷◌, ◌++◌, ℕ, All, IfNone, IfOk, IfSome, codes, decimal, length, map, vec_len};
 ghost use Rattle.script.specs.Commands.{command_row, mode_of, texts};
 ghost use Rattle.script.specs.declared.call.Call.{Call};
 ghost use Rattle.report.specs.Counts.{HasCounted};
 ghost use Rattle.texts.specs.Reads.{IsAtRow, last_row};
 ghost use Rattle.report.specs.Report.{reported_call_row, call_rows, seven};
+ghost use Rattle.report.specs.Spellings.{IsReported};
 
 use crate::count::Counts;
 use crate::fault::{NotLawful, RowFault};
@@ -73,6 +74,8 @@ fn next_call<R: Read + Drop>(
 fn call_of(fields: [&str; 7], layout: Layout) -> Option<(Call, u64)>
     ensures accepted { IfSome result (λ told. (told.0.client.0 < layout.passes) × (mode_of told.0.command ≡ layout.mode)) }
     ensures row { IfSome result (λ told. texts fields.entry ≡ codes "call" ∷ decimal told.0.client.0 ∷ decimal told.1 ∷ command_row told.0.command) }
+    ensures none { IfNone result ((call : Call) (number : ℕ) → IsReported layout call → number < 2 ^ 64 →
+        texts fields.entry ≢ codes "call" ∷ decimal call.client.0 ∷ decimal number ∷ command_row call.command) }
 {
     let ["call", client, number, name, a, b, c] = fields else {
         return None;

@@ -1,7 +1,12 @@
 //! The lines of a run, as rows say them.
-ghost use Rattle.std.specs.Prelude.{◌≡◌, ◌<◌, ◌-◌, ◌^◌, List, [], ◌∷◌, ◌++◌, ℕ, All, slice_index_or, IfOk, IfSome, length, map, reverse};
+ghost use Rattle.std.specs.Prelude.{◌≡◌, ◌≢◌, ◌<◌, ◌-◌, ◌^◌, List, [], ◌∷◌, ◌++◌, ℕ, All, Option, slice_index_or, IfNone, IfOk, IfSome, MatchOption, codes, decimal, length, map, reverse};
+ghost use Rattle.arena.specs.declared.step.Row.{Row as StepRow};
+ghost use Rattle.record.specs.declared.record.Entry.{Entry as EntryOf};
+ghost use Rattle.record.specs.declared.record.Finished.{Finished as FinishedOf};
 ghost use Rattle.record.specs.declared.record.Line.{Line};
-ghost use Rattle.record.specs.declared.record.Line.TheVariants.{Step as StepLine, Log};
+ghost use Rattle.record.specs.declared.record.Line.TheVariants.{Step as StepLine, Log, Reply as ReplyLine};
+ghost use Rattle.record.specs.declared.record.Row.{Row as RowOf};
+ghost use Rattle.record.specs.declared.record.Row.TheVariants.{Step as Made};
 ghost use Rattle.report.specs.Counts.{HasCommands, HasCountedReplies, calls_counted};
 ghost use Rattle.report.specs.Numbered.{AreNumbered, IsOfNextCall};
 ghost use Rattle.script.specs.Commands.{texts};
@@ -9,6 +14,7 @@ ghost use Rattle.script.specs.declared.call.Call.{Call as CallOf};
 ghost use Rattle.texts.specs.Reads.{IsAtRow, last_row};
 ghost use Rattle.report.specs.Answers.{HasForm, answer_text};
 ghost use Rattle.report.specs.Report.{line_row, moment_text, seven};
+ghost use Rattle.report.specs.Spellings.{IsReplyLine, IsSpelledEntry, IsSpelledFinished, IsSpelledLine, IsSpelledStep, IsSpelledTurn};
 
 use crate::answer::answer_of;
 use crate::commands::Commands;
@@ -89,6 +95,7 @@ fn line_of(
     ensures row { IfOk result (λ o. IfSome o (λ line. texts fields.entry ≡ seven (line_row line))) }
     ensures call { IfOk result (λ o. IfSome o (IsOfNextCall (calls_counted replies.now))) }
     ensures form { (passes : ℕ) (calls : List CallOf) → HasCommands commands.now passes calls → IfOk result (λ o. IfSome o (HasForm passes calls)) }
+    ensures none { IfOk result (λ o. IfNone o ((line : Line) → IsSpelledLine line → texts fields.entry ≢ seven (line_row line))) }
 {
     if fields[0] != "reply" {
         return Ok(turn_or_entry_of(fields, replies));
@@ -99,10 +106,12 @@ fn line_of(
     }
 }
 
+/// The line of a row, if it is no reply.
 fn turn_or_entry_of(fields: [&str; 7], replies: &Counts) -> Option<Line>
     ensures row { IfSome result (λ line. texts fields.entry ≡ seven (line_row line)) }
     ensures call { IfSome result (IsOfNextCall (calls_counted replies.now)) }
     ensures form { (passes : ℕ) (calls : List CallOf) → IfSome result (HasForm passes calls) }
+    ensures none { IfNone result ((line : Line) → IsSpelledLine line → texts fields.entry ≡ seven (line_row line) → IsReplyLine line) }
 {
     match fields[0] {
         "step" => Some(Line::Step(turn_of(fields, replies)?)),
@@ -114,12 +123,35 @@ fn turn_or_entry_of(fields: [&str; 7], replies: &Counts) -> Option<Line>
 fn turn_of(fields: [&str; 7], replies: &Counts) -> Option<Row>
     ensures row { IfSome result (λ row. texts fields.entry ≡ seven (line_row (StepLine row))) }
     ensures call { IfSome result (λ row. IsOfNextCall (calls_counted replies.now) (StepLine row)) }
+    ensures none { IfNone result ((row : RowOf) → IsSpelledTurn row → texts fields.entry ≢ seven (line_row (StepLine row))) }
 {
-    if let ["step", number, client, "idle", "", "", ""] = fields {
-        let number = number_of(number)?;
-        let client = client_of(client)?;
-        return Some(Row::Idle { number, client });
+    match fields[3] {
+        "idle" => idle_of(fields),
+        _ => step_of(fields, replies),
     }
+}
+
+fn idle_of(fields: [&str; 7]) -> Option<Row>
+    ensures row { IfSome result (λ row. texts fields.entry ≡ seven (line_row (StepLine row))) }
+    ensures call { (calls : ℕ → ℕ) → IfSome result (λ row. IsOfNextCall calls (StepLine row)) }
+    ensures none { IfNone result ((number client : ℕ) → number < 2 ^ 64 → client < 2 ^ 32 →
+        texts fields.entry ≢ seven (codes "step" ∷ decimal number ∷ decimal client ∷ codes "idle" ∷ [])) }
+{
+    let ["step", number, client, "idle", "", "", ""] = fields else {
+        return None;
+    };
+    Some(Row::Idle {
+        number: number_of(number)?,
+        client: client_of(client)?,
+    })
+}
+
+fn step_of(fields: [&str; 7], replies: &Counts) -> Option<Row>
+    ensures row { IfSome result (λ row. texts fields.entry ≡ seven (line_row (StepLine row))) }
+    ensures call { IfSome result (λ row. IsOfNextCall (calls_counted replies.now) (StepLine row)) }
+    ensures none { IfNone result ((number : ℕ) (row : StepRow) → number < 2 ^ 64 → IsSpelledStep row →
+        texts fields.entry ≢ seven (line_row (StepLine (Made number row)))) }
+{
     let ["step", number, client, kind, word, before, after] = fields else {
         return None;
     };
@@ -137,7 +169,8 @@ fn turn_of(fields: [&str; 7], replies: &Counts) -> Option<Row>
 }
 
 fn entry_of(fields: [&str; 7]) -> Option<Entry>
-    ensures { IfSome result (λ entry. texts fields.entry ≡ seven (line_row (Log entry))) }
+    ensures { MatchOption result ((entry : EntryOf) → IsSpelledEntry entry → texts fields.entry ≢ seven (line_row (Log entry)))
+        (λ entry. texts fields.entry ≡ seven (line_row (Log entry))) }
 {
     let ["log", place, step, scx, client, call, ""] = fields else {
         return None;
@@ -157,6 +190,7 @@ fn reply_of(fields: [&str; 7], answer: Answer, commands: &Commands) -> Option<Li
     ensures row { IfSome result (λ line. texts fields.entry ≡ seven (line_row line)) }
     ensures call { (calls : ℕ → ℕ) → IfSome result (IsOfNextCall calls) }
     ensures form { (passes : ℕ) (calls : List CallOf) → HasCommands commands.now passes calls → IfSome result (HasForm passes calls) }
+    ensures none { IfNone result ((reply : FinishedOf) → IsSpelledFinished reply → texts fields.entry ≢ seven (line_row (ReplyLine reply))) }
 {
     let ["reply", client, call, begin, end, moment, _] = fields else {
         return None;
@@ -175,7 +209,8 @@ fn reply_of(fields: [&str; 7], answer: Answer, commands: &Commands) -> Option<Li
 
 /// The moment of a reply, which may have none.
 fn moment_of(text: &str) -> Option<Option<u64>>
-    ensures { IfSome result (λ moment. text.now ≡ moment_text moment) }
+    ensures { MatchOption result ((moment : Option ℕ) → IfSome moment (λ turn. turn < 2 ^ 64) → text.now ≢ moment_text moment)
+        (λ moment. text.now ≡ moment_text moment) }
 {
     match text {
         "" => Some(None),

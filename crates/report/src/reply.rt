@@ -1,6 +1,9 @@
 //! Replies of the map as text.
-ghost use Rattle.std.specs.Prelude.{◌≡◌, ◌≤◌, ◌++◌, IfOk, IfSome, OnOk, codes, decimal, string_bytes};
-ghost use Rattle.report.specs.Answers.{full_text, reply_text, spaced_pairs, rest_text};
+ghost use Rattle.std.specs.Prelude.{◌≡◌, ◌≢◌, ◌≤◌, ◌<◌, ◌^◌, ◌++◌, ℕ, List, All, IfNone, IfOk, IfSome, MatchOption, OnOk, codes, decimal, string_bytes};
+ghost use Rattle.arena.specs.declared.fault.Resource.{Resource as ResourceOf};
+ghost use Rattle.ordered_map.specs.declared.reply.Reply.{Reply as ReplyOf};
+ghost use Rattle.report.specs.Answers.{both_text, full_text, reply_text, spaced_pairs, rest_text};
+ghost use Rattle.report.specs.Spellings.{HasNoSpace, IsTelling, IsWordPair};
 ghost use Rattle.texts.specs.Sheets.{IsPlain, sheet_room, sheet_text};
 
 use crate::name::blame_of;
@@ -122,7 +125,8 @@ pub(crate) fn pairs_of(
     alloc: Global,
     told: Option<&str>,
 ) -> Result<Option<Reply<u64, u64>>, AllocError>
-    ensures { IfOk result (λ o. IfSome o (λ reply. codes "pairs" ++ rest_text told.entry ≡ reply_text reply)) }
+    ensures some { IfOk result (λ o. IfSome o (λ reply. codes "pairs" ++ rest_text told.entry ≡ reply_text reply)) }
+    ensures none { IfOk result (λ o. IfNone o ((pairs : List (ℕ × ℕ)) → All IsWordPair pairs → rest_text told.entry ≢ spaced_pairs pairs)) }
 {
     let mut pairs = Vec::new(alloc);
     let mut left = told;
@@ -138,26 +142,36 @@ pub(crate) fn pairs_of(
 
 /// The pair at the head of a text, and what stands behind the next space.
 fn first_pair_of(text: &str) -> Option<((u64, u64), Option<&str>)>
-    ensures { IfSome result (λ r. text.now ≡ decimal r.0.0 ++ (codes " " ++ (decimal r.0.1 ++ rest_text r.1))) }
+    ensures some { IfSome result (λ r. text.now ≡ decimal r.0.0 ++ (codes " " ++ (decimal r.0.1 ++ rest_text r.1))) }
+    ensures all { (pair : ℕ × ℕ) (more : List (ℕ × ℕ)) → IsWordPair pair →
+        text.now ≡ decimal pair.0 ++ (codes " " ++ (decimal pair.1 ++ spaced_pairs more)) →
+        MatchOption result ⊥ (λ r. rest_text r.1 ≡ spaced_pairs more) }
 {
     let (key, rest) = text.split_once(' ')?;
-    let (value, rest) = match rest.split_once(' ') {
-        Some((value, rest)) => (value, Some(rest)),
-        None => (rest, None),
-    };
+    let (value, rest) = first_word_of(rest);
     Some(((number_of(key)?, number_of(value)?), rest))
+}
+
+/// What stands before the first space of a text, and behind it if there is one.
+pub(crate) fn first_word_of(text: &str) -> (&str, Option<&str>)
+    ensures whole { text.now ≡ result.0.now ++ rest_text result.1 }
+    ensures free { HasNoSpace result.0.now }
+{
+    match text.split_once(' ') {
+        Some((word, rest)) => (word, Some(rest)),
+        None => (text, None),
+    }
 }
 
 /// The reply of this name that tells this, if it is not of many pairs.
 pub(crate) fn telling_reply_of(name: &str, told: &str) -> Option<Reply<u64, u64>>
-    ensures { IfSome result (λ reply. name.now ++ (codes " " ++ told.now) ≡ reply_text reply) }
+    ensures some { IfSome result (λ reply. name.now ++ (codes " " ++ told.now) ≡ reply_text reply) }
+    ensures none { HasNoSpace name.now → IfNone result ((reply : ReplyOf ℕ ℕ) → IsTelling reply →
+        name.now ++ (codes " " ++ told.now) ≢ reply_text reply) }
 {
     match name {
         "some" => Some(Reply::Value(Some(number_of(told)?))),
-        "pair" => {
-            let (key, value) = told.split_once(' ')?;
-            Some(Reply::Pair(Some((number_of(key)?, number_of(value)?))))
-        }
+        "pair" => Some(Reply::Pair(Some(both_of(told)?))),
         "contended" => {
             let (node, scx) = blame_of(told)?;
             Some(Reply::Contended { node, scx })
@@ -167,9 +181,19 @@ pub(crate) fn telling_reply_of(name: &str, told: &str) -> Option<Reply<u64, u64>
     }
 }
 
+/// Two numbers, parted by a space.
+pub(crate) fn both_of(text: &str) -> Option<(u64, u64)>
+    ensures some { IfSome result (λ both. text.now ≡ both_text both.0 both.1) }
+    ensures none { IfNone result ((first second : ℕ) → first < 2 ^ 64 → second < 2 ^ 64 → text.now ≢ both_text first second) }
+{
+    let (first, second) = text.split_once(' ')?;
+    Some((number_of(first)?, number_of(second)?))
+}
+
 /// What a share has run out of.
 fn full_of(told: &str) -> Option<Full>
-    ensures { IfSome result (λ full. codes "full " ++ told.now ≡ full_text full.what full.left) }
+    ensures some { IfSome result (λ full. codes "full " ++ told.now ≡ full_text full.what full.left) }
+    ensures none { IfNone result ((what : ResourceOf) (left : ℕ) → left < 2 ^ 32 → codes "full " ++ told.now ≢ full_text what left) }
 {
     let (what, left) = told.split_once(' ')?;
     let left = small_number_of(left)?;

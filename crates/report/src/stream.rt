@@ -5,10 +5,10 @@ ghost use Rattle.texts.specs.Pages.{BeginsWith};
 ghost use Rattle.record.specs.Commands.{next_command};
 ghost use Rattle.record.specs.Turns.{turns};
 ghost use Rattle.script.specs.declared.script.Script.{Script};
-ghost use Rattle.player.specs.Core.{IsNextTurn, StandsAt, passes_of, steps_of, with_lines};
+ghost use Rattle.player.specs.Core.{IsNextTurn, StandsAt, passes_of, turns_made, with_lines};
 ghost use Rattle.player.specs.Player.{IsPlayed, PlayerView, script_view};
 ghost use Rattle.report.specs.Report.{report_text};
-ghost use Rattle.report.specs.StreamFaults.{fault_of_write};
+ghost use Rattle.report.specs.StreamFaults.{stream_fault_of};
 ghost use Rattle.report.specs.declared.stream.StreamFault.TheVariants as fault;
 
 use crate::head::{end_text, head_text};
@@ -41,7 +41,7 @@ pub enum StreamFault {
 }
 
 impl From<WriteFault> for StreamFault {
-    ghost from_gives = { λ given made. made ≡ fault_of_write given };
+    ghost from_gives = { λ given made. made ≡ stream_fault_of given };
 
     fn from(fault: WriteFault) -> StreamFault {
         match fault {
@@ -120,7 +120,7 @@ impl Stream {
         to: &mut Metered<W>,
     ) -> Result<Lines, StreamFault>
         requires client { client.0 < passes_of self.old.core }
-        requires steps { steps_of self.old.core < 2 ^ 64 - 1 }
+        requires steps { turns_made self.old.core < 2 ^ 64 - 1 }
         ensures turn { IfOk result (λ more. (p : PlayerView) → StandsAt self.old.core p → IsNextTurn p client.0 more.items) }
         ensures written { (start : Option (List ℕ)) (p : PlayerView) → HasWritten self.old start (W.contents to.old.inner) p →
             IfOk result (λ more. HasWritten self.new start (W.contents to.new.inner) (with_lines p more.items)) }
@@ -138,7 +138,7 @@ impl Stream {
 
         ensures lawful { (p : PlayerView) → StandsAt self.new.core p → IsPlayed p }
         ensures passes { passes_of self.new.core ≡ passes_of self.old.core }
-        ensures counted { OnOk result (steps_of self.new.core ≡ suc (steps_of self.old.core)) }
+        ensures counted { OnOk result (turns_made self.new.core ≡ suc (turns_made self.old.core)) }
         ensures ok { OnOk result (to.new.failures ≡ to.old.failures) }
         ensures no_memory { IsErrOf result StreamFault.NoMemory → to.new.failures ≡ to.old.failures }
         ensures write { IsErrOf result StreamFault.Write → to.new.failures ≡ min (to.old.failures + 1) (2 ^ 64 - 1) }
@@ -184,7 +184,7 @@ impl Stream {
 
     /// How many turns were made so far.
     pub fn steps(&self) -> u64
-        ensures steps { result ≡ steps_of self.now.core }
+        ensures steps { result ≡ turns_made self.now.core }
         ensures turns { (p : PlayerView) → StandsAt self.now.core p → result ≡ turns p.lines }
     {
         self.core.steps()

@@ -19,7 +19,7 @@ loop-some-preserved g c =
       failures = c.in_ok-send.ensures.ok ∙ c.loop-some.invariant.failures;
       sent = piece_sent old mid _ some left whole
           (subst (λ text. IsSent old mid text whole) (rows_split 7 line_row _ c.in-Some.some.now c.next.new.self.rest.now steps.1.0) c.loop-some.invariant.sent)
-          (rw (chunk_text _ _ _ _ c.text.ensures c.in_ok-put_lines.ensures c.clear.ensures) at c.in_ok-send.ensures.all);
+          (rw (chunk_text _ _ _ _ c.text.ensures c.in_ok-put_lines.ensures c.clear.ensures.text) at c.in_ok-send.ensures.all);
     }
 
 pub returns-clause-all : goal.returns-clause-all
@@ -41,4 +41,4 @@ returns-in_err-send-clause-beginning g c =
     on_err c.from_residual-in_err-send.result
     (part_sent old mid _ some left whole
     (subst (λ text. IsSent old mid text whole) (rows_split 7 line_row _ c.in-Some.some.now c.next.new.self.rest.now steps.1.0) c.loop-some.invariant.sent)
-    (rw (chunk_text _ _ _ _ c.text.ensures c.in_ok-put_lines.ensures c.clear.ensures) at c.in_err-send.ensures.beginning))
+    (rw (chunk_text _ _ _ _ c.text.ensures c.in_ok-put_lines.ensures c.clear.ensures.text) at c.in_err-send.ensures.beginning))

@@ -23,7 +23,7 @@ returns-in_err-put_lines-clause-cut g c = λ start p x.
 
 pub returns-in_err-send-clause-cut : goal.returns-in_err-send-clause-cut
 returns-in_err-send-clause-cut g c = λ start p x.
-    let rows = chunk_text _ _ _ _ c.text.ensures c.in_ok-put_lines.ensures (c.make_room.ensures.text ∙ c.clear.ensures) ∙ ap (λ lines. rows_text 7 (map line_row lines)) c.as_slice.ensures.value in
+    let rows = chunk_text _ _ _ _ c.text.ensures c.in_ok-put_lines.ensures (c.make_room.ensures.text ∙ c.clear.ensures.text) ∙ ap (λ lines. rows_text 7 (map line_row lines)) c.as_slice.ensures.value in
     on_err c.from_residual-in_err-send.result
     (λ ended. record {
       more = c.in_ok-lines.lines.items;
@@ -33,7 +33,7 @@ returns-in_err-send-clause-cut g c = λ start p x.
 
 pub returns-in_err-flush-clause-cut : goal.returns-in_err-flush-clause-cut
 returns-in_err-flush-clause-cut g c = λ start p x.
-    let rows = chunk_text _ _ _ _ c.text.ensures c.in_ok-put_lines.ensures (c.make_room.ensures.text ∙ c.clear.ensures) ∙ ap (λ lines. rows_text 7 (map line_row lines)) c.as_slice.ensures.value in
+    let rows = chunk_text _ _ _ _ c.text.ensures c.in_ok-put_lines.ensures (c.make_room.ensures.text ∙ c.clear.ensures.text) ∙ ap (λ lines. rows_text 7 (map line_row lines)) c.as_slice.ensures.value in
     on_err c.from_residual-in_err-flush.result
     (λ ended. record {
       more = c.in_ok-lines.lines.items;
@@ -43,7 +43,7 @@ returns-in_err-flush-clause-cut g c = λ start p x.
 
 pub returns-clause-written : goal.returns-clause-written
 returns-clause-written g c = λ start p x.
-    let rows = chunk_text _ _ _ _ c.text.ensures c.in_ok-put_lines.ensures (c.make_room.ensures.text ∙ c.clear.ensures) ∙ ap (λ lines. rows_text 7 (map line_row lines)) c.as_slice.ensures.value in
+    let rows = chunk_text _ _ _ _ c.text.ensures c.in_ok-put_lines.ensures (c.make_room.ensures.text ∙ c.clear.ensures.text) ∙ ap (λ lines. rows_text 7 (map line_row lines)) c.as_slice.ensures.value in
     let more = c.in_ok-lines.lines.items in
     record {
       goes_on = refl;

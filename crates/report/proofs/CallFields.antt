@@ -1,0 +1,59 @@
+-- The fields of the row of a call.
+use Rattle.std.proofs.Common.{◌≡◌, ◌≢◌, ℕ, List, [], ◌∷◌, Bor, None, Result, Ok, Err, IfErr, inl, inr, arith, get_or, length, refl}
+use Rattle.std.specs.Result.{result_ok}
+use Rattle.arena.specs.declared.limits.Mode.{Mode}
+use Rattle.ordered_map.specs.declared.request.Request.TheVariants.{Insert, Delete, PopFirst, ReplaceIf, Get, Successor, Range}
+use Rattle.script.specs.Calls.{IsNoCommand, NamesCommand}
+use Rattle.script.specs.Commands.{IsCommand, command_row, mode_of, texts}
+use Rattle.script.specs.declared.command.Command.{Command}
+use Rattle.script.specs.declared.command.Command.TheVariants.{Llx, Scx, Vlx, Set, Map}
+use Rattle.script.specs.declared.fault.ScriptCause.{ScriptCause}
+use Rattle.script.specs.declared.fault.ScriptCause.TheVariants as cause
+use Rattle.report.proofs.Fields.{blank}
+
+-- the row is three fields and these four
+pub record AreCallFields (fields : List (Bor (List ℕ))) (name client number : List ℕ) (command : List (List ℕ)) : Type 0 where
+  pub name_is : (get_or fields 0 blank).now ≡ name
+  pub client_is : (get_or fields 1 blank).now ≡ client
+  pub number_is : (get_or fields 2 blank).now ≡ number
+  pub command_is : (get_or fields 3 blank).now ∷ (get_or fields 4 blank).now ∷ (get_or fields 5 blank).now ∷ (get_or fields 6 blank).now ∷ [] ≡ command
+
+pub call_fields_are : (fields : List (Bor (List ℕ))) (name client number : List ℕ) (command : List (List ℕ)) → length fields ≡ 7 → texts fields ≡ name ∷ client ∷ number ∷ command → AreCallFields fields name client number command
+call_fields_are (a ∷ b ∷ c ∷ e ∷ f ∷ g ∷ h ∷ []) name client number command long is = record { name_is = cc; client_is = cc; number_is = cc; command_is = cc }
+call_fields_are fields name client number command long is = absurd (omega (arith, long))
+
+-- the row, where each part is known
+pub call_row_is : (fields : List (Bor (List ℕ))) (name client number : List ℕ) (command : List (List ℕ)) → length fields ≡ 7
+    → (get_or fields 0 blank).now ≡ name → (get_or fields 1 blank).now ≡ client → (get_or fields 2 blank).now ≡ number
+    → (get_or fields 3 blank).now ∷ (get_or fields 4 blank).now ∷ (get_or fields 5 blank).now ∷ (get_or fields 6 blank).now ∷ [] ≡ command
+    → texts fields ≡ name ∷ client ∷ number ∷ command
+call_row_is (a ∷ b ∷ c ∷ e ∷ f ∷ g ∷ h ∷ []) name client number command long p q r s = rw (← p, ← q, ← r, ← s) refl
+call_row_is fields name client number command long p q r s = absurd (omega (arith, long))
+
+-- the first field of a command's row names the command
+names_command : (mode : Mode) (name : List ℕ) (rest : List (List ℕ)) (command : Command) → mode_of command ≡ mode → name ∷ rest ≡ command_row command → NamesCommand mode name
+names_command mode name rest (Llx cell) of_mode is = rw (← of_mode) (inl cc)
+names_command mode name rest (Scx update) of_mode is = rw (← of_mode) (inr (inl cc))
+names_command mode name rest (Vlx cells) of_mode is = rw (← of_mode) (inr (inr (inl cc)))
+names_command mode name rest (Set field value) of_mode is = rw (← of_mode) (inr (inr (inr cc)))
+names_command mode name rest (Map (Insert key value)) of_mode is = rw (← of_mode) (inl cc)
+names_command mode name rest (Map (Delete key)) of_mode is = rw (← of_mode) (inr (inl cc))
+names_command mode name rest (Map PopFirst) of_mode is = rw (← of_mode) (inr (inr (inl cc)))
+names_command mode name rest (Map (ReplaceIf key expected value)) of_mode is = rw (← of_mode) (inr (inr (inr (inl cc))))
+names_command mode name rest (Map (Get key)) of_mode is = rw (← of_mode) (inr (inr (inr (inr (inl cc)))))
+names_command mode name rest (Map (Successor key)) of_mode is = rw (← of_mode) (inr (inr (inr (inr (inr (inl cc))))))
+names_command mode name rest (Map (Range low high most)) of_mode is = rw (← of_mode) (inr (inr (inr (inr (inr (inr cc))))))
+
+why_none : (mode : Mode) (name : List ℕ) (rest : List (List ℕ)) (why : ScriptCause) → IsNoCommand mode name rest why → (command : Command) → mode_of command ≡ mode → IsCommand command → name ∷ rest ≢ command_row command
+why_none mode name rest cause.Command none command of_mode valid is = none (names_command mode name rest command of_mode is)
+why_none mode name rest cause.Argument none command of_mode valid is = none.1 command valid is
+why_none mode name rest cause.Client none command of_mode valid is = none
+why_none mode name rest cause.Fields none command of_mode valid is = none
+why_none mode name rest cause.Limits none command of_mode valid is = none
+why_none mode name rest cause.End none command of_mode valid is = none
+why_none mode name rest cause.Long none command of_mode valid is = none
+
+-- no command has the row where a reader of commands has a cause against it
+pub no_command : (mode : Mode) (name : List ℕ) (rest : List (List ℕ)) (r : Result Command ScriptCause) → result_ok r ≡ None → IfErr r (IsNoCommand mode name rest) → (command : Command) → mode_of command ≡ mode → IsCommand command → name ∷ rest ≢ command_row command
+no_command mode name rest (Ok found) failed none = absurd cc
+no_command mode name rest (Err why) failed none = why_none mode name rest why none
