@@ -2,8 +2,9 @@
 ghost use Rattle.std.specs.Prelude.{◌≤◌};
 
 use crate::args::{Request, read_words};
+use crate::buffered::play_buffered;
 use arena::Mode;
-use program::{Fault, audit_over, play_over, run_over};
+use program::{Fault, audit_over, run_over};
 use std::fs;
 use std::io::Write;
 use std::rt::Files;
@@ -47,16 +48,7 @@ fn play_files<R: Files + AllocGlobal, O: Write, E: Write>(
     ensures { result ≤ 4 }
 {
     match open_both(rt, script, schedule) {
-        Ok((script, schedule)) => {
-            play_over(
-                rt.alloc(),
-                mode,
-                &mut Metered::new(script),
-                &mut Metered::new(schedule),
-                &mut Metered::new(out),
-                err,
-            )
-        }
+        Ok((script, schedule)) => play_buffered(rt.alloc(), mode, script, schedule, out, err),
         Err(fault) => fault.print(err),
     }
 }

@@ -3,5 +3,6 @@
 
 mod args;
 mod ask;
+mod buffered;
 
 pub use ask::run_words;

@@ -18,3 +18,5 @@ mod memory_tests;
 mod same;
 #[cfg(test)]
 mod spelling_tests;
+#[cfg(test)]
+mod stream_tests;

@@ -35,7 +35,7 @@ fn written_twice(
     Ok((report.inner, copy.inner))
 }
 
-/// Of interest where an allocation is refused; `docs/PROOFS.md` says how each was tried.
+/// Of interest where an allocation is refused; `docs/TESTS.md` says how each was tried.
 #[test]
 fn refused_memory_is_told_as_such(rt: HostRuntime) -> Result<(), Fail> {
     let first = Vec::with_capacity(rt.alloc(), 4096)?;

@@ -1,5 +1,5 @@
 -- Faults of the texts are the program's faults.
-use Rattle.std.proofs.Common.{◌≡◌, List, ℕ, Result, Ok, Err, IfErr, IsErrAnd}
+use Rattle.std.proofs.Common.{◌≡◌, ◌≢◌, ◌+◌, ◌-◌, ◌^◌, ◌↔◌, ◌⊎◌, ◌∙◌, inl, inr, ⊎_elim, arith, min, refl, List, ℕ, Result, Ok, Err, IfErr, IsErrAnd}
 use Rattle.std.specs.Prelude.{OnOk}
 use Rattle.arena.specs.declared.layout.Layout.{Layout}
 use Rattle.arena.specs.declared.limits.Limits.{Limits}
@@ -11,7 +11,9 @@ use Rattle.script.specs.declared.fault.ScheduleCause.{ScheduleCause}
 use Rattle.texts.specs.declared.fault.TextFault.{TextFault}
 use Rattle.texts.specs.declared.fault.TextFault.TheVariants.{NoMemory, Read, Bad}
 use Rattle.program.specs.Printed.{IsDeserved}
-use Rattle.program.specs.Status.{fault_of_schedule}
+use Rattle.report.specs.declared.stream.StreamFault.{StreamFault}
+use Rattle.report.specs.declared.stream.StreamFault.TheVariants as stream
+use Rattle.program.specs.Status.{CanRise, fault_of_schedule, fault_of_stream, status_of}
 use Rattle.program.specs.declared.fault.Fault.{Fault}
 
 pub schedule_deserves : (mode : Mode) (said ordered : List ℕ) (limits : Limits) (layout : Layout) (calls : List Call) (fault : TextFault ScheduleCause) → SayScript mode said limits layout calls → IfBad (IsScheduleFault layout.passes ordered) fault → IsDeserved mode said ordered (fault_of_schedule fault)
@@ -28,3 +30,14 @@ told (Err e) fault P is holds = rw is holds
 pub so_then : {T E P Q : Type 0} (r : Result T E) → (P → Q) → OnOk r P → OnOk r Q
 so_then (Ok t) f p = f p
 so_then (Err e) f p = tt
+
+-- no memory leaves the failure counts, and a failed write raises that of the output
+pub stream_failed : {T : Type 0} (r : Result T Fault) (fault : StreamFault) (s t t' o m n s' : ℕ) → IsErrAnd r (λ e. e ≡ fault_of_stream fault) → fault ≢ stream.Ended → s' ≡ s → t' ≡ t → m ≡ o → (fault ≡ stream.NoMemory → n ≡ m) → (fault ≡ stream.Write → n ≡ min (m + 1) (2 ^ 64 - 1)) → CanRise o → IfErr r (λ f. status_of f ≡ 4 ↔ ((s' ≢ s) ⊎ (t' ≢ t) ⊎ (n ≢ o)))
+stream_failed (Ok x) fault s t t' o m n s' is not_ended scripts schedules so_far none more rise = absurd is
+stream_failed (Err e) stream.NoMemory s t t' o m n s' is not_ended scripts schedules so_far none more rise =
+    rw is
+    (λ four. absurd (omega (arith, four)), ⊎_elim (λ d. absurd (d scripts)) (⊎_elim (λ d. absurd (d schedules)) (λ d. absurd (d (none refl ∙ so_far)))))
+stream_failed (Err e) stream.Write s t t' o m n s' is not_ended scripts schedules so_far none more rise =
+    rw is
+    (λ four. inr (inr (λ same. let raised = more refl in omega (arith, same, raised, so_far, rise))), λ some. refl)
+stream_failed (Err e) stream.Ended s t t' o m n s' is not_ended scripts schedules so_far none more rise = absurd (not_ended refl)

@@ -1,1 +1,3 @@
 pub mod Deserved
+mod Followed
+mod Beginnings

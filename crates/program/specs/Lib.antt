@@ -1,4 +1,5 @@
 pub mod Status
+pub mod Followed
 pub mod Printed
 pub mod Threaded
 pub mod Audited

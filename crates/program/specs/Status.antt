@@ -8,6 +8,8 @@ use Rattle.texts.specs.declared.fault.TextFault.{TextFault}
 use Rattle.texts.specs.declared.fault.TextFault.TheVariants as text
 use Rattle.report.specs.declared.fault.ReportFault.{ReportFault}
 use Rattle.report.specs.declared.fault.ReportFault.TheVariants as report
+use Rattle.report.specs.declared.stream.StreamFault.{StreamFault}
+use Rattle.report.specs.declared.stream.StreamFault.TheVariants as stream
 use Rattle.audit.specs.declared.fault.AuditFault.{AuditFault}
 use Rattle.audit.specs.declared.fault.AuditFault.TheVariants as audit
 use Rattle.program.specs.declared.fault.Fault.{Fault}
@@ -45,6 +47,12 @@ fault_of_schedule (text.Bad row cause) = BadSchedule row cause
 abbrev pub fault_of_write : WriteFault → Fault
 fault_of_write write.NoMemory = NoMemory
 fault_of_write write.Write = Write
+
+-- the program's fault where a report that is written while it is played did not go on
+abbrev pub fault_of_stream : StreamFault → Fault
+fault_of_stream stream.NoMemory = NoMemory
+fault_of_stream stream.Write = Write
+fault_of_stream stream.Ended = Write
 
 -- the program's fault where a report was not read
 abbrev pub fault_of_report : ReportFault → Fault

@@ -1,11 +1,11 @@
 //! Why the program stops early.
 ghost use Rattle.std.specs.Prelude.{◌≡◌};
-ghost use Rattle.program.specs.Status.{fault_of_audit, fault_of_report, fault_of_schedule, fault_of_script, fault_of_write, status_of};
+ghost use Rattle.program.specs.Status.{fault_of_audit, fault_of_report, fault_of_schedule, fault_of_script, fault_of_stream, fault_of_write, status_of};
 ghost use Rattle.program.specs.declared.fault.Fault.TheVariants as fault;
 
 use arena::NoMemory;
 use audit::AuditFault;
-use report::{ReportFault, WriteFault};
+use report::{ReportFault, StreamFault, WriteFault};
 use script::{ScheduleCause, ScheduleFault, ScriptCause, ScriptFault};
 use std::io;
 use std::io::{ErrorKind, Write};
@@ -127,6 +127,18 @@ impl From<WriteFault> for Fault {
         match fault {
             WriteFault::NoMemory => Fault::NoMemory,
             WriteFault::Write => Fault::Write,
+        }
+    }
+}
+
+impl From<StreamFault> for Fault {
+    ghost from_gives = { λ given made. made ≡ fault_of_stream given };
+
+    fn from(fault: StreamFault) -> Fault {
+        match fault {
+            StreamFault::NoMemory => Fault::NoMemory,
+            // No stream of the program is asked again after a fault.
+            StreamFault::Write | StreamFault::Ended => Fault::Write,
         }
     }
 }

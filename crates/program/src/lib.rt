@@ -4,6 +4,7 @@
 
 mod audited;
 mod fault;
+mod following;
 mod play;
 mod threaded;
 

@@ -1,13 +1,13 @@
 //! The commands that play a script.
-ghost use Rattle.std.specs.Prelude.{◌≡◌, ◌≢◌, ◌≤◌, ◌↔◌, ◌⊎◌, ℕ, List, IfErr, OnOk, Some};
-ghost use Rattle.program.specs.Printed.{HasPrinted, IsDeserved};
+ghost use Rattle.std.specs.Prelude.{◌≡◌, ◌≢◌, ◌≤◌, ◌↔◌, ◌⊎◌, ℕ, List, IfErr, OnErr, OnOk, Some};
+ghost use Rattle.program.specs.Printed.{HasPrinted, HasPrintedPart, IsDeserved};
 ghost use Rattle.program.specs.Status.{CanRise, status_of};
 ghost use Rattle.program.specs.declared.fault.Fault.{Fault};
 
 use crate::fault::Fault;
+use crate::following::follow;
 use arena::Mode;
-use player::play_by;
-use report::write_record;
+use report::Stream;
 use script::{read_schedule, read_script};
 use std::alloc::Global;
 use std::io::{Read, Write};
@@ -31,6 +31,11 @@ pub fn play_over<S: Read, T: Read, O: Write, E: Write>(
     ensures deserved { (said ordered : List ℕ) →
         S.remaining script.old.inner ≡ Some said → T.remaining schedule.old.inner ≡ Some ordered →
         result ≡ 1 → (fault : Fault) × (status_of fault ≡ 1) × IsDeserved mode said ordered fault }
+
+    // After a fault: nothing, or a beginning.
+    ensures beginning { (said ordered : List ℕ) →
+        S.remaining script.old.inner ≡ Some said → T.remaining schedule.old.inner ≡ Some ordered →
+        result ≢ 0 → (out.new ≡ out.old) ⊎ HasPrintedPart mode said ordered (O.contents out.old.inner) (O.contents out.new.inner) }
 
     // 4 exactly where a read or a write failed, as their counts tell while they can rise.
     ensures failed { CanRise script.old.failures → CanRise schedule.old.failures → CanRise out.old.failures →
@@ -60,6 +65,9 @@ fn play<S: Read, T: Read, O: Write>(
     ensures deserved { (said ordered : List ℕ) →
         S.remaining script.old.inner ≡ Some said → T.remaining schedule.old.inner ≡ Some ordered →
         IfErr result (IsDeserved mode said ordered) }
+    ensures beginning { (said ordered : List ℕ) →
+        S.remaining script.old.inner ≡ Some said → T.remaining schedule.old.inner ≡ Some ordered →
+        OnErr result ((out.new ≡ out.old) ⊎ HasPrintedPart mode said ordered (O.contents out.old.inner) (O.contents out.new.inner)) }
     ensures well { OnOk result ((script.new.failures ≡ script.old.failures)
         × (schedule.new.failures ≡ schedule.old.failures) × (out.new.failures ≡ out.old.failures)) }
     ensures failed { CanRise script.old.failures → CanRise schedule.old.failures → CanRise out.old.failures →
@@ -70,7 +78,8 @@ fn play<S: Read, T: Read, O: Write>(
 {
     let script = read_script(alloc, mode, script)?;
     let schedule = read_schedule(alloc, &script, schedule)?;
-    let record = play_by(alloc, &script, &schedule)?;
-    write_record(alloc, &record, out)?;
+    let mut stream = Stream::new(alloc, &script, out)?;
+    follow(&mut stream, schedule.orders.as_slice(), out)?;
+    stream.end(out)?;
     Ok(())
 }

@@ -6,5 +6,5 @@ returns-clause-lawful g c told tells =
       script = c.in_ok-record.record.script;
       lines = c.in_ok-record.record.lines.items;
       rows = c.in_ok-record.ensures.rows told tells;
-      run = c.in_ok-audit.ensures;
+      run = c.in_ok-audit.ensures.lawful;
     }

@@ -1,8 +1,11 @@
-use Rattle.std.proofs.Common.{ap}
-use Rattle.player.specs.Player.{ScriptView}
+use Rattle.std.proofs.Common.{[], inl, inr, refl, Err, ap, reverse, sym, true≢false, ◌∙◌}
+use Rattle.player.specs.Player.{ScriptView, script_view}
+use Rattle.player.proofs.Lemmas.{stands_played}
 use Rattle.program.specs.Printed.{IsDeserved}
 use Rattle.program.specs.Status.{fault_of_schedule}
-use Rattle.program.proofs.Deserved.{schedule_deserves, told}
+use Rattle.program.proofs.Deserved.{schedule_deserves, stream_failed, told}
+use Rattle.program.proofs.Beginnings.{all_followed, none_followed, report_begins, stopped_begins}
+use Rattle.program.proofs.Followed.{on_err, run_of}
 use Rattle.program.proofs.play.play.Goals as goal
 
 pub returns-in_err-schedule-clause-deserved : goal.returns-in_err-schedule-clause-deserved
@@ -12,15 +15,88 @@ returns-in_err-schedule-clause-deserved g c said ordered script_tells schedule_t
     told _ (fault_of_schedule c.in_err-schedule.field-0.0) (IsDeserved c.args.mode said ordered) c.from_residual-in_err-schedule.ensures.1
     (schedule_deserves c.args.mode said ordered script.limits script.layout script.calls.items c.in_err-schedule.field-0.0 says (c.in_err-schedule.ensures.fault ordered schedule_tells))
 
+pub follow-requires : goal.follow-requires
+follow-requires g c = rw (ap (λ (s : ScriptView). s.layout.passes) c.in_ok-stream.ensures.begun.stands.script, c.as_slice.ensures.value) c.in_ok-schedule.ensures.orders
+
 pub returns-clause-printed : goal.returns-clause-printed
 returns-clause-printed g c said ordered script_tells schedule_tells =
-    let same = c.in_ok-record.ensures.script in
+    let went = rw c.as_slice.ensures.value at (c.in_ok-follow.ensures.followed _ _ c.in_ok-stream.ensures.begun) in
     record {
       script = c.in_ok-script.script;
       schedule = c.in_ok-schedule.schedule;
-      lines = c.in_ok-record.record.lines.items;
+      lines = reverse went.later.lines;
       says = c.in_ok-script.ensures.says said script_tells;
       orders = c.in_ok-schedule.ensures.says ordered schedule_tells;
-      run = c.in_ok-record.ensures.run;
-      text = rw (ap (λ (s : ScriptView). s.limits) same, ap (λ (s : ScriptView). s.layout) same, ap (λ (s : ScriptView). s.calls) same) at c.in_ok-write_record.ensures.all;
+      run = run_of c.in_ok-script.script c.in_ok-schedule.schedule _ _ _ went;
+      text = c.in_ok-end.ensures.all _ went.later c.in_ok-script.script went.written (sym went.script);
     }
+
+pub returns-in_err-follow-clause-failed : goal.returns-in_err-follow-clause-failed
+returns-in_err-follow-clause-failed g c = λ script schedule out.
+    stream_failed c.from_residual-in_err-follow.result c.in_err-follow.field-0.0 _ _ _ _ _ _ _ c.from_residual-in_err-follow.ensures.1
+    (λ e. c.in_err-follow.ensures.not_ended _ _ c.in_ok-stream.ensures.begun (ap (λ f. Err f) e))
+    c.in_ok-script.ensures.ok c.in_ok-schedule.ensures.ok c.in_ok-stream.ensures.ok (λ e. c.in_err-follow.ensures.no_memory (ap (λ f. Err f) e)) (λ e. c.in_err-follow.ensures.write (ap (λ f. Err f) e)) out
+
+pub returns-in_err-end-clause-failed : goal.returns-in_err-end-clause-failed
+returns-in_err-end-clause-failed g c = λ script schedule out.
+    let went = c.in_ok-follow.ensures.followed _ _ c.in_ok-stream.ensures.begun in
+    stream_failed c.from_residual-in_err-end.result c.in_err-end.field-0.0 _ _ _ _ _ _ _ c.from_residual-in_err-end.ensures.1
+    (λ e. true≢false (sym (c.in_err-end.ensures.why (ap (λ f. Err f) e)) ∙ went.written.goes_on))
+    c.in_ok-script.ensures.ok c.in_ok-schedule.ensures.ok (c.in_ok-follow.ensures.ok ∙ c.in_ok-stream.ensures.ok) (λ e. c.in_err-end.ensures.no_memory (ap (λ f. Err f) e)) (λ e. c.in_err-end.ensures.write (ap (λ f. Err f) e)) out
+
+pub returns-in_err-script-clause-beginning : goal.returns-in_err-script-clause-beginning
+returns-in_err-script-clause-beginning g c said ordered script_tells schedule_tells = on_err c.from_residual.result (inl refl)
+
+pub returns-in_err-schedule-clause-beginning : goal.returns-in_err-schedule-clause-beginning
+returns-in_err-schedule-clause-beginning g c said ordered script_tells schedule_tells = on_err c.from_residual-in_err-schedule.result (inl refl)
+
+pub returns-in_err-stream-clause-beginning : goal.returns-in_err-stream-clause-beginning
+returns-in_err-stream-clause-beginning g c said ordered script_tells schedule_tells =
+    let script = c.in_ok-script.script in
+    on_err c.from_residual-in_err-stream.result
+    (inr record {
+      script = script;
+      schedule = c.in_ok-schedule.schedule;
+      so_far = record { script = script_view script; lines = [] };
+      says = c.in_ok-script.ensures.says said script_tells;
+      orders = c.in_ok-schedule.ensures.says ordered schedule_tells;
+      script_is = refl;
+      turns = none_followed script.calls.items c.in_ok-schedule.schedule.orders.items;
+      played = inl refl;
+      text = inl (report_begins _ _ script (record { script = script_view script; lines = [] }) refl c.in_err-stream.ensures.beginning);
+    })
+
+pub returns-in_err-follow-clause-beginning : goal.returns-in_err-follow-clause-beginning
+returns-in_err-follow-clause-beginning g c said ordered script_tells schedule_tells =
+    let script = c.in_ok-script.script in
+    let so_far = rw c.as_slice.ensures.value at (c.in_err-follow.ensures.stopped _ _ c.in_ok-stream.ensures.begun) in
+    on_err c.from_residual-in_err-follow.result
+    (inr record {
+      script = script;
+      schedule = c.in_ok-schedule.schedule;
+      so_far = so_far.later;
+      says = c.in_ok-script.ensures.says said script_tells;
+      orders = c.in_ok-schedule.ensures.says ordered schedule_tells;
+      script_is = so_far.script;
+      turns = so_far.asked;
+      played = inr so_far.played;
+      text = stopped_begins _ _ _ script so_far.later so_far.script so_far.text;
+    })
+
+pub returns-in_err-end-clause-beginning : goal.returns-in_err-end-clause-beginning
+returns-in_err-end-clause-beginning g c said ordered script_tells schedule_tells =
+    let script = c.in_ok-script.script in
+    let schedule = c.in_ok-schedule.schedule in
+    let went = rw c.as_slice.ensures.value at (c.in_ok-follow.ensures.followed _ _ c.in_ok-stream.ensures.begun) in
+    on_err c.from_residual-in_err-end.result
+    (inr record {
+      script = script;
+      schedule = schedule;
+      so_far = went.later;
+      says = c.in_ok-script.ensures.says said script_tells;
+      orders = c.in_ok-schedule.ensures.says ordered schedule_tells;
+      script_is = went.script;
+      turns = all_followed script.calls.items schedule.orders.items [] went.later.lines went.asked;
+      played = inr (stands_played _ went.later went.written.stands);
+      text = inl (c.in_err-end.ensures.beginning _ went.later script went.written (sym went.script));
+    })

@@ -1,0 +1,292 @@
+//! Reports that are written turn by turn, to writers that fail.
+ghost use Rattle.std.specs.Prelude.{◌≡◌, ◌<◌};
+ghost use Rattle.player.specs.Core.{passes_of};
+
+use arena::{Mode, PassNo};
+use player::Lines;
+use report::{Stream, StreamFault};
+use script::{Script, ScriptFault, read_script};
+use std::alloc::Global;
+use std::io::Write;
+use std::process::Abort;
+use std::test::Fail;
+use texts::{FailAt, Metered};
+
+/// No client of these scripts makes as many turns.
+const MOST_TURNS: u32 = 100;
+
+const GET: &str = "limits,1,10,10,3\n0,get,0,,\nend,1,,,\n";
+
+/// Its whole report, of which the first three lines come before the first turn.
+const REPORT_OF_GET: &str = "\
+    report,1,tree,,,,\n\
+    limits,1,10,10,3,,\n\
+    call,0,0,get,0,,\n\
+    step,1,0,settled,n0.head,2,2\n\
+    step,2,0,child,n0.left,1,1\n\
+    step,3,0,settled,n1.head,13,13\n\
+    reply,0,0,1,3,3,none\n\
+    end,3,1,0,,,\n";
+
+const SET: &str = "limits,2,10,10,1\n0,set,1,left,70\n1,llx,1,,\nend,2,,,\n";
+
+/// The report of a set, and then another client's snapshot of the cell.
+const REPORT_OF_SET: &str = "\
+    report,1,records,,,,\n\
+    limits,2,10,10,1,,\n\
+    call,0,0,set,1,left,70\n\
+    call,1,0,llx,1,,\n\
+    step,1,0,marked,n1.marked,0,0\n\
+    step,2,0,info,n1.info,0,0\n\
+    step,3,0,state,s0.state,2,2\n\
+    step,4,0,marked,n1.marked,0,0\n\
+    step,5,0,child,n1.left,0,0\n\
+    step,6,0,child,n1.right,0,0\n\
+    step,7,0,info,n1.info,0,0\n\
+    step,8,0,fill,n9.value,0,70\n\
+    step,9,0,fill,s1.plan,0,1\n\
+    step,10,0,fill,s1.new,0,9\n\
+    step,11,0,fill,s1.old,0,0\n\
+    step,12,0,fill,s1.v0,0,1\n\
+    step,13,0,fill,s1.i0,0,0\n\
+    step,14,0,fill,s1.call,0,0\n\
+    step,15,0,settled,s1.plan,1,1\n\
+    step,16,0,settled,s1.v0,1,1\n\
+    step,17,0,settled,s1.i0,0,0\n\
+    step,18,0,freeze,n1.info,0,1\n\
+    step,19,0,frozen,s1.allfrozen,0,1\n\
+    step,20,0,settled,s1.new,9,9\n\
+    step,21,0,settled,s1.old,0,0\n\
+    step,22,0,update,n1.left,0,9\n\
+    log,1,22,s1,0,0,\n\
+    step,23,0,commit,s1.state,0,1\n\
+    reply,0,0,1,23,22,done\n\
+    step,24,1,marked,n1.marked,0,0\n\
+    step,25,1,info,n1.info,1,1\n\
+    step,26,1,state,s1.state,1,1\n\
+    step,27,1,marked,n1.marked,0,0\n\
+    step,28,1,child,n1.left,9,9\n\
+    step,29,1,child,n1.right,0,0\n\
+    step,30,1,info,n1.info,1,1\n\
+    reply,1,0,24,30,30,snap 9 0\n\
+    end,30,2,1,,,\n";
+
+/// Updates and a validation, two of them of cells without a snapshot.
+const UNLINKED: &str = "\
+    limits,1,10,10,1\n\
+    0,llx,1,,\n\
+    0,scx,1 2,,1 left 5\n\
+    0,llx,2,,\n\
+    0,scx,1 2,,1 left 5\n\
+    0,vlx,1,,\n\
+    end,5,,,\n";
+
+/// Their report, with turns that make no step.
+const REPORT_OF_UNLINKED: &str = "\
+    report,1,records,,,,\n\
+    limits,1,10,10,1,,\n\
+    call,0,0,llx,1,,\n\
+    call,0,1,scx,1 2,,1 left 5\n\
+    call,0,2,llx,2,,\n\
+    call,0,3,scx,1 2,,1 left 5\n\
+    call,0,4,vlx,1,,\n\
+    step,1,0,marked,n1.marked,0,0\n\
+    step,2,0,info,n1.info,0,0\n\
+    step,3,0,state,s0.state,2,2\n\
+    step,4,0,marked,n1.marked,0,0\n\
+    step,5,0,child,n1.left,0,0\n\
+    step,6,0,child,n1.right,0,0\n\
+    step,7,0,info,n1.info,0,0\n\
+    reply,0,0,1,7,7,snap 0 0\n\
+    step,8,0,idle,,,\n\
+    reply,0,1,8,8,,unlinked n2\n\
+    step,9,0,marked,n2.marked,0,0\n\
+    step,10,0,info,n2.info,0,0\n\
+    step,11,0,state,s0.state,2,2\n\
+    step,12,0,marked,n2.marked,0,0\n\
+    step,13,0,child,n2.left,0,0\n\
+    step,14,0,child,n2.right,0,0\n\
+    step,15,0,info,n2.info,0,0\n\
+    reply,0,2,9,15,15,snap 0 0\n\
+    step,16,0,fill,n9.value,0,5\n\
+    step,17,0,fill,s1.plan,0,2\n\
+    step,18,0,fill,s1.new,0,9\n\
+    step,19,0,fill,s1.old,0,0\n\
+    step,20,0,fill,s1.v0,0,1\n\
+    step,21,0,fill,s1.v1,0,2\n\
+    step,22,0,fill,s1.i0,0,0\n\
+    step,23,0,fill,s1.i1,0,0\n\
+    step,24,0,fill,s1.call,0,3\n\
+    step,25,0,settled,s1.plan,2,2\n\
+    step,26,0,settled,s1.v0,1,1\n\
+    step,27,0,settled,s1.i0,0,0\n\
+    step,28,0,freeze,n1.info,0,1\n\
+    step,29,0,settled,s1.v1,2,2\n\
+    step,30,0,settled,s1.i1,0,0\n\
+    step,31,0,freeze,n2.info,0,1\n\
+    step,32,0,frozen,s1.allfrozen,0,1\n\
+    step,33,0,settled,s1.new,9,9\n\
+    step,34,0,settled,s1.old,0,0\n\
+    step,35,0,update,n1.left,0,9\n\
+    log,1,35,s1,0,3,\n\
+    step,36,0,commit,s1.state,0,1\n\
+    reply,0,3,16,36,35,done\n\
+    step,37,0,idle,,,\n\
+    reply,0,4,37,37,,unlinked n1\n\
+    end,37,5,1,,,\n";
+
+/// One turn.
+fn turn<W: Write>(
+    rt: &impl Abort,
+    stream: &mut Stream,
+    client: PassNo,
+    to: &mut Metered<W>,
+) -> Result<Lines, StreamFault>
+    requires { client.0 < passes_of stream.old.core }
+    ensures { passes_of stream.new.core ≡ passes_of stream.old.core }
+{
+    assert!(rt; stream.steps() < u64::MAX);
+    stream.step(client, to)
+}
+
+/// The turns of a client until it has no call left. After a fault no more is written.
+fn finish(
+    rt: &impl Abort,
+    stream: &mut Stream,
+    client: PassNo,
+    to: &mut Metered<FailAt<Vec<u8>>>,
+) -> Result<(), StreamFault>
+    requires { client.0 < passes_of stream.old.core }
+    ensures { passes_of stream.new.core ≡ passes_of stream.old.core }
+{
+    for _ in 0..MOST_TURNS {
+        if !stream.has_call(client) {
+            break;
+        }
+        if let Err(fault) = turn(rt, stream, client, to) {
+            // It would take more bytes from here on, and gets none.
+            to.inner.left = usize::MAX;
+            let again = turn(rt, stream, client, to).err();
+            assert_eq!(rt; again, Some(StreamFault::Ended));
+            return Err(fault);
+        }
+    }
+    Ok(())
+}
+
+/// All clients finish, one after the other.
+fn write(
+    rt: &impl Abort,
+    alloc: Global,
+    script: &Script,
+    to: &mut Metered<FailAt<Vec<u8>>>,
+) -> Result<(), StreamFault> {
+    let mut stream = Stream::new(alloc, script, to)?;
+    for client in 0..script.layout.passes {
+        if let Err(fault) = finish(rt, &mut stream, PassNo(client), to) {
+            assert_eq!(rt; stream.end(to).err(), Some(StreamFault::Ended));
+            return Err(fault);
+        }
+    }
+    stream.end(to)
+}
+
+/// A writer fails at each byte of the report in turn.
+fn fails_at_each_byte(
+    rt: &impl Abort,
+    alloc: Global,
+    mode: Mode,
+    texts: (&str, &str),
+) -> Result<(), Fail> {
+    let script = read_script(alloc, mode, &mut Metered::new(texts.0.as_bytes()))?;
+    let whole = texts.1.as_bytes();
+    for bytes in 0..=whole.len() {
+        let mut to = Metered::new(FailAt::new(Vec::new(alloc), bytes));
+        let fault = write(rt, alloc, &script, &mut to).err();
+        let due = (bytes < whole.len()).then_some(StreamFault::Write);
+        assert_eq!(rt; fault, due, "after {bytes} bytes");
+        assert_eq!(rt; to.inner.inner.as_slice(), &whole[..bytes]);
+    }
+    Ok(())
+}
+
+#[test]
+fn a_cut_report_is_a_beginning_of_it(rt: HostRuntime) -> Result<(), Fail> {
+    fails_at_each_byte(&rt, rt.alloc(), Mode::Tree, (GET, REPORT_OF_GET))?;
+    fails_at_each_byte(&rt, rt.alloc(), Mode::Records, (SET, REPORT_OF_SET))?;
+    fails_at_each_byte(
+        &rt,
+        rt.alloc(),
+        Mode::Records,
+        (UNLINKED, REPORT_OF_UNLINKED),
+    )
+}
+
+#[test]
+fn a_stream_whose_turn_was_not_written_has_ended(rt: HostRuntime) -> Result<(), Fail> {
+    let script = read_script(rt.alloc(), Mode::Tree, &mut Metered::new(GET.as_bytes()))?;
+    let mut to = Metered::new(FailAt::new(Vec::new(rt.alloc()), 54));
+    let mut stream = Stream::new(rt.alloc(), &script, &mut to)?;
+    assert!(rt; script.layout.passes > 0);
+    let first = turn(&rt, &mut stream, PassNo(0), &mut to).err();
+    let second = turn(&rt, &mut stream, PassNo(0), &mut to).err();
+    assert_eq!(rt; first, Some(StreamFault::Write));
+    assert_eq!(rt; second, Some(StreamFault::Ended));
+    let beginning = "report,1,tree,,,,\nlimits,1,10,10,3,,\ncall,0,0,get,0,,\n";
+    assert_eq!(rt; to.inner.inner.as_slice(), beginning.as_bytes());
+    Ok(())
+}
+
+/// One client's turns until it has no call left. A turn for whose lines memory is refused is asked
+/// again.
+fn insist(
+    rt: &impl Abort,
+    stream: &mut Stream,
+    client: PassNo,
+    to: &mut Metered<Vec<u8>>,
+) -> Result<(), StreamFault>
+    requires { client.0 < passes_of stream.old.core }
+{
+    for _ in 0..MOST_TURNS {
+        if !stream.has_call(client) {
+            break;
+        }
+        if turn(rt, stream, client, to).err() == Some(StreamFault::NoMemory) {
+            turn(rt, stream, client, to)?;
+        }
+    }
+    Ok(())
+}
+
+/// Of interest where an allocation is refused, as `refused_growths/check_tests` does it: the report
+/// is whole but where its first rows or its last were refused, and then it is a beginning.
+#[test]
+fn a_refused_turn_is_asked_again(rt: HostRuntime) -> Result<(), Fail> {
+    let Ok(room) = Vec::with_capacity(rt.alloc(), 4096) else {
+        return Ok(());
+    };
+    let (mut to, mut text) = (Metered::new(room), Metered::new(UNLINKED.as_bytes()));
+    let script = match read_script(rt.alloc(), Mode::Records, &mut text) {
+        Ok(script) if script.layout.passes > 0 => script,
+        other => {
+            assert_eq!(rt; other.err(), Some(ScriptFault::NoMemory));
+            return Ok(());
+        }
+    };
+    let fault = match Stream::new(rt.alloc(), &script, &mut to) {
+        Ok(mut stream) => {
+            insist(&rt, &mut stream, PassNo(0), &mut to)?;
+            stream.end(&mut to).err()
+        }
+        Err(fault) => Some(fault),
+    };
+    let whole = REPORT_OF_UNLINKED.as_bytes();
+    match fault {
+        None => assert_eq!(rt; to.inner.as_slice(), whole),
+        Some(fault) => {
+            assert_eq!(rt; fault, StreamFault::NoMemory);
+            assert!(rt; whole.starts_with(to.inner.as_slice()));
+        }
+    }
+    Ok(())
+}
