@@ -15,7 +15,7 @@ use std::alloc::Global;
 pub type Numbers = Dict<u64, u64>;
 
 /// How many pairs a range tells at most.
-const MOST_PAIRS: usize = 64;
+pub const MOST_PAIRS: usize = 64;
 
 /// All rounds of a thread.
 pub fn rounds(
@@ -108,7 +108,7 @@ fn pop(forest: &Forest<Numbers>, pass: &mut Pass<Numbers>) -> Result<Option<u64>
 }
 
 /// Notes what a call has told of a value.
-fn told(reply: Result<Option<u64>, UpdateFault>, tally: &mut Tally) -> End
+pub fn told(reply: Result<Option<u64>, UpdateFault>, tally: &mut Tally) -> End
     ensures { total tally.new ≡ total tally.old }
 {
     match reply {
@@ -129,7 +129,7 @@ fn pair_word(pair: (u64, u64)) -> u64 {
 }
 
 /// Notes what a successor has told.
-fn told_pair(reply: Result<Option<(u64, u64)>, OrderFault>, tally: &mut Tally) -> End
+pub fn told_pair(reply: Result<Option<(u64, u64)>, OrderFault>, tally: &mut Tally) -> End
     ensures { total tally.new ≡ total tally.old }
 {
     match reply {
@@ -141,7 +141,7 @@ fn told_pair(reply: Result<Option<(u64, u64)>, OrderFault>, tally: &mut Tally) -
 }
 
 /// Notes what a range has told.
-fn told_pairs(reply: Result<Vec<(u64, u64)>, OrderFault>, tally: &mut Tally) -> End
+pub fn told_pairs(reply: Result<Vec<(u64, u64)>, OrderFault>, tally: &mut Tally) -> End
     ensures { total tally.new ≡ total tally.old }
 {
     match reply {

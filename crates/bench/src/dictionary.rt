@@ -17,7 +17,7 @@ use std::rt::Clock;
 use std::thread::{Threads, map_vec};
 
 /// How many pairs a pass puts into the map before the threads start.
-const PAIRS_OF_A_PASS: u32 = 10_000;
+pub const PAIRS_OF_A_PASS: u32 = 10_000;
 
 /// Makes a dictionary and fills it, and lets the threads work in it.
 pub fn run<R: Threads + Sync + Clock + AllocGlobal>(
@@ -38,7 +38,7 @@ pub fn run<R: Threads + Sync + Clock + AllocGlobal>(
 }
 
 /// How many passes fill the map.
-fn fillers(keys: u32) -> u32 {
+pub fn fillers(keys: u32) -> u32 {
     (keys / 2).div_ceil(PAIRS_OF_A_PASS)
 }
 

@@ -6,6 +6,7 @@ mod cells;
 mod dictionary;
 mod draws;
 mod fault;
+mod locked;
 mod measure;
 mod pair;
 mod program;

@@ -9,6 +9,7 @@ use crate::tally::Tally;
 use crate::task::Task;
 use std::fmt;
 use std::rt::Clock;
+use std::sync::Wait;
 use std::thread::Threads;
 
 /// The names of a row's fields.
@@ -55,12 +56,13 @@ impl fmt::Display for PerCall {
 impl fmt::Display for Measurement {
     fn fmt<W: fmt::Write>(&self, f: &mut fmt::Formatter<W>) -> fmt::Result {
         let (task, median, best, tally) = (self.task, self.median, self.best, self.tally);
-        write!(f, "regnubas,{task},{median},{best},{tally}")
+        let structure = task.work.structure();
+        write!(f, "{structure},{task},{median},{best},{tally}")
     }
 }
 
 /// Measures a task.
-pub fn measure<R: Threads + Sync + Clock + AllocGlobal>(
+pub fn measure<R: Threads + Wait + Sync + Clock + AllocGlobal>(
     rt: &R,
     task: Task,
 ) -> Result<Measurement, Fault> {

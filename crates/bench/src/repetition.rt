@@ -7,11 +7,12 @@ use crate::fault::Fault;
 use crate::tally::Tally;
 use crate::task::Task;
 use crate::work::Work;
-use crate::{cells, dictionary};
+use crate::{cells, dictionary, locked};
 use arena::Shape;
 use forest::{Forest, Pass};
 use std::alloc::{AllocError, Global};
 use std::rt::Clock;
+use std::sync::Wait;
 use std::thread::Threads;
 use std::time::Instant;
 
@@ -24,14 +25,15 @@ pub struct Repetition {
     pub tally: Tally,
 }
 
-/// Makes a forest, and lets the threads work in it. The making is not timed.
-pub fn run<R: Threads + Sync + Clock + AllocGlobal>(
+/// Makes a forest or a map, and lets the threads work in it. The making is not timed.
+pub fn run<R: Threads + Wait + Sync + Clock + AllocGlobal>(
     rt: &R,
     task: Task,
 ) -> Result<Repetition, Fault> {
     match task.work {
         Work::Cells(work) => cells::run(rt, task, work),
         Work::Tree(work) => dictionary::run(rt, task, work),
+        Work::Locked(work) => locked::run(rt, task, work),
     }
 }
 

@@ -49,10 +49,7 @@ pub fn tasks_of(alloc: Global, words: &[String]) -> Result<Vec<Task>, Fault> {
 
 fn asks_for(words: &[String], work: Work) -> bool {
     match words.get(1) {
-        Some(word) => {
-            let word = word.as_str();
-            word == "all" || word == work.kind() || word == work.name()
-        }
+        Some(word) => work.is_asked_by(word.as_str()),
         None => false,
     }
 }

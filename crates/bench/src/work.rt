@@ -10,6 +10,8 @@ pub enum Work {
     Cells(CellWork),
     /// A call of a dictionary.
     Tree(TreeWork),
+    /// The same call of a map behind a lock, as a measure for the dictionary.
+    Locked(TreeWork),
 }
 
 /// What a thread does with cells.
@@ -62,7 +64,7 @@ pub struct Bounds {
 
 impl Work {
     /// Each work once.
-    pub const ALL: [Work; 13] = [
+    pub const ALL: [Work; 22] = [
         Work::Cells(CellWork::Llx),
         Work::Cells(CellWork::Own),
         Work::Cells(CellWork::Two),
@@ -76,6 +78,15 @@ impl Work {
         Work::Tree(TreeWork::Replace),
         Work::Tree(TreeWork::Successor),
         Work::Tree(TreeWork::Range),
+        Work::Locked(TreeWork::Get),
+        Work::Locked(TreeWork::Mix { looks: 90 }),
+        Work::Locked(TreeWork::Mix { looks: 50 }),
+        Work::Locked(TreeWork::Mix { looks: 0 }),
+        Work::Locked(TreeWork::Insert),
+        Work::Locked(TreeWork::Pop),
+        Work::Locked(TreeWork::Replace),
+        Work::Locked(TreeWork::Successor),
+        Work::Locked(TreeWork::Range),
     ];
 
     /// The word of the command line that asks for all works of its kind.
@@ -83,21 +94,38 @@ impl Work {
         match self {
             Work::Cells(_) => "cells",
             Work::Tree(_) => "tree",
+            Work::Locked(_) => "mutex",
         }
     }
 
-    /// The word of the command line that asks for it.
+    /// What the work is done on.
+    pub fn structure(self) -> &'static str {
+        match self {
+            Work::Cells(_) | Work::Tree(_) => "regnubas",
+            Work::Locked(_) => "mutex",
+        }
+    }
+
+    /// The word of the command line that asks for it, if it is of cells or of a dictionary.
     pub fn name(self) -> &'static str {
         match self {
             Work::Cells(work) => work.name(),
-            Work::Tree(work) => work.name(),
+            Work::Tree(work) | Work::Locked(work) => work.name(),
+        }
+    }
+
+    /// Whether a word of the command line asks for it: by its name, its kind, or for all.
+    pub fn is_asked_by(self, word: &str) -> bool {
+        match self {
+            Work::Cells(_) | Work::Tree(_) if word == self.name() => true,
+            _ => word == "all" || word == self.kind(),
         }
     }
 
     pub fn bounds(self) -> Bounds {
         match self {
             Work::Cells(work) => work.bounds(),
-            Work::Tree(work) => work.bounds(),
+            Work::Tree(work) | Work::Locked(work) => work.bounds(),
         }
     }
 }

@@ -1,0 +1,227 @@
+//! One repetition on a map behind a lock, as a measure for the dictionary.
+ghost use Rattle.std.specs.Prelude.{◌≡◌, ◌≤◌};
+ghost use Rattle.bench.specs.Tally.{total};
+
+use crate::call::{MOST_PAIRS, told, told_pair, told_pairs};
+use crate::dictionary::{PAIRS_OF_A_PASS, fillers};
+use crate::draws::Draws;
+use crate::fault::Fault;
+use crate::repetition::{Repetition, nanos_since, now, sum};
+use crate::tally::{End, Tally};
+use crate::task::Task;
+use crate::work::TreeWork;
+use arena::Limits;
+use forest::OrderFault;
+use std::alloc::{AllocError, Global};
+use std::collections::BTreeMap;
+use std::ops::Bound;
+use std::rt::Clock;
+use std::sync::{Mutex, Wait};
+use std::thread::{Threads, map_vec};
+
+/// A map that one thread at a time has.
+type Locked = Mutex<BTreeMap<u64, u64>>;
+
+/// Makes a map and fills it, and lets the threads work in it, by the same draws as in a dictionary.
+pub fn run<R: Threads + Wait + Sync + Clock + AllocGlobal>(
+    rt: &R,
+    task: Task,
+    work: TreeWork,
+) -> Result<Repetition, Fault> {
+    let map = Mutex::new(half_full(rt.alloc(), task.keys)?);
+    let numbers = numbers(rt.alloc(), task.threads)?;
+    let start = now(rt)?;
+    let tallies = crowd(rt, rt.alloc(), &map, task, work, numbers)?;
+    let nanos = nanos_since(rt, start)?;
+    Ok(Repetition {
+        nanos,
+        tally: sum(&tallies),
+    })
+}
+
+/// A map with half of so many keys: the pairs that a dictionary has at the start.
+fn half_full(alloc: Global, keys: u32) -> Result<BTreeMap<u64, u64>, Fault>
+    requires { 1 ≤ keys }
+{
+    let mut map = BTreeMap::new(alloc);
+    let mut left = keys / 2;
+    for stream in 0..fillers(keys) {
+        let pairs = left.min(PAIRS_OF_A_PASS);
+        fill(&mut map, Draws::of(stream), keys, pairs)?;
+        left -= pairs;
+    }
+    Ok(map)
+}
+
+/// Puts so many fresh keys of those that are drawn into the map.
+fn fill(
+    map: &mut BTreeMap<u64, u64>,
+    mut draws: Draws,
+    keys: u32,
+    mut pairs: u32,
+) -> Result<(), AllocError>
+    requires { 1 ≤ keys }
+{
+    for _draw in 0..u32::MAX {
+        if pairs == 0 {
+            return Ok(());
+        }
+        let key = draws.below(u64::from(keys));
+        if map.insert(key, key)?.is_none() {
+            pairs -= 1;
+        }
+    }
+    Ok(())
+}
+
+/// The numbers of the threads.
+fn numbers(alloc: Global, threads: u32) -> Result<Vec<u32>, AllocError> {
+    let mut numbers = Vec::new(alloc);
+    for number in 0..threads {
+        numbers.push(number)?;
+    }
+    Ok(numbers)
+}
+
+/// Each number is that of a thread of its own.
+fn crowd<R: Threads + Wait + Sync>(
+    rt: &R,
+    alloc: Global,
+    map: &Locked,
+    task: Task,
+    work: TreeWork,
+    numbers: Vec<u32>,
+) -> Result<Vec<Tally>, AllocError> {
+    map_vec(
+        rt,
+        numbers,
+        &|number: u32| {
+            let draws = Draws::of(number.wrapping_add(Limits::MOST_PASSES));
+            rounds(rt, alloc, map, task, work, draws)
+        },
+    )
+}
+
+/// All rounds of a thread.
+fn rounds<R: Wait>(
+    rt: &R,
+    alloc: Global,
+    map: &Locked,
+    task: Task,
+    work: TreeWork,
+    mut draws: Draws,
+) -> Tally
+    ensures { total result ≡ task.calls }
+{
+    let mut tally = Tally::default();
+    for call in 0..task.calls {
+        let key = draws.below(u64::from(task.keys));
+        let chance = chance_of(work, &mut draws);
+        let pair = (key, u64::from(call));
+        let end = round(rt, alloc, map, work, chance, pair, &mut tally);
+        tally.count(end);
+    }
+    tally
+}
+
+/// What decides which call a round of a mixed work makes.
+fn chance_of(work: TreeWork, draws: &mut Draws) -> u64 {
+    match work {
+        TreeWork::Mix { .. } => draws.below(100),
+        _ => 0,
+    }
+}
+
+/// A round, in which this pair may be put in.
+fn round<R: Wait>(
+    rt: &R,
+    alloc: Global,
+    map: &Locked,
+    work: TreeWork,
+    chance: u64,
+    pair: (u64, u64),
+    tally: &mut Tally,
+) -> End
+    ensures { total tally.new ≡ total tally.old }
+{
+    match work {
+        TreeWork::Successor => {
+            let found = behind(&map.lock(rt), pair.0);
+            told_pair(Ok(found), tally)
+        }
+        TreeWork::Range => {
+            let found = pairs_from(alloc, &map.lock(rt), pair.0);
+            told_pairs(found.map_err(|_| OrderFault::NoMemory), tally)
+        }
+        _ => {
+            let reply = call(&mut map.lock(rt), work, chance, pair);
+            match reply {
+                Ok(value) => told(Ok(value), tally),
+                Err(_) => End::Fail,
+            }
+        }
+    }
+}
+
+/// A call of one key, or of the first pair.
+fn call(
+    map: &mut BTreeMap<u64, u64>,
+    work: TreeWork,
+    chance: u64,
+    pair: (u64, u64),
+) -> Result<Option<u64>, AllocError> {
+    let (key, value) = pair;
+    match work {
+        TreeWork::Mix { looks } => mix(map, chance, pair, looks),
+        TreeWork::Insert => Ok(map.insert(key, value)?),
+        TreeWork::Pop => Ok(map.pop_first().map(|(key, value)| key.wrapping_add(value))),
+        TreeWork::Replace => Ok(replace(map, key)),
+        _ => Ok(map.get(&key).copied()),
+    }
+}
+
+/// Looks a key up in so many of a hundred rounds; else puts it in or takes it out.
+fn mix(
+    map: &mut BTreeMap<u64, u64>,
+    chance: u64,
+    pair: (u64, u64),
+    looks: u64,
+) -> Result<Option<u64>, AllocError> {
+    let half = 100_u64.saturating_sub(looks) / 2;
+    if chance < looks {
+        Ok(map.get(&pair.0).copied())
+    } else if chance - looks < half {
+        Ok(map.insert(pair.0, pair.1)?)
+    } else {
+        Ok(map.remove(&pair.0))
+    }
+}
+
+/// Gives a key the value that it has had from the start once more, if it is there.
+fn replace(map: &mut BTreeMap<u64, u64>, key: u64) -> Option<u64> {
+    let value = map.get_mut(&key)?;
+    let old = *value;
+    if old == key {
+        *value = key;
+    }
+    Some(old)
+}
+
+/// The pair behind a key.
+fn behind(map: &BTreeMap<u64, u64>, key: u64) -> Option<(u64, u64)> {
+    let bounds = (Bound::Excluded(key), Bound::Unbounded);
+    map.range(bounds).next().map(|(key, value)| (*key, *value))
+}
+
+/// The first 64 pairs from a key on.
+fn pairs_from(
+    alloc: Global,
+    map: &BTreeMap<u64, u64>,
+    key: u64,
+) -> Result<Vec<(u64, u64)>, AllocError> {
+    let mut pairs = Vec::new(alloc);
+    for (key, value) in map.range(key..).take(MOST_PAIRS) {
+        pairs.push((*key, *value))?;
+    }
+    Ok(pairs)
+}

@@ -1,0 +1,137 @@
+//! A scheduler: three threads take the job that is due first out of a queue, and no two the same.
+#![tactic(auto)]
+
+mod due;
+
+ghost use Rattle.std.specs.Prelude.{IfOk};
+ghost use Rattle.std.specs.List.{All};
+ghost use Rattle.regnubas.specs.Passes.{IsOf};
+
+use anyhow::Result;
+use due::Due;
+use regnubas::{Dict, Forest, Limits, Pass, UpdateFault};
+use std::alloc::{AllocError, Global};
+use std::sync::atomic::{AtomicU64, Ordering};
+use std::thread::{Threads, map_vec};
+
+/// From when a job is due to how often it is still to run.
+type Queue = Dict<Due, u32>;
+
+/// A pass for each thread. A job that is put in takes three nodes, one that is taken out another.
+const LIMITS: Limits = Limits {
+    passes: 3,
+    nodes: 1000,
+    scx: 300,
+    tries: 100,
+};
+
+/// When each job is due first, and how often it is to run.
+const JOBS: [(u32, u32); 5] = [(30, 1), (10, 6), (20, 4), (10, 12), (15, 2)];
+
+/// How long after a run a job is due again.
+const PERIOD: u32 = 10;
+
+/// Puts a job in. Answers whether the share of this pass has had room for it.
+fn put(queue: &Forest<Queue>, pass: &mut Pass<Queue>, due: Due, times: u32) -> bool
+    requires { IsOf queue.now pass.old }
+    ensures { IsOf queue.now pass.new }
+{
+    for _ask in 0..1000 {
+        match queue.insert(pass, due, times) {
+            Ok(_old) => return true,
+            Err(UpdateFault::Contended { .. }) => {}
+            Err(UpdateFault::Full(_)) => return false,
+        }
+    }
+    false
+}
+
+/// Puts all jobs in.
+fn fill(queue: &Forest<Queue>, mut pass: Pass<Queue>) -> Pass<Queue>
+    requires { IsOf queue.now pass }
+    ensures { IsOf queue.now result }
+{
+    let mut job = 0;
+    for (at, times) in JOBS {
+        put(queue, &mut pass, Due { at, job }, times);
+        job = job.wrapping_add(1);
+    }
+    pass
+}
+
+/// The last pass puts all jobs in, before the threads start.
+fn filled(queue: &Forest<Queue>, mut passes: Vec<Pass<Queue>>) -> Result<Vec<Pass<Queue>>>
+    requires { All (IsOf queue.now) passes.items }
+    ensures { IfOk result (λ ps. All (IsOf queue.now) ps.items) }
+{
+    let Some(own) = passes.pop() else {
+        return Ok(passes);
+    };
+    passes.push(fill(queue, own))?;
+    Ok(passes)
+}
+
+/// Runs a job, which here is counted alone, and puts it in again if it is to run once more.
+fn run(queue: &Forest<Queue>, pass: &mut Pass<Queue>, runs: &[AtomicU64], due: Due, times: u32)
+    requires { IsOf queue.now pass.old }
+    ensures { IsOf queue.now pass.new }
+{
+    if let Some(count) = runs.get(due.job as usize) {
+        count.fetch_add(1, Ordering::SeqCst);
+    }
+    if times > 1 {
+        let at = due.at.wrapping_add(PERIOD);
+        put(queue, pass, Due { at, job: due.job }, times - 1);
+    }
+}
+
+/// What a thread does with its pass: it takes jobs out and runs them until there is none. A job that
+/// another thread is running may be put in again after that, and then that thread takes it.
+fn work(queue: &Forest<Queue>, mut pass: Pass<Queue>, runs: &[AtomicU64]) -> Pass<Queue>
+    requires { IsOf queue.now pass }
+    ensures { IsOf queue.now result }
+{
+    for _turn in 0..10_000 {
+        match queue.pop_first(&mut pass) {
+            Ok(Some((due, times))) => run(queue, &mut pass, runs, due, times),
+            Ok(None) => return pass,
+            Err(UpdateFault::Contended { .. }) => {}
+            Err(UpdateFault::Full(_)) => return pass,
+        }
+    }
+    pass
+}
+
+/// All threads work, and come back with their passes.
+fn work_all<R: Threads + Sync>(
+    rt: &R,
+    queue: &Forest<Queue>,
+    passes: Vec<Pass<Queue>>,
+    runs: &[AtomicU64],
+) -> Result<Vec<Pass<Queue>>, AllocError>
+    requires { All (IsOf queue.now) passes.items }
+    ensures { IfOk result (λ ps. All (IsOf queue.now) ps.items) }
+{
+    map_vec(rt, passes, &|pass| work(queue, pass, runs))
+}
+
+/// How often each job has run.
+fn counts<R: Threads + Sync>(rt: &R, alloc: Global) -> Result<Vec<AtomicU64>> {
+    let mut runs = Vec::new(alloc);
+    for _job in JOBS {
+        runs.push(AtomicU64::new(0))?;
+    }
+    let (queue, passes) = Forest::<Queue>::new(alloc, LIMITS)?;
+    let passes = filled(&queue, passes)?;
+    work_all(rt, &queue, passes, &runs)?;
+    Ok(runs)
+}
+
+fn main(rt: HostRuntime) -> Result<()> {
+    let runs = counts(&rt, rt.alloc())?;
+    for (job, count) in runs.iter().enumerate() {
+        let count = count.load(Ordering::SeqCst);
+        println!(rt; "job {job}: {count}")?;
+    }
+    Ok(())
+}
