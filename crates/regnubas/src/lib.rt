@@ -1,5 +1,39 @@
 //! An ordered dictionary that many threads read and change without locks, and the primitives that it
 //! is made of: all that a program names, and nothing else. `docs/USING.md` says how to use it.
+//!
+//! A dictionary from numbers to numbers, whose calls take a pass of it each:
+//!
+//!     let limits = Limits { passes: 2, nodes: 300, scx: 100, tries: 100 };
+//!     let (map, passes) = Forest::<Dict<u64, u64>>::new(alloc, limits)?;
+//!     map.insert(&mut pass, 5, 50)?             // None: the key had no value
+//!     map.replace_if(&mut pass, 5, &50, 51)?    // Some(50): so it has 51 now
+//!     map.get(&mut pass, &5)                    // Some(51)
+//!     map.successor(alloc, &mut pass, &4)?      // Some((5, 51))
+//!     map.range(alloc, &mut pass, &0, &9, 64)?  // [(5, 51)]
+//!     map.pop_first(&mut pass)?                 // Some((5, 51)), and the map is empty
+//!     map.delete(&mut pass, &5)?                // None
+//!     pass.number()                             // PassNo(0)
+//!     pass.left()                               // (295, 97): nodes and SCX-records
+//!     map.meet(&mut pass, &mut other)           // each knows what both knew
+//!     map.all_back(&passes)                     // true: no pass is missing, so it can be closed
+//!     map.close(passes).pairs(alloc)?           // []
+//!
+//! A call one atomic step at a time; here of the empty map, whose root has one leaf on its left:
+//!
+//!     let mut call = map.open(alloc, pass, Request::Get { key: 5 });
+//!     call.step(&map)                           // Stepped::More(Kind::LoadSettled)
+//!     call.step(&map)                           // Stepped::More(Kind::LoadChild)
+//!     call.step(&map)                           // Stepped::Done(Some(Kind::LoadSettled))
+//!     call.finish()                             // (pass, Reply::Value(None))
+//!
+//! Cells, of which 1 to 8 are there at the start:
+//!
+//!     let (cells, passes) = Forest::<Cells>::new(alloc, limits)?;
+//!     cells.llx(&mut pass, NodeNo(1))           // Llx::Snapshot(snap): both fields are 0
+//!     cells.vlx(&mut pass, &[snap])             // Vlx::Same
+//!     cells.scx(&mut pass, &[snap], &[], (NodeNo(1), Side::Left), 7)?
+//!                                               // Scx::Done: its left field is the fresh cell 9
+//!     cells.close(passes).cell(NodeNo(1))       // Some((9, 0))
 #![tactic(auto)]
 
 pub use arena::{
