@@ -32,7 +32,7 @@ use Rattle.report.specs.Streams.{HasWritten, IsCutAt, text_so_far}
 use Rattle.report.specs.declared.stream.Stream.{Stream}
 use Rattle.report.specs.declared.stream.StreamFault.{StreamFault}
 use Rattle.report.specs.declared.stream.StreamFault.TheVariants.{Ended}
-use Rattle.program.specs.Followed.{AreFollowedSoFar, HasFollowed, HasStopped, IsFollowedSoFar, MayTurn, counting, wanted_of}
+use Rattle.program.specs.Followed.{AreFollowedSoFar, HasFollowed, HasBrokenOff, IsFollowedSoFar, MayTurn, counting, wanted_of}
 
 -- One turn
 
@@ -224,7 +224,7 @@ client_within passes (Until client kind times) x = x.0
 client_within passes (Finish client) x = x
 
 -- before a turn
-pub stopped_before : (stream : Stream) (old new : Option (List ℕ)) (order : Order) (p : PlayerView) (left : ℕ) → IsUnderWay stream old new order p left → HasStopped old new p (IsFollowedSoFar p.script.calls order p.lines)
+pub stopped_before : (stream : Stream) (old new : Option (List ℕ)) (order : Order) (p : PlayerView) (left : ℕ) → IsUnderWay stream old new order p left → HasBrokenOff old new p (IsFollowedSoFar p.script.calls order p.lines)
 stopped_before stream old new order p left x = record {
   later = x.later;
   script = x.turns.script;
@@ -234,10 +234,10 @@ stopped_before stream old new order p left x = record {
 }
 
 -- in one: before its lines, where the stream goes on, or in these
-pub stopped_in : (stream next : Stream) (old mid new : Option (List ℕ)) (order : Order) (p : PlayerView) (left i : ℕ) (x : IsUnderWay stream old mid order p left) → (next.ended ≡ false → HasWritten next old new x.later) → (IsTrue next.ended → IsCutAt old new x.later i) → HasStopped old new p (IsFollowedSoFar p.script.calls order p.lines)
+pub stopped_in : (stream next : Stream) (old mid new : Option (List ℕ)) (order : Order) (p : PlayerView) (left i : ℕ) (x : IsUnderWay stream old mid order p left) → (next.ended ≡ false → HasWritten next old new x.later) → (IsTrue next.ended → IsCutAt old new x.later i) → HasBrokenOff old new p (IsFollowedSoFar p.script.calls order p.lines)
 stopped_in stream next old mid new order p left i x unchanged cut = go next.ended refl
   where
-    go : (ended : Bool) → next.ended ≡ ended → HasStopped old new p (IsFollowedSoFar p.script.calls order p.lines)
+    go : (ended : Bool) → next.ended ≡ ended → HasBrokenOff old new p (IsFollowedSoFar p.script.calls order p.lines)
     go false e = stopped_before next old new order p left record { later = x.later; written = unchanged e; turns = x.turns; counts = x.counts }
     go true e = record {
       later = x.later;
@@ -289,7 +289,7 @@ pub behind_last : (stream : Stream) (old new : Option (List ℕ)) (p : PlayerVie
 behind_last stream old new p orders x = record { later = x.later; script = x.script; asked = x.ordered x.later.lines refl; written = x.written }
 
 -- in the next one
-pub stopped_in_next : (stream : Stream) (old mid new : Option (List ℕ)) (p : PlayerView) (orders left : List Order) (order : Order) (x : IsBetweenOrders stream old mid p orders (order ∷ left)) → HasStopped old new x.later (IsFollowedSoFar x.later.script.calls order x.later.lines) → HasStopped old new p (AreFollowedSoFar p.script.calls orders p.lines)
+pub stopped_in_next : (stream : Stream) (old mid new : Option (List ℕ)) (p : PlayerView) (orders left : List Order) (order : Order) (x : IsBetweenOrders stream old mid p orders (order ∷ left)) → HasBrokenOff old new x.later (IsFollowedSoFar x.later.script.calls order x.later.lines) → HasBrokenOff old new p (AreFollowedSoFar p.script.calls orders p.lines)
 stopped_in_next stream old mid new p orders left order x y =
     let begun : IsFollowedSoFar p.script.calls order x.later.lines y.later.lines = rw x.script at y.asked in
     record { later = y.later; script = y.script ∙ x.script; asked = x.so_far y.later.lines (inl begun); played = y.played; text = y.text }

@@ -10,7 +10,7 @@ ghost use Rattle.player.specs.Core.{IsNextTurn, StandsAt, passes_of, with_lines}
 ghost use Rattle.player.specs.Lines.{turn_lines};
 ghost use Rattle.player.specs.Player.{IsPlayed, PlayerView};
 ghost use Rattle.report.specs.Streams.{HasWritten};
-ghost use Rattle.program.specs.Followed.{AreFollowedSoFar, HasFollowed, HasStopped, IsFollowedSoFar, MayTurn, counting, wanted_of};
+ghost use Rattle.program.specs.Followed.{AreFollowedSoFar, HasFollowed, HasBrokenOff, IsFollowedSoFar, MayTurn, counting, wanted_of};
 
 use arena::{Kind, PassNo};
 use record::Line;
@@ -30,7 +30,7 @@ pub(crate) fn follow<W: Write>(
     ensures followed { (start : Option (List ℕ)) (p : PlayerView) → HasWritten stream.old start (W.contents to.old.inner) p →
         OnOk result (HasFollowed stream.new start (W.contents to.new.inner) p (AreOrdered p.script.calls orders.now p.lines)) }
     ensures stopped { (start : Option (List ℕ)) (p : PlayerView) → HasWritten stream.old start (W.contents to.old.inner) p →
-        OnErr result (HasStopped start (W.contents to.new.inner) p (AreFollowedSoFar p.script.calls orders.now p.lines)) }
+        OnErr result (HasBrokenOff start (W.contents to.new.inner) p (AreFollowedSoFar p.script.calls orders.now p.lines)) }
     ensures not_ended { (start : Option (List ℕ)) (p : PlayerView) → HasWritten stream.old start (W.contents to.old.inner) p →
         result ≢ Err StreamFault.Ended }
     ensures ok { OnOk result (to.new.failures ≡ to.old.failures) }
@@ -50,7 +50,7 @@ fn obey<W: Write>(stream: &mut Stream, order: Order, to: &mut Metered<W>) -> Res
     ensures obeyed { (start : Option (List ℕ)) (p : PlayerView) → HasWritten stream.old start (W.contents to.old.inner) p →
         OnOk result (HasFollowed stream.new start (W.contents to.new.inner) p (IsOrdered p.script.calls order p.lines)) }
     ensures stopped { (start : Option (List ℕ)) (p : PlayerView) → HasWritten stream.old start (W.contents to.old.inner) p →
-        OnErr result (HasStopped start (W.contents to.new.inner) p (IsFollowedSoFar p.script.calls order p.lines)) }
+        OnErr result (HasBrokenOff start (W.contents to.new.inner) p (IsFollowedSoFar p.script.calls order p.lines)) }
     ensures not_ended { (start : Option (List ℕ)) (p : PlayerView) → HasWritten stream.old start (W.contents to.old.inner) p →
         result ≢ Err StreamFault.Ended }
     ensures ok { OnOk result (to.new.failures ≡ to.old.failures) }
