@@ -1,5 +1,6 @@
 //! An ordered dictionary that many threads read and change without locks, and the primitives that it
 //! is made of: all that a program names, and nothing else. `docs/USING.md` says how to use it.
+#![tactic(auto)]
 //!
 //! A dictionary from numbers to numbers, whose calls take a pass of it each:
 //!
@@ -34,7 +35,6 @@
 //!     cells.scx(&mut pass, &[snap], &[], (NodeNo(1), Side::Left), 7)?
 //!                                               // Scx::Done: its left field is the fresh cell 9
 //!     cells.close(passes).cell(NodeNo(1))       // Some((9, 0))
-#![tactic(auto)]
 
 pub use arena::{
     BadLimits, Full, Kind, Limits, NoMemory, NodeNo, PassNo, Resource, ScxNo, Shape, Side,
