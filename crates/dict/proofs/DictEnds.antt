@@ -43,7 +43,7 @@ module _ (keys values : ℕ → Type 0) where
         subst (IsTypedReply keys values) x.gives (reply_typed keys values call x.map (map_typed x.made.before x.map within x.spelled))
 
     read_typed : (call : MapCall) (told : MapReply) → HasReadMap c h call told → IsTypedReply keys values told
-    read_typed call told x = subst (IsTypedReply keys values) x.gives (reply_typed keys values call x.map (map_typed x.moment x.map x.within x.spelled))
+    read_typed call told x = subst (IsTypedReply keys values) x.read.gives (reply_typed keys values call x.read.map (map_typed x.read.moment x.read.map x.read.within x.read.spelled))
 
     by_typed : (made : Option MapEdit) (call : MapCall) (told : MapReply) → HasToldBy made c h call told → IsTypedReply keys values told
     by_typed (Some edit) call told x = changed_typed call told edit x
@@ -59,7 +59,7 @@ module _ (c : Call) (h : History) where
   -- what is told a map replies
   told_by : (made : Option MapEdit) (call : MapCall) (told : MapReply) → HasToldBy made c h call told → (map : List Pair) × (reply call map ≡ told)
   told_by (Some edit) call told x = (x.map, x.gives)
-  told_by None call told x = (x.map, x.gives)
+  told_by None call told x = (x.read.map, x.read.gives)
 
   -- a call that tells pairs keeps lists, and has entered nothing
   keeps : (call : MapCall) (ps : List Pair) → HasTold c h call (ManyPairs ps) → KeepsLists call × HasEnteredNone c.layout c.pass h c.start

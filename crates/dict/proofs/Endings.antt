@@ -18,7 +18,7 @@ use Rattle.ordered_map.specs.Runs.{IsTreeRun}
 use Rattle.ordered_map.specs.Spelled.{Spells}
 use Rattle.ordered_map.specs.declared.pair.Pair.{Pair}
 use Rattle.ordered_map.proofs.Lemmas.{run_since, run_spells}
-use Rattle.template.specs.Blame.{HasLostTriesTo}
+use Rattle.template.specs.Blame.{IsContended, HasLostTriesTo}
 use Rattle.template.specs.FoundLeaf.{asked_key, HasFoundGoal}
 use Rattle.template.specs.Tries.{tries_since, HasTriedAtMost, HasTriedAllBut}
 use Rattle.template.proofs.Lemmas.{tried_few}
@@ -86,6 +86,13 @@ module _ (tries : ℕ) (c : Call) (h : History) where
   lost : {limit n s : ℕ} → limit ≡ tries → HasLostTriesTo c.pass h c.start limit n s → HasLostTriesTo c.pass h c.start tries n s
   lost {limit} {n} {s} e x = subst (λ k. HasLostTriesTo c.pass h c.start k n s) e x
 
+  -- so it is of a call that only reads, which needs nothing
+  read_lost : (call : MapCall) {limit n s : ℕ} → limit ≡ tries → most_nodes call ≡ 0 → IsContended c h n s → HasLostTriesTo c.pass h c.start limit n s → HasEnteredNone c.layout c.pass h c.start → HasLost c h call tries n s
+  read_lost call limit reads way all none = record {
+    lost = record { others = way.others; all = lost limit all; over_or_new = way.over_or_new; needed = λ some. absurd (omega (arith, some, reads)) };
+    none = none;
+  }
+
   module _ (k : EditKind) (is : IsEditKind k) (m : UpdateRun k.E UpdateAt) (run : IsTreeRun c.layout h) (small : IsSmallCall (k.call m.edit)) where
     abbrev call : MapCall
     call = k.call m.edit
@@ -111,7 +118,7 @@ module _ (tries : ℕ) (c : Call) (h : History) where
 
     -- one that has lost all its tries had something to do in the newest
     edit_lost : (n s : ℕ) → m.limit ≡ tries → HasLostEveryTry k.means m.edit c h m.limit n s → HasLost c h call tries n s
-    edit_lost n s limit x = subst (λ t. HasLost c h call t n s) limit record { way = x.way; all = x.all; needed = λ some. needed; none = x.none }
+    edit_lost n s limit x = subst (λ t. HasLost c h call t n s) limit record { lost = record { others = x.way.others; all = x.all; over_or_new = x.way.over_or_new; needed = λ some. needed }; none = x.none }
       where
         begin : History
         begin = x.all.lost.begin
@@ -137,7 +144,7 @@ module _ (tries : ℕ) (c : Call) (h : History) where
   -- so has a successor
   pub successor_says : (m : SuccessorRun) (share : Remaining) (a : Result (Option Pair) Refused) → HasRested c h share → m.limit ≡ tries → SuccessorAnswers m c h a → WordSays c h (SuccessorOf m.key) share tries (successor_reply a)
   successor_says m share (Ok found) x limit y = (reply_read c h (SuccessorOf m.key) (pair_or_none found) refl y.1 (none_entered c h share x), tt)
-  successor_says m share (Err (refused.Contended node scx)) x limit y = (tt, record { way = y.1.0; all = lost limit y.1.2; needed = λ some. absurd (omega (arith, some)); none = none_entered c h share x })
+  successor_says m share (Err (refused.Contended node scx)) x limit y = (tt, read_lost (SuccessorOf m.key) limit refl y.1.0 y.1.2 (none_entered c h share x))
   successor_says m share (Err refused.NoMemory) x limit y = (tt, (tt, none_entered c h share x))
 
   -- and a range, or it tells what every map replies
@@ -146,7 +153,7 @@ module _ (tries : ℕ) (c : Call) (h : History) where
     where
       none : HasEnteredNone c.layout c.pass h c.start
       none = none_entered c h share x
-  range_says m share (Err (refused.Contended node scx)) x limit y = (tt, record { way = y.1.0; all = lost limit y.1.2; needed = λ some. absurd (omega (arith, some)); none = none_entered c h share x })
+  range_says m share (Err (refused.Contended node scx)) x limit y = (tt, read_lost (RangeOf m.low m.high m.most) limit refl y.1.0 y.1.2 (none_entered c h share x))
   range_says m share (Err refused.NoMemory) x limit y = (tt, (tt, none_entered c h share x))
 
 -- What is gone of the share

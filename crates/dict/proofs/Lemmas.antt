@@ -3,3 +3,4 @@
 pub use Rattle.dict.proofs.Ends.{edit_goes, edit_ends, get_ends, successor_ends, range_ends}
 pub use Rattle.dict.proofs.DictEnds.{dict_ends}
 pub use Rattle.dict.proofs.AskedKinds.{asks_inside, kind_inside}
+pub use Rattle.dict.proofs.Undisturbed.{was_contended}

@@ -44,36 +44,40 @@ module _ (c : Call) (h : History) where
   -- what was the answer at a moment behind an own one was read in the call
   pub answer_read : (first : History) (key : ℕ) (answer : Option ℕ) → IsOwnMoment c first → IsAnswerAt c.layout h first key answer → HasEnteredNone c.layout c.pass h c.start → HasReadMap c h (Get key) (OneValue answer)
   answer_read first key answer own x none = record {
-    moment = x.moment;
-    within = x.within;
-    since = ends_trans x.moment first c.start x.since (own_since c first own);
-    own = λ _. behind_own x.moment first own x.since;
-    map = x.map;
-    spelled = x.spelled;
-    gives = ap OneValue x.gives;
+    read = record {
+      moment = x.moment;
+      within = x.within;
+      since = ends_trans x.moment first c.start x.since (own_since c first own);
+      own = λ _. behind_own x.moment first own x.since;
+      map = x.map;
+      spelled = x.spelled;
+      gives = ap OneValue x.gives;
+      only_looked = λ some. absurd (omega (arith, some));
+    };
     none = none;
-    only_looked = λ some. absurd (omega (arith, some));
   }
 
   -- so was what an ordered read has replied
   pub reply_read : (call : MapCall) (told : MapReply) → most_nodes call ≡ 0 → IsReplyAt c h call told → HasEnteredNone c.layout c.pass h c.start → HasReadMap c h call told
   reply_read call told reads x none = record {
-    moment = x.moment;
-    within = x.within;
-    since = own_since c x.moment x.own;
-    own = λ _. behind_own x.moment x.moment x.own (ends_self x.moment);
-    map = x.map;
-    spelled = x.spelled;
-    gives = x.gives;
+    read = record {
+      moment = x.moment;
+      within = x.within;
+      since = own_since c x.moment x.own;
+      own = λ _. behind_own x.moment x.moment x.own (ends_self x.moment);
+      map = x.map;
+      spelled = x.spelled;
+      gives = x.gives;
+      only_looked = λ some. absurd (omega (arith, some, reads));
+    };
     none = none;
-    only_looked = λ some. absurd (omega (arith, some, reads));
   }
 
   -- and what every map replies, of a range that takes no pair
   pub always_read : (call : MapCall) (told : MapReply) → most_nodes call ≡ 0 → IsTreeRun c.layout h → Extends h c.start → ¬ AsksForPairs call → ((map : List Pair) → reply call map ≡ told) → HasEnteredNone c.layout c.pass h c.start → HasReadMap c h call told
   always_read call told reads run since asks_not gives none =
       let map : (ps : List Pair) × Spells c.layout (value h) ps = run_spells c.layout h run in
-      record { moment = h; within = ends_self h; since = since; own = λ asks. absurd (asks_not asks); map = map.0; spelled = map.1; gives = gives map.0; none = none; only_looked = λ some. absurd (omega (arith, some, reads)) }
+      record { read = record { moment = h; within = ends_self h; since = since; own = λ asks. absurd (asks_not asks); map = map.0; spelled = map.1; gives = gives map.0; only_looked = λ some. absurd (omega (arith, some, reads)) }; none = none }
 
   -- the leaf that was found tells what the map replied at a moment of the call
   pub leaf_read : (call : MapCall) (goal : Goal) (f : Found) → ((map : List Pair) → reply call map ≡ goal_told goal map) → path_key goal < 2 ^ 64 → IsTreeRun c.layout h → HasFoundGoal goal c h f → HasEnteredNone c.layout c.pass h c.start → HasOnlyLooked c.pass h c.start → HasReadMap c h call (leaf_told goal f)
@@ -82,15 +86,17 @@ module _ (c : Call) (h : History) where
       let own = found.trail.node.own in
       let x = found_tells goal c h f small run found in
       record {
-        moment = x.moment;
-        within = x.within;
-        since = ends_trans x.moment first c.start x.since (own_since c first own);
-        own = λ _. behind_own x.moment first own x.since;
-        map = x.map;
-        spelled = x.spelled;
-        gives = walks x.map ∙ x.gives;
+        read = record {
+          moment = x.moment;
+          within = x.within;
+          since = ends_trans x.moment first c.start x.since (own_since c first own);
+          own = λ _. behind_own x.moment first own x.since;
+          map = x.map;
+          spelled = x.spelled;
+          gives = walks x.map ∙ x.gives;
+          only_looked = λ some. only_looked;
+        };
         none = none;
-        only_looked = λ some. only_looked;
       }
 
   -- a share that is too small for the need, which is some, is too small for as many nodes
@@ -119,4 +125,4 @@ module _ (c : Call) (h : History) where
 
   -- so the share has run out for an edit that needs it in its newest try
   pub ran_out : (call : MapCall) (want : Need) (share : Remaining) (full : FullOf) → (only_looked : HasOnlyLooked c.pass h c.start) → (x : HasNeeded c.layout c.pass h only_looked.begin call) × (many_nodes want ≡ need call x.map) → IsShort want share full.what full.left → IsUntouched c h share → HasEnteredNone c.layout c.pass h c.start → HasRunOut c h call share full
-  ran_out call want share full only_looked x short first none = record { only_looked = only_looked; needed = x.0; short = short_of want (need call x.0.map) share full.what full.left x.1 x.0.some short; first = first; none = none }
+  ran_out call want share full only_looked x short first none = record { short = record { only_looked = only_looked; needed = x.0; short = short_of want (need call x.0.map) share full.what full.left x.1 x.0.some short }; first = first; none = none }

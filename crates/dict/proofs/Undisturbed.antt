@@ -15,7 +15,7 @@ use Rattle.edits.specs.Tries.{HasEnteredNone}
 use Rattle.arena.specs.declared.fault.Full.{Full as FullOf}
 use Rattle.arena.specs.Share.{Remaining}
 use Rattle.ordered_map.specs.CallRules.{need}
-use Rattle.dict.specs.Says.{HasToldBy, HasRunOut, HasTooLittle}
+use Rattle.dict.specs.Says.{HasLost, HasToldBy, HasRunOut, HasTooLittle}
 
 -- what a made edit leaves, and what a call by itself that has entered nothing leaves
 abbrev pub Makes : Type 0
@@ -23,6 +23,20 @@ Makes = (c : Call) (h : History) (edit : MapEdit) (number : ℕ) (old : Option �
 
 abbrev pub Keeps : Type 0
 Keeps = (c : Call) (h : History) (map : List Pair) → IsTreeRun c.layout h → IsUndisturbed c h → HasEnteredNone c.layout c.pass h c.start → Spells c.layout (value c.start) map → Spells c.layout (value h) map
+
+-- a call that has lost its tries was contended
+pub was_contended : (c : Call) (h : History) (call : MapCall) (tries n s : ℕ) → HasLost c h call tries n s → IsContended c h n s
+was_contended c h call tries n s x =
+    let way = x.lost.all.lost.in_the_way in
+    let found = x.lost.all.found in
+    let begin : History = x.lost.all.lost.begin in
+    let since : Extends begin c.start = x.lost.all.lost.since in
+    record {
+      others = x.lost.others;
+      in_the_way = record { row = way.row; before = way.before; within = way.within; since = ends_trans way.before begin c.start way.since since; running = way.running; covers = way.covers };
+      over_or_new = x.lost.over_or_new;
+      found = record { row = found.row; before = found.before; within = found.within; since = ends_trans found.before begin c.start found.since since; own = found.own; word = found.word; found = found.found };
+    }
 
 -- a call that no other was in the way of, and that is full, had all of its share as it began
 untouched : (c : Call) (h : History) (share : Remaining) → ((n t : ℕ) → ¬ IsContended c h n t) → IsUntouched c h share → RestsWith c c.start share
@@ -50,17 +64,19 @@ module _ (makes : Makes) (keeps : Keeps) (c : Call) (h : History) (map : List Pa
       let is : told ≡ reply call map = sym x.gives ∙ ap (reply call) same in
       (is, subst (Spells c.layout (value h)) (sym (left call told (Some edit) e is)) y.1)
   told_by None call told e x =
-      let same : x.map ≡ map = one_spelling c.layout (value x.moment) x.map map x.spelled (keeps_at x.moment x.within x.since x.none) in
-      let is : told ≡ reply call map = sym x.gives ∙ ap (reply call) same in
+      let read = x.read in
+      let same : read.map ≡ map = one_spelling c.layout (value read.moment) read.map map read.spelled (keeps_at read.moment read.within read.since x.none) in
+      let is : told ≡ reply call map = sym read.gives ∙ ap (reply call) same in
       (is, subst (Spells c.layout (value h)) (sym (left call told None e is)) (keeps_at h (ends_self h) alone.since x.none))
 
   -- what is refused for want of its share had all of it as it began, and too little for that map
   pub full_alone : ((n t : ℕ) → ¬ IsContended c h n t) → (call : MapCall) (share : Remaining) (full : FullOf) → HasRunOut c h call share full → RestsWith c c.start share × (0 < need call map) × HasTooLittle (need call map) share full.what full.left
   full_alone never call share full x =
-      let then = x.needed in
-      let same : then.map ≡ map = one_spelling c.layout (value then.moment) then.map map then.spelled (keeps_at then.moment then.within (ends_trans then.moment x.only_looked.begin c.start then.since x.only_looked.since) x.none) in
+      let y = x.short in
+      let then = y.needed in
+      let same : then.map ≡ map = one_spelling c.layout (value then.moment) then.map map then.spelled (keeps_at then.moment then.within (ends_trans then.moment y.only_looked.begin c.start then.since y.only_looked.since) x.none) in
       let some : 0 < need call map = subst (λ m. 0 < need call m) same then.some in
-      let short : HasTooLittle (need call map) share full.what full.left = subst (λ m. HasTooLittle (need call m) share full.what full.left) same x.short in
+      let short : HasTooLittle (need call map) share full.what full.left = subst (λ m. HasTooLittle (need call m) share full.what full.left) same y.short in
       (untouched c h share never x.first, some, short)
 
   pub told_alone : (call : MapCall) (told : MapReply) → HasToldBy (edit_of call told) c h call told → (told ≡ reply call map) × Spells c.layout (value h) (after call map)

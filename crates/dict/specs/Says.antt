@@ -5,13 +5,14 @@ use Rattle.arena.specs.declared.fault.Resource.{Resource}
 use Rattle.arena.specs.declared.fault.Resource.TheVariants.{Nodes, Scx as ScxRecords}
 use Rattle.arena.specs.declared.layout.Layout.{Layout}
 use Rattle.arena.specs.declared.step.Row.{Row}
+use Rattle.arena.specs.Fills.{IsOthersScx}
 use Rattle.arena.specs.History.{History, ◌⊳◌, value, Extends}
 use Rattle.arena.specs.Machines.{Call}
 use Rattle.arena.specs.Share.{Remaining}
 use Rattle.ordered_map.specs.OrderedMap.{MapEdit, MapCall, Successor, Range, MapReply, reply, edit_of}
 use Rattle.ordered_map.specs.Spelled.{Spells}
 use Rattle.ordered_map.specs.declared.pair.Pair.{Pair}
-use Rattle.template.specs.Blame.{IsContended, HasLostTriesTo}
+use Rattle.template.specs.Blame.{IsOverOrNew, HasLostTriesTo}
 use Rattle.edits.specs.Known.{HasMade, IsUntouched}
 use Rattle.edits.specs.Tries.{HasEnteredNone, HasOnlyLooked}
 use Rattle.ordered_map.specs.CallRules.{most_nodes, need}
@@ -37,19 +38,23 @@ pub record HasMadeRow (pass : ℕ) (start moment : History) : Type 0 where
   pub since : Extends before start
   pub of_pass : row.pass.0 ≡ pass
 
--- A reading: at a moment of the call the words spell a map that replies this, and the pass has
--- entered nothing since the call began. The moment is not before the call's first own row; a range
--- that takes no pair needs none. A call that may take nodes has only looked in its newest try.
-pub record HasReadMap (c : Call) (h : History) (call : MapCall) (told : MapReply) : Type 0 where
+-- Since the moment `begin` the pass has read the map: at a moment since then the words spell a map
+-- that replies this. The moment is not before the pass's first own row; a range that takes no pair
+-- needs none. A call that may take nodes has only looked in its newest try.
+pub record HasReadSince (lay : Layout) (pass : ℕ) (now begin : History) (call : MapCall) (told : MapReply) : Type 0 where
   pub moment : History
-  pub within : Extends h moment
-  pub since : Extends moment c.start
-  pub own : AsksForPairs call → HasMadeRow c.pass c.start moment
+  pub within : Extends now moment
+  pub since : Extends moment begin
+  pub own : AsksForPairs call → HasMadeRow pass begin moment
   pub map : List Pair
-  pub spelled : Spells c.layout (value moment) map
+  pub spelled : Spells lay (value moment) map
   pub gives : reply call map ≡ told
+  pub only_looked : 0 < most_nodes call → HasOnlyLooked pass now begin
+
+-- A reading: the call has read the map, and its pass has entered nothing since it began.
+pub record HasReadMap (c : Call) (h : History) (call : MapCall) (told : MapReply) : Type 0 where
+  pub read : HasReadSince c.layout c.pass h c.start call told
   pub none : HasEnteredNone c.layout c.pass h c.start
-  pub only_looked : 0 < most_nodes call → HasOnlyLooked c.pass h c.start
 
 -- what is told is told of a change by this edit, or of a reading
 abbrev pub HasToldBy : Option MapEdit → Call → History → MapCall → MapReply → Type 0
@@ -71,13 +76,19 @@ pub record HasNeeded (lay : Layout) (pass : ℕ) (now begin : History) (call : M
   pub spelled : Spells lay (value moment) map
   pub some : 0 < need call map
 
--- All tries of the call, so many, were lost: in the last this SCX-record was in the way over this
--- node, and the call has itself found it in the node's info. A call that may take nodes had
--- something to do in that try. The pass has entered nothing since the call began.
+-- Since the moment `begin` the pass has begun so many tries of the call, and lost them all. The
+-- SCX-record s, which is another pass's, was in the way of the last over the node n, and in that try
+-- the pass has itself found s in the info of n. It is finished now, or has come to n since `begin`.
+-- A call that may take nodes had something to do in that try.
+pub record HasLostSince (lay : Layout) (pass : ℕ) (now begin : History) (call : MapCall) (tries n s : ℕ) : Type 0 where
+  pub others : IsOthersScx lay pass s
+  pub all : HasLostTriesTo pass now begin tries n s
+  pub over_or_new : IsOverOrNew now begin n s
+  pub needed : 0 < most_nodes call → HasNeeded lay pass now all.lost.begin call
+
+-- The call has lost all its tries, so many, and its pass has entered nothing since it began.
 pub record HasLost (c : Call) (h : History) (call : MapCall) (tries n s : ℕ) : Type 0 where
-  pub way : IsContended c h n s
-  pub all : HasLostTriesTo c.pass h c.start tries n s
-  pub needed : 0 < most_nodes call → HasNeeded c.layout c.pass h all.lost.begin call
+  pub lost : HasLostSince c.layout c.pass h c.start call tries n s
   pub none : HasEnteredNone c.layout c.pass h c.start
 
 -- the share has fewer nodes than these, so many; or some node, and no SCX-record
@@ -85,14 +96,18 @@ abbrev pub HasTooLittle : ℕ → Remaining → Resource → ℕ → Type 0
 HasTooLittle many left Nodes k = (left.nodes < many) × (k ≡ left.nodes)
 HasTooLittle many left ScxRecords k = (0 < left.nodes) × (left.scx ≡ 0) × (k ≡ 0)
 
--- The share has too little left for the newest try of the call, which had something to do in it:
--- there are not enough nodes for what it needed there, or some, and no SCX-record. In that try the
--- pass has only looked. Nothing of the share was taken since the call began, or another pass was in
--- the way. The pass has entered nothing.
-pub record HasRunOut (c : Call) (h : History) (call : MapCall) (share : Remaining) (full : FullOf) : Type 0 where
-  pub only_looked : HasOnlyLooked c.pass h c.start
-  pub needed : HasNeeded c.layout c.pass h only_looked.begin call
+-- The share has too little left for the newest try of the call that the pass has begun since the
+-- moment `begin`. There was something to do in it: there are not enough nodes for what it needed, or
+-- some, and no SCX-record. In that try the pass has only looked.
+pub record HasTooLittleSince (lay : Layout) (pass : ℕ) (now begin : History) (call : MapCall) (share : Remaining) (full : FullOf) : Type 0 where
+  pub only_looked : HasOnlyLooked pass now begin
+  pub needed : HasNeeded lay pass now only_looked.begin call
   pub short : HasTooLittle (need call needed.map) share full.what full.left
+
+-- The share has run out for the call. Nothing of it was taken since the call began, or another pass
+-- was in the way. The pass has entered nothing.
+pub record HasRunOut (c : Call) (h : History) (call : MapCall) (share : Remaining) (full : FullOf) : Type 0 where
+  pub short : HasTooLittleSince c.layout c.pass h c.start call share full
   pub first : IsUntouched c h share
   pub none : HasEnteredNone c.layout c.pass h c.start
 

@@ -20,6 +20,7 @@ use Rattle.dict.specs.Calls.{call_in, share_of, IsFewCall}
 use Rattle.dict.specs.DictKnown.{DictIsReady, DictWaits, DictAnswers, DictRefuses}
 use Rattle.dict.specs.Known.{IsUnbegun}
 use Rattle.dict.specs.Laws.OneShare.{one_share}
+use Rattle.dict.proofs.Lemmas.{was_contended}
 use Rattle.dict.specs.Says.{TellsOfMap}
 use Rattle.dict.specs.Typed.{IsTypedCall, TypedAllows}
 use Rattle.dict.specs.Laws.TypedMaps.{typed_run}
@@ -165,7 +166,9 @@ module _ {K V : Type 0} (valid_key : K → Type 0) (key : K → ℕ) (valid_valu
           go (replies.Pairs v) z = none
           go (replies.Full f) z = none
           go replies.NoMemory z = none
-          go (replies.Contended n u) z = blamed_on_tree (pass_view p) (pass_view (left_with p x s called Answered (share_of m.run) (u.0 ∷ p.blamed))) n.0 u.0 x.is_mode refl refl refl y.sound.lawful y.since z.way.others z.way.in_the_way z.way.over_or_new x.blamed
+          go (replies.Contended n u) z =
+              let way = was_contended (call_of p x called) (run_of now) (call_in m.run) m.tries n.0 u.0 z in
+              blamed_on_tree (pass_view p) (pass_view (left_with p x s called Answered (share_of m.run) (u.0 ∷ p.blamed))) n.0 u.0 x.is_mode refl refl refl y.sound.lawful y.since way.others way.in_the_way way.over_or_new x.blamed
 
       -- it is a pass again
       pub dict_pass : s.me.1 ≡ p.seat.me.1 → IsPass allows Tree behind

@@ -62,17 +62,7 @@ module _ (was : PassView) (is_pass : was.number < was.layout.passes) (number : �
 
     told_by : (made : Option MapEdit) (call : MapCall) (told : MapReply) → RestsWith call_by (run_of was) was.share → RestsWith call_by (run_of then) left → HasToldBy made call_by (run_of then) call told → IsChangeOrReading made was then call told
     told_by (Some edit) call told first rests y = change_says call told edit first rests y
-    told_by None call told first rests y = record {
-      moment = y.moment;
-      within = y.within;
-      since = y.since;
-      own = y.own;
-      map = y.map;
-      version = y.spelled;
-      gives = y.gives;
-      done = none_more y.none;
-      only_looked = y.only_looked;
-    }
+    told_by None call told first rests y = record { read = y.read; done = none_more y.none }
 
     -- what is told, with what its share had as the call began, and has now
     pub told_says : (call : MapCall) (told : MapReply) → RestsWith call_by (run_of was) was.share → RestsWith call_by (run_of then) left → HasTold call_by (run_of then) call told → IsChangeOrReading (edit_of call told) was then call told
@@ -80,23 +70,11 @@ module _ (was : PassView) (is_pass : was.number < was.layout.passes) (number : �
 
     -- refusals
     pub lost_says : (tries : ℕ) (call : MapCall) (n s : ℕ) → HasLost call_by (run_of then) call tries n s → IsContendedCall tries was then call n s
-    lost_says tries call n s y = record {
-      others = y.way.others;
-      lost = y.all;
-      over_or_new = y.way.over_or_new;
-      needed = y.needed;
-      done = none_more y.none;
-    }
+    lost_says tries call n s y = record { lost = y.lost; done = none_more y.none }
 
     -- with what its share had as the call began
     pub full_says : (call : MapCall) (full : FullOf) → RestsWith call_by (run_of was) was.share → HasRunOut call_by (run_of then) call left full → IsFullCall was then call full
-    full_says call full rests y = record {
-      only_looked = y.only_looked;
-      needed = y.needed;
-      short = y.short;
-      first = untouched y.first;
-      done = none_more y.none;
-    }
+    full_says call full rests y = record { short = y.short; first = untouched y.first; done = none_more y.none }
       where
         untouched : IsUntouched call_by (run_of then) left → (left ≡ was.share) ⊎ ((n : ℕ) × (s : ℕ) × IsOthersScx was.layout was.number s × WasInTheWay (run_of then) (run_of was) n s)
         untouched (inl z) = inl (one_share call_by (run_of was) left was.share z rests)

@@ -13,12 +13,10 @@ use Rattle.ordered_map.specs.declared.pair.Pair.{Pair as PairOf}
 use Rattle.ordered_map.specs.OrderedMap.{MapCall, PopFirst, Successor, Range, MapReply, OneValue, ManyPairs, pair_or_none, MapEdit, edited, reply, edit_of}
 use Rattle.ordered_map.specs.Runs.{Makes}
 use Rattle.ordered_map.specs.Spelled.{Spells}
-use Rattle.template.specs.Blame.{IsOverOrNew, HasLostTriesTo}
-use Rattle.edits.specs.Tries.{HasOnlyLooked}
 use Rattle.template.specs.Tries.{tries_since, HasTriedAtMost}
-use Rattle.ordered_map.specs.CallRules.{Form, IsFormOfEdit, MayReply, need, most_nodes, most_scx, most_steps}
-use Rattle.dict.specs.Calls.{AsksForPairs, most_tries}
-use Rattle.dict.specs.Says.{HasMadeRow, HasNeeded, HasTooLittle, KeepsLists}
+use Rattle.ordered_map.specs.CallRules.{Form, IsFormOfEdit, MayReply, most_nodes, most_scx, most_steps}
+use Rattle.dict.specs.Calls.{most_tries}
+use Rattle.dict.specs.Says.{HasLostSince, HasMadeRow, HasReadSince, HasTooLittleSince, KeepsLists}
 use Rattle.dict.specs.Typed.{TypedAllows}
 use Rattle.dict.specs.Words.{IsWordOf}
 use Rattle.ordered_map.specs.Replies.{word_pair}
@@ -72,19 +70,10 @@ pub record IsChange (old new : PassView) (call : MapCall) (told : MapReply) (edi
   pub is : IsVersion new (row ⊳ before) (edited edit map)
 
 -- The call has read the map: at a moment from what was known before to what is known now it gave
--- this reply. The moment is not before the call's first own row; a range that takes no pair makes
--- none, and tells what every map replies. The pass has no entry more, and a call that may take nodes
--- has filled nothing in its newest try.
+-- this reply. The pass has no entry more.
 pub record IsReading (old new : PassView) (call : MapCall) (told : MapReply) : Type 0 where
-  pub moment : History
-  pub within : Extends (run_of new) moment
-  pub since : Extends moment (run_of old)
-  pub own : AsksForPairs call → HasMadeRow old.number (run_of old) moment
-  pub map : List PairOf
-  pub version : IsVersion new moment map
-  pub gives : reply call map ≡ told
+  pub read : HasReadSince new.layout new.number (run_of new) (run_of old) call told
   pub done : done_of new ≡ done_of old
-  pub only_looked : 0 < most_nodes call → HasOnlyLooked new.number (run_of new) (run_of old)
 
 -- a change by this edit, or a reading
 abbrev pub IsChangeOrReading : Option MapEdit → PassView → PassView → MapCall → MapReply → Type 0
@@ -98,25 +87,16 @@ IsToldOf old new call None = Unit {0}
 
 -- Refusals
 
--- The call has made so many tries and lost them all. The SCX-record s, which is another pass's, was
--- in the way of the last over the node n, and in that try the pass has itself found s in the info
--- of n. It is finished now, or has come to n since what was known before. A call that may take nodes
--- had something to do in that try. The pass has no entry more.
+-- The call has made so many tries and lost them all, the newest over the node n to the SCX-record s.
+-- The pass has no entry more.
 pub record IsContendedCall (tries : ℕ) (old new : PassView) (call : MapCall) (n s : ℕ) : Type 0 where
-  pub others : IsOthersScx new.layout new.number s
-  pub lost : HasLostTriesTo new.number (run_of new) (run_of old) tries n s
-  pub over_or_new : IsOverOrNew (run_of new) (run_of old) n s
-  pub needed : 0 < most_nodes call → HasNeeded new.layout new.number (run_of new) lost.lost.begin call
+  pub lost : HasLostSince new.layout new.number (run_of new) (run_of old) call tries n s
   pub done : done_of new ≡ done_of old
 
--- The share has too little left for the newest try of the call, which had something to do in it:
--- there are not enough nodes for what it needed there, or some, and no SCX-record. In that try the
--- pass has filled nothing. The call has taken nothing of the share, or another pass was in the way.
--- The pass has no entry more.
+-- The share has too little left for the newest try of the call. The call has taken nothing of the
+-- share, or another pass was in the way. The pass has no entry more.
 pub record IsFullCall (old new : PassView) (call : MapCall) (full : FullOf) : Type 0 where
-  pub only_looked : HasOnlyLooked new.number (run_of new) (run_of old)
-  pub needed : HasNeeded new.layout new.number (run_of new) only_looked.begin call
-  pub short : HasTooLittle (need call needed.map) new.share full.what full.left
+  pub short : HasTooLittleSince new.layout new.number (run_of new) (run_of old) call new.share full
   pub first : (new.share ≡ old.share) ⊎ ((n : ℕ) × (s : ℕ) × IsOthersScx new.layout new.number s × WasInTheWay (run_of new) (run_of old) n s)
   pub done : done_of new ≡ done_of old
 

@@ -247,29 +247,31 @@ module _ (v : ClientView) (c : Client) (is_pass : c.pass.0 < v.layout.passes) wh
 
   -- a get: the map had this at a moment of the call
   answer_at : (key : ℕ) (old : Option ℕ) → HasReadMap call v.past (Get key) (OneValue old) → IsAnswerAt v.layout v.past v.start key old
-  answer_at key old x = record { moment = x.moment; within = x.within; since = x.since; map = x.map; spelled = x.spelled; gives = ap value_in x.gives }
+  answer_at key old x = let read = x.read in record { moment = read.moment; within = read.within; since = read.since; map = read.map; spelled = read.spelled; gives = ap value_in read.gives }
 
   -- another call that tells what the key has: it had that behind the call's first own row
   had : (of : MapCall) (key : ℕ) (old : Option ℕ) → AsksForPairs of → ((m : List Pair) → reply of m ≡ OneValue (get key m)) → HasReadMap call v.past of (OneValue old) → HadAtKey v.layout v.past v.start key old
   had of key old asks gives x =
-      let own = x.own asks in
-      (own.row, own.before, own.since, record { moment = x.moment; within = x.within; since = own.within; map = x.map; spelled = x.spelled; gives = ap value_in (sym (gives x.map) ∙ x.gives) })
+      let read = x.read in
+      let own = read.own asks in
+      (own.row, own.before, own.since, record { moment = read.moment; within = read.within; since = own.within; map = read.map; spelled = read.spelled; gives = ap value_in (sym (gives read.map) ∙ read.gives) })
 
   -- a pop that tells none: the map had no pair
   had_none : HasReadMap call v.past PopFirst (OneValue None) → HadFirst v.layout v.past v.start None
   had_none x =
-      let own = x.own tt in
-      (own.row, own.before, own.since, record { moment = x.moment; within = x.within; since = own.within; map = x.map; spelled = x.spelled; is = none_first (first_pair x.map) x.gives })
+      let read = x.read in
+      let own = read.own tt in
+      (own.row, own.before, own.since, record { moment = read.moment; within = read.within; since = own.within; map = read.map; spelled = read.spelled; is = none_first (first_pair read.map) read.gives })
 
   lost : (of : MapCall) (n s : ℕ) → HasLost call v.past of v.tries n s → HasLostAllTries v.layout v.tries c.pass.0 v.past v.start n s
-  lost of n s x = (x.way.others, x.all.lost)
+  lost of n s x = (x.lost.others, x.lost.all.lost)
 
   -- a share that is too small for the next try was so for the first, or a try was lost
-  too_few : (of : MapCall) (share : Remaining) (full : FullOf) → RestsWith call v.past share → (x : HasRunOut call v.past of share full) → HasTooFewToTry v.layout c.pass.0 v.past v.start (need of x.needed.map) full.what full.left
-  too_few of share full rests x = (short_left v.layout v.past c.pass.0 share rests.share (need of x.needed.map) full.what full.left x.short, from x.first)
+  too_few : (of : MapCall) (share : Remaining) (full : FullOf) → RestsWith call v.past share → (x : HasRunOut call v.past of share full) → HasTooFewToTry v.layout c.pass.0 v.past v.start (need of x.short.needed.map) full.what full.left
+  too_few of share full rests x = (short_left v.layout v.past c.pass.0 share rests.share (need of x.short.needed.map) full.what full.left x.short.short, from x.first)
     where
-      from : IsUntouched call v.past share → HasTooFew v.layout c.pass.0 v.start (need of x.needed.map) full.what full.left ⊎ WasBlocked v.layout c.pass.0 v.past v.start
-      from (inl at_first) = inl (short_left v.layout v.start c.pass.0 share at_first.share (need of x.needed.map) full.what full.left x.short)
+      from : IsUntouched call v.past share → HasTooFew v.layout c.pass.0 v.start (need of x.short.needed.map) full.what full.left ⊎ WasBlocked v.layout c.pass.0 v.past v.start
+      from (inl at_first) = inl (short_left v.layout v.start c.pass.0 share at_first.share (need of x.short.needed.map) full.what full.left x.short.short)
       from (inr (node, scx, way)) = inr (node, scx, (way.others, way.in_the_way))
 
   -- what a call needed since a moment of it
@@ -300,32 +302,32 @@ module _ (v : ClientView) (c : Client) (is_pass : c.pass.0 < v.layout.passes) wh
 
   delete_full : (key : ℕ) (share : Remaining) (full : FullOf) → RestsWith call v.past share → HasRunOut call v.past (Edit (Delete key)) share full → Right (DeleteOf key) (Full full)
   delete_full key share full rests x =
-      let old = delete_had x.only_looked.begin x.only_looked.since key x.needed in
+      let old = delete_had x.short.only_looked.begin x.short.only_looked.since key x.short.needed in
       (old.0, old.2, subst (λ o. HasTooFewToTry v.layout c.pass.0 v.past v.start (delete_nodes o) full.what full.left) old.1 (too_few (Edit (Delete key)) share full rests x))
 
   delete_lost : (key n s : ℕ) → HasLost call v.past (Edit (Delete key)) v.tries n s → (old : ℕ) × HadAtKey v.layout v.past v.start key (Some old) × HasLostAllTries v.layout v.tries c.pass.0 v.past v.start n s
   delete_lost key n s x =
-      let old = delete_had x.all.lost.begin x.all.lost.since key (x.needed (omega arith)) in
+      let old = delete_had x.lost.all.lost.begin x.lost.all.lost.since key (x.lost.needed (omega arith)) in
       (old.0, old.2, lost (Edit (Delete key)) n s x)
 
   pop_full : (share : Remaining) (full : FullOf) → RestsWith call v.past share → HasRunOut call v.past PopFirst share full → Right PopFirstOf (Full full)
   pop_full share full rests x =
-      let first = pop_had x.only_looked.begin x.only_looked.since x.needed in
+      let first = pop_had x.short.only_looked.begin x.short.only_looked.since x.short.needed in
       (first.0, first.2, subst (λ o. HasTooFewToTry v.layout c.pass.0 v.past v.start (pop_nodes o) full.what full.left) first.1 (too_few PopFirst share full rests x))
 
   pop_lost : (n s : ℕ) → HasLost call v.past PopFirst v.tries n s → (first : Pair) × HadFirst v.layout v.past v.start (Some first) × HasLostAllTries v.layout v.tries c.pass.0 v.past v.start n s
   pop_lost n s x =
-      let first = pop_had x.all.lost.begin x.all.lost.since (x.needed (omega arith)) in
+      let first = pop_had x.lost.all.lost.begin x.lost.all.lost.since (x.lost.needed (omega arith)) in
       (first.0, first.2, lost PopFirst n s x)
 
   replace_full : (key expected put : ℕ) (share : Remaining) (full : FullOf) → RestsWith call v.past share → HasRunOut call v.past (ReplaceIf key expected put) share full → Right (ReplaceIfOf key expected put) (Full full)
   replace_full key expected put share full rests x = (
-    replace_had x.only_looked.begin x.only_looked.since key expected put x.needed,
-    subst (λ n. HasTooFewToTry v.layout c.pass.0 v.past v.start n full.what full.left) (value_there expected (get key x.needed.map) x.needed.some).1 (too_few (ReplaceIf key expected put) share full rests x),
+    replace_had x.short.only_looked.begin x.short.only_looked.since key expected put x.short.needed,
+    subst (λ n. HasTooFewToTry v.layout c.pass.0 v.past v.start n full.what full.left) (value_there expected (get key x.short.needed.map) x.short.needed.some).1 (too_few (ReplaceIf key expected put) share full rests x),
   )
 
   replace_lost : (key expected put n s : ℕ) → HasLost call v.past (ReplaceIf key expected put) v.tries n s → HadAtKey v.layout v.past v.start key (Some expected) × HasLostAllTries v.layout v.tries c.pass.0 v.past v.start n s
-  replace_lost key expected put n s x = (replace_had x.all.lost.begin x.all.lost.since key expected put (x.needed (omega arith)), lost (ReplaceIf key expected put) n s x)
+  replace_lost key expected put n s x = (replace_had x.lost.all.lost.begin x.lost.all.lost.since key expected put (x.lost.needed (omega arith)), lost (ReplaceIf key expected put) n s x)
 
   -- a replacement that tells another value than it expects has read the map
   replaced_right : (key expected put : ℕ) (old : Option ℕ) (b : Bool) → HasToldBy (cond b (Some (Insert key put)) None) call v.past (ReplaceIf key expected put) (OneValue old) → ReplaceTold b v.layout v.past v.start key old
@@ -335,7 +337,7 @@ module _ (v : ClientView) (c : Client) (is_pass : c.pass.0 < v.layout.passes) wh
   pub answer_right : (r : Request ℕ ℕ) (a : Reply ℕ ℕ) (share : Remaining) → RestsWith call v.past share → MayReply (map_request r) (form_of a) → TellsOfMap call v.past (map_request r) (number_reply a) → DictRefuses call v.past (map_request r) share v.tries a → Right r a
   answer_right (InsertOf key put) (Value old) share rests form tells why = tt
   answer_right (InsertOf key put) (Contended node scx) share rests form tells why = lost (Edit (Insert key put)) node.0 scx.0 why
-  answer_right (InsertOf key put) (Full full) share rests form tells why = (get key why.needed.map, had_then why.only_looked.begin why.only_looked.since (Edit (Insert key put)) key why.needed, too_few (Edit (Insert key put)) share full rests why)
+  answer_right (InsertOf key put) (Full full) share rests form tells why = (get key why.short.needed.map, had_then why.short.only_looked.begin why.short.only_looked.since (Edit (Insert key put)) key why.short.needed, too_few (Edit (Insert key put)) share full rests why)
   answer_right (DeleteOf key) (Value (Some old)) share rests form tells why = tt
   answer_right (DeleteOf key) (Value None) share rests form tells why = had (Edit (Delete key)) key None tt (λ m. refl) tells
   answer_right (DeleteOf key) (Contended node scx) share rests form tells why = delete_lost key node.0 scx.0 why

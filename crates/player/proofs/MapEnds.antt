@@ -68,7 +68,10 @@ module _ (v : ClientView) (c : Client) (is_pass : c.pass.0 < v.layout.passes) (w
 
   -- it has replied so
   replied : (of : MapCall) (told : MapReply) → AsksForPairs of → HasReadMap call v.past of told → HasReplied v.layout v.past v.start of told
-  replied of told asks x = let own = x.own asks in record { row = own.row; before = own.before; since = own.since; moment = x.moment; behind = own.within; within = x.within; map = x.map; spelled = x.spelled; replies = x.gives }
+  replied of told asks x =
+      let read = x.read in
+      let own = read.own asks in
+      record { row = own.row; before = own.before; since = own.since; moment = read.moment; behind = own.within; within = read.within; map = read.map; spelled = read.spelled; replies = read.gives }
 
   -- What is told
 

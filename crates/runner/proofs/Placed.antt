@@ -26,14 +26,16 @@ module _ (lay : Layout) (tries : ℕ) (run : History) (versions : History → Li
     version_is moment m e x = one_spelling lay (value moment) m (versions moment) (rw layout at x) (are.spelled moment (ends_trans run (run_of new) moment within e))
 
     read_placed : (call : MapCall) (told : MapReply) → IsReading old new call told → IsReadCall versions old new call told
-    read_placed call told x = record {
-      moment = x.moment;
-      within = x.within;
-      since = x.since;
-      own = x.own;
-      gives = ap (reply call) (sym (version_is x.moment x.map x.within x.version)) ∙ x.gives;
-      done = x.done;
-    }
+    read_placed call told x =
+        let read = x.read in
+        record {
+          moment = read.moment;
+          within = read.within;
+          since = read.since;
+          own = read.own;
+          gives = ap (reply call) (sym (version_is read.moment read.map read.within read.spelled)) ∙ read.gives;
+          done = x.done;
+        }
 
     entry_placed : (call : MapCall) (told : MapReply) (edit : MapEdit) → edit_of call told ≡ Some edit → IsChange old new call told edit → IsEnteredCall lay versions old new call told edit
     entry_placed call told edit made x =
