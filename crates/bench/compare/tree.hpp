@@ -12,29 +12,45 @@ constexpr Word PAIRS_OF_A_PASS = 10000;
 constexpr Word TRIES = 1000;
 constexpr Word MOST_PAIRS = 64;
 
+// How keys, and chances of a hundred, come out of random words: by the remainder of a word each; or both by
+// the halves of one word, as the maps of others were measured.
+enum class Deal { remainders, halves };
+
 // Numbers by Marsaglia's xorshift (13, 7, 17). Each stream has a seed of its own.
 struct Draws {
+    static constexpr Word APART = 0x9E3779B97F4A7C15u;
+
     Word word;
+    Deal deal;
 
-    explicit Draws(Word stream) : word(88172645463325252u ^ stream * 0x9E3779B97F4A7C15u) {}
+    Draws(Word stream, Deal deal) : word(88172645463325252u ^ stream * APART), deal(deal) {}
 
-    Word below(Word bound) {
+    static Draws of_thread(Word thread, Deal deal) {
+        Draws draws(MOST_PASSES + thread, deal);
+        if (deal == Deal::halves) draws.word = (thread + 1) * APART;
+        return draws;
+    }
+
+    Word next() {
         word ^= word << 13;
         word ^= word >> 7;
         word ^= word << 17;
-        return word % bound;
+        return word;
     }
+
+    Word key(Word keys) { return deal == Deal::remainders ? next() % keys : (next() >> 32) * keys >> 32; }
+
+    Word chance() { return deal == Deal::remainders ? next() % 100 : (word & 0xffffffff) * 100 >> 32; }
 };
 
 // How many passes fill a map to half of so many keys.
 inline Word fillers(Word keys) { return (keys / 2 + PAIRS_OF_A_PASS - 1) / PAIRS_OF_A_PASS; }
 
 // Puts so many pairs of new keys into the map.
-inline void fill(const Dictionary& map, Word number, Word stream, Word keys, Word pairs) {
+inline void fill(const Dictionary& map, Word number, Draws draws, Word keys, Word pairs) {
     Pass pass = map.pass(number);
-    Draws draws(stream);
     for (Word done = 0; done < pairs;) {
-        const Word key = draws.below(keys);
+        const Word key = draws.key(keys);
         if (map.get(key)) continue;
         map.insert(pass, key, key);
         done++;
@@ -42,11 +58,11 @@ inline void fill(const Dictionary& map, Word number, Word stream, Word keys, Wor
 }
 
 // Half of so many keys, by the passes behind those of the threads, the last of them first.
-inline void fill_half(const Dictionary& map, Word threads, Word keys) {
+inline void fill_half(const Dictionary& map, Word threads, Word keys, Deal deal) {
     Word left = keys / 2;
     for (Word filler = 0; left > 0; filler++) {
         const Word pairs = left < PAIRS_OF_A_PASS ? left : PAIRS_OF_A_PASS;
-        fill(map, threads + fillers(keys) - 1 - filler, filler, keys, pairs);
+        fill(map, threads + fillers(keys) - 1 - filler, Draws(filler, deal), keys, pairs);
         left -= pairs;
     }
 }
@@ -83,18 +99,18 @@ inline void list(const Dictionary& map, Word key, Tally& tally) {
 
 // Looks a key up in so many of a hundred rounds; in half of the others puts it in, in half takes it out.
 inline void mix(const Dictionary& map, Pass& pass, Draws& draws, Word key, Word value, Word looks, Tally& tally) {
-    const Word chance = draws.below(100);
+    const Word chance = draws.chance();
     if (chance < looks) look_up(map, key, tally);
     else if (chance < looks + (100 - looks) / 2) count_value(tally, map.insert(pass, key, value));
     else count_value(tally, map.remove(pass, key));
 }
 
-inline Tally rounds(const Dictionary& map, Work work, Word keys, Word calls, Word thread) {
+inline Tally rounds(const Dictionary& map, Work work, Deal deal, Word keys, Word calls, Word thread) {
     Pass pass = map.pass(thread);
-    Draws draws(MOST_PASSES + thread);
+    Draws draws = Draws::of_thread(thread, deal);
     Tally tally;
     for (Word call = 0; call < calls; call++) {
-        const Word key = draws.below(keys);
+        const Word key = draws.key(keys);
         switch (work) {
             case Work::get: look_up(map, key, tally); break;
             case Work::mix90: mix(map, pass, draws, key, call, 90, tally); break;

@@ -1,7 +1,7 @@
 // The C++ twin of the program `bench`: the same works, the same words, the same rows.
 //
 //     g++ -std=c++17 -O3 -march=x86-64-v2 -pthread -o twin twin.cpp
-//     ./twin WORK|cells|tree|all [THREADS [CALLS [TIMES [KEYS]]]]
+//     ./twin WORK|cells|tree|peers|all [THREADS [CALLS [TIMES [KEYS]]]]
 #include <algorithm>
 #include <charconv>
 #include <chrono>
@@ -20,6 +20,7 @@ namespace {
 constexpr Word MOST_THREADS_ON_A_TREE = 8;
 constexpr Word MOST_KEYS = 100000;
 constexpr Word USUAL_KEYS = 1000;
+constexpr Word KEYS_OF_PEERS = 10000;
 
 struct WorkRow {
     const char* kind;
@@ -36,6 +37,10 @@ constexpr WorkRow tree_row(tree::Work work, const char* name, Word calls, Word u
     return {"tree", name, static_cast<Word>(work), MOST_THREADS_ON_A_TREE, calls, usual};
 }
 
+constexpr WorkRow peer_row(tree::Work work, const char* name, Word calls, Word usual) {
+    return {"peers", name, static_cast<Word>(work), MOST_THREADS_ON_A_TREE, calls, usual};
+}
+
 constexpr WorkRow WORKS[] = {
     cell_row(cells::Work::llx, "llx", cells::CELLS, UINT32_MAX, 1000000),
     cell_row(cells::Work::own, "own", cells::CELLS, SHARE, 30000),
@@ -50,13 +55,23 @@ constexpr WorkRow WORKS[] = {
     tree_row(tree::Work::replace, "replace", SHARE, 20000),
     tree_row(tree::Work::succ, "succ", UINT32_MAX, 20000),
     tree_row(tree::Work::range64, "range64", UINT32_MAX, 2000),
+    peer_row(tree::Work::get, "peer_get", UINT32_MAX, 100000),
+    peer_row(tree::Work::mix90, "peer_mix90", 200000, 100000),
+    peer_row(tree::Work::mix50, "peer_mix50", 40000, 20000),
+    peer_row(tree::Work::insert, "peer_insert", 10000, 10000),
+    peer_row(tree::Work::succ, "peer_succ", UINT32_MAX, 20000),
+    peer_row(tree::Work::range64, "peer_range64", UINT32_MAX, 2000),
 };
 
 struct Task {
     WorkRow row;
     Word threads, calls, times, keys;
 
-    bool on_tree() const { return row.kind == std::string("tree"); }
+    bool on_tree() const { return row.kind != std::string("cells"); }
+
+    tree::Deal deal() const {
+        return row.kind == std::string("peers") ? tree::Deal::halves : tree::Deal::remainders;
+    }
 };
 
 struct Repetition {
@@ -90,9 +105,11 @@ Repetition timed(Word threads, const F& rounds) {
 Repetition run(const Task& task) {
     if (task.on_tree()) {
         const Dictionary map(task.threads + tree::fillers(task.keys), tree::TRIES);
-        tree::fill_half(map, task.threads, task.keys);
+        const tree::Deal deal = task.deal();
+        tree::fill_half(map, task.threads, task.keys, deal);
         const auto work = static_cast<tree::Work>(task.row.work);
-        return timed(task.threads, [&](Word thread) { return tree::rounds(map, work, task.keys, task.calls, thread); });
+        return timed(task.threads,
+                     [&](Word thread) { return tree::rounds(map, work, deal, task.keys, task.calls, thread); });
     }
     const Forest forest(cells::OPENING, task.threads);
     const auto work = static_cast<cells::Work>(task.row.work);
@@ -132,13 +149,14 @@ std::optional<Task> task_of(const WorkRow& row, int count, char** words) {
     const auto threads = number_at(count, words, 2, 1, row.most_threads, 1);
     const auto calls = number_at(count, words, 3, 1, row.most_calls, row.usual_calls);
     const auto times = number_at(count, words, 4, 0, UINT32_MAX, 15);
-    const auto keys = number_at(count, words, 5, 1, MOST_KEYS, USUAL_KEYS);
+    const bool of_peers = row.kind == std::string("peers");
+    const auto keys = number_at(count, words, 5, 1, MOST_KEYS, of_peers ? KEYS_OF_PEERS : USUAL_KEYS);
     if (!threads || !calls || !times || !keys || count > 6) return std::nullopt;
-    return Task{row, *threads, *calls, *times, row.kind == std::string("tree") ? *keys : 0};
+    return Task{row, *threads, *calls, *times, row.kind == std::string("cells") ? 0 : *keys};
 }
 
 int refuse() {
-    std::fputs("usage: twin WORK|cells|tree|all [THREADS [CALLS [TIMES [KEYS]]]]\n", stderr);
+    std::fputs("usage: twin WORK|cells|tree|peers|all [THREADS [CALLS [TIMES [KEYS]]]]\n", stderr);
     return 2;
 }
 

@@ -31,17 +31,9 @@ pub fn rounds(
 {
     let mut tally = Tally::default();
     for call in 0..task.calls {
-        let key = draws.below(u64::from(task.keys));
-        let value = u64::from(call);
-        let end = round(
-            alloc,
-            forest,
-            work,
-            &mut pass,
-            &mut draws,
-            (key, value),
-            &mut tally,
-        );
+        let (key, chance) = draws.round(task.keys, work.goes_by_chance());
+        let pair = (key, u64::from(call));
+        let end = round(alloc, forest, work, &mut pass, chance, pair, &mut tally);
         tally.count(end);
     }
     tally
@@ -53,7 +45,7 @@ fn round(
     forest: &Forest<Numbers>,
     work: TreeWork,
     pass: &mut Pass<Numbers>,
-    draws: &mut Draws,
+    chance: u64,
     pair: (u64, u64),
     tally: &mut Tally,
 ) -> End
@@ -64,7 +56,7 @@ fn round(
     let key = &pair.0;
     match work {
         TreeWork::Get => told(Ok(forest.get(pass, key)), tally),
-        TreeWork::Mix { looks } => told(mix(forest, pass, draws, pair, looks), tally),
+        TreeWork::Mix { looks } => told(mix(forest, pass, chance, pair, looks), tally),
         TreeWork::Insert => told(forest.insert(pass, pair.0, pair.1), tally),
         TreeWork::Pop => told(pop(forest, pass), tally),
         TreeWork::Replace => told(forest.replace_if(pass, pair.0, key, pair.0), tally),
@@ -77,14 +69,13 @@ fn round(
 fn mix(
     forest: &Forest<Numbers>,
     pass: &mut Pass<Numbers>,
-    draws: &mut Draws,
+    chance: u64,
     pair: (u64, u64),
     looks: u64,
 ) -> Result<Option<u64>, UpdateFault>
     requires { IsOf forest.now pass.old }
     ensures { IsOf forest.now pass.new }
 {
-    let chance = draws.below(100);
     let half = 100_u64.saturating_sub(looks) / 2;
     if chance < looks {
         Ok(forest.get(pass, &pair.0))

@@ -26,7 +26,7 @@ pub fn run<R: Threads + Sync + Clock + AllocGlobal>(
     work: TreeWork,
 ) -> Result<Repetition, Fault> {
     let (forest, passes) = open(rt.alloc(), task)?;
-    let passes = fill_half(&forest, task.keys, passes);
+    let passes = fill_half(&forest, task, passes);
     let passes = numbered(rt.alloc(), &forest, passes)?;
     let start = now(rt)?;
     let tallies = crowd(rt, rt.alloc(), &forest, task, work, passes)?;
@@ -60,21 +60,21 @@ fn open(alloc: Global, task: Task) -> Result<(Forest<Numbers>, Vec<Pass<Numbers>
     }
 }
 
-/// Puts half of so many keys into the map, by the last passes, and answers the others.
+/// Puts half of the task's keys into the map, by the last passes, and answers the others.
 fn fill_half(
     forest: &Forest<Numbers>,
-    keys: u32,
+    task: Task,
     mut passes: Vec<Pass<Numbers>>,
 ) -> Vec<Pass<Numbers>>
-    requires keys { 1 ≤ keys }
     requires passes { All (IsOf forest.now) passes.items }
     ensures { All (IsOf forest.now) result.items }
 {
-    let mut left = keys / 2;
-    for stream in 0..fillers(keys) {
+    let mut left = task.keys / 2;
+    for stream in 0..fillers(task.keys) {
         if let Some(pass) = passes.pop() {
             let pairs = left.min(PAIRS_OF_A_PASS);
-            fill(forest, pass, Draws::of(stream), keys, pairs);
+            let draws = Draws::of(stream, task.work.deal());
+            fill(forest, pass, draws, task.keys, pairs);
             left -= pairs;
         }
     }
@@ -96,7 +96,7 @@ fn fill(
         if pairs == 0 {
             return;
         }
-        let key = draws.below(u64::from(keys));
+        let key = draws.key(keys);
         if forest.get(&mut pass, &key).is_none() {
             let _ = forest.insert(&mut pass, key, key);
             pairs -= 1;
@@ -119,7 +119,7 @@ fn crowd<R: Threads + Sync>(
         rt,
         passes,
         &|(number, pass): (u32, Pass<Numbers>)| {
-            let draws = Draws::of(number.wrapping_add(Limits::MOST_PASSES));
+            let draws = Draws::of_thread(number, task.work.deal());
             rounds(alloc, forest, task, work, pass, draws)
         },
     )

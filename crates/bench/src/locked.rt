@@ -10,7 +10,6 @@ use crate::repetition::{Repetition, nanos_since, now, sum};
 use crate::tally::{End, Tally};
 use crate::task::Task;
 use crate::work::TreeWork;
-use arena::Limits;
 use forest::OrderFault;
 use std::alloc::{AllocError, Global};
 use std::collections::BTreeMap;
@@ -28,7 +27,7 @@ pub fn run<R: Threads + Wait + Sync + Clock + AllocGlobal>(
     task: Task,
     work: TreeWork,
 ) -> Result<Repetition, Fault> {
-    let map = Mutex::new(half_full(rt.alloc(), task.keys)?);
+    let map = Mutex::new(half_full(rt.alloc(), task)?);
     let numbers = numbers(rt.alloc(), task.threads)?;
     let start = now(rt)?;
     let tallies = crowd(rt, rt.alloc(), &map, task, work, numbers)?;
@@ -39,15 +38,14 @@ pub fn run<R: Threads + Wait + Sync + Clock + AllocGlobal>(
     })
 }
 
-/// A map with half of so many keys: the pairs that a dictionary has at the start.
-fn half_full(alloc: Global, keys: u32) -> Result<BTreeMap<u64, u64>, Fault>
-    requires { 1 ≤ keys }
-{
+/// A map with half of the task's keys: the pairs that a dictionary has at the start.
+fn half_full(alloc: Global, task: Task) -> Result<BTreeMap<u64, u64>, Fault> {
     let mut map = BTreeMap::new(alloc);
-    let mut left = keys / 2;
-    for stream in 0..fillers(keys) {
+    let mut left = task.keys / 2;
+    for stream in 0..fillers(task.keys) {
         let pairs = left.min(PAIRS_OF_A_PASS);
-        fill(&mut map, Draws::of(stream), keys, pairs)?;
+        let draws = Draws::of(stream, task.work.deal());
+        fill(&mut map, draws, task.keys, pairs)?;
         left -= pairs;
     }
     Ok(map)
@@ -66,7 +64,7 @@ fn fill(
         if pairs == 0 {
             return Ok(());
         }
-        let key = draws.below(u64::from(keys));
+        let key = draws.key(keys);
         if map.insert(key, key)?.is_none() {
             pairs -= 1;
         }
@@ -96,7 +94,7 @@ fn crowd<R: Threads + Wait + Sync>(
         rt,
         numbers,
         &|number: u32| {
-            let draws = Draws::of(number.wrapping_add(Limits::MOST_PASSES));
+            let draws = Draws::of_thread(number, task.work.deal());
             rounds(rt, alloc, map, task, work, draws)
         },
     )
@@ -115,21 +113,12 @@ fn rounds<R: Wait>(
 {
     let mut tally = Tally::default();
     for call in 0..task.calls {
-        let key = draws.below(u64::from(task.keys));
-        let chance = chance_of(work, &mut draws);
+        let (key, chance) = draws.round(task.keys, work.goes_by_chance());
         let pair = (key, u64::from(call));
         let end = round(rt, alloc, map, work, chance, pair, &mut tally);
         tally.count(end);
     }
     tally
-}
-
-/// What decides which call a round of a mixed work makes.
-fn chance_of(work: TreeWork, draws: &mut Draws) -> u64 {
-    match work {
-        TreeWork::Mix { .. } => draws.below(100),
-        _ => 0,
-    }
 }
 
 /// A round, in which this pair may be put in.

@@ -32,7 +32,7 @@ pub fn run<R: Threads + Wait + Sync + Clock + AllocGlobal>(
 ) -> Result<Repetition, Fault> {
     match task.work {
         Work::Cells(work) => cells::run(rt, task, work),
-        Work::Tree(work) => dictionary::run(rt, task, work),
+        Work::Tree(work) | Work::Peers(work) => dictionary::run(rt, task, work),
         Work::Locked(work) => locked::run(rt, task, work),
     }
 }

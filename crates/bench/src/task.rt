@@ -34,7 +34,7 @@ impl fmt::Display for Task {
         );
         let keys = match self.work {
             Work::Cells(_) => 0,
-            Work::Tree(_) | Work::Locked(_) => self.keys,
+            Work::Tree(_) | Work::Peers(_) | Work::Locked(_) => self.keys,
         };
         write!(f, "{name},{keys},{threads},{calls},{times}")
     }

@@ -13,13 +13,10 @@ use std::{env, io};
 /// The most words that there may be, of which the first is the program's own name.
 const MOST_WORDS: usize = 6;
 
-/// How many threads there are, how often all is done, and how many keys there are, where the words
-/// do not say it.
+/// How many threads there are, and how often all is done, where the words do not say it.
 const USUAL_THREADS: u32 = 1;
 
 const USUAL_TIMES: u32 = 15;
-
-const USUAL_KEYS: u32 = 1000;
 
 /// The most keys: half of them fit the shares of five passes.
 const MOST_KEYS: u32 = 100_000;
@@ -65,7 +62,7 @@ fn task_of(words: &[String], work: Work) -> Result<Task, Fault> {
         threads: number_at(words, 2, (1, bounds.threads), USUAL_THREADS)?,
         calls: number_at(words, 3, (1, bounds.calls), bounds.usual_calls)?,
         times: number_at(words, 4, (0, u32::MAX), USUAL_TIMES)?,
-        keys: number_at(words, 5, (1, MOST_KEYS), USUAL_KEYS)?,
+        keys: number_at(words, 5, (1, MOST_KEYS), bounds.usual_keys)?,
     })
 }
 

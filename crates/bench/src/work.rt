@@ -1,7 +1,14 @@
 //! The works: what a thread does in each of its rounds.
 ghost use Rattle.std.specs.Prelude.{◌≤◌};
 
+use crate::draws::Deal;
 use arena::Limits;
+
+/// How many keys there are where the words do not say it.
+const USUAL_KEYS: u32 = 1_000;
+
+/// And in the works of peers: so many the maps of others were measured with.
+const KEYS_OF_PEERS: u32 = 10_000;
 
 /// What a thread does in each of its rounds.
 #[derive(Clone, Copy)]
@@ -10,6 +17,8 @@ pub enum Work {
     Cells(CellWork),
     /// A call of a dictionary.
     Tree(TreeWork),
+    /// The same by the draws with which the maps of others were measured.
+    Peers(TreeWork),
     /// The same call of a map behind a lock, as a measure for the dictionary.
     Locked(TreeWork),
 }
@@ -56,15 +65,19 @@ pub struct Bounds {
     pub calls: u32,
     /// The rounds of a thread where none are asked for.
     pub usual_calls: u32,
+    /// The keys where none are asked for.
+    pub usual_keys: u32,
     ghost some_thread: { 1 ≤ threads },
     ghost passes: { threads ≤ 32 },
     ghost some_call: { 1 ≤ usual_calls },
     ghost within: { usual_calls ≤ calls },
+    ghost some_key: { 1 ≤ usual_keys },
+    ghost few_keys: { usual_keys ≤ 100000 },
 }
 
 impl Work {
     /// Each work once.
-    pub const ALL: [Work; 22] = [
+    pub const ALL: [Work; 28] = [
         Work::Cells(CellWork::Llx),
         Work::Cells(CellWork::Own),
         Work::Cells(CellWork::Two),
@@ -78,6 +91,12 @@ impl Work {
         Work::Tree(TreeWork::Replace),
         Work::Tree(TreeWork::Successor),
         Work::Tree(TreeWork::Range),
+        Work::Peers(TreeWork::Get),
+        Work::Peers(TreeWork::Mix { looks: 90 }),
+        Work::Peers(TreeWork::Mix { looks: 50 }),
+        Work::Peers(TreeWork::Insert),
+        Work::Peers(TreeWork::Successor),
+        Work::Peers(TreeWork::Range),
         Work::Locked(TreeWork::Get),
         Work::Locked(TreeWork::Mix { looks: 90 }),
         Work::Locked(TreeWork::Mix { looks: 50 }),
@@ -94,6 +113,7 @@ impl Work {
         match self {
             Work::Cells(_) => "cells",
             Work::Tree(_) => "tree",
+            Work::Peers(_) => "peers",
             Work::Locked(_) => "mutex",
         }
     }
@@ -101,15 +121,16 @@ impl Work {
     /// What the work is done on.
     pub fn structure(self) -> &'static str {
         match self {
-            Work::Cells(_) | Work::Tree(_) => "regnubas",
+            Work::Cells(_) | Work::Tree(_) | Work::Peers(_) => "regnubas",
             Work::Locked(_) => "mutex",
         }
     }
 
-    /// The word of the command line that asks for it, if it is of cells or of a dictionary.
+    /// The word of the command line that asks for it, but where it is of a map behind a lock.
     pub fn name(self) -> &'static str {
         match self {
             Work::Cells(work) => work.name(),
+            Work::Peers(work) => work.name_of_peer(),
             Work::Tree(work) | Work::Locked(work) => work.name(),
         }
     }
@@ -117,7 +138,7 @@ impl Work {
     /// Whether a word of the command line asks for it: by its name, its kind, or for all.
     pub fn is_asked_by(self, word: &str) -> bool {
         match self {
-            Work::Cells(_) | Work::Tree(_) if word == self.name() => true,
+            Work::Cells(_) | Work::Tree(_) | Work::Peers(_) if word == self.name() => true,
             _ => word == "all" || word == self.kind(),
         }
     }
@@ -125,7 +146,16 @@ impl Work {
     pub fn bounds(self) -> Bounds {
         match self {
             Work::Cells(work) => work.bounds(),
-            Work::Tree(work) | Work::Locked(work) => work.bounds(),
+            Work::Tree(work) | Work::Locked(work) => work.bounds(USUAL_KEYS),
+            Work::Peers(work) => work.bounds(KEYS_OF_PEERS),
+        }
+    }
+
+    /// How its keys are drawn.
+    pub fn deal(self) -> Deal {
+        match self {
+            Work::Peers(_) => Deal::Halves,
+            _ => Deal::Remainders,
         }
     }
 }
@@ -153,6 +183,7 @@ impl CellWork {
             threads,
             calls,
             usual_calls,
+            usual_keys: USUAL_KEYS,
         }
     }
 }
@@ -172,9 +203,28 @@ impl TreeWork {
         }
     }
 
+    fn name_of_peer(self) -> &'static str {
+        match self {
+            TreeWork::Get => "peer_get",
+            TreeWork::Mix { looks: 90 } => "peer_mix90",
+            TreeWork::Mix { .. } => "peer_mix50",
+            TreeWork::Successor => "peer_succ",
+            TreeWork::Range => "peer_range64",
+            _ => "peer_insert",
+        }
+    }
+
+    /// Whether a number below 100 decides what a round does.
+    pub fn goes_by_chance(self) -> bool {
+        matches!(self, TreeWork::Mix { .. })
+    }
+
     /// An insert takes three nodes at most and another edit one, of which a thread has a share. There
     /// are 500 pairs to take out where the words do not say how many keys there are.
-    fn bounds(self) -> Bounds {
+    fn bounds(self, usual_keys: u32) -> Bounds
+        requires some { 1 ≤ usual_keys }
+        requires few { usual_keys ≤ 100000 }
+    {
         let (calls, usual_calls) = match self {
             TreeWork::Get => (u32::MAX, 100_000),
             TreeWork::Mix { looks: 90 } => (200_000, 100_000),
@@ -190,6 +240,7 @@ impl TreeWork {
             threads: 8,
             calls,
             usual_calls,
+            usual_keys,
         }
     }
 }
