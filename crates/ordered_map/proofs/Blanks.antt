@@ -1,10 +1,10 @@
 -- What stood in the tree above all keys is blank.
-use Rattle.std.proofs.Common.{◌≡◌, ◌≢◌, ℕ, ◌<◌, ◌/◌, ◌%◌, true, false, eqb, ◌⊎◌, inl, inr, refl, sym, ◌∙◌, ap, arith, subst}
+use Rattle.std.proofs.Common.{◌≡◌, ℕ, ◌<◌, ◌%◌, true, false, ◌⊎◌, inl, inr, refl, sym, ◌∙◌, ap, arith, subst}
 use Rattle.arena.specs.declared.limits.Mode.TheVariants.{Tree as TreeMode}
 use Rattle.arena.specs.declared.word.Side.{Side}
 use Rattle.arena.specs.declared.word.Side.TheVariants.{Left, Right}
 use Rattle.arena.specs.declared.word.NodeWord.TheVariants.{Settled, Child}
-use Rattle.arena.specs.declared.word.SettledPart.TheVariants.{Key, Value}
+use Rattle.arena.specs.declared.word.SettledPart.TheVariants.{Key}
 use Rattle.arena.specs.declared.word.Word.{Word}
 use Rattle.arena.specs.declared.layout.Layout.{Layout}
 use Rattle.arena.specs.declared.step.Row.{Row}
@@ -16,9 +16,9 @@ use Rattle.arena.proofs.Lemmas.{node_word_apart}
 use Rattle.histories.proofs.Lemmas.{UpdateWins, node_stays, update_keeps_other}
 use Rattle.ordered_map.specs.OrderedMap.{MapEdit, Insert, Delete}
 use Rattle.ordered_map.specs.Paths.{WasInTree}
-use Rattle.ordered_map.specs.TreeShape.{IsInsert, IsEdit, leaf_place, sibling_place}
-use Rattle.ordered_map.specs.TreeWords.{Has, class, is_leaf, rank, toward, IsBlankAboveKeys}
-use Rattle.ordered_map.specs.Edits.{IsAlike, IsSwap, IsSplit, IsJoin}
+use Rattle.ordered_map.specs.TreeShape.{IsEdit, leaf_place, sibling_place}
+use Rattle.ordered_map.specs.TreeWords.{Has, class, is_leaf, toward, IsBlankAboveKeys}
+use Rattle.ordered_map.specs.Edits.{IsLastLeaf, IsSplitBy, IsJoinBy, IsLeafEdit}
 use Rattle.ordered_map.proofs.Holding.{SameSettled}
 use Rattle.ordered_map.proofs.Moved.{settled_class, settled_leaf}
 use Rattle.ordered_map.proofs.Pending.{Mine, Pending}
@@ -29,39 +29,26 @@ use Rattle.ordered_map.proofs.Stood.{facts_then, tree_then, PutThere, of_all_sto
 -- The edits
 
 settled_blank : (b f : Word → ℕ) (n : ℕ) → SameSettled b f n → IsBlankAboveKeys b n → IsBlankAboveKeys f n
-settled_blank b f n e x = record {
-  key = λ d. e (Settled Key) tt ∙ x.key (λ q. d (settled_class b f n e ∙ q));
-  value = λ d l. e (Settled Value) tt ∙ x.value (λ q. d (settled_class b f n e ∙ q)) (sym (settled_leaf b f n e) ∙ l);
-}
+settled_blank b f n e x d = e (Settled Key) tt ∙ x (λ q. d (settled_class b f n e ∙ q))
 
 back : (b f : Word → ℕ) (n : ℕ) → SameSettled b f n → SameSettled f b n
 back b f n e a i = sym (e a i)
 
 low_blank : (f : Word → ℕ) (n : ℕ) → class f n ≡ 0 → IsBlankAboveKeys f n
-low_blank f n e = record { key = λ d. absurd (d e); value = λ d _. absurd (d e) }
+low_blank f n e d = absurd (d e)
 
 not_both : (f : Word → ℕ) (n : ℕ) → is_leaf f n ≡ true → is_leaf f n ≡ false → ⊥
 not_both f n a b = let x : true ≡ false = sym a ∙ b in cc
 
 module _ (f : Word → ℕ) where
-  copy_blank : (n m : ℕ) → is_leaf f m ≡ true → IsAlike f n m → f (node n (Settled Value)) ≡ f (node m (Settled Value)) → IsBlankAboveKeys f m → IsBlankAboveKeys f n
-  copy_blank n m leaf e v x = record { key = λ d. e.key ∙ x.key (λ q. d (e.class ∙ q)); value = λ d _. v ∙ x.value (λ q. d (e.class ∙ q)) leaf }
+  last_blank : (n l : ℕ) → IsLastLeaf f n l → IsBlankAboveKeys f l → IsBlankAboveKeys f n
+  last_blank n l s b d = s.key d ∙ b (λ q. d (s.same_class ∙ q))
 
-  fork_blank : (k v l c x y : ℕ) → IsSplit f k v l c x y → IsBlankAboveKeys f l → IsBlankAboveKeys f c
-  fork_blank k v l c x y s b = record { key = key s.order; value = λ d leaf. absurd (not_both f c leaf s.fork) }
-    where
-      key : ((k < rank f l) × IsAlike f c l × (f (child c Left) ≡ x) × (f (child c Right) ≡ y)) ⊎ ((rank f l < k) × IsAlike f c x × (f (child c Left) ≡ y) × (f (child c Right) ≡ x)) → class f c ≢ 0 → f (node c (Settled Key)) ≡ 0
-      key (inl o) d = o.1.key ∙ b.key (λ q. d (o.1.class ∙ q))
-      key (inr o) d = absurd (d (o.1.class ∙ s.new.class))
+  fork_blank : (e : MapEdit) (l c x y : ℕ) → IsSplitBy f e l c x y → IsBlankAboveKeys f l → IsBlankAboveKeys f c
+  fork_blank e l c x y s b d = (s.above d).key ∙ b (λ q. d ((s.above d).class ∙ q))
 
-  join_blank : (k q l z c : ℕ) → IsJoin f k q l z c → IsBlankAboveKeys f z → IsBlankAboveKeys f c
-  join_blank k q l z c s b = record { key = λ d. s.same_key ∙ b.key (high d); value = λ d leaf. let y : is_leaf f z ≡ true = sym same_leaf ∙ leaf in s.same_value y ∙ b.value (high d) y }
-    where
-      same_leaf : is_leaf f c ≡ is_leaf f z
-      same_leaf = ap (λ v. eqb (v / 4 % 2) 1) s.same_head
-
-      high : class f c ≢ 0 → class f z ≢ 0
-      high d q = d (ap (λ v. v % 4) s.same_head ∙ q)
+  join_blank : (e : MapEdit) (q l z c : ℕ) → IsJoinBy f e q l z c → IsBlankAboveKeys f z → IsBlankAboveKeys f c
+  join_blank e q l z c s b d = s.same_key ∙ b (λ w. d (ap (λ v. v % 4) s.same_head ∙ w))
 
 -- what an SCX-record puts into the tree is blank, if what it removes is
 module _ (calls : ℕ → MapEdit) (lay : Layout) (h : History) (u : ℕ) (p : Pending calls lay h u) where
@@ -81,28 +68,15 @@ module _ (calls : ℕ → MapEdit) (lay : Layout) (h : History) (u : ℕ) (p : P
   its n (inl e) = inl e
   its n (inr x) = inr (inl (x.2.0, sym (p.fields (fork_then x.0) x.2.0) ∙ x.2.1))
 
-  inserts : (k v : ℕ) → IsInsert p.before u k v → IsBlankAboveKeys b (member p.before u 1) → (n : ℕ) → Puts n → IsBlankAboveKeys b n
-  inserts k v e l n = go e.edit
+  leaf_edits : (e : MapEdit) → IsLeafEdit b e (member p.before u 1) made → IsBlankAboveKeys b (member p.before u 1) → (n : ℕ) → Puts n → IsBlankAboveKeys b n
+  leaf_edits e (inl s) l n (inl m) = subst (IsBlankAboveKeys b) (sym m) (low_blank b made s.new.class)
+  leaf_edits e (inl s) l n (inr m) = absurd (not_both b made s.new.leaf (fork_then m.0))
+  leaf_edits e (inr s) l n (inl m) = subst (IsBlankAboveKeys b) (sym m) (fork_blank b e (member p.before u 1) made s.0 s.1 s.2 l)
+  leaf_edits e (inr s) l n (inr m) = below m.2.0 (sym (p.fields (fork_then m.0) m.2.0) ∙ m.2.1)
     where
-      go : IsSwap b k v (member p.before u 1) made ⊎ ((x y : ℕ) × IsSplit b k v (member p.before u 1) made x y) → Puts n → IsBlankAboveKeys b n
-      go (inl s) (inl m) = rw m (low_blank b made s.new.class)
-      go (inl s) (inr m) = absurd (not_both b made s.new.leaf (fork_then m.0))
-      go (inr s) (inl m) = rw m (fork_blank b k v (member p.before u 1) made s.0 s.1 s.2 l)
-      go (inr s) (inr m) = below s.2.order m.2.0 (sym (p.fields (fork_then m.0) m.2.0) ∙ m.2.1)
-        where
-          new_blank : IsBlankAboveKeys b s.0
-          new_blank = low_blank b s.0 s.2.new.class
-
-          old_blank : IsBlankAboveKeys b s.1
-          old_blank = copy_blank b s.1 (member p.before u 1) s.2.leaf s.2.copy.alike s.2.copy.value l
-
-          below : ((k < rank b (member p.before u 1)) × IsAlike b made (member p.before u 1) × (b (child made Left) ≡ s.0) × (b (child made Right) ≡ s.1))
-              ⊎ ((rank b (member p.before u 1) < k) × IsAlike b made s.0 × (b (child made Left) ≡ s.1) × (b (child made Right) ≡ s.0))
-              → (side : Side) → b (child made side) ≡ n → IsBlankAboveKeys b n
-          below (inl o) Left c = subst (IsBlankAboveKeys b) (sym o.2 ∙ c) new_blank
-          below (inl o) Right c = subst (IsBlankAboveKeys b) (sym o.3 ∙ c) old_blank
-          below (inr o) Left c = subst (IsBlankAboveKeys b) (sym o.2 ∙ c) old_blank
-          below (inr o) Right c = subst (IsBlankAboveKeys b) (sym o.3 ∙ c) new_blank
+      below : (side : Side) → b (child made side) ≡ n → IsBlankAboveKeys b n
+      below Left c = subst (IsBlankAboveKeys b) (sym s.2.left ∙ c) (low_blank b s.0 s.2.first.class)
+      below Right c = subst (IsBlankAboveKeys b) (sym s.2.right ∙ c) (last_blank b s.1 (member p.before u 1) s.2.last l)
 
   abbrev Cuts : ℕ → Type 0
   Cuts n = (j : ℕ) × (j < count p.before u) × (scx_finalizes p.before u j ≡ true) × (member p.before u j ≡ n)
@@ -111,7 +85,7 @@ module _ (calls : ℕ → MapEdit) (lay : Layout) (h : History) (u : ℕ) (p : P
   now cut n x = settled_blank (value h) b n (back b (value h) n (p.settled n (inr (inr (x.0, x.3))))) (cut n x)
 
   edits : (e : MapEdit) → IsEdit p.before u e → ((n : ℕ) → Cuts n → IsBlankAboveKeys (value h) n) → (n : ℕ) → Puts n → IsBlankAboveKeys b n
-  edits (Insert k v) e cut n m = inserts k v e (now cut (member p.before u 1) (1, rw plans.3 (omega arith), plans.4, refl)) n m
+  edits (Insert k v) e cut n m = leaf_edits (Insert k v) e.edit (now cut (member p.before u 1) (1, rw plans.3 (omega arith), plans.4, refl)) n m
     where
       plans : (field_index_of (plan p.before u) ≡ 0) × (side_of (plan p.before u) ≡ toward b (member p.before u 0) k) × (plan_finalizes (plan p.before u) 0 ≡ false) × (count_of (plan p.before u) ≡ 2) × (plan_finalizes (plan p.before u) 1 ≡ true)
       plans = plan_insert (plan p.before u) (toward b (member p.before u 0) k) e.plan
@@ -128,7 +102,7 @@ module _ (calls : ℕ → MapEdit) (lay : Layout) (h : History) (u : ℕ) (p : P
       sibling Right = (2, rw plans.3 (omega arith), plans.5, refl)
 
       go : Puts n → IsBlankAboveKeys b n
-      go (inl q) = rw q (join_blank b k (member p.before u 1) (member p.before u (leaf_place side)) (member p.before u (sibling_place side)) made e.edit (now cut (member p.before u (sibling_place side)) (sibling side)))
+      go (inl q) = subst (IsBlankAboveKeys b) (sym q) (join_blank b (Delete k) (member p.before u 1) (member p.before u (leaf_place side)) (member p.before u (sibling_place side)) made e.edit (now cut (member p.before u (sibling_place side)) (sibling side)))
       go (inr q) = absurd (let x : count p.before u ≡ 2 = q.1 in let y : count p.before u ≡ 4 = plans.3 in omega (arith, x, y))
 
   puts_blank : ((n : ℕ) → Cuts n → IsBlankAboveKeys (value h) n) → (n : ℕ) → Puts n → IsBlankAboveKeys (value h) n
@@ -142,7 +116,7 @@ module _ (calls : ℕ → MapEdit) (lay : Layout) where
 
   opens : (n : ℕ) → n < 3 → IsBlankThen (Start TreeMode) n
   unfolding value
-  opens n i = record { key = λ d. refl; value = λ d l. refl }
+  opens n i d = refl
 
   stays : (h : History) (r : Row) (n : ℕ) → IsGrown calls lay (r ⊳ h) → IsNamed lay h n → IsBlankThen h n → IsBlankThen (r ⊳ h) n
   stays h r n g named x = settled_blank (value h) (value (r ⊳ h)) n (λ a i. node_stays lay h r n a g.lawful i named) x

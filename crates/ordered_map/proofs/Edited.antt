@@ -30,7 +30,6 @@ use Rattle.ordered_map.specs.Spelled.{IsTree}
 use Rattle.ordered_map.specs.TreeShape.{insert_plan, delete_plan, IsEdit, IsDelete, leaf_place, sibling_place, edit_leaf}
 use Rattle.ordered_map.specs.TreeWords.{Tree, root, Shows, Has, Passes, is_leaf, level, rank, toward, said}
 use Rattle.ordered_map.specs.Edits.{IsLeafEdit, AreBelow, HasFieldsOf}
-use Rattle.ordered_map.proofs.OnePair.{insert_by, join_by}
 use Rattle.ordered_map.proofs.Local.{Apart, swap, split, join}
 use Rattle.ordered_map.proofs.Searches.{told, told_said, path_child, get_left, get_leaf}
 use Rattle.ordered_map.proofs.Holding.{SameSettled}
@@ -188,7 +187,7 @@ module _ (calls : ℕ → MapEdit) (lay : Layout) (h : History) (r : Row) (u : �
 
   -- a leaf is replaced
   leaf_edits : (c : MapEdit) → edit_key c < 2 ^ 64 → WasOnPath past.before (edit_key c) spot_of → is_leaf (value past.before) spot_of ≡ false → plan past.before u ≡ insert_plan (toward (value past.before) spot_of (edit_key c)) → old past.before u ≡ member past.before u 1 → IsLeafEdit (value past.before) c (member past.before u 1) made_of → Result (edited c)
-  leaf_edits c small p fork plan_is old_is e = at_spot (edit_key c) s p small fork (edited c) (edited_local c) (edit (move_leaf_edit (value past.before) (value h) c (member past.before u 1) made_of (member_card 1) made_card (λ side. child_card side (value past.before (child made_of side)) refl) past.fields e))
+  leaf_edits c small p fork plan_is old_is e = at_spot (edit_key c) s p small fork (edited c) (edited_local c) (edit (move_leaf_edit (value past.before) (value h) c (member past.before u 1) made_of (member_card 1) made_card (λ _ side. child_card side (value past.before (child made_of side)) refl) past.fields e))
     where
       plans : (field_index_of (plan past.before u) ≡ 0) × (side_of (plan past.before u) ≡ toward (value past.before) spot_of (edit_key c)) × (plan_finalizes (plan past.before u) 0 ≡ false) × (count_of (plan past.before u) ≡ 2) × (plan_finalizes (plan past.before u) 1 ≡ true)
       plans = plan_insert (plan past.before u) (toward (value past.before) spot_of (edit_key c)) plan_is
@@ -319,11 +318,11 @@ module _ (calls : ℕ → MapEdit) (lay : Layout) (h : History) (r : Row) (u : �
       edit : (lo hi : ℕ) (c : Tree) → lo ≤ x → x < hi → Shows (value h) lo hi c → root c ≡ old past.before u → ¬ Has c spot_of → Replaced (value h) (value (r ⊳ h)) (delete x) IsCut Born made_of lo hi c
       edit lo hi c i j g q d =
           weaken gone from_cut (λ n m. inl m) (join (value h) (value (r ⊳ h)) spot_of (is_apart x s) (Delete x) (member past.before u 1) (member past.before u (leaf_place side)) (member past.before u (sibling_place side)) made_of other (shown_child side (e.fields (saw 1 (omega arith)))).0 (shown_child side (e.fields (saw 1 (omega arith)))).1 (apart_made x s p)
-          (move_join_by (value past.before) (value h) (Delete x) (member past.before u 1) (member past.before u (leaf_place side)) (member past.before u (sibling_place side)) made_of (member_card 1) (member_card (leaf_place side)) (member_card (sibling_place side)) made_card (join_by (value past.before) x (member past.before u 1) (member past.before u (leaf_place side)) (member past.before u (sibling_place side)) made_of e.edit))
+          (move_join_by (value past.before) (value h) (Delete x) (member past.before u 1) (member past.before u (leaf_place side)) (member past.before u (sibling_place side)) made_of (member_card 1) (member_card (leaf_place side)) (member_card (sibling_place side)) made_card e.edit)
           (sides side) kids lo hi c i j g (q ∙ e.old) d)
 
   edits : (c : MapEdit) → edit_key c < 2 ^ 64 → WasOnPath past.before (edit_key c) spot_of → is_leaf (value past.before) spot_of ≡ false → IsEdit past.before u c → Result (edited c)
-  edits (Insert x y) small p fork e = leaf_edits (Insert x y) small p fork e.plan e.old (insert_by (value past.before) x y (member past.before u 1) made_of small e.edit)
+  edits (Insert x y) small p fork e = leaf_edits (Insert x y) small p fork e.plan e.old e.edit
   edits (Delete x) small p fork e = deletes x (toward (value past.before) (member past.before u 1) x) small p fork e
 
   spot_for : (c : MapEdit) → IsEdit past.before u c → IsSpot (edit_key c)
@@ -532,13 +531,13 @@ module _ (calls : ℕ → MapEdit) (lay : Layout) (h : History) (r : Row) (u : �
           let q : level (value past.before) made_of ≡ level (value past.before) (member past.before u (sibling_place side)) = ap (λ v. v / 8) e.edit.same_head in
           omega (arith, a, c, d, q)
 
-  levels_of : (c : MapEdit) → edit_key c < 2 ^ 64 → IsEdit past.before u c → (n : ℕ) → Born n → IsAsDeep n
-  levels_of (Insert x y) small e = leaf_levels (Insert x y) e.plan (insert_by (value past.before) x y (member past.before u 1) made_of small e.edit)
-  levels_of (Delete x) small e = delete_levels x (toward (value past.before) (member past.before u 1) x) e
+  levels_of : (c : MapEdit) → IsEdit past.before u c → (n : ℕ) → Born n → IsAsDeep n
+  levels_of (Insert x y) e = leaf_levels (Insert x y) e.plan e.edit
+  levels_of (Delete x) e = delete_levels x (toward (value past.before) (member past.before u 1) x) e
 
   pub born_level : (n : ℕ) → Born n → (k : ℕ) × IsCut k × (level (value h) n ≤ suc (level (value h) k))
   unfolding IsAsDeep
-  born_level n b = levels_of called past.allowed.small past.allowed.edit n b
+  born_level n b = levels_of called past.allowed.edit n b
 
   -- its new node stands in the tree now
   pub new_in : Has result.tree (new h u)

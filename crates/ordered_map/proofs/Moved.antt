@@ -1,5 +1,5 @@
 -- The facts of an edit go over to words that agree on its nodes.
-use Rattle.std.proofs.Common.{◌≡◌, ℕ, ◌<◌, ◌+◌, ◌*◌, ◌/◌, ◌%◌, ◌^◌, false, eqb, ◌⊎◌, inl, inr, ◌++◌, sym, ◌∙◌, ap, arith, ltb, cond, subst}
+use Rattle.std.proofs.Common.{◌≡◌, ℕ, ◌+◌, ◌*◌, ◌/◌, ◌%◌, ◌^◌, false, eqb, inl, inr, ◌++◌, sym, ◌∙◌, ap, ltb, cond, subst}
 use Rattle.arena.specs.declared.word.Side.{Side}
 use Rattle.arena.specs.declared.word.Side.TheVariants.{Left, Right}
 use Rattle.arena.specs.declared.word.NodeWord.TheVariants.{Settled}
@@ -10,7 +10,7 @@ use Rattle.std.specs.Prelude.{Some, None}
 use Rattle.ordered_map.specs.OrderedMap.{pair, AllBelow, AllFrom, MapEdit, edited}
 use Rattle.ordered_map.specs.TreeWords.{class, is_leaf, level, rank, toward, first_said, leaf_items}
 use Rattle.ordered_map.proofs.Holding.{SameSettled, held_same, counted_same, same_items}
-use Rattle.ordered_map.specs.Edits.{IsLowLeaf, IsLastLeaf, IsSwapBy, IsSplitBy, IsJoinBy, IsLeafEdit, IsPairLeaf, IsAlike, IsSwap, IsSplit, IsJoin}
+use Rattle.ordered_map.specs.Edits.{IsLowLeaf, IsLastLeaf, IsSwapBy, IsSplitBy, IsJoinBy, IsLeafEdit, IsAlike}
 
 pub settled_rank : (b f : Word → ℕ) (n : ℕ) → SameSettled b f n → rank f n ≡ rank b n
 settled_rank b f n e = λ i. e (Settled Head) tt i % 4 * 2 ^ 64 + e (Settled Key) tt i
@@ -31,8 +31,6 @@ pub settled_first : (b f : Word → ℕ) (n : ℕ) → SameSettled b f n → fir
 settled_first b f n e = λ i. cond (eqb (e (Settled Head) tt i % 4) 0) (Some (pair (e (Settled Key) tt i) (e (Settled Value) tt i))) None
 
 module _ (b f : Word → ℕ) where
-  -- by lists of pairs
-
   move_low : (n : ℕ) → SameSettled b f n → IsLowLeaf b n → IsLowLeaf f n
   move_low n e s = record { leaf = settled_leaf b f n e ∙ s.leaf; class = settled_class b f n e ∙ s.class; counted = counted_same b f n e s.counted }
 
@@ -43,6 +41,9 @@ module _ (b f : Word → ℕ) where
     counted = λ z. counted_same b f n e (s.counted (sym (settled_class b f n e) ∙ z));
     key = λ d. e (Settled Key) tt ∙ s.key (λ z. d (settled_class b f n e ∙ z)) ∙ sym (el (Settled Key) tt);
   }
+
+  move_alike : (n m : ℕ) → SameSettled b f n → SameSettled b f m → IsAlike b n m → IsAlike f n m
+  move_alike n m e d s = record { class = settled_class b f n e ∙ s.class ∙ sym (settled_class b f m d); key = e (Settled Key) tt ∙ s.key ∙ sym (d (Settled Key) tt) }
 
   move_swap_by : (e : MapEdit) (l c : ℕ) → SameSettled b f l → SameSettled b f c → IsSwapBy b e l c → IsSwapBy f e l c
   move_swap_by e l c el ec s = record {
@@ -65,14 +66,15 @@ module _ (b f : Word → ℕ) where
     items = (λ i. same_items b f x ex i ++ same_items b f y ey i) ∙ s.items ∙ ap (edited e) (sym (same_items b f l el));
     before = subst (λ r. AllBelow r (leaf_items f x)) (sym (settled_rank b f c ec)) (subst (AllBelow (rank b c)) (sym (same_items b f x ex)) s.before);
     behind = subst (λ r. AllFrom r (leaf_items f y)) (sym (settled_rank b f c ec)) (subst (AllFrom (rank b c)) (sym (same_items b f y ey)) s.behind);
+    above = λ d. move_alike c l ec el (s.above (λ z. d (settled_class b f c ec ∙ z)));
     deep = settled_level b f c ec ∙ s.deep ∙ sym (settled_level b f l el);
     low = settled_level b f x ex ∙ s.low ∙ ap (λ v. v + 1) (sym (settled_level b f c ec));
     high = settled_level b f y ey ∙ s.high ∙ ap (λ v. v + 1) (sym (settled_level b f c ec));
   }
 
-  pub move_leaf_edit : (e : MapEdit) (l c : ℕ) → SameSettled b f l → SameSettled b f c → ((side : Side) → SameSettled b f (b (child c side))) → (is_leaf b c ≡ false → (side : Side) → f (child c side) ≡ b (child c side)) → IsLeafEdit b e l c → IsLeafEdit f e l c
+  pub move_leaf_edit : (e : MapEdit) (l c : ℕ) → SameSettled b f l → SameSettled b f c → (is_leaf b c ≡ false → (side : Side) → SameSettled b f (b (child c side))) → (is_leaf b c ≡ false → (side : Side) → f (child c side) ≡ b (child c side)) → IsLeafEdit b e l c → IsLeafEdit f e l c
   move_leaf_edit e l c el ec below fields (inl s) = inl (move_swap_by e l c el ec s)
-  move_leaf_edit e l c el ec below fields (inr s) = inr (s.0, s.1, move_split_by e l c s.0 s.1 el ec (subst (SameSettled b f) s.2.left (below Left)) (subst (SameSettled b f) s.2.right (below Right)) (fields s.2.fork) s.2)
+  move_leaf_edit e l c el ec below fields (inr s) = inr (s.0, s.1, move_split_by e l c s.0 s.1 el ec (subst (SameSettled b f) s.2.left (below s.2.fork Left)) (subst (SameSettled b f) s.2.right (below s.2.fork Right)) (fields s.2.fork) s.2)
 
   pub move_join_by : (e : MapEdit) (q l z c : ℕ) → SameSettled b f q → SameSettled b f l → SameSettled b f z → SameSettled b f c → IsJoinBy b e q l z c → IsJoinBy f e q l z c
   move_join_by e q l z c eq el ez ec s = record {
@@ -85,55 +87,4 @@ module _ (b f : Word → ℕ) where
     same_pairs = λ leaf low.
         let x = s.same_pairs (sym (settled_leaf b f z ez) ∙ leaf) (sym (settled_class b f z ez) ∙ low) in
         (counted_same b f c ec x.0, held_same b f c ec ∙ x.1 ∙ sym (held_same b f z ez));
-  }
-
-  -- for leaves of one pair each
-
-  move_pair : (n k v : ℕ) → SameSettled b f n → IsPairLeaf b n k v → IsPairLeaf f n k v
-  move_pair n k v e s = record { leaf = settled_leaf b f n e ∙ s.leaf; class = settled_class b f n e ∙ s.class; key = e (Settled Key) tt ∙ s.key; value = e (Settled Value) tt ∙ s.value }
-
-  move_alike : (n m : ℕ) → SameSettled b f n → SameSettled b f m → IsAlike b n m → IsAlike f n m
-  move_alike n m e d s = record { class = settled_class b f n e ∙ s.class ∙ sym (settled_class b f m d); key = e (Settled Key) tt ∙ s.key ∙ sym (d (Settled Key) tt) }
-
-  pub move_swap : (k v l c : ℕ) → SameSettled b f l → SameSettled b f c → IsSwap b k v l c → IsSwap f k v l c
-  move_swap k v l c el ec s =
-      let x : level f l ≡ level b l = settled_level b f l el in
-      let y : level f c ≡ level b c = settled_level b f c ec in
-      let z = s.deep in
-      record { leaf = settled_leaf b f l el ∙ s.leaf; class = settled_class b f l el ∙ s.class; key = el (Settled Key) tt ∙ s.key; new = move_pair c k v ec s.new; deep = omega (arith, x, y, z) }
-
-  pub move_split : (k v l c x y : ℕ) → SameSettled b f l → SameSettled b f c → SameSettled b f x → SameSettled b f y → ((side : Side) → f (child c side) ≡ b (child c side)) → IsSplit b k v l c x y → IsSplit f k v l c x y
-  move_split k v l c x y el ec ex ey fields s =
-      let rl : level f l ≡ level b l = settled_level b f l el in
-      let rc : level f c ≡ level b c = settled_level b f c ec in
-      let rx : level f x ≡ level b x = settled_level b f x ex in
-      let ry : level f y ≡ level b y = settled_level b f y ey in
-      let d = s.deep in
-      let lo = s.low in
-      let hi = s.high in
-      record {
-        leaf = settled_leaf b f l el ∙ s.leaf;
-        fork = settled_leaf b f c ec ∙ s.fork;
-        new = move_pair x k v ex s.new;
-        copy = record { leaf = settled_leaf b f y ey ∙ s.copy.leaf; alike = move_alike y l ey el s.copy.alike; value = ey (Settled Value) tt ∙ s.copy.value ∙ sym (el (Settled Value) tt) };
-        deep = omega (arith, rl, rc, d);
-        low = omega (arith, rx, rc, lo);
-        high = omega (arith, ry, rc, hi);
-        order = order s.order;
-      }
-    where
-      order : ((k < rank b l) × IsAlike b c l × (b (child c Left) ≡ x) × (b (child c Right) ≡ y)) ⊎ ((rank b l < k) × IsAlike b c x × (b (child c Left) ≡ y) × (b (child c Right) ≡ x))
-          → ((k < rank f l) × IsAlike f c l × (f (child c Left) ≡ x) × (f (child c Right) ≡ y)) ⊎ ((rank f l < k) × IsAlike f c x × (f (child c Left) ≡ y) × (f (child c Right) ≡ x))
-      order (inl o) = inl (rw (settled_rank b f l el) o.0, move_alike c l ec el o.1, fields Left ∙ o.2, fields Right ∙ o.3)
-      order (inr o) = inr (rw (settled_rank b f l el) o.0, move_alike c x ec ex o.1, fields Left ∙ o.2, fields Right ∙ o.3)
-
-  pub move_join : (k q l z c : ℕ) → SameSettled b f q → SameSettled b f l → SameSettled b f z → SameSettled b f c → IsJoin b k q l z c → IsJoin f k q l z c
-  move_join k q l z c eq el ez ec s = record {
-    fork = settled_leaf b f q eq ∙ s.fork;
-    leaf = settled_leaf b f l el ∙ s.leaf;
-    class = settled_class b f l el ∙ s.class;
-    key = el (Settled Key) tt ∙ s.key;
-    same_head = ec (Settled Head) tt ∙ s.same_head ∙ sym (ez (Settled Head) tt);
-    same_key = ec (Settled Key) tt ∙ s.same_key ∙ sym (ez (Settled Key) tt);
-    same_value = λ i. ec (Settled Value) tt ∙ s.same_value (sym (settled_leaf b f z ez) ∙ i) ∙ sym (ez (Settled Value) tt);
   }

@@ -11,22 +11,22 @@ use Rattle.ordered_map.specs.TreeWords.{class, rank, leaf_items}
 use Rattle.ordered_map.specs.Edits.{IsPairLeaf, IsAlike, IsLeafCopy, IsSwap, IsSplit, IsJoin, IsLowLeaf, IsSwapBy, IsSplitBy, IsJoinBy, IsLeafEdit}
 use Rattle.ordered_map.proofs.Holding.{held_one, counted_one, low_items, one_item}
 
-insert_here : (k v w : ℕ) → insert k v (pair k w ∷ []) ≡ pair k v ∷ []
+pub insert_here : (k v w : ℕ) → insert k v (pair k w ∷ []) ≡ pair k v ∷ []
 insert_here k v w =
     let a : ltb k k ≡ false = le-ltb k k (omega arith) in
     let b : eqb k k ≡ true = eq-eqb k k refl in
     rw (a, b) refl
 
-put_before : (k v r w : ℕ) → k < r → insert k v (pair r w ∷ []) ≡ pair k v ∷ pair r w ∷ []
+pub put_before : (k v r w : ℕ) → k < r → insert k v (pair r w ∷ []) ≡ pair k v ∷ pair r w ∷ []
 put_before k v r w l = rw (lt-ltb k r l) refl
 
-put_behind : (k v r w : ℕ) → r < k → insert k v (pair r w ∷ []) ≡ pair r w ∷ pair k v ∷ []
+pub put_behind : (k v r w : ℕ) → r < k → insert k v (pair r w ∷ []) ≡ pair r w ∷ pair k v ∷ []
 put_behind k v r w l =
     let a : ltb k r ≡ false = le-ltb k r (omega arith) in
     let b : eqb k r ≡ false = ne_eqb k r (λ e. omega arith) in
     rw (a, b) refl
 
-taken_out : (k w : ℕ) → delete k (pair k w ∷ []) ≡ []
+pub taken_out : (k w : ℕ) → delete k (pair k w ∷ []) ≡ []
 taken_out k w = let b : eqb k k ≡ true = eq-eqb k k refl in rw b refl
 
 module _ (f : Word → ℕ) where
@@ -83,6 +83,7 @@ module _ (f : Word → ℕ) where
           items = (λ i. new_items i ++ copied i) ∙ sym (put_before k v (rank f l) was.0 o.0) ∙ ap (insert k v) (sym was.1);
           before = subst (AllBelow (rank f c)) (sym new_items) (let e = alike_rank c l o.1 in let d = o.0 in omega (arith, e, d), tt);
           behind = subst (AllFrom (rank f c)) (sym copied) (let e = alike_rank c l o.1 in omega (arith, e), tt);
+          above = λ _. o.1;
           deep = s.deep;
           low = s.low;
           high = s.high;
@@ -102,6 +103,7 @@ module _ (f : Word → ℕ) where
           items = (λ i. copied i ++ new_items i) ∙ sym (put_behind k v (rank f l) was.0 o.0) ∙ ap (insert k v) (sym was.1);
           before = subst (AllBelow (rank f c)) (sym copied) (let d = o.0 in omega (arith, d, at_key), tt);
           behind = subst (AllFrom (rank f c)) (sym new_items) (omega (arith, at_key), tt);
+          above = λ d. absurd (d (o.1.class ∙ s.new.class));
           deep = s.deep;
           low = s.high;
           high = s.low;

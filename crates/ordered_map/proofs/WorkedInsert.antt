@@ -1,6 +1,6 @@
 -- An insert of key 7 at 70 into the empty map, row by row. Nothing cites this module, on purpose:
 -- it shows that what is asked of a run of the tree can be met.
-use Rattle.std.proofs.Common.{◌≡◌, ◌≢◌, ℕ, suc, ◌<◌, ◌≤◌, Bool, true, false, cond, eqb, ◌⊎◌, inl, inr, List, [], ◌∷◌, refl, sym, ◌∙◌, ap, arith, subst, lit<, lit≤, zero, ⊎_elim}
+use Rattle.std.proofs.Common.{◌≡◌, ◌≢◌, ℕ, suc, ◌^◌, ◌<◌, ◌≤◌, Bool, true, false, cond, eqb, ◌⊎◌, inl, inr, List, [], ◌∷◌, refl, sym, ◌∙◌, ap, arith, subst, lit<, lit≤, zero, ⊎_elim}
 use Rattle.std.proofs.lemmas.List.Elements.{All-nil, All-cons}
 use Rattle.arena.specs.declared.limits.Mode.TheVariants.{Tree as TreeMode}
 use Rattle.arena.specs.declared.layout.Layout.{Layout}
@@ -32,8 +32,9 @@ use Rattle.ordered_map.specs.TreeWords.{Leaf, Fork, is_leaf, class, Has}
 use Rattle.ordered_map.specs.TreeShape.{MayEdit, TreeAllows}
 use Rattle.ordered_map.specs.Spelled.{Spells}
 use Rattle.ordered_map.specs.Runs.{IsTreeRun}
-use Rattle.ordered_map.proofs.Holding.{leaf_here}
+use Rattle.ordered_map.proofs.Holding.{counted_one, leaf_here}
 use Rattle.ordered_map.proofs.Grown.{opening_tree}
+use Rattle.ordered_map.proofs.OnePair.{put_before}
 
 -- one pass that owns nodes 3 to 5 and SCX-record 1
 abbrev lay : Layout
@@ -261,12 +262,18 @@ may_edit = record {
       record {
         leaf = refl;
         fork = refl;
-        new = record { leaf = refl; class = refl; key = refl; value = refl };
-        copy = record { leaf = refl; alike = record { class = refl; key = refl }; value = refl };
+        left = refl;
+        right = refl;
+        first = record { leaf = refl; class = refl; counted = counted_one (value (filled fills)) 4 };
+        small = (lit< tt, tt);
+        last = record { leaf = refl; same_class = refl; counted = λ _. counted_one (value (filled fills)) 5; key = λ _. refl };
+        items = sym (put_before 7 70 (2 ^ 64) 0 (lit< tt));
+        before = (lit< tt, tt);
+        behind = (lit≤ tt, tt);
+        above = λ _. record { class = refl; key = refl };
         deep = refl;
         low = refl;
         high = refl;
-        order = inl (lit< tt, record { class = refl; key = refl }, refl, refl);
       },
     );
   };

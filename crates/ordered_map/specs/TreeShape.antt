@@ -1,5 +1,5 @@
 -- Which SCX-records may begin in the tree: each makes an edit of the map.
-use Rattle.std.specs.Prelude.{◌≡◌, ℕ, ◌^◌, ◌<◌, false, ◌⊎◌}
+use Rattle.std.specs.Prelude.{◌≡◌, ℕ, ◌^◌, ◌<◌, false}
 use Rattle.arena.specs.declared.word.Side.{Side}
 use Rattle.arena.specs.declared.word.Side.TheVariants.{Left, Right}
 use Rattle.arena.specs.declared.layout.Layout.{Layout}
@@ -9,7 +9,7 @@ use Rattle.arena.specs.ScxRecords.{plan, count, member, seen, new, old}
 use Rattle.arena.specs.Fills.{IsNamed}
 use Rattle.ordered_map.specs.OrderedMap.{MapEdit, Insert, Delete, edit_key}
 use Rattle.ordered_map.specs.TreeWords.{is_leaf, toward}
-use Rattle.ordered_map.specs.Edits.{IsSwap, IsSplit, IsJoin, HasFieldsOf}
+use Rattle.ordered_map.specs.Edits.{IsLeafEdit, IsJoinBy, HasFieldsOf}
 use Rattle.ordered_map.specs.Paths.{WasOnPath}
 
 -- the plan word of an insert that changes the field on this side
@@ -27,8 +27,7 @@ delete_plan Right = 628
 pub record IsInsert (h : History) (s k v : ℕ) : Type 0 where
   pub plan : plan h s ≡ insert_plan (toward (value h) (member h s 0) k)
   pub old : old h s ≡ member h s 1
-  pub edit : IsSwap (value h) k v (member h s 1) (new h s)
-      ⊎ ((x y : ℕ) × IsSplit (value h) k v (member h s 1) (new h s) x y)
+  pub edit : IsLeafEdit (value h) (Insert k v) (member h s 1) (new h s)
 
 -- at which place a delete covers the leaf, which is on this side of the parent
 abbrev pub leaf_place : Side → ℕ
@@ -45,7 +44,7 @@ sibling_place Right = 2
 pub record IsDelete (h : History) (s k : ℕ) (side : Side) : Type 0 where
   pub plan : plan h s ≡ delete_plan (toward (value h) (member h s 0) k)
   pub old : old h s ≡ member h s 1
-  pub edit : IsJoin (value h) k (member h s 1) (member h s (leaf_place side)) (member h s (sibling_place side)) (new h s)
+  pub edit : IsJoinBy (value h) (Delete k) (member h s 1) (member h s (leaf_place side)) (member h s (sibling_place side)) (new h s)
   pub fields : value h (info (member h s 1)) ≡ seen h s 1 → (value h (child (member h s 1) Left) ≡ member h s 2) × (value h (child (member h s 1) Right) ≡ member h s 3)
   pub copied : value h (info (member h s (sibling_place side))) ≡ seen h s (sibling_place side) → HasFieldsOf (value h) (new h s) (member h s (sibling_place side))
 

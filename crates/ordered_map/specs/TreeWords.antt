@@ -28,10 +28,9 @@ level f n = f (node n (Settled Head)) / 8
 abbrev pub rank : (Word → ℕ) → ℕ → ℕ
 rank f n = class f n * 2 ^ 64 + f (node n (Settled Key))
 
--- a node that is above all keys is blank: its key is 0, and if it is a leaf its value too
-pub record IsBlankAboveKeys (f : Word → ℕ) (n : ℕ) : Type 0 where
-  pub key : class f n ≢ 0 → f (node n (Settled Key)) ≡ 0
-  pub value : class f n ≢ 0 → is_leaf f n ≡ true → f (node n (Settled Value)) ≡ 0
+-- a node that is above all keys has the key 0; what the value of such a leaf is means nothing
+abbrev pub IsBlankAboveKeys : (Word → ℕ) → ℕ → Type 0
+IsBlankAboveKeys f n = class f n ≢ 0 → f (node n (Settled Key)) ≡ 0
 
 -- on which side of the fork n the key k stands
 abbrev pub toward : (Word → ℕ) → ℕ → ℕ → Side

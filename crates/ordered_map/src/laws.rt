@@ -22,8 +22,7 @@ ghost use Rattle.ordered_map.specs.MapLaws.{IsLeast, IsSuccessor, within};
 /// edit leaves which is said of it; its leaf tells the old value. A walk's leaf tells what the map gave
 /// at a moment of the walk, and is at most one level deeper than the taken nodes are many; of the nodes
 /// that ever stood in the tree just those that are not final still stand there; one that is above all
-/// keys has the key 0, and a leaf the value 0. It does nothing; a caller learns the laws from its
-/// contract.
+/// keys has the key 0. It does nothing; a caller learns the laws from its contract.
 pub fn laws_hold()
     ensures edits { (lay : Layout) (h : History) → IsTreeRun lay h → (edits : ℕ → MapEdit) × AreEdits edits lay h }
     ensures spelled { (lay : Layout) (h : History) (edits : ℕ → MapEdit) → IsTreeRun lay h → AreEdits edits lay h → SpellsLog edits lay h }

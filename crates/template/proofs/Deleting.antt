@@ -1,6 +1,5 @@
 -- What a delete has filled makes its edit, whatever rows come until its SCX-record begins.
-use Rattle.std.proofs.Common.{◌≡◌, ◌≢◌, ℕ, zero, suc, ◌<◌, ◌^◌, true, false, Some, sym, ◌∙◌, ap, arith, subst}
-use native.Mathlib.Decide.{ℕ_discrete}
+use Rattle.std.proofs.Common.{◌≡◌, ◌≢◌, ℕ, zero, suc, ◌<◌, ◌^◌, false, Some, [], ◌∷◌, sym, ◌∙◌, ap, arith, subst}
 use Rattle.arena.specs.declared.word.Side.{Side}
 use Rattle.arena.specs.declared.word.Side.TheVariants.{Left, Right}
 use Rattle.arena.specs.declared.word.NodeWord.TheVariants.{Settled}
@@ -13,13 +12,13 @@ use Rattle.histories.specs.Descriptor.{Descriptor}
 use Rattle.prims.specs.Snap.{child_of}
 use Rattle.prims.specs.Laws.Linked.{in_field_named}
 use Rattle.prims.specs.declared.snap.Snap.{Snap}
-use Rattle.ordered_map.specs.Edits.{IsJoin}
-use Rattle.ordered_map.specs.OrderedMap.{Delete}
-use Rattle.ordered_map.specs.Paths.{WasOnPath, WasInTree}
+use Rattle.ordered_map.specs.Edits.{IsJoinBy}
+use Rattle.ordered_map.specs.OrderedMap.{pair, Delete, delete}
+use Rattle.ordered_map.specs.Paths.{WasOnPath}
 use Rattle.ordered_map.specs.Runs.{IsTreeRun}
 use Rattle.ordered_map.specs.TreeShape.{delete_plan, leaf_place, sibling_place}
-use Rattle.ordered_map.specs.TreeWords.{class, is_leaf, toward, IsBlankAboveKeys}
-use Rattle.ordered_map.proofs.Lemmas.{walk_named, stood_blank}
+use Rattle.ordered_map.specs.TreeWords.{class, is_leaf, toward}
+use Rattle.ordered_map.proofs.Lemmas.{walk_named, held_one, taken_out}
 use Rattle.template.specs.FoundLeaf.{HasFoundLeaf}
 use Rattle.template.specs.FreshNodes.{IsDeleteAt, HasFreshCopy}
 use Rattle.template.specs.Promises.{IsPromised, IsFresh, IsSnapOf, WillDelete}
@@ -31,8 +30,7 @@ use Rattle.template.proofs.WalkBounds.{said_some, found_below}
 module _ (c : Call) (h : History) (k old : ℕ) (f : Found) (d : Descriptor) (above sibling : Snap) (n : ℕ)
     (run : IsTreeRun c.layout h) (small : k < 2 ^ 64) (a : HasFoundLeaf c h k f) (found : f.value ≡ Some old)
     (i : IsDeleteAt f d above n) (above_is : IsSnapOf c.layout h d 1 above) (same : (child_of above f.trail.side).0 ≡ f.trail.node.0)
-    (sibling_is : IsSnapOf c.layout h d (sibling_place f.trail.side) sibling) (stood : WasInTree h sibling.node.0)
-    (w : HasFreshCopy c.layout c.pass h sibling n) where
+    (sibling_is : IsSnapOf c.layout h d (sibling_place f.trail.side) sibling) (w : HasFreshCopy c.layout c.pass h sibling n) where
   says : (class (value h) f.trail.node.0 ≡ 0) × (value h (node f.trail.node.0 (Settled Key)) ≡ k)
   says = said_some (value h) k f.trail.node.0 old (sym found ∙ a.says)
 
@@ -73,26 +71,15 @@ module _ (c : Call) (h : History) (k old : ℕ) (f : Found) (d : Descriptor) (ab
       go Right x y (suc (suc (suc zero))) few = x
       go side x y (suc (suc (suc (suc j)))) few = absurd (omega (arith, few))
 
-  blank : IsBlankAboveKeys (value h) sibling.node.0
-  blank = stood_blank c.layout h sibling.node.0 run stood
-
-  same_key : Dec (class (value h) sibling.node.0 ≡ 0) → value h (node n (Settled Key)) ≡ value h (node sibling.node.0 (Settled Key))
-  same_key (yes low) = w.key_low low
-  same_key (no high) = w.key_high high ∙ sym (blank.key high)
-
-  same_value : is_leaf (value h) sibling.node.0 ≡ true → Dec (class (value h) sibling.node.0 ≡ 0) → value h (node n (Settled Value)) ≡ value h (node sibling.node.0 (Settled Value))
-  same_value leaf (yes low) = w.value_low leaf low
-  same_value leaf (no high) = w.value_high leaf high ∙ sym (blank.value high leaf)
-
-  is_join : IsJoin (value h) k f.trail.parent.0 f.trail.node.0 sibling.node.0 n
+  is_join : IsJoinBy (value h) (Delete k) f.trail.parent.0 f.trail.node.0 sibling.node.0 n
   is_join = record {
     fork = parent.fork;
     leaf = a.leaf;
-    class = says.0;
-    key = says.1;
-    same_head = w.head;
-    same_key = same_key (ℕ_discrete (class (value h) sibling.node.0) 0);
-    same_value = λ leaf. same_value leaf (ℕ_discrete (class (value h) sibling.node.0) 0);
+    low = says.0;
+    emptied = let v : ℕ = value h (node f.trail.node.0 (Settled Value)) in ap (delete k) (held_one (value h) f.trail.node.0 ∙ (λ i. pair (says.1 i) v ∷ [])) ∙ taken_out k v;
+    same_head = w.same_head;
+    same_key = w.same_key;
+    same_pairs = w.same_pairs;
   }
 
   will_delete : WillDelete c.layout c.pass h d k f.trail.side
@@ -105,10 +92,10 @@ module _ (c : Call) (h : History) (k old : ℕ) (f : Found) (d : Descriptor) (ab
     side_is = subst (λ m. toward (value h) m k ≡ f.trail.side) (sym i.parent) parent.side_is;
     named = named;
     fresh = subst (IsFresh c.layout c.pass h) (sym i.new) w.fresh;
-    edit = subst (λ q. IsJoin (value h) k q (d.member (leaf_place f.trail.side)) (d.member (sibling_place f.trail.side)) d.new) (sym i.parent)
-        (subst (λ l. IsJoin (value h) k f.trail.parent.0 l (d.member (sibling_place f.trail.side)) d.new) (sym leaf_at)
-        (subst (λ z. IsJoin (value h) k f.trail.parent.0 f.trail.node.0 z d.new) sibling_is.node
-        (subst (IsJoin (value h) k f.trail.parent.0 f.trail.node.0 sibling.node.0) (sym i.new) is_join)));
+    edit = subst (λ q. IsJoinBy (value h) (Delete k) q (d.member (leaf_place f.trail.side)) (d.member (sibling_place f.trail.side)) d.new) (sym i.parent)
+        (subst (λ l. IsJoinBy (value h) (Delete k) f.trail.parent.0 l (d.member (sibling_place f.trail.side)) d.new) (sym leaf_at)
+        (subst (λ z. IsJoinBy (value h) (Delete k) f.trail.parent.0 f.trail.node.0 z d.new) sibling_is.node
+        (subst (IsJoinBy (value h) (Delete k) f.trail.parent.0 f.trail.node.0 sibling.node.0) (sym i.new) is_join)));
     parent = above;
     parent_is = above_is;
     left = sym i.left;
@@ -119,6 +106,6 @@ module _ (c : Call) (h : History) (k old : ℕ) (f : Found) (d : Descriptor) (ab
   }
 
 -- An SCX-record that puts a fresh copy of the sibling of the key's leaf into the place of their
--- parent deletes the key. A sibling above all keys is blank, so that its copy is.
-pub join_promised : (c : Call) (h : History) (s k old : ℕ) (f : Found) (d : Descriptor) (above sibling : Snap) (n : ℕ) → IsTreeRun c.layout h → k < 2 ^ 64 → HasFoundLeaf c h k f → f.value ≡ Some old → IsDeleteAt f d above n → IsSnapOf c.layout h d 1 above → (child_of above f.trail.side).0 ≡ f.trail.node.0 → IsSnapOf c.layout h d (sibling_place f.trail.side) sibling → WasInTree h sibling.node.0 → HasFreshCopy c.layout c.pass h sibling n → IsPromised c.layout c.pass h s d (Delete k)
-join_promised c h s k old f d above sibling n run small a found i above_is same sibling_is stood w = delete_promised c.layout c.pass s h d k f.trail.side c.is_pass (will_delete c h k old f d above sibling n run small a found i above_is same sibling_is stood w)
+-- parent deletes the key.
+pub join_promised : (c : Call) (h : History) (s k old : ℕ) (f : Found) (d : Descriptor) (above sibling : Snap) (n : ℕ) → IsTreeRun c.layout h → k < 2 ^ 64 → HasFoundLeaf c h k f → f.value ≡ Some old → IsDeleteAt f d above n → IsSnapOf c.layout h d 1 above → (child_of above f.trail.side).0 ≡ f.trail.node.0 → IsSnapOf c.layout h d (sibling_place f.trail.side) sibling → HasFreshCopy c.layout c.pass h sibling n → IsPromised c.layout c.pass h s d (Delete k)
+join_promised c h s k old f d above sibling n run small a found i above_is same sibling_is w = delete_promised c.layout c.pass s h d k f.trail.side c.is_pass (will_delete c h k old f d above sibling n run small a found i above_is same sibling_is w)

@@ -1,6 +1,6 @@
 -- What a pass has in hand for an insert or a delete allows its SCX-record, whatever rows come until
 -- that begins.
-use Rattle.std.proofs.Common.{◌≡◌, ◌≢◌, ℕ, ◌<◌, true, false, ◌⊎◌, inl, inr, refl, sym, ◌∙◌, ap, arith, subst}
+use Rattle.std.proofs.Common.{◌≡◌, ◌≢◌, ℕ, ◌<◌, false, inl, inr, refl, sym, ◌∙◌, ap, arith, subst}
 use Rattle.arena.specs.declared.layout.Layout.{Layout}
 use Rattle.arena.specs.declared.word.Side.{Side}
 use Rattle.arena.specs.declared.word.Side.TheVariants.{Left, Right}
@@ -25,10 +25,10 @@ use Rattle.prims.specs.Laws.Linked.{IsLinked, linked_since}
 use Rattle.ordered_map.specs.OrderedMap.{MapEdit, Insert, Delete}
 use Rattle.ordered_map.specs.Paths.{WasOnPath}
 use Rattle.ordered_map.specs.TreeShape.{insert_plan, delete_plan, leaf_place, sibling_place, IsDelete, TreeAllows}
-use Rattle.ordered_map.specs.TreeWords.{is_leaf, rank, toward}
-use Rattle.ordered_map.specs.Edits.{IsAlike, IsSwap, IsSplit, IsJoin, HasFieldsOf}
-use Rattle.ordered_map.proofs.Lemmas.{plan_delete, SameSettled, settled_toward, settled_leaf, move_swap, move_split, move_join}
-use Rattle.template.specs.Promises.{IsPromised, IsFresh, IsInsertOver, WillInsert, IsSnapOf, WillDelete}
+use Rattle.ordered_map.specs.TreeWords.{is_leaf, toward}
+use Rattle.ordered_map.specs.Edits.{IsLeafEdit, IsJoinBy, HasFieldsOf}
+use Rattle.ordered_map.proofs.Lemmas.{plan_delete, SameSettled, settled_toward, settled_leaf, move_leaf_edit, move_join_by}
+use Rattle.template.specs.Promises.{IsPromised, IsFresh, WillInsert, IsSnapOf, WillDelete}
 
 -- what is promised is allowed
 pub promised_allowed : (lay : Layout) (c : ℕ) (h : History) (s : ℕ) (d : Descriptor) (e : MapEdit) → IsPromised lay c h s d e → IsAllowed TreeAllows lay c h s d
@@ -123,10 +123,10 @@ insert_promised lay c s h d key v is_pass w k later run same begins now = record
   edit = record {
     plan = is_plan k s d same ∙ w.plan ∙ ap insert_plan (sym (settled_toward (value h) (value k) (d.member 0) key parent) ∙ ap (λ n. toward (value k) n key) (sym (is_member k s d same 0)));
     old = is_old k s d same ∙ w.old ∙ sym (is_member k s d same 1);
-    edit = subst (λ n. IsSwap (value k) key v (member k s 1) n ⊎ ((x y : ℕ) × IsSplit (value k) key v (member k s 1) n x y)) (sym (is_new k s d same))
-        (subst (λ n. IsSwap (value k) key v n d.new ⊎ ((x y : ℕ) × IsSplit (value k) key v n d.new x y)) (sym (is_member k s d same 1)) (moved w.edit));
+    edit = subst (IsLeafEdit (value k) (Insert key v) (member k s 1)) (sym (is_new k s d same))
+        (subst (λ n. IsLeafEdit (value k) (Insert key v) n d.new) (sym (is_member k s d same 1)) moved);
   };
-  fresh = λ two fork side. subst (λ n. is_leaf (value k) n ≡ false → ¬ IsNamed lay k (value k (child n side))) (sym (is_new k s d same)) (λ f. unnamed_child w.edit f side) fork;
+  fresh = λ two. subst (λ n. is_leaf (value k) n ≡ false → (side : Side) → ¬ IsNamed lay k (value k (child n side))) (sym (is_new k s d same)) unnamed;
 }
   where
     ends : Extends k h
@@ -141,27 +141,17 @@ insert_promised lay c s h d key v is_pass w k later run same begins now = record
     stays : (n : ℕ) → IsFresh lay c h n → Stays lay h k n
     stays n x = stays_later lay c s h k n is_pass run.lawful later begins.free x.own x.unnamed
 
-    unnamed_child : IsInsertOver lay c h key v (d.member 1) d.new → is_leaf (value k) d.new ≡ false → (side : Side) → ¬ IsNamed lay k (value k (child d.new side))
-    unnamed_child (inl e) f side p = absurd (let z : true ≡ false = sym e.new.leaf ∙ sym (settled_leaf (value h) (value k) d.new (fresh_words (stays d.new w.fresh))) ∙ f in cc)
-    unnamed_child (inr e) f side p = by_side e.4.order side ((stays d.new w.fresh).words (Child side)) p
-      where
-        not_x : ¬ IsNamed lay k e.0
-        not_x = (stays e.0 e.2).unnamed
+    made : Stays lay h k d.new
+    made = stays d.new w.edit.fresh
 
-        not_y : ¬ IsNamed lay k e.1
-        not_y = (stays e.1 e.3).unnamed
+    below : is_leaf (value h) d.new ≡ false → (side : Side) → Stays lay h k (value h (child d.new side))
+    below fork side = stays (value h (child d.new side)) (w.edit.below fork side)
 
-        by_side : ((key < rank (value h) (d.member 1)) × IsAlike (value h) d.new (d.member 1) × (value h (child d.new Left) ≡ e.0) × (value h (child d.new Right) ≡ e.1))
-            ⊎ ((rank (value h) (d.member 1) < key) × IsAlike (value h) d.new e.0 × (value h (child d.new Left) ≡ e.1) × (value h (child d.new Right) ≡ e.0))
-            → (z : Side) → value k (child d.new z) ≡ value h (child d.new z) → IsNamed lay k (value k (child d.new z)) → ⊥
-        by_side (inl o) Left q n = not_x (subst (IsNamed lay k) (q ∙ o.2) n)
-        by_side (inl o) Right q n = not_y (subst (IsNamed lay k) (q ∙ o.3) n)
-        by_side (inr o) Left q n = not_y (subst (IsNamed lay k) (q ∙ o.2) n)
-        by_side (inr o) Right q n = not_x (subst (IsNamed lay k) (q ∙ o.3) n)
+    unnamed : is_leaf (value k) d.new ≡ false → (side : Side) → ¬ IsNamed lay k (value k (child d.new side))
+    unnamed fork side = subst (λ n. ¬ IsNamed lay k n) (sym (made.words (Child side))) (below (sym (settled_leaf (value h) (value k) d.new (fresh_words made)) ∙ fork) side).unnamed
 
-    moved : IsInsertOver lay c h key v (d.member 1) d.new → IsSwap (value k) key v (d.member 1) d.new ⊎ ((x y : ℕ) × IsSplit (value k) key v (d.member 1) d.new x y)
-    moved (inl e) = inl (move_swap (value h) (value k) key v (d.member 1) d.new leaf (fresh_words (stays d.new w.fresh)) e)
-    moved (inr e) = inr (e.0, e.1, move_split (value h) (value k) key v (d.member 1) d.new e.0 e.1 leaf (fresh_words (stays d.new w.fresh)) (fresh_words (stays e.0 e.2)) (fresh_words (stays e.1 e.3)) (λ side. (stays d.new w.fresh).words (Child side)) e.4)
+    moved : IsLeafEdit (value k) (Insert key v) (d.member 1) d.new
+    moved = move_leaf_edit (value h) (value k) (Insert key v) (d.member 1) d.new leaf (fresh_words made) (λ fork side. fresh_words (below fork side)) (λ _ side. made.words (Child side)) w.edit.edit
 
 places_small : (side : Side) → (leaf_place side < 4) × (sibling_place side < 4)
 places_small Left = (omega arith, omega arith)
@@ -204,15 +194,15 @@ delete_promised lay c s h d key side is_pass w k later run same begins now = rec
     small : (leaf_place side < 4) × (sibling_place side < 4)
     small = places_small side
 
-    moved : IsJoin (value k) key (d.member 1) (d.member (leaf_place side)) (d.member (sibling_place side)) d.new
-    moved = move_join (value h) (value k) key (d.member 1) (d.member (leaf_place side)) (d.member (sibling_place side)) d.new (words 1 (omega arith)) (words (leaf_place side) small.0) (words (sibling_place side) small.1) (fresh_words stays) w.edit
+    moved : IsJoinBy (value k) (Delete key) (d.member 1) (d.member (leaf_place side)) (d.member (sibling_place side)) d.new
+    moved = move_join_by (value h) (value k) (Delete key) (d.member 1) (d.member (leaf_place side)) (d.member (sibling_place side)) d.new (words 1 (omega arith)) (words (leaf_place side) small.0) (words (sibling_place side) small.1) (fresh_words stays) w.edit
 
-    join_here : IsJoin (value k) key (member k s 1) (member k s (leaf_place side)) (member k s (sibling_place side)) (new k s)
+    join_here : IsJoinBy (value k) (Delete key) (member k s 1) (member k s (leaf_place side)) (member k s (sibling_place side)) (new k s)
     join_here =
-        subst (λ n. IsJoin (value k) key n (member k s (leaf_place side)) (member k s (sibling_place side)) (new k s)) (sym (at 1))
-        (subst (λ n. IsJoin (value k) key (d.member 1) n (member k s (sibling_place side)) (new k s)) (sym (at (leaf_place side)))
-        (subst (λ n. IsJoin (value k) key (d.member 1) (d.member (leaf_place side)) n (new k s)) (sym (at (sibling_place side)))
-        (subst (λ n. IsJoin (value k) key (d.member 1) (d.member (leaf_place side)) (d.member (sibling_place side)) n) (sym (is_new k s d same)) moved)))
+        subst (λ n. IsJoinBy (value k) (Delete key) n (member k s (leaf_place side)) (member k s (sibling_place side)) (new k s)) (sym (at 1))
+        (subst (λ n. IsJoinBy (value k) (Delete key) (d.member 1) n (member k s (sibling_place side)) (new k s)) (sym (at (leaf_place side)))
+        (subst (λ n. IsJoinBy (value k) (Delete key) (d.member 1) (d.member (leaf_place side)) n (new k s)) (sym (at (sibling_place side)))
+        (subst (IsJoinBy (value k) (Delete key) (d.member 1) (d.member (leaf_place side)) (d.member (sibling_place side))) (sym (is_new k s d same)) moved)))
 
     -- what a snapshot found its node shows while its info is what was seen
     shows : (j : ℕ) (snap : Snap) → IsSnapOf lay h d j snap → value k (info (member k s j)) ≡ seen k s j → (z : Side) → value k (child (member k s j) z) ≡ (child_of snap z).0

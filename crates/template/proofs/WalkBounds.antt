@@ -129,11 +129,7 @@ module _ {asked : ℕ} (k : ℕ) (c : Call) (h : History) (f : Found) (run : IsT
     where
       go : Dec (f.head.class ≡ 0) → value h (node f.trail.node.0 (Settled KeyWord)) ≡ f.key
       go (yes e) = a.key e
-      go (no d) = blank.key (high d) ∙ sym (a.blank d)
-
-  -- a leaf above all keys has the value 0
-  pub found_no_value : f.head.class ≢ 0 → value h (node f.trail.node.0 (Settled ValueWord)) ≡ 0
-  found_no_value d = blank.value (high d) a.leaf
+      go (no d) = blank (high d) ∙ sym (a.blank d)
 
   -- its class is one that a word can hold
   pub found_class : f.head.class < 4

@@ -1,6 +1,6 @@
 -- What has to be known for an insert's or a delete's SCX-record to be allowed, whatever rows come
 -- until it begins.
-use Rattle.std.specs.Prelude.{◌≡◌, ℕ, ◌^◌, ◌<◌, false, ◌⊎◌}
+use Rattle.std.specs.Prelude.{◌≡◌, ℕ, ◌^◌, ◌<◌, false}
 use Rattle.arena.specs.declared.layout.Layout.{Layout}
 use Rattle.arena.specs.declared.word.Side.{Side}
 use Rattle.arena.specs.Words.{info, child}
@@ -14,8 +14,8 @@ use Rattle.help.specs.Allowed.{IsLater}
 use Rattle.prims.specs.Laws.Linked.{IsLinked}
 use Rattle.prims.specs.Snap.{child_of}
 use Rattle.prims.specs.declared.snap.Snap.{Snap}
-use Rattle.ordered_map.specs.Edits.{IsSwap, IsSplit, IsJoin}
-use Rattle.ordered_map.specs.OrderedMap.{MapEdit}
+use Rattle.ordered_map.specs.Edits.{IsLeafEdit, IsJoinBy}
+use Rattle.ordered_map.specs.OrderedMap.{MapEdit, Insert, Delete}
 use Rattle.ordered_map.specs.Paths.{WasOnPath}
 use Rattle.ordered_map.specs.TreeShape.{MayEdit, TreeAllows, insert_plan, delete_plan, leaf_place, sibling_place}
 use Rattle.ordered_map.specs.TreeWords.{is_leaf, toward}
@@ -32,11 +32,12 @@ pub record IsFresh (lay : Layout) (c : ℕ) (h : History) (n : ℕ) : Type 0 whe
   pub own : IsOwnNode lay c n
   pub unnamed : ¬ IsNamed lay h n
 
--- the words of the leaf l and of fresh nodes are those of an insert of k and v, which puts the
--- fresh node n into the place of l: n is a leaf, or a fork over two fresh leaves
-abbrev pub IsInsertOver : Layout → ℕ → History → ℕ → ℕ → ℕ → ℕ → Type 0
-IsInsertOver lay c h k v l n = IsSwap (value h) k v l n
-    ⊎ ((x y : ℕ) × IsFresh lay c h x × IsFresh lay c h y × IsSplit (value h) k v l n x y)
+-- the fresh node n holds what the edit makes of the pairs of the leaf l: it is a leaf, or a fork over
+-- two fresh leaves
+pub record IsFreshEdit (lay : Layout) (c : ℕ) (h : History) (e : MapEdit) (l n : ℕ) : Type 0 where
+  pub fresh : IsFresh lay c h n
+  pub edit : IsLeafEdit (value h) e l n
+  pub below : is_leaf (value h) n ≡ false → (side : Side) → IsFresh lay c h (value h (child n side))
 
 -- What an insert of k and v has in hand: a fork that was on the key's path, its leaf on the side of
 -- the key, and the fresh node that is to replace that.
@@ -48,8 +49,7 @@ pub record WillInsert (lay : Layout) (c : ℕ) (h : History) (d : Descriptor) (k
   pub plan : d.plan ≡ insert_plan (toward (value h) (d.member 0) k)
   pub old : d.old ≡ d.member 1
   pub leaf_named : IsNamed lay h (d.member 1)
-  pub fresh : IsFresh lay c h d.new
-  pub edit : IsInsertOver lay c h k v (d.member 1) d.new
+  pub edit : IsFreshEdit lay c h (Insert k v) (d.member 1) d.new
 
 -- the snapshot may be used, and is what the SCX-record has seen of its j-th node
 pub record IsSnapOf (lay : Layout) (h : History) (d : Descriptor) (j : ℕ) (snap : Snap) : Type 0 where
@@ -69,7 +69,7 @@ pub record WillDelete (lay : Layout) (c : ℕ) (h : History) (d : Descriptor) (k
   pub side_is : toward (value h) (d.member 1) k ≡ side
   pub named : (j : ℕ) → j < 4 → IsNamed lay h (d.member j)
   pub fresh : IsFresh lay c h d.new
-  pub edit : IsJoin (value h) k (d.member 1) (d.member (leaf_place side)) (d.member (sibling_place side)) d.new
+  pub edit : IsJoinBy (value h) (Delete k) (d.member 1) (d.member (leaf_place side)) (d.member (sibling_place side)) d.new
   pub parent : Snap
   pub parent_is : IsSnapOf lay h d 1 parent
   pub left : parent.left.0 ≡ d.member 2

@@ -27,12 +27,12 @@ use Rattle.prims.specs.Scx.Known.{Job, Says}
 use Rattle.prims.specs.Snap.{child_of, snap_at}
 use Rattle.prims.specs.Snaps.{AreDistinct}
 use Rattle.prims.specs.declared.snap.Snap.{Snap}
-use Rattle.ordered_map.specs.OrderedMap.{Delete as TakeEdit}
+use Rattle.ordered_map.specs.OrderedMap.{pair, Delete as TakeEdit}
 use Rattle.ordered_map.specs.Paths.{WasInTree}
 use Rattle.ordered_map.specs.Runs.{IsTreeRun}
 use Rattle.ordered_map.specs.TreeShape.{delete_plan, edit_leaf, leaf_place, sibling_place}
-use Rattle.ordered_map.specs.TreeWords.{class, level, toward, IsBlankAboveKeys}
-use Rattle.ordered_map.proofs.Lemmas.{root_head, run_since, settled_toward, stood_blank, stood_depth, stood_settled, was_passed}
+use Rattle.ordered_map.specs.TreeWords.{class, is_leaf, level, toward}
+use Rattle.ordered_map.proofs.Lemmas.{counted_one, held_one, root_head, run_since, settled_toward, stood_blank, stood_depth, stood_settled, was_passed}
 use Rattle.template.specs.FoundLeaf.{HasFoundLeaf}
 use Rattle.template.specs.FreshNodes.{IsDeleteAt, HasFreshCopy}
 use Rattle.template.specs.Promises.{IsPromised, IsSnapOf}
@@ -444,17 +444,26 @@ module _ (ed : Delete) (c : Call) (h : History) (f : Found) (snaps : List Snap) 
   held_words = copy_holds (head_of w).leaf h ns.first.0 (head_of w).level (head_of w).class (unwrap_or ld.key 0) (unwrap_or ld.value 0) sibling
       (subst (λ (o : Option ℕ). HoldsWords h ns.first.0 (sibling_copy sibling (head_of (unwrap_or o 0)) ld) (IsPieceWord (sibling_copy sibling (head_of (unwrap_or o 0)) ld))) is_head (x.holds First one).words)
 
-  blank : IsBlankAboveKeys (value h) sibling.node.0
-  blank = stood_blank c.layout h sibling.node.0 run in_tree
+  -- its key and value are loaded if it is of class 0
+  low_key_loaded : class (value h) sibling.node.0 ≡ 0 → value h (node ns.first.0 (Settled Key)) ≡ value h (node sibling.node.0 (Settled Key))
+  low_key_loaded low = held_words.key ∙ low_key ((head_of w).class == 0) (head_of w).leaf ld.key ld.value (value h (node sibling.node.0 (Settled Key))) all_loaded (eq-eqb (head_of w).class 0 low) x.loaded.key
+
+  low_value_loaded : is_leaf (value h) sibling.node.0 ≡ true → class (value h) sibling.node.0 ≡ 0 → value h (node ns.first.0 (Settled Value)) ≡ value h (node sibling.node.0 (Settled Value))
+  low_value_loaded leaf low = held_words.leaf_value leaf ∙ low_value ((head_of w).class == 0) (head_of w).leaf ld.key ld.value (value h (node sibling.node.0 (Settled Value))) all_loaded (eq-eqb (head_of w).class 0 low) leaf x.loaded.value
+
+  -- and its key is 0 if it is above all keys
+  copied_key : Dec (class (value h) sibling.node.0 ≡ 0) → value h (node ns.first.0 (Settled Key)) ≡ value h (node sibling.node.0 (Settled Key))
+  copied_key (yes low) = low_key_loaded low
+  copied_key (no high) =
+      let blank : value h (node sibling.node.0 (Settled Key)) ≡ 0 = stood_blank c.layout h sibling.node.0 run in_tree high in
+      held_words.key ∙ blank_word ld.key (value h (node sibling.node.0 (Settled Key))) x.loaded.key blank ∙ sym blank
 
   copy : HasFreshCopy c.layout c.pass h sibling ns.first.0
   copy = record {
     fresh = (x.holds First one).fresh;
-    head = held_words.head ∙ head_back w fits;
-    key_low = λ low. held_words.key ∙ low_key ((head_of w).class == 0) (head_of w).leaf ld.key ld.value (value h (node sibling.node.0 (Settled Key))) all_loaded (eq-eqb (head_of w).class 0 low) x.loaded.key;
-    key_high = λ high. held_words.key ∙ blank_word ld.key (value h (node sibling.node.0 (Settled Key))) x.loaded.key (blank.key high);
-    value_low = λ leaf low. held_words.leaf_value leaf ∙ low_value ((head_of w).class == 0) (head_of w).leaf ld.key ld.value (value h (node sibling.node.0 (Settled Value))) all_loaded (eq-eqb (head_of w).class 0 low) leaf x.loaded.value;
-    value_high = λ leaf high. held_words.leaf_value leaf ∙ blank_word ld.value (value h (node sibling.node.0 (Settled Value))) x.loaded.value (blank.value high leaf);
+    same_head = held_words.head ∙ head_back w fits;
+    same_key = copied_key (ℕ_discrete (class (value h) sibling.node.0) 0);
+    same_pairs = λ leaf low. (counted_one (value h) ns.first.0, held_one (value h) ns.first.0 ∙ (λ i. pair (low_key_loaded low i) (low_value_loaded leaf low i) ∷ []) ∙ sym (held_one (value h) sibling.node.0));
     fields = λ fork side. held_words.fields fork side;
   }
 
@@ -482,7 +491,7 @@ module _ (ed : Delete) (c : Call) (h : History) (f : Found) (snaps : List Snap) 
     snap_is i p = record { linked = linked_at ed c h f snaps i run p four x.looked; node = sym (is_member i p); scx = sym (is_seen i p) }
 
     delete_is_promised : IsPromised c.layout c.pass h j.scx.0 d (TakeEdit ed.key)
-    delete_is_promised = join_promised c h j.scx.0 ed.key present.0 f d (snap_at snaps 1) sibling ns.first.0 run x.looked.small x.looked.found present.1 is_delete (snap_is 1 (omega arith)) four.child (snap_is (sibling_place f.trail.side) (few_places f.trail.side)) in_tree copy
+    delete_is_promised = join_promised c h j.scx.0 ed.key present.0 f d (snap_at snaps 1) sibling ns.first.0 run x.looked.small x.looked.found present.1 is_delete (snap_is 1 (omega arith)) four.child (snap_is (sibling_place f.trail.side) (few_places f.trail.side)) copy
 
 -- it covers the leaf at its third or fourth place, on the side of the key
 covered_leaf : (ed : Delete) (c : Call) (h : History) (f : Found) (snaps : List Snap) (k : History) (s : ℕ) → IsTreeRun c.layout h → HasFour f snaps → HasFoundLeaf c h ed.key f → IsTreeRun c.layout k → Extends k h → CoversSnaps k s snaps → edit_leaf k s (TakeEdit ed.key) ≡ f.trail.node.0

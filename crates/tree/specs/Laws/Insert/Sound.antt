@@ -1,6 +1,7 @@
 -- What an insert looks at, loads and fills, and that it makes the edit.
-use Rattle.std.proofs.Common.{◌≡◌, ◌≢◌, ℕ, ◌+◌, ◌-◌, ◌%◌, ◌^◌, ◌<◌, ◌⊎◌, inl, inr, Bool, true, false, ◌==◌, eqb-true, eq-eqb, if◌then◌else◌, List, [], ◌∷◌, length, Option, Some, None, refl, sym, ◌∙◌, ap, subst, arith, IsTrue}
+use Rattle.std.proofs.Common.{◌≡◌, ◌≢◌, ℕ, ◌+◌, ◌*◌, ◌-◌, ◌/◌, ◌%◌, ◌^◌, ◌<◌, ◌⊎◌, inl, inr, Bool, true, false, ◌==◌, eqb-true, eq-eqb, ne_eqb, lt-ltb, le-ltb, if◌then◌else◌, List, [], ◌∷◌, ◌++◌, length, Option, Some, None, refl, sym, ◌∙◌, ap, subst, arith, IsTrue}
 use Rattle.std.specs.Prelude.{min, unwrap_or, IsTrue}
+use Rattle.std.proofs.Math.Decide.{dec_lt}
 use native.Mathlib.Decide.{ℕ_discrete}
 use Rattle.arena.specs.declared.number.NodeNo.{NodeNo}
 use Rattle.arena.specs.declared.number.ScxNo.{ScxNo}
@@ -13,7 +14,8 @@ use Rattle.arena.specs.Heads.{head_word}
 use Rattle.arena.specs.History.{History, value}
 use Rattle.arena.specs.Lawful.{IsSettled}
 use Rattle.arena.specs.Machines.{Call}
-use Rattle.arena.specs.Words.{node}
+use Rattle.arena.specs.declared.word.Word.{Word}
+use Rattle.arena.specs.Words.{node, child}
 use Rattle.histories.specs.Descriptor.{Descriptor}
 use Rattle.prims.specs.Laws.Idle.{IsQuietSince}
 use Rattle.prims.specs.Llx.Known.{IsOpened}
@@ -21,18 +23,20 @@ use Rattle.prims.specs.Scx.Known.{Job, Says}
 use Rattle.prims.specs.Snap.{child_of, snap_at}
 use Rattle.prims.specs.Snaps.{AreDistinct}
 use Rattle.prims.specs.declared.snap.Snap.{Snap}
-use Rattle.ordered_map.specs.OrderedMap.{Insert as PutEdit}
+use Rattle.ordered_map.specs.OrderedMap.{Insert as PutEdit, AllBelow, AllFrom, insert, pair}
+use Rattle.ordered_map.specs.Edits.{IsLowLeaf, IsSplitBy}
+use Rattle.ordered_map.specs.Holding.{held_pairs}
 use Rattle.ordered_map.specs.Runs.{IsTreeRun}
 use Rattle.ordered_map.specs.TreeShape.{insert_plan, edit_leaf}
-use Rattle.ordered_map.specs.TreeWords.{is_leaf}
-use Rattle.ordered_map.proofs.Lemmas.{run_since}
+use Rattle.ordered_map.specs.TreeWords.{class, is_leaf, leaf_items, level, rank}
+use Rattle.ordered_map.proofs.Lemmas.{counted_one, held_one, high_items, insert_here, low_items, one_item, put_before, put_behind, run_since}
 use Rattle.template.specs.FoundLeaf.{HasFoundLeaf}
-use Rattle.template.specs.FreshNodes.{IsLeafWith, IsForkWith, IsInsertAt, HasFreshLeaf, HasFreshFork}
-use Rattle.template.specs.Promises.{IsPromised}
+use Rattle.template.specs.FreshNodes.{IsInsertAt}
+use Rattle.template.specs.Promises.{IsPromised, IsFresh, IsFreshEdit}
 use Rattle.template.specs.Trails.{HasTurned}
 use Rattle.template.specs.declared.walk.Found.{Found}
 use Rattle.template.specs.declared.walk.Goal.TheVariants.{Key as ToKey}
-use Rattle.template.proofs.Lemmas.{found_below, found_class, found_level, found_no_value, insert_words, swap_promised, split_promised}
+use Rattle.template.proofs.Lemmas.{found_below, found_class, found_level, found_key, insert_words, edit_promised, said_some, said_none}
 use Rattle.tree.specs.declared.insert.Insert.{Insert}
 use Rattle.tree.specs.Insert.Laws.{insert_bounds}
 use Rattle.tree.specs.Laws.Looks.{same_node, goes_on, not_enough, is_other}
@@ -42,6 +46,7 @@ use Rattle.edits.specs.declared.edit.Look.TheVariants.{At, Differs, Enough}
 use Rattle.edits.specs.declared.edit.Nodes.{Nodes}
 use Rattle.edits.specs.declared.edit.Nth.{Nth}
 use Rattle.edits.specs.declared.edit.Nth.TheVariants.{First, Second, Third}
+use Rattle.edits.specs.declared.edit.Piece.{Piece}
 use Rattle.edits.specs.declared.edit.Piece.TheVariants.{Leaf, Fork}
 use Rattle.template.specs.Blame.{IsContended, WasNotFinal}
 use Rattle.edits.specs.Known.{ComesBefore, IsNeeded, IsLoaded, HasSnappedAfterWalk, AreSeen, HasLooked, HasFilledAll, HoldsPiece, IsUpdateFor}
@@ -226,21 +231,45 @@ head_is level class leaf deep small = λ i. head_word record { level = least i; 
 lower_is : (level : ℕ) → level + 1 < 2 ^ 61 → lower level ≡ level + 1
 lower_is level deep = omega (arith, deep)
 
--- a level may be said in another way
-leaf_at : (h : History) (n low level class k v : ℕ) → low ≡ level → HoldsWords h n (Leaf low class k v) (IsPieceWord (Leaf low class k v)) → HoldsWords h n (Leaf level class k v) (IsPieceWord (Leaf level class k v))
-leaf_at h n low level class k v e w = subst (λ l. HoldsWords h n (Leaf l class k v) (IsPieceWord (Leaf l class k v))) e w
+-- n is a leaf of this level and class, with one pair
+record IsLeafWith (f : Word → ℕ) (n deep kind k v : ℕ) : Type 0 where
+  leaf : is_leaf f n ≡ true
+  level : level f n ≡ deep
+  class : class f n ≡ kind
+  key : f (node n (Settled Key)) ≡ k
+  value : f (node n (Settled Value)) ≡ v
 
-leaf_with : (h : History) (n level class k v : ℕ) → level < 2 ^ 61 → class < 4 → HoldsWords h n (Leaf level class k v) (IsPieceWord (Leaf level class k v)) → IsLeafWith (value h) n level class k v
-leaf_with h n level class k v deep small w = record { head = w (Settled Head) tt ∙ head_is level class true deep small; key = w (Settled Key) tt; value = w (Settled Value) tt }
+-- n is a fork of this level and class, with this key, over x and y
+record IsForkWith (f : Word → ℕ) (n deep kind k x y : ℕ) : Type 0 where
+  fork : is_leaf f n ≡ false
+  level : level f n ≡ deep
+  class : class f n ≡ kind
+  key : f (node n (Settled Key)) ≡ k
+  left : f (child n Left) ≡ x
+  right : f (child n Right) ≡ y
 
-fork_with : (h : History) (n level class k : ℕ) (x y : NodeNo) → level < 2 ^ 61 → class < 4 → HoldsWords h n (Fork level class k x y) (IsPieceWord (Fork level class k x y)) → IsForkWith (value h) n level class k x.0 y.0
-fork_with h n level class k x y deep small w = record { head = w (Settled Head) tt ∙ head_is level class false deep small; key = w (Settled Key) tt; left = w (Child Left) tt; right = w (Child Right) tt }
+-- such a leaf is filled, though its level may be said in another way
+leaf_with : (h : History) (n low deep kind k v : ℕ) → low ≡ deep → deep < 2 ^ 61 → kind < 4 → HoldsWords h n (Leaf low kind k v) (IsPieceWord (Leaf low kind k v)) → IsLeafWith (value h) n deep kind k v
+leaf_with h n low deep kind k v same fits few w =
+    let e : value h (node n (Settled Head)) ≡ 8 * deep + 4 * 1 + kind = w (Settled Head) tt ∙ ap (λ l. piece_head l true kind) same ∙ head_is deep kind true fits few in
+    record { leaf = eq-eqb (value h (node n (Settled Head)) / 4 % 2) 1 (omega (arith, e, few)); level = omega (arith, e, few); class = omega (arith, e, few); key = w (Settled Key) tt; value = w (Settled Value) tt }
 
-fork_over_both : (b : Bool) (h : History) (n level class key k : ℕ) (x y : NodeNo) → level < 2 ^ 61 → class < 4
-    → HoldsWords h n (if b then Fork level class key x y else Fork level 0 k y x) (IsPieceWord (if b then Fork level class key x y else Fork level 0 k y x))
-    → IsForkWith (value h) n level (if b then class else 0) (if b then key else k) (if b then x.0 else y.0) (if b then y.0 else x.0)
-fork_over_both true h n level class key k x y deep small w = fork_with h n level class key x y deep small w
-fork_over_both false h n level class key k x y deep small w = fork_with h n level 0 k y x deep (omega arith) w
+-- and such a fork
+fork_with : (h : History) (n deep kind k : ℕ) (x y : NodeNo) → deep < 2 ^ 61 → kind < 4 → HoldsWords h n (Fork deep kind k x y) (IsPieceWord (Fork deep kind k x y)) → IsForkWith (value h) n deep kind k x.0 y.0
+fork_with h n deep kind k x y fits few w =
+    let e : value h (node n (Settled Head)) ≡ 8 * deep + 4 * 0 + kind = w (Settled Head) tt ∙ head_is deep kind false fits few in
+    record { fork = ne_eqb (value h (node n (Settled Head)) / 4 % 2) 1 (λ z. omega (arith, z, e, few)); level = omega (arith, e, few); class = omega (arith, e, few); key = w (Settled Key) tt; left = w (Child Left) tt; right = w (Child Right) tt }
+
+-- the fork of both leaves, by whether the key comes before the other leaf
+abbrev fork_by : Bool → ℕ → ℕ → ℕ → ℕ → NodeNo → NodeNo → Piece
+fork_by b deep kind key k x y = if b then Fork deep kind key x y else Fork deep 0 k y x
+
+-- what it holds, if it is of class 0
+held_with : (f : Word → ℕ) (n k v : ℕ) → f (node n (Settled Key)) ≡ k → f (node n (Settled Value)) ≡ v → held_pairs f n ≡ pair k v ∷ []
+held_with f n k v key value = held_one f n ∙ (λ i. pair (key i) (value i) ∷ [])
+
+low_leaf : (f : Word → ℕ) (n deep k v : ℕ) → IsLeafWith f n deep 0 k v → IsLowLeaf f n
+low_leaf f n deep k v w = record { leaf = w.leaf; class = w.class; counted = counted_one f n }
 
 -- the plan word of both is an insert's
 plan_both : (n : ℕ) (side : Side) → n ≡ 2 → plan_over n side ≡ insert_plan side
@@ -270,12 +299,41 @@ module _ (ed : Insert) (c : Call) (h : History) (f : Found) (snaps : List Snap) 
       (ap (λ (m : NodeNo). m.0) is.old ∙ both.child)
       fresh
 
+  -- the leaf that was found
+  abbrev old_leaf : ℕ
+  old_leaf = f.trail.node.0
+
+  class_is : class (value h) old_leaf ≡ f.head.class
+  class_is = ap (λ w. w.class) found.head
+
+  level_is : level (value h) old_leaf ≡ f.head.level
+  level_is = ap (λ w. w.level) found.head
+
+  key_is : value h (node old_leaf (Settled Key)) ≡ f.key
+  key_is = found_key ed.key c h f run found
+
+  abbrev Made : ℕ → Type 0
+  Made n = IsFreshEdit c.layout c.pass h (PutEdit ed.key ed.value) old_leaf n
+
   -- a present key: its leaf
-  one_leaf : (old : ℕ) → f.value ≡ Some old → HoldsPiece c h ns.first.0 (insert_pieces ed.key ed.value f ns ld First) → HasFreshLeaf c.layout c.pass h f ed.key ed.value ns.first.0
+  one_leaf : (old : ℕ) → f.value ≡ Some old → HoldsPiece c h ns.first.0 (insert_pieces ed.key ed.value f ns ld First) → Made ns.first.0
   one_leaf old e p = record {
     fresh = p.fresh;
-    words = leaf_with h ns.first.0 f.head.level 0 ed.key ed.value (let a = deep in omega (arith, a)) (omega arith) (leaf_at h ns.first.0 (leaf_level f f.value) f.head.level 0 ed.key ed.value (ap (λ (o : Option ℕ). leaf_level f o) e) p.words);
+    edit = inl record {
+      leaf = found.leaf;
+      class = was.0;
+      new = low_leaf (value h) ns.first.0 f.head.level ed.key ed.value now;
+      pairs = held_with (value h) ns.first.0 ed.key ed.value now.key now.value ∙ sym (insert_here ed.key ed.value (value h (node old_leaf (Settled Value)))) ∙ ap (insert ed.key ed.value) (sym (held_with (value h) old_leaf ed.key _ was.1 refl));
+      deep = now.level ∙ sym level_is;
+    };
+    below = λ fork. absurd (let z : true ≡ false = sym now.leaf ∙ fork in cc);
   }
+    where
+      was : (class (value h) old_leaf ≡ 0) × (value h (node old_leaf (Settled Key)) ≡ ed.key)
+      was = said_some (value h) ed.key old_leaf old (sym e ∙ found.says)
+
+      now : IsLeafWith (value h) ns.first.0 f.head.level 0 ed.key ed.value
+      now = leaf_with h ns.first.0 (leaf_level f f.value) f.head.level 0 ed.key ed.value (ap (λ (o : Option ℕ). leaf_level f o) e) (let a = deep in omega (arith, a)) (omega arith) p.words
 
   -- a new key: the fork, over its leaf and the copy of the other
   copied_value : (o : Option ℕ) (b : Bool) (v : ℕ) → IsLoaded o v → (if b then value_if_none o else None) ≡ None → b ≡ true → unwrap_or o 0 ≡ v
@@ -283,33 +341,124 @@ module _ (ed : Insert) (c : Call) (h : History) (f : Found) (snaps : List Snap) 
   copied_value None true v is none e = absurd (let d : Some (Settled Value) ≡ None = none in cc)
   copied_value None false v is none e = absurd (let d : false ≡ true = e in cc)
 
-  no_value : (o : Option ℕ) (v : ℕ) → IsLoaded o v → v ≡ 0 → unwrap_or o 0 ≡ 0
-  no_value (Some w) v is e = is ∙ e
-  no_value None v is e = refl
+  module _ (absent : f.value ≡ None) (one : IsNeeded (insert_need f.value) First) (two : IsNeeded (insert_need f.value) Second) (three : IsNeeded (insert_need f.value) Third) where
+    abbrev x_node : ℕ
+    x_node = ns.first.0
 
-  three_nodes : f.value ≡ None → IsNeeded (insert_need f.value) First → IsNeeded (insert_need f.value) Second → IsNeeded (insert_need f.value) Third → HasFreshFork c.layout c.pass h f ed.key ed.value ns.third.0 ns.first.0 ns.second.0
-  three_nodes e one two three = record {
-    fork_fresh = (x.holds Third three).fresh;
-    leaf_fresh = (x.holds First one).fresh;
-    copy_fresh = (x.holds Second two).fresh;
-    leaf = leaf_with h ns.first.0 (f.head.level + 1) 0 ed.key ed.value deep (omega arith) (leaf_at h ns.first.0 (leaf_level f f.value) (f.head.level + 1) 0 ed.key ed.value (ap (λ (o : Option ℕ). leaf_level f o) e ∙ below) (x.holds First one).words);
-    copied = unwrap_or ld.value 0;
-    copy = leaf_with h ns.second.0 (f.head.level + 1) f.head.class f.key (unwrap_or ld.value 0) deep small (leaf_at h ns.second.0 (lower f.head.level) (f.head.level + 1) f.head.class f.key (unwrap_or ld.value 0) below (x.holds Second two).words);
-    copied_low = λ low. copied_value ld.value (f.head.class == 0) (value h (node f.trail.node.0 (Settled Value))) x.loaded.value (x.done Second two) (eq-eqb f.head.class 0 low);
-    copied_high = λ high. no_value ld.value (value h (node f.trail.node.0 (Settled Value))) x.loaded.value (found_no_value ed.key c h f run found high);
-    fork = fork_over_both (is_below ed.key f) h ns.third.0 f.head.level f.head.class f.key ed.key ns.first ns.second (let a = deep in omega (arith, a)) small (x.holds Third three).words;
-  }
-    where
-      below : lower f.head.level ≡ f.head.level + 1
-      below = lower_is f.head.level deep
+    abbrev y_node : ℕ
+    y_node = ns.second.0
+
+    abbrev fork_node : ℕ
+    fork_node = ns.third.0
+
+    below : lower f.head.level ≡ f.head.level + 1
+    below = lower_is f.head.level deep
+
+    apart : ed.key ≢ rank (value h) old_leaf
+    apart = said_none (value h) ed.key old_leaf x.looked.small (sym absent ∙ found.says)
+
+    new_leaf : IsLeafWith (value h) x_node (f.head.level + 1) 0 ed.key ed.value
+    new_leaf = leaf_with h x_node (leaf_level f f.value) (f.head.level + 1) 0 ed.key ed.value (ap (λ (o : Option ℕ). leaf_level f o) absent ∙ below) deep (omega arith) (x.holds First one).words
+
+    copy : IsLeafWith (value h) y_node (f.head.level + 1) f.head.class f.key (unwrap_or ld.value 0)
+    copy = leaf_with h y_node (lower f.head.level) (f.head.level + 1) f.head.class f.key (unwrap_or ld.value 0) below deep small (x.holds Second two).words
+
+    -- their items, and those of the leaf
+    new_items : leaf_items (value h) x_node ≡ pair ed.key ed.value ∷ []
+    new_items = low_items (value h) x_node new_leaf.class ∙ held_with (value h) x_node ed.key ed.value new_leaf.key new_leaf.value
+
+    was : (v : ℕ) × (leaf_items (value h) old_leaf ≡ pair (rank (value h) old_leaf) v ∷ [])
+    was = one_item (value h) old_leaf
+
+    same_rank : rank (value h) y_node ≡ rank (value h) old_leaf
+    same_rank = let a = copy.class in let b = copy.key in let p = class_is in let q = key_is in omega (arith, a, b, p, q)
+
+    copied : leaf_items (value h) y_node ≡ pair (rank (value h) old_leaf) was.0 ∷ []
+    copied = go (ℕ_discrete f.head.class 0) ∙ was.1
+      where
+        go : Dec (f.head.class ≡ 0) → leaf_items (value h) y_node ≡ leaf_items (value h) old_leaf
+        go (yes low) =
+            low_items (value h) y_node (copy.class ∙ low)
+            ∙ held_with (value h) y_node f.key (value h (node old_leaf (Settled Value))) copy.key (copy.value ∙ copied_value ld.value (f.head.class == 0) (value h (node old_leaf (Settled Value))) x.loaded.value (x.done Second two) (eq-eqb f.head.class 0 low))
+            ∙ sym (held_with (value h) old_leaf f.key (value h (node old_leaf (Settled Value))) key_is refl)
+            ∙ sym (low_items (value h) old_leaf (class_is ∙ low))
+        go (no high) = high_items (value h) y_node (λ z. high (sym copy.class ∙ z)) ∙ (λ i. pair (same_rank i) 0 ∷ []) ∙ sym (high_items (value h) old_leaf (λ z. high (sym class_is ∙ z)))
+
+    -- the key comes before the leaf
+    split_before : IsForkWith (value h) fork_node f.head.level f.head.class f.key x_node y_node → ed.key < rank (value h) old_leaf → IsSplitBy (value h) (PutEdit ed.key ed.value) old_leaf fork_node x_node y_node
+    split_before z i = record {
+      leaf = found.leaf;
+      fork = z.fork;
+      left = z.left;
+      right = z.right;
+      first = low_leaf (value h) x_node (f.head.level + 1) ed.key ed.value new_leaf;
+      small = subst (AllBelow (2 ^ 64)) (sym (held_with (value h) x_node ed.key ed.value new_leaf.key new_leaf.value)) (x.looked.small, tt);
+      last = record { leaf = copy.leaf; same_class = copy.class ∙ sym class_is; counted = λ _. counted_one (value h) y_node; key = λ _. copy.key ∙ sym key_is };
+      items = (λ j. new_items j ++ copied j) ∙ sym (put_before ed.key ed.value (rank (value h) old_leaf) was.0 i) ∙ ap (insert ed.key ed.value) (sym was.1);
+      before = subst (AllBelow (rank (value h) fork_node)) (sym new_items) (omega (arith, at_leaf, i), tt);
+      behind = subst (AllFrom (rank (value h) fork_node)) (sym copied) (omega (arith, at_leaf), tt);
+      above = λ _. record { class = z.class ∙ sym class_is; key = z.key ∙ sym key_is };
+      deep = z.level ∙ sym level_is;
+      low = new_leaf.level ∙ ap (λ m. m + 1) (sym z.level);
+      high = copy.level ∙ ap (λ m. m + 1) (sym z.level);
+    }
+      where
+        at_leaf : rank (value h) fork_node ≡ rank (value h) old_leaf
+        at_leaf = let a = z.class in let b = z.key in let p = class_is in let q = key_is in omega (arith, a, b, p, q)
+
+    -- or behind it
+    split_behind : IsForkWith (value h) fork_node f.head.level 0 ed.key y_node x_node → f.head.class ≡ 0 → rank (value h) old_leaf < ed.key → IsSplitBy (value h) (PutEdit ed.key ed.value) old_leaf fork_node y_node x_node
+    split_behind z is_low i = record {
+      leaf = found.leaf;
+      fork = z.fork;
+      left = z.left;
+      right = z.right;
+      first = record { leaf = copy.leaf; class = copy.class ∙ is_low; counted = counted_one (value h) y_node };
+      small = subst (AllBelow (2 ^ 64)) (sym (sym (low_items (value h) y_node (copy.class ∙ is_low)) ∙ copied)) (let a = x.looked.small in omega (arith, a, i), tt);
+      last = record { leaf = new_leaf.leaf; same_class = new_leaf.class ∙ sym (class_is ∙ is_low); counted = λ _. counted_one (value h) x_node; key = λ d. absurd (d new_leaf.class) };
+      items = (λ j. copied j ++ new_items j) ∙ sym (put_behind ed.key ed.value (rank (value h) old_leaf) was.0 i) ∙ ap (insert ed.key ed.value) (sym was.1);
+      before = subst (AllBelow (rank (value h) fork_node)) (sym copied) (omega (arith, at_key, i), tt);
+      behind = subst (AllFrom (rank (value h) fork_node)) (sym new_items) (omega (arith, at_key), tt);
+      above = λ d. absurd (d z.class);
+      deep = z.level ∙ sym level_is;
+      low = copy.level ∙ ap (λ m. m + 1) (sym z.level);
+      high = new_leaf.level ∙ ap (λ m. m + 1) (sym z.level);
+    }
+      where
+        at_key : rank (value h) fork_node ≡ ed.key
+        at_key = let a = z.class in let b = z.key in omega (arith, a, b)
+
+    made_over : (p q : ℕ) → IsFresh c.layout c.pass h p → IsFresh c.layout c.pass h q → IsSplitBy (value h) (PutEdit ed.key ed.value) old_leaf fork_node p q → Made fork_node
+    made_over p q a b s = record { fresh = (x.holds Third three).fresh; edit = inr (p, q, s); below = λ _. go }
+      where
+        go : (side : Side) → IsFresh c.layout c.pass h (value h (child fork_node side))
+        go Left = subst (IsFresh c.layout c.pass h) (sym s.left) a
+        go Right = subst (IsFresh c.layout c.pass h) (sym s.right) b
+
+    fork_words : (b : Bool) → is_below ed.key f ≡ b → HoldsWords h fork_node (fork_by b f.head.level f.head.class f.key ed.key ns.first ns.second) (IsPieceWord (fork_by b f.head.level f.head.class f.key ed.key ns.first ns.second))
+    fork_words b e = subst (λ a. HoldsWords h fork_node (fork_by a f.head.level f.head.class f.key ed.key ns.first ns.second) (IsPieceWord (fork_by a f.head.level f.head.class f.key ed.key ns.first ns.second))) e (x.holds Third three).words
+
+    before_leaf : is_below ed.key f ≡ true → ed.key < rank (value h) old_leaf → Made fork_node
+    before_leaf e i = made_over x_node y_node (x.holds First one).fresh (x.holds Second two).fresh
+        (split_before (fork_with h fork_node f.head.level f.head.class f.key ns.first ns.second (let a = deep in omega (arith, a)) small (fork_words true e)) i)
+
+    three_nodes : Made fork_node
+    three_nodes = go (ℕ_discrete f.head.class 0) (dec_lt ed.key f.key)
+      where
+        go : Dec (f.head.class ≡ 0) → Dec (ed.key < f.key) → Made fork_node
+        go (yes low) (yes i) = before_leaf (rw (eq-eqb f.head.class 0 low, lt-ltb ed.key f.key i) refl) (let p = class_is in let q = key_is in omega (arith, p, q, low, i))
+        go (yes low) (no i) = made_over y_node x_node (x.holds Second two).fresh (x.holds First one).fresh
+            (split_behind (fork_with h fork_node f.head.level 0 ed.key ns.second ns.first (let a = deep in omega (arith, a)) (omega arith) (fork_words false (rw (eq-eqb f.head.class 0 low, le-ltb ed.key f.key (omega (arith, i))) refl))) low
+            (let p = class_is in let q = key_is in let d = apart in omega (arith, p, q, low, i, d)))
+        go (no high) i = before_leaf (rw (ne_eqb f.head.class 0 high) refl) (let p = class_is in let a = x.looked.small in omega (arith, p, high, a))
 
   needed : (i : Nth) (o : Option ℕ) → f.value ≡ o → IsNeeded (insert_need o) i → IsNeeded (insert_need f.value) i
   needed i o e n = subst (λ q. IsNeeded (insert_need q) i) (sym e) n
 
   promised_by : (j : Job) (d : Descriptor) → IsUpdateFor insert_means ed f snaps ns j.update → Says d j → (o : Option ℕ) → f.value ≡ o → IsPromised c.layout c.pass h j.scx.0 d (PutEdit ed.key ed.value)
-  promised_by j d is says (Some old) e = swap_promised c h j.scx.0 ed.key ed.value f d ns.first.0 old run x.looked.small found e
+  promised_by j d is says (Some old) e = edit_promised c h j.scx.0 ed.key ed.value f d ns.first.0 run x.looked.small found
       (is_insert j d ns.first.0 is (is.fresh ∙ ap (λ o. (top_of (insert_need o) ns)) e) says) (one_leaf old e (x.holds First (needed First (Some old) e tt)))
-  promised_by j d is says None e = split_promised c h j.scx.0 ed.key ed.value f d ns.third.0 ns.first.0 ns.second.0 run x.looked.small found e
+  promised_by j d is says None e = edit_promised c h j.scx.0 ed.key ed.value f d ns.third.0 run x.looked.small found
       (is_insert j d ns.third.0 is (is.fresh ∙ ap (λ o. (top_of (insert_need o) ns)) e) says) (three_nodes e (needed First None e tt) (needed Second None e tt) (needed Third None e tt))
 
 -- its two nodes are apart, and what it has filled is promised to insert the key
