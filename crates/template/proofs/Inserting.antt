@@ -14,7 +14,7 @@ use Rattle.ordered_map.specs.TreeWords.{is_leaf, toward}
 use Rattle.ordered_map.proofs.Lemmas.{walk_named}
 use Rattle.template.specs.FoundLeaf.{HasFoundLeaf}
 use Rattle.template.specs.FreshNodes.{IsInsertAt}
-use Rattle.template.specs.Promises.{IsPromised, IsFreshEdit, WillInsert}
+use Rattle.template.specs.Promises.{IsPromised, IsFreshEdit}
 use Rattle.template.specs.Trails.{HasTurned}
 use Rattle.template.specs.declared.walk.Found.{Found}
 use Rattle.template.proofs.Promised.{insert_promised}

@@ -1,5 +1,5 @@
 -- A call that begins a try only once all before it are lost has tried only as needed, row by row.
-use Rattle.std.proofs.Common.{◌≡◌, ◌≢◌, ℕ, suc, ◌+◌, ◌-◌, ◌<◌, ◌≤◌, ◌⊎◌, Bool, true, false, inl, inr, ⊎_elim, refl, sym, ◌∙◌, ap, subst, arith}
+use Rattle.std.proofs.Common.{◌≡◌, ◌≢◌, ℕ, suc, ◌+◌, ◌-◌, ◌<◌, ◌≤◌, Bool, true, false, inl, inr, ⊎_elim, refl, sym, ◌∙◌, ap, subst, arith}
 use Rattle.std.proofs.Math.Nat.{lt_of_not-le}
 use Rattle.arena.specs.declared.layout.Layout.{Layout}
 use Rattle.arena.specs.declared.step.Row.{Row}
