@@ -16,9 +16,9 @@ use Rattle.arena.proofs.Lemmas.{node_word_apart}
 use Rattle.histories.proofs.Lemmas.{UpdateWins, node_stays, update_keeps_other}
 use Rattle.ordered_map.specs.OrderedMap.{MapEdit, Insert, Delete}
 use Rattle.ordered_map.specs.Paths.{WasInTree}
-use Rattle.ordered_map.specs.TreeShape.{IsEdit, leaf_place, sibling_place}
+use Rattle.ordered_map.specs.TreeShape.{IsEdit, sibling_place}
 use Rattle.ordered_map.specs.TreeWords.{Has, class, is_leaf, toward, IsBlankAboveKeys}
-use Rattle.ordered_map.specs.Edits.{IsLastLeaf, IsSplitBy, IsJoinBy, IsLeafEdit}
+use Rattle.ordered_map.specs.Edits.{IsLastLeaf, IsSplitBy, IsCopyOf, IsLeafEdit}
 use Rattle.ordered_map.proofs.Holding.{SameSettled}
 use Rattle.ordered_map.proofs.Moved.{settled_class, settled_leaf}
 use Rattle.ordered_map.proofs.Pending.{Mine, Pending}
@@ -47,8 +47,8 @@ module _ (f : Word → ℕ) where
   fork_blank : (e : MapEdit) (l c x y : ℕ) → IsSplitBy f e l c x y → IsBlankAboveKeys f l → IsBlankAboveKeys f c
   fork_blank e l c x y s b d = (s.above d).key ∙ b (λ q. d ((s.above d).class ∙ q))
 
-  join_blank : (e : MapEdit) (q l z c : ℕ) → IsJoinBy f e q l z c → IsBlankAboveKeys f z → IsBlankAboveKeys f c
-  join_blank e q l z c s b d = s.same_key ∙ b (λ w. d (ap (λ v. v % 4) s.same_head ∙ w))
+  copy_blank : (z c : ℕ) → IsCopyOf f c z → IsBlankAboveKeys f z → IsBlankAboveKeys f c
+  copy_blank z c s b d = s.same_key ∙ b (λ w. d (ap (λ v. v % 4) s.same_head ∙ w))
 
 -- what an SCX-record puts into the tree is blank, if what it removes is
 module _ (calls : ℕ → MapEdit) (lay : Layout) (h : History) (u : ℕ) (p : Pending calls lay h u) where
@@ -102,7 +102,7 @@ module _ (calls : ℕ → MapEdit) (lay : Layout) (h : History) (u : ℕ) (p : P
       sibling Right = (2, rw plans.3 (omega arith), plans.5, refl)
 
       go : Puts n → IsBlankAboveKeys b n
-      go (inl q) = subst (IsBlankAboveKeys b) (sym q) (join_blank b (Delete k) (member p.before u 1) (member p.before u (leaf_place side)) (member p.before u (sibling_place side)) made e.edit (now cut (member p.before u (sibling_place side)) (sibling side)))
+      go (inl q) = subst (IsBlankAboveKeys b) (sym q) (copy_blank b (member p.before u (sibling_place side)) made e.edit.copy (now cut (member p.before u (sibling_place side)) (sibling side)))
       go (inr q) = absurd (let x : count p.before u ≡ 2 = q.1 in let y : count p.before u ≡ 4 = plans.3 in omega (arith, x, y))
 
   puts_blank : ((n : ℕ) → Cuts n → IsBlankAboveKeys (value h) n) → (n : ℕ) → Puts n → IsBlankAboveKeys (value h) n

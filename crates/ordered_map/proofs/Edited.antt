@@ -273,7 +273,7 @@ module _ (calls : ℕ → MapEdit) (lay : Layout) (h : History) (r : Row) (u : �
       kids : HasFieldsOf (value h) made_of (member past.before u (sibling_place side))
       kids q side' =
           let zb : is_leaf (value past.before) (member past.before u (sibling_place side)) ≡ false = sym (settled_leaf (value past.before) (value h) _ (member_card (sibling_place side))) ∙ q in
-          let cb : is_leaf (value past.before) made_of ≡ false = ap (λ w. eqb (w / 4 % 2) 1) e.edit.same_head ∙ zb in
+          let cb : is_leaf (value past.before) made_of ≡ false = ap (λ w. eqb (w / 4 % 2) 1) e.edit.copy.same_head ∙ zb in
           past.fields cb side' ∙ e.copied (saw (sibling_place side) (small_place side).0) zb side' ∙ sym (shows (sibling_place side) (small_place side).0 (small_place side).1 side')
 
       cut_at : (n j : ℕ) → (j < count past.before u) × (scx_finalizes past.before u j ≡ true) → member past.before u j ≡ n → IsCut n
@@ -528,7 +528,7 @@ module _ (calls : ℕ → MapEdit) (lay : Layout) (h : History) (r : Row) (u : �
           let a : level (value h) n ≡ level (value h) made_of = ap (level (value h)) m in
           let c : level (value h) made_of ≡ level (value past.before) made_of = settled_level (value past.before) (value h) made_of made_card in
           let d : level (value h) (member past.before u (sibling_place side)) ≡ level (value past.before) (member past.before u (sibling_place side)) = settled_level (value past.before) (value h) _ (member_card (sibling_place side)) in
-          let q : level (value past.before) made_of ≡ level (value past.before) (member past.before u (sibling_place side)) = ap (λ v. v / 8) e.edit.same_head in
+          let q : level (value past.before) made_of ≡ level (value past.before) (member past.before u (sibling_place side)) = ap (λ v. v / 8) e.edit.copy.same_head in
           omega (arith, a, c, d, q)
 
   levels_of : (c : MapEdit) → IsEdit past.before u c → (n : ℕ) → Born n → IsAsDeep n

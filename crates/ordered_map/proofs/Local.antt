@@ -332,7 +332,7 @@ module _ (f g : Word → ℕ) (p : ℕ) (e : Apart f g p) where
       right_n = rw x at t.0.right
 
       go : ((f (child q Left) ≡ l) × (f (child q Right) ≡ z)) ⊎ ((f (child q Left) ≡ z) × (f (child q Right) ≡ l)) → Replaced f g (edited k) (λ n. (q ≡ n) ⊎ ((l ≡ n) ⊎ (z ≡ n))) (λ n. n ≡ c) c lo hi (Fork n a b)
-      go (inl o) = finish (copied z c zc pc s.same_head s.same_key s.same_pairs below (rank f n) hi b t.2 root_b (λ h. d (inr (inr h))))
+      go (inl o) = finish (copied z c zc pc s.copy.same_head s.copy.same_key s.copy.same_pairs below (rank f n) hi b t.2 root_b (λ h. d (inr (inr h))))
         where
           root_b : root b ≡ z
           root_b = sym right_n ∙ o.1
@@ -367,7 +367,7 @@ module _ (f g : Word → ℕ) (p : ℕ) (e : Apart f g p) where
               paths j m (inl h) = inr (inl (sym x ∙ h))
               paths j m (inr (inl h)) = let y : l ≡ m = rw is_a at h.1 in inr (inr (inl y))
               paths j m (inr (inr h)) = ⊎_elim inl (λ y. inr (inr (inr y))) (r.paths j m h.1)
-      go (inr o) = finish (copied z c zc pc s.same_head s.same_key s.same_pairs below lo (rank f n) a t.1 root_a (λ h. d (inr (inl h))))
+      go (inr o) = finish (copied z c zc pc s.copy.same_head s.copy.same_key s.copy.same_pairs below lo (rank f n) a t.1 root_a (λ h. d (inr (inl h))))
         where
           root_a : root a ≡ z
           root_a = sym left_n ∙ o.0

@@ -10,7 +10,7 @@ use Rattle.std.specs.Prelude.{Some, None}
 use Rattle.ordered_map.specs.OrderedMap.{pair, AllBelow, AllFrom, MapEdit, edited}
 use Rattle.ordered_map.specs.TreeWords.{class, is_leaf, level, rank, toward, first_said, leaf_items}
 use Rattle.ordered_map.proofs.Holding.{SameSettled, held_same, counted_same, same_items}
-use Rattle.ordered_map.specs.Edits.{IsLowLeaf, IsLastLeaf, IsSwapBy, IsSplitBy, IsJoinBy, IsLeafEdit, IsAlike}
+use Rattle.ordered_map.specs.Edits.{IsLowLeaf, IsLastLeaf, IsSwapBy, IsSplitBy, IsCopyOf, IsJoinBy, IsLeafEdit, IsAlike}
 
 pub settled_rank : (b f : Word → ℕ) (n : ℕ) → SameSettled b f n → rank f n ≡ rank b n
 settled_rank b f n e = λ i. e (Settled Head) tt i % 4 * 2 ^ 64 + e (Settled Key) tt i
@@ -76,15 +76,20 @@ module _ (b f : Word → ℕ) where
   move_leaf_edit e l c el ec below fields (inl s) = inl (move_swap_by e l c el ec s)
   move_leaf_edit e l c el ec below fields (inr s) = inr (s.0, s.1, move_split_by e l c s.0 s.1 el ec (subst (SameSettled b f) s.2.left (below s.2.fork Left)) (subst (SameSettled b f) s.2.right (below s.2.fork Right)) (fields s.2.fork) s.2)
 
+  move_copy : (z c : ℕ) → SameSettled b f z → SameSettled b f c → IsCopyOf b c z → IsCopyOf f c z
+  move_copy z c ez ec s = record {
+    same_head = ec (Settled Head) tt ∙ s.same_head ∙ sym (ez (Settled Head) tt);
+    same_key = ec (Settled Key) tt ∙ s.same_key ∙ sym (ez (Settled Key) tt);
+    same_pairs = λ leaf low.
+        let x = s.same_pairs (sym (settled_leaf b f z ez) ∙ leaf) (sym (settled_class b f z ez) ∙ low) in
+        (counted_same b f c ec x.0, held_same b f c ec ∙ x.1 ∙ sym (held_same b f z ez));
+  }
+
   pub move_join_by : (e : MapEdit) (q l z c : ℕ) → SameSettled b f q → SameSettled b f l → SameSettled b f z → SameSettled b f c → IsJoinBy b e q l z c → IsJoinBy f e q l z c
   move_join_by e q l z c eq el ez ec s = record {
     fork = settled_leaf b f q eq ∙ s.fork;
     leaf = settled_leaf b f l el ∙ s.leaf;
     low = settled_class b f l el ∙ s.low;
     emptied = ap (edited e) (held_same b f l el) ∙ s.emptied;
-    same_head = ec (Settled Head) tt ∙ s.same_head ∙ sym (ez (Settled Head) tt);
-    same_key = ec (Settled Key) tt ∙ s.same_key ∙ sym (ez (Settled Key) tt);
-    same_pairs = λ leaf low.
-        let x = s.same_pairs (sym (settled_leaf b f z ez) ∙ leaf) (sym (settled_class b f z ez) ∙ low) in
-        (counted_same b f c ec x.0, held_same b f c ec ∙ x.1 ∙ sym (held_same b f z ez));
+    copy = move_copy z c ez ec s.copy;
   }

@@ -126,7 +126,9 @@ module _ (f : Word → ℕ) where
     leaf = s.leaf;
     low = s.class;
     emptied = ap (delete k) (held_pair l k _ s.key refl) ∙ taken_out k (f (node l (Settled Value)));
-    same_head = s.same_head;
-    same_key = s.same_key;
-    same_pairs = λ leaf _. (counted_one f c, held_pair c _ _ s.same_key (s.same_value leaf) ∙ sym (held_one f z));
+    copy = record {
+      same_head = s.same_head;
+      same_key = s.same_key;
+      same_pairs = λ leaf _. (counted_one f c, held_pair c _ _ s.same_key (s.same_value leaf) ∙ sym (held_one f z));
+    };
   }

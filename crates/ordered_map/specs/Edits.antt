@@ -58,16 +58,20 @@ pub record IsSplitBy (f : Word → ℕ) (e : MapEdit) (l c x y : ℕ) : Type 0 w
   pub low : level f x ≡ level f c + 1
   pub high : level f y ≡ level f c + 1
 
+-- the node c is a copy of z, as its settled words say: a leaf of class 0 holds the same pairs
+pub record IsCopyOf (f : Word → ℕ) (c z : ℕ) : Type 0 where
+  pub same_head : f (node c (Settled Head)) ≡ f (node z (Settled Head))
+  pub same_key : f (node c (Settled Key)) ≡ f (node z (Settled Key))
+  pub same_pairs : is_leaf f z ≡ true → class f z ≡ 0 → IsWellCounted f c × (held_pairs f c ≡ held_pairs f z)
+
 -- the fork q over the leaf l, of whose pairs the edit leaves none, and its sibling z is replaced by
--- a copy c of z: what the settled words say
+-- a copy c of z
 pub record IsJoinBy (f : Word → ℕ) (e : MapEdit) (q l z c : ℕ) : Type 0 where
   pub fork : is_leaf f q ≡ false
   pub leaf : is_leaf f l ≡ true
   pub low : class f l ≡ 0
   pub emptied : edited e (held_pairs f l) ≡ []
-  pub same_head : f (node c (Settled Head)) ≡ f (node z (Settled Head))
-  pub same_key : f (node c (Settled Key)) ≡ f (node z (Settled Key))
-  pub same_pairs : is_leaf f z ≡ true → class f z ≡ 0 → IsWellCounted f c × (held_pairs f c ≡ held_pairs f z)
+  pub copy : IsCopyOf f c z
 
 -- a leaf l is replaced by what holds what the edit makes of its pairs: by a leaf, or by a fork over two
 abbrev pub IsLeafEdit : (Word → ℕ) → MapEdit → ℕ → ℕ → Type 0

@@ -77,9 +77,7 @@ module _ (c : Call) (h : History) (k old : ℕ) (f : Found) (d : Descriptor) (ab
     leaf = a.leaf;
     low = says.0;
     emptied = let v : ℕ = value h (node f.trail.node.0 (Settled Value)) in ap (delete k) (held_one (value h) f.trail.node.0 ∙ (λ i. pair (says.1 i) v ∷ [])) ∙ taken_out k v;
-    same_head = w.same_head;
-    same_key = w.same_key;
-    same_pairs = w.same_pairs;
+    copy = w.copy;
   }
 
   will_delete : WillDelete c.layout c.pass h d k f.trail.side

@@ -14,7 +14,7 @@ use Rattle.ordered_map.specs.TreeWords.{is_leaf, toward}
 use Rattle.ordered_map.proofs.Lemmas.{walk_named}
 use Rattle.template.specs.FoundLeaf.{HasFoundLeaf}
 use Rattle.template.specs.FreshNodes.{IsInsertAt}
-use Rattle.template.specs.Promises.{IsPromised, IsFreshEdit}
+use Rattle.template.specs.Promises.{IsPromised, HasFreshEdit}
 use Rattle.template.specs.Trails.{HasTurned}
 use Rattle.template.specs.declared.walk.Found.{Found}
 use Rattle.template.proofs.Promised.{insert_promised}
@@ -31,7 +31,7 @@ insert_words m d f n x plan two parent leaf old new = record {
 }
 
 -- An SCX-record that puts such a fresh node into the place of the leaf that was found inserts the key.
-pub edit_promised : (c : Call) (h : History) (s k v : ℕ) (f : Found) (d : Descriptor) (n : ℕ) → IsTreeRun c.layout h → k < 2 ^ 64 → HasFoundLeaf c h k f → IsInsertAt f d n → IsFreshEdit c.layout c.pass h (Insert k v) f.trail.node.0 n → IsPromised c.layout c.pass h s d (Insert k v)
+pub edit_promised : (c : Call) (h : History) (s k v : ℕ) (f : Found) (d : Descriptor) (n : ℕ) → IsTreeRun c.layout h → k < 2 ^ 64 → HasFoundLeaf c h k f → IsInsertAt f d n → HasFreshEdit c.layout c.pass h (Insert k v) f.trail.node.0 n → IsPromised c.layout c.pass h s d (Insert k v)
 edit_promised c h s k v f d n run small a i w = insert_promised c.layout c.pass s h d k v c.is_pass record {
   small = small;
   path = let p = parent.passed.passed in subst (WasOnPath h k) (sym i.parent) (p.0, p.1, p.3);
@@ -40,7 +40,7 @@ edit_promised c h s k v f d n run small a i w = insert_promised c.layout c.pass 
   plan = i.plan ∙ ap insert_plan (sym (subst (λ m. toward (value h) m k ≡ f.trail.side) (sym i.parent) parent.side_is));
   old = i.old ∙ sym i.leaf;
   leaf_named = subst (IsNamed c.layout h) (sym i.leaf) (walk_named c.layout h a.trail.node.first k f.trail.node.0 run a.trail.node.passed);
-  edit = subst (IsFreshEdit c.layout c.pass h (Insert k v) (d.member 1)) (sym i.new) (subst (λ l. IsFreshEdit c.layout c.pass h (Insert k v) l n) (sym i.leaf) w);
+  edit = subst (HasFreshEdit c.layout c.pass h (Insert k v) (d.member 1)) (sym i.new) (subst (λ l. HasFreshEdit c.layout c.pass h (Insert k v) l n) (sym i.leaf) w);
 }
   where
     parent : HasTurned c h k f.trail.parent.0 f.trail.side f.trail.node.0

@@ -1,18 +1,16 @@
 -- What the SCX-record of an insert or of a delete says once the leaf of its key is found, and the
 -- copy that a delete has filled.
-use Rattle.std.specs.Prelude.{◌≡◌, ℕ, true, false}
+use Rattle.std.specs.Prelude.{◌≡◌, ℕ, false}
 use Rattle.arena.specs.declared.layout.Layout.{Layout}
 use Rattle.arena.specs.declared.word.Side.{Side}
-use Rattle.arena.specs.declared.word.NodeWord.TheVariants.{Settled}
-use Rattle.arena.specs.declared.word.SettledPart.TheVariants.{Head, Key}
-use Rattle.arena.specs.Words.{node, child}
+use Rattle.arena.specs.Words.{child}
 use Rattle.arena.specs.History.{History, value}
 use Rattle.histories.specs.Descriptor.{Descriptor}
 use Rattle.prims.specs.Snap.{child_of}
 use Rattle.prims.specs.declared.snap.Snap.{Snap}
-use Rattle.ordered_map.specs.Holding.{held_pairs, IsWellCounted}
+use Rattle.ordered_map.specs.Edits.{IsCopyOf}
 use Rattle.ordered_map.specs.TreeShape.{insert_plan, delete_plan}
-use Rattle.ordered_map.specs.TreeWords.{class, is_leaf}
+use Rattle.ordered_map.specs.TreeWords.{is_leaf}
 use Rattle.template.specs.Promises.{IsFresh}
 use Rattle.template.specs.declared.walk.Found.{Found}
 
@@ -37,11 +35,8 @@ pub record IsDeleteAt (f : Found) (d : Descriptor) (snap : Snap) (n : ℕ) : Typ
   pub old : d.old ≡ f.trail.parent.0
   pub new : d.new ≡ n
 
--- a fresh copy n of the snapshot's node: a fork has the fields that the snapshot found, and a leaf of
--- class 0 the same pairs
+-- a fresh copy n of the snapshot's node: a fork has the fields that the snapshot found
 pub record HasFreshCopy (lay : Layout) (c : ℕ) (h : History) (snap : Snap) (n : ℕ) : Type 0 where
   pub fresh : IsFresh lay c h n
-  pub same_head : value h (node n (Settled Head)) ≡ value h (node snap.node.0 (Settled Head))
-  pub same_key : value h (node n (Settled Key)) ≡ value h (node snap.node.0 (Settled Key))
-  pub same_pairs : is_leaf (value h) snap.node.0 ≡ true → class (value h) snap.node.0 ≡ 0 → IsWellCounted (value h) n × (held_pairs (value h) n ≡ held_pairs (value h) snap.node.0)
+  pub copy : IsCopyOf (value h) n snap.node.0
   pub fields : is_leaf (value h) snap.node.0 ≡ false → (side : Side) → value h (child n side) ≡ (child_of snap side).0

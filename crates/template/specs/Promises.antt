@@ -34,7 +34,7 @@ pub record IsFresh (lay : Layout) (c : ℕ) (h : History) (n : ℕ) : Type 0 whe
 
 -- the fresh node n holds what the edit makes of the pairs of the leaf l: it is a leaf, or a fork over
 -- two fresh leaves
-pub record IsFreshEdit (lay : Layout) (c : ℕ) (h : History) (e : MapEdit) (l n : ℕ) : Type 0 where
+pub record HasFreshEdit (lay : Layout) (c : ℕ) (h : History) (e : MapEdit) (l n : ℕ) : Type 0 where
   pub fresh : IsFresh lay c h n
   pub edit : IsLeafEdit (value h) e l n
   pub below : is_leaf (value h) n ≡ false → (side : Side) → IsFresh lay c h (value h (child n side))
@@ -49,7 +49,7 @@ pub record WillInsert (lay : Layout) (c : ℕ) (h : History) (d : Descriptor) (k
   pub plan : d.plan ≡ insert_plan (toward (value h) (d.member 0) k)
   pub old : d.old ≡ d.member 1
   pub leaf_named : IsNamed lay h (d.member 1)
-  pub edit : IsFreshEdit lay c h (Insert k v) (d.member 1) d.new
+  pub edit : HasFreshEdit lay c h (Insert k v) (d.member 1) d.new
 
 -- the snapshot may be used, and is what the SCX-record has seen of its j-th node
 pub record IsSnapOf (lay : Layout) (h : History) (d : Descriptor) (j : ℕ) (snap : Snap) : Type 0 where

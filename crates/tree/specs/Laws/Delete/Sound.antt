@@ -461,9 +461,11 @@ module _ (ed : Delete) (c : Call) (h : History) (f : Found) (snaps : List Snap) 
   copy : HasFreshCopy c.layout c.pass h sibling ns.first.0
   copy = record {
     fresh = (x.holds First one).fresh;
-    same_head = held_words.head ∙ head_back w fits;
-    same_key = copied_key (ℕ_discrete (class (value h) sibling.node.0) 0);
-    same_pairs = λ leaf low. (counted_one (value h) ns.first.0, held_one (value h) ns.first.0 ∙ (λ i. pair (low_key_loaded low i) (low_value_loaded leaf low i) ∷ []) ∙ sym (held_one (value h) sibling.node.0));
+    copy = record {
+      same_head = held_words.head ∙ head_back w fits;
+      same_key = copied_key (ℕ_discrete (class (value h) sibling.node.0) 0);
+      same_pairs = λ leaf low. (counted_one (value h) ns.first.0, held_one (value h) ns.first.0 ∙ (λ i. pair (low_key_loaded low i) (low_value_loaded leaf low i) ∷ []) ∙ sym (held_one (value h) sibling.node.0));
+    };
     fields = λ fork side. held_words.fields fork side;
   }
 

@@ -32,7 +32,7 @@ use Rattle.ordered_map.specs.TreeWords.{class, is_leaf, leaf_items, level, rank}
 use Rattle.ordered_map.proofs.Lemmas.{counted_one, held_one, high_items, insert_here, low_items, one_item, put_before, put_behind, run_since}
 use Rattle.template.specs.FoundLeaf.{HasFoundLeaf}
 use Rattle.template.specs.FreshNodes.{IsInsertAt}
-use Rattle.template.specs.Promises.{IsPromised, IsFresh, IsFreshEdit}
+use Rattle.template.specs.Promises.{IsPromised, IsFresh, HasFreshEdit}
 use Rattle.template.specs.Trails.{HasTurned}
 use Rattle.template.specs.declared.walk.Found.{Found}
 use Rattle.template.specs.declared.walk.Goal.TheVariants.{Key as ToKey}
@@ -313,7 +313,7 @@ module _ (ed : Insert) (c : Call) (h : History) (f : Found) (snaps : List Snap) 
   key_is = found_key ed.key c h f run found
 
   abbrev Made : ℕ → Type 0
-  Made n = IsFreshEdit c.layout c.pass h (PutEdit ed.key ed.value) old_leaf n
+  Made n = HasFreshEdit c.layout c.pass h (PutEdit ed.key ed.value) old_leaf n
 
   -- a present key: its leaf
   one_leaf : (old : ℕ) → f.value ≡ Some old → HoldsPiece c h ns.first.0 (insert_pieces ed.key ed.value f ns ld First) → Made ns.first.0
