@@ -178,6 +178,26 @@ impl<S: Shape> Forest<S> {
             None => unreachable!(),
         }
     }
+
+    /// Ends the forest by one of its passes, which looks at the table once more: for a caller whose
+    /// other passes are gone. It takes no memory.
+    pub fn end(self, pass: Pass<S>) -> Closed<S>
+        requires pass { IsOf self pass }
+        ensures mode { result.layout.mode ≡ S.mode }
+        ensures closed { IsClosed S.allows self.layout (pass ∷ []) result }
+    {
+        let Forest {
+            words,
+            layout,
+            tries: _,
+        } = self;
+        let seat = seat_of(&words, &layout, pass);
+        Closed {
+            words: words.close(seat),
+            layout,
+            shape: PhantomData,
+        }
+    }
 }
 
 /// One seat with all these passes.
