@@ -69,8 +69,8 @@ blames_none old new tries call (replies.Pairs v) blamed same x = refl
 blames_none old new tries call (replies.Full f) blamed same x = refl
 blames_none old new tries call replies.NoMemory blamed same x = refl
 blames_none old new tries call (replies.Contended n s) blamed same x =
-    let way = x.lost.lost.in_the_way in
-    absurd (no_row (run_of new) way.row way.before way.within (subst (Extends way.before) (sym same) (ends_trans way.before x.lost.lost.begin (run_of old) way.since x.lost.lost.since)))
+    let way = x.lost.all.lost.in_the_way in
+    absurd (no_row (run_of new) way.row way.before way.within (subst (Extends way.before) (sym same) (ends_trans way.before x.lost.all.lost.begin (run_of old) way.since x.lost.all.lost.since)))
 
 -- What a call leaves
 
