@@ -18,6 +18,7 @@
 //!     map.meet(&mut pass, &mut other)           // each knows what both knew
 //!     map.all_back(&passes)                     // true: no pass is missing, so it can be closed
 //!     map.close(passes).pairs(alloc)?           // []
+//!     map.end(pass).pairs(alloc)?               // or so, by one pass: the others may be gone
 //!
 //! A call one atomic step at a time; here of the empty map, whose root has one leaf on its left:
 //!

@@ -1,0 +1,138 @@
+-- What calls answer to C.
+use Rattle.std.specs.Prelude.{◌≡◌, ◌⊎◌, ◌^◌, ◌<◌, ℕ, Option, Some, None, Result, Ok, Err, List, length, vec_len, slice_get, take}
+use Rattle.std.specs.Arc.{arc_value}
+use Rattle.std.specs.Global.{Vec}
+use Rattle.arena.specs.Limits.{IsAccepted}
+use Rattle.arena.specs.declared.limits.Limits.{Limits}
+use Rattle.ordered_map.specs.OrderedMap.{MapCall, PopFirst, Get, Successor, Range, OneValue}
+use Rattle.forest.specs.declared.fault.OrderFault.{OrderFault}
+use Rattle.forest.specs.declared.fault.OrderFault.TheVariants as reads
+use Rattle.forest.specs.declared.fault.UpdateFault.{UpdateFault}
+use Rattle.forest.specs.declared.fault.UpdateFault.TheVariants as updates
+use Rattle.forest.specs.Dictionary.{HasMadeCall, IsReading, UpdateSays, PopSays, SuccessorSays, RangeSays, blamed_by_update, blamed_by_read}
+use Rattle.capi.specs.Left.{AreLeft}
+use Rattle.capi.specs.Made.{AreMade}
+use Rattle.capi.specs.declared.answer.Answer.{Answer}
+use Rattle.capi.specs.declared.answer.Left.{Left}
+use Rattle.capi.specs.declared.answer.Pair.{Pair}
+use Rattle.capi.specs.declared.answer.PassLimits.{PassLimits}
+use Rattle.capi.specs.declared.client.Client.{Client}
+use Rattle.capi.specs.declared.handle.Place.{Place}
+
+-- Statuses are numbers here, as C has them: 0 none, 1 some, 2 contended, 3 full, 4 no memory,
+-- 5 limits, 6 no pass, 7 shared.
+
+-- an answer with no value
+abbrev pub bare : ℕ → Answer
+bare status = record { value = 0; status = status }
+
+-- what `get` answers
+abbrev pub value_answer : Option ℕ → Answer
+value_answer None = bare 0
+value_answer (Some v) = record { value = v; status = 1 }
+
+-- why an edit was refused
+abbrev pub update_refusal : UpdateFault → Answer
+update_refusal (updates.Contended node scx) = bare 2
+update_refusal (updates.Full full) = bare 3
+
+-- why an ordered read was refused
+abbrev pub order_refusal : OrderFault → Answer
+order_refusal (reads.Contended node scx) = bare 2
+order_refusal reads.NoMemory = bare 4
+
+-- what an edit of a key answers
+abbrev pub update_answer : Result (Option ℕ) UpdateFault → Answer
+update_answer (Ok old) = value_answer old
+update_answer (Err fault) = update_refusal fault
+
+-- a pair as C has it
+abbrev pub pair_in_c : ℕ × ℕ → Pair
+pair_in_c p = record { key = p.0; value = p.1 }
+
+-- what a call that tells a pair leaves in its room, and answers
+abbrev pub IsPairAnswer : Option (ℕ × ℕ) → Pair → Answer → Type 0
+IsPairAnswer (Some p) room a = (room ≡ pair_in_c p) × (a ≡ bare 1)
+IsPairAnswer None room a = a ≡ bare 0
+
+-- the same where such a call may be refused
+abbrev pub IsFoundAnswer : {F : Type 0} → (F → Answer) → Result (Option (ℕ × ℕ)) F → Pair → Answer → Type 0
+IsFoundAnswer refusal (Ok found) room a = IsPairAnswer found room a
+IsFoundAnswer refusal (Err fault) room a = a ≡ refusal fault
+
+-- these pairs stand in the first places of the room
+abbrev pub StandIn : List (ℕ × ℕ) → List Pair → Type 0
+StandIn pairs room = (j : ℕ) (p : ℕ × ℕ) → slice_get pairs j ≡ Some p → slice_get room j ≡ Some (pair_in_c p)
+
+-- what `range` leaves in its room, and answers
+abbrev pub IsAnswerOfRange : Result (Vec (ℕ × ℕ)) OrderFault → List Pair → Answer → Type 0
+IsAnswerOfRange (Ok found) room a = StandIn found.items room × (a ≡ record { value = vec_len found; status = 1 })
+IsAnswerOfRange (Err fault) room a = a ≡ order_refusal fault
+
+-- What a call says of the pass that has made it
+
+-- the pass has made this call, and blames these now: what it knows is lawful, and goes on from what
+-- it knew by no more steps of its own than such a call takes
+abbrev pub HasClientCalled : Client → Client → MapCall → List ℕ → Type 0
+HasClientCalled old new call blamed = HasMadeCall (λ k. k < 2 ^ 64) (λ k. k) (λ v. v < 2 ^ 64) (λ v. v) (arc_value old.forest).tries (arc_value old.forest).layout old.pass new.pass call blamed
+
+-- what a handle held before and after a call, and what the call answered: with no pass nothing is
+-- done; else the pass, which stays in its forest, has made this call
+abbrev pub CallSays : (Client → Client → Answer → Type 0) → Option Client → Option Client → Answer → Type 0
+CallSays made None after a = (after ≡ None) × (a ≡ bare 6)
+CallSays made (Some old) None a = ⊥
+CallSays made (Some old) (Some new) a = (new.forest ≡ old.forest) × made old new a
+
+-- what `get` says
+abbrev pub GetSays : ℕ → Client → Client → Answer → Type 0
+GetSays key old new a = (told : Option ℕ) × (a ≡ value_answer told) × HasClientCalled old new (Get key) old.pass.blamed × IsReading old.pass new.pass (Get key) (OneValue told)
+
+-- what an edit of a key says
+abbrev pub EditSays : MapCall → Client → Client → Answer → Type 0
+EditSays call old new a = (told : Result (Option ℕ) UpdateFault) × (a ≡ update_answer told) × HasClientCalled old new call (blamed_by_update told old.pass.blamed) × UpdateSays (λ v. v) (arc_value old.forest).tries old.pass new.pass call told
+
+-- what `pop_first` says, which leaves the pair that it has taken in this room
+abbrev pub TakenSays : Pair → Client → Client → Answer → Type 0
+TakenSays room old new a = (told : Result (Option (ℕ × ℕ)) UpdateFault) × IsFoundAnswer update_refusal told room a × HasClientCalled old new PopFirst (blamed_by_update told old.pass.blamed) × PopSays (λ k. k) (λ v. v) (arc_value old.forest).tries old.pass new.pass told
+
+-- what `successor` says
+abbrev pub NextSays : ℕ → Pair → Client → Client → Answer → Type 0
+NextSays key room old new a = (told : Result (Option (ℕ × ℕ)) OrderFault) × IsFoundAnswer order_refusal told room a × HasClientCalled old new (Successor key) (blamed_by_read told old.pass.blamed) × SuccessorSays (λ k. k) (λ v. v) (arc_value old.forest).tries old.pass new.pass key told
+
+-- what `range` says, which may tell so many pairs, and leaves them in this room
+abbrev pub BetweenSays : ℕ → ℕ → ℕ → List Pair → Client → Client → Answer → Type 0
+BetweenSays low high most room old new a = (told : Result (Vec (ℕ × ℕ)) OrderFault) × IsAnswerOfRange told room a × HasClientCalled old new (Range low high most) (blamed_by_read told old.pass.blamed) × RangeSays (λ k. k) (λ v. v) (arc_value old.forest).tries old.pass new.pass low high most told
+
+-- what `left` tells
+abbrev pub LeftSays : Option Client → Left → Type 0
+LeftSays None a = a ≡ record { nodes = 0; scx = 0 }
+LeftSays (Some c) a = a ≡ record { nodes = c.pass.share.nodes; scx = c.pass.share.scx }
+
+-- What `close` and `make` say
+
+-- the pairs that are left stand in the room, as far as they go in
+pub record HasClosed (c : Client) (room : List Pair) (a : Answer) : Type 0 where
+  pub pairs : List (ℕ × ℕ)
+  pub left : AreLeft c.pass pairs
+  pub count : a ≡ record { value = length pairs; status = 1 }
+  pub put : StandIn (take (length room) pairs) room
+
+-- what `close` answers, and leaves in the handle and in its room
+abbrev pub CloseSays : Option Client → Option Client → List Pair → Answer → Type 0
+CloseSays None after room a = (after ≡ None) × (a ≡ bare 6)
+CloseSays (Some c) (Some d) room a = (d ≡ c) × (a ≡ bare 7)
+CloseSays (Some c) None room a = (a ≡ bare 4) ⊎ HasClosed c room a
+
+-- the limits of so many passes
+abbrev pub limits_of : PassLimits → ℕ → Limits
+limits_of each passes = record { passes = passes; nodes = each.nodes; scx = each.scx; tries = each.tries }
+
+-- there is no new dictionary, since the limits are out of range or an allocation was refused: the
+-- handles are as they were
+pub record IsNotMade (each : PassLimits) (before after : List Place) (status : ℕ) : Type 0 where
+  pub same : after ≡ before
+  pub why : ((status ≡ 5) × (¬ IsAccepted (limits_of each (length before)))) ⊎ (status ≡ 4)
+
+-- what `make` answers, and what handles hold: those of a new dictionary, or what they held
+abbrev pub MakeSays : PassLimits → List Place → List Place → ℕ → Type 0
+MakeSays each before after status = ((status ≡ 0) × AreMade (limits_of each (length before)) after) ⊎ IsNotMade each before after status

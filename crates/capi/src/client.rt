@@ -1,0 +1,153 @@
+//! What a handle leads to: a pass of a dictionary, and a part in its forest.
+ghost use Rattle.std.specs.Prelude.{◌≡◌, ◌≤◌, IfOk, length, min, vec_len};
+ghost use Rattle.std.specs.Arc.{arc_value};
+ghost use Rattle.ordered_map.specs.OrderedMap.{Edit, Insert, Delete, PopFirst, ReplaceIf, Get, Successor, Range, OneValue};
+ghost use Rattle.forest.specs.Passes.{IsOf};
+ghost use Rattle.forest.specs.Dictionary.{IsReading, UpdateSays, PopSays, SuccessorSays, RangeSays, blamed_by_update, blamed_by_read};
+
+use crate::answer::{Answer, Pair};
+use regnubas::{Dict, Forest, NoMemory, OrderFault, Pass, UpdateFault};
+use std::alloc::Global;
+use std::sync::Arc;
+
+/// A dictionary of numbers.
+pub type Numbers = Dict<u64, u64>;
+
+/// A pass, and one owner of its forest.
+#[derive(Drop)]
+pub struct Client {
+    pub(crate) forest: Arc<Forest<Numbers>>,
+    pub(crate) pass: Pass<Numbers>,
+    ghost of: { IsOf (arc_value forest) pass },
+}
+
+impl Client {
+    ghost use Rattle.capi.specs.Answers.{HasClientCalled, BetweenSays};
+
+    /// The value of a key.
+    pub fn get(&mut self, key: u64) -> Option<u64>
+        ensures same { self.new.forest ≡ self.old.forest }
+        ensures called { HasClientCalled self.old self.new (Get key) self.old.pass.blamed }
+        ensures says { IsReading self.old.pass self.new.pass (Get key) (OneValue result) }
+    {
+        self.forest.get(&mut self.pass, &key)
+    }
+
+    /// Sets a key to a value.
+    pub fn insert(&mut self, key: u64, value: u64) -> Result<Option<u64>, UpdateFault>
+        ensures same { self.new.forest ≡ self.old.forest }
+        ensures called { HasClientCalled self.old self.new (Edit (Insert key value)) (blamed_by_update result self.old.pass.blamed) }
+        ensures says { UpdateSays (λ v. v) (arc_value self.old.forest).tries self.old.pass self.new.pass (Edit (Insert key value)) result }
+    {
+        self.forest.insert(&mut self.pass, key, value)
+    }
+
+    /// Takes a key away.
+    pub fn delete(&mut self, key: u64) -> Result<Option<u64>, UpdateFault>
+        ensures same { self.new.forest ≡ self.old.forest }
+        ensures called { HasClientCalled self.old self.new (Edit (Delete key)) (blamed_by_update result self.old.pass.blamed) }
+        ensures says { UpdateSays (λ v. v) (arc_value self.old.forest).tries self.old.pass self.new.pass (Edit (Delete key)) result }
+    {
+        self.forest.delete(&mut self.pass, &key)
+    }
+
+    /// Takes the pair with the least key away.
+    pub fn pop_first(&mut self) -> Result<Option<(u64, u64)>, UpdateFault>
+        ensures same { self.new.forest ≡ self.old.forest }
+        ensures called { HasClientCalled self.old self.new PopFirst (blamed_by_update result self.old.pass.blamed) }
+        ensures says { PopSays (λ k. k) (λ v. v) (arc_value self.old.forest).tries self.old.pass self.new.pass result }
+    {
+        self.forest.pop_first(&mut self.pass)
+    }
+
+    /// Sets a key to a value where it has the expected one.
+    pub fn replace_if(
+        &mut self,
+        key: u64,
+        expected: u64,
+        value: u64,
+    ) -> Result<Option<u64>, UpdateFault>
+        ensures same { self.new.forest ≡ self.old.forest }
+        ensures called { HasClientCalled self.old self.new (ReplaceIf key expected value) (blamed_by_update result self.old.pass.blamed) }
+        ensures says { UpdateSays (λ v. v) (arc_value self.old.forest).tries self.old.pass self.new.pass (ReplaceIf key expected value) result }
+    {
+        self.forest
+            .replace_if(&mut self.pass, key, &expected, value)
+    }
+
+    /// The pair with the least key above this one.
+    pub fn successor(&mut self, alloc: Global, key: u64) -> Result<Option<(u64, u64)>, OrderFault>
+        ensures same { self.new.forest ≡ self.old.forest }
+        ensures called { HasClientCalled self.old self.new (Successor key) (blamed_by_read result self.old.pass.blamed) }
+        ensures says { SuccessorSays (λ k. k) (λ v. v) (arc_value self.old.forest).tries self.old.pass self.new.pass key result }
+    {
+        self.forest.successor(alloc, &mut self.pass, &key)
+    }
+
+    /// The first pairs from `low` to `high`, at most so many.
+    #[tactic(auto, using(crate::proofs::Ranges::range_few))]
+    pub fn range(
+        &mut self,
+        alloc: Global,
+        low: u64,
+        high: u64,
+        most: usize,
+    ) -> Result<Vec<(u64, u64)>, OrderFault>
+        requires few { most ≤ 64 }
+        ensures few { IfOk result (λ pairs. vec_len pairs ≤ most) }
+        ensures same { self.new.forest ≡ self.old.forest }
+        ensures called { HasClientCalled self.old self.new (Range low high most) (blamed_by_read result self.old.pass.blamed) }
+        ensures says { RangeSays (λ k. k) (λ v. v) (arc_value self.old.forest).tries self.old.pass self.new.pass low high most result }
+    {
+        self.forest.range(alloc, &mut self.pass, &low, &high, most)
+    }
+
+    /// The first pairs from `low` to `high`, as many as there is room for, 64 at the most.
+    pub fn fill(&mut self, alloc: Global, low: u64, high: u64, room: &mut [Pair]) -> Answer
+        ensures same { self.new.forest ≡ self.old.forest }
+        ensures says { BetweenSays low high (min 64 (length room.old)) room.new self.old self.new result }
+    {
+        let told = self.range(alloc, low, high, room.len().min(64));
+        Answer::of_range(told, room)
+    }
+
+    /// How many nodes and SCX-records are left of the pass's share.
+    pub fn left(&self) -> (u32, u32)
+        ensures { result ≡ (self.now.pass.share.nodes, self.now.pass.share.scx) }
+    {
+        self.pass.left()
+    }
+}
+
+/// How a client closes.
+pub enum Closing {
+    /// It was the last: the pairs of the dictionary.
+    Pairs(Vec<(u64, u64)>),
+    /// It was the last, and an allocation was refused: the dictionary is gone.
+    NoMemory,
+    /// Other clients share the forest.
+    Shared(Client),
+}
+
+impl Client {
+    ghost use Rattle.capi.specs.Left.{IsClosing};
+
+    /// Ends the forest, if this is its last client.
+    pub fn close(self, alloc: Global) -> Closing
+        ensures { IsClosing self result }
+    {
+        let Client { forest, pass } = self;
+        match Arc::try_unwrap(forest) {
+            Ok(forest) => match forest.end(pass).pairs(alloc) {
+                Ok(pairs) => Closing::Pairs(pairs),
+                Err(NoMemory) => Closing::NoMemory,
+            },
+            Err(forest) => Closing::Shared(Client { forest, pass }),
+        }
+    }
+
+    /// Whether no other client shares the forest.
+    pub fn is_last(&self) -> bool {
+        Arc::strong_count(&self.forest) == 1
+    }
+}

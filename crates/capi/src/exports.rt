@@ -1,0 +1,207 @@
+//! The functions that C calls. Their contracts hold for a caller that keeps four rules, which no
+//! compiler checks:
+//!
+//! 1. A pass is zeroed before its first use and then written by this library alone; it may move in
+//!    memory, and once it has moved its old bytes are not passed again.
+//! 2. One call at a time works on a pass; where another thread takes it over, the start or the join
+//!    of a thread, a lock or a sequentially consistent atomic orders the calls.
+//! 3. Each pointer that is passed leads to live, initialised memory of its type and count, which
+//!    nothing else reads or writes during the call; none is null, even where its count is 0.
+//! 4. `malloc`, `realloc` and `free` are one allocator, which aligns to 16 bytes; no call comes
+//!    from a signal handler, or in the child of a fork of a process with threads.
+ghost use Rattle.std.specs.Prelude.{◌≡◌, None, length, min};
+ghost use Rattle.ordered_map.specs.OrderedMap.{Edit, Insert, Delete, ReplaceIf};
+ghost use Rattle.capi.specs.Answers.{CallSays, GetSays, EditSays, TakenSays, NextSays, BetweenSays, LeftSays, CloseSays, MakeSays};
+
+use crate::answer::{Answer, LIMITS, Left, NO_MEMORY, NO_PASS, NONE, Pair, PassLimits, SHARED};
+use crate::client::Closing;
+use crate::handle::{Handle, Place};
+use crate::open::open;
+use regnubas::{Limits, NewFault};
+use std::alloc::Global;
+
+/// Makes a dictionary with as many passes as there are handles, one for each.
+#[unsafe(no_mangle)]
+pub extern "C" fn regnubas_make(alloc: Global, each: PassLimits, passes: &mut [Place]) -> u32
+    ensures { MakeSays each passes.old passes.new result }
+{
+    if passes.len() > 32 {
+        return LIMITS;
+    }
+    let limits = Limits {
+        passes: passes.len() as u32,
+        nodes: each.nodes,
+        scx: each.scx,
+        tries: each.tries,
+    };
+    match open(alloc, limits) {
+        Ok(mut places) => {
+            passes.swap_with_slice(&mut places);
+            NONE
+        }
+        Err(NewFault::Limits) => LIMITS,
+        Err(NewFault::NoMemory) => NO_MEMORY,
+    }
+}
+
+/// The value of a key.
+#[unsafe(no_mangle)]
+pub extern "C" fn regnubas_get(alloc: Global, pass: &mut Place, key: u64) -> Answer
+    ensures { CallSays (GetSays key) pass.old.handle.value pass.new.handle.value result }
+{
+    let Some(mut client) = pass.handle.take(alloc) else {
+        return Answer::bare(NO_PASS);
+    };
+    let answer = Answer::of_value(client.get(key));
+    pass.handle = Handle::holding(client);
+    answer
+}
+
+/// Sets a key to a value, and tells the value that it had.
+#[unsafe(no_mangle)]
+pub extern "C" fn regnubas_insert(alloc: Global, pass: &mut Place, key: u64, value: u64) -> Answer
+    ensures { CallSays (EditSays (Edit (Insert key value))) pass.old.handle.value pass.new.handle.value result }
+{
+    let Some(mut client) = pass.handle.take(alloc) else {
+        return Answer::bare(NO_PASS);
+    };
+    let answer = Answer::of_update(client.insert(key, value));
+    pass.handle = Handle::holding(client);
+    answer
+}
+
+/// Takes a key away, and tells the value that it had.
+#[unsafe(no_mangle)]
+pub extern "C" fn regnubas_delete(alloc: Global, pass: &mut Place, key: u64) -> Answer
+    ensures { CallSays (EditSays (Edit (Delete key))) pass.old.handle.value pass.new.handle.value result }
+{
+    let Some(mut client) = pass.handle.take(alloc) else {
+        return Answer::bare(NO_PASS);
+    };
+    let answer = Answer::of_update(client.delete(key));
+    pass.handle = Handle::holding(client);
+    answer
+}
+
+/// Takes the pair with the least key away, and leaves it at `pair`.
+#[unsafe(no_mangle)]
+pub extern "C" fn regnubas_pop_first(alloc: Global, pass: &mut Place, pair: &mut Pair) -> Answer
+    ensures { CallSays (TakenSays pair.new) pass.old.handle.value pass.new.handle.value result }
+{
+    let Some(mut client) = pass.handle.take(alloc) else {
+        return Answer::bare(NO_PASS);
+    };
+    let answer = match client.pop_first() {
+        Ok(taken) => Answer::of_pair(taken, pair),
+        Err(fault) => Answer::of_update_fault(fault),
+    };
+    pass.handle = Handle::holding(client);
+    answer
+}
+
+/// Sets a key to a value where it has the expected one, and tells the value that it had.
+#[unsafe(no_mangle)]
+pub extern "C" fn regnubas_replace_if(
+    alloc: Global,
+    pass: &mut Place,
+    key: u64,
+    expected: u64,
+    value: u64,
+) -> Answer
+    ensures { CallSays (EditSays (ReplaceIf key expected value)) pass.old.handle.value pass.new.handle.value result }
+{
+    let Some(mut client) = pass.handle.take(alloc) else {
+        return Answer::bare(NO_PASS);
+    };
+    let answer = Answer::of_update(client.replace_if(key, expected, value));
+    pass.handle = Handle::holding(client);
+    answer
+}
+
+/// The pair with the least key above this one, which is left at `pair`.
+#[unsafe(no_mangle)]
+pub extern "C" fn regnubas_successor(
+    alloc: Global,
+    pass: &mut Place,
+    key: u64,
+    pair: &mut Pair,
+) -> Answer
+    ensures { CallSays (NextSays key pair.new) pass.old.handle.value pass.new.handle.value result }
+{
+    let Some(mut client) = pass.handle.take(alloc) else {
+        return Answer::bare(NO_PASS);
+    };
+    let answer = match client.successor(alloc, key) {
+        Ok(next) => Answer::of_pair(next, pair),
+        Err(fault) => Answer::of_order_fault(fault),
+    };
+    pass.handle = Handle::holding(client);
+    answer
+}
+
+/// The first pairs from `low` to `high`, as many as there is room for, 64 at the most.
+#[unsafe(no_mangle)]
+pub extern "C" fn regnubas_range(
+    alloc: Global,
+    pass: &mut Place,
+    low: u64,
+    high: u64,
+    room: &mut [Pair],
+) -> Answer
+    ensures { CallSays (BetweenSays low high (min 64 (length room.old)) room.new) pass.old.handle.value pass.new.handle.value result }
+{
+    let Some(mut client) = pass.handle.take(alloc) else {
+        return Answer::bare(NO_PASS);
+    };
+    let answer = client.fill(alloc, low, high, room);
+    pass.handle = Handle::holding(client);
+    answer
+}
+
+/// What is left of the pass's share; nothing where there is no pass.
+#[unsafe(no_mangle)]
+pub extern "C" fn regnubas_left(alloc: Global, pass: &mut Place) -> Left
+    ensures same { pass.new.handle.value ≡ pass.old.handle.value }
+    ensures left { LeftSays pass.old.handle.value result }
+{
+    let Some(client) = pass.handle.take(alloc) else {
+        return Left { nodes: 0, scx: 0 };
+    };
+    let (nodes, scx) = client.left();
+    pass.handle = Handle::holding(client);
+    Left { nodes, scx }
+}
+
+/// Gives the pass up. The last to leave frees the dictionary.
+#[unsafe(no_mangle)]
+pub extern "C" fn regnubas_leave(alloc: Global, pass: &mut Place)
+    ensures { pass.new.handle.value ≡ None }
+{
+    drop(pass.handle.take(alloc));
+}
+
+/// Ends the dictionary by its last pass, and leaves its first pairs in `room`. It answers how many
+/// there are in all.
+#[unsafe(no_mangle)]
+pub extern "C" fn regnubas_close(alloc: Global, pass: &mut Place, room: &mut [Pair]) -> Answer
+    ensures { CloseSays pass.old.handle.value pass.new.handle.value room.new result }
+{
+    let Some(client) = pass.handle.take(alloc) else {
+        return Answer::bare(NO_PASS);
+    };
+    if !client.is_last() {
+        pass.handle = Handle::holding(client);
+        return Answer::bare(SHARED);
+    }
+    match Box::into_inner(client).close(alloc) {
+        Closing::Pairs(pairs) => Answer::of_pairs(pairs, room),
+        Closing::NoMemory => Answer::bare(NO_MEMORY),
+        Closing::Shared(client) => match Box::new(alloc, client) {
+            Ok(client) => {
+                pass.handle = Handle::holding(client);
+                Answer::bare(SHARED)
+            }
+            Err(_) => Answer::bare(NO_MEMORY),
+        },
+    }
+}

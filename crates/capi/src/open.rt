@@ -1,0 +1,66 @@
+//! A dictionary is made, and its passes are handed out.
+ghost use Rattle.std.specs.Prelude.{◌≡◌, ◌↔◌, Err, Some, IfOk, map, vec_len};
+ghost use Rattle.std.specs.List.{All};
+ghost use Rattle.std.specs.Option.{option_map};
+ghost use Rattle.std.specs.Arc.{arc_value};
+ghost use Rattle.arena.specs.Limits.{IsAccepted};
+ghost use Rattle.forest.specs.Passes.{IsOf};
+ghost use Rattle.capi.specs.Made.{IsHeldOf, AreMade, pass_at};
+
+use crate::client::{Client, Numbers};
+use crate::handle::{Handle, Place};
+use regnubas::{Forest, Limits, NewFault, NoMemory, Pass};
+use std::alloc::Global;
+use std::sync::Arc;
+
+/// A place for each pass of a new dictionary, with a handle that holds it.
+pub(crate) fn open(alloc: Global, limits: Limits) -> Result<Vec<Place>, NewFault>
+    ensures refused { (result ≡ Err NewFault.Limits) ↔ (¬ IsAccepted limits) }
+    ensures made { IfOk result (λ places. AreMade limits places.items) }
+    ensures count { IfOk result (λ places. vec_len places ≡ limits.passes) }
+{
+    let (forest, passes) = match Forest::<Numbers>::new(alloc, limits) {
+        Ok(opened) => opened,
+        Err(fault) => return Err(fault),
+    };
+    match hand_out(alloc, forest, passes) {
+        Ok(places) => Ok(places),
+        Err(NoMemory) => Err(NewFault::NoMemory),
+    }
+}
+
+/// A place for each of these passes of a forest.
+fn hand_out(
+    alloc: Global,
+    forest: Forest<Numbers>,
+    passes: Vec<Pass<Numbers>>,
+) -> Result<Vec<Place>, NoMemory>
+    requires { All (IsOf forest) passes.items }
+    ensures count { IfOk result (λ places. vec_len places ≡ vec_len passes) }
+    ensures of_forest { IfOk result (λ places. All (λ p. IsHeldOf forest p.handle.value) places.items) }
+    ensures held { IfOk result (λ places. map pass_at places.items ≡ map Some passes.items) }
+{
+    let forest = Arc::new(alloc, forest)?;
+    let mut places = Vec::new(alloc);
+    for pass in passes {
+        places.push(Place::of(hand(alloc, &forest, pass)?))?;
+    }
+    Ok(places)
+}
+
+/// A handle of this pass.
+fn hand(
+    alloc: Global,
+    forest: &Arc<Forest<Numbers>>,
+    pass: Pass<Numbers>,
+) -> Result<Handle, NoMemory>
+    requires { IsOf (arc_value forest.now) pass }
+    ensures of_forest { IfOk result (λ h. IsHeldOf (arc_value forest.now) h.value) }
+    ensures held { IfOk result (λ h. option_map (λ c. c.pass) h.value ≡ Some pass) }
+{
+    let client = Client {
+        forest: Arc::try_clone(forest)?,
+        pass,
+    };
+    Ok(Handle::holding(Box::new(alloc, client)?))
+}
