@@ -1,0 +1,114 @@
+/* An ordered dictionary of 64-bit keys and values that many threads read and change without locks.
+ *
+ * Each function is proved to do what is said of it here, for every caller that keeps four rules,
+ * which no compiler checks:
+ *
+ *  1. A pass is zeroed before its first use and then written by this library alone; it may move in
+ *     memory, and once it has moved its old bytes are not passed again.
+ *  2. One call at a time works on a pass; where another thread takes it over, the start or the join
+ *     of a thread, a lock or a sequentially consistent atomic orders the calls.
+ *  3. Each pointer that is passed leads to live, initialised memory of its type and count, which
+ *     nothing else reads or writes during the call; none is null, even where its count is 0.
+ *  4. malloc, realloc and free are one allocator, which aligns to 16 bytes; no call comes from a
+ *     signal handler, or in the child of a fork of a process with threads.
+ *
+ * Calls on different passes may overlap as they like: each takes effect at one moment between its
+ * begin and its end. A call on a pass that is empty, was left or was closed answers
+ * REGNUBAS_NO_PASS. */
+#ifndef REGNUBAS_H
+#define REGNUBAS_H
+
+#include <stddef.h>
+#include <stdint.h>
+
+#ifdef __cplusplus
+extern "C" {
+#endif
+
+/* What a thread needs to make calls. 64 bytes, so that two passes never meet in a cache line: each
+ * call writes to its pass. */
+typedef struct regnubas_pass {
+    void *at; /* of the library */
+    uint64_t unused[7];
+} regnubas_pass;
+
+/* What each pass may take in the life of the dictionary. */
+typedef struct regnubas_limits {
+    uint32_t nodes; /* 0 to 32768: a new key takes 3 in a try, any other change 1 */
+    uint32_t scx;   /* 0 to 32768: a change takes 1 in a try */
+    uint32_t tries; /* 1 to 1000: of a call */
+} regnubas_limits;
+
+typedef struct regnubas_pair {
+    uint64_t key;
+    uint64_t value;
+} regnubas_pair;
+
+typedef struct regnubas_answer {
+    uint64_t value;  /* 0 where nothing is said of it */
+    uint32_t status; /* one of those below */
+} regnubas_answer;
+
+typedef struct regnubas_share {
+    uint32_t nodes;
+    uint32_t scx;
+} regnubas_share;
+
+enum {
+    REGNUBAS_NONE = 0,      /* done: there is no value or pair, or was none */
+    REGNUBAS_SOME = 1,      /* done: there is a value, a pair, a number of pairs */
+    REGNUBAS_CONTENDED = 2, /* not done: other passes were in the way in each try; ask again */
+    REGNUBAS_FULL = 3,      /* not done, now and ever: too little is left of the pass's share */
+    REGNUBAS_NO_MEMORY = 4, /* not done: an allocation was refused */
+    REGNUBAS_LIMITS = 5,    /* not made: a number is out of its range */
+    REGNUBAS_NO_PASS = 6,   /* not done: there is no pass here */
+    REGNUBAS_SHARED = 7     /* not closed: other passes have not left */
+};
+
+/* Makes a dictionary with `count` passes, 1 to 32: as many threads may work at a time. NONE; or
+ * LIMITS or NO_MEMORY: then the passes are as they were. A pass that was held there before leaves. */
+uint32_t regnubas_make(regnubas_limits each, regnubas_pass *passes, size_t count);
+
+/* SOME with the value of the key, or NONE. It is never refused, and takes no memory. */
+regnubas_answer regnubas_get(regnubas_pass *pass, uint64_t key);
+
+/* Sets a key to a value; takes a key away. SOME with the value that the key had just before, or
+ * NONE. CONTENDED, FULL: nothing has changed. */
+regnubas_answer regnubas_insert(regnubas_pass *pass, uint64_t key, uint64_t value);
+regnubas_answer regnubas_delete(regnubas_pass *pass, uint64_t key);
+
+/* Sets a key to a value where it has the expected one. SOME with the value that the key had just
+ * before: it was replaced where that is the one expected; NONE: the key had no value. CONTENDED,
+ * FULL: nothing has changed. */
+regnubas_answer regnubas_replace_if(regnubas_pass *pass, uint64_t key, uint64_t expected,
+                                    uint64_t value);
+
+/* Takes the pair with the least key away. SOME: it is at `pair`; NONE: there was none. CONTENDED,
+ * FULL: nothing has changed. */
+regnubas_answer regnubas_pop_first(regnubas_pass *pass, regnubas_pair *pair);
+
+/* SOME: the pair with the least key above this one is at `pair`; NONE: there is none. CONTENDED,
+ * NO_MEMORY. */
+regnubas_answer regnubas_successor(regnubas_pass *pass, uint64_t key, regnubas_pair *pair);
+
+/* The first pairs by rising key, with keys from `low` to `high`, both with them, `count` at the
+ * most and 64, all of one moment. SOME with the number of pairs written. CONTENDED, NO_MEMORY. */
+regnubas_answer regnubas_range(regnubas_pass *pass, uint64_t low, uint64_t high,
+                               regnubas_pair *pairs, size_t count);
+
+/* What is left of the pass's share; zeros where there is no pass. */
+regnubas_share regnubas_left(regnubas_pass *pass);
+
+/* Gives the pass up. With the last pass the dictionary is freed. */
+void regnubas_leave(regnubas_pass *pass);
+
+/* Ends the dictionary, once all other passes have left, and writes its first pairs, `count` at the
+ * most; room for passes * nodes / 3 is room for all. SOME with the number of all its pairs; SHARED:
+ * the pass is as it was; NO_MEMORY: the dictionary is gone. */
+regnubas_answer regnubas_close(regnubas_pass *pass, regnubas_pair *pairs, size_t count);
+
+#ifdef __cplusplus
+}
+#endif
+
+#endif

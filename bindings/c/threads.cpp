@@ -1,0 +1,202 @@
+// Four threads on one dictionary, through the header: each sets keys of its own, reads another's and
+// takes a third of its own away, and all count in one key; four empty a queue. Before that each
+// status is met. `threads N` does so N times.
+#include "regnubas.h"
+
+#include <algorithm>
+#include <cstdio>
+#include <cstdlib>
+#include <thread>
+#include <vector>
+
+#define CHECK(what) \
+    do { if (!(what)) { std::fprintf(stderr, "%s:%d: %s\n", __FILE__, __LINE__, #what); std::abort(); } } while (0)
+
+namespace {
+
+constexpr uint32_t THREADS = 4;
+constexpr uint64_t KEYS = 3000, COUNTS = 500, COUNTER = UINT64_MAX;
+
+uint64_t key_of(uint64_t thread, uint64_t i) { return i * THREADS + thread; }
+
+template <typename Call> regnubas_answer again(Call call) {
+    for (;;) {
+        regnubas_answer answer = call();
+        if (answer.status != REGNUBAS_CONTENDED) return answer;
+    }
+}
+
+bool is(regnubas_answer answer, uint32_t status, uint64_t value) { return answer.status == status && answer.value == value; }
+
+void set_keys(regnubas_pass *pass, uint64_t number) {
+    for (uint64_t i = 0; i < KEYS; i++) {
+        uint64_t key = key_of(number, i), other = key_of((number + 1) % THREADS, i);
+        CHECK(is(again([&] { return regnubas_insert(pass, key, key + 7); }), REGNUBAS_NONE, 0));
+        CHECK(is(regnubas_get(pass, key), REGNUBAS_SOME, key + 7));
+        regnubas_answer answer = regnubas_get(pass, other);
+        CHECK(is(answer, REGNUBAS_NONE, 0) || is(answer, REGNUBAS_SOME, other + 7));
+    }
+}
+
+void take_keys(regnubas_pass *pass, uint64_t number) {
+    for (uint64_t i = 0; i < KEYS; i += 3) {
+        uint64_t key = key_of(number, i);
+        CHECK(is(again([&] { return regnubas_delete(pass, key); }), REGNUBAS_SOME, key + 7));
+        CHECK(is(regnubas_get(pass, key), REGNUBAS_NONE, 0));
+        regnubas_pair pair = {}, pairs[16] = {};
+        regnubas_answer answer = again([&] { return regnubas_successor(pass, key, &pair); });
+        CHECK(is(answer, REGNUBAS_NONE, 0) || (is(answer, REGNUBAS_SOME, 0) && pair.key > key && pair.value == pair.key + 7));
+        answer = again([&] { return regnubas_range(pass, key, COUNTER - 1, pairs, 16); });
+        CHECK(answer.status == REGNUBAS_SOME && answer.value <= 16);
+        for (uint64_t j = 0; j < answer.value; j++)
+            CHECK(pairs[j].key > key && pairs[j].value == pairs[j].key + 7 && (j == 0 || pairs[j - 1].key < pairs[j].key));
+    }
+}
+
+void count_up(regnubas_pass *pass) {
+    uint64_t seen = 0;
+    for (uint64_t n = 0; n < COUNTS;) {
+        regnubas_answer answer = again([&] { return regnubas_replace_if(pass, COUNTER, seen, seen + 1); });
+        CHECK(answer.status == REGNUBAS_SOME);
+        n += answer.value == seen;
+        seen = answer.value == seen ? seen + 1 : answer.value;
+    }
+}
+
+void pop_all(regnubas_pass *pass, std::vector<uint64_t> &taken) {
+    for (;;) {
+        regnubas_pair pair = {};
+        regnubas_answer answer = again([&] { return regnubas_pop_first(pass, &pair); });
+        if (answer.status == REGNUBAS_NONE) return;
+        CHECK(is(answer, REGNUBAS_SOME, 0) && pair.value == pair.key + 7 && (taken.empty() || taken.back() < pair.key));
+        taken.push_back(pair.key);
+    }
+}
+
+// Each thread works with a pass of its own.
+template <typename Work> void in_threads(regnubas_pass *passes, Work work) {
+    std::vector<std::thread> threads;
+    for (uint64_t t = 0; t < THREADS; t++) threads.emplace_back([=] { work(&passes[t], t); });
+    for (std::thread &thread : threads) thread.join();
+}
+
+// All passes leave but the first, which closes.
+std::vector<regnubas_pair> close_all(regnubas_pass *passes) {
+    std::vector<regnubas_pair> pairs(THREADS * KEYS + 1);
+    for (uint64_t t = 1; t < THREADS; t++) {
+        CHECK(is(regnubas_close(&passes[0], pairs.data(), pairs.size()), REGNUBAS_SHARED, 0));
+        regnubas_leave(&passes[t]);
+        CHECK(is(regnubas_get(&passes[t], 1), REGNUBAS_NO_PASS, 0));
+        regnubas_leave(&passes[t]); // twice: nothing
+    }
+    regnubas_answer answer = regnubas_close(&passes[0], pairs.data(), pairs.size());
+    CHECK(answer.status == REGNUBAS_SOME && answer.value <= pairs.size());
+    pairs.resize(answer.value);
+    return pairs;
+}
+
+void keys_and_counter() {
+    regnubas_pass passes[THREADS] = {};
+    CHECK(regnubas_make({32768, 32768, 1}, passes, THREADS) == REGNUBAS_NONE);
+    CHECK(is(regnubas_insert(&passes[0], COUNTER, 0), REGNUBAS_NONE, 0));
+    in_threads(passes, [](regnubas_pass *pass, uint64_t number) {
+        set_keys(pass, number);
+        take_keys(pass, number);
+        count_up(pass);
+    });
+    std::vector<regnubas_pair> pairs = close_all(passes);
+    size_t n = 0;
+    for (uint64_t i = 0; i < KEYS; i++)
+        for (uint64_t t = 0; t < THREADS && i % 3 != 0; t++, n++)
+            CHECK(pairs[n].key == key_of(t, i) && pairs[n].value == key_of(t, i) + 7);
+    CHECK(pairs.size() == n + 1 && pairs[n].key == COUNTER && pairs[n].value == THREADS * COUNTS);
+}
+
+void queue() {
+    regnubas_pass passes[THREADS] = {};
+    std::vector<uint64_t> taken[THREADS], all;
+    CHECK(regnubas_make({32768, 32768, 1}, passes, THREADS) == REGNUBAS_NONE);
+    for (uint64_t i = 0; i < KEYS; i++) // in an order that makes a tree and not a list
+        CHECK(is(regnubas_insert(&passes[i % THREADS], i * 1009 % KEYS, i * 1009 % KEYS + 7), REGNUBAS_NONE, 0));
+    in_threads(passes, [&taken](regnubas_pass *pass, uint64_t number) { pop_all(pass, taken[number]); });
+    CHECK(close_all(passes).empty());
+    for (std::vector<uint64_t> &keys : taken) all.insert(all.end(), keys.begin(), keys.end());
+    std::sort(all.begin(), all.end());
+    CHECK(all.size() == KEYS);
+    for (uint64_t i = 0; i < KEYS; i++) CHECK(all[i] == i);
+}
+
+void refusals() {
+    regnubas_pass none = {};
+    regnubas_pair pair = {1, 2};
+    CHECK(is(regnubas_get(&none, 1), REGNUBAS_NO_PASS, 0));
+    CHECK(is(regnubas_insert(&none, 1, 1), REGNUBAS_NO_PASS, 0));
+    CHECK(is(regnubas_delete(&none, 1), REGNUBAS_NO_PASS, 0));
+    CHECK(is(regnubas_replace_if(&none, 1, 1, 1), REGNUBAS_NO_PASS, 0));
+    CHECK(is(regnubas_pop_first(&none, &pair), REGNUBAS_NO_PASS, 0));
+    CHECK(is(regnubas_successor(&none, 1, &pair), REGNUBAS_NO_PASS, 0));
+    CHECK(is(regnubas_range(&none, 1, 1, &pair, 1), REGNUBAS_NO_PASS, 0));
+    CHECK(is(regnubas_close(&none, &pair, 1), REGNUBAS_NO_PASS, 0));
+    regnubas_leave(&none);
+    regnubas_share share = regnubas_left(&none);
+    CHECK(share.nodes == 0 && share.scx == 0 && pair.key == 1 && pair.value == 2);
+    std::vector<regnubas_pass> many(33);
+    CHECK(regnubas_make({1, 1, 1}, many.data(), 33) == REGNUBAS_LIMITS);
+    CHECK(regnubas_make({1, 1, 1}, many.data(), 0) == REGNUBAS_LIMITS);
+    CHECK(regnubas_make({32769, 1, 1}, many.data(), 2) == REGNUBAS_LIMITS);
+    CHECK(regnubas_make({1, 32769, 1}, many.data(), 2) == REGNUBAS_LIMITS);
+    CHECK(regnubas_make({1, 1, 0}, many.data(), 2) == REGNUBAS_LIMITS);
+    CHECK(regnubas_make({1, 1, 1001}, many.data(), 2) == REGNUBAS_LIMITS);
+    for (regnubas_pass &pass : many) CHECK(pass.at == nullptr);
+}
+
+void shares() {
+    regnubas_pass passes[2] = {};
+    regnubas_pair pair = {};
+    CHECK(regnubas_make({6, 2, 1}, passes, 2) == REGNUBAS_NONE);
+    CHECK(is(regnubas_insert(&passes[0], UINT64_MAX, 5), REGNUBAS_NONE, 0));
+    CHECK(is(regnubas_insert(&passes[0], 0, 6), REGNUBAS_NONE, 0));
+    CHECK(is(regnubas_insert(&passes[0], 3, 6), REGNUBAS_FULL, 0));
+    CHECK(is(regnubas_replace_if(&passes[0], 0, 6, 7), REGNUBAS_FULL, 0));
+    CHECK(is(regnubas_replace_if(&passes[0], 0, 5, 7), REGNUBAS_SOME, 6)); // nothing to change
+    CHECK(is(regnubas_replace_if(&passes[0], 1, 5, 7), REGNUBAS_NONE, 0));
+    CHECK(is(regnubas_pop_first(&passes[0], &pair), REGNUBAS_FULL, 0));
+    regnubas_share share = regnubas_left(&passes[0]);
+    CHECK(share.nodes == 0 && share.scx == 0);
+    share = regnubas_left(&passes[1]);
+    CHECK(share.nodes == 6 && share.scx == 2);
+    CHECK(is(regnubas_get(&passes[1], UINT64_MAX), REGNUBAS_SOME, 5));
+    regnubas_pass moved = passes[1]; // a pass may move
+    passes[1].at = nullptr;
+    CHECK(is(regnubas_get(&moved, 0), REGNUBAS_SOME, 6));
+    regnubas_leave(&moved);
+    CHECK(is(regnubas_close(&passes[0], &pair, 1), REGNUBAS_SOME, 2) && pair.key == 0 && pair.value == 6);
+    CHECK(passes[0].at == nullptr);
+}
+
+void two_dictionaries() {
+    regnubas_pass passes[2] = {}, other[2] = {};
+    for (int time = 0; time < 2; time++) { // the second time over passes that are held
+        CHECK(regnubas_make({9, 9, 1}, passes, 2) == REGNUBAS_NONE);
+        CHECK(regnubas_make({9, 9, 1}, other, 2) == REGNUBAS_NONE);
+        CHECK(is(regnubas_insert(&passes[0], 1, 10), REGNUBAS_NONE, 0));
+        CHECK(is(regnubas_insert(&other[0], 1, 20), REGNUBAS_NONE, 0));
+        CHECK(is(regnubas_get(&passes[1], 1), REGNUBAS_SOME, 10) && is(regnubas_get(&other[1], 1), REGNUBAS_SOME, 20));
+    }
+    for (regnubas_pass &pass : passes) regnubas_leave(&pass);
+    for (regnubas_pass &pass : other) regnubas_leave(&pass);
+}
+
+} // namespace
+
+int main(int argc, char **argv) {
+    refusals();
+    shares();
+    two_dictionaries();
+    for (int rounds = argc > 1 ? std::atoi(argv[1]) : 1; rounds > 0; rounds--) {
+        keys_and_counter();
+        queue();
+    }
+    std::puts("ok");
+    return 0;
+}

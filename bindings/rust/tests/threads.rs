@@ -1,0 +1,64 @@
+//! Four threads on one dictionary.
+use regnubas::{make, CloseFault, Fault, Limits, Pair, Pass};
+
+const THREADS: u64 = 4;
+const KEYS: u64 = 3000;
+
+fn key_of(thread: u64, i: u64) -> u64 {
+    i * THREADS + thread
+}
+
+fn again<T>(mut call: impl FnMut() -> Result<T, Fault>) -> Result<T, Fault> {
+    loop {
+        match call() {
+            Err(Fault::Contended) => {}
+            told => return told,
+        }
+    }
+}
+
+fn work(number: u64, mut pass: Pass) -> Pass {
+    for i in 0..KEYS {
+        let key = key_of(number, i);
+        assert_eq!(again(|| pass.insert(key, key)), Ok(None));
+        assert_eq!(again(|| pass.replace_if(key, key, key + 7)), Ok(Some(key)));
+        assert_eq!(pass.get(key), Some(key + 7));
+    }
+    for i in (0..KEYS).step_by(3) {
+        let key = key_of(number, i);
+        assert_eq!(again(|| pass.delete(key)), Ok(Some(key + 7)));
+        assert_eq!(pass.get(key), None);
+        if let Some(pair) = again(|| pass.successor(key)).unwrap() {
+            assert!(pair.key > key);
+        }
+        let mut room = [Pair::default(); 16];
+        let pairs = again(|| pass.range(key, u64::MAX, &mut room).map(<[Pair]>::to_vec)).unwrap();
+        assert!(pairs.windows(2).all(|w| w[0].key < w[1].key) && pairs.iter().all(|p| p.key > key));
+    }
+    pass
+}
+
+#[test]
+fn four_threads_and_a_close() {
+    let passes = make(4, Limits { nodes: 32768, scx: 32768, tries: 100 }).unwrap();
+    let threads: Vec<_> = (0..THREADS).zip(passes).map(|(t, pass)| std::thread::spawn(move || work(t, pass))).collect();
+    let mut passes: Vec<Pass> = threads.into_iter().map(|t| t.join().unwrap()).collect();
+    let last = passes.pop().unwrap();
+    let Err(CloseFault::Shared(mut last)) = last.close() else { panic!("closed while shared") };
+    drop(passes);
+    let least = key_of(0, 1);
+    assert_eq!(last.pop_first(), Ok(Some(Pair { key: least, value: least + 7 })));
+    let Ok(pairs) = last.close() else { panic!("not closed") };
+    let keys: Vec<u64> = (0..KEYS).filter(|i| i % 3 != 0).flat_map(|i| (0..THREADS).map(move |t| key_of(t, i))).collect();
+    assert_eq!(pairs, keys[1..].iter().map(|&key| Pair { key, value: key + 7 }).collect::<Vec<_>>());
+}
+
+#[test]
+fn what_is_refused() {
+    assert_eq!(make(0, Limits { nodes: 1, scx: 1, tries: 1 }).err(), Some(Fault::Limits));
+    assert_eq!(make(33, Limits { nodes: 1, scx: 1, tries: 1 }).err(), Some(Fault::Limits));
+    let mut passes = make(1, Limits { nodes: 3, scx: 1, tries: 1 }).unwrap();
+    assert_eq!(passes[0].pop_first(), Ok(None));
+    assert_eq!(passes[0].insert(5, 50), Ok(None));
+    assert_eq!(passes[0].delete(5), Err(Fault::Full));
+}
