@@ -1,6 +1,6 @@
 -- What is true of a player before its first turn and after its last.
-use Rattle.std.proofs.Common.{arith, ◌≡◌, ℕ, suc, ◌+◌, ◌<◌, ◌≤◌, List, [], ◌∷◌, ◌++◌, length, map, reverse, take, get_or, Option, Some, None, Result, Ok, Err, IfOk, IfErr, slice_get, All, inl, inr, refl, sym, ◌∙◌, ap, subst}
-use Rattle.std.specs.Prelude.{OnOk}
+use Rattle.std.proofs.Common.{arith, ◌≡◌, ℕ, suc, ◌+◌, ◌<◌, ◌≤◌, List, [], ◌∷◌, ◌++◌, length, map, reverse, take, get_or, Option, Some, None, Result, Ok, Err, slice_get, All, inl, inr, refl, sym, ◌∙◌, ap, subst}
+use Rattle.std.specs.Prelude.{OnErr, OnOk}
 use Rattle.std.proofs.lemmas.List.{map_more, reverse-append, reverse-reverse}
 use Rattle.arena.specs.declared.layout.Layout.{Layout}
 use Rattle.arena.specs.PlainWords.{Contents, IsOpening}
@@ -13,7 +13,6 @@ use Rattle.script.specs.Commands.{mode_of}
 use Rattle.player.proofs.Readings.{whole}
 use Rattle.player.specs.declared.client.Client.{Client}
 use Rattle.player.specs.declared.interleaving.Interleaving.{Interleaving}
-use Rattle.player.specs.declared.lines.Written.{Written}
 use Rattle.record.specs.declared.record.Line.{Line}
 use Rattle.record.specs.declared.record.Line.TheVariants.{Step, Log, Reply}
 use Rattle.record.specs.declared.record.Row.{Row}
@@ -24,8 +23,8 @@ use Rattle.player.specs.Lines.{turn_lines, with_entry, with_reply, with_turn}
 use Rattle.player.specs.ClientView.{client_view, Rests}
 use Rattle.record.specs.LawfulRun.{AreLines, IsLawfulRun}
 use Rattle.player.specs.BetweenTurns.{AreBetweenTurns, HasMadeTurn, IsBetweenTurns, AreWins}
-use Rattle.player.specs.Core.{StandsAt}
-use Rattle.player.specs.Player.{PlayerView, ScriptView, script_view, IsPlayed}
+use Rattle.player.specs.Core.{IsNextTurn, StandsAt, with_lines}
+use Rattle.player.specs.Player.{PlayerView, ScriptView, script_view, IsPlayed, IsTurnMore}
 
 -- words as they are at the start, and clients that rest, are between two turns
 pub opening_between : (lay : Layout) (tries : ℕ) (calls : List Call) (words : Contents) (all : List Client) → words.layout ≡ lay → IsOpening words → All (λ (call : Call). mode_of call.command ≡ lay.mode) calls → ((j : ℕ) (d : Client) → slice_get all j ≡ Some d → (d.pass.0 ≡ j) × Rests (client_view lay tries calls [] j) d) → AreBetweenTurns lay tries calls words all []
@@ -86,35 +85,89 @@ turns_few (Log entry ∷ lines) = let few = turns_few lines in omega (arith, few
 turns_few (Reply reply ∷ lines) = let few = turns_few lines in omega (arith, few)
 
 -- a turn is one more
-pub turn_counted : (row : Row) (entry : Option Entry) (reply : Option Finished) (lines : List Line) → turns (with_turn row entry reply lines) ≡ suc (turns lines)
+turn_counted : (row : Row) (entry : Option Entry) (reply : Option Finished) (lines : List Line) → turns (with_turn row entry reply lines) ≡ suc (turns lines)
 turn_counted row None None lines = refl
 turn_counted row None (Some reply) lines = refl
 turn_counted row (Some entry) None lines = refl
 turn_counted row (Some entry) (Some reply) lines = refl
 
--- so the interleaving counts it
-pub counts_one : {E : Type 0} (r : Result Written E) (old new : Interleaving) (lines : List Line) (i : ℕ) → IsBetweenTurns old lines → IfOk r (λ turn. (lines : List Line) → IsBetweenTurns old lines → HasMadeTurn old new lines i turn) → OnOk r (new.turns ≡ suc old.turns)
-counts_one (Ok turn) old new lines i x made =
+-- a turn's lines come behind the others, the newest in front
+turn_in_front : (row : Row) (entry : Option Entry) (reply : Option Finished) (lines : List Line) → reverse (turn_lines row entry reply) ++ lines ≡ with_turn row entry reply lines
+turn_in_front row None None lines = refl
+turn_in_front row None (Some reply) lines = refl
+turn_in_front row (Some entry) None lines = refl
+turn_in_front row (Some entry) (Some reply) lines = refl
+
+-- a reply comes last
+pub reply_last : (row : Row) (entry : Option Entry) (reply : Finished) → turn_lines row entry None ++ Reply reply ∷ [] ≡ turn_lines row entry (Some reply)
+reply_last row None reply = refl
+reply_last row (Some entry) reply = refl
+
+-- What a turn of the interleaving leaves, if it was not refused
+
+module _ {A E : Type 0} (r : Result A E) (old new : Interleaving) (i : ℕ) (more : List Line) where
+  -- it has made a turn that leaves these lines
+  abbrev Makes : Type 0
+  Makes = OnOk r ((lines : List Line) → IsBetweenTurns old lines → HasMadeTurn old new lines i more)
+
+  -- it was refused, and stands where it stood
+  abbrev Stays : Type 0
+  Stays = OnErr r ((lines : List Line) → IsBetweenTurns old lines → IsBetweenTurns new lines)
+
+-- it counts the turn
+pub counts_one : {A E : Type 0} (r : Result A E) (old new : Interleaving) (i : ℕ) (more lines : List Line) → IsBetweenTurns old lines → Makes r old new i more → OnOk r (new.turns ≡ suc old.turns)
+counts_one (Ok a) old new i more lines x made =
     let t = made lines x in
-    t.between.counted.turned ∙ turn_counted turn.row turn.entry turn.reply lines ∙ ap suc (sym x.counted.turned)
-counts_one (Err e) old new lines i x made = tt
+    t.between.counted.turned ∙ turn_counted t.row t.entry t.reply lines ∙ ap suc (sym x.counted.turned)
+counts_one (Err e) old new i more lines x made = tt
 
--- behind a turn, or one that was refused, it stands between turns again
-pub stays_between : {E : Type 0} (r : Result Written E) (old new : Interleaving) (lines : List Line) (i : ℕ) → IsBetweenTurns old lines → IfOk r (λ turn. (lines : List Line) → IsBetweenTurns old lines → HasMadeTurn old new lines i turn)
-    → IfErr r (λ _. (lines : List Line) → IsBetweenTurns old lines → IsBetweenTurns new lines) → (lines : List Line) × IsBetweenTurns new lines
-stays_between (Ok turn) old new lines i x made refused = (with_turn turn.row turn.entry turn.reply lines, (made lines x).between)
-stays_between (Err e) old new lines i x made refused = (lines, refused lines x)
+-- it stands between turns again
+pub stays_between : {A E : Type 0} (r : Result A E) (old new : Interleaving) (i : ℕ) (more lines : List Line) → IsBetweenTurns old lines → Makes r old new i more → Stays r old new i more → (lines : List Line) × IsBetweenTurns new lines
+stays_between (Ok a) old new i more lines x made stays = let t = made lines x in (with_turn t.row t.entry t.reply lines, t.between)
+stays_between (Err e) old new i more lines x made stays = (lines, stays lines x)
 
--- a turn's lines behind those of a list, the newest first
-pub turned_lines : (list : List Line) (row : Row) (entry : Option Entry) (reply : Option Finished) → reverse (list ++ turn_lines row entry reply) ≡ with_turn row entry reply (reverse list)
-turned_lines list row None None = reverse-append list (Step row ∷ [])
-turned_lines list row None (Some reply) = reverse-append list (Step row ∷ Reply reply ∷ [])
-turned_lines list row (Some entry) None = reverse-append list (Step row ∷ Log entry ∷ [])
-turned_lines list row (Some entry) (Some reply) = reverse-append list (Step row ∷ Log entry ∷ Reply reply ∷ [])
+-- these are the lines of the client's next turn
+pub makes_next : {A E : Type 0} (r : Result A E) (old new : Interleaving) (i : ℕ) (more : List Line) → Makes r old new i more → OnOk r ((p : PlayerView) → StandsAt old p → IsNextTurn p i more)
+makes_next (Ok a) old new i more made = λ p x.
+    let t = made p.lines x.between in
+    record {
+      row = t.row;
+      entry = t.entry;
+      reply = t.reply;
+      lines = t.leaves;
+      turns = ap (λ (l : List Line). clients (reverse l ++ p.lines)) t.leaves ∙ ap (λ (l : List Line). clients l) (turn_in_front t.row t.entry t.reply p.lines) ∙ t.turns;
+    }
+makes_next (Err e) old new i more made = tt
+
+-- it stands behind them
+pub stands_behind : {A E : Type 0} (r : Result A E) (old new : Interleaving) (i : ℕ) (more : List Line) → Makes r old new i more → OnOk r ((p : PlayerView) → StandsAt old p → StandsAt new (with_lines p more))
+stands_behind (Ok a) old new i more made = λ p x.
+    let t = made p.lines x.between in
+    record {
+      script = t.script ∙ x.script;
+      between = subst (λ (l : List Line). IsBetweenTurns new l) (sym (ap (λ (l : List Line). reverse l ++ p.lines) t.leaves ∙ turn_in_front t.row t.entry t.reply p.lines)) t.between;
+    }
+stands_behind (Err e) old new i more made = tt
+
+-- or where it stood
+pub stands_still : {A E : Type 0} (r : Result A E) (old new : Interleaving) (i : ℕ) (more : List Line) → script_view new.script ≡ script_view old.script → Stays r old new i more → OnErr r ((p : PlayerView) → StandsAt old p → StandsAt new p)
+stands_still (Ok a) old new i more same stays = tt
+stands_still (Err e) old new i more same stays = λ p x. record { script = same ∙ x.script; between = stays p.lines x.between }
+
+-- One turn more, as a player sees it
 
 -- entry and reply stand behind the row
-pub turn_behind : (row : Row) (entry : Option Entry) (reply : Option Finished) (lines : List Line) → with_turn row entry reply lines ≡ with_reply reply (with_entry entry []) ++ Step row ∷ lines
+turn_behind : (row : Row) (entry : Option Entry) (reply : Option Finished) (lines : List Line) → with_turn row entry reply lines ≡ with_reply reply (with_entry entry []) ++ Step row ∷ lines
 turn_behind row None None lines = refl
 turn_behind row None (Some reply) lines = refl
 turn_behind row (Some entry) None lines = refl
 turn_behind row (Some entry) (Some reply) lines = refl
+
+-- the row of a turn, and what stands behind it
+pub turn_of : (p : PlayerView) (i : ℕ) (more : List Line) (t : IsNextTurn p i more) → IsTurnMore p (with_lines p more) i t.row
+turn_of p i more t = record {
+  script = refl;
+  behind = with_reply t.reply (with_entry t.entry []);
+  lines = ap (λ (l : List Line). reverse l ++ p.lines) t.lines ∙ turn_in_front t.row t.entry t.reply p.lines ∙ turn_behind t.row t.entry t.reply p.lines;
+  turns = t.turns;
+}

@@ -12,6 +12,7 @@ use Rattle.arena.specs.declared.step.Step.{Step as Ask}
 use Rattle.arena.specs.declared.step.Row.{Row}
 use Rattle.record.specs.declared.record.Line.{Line}
 use Rattle.record.specs.declared.record.Line.TheVariants.{Step}
+use Rattle.record.specs.declared.record.Row.{Row as TurnRow}
 use Rattle.record.specs.declared.record.Row.TheVariants.{Step as Made}
 use Rattle.record.specs.declared.record.Finished.{Finished}
 use Rattle.record.specs.declared.record.Answer.{Answer}
@@ -19,8 +20,7 @@ use Rattle.player.specs.declared.client.Running.{Running}
 use Rattle.player.specs.Allowed.{PlayedAllows}
 use Rattle.arena.specs.declared.limits.Mode.TheVariants.{Tree}
 use Rattle.ordered_map.specs.FillOrder.{AreFilledInOrder}
-use Rattle.player.specs.Lines.{with_entry, with_turn}
-use Rattle.player.specs.declared.lines.Written.{Written}
+use Rattle.player.specs.Lines.{turn_lines, with_entry, with_turn}
 use Rattle.player.specs.declared.client.Client.{Client}
 use Rattle.player.specs.Player.{script_view}
 use Rattle.player.specs.declared.interleaving.Interleaving.{Interleaving}
@@ -86,11 +86,16 @@ pub record IsBetweenTurns (p : Interleaving) (lines : List Line) : Type 0 where
   pub places : ArePlaces p.script.layout p.script.calls.items lines p.places
   pub counted : KnowsCounts p lines
 
--- behind these lines it has made this turn of the i-th client, and is between two turns again
-pub record HasMadeTurn (old new : Interleaving) (lines : List Line) (i : ℕ) (turn : Written) : Type 0 where
+-- behind these lines it has made a turn of the i-th client, which leaves these more, the first in
+-- front, and is between two turns again
+pub record HasMadeTurn (old new : Interleaving) (lines : List Line) (i : ℕ) (more : List Line) : Type 0 where
   pub script : script_view new.script ≡ script_view old.script
-  pub between : IsBetweenTurns new (with_turn turn.row turn.entry turn.reply lines)
-  pub turns : clients (with_turn turn.row turn.entry turn.reply lines) ≡ i ∷ clients lines
+  pub row : TurnRow
+  pub entry : Option Entry
+  pub reply : Option Finished
+  pub leaves : more ≡ turn_lines row entry reply
+  pub between : IsBetweenTurns new (with_turn row entry reply lines)
+  pub turns : clients (with_turn row entry reply lines) ≡ i ∷ clients lines
 
 -- In the middle of a turn
 

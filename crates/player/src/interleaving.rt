@@ -4,10 +4,10 @@ ghost use Rattle.player.specs.declared.client.Client.{Client};
 ghost use Rattle.player.specs.ClientView.{client_view, Rests};
 
 use crate::client::{Client, NextAction};
-use crate::lines::Written;
+use crate::lines::{Lines, begin};
 use arena::{Kind, NoMemory, NodeNo, NodeWord, PassNo, PlainWords, ScxNo, ScxWord, Step, Word};
 use moments::{Change, Places};
-use record::{Answer, Entry, Finished, Row};
+use record::{Answer, Entry, Finished, Line, Row};
 use script::Script;
 use std::alloc::Global;
 
@@ -31,7 +31,7 @@ pub(crate) struct Interleaving {
 }
 
 impl Interleaving {
-    ghost use Rattle.std.specs.Prelude.{◌≡◌, ℕ, suc, ◌+◌, ◌-◌, ◌<◌, ◌≤◌, ◌^◌, List, ◌∷◌, [], Some, is_some, IfOk, IfErr, IfSome, slice_get};
+    ghost use Rattle.std.specs.Prelude.{◌≡◌, ℕ, suc, ◌+◌, ◌-◌, ◌<◌, ◌≤◌, ◌^◌, List, ◌∷◌, [], Some, is_some, IfOk, IfSome, OnErr, OnOk, slice_get};
     ghost use Rattle.record.specs.declared.record.Line.{Line};
     ghost use Rattle.record.specs.Commands.{next_command};
     ghost use Rattle.record.specs.Turns.{answered, entry_owed};
@@ -63,33 +63,32 @@ impl Interleaving {
     }
 
     /// One turn of a client: its next atomic step, or a row of kind idle where it has no call left
-    /// or its call answers without a step. A refusal leaves all as it was, and the same turn can be
-    /// asked again.
-    pub(crate) fn step(&mut self, client: PassNo) -> Result<Written, NoMemory>
+    /// or its call answers without a step. Its lines are put in place of what stands in `more`. A
+    /// refusal leaves all as it was, and the same turn can be asked again.
+    pub(crate) fn step(&mut self, client: PassNo, more: &mut Lines) -> Result<(), NoMemory>
         requires client { client.0 < self.old.script.layout.passes }
         requires turns { self.old.turns < 2 ^ 64 - 1 }
         requires played { (lines : List Line) × IsBetweenTurns self.old lines }
         ensures script { script_view self.new.script ≡ script_view self.old.script }
-        ensures turn { IfOk result (λ turn. (lines : List Line) → IsBetweenTurns self.old lines → HasMadeTurn self.old self.new lines client.0 turn) }
-        ensures refused { IfErr result (λ _. (lines : List Line) → IsBetweenTurns self.old lines → IsBetweenTurns self.new lines) }
+        ensures turn { OnOk result ((lines : List Line) → IsBetweenTurns self.old lines → HasMadeTurn self.old self.new lines client.0 more.new.items) }
+        ensures refused { OnErr result ((lines : List Line) → IsBetweenTurns self.old lines → IsBetweenTurns self.new lines) }
     {
         self.places.reserve()?;
         let number = self.turns + 1;
         match self.clients[client.0 as usize].next_action(&self.script.calls, number) {
-            NextAction::Asks(step) => Ok(self.make(client, number, step)),
-            NextAction::Answers(answer) => {
-                let row = self.idle(client, number);
-                Ok(Written {
-                    row,
-                    entry: None,
-                    reply: Some(self.reply(client, number, answer)),
-                })
+            NextAction::Asks(step) => {
+                self.make(client, number, step, more);
+                Ok(())
             }
-            NextAction::Finished => Ok(Written {
-                row: self.idle(client, number),
-                entry: None,
-                reply: None,
-            }),
+            NextAction::Answers(answer) => {
+                begin(more, self.idle(client, number), None);
+                more.push(Line::Reply(self.reply(client, number, answer)));
+                Ok(())
+            }
+            NextAction::Finished => {
+                begin(more, self.idle(client, number), None);
+                Ok(())
+            }
         }
     }
 
@@ -103,14 +102,14 @@ impl Interleaving {
         Row::Idle { number, client }
     }
 
-    /// Makes the step that a client has asked for.
-    fn make(&mut self, client: PassNo, number: u64, step: Step) -> Written
+    /// Makes the step that a client has asked for, and puts the lines of its turn.
+    fn make(&mut self, client: PassNo, number: u64, step: Step, more: &mut Lines)
         requires places { 1 ≤ room_for_changes self.old.places }
         requires client { client.0 < self.old.script.layout.passes }
         requires next { number ≡ suc self.old.turns }
         requires asked { (lines : List Line) × IsStepAsked self.old lines client.0 number step }
         ensures script { script_view self.new.script ≡ script_view self.old.script }
-        ensures turn { (lines : List Line) → IsStepAsked self.old lines client.0 number step → HasMadeTurn self.old self.new lines client.0 result }
+        ensures turn { (lines : List Line) → IsStepAsked self.old lines client.0 number step → HasMadeTurn self.old self.new lines client.0 more.new.items }
     {
         let before = self.words.apply(step);
         let row = arena::Row {
@@ -123,18 +122,10 @@ impl Interleaving {
         };
         self.turns = number;
         let entry = self.log(number, &row);
-        let row = Row::Step { number, row };
+        begin(more, Row::Step { number, row }, entry);
         match self.clients[client.0 as usize].tell(before) {
-            Some(answer) => Written {
-                row,
-                entry,
-                reply: Some(self.reply(client, number, answer)),
-            },
-            None => Written {
-                row,
-                entry,
-                reply: None,
-            },
+            Some(answer) => more.push(Line::Reply(self.reply(client, number, answer))),
+            None => {}
         }
     }
 

@@ -1,47 +1,47 @@
 //! The lines of one turn.
-ghost use Rattle.std.specs.Prelude.{◌≡◌, ◌≤◌, ◌++◌};
+ghost use Rattle.std.specs.Prelude.{◌≡◌, ◌<◌, ◌≤◌, ◌++◌, ◌∷◌, List};
+ghost use Rattle.arrayvec.specs.ArrayVec.{array_vec_len};
+ghost use Rattle.record.specs.declared.record.Line.{Line};
+ghost use Rattle.record.specs.declared.record.Row.{Row};
 ghost use Rattle.player.specs.Lines.{room, turn_lines};
 
 use arrayvec::ArrayVec;
-use record::{Entry, Finished, Line, Row};
+use record::{Entry, Line, Row};
 
 /// The lines of one turn, in order: its row, the entry of the log that it has made, if it has made
 /// one, and the reply to the call that it has ended, if it has ended one.
 pub type Lines = ArrayVec<Line, 3>;
 
-/// What one turn leaves, each of its lines by itself.
-#[derive(Drop)]
-pub(crate) struct Written {
-    pub(crate) row: Row,
-    pub(crate) entry: Option<Entry>,
-    pub(crate) reply: Option<Finished>,
-}
-
-/// Its lines.
-pub(crate) fn lines_of(turn: Written) -> Lines
-    ensures { result.items ≡ turn_lines turn.row turn.entry turn.reply }
+/// Puts the row and the entry of a turn in place of what stands there. A reply has room behind them.
+#[inline]
+pub(crate) fn begin(lines: &mut Lines, row: Row, entry: Option<Entry>)
+    ensures lines { lines.new.items ≡ turn_lines row entry None }
+    ensures room { array_vec_len lines.new < 3 }
 {
-    let mut lines = Lines::new();
-    lines.push(Line::Step(turn.row));
-    if let Some(entry) = turn.entry {
+    lines.clear();
+    lines.push(Line::Step(row));
+    if let Some(entry) = entry {
         lines.push(Line::Log(entry));
     }
-    if let Some(reply) = turn.reply {
-        lines.push(Line::Reply(reply));
-    }
-    lines
 }
 
-/// Writes its lines behind those of the turns before it, for which there must be room.
-pub(crate) fn append(list: &mut Vec<Line>, turn: Written)
-    requires { 3 ≤ room list.old }
-    ensures { list.new.items ≡ list.old.items ++ turn_lines turn.row turn.entry turn.reply }
+/// The row of a turn, which stands in front of its lines.
+pub(crate) fn row_of(turn: &[Line]) -> Row
+    requires { (row : Row) × (behind : List Line) × (turn.now ≡ Line.Step row ∷ behind) }
+    ensures { (row : Row) (behind : List Line) → turn.now ≡ Line.Step row ∷ behind → result ≡ row }
 {
-    list.push_reserved(Line::Step(turn.row));
-    if let Some(entry) = turn.entry {
-        list.push_reserved(Line::Log(entry));
+    match turn {
+        [Line::Step(row), ..] => *row,
+        _ => unreachable!(),
     }
-    if let Some(reply) = turn.reply {
-        list.push_reserved(Line::Reply(reply));
+}
+
+/// Moves the lines of a turn behind those of the turns before it, for which there must be room.
+pub(crate) fn append(list: &mut Vec<Line>, mut turn: Lines)
+    requires { 3 ≤ room list.old }
+    ensures { list.new.items ≡ list.old.items ++ turn.items }
+{
+    while let Some(line) = turn.pop_at(0) {
+        list.push_reserved(line);
     }
 }

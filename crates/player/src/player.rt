@@ -3,7 +3,7 @@ ghost use Rattle.std.specs.Prelude.{◌≡◌, ◌<◌, map, IfOk, All};
 ghost use Rattle.record.specs.LawfulRun.{IsLawfulRun};
 ghost use Rattle.player.specs.Player.{script_view};
 
-use crate::lines::append;
+use crate::lines::{append, row_of};
 use crate::player_core::Core;
 use arena::{Kind, NoMemory, PassNo};
 use record::{Line, Record, Row};
@@ -64,8 +64,8 @@ impl Player {
         ensures lawful { IsPlayed self.new }
     {
         self.lines.reserve(3)?;
-        let turn = self.core.turn(client)?;
-        let row = turn.row;
+        let turn = self.core.step(client)?;
+        let row = row_of(turn.as_slice());
         append(&mut self.lines, turn);
         Ok(row)
     }

@@ -2,7 +2,7 @@
 ghost use Rattle.std.specs.Prelude.{◌≡◌};
 
 use crate::interleaving::Interleaving;
-use crate::lines::{Lines, Written, lines_of};
+use crate::lines::Lines;
 use arena::{NoMemory, PassNo};
 use script::Script;
 use std::alloc::Global;
@@ -34,13 +34,11 @@ impl Model for Core {
 }
 
 impl Core {
-    ghost use Rattle.std.specs.Prelude.{◌≡◌, ◌<◌, ◌-◌, ◌^◌, suc, List, [], is_some, IfOk, IfErr, OnOk};
+    ghost use Rattle.std.specs.Prelude.{◌≡◌, ◌<◌, ◌-◌, ◌^◌, suc, [], is_some, IfOk, IfErr, OnErr, OnOk};
     ghost use Rattle.record.specs.Commands.{next_command};
     ghost use Rattle.record.specs.Turns.{answered, turns};
-    ghost use Rattle.record.specs.declared.record.Line.{Line};
     ghost use Rattle.player.specs.Core.{StandsAt, IsNextTurn, passes_of, turns_made, with_lines};
     ghost use Rattle.player.specs.Player.{PlayerView, script_view, IsPlayed};
-    ghost use Rattle.player.specs.BetweenTurns.{IsBetweenTurns, HasMadeTurn};
 
     /// A core that plays a copy of the script, with no turn made. The only error is want of memory.
     pub fn new(alloc: Global, script: &Script) -> Result<Core, NoMemory>
@@ -64,19 +62,24 @@ impl Core {
         ensures script { script_view self.new.script ≡ script_view self.old.script }
         ensures counted { OnOk result (turns_made self.new ≡ suc (turns_made self.old)) }
     {
-        Ok(lines_of(self.turn(client)?))
+        let mut more = Lines::new();
+        self.step_into(client, &mut more)?;
+        Ok(more)
     }
 
-    /// The same, with what the turn leaves.
-    pub(crate) fn turn(&mut self, client: PassNo) -> Result<Written, NoMemory>
+    /// The same, with the lines put in place of what stands in `more`, so that who asks for many
+    /// turns has none of them moved.
+    pub fn step_into(&mut self, client: PassNo, more: &mut Lines) -> Result<(), NoMemory>
         requires client { client.0 < passes_of self.old }
         requires steps { turns_made self.old < 2 ^ 64 - 1 }
+        ensures turn { OnOk result ((p : PlayerView) → StandsAt self.old p → IsNextTurn p client.0 more.new.items) }
+        ensures stands { OnOk result ((p : PlayerView) → StandsAt self.old p → StandsAt self.new (with_lines p more.new.items)) }
+        ensures refused { OnErr result ((p : PlayerView) → StandsAt self.old p → StandsAt self.new p) }
+        ensures lawful { (p : PlayerView) → StandsAt self.new p → IsPlayed p }
         ensures script { script_view self.new.script ≡ script_view self.old.script }
         ensures counted { OnOk result (turns_made self.new ≡ suc (turns_made self.old)) }
-        ensures turn { IfOk result (λ turn. (lines : List Line) → IsBetweenTurns self.old lines → HasMadeTurn self.old self.new lines client.0 turn) }
-        ensures refused { IfErr result (λ _. (lines : List Line) → IsBetweenTurns self.old lines → IsBetweenTurns self.new lines) }
     {
-        self.interleaving.step(client)
+        self.interleaving.step(client, more)
     }
 
     /// How many turns were made so far.

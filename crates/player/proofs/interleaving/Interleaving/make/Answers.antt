@@ -1,10 +1,10 @@
-use Rattle.std.proofs.Common.{arith, ◌≡◌, ℕ, List, ◌∷◌, ◌<◌, set, Option, Some, MatchOption, slice_get, refl, sym, ◌∙◌, ap, subst}
+use Rattle.std.proofs.Common.{arith, ◌≡◌, ℕ, List, [], ◌∷◌, ◌++◌, ◌<◌, set, Option, None, Some, MatchOption, slice_get, refl, sym, ◌∙◌, ap, subst}
 use Rattle.std.proofs.lemmas.Option.{get_or_from_slice_get}
 use Rattle.arena.specs.declared.number.PassNo.{PassNo}
 use Rattle.arena.specs.declared.step.Row.{Row}
 use Rattle.record.specs.declared.record.Line.{Line}
 use Rattle.record.specs.declared.record.Entry.{Entry}
-use Rattle.record.specs.declared.record.Line.TheVariants.{Step, Log}
+use Rattle.record.specs.declared.record.Line.TheVariants.{Step, Log, Reply}
 use Rattle.record.specs.declared.record.Row.TheVariants.{Step as Made}
 use Rattle.record.specs.Turns.{entry_owed}
 use Rattle.moments.specs.Places.{changes}
@@ -15,6 +15,7 @@ use Rattle.player.specs.BetweenTurns.{IsEnd, AreWins, ArePlaces, KnowsCounts, Is
 use Rattle.player.specs.declared.client.Client.{Client}
 use Rattle.player.specs.declared.interleaving.Interleaving.{Interleaving}
 use Rattle.player.proofs.Middles.{some_client, get_own, wins_step, wins_reply}
+use Rattle.player.proofs.Plays.{reply_last}
 use Rattle.player.proofs.Steps.{IsHeard, asked_word, asked_there, asked_row, asked_changed, asked_so_far, asked_hears, heard_on, heard_end, told_goes, told_ends, between_at, asked_owner, begun_before, remembered, turns_logged, logged_as_owed, few_calls}
 use Rattle.player.proofs.interleaving.Interleaving.make.Goals.{After-get, After-tell}
 use Rattle.player.proofs.interleaving.Interleaving.make.Goals as goal
@@ -64,14 +65,14 @@ module _ (c : After-tell) (lines : List Line) (a : IsStepAsked c.args.self.now l
 
   -- the lines with the row, and with its entry
   abbrev row_lines : List Line
-  row_lines = pushed c.before.before.before.before.before.before.before.before lines
+  row_lines = pushed c.before.before.before.before.before.before.before.before.before.before lines
 
   abbrev after : List Line
   after = with_entry c.log-entry.result row_lines
 
   logged : HasLogged p c.log-entry.new.self row_lines number c.log-entry.result
   logged =
-      let x = c.log-entry.ensures.logged row_lines (due c.before.before.before.before.before.before.before.before _ lines a refl refl refl refl refl) in
+      let x = c.log-entry.ensures.logged row_lines (due c.before.before.before.before.before.before.before.before.before.before _ lines a refl refl refl refl refl) in
       record { owed = x.owed; wins = x.wins; entered = x.entered; places = x.places }
 
   -- the entry is the one that the row asks for
@@ -135,6 +136,10 @@ returns-in-None-clause-turn c lines a =
     let kept = places here lines a in
     record {
       script = c.log-entry.ensures.same.script;
+      row = Made c.args.number (row_of here.before.before.before.before.before.before.before.before.before.before);
+      entry = c.log-entry.result;
+      reply = None;
+      leaves = c.begin.ensures.lines;
       between = between_at _ (script_view p.script) _ _ _ _ _ c.log-entry.ensures.same.script c.log-entry.ensures.same.words (ap (λ (l : List Client). set l i c.tell.new.self) c.log-entry.ensures.same.clients ∙ ap (λ (k : ℕ). set p.clients.items k c.tell.new.self) (sym a.is)) refl refl
           record { turned = count.turned; entered = count.entered } between (wins here lines a) record { entries = kept.entries; keys = kept.keys };
       turns = (turns_logged c.log-entry.result (row_lines here lines a)).0;
@@ -161,6 +166,10 @@ returns-in-Some-clause-turn c lines a =
     let count = counted here lines a in
     record {
       script = script;
+      row = Made c.args.number (row_of here.before.before.before.before.before.before.before.before.before.before);
+      entry = c.log-entry.result;
+      reply = Some reply;
+      leaves = c.push.ensures.items ∙ ap (λ (l : List Line). l ++ Reply reply ∷ []) c.begin.ensures.lines ∙ reply_last _ c.log-entry.result reply;
       between = between_at c.reply.new.self (script_view p.script) _ _ _ _ _ script (same.words ∙ c.log-entry.ensures.same.words)
           (r.clients ∙ ap (λ (l : List Client). set (set l i new) new.pass.0 r.client) c.log-entry.ensures.same.clients ∙ ap (λ (k : ℕ). set (set p.clients.items k new) new.pass.0 r.client) (sym a.is) ∙ ap (λ (k : PassNo). set (set p.clients.items a.client.pass.0 new) k.0 r.client) ends.same.pass)
           same.wins same.places record { turned = same.turns ∙ count.turned; entered = same.entries ∙ count.entered } between (wins_reply p.script.layout told reply c.log-entry.new.self.wins.items (wins here lines a)) record { entries = kept.entries; keys = kept.keys };

@@ -1,4 +1,4 @@
-use Rattle.std.proofs.Common.{[], ◌≡◌, ◌+◌, suc, List, ◌∷◌, Some, None, set, slice_get, refl, sym, ◌∙◌, ap, subst, arith}
+use Rattle.std.proofs.Common.{[], ◌≡◌, ◌+◌, suc, List, ◌∷◌, ◌++◌, Some, None, set, slice_get, refl, sym, ◌∙◌, ap, subst, arith}
 use Rattle.arena.specs.declared.number.PassNo.{PassNo}
 use Rattle.script.proofs.Lemmas.{calls_are_of_mode}
 use Rattle.record.specs.declared.record.Line.{Line}
@@ -49,18 +49,22 @@ pub returns-in-Asks-clause-turn : goal.returns-in-Asks-clause-turn
 returns-in-Asks-clause-turn c lines played =
     let here = (goal.at.returns-in-Asks-clause-turn c).After-next_action in
     let t = c.make.ensures.turn lines (stood_asked c.args.self.now lines c.args.client.0 (c.args.self.now.turns + 1) c.index_mut.result.now c.next_action.new.self played (there here lines played) _ c.in-Asks.step refl refl refl refl refl refl refl refl (roomy here lines played) (numbered here lines played) (rw c.in-Asks.is at (stood here lines played))) in
-    record { script = t.script; between = t.between; turns = t.turns }
+    record { script = t.script; row = t.row; entry = t.entry; reply = t.reply; leaves = t.leaves; between = t.between; turns = t.turns }
 
 pub returns-in-Finished-clause-turn : goal.returns-in-Finished-clause-turn
 returns-in-Finished-clause-turn c lines played =
     let here = (goal.at.returns-in-Finished-clause-turn c).After-next_action in
     let p = c.args.self.now in
     let number = p.turns + 1 in
-    let idle = c.idle.ensures in
+    let idle = c.idle-in-Finished.ensures in
     let between = stood_finished p lines c.args.client.0 number c.index_mut.result.now c.next_action.new.self played (there here lines played) c.args.client refl (numbered here lines played) (rw c.in-Finished.is at (stood here lines played)) in
-    rw (idle.same, idle.row)
+    rw idle.same
     record {
       script = refl;
+      row = Idle number c.args.client;
+      entry = None;
+      reply = None;
+      leaves = rw idle.row at c.begin-in-Finished.ensures.lines;
       between = record {
         between = between;
         wins = wins_idle p.script.layout lines number c.args.client p.wins.items played.wins;
@@ -78,7 +82,7 @@ reply-requires-clause-begun c d at =
     let p = c.args.self.now in
     let new = c.next_action.new.self in
     let stands = rw c.in-Answers.is at (stood here lines played) in
-    let idle = c.idle-row.ensures in
+    let idle = c.idle.ensures in
     let same : d ≡ new = some_client d new (sym at ∙ rw idle.same (get_own p.clients.items c.args.client.0 c.index_mut.result.now new (there here lines played))) in
     rw (same, stands.3) (omega arith)
 
@@ -92,16 +96,19 @@ returns-in-Answers-clause-turn c lines played =
     let answer = c.in-Answers.answer in
     let stands = rw c.in-Answers.is at (stood here lines played) in
     let pass : new.pass.0 ≡ i = ap (λ (k : PassNo). k.0) stands.0.pass ∙ (played.between.each i c.index_mut.result.now (there here lines played)).0 in
-    let idle = c.idle-row.ensures in
+    let idle = c.idle.ensures in
     let r = rw idle.same at (c.reply.ensures.replied new (rw idle.same (get_own p.clients.items i c.index_mut.result.now new (there here lines played))) pass) in
     let same = rw idle.same at c.reply.ensures.same in
     let reply = c.reply.result in
     let told = Step (Idle number c.args.client) ∷ lines in
     let kept = roomy here lines played in
     let between = stood_refused p lines i number c.index_mut.result.now new played (there here lines played) c.args.client answer (changes c.reserve.new.self) r.won reply r.client refl (numbered here lines played) stands c.in_ok-reserve.ensures.same (r.end told) in
-    rw idle.row
     record {
       script = same.script;
+      row = Idle number c.args.client;
+      entry = None;
+      reply = Some reply;
+      leaves = c.push.ensures.items ∙ ap (λ (l : List Line). l ++ Reply reply ∷ []) (rw idle.row at c.begin.ensures.lines);
       between = between_at c.reply.new.self (script_view p.script) _ _ _ _ _ same.script same.words r.clients same.wins same.places
           record { turned = same.turns ∙ numbered here lines played; entered = same.entries ∙ played.counted.entered } between
           (wins_reply p.script.layout told reply p.wins.items (wins_idle p.script.layout lines number c.args.client p.wins.items played.wins)) record { entries = kept.entries; keys = kept.keys };
