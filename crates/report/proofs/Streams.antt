@@ -54,19 +54,19 @@ text_whole p script same =
 
 -- Counts
 
-steps_after : (xs ys : List Line) → steps_in (xs ++ ys) ≡ steps_in xs + steps_in ys
+pub steps_after : (xs ys : List Line) → steps_in (xs ++ ys) ≡ steps_in xs + steps_in ys
 steps_after [] ys = omega arith
 steps_after (Step row ∷ xs) ys = let rest = steps_after xs ys in omega (arith, rest)
 steps_after (Log entry ∷ xs) ys = steps_after xs ys
 steps_after (Reply reply ∷ xs) ys = steps_after xs ys
 
-replies_after : (xs ys : List Line) → replies_in (xs ++ ys) ≡ replies_in xs + replies_in ys
+pub replies_after : (xs ys : List Line) → replies_in (xs ++ ys) ≡ replies_in xs + replies_in ys
 replies_after [] ys = omega arith
 replies_after (Step row ∷ xs) ys = replies_after xs ys
 replies_after (Log entry ∷ xs) ys = replies_after xs ys
 replies_after (Reply reply ∷ xs) ys = let rest = replies_after xs ys in omega (arith, rest)
 
-entries_after : (xs ys : List Line) → entries_in (xs ++ ys) ≡ entries_in xs + entries_in ys
+pub entries_after : (xs ys : List Line) → entries_in (xs ++ ys) ≡ entries_in xs + entries_in ys
 entries_after [] ys = omega arith
 entries_after (Step row ∷ xs) ys = entries_after xs ys
 entries_after (Log entry ∷ xs) ys = let rest = entries_after xs ys in omega (arith, rest)

@@ -17,6 +17,7 @@ use crate::totals::Totals;
 use crate::write::write_calls;
 use arena::{NoMemory, PassNo};
 use player::{Core, Lines};
+use record::Line;
 use script::Script;
 use std::alloc::{AllocError, Global};
 use std::io::Write;
@@ -74,6 +75,8 @@ pub struct Stream {
     core: Core,
     alloc: Global,
     sheet: Sheet,
+    /// The lines of the last turn.
+    lines: Lines,
     totals: Totals,
     ended: bool,
 }
@@ -105,15 +108,65 @@ impl Stream {
             core,
             alloc,
             sheet: Sheet::new(alloc),
+            lines: Lines::new(),
             totals: Totals::none(),
             ended: false,
         })
     }
 
-    /// One turn of a client, as `Core::step` makes it, and its lines, which are written and
-    /// answered. Where memory for them is refused before the turn, nothing has changed, and the same
-    /// turn can be asked again. Where a write fails, or memory is refused after the turn, what went
-    /// out is a beginning of the report, and the stream has ended.
+    /// One turn of a client, as `Core::step` makes it, and its lines, which are written, and stand in
+    /// `lines` until the next. Where memory for them is refused before the turn, nothing has changed,
+    /// and the same turn can be asked again. Where a write fails, or memory is refused after the turn,
+    /// what went out is a beginning of the report, and the stream has ended.
+    pub fn turn<W: Write>(&mut self, client: PassNo, to: &mut Metered<W>) -> Result<(), StreamFault>
+        requires client { client.0 < passes_of self.old.core }
+        requires steps { turns_made self.old.core < 2 ^ 64 - 1 }
+        ensures turn { OnOk result ((p : PlayerView) → StandsAt self.old.core p → IsNextTurn p client.0 self.new.lines.items) }
+        ensures written { (start : Option (List ℕ)) (p : PlayerView) → HasWritten self.old start (W.contents to.old.inner) p →
+            OnOk result (HasWritten self.new start (W.contents to.new.inner) (with_lines p self.new.lines.items)) }
+
+        // A fault before the turn leaves all as it was.
+        ensures refused { (start : Option (List ℕ)) (p : PlayerView) → HasWritten self.old start (W.contents to.old.inner) p →
+            OnErr result (self.new.ended ≡ false → HasWritten self.new start (W.contents to.new.inner) p × to.new ≡ to.old) }
+
+        // One behind it ends the stream.
+        ensures cut { (start : Option (List ℕ)) (p : PlayerView) → HasWritten self.old start (W.contents to.old.inner) p →
+            OnErr result (IsTrue self.new.ended → IsCutAt start (W.contents to.new.inner) p client.0) }
+        ensures failed { IsErrOf result StreamFault.Write → IsTrue self.new.ended }
+        ensures over { IsTrue self.old.ended → (result ≡ Err StreamFault.Ended) × (self.new ≡ self.old) × (to.new ≡ to.old) }
+        ensures why { result ≡ Err StreamFault.Ended → IsTrue self.old.ended }
+
+        ensures lawful { (p : PlayerView) → StandsAt self.new.core p → IsPlayed p }
+        ensures passes { passes_of self.new.core ≡ passes_of self.old.core }
+        ensures counted { OnOk result (turns_made self.new.core ≡ suc (turns_made self.old.core)) }
+        ensures ok { OnOk result (to.new.failures ≡ to.old.failures) }
+        ensures no_memory { IsErrOf result StreamFault.NoMemory → to.new.failures ≡ to.old.failures }
+        ensures write { IsErrOf result StreamFault.Write → to.new.failures ≡ min (to.old.failures + 1) (2 ^ 64 - 1) }
+    {
+        if self.ended {
+            return Err(StreamFault::Ended);
+        }
+        self.sheet.clear();
+        self.sheet.make_room(ROOM)?;
+        self.core.step_into(client, &mut self.lines)?;
+        // The turn is made, and can't be asked again until its lines are out.
+        self.ended = true;
+        put_lines(&mut self.sheet, self.lines.as_slice())?;
+        send(self.sheet.text(), to)?;
+        flush(to)?;
+        self.totals.count(self.lines.as_slice());
+        self.ended = false;
+        Ok(())
+    }
+
+    /// The lines of the last turn.
+    pub fn lines(&self) -> &[Line]
+        ensures { result.now ≡ self.now.lines.items }
+    {
+        self.lines.as_slice()
+    }
+
+    /// The same, with the lines answered.
     pub fn step<W: Write>(
         &mut self,
         client: PassNo,
@@ -143,20 +196,8 @@ impl Stream {
         ensures no_memory { IsErrOf result StreamFault.NoMemory → to.new.failures ≡ to.old.failures }
         ensures write { IsErrOf result StreamFault.Write → to.new.failures ≡ min (to.old.failures + 1) (2 ^ 64 - 1) }
     {
-        if self.ended {
-            return Err(StreamFault::Ended);
-        }
-        self.sheet.clear();
-        self.sheet.make_room(ROOM)?;
-        let lines = self.core.step(client)?;
-        // The turn is made, and can't be asked again until its lines are out.
-        self.ended = true;
-        put_lines(&mut self.sheet, lines.as_slice())?;
-        send(self.sheet.text(), to)?;
-        flush(to)?;
-        self.totals.count(lines.as_slice());
-        self.ended = false;
-        Ok(lines)
+        self.turn(client, to)?;
+        Ok(self.lines.take())
     }
 
     /// Writes the last row, which counts the others. After a fault what went out is a beginning of

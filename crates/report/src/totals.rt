@@ -1,5 +1,5 @@
 //! How many lines of each kind a run has.
-ghost use Rattle.std.specs.Prelude.{◌≡◌, ◌↔◌, ◌+◌, ◌-◌, ◌^◌, IsTrue, min};
+ghost use Rattle.std.specs.Prelude.{◌≡◌, ◌↔◌, ◌+◌, ◌-◌, ◌^◌, ◌<◌, ◌∷◌, [], IsTrue, min};
 ghost use Rattle.report.specs.Report.{report_end_row, entries_in, replies_in, steps_in, seven};
 ghost use Rattle.script.specs.Commands.{texts};
 
@@ -47,13 +47,26 @@ impl Totals {
         ensures replies { result.replies ≡ replies_in lines.now }
         ensures entries { result.entries ≡ entries_in lines.now }
     {
-        let steps = lines.iter().filter(|line| matches!(line, Line::Step(_)));
-        let replies = lines.iter().filter(|line| matches!(line, Line::Reply(_)));
-        let entries = lines.iter().filter(|line| matches!(line, Line::Log(_)));
-        Totals {
-            steps: steps.count() as u64,
-            replies: replies.count() as u64,
-            entries: entries.count() as u64,
+        let mut totals = Totals::none();
+        for line in lines {
+            totals.add(line);
+        }
+        totals
+    }
+
+    /// Counts one line more, where no count is at its largest.
+    fn add(&mut self, line: &Line)
+        requires steps { self.old.steps < 2 ^ 64 - 1 }
+        requires replies { self.old.replies < 2 ^ 64 - 1 }
+        requires entries { self.old.entries < 2 ^ 64 - 1 }
+        ensures steps { self.new.steps ≡ self.old.steps + steps_in (line.now ∷ []) }
+        ensures replies { self.new.replies ≡ self.old.replies + replies_in (line.now ∷ []) }
+        ensures entries { self.new.entries ≡ self.old.entries + entries_in (line.now ∷ []) }
+    {
+        match line {
+            Line::Step(_) => self.steps += 1,
+            Line::Reply(_) => self.replies += 1,
+            Line::Log(_) => self.entries += 1,
         }
     }
 }

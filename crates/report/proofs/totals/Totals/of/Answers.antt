@@ -1,52 +1,44 @@
-use Rattle.std.proofs.Common.{◌≡◌, List, [], ◌∷◌, rules, tests, refl, ap, ◌∙◌, true, false, Bool, length, suc, filter}
+use Rattle.std.proofs.Common.{◌≡◌, ◌+◌, ◌<◌, ◌≤◌, ◌∙◌, ℕ, List, [], ◌∷◌, ◌++◌, ap, arith, get_or, length, sym, take}
+use Rattle.std.proofs.lemmas.List.{take_all, take_more}
 use Rattle.record.specs.declared.record.Line.{Line}
 use Rattle.record.specs.declared.record.Line.TheVariants.{Step, Log, Reply}
-use Rattle.std.proofs.lemmas.Iterator.Consumers.{count_from_yields_List, YieldsList-from_filter}
-use Rattle.std.proofs.lemmas.Iterator.{YieldsList-from_slice}
-use Rattle.report.specs.Report.{steps_in, replies_in, entries_in}
+use Rattle.report.specs.Report.{entries_in, replies_in, steps_in}
+use Rattle.report.proofs.Streams.{entries_after, replies_after, steps_after}
 use Rattle.report.proofs.totals.Totals.of.Goals as goal
 
--- what the three filters keep
+-- one line more counts by itself
+counts_more : (lines : List Line) (i : ℕ) (line : Line) → i < length lines → line ≡ get_or lines i line → (steps_in (take (i + 1) lines) ≡ steps_in (take i lines) + steps_in (line ∷ [])) × (replies_in (take (i + 1) lines) ≡ replies_in (take i lines) + replies_in (line ∷ [])) × (entries_in (take (i + 1) lines) ≡ entries_in (take i lines) + entries_in (line ∷ []))
+counts_more lines i line within is =
+    let more : take (i + 1) lines ≡ take i lines ++ line ∷ [] = take_more lines i line within ∙ ap (λ (x : Line). take i lines ++ x ∷ []) (sym is) in (
+      ap (λ (l : List Line). steps_in l) more ∙ steps_after (take i lines) (line ∷ []),
+      ap (λ (l : List Line). replies_in l) more ∙ replies_after (take i lines) (line ∷ []),
+      ap (λ (l : List Line). entries_in l) more ∙ entries_after (take i lines) (line ∷ []),
+    )
 
-abbrev is_step : Line → Bool
-is_step (Step row) = true
-is_step (Log entry) = false
-is_step (Reply reply) = false
+-- it counts once at most
+one_at_most : (line : Line) → (steps_in (line ∷ []) ≤ 1) × (replies_in (line ∷ []) ≤ 1) × (entries_in (line ∷ []) ≤ 1)
+one_at_most (Step row) = (omega arith, omega arith, omega arith)
+one_at_most (Log entry) = (omega arith, omega arith, omega arith)
+one_at_most (Reply reply) = (omega arith, omega arith, omega arith)
 
-abbrev is_reply : Line → Bool
-is_reply (Step row) = false
-is_reply (Log entry) = false
-is_reply (Reply reply) = true
-
-abbrev is_entry : Line → Bool
-is_entry (Step row) = false
-is_entry (Log entry) = true
-is_entry (Reply reply) = false
-
--- and how many lines that is
-
-length-steps : (lines : List Line) → length (filter is_step lines) ≡ steps_in lines
-length-steps [] = refl
-length-steps (Step row ∷ lines) = ap suc (length-steps lines)
-length-steps (Log entry ∷ lines) = length-steps lines
-length-steps (Reply reply ∷ lines) = length-steps lines
-
-length-replies : (lines : List Line) → length (filter is_reply lines) ≡ replies_in lines
-length-replies [] = refl
-length-replies (Step row ∷ lines) = length-replies lines
-length-replies (Log entry ∷ lines) = length-replies lines
-length-replies (Reply reply ∷ lines) = ap suc (length-replies lines)
-
-length-entries : (lines : List Line) → length (filter is_entry lines) ≡ entries_in lines
-length-entries [] = refl
-length-entries (Step row ∷ lines) = length-entries lines
-length-entries (Log entry ∷ lines) = ap suc (length-entries lines)
-length-entries (Reply reply ∷ lines) = length-entries lines
+pub loop-line-preserved : goal.loop-line-preserved
+loop-line-preserved c =
+    let line = c.line-item.result in
+    let more = counts_more c.args.lines.now c.loop-line.line-index line (omega arith) c.line-item.is in
+    let once = one_at_most line in
+    let x = c.loop-line.invariant in
+    let added = c.add.ensures in
+    record {
+      steps = added.steps ∙ ap (λ n. n + steps_in (line ∷ [])) x.steps ∙ sym more.0;
+      replies = added.replies ∙ ap (λ n. n + replies_in (line ∷ [])) x.replies ∙ sym more.1;
+      entries = added.entries ∙ ap (λ n. n + entries_in (line ∷ [])) x.entries ∙ sym more.2;
+      few_steps = let a = added.steps in let f = x.few_steps in let o = once.0 in omega (arith, a, f, o);
+      few_replies = let a = added.replies in let f = x.few_replies in let o = once.1 in omega (arith, a, f, o);
+      few_entries = let a = added.entries in let f = x.few_entries in let o = once.2 in omega (arith, a, f, o);
+    }
 
 pub returns : goal.returns
 returns c =
-    let lines = c.args.lines.now in
-    let steps : c.count.result ≡ steps_in lines = count_from_yields_List c.filter-steps.result _ c.count.ensures.ran (YieldsList-from_filter _ is_step (YieldsList-from_slice lines (cc)) c.filter-steps.ensures.closure (λ x b q k. search (rules, tests))) ∙ length-steps lines in
-    let replies : c.count-2.result ≡ replies_in lines = count_from_yields_List c.filter-replies.result _ c.count-2.ensures.ran (YieldsList-from_filter _ is_reply (YieldsList-from_slice lines (cc)) c.filter-replies.ensures.closure (λ x b q k. search (rules, tests))) ∙ length-replies lines in
-    let entries : c.count-3.result ≡ entries_in lines = count_from_yields_List c.filter-entries.result _ c.count-3.ensures.ran (YieldsList-from_filter _ is_entry (YieldsList-from_slice lines (cc)) c.filter-entries.ensures.closure (λ x b q k. search (rules, tests))) ∙ length-entries lines in
-    record { steps = steps; replies = replies; entries = entries }
+    let all = take_all c.loop-line.line-index c.args.lines.now c.loop-line-test.false in
+    let x = c.loop-line.invariant in
+    record { steps = rw all at x.steps; replies = rw all at x.replies; entries = rw all at x.entries }
