@@ -63,8 +63,8 @@ fn obey<W: Write>(stream: &mut Stream, order: Order, to: &mut Metered<W>) -> Res
         if stream.steps() == u64::MAX {
             return Err(StreamFault::NoMemory);
         }
-        let lines = stream.step(client, to)?;
-        left -= counted(order, lines.as_slice());
+        stream.turn(client, to)?;
+        left -= counted(order, stream.lines());
     }
     Ok(())
 }
