@@ -2,6 +2,7 @@
 ghost use Rattle.std.specs.Prelude.{◌≡◌, IfOk};
 ghost use Rattle.arena.specs.declared.limits.Mode.TheVariants.{Tree};
 
+use crate::same::same;
 use arena::{Kind, Mode, PassNo};
 use report::write_outcome;
 use runner::{Alternate, Freeze, Gate, Hold, Open, Outcome, run};
@@ -169,12 +170,12 @@ fn a_gate_is_told_of_each_step(rt: HostRuntime) -> Result<(), Fail> {
     assert!(rt; outcome.is_ok());
     let mut begin = 0;
     for (call, end) in [48u64, 55, 100, 172, 175, 178, 178].iter().enumerate() {
-        assert_eq!(rt; gate.began[call].load(Ordering::SeqCst), begin, "{call}");
-        assert_eq!(rt; gate.answered[call].load(Ordering::SeqCst), *end, "{call}");
+        same(&rt, gate.began[call].load(Ordering::SeqCst), begin);
+        same(&rt, gate.answered[call].load(Ordering::SeqCst), *end);
         begin = *end;
     }
-    assert_eq!(rt; gate.made.load(Ordering::SeqCst), 178);
-    assert_eq!(rt; gate.freezes.load(Ordering::SeqCst), 8);
+    same(&rt, gate.made.load(Ordering::SeqCst), 178);
+    same(&rt, gate.freezes.load(Ordering::SeqCst), 8);
     Ok(())
 }
 
@@ -233,8 +234,8 @@ fn a_frozen_client_waits_for_its_helper(rt: HostRuntime) -> Result<(), Fail> {
     let outcome = run(&rt, rt.alloc(), &script, &gate);
     assert!(rt; outcome.is_ok_and(|o| o.pairs.as_slice() == [(5, 50), (7, 70)].as_slice()));
     assert!(rt; !gate.missed());
-    assert_eq!(rt; gate.before.load(Ordering::SeqCst), 1);
-    assert_eq!(rt; gate.freezes.load(Ordering::SeqCst), 2);
+    same(&rt, gate.before.load(Ordering::SeqCst), 1);
+    same(&rt, gate.freezes.load(Ordering::SeqCst), 2);
     Ok(())
 }
 
@@ -314,5 +315,5 @@ fn a_missed_gate_is_told(rt: HostRuntime) {
     let written = write_outcome(rt.alloc(), true, replies, pairs, &mut out);
     assert!(rt; written.is_ok());
     let text = "outcome,1,,\ngate,missed,,\nend,0,0,\n";
-    assert_eq!(rt; out.inner.as_slice(), text.as_bytes());
+    same(&rt, out.inner.as_slice(), text.as_bytes());
 }
