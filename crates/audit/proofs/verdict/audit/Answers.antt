@@ -1,6 +1,18 @@
-use Rattle.std.proofs.Common.{arith, refl}
+use Rattle.std.proofs.Common.{arith, refl, rules}
 use Rattle.audit.proofs.EarlierLines.{err_same, fault_before, fault_behind}
 use Rattle.audit.proofs.verdict.audit.Goals as goal
+
+pub loop-at-init : goal.loop-at-init
+loop-at-init c =
+    let run = c.in-Ok.ensures in
+    record { at = run.at; same = run.«record»; after = search rules; map = search rules; remembered = search rules }
+
+pub finish-requires-clause-all : goal.finish-requires-clause-all
+finish-requires-clause-all c =
+    let inv = c.loop-at.invariant in
+    let over = c.loop-at-test.false in
+    let end = c.len-at-end.ensures in
+    rw inv.same (omega (arith, inv.at, over, end))
 
 pub returns-in-Err-clause-fault : goal.returns-in-Err-clause-fault
 returns-in-Err-clause-fault c = λ row e.
