@@ -110,10 +110,11 @@ fn label_of(
     columns: &Columns,
     call: &ShownCall,
 ) -> Result<Option<(f64, String)>, AllocError> {
-    Ok(match columns.reach(call.begin, call.end) {
-        Some((left, _)) => Some((left + 3.0, shortened(alloc, call.text.as_str())?)),
-        None => None,
-    })
+    let Some((left, _)) = columns.reach(call.begin, call.end) else {
+        return Ok(None);
+    };
+    let text = shortened(alloc, call.text.as_str())?;
+    Ok(Some((left + 3.0, text)))
 }
 
 /// The labels of a client's calls, and how many rows they need.
@@ -314,25 +315,38 @@ fn draw_help(
     owner: PassNo,
     at: Spot,
 ) -> Result<(), AllocError> {
-    let colour = Text(colour_of(owner));
-    let number = Number(u64::from(owner.0));
-    let (corner, size) = (
-        Spot {
-            x: group.left,
-            y: at.y - BOX / 2.0,
-        },
-        Spot {
-            x: group.right - group.left,
-            y: BOX,
-        },
-    );
-    let told = [Text("helps client "), number];
-    canvas.rectangle(corner, size, &[colour, Text(" help")], &told)?;
+    let colour = colour_of(owner);
+    let number = u64::from(owner.0);
+    tint(canvas, group, colour, number, at.y - BOX / 2.0)?;
     let below = Spot {
         x: at.x,
         y: at.y + 29.0,
     };
-    canvas.middle_words(below, &[Text("small "), colour], &[Text("c"), number])
+    canvas.middle_words(
+        below,
+        &[Text("small "), Text(colour)],
+        &[Text("c"), Number(number)],
+    )
+}
+
+/// Tints the place of a step that helps the client of this number, from there downwards.
+fn tint(
+    canvas: &mut Canvas,
+    group: &Group,
+    colour: &str,
+    number: u64,
+    top: f64,
+) -> Result<(), AllocError> {
+    let corner = Spot {
+        x: group.left,
+        y: top,
+    };
+    let size = Spot {
+        x: group.right - group.left,
+        y: BOX,
+    };
+    let told = [Text("helps client "), Number(number)];
+    canvas.rectangle(corner, size, &[Text(colour), Text(" help")], &told)
 }
 
 /// Draws the numbers of some turns above all lanes.

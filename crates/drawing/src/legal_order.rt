@@ -2,7 +2,7 @@
 use crate::canvas::{Canvas, Spot, width_of};
 use crate::columns::{Columns, colour_of};
 use crate::labels::{LabelRows, shortened};
-use crate::lanes::Lanes;
+use crate::lanes::{Lane, Lanes};
 use crate::parts::Part::{Number, Text};
 use crate::parts::joined;
 use crate::shown_call::ShownCall;
@@ -49,29 +49,31 @@ fn draw_moment(
     call: &ShownCall,
     at: Spot,
 ) -> Result<(), AllocError> {
-    let colour = Text(colour_of(call.client));
+    let colour = colour_of(call.client);
     if let Some(lane) = lanes.of(call.client) {
-        let (high, low) = (
-            Spot {
-                x: at.x,
-                y: lane.bottom,
-            },
-            Spot {
-                x: at.x,
-                y: at.y - 6.0,
-            },
-        );
-        canvas.line(high, low, &[colour, Text(" dots")])?;
+        draw_lead(canvas, lane, colour, at)?;
     }
-    let hollow = Text(if moment.reads { " hollow" } else { "" });
+    draw_dot(canvas, moment, colour, at)
+}
+
+/// Draws the dotted line from a lane down to a moment.
+fn draw_lead(canvas: &mut Canvas, lane: Lane, colour: &str, at: Spot) -> Result<(), AllocError> {
+    let (x, y) = (at.x, at.y - 6.0);
+    let (high, low) = (Spot { x, y: lane.bottom }, Spot { x, y });
+    canvas.line(high, low, &[Text(colour), Text(" dots")])
+}
+
+fn draw_dot(
+    canvas: &mut Canvas,
+    moment: &ShownMoment,
+    colour: &str,
+    at: Spot,
+) -> Result<(), AllocError> {
+    let hollow = if moment.reads { " hollow" } else { "" };
     let dot = Spot {
         x: at.x,
         y: at.y - 3.0,
     };
-    canvas.sign(
-        "moment",
-        dot,
-        &[colour, hollow],
-        &[Text("at turn "), Number(moment.turn)],
-    )
+    let told = [Text("at turn "), Number(moment.turn)];
+    canvas.sign("moment", dot, &[Text(colour), Text(hollow)], &told)
 }

@@ -22,17 +22,22 @@ pub(crate) struct ShownCall {
 
 /// The text of a call.
 pub(crate) fn call_text(alloc: Global, command: &Command) -> Result<String, AllocError> {
-    let CommandText { name, a, b, c } = CommandText::of(alloc, command)?;
-    let is_scx = matches!(command, Command::Scx(_));
+    let told = CommandText::of(alloc, command)?;
+    let mut text = String::from_str(alloc, told.name)?;
+    add_fields(&mut text, &told, matches!(command, Command::Scx(_)))?;
+    Ok(text)
+}
+
+/// Puts the fields of a command behind its name; of an SCX those that are empty too.
+fn add_fields(text: &mut String, told: &CommandText, is_scx: bool) -> Result<(), AllocError> {
     let between = if is_scx { " | " } else { " " };
-    let mut text = String::from_str(alloc, name)?;
     let mut gap = " ";
-    for field in [&a, &b, &c] {
+    for field in [&told.a, &told.b, &told.c] {
         if is_scx || !field.is_empty() {
             text.push_str(gap)?;
             text.push_str(field.as_str())?;
             gap = between;
         }
     }
-    Ok(text)
+    Ok(())
 }
