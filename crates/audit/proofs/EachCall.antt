@@ -43,19 +43,17 @@ use Rattle.audit.specs.Asked.{IsAsked, IsTooFewFor, IsTooFewToTake, NeededSometh
 use Rattle.audit.specs.declared.client.Client.{Client}
 use native.Mathlib.Decide.{ℕ_discrete}
 use Rattle.arena.specs.declared.step.Row.{Row as StepRow}
-use Rattle.arena.specs.declared.word.NodeWord.TheVariants.{Settled}
 use Rattle.arena.specs.Lawful.{IsWin}
 use Rattle.arena.specs.Log.{Entry as Entered}
-use Rattle.arena.specs.Words.{node}
 use Rattle.ordered_map.proofs.Lemmas.{makes_since, one_spelling, win_first, win_makes}
 use Rattle.ordered_map.specs.Requests.{map_request}
 use Rattle.ordered_map.specs.Runs.{IsTreeRun, Makes}
 use Rattle.ordered_map.specs.Spelled.{Spells}
 use Rattle.ordered_map.specs.TreeShape.{edit_leaf}
-use Rattle.ordered_map.specs.TreeWords.{class, first_said, said}
+use Rattle.arena.specs.declared.word.Word.{Word}
+use Rattle.ordered_map.specs.TreeWords.{class, first_said, leaf_pairs, said}
 use Rattle.moments.specs.Changed.{edit_on, edited_key}
 use Rattle.audit.specs.Edits.{IsEditBy, IsFirstLeaf, Suits}
-use Rattle.arena.specs.declared.word.SettledPart.TheVariants.{Key as KeyWord, Value as ValueWord}
 use Rattle.audit.proofs.MapAnswers.{IsAnswered, either_fits, neither, had_within, first_within, is_change, value_reading, value_had}
 
 -- Answers that say that an update of the call has won
@@ -321,16 +319,20 @@ module _ (lay : Layout) (tries : ℕ) (calls : List Call) (lines : List Line) (c
 
 -- Entries
 
--- what the first leaf of the tree says
-first_is : (h : History) (n key : ℕ) → IsFirstLeaf h n key → first_said (value h) n ≡ Some (pair key (value h (node n (Settled ValueWord))))
-first_is h n key x = ap (λ b. cond b (Some (pair (value h (node n (Settled KeyWord))) (value h (node n (Settled ValueWord))))) None) (eq-eqb (class (value h) n) 0 x.class) ∙ ap (λ (k : ℕ). Some (pair k (value h (node n (Settled ValueWord))))) x.same_key
+-- what a leaf says of the least key is the first of its pairs
+first_says : (f : Word → ℕ) (n : ℕ) → first_said f n ≡ first_pair (leaf_pairs f n)
+first_says f n = go (ℕ_discrete (class f n) 0)
+  where
+    go : Dec (class f n ≡ 0) → first_said f n ≡ first_pair (leaf_pairs f n)
+    go (yes z) = rw (eq-eqb (class f n) 0 z) refl
+    go (no d) = rw (ne_eqb (class f n) 0 d) refl
 
 -- an entry of it is one that a call with its command makes
 module _ (lay : Layout) (h : History) (row : StepRow) (e : Entered) (run : IsTreeRun lay (row ⊳ h)) (won : IsWin h row e.scx) where
   pop_entry : (key : ℕ) → Makes lay h e.scx (Delete key) → IsFirstLeaf h (edit_leaf h e.scx (Delete key)) key → IsPopEntry lay h e.scx
   pop_entry key x first =
       let leaf = edit_leaf h e.scx (Delete key) in
-      (pair key (value h (node leaf (Settled ValueWord))), x, λ map spells. win_first lay h row e.scx (Delete key) run won x (first.path.0, first.path.1, first.path.3) first.leaf map spells ∙ first_is h leaf key first)
+      (pair key first.first.0, x, λ map spells. win_first lay h row e.scx (Delete key) run won x (first.path.0, first.path.1, first.path.3) first.leaf map spells ∙ first_says (value h) leaf ∙ first.first.1)
 
   replace_entry : (key expected put : ℕ) → Makes lay h e.scx (Insert key put) → said (value h) key (edit_leaf h e.scx (Insert key put)) ≡ Some expected → IsReplaceEntry key expected put lay h e.scx
   replace_entry key expected put x says =

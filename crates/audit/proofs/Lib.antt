@@ -24,3 +24,4 @@ mod CellCallFacts
 mod CellEntries
 mod Asking
 mod EarlierLines
+mod ListEdits

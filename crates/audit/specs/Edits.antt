@@ -1,18 +1,22 @@
 -- Which edit of the map an SCX-record makes, and for which call.
-use Rattle.std.specs.Prelude.{◌≡◌, ℕ, true, List, Option, Some, None, slice_get}
+use Rattle.std.specs.Prelude.{◌≡◌, ◌≢◌, ℕ, ◌<◌, true, List, Option, Some, None, option_map, slice_get}
 use Rattle.arena.specs.declared.layout.Layout.{Layout}
 use Rattle.arena.specs.declared.step.Row.{Row}
-use Rattle.arena.specs.declared.word.NodeWord.TheVariants.{Settled}
-use Rattle.arena.specs.declared.word.SettledPart.TheVariants.{Key}
+use Rattle.arena.specs.declared.word.Word.{Word}
 use Rattle.arena.specs.History.{History, ◌⊳◌, value, Extends}
 use Rattle.arena.specs.Shape.{IsBegin}
-use Rattle.arena.specs.Words.{node}
-use Rattle.ordered_map.specs.OrderedMap.{MapCall, MapEdit, Edit, Insert, Delete, PopFirst, ReplaceIf, edit_key}
+use Rattle.ordered_map.specs.OrderedMap.{MapCall, MapEdit, Edit, Insert, Delete, PopFirst, ReplaceIf, edit_key, first_pair, pair}
 use Rattle.ordered_map.specs.Paths.{Passed}
 use Rattle.ordered_map.specs.TreeShape.{MayEdit, edit_leaf}
-use Rattle.ordered_map.specs.TreeWords.{class, is_leaf, said}
+use Rattle.ordered_map.specs.TreeWords.{is_leaf, leaf_pairs, said}
 use Rattle.record.specs.MapRecord.{map_call}
+use Rattle.judge.specs.declared.judge.Judge.{Judge}
+use Rattle.judge.specs.Histories.{seen_history}
 use Rattle.audit.specs.declared.edits.Begun.{Begun}
+
+-- what each word is after the rows that the judge has seen
+abbrev pub word_now : Judge → Word → ℕ
+word_now judge = value (seen_history judge)
 
 -- the edit that leaves this value to the key
 abbrev pub edit_to : ℕ → Option ℕ → MapEdit
@@ -23,6 +27,16 @@ edit_to key (Some value) = Insert key value
 abbrev pub edit_begun : Begun → MapEdit
 edit_begun begun = edit_to begun.key begun.value
 
+-- the key of the pair at a place, if there is one
+abbrev pub key_at : List (ℕ × ℕ) → ℕ → Option ℕ
+key_at ps at = option_map (λ p. p.0) (slice_get ps at)
+
+-- a pair of this key, if there is one, stays in front of the edit
+abbrev pub IsInFront : MapEdit → Option ℕ → Type 0
+IsInFront e None = ⊥
+IsInFront (Insert k v) (Some key) = key < k
+IsInFront (Delete k) (Some key) = key ≢ k
+
 -- the call may make this edit: a pop takes out some key, a replacement gives its key its value
 abbrev pub IsEditBy : Option MapCall → MapEdit → Type 0
 IsEditBy (Some (Edit own)) edit = own ≡ edit
@@ -30,12 +44,11 @@ IsEditBy (Some PopFirst) edit = (key : ℕ) × (edit ≡ Delete key)
 IsEditBy (Some (ReplaceIf key expected put)) edit = edit ≡ Insert key put
 IsEditBy _ edit = ⊥
 
--- n is the first leaf of the tree, and has this key
+-- n is the first leaf of the tree, and this is its first key
 pub record IsFirstLeaf (h : History) (n key : ℕ) : Type 0 where
   pub path : Passed h h 0 n
   pub leaf : is_leaf (value h) n ≡ true
-  pub class : class (value h) n ≡ 0
-  pub same_key : value h (node n (Settled Key)) ≡ key
+  pub first : (v : ℕ) × (first_pair (leaf_pairs (value h) n) ≡ Some (pair key v))
 
 -- the leaf that the SCX-record covers for its edit suits the call: that of a pop is the first one,
 -- that of a replacement says the value that the call expects

@@ -1,25 +1,27 @@
-//! Whether an SCX-record that begins makes the edit of its owner's call.
-ghost use Rattle.std.specs.Prelude.{◌≡◌, ◌≢◌, ◌+◌, ◌<◌, ◌↔◌, ◌⊎◌, ℕ, true, false, set, Some, None, IfSome, IsSome, IsTrue};
+//! Whether an SCX-record that begins makes the edit of its owner's call. What its leaves hold is read
+//! as lists of pairs, on which the edit is made.
+ghost use Rattle.std.specs.Prelude.{◌≡◌, ◌≢◌, ◌+◌, ◌^◌, ◌<◌, ◌≤◌, ◌↔◌, ℕ, true, false, ◌++◌, length, set, Some, None, IfSome, IsSome, IsTrue};
 ghost use Rattle.arena.specs.Heads.{head_of};
-ghost use Rattle.arena.specs.History.{value};
-ghost use Rattle.arena.specs.ScxRecords.{plan, member as member_of, seen as seen_at, new, old};
+ghost use Rattle.arena.specs.ScxRecords.{count, member as member_of, seen as seen_at, new};
 ghost use Rattle.arena.specs.Fills.{IsNamed};
 ghost use Rattle.arena.specs.Words.{node as node_of, child as child_of, info, scx as scx_of};
 ghost use Rattle.arena.specs.declared.word.NodeWord.TheVariants.{Settled};
-ghost use Rattle.arena.specs.declared.word.SettledPart.TheVariants.{Head as HeadWord, Key, Value as ValueWord};
+ghost use Rattle.arena.specs.declared.word.SettledPart.TheVariants.{Head as HeadWord, Key};
 ghost use Rattle.arena.specs.declared.word.Side.{Side as SideOf};
 ghost use Rattle.arena.specs.declared.word.Side.TheVariants.{Left, Right};
-ghost use Rattle.ordered_map.specs.Edits.{IsPairLeaf, IsAlike, IsLeafCopy, IsSwap, IsSplit, IsJoin, HasFieldsOf};
+ghost use Rattle.ordered_map.specs.Edits.{IsAlike, IsSwap, IsSplit, IsJoin, HasFieldsOf};
+ghost use Rattle.ordered_map.specs.Holding.{held_pairs};
 ghost use Rattle.ordered_map.specs.Paths.{Passed};
 ghost use Rattle.ordered_map.specs.Runs.{IsTreeRun};
-ghost use Rattle.ordered_map.specs.TreeShape.{IsInsert, IsDelete, insert_plan, delete_plan, leaf_place as leaf_place_of, sibling_place as sibling_place_of, edit_leaf};
-ghost use Rattle.ordered_map.specs.TreeWords.{class, is_leaf, level, rank, toward as toward_of};
-ghost use Rattle.ordered_map.specs.OrderedMap.{Delete};
-ghost use Rattle.record.specs.MapRecord.{map_call};
-ghost use Rattle.audit.specs.Edits.{IsEditBy, IsFirstLeaf, IsSuited, MayMakeEdit, edit_begun};
+ghost use Rattle.ordered_map.specs.TreeShape.{IsInsert, IsDelete, IsEdit, insert_plan, delete_plan, leaf_place as leaf_place_of, sibling_place as sibling_place_of, edit_leaf};
+ghost use Rattle.ordered_map.specs.TreeWords.{class, is_leaf, level, leaf_pairs, said, toward as toward_of};
+ghost use Rattle.ordered_map.specs.OrderedMap.{Delete, edited, first_pair, pair};
+ghost use Rattle.record.specs.MapRecord.{map_call, number_pairs};
+ghost use Rattle.audit.specs.Edits.{IsEditBy, IsFirstLeaf, IsInFront, IsSuited, MayMakeEdit, edit_begun, key_at, word_now};
 ghost use Rattle.judge.specs.Histories.{seen_history};
 
 use arena::{Head, NodeNo, NodeWord, ScxNo, ScxWord, SettledPart, Side, Word};
+use arrayvec::ArrayVec;
 use judge::Judge;
 use ordered_map::Request;
 use script::Command;
@@ -33,67 +35,60 @@ pub(crate) struct Begun {
     pub(crate) value: Option<u64>,
 }
 
+/// Pairs by rising key, of two leaves at most, of which each holds four at most.
+type Pairs = ArrayVec<(u64, u64), 8>;
+
 /// The edit that an SCX-record is about to make for a call: below a fork on the search path of its
-/// key.
+/// key, and of a leaf that suits the call, unless it is a pop's that can win no more.
 pub(crate) fn begun_for(judge: &Judge, scx: u64, command: &Command) -> Option<Begun>
     requires { IsTreeRun judge.now.layout (seen_history judge.now) }
     ensures command { IfSome result (λ begun. begun.command ≡ command.now) }
     ensures edit { IfSome result (MayMakeEdit judge.now.layout (seen_history judge.now) scx) }
 {
-    let (begun, is_edit) = match command {
-        Command::Map(Request::Insert { key, value }) => (
-            inserting(command, *key, *value),
-            is_insert(judge, scx, (*key, *value)),
-        ),
-        Command::Map(Request::Delete { key }) => (
-            deleting(command, *key),
-            is_delete(judge, scx, *key),
-        ),
-        Command::Map(Request::PopFirst) => {
-            let key = key_of(judge, member(judge, scx, 2));
-            (deleting(command, key), is_pop(judge, scx, key))
-        }
-        Command::Map(
-            Request::ReplaceIf {
-                key,
-                expected,
-                value,
-            },
-        ) => (
-            inserting(command, *key, *value),
-            is_replacement(judge, scx, (*key, *expected), *value),
-        ),
-        _ => return None,
-    };
-    if is_edit && is_fork_on_path(judge, begun.key, member(judge, scx, 0)) {
+    let begun = edit_for(judge, scx, command)?;
+    let is_late = matches!(command, Command::Map(Request::PopFirst)) && !is_as_seen(judge, scx, 1);
+    if is_edit(judge, scx, &begun)
+        && is_fork_on_path(judge, begun.key, member(judge, scx, 0))
+        && (is_late || suits(judge, scx, &begun))
+    {
         Some(begun)
     } else {
         None
     }
 }
 
-/// Whether an SCX-record takes out this key, and does so in the first leaf unless it can win no more.
-fn is_pop(judge: &Judge, scx: u64, key: u64) -> bool
-    requires { IsTreeRun judge.now.layout (seen_history judge.now) }
-    ensures { IsTrue result → IsDelete (seen_history judge.now) scx key
-        (toward_of (value (seen_history judge.now)) (member_of (seen_history judge.now) scx 1) key) }
+/// The edit that a call with this command is to make by an SCX-record: a pop takes out the first key
+/// of the left one of the leaves.
+fn edit_for(judge: &Judge, scx: u64, command: &Command) -> Option<Begun>
+    ensures command { IfSome result (λ begun. begun.command ≡ command.now) }
+    ensures own { IfSome result (λ begun. IsEditBy (map_call (Some command.now)) (edit_begun begun)) }
+    ensures small { IfSome result (λ begun. begun.key < 2 ^ 64) }
 {
-    is_delete(judge, scx, key)
-        && (!is_as_seen(judge, scx, 1) || is_first_leaf(judge, taken_leaf(judge, scx, key), key))
+    match *command {
+        Command::Map(Request::Insert { key, value }) => Some(leaving(command, key, Some(value))),
+        Command::Map(Request::Delete { key }) => Some(leaving(command, key, None)),
+        Command::Map(Request::PopFirst) => {
+            Some(leaving(command, key_of(judge, member(judge, scx, 2)), None))
+        }
+        Command::Map(Request::ReplaceIf { key, value, .. }) => {
+            Some(leaving(command, key, Some(value)))
+        }
+        _ => None,
+    }
 }
 
-/// Whether an SCX-record gives the key of a pair, where that stands in the leaf that goes, this value.
-fn is_replacement(judge: &Judge, scx: u64, old: (u64, u64), put: u64) -> bool
-    ensures edit { IsTrue result → IsInsert (seen_history judge.now) scx old.0 put }
-    ensures fresh { IsTrue result → is_leaf (value (seen_history judge.now)) (new (seen_history judge.now) scx) ≡ false → (side : SideOf) →
-        IsNamed judge.now.layout (seen_history judge.now)
-        (value (seen_history judge.now) (child_of (new (seen_history judge.now) scx) side)) → ⊥ }
+fn leaving(command: &Command, key: u64, value: Option<u64>) -> Begun
+    ensures { result ≡ record { command = command.now; key = key; value = value } }
 {
-    is_insert(judge, scx, (old.0, put)) && is_pair_leaf(judge, member(judge, scx, 1), old)
+    Begun {
+        command: *command,
+        key,
+        value,
+    }
 }
 
 /// Whether the leaf that an SCX-record covers for its edit suits the call that it has begun for: a
-/// pop takes out the first leaf, a replacement one with the value that it expects.
+/// pop takes out the first key of the first leaf, a replacement finds the value that it expects.
 pub(crate) fn suits(judge: &Judge, scx: u64, begun: &Begun) -> bool
     requires { IsTreeRun judge.now.layout (seen_history judge.now) }
     ensures { IsTrue result → IsEditBy (map_call (Some begun.now.command)) (edit_begun begun.now) → IsSuited (seen_history judge.now) scx begun.now }
@@ -103,7 +98,8 @@ pub(crate) fn suits(judge: &Judge, scx: u64, begun: &Begun) -> bool
             is_first_leaf(judge, taken_leaf(judge, scx, begun.key), begun.key)
         }
         Command::Map(Request::ReplaceIf { key, expected, .. }) => {
-            is_pair_leaf(judge, member(judge, scx, 1), (key, expected))
+            let leaf = member(judge, scx, 1);
+            head(judge, leaf).leaf && said(judge, leaf, key) == Some(expected)
         }
         _ => true,
     }
@@ -117,42 +113,116 @@ fn taken_leaf(judge: &Judge, scx: u64, key: u64) -> u64
     member(judge, scx, leaf_place(side))
 }
 
-/// Whether a node is the first leaf of the tree, and has this key.
+/// Whether a node is the first leaf of the tree, and this is its first key.
 fn is_first_leaf(judge: &Judge, node: u64, key: u64) -> bool
     requires { IsTreeRun judge.now.layout (seen_history judge.now) }
     ensures { IsTrue result → IsFirstLeaf (seen_history judge.now) node key }
 {
-    is_leaf_of(judge, node, key) && is_on_path(judge, 0, node)
+    head(judge, node).leaf && is_first_key(judge, node, key) && is_on_path(judge, 0, node)
 }
 
-fn inserting(command: &Command, key: u64, value: u64) -> Begun
-    ensures { result ≡ record { command = command.now; key = key; value = Some value } }
+/// Whether this is the first key that a leaf gives the map.
+fn is_first_key(judge: &Judge, leaf: u64, key: u64) -> bool
+    ensures { IsTrue result → (v : ℕ) × (first_pair (leaf_pairs (word_now judge.now) leaf) ≡ Some (pair key v)) }
 {
-    Begun {
-        command: *command,
-        key,
-        value: Some(value),
+    let pairs = given(judge, leaf);
+    key_at(pairs.as_slice(), 0) == Some(key)
+}
+
+/// What a leaf says of a key.
+fn said(judge: &Judge, leaf: u64, key: u64) -> Option<u64>
+    ensures { result ≡ said (word_now judge.now) key leaf }
+{
+    for pair in given(judge, leaf).as_slice() {
+        if key == pair.0 {
+            return Some(pair.1);
+        }
+    }
+    None
+}
+
+/// What a leaf gives the map.
+fn given(judge: &Judge, leaf: u64) -> Pairs
+    ensures pairs { number_pairs result.items ≡ leaf_pairs (word_now judge.now) leaf }
+    ensures few { length result.items ≤ 4 }
+{
+    if head(judge, leaf).class == 0 {
+        held(judge, leaf)
+    } else {
+        ArrayVec::new()
     }
 }
 
-fn deleting(command: &Command, key: u64) -> Begun
-    ensures { result ≡ record { command = command.now; key = key; value = None } }
+/// What a leaf holds: today one pair.
+fn held(judge: &Judge, leaf: u64) -> Pairs
+    ensures pairs { number_pairs result.items ≡ held_pairs (word_now judge.now) leaf }
+    ensures few { length result.items ≤ 4 }
 {
-    Begun {
-        command: *command,
-        key,
-        value: None,
+    let value = node_word(judge, leaf, NodeWord::Settled(SettledPart::Value));
+    let mut pairs = ArrayVec::new();
+    pairs.push((key_of(judge, leaf), value));
+    pairs
+}
+
+/// What the edit of an SCX-record makes of the pairs of a leaf.
+fn edited(begun: &Begun, mut pairs: Pairs) -> Pairs
+    requires { length pairs.items ≤ 4 }
+    ensures { number_pairs result.items ≡ edited (edit_begun begun.now) (number_pairs pairs.items) }
+{
+    let mut at = 0;
+    while is_in_front(begun, key_at(pairs.as_slice(), at)) {
+        at += 1;
     }
+    if key_at(pairs.as_slice(), at) == Some(begun.key) {
+        pairs.remove(at);
+    }
+    if let Some(value) = begun.value {
+        pairs.insert(at, (begun.key, value));
+    }
+    pairs
+}
+
+/// The key of the pair at a place, if there is one.
+fn key_at(pairs: &[(u64, u64)], at: usize) -> Option<u64>
+    ensures key { result ≡ key_at pairs.now at }
+    ensures inside { IsSome result → at < length pairs.now }
+{
+    match pairs.get(at) {
+        Some(pair) => Some(pair.0),
+        None => None,
+    }
+}
+
+/// Whether a pair of this key, if there is one, stays in front of an edit: of an insert all with
+/// lesser keys do, of a delete all up to its key.
+fn is_in_front(begun: &Begun, key: Option<u64>) -> bool
+    ensures front { IsTrue result → IsInFront (edit_begun begun.now) key }
+    ensures some { IsTrue result → IsSome key }
+    ensures none { result ≡ false → IsInFront (edit_begun begun.now) key → ⊥ }
+{
+    match key {
+        Some(key) => key < begun.key || (begun.value.is_none() && key != begun.key),
+        None => false,
+    }
+}
+
+/// The pairs of two leaves, those of the left one in front.
+fn joined(mut left: Pairs, right: &Pairs) -> Pairs
+    requires { length left.items + length right.now.items ≤ 8 }
+    ensures { number_pairs result.items ≡ number_pairs left.items ++ number_pairs right.now.items }
+{
+    let _fits = left.try_extend_from_slice(right.as_slice());
+    left
 }
 
 fn node_word(judge: &Judge, node: u64, part: NodeWord) -> u64
-    ensures { result ≡ value (seen_history judge.now) (node_of node part) }
+    ensures { result ≡ word_now judge.now (node_of node part) }
 {
     judge.get(Word::Node(NodeNo(node), part))
 }
 
 fn scx_word(judge: &Judge, scx: u64, part: ScxWord) -> u64
-    ensures { result ≡ value (seen_history judge.now) (scx_of scx part) }
+    ensures { result ≡ word_now judge.now (scx_of scx part) }
 {
     judge.get(Word::Scx(ScxNo(scx), part))
 }
@@ -165,26 +235,26 @@ fn member(judge: &Judge, scx: u64, place: u8) -> u64
 
 /// What a node's head says.
 fn head(judge: &Judge, node: u64) -> Head
-    ensures { result ≡ head_of (value (seen_history judge.now) (node_of node (Settled HeadWord))) }
+    ensures { result ≡ head_of (word_now judge.now (node_of node (Settled HeadWord))) }
 {
     Head::of(node_word(judge, node, NodeWord::Settled(SettledPart::Head)))
 }
 
 fn key_of(judge: &Judge, node: u64) -> u64
-    ensures { result ≡ value (seen_history judge.now) (node_of node (Settled Key)) }
+    ensures { result ≡ word_now judge.now (node_of node (Settled Key)) }
 {
     node_word(judge, node, NodeWord::Settled(SettledPart::Key))
 }
 
 fn child(judge: &Judge, node: u64, side: Side) -> u64
-    ensures { result ≡ value (seen_history judge.now) (child_of node side) }
+    ensures { result ≡ word_now judge.now (child_of node side) }
 {
     node_word(judge, node, NodeWord::Child(side))
 }
 
 /// Whether the info word of the node at a place is as the SCX-record has seen it.
 fn is_as_seen(judge: &Judge, scx: u64, place: u8) -> bool
-    ensures { IsTrue result ↔ (value (seen_history judge.now) (info (member_of (seen_history judge.now) scx place)) ≡ seen_at
+    ensures { IsTrue result ↔ (word_now judge.now (info (member_of (seen_history judge.now) scx place)) ≡ seen_at
         (seen_history judge.now) scx place) }
 {
     let node = member(judge, scx, place);
@@ -193,7 +263,7 @@ fn is_as_seen(judge: &Judge, scx: u64, place: u8) -> bool
 
 /// On which side of a fork a key stands: all classes above 0 are above all keys.
 fn toward(judge: &Judge, node: u64, key: u64) -> Side
-    ensures { result ≡ toward_of (value (seen_history judge.now)) node key }
+    ensures { result ≡ toward_of (word_now judge.now) node key }
 {
     if head(judge, node).class > 0 || key < key_of(judge, node) {
         Side::Left
@@ -202,18 +272,11 @@ fn toward(judge: &Judge, node: u64, key: u64) -> Side
     }
 }
 
-/// Whether a key is above a node.
-fn is_above(judge: &Judge, node: u64, key: u64) -> bool
-    ensures { IsTrue result → rank (value (seen_history judge.now)) node < key }
-{
-    head(judge, node).class == 0 && key_of(judge, node) < key
-}
-
 /// Whether the search for a key passes this fork.
 fn is_fork_on_path(judge: &Judge, key: u64, fork: u64) -> bool
     requires { IsTreeRun judge.now.layout (seen_history judge.now) }
     ensures path { IsTrue result → Passed (seen_history judge.now) (seen_history judge.now) key fork }
-    ensures fork { IsTrue result → is_leaf (value (seen_history judge.now)) fork ≡ false }
+    ensures fork { IsTrue result → is_leaf (word_now judge.now) fork ≡ false }
 {
     is_on_path(judge, key, fork) && !head(judge, fork).leaf
 }
@@ -234,99 +297,109 @@ fn is_on_path(judge: &Judge, key: u64, sought: u64) -> bool
 
 /// Whether two nodes have the same class and key.
 fn are_alike(judge: &Judge, one: u64, other: u64) -> bool
-    ensures { IsTrue result → IsAlike (value (seen_history judge.now)) one other }
+    ensures { IsTrue result → IsAlike (word_now judge.now) one other }
 {
     head(judge, one).class == head(judge, other).class && key_of(judge, one) == key_of(judge, other)
 }
 
-/// Whether a node is a leaf with this pair.
-fn is_pair_leaf(judge: &Judge, node: u64, pair: (u64, u64)) -> bool
-    ensures { IsTrue result → IsPairLeaf (value (seen_history judge.now)) node pair.0 pair.1 }
+/// Whether a node is a leaf of class 0.
+fn is_low_leaf(judge: &Judge, node: u64) -> bool
+    ensures leaf { IsTrue result → is_leaf (word_now judge.now) node ≡ true }
+    ensures class { IsTrue result → class (word_now judge.now) node ≡ 0 }
 {
-    let Head { leaf, class, .. } = head(judge, node);
-    let value = node_word(judge, node, NodeWord::Settled(SettledPart::Value));
-    leaf && class == 0 && (key_of(judge, node), value) == pair
+    head(judge, node).leaf && head(judge, node).class == 0
 }
 
-/// Whether a node is a leaf that is a copy of another.
-fn is_leaf_copy(judge: &Judge, node: u64, leaf: u64) -> bool
-    ensures { IsTrue result → IsLeafCopy (value (seen_history judge.now)) node leaf }
+/// Whether an SCX-record makes this edit.
+fn is_edit(judge: &Judge, scx: u64, begun: &Begun) -> bool
+    requires { begun.now.key < 2 ^ 64 }
+    ensures edit { IsTrue result → IsEdit (seen_history judge.now) scx (edit_begun begun.now) }
+    ensures fresh { IsTrue result → count (seen_history judge.now) scx ≡ 2 →
+        is_leaf (word_now judge.now) (new (seen_history judge.now) scx) ≡ false → (side : SideOf) →
+        IsNamed judge.now.layout (seen_history judge.now)
+        (word_now judge.now (child_of (new (seen_history judge.now) scx) side)) → ⊥ }
 {
-    let same_value = node_word(judge, node, NodeWord::Settled(SettledPart::Value))
-        == node_word(judge, leaf, NodeWord::Settled(SettledPart::Value));
-    head(judge, node).leaf && are_alike(judge, node, leaf) && same_value
+    match begun.value {
+        Some(_value) => is_insert(judge, scx, begun),
+        None => is_delete(judge, scx, begun),
+    }
 }
 
 /// Whether an SCX-record covers a parent and a leaf, finalizes the leaf, and puts another leaf or a
 /// fork over two into the parent's field towards the key.
-fn is_insert(judge: &Judge, scx: u64, pair: (u64, u64)) -> bool
-    ensures edit { IsTrue result → IsInsert (seen_history judge.now) scx pair.0 pair.1 }
-    ensures fresh { IsTrue result → is_leaf (value (seen_history judge.now)) (new (seen_history judge.now) scx) ≡ false → (side : SideOf) →
+fn is_insert(judge: &Judge, scx: u64, begun: &Begun) -> bool
+    requires { begun.now.key < 2 ^ 64 }
+    ensures edit { IsTrue result → IfSome begun.now.value (IsInsert (seen_history judge.now) scx begun.now.key) }
+    ensures fresh { IsTrue result → is_leaf (word_now judge.now) (new (seen_history judge.now) scx) ≡ false → (side : SideOf) →
         IsNamed judge.now.layout (seen_history judge.now)
-        (value (seen_history judge.now) (child_of (new (seen_history judge.now) scx) side)) → ⊥ }
+        (word_now judge.now (child_of (new (seen_history judge.now) scx) side)) → ⊥ }
 {
     let (parent, leaf) = (member(judge, scx, 0), member(judge, scx, 1));
-    let plan = insert_plan(toward(judge, parent, pair.0));
+    let plan = insert_plan(toward(judge, parent, begun.key));
     let new = scx_word(judge, scx, ScxWord::New);
     scx_word(judge, scx, ScxWord::Plan) == plan
         && scx_word(judge, scx, ScxWord::Old) == leaf
         && head(judge, leaf).leaf
         && head(judge, new).level == head(judge, leaf).level
-        && (is_swap(judge, leaf, new, pair) || is_split(judge, leaf, new, pair))
+        && (is_swap(judge, leaf, new, begun) || is_split(judge, leaf, new, begun))
 }
 
-/// Whether a leaf of the key is replaced by another leaf.
-fn is_swap(judge: &Judge, leaf: u64, new: u64, pair: (u64, u64)) -> bool
-    requires leaf { is_leaf (value (seen_history judge.now)) leaf ≡ true }
-    requires deep { level (value (seen_history judge.now)) new ≡ level (value (seen_history judge.now)) leaf }
-    ensures { IsTrue result → IsSwap (value (seen_history judge.now)) pair.0 pair.1 leaf new }
+/// Whether a leaf is replaced by another one, which holds what the edit makes of its pairs.
+fn is_swap(judge: &Judge, leaf: u64, new: u64, begun: &Begun) -> bool
+    requires leaf { is_leaf (word_now judge.now) leaf ≡ true }
+    requires deep { level (word_now judge.now) new ≡ level (word_now judge.now) leaf }
+    ensures edit { IsTrue result → IfSome begun.now.value (λ v. IsSwap (word_now judge.now) begun.now.key v leaf new) }
+    ensures leaf { IsTrue result → is_leaf (word_now judge.now) new ≡ true }
 {
-    head(judge, leaf).class == 0 && key_of(judge, leaf) == pair.0 && is_pair_leaf(judge, new, pair)
+    head(judge, leaf).class == 0
+        && is_low_leaf(judge, new)
+        && given(judge, new) == edited(begun, given(judge, leaf))
 }
 
-/// Whether a leaf without the key is replaced by a fork over a fresh leaf of the key and a fresh copy
-/// of the leaf.
-fn is_split(judge: &Judge, leaf: u64, fork: u64, pair: (u64, u64)) -> bool
-    requires leaf { is_leaf (value (seen_history judge.now)) leaf ≡ true }
-    requires deep { level (value (seen_history judge.now)) fork ≡ level (value (seen_history judge.now)) leaf }
-    ensures edit { IsTrue result → (x y : ℕ) × IsSplit (value (seen_history judge.now)) pair.0 pair.1 leaf fork x y }
+/// Whether a leaf is replaced by a fork over two fresh ones, which between them hold what the edit
+/// makes of its pairs.
+fn is_split(judge: &Judge, leaf: u64, fork: u64, begun: &Begun) -> bool
+    requires leaf { is_leaf (word_now judge.now) leaf ≡ true }
+    requires small { begun.now.key < 2 ^ 64 }
+    requires deep { level (word_now judge.now) fork ≡ level (word_now judge.now) leaf }
+    ensures edit { IsTrue result → IfSome begun.now.value (λ v. (x y : ℕ) × IsSplit (word_now judge.now) begun.now.key v leaf fork x y) }
     ensures fresh { IsTrue result → (side : SideOf) → IsNamed judge.now.layout (seen_history judge.now)
-        (value (seen_history judge.now) (child_of fork side)) → ⊥ }
+        (word_now judge.now (child_of fork side)) → ⊥ }
 {
     let left = child(judge, fork, Side::Left);
     let right = child(judge, fork, Side::Right);
-    if head(judge, fork).leaf || judge.is_named_node(NodeNo(left)) {
+    if judge.is_named_node(NodeNo(left))
+        || judge.is_named_node(NodeNo(right))
+        || head(judge, fork).leaf
+        || !are_alike(judge, fork, right)
+        || !is_one_below(judge, left, fork)
+        || !is_one_below(judge, right, fork)
+        || !is_low_leaf(judge, left)
+        || !is_last_leaf(judge, right, leaf)
+    {
         return false;
     }
-    if judge.is_named_node(NodeNo(right)) {
-        return false;
-    }
-    if is_above(judge, leaf, pair.0) {
-        are_alike(judge, fork, right) && are_split(judge, fork, (right, left), leaf, pair)
-    } else {
-        toward(judge, leaf, pair.0) == Side::Left
-            && are_alike(judge, fork, leaf)
-            && are_split(judge, fork, (left, right), leaf, pair)
-    }
+    let below = joined(given(judge, left), &given(judge, right));
+    below == edited(begun, given(judge, leaf))
 }
 
-/// Whether the first of these nodes, which a fork is over, is a leaf of the pair, and the second a
-/// copy of the leaf that goes.
-fn are_split(judge: &Judge, fork: u64, below: (u64, u64), leaf: u64, pair: (u64, u64)) -> bool
-    ensures new { IsTrue result → IsPairLeaf (value (seen_history judge.now)) below.0 pair.0 pair.1 }
-    ensures copy { IsTrue result → IsLeafCopy (value (seen_history judge.now)) below.1 leaf }
-    ensures low { IsTrue result → level (value (seen_history judge.now)) below.0 ≡ level (value (seen_history judge.now)) fork + 1 }
-    ensures high { IsTrue result → level (value (seen_history judge.now)) below.1 ≡ level (value (seen_history judge.now)) fork + 1 }
+/// Whether a node is a leaf that may stand last in the place of another: of its class, and, above all
+/// keys, a copy of it.
+fn is_last_leaf(judge: &Judge, node: u64, leaf: u64) -> bool
+    ensures leaf { IsTrue result → is_leaf (word_now judge.now) node ≡ true }
+    ensures class { IsTrue result → class (word_now judge.now) node ≡ class (word_now judge.now) leaf }
+    ensures copy { IsTrue result → class (word_now judge.now) leaf ≢ 0 →
+        held_pairs (word_now judge.now) node ≡ held_pairs (word_now judge.now) leaf }
 {
-    is_pair_leaf(judge, below.0, pair)
-        && is_leaf_copy(judge, below.1, leaf)
-        && is_one_below(judge, below.0, fork)
-        && is_one_below(judge, below.1, fork)
+    let class = head(judge, leaf).class;
+    head(judge, node).leaf
+        && head(judge, node).class == class
+        && (class == 0 || held(judge, node) == held(judge, leaf))
 }
 
 /// Whether the level of a node is just above that of a fork.
 fn is_one_below(judge: &Judge, node: u64, fork: u64) -> bool
-    ensures { IsTrue result → level (value (seen_history judge.now)) node ≡ level (value (seen_history judge.now)) fork + 1 }
+    ensures { IsTrue result → level (word_now judge.now) node ≡ level (word_now judge.now) fork + 1 }
 {
     head(judge, fork).level.checked_add(1) == Some(head(judge, node).level)
 }
@@ -373,49 +446,48 @@ fn sibling_place(side: Side) -> u8
 
 /// Whether an SCX-record covers a grandparent, a parent and its two children, finalizes all but the
 /// first, and puts a copy of the other child into the grandparent's field towards the key.
-fn is_delete(judge: &Judge, scx: u64, key: u64) -> bool
-    ensures { IsTrue result → IsDelete (seen_history judge.now) scx key
-        (toward_of (value (seen_history judge.now)) (member_of (seen_history judge.now) scx 1) key) }
+fn is_delete(judge: &Judge, scx: u64, begun: &Begun) -> bool
+    requires { begun.now.value ≡ None }
+    ensures { IsTrue result → IsDelete (seen_history judge.now) scx begun.now.key
+        (toward_of (word_now judge.now) (member_of (seen_history judge.now) scx 1) begun.now.key) }
 {
-    let plan = delete_plan(toward(judge, member(judge, scx, 0), key));
-    let side = toward(judge, member(judge, scx, 1), key);
+    let plan = delete_plan(toward(judge, member(judge, scx, 0), begun.key));
+    let side = toward(judge, member(judge, scx, 1), begun.key);
     scx_word(judge, scx, ScxWord::Plan) == plan
         && scx_word(judge, scx, ScxWord::Old) == member(judge, scx, 1)
-        && is_join(judge, scx, side, key)
+        && is_join(judge, scx, side, begun)
         && are_below(judge, scx)
 }
 
-/// Whether the parent is a fork, the child on this side, which goes, a leaf of the key, and `new` a
-/// copy of the other child.
-fn is_join(judge: &Judge, scx: u64, side: Side, key: u64) -> bool
-    ensures edit { IsTrue result → IsJoin (value (seen_history judge.now)) key (member_of (seen_history judge.now) scx 1)
+/// Whether the parent is a fork, the child on this side a leaf of whose pairs the edit leaves none,
+/// and `new` a copy of the other child.
+fn is_join(judge: &Judge, scx: u64, side: Side, begun: &Begun) -> bool
+    requires { begun.now.value ≡ None }
+    ensures edit { IsTrue result → IsJoin (word_now judge.now) begun.now.key (member_of (seen_history judge.now) scx 1)
         (member_of (seen_history judge.now) scx (leaf_place_of side)) (member_of (seen_history judge.now) scx (sibling_place_of side))
         (new (seen_history judge.now) scx) }
-    ensures copied { IsTrue result → value (seen_history judge.now)
+    ensures copied { IsTrue result → word_now judge.now
         (info (member_of (seen_history judge.now) scx (sibling_place_of side))) ≡ seen_at (seen_history judge.now) scx
-        (sibling_place_of side) → HasFieldsOf (value (seen_history judge.now)) (new (seen_history judge.now) scx)
+        (sibling_place_of side) → HasFieldsOf (word_now judge.now) (new (seen_history judge.now) scx)
         (member_of (seen_history judge.now) scx (sibling_place_of side)) }
 {
     let leaf = member(judge, scx, leaf_place(side));
+    let place = sibling_place(side);
+    let (new, sibling) = (
+        scx_word(judge, scx, ScxWord::New),
+        member(judge, scx, place),
+    );
     !head(judge, member(judge, scx, 1)).leaf
-        && is_leaf_of(judge, leaf, key)
-        && is_copy(judge, scx, sibling_place(side))
-}
-
-/// Whether a node is a leaf of the key.
-fn is_leaf_of(judge: &Judge, node: u64, key: u64) -> bool
-    ensures leaf { IsTrue result → is_leaf (value (seen_history judge.now)) node ≡ true }
-    ensures class { IsTrue result → class (value (seen_history judge.now)) node ≡ 0 }
-    ensures key { IsTrue result → value (seen_history judge.now) (node_of node (Settled Key)) ≡ key }
-{
-    head(judge, node).leaf && head(judge, node).class == 0 && key_of(judge, node) == key
+        && is_low_leaf(judge, leaf)
+        && edited(begun, given(judge, leaf)).is_empty()
+        && is_copy(judge, new, sibling, is_as_seen(judge, scx, place))
 }
 
 /// Whether the parent's fields are the children, where it is as it was seen.
 fn are_below(judge: &Judge, scx: u64) -> bool
-    ensures { IsTrue result → value (seen_history judge.now) (info (member_of (seen_history judge.now) scx 1)) ≡ seen_at
-        (seen_history judge.now) scx 1 → (value (seen_history judge.now) (child_of (member_of (seen_history judge.now) scx 1) Left) ≡
-        member_of (seen_history judge.now) scx 2) × (value (seen_history judge.now)
+    ensures { IsTrue result → word_now judge.now (info (member_of (seen_history judge.now) scx 1)) ≡ seen_at
+        (seen_history judge.now) scx 1 → (word_now judge.now (child_of (member_of (seen_history judge.now) scx 1) Left) ≡
+        member_of (seen_history judge.now) scx 2) × (word_now judge.now
         (child_of (member_of (seen_history judge.now) scx 1) Right) ≡ member_of (seen_history judge.now) scx 3) }
 {
     let parent = member(judge, scx, 1);
@@ -424,46 +496,25 @@ fn are_below(judge: &Judge, scx: u64) -> bool
             && child(judge, parent, Side::Right) == member(judge, scx, 3))
 }
 
-/// Whether `new` is a copy of the child at a place.
-fn is_copy(judge: &Judge, scx: u64, place: u8) -> bool
-    ensures same_head { IsTrue result → value (seen_history judge.now) (node_of (new (seen_history judge.now) scx) (Settled HeadWord)) ≡ value
-        (seen_history judge.now) (node_of (member_of (seen_history judge.now) scx place) (Settled HeadWord)) }
-    ensures same_key { IsTrue result → value (seen_history judge.now) (node_of (new (seen_history judge.now) scx) (Settled Key)) ≡ value
-        (seen_history judge.now) (node_of (member_of (seen_history judge.now) scx place) (Settled Key)) }
-    ensures same_value { IsTrue result → is_leaf (value (seen_history judge.now)) (member_of (seen_history judge.now) scx place) ≡ true →
-        value (seen_history judge.now) (node_of (new (seen_history judge.now) scx) (Settled ValueWord)) ≡ value (seen_history judge.now)
-        (node_of (member_of (seen_history judge.now) scx place) (Settled ValueWord)) }
-    ensures copied { IsTrue result → value (seen_history judge.now) (info (member_of (seen_history judge.now) scx place)) ≡ seen_at
-        (seen_history judge.now) scx place → HasFieldsOf (value (seen_history judge.now)) (new (seen_history judge.now) scx)
-        (member_of (seen_history judge.now) scx place) }
+/// Whether a node is a copy of another: it holds the same, or, of a fork, has the same fields where
+/// these are looked at.
+fn is_copy(judge: &Judge, one: u64, other: u64, looked_at: bool) -> bool
+    ensures same_head { IsTrue result → word_now judge.now (node_of one (Settled HeadWord)) ≡ word_now judge.now (node_of other (Settled HeadWord)) }
+    ensures same_key { IsTrue result → word_now judge.now (node_of one (Settled Key)) ≡ word_now judge.now (node_of other (Settled Key)) }
+    ensures same_pairs { IsTrue result → is_leaf (word_now judge.now) other ≡ true →
+        held_pairs (word_now judge.now) one ≡ held_pairs (word_now judge.now) other }
+    ensures copied { IsTrue result → looked_at ≡ true → HasFieldsOf (word_now judge.now) one other }
 {
-    let (new, sibling) = (
-        scx_word(judge, scx, ScxWord::New),
-        member(judge, scx, place),
-    );
-    let head_of_sibling = node_word(judge, sibling, NodeWord::Settled(SettledPart::Head));
-    node_word(judge, new, NodeWord::Settled(SettledPart::Head)) == head_of_sibling
-        && key_of(judge, new) == key_of(judge, sibling)
-        && has_content_of(judge, new, sibling, is_as_seen(judge, scx, place))
-}
-
-/// Whether a node has the value of another, if that is a leaf; or else its fields, if they are looked
-/// at.
-fn has_content_of(judge: &Judge, one: u64, other: u64, looked_at: bool) -> bool
-    ensures same_value { IsTrue result → is_leaf (value (seen_history judge.now)) other ≡ true →
-        value (seen_history judge.now) (node_of one (Settled ValueWord)) ≡ value (seen_history judge.now) (node_of other (Settled ValueWord)) }
-    ensures copied { IsTrue result → looked_at ≡ true → HasFieldsOf (value (seen_history judge.now)) one other }
-{
-    if head(judge, other).leaf {
-        node_word(judge, one, NodeWord::Settled(SettledPart::Value))
-            == node_word(judge, other, NodeWord::Settled(SettledPart::Value))
-    } else {
-        !looked_at || has_fields_of(judge, one, other)
-    }
+    let head_of_other = node_word(judge, other, NodeWord::Settled(SettledPart::Head));
+    let leaf = head(judge, other).leaf;
+    node_word(judge, one, NodeWord::Settled(SettledPart::Head)) == head_of_other
+        && key_of(judge, one) == key_of(judge, other)
+        && (leaf || !looked_at || has_fields_of(judge, one, other))
+        && (!leaf || held(judge, one) == held(judge, other))
 }
 
 fn has_fields_of(judge: &Judge, one: u64, other: u64) -> bool
-    ensures { IsTrue result → (side : SideOf) → value (seen_history judge.now) (child_of one side) ≡ value (seen_history judge.now) (child_of other side) }
+    ensures { IsTrue result → (side : SideOf) → word_now judge.now (child_of one side) ≡ word_now judge.now (child_of other side) }
 {
     child(judge, one, Side::Left) == child(judge, other, Side::Left)
         && child(judge, one, Side::Right) == child(judge, other, Side::Right)

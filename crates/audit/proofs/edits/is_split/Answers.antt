@@ -1,0 +1,16 @@
+use Rattle.std.proofs.Common.{◌≡◌, ◌++◌, sym, ◌∙◌, ap, rules}
+use Rattle.ordered_map.specs.OrderedMap.{edited}
+use Rattle.ordered_map.specs.TreeWords.{leaf_pairs}
+use Rattle.record.specs.MapRecord.{number_pairs}
+use Rattle.audit.specs.Edits.{edit_begun, word_now}
+use Rattle.audit.proofs.ListEdits.{same_pairs, split_of}
+use Rattle.audit.proofs.edits.is_split.Goals as goal
+
+pub returns-clause-edit : goal.returns-clause-edit
+returns-clause-edit c same =
+    let f = word_now c.args.judge.now in
+    let begun = c.args.begun.now in
+    let made = ap number_pairs (same_pairs c.joined-below.result.items c.edited.result.items (search rules)) in
+    let pairs : leaf_pairs f c.child-left.result ++ leaf_pairs f c.child-right.result ≡ edited (edit_begun begun) (leaf_pairs f c.args.leaf) =
+    sym (c.joined-below.ensures ∙ (λ i. c.given.ensures.pairs i ++ c.given-2.ensures.pairs i)) ∙ made ∙ c.edited.ensures ∙ ap (edited (edit_begun begun)) c.given-3.ensures.pairs in
+    split_of f c.args.leaf c.args.fork c.child-left.result c.child-right.result begun.key begun.value c.requires.small (search rules)
