@@ -1,6 +1,6 @@
 -- Edits that are asked of lists of pairs: where one is made, and that a split of leaves of one pair
 -- each is one of those that the tree allows.
-use Rattle.std.proofs.Common.{◌≡◌, ◌≢◌, ℕ, zero, suc, ◌+◌, ◌*◌, ◌^◌, ◌<◌, Bool, true, false, cond, ◌&&◌, eqb, ltb, ◌⊎◌, inl, inr, ⊎_elim, List, [], ◌∷◌, ◌++◌, Option, Some, None, insert as put_in, remove, refl, sym, ◌∙◌, ap, arith, lt-ltb, le-ltb, eq-eqb, ne_eqb}
+use Rattle.std.proofs.Common.{◌≡◌, ◌≢◌, ℕ, zero, suc, ◌+◌, ◌^◌, ◌<◌, Bool, true, false, cond, ◌&&◌, eqb, ltb, ◌⊎◌, inl, inr, ⊎_elim, List, [], ◌∷◌, ◌++◌, Option, Some, None, insert as put_in, remove, refl, sym, ◌∙◌, ap, arith, lt-ltb, le-ltb, eq-eqb, ne_eqb}
 use Rattle.std.specs.Prelude.{IfSome}
 use Rattle.std.specs.Cmp.Lexicographic.{pointwise}
 use Rattle.std.proofs.lemmas.Bool.{and_parts, eqb-true, eqb-false, ltb-true, ltb-false}
@@ -17,7 +17,7 @@ use Rattle.ordered_map.specs.TreeWords.{class, is_leaf, level, rank, leaf_pairs}
 use Rattle.ordered_map.specs.Edits.{IsAlike, IsSplit}
 use Rattle.ordered_map.proofs.Lemmas.{held_one, low_pairs, high_pairs}
 use Rattle.record.specs.MapRecord.{number_pairs}
-use Rattle.audit.specs.Edits.{IsInFront, edit_to, key_at}
+use Rattle.audit.specs.Edits.{IsInFront, edit_to, key_in}
 
 -- The place of an edit
 
@@ -32,7 +32,7 @@ StayInFront e [] (suc at) = ⊥
 StayInFront e (p ∷ ps) (suc at) = IsInFront e (Some p.0) × StayInFront e ps at
 
 -- one more does
-pub one_more : (e : MapEdit) (ps : List (ℕ × ℕ)) (at : ℕ) → StayInFront e ps at → IsInFront e (key_at ps at) → StayInFront e ps (suc at)
+pub one_more : (e : MapEdit) (ps : List (ℕ × ℕ)) (at : ℕ) → StayInFront e ps at → IsInFront e (key_in ps at) → StayInFront e ps (suc at)
 one_more e [] zero s x = absurd (none_in_front e x)
 one_more e (p ∷ ps) zero s x = (x, tt)
 one_more e [] (suc at) s x = absurd s
@@ -56,7 +56,7 @@ gone_here : (key : ℕ) (value : Option ℕ) (p : ℕ × ℕ) (ps : List (ℕ ×
 gone_here key None p ps e = rw (eq-eqb key p.0 (sym e)) refl
 gone_here key (Some v) p ps e = rw (le-ltb key p.0 (omega (arith, e)), eq-eqb key p.0 (sym e)) refl
 
-made_gone : (key : ℕ) (value : Option ℕ) (ps : List (ℕ × ℕ)) (at : ℕ) → StayInFront (edit_to key value) ps at → key_at ps at ≡ Some key → number_pairs (with_value key value at (remove ps at)) ≡ edited (edit_to key value) (number_pairs ps)
+made_gone : (key : ℕ) (value : Option ℕ) (ps : List (ℕ × ℕ)) (at : ℕ) → StayInFront (edit_to key value) ps at → key_in ps at ≡ Some key → number_pairs (with_value key value at (remove ps at)) ≡ edited (edit_to key value) (number_pairs ps)
 made_gone key value [] zero s is = absurd (let z : None ≡ Some key = is in cc)
 made_gone key value (p ∷ ps) zero s is = let same : Some p.0 ≡ Some key = is in gone_here key value p ps cc
 made_gone key value [] (suc at) s is = absurd s
@@ -70,7 +70,7 @@ kept_here key (Some v) p ps stops other = rw (lt-ltb key p.0 (above key p.0 stop
     above : (a b : ℕ) → ¬ (b < a) → b ≢ a → a < b
     above a b x y = grind arith
 
-made_kept : (key : ℕ) (value : Option ℕ) (ps : List (ℕ × ℕ)) (at : ℕ) → StayInFront (edit_to key value) ps at → ¬ IsInFront (edit_to key value) (key_at ps at) → key_at ps at ≢ Some key → number_pairs (with_value key value at ps) ≡ edited (edit_to key value) (number_pairs ps)
+made_kept : (key : ℕ) (value : Option ℕ) (ps : List (ℕ × ℕ)) (at : ℕ) → StayInFront (edit_to key value) ps at → ¬ IsInFront (edit_to key value) (key_in ps at) → key_in ps at ≢ Some key → number_pairs (with_value key value at ps) ≡ edited (edit_to key value) (number_pairs ps)
 made_kept key None [] zero s stops other = refl
 made_kept key (Some v) [] zero s stops other = refl
 made_kept key value (p ∷ ps) zero s stops other = kept_here key value p ps stops (λ e. other (ap (λ (k : ℕ). Some k) e))
@@ -91,12 +91,12 @@ same_pairs (x ∷ xs) (y ∷ ys) e =
     λ i. (key i, value i) ∷ rest i
 
 -- so the edit is made where the first pair stands that does not stay in front
-pub made : (key : ℕ) (value : Option ℕ) (ps qs : List (ℕ × ℕ)) (at : ℕ) → StayInFront (edit_to key value) ps at → ¬ IsInFront (edit_to key value) (key_at ps at) → ((key_at ps at ≡ Some key) × (remove ps at ≡ qs)) ⊎ ((key_at ps at ≢ Some key) × (ps ≡ qs)) → number_pairs (with_value key value at qs) ≡ edited (edit_to key value) (number_pairs ps)
+pub made : (key : ℕ) (value : Option ℕ) (ps qs : List (ℕ × ℕ)) (at : ℕ) → StayInFront (edit_to key value) ps at → ¬ IsInFront (edit_to key value) (key_in ps at) → ((key_in ps at ≡ Some key) × (remove ps at ≡ qs)) ⊎ ((key_in ps at ≢ Some key) × (ps ≡ qs)) → number_pairs (with_value key value at qs) ≡ edited (edit_to key value) (number_pairs ps)
 made key value ps qs at s stops (inl x) = ap (λ (rest : List (ℕ × ℕ)). number_pairs (with_value key value at rest)) (sym x.1) ∙ made_gone key value ps at s x.0
 made key value ps qs at s stops (inr x) = ap (λ (rest : List (ℕ × ℕ)). number_pairs (with_value key value at rest)) (sym x.1) ∙ made_kept key value ps at s stops x.0
 
 -- the first pair
-pub first_at : (ps : List (ℕ × ℕ)) (key : ℕ) → key_at ps 0 ≡ Some key → (v : ℕ) × (first_pair (number_pairs ps) ≡ Some (pair key v))
+pub first_at : (ps : List (ℕ × ℕ)) (key : ℕ) → key_in ps 0 ≡ Some key → (v : ℕ) × (first_pair (number_pairs ps) ≡ Some (pair key v))
 first_at [] key e = absurd (let z : None ≡ Some key = e in cc)
 first_at (p ∷ ps) key e = let same : Some p.0 ≡ Some key = e in let is : p.0 ≡ key = cc in (p.1, ap (λ (k : ℕ). Some (pair k p.1)) is)
 

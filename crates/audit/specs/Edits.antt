@@ -28,8 +28,8 @@ abbrev pub edit_begun : Begun → MapEdit
 edit_begun begun = edit_to begun.key begun.value
 
 -- the key of the pair at a place, if there is one
-abbrev pub key_at : List (ℕ × ℕ) → ℕ → Option ℕ
-key_at ps at = option_map (λ p. p.0) (slice_get ps at)
+abbrev pub key_in : List (ℕ × ℕ) → ℕ → Option ℕ
+key_in ps at = option_map (λ p. p.0) (slice_get ps at)
 
 -- a pair of this key, if there is one, stays in front of the edit
 abbrev pub IsInFront : MapEdit → Option ℕ → Type 0

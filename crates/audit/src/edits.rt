@@ -17,7 +17,7 @@ ghost use Rattle.ordered_map.specs.TreeShape.{IsInsert, IsDelete, IsEdit, insert
 ghost use Rattle.ordered_map.specs.TreeWords.{class, is_leaf, level, leaf_pairs, said, toward as toward_of};
 ghost use Rattle.ordered_map.specs.OrderedMap.{Delete, edited, first_pair, pair};
 ghost use Rattle.record.specs.MapRecord.{map_call, number_pairs};
-ghost use Rattle.audit.specs.Edits.{IsEditBy, IsFirstLeaf, IsInFront, IsSuited, MayMakeEdit, edit_begun, key_at, word_now};
+ghost use Rattle.audit.specs.Edits.{IsEditBy, IsFirstLeaf, IsInFront, IsSuited, MayMakeEdit, edit_begun, key_in, word_now};
 ghost use Rattle.judge.specs.Histories.{seen_history};
 
 use arena::{Head, NodeNo, NodeWord, ScxNo, ScxWord, SettledPart, Side, Word};
@@ -126,7 +126,7 @@ fn is_first_key(judge: &Judge, leaf: u64, key: u64) -> bool
     ensures { IsTrue result → (v : ℕ) × (first_pair (leaf_pairs (word_now judge.now) leaf) ≡ Some (pair key v)) }
 {
     let pairs = given(judge, leaf);
-    key_at(pairs.as_slice(), 0) == Some(key)
+    key_in(pairs.as_slice(), 0) == Some(key)
 }
 
 /// What a leaf says of a key.
@@ -170,10 +170,10 @@ fn edited(begun: &Begun, mut pairs: Pairs) -> Pairs
     ensures { number_pairs result.items ≡ edited (edit_begun begun.now) (number_pairs pairs.items) }
 {
     let mut at = 0;
-    while is_in_front(begun, key_at(pairs.as_slice(), at)) {
+    while is_in_front(begun, key_in(pairs.as_slice(), at)) {
         at += 1;
     }
-    if key_at(pairs.as_slice(), at) == Some(begun.key) {
+    if key_in(pairs.as_slice(), at) == Some(begun.key) {
         pairs.remove(at);
     }
     if let Some(value) = begun.value {
@@ -183,8 +183,8 @@ fn edited(begun: &Begun, mut pairs: Pairs) -> Pairs
 }
 
 /// The key of the pair at a place, if there is one.
-fn key_at(pairs: &[(u64, u64)], at: usize) -> Option<u64>
-    ensures key { result ≡ key_at pairs.now at }
+fn key_in(pairs: &[(u64, u64)], at: usize) -> Option<u64>
+    ensures key { result ≡ key_in pairs.now at }
     ensures inside { IsSome result → at < length pairs.now }
 {
     match pairs.get(at) {
