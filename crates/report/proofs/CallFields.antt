@@ -1,5 +1,5 @@
 -- The fields of the row of a call.
-use Rattle.std.proofs.Common.{◌≡◌, ◌≢◌, ℕ, List, [], ◌∷◌, Bor, None, Result, Ok, Err, IfErr, inl, inr, arith, get_or, length, refl}
+use Rattle.std.proofs.Common.{◌≡◌, ◌≢◌, ℕ, List, [], ◌∷◌, Bor, None, Result, Ok, Err, IfErr, inl, inr, arith, codes, decimal, get_or, length, refl}
 use Rattle.std.specs.Result.{result_ok}
 use Rattle.arena.specs.declared.limits.Mode.{Mode}
 use Rattle.ordered_map.specs.declared.request.Request.TheVariants.{Insert, Delete, PopFirst, ReplaceIf, Get, Successor, Range}
@@ -9,6 +9,7 @@ use Rattle.script.specs.declared.command.Command.{Command}
 use Rattle.script.specs.declared.command.Command.TheVariants.{Llx, Scx, Vlx, Set, Map}
 use Rattle.script.specs.declared.fault.ScriptCause.{ScriptCause}
 use Rattle.script.specs.declared.fault.ScriptCause.TheVariants as cause
+use Rattle.report.specs.Report.{seven}
 use Rattle.report.proofs.Fields.{blank}
 
 -- the row is three fields and these four
@@ -57,3 +58,17 @@ why_none mode name rest cause.Long none command of_mode valid is = none
 pub no_command : (mode : Mode) (name : List ℕ) (rest : List (List ℕ)) (r : Result Command ScriptCause) → result_ok r ≡ None → IfErr r (IsNoCommand mode name rest) → (command : Command) → mode_of command ≡ mode → IsCommand command → name ∷ rest ≢ command_row command
 no_command mode name rest (Ok found) failed none = absurd cc
 no_command mode name rest (Err why) failed none = why_none mode name rest why none
+
+-- the row of a call has no empty fields behind the command's
+pub whole_row : (client number : ℕ) (command : Command) → seven (codes "call" ∷ decimal client ∷ decimal number ∷ command_row command) ≡ codes "call" ∷ decimal client ∷ decimal number ∷ command_row command
+whole_row client number (Llx cell) = refl
+whole_row client number (Scx update) = refl
+whole_row client number (Vlx cells) = refl
+whole_row client number (Set field value) = refl
+whole_row client number (Map (Insert key value)) = refl
+whole_row client number (Map (Delete key)) = refl
+whole_row client number (Map PopFirst) = refl
+whole_row client number (Map (ReplaceIf key expected value)) = refl
+whole_row client number (Map (Get key)) = refl
+whole_row client number (Map (Successor key)) = refl
+whole_row client number (Map (Range low high most)) = refl

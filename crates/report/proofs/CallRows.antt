@@ -10,7 +10,7 @@ use Rattle.report.specs.Report.{reported_call_row, call_rows}
 use Rattle.report.proofs.Texts.{rows_after}
 
 -- the calls that were made after the first one and these
-reverse_after : (x : Call) (xs earlier : List Call) → reverse xs ++ x ∷ earlier ≡ reverse (x ∷ xs) ++ earlier
+pub reverse_after : (x : Call) (xs earlier : List Call) → reverse xs ++ x ∷ earlier ≡ reverse (x ∷ xs) ++ earlier
 reverse_after x xs earlier = sym (append_assoc (reverse xs) (x ∷ []) earlier) ∙ ap (λ calls. calls ++ earlier) (sym (reverse_onto xs x []))
 
 pub call_rows_after : (earlier xs ys : List Call) → call_rows earlier (xs ++ ys) ≡ call_rows earlier xs ++ call_rows (reverse xs ++ earlier) ys

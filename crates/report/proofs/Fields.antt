@@ -1,10 +1,10 @@
 -- The seven fields of a row, looked up one by one.
-use Rattle.std.proofs.Common.{◌≡◌, ◌<◌, ◌^◌, ℕ, List, [], ◌∷◌, Bor, get_or, length, refl, arith, decimal, codes}
+use Rattle.std.proofs.Common.{◌≡◌, ◌<◌, ◌^◌, ℕ, List, [], ◌∷◌, Bor, get_or, ap, length, refl, sym, arith, decimal, codes}
 use Rattle.arena.specs.Limits.{IsAccepted}
 use Rattle.arena.specs.declared.limits.Limits.{Limits}
 use Rattle.script.specs.Commands.{texts}
 use Rattle.script.specs.Rows.{limits_row}
-use Rattle.report.specs.Report.{seven}
+use Rattle.report.specs.Report.{name_of, seven}
 use Rattle.texts.proofs.Lemmas.{same_number}
 
 -- what a lookup behind the last field would find
@@ -39,6 +39,11 @@ row_is fields name one two three four five six long p q r s t u v = absurd (omeg
 pub last_text : (fields : List (Bor (List ℕ))) → length fields ≡ 7 → get_or (texts fields) 6 [] ≡ (get_or fields 6 blank).now
 last_text (a ∷ b ∷ c ∷ e ∷ f ∷ g ∷ h ∷ []) long = refl
 last_text fields long = absurd (omega (arith, long))
+
+-- the first field is the row's name
+pub name_is : (fields : List (Bor (List ℕ))) (row : List (List ℕ)) → length fields ≡ 7 → texts fields ≡ row → name_of row ≡ (get_or fields 0 blank).now
+name_is (a ∷ b ∷ c ∷ e ∷ f ∷ g ∷ h ∷ []) row long is = ap name_of (sym is)
+name_is fields row long is = absurd (omega (arith, long))
 
 -- the fields of a row of limits
 abbrev pub AreLimits : List (Bor (List ℕ)) → Limits → Type 0

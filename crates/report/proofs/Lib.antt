@@ -13,5 +13,7 @@ mod Counted
 mod CommandLists
 mod CallRows
 mod Reading
+mod RowTexts
 mod RoundTrip
+mod Refused
 mod Outcomes

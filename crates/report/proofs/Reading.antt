@@ -1,15 +1,18 @@
 -- Rows that are read one by one.
-use Rattle.std.proofs.Common.{◌≡◌, List, [], ◌∷◌, ◌++◌, ℕ, Bool, true, false, Option, length, refl, sym, ap, append_assoc, ◌∙◌, arith, map, reverse, MatchBool}
+use Rattle.std.proofs.Common.{Bor, subst, ◌≡◌, List, [], ◌∷◌, ◌++◌, ℕ, Bool, true, false, Option, suc, ◌+◌, length, length-append, refl, sym, ap, append_assoc, ◌∙◌, arith, map, reverse, MatchBool}
 use Rattle.std.proofs.lemmas.List.{append-nil, map-append}
 use Rattle.csv.specs.Records.{field_at}
 use Rattle.texts.specs.Fields.{field_of}
 use Rattle.texts.specs.declared.rows.Rows.{Rows}
 use Rattle.texts.specs.Texts.{AreRows, IsRow}
 use Rattle.script.specs.declared.call.Call.{Call}
-use Rattle.script.specs.declared.script.Script.{Script}
+use Rattle.arena.specs.declared.limits.Limits.{Limits}
+use Rattle.arena.specs.declared.limits.Mode.{Mode}
+use Rattle.script.specs.Commands.{texts}
 use Rattle.script.specs.Rows.{limits_row}
 use Rattle.record.specs.declared.record.Line.{Line}
-use Rattle.report.specs.Report.{reported_call_row, call_rows, report_end_row, line_row, report_rows, title_row, seven}
+use Rattle.report.specs.Report.{reported_call_row, call_rows, report_end_row, line_row, rows_of_calls, rows_of_lines, rows_told, title_row, seven}
+use Rattle.report.specs.RowFaults.{AreOfReport}
 use Rattle.report.proofs.CallRows.{call_rows_after}
 use Rattle.texts.specs.Reads.{HasRead, IsAtRow, last_row}
 
@@ -19,6 +22,10 @@ pub standing : {R : Type 0} (remaining : R → Option (List ℕ)) (bytes : List 
     → MatchBool found (IsAtRow remaining bytes before 7 rows) (AreRows bytes before)
 standing remaining bytes before rows true (row, read) = record { read = read; row = row }
 standing remaining bytes before rows false all = all
+
+-- what a row says that was read
+pub row_read : {R : Type 0} (remaining : R → Option (List ℕ)) (bytes : List ℕ) (before : List (List (List ℕ))) (rows : Rows R) (fields : List (Bor (List ℕ))) (row : List (List ℕ)) → IsAtRow remaining bytes before 7 rows → texts fields ≡ last_row rows → texts fields ≡ row → HasRead remaining bytes (before ++ row ∷ []) rows
+row_read remaining bytes before rows fields row here are is = subst (λ r. HasRead remaining bytes (before ++ r ∷ []) rows) (sym are ∙ is) here.read
 
 -- a row of seven fields is its fields one by one
 pub seven_fields : (fields : List (List ℕ)) → length fields ≡ 7 → field_of fields 0 ∷ field_of fields 1 ∷ field_of fields 2 ∷ field_of fields 3 ∷ field_of fields 4 ∷ field_of fields 5 ∷ field_of fields 6 ∷ [] ≡ fields
@@ -45,12 +52,44 @@ line_read before lines line row e =
     (ap (λ fields. map seven (map line_row lines) ++ fields ∷ []) e
     ∙ sym (ap (map seven) (map-append line_row lines (line ∷ [])) ∙ map-append seven (map line_row lines) (line_row line ∷ [])))
 
+-- how many rows there are
+
+call_rows_length : (earlier calls : List Call) → length (map seven (call_rows earlier calls)) ≡ length calls
+unfolding call_rows
+call_rows_length earlier [] = refl
+call_rows_length earlier (call ∷ calls) = ap suc (call_rows_length (call ∷ earlier) calls)
+
+line_rows_length : (lines : List Line) → length (map seven (map line_row lines)) ≡ length lines
+line_rows_length [] = refl
+line_rows_length (line ∷ lines) = ap suc (line_rows_length lines)
+
+-- of the head, of so many calls and of the row behind
+pub calls_counted : (mode : Mode) (limits : Limits) (calls : List Call) (n : ℕ) → n ≡ length calls → suc (length (rows_of_calls mode limits calls)) ≡ 3 + n
+calls_counted mode limits calls n is = omega (arith, call_rows_length [] calls, is)
+
+pub calls_counted_more : (mode : Mode) (limits : Limits) (calls : List Call) (call : Call) (n : ℕ) → n ≡ length calls → length (rows_of_calls mode limits (calls ++ call ∷ [])) ≡ 3 + n
+calls_counted_more mode limits calls call n is = omega (arith, call_rows_length [] (calls ++ call ∷ []), length-append calls (call ∷ []), is)
+
+-- of the head, of calls and of lines
+pub lines_counted : (mode : Mode) (limits : Limits) (calls : List Call) (lines : List Line) (n : ℕ) → n ≡ length lines → length (rows_of_lines mode limits calls lines) ≡ 2 + length calls + n
+lines_counted mode limits calls lines n is = omega (arith, call_rows_length [] calls, line_rows_length lines, length-append (rows_of_calls mode limits calls) (map seven (map line_row lines)), is)
+
+-- and of the row behind
+pub end_counted : (mode : Mode) (limits : Limits) (calls : List Call) (lines : List Line) (row : List (List ℕ)) → length (rows_of_lines mode limits calls lines ++ row ∷ []) ≡ 3 + length calls + length lines
+end_counted mode limits calls lines row = omega (arith, lines_counted mode limits calls lines (length lines) refl, length-append (rows_of_lines mode limits calls lines) (row ∷ []))
+
 -- the rows of a report in their parts
-pub whole_report : (script : Script) (lines : List Line)
-    → (map seven (title_row script.layout.mode ∷ limits_row script.limits ∷ call_rows [] script.calls.items) ++ map seven (map line_row lines)) ++ seven (report_end_row lines) ∷ []
-    ≡ map seven (report_rows script lines)
-whole_report script lines =
-    let head = title_row script.layout.mode ∷ limits_row script.limits ∷ call_rows [] script.calls.items in
+pub whole_report : (mode : Mode) (limits : Limits) (calls : List Call) (lines : List Line)
+    → (map seven (title_row mode ∷ limits_row limits ∷ call_rows [] calls) ++ map seven (map line_row lines)) ++ seven (report_end_row lines) ∷ []
+    ≡ map seven (rows_told mode limits calls lines)
+whole_report mode limits calls lines =
+    let head = title_row mode ∷ limits_row limits ∷ call_rows [] calls in
     append_assoc (map seven head) (map seven (map line_row lines)) (seven (report_end_row lines) ∷ [])
     ∙ ap (λ rows. map seven head ++ rows) (sym (map-append seven (map line_row lines) (report_end_row lines ∷ [])))
     ∙ sym (map-append seven head (map line_row lines ++ report_end_row lines ∷ []))
+
+-- those of any report
+pub rows_in_parts : {rows : List (List (List ℕ))} (r : AreOfReport rows) → rows ≡ seven (title_row r.mode) ∷ seven (limits_row r.limits) ∷ (map seven (call_rows [] r.calls) ++ (map seven (map line_row r.lines) ++ seven (report_end_row r.lines) ∷ []))
+rows_in_parts r =
+    r.are ∙ sym (whole_report r.mode r.limits r.calls r.lines)
+    ∙ append_assoc (map seven (title_row r.mode ∷ limits_row r.limits ∷ call_rows [] r.calls)) (map seven (map line_row r.lines)) (seven (report_end_row r.lines) ∷ [])

@@ -13,7 +13,7 @@ use Rattle.arena.specs.declared.limits.Mode.{Mode}
 use Rattle.report.specs.Report.{report_rows, report_text, title_row, seven}
 use Rattle.texts.specs.Pages.{line_of, rows_text}
 
-no_next : {A : Type 0} (next : Option A) (p : A) → next ≡ None → next ≡ Some p → ⊥
+pub no_next : {A : Type 0} (next : Option A) (p : A) → next ≡ None → next ≡ Some p → ⊥
 no_next None p e f = cc
 no_next (Some q) p e f = cc
 

@@ -1,10 +1,13 @@
 -- How known bytes grow line by line.
-use Rattle.std.proofs.Common.{◌≡◌, ℕ, suc, ◌+◌, ◌<◌, ◌≤◌, arith, IfNone, IfOk, OnErr, OnOk, Result, Ok, Err, List, [], ◌∷◌, ◌++◌, ◌∙◌, ap, append_assoc, append-nil, drop, get_or, length, map, subst, sym, take, Option, Some, None, refl}
+use Rattle.std.proofs.Common.{◌≡◌, ℕ, suc, ◌+◌, ◌<◌, ◌≤◌, arith, IfErr, IsErrAnd, IfNone, IfOk, OnErr, OnOk, Result, Ok, Err, List, [], ◌∷◌, ◌++◌, ◌∙◌, ap, append_assoc, append-nil, drop, get_or, length, map, subst, sym, take, Option, Some, None, refl}
 use Rattle.std.proofs.lemmas.List.{drop_all, length-append, map-append, take-append-le}
 use Rattle.std.proofs.Math.Seq.{drop-cons, take-append-add, take-append_seam}
 use Rattle.std.specs.Io.KnownBytes.{Appends, Keeps}
 use Rattle.std.proofs.KnownBytes.{Appends-trans}
 use Rattle.texts.specs.Pages.{BeginsWith, line_of, rows_text}
+use Rattle.texts.specs.Texts.{IfBad}
+use Rattle.texts.specs.declared.fault.TextFault.{TextFault}
+use Rattle.texts.specs.declared.fault.TextFault.TheVariants.{NoMemory, Read, Bad}
 
 -- known bytes are known when more come behind them
 pub appended : (old new : Option (List ℕ)) (known more : List ℕ) → old ≡ Some known → Appends old new more → new ≡ Some (known ++ more)
@@ -56,6 +59,21 @@ all_out width row_of things k (Some text) out whole past x keeps = keeps ∙ tex
 pub if_ok : {T E : Type 0} {P Q : T → Type 0} (r : Result T E) → ((t : T) → P t → Q t) → IfOk r P → IfOk r Q
 if_ok (Ok t) f p = f t p
 if_ok (Err e) f p = tt
+
+-- what a fault says, and what follows from that
+pub if_err : {T E : Type 0} {P Q : E → Type 0} (r : Result T E) → ((e : E) → P e → Q e) → IfErr r P → IfErr r Q
+if_err (Ok t) f p = tt
+if_err (Err e) f p = f e p
+
+pub if_bad : {C : Type 0} {P Q : ℕ → C → Type 0} (fault : TextFault C) → ((row : ℕ) (cause : C) → P row cause → Q row cause) → IfBad P fault → IfBad Q fault
+if_bad NoMemory f p = tt
+if_bad Read f p = tt
+if_bad (Bad row cause) f p = f row cause p
+
+-- what is so of a fault is so where that fault is told
+pub of_fault : {T E : Type 0} (r : Result T E) (fault : E) (P : E → Type 0) → IsErrAnd r (λ e. e ≡ fault) → P fault → IfErr r P
+of_fault (Ok t) fault P is holds = absurd is
+of_fault (Err e) fault P is holds = rw is holds
 
 -- what a reader that finds nothing says, and what follows from that
 pub if_none : {T : Type 0} {P Q : Type 0} (r : Option T) → (P → Q) → IfNone r P → IfNone r Q

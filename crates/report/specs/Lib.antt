@@ -7,4 +7,5 @@ pub mod Streams
 pub mod Outcome
 pub mod Counts
 pub mod Faults
+pub mod RowFaults
 pub mod Numbered

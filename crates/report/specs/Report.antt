@@ -1,6 +1,7 @@
 -- The text of a report: the rows of its head, of the script's calls,
 -- of the run's lines, and one that counts them.
-use Rattle.std.specs.Prelude.{ℕ, suc, List, [], ◌∷◌, ◌++◌, codes, if◌then◌else◌, decimal, ◌==◌, map, Option, Some, None}
+use Rattle.std.specs.Prelude.{◌≡◌, ⊤, ℕ, suc, List, [], ◌∷◌, ◌++◌, codes, if◌then◌else◌, decimal, ◌==◌, map, Option, Some, None, slice_index_or}
+use Rattle.arena.specs.declared.limits.Limits.{Limits}
 use Rattle.arena.specs.declared.limits.Mode.{Mode}
 use Rattle.arena.specs.declared.limits.Mode.TheVariants.{Tree, Records}
 use Rattle.script.specs.Kinds.{kind_text}
@@ -30,7 +31,15 @@ mode_text Records = codes "records"
 abbrev pub title_row : Mode → List (List ℕ)
 title_row mode = codes "report" ∷ decimal 1 ∷ mode_text mode ∷ []
 
+-- a row's first field, which says what it is
+abbrev pub name_of : List (List ℕ) → List ℕ
+name_of row = slice_index_or row 0 []
+
 -- Calls
+
+-- the row is named as one of a call
+abbrev pub IsCallRow : List (List ℕ) → Type 0
+IsCallRow row = name_of row ≡ codes "call"
 
 -- how many of the calls are this client's
 abbrev pub calls_by : ℕ → List Call → ℕ
@@ -59,6 +68,11 @@ line_row (Step (Made number row)) = codes "step" ∷ decimal number ∷ decimal 
 line_row (Step (Idle number client)) = codes "step" ∷ decimal number ∷ decimal client.0 ∷ codes "idle" ∷ []
 line_row (Log entry) = codes "log" ∷ decimal entry.place ∷ decimal entry.step ∷ (codes "s" ++ decimal entry.scx.0) ∷ decimal entry.client.0 ∷ decimal entry.call ∷ []
 line_row (Reply reply) = codes "reply" ∷ decimal reply.client.0 ∷ decimal reply.call ∷ decimal reply.begin ∷ decimal reply.end ∷ moment_text reply.moment ∷ answer_text reply.answer ∷ []
+
+-- the first row behind the calls, of these lines or else this one, is not named as a call's
+abbrev pub BeginsBehindCalls : List Line → List (List ℕ) → Type 0
+BeginsBehindCalls [] row = ¬ (IsCallRow row)
+BeginsBehindCalls (line ∷ lines) row = ⊤
 
 -- The end
 
@@ -93,9 +107,25 @@ report_end_row lines = counts_row (steps_in lines) (replies_in lines) (entries_i
 
 -- The whole
 
--- all rows of a report, in order
+-- all rows of a report, in order: of this mode, within these limits, of these calls and lines
+abbrev pub rows_told : Mode → Limits → List Call → List Line → List (List (List ℕ))
+rows_told mode limits calls lines = title_row mode ∷ limits_row limits ∷ (call_rows [] calls ++ (map line_row lines ++ report_end_row lines ∷ []))
+
+-- the first two of them
+abbrev pub head_rows : Mode → Limits → List (List (List ℕ))
+head_rows mode limits = map seven (title_row mode ∷ limits_row limits ∷ [])
+
+-- those before the lines
+abbrev pub rows_of_calls : Mode → Limits → List Call → List (List (List ℕ))
+rows_of_calls mode limits calls = map seven (title_row mode ∷ limits_row limits ∷ call_rows [] calls)
+
+-- those before the end
+abbrev pub rows_of_lines : Mode → Limits → List Call → List Line → List (List (List ℕ))
+rows_of_lines mode limits calls lines = rows_of_calls mode limits calls ++ map seven (map line_row lines)
+
+-- the rows of the report of a script and of its run's lines
 abbrev pub report_rows : Script → List Line → List (List (List ℕ))
-report_rows script lines = title_row script.layout.mode ∷ limits_row script.limits ∷ (call_rows [] script.calls.items ++ (map line_row lines ++ report_end_row lines ∷ []))
+report_rows script lines = rows_told script.layout.mode script.limits script.calls.items lines
 
 -- the text of a report: its rows, one a line
 abbrev pub report_text : Script → List Line → List ℕ

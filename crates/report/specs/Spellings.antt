@@ -1,6 +1,6 @@
 -- What a report can spell: its numbers fit the words that keep them.
 use Rattle.std.specs.Prelude.{ℕ, ◌≡◌, ◌≢◌, ◌<◌, ◌^◌, ⊤, List, All, Some, None, IfSome}
-use Rattle.arena.specs.declared.layout.Layout.{Layout}
+use Rattle.arena.specs.declared.limits.Mode.{Mode}
 use Rattle.script.specs.Commands.{IsCommand, mode_of}
 use Rattle.script.specs.declared.call.Call.{Call}
 use Rattle.ordered_map.specs.declared.reply.Reply.{Reply}
@@ -24,9 +24,9 @@ HasNoSpace text = All (λ b. b ≢ 32) text
 abbrev pub IsWordPair : ℕ × ℕ → Type 0
 IsWordPair p = (p.0 < 2 ^ 64) × (p.1 < 2 ^ 64)
 
--- a call that a report of this layout may have
-abbrev pub IsReported : Layout → Call → Type 0
-IsReported layout call = (call.client.0 < layout.passes) × (mode_of call.command ≡ layout.mode) × IsCommand call.command
+-- a call that a report of this mode and of so many clients may have
+abbrev pub IsReported : Mode → ℕ → Call → Type 0
+IsReported mode passes call = (call.client.0 < passes) × (mode_of call.command ≡ mode) × IsCommand call.command
 
 -- Replies and answers
 

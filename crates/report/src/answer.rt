@@ -86,6 +86,7 @@ pub fn answer_text(alloc: Global, answer: &Answer) -> Result<String, AllocError>
 /// a value. The only error is want of memory.
 pub fn answer_of(alloc: Global, text: &str) -> Result<Option<Answer>, AllocError>
     ensures some { IfOk result (λ o. IfSome o (λ answer. text.now ≡ answer_text answer)) }
+    ensures spelled { IfOk result (λ o. IfSome o IsSpelledAnswer) }
     ensures none { IfOk result (λ o. IfNone o ((answer : AnswerOf) → IsSpelledAnswer answer → text.now ≢ answer_text answer)) }
 {
     match plain_answer_of(text) {
@@ -97,6 +98,7 @@ pub fn answer_of(alloc: Global, text: &str) -> Result<Option<Answer>, AllocError
 /// The answer of many pairs that a text spells.
 fn pairs_answer_of(alloc: Global, text: &str) -> Result<Option<Answer>, AllocError>
     ensures some { IfOk result (λ o. IfSome o (λ answer. text.now ≡ answer_text answer)) }
+    ensures spelled { IfOk result (λ o. IfSome o IsSpelledAnswer) }
     ensures none { IfOk result (λ o. IfNone o ((answer : AnswerOf) → IsSpelledAnswer answer → TellsPairs answer →
         text.now ≢ answer_text answer)) }
 {
@@ -113,6 +115,7 @@ fn pairs_answer_of(alloc: Global, text: &str) -> Result<Option<Answer>, AllocErr
 /// The answer that a text spells which does not tell many pairs.
 fn plain_answer_of(text: &str) -> Option<Answer>
     ensures some { IfSome result (λ answer. text.now ≡ answer_text answer) }
+    ensures spelled { IfSome result IsSpelledAnswer }
     ensures none { IfNone result ((answer : AnswerOf) → IsSpelledAnswer answer → text.now ≡ answer_text answer → TellsPairs answer) }
 {
     match text {
@@ -131,6 +134,7 @@ fn plain_answer_of(text: &str) -> Option<Answer>
 /// The answer of this name that tells this.
 fn telling_answer_of(name: &str, told: &str) -> Option<Answer>
     ensures some { IfSome result (λ answer. name.now ++ (codes " " ++ told.now) ≡ answer_text answer) }
+    ensures spelled { IfSome result IsSpelledAnswer }
     ensures none { HasNoSpace name.now → IfNone result ((answer : AnswerOf) → IsTellingAnswer answer →
         name.now ++ (codes " " ++ told.now) ≢ answer_text answer) }
 {

@@ -1,6 +1,7 @@
 //! The forms of answers that have one text.
 ghost use Rattle.std.specs.Prelude.{◌≡◌};
-ghost use Rattle.report.specs.Answers.{IsInForm, answer_text, fitted_to, cells_answer, map_answer, reply_to};
+ghost use Rattle.report.specs.Answers.{IsInForm, answer_text, cells_answer, fitted_to, map_answer, reply_text, reply_to};
+ghost use Rattle.report.specs.Spellings.{IsSpelledAnswer, IsSpelledReply};
 
 use arena::Full;
 use ordered_map::{Reply, Request};
@@ -12,6 +13,7 @@ pub fn fitted_to(command: Option<Command>, answer: Answer) -> Answer
     ensures form { result ≡ fitted_to command answer }
     ensures fits { IsInForm command result }
     ensures text { answer_text result ≡ answer_text answer }
+    ensures spelled { IsSpelledAnswer answer → IsSpelledAnswer result }
 {
     match command {
         Some(Command::Map(request)) => map_answer(&request, answer),
@@ -22,7 +24,9 @@ pub fn fitted_to(command: Option<Command>, answer: Answer) -> Answer
 
 /// The answer of the map with the same text that answers a request, if there is one.
 fn map_answer(request: &Request<u64, u64>, answer: Answer) -> Answer
-    ensures { result ≡ map_answer request.now answer }
+    ensures form { result ≡ map_answer request.now answer }
+    ensures text { answer_text result ≡ answer_text answer }
+    ensures spelled { IsSpelledAnswer answer → IsSpelledAnswer result }
 {
     match answer {
         Answer::Full { what, left } => Answer::Map(Reply::Full(Full { what, left })),
@@ -33,7 +37,9 @@ fn map_answer(request: &Request<u64, u64>, answer: Answer) -> Answer
 
 /// The answer of cells with the same text, if there is one.
 fn cells_answer(answer: Answer) -> Answer
-    ensures { result ≡ cells_answer answer }
+    ensures form { result ≡ cells_answer answer }
+    ensures text { answer_text result ≡ answer_text answer }
+    ensures spelled { IsSpelledAnswer answer → IsSpelledAnswer result }
 {
     match answer {
         Answer::Map(Reply::Full(full)) => Answer::Full {
@@ -46,7 +52,9 @@ fn cells_answer(answer: Answer) -> Answer
 
 /// The reply with the same text that answers a request.
 fn reply_to(request: &Request<u64, u64>, reply: Reply<u64, u64>) -> Reply<u64, u64>
-    ensures { result ≡ reply_to request.now reply }
+    ensures form { result ≡ reply_to request.now reply }
+    ensures text { reply_text result ≡ reply_text reply }
+    ensures spelled { IsSpelledReply reply → IsSpelledReply result }
 {
     match request {
         Request::Successor { key: _ } | Request::PopFirst => match reply {

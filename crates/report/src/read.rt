@@ -1,13 +1,17 @@
 //! The whole report, read back.
-ghost use Rattle.std.specs.Prelude.{◌≡◌, ◌≢◌, ◌<◌, ◌-◌, ◌^◌, List, [], ◌∷◌, ◌++◌, ℕ, All, IfOk, IsErrOf, OnOk, Some, map, reverse};
-ghost use Rattle.script.specs.Rows.{limits_row};
+ghost use Rattle.std.specs.Prelude.{◌≡◌, ◌≢◌, ◌<◌, ◌+◌, ◌-◌, ◌^◌, List, [], ◌∷◌, ◌++◌, ℕ, All, IfErr, IfOk, IsErrOf, OnOk, Some, codes, length, map, reverse};
+ghost use Rattle.arena.specs.declared.limits.Limits.{Limits};
+ghost use Rattle.arena.specs.declared.limits.Mode.{Mode};
+ghost use Rattle.script.specs.declared.call.Call.{Call};
 ghost use Rattle.script.specs.declared.script.Script.{Script};
 ghost use Rattle.record.specs.declared.record.Line.{Line};
 ghost use Rattle.report.specs.Answers.{HasForm};
 ghost use Rattle.report.specs.Numbered.{AreNumbered};
-ghost use Rattle.texts.specs.Reads.{HasRead, IsAtRow};
-ghost use Rattle.texts.specs.Texts.{AreRows};
-ghost use Rattle.report.specs.Report.{call_rows, report_end_row, line_row, report_rows, report_text, title_row, seven};
+ghost use Rattle.texts.specs.Reads.{HasRead, IsAtRow, last_row};
+ghost use Rattle.texts.specs.Texts.{AreRows, IfBad};
+ghost use Rattle.report.specs.Report.{BeginsBehindCalls, IsCallRow, name_of, report_end_row, report_rows, report_text, rows_of_calls, rows_of_lines, seven};
+ghost use Rattle.report.specs.RowFaults.{AreAdmitted, IfRefused, IsFirstBadRow};
+ghost use Rattle.report.specs.Spellings.{IsReported, IsSpelledLine};
 
 use crate::fault::{NotLawful, ReportFault, RowFault};
 use crate::read_call::calls_of;
@@ -34,6 +38,9 @@ pub fn read_record<R: Read>(alloc: Global, from: &mut Metered<R>) -> Result<Reco
     ensures calls { IfOk result (λ told. AreNumbered told.script.layout.passes (reverse told.lines.items)) }
     ensures forms { IfOk result (λ told. All (HasForm told.script.layout.passes told.script.calls.items) told.lines.items) }
 
+    // A text that is refused is no report; the row that is named is the first that is as in none.
+    ensures refused { (bytes : List ℕ) → R.remaining from.old.inner ≡ Some bytes → IfErr result (IfRefused (IsFirstBadRow bytes)) }
+
     // Whether a read failed is told by the failure count, as long as it can rise.
     ensures ok { OnOk result (from.new.failures ≡ from.old.failures) }
     ensures read { IsErrOf result ReportFault.Read → from.old.failures < 2 ^ 64 - 1 → from.new.failures ≢ from.old.failures }
@@ -51,6 +58,7 @@ fn record_of<R: Read>(alloc: Global, from: &mut Metered<R>) -> Result<Record, Ro
         IfOk result (λ told. report_text told.script told.lines.items ≡ report_text script lines) }
     ensures calls { IfOk result (λ told. AreNumbered told.script.layout.passes (reverse told.lines.items)) }
     ensures forms { IfOk result (λ told. All (HasForm told.script.layout.passes told.script.calls.items) told.lines.items) }
+    ensures fault { (bytes : List ℕ) → R.remaining from.old.inner ≡ Some bytes → IfErr result (IfBad (λ row _. IsFirstBadRow bytes row)) }
 {
     let mut rows = Rows::new(alloc, from);
     let script = script_of(alloc, &mut rows)?;
@@ -66,9 +74,14 @@ fn record_of<R: Read>(alloc: Global, from: &mut Metered<R>) -> Result<Record, Ro
 
 /// Reads the first two rows and the calls, and goes on to the row behind them.
 fn script_of<R: Read + Drop>(alloc: Global, rows: &mut Rows<R>) -> Result<Script, RowFault>
-    ensures { (bytes : List ℕ) → HasRead R.remaining bytes [] rows.old →
+    ensures rows { (bytes : List ℕ) → HasRead R.remaining bytes [] rows.old →
         IfOk result (λ script. IsAtRow R.remaining bytes
-        (map seven (title_row script.layout.mode ∷ limits_row script.limits ∷ call_rows [] script.calls.items)) 7 rows.new) }
+        (rows_of_calls script.layout.mode script.limits script.calls.items) 7 rows.new) }
+    ensures reported { IfOk result (λ script. All (IsReported script.layout.mode script.layout.passes) script.calls.items) }
+    ensures behind { (bytes : List ℕ) → HasRead R.remaining bytes [] rows.old → OnOk result (¬ (IsCallRow (last_row rows.new))) }
+    ensures number { rows.old.number ≡ 0 → IfOk result (λ script. rows.new.number ≡ 3 + length script.calls.items) }
+    ensures fault { (bytes : List ℕ) → HasRead R.remaining bytes [] rows.old → rows.old.number ≡ 0 →
+        IfErr result (IfBad (λ row _. IsFirstBadRow bytes row)) }
 {
     next_row(rows)?;
     let Some(mode) = mode_of(row_fields(rows)) else {
@@ -89,10 +102,17 @@ fn script_of<R: Read + Drop>(alloc: Global, rows: &mut Rows<R>) -> Result<Script
 
 /// Tests the end row, and that no row follows.
 fn end_of<R: Read + Drop>(rows: &mut Rows<R>, lines: &[Line]) -> Result<(), RowFault>
-    ensures { (bytes : List ℕ) (before : List (List (List ℕ))) → IsAtRow R.remaining bytes before 7 rows.old →
+    ensures rows { (bytes : List ℕ) (before : List (List (List ℕ))) → IsAtRow R.remaining bytes before 7 rows.old →
         OnOk result (AreRows bytes (before ++ seven (report_end_row lines.now) ∷ [])) }
+    ensures fault { (bytes : List ℕ) (mode : Mode) (limits : Limits) (calls : List Call) → AreAdmitted mode limits calls → All IsSpelledLine lines.now →
+        IsAtRow R.remaining bytes (rows_of_lines mode limits calls lines.now) 7 rows.old → BeginsBehindCalls lines.now (last_row rows.old) →
+        name_of (last_row rows.old) ≡ codes "end" → rows.old.number ≡ 3 + length calls + length lines.now →
+        length calls + length lines.now < 2 ^ 64 - 5 → IfErr result (IfBad (λ row _. IsFirstBadRow bytes row)) }
 {
-    if !is_end_of(row_fields(rows), lines) || advance(rows)? {
+    if !is_end_of(row_fields(rows), lines) {
+        return Err(rows.fault(NotLawful));
+    }
+    if advance(rows)? {
         return Err(rows.fault(NotLawful));
     }
     Ok(())

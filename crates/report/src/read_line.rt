@@ -1,5 +1,7 @@
 //! The lines of a run, as rows say them.
-ghost use Rattle.std.specs.Prelude.{◌≡◌, ◌≢◌, ◌<◌, ◌-◌, ◌^◌, List, [], ◌∷◌, ◌++◌, ℕ, All, Option, slice_index_or, IfNone, IfOk, IfSome, MatchOption, codes, decimal, length, map, reverse};
+ghost use Rattle.std.specs.Prelude.{◌≡◌, ◌≢◌, ◌<◌, ◌≤◌, ◌+◌, ◌-◌, ◌^◌, List, [], ◌∷◌, ◌++◌, ℕ, All, Option, slice_index_or, IfErr, IfNone, IfOk, IfSome, MatchOption, OnOk, codes, decimal, length, map, reverse, vec_len};
+ghost use Rattle.arena.specs.declared.limits.Limits.{Limits};
+ghost use Rattle.arena.specs.declared.limits.Mode.{Mode};
 ghost use Rattle.arena.specs.declared.step.Row.{Row as StepRow};
 ghost use Rattle.record.specs.declared.record.Entry.{Entry as EntryOf};
 ghost use Rattle.record.specs.declared.record.Finished.{Finished as FinishedOf};
@@ -13,8 +15,10 @@ ghost use Rattle.script.specs.Commands.{texts};
 ghost use Rattle.script.specs.declared.call.Call.{Call as CallOf};
 ghost use Rattle.texts.specs.Reads.{IsAtRow, last_row};
 ghost use Rattle.report.specs.Answers.{HasForm, answer_text};
-ghost use Rattle.report.specs.Report.{line_row, moment_text, seven};
-ghost use Rattle.report.specs.Spellings.{IsReplyLine, IsSpelledEntry, IsSpelledFinished, IsSpelledLine, IsSpelledStep, IsSpelledTurn};
+ghost use Rattle.texts.specs.Texts.{IfBad};
+ghost use Rattle.report.specs.Report.{BeginsBehindCalls, IsCallRow, line_row, moment_text, name_of, rows_of_calls, seven};
+ghost use Rattle.report.specs.RowFaults.{AreAdmitted, IsFirstBadRow};
+ghost use Rattle.report.specs.Spellings.{IsReplyLine, IsSpelledAnswer, IsSpelledEntry, IsSpelledFinished, IsSpelledLine, IsSpelledStep, IsSpelledTurn};
 
 use crate::answer::answer_of;
 use crate::commands::Commands;
@@ -40,8 +44,18 @@ pub fn lines_of<R: Read + Drop>(
 ) -> Result<Vec<Line>, RowFault>
     ensures calls { IfOk result (λ lines. AreNumbered passes (reverse lines.items)) }
     ensures forms { IfOk result (λ lines. All (HasForm passes calls.now) lines.items) }
+    ensures spelled { IfOk result (λ lines. All IsSpelledLine lines.items) }
+    ensures number { rows.old.number ≡ 3 + length calls.now → length calls.now ≤ 65536 →
+        IfOk result (λ lines. rows.new.number ≡ 3 + length calls.now + vec_len lines) }
+    ensures behind { (bytes : List ℕ) (before : List (List (List ℕ))) → IsAtRow R.remaining bytes before 7 rows.old → ¬ (IsCallRow (last_row rows.old)) →
+        IfOk result (λ lines. BeginsBehindCalls lines.items (last_row rows.new)) }
+    ensures ends { (bytes : List ℕ) (before : List (List (List ℕ))) → IsAtRow R.remaining bytes before 7 rows.old →
+        OnOk result (name_of (last_row rows.new) ≡ codes "end") }
     ensures rows { (bytes : List ℕ) (before : List (List (List ℕ))) → IsAtRow R.remaining bytes before 7 rows.old →
         IfOk result (λ lines. IsAtRow R.remaining bytes (before ++ map seven (map line_row lines.items)) 7 rows.new) }
+    ensures fault { (bytes : List ℕ) (mode : Mode) (limits : Limits) → AreAdmitted mode limits calls.now →
+        IsAtRow R.remaining bytes (rows_of_calls mode limits calls.now) 7 rows.old → ¬ (IsCallRow (last_row rows.old)) →
+        rows.old.number ≡ 3 + length calls.now → IfErr result (IfBad (λ row _. IsFirstBadRow bytes row)) }
 {
     let Ok(commands) = Commands::of(alloc, calls, passes) else {
         return Err(RowFault::NoMemory);
@@ -69,6 +83,9 @@ fn next_line<R: Read + Drop>(
     ensures form { (calls : List CallOf) → HasCommands commands.now passes calls → IfOk result (HasForm passes calls) }
     ensures counted { (lines : List Line) → HasCountedReplies replies.old passes lines → length lines < 2 ^ 64 - 1 →
         IfOk result (λ line. HasCountedReplies replies.new passes (line ∷ lines)) }
+    ensures spelled { IfOk result IsSpelledLine }
+    ensures none { length (last_row rows.now) ≡ 7 → IfErr result (IfBad (λ row _. (row ≡ rows.now.number)
+        × ((line : Line) → IsSpelledLine line → last_row rows.now ≢ seven (line_row line)))) }
 {
     let Ok(line) = line_of(alloc, row_fields(rows), commands, replies) else {
         return Err(RowFault::NoMemory);
@@ -95,6 +112,7 @@ fn line_of(
     ensures row { IfOk result (λ o. IfSome o (λ line. texts fields.entry ≡ seven (line_row line))) }
     ensures call { IfOk result (λ o. IfSome o (IsOfNextCall (calls_counted replies.now))) }
     ensures form { (passes : ℕ) (calls : List CallOf) → HasCommands commands.now passes calls → IfOk result (λ o. IfSome o (HasForm passes calls)) }
+    ensures spelled { IfOk result (λ o. IfSome o IsSpelledLine) }
     ensures none { IfOk result (λ o. IfNone o ((line : Line) → IsSpelledLine line → texts fields.entry ≢ seven (line_row line))) }
 {
     if fields[0] != "reply" {
@@ -111,6 +129,7 @@ fn turn_or_entry_of(fields: [&str; 7], replies: &Counts) -> Option<Line>
     ensures row { IfSome result (λ line. texts fields.entry ≡ seven (line_row line)) }
     ensures call { IfSome result (IsOfNextCall (calls_counted replies.now)) }
     ensures form { (passes : ℕ) (calls : List CallOf) → IfSome result (HasForm passes calls) }
+    ensures spelled { IfSome result IsSpelledLine }
     ensures none { IfNone result ((line : Line) → IsSpelledLine line → texts fields.entry ≡ seven (line_row line) → IsReplyLine line) }
 {
     match fields[0] {
@@ -123,6 +142,7 @@ fn turn_or_entry_of(fields: [&str; 7], replies: &Counts) -> Option<Line>
 fn turn_of(fields: [&str; 7], replies: &Counts) -> Option<Row>
     ensures row { IfSome result (λ row. texts fields.entry ≡ seven (line_row (StepLine row))) }
     ensures call { IfSome result (λ row. IsOfNextCall (calls_counted replies.now) (StepLine row)) }
+    ensures spelled { IfSome result IsSpelledTurn }
     ensures none { IfNone result ((row : RowOf) → IsSpelledTurn row → texts fields.entry ≢ seven (line_row (StepLine row))) }
 {
     match fields[3] {
@@ -134,6 +154,7 @@ fn turn_of(fields: [&str; 7], replies: &Counts) -> Option<Row>
 fn idle_of(fields: [&str; 7]) -> Option<Row>
     ensures row { IfSome result (λ row. texts fields.entry ≡ seven (line_row (StepLine row))) }
     ensures call { (calls : ℕ → ℕ) → IfSome result (λ row. IsOfNextCall calls (StepLine row)) }
+    ensures spelled { IfSome result IsSpelledTurn }
     ensures none { IfNone result ((number client : ℕ) → number < 2 ^ 64 → client < 2 ^ 32 →
         texts fields.entry ≢ seven (codes "step" ∷ decimal number ∷ decimal client ∷ codes "idle" ∷ [])) }
 {
@@ -149,6 +170,7 @@ fn idle_of(fields: [&str; 7]) -> Option<Row>
 fn step_of(fields: [&str; 7], replies: &Counts) -> Option<Row>
     ensures row { IfSome result (λ row. texts fields.entry ≡ seven (line_row (StepLine row))) }
     ensures call { IfSome result (λ row. IsOfNextCall (calls_counted replies.now) (StepLine row)) }
+    ensures spelled { IfSome result IsSpelledTurn }
     ensures none { IfNone result ((number : ℕ) (row : StepRow) → number < 2 ^ 64 → IsSpelledStep row →
         texts fields.entry ≢ seven (line_row (StepLine (Made number row)))) }
 {
@@ -169,8 +191,9 @@ fn step_of(fields: [&str; 7], replies: &Counts) -> Option<Row>
 }
 
 fn entry_of(fields: [&str; 7]) -> Option<Entry>
-    ensures { MatchOption result ((entry : EntryOf) → IsSpelledEntry entry → texts fields.entry ≢ seven (line_row (Log entry)))
-        (λ entry. texts fields.entry ≡ seven (line_row (Log entry))) }
+    ensures row { IfSome result (λ entry. texts fields.entry ≡ seven (line_row (Log entry))) }
+    ensures spelled { IfSome result IsSpelledEntry }
+    ensures none { IfNone result ((entry : EntryOf) → IsSpelledEntry entry → texts fields.entry ≢ seven (line_row (Log entry))) }
 {
     let ["log", place, step, scx, client, call, ""] = fields else {
         return None;
@@ -186,10 +209,12 @@ fn entry_of(fields: [&str; 7]) -> Option<Entry>
 
 /// The reply with this answer, which the last field spells, in the form that answers its call.
 fn reply_of(fields: [&str; 7], answer: Answer, commands: &Commands) -> Option<Line>
-    requires { slice_index_or (texts fields) 6 [] ≡ answer_text answer }
+    requires text { slice_index_or (texts fields) 6 [] ≡ answer_text answer }
+    requires spelled { IsSpelledAnswer answer }
     ensures row { IfSome result (λ line. texts fields.entry ≡ seven (line_row line)) }
     ensures call { (calls : ℕ → ℕ) → IfSome result (IsOfNextCall calls) }
     ensures form { (passes : ℕ) (calls : List CallOf) → HasCommands commands.now passes calls → IfSome result (HasForm passes calls) }
+    ensures spelled { IfSome result IsSpelledLine }
     ensures none { IfNone result ((reply : FinishedOf) → IsSpelledFinished reply → texts fields.entry ≢ seven (line_row (ReplyLine reply))) }
 {
     let ["reply", client, call, begin, end, moment, _] = fields else {

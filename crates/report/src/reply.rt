@@ -3,7 +3,7 @@ ghost use Rattle.std.specs.Prelude.{◌≡◌, ◌≢◌, ◌≤◌, ◌<◌, �
 ghost use Rattle.arena.specs.declared.fault.Resource.{Resource as ResourceOf};
 ghost use Rattle.ordered_map.specs.declared.reply.Reply.{Reply as ReplyOf};
 ghost use Rattle.report.specs.Answers.{both_text, full_text, reply_text, spaced_pairs, rest_text};
-ghost use Rattle.report.specs.Spellings.{HasNoSpace, IsTelling, IsWordPair};
+ghost use Rattle.report.specs.Spellings.{HasNoSpace, IsSpelledReply, IsTelling, IsWordPair};
 ghost use Rattle.texts.specs.Sheets.{IsPlain, sheet_room, sheet_text};
 
 use crate::name::blame_of;
@@ -126,6 +126,7 @@ pub(crate) fn pairs_of(
     told: Option<&str>,
 ) -> Result<Option<Reply<u64, u64>>, AllocError>
     ensures some { IfOk result (λ o. IfSome o (λ reply. codes "pairs" ++ rest_text told.entry ≡ reply_text reply)) }
+    ensures spelled { IfOk result (λ o. IfSome o IsSpelledReply) }
     ensures none { IfOk result (λ o. IfNone o ((pairs : List (ℕ × ℕ)) → All IsWordPair pairs → rest_text told.entry ≢ spaced_pairs pairs)) }
 {
     let mut pairs = Vec::new(alloc);
@@ -143,6 +144,7 @@ pub(crate) fn pairs_of(
 /// The pair at the head of a text, and what stands behind the next space.
 fn first_pair_of(text: &str) -> Option<((u64, u64), Option<&str>)>
     ensures some { IfSome result (λ r. text.now ≡ decimal r.0.0 ++ (codes " " ++ (decimal r.0.1 ++ rest_text r.1))) }
+    ensures fits { IfSome result (λ r. IsWordPair r.0) }
     ensures all { (pair : ℕ × ℕ) (more : List (ℕ × ℕ)) → IsWordPair pair →
         text.now ≡ decimal pair.0 ++ (codes " " ++ (decimal pair.1 ++ spaced_pairs more)) →
         MatchOption result ⊥ (λ r. rest_text r.1 ≡ spaced_pairs more) }
@@ -166,6 +168,7 @@ pub(crate) fn first_word_of(text: &str) -> (&str, Option<&str>)
 /// The reply of this name that tells this, if it is not of many pairs.
 pub(crate) fn telling_reply_of(name: &str, told: &str) -> Option<Reply<u64, u64>>
     ensures some { IfSome result (λ reply. name.now ++ (codes " " ++ told.now) ≡ reply_text reply) }
+    ensures spelled { IfSome result IsSpelledReply }
     ensures none { HasNoSpace name.now → IfNone result ((reply : ReplyOf ℕ ℕ) → IsTelling reply →
         name.now ++ (codes " " ++ told.now) ≢ reply_text reply) }
 {

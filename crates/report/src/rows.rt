@@ -1,10 +1,11 @@
 //! The rows of a report, one at a time.
-ghost use Rattle.std.specs.Prelude.{◌≡◌, ◌++◌, List, ℕ, IfOk, MatchBool, OnOk, length};
+ghost use Rattle.std.specs.Prelude.{◌≡◌, ◌<◌, ◌+◌, ◌-◌, ◌^◌, ◌++◌, List, ℕ, IfErr, IfOk, MatchBool, OnOk, length, min};
 ghost use Rattle.csv.specs.Records.{fields_of};
 ghost use Rattle.script.specs.Commands.{texts};
 ghost use Rattle.texts.specs.Fields.{field_of};
 ghost use Rattle.texts.specs.Reads.{HasRead, IsAtRow, last_row};
-ghost use Rattle.texts.specs.Texts.{AreRows};
+ghost use Rattle.texts.specs.Texts.{AreRows, IfBad};
+ghost use Rattle.report.specs.RowFaults.{AreOfReport, BeginReport, IsFirstBadRow};
 
 use crate::fault::{NotLawful, RowFault};
 use csv::StringRecord;
@@ -19,16 +20,24 @@ pub(crate) type Page = texts::Page<WIDTH>;
 
 /// Goes on to the next row, or to the place behind the last row, where it answers false.
 pub fn advance<R: Read + Drop>(rows: &mut Rows<R>) -> Result<bool, RowFault>
-    ensures { (bytes : List ℕ) (so_far : List (List (List ℕ))) → HasRead R.remaining bytes so_far rows.old →
+    ensures number { rows.new.number ≡ min (rows.old.number + 1) (2 ^ 64 - 1) }
+    ensures row { (bytes : List ℕ) (so_far : List (List (List ℕ))) → HasRead R.remaining bytes so_far rows.old →
         IfOk result (λ found. MatchBool found (IsAtRow R.remaining bytes so_far 7 rows.new) (AreRows bytes so_far)) }
+    ensures fault { (bytes : List ℕ) (so_far : List (List (List ℕ))) → HasRead R.remaining bytes so_far rows.old →
+        rows.old.number ≡ length so_far → length so_far < 2 ^ 64 - 1 → BeginReport so_far →
+        IfErr result (IfBad (λ row _. IsFirstBadRow bytes row)) }
 {
     rows.advance(WIDTH)
 }
 
 /// Goes on to the next row, which has to be there.
 pub fn next_row<R: Read + Drop>(rows: &mut Rows<R>) -> Result<(), RowFault>
-    ensures { (bytes : List ℕ) (so_far : List (List (List ℕ))) → HasRead R.remaining bytes so_far rows.old →
+    ensures number { rows.new.number ≡ min (rows.old.number + 1) (2 ^ 64 - 1) }
+    ensures row { (bytes : List ℕ) (so_far : List (List (List ℕ))) → HasRead R.remaining bytes so_far rows.old →
         OnOk result (IsAtRow R.remaining bytes so_far 7 rows.new) }
+    ensures fault { (bytes : List ℕ) (so_far : List (List (List ℕ))) → HasRead R.remaining bytes so_far rows.old →
+        rows.old.number ≡ length so_far → length so_far < 2 ^ 64 - 1 → BeginReport so_far → ¬ (AreOfReport so_far) →
+        IfErr result (IfBad (λ row _. IsFirstBadRow bytes row)) }
 {
     if advance(rows)? {
         Ok(())

@@ -1,7 +1,10 @@
-use Rattle.std.proofs.Common.{[], ◌∷◌, ◌++◌, ◌∙◌, ap, map, subst}
+use Rattle.std.proofs.Common.{ℕ, All, [], ◌∷◌, ◌++◌, ◌∙◌, ap, arith, length, map, rules, subst}
 use Rattle.texts.specs.Texts.{AreRows}
-use Rattle.script.specs.Rows.{limits_row}
-use Rattle.report.specs.Report.{call_rows, report_end_row, line_row, report_text, title_row, seven}
+use Rattle.texts.proofs.Lemmas.{passed_on}
+use Rattle.script.specs.declared.script.Script.{Script}
+use Rattle.report.specs.Report.{line_row, report_end_row, report_text, rows_of_calls, seven}
+use Rattle.report.specs.RowFaults.{AreAdmitted}
+use Rattle.report.specs.Spellings.{IsReported}
 use Rattle.report.proofs.Reading.{whole_report}
 use Rattle.report.proofs.RoundTrip.{same_report}
 use Rattle.report.proofs.read.record_of.Goals as goal
@@ -10,12 +13,46 @@ pub returns-clause-rows : goal.returns-clause-rows
 returns-clause-rows g c = λ bytes known.
     let script = c.in_ok-script.script in
     let lines = c.in_ok-lines.lines.items in
-    let head = map seven (title_row script.layout.mode ∷ limits_row script.limits ∷ call_rows [] script.calls.items) in
-    let read = c.in_ok-lines.ensures.rows bytes head (c.in_ok-script.ensures bytes (c.new-rows.ensures.none bytes known)) in
+    let head = rows_of_calls script.layout.mode script.limits script.calls.items in
+    let read = c.in_ok-lines.ensures.rows bytes head (c.in_ok-script.ensures.rows bytes (c.new-rows.ensures.none bytes known)) in
     subst (λ rows. AreRows bytes rows)
-    (ap (λ all. (head ++ map seven (map line_row lines)) ++ seven (report_end_row all) ∷ []) c.as_slice-2.ensures.value ∙ whole_report script lines)
-    (c.in_ok-end_of.ensures bytes (head ++ map seven (map line_row lines)) read)
+    (ap (λ all. (head ++ map seven (map line_row lines)) ++ seven (report_end_row all) ∷ []) c.as_slice-2.ensures.value ∙ whole_report script.layout.mode script.limits script.calls.items lines)
+    (c.in_ok-end_of.ensures.rows bytes (head ++ map seven (map line_row lines)) read)
 
 pub returns-clause-again : goal.returns-clause-again
 returns-clause-again g c = λ script lines known.
     same_report script c.in_ok-script.script lines c.in_ok-lines.lines.items (returns-clause-rows g c (report_text script lines) known)
+
+-- what a script says may stand in a report
+admitted : (script : Script) → All (IsReported script.layout.mode script.layout.passes) script.calls.items → AreAdmitted script.layout.mode script.limits script.calls.items
+admitted script reported =
+    record { accepted = script.accepted; few = omega (arith, script.few, script.calls.ok.0); reported = subst (λ (n : ℕ). All (IsReported script.layout.mode n) script.calls.items) script.of_limits.passes reported }
+
+pub returns-in_err-script-clause-fault : goal.returns-in_err-script-clause-fault
+returns-in_err-script-clause-fault g c = λ bytes known.
+    passed_on c.script_of.result c.from_residual.result c.in_err-script.field-0.0 c.in_err-script.was (search rules) (λ row cause why. why)
+    (c.script_of.ensures.fault bytes (c.new-rows.ensures.none bytes known) c.new-rows.ensures.number)
+
+pub returns-in_err-lines-clause-fault : goal.returns-in_err-lines-clause-fault
+returns-in_err-lines-clause-fault g c = λ bytes known.
+    let script = c.in_ok-script.script in
+    let none = c.new-rows.ensures.none bytes known in
+    let calls = c.as_slice.ensures.value in
+    passed_on c.lines_of.result c.from_residual-in_err-lines.result c.in_err-lines.field-0.0 c.in_err-lines.was (search rules) (λ row cause why. why)
+    (c.lines_of.ensures.fault bytes script.layout.mode script.limits (rw calls (admitted script c.in_ok-script.ensures.reported))
+    (rw calls (c.in_ok-script.ensures.rows bytes none)) (c.in_ok-script.ensures.behind bytes none) (rw calls (c.in_ok-script.ensures.number c.new-rows.ensures.number)))
+
+pub returns-in_err-end_of-clause-fault : goal.returns-in_err-end_of-clause-fault
+returns-in_err-end_of-clause-fault g c = λ bytes known.
+    let script = c.in_ok-script.script in
+    let none = c.new-rows.ensures.none bytes known in
+    let start = c.in_ok-script.ensures.rows bytes none in
+    let head = rows_of_calls script.layout.mode script.limits script.calls.items in
+    let calls = ap length c.as_slice.ensures.value in
+    let lines = c.as_slice-2.ensures.value in
+    let many = c.in_ok-lines.ensures.number (rw calls (c.in_ok-script.ensures.number c.new-rows.ensures.number)) (rw calls (omega (arith, script.few, script.calls.ok.0))) in
+    let vec = c.in_ok-lines.lines in
+    passed_on c.end_of.result c.from_residual-in_err-end_of.result c.in_err-end_of.field-0.0 c.in_err-end_of.was (search rules) (λ row cause why. why)
+    (c.end_of.ensures.fault bytes script.layout.mode script.limits script.calls.items (admitted script c.in_ok-script.ensures.reported) (rw lines c.in_ok-lines.ensures.spelled)
+    (rw lines (c.in_ok-lines.ensures.rows bytes head start)) (rw lines (c.in_ok-lines.ensures.behind bytes head start (c.in_ok-script.ensures.behind bytes none)))
+    (c.in_ok-lines.ensures.ends bytes head start) (rw lines (omega (arith, many, calls, vec.ok.0))) (rw lines (omega (arith, vec.ok.0, vec.small, script.few, script.calls.ok.0))))

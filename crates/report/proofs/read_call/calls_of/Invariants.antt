@@ -1,6 +1,6 @@
-use Rattle.std.proofs.Common.{◌≡◌, ◌<◌, ◌≤◌, ℕ, ◌-◌, All, List, [], ◌++◌, map, reverse, vec_len}
-use Rattle.script.specs.Commands.{mode_of}
+use Rattle.std.proofs.Common.{◌≡◌, ◌≤◌, ℕ, ◌-◌, ◌+◌, All, List, [], ◌++◌, map, reverse, vec_len}
 use Rattle.report.specs.Counts.{HasCounted}
+use Rattle.report.specs.Spellings.{IsReported}
 use Rattle.texts.specs.Reads.{IsAtRow}
 use Rattle.report.specs.Report.{call_rows, seven}
 use Rattle.report.proofs.read_call.calls_of.Given as goal
@@ -8,8 +8,9 @@ use Rattle.report.proofs.read_call.calls_of.Given as goal
 abbrev pub invariant-loop-layout : goal.invariant-loop-layout
 invariant-loop-layout g l = record {
   few : vec_len l.calls ≤ 65536;
-  accepted : All (λ call. (call.client.0 < l.layout.passes) × (mode_of call.command ≡ l.layout.mode)) l.calls.items;
+  accepted : All (IsReported l.layout.mode l.layout.passes) l.calls.items;
   counted : HasCounted l.counts (reverse l.calls.items);
+  number : l.fn.rows.number ≡ 3 → l.rows.number ≡ 3 + vec_len l.calls;
   rows : (bytes : List ℕ) (before : List (List (List ℕ))) → IsAtRow g.R.Read.remaining bytes before 7 l.fn.rows
       → IsAtRow g.R.Read.remaining bytes (before ++ map seven (call_rows [] l.calls.items)) 7 l.rows;
 }

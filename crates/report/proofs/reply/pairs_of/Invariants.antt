@@ -7,6 +7,7 @@ use Rattle.report.proofs.reply.pairs_of.Given as goal
 abbrev pub invariant-loop-left : goal.invariant-loop-left
 invariant-loop-left l = record {
   so_far : rest_text l.told ≡ spaced_pairs l.pairs.items ++ rest_text l.left;
+  fit : All IsWordPair l.pairs.items;
   rest : (pairs : List (ℕ × ℕ)) → All IsWordPair pairs → rest_text l.told ≡ spaced_pairs pairs
       → (more : List (ℕ × ℕ)) × All IsWordPair more × (rest_text l.left ≡ spaced_pairs more);
 }

@@ -1,0 +1,348 @@
+-- The rows of a report are text, in seven fields.
+use Rattle.std.proofs.Common.{◌≡◌, ℕ, ◌<◌, ◌≤◌, ◌^◌, Bool, true, false, eqb, ltb, ltb-true, lt-ltb, cond, List, [], ◌∷◌, ◌++◌, Option, Some, None, All, Contains, IsAscii, IsUtf8, IfSome, codes, decimal, length, map, refl, sym, subst, arith, lit<, lit≤, ◌+◌}
+use Rattle.std.proofs.Math.Logic.{∥∥₁_elim}
+use Rattle.std.proofs.lemmas.Bool.{eqb-true}
+use Rattle.std.proofs.lemmas.Fmt.{IsAscii-decimal}
+use Rattle.std.proofs.lemmas.List.Elements.{All-contains, All-head, All-tail}
+use Rattle.std.proofs.lemmas.Str.Ascii.{IsAscii-cons, IsAscii-nil}
+use Rattle.std.proofs.lemmas.Str.{IsUtf8-append, IsUtf8-from_ascii, IsUtf8-nil}
+use Rattle.std.specs.List.{AllByRecursion}
+use Rattle.csv.specs.Records.{AllText}
+use Rattle.arena.specs.declared.fault.Resource.{Resource}
+use Rattle.arena.specs.declared.fault.Resource.TheVariants.{Nodes, Scx as ScxShare}
+use Rattle.arena.specs.Limits.{IsAccepted}
+use Rattle.arena.specs.declared.limits.Limits.{Limits}
+use Rattle.arena.specs.declared.limits.Mode.{Mode}
+use Rattle.arena.specs.declared.limits.Mode.TheVariants.{Tree, Records}
+use Rattle.arena.specs.declared.step.Kind.{Kind}
+use Rattle.arena.specs.declared.step.Kind.TheVariants.{Fill, LoadSettled, LoadInfo, LoadState, LoadMarked, LoadAllFrozen, LoadChild, Freeze, SetFrozen, Mark, Update as UpdateStep, Commit, Abort}
+use Rattle.arena.specs.declared.word.Side.{Side}
+use Rattle.arena.specs.declared.word.Side.TheVariants.{Left, Right}
+use Rattle.arena.specs.declared.word.NodeWord.{NodeWord}
+use Rattle.arena.specs.declared.word.NodeWord.TheVariants.{Settled, Child, Info, Marked}
+use Rattle.arena.specs.declared.word.SettledPart.TheVariants.{Head, Key, Value as ValuePart}
+use Rattle.arena.specs.declared.word.ScxWord.{ScxWord}
+use Rattle.arena.specs.declared.word.ScxWord.TheVariants.{State, AllFrozen, Plan, New, Old, Member, Seen, Call as CallWord}
+use Rattle.arena.specs.declared.word.Word.{Word}
+use Rattle.arena.specs.declared.word.Word.TheVariants.{Node, Scx as ScxWordOf}
+use Rattle.arena.specs.Words.{IsScxWord}
+use Rattle.ordered_map.specs.declared.reply.Reply.{Reply}
+use Rattle.ordered_map.specs.declared.reply.Reply.TheVariants.{Value, Pair, Pairs, Contended, NoMemory, Full as FullShare}
+use Rattle.ordered_map.specs.declared.request.Request.{Request}
+use Rattle.ordered_map.specs.declared.request.Request.TheVariants.{Insert, Delete, PopFirst, ReplaceIf, Get, Successor, Range}
+use Rattle.script.specs.Commands.{IsCell, IsCommand, IsRequest, change_text, command_row, numbers_text, request_row, side_text, spaced}
+use Rattle.script.specs.Kinds.{kind_text}
+use Rattle.script.specs.Rows.{limits_row}
+use Rattle.script.specs.Part.{is_subsequence}
+use Rattle.script.specs.Cells.{cells_of}
+use Rattle.script.specs.Update.{update_cells, update_field, update_finalize, update_value}
+use Rattle.script.specs.declared.call.Call.{Call}
+use Rattle.script.specs.declared.command.Command.{Command}
+use Rattle.script.specs.declared.command.Command.TheVariants.{Llx, Scx, Vlx, Set, Map}
+use Rattle.record.specs.declared.record.Answer.{Answer}
+use Rattle.record.specs.declared.record.Answer.TheVariants.{Snapshot, Finalized, Fail, Done, Lost, Same, Changed, Unlinked, Full, Map as MapAnswer}
+use Rattle.record.specs.declared.record.Line.{Line}
+use Rattle.record.specs.declared.record.Line.TheVariants.{Step, Log, Reply as ReplyLine}
+use Rattle.record.specs.declared.record.Row.TheVariants.{Step as Made, Idle}
+use Rattle.report.specs.Answers.{answer_text, full_text, reply_text, spaced_pairs}
+use Rattle.report.specs.Report.{call_rows, calls_by, entries_in, line_row, mode_text, moment_text, replies_in, report_end_row, seven, steps_in, title_row}
+use Rattle.report.specs.RowFaults.{AreOfReport}
+use Rattle.report.specs.Spellings.{IsReported, IsSpelledAnswer, IsSpelledLine, IsSpelledReply, IsWordPair}
+use Rattle.report.specs.Words.{IsSpelled, node_part, scx_part, word_text}
+use Rattle.texts.specs.Texts.{IsRow}
+use Rattle.report.proofs.Counted.{calls_by_bound}
+use Rattle.report.proofs.Reading.{rows_in_parts}
+
+-- whether no byte is above 127
+abbrev is_ascii : List ℕ → Bool
+is_ascii [] = true
+is_ascii (b ∷ bs) = cond (ltb b 128) (is_ascii bs) false
+
+bytes_below : (bs : List ℕ) → is_ascii bs ≡ true → IsAscii bs
+bytes_below [] is = IsAscii-nil
+bytes_below (b ∷ bs) is = go (ltb b 128) refl is (bytes_below bs)
+  where
+    go : (less : Bool) → ltb b 128 ≡ less → cond less (is_ascii bs) false ≡ true → (is_ascii bs ≡ true → IsAscii bs) → IsAscii (b ∷ bs)
+    go true less is rest = IsAscii-cons b bs (ltb-true b 128 less) (rest is)
+    go false less is rest = absurd cc
+
+-- such bytes are text
+ascii : (bs : List ℕ) → is_ascii bs ≡ true → IsUtf8 bs
+ascii bs is = IsUtf8-from_ascii bs (bytes_below bs is)
+
+-- a number is text
+number : (n : ℕ) → n < 2 ^ 64 → IsUtf8 (decimal n)
+number n fits = IsUtf8-from_ascii (decimal n) (IsAscii-decimal n fits)
+
+-- and so are two texts together
+both : (xs ys : List ℕ) → IsUtf8 xs → IsUtf8 ys → IsUtf8 (xs ++ ys)
+both = IsUtf8-append
+
+-- a name and a number
+named : (name : List ℕ) (n : ℕ) → IsUtf8 name → n < 2 ^ 64 → IsUtf8 (name ++ decimal n)
+named name n text fits = both name (decimal n) text (number n fits)
+
+-- a name, a number, and a text behind it
+named_more : (name : List ℕ) (n : ℕ) (more : List ℕ) → IsUtf8 name → n < 2 ^ 64 → IsUtf8 more → IsUtf8 (name ++ (decimal n ++ more))
+named_more name n more text fits rest = both name (decimal n ++ more) text (both (decimal n) more (number n fits) rest)
+
+space : IsUtf8 (codes " ")
+space = ascii (codes " ") refl
+
+-- Words
+
+node_part_text : (part : NodeWord) → IsUtf8 (node_part part)
+node_part_text (Settled Head) = ascii (codes "head") refl
+node_part_text (Settled Key) = ascii (codes "key") refl
+node_part_text (Settled ValuePart) = ascii (codes "value") refl
+node_part_text (Child Left) = ascii (codes "left") refl
+node_part_text (Child Right) = ascii (codes "right") refl
+node_part_text Info = ascii (codes "info") refl
+node_part_text Marked = ascii (codes "marked") refl
+
+scx_part_text : (part : ScxWord) → IsScxWord part → IsUtf8 (scx_part part)
+scx_part_text State fits = ascii (codes "state") refl
+scx_part_text AllFrozen fits = ascii (codes "allfrozen") refl
+scx_part_text Plan fits = ascii (codes "plan") refl
+scx_part_text New fits = ascii (codes "new") refl
+scx_part_text Old fits = ascii (codes "old") refl
+scx_part_text (Member place) fits = named (codes "v") place (ascii (codes "v") refl) (omega (arith, fits))
+scx_part_text (Seen place) fits = named (codes "i") place (ascii (codes "i") refl) (omega (arith, fits))
+scx_part_text CallWord fits = ascii (codes "call") refl
+
+word_is_text : (word : Word) → IsSpelled word → IsUtf8 (word_text word)
+word_is_text (Node n part) fits = named_more (codes "n") n.0 (codes "." ++ node_part part) (ascii (codes "n") refl) fits (both (codes ".") (node_part part) (ascii (codes ".") refl) (node_part_text part))
+word_is_text (ScxWordOf s part) fits = named_more (codes "s") s.0 (codes "." ++ scx_part part) (ascii (codes "s") refl) fits.0 (both (codes ".") (scx_part part) (ascii (codes ".") refl) (scx_part_text part fits.1))
+
+kind_is_text : (kind : Kind) → IsUtf8 (kind_text kind)
+kind_is_text Fill = ascii (kind_text Fill) refl
+kind_is_text LoadSettled = ascii (kind_text LoadSettled) refl
+kind_is_text LoadInfo = ascii (kind_text LoadInfo) refl
+kind_is_text LoadState = ascii (kind_text LoadState) refl
+kind_is_text LoadMarked = ascii (kind_text LoadMarked) refl
+kind_is_text LoadAllFrozen = ascii (kind_text LoadAllFrozen) refl
+kind_is_text LoadChild = ascii (kind_text LoadChild) refl
+kind_is_text Freeze = ascii (kind_text Freeze) refl
+kind_is_text SetFrozen = ascii (kind_text SetFrozen) refl
+kind_is_text Mark = ascii (kind_text Mark) refl
+kind_is_text UpdateStep = ascii (kind_text UpdateStep) refl
+kind_is_text Commit = ascii (kind_text Commit) refl
+kind_is_text Abort = ascii (kind_text Abort) refl
+
+-- Answers
+
+blame : (name : List ℕ) (node scx : ℕ) → IsUtf8 name → node < 2 ^ 64 → scx < 2 ^ 64 → IsUtf8 (name ++ (decimal node ++ (codes " s" ++ decimal scx)))
+blame name node scx text small fits = named_more name node (codes " s" ++ decimal scx) text small (named (codes " s") scx (ascii (codes " s") refl) fits)
+
+pair : (name : List ℕ) (first second : ℕ) → IsUtf8 name → first < 2 ^ 64 → second < 2 ^ 64 → IsUtf8 (name ++ (decimal first ++ (codes " " ++ decimal second)))
+pair name first second text small fits = named_more name first (codes " " ++ decimal second) text small (named (codes " ") second space fits)
+
+spaced_pairs_text : (ps : List (ℕ × ℕ)) → All IsWordPair ps → IsUtf8 (spaced_pairs ps)
+unfolding spaced_pairs
+spaced_pairs_text [] all = IsUtf8-nil
+spaced_pairs_text (p ∷ ps) all =
+    let fits = All-head IsWordPair p ps all in
+    named_more (codes " ") p.0 (codes " " ++ (decimal p.1 ++ spaced_pairs ps)) space fits.0 (named_more (codes " ") p.1 (spaced_pairs ps) space fits.1 (spaced_pairs_text ps (All-tail IsWordPair p ps all)))
+
+full_is_text : (what : Resource) (left : ℕ) → left < 2 ^ 32 → IsUtf8 (full_text what left)
+full_is_text Nodes left fits = named (codes "full nodes ") left (ascii (codes "full nodes ") refl) (omega (arith, fits))
+full_is_text ScxShare left fits = named (codes "full scx ") left (ascii (codes "full scx ") refl) (omega (arith, fits))
+
+reply_is_text : (reply : Reply ℕ ℕ) → IsSpelledReply reply → IsUtf8 (reply_text reply)
+reply_is_text (Value (Some value)) fits = named (codes "some ") value (ascii (codes "some ") refl) fits
+reply_is_text (Value None) fits = ascii (codes "none") refl
+reply_is_text (Pair (Some p)) fits = pair (codes "pair ") p.0 p.1 (ascii (codes "pair ") refl) fits.0 fits.1
+reply_is_text (Pair None) fits = ascii (codes "none") refl
+reply_is_text (Pairs ps) fits = both (codes "pairs") (spaced_pairs ps.items) (ascii (codes "pairs") refl) (spaced_pairs_text ps.items fits)
+reply_is_text (Contended node scx) fits = blame (codes "contended n") node.0 scx.0 (ascii (codes "contended n") refl) fits.0 fits.1
+reply_is_text (FullShare full) fits = full_is_text full.what full.left fits
+reply_is_text NoMemory fits = ascii (codes "no memory") refl
+
+answer_is_text : (answer : Answer) → IsSpelledAnswer answer → IsUtf8 (answer_text answer)
+answer_is_text (Snapshot left right) fits = pair (codes "snap ") left.0 right.0 (ascii (codes "snap ") refl) fits.0 fits.1
+answer_is_text Finalized fits = ascii (codes "finalized") refl
+answer_is_text (Fail node scx) fits = blame (codes "fail n") node.0 scx.0 (ascii (codes "fail n") refl) fits.0 fits.1
+answer_is_text Done fits = ascii (codes "done") refl
+answer_is_text (Lost node scx) fits = blame (codes "lost n") node.0 scx.0 (ascii (codes "lost n") refl) fits.0 fits.1
+answer_is_text Same fits = ascii (codes "same") refl
+answer_is_text (Changed node scx) fits = blame (codes "changed n") node.0 scx.0 (ascii (codes "changed n") refl) fits.0 fits.1
+answer_is_text (Unlinked node) fits = named (codes "unlinked n") node.0 (ascii (codes "unlinked n") refl) fits
+answer_is_text (Full what left) fits = full_is_text what left fits
+answer_is_text (MapAnswer reply) fits = reply_is_text reply fits
+
+moment_is_text : (moment : Option ℕ) → (IfSome moment (λ turn. turn < 2 ^ 64)) → IsUtf8 (moment_text moment)
+moment_is_text None fits = IsUtf8-nil
+moment_is_text (Some turn) fits = number turn fits
+
+-- Rows
+
+four_texts : (a b c d : List ℕ) → IsUtf8 a → IsUtf8 b → IsUtf8 c → IsUtf8 d → AllText (a ∷ b ∷ c ∷ d ∷ [])
+unfolding AllText
+four_texts a b c d p q r s = (p, (q, (r, (s, tt))))
+
+three_more : (a b c : List ℕ) (rest : List (List ℕ)) → IsUtf8 a → IsUtf8 b → IsUtf8 c → AllText rest → AllText (a ∷ b ∷ c ∷ rest)
+unfolding AllText
+three_more a b c rest p q r all = (p, (q, (r, all)))
+
+line_is_text : (line : Line) → IsSpelledLine line → AllText (seven (line_row line))
+line_is_text (Step (Made n row)) (small, fits) =
+    three_more _ _ _ _ (ascii (codes "step") refl) (number n small) (number row.pass.0 (omega (arith, fits.pass)))
+    (four_texts _ _ _ _ (kind_is_text row.kind) (word_is_text row.word fits.word) (number row.before fits.before) (number row.after fits.after))
+line_is_text (Step (Idle n client)) (small, fits) =
+    three_more _ _ _ _ (ascii (codes "step") refl) (number n small) (number client.0 (omega (arith, fits)))
+    (four_texts _ _ _ _ (ascii (codes "idle") refl) IsUtf8-nil IsUtf8-nil IsUtf8-nil)
+line_is_text (Log entry) fits =
+    three_more _ _ _ _ (ascii (codes "log") refl) (number entry.place fits.place) (number entry.step fits.step)
+    (four_texts _ _ _ _ (named (codes "s") entry.scx.0 (ascii (codes "s") refl) fits.scx) (number entry.client.0 (omega (arith, fits.client))) (number entry.call fits.call) IsUtf8-nil)
+line_is_text (ReplyLine reply) fits =
+    three_more _ _ _ _ (ascii (codes "reply") refl) (number reply.client.0 (omega (arith, fits.client))) (number reply.call fits.call)
+    (four_texts _ _ _ _ (number reply.begin fits.begin) (number reply.end fits.end) (moment_is_text reply.moment fits.moment) (answer_is_text reply.answer fits.answer))
+
+-- Commands
+
+side_is_text : (side : Side) → IsUtf8 (side_text side)
+side_is_text Left = ascii (codes "left") refl
+side_is_text Right = ascii (codes "right") refl
+
+-- all of these numbers fit
+abbrev AreSmall : List ℕ → Type 0
+AreSmall = AllByRecursion (λ n. n < 2 ^ 64)
+
+spaced_is_text : (ns : List ℕ) → AreSmall ns → IsUtf8 (spaced ns)
+unfolding spaced
+spaced_is_text [] all = IsUtf8-nil
+spaced_is_text (n ∷ ns) all = named_more (codes " ") n (spaced ns) space all.0 (spaced_is_text ns all.1)
+
+numbers_are_text : (ns : List ℕ) → AreSmall ns → IsUtf8 (numbers_text ns)
+numbers_are_text [] all = IsUtf8-nil
+numbers_are_text (n ∷ ns) all = both (decimal n) (spaced ns) (number n all.0) (spaced_is_text ns all.1)
+
+cells_are_small : (ns : List ℕ) → All IsCell ns → AreSmall ns
+cells_are_small [] all = tt
+cells_are_small (n ∷ ns) all = let cell = All-head IsCell n ns all in (omega (arith, cell.1), cells_are_small ns (All-tail IsCell n ns all))
+
+part_is_small : (part whole : List ℕ) → is_subsequence part whole ≡ true → AreSmall whole → AreSmall part
+part_is_small [] whole is all = tt
+part_is_small (n ∷ part) [] is all = absurd cc
+part_is_small (n ∷ part) (m ∷ whole) is all = go (eqb n m) refl is (λ sub. part_is_small part whole sub all.1) (λ sub. part_is_small (n ∷ part) whole sub all.1)
+  where
+    go : (same : Bool) → eqb n m ≡ same → cond same (is_subsequence part whole) (is_subsequence (n ∷ part) whole) ≡ true
+        → (is_subsequence part whole ≡ true → AreSmall part) → (is_subsequence (n ∷ part) whole ≡ true → AreSmall (n ∷ part)) → AreSmall (n ∷ part)
+    go true same sub less keep = let e : n ≡ m = eqb-true n m same in (omega (arith, e, all.0), less sub)
+    go false same sub less keep = keep sub
+
+request_is_text : (request : Request ℕ ℕ) → IsRequest request → AllText (request_row request)
+request_is_text (Insert key value) fits = four_texts _ _ _ _ (ascii (codes "insert") refl) (number key fits.0) (number value fits.1) IsUtf8-nil
+request_is_text (Delete key) fits = four_texts _ _ _ _ (ascii (codes "delete") refl) (number key fits) IsUtf8-nil IsUtf8-nil
+request_is_text PopFirst fits = four_texts _ _ _ _ (ascii (codes "pop_first") refl) IsUtf8-nil IsUtf8-nil IsUtf8-nil
+request_is_text (ReplaceIf key expected value) fits = four_texts _ _ _ _ (ascii (codes "replace_if") refl) (number key fits.0) (number expected fits.1) (number value fits.2)
+request_is_text (Get key) fits = four_texts _ _ _ _ (ascii (codes "get") refl) (number key fits) IsUtf8-nil IsUtf8-nil
+request_is_text (Successor key) fits = four_texts _ _ _ _ (ascii (codes "successor") refl) (number key fits) IsUtf8-nil IsUtf8-nil
+request_is_text (Range low high most) fits = four_texts _ _ _ _ (ascii (codes "range") refl) (number low fits.0) (number high fits.1) (number most (omega (arith, fits.2)))
+
+change_is_text : (field : ℕ × Side) (value : ℕ) → field.0 < 2 ^ 64 → value < 2 ^ 64 → IsUtf8 (change_text field value)
+change_is_text field value small fits =
+    both (decimal field.0) (codes " " ++ (side_text field.1 ++ (codes " " ++ decimal value))) (number field.0 small)
+    (both (codes " ") (side_text field.1 ++ (codes " " ++ decimal value)) space (both (side_text field.1) (codes " " ++ decimal value) (side_is_text field.1) (named (codes " ") value space fits)))
+
+-- the node of an update's field is one of its cells
+field_is_small : (cells : List ℕ) (n : ℕ) → All IsCell cells → ∥ Contains cells n ∥₁ → n < 2 ^ 64
+field_is_small cells n all inside = go (ltb n (2 ^ 64)) refl
+  where
+    go : (less : Bool) → ltb n (2 ^ 64) ≡ less → n < 2 ^ 64
+    go true is = ltb-true n (2 ^ 64) is
+    go false is = absurd (∥∥₁_elim inside (λ a b. absurd a) (λ (has : Contains cells n). let cell = All-contains IsCell cells n all has in let less = lt-ltb n (2 ^ 64) (omega (arith, cell.1)) in cc))
+
+command_is_text : (command : Command) → IsCommand command → AllText (command_row command)
+command_is_text (Llx cell) fits = four_texts _ _ _ _ (ascii (codes "llx") refl) (number cell (omega (arith, fits.1))) IsUtf8-nil IsUtf8-nil
+command_is_text (Scx update) fits =
+    let cells = cells_are_small (update_cells update) fits.0.1 in
+    four_texts _ _ _ _ (ascii (codes "scx") refl) (numbers_are_text (update_cells update) cells)
+    (numbers_are_text (update_finalize update) (part_is_small (update_finalize update) (update_cells update) update.part cells))
+    (change_is_text (update_field update) (update_value update) (field_is_small (update_cells update) (update_field update).0 fits.0.1 update.inside) fits.1)
+command_is_text (Vlx cells) fits = four_texts _ _ _ _ (ascii (codes "vlx") refl) (numbers_are_text (cells_of cells) (cells_are_small (cells_of cells) fits.1)) IsUtf8-nil IsUtf8-nil
+command_is_text (Set field value) fits = four_texts _ _ _ _ (ascii (codes "set") refl) (number field.0 (omega (arith, fits.0.1))) (side_is_text field.1) (number value fits.1)
+command_is_text (Map request) fits = request_is_text request fits
+
+-- The whole
+
+-- the row has seven fields, each of them text
+abbrev pub IsWide : List (List ℕ) → Type 0
+IsWide row = IsRow 7 row
+
+-- the row of a command is four fields, behind three of a call
+call_is_wide : (client number : ℕ) (command : Command) → AllText (codes "call" ∷ decimal client ∷ decimal number ∷ command_row command) → IsWide (seven (codes "call" ∷ decimal client ∷ decimal number ∷ command_row command))
+call_is_wide client number (Llx cell) text = (refl, text)
+call_is_wide client number (Scx update) text = (refl, text)
+call_is_wide client number (Vlx cells) text = (refl, text)
+call_is_wide client number (Set field value) text = (refl, text)
+call_is_wide client number (Map (Insert key value)) text = (refl, text)
+call_is_wide client number (Map (Delete key)) text = (refl, text)
+call_is_wide client number (Map PopFirst) text = (refl, text)
+call_is_wide client number (Map (ReplaceIf key expected value)) text = (refl, text)
+call_is_wide client number (Map (Get key)) text = (refl, text)
+call_is_wide client number (Map (Successor key)) text = (refl, text)
+call_is_wide client number (Map (Range low high most)) text = (refl, text)
+
+line_is_long : (line : Line) → length (seven (line_row line)) ≡ 7
+line_is_long (Step (Made n row)) = refl
+line_is_long (Step (Idle n client)) = refl
+line_is_long (Log entry) = refl
+line_is_long (ReplyLine reply) = refl
+
+mode_is_text : (mode : Mode) → IsUtf8 (mode_text mode)
+mode_is_text Tree = ascii (codes "tree") refl
+mode_is_text Records = ascii (codes "records") refl
+
+title_is_wide : (mode : Mode) → IsWide (seven (title_row mode))
+title_is_wide mode = (refl, three_more _ _ _ _ (ascii (codes "report") refl) (number 1 (lit< tt)) (mode_is_text mode) (four_texts _ _ _ _ IsUtf8-nil IsUtf8-nil IsUtf8-nil IsUtf8-nil))
+
+limits_are_wide : (limits : Limits) → IsAccepted limits → IsWide (seven (limits_row limits))
+limits_are_wide limits fits = (
+  refl,
+  three_more _ _ _ _ (ascii (codes "limits") refl) (number limits.passes (omega (arith, fits.passes))) (number limits.nodes (omega (arith, fits.nodes)))
+      (four_texts _ _ _ _ (number limits.scx (omega (arith, fits.scx))) (number limits.tries (omega (arith, fits.tries))) IsUtf8-nil IsUtf8-nil),
+)
+
+-- no more lines of a kind than lines
+counts_bound : (lines : List Line) → (steps_in lines ≤ length lines) × (replies_in lines ≤ length lines) × (entries_in lines ≤ length lines)
+counts_bound [] = (lit≤ tt, lit≤ tt, lit≤ tt)
+counts_bound (Step row ∷ lines) = let b = counts_bound lines in (omega (arith, b.0), omega (arith, b.1), omega (arith, b.2))
+counts_bound (Log entry ∷ lines) = let b = counts_bound lines in (omega (arith, b.0), omega (arith, b.1), omega (arith, b.2))
+counts_bound (ReplyLine reply ∷ lines) = let b = counts_bound lines in (omega (arith, b.0), omega (arith, b.1), omega (arith, b.2))
+
+end_is_wide : (lines : List Line) → length lines < 2 ^ 64 → IsWide (seven (report_end_row lines))
+end_is_wide lines fits =
+    let b = counts_bound lines in (
+      refl,
+      three_more _ _ _ _ (ascii (codes "end") refl) (number (steps_in lines) (omega (arith, b.0, fits))) (number (replies_in lines) (omega (arith, b.1, fits)))
+          (four_texts _ _ _ _ (number (entries_in lines) (omega (arith, b.2, fits))) IsUtf8-nil IsUtf8-nil IsUtf8-nil),
+    )
+
+call_rows_are_wide : (mode : Mode) (passes : ℕ) (earlier calls : List Call) → passes ≤ 32 → length earlier + length calls < 2 ^ 64 → All (IsReported mode passes) calls → AllByRecursion IsWide (map seven (call_rows earlier calls))
+unfolding call_rows
+call_rows_are_wide mode passes earlier [] few counted all = tt
+call_rows_are_wide mode passes earlier (call ∷ calls) few counted all =
+    let ok = All-head (IsReported mode passes) call calls all in
+    let bound = calls_by_bound call.client.0 earlier in
+    let text = three_more (codes "call") (decimal call.client.0) (decimal (calls_by call.client.0 earlier)) (command_row call.command) (ascii (codes "call") refl) (number call.client.0 (omega (arith, ok.0, few))) (number (calls_by call.client.0 earlier) (omega (arith, bound, counted))) (command_is_text call.command ok.2) in
+    (call_is_wide call.client.0 (calls_by call.client.0 earlier) call.command text, call_rows_are_wide mode passes (call ∷ earlier) calls few (omega (arith, counted)) (All-tail (IsReported mode passes) call calls all))
+
+line_rows_are_wide : (lines : List Line) → All IsSpelledLine lines → AllByRecursion IsWide (map seven (map line_row lines))
+line_rows_are_wide [] all = tt
+line_rows_are_wide (line ∷ lines) all =
+    let fits = All-head IsSpelledLine line lines all in
+    ((line_is_long line, line_is_text line fits), line_rows_are_wide lines (All-tail IsSpelledLine line lines all))
+
+-- what holds of all rows here and there holds of all
+pub all_both : {X : Type 0} (P : X → Type 0) (xs ys : List X) → AllByRecursion P xs → AllByRecursion P ys → AllByRecursion P (xs ++ ys)
+all_both P [] ys p q = q
+all_both P (x ∷ xs) ys p q = (p.0, all_both P xs ys p.1 q)
+
+-- all rows of a report
+pub report_is_wide : (rows : List (List (List ℕ))) → AreOfReport rows → AllByRecursion IsWide rows
+report_is_wide rows r =
+    let calls = call_rows_are_wide r.mode r.limits.passes [] r.calls r.admitted.accepted.passes (omega (arith, r.admitted.few)) r.admitted.reported in
+    let lines = line_rows_are_wide r.lines r.spelled in
+    let tail = all_both IsWide (map seven (call_rows [] r.calls)) _ calls (all_both IsWide (map seven (map line_row r.lines)) (seven (report_end_row r.lines) ∷ []) lines (end_is_wide r.lines r.counted, tt)) in
+    subst (AllByRecursion IsWide) (sym (rows_in_parts r)) (title_is_wide r.mode, (limits_are_wide r.limits r.admitted.accepted, tail))

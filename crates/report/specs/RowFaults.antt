@@ -1,0 +1,54 @@
+-- Which row of a text is the first that is as no report has it.
+use Rattle.std.specs.Prelude.{ℕ, suc, ◌≡◌, ◌≤◌, ◌<◌, ◌^◌, ◌⊎◌, ⊤, List, [], ◌∷◌, ◌++◌, All, length, map}
+use Rattle.arena.specs.Limits.{IsAccepted}
+use Rattle.arena.specs.declared.limits.Limits.{Limits}
+use Rattle.arena.specs.declared.limits.Mode.{Mode}
+use Rattle.script.specs.declared.call.Call.{Call}
+use Rattle.record.specs.declared.record.Line.{Line}
+use Rattle.texts.specs.Texts.{AreRows, BeginWithRows}
+use Rattle.report.specs.Report.{rows_told, seven}
+use Rattle.report.specs.Spellings.{IsReported, IsSpelledLine}
+use Rattle.report.specs.declared.fault.ReportFault.{ReportFault}
+use Rattle.report.specs.declared.fault.ReportFault.TheVariants.{NoMemory, Read, NotLawful}
+
+-- limits that are accepted, and calls that a report of this mode may have within them
+pub record AreAdmitted (mode : Mode) (limits : Limits) (calls : List Call) : Type 0 where
+  pub accepted : IsAccepted limits
+  pub few : length calls ≤ 65536
+  pub reported : All (IsReported mode limits.passes) calls
+
+-- these are the rows of some report: of any calls and lines that a report can spell, whether or not
+-- a run has them
+pub record AreOfReport (rows : List (List (List ℕ))) : Type 0 where
+  pub mode : Mode
+  pub limits : Limits
+  pub calls : List Call
+  pub lines : List Line
+  pub admitted : AreAdmitted mode limits calls
+  pub spelled : All IsSpelledLine lines
+  pub counted : length lines < 2 ^ 64
+  pub are : rows ≡ map seven (rows_told mode limits calls lines)
+
+-- some report begins with these rows
+abbrev pub BeginReport : List (List (List ℕ)) → Type 0
+BeginReport rows = (more : List (List (List ℕ))) × AreOfReport (rows ++ more)
+
+-- behind these rows the text is as no report: it ends there, and they are no whole report; or a row
+-- stands there with which they begin none
+abbrev pub FailsBehind : List ℕ → List (List (List ℕ)) → Type 0
+FailsBehind bytes before = (AreRows bytes before × ¬ (AreOfReport before)) ⊎ ((row : List (List ℕ)) × BeginWithRows bytes (before ++ row ∷ []) × ¬ (BeginReport (before ++ row ∷ [])))
+
+-- the text is no report, and this row, counted from 1, is the first at fault: some report begins
+-- with those before it, and behind them the text is as none
+pub record IsFirstBadRow (bytes : List ℕ) (row : ℕ) : Type 0 where
+  pub no_report : (rows : List (List (List ℕ))) → AreOfReport rows → ¬ (AreRows bytes rows)
+  pub before : List (List (List ℕ))
+  pub begun : BeginReport before
+  pub fails : FailsBehind bytes before
+  pub row_is : row ≡ suc (length before)
+
+-- where a report is refused for a row, `names` holds of that row
+abbrev pub IfRefused : (ℕ → Type 0) → ReportFault → Type 0
+IfRefused names NoMemory = ⊤
+IfRefused names Read = ⊤
+IfRefused names (NotLawful row) = names row
