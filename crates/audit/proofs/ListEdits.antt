@@ -9,13 +9,16 @@ use Rattle.arena.specs.declared.word.Side.TheVariants.{Left, Right}
 use Rattle.arena.specs.declared.word.NodeWord.TheVariants.{Settled}
 use Rattle.arena.specs.declared.word.SettledPart.TheVariants.{Key, Value}
 use Rattle.arena.specs.declared.word.Word.{Word}
+use Rattle.arena.specs.History.{History, value}
+use Rattle.arena.specs.ScxRecords.{plan, member, new, old}
 use Rattle.arena.specs.Words.{node, child}
 use Rattle.ordered_map.specs.declared.pair.Pair.{Pair}
 use Rattle.ordered_map.specs.OrderedMap.{MapEdit, Insert, Delete, pair, insert, edited, first_pair}
 use Rattle.ordered_map.specs.Holding.{held_pairs}
-use Rattle.ordered_map.specs.TreeWords.{class, is_leaf, level, rank, leaf_pairs}
-use Rattle.ordered_map.specs.Edits.{IsAlike, IsSplit}
-use Rattle.ordered_map.proofs.Lemmas.{held_one, low_pairs, high_pairs}
+use Rattle.ordered_map.specs.TreeWords.{class, is_leaf, level, rank, leaf_pairs, toward}
+use Rattle.ordered_map.specs.Edits.{IsAlike, IsSwap, IsSplit}
+use Rattle.ordered_map.specs.TreeShape.{IsInsert, insert_plan}
+use Rattle.ordered_map.proofs.Lemmas.{held_one, low_pairs, high_pairs, insert_by}
 use Rattle.record.specs.MapRecord.{number_pairs}
 use Rattle.audit.specs.Edits.{IsInFront, edit_to, key_in}
 
@@ -212,3 +215,10 @@ module _ (f : Word → ℕ) (l c x y : ℕ) where
   pub split_of : (k : ℕ) (value : Option ℕ) → k < 2 ^ 64 → IsSplitOfPairs f (edit_to k value) l c x y → IfSome value (λ v. (i j : ℕ) × IsSplit f k v l c i j)
   split_of k None small s = tt
   split_of k (Some v) small s = split_at k v small s
+
+-- An SCX-record with the plan of an insert and the leaf as what it expects, by which the leaf is so
+-- replaced, makes the insert.
+pub insert_of : (h : History) (s key : ℕ) (put : Option ℕ) → key < 2 ^ 64 → plan h s ≡ insert_plan (toward (value h) (member h s 0) key) → old h s ≡ member h s 1 → IfSome put (λ v. IsSwap (value h) key v (member h s 1) (new h s)) ⊎ IfSome put (λ v. (x y : ℕ) × IsSplit (value h) key v (member h s 1) (new h s) x y) → IfSome put (IsInsert h s key)
+insert_of h s key None small plan old edit = tt
+insert_of h s key (Some v) small plan old (inl swap) = record { plan = plan; old = old; edit = insert_by (value h) key v (member h s 1) (new h s) small (inl swap) }
+insert_of h s key (Some v) small plan old (inr split) = record { plan = plan; old = old; edit = insert_by (value h) key v (member h s 1) (new h s) small (inr split) }

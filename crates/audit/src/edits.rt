@@ -327,10 +327,10 @@ fn is_edit(judge: &Judge, scx: u64, begun: &Begun) -> bool
 
 /// Whether an SCX-record covers a parent and a leaf, finalizes the leaf, and puts another leaf or a
 /// fork over two into the parent's field towards the key.
-#[tactic(auto, using(ordered_map::proofs::Lemmas::insert_by))]
-fn is_insert(judge: &Judge, scx: u64, pair: (u64, u64)) -> bool
-    ensures edit { IsTrue result → IsInsert (seen_history judge.now) scx pair.0 pair.1 }
-    ensures fresh { IsTrue result → is_leaf (value (seen_history judge.now)) (new (seen_history judge.now) scx) ≡ false → (side : SideOf) →
+fn is_insert(judge: &Judge, scx: u64, begun: &Begun) -> bool
+    requires { begun.now.key < 2 ^ 64 }
+    ensures edit { IsTrue result → IfSome begun.now.value (IsInsert (seen_history judge.now) scx begun.now.key) }
+    ensures fresh { IsTrue result → is_leaf (word_now judge.now) (new (seen_history judge.now) scx) ≡ false → (side : SideOf) →
         IsNamed judge.now.layout (seen_history judge.now)
         (word_now judge.now (child_of (new (seen_history judge.now) scx) side)) → ⊥ }
 {

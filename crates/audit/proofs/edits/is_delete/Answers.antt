@@ -13,6 +13,7 @@ pub returns-then-is_join : goal.returns-then-is_join
 returns-then-is_join c are_below =
     let h : History = seen_history c.args.judge.now in
     let s = c.args.scx in
-    let side : Side = toward (value h) (member h s 1) c.args.key in
-    let joined : IsJoin (value h) c.args.key (member h s 1) (member h s (leaf_place side)) (member h s (sibling_place side)) (new h s) = search rules in
-    record { plan = search rules; old = search rules; edit = join_by (value h) c.args.key (member h s 1) (member h s (leaf_place side)) (member h s (sibling_place side)) (new h s) joined; fields = search rules; copied = search rules }
+    let key = c.args.begun.now.key in
+    let side : Side = toward (value h) (member h s 1) key in
+    let joined : IsJoin (value h) key (member h s 1) (member h s (leaf_place side)) (member h s (sibling_place side)) (new h s) = search rules in
+    record { plan = search rules; old = search rules; edit = join_by (value h) key (member h s 1) (member h s (leaf_place side)) (member h s (sibling_place side)) (new h s) joined; fields = search rules; copied = search rules }

@@ -1,13 +1,10 @@
-use Rattle.std.proofs.Common.{ℕ, inr, rules}
-use Rattle.arena.specs.History.{History, value}
-use Rattle.arena.specs.ScxRecords.{member, new}
-use Rattle.ordered_map.specs.Edits.{IsSplit}
-use Rattle.ordered_map.proofs.Lemmas.{insert_by}
+use Rattle.std.proofs.Common.{inl, inr, rules}
+use Rattle.audit.proofs.ListEdits.{insert_of}
 use Rattle.judge.specs.Histories.{seen_history}
 use Rattle.audit.proofs.edits.is_insert.Goals as goal
 
+pub returns-then-is_swap-clause-edit : goal.returns-then-is_swap-clause-edit
+returns-then-is_swap-clause-edit c is_swap = insert_of (seen_history c.args.judge.now) c.args.scx c.args.begun.now.key c.args.begun.now.value c.requires (search rules) (search rules) (inl (search rules))
+
 pub returns-else-is_swap-clause-edit : goal.returns-else-is_swap-clause-edit
-returns-else-is_swap-clause-edit c is_split =
-    let h : History = seen_history c.args.judge.now in
-    let split : (x y : ℕ) × IsSplit (value h) c.args.pair.0 c.args.pair.1 (member h c.args.scx 1) (new h c.args.scx) x y = search rules in
-    record { plan = search rules; old = search rules; edit = insert_by (value h) c.args.pair.0 c.args.pair.1 (member h c.args.scx 1) (new h c.args.scx) (search rules) (inr split) }
+returns-else-is_swap-clause-edit c is_split = insert_of (seen_history c.args.judge.now) c.args.scx c.args.begun.now.key c.args.begun.now.value c.requires (search rules) (search rules) (inr (search rules))
