@@ -12,6 +12,7 @@ use Rattle.ordered_map.specs.declared.reply.Reply.{Reply}
 use Rattle.ordered_map.specs.declared.reply.Reply.TheVariants as replies
 use Rattle.script.specs.declared.command.Command.{Command}
 use Rattle.ordered_map.specs.CallRules.{most_steps}
+use Rattle.dict.specs.Says.{HasMadeRow}
 use Rattle.forest.specs.Dictionary.{IsVersion, IsChange, IsChangeOrReading, IsReading, IsRefusalOf, IsToldOf}
 use Rattle.forest.specs.Passes.{PassView, run_of, steps_of}
 use Rattle.forest.specs.Traces.{shared_nodes}
@@ -20,7 +21,7 @@ use Rattle.runner.specs.Histories.{AreVersions, IsEnteredCall, IsReadCall, IsPla
 use Rattle.runner.proofs.Chains.{replies_later}
 
 module _ (lay : Layout) (tries : ℕ) (run : History) (versions : History → List Pair) (are : AreVersions lay run versions) where
-  module _ (old new : PassView) (layout : new.layout ≡ lay) (within : Extends run (run_of new)) where
+  module _ (old new : PassView) (layout : new.layout ≡ lay) (same : new.number ≡ old.number) (within : Extends run (run_of new)) where
     -- what the words spell at a moment is the version there
     version_is : (moment : History) (m : List Pair) → Extends (run_of new) moment → IsVersion new moment m → m ≡ versions moment
     version_is moment m e x = one_spelling lay (value moment) m (versions moment) (rw layout at x) (are.spelled moment (ends_trans run (run_of new) moment within e))
@@ -32,7 +33,7 @@ module _ (lay : Layout) (tries : ℕ) (run : History) (versions : History → Li
           moment = read.moment;
           within = read.within;
           since = read.since;
-          own = read.own;
+          own = λ asks. subst (λ (c : ℕ). HasMadeRow c (run_of old) read.moment) same (read.own asks);
           gives = ap (reply call) (sym (version_is read.moment read.map read.within read.spelled)) ∙ read.gives;
           done = x.done;
         }
@@ -99,6 +100,6 @@ module _ (lay : Layout) (tries : ℕ) (run : History) (versions : History → Li
         h.0,
         h.1,
         h.2,
-        answered old h.1 there (ends_trans run (run_of new) (run_of h.1) within more.run) h.0 r h.3,
+        answered old h.1 there h.3.later.number (ends_trans run (run_of new) (run_of h.1) within more.run) h.0 r h.3,
         all_answered h.1 new cs rs there within h.4,
       )
