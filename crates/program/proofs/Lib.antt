@@ -1,3 +1,4 @@
 pub mod Deserved
+mod Audits
 mod Followed
 mod Beginnings

@@ -1,7 +1,7 @@
 //! The command that audits a report.
 ghost use Rattle.std.specs.Prelude.{◌≡◌, ◌≢◌, ◌≤◌, ◌↔◌, ◌⊎◌, ℕ, List, IfErr, OnOk, Some};
 ghost use Rattle.std.specs.Io.KnownBytes.{Appends};
-ghost use Rattle.program.specs.Audited.{IsReportOfLawfulRun, lawful_line};
+ghost use Rattle.program.specs.Audited.{IsDeservedByReport, IsRefusedFor, IsReportOfLawfulRun, lawful_line};
 ghost use Rattle.program.specs.Status.{CanRise, status_of};
 
 use crate::fault::Fault;
@@ -22,6 +22,7 @@ pub fn audit_over<R: Read, O: Write, E: Write>(
 ) -> u8
     // Of a reader that tells its bytes.
     ensures lawful { (told : List ℕ) → R.remaining report.old.inner ≡ Some told → result ≡ 0 → IsReportOfLawfulRun told }
+    ensures deserved { (told : List ℕ) → R.remaining report.old.inner ≡ Some told → result ≡ 1 → (row : ℕ) × IsRefusedFor told row }
 
     // 4 exactly where a read or a write failed, as their counts tell while they can rise.
     ensures failed { CanRise report.old.failures → CanRise out.old.failures →
@@ -44,6 +45,7 @@ fn audit_report<R: Read, O: Write>(
     out: &mut Metered<O>,
 ) -> Result<(), Fault>
     ensures lawful { (told : List ℕ) → R.remaining report.old.inner ≡ Some told → OnOk result (IsReportOfLawfulRun told) }
+    ensures deserved { (told : List ℕ) → R.remaining report.old.inner ≡ Some told → IfErr result (IsDeservedByReport told) }
     ensures well { OnOk result
         ((report.new.failures ≡ report.old.failures) × (out.new.failures ≡ out.old.failures)) }
     ensures failed { CanRise report.old.failures → CanRise out.old.failures →
