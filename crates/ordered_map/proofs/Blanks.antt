@@ -14,7 +14,7 @@ use Rattle.arena.specs.ScxRecords.{count_of, plan_finalizes, field_index_of, cou
 use Rattle.arena.specs.Fills.{IsNamed}
 use Rattle.arena.proofs.Lemmas.{node_word_apart}
 use Rattle.histories.proofs.Lemmas.{UpdateWins, node_stays, update_keeps_other}
-use Rattle.ordered_map.specs.OrderedMap.{MapEdit, Insert, Delete}
+use Rattle.ordered_map.specs.OrderedMap.{MapEdit, edit_key}
 use Rattle.ordered_map.specs.Paths.{WasInTree}
 use Rattle.ordered_map.specs.TreeShape.{IsEdit, sibling_place}
 use Rattle.ordered_map.specs.TreeWords.{Has, class, is_leaf, toward, IsBlankAboveKeys}
@@ -22,7 +22,7 @@ use Rattle.ordered_map.specs.Edits.{IsLastLeaf, IsSplitBy, IsCopyOf, IsLeafEdit}
 use Rattle.ordered_map.proofs.Holding.{SameSettled}
 use Rattle.ordered_map.proofs.Moved.{settled_class, settled_leaf}
 use Rattle.ordered_map.proofs.Pending.{Mine, Pending}
-use Rattle.ordered_map.proofs.Edited.{past, plan_insert, plan_delete, result}
+use Rattle.ordered_map.proofs.Edited.{past, leaf_plan_says, join_plan_says, result}
 use Rattle.ordered_map.proofs.Grown.{IsGrown}
 use Rattle.ordered_map.proofs.Stood.{facts_then, tree_then, PutThere, of_all_stood}
 
@@ -85,17 +85,17 @@ module _ (calls : ℕ → MapEdit) (lay : Layout) (h : History) (u : ℕ) (p : P
   now cut n x = settled_blank (value h) b n (back b (value h) n (p.settled n (inr (inr (x.0, x.3))))) (cut n x)
 
   edits : (e : MapEdit) → IsEdit p.before u e → ((n : ℕ) → Cuts n → IsBlankAboveKeys (value h) n) → (n : ℕ) → Puts n → IsBlankAboveKeys b n
-  edits (Insert k v) e cut n m = leaf_edits (Insert k v) e.edit (now cut (member p.before u 1) (1, rw plans.3 (omega arith), plans.4, refl)) n m
+  edits c (inl e) cut n m = leaf_edits c e.edit (now cut (member p.before u 1) (1, rw plans.3 (omega arith), plans.4, refl)) n m
     where
-      plans : (field_index_of (plan p.before u) ≡ 0) × (side_of (plan p.before u) ≡ toward b (member p.before u 0) k) × (plan_finalizes (plan p.before u) 0 ≡ false) × (count_of (plan p.before u) ≡ 2) × (plan_finalizes (plan p.before u) 1 ≡ true)
-      plans = plan_insert (plan p.before u) (toward b (member p.before u 0) k) e.plan
-  edits (Delete k) e cut n m = go m
+      plans : (field_index_of (plan p.before u) ≡ 0) × (side_of (plan p.before u) ≡ toward b (member p.before u 0) (edit_key c)) × (plan_finalizes (plan p.before u) 0 ≡ false) × (count_of (plan p.before u) ≡ 2) × (plan_finalizes (plan p.before u) 1 ≡ true)
+      plans = leaf_plan_says (plan p.before u) (toward b (member p.before u 0) (edit_key c)) e.plan
+  edits c (inr e) cut n m = go m
     where
       side : Side
-      side = toward b (member p.before u 1) k
+      side = toward b (member p.before u 1) (edit_key c)
 
-      plans : (field_index_of (plan p.before u) ≡ 0) × (side_of (plan p.before u) ≡ toward b (member p.before u 0) k) × (plan_finalizes (plan p.before u) 0 ≡ false) × (count_of (plan p.before u) ≡ 4) × (plan_finalizes (plan p.before u) 1 ≡ true) × (plan_finalizes (plan p.before u) 2 ≡ true) × (plan_finalizes (plan p.before u) 3 ≡ true)
-      plans = plan_delete (plan p.before u) (toward b (member p.before u 0) k) e.plan
+      plans : (field_index_of (plan p.before u) ≡ 0) × (side_of (plan p.before u) ≡ toward b (member p.before u 0) (edit_key c)) × (plan_finalizes (plan p.before u) 0 ≡ false) × (count_of (plan p.before u) ≡ 4) × (plan_finalizes (plan p.before u) 1 ≡ true) × (plan_finalizes (plan p.before u) 2 ≡ true) × (plan_finalizes (plan p.before u) 3 ≡ true)
+      plans = join_plan_says (plan p.before u) (toward b (member p.before u 0) (edit_key c)) e.plan
 
       sibling : (z : Side) → Cuts (member p.before u (sibling_place z))
       sibling Left = (3, rw plans.3 (omega arith), plans.6, refl)

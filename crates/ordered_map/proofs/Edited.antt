@@ -1,5 +1,5 @@
 -- An update that wins makes the edit of its SCX-record.
-use Rattle.std.proofs.Common.{◌≡◌, ◌≢◌, ℕ, ◌<◌, ◌≤◌, ◌+◌, ◌*◌, ◌/◌, ◌%◌, ◌^◌, true, false, eqb, ltb, ◌⊎◌, inl, inr, ⊎_elim, List, ◌++◌, refl, sym, ◌∙◌, ap, arith, zero, suc, subst, lt-ltb, cond}
+use Rattle.std.proofs.Common.{◌≡◌, ◌≢◌, ℕ, ◌<◌, ◌≤◌, ◌+◌, ◌*◌, ◌/◌, ◌%◌, ◌^◌, true, false, eqb, eq-eqb, ne_eqb, ltb, ◌⊎◌, inl, inr, ⊎_elim, List, ◌++◌, refl, sym, ◌∙◌, ap, arith, zero, suc, subst, lt-ltb, cond}
 use native.Mathlib.Decide.{ℕ_discrete}
 use Rattle.arena.specs.declared.limits.Mode.TheVariants.{Tree as TreeMode}
 use Rattle.arena.specs.declared.word.Side.{Side}
@@ -21,13 +21,13 @@ use Rattle.histories.specs.Descriptor.{Descriptor, descriptor, count_in, field_i
 use Rattle.histories.specs.Finalizing.{IsRemoved}
 use Rattle.histories.proofs.Lemmas.{Facts, IsFlagged, IsMarker, UpdateWins, child_node, log_wins, node_stays, some_is_real, update_differs, update_finds, update_flagged, update_held, update_holds, update_in_progress, update_is_first, update_keeps_mark, update_keeps_other, update_keeps_scx, update_won, won_more}
 use Rattle.ordered_map.specs.declared.pair.Pair.{Pair}
-use Rattle.ordered_map.specs.OrderedMap.{MapEdit, Insert, Delete, edit_key, edited, delete, get, AllAbove}
+use Rattle.ordered_map.specs.OrderedMap.{MapEdit, edit_key, edited, get, AllAbove}
 use Rattle.ordered_map.proofs.Pending.{Mine, IsMadeBy, Pending, Holds, pending_update}
 use Rattle.ordered_map.proofs.Trees.{items, ends, Replaced, replace, IsLocal, edited_local, passes_has}
 use Rattle.ordered_map.specs.Paths.{IsOnPath, WasOnPath}
 use Rattle.ordered_map.specs.Runs.{map_of_log}
 use Rattle.ordered_map.specs.Spelled.{IsTree}
-use Rattle.ordered_map.specs.TreeShape.{insert_plan, delete_plan, IsEdit, IsDelete, leaf_place, sibling_place, edit_leaf}
+use Rattle.ordered_map.specs.TreeShape.{leaf_plan, join_plan, EditsLeaf, TakesLeafOut, IsEdit, leaf_place, sibling_place, edit_leaf}
 use Rattle.ordered_map.specs.TreeWords.{Tree, root, Shows, Has, Passes, is_leaf, level, rank, toward, said}
 use Rattle.ordered_map.specs.Edits.{IsLeafEdit, AreBelow, HasFieldsOf}
 use Rattle.ordered_map.proofs.Local.{Apart, swap, split, join}
@@ -36,13 +36,13 @@ use Rattle.ordered_map.proofs.Holding.{SameSettled}
 use Rattle.ordered_map.proofs.Moved.{settled_toward, settled_leaf, settled_level, move_leaf_edit, move_join_by}
 use Rattle.ordered_map.proofs.TreeFacts.{TreeFacts, path_now}
 
-pub plan_insert : (p : ℕ) (side : Side) → p ≡ insert_plan side → (field_index_of p ≡ 0) × (side_of p ≡ side) × (plan_finalizes p 0 ≡ false) × (count_of p ≡ 2) × (plan_finalizes p 1 ≡ true)
-plan_insert p Left e = rw e (refl, refl, refl, refl, refl)
-plan_insert p Right e = rw e (refl, refl, refl, refl, refl)
+pub leaf_plan_says : (p : ℕ) (side : Side) → p ≡ leaf_plan side → (field_index_of p ≡ 0) × (side_of p ≡ side) × (plan_finalizes p 0 ≡ false) × (count_of p ≡ 2) × (plan_finalizes p 1 ≡ true)
+leaf_plan_says p Left e = rw e (refl, refl, refl, refl, refl)
+leaf_plan_says p Right e = rw e (refl, refl, refl, refl, refl)
 
-pub plan_delete : (p : ℕ) (side : Side) → p ≡ delete_plan side → (field_index_of p ≡ 0) × (side_of p ≡ side) × (plan_finalizes p 0 ≡ false) × (count_of p ≡ 4) × (plan_finalizes p 1 ≡ true) × (plan_finalizes p 2 ≡ true) × (plan_finalizes p 3 ≡ true)
-plan_delete p Left e = rw e (refl, refl, refl, refl, refl, refl, refl)
-plan_delete p Right e = rw e (refl, refl, refl, refl, refl, refl, refl)
+pub join_plan_says : (p : ℕ) (side : Side) → p ≡ join_plan side → (field_index_of p ≡ 0) × (side_of p ≡ side) × (plan_finalizes p 0 ≡ false) × (count_of p ≡ 4) × (plan_finalizes p 1 ≡ true) × (plan_finalizes p 2 ≡ true) × (plan_finalizes p 3 ≡ true)
+join_plan_says p Left e = rw e (refl, refl, refl, refl, refl, refl, refl)
+join_plan_says p Right e = rw e (refl, refl, refl, refl, refl, refl, refl)
 
 weaken : {f g : Word → ℕ} {change : List Pair → List Pair} {Gone Lost Made Born : ℕ → Type 0} {new lo hi : ℕ} {a : Tree} → ((n : ℕ) → Gone n → Lost n) → ((n : ℕ) → Lost n → Gone n) → ((n : ℕ) → Made n → Born n) → Replaced f g change Gone Made new lo hi a → Replaced f g change Lost Born new lo hi a
 weaken to back born x = record { tree = x.tree; shows = x.shows; is = x.is; deep = x.deep; items = x.items; paths = λ j n p. ⊎_elim inl (λ q. inr (to n q)) (x.paths j n p); made = λ n p. ⊎_elim inl (λ q. inr (born n q)) (x.made n p); out = λ n p. x.out n (back n p) }
@@ -186,11 +186,11 @@ module _ (calls : ℕ → MapEdit) (lay : Layout) (h : History) (r : Row) (u : �
   apart_made x s p e q = born e (rw q at (passes_has (value h) x t.tree spot_of (on_path x s p)))
 
   -- a leaf is replaced
-  leaf_edits : (c : MapEdit) → edit_key c < 2 ^ 64 → WasOnPath past.before (edit_key c) spot_of → is_leaf (value past.before) spot_of ≡ false → plan past.before u ≡ insert_plan (toward (value past.before) spot_of (edit_key c)) → old past.before u ≡ member past.before u 1 → IsLeafEdit (value past.before) c (member past.before u 1) made_of → Result (edited c)
-  leaf_edits c small p fork plan_is old_is e = at_spot (edit_key c) s p small fork (edited c) (edited_local c) (edit (move_leaf_edit (value past.before) (value h) c (member past.before u 1) made_of (member_card 1) made_card (λ _ side. child_card side (value past.before (child made_of side)) refl) past.fields e))
+  leaf_edits : (c : MapEdit) → edit_key c < 2 ^ 64 → WasOnPath past.before (edit_key c) spot_of → is_leaf (value past.before) spot_of ≡ false → EditsLeaf past.before u c → Result (edited c)
+  leaf_edits c small p fork e = at_spot (edit_key c) s p small fork (edited c) (edited_local c) (edit (move_leaf_edit (value past.before) (value h) c (member past.before u 1) made_of (member_card 1) made_card (λ _ side. child_card side (value past.before (child made_of side)) refl) past.fields e.edit))
     where
       plans : (field_index_of (plan past.before u) ≡ 0) × (side_of (plan past.before u) ≡ toward (value past.before) spot_of (edit_key c)) × (plan_finalizes (plan past.before u) 0 ≡ false) × (count_of (plan past.before u) ≡ 2) × (plan_finalizes (plan past.before u) 1 ≡ true)
-      plans = plan_insert (plan past.before u) (toward (value past.before) spot_of (edit_key c)) plan_is
+      plans = leaf_plan_says (plan past.before u) (toward (value past.before) spot_of (edit_key c)) e.plan
 
       s : IsSpot (edit_key c)
       s = record { zero_place = plans.0; at_side = plans.1 ∙ sym (toward_now (edit_key c)); kept_node = plans.2 }
@@ -207,7 +207,7 @@ module _ (calls : ℕ → MapEdit) (lay : Layout) (h : History) (r : Row) (u : �
           go (suc (suc j)) i e m = absurd (omega arith)
 
       other : member past.before u 1 ≢ made_of
-      other i = update_differs f z (sym made_is ∙ sym i ∙ sym old_is ∙ (λ j. (past.same j).old))
+      other i = update_differs f z (sym made_is ∙ sym i ∙ sym e.old ∙ (λ j. (past.same j).old))
 
       deeper : (x : ℕ) → level (value h) made_of ≡ level (value h) (member past.before u 1) → level (value h) x ≡ level (value h) made_of + 1 → member past.before u 1 ≢ x
       deeper x a b i = let q : level (value h) (member past.before u 1) ≡ level (value h) x = ap (level (value h)) i in omega (arith, a, b, q)
@@ -215,40 +215,43 @@ module _ (calls : ℕ → MapEdit) (lay : Layout) (h : History) (r : Row) (u : �
       edit : IsLeafEdit (value h) c (member past.before u 1) made_of
           → (lo hi : ℕ) (t : Tree) → lo ≤ edit_key c → edit_key c < hi → Shows (value h) lo hi t → root t ≡ old past.before u → ¬ Has t spot_of → Replaced (value h) (value (r ⊳ h)) (edited c) IsCut Born made_of lo hi t
       edit (inl w) lo hi t i j g q d =
-          weaken to_cut from_cut (λ n m. inl m) (swap (value h) (value (r ⊳ h)) spot_of (is_apart (edit_key c) s) c (member past.before u 1) made_of small other w lo hi t i j g (q ∙ old_is) d)
+          weaken to_cut from_cut (λ n m. inl m) (swap (value h) (value (r ⊳ h)) spot_of (is_apart (edit_key c) s) c (member past.before u 1) made_of small other w lo hi t i j g (q ∙ e.old) d)
       edit (inr w) lo hi t i j g q d =
           weaken to_cut from_cut born (split (value h) (value (r ⊳ h)) spot_of (is_apart (edit_key c) s) c (member past.before u 1) made_of w.0 w.1 small
-          (apart_made (edit_key c) s p w.2.fork) other (deeper w.0 w.2.deep w.2.low) (deeper w.1 w.2.deep w.2.high) w.2 lo hi t i j g (q ∙ old_is) d)
+          (apart_made (edit_key c) s p w.2.fork) other (deeper w.0 w.2.deep w.2.low) (deeper w.1 w.2.deep w.2.high) w.2 lo hi t i j g (q ∙ e.old) d)
         where
           born : (n : ℕ) → (n ≡ made_of) ⊎ ((n ≡ w.0) ⊎ (n ≡ w.1)) → Born n
           born n (inl m) = inl m
           born n (inr (inl m)) = inr (w.2.fork, plans.3, (Left, w.2.left ∙ sym m), rw m w.2.first.leaf)
           born n (inr (inr m)) = inr (w.2.fork, plans.3, (Right, w.2.right ∙ sym m), rw m w.2.last.leaf)
 
-  -- what a delete saw of its nodes still is
-  shown_of : (x : ℕ) → plan past.before u ≡ delete_plan (toward (value past.before) spot_of x) → (j : ℕ) → j < 4 → j ≢ 0 → (side : Side) → value h (child (member past.before u j) side) ≡ value past.before (child (member past.before u j) side)
+  -- what was seen of the nodes of a leaf that is taken out still is
+  shown_of : (x : ℕ) → plan past.before u ≡ join_plan (toward (value past.before) spot_of x) → (j : ℕ) → j < 4 → j ≢ 0 → (side : Side) → value h (child (member past.before u j) side) ≡ value past.before (child (member past.before u j) side)
   shown_of x e j i d side =
-      let q = plan_delete (plan past.before u) (toward (value past.before) spot_of x) e in
+      let q = join_plan_says (plan past.before u) (toward (value past.before) spot_of x) e in
       let m : j < count past.before u = rw q.3 i in
       past.shown j m (λ y. d (y ∙ q.0)) (holds j m) side
 
-  saw_of : (x : ℕ) → plan past.before u ≡ delete_plan (toward (value past.before) spot_of x) → (j : ℕ) → j < 4 → value past.before (info (member past.before u j)) ≡ seen past.before u j
+  saw_of : (x : ℕ) → plan past.before u ≡ join_plan (toward (value past.before) spot_of x) → (j : ℕ) → j < 4 → value past.before (info (member past.before u j)) ≡ seen past.before u j
   saw_of x e j i =
-      let q = plan_delete (plan past.before u) (toward (value past.before) spot_of x) e in
+      let q = join_plan_says (plan past.before u) (toward (value past.before) spot_of x) e in
       let m : j < count past.before u = rw q.3 i in
       past.saw j m (holds j m)
 
-  below_old : (x : ℕ) (side : Side) → IsDelete past.before u x side → (value h (child (member past.before u 1) Left) ≡ member past.before u 2) × (value h (child (member past.before u 1) Right) ≡ member past.before u 3)
-  below_old x side e =
-      let q : (value past.before (child (member past.before u 1) Left) ≡ member past.before u 2) × (value past.before (child (member past.before u 1) Right) ≡ member past.before u 3) = e.fields (saw_of x e.plan 1 (omega arith)) in
-      (shown_of x e.plan 1 (omega arith) (λ i. omega arith) Left ∙ q.0, shown_of x e.plan 1 (omega arith) (λ i. omega arith) Right ∙ q.1)
+  below_old : (c : MapEdit) (side : Side) → TakesLeafOut past.before u c side → (value h (child (member past.before u 1) Left) ≡ member past.before u 2) × (value h (child (member past.before u 1) Right) ≡ member past.before u 3)
+  below_old c side e =
+      let q : (value past.before (child (member past.before u 1) Left) ≡ member past.before u 2) × (value past.before (child (member past.before u 1) Right) ≡ member past.before u 3) = e.fields (saw_of (edit_key c) e.plan 1 (omega arith)) in
+      (shown_of (edit_key c) e.plan 1 (omega arith) (λ i. omega arith) Left ∙ q.0, shown_of (edit_key c) e.plan 1 (omega arith) (λ i. omega arith) Right ∙ q.1)
 
-  -- a delete
-  deletes : (x : ℕ) (side : Side) → x < 2 ^ 64 → WasOnPath past.before x spot_of → is_leaf (value past.before) spot_of ≡ false → IsDelete past.before u x side → Result (delete x)
-  deletes x side small p fork e = at_spot x s p small fork (delete x) (edited_local (Delete x)) edit
+  -- a leaf is taken out
+  joins : (c : MapEdit) (side : Side) → edit_key c < 2 ^ 64 → WasOnPath past.before (edit_key c) spot_of → is_leaf (value past.before) spot_of ≡ false → TakesLeafOut past.before u c side → Result (edited c)
+  joins c side small p fork e = at_spot x s p small fork (edited c) (edited_local c) edit
     where
+      x : ℕ
+      x = edit_key c
+
       plans : (field_index_of (plan past.before u) ≡ 0) × (side_of (plan past.before u) ≡ toward (value past.before) spot_of x) × (plan_finalizes (plan past.before u) 0 ≡ false) × (count_of (plan past.before u) ≡ 4) × (plan_finalizes (plan past.before u) 1 ≡ true) × (plan_finalizes (plan past.before u) 2 ≡ true) × (plan_finalizes (plan past.before u) 3 ≡ true)
-      plans = plan_delete (plan past.before u) (toward (value past.before) spot_of x) e.plan
+      plans = join_plan_says (plan past.before u) (toward (value past.before) spot_of x) e.plan
 
       s : IsSpot x
       s = record { zero_place = plans.0; at_side = plans.1 ∙ sym (toward_now x); kept_node = plans.2 }
@@ -257,14 +260,14 @@ module _ (calls : ℕ → MapEdit) (lay : Layout) (h : History) (r : Row) (u : �
       in_v j i = rw plans.3 i
 
       shows : (j : ℕ) → j < 4 → j ≢ 0 → (side : Side) → value h (child (member past.before u j) side) ≡ value past.before (child (member past.before u j) side)
-      shows = shown_of x e.plan
+      shows = shown_of (edit_key c) e.plan
 
       saw : (j : ℕ) → j < 4 → value past.before (info (member past.before u j)) ≡ seen past.before u j
-      saw = saw_of x e.plan
+      saw = saw_of (edit_key c) e.plan
 
       sides : (side : Side) → AreBelow (value h) (member past.before u 1) (member past.before u (leaf_place side)) (member past.before u (sibling_place side))
-      sides Left = inl (below_old x side e)
-      sides Right = inr (below_old x side e)
+      sides Left = inl (below_old c side e)
+      sides Right = inr (below_old c side e)
 
       small_place : (side : Side) → (sibling_place side < 4) × (sibling_place side ≢ 0)
       small_place Left = (omega arith, λ i. omega arith)
@@ -315,19 +318,19 @@ module _ (calls : ℕ → MapEdit) (lay : Layout) (h : History) (r : Row) (u : �
       shown_child Left w = ((λ i. past.unheld (member past.before u 1) Left (held_at past.before (child (member past.before u 1) Left) made_of (w.0 ∙ i))), (λ i. past.unheld (member past.before u 1) Right (held_at past.before (child (member past.before u 1) Right) made_of (w.1 ∙ i))))
       shown_child Right w = ((λ i. past.unheld (member past.before u 1) Right (held_at past.before (child (member past.before u 1) Right) made_of (w.1 ∙ i))), (λ i. past.unheld (member past.before u 1) Left (held_at past.before (child (member past.before u 1) Left) made_of (w.0 ∙ i))))
 
-      edit : (lo hi : ℕ) (c : Tree) → lo ≤ x → x < hi → Shows (value h) lo hi c → root c ≡ old past.before u → ¬ Has c spot_of → Replaced (value h) (value (r ⊳ h)) (delete x) IsCut Born made_of lo hi c
-      edit lo hi c i j g q d =
-          weaken gone from_cut (λ n m. inl m) (join (value h) (value (r ⊳ h)) spot_of (is_apart x s) (Delete x) (member past.before u 1) (member past.before u (leaf_place side)) (member past.before u (sibling_place side)) made_of other (shown_child side (e.fields (saw 1 (omega arith)))).0 (shown_child side (e.fields (saw 1 (omega arith)))).1 (apart_made x s p)
-          (move_join_by (value past.before) (value h) (Delete x) (member past.before u 1) (member past.before u (leaf_place side)) (member past.before u (sibling_place side)) made_of (member_card 1) (member_card (leaf_place side)) (member_card (sibling_place side)) made_card e.edit)
-          (sides side) kids lo hi c i j g (q ∙ e.old) d)
+      edit : (lo hi : ℕ) (t : Tree) → lo ≤ x → x < hi → Shows (value h) lo hi t → root t ≡ old past.before u → ¬ Has t spot_of → Replaced (value h) (value (r ⊳ h)) (edited c) IsCut Born made_of lo hi t
+      edit lo hi t i j g q d =
+          weaken gone from_cut (λ n m. inl m) (join (value h) (value (r ⊳ h)) spot_of (is_apart x s) c (member past.before u 1) (member past.before u (leaf_place side)) (member past.before u (sibling_place side)) made_of other (shown_child side (e.fields (saw 1 (omega arith)))).0 (shown_child side (e.fields (saw 1 (omega arith)))).1 (apart_made x s p)
+          (move_join_by (value past.before) (value h) c (member past.before u 1) (member past.before u (leaf_place side)) (member past.before u (sibling_place side)) made_of (member_card 1) (member_card (leaf_place side)) (member_card (sibling_place side)) made_card e.edit)
+          (sides side) kids lo hi t i j g (q ∙ e.old) d)
 
   edits : (c : MapEdit) → edit_key c < 2 ^ 64 → WasOnPath past.before (edit_key c) spot_of → is_leaf (value past.before) spot_of ≡ false → IsEdit past.before u c → Result (edited c)
-  edits (Insert x y) small p fork e = leaf_edits (Insert x y) small p fork e.plan e.old e.edit
-  edits (Delete x) small p fork e = deletes x (toward (value past.before) (member past.before u 1) x) small p fork e
+  edits c small p fork (inl e) = leaf_edits c small p fork e
+  edits c small p fork (inr e) = joins c (toward (value past.before) (member past.before u 1) (edit_key c)) small p fork e
 
   spot_for : (c : MapEdit) → IsEdit past.before u c → IsSpot (edit_key c)
-  spot_for (Insert x y) e = let q = plan_insert (plan past.before u) (toward (value past.before) spot_of x) e.plan in record { zero_place = q.0; at_side = q.1 ∙ sym (toward_now x); kept_node = q.2 }
-  spot_for (Delete x) e = let q = plan_delete (plan past.before u) (toward (value past.before) spot_of x) e.plan in record { zero_place = q.0; at_side = q.1 ∙ sym (toward_now x); kept_node = q.2 }
+  spot_for c (inl e) = let q = leaf_plan_says (plan past.before u) (toward (value past.before) spot_of (edit_key c)) e.plan in record { zero_place = q.0; at_side = q.1 ∙ sym (toward_now (edit_key c)); kept_node = q.2 }
+  spot_for c (inr e) = let q = join_plan_says (plan past.before u) (toward (value past.before) spot_of (edit_key c)) e.plan in record { zero_place = q.0; at_side = q.1 ∙ sym (toward_now (edit_key c)); kept_node = q.2 }
 
   abbrev pub called : MapEdit
   called = calls u
@@ -409,16 +412,6 @@ module _ (calls : ℕ → MapEdit) (lay : Layout) (h : History) (r : Row) (u : �
       let i = past.allowed.small in
       spot_side ∙ ap (λ n. toward (value h) n (edit_key called)) e ∙ ap (λ c. cond c Left Right) (lt-ltb (edit_key called) (rank (value h) 0) (omega (arith, i, big)))
 
-  -- the leaf that its call found
-  pub leaf_of : MapEdit → ℕ
-  leaf_of (Insert x y) = member past.before u 1
-  leaf_of (Delete x) = member past.before u (leaf_place (toward (value past.before) (member past.before u 1) x))
-
-  pub leaf_is : (e : MapEdit) → leaf_of e ≡ edit_leaf past.before u e
-  unfolding leaf_of
-  leaf_is (Insert x y) = refl
-  leaf_is (Delete x) = refl
-
   field_was : (x : ℕ) → IsSpot x → value h (child spot_of (toward (value h) spot_of x)) ≡ old past.before u
   field_was x s = rw (field_is x s) at (update_finds f z) ∙ sym (λ i. (past.same i).old)
 
@@ -427,30 +420,43 @@ module _ (calls : ℕ → MapEdit) (lay : Layout) (h : History) (r : Row) (u : �
       subst (λ n. Passes (value h) x t.tree n) (field_was x s)
       (path_child (value h) x t.tree _ _ spot_of t.is_tree.shows (on_path x s p) (settled_leaf (value past.before) (value h) spot_of (member_card 0) ∙ fork))
 
-  says : (c : MapEdit) → IsSpot (edit_key c) → WasOnPath past.before (edit_key c) spot_of → is_leaf (value past.before) spot_of ≡ false → IsEdit past.before u c → get (edit_key c) (items (value h) t.tree) ≡ told (value h) (edit_key c) (leaf_of c)
-  unfolding leaf_of
-  says (Insert x y) s p fork e =
+  covered_two : (c : MapEdit) → EditsLeaf past.before u c → edit_leaf past.before u c ≡ member past.before u 1
+  covered_two c e =
+      let two : count past.before u ≡ 2 = (leaf_plan_says (plan past.before u) (toward (value past.before) spot_of (edit_key c)) e.plan).3 in
+      rw (eq-eqb (count past.before u) 2 two) refl
+
+  covered_four : (c : MapEdit) (side : Side) → TakesLeafOut past.before u c side → edit_leaf past.before u c ≡ member past.before u (leaf_place (toward (value past.before) (member past.before u 1) (edit_key c)))
+  covered_four c side e =
+      let four : count past.before u ≡ 4 = (join_plan_says (plan past.before u) (toward (value past.before) spot_of (edit_key c)) e.plan).3 in
+      rw (ne_eqb (count past.before u) 2 (λ two. omega (arith, two, four))) refl
+
+  says : (c : MapEdit) → IsSpot (edit_key c) → WasOnPath past.before (edit_key c) spot_of → is_leaf (value past.before) spot_of ≡ false → IsEdit past.before u c → get (edit_key c) (items (value h) t.tree) ≡ told (value h) (edit_key c) (edit_leaf past.before u c)
+  says c s p fork (inl e) =
+      let x : ℕ = edit_key c in
       let q : Passes (value h) x t.tree (member past.before u 1) = subst (λ n. Passes (value h) x t.tree n) e.old (old_on_path x s p fork) in
       let d : is_leaf (value past.before) (member past.before u 1) ≡ true = ⊎_elim (λ w. w.leaf) (λ w. w.2.leaf) e.edit in
       get_leaf (value h) x t.tree _ _ (member past.before u 1) t.is_tree.shows q (settled_leaf (value past.before) (value h) (member past.before u 1) (member_card 1) ∙ d)
-  says (Delete x) s p fork e =
-      let d : toward (value h) (member past.before u 1) x ≡ toward (value past.before) (member past.before u 1) x = settled_toward (value past.before) (value h) (member past.before u 1) x (member_card 1) in
+      ∙ ap (told (value h) x) (sym (covered_two c e))
+  says c s p fork (inr e) =
+      let x : ℕ = edit_key c in
+      let side : Side = toward (value past.before) (member past.before u 1) x in
+      let d : toward (value h) (member past.before u 1) x ≡ side = settled_toward (value past.before) (value h) (member past.before u 1) x (member_card 1) in
       let q : Passes (value h) x t.tree (member past.before u 1) = subst (λ n. Passes (value h) x t.tree n) e.old (old_on_path x s p fork) in
-      let c : is_leaf (value h) (member past.before u 1) ≡ false = settled_leaf (value past.before) (value h) (member past.before u 1) (member_card 1) ∙ e.edit.fork in
-      let g : Passes (value h) x t.tree (value h (child (member past.before u 1) (toward (value h) (member past.before u 1) x))) = path_child (value h) x t.tree _ _ (member past.before u 1) t.is_tree.shows q c in
-      let w : value h (child (member past.before u 1) (toward (value h) (member past.before u 1) x)) ≡ member past.before u (leaf_place (toward (value past.before) (member past.before u 1) x)) =
-      ap (λ s. value h (child (member past.before u 1) s)) d ∙ by_side (toward (value past.before) (member past.before u 1) x) (below_old x (toward (value past.before) (member past.before u 1) x) e) in
-      get_leaf (value h) x t.tree _ _ (member past.before u (leaf_place (toward (value past.before) (member past.before u 1) x))) t.is_tree.shows (subst (λ n. Passes (value h) x t.tree n) w g)
-      (settled_leaf (value past.before) (value h) (member past.before u (leaf_place (toward (value past.before) (member past.before u 1) x))) (member_card _) ∙ e.edit.leaf)
+      let f : is_leaf (value h) (member past.before u 1) ≡ false = settled_leaf (value past.before) (value h) (member past.before u 1) (member_card 1) ∙ e.edit.fork in
+      let g : Passes (value h) x t.tree (value h (child (member past.before u 1) (toward (value h) (member past.before u 1) x))) = path_child (value h) x t.tree _ _ (member past.before u 1) t.is_tree.shows q f in
+      let w : value h (child (member past.before u 1) (toward (value h) (member past.before u 1) x)) ≡ member past.before u (leaf_place side) = ap (λ z. value h (child (member past.before u 1) z)) d ∙ by_side side (below_old c side e) in
+      get_leaf (value h) x t.tree _ _ (member past.before u (leaf_place side)) t.is_tree.shows (subst (λ n. Passes (value h) x t.tree n) w g)
+      (settled_leaf (value past.before) (value h) (member past.before u (leaf_place side)) (member_card _) ∙ e.edit.leaf)
+      ∙ ap (told (value h) x) (sym (covered_four c side e))
     where
       by_side : (side : Side) → (value h (child (member past.before u 1) Left) ≡ member past.before u 2) × (value h (child (member past.before u 1) Right) ≡ member past.before u 3) → value h (child (member past.before u 1) side) ≡ member past.before u (leaf_place side)
       by_side Left q = q.0
       by_side Right q = q.1
 
-  -- the leaf that its call found says what the key had just before
-  pub replies : get (edit_key called) (map_of_log calls (log lay h)) ≡ said (value h) (edit_key called) (leaf_of called)
+  -- the leaf of its edit says what the key had just before
+  pub replies : get (edit_key called) (map_of_log calls (log lay h)) ≡ said (value h) (edit_key called) (edit_leaf past.before u called)
   replies = sym (get_left (edit_key called) (map_of_log calls (log lay h)) ends above_ends) ∙ ap (get (edit_key called)) (sym t.items) ∙ says called is_spot past.allowed.path past.allowed.fork past.allowed.edit
-      ∙ told_said (value h) (edit_key called) (leaf_of called) past.allowed.small
+      ∙ told_said (value h) (edit_key called) (edit_leaf past.before u called) past.allowed.small
 
   -- what it removes, and what it puts into the tree, as its words say now
   pub removed_cut : (n : ℕ) → IsRemoved h u n → IsCut n
@@ -476,12 +482,12 @@ module _ (calls : ℕ → MapEdit) (lay : Layout) (h : History) (r : Row) (u : �
   IsAsDeep : ℕ → Type 0
   IsAsDeep n = (k : ℕ) × IsCut k × (level (value h) n ≤ suc (level (value h) k))
 
-  leaf_levels : (c : MapEdit) → plan past.before u ≡ insert_plan (toward (value past.before) spot_of (edit_key c)) → IsLeafEdit (value past.before) c (member past.before u 1) made_of → (n : ℕ) → Born n → IsAsDeep n
+  leaf_levels : (c : MapEdit) → EditsLeaf past.before u c → (n : ℕ) → Born n → IsAsDeep n
   unfolding IsAsDeep
-  leaf_levels c plan_is e n b = (member past.before u 1, (1, rw plans.3 (omega arith), plans.4, refl), deep e b)
+  leaf_levels c e n b = (member past.before u 1, (1, rw plans.3 (omega arith), plans.4, refl), deep e.edit b)
     where
       plans : (field_index_of (plan past.before u) ≡ 0) × (side_of (plan past.before u) ≡ toward (value past.before) spot_of (edit_key c)) × (plan_finalizes (plan past.before u) 0 ≡ false) × (count_of (plan past.before u) ≡ 2) × (plan_finalizes (plan past.before u) 1 ≡ true)
-      plans = plan_insert (plan past.before u) (toward (value past.before) spot_of (edit_key c)) plan_is
+      plans = leaf_plan_says (plan past.before u) (toward (value past.before) spot_of (edit_key c)) e.plan
 
       lv : (k : ℕ) → Mine past.before u k → level (value h) k ≡ level (value past.before) k
       lv k m = settled_level (value past.before) (value h) k (card k m)
@@ -511,29 +517,29 @@ module _ (calls : ℕ → MapEdit) (lay : Layout) (h : History) (r : Row) (u : �
           below Left j = is_child w.0 Left w.2.low w.2.left j
           below Right j = is_child w.1 Right w.2.high w.2.right j
 
-  delete_levels : (x : ℕ) (side : Side) → IsDelete past.before u x side → (n : ℕ) → Born n → IsAsDeep n
+  join_levels : (c : MapEdit) (side : Side) → TakesLeafOut past.before u c side → (n : ℕ) → Born n → IsAsDeep n
   unfolding IsAsDeep
-  delete_levels x side e n b = (member past.before u (sibling_place side), delete side, deep b)
+  join_levels c side e n b = (member past.before u (sibling_place side), sibling_cut side, deep b)
     where
-      plans : (field_index_of (plan past.before u) ≡ 0) × (side_of (plan past.before u) ≡ toward (value past.before) spot_of x) × (plan_finalizes (plan past.before u) 0 ≡ false) × (count_of (plan past.before u) ≡ 4) × (plan_finalizes (plan past.before u) 1 ≡ true) × (plan_finalizes (plan past.before u) 2 ≡ true) × (plan_finalizes (plan past.before u) 3 ≡ true)
-      plans = plan_delete (plan past.before u) (toward (value past.before) spot_of x) e.plan
+      plans : (field_index_of (plan past.before u) ≡ 0) × (side_of (plan past.before u) ≡ toward (value past.before) spot_of (edit_key c)) × (plan_finalizes (plan past.before u) 0 ≡ false) × (count_of (plan past.before u) ≡ 4) × (plan_finalizes (plan past.before u) 1 ≡ true) × (plan_finalizes (plan past.before u) 2 ≡ true) × (plan_finalizes (plan past.before u) 3 ≡ true)
+      plans = join_plan_says (plan past.before u) (toward (value past.before) spot_of (edit_key c)) e.plan
 
-      delete : (z : Side) → IsCut (member past.before u (sibling_place z))
-      delete Left = (3, rw plans.3 (omega arith), plans.6, refl)
-      delete Right = (2, rw plans.3 (omega arith), plans.5, refl)
+      sibling_cut : (z : Side) → IsCut (member past.before u (sibling_place z))
+      sibling_cut Left = (3, rw plans.3 (omega arith), plans.6, refl)
+      sibling_cut Right = (2, rw plans.3 (omega arith), plans.5, refl)
 
       deep : Born n → level (value h) n ≤ suc (level (value h) (member past.before u (sibling_place side)))
-      deep (inr m) = absurd (let a : count past.before u ≡ 2 = m.1 in let c : count past.before u ≡ 4 = plans.3 in omega (arith, a, c))
+      deep (inr m) = absurd (let a : count past.before u ≡ 2 = m.1 in let four : count past.before u ≡ 4 = plans.3 in omega (arith, a, four))
       deep (inl m) =
           let a : level (value h) n ≡ level (value h) made_of = ap (level (value h)) m in
-          let c : level (value h) made_of ≡ level (value past.before) made_of = settled_level (value past.before) (value h) made_of made_card in
+          let e1 : level (value h) made_of ≡ level (value past.before) made_of = settled_level (value past.before) (value h) made_of made_card in
           let d : level (value h) (member past.before u (sibling_place side)) ≡ level (value past.before) (member past.before u (sibling_place side)) = settled_level (value past.before) (value h) _ (member_card (sibling_place side)) in
           let q : level (value past.before) made_of ≡ level (value past.before) (member past.before u (sibling_place side)) = ap (λ v. v / 8) e.edit.copy.same_head in
-          omega (arith, a, c, d, q)
+          omega (arith, a, e1, d, q)
 
   levels_of : (c : MapEdit) → IsEdit past.before u c → (n : ℕ) → Born n → IsAsDeep n
-  levels_of (Insert x y) e = leaf_levels (Insert x y) e.plan e.edit
-  levels_of (Delete x) e = delete_levels x (toward (value past.before) (member past.before u 1) x) e
+  levels_of c (inl e) = leaf_levels c e
+  levels_of c (inr e) = join_levels c (toward (value past.before) (member past.before u 1) (edit_key c)) e
 
   pub born_level : (n : ℕ) → Born n → (k : ℕ) × IsCut k × (level (value h) n ≤ suc (level (value h) k))
   unfolding IsAsDeep

@@ -8,7 +8,7 @@ pub use Rattle.ordered_map.proofs.TreeRuns.{tree_not_final, path_not_final, path
 pub use Rattle.ordered_map.proofs.Blamed.{blame_finalizer, passed_finalized}
 pub use Rattle.ordered_map.proofs.ChangedFields.{blame_field}
 pub use Rattle.ordered_map.proofs.Runs.{makes_at, begun_named, shaped_change}
-pub use Rattle.ordered_map.proofs.Edited.{plan_insert, plan_delete}
+pub use Rattle.ordered_map.proofs.Edited.{leaf_plan_says, join_plan_says}
 pub use Rattle.ordered_map.proofs.Trees.{same_tree, open_between}
 pub use Rattle.ordered_map.proofs.Holding.{SameSettled, held_one, counted_one, low_items, high_items, one_item, low_pairs, high_pairs, same_pairs, same_leaf, rank_from, rank_below}
 pub use Rattle.ordered_map.proofs.Moved.{settled_rank, settled_toward, settled_class, settled_leaf, settled_level, settled_first, move_leaf_edit, move_join_by}

@@ -1,6 +1,6 @@
 -- What a run under the shape of the tree says, whatever edits it makes: the map that the words
 -- spell, what a winning update makes of it, and what walks find.
-use Rattle.std.proofs.Common.{◌≡◌, ◌≢◌, ℕ, ◌^◌, ◌<◌, true, false, cond, eq-eqb, inl, inr, ⊎_elim, List, [], refl, sym, ◌∙◌, ap, arith, subst}
+use Rattle.std.proofs.Common.{◌≡◌, ◌≢◌, ℕ, ◌^◌, ◌<◌, true, false, cond, eqb, eq-eqb, ne_eqb, inl, inr, ⊎_elim, List, [], refl, sym, ◌∙◌, ap, arith, subst}
 use native.Mathlib.Decide.{ℕ_discrete}
 use Rattle.arena.specs.declared.limits.Mode.TheVariants.{Tree as TreeMode}
 use Rattle.arena.specs.declared.word.Side.{Side}
@@ -12,26 +12,27 @@ use Rattle.arena.specs.declared.step.Row.{Row}
 use Rattle.arena.specs.Words.{info, scx, child}
 use Rattle.arena.specs.History.{History, Start, ◌⊳◌, value, Extends}
 use Rattle.arena.specs.Blame.{IsMember}
-use Rattle.arena.specs.ScxRecords.{member, plan}
+use Rattle.arena.specs.ScxRecords.{count, count_of, member, plan}
 use Rattle.arena.specs.Fills.{IsNamed, IsNamedScx}
 use Rattle.arena.specs.Lawful.{Lawful, IsWin, HasWon}
 use Rattle.arena.specs.Log.{log, IsEntered}
 use Rattle.arena.specs.Shape.{IsBegin, Shaped}
+use Rattle.histories.specs.Descriptor.{count_in}
 use Rattle.arena.proofs.Lemmas.{held_back, held_start, opening_info, ends_self, ends_trans, value_apart}
 use Rattle.histories.proofs.Lemmas.{Effect, Facts, IsFirst, Logs, begins_once, scx_since, logs, same, wins, UpdateWins, effect, entered_won, facts, facts_before, freeze, freeze_held, lawful_row, lawful_since, lawful_tail, named_since, quiet, shaped_begin, shaped_since, shaped_tail, some_is_real, update, update_flagged, update_held, won_named, won_real}
 use Rattle.ordered_map.specs.declared.pair.Pair.{Pair}
-use Rattle.ordered_map.specs.OrderedMap.{MapEdit, Insert, Delete, edit_key, edited, get}
+use Rattle.ordered_map.specs.OrderedMap.{MapEdit, edit_key, edited, get}
 use Rattle.ordered_map.proofs.Pending.{AllowsGiven, Pending}
 use Rattle.ordered_map.proofs.Trees.{same_tree}
 use Rattle.ordered_map.specs.Paths.{Passed, IsAnswerAt}
 use Rattle.ordered_map.specs.Laws.{AreEdits, SpellsLog}
 use Rattle.ordered_map.specs.Runs.{IsTreeRun, Makes, map_of_log, IsEditAt}
 use Rattle.ordered_map.specs.Spelled.{Spells}
-use Rattle.ordered_map.specs.TreeShape.{leaf_place, edit_leaf, TreeAllows}
+use Rattle.ordered_map.specs.TreeShape.{IsEdit, leaf_place, edit_leaf, TreeAllows}
 use Rattle.ordered_map.specs.TreeWords.{class, is_leaf, level, toward, pairs, said}
 use Rattle.ordered_map.proofs.Moved.{settled_toward}
 use Rattle.ordered_map.proofs.TreeFacts.{TreeFacts}
-use Rattle.ordered_map.proofs.Edited.{past, plan_insert, plan_delete, content_now, leaf_is, replies}
+use Rattle.ordered_map.proofs.Edited.{past, leaf_plan_says, join_plan_says, content_now, replies}
 use Rattle.ordered_map.proofs.Grown.{IsGrown, tree_facts, first_begins, grown_tail, grown_since, start_mode}
 use Rattle.ordered_map.proofs.Past.{path_named, Answered, walk_begins, walk_goes_on, walk_ends, level_rises}
 use Rattle.ordered_map.proofs.Growing.{spells, root_leaf, root_left}
@@ -145,12 +146,11 @@ run_since lay h m g e = (g.0, record { lawful = lawful_since lay h m g.1.lawful 
 -- A winning update
 
 same_leaf : (calls : ℕ → MapEdit) (lay : Layout) (h : History) (u : ℕ) (p : Pending calls lay h u) (e : MapEdit) → edit_leaf p.before u e ≡ edit_leaf h u e
-same_leaf calls lay h u p (Insert k v) = λ i. (p.same i).member 1
-same_leaf calls lay h u p (Delete k) =
-    let d : toward (value h) (member p.before u 1) k ≡ toward (value p.before) (member p.before u 1) k = settled_toward (value p.before) (value h) (member p.before u 1) k (λ a i. p.settled (member p.before u 1) (inr (inr (1, refl))) a i) in
+same_leaf calls lay h u p c =
+    let d : toward (value h) (member p.before u 1) (edit_key c) ≡ toward (value p.before) (member p.before u 1) (edit_key c) = settled_toward (value p.before) (value h) (member p.before u 1) (edit_key c) (λ a i. p.settled (member p.before u 1) (inr (inr (1, refl))) a i) in
     let m : member p.before u 1 ≡ member h u 1 = λ i. (p.same i).member 1 in
-    let e : toward (value p.before) (member p.before u 1) k ≡ toward (value h) (member h u 1) k = sym d ∙ ap (λ n. toward (value h) n k) m in
-    λ i. (p.same i).member (leaf_place (e i))
+    let e : toward (value p.before) (member p.before u 1) (edit_key c) ≡ toward (value h) (member h u 1) (edit_key c) = sym d ∙ ap (λ n. toward (value h) n (edit_key c)) m in
+    λ i. cond (eqb (count_in (p.same i)) 2) ((p.same i).member 1) ((p.same i).member (leaf_place (e i)))
 
 module _ (calls : ℕ → MapEdit) (lay : Layout) (h : History) (r : Row) (u : ℕ) (now : IsGrown calls lay (r ⊳ h)) (w : UpdateWins h r u) where
   grown_then : IsGrown calls lay h
@@ -178,7 +178,7 @@ module _ (calls : ℕ → MapEdit) (lay : Layout) (h : History) (r : Row) (u : �
   replying : (ps : List Pair) → Spells lay (value h) ps → get (edit_key (calls u)) ps ≡ said (value h) (edit_key (calls u)) (edit_leaf h u (calls u))
   replying ps s =
       ap (get (edit_key (calls u))) (map_then ps s) ∙ replies calls lay h r u f w now.mode now.lawful t
-      ∙ ap (said (value h) (edit_key (calls u))) (leaf_is calls lay h r u f w now.mode now.lawful t (calls u) ∙ same_leaf calls lay h u (past calls lay h r u f w now.mode now.lawful t) (calls u))
+      ∙ ap (said (value h) (edit_key (calls u))) (same_leaf calls lay h u (past calls lay h r u f w now.mode now.lawful t) (calls u))
 
   win_given : IsEditAt lay h r u (calls u)
   win_given = record { makes = makes; changes = changing; replies = replying }
@@ -279,13 +279,20 @@ begun_plan lay h s e l x =
 
 -- it covers the leaf of its edit
 pub leaf_covered : (lay : Layout) (h : History) (s : ℕ) (e : MapEdit) → Lawful lay h → Makes lay h s e → IsMember h s (edit_leaf h s e)
-leaf_covered lay h s (Insert k v) l x = record { index = 1; within = rw (begun_plan lay h s (Insert k v) l x, (plan_insert _ _ x.edit.edit.plan).3) (omega arith); is = refl }
-leaf_covered lay h s (Delete k) l x = record {
-  index = leaf_place (toward (value h) (member h s 1) k);
-  within = rw (begun_plan lay h s (Delete k) l x, (plan_delete _ _ x.edit.edit.plan).3) (few (toward (value h) (member h s 1) k));
-  is = refl;
-}
+leaf_covered lay h s e l x = go x.edit.edit
   where
     few : (side : Side) → leaf_place side < 4
     few Left = omega arith
     few Right = omega arith
+
+    go : IsEdit x.before s e → IsMember h s (edit_leaf h s e)
+    go (inl y) =
+        let two : count h s ≡ 2 = ap count_of (begun_plan lay h s e l x) ∙ (leaf_plan_says _ _ y.plan).3 in
+        record { index = 1; within = rw two (omega arith); is = rw (eq-eqb (count h s) 2 two) refl }
+    go (inr y) =
+        let four : count h s ≡ 4 = ap count_of (begun_plan lay h s e l x) ∙ (join_plan_says _ _ y.plan).3 in
+        record {
+          index = leaf_place (toward (value h) (member h s 1) (edit_key e));
+          within = rw four (few (toward (value h) (member h s 1) (edit_key e)));
+          is = rw (ne_eqb (count h s) 2 (λ two. omega (arith, two, four))) refl;
+        }

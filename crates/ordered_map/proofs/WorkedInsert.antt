@@ -253,7 +253,7 @@ may_edit = record {
   small = lit< tt;
   path = (Start TreeMode, start_in fills, record { tree = Fork 0 (Leaf 1) (Leaf 2); is_tree = opening_tree; passes = inl refl });
   fork = refl;
-  edit = record {
+  edit = inl record {
     plan = refl;
     old = refl;
     edit = inr (

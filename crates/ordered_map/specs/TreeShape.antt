@@ -1,5 +1,5 @@
 -- Which SCX-records may begin in the tree: each makes an edit of the map.
-use Rattle.std.specs.Prelude.{◌≡◌, ℕ, ◌^◌, ◌<◌, false}
+use Rattle.std.specs.Prelude.{◌≡◌, ℕ, ◌^◌, ◌<◌, false, if◌then◌else◌, ◌==◌, ◌⊎◌}
 use Rattle.arena.specs.declared.word.Side.{Side}
 use Rattle.arena.specs.declared.word.Side.TheVariants.{Left, Right}
 use Rattle.arena.specs.declared.layout.Layout.{Layout}
@@ -7,51 +7,51 @@ use Rattle.arena.specs.Words.{info, child}
 use Rattle.arena.specs.History.{History, value}
 use Rattle.arena.specs.ScxRecords.{plan, count, member, seen, new, old}
 use Rattle.arena.specs.Fills.{IsNamed}
-use Rattle.ordered_map.specs.OrderedMap.{MapEdit, Insert, Delete, edit_key}
+use Rattle.ordered_map.specs.OrderedMap.{MapEdit, edit_key}
 use Rattle.ordered_map.specs.TreeWords.{is_leaf, toward}
 use Rattle.ordered_map.specs.Edits.{IsLeafEdit, IsJoinBy, HasFieldsOf}
 use Rattle.ordered_map.specs.Paths.{WasOnPath}
 
--- the plan word of an insert that changes the field on this side
-abbrev pub insert_plan : Side → ℕ
-insert_plan Left = 18
-insert_plan Right = 530
+-- the plan word of an edit of a leaf, that changes the field on this side
+abbrev pub leaf_plan : Side → ℕ
+leaf_plan Left = 18
+leaf_plan Right = 530
 
--- the plan word of a delete that changes the field on this side
-abbrev pub delete_plan : Side → ℕ
-delete_plan Left = 116
-delete_plan Right = 628
+-- the plan word of taking a leaf out, that changes the field on this side
+abbrev pub join_plan : Side → ℕ
+join_plan Left = 116
+join_plan Right = 628
 
--- An insert covers the parent and the leaf, and finalizes the leaf: the field of the parent towards
--- the key is to hold a fresh leaf, or a fresh fork over two fresh leaves.
-pub record IsInsert (h : History) (s k v : ℕ) : Type 0 where
-  pub plan : plan h s ≡ insert_plan (toward (value h) (member h s 0) k)
+-- An edit of a leaf covers the parent and the leaf, and finalizes the leaf: the field of the parent
+-- towards the key is to hold a fresh leaf, or a fresh fork over two fresh leaves.
+pub record EditsLeaf (h : History) (s : ℕ) (e : MapEdit) : Type 0 where
+  pub plan : plan h s ≡ leaf_plan (toward (value h) (member h s 0) (edit_key e))
   pub old : old h s ≡ member h s 1
-  pub edit : IsLeafEdit (value h) (Insert k v) (member h s 1) (new h s)
+  pub edit : IsLeafEdit (value h) e (member h s 1) (new h s)
 
--- at which place a delete covers the leaf, which is on this side of the parent
+-- at which place the leaf is covered that is taken out, which is on this side of the parent
 abbrev pub leaf_place : Side → ℕ
 leaf_place Left = 2
 leaf_place Right = 3
 
--- at which place it covers the leaf's sibling
+-- at which place its sibling is covered
 abbrev pub sibling_place : Side → ℕ
 sibling_place Left = 3
 sibling_place Right = 2
 
--- A delete covers the grandparent, the parent and its two children, and finalizes all but the
--- first: the field of the grandparent towards the key is to hold a copy of the leaf's sibling.
-pub record IsDelete (h : History) (s k : ℕ) (side : Side) : Type 0 where
-  pub plan : plan h s ≡ delete_plan (toward (value h) (member h s 0) k)
+-- What takes a leaf out, because the edit leaves it no pair, covers the grandparent, the parent and
+-- its two children, and finalizes all but the first: the field of the grandparent towards the key is
+-- to hold a copy of the leaf's sibling.
+pub record TakesLeafOut (h : History) (s : ℕ) (e : MapEdit) (side : Side) : Type 0 where
+  pub plan : plan h s ≡ join_plan (toward (value h) (member h s 0) (edit_key e))
   pub old : old h s ≡ member h s 1
-  pub edit : IsJoinBy (value h) (Delete k) (member h s 1) (member h s (leaf_place side)) (member h s (sibling_place side)) (new h s)
+  pub edit : IsJoinBy (value h) e (member h s 1) (member h s (leaf_place side)) (member h s (sibling_place side)) (new h s)
   pub fields : value h (info (member h s 1)) ≡ seen h s 1 → (value h (child (member h s 1) Left) ≡ member h s 2) × (value h (child (member h s 1) Right) ≡ member h s 3)
   pub copied : value h (info (member h s (sibling_place side))) ≡ seen h s (sibling_place side) → HasFieldsOf (value h) (new h s) (member h s (sibling_place side))
 
--- the SCX-record is about to make the edit
+-- the SCX-record is about to make the edit: it edits a leaf, or takes one out
 abbrev pub IsEdit : History → ℕ → MapEdit → Type 0
-IsEdit h s (Insert k v) = IsInsert h s k v
-IsEdit h s (Delete k) = IsDelete h s k (toward (value h) (member h s 1) k)
+IsEdit h s e = EditsLeaf h s e ⊎ TakesLeafOut h s e (toward (value h) (member h s 1) (edit_key e))
 
 -- the SCX-record may make the edit: below a fork that was on the search path of its key
 pub record MayEdit (lay : Layout) (h : History) (s : ℕ) (e : MapEdit) : Type 0 where
@@ -66,7 +66,7 @@ pub record MayEdit (lay : Layout) (h : History) (s : ℕ) (e : MapEdit) : Type 0
 abbrev pub TreeAllows : Layout → History → ℕ → Type 0
 TreeAllows lay h s = (e : MapEdit) × MayEdit lay h s e
 
--- the leaf where the key of an edit stands, or would
+-- the leaf where the key of an edit stands, or would: the second of two nodes, or one of the last
+-- two of four
 abbrev pub edit_leaf : History → ℕ → MapEdit → ℕ
-edit_leaf h s (Insert k v) = member h s 1
-edit_leaf h s (Delete k) = member h s (leaf_place (toward (value h) (member h s 1) k))
+edit_leaf h s e = if count h s == 2 then member h s 1 else member h s (leaf_place (toward (value h) (member h s 1) (edit_key e)))
