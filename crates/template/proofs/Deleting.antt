@@ -16,20 +16,20 @@ use Rattle.ordered_map.specs.Edits.{IsJoinBy}
 use Rattle.ordered_map.specs.OrderedMap.{pair, Delete, delete}
 use Rattle.ordered_map.specs.Paths.{WasOnPath}
 use Rattle.ordered_map.specs.Runs.{IsTreeRun}
-use Rattle.ordered_map.specs.TreeShape.{delete_plan, leaf_place, sibling_place}
+use Rattle.ordered_map.specs.TreeShape.{join_plan, leaf_place, sibling_place}
 use Rattle.ordered_map.specs.TreeWords.{class, is_leaf, toward}
 use Rattle.ordered_map.proofs.Lemmas.{walk_named, held_one, taken_out}
 use Rattle.template.specs.FoundLeaf.{HasFoundLeaf}
-use Rattle.template.specs.FreshNodes.{IsDeleteAt, HasFreshCopy}
-use Rattle.template.specs.Promises.{IsPromised, IsFresh, IsSnapOf, WillDelete}
+use Rattle.template.specs.FreshNodes.{IsJoinAt, HasFreshCopy}
+use Rattle.template.specs.Promises.{IsPromised, IsFresh, IsSnapOf, WillTakeOut}
 use Rattle.template.specs.Trails.{HasTurned}
 use Rattle.template.specs.declared.walk.Found.{Found}
-use Rattle.template.proofs.Promised.{delete_promised}
+use Rattle.template.proofs.Promised.{taken_out_promised}
 use Rattle.template.proofs.WalkBounds.{said_some, found_below}
 
 module _ (c : Call) (h : History) (k old : ℕ) (f : Found) (d : Descriptor) (above sibling : Snap) (n : ℕ)
     (run : IsTreeRun c.layout h) (small : k < 2 ^ 64) (a : HasFoundLeaf c h k f) (found : f.value ≡ Some old)
-    (i : IsDeleteAt f d above n) (above_is : IsSnapOf c.layout h d 1 above) (same : (child_of above f.trail.side).0 ≡ f.trail.node.0)
+    (i : IsJoinAt f d above n) (above_is : IsSnapOf c.layout h d 1 above) (same : (child_of above f.trail.side).0 ≡ f.trail.node.0)
     (sibling_is : IsSnapOf c.layout h d (sibling_place f.trail.side) sibling) (w : HasFreshCopy c.layout c.pass h sibling n) where
   says : (class (value h) f.trail.node.0 ≡ 0) × (value h (node f.trail.node.0 (Settled Key)) ≡ k)
   says = said_some (value h) k f.trail.node.0 old (sym found ∙ a.says)
@@ -80,12 +80,12 @@ module _ (c : Call) (h : History) (k old : ℕ) (f : Found) (d : Descriptor) (ab
     copy = w.copy;
   }
 
-  will_delete : WillDelete c.layout c.pass h d k f.trail.side
-  will_delete = record {
+  will_take_out : WillTakeOut c.layout c.pass h d (Delete k) f.trail.side
+  will_take_out = record {
     small = small;
     path = let p = grand.passed.passed in subst (WasOnPath h k) (sym i.grand) (p.0, p.1, p.3);
     fork = subst (λ m. is_leaf (value h) m ≡ false) (sym i.grand) grand.fork;
-    plan = i.plan ∙ ap delete_plan (sym (subst (λ m. toward (value h) m k ≡ f.trail.grand_side) (sym i.grand) grand.side_is));
+    plan = i.plan ∙ ap join_plan (sym (subst (λ m. toward (value h) m k ≡ f.trail.grand_side) (sym i.grand) grand.side_is));
     old = i.old ∙ sym i.parent;
     side_is = subst (λ m. toward (value h) m k ≡ f.trail.side) (sym i.parent) parent.side_is;
     named = named;
@@ -105,5 +105,5 @@ module _ (c : Call) (h : History) (k old : ℕ) (f : Found) (d : Descriptor) (ab
 
 -- An SCX-record that puts a fresh copy of the sibling of the key's leaf into the place of their
 -- parent deletes the key.
-pub join_promised : (c : Call) (h : History) (s k old : ℕ) (f : Found) (d : Descriptor) (above sibling : Snap) (n : ℕ) → IsTreeRun c.layout h → k < 2 ^ 64 → HasFoundLeaf c h k f → f.value ≡ Some old → IsDeleteAt f d above n → IsSnapOf c.layout h d 1 above → (child_of above f.trail.side).0 ≡ f.trail.node.0 → IsSnapOf c.layout h d (sibling_place f.trail.side) sibling → HasFreshCopy c.layout c.pass h sibling n → IsPromised c.layout c.pass h s d (Delete k)
-join_promised c h s k old f d above sibling n run small a found i above_is same sibling_is w = delete_promised c.layout c.pass s h d k f.trail.side c.is_pass (will_delete c h k old f d above sibling n run small a found i above_is same sibling_is w)
+pub join_promised : (c : Call) (h : History) (s k old : ℕ) (f : Found) (d : Descriptor) (above sibling : Snap) (n : ℕ) → IsTreeRun c.layout h → k < 2 ^ 64 → HasFoundLeaf c h k f → f.value ≡ Some old → IsJoinAt f d above n → IsSnapOf c.layout h d 1 above → (child_of above f.trail.side).0 ≡ f.trail.node.0 → IsSnapOf c.layout h d (sibling_place f.trail.side) sibling → HasFreshCopy c.layout c.pass h sibling n → IsPromised c.layout c.pass h s d (Delete k)
+join_promised c h s k old f d above sibling n run small a found i above_is same sibling_is w = taken_out_promised c.layout c.pass s h d (Delete k) f.trail.side c.is_pass (will_take_out c h k old f d above sibling n run small a found i above_is same sibling_is w)

@@ -2,9 +2,9 @@
 -- passed on from one place: no other module of these proofs can be named outside. Declares nothing.
 pub use Rattle.template.proofs.WalkBounds.{walk_loads, walk_fills_not, walk_ready_first, walk_ready_run, found_gives, found_below, found_key, found_class, found_level, found_more, turned_lost, said_some, said_none}
 pub use Rattle.template.proofs.WalkTurns.{own_since}
-pub use Rattle.template.proofs.Promised.{promised_allowed, promised_more, insert_promised, delete_promised}
+pub use Rattle.template.proofs.Promised.{promised_allowed, promised_more}
 pub use Rattle.template.proofs.Tracking.{tracks_by_others, tracks_by_scx, tracked_makes}
-pub use Rattle.template.proofs.Inserting.{insert_words, edit_promised}
+pub use Rattle.template.proofs.Inserting.{leaf_edit_words, edit_promised}
 pub use Rattle.template.proofs.Deleting.{join_promised}
 pub use Rattle.template.proofs.Stood.{stood_inside, opened_if_stood}
 pub use Rattle.template.proofs.FirstFound.{found_small, found_own, found_told, found_first}

@@ -1,5 +1,4 @@
--- What a pass has in hand for an insert or a delete allows its SCX-record, whatever rows come until
--- that begins.
+-- What a pass has in hand for an edit allows its SCX-record, whatever rows come until that begins.
 use Rattle.std.proofs.Common.{◌≡◌, ◌≢◌, ℕ, ◌<◌, false, inl, inr, refl, sym, ◌∙◌, ap, arith, subst}
 use Rattle.arena.specs.declared.layout.Layout.{Layout}
 use Rattle.arena.specs.declared.word.Side.{Side}
@@ -22,13 +21,13 @@ use Rattle.help.specs.Laws.Help.Allowing.{later_self, later_trans}
 use Rattle.prims.specs.declared.snap.Snap.{Snap}
 use Rattle.prims.specs.Snap.{child_of}
 use Rattle.prims.specs.Laws.Linked.{IsLinked, linked_since}
-use Rattle.ordered_map.specs.OrderedMap.{MapEdit, Insert, Delete}
+use Rattle.ordered_map.specs.OrderedMap.{MapEdit, edit_key}
 use Rattle.ordered_map.specs.Paths.{WasOnPath}
-use Rattle.ordered_map.specs.TreeShape.{insert_plan, delete_plan, leaf_place, sibling_place, IsDelete, TreeAllows}
+use Rattle.ordered_map.specs.TreeShape.{leaf_plan, join_plan, leaf_place, sibling_place, TakesLeafOut, TreeAllows}
 use Rattle.ordered_map.specs.TreeWords.{is_leaf, toward}
 use Rattle.ordered_map.specs.Edits.{IsLeafEdit, IsJoinBy, HasFieldsOf}
-use Rattle.ordered_map.proofs.Lemmas.{plan_delete, SameSettled, settled_toward, settled_leaf, move_leaf_edit, move_join_by}
-use Rattle.template.specs.Promises.{IsPromised, IsFresh, WillInsert, IsSnapOf, WillDelete}
+use Rattle.ordered_map.proofs.Lemmas.{join_plan_says, SameSettled, settled_toward, settled_leaf, move_leaf_edit, move_join_by}
+use Rattle.template.specs.Promises.{IsPromised, IsFresh, WillEditLeaf, IsSnapOf, WillTakeOut}
 
 -- what is promised is allowed
 pub promised_allowed : (lay : Layout) (c : ℕ) (h : History) (s : ℕ) (d : Descriptor) (e : MapEdit) → IsPromised lay c h s d e → IsAllowed TreeAllows lay c h s d
@@ -114,17 +113,17 @@ module _ (k : History) (s : ℕ) (d : Descriptor) (e : descriptor k s ≡ d) whe
 
 -- The promises
 
--- with this in hand an SCX-record makes the insert
-pub insert_promised : (lay : Layout) (c s : ℕ) (h : History) (d : Descriptor) (key v : ℕ) → c < lay.passes → WillInsert lay c h d key v → IsPromised lay c h s d (Insert key v)
-insert_promised lay c s h d key v is_pass w k later run same begins now = record {
+-- with this in hand an SCX-record edits a leaf
+pub leaf_edit_promised : (lay : Layout) (c s : ℕ) (h : History) (d : Descriptor) (e : MapEdit) → c < lay.passes → WillEditLeaf lay c h d e → IsPromised lay c h s d e
+leaf_edit_promised lay c s h d e is_pass w k later run same begins now = record {
   small = w.small;
-  path = subst (WasOnPath k key) (sym (is_member k s d same 0)) (was_on_path_since h k key (d.member 0) ends w.path);
+  path = subst (WasOnPath k (edit_key e)) (sym (is_member k s d same 0)) (was_on_path_since h k (edit_key e) (d.member 0) ends w.path);
   fork = subst (λ n. is_leaf (value k) n ≡ false) (sym (is_member k s d same 0)) (settled_leaf (value h) (value k) (d.member 0) parent ∙ w.fork);
-  edit = record {
-    plan = is_plan k s d same ∙ w.plan ∙ ap insert_plan (sym (settled_toward (value h) (value k) (d.member 0) key parent) ∙ ap (λ n. toward (value k) n key) (sym (is_member k s d same 0)));
+  edit = inl record {
+    plan = is_plan k s d same ∙ w.plan ∙ ap leaf_plan (sym (settled_toward (value h) (value k) (d.member 0) (edit_key e) parent) ∙ ap (λ n. toward (value k) n (edit_key e)) (sym (is_member k s d same 0)));
     old = is_old k s d same ∙ w.old ∙ sym (is_member k s d same 1);
-    edit = subst (IsLeafEdit (value k) (Insert key v) (member k s 1)) (sym (is_new k s d same))
-        (subst (λ n. IsLeafEdit (value k) (Insert key v) n d.new) (sym (is_member k s d same 1)) moved);
+    edit = subst (IsLeafEdit (value k) e (member k s 1)) (sym (is_new k s d same))
+        (subst (λ n. IsLeafEdit (value k) e n d.new) (sym (is_member k s d same 1)) moved);
   };
   fresh = λ two. subst (λ n. is_leaf (value k) n ≡ false → (side : Side) → ¬ IsNamed lay k (value k (child n side))) (sym (is_new k s d same)) unnamed;
 }
@@ -150,31 +149,31 @@ insert_promised lay c s h d key v is_pass w k later run same begins now = record
     unnamed : is_leaf (value k) d.new ≡ false → (side : Side) → ¬ IsNamed lay k (value k (child d.new side))
     unnamed fork side = subst (λ n. ¬ IsNamed lay k n) (sym (made.words (Child side))) (below (sym (settled_leaf (value h) (value k) d.new (fresh_words made)) ∙ fork) side).unnamed
 
-    moved : IsLeafEdit (value k) (Insert key v) (d.member 1) d.new
-    moved = move_leaf_edit (value h) (value k) (Insert key v) (d.member 1) d.new leaf (fresh_words made) (λ fork side. fresh_words (below fork side)) (λ _ side. made.words (Child side)) w.edit.edit
+    moved : IsLeafEdit (value k) e (d.member 1) d.new
+    moved = move_leaf_edit (value h) (value k) e (d.member 1) d.new leaf (fresh_words made) (λ fork side. fresh_words (below fork side)) (λ _ side. made.words (Child side)) w.edit.edit
 
 places_small : (side : Side) → (leaf_place side < 4) × (sibling_place side < 4)
 places_small Left = (omega arith, omega arith)
 places_small Right = (omega arith, omega arith)
 
--- with this in hand an SCX-record makes the delete
-pub delete_promised : (lay : Layout) (c s : ℕ) (h : History) (d : Descriptor) (key : ℕ) (side : Side) → c < lay.passes → WillDelete lay c h d key side → IsPromised lay c h s d (Delete key)
-delete_promised lay c s h d key side is_pass w k later run same begins now = record {
+-- with this in hand an SCX-record takes a leaf out
+pub taken_out_promised : (lay : Layout) (c s : ℕ) (h : History) (d : Descriptor) (e : MapEdit) (side : Side) → c < lay.passes → WillTakeOut lay c h d e side → IsPromised lay c h s d e
+taken_out_promised lay c s h d e side is_pass w k later run same begins now = record {
   small = w.small;
-  path = subst (WasOnPath k key) (sym (at 0)) (was_on_path_since h k key (d.member 0) ends w.path);
+  path = subst (WasOnPath k (edit_key e)) (sym (at 0)) (was_on_path_since h k (edit_key e) (d.member 0) ends w.path);
   fork = subst (λ n. is_leaf (value k) n ≡ false) (sym (at 0)) (settled_leaf (value h) (value k) (d.member 0) (words 0 (omega arith)) ∙ w.fork);
-  edit = subst (IsDelete k s key) (sym side_now) record {
-    plan = is_plan k s d same ∙ w.plan ∙ ap delete_plan (sym (settled_toward (value h) (value k) (d.member 0) key (words 0 (omega arith))) ∙ ap (λ n. toward (value k) n key) (sym (at 0)));
+  edit = inr (subst (TakesLeafOut k s e) (sym side_now) record {
+    plan = is_plan k s d same ∙ w.plan ∙ ap join_plan (sym (settled_toward (value h) (value k) (d.member 0) (edit_key e) (words 0 (omega arith))) ∙ ap (λ n. toward (value k) n (edit_key e)) (sym (at 0)));
     old = is_old k s d same ∙ w.old ∙ sym (at 1);
     edit = join_here;
-    fields = λ e. (left_here e, right_here e);
+    fields = λ q. (left_here q, right_here q);
     copied = copied_here;
-  };
+  });
   fresh = λ two f z. absurd (let a : count k s ≡ 2 = two in let b : count k s ≡ 4 = four in omega (arith, a, b));
 }
   where
     four : count k s ≡ 4
-    four = ap count_of (is_plan k s d same ∙ w.plan) ∙ (plan_delete (delete_plan (toward (value h) (d.member 0) key)) (toward (value h) (d.member 0) key) refl).3
+    four = ap count_of (is_plan k s d same ∙ w.plan) ∙ (join_plan_says (join_plan (toward (value h) (d.member 0) (edit_key e))) (toward (value h) (d.member 0) (edit_key e)) refl).3
 
     ends : Extends k h
     ends = later_extends c s h k later
@@ -188,21 +187,21 @@ delete_promised lay c s h d key side is_pass w k later run same begins now = rec
     stays : Stays lay h k d.new
     stays = stays_later lay c s h k d.new is_pass run.lawful later begins.free w.fresh.own w.fresh.unnamed
 
-    side_now : toward (value k) (member k s 1) key ≡ side
-    side_now = ap (λ n. toward (value k) n key) (at 1) ∙ settled_toward (value h) (value k) (d.member 1) key (words 1 (omega arith)) ∙ w.side_is
+    side_now : toward (value k) (member k s 1) (edit_key e) ≡ side
+    side_now = ap (λ n. toward (value k) n (edit_key e)) (at 1) ∙ settled_toward (value h) (value k) (d.member 1) (edit_key e) (words 1 (omega arith)) ∙ w.side_is
 
     small : (leaf_place side < 4) × (sibling_place side < 4)
     small = places_small side
 
-    moved : IsJoinBy (value k) (Delete key) (d.member 1) (d.member (leaf_place side)) (d.member (sibling_place side)) d.new
-    moved = move_join_by (value h) (value k) (Delete key) (d.member 1) (d.member (leaf_place side)) (d.member (sibling_place side)) d.new (words 1 (omega arith)) (words (leaf_place side) small.0) (words (sibling_place side) small.1) (fresh_words stays) w.edit
+    moved : IsJoinBy (value k) e (d.member 1) (d.member (leaf_place side)) (d.member (sibling_place side)) d.new
+    moved = move_join_by (value h) (value k) e (d.member 1) (d.member (leaf_place side)) (d.member (sibling_place side)) d.new (words 1 (omega arith)) (words (leaf_place side) small.0) (words (sibling_place side) small.1) (fresh_words stays) w.edit
 
-    join_here : IsJoinBy (value k) (Delete key) (member k s 1) (member k s (leaf_place side)) (member k s (sibling_place side)) (new k s)
+    join_here : IsJoinBy (value k) e (member k s 1) (member k s (leaf_place side)) (member k s (sibling_place side)) (new k s)
     join_here =
-        subst (λ n. IsJoinBy (value k) (Delete key) n (member k s (leaf_place side)) (member k s (sibling_place side)) (new k s)) (sym (at 1))
-        (subst (λ n. IsJoinBy (value k) (Delete key) (d.member 1) n (member k s (sibling_place side)) (new k s)) (sym (at (leaf_place side)))
-        (subst (λ n. IsJoinBy (value k) (Delete key) (d.member 1) (d.member (leaf_place side)) n (new k s)) (sym (at (sibling_place side)))
-        (subst (IsJoinBy (value k) (Delete key) (d.member 1) (d.member (leaf_place side)) (d.member (sibling_place side))) (sym (is_new k s d same)) moved)))
+        subst (λ n. IsJoinBy (value k) e n (member k s (leaf_place side)) (member k s (sibling_place side)) (new k s)) (sym (at 1))
+        (subst (λ n. IsJoinBy (value k) e (d.member 1) n (member k s (sibling_place side)) (new k s)) (sym (at (leaf_place side)))
+        (subst (λ n. IsJoinBy (value k) e (d.member 1) (d.member (leaf_place side)) n (new k s)) (sym (at (sibling_place side)))
+        (subst (IsJoinBy (value k) e (d.member 1) (d.member (leaf_place side)) (d.member (sibling_place side))) (sym (is_new k s d same)) moved)))
 
     -- what a snapshot found its node shows while its info is what was seen
     shows : (j : ℕ) (snap : Snap) → IsSnapOf lay h d j snap → value k (info (member k s j)) ≡ seen k s j → (z : Side) → value k (child (member k s j) z) ≡ (child_of snap z).0

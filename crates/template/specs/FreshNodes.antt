@@ -1,5 +1,5 @@
--- What the SCX-record of an insert or of a delete says once the leaf of its key is found, and the
--- copy that a delete has filled.
+-- What the SCX-record of an edit says once the leaf of its key is found, and the copy that is filled
+-- where a leaf is taken out.
 use Rattle.std.specs.Prelude.{◌≡◌, ℕ, false}
 use Rattle.arena.specs.declared.layout.Layout.{Layout}
 use Rattle.arena.specs.declared.word.Side.{Side}
@@ -9,15 +9,15 @@ use Rattle.histories.specs.Descriptor.{Descriptor}
 use Rattle.prims.specs.Snap.{child_of}
 use Rattle.prims.specs.declared.snap.Snap.{Snap}
 use Rattle.ordered_map.specs.Edits.{IsCopyOf}
-use Rattle.ordered_map.specs.TreeShape.{insert_plan, delete_plan}
+use Rattle.ordered_map.specs.TreeShape.{leaf_plan, join_plan}
 use Rattle.ordered_map.specs.TreeWords.{is_leaf}
 use Rattle.template.specs.Promises.{IsFresh}
 use Rattle.template.specs.declared.walk.Found.{Found}
 
 -- the words of an SCX-record that puts the fresh node n into the place of the leaf: it covers the
 -- leaf's parent and the leaf, and finalizes the leaf
-pub record IsInsertAt (f : Found) (d : Descriptor) (n : ℕ) : Type 0 where
-  pub plan : d.plan ≡ insert_plan f.trail.side
+pub record IsLeafEditAt (f : Found) (d : Descriptor) (n : ℕ) : Type 0 where
+  pub plan : d.plan ≡ leaf_plan f.trail.side
   pub parent : d.member 0 ≡ f.trail.parent.0
   pub leaf : d.member 1 ≡ f.trail.node.0
   pub old : d.old ≡ f.trail.node.0
@@ -26,8 +26,8 @@ pub record IsInsertAt (f : Found) (d : Descriptor) (n : ℕ) : Type 0 where
 -- the words of an SCX-record that puts the fresh node n into the place of the leaf's parent: it
 -- covers the fork above the parent, the parent, and the parent's children as this snapshot found
 -- them, and finalizes all but the first
-pub record IsDeleteAt (f : Found) (d : Descriptor) (snap : Snap) (n : ℕ) : Type 0 where
-  pub plan : d.plan ≡ delete_plan f.trail.grand_side
+pub record IsJoinAt (f : Found) (d : Descriptor) (snap : Snap) (n : ℕ) : Type 0 where
+  pub plan : d.plan ≡ join_plan f.trail.grand_side
   pub grand : d.member 0 ≡ f.trail.grand.0
   pub parent : d.member 1 ≡ f.trail.parent.0
   pub left : d.member 2 ≡ snap.left.0

@@ -1,5 +1,4 @@
--- What has to be known for an insert's or a delete's SCX-record to be allowed, whatever rows come
--- until it begins.
+-- What has to be known for an edit's SCX-record to be allowed, whatever rows come until it begins.
 use Rattle.std.specs.Prelude.{◌≡◌, ℕ, ◌^◌, ◌<◌, false}
 use Rattle.arena.specs.declared.layout.Layout.{Layout}
 use Rattle.arena.specs.declared.word.Side.{Side}
@@ -15,9 +14,9 @@ use Rattle.prims.specs.Laws.Linked.{IsLinked}
 use Rattle.prims.specs.Snap.{child_of}
 use Rattle.prims.specs.declared.snap.Snap.{Snap}
 use Rattle.ordered_map.specs.Edits.{IsLeafEdit, IsJoinBy}
-use Rattle.ordered_map.specs.OrderedMap.{MapEdit, Insert, Delete}
+use Rattle.ordered_map.specs.OrderedMap.{MapEdit, edit_key}
 use Rattle.ordered_map.specs.Paths.{WasOnPath}
-use Rattle.ordered_map.specs.TreeShape.{MayEdit, TreeAllows, insert_plan, delete_plan, leaf_place, sibling_place}
+use Rattle.ordered_map.specs.TreeShape.{MayEdit, TreeAllows, leaf_plan, join_plan, leaf_place, sibling_place}
 use Rattle.ordered_map.specs.TreeWords.{is_leaf, toward}
 
 -- Whenever the pass c may begin s with these words, it makes the edit: after any run that goes on
@@ -39,17 +38,17 @@ pub record HasFreshEdit (lay : Layout) (c : ℕ) (h : History) (e : MapEdit) (l 
   pub edit : IsLeafEdit (value h) e l n
   pub below : is_leaf (value h) n ≡ false → (side : Side) → IsFresh lay c h (value h (child n side))
 
--- What an insert of k and v has in hand: a fork that was on the key's path, its leaf on the side of
--- the key, and the fresh node that is to replace that.
-pub record WillInsert (lay : Layout) (c : ℕ) (h : History) (d : Descriptor) (k v : ℕ) : Type 0 where
-  pub small : k < 2 ^ 64
-  pub path : WasOnPath h k (d.member 0)
+-- What an edit of a leaf has in hand: a fork that was on the key's path, its leaf on the side of the
+-- key, and the fresh node that is to replace that.
+pub record WillEditLeaf (lay : Layout) (c : ℕ) (h : History) (d : Descriptor) (e : MapEdit) : Type 0 where
+  pub small : edit_key e < 2 ^ 64
+  pub path : WasOnPath h (edit_key e) (d.member 0)
   pub named : IsNamed lay h (d.member 0)
   pub fork : is_leaf (value h) (d.member 0) ≡ false
-  pub plan : d.plan ≡ insert_plan (toward (value h) (d.member 0) k)
+  pub plan : d.plan ≡ leaf_plan (toward (value h) (d.member 0) (edit_key e))
   pub old : d.old ≡ d.member 1
   pub leaf_named : IsNamed lay h (d.member 1)
-  pub edit : HasFreshEdit lay c h (Insert k v) (d.member 1) d.new
+  pub edit : HasFreshEdit lay c h e (d.member 1) d.new
 
 -- the snapshot may be used, and is what the SCX-record has seen of its j-th node
 pub record IsSnapOf (lay : Layout) (h : History) (d : Descriptor) (j : ℕ) (snap : Snap) : Type 0 where
@@ -57,19 +56,19 @@ pub record IsSnapOf (lay : Layout) (h : History) (d : Descriptor) (j : ℕ) (sna
   pub node : snap.node.0 ≡ d.member j
   pub scx : snap.scx.0 ≡ d.seen j
 
--- What a delete of k has in hand, where the leaf of the key is on this side of its parent: two
--- forks that were on the key's path, the children of the lower one as its snapshot found them, of
--- which one is the leaf, and a fresh copy of the other.
-pub record WillDelete (lay : Layout) (c : ℕ) (h : History) (d : Descriptor) (k : ℕ) (side : Side) : Type 0 where
-  pub small : k < 2 ^ 64
-  pub path : WasOnPath h k (d.member 0)
+-- What has in hand what is to take a leaf out, where the leaf of the key is on this side of its
+-- parent: two forks that were on the key's path, the children of the lower one as its snapshot found
+-- them, of which one is the leaf, and a fresh copy of the other.
+pub record WillTakeOut (lay : Layout) (c : ℕ) (h : History) (d : Descriptor) (e : MapEdit) (side : Side) : Type 0 where
+  pub small : edit_key e < 2 ^ 64
+  pub path : WasOnPath h (edit_key e) (d.member 0)
   pub fork : is_leaf (value h) (d.member 0) ≡ false
-  pub plan : d.plan ≡ delete_plan (toward (value h) (d.member 0) k)
+  pub plan : d.plan ≡ join_plan (toward (value h) (d.member 0) (edit_key e))
   pub old : d.old ≡ d.member 1
-  pub side_is : toward (value h) (d.member 1) k ≡ side
+  pub side_is : toward (value h) (d.member 1) (edit_key e) ≡ side
   pub named : (j : ℕ) → j < 4 → IsNamed lay h (d.member j)
   pub fresh : IsFresh lay c h d.new
-  pub edit : IsJoinBy (value h) (Delete k) (d.member 1) (d.member (leaf_place side)) (d.member (sibling_place side)) d.new
+  pub edit : IsJoinBy (value h) e (d.member 1) (d.member (leaf_place side)) (d.member (sibling_place side)) d.new
   pub parent : Snap
   pub parent_is : IsSnapOf lay h d 1 parent
   pub left : parent.left.0 ≡ d.member 2
