@@ -36,6 +36,10 @@ use Rattle.edits.specs.Laws.Entered.{only_joined}
 use Rattle.edits.specs.Laws.Kept.{same_said}
 use Rattle.edits.specs.Tries.{HasEnteredOnly, IsTry, CoversSnaps}
 
+abbrev rest : List ℕ → List ℕ
+rest [] = []
+rest (x ∷ xs) = xs
+
 -- what an SCX-record covers, by the nodes of its entry
 members_are : (h : History) (s j n : ℕ) (snaps : List Snap) → members_from h s j n ≡ nodes_of snaps → (i : ℕ) → i < length snaps → member h s (i + j) ≡ (snap_at snaps i).node.0
 members_are h s j n [] e i p = absurd (omega (arith, p))
@@ -46,9 +50,12 @@ members_are h s j (suc n) (t ∷ snaps) e (suc i) p = ap (member h s) further �
     further : suc i + j ≡ i + suc j
     further = omega arith
 
-    rest : List ℕ → List ℕ
-    rest [] = []
-    rest (x ∷ xs) = xs
+-- and how many
+members_many : (h : History) (s j n : ℕ) (snaps : List Snap) → members_from h s j n ≡ nodes_of snaps → n ≡ length snaps
+members_many h s j zero [] e = refl
+members_many h s j zero (t ∷ snaps) e = absurd (let z : [] ≡ t.node.0 ∷ nodes_of snaps = e in cc)
+members_many h s j (suc n) [] e = absurd (let z : member h s j ∷ members_from h s (suc j) n ≡ [] = e in cc)
+members_many h s j (suc n) (t ∷ snaps) e = ap suc (members_many h s (suc j) n snaps (ap rest e))
 
 newest : List Entry → Entry → Entry
 newest [] e = e
@@ -67,7 +74,13 @@ module _ (c : Call) (h : History) (m : ScxRun) (row : Row) (before : History) (l
 
   -- the SCX-record covered the nodes of the snapshots when it won
   covers : CoversSnaps before m.scx.0 m.update.snaps
-  covers j p = ap (member before m.scx.0) (let z : j ≡ j + 0 = omega arith in z) ∙ members_are before m.scx.0 0 (count before m.scx.0) m.update.snaps (ap (λ (e : Entry). e.members) entry_is) j p
+  covers = record {
+    count = members_many before m.scx.0 0 (count before m.scx.0) m.update.snaps all;
+    members = λ j p. ap (member before m.scx.0) (let z : j ≡ j + 0 = omega arith in z) ∙ members_are before m.scx.0 0 (count before m.scx.0) m.update.snaps all j p;
+  }
+    where
+      all : members_from before m.scx.0 0 (count before m.scx.0) ≡ nodes_of m.update.snaps
+      all = ap (λ (e : Entry). e.members) entry_is
 
 -- At the row at which the SCX-record of an edit wins that covers these snapshots, of a leaf that was
 -- found before.

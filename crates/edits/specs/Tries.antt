@@ -7,7 +7,7 @@ use Rattle.arena.specs.Fills.{IsOwnScx}
 use Rattle.arena.specs.History.{History, ◌⊳◌, Extends}
 use Rattle.arena.specs.Lawful.{IsWin}
 use Rattle.arena.specs.Machines.{Call}
-use Rattle.arena.specs.ScxRecords.{member}
+use Rattle.arena.specs.ScxRecords.{count, member}
 use Rattle.prims.specs.Snap.{snap_at}
 use Rattle.prims.specs.declared.snap.Snap.{Snap}
 use Rattle.ordered_map.specs.Tries.{IsNewestTry}
@@ -52,6 +52,7 @@ abbrev pub IsTryAt : Call → History → History → ℕ → ℕ → WalkAt →
 IsTryAt c begin now limit left Root = MayTry c begin now limit left
 IsTryAt c begin now limit left _ = IsTry c begin now limit left
 
--- the SCX-record covers the nodes of these snapshots
-abbrev pub CoversSnaps : History → ℕ → List Snap → Type 0
-CoversSnaps h s snaps = (j : ℕ) → j < length snaps → member h s j ≡ (snap_at snaps j).node.0
+-- the SCX-record covers the nodes of these snapshots, and no other
+pub record CoversSnaps (h : History) (s : ℕ) (snaps : List Snap) : Type 0 where
+  pub count : count h s ≡ length snaps
+  pub members : (j : ℕ) → j < length snaps → member h s j ≡ (snap_at snaps j).node.0

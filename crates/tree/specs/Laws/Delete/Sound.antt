@@ -15,7 +15,7 @@ use Rattle.arena.specs.Heads.{head_of, head_word}
 use Rattle.arena.specs.History.{History, value, Extends}
 use Rattle.arena.specs.Lawful.{IsSettled}
 use Rattle.arena.specs.Machines.{Call}
-use Rattle.arena.specs.ScxRecords.{bit, member}
+use Rattle.arena.specs.ScxRecords.{bit, count, member}
 use Rattle.arena.specs.TakenNodes.{taken_nodes}
 use Rattle.arena.specs.Words.{node, child}
 use Rattle.arena.proofs.Lemmas.{taken_few}
@@ -30,11 +30,11 @@ use Rattle.prims.specs.declared.snap.Snap.{Snap}
 use Rattle.ordered_map.specs.OrderedMap.{pair, Delete as TakeEdit}
 use Rattle.ordered_map.specs.Paths.{WasInTree}
 use Rattle.ordered_map.specs.Runs.{IsTreeRun}
-use Rattle.ordered_map.specs.TreeShape.{delete_plan, edit_leaf, leaf_place, sibling_place}
+use Rattle.ordered_map.specs.TreeShape.{join_plan, edit_leaf, leaf_place, sibling_place}
 use Rattle.ordered_map.specs.TreeWords.{class, is_leaf, level, toward}
 use Rattle.ordered_map.proofs.Lemmas.{counted_one, held_one, root_head, run_since, settled_toward, stood_blank, stood_depth, stood_settled, was_passed}
 use Rattle.template.specs.FoundLeaf.{HasFoundLeaf}
-use Rattle.template.specs.FreshNodes.{IsDeleteAt, HasFreshCopy}
+use Rattle.template.specs.FreshNodes.{IsJoinAt, HasFreshCopy}
 use Rattle.template.specs.Promises.{IsPromised, IsSnapOf}
 use Rattle.template.specs.Trails.{HasTurned}
 use Rattle.template.specs.declared.walk.Found.{Found}
@@ -402,8 +402,8 @@ copy_holds false h n level class k v s w = record { head = w (Settled Head) tt; 
     go Left = w (Child Left) tt
     go Right = w (Child Right) tt
 
--- the plan word of four is a delete's
-plan_four : (n : ℕ) (side : Side) → n ≡ 4 → plan_over n side ≡ delete_plan side
+-- the plan word of four is that of taking a leaf out
+plan_four : (n : ℕ) (side : Side) → n ≡ 4 → plan_over n side ≡ join_plan side
 plan_four n Left e = rw e refl
 plan_four n Right e = rw e refl
 
@@ -477,9 +477,9 @@ module _ (ed : Delete) (c : Call) (h : History) (f : Found) (snaps : List Snap) 
     is_seen : (i : ℕ) → i < 4 → d.seen i ≡ (snap_at snaps i).scx.0
     is_seen i p = says.seen i (rw (is.covers, four.four) p) ∙ ap (λ (xs : List Snap). (snap_at xs i).scx.0) is.covers
 
-    -- is one of a delete, which puts the copy into the place of the parent
-    is_delete : IsDeleteAt f d (snap_at snaps 1) ns.first.0
-    is_delete = record {
+    -- is one that takes the leaf out, which puts the copy into the place of the parent
+    is_join : IsJoinAt f d (snap_at snaps 1) ns.first.0
+    is_join = record {
       plan = says.plan ∙ is.plan ∙ plan_four (length snaps) f.trail.grand_side four.four;
       grand = is_member 0 (omega arith) ∙ four.grand;
       parent = is_member 1 (omega arith) ∙ four.parent;
@@ -493,11 +493,14 @@ module _ (ed : Delete) (c : Call) (h : History) (f : Found) (snaps : List Snap) 
     snap_is i p = record { linked = linked_at ed c h f snaps i run p four x.looked; node = sym (is_member i p); scx = sym (is_seen i p) }
 
     delete_is_promised : IsPromised c.layout c.pass h j.scx.0 d (TakeEdit ed.key)
-    delete_is_promised = join_promised c h j.scx.0 ed.key present.0 f d (snap_at snaps 1) sibling ns.first.0 run x.looked.small x.looked.found present.1 is_delete (snap_is 1 (omega arith)) four.child (snap_is (sibling_place f.trail.side) (few_places f.trail.side)) copy
+    delete_is_promised = join_promised c h j.scx.0 ed.key present.0 f d (snap_at snaps 1) sibling ns.first.0 run x.looked.small x.looked.found present.1 is_join (snap_is 1 (omega arith)) four.child (snap_is (sibling_place f.trail.side) (few_places f.trail.side)) copy
 
 -- it covers the leaf at its third or fourth place, on the side of the key
 covered_leaf : (ed : Delete) (c : Call) (h : History) (f : Found) (snaps : List Snap) (k : History) (s : ℕ) → IsTreeRun c.layout h → HasFour f snaps → HasFoundLeaf c h ed.key f → IsTreeRun c.layout k → Extends k h → CoversSnaps k s snaps → edit_leaf k s (TakeEdit ed.key) ≡ f.trail.node.0
-covered_leaf ed c h f snaps k s run four found later since covers = ap (λ side. member k s (leaf_place side)) side_is ∙ covers (leaf_place f.trail.side) (rw four.four (few f.trail.side)) ∙ place f.trail.side four.child
+covered_leaf ed c h f snaps k s run four found later since covers =
+    let many : count k s ≡ 4 = covers.count ∙ four.four in
+    rw (ne_eqb (count k s) 2 (λ two. omega (arith, two, many)))
+    (ap (λ side. member k s (leaf_place side)) side_is ∙ covers.members (leaf_place f.trail.side) (rw four.four (few f.trail.side)) ∙ place f.trail.side four.child)
   where
     parent : HasTurned c h ed.key f.trail.parent.0 f.trail.side f.trail.node.0
     parent = found.trail.parent (found_below ed.key c h f run found)
@@ -506,7 +509,7 @@ covered_leaf ed c h f snaps k s run four found later since covers = ap (λ side.
     stood = was_passed h parent.passed.first ed.key f.trail.parent.0 parent.passed.passed
 
     is_parent : member k s 1 ≡ f.trail.parent.0
-    is_parent = covers 1 (rw four.four (omega arith)) ∙ four.parent
+    is_parent = covers.members 1 (rw four.four (omega arith)) ∙ four.parent
 
     side_is : toward (value k) (member k s 1) ed.key ≡ f.trail.side
     side_is = ap (λ n. toward (value k) n ed.key) is_parent ∙ settled_toward (value h) (value k) f.trail.parent.0 ed.key (stood_settled c.layout k h f.trail.parent.0 later since stood) ∙ parent.side_is

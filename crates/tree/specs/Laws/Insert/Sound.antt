@@ -27,16 +27,16 @@ use Rattle.ordered_map.specs.OrderedMap.{Insert as PutEdit, AllBelow, AllFrom, i
 use Rattle.ordered_map.specs.Edits.{IsLowLeaf, IsSplitBy}
 use Rattle.ordered_map.specs.Holding.{held_pairs}
 use Rattle.ordered_map.specs.Runs.{IsTreeRun}
-use Rattle.ordered_map.specs.TreeShape.{insert_plan, edit_leaf}
+use Rattle.ordered_map.specs.TreeShape.{leaf_plan, edit_leaf}
 use Rattle.ordered_map.specs.TreeWords.{class, is_leaf, leaf_items, level, rank}
 use Rattle.ordered_map.proofs.Lemmas.{counted_one, held_one, high_items, insert_here, low_items, one_item, put_before, put_behind, run_since}
 use Rattle.template.specs.FoundLeaf.{HasFoundLeaf}
-use Rattle.template.specs.FreshNodes.{IsInsertAt}
+use Rattle.template.specs.FreshNodes.{IsLeafEditAt}
 use Rattle.template.specs.Promises.{IsPromised, IsFresh, HasFreshEdit}
 use Rattle.template.specs.Trails.{HasTurned}
 use Rattle.template.specs.declared.walk.Found.{Found}
 use Rattle.template.specs.declared.walk.Goal.TheVariants.{Key as ToKey}
-use Rattle.template.proofs.Lemmas.{found_below, found_class, found_level, found_key, insert_words, edit_promised, said_some, said_none}
+use Rattle.template.proofs.Lemmas.{found_below, found_class, found_level, found_key, leaf_edit_words, edit_promised, said_some, said_none}
 use Rattle.tree.specs.declared.insert.Insert.{Insert}
 use Rattle.tree.specs.Insert.Laws.{insert_bounds}
 use Rattle.tree.specs.Laws.Looks.{same_node, goes_on, not_enough, is_other}
@@ -171,7 +171,9 @@ has_both ed f (p ∷ l ∷ s ∷ snaps) e x = absurd (let d : Enough ≡ At s.no
 
 -- the SCX-record of both covers the leaf at its second place
 covered_leaf : (ed : Insert) (f : Found) (snaps : List Snap) (k : History) (s : ℕ) → HasBoth f snaps → CoversSnaps k s snaps → edit_leaf k s (PutEdit ed.key ed.value) ≡ f.trail.node.0
-covered_leaf ed f snaps k s both covers = covers 1 (let two = both.two in omega (arith, two)) ∙ both.leaf
+covered_leaf ed f snaps k s both covers =
+    let two : count k s ≡ 2 = covers.count ∙ both.two in
+    rw (eq-eqb (count k s) 2 two) (covers.members 1 (let few = both.two in omega (arith, few)) ∙ both.leaf)
 
 -- the parent is a fork, and so is not the leaf
 insert_distinct : (ed : Insert) (c : Call) (h : History) (f : Found) (snaps : List Snap) → IsTreeRun c.layout h → HasLooked insert_means c h ed f snaps → insert_looks f snaps ≡ Enough → AreDistinct snaps
@@ -271,8 +273,8 @@ held_with f n k v key value = held_one f n ∙ (λ i. pair (key i) (value i) ∷
 low_leaf : (f : Word → ℕ) (n deep k v : ℕ) → IsLeafWith f n deep 0 k v → IsLowLeaf f n
 low_leaf f n deep k v w = record { leaf = w.leaf; class = w.class; counted = counted_one f n }
 
--- the plan word of both is an insert's
-plan_both : (n : ℕ) (side : Side) → n ≡ 2 → plan_over n side ≡ insert_plan side
+-- the plan word of both is that of an edit of a leaf
+plan_both : (n : ℕ) (side : Side) → n ≡ 2 → plan_over n side ≡ leaf_plan side
 plan_both n Left e = rw e refl
 plan_both n Right e = rw e refl
 
@@ -289,9 +291,9 @@ module _ (ed : Insert) (c : Call) (h : History) (f : Found) (snaps : List Snap) 
   small : f.head.class < 4
   small = found_class ed.key c h f run found
 
-  -- its SCX-record is one of an insert, which puts the last fresh node into the place of the leaf
-  is_insert : (j : Job) (d : Descriptor) (n : ℕ) → IsUpdateFor insert_means ed f snaps ns j.update → j.update.fresh.0 ≡ n → Says d j → IsInsertAt f d n
-  is_insert j d n is fresh says = insert_words j d f n says
+  -- its SCX-record is one of an edit of a leaf, which puts the last fresh node into the place of the leaf
+  is_leaf_edit : (j : Job) (d : Descriptor) (n : ℕ) → IsUpdateFor insert_means ed f snaps ns j.update → j.update.fresh.0 ≡ n → Says d j → IsLeafEditAt f d n
+  is_leaf_edit j d n is fresh says = leaf_edit_words j d f n says
       (is.plan ∙ plan_both (length snaps) f.trail.side both.two)
       (ap length is.covers ∙ both.two)
       (ap (λ (xs : List Snap). (snap_at xs 0).node.0) is.covers ∙ both.parent)
@@ -456,10 +458,10 @@ module _ (ed : Insert) (c : Call) (h : History) (f : Found) (snaps : List Snap) 
   needed i o e n = subst (λ q. IsNeeded (insert_need q) i) (sym e) n
 
   promised_by : (j : Job) (d : Descriptor) → IsUpdateFor insert_means ed f snaps ns j.update → Says d j → (o : Option ℕ) → f.value ≡ o → IsPromised c.layout c.pass h j.scx.0 d (PutEdit ed.key ed.value)
-  promised_by j d is says (Some old) e = edit_promised c h j.scx.0 ed.key ed.value f d ns.first.0 run x.looked.small found
-      (is_insert j d ns.first.0 is (is.fresh ∙ ap (λ o. (top_of (insert_need o) ns)) e) says) (one_leaf old e (x.holds First (needed First (Some old) e tt)))
-  promised_by j d is says None e = edit_promised c h j.scx.0 ed.key ed.value f d ns.third.0 run x.looked.small found
-      (is_insert j d ns.third.0 is (is.fresh ∙ ap (λ o. (top_of (insert_need o) ns)) e) says) (three_nodes e (needed First None e tt) (needed Second None e tt) (needed Third None e tt))
+  promised_by j d is says (Some old) e = edit_promised c h j.scx.0 (PutEdit ed.key ed.value) f d ns.first.0 run x.looked.small found
+      (is_leaf_edit j d ns.first.0 is (is.fresh ∙ ap (λ o. (top_of (insert_need o) ns)) e) says) (one_leaf old e (x.holds First (needed First (Some old) e tt)))
+  promised_by j d is says None e = edit_promised c h j.scx.0 (PutEdit ed.key ed.value) f d ns.third.0 run x.looked.small found
+      (is_leaf_edit j d ns.third.0 is (is.fresh ∙ ap (λ o. (top_of (insert_need o) ns)) e) says) (three_nodes e (needed First None e tt) (needed Second None e tt) (needed Third None e tt))
 
 -- its two nodes are apart, and what it has filled is promised to insert the key
 pub insert_makes : MakesWell insert_means
