@@ -14,6 +14,7 @@ use Rattle.arena.specs.Heads.{head_word}
 use Rattle.arena.specs.History.{History, value}
 use Rattle.arena.specs.Lawful.{IsSettled}
 use Rattle.arena.specs.Machines.{Call}
+use Rattle.arena.specs.ScxRecords.{count}
 use Rattle.arena.specs.declared.word.Word.{Word}
 use Rattle.arena.specs.Words.{node, child}
 use Rattle.histories.specs.Descriptor.{Descriptor}
