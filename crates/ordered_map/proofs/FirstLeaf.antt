@@ -22,7 +22,7 @@ use Rattle.ordered_map.specs.Spelled.{Spells}
 use Rattle.ordered_map.specs.TreeWords.{Tree, Leaf, Fork, root, IsLeaf, Shows, Has, Passes, class, is_leaf, rank, toward, pairs, leaf_pairs, first_said}
 use Rattle.ordered_map.proofs.Trees.{open_between, shown_leaf, passes_has, has_root}
 use Rattle.ordered_map.specs.TreeShape.{edit_leaf}
-use Rattle.ordered_map.proofs.Holding.{SameSettled, same_leaf, low_items, rank_from, rank_below, held_first, low_pairs, high_pairs, first_says}
+use Rattle.ordered_map.proofs.Holding.{SameSettled, same_leaf, low_items, rank_from, rank_below, held_first, low_pairs, high_pairs}
 use Rattle.ordered_map.proofs.Moved.{settled_rank, settled_leaf, settled_first}
 use Rattle.ordered_map.proofs.TreeFacts.{path_now, all_named}
 use Rattle.ordered_map.proofs.Past.{path_named, Latest, latest, path_level}
@@ -109,12 +109,12 @@ pairs_first : (f : Word → ℕ) (t : Tree) (lo hi n : ℕ) → Shows f lo hi t 
 pairs_first f t lo hi n s p d = go (ℕ_discrete (class f n) 0)
   where
     go : Dec (class f n ≡ 0) → first_pair (pairs f t) ≡ first_said f n
-    go (no high) = ap first_pair (none_first f t lo hi n s p d high) ∙ sym (first_says f n ∙ ap first_pair (high_pairs f n high))
+    go (no high) = ap first_pair (none_first f t lo hi n s p d high ∙ sym (high_pairs f n high))
     go (yes low) =
         let x : (rest : List Pair) × (pairs f t ≡ leaf_pairs f n ++ rest) = leaf_first f t lo hi n s p d in
         let y = held_first f n in
         let held : leaf_pairs f n ≡ pair (f (node n (Settled Key))) y.value ∷ y.rest = low_pairs f n low ∙ y.is in
-        ap first_pair (x.1 ∙ ap (λ ps. ps ++ x.0) held) ∙ sym (first_says f n ∙ ap first_pair held)
+        ap first_pair (x.1 ∙ ap (λ ps. ps ++ x.0) held) ∙ sym (ap first_pair held)
 
 -- In a run
 

@@ -1,7 +1,6 @@
 -- What a leaf holds. The facts that depend on the words in which it does are proved here, and all
 -- else goes by them.
 use Rattle.std.proofs.Common.{◌≡◌, ◌≢◌, ℕ, ◌+◌, ◌*◌, ◌/◌, ◌%◌, ◌^◌, ◌<◌, ◌≤◌, true, cond, eqb, List, [], ◌∷◌, refl, sym, ◌∙◌, ap, arith, subst, eq-eqb, ne_eqb}
-use Rattle.std.specs.Prelude.{Some, None}
 use native.Mathlib.Decide.{ℕ_discrete}
 use Rattle.arena.specs.declared.word.NodeWord.{NodeWord}
 use Rattle.arena.specs.declared.word.NodeWord.TheVariants.{Settled}
@@ -10,9 +9,9 @@ use Rattle.arena.specs.declared.word.Word.{Word}
 use Rattle.arena.specs.Lawful.{IsSettled}
 use Rattle.arena.specs.Words.{node}
 use Rattle.ordered_map.specs.declared.pair.Pair.{Pair}
-use Rattle.ordered_map.specs.OrderedMap.{pair, AllBelow, AllFrom, IsRising, first_pair}
+use Rattle.ordered_map.specs.OrderedMap.{pair, AllBelow, AllFrom, IsRising}
 use Rattle.ordered_map.specs.Holding.{held_pairs, IsWellCounted}
-use Rattle.ordered_map.specs.TreeWords.{class, is_leaf, rank, leaf_pairs, leaf_items, first_said, HasItems, IsLeaf}
+use Rattle.ordered_map.specs.TreeWords.{class, is_leaf, rank, leaf_pairs, leaf_items, HasItems, IsLeaf}
 use Rattle.ordered_map.proofs.Lists.{from_less, below_more}
 
 -- the settled words of n are the same
@@ -23,6 +22,7 @@ SameSettled b f n = (a : NodeWord) → IsSettled (node n a) → f (node n a) ≡
 
 -- the same settled words hold the same, and as many
 pub held_same : (b f : Word → ℕ) (n : ℕ) → SameSettled b f n → held_pairs f n ≡ held_pairs b n
+unfolding held_pairs
 held_same b f n e = λ i. pair (e (Settled Key) tt i) (e (Settled Value) tt i) ∷ []
 
 pub counted_same : (b f : Word → ℕ) (n : ℕ) → SameSettled b f n → IsWellCounted b n → IsWellCounted f n
@@ -36,10 +36,12 @@ pub record HeldFirst (f : Word → ℕ) (n : ℕ) : Type 0 where
   pub is : held_pairs f n ≡ pair (f (node n (Settled Key))) value ∷ rest
 
 pub held_first : (f : Word → ℕ) (n : ℕ) → HeldFirst f n
+unfolding held_pairs
 held_first f n = record { value = f (node n (Settled Value)); rest = []; is = refl }
 
 -- there is no other one, and its value is that of the node
 pub held_one : (f : Word → ℕ) (n : ℕ) → held_pairs f n ≡ pair (f (node n (Settled Key))) (f (node n (Settled Value))) ∷ []
+unfolding held_pairs
 held_one f n = refl
 
 pub counted_one : (f : Word → ℕ) (n : ℕ) → IsWellCounted f n
@@ -81,18 +83,6 @@ same_items b f n e = λ i. cond (eqb (e (Settled Head) tt i % 4) 0) (held_same b
 
 pub same_pairs : (b f : Word → ℕ) (n : ℕ) → SameSettled b f n → leaf_pairs f n ≡ leaf_pairs b n
 same_pairs b f n e = λ i. cond (eqb (e (Settled Head) tt i % 4) 0) (held_same b f n e i) []
-
--- what is said of the least key is the first of the pairs
-pub first_says : (f : Word → ℕ) (n : ℕ) → first_said f n ≡ first_pair (leaf_pairs f n)
-first_says f n = go (ℕ_discrete (class f n) 0)
-  where
-    go : Dec (class f n ≡ 0) → first_said f n ≡ first_pair (leaf_pairs f n)
-    go (yes z) =
-        let told : first_said f n ≡ Some (pair (f (node n (Settled Key))) (f (node n (Settled Value)))) = rw (eq-eqb (class f n) 0 z) refl in
-        told ∙ sym (ap first_pair (low_pairs f n z ∙ held_one f n))
-    go (no d) =
-        let told : first_said f n ≡ None = rw (ne_eqb (class f n) 0 d) refl in
-        told ∙ sym (ap first_pair (high_pairs f n d))
 
 -- A leaf has its items between its bounds; today it has one
 

@@ -2,7 +2,6 @@ mod Lists
 mod Holding
 mod Trees
 mod Local
-mod OnePair
 mod Searches
 mod Next
 mod Pending

@@ -75,6 +75,20 @@ insert_rises k v (p ∷ ps) r = go (order k p.key) (insert_rises k v ps r.1)
     go (same e) more = rw (not_below k p.key (omega (arith, e)), eq-eqb k p.key e) (above_less k p.key ps (omega (arith, e)) r.0, r.1)
     go (above l) more = rw (not_below k p.key (omega (arith, l)), ne_eqb k p.key (λ e. omega (arith, e, l))) (insert_above p.key k v ps l r.0, more)
 
+-- of one pair
+
+pub insert_here : (k v w : ℕ) → insert k v (pair k w ∷ []) ≡ pair k v ∷ []
+insert_here k v w = rw (not_below k k (omega arith), at_key k) refl
+
+pub put_before : (k v r w : ℕ) → k < r → insert k v (pair r w ∷ []) ≡ pair k v ∷ pair r w ∷ []
+put_before k v r w l = rw (lt-ltb k r l) refl
+
+pub put_behind : (k v r w : ℕ) → r < k → insert k v (pair r w ∷ []) ≡ pair r w ∷ pair k v ∷ []
+put_behind k v r w l = rw (not_below k r (omega (arith, l)), ne_eqb k r (λ e. omega (arith, e, l))) refl
+
+pub taken_out : (k w : ℕ) → delete k (pair k w ∷ []) ≡ []
+taken_out k w = rw (at_key k) refl
+
 -- Delete
 
 pub deleted : (k : ℕ) (m : List Pair) → IsRising m → get k (delete k m) ≡ None

@@ -3,13 +3,12 @@ use Rattle.std.proofs.Common.{◌≡◌, ℕ, ◌+◌, ◌*◌, ◌/◌, ◌%◌
 use Rattle.arena.specs.declared.word.Side.{Side}
 use Rattle.arena.specs.declared.word.Side.TheVariants.{Left, Right}
 use Rattle.arena.specs.declared.word.NodeWord.TheVariants.{Settled}
-use Rattle.arena.specs.declared.word.SettledPart.TheVariants.{Head, Key, Value}
+use Rattle.arena.specs.declared.word.SettledPart.TheVariants.{Head, Key}
 use Rattle.arena.specs.declared.word.Word.{Word}
 use Rattle.arena.specs.Words.{child}
-use Rattle.std.specs.Prelude.{Some, None}
-use Rattle.ordered_map.specs.OrderedMap.{pair, AllBelow, AllFrom, MapEdit, edited}
+use Rattle.ordered_map.specs.OrderedMap.{AllBelow, AllFrom, MapEdit, edited, first_pair}
 use Rattle.ordered_map.specs.TreeWords.{class, is_leaf, level, rank, toward, first_said, leaf_items}
-use Rattle.ordered_map.proofs.Holding.{SameSettled, held_same, counted_same, same_items}
+use Rattle.ordered_map.proofs.Holding.{SameSettled, held_same, counted_same, same_items, same_pairs}
 use Rattle.ordered_map.specs.Edits.{IsLowLeaf, IsLastLeaf, IsSwapBy, IsSplitBy, IsCopyOf, IsJoinBy, IsLeafEdit, IsAlike}
 
 pub settled_rank : (b f : Word → ℕ) (n : ℕ) → SameSettled b f n → rank f n ≡ rank b n
@@ -28,7 +27,7 @@ pub settled_level : (b f : Word → ℕ) (n : ℕ) → SameSettled b f n → lev
 settled_level b f n e = ap (λ v. v / 8) (e (Settled Head) tt)
 
 pub settled_first : (b f : Word → ℕ) (n : ℕ) → SameSettled b f n → first_said f n ≡ first_said b n
-settled_first b f n e = λ i. cond (eqb (e (Settled Head) tt i % 4) 0) (Some (pair (e (Settled Key) tt i) (e (Settled Value) tt i))) None
+settled_first b f n e = ap first_pair (same_pairs b f n e)
 
 module _ (b f : Word → ℕ) where
   move_low : (n : ℕ) → SameSettled b f n → IsLowLeaf b n → IsLowLeaf f n

@@ -1,6 +1,6 @@
 -- An insert of key 7 at 70 into the empty map, row by row. Nothing cites this module, on purpose:
 -- it shows that what is asked of a run of the tree can be met.
-use Rattle.std.proofs.Common.{◌≡◌, ◌≢◌, ℕ, suc, ◌^◌, ◌<◌, ◌≤◌, Bool, true, false, cond, eqb, ◌⊎◌, inl, inr, List, [], ◌∷◌, refl, sym, ◌∙◌, ap, arith, subst, lit<, lit≤, zero, ⊎_elim}
+use Rattle.std.proofs.Common.{◌≡◌, ◌≢◌, ℕ, suc, ◌^◌, ◌<◌, ◌≤◌, Bool, true, false, cond, eqb, ◌⊎◌, inl, inr, List, [], ◌∷◌, ◌++◌, Some, None, refl, sym, ◌∙◌, ap, arith, subst, lit<, lit≤, zero, ⊎_elim}
 use Rattle.std.proofs.lemmas.List.Elements.{All-nil, All-cons}
 use Rattle.arena.specs.declared.limits.Mode.TheVariants.{Tree as TreeMode}
 use Rattle.arena.specs.declared.layout.Layout.{Layout}
@@ -27,14 +27,14 @@ use Rattle.arena.specs.Fills.{MayFill}
 use Rattle.arena.specs.Layout.{IsWord}
 use native.Mathlib.Decide.{ℕ_discrete}
 use Rattle.histories.proofs.Lemmas.{IsNodeFill}
-use Rattle.ordered_map.specs.OrderedMap.{pair, Insert}
+use Rattle.ordered_map.specs.OrderedMap.{pair, Insert, AllBelow}
 use Rattle.ordered_map.specs.TreeWords.{Leaf, Fork, is_leaf, class, Has}
 use Rattle.ordered_map.specs.TreeShape.{MayEdit, TreeAllows}
 use Rattle.ordered_map.specs.Spelled.{Spells}
 use Rattle.ordered_map.specs.Runs.{IsTreeRun}
-use Rattle.ordered_map.proofs.Holding.{counted_one, leaf_here}
+use Rattle.ordered_map.proofs.Holding.{counted_one, held_one, leaf_here}
 use Rattle.ordered_map.proofs.Grown.{opening_tree}
-use Rattle.ordered_map.proofs.OnePair.{put_before}
+use Rattle.ordered_map.proofs.Maps.{put_before}
 
 -- one pass that owns nodes 3 to 5 and SCX-record 1
 abbrev lay : Layout
@@ -265,10 +265,10 @@ may_edit = record {
         left = refl;
         right = refl;
         first = record { leaf = refl; class = refl; counted = counted_one (value (filled fills)) 4 };
-        small = (lit< tt, tt);
+        small = subst (AllBelow (2 ^ 64)) (sym (held_one (value (filled fills)) 4)) (lit< tt, tt);
         last = record { leaf = refl; same_class = refl; counted = λ _. counted_one (value (filled fills)) 5; key = λ _. refl };
-        items = sym (put_before 7 70 (2 ^ 64) 0 (lit< tt));
-        before = (lit< tt, tt);
+        items = (λ i. held_one (value (filled fills)) 4 i ++ pair (2 ^ 64) 0 ∷ []) ∙ sym (put_before 7 70 (2 ^ 64) 0 (lit< tt));
+        before = subst (AllBelow (2 ^ 64)) (sym (held_one (value (filled fills)) 4)) (lit< tt, tt);
         behind = (lit≤ tt, tt);
         above = λ _. record { class = refl; key = refl };
         deep = refl;
@@ -276,6 +276,7 @@ may_edit = record {
         high = refl;
       },
     );
+    there = λ none. absurd (let z : Some 70 ≡ None = none in cc);
   };
   fresh = fresh;
 }
@@ -467,7 +468,7 @@ spells_one = record {
     is = refl;
   };
   inside = inside;
-  pairs = refl;
+  pairs = ap (λ ps. (ps ++ []) ++ []) (held_one (value done) 4);
   rising = (tt, tt);
   others = 4 ∷ [];
   one = 5;

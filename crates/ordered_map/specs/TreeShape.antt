@@ -1,5 +1,5 @@
 -- Which SCX-records may begin in the tree: each makes an edit of the map.
-use Rattle.std.specs.Prelude.{◌≡◌, ℕ, ◌^◌, ◌<◌, false, if◌then◌else◌, ◌==◌, ◌⊎◌}
+use Rattle.std.specs.Prelude.{◌≡◌, ◌≢◌, ℕ, ◌^◌, ◌<◌, false, if◌then◌else◌, ◌==◌, ◌⊎◌, None}
 use Rattle.arena.specs.declared.word.Side.{Side}
 use Rattle.arena.specs.declared.word.Side.TheVariants.{Left, Right}
 use Rattle.arena.specs.declared.layout.Layout.{Layout}
@@ -7,8 +7,8 @@ use Rattle.arena.specs.Words.{info, child}
 use Rattle.arena.specs.History.{History, value}
 use Rattle.arena.specs.ScxRecords.{plan, count, member, seen, new, old}
 use Rattle.arena.specs.Fills.{IsNamed}
-use Rattle.ordered_map.specs.OrderedMap.{MapEdit, edit_key}
-use Rattle.ordered_map.specs.TreeWords.{is_leaf, toward}
+use Rattle.ordered_map.specs.OrderedMap.{MapEdit, edit_key, value_left}
+use Rattle.ordered_map.specs.TreeWords.{is_leaf, toward, said}
 use Rattle.ordered_map.specs.Edits.{IsLeafEdit, IsJoinBy, HasFieldsOf}
 use Rattle.ordered_map.specs.Paths.{WasOnPath}
 
@@ -23,11 +23,13 @@ join_plan Left = 116
 join_plan Right = 628
 
 -- An edit of a leaf covers the parent and the leaf, and finalizes the leaf: the field of the parent
--- towards the key is to hold a fresh leaf, or a fresh fork over two fresh leaves.
+-- towards the key is to hold a fresh leaf, or a fresh fork over two fresh leaves. A delete finds its
+-- key in the leaf.
 pub record EditsLeaf (h : History) (s : ℕ) (e : MapEdit) : Type 0 where
   pub plan : plan h s ≡ leaf_plan (toward (value h) (member h s 0) (edit_key e))
   pub old : old h s ≡ member h s 1
   pub edit : IsLeafEdit (value h) e (member h s 1) (new h s)
+  pub there : value_left e ≡ None → said (value h) (edit_key e) (member h s 1) ≢ None
 
 -- at which place the leaf is covered that is taken out, which is on this side of the parent
 abbrev pub leaf_place : Side → ℕ

@@ -1,13 +1,13 @@
 -- What the settled words of a node say, and the tree of nodes that words show.
-use Rattle.std.specs.Prelude.{◌≡◌, ◌≢◌, ℕ, ◌+◌, ◌*◌, ◌/◌, ◌%◌, ◌^◌, ◌<◌, ◌≤◌, Bool, true, false, if◌then◌else◌, ◌==◌, nat_lt, ◌⊎◌, List, [], ◌∷◌, ◌++◌, Option, Some, None}
+use Rattle.std.specs.Prelude.{◌≡◌, ◌≢◌, ℕ, ◌+◌, ◌*◌, ◌/◌, ◌%◌, ◌^◌, ◌<◌, ◌≤◌, Bool, true, false, if◌then◌else◌, ◌==◌, nat_lt, ◌⊎◌, List, [], ◌∷◌, ◌++◌, Option}
 use Rattle.arena.specs.declared.word.Side.{Side}
 use Rattle.arena.specs.declared.word.Side.TheVariants.{Left, Right}
 use Rattle.arena.specs.declared.word.NodeWord.TheVariants.{Settled}
-use Rattle.arena.specs.declared.word.SettledPart.TheVariants.{Head, Key, Value}
+use Rattle.arena.specs.declared.word.SettledPart.TheVariants.{Head, Key}
 use Rattle.arena.specs.declared.word.Word.{Word}
 use Rattle.arena.specs.Words.{node, child}
 use Rattle.ordered_map.specs.declared.pair.Pair.{Pair}
-use Rattle.ordered_map.specs.OrderedMap.{pair, AllBelow, AllFrom, IsRising, get}
+use Rattle.ordered_map.specs.OrderedMap.{pair, AllBelow, AllFrom, IsRising, first_pair, get}
 use Rattle.ordered_map.specs.Holding.{held_pairs, IsWellCounted}
 
 -- The settled words of a node; `f` says what each word holds
@@ -48,10 +48,9 @@ leaf_items f n = if class f n == 0 then held_pairs f n else pair (rank f n) 0 �
 abbrev pub said : (Word → ℕ) → ℕ → ℕ → Option ℕ
 said f k n = get k (leaf_pairs f n)
 
--- what the leaf n says of the least key, where it is the first leaf: the first of its pairs, which
--- is the only one
+-- what the leaf n says of the least key, where it is the first leaf: the first of its pairs
 abbrev pub first_said : (Word → ℕ) → ℕ → Option Pair
-first_said f n = if class f n == 0 then Some (pair (f (node n (Settled Key))) (f (node n (Settled Value)))) else None
+first_said f n = first_pair (leaf_pairs f n)
 
 -- A tree of nodes, by their numbers
 

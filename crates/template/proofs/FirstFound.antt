@@ -1,6 +1,7 @@
 -- What the walk to the first leaf has found: the leaf on the path of its own key, and the first pair
 -- of the map.
-use Rattle.std.proofs.Common.{false, ◌≡◌, ◌≢◌, ℕ, ◌<◌, ◌≤◌, ◌^◌, eqb, eq-eqb, ne_eqb, lt-ltb, refl, sym, ◌∙◌, ap, arith, subst, Some, None}
+use Rattle.std.proofs.Common.{false, ◌≡◌, ◌≢◌, ℕ, ◌<◌, ◌≤◌, ◌^◌, eq-eqb, lt-ltb, [], refl, sym, ◌∙◌, ap, arith, subst, Some}
+use Rattle.std.specs.Option.{option_map}
 use native.Mathlib.Decide.{ℕ_discrete}
 use Rattle.arena.specs.declared.word.Side.{Side}
 use Rattle.arena.specs.declared.word.Side.TheVariants.{Left}
@@ -10,11 +11,11 @@ use Rattle.arena.specs.Words.{node, child}
 use Rattle.arena.specs.History.{History, value, Extends}
 use Rattle.arena.specs.Machines.{Call}
 use Rattle.histories.proofs.Lemmas.{node_since}
-use Rattle.ordered_map.specs.OrderedMap.{pair, get}
+use Rattle.ordered_map.specs.OrderedMap.{pair, get, first_pair}
 use Rattle.ordered_map.specs.Paths.{Passed, IsFirstAt}
 use Rattle.ordered_map.specs.Runs.{IsTreeRun}
-use Rattle.ordered_map.specs.TreeWords.{class, is_leaf, rank, toward, first_said}
-use Rattle.ordered_map.proofs.Lemmas.{run_since, walk_small, walk_before, walk_left, walk_least, walk_named, walk_next, walk_own, SameSettled, held_one, low_pairs, settled_rank, settled_leaf}
+use Rattle.ordered_map.specs.TreeWords.{class, is_leaf, rank, toward, leaf_pairs, first_said}
+use Rattle.ordered_map.proofs.Lemmas.{run_since, walk_small, walk_before, walk_left, walk_least, walk_named, walk_next, walk_own, SameSettled, held_one, low_pairs, high_pairs, settled_rank, settled_leaf}
 use Rattle.template.specs.FoundLeaf.{HasEnded, HasFoundGoal, HasFoundLeaf, first_told}
 use Rattle.template.specs.Trails.{WasPassed, HasTurned}
 use Rattle.template.specs.declared.walk.Found.{Found}
@@ -116,13 +117,12 @@ module _ (c : Call) (h : History) (f : Found) (run : IsTreeRun c.layout h) (a : 
           let low : class (value h) leaf ≡ 0 = class_is ∙ z in
           let key : value h (node leaf (Settled KeyWord)) ≡ f.key = a.key z in
           let says : f.value ≡ Some (value h (node leaf (Settled ValueWord))) = a.says ∙ ap (get f.key) (low_pairs (value h) leaf low ∙ held_one (value h) leaf) ∙ rw (eq-eqb f.key (value h (node leaf (Settled KeyWord))) (sym key)) refl in
-          rw (eq-eqb (class (value h) leaf) 0 low, says) (λ i. Some (pair (key i) (value h (node leaf (Settled ValueWord)))))
+          ap first_pair (low_pairs (value h) leaf low ∙ held_one (value h) leaf) ∙ (λ i. Some (pair (key i) (value h (node leaf (Settled ValueWord))))) ∙ sym (ap (option_map (pair f.key)) says)
 
       at_high : f.head.class ≢ 0 → first_said (value h) leaf ≡ first_told f
       at_high d =
-          let high : eqb (class (value h) leaf) 0 ≡ false = ne_eqb (class (value h) leaf) 0 (λ z. d (sym class_is ∙ z)) in
-          let says : f.value ≡ None = a.says ∙ rw high refl in
-          rw (high, says) refl
+          let none : leaf_pairs (value h) leaf ≡ [] = high_pairs (value h) leaf (λ z. d (sym class_is ∙ z)) in
+          ap first_pair none ∙ sym (ap (option_map (pair f.key)) (a.says ∙ ap (get f.key) none))
 
       go : Dec (f.head.class ≡ 0) → first_said (value h) leaf ≡ first_told f
       go (yes z) = at_low z

@@ -1,16 +1,16 @@
 -- What an edit of a leaf has filled makes the edit, whatever rows come until its SCX-record begins.
-use Rattle.std.proofs.Common.{◌≡◌, ℕ, ◌^◌, ◌<◌, false, sym, ◌∙◌, ap, arith, subst, length}
+use Rattle.std.proofs.Common.{◌≡◌, ◌≢◌, ℕ, ◌^◌, ◌<◌, false, None, sym, ◌∙◌, ap, arith, subst, length}
 use Rattle.arena.specs.History.{History, value}
 use Rattle.arena.specs.Fills.{IsNamed}
 use Rattle.arena.specs.Machines.{Call}
 use Rattle.histories.specs.Descriptor.{Descriptor}
 use Rattle.prims.specs.Scx.Known.{Job, Says}
 use Rattle.prims.specs.Snap.{snap_at}
-use Rattle.ordered_map.specs.OrderedMap.{MapEdit, edit_key}
+use Rattle.ordered_map.specs.OrderedMap.{MapEdit, edit_key, value_left}
 use Rattle.ordered_map.specs.Paths.{WasOnPath}
 use Rattle.ordered_map.specs.Runs.{IsTreeRun}
 use Rattle.ordered_map.specs.TreeShape.{leaf_plan}
-use Rattle.ordered_map.specs.TreeWords.{is_leaf, toward}
+use Rattle.ordered_map.specs.TreeWords.{is_leaf, toward, said}
 use Rattle.ordered_map.proofs.Lemmas.{walk_named}
 use Rattle.template.specs.FoundLeaf.{HasFoundLeaf}
 use Rattle.template.specs.FreshNodes.{IsLeafEditAt}
@@ -31,8 +31,8 @@ leaf_edit_words m d f n x plan two parent leaf old new = record {
 }
 
 -- An SCX-record that puts such a fresh node into the place of the leaf that was found makes the edit.
-pub edit_promised : (c : Call) (h : History) (s : ℕ) (e : MapEdit) (f : Found) (d : Descriptor) (n : ℕ) → IsTreeRun c.layout h → (edit_key e) < 2 ^ 64 → HasFoundLeaf c h (edit_key e) f → IsLeafEditAt f d n → HasFreshEdit c.layout c.pass h e f.trail.node.0 n → IsPromised c.layout c.pass h s d e
-edit_promised c h s e f d n run small a i w = leaf_edit_promised c.layout c.pass s h d e c.is_pass record {
+pub edit_promised : (c : Call) (h : History) (s : ℕ) (e : MapEdit) (f : Found) (d : Descriptor) (n : ℕ) → IsTreeRun c.layout h → (edit_key e) < 2 ^ 64 → HasFoundLeaf c h (edit_key e) f → IsLeafEditAt f d n → HasFreshEdit c.layout c.pass h e f.trail.node.0 n → (value_left e ≡ None → f.value ≢ None) → IsPromised c.layout c.pass h s d e
+edit_promised c h s e f d n run small a i w there = leaf_edit_promised c.layout c.pass s h d e c.is_pass record {
   small = small;
   path = let p = parent.passed.passed in subst (WasOnPath h (edit_key e)) (sym i.parent) (p.0, p.1, p.3);
   named = subst (IsNamed c.layout h) (sym i.parent) (walk_named c.layout h parent.passed.first (edit_key e) f.trail.parent.0 run parent.passed.passed);
@@ -41,6 +41,7 @@ edit_promised c h s e f d n run small a i w = leaf_edit_promised c.layout c.pass
   old = i.old ∙ sym i.leaf;
   leaf_named = subst (IsNamed c.layout h) (sym i.leaf) (walk_named c.layout h a.trail.node.first (edit_key e) f.trail.node.0 run a.trail.node.passed);
   edit = subst (HasFreshEdit c.layout c.pass h e (d.member 1)) (sym i.new) (subst (λ l. HasFreshEdit c.layout c.pass h e l n) (sym i.leaf) w);
+  there = λ none absent. there none (a.says ∙ ap (said (value h) (edit_key e)) (sym i.leaf) ∙ absent);
 }
   where
     parent : HasTurned c h (edit_key e) f.trail.parent.0 f.trail.side f.trail.node.0

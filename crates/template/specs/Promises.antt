@@ -1,5 +1,5 @@
 -- What has to be known for an edit's SCX-record to be allowed, whatever rows come until it begins.
-use Rattle.std.specs.Prelude.{◌≡◌, ℕ, ◌^◌, ◌<◌, false}
+use Rattle.std.specs.Prelude.{◌≡◌, ◌≢◌, ℕ, ◌^◌, ◌<◌, false, None}
 use Rattle.arena.specs.declared.layout.Layout.{Layout}
 use Rattle.arena.specs.declared.word.Side.{Side}
 use Rattle.arena.specs.Words.{info, child}
@@ -14,10 +14,10 @@ use Rattle.prims.specs.Laws.Linked.{IsLinked}
 use Rattle.prims.specs.Snap.{child_of}
 use Rattle.prims.specs.declared.snap.Snap.{Snap}
 use Rattle.ordered_map.specs.Edits.{IsLeafEdit, IsJoinBy}
-use Rattle.ordered_map.specs.OrderedMap.{MapEdit, edit_key}
+use Rattle.ordered_map.specs.OrderedMap.{MapEdit, edit_key, value_left}
 use Rattle.ordered_map.specs.Paths.{WasOnPath}
 use Rattle.ordered_map.specs.TreeShape.{MayEdit, TreeAllows, leaf_plan, join_plan, leaf_place, sibling_place}
-use Rattle.ordered_map.specs.TreeWords.{is_leaf, toward}
+use Rattle.ordered_map.specs.TreeWords.{is_leaf, toward, said}
 
 -- Whenever the pass c may begin s with these words, it makes the edit: after any run that goes on
 -- from h by such rows as may come before, in which s still is ready and the first info still is
@@ -39,7 +39,7 @@ pub record HasFreshEdit (lay : Layout) (c : ℕ) (h : History) (e : MapEdit) (l 
   pub below : is_leaf (value h) n ≡ false → (side : Side) → IsFresh lay c h (value h (child n side))
 
 -- What an edit of a leaf has in hand: a fork that was on the key's path, its leaf on the side of the
--- key, and the fresh node that is to replace that.
+-- key, in which a delete finds it, and the fresh node that is to replace that.
 pub record WillEditLeaf (lay : Layout) (c : ℕ) (h : History) (d : Descriptor) (e : MapEdit) : Type 0 where
   pub small : edit_key e < 2 ^ 64
   pub path : WasOnPath h (edit_key e) (d.member 0)
@@ -49,6 +49,7 @@ pub record WillEditLeaf (lay : Layout) (c : ℕ) (h : History) (d : Descriptor) 
   pub old : d.old ≡ d.member 1
   pub leaf_named : IsNamed lay h (d.member 1)
   pub edit : HasFreshEdit lay c h e (d.member 1) d.new
+  pub there : value_left e ≡ None → said (value h) (edit_key e) (d.member 1) ≢ None
 
 -- the snapshot may be used, and is what the SCX-record has seen of its j-th node
 pub record IsSnapOf (lay : Layout) (h : History) (d : Descriptor) (j : ℕ) (snap : Snap) : Type 0 where

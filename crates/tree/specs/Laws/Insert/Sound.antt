@@ -458,11 +458,15 @@ module _ (ed : Insert) (c : Call) (h : History) (f : Found) (snaps : List Snap) 
   needed : (i : Nth) (o : Option ℕ) → f.value ≡ o → IsNeeded (insert_need o) i → IsNeeded (insert_need f.value) i
   needed i o e n = subst (λ q. IsNeeded (insert_need q) i) (sym e) n
 
+  -- it takes out no key
+  none_taken : Some ed.value ≡ None → f.value ≢ None
+  none_taken none = absurd (let z : Some ed.value ≡ None = none in cc)
+
   promised_by : (j : Job) (d : Descriptor) → IsUpdateFor insert_means ed f snaps ns j.update → Says d j → (o : Option ℕ) → f.value ≡ o → IsPromised c.layout c.pass h j.scx.0 d (PutEdit ed.key ed.value)
   promised_by j d is says (Some old) e = edit_promised c h j.scx.0 (PutEdit ed.key ed.value) f d ns.first.0 run x.looked.small found
-      (is_leaf_edit j d ns.first.0 is (is.fresh ∙ ap (λ o. (top_of (insert_need o) ns)) e) says) (one_leaf old e (x.holds First (needed First (Some old) e tt)))
+      (is_leaf_edit j d ns.first.0 is (is.fresh ∙ ap (λ o. (top_of (insert_need o) ns)) e) says) (one_leaf old e (x.holds First (needed First (Some old) e tt))) none_taken
   promised_by j d is says None e = edit_promised c h j.scx.0 (PutEdit ed.key ed.value) f d ns.third.0 run x.looked.small found
-      (is_leaf_edit j d ns.third.0 is (is.fresh ∙ ap (λ o. (top_of (insert_need o) ns)) e) says) (three_nodes e (needed First None e tt) (needed Second None e tt) (needed Third None e tt))
+      (is_leaf_edit j d ns.third.0 is (is.fresh ∙ ap (λ o. (top_of (insert_need o) ns)) e) says) (three_nodes e (needed First None e tt) (needed Second None e tt) (needed Third None e tt)) none_taken
 
 -- its two nodes are apart, and what it has filled is promised to insert the key
 pub insert_makes : MakesWell insert_means
