@@ -22,7 +22,7 @@ use Rattle.ordered_map.specs.Paths.{WasOnPath}
 use Rattle.ordered_map.specs.Runs.{IsTreeRun, Makes, IsEditAt}
 use Rattle.ordered_map.specs.TreeShape.{edit_leaf}
 use Rattle.ordered_map.specs.TreeWords.{first_said, is_leaf, said}
-use Rattle.ordered_map.proofs.Lemmas.{SameSettled, run_since, settled_first, settled_leaf, walk_named, win_first, win_makes, wins_of}
+use Rattle.ordered_map.proofs.Lemmas.{SameSettled, run_since, settled_said, settled_first, settled_leaf, walk_named, win_first, win_makes, wins_of}
 use Rattle.template.proofs.Lemmas.{found_told, tracked_makes}
 use Rattle.template.specs.FoundLeaf.{path_key, HasFoundGoal}
 use Rattle.template.specs.declared.walk.Found.{Found}
@@ -33,7 +33,6 @@ use Rattle.edits.specs.Edits.{EditMeaning}
 use Rattle.edits.specs.Sound.{IsAtFound}
 use Rattle.edits.specs.Known.{CoversLeaf, Scxs, HasMade, ToldFirst}
 use Rattle.edits.specs.Laws.Entered.{only_joined}
-use Rattle.edits.specs.Laws.Kept.{same_said}
 use Rattle.edits.specs.Tries.{HasEnteredOnly, IsTry, CoversSnaps}
 
 abbrev rest : List ℕ → List ℕ
@@ -103,7 +102,7 @@ module _ {E : Type 0} (e : EditMeaning E) (ed : E) (c : Call) (f : Found) (begin
   leaf_told : IsAtFound e → IsEditAt c.layout before row s (e.edit ed f) → (map : List Pair) → Spells c.layout (value before) map → get (edit_key (e.edit ed f)) map ≡ f.value
   leaf_told at_found edits map spells =
       let k : ℕ = edit_key (e.edit ed f) in
-      edits.replies map spells ∙ ap (said (value before) k) leaf ∙ same_said (value begin) (value before) k f.trail.node.0 settled ∙ ap (λ q. said (value begin) q f.trail.node.0) (at_found ed f) ∙ sym found.says
+      edits.replies map spells ∙ ap (said (value before) k) leaf ∙ settled_said (value begin) (value before) k f.trail.node.0 settled ∙ ap (λ q. said (value begin) q f.trail.node.0) (at_found ed f) ∙ sym found.says
 
   -- and if the walk went to the least key, its first pair
   first_at : (goal : Goal) → HasFoundGoal goal c begin f → ToldFirst goal c.layout before f

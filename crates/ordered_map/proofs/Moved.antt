@@ -6,8 +6,8 @@ use Rattle.arena.specs.declared.word.NodeWord.TheVariants.{Settled}
 use Rattle.arena.specs.declared.word.SettledPart.TheVariants.{Head, Key}
 use Rattle.arena.specs.declared.word.Word.{Word}
 use Rattle.arena.specs.Words.{child}
-use Rattle.ordered_map.specs.OrderedMap.{AllBelow, AllFrom, MapEdit, edited, first_pair}
-use Rattle.ordered_map.specs.TreeWords.{class, is_leaf, level, rank, toward, first_said, leaf_items}
+use Rattle.ordered_map.specs.OrderedMap.{AllBelow, AllFrom, MapEdit, edited, first_pair, get}
+use Rattle.ordered_map.specs.TreeWords.{class, is_leaf, level, rank, toward, said, first_said, leaf_items}
 use Rattle.ordered_map.proofs.Holding.{SameSettled, held_same, counted_same, same_items, same_pairs}
 use Rattle.ordered_map.specs.Edits.{IsLowLeaf, IsLastLeaf, IsSwapBy, IsSplitBy, IsCopyOf, IsJoinBy, IsLeafEdit, IsAlike}
 
@@ -25,6 +25,9 @@ settled_leaf b f n e = ap (λ v. eqb (v / 4 % 2) 1) (e (Settled Head) tt)
 
 pub settled_level : (b f : Word → ℕ) (n : ℕ) → SameSettled b f n → level f n ≡ level b n
 settled_level b f n e = ap (λ v. v / 8) (e (Settled Head) tt)
+
+pub settled_said : (b f : Word → ℕ) (k n : ℕ) → SameSettled b f n → said f k n ≡ said b k n
+settled_said b f k n e = ap (get k) (same_pairs b f n e)
 
 pub settled_first : (b f : Word → ℕ) (n : ℕ) → SameSettled b f n → first_said f n ≡ first_said b n
 settled_first b f n e = ap first_pair (same_pairs b f n e)

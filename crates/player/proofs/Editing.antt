@@ -40,7 +40,7 @@ use Rattle.ordered_map.specs.Runs.{IsEditAt, IsTreeRun, Makes}
 use Rattle.ordered_map.specs.Spelled.{Spells}
 use Rattle.ordered_map.specs.TreeShape.{TreeAllows}
 use Rattle.ordered_map.specs.TreeWords.{said}
-use Rattle.ordered_map.proofs.Lemmas.{SameSettled, run_since, walk_named, win_makes}
+use Rattle.ordered_map.proofs.Lemmas.{SameSettled, run_since, settled_said, walk_named, win_makes}
 use Rattle.template.proofs.Lemmas.{walk_fills_not}
 use Rattle.template.specs.FoundLeaf.{asked_key, path_key, HasFoundGoal}
 use Rattle.template.specs.declared.walk.Goal.{Goal}
@@ -51,7 +51,7 @@ use Rattle.tree.proofs.Lemmas.{get_fills_not}
 use Rattle.edits.specs.Edits.{EditMeaning}
 use Rattle.edits.specs.Known.{CoversLeaf, Scxs, ToldFirst, Tries, UpdateWaitsAt}
 use Rattle.edits.specs.Laws.Entered.{only_joined}
-use Rattle.edits.specs.Laws.Kept.{idle_rests, same_said}
+use Rattle.edits.specs.Laws.Kept.{idle_rests}
 use Rattle.edits.specs.Sound.{IsAtFound}
 use Rattle.edits.specs.Tries.{CoversSnaps, HasEnteredOnly}
 use Rattle.edits.specs.declared.edit.Need.TheVariants.{Nothing}
@@ -121,7 +121,7 @@ module _ {E : Type 0} (means : EditMeaning E) (m : UpdateRun E UpdateAt) where
   leaf_value at_found c f begin h row s snaps now since won makes found covers_leaf covers_snaps map spells =
       edits.replies map spells
       ∙ ap (λ (n : ℕ). said (value h) key n) (covers_leaf h then since covers_snaps)
-      ∙ same_said (value begin) (value h) key f.trail.node.0 settled
+      ∙ settled_said (value begin) (value h) key f.trail.node.0 settled
       ∙ ap (λ (k : ℕ). said (value begin) k f.trail.node.0) (at_found m.edit f) ∙ sym found.says
     where
       key : ℕ

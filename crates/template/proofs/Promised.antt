@@ -21,12 +21,12 @@ use Rattle.help.specs.Laws.Help.Allowing.{later_self, later_trans}
 use Rattle.prims.specs.declared.snap.Snap.{Snap}
 use Rattle.prims.specs.Snap.{child_of}
 use Rattle.prims.specs.Laws.Linked.{IsLinked, linked_since}
-use Rattle.ordered_map.specs.OrderedMap.{MapEdit, edit_key, get}
+use Rattle.ordered_map.specs.OrderedMap.{MapEdit, edit_key}
 use Rattle.ordered_map.specs.Paths.{WasOnPath}
 use Rattle.ordered_map.specs.TreeShape.{leaf_plan, join_plan, leaf_place, sibling_place, TakesLeafOut, TreeAllows}
 use Rattle.ordered_map.specs.TreeWords.{is_leaf, toward, said}
 use Rattle.ordered_map.specs.Edits.{IsLeafEdit, IsJoinBy, HasFieldsOf}
-use Rattle.ordered_map.proofs.Lemmas.{join_plan_says, SameSettled, same_pairs, settled_toward, settled_leaf, move_leaf_edit, move_join_by}
+use Rattle.ordered_map.proofs.Lemmas.{join_plan_says, SameSettled, settled_said, settled_toward, settled_leaf, move_leaf_edit, move_join_by}
 use Rattle.template.specs.Promises.{IsPromised, IsFresh, WillEditLeaf, IsSnapOf, WillTakeOut}
 
 -- what is promised is allowed
@@ -151,7 +151,7 @@ leaf_edit_promised lay c s h d e is_pass w k later run same begins now = record 
     unnamed fork side = subst (λ n. ¬ IsNamed lay k n) (sym (made.words (Child side))) (below (sym (settled_leaf (value h) (value k) d.new (fresh_words made)) ∙ fork) side).unnamed
 
     says_now : said (value k) (edit_key e) (member k s 1) ≡ said (value h) (edit_key e) (d.member 1)
-    says_now = ap (said (value k) (edit_key e)) (is_member k s d same 1) ∙ ap (get (edit_key e)) (same_pairs (value h) (value k) (d.member 1) leaf)
+    says_now = ap (said (value k) (edit_key e)) (is_member k s d same 1) ∙ settled_said (value h) (value k) (edit_key e) (d.member 1) leaf
 
     moved : IsLeafEdit (value k) e (d.member 1) d.new
     moved = move_leaf_edit (value h) (value k) e (d.member 1) d.new leaf (fresh_words made) (λ fork side. fresh_words (below fork side)) (λ _ side. made.words (Child side)) w.edit.edit

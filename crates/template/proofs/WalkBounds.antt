@@ -25,7 +25,7 @@ use Rattle.ordered_map.specs.Paths.{IsAnswerAt}
 use Rattle.ordered_map.specs.Runs.{IsTreeRun}
 use Rattle.ordered_map.specs.TreeShape.{TreeAllows}
 use Rattle.ordered_map.specs.TreeWords.{class, is_leaf, rank, said, IsBlankAboveKeys}
-use Rattle.ordered_map.proofs.Lemmas.{walk_answers, walk_named, run_since, root_head, passed_blank, blame_field, SameSettled, held_one, low_pairs, same_pairs, settled_leaf}
+use Rattle.ordered_map.proofs.Lemmas.{walk_answers, walk_named, run_since, root_head, passed_blank, blame_field, SameSettled, held_one, low_pairs, settled_said, settled_leaf}
 use Rattle.template.specs.declared.walk.Found.{Found}
 use Rattle.template.specs.declared.walk.WalkRun.{WalkRun}
 use Rattle.template.specs.declared.walk.WalkAt.{WalkAt}
@@ -143,9 +143,6 @@ module _ {asked : ℕ} (k : ℕ) (c : Call) (h : History) (f : Found) (run : IsT
       let most : c.layout.passes * c.layout.nodes ≤ 32 * 32768 = mul-le c.layout.passes c.layout.nodes 32 32768 c.layout.passes_fit c.layout.nodes_fit in
       omega (arith, deep, few, most)
 
-same_said : (f g : Word → ℕ) (k n : ℕ) → SameSettled f g n → said g k n ≡ said f k n
-same_said f g k n e = ap (get k) (same_pairs f g n e)
-
 -- what a call has found it has found, whatever row comes
 pub found_more : (c : Call) (h : History) (r : Row) (k asked : ℕ) (f : Found) → IsTreeRun c.layout h → IsRun TreeAllows c.layout (r ⊳ h) → HasEnded c h k asked f → HasEnded c (r ⊳ h) k asked f
 found_more c h r k asked f run run_now a = record {
@@ -155,7 +152,7 @@ found_more c h r k asked f run run_now a = record {
   deep = let deep : f.head.level < 2 + length (taken_nodes h) = a.deep in let more : length (taken_nodes h) ≤ length (taken_nodes (r ⊳ h)) = taken_more h r in omega (arith, deep, more);
   key = λ low. same (Settled KeyWord) tt ∙ a.key low;
   blank = a.blank;
-  says = a.says ∙ sym (same_said (value h) (value (r ⊳ h)) asked f.trail.node.0 same);
+  says = a.says ∙ sym (settled_said (value h) (value (r ⊳ h)) asked f.trail.node.0 same);
 }
   where
     same : SameSettled (value h) (value (r ⊳ h)) f.trail.node.0

@@ -51,10 +51,6 @@ rests_by_step c h r left l no_fill x = record {
   over = over_more c.layout c.pass 0 h r l (takes_by_step c.layout c.pass 0 h r no_fill) x.over;
 }
 
--- what a leaf says of a key its settled words say
-pub same_said : (f g : Word → ℕ) (k n : ℕ) → SameSettled f g n → said g k n ≡ said f k n
-same_said f g k n e = rw (e (Settled Head) tt, e (Settled Key) tt, e (Settled Value) tt) refl
-
 -- a snapshot that the call has taken may be used
 pub snapped_usable : (c : Call) (h : History) (goal : Goal) (f : Found) (snap : Snap) → Lawful c.layout h → (x : HasSnappedAfterWalk c h goal f snap) → IsUsable c.layout h snap x.moment
 snapped_usable c h goal f snap l x = usable_since c.layout h x.moment snap x.moment l x.within (usable_now c.layout x.moment snap.node.0 snap x.is)
