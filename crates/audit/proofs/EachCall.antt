@@ -319,20 +319,11 @@ module _ (lay : Layout) (tries : ℕ) (calls : List Call) (lines : List Line) (c
 
 -- Entries
 
--- what a leaf says of the least key is the first of its pairs
-first_says : (f : Word → ℕ) (n : ℕ) → first_said f n ≡ first_pair (leaf_pairs f n)
-first_says f n = go (ℕ_discrete (class f n) 0)
-  where
-    go : Dec (class f n ≡ 0) → first_said f n ≡ first_pair (leaf_pairs f n)
-    go (yes z) = rw (eq-eqb (class f n) 0 z) refl
-    go (no d) = rw (ne_eqb (class f n) 0 d) refl
-
 -- an entry of it is one that a call with its command makes
 module _ (lay : Layout) (h : History) (row : StepRow) (e : Entered) (run : IsTreeRun lay (row ⊳ h)) (won : IsWin h row e.scx) where
   pop_entry : (key : ℕ) → Makes lay h e.scx (Delete key) → IsFirstLeaf h (edit_leaf h e.scx (Delete key)) key → IsPopEntry lay h e.scx
   pop_entry key x first =
-      let leaf = edit_leaf h e.scx (Delete key) in
-      (pair key first.first.0, x, λ map spells. win_first lay h row e.scx (Delete key) run won x (first.path.0, first.path.1, first.path.3) first.leaf map spells ∙ first_says (value h) leaf ∙ first.first.1)
+      (pair key first.first.0, x, λ map spells. win_first lay h row e.scx (Delete key) run won x (first.path.0, first.path.1, first.path.3) first.leaf map spells ∙ first.first.1)
 
   replace_entry : (key expected put : ℕ) → Makes lay h e.scx (Insert key put) → said (value h) key (edit_leaf h e.scx (Insert key put)) ≡ Some expected → IsReplaceEntry key expected put lay h e.scx
   replace_entry key expected put x says =

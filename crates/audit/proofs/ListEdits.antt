@@ -1,7 +1,6 @@
--- Edits that are asked of lists of pairs: where one is made, and that a split of leaves of one pair
--- each is one of those that the tree allows.
-use Rattle.std.proofs.Common.{◌≡◌, ◌≢◌, ℕ, zero, suc, ◌+◌, ◌^◌, ◌<◌, Bool, true, false, cond, ◌&&◌, eqb, ltb, ◌⊎◌, inl, inr, ⊎_elim, List, [], ◌∷◌, ◌++◌, Option, Some, None, insert as put_in, remove, refl, sym, ◌∙◌, ap, arith, lt-ltb, le-ltb, eq-eqb, ne_eqb}
-use Rattle.std.specs.Prelude.{IfSome}
+-- Edits that are asked of lists of pairs: where one is made, and what leaves that hold them show.
+use Rattle.std.proofs.Common.{◌≡◌, ◌≢◌, ℕ, zero, suc, ◌+◌, ◌*◌, ◌^◌, ◌<◌, Bool, true, false, cond, ◌&&◌, eqb, ltb, ◌⊎◌, inl, inr, ⊎_elim, List, [], ◌∷◌, ◌++◌, Option, Some, None, insert as put_in, remove, refl, sym, ◌∙◌, ap, subst, arith, append-nil, lt-ltb, le-ltb, eq-eqb, ne_eqb}
+use Rattle.std.specs.Prelude.{IsSome}
 use Rattle.std.specs.Cmp.Lexicographic.{pointwise}
 use Rattle.std.proofs.lemmas.Bool.{and_parts, eqb-true, eqb-false, ltb-true, ltb-false}
 use native.Mathlib.Decide.{ℕ_discrete}
@@ -13,12 +12,12 @@ use Rattle.arena.specs.History.{History, value}
 use Rattle.arena.specs.ScxRecords.{plan, member, new, old}
 use Rattle.arena.specs.Words.{node, child}
 use Rattle.ordered_map.specs.declared.pair.Pair.{Pair}
-use Rattle.ordered_map.specs.OrderedMap.{MapEdit, Insert, Delete, pair, insert, edited, first_pair}
+use Rattle.ordered_map.specs.OrderedMap.{MapEdit, Insert, Delete, AllAbove, AllBelow, AllFrom, pair, edit_key, edited, first_pair}
 use Rattle.ordered_map.specs.Holding.{held_pairs}
-use Rattle.ordered_map.specs.TreeWords.{class, is_leaf, level, rank, leaf_pairs, toward}
-use Rattle.ordered_map.specs.Edits.{IsAlike, IsSwap, IsSplit}
-use Rattle.ordered_map.specs.TreeShape.{IsInsert, insert_plan}
-use Rattle.ordered_map.proofs.Lemmas.{held_one, low_pairs, high_pairs, insert_by}
+use Rattle.ordered_map.specs.TreeWords.{class, is_leaf, level, rank, leaf_items, leaf_pairs, toward}
+use Rattle.ordered_map.specs.Edits.{IsAlike, IsLowLeaf, IsLastLeaf, IsSplitBy, IsLeafEdit}
+use Rattle.ordered_map.specs.TreeShape.{EditsLeaf, leaf_plan}
+use Rattle.ordered_map.proofs.Lemmas.{edited_local, held_one, one_item, low_items, high_items, low_pairs, high_pairs}
 use Rattle.record.specs.MapRecord.{number_pairs}
 use Rattle.audit.specs.Edits.{IsInFront, edit_to, key_in}
 
@@ -103,122 +102,94 @@ pub first_at : (ps : List (ℕ × ℕ)) (key : ℕ) → key_in ps 0 ≡ Some key
 first_at [] key e = absurd (let z : None ≡ Some key = e in cc)
 first_at (p ∷ ps) key e = let same : Some p.0 ≡ Some key = e in let is : p.0 ≡ key = cc in (p.1, ap (λ (k : ℕ). Some (pair k p.1)) is)
 
--- Splits of one pair
+-- an SCX-record with the plan of an edit of a leaf and the leaf as what it expects, by which the leaf
+-- is so edited, makes the insert
+pub insert_of : (h : History) (s key : ℕ) (put : Option ℕ) → IsSome put → plan h s ≡ leaf_plan (toward (value h) (member h s 0) key) → old h s ≡ member h s 1 → IsLeafEdit (value h) (edit_to key put) (member h s 1) (new h s) → EditsLeaf h s (edit_to key put)
+insert_of h s key None some plan old edit = absurd (let z : false ≡ true = some in cc)
+insert_of h s key (Some v) some plan old edit = record { plan = plan; old = old; edit = edit; there = λ none. absurd (let z : Some v ≡ None = none in cc) }
 
--- the pairs p, q and s, t are a, b and c, d by rising key
-record ArePairs (p q s t a b c d : ℕ) : Type 0 where
-  rising : a < c
-  first_key : p ≡ a
-  first_value : q ≡ b
-  last_key : s ≡ c
-  last_value : t ≡ d
+-- Leaves
 
-are_pairs : (p q s t a b c d : ℕ) → a < c → pair p q ∷ pair s t ∷ [] ≡ pair a b ∷ pair c d ∷ [] → ArePairs p q s t a b c d
-are_pairs p q s t a b c d l e =
-    let first : pair p q ≡ pair a b = cc in
-    let last : pair s t ≡ pair c d = cc in
-    record { rising = l; first_key = ap (λ (o : Pair). o.key) first; first_value = ap (λ (o : Pair). o.value) first; last_key = ap (λ (o : Pair). o.key) last; last_value = ap (λ (o : Pair). o.value) last }
+-- the key of an edit, whatever it leaves to that
+pub key_of_edit : (key : ℕ) (value : Option ℕ) → edit_key (edit_to key value) ≡ key
+key_of_edit key None = refl
+key_of_edit key (Some v) = refl
 
-put_beside : (k v r w p q s t : ℕ) → pair p q ∷ pair s t ∷ [] ≡ insert k v (pair r w ∷ []) → ArePairs p q s t k v r w ⊎ ArePairs p q s t r w k v
-put_beside k v r w p q s t e = go (ltb k r) (eqb k r) refl refl
-  where
-    made : (a b : Bool) → ltb k r ≡ a → eqb k r ≡ b → pair p q ∷ pair s t ∷ [] ≡ cond a (pair k v ∷ pair r w ∷ []) (cond b (pair k v ∷ []) (pair r w ∷ pair k v ∷ []))
-    made a b x y = e ∙ (λ i. cond (x i) (pair k v ∷ pair r w ∷ []) (cond (y i) (pair k v ∷ []) (pair r w ∷ pair k v ∷ [])))
+module _ (f : Word → ℕ) where
+  -- of a leaf of class 0 both lists are what it holds
+  low_both : (n : ℕ) → class f n ≡ 0 → leaf_items f n ≡ leaf_pairs f n
+  low_both n low = low_items f n low ∙ sym (low_pairs f n low)
 
-    go : (a b : Bool) → ltb k r ≡ a → eqb k r ≡ b → ArePairs p q s t k v r w ⊎ ArePairs p q s t r w k v
-    go true b x y = inl (are_pairs p q s t k v r w (ltb-true k r x) (made true b x y))
-    go false true x y = absurd (let z : pair p q ∷ pair s t ∷ [] ≡ pair k v ∷ [] = made false true x y in cc)
-    go false false x y =
-        let from = ltb-false k r x in
-        let other = eqb-false k r y in
-        inr (are_pairs p q s t r w k v (omega (arith, from, λ (is : k ≡ r). other is)) (made false false x y))
-
--- a fork c over two leaves, x and y, which between them hold what the edit makes of the pairs of the
--- leaf l; above all keys y is a copy of l
-pub record IsSplitOfPairs (f : Word → ℕ) (e : MapEdit) (l c x y : ℕ) : Type 0 where
-  pub leaf : is_leaf f l ≡ true
-  pub fork : is_leaf f c ≡ false
-  pub left : f (child c Left) ≡ x
-  pub right : f (child c Right) ≡ y
-  pub between : IsAlike f c y
-  pub first_leaf : is_leaf f x ≡ true
-  pub first_class : class f x ≡ 0
-  pub last_leaf : is_leaf f y ≡ true
-  pub last_class : class f y ≡ class f l
-  pub last_copy : class f l ≢ 0 → held_pairs f y ≡ held_pairs f l
-  pub pairs : leaf_pairs f x ++ leaf_pairs f y ≡ edited e (leaf_pairs f l)
-  pub deep : level f c ≡ level f l
-  pub low : level f x ≡ level f c + 1
-  pub high : level f y ≡ level f c + 1
-
-module _ (f : Word → ℕ) (l c x y : ℕ) where
-  abbrev key : ℕ → ℕ
-  key n = f (node n (Settled Key))
-
-  abbrev held : ℕ → ℕ
-  held n = f (node n (Settled Value))
-
-  gives : (n : ℕ) → class f n ≡ 0 → leaf_pairs f n ≡ pair (key n) (held n) ∷ []
-  gives n z = low_pairs f n z ∙ held_one f n
-
-  same_pair : (n m : ℕ) → held_pairs f n ≡ held_pairs f m → pair (key n) (held n) ≡ pair (key m) (held m)
-  same_pair n m e = let z : pair (key n) (held n) ∷ [] ≡ pair (key m) (held m) ∷ [] = sym (held_one f n) ∙ e ∙ held_one f m in cc
-
-  -- the new pair is on the left, and a copy of the leaf on the right
-  at_left : (k v : ℕ) → IsSplitOfPairs f (Insert k v) l c x y → k < rank f l → pair (key x) (held x) ≡ pair k v → pair (key y) (held y) ≡ pair (key l) (held l) → (i j : ℕ) × IsSplit f k v l c i j
-  at_left k v s below new copy = (
-    x,
-    y,
-    record {
-      leaf = s.leaf;
-      fork = s.fork;
-      new = record { leaf = s.first_leaf; class = s.first_class; key = ap (λ (o : Pair). o.key) new; value = ap (λ (o : Pair). o.value) new };
-      copy = record { leaf = s.last_leaf; alike = record { class = s.last_class; key = ap (λ (o : Pair). o.key) copy }; value = ap (λ (o : Pair). o.value) copy };
-      deep = s.deep;
-      low = s.low;
-      high = s.high;
-      order = inl (below, record { class = s.between.class ∙ s.last_class; key = s.between.key ∙ ap (λ (o : Pair). o.key) copy }, s.left, s.right);
-    },
-  )
-
-  -- or the other way round
-  at_right : (k v : ℕ) → IsSplitOfPairs f (Insert k v) l c x y → class f l ≡ 0 → ArePairs (key x) (held x) (key y) (held y) (key l) (held l) k v → (i j : ℕ) × IsSplit f k v l c i j
-  at_right k v s z o = (
-    y,
-    x,
-    record {
-      leaf = s.leaf;
-      fork = s.fork;
-      new = record { leaf = s.last_leaf; class = s.last_class ∙ z; key = o.last_key; value = o.last_value };
-      copy = record { leaf = s.first_leaf; alike = record { class = s.first_class ∙ sym z; key = o.first_key }; value = o.first_value };
-      deep = s.deep;
-      low = s.high;
-      high = s.low;
-      order = inr (let d = o.rising in omega (arith, d, z), s.between, s.left, s.right);
-    },
-  )
-
-  split_at : (k v : ℕ) → k < 2 ^ 64 → IsSplitOfPairs f (Insert k v) l c x y → (i j : ℕ) × IsSplit f k v l c i j
-  split_at k v small s = go (ℕ_discrete (class f l) 0)
+  -- Where two leaves between them give the map what the edit makes of what the leaf l gives it, so it
+  -- is with their items: above all keys the last one's stands behind the key.
+  pub split_items : (e : MapEdit) (l x y : ℕ) → edit_key e < 2 ^ 64 → class f x ≡ 0 → IsLastLeaf f y l → leaf_pairs f x ++ leaf_pairs f y ≡ edited e (leaf_pairs f l) → leaf_items f x ++ leaf_items f y ≡ edited e (leaf_items f l)
+  split_items e l x y small low last made = go (ℕ_discrete (class f l) 0)
     where
-      go : Dec (class f l ≡ 0) → (i j : ℕ) × IsSplit f k v l c i j
-      go (yes z) = ⊎_elim
-          (λ o. at_left k v s (let d = o.rising in omega (arith, d)) (λ i. pair (o.first_key i) (o.first_value i)) (λ i. pair (o.last_key i) (o.last_value i)))
-          (λ o. at_right k v s z o)
-          (put_beside k v (key l) (held l) (key x) (held x) (key y) (held y) (sym (λ i. gives x s.first_class i ++ gives y (s.last_class ∙ z) i) ∙ s.pairs ∙ ap (insert k v) (gives l z)))
+      go : Dec (class f l ≡ 0) → leaf_items f x ++ leaf_items f y ≡ edited e (leaf_items f l)
+      go (yes z) = (λ i. low_both x low i ++ low_both y (last.same_class ∙ z) i) ∙ made ∙ ap (edited e) (sym (low_both l z))
       go (no d) =
-          let none : leaf_pairs f y ≡ [] = high_pairs f y (λ e. d (sym s.last_class ∙ e)) in
-          let one : pair (key x) (held x) ∷ [] ≡ pair k v ∷ [] = sym (λ i. gives x s.first_class i ++ none i) ∙ s.pairs ∙ ap (insert k v) (high_pairs f l d) in
-          let new : pair (key x) (held x) ≡ pair k v = cc in
-          at_left k v s (omega (arith, d, small)) new (same_pair y l (s.last_copy d))
+          let high : class f y ≢ 0 = λ z. d (sym last.same_class ∙ z) in
+          let behind : leaf_items f y ≡ leaf_items f l = high_items f y high ∙ (λ i. pair (last.same_class i * 2 ^ 64 + last.key high i) 0 ∷ []) ∙ sym (high_items f l d) in
+          let first : leaf_items f x ≡ edited e [] = low_both x low ∙ sym (append-nil (leaf_pairs f x)) ∙ ap (λ ps. leaf_pairs f x ++ ps) (sym (high_pairs f y high)) ∙ made ∙ ap (edited e) (high_pairs f l d) in
+          let above : AllAbove (edit_key e) (leaf_items f l) = subst (AllAbove (edit_key e)) (sym (high_items f l d)) (omega (arith, small, d), tt) in
+          (λ i. first i ++ behind i) ∙ sym ((edited_local e).left [] (leaf_items f l) above)
 
-  pub split_of : (k : ℕ) (value : Option ℕ) → k < 2 ^ 64 → IsSplitOfPairs f (edit_to k value) l c x y → IfSome value (λ v. (i j : ℕ) × IsSplit f k v l c i j)
-  split_of k None small s = tt
-  split_of k (Some v) small s = split_at k v small s
+  -- what is on the left of a fork is below it
+  pub left_below : (n k : ℕ) → toward f n k ≡ Left → k < rank f n
+  left_below n k e = go (ltb k (rank f n)) refl e
+    where
+      go : (b : Bool) → ltb k (rank f n) ≡ b → cond b Left Right ≡ Left → k < rank f n
+      go true is e = ltb-true k (rank f n) is
+      go false is e = absurd (let z : Right ≡ Left = e in cc)
 
--- An SCX-record with the plan of an insert and the leaf as what it expects, by which the leaf is so
--- replaced, makes the insert.
-pub insert_of : (h : History) (s key : ℕ) (put : Option ℕ) → key < 2 ^ 64 → plan h s ≡ insert_plan (toward (value h) (member h s 0) key) → old h s ≡ member h s 1 → IfSome put (λ v. IsSwap (value h) key v (member h s 1) (new h s)) ⊎ IfSome put (λ v. (x y : ℕ) × IsSplit (value h) key v (member h s 1) (new h s) x y) → IfSome put (IsInsert h s key)
-insert_of h s key None small plan old edit = tt
-insert_of h s key (Some v) small plan old (inl swap) = record { plan = plan; old = old; edit = insert_by (value h) key v (member h s 1) (new h s) small (inl swap) }
-insert_of h s key (Some v) small plan old (inr split) = record { plan = plan; old = old; edit = insert_by (value h) key v (member h s 1) (new h s) small (inr split) }
+  -- a leaf holds one pair
+  pub all_held : (n high : ℕ) → f (node n (Settled Key)) < high → AllBelow high (held_pairs f n)
+  all_held n high l = subst (AllBelow high) (sym (held_one f n)) (l, tt)
+
+  -- leaves that hold the same have the same key
+  pub same_key : (n m : ℕ) → held_pairs f n ≡ held_pairs f m → f (node n (Settled Key)) ≡ f (node m (Settled Key))
+  same_key n m e =
+      let z : pair (f (node n (Settled Key))) (f (node n (Settled Value))) ∷ [] ≡ pair (f (node m (Settled Key))) (f (node m (Settled Value))) ∷ [] = sym (held_one f n) ∙ e ∙ held_one f m in
+      let first : pair (f (node n (Settled Key))) (f (node n (Settled Value))) ≡ pair (f (node m (Settled Key))) (f (node m (Settled Value))) = cc in
+      ap (λ (o : Pair). o.key) first
+
+  -- a fork c over two leaves, x and y, which between them give the map what the edit makes of what the
+  -- leaf l gives it; the fork has the rank of y
+  pub record IsSplitOfPairs (e : MapEdit) (l c x y : ℕ) : Type 0 where
+    pub leaf : is_leaf f l ≡ true
+    pub fork : is_leaf f c ≡ false
+    pub left : f (child c Left) ≡ x
+    pub right : f (child c Right) ≡ y
+    pub between : IsAlike f c y
+    pub first : IsLowLeaf f x
+    pub small : AllBelow (2 ^ 64) (held_pairs f x)
+    pub before : AllBelow (rank f c) (held_pairs f x)
+    pub last : IsLastLeaf f y l
+    pub pairs : leaf_pairs f x ++ leaf_pairs f y ≡ edited e (leaf_pairs f l)
+    pub deep : level f c ≡ level f l
+    pub low : level f x ≡ level f c + 1
+    pub high : level f y ≡ level f c + 1
+
+  pub split_of : (key : ℕ) (value : Option ℕ) (l c x y : ℕ) → key < 2 ^ 64 → IsSplitOfPairs (edit_to key value) l c x y → IsSplitBy f (edit_to key value) l c x y
+  split_of key value l c x y small s = record {
+    leaf = s.leaf;
+    fork = s.fork;
+    left = s.left;
+    right = s.right;
+    first = s.first;
+    small = s.small;
+    last = s.last;
+    items = split_items (edit_to key value) l x y (rw (key_of_edit key value) small) s.first.class s.last s.pairs;
+    before = subst (AllBelow (rank f c)) (sym (low_items f x s.first.class)) s.before;
+    behind = subst (AllFrom (rank f c)) (sym item.1) (omega (arith, at_last), tt);
+    above = λ d. record { class = s.between.class ∙ s.last.same_class; key = s.between.key ∙ s.last.key (λ z. d (s.between.class ∙ z)) };
+    deep = s.deep;
+    low = s.low;
+    high = s.high;
+  }
+    where
+      item : (v : ℕ) × (leaf_items f y ≡ pair (rank f y) v ∷ [])
+      item = one_item f y
+
+      at_last : rank f c ≡ rank f y
+      at_last = λ i. s.between.class i * 2 ^ 64 + s.between.key i

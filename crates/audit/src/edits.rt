@@ -9,18 +9,18 @@ ghost use Rattle.arena.specs.declared.word.NodeWord.TheVariants.{Settled};
 ghost use Rattle.arena.specs.declared.word.SettledPart.TheVariants.{Head as HeadWord, Key};
 ghost use Rattle.arena.specs.declared.word.Side.{Side as SideOf};
 ghost use Rattle.arena.specs.declared.word.Side.TheVariants.{Left, Right};
-ghost use Rattle.ordered_map.specs.Edits.{IsAlike, IsSwap, IsSplit, IsJoin, HasFieldsOf};
+ghost use Rattle.ordered_map.specs.Edits.{IsAlike, IsLowLeaf, IsLastLeaf, IsSwapBy, IsSplitBy, IsJoinBy, IsCopyOf, HasFieldsOf};
 ghost use Rattle.ordered_map.specs.Holding.{held_pairs};
 ghost use Rattle.ordered_map.specs.Paths.{Passed};
 ghost use Rattle.ordered_map.specs.Runs.{IsTreeRun};
-ghost use Rattle.ordered_map.specs.TreeShape.{IsInsert, IsDelete, IsEdit, insert_plan, delete_plan, leaf_place as leaf_place_of, sibling_place as sibling_place_of, edit_leaf};
-ghost use Rattle.ordered_map.specs.TreeWords.{class, is_leaf, level, leaf_pairs, said, toward as toward_of};
-ghost use Rattle.ordered_map.specs.OrderedMap.{Delete, edited, first_pair, pair};
+ghost use Rattle.ordered_map.specs.TreeShape.{EditsLeaf, TakesLeafOut, IsEdit, leaf_plan, join_plan, leaf_place as leaf_place_of, sibling_place as sibling_place_of, edit_leaf};
+ghost use Rattle.ordered_map.specs.TreeWords.{is_leaf, level, rank, leaf_pairs, said, toward as toward_of};
+ghost use Rattle.ordered_map.specs.OrderedMap.{AllBelow, Delete, edited, first_pair, pair};
 ghost use Rattle.record.specs.MapRecord.{map_call, number_pairs};
 ghost use Rattle.audit.specs.Edits.{IsEditBy, IsFirstLeaf, IsInFront, IsSuited, MayMakeEdit, edit_begun, key_in, word_now};
 ghost use Rattle.judge.specs.Histories.{seen_history};
 
-use arena::{Head, NodeNo, NodeWord, ScxNo, ScxWord, SettledPart, Side, Word};
+use arena::{Head, NodeNo, NodeWord, Plan, ScxNo, ScxWord, SettledPart, Side, Word};
 use arrayvec::ArrayVec;
 use judge::Judge;
 use ordered_map::Request;
@@ -93,23 +93,25 @@ pub(crate) fn suits(judge: &Judge, scx: u64, begun: &Begun) -> bool
     requires { IsTreeRun judge.now.layout (seen_history judge.now) }
     ensures { IsTrue result → IsEditBy (map_call (Some begun.now.command)) (edit_begun begun.now) → IsSuited (seen_history judge.now) scx begun.now }
 {
+    let leaf = edit_leaf(judge, scx, begun);
     match begun.command {
-        Command::Map(Request::PopFirst) => {
-            is_first_leaf(judge, taken_leaf(judge, scx, begun.key), begun.key)
-        }
+        Command::Map(Request::PopFirst) => is_first_leaf(judge, leaf, begun.key),
         Command::Map(Request::ReplaceIf { key, expected, .. }) => {
-            let leaf = member(judge, scx, 1);
             head(judge, leaf).leaf && said(judge, leaf, key) == Some(expected)
         }
         _ => true,
     }
 }
 
-/// The leaf that an SCX-record covers which takes out a key.
-fn taken_leaf(judge: &Judge, scx: u64, key: u64) -> u64
-    ensures { result ≡ edit_leaf (seen_history judge.now) scx (Delete key) }
+/// The leaf where the key of an SCX-record's edit stands, or would: the second of two nodes, or one
+/// of the last two of four.
+fn edit_leaf(judge: &Judge, scx: u64, begun: &Begun) -> u64
+    ensures { result ≡ edit_leaf (seen_history judge.now) scx (edit_begun begun.now) }
 {
-    let side = toward(judge, member(judge, scx, 1), key);
+    if Plan(scx_word(judge, scx, ScxWord::Plan)).count() == 2 {
+        return member(judge, scx, 1);
+    }
+    let side = toward(judge, member(judge, scx, 1), begun.key);
     member(judge, scx, leaf_place(side))
 }
 
@@ -241,7 +243,8 @@ fn head(judge: &Judge, node: u64) -> Head
 }
 
 fn key_of(judge: &Judge, node: u64) -> u64
-    ensures { result ≡ word_now judge.now (node_of node (Settled Key)) }
+    ensures key { result ≡ word_now judge.now (node_of node (Settled Key)) }
+    ensures small { result < 2 ^ 64 }
 {
     node_word(judge, node, NodeWord::Settled(SettledPart::Key))
 }
@@ -303,9 +306,9 @@ fn are_alike(judge: &Judge, one: u64, other: u64) -> bool
 }
 
 /// Whether a node is a leaf of class 0.
+#[tactic(auto, using(ordered_map::proofs::Lemmas::counted_one))]
 fn is_low_leaf(judge: &Judge, node: u64) -> bool
-    ensures leaf { IsTrue result → is_leaf (word_now judge.now) node ≡ true }
-    ensures class { IsTrue result → class (word_now judge.now) node ≡ 0 }
+    ensures { IsTrue result → IsLowLeaf (word_now judge.now) node }
 {
     head(judge, node).leaf && head(judge, node).class == 0
 }
@@ -320,22 +323,23 @@ fn is_edit(judge: &Judge, scx: u64, begun: &Begun) -> bool
         (word_now judge.now (child_of (new (seen_history judge.now) scx) side)) → ⊥ }
 {
     match begun.value {
-        Some(_value) => is_insert(judge, scx, begun),
-        None => is_delete(judge, scx, begun),
+        Some(_value) => edits_leaf(judge, scx, begun),
+        None => takes_leaf_out(judge, scx, begun),
     }
 }
 
 /// Whether an SCX-record covers a parent and a leaf, finalizes the leaf, and puts another leaf or a
 /// fork over two into the parent's field towards the key.
-fn is_insert(judge: &Judge, scx: u64, begun: &Begun) -> bool
-    requires { begun.now.key < 2 ^ 64 }
-    ensures edit { IsTrue result → IfSome begun.now.value (IsInsert (seen_history judge.now) scx begun.now.key) }
+fn edits_leaf(judge: &Judge, scx: u64, begun: &Begun) -> bool
+    requires small { begun.now.key < 2 ^ 64 }
+    requires put { IsSome begun.now.value }
+    ensures edit { IsTrue result → EditsLeaf (seen_history judge.now) scx (edit_begun begun.now) }
     ensures fresh { IsTrue result → is_leaf (word_now judge.now) (new (seen_history judge.now) scx) ≡ false → (side : SideOf) →
         IsNamed judge.now.layout (seen_history judge.now)
         (word_now judge.now (child_of (new (seen_history judge.now) scx) side)) → ⊥ }
 {
     let (parent, leaf) = (member(judge, scx, 0), member(judge, scx, 1));
-    let plan = insert_plan(toward(judge, parent, begun.key));
+    let plan = leaf_plan(toward(judge, parent, begun.key));
     let new = scx_word(judge, scx, ScxWord::New);
     scx_word(judge, scx, ScxWord::Plan) == plan
         && scx_word(judge, scx, ScxWord::Old) == leaf
@@ -348,21 +352,22 @@ fn is_insert(judge: &Judge, scx: u64, begun: &Begun) -> bool
 fn is_swap(judge: &Judge, leaf: u64, new: u64, begun: &Begun) -> bool
     requires leaf { is_leaf (word_now judge.now) leaf ≡ true }
     requires deep { level (word_now judge.now) new ≡ level (word_now judge.now) leaf }
-    ensures edit { IsTrue result → IfSome begun.now.value (λ v. IsSwap (word_now judge.now) begun.now.key v leaf new) }
+    ensures edit { IsTrue result → IsSwapBy (word_now judge.now) (edit_begun begun.now) leaf new }
     ensures leaf { IsTrue result → is_leaf (word_now judge.now) new ≡ true }
 {
-    head(judge, leaf).class == 0
-        && is_low_leaf(judge, new)
-        && given(judge, new) == edited(begun, given(judge, leaf))
+    if head(judge, leaf).class > 0 || !is_low_leaf(judge, new) {
+        return false;
+    }
+    given(judge, new) == edited(begun, given(judge, leaf))
 }
 
 /// Whether a leaf is replaced by a fork over two fresh ones, which between them hold what the edit
-/// makes of its pairs.
+/// makes of its pairs, and between which the fork stands.
 fn is_split(judge: &Judge, leaf: u64, fork: u64, begun: &Begun) -> bool
     requires leaf { is_leaf (word_now judge.now) leaf ≡ true }
     requires small { begun.now.key < 2 ^ 64 }
     requires deep { level (word_now judge.now) fork ≡ level (word_now judge.now) leaf }
-    ensures edit { IsTrue result → IfSome begun.now.value (λ v. (x y : ℕ) × IsSplit (word_now judge.now) begun.now.key v leaf fork x y) }
+    ensures edit { IsTrue result → (x y : ℕ) × IsSplitBy (word_now judge.now) (edit_begun begun.now) leaf fork x y }
     ensures fresh { IsTrue result → (side : SideOf) → IsNamed judge.now.layout (seen_history judge.now)
         (word_now judge.now (child_of fork side)) → ⊥ }
 {
@@ -375,6 +380,7 @@ fn is_split(judge: &Judge, leaf: u64, fork: u64, begun: &Begun) -> bool
         || !is_one_below(judge, left, fork)
         || !is_one_below(judge, right, fork)
         || !is_low_leaf(judge, left)
+        || !is_before(judge, left, fork)
         || !is_last_leaf(judge, right, leaf)
     {
         return false;
@@ -386,15 +392,20 @@ fn is_split(judge: &Judge, leaf: u64, fork: u64, begun: &Begun) -> bool
 /// Whether a node is a leaf that may stand last in the place of another: of its class, and, above all
 /// keys, a copy of it.
 fn is_last_leaf(judge: &Judge, node: u64, leaf: u64) -> bool
-    ensures leaf { IsTrue result → is_leaf (word_now judge.now) node ≡ true }
-    ensures class { IsTrue result → class (word_now judge.now) node ≡ class (word_now judge.now) leaf }
-    ensures copy { IsTrue result → class (word_now judge.now) leaf ≢ 0 →
-        held_pairs (word_now judge.now) node ≡ held_pairs (word_now judge.now) leaf }
+    ensures { IsTrue result → IsLastLeaf (word_now judge.now) node leaf }
 {
     let class = head(judge, leaf).class;
     head(judge, node).leaf
         && head(judge, node).class == class
         && (class == 0 || held(judge, node) == held(judge, leaf))
+}
+
+/// Whether what a leaf holds is before a fork.
+fn is_before(judge: &Judge, leaf: u64, fork: u64) -> bool
+    ensures before { IsTrue result → AllBelow (rank (word_now judge.now) fork) (held_pairs (word_now judge.now) leaf) }
+    ensures small { AllBelow (2 ^ 64) (held_pairs (word_now judge.now) leaf) }
+{
+    matches!(toward(judge, fork, key_of(judge, leaf)), Side::Left)
 }
 
 /// Whether the level of a node is just above that of a fork.
@@ -404,9 +415,9 @@ fn is_one_below(judge: &Judge, node: u64, fork: u64) -> bool
     head(judge, fork).level.checked_add(1) == Some(head(judge, node).level)
 }
 
-/// The plan word of an insert that changes the field on a side.
-fn insert_plan(side: Side) -> u64
-    ensures { result ≡ insert_plan side }
+/// The plan word of an edit of a leaf, that changes the field on a side.
+fn leaf_plan(side: Side) -> u64
+    ensures { result ≡ leaf_plan side }
 {
     match side {
         Side::Left => 18,
@@ -414,9 +425,9 @@ fn insert_plan(side: Side) -> u64
     }
 }
 
-/// The plan word of a delete that changes the field on a side.
-fn delete_plan(side: Side) -> u64
-    ensures { result ≡ delete_plan side }
+/// The plan word of taking a leaf out, that changes the field on a side.
+fn join_plan(side: Side) -> u64
+    ensures { result ≡ join_plan side }
 {
     match side {
         Side::Left => 116,
@@ -424,7 +435,7 @@ fn delete_plan(side: Side) -> u64
     }
 }
 
-/// At which place a delete covers the leaf, which is on this side of its parent.
+/// At which place the leaf is covered that is taken out, which is on this side of its parent.
 fn leaf_place(side: Side) -> u8
     ensures { result ≡ leaf_place_of side }
 {
@@ -434,7 +445,7 @@ fn leaf_place(side: Side) -> u8
     }
 }
 
-/// At which place it covers the leaf's sibling.
+/// At which place its sibling is covered.
 fn sibling_place(side: Side) -> u8
     ensures { result ≡ sibling_place_of side }
 {
@@ -446,12 +457,12 @@ fn sibling_place(side: Side) -> u8
 
 /// Whether an SCX-record covers a grandparent, a parent and its two children, finalizes all but the
 /// first, and puts a copy of the other child into the grandparent's field towards the key.
-fn is_delete(judge: &Judge, scx: u64, begun: &Begun) -> bool
+fn takes_leaf_out(judge: &Judge, scx: u64, begun: &Begun) -> bool
     requires { begun.now.value ≡ None }
-    ensures { IsTrue result → IsDelete (seen_history judge.now) scx begun.now.key
+    ensures { IsTrue result → TakesLeafOut (seen_history judge.now) scx (Delete begun.now.key)
         (toward_of (word_now judge.now) (member_of (seen_history judge.now) scx 1) begun.now.key) }
 {
-    let plan = delete_plan(toward(judge, member(judge, scx, 0), begun.key));
+    let plan = join_plan(toward(judge, member(judge, scx, 0), begun.key));
     let side = toward(judge, member(judge, scx, 1), begun.key);
     scx_word(judge, scx, ScxWord::Plan) == plan
         && scx_word(judge, scx, ScxWord::Old) == member(judge, scx, 1)
@@ -463,9 +474,9 @@ fn is_delete(judge: &Judge, scx: u64, begun: &Begun) -> bool
 /// and `new` a copy of the other child.
 fn is_join(judge: &Judge, scx: u64, side: Side, begun: &Begun) -> bool
     requires { begun.now.value ≡ None }
-    ensures edit { IsTrue result → IsJoin (word_now judge.now) begun.now.key (member_of (seen_history judge.now) scx 1)
-        (member_of (seen_history judge.now) scx (leaf_place_of side)) (member_of (seen_history judge.now) scx (sibling_place_of side))
-        (new (seen_history judge.now) scx) }
+    ensures edit { IsTrue result → IsJoinBy (word_now judge.now) (Delete begun.now.key)
+        (member_of (seen_history judge.now) scx 1) (member_of (seen_history judge.now) scx (leaf_place_of side))
+        (member_of (seen_history judge.now) scx (sibling_place_of side)) (new (seen_history judge.now) scx) }
     ensures copied { IsTrue result → word_now judge.now
         (info (member_of (seen_history judge.now) scx (sibling_place_of side))) ≡ seen_at (seen_history judge.now) scx
         (sibling_place_of side) → HasFieldsOf (word_now judge.now) (new (seen_history judge.now) scx)
@@ -477,9 +488,10 @@ fn is_join(judge: &Judge, scx: u64, side: Side, begun: &Begun) -> bool
         scx_word(judge, scx, ScxWord::New),
         member(judge, scx, place),
     );
-    !head(judge, member(judge, scx, 1)).leaf
-        && is_low_leaf(judge, leaf)
-        && edited(begun, given(judge, leaf)).is_empty()
+    if head(judge, member(judge, scx, 1)).leaf || !is_low_leaf(judge, leaf) {
+        return false;
+    }
+    edited(begun, given(judge, leaf)).is_empty()
         && is_copy(judge, new, sibling, is_as_seen(judge, scx, place))
 }
 
@@ -498,11 +510,9 @@ fn are_below(judge: &Judge, scx: u64) -> bool
 
 /// Whether a node is a copy of another: it holds the same, or, of a fork, has the same fields where
 /// these are looked at.
+#[tactic(auto, using(ordered_map::proofs::Lemmas::counted_one))]
 fn is_copy(judge: &Judge, one: u64, other: u64, looked_at: bool) -> bool
-    ensures same_head { IsTrue result → word_now judge.now (node_of one (Settled HeadWord)) ≡ word_now judge.now (node_of other (Settled HeadWord)) }
-    ensures same_key { IsTrue result → word_now judge.now (node_of one (Settled Key)) ≡ word_now judge.now (node_of other (Settled Key)) }
-    ensures same_pairs { IsTrue result → is_leaf (word_now judge.now) other ≡ true →
-        held_pairs (word_now judge.now) one ≡ held_pairs (word_now judge.now) other }
+    ensures copy { IsTrue result → IsCopyOf (word_now judge.now) one other }
     ensures copied { IsTrue result → looked_at ≡ true → HasFieldsOf (word_now judge.now) one other }
 {
     let head_of_other = node_word(judge, other, NodeWord::Settled(SettledPart::Head));

@@ -10,6 +10,7 @@ use Rattle.arena.specs.declared.word.ScxWord.TheVariants.{Call as CallWord}
 use Rattle.arena.specs.Words.{scx as scx_word, word_after}
 use Rattle.arena.specs.History.{History, ◌⊳◌, value, Extends}
 use Rattle.arena.specs.Blame.{IsInProgress}
+use Rattle.arena.specs.ScxRecords.{count_of}
 use Rattle.arena.specs.Fills.{IsOwnScx, IsNamedScx}
 use Rattle.arena.specs.Lawful.{Lawful, IsWin}
 use Rattle.arena.specs.Machines.{Call as MachineCall, begun_at}
@@ -146,9 +147,12 @@ module _ {E : Type 0} (means : EditMeaning E) (m : UpdateRun E UpdateAt) where
     -- so tells the leaf that its SCX covers
     tells_at : (b begin : History) (f : Found) (scx : ScxMachine) → Scxs means m (begun_at call b) h f scx begin → HasFilled (begun_at (begun_at call b) begin) h scx.scx.0 scx.call scx.update → Makes call.layout h scx.scx.0 (means.edit m.edit f) → TellsAtWin f call.layout h scx.scx.0
     tells_at b begin f scx x filled makes = record {
-      value_is = λ row now won map spells. leaf_value at_found (begun_at call b) f begin h row scx.scx.0 scx.update.snaps now filled.way.begun.since won makes x.found x.leaf filled.members map spells;
-      first_is = λ row now won. told_first means m.edit (begun_at call b) f begin h row scx.scx.0 scx.update.snaps now filled.way.begun.since won makes x.found x.leaf filled.members;
+      value_is = λ row now won map spells. leaf_value at_found (begun_at call b) f begin h row scx.scx.0 scx.update.snaps now filled.way.begun.since won makes x.found x.leaf covers map spells;
+      first_is = λ row now won. told_first means m.edit (begun_at call b) f begin h row scx.scx.0 scx.update.snaps now filled.way.begun.since won makes x.found x.leaf covers;
     }
+      where
+        covers : CoversSnaps h scx.scx.0 scx.update.snaps
+        covers = record { count = ap count_of filled.planned ∙ filled.over.count; members = filled.members }
 
     -- while its SCX runs, and in no other place
     hand_at : (b : History) (s : Step) (at : UpdateAt) → Tries means m call b h at → UpdateWaitsAt means m (begun_at call b) h s at → IsHandAt at call h t

@@ -13,4 +13,4 @@ returns-clause-edit c same =
     let made = ap number_pairs (same_pairs c.joined-below.result.items c.edited.result.items (search rules)) in
     let pairs : leaf_pairs f c.child-left.result ++ leaf_pairs f c.child-right.result ≡ edited (edit_begun begun) (leaf_pairs f c.args.leaf) =
     sym (c.joined-below.ensures ∙ (λ i. c.given.ensures.pairs i ++ c.given-2.ensures.pairs i)) ∙ made ∙ c.edited.ensures ∙ ap (edited (edit_begun begun)) c.given-3.ensures.pairs in
-    split_of f c.args.leaf c.args.fork c.child-left.result c.child-right.result begun.key begun.value c.requires.small (search rules)
+    (c.child-left.result, c.child-right.result, split_of f begun.key begun.value c.args.leaf c.args.fork c.child-left.result c.child-right.result c.requires.small (search rules))
