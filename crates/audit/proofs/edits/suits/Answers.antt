@@ -15,6 +15,6 @@ returns-in-Map-PopFirst c first by =
     let h = seen_history c.args.judge.now in
     let edit = edit_begun c.args.begun.now in
     let is : c.args.begun.now.command ≡ Map PopFirst = search rules in
-    let leaf : IsFirstLeaf h (edit_leaf h c.args.scx edit) c.args.begun.now.key = subst (λ (n : ℕ). IsFirstLeaf h n c.args.begun.now.key) c.edit_leaf.ensures (c.is_first_leaf.ensures first) in
+    let leaf : IsFirstLeaf h (edit_leaf h c.args.scx edit) c.args.begun.now.key = subst (λ (n : ℕ). IsFirstLeaf h n c.args.begun.now.key) c.edit_leaf-leaf.ensures (c.is_first_leaf.ensures first) in
     subst (λ (k : Command). Suits (map_call (Some k)) h c.args.scx edit) (sym is)
     (subst (IsFirstLeaf h (edit_leaf h c.args.scx edit)) (sym (key_of_edit c.args.begun.now.key c.args.begun.now.value)) leaf)

@@ -1,0 +1,27 @@
+use Rattle.std.proofs.Common.{◌≡◌, ℕ, ◌^◌, ◌<◌, Some, sym, subst, rules}
+use Rattle.arena.specs.ScxRecords.{member}
+use Rattle.ordered_map.specs.OrderedMap.{edit_key}
+use Rattle.ordered_map.specs.Paths.{Passed, WasOnPath}
+use Rattle.record.specs.MapRecord.{map_call}
+use Rattle.script.specs.declared.command.Command.{Command}
+use Rattle.judge.specs.Histories.{seen_history}
+use Rattle.audit.specs.Edits.{IsEditBy, edit_begun}
+use Rattle.audit.proofs.ListEdits.{key_of_edit}
+use Rattle.audit.proofs.edits.begun_for.Goals as goal
+
+pub returns-then-suits-clause-edit : goal.returns-then-suits-clause-edit
+returns-then-suits-clause-edit c =
+    let h = seen_history c.args.judge.now in
+    let begun = c.in_ok-begun.begun in
+    let key : edit_key (edit_begun begun) ≡ begun.key = key_of_edit begun.key begun.value in
+    let path : Passed h h begun.key (member h c.args.scx 0) = search rules in
+    record {
+      edit = record {
+        small = subst (λ (k : ℕ). k < 2 ^ 64) (sym key) c.in_ok-begun.ensures.small;
+        path = subst (λ (k : ℕ). WasOnPath h k (member h c.args.scx 0)) (sym key) (path.0, path.1, path.3);
+        fork = search rules;
+        edit = c.if-is_edit.ensures.edit;
+        fresh = c.if-is_edit.ensures.fresh;
+      };
+      own = subst (λ (k : Command). IsEditBy (map_call (Some k)) (edit_begun begun)) (sym c.in_ok-begun.ensures.command) c.in_ok-begun.ensures.own;
+    }
