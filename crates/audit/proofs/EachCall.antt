@@ -50,8 +50,7 @@ use Rattle.ordered_map.specs.Requests.{map_request}
 use Rattle.ordered_map.specs.Runs.{IsTreeRun, Makes}
 use Rattle.ordered_map.specs.Spelled.{Spells}
 use Rattle.ordered_map.specs.TreeShape.{edit_leaf}
-use Rattle.arena.specs.declared.word.Word.{Word}
-use Rattle.ordered_map.specs.TreeWords.{class, first_said, leaf_pairs, said}
+use Rattle.ordered_map.specs.TreeWords.{said}
 use Rattle.moments.specs.Changed.{edit_on, edited_key}
 use Rattle.audit.specs.Edits.{IsEditBy, IsFirstLeaf, Suits}
 use Rattle.audit.proofs.MapAnswers.{IsAnswered, either_fits, neither, had_within, first_within, is_change, value_reading, value_had}

@@ -1,4 +1,4 @@
-use Rattle.std.proofs.Common.{◌≡◌, ℕ, ◌^◌, ◌<◌, Some, sym, subst, rules}
+use Rattle.std.proofs.Common.{◌≡◌, ℕ, ◌^◌, ◌<◌, Some, refl, sym, subst, rules}
 use Rattle.arena.specs.ScxRecords.{member}
 use Rattle.ordered_map.specs.OrderedMap.{edit_key}
 use Rattle.ordered_map.specs.Paths.{Passed, WasOnPath}
@@ -20,8 +20,8 @@ returns-then-suits-clause-edit c =
         small = subst (λ (k : ℕ). k < 2 ^ 64) (sym key) c.in_ok-begun.ensures.small;
         path = subst (λ (k : ℕ). WasOnPath h k (member h c.args.scx 0)) (sym key) (path.0, path.1, path.3);
         fork = search rules;
-        edit = c.if-is_edit.ensures.edit;
-        fresh = c.if-is_edit.ensures.fresh;
+        edit = c.if-is_edit.ensures.edit refl;
+        fresh = c.if-is_edit.ensures.fresh refl;
       };
       own = subst (λ (k : Command). IsEditBy (map_call (Some k)) (edit_begun begun)) (sym c.in_ok-begun.ensures.command) c.in_ok-begun.ensures.own;
     }

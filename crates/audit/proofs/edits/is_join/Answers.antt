@@ -8,7 +8,7 @@ use Rattle.ordered_map.specs.TreeWords.{leaf_pairs}
 use Rattle.ordered_map.proofs.Lemmas.{low_pairs}
 use Rattle.record.specs.MapRecord.{number_pairs}
 use Rattle.judge.specs.Histories.{seen_history}
-use Rattle.audit.specs.Edits.{edit_begun, edit_to, word_now}
+use Rattle.audit.specs.Edits.{edit_to, word_now}
 use Rattle.audit.proofs.edits.is_join.Goals as goal
 
 pub returns-then-is_empty-clause-edit : goal.returns-then-is_empty-clause-edit

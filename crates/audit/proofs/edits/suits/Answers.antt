@@ -1,5 +1,4 @@
 use Rattle.std.proofs.Common.{◌≡◌, ℕ, Some, sym, subst, rules}
-use Rattle.ordered_map.specs.OrderedMap.{edit_key}
 use Rattle.ordered_map.specs.TreeShape.{edit_leaf}
 use Rattle.ordered_map.specs.declared.request.Request.TheVariants.{PopFirst}
 use Rattle.script.specs.declared.command.Command.{Command}
