@@ -11,6 +11,7 @@ mod PutEntries
 mod Alone
 mod Shares
 mod Usable
+mod Zeros
 mod Changed
 mod Snapshots
 mod Planned
