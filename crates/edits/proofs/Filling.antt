@@ -1,11 +1,9 @@
 -- What an update waits for behind the fill of a word: the next word, the next node, or its SCX.
-use Rattle.std.proofs.Common.{◌≡◌, ◌≢◌, ℕ, suc, ◌<◌, ◌≤◌, ◌⊎◌, inl, inr, Some, None, refl, sym, subst, arith}
+use Rattle.std.proofs.Common.{◌≡◌, ◌≢◌, ℕ, suc, ◌<◌, ◌≤◌, ◌⊎◌, inl, inr, Some, None, true, refl, sym, subst, arith}
 use Rattle.arena.specs.declared.number.NodeNo.{NodeNo}
 use Rattle.arena.specs.declared.word.Side.{Side}
-use Rattle.arena.specs.declared.word.Side.TheVariants.{Left, Right}
 use Rattle.arena.specs.declared.word.NodeWord.{NodeWord}
 use Rattle.arena.specs.declared.word.NodeWord.TheVariants.{Settled, Child, Info, Marked}
-use Rattle.arena.specs.declared.word.SettledPart.TheVariants.{Head, Key, Value}
 use Rattle.arena.specs.Fills.{IsInField}
 use Rattle.arena.specs.History.{History}
 use Rattle.arena.specs.Machines.{Call}
@@ -16,84 +14,14 @@ use Rattle.edits.specs.declared.edit.Nodes.{Nodes}
 use Rattle.edits.specs.declared.edit.Nth.{Nth}
 use Rattle.edits.specs.declared.edit.Nth.TheVariants.{First, Second, Third}
 use Rattle.edits.specs.declared.edit.Piece.{Piece}
-use Rattle.edits.specs.declared.edit.Piece.TheVariants.{Leaf, Fork}
 use Rattle.edits.specs.declared.update.UpdateRun.{UpdateRun}
 use Rattle.edits.specs.Edits.{EditMeaning}
-use Rattle.edits.specs.Known.{ComesBefore, IsNeeded, AreInOrder, CanLoad, CanFill, CanScx, IsFilledUpTo, HoldsPiece, piece, top}
-use Rattle.edits.specs.Laws.Hand.{IsBefore, IsUpTo, IsPieceWord, HoldsWords, HasFilledTo, IsForField, FieldMay, filled_next}
-use Rattle.edits.specs.Pieces.{nth_behind, nth_node, part_behind, word_of, top_of}
+use Rattle.edits.specs.Known.{ComesBefore, IsNeeded, AreInOrder, CanLoad, CanFill, CanScx, IsFilledUpTo, HoldsPiece, piece, fills_here, top}
+use Rattle.edits.specs.Laws.Hand.{HasFilledTo, IsForField, FieldMay, filled_next}
+use Rattle.edits.specs.Laws.PieceFills.{ComesNext, HoldsFills, last_word, next_word, the_same}
+use Rattle.edits.specs.Pieces.{fills_of, fills_word, made_before, made_with, nth_behind, nth_node, part_behind, word_of, top_of}
 use Rattle.edits.specs.Sound.{FillsWell}
 use Rattle.edits.proofs.Loading.{piece_is}
-use Rattle.edits.proofs.Nearer.{the_same}
-
--- The next word
-
-head_key : (q : NodeWord) → IsBefore (Settled Key) q → IsUpTo (Settled Head) q
-head_key (Settled Head) i = tt
-head_key _ i = absurd i
-
-key_value : (q : NodeWord) → IsBefore (Settled Value) q → IsUpTo (Settled Key) q
-key_value (Settled Head) i = tt
-key_value (Settled Key) i = tt
-key_value _ i = absurd i
-
-key_left : (q : NodeWord) → IsBefore (Child Left) q → IsUpTo (Settled Key) q
-key_left (Settled Head) i = tt
-key_left (Settled Key) i = tt
-key_left _ i = absurd i
-
-left_right : (q : NodeWord) → IsBefore (Child Right) q → IsUpTo (Child Left) q
-left_right (Settled Head) i = tt
-left_right (Settled Key) i = tt
-left_right (Child Left) i = tt
-left_right _ i = absurd i
-
--- a word of the piece that is filled, behind those that are filled up to another
-record ComesNext (p : Piece) (part next : NodeWord) : Type 0 where
-  is : IsPieceWord p next
-  before : (q : NodeWord) → IsBefore next q → IsUpTo part q
-
-next_word : (p : Piece) (part next : NodeWord) → part_behind p part ≡ Some next → ComesNext p part next
-next_word (Leaf level class key v) (Settled Head) next e = subst (λ q. ComesNext (Leaf level class key v) (Settled Head) q) (the_same (Settled Key) next e) record { is = tt; before = head_key }
-next_word (Leaf level class key v) (Settled Key) next e = subst (λ q. ComesNext (Leaf level class key v) (Settled Key) q) (the_same (Settled Value) next e) record { is = tt; before = key_value }
-next_word (Leaf level class key v) _ next e = absurd (let d : None ≡ Some next = e in cc)
-next_word (Fork level class key l r) (Settled Head) next e = subst (λ q. ComesNext (Fork level class key l r) (Settled Head) q) (the_same (Settled Key) next e) record { is = tt; before = head_key }
-next_word (Fork level class key l r) (Settled Key) next e = subst (λ q. ComesNext (Fork level class key l r) (Settled Key) q) (the_same (Child Left) next e) record { is = tt; before = key_left }
-next_word (Fork level class key l r) (Child Left) next e = subst (λ q. ComesNext (Fork level class key l r) (Child Left) q) (the_same (Child Right) next e) record { is = tt; before = left_right }
-next_word (Fork level class key l r) _ next e = absurd (let d : None ≡ Some next = e in cc)
-
--- The last word
-
-leaf_words : (level class key v : ℕ) (q : NodeWord) → IsPieceWord (Leaf level class key v) q → IsUpTo (Settled Value) q
-leaf_words level class key v (Settled p) i = tt
-leaf_words level class key v (Child side) i = absurd i
-leaf_words level class key v Info i = absurd i
-leaf_words level class key v Marked i = absurd i
-
-fork_words : (level class key : ℕ) (l r : NodeNo) (q : NodeWord) → IsPieceWord (Fork level class key l r) q → IsUpTo (Child Right) q
-fork_words level class key l r (Settled Head) i = tt
-fork_words level class key l r (Settled Key) i = tt
-fork_words level class key l r (Settled Value) i = absurd i
-fork_words level class key l r (Child Left) i = tt
-fork_words level class key l r (Child Right) i = tt
-fork_words level class key l r Info i = absurd i
-fork_words level class key l r Marked i = absurd i
-
--- behind the last word all words of the piece are filled
-last_word : (p : Piece) (part : NodeWord) → IsPieceWord p part → part_behind p part ≡ None → (q : NodeWord) → IsPieceWord p q → IsUpTo part q
-last_word (Leaf level class key v) (Settled Head) i e q j = absurd (let d : Some (Settled Key) ≡ None = e in cc)
-last_word (Leaf level class key v) (Settled Key) i e q j = absurd (let d : Some (Settled Value) ≡ None = e in cc)
-last_word (Leaf level class key v) (Settled Value) i e q j = leaf_words level class key v q j
-last_word (Leaf level class key v) (Child side) i e q j = absurd i
-last_word (Leaf level class key v) Info i e q j = absurd i
-last_word (Leaf level class key v) Marked i e q j = absurd i
-last_word (Fork level class key l r) (Settled Head) i e q j = absurd (let d : Some (Settled Key) ≡ None = e in cc)
-last_word (Fork level class key l r) (Settled Key) i e q j = absurd (let d : Some (Child Left) ≡ None = e in cc)
-last_word (Fork level class key l r) (Child Left) i e q j = absurd (let d : Some (Child Right) ≡ None = e in cc)
-last_word (Fork level class key l r) (Child Right) i e q j = fork_words level class key l r q j
-last_word (Fork level class key l r) (Settled Value) i e q j = absurd i
-last_word (Fork level class key l r) Info i e q j = absurd i
-last_word (Fork level class key l r) Marked i e q j = absurd i
 
 -- The next node
 
@@ -191,14 +119,14 @@ module _ {E : Type 0} (e : EditMeaning E) {A : Type 0} (m : UpdateRun E A) (c : 
   is_said : piece e m f here ≡ said
   is_said = piece_is (λ i. e.pieces m.edit f m.snaps.items m.nodes m.loaded i) m.nodes (e.needs m.edit f) nth x.0.works.need x.0.works.in_order
 
-  for_field : FillsWell e → (side : Side) → IsPieceWord said (Child side) → IsForField c.layout h m.nodes.first.0 (top e m f) (word_of said (Child side))
+  for_field : FillsWell e → (side : Side) → fills_word (fills_of said) (Child side) ≡ true → IsForField c.layout h m.nodes.first.0 (top e m f) (word_of said (Child side))
   for_field sound side i = go (sound.fields m.edit c h f m.snaps.items m.nodes m.loaded nth side x.0.works.run x.0.works.looked x.0.works.enough x.0.works.need i)
     where
       go : ((j : Nth) × ComesBefore j nth × (word_of said (Child side) ≡ (nth_node m.nodes j).0)) ⊎ IsInField c.layout h (word_of said (Child side)) → IsForField c.layout h m.nodes.first.0 (top e m f) (word_of said (Child side))
       go (inl y) = inl (subst (λ v. (m.nodes.first.0 ≤ v) × (v < top e m f)) (sym y.2) (earlier_below m.nodes (e.needs m.edit f) nth y.0 x.0.works.need x.0.works.in_order y.1))
       go (inr y) = inr y
 
-  field_may : FillsWell e → (next : NodeWord) → IsPieceWord said next → FieldMay next (IsForField c.layout h m.nodes.first.0 (top e m f) (word_of said next))
+  field_may : FillsWell e → (next : NodeWord) → fills_word (fills_of said) next ≡ true → FieldMay next (IsForField c.layout h m.nodes.first.0 (top e m f) (word_of said next))
   field_may sound (Child side) i = for_field sound side i
   field_may sound (Settled p) i = tt
   field_may sound Info i = tt
@@ -207,18 +135,18 @@ module _ {E : Type 0} (e : EditMeaning E) {A : Type 0} (m : UpdateRun E A) (c : 
   -- it may fill the next word
   pub fills_next : (next : NodeWord) → FillsWell e → part_behind said part ≡ Some next → CanFill e m c h f nth next
   fills_next next sound is = record {
-    fills = record { works = x.0.works; full = x.0.full; hand = x.0.hand; done = x.0.done; part_is = subst (λ p. IsPieceWord p next) (sym is_said) next_is.is };
+    fills = record { works = x.0.works; full = x.0.full; hand = x.0.hand; done = x.0.done; part_is = subst (λ p. fills_word (fills_of p) next ≡ true) (sym is_said) next_is.is };
     same = is_said;
     may = subst (λ p. FieldMay next (IsForField c.layout h m.nodes.first.0 (top e m f) (word_of p next))) (sym is_said) (field_may sound next next_is.is);
-    words = λ q i. x.1 q (next_is.before q i);
+    words = subst (HoldsFills h here) (sym (subst (λ p. made_before (fills_of p) next ≡ made_with (fills_of p) part) (sym is_said) next_is.before)) x.1;
   }
     where
-      next_is : ComesNext said part next
+      next_is : ComesNext (fills_of said) part next
       next_is = next_word said part next is
 
   -- the node of this place is full
-  all_words : part_behind said part ≡ None → HoldsWords h here (piece e m f here) (IsPieceWord (piece e m f here))
-  all_words none q i = x.1 q (last_word (piece e m f here) part x.0.part_is (subst (λ p. part_behind p part ≡ None) (sym is_said) none) q i)
+  all_words : part_behind said part ≡ None → HoldsFills h here (fills_here e m f nth)
+  all_words none = subst (HoldsFills h here) (last_word (piece e m f here) part x.0.part_is (subst (λ p. part_behind p part ≡ None) (sym is_said) none)) x.1
 
   filled_here : part_behind said part ≡ None → HasFilledTo c.layout h c.pass m.share m.nodes.first.0 (top e m f) (suc here) (piece e m f)
   filled_here none = filled_next c.layout h c.pass m.share m.nodes.first.0 (top e m f) here (piece e m f) x.2 (all_words none) x.0.full
@@ -247,6 +175,7 @@ module _ {E : Type 0} (e : EditMeaning E) {A : Type 0} (m : UpdateRun E A) (c : 
     };
     full = subst (λ n. HasFilledTo c.layout h c.pass m.share m.nodes.first.0 (top e m f) n (piece e m f)) behind.number (filled_here none);
     hand = record { lowest = behind.lowest; highest = behind.highest };
+    blank = x.0.full.blank (nth_node m.nodes after).0 behind.lowest (let n = behind.number in omega (arith, n)) behind.highest;
   }
     where
       behind : ComesBehind m.nodes (e.needs m.edit f) nth after

@@ -23,14 +23,14 @@ use Rattle.edits.specs.declared.edit.Nodes.{Nodes}
 use Rattle.edits.specs.declared.edit.Nth.{Nth}
 use Rattle.edits.specs.declared.edit.Nth.TheVariants.{First, Second, Third}
 use Rattle.edits.specs.declared.edit.Piece.{Piece}
-use Rattle.edits.specs.declared.edit.Piece.TheVariants.{Leaf, Fork}
 use Rattle.edits.specs.declared.update.UpdateAt.TheVariants.{Load}
 use Rattle.edits.specs.declared.update.UpdateRun.{UpdateRun}
 use Rattle.edits.specs.Next.{standing}
 use Rattle.edits.specs.Edits.{EditMeaning}
 use Rattle.edits.specs.Known.{AreLoaded, ComesBefore, IsNeeded, AreInOrder, pieces_by, CanLoad, CanFill, Loads, TryWaits, piece, copied}
-use Rattle.edits.specs.Laws.Hand.{IsBefore, IsPieceWord, HoldsWords, HasFilledTo}
-use Rattle.edits.specs.Pieces.{nth_node, with_word, top_of}
+use Rattle.edits.specs.Laws.Hand.{HasFilledTo}
+use Rattle.edits.specs.Laws.PieceFills.{HoldsFills, head_first}
+use Rattle.edits.specs.Pieces.{fills_of, nth_node, with_word, top_of}
 use Rattle.edits.specs.Sound.{LoadsWell}
 
 -- Pieces by their numbers
@@ -78,20 +78,11 @@ filled_same lay h c left first top n p q same x = record {
   next = x.next;
   over = x.over;
   taken = x.taken;
-  full = λ k i j t. subst (λ z. HoldsWords h k z (IsPieceWord z)) (same k i j) (x.full k i j t);
+  full = λ k i j t. subst (λ z. HoldsFills h k (fills_of z)) (same k i j) (x.full k i j t);
+  blank = x.blank;
 }
 
 -- Loads
-
-is_head : (p : Piece) → IsPieceWord p (Settled Head)
-is_head (Leaf level class key v) = tt
-is_head (Fork level class key l r) = tt
-
-none_before : (q : NodeWord) → IsBefore (Settled Head) q → ⊥
-none_before (Settled p) i = absurd i
-none_before (Child side) i = absurd i
-none_before Info i = absurd i
-none_before Marked i = absurd i
 
 loaded_one : (f : Word → ℕ) (n : ℕ) (ld : Loaded) (part : NodeWord) (v : ℕ) → IsSettled (node n part) → f (node n part) ≡ v → AreLoaded f n ld → AreLoaded f n (with_word ld part v)
 loaded_one f n ld (Settled Head) v i e x = record { head = sym e; key = x.key; value = x.value }
@@ -122,6 +113,7 @@ module _ {E : Type 0} (e : EditMeaning E) where
       };
       full = x.full;
       hand = record { lowest = x.hand.lowest; highest = x.hand.highest };
+      blank = x.blank;
       wanted = wanted;
       settled = sound.settled m.edit f m.snaps.items m.loaded nth part wanted (copied e m f);
     },
@@ -136,11 +128,11 @@ module _ {E : Type 0} (e : EditMeaning E) where
       full = x.full;
       hand = x.hand;
       done = done;
-      part_is = is_head (piece e m f (nth_node m.nodes nth).0);
+      part_is = (head_first (piece e m f (nth_node m.nodes nth).0)).0;
     };
     same = piece_is (λ i. e.pieces m.edit f m.snaps.items m.nodes m.loaded i) m.nodes (e.needs m.edit f) nth x.works.need x.works.in_order;
     may = tt;
-    words = λ q i. absurd (none_before q i);
+    words = subst (HoldsFills h (nth_node m.nodes nth).0) (sym (head_first (piece e m f (nth_node m.nodes nth).0)).1) x.blank;
   }
 
   -- it may go on with what a load has told
@@ -162,6 +154,7 @@ module _ {E : Type 0} (e : EditMeaning E) where
     };
     full = filled_same c.layout h c.pass m.share m.nodes.first.0 (top_of (e.needs m.edit f) m.nodes) (nth_node m.nodes nth).0 (piece e m f) (pieces_by (λ i. e.pieces m.edit f m.snaps.items m.nodes (with_word m.loaded part v) i) m.nodes) same x.full;
     hand = record { lowest = x.hand.lowest; highest = x.hand.highest };
+    blank = x.blank;
   }
     where
       same : (k : ℕ) → m.nodes.first.0 ≤ k → k < (nth_node m.nodes nth).0 → pieces_by (λ i. e.pieces m.edit f m.snaps.items m.nodes m.loaded i) m.nodes k ≡ pieces_by (λ i. e.pieces m.edit f m.snaps.items m.nodes (with_word m.loaded part v) i) m.nodes k

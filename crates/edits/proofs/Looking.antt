@@ -5,6 +5,7 @@ use Rattle.std.proofs.lemmas.List.{take-append-le}
 use Rattle.arena.specs.declared.number.NodeNo.{NodeNo}
 use Rattle.arena.specs.Fills.{IsNamed, IsOwnNode}
 use Rattle.arena.specs.History.{History, value, Extends}
+use Rattle.arena.specs.Lawful.{Lawful}
 use Rattle.arena.specs.Machines.{Call, MatchTurn, begun_at}
 use Rattle.arena.specs.Share.{Remaining, HasNode}
 use Rattle.arena.proofs.Lemmas.{ends_self}
@@ -24,7 +25,7 @@ use Rattle.edits.specs.declared.edit.Nodes.{Nodes}
 use Rattle.edits.specs.declared.update.UpdateAt.TheVariants.{Look}
 use Rattle.prims.specs.Snap.{snap_at}
 use Rattle.prims.specs.declared.snap.Snap.{Snap}
-use Rattle.prims.proofs.Lemmas.{left_own_node}
+use Rattle.prims.proofs.Lemmas.{left_own_node, left_zero}
 use Rattle.template.specs.FoundLeaf.{HasFoundGoal}
 use Rattle.template.specs.declared.walk.Found.{Found}
 use Rattle.template.specs.declared.walk.Goal.{Goal}
@@ -41,6 +42,7 @@ use Rattle.edits.specs.Known.{IsBelowRoot, RestsWith, MayBeginTry, HasNodesFor, 
 use Rattle.edits.specs.Pieces.{less_a_node, many_nodes, top_of}
 use Rattle.edits.specs.Sound.{LooksWell}
 use Rattle.edits.specs.Laws.Hand.{HasFilledTo}
+use Rattle.edits.specs.Laws.PieceFills.{HoldsFills}
 use Rattle.edits.specs.Tries.{IsTry}
 
 -- A snapshot more
@@ -117,8 +119,8 @@ abbrev pub without : Remaining → ℕ → Remaining
 without left many = record left { next_node = left.next_node + many; nodes = left.nodes - many }
 
 -- the fresh nodes that the share gives are in hand, and none is filled
-pub hand_begins : (c : Call) (h : History) (left : Remaining) (t : ℕ) (piece : ℕ → Piece) → t < left.nodes → RestsWith c h left → HasFilledTo c.layout h c.pass (without left (suc t)) left.next_node (left.next_node + t) left.next_node piece
-hand_begins c h left t piece some x = record {
+pub hand_begins : (c : Call) (h : History) (left : Remaining) (t : ℕ) (piece : ℕ → Piece) → Lawful c.layout h → t < left.nodes → RestsWith c h left → HasFilledTo c.layout h c.pass (without left (suc t)) left.next_node (left.next_node + t) left.next_node piece
+hand_begins c h left t piece l some x = record {
   some = omega arith;
   hand = record {
     own = λ n i j. own n i j;
@@ -141,6 +143,7 @@ hand_begins c h left t piece some x = record {
   over = x.over;
   taken = λ k i j b. absurd (omega (arith, i, j));
   full = λ k i j b. absurd (omega (arith, i, j));
+  blank = λ k i j b q fill. left_zero c.layout h c.pass left left.next_node left.next_scx k q l x.share (here k i b) fill;
 }
   where
     here : (n : ℕ) → left.next_node ≤ n → n ≤ left.next_node + t → HasNode left n
@@ -183,6 +186,10 @@ module _ {E : Type 0} (e : EditMeaning E) {A : Type 0} (m : UpdateRun E A) (c : 
   loaded_blank : AreLoaded (value h) (copied e m f) m.loaded
   loaded_blank = rw blank record { head = tt; key = tt; value = tt }
 
+  -- nothing of the next node is filled
+  first_blank : 0 < m.share.nodes → HoldsFills h m.share.next_node []
+  first_blank some q fill = left_zero c.layout h c.pass m.share m.share.next_node m.share.next_scx m.share.next_node q x.begins.run.1.lawful x.begins.rests.share record { from = omega arith; below = omega (arith, some) } fill
+
   none_before : (i : Nth) → ComesBefore i First → ⊥
   none_before First b = absurd b
   none_before Second b = absurd b
@@ -211,8 +218,9 @@ module _ {E : Type 0} (e : EditMeaning E) {A : Type 0} (m : UpdateRun E A) (c : 
       loaded = loaded_blank;
       before = λ i b. absurd (none_before i b);
     };
-    full = subst (λ (t : ℕ). HasFilledTo c.layout h c.pass (less_a_node m.share) m.share.next_node t m.share.next_node (piece e one_taken f)) top_is (hand_begins c h m.share 0 (piece e one_taken f) room.0 x.begins.rests);
+    full = subst (λ (t : ℕ). HasFilledTo c.layout h c.pass (less_a_node m.share) m.share.next_node t m.share.next_node (piece e one_taken f)) top_is (hand_begins c h m.share 0 (piece e one_taken f) x.begins.run.1.lawful room.0 x.begins.rests);
     hand = record { lowest = omega arith; highest = rw one (omega arith) };
+    blank = first_blank (let r = room.0 in omega (arith, r));
   }
     where
       room : HasNodesFor One m.share
@@ -266,8 +274,9 @@ module _ {E : Type 0} (e : EditMeaning E) {A : Type 0} (m : UpdateRun E A) (c : 
     };
     full = subst (λ (t : ℕ). HasFilledTo c.layout h c.pass less_three m.share.next_node t m.share.next_node (piece e three_taken f)) top_is
         (subst (λ (s : Remaining). HasFilledTo c.layout h c.pass s m.share.next_node (m.share.next_node + 2) m.share.next_node (piece e three_taken f)) share_is
-        (hand_begins c h m.share 2 (piece e three_taken f) room.0 x.begins.rests));
+        (hand_begins c h m.share 2 (piece e three_taken f) x.begins.run.1.lawful room.0 x.begins.rests));
     hand = record { lowest = omega arith; highest = rw three (omega arith) };
+    blank = first_blank (let r = room.0 in omega (arith, r));
   }
     where
       room : HasNodesFor Three m.share

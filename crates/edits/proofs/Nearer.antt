@@ -6,16 +6,13 @@ use Rattle.arena.specs.declared.machine.Turn.{Turn}
 use Rattle.arena.specs.declared.machine.Turn.TheVariants.{Ask, Done}
 use Rattle.arena.specs.Machines.{MatchTurn}
 use Rattle.arena.specs.declared.word.NodeWord.{NodeWord}
-use Rattle.arena.specs.declared.word.NodeWord.TheVariants.{Settled, Child}
-use Rattle.arena.specs.declared.word.SettledPart.TheVariants.{Head, Key, Value}
-use Rattle.arena.specs.declared.word.Side.TheVariants.{Left, Right}
 use Rattle.edits.specs.declared.edit.Need.{Need}
 use Rattle.edits.specs.declared.edit.Need.TheVariants.{Nothing, One, Three}
 use Rattle.edits.specs.declared.edit.Nth.{Nth}
 use Rattle.edits.specs.declared.edit.Nth.TheVariants.{First, Second, Third}
 use Rattle.edits.specs.declared.edit.Piece.{Piece}
-use Rattle.edits.specs.declared.edit.Piece.TheVariants.{Leaf, Fork}
 use Rattle.edits.specs.Edits.{EditMeaning}
+use Rattle.edits.specs.Laws.PieceFills.{next_word, the_same}
 use Rattle.edits.specs.Pieces.{nth_behind, part_behind, fills_behind, HasPlace}
 use Rattle.edits.specs.Steps.{works_after}
 use Rattle.edits.specs.declared.update.Updated.{Updated}
@@ -109,9 +106,6 @@ none_more n = omega arith
 pub some_left : (now left : ℕ) → now < left → 0 < left
 some_left now left i = omega (arith, i)
 
-pub the_same : {A : Type 0} (a b : A) → Some a ≡ Some b → a ≡ b
-the_same a b e = ap (λ o. unwrap_or o a) e
-
 -- what is left behind a node is left for the next one
 pub after_next : {E : Type 0} (e : EditMeaning E) (need : Need) (nth after : Nth) → nth_behind need nth ≡ Some after → works_after e nth ≡ e.most_works after + works_after e after
 after_next e Nothing nth after d = absurd (let z : None ≡ Some after = d in cc)
@@ -130,13 +124,7 @@ place_behind Three Third after d = absurd (let z : None ≡ Some after = d in cc
 
 -- fewer words are filled behind the next
 pub fewer_fills : (p : Piece) (part next : NodeWord) → part_behind p part ≡ Some next → fills_behind p next < fills_behind p part
-fewer_fills (Leaf level class key v) (Settled Head) next e = subst (λ q. fills_behind (Leaf level class key v) q < 2) (the_same (Settled Key) next e) (omega arith)
-fewer_fills (Leaf level class key v) (Settled Key) next e = subst (λ q. fills_behind (Leaf level class key v) q < 1) (the_same (Settled Value) next e) (omega arith)
-fewer_fills (Leaf level class key v) _ next e = absurd (let d : None ≡ Some next = e in cc)
-fewer_fills (Fork level class key l r) (Settled Head) next e = subst (λ q. fills_behind (Fork level class key l r) q < 3) (the_same (Settled Key) next e) (omega arith)
-fewer_fills (Fork level class key l r) (Settled Key) next e = subst (λ q. fills_behind (Fork level class key l r) q < 2) (the_same (Child Left) next e) (omega arith)
-fewer_fills (Fork level class key l r) (Child Left) next e = subst (λ q. fills_behind (Fork level class key l r) q < 1) (the_same (Child Right) next e) (omega arith)
-fewer_fills (Fork level class key l r) _ next e = absurd (let d : None ≡ Some next = e in cc)
+fewer_fills p part next e = (next_word p part next e).fewer
 
 -- a snapshot more, or no room for one
 pub one_or_full : {T E V : Type 0} (r : Result T E) (size : V → ℕ) (old now : V) → OnOk r (size now ≡ size old + 1) → OnErr r (now ≡ old) → OnErr r (size old ≡ 4) → (size now ≡ suc (size old)) ⊎ (4 ≤ size now)

@@ -1,5 +1,5 @@
 -- When an update may go on, and what it waits for.
-use Rattle.std.specs.Prelude.{◌≡◌, ◌≢◌, ℕ, suc, ◌^◌, ◌<◌, ◌≤◌, ◌⊎◌, ◌==◌, if◌then◌else◌, List, ◌∷◌, length, take, Option, Some, None}
+use Rattle.std.specs.Prelude.{◌≡◌, ◌≢◌, ℕ, suc, ◌^◌, ◌<◌, ◌≤◌, ◌⊎◌, ◌==◌, if◌then◌else◌, true, List, [], ◌∷◌, length, take, Option, Some, None}
 use Rattle.arena.specs.declared.fault.Full.{Full}
 use Rattle.arena.specs.declared.fault.Resource.{Resource}
 use Rattle.arena.specs.declared.fault.Resource.TheVariants.{Nodes as FreshNodes, Scx as ScxRecords}
@@ -59,9 +59,10 @@ use Rattle.edits.specs.declared.update.UpdateRun.{UpdateRun}
 use Rattle.template.specs.Blame.{IsContended, HasLostTriesTo}
 use Rattle.template.specs.Tries.{HasTriedAllBut}
 use Rattle.edits.specs.Edits.{EditMeaning}
-use Rattle.edits.specs.Laws.Hand.{IsBefore, IsUpTo, IsPieceWord, HoldsWords, HasFilledTo, IsForField, FieldMay}
+use Rattle.edits.specs.Laws.Hand.{HasFilledTo, IsForField, FieldMay}
 use Rattle.edits.specs.Laws.NodeFills.{node_fill}
-use Rattle.edits.specs.Pieces.{many_nodes, nth_node, top_of, plan_over, word_of}
+use Rattle.edits.specs.Laws.PieceFills.{HoldsFills}
+use Rattle.edits.specs.Pieces.{WordFill, fills_of, fills_word, made_before, made_with, many_nodes, nth_node, top_of, plan_over, word_of}
 use Rattle.edits.specs.Tries.{HasEnteredOnly, HasEnteredNone, HasFilledNone, HasOnlyLooked, MayTry, IsTry, IsTryAt, CoversSnaps}
 
 -- a node of the table other than the root
@@ -150,7 +151,7 @@ pieces_by p ns n =
 -- this node is fresh, and holds what the piece says
 pub record HoldsPiece (c : Call) (h : History) (n : ℕ) (p : Piece) : Type 0 where
   pub fresh : IsFresh c.layout c.pass h n
-  pub words : HoldsWords h n p (IsPieceWord p)
+  pub words : HoldsFills h n (fills_of p)
 
 -- What it makes
 
@@ -256,6 +257,14 @@ module _ {E : Type 0} (e : EditMeaning E) where
     pub lowest : m.nodes.first.0 ≤ (nth_node m.nodes nth).0
     pub highest : (nth_node m.nodes nth).0 ≤ top m f
 
+  -- nothing of it is filled
+  abbrev pub IsBlankHere : {A : Type 0} → UpdateRun E A → History → Nth → Type 0
+  IsBlankHere m h nth = HoldsFills h (nth_node m.nodes nth).0 []
+
+  -- what is filled of it, the last fill in front
+  abbrev pub fills_here : {A : Type 0} → UpdateRun E A → Found → Nth → List WordFill
+  fills_here m f nth = fills_of (piece m f (nth_node m.nodes nth).0)
+
   -- What it waits for
 
   -- a step of an LLX, which has begun at a moment of the call
@@ -274,6 +283,7 @@ module _ {E : Type 0} (e : EditMeaning E) where
     pub works : WorksAtNode m c h f nth
     pub full : AreFull m c h f nth
     pub hand : IsInHand m f nth
+    pub blank : IsBlankHere m h nth
     pub wanted : e.wants m.edit f m.snaps.items m.loaded nth ≡ Some part
     pub settled : IsSettled (node (copied m f) part)
 
@@ -283,11 +293,11 @@ module _ {E : Type 0} (e : EditMeaning E) where
     pub full : AreFull m c h f nth
     pub hand : IsInHand m f nth
     pub done : e.wants m.edit f m.snaps.items m.loaded nth ≡ None
-    pub part_is : IsPieceWord (piece m f (nth_node m.nodes nth).0) part
+    pub part_is : fills_word (fills_here m f nth) part ≡ true
 
   -- that word is filled, as those before it
   abbrev pub IsFilledUpTo : {A : Type 0} → UpdateRun E A → Call → History → Found → Nth → NodeWord → Type 0
-  IsFilledUpTo m c h f nth part = FillsPiece m c h f nth part × HoldsWords h (nth_node m.nodes nth).0 (piece m f (nth_node m.nodes nth).0) (IsUpTo part) × IsTakenNode h (nth_node m.nodes nth).0
+  IsFilledUpTo m c h f nth part = FillsPiece m c h f nth part × HoldsFills h (nth_node m.nodes nth).0 (made_with (fills_here m f nth) part) × IsTakenNode h (nth_node m.nodes nth).0
 
   -- a step of its SCX, which has the fresh nodes and an SCX-record in hand
   pub record Scxs {A : Type 0} (m : UpdateRun E A) (c : Call) (h : History) (f : Found) (scx : ScxRun) (begin : History) : Type 0 where
@@ -332,7 +342,7 @@ module _ {E : Type 0} (e : EditMeaning E) where
   UpdateWaitsAt m c h s (Walk walk) = Walks m c h walk.goal × WalkWaits walk c h s
   UpdateWaitsAt m c h s (Look f llx) = (begin : History) × Looks m c h f llx begin × LlxWaits TreeAllows llx (begun_at c begin) h s
   UpdateWaitsAt m c h s (Load f nth part) = Loads m c h f nth part × (s ≡ load LoadSettled (node (copied m f) part))
-  UpdateWaitsAt m c h s (Fill f nth part) = FillsPiece m c h f nth part × FieldMay part (IsForField c.layout h m.nodes.first.0 (top m f) (word_of (piece m f (nth_node m.nodes nth).0) part)) × HoldsWords h (nth_node m.nodes nth).0 (piece m f (nth_node m.nodes nth).0) (IsBefore part) × (s ≡ piece_fill_step m f nth part)
+  UpdateWaitsAt m c h s (Fill f nth part) = FillsPiece m c h f nth part × FieldMay part (IsForField c.layout h m.nodes.first.0 (top m f) (word_of (piece m f (nth_node m.nodes nth).0) part)) × HoldsFills h (nth_node m.nodes nth).0 (made_before (fills_here m f nth) part) × (s ≡ piece_fill_step m f nth part)
   UpdateWaitsAt m c h s (Scx f scx) = (begin : History) × Scxs m c h f scx begin × ScxWaits TreeAllows scx (begun_at c begin) h s
 
   -- what holds once the step of this place has told v
@@ -389,13 +399,14 @@ module _ {E : Type 0} (e : EditMeaning E) where
     pub works : WorksAtNode m c h f nth
     pub full : AreFull m c h f nth
     pub hand : IsInHand m f nth
+    pub blank : IsBlankHere m h nth
 
   -- it may fill this word of that node
   pub record CanFill {A : Type 0} (m : UpdateRun E A) (c : Call) (h : History) (f : Found) (nth : Nth) (part : NodeWord) : Type 0 where
     pub fills : FillsPiece m c h f nth part
     pub same : piece m f (nth_node m.nodes nth).0 ≡ e.pieces m.edit f m.snaps.items m.nodes m.loaded nth
     pub may : FieldMay part (IsForField c.layout h m.nodes.first.0 (top m f) (word_of (piece m f (nth_node m.nodes nth).0) part))
-    pub words : HoldsWords h (nth_node m.nodes nth).0 (piece m f (nth_node m.nodes nth).0) (IsBefore part)
+    pub words : HoldsFills h (nth_node m.nodes nth).0 (made_before (fills_here m f nth) part)
 
   -- it may begin its SCX: all its fresh nodes are full
   pub record CanScx {A : Type 0} (m : UpdateRun E A) (c : Call) (h : History) (f : Found) : Type 0 where

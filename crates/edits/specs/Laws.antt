@@ -1,4 +1,5 @@
 pub mod NodeFills
+pub mod PieceFills
 pub mod Hand
 pub mod HandScx
 pub mod Kept

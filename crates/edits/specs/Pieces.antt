@@ -1,5 +1,5 @@
 -- What fresh nodes are to hold.
-use Rattle.std.specs.Prelude.{◌≡◌, ℕ, ◌+◌, ◌*◌, ◌-◌, ◌%◌, ◌^◌, min, nat_lt, Bool, true, false, List, [], ◌∷◌, Option, Some, None}
+use Rattle.std.specs.Prelude.{◌≡◌, ℕ, suc, ◌+◌, ◌*◌, ◌-◌, ◌%◌, ◌^◌, min, nat_lt, Bool, true, false, if◌then◌else◌, List, [], ◌∷◌, Option, Some, None}
 use Rattle.arena.specs.declared.word.Side.{Side}
 use Rattle.arena.specs.declared.number.NodeNo.{NodeNo}
 use Rattle.arena.specs.declared.word.Side.TheVariants.{Left, Right}
@@ -9,6 +9,7 @@ use Rattle.arena.specs.declared.word.SettledPart.TheVariants.{Head, Key, Value}
 use Rattle.arena.specs.Heads.{head_word}
 use Rattle.arena.specs.ScxRecords.{side_no, removed_bits}
 use Rattle.arena.specs.Share.{Remaining}
+use Rattle.arena.specs.Words.{same_node_word}
 use Rattle.edits.specs.declared.edit.Loaded.{Loaded}
 use Rattle.edits.specs.declared.edit.Need.{Need}
 use Rattle.edits.specs.declared.edit.Need.TheVariants.{Nothing, One, Three}
@@ -22,33 +23,66 @@ use Rattle.edits.specs.declared.edit.Piece.TheVariants.{Leaf, Fork}
 abbrev pub piece_head : ℕ → Bool → ℕ → ℕ
 piece_head level leaf class = head_word record { level = min level (2 ^ 61 - 1); leaf = leaf; class = class % 4 }
 
+-- a fill: a word of a node, and what it gets
+pub record WordFill : Type 0 where
+  pub part : NodeWord
+  pub word : ℕ
+
+-- what is filled of a fresh node, the last fill in front
+abbrev pub fills_of : Piece → List WordFill
+fills_of (Leaf level class key v) =
+    record { part = Settled Value; word = v }
+    ∷ record { part = Settled Key; word = key }
+    ∷ record { part = Settled Head; word = piece_head level true class }
+    ∷ []
+fills_of (Fork level class key l r) =
+    record { part = Child Right; word = r.0 }
+    ∷ record { part = Child Left; word = l.0 }
+    ∷ record { part = Settled Key; word = key }
+    ∷ record { part = Settled Head; word = piece_head level false class }
+    ∷ []
+
+-- what a word of a fresh node holds after these fills, the last in front: what is not filled is 0
+abbrev pub filled : List WordFill → NodeWord → ℕ
+filled [] part = 0
+filled (x ∷ xs) part = if same_node_word x.part part then x.word else filled xs part
+
+-- whether the word is one that these fill
+abbrev pub fills_word : List WordFill → NodeWord → Bool
+fills_word [] part = false
+fills_word (x ∷ xs) part = if same_node_word x.part part then true else fills_word xs part
+
+-- those of them that are made before this word is filled
+abbrev pub made_before : List WordFill → NodeWord → List WordFill
+made_before [] part = []
+made_before (x ∷ xs) part = if same_node_word x.part part then xs else made_before xs part
+
+-- those that are made once it is filled too
+abbrev pub made_with : List WordFill → NodeWord → List WordFill
+made_with [] part = []
+made_with (x ∷ xs) part = if same_node_word x.part part then x ∷ xs else made_with xs part
+
+-- how many are left behind it
+abbrev pub many_left : List WordFill → NodeWord → ℕ
+many_left [] part = 0
+many_left (x ∷ xs) part = if same_node_word x.part part then 0 else suc (many_left xs part)
+
+-- the word that is filled next, where `next` is filled behind all of these
+abbrev pub next_behind : Option NodeWord → List WordFill → NodeWord → Option NodeWord
+next_behind next [] part = None
+next_behind next (x ∷ xs) part = if same_node_word x.part part then next else next_behind (Some x.part) xs part
+
 -- what a word of the node is to hold
 abbrev pub word_of : Piece → NodeWord → ℕ
-word_of (Leaf level class key v) (Settled Head) = piece_head level true class
-word_of (Leaf level class key v) (Settled Key) = key
-word_of (Leaf level class key v) (Settled Value) = v
-word_of (Fork level class key l r) (Settled Head) = piece_head level false class
-word_of (Fork level class key l r) (Settled Key) = key
-word_of (Fork level class key l r) (Child Left) = l.0
-word_of (Fork level class key l r) (Child Right) = r.0
-word_of _ _ = 0
+word_of p part = filled (fills_of p) part
 
 -- the word that is filled behind this one
 abbrev pub part_behind : Piece → NodeWord → Option NodeWord
-part_behind p (Settled Head) = Some (Settled Key)
-part_behind (Leaf level class key v) (Settled Key) = Some (Settled Value)
-part_behind (Fork level class key l r) (Settled Key) = Some (Child Left)
-part_behind (Fork level class key l r) (Child Left) = Some (Child Right)
-part_behind _ _ = None
+part_behind p part = next_behind None (fills_of p) part
 
 -- how many words are filled behind this one
 abbrev pub fills_behind : Piece → NodeWord → ℕ
-fills_behind (Leaf level class key v) (Settled Head) = 2
-fills_behind (Leaf level class key v) (Settled Key) = 1
-fills_behind (Fork level class key l r) (Settled Head) = 3
-fills_behind (Fork level class key l r) (Settled Key) = 2
-fills_behind (Fork level class key l r) (Child Left) = 1
-fills_behind _ _ = 0
+fills_behind p part = many_left (fills_of p) part
 
 -- the fresh node of this place
 abbrev pub nth_node : Nodes → Nth → NodeNo

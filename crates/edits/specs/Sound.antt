@@ -1,5 +1,5 @@
 -- The laws of an edit.
-use Rattle.std.specs.Prelude.{◌≡◌, ◌≢◌, ◌⊎◌, ℕ, List, [], Some}
+use Rattle.std.specs.Prelude.{◌≡◌, ◌≢◌, ◌⊎◌, ℕ, true, List, [], Some}
 use Rattle.arena.specs.declared.number.NodeNo.{NodeNo}
 use Rattle.arena.specs.declared.number.ScxNo.{ScxNo}
 use Rattle.arena.specs.declared.word.NodeWord.{NodeWord}
@@ -29,8 +29,7 @@ use Rattle.edits.specs.declared.edit.Nth.{Nth}
 use Rattle.template.specs.Blame.{IsContended, WasNotFinal}
 use Rattle.edits.specs.Edits.{EditMeaning, EditBounds}
 use Rattle.edits.specs.Known.{IsBelowRoot, ComesBefore, CoversLeaf, IsNeeded, HasLooked, HasFilledAll, IsUpdateFor}
-use Rattle.edits.specs.Laws.Hand.{IsPieceWord}
-use Rattle.edits.specs.Pieces.{nth_node, with_word, word_of}
+use Rattle.edits.specs.Pieces.{fills_of, fills_word, nth_node, with_word, word_of}
 
 -- What an edit looks at an LLX may look at, and was not final at a moment of the call. Where a
 -- snapshot differs from what the walk has found, what the edit names was in the way of a pass that
@@ -51,7 +50,7 @@ pub record LoadsWell {E : Type 0} (m : EditMeaning E) : Type 0 where
 -- a field of its fresh nodes is to hold a fresh node of a place before, or a node that a field has
 -- held
 pub record FillsWell {E : Type 0} (m : EditMeaning E) : Type 0 where
-  pub fields : (e : E) (c : Call) (h : History) (f : Found) (snaps : List Snap) (ns : Nodes) (ld : Loaded) (nth : Nth) (side : Side) → IsTreeRun c.layout h → HasLooked m c h e f snaps → m.looks e f snaps ≡ Enough → IsNeeded (m.needs e f) nth → IsPieceWord (m.pieces e f snaps ns ld nth) (Child side)
+  pub fields : (e : E) (c : Call) (h : History) (f : Found) (snaps : List Snap) (ns : Nodes) (ld : Loaded) (nth : Nth) (side : Side) → IsTreeRun c.layout h → HasLooked m c h e f snaps → m.looks e f snaps ≡ Enough → IsNeeded (m.needs e f) nth → fills_word (fills_of (m.pieces e f snaps ns ld nth)) (Child side) ≡ true
       → ((i : Nth) × ComesBefore i nth × (word_of (m.pieces e f snaps ns ld nth) (Child side) ≡ (nth_node ns i).0)) ⊎ IsInField c.layout h (word_of (m.pieces e f snaps ns ld nth) (Child side))
 
 -- what an edit looks at are nodes apart, one at least, and what it makes of them is its edit

@@ -1,13 +1,12 @@
 -- Several fresh nodes in hand: what a pass knows of them while it fills them one after the other,
 -- and which rows leave that.
-use Rattle.std.proofs.Common.{◌≡◌, ◌≢◌, ℕ, ◌<◌, ◌≤◌, ◌⊎◌, false, suc, arith, inl, inr, ⊎_elim, refl, sym, ◌∙◌, ap, subst}
+use Rattle.std.proofs.Common.{◌≡◌, ◌≢◌, ℕ, ◌<◌, ◌≤◌, ◌⊎◌, Bool, true, false, List, [], suc, arith, inl, inr, ⊎_elim, refl, sym, ◌∙◌, ap, subst}
+use Rattle.std.specs.Prelude.{if◌then◌else◌}
 use Rattle.arena.specs.declared.layout.Layout.{Layout}
 use Rattle.arena.specs.declared.step.Row.{Row}
 use Rattle.arena.specs.declared.step.Kind.TheVariants.{Fill}
-use Rattle.arena.specs.declared.word.Side.TheVariants.{Left, Right}
 use Rattle.arena.specs.declared.word.NodeWord.{NodeWord}
 use Rattle.arena.specs.declared.word.NodeWord.TheVariants.{Settled, Child, Info, Marked}
-use Rattle.arena.specs.declared.word.SettledPart.TheVariants.{Head, Key, Value}
 use Rattle.arena.specs.declared.word.Word.{Word}
 use Rattle.arena.specs.declared.word.Word.TheVariants.{Node, Scx as ScxOf}
 use Rattle.arena.specs.Share.{Remaining}
@@ -23,86 +22,9 @@ use Rattle.prims.specs.Laws.Begun.{takes_by_others, takes_by_node, takes_by_step
 use Rattle.prims.specs.Shares.{IsShare}
 use Rattle.prims.proofs.Lemmas.{left_own_node, over_more, share_by_others, share_by_step}
 use Rattle.edits.specs.declared.edit.Piece.{Piece}
-use Rattle.edits.specs.declared.edit.Piece.TheVariants.{Leaf, Fork}
-use Rattle.edits.specs.Pieces.{word_of}
+use Rattle.edits.specs.Pieces.{WordFill, filled, fills_of, fills_word, made_before, made_with}
 use Rattle.edits.specs.Laws.NodeFills.{named_before, others_stay, same_stays}
-
--- The words of a piece
-
--- those that were filled before this one
-abbrev pub IsBefore : NodeWord → NodeWord → Type 0
-IsBefore (Settled Key) (Settled Head) = Unit {0}
-IsBefore (Settled Value) (Settled Head) = Unit {0}
-IsBefore (Settled Value) (Settled Key) = Unit {0}
-IsBefore (Child Left) (Settled Head) = Unit {0}
-IsBefore (Child Left) (Settled Key) = Unit {0}
-IsBefore (Child Right) (Settled Head) = Unit {0}
-IsBefore (Child Right) (Settled Key) = Unit {0}
-IsBefore (Child Right) (Child Left) = Unit {0}
-IsBefore _ _ = ⊥
-
--- those that are filled once it is too
-abbrev pub IsUpTo : NodeWord → NodeWord → Type 0
-IsUpTo (Settled Head) (Settled Head) = Unit {0}
-IsUpTo (Settled Key) (Settled Head) = Unit {0}
-IsUpTo (Settled Key) (Settled Key) = Unit {0}
-IsUpTo (Settled Value) (Settled p) = Unit {0}
-IsUpTo (Child Left) (Settled Head) = Unit {0}
-IsUpTo (Child Left) (Settled Key) = Unit {0}
-IsUpTo (Child Left) (Child Left) = Unit {0}
-IsUpTo (Child Right) (Settled Head) = Unit {0}
-IsUpTo (Child Right) (Settled Key) = Unit {0}
-IsUpTo (Child Right) (Child Left) = Unit {0}
-IsUpTo (Child Right) (Child Right) = Unit {0}
-IsUpTo _ _ = ⊥
-
--- all of them
-abbrev pub IsPieceWord : Piece → NodeWord → Type 0
-IsPieceWord p (Settled Head) = Unit {0}
-IsPieceWord p (Settled Key) = Unit {0}
-IsPieceWord (Leaf level class key v) (Settled Value) = Unit {0}
-IsPieceWord (Fork level class key l r) (Child side) = Unit {0}
-IsPieceWord _ _ = ⊥
-
--- each of them is filled
-pub piece_fill : (p : Piece) (part : NodeWord) → IsPieceWord p part → IsNodeFill part
-piece_fill p (Settled q) i = tt
-piece_fill p (Child side) i = tt
-piece_fill (Leaf level class key v) Info i = absurd i
-piece_fill (Leaf level class key v) Marked i = absurd i
-piece_fill (Fork level class key l r) Info i = absurd i
-piece_fill (Fork level class key l r) Marked i = absurd i
-
--- these words of the node hold what the piece says
-abbrev pub HoldsWords : History → ℕ → Piece → (NodeWord → Type 0) → Type 0
-HoldsWords h n p P = (q : NodeWord) → P q → value h (node n q) ≡ word_of p q
-
-before_apart : (part q : NodeWord) → IsBefore part q → same_node_word part q ≡ false
-before_apart (Settled Key) (Settled Head) i = refl
-before_apart (Settled Value) (Settled Head) i = refl
-before_apart (Settled Value) (Settled Key) i = refl
-before_apart (Child Left) (Settled Head) i = refl
-before_apart (Child Left) (Settled Key) i = refl
-before_apart (Child Right) (Settled Head) i = refl
-before_apart (Child Right) (Settled Key) i = refl
-before_apart (Child Right) (Child Left) i = refl
-before_apart _ _ i = absurd i
-
-up_to : (part q : NodeWord) → IsUpTo part q → IsBefore part q ⊎ (part ≡ q)
-up_to (Settled Head) (Settled Head) i = inr refl
-up_to (Settled Key) (Settled Head) i = inl tt
-up_to (Settled Key) (Settled Key) i = inr refl
-up_to (Settled Value) (Settled Head) i = inl tt
-up_to (Settled Value) (Settled Key) i = inl tt
-up_to (Settled Value) (Settled Value) i = inr refl
-up_to (Child Left) (Settled Head) i = inl tt
-up_to (Child Left) (Settled Key) i = inl tt
-up_to (Child Left) (Child Left) i = inr refl
-up_to (Child Right) (Settled Head) i = inl tt
-up_to (Child Right) (Settled Key) i = inl tt
-up_to (Child Right) (Child Left) i = inl tt
-up_to (Child Right) (Child Right) i = inr refl
-up_to _ _ i = absurd i
+use Rattle.edits.specs.Laws.PieceFills.{HoldsFills, one_more, part_same}
 
 -- What is known
 
@@ -114,8 +36,8 @@ pub record HasHand (lay : Layout) (h : History) (c first top : ℕ) : Type 0 whe
   pub unnamed : (n : ℕ) → first ≤ n → n ≤ top → ¬ IsNamed lay h n
   pub unmentioned : IsUnmentioned h top
 
--- those below n are full; behind the top one stands what is left of the share; no SCX-record of the
--- pass is unfinished
+-- those below n are full, and those above it blank; behind the top one stands what is left of the
+-- share; no SCX-record of the pass is unfinished
 pub record HasFilledTo (lay : Layout) (h : History) (c : ℕ) (left : Remaining) (first top n : ℕ) (piece : ℕ → Piece) : Type 0 where
   pub some : first ≤ top
   pub hand : HasHand lay h c first top
@@ -123,7 +45,8 @@ pub record HasFilledTo (lay : Layout) (h : History) (c : ℕ) (left : Remaining)
   pub next : left.next_node ≡ suc top
   pub over : AreFinished lay c 0 h
   pub taken : (k : ℕ) → first ≤ k → k < n → k ≤ top → IsTakenNode h k
-  pub full : (k : ℕ) → first ≤ k → k < n → k ≤ top → HoldsWords h k (piece k) (IsPieceWord (piece k))
+  pub full : (k : ℕ) → first ≤ k → k < n → k ≤ top → HoldsFills h k (fills_of (piece k))
+  pub blank : (k : ℕ) → first ≤ k → n < k → k ≤ top → HoldsFills h k []
 
 -- what a field of a fresh node may get: another one in hand below the top, or a node that a field
 -- has named
@@ -219,14 +142,16 @@ module _ (lay : Layout) (h : History) (r : Row) (c : ℕ) (left : Remaining) (fi
     over = over_filled;
     taken = λ k i j t. taken_node_more r h k (x.taken k i j t);
     full = λ k i j t q p. others_stay lay h r n part word fill unnamed_here k q (λ e. omega (arith, j, e)) ∙ x.full k i j t q p;
+    blank = λ k i j t q p. others_stay lay h r n part word fill unnamed_here k q (λ e. omega (arith, j, e)) ∙ x.blank k i j t q p;
   }
 
-  -- and so do the words of this node; the one that is stored is there too
-  pub words_more : (p : Piece) → r.after ≡ word_of p part → HoldsWords h n p (IsBefore part) → HoldsWords (r ⊳ h) n p (IsUpTo part)
-  words_more p stored y q i = ⊎_elim
-      (λ b. same_stays lay h r n part word fill unnamed_here q (before_apart part q b) ∙ y q b)
-      (λ e. subst (λ w. value (r ⊳ h) (node n w) ≡ word_of p w) e (value_at r h (node n part) word ∙ stored))
-      (up_to part q i)
+  -- and so do the words of this node but the one that is stored
+  pub words_more : (xs : List WordFill) → fills_word xs part ≡ true → r.after ≡ filled xs part → HoldsFills h n (made_before xs part) → HoldsFills (r ⊳ h) n (made_with xs part)
+  words_more xs among stored y q i = go (same_node_word part q) refl ∙ sym (one_more xs part q among)
+    where
+      go : (t : Bool) → same_node_word part q ≡ t → value (r ⊳ h) (node n q) ≡ (if same_node_word part q then filled xs part else filled (made_before xs part) q)
+      go true t = rw t (subst (λ w. value (r ⊳ h) (node n w) ≡ filled xs part) (part_same part q t) (value_at r h (node n part) word ∙ stored))
+      go false t = rw t (same_stays lay h r n part word fill unnamed_here q t ∙ y q i)
 
   -- this node is taken
   pub taken_now : IsTakenNode (r ⊳ h) n
@@ -260,8 +185,8 @@ may_fill lay h c left first top n piece part v fill from to may x = go part fill
 
 module _ (lay : Layout) (h : History) (r : Row) (c : ℕ) (left : Remaining) (first top : ℕ) (piece : ℕ → Piece)
     (is_pass : c < lay.passes) (l : Lawful lay (r ⊳ h)) (other : r.pass.0 ≢ c) where
-  pub words_by_others : (n : ℕ) (p : Piece) (P : NodeWord → Type 0) → HasHand lay h c first top → first ≤ n → n ≤ top → HoldsWords h n p P → HoldsWords (r ⊳ h) n p P
-  words_by_others n p P x i j y q a = unnamed_stays lay h r c l is_pass other n q (x.own n i j) (x.unnamed n i j) ∙ y q a
+  pub words_by_others : (n : ℕ) (made : List WordFill) → HasHand lay h c first top → first ≤ n → n ≤ top → HoldsFills h n made → HoldsFills (r ⊳ h) n made
+  words_by_others n made x i j y q a = unnamed_stays lay h r c l is_pass other n q (x.own n i j) (x.unnamed n i j) ∙ y q a
 
   pub by_others : (n : ℕ) → HasFilledTo lay h c left first top n piece → HasFilledTo lay (r ⊳ h) c left first top n piece
   by_others n x = record {
@@ -276,7 +201,8 @@ module _ (lay : Layout) (h : History) (r : Row) (c : ℕ) (left : Remaining) (fi
     next = x.next;
     over = over_more lay c 0 h r l (takes_by_others lay c 0 h r l other) x.over;
     taken = λ k i j t. taken_node_more r h k (x.taken k i j t);
-    full = λ k i j t. words_by_others k (piece k) (IsPieceWord (piece k)) x.hand i t (x.full k i j t);
+    full = λ k i j t. words_by_others k (fills_of (piece k)) x.hand i t (x.full k i j t);
+    blank = λ k i j t. words_by_others k [] x.hand i t (x.blank k i j t);
   }
 
 -- A row that changes nothing and is no fill: a load
@@ -300,11 +226,12 @@ by_load lay h r c left first top n piece l no_fill same x = record {
   over = over_more lay c 0 h r l (takes_by_step lay c 0 h r no_fill) x.over;
   taken = λ k i j t. taken_node_more r h k (x.taken k i j t);
   full = λ k i j t q p. same (node k q) ∙ x.full k i j t q p;
+  blank = λ k i j t q p. same (node k q) ∙ x.blank k i j t q p;
 }
 
 -- Behind the last word of a node
 
-pub filled_next : (lay : Layout) (h : History) (c : ℕ) (left : Remaining) (first top n : ℕ) (piece : ℕ → Piece) → IsTakenNode h n → HoldsWords h n (piece n) (IsPieceWord (piece n)) → HasFilledTo lay h c left first top n piece → HasFilledTo lay h c left first top (suc n) piece
+pub filled_next : (lay : Layout) (h : History) (c : ℕ) (left : Remaining) (first top n : ℕ) (piece : ℕ → Piece) → IsTakenNode h n → HoldsFills h n (fills_of (piece n)) → HasFilledTo lay h c left first top n piece → HasFilledTo lay h c left first top (suc n) piece
 filled_next lay h c left first top n piece t w x = record {
   some = x.some;
   hand = x.hand;
@@ -312,7 +239,8 @@ filled_next lay h c left first top n piece t w x = record {
   next = x.next;
   over = x.over;
   taken = λ k i j b. ⊎_elim (λ e. x.taken k i e b) (λ e. rw e t) (less k j);
-  full = λ k i j b. ⊎_elim (λ e. x.full k i e b) (λ e. subst (λ m. HoldsWords h m (piece m) (IsPieceWord (piece m))) (sym e) w) (less k j);
+  full = λ k i j b. ⊎_elim (λ e. x.full k i e b) (λ e. subst (λ m. HoldsFills h m (fills_of (piece m))) (sym e) w) (less k j);
+  blank = λ k i j t. x.blank k i (omega (arith, j)) t;
 }
   where
     less : (k : ℕ) → k < suc n → (k < n) ⊎ (k ≡ n)

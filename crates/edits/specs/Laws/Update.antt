@@ -1,6 +1,6 @@
 -- The laws of updates: rows of others leave them waiting, their steps are lawful, and what they are
 -- told is so.
-use Rattle.std.proofs.Common.{◌≡◌, ◌≢◌, ℕ, ◌≤◌, false, Some, None, Option, length, inl, inr, refl, sym, ◌∙◌, ap, subst, arith}
+use Rattle.std.proofs.Common.{◌≡◌, ◌≢◌, ℕ, ◌≤◌, false, Some, None, Option, List, [], length, inl, inr, refl, sym, ◌∙◌, ap, subst, arith}
 use Rattle.arena.specs.declared.layout.Layout.{Layout}
 use Rattle.arena.specs.declared.step.Row.{Row}
 use Rattle.arena.specs.declared.step.Step.{Step}
@@ -48,12 +48,13 @@ use Rattle.edits.specs.declared.update.UpdateAt.TheVariants.{Start, Walk, Look, 
 use Rattle.edits.specs.declared.update.UpdateRun.{UpdateRun}
 use Rattle.edits.specs.Edits.{EditMeaning}
 use Rattle.edits.specs.Steps.{HasScxForFill, UpdateFitsAt, UpdateFits}
-use Rattle.edits.specs.Pieces.{HasPlace, nth_node, word_of}
-use Rattle.edits.specs.Known.{IsNeeded, RestsWith, IsUntouched, Looks, Loads, FillsPiece, Scxs, Walks, FirstOrLost, Tries, piece_fill_step, UpdateWaitsAt, UpdateIsToldAt, UpdateWaits, UpdateIsReady, piece, top, copied}
-use Rattle.edits.specs.Laws.Hand.{IsBefore, IsUpTo, HoldsWords, HasFilledTo, IsForField, FieldMay, piece_fill, by_others, by_load, filled_to_more, words_by_others, words_more, taken_now, may_fill}
+use Rattle.edits.specs.Pieces.{WordFill, HasPlace, fills_of, made_before, made_with, nth_node, word_of}
+use Rattle.edits.specs.Known.{IsNeeded, RestsWith, IsUntouched, AreFull, IsInHand, Looks, Loads, FillsPiece, Scxs, Walks, FirstOrLost, Tries, piece_fill_step, UpdateWaitsAt, UpdateIsToldAt, UpdateWaits, UpdateIsReady, piece, fills_here, top, copied}
+use Rattle.edits.specs.Laws.Hand.{HasFilledTo, IsForField, FieldMay, by_others, by_load, filled_to_more, words_by_others, words_more, taken_now, may_fill}
 use Rattle.edits.specs.Laws.Kept.{quiet_rests, rests_by_others, rests_by_step, looked_more, works_more}
 use Rattle.edits.specs.Laws.Entered.{none_filled_more, none_joined, none_quiet, only_more}
 use Rattle.edits.specs.Laws.NodeFills.{fill_lawful}
+use Rattle.edits.specs.Laws.PieceFills.{HoldsFills, piece_fill}
 use Rattle.edits.specs.Laws.Trying.{try_more, try_at_more, try_begins, untouched_later}
 use Rattle.edits.specs.Tries.{MayTry, IsTry, IsTryAt}
 
@@ -91,6 +92,9 @@ module _ {E : Type 0} (e : EditMeaning E) where
   full_by_others : (m : UpdateRun E UpdateAt) (c : Call) (h : History) (r : Row) (f : Found) (nth : Nth) → IsRun TreeAllows c.layout (r ⊳ h) → r.pass.0 ≢ c.pass → HasFilledTo c.layout h c.pass m.share m.nodes.first.0 (top e m f) (nth_node m.nodes nth).0 (piece e m f) → HasFilledTo c.layout (r ⊳ h) c.pass m.share m.nodes.first.0 (top e m f) (nth_node m.nodes nth).0 (piece e m f)
   full_by_others m c h r f nth run other x = by_others c.layout h r c.pass m.share m.nodes.first.0 (top e m f) (piece e m f) c.is_pass run.lawful other (nth_node m.nodes nth).0 x
 
+  here_by_others : (m : UpdateRun E UpdateAt) (c : Call) (h : History) (r : Row) (f : Found) (nth : Nth) (made : List WordFill) → IsRun TreeAllows c.layout (r ⊳ h) → r.pass.0 ≢ c.pass → AreFull e m c h f nth → IsInHand e m f nth → HoldsFills h (nth_node m.nodes nth).0 made → HoldsFills (r ⊳ h) (nth_node m.nodes nth).0 made
+  here_by_others m c h r f nth made run other full hand x = words_by_others c.layout h r c.pass m.share m.nodes.first.0 (top e m f) (piece e m f) c.is_pass run.lawful other (nth_node m.nodes nth).0 made full.hand hand.lowest hand.highest x
+
   scxs_by_others : (m : UpdateRun E UpdateAt) (c : Call) (h : History) (r : Row) (f : Found) (scx : ScxRun) (begin : History) → IsRun TreeAllows c.layout (r ⊳ h) → r.pass.0 ≢ c.pass → Scxs e m c h f scx begin → Scxs e m c (r ⊳ h) f scx begin
   scxs_by_others m c h r f scx begin run other x = record {
     run = (x.run.0, run);
@@ -118,13 +122,13 @@ module _ {E : Type 0} (e : EditMeaning E) where
   kept_at m c h s r (Walk walk) run other w = (walks_by_others m c h r walk.goal run other w.0, walk_keeps walk c h s r run other w.1)
   kept_at m c h s r (Look f llx) run other w = (w.0, looks_by_others m c h r f llx w.0 run other w.1, llx_keeps TreeAllows llx (begun_at c w.0) h s r run other w.2)
   kept_at m c h s r (Load f nth part) run other w = (
-    record { works = works_more e m c h r f nth run (idle_if_finished c (r ⊳ h) run.lawful (full_by_others m c h r f nth run other w.0.full).over) w.0.works; full = full_by_others m c h r f nth run other w.0.full; hand = w.0.hand; wanted = w.0.wanted; settled = w.0.settled },
+    record { works = works_more e m c h r f nth run (idle_if_finished c (r ⊳ h) run.lawful (full_by_others m c h r f nth run other w.0.full).over) w.0.works; full = full_by_others m c h r f nth run other w.0.full; hand = w.0.hand; blank = here_by_others m c h r f nth [] run other w.0.full w.0.hand w.0.blank; wanted = w.0.wanted; settled = w.0.settled },
     w.1,
   )
   kept_at m c h s r (Fill f nth part) run other w = (
     record { works = works_more e m c h r f nth run (idle_if_finished c (r ⊳ h) run.lawful (full_by_others m c h r f nth run other w.0.full).over) w.0.works; full = full_by_others m c h r f nth run other w.0.full; hand = w.0.hand; done = w.0.done; part_is = w.0.part_is },
     field_may_more part _ _ (for_field_more c.layout h r m.nodes.first.0 (top e m f) (word_of (piece e m f (nth_node m.nodes nth).0) part)) w.1,
-    words_by_others c.layout h r c.pass m.share m.nodes.first.0 (top e m f) (piece e m f) c.is_pass run.lawful other (nth_node m.nodes nth).0 (piece e m f (nth_node m.nodes nth).0) (IsBefore part) w.0.full.hand w.0.hand.lowest w.0.hand.highest w.2,
+    here_by_others m c h r f nth (made_before (fills_here e m f nth) part) run other w.0.full w.0.hand w.2,
     w.3,
   )
   kept_at m c h s r (Scx f scx) run other w = (w.0, scxs_by_others m c h r f scx w.0 run other w.1, scx_keeps TreeAllows scx (begun_at c w.0) h s r run other w.2)
@@ -183,6 +187,7 @@ module _ {E : Type 0} (e : EditMeaning E) where
     works = works_more e m c h (row_of c s h) f nth run (idle_if_finished c (row_of c s h ⊳ h) run.lawful full.over) x.works;
     full = full;
     hand = x.hand;
+    blank = λ q i. same (node (nth_node m.nodes nth).0 q) ∙ x.blank q i;
     wanted = x.wanted;
     settled = x.settled;
   }
@@ -208,9 +213,9 @@ module _ {E : Type 0} (e : EditMeaning E) where
     May = FieldMay part (IsForField c.layout h m.nodes.first.0 (top e m f) (word_of p part))
 
     abbrev Then : History → Type 0
-    Then k = FillsPiece e m c k f nth part × HoldsWords k n p (IsUpTo part) × IsTakenNode k n
+    Then k = FillsPiece e m c k f nth part × HoldsFills k n (made_with (fills_of p) part) × IsTakenNode k n
 
-    fills_made : IsRun TreeAllows c.layout (r ⊳ h) → FillsPiece e m c h f nth part → May → HoldsWords h n p (IsBefore part) → Then (r ⊳ h)
+    fills_made : IsRun TreeAllows c.layout (r ⊳ h) → FillsPiece e m c h f nth part → May → HoldsFills h n (made_before (fills_of p) part) → Then (r ⊳ h)
     fills_made run x may words = (
       record {
         works = works_more e m c h r f nth run (idle_if_finished c (r ⊳ h) run.lawful full.over) x.works;
@@ -219,14 +224,14 @@ module _ {E : Type 0} (e : EditMeaning E) where
         done = x.done;
         part_is = x.part_is;
       },
-      words_more c.layout h r c.pass m.share m.nodes.first.0 (top e m f) n (piece e m f) part run.lawful refl refl (piece_fill p part x.part_is) x.hand.lowest x.hand.highest may x.full p refl words,
+      words_more c.layout h r c.pass m.share m.nodes.first.0 (top e m f) n (piece e m f) part run.lawful refl refl (piece_fill p part x.part_is) x.hand.lowest x.hand.highest may x.full (fills_of p) x.part_is refl words,
       taken_now c.layout h r c.pass m.share m.nodes.first.0 (top e m f) n (piece e m f) part run.lawful refl refl (piece_fill p part x.part_is) x.hand.lowest x.hand.highest may x.full,
     )
       where
         full : HasFilledTo c.layout (r ⊳ h) c.pass m.share m.nodes.first.0 (top e m f) n (piece e m f)
         full = filled_to_more c.layout h r c.pass m.share m.nodes.first.0 (top e m f) n (piece e m f) part run.lawful refl refl (piece_fill p part x.part_is) x.hand.lowest x.hand.highest may x.full
 
-    fills_then : (s : Step) → s ≡ piece_fill_step e m f nth part → IsRun TreeAllows c.layout (row_of c s h ⊳ h) → FillsPiece e m c h f nth part → May → HoldsWords h n p (IsBefore part) → Then (row_of c s h ⊳ h)
+    fills_then : (s : Step) → s ≡ piece_fill_step e m f nth part → IsRun TreeAllows c.layout (row_of c s h ⊳ h) → FillsPiece e m c h f nth part → May → HoldsFills h n (made_before (fills_of p) part) → Then (row_of c s h ⊳ h)
     fills_then s asked run x may words = rw asked (fills_made (rw asked at run) x may words)
 
   scxs_made : (m : UpdateRun E UpdateAt) (c : Call) (h : History) (s : Step) (f : Found) (scx : ScxRun) (begin : History) → IsRun TreeAllows c.layout (row_of c s h ⊳ h) → Scxs e m c h f scx begin → ScxWaits TreeAllows scx (begun_at c begin) h s → Scxs e m c (row_of c s h ⊳ h) f scx begin
