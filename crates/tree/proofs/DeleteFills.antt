@@ -37,8 +37,7 @@ use Rattle.edits.specs.declared.edit.Piece.TheVariants.{Leaf, Fork}
 use Rattle.edits.specs.declared.update.UpdateAt.{UpdateAt}
 use Rattle.edits.specs.declared.update.UpdateRun.{UpdateRun}
 use Rattle.edits.specs.Known.{HasSnappedAfterWalk, IsNeeded, FillsPiece, UpdateWaits, piece_fill_step, piece, top}
-use Rattle.edits.specs.Laws.Hand.{IsPieceWord}
-use Rattle.edits.specs.Pieces.{nth_node, top_of, word_of}
+use Rattle.edits.specs.Pieces.{fills_of, fills_word, nth_node, top_of, word_of}
 
 -- One fresh node
 
@@ -55,8 +54,8 @@ one_top (Some v) Third ns x = absurd x
 one_top None nth ns x = absurd x
 
 -- only a fork has fields
-fork_there : (leaf : Bool) (level class k v : ℕ) (s : Snap) (side : Side) → IsPieceWord (cond leaf (Leaf level class k v) (Fork level class k s.left s.right)) (Child side) → leaf ≡ false
-fork_there true level class k v s side p = absurd p
+fork_there : (leaf : Bool) (level class k v : ℕ) (s : Snap) (side : Side) → fills_word (fills_of (cond leaf (Leaf level class k v) (Fork level class k s.left s.right))) (Child side) ≡ true → leaf ≡ false
+fork_there true level class k v s side p = absurd (let z : false ≡ true = p in cc)
 fork_there false level class k v s side p = refl
 
 module _ (m : UpdateRun Delete UpdateAt) (c : Call) (h : History) (f : Found) (nth : Nth) (part : NodeWord) (x : FillsPiece delete_means m c h f nth part) where
@@ -97,7 +96,7 @@ module _ (m : UpdateRun Delete UpdateAt) (c : Call) (h : History) (f : Found) (n
   field_ordered : (k : ℕ) (side : Side) → AreFilledInOrder h → node (nth_node m.nodes nth).0 part ≡ child k side → WasInTree h (word_of (piece delete_means m f (nth_node m.nodes nth).0) part)
   field_ordered k side filled e =
       let p : part ≡ Child side = same_part (nth_node m.nodes nth).0 k part (Child side) e in
-      let q : IsPieceWord copy (Child side) = subst (λ (a : Piece). IsPieceWord a (Child side)) said_is (subst (λ (a : NodeWord). IsPieceWord (piece delete_means m f (nth_node m.nodes nth).0) a) p x.part_is) in
+      let q : fills_word (fills_of copy) (Child side) ≡ true = subst (λ (a : Piece). fills_word (fills_of a) (Child side) ≡ true) said_is (subst (λ (a : NodeWord). fills_word (fills_of (piece delete_means m f (nth_node m.nodes nth).0)) a ≡ true) p x.part_is) in
       let w : ℕ = unwrap_or m.loaded.head 0 in
       let fork : (head_of w).leaf ≡ false = fork_there (head_of w).leaf (head_of w).level (head_of w).class (unwrap_or m.loaded.key 0) (unwrap_or m.loaded.value 0) sibling side q in
       let held : (child_of sibling side).0 ≡ word_of copy (Child side) = copy_fields (head_of w).leaf (head_of w).level (head_of w).class (unwrap_or m.loaded.key 0) (unwrap_or m.loaded.value 0) sibling side q in

@@ -1,5 +1,5 @@
 -- An insert fills its nodes in order: the leaves before the fork over them, which nothing mentions.
-use Rattle.std.proofs.Common.{◌≡◌, ℕ, suc, ◌/◌, ◌%◌, ◌<◌, ◌≤◌, ◌⊎◌, inl, inr, true, eqb, refl, sym, ◌∙◌, ap, subst, arith}
+use Rattle.std.proofs.Common.{◌≡◌, ℕ, suc, ◌/◌, ◌%◌, ◌<◌, ◌≤◌, ◌⊎◌, inl, inr, true, false, eqb, refl, sym, ◌∙◌, ap, subst, arith}
 use Rattle.arena.specs.declared.step.Step.{Step}
 use Rattle.arena.specs.declared.word.NodeWord.{NodeWord}
 use Rattle.arena.specs.declared.word.NodeWord.TheVariants.{Settled, Child}
@@ -25,8 +25,8 @@ use Rattle.edits.specs.declared.edit.Piece.TheVariants.{Leaf as LeafPiece}
 use Rattle.edits.specs.declared.update.UpdateAt.{UpdateAt}
 use Rattle.edits.specs.declared.update.UpdateRun.{UpdateRun}
 use Rattle.edits.specs.Known.{ComesBefore, IsNeeded, AreInOrder, FillsPiece, UpdateWaits, piece_fill_step, piece, top}
-use Rattle.edits.specs.Laws.Hand.{IsPieceWord, HoldsWords}
-use Rattle.edits.specs.Pieces.{nth_node, top_of, word_of}
+use Rattle.edits.specs.Laws.PieceFills.{HoldsFills}
+use Rattle.edits.specs.Pieces.{fills_of, fills_word, nth_node, top_of, word_of}
 
 -- Three fresh nodes
 
@@ -54,7 +54,7 @@ module _ (m : UpdateRun Insert UpdateAt) (c : Call) (h : History) (f : Found) wh
   leaf_full : (part : NodeWord) (i : Nth) → FillsPiece insert_means m c h f Third part → (level class key v : ℕ) → insert_pieces m.edit.key m.edit.value f m.nodes m.loaded i ≡ LeafPiece level class key v → m.nodes.first.0 ≤ (nth_node m.nodes i).0 → (nth_node m.nodes i).0 < m.nodes.third.0 → is_leaf (value h) (nth_node m.nodes i).0 ≡ true
   leaf_full part i x level class key v is low high =
       let third : top insert_means m f ≡ m.nodes.third.0 = third_top (insert_need f.value) m.nodes x.works.need in
-      let w : HoldsWords h (nth_node m.nodes i).0 (piece insert_means m f (nth_node m.nodes i).0) (IsPieceWord (piece insert_means m f (nth_node m.nodes i).0)) = x.full.full (nth_node m.nodes i).0 low high (omega (third, high, arith)) in
+      let w : HoldsFills h (nth_node m.nodes i).0 (fills_of (piece insert_means m f (nth_node m.nodes i).0)) = x.full.full (nth_node m.nodes i).0 low high (omega (third, high, arith)) in
       let same : piece insert_means m f (nth_node m.nodes i).0 ≡ LeafPiece level class key v = piece_is (insert_need f.value) m.nodes (λ j. insert_pieces m.edit.key m.edit.value f m.nodes m.loaded j) i (all_needed (insert_need f.value) x.works.need i) x.works.in_order ∙ is in
       ap (λ u. eqb (u / 4 % 2) 1) (w (Settled Head) tt ∙ ap (λ (p : Piece). word_of p (Settled Head)) same) ∙ leaf_head level class
 
@@ -72,11 +72,11 @@ module _ (m : UpdateRun Insert UpdateAt) (c : Call) (h : History) (f : Found) wh
       third = sym (third_top (insert_need f.value) m.nodes x.works.need)
 
   field_ordered : (nth : Nth) (part : NodeWord) (k : ℕ) (side : Side) → FillsPiece insert_means m c h f nth part → node (nth_node m.nodes nth).0 part ≡ child k side → is_leaf (value h) (word_of (piece insert_means m f (nth_node m.nodes nth).0) part) ≡ true
-  field_ordered First part k side x e = absurd (let y : IsPieceWord (insert_pieces m.edit.key m.edit.value f m.nodes m.loaded First) (Child side) = rw (same_part m.nodes.first.0 k part (Child side) e, said_is First part x) at x.part_is in y)
-  field_ordered Second part k side x e = absurd (let y : IsPieceWord (insert_pieces m.edit.key m.edit.value f m.nodes m.loaded Second) (Child side) = rw (same_part m.nodes.second.0 k part (Child side) e, said_is Second part x) at x.part_is in y)
+  field_ordered First part k side x e = absurd (let y : fills_word (fills_of (insert_pieces m.edit.key m.edit.value f m.nodes m.loaded First)) (Child side) ≡ true = rw (same_part m.nodes.first.0 k part (Child side) e, said_is First part x) at x.part_is in let z : false ≡ true = y in cc)
+  field_ordered Second part k side x e = absurd (let y : fills_word (fills_of (insert_pieces m.edit.key m.edit.value f m.nodes m.loaded Second)) (Child side) ≡ true = rw (same_part m.nodes.second.0 k part (Child side) e, said_is Second part x) at x.part_is in let z : false ≡ true = y in cc)
   field_ordered Third part k side x e =
       let p : part ≡ Child side = same_part m.nodes.third.0 k part (Child side) e in
-      let q : IsPieceWord (insert_pieces m.edit.key m.edit.value f m.nodes m.loaded Third) (Child side) = subst (λ (a : Piece). IsPieceWord a (Child side)) (said_is Third part x) (subst (λ (a : NodeWord). IsPieceWord (piece insert_means m f m.nodes.third.0) a) p x.part_is) in
+      let q : fills_word (fills_of (insert_pieces m.edit.key m.edit.value f m.nodes m.loaded Third)) (Child side) ≡ true = subst (λ (a : Piece). fills_word (fills_of a) (Child side) ≡ true) (said_is Third part x) (subst (λ (a : NodeWord). fills_word (fills_of (piece insert_means m f m.nodes.third.0)) a ≡ true) p x.part_is) in
       let y = insert_fields m.edit.key m.edit.value f m.nodes m.loaded Third side q in
       let w : word_of (piece insert_means m f m.nodes.third.0) part ≡ (nth_node m.nodes y.0).0 = ap (λ (a : NodeWord). word_of (piece insert_means m f m.nodes.third.0) a) p ∙ ap (λ (a : Piece). word_of a (Child side)) (said_is Third part x) ∙ y.2 in
       subst (λ n. is_leaf (value h) n ≡ true) (sym w) (before_third part y.0 x y.1)

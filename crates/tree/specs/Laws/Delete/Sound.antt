@@ -56,8 +56,8 @@ use Rattle.edits.specs.declared.edit.Piece.TheVariants.{Leaf, Fork}
 use Rattle.template.specs.Blame.{IsContended, WasNotFinal}
 use Rattle.edits.specs.Known.{IsBelowRoot, ComesBefore, IsNeeded, IsLoaded, HasSnappedAfterWalk, AreSeen, HasLooked, HasFilledAll, IsUpdateFor}
 use Rattle.edits.specs.Laws.Contended.{passed_not_final, shown_not_final, turned_contended}
-use Rattle.edits.specs.Laws.Hand.{IsPieceWord, HoldsWords}
-use Rattle.edits.specs.Pieces.{piece_head, plan_over, top_of, word_of}
+use Rattle.edits.specs.Laws.PieceFills.{HoldsFills}
+use Rattle.edits.specs.Pieces.{fills_of, fills_word, piece_head, plan_over, top_of, word_of}
 use Rattle.edits.specs.Tries.{CoversSnaps}
 use Rattle.edits.specs.Sound.{LooksWell, LoadsWell, FillsWell, MakesWell, EditLaws}
 
@@ -330,12 +330,12 @@ module _ (ed : Delete) (c : Call) (h : History) (f : Found) (snaps : List Snap) 
 -- What it fills
 
 -- the fields of a copied fork are those of the snapshot
-pub copy_fields : (leaf : Bool) (level class k v : ℕ) (s : Snap) (side : Side) → IsPieceWord (if leaf then Leaf level class k v else Fork level class k s.left s.right) (Child side) → (child_of s side).0 ≡ word_of (if leaf then Leaf level class k v else Fork level class k s.left s.right) (Child side)
-copy_fields true level class k v s side p = absurd p
+pub copy_fields : (leaf : Bool) (level class k v : ℕ) (s : Snap) (side : Side) → fills_word (fills_of (if leaf then Leaf level class k v else Fork level class k s.left s.right)) (Child side) ≡ true → (child_of s side).0 ≡ word_of (if leaf then Leaf level class k v else Fork level class k s.left s.right) (Child side)
+copy_fields true level class k v s side p = absurd (let z : false ≡ true = p in cc)
 copy_fields false level class k v s Left p = refl
 copy_fields false level class k v s Right p = refl
 
-delete_fields : (ed : Delete) (c : Call) (h : History) (f : Found) (snaps : List Snap) (ld : Loaded) (side : Side) → IsTreeRun c.layout h → HasLooked delete_means c h ed f snaps → delete_looks f snaps ≡ Enough → IsPieceWord (delete_piece f snaps ld) (Child side) → IsInField c.layout h (word_of (delete_piece f snaps ld) (Child side))
+delete_fields : (ed : Delete) (c : Call) (h : History) (f : Found) (snaps : List Snap) (ld : Loaded) (side : Side) → IsTreeRun c.layout h → HasLooked delete_means c h ed f snaps → delete_looks f snaps ≡ Enough → fills_word (fills_of (delete_piece f snaps ld)) (Child side) ≡ true → IsInField c.layout h (word_of (delete_piece f snaps ld) (Child side))
 delete_fields ed c h f snaps ld side run x enough p =
     let s : Snap = sibling_of f snaps in
     let l : IsLinked c.layout h s = linked_at ed c h f snaps (sibling_place f.trail.side) run (few_places f.trail.side) (has_four ed f snaps enough x.seen) x in
@@ -394,7 +394,7 @@ record HoldsCopy (h : History) (n : ℕ) (leaf : Bool) (level class k v : ℕ) (
   leaf_value : leaf ≡ true → value h (node n (Settled Value)) ≡ v
   fields : leaf ≡ false → (side : Side) → value h (child n side) ≡ (child_of s side).0
 
-copy_holds : (leaf : Bool) (h : History) (n level class k v : ℕ) (s : Snap) → HoldsWords h n (if leaf then Leaf level class k v else Fork level class k s.left s.right) (IsPieceWord (if leaf then Leaf level class k v else Fork level class k s.left s.right)) → HoldsCopy h n leaf level class k v s
+copy_holds : (leaf : Bool) (h : History) (n level class k v : ℕ) (s : Snap) → HoldsFills h n (fills_of (if leaf then Leaf level class k v else Fork level class k s.left s.right)) → HoldsCopy h n leaf level class k v s
 copy_holds true h n level class k v s w = record { head = w (Settled Head) tt; key = w (Settled Key) tt; leaf_value = λ e. w (Settled Value) tt; fields = λ e side. absurd (let d : true ≡ false = e in cc) }
 copy_holds false h n level class k v s w = record { head = w (Settled Head) tt; key = w (Settled Key) tt; leaf_value = λ e. absurd (let d : false ≡ true = e in cc); fields = λ e side. go side }
   where
@@ -442,7 +442,7 @@ module _ (ed : Delete) (c : Call) (h : History) (f : Found) (snaps : List Snap) 
 
   held_words : HoldsCopy h ns.first.0 (head_of w).leaf (head_of w).level (head_of w).class (unwrap_or ld.key 0) (unwrap_or ld.value 0) sibling
   held_words = copy_holds (head_of w).leaf h ns.first.0 (head_of w).level (head_of w).class (unwrap_or ld.key 0) (unwrap_or ld.value 0) sibling
-      (subst (λ (o : Option ℕ). HoldsWords h ns.first.0 (sibling_copy sibling (head_of (unwrap_or o 0)) ld) (IsPieceWord (sibling_copy sibling (head_of (unwrap_or o 0)) ld))) is_head (x.holds First one).words)
+      (subst (λ (o : Option ℕ). HoldsFills h ns.first.0 (fills_of (sibling_copy sibling (head_of (unwrap_or o 0)) ld))) is_head (x.holds First one).words)
 
   -- its key and value are loaded if it is of class 0
   low_key_loaded : class (value h) sibling.node.0 ≡ 0 → value h (node ns.first.0 (Settled Key)) ≡ value h (node sibling.node.0 (Settled Key))

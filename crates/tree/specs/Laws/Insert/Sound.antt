@@ -52,9 +52,9 @@ use Rattle.edits.specs.declared.edit.Piece.TheVariants.{Leaf, Fork}
 use Rattle.template.specs.Blame.{IsContended, WasNotFinal}
 use Rattle.edits.specs.Known.{ComesBefore, IsNeeded, IsLoaded, HasSnappedAfterWalk, AreSeen, HasLooked, HasFilledAll, HoldsPiece, IsUpdateFor}
 use Rattle.edits.specs.Laws.Contended.{passed_not_final, turned_contended}
-use Rattle.edits.specs.Laws.Hand.{IsPieceWord, HoldsWords}
+use Rattle.edits.specs.Laws.PieceFills.{HoldsFills}
 use Rattle.edits.specs.Laws.Opened.{found_named, found_opened, above_opened}
-use Rattle.edits.specs.Pieces.{nth_node, with_word, word_of, plan_over, piece_head, top_of}
+use Rattle.edits.specs.Pieces.{fills_of, fills_word, nth_node, with_word, word_of, plan_over, piece_head, top_of}
 use Rattle.edits.specs.Tries.{CoversSnaps}
 use Rattle.edits.specs.Sound.{LooksWell, LoadsWell, FillsWell, MakesWell, EditLaws}
 
@@ -203,16 +203,16 @@ insert_distinct ed c h f snaps run x enough i j p q d e = go (two_places i j (rw
 
 -- What it fills
 
-both_before : (b : Bool) (level class other key k : ℕ) (ns : Nodes) (side : Side) → IsPieceWord (if b then Fork level class key ns.first ns.second else Fork level other k ns.second ns.first) (Child side)
+both_before : (b : Bool) (level class other key k : ℕ) (ns : Nodes) (side : Side) → fills_word (fills_of (if b then Fork level class key ns.first ns.second else Fork level other k ns.second ns.first)) (Child side) ≡ true
     → (i : Nth) × ComesBefore i Third × (word_of (if b then Fork level class key ns.first ns.second else Fork level other k ns.second ns.first) (Child side) ≡ (nth_node ns i).0)
 both_before true level class other key k ns Left p = (First, tt, refl)
 both_before true level class other key k ns Right p = (Second, tt, refl)
 both_before false level class other key k ns Left p = (Second, tt, refl)
 both_before false level class other key k ns Right p = (First, tt, refl)
 
-pub insert_fields : (k v : ℕ) (f : Found) (ns : Nodes) (ld : Loaded) (nth : Nth) (side : Side) → IsPieceWord (insert_pieces k v f ns ld nth) (Child side) → (i : Nth) × ComesBefore i nth × (word_of (insert_pieces k v f ns ld nth) (Child side) ≡ (nth_node ns i).0)
-insert_fields k v f ns ld First side p = absurd p
-insert_fields k v f ns ld Second side p = absurd p
+pub insert_fields : (k v : ℕ) (f : Found) (ns : Nodes) (ld : Loaded) (nth : Nth) (side : Side) → fills_word (fills_of (insert_pieces k v f ns ld nth)) (Child side) ≡ true → (i : Nth) × ComesBefore i nth × (word_of (insert_pieces k v f ns ld nth) (Child side) ≡ (nth_node ns i).0)
+insert_fields k v f ns ld First side p = absurd (let z : false ≡ true = p in cc)
+insert_fields k v f ns ld Second side p = absurd (let z : false ≡ true = p in cc)
 insert_fields k v f ns ld Third side p = both_before (is_below k f) f.head.level f.head.class 0 f.key k ns side p
 
 -- the fields of its fork hold its leaves
@@ -252,13 +252,13 @@ record IsForkWith (f : Word → ℕ) (n deep kind k x y : ℕ) : Type 0 where
   right : f (child n Right) ≡ y
 
 -- such a leaf is filled, though its level may be said in another way
-leaf_with : (h : History) (n low deep kind k v : ℕ) → low ≡ deep → deep < 2 ^ 61 → kind < 4 → HoldsWords h n (Leaf low kind k v) (IsPieceWord (Leaf low kind k v)) → IsLeafWith (value h) n deep kind k v
+leaf_with : (h : History) (n low deep kind k v : ℕ) → low ≡ deep → deep < 2 ^ 61 → kind < 4 → HoldsFills h n (fills_of (Leaf low kind k v)) → IsLeafWith (value h) n deep kind k v
 leaf_with h n low deep kind k v same fits few w =
     let e : value h (node n (Settled Head)) ≡ 8 * deep + 4 * 1 + kind = w (Settled Head) tt ∙ ap (λ l. piece_head l true kind) same ∙ head_is deep kind true fits few in
     record { leaf = eq-eqb (value h (node n (Settled Head)) / 4 % 2) 1 (omega (arith, e, few)); level = omega (arith, e, few); class = omega (arith, e, few); key = w (Settled Key) tt; value = w (Settled Value) tt }
 
 -- and such a fork
-fork_with : (h : History) (n deep kind k : ℕ) (x y : NodeNo) → deep < 2 ^ 61 → kind < 4 → HoldsWords h n (Fork deep kind k x y) (IsPieceWord (Fork deep kind k x y)) → IsForkWith (value h) n deep kind k x.0 y.0
+fork_with : (h : History) (n deep kind k : ℕ) (x y : NodeNo) → deep < 2 ^ 61 → kind < 4 → HoldsFills h n (fills_of (Fork deep kind k x y)) → IsForkWith (value h) n deep kind k x.0 y.0
 fork_with h n deep kind k x y fits few w =
     let e : value h (node n (Settled Head)) ≡ 8 * deep + 4 * 0 + kind = w (Settled Head) tt ∙ head_is deep kind false fits few in
     record { fork = ne_eqb (value h (node n (Settled Head)) / 4 % 2) 1 (λ z. omega (arith, z, e, few)); level = omega (arith, e, few); class = omega (arith, e, few); key = w (Settled Key) tt; left = w (Child Left) tt; right = w (Child Right) tt }
@@ -438,8 +438,8 @@ module _ (ed : Insert) (c : Call) (h : History) (f : Found) (snaps : List Snap) 
         go Left = subst (IsFresh c.layout c.pass h) (sym s.left) a
         go Right = subst (IsFresh c.layout c.pass h) (sym s.right) b
 
-    fork_words : (b : Bool) → is_below ed.key f ≡ b → HoldsWords h fork_node (fork_by b f.head.level f.head.class f.key ed.key ns.first ns.second) (IsPieceWord (fork_by b f.head.level f.head.class f.key ed.key ns.first ns.second))
-    fork_words b e = subst (λ a. HoldsWords h fork_node (fork_by a f.head.level f.head.class f.key ed.key ns.first ns.second) (IsPieceWord (fork_by a f.head.level f.head.class f.key ed.key ns.first ns.second))) e (x.holds Third three).words
+    fork_words : (b : Bool) → is_below ed.key f ≡ b → HoldsFills h fork_node (fills_of (fork_by b f.head.level f.head.class f.key ed.key ns.first ns.second))
+    fork_words b e = subst (λ a. HoldsFills h fork_node (fills_of (fork_by a f.head.level f.head.class f.key ed.key ns.first ns.second))) e (x.holds Third three).words
 
     before_leaf : is_below ed.key f ≡ true → ed.key < rank (value h) old_leaf → Made fork_node
     before_leaf e i = made_over x_node y_node (x.holds First one).fresh (x.holds Second two).fresh
