@@ -379,6 +379,7 @@ module _ {M E : Type 0} {o : Calls M} {e : EditMeaning E} (u : Updater o e) wher
     };
     full = x.full;
     hand = record { lowest = x.hand.lowest; highest = x.hand.highest };
+    blank = x.blank;
     wanted = x.wanted;
     settled = x.settled;
   }

@@ -393,10 +393,11 @@ record HoldsCopy (h : History) (n : ℕ) (leaf : Bool) (level class k v : ℕ) (
   key : value h (node n (Settled Key)) ≡ k
   leaf_value : leaf ≡ true → value h (node n (Settled Value)) ≡ v
   fields : leaf ≡ false → (side : Side) → value h (child n side) ≡ (child_of s side).0
+  unfilled : leaf ≡ false → value h (node n (Settled Value)) ≡ 0
 
 copy_holds : (leaf : Bool) (h : History) (n level class k v : ℕ) (s : Snap) → HoldsFills h n (fills_of (if leaf then Leaf level class k v else Fork level class k s.left s.right)) → HoldsCopy h n leaf level class k v s
-copy_holds true h n level class k v s w = record { head = w (Settled Head) tt; key = w (Settled Key) tt; leaf_value = λ e. w (Settled Value) tt; fields = λ e side. absurd (let d : true ≡ false = e in cc) }
-copy_holds false h n level class k v s w = record { head = w (Settled Head) tt; key = w (Settled Key) tt; leaf_value = λ e. absurd (let d : false ≡ true = e in cc); fields = λ e side. go side }
+copy_holds true h n level class k v s w = record { head = w (Settled Head) tt; key = w (Settled Key) tt; leaf_value = λ e. w (Settled Value) tt; fields = λ e side. absurd (let d : true ≡ false = e in cc); unfilled = λ e. absurd (let d : true ≡ false = e in cc) }
+copy_holds false h n level class k v s w = record { head = w (Settled Head) tt; key = w (Settled Key) tt; leaf_value = λ e. absurd (let d : false ≡ true = e in cc); fields = λ e side. go side; unfilled = λ e. w (Settled Value) tt }
   where
     go : (side : Side) → value h (child n side) ≡ (child_of s side).0
     go Left = w (Child Left) tt
@@ -467,6 +468,7 @@ module _ (ed : Delete) (c : Call) (h : History) (f : Found) (snaps : List Snap) 
       same_pairs = λ leaf low. (counted_one (value h) ns.first.0, held_one (value h) ns.first.0 ∙ (λ i. pair (low_key_loaded low i) (low_value_loaded leaf low i) ∷ []) ∙ sym (held_one (value h) sibling.node.0));
     };
     fields = λ fork side. held_words.fields fork side;
+    unfilled = λ fork. held_words.unfilled fork;
   }
 
   -- the SCX-record
