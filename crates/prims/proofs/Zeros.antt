@@ -1,12 +1,10 @@
 -- What is not filled is 0: a node of a share that is not taken yet holds 0 in all its settled words
 -- and fields.
-use Rattle.std.proofs.Common.{◌≡◌, ◌≢◌, ℕ, ◌≤◌, inl, false, refl, sym, ◌∙◌, arith, subst}
+use Rattle.std.proofs.Common.{◌≡◌, ◌≢◌, ℕ, ◌≤◌, inl, false, refl, ◌∙◌, arith, subst}
 use Rattle.std.proofs.lemmas.Bool.{ne_eqb}
-use native.Mathlib.Decide.{ℕ_discrete}
 use Rattle.arena.specs.declared.layout.Layout.{Layout}
 use Rattle.arena.specs.declared.limits.Mode.{Mode}
 use Rattle.arena.specs.declared.limits.Mode.TheVariants.{Tree, Records}
-use Rattle.arena.specs.declared.word.Side.{Side}
 use Rattle.arena.specs.declared.word.Side.TheVariants.{Left, Right}
 use Rattle.arena.specs.declared.word.NodeWord.{NodeWord}
 use Rattle.arena.specs.declared.word.NodeWord.TheVariants.{Settled, Child, Info, Marked}
@@ -15,7 +13,7 @@ use Rattle.arena.specs.declared.word.ScxWord.TheVariants.{AllFrozen, Member}
 use Rattle.arena.specs.declared.step.Row.{Row}
 use Rattle.arena.specs.Layout.{opening, opening_nodes}
 use Rattle.arena.specs.Share.{Remaining, HasNode}
-use Rattle.arena.specs.ScxRecords.{member, side_of, plan, field, field_index}
+use Rattle.arena.specs.ScxRecords.{member, side_of, plan, field_index}
 use Rattle.arena.specs.Words.{node, scx, info, marked, state, child, same_node_word}
 use Rattle.arena.specs.History.{History, Start, ◌⊳◌, value}
 use Rattle.arena.specs.Fills.{IsOwnNode, IsFillOfNode, IsTakenNode}
