@@ -37,8 +37,8 @@ pub record IsJoinAt (f : Found) (d : Descriptor) (snap : Snap) (n : ℕ) : Type 
   pub old : d.old ≡ f.trail.parent.0
   pub new : d.new ≡ n
 
--- a fresh copy n of the snapshot's node: a fork has the fields that the snapshot found, and no value,
--- since what is not filled is 0
+-- a fresh copy n of the snapshot's node: a fork has the fields that the snapshot found; its value is
+-- not filled, and what is not filled is 0
 pub record HasFreshCopy (lay : Layout) (c : ℕ) (h : History) (snap : Snap) (n : ℕ) : Type 0 where
   pub fresh : IsFresh lay c h n
   pub copy : IsCopyOf (value h) n snap.node.0
