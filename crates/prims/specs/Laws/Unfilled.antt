@@ -1,21 +1,22 @@
 -- A row that fills no word of a record leaves the words of it that only fills store in.
-use Rattle.std.proofs.Common.{◌≡◌, ◌≢◌, ℕ, refl, subst}
+use Rattle.std.proofs.Common.{◌≡◌, ◌≢◌, ℕ, false, refl, subst}
 use native.Mathlib.Decide.{ℕ_discrete}
 use Rattle.arena.specs.declared.layout.Layout.{Layout}
 use Rattle.arena.specs.declared.step.Row.{Row}
 use Rattle.arena.specs.declared.step.Kind.TheVariants.{Fill}
+use Rattle.arena.specs.declared.word.Side.{Side}
 use Rattle.arena.specs.declared.word.NodeWord.{NodeWord}
 use Rattle.arena.specs.declared.word.NodeWord.TheVariants.{Settled, Child, Info, Marked}
 use Rattle.arena.specs.declared.word.SettledPart.TheVariants.{Value}
 use Rattle.arena.specs.declared.word.ScxWord.{ScxWord}
 use Rattle.arena.specs.declared.word.ScxWord.TheVariants.{State, AllFrozen}
 use Rattle.arena.specs.ScxRecords.{member, side_of, plan, field, field_index}
-use Rattle.arena.specs.Words.{node, scx, info, marked, state}
+use Rattle.arena.specs.Words.{node, scx, info, marked, state, same_node_word}
 use Rattle.arena.specs.History.{History, ◌⊳◌, value}
 use Rattle.arena.specs.Fills.{IsOwnNode, IsOwnScx}
 use Rattle.arena.specs.Lawful.{Lawful}
 use Rattle.arena.proofs.Lemmas.{value_quiet, value_apart, node_apart, node_word_apart, scx_apart, scx_word_apart}
-use Rattle.histories.proofs.Lemmas.{Change, FillsNode, FillsScx, IsScxFill, aborts, change, commits, fills_node, fills_scx, freezes, lawful_row, marks, not_flag, not_state, nothing, one_node_owner, one_scx_owner, sets_frozen, updates}
+use Rattle.histories.proofs.Lemmas.{Change, FillsNode, FillsScx, IsNodeFill, IsScxFill, UpdateWins, aborts, change, commits, fills_node, fills_scx, freezes, lawful_row, marks, not_flag, not_state, nothing, one_node_owner, one_scx_owner, sets_frozen, updates}
 
 -- a row that fills no word of s leaves the settled words of s as they were
 pub words_unfilled : (lay : Layout) (h : History) (r : Row) (s : ℕ) → Lawful lay (r ⊳ h) → ((part : ScxWord) → ¬ FillsScx lay h r s part) → (a : ScxWord) → IsScxFill a → value (r ⊳ h) (scx s a) ≡ value h (scx s a)
@@ -36,24 +37,44 @@ words_unfilled lay h r s l no_fill a i = go (change lay h r l)
     go (commits u k x) = value_apart r h (state u) (scx s a) x.word (scx_word_apart u s State a (not_state a i))
     go (aborts u j k x) = value_apart r h (state u) (scx s a) x.word (scx_word_apart u s State a (not_state a i))
 
--- a row that fills no word of node n leaves its value as it was
-pub value_unfilled : (lay : Layout) (h : History) (r : Row) (n : ℕ) → Lawful lay (r ⊳ h) → ((part : NodeWord) → ¬ FillsNode lay h r n part) → value (r ⊳ h) (node n (Settled Value)) ≡ value h (node n (Settled Value))
-value_unfilled lay h r n l no_fill = go (change lay h r l)
+info_apart : (part : NodeWord) → IsNodeFill part → same_node_word Info part ≡ false
+info_apart Info fill = absurd fill
+info_apart _ fill = refl
+
+mark_apart : (part : NodeWord) → IsNodeFill part → same_node_word Marked part ≡ false
+mark_apart Marked fill = absurd fill
+mark_apart _ fill = refl
+
+field_apart : (side : Side) (part : NodeWord) → ((other : Side) → part ≢ Child other) → same_node_word (Child side) part ≡ false
+field_apart side (Child other) no_field = absurd (no_field other refl)
+field_apart side _ no_field = refl
+
+-- a row that fills no word of node n leaves its settled words as they were; and its fields, where no
+-- SCX-record covers it
+pub node_unfilled : (lay : Layout) (h : History) (r : Row) (n : ℕ) (part : NodeWord) → Lawful lay (r ⊳ h) → ((q : NodeWord) → ¬ FillsNode lay h r n q) → IsNodeFill part → ((side : Side) → part ≡ Child side → (t j : ℕ) → member h t j ≢ n) → value (r ⊳ h) (node n part) ≡ value h (node n part)
+node_unfilled lay h r n part l no_fill fill uncovered = go (change lay h r l)
   where
-    go : Change lay h r → value (r ⊳ h) (node n (Settled Value)) ≡ value h (node n (Settled Value))
-    go (nothing j e) = value_quiet r h (lawful_row lay h r l).before e (node n (Settled Value))
-    go (fills_node m part x) = by_fill (ℕ_discrete m n)
-      where
-        by_fill : Dec (m ≡ n) → value (r ⊳ h) (node n (Settled Value)) ≡ value h (node n (Settled Value))
-        by_fill (yes e) = absurd (no_fill part (subst (λ k. FillsNode lay h r k part) e x))
-        by_fill (no d) = value_apart r h (node m part) (node n (Settled Value)) x.word (node_apart m n part (Settled Value) d)
-    go (fills_scx u part x) = value_apart r h (scx u part) (node n (Settled Value)) x.word refl
-    go (freezes u j w) = value_apart r h (info (member h u j)) (node n (Settled Value)) w.freeze.word (node_word_apart (member h u j) n Info (Settled Value) refl)
-    go (sets_frozen u k x) = value_apart r h (scx u AllFrozen) (node n (Settled Value)) x.word refl
-    go (marks u j k x) = value_apart r h (marked (member h u j)) (node n (Settled Value)) x.word (node_word_apart (member h u j) n Marked (Settled Value) refl)
-    go (updates u w) = value_apart r h (field h u) (node n (Settled Value)) w.update.word (node_word_apart (member h u (field_index h u)) n (Child (side_of (plan h u))) (Settled Value) refl)
-    go (commits u k x) = value_apart r h (state u) (node n (Settled Value)) x.word refl
-    go (aborts u j k x) = value_apart r h (state u) (node n (Settled Value)) x.word refl
+    unless : (m : ℕ) (q : NodeWord) → r.word ≡ node m q → m ≢ n → value (r ⊳ h) (node n part) ≡ value h (node n part)
+    unless m q e d = value_apart r h (node m q) (node n part) e (node_apart m n q part d)
+
+    by_update : (u : ℕ) → UpdateWins h r u → Dec (member h u (field_index h u) ≡ n) → value (r ⊳ h) (node n part) ≡ value h (node n part)
+    by_update u w (no d) = unless (member h u (field_index h u)) (Child (side_of (plan h u))) w.update.word d
+    by_update u w (yes e) = value_apart r h (field h u) (node n part) w.update.word (node_word_apart (member h u (field_index h u)) n (Child (side_of (plan h u))) part (field_apart (side_of (plan h u)) part (λ side q. uncovered side q u (field_index h u) e)))
+
+    go : Change lay h r → value (r ⊳ h) (node n part) ≡ value h (node n part)
+    go (nothing j e) = value_quiet r h (lawful_row lay h r l).before e (node n part)
+    go (fills_node m q x) = unless m q x.word (λ e. no_fill q (subst (λ k. FillsNode lay h r k q) e x))
+    go (fills_scx u q x) = value_apart r h (scx u q) (node n part) x.word refl
+    go (freezes u j w) = value_apart r h (info (member h u j)) (node n part) w.freeze.word (node_word_apart (member h u j) n Info part (info_apart part fill))
+    go (sets_frozen u k x) = value_apart r h (scx u AllFrozen) (node n part) x.word refl
+    go (marks u j k x) = value_apart r h (marked (member h u j)) (node n part) x.word (node_word_apart (member h u j) n Marked part (mark_apart part fill))
+    go (updates u w) = by_update u w (ℕ_discrete (member h u (field_index h u)) n)
+    go (commits u k x) = value_apart r h (state u) (node n part) x.word refl
+    go (aborts u j k x) = value_apart r h (state u) (node n part) x.word refl
+
+-- so does its value stay
+value_unfilled : (lay : Layout) (h : History) (r : Row) (n : ℕ) → Lawful lay (r ⊳ h) → ((part : NodeWord) → ¬ FillsNode lay h r n part) → value (r ⊳ h) (node n (Settled Value)) ≡ value h (node n (Settled Value))
+value_unfilled lay h r n l no_fill = node_unfilled lay h r n (Settled Value) l no_fill tt (λ side e. let z : Settled Value ≡ Child side = e in cc)
 
 -- rows of other passes leave the settled words of a pass's own SCX-record
 pub own_words_unfilled : (lay : Layout) (h : History) (r : Row) (c s : ℕ) → Lawful lay (r ⊳ h) → r.pass.0 ≢ c → IsOwnScx lay c s → (a : ScxWord) → IsScxFill a → value (r ⊳ h) (scx s a) ≡ value h (scx s a)
