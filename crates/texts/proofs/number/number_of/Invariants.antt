@@ -1,0 +1,5 @@
+use Rattle.texts.proofs.Numbers.{SpellsFront}
+use Rattle.texts.proofs.number.number_of.Given as goal
+
+abbrev pub invariant-loop-byte : goal.invariant-loop-byte
+invariant-loop-byte l = SpellsFront l.fn.text l.more l.byte-index l.number
