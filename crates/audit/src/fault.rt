@@ -1,5 +1,6 @@
 //! What an audit finds wrong.
 ghost use Rattle.std.specs.Prelude.{◌≡◌, ◌≤◌, ℕ, true, OnOk};
+ghost use Rattle.audit.specs.declared.fault.Refused.TheVariants as refused;
 
 use arena::NoMemory;
 use std::alloc::AllocError;
@@ -55,12 +56,16 @@ pub(crate) fn hold(fits: bool) -> Result<(), Refused>
 }
 
 impl From<NoMemory> for Refused {
+    ghost from_gives = { λ _ made. made ≡ refused.NoMemory };
+
     fn from(_error: NoMemory) -> Refused {
         Refused::NoMemory
     }
 }
 
 impl From<AllocError> for Refused {
+    ghost from_gives = { λ _ made. made ≡ refused.NoMemory };
+
     fn from(_error: AllocError) -> Refused {
         Refused::NoMemory
     }
