@@ -15,7 +15,7 @@ ghost use Rattle.capi.specs.Answers.{CallSays, GetSays, EditSays, TakenSays, Nex
 
 use crate::answer::{Answer, LIMITS, Left, NO_MEMORY, NO_PASS, NONE, Pair, PassLimits, SHARED};
 use crate::client::Closing;
-use crate::handle::{Handle, Place};
+use crate::handle::Place;
 use crate::open::open;
 use regnubas::{Limits, NewFault};
 use std::alloc::Global;
@@ -53,7 +53,7 @@ pub extern "C" fn regnubas_get(alloc: Global, pass: &mut Place, key: u64) -> Ans
         return Answer::bare(NO_PASS);
     };
     let answer = Answer::of_value(client.get(key));
-    pass.handle = Handle::holding(client);
+    pass.handle.put(client);
     answer
 }
 
@@ -66,7 +66,7 @@ pub extern "C" fn regnubas_insert(alloc: Global, pass: &mut Place, key: u64, val
         return Answer::bare(NO_PASS);
     };
     let answer = Answer::of_update(client.insert(key, value));
-    pass.handle = Handle::holding(client);
+    pass.handle.put(client);
     answer
 }
 
@@ -79,7 +79,7 @@ pub extern "C" fn regnubas_delete(alloc: Global, pass: &mut Place, key: u64) -> 
         return Answer::bare(NO_PASS);
     };
     let answer = Answer::of_update(client.delete(key));
-    pass.handle = Handle::holding(client);
+    pass.handle.put(client);
     answer
 }
 
@@ -95,7 +95,7 @@ pub extern "C" fn regnubas_pop_first(alloc: Global, pass: &mut Place, pair: &mut
         Ok(taken) => Answer::of_pair(taken, pair),
         Err(fault) => Answer::of_update_fault(fault),
     };
-    pass.handle = Handle::holding(client);
+    pass.handle.put(client);
     answer
 }
 
@@ -114,7 +114,7 @@ pub extern "C" fn regnubas_replace_if(
         return Answer::bare(NO_PASS);
     };
     let answer = Answer::of_update(client.replace_if(key, expected, value));
-    pass.handle = Handle::holding(client);
+    pass.handle.put(client);
     answer
 }
 
@@ -135,7 +135,7 @@ pub extern "C" fn regnubas_successor(
         Ok(next) => Answer::of_pair(next, pair),
         Err(fault) => Answer::of_order_fault(fault),
     };
-    pass.handle = Handle::holding(client);
+    pass.handle.put(client);
     answer
 }
 
@@ -154,7 +154,7 @@ pub extern "C" fn regnubas_range(
         return Answer::bare(NO_PASS);
     };
     let answer = client.fill(alloc, low, high, room);
-    pass.handle = Handle::holding(client);
+    pass.handle.put(client);
     answer
 }
 
@@ -168,7 +168,7 @@ pub extern "C" fn regnubas_left(alloc: Global, pass: &mut Place) -> Left
         return Left { nodes: 0, scx: 0 };
     };
     let (nodes, scx) = client.left();
-    pass.handle = Handle::holding(client);
+    pass.handle.put(client);
     Left { nodes, scx }
 }
 
@@ -190,7 +190,7 @@ pub extern "C" fn regnubas_close(alloc: Global, pass: &mut Place, room: &mut [Pa
         return Answer::bare(NO_PASS);
     };
     if !client.is_last() {
-        pass.handle = Handle::holding(client);
+        pass.handle.put(client);
         return Answer::bare(SHARED);
     }
     match Box::into_inner(client).close(alloc) {
@@ -198,7 +198,7 @@ pub extern "C" fn regnubas_close(alloc: Global, pass: &mut Place, room: &mut [Pa
         Closing::NoMemory => Answer::bare(NO_MEMORY),
         Closing::Shared(client) => match Box::new(alloc, client) {
             Ok(client) => {
-                pass.handle = Handle::holding(client);
+                pass.handle.put(client);
                 Answer::bare(SHARED)
             }
             Err(_) => Answer::bare(NO_MEMORY),
