@@ -1,15 +1,20 @@
 -- Whole calls of a dictionary whose updates are straight.
 use Rattle.std.specs.Global.{Global}
 use Rattle.std.specs.Prelude.{Result, Vec}
-use Rattle.std.proofs.Common.{◌≡◌, ℕ, zero, suc, ◌+◌, ◌*◌, ◌-◌, ◌<◌, ◌≤◌, List, Option, None, refl, sym, subst, ap, arith, ◌∙◌}
+use Rattle.std.proofs.Common.{◌≡◌, ℕ, zero, suc, ◌+◌, ◌*◌, ◌^◌, ◌-◌, ◌<◌, ◌≤◌, List, [], Option, None, refl, sym, subst, ap, arith, ◌∙◌}
 use Rattle.arena.specs.declared.layout.Layout.{Layout}
 use Rattle.arena.specs.declared.step.Step.{Step}
 use Rattle.arena.specs.History.{History}
 use Rattle.arena.specs.Machines.{Call}
 use Rattle.arena.specs.Share.{Remaining}
+use Rattle.arena.specs.declared.number.NodeNo.{NodeNo}
+use Rattle.prims.specs.declared.snap.Snap.{Snap}
 use Rattle.order.specs.Range.Known.{IsSameRange}
+use Rattle.order.specs.Range.Steps.{range_left, range_phase_left, range_try_left}
+use Rattle.order.specs.declared.range.RangeAt.TheVariants.{Start as VisitStart}
 use Rattle.order.specs.declared.range.RangeRun.{RangeRun}
 use Rattle.order.specs.declared.refused.Refused.{Refused}
+use Rattle.order.specs.declared.successor.SuccessorAt.TheVariants.{Start as SearchStart}
 use Rattle.order.specs.declared.successor.SuccessorRun.{SuccessorRun}
 use Rattle.ordered_map.specs.declared.pair.Pair.{Pair}
 use Rattle.ordered_map.specs.OrderedMap.{Successor as SuccessorCall, Range as RangeCall}
@@ -36,7 +41,7 @@ use Rattle.ordered_map.specs.declared.reply.Reply.{Reply}
 use Rattle.dict.specs.declared.told.WordReply.{WordReply}
 use Rattle.dict.proofs.Lemmas.{edit_goes, edit_ends, successor_ends, range_ends, dict_ends}
 use Rattle.forest.specs.declared.view.SeatedPass.{SeatedPass}
-use Rattle.forest.specs.StraightCalls.{DictAllows, DictCallIsReady, DictCallWaits, IsSameDictCall, SeatDictBegins, SeatDictEnds, SeatWordEnds, IsFreshEdit}
+use Rattle.forest.specs.StraightCalls.{DictAllows, DictCallIsReady, DictCallWaits, IsSameDictCall, SeatDictBegins, SeatDictEnds, SeatWordEnds, IsFreshCall}
 use Rattle.forest.specs.StraightReads.{RangeReader, SearchBegins, SearchEnds, SuccessorReader, VisitBegins, VisitEnds}
 use Rattle.forest.specs.StraightUpdate.{Updater, HasUpdateGoneOn, UpdaterBegins, UpdaterEnds}
 use Rattle.forest.specs.TableRule.{history_of}
@@ -212,13 +217,42 @@ module _ {K V A : Type 0} (k : EditKind) (around : UpdateRun k.E UpdateAt → Ma
   abbrev pub edit_machine : ℕ → UpdateRun k.E A → DictRun K V
   edit_machine tries m = record { run = around (standing m Start); tries = tries; alloc = None; types = record {} }
 
-  pub edit_fresh : (share : Remaining) (tries number : ℕ) → 0 < tries → (m : UpdateRun k.E A) (ed : k.E) → m.edit ≡ ed → m.share ≡ share → m.call ≡ number → m.tries ≡ tries - 1 → m.limit ≡ tries → IsSmallCall (k.call ed) → IsFreshEdit (k.call ed) share tries number (edit_machine tries m)
+  pub edit_fresh : (share : Remaining) (tries number : ℕ) → 0 < tries → (m : UpdateRun k.E A) (ed : k.E) → m.edit ≡ ed → m.share ≡ share → m.call ≡ number → m.tries ≡ tries - 1 → m.limit ≡ tries → IsSmallCall (k.call ed) → IsFreshCall (k.call ed) share tries number (edit_machine tries m)
   edit_fresh share tries number some m ed is_edit is_share is_call is_tries is_limit small = record {
     is_call = is.is_call (standing m Start) ∙ ap k.call is_edit;
     has_tries = refl;
     unbegun = is.unbegun (standing m Start) tries number (refl, all_tries m.tries tries some is_tries, is_call, subst (λ (e : k.E). IsSmallCall (k.call e)) (sym is_edit) small, is_limit);
     has_share = is.is_share (standing m Start) ∙ is_share;
   }
+
+module _ {K V : Type 0} where
+  -- the machine of a successor
+  abbrev pub search_machine : ℕ → Remaining → SuccessorRun → DictRun K V
+  search_machine tries share m = record { run = Successor m share; tries = tries; alloc = None; types = record {} }
+
+  pub search_fresh : (share : Remaining) (tries number key : ℕ) → 0 < tries → (m : SuccessorRun) → m.key ≡ key → m.at ≡ SearchStart → m.snaps.items ≡ [] → m.tries ≡ tries - 1 → m.limit ≡ tries → key < 2 ^ 64 → IsFreshCall (SuccessorCall key) share tries number (search_machine tries share m)
+  search_fresh share tries number key some m is_key at none is_tries is_limit small = record {
+    is_call = ap SuccessorCall is_key;
+    has_tries = refl;
+    has_share = refl;
+    unbegun = (at, all_tries m.tries tries some is_tries, none, rw is_key small, is_limit);
+  }
+
+  -- and of a range
+  abbrev pub range_machine : ℕ → Remaining → RangeRun → DictRun K V
+  range_machine tries share m = record { run = Range m share; tries = tries; alloc = None; types = record {} }
+
+  pub range_fresh : (share : Remaining) (tries number low high most : ℕ) → 0 < tries → (m : RangeRun) → m.low ≡ low → m.high ≡ high → m.most ≡ most → m.at ≡ VisitStart → m.snaps.items ≡ [] → m.tries ≡ tries - 1 → m.limit ≡ tries → high < 2 ^ 64 → IsFreshCall (RangeCall low high most) share tries number (range_machine tries share m)
+  range_fresh share tries number low high most some m is_low is_high is_most at none is_tries is_limit small = record {
+    is_call = rw (is_low, is_high, is_most) refl;
+    has_tries = refl;
+    has_share = refl;
+    unbegun = (at, all_tries m.tries tries some is_tries, none, rw is_high small, is_limit);
+  }
+
+-- a range that has not begun has no more steps left with other lists
+pub as_many_steps : (m : RangeRun) (snaps : Vec Snap Global) (waiting : Vec NodeNo Global) (taken : Vec Pair Global) (nodes bound : ℕ) → m.at ≡ VisitStart → range_left m nodes ≤ bound → range_left (record m { snaps = snaps; waiting = waiting; taken = taken }) nodes ≤ bound
+as_many_steps m snaps waiting taken nodes bound at few = subst (λ a. m.tries * range_try_left m.most nodes + range_phase_left (record m { snaps = snaps; waiting = waiting; taken = taken }) nodes a ≤ bound) (sym at) (subst (λ a. m.tries * range_try_left m.most nodes + range_phase_left m nodes a ≤ bound) at few)
 
 -- all tries have as many steps as each of them so many times
 pub tries_steps : (now old left tries each : ℕ) → 0 < tries → left ≡ tries - 1 → now ≤ old + (left * each + each) → now ≤ old + tries * each

@@ -36,7 +36,7 @@ use Rattle.ordered_map.specs.declared.pair.Pair.{Pair}
 use Rattle.template.specs.Trails.{IsOwnMoment}
 use Rattle.forest.specs.declared.view.SeatedPass.{SeatedPass}
 use Rattle.forest.specs.StraightLlx.{llx_at, Looker, LookerSnaps}
-use Rattle.forest.specs.StraightReads.{RangeReader, VisitEnds, VisitWaits}
+use Rattle.forest.specs.StraightReads.{RangeReader, VisitEnds, VisitLooksAgain, VisitWaits}
 use Rattle.forest.specs.StraightVlx.{Validator}
 use Rattle.forest.specs.TableRule.{history_of}
 use Rattle.forest.specs.Traces.{shared_nodes}
@@ -87,6 +87,9 @@ looks_there old now c h level left right n is x = rw is record {
 -- so many steps are left, as this comes next
 pub steps_as : (m : RangeRun) (next now : RangeNext) (nodes a b : ℕ) → next ≡ now → a ≤ b + suc (range_left (range_placed m now) nodes) → a ≤ b + suc (range_left (range_placed m next) nodes)
 steps_as m next now nodes a b e i = subst (λ (k : RangeNext). a ≤ b + suc (range_left (range_placed m k) nodes)) (sym e) i
+
+pub lighter_as : (m : RangeRun) (next now : RangeNext) (nodes b : ℕ) → next ≡ now → range_left (range_placed m next) nodes < b → range_left (range_placed m now) nodes < b
+lighter_as m next now nodes b e i = subst (λ (k : RangeNext). range_left (range_placed m k) nodes < b) e i
 
 pub nearer_as : (m : RangeRun) (next now : RangeNext) (nodes a : ℕ) → next ≡ now → a < suc (range_left (range_placed m now) nodes) → a < suc (range_left (range_placed m next) nodes)
 nearer_as m next now nodes a e i = subst (λ (k : RangeNext). a < suc (range_left (range_placed m k) nodes)) (sym e) i
@@ -233,9 +236,9 @@ module _ {M : Type 0} {o : Calls M} (r : RangeReader o) where
     level_fits ps n snap x = told_fits ps (at x.last) x.told x.so
 
     -- where something is in the way, it stands there
-    pub looks_again : (ps : List SeatedPass) (asked : Step) (n : NodeNo) (b : Bool) (scx : ScxNo) → asked ≡ load LoadState (state scx.0) → InnerWaits looker ps (llx_at n (StateAgain b scx)) (load LoadState (state scx.0)) → HostedWaits r ps (at (llx_at n (StateAgain b scx))) asked
+    pub looks_again : (ps : List SeatedPass) (n : NodeNo) (b : Bool) (scx : ScxNo) → InnerWaits looker ps (llx_at n (StateAgain b scx)) (load LoadState (state scx.0)) → VisitLooksAgain r ps m level left right n b scx
     unfolding looker
-    looks_again ps asked n b scx step x = rw step x
+    looks_again ps n b scx x = x
 
   -- It validates these snapshots
   module _ (m : RangeRun) (snaps : List Snap) (e : snaps ≡ m.snaps.items) where

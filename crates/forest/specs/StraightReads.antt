@@ -1,19 +1,23 @@
 -- Calls of ordered reads, of whatever machine reads: at a place of the machine of the read, or
 -- before what comes next.
 use Rattle.std.specs.Global.{Global}
-use Rattle.std.specs.Prelude.{ℕ, suc, List, Option, Result, Ok, Err, Vec}
+use Rattle.std.specs.Prelude.{ℕ, suc, Bool, List, Option, Result, Ok, Err, Vec}
 use Rattle.arena.specs.declared.step.Step.{Step}
-use Rattle.arena.specs.declared.step.Kind.TheVariants.{LoadSettled}
+use Rattle.arena.specs.declared.number.NodeNo.{NodeNo}
+use Rattle.arena.specs.declared.number.ScxNo.{ScxNo}
+use Rattle.arena.specs.declared.step.Kind.TheVariants.{LoadSettled, LoadState}
 use Rattle.arena.specs.declared.word.NodeWord.TheVariants.{Settled}
 use Rattle.arena.specs.declared.word.SettledPart.TheVariants.{Head as HeadWord}
-use Rattle.arena.specs.Words.{node}
+use Rattle.arena.specs.Words.{node, state}
 use Rattle.prims.specs.Llx.Known.{load}
+use Rattle.prims.specs.declared.llx.LlxAt.TheVariants.{StateAgain}
 use Rattle.order.specs.Range.Known.{IsSameRange, RangeAnswers, RangeIsReady, RangeWaits}
 use Rattle.order.specs.Range.Next.{range_next_step, range_placed}
 use Rattle.order.specs.Range.Steps.{range_left}
 use Rattle.order.specs.Successor.Known.{IsSameSuccessor, SuccessorAnswers, SuccessorIsReady, SuccessorWaits}
 use Rattle.order.specs.Successor.Next.{successor_next_step, successor_placed}
 use Rattle.order.specs.Successor.Steps.{successor_left}
+use Rattle.order.specs.declared.range.RangeAt.TheVariants.{Look}
 use Rattle.order.specs.declared.range.RangeNext.{RangeNext}
 use Rattle.order.specs.declared.range.RangeRun.{RangeRun}
 use Rattle.order.specs.declared.refused.Refused.{Refused}
@@ -23,6 +27,7 @@ use Rattle.ordered_map.specs.TreeShape.{TreeAllows}
 use Rattle.ordered_map.specs.declared.pair.Pair.{Pair}
 use Rattle.forest.specs.declared.view.SeatedPass.{SeatedPass}
 use Rattle.forest.specs.CallKinds.{Calls}
+use Rattle.forest.specs.StraightLlx.{llx_at}
 use Rattle.forest.specs.Hosts.{Host, HostedBegins, HostedEnds, HostedWaits, InnerCall}
 
 module _ {M N A : Type 0} {o : Calls M} {i : InnerCall N A} (r : Host o i) (ps : List SeatedPass) where
@@ -89,6 +94,18 @@ module _ {M : Type 0} {o : Calls M} (r : RangeReader o) (ps : List SeatedPass) w
   -- its range has answered
   abbrev pub VisitEnds : RangeRun → Result (Vec Pair Global) Refused → Type 0
   VisitEnds m a = HostedEnds r ps m a
+
+-- a range that asks again for the state of an SCX-record that was in the way of its look at a fork
+abbrev pub looking_again : RangeRun → ℕ → Bool → Bool → NodeNo → Bool → ScxNo → RangeRun
+looking_again m level left right n marked scx = record m { at = Look level left right (llx_at n (StateAgain marked scx)) }
+
+-- a machine's range does so
+abbrev pub VisitLooksAgain : {M : Type 0} {o : Calls M} → RangeReader o → List SeatedPass → RangeRun → ℕ → Bool → Bool → NodeNo → Bool → ScxNo → Type 0
+VisitLooksAgain r ps m level left right n marked scx = HostedWaits r ps (looking_again m level left right n marked scx) (load LoadState (state scx.0))
+
+-- so many steps are left to it then
+abbrev pub again_left : RangeRun → ℕ → Bool → Bool → NodeNo → Bool → ScxNo → ℕ → ℕ
+again_left m level left right n marked scx nodes = range_left (looking_again m level left right n marked scx) nodes
 
 -- so many steps are left to a successor then
 abbrev pub search_left : ℕ → SuccessorRun → Result SuccessorNext (Result (Option Pair) Refused) → ℕ

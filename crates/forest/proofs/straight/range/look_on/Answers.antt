@@ -33,8 +33,8 @@ returns-in-Ok-looked-clause-steps g c = let n = lighter g (goal.at.returns-in-Ok
 pub returns-in-Ok-looked-clause-nearer : goal.returns-in-Ok-looked-clause-nearer
 returns-in-Ok-looked-clause-nearer g c = let n = lighter g (goal.at.returns-in-Ok-looked-clause-nearer g c).In-Ok-looked in omega (arith, n)
 
-pub complete-requires-clause-stands : goal.complete-requires-clause-stands
-complete-requires-clause-stands g c = let w = c.requires.waits in (w.0, looks_again w.0 c.args.run.now c.args.level c.args.left c.args.right _ _ c.args.node c.in-Err.marked c.in-Err.scx c.load.ensures (c.in-Err.ensures.waits (looker w.0 c.args.run.now c.args.level c.args.left c.args.right) (begins_look w.0 c.args.run.now c.args.level c.args.left c.args.right _ c.args.node w.1)))
+pub look_again-told-requires-clause-waits : goal.look_again-told-requires-clause-waits
+look_again-told-requires-clause-waits g c = let w = c.requires.waits in (w.0, looks_again w.0 c.args.run.now c.args.level c.args.left c.args.right _ c.args.node c.in-Err.marked c.in-Err.scx (c.in-Err.ensures.waits (looker w.0 c.args.run.now c.args.level c.args.left c.args.right) (begins_look w.0 c.args.run.now c.args.level c.args.left c.args.right _ c.args.node w.1)))
 
 pub returns-in-Err-clause-goes_on : goal.returns-in-Err-clause-goes_on
-returns-in-Err-clause-goes_on g c = λ r x. c.complete.ensures.ends r (looks_again r c.args.run.now c.args.level c.args.left c.args.right _ _ c.args.node c.in-Err.marked c.in-Err.scx c.load.ensures (c.in-Err.ensures.waits (looker r c.args.run.now c.args.level c.args.left c.args.right) (begins_look r c.args.run.now c.args.level c.args.left c.args.right _ c.args.node x)))
+returns-in-Err-clause-goes_on g c = λ r x. c.look_again-told.ensures.ends r (looks_again r c.args.run.now c.args.level c.args.left c.args.right _ c.args.node c.in-Err.marked c.in-Err.scx (c.in-Err.ensures.waits (looker r c.args.run.now c.args.level c.args.left c.args.right) (begins_look r c.args.run.now c.args.level c.args.left c.args.right _ c.args.node x)))

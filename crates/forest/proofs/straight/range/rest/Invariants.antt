@@ -1,17 +1,17 @@
 use Rattle.std.proofs.Common.{◌≡◌, ◌+◌, ◌≤◌, suc}
-use Rattle.forest.specs.StraightReads.{RangeReader, VisitRoots, VisitWaits}
+use Rattle.forest.specs.StraightReads.{RangeReader, VisitWaits}
 use Rattle.forest.specs.Traces.{seat_steps, shared_nodes}
 use Rattle.forest.specs.CallKinds.{calls}
 use Rattle.order.specs.Range.Next.{range_placed}
 use Rattle.order.specs.Range.Steps.{range_left}
-use Rattle.forest.proofs.straight.range.visit.Given as goal
+use Rattle.forest.proofs.straight.range.rest.Given as goal
 
 abbrev pub invariant-loop-after : goal.invariant-loop-after
 invariant-loop-after g l = record {
   here : (l.seat.table_id ≡ l.fn.seat.table_id) × (l.seat.me.1 ≡ l.fn.seat.me.1);
-  steps : seat_steps l.seat.me.0.passes + suc (range_left (range_placed l.run l.next) (shared_nodes l.hand.layout.now)) ≤ seat_steps l.fn.seat.me.0.passes + suc (range_left l.fn.run (shared_nodes l.hand.layout.now));
+  steps : seat_steps l.seat.me.0.passes + suc (range_left (range_placed l.run l.next) (shared_nodes l.hand.layout.now)) ≤ seat_steps l.fn.seat.me.0.passes + suc (range_left (range_placed l.fn.run l.fn.next) (shared_nodes l.hand.layout.now));
   waits : (r : RangeReader (calls g.S.Shape g.M.Machine l.hand.layout.now l.hand.number))
-      → VisitRoots r l.fn.seat.me.0.passes l.fn.run
+      → VisitWaits r l.fn.seat.me.0.passes l.fn.run l.fn.next
       → VisitWaits r l.seat.me.0.passes l.run l.next;
 }
 
