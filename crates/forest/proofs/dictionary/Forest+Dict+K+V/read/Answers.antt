@@ -1,6 +1,6 @@
 use Rattle.std.proofs.Common.{◌≡◌, ◌∙◌, ℕ, sym, ap, subst, arith}
 use Rattle.atomic_table.specs.declared.shared.Seat.{Seat}
-use Rattle.dict.specs.Calls.{AsksForPairs, call_in}
+use Rattle.dict.specs.Calls.{call_in}
 use Rattle.ordered_map.specs.CallRules.{MayReply, form_of, most_steps}
 use Rattle.ordered_map.specs.Replies.{told_of}
 use Rattle.ordered_map.specs.Requests.{as_map_call}
