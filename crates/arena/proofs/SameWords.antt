@@ -5,12 +5,14 @@ use Rattle.arena.specs.declared.word.Side.TheVariants.{Left, Right}
 use Rattle.arena.specs.declared.word.NodeWord.{NodeWord}
 use Rattle.arena.specs.declared.word.NodeWord.TheVariants.{Settled, Child, Info, Marked}
 use Rattle.arena.specs.declared.word.SettledPart.{SettledPart}
-use Rattle.arena.specs.declared.word.SettledPart.TheVariants.{Head, Key, Value}
+use Rattle.arena.specs.declared.word.SettledPart.TheVariants.{Head, More, Key, Value, High}
+use Rattle.arena.specs.declared.word.Slot.{Slot}
+use Rattle.arena.specs.declared.word.Slot.TheVariants.{First, Second, Third, Fourth}
 use Rattle.arena.specs.declared.word.ScxWord.{ScxWord}
 use Rattle.arena.specs.declared.word.ScxWord.TheVariants.{State, AllFrozen, Plan, New, Old, Member, Seen, Call}
 use Rattle.arena.specs.declared.word.Word.{Word}
 use Rattle.arena.specs.declared.word.Word.TheVariants.{Node, Scx}
-use Rattle.arena.specs.Words.{same_word, same_side, same_settled, same_node_word, same_scx_word}
+use Rattle.arena.specs.Words.{slot_no, same_word, same_side, same_settled, same_node_word, same_scx_word}
 use Rattle.arena.proofs.Bools.{and_left, and_right}
 
 side_same : (a b : Side) → same_side a b ≡ true → a ≡ b
@@ -18,10 +20,30 @@ side_same Left Left e = refl
 side_same Right Right e = refl
 side_same _ _ e = cc
 
+slot_same : (a b : Slot) → eqb (slot_no a) (slot_no b) ≡ true → a ≡ b
+slot_same First First e = refl
+slot_same Second Second e = refl
+slot_same Third Third e = refl
+slot_same Fourth Fourth e = refl
+slot_same First Second e = cc
+slot_same First Third e = cc
+slot_same First Fourth e = cc
+slot_same Second First e = cc
+slot_same Second Third e = cc
+slot_same Second Fourth e = cc
+slot_same Third First e = cc
+slot_same Third Second e = cc
+slot_same Third Fourth e = cc
+slot_same Fourth First e = cc
+slot_same Fourth Second e = cc
+slot_same Fourth Third e = cc
+
 settled_same : (a b : SettledPart) → same_settled a b ≡ true → a ≡ b
 settled_same Head Head e = refl
-settled_same Key Key e = refl
-settled_same Value Value e = refl
+settled_same More More e = refl
+settled_same (Key a) (Key b) e = ap Key (slot_same a b e)
+settled_same (Value a) (Value b) e = ap Value (slot_same a b e)
+settled_same (High a) (High b) e = ap High (slot_same a b e)
 settled_same _ _ e = cc
 
 node_word_same : (a b : NodeWord) → same_node_word a b ≡ true → a ≡ b
@@ -63,8 +85,10 @@ side_refl Right = refl
 
 settled_refl : (a : SettledPart) → same_settled a a ≡ true
 settled_refl Head = refl
-settled_refl Key = refl
-settled_refl Value = refl
+settled_refl More = refl
+settled_refl (Key slot) = eqb_refl (slot_no slot)
+settled_refl (Value slot) = eqb_refl (slot_no slot)
+settled_refl (High slot) = eqb_refl (slot_no slot)
 
 pub node_word_refl : (a : NodeWord) → same_node_word a a ≡ true
 node_word_refl (Settled p) = settled_refl p

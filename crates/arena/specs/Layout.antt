@@ -33,12 +33,12 @@ first_scx lay c = 1 + c * lay.scx
 
 -- how many words the table has
 abbrev pub table_size : Layout → ℕ
-table_size lay = 7 * all_nodes lay + 14 * all_scx lay
+table_size lay = 18 * all_nodes lay + 14 * all_scx lay
 
 -- the place of a word in the table
 abbrev pub place : Layout → Word → ℕ
-place lay (Node n part) = 7 * n.0 + node_place part
-place lay (Scx s part) = 7 * all_nodes lay + 14 * s.0 + scx_place part
+place lay (Node n part) = 18 * n.0 + node_place part
+place lay (Scx s part) = 18 * all_nodes lay + 14 * s.0 + scx_place part
 
 -- the table has this word
 abbrev pub IsWord : Layout → Word → Type 0

@@ -1,11 +1,13 @@
 -- What each word of a node and of an SCX-record is called, and how words are told apart.
-use Rattle.std.specs.Prelude.{ℕ, ◌+◌, ◌<◌, Bool, true, false, if◌then◌else◌, ◌&&◌, ◌==◌}
+use Rattle.std.specs.Prelude.{ℕ, ◌+◌, ◌*◌, ◌<◌, Bool, true, false, if◌then◌else◌, ◌&&◌, ◌==◌}
 use Rattle.arena.specs.declared.word.Side.{Side}
 use Rattle.arena.specs.declared.word.Side.TheVariants.{Left, Right}
 use Rattle.arena.specs.declared.word.NodeWord.{NodeWord}
 use Rattle.arena.specs.declared.word.NodeWord.TheVariants.{Settled, Child, Info, Marked}
 use Rattle.arena.specs.declared.word.SettledPart.{SettledPart}
-use Rattle.arena.specs.declared.word.SettledPart.TheVariants.{Head, Key, Value}
+use Rattle.arena.specs.declared.word.SettledPart.TheVariants.{Head, More, Key, Value, High}
+use Rattle.arena.specs.declared.word.Slot.{Slot}
+use Rattle.arena.specs.declared.word.Slot.TheVariants.{First, Second, Third, Fourth}
 use Rattle.arena.specs.declared.word.ScxWord.{ScxWord}
 use Rattle.arena.specs.declared.word.ScxWord.TheVariants.{State, AllFrozen, Plan, New, Old, Member, Seen, Call}
 use Rattle.arena.specs.declared.word.Word.{Word}
@@ -13,11 +15,27 @@ use Rattle.arena.specs.declared.word.Word.TheVariants.{Node, Scx}
 use Rattle.arena.specs.declared.step.Access.{Access}
 use Rattle.arena.specs.declared.step.Access.TheVariants.{Load, Store, Exchange}
 
--- the place of a word within its node: seven words
+-- the number of a pair of a leaf, counted from 0
+abbrev pub slot_no : Slot → ℕ
+slot_no First = 0
+slot_no Second = 1
+slot_no Third = 2
+slot_no Fourth = 3
+
+-- the place of a settled word within its node: a head, a first key and value, and, behind the fields,
+-- info and mark, how many pairs more, those three, and the high halves of all four values
+abbrev pub settled_place : SettledPart → ℕ
+settled_place Head = 0
+settled_place (Key First) = 1
+settled_place (Value First) = 2
+settled_place More = 7
+settled_place (Key slot) = 6 + 2 * slot_no slot
+settled_place (Value slot) = 7 + 2 * slot_no slot
+settled_place (High slot) = 14 + slot_no slot
+
+-- the place of a word within its node: eighteen words
 abbrev pub node_place : NodeWord → ℕ
-node_place (Settled Head) = 0
-node_place (Settled Key) = 1
-node_place (Settled Value) = 2
+node_place (Settled part) = settled_place part
 node_place (Child Left) = 3
 node_place (Child Right) = 4
 node_place Info = 5
@@ -40,6 +58,14 @@ abbrev pub IsScxWord : ScxWord → Type 0
 IsScxWord (Member j) = j < 4
 IsScxWord (Seen j) = j < 4
 IsScxWord _ = Unit {0}
+
+-- the key of a fork, or of the first pair of a leaf
+abbrev pub first_key : NodeWord
+first_key = Settled (Key First)
+
+-- what a cell holds, or the value of the first pair of a leaf, without its high half
+abbrev pub first_value : NodeWord
+first_value = Settled (Value First)
 
 -- this word of node n
 abbrev pub node : ℕ → NodeWord → Word
@@ -75,8 +101,10 @@ same_side _ _ = false
 -- whether two settled words have the same name within a node
 abbrev pub same_settled : SettledPart → SettledPart → Bool
 same_settled Head Head = true
-same_settled Key Key = true
-same_settled Value Value = true
+same_settled More More = true
+same_settled (Key a) (Key b) = slot_no a == slot_no b
+same_settled (Value a) (Value b) = slot_no a == slot_no b
+same_settled (High a) (High b) = slot_no a == slot_no b
 same_settled _ _ = false
 
 -- whether two words have the same name within a node; the two fields differ

@@ -4,7 +4,7 @@ ghost use Rattle.arena.specs.Opening.{opening_nodes};
 
 use crate::limits::{Limits, Mode};
 use crate::number::{PassNo, ScxNo};
-use crate::word::{NodeWord, ScxWord, SettledPart, Side, Word};
+use crate::word::{NodeWord, ScxWord, SettledPart, Side, Slot, Word};
 
 /// A table within accepted limits.
 #[derive(Clone, Copy, Debug, PartialEq, Eq)]
@@ -22,7 +22,7 @@ pub struct Layout {
     ghost passes_fit: { passes ≤ 32 },
     ghost nodes_fit: { nodes ≤ 32768 },
     ghost scx_fit: { scx ≤ 32768 },
-    ghost counted: { node_words ≡ 7 * (opening_nodes mode + passes * nodes) },
+    ghost counted: { node_words ≡ 18 * (opening_nodes mode + passes * nodes) },
 }
 
 impl Layout {
@@ -46,7 +46,7 @@ impl Layout {
             passes,
             nodes,
             scx,
-            node_words: 7 * (opening(mode) + passes * nodes),
+            node_words: 18 * (opening(mode) + passes * nodes),
         }
     }
 
@@ -135,7 +135,7 @@ impl Layout {
         ensures apart { (other : Word) → IsWord self.now other → place self.now other ≡ result → other ≡ word }
     {
         match word {
-            Word::Node(node, part) => 7 * node.0 as usize + node_place(part),
+            Word::Node(node, part) => 18 * node.0 as usize + node_place(part),
             Word::Scx(scx, part) => {
                 self.node_words as usize + 14 * scx.0 as usize + scx_place(part)
             }
@@ -153,7 +153,7 @@ fn opening(mode: Mode) -> u32
     }
 }
 
-ghost use Rattle.arena.specs.Words.{node_place, scx_place, IsScxWord};
+ghost use Rattle.arena.specs.Words.{node_place, settled_place, slot_no, scx_place, IsScxWord};
 
 /// The place of a word within its node.
 #[inline(always)]
@@ -161,13 +161,40 @@ fn node_place(part: NodeWord) -> usize
     ensures { result ≡ node_place part }
 {
     match part {
-        NodeWord::Settled(SettledPart::Head) => 0,
-        NodeWord::Settled(SettledPart::Key) => 1,
-        NodeWord::Settled(SettledPart::Value) => 2,
+        NodeWord::Settled(part) => settled_place(part),
         NodeWord::Child(Side::Left) => 3,
         NodeWord::Child(Side::Right) => 4,
         NodeWord::Info => 5,
         NodeWord::Marked => 6,
+    }
+}
+
+/// The place of a settled word within its node.
+#[inline(always)]
+fn settled_place(part: SettledPart) -> usize
+    ensures { result ≡ settled_place part }
+{
+    match part {
+        SettledPart::Head => 0,
+        SettledPart::Key(Slot::First) => 1,
+        SettledPart::Value(Slot::First) => 2,
+        SettledPart::More => 7,
+        SettledPart::Key(slot) => 6 + 2 * slot_no(slot),
+        SettledPart::Value(slot) => 7 + 2 * slot_no(slot),
+        SettledPart::High(slot) => 14 + slot_no(slot),
+    }
+}
+
+/// The number of a pair of a leaf, counted from 0.
+#[inline(always)]
+fn slot_no(slot: Slot) -> usize
+    ensures { result ≡ slot_no slot }
+{
+    match slot {
+        Slot::First => 0,
+        Slot::Second => 1,
+        Slot::Third => 2,
+        Slot::Fourth => 3,
     }
 }
 

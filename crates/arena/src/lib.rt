@@ -25,4 +25,4 @@ pub use plain::PlainWords;
 pub use plan::Plan;
 pub use share::{Fresh, Share};
 pub use step::{Access, Kind, Row, Step};
-pub use word::{ABORTED, COMMITTED, IN_PROGRESS, NodeWord, ScxWord, SettledPart, Side, Word};
+pub use word::{ABORTED, COMMITTED, IN_PROGRESS, NodeWord, ScxWord, SettledPart, Side, Slot, Word};

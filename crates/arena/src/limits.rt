@@ -16,12 +16,12 @@ pub enum Mode {
 /// How many passes there are, how many nodes and SCX-records each of them owns, and how often a
 /// dictionary call tries. Nodes and SCX-records are never given back: a try of an insert takes three
 /// nodes where its key is new, any other try of an edit one at most, and each one SCX-record. With
-/// `passes` of `nodes` and `scx` a forest's table takes `8 * (7 * (3 + passes * nodes) + 14 *
+/// `passes` of `nodes` and `scx` a forest's table takes `8 * (18 * (3 + passes * nodes) + 14 *
 /// (1 + passes * scx))` bytes; of cells it has 9 nodes where this has 3.
 ///
 ///     Limits { passes: 4, nodes: 3000, scx: 1000, tries: 100 }
 ///
-/// is 1.1 MB, and room for 1,000 new keys by each of four threads, if no try is lost.
+/// is 2.2 MB, and room for 1,000 new keys by each of four threads, if no try is lost.
 #[derive(Clone, Copy, Debug, PartialEq, Eq)]
 pub struct Limits {
     /// How many passes, each a client of a script or of a thread: 1 to `MOST_PASSES`.

@@ -20,14 +20,28 @@ pub enum Side {
     Right,
 }
 
+/// Which of the four pairs that a leaf has room for.
+#[derive(Clone, Copy, Debug, PartialEq, Eq)]
+pub enum Slot {
+    First,
+    Second,
+    Third,
+    Fourth,
+}
+
 /// A word of a node that is settled before the node is shared.
 #[derive(Clone, Copy, Debug, PartialEq, Eq)]
 pub enum SettledPart {
     /// 8 times the level, and 4 for a leaf, and the class; 0 in cells.
     Head,
-    Key,
-    /// What a cell holds, or a leaf of the dictionary.
-    Value,
+    /// How many pairs a leaf has behind its first.
+    More,
+    /// The key of a pair of a leaf; the first of a fork is that of the fork.
+    Key(Slot),
+    /// The value of a pair, without its high half; the first of a cell is what the cell holds.
+    Value(Slot),
+    /// The high half of the value of a pair.
+    High(Slot),
 }
 
 /// A word of a node: those that are settled before it is shared, two fields, and two that only

@@ -2,22 +2,20 @@
 use Rattle.std.proofs.Common.{◌≡◌, ℕ, List, [], ◌∷◌, refl, lit<, lit≤}
 use Rattle.arena.specs.declared.limits.Mode.TheVariants.{Records}
 use Rattle.arena.specs.declared.word.Side.TheVariants.{Left, Right}
-use Rattle.arena.specs.declared.word.NodeWord.TheVariants.{Settled}
-use Rattle.arena.specs.declared.word.SettledPart.TheVariants.{Value}
 use Rattle.arena.specs.declared.word.ScxWord.TheVariants.{AllFrozen, Plan, New, Old, Member, Seen, Call}
 use Rattle.arena.specs.declared.word.Word.{Word}
 use Rattle.arena.specs.declared.layout.Layout.{Layout}
 use Rattle.arena.specs.declared.step.Row.{Row}
 use Rattle.arena.specs.declared.step.Kind.{Kind}
 use Rattle.arena.specs.declared.step.Kind.TheVariants.{Fill, LoadSettled, LoadInfo, LoadState, LoadMarked, LoadChild, Freeze, SetFrozen, Update, Commit}
-use Rattle.arena.specs.Words.{node, scx, info, marked, child, state}
+use Rattle.arena.specs.Words.{node, scx, info, marked, child, state, first_value}
 use Rattle.arena.specs.History.{History, Start, ◌⊳◌, value, rows_after}
 use Rattle.arena.specs.Lawful.{Lawful}
 use Rattle.arena.specs.Log.{log, filled, fields, last}
 
 -- two passes of ten nodes and ten SCX-records each, over the cells 1 to 8
 abbrev lay : Layout
-lay = record { mode = Records; passes = 2; nodes = 10; scx = 10; node_words = 203; counted = refl; passes_fit = lit≤ tt; nodes_fit = lit≤ tt; scx_fit = lit≤ tt }
+lay = record { mode = Records; passes = 2; nodes = 10; scx = 10; node_words = 522; counted = refl; passes_fit = lit≤ tt; nodes_fit = lit≤ tt; scx_fit = lit≤ tt }
 
 abbrev row : Kind → Word → ℕ → ℕ → Row
 row k w b a = record { pass = record { 0 = 0 }; call = 0; kind = k; word = w; before = b; after = a }
@@ -56,7 +54,7 @@ llx_is_lawful = (
 -- a set of the cell 1 to 70 after it: its fills, and the exchanges that carry it through
 abbrev steps : List Row
 steps =
-    row Fill (node 9 (Settled Value)) 0 70
+    row Fill (node 9 first_value) 0 70
     ∷ row Fill (scx 1 Plan) 0 1 ∷ row Fill (scx 1 New) 0 9 ∷ row Fill (scx 1 Old) 0 0
     ∷ row Fill (scx 1 (Member 0)) 0 1 ∷ row Fill (scx 1 (Seen 0)) 0 0 ∷ row Fill (scx 1 Call) 0 0
     ∷ row LoadSettled (scx 1 Plan) 1 1 ∷ row LoadSettled (scx 1 (Member 0)) 1 1 ∷ row LoadSettled (scx 1 (Seen 0)) 0 0

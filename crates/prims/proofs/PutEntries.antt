@@ -4,10 +4,8 @@ use Rattle.std.proofs.Common.{◌≡◌, ◌≢◌, ℕ, ◌<◌, length, Some, 
 use Rattle.arena.specs.declared.layout.Layout.{Layout}
 use Rattle.arena.specs.declared.step.Row.{Row}
 use Rattle.arena.specs.declared.step.Step.{Step}
-use Rattle.arena.specs.declared.word.NodeWord.TheVariants.{Settled}
-use Rattle.arena.specs.declared.word.SettledPart.TheVariants.{Value}
 use Rattle.arena.specs.declared.word.Side.{Side}
-use Rattle.arena.specs.Words.{node, state, child}
+use Rattle.arena.specs.Words.{node, state, child, first_value}
 use Rattle.arena.specs.History.{History, ◌⊳◌, value, Extends}
 use Rattle.arena.specs.ScxRecords.{count_of}
 use Rattle.arena.specs.Fills.{IsNamedScx}
@@ -94,7 +92,7 @@ module _ (allows : Layout → History → ℕ → Type 0) (m : PutRun) (c : Call
 
   -- the entry of the row at which its update has won
   abbrev pub IsFullEntry : Row → History → Type 0
-  IsFullEntry row before = IsEntryAt c h m.scx row before × (value before (node m.scx.update.fresh.0 (Settled Value)) ≡ m.value) × ((side : Side) → value before (child m.scx.update.fresh.0 side) ≡ 0)
+  IsFullEntry row before = IsEntryAt c h m.scx row before × (value before (node m.scx.update.fresh.0 first_value) ≡ m.value) × ((side : Side) → value before (child m.scx.update.fresh.0 side) ≡ 0)
 
   -- it is that of an SCX-record that is filled
   full_entry : (row : Row) (before : History) → Lawful c.layout h → Extends h (row ⊳ before) → IsWin before row m.scx.scx.0 → IsFull → IsFullEntry row before

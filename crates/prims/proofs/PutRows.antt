@@ -3,11 +3,9 @@
 use Rattle.std.proofs.Common.{◌≢◌, ℕ, ◌≤◌, inl, inr, refl, sym, arith, subst, length}
 use Rattle.arena.specs.declared.layout.Layout.{Layout}
 use Rattle.arena.specs.declared.step.Step.{Step}
-use Rattle.arena.specs.declared.word.NodeWord.TheVariants.{Settled}
-use Rattle.arena.specs.declared.word.SettledPart.TheVariants.{Value}
 use Rattle.arena.specs.MemberIndex.{member_index}
 use Rattle.arena.specs.Layout.{opening_nodes}
-use Rattle.arena.specs.Words.{scx, child}
+use Rattle.arena.specs.Words.{scx, child, first_value}
 use Rattle.arena.specs.History.{History, ◌⊳◌, HasHeld}
 use Rattle.arena.specs.ScxRecords.{field_index_of as field_of, side_of}
 use Rattle.arena.specs.Fills.{IsInField, IsTakenScx}
@@ -95,7 +93,7 @@ untaken_at allows m c h AtCall s t w other free = untaken_fill allows m c h AtCa
 -- nor a row at a place
 untaken_put : (allows : Layout → History → ℕ → Type 0) (m : PutRun) (c : Call) (h : History) (s : Step) (t : ℕ) (at : PutAt) → PutWaitsAt allows c h m at s → t ≢ m.scx.scx.0 → ¬ IsTakenScx h t → ¬ IsTakenScx (row_of c s h ⊳ h) t
 untaken_put allows m c h s t Start w other free = absurd w
-untaken_put allows m c h s t AtFill w other free = rw w.2 (untaken_by_node h (row_of c (put_step m) h) m.scx.update.fresh.0 t (Settled Value) refl free)
+untaken_put allows m c h s t AtFill w other free = rw w.2 (untaken_by_node h (row_of c (put_step m) h) m.scx.update.fresh.0 t first_value refl free)
 untaken_put allows m c h s t Scx w other free = untaken_at allows (job_of m.scx) c h m.scx.at s t w.1 other free
 
 -- a row of its takes no SCX-record but its own

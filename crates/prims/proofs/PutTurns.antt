@@ -4,11 +4,9 @@ use Rattle.arena.specs.declared.layout.Layout.{Layout}
 use Rattle.arena.specs.declared.machine.Turn.{Turn}
 use Rattle.arena.specs.declared.machine.Turn.TheVariants.{Ask, Done as End}
 use Rattle.arena.specs.declared.step.Row.{Row}
-use Rattle.arena.specs.declared.word.NodeWord.TheVariants.{Settled}
-use Rattle.arena.specs.declared.word.SettledPart.TheVariants.{Value}
 use Rattle.arena.specs.declared.word.ScxWord.TheVariants.{New}
 use Rattle.arena.specs.declared.word.Side.{Side}
-use Rattle.arena.specs.Words.{node, scx, child}
+use Rattle.arena.specs.Words.{node, scx, child, first_value}
 use Rattle.arena.specs.History.{History, ◌⊳◌, value, Extends}
 use Rattle.arena.specs.ScxRecords.{new}
 use Rattle.arena.specs.Fills.{IsNamed, by_scx}
@@ -57,9 +55,9 @@ newest_fresh [] = 0
 newest_fresh (e ∷ es) = e.new
 
 -- just before its entry the fresh node had the value that it has now
-pub value_before : (c : Call) (h : History) (m : ScxRun) (v : ℕ) (row : Row) (before : History) → Lawful c.layout h → IsEntryAt c h m row before → value h (node m.update.fresh.0 (Settled Value)) ≡ v → value before (node m.update.fresh.0 (Settled Value)) ≡ v
+pub value_before : (c : Call) (h : History) (m : ScxRun) (v : ℕ) (row : Row) (before : History) → Lawful c.layout h → IsEntryAt c h m row before → value h (node m.update.fresh.0 first_value) ≡ v → value before (node m.update.fresh.0 first_value) ≡ v
 unfolding newest_fresh
-value_before c h m v row before l x e = sym (node_since c.layout h before m.update.fresh.0 (Settled Value) l before_ends tt named) ∙ e
+value_before c h m v row before l x e = sym (node_since c.layout h before m.update.fresh.0 first_value l before_ends tt named) ∙ e
   where
     y : IsWonAt c.layout h m.scx.0
     y = record { row = row; before = before; within = x.within; wins = x.wins }

@@ -3,13 +3,12 @@ use Rattle.std.proofs.Common.{◌≡◌, ◌≢◌, ℕ, inl, inr, sym, subst}
 use Rattle.arena.specs.declared.layout.Layout.{Layout}
 use Rattle.arena.specs.declared.word.NodeWord.{NodeWord}
 use Rattle.arena.specs.declared.word.NodeWord.TheVariants.{Settled, Child, Info, Marked}
-use Rattle.arena.specs.declared.word.SettledPart.TheVariants.{Value}
 use Rattle.arena.specs.declared.word.Word.{Word}
 use Rattle.arena.specs.declared.word.Word.TheVariants.{Node, Scx as ScxOf}
 use Rattle.arena.specs.declared.step.Row.{Row}
 use Rattle.arena.specs.declared.step.Step.{Step}
 use Rattle.arena.specs.declared.step.Kind.TheVariants.{Fill}
-use Rattle.arena.specs.Words.{node, scx}
+use Rattle.arena.specs.Words.{node, scx, first_value}
 use Rattle.arena.specs.History.{History, Start, ◌⊳◌, Extends}
 use Rattle.arena.specs.Fills.{IsOwnNode, IsFillOfNode, IsTakenNode, MayFill}
 use Rattle.arena.specs.Lawful.{Lawful, Obeys}
@@ -81,7 +80,7 @@ node_number (ScxOf s part) = 0
 -- nor a row at a place, but of its fresh node
 fills_no_other : (allows : Layout → History → ℕ → Type 0) (m : PutRun) (c : Call) (h : History) (at : PutAt) (s : Step) (n : ℕ) → PutWaitsAt allows c h m at s → n ≢ m.scx.update.fresh.0 → ¬ IsFillOfNode n (row_of c s h)
 fills_no_other allows m c h Start s n w other = absurd w
-fills_no_other allows m c h AtFill s n w other = λ x. (let e : node m.scx.update.fresh.0 (Settled Value) ≡ node n x.0 = rw w.2 at x.2 in other (λ i. node_number (sym e i)))
+fills_no_other allows m c h AtFill s n w other = λ x. (let e : node m.scx.update.fresh.0 first_value ≡ node n x.0 = rw w.2 at x.2 in other (λ i. node_number (sym e i)))
 fills_no_other allows m c h Scx s n w other = fills_no_node allows (job_of m.scx) c h m.scx.at s n w.1
 
 -- it takes no node but its own

@@ -8,7 +8,7 @@ use Rattle.arena.specs.declared.limits.Mode.TheVariants.{Tree, Records}
 use Rattle.arena.specs.declared.word.Side.TheVariants.{Left, Right}
 use Rattle.arena.specs.declared.word.NodeWord.{NodeWord}
 use Rattle.arena.specs.declared.word.NodeWord.TheVariants.{Settled, Child, Info, Marked}
-use Rattle.arena.specs.declared.word.SettledPart.TheVariants.{Head, Key, Value}
+use Rattle.arena.specs.declared.word.SettledPart.TheVariants.{Head}
 use Rattle.arena.specs.declared.word.ScxWord.TheVariants.{Member}
 use Rattle.arena.specs.declared.step.Row.{Row}
 use Rattle.arena.specs.Layout.{opening, opening_nodes}
@@ -27,8 +27,7 @@ use Rattle.prims.proofs.Shares.{left_own_node}
 -- before the first row a node that is not there from the start holds 0
 opens_zero : (mode : Mode) (n : ℕ) (part : NodeWord) → opening_nodes mode ≤ n → IsNodeFill part → opening mode (node n part) ≡ 0
 opens_zero Tree n (Settled Head) late fill = rw (ne_eqb n 0 (λ e. omega (arith, late, e)), ne_eqb n 1 (λ e. omega (arith, late, e)), ne_eqb n 2 (λ e. omega (arith, late, e))) refl
-opens_zero Tree n (Settled Key) late fill = refl
-opens_zero Tree n (Settled Value) late fill = refl
+opens_zero Tree n (Settled _) late fill = refl
 opens_zero Tree n (Child Left) late fill = rw (ne_eqb n 0 (λ e. omega (arith, late, e))) refl
 opens_zero Tree n (Child Right) late fill = rw (ne_eqb n 0 (λ e. omega (arith, late, e))) refl
 opens_zero Tree n Info late fill = absurd fill

@@ -2,7 +2,7 @@
 ghost use Rattle.std.specs.Prelude.{◌≡◌, ℕ, ◌+◌, ◌<◌, ◌≤◌};
 
 use crate::scx::{Scx, ScxRun};
-use arena::{Access, Kind, Machine, NodeWord, SettledPart, Shape, Step, Turn, Word};
+use arena::{Access, Kind, Machine, NodeWord, SettledPart, Shape, Slot, Step, Turn, Word};
 
 /// The step that a run of SCX with a fresh cell has asked for.
 #[derive(Clone, Copy, Debug, PartialEq, Eq)]
@@ -76,7 +76,10 @@ impl<S: Shape> Machine<S> for PutRun {
                 self.at = PutAt::Fill;
                 Turn::Ask(Step {
                     kind: Kind::Fill,
-                    word: Word::Node(self.scx.update.fresh, NodeWord::Settled(SettledPart::Value)),
+                    word: Word::Node(
+                        self.scx.update.fresh,
+                        NodeWord::Settled(SettledPart::Value(Slot::First)),
+                    ),
                     access: Access::Store(self.value),
                 })
             }

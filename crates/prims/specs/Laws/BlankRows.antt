@@ -7,12 +7,11 @@ use Rattle.arena.specs.declared.step.Kind.TheVariants.{Fill}
 use Rattle.arena.specs.declared.word.Side.{Side}
 use Rattle.arena.specs.declared.word.Word.{Word}
 use Rattle.arena.specs.declared.word.Word.TheVariants.{Node, Scx}
-use Rattle.arena.specs.declared.word.NodeWord.TheVariants.{Settled, Child, Info, Marked}
-use Rattle.arena.specs.declared.word.SettledPart.TheVariants.{Value}
+use Rattle.arena.specs.declared.word.NodeWord.TheVariants.{Child, Info, Marked}
 use Rattle.arena.specs.declared.word.ScxWord.{ScxWord}
 use Rattle.arena.specs.declared.word.ScxWord.TheVariants.{State, AllFrozen, New, Member}
 use Rattle.arena.specs.ScxRecords.{member, plan, side_of, field, field_index}
-use Rattle.arena.specs.Words.{same_word, node, scx, info, marked, state, child}
+use Rattle.arena.specs.Words.{same_word, node, scx, info, marked, state, child, first_value}
 use Rattle.arena.specs.History.{History, ◌⊳◌, value, HasHeld, Extends}
 use Rattle.arena.specs.Fills.{IsOwnNode, IsOthersNode, IsInField, MayFill}
 use Rattle.arena.specs.Lawful.{Obeys, Lawful, HasWon}
@@ -52,11 +51,11 @@ pub spared_by_step : (r : Row) (s n : ℕ) → r.kind ≢ Fill → Spares r s n
 spared_by_step r s n no_fill = record { fields = λ m side k e. absurd (no_fill k); members = λ u j k e q. no_fill k; news = λ u k e d q. no_fill k }
 
 -- the fill of a value spares every node
-pub spared_by_value : (r : Row) (k s n : ℕ) → r.word ≡ node k (Settled Value) → Spares r s n
+pub spared_by_value : (r : Row) (k s n : ℕ) → r.word ≡ node k first_value → Spares r s n
 spared_by_value r k s n w = record {
-  fields = λ m side f e. absurd (let y : node k (Settled Value) ≡ child m side = sym w ∙ e in cc);
-  members = λ u j f e q. (let y : node k (Settled Value) ≡ scx u (Member j) = sym w ∙ e in cc);
-  news = λ u f e d q. (let y : node k (Settled Value) ≡ scx u New = sym w ∙ e in cc);
+  fields = λ m side f e. absurd (let y : node k first_value ≡ child m side = sym w ∙ e in cc);
+  members = λ u j f e q. (let y : node k first_value ≡ scx u (Member j) = sym w ∙ e in cc);
+  news = λ u f e d q. (let y : node k first_value ≡ scx u New = sym w ∙ e in cc);
 }
 
 abbrev scx_number : Word → ℕ

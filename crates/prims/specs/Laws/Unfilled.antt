@@ -6,12 +6,11 @@ use Rattle.arena.specs.declared.step.Row.{Row}
 use Rattle.arena.specs.declared.step.Kind.TheVariants.{Fill}
 use Rattle.arena.specs.declared.word.Side.{Side}
 use Rattle.arena.specs.declared.word.NodeWord.{NodeWord}
-use Rattle.arena.specs.declared.word.NodeWord.TheVariants.{Settled, Child, Info, Marked}
-use Rattle.arena.specs.declared.word.SettledPart.TheVariants.{Value}
+use Rattle.arena.specs.declared.word.NodeWord.TheVariants.{Child, Info, Marked}
 use Rattle.arena.specs.declared.word.ScxWord.{ScxWord}
 use Rattle.arena.specs.declared.word.ScxWord.TheVariants.{State, AllFrozen}
 use Rattle.arena.specs.ScxRecords.{member, side_of, plan, field, field_index}
-use Rattle.arena.specs.Words.{node, scx, info, marked, state, same_node_word}
+use Rattle.arena.specs.Words.{node, scx, info, marked, state, same_node_word, first_value}
 use Rattle.arena.specs.History.{History, ◌⊳◌, value}
 use Rattle.arena.specs.Fills.{IsOwnNode, IsOwnScx}
 use Rattle.arena.specs.Lawful.{Lawful}
@@ -73,15 +72,15 @@ node_unfilled lay h r n part l no_fill fill uncovered = go (change lay h r l)
     go (aborts u j k x) = value_apart r h (state u) (node n part) x.word refl
 
 -- so does its value stay
-value_unfilled : (lay : Layout) (h : History) (r : Row) (n : ℕ) → Lawful lay (r ⊳ h) → ((part : NodeWord) → ¬ FillsNode lay h r n part) → value (r ⊳ h) (node n (Settled Value)) ≡ value h (node n (Settled Value))
-value_unfilled lay h r n l no_fill = node_unfilled lay h r n (Settled Value) l no_fill tt (λ side e. let z : Settled Value ≡ Child side = e in cc)
+value_unfilled : (lay : Layout) (h : History) (r : Row) (n : ℕ) → Lawful lay (r ⊳ h) → ((part : NodeWord) → ¬ FillsNode lay h r n part) → value (r ⊳ h) (node n first_value) ≡ value h (node n first_value)
+value_unfilled lay h r n l no_fill = node_unfilled lay h r n first_value l no_fill tt (λ side e. let z : first_value ≡ Child side = e in cc)
 
 -- rows of other passes leave the settled words of a pass's own SCX-record
 pub own_words_unfilled : (lay : Layout) (h : History) (r : Row) (c s : ℕ) → Lawful lay (r ⊳ h) → r.pass.0 ≢ c → IsOwnScx lay c s → (a : ScxWord) → IsScxFill a → value (r ⊳ h) (scx s a) ≡ value h (scx s a)
 own_words_unfilled lay h r c s l other own = words_unfilled lay h r s l (λ part x. other (one_scx_owner lay r.pass.0 c s x.is_open.own own))
 
 -- rows of other passes leave the value of a pass's own node
-pub own_value_unfilled : (lay : Layout) (h : History) (r : Row) (c n : ℕ) → Lawful lay (r ⊳ h) → r.pass.0 ≢ c → IsOwnNode lay c n → value (r ⊳ h) (node n (Settled Value)) ≡ value h (node n (Settled Value))
+pub own_value_unfilled : (lay : Layout) (h : History) (r : Row) (c n : ℕ) → Lawful lay (r ⊳ h) → r.pass.0 ≢ c → IsOwnNode lay c n → value (r ⊳ h) (node n first_value) ≡ value h (node n first_value)
 own_value_unfilled lay h r c n l other own = value_unfilled lay h r n l (λ part x. other (one_node_owner lay r.pass.0 c n x.is_open.own own))
 
 -- a row that is no fill leaves the settled words of every SCX-record
@@ -89,5 +88,5 @@ pub step_words : (lay : Layout) (h : History) (r : Row) (s : ℕ) → Lawful lay
 step_words lay h r s l no_fill = words_unfilled lay h r s l (λ part x. no_fill x.kind)
 
 -- a row that is no fill leaves the value of every node
-pub step_value : (lay : Layout) (h : History) (r : Row) (n : ℕ) → Lawful lay (r ⊳ h) → r.kind ≢ Fill → value (r ⊳ h) (node n (Settled Value)) ≡ value h (node n (Settled Value))
+pub step_value : (lay : Layout) (h : History) (r : Row) (n : ℕ) → Lawful lay (r ⊳ h) → r.kind ≢ Fill → value (r ⊳ h) (node n first_value) ≡ value h (node n first_value)
 step_value lay h r n l no_fill = value_unfilled lay h r n l (λ part x. no_fill x.kind)

@@ -5,10 +5,8 @@ use Rattle.arena.specs.declared.step.Row.{Row}
 use Rattle.arena.specs.declared.step.Step.{Step}
 use Rattle.arena.specs.declared.step.Access.TheVariants.{Store}
 use Rattle.arena.specs.declared.step.Kind.TheVariants.{Fill}
-use Rattle.arena.specs.declared.word.NodeWord.TheVariants.{Settled}
-use Rattle.arena.specs.declared.word.SettledPart.TheVariants.{Value}
 use Rattle.arena.specs.declared.word.Side.{Side}
-use Rattle.arena.specs.Words.{node, child}
+use Rattle.arena.specs.Words.{node, child, first_value}
 use Rattle.arena.specs.History.{History, ◌⊳◌, value}
 use Rattle.arena.specs.Fills.{IsOwnNode, IsTakenNode, IsTakenScx, IsFillOfNode}
 use Rattle.arena.specs.Machines.{Call}
@@ -36,14 +34,14 @@ pub record PutHand (allows : Layout → History → ℕ → Type 0) (lay : Layou
 
 -- the fill of the fresh node's value
 abbrev pub put_step : PutRun → Step
-put_step m = record { kind = Fill; word = node m.scx.update.fresh.0 (Settled Value); access = Store m.value }
+put_step m = record { kind = Fill; word = node m.scx.update.fresh.0 first_value; access = Store m.value }
 
 -- the fresh node n is of the pass's share and taken, has its value, and but for that was blank
 -- since the call's begin as long as no update of s had won
 pub record HasValue (c : Call) (h : History) (s n v : ℕ) : Type 0 where
   pub own : IsOwnNode c.layout c.pass n
   pub taken : IsTakenNode h n
-  pub value : value h (node n (Settled Value)) ≡ v
+  pub value : value h (node n first_value) ≡ v
   pub blank : WasBlank c.start h s n
 
 -- what holds while the run waits for this step at this place
@@ -82,7 +80,7 @@ PutIsReady allows m c h (Some v) = PutIsToldAt allows c h m m.at v
 pub record IsPut (c : Call) (h : History) (m : PutRun) : Type 0 where
   pub done : IsDone c h m.scx
   pub empty : (side : Side) → value done.entry.before (child m.scx.update.fresh.0 side) ≡ 0
-  pub value : value done.entry.before (node m.scx.update.fresh.0 (Settled Value)) ≡ m.value
+  pub value : value done.entry.before (node m.scx.update.fresh.0 first_value) ≡ m.value
 
 -- what the answer says of the SCX: its update is in the log, with the node as filled, or it is lost
 abbrev pub PutEnds : PutRun → Call → History → Answer → Type 0

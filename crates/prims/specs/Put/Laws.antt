@@ -3,12 +3,11 @@ use Rattle.std.proofs.Common.{◌≡◌, ◌≢◌, ℕ, Some, inl, inr, refl, �
 use Rattle.arena.specs.declared.layout.Layout.{Layout}
 use Rattle.arena.specs.declared.step.Row.{Row}
 use Rattle.arena.specs.declared.step.Step.{Step}
-use Rattle.arena.specs.declared.word.NodeWord.TheVariants.{Settled, Child, Info}
-use Rattle.arena.specs.declared.word.SettledPart.TheVariants.{Value}
+use Rattle.arena.specs.declared.word.NodeWord.TheVariants.{Child, Info}
 use Rattle.arena.specs.declared.word.Side.{Side}
 use Rattle.arena.specs.declared.word.ScxWord.{ScxWord}
 use Rattle.arena.specs.declared.word.ScxWord.TheVariants.{State, New}
-use Rattle.arena.specs.Words.{node, scx, info, child}
+use Rattle.arena.specs.Words.{node, scx, info, child, first_value}
 use Rattle.arena.specs.History.{History, ◌⊳◌, value}
 use Rattle.arena.specs.Lawful.{Lawful}
 use Rattle.arena.specs.Machines.{IsRun, Call, row_of, IsTold}
@@ -30,7 +29,7 @@ use Rattle.prims.specs.declared.put.PutRun.{PutRun}
 use Rattle.prims.specs.declared.put.PutAt.{PutAt}
 use Rattle.prims.specs.declared.put.PutAt.TheVariants.{Start, Fill as AtFill, Scx}
 
-value_more : (c : Call) (h : History) (r : Row) (s n v : ℕ) → Lawful c.layout (r ⊳ h) → value (r ⊳ h) (node n (Settled Value)) ≡ value h (node n (Settled Value)) → (IsBlank h s n → Spares r s n) → HasValue c h s n v → HasValue c (r ⊳ h) s n v
+value_more : (c : Call) (h : History) (r : Row) (s n v : ℕ) → Lawful c.layout (r ⊳ h) → value (r ⊳ h) (node n first_value) ≡ value h (node n first_value) → (IsBlank h s n → Spares r s n) → HasValue c h s n v → HasValue c (r ⊳ h) s n v
 value_more c h r s n v l e f x = record { own = x.own; taken = taken_node_more r h n x.taken; value = e ∙ x.value; blank = was_blank_more c.layout c.start h r s n l f x.blank }
 
 -- a row of another pass leaves the fresh node taken, with its value, and otherwise blank
@@ -78,13 +77,13 @@ module _ (allows : Layout → History → ℕ → Type 0) (m : PutRun) (c : Call
   r = row_of c (put_step m) h
 
   same_info : (n : ℕ) → value (r ⊳ h) (info n) ≡ value h (info n)
-  same_info n = value_apart r h (node m.scx.update.fresh.0 (Settled Value)) (info n) refl (node_word_apart m.scx.update.fresh.0 n (Settled Value) Info refl)
+  same_info n = value_apart r h (node m.scx.update.fresh.0 first_value) (info n) refl (node_word_apart m.scx.update.fresh.0 n first_value Info refl)
 
   same_field : (n : ℕ) (side : Side) → value (r ⊳ h) (child n side) ≡ value h (child n side)
-  same_field n side = value_apart r h (node m.scx.update.fresh.0 (Settled Value)) (child n side) refl (node_word_apart m.scx.update.fresh.0 n (Settled Value) (Child side) refl)
+  same_field n side = value_apart r h (node m.scx.update.fresh.0 first_value) (child n side) refl (node_word_apart m.scx.update.fresh.0 n first_value (Child side) refl)
 
   same_part : (u : ℕ) (part : ScxWord) → value (r ⊳ h) (scx u part) ≡ value h (scx u part)
-  same_part u part = value_apart r h (node m.scx.update.fresh.0 (Settled Value)) (scx u part) refl refl
+  same_part u part = value_apart r h (node m.scx.update.fresh.0 first_value) (scx u part) refl refl
 
   hand_put : Lawful c.layout (r ⊳ h) → PutHand allows c.layout c.pass h m.scx → InHand allows c.layout c.pass (r ⊳ h) (job_of m.scx)
   hand_put l y = record {
@@ -96,7 +95,7 @@ module _ (allows : Layout → History → ℕ → Type 0) (m : PutRun) (c : Call
     unnamed = λ p. y.hand.unnamed (named_before c.layout r h same_info same_field (λ u part q. same_part u part) p);
     in_no_field = λ n side p. y.hand.in_no_field n side (held_back r h (child n side) m.scx.update.fresh.0 (same_field n side) p);
     in_no_other = λ u d p. y.hand.in_no_other u d (held_back r h (scx u New) m.scx.update.fresh.0 (same_part u New) p);
-    allowed = λ d z. y.allowed h r d (later_self c.pass m.scx.scx.0 h) (Settled Value, refl, refl) z;
+    allowed = λ d z. y.allowed h r d (later_self c.pass m.scx.scx.0 h) (first_value, refl, refl) z;
   }
 
 made_at : (allows : Layout → History → ℕ → Type 0) (m : PutRun) (c : Call) (h : History) (at : PutAt) (s : Step) (v : ℕ) → IsRun allows c.layout (row_of c s h ⊳ h) → IsTold s.access (value h s.word) v → PutWaitsAt allows c h m at s → PutIsToldAt allows c (row_of c s h ⊳ h) m at v
@@ -105,10 +104,10 @@ made_at allows m c h Scx s v run t w = (value_more c h (row_of c s h) m.scx.scx.
 made_at allows m c h AtFill s v run t w =
     let l : Lawful c.layout (row_of c (put_step m) h ⊳ h) = rw w.2 at run.lawful in
     rw w.2 (
-      record { own = w.0.hand.fresh; taken = fill_takes_node (row_of c (put_step m) h) h m.scx.update.fresh.0 (Settled Value) refl refl; value = value_at (row_of c (put_step m) h) h (node m.scx.update.fresh.0 (Settled Value)) refl; blank = was_blank_more c.layout c.start h (row_of c (put_step m) h) m.scx.scx.0 m.scx.update.fresh.0 l (λ x. spared_by_value (row_of c (put_step m) h) m.scx.update.fresh.0 m.scx.scx.0 m.scx.update.fresh.0 refl) w.3 },
+      record { own = w.0.hand.fresh; taken = fill_takes_node (row_of c (put_step m) h) h m.scx.update.fresh.0 first_value refl refl; value = value_at (row_of c (put_step m) h) h (node m.scx.update.fresh.0 first_value) refl; blank = was_blank_more c.layout c.start h (row_of c (put_step m) h) m.scx.scx.0 m.scx.update.fresh.0 l (λ x. spared_by_value (row_of c (put_step m) h) m.scx.update.fresh.0 m.scx.scx.0 m.scx.update.fresh.0 refl) w.3 },
       w.0.start,
       hand_put allows m c h l w.0,
-      way_more c h (row_of c (put_step m) h) m.scx.scx.0 m.scx.update.snaps (takes_by_node c.layout c.pass m.scx.scx.0 h (row_of c (put_step m) h) m.scx.update.fresh.0 (Settled Value) refl) w.1,
+      way_more c h (row_of c (put_step m) h) m.scx.scx.0 m.scx.update.snaps (takes_by_node c.layout c.pass m.scx.scx.0 h (row_of c (put_step m) h) m.scx.update.fresh.0 first_value refl) w.1,
     )
 
 -- once the step is made, the run may be called with what it told

@@ -6,12 +6,10 @@ use Rattle.arena.specs.declared.step.Step.{Step}
 use Rattle.arena.specs.declared.word.Side.{Side}
 use Rattle.arena.specs.declared.word.Word.{Word}
 use Rattle.arena.specs.declared.word.Word.TheVariants.{Node, Scx}
-use Rattle.arena.specs.declared.word.NodeWord.TheVariants.{Settled}
-use Rattle.arena.specs.declared.word.SettledPart.TheVariants.{Value}
 use Rattle.arena.specs.declared.word.ScxWord.{ScxWord}
 use Rattle.arena.specs.declared.word.ScxWord.TheVariants.{State, Plan, New, Member}
 use Rattle.arena.specs.MemberIndex.{member_index}
-use Rattle.arena.specs.Words.{same_word, node, scx, info, state, child}
+use Rattle.arena.specs.Words.{same_word, node, scx, info, state, child, first_value}
 use Rattle.arena.specs.History.{History, ◌⊳◌, value}
 use Rattle.arena.specs.Fills.{IsNamed, IsNamedScx}
 use Rattle.arena.specs.Lawful.{Lawful}
@@ -105,10 +103,10 @@ scx_made allows m c h s v run t w = made_at allows (job_of m) c h m.at s v run t
 
 -- its steps leave the value of every node, place by place
 
-fill_value : (allows : Layout → History → ℕ → Type 0) (m : Job) (c : Call) (h : History) (at : ScxAt) (s : Step) (n : ℕ) → FillWaits allows c h m at s → value (row_of c s h ⊳ h) (node n (Settled Value)) ≡ value h (node n (Settled Value))
-fill_value allows m c h at s n w = rw w.asked (value_apart (row_of c (fill_step m (part_at at)) h) h (scx m.scx.0 (part_at at)) (node n (Settled Value)) refl refl)
+fill_value : (allows : Layout → History → ℕ → Type 0) (m : Job) (c : Call) (h : History) (at : ScxAt) (s : Step) (n : ℕ) → FillWaits allows c h m at s → value (row_of c s h ⊳ h) (node n first_value) ≡ value h (node n first_value)
+fill_value allows m c h at s n w = rw w.asked (value_apart (row_of c (fill_step m (part_at at)) h) h (scx m.scx.0 (part_at at)) (node n first_value) refl refl)
 
-value_at_place : (allows : Layout → History → ℕ → Type 0) (m : Job) (c : Call) (h : History) (at : ScxAt) (s : Step) (n : ℕ) → Lawful c.layout (row_of c s h ⊳ h) → ScxWaitsAt allows c h m at s → value (row_of c s h ⊳ h) (node n (Settled Value)) ≡ value h (node n (Settled Value))
+value_at_place : (allows : Layout → History → ℕ → Type 0) (m : Job) (c : Call) (h : History) (at : ScxAt) (s : Step) (n : ℕ) → Lawful c.layout (row_of c s h ⊳ h) → ScxWaitsAt allows c h m at s → value (row_of c s h ⊳ h) (node n first_value) ≡ value h (node n first_value)
 value_at_place allows m c h Start s n l w = absurd w
 value_at_place allows m c h (Help help) s n l w = step_value c.layout h (row_of c s h) n l (help_fills_not allows help c h s w.0)
 value_at_place allows m c h AtPlan s n l w = fill_value allows m c h AtPlan s n w
@@ -119,7 +117,7 @@ value_at_place allows m c h (AtSeen j) s n l w = fill_value allows m c h (AtSeen
 value_at_place allows m c h AtCall s n l w = fill_value allows m c h AtCall s n w
 
 -- the step that a run of SCX waits for leaves the value of every node
-pub scx_value : (allows : Layout → History → ℕ → Type 0) (m : ScxRun) (c : Call) (h : History) (s : Step) (n : ℕ) → Lawful c.layout (row_of c s h ⊳ h) → ScxWaits allows m c h s → value (row_of c s h ⊳ h) (node n (Settled Value)) ≡ value h (node n (Settled Value))
+pub scx_value : (allows : Layout → History → ℕ → Type 0) (m : ScxRun) (c : Call) (h : History) (s : Step) (n : ℕ) → Lawful c.layout (row_of c s h ⊳ h) → ScxWaits allows m c h s → value (row_of c s h ⊳ h) (node n first_value) ≡ value h (node n first_value)
 scx_value allows m c h s n l w = value_at_place allows (job_of m) c h m.at s n l w
 
 -- its steps leave its fresh node blank, place by place
