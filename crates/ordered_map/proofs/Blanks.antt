@@ -4,11 +4,10 @@ use Rattle.arena.specs.declared.limits.Mode.TheVariants.{Tree as TreeMode}
 use Rattle.arena.specs.declared.word.Side.{Side}
 use Rattle.arena.specs.declared.word.Side.TheVariants.{Left, Right}
 use Rattle.arena.specs.declared.word.NodeWord.TheVariants.{Settled, Child}
-use Rattle.arena.specs.declared.word.SettledPart.TheVariants.{Key}
 use Rattle.arena.specs.declared.word.Word.{Word}
 use Rattle.arena.specs.declared.layout.Layout.{Layout}
 use Rattle.arena.specs.declared.step.Row.{Row}
-use Rattle.arena.specs.Words.{node, child}
+use Rattle.arena.specs.Words.{node, child, first_key}
 use Rattle.arena.specs.History.{History, Start, ◌⊳◌, value}
 use Rattle.arena.specs.ScxRecords.{count_of, plan_finalizes, field_index_of, count, field_index, member, new, side_of, plan, scx_finalizes}
 use Rattle.arena.specs.Fills.{IsNamed}
@@ -29,7 +28,7 @@ use Rattle.ordered_map.proofs.Stood.{facts_then, tree_then, PutThere, of_all_sto
 -- The edits
 
 settled_blank : (b f : Word → ℕ) (n : ℕ) → SameSettled b f n → IsBlankAboveKeys b n → IsBlankAboveKeys f n
-settled_blank b f n e x d = e (Settled Key) tt ∙ x (λ q. d (settled_class b f n e ∙ q))
+settled_blank b f n e x d = e first_key tt ∙ x (λ q. d (settled_class b f n e ∙ q))
 
 back : (b f : Word → ℕ) (n : ℕ) → SameSettled b f n → SameSettled f b n
 back b f n e a i = sym (e a i)

@@ -6,6 +6,7 @@ use Rattle.arena.specs.declared.word.Side.{Side}
 use Rattle.arena.specs.declared.word.Side.TheVariants.{Left, Right}
 use Rattle.arena.specs.declared.word.NodeWord.TheVariants.{Settled, Child}
 use Rattle.arena.specs.declared.word.SettledPart.TheVariants.{Head, Key}
+use Rattle.arena.specs.declared.word.Slot.TheVariants.{First}
 use Rattle.arena.specs.declared.word.ScxWord.TheVariants.{New}
 use Rattle.arena.specs.declared.word.Word.{Word}
 use Rattle.arena.specs.declared.layout.Layout.{Layout}
@@ -556,7 +557,7 @@ module _ (calls : ℕ → MapEdit) (lay : Layout) (h : History) (r : Row) (u : �
       fork = ap (λ v. eqb (v / 4 % 2) 1) (a.settled spot_of Head) ∙ settled_leaf (value past.before) (value h) spot_of (member_card 0) ∙ past.allowed.fork
 
       same_rank_now : rank (value (r ⊳ h)) spot_of ≡ rank (value h) spot_of
-      same_rank_now = λ i. a.settled spot_of Head i % 4 * 2 ^ 64 + a.settled spot_of Key i
+      same_rank_now = λ i. a.settled spot_of Head i % 4 * 2 ^ 64 + a.settled spot_of (Key First) i
 
       child_is : value (r ⊳ h) (child spot_of (toward (value (r ⊳ h)) spot_of (edit_key called))) ≡ new h u
       child_is =

@@ -3,10 +3,9 @@ use Rattle.std.proofs.Common.{◌≡◌, ◌≢◌, ℕ, ◌^◌, ◌<◌, ◌�
 use native.Mathlib.Decide.{ℕ_discrete}
 use Rattle.arena.specs.declared.layout.Layout.{Layout}
 use Rattle.arena.specs.declared.word.Side.TheVariants.{Left}
-use Rattle.arena.specs.declared.word.NodeWord.TheVariants.{Settled, Child}
-use Rattle.arena.specs.declared.word.SettledPart.TheVariants.{Key}
+use Rattle.arena.specs.declared.word.NodeWord.TheVariants.{Child}
 use Rattle.arena.specs.declared.word.Word.{Word}
-use Rattle.arena.specs.Words.{node, child}
+use Rattle.arena.specs.Words.{node, child, first_key}
 use Rattle.arena.specs.declared.step.Row.{Row}
 use Rattle.arena.specs.History.{History, ◌⊳◌, value}
 use Rattle.arena.specs.Lawful.{IsWin}
@@ -16,18 +15,18 @@ use Rattle.histories.proofs.Lemmas.{node_since, win_not_final}
 use Rattle.ordered_map.specs.declared.pair.Pair.{Pair}
 use Rattle.ordered_map.specs.OrderedMap.{MapEdit, pair, first_pair, AllBelow, IsRising}
 use Rattle.ordered_map.specs.Holding.{held_pairs, IsWellCounted}
-use Rattle.ordered_map.specs.Paths.{IsOnPath, Passed, WasOnPath, IsFirstAt}
+use Rattle.ordered_map.specs.Paths.{IsOnPath, Passed, WasInTree, WasOnPath, IsFirstAt}
 use Rattle.ordered_map.specs.Runs.{IsTreeRun, Makes}
 use Rattle.ordered_map.specs.Spelled.{Spells}
 use Rattle.ordered_map.specs.TreeWords.{Tree, Leaf, Fork, root, IsLeaf, Shows, Has, Passes, class, is_leaf, rank, toward, pairs, leaf_pairs, first_said}
 use Rattle.ordered_map.proofs.Trees.{open_between, shown_leaf, passes_has, has_root}
 use Rattle.ordered_map.specs.TreeShape.{edit_leaf}
-use Rattle.ordered_map.proofs.Holding.{SameSettled, same_leaf, low_items, rank_from, rank_below, held_first, low_pairs, high_pairs}
-use Rattle.ordered_map.proofs.Moved.{settled_rank, settled_leaf, settled_first}
+use Rattle.ordered_map.proofs.Holding.{SameSettled, counted_same, same_leaf, low_items, rank_from, rank_below, held_first, low_pairs, high_pairs}
+use Rattle.ordered_map.proofs.Moved.{settled_rank, settled_class, settled_leaf, settled_first}
 use Rattle.ordered_map.proofs.TreeFacts.{path_now, all_named}
 use Rattle.ordered_map.proofs.Past.{path_named, Latest, latest, path_level}
 use Rattle.ordered_map.proofs.Meanings.{edits_of, grown, run_spells, run_since, wins_of, leaf_covered}
-use Rattle.ordered_map.proofs.TreeRuns.{path_remains}
+use Rattle.ordered_map.proofs.TreeRuns.{path_remains, stood_settled}
 
 -- In a tree
 
@@ -113,7 +112,7 @@ pairs_first f t lo hi n s p d = go (ℕ_discrete (class f n) 0)
     go (yes low) =
         let x : (rest : List Pair) × (pairs f t ≡ leaf_pairs f n ++ rest) = leaf_first f t lo hi n s p d in
         let y = held_first f n in
-        let held : leaf_pairs f n ≡ pair (f (node n (Settled Key))) y.value ∷ y.rest = low_pairs f n low ∙ y.is in
+        let held : leaf_pairs f n ≡ pair (f (node n first_key)) y.value ∷ y.rest = low_pairs f n low ∙ y.is in
         ap first_pair (x.1 ∙ ap (λ ps. ps ++ x.0) held) ∙ sym (ap first_pair held)
 
 -- In a run
@@ -146,7 +145,7 @@ walk_shown lay h start k n g p leaf =
     (x.0, x.1, same_leaf (value p.0) (value h) n x.0 x.1 same x.2)
 
 -- so its key is below 2 ^ 64
-pub walk_small : (lay : Layout) (h start : History) (k n : ℕ) → IsTreeRun lay h → Passed h start k n → is_leaf (value h) n ≡ true → value h (node n (Settled Key)) < 2 ^ 64
+pub walk_small : (lay : Layout) (h start : History) (k n : ℕ) → IsTreeRun lay h → Passed h start k n → is_leaf (value h) n ≡ true → value h (node n first_key) < 2 ^ 64
 walk_small lay h start k n g p leaf = (walk_shown lay h start k n g p leaf).2.small
 
 -- and, if it is of class 0, the keys of all its pairs are, and rise; and they are as many as a leaf
@@ -156,6 +155,14 @@ walk_holds lay h start k n g p leaf low =
     let x = walk_shown lay h start k n g p leaf in
     let y = x.2.items in
     ((y.keys low).0, (y.keys low).1, subst IsRising (low_items (value h) n low) y.rising)
+
+-- so does each leaf of class 0 that was ever in the tree
+pub stood_counted : (lay : Layout) (h : History) (n : ℕ) → IsTreeRun lay h → WasInTree h n → is_leaf (value h) n ≡ true → class (value h) n ≡ 0 → IsWellCounted (value h) n
+stood_counted lay h n g x leaf low =
+    let then : WasInTree x.moment n = record { moment = x.moment; within = ends_self x.moment; tree = x.tree; is_tree = x.is_tree; has = x.has } in
+    let same : SameSettled (value x.moment) (value h) n = stood_settled lay h x.moment n g x.within then in
+    let shown = shown_leaf (value x.moment) x.tree _ _ n x.is_tree.shows x.has (sym (settled_leaf (value x.moment) (value h) n same) ∙ leaf) in
+    counted_same (value x.moment) (value h) n same (shown.2.items.keys (sym (settled_class (value x.moment) (value h) n same) ∙ low)).0
 
 -- a search for the least key goes left at each fork
 pub walk_left : (lay : Layout) (h start : History) (n : ℕ) → IsTreeRun lay h → Passed h start 0 n → is_leaf (value h) n ≡ false → toward (value h) n 0 ≡ Left

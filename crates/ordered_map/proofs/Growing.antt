@@ -9,10 +9,10 @@ use Rattle.arena.specs.declared.limits.Mode.TheVariants.{Tree as TreeMode}
 use Rattle.arena.specs.declared.word.Side.TheVariants.{Left, Right}
 use Rattle.arena.specs.declared.word.NodeWord.{NodeWord}
 use Rattle.arena.specs.declared.word.NodeWord.TheVariants.{Settled, Child}
-use Rattle.arena.specs.declared.word.SettledPart.TheVariants.{Head, Key}
+use Rattle.arena.specs.declared.word.SettledPart.TheVariants.{Head}
 use Rattle.arena.specs.declared.word.Word.{Word}
 use Rattle.arena.specs.declared.layout.Layout.{Layout}
-use Rattle.arena.specs.Words.{node, child}
+use Rattle.arena.specs.Words.{node, child, first_key}
 use Rattle.arena.specs.History.{History, Start, ◌⊳◌, value, Extends}
 use Rattle.arena.specs.ScxRecords.{field_index, member, plan, side_of}
 use Rattle.arena.specs.Fills.{opening_node}
@@ -117,7 +117,7 @@ opening_two : value (Start TreeMode) (node 2 (Settled Head)) ≡ 14
 unfolding value
 opening_two = refl
 
-zero_key : value (Start TreeMode) (node 2 (Settled Key)) ≡ 0
+zero_key : value (Start TreeMode) (node 2 first_key) ≡ 0
 unfolding value
 zero_key = refl
 
@@ -237,7 +237,7 @@ record LastLeaf (f : Word → ℕ) (t : Tree) : Type 0 where
   others : List ℕ
   node_no : ℕ
   leaves_are : leaf_nodes t ≡ others ++ node_no ∷ []
-  small : f (node node_no (Settled Key)) < 2 ^ 64
+  small : f (node node_no first_key) < 2 ^ 64
   keys : class f node_no ≡ 0 → AllBelow (2 ^ 64) (held_pairs f node_no)
 
 last_leaf : (f : Word → ℕ) (t : Tree) (lo hi : ℕ) → Shows f lo hi t → LastLeaf f t
@@ -279,8 +279,8 @@ spells calls lay h g = record {
     head_2 : (value h) (node 2 (Settled Head)) ≡ 14
     head_2 = opening_stays calls lay h 2 (Settled Head) g (omega arith) tt ∙ opening_two
 
-    key_2 : (value h) (node 2 (Settled Key)) ≡ 0
-    key_2 = opening_stays calls lay h 2 (Settled Key) g (omega arith) tt ∙ zero_key
+    key_2 : (value h) (node 2 first_key) ≡ 0
+    key_2 = opening_stays calls lay h 2 first_key g (omega arith) tt ∙ zero_key
 
     item_2 : leaf_items (value h) 2 ≡ pair (2 * 2 ^ 64) 0 ∷ []
     item_2 = high_items (value h) 2 (λ z. omega (arith, z, head_2)) ∙ (λ i. pair (head_2 i % 4 * 2 ^ 64 + key_2 i) 0 ∷ [])
@@ -305,7 +305,7 @@ spells calls lay h g = record {
     high_one : class (value h) end.node_no ≢ 0
     high_one z =
         let x = held_first (value h) end.node_no in
-        let first : Pair = pair (value h (node end.node_no (Settled Key))) x.value in
+        let first : Pair = pair (value h (node end.node_no first_key)) x.value in
         let e : items_of (value h) end.others ++ first ∷ x.rest ≡ map_of_log calls (log lay h) ++ pair (2 ^ 64) 0 ∷ [] = ap (λ ps. items_of (value h) end.others ++ ps) (sym (low_items (value h) end.node_no z ∙ x.is)) ∙ end_items in
         let l : last_key 0 (items_of (value h) end.others ++ first ∷ x.rest) < 2 ^ 64 = last_below 0 (2 ^ 64) (items_of (value h) end.others) first x.rest (subst (AllBelow (2 ^ 64)) x.is (end.keys z)) in
         let q : last_key 0 (items_of (value h) end.others ++ first ∷ x.rest) ≡ 2 ^ 64 = ap (last_key 0) e ∙ last_is 0 (map_of_log calls (log lay h)) (pair (2 ^ 64) 0) in

@@ -33,8 +33,8 @@ unfolding value
 opening_tree = record {
   shows = (
     record { fork = refl; left = refl; right = refl; low = omega arith; high = omega arith },
-    leaf_here (value (Start TreeMode)) 1 _ _ refl (omega arith) (omega arith) (omega arith),
-    leaf_here (value (Start TreeMode)) 2 _ _ refl (omega arith) (omega arith) (omega arith),
+    leaf_here (value (Start TreeMode)) 1 _ _ refl (λ z. absurd (cc)) (omega arith) (omega arith) (omega arith),
+    leaf_here (value (Start TreeMode)) 2 _ _ refl (λ z. absurd (cc)) (omega arith) (omega arith) (omega arith),
   );
   is = refl;
 }

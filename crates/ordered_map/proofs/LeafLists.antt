@@ -8,9 +8,10 @@ use Rattle.arena.specs.PlainWords.{Contents, word_at}
 use Rattle.arena.specs.declared.word.Word.{Word}
 use Rattle.ordered_map.specs.declared.pair.Pair.{Pair}
 use Rattle.ordered_map.specs.OrderedMap.{IsRising}
-use Rattle.ordered_map.specs.TreeWords.{class, leaf_pairs, Tree, Leaf, Fork, Shows, Has, pairs, leaf_nodes}
+use Rattle.ordered_map.specs.TreeWords.{class, rank, leaf_pairs, Tree, Leaf, Fork, Shows, Has, pairs, leaf_nodes}
+use Rattle.ordered_map.specs.Holding.{IsWellCounted}
 use Rattle.ordered_map.specs.Spelled.{IsTree, Spells}
-use Rattle.ordered_map.specs.Parts.{ShowLeaves, HasEnds, HoldPairs, AreInside, all_pairs}
+use Rattle.ordered_map.specs.Parts.{ShowLeaves, HasEnds, HoldPairs, AreInside, AreWellCounted, all_pairs}
 use Rattle.ordered_map.proofs.Trees.{items, same_tree}
 use Rattle.ordered_map.proofs.Growing.{low, low_rises, pairs_low, items_rise, front_same}
 
@@ -26,12 +27,20 @@ leaves_in (Fork n a b) = All-append (λ m. Has (Fork n a b) m) (leaf_nodes a) (l
 pub leaves_inside : (c : Contents) (ns : List ℕ) → ShowLeaves c ns → AreInside c ns
 leaves_inside c ns s = subst (AreInside c) s.leaves (All-weaker (λ n. Has s.tree n) (λ n. n < all_nodes c.layout) s.inside (leaf_nodes s.tree) (leaves_in s.tree))
 
+-- each leaf that a tree shows holds as many pairs as it may hold
+tree_counted : (f : Word → ℕ) (t : Tree) (lo hi : ℕ) → Shows f lo hi t → All (λ n. class f n ≡ 0 → IsWellCounted f n) (leaf_nodes t)
+tree_counted f (Leaf n) lo hi s = All-cons (λ m. class f m ≡ 0 → IsWellCounted f m) n [] (λ z. (s.items.keys z).0) (All-nil (λ m. class f m ≡ 0 → IsWellCounted f m))
+tree_counted f (Fork n a b) lo hi s = All-append (λ m. class f m ≡ 0 → IsWellCounted f m) (leaf_nodes a) (leaf_nodes b) (tree_counted f a lo (rank f n) s.1) (tree_counted f b (rank f n) hi s.2)
+
 front : (P : ℕ → Type 0) (xs ys : List ℕ) → All P (xs ++ ys) → All P xs
 front P [] ys a = All-nil P
 front P (x ∷ xs) ys a = All-cons P x xs (All-head P x (xs ++ ys) a) (front P xs ys (All-tail P x (xs ++ ys) a))
 
 pub others_inside : (c : Contents) (ns others : List ℕ) → AreInside c ns → HasEnds c ns others → AreInside c others
 others_inside c ns others a e = front (λ n. n < all_nodes c.layout) others (e.one ∷ 2 ∷ []) (subst (AreInside c) e.last a)
+
+pub others_counted : (c : Contents) (ns others : List ℕ) → ShowLeaves c ns → HasEnds c ns others → AreWellCounted c others
+others_counted c ns others s e = front (λ n. class (word_at c) n ≡ 0 → IsWellCounted (word_at c) n) others (e.one ∷ 2 ∷ []) (subst (AreWellCounted c) (s.leaves ∙ e.last) (tree_counted (word_at c) s.tree _ _ s.is_tree.shows))
 
 -- The two last
 

@@ -7,8 +7,9 @@ use Rattle.arena.specs.declared.word.Side.TheVariants.{Left, Right}
 use Rattle.arena.specs.declared.word.NodeWord.TheVariants.{Settled, Child}
 use Rattle.arena.specs.declared.word.SettledPart.{SettledPart}
 use Rattle.arena.specs.declared.word.SettledPart.TheVariants.{Head, Key}
+use Rattle.arena.specs.declared.word.Slot.TheVariants.{First}
 use Rattle.arena.specs.declared.word.Word.{Word}
-use Rattle.arena.specs.Words.{node, child}
+use Rattle.arena.specs.Words.{node, child, first_key, first_key}
 use Rattle.ordered_map.specs.declared.pair.Pair.{Pair}
 use Rattle.ordered_map.specs.OrderedMap.{pair, insert, MapEdit, Insert, Delete, edit_key, edited, delete, AllBelow, AllFrom, IsRising}
 use Rattle.ordered_map.specs.Holding.{held_pairs, IsWellCounted}
@@ -29,7 +30,7 @@ apart_settled f g p e n (Settled part) i = e.settled n part
 apart_settled f g p e n _ i = absurd i
 
 apart_rank : (f g : Word → ℕ) (p : ℕ) → Apart f g p → (n : ℕ) → rank g n ≡ rank f n
-apart_rank f g p e n = λ i. e.settled n Head i % 4 * 2 ^ 64 + e.settled n Key i
+apart_rank f g p e n = λ i. e.settled n Head i % 4 * 2 ^ 64 + e.settled n (Key First) i
 
 apart_leaf : (f g : Word → ℕ) (p : ℕ) → Apart f g p → (n : ℕ) → is_leaf g n ≡ is_leaf f n
 apart_leaf f g p e n = ap (λ v. eqb (v / 4 % 2) 1) (e.settled n Head)
@@ -159,9 +160,9 @@ module _ (f g : Word → ℕ) (p : ℕ) (e : Apart f g p) where
           let was : AllBelow (2 ^ 64) (leaf_items f n) = subst (AllBelow (2 ^ 64)) (sym (low_items f n low)) (had.keys low).1 in
           subst (AllBelow (2 ^ 64)) (low_items f y z) (below_right (2 ^ 64) (leaf_items f x) (leaf_items f y) (subst (AllBelow (2 ^ 64)) (sym all) (edited_below c (2 ^ 64) (leaf_items f n) was small)))
 
-      key_y : Dec (class f y ≡ 0) → f (node y (Settled Key)) < 2 ^ 64
+      key_y : Dec (class f y ≡ 0) → f (node y first_key) < 2 ^ 64
       key_y (yes z) = key_small f y (small_y z)
-      key_y (no z) = rw (s.last.key z) (subst (λ m. f (node m (Settled Key)) < 2 ^ 64) q t.small)
+      key_y (no z) = rw (s.last.key z) (subst (λ m. f (node m first_key) < 2 ^ 64) q t.small)
 
       last : IsLeaf f y (rank f new) hi
       last = record {
@@ -186,7 +187,7 @@ module _ (f g : Word → ℕ) (p : ℕ) (e : Apart f g p) where
       not_l m h (inr (inr i)) = ny (h ∙ i)
 
   -- a copy c of the root z of a subtree
-  copied : (z c : ℕ) → z ≢ c → (is_leaf f c ≡ false → p ≢ c) → f (node c (Settled Head)) ≡ f (node z (Settled Head)) → f (node c (Settled Key)) ≡ f (node z (Settled Key)) → (is_leaf f z ≡ true → class f z ≡ 0 → IsWellCounted f c × (held_pairs f c ≡ held_pairs f z)) → HasFieldsOf f c z
+  copied : (z c : ℕ) → z ≢ c → (is_leaf f c ≡ false → p ≢ c) → f (node c (Settled Head)) ≡ f (node z (Settled Head)) → f (node c first_key) ≡ f (node z first_key) → (is_leaf f z ≡ true → class f z ≡ 0 → IsWellCounted f c × (held_pairs f c ≡ held_pairs f z)) → HasFieldsOf f c z
       → (lo hi : ℕ) (a : Tree) → Shows f lo hi a → root a ≡ z → ¬ Has a p → Replaced f g (λ xs. xs) (λ n. z ≡ n) (λ n. n ≡ c) c lo hi a
   copied z c nc pc head key pairs below lo hi (Leaf n) t q d = record {
     tree = Leaf c;
@@ -211,8 +212,8 @@ module _ (f g : Word → ℕ) (p : ℕ) (e : Apart f g p) where
       class_c : class f c ≡ class f z
       class_c = ap (λ v. v % 4) head
 
-      small : f (node c (Settled Key)) < 2 ^ 64
-      small = let k : f (node c (Settled Key)) ≡ f (node n (Settled Key)) = key ∙ (λ i. f (node (sym q i) (Settled Key))) in rw k t.small
+      small : f (node c first_key) < 2 ^ 64
+      small = let k : f (node c first_key) ≡ f (node n first_key) = key ∙ (λ i. f (node (sym q i) first_key)) in rw k t.small
 
       rank_c : rank f c ≡ rank f n
       rank_c = (λ i. head i % 4 * 2 ^ 64 + key i) ∙ sym (ap (rank f) q)
@@ -318,7 +319,7 @@ module _ (f g : Word → ℕ) (p : ℕ) (e : Apart f g p) where
       rl : rank f l ≡ edit_key k
       rl =
           let x = held_first f l in
-          let y : edit_key k ≡ f (node l (Settled Key)) = emptied_key k (pair (f (node l (Settled Key))) x.value) x.rest (ap (edited k) (sym x.is) ∙ s.emptied) in
+          let y : edit_key k ≡ f (node l first_key) = emptied_key k (pair (f (node l first_key)) x.value) x.rest (ap (edited k) (sym x.is) ∙ s.emptied) in
           let z = s.low in
           omega (arith, y, z)
 

@@ -3,16 +3,16 @@ use Rattle.std.proofs.Common.{◌≡◌, ℕ, ◌+◌, ◌*◌, ◌/◌, ◌%◌
 use Rattle.arena.specs.declared.word.Side.{Side}
 use Rattle.arena.specs.declared.word.Side.TheVariants.{Left, Right}
 use Rattle.arena.specs.declared.word.NodeWord.TheVariants.{Settled}
-use Rattle.arena.specs.declared.word.SettledPart.TheVariants.{Head, Key}
+use Rattle.arena.specs.declared.word.SettledPart.TheVariants.{Head}
 use Rattle.arena.specs.declared.word.Word.{Word}
-use Rattle.arena.specs.Words.{child}
+use Rattle.arena.specs.Words.{child, first_key}
 use Rattle.ordered_map.specs.OrderedMap.{AllBelow, AllFrom, MapEdit, edited, first_pair, get}
 use Rattle.ordered_map.specs.TreeWords.{class, is_leaf, level, rank, toward, said, first_said, leaf_items}
 use Rattle.ordered_map.proofs.Holding.{SameSettled, held_same, counted_same, same_items, same_pairs}
 use Rattle.ordered_map.specs.Edits.{IsLowLeaf, IsLastLeaf, IsSwapBy, IsSplitBy, IsCopyOf, IsJoinBy, IsLeafEdit, IsAlike}
 
 pub settled_rank : (b f : Word → ℕ) (n : ℕ) → SameSettled b f n → rank f n ≡ rank b n
-settled_rank b f n e = λ i. e (Settled Head) tt i % 4 * 2 ^ 64 + e (Settled Key) tt i
+settled_rank b f n e = λ i. e (Settled Head) tt i % 4 * 2 ^ 64 + e first_key tt i
 
 pub settled_toward : (b f : Word → ℕ) (n k : ℕ) → SameSettled b f n → toward f n k ≡ toward b n k
 settled_toward b f n k e = ap (λ v. cond (ltb k v) Left Right) (settled_rank b f n e)
@@ -41,11 +41,11 @@ module _ (b f : Word → ℕ) where
     leaf = settled_leaf b f n e ∙ s.leaf;
     same_class = settled_class b f n e ∙ s.same_class ∙ sym (settled_class b f l el);
     counted = λ z. counted_same b f n e (s.counted (sym (settled_class b f n e) ∙ z));
-    key = λ d. e (Settled Key) tt ∙ s.key (λ z. d (settled_class b f n e ∙ z)) ∙ sym (el (Settled Key) tt);
+    key = λ d. e first_key tt ∙ s.key (λ z. d (settled_class b f n e ∙ z)) ∙ sym (el first_key tt);
   }
 
   move_alike : (n m : ℕ) → SameSettled b f n → SameSettled b f m → IsAlike b n m → IsAlike f n m
-  move_alike n m e d s = record { class = settled_class b f n e ∙ s.class ∙ sym (settled_class b f m d); key = e (Settled Key) tt ∙ s.key ∙ sym (d (Settled Key) tt) }
+  move_alike n m e d s = record { class = settled_class b f n e ∙ s.class ∙ sym (settled_class b f m d); key = e first_key tt ∙ s.key ∙ sym (d first_key tt) }
 
   move_swap_by : (e : MapEdit) (l c : ℕ) → SameSettled b f l → SameSettled b f c → IsSwapBy b e l c → IsSwapBy f e l c
   move_swap_by e l c el ec s = record {
@@ -81,7 +81,7 @@ module _ (b f : Word → ℕ) where
   move_copy : (z c : ℕ) → SameSettled b f z → SameSettled b f c → IsCopyOf b c z → IsCopyOf f c z
   move_copy z c ez ec s = record {
     same_head = ec (Settled Head) tt ∙ s.same_head ∙ sym (ez (Settled Head) tt);
-    same_key = ec (Settled Key) tt ∙ s.same_key ∙ sym (ez (Settled Key) tt);
+    same_key = ec first_key tt ∙ s.same_key ∙ sym (ez first_key tt);
     same_pairs = λ leaf low.
         let x = s.same_pairs (sym (settled_leaf b f z ez) ∙ leaf) (sym (settled_class b f z ez) ∙ low) in
         (counted_same b f c ec x.0, held_same b f c ec ∙ x.1 ∙ sym (held_same b f z ez));

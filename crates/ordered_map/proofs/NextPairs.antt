@@ -4,12 +4,11 @@ use Rattle.std.proofs.Common.{◌≡◌, ℕ, ◌^◌, ◌<◌, ◌≤◌, Bool,
 use Rattle.std.specs.Prelude.{Option, Some, None}
 use native.Mathlib.Decide.{ℕ_discrete}
 use Rattle.arena.specs.declared.layout.Layout.{Layout}
-use Rattle.arena.specs.declared.word.NodeWord.TheVariants.{Settled}
-use Rattle.arena.specs.declared.word.SettledPart.TheVariants.{Key}
 use Rattle.arena.specs.declared.word.Word.{Word}
-use Rattle.arena.specs.Words.{node}
+use Rattle.arena.specs.Words.{node, first_key}
 use Rattle.ordered_map.specs.declared.pair.Pair.{Pair}
 use Rattle.ordered_map.specs.OrderedMap.{pair, AllAbove, IsRising, first_pair, successor}
+use Rattle.ordered_map.specs.Holding.{IsWellCounted}
 use Rattle.ordered_map.specs.Spelled.{Spells}
 use Rattle.ordered_map.specs.TreeWords.{Leaf, IsLeaf, class, rank, leaf_pairs}
 use Rattle.ordered_map.proofs.Holding.{held_first, first_item, one_item, low_items, high_items, low_pairs, high_pairs}
@@ -68,7 +67,7 @@ leaf_tells f n lo hi s = go (ℕ_discrete (class f n) 0)
     go : Dec (class f n ≡ 0) → low_pair (first_of f (Leaf n)) ≡ first_pair (leaf_pairs f n)
     go (yes z) =
         let x = held_first f n in
-        ap (λ ps. low_pair (first_pair ps)) (low_items f n z ∙ x.is) ∙ pair_stays (pair (f (node n (Settled Key))) x.value) s.small ∙ sym (ap first_pair (low_pairs f n z ∙ x.is))
+        ap (λ ps. low_pair (first_pair ps)) (low_items f n z ∙ x.is) ∙ pair_stays (pair (f (node n first_key)) x.value) s.small ∙ sym (ap first_pair (low_pairs f n z ∙ x.is))
     go (no d) = ap (λ ps. low_pair (first_pair ps)) (high_items f n d) ∙ pair_goes (pair (rank f n) 0) (omega (arith, d)) ∙ sym (ap first_pair (high_pairs f n d))
 
 -- it ends at a leaf above k
@@ -79,8 +78,8 @@ search_here f k n d l =
     ap (λ o. or_else o d) (ap (successor k) x.is ∙ found) ∙ sym (ap first_pair x.is)
 
 -- and goes on behind one that is not: it has one item
-pub search_behind : (f : Word → ℕ) (k n : ℕ) (d : Option Pair) → rank f n ≤ k → search_items f k (Leaf n) d ≡ d
-search_behind f k n d l =
-    let x = one_item f n in
+pub search_behind : (f : Word → ℕ) (k n : ℕ) (d : Option Pair) → (class f n ≡ 0 → IsWellCounted f n) → rank f n ≤ k → search_items f k (Leaf n) d ≡ d
+search_behind f k n d counted l =
+    let x = one_item f n counted in
     let none : successor k (pair (rank f n) x.0 ∷ []) ≡ None = rw (le-ltb k (rank f n) l) refl in
     ap (λ o. or_else o d) (ap (successor k) x.1 ∙ none)

@@ -1,16 +1,17 @@
 -- Words are read part by part, and no tree is missed that they may show.
 use Rattle.std.proofs.Common.{◌≡◌, ◌≢◌, ℕ, suc, ◌+◌, ◌-◌, ◌*◌, ◌/◌, ◌%◌, ◌^◌, ◌<◌, ◌≤◌, true, false, inl, inr, List, [], ◌∷◌, ◌++◌, refl, sym, ◌∙◌, ap, arith, subst, append_assoc, append-nil, eq-eqb}
 use Rattle.arena.specs.Layout.{all_nodes}
-use Rattle.arena.specs.Words.{node, child}
+use Rattle.arena.specs.Words.{node, child, first_key}
 use Rattle.arena.specs.declared.word.NodeWord.TheVariants.{Settled}
-use Rattle.arena.specs.declared.word.SettledPart.TheVariants.{Head, Key}
+use Rattle.arena.specs.declared.word.SettledPart.TheVariants.{Head}
 use Rattle.arena.specs.declared.word.Side.TheVariants.{Left, Right}
 use Rattle.arena.specs.PlainWords.{Contents, word_at}
 use Rattle.ordered_map.specs.declared.part.Part.{Part}
 use Rattle.ordered_map.specs.declared.part.Seen.TheVariants.{Leaf as LeafSeen, Nothing}
-use Rattle.ordered_map.specs.TreeWords.{is_leaf, level, rank, Tree, Leaf, Fork, root, Shows, Has, leaf_nodes}
+use Rattle.ordered_map.specs.TreeWords.{class, level, rank, Tree, Leaf, Fork, root, Shows, Has, leaf_nodes}
+use Rattle.ordered_map.specs.Holding.{IsWellCounted}
 use Rattle.ordered_map.specs.Spelled.{IsTree}
-use Rattle.ordered_map.specs.Parts.{IsPart, IsFit, IsRoot, IsSplitInto, IsSeen, ShowLeaves, part_size}
+use Rattle.ordered_map.specs.Parts.{IsPart, IsFit, IsLeafRoot, IsRoot, IsSplitInto, IsSeen, ShowLeaves, part_size}
 use Rattle.ordered_map.proofs.Trees.{open_between, has_root}
 use Rattle.ordered_map.proofs.Holding.{leaf_here, rank_from, rank_below}
 
@@ -29,7 +30,7 @@ root_fits c p (Fork n a b) i =
     let y : rank (word_at c) n < p.high = open_between (word_at c) b (rank (word_at c) n) p.high i.shows.2 in
     (i.deep, rw (← i.is) (omega (arith, x)), rw (← i.is) y)
 
-pub no_tree : (c : Contents) (p : Part) (head key r : ℕ) → head ≡ word_at c (node p.node (Settled Head)) → key ≡ word_at c (node p.node (Settled Key)) → r ≡ head % 4 * 2 ^ 64 + key → (IsFit p (head / 8) r → ⊥) → (t : Tree) → IsPart c p t → ⊥
+pub no_tree : (c : Contents) (p : Part) (head key r : ℕ) → head ≡ word_at c (node p.node (Settled Head)) → key ≡ word_at c (node p.node first_key) → r ≡ head % 4 * 2 ^ 64 + key → (IsFit p (head / 8) r → ⊥) → (t : Tree) → IsPart c p t → ⊥
 no_tree c p head key r e d q none t i =
     let x : IsFit p (level (word_at c) p.node) (rank (word_at c) p.node) = root_fits c p t i in
     none (subst (λ v. p.level ≤ v / 8) (sym e) x.0, subst (λ v. p.low ≤ v) (sym is) x.1, subst (λ v. v < p.high) (sym is) x.2)
@@ -38,19 +39,29 @@ no_tree c p head key r e d q none t i =
     is = q ∙ (λ j. e j % 4 * 2 ^ 64 + d j)
 
 -- at a leaf
-pub seen_leaf : (c : Contents) (p : Part) → p.node < all_nodes c.layout → word_at c (node p.node (Settled Key)) < 2 ^ 64 → IsFit p (level (word_at c) p.node) (rank (word_at c) p.node) → is_leaf (word_at c) p.node ≡ true → IsSeen c p LeafSeen
-seen_leaf c p i small fits leaf = (
-  record { shows = leaf_here (word_at c) p.node p.low p.high leaf small fits.1 fits.2; is = refl; deep = fits.0; inside = λ n e. rw (← e) i },
+pub seen_leaf : (c : Contents) (p : Part) → IsLeafRoot c p → (class (word_at c) p.node ≡ 0 → IsWellCounted (word_at c) p.node) → IsSeen c p LeafSeen
+seen_leaf c p l counted = (
+  record { shows = leaf_here (word_at c) p.node p.low p.high l.leaf counted l.small l.fits.1 l.fits.2; is = refl; deep = l.fits.0; inside = λ n e. rw (← e) l.inside },
   only,
 )
   where
     only : (t : Tree) → IsPart c p t → t ≡ Leaf p.node
     only (Leaf n) x = ap Leaf x.is
-    only (Fork n a b) x = absurd (let y : true ≡ false = sym leaf ∙ rw (← x.is) x.shows.0.fork in cc)
+    only (Fork n a b) x = absurd (let y : true ≡ false = sym l.leaf ∙ rw (← x.is) x.shows.0.fork in cc)
 
--- the same, by the words of its root
-pub seen_at : (c : Contents) (p : Part) (head key r : ℕ) → p.node < all_nodes c.layout → head ≡ word_at c (node p.node (Settled Head)) → key ≡ word_at c (node p.node (Settled Key)) → key < 2 ^ 64 → r ≡ head % 4 * 2 ^ 64 + key → IsFit p (head / 8) r → head / 4 % 2 ≡ 1 → IsSeen c p LeafSeen
-seen_at c p head key r i e d small q fits leaf = seen_leaf c p i (subst (λ v. v < 2 ^ 64) d small) (subst (λ v. p.level ≤ v / 8) e fits.0, subst (λ v. p.low ≤ v) is fits.1, subst (λ v. v < p.high) is fits.2) (eq-eqb (word_at c (node p.node (Settled Head)) / 4 % 2) 1 (subst (λ v. v / 4 % 2 ≡ 1) e leaf))
+-- where it holds more or less than a leaf may hold, there is no tree
+pub no_leaf : (c : Contents) (p : Part) → IsLeafRoot c p → class (word_at c) p.node ≡ 0 → ¬ IsWellCounted (word_at c) p.node → (t : Tree) → IsPart c p t → ⊥
+no_leaf c p l low none (Leaf n) x = none (subst (IsWellCounted (word_at c)) x.is (x.shows.items.keys (rw x.is low)).0)
+no_leaf c p l low none (Fork n a b) x = absurd (let y : true ≡ false = sym l.leaf ∙ rw (← x.is) x.shows.0.fork in cc)
+
+-- the words of a root say that it is one
+pub leaf_root_at : (c : Contents) (p : Part) (head key r : ℕ) → p.node < all_nodes c.layout → head ≡ word_at c (node p.node (Settled Head)) → key ≡ word_at c (node p.node first_key) → key < 2 ^ 64 → r ≡ head % 4 * 2 ^ 64 + key → IsFit p (head / 8) r → head / 4 % 2 ≡ 1 → IsLeafRoot c p
+leaf_root_at c p head key r i e d small q fits leaf = record {
+  inside = i;
+  leaf = eq-eqb (word_at c (node p.node (Settled Head)) / 4 % 2) 1 (subst (λ v. v / 4 % 2 ≡ 1) e leaf);
+  small = subst (λ v. v < 2 ^ 64) d small;
+  fits = (subst (λ v. p.level ≤ v / 8) e fits.0, subst (λ v. p.low ≤ v) is fits.1, subst (λ v. v < p.high) is fits.2);
+}
   where
     is : r ≡ rank (word_at c) p.node
     is = q ∙ (λ j. e j % 4 * 2 ^ 64 + d j)

@@ -4,9 +4,9 @@ use Rattle.arena.specs.declared.word.Side.{Side}
 use Rattle.arena.specs.declared.word.Side.TheVariants.{Left, Right}
 use Rattle.arena.specs.declared.word.NodeWord.{NodeWord}
 use Rattle.arena.specs.declared.word.NodeWord.TheVariants.{Settled, Child}
-use Rattle.arena.specs.declared.word.SettledPart.TheVariants.{Head, Key}
+use Rattle.arena.specs.declared.word.SettledPart.TheVariants.{Head}
 use Rattle.arena.specs.declared.word.Word.{Word}
-use Rattle.arena.specs.Words.{node, child, same_word}
+use Rattle.arena.specs.Words.{node, child, same_word, first_key}
 use Rattle.arena.proofs.Lemmas.{node_word_apart, node_apart}
 use Rattle.histories.proofs.Lemmas.{IsNodeFill}
 use Rattle.ordered_map.specs.declared.pair.Pair.{Pair}
@@ -116,7 +116,7 @@ abbrev pub Same : (Word → ℕ) → (Word → ℕ) → ℕ → Type 0
 Same f g n = (a : NodeWord) → IsNodeFill a → g (node n a) ≡ f (node n a)
 
 pub same_rank : (f g : Word → ℕ) (n : ℕ) → Same f g n → rank g n ≡ rank f n
-same_rank f g n e = λ i. e (Settled Head) tt i % 4 * 2 ^ 64 + e (Settled Key) tt i
+same_rank f g n e = λ i. e (Settled Head) tt i % 4 * 2 ^ 64 + e first_key tt i
 
 pub settled_same : (f g : Word → ℕ) (n : ℕ) → Same f g n → SameSettled f g n
 settled_same f g n e (Settled part) i = e (Settled part) tt
@@ -289,7 +289,7 @@ module _ (f g : Word → ℕ) (k p old new : ℕ) (change : List Pair → List P
 
   rank_stays : (n : ℕ) → rank g n ≡ rank f n
   rank_stays n =
-      let e : g (node n (Settled Key)) ≡ f (node n (Settled Key)) = stays (node n (Settled Key)) (node_word_apart p n (Child (toward f p k)) (Settled Key) refl) in
+      let e : g (node n first_key) ≡ f (node n first_key) = stays (node n first_key) (node_word_apart p n (Child (toward f p k)) first_key refl) in
       λ i. head_stays n i % 4 * 2 ^ 64 + e i
 
   rank_moves : (n : ℕ) (P : ℕ → Type 0) → P (rank f n) → P (rank g n)

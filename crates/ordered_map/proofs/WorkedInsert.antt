@@ -11,12 +11,12 @@ use Rattle.arena.specs.declared.word.Side.{Side}
 use Rattle.arena.specs.declared.word.Side.TheVariants.{Left, Right}
 use Rattle.arena.specs.declared.word.NodeWord.{NodeWord}
 use Rattle.arena.specs.declared.word.NodeWord.TheVariants.{Settled, Child, Info, Marked}
-use Rattle.arena.specs.declared.word.SettledPart.TheVariants.{Head, Key, Value}
+use Rattle.arena.specs.declared.word.SettledPart.TheVariants.{Head}
 use Rattle.arena.specs.declared.word.ScxWord.{ScxWord}
 use Rattle.arena.specs.declared.word.ScxWord.TheVariants.{AllFrozen, Plan, New, Old, Member}
 use Rattle.arena.specs.declared.word.Word.{Word}
 use Rattle.arena.specs.declared.word.Word.TheVariants.{Node, Scx}
-use Rattle.arena.specs.Words.{node, scx, info, marked, child, same_word, same_node_word}
+use Rattle.arena.specs.Words.{node, scx, info, marked, child, same_word, same_node_word, first_key, first_value}
 use Rattle.arena.specs.History.{History, Start, ◌⊳◌, value, HasHeld, Extends}
 use Rattle.arena.specs.Fills.{IsOthersNode, IsTakenNode, IsOpenNode, IsOpenScx, IsNamed, opening_node, by_field, by_scx, IsNamedScx, NamesNode}
 use Rattle.arena.specs.Lawful.{Lawful, MayBegin}
@@ -32,13 +32,14 @@ use Rattle.ordered_map.specs.TreeWords.{Leaf, Fork, is_leaf, class, Has}
 use Rattle.ordered_map.specs.TreeShape.{MayEdit, TreeAllows}
 use Rattle.ordered_map.specs.Spelled.{Spells}
 use Rattle.ordered_map.specs.Runs.{IsTreeRun}
+use Rattle.ordered_map.specs.Holding.{IsWellCounted}
 use Rattle.ordered_map.proofs.Holding.{counted_one, held_one, leaf_here}
 use Rattle.ordered_map.proofs.Grown.{opening_tree}
 use Rattle.ordered_map.proofs.Maps.{put_before}
 
 -- one pass that owns nodes 3 to 5 and SCX-record 1
 abbrev lay : Layout
-lay = record { mode = TreeMode; passes = 1; nodes = 3; scx = 1; node_words = 42; passes_fit = lit≤ tt; nodes_fit = lit≤ tt; scx_fit = lit≤ tt; counted = refl }
+lay = record { mode = TreeMode; passes = 1; nodes = 3; scx = 1; node_words = 108; passes_fit = lit≤ tt; nodes_fit = lit≤ tt; scx_fit = lit≤ tt; counted = refl }
 
 -- the row of a step that leaves this in its word
 abbrev row : Kind → Word → ℕ → History → Row
@@ -55,7 +56,7 @@ filled (f ∷ fs) = row Fill f.0 f.1 (filled fs) ⊳ filled fs
 
 -- the fork 3 over a fresh leaf and a copy of leaf 1, and an SCX-record over the root and leaf 1
 abbrev nodes : List Filled
-nodes = (node 5 (Settled Head), 21) ∷ (node 4 (Settled Value), 70) ∷ (node 4 (Settled Key), 7) ∷ (node 4 (Settled Head), 20) ∷ (child 3 Right, 5) ∷ (child 3 Left, 4) ∷ (node 3 (Settled Head), 9) ∷ []
+nodes = (node 5 (Settled Head), 21) ∷ (node 4 first_value, 70) ∷ (node 4 first_key, 7) ∷ (node 4 (Settled Head), 20) ∷ (child 3 Right, 5) ∷ (child 3 Left, 4) ∷ (node 3 (Settled Head), 9) ∷ []
 
 abbrev fills : List Filled
 fills = (scx 1 (Member 1), 1) ∷ (scx 1 Old, 1) ∷ (scx 1 New, 3) ∷ (scx 1 Plan, 18) ∷ nodes
@@ -222,8 +223,8 @@ three_filled =
 nodes_filled : AreLawful nodes
 nodes_filled =
     fill_node 5 (Settled Head) 21 _ tt (lit≤ tt) (lit< tt) (λ m i j. ⊎_elim (λ e. inr (inr (inr (inl e)))) inl (is_three_or_four m i j))
-    (fill_node 4 (Settled Value) 70 _ tt (lit≤ tt) (lit< tt) (λ m i j. inr (inr (inl (is_three m i j))))
-    (fill_node 4 (Settled Key) 7 _ tt (lit≤ tt) (lit< tt) (λ m i j. inr (inl (is_three m i j)))
+    (fill_node 4 first_value 70 _ tt (lit≤ tt) (lit< tt) (λ m i j. inr (inr (inl (is_three m i j))))
+    (fill_node 4 first_key 7 _ tt (lit≤ tt) (lit< tt) (λ m i j. inr (inl (is_three m i j)))
     (fill_node 4 (Settled Head) 20 _ tt (lit≤ tt) (lit< tt) (λ m i j. inl (is_three m i j)) three_filled)))
 
 all_filled : AreLawful fills
@@ -247,6 +248,11 @@ start_in (f ∷ fs) = inr (start_in fs)
 fresh_leaf : (n : ℕ) → 3 ≤ n → ¬ IsNamed lay (filled fills) n
 fresh_leaf n i p = let x : n < 3 = named_low fills n all_filled.fresh p in omega (arith, i, x)
 
+-- its count, and the high halves, which are not filled, are 0
+first_counted : IsWellCounted (value (filled fills)) 4
+unfolding value
+first_counted = counted_one (value (filled fills)) 4 (refl, refl, refl, refl, refl)
+
 may_edit : MayEdit lay (filled fills) 1 (Insert 7 70)
 unfolding value
 may_edit = record {
@@ -264,11 +270,11 @@ may_edit = record {
         fork = refl;
         left = refl;
         right = refl;
-        first = record { leaf = refl; class = refl; counted = counted_one (value (filled fills)) 4 };
-        small = subst (AllBelow (2 ^ 64)) (sym (held_one (value (filled fills)) 4)) (lit< tt, tt);
-        last = record { leaf = refl; same_class = refl; counted = λ _. counted_one (value (filled fills)) 5; key = λ _. refl };
-        items = (λ i. held_one (value (filled fills)) 4 i ++ pair (2 ^ 64) 0 ∷ []) ∙ sym (put_before 7 70 (2 ^ 64) 0 (lit< tt));
-        before = subst (AllBelow (2 ^ 64)) (sym (held_one (value (filled fills)) 4)) (lit< tt, tt);
+        first = record { leaf = refl; class = refl; counted = first_counted };
+        small = subst (AllBelow (2 ^ 64)) (sym (held_one (value (filled fills)) 4 first_counted)) (lit< tt, tt);
+        last = record { leaf = refl; same_class = refl; counted = λ z. absurd (let y : 1 ≡ 0 = z in cc); key = λ _. refl };
+        items = (λ i. held_one (value (filled fills)) 4 first_counted i ++ pair (2 ^ 64) 0 ∷ []) ∙ sym (put_before 7 70 (2 ^ 64) 0 (lit< tt));
+        before = subst (AllBelow (2 ^ 64)) (sym (held_one (value (filled fills)) 4 first_counted)) (lit< tt, tt);
         behind = (lit≤ tt, tt);
         above = λ _. record { class = refl; key = refl };
         deep = refl;
@@ -451,6 +457,10 @@ run_shaped = (
 tree_run : IsTreeRun lay done
 tree_run = (refl, record { lawful = run_lawful; shaped = run_shaped })
 
+first_counted_then : IsWellCounted (value done) 4
+unfolding value
+first_counted_then = counted_one (value done) 4 (refl, refl, refl, refl, refl)
+
 spells_one : Spells lay (value done) (pair 7 70 ∷ [])
 unfolding value
 spells_one = record {
@@ -460,15 +470,15 @@ spells_one = record {
       record { fork = refl; left = refl; right = refl; low = lit< tt; high = lit< tt },
       (
         record { fork = refl; left = refl; right = refl; low = lit< tt; high = lit< tt },
-        leaf_here (value done) 4 _ _ refl (lit< tt) (lit≤ tt) (lit< tt),
-        leaf_here (value done) 5 _ _ refl (lit< tt) (lit≤ tt) (lit< tt),
+        leaf_here (value done) 4 _ _ refl (λ _. first_counted_then) (lit< tt) (lit≤ tt) (lit< tt),
+        leaf_here (value done) 5 _ _ refl (λ z. absurd (let y : 1 ≡ 0 = z in cc)) (lit< tt) (lit≤ tt) (lit< tt),
       ),
-      leaf_here (value done) 2 _ _ refl (lit< tt) (lit≤ tt) (lit< tt),
+      leaf_here (value done) 2 _ _ refl (λ z. absurd (let y : 2 ≡ 0 = z in cc)) (lit< tt) (lit≤ tt) (lit< tt),
     );
     is = refl;
   };
   inside = inside;
-  pairs = ap (λ ps. (ps ++ []) ++ []) (held_one (value done) 4);
+  pairs = ap (λ ps. (ps ++ []) ++ []) (held_one (value done) 4 first_counted_then);
   rising = (tt, tt);
   others = 4 ∷ [];
   one = 5;

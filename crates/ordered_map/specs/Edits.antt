@@ -3,9 +3,9 @@ use Rattle.std.specs.Prelude.{◌≡◌, ◌≢◌, ℕ, ◌+◌, ◌^◌, true,
 use Rattle.arena.specs.declared.word.Side.{Side}
 use Rattle.arena.specs.declared.word.Side.TheVariants.{Left, Right}
 use Rattle.arena.specs.declared.word.NodeWord.TheVariants.{Settled}
-use Rattle.arena.specs.declared.word.SettledPart.TheVariants.{Head, Key}
+use Rattle.arena.specs.declared.word.SettledPart.TheVariants.{Head}
 use Rattle.arena.specs.declared.word.Word.{Word}
-use Rattle.arena.specs.Words.{node, child}
+use Rattle.arena.specs.Words.{node, child, first_key}
 use Rattle.ordered_map.specs.OrderedMap.{MapEdit, edited, AllBelow, AllFrom}
 use Rattle.ordered_map.specs.Holding.{held_pairs, IsWellCounted}
 use Rattle.ordered_map.specs.TreeWords.{class, is_leaf, level, rank, leaf_items}
@@ -22,12 +22,12 @@ pub record IsLastLeaf (f : Word → ℕ) (n l : ℕ) : Type 0 where
   pub leaf : is_leaf f n ≡ true
   pub same_class : class f n ≡ class f l
   pub counted : class f n ≡ 0 → IsWellCounted f n
-  pub key : class f n ≢ 0 → f (node n (Settled Key)) ≡ f (node l (Settled Key))
+  pub key : class f n ≢ 0 → f (node n first_key) ≡ f (node l first_key)
 
 -- n has the class and the key of m
 pub record IsAlike (f : Word → ℕ) (n m : ℕ) : Type 0 where
   pub class : class f n ≡ class f m
-  pub key : f (node n (Settled Key)) ≡ f (node m (Settled Key))
+  pub key : f (node n first_key) ≡ f (node m first_key)
 
 -- the leaf l is replaced by a leaf c, which holds what the edit makes of its pairs
 pub record IsSwapBy (f : Word → ℕ) (e : MapEdit) (l c : ℕ) : Type 0 where
@@ -58,7 +58,7 @@ pub record IsSplitBy (f : Word → ℕ) (e : MapEdit) (l c x y : ℕ) : Type 0 w
 -- the node c is a copy of z, as its settled words say: a leaf of class 0 holds the same pairs
 pub record IsCopyOf (f : Word → ℕ) (c z : ℕ) : Type 0 where
   pub same_head : f (node c (Settled Head)) ≡ f (node z (Settled Head))
-  pub same_key : f (node c (Settled Key)) ≡ f (node z (Settled Key))
+  pub same_key : f (node c first_key) ≡ f (node z first_key)
   pub same_pairs : is_leaf f z ≡ true → class f z ≡ 0 → IsWellCounted f c × (held_pairs f c ≡ held_pairs f z)
 
 -- the fork q over the leaf l, of whose pairs the edit leaves none, and its sibling z is replaced by

@@ -1,11 +1,13 @@
 -- Parts of the tree that words may show, and what leaves hold: what the reader of words goes by.
-use Rattle.std.specs.Prelude.{◌≡◌, ℕ, suc, ◌+◌, ◌-◌, ◌*◌, ◌<◌, ◌≤◌, false, List, [], ◌∷◌, ◌++◌, All}
+use Rattle.std.specs.Prelude.{◌≡◌, ℕ, suc, ◌+◌, ◌-◌, ◌*◌, ◌^◌, ◌<◌, ◌≤◌, true, false, List, [], ◌∷◌, ◌++◌, All}
 use Rattle.arena.specs.Layout.{all_nodes}
 use Rattle.arena.specs.PlainWords.{Contents, word_at}
+use Rattle.arena.specs.Words.{node, first_key}
 use Rattle.ordered_map.specs.declared.part.Part.{Part}
 use Rattle.ordered_map.specs.declared.part.Seen.{Seen}
 use Rattle.ordered_map.specs.declared.part.Seen.TheVariants.{Leaf as LeafSeen, Fork as ForkSeen, Nothing}
 use Rattle.ordered_map.specs.declared.pair.Pair.{Pair}
+use Rattle.ordered_map.specs.Holding.{IsWellCounted}
 use Rattle.ordered_map.specs.TreeWords.{class, is_leaf, level, rank, leaf_pairs, Tree, Leaf, Fork, root, Shows, Has, leaf_nodes}
 use Rattle.ordered_map.specs.Spelled.{IsTree}
 
@@ -45,6 +47,13 @@ pub record IsRoot (c : Contents) (p : Part) (least at : ℕ) : Type 0 where
   pub rank : at ≡ rank (word_at c) p.node
   pub fits : IsFit p (level (word_at c) p.node) at
 
+-- the root of a part is a leaf of the table that meets what is asked of it
+pub record IsLeafRoot (c : Contents) (p : Part) : Type 0 where
+  pub inside : p.node < all_nodes c.layout
+  pub leaf : is_leaf (word_at c) p.node ≡ true
+  pub small : word_at c (node p.node first_key) < 2 ^ 64
+  pub fits : IsFit p (level (word_at c) p.node) (rank (word_at c) p.node)
+
 -- from node 0 the words show a tree of nodes of the table, with these leaves
 pub record ShowLeaves (c : Contents) (ns : List ℕ) : Type 0 where
   pub tree : Tree
@@ -55,6 +64,10 @@ pub record ShowLeaves (c : Contents) (ns : List ℕ) : Type 0 where
 -- nodes of the table
 abbrev pub AreInside : Contents → List ℕ → Type 0
 AreInside c ns = All (λ n. n < all_nodes c.layout) ns
+
+-- nodes each of which, if it is of class 0, holds as many pairs as a leaf may hold
+abbrev pub AreWellCounted : Contents → List ℕ → Type 0
+AreWellCounted c ns = All (λ n. class (word_at c) n ≡ 0 → IsWellCounted (word_at c) n) ns
 
 -- the leaves end with one of class 1 and node 2, of class 2, behind these others
 pub record HasEnds (c : Contents) (ns others : List ℕ) : Type 0 where

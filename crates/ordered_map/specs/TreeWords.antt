@@ -3,9 +3,9 @@ use Rattle.std.specs.Prelude.{◌≡◌, ◌≢◌, ℕ, ◌+◌, ◌*◌, ◌/�
 use Rattle.arena.specs.declared.word.Side.{Side}
 use Rattle.arena.specs.declared.word.Side.TheVariants.{Left, Right}
 use Rattle.arena.specs.declared.word.NodeWord.TheVariants.{Settled}
-use Rattle.arena.specs.declared.word.SettledPart.TheVariants.{Head, Key}
+use Rattle.arena.specs.declared.word.SettledPart.TheVariants.{Head}
 use Rattle.arena.specs.declared.word.Word.{Word}
-use Rattle.arena.specs.Words.{node, child}
+use Rattle.arena.specs.Words.{node, child, first_key}
 use Rattle.ordered_map.specs.declared.pair.Pair.{Pair}
 use Rattle.ordered_map.specs.OrderedMap.{pair, AllBelow, AllFrom, IsRising, first_pair, get}
 use Rattle.ordered_map.specs.Holding.{held_pairs, IsWellCounted}
@@ -26,11 +26,11 @@ level f n = f (node n (Settled Head)) / 8
 
 -- class and key as one number: the class is compared first, since keys are below 2 ^ 64
 abbrev pub rank : (Word → ℕ) → ℕ → ℕ
-rank f n = class f n * 2 ^ 64 + f (node n (Settled Key))
+rank f n = class f n * 2 ^ 64 + f (node n first_key)
 
 -- a node that is above all keys has the key 0; what the value of such a leaf is means nothing
 abbrev pub IsBlankAboveKeys : (Word → ℕ) → ℕ → Type 0
-IsBlankAboveKeys f n = class f n ≢ 0 → f (node n (Settled Key)) ≡ 0
+IsBlankAboveKeys f n = class f n ≢ 0 → f (node n first_key) ≡ 0
 
 -- on which side of the fork n the key k stands
 abbrev pub toward : (Word → ℕ) → ℕ → ℕ → Side
@@ -83,7 +83,7 @@ pub record HasItems (f : Word → ℕ) (n low high : ℕ) : Type 0 where
 -- node n is a leaf with its items from `low` to below `high`
 pub record IsLeaf (f : Word → ℕ) (n low high : ℕ) : Type 0 where
   pub leaf : is_leaf f n ≡ true
-  pub small : f (node n (Settled Key)) < 2 ^ 64
+  pub small : f (node n first_key) < 2 ^ 64
   pub items : HasItems f n low high
 
 -- the words show the tree, and all its leaves have items from `low` to below `high`:

@@ -1,13 +1,16 @@
 //! Parts of the tree that words may show.
 ghost use Rattle.std.specs.Prelude.{◌≡◌, ℕ, ◌+◌, ◌*◌, ◌/◌, ◌%◌, ◌^◌, ◌<◌, ◌≤◌, ◌↔◌, IsTrue};
 ghost use Rattle.arena.specs.Layout.{all_nodes};
-ghost use Rattle.arena.specs.Words.{node};
+ghost use Rattle.arena.specs.Words.{node, first_key};
 ghost use Rattle.arena.specs.PlainWords.{word_at};
 ghost use Rattle.arena.specs.declared.word.NodeWord.TheVariants.{Settled};
-ghost use Rattle.arena.specs.declared.word.SettledPart.TheVariants.{Head, Key};
-ghost use Rattle.ordered_map.specs.Parts.{IsFit, IsSeen, IsRoot};
+ghost use Rattle.arena.specs.declared.word.SettledPart.TheVariants.{Head};
+ghost use Rattle.arena.specs.declared.word.NodeWord.{NodeWord};
+ghost use Rattle.arena.specs.declared.word.Word.{Word};
+ghost use Rattle.ordered_map.specs.Holding.{HasOnePair};
+ghost use Rattle.ordered_map.specs.Parts.{IsFit, IsLeafRoot, IsRoot, IsSeen};
 
-use arena::{NodeNo, NodeWord, PlainWords, SettledPart, Side, Word};
+use arena::{NodeNo, NodeWord, PlainWords, SettledPart, Side, Slot, Word};
 
 /// A part of the tree: its root, a level that the root's is not below, and the ranks of its leaves,
 /// from `low` to below `high`.
@@ -48,7 +51,7 @@ pub(crate) fn look(words: &PlainWords, part: Part) -> Seen
         words,
         part,
         head,
-        words.get(Word::Node(node, NodeWord::Settled(SettledPart::Key))),
+        words.get(Word::Node(node, NodeWord::Settled(SettledPart::Key(Slot::First)))),
     )
 }
 
@@ -56,17 +59,53 @@ pub(crate) fn look(words: &PlainWords, part: Part) -> Seen
 fn look_at(words: &PlainWords, part: Part, head: u64, key: u64) -> Seen
     requires inside { part.node < all_nodes words.now.layout }
     requires head { head ≡ word_at words.now (node part.node (Settled Head)) }
-    requires key { key ≡ word_at words.now (node part.node (Settled Key)) }
+    requires key { key ≡ word_at words.now (node part.node first_key) }
     ensures { IsSeen words.now part result }
 {
     let rank = rank_of(head, key);
     if !may_be_root(&part, head / 8, rank) {
         Seen::Nothing
     } else if head / 4 % 2 == 1 {
-        Seen::Leaf
+        look_leaf(words, part)
     } else {
         look_below(words, part, head / 8 + 1, rank)
     }
+}
+
+/// The same, at a leaf: one of class 0 holds as many pairs as it may hold.
+fn look_leaf(words: &PlainWords, part: Part) -> Seen
+    requires { IsLeafRoot words.now part }
+    ensures { IsSeen words.now part result }
+{
+    let node = NodeNo(part.node);
+    let head = words.get(Word::Node(node, NodeWord::Settled(SettledPart::Head)));
+    if head % 4 != 0 {
+        Seen::Leaf
+    } else if is_well_counted(words, node) {
+        Seen::Leaf
+    } else {
+        Seen::Nothing
+    }
+}
+
+/// Whether a leaf of class 0 holds as many pairs as it may hold: one, with a value of one word.
+fn is_well_counted(words: &PlainWords, leaf: NodeNo) -> bool
+    requires { leaf.0 < all_nodes words.now.layout }
+    ensures { IsTrue result ↔ HasOnePair (word_at words.now) leaf.0 }
+{
+    is_zero(words, leaf, SettledPart::More)
+        && is_zero(words, leaf, SettledPart::High(Slot::First))
+        && is_zero(words, leaf, SettledPart::High(Slot::Second))
+        && is_zero(words, leaf, SettledPart::High(Slot::Third))
+        && is_zero(words, leaf, SettledPart::High(Slot::Fourth))
+}
+
+/// Whether a settled word of a node is 0.
+fn is_zero(words: &PlainWords, node: NodeNo, part: SettledPart) -> bool
+    requires { node.0 < all_nodes words.now.layout }
+    ensures { IsTrue result ↔ (word_at words.now (Word.Node node (NodeWord.Settled part)) ≡ 0) }
+{
+    words.get(Word::Node(node, NodeWord::Settled(part))) == 0
 }
 
 /// Whether a part's root may be of this level and this rank.

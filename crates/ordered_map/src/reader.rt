@@ -3,12 +3,13 @@ ghost use Rattle.std.specs.Prelude.{◌≡◌, ℕ, ◌*◌, ◌^◌, ◌<◌, �
 ghost use Rattle.arena.specs.Layout.{all_nodes};
 ghost use Rattle.arena.specs.PlainWords.{word_at};
 ghost use Rattle.ordered_map.specs.TreeWords.{class, leaf_pairs};
+ghost use Rattle.ordered_map.specs.Holding.{IsWellCounted};
 ghost use Rattle.ordered_map.specs.Spelled.{Spells};
-ghost use Rattle.ordered_map.specs.Parts.{ShowLeaves, HasEnds, HoldPairs, AreInside};
+ghost use Rattle.ordered_map.specs.Parts.{ShowLeaves, HasEnds, HoldPairs, AreInside, AreWellCounted};
 
 use crate::pair::Pair;
 use crate::part::{Part, Seen, look};
-use arena::{NoMemory, NodeNo, NodeWord, PlainWords, SettledPart, Word};
+use arena::{NoMemory, NodeNo, NodeWord, PlainWords, SettledPart, Slot, Word};
 use std::alloc::Global;
 
 /// The map that the words spell: the pairs of the tree that they show from node 0, by rising key.
@@ -96,7 +97,8 @@ fn take_ends(words: &PlainWords, leaves: &mut Vec<u64>) -> bool
 
 /// The pairs of leaves that are all of class 0.
 fn pairs(alloc: Global, words: &PlainWords, leaves: &[u64]) -> Result<Option<Vec<Pair>>, NoMemory>
-    requires { AreInside words.now leaves.now }
+    requires inside { AreInside words.now leaves.now }
+    requires counted { AreWellCounted words.now leaves.now }
     ensures low { IfOk result (λ o. IfSome o (λ m. HoldPairs words.now leaves.now m.items)) }
     ensures none { IfOk result (λ o. IfNone o ((m : List Pair) → ¬ HoldPairs words.now leaves.now m)) }
 {
@@ -113,12 +115,13 @@ fn pairs(alloc: Global, words: &PlainWords, leaves: &[u64]) -> Result<Option<Vec
 /// The pair of a leaf of class 0.
 fn pair_of(words: &PlainWords, leaf: u64) -> Pair
     requires inside { leaf < all_nodes words.now.layout }
+    requires counted { IsWellCounted (word_at words.now) leaf }
     requires low { class (word_at words.now) leaf ≡ 0 }
     ensures { leaf_pairs (word_at words.now) leaf ≡ result ∷ [] }
 {
     let node = NodeNo(leaf);
     Pair {
-        key: words.get(Word::Node(node, NodeWord::Settled(SettledPart::Key))),
-        value: words.get(Word::Node(node, NodeWord::Settled(SettledPart::Value))),
+        key: words.get(Word::Node(node, NodeWord::Settled(SettledPart::Key(Slot::First)))),
+        value: words.get(Word::Node(node, NodeWord::Settled(SettledPart::Value(Slot::First)))),
     }
 }
