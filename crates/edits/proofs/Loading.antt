@@ -8,6 +8,7 @@ use Rattle.arena.specs.declared.step.Kind.TheVariants.{LoadSettled}
 use Rattle.arena.specs.declared.word.NodeWord.{NodeWord}
 use Rattle.arena.specs.declared.word.NodeWord.TheVariants.{Settled, Child, Info, Marked}
 use Rattle.arena.specs.declared.word.SettledPart.TheVariants.{Head, Key, Value}
+use Rattle.arena.specs.declared.word.Slot.TheVariants.{First as FirstSlot}
 use Rattle.arena.specs.declared.word.Word.{Word}
 use Rattle.arena.specs.declared.word.Word.TheVariants.{Node as NodeOf}
 use Rattle.arena.specs.History.{History, value}
@@ -86,8 +87,9 @@ filled_same lay h c left first top n p q same x = record {
 
 loaded_one : (f : Word → ℕ) (n : ℕ) (ld : Loaded) (part : NodeWord) (v : ℕ) → IsSettled (node n part) → f (node n part) ≡ v → AreLoaded f n ld → AreLoaded f n (with_word ld part v)
 loaded_one f n ld (Settled Head) v i e x = record { head = sym e; key = x.key; value = x.value }
-loaded_one f n ld (Settled Key) v i e x = record { head = x.head; key = sym e; value = x.value }
-loaded_one f n ld (Settled Value) v i e x = record { head = x.head; key = x.key; value = sym e }
+loaded_one f n ld (Settled (Key FirstSlot)) v i e x = record { head = x.head; key = sym e; value = x.value }
+loaded_one f n ld (Settled (Value FirstSlot)) v i e x = record { head = x.head; key = x.key; value = sym e }
+loaded_one f n ld (Settled _) v i e x = x
 loaded_one f n ld (Child side) v i e x = absurd i
 loaded_one f n ld Info v i e x = absurd i
 loaded_one f n ld Marked v i e x = absurd i

@@ -10,7 +10,7 @@ use Rattle.arena.specs.declared.step.Step.{Step}
 use Rattle.arena.specs.declared.step.Kind.TheVariants.{LoadSettled}
 use Rattle.arena.specs.declared.word.NodeWord.{NodeWord}
 use Rattle.arena.specs.declared.word.NodeWord.TheVariants.{Settled}
-use Rattle.arena.specs.declared.word.SettledPart.TheVariants.{Head as HeadWord, Key as KeyWord, Value as ValueWord}
+use Rattle.arena.specs.declared.word.SettledPart.TheVariants.{Head as HeadWord}
 use Rattle.arena.specs.declared.word.Word.{Word}
 use Rattle.arena.specs.Fills.{IsNamed, IsOwnNode, IsOwnScx, IsTakenNode}
 use Rattle.arena.specs.History.{History, ◌⊳◌, value, Extends}
@@ -19,7 +19,7 @@ use Rattle.arena.specs.Layout.{all_nodes}
 use Rattle.arena.specs.Log.{Entry, log}
 use Rattle.arena.specs.Machines.{Call, MatchTurn, begun_at}
 use Rattle.arena.specs.Share.{Remaining}
-use Rattle.arena.specs.Words.{node}
+use Rattle.arena.specs.Words.{node, first_key, first_value}
 use Rattle.prims.specs.FoundThere.{HasFoundThere}
 use Rattle.prims.specs.Laws.Idle.{IsQuietSince}
 use Rattle.prims.specs.Llx.Known.{load, IsSnapshot, LlxIsReady, LlxWaits}
@@ -115,8 +115,8 @@ IsLoaded (Some w) v = w ≡ v
 -- the words that were loaded are those of this node
 pub record AreLoaded (f : Word → ℕ) (n : ℕ) (ld : Loaded) : Type 0 where
   pub head : IsLoaded ld.head (f (node n (Settled HeadWord)))
-  pub key : IsLoaded ld.key (f (node n (Settled KeyWord)))
-  pub value : IsLoaded ld.value (f (node n (Settled ValueWord)))
+  pub key : IsLoaded ld.key (f (node n first_key))
+  pub value : IsLoaded ld.value (f (node n first_value))
 
 -- none is loaded
 abbrev pub nothing_loaded : Loaded

@@ -6,10 +6,11 @@ use Rattle.arena.specs.declared.word.Side.TheVariants.{Left, Right}
 use Rattle.arena.specs.declared.word.NodeWord.{NodeWord}
 use Rattle.arena.specs.declared.word.NodeWord.TheVariants.{Settled, Child}
 use Rattle.arena.specs.declared.word.SettledPart.TheVariants.{Head, Key, Value}
+use Rattle.arena.specs.declared.word.Slot.TheVariants.{First as FirstSlot}
 use Rattle.arena.specs.Heads.{head_word}
 use Rattle.arena.specs.ScxRecords.{side_no, removed_bits}
 use Rattle.arena.specs.Share.{Remaining}
-use Rattle.arena.specs.Words.{same_node_word}
+use Rattle.arena.specs.Words.{same_node_word, first_key, first_value}
 use Rattle.edits.specs.declared.edit.Loaded.{Loaded}
 use Rattle.edits.specs.declared.edit.Need.{Need}
 use Rattle.edits.specs.declared.edit.Need.TheVariants.{Nothing, One, Three}
@@ -31,14 +32,14 @@ pub record WordFill : Type 0 where
 -- what is filled of a fresh node, the last fill in front
 abbrev pub fills_of : Piece → List WordFill
 fills_of (Leaf level class key v) =
-    record { part = Settled Value; word = v }
-    ∷ record { part = Settled Key; word = key }
+    record { part = first_value; word = v }
+    ∷ record { part = first_key; word = key }
     ∷ record { part = Settled Head; word = piece_head level true class }
     ∷ []
 fills_of (Fork level class key l r) =
     record { part = Child Right; word = r.0 }
     ∷ record { part = Child Left; word = l.0 }
-    ∷ record { part = Settled Key; word = key }
+    ∷ record { part = first_key; word = key }
     ∷ record { part = Settled Head; word = piece_head level false class }
     ∷ []
 
@@ -98,8 +99,8 @@ top_of _ ns = ns.first.0
 -- the words that were loaded, with one more
 abbrev pub with_word : Loaded → NodeWord → ℕ → Loaded
 with_word x (Settled Head) v = record x { head = Some v }
-with_word x (Settled Key) v = record x { key = Some v }
-with_word x (Settled Value) v = record x { value = Some v }
+with_word x (Settled (Key FirstSlot)) v = record x { key = Some v }
+with_word x (Settled (Value FirstSlot)) v = record x { value = Some v }
 with_word x _ v = x
 
 -- what is left of a share once a node is taken

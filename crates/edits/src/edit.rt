@@ -3,7 +3,7 @@ ghost use Rattle.std.specs.Prelude.{◌≡◌};
 ghost use Rattle.edits.specs.Edits.{EditMeaning};
 ghost use Rattle.edits.specs.Sound.{EditLaws};
 
-use arena::{Head, NodeNo, NodeWord, ScxNo, SettledPart, Side};
+use arena::{Head, NodeNo, NodeWord, ScxNo, SettledPart, Side, Slot};
 use prims::Snap;
 use template::{Found, Goal};
 
@@ -98,12 +98,13 @@ impl Piece {
             (Piece::Leaf { level, class, .. }, NodeWord::Settled(SettledPart::Head)) => head(
                 level, true, class,
             ),
-            (Piece::Leaf { key, .. }, NodeWord::Settled(SettledPart::Key)) => key,
-            (Piece::Leaf { value, .. }, NodeWord::Settled(SettledPart::Value)) => value,
+            (Piece::Leaf { key, .. }, NodeWord::Settled(SettledPart::Key(Slot::First))) => key,
+            (Piece::Leaf { value, .. }, NodeWord::Settled(SettledPart::Value(Slot::First))) =>
+                value,
             (Piece::Fork { level, class, .. }, NodeWord::Settled(SettledPart::Head)) => head(
                 level, false, class,
             ),
-            (Piece::Fork { key, .. }, NodeWord::Settled(SettledPart::Key)) => key,
+            (Piece::Fork { key, .. }, NodeWord::Settled(SettledPart::Key(Slot::First))) => key,
             (Piece::Fork { left, .. }, NodeWord::Child(Side::Left)) => left.0,
             (Piece::Fork { right, .. }, NodeWord::Child(Side::Right)) => right.0,
             _ => 0,
@@ -115,13 +116,15 @@ impl Piece {
         ensures { result ≡ part_behind self part }
     {
         match (self, part) {
-            (_, NodeWord::Settled(SettledPart::Head)) => Some(NodeWord::Settled(SettledPart::Key)),
-            (Piece::Leaf { .. }, NodeWord::Settled(SettledPart::Key)) => Some(NodeWord::Settled(
-                SettledPart::Value,
-            )),
-            (Piece::Fork { .. }, NodeWord::Settled(SettledPart::Key)) => Some(NodeWord::Child(
-                Side::Left,
-            )),
+            (_, NodeWord::Settled(SettledPart::Head)) => Some(NodeWord::Settled(SettledPart::Key(
+                Slot::First,
+            ))),
+            (Piece::Leaf { .. }, NodeWord::Settled(SettledPart::Key(Slot::First))) => Some(
+                NodeWord::Settled(SettledPart::Value(Slot::First)),
+            ),
+            (Piece::Fork { .. }, NodeWord::Settled(SettledPart::Key(Slot::First))) => Some(
+                NodeWord::Child(Side::Left),
+            ),
             (Piece::Fork { .. }, NodeWord::Child(Side::Left)) => {
                 Some(NodeWord::Child(Side::Right))
             }
@@ -193,11 +196,11 @@ impl Loaded {
                 head: Some(value),
                 ..self
             },
-            NodeWord::Settled(SettledPart::Key) => Loaded {
+            NodeWord::Settled(SettledPart::Key(Slot::First)) => Loaded {
                 key: Some(value),
                 ..self
             },
-            NodeWord::Settled(SettledPart::Value) => Loaded {
+            NodeWord::Settled(SettledPart::Value(Slot::First)) => Loaded {
                 value: Some(value),
                 ..self
             },

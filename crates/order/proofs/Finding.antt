@@ -2,11 +2,11 @@
 use Rattle.std.proofs.Common.{◌≡◌, ◌≢◌, ℕ, ◌^◌, ◌<◌, ◌≤◌, ◌⊎◌, Bool, true, false, cond, eqb, List, [], ◌∷◌, ◌++◌, length, inl, inr, ⊎_elim, refl, sym, ◌∙◌, ap, subst, arith, lt-ltb, le-ltb, ltb-true, ltb-false, eqb-true, eq-eqb, Option, Some, None}
 use Rattle.arena.specs.declared.head.Head.{Head as HeadParts}
 use Rattle.arena.specs.declared.word.NodeWord.TheVariants.{Settled}
-use Rattle.arena.specs.declared.word.SettledPart.TheVariants.{Head as HeadWord, Key as KeyWord, Value as ValueWord}
+use Rattle.arena.specs.declared.word.SettledPart.TheVariants.{Head as HeadWord}
 use Rattle.arena.specs.declared.word.Side.{Side}
 use Rattle.arena.specs.declared.word.Side.TheVariants.{Left, Right}
 use Rattle.arena.specs.declared.word.Word.{Word}
-use Rattle.arena.specs.Words.{node, child}
+use Rattle.arena.specs.Words.{node, child, first_key, first_value}
 use Rattle.arena.specs.History.{History, value, Extends}
 use Rattle.arena.specs.Machines.{Call, begun_at}
 use Rattle.arena.proofs.Lemmas.{ends_self, ends_trans}
@@ -38,7 +38,7 @@ use Rattle.order.specs.declared.successor.Route.TheVariants.{Along, Beyond}
 use Rattle.order.specs.declared.successor.SuccessorRun.{SuccessorRun}
 use Rattle.order.proofs.Blaming.{first_look}
 use Rattle.order.proofs.Snapping.{hold_before, some_more, reads_one_more, child_there, child_rises, unmarked_then, field_then}
-use Rattle.order.proofs.Searching.{begins_below, goes_left, goes_right, ends_here, ends_behind, first_left, first_tells, tells_pair, tells_none}
+use Rattle.order.proofs.Searching.{begins_below, goes_left, goes_right, ends_here, ends_behind, first_left, first_counted, first_tells, tells_pair, tells_none}
 
 -- Sides
 
@@ -362,8 +362,8 @@ module _ (m : SuccessorRun) (c : Call) (h : History) (route : Route) (n key : �
 
 -- At the leaf of the answer
 
-pub tells_this : (m : SuccessorRun) (c : Call) (h : History) (n key v : ℕ) → HasLeaf m c h n key → value h (node n (Settled ValueWord)) ≡ v → Whenever c.layout h m.snaps.items (λ b. IsNextAt c.layout b m.key (Some (pair key v)))
-tells_this m c h n key v x d b run e hold ps spelled = first_tells b m.key n first c.layout ps leaf spelled ∙ tells_pair (value b) n key v (settled_class (value h) (value b) n same ∙ x.low) is_key (same (Settled ValueWord) tt ∙ d)
+pub tells_this : (m : SuccessorRun) (c : Call) (h : History) (n key v : ℕ) → HasLeaf m c h n key → value h (node n first_value) ≡ v → Whenever c.layout h m.snaps.items (λ b. IsNextAt c.layout b m.key (Some (pair key v)))
+tells_this m c h n key v x d b run e hold ps spelled = first_tells b m.key n first c.layout ps leaf spelled ∙ tells_pair (value b) n key v (first_counted b m.key n first leaf low) low is_key (same first_value tt ∙ d)
   where
     first : IsFirstBehind b m.key n
     first = x.first b run e hold
@@ -374,8 +374,11 @@ tells_this m c h n key v x d b run e hold ps spelled = first_tells b m.key n fir
     leaf : is_leaf (value b) n ≡ true
     leaf = settled_leaf (value h) (value b) n same ∙ x.leaf
 
-    is_key : value b (node n (Settled KeyWord)) ≡ key
-    is_key = same (Settled KeyWord) tt ∙ x.key_is
+    low : class (value b) n ≡ 0
+    low = settled_class (value h) (value b) n same ∙ x.low
+
+    is_key : value b (node n first_key) ≡ key
+    is_key = same first_key tt ∙ x.key_is
 
 -- The VLX
 

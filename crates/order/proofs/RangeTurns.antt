@@ -10,8 +10,8 @@ use Rattle.arena.specs.declared.number.ScxNo.{ScxNo}
 use Rattle.arena.specs.declared.step.Step.{Step}
 use Rattle.arena.specs.declared.step.Kind.TheVariants.{LoadSettled}
 use Rattle.arena.specs.declared.word.NodeWord.TheVariants.{Settled}
-use Rattle.arena.specs.declared.word.SettledPart.TheVariants.{Head as HeadWord, Key as KeyWord, Value as ValueWord}
-use Rattle.arena.specs.Words.{node}
+use Rattle.arena.specs.declared.word.SettledPart.TheVariants.{Head as HeadWord}
+use Rattle.arena.specs.Words.{node, first_key, first_value}
 use Rattle.arena.specs.History.{History, value, Extends}
 use Rattle.arena.specs.Machines.{Call, IsRun, MatchTurn, begun_at}
 use Rattle.prims.specs.Moments.{AreFinished}
@@ -166,11 +166,11 @@ module _ (m : RangeRun) (c : Call) (h : History) where
   at_head None above n is r = absurd (let d : Head above n ≡ Start = sym is ∙ r.1 in cc)
   at_head (Some v) above n is r = told_at v (Head above n) is r
 
-  pub at_key : (got : Option ℕ) (head : HeadParts) (n : NodeNo) → m.at ≡ Key head n → RangeIsReady m c h got → ToldInTry (λ d. Visits m d h n.0 × HasLowHead h n.0 head × (value h (node n.0 (Settled KeyWord)) ≡ unwrap_or got 0))
+  pub at_key : (got : Option ℕ) (head : HeadParts) (n : NodeNo) → m.at ≡ Key head n → RangeIsReady m c h got → ToldInTry (λ d. Visits m d h n.0 × HasLowHead h n.0 head × (value h (node n.0 first_key) ≡ unwrap_or got 0))
   at_key None head n is r = absurd (let d : Key head n ≡ Start = sym is ∙ r.1 in cc)
   at_key (Some v) head n is r = told_at v (Key head n) is r
 
-  pub at_value : (got : Option ℕ) (key : ℕ) (n : NodeNo) → m.at ≡ Value key n → RangeIsReady m c h got → ToldInTry (λ d. HasKey m d h n.0 key × (value h (node n.0 (Settled ValueWord)) ≡ unwrap_or got 0))
+  pub at_value : (got : Option ℕ) (key : ℕ) (n : NodeNo) → m.at ≡ Value key n → RangeIsReady m c h got → ToldInTry (λ d. HasKey m d h n.0 key × (value h (node n.0 first_value) ≡ unwrap_or got 0))
   at_value None key n is r = absurd (let d : Value key n ≡ Start = sym is ∙ r.1 in cc)
   at_value (Some v) key n is r = told_at v (Value key n) is r
 
@@ -188,10 +188,10 @@ module _ (m now : RangeRun) (c : Call) (begin h : History) (turn : Turn Told) (t
   pub asks_head : (above : ℕ) (n : NodeNo) → now ≡ record m { at = Head above n } → turn ≡ Ask (load LoadSettled (node n.0 (Settled HeadWord))) → Visits m (begun_at c begin) h n.0 → above < level (value h) n.0 → RangeTurn c h now turn
   asks_head above n is asked x deep = rw (asked, is) (begin, try, goes_at m (Head above n) (begun_at c begin) h goes, (visits_at m (Head above n) (begun_at c begin) h n.0 x, deep, refl))
 
-  pub asks_key : (head : HeadParts) (n : NodeNo) → now ≡ record m { at = Key head n } → turn ≡ Ask (load LoadSettled (node n.0 (Settled KeyWord))) → Visits m (begun_at c begin) h n.0 → HasLowHead h n.0 head → RangeTurn c h now turn
+  pub asks_key : (head : HeadParts) (n : NodeNo) → now ≡ record m { at = Key head n } → turn ≡ Ask (load LoadSettled (node n.0 first_key)) → Visits m (begun_at c begin) h n.0 → HasLowHead h n.0 head → RangeTurn c h now turn
   asks_key head n is asked x has = rw (asked, is) (begin, try, goes_at m (Key head n) (begun_at c begin) h goes, (visits_at m (Key head n) (begun_at c begin) h n.0 x, has, refl))
 
-  pub asks_value : (key : ℕ) (n : NodeNo) → now ≡ record m { at = Value key n } → turn ≡ Ask (load LoadSettled (node n.0 (Settled ValueWord))) → HasKey m (begun_at c begin) h n.0 key → RangeTurn c h now turn
+  pub asks_value : (key : ℕ) (n : NodeNo) → now ≡ record m { at = Value key n } → turn ≡ Ask (load LoadSettled (node n.0 first_value)) → HasKey m (begun_at c begin) h n.0 key → RangeTurn c h now turn
   asks_value key n is asked x = rw (asked, is) (
     begin,
     try,

@@ -7,11 +7,11 @@ use Rattle.std.proofs.lemmas.List.{reverse-append}
 use Rattle.arena.specs.declared.head.Head.{Head as HeadParts}
 use Rattle.arena.specs.declared.number.NodeNo.{NodeNo}
 use Rattle.arena.specs.declared.word.NodeWord.TheVariants.{Settled}
-use Rattle.arena.specs.declared.word.SettledPart.TheVariants.{Head as HeadWord, Key as KeyWord, Value as ValueWord}
+use Rattle.arena.specs.declared.word.SettledPart.TheVariants.{Head as HeadWord}
 use Rattle.arena.specs.declared.word.Side.{Side}
 use Rattle.arena.specs.declared.word.Side.TheVariants.{Left, Right}
 use Rattle.arena.specs.Heads.{head_of}
-use Rattle.arena.specs.Words.{node, child}
+use Rattle.arena.specs.Words.{node, child, first_key, first_value}
 use Rattle.arena.specs.History.{History, value, Extends}
 use Rattle.arena.specs.Machines.{Call, begun_at}
 use Rattle.arena.proofs.Lemmas.{ends_self}
@@ -265,8 +265,8 @@ module _ (m : RangeRun) (c : Call) (h : History) (n : ℕ) (goes : RangeGoes m c
     low_class : (b : History) → IsTreeRun c.layout b → Extends b h → class (value b) n ≡ 0
     low_class b run e = settled_class (value h) (value b) n (same_then b run e) ∙ zero_class
 
-    low_key : (b : History) → IsTreeRun c.layout b → Extends b h → value b (node n (Settled KeyWord)) ≡ key
-    low_key b run e = same_then b run e (Settled KeyWord) tt ∙ d
+    low_key : (b : History) → IsTreeRun c.layout b → Extends b h → value b (node n first_key) ≡ key
+    low_key b run e = same_then b run e first_key tt ∙ d
 
     pub low_behind : IsOwnMoment c h → is_leaf (value h) n ≡ true → (key < m.low) ⊎ (m.high < key) → GoesBehind m c h (m.leaves - 1)
     low_behind own leaf out = goes_behind own leaf (λ b run e hold. ⊎_elim
@@ -295,13 +295,13 @@ pair_taken m c h n p taken goes own x d items = record {
 }
   where
     visited : Whenever c.layout h m.snaps.items (λ b. HasVisited b (bounds_of m) (m.taken.items ++ p ∷ []) (waiting_of m) (m.leaves - 1))
-    visited b run e hold = rw (key_is, same (Settled ValueWord) tt ∙ d) at (takes b (bounds_of m) n m.taken.items (waiting_of m) m.leaves (x.visits.visiting b run e hold) (settled_leaf (value h) (value b) n same ∙ x.leaf) (settled_class (value h) (value b) n same ∙ x.low) (rw key_is x.from) (rw key_is x.to))
+    visited b run e hold = rw (key_is, same first_value tt ∙ d) at (takes b (bounds_of m) n m.taken.items (waiting_of m) m.leaves (x.visits.visiting b run e hold) (settled_leaf (value h) (value b) n same ∙ x.leaf) (settled_class (value h) (value b) n same ∙ x.low) (rw key_is x.from) (rw key_is x.to))
       where
         same : SameSettled (value h) (value b) n
         same = stood_settled c.layout b h n run e x.visits.stood.stood
 
-        key_is : value b (node n (Settled KeyWord)) ≡ p.key
-        key_is = same (Settled KeyWord) tt ∙ x.key_is
+        key_is : value b (node n first_key) ≡ p.key
+        key_is = same first_key tt ∙ x.key_is
 
 -- Behind a leaf
 

@@ -1,12 +1,11 @@
 -- How the search for the least key above k goes down a tree.
 use Rattle.std.proofs.Common.{◌≡◌, ◌≢◌, ℕ, ◌<◌, ◌≤◌, true, false, inl, inr, List, refl, sym, ◌∙◌, ap, lt-ltb, le-ltb, subst, Option, Some, None}
 use Rattle.arena.specs.declared.layout.Layout.{Layout}
-use Rattle.arena.specs.declared.word.NodeWord.TheVariants.{Settled}
-use Rattle.arena.specs.declared.word.SettledPart.TheVariants.{Key, Value}
 use Rattle.arena.specs.declared.word.Side.TheVariants.{Left, Right}
 use Rattle.arena.specs.declared.word.Word.{Word}
-use Rattle.arena.specs.Words.{node, child}
+use Rattle.arena.specs.Words.{node, child, first_key, first_value}
 use Rattle.arena.specs.History.{History, value}
+use Rattle.ordered_map.specs.Holding.{IsWellCounted}
 use Rattle.ordered_map.specs.declared.pair.Pair.{Pair}
 use Rattle.ordered_map.specs.OrderedMap.{pair, first_pair, successor}
 use Rattle.ordered_map.specs.Paths.{IsOnPath}
@@ -147,7 +146,7 @@ module _ (h : History) (k n right : ℕ) (x : IsSearched h k n right) where
         tree = x.tree;
         is_tree = x.is_tree;
         part = x.behind;
-        finds = d ∙ search_behind f k m (first_of f x.behind.tree) (subst (λ j. rank f j ≤ k) (sym e) l);
+        finds = d ∙ search_behind f k m (first_of f x.behind.tree) (λ z. (s.items.keys z).0) (subst (λ j. rank f j ≤ k) (sym e) l);
       }
 
 -- On the way to the first leaf
@@ -176,9 +175,17 @@ module _ (h : History) (k n : ℕ) (x : IsFirstBehind h k n) where
       go (Fork m a b) low high s e d = no_leaf (value h) n _ leaf (rw e at s.0.fork)
       go (Leaf m) low high s e d = ap low_pair d ∙ leaf_tells (value h) m low high s ∙ ap (λ j. first_pair (leaf_pairs (value h) j)) e
 
+  -- and holds as many pairs as it may hold
+  pub first_counted : is_leaf (value h) n ≡ true → class (value h) n ≡ 0 → IsWellCounted (value h) n
+  first_counted leaf low = go x.part.tree x.part.low x.part.high x.part.shows x.part.is
+    where
+      go : (p : Tree) (low high : ℕ) → Shows (value h) low high p → root p ≡ n → IsWellCounted (value h) n
+      go (Fork m a b) least high s e = no_leaf (value h) n _ leaf (rw e at s.0.fork)
+      go (Leaf m) least high s e = rw e at (s.items.keys (ap (class (value h)) e ∙ low)).0
+
 -- a pair of the map
-pub tells_pair : (f : Word → ℕ) (n key v : ℕ) → class f n ≡ 0 → f (node n (Settled Key)) ≡ key → f (node n (Settled Value)) ≡ v → first_pair (leaf_pairs f n) ≡ Some (pair key v)
-tells_pair f n key v low d e = ap first_pair (low_pairs f n low ∙ held_one f n) ∙ (λ i. Some (pair (d i) (e i)))
+pub tells_pair : (f : Word → ℕ) (n key v : ℕ) → IsWellCounted f n → class f n ≡ 0 → f (node n first_key) ≡ key → f (node n first_value) ≡ v → first_pair (leaf_pairs f n) ≡ Some (pair key v)
+tells_pair f n key v counted low d e = ap first_pair (low_pairs f n low ∙ held_one f n counted) ∙ (λ i. Some (pair (d i) (e i)))
 
 -- and none
 pub tells_none : (f : Word → ℕ) (n : ℕ) → class f n ≢ 0 → first_pair (leaf_pairs f n) ≡ None

@@ -8,10 +8,10 @@ use Rattle.arena.specs.declared.number.ScxNo.{ScxNo}
 use Rattle.arena.specs.declared.step.Step.{Step}
 use Rattle.arena.specs.declared.step.Kind.TheVariants.{LoadSettled}
 use Rattle.arena.specs.declared.word.NodeWord.TheVariants.{Settled}
-use Rattle.arena.specs.declared.word.SettledPart.TheVariants.{Head as HeadWord, Key as KeyWord, Value as ValueWord}
+use Rattle.arena.specs.declared.word.SettledPart.TheVariants.{Head as HeadWord}
 use Rattle.arena.specs.declared.word.Side.{Side}
 use Rattle.arena.specs.declared.word.Side.TheVariants.{Left, Right}
-use Rattle.arena.specs.Words.{node}
+use Rattle.arena.specs.Words.{node, first_key, first_value}
 use Rattle.arena.specs.History.{History, value, Extends}
 use Rattle.arena.specs.Machines.{Call, MatchTurn, begun_at}
 use Rattle.prims.specs.Llx.Known.{load, IsSnapshot, LlxIsReady, LlxWaits, LlxAnswers}
@@ -79,7 +79,7 @@ module _ (m now : SuccessorRun) (c : Call) (begin h : History) (turn : Turn Told
     (record { stood = x.stood; some = x.some; right = x.right; on_route = x.on_route }, deep, refl),
   )
 
-  pub asks_key : (route : Route) (head : HeadParts) (n : NodeNo) → now ≡ record m { at = Key route head n } → turn ≡ Ask (load LoadSettled (node n.0 (Settled KeyWord))) → SuccessorStandsAt m (begun_at c begin) h route n.0 → HasHead h route n.0 head → SuccessorTurn c h now turn
+  pub asks_key : (route : Route) (head : HeadParts) (n : NodeNo) → now ≡ record m { at = Key route head n } → turn ≡ Ask (load LoadSettled (node n.0 first_key)) → SuccessorStandsAt m (begun_at c begin) h route n.0 → HasHead h route n.0 head → SuccessorTurn c h now turn
   asks_key route head n is asked x has = rw (asked, is) (
     begin,
     try,
@@ -87,7 +87,7 @@ module _ (m now : SuccessorRun) (c : Call) (begin h : History) (turn : Turn Told
     (record { stood = x.stood; some = x.some; right = x.right; on_route = x.on_route }, has, refl),
   )
 
-  pub asks_value : (key : ℕ) (n : NodeNo) → now ≡ record m { at = Value key n } → turn ≡ Ask (load LoadSettled (node n.0 (Settled ValueWord))) → HasLeaf m (begun_at c begin) h n.0 key → SuccessorTurn c h now turn
+  pub asks_value : (key : ℕ) (n : NodeNo) → now ≡ record m { at = Value key n } → turn ≡ Ask (load LoadSettled (node n.0 first_value)) → HasLeaf m (begun_at c begin) h n.0 key → SuccessorTurn c h now turn
   asks_value key n is asked x = rw (asked, is) (
     begin,
     try,
@@ -223,11 +223,11 @@ module _ (m : SuccessorRun) (c : Call) (h : History) where
   at_head None route above n is r = absurd (let d : Head route above n ≡ Start = sym is ∙ r.1 in cc)
   at_head (Some v) route above n is r = told_at v (Head route above n) is r
 
-  pub at_key : (got : Option ℕ) (route : Route) (head : HeadParts) (n : NodeNo) → m.at ≡ Key route head n → SuccessorIsReady m c h got → ToldInTry (λ d. SuccessorStandsAt m d h route n.0 × HasHead h route n.0 head × (value h (node n.0 (Settled KeyWord)) ≡ unwrap_or got 0))
+  pub at_key : (got : Option ℕ) (route : Route) (head : HeadParts) (n : NodeNo) → m.at ≡ Key route head n → SuccessorIsReady m c h got → ToldInTry (λ d. SuccessorStandsAt m d h route n.0 × HasHead h route n.0 head × (value h (node n.0 first_key) ≡ unwrap_or got 0))
   at_key None route head n is r = absurd (let d : Key route head n ≡ Start = sym is ∙ r.1 in cc)
   at_key (Some v) route head n is r = told_at v (Key route head n) is r
 
-  pub at_value : (got : Option ℕ) (key : ℕ) (n : NodeNo) → m.at ≡ Value key n → SuccessorIsReady m c h got → ToldInTry (λ d. HasLeaf m d h n.0 key × (value h (node n.0 (Settled ValueWord)) ≡ unwrap_or got 0))
+  pub at_value : (got : Option ℕ) (key : ℕ) (n : NodeNo) → m.at ≡ Value key n → SuccessorIsReady m c h got → ToldInTry (λ d. HasLeaf m d h n.0 key × (value h (node n.0 first_value) ≡ unwrap_or got 0))
   at_value None key n is r = absurd (let d : Value key n ≡ Start = sym is ∙ r.1 in cc)
   at_value (Some v) key n is r = told_at v (Value key n) is r
 

@@ -5,12 +5,11 @@ use Rattle.std.proofs.lemmas.Bool.Decides.{leb_tells}
 use native.Mathlib.Decide.{ℕ_discrete}
 use Rattle.arena.specs.declared.layout.Layout.{Layout}
 use Rattle.arena.specs.declared.number.NodeNo.{NodeNo}
-use Rattle.arena.specs.declared.word.NodeWord.TheVariants.{Settled}
-use Rattle.arena.specs.declared.word.SettledPart.TheVariants.{Key, Value}
 use Rattle.arena.specs.declared.word.Side.TheVariants.{Left, Right}
 use Rattle.arena.specs.declared.word.Word.{Word}
-use Rattle.arena.specs.Words.{node, child}
+use Rattle.arena.specs.Words.{node, child, first_key, first_value}
 use Rattle.arena.specs.History.{History, value}
+use Rattle.ordered_map.specs.Holding.{IsWellCounted}
 use Rattle.ordered_map.specs.declared.pair.Pair.{Pair}
 use Rattle.ordered_map.specs.OrderedMap.{pair, between}
 use Rattle.ordered_map.specs.Spelled.{IsTree, Spells}
@@ -65,14 +64,14 @@ outside_above : (low high k : ℕ) → high < k → (leb low k && leb k high) �
 outside_above low high k i = rw (gt_leb k high i) (no_and (leb low k))
 
 -- the pairs of a leaf
-leaf_taken : (f : Word → ℕ) (w : Bounds) (n : ℕ) → class f n ≡ 0 → w.low ≤ f (node n (Settled Key)) → f (node n (Settled Key)) ≤ w.high → between w.low w.high (leaf_pairs f n) ≡ pair (f (node n (Settled Key))) (f (node n (Settled Value))) ∷ []
-leaf_taken f w n z i j = ap (between w.low w.high) (low_pairs f n z ∙ held_one f n) ∙ rw (inside w.low w.high (f (node n (Settled Key))) i j) refl
+leaf_taken : (f : Word → ℕ) (w : Bounds) (n : ℕ) → IsWellCounted f n → class f n ≡ 0 → w.low ≤ f (node n first_key) → f (node n first_key) ≤ w.high → between w.low w.high (leaf_pairs f n) ≡ pair (f (node n first_key)) (f (node n first_value)) ∷ []
+leaf_taken f w n counted z i j = ap (between w.low w.high) (low_pairs f n z ∙ held_one f n counted) ∙ rw (inside w.low w.high (f (node n first_key)) i j) refl
 
-leaf_below : (f : Word → ℕ) (w : Bounds) (n : ℕ) → class f n ≡ 0 → f (node n (Settled Key)) < w.low → between w.low w.high (leaf_pairs f n) ≡ []
-leaf_below f w n z i = ap (between w.low w.high) (low_pairs f n z ∙ held_one f n) ∙ rw (outside_below w.low w.high (f (node n (Settled Key))) i) refl
+leaf_below : (f : Word → ℕ) (w : Bounds) (n : ℕ) → IsWellCounted f n → class f n ≡ 0 → f (node n first_key) < w.low → between w.low w.high (leaf_pairs f n) ≡ []
+leaf_below f w n counted z i = ap (between w.low w.high) (low_pairs f n z ∙ held_one f n counted) ∙ rw (outside_below w.low w.high (f (node n first_key)) i) refl
 
-leaf_above : (f : Word → ℕ) (w : Bounds) (n : ℕ) → class f n ≡ 0 → w.high < f (node n (Settled Key)) → between w.low w.high (leaf_pairs f n) ≡ []
-leaf_above f w n z i = ap (between w.low w.high) (low_pairs f n z ∙ held_one f n) ∙ rw (outside_above w.low w.high (f (node n (Settled Key))) i) refl
+leaf_above : (f : Word → ℕ) (w : Bounds) (n : ℕ) → IsWellCounted f n → class f n ≡ 0 → w.high < f (node n first_key) → between w.low w.high (leaf_pairs f n) ≡ []
+leaf_above f w n counted z i = ap (between w.low w.high) (low_pairs f n z ∙ held_one f n counted) ∙ rw (outside_above w.low w.high (f (node n first_key)) i) refl
 
 leaf_high : (f : Word → ℕ) (w : Bounds) (n : ℕ) → class f n ≢ 0 → between w.low w.high (leaf_pairs f n) ≡ []
 leaf_high f w n d = ap (between w.low w.high) (high_pairs f n d)
@@ -82,7 +81,7 @@ none_above : (f : Word → ℕ) (w : Bounds) (t : Tree) (lo hi : ℕ) → Shows 
 none_above f w (Leaf n) lo hi s i = go (ℕ_discrete (class f n) 0)
   where
     go : Dec (class f n ≡ 0) → between w.low w.high (leaf_pairs f n) ≡ []
-    go (yes z) = leaf_above f w n z (let a : lo ≤ rank f n = rank_from f n lo hi s.items in omega (arith, a, i, z))
+    go (yes z) = leaf_above f w n (s.items.keys z).0 z (let a : lo ≤ rank f n = rank_from f n lo hi s.items in omega (arith, a, i, z))
     go (no d) = leaf_high f w n d
 none_above f w (Fork n a b) lo hi s i =
     let x : between w.low w.high (pairs f a) ≡ [] = none_above f w a lo (rank f n) s.1 i in
@@ -95,7 +94,7 @@ none_below : (f : Word → ℕ) (w : Bounds) (t : Tree) (lo hi : ℕ) → Shows 
 none_below f w (Leaf n) lo hi s i = go (ℕ_discrete (class f n) 0)
   where
     go : Dec (class f n ≡ 0) → between w.low w.high (leaf_pairs f n) ≡ []
-    go (yes z) = leaf_below f w n z (let a : rank f n < hi = rank_below f n lo hi s.items in omega (arith, a, i, z))
+    go (yes z) = leaf_below f w n (s.items.keys z).0 z (let a : rank f n < hi = rank_below f n lo hi s.items in omega (arith, a, i, z))
     go (no d) = leaf_high f w n d
 none_below f w (Fork n a b) lo hi s i =
     let l : rank f n < hi = open_between f b (rank f n) hi s.2 in
@@ -192,7 +191,8 @@ module _ (h : History) (w : Bounds) (n : ℕ) (taken : List Pair) (waiting : Lis
       holds : part_pairs h w x.part.tree ≡ between w.low w.high (leaf_pairs (value h) n)
       from : x.part.low ≤ rank (value h) n
       to : rank (value h) n < x.part.high
-      small : value h (node n (Settled Key)) < 2 ^ 64
+      small : value h (node n first_key) < 2 ^ 64
+      counted : class (value h) n ≡ 0 → IsWellCounted (value h) n
 
     one_leaf : IsOneLeaf
     one_leaf = go x.part.tree refl x.part.shows x.part.is
@@ -204,17 +204,18 @@ module _ (h : History) (w : Bounds) (n : ℕ) (taken : List Pair) (waiting : Lis
           from = rw e at (rank_from (value h) m x.part.low x.part.high s.items);
           to = rw e at (rank_below (value h) m x.part.low x.part.high s.items);
           small = rw e at s.small;
+          counted = λ z. subst (IsWellCounted (value h)) e (s.items.keys (ap (class (value h)) e ∙ z)).0;
         }
 
     -- its pair is taken
-    pub takes : class (value h) n ≡ 0 → w.low ≤ value h (node n (Settled Key)) → value h (node n (Settled Key)) ≤ w.high → HasVisited h w (taken ++ pair (value h (node n (Settled Key))) (value h (node n (Settled Value))) ∷ []) waiting (leaves - 1)
+    pub takes : class (value h) n ≡ 0 → w.low ≤ value h (node n first_key) → value h (node n first_key) ≤ w.high → HasVisited h w (taken ++ pair (value h (node n first_key)) (value h (node n first_value)) ∷ []) waiting (leaves - 1)
     takes z i j = record {
       tree = x.tree;
       is_tree = x.is_tree;
       rest = x.rest;
       waits = x.waits;
-      finds = x.finds ∙ ap (λ y. taken ++ (y ++ x.rest)) (one_leaf.holds ∙ leaf_taken (value h) w n z i j) ∙ sym (append_assoc taken (pair (value h (node n (Settled Key))) (value h (node n (Settled Value))) ∷ []) x.rest);
-      few = λ d. (let a = x.few in let l : length (taken ++ pair (value h (node n (Settled Key))) (value h (node n (Settled Value))) ∷ []) ≡ length taken + 1 = one_longer taken _ in omega (arith, a, l));
+      finds = x.finds ∙ ap (λ y. taken ++ (y ++ x.rest)) (one_leaf.holds ∙ leaf_taken (value h) w n (one_leaf.counted z) z i j) ∙ sym (append_assoc taken (pair (value h (node n first_key)) (value h (node n first_value)) ∷ []) x.rest);
+      few = λ d. (let a = x.few in let l : length (taken ++ pair (value h (node n first_key)) (value h (node n first_value)) ∷ []) ≡ length taken + 1 = one_longer taken _ in omega (arith, a, l));
     }
 
     -- it has none within the bounds
@@ -228,8 +229,8 @@ module _ (h : History) (w : Bounds) (n : ℕ) (taken : List Pair) (waiting : Lis
       few = λ d. (let e = first d in omega (arith, e));
     }
 
-    pub passes_below : class (value h) n ≡ 0 → value h (node n (Settled Key)) < w.low → HasVisited h w taken waiting (leaves - 1)
-    passes_below z i = passes_none (leaf_below (value h) w n z i) (λ d. go (ℕ_discrete leaves (w.most + 2)))
+    pub passes_below : class (value h) n ≡ 0 → value h (node n first_key) < w.low → HasVisited h w taken waiting (leaves - 1)
+    passes_below z i = passes_none (leaf_below (value h) w n (one_leaf.counted z) z i) (λ d. go (ℕ_discrete leaves (w.most + 2)))
       where
         go : Dec (leaves ≡ w.most + 2) → leaves ≡ w.most + 2
         go (yes e) = e
@@ -239,7 +240,7 @@ module _ (h : History) (w : Bounds) (n : ℕ) (taken : List Pair) (waiting : Lis
     passes_above i = passes_none none (λ d. absurd (let a = x.below d in let b = one_leaf.to in omega (arith, a, b, i)))
       where
         go : Dec (class (value h) n ≡ 0) → between w.low w.high (leaf_pairs (value h) n) ≡ []
-        go (yes z) = leaf_above (value h) w n z (omega (arith, i, z))
+        go (yes z) = leaf_above (value h) w n (one_leaf.counted z) z (omega (arith, i, z))
         go (no d) = leaf_high (value h) w n d
 
         none : between w.low w.high (leaf_pairs (value h) n) ≡ []

@@ -2,7 +2,9 @@
 ghost use Rattle.std.specs.Prelude.{◌≡◌};
 
 use crate::refused::Refused;
-use arena::{Access, Head, Kind, Machine, NodeNo, NodeWord, ScxNo, SettledPart, Step, Turn, Word};
+use arena::{
+    Access, Head, Kind, Machine, NodeNo, NodeWord, ScxNo, SettledPart, Slot, Step, Turn, Word,
+};
 use ordered_map::Pair;
 use prims::{Llx, LlxAt, LlxRun, Snap, Vlx, VlxRun};
 use std::alloc::Global;
@@ -457,12 +459,12 @@ impl RangeRun {
             }
             RangeNext::Key { head, node } => {
                 let at = RangeAt::Key { head, node };
-                let part = NodeWord::Settled(SettledPart::Key);
+                let part = NodeWord::Settled(SettledPart::Key(Slot::First));
                 self.load(at, Kind::LoadSettled, node, part)
             }
             RangeNext::Value { key, node } => {
                 let at = RangeAt::Value { key, node };
-                let part = NodeWord::Settled(SettledPart::Value);
+                let part = NodeWord::Settled(SettledPart::Value(Slot::First));
                 self.load(at, Kind::LoadSettled, node, part)
             }
             RangeNext::Look {

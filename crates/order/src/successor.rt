@@ -5,7 +5,7 @@ ghost use Rattle.order.specs.Successor.Steps.{last_turn};
 
 use crate::refused::Refused;
 use arena::{
-    Access, Head, Kind, Machine, NodeNo, NodeWord, ScxNo, SettledPart, Side, Step, Turn, Word,
+    Access, Head, Kind, Machine, NodeNo, NodeWord, ScxNo, SettledPart, Side, Slot, Step, Turn, Word,
 };
 use ordered_map::Pair;
 use prims::{Llx, LlxAt, LlxRun, Snap, Vlx, VlxRun};
@@ -462,12 +462,12 @@ impl SuccessorRun {
             }
             SuccessorNext::Key { route, head, node } => {
                 let at = SuccessorAt::Key { route, head, node };
-                let part = NodeWord::Settled(SettledPart::Key);
+                let part = NodeWord::Settled(SettledPart::Key(Slot::First));
                 self.load(at, Kind::LoadSettled, node, part)
             }
             SuccessorNext::Value { key, node } => {
                 let at = SuccessorAt::Value { key, node };
-                let part = NodeWord::Settled(SettledPart::Value);
+                let part = NodeWord::Settled(SettledPart::Value(Slot::First));
                 self.load(at, Kind::LoadSettled, node, part)
             }
             SuccessorNext::Validate(found) => self.validate(found),

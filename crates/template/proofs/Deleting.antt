@@ -2,9 +2,7 @@
 use Rattle.std.proofs.Common.{◌≡◌, ◌≢◌, ℕ, zero, suc, ◌<◌, ◌^◌, false, Some, [], ◌∷◌, sym, ◌∙◌, ap, arith, subst}
 use Rattle.arena.specs.declared.word.Side.{Side}
 use Rattle.arena.specs.declared.word.Side.TheVariants.{Left, Right}
-use Rattle.arena.specs.declared.word.NodeWord.TheVariants.{Settled}
-use Rattle.arena.specs.declared.word.SettledPart.TheVariants.{Key, Value}
-use Rattle.arena.specs.Words.{node, child}
+use Rattle.arena.specs.Words.{node, child, first_key, first_value}
 use Rattle.arena.specs.History.{History, value}
 use Rattle.arena.specs.Fills.{IsNamed}
 use Rattle.arena.specs.Machines.{Call}
@@ -19,20 +17,24 @@ use Rattle.ordered_map.specs.Runs.{IsTreeRun}
 use Rattle.ordered_map.specs.TreeShape.{join_plan, leaf_place, sibling_place}
 use Rattle.ordered_map.specs.TreeWords.{class, is_leaf, toward}
 use Rattle.ordered_map.proofs.Lemmas.{walk_named, held_one, taken_out}
+use Rattle.ordered_map.specs.Holding.{IsWellCounted}
 use Rattle.template.specs.FoundLeaf.{HasFoundLeaf}
 use Rattle.template.specs.FreshNodes.{IsJoinAt, HasFreshCopy}
 use Rattle.template.specs.Promises.{IsPromised, IsFresh, IsSnapOf, WillTakeOut}
 use Rattle.template.specs.Trails.{HasTurned}
 use Rattle.template.specs.declared.walk.Found.{Found}
 use Rattle.template.proofs.Promised.{taken_out_promised}
-use Rattle.template.proofs.WalkBounds.{said_some, found_below}
+use Rattle.template.proofs.WalkBounds.{said_some, found_below, found_counted}
 
 module _ (c : Call) (h : History) (k old : ℕ) (f : Found) (d : Descriptor) (above sibling : Snap) (n : ℕ)
     (run : IsTreeRun c.layout h) (small : k < 2 ^ 64) (a : HasFoundLeaf c h k f) (found : f.value ≡ Some old)
     (i : IsJoinAt f d above n) (above_is : IsSnapOf c.layout h d 1 above) (same : (child_of above f.trail.side).0 ≡ f.trail.node.0)
     (sibling_is : IsSnapOf c.layout h d (sibling_place f.trail.side) sibling) (w : HasFreshCopy c.layout c.pass h sibling n) where
-  says : (class (value h) f.trail.node.0 ≡ 0) × (value h (node f.trail.node.0 (Settled Key)) ≡ k)
-  says = said_some (value h) k f.trail.node.0 old (sym found ∙ a.says)
+  counted : class (value h) f.trail.node.0 ≡ 0 → IsWellCounted (value h) f.trail.node.0
+  counted = found_counted k c h f run a
+
+  says : (class (value h) f.trail.node.0 ≡ 0) × (value h (node f.trail.node.0 first_key) ≡ k)
+  says = said_some (value h) k f.trail.node.0 old counted (sym found ∙ a.says)
 
   below : f.trail.node.0 ≢ 0
   below = found_below k c h f run a
@@ -76,7 +78,7 @@ module _ (c : Call) (h : History) (k old : ℕ) (f : Found) (d : Descriptor) (ab
     fork = parent.fork;
     leaf = a.leaf;
     low = says.0;
-    emptied = let v : ℕ = value h (node f.trail.node.0 (Settled Value)) in ap (delete k) (held_one (value h) f.trail.node.0 ∙ (λ i. pair (says.1 i) v ∷ [])) ∙ taken_out k v;
+    emptied = let v : ℕ = value h (node f.trail.node.0 first_value) in ap (delete k) (held_one (value h) f.trail.node.0 (counted says.0) ∙ (λ i. pair (says.1 i) v ∷ [])) ∙ taken_out k v;
     copy = w.copy;
   }
 

@@ -5,9 +5,7 @@ use Rattle.std.specs.Option.{option_map}
 use native.Mathlib.Decide.{ℕ_discrete}
 use Rattle.arena.specs.declared.word.Side.{Side}
 use Rattle.arena.specs.declared.word.Side.TheVariants.{Left}
-use Rattle.arena.specs.declared.word.NodeWord.TheVariants.{Settled}
-use Rattle.arena.specs.declared.word.SettledPart.TheVariants.{Key as KeyWord, Value as ValueWord}
-use Rattle.arena.specs.Words.{node, child}
+use Rattle.arena.specs.Words.{node, child, first_key, first_value}
 use Rattle.arena.specs.History.{History, value, Extends}
 use Rattle.arena.specs.Machines.{Call}
 use Rattle.histories.proofs.Lemmas.{node_since}
@@ -15,7 +13,7 @@ use Rattle.ordered_map.specs.OrderedMap.{pair, get, first_pair}
 use Rattle.ordered_map.specs.Paths.{Passed, IsFirstAt}
 use Rattle.ordered_map.specs.Runs.{IsTreeRun}
 use Rattle.ordered_map.specs.TreeWords.{class, is_leaf, rank, toward, leaf_pairs, first_said}
-use Rattle.ordered_map.proofs.Lemmas.{run_since, walk_small, walk_before, walk_left, walk_least, walk_named, walk_next, walk_own, SameSettled, held_one, low_pairs, high_pairs, settled_rank, settled_leaf}
+use Rattle.ordered_map.proofs.Lemmas.{run_since, walk_holds, walk_small, walk_before, walk_left, walk_least, walk_named, walk_next, walk_own, SameSettled, held_one, low_pairs, high_pairs, settled_rank, settled_leaf}
 use Rattle.template.specs.FoundLeaf.{HasEnded, HasFoundGoal, HasFoundLeaf, first_told}
 use Rattle.template.specs.Trails.{WasPassed, HasTurned}
 use Rattle.template.specs.declared.walk.Found.{Found}
@@ -115,9 +113,10 @@ module _ (c : Call) (h : History) (f : Found) (run : IsTreeRun c.layout h) (a : 
       at_low : f.head.class ≡ 0 → first_said (value h) leaf ≡ first_told f
       at_low z =
           let low : class (value h) leaf ≡ 0 = class_is ∙ z in
-          let key : value h (node leaf (Settled KeyWord)) ≡ f.key = a.key z in
-          let says : f.value ≡ Some (value h (node leaf (Settled ValueWord))) = a.says ∙ ap (get f.key) (low_pairs (value h) leaf low ∙ held_one (value h) leaf) ∙ rw (eq-eqb f.key (value h (node leaf (Settled KeyWord))) (sym key)) refl in
-          ap first_pair (low_pairs (value h) leaf low ∙ held_one (value h) leaf) ∙ (λ i. Some (pair (key i) (value h (node leaf (Settled ValueWord))))) ∙ sym (ap (option_map (pair f.key)) says)
+          let key : value h (node leaf first_key) ≡ f.key = a.key z in
+          let one = held_one (value h) leaf (walk_holds c.layout h a.trail.node.first 0 leaf run a.trail.node.passed a.leaf low).0 in
+          let says : f.value ≡ Some (value h (node leaf first_value)) = a.says ∙ ap (get f.key) (low_pairs (value h) leaf low ∙ one) ∙ rw (eq-eqb f.key (value h (node leaf first_key)) (sym key)) refl in
+          ap first_pair (low_pairs (value h) leaf low ∙ one) ∙ (λ i. Some (pair (key i) (value h (node leaf first_value)))) ∙ sym (ap (option_map (pair f.key)) says)
 
       at_high : f.head.class ≢ 0 → first_said (value h) leaf ≡ first_told f
       at_high d =

@@ -1,6 +1,6 @@
 -- What the layers above know beside the clauses of walks, and of who was in the way of a call,
 -- passed on from one place: no other module of these proofs can be named outside. Declares nothing.
-pub use Rattle.template.proofs.WalkBounds.{walk_loads, walk_fills_not, walk_ready_first, walk_ready_run, found_gives, found_below, found_key, found_class, found_level, found_more, turned_lost, said_some, said_none}
+pub use Rattle.template.proofs.WalkBounds.{walk_loads, walk_fills_not, walk_ready_first, walk_ready_run, found_gives, found_below, found_key, found_class, found_level, found_more, turned_lost, found_counted, said_low, said_some, said_none}
 pub use Rattle.template.proofs.WalkTurns.{own_since}
 pub use Rattle.template.proofs.Promised.{promised_allowed, promised_more}
 pub use Rattle.template.proofs.Tracking.{tracks_by_others, tracks_by_scx, tracked_makes}

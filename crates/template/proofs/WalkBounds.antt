@@ -9,10 +9,10 @@ use Rattle.arena.specs.declared.step.Kind.{Kind}
 use Rattle.arena.specs.declared.step.Kind.TheVariants.{Fill, LoadSettled, LoadChild}
 use Rattle.arena.specs.declared.word.Side.{Side}
 use Rattle.arena.specs.declared.word.NodeWord.TheVariants.{Settled}
-use Rattle.arena.specs.declared.word.SettledPart.TheVariants.{Head as HeadWord, Key as KeyWord, Value as ValueWord}
+use Rattle.arena.specs.declared.word.SettledPart.TheVariants.{Head as HeadWord}
 use Rattle.arena.specs.declared.word.Word.{Word}
 use Rattle.arena.specs.Heads.{head_of}
-use Rattle.arena.specs.Words.{node, info, child}
+use Rattle.arena.specs.Words.{node, info, child, first_key, first_value}
 use Rattle.arena.specs.History.{History, ◌⊳◌, value, Extends}
 use Rattle.arena.specs.Fills.{IsNamed}
 use Rattle.arena.specs.Blame.{WasInTheWay}
@@ -20,12 +20,13 @@ use Rattle.arena.specs.Machines.{IsRun, Call}
 use Rattle.arena.specs.TakenNodes.{taken_nodes}
 use Rattle.arena.proofs.Lemmas.{ends_trans, taken_few, taken_more}
 use Rattle.histories.proofs.Lemmas.{node_stays}
+use Rattle.ordered_map.specs.Holding.{IsWellCounted}
 use Rattle.ordered_map.specs.OrderedMap.{get}
 use Rattle.ordered_map.specs.Paths.{IsAnswerAt}
 use Rattle.ordered_map.specs.Runs.{IsTreeRun}
 use Rattle.ordered_map.specs.TreeShape.{TreeAllows}
 use Rattle.ordered_map.specs.TreeWords.{class, is_leaf, rank, said, IsBlankAboveKeys}
-use Rattle.ordered_map.proofs.Lemmas.{walk_answers, walk_named, run_since, root_head, passed_blank, blame_field, SameSettled, held_one, low_pairs, settled_said, settled_leaf}
+use Rattle.ordered_map.proofs.Lemmas.{walk_answers, walk_holds, walk_named, run_since, root_head, passed_blank, blame_field, SameSettled, held_one, low_pairs, settled_said, settled_leaf}
 use Rattle.template.specs.declared.walk.Found.{Found}
 use Rattle.template.specs.declared.walk.WalkRun.{WalkRun}
 use Rattle.template.specs.declared.walk.WalkAt.{WalkAt}
@@ -75,36 +76,40 @@ walk_ready_run m c h (Some v) r = (r.run, r.small)
 
 -- What a leaf says of a key
 
--- of a leaf that tells a value: its key is that one
-pub said_some : (f : Word → ℕ) (k n old : ℕ) → Some old ≡ said f k n → (class f n ≡ 0) × (f (node n (Settled KeyWord)) ≡ k)
-said_some f k n old e = go (ℕ_discrete (class f n) 0)
+-- one that tells a value is of class 0
+pub said_low : (f : Word → ℕ) (k n old : ℕ) → Some old ≡ said f k n → class f n ≡ 0
+said_low f k n old e = go (ℕ_discrete (class f n) 0)
   where
-    nothing_above : class f n ≢ 0 → said f k n ≡ None
-    nothing_above d = rw (ne_eqb (class f n) 0 d) refl
+    go : Dec (class f n ≡ 0) → class f n ≡ 0
+    go (yes z) = z
+    go (no d) = absurd (let y : Some old ≡ None = e ∙ rw (ne_eqb (class f n) 0 d) refl in cc)
 
-    nothing_of : class f n ≡ 0 → k ≢ f (node n (Settled KeyWord)) → said f k n ≡ None
-    nothing_of z d = ap (get k) (low_pairs f n z ∙ held_one f n) ∙ rw (ne_eqb k (f (node n (Settled KeyWord))) d) refl
+-- and its key is that one
+pub said_some : (f : Word → ℕ) (k n old : ℕ) → (class f n ≡ 0 → IsWellCounted f n) → Some old ≡ said f k n → (class f n ≡ 0) × (f (node n first_key) ≡ k)
+said_some f k n old counted e = (low, at_key (ℕ_discrete k (f (node n first_key))))
+  where
+    low : class f n ≡ 0
+    low = said_low f k n old e
 
-    at_key : class f n ≡ 0 → Dec (k ≡ f (node n (Settled KeyWord))) → f (node n (Settled KeyWord)) ≡ k
-    at_key z (yes q) = sym q
-    at_key z (no d) = absurd (let y : Some old ≡ None = e ∙ nothing_of z d in cc)
+    nothing_of : k ≢ f (node n first_key) → said f k n ≡ None
+    nothing_of d = ap (get k) (low_pairs f n low ∙ held_one f n (counted low)) ∙ rw (ne_eqb k (f (node n first_key)) d) refl
 
-    go : Dec (class f n ≡ 0) → (class f n ≡ 0) × (f (node n (Settled KeyWord)) ≡ k)
-    go (no d) = absurd (let y : Some old ≡ None = e ∙ nothing_above d in cc)
-    go (yes z) = (z, at_key z (ℕ_discrete k (f (node n (Settled KeyWord)))))
+    at_key : Dec (k ≡ f (node n first_key)) → f (node n first_key) ≡ k
+    at_key (yes q) = sym q
+    at_key (no d) = absurd (let y : Some old ≡ None = e ∙ nothing_of d in cc)
 
 -- of one that tells none: the key is another one
-pub said_none : (f : Word → ℕ) (k n : ℕ) → k < 2 ^ 64 → None ≡ said f k n → k ≢ rank f n
-said_none f k n small e at = absurd (let y : None ≡ Some (f (node n (Settled ValueWord))) = e ∙ value_of low key in cc)
+pub said_none : (f : Word → ℕ) (k n : ℕ) → (class f n ≡ 0 → IsWellCounted f n) → k < 2 ^ 64 → None ≡ said f k n → k ≢ rank f n
+said_none f k n counted small e at = absurd (let y : None ≡ Some (f (node n first_value)) = e ∙ value_of low key in cc)
   where
     low : class f n ≡ 0
     low = omega (arith, at, small)
 
-    key : k ≡ f (node n (Settled KeyWord))
+    key : k ≡ f (node n first_key)
     key = omega (arith, at, small)
 
-    value_of : class f n ≡ 0 → k ≡ f (node n (Settled KeyWord)) → said f k n ≡ Some (f (node n (Settled ValueWord)))
-    value_of z q = ap (get k) (low_pairs f n z ∙ held_one f n) ∙ rw (eq-eqb k (f (node n (Settled KeyWord))) q) refl
+    value_of : class f n ≡ 0 → k ≡ f (node n first_key) → said f k n ≡ Some (f (node n first_value))
+    value_of z q = ap (get k) (low_pairs f n z ∙ held_one f n (counted z)) ∙ rw (eq-eqb k (f (node n first_key)) q) refl
 
 -- What it has found
 
@@ -117,6 +122,10 @@ module _ {asked : ℕ} (k : ℕ) (c : Call) (h : History) (f : Found) (run : IsT
       let x : true ≡ false = sym leaf ∙ fork in
       cc
 
+  -- a leaf of class 0 holds as many pairs as it may hold
+  pub found_counted : class (value h) f.trail.node.0 ≡ 0 → IsWellCounted (value h) f.trail.node.0
+  found_counted low = (walk_holds c.layout h a.trail.node.first k f.trail.node.0 run a.trail.node.passed a.leaf low).0
+
   blank : IsBlankAboveKeys (value h) f.trail.node.0
   blank = passed_blank c.layout h a.trail.node.first k f.trail.node.0 run a.trail.node.passed
 
@@ -124,10 +133,10 @@ module _ {asked : ℕ} (k : ℕ) (c : Call) (h : History) (f : Found) (run : IsT
   high d e = d (sym (ap (λ w. w.class) a.head) ∙ e)
 
   -- the key of the leaf is the one that is found, whether it was loaded or not
-  pub found_key : value h (node f.trail.node.0 (Settled KeyWord)) ≡ f.key
+  pub found_key : value h (node f.trail.node.0 first_key) ≡ f.key
   found_key = go (ℕ_discrete f.head.class 0)
     where
-      go : Dec (f.head.class ≡ 0) → value h (node f.trail.node.0 (Settled KeyWord)) ≡ f.key
+      go : Dec (f.head.class ≡ 0) → value h (node f.trail.node.0 first_key) ≡ f.key
       go (yes e) = a.key e
       go (no d) = blank (high d) ∙ sym (a.blank d)
 
@@ -150,7 +159,7 @@ found_more c h r k asked f run run_now a = record {
   leaf = settled_leaf (value h) (value (r ⊳ h)) f.trail.node.0 same ∙ a.leaf;
   head = ap head_of (same (Settled HeadWord) tt) ∙ a.head;
   deep = let deep : f.head.level < 2 + length (taken_nodes h) = a.deep in let more : length (taken_nodes h) ≤ length (taken_nodes (r ⊳ h)) = taken_more h r in omega (arith, deep, more);
-  key = λ low. same (Settled KeyWord) tt ∙ a.key low;
+  key = λ low. same first_key tt ∙ a.key low;
   blank = a.blank;
   says = a.says ∙ sym (settled_said (value h) (value (r ⊳ h)) asked f.trail.node.0 same);
 }

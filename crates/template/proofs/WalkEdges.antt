@@ -6,9 +6,9 @@ use Rattle.arena.specs.declared.step.Kind.TheVariants.{LoadSettled, LoadChild}
 use Rattle.arena.specs.declared.word.Side.{Side}
 use Rattle.arena.specs.declared.word.Side.TheVariants.{Left, Right}
 use Rattle.arena.specs.declared.word.NodeWord.TheVariants.{Settled, Child as ChildWord}
-use Rattle.arena.specs.declared.word.SettledPart.TheVariants.{Head as HeadWord, Key as KeyWord, Value as ValueWord}
+use Rattle.arena.specs.declared.word.SettledPart.TheVariants.{Head as HeadWord}
 use Rattle.arena.specs.Heads.{head_of}
-use Rattle.arena.specs.Words.{node}
+use Rattle.arena.specs.Words.{node, first_key, first_value}
 use Rattle.arena.specs.History.{History, Extends}
 use Rattle.arena.specs.Machines.{Call}
 use Rattle.prims.specs.Llx.Known.{load}
@@ -44,7 +44,7 @@ module _ (goal : Goal) (t : Trail) (d : Call) (h : History) where
     head_is = rw (stands_at_head p v x w).1 is
 
     -- it loads the key of a node where it asks for it
-    pub head_to_key : asks_key goal head ≡ true → WalkWaits (walk_at goal t (Key head)) d h (load LoadSettled (node t.node.0 (Settled KeyWord)))
+    pub head_to_key : asks_key goal head ≡ true → WalkWaits (walk_at goal t (Key head)) d h (load LoadSettled (node t.node.0 first_key))
     head_to_key asks = waits_at d h (walk_at goal t p) (walk_at goal t (Key head)) (Ask _) (Key head) _ stood record { stands = refl; asked = refl } (stood.trail, head_is, asked_low goal head asks) refl
 
     -- it ends at another leaf, which is above all keys
@@ -69,7 +69,7 @@ module _ (goal : Goal) (t : Trail) (d : Call) (h : History) where
         (w.known.0, level_is d h m at_low head w.known.1, fork_is d h m at_low head w.known.1 fork, goes_by_key d h m at_low head w.known.1 w.known.2 low w.told ∙ sym is) refl
 
     -- it loads the value of a leaf of whose key it tells
-    pub key_to_value : head.leaf ≡ true → asked_key goal low ≡ low → WalkWaits (walk_at goal t (Value head low)) d h (load LoadSettled (node t.node.0 (Settled ValueWord)))
+    pub key_to_value : head.leaf ≡ true → asked_key goal low ≡ low → WalkWaits (walk_at goal t (Value head low)) d h (load LoadSettled (node t.node.0 first_value))
     key_to_value leaf same = waits_at d h (walk_at goal t (Key head)) (walk_at goal t (Value head low)) (Ask _) (Value head low) _ at_low record { stands = refl; asked = refl }
         (w.known.0, w.known.1, w.known.2, leaf, w.told, same) refl
 
@@ -77,7 +77,7 @@ module _ (goal : Goal) (t : Trail) (d : Call) (h : History) where
     pub key_ends : head.leaf ≡ true → asked_key goal low ≢ low → HasFoundGoal goal d h record { trail = t; head = head; key = low; value = None }
     key_ends leaf other = let m = walk_at goal t (Key head) in
         ends_low d h m m (Done _) head low None at_low record { stands = refl; done = refl } w.known.1 w.known.2 leaf w.told
-        (says_nothing d h m at_low head w.known.1 w.known.2 low w.told (asked_key goal low) other)
+        (says_nothing d h m at_low head w.known.1 w.known.2 low w.told leaf (asked_key goal low) other)
 
   -- the value of a leaf is the last that it is told
   pub value_ends : (head : HeadParts) (low v : ℕ) → WalkIsTold (walk_at goal t (Value head low)) d h v → HasFoundGoal goal d h record { trail = t; head = head; key = low; value = Some v }

@@ -1,5 +1,5 @@
 -- What a walk waits for after each of its turns.
-use Rattle.std.proofs.Common.{◌≡◌, ◌≢◌, ℕ, ◌*◌, ◌+◌, ◌-◌, ◌^◌, ◌<◌, true, false, cond, ltb, length, eqb, eq-eqb, eqb-true, ne_eqb, lt-ltb, inr, refl, sym, ◌∙◌, ap, arith, subst, Option, Some, None}
+use Rattle.std.proofs.Common.{◌≡◌, ◌≢◌, ℕ, ◌*◌, ◌+◌, ◌-◌, ◌^◌, ◌<◌, true, false, cond, ltb, length, eqb, eq-eqb, eqb-true, ne_eqb, lt-ltb, inr, refl, sym, ◌∙◌, ap, arith, subst, Option, Some, None, [], ◌∷◌}
 use Rattle.std.specs.Prelude.{unwrap_or}
 use native.Mathlib.Decide.{ℕ_discrete}
 use Rattle.arena.specs.declared.head.Head.{Head as HeadParts}
@@ -9,15 +9,16 @@ use Rattle.arena.specs.declared.step.Step.{Step}
 use Rattle.arena.specs.declared.word.Side.{Side}
 use Rattle.arena.specs.declared.word.Side.TheVariants.{Left, Right}
 use Rattle.arena.specs.declared.word.NodeWord.TheVariants.{Settled, Child as ChildWord}
-use Rattle.arena.specs.declared.word.SettledPart.TheVariants.{Head as HeadWord, Key as KeyWord, Value as ValueWord}
+use Rattle.arena.specs.declared.word.SettledPart.TheVariants.{Head as HeadWord}
 use Rattle.arena.specs.Heads.{head_of}
-use Rattle.arena.specs.Words.{child}
+use Rattle.arena.specs.Words.{child, first_key, first_value}
 use Rattle.arena.specs.History.{History, value, Extends}
 use Rattle.arena.specs.Machines.{Call, MatchTurn}
 use Rattle.arena.specs.TakenNodes.{taken_nodes}
 use Rattle.arena.proofs.Lemmas.{ends_self}
-use Rattle.ordered_map.proofs.Lemmas.{walk_first, walk_next, walk_left, walk_rises, below_root, passed_depth, held_one, low_pairs}
-use Rattle.ordered_map.specs.OrderedMap.{get}
+use Rattle.ordered_map.proofs.Lemmas.{walk_first, walk_holds, walk_next, walk_left, walk_rises, below_root, passed_depth, held_one, low_pairs}
+use Rattle.ordered_map.specs.Holding.{held_pairs}
+use Rattle.ordered_map.specs.OrderedMap.{get, pair}
 use Rattle.ordered_map.specs.Paths.{Passed}
 use Rattle.ordered_map.specs.Runs.{IsTreeRun}
 use Rattle.ordered_map.specs.TreeWords.{class, is_leaf, level, rank, toward, said}
@@ -40,7 +41,7 @@ pub waits_at : (c : Call) (h : History) (old now : WalkRun) (turn : Turn Found) 
 waits_at c h old now turn at step k a known e = rw (a.asked, a.stands) record { run = k.run; small = k.small; since = own_since c h k.own; known = known; asked = e }
 
 -- it has ended
-answers_at : (c : Call) (h : History) (old now : WalkRun) (turn : Turn Found) (head : HeadParts) (key : ℕ) (found : Option ℕ) → WalkStands old c h → WalkEnds old now turn head key found → is_leaf (value h) old.trail.node.0 ≡ true → head_of (here h old (Settled HeadWord)) ≡ head → (head.class ≡ 0 → here h old (Settled KeyWord) ≡ key) → (head.class ≢ 0 → key ≡ 0) → found ≡ said (value h) (asked_key old.goal key) old.trail.node.0 → WalkTurn c h now turn
+answers_at : (c : Call) (h : History) (old now : WalkRun) (turn : Turn Found) (head : HeadParts) (key : ℕ) (found : Option ℕ) → WalkStands old c h → WalkEnds old now turn head key found → is_leaf (value h) old.trail.node.0 ≡ true → head_of (here h old (Settled HeadWord)) ≡ head → (head.class ≡ 0 → here h old first_key ≡ key) → (head.class ≢ 0 → key ≡ 0) → found ≡ said (value h) (asked_key old.goal key) old.trail.node.0 → WalkTurn c h now turn
 answers_at c h old now turn head key found k a leaf e d blank says =
     let deep : head.level < 2 + length (taken_nodes h) = subst (λ w. w.level < 2 + length (taken_nodes h)) e (passed_depth c.layout h k.trail.node.first (path_key old.goal) old.trail.node.0 k.run k.trail.node.passed) in
     rw (a.done, a.stands) record { trail = k.trail; leaf = leaf; head = e; deep = deep; key = d; blank = blank; says = says }
@@ -73,28 +74,32 @@ module _ (c : Call) (h : History) (m : WalkRun) (k : WalkStands m c h) (head : H
   says_nothing_above asked q = rw (ne_eqb (class (value h) n) 0 (λ x. q (sym class_is ∙ x))) refl
 
   -- at a key
-  module _ (low : head.class ≡ 0) (key : ℕ) (d : here h m (Settled KeyWord) ≡ key) where
+  module _ (low : head.class ≡ 0) (key : ℕ) (d : here h m first_key ≡ key) where
     class_zero : class (value h) n ≡ 0
     class_zero = class_is ∙ low
 
     at_key : rank (value h) n ≡ key
     at_key = let x = class_zero in omega (arith, x, d)
 
-    pub says_nothing : (asked : ℕ) → asked ≢ key → None ≡ said (value h) asked n
-    says_nothing asked q = sym (ap (get asked) (low_pairs (value h) n class_zero ∙ held_one (value h) n) ∙ rw (ne_eqb asked (here h m (Settled KeyWord)) (λ x. q (x ∙ d))) refl)
+    -- what it holds, where it is a leaf
+    holds_key : head.leaf ≡ true → held_pairs (value h) n ≡ pair (here h m first_key) (here h m first_value) ∷ []
+    holds_key leaf = held_one (value h) n (walk_holds c.layout h k.trail.node.first (path_key m.goal) n k.run k.trail.node.passed (leaf_is leaf) class_zero).0
+
+    pub says_nothing : head.leaf ≡ true → (asked : ℕ) → asked ≢ key → None ≡ said (value h) asked n
+    says_nothing leaf asked q = sym (ap (get asked) (low_pairs (value h) n class_zero ∙ holds_key leaf) ∙ rw (ne_eqb asked (here h m first_key) (λ x. q (x ∙ d))) refl)
 
     pub goes_by_key : toward (value h) n (path_key m.goal) ≡ cond (ltb (path_key m.goal) key) Left Right
     goes_by_key = ap (λ r. cond (ltb (path_key m.goal) r) Left Right) at_key
 
-    pub says_value : (asked : ℕ) → asked ≡ key → (v : ℕ) → here h m (Settled ValueWord) ≡ v → Some v ≡ said (value h) asked n
-    says_value asked q v x = sym (ap (get asked) (low_pairs (value h) n class_zero ∙ held_one (value h) n) ∙ rw (eq-eqb asked (here h m (Settled KeyWord)) (q ∙ sym d)) (ap Some x))
+    pub says_value : head.leaf ≡ true → (asked : ℕ) → asked ≡ key → (v : ℕ) → here h m first_value ≡ v → Some v ≡ said (value h) asked n
+    says_value leaf asked q v x = sym (ap (get asked) (low_pairs (value h) n class_zero ∙ holds_key leaf) ∙ rw (eq-eqb asked (here h m first_key) (q ∙ sym d)) (ap Some x))
 
 -- it has ended at a leaf above all keys
 pub ends_above : (c : Call) (h : History) (old now : WalkRun) (turn : Turn Found) (head : HeadParts) → WalkStands old c h → WalkEnds old now turn head 0 None → head_of (here h old (Settled HeadWord)) ≡ head → head.class ≢ 0 → head.leaf ≡ true → WalkTurn c h now turn
 ends_above c h old now turn head k a e high leaf = answers_at c h old now turn head 0 None k a (leaf_is c h old k head e leaf) e (λ q. absurd (high q)) (λ d. refl) (says_nothing_above c h old k head e (asked_key old.goal 0) high)
 
 -- it has ended at a leaf with a key
-pub ends_low : (c : Call) (h : History) (old now : WalkRun) (turn : Turn Found) (head : HeadParts) (key : ℕ) (found : Option ℕ) → WalkStands old c h → WalkEnds old now turn head key found → head_of (here h old (Settled HeadWord)) ≡ head → head.class ≡ 0 → head.leaf ≡ true → here h old (Settled KeyWord) ≡ key → found ≡ said (value h) (asked_key old.goal key) old.trail.node.0 → WalkTurn c h now turn
+pub ends_low : (c : Call) (h : History) (old now : WalkRun) (turn : Turn Found) (head : HeadParts) (key : ℕ) (found : Option ℕ) → WalkStands old c h → WalkEnds old now turn head key found → head_of (here h old (Settled HeadWord)) ≡ head → head.class ≡ 0 → head.leaf ≡ true → here h old first_key ≡ key → found ≡ said (value h) (asked_key old.goal key) old.trail.node.0 → WalkTurn c h now turn
 ends_low c h old now turn head key found k a e low leaf d says = answers_at c h old now turn head key found k a (leaf_is c h old k head e leaf) e (λ q. d) (λ high. absurd (high low)) says
 
 -- Which keys it loads
@@ -187,7 +192,7 @@ pub turn_value : (c : Call) (h : History) (old now : WalkRun) (turn : Turn Found
 turn_value c h old now turn head key found is t a =
     let x : WalkKnows c h old (Value head key) = subst (WalkKnows c h old) is t.known in
     let k : WalkStands old c h = record { run = t.run; small = t.small; own = t.own; trail = x.0 } in
-    ends_low c h old now turn head key (Some found) k a x.1 x.2 x.3 x.4 (says_value c h old k head x.1 x.2 key x.4 (asked_key old.goal key) x.5 found (rw is at t.told))
+    ends_low c h old now turn head key (Some found) k a x.1 x.2 x.3 x.4 (says_value c h old k head x.1 x.2 key x.4 x.3 (asked_key old.goal key) x.5 found (rw is at t.told))
 
 -- Its steps
 

@@ -2,9 +2,9 @@
 use Rattle.std.specs.Prelude.{◌≡◌, ◌≢◌, ℕ, ◌+◌, ◌<◌, true, length, Option}
 use Rattle.std.specs.Option.{option_map}
 use Rattle.arena.specs.declared.word.NodeWord.TheVariants.{Settled}
-use Rattle.arena.specs.declared.word.SettledPart.TheVariants.{Head, Key}
+use Rattle.arena.specs.declared.word.SettledPart.TheVariants.{Head}
 use Rattle.arena.specs.Heads.{head_of}
-use Rattle.arena.specs.Words.{node}
+use Rattle.arena.specs.Words.{node, first_key}
 use Rattle.arena.specs.History.{History, value}
 use Rattle.arena.specs.Machines.{Call}
 use Rattle.arena.specs.TakenNodes.{taken_nodes}
@@ -34,7 +34,7 @@ pub record HasEnded (c : Call) (h : History) (k asked : ℕ) (f : Found) : Type 
   pub head : head_of (value h (node f.trail.node.0 (Settled Head))) ≡ f.head
   -- it is not deeper than the taken nodes allow
   pub deep : f.head.level < 2 + length (taken_nodes h)
-  pub key : f.head.class ≡ 0 → value h (node f.trail.node.0 (Settled Key)) ≡ f.key
+  pub key : f.head.class ≡ 0 → value h (node f.trail.node.0 first_key) ≡ f.key
   -- of a leaf above all keys the key told is 0
   pub blank : f.head.class ≢ 0 → f.key ≡ 0
   pub says : f.value ≡ said (value h) asked f.trail.node.0

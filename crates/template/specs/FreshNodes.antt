@@ -2,10 +2,8 @@
 -- where a leaf is taken out.
 use Rattle.std.specs.Prelude.{◌≡◌, ℕ, false}
 use Rattle.arena.specs.declared.layout.Layout.{Layout}
-use Rattle.arena.specs.declared.word.NodeWord.TheVariants.{Settled}
-use Rattle.arena.specs.declared.word.SettledPart.TheVariants.{Value}
 use Rattle.arena.specs.declared.word.Side.{Side}
-use Rattle.arena.specs.Words.{node, child}
+use Rattle.arena.specs.Words.{node, child, first_value}
 use Rattle.arena.specs.History.{History, value}
 use Rattle.histories.specs.Descriptor.{Descriptor}
 use Rattle.prims.specs.Snap.{child_of}
@@ -43,4 +41,4 @@ pub record HasFreshCopy (lay : Layout) (c : ℕ) (h : History) (snap : Snap) (n 
   pub fresh : IsFresh lay c h n
   pub copy : IsCopyOf (value h) n snap.node.0
   pub fields : is_leaf (value h) snap.node.0 ≡ false → (side : Side) → value h (child n side) ≡ (child_of snap side).0
-  pub unfilled : is_leaf (value h) snap.node.0 ≡ false → value h (node n (Settled Value)) ≡ 0
+  pub unfilled : is_leaf (value h) snap.node.0 ≡ false → value h (node n first_value) ≡ 0

@@ -2,7 +2,9 @@
 ghost use Rattle.std.specs.Prelude.{◌≡◌, ℕ};
 
 use crate::shape::Tree;
-use arena::{Access, Head, Kind, Machine, NodeNo, NodeWord, SettledPart, Side, Step, Turn, Word};
+use arena::{
+    Access, Head, Kind, Machine, NodeNo, NodeWord, SettledPart, Side, Slot, Step, Turn, Word,
+};
 
 /// The last nodes of a walk: the node that it has come to, and the two forks above it with the sides
 /// to which it has gone there. A walk that stands at the root has no fork above it, and one that
@@ -71,7 +73,8 @@ impl WalkRun {
     ghost use Rattle.std.specs.Prelude.{◌≡◌, ℕ, ◌+◌, ◌-◌, ◌*◌, ◌^◌, ◌<◌, ◌≤◌, true, false, if◌then◌else◌, ◌==◌, nat_lt};
     ghost use Rattle.arena.specs.Heads.{head_of};
     ghost use Rattle.arena.specs.declared.word.NodeWord.TheVariants.{Settled, Child as ChildWord};
-    ghost use Rattle.arena.specs.declared.word.SettledPart.TheVariants.{Head as HeadWord, Key as KeyWord};
+    ghost use Rattle.arena.specs.declared.word.SettledPart.TheVariants.{Head as HeadWord};
+    ghost use Rattle.arena.specs.Words.{first_key};
     ghost use Rattle.arena.specs.History.{History, value};
     ghost use Rattle.arena.specs.Machines.{MatchTurn, Call};
     ghost use Rattle.ordered_map.specs.TreeWords.{is_leaf, level, toward};
@@ -184,7 +187,10 @@ impl WalkRun {
             → MatchTurn result (λ _. walk_left self.new.at nodes < 3 * (2 + nodes - head.level) - 1) (λ _. Unit {0}) }
     {
         if self.asks_key(head) {
-            self.load_settled(WalkAt::Key { head }, NodeWord::Settled(SettledPart::Key))
+            self.load_settled(
+                WalkAt::Key { head },
+                NodeWord::Settled(SettledPart::Key(Slot::First)),
+            )
         } else if head.leaf {
             self.end(head, 0, None)
         } else {
@@ -195,7 +201,7 @@ impl WalkRun {
     /// Goes on with the key of a node of class 0.
     fn read_key(&mut self, head: Head, key: u64) -> Turn<Found>
         ensures turn { (c : Call) (h : History) → WalkStands self.old c h → head_of (here h self.old (Settled HeadWord)) ≡ head
-            → head.class ≡ 0 → here h self.old (Settled KeyWord) ≡ key → WalkTurn c h self.new result }
+            → head.class ≡ 0 → here h self.old first_key ≡ key → WalkTurn c h self.new result }
         ensures same { self.new.goal ≡ self.old.goal }
         ensures nearer { (nodes : ℕ) → head.level < 2 + nodes
             → MatchTurn result (λ _. walk_left self.new.at nodes < walk_left (WalkAt.Key head) nodes) (λ _. Unit {0}) }
@@ -205,7 +211,7 @@ impl WalkRun {
         } else if self.asks_value(key) {
             self.load_settled(
                 WalkAt::Value { head, key },
-                NodeWord::Settled(SettledPart::Value),
+                NodeWord::Settled(SettledPart::Value(Slot::First)),
             )
         } else {
             self.end(head, key, None)

@@ -1,7 +1,7 @@
 //! Delete.
 ghost use Rattle.std.specs.Prelude.{◌≡◌};
 
-use arena::{Head, NodeNo, NodeWord, SettledPart, Share, Side};
+use arena::{Head, NodeNo, NodeWord, SettledPart, Share, Side, Slot};
 use edits::{Edit, Loaded, Look, Need, Nodes, Nth, Piece, UpdateAt, UpdateRun};
 use prims::Snap;
 use template::{Found, Goal};
@@ -79,9 +79,9 @@ impl Delete {
         if head.class != 0 {
             None
         } else if loaded.key.is_none() {
-            Some(NodeWord::Settled(SettledPart::Key))
+            Some(NodeWord::Settled(SettledPart::Key(Slot::First)))
         } else if head.leaf && loaded.value.is_none() {
-            Some(NodeWord::Settled(SettledPart::Value))
+            Some(NodeWord::Settled(SettledPart::Value(Slot::First)))
         } else {
             None
         }

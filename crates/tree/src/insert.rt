@@ -1,7 +1,7 @@
 //! Insert.
 ghost use Rattle.std.specs.Prelude.{◌≡◌};
 
-use arena::{NodeNo, NodeWord, SettledPart, Share, Side};
+use arena::{NodeNo, NodeWord, SettledPart, Share, Side, Slot};
 use edits::{Edit, Loaded, Look, Need, Nodes, Nth, Piece, UpdateAt, UpdateRun};
 use prims::Snap;
 use template::{Found, Goal};
@@ -144,7 +144,7 @@ impl Edit for Insert {
 
     fn load(&self, found: &Found, snaps: &[Snap], loaded: &Loaded, nth: Nth) -> Option<NodeWord> {
         if nth == Nth::Second && found.head.class == 0 && loaded.value.is_none() {
-            Some(NodeWord::Settled(SettledPart::Value))
+            Some(NodeWord::Settled(SettledPart::Value(Slot::First)))
         } else {
             None
         }

@@ -1,10 +1,10 @@
 -- What an update knows stays true after any row.
-use Rattle.std.proofs.Common.{◌≡◌, ◌≢◌, ℕ, Some, None, Option, List, inr, refl, sym, ◌∙◌}
+use Rattle.std.proofs.Common.{◌≡◌, ◌≢◌, ℕ, Some, None, Option, List, inr, sym, ◌∙◌}
 use Rattle.arena.specs.declared.step.Row.{Row}
 use Rattle.arena.specs.declared.step.Kind.TheVariants.{Fill}
 use Rattle.arena.specs.declared.word.NodeWord.TheVariants.{Settled}
-use Rattle.arena.specs.declared.word.SettledPart.TheVariants.{Head, Key, Value}
-use Rattle.arena.specs.declared.word.Word.{Word}
+use Rattle.arena.specs.Words.{first_key, first_value}
+use Rattle.arena.specs.declared.word.SettledPart.TheVariants.{Head}
 use Rattle.arena.specs.History.{History, ◌⊳◌, value}
 use Rattle.arena.specs.Lawful.{Lawful}
 use Rattle.arena.specs.Machines.{IsRun, Call}
@@ -17,7 +17,6 @@ use Rattle.prims.specs.declared.snap.Snap.{Snap}
 use Rattle.prims.proofs.Lemmas.{over_more, share_by_others, share_by_step, usable_now, usable_since}
 use Rattle.ordered_map.specs.Runs.{IsTreeRun}
 use Rattle.ordered_map.specs.TreeShape.{TreeAllows}
-use Rattle.ordered_map.specs.TreeWords.{said}
 use Rattle.ordered_map.proofs.Lemmas.{SameSettled}
 use Rattle.template.specs.FoundLeaf.{path_key, asked_key}
 use Rattle.template.specs.declared.walk.Found.{Found}
@@ -67,8 +66,8 @@ loaded_word (Some u) v w e x = x ∙ sym e
 pub loaded_more : (c : Call) (h : History) (r : Row) (n : ℕ) (ld : Loaded) → Lawful c.layout (r ⊳ h) → SameSettled (value h) (value (r ⊳ h)) n → AreLoaded (value h) n ld → AreLoaded (value (r ⊳ h)) n ld
 loaded_more c h r n ld l same x = record {
   head = loaded_word ld.head _ _ (same (Settled Head) tt) x.head;
-  key = loaded_word ld.key _ _ (same (Settled Key) tt) x.key;
-  value = loaded_word ld.value _ _ (same (Settled Value) tt) x.value;
+  key = loaded_word ld.key _ _ (same first_key tt) x.key;
+  value = loaded_word ld.value _ _ (same first_value tt) x.value;
 }
 
 module _ {E : Type 0} (e : EditMeaning E) where

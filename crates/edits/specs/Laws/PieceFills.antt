@@ -3,13 +3,15 @@ use Rattle.std.proofs.Common.{◌≡◌, ◌≢◌, ℕ, ◌<◌, Bool, true, fa
 use Rattle.std.specs.Prelude.{if◌then◌else◌, unwrap_or}
 use Rattle.arena.specs.declared.word.NodeWord.{NodeWord}
 use Rattle.arena.specs.declared.word.NodeWord.TheVariants.{Settled, Child, Info, Marked}
-use Rattle.arena.specs.declared.word.SettledPart.TheVariants.{Head}
+use Rattle.arena.specs.declared.word.SettledPart.TheVariants.{Head, More, High}
+use Rattle.arena.specs.declared.word.Slot.TheVariants.{First, Second, Third, Fourth}
 use Rattle.arena.specs.declared.word.Word.{Word}
 use Rattle.arena.specs.declared.word.Word.TheVariants.{Node, Scx as ScxOf}
 use Rattle.arena.specs.History.{History, value}
 use Rattle.arena.specs.Words.{node, same_node_word}
 use Rattle.arena.proofs.Lemmas.{word_refl, word_same}
 use Rattle.histories.proofs.Lemmas.{IsNodeFill}
+use Rattle.ordered_map.specs.Holding.{HasOnePair}
 use Rattle.edits.specs.declared.edit.Piece.{Piece}
 use Rattle.edits.specs.declared.edit.Piece.TheVariants.{Leaf, Fork}
 use Rattle.edits.specs.Pieces.{WordFill, filled, fills_of, fills_word, made_before, made_with, many_left, next_behind, part_behind}
@@ -52,6 +54,11 @@ one_more (x ∷ xs) part other i = go (same_node_word x.part part) refl (one_mor
     go : (t : Bool) → same_node_word x.part part ≡ t → IsOneMore xs part other → filled (made_with (x ∷ xs) part) other ≡ (if same_node_word part other then filled (x ∷ xs) part else filled (made_before (x ∷ xs) part) other)
     go true e rest = rw e (ap (λ q. if same_node_word q other then x.word else filled xs other) (part_same x.part part e))
     go false e rest = rw e (rest (rw e at i))
+
+-- no piece fills a count, or a high half: it holds one pair
+pub piece_one : (h : History) (n : ℕ) (p : Piece) → HoldsFills h n (fills_of p) → HasOnePair (value h) n
+piece_one h n (Leaf level class key v) w = (w (Settled More) tt, w (Settled (High First)) tt, w (Settled (High Second)) tt, w (Settled (High Third)) tt, w (Settled (High Fourth)) tt)
+piece_one h n (Fork level class key l r) w = (w (Settled More) tt, w (Settled (High First)) tt, w (Settled (High Second)) tt, w (Settled (High Third)) tt, w (Settled (High Fourth)) tt)
 
 -- The next word
 

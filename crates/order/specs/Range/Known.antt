@@ -8,9 +8,9 @@ use Rattle.arena.specs.declared.number.NodeNo.{NodeNo}
 use Rattle.arena.specs.declared.step.Step.{Step}
 use Rattle.arena.specs.declared.step.Kind.TheVariants.{LoadSettled}
 use Rattle.arena.specs.declared.word.NodeWord.TheVariants.{Settled}
-use Rattle.arena.specs.declared.word.SettledPart.TheVariants.{Head as HeadWord, Key as KeyWord, Value as ValueWord}
+use Rattle.arena.specs.declared.word.SettledPart.TheVariants.{Head as HeadWord}
 use Rattle.arena.specs.Heads.{head_of}
-use Rattle.arena.specs.Words.{node}
+use Rattle.arena.specs.Words.{node, first_key, first_value}
 use Rattle.arena.specs.History.{History, value, Extends}
 use Rattle.arena.specs.Machines.{Call, MatchTurn, begun_at}
 use Rattle.prims.specs.Llx.Known.{load, LlxIsReady, LlxWaits}
@@ -93,7 +93,7 @@ pub record HasKey (m : RangeRun) (c : Call) (h : History) (n key : ℕ) : Type 0
   pub visits : Visits m c h n
   pub leaf : is_leaf (value h) n ≡ true
   pub low : class (value h) n ≡ 0
-  pub key_is : value h (node n (Settled KeyWord)) ≡ key
+  pub key_is : value h (node n first_key) ≡ key
   pub from : m.low ≤ key
   pub to : key ≤ m.high
 
@@ -128,8 +128,8 @@ abbrev pub RangeWaitsAt : RangeRun → Call → History → Step → RangeAt →
 RangeWaitsAt m c h s Start = ⊥
 RangeWaitsAt m c h s Root = Visits m c h 0 × (s ≡ load LoadSettled (node 0 (Settled HeadWord)))
 RangeWaitsAt m c h s (Head above n) = Visits m c h n.0 × (above < level (value h) n.0) × (s ≡ load LoadSettled (node n.0 (Settled HeadWord)))
-RangeWaitsAt m c h s (Key head n) = Visits m c h n.0 × HasLowHead h n.0 head × (s ≡ load LoadSettled (node n.0 (Settled KeyWord)))
-RangeWaitsAt m c h s (Value key n) = HasKey m c h n.0 key × (s ≡ load LoadSettled (node n.0 (Settled ValueWord)))
+RangeWaitsAt m c h s (Key head n) = Visits m c h n.0 × HasLowHead h n.0 head × (s ≡ load LoadSettled (node n.0 first_key))
+RangeWaitsAt m c h s (Value key n) = HasKey m c h n.0 key × (s ≡ load LoadSettled (node n.0 first_value))
 RangeWaitsAt m c h s (Look low left right llx) = LooksIn m c h low left right llx.node.0 × ((begin : History) × Extends begin c.start × LlxWaits TreeAllows llx (begun_at c begin) h s)
 RangeWaitsAt m c h s (Validate asked) = (begin : History) × RangeValidates m c h begin × VlxWaits m.snaps.items asked (begun_at c begin) h s
 
@@ -138,8 +138,8 @@ abbrev pub RangeIsToldAt : RangeRun → Call → History → ℕ → RangeAt →
 RangeIsToldAt m c h v Start = ⊥
 RangeIsToldAt m c h v Root = Visits m c h 0 × (value h (node 0 (Settled HeadWord)) ≡ v)
 RangeIsToldAt m c h v (Head above n) = Visits m c h n.0 × (above < level (value h) n.0) × (value h (node n.0 (Settled HeadWord)) ≡ v)
-RangeIsToldAt m c h v (Key head n) = Visits m c h n.0 × HasLowHead h n.0 head × (value h (node n.0 (Settled KeyWord)) ≡ v)
-RangeIsToldAt m c h v (Value key n) = HasKey m c h n.0 key × (value h (node n.0 (Settled ValueWord)) ≡ v)
+RangeIsToldAt m c h v (Key head n) = Visits m c h n.0 × HasLowHead h n.0 head × (value h (node n.0 first_key) ≡ v)
+RangeIsToldAt m c h v (Value key n) = HasKey m c h n.0 key × (value h (node n.0 first_value) ≡ v)
 RangeIsToldAt m c h v (Look low left right llx) = LooksIn m c h low left right llx.node.0 × ((begin : History) × Extends begin c.start × LlxIsReady TreeAllows llx (begun_at c begin) h (Some v))
 RangeIsToldAt m c h v (Validate asked) = (begin : History) × RangeValidates m c h begin × VlxIsReady m.snaps.items asked (begun_at c begin) h (Some v)
 

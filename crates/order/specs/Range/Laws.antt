@@ -7,10 +7,10 @@ use Rattle.arena.specs.declared.step.Row.{Row}
 use Rattle.arena.specs.declared.step.Step.{Step}
 use Rattle.arena.specs.declared.step.Kind.TheVariants.{Fill, LoadSettled}
 use Rattle.arena.specs.declared.word.NodeWord.TheVariants.{Settled}
-use Rattle.arena.specs.declared.word.SettledPart.TheVariants.{Head as HeadWord, Key as KeyWord, Value as ValueWord}
+use Rattle.arena.specs.declared.word.SettledPart.TheVariants.{Head as HeadWord}
 use Rattle.arena.specs.declared.word.Word.{Word}
 use Rattle.arena.specs.Heads.{head_of}
-use Rattle.arena.specs.Words.{node}
+use Rattle.arena.specs.Words.{node, first_key, first_value}
 use Rattle.arena.specs.History.{History, ◌⊳◌, value}
 use Rattle.arena.specs.Machines.{IsRun, Call, row_of, IsTold, begun_at}
 use Rattle.arena.specs.TakenNodes.{taken_nodes}
@@ -81,7 +81,7 @@ module _ (m : RangeRun) (c : Call) (h : History) (r : Row) (g : IsTreeRun c.layo
     visits = visits_more n x.visits;
     leaf = settled_leaf (value h) (value (r ⊳ h)) n same ∙ x.leaf;
     low = settled_class (value h) (value (r ⊳ h)) n same ∙ x.low;
-    key_is = same (Settled KeyWord) tt ∙ x.key_is;
+    key_is = same first_key tt ∙ x.key_is;
     from = x.from;
     to = x.to;
   }
@@ -128,8 +128,8 @@ lawful_at : (m : RangeRun) (c : Call) (h : History) (s : Step) (at : RangeAt) �
 lawful_at m c h s Start g w = absurd w
 lawful_at m c h s Root g w = load_lawful TreeAllows c h LoadSettled (node 0 (Settled HeadWord)) s g.1 w.1 record { word = tt; same = refl } (λ q. cc) (stood_inside c.layout h 0 g w.0.stood.stood)
 lawful_at m c h s (Head above n) g w = load_lawful TreeAllows c h LoadSettled (node n.0 (Settled HeadWord)) s g.1 w.2 record { word = tt; same = refl } (λ q. cc) (stood_inside c.layout h n.0 g w.0.stood.stood)
-lawful_at m c h s (Key head n) g w = load_lawful TreeAllows c h LoadSettled (node n.0 (Settled KeyWord)) s g.1 w.2 record { word = tt; same = refl } (λ q. cc) (stood_inside c.layout h n.0 g w.0.stood.stood)
-lawful_at m c h s (Value key n) g w = load_lawful TreeAllows c h LoadSettled (node n.0 (Settled ValueWord)) s g.1 w.1 record { word = tt; same = refl } (λ q. cc) (stood_inside c.layout h n.0 g w.0.visits.stood.stood)
+lawful_at m c h s (Key head n) g w = load_lawful TreeAllows c h LoadSettled (node n.0 first_key) s g.1 w.2 record { word = tt; same = refl } (λ q. cc) (stood_inside c.layout h n.0 g w.0.stood.stood)
+lawful_at m c h s (Value key n) g w = load_lawful TreeAllows c h LoadSettled (node n.0 first_value) s g.1 w.1 record { word = tt; same = refl } (λ q. cc) (stood_inside c.layout h n.0 g w.0.visits.stood.stood)
 lawful_at m c h s (Look low left right llx) g w = llx_lawful TreeAllows llx (begun_at c w.1.0) h s g.1 w.1.2
 lawful_at m c h s (Validate asked) g w = vlx_lawful TreeAllows m.snaps.items asked (begun_at c w.0) h s g.1 w.2
 
@@ -146,8 +146,8 @@ fills_not_at : (m : RangeRun) (c : Call) (h : History) (s : Step) (at : RangeAt)
 fills_not_at m c h s Start w = absurd w
 fills_not_at m c h s Root w = load_fills_not s (node 0 (Settled HeadWord)) w.1
 fills_not_at m c h s (Head above n) w = load_fills_not s (node n.0 (Settled HeadWord)) w.2
-fills_not_at m c h s (Key head n) w = load_fills_not s (node n.0 (Settled KeyWord)) w.2
-fills_not_at m c h s (Value key n) w = load_fills_not s (node n.0 (Settled ValueWord)) w.1
+fills_not_at m c h s (Key head n) w = load_fills_not s (node n.0 first_key) w.2
+fills_not_at m c h s (Value key n) w = load_fills_not s (node n.0 first_value) w.1
 fills_not_at m c h s (Look low left right llx) w = llx_fills_not TreeAllows llx (begun_at c w.1.0) h s w.1.2
 fills_not_at m c h s (Validate asked) w = vlx_fills_not m.snaps.items asked (begun_at c w.0) h s w.2
 
@@ -165,8 +165,8 @@ module _ (m : RangeRun) (c : Call) (h : History) (s : Step) (v : ℕ) (g : IsTre
   made_at Start w = w
   made_at Root w = (visits_more m c h r g run 0 w.0, load_told c h LoadSettled (node 0 (Settled HeadWord)) s v w.1 t)
   made_at (Head above n) w = (visits_more m c h r g run n.0 w.0, deeper_more m c h r g run above n.0 w.0.stood w.1, load_told c h LoadSettled (node n.0 (Settled HeadWord)) s v w.2 t)
-  made_at (Key head n) w = (visits_more m c h r g run n.0 w.0, head_more m c h r g run n.0 head w.0.stood w.1, load_told c h LoadSettled (node n.0 (Settled KeyWord)) s v w.2 t)
-  made_at (Value key n) w = (key_more m c h r g run n.0 key w.0, load_told c h LoadSettled (node n.0 (Settled ValueWord)) s v w.1 t)
+  made_at (Key head n) w = (visits_more m c h r g run n.0 w.0, head_more m c h r g run n.0 head w.0.stood w.1, load_told c h LoadSettled (node n.0 first_key) s v w.2 t)
+  made_at (Value key n) w = (key_more m c h r g run n.0 key w.0, load_told c h LoadSettled (node n.0 first_value) s v w.1 t)
   made_at (Look low left right llx) w = (looks_more m c h r g run low left right llx.node.0 w.0, (w.1.0, w.1.1, llx_made TreeAllows llx (begun_at c w.1.0) h s v run t w.1.2))
   made_at (Validate asked) w = (w.0, validates_more m c h r g run w.0 w.1, vlx_made TreeAllows m.snaps.items asked (begun_at c w.0) h s v run t w.2)
 
@@ -208,8 +208,8 @@ module _ (m : RangeRun) (c : Call) (h : History) (s : Step) (v : ℕ) (run : IsR
   ready_at begin Start try goes w = absurd w
   ready_at begin Root try goes w = root_begins begin try goes w
   ready_at begin (Head above n) try goes w = stays_in_try begin (Head above n) try (head_begins_none c h s above n.0 goes.reads.run w.1 w.2) goes w
-  ready_at begin (Key head n) try goes w = stays_in_try begin (Key head n) try (word_begins_none s n.0 (Settled KeyWord) w.2 refl) goes w
-  ready_at begin (Value key n) try goes w = stays_in_try begin (Value key n) try (word_begins_none s n.0 (Settled ValueWord) w.1 refl) goes w
+  ready_at begin (Key head n) try goes w = stays_in_try begin (Key head n) try (word_begins_none s n.0 first_key w.2 refl) goes w
+  ready_at begin (Value key n) try goes w = stays_in_try begin (Value key n) try (word_begins_none s n.0 first_value w.1 refl) goes w
   ready_at begin (Look low left right llx) try goes w = stays_in_try begin (Look low left right llx) try (llx_begins_none TreeAllows llx (begun_at c w.1.0) h s w.1.2) goes w
   ready_at begin (Validate asked) try goes w = stays_in_try begin (Validate asked) try (vlx_begins_none m.snaps.items asked (begun_at c w.0) h s w.2) goes w
 

@@ -3,8 +3,8 @@ use Rattle.std.specs.Prelude.{◌≡◌, ℕ, ◌+◌, ◌-◌, ◌*◌, ◌<◌
 use Rattle.arena.specs.declared.step.Step.{Step}
 use Rattle.arena.specs.declared.step.Kind.TheVariants.{LoadInfo, LoadMarked, LoadSettled}
 use Rattle.arena.specs.declared.word.NodeWord.TheVariants.{Settled}
-use Rattle.arena.specs.declared.word.SettledPart.TheVariants.{Head as HeadWord, Key as KeyWord, Value as ValueWord}
-use Rattle.arena.specs.Words.{info, marked, node}
+use Rattle.arena.specs.declared.word.SettledPart.TheVariants.{Head as HeadWord}
+use Rattle.arena.specs.Words.{info, marked, node, first_key, first_value}
 use Rattle.arena.specs.History.{History, value}
 use Rattle.arena.specs.Machines.{Call, begun_at}
 use Rattle.prims.specs.Moments.{AreFinished}
@@ -36,8 +36,8 @@ range_placed m ValidateNext = record m { at = Validate 1 }
 -- the step with which it begins
 abbrev pub range_next_step : RangeRun → RangeNext → Step
 range_next_step m (HeadNext above n) = load LoadSettled (node n.0 (Settled HeadWord))
-range_next_step m (KeyNext head n) = load LoadSettled (node n.0 (Settled KeyWord))
-range_next_step m (ValueNext key n) = load LoadSettled (node n.0 (Settled ValueWord))
+range_next_step m (KeyNext head n) = load LoadSettled (node n.0 first_key)
+range_next_step m (ValueNext key n) = load LoadSettled (node n.0 first_value)
 range_next_step m (LookNext level left right n) = load LoadMarked (marked n.0)
 range_next_step m ValidateNext = load LoadInfo (info (snap_at m.snaps.items 0).node.0)
 

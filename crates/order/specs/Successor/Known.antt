@@ -6,11 +6,11 @@ use Rattle.arena.specs.declared.number.NodeNo.{NodeNo}
 use Rattle.arena.specs.declared.step.Step.{Step}
 use Rattle.arena.specs.declared.step.Kind.TheVariants.{LoadSettled}
 use Rattle.arena.specs.declared.word.NodeWord.TheVariants.{Settled}
-use Rattle.arena.specs.declared.word.SettledPart.TheVariants.{Head as HeadWord, Key as KeyWord, Value as ValueWord}
+use Rattle.arena.specs.declared.word.SettledPart.TheVariants.{Head as HeadWord}
 use Rattle.arena.specs.declared.word.Side.{Side}
 use Rattle.arena.specs.declared.word.Side.TheVariants.{Left, Right}
 use Rattle.arena.specs.Heads.{head_of}
-use Rattle.arena.specs.Words.{node, marked}
+use Rattle.arena.specs.Words.{node, marked, first_key, first_value}
 use Rattle.arena.specs.History.{History, value, Extends}
 use Rattle.arena.specs.Machines.{Call, MatchTurn, begun_at}
 use Rattle.prims.specs.Llx.Known.{load, LlxIsReady, LlxWaits}
@@ -46,10 +46,10 @@ abbrev pub head_at : History → ℕ → HeadParts
 head_at h n = head_of (value h (node n (Settled HeadWord)))
 
 abbrev pub key_at : History → ℕ → ℕ
-key_at h n = value h (node n (Settled KeyWord))
+key_at h n = value h (node n first_key)
 
 abbrev pub value_at : History → ℕ → ℕ
-value_at h n = value h (node n (Settled ValueWord))
+value_at h n = value h (node n first_value)
 
 -- the call has passed this fork on its way to k, which is on the left of it
 pub record HasTurnedLeft (c : Call) (h : History) (k n : ℕ) : Type 0 where
@@ -119,7 +119,7 @@ pub record HasLeaf (m : SuccessorRun) (c : Call) (h : History) (n key : ℕ) : T
   pub some : 0 < length m.snaps.items
   pub leaf : is_leaf (value h) n ≡ true
   pub low : class (value h) n ≡ 0
-  pub key_is : value h (node n (Settled KeyWord)) ≡ key
+  pub key_is : value h (node n first_key) ≡ key
   pub first : Whenever c.layout h m.snaps.items (λ b. IsFirstBehind b m.key n)
 
 -- its VLX has begun at an own moment of the call, at which this was the answer if all infos were as
@@ -147,8 +147,8 @@ SuccessorWaitsAt m c h s Start = ⊥
 SuccessorWaitsAt m c h s (Walk walk turn) = (walk.goal ≡ ToKey m.key) × IsLastTurn c h m.key turn.0 × WalkWaits walk c h s
 SuccessorWaitsAt m c h s (Look route low side llx) = LooksAt m c h route low side llx.node.0 × ((begin : History) × Extends begin c.start × LlxWaits TreeAllows llx (begun_at c begin) h s)
 SuccessorWaitsAt m c h s (Head route above n) = SuccessorStandsAt m c h route n.0 × (above < level (value h) n.0) × (s ≡ load LoadSettled (node n.0 (Settled HeadWord)))
-SuccessorWaitsAt m c h s (Key route head n) = SuccessorStandsAt m c h route n.0 × HasHead h route n.0 head × (s ≡ load LoadSettled (node n.0 (Settled KeyWord)))
-SuccessorWaitsAt m c h s (Value key n) = HasLeaf m c h n.0 key × (s ≡ load LoadSettled (node n.0 (Settled ValueWord)))
+SuccessorWaitsAt m c h s (Key route head n) = SuccessorStandsAt m c h route n.0 × HasHead h route n.0 head × (s ≡ load LoadSettled (node n.0 first_key))
+SuccessorWaitsAt m c h s (Value key n) = HasLeaf m c h n.0 key × (s ≡ load LoadSettled (node n.0 first_value))
 SuccessorWaitsAt m c h s (Validate asked found) = (begin : History) × SuccessorValidates m c h begin found × VlxWaits m.snaps.items asked (begun_at c begin) h s
 
 -- what holds once the step of this place has told v
@@ -157,8 +157,8 @@ SuccessorIsToldAt m c h v Start = ⊥
 SuccessorIsToldAt m c h v (Walk walk turn) = (walk.goal ≡ ToKey m.key) × IsLastTurn c h m.key turn.0 × WalkIsReady walk c h (Some v)
 SuccessorIsToldAt m c h v (Look route low side llx) = LooksAt m c h route low side llx.node.0 × ((begin : History) × Extends begin c.start × LlxIsReady TreeAllows llx (begun_at c begin) h (Some v))
 SuccessorIsToldAt m c h v (Head route above n) = SuccessorStandsAt m c h route n.0 × (above < level (value h) n.0) × (value h (node n.0 (Settled HeadWord)) ≡ v)
-SuccessorIsToldAt m c h v (Key route head n) = SuccessorStandsAt m c h route n.0 × HasHead h route n.0 head × (value h (node n.0 (Settled KeyWord)) ≡ v)
-SuccessorIsToldAt m c h v (Value key n) = HasLeaf m c h n.0 key × (value h (node n.0 (Settled ValueWord)) ≡ v)
+SuccessorIsToldAt m c h v (Key route head n) = SuccessorStandsAt m c h route n.0 × HasHead h route n.0 head × (value h (node n.0 first_key) ≡ v)
+SuccessorIsToldAt m c h v (Value key n) = HasLeaf m c h n.0 key × (value h (node n.0 first_value) ≡ v)
 SuccessorIsToldAt m c h v (Validate asked found) = (begin : History) × SuccessorValidates m c h begin found × VlxIsReady m.snaps.items asked (begun_at c begin) h (Some v)
 
 -- Its try

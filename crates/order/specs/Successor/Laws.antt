@@ -7,11 +7,11 @@ use Rattle.arena.specs.declared.step.Step.{Step}
 use Rattle.arena.specs.declared.step.Kind.TheVariants.{Fill, LoadSettled}
 use Rattle.arena.specs.declared.number.NodeNo.{NodeNo}
 use Rattle.arena.specs.declared.word.NodeWord.TheVariants.{Settled}
-use Rattle.arena.specs.declared.word.SettledPart.TheVariants.{Head as HeadWord, Key as KeyWord, Value as ValueWord}
+use Rattle.arena.specs.declared.word.SettledPart.TheVariants.{Head as HeadWord}
 use Rattle.arena.specs.declared.word.Side.{Side}
 use Rattle.arena.specs.declared.word.Word.{Word}
 use Rattle.arena.specs.Heads.{head_of}
-use Rattle.arena.specs.Words.{node}
+use Rattle.arena.specs.Words.{node, first_key, first_value}
 use Rattle.arena.specs.History.{History, ◌⊳◌, value}
 use Rattle.arena.specs.Machines.{IsRun, Call, row_of, IsTold, begun_at}
 use Rattle.arena.specs.TakenNodes.{taken_nodes}
@@ -105,7 +105,7 @@ module _ (m : SuccessorRun) (c : Call) (h : History) (r : Row) (g : IsTreeRun c.
     some = x.some;
     leaf = settled_leaf (value h) (value (r ⊳ h)) n same ∙ x.leaf;
     low = settled_class (value h) (value (r ⊳ h)) n same ∙ x.low;
-    key_is = same (Settled KeyWord) tt ∙ x.key_is;
+    key_is = same first_key tt ∙ x.key_is;
     first = whenever_more c h r m.snaps.items _ x.first;
   }
     where
@@ -157,8 +157,8 @@ lawful_at m c h s Start g w = absurd w
 lawful_at m c h s (Walk walk turn) g w = walk_lawful walk c h s g.1 w.2
 lawful_at m c h s (Look route low side llx) g w = llx_lawful TreeAllows llx (begun_at c w.1.0) h s g.1 w.1.2
 lawful_at m c h s (Head route above n) g w = load_lawful TreeAllows c h LoadSettled (node n.0 (Settled HeadWord)) s g.1 w.2 record { word = tt; same = refl } (λ q. cc) (stood_inside c.layout h n.0 g w.0.stood.stood)
-lawful_at m c h s (Key route head n) g w = load_lawful TreeAllows c h LoadSettled (node n.0 (Settled KeyWord)) s g.1 w.2 record { word = tt; same = refl } (λ q. cc) (stood_inside c.layout h n.0 g w.0.stood.stood)
-lawful_at m c h s (Value key n) g w = load_lawful TreeAllows c h LoadSettled (node n.0 (Settled ValueWord)) s g.1 w.1 record { word = tt; same = refl } (λ q. cc) (stood_inside c.layout h n.0 g w.0.stood.stood)
+lawful_at m c h s (Key route head n) g w = load_lawful TreeAllows c h LoadSettled (node n.0 first_key) s g.1 w.2 record { word = tt; same = refl } (λ q. cc) (stood_inside c.layout h n.0 g w.0.stood.stood)
+lawful_at m c h s (Value key n) g w = load_lawful TreeAllows c h LoadSettled (node n.0 first_value) s g.1 w.1 record { word = tt; same = refl } (λ q. cc) (stood_inside c.layout h n.0 g w.0.stood.stood)
 lawful_at m c h s (Validate asked found) g w = vlx_lawful TreeAllows m.snaps.items asked (begun_at c w.0) h s g.1 w.2
 
 -- the step that a successor waits for continues the run
@@ -175,8 +175,8 @@ fills_not_at m c h s Start w = absurd w
 fills_not_at m c h s (Walk walk turn) w = walk_fills_not walk c h s w.2
 fills_not_at m c h s (Look route low side llx) w = llx_fills_not TreeAllows llx (begun_at c w.1.0) h s w.1.2
 fills_not_at m c h s (Head route above n) w = load_fills_not s (node n.0 (Settled HeadWord)) w.2
-fills_not_at m c h s (Key route head n) w = load_fills_not s (node n.0 (Settled KeyWord)) w.2
-fills_not_at m c h s (Value key n) w = load_fills_not s (node n.0 (Settled ValueWord)) w.1
+fills_not_at m c h s (Key route head n) w = load_fills_not s (node n.0 first_key) w.2
+fills_not_at m c h s (Value key n) w = load_fills_not s (node n.0 first_value) w.1
 fills_not_at m c h s (Validate asked found) w = vlx_fills_not m.snaps.items asked (begun_at c w.0) h s w.2
 
 -- a successor never asks for a fill: it takes nothing of its share
@@ -194,8 +194,8 @@ module _ (m : SuccessorRun) (c : Call) (h : History) (s : Step) (v : ℕ) (g : I
   made_at (Walk walk turn) w = (w.0, last_more m c h r g run turn.0 w.1, walk_made walk c h s v run t w.2)
   made_at (Look route low side llx) w = (looks_more m c h r g run route low side llx.node.0 w.0, (w.1.0, w.1.1, llx_made TreeAllows llx (begun_at c w.1.0) h s v run t w.1.2))
   made_at (Head route above n) w = (stands_more m c h r g run route n.0 w.0, deeper_more m c h r g run above n.0 w.0.stood w.1, load_told c h LoadSettled (node n.0 (Settled HeadWord)) s v w.2 t)
-  made_at (Key route head n) w = (stands_more m c h r g run route n.0 w.0, head_more m c h r g run route n.0 head w.0.stood w.1, load_told c h LoadSettled (node n.0 (Settled KeyWord)) s v w.2 t)
-  made_at (Value key n) w = (leaf_more m c h r g run n.0 key w.0, load_told c h LoadSettled (node n.0 (Settled ValueWord)) s v w.1 t)
+  made_at (Key route head n) w = (stands_more m c h r g run route n.0 w.0, head_more m c h r g run route n.0 head w.0.stood w.1, load_told c h LoadSettled (node n.0 first_key) s v w.2 t)
+  made_at (Value key n) w = (leaf_more m c h r g run n.0 key w.0, load_told c h LoadSettled (node n.0 first_value) s v w.1 t)
   made_at (Validate asked found) w = (w.0, validates_more m c h r g run w.0 found w.1, vlx_made TreeAllows m.snaps.items asked (begun_at c w.0) h s v run t w.2)
 
 -- so it may be called at this place, once its step has told v
@@ -248,8 +248,8 @@ module _ (m : SuccessorRun) (c : Call) (h : History) (s : Step) (v : ℕ) (run :
   ready_at begin (Walk walk turn) try goes w = walk_told_in begin walk turn walk.at refl try goes w
   ready_at begin (Look route low side llx) try goes w = stays_in_try begin (Look route low side llx) try (llx_begins_none TreeAllows llx (begun_at c w.1.0) h s w.1.2) goes w
   ready_at begin (Head route above n) try goes w = stays_in_try begin (Head route above n) try (head_begins_none c h s above n.0 goes.reads.run w.1 w.2) goes w
-  ready_at begin (Key route head n) try goes w = stays_in_try begin (Key route head n) try (word_begins_none s n.0 (Settled KeyWord) w.2 refl) goes w
-  ready_at begin (Value key n) try goes w = stays_in_try begin (Value key n) try (word_begins_none s n.0 (Settled ValueWord) w.1 refl) goes w
+  ready_at begin (Key route head n) try goes w = stays_in_try begin (Key route head n) try (word_begins_none s n.0 first_key w.2 refl) goes w
+  ready_at begin (Value key n) try goes w = stays_in_try begin (Value key n) try (word_begins_none s n.0 first_value w.1 refl) goes w
   ready_at begin (Validate asked found) try goes w = stays_in_try begin (Validate asked found) try (vlx_begins_none m.snaps.items asked (begun_at c w.0) h s w.2) goes w
 
 -- once the step is made, a successor may be called with what it told

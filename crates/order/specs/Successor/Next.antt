@@ -3,8 +3,8 @@ use Rattle.std.specs.Prelude.{◌≡◌, ℕ, ◌+◌, ◌-◌, ◌*◌, ◌<◌
 use Rattle.arena.specs.declared.step.Step.{Step}
 use Rattle.arena.specs.declared.step.Kind.TheVariants.{LoadInfo, LoadMarked, LoadSettled}
 use Rattle.arena.specs.declared.word.NodeWord.TheVariants.{Settled}
-use Rattle.arena.specs.declared.word.SettledPart.TheVariants.{Head as HeadWord, Key as KeyWord, Value as ValueWord}
-use Rattle.arena.specs.Words.{info, marked, node}
+use Rattle.arena.specs.declared.word.SettledPart.TheVariants.{Head as HeadWord}
+use Rattle.arena.specs.Words.{info, marked, node, first_key, first_value}
 use Rattle.arena.specs.History.{History, value}
 use Rattle.arena.specs.Machines.{Call, begun_at}
 use Rattle.prims.specs.Moments.{AreFinished}
@@ -37,8 +37,8 @@ successor_placed m (ValidateNext found) = record m { at = Validate 1 found }
 abbrev pub successor_next_step : SuccessorRun → SuccessorNext → Step
 successor_next_step m (LookNext route level side n) = load LoadMarked (marked n.0)
 successor_next_step m (HeadNext route above n) = load LoadSettled (node n.0 (Settled HeadWord))
-successor_next_step m (KeyNext route head n) = load LoadSettled (node n.0 (Settled KeyWord))
-successor_next_step m (ValueNext key n) = load LoadSettled (node n.0 (Settled ValueWord))
+successor_next_step m (KeyNext route head n) = load LoadSettled (node n.0 first_key)
+successor_next_step m (ValueNext key n) = load LoadSettled (node n.0 first_value)
 successor_next_step m (ValidateNext found) = load LoadInfo (info (snap_at m.snaps.items 0).node.0)
 
 -- what it knows when this may come next

@@ -8,9 +8,9 @@ use Rattle.arena.specs.declared.step.Kind.{Kind}
 use Rattle.arena.specs.declared.step.Kind.TheVariants.{LoadSettled, LoadChild}
 use Rattle.arena.specs.declared.word.NodeWord.{NodeWord}
 use Rattle.arena.specs.declared.word.NodeWord.TheVariants.{Settled, Child as ChildWord}
-use Rattle.arena.specs.declared.word.SettledPart.TheVariants.{Head as HeadWord, Key as KeyWord, Value as ValueWord}
+use Rattle.arena.specs.declared.word.SettledPart.TheVariants.{Head as HeadWord}
 use Rattle.arena.specs.Heads.{head_of}
-use Rattle.arena.specs.Words.{node}
+use Rattle.arena.specs.Words.{node, first_key, first_value}
 use Rattle.arena.specs.History.{History, value, Extends}
 use Rattle.arena.specs.Machines.{Call, MatchTurn}
 use Rattle.prims.specs.Llx.Known.{load}
@@ -41,13 +41,13 @@ WalkKnows c h m Root = m.trail.node.0 ≡ 0
 WalkKnows c h m (Head above) = OnTrail c h (path_key m.goal) m.trail × (above < level (value h) m.trail.node.0)
 WalkKnows c h m (Key head) = OnTrail c h (path_key m.goal) m.trail × (head_of (here h m (Settled HeadWord)) ≡ head) × (head.class ≡ 0)
 WalkKnows c h m (Child low side) = OnTrail c h (path_key m.goal) m.trail × (level (value h) m.trail.node.0 ≡ low) × (is_leaf (value h) m.trail.node.0 ≡ false) × (toward (value h) m.trail.node.0 (path_key m.goal) ≡ side)
-WalkKnows c h m (Value head key) = OnTrail c h (path_key m.goal) m.trail × (head_of (here h m (Settled HeadWord)) ≡ head) × (head.class ≡ 0) × (head.leaf ≡ true) × (here h m (Settled KeyWord) ≡ key) × (asked_key m.goal key ≡ key)
+WalkKnows c h m (Value head key) = OnTrail c h (path_key m.goal) m.trail × (head_of (here h m (Settled HeadWord)) ≡ head) × (head.class ≡ 0) × (head.leaf ≡ true) × (here h m first_key ≡ key) × (asked_key m.goal key ≡ key)
 
 -- the word that it loads at this place
 abbrev pub walk_part : WalkAt → NodeWord
-walk_part (Key head) = Settled KeyWord
+walk_part (Key head) = first_key
 walk_part (Child low side) = ChildWord side
-walk_part (Value head key) = Settled ValueWord
+walk_part (Value head key) = first_value
 walk_part _ = Settled HeadWord
 
 -- the kind of the load

@@ -8,10 +8,10 @@ use Rattle.arena.specs.declared.step.Step.{Step}
 use Rattle.arena.specs.declared.step.Kind.TheVariants.{LoadSettled, LoadChild}
 use Rattle.arena.specs.declared.word.Side.{Side}
 use Rattle.arena.specs.declared.word.NodeWord.TheVariants.{Settled, Child as ChildWord}
-use Rattle.arena.specs.declared.word.SettledPart.TheVariants.{Head as HeadWord, Key as KeyWord, Value as ValueWord}
+use Rattle.arena.specs.declared.word.SettledPart.TheVariants.{Head as HeadWord}
 use Rattle.arena.specs.Heads.{head_of}
 use Rattle.arena.specs.Layout.{all_nodes}
-use Rattle.arena.specs.Words.{node, child}
+use Rattle.arena.specs.Words.{node, child, first_key, first_value}
 use Rattle.arena.specs.History.{History, ◌⊳◌, value}
 use Rattle.arena.specs.Machines.{IsRun, Call, row_of, IsTold}
 use Rattle.arena.specs.TakenNodes.{taken_nodes}
@@ -74,7 +74,7 @@ module _ (c : Call) (h : History) (r : Row) (g : IsTreeRun c.layout h) (run : Is
       (trail_more (path_key m.goal) m.trail k.0, settled_level (value h) (value (r ⊳ h)) m.trail.node.0 same ∙ k.1, settled_leaf (value h) (value (r ⊳ h)) m.trail.node.0 same ∙ k.2, settled_toward (value h) (value (r ⊳ h)) m.trail.node.0 (path_key m.goal) same ∙ k.3)
   walk_known_more m (Value head key) k =
       let same : SameSettled (value h) (value (r ⊳ h)) m.trail.node.0 = settled_more (path_key m.goal) m.trail.node.0 k.0.node in
-      (trail_more (path_key m.goal) m.trail k.0, ap head_of (same (Settled HeadWord) tt) ∙ k.1, k.2, k.3, same (Settled KeyWord) tt ∙ k.4, k.5)
+      (trail_more (path_key m.goal) m.trail k.0, ap head_of (same (Settled HeadWord) tt) ∙ k.1, k.2, k.3, same first_key tt ∙ k.4, k.5)
 
 run_more : (c : Call) (h : History) (r : Row) → IsTreeRun c.layout h → IsRun TreeAllows c.layout (r ⊳ h) → IsTreeRun c.layout (r ⊳ h)
 run_more c h r g run = (g.0, run)
@@ -100,9 +100,9 @@ lawful_at : (m : WalkRun) (c : Call) (h : History) (at : WalkAt) (s : Step) → 
 lawful_at m c h Start s run e i = load_lawful TreeAllows c h LoadSettled (node m.trail.node.0 (Settled HeadWord)) s run e record { word = tt; same = refl } (λ q. cc) i
 lawful_at m c h Root s run e i = load_lawful TreeAllows c h LoadSettled (node m.trail.node.0 (Settled HeadWord)) s run e record { word = tt; same = refl } (λ q. cc) i
 lawful_at m c h (Head above) s run e i = load_lawful TreeAllows c h LoadSettled (node m.trail.node.0 (Settled HeadWord)) s run e record { word = tt; same = refl } (λ q. cc) i
-lawful_at m c h (Key head) s run e i = load_lawful TreeAllows c h LoadSettled (node m.trail.node.0 (Settled KeyWord)) s run e record { word = tt; same = refl } (λ q. cc) i
+lawful_at m c h (Key head) s run e i = load_lawful TreeAllows c h LoadSettled (node m.trail.node.0 first_key) s run e record { word = tt; same = refl } (λ q. cc) i
 lawful_at m c h (Child low side) s run e i = load_lawful TreeAllows c h LoadChild (node m.trail.node.0 (ChildWord side)) s run e record { word = tt; same = refl } (λ q. cc) i
-lawful_at m c h (Value head key) s run e i = load_lawful TreeAllows c h LoadSettled (node m.trail.node.0 (Settled ValueWord)) s run e record { word = tt; same = refl } (λ q. cc) i
+lawful_at m c h (Value head key) s run e i = load_lawful TreeAllows c h LoadSettled (node m.trail.node.0 first_value) s run e record { word = tt; same = refl } (λ q. cc) i
 
 -- the step that a walk waits for continues the run
 pub walk_lawful : (m : WalkRun) (c : Call) (h : History) (s : Step) → IsRun TreeAllows c.layout h → WalkWaits m c h s → IsRun TreeAllows c.layout (row_of c s h ⊳ h)

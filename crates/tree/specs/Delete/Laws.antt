@@ -3,8 +3,10 @@ use Rattle.std.proofs.Common.{◌≡◌, ◌≢◌, ℕ, ◌+◌, ◌<◌, ◌�
 use Rattle.std.specs.Prelude.{unwrap_or}
 use Rattle.arena.specs.declared.number.NodeNo.{NodeNo}
 use Rattle.arena.specs.declared.word.NodeWord.{NodeWord}
+use Rattle.arena.specs.Words.{first_key, first_value}
 use Rattle.arena.specs.declared.word.NodeWord.TheVariants.{Settled}
 use Rattle.arena.specs.declared.word.SettledPart.TheVariants.{Head, Key, Value}
+use Rattle.arena.specs.declared.word.Slot.TheVariants.{First as FirstSlot}
 use Rattle.arena.specs.Heads.{head_of}
 use Rattle.prims.specs.declared.snap.Snap.{Snap}
 use Rattle.template.specs.declared.walk.Found.{Found}
@@ -58,13 +60,13 @@ load_less true true w (Some k) (Some v) part x e = absurd (let d : None ≡ Some
 load_less true false w (Some k) v part x e = absurd (let d : None ≡ Some part = e in cc)
 load_less true true w (Some k) None part x e = go part e
   where
-    go : (q : NodeWord) → Some (Settled Value) ≡ Some q → ((with_word (with_words (Some w) (Some k) None) q x).head ≡ Some w) × (load_of (with_word (with_words (Some w) (Some k) None) q x).key + load_of (with_word (with_words (Some w) (Some k) None) q x).value + 3 < 4)
-    go (Settled Value) d = (refl, omega arith)
+    go : (q : NodeWord) → Some first_value ≡ Some q → ((with_word (with_words (Some w) (Some k) None) q x).head ≡ Some w) × (load_of (with_word (with_words (Some w) (Some k) None) q x).key + load_of (with_word (with_words (Some w) (Some k) None) q x).value + 3 < 4)
+    go (Settled (Value FirstSlot)) d = (refl, omega arith)
     go q d = absurd (let z = d in cc)
 load_less true leaf w None v part x e = go part e
   where
-    go : (q : NodeWord) → Some (Settled Key) ≡ Some q → ((with_word (with_words (Some w) None v) q x).head ≡ Some w) × (load_of (with_word (with_words (Some w) None v) q x).key + (if leaf then load_of (with_word (with_words (Some w) None v) q x).value else 0) + (if leaf then 3 else 4) < 1 + (if leaf then load_of v else 0) + (if leaf then 3 else 4))
-    go (Settled Key) d = (refl, omega arith)
+    go : (q : NodeWord) → Some first_key ≡ Some q → ((with_word (with_words (Some w) None v) q x).head ≡ Some w) × (load_of (with_word (with_words (Some w) None v) q x).key + (if leaf then load_of (with_word (with_words (Some w) None v) q x).value else 0) + (if leaf then 3 else 4) < 1 + (if leaf then load_of v else 0) + (if leaf then 3 else 4))
+    go (Settled (Key FirstSlot)) d = (refl, omega arith)
     go q d = absurd (let z = d in cc)
 
 load_first : (o k v : Option ℕ) (part : NodeWord) (x : ℕ) → copy_wants o k v ≡ Some part → delete_works (with_word (with_words o k v) part x) First < copy_works o k v

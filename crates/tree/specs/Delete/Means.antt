@@ -3,8 +3,9 @@ use Rattle.std.specs.Prelude.{ℕ, ◌+◌, ◌==◌, if◌then◌else◌, Bool,
 use Rattle.arena.specs.declared.head.Head.{Head}
 use Rattle.arena.specs.declared.number.NodeNo.{NodeNo}
 use Rattle.arena.specs.declared.word.NodeWord.{NodeWord}
+use Rattle.arena.specs.Words.{first_key, first_value}
 use Rattle.arena.specs.declared.word.NodeWord.TheVariants.{Settled}
-use Rattle.arena.specs.declared.word.SettledPart.TheVariants.{Head as HeadWord, Key as KeyWord, Value as ValueWord}
+use Rattle.arena.specs.declared.word.SettledPart.TheVariants.{Head as HeadWord}
 use Rattle.arena.specs.declared.word.Side.{Side}
 use Rattle.arena.specs.Heads.{head_of}
 use Rattle.prims.specs.declared.snap.Snap.{Snap}
@@ -49,12 +50,12 @@ sibling_of f snaps = snap_at snaps (sibling_place f.trail.side)
 
 -- the value, if that is not loaded
 abbrev pub then_value : Option ℕ → Option NodeWord
-then_value None = Some (Settled ValueWord)
+then_value None = Some first_value
 then_value (Some v) = None
 
 -- the key of a node of class 0, and then a leaf's value, as long as they are not loaded
 abbrev pub then_key : Bool → Option ℕ → Option ℕ → Option NodeWord
-then_key leaf None v = Some (Settled KeyWord)
+then_key leaf None v = Some first_key
 then_key leaf (Some k) v = if leaf then then_value v else None
 
 -- of the sibling it loads the head, and then these

@@ -2,8 +2,10 @@
 use Rattle.std.proofs.Common.{◌≡◌, ℕ, ◌<◌, ◌≤◌, Bool, true, false, ◌==◌, if◌then◌else◌, List, [], ◌∷◌, length, Option, Some, None, refl, arith}
 use Rattle.arena.specs.declared.number.NodeNo.{NodeNo}
 use Rattle.arena.specs.declared.word.NodeWord.{NodeWord}
+use Rattle.arena.specs.Words.{first_value}
 use Rattle.arena.specs.declared.word.NodeWord.TheVariants.{Settled}
 use Rattle.arena.specs.declared.word.SettledPart.TheVariants.{Head, Value}
+use Rattle.arena.specs.declared.word.Slot.TheVariants.{First as FirstSlot}
 use Rattle.prims.specs.declared.snap.Snap.{Snap}
 use Rattle.template.specs.declared.walk.Found.{Found}
 use Rattle.tree.specs.declared.insert.Insert.{Insert}
@@ -37,8 +39,8 @@ load_at_second false old ld part v is e = absurd (let d : None ≡ Some part = e
 load_at_second true (Some w) ld part v is e = absurd (let d : None ≡ Some part = e in cc)
 load_at_second true None ld part v is e = go part e
   where
-    go : (q : NodeWord) → Some (Settled Value) ≡ Some q → leaf_copy_works (with_word ld q v).value < 4
-    go (Settled Value) d = omega arith
+    go : (q : NodeWord) → Some first_value ≡ Some q → leaf_copy_works (with_word ld q v).value < 4
+    go (Settled (Value FirstSlot)) d = omega arith
     go q d = absurd (let z = d in cc)
 
 load_works : (f : Found) (ld : Loaded) (nth : Nth) (part : NodeWord) → insert_wants f ld nth ≡ Some part → (v : ℕ) → insert_works f (with_word ld part v) nth < insert_works f ld nth
@@ -49,7 +51,7 @@ load_works f ld Third part e v = absurd (let d : None ≡ Some part = e in cc)
 fill_at_second : (b : Bool) (old : Option ℕ) → (if b then value_if_none old else None) ≡ None → 2 < (if b then leaf_copy_works old else 3)
 fill_at_second false old e = omega arith
 fill_at_second true (Some w) e = omega arith
-fill_at_second true None e = absurd (let d : Some (Settled Value) ≡ None = e in cc)
+fill_at_second true None e = absurd (let d : Some first_value ≡ None = e in cc)
 
 fork_fills : (b : Bool) (level class other key k : ℕ) (x y : NodeNo) → fills_behind (if b then Fork level class key x y else Fork level other k y x) (Settled Head) < 4
 fork_fills true level class other key k x y = omega arith

@@ -1,8 +1,7 @@
 -- What an insert needs, looks at, loads and fills.
 use Rattle.std.specs.Prelude.{ℕ, ◌+◌, ◌-◌, ◌^◌, min, nat_lt, ◌==◌, if◌then◌else◌, Bool, true, List, [], ◌∷◌, Option, Some, None, unwrap_or}
 use Rattle.arena.specs.declared.word.NodeWord.{NodeWord}
-use Rattle.arena.specs.declared.word.NodeWord.TheVariants.{Settled}
-use Rattle.arena.specs.declared.word.SettledPart.TheVariants.{Value}
+use Rattle.arena.specs.Words.{first_value}
 use Rattle.prims.specs.declared.snap.Snap.{Snap}
 use Rattle.prims.specs.Snap.{child_of}
 use Rattle.ordered_map.specs.OrderedMap.{Insert as PutEdit}
@@ -36,7 +35,7 @@ insert_looks f (p ∷ l ∷ snaps) = Enough
 
 -- the value of the leaf, if that is not loaded
 abbrev pub value_if_none : Option ℕ → Option NodeWord
-value_if_none None = Some (Settled Value)
+value_if_none None = Some first_value
 value_if_none (Some v) = None
 
 -- it loads the value of a leaf of class 0 before it fills the second node

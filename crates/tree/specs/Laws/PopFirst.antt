@@ -11,7 +11,7 @@ use Rattle.ordered_map.proofs.Lemmas.{run_since}
 use Rattle.template.specs.FoundLeaf.{HasFoundGoal, HasFoundLeaf}
 use Rattle.template.specs.declared.walk.Found.{Found}
 use Rattle.template.specs.declared.walk.Goal.TheVariants.{Key as ToKey, Least}
-use Rattle.template.proofs.Lemmas.{found_own, found_small, said_some}
+use Rattle.template.proofs.Lemmas.{found_own, found_small, said_low}
 use Rattle.tree.specs.declared.pop_first.PopFirst.{PopFirst}
 use Rattle.tree.specs.Delete.Means.{delete_means, delete_need}
 use Rattle.tree.specs.PopFirst.Laws.{pop_bounds}
@@ -30,7 +30,7 @@ module _ (e : PopFirst) (c : Call) (f : Found) (needed : delete_need f.value ≢
   has_key : (m : History) → HasFoundGoal Least c m f → f.head.class ≡ 0
   has_key m a =
       let there : (old : ℕ) × (f.value ≡ Some old) = key_there f.value needed in
-      let low : class (value m) f.trail.node.0 ≡ 0 = (said_some (value m) f.key f.trail.node.0 there.0 (sym there.1 ∙ a.says)).0 in
+      let low : class (value m) f.trail.node.0 ≡ 0 = said_low (value m) f.key f.trail.node.0 there.0 (sym there.1 ∙ a.says) in
       sym (ap (λ w. w.class) a.head) ∙ low
 
   -- and is the leaf of that key

@@ -7,7 +7,7 @@ use Rattle.arena.specs.declared.number.NodeNo.{NodeNo}
 use Rattle.arena.specs.declared.number.ScxNo.{ScxNo}
 use Rattle.arena.specs.declared.word.NodeWord.{NodeWord}
 use Rattle.arena.specs.declared.word.NodeWord.TheVariants.{Settled, Child}
-use Rattle.arena.specs.declared.word.SettledPart.TheVariants.{Head, Key, Value}
+use Rattle.arena.specs.declared.word.SettledPart.TheVariants.{Head}
 use Rattle.arena.specs.declared.word.Side.{Side}
 use Rattle.arena.specs.declared.word.Side.TheVariants.{Left, Right}
 use Rattle.arena.specs.Fills.{IsInField, IsNamed}
@@ -17,7 +17,7 @@ use Rattle.arena.specs.Lawful.{IsSettled}
 use Rattle.arena.specs.Machines.{Call}
 use Rattle.arena.specs.ScxRecords.{bit, count, member}
 use Rattle.arena.specs.TakenNodes.{taken_nodes}
-use Rattle.arena.specs.Words.{node, child}
+use Rattle.arena.specs.Words.{node, child, first_key, first_value}
 use Rattle.arena.proofs.Lemmas.{taken_few}
 use Rattle.histories.specs.Descriptor.{Descriptor}
 use Rattle.prims.specs.Laws.Idle.{IsQuietSince}
@@ -28,18 +28,19 @@ use Rattle.prims.specs.Snap.{child_of, snap_at}
 use Rattle.prims.specs.Snaps.{AreDistinct}
 use Rattle.prims.specs.declared.snap.Snap.{Snap}
 use Rattle.ordered_map.specs.OrderedMap.{pair, Delete as TakeEdit}
+use Rattle.ordered_map.specs.Holding.{HasOnePair, IsWellCounted}
 use Rattle.ordered_map.specs.Paths.{WasInTree}
 use Rattle.ordered_map.specs.Runs.{IsTreeRun}
 use Rattle.ordered_map.specs.TreeShape.{join_plan, edit_leaf, leaf_place, sibling_place}
 use Rattle.ordered_map.specs.TreeWords.{class, is_leaf, level, toward}
-use Rattle.ordered_map.proofs.Lemmas.{counted_one, held_one, root_head, run_since, settled_toward, stood_blank, stood_depth, stood_settled, was_passed}
+use Rattle.ordered_map.proofs.Lemmas.{counted_one, held_one, root_head, run_since, settled_toward, stood_blank, stood_counted, stood_depth, stood_settled, was_passed}
 use Rattle.template.specs.FoundLeaf.{HasFoundLeaf}
 use Rattle.template.specs.FreshNodes.{IsJoinAt, HasFreshCopy}
 use Rattle.template.specs.Promises.{IsPromised, IsSnapOf}
 use Rattle.template.specs.Trails.{HasTurned}
 use Rattle.template.specs.declared.walk.Found.{Found}
 use Rattle.template.specs.declared.walk.Goal.TheVariants.{Key as ToKey}
-use Rattle.template.proofs.Lemmas.{found_below, join_promised, said_some, opened_if_stood}
+use Rattle.template.proofs.Lemmas.{found_below, join_promised, said_low, opened_if_stood}
 use Rattle.tree.specs.declared.delete.Delete.{Delete}
 use Rattle.tree.specs.Delete.Laws.{delete_bounds}
 use Rattle.tree.specs.Delete.Means.{delete_means, delete_need, delete_looks, delete_wants, delete_piece, sibling_of, sibling_copy, copy_wants, then_key}
@@ -56,7 +57,7 @@ use Rattle.edits.specs.declared.edit.Piece.TheVariants.{Leaf, Fork}
 use Rattle.template.specs.Blame.{IsContended, WasNotFinal}
 use Rattle.edits.specs.Known.{IsBelowRoot, ComesBefore, IsNeeded, IsLoaded, HasSnappedAfterWalk, AreSeen, HasLooked, HasFilledAll, IsUpdateFor}
 use Rattle.edits.specs.Laws.Contended.{passed_not_final, shown_not_final, turned_contended}
-use Rattle.edits.specs.Laws.PieceFills.{HoldsFills}
+use Rattle.edits.specs.Laws.PieceFills.{HoldsFills, piece_one}
 use Rattle.edits.specs.Pieces.{fills_of, fills_word, piece_head, plan_over, top_of, word_of}
 use Rattle.edits.specs.Tries.{CoversSnaps}
 use Rattle.edits.specs.Sound.{LooksWell, LoadsWell, FillsWell, MakesWell, EditLaws}
@@ -123,7 +124,7 @@ module _ (ed : Delete) (c : Call) (h : History) (f : Found) (run : IsTreeRun c.l
   there = key_there f.value needed
 
   grand_turned : (m : History) → IsTreeRun c.layout m → HasFoundLeaf c m ed.key f → HasTurned c m ed.key f.trail.grand.0 f.trail.grand_side f.trail.parent.0
-  grand_turned m r a = a.trail.grand (found_below ed.key c m f r a) (λ z. a.trail.high (found_below ed.key c m f r a) z a.leaf (said_some (value m) ed.key f.trail.node.0 there.0 (sym there.1 ∙ a.says)).0)
+  grand_turned m r a = a.trail.grand (found_below ed.key c m f r a) (λ z. a.trail.high (found_below ed.key c m f r a) z a.leaf (said_low (value m) ed.key f.trail.node.0 there.0 (sym there.1 ∙ a.says)))
 
   parent_turned : (m : History) → IsTreeRun c.layout m → HasFoundLeaf c m ed.key f → HasTurned c m ed.key f.trail.parent.0 f.trail.side f.trail.node.0
   parent_turned m r a = a.trail.parent (found_below ed.key c m f r a)
@@ -357,14 +358,14 @@ loaded_head (Some z) k v w e is = ap Some is
 -- so is the key of a low node
 low_key : (low leaf : Bool) (k v : Option ℕ) (w : ℕ) → (if low then then_key leaf k v else None) ≡ None → low ≡ true → IsLoaded k w → unwrap_or k 0 ≡ w
 low_key true leaf (Some z) v w e t is = is
-low_key true leaf None v w e t is = absurd (let d : Some (Settled Key) ≡ None = e in cc)
+low_key true leaf None v w e t is = absurd (let d : Some first_key ≡ None = e in cc)
 low_key false leaf k v w e t is = absurd (let d : false ≡ true = t in cc)
 
 -- and the value of a low leaf
 low_value : (low leaf : Bool) (k v : Option ℕ) (w : ℕ) → (if low then then_key leaf k v else None) ≡ None → low ≡ true → leaf ≡ true → IsLoaded v w → unwrap_or v 0 ≡ w
 low_value true true (Some z) (Some y) w e t l is = is
-low_value true true (Some z) None w e t l is = absurd (let d : Some (Settled Value) ≡ None = e in cc)
-low_value true true None v w e t l is = absurd (let d : Some (Settled Key) ≡ None = e in cc)
+low_value true true (Some z) None w e t l is = absurd (let d : Some first_value ≡ None = e in cc)
+low_value true true None v w e t l is = absurd (let d : Some first_key ≡ None = e in cc)
 low_value true false k v w e t l is = absurd (let d : false ≡ true = l in cc)
 low_value false leaf k v w e t l is = absurd (let d : false ≡ true = t in cc)
 
@@ -390,14 +391,15 @@ head_back w fits = head_is (w / 8) (w % 4) (w / 4 % 2 == 1) fits (omega arith) �
 -- what a copy holds that is filled
 record HoldsCopy (h : History) (n : ℕ) (leaf : Bool) (level class k v : ℕ) (s : Snap) : Type 0 where
   head : value h (node n (Settled Head)) ≡ piece_head level leaf class
-  key : value h (node n (Settled Key)) ≡ k
-  leaf_value : leaf ≡ true → value h (node n (Settled Value)) ≡ v
+  key : value h (node n first_key) ≡ k
+  leaf_value : leaf ≡ true → value h (node n first_value) ≡ v
   fields : leaf ≡ false → (side : Side) → value h (child n side) ≡ (child_of s side).0
-  unfilled : leaf ≡ false → value h (node n (Settled Value)) ≡ 0
+  unfilled : leaf ≡ false → value h (node n first_value) ≡ 0
+  one : HasOnePair (value h) n
 
 copy_holds : (leaf : Bool) (h : History) (n level class k v : ℕ) (s : Snap) → HoldsFills h n (fills_of (if leaf then Leaf level class k v else Fork level class k s.left s.right)) → HoldsCopy h n leaf level class k v s
-copy_holds true h n level class k v s w = record { head = w (Settled Head) tt; key = w (Settled Key) tt; leaf_value = λ e. w (Settled Value) tt; fields = λ e side. absurd (let d : true ≡ false = e in cc); unfilled = λ e. absurd (let d : true ≡ false = e in cc) }
-copy_holds false h n level class k v s w = record { head = w (Settled Head) tt; key = w (Settled Key) tt; leaf_value = λ e. absurd (let d : false ≡ true = e in cc); fields = λ e side. go side; unfilled = λ e. w (Settled Value) tt }
+copy_holds true h n level class k v s w = record { head = w (Settled Head) tt; key = w first_key tt; leaf_value = λ e. w first_value tt; fields = λ e side. absurd (let d : true ≡ false = e in cc); unfilled = λ e. absurd (let d : true ≡ false = e in cc); one = piece_one h n (Leaf level class k v) w }
+copy_holds false h n level class k v s w = record { head = w (Settled Head) tt; key = w first_key tt; leaf_value = λ e. absurd (let d : false ≡ true = e in cc); fields = λ e side. go side; unfilled = λ e. w first_value tt; one = piece_one h n (Fork level class k s.left s.right) w }
   where
     go : (side : Side) → value h (child n side) ≡ (child_of s side).0
     go Left = w (Child Left) tt
@@ -446,18 +448,21 @@ module _ (ed : Delete) (c : Call) (h : History) (f : Found) (snaps : List Snap) 
       (subst (λ (o : Option ℕ). HoldsFills h ns.first.0 (fills_of (sibling_copy sibling (head_of (unwrap_or o 0)) ld))) is_head (x.holds First one).words)
 
   -- its key and value are loaded if it is of class 0
-  low_key_loaded : class (value h) sibling.node.0 ≡ 0 → value h (node ns.first.0 (Settled Key)) ≡ value h (node sibling.node.0 (Settled Key))
-  low_key_loaded low = held_words.key ∙ low_key ((head_of w).class == 0) (head_of w).leaf ld.key ld.value (value h (node sibling.node.0 (Settled Key))) all_loaded (eq-eqb (head_of w).class 0 low) x.loaded.key
+  low_key_loaded : class (value h) sibling.node.0 ≡ 0 → value h (node ns.first.0 first_key) ≡ value h (node sibling.node.0 first_key)
+  low_key_loaded low = held_words.key ∙ low_key ((head_of w).class == 0) (head_of w).leaf ld.key ld.value (value h (node sibling.node.0 first_key)) all_loaded (eq-eqb (head_of w).class 0 low) x.loaded.key
 
-  low_value_loaded : is_leaf (value h) sibling.node.0 ≡ true → class (value h) sibling.node.0 ≡ 0 → value h (node ns.first.0 (Settled Value)) ≡ value h (node sibling.node.0 (Settled Value))
-  low_value_loaded leaf low = held_words.leaf_value leaf ∙ low_value ((head_of w).class == 0) (head_of w).leaf ld.key ld.value (value h (node sibling.node.0 (Settled Value))) all_loaded (eq-eqb (head_of w).class 0 low) leaf x.loaded.value
+  low_value_loaded : is_leaf (value h) sibling.node.0 ≡ true → class (value h) sibling.node.0 ≡ 0 → value h (node ns.first.0 first_value) ≡ value h (node sibling.node.0 first_value)
+  low_value_loaded leaf low = held_words.leaf_value leaf ∙ low_value ((head_of w).class == 0) (head_of w).leaf ld.key ld.value (value h (node sibling.node.0 first_value)) all_loaded (eq-eqb (head_of w).class 0 low) leaf x.loaded.value
 
   -- and its key is 0 if it is above all keys
-  copied_key : Dec (class (value h) sibling.node.0 ≡ 0) → value h (node ns.first.0 (Settled Key)) ≡ value h (node sibling.node.0 (Settled Key))
+  copied_key : Dec (class (value h) sibling.node.0 ≡ 0) → value h (node ns.first.0 first_key) ≡ value h (node sibling.node.0 first_key)
   copied_key (yes low) = low_key_loaded low
   copied_key (no high) =
-      let blank : value h (node sibling.node.0 (Settled Key)) ≡ 0 = stood_blank c.layout h sibling.node.0 run in_tree high in
-      held_words.key ∙ blank_word ld.key (value h (node sibling.node.0 (Settled Key))) x.loaded.key blank ∙ sym blank
+      let blank : value h (node sibling.node.0 first_key) ≡ 0 = stood_blank c.layout h sibling.node.0 run in_tree high in
+      held_words.key ∙ blank_word ld.key (value h (node sibling.node.0 first_key)) x.loaded.key blank ∙ sym blank
+
+  copied_one : IsWellCounted (value h) ns.first.0
+  copied_one = counted_one (value h) ns.first.0 held_words.one
 
   copy : HasFreshCopy c.layout c.pass h sibling ns.first.0
   copy = record {
@@ -465,7 +470,7 @@ module _ (ed : Delete) (c : Call) (h : History) (f : Found) (snaps : List Snap) 
     copy = record {
       same_head = held_words.head ∙ head_back w fits;
       same_key = copied_key (ℕ_discrete (class (value h) sibling.node.0) 0);
-      same_pairs = λ leaf low. (counted_one (value h) ns.first.0, held_one (value h) ns.first.0 ∙ (λ i. pair (low_key_loaded low i) (low_value_loaded leaf low i) ∷ []) ∙ sym (held_one (value h) sibling.node.0));
+      same_pairs = λ leaf low. (copied_one, held_one (value h) ns.first.0 copied_one ∙ (λ i. pair (low_key_loaded low i) (low_value_loaded leaf low i) ∷ []) ∙ sym (held_one (value h) sibling.node.0 (stood_counted c.layout h sibling.node.0 run in_tree leaf low)));
     };
     fields = λ fork side. held_words.fields fork side;
     unfilled = λ fork. held_words.unfilled fork;

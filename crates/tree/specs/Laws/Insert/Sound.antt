@@ -7,7 +7,7 @@ use Rattle.arena.specs.declared.number.NodeNo.{NodeNo}
 use Rattle.arena.specs.declared.number.ScxNo.{ScxNo}
 use Rattle.arena.specs.declared.word.NodeWord.{NodeWord}
 use Rattle.arena.specs.declared.word.NodeWord.TheVariants.{Settled, Child}
-use Rattle.arena.specs.declared.word.SettledPart.TheVariants.{Head, Key, Value}
+use Rattle.arena.specs.declared.word.SettledPart.TheVariants.{Head}
 use Rattle.arena.specs.declared.word.Side.{Side}
 use Rattle.arena.specs.declared.word.Side.TheVariants.{Left, Right}
 use Rattle.arena.specs.Heads.{head_word}
@@ -16,7 +16,7 @@ use Rattle.arena.specs.Lawful.{IsSettled}
 use Rattle.arena.specs.Machines.{Call}
 use Rattle.arena.specs.ScxRecords.{count}
 use Rattle.arena.specs.declared.word.Word.{Word}
-use Rattle.arena.specs.Words.{node, child}
+use Rattle.arena.specs.Words.{node, child, first_key, first_value}
 use Rattle.histories.specs.Descriptor.{Descriptor}
 use Rattle.prims.specs.Laws.Idle.{IsQuietSince}
 use Rattle.prims.specs.Llx.Known.{IsOpened}
@@ -26,7 +26,7 @@ use Rattle.prims.specs.Snaps.{AreDistinct}
 use Rattle.prims.specs.declared.snap.Snap.{Snap}
 use Rattle.ordered_map.specs.OrderedMap.{Insert as PutEdit, AllBelow, AllFrom, insert, pair}
 use Rattle.ordered_map.specs.Edits.{IsLowLeaf, IsSplitBy}
-use Rattle.ordered_map.specs.Holding.{held_pairs}
+use Rattle.ordered_map.specs.Holding.{held_pairs, HasOnePair, IsWellCounted}
 use Rattle.ordered_map.specs.Runs.{IsTreeRun}
 use Rattle.ordered_map.specs.TreeShape.{leaf_plan, edit_leaf}
 use Rattle.ordered_map.specs.TreeWords.{class, is_leaf, leaf_items, level, rank}
@@ -37,7 +37,7 @@ use Rattle.template.specs.Promises.{IsPromised, IsFresh, HasFreshEdit}
 use Rattle.template.specs.Trails.{HasTurned}
 use Rattle.template.specs.declared.walk.Found.{Found}
 use Rattle.template.specs.declared.walk.Goal.TheVariants.{Key as ToKey}
-use Rattle.template.proofs.Lemmas.{found_below, found_class, found_level, found_key, leaf_edit_words, edit_promised, said_some, said_none}
+use Rattle.template.proofs.Lemmas.{found_below, found_class, found_counted, found_level, found_key, leaf_edit_words, edit_promised, said_some, said_none}
 use Rattle.tree.specs.declared.insert.Insert.{Insert}
 use Rattle.tree.specs.Insert.Laws.{insert_bounds}
 use Rattle.tree.specs.Laws.Looks.{same_node, goes_on, not_enough, is_other}
@@ -52,7 +52,7 @@ use Rattle.edits.specs.declared.edit.Piece.TheVariants.{Leaf, Fork}
 use Rattle.template.specs.Blame.{IsContended, WasNotFinal}
 use Rattle.edits.specs.Known.{ComesBefore, IsNeeded, IsLoaded, HasSnappedAfterWalk, AreSeen, HasLooked, HasFilledAll, HoldsPiece, IsUpdateFor}
 use Rattle.edits.specs.Laws.Contended.{passed_not_final, turned_contended}
-use Rattle.edits.specs.Laws.PieceFills.{HoldsFills}
+use Rattle.edits.specs.Laws.PieceFills.{HoldsFills, piece_one}
 use Rattle.edits.specs.Laws.Opened.{found_named, found_opened, above_opened}
 use Rattle.edits.specs.Pieces.{fills_of, fills_word, nth_node, with_word, word_of, plan_over, piece_head, top_of}
 use Rattle.edits.specs.Tries.{CoversSnaps}
@@ -60,15 +60,15 @@ use Rattle.edits.specs.Sound.{LooksWell, LoadsWell, FillsWell, MakesWell, EditLa
 
 -- What it loads
 
-wants_value : (f : Found) (ld : Loaded) (nth : Nth) (part : NodeWord) → insert_wants f ld nth ≡ Some part → (Settled Value ≡ part) × (nth ≡ Second)
+wants_value : (f : Found) (ld : Loaded) (nth : Nth) (part : NodeWord) → insert_wants f ld nth ≡ Some part → (first_value ≡ part) × (nth ≡ Second)
 wants_value f ld First part e = absurd (let d : None ≡ Some part = e in cc)
 wants_value f ld Third part e = absurd (let d : None ≡ Some part = e in cc)
 wants_value f ld Second part e = (go (f.head.class == 0) ld.value e, refl)
   where
-    go : (b : Bool) (old : Option ℕ) → (if b then value_if_none old else None) ≡ Some part → Settled Value ≡ part
+    go : (b : Bool) (old : Option ℕ) → (if b then value_if_none old else None) ≡ Some part → first_value ≡ part
     go false old d = absurd (let z : None ≡ Some part = d in cc)
     go true (Some v) d = absurd (let z : None ≡ Some part = d in cc)
-    go true None d = let z : Some (Settled Value) ≡ Some part = d in ap (λ (o : Option NodeWord). unwrap_or o (Settled Value)) z
+    go true None d = let z : Some first_value ≡ Some part = d in ap (λ (o : Option NodeWord). unwrap_or o first_value) z
 
 -- only the second node's piece has what was loaded
 steady_wants : (f : Found) (ld : Loaded) (nth : Nth) (part : NodeWord) → insert_wants f ld nth ≡ Some part → (v : ℕ) (i : Nth) → ComesBefore i nth → insert_wants f (with_word ld part v) i ≡ insert_wants f ld i
@@ -239,15 +239,16 @@ record IsLeafWith (f : Word → ℕ) (n deep kind k v : ℕ) : Type 0 where
   leaf : is_leaf f n ≡ true
   level : level f n ≡ deep
   class : class f n ≡ kind
-  key : f (node n (Settled Key)) ≡ k
-  value : f (node n (Settled Value)) ≡ v
+  key : f (node n first_key) ≡ k
+  value : f (node n first_value) ≡ v
+  one : HasOnePair f n
 
 -- n is a fork of this level and class, with this key, over x and y
 record IsForkWith (f : Word → ℕ) (n deep kind k x y : ℕ) : Type 0 where
   fork : is_leaf f n ≡ false
   level : level f n ≡ deep
   class : class f n ≡ kind
-  key : f (node n (Settled Key)) ≡ k
+  key : f (node n first_key) ≡ k
   left : f (child n Left) ≡ x
   right : f (child n Right) ≡ y
 
@@ -255,24 +256,24 @@ record IsForkWith (f : Word → ℕ) (n deep kind k x y : ℕ) : Type 0 where
 leaf_with : (h : History) (n low deep kind k v : ℕ) → low ≡ deep → deep < 2 ^ 61 → kind < 4 → HoldsFills h n (fills_of (Leaf low kind k v)) → IsLeafWith (value h) n deep kind k v
 leaf_with h n low deep kind k v same fits few w =
     let e : value h (node n (Settled Head)) ≡ 8 * deep + 4 * 1 + kind = w (Settled Head) tt ∙ ap (λ l. piece_head l true kind) same ∙ head_is deep kind true fits few in
-    record { leaf = eq-eqb (value h (node n (Settled Head)) / 4 % 2) 1 (omega (arith, e, few)); level = omega (arith, e, few); class = omega (arith, e, few); key = w (Settled Key) tt; value = w (Settled Value) tt }
+    record { leaf = eq-eqb (value h (node n (Settled Head)) / 4 % 2) 1 (omega (arith, e, few)); level = omega (arith, e, few); class = omega (arith, e, few); key = w first_key tt; value = w first_value tt; one = piece_one h n (Leaf low kind k v) w }
 
 -- and such a fork
 fork_with : (h : History) (n deep kind k : ℕ) (x y : NodeNo) → deep < 2 ^ 61 → kind < 4 → HoldsFills h n (fills_of (Fork deep kind k x y)) → IsForkWith (value h) n deep kind k x.0 y.0
 fork_with h n deep kind k x y fits few w =
     let e : value h (node n (Settled Head)) ≡ 8 * deep + 4 * 0 + kind = w (Settled Head) tt ∙ head_is deep kind false fits few in
-    record { fork = ne_eqb (value h (node n (Settled Head)) / 4 % 2) 1 (λ z. omega (arith, z, e, few)); level = omega (arith, e, few); class = omega (arith, e, few); key = w (Settled Key) tt; left = w (Child Left) tt; right = w (Child Right) tt }
+    record { fork = ne_eqb (value h (node n (Settled Head)) / 4 % 2) 1 (λ z. omega (arith, z, e, few)); level = omega (arith, e, few); class = omega (arith, e, few); key = w first_key tt; left = w (Child Left) tt; right = w (Child Right) tt }
 
 -- the fork of both leaves, by whether the key comes before the other leaf
 abbrev fork_by : Bool → ℕ → ℕ → ℕ → ℕ → NodeNo → NodeNo → Piece
 fork_by b deep kind key k x y = if b then Fork deep kind key x y else Fork deep 0 k y x
 
 -- what it holds, if it is of class 0
-held_with : (f : Word → ℕ) (n k v : ℕ) → f (node n (Settled Key)) ≡ k → f (node n (Settled Value)) ≡ v → held_pairs f n ≡ pair k v ∷ []
-held_with f n k v key value = held_one f n ∙ (λ i. pair (key i) (value i) ∷ [])
+held_with : (f : Word → ℕ) (n k v : ℕ) → IsWellCounted f n → f (node n first_key) ≡ k → f (node n first_value) ≡ v → held_pairs f n ≡ pair k v ∷ []
+held_with f n k v counted key value = held_one f n counted ∙ (λ i. pair (key i) (value i) ∷ [])
 
 low_leaf : (f : Word → ℕ) (n deep k v : ℕ) → IsLeafWith f n deep 0 k v → IsLowLeaf f n
-low_leaf f n deep k v w = record { leaf = w.leaf; class = w.class; counted = counted_one f n }
+low_leaf f n deep k v w = record { leaf = w.leaf; class = w.class; counted = counted_one f n w.one }
 
 -- the plan word of both is that of an edit of a leaf
 plan_both : (n : ℕ) (side : Side) → n ≡ 2 → plan_over n side ≡ leaf_plan side
@@ -312,7 +313,10 @@ module _ (ed : Insert) (c : Call) (h : History) (f : Found) (snaps : List Snap) 
   level_is : level (value h) old_leaf ≡ f.head.level
   level_is = ap (λ w. w.level) found.head
 
-  key_is : value h (node old_leaf (Settled Key)) ≡ f.key
+  old_counted : class (value h) old_leaf ≡ 0 → IsWellCounted (value h) old_leaf
+  old_counted = found_counted ed.key c h f run found
+
+  key_is : value h (node old_leaf first_key) ≡ f.key
   key_is = found_key ed.key c h f run found
 
   abbrev Made : ℕ → Type 0
@@ -326,14 +330,14 @@ module _ (ed : Insert) (c : Call) (h : History) (f : Found) (snaps : List Snap) 
       leaf = found.leaf;
       class = was.0;
       new = low_leaf (value h) ns.first.0 f.head.level ed.key ed.value now;
-      pairs = held_with (value h) ns.first.0 ed.key ed.value now.key now.value ∙ sym (insert_here ed.key ed.value (value h (node old_leaf (Settled Value)))) ∙ ap (insert ed.key ed.value) (sym (held_with (value h) old_leaf ed.key _ was.1 refl));
+      pairs = held_with (value h) ns.first.0 ed.key ed.value (counted_one (value h) ns.first.0 now.one) now.key now.value ∙ sym (insert_here ed.key ed.value (value h (node old_leaf first_value))) ∙ ap (insert ed.key ed.value) (sym (held_with (value h) old_leaf ed.key _ (old_counted was.0) was.1 refl));
       deep = now.level ∙ sym level_is;
     };
     below = λ fork. absurd (let z : true ≡ false = sym now.leaf ∙ fork in cc);
   }
     where
-      was : (class (value h) old_leaf ≡ 0) × (value h (node old_leaf (Settled Key)) ≡ ed.key)
-      was = said_some (value h) ed.key old_leaf old (sym e ∙ found.says)
+      was : (class (value h) old_leaf ≡ 0) × (value h (node old_leaf first_key) ≡ ed.key)
+      was = said_some (value h) ed.key old_leaf old old_counted (sym e ∙ found.says)
 
       now : IsLeafWith (value h) ns.first.0 f.head.level 0 ed.key ed.value
       now = leaf_with h ns.first.0 (leaf_level f f.value) f.head.level 0 ed.key ed.value (ap (λ (o : Option ℕ). leaf_level f o) e) (let a = deep in omega (arith, a)) (omega arith) p.words
@@ -341,7 +345,7 @@ module _ (ed : Insert) (c : Call) (h : History) (f : Found) (snaps : List Snap) 
   -- a new key: the fork, over its leaf and the copy of the other
   copied_value : (o : Option ℕ) (b : Bool) (v : ℕ) → IsLoaded o v → (if b then value_if_none o else None) ≡ None → b ≡ true → unwrap_or o 0 ≡ v
   copied_value (Some w) b v is none e = is
-  copied_value None true v is none e = absurd (let d : Some (Settled Value) ≡ None = none in cc)
+  copied_value None true v is none e = absurd (let d : Some first_value ≡ None = none in cc)
   copied_value None false v is none e = absurd (let d : false ≡ true = e in cc)
 
   module _ (absent : f.value ≡ None) (one : IsNeeded (insert_need f.value) First) (two : IsNeeded (insert_need f.value) Second) (three : IsNeeded (insert_need f.value) Third) where
@@ -358,7 +362,7 @@ module _ (ed : Insert) (c : Call) (h : History) (f : Found) (snaps : List Snap) 
     below = lower_is f.head.level deep
 
     apart : ed.key ≢ rank (value h) old_leaf
-    apart = said_none (value h) ed.key old_leaf x.looked.small (sym absent ∙ found.says)
+    apart = said_none (value h) ed.key old_leaf old_counted x.looked.small (sym absent ∙ found.says)
 
     new_leaf : IsLeafWith (value h) x_node (f.head.level + 1) 0 ed.key ed.value
     new_leaf = leaf_with h x_node (leaf_level f f.value) (f.head.level + 1) 0 ed.key ed.value (ap (λ (o : Option ℕ). leaf_level f o) absent ∙ below) deep (omega arith) (x.holds First one).words
@@ -368,10 +372,10 @@ module _ (ed : Insert) (c : Call) (h : History) (f : Found) (snaps : List Snap) 
 
     -- their items, and those of the leaf
     new_items : leaf_items (value h) x_node ≡ pair ed.key ed.value ∷ []
-    new_items = low_items (value h) x_node new_leaf.class ∙ held_with (value h) x_node ed.key ed.value new_leaf.key new_leaf.value
+    new_items = low_items (value h) x_node new_leaf.class ∙ held_with (value h) x_node ed.key ed.value (counted_one (value h) x_node new_leaf.one) new_leaf.key new_leaf.value
 
     was : (v : ℕ) × (leaf_items (value h) old_leaf ≡ pair (rank (value h) old_leaf) v ∷ [])
-    was = one_item (value h) old_leaf
+    was = one_item (value h) old_leaf old_counted
 
     same_rank : rank (value h) y_node ≡ rank (value h) old_leaf
     same_rank = let a = copy.class in let b = copy.key in let p = class_is in let q = key_is in omega (arith, a, b, p, q)
@@ -382,8 +386,8 @@ module _ (ed : Insert) (c : Call) (h : History) (f : Found) (snaps : List Snap) 
         go : Dec (f.head.class ≡ 0) → leaf_items (value h) y_node ≡ leaf_items (value h) old_leaf
         go (yes low) =
             low_items (value h) y_node (copy.class ∙ low)
-            ∙ held_with (value h) y_node f.key (value h (node old_leaf (Settled Value))) copy.key (copy.value ∙ copied_value ld.value (f.head.class == 0) (value h (node old_leaf (Settled Value))) x.loaded.value (x.done Second two) (eq-eqb f.head.class 0 low))
-            ∙ sym (held_with (value h) old_leaf f.key (value h (node old_leaf (Settled Value))) key_is refl)
+            ∙ held_with (value h) y_node f.key (value h (node old_leaf first_value)) (counted_one (value h) y_node copy.one) copy.key (copy.value ∙ copied_value ld.value (f.head.class == 0) (value h (node old_leaf first_value)) x.loaded.value (x.done Second two) (eq-eqb f.head.class 0 low))
+            ∙ sym (held_with (value h) old_leaf f.key (value h (node old_leaf first_value)) (old_counted (class_is ∙ low)) key_is refl)
             ∙ sym (low_items (value h) old_leaf (class_is ∙ low))
         go (no high) = high_items (value h) y_node (λ z. high (sym copy.class ∙ z)) ∙ (λ i. pair (same_rank i) 0 ∷ []) ∙ sym (high_items (value h) old_leaf (λ z. high (sym class_is ∙ z)))
 
@@ -395,8 +399,8 @@ module _ (ed : Insert) (c : Call) (h : History) (f : Found) (snaps : List Snap) 
       left = z.left;
       right = z.right;
       first = low_leaf (value h) x_node (f.head.level + 1) ed.key ed.value new_leaf;
-      small = subst (AllBelow (2 ^ 64)) (sym (held_with (value h) x_node ed.key ed.value new_leaf.key new_leaf.value)) (x.looked.small, tt);
-      last = record { leaf = copy.leaf; same_class = copy.class ∙ sym class_is; counted = λ _. counted_one (value h) y_node; key = λ _. copy.key ∙ sym key_is };
+      small = subst (AllBelow (2 ^ 64)) (sym (held_with (value h) x_node ed.key ed.value (counted_one (value h) x_node new_leaf.one) new_leaf.key new_leaf.value)) (x.looked.small, tt);
+      last = record { leaf = copy.leaf; same_class = copy.class ∙ sym class_is; counted = λ _. counted_one (value h) y_node copy.one; key = λ _. copy.key ∙ sym key_is };
       items = (λ j. new_items j ++ copied j) ∙ sym (put_before ed.key ed.value (rank (value h) old_leaf) was.0 i) ∙ ap (insert ed.key ed.value) (sym was.1);
       before = subst (AllBelow (rank (value h) fork_node)) (sym new_items) (omega (arith, at_leaf, i), tt);
       behind = subst (AllFrom (rank (value h) fork_node)) (sym copied) (omega (arith, at_leaf), tt);
@@ -416,9 +420,9 @@ module _ (ed : Insert) (c : Call) (h : History) (f : Found) (snaps : List Snap) 
       fork = z.fork;
       left = z.left;
       right = z.right;
-      first = record { leaf = copy.leaf; class = copy.class ∙ is_low; counted = counted_one (value h) y_node };
+      first = record { leaf = copy.leaf; class = copy.class ∙ is_low; counted = counted_one (value h) y_node copy.one };
       small = subst (AllBelow (2 ^ 64)) (sym (sym (low_items (value h) y_node (copy.class ∙ is_low)) ∙ copied)) (let a = x.looked.small in omega (arith, a, i), tt);
-      last = record { leaf = new_leaf.leaf; same_class = new_leaf.class ∙ sym (class_is ∙ is_low); counted = λ _. counted_one (value h) x_node; key = λ d. absurd (d new_leaf.class) };
+      last = record { leaf = new_leaf.leaf; same_class = new_leaf.class ∙ sym (class_is ∙ is_low); counted = λ _. counted_one (value h) x_node new_leaf.one; key = λ d. absurd (d new_leaf.class) };
       items = (λ j. copied j ++ new_items j) ∙ sym (put_behind ed.key ed.value (rank (value h) old_leaf) was.0 i) ∙ ap (insert ed.key ed.value) (sym was.1);
       before = subst (AllBelow (rank (value h) fork_node)) (sym copied) (omega (arith, at_key, i), tt);
       behind = subst (AllFrom (rank (value h) fork_node)) (sym new_items) (omega (arith, at_key), tt);
