@@ -3,8 +3,7 @@ use Rattle.std.proofs.Common.{◌≡◌, ℕ, ◌<◌, List, length, slice_get, 
 use Rattle.arena.specs.declared.layout.Layout.{Layout}
 use Rattle.arena.specs.declared.step.Row.{Row}
 use Rattle.arena.specs.declared.word.NodeWord.{NodeWord}
-use Rattle.arena.specs.declared.word.NodeWord.TheVariants.{Settled, Child}
-use Rattle.arena.specs.declared.word.SettledPart.TheVariants.{Value}
+use Rattle.arena.specs.declared.word.NodeWord.TheVariants.{Child}
 use Rattle.arena.specs.declared.word.Side.{Side}
 use Rattle.arena.specs.declared.word.Side.TheVariants.{Left}
 use Rattle.arena.specs.declared.word.Word.{Word}
@@ -14,7 +13,7 @@ use Rattle.arena.specs.History.{History, value}
 use Rattle.arena.specs.Lawful.{IsWin}
 use Rattle.arena.specs.Log.{entry}
 use Rattle.arena.specs.ScxRecords.{member, plan, new, field_index, side_of}
-use Rattle.arena.specs.Words.{node, child}
+use Rattle.arena.specs.Words.{node, child, first_value}
 use Rattle.script.specs.declared.call.Call.{Call}
 use Rattle.script.specs.declared.command.Command.TheVariants.{Vlx}
 use Rattle.script.specs.declared.cells.Cells.{Cells}
@@ -54,7 +53,7 @@ entry_over lay c h s n side row cells removed field x win word over at on fresh 
       node_is = ap node_in same ∙ at;
       side_is = ap side_in same ∙ on;
       fresh = subst (λ (v : ℕ). IsOwnNode lay c v) stored fresh.own;
-      value_is = subst (λ (v : ℕ). value h (node v (Settled Value)) ≡ x) stored fresh.value_is;
+      value_is = subst (λ (v : ℕ). value h (node v first_value) ≡ x) stored fresh.value_is;
       empty_fields = λ d. subst (λ (v : ℕ). value h (child v d) ≡ 0) stored (fresh.empty d);
     }
 

@@ -5,15 +5,13 @@ use Rattle.std.specs.Cmp.Lexicographic.{pointwise}
 use Rattle.std.proofs.lemmas.Bool.{and_parts, eqb-true, ltb-true}
 use native.Mathlib.Decide.{ℕ_discrete}
 use Rattle.arena.specs.declared.word.Side.TheVariants.{Left, Right}
-use Rattle.arena.specs.declared.word.NodeWord.TheVariants.{Settled}
-use Rattle.arena.specs.declared.word.SettledPart.TheVariants.{Key, Value}
 use Rattle.arena.specs.declared.word.Word.{Word}
 use Rattle.arena.specs.History.{History, value}
 use Rattle.arena.specs.ScxRecords.{plan, member, new, old}
-use Rattle.arena.specs.Words.{node, child}
+use Rattle.arena.specs.Words.{node, child, first_key, first_value}
 use Rattle.ordered_map.specs.declared.pair.Pair.{Pair}
 use Rattle.ordered_map.specs.OrderedMap.{MapEdit, Insert, Delete, AllAbove, AllBelow, AllFrom, pair, edit_key, edited, first_pair}
-use Rattle.ordered_map.specs.Holding.{held_pairs}
+use Rattle.ordered_map.specs.Holding.{held_pairs, IsWellCounted}
 use Rattle.ordered_map.specs.TreeWords.{class, is_leaf, level, rank, leaf_items, leaf_pairs, toward}
 use Rattle.ordered_map.specs.Edits.{IsAlike, IsLowLeaf, IsLastLeaf, IsSplitBy, IsLeafEdit}
 use Rattle.ordered_map.specs.TreeShape.{EditsLeaf, leaf_plan}
@@ -143,15 +141,12 @@ module _ (f : Word → ℕ) where
       go false is e = absurd (let z : Right ≡ Left = e in cc)
 
   -- a leaf holds one pair
-  pub all_held : (n high : ℕ) → f (node n (Settled Key)) < high → AllBelow high (held_pairs f n)
-  all_held n high l = subst (AllBelow high) (sym (held_one f n)) (l, tt)
+  pub all_held : (n high : ℕ) → IsWellCounted f n → f (node n first_key) < high → AllBelow high (held_pairs f n)
+  all_held n high counted l = subst (AllBelow high) (sym (held_one f n counted)) (l, tt)
 
-  -- leaves that hold the same have the same key
-  pub same_key : (n m : ℕ) → held_pairs f n ≡ held_pairs f m → f (node n (Settled Key)) ≡ f (node m (Settled Key))
-  same_key n m e =
-      let z : pair (f (node n (Settled Key))) (f (node n (Settled Value))) ∷ [] ≡ pair (f (node m (Settled Key))) (f (node m (Settled Value))) ∷ [] = sym (held_one f n) ∙ e ∙ held_one f m in
-      let first : pair (f (node n (Settled Key))) (f (node n (Settled Value))) ≡ pair (f (node m (Settled Key))) (f (node m (Settled Value))) = cc in
-      ap (λ (o : Pair). o.key) first
+  -- leaves of one pair that have the same key and value hold the same
+  pub same_held : (n m : ℕ) → IsWellCounted f n → IsWellCounted f m → f (node n first_key) ≡ f (node m first_key) → f (node n first_value) ≡ f (node m first_value) → held_pairs f n ≡ held_pairs f m
+  same_held n m one other key value = held_one f n one ∙ (λ i. pair (key i) (value i) ∷ []) ∙ sym (held_one f m other)
 
   -- a fork c over two leaves, x and y, which between them give the map what the edit makes of what the
   -- leaf l gives it; the fork has the rank of y
@@ -189,7 +184,7 @@ module _ (f : Word → ℕ) where
   }
     where
       item : (v : ℕ) × (leaf_items f y ≡ pair (rank f y) v ∷ [])
-      item = one_item f y
+      item = one_item f y s.last.counted
 
       at_last : rank f c ≡ rank f y
       at_last = λ i. s.between.class i * 2 ^ 64 + s.between.key i

@@ -2,14 +2,12 @@
 use Rattle.std.specs.Prelude.{◌≡◌, ℕ, ◌<◌, List, slice_get, Bool, true, Option, Some}
 use Rattle.arena.specs.declared.layout.Layout.{Layout}
 use Rattle.arena.specs.declared.step.Kind.TheVariants.{LoadInfo, Freeze}
-use Rattle.arena.specs.declared.word.NodeWord.TheVariants.{Settled}
-use Rattle.arena.specs.declared.word.SettledPart.TheVariants.{Value}
 use Rattle.arena.specs.declared.word.Side.{Side}
 use Rattle.arena.specs.Fills.{IsOwnNode}
 use Rattle.arena.specs.History.{History, value, Extends}
 use Rattle.arena.specs.Log.{has, members_from, finalized_from}
 use Rattle.arena.specs.ScxRecords.{count}
-use Rattle.arena.specs.Words.{node, child}
+use Rattle.arena.specs.Words.{node, child, first_value}
 use Rattle.record.specs.Answers.{IsAsSnapped, IsUnchanged}
 use Rattle.record.specs.Shares.{HasNodesLeft, HasScxLeft}
 use Rattle.record.specs.Snapshots.{IsLastLook}
@@ -61,5 +59,5 @@ pub record IsOverCells (h : History) (s : ℕ) (cells removed : List ℕ) : Type
 -- the node is of the client's share, has this value, and its fields are 0
 pub record IsFreshWith (lay : Layout) (c : ℕ) (h : History) (n x : ℕ) : Type 0 where
   pub own : IsOwnNode lay c n
-  pub value_is : value h (node n (Settled Value)) ≡ x
+  pub value_is : value h (node n first_value) ≡ x
   pub empty : (side : Side) → value h (child n side) ≡ 0

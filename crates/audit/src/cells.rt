@@ -35,7 +35,9 @@ ghost use Rattle.audit.specs.Remembered.{AreStepsOf, AreRemembered, AreSnapshots
 use crate::client::Client;
 use crate::memory::{Look, Memory};
 use crate::steps::Steps;
-use arena::{MemberIndex, NodeNo, NodeWord, PassNo, Plan, ScxNo, ScxWord, SettledPart, Side, Word};
+use arena::{
+    MemberIndex, NodeNo, NodeWord, PassNo, Plan, ScxNo, ScxWord, SettledPart, Side, Slot, Word,
+};
 use judge::{Judge, is_own_node};
 use record::{Answer, Finished};
 use script::{Cell, Cells, Command, Update};
@@ -164,7 +166,11 @@ fn is_fresh(judge: &Judge, pass: PassNo, scx: ScxNo, value: u64) -> bool
 {
     let new = scx_word(judge, scx, ScxWord::New);
     is_own_node(judge.layout(), pass, new)
-        && node_word(judge, new, NodeWord::Settled(SettledPart::Value)) == value
+        && node_word(
+            judge,
+            new,
+            NodeWord::Settled(SettledPart::Value(Slot::First)),
+        ) == value
         && node_word(judge, new, NodeWord::Child(Side::Left)) == 0
         && node_word(judge, new, NodeWord::Child(Side::Right)) == 0
 }

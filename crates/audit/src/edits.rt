@@ -4,23 +4,23 @@ ghost use Rattle.std.specs.Prelude.{◌≡◌, ◌≢◌, ◌+◌, ◌^◌, ◌<
 ghost use Rattle.arena.specs.Heads.{head_of};
 ghost use Rattle.arena.specs.ScxRecords.{count, member as member_of, seen as seen_at, new};
 ghost use Rattle.arena.specs.Fills.{IsNamed};
-ghost use Rattle.arena.specs.Words.{node as node_of, child as child_of, info, scx as scx_of};
+ghost use Rattle.arena.specs.Words.{first_key, first_value, node as node_of, child as child_of, info, scx as scx_of};
 ghost use Rattle.arena.specs.declared.word.NodeWord.TheVariants.{Settled};
-ghost use Rattle.arena.specs.declared.word.SettledPart.TheVariants.{Head as HeadWord, Key};
+ghost use Rattle.arena.specs.declared.word.SettledPart.TheVariants.{Head as HeadWord};
 ghost use Rattle.arena.specs.declared.word.Side.{Side as SideOf};
 ghost use Rattle.arena.specs.declared.word.Side.TheVariants.{Left, Right};
 ghost use Rattle.ordered_map.specs.Edits.{IsAlike, IsLowLeaf, IsLastLeaf, IsSwapBy, IsSplitBy, IsJoinBy, IsCopyOf, HasFieldsOf};
-ghost use Rattle.ordered_map.specs.Holding.{held_pairs};
+ghost use Rattle.ordered_map.specs.Holding.{held_pairs, IsWellCounted};
 ghost use Rattle.ordered_map.specs.Paths.{Passed};
 ghost use Rattle.ordered_map.specs.Runs.{IsTreeRun};
 ghost use Rattle.ordered_map.specs.TreeShape.{EditsLeaf, TakesLeafOut, IsEdit, leaf_plan, join_plan, leaf_place as leaf_place_of, sibling_place as sibling_place_of, edit_leaf};
-ghost use Rattle.ordered_map.specs.TreeWords.{is_leaf, level, rank, leaf_pairs, said, toward as toward_of};
+ghost use Rattle.ordered_map.specs.TreeWords.{class, is_leaf, level, rank, leaf_pairs, said, toward as toward_of};
 ghost use Rattle.ordered_map.specs.OrderedMap.{AllBelow, Delete, edited, first_pair, pair};
 ghost use Rattle.record.specs.MapRecord.{map_call, number_pairs};
 ghost use Rattle.audit.specs.Edits.{IsEditBy, IsFirstLeaf, IsInFront, IsSuited, MayMakeEdit, edit_begun, key_in, word_now};
 ghost use Rattle.judge.specs.Histories.{seen_history};
 
-use arena::{Head, NodeNo, NodeWord, Plan, ScxNo, ScxWord, SettledPart, Side, Word};
+use arena::{Head, NodeNo, NodeWord, Plan, ScxNo, ScxWord, SettledPart, Side, Slot, Word};
 use arrayvec::ArrayVec;
 use judge::Judge;
 use ordered_map::Request;
@@ -97,7 +97,9 @@ pub(crate) fn suits(judge: &Judge, scx: u64, begun: &Begun) -> bool
     match begun.command {
         Command::Map(Request::PopFirst) => is_first_leaf(judge, leaf, begun.key),
         Command::Map(Request::ReplaceIf { key, expected, .. }) => {
-            head(judge, leaf).leaf && said(judge, leaf, key) == Some(expected)
+            head(judge, leaf).leaf
+                && is_readable(judge, leaf)
+                && said(judge, leaf, key) == Some(expected)
         }
         _ => true,
     }
@@ -120,11 +122,15 @@ fn is_first_leaf(judge: &Judge, node: u64, key: u64) -> bool
     requires { IsTreeRun judge.now.layout (seen_history judge.now) }
     ensures { IsTrue result → IsFirstLeaf (seen_history judge.now) node key }
 {
-    head(judge, node).leaf && is_first_key(judge, node, key) && is_on_path(judge, 0, node)
+    head(judge, node).leaf
+        && is_readable(judge, node)
+        && is_first_key(judge, node, key)
+        && is_on_path(judge, 0, node)
 }
 
 /// Whether this is the first key that a leaf gives the map.
 fn is_first_key(judge: &Judge, leaf: u64, key: u64) -> bool
+    requires readable { class (word_now judge.now) leaf ≡ 0 → IsWellCounted (word_now judge.now) leaf }
     ensures { IsTrue result → (v : ℕ) × (first_pair (leaf_pairs (word_now judge.now) leaf) ≡ Some (pair key v)) }
 {
     let pairs = given(judge, leaf);
@@ -133,6 +139,7 @@ fn is_first_key(judge: &Judge, leaf: u64, key: u64) -> bool
 
 /// What a leaf says of a key.
 fn said(judge: &Judge, leaf: u64, key: u64) -> Option<u64>
+    requires readable { class (word_now judge.now) leaf ≡ 0 → IsWellCounted (word_now judge.now) leaf }
     ensures { result ≡ said (word_now judge.now) key leaf }
 {
     for pair in given(judge, leaf).as_slice() {
@@ -145,6 +152,7 @@ fn said(judge: &Judge, leaf: u64, key: u64) -> Option<u64>
 
 /// What a leaf gives the map.
 fn given(judge: &Judge, leaf: u64) -> Pairs
+    requires readable { class (word_now judge.now) leaf ≡ 0 → IsWellCounted (word_now judge.now) leaf }
     ensures pairs { number_pairs result.items ≡ leaf_pairs (word_now judge.now) leaf }
     ensures few { length result.items ≤ 4 }
 {
@@ -155,15 +163,41 @@ fn given(judge: &Judge, leaf: u64) -> Pairs
     }
 }
 
-/// What a leaf holds: today one pair.
+/// What a leaf holds: one pair.
 fn held(judge: &Judge, leaf: u64) -> Pairs
+    requires { IsWellCounted (word_now judge.now) leaf }
     ensures pairs { number_pairs result.items ≡ held_pairs (word_now judge.now) leaf }
     ensures few { length result.items ≤ 4 }
 {
-    let value = node_word(judge, leaf, NodeWord::Settled(SettledPart::Value));
     let mut pairs = ArrayVec::new();
-    pairs.push((key_of(judge, leaf), value));
+    pairs.push((key_of(judge, leaf), value_of(judge, leaf)));
     pairs
+}
+
+/// Whether what a leaf gives the map may be read: of class 0, it holds as many pairs as it may hold.
+fn is_readable(judge: &Judge, leaf: u64) -> bool
+    ensures { IsTrue result → class (word_now judge.now) leaf ≡ 0 → IsWellCounted (word_now judge.now) leaf }
+{
+    head(judge, leaf).class != 0 || is_well_counted(judge, leaf)
+}
+
+/// Whether a leaf of class 0 holds as many pairs as it may hold: one, with a value of one word.
+#[tactic(auto, using(ordered_map::proofs::Lemmas::counted_one))]
+fn is_well_counted(judge: &Judge, leaf: u64) -> bool
+    ensures { IsTrue result → IsWellCounted (word_now judge.now) leaf }
+{
+    is_zero(judge, leaf, SettledPart::More)
+        && is_zero(judge, leaf, SettledPart::High(Slot::First))
+        && is_zero(judge, leaf, SettledPart::High(Slot::Second))
+        && is_zero(judge, leaf, SettledPart::High(Slot::Third))
+        && is_zero(judge, leaf, SettledPart::High(Slot::Fourth))
+}
+
+/// Whether a settled word of a node is 0.
+fn is_zero(judge: &Judge, node: u64, part: SettledPart) -> bool
+    ensures { IsTrue result → word_now judge.now (node_of node (Settled part)) ≡ 0 }
+{
+    node_word(judge, node, NodeWord::Settled(part)) == 0
 }
 
 /// What the edit of an SCX-record makes of the pairs of a leaf.
@@ -243,10 +277,24 @@ fn head(judge: &Judge, node: u64) -> Head
 }
 
 fn key_of(judge: &Judge, node: u64) -> u64
-    ensures key { result ≡ word_now judge.now (node_of node (Settled Key)) }
+    ensures key { result ≡ word_now judge.now (node_of node first_key) }
     ensures small { result < 2 ^ 64 }
 {
-    node_word(judge, node, NodeWord::Settled(SettledPart::Key))
+    node_word(
+        judge,
+        node,
+        NodeWord::Settled(SettledPart::Key(Slot::First)),
+    )
+}
+
+fn value_of(judge: &Judge, node: u64) -> u64
+    ensures { result ≡ word_now judge.now (node_of node first_value) }
+{
+    node_word(
+        judge,
+        node,
+        NodeWord::Settled(SettledPart::Value(Slot::First)),
+    )
 }
 
 fn child(judge: &Judge, node: u64, side: Side) -> u64
@@ -305,12 +353,11 @@ fn are_alike(judge: &Judge, one: u64, other: u64) -> bool
     head(judge, one).class == head(judge, other).class && key_of(judge, one) == key_of(judge, other)
 }
 
-/// Whether a node is a leaf of class 0.
-#[tactic(auto, using(ordered_map::proofs::Lemmas::counted_one))]
+/// Whether a node is a leaf of class 0, which holds as many pairs as it may hold.
 fn is_low_leaf(judge: &Judge, node: u64) -> bool
     ensures { IsTrue result → IsLowLeaf (word_now judge.now) node }
 {
-    head(judge, node).leaf && head(judge, node).class == 0
+    head(judge, node).leaf && head(judge, node).class == 0 && is_well_counted(judge, node)
 }
 
 /// Whether an SCX-record makes this edit.
@@ -345,11 +392,13 @@ fn edits_leaf(judge: &Judge, scx: u64, begun: &Begun) -> bool
         && scx_word(judge, scx, ScxWord::Old) == leaf
         && head(judge, leaf).leaf
         && head(judge, new).level == head(judge, leaf).level
+        && is_readable(judge, leaf)
         && (is_swap(judge, leaf, new, begun) || is_split(judge, leaf, new, begun))
 }
 
 /// Whether a leaf is replaced by another one, which holds what the edit makes of its pairs.
 fn is_swap(judge: &Judge, leaf: u64, new: u64, begun: &Begun) -> bool
+    requires readable { class (word_now judge.now) leaf ≡ 0 → IsWellCounted (word_now judge.now) leaf }
     requires leaf { is_leaf (word_now judge.now) leaf ≡ true }
     requires deep { level (word_now judge.now) new ≡ level (word_now judge.now) leaf }
     ensures edit { IsTrue result → IsSwapBy (word_now judge.now) (edit_begun begun.now) leaf new }
@@ -364,6 +413,7 @@ fn is_swap(judge: &Judge, leaf: u64, new: u64, begun: &Begun) -> bool
 /// Whether a leaf is replaced by a fork over two fresh ones, which between them hold what the edit
 /// makes of its pairs, and between which the fork stands.
 fn is_split(judge: &Judge, leaf: u64, fork: u64, begun: &Begun) -> bool
+    requires readable { class (word_now judge.now) leaf ≡ 0 → IsWellCounted (word_now judge.now) leaf }
     requires leaf { is_leaf (word_now judge.now) leaf ≡ true }
     requires small { begun.now.key < 2 ^ 64 }
     requires deep { level (word_now judge.now) fork ≡ level (word_now judge.now) leaf }
@@ -395,13 +445,27 @@ fn is_last_leaf(judge: &Judge, node: u64, leaf: u64) -> bool
     ensures { IsTrue result → IsLastLeaf (word_now judge.now) node leaf }
 {
     let class = head(judge, leaf).class;
-    head(judge, node).leaf
-        && head(judge, node).class == class
-        && (class == 0 || held(judge, node) == held(judge, leaf))
+    if !head(judge, node).leaf || head(judge, node).class != class {
+        return false;
+    }
+    if class == 0 {
+        is_well_counted(judge, node)
+    } else {
+        are_pairs_same(judge, node, leaf)
+    }
+}
+
+/// Whether the first pairs of two leaves are the same.
+fn are_pairs_same(judge: &Judge, one: u64, other: u64) -> bool
+    ensures key { IsTrue result → word_now judge.now (node_of one first_key) ≡ word_now judge.now (node_of other first_key) }
+    ensures value { IsTrue result → word_now judge.now (node_of one first_value) ≡ word_now judge.now (node_of other first_value) }
+{
+    key_of(judge, one) == key_of(judge, other) && value_of(judge, one) == value_of(judge, other)
 }
 
 /// Whether what a leaf holds is before a fork.
 fn is_before(judge: &Judge, leaf: u64, fork: u64) -> bool
+    requires { IsWellCounted (word_now judge.now) leaf }
     ensures before { IsTrue result → AllBelow (rank (word_now judge.now) fork) (held_pairs (word_now judge.now) leaf) }
     ensures small { AllBelow (2 ^ 64) (held_pairs (word_now judge.now) leaf) }
 {
@@ -510,7 +574,6 @@ fn are_below(judge: &Judge, scx: u64) -> bool
 
 /// Whether a node is a copy of another: it holds the same, or, of a fork, has the same fields where
 /// these are looked at.
-#[tactic(auto, using(ordered_map::proofs::Lemmas::counted_one))]
 fn is_copy(judge: &Judge, one: u64, other: u64, looked_at: bool) -> bool
     ensures copy { IsTrue result → IsCopyOf (word_now judge.now) one other }
     ensures copied { IsTrue result → looked_at ≡ true → HasFieldsOf (word_now judge.now) one other }
@@ -520,7 +583,16 @@ fn is_copy(judge: &Judge, one: u64, other: u64, looked_at: bool) -> bool
     node_word(judge, one, NodeWord::Settled(SettledPart::Head)) == head_of_other
         && key_of(judge, one) == key_of(judge, other)
         && (leaf || !looked_at || has_fields_of(judge, one, other))
-        && (!leaf || held(judge, one) == held(judge, other))
+        && (!leaf || is_leaf_copy(judge, one, other))
+}
+
+/// Whether a leaf holds what another holds.
+fn is_leaf_copy(judge: &Judge, one: u64, other: u64) -> bool
+    ensures counted { IsTrue result → class (word_now judge.now) one ≡ 0 → IsWellCounted (word_now judge.now) one }
+    ensures other { IsTrue result → class (word_now judge.now) other ≡ 0 → IsWellCounted (word_now judge.now) other }
+    ensures value { IsTrue result → word_now judge.now (node_of one first_value) ≡ word_now judge.now (node_of other first_value) }
+{
+    is_readable(judge, one) && is_readable(judge, other) && are_pairs_same(judge, one, other)
 }
 
 fn has_fields_of(judge: &Judge, one: u64, other: u64) -> bool

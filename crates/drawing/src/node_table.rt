@@ -1,5 +1,5 @@
 //! What the nodes hold at some turn.
-use arena::{Head, Layout, Mode, NodeNo, NodeWord, SettledPart, Side, Word, opening_word};
+use arena::{Head, Layout, Mode, NodeNo, NodeWord, SettledPart, Side, Slot, Word, opening_word};
 use std::alloc::{AllocError, Global};
 
 /// What a node holds, but for its info.
@@ -39,12 +39,14 @@ impl ShownNode {
     fn set(&mut self, part: NodeWord, held: u64) {
         match part {
             NodeWord::Settled(SettledPart::Head) => self.head = held,
-            NodeWord::Settled(SettledPart::Key) => self.key = held,
-            NodeWord::Settled(SettledPart::Value) => self.value = held,
+            NodeWord::Settled(SettledPart::Key(Slot::First)) => self.key = held,
+            NodeWord::Settled(SettledPart::Value(Slot::First)) => self.value = held,
             NodeWord::Child(Side::Left) => self.left = held,
             NodeWord::Child(Side::Right) => self.right = held,
-            NodeWord::Info => {}
             NodeWord::Marked => self.is_marked = held != 0,
+            // A leaf has one pair, and infos are not drawn.
+            NodeWord::Settled(_) => {}
+            NodeWord::Info => {}
         }
     }
 }

@@ -3,11 +3,9 @@
 use Rattle.std.proofs.Common.{◌≡◌, ◌≢◌, ℕ, zero, suc, ◌<◌, inl, ⊎_elim, Bool, true, false, cond, eqb, eqb-true, eq-eqb, ◌↔◌, List, [], ◌∷◌, length, Option, Some, None, refl, sym, ◌∙◌, ap, subst, arith}
 use Rattle.std.specs.List.{Contains}
 use Rattle.arena.specs.declared.step.Row.{Row}
-use Rattle.arena.specs.declared.word.NodeWord.TheVariants.{Settled}
-use Rattle.arena.specs.declared.word.SettledPart.TheVariants.{Value}
 use Rattle.arena.specs.declared.word.ScxWord.TheVariants.{Call as CallWord}
 use Rattle.arena.specs.declared.word.Side.{Side}
-use Rattle.arena.specs.Words.{node, scx, child}
+use Rattle.arena.specs.Words.{node, scx, child, first_value}
 use Rattle.arena.specs.History.{History, ◌⊳◌, value}
 use Rattle.arena.specs.Blame.{IsInProgress}
 use Rattle.arena.specs.Fills.{IsOwnNode, IsOwnScx, IsNamedScx}
@@ -129,7 +127,7 @@ pub record IsEntryFrom (v : ClientView) (c : Client) (row : Row) (s : ℕ) : Typ
 record IsOfPut (v : ClientView) (c : Client) (row : Row) (m : PutRun) (start : History) (is_pass : c.pass.0 < v.layout.passes) : Type 0 where
   at : IsEntryAt (machine_call v c is_pass start) (row ⊳ v.past) m.scx row v.past
   fresh : IsOwnNode v.layout c.pass.0 m.scx.update.fresh.0
-  value_is : value v.past (node m.scx.update.fresh.0 (Settled Value)) ≡ m.value
+  value_is : value v.past (node m.scx.update.fresh.0 first_value) ≡ m.value
   empty_fields : (side : Side) → value v.past (child m.scx.update.fresh.0 side) ≡ 0
   called : value v.past (scx m.scx.scx.0 CallWord) ≡ m.scx.call
 

@@ -2,9 +2,7 @@
 use Rattle.std.specs.Prelude.{◌≡◌, ℕ, List}
 use Rattle.arena.specs.declared.layout.Layout.{Layout}
 use Rattle.arena.specs.declared.word.Side.{Side}
-use Rattle.arena.specs.declared.word.NodeWord.TheVariants.{Settled}
-use Rattle.arena.specs.declared.word.SettledPart.TheVariants.{Value}
-use Rattle.arena.specs.Words.{node, child}
+use Rattle.arena.specs.Words.{node, child, first_value}
 use Rattle.arena.specs.History.{History, value}
 use Rattle.arena.specs.Fills.{IsOwnNode}
 use Rattle.arena.specs.Log.{Entry as Entered, has}
@@ -19,5 +17,5 @@ pub record IsEntryOver (lay : Layout) (c : ℕ) (before : History) (e : Entered)
   -- the node is of the client's share; just before the
   -- entry it has this value, and its fields are 0
   pub fresh : IsOwnNode lay c e.new
-  pub value_is : value before (node e.new (Settled Value)) ≡ x
+  pub value_is : value before (node e.new first_value) ≡ x
   pub empty_fields : (side : Side) → value before (child e.new side) ≡ 0

@@ -20,7 +20,8 @@ use Rattle.arena.specs.declared.word.Side.{Side}
 use Rattle.arena.specs.declared.word.Side.TheVariants.{Left, Right}
 use Rattle.arena.specs.declared.word.NodeWord.{NodeWord}
 use Rattle.arena.specs.declared.word.NodeWord.TheVariants.{Settled, Child, Info, Marked}
-use Rattle.arena.specs.declared.word.SettledPart.TheVariants.{Head, Key, Value as ValuePart}
+use Rattle.arena.specs.declared.word.SettledPart.TheVariants.{Head, More, Key, Value as ValuePart, High}
+use Rattle.arena.specs.declared.word.Slot.TheVariants.{First, Second, Third, Fourth}
 use Rattle.arena.specs.declared.word.ScxWord.{ScxWord}
 use Rattle.arena.specs.declared.word.ScxWord.TheVariants.{State, AllFrozen, Plan, New, Old, Member, Seen, Call as CallWord}
 use Rattle.arena.specs.declared.word.Word.{Word}
@@ -93,8 +94,19 @@ space = ascii (codes " ") refl
 
 node_part_text : (part : NodeWord) → IsUtf8 (node_part part)
 node_part_text (Settled Head) = ascii (codes "head") refl
-node_part_text (Settled Key) = ascii (codes "key") refl
-node_part_text (Settled ValuePart) = ascii (codes "value") refl
+node_part_text (Settled More) = ascii (codes "more") refl
+node_part_text (Settled (Key First)) = ascii (codes "key") refl
+node_part_text (Settled (Key Second)) = ascii (codes "key1") refl
+node_part_text (Settled (Key Third)) = ascii (codes "key2") refl
+node_part_text (Settled (Key Fourth)) = ascii (codes "key3") refl
+node_part_text (Settled (ValuePart First)) = ascii (codes "value") refl
+node_part_text (Settled (ValuePart Second)) = ascii (codes "value1") refl
+node_part_text (Settled (ValuePart Third)) = ascii (codes "value2") refl
+node_part_text (Settled (ValuePart Fourth)) = ascii (codes "value3") refl
+node_part_text (Settled (High First)) = ascii (codes "high") refl
+node_part_text (Settled (High Second)) = ascii (codes "high1") refl
+node_part_text (Settled (High Third)) = ascii (codes "high2") refl
+node_part_text (Settled (High Fourth)) = ascii (codes "high3") refl
 node_part_text (Child Left) = ascii (codes "left") refl
 node_part_text (Child Right) = ascii (codes "right") refl
 node_part_text Info = ascii (codes "info") refl

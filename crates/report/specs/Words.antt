@@ -4,7 +4,8 @@ use Rattle.arena.specs.Words.{IsScxWord}
 use Rattle.arena.specs.declared.word.Side.TheVariants.{Left, Right}
 use Rattle.arena.specs.declared.word.NodeWord.{NodeWord}
 use Rattle.arena.specs.declared.word.NodeWord.TheVariants.{Settled, Child, Info, Marked}
-use Rattle.arena.specs.declared.word.SettledPart.TheVariants.{Head, Key, Value}
+use Rattle.arena.specs.declared.word.SettledPart.TheVariants.{Head, More, Key, Value, High}
+use Rattle.arena.specs.declared.word.Slot.TheVariants.{First, Second, Third, Fourth}
 use Rattle.arena.specs.declared.word.ScxWord.{ScxWord}
 use Rattle.arena.specs.declared.word.ScxWord.TheVariants.{State, AllFrozen, Plan, New, Old, Member, Seen, Call}
 use Rattle.arena.specs.declared.word.Word.{Word}
@@ -13,8 +14,19 @@ use Rattle.arena.specs.declared.word.Word.TheVariants.{Node, Scx}
 -- a word's name within its node
 abbrev pub node_part : NodeWord → List ℕ
 node_part (Settled Head) = codes "head"
-node_part (Settled Key) = codes "key"
-node_part (Settled Value) = codes "value"
+node_part (Settled More) = codes "more"
+node_part (Settled (Key First)) = codes "key"
+node_part (Settled (Key Second)) = codes "key1"
+node_part (Settled (Key Third)) = codes "key2"
+node_part (Settled (Key Fourth)) = codes "key3"
+node_part (Settled (Value First)) = codes "value"
+node_part (Settled (Value Second)) = codes "value1"
+node_part (Settled (Value Third)) = codes "value2"
+node_part (Settled (Value Fourth)) = codes "value3"
+node_part (Settled (High First)) = codes "high"
+node_part (Settled (High Second)) = codes "high1"
+node_part (Settled (High Third)) = codes "high2"
+node_part (Settled (High Fourth)) = codes "high3"
 node_part (Child Left) = codes "left"
 node_part (Child Right) = codes "right"
 node_part Info = codes "info"

@@ -8,7 +8,7 @@ ghost use Rattle.report.specs.Words.{IsSpelled, node_part, scx_part, word_text};
 ghost use Rattle.texts.specs.Sheets.{IsPlain, sheet_room, sheet_text};
 
 use crate::name::{node_of, scx_of};
-use arena::{NodeWord, ScxWord, SettledPart, Side, Word};
+use arena::{NodeWord, ScxWord, SettledPart, Side, Slot, Word};
 use std::alloc::{AllocError, Global};
 use texts::Sheet;
 
@@ -90,8 +90,19 @@ fn node_part(part: NodeWord) -> &'static str
 {
     match part {
         NodeWord::Settled(SettledPart::Head) => "head",
-        NodeWord::Settled(SettledPart::Key) => "key",
-        NodeWord::Settled(SettledPart::Value) => "value",
+        NodeWord::Settled(SettledPart::More) => "more",
+        NodeWord::Settled(SettledPart::Key(Slot::First)) => "key",
+        NodeWord::Settled(SettledPart::Key(Slot::Second)) => "key1",
+        NodeWord::Settled(SettledPart::Key(Slot::Third)) => "key2",
+        NodeWord::Settled(SettledPart::Key(Slot::Fourth)) => "key3",
+        NodeWord::Settled(SettledPart::Value(Slot::First)) => "value",
+        NodeWord::Settled(SettledPart::Value(Slot::Second)) => "value1",
+        NodeWord::Settled(SettledPart::Value(Slot::Third)) => "value2",
+        NodeWord::Settled(SettledPart::Value(Slot::Fourth)) => "value3",
+        NodeWord::Settled(SettledPart::High(Slot::First)) => "high",
+        NodeWord::Settled(SettledPart::High(Slot::Second)) => "high1",
+        NodeWord::Settled(SettledPart::High(Slot::Third)) => "high2",
+        NodeWord::Settled(SettledPart::High(Slot::Fourth)) => "high3",
         NodeWord::Child(Side::Left) => "left",
         NodeWord::Child(Side::Right) => "right",
         NodeWord::Info => "info",
@@ -115,12 +126,23 @@ fn node_part_of(name: &str) -> Option<NodeWord>
 {
     match name {
         "head" => Some(NodeWord::Settled(SettledPart::Head)),
-        "key" => Some(NodeWord::Settled(SettledPart::Key)),
-        "value" => Some(NodeWord::Settled(SettledPart::Value)),
+        "key" => Some(NodeWord::Settled(SettledPart::Key(Slot::First))),
+        "value" => Some(NodeWord::Settled(SettledPart::Value(Slot::First))),
         "info" => Some(NodeWord::Info),
         "marked" => Some(NodeWord::Marked),
         "left" => Some(NodeWord::Child(Side::Left)),
         "right" => Some(NodeWord::Child(Side::Right)),
+        "more" => Some(NodeWord::Settled(SettledPart::More)),
+        "high" => Some(NodeWord::Settled(SettledPart::High(Slot::First))),
+        "key1" => Some(NodeWord::Settled(SettledPart::Key(Slot::Second))),
+        "value1" => Some(NodeWord::Settled(SettledPart::Value(Slot::Second))),
+        "high1" => Some(NodeWord::Settled(SettledPart::High(Slot::Second))),
+        "key2" => Some(NodeWord::Settled(SettledPart::Key(Slot::Third))),
+        "value2" => Some(NodeWord::Settled(SettledPart::Value(Slot::Third))),
+        "high2" => Some(NodeWord::Settled(SettledPart::High(Slot::Third))),
+        "key3" => Some(NodeWord::Settled(SettledPart::Key(Slot::Fourth))),
+        "value3" => Some(NodeWord::Settled(SettledPart::Value(Slot::Fourth))),
+        "high3" => Some(NodeWord::Settled(SettledPart::High(Slot::Fourth))),
         _ => None,
     }
 }

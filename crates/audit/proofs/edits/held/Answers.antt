@@ -4,4 +4,4 @@ use Rattle.audit.specs.Edits.{word_now}
 use Rattle.audit.proofs.edits.held.Goals as goal
 
 pub returns-clause-pairs : goal.returns-clause-pairs
-returns-clause-pairs c = search rules ∙ sym (held_one (word_now c.args.judge.now) c.args.leaf)
+returns-clause-pairs c = search rules ∙ sym (held_one (word_now c.args.judge.now) c.args.leaf c.requires)

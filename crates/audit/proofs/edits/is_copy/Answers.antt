@@ -1,14 +1,14 @@
-use Rattle.std.proofs.Common.{◌≡◌, sym, ◌∙◌, ap, rules}
-use Rattle.ordered_map.specs.Holding.{held_pairs}
-use Rattle.ordered_map.proofs.Lemmas.{counted_one}
-use Rattle.record.specs.MapRecord.{number_pairs}
+use Rattle.std.proofs.Common.{◌≡◌, rules}
+use Rattle.ordered_map.specs.Holding.{IsWellCounted}
+use Rattle.ordered_map.specs.TreeWords.{class}
 use Rattle.audit.specs.Edits.{word_now}
-use Rattle.audit.proofs.ListEdits.{same_pairs}
+use Rattle.audit.proofs.ListEdits.{same_held}
 use Rattle.audit.proofs.edits.is_copy.Goals as goal
 
 pub returns-else-not-leaf-clause-copy : goal.returns-else-not-leaf-clause-copy
 returns-else-not-leaf-clause-copy c same =
     let f = word_now c.args.judge.now in
-    let held : held_pairs f c.args.one ≡ held_pairs f c.args.other =
-    sym c.held.ensures.pairs ∙ ap number_pairs (same_pairs c.held.result.items c.held-else-not-leaf.result.items (search rules)) ∙ c.held-else-not-leaf.ensures.pairs in
-    record { same_head = search rules; same_key = search rules; same_pairs = λ leaf low. (counted_one f c.args.one, held) }
+    let counted : class f c.args.one ≡ 0 → IsWellCounted f c.args.one = search rules in
+    let other : class f c.args.other ≡ 0 → IsWellCounted f c.args.other = search rules in
+    let same_class : class f c.args.one ≡ class f c.args.other = search rules in
+    record { same_head = search rules; same_key = search rules; same_pairs = λ leaf low. (search rules, same_held f c.args.one c.args.other (search rules) (search rules) (search rules) (search rules)) }
