@@ -15,7 +15,12 @@ using Word = std::uint64_t;
 #define SHARED_WORD std::atomic<Word>
 #endif
 
-enum NodeWord : Word { HEAD, KEY, VALUE, LEFT, RIGHT, INFO, MARKED, NODE_WORDS };
+// A leaf has room for four pairs, with values of two words; here, as there, it holds one.
+enum NodeWord : Word {
+    HEAD, KEY, VALUE, LEFT, RIGHT, INFO, MARKED,
+    MORE, KEY1, VALUE1, KEY2, VALUE2, KEY3, VALUE3, HIGH, HIGH1, HIGH2, HIGH3,
+    NODE_WORDS
+};
 
 // An SCX-record has room for four nodes and for the info word that was found in each of them.
 enum ScxWord : Word { STATE, ALL_FROZEN, PLAN, NEW, OLD, NODES, INFOS = NODES + 4, CALL = INFOS + 4, SCX_WORDS };

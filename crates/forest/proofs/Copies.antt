@@ -1,23 +1,24 @@
 -- Words of which some are copied: what map they spell.
-use Rattle.std.proofs.Common.{◌≡◌, ℕ, ◌+◌, ◌<◌, Bool, true, false, ⊎_elim, inl, inr, List, [], ◌∷◌, ◌++◌, refl, sym, ◌∙◌, subst, arith}
+use Rattle.std.proofs.Common.{◌≡◌, ℕ, ◌+◌, ◌<◌, ◌≤◌, Bool, true, false, ⊎_elim, inl, inr, List, [], ◌∷◌, ◌++◌, refl, sym, ◌∙◌, subst, arith}
 use Rattle.std.proofs.Math.Nat.{eq-or-lt_of_le}
 use Rattle.std.specs.List.{All}
 use Rattle.std.proofs.lemmas.List.Elements.{All-nil, All-cons, All-head, All-tail, All-append}
 use Rattle.arena.specs.declared.layout.Layout.{Layout}
 use Rattle.arena.specs.declared.word.NodeWord.{NodeWord}
 use Rattle.arena.specs.declared.word.NodeWord.TheVariants.{Settled, Child, Info, Marked}
-use Rattle.arena.specs.declared.word.SettledPart.TheVariants.{Head, Key, Value}
+use Rattle.arena.specs.declared.word.SettledPart.TheVariants.{Head, More, Key, Value, High}
 use Rattle.arena.specs.declared.word.Side.TheVariants.{Left, Right}
+use Rattle.arena.specs.declared.word.Slot.TheVariants.{First, Second, Third, Fourth}
 use Rattle.arena.specs.declared.word.Word.{Word}
 use Rattle.arena.specs.Layout.{all_nodes, IsWord}
 use Rattle.arena.specs.PlainWords.{Contents, IsChanged, word_at}
-use Rattle.arena.specs.Words.{node, child, same_word}
+use Rattle.arena.specs.Words.{node, same_word, first_key}
 use Rattle.arena.proofs.Lemmas.{word_same, word_apart}
 use Rattle.ordered_map.specs.declared.pair.Pair.{Pair}
 use Rattle.ordered_map.specs.TreeWords.{class, rank, IsForkOver, Tree, Leaf, Fork, root, Shows, Has, pairs, leaf_nodes}
 use Rattle.ordered_map.specs.Spelled.{Spells}
 use Rattle.ordered_map.proofs.Lemmas.{SameSettled, same_leaf, same_pairs}
-use Rattle.forest.specs.Copies.{IsMapWord, AreCopied}
+use Rattle.forest.specs.Copies.{IsMapWord, AreCopied, map_word}
 
 -- One word
 
@@ -35,58 +36,80 @@ still_same from old new u x c i e = go (same_word u x) refl
 
 -- A node
 
--- what is the same after some of the five copies of a node's words, is so after all
-pub record AreAllCopied (from w0 w1 w2 w3 w4 w5 : Contents) (n : ℕ) : Type 0 where
-  pub head : IsChanged w0 w1 (node n (Settled Head)) (word_at from (node n (Settled Head)))
-  pub key : IsChanged w1 w2 (node n (Settled Key)) (word_at from (node n (Settled Key)))
-  pub value : IsChanged w2 w3 (node n (Settled Value)) (word_at from (node n (Settled Value)))
-  pub left : IsChanged w3 w4 (child n Left) (word_at from (child n Left))
-  pub right : IsChanged w4 w5 (child n Right) (word_at from (child n Right))
+-- the number of a word that a map is read from
+abbrev number_of : NodeWord → ℕ
+number_of (Settled Head) = 0
+number_of (Settled More) = 1
+number_of (Settled (Key First)) = 2
+number_of (Settled (Key Second)) = 3
+number_of (Settled (Key Third)) = 4
+number_of (Settled (Key Fourth)) = 5
+number_of (Settled (Value First)) = 6
+number_of (Settled (Value Second)) = 7
+number_of (Settled (Value Third)) = 8
+number_of (Settled (Value Fourth)) = 9
+number_of (Settled (High First)) = 10
+number_of (Settled (High Second)) = 11
+number_of (Settled (High Third)) = 12
+number_of (Settled (High Fourth)) = 13
+number_of (Child Left) = 14
+number_of _ = 15
 
-module _ (from w0 w1 w2 w3 w4 w5 : Contents) (n : ℕ) (c : AreAllCopied from w0 w1 w2 w3 w4 w5 n) (inside : n < all_nodes w0.layout) where
-  lay1 : w1.layout ≡ w0.layout
-  lay1 = c.head.layout
+numbered : (part : NodeWord) → IsMapWord part → (number_of part < 16) × (map_word (number_of part) ≡ part)
+numbered (Settled Head) i = (omega arith, refl)
+numbered (Settled More) i = (omega arith, refl)
+numbered (Settled (Key First)) i = (omega arith, refl)
+numbered (Settled (Key Second)) i = (omega arith, refl)
+numbered (Settled (Key Third)) i = (omega arith, refl)
+numbered (Settled (Key Fourth)) i = (omega arith, refl)
+numbered (Settled (Value First)) i = (omega arith, refl)
+numbered (Settled (Value Second)) i = (omega arith, refl)
+numbered (Settled (Value Third)) i = (omega arith, refl)
+numbered (Settled (Value Fourth)) i = (omega arith, refl)
+numbered (Settled (High First)) i = (omega arith, refl)
+numbered (Settled (High Second)) i = (omega arith, refl)
+numbered (Settled (High Third)) i = (omega arith, refl)
+numbered (Settled (High Fourth)) i = (omega arith, refl)
+numbered (Child Left) i = (omega arith, refl)
+numbered (Child Right) i = (omega arith, refl)
+numbered Info i = absurd i
+numbered Marked i = absurd i
 
-  lay2 : w2.layout ≡ w0.layout
-  lay2 = c.key.layout ∙ lay1
+-- the first k of the words of node n are copied, and all words of the nodes before it
+pub record AreCopiedTo (from to : Contents) (n k : ℕ) : Type 0 where
+  pub layout : to.layout ≡ from.layout
+  pub before : AreCopied from to n
+  pub here : (number : ℕ) → number < k → Same from to (node n (map_word number))
 
-  lay3 : w3.layout ≡ w0.layout
-  lay3 = c.value.layout ∙ lay2
+pub copied_none : (from to : Contents) (n : ℕ) → to.layout ≡ from.layout → AreCopied from to n → AreCopiedTo from to n 0
+copied_none from to n layout before = record { layout = layout; before = before; here = λ number less. absurd (omega (arith, less)) }
 
-  lay4 : w4.layout ≡ w0.layout
-  lay4 = c.left.layout ∙ lay3
+-- one word more
+pub copied_word : (from old new : Contents) (n k : ℕ) → n < all_nodes from.layout → AreCopiedTo from old n k → IsChanged old new (node n (map_word k)) (word_at from (node n (map_word k))) → AreCopiedTo from new n (k + 1)
+copied_word from old new n k inside x c = record {
+  layout = c.layout ∙ x.layout;
+  before = λ m part less i. still_same from old new (node n (map_word k)) (node m part) c (table m (omega (arith, less, inside))) (x.before m part less i);
+  here = here;
+}
+  where
+    table : (m : ℕ) → m < all_nodes from.layout → m < all_nodes old.layout
+    table m i = rw x.layout i
 
-  module _ (m : ℕ) (part : NodeWord) (i : m < all_nodes w0.layout) where
-    last : Same from w4 (node m part) → Same from w5 (node m part)
-    last = still_same from w4 w5 (child n Right) (node m part) c.right (subst (λ (l : Layout). IsWord l (node m part)) (sym lay4) i)
+    here : (number : ℕ) → number < k + 1 → Same from new (node n (map_word number))
+    here number less = ⊎_elim
+        (λ (e : number ≡ k). subst (λ (j : ℕ). Same from new (node n (map_word j))) (sym e) c.changed)
+        (λ (l : number < k). still_same from old new (node n (map_word k)) (node n (map_word number)) c (table n inside) (x.here number l))
+        (eq-or-lt_of_le (omega (arith, less)))
 
-    last_two : Same from w3 (node m part) → Same from w5 (node m part)
-    last_two e = last (still_same from w3 w4 (child n Left) (node m part) c.left (subst (λ (l : Layout). IsWord l (node m part)) (sym lay3) i) e)
-
-    last_three : Same from w2 (node m part) → Same from w5 (node m part)
-    last_three e = last_two (still_same from w2 w3 (node n (Settled Value)) (node m part) c.value (subst (λ (l : Layout). IsWord l (node m part)) (sym lay2) i) e)
-
-    last_four : Same from w1 (node m part) → Same from w5 (node m part)
-    last_four e = last_three (still_same from w1 w2 (node n (Settled Key)) (node m part) c.key (subst (λ (l : Layout). IsWord l (node m part)) (sym lay1) i) e)
-
-    all_five : Same from w0 (node m part) → Same from w5 (node m part)
-    all_five e = last_four (still_same from w0 w1 (node n (Settled Head)) (node m part) c.head i e)
-
-  here : (part : NodeWord) → IsMapWord part → Same from w5 (node n part)
-  here (Settled Head) i = last_four n (Settled Head) inside c.head.changed
-  here (Settled Key) i = last_three n (Settled Key) inside c.key.changed
-  here (Settled Value) i = last_two n (Settled Value) inside c.value.changed
-  here (Child Left) i = last n (Child Left) inside c.left.changed
-  here (Child Right) i = c.right.changed
-  here Info i = absurd i
-  here Marked i = absurd i
-
-  -- one node more is copied
-  pub copied_more : AreCopied from w0 n → AreCopied from w5 (n + 1)
-  copied_more before m part less i = ⊎_elim
-      (λ (e : m ≡ n). subst (λ (k : ℕ). Same from w5 (node k part)) (sym e) (here part i))
-      (λ (l : m < n). all_five m part (omega arith) (before m part l i))
-      (eq-or-lt_of_le (omega arith))
+-- all of them
+pub copied_more : (from to : Contents) (n k : ℕ) → 16 ≤ k → AreCopiedTo from to n k → AreCopied from to (n + 1)
+copied_more from to n k all x m part less i = ⊎_elim
+    (λ (e : m ≡ n). subst (λ (j : ℕ). Same from to (node j part)) (sym e) here)
+    (λ (l : m < n). x.before m part l i)
+    (eq-or-lt_of_le (omega arith))
+  where
+    here : Same from to (node n part)
+    here = let p = numbered part i in subst (λ (q : NodeWord). Same from to (node n q)) p.1 (x.here (number_of part) (let few = p.0 in omega (arith, few, all)))
 
 pub none_copied : (from to : Contents) → AreCopied from to 0
 none_copied from to n part less i = absurd (omega arith)
@@ -106,7 +129,7 @@ module _ (f g : Word → ℕ) (size : ℕ) (same : (n : ℕ) (part : NodeWord) �
   shows_same (Leaf n) low high inside x = same_leaf f g n low high (same_settled n (inside n refl)) x
   shows_same (Fork n a b) low high inside x =
       let h : g (node n (Settled Head)) ≡ f (node n (Settled Head)) = same n (Settled Head) (inside n (inl refl)) tt in
-      let k : g (node n (Settled Key)) ≡ f (node n (Settled Key)) = same n (Settled Key) (inside n (inl refl)) tt in
+      let k : g (node n first_key) ≡ f (node n first_key) = same n first_key (inside n (inl refl)) tt in
       let ha : g (node (root a) (Settled Head)) ≡ f (node (root a) (Settled Head)) = same (root a) (Settled Head) (inside (root a) (inr (inl (root_has a)))) tt in
       let hb : g (node (root b) (Settled Head)) ≡ f (node (root b) (Settled Head)) = same (root b) (Settled Head) (inside (root b) (inr (inr (root_has b)))) tt in
       let r : rank g n ≡ rank f n = rw (h, k) refl in

@@ -8,7 +8,7 @@ use Rattle.arena.specs.declared.machine.Turn.TheVariants.{Ask, Done}
 use Rattle.arena.specs.declared.number.NodeNo.{NodeNo}
 use Rattle.arena.specs.declared.step.Kind.TheVariants.{LoadMarked, LoadSettled, LoadState}
 use Rattle.arena.specs.declared.word.NodeWord.TheVariants.{Settled, Child}
-use Rattle.arena.specs.declared.word.SettledPart.TheVariants.{Head, Key, Value}
+use Rattle.arena.specs.declared.word.SettledPart.TheVariants.{Head}
 use Rattle.arena.specs.declared.word.Side.TheVariants.{Right}
 use Rattle.arena.specs.declared.step.Access.TheVariants.{Store}
 use Rattle.arena.specs.declared.step.Kind.TheVariants.{Fill as FillKind}
@@ -35,7 +35,7 @@ use Rattle.forest.specs.declared.straight.scx.Change.{Change}
 use Rattle.forest.specs.StraightScx.{Changer, all_frozen_load, changing_at, scx_fill}
 use Rattle.arena.specs.History.{History, value}
 use Rattle.arena.specs.Machines.{Call, IsRun, MatchTurn, begun_at}
-use Rattle.arena.specs.Words.{marked, node, state}
+use Rattle.arena.specs.Words.{marked, node, state, first_key, first_value}
 use Rattle.arena.proofs.Lemmas.{ends_self}
 use Rattle.prims.specs.FoundThere.{HasFoundThere}
 use Rattle.prims.specs.Laws.FoundThere.{there_wider}
@@ -557,7 +557,7 @@ load_steps now old left tries works a b = omega (arith, a, b)
 pub load_nearer : (left tries works : ℕ) → left < tries + (works + 39) → suc left < suc (tries + (works + 39))
 load_nearer left tries works b = omega (arith, b)
 
-pub head_next : (p : Piece) → part_behind p (Settled Head) ≡ Some (Settled Key)
+pub head_next : (p : Piece) → part_behind p (Settled Head) ≡ Some first_key
 head_next (Leaf level class key v) = refl
 head_next (Fork level class key l r) = refl
 
@@ -570,8 +570,8 @@ module _ {E : Type 0} (e : EditMeaning E) {A : Type 0} (m : UpdateRun E A) (f : 
   fork_fewer level class key l r is = ap (λ q. fills_behind q (Settled Head) + works_after e nth) (sym said ∙ is)
 
   -- and none behind its last
-  pub leaf_ends : (level class key v : ℕ) → p ≡ Leaf level class key v → part_behind (e.pieces m.edit f m.snaps.items m.nodes m.loaded nth) (Settled Value) ≡ None
-  leaf_ends level class key v is = ap (λ q. part_behind q (Settled Value)) (sym said ∙ is)
+  pub leaf_ends : (level class key v : ℕ) → p ≡ Leaf level class key v → part_behind (e.pieces m.edit f m.snaps.items m.nodes m.loaded nth) first_value ≡ None
+  leaf_ends level class key v is = ap (λ q. part_behind q first_value) (sym said ∙ is)
 
   pub fork_ends : (level class key : ℕ) (l r : NodeNo) → p ≡ Fork level class key l r → part_behind (e.pieces m.edit f m.snaps.items m.nodes m.loaded nth) (Child Right) ≡ None
   fork_ends level class key l r is = ap (λ q. part_behind q (Child Right)) (sym said ∙ is)

@@ -7,11 +7,11 @@ use Rattle.arena.specs.declared.step.Step.{Step}
 use Rattle.arena.specs.declared.word.Side.{Side}
 use Rattle.arena.specs.declared.word.Side.TheVariants.{Left, Right}
 use Rattle.arena.specs.declared.word.NodeWord.TheVariants.{Settled, Child as ChildWord}
-use Rattle.arena.specs.declared.word.SettledPart.TheVariants.{Head as HeadWord, Key as KeyWord, Value as ValueWord}
+use Rattle.arena.specs.declared.word.SettledPart.TheVariants.{Head as HeadWord}
 use Rattle.arena.specs.Heads.{head_of}
 use Rattle.arena.specs.History.{History}
 use Rattle.arena.specs.Machines.{Call}
-use Rattle.arena.specs.Words.{node}
+use Rattle.arena.specs.Words.{node, first_key, first_value}
 use Rattle.order.specs.Successor.Steps.{last_turn}
 use Rattle.prims.specs.Llx.Known.{load}
 use Rattle.template.specs.FoundLeaf.{asked_key, path_key}
@@ -38,7 +38,7 @@ module _ {M : Type 0} {o : Calls M} (w : Walker o) (ps : List SeatedPass) where
   goes m now turn v s past goal edge = goes_to w ps (m, turn) (now, last_turn now.at now.trail.node turn) v s (past, goal, refl) edge
 
   module _ (goal : Goal) (t : Trail) (turn : NodeNo) where
-    pub to_key : (p : WalkAt) (v : ℕ) (head : HeadParts) → LoadsHead p → head_of v ≡ head → asks_key goal head ≡ true → WalkerIsTold w ps (walk_at goal t p) turn v → WalkerWaits w ps (walk_at goal t (Key head)) turn (load LoadSettled (node t.node.0 (Settled KeyWord)))
+    pub to_key : (p : WalkAt) (v : ℕ) (head : HeadParts) → LoadsHead p → head_of v ≡ head → asks_key goal head ≡ true → WalkerIsTold w ps (walk_at goal t p) turn v → WalkerWaits w ps (walk_at goal t (Key head)) turn (load LoadSettled (node t.node.0 first_key))
     to_key p v head at is asks = goes (walk_at goal t p) (walk_at goal t (Key head)) turn v _ tt refl (λ d h x. head_to_key goal t d h p v head at is x asks)
 
     pub leaves : (p : WalkAt) (v : ℕ) (head : HeadParts) → LoadsHead p → head_of v ≡ head → asks_key goal head ≡ false → head.leaf ≡ true → WalkerIsTold w ps (walk_at goal t p) turn v → WalkerFinds w ps goal turn record { trail = t; head = head; key = 0; value = None }
@@ -50,7 +50,7 @@ module _ {M : Type 0} {o : Calls M} (w : Walker o) (ps : List SeatedPass) where
     pub to_side : (head : HeadParts) (low : ℕ) (side : Side) → side ≡ cond (ltb (path_key goal) low) Left Right → head.leaf ≡ false → WalkerIsTold w ps (walk_at goal t (Key head)) turn low → WalkerWaits w ps (walk_at goal t (Child head.level side)) (last_turn (Child head.level side) t.node turn) (load LoadChild (node t.node.0 (ChildWord side)))
     to_side head low side is fork = goes (walk_at goal t (Key head)) (walk_at goal t (Child head.level side)) turn low _ tt refl (λ d h x. key_to_child goal t d h head low x side is fork)
 
-    pub to_value : (head : HeadParts) (low : ℕ) → head.leaf ≡ true → asked_key goal low ≡ low → WalkerIsTold w ps (walk_at goal t (Key head)) turn low → WalkerWaits w ps (walk_at goal t (Value head low)) turn (load LoadSettled (node t.node.0 (Settled ValueWord)))
+    pub to_value : (head : HeadParts) (low : ℕ) → head.leaf ≡ true → asked_key goal low ≡ low → WalkerIsTold w ps (walk_at goal t (Key head)) turn low → WalkerWaits w ps (walk_at goal t (Value head low)) turn (load LoadSettled (node t.node.0 first_value))
     to_value head low leaf is = goes (walk_at goal t (Key head)) (walk_at goal t (Value head low)) turn low _ tt refl (λ d h x. key_to_value goal t d h head low x leaf is)
 
     pub finds_other : (head : HeadParts) (low : ℕ) → head.leaf ≡ true → asked_key goal low ≢ low → WalkerIsTold w ps (walk_at goal t (Key head)) turn low → WalkerFinds w ps goal turn record { trail = t; head = head; key = low; value = None }

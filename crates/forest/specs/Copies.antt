@@ -1,7 +1,10 @@
 -- Copies of the words that a map is read from.
-use Rattle.std.specs.Prelude.{◌≡◌, ℕ, ◌<◌}
+use Rattle.std.specs.Prelude.{◌≡◌, ℕ, ◌<◌, if◌then◌else◌, ◌==◌}
 use Rattle.arena.specs.declared.word.NodeWord.{NodeWord}
-use Rattle.arena.specs.declared.word.NodeWord.TheVariants.{Info, Marked}
+use Rattle.arena.specs.declared.word.NodeWord.TheVariants.{Settled, Child, Info, Marked}
+use Rattle.arena.specs.declared.word.SettledPart.TheVariants.{Head, More, Key, Value, High}
+use Rattle.arena.specs.declared.word.Side.TheVariants.{Left, Right}
+use Rattle.arena.specs.declared.word.Slot.TheVariants.{First, Second, Third, Fourth}
 use Rattle.arena.specs.PlainWords.{Contents, word_at}
 use Rattle.arena.specs.Words.{node}
 
@@ -10,6 +13,26 @@ abbrev pub IsMapWord : NodeWord → Type 0
 IsMapWord Info = ⊥
 IsMapWord Marked = ⊥
 IsMapWord _ = Unit {0}
+
+-- each of them by its number: sixteen
+abbrev pub map_word : ℕ → NodeWord
+map_word number =
+    if number == 0 then Settled Head else (
+    if number == 1 then Settled More else (
+    if number == 2 then Settled (Key First) else (
+    if number == 3 then Settled (Key Second) else (
+    if number == 4 then Settled (Key Third) else (
+    if number == 5 then Settled (Key Fourth) else (
+    if number == 6 then Settled (Value First) else (
+    if number == 7 then Settled (Value Second) else (
+    if number == 8 then Settled (Value Third) else (
+    if number == 9 then Settled (Value Fourth) else (
+    if number == 10 then Settled (High First) else (
+    if number == 11 then Settled (High Second) else (
+    if number == 12 then Settled (High Third) else (
+    if number == 13 then Settled (High Fourth) else (
+    if number == 14 then Child Left else (
+    Child Right)))))))))))))))
 
 -- these words of the first k nodes are copied
 abbrev pub AreCopied : Contents → Contents → ℕ → Type 0

@@ -9,12 +9,12 @@ use Rattle.arena.specs.Share.{Remaining, whole_share, HasScx, IsFull}
 use Rattle.arena.specs.declared.number.NodeNo.{NodeNo}
 use Rattle.arena.specs.declared.word.Side.{Side}
 use Rattle.arena.specs.declared.word.NodeWord.TheVariants.{Settled}
-use Rattle.arena.specs.declared.word.SettledPart.TheVariants.{Head, Value}
+use Rattle.arena.specs.declared.word.SettledPart.TheVariants.{Head}
 use Rattle.arena.specs.declared.word.Word.{Word}
 use Rattle.arena.specs.Layout.{all_nodes, IsWord}
 use Rattle.arena.specs.Machines.{IsRun}
 use Rattle.arena.specs.PlainWords.{Contents, word_at}
-use Rattle.arena.specs.Words.{info, state, child, node as node_word}
+use Rattle.arena.specs.Words.{info, state, child, node as node_word, first_value}
 use Rattle.arena.specs.History.{History, ◌⊳◌, value, HasHeld, Extends}
 use Rattle.arena.specs.declared.limits.Mode.TheVariants.{Records}
 use Rattle.arena.specs.Fills.{IsNamedScx, IsOthersScx, IsOwnNode, IsOwnScx, IsTakenNode, IsTakenScx}
@@ -274,7 +274,7 @@ pub record IsDoneCall (old new : PassView) (snaps : List Snap) (finalize : List 
   pub side : e.side ≡ field.1
   pub fresh : e.new ≡ old.share.next_node
   -- just before it the fresh node had its value, and 0 in its two fields
-  pub has_value : value before (node_word e.new (Settled Value)) ≡ value_of_cell
+  pub has_value : value before (node_word e.new first_value) ≡ value_of_cell
   pub empty_fields : (side : Side) → value before (child e.new side) ≡ 0
   -- just before it each node was as its snapshot found it
   pub found : (i : ℕ) → i < length snaps → IsAsFound new.layout (run_of new) before (snap_at snaps i)

@@ -11,7 +11,7 @@ ghost use Rattle.arena.specs.History.{value};
 ghost use Rattle.dict.specs.Typed.{TypedAllows};
 ghost use Rattle.dict.specs.Words.{IsValidPair, IsWordOf};
 ghost use Rattle.ordered_map.specs.Replies.{word_pair};
-ghost use Rattle.forest.specs.Copies.{AreCopied};
+ghost use Rattle.forest.specs.Copies.{AreCopied, map_word};
 ghost use Rattle.forest.specs.declared.view.SeatedPass.{SeatedPass};
 ghost use Rattle.forest.specs.TableRule.{IsTableOf, history_of};
 ghost use Rattle.forest.specs.Passes.{IsOn, IsOf, PassView, AreAllBack, IsClosed};
@@ -23,8 +23,8 @@ use crate::rule::Asked;
 use crate::view::SeatView;
 use crate::words::Words;
 use arena::{
-    Access, Kind, Layout, NoMemory, NodeNo, NodeWord, PlainWords, SettledPart, Shape, Side, Step,
-    Word,
+    Access, Kind, Layout, NoMemory, NodeNo, NodeWord, PlainWords, SettledPart, Shape, Side, Slot,
+    Step, Word,
 };
 use atomic_table::Seat;
 use dict::{Dict, WordKey, WordValue, pairs_of};
@@ -111,11 +111,9 @@ impl<S: Shape> Closed<S> {
         ensures layout { words.new.layout ≡ self.now.layout }
         ensures copied { AreCopied self.now words.new (node.0 + 1) }
     {
-        self.copy(words, node, NodeWord::Settled(SettledPart::Head));
-        self.copy(words, node, NodeWord::Settled(SettledPart::Key));
-        self.copy(words, node, NodeWord::Settled(SettledPart::Value));
-        self.copy(words, node, NodeWord::Child(Side::Left));
-        self.copy(words, node, NodeWord::Child(Side::Right));
+        for number in 0..MAP_WORDS {
+            self.copy(words, node, map_word(number));
+        }
     }
 
     /// Copies a word of a node.
@@ -131,6 +129,33 @@ impl<S: Shape> Closed<S> {
             word,
             access,
         });
+    }
+}
+
+/// How many words of a node a map is read from.
+const MAP_WORDS: u8 = 16;
+
+/// Each of them by its number.
+fn map_word(number: u8) -> NodeWord
+    ensures { result ≡ map_word number }
+{
+    match number {
+        0 => NodeWord::Settled(SettledPart::Head),
+        1 => NodeWord::Settled(SettledPart::More),
+        2 => NodeWord::Settled(SettledPart::Key(Slot::First)),
+        3 => NodeWord::Settled(SettledPart::Key(Slot::Second)),
+        4 => NodeWord::Settled(SettledPart::Key(Slot::Third)),
+        5 => NodeWord::Settled(SettledPart::Key(Slot::Fourth)),
+        6 => NodeWord::Settled(SettledPart::Value(Slot::First)),
+        7 => NodeWord::Settled(SettledPart::Value(Slot::Second)),
+        8 => NodeWord::Settled(SettledPart::Value(Slot::Third)),
+        9 => NodeWord::Settled(SettledPart::Value(Slot::Fourth)),
+        10 => NodeWord::Settled(SettledPart::High(Slot::First)),
+        11 => NodeWord::Settled(SettledPart::High(Slot::Second)),
+        12 => NodeWord::Settled(SettledPart::High(Slot::Third)),
+        13 => NodeWord::Settled(SettledPart::High(Slot::Fourth)),
+        14 => NodeWord::Child(Side::Left),
+        _ => NodeWord::Child(Side::Right),
     }
 }
 

@@ -7,6 +7,7 @@ use arena::NodeWord::{Child, Info, Marked, Settled};
 use arena::ScxWord::{AllFrozen, Call, Member, New, Old, Plan, Seen, State};
 use arena::SettledPart::{Head, Key, Value};
 use arena::Side::{Left, Right};
+use arena::Slot::First;
 use arena::{Kind, Layout, Limits, Mode, NodeNo, NodeWord, PassNo, Row, ScxNo, ScxWord, Word};
 use judge::{Judge, first_unlawful};
 use std::alloc::{AllocError, Global};
@@ -144,7 +145,7 @@ fn fills(rows: &mut Vec<Row>, pass: u32, scx: u64, said: Said) -> Result<(), All
 /// Rows 0 to 36.
 fn set(rows: &mut Vec<Row>) -> Result<(), AllocError> {
     snapshot(rows, 0, 1, 0, 2, 0)?;
-    rows.push(fill(0, n(9, Settled(Value)), 0, 70))?;
+    rows.push(fill(0, n(9, Settled(Value(First))), 0, 70))?;
     fills(rows, 0, 1, Said(1, 9, 0, 1, 0))?;
     rows.extend_from_slice(&[
         load(0, s(1, Plan), 1),
@@ -179,7 +180,7 @@ fn finalize(rows: &mut Vec<Row>) -> Result<(), AllocError> {
     snapshot(rows, 1, 1, 1, 1, 9)?;
     snapshot(rows, 1, 2, 0, 2, 0)?;
     rows.extend_from_slice(&[
-        fill(1, n(19, Settled(Value)), 0, 80),
+        fill(1, n(19, Settled(Value(First))), 0, 80),
         fill(1, s(11, Plan), 0, 18),
         fill(1, s(11, New), 0, 19),
         fill(1, s(11, Old), 0, 9),
@@ -206,9 +207,9 @@ fn finalize(rows: &mut Vec<Row>) -> Result<(), AllocError> {
 
 /// Both clients try cell 3. Client 1 wins, and client 0 aborts. Rows 73 to 93.
 fn race(rows: &mut Vec<Row>) -> Result<(), AllocError> {
-    rows.push(fill(0, n(10, Settled(Value)), 0, 90))?;
+    rows.push(fill(0, n(10, Settled(Value(First))), 0, 90))?;
     fills(rows, 0, 2, Said(1, 10, 0, 3, 0))?;
-    rows.push(fill(1, n(20, Settled(Value)), 0, 91))?;
+    rows.push(fill(1, n(20, Settled(Value(First))), 0, 91))?;
     fills(rows, 1, 12, Said(1, 20, 0, 3, 0))?;
     rows.extend_from_slice(&[
         freeze(1, 3, 0, 12),
@@ -319,8 +320,14 @@ fn loads_are_judged(rt: HostRuntime) -> Result<(), Fail> {
             // a client that is none
             (Some(0), Edit::Put(0, load(2, n(1, Marked), 0))),
             // words outside of the table, and the last ones inside
-            (Some(0), Edit::Insert(0, load(0, n(29, Settled(Value)), 0))),
-            (None, Edit::Insert(0, load(0, n(28, Settled(Value)), 0))),
+            (
+                Some(0),
+                Edit::Insert(0, load(0, n(29, Settled(Value(First))), 0)),
+            ),
+            (
+                None,
+                Edit::Insert(0, load(0, n(28, Settled(Value(First))), 0)),
+            ),
             (Some(0), Edit::Insert(0, load(0, s(21, State), 0))),
             (None, Edit::Insert(0, load(0, s(20, State), 0))),
             (Some(0), Edit::Insert(0, load(0, s(1, Member(4)), 0))),
@@ -335,10 +342,19 @@ fn fills_are_judged(rt: HostRuntime) -> Result<(), Fail> {
         rt.alloc(),
         &[
             // another client's share, and out of order
-            (Some(7), Edit::Put(7, fill(1, n(9, Settled(Value)), 0, 70))),
-            (Some(7), Edit::Put(7, fill(0, n(10, Settled(Value)), 0, 70))),
+            (
+                Some(7),
+                Edit::Put(7, fill(1, n(9, Settled(Value(First))), 0, 70)),
+            ),
+            (
+                Some(7),
+                Edit::Put(7, fill(0, n(10, Settled(Value(First))), 0, 70)),
+            ),
             (Some(8), Edit::Put(8, fill(0, s(2, Plan), 0, 1))),
-            (Some(7), Edit::Put(7, fill(0, n(1, Settled(Value)), 0, 70))),
+            (
+                Some(7),
+                Edit::Put(7, fill(0, n(1, Settled(Value(First))), 0, 70)),
+            ),
             // of words that are not filled
             (Some(7), Edit::Put(7, fill(0, n(9, Info), 0, 1))),
             (Some(7), Edit::Put(7, fill(0, n(9, Marked), 0, 1))),
@@ -347,12 +363,12 @@ fn fills_are_judged(rt: HostRuntime) -> Result<(), Fail> {
             // of records before they are named, and then
             (
                 None,
-                Edit::Insert(17, fill(0, n(9, Settled(Value)), 70, 71)),
+                Edit::Insert(17, fill(0, n(9, Settled(Value(First))), 70, 71)),
             ),
             (None, Edit::Insert(17, fill(0, s(1, Call), 0, 5))),
             (
                 Some(18),
-                Edit::Insert(18, fill(0, n(9, Settled(Value)), 70, 71)),
+                Edit::Insert(18, fill(0, n(9, Settled(Value(First))), 70, 71)),
             ),
             (Some(18), Edit::Insert(18, fill(0, s(1, Call), 0, 5))),
             // that name records of another client that are not named yet
@@ -446,7 +462,7 @@ fn begin(
     found: u64,
 ) -> Result<Vec<Row>, AllocError> {
     let mut rows = whole_run(alloc)?;
-    rows.push(fill(0, n(11, Settled(Value)), 0, 90))?;
+    rows.push(fill(0, n(11, Settled(Value(First))), 0, 90))?;
     fills(&mut rows, 0, 3, said)?;
     rows.push(fill(0, s(3, Member(1)), 0, second.0))?;
     rows.push(fill(0, s(3, Seen(1)), 0, second.1))?;
@@ -512,13 +528,13 @@ fn fill_insert(rows: &mut Vec<Row>) -> Result<(), AllocError> {
         load(0, n(0, Child(Left)), 1),
         load(0, n(1, Settled(Head)), 13),
         fill(0, n(3, Settled(Head)), 0, 20),
-        fill(0, n(3, Settled(Key)), 0, 5),
-        fill(0, n(3, Settled(Value)), 0, 50),
+        fill(0, n(3, Settled(Key(First))), 0, 5),
+        fill(0, n(3, Settled(Value(First))), 0, 50),
         fill(0, n(4, Settled(Head)), 0, 21),
-        fill(0, n(4, Settled(Key)), 0, 0),
-        fill(0, n(4, Settled(Value)), 0, 0),
+        fill(0, n(4, Settled(Key(First))), 0, 0),
+        fill(0, n(4, Settled(Value(First))), 0, 0),
         fill(0, n(5, Settled(Head)), 0, 9),
-        fill(0, n(5, Settled(Key)), 0, 0),
+        fill(0, n(5, Settled(Key(First))), 0, 0),
         fill(0, n(5, Child(Left)), 0, 3),
         fill(0, n(5, Child(Right)), 0, 4),
         fill(0, s(1, Plan), 0, 18),
@@ -561,7 +577,7 @@ fn an_insert_is_lawful(rt: HostRuntime) -> Result<(), Fail> {
     make_insert(&mut rows)?;
     judged(&rt, alloc, &layout, (0, rows.as_slice()), None)?;
     // a leaf below the new node is named with it
-    rows.push(fill(0, n(3, Settled(Value)), 50, 51))?;
+    rows.push(fill(0, n(3, Settled(Value(First))), 50, 51))?;
     judged(&rt, alloc, &layout, (1, rows.as_slice()), Some(34))
 }
 
@@ -571,7 +587,7 @@ fn set_again(rows: &mut Vec<Row>, number: u32, left: u64) -> Result<(), AllocErr
     let number = u64::from(number);
     let (scx, node) = (number + 1, number + 9);
     snapshot(rows, 0, 1, number, state, left)?;
-    rows.push(fill(0, n(node, Settled(Value)), 0, 70))?;
+    rows.push(fill(0, n(node, Settled(Value(First))), 0, 70))?;
     fills(rows, 0, scx, Said(1, node, left, 1, number))?;
     rows.extend_from_slice(&[
         load(0, s(scx, Plan), 1),

@@ -4,6 +4,7 @@ use crate::same::same;
 use arena::NodeWord::{Child, Settled};
 use arena::SettledPart::{Head, Key, Value};
 use arena::Side::Left;
+use arena::Slot::First;
 use arena::{
     Access, Kind, Limits, Machine, Mode, NodeNo, NodeWord, PassNo, PlainWords, Share, Step, Turn,
     Word,
@@ -107,8 +108,8 @@ fn a_walk_to_the_least_key_loads_no_key_of_a_fork(rt: HostRuntime) -> Result<(),
         (8, Settled(Head)),
         (8, Child(Left)),
         (7, Settled(Head)),
-        (7, Settled(Key)),
-        (7, Settled(Value)),
+        (7, Settled(Key(First))),
+        (7, Settled(Value(First))),
     ];
     let mut walk = WalkRun::new(Goal::Least);
     let mut got = None;

@@ -2,6 +2,7 @@ use crate::same::same;
 use arena::NodeWord::{Child, Settled};
 use arena::SettledPart::{Head, Key, Value};
 use arena::Side::{Left, Right};
+use arena::Slot::First;
 use arena::{Access, Kind, Limits, Mode, NodeNo, NodeWord, PlainWords, Step, Word};
 use ordered_map::{Pair, laws_hold, map_laws_hold, spelled};
 use std::alloc::{AllocError, Global};
@@ -44,8 +45,8 @@ fn fork(number: u64, level: u32, class: u32, key: u64, below: (u64, u64)) -> Nod
 fn write(table: &mut PlainWords, node: &Node) {
     let words = [
         (Settled(Head), node.head),
-        (Settled(Key), node.key),
-        (Settled(Value), node.value),
+        (Settled(Key(First)), node.key),
+        (Settled(Value(First)), node.value),
         (Child(Left), node.left),
         (Child(Right), node.right),
     ];

@@ -3,7 +3,7 @@ ghost use Rattle.std.specs.Prelude.{◌<◌};
 
 use crate::random::Random;
 use arena::{
-    Full, Kind, NodeNo, NodeWord, PassNo, Resource, ScxNo, ScxWord, SettledPart, Side, Word,
+    Full, Kind, NodeNo, NodeWord, PassNo, Resource, ScxNo, ScxWord, SettledPart, Side, Slot, Word,
 };
 use ordered_map::Reply;
 use record::{Answer, Entry, Finished, Line, Record, Row};
@@ -118,8 +118,8 @@ fn other_kind(random: &mut Random) -> Kind {
 fn other_node_word(random: &mut Random) -> NodeWord {
     match random.below(7) {
         0 => NodeWord::Settled(SettledPart::Head),
-        1 => NodeWord::Settled(SettledPart::Key),
-        2 => NodeWord::Settled(SettledPart::Value),
+        1 => NodeWord::Settled(SettledPart::Key(Slot::First)),
+        2 => NodeWord::Settled(SettledPart::Value(Slot::First)),
         3 => NodeWord::Child(Side::Left),
         4 => NodeWord::Child(Side::Right),
         5 => NodeWord::Info,

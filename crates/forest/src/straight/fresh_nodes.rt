@@ -11,7 +11,7 @@ ghost use Rattle.edits.specs.declared.update.Next.{Next};
 use crate::straight::hand::Hand;
 use crate::straight::step::step;
 use crate::view::SeatView;
-use arena::{Access, Kind, Machine, NodeNo, NodeWord, SettledPart, Shape, Side, Step, Word};
+use arena::{Access, Kind, Machine, NodeNo, NodeWord, SettledPart, Shape, Side, Slot, Step, Word};
 use atomic_table::Seat;
 use edits::{Edit, Next, Nth, Piece, Stop, UpdateRun};
 use template::Found;
@@ -93,13 +93,13 @@ pub(crate) fn fill_node<S: Shape, M: Machine<S>, E: Edit + Copy>(
     let piece = run.edit.piece(found, snaps, &run.nodes, &run.loaded, nth);
     let node = run.nodes.at(nth);
     let first = NodeWord::Settled(SettledPart::Head);
-    let second = NodeWord::Settled(SettledPart::Key);
+    let second = NodeWord::Settled(SettledPart::Key(Slot::First));
     let (head, key) = (piece.word(first), piece.word(second));
     fill::<S, M>(hand, seat, node, first, head);
     fill::<S, M>(hand, seat, node, second, key);
     match piece {
         Piece::Leaf { value, .. } => {
-            let part = NodeWord::Settled(SettledPart::Value);
+            let part = NodeWord::Settled(SettledPart::Value(Slot::First));
             fill::<S, M>(hand, seat, node, part, value);
             run.filled(found, nth)
         }

@@ -15,7 +15,8 @@ use crate::straight::scx::{self, Change};
 use crate::straight::step::step;
 use crate::view::SeatView;
 use arena::{
-    Access, Kind, NodeNo, NodeWord, Plan, ScxNo, ScxWord, SettledPart, Shape, Step, Turn, Word,
+    Access, Kind, NodeNo, NodeWord, Plan, ScxNo, ScxWord, SettledPart, Shape, Slot, Step, Turn,
+    Word,
 };
 use atomic_table::Seat;
 use help::HelpRun;
@@ -73,7 +74,10 @@ fn fill_value<S: Shape>(hand: Hand<S>, seat: &mut Seat<u8, SeatView>, snaps: &[S
 {
     let asked = Step {
         kind: Kind::Fill,
-        word: Word::Node(put.fresh, NodeWord::Settled(SettledPart::Value)),
+        word: Word::Node(
+            put.fresh,
+            NodeWord::Settled(SettledPart::Value(Slot::First)),
+        ),
         access: Access::Store(put.value),
     };
     step::<S, PutRun>(hand, seat, asked);

@@ -18,7 +18,7 @@ use crate::straight::ordered_read::{read, tell};
 use crate::straight::vlx::validate;
 use crate::view::SeatView;
 use arena::{
-    Head, Kind, Machine, NodeNo, NodeWord, ScxNo, ScxWord, SettledPart, Shape, Turn, Word,
+    Head, Kind, Machine, NodeNo, NodeWord, ScxNo, ScxWord, SettledPart, Shape, Slot, Turn, Word,
 };
 use atomic_table::Seat;
 use order::{RangeAt, RangeNext, RangeRun, Refused};
@@ -143,7 +143,7 @@ fn read_value<S: Shape, M: Machine<S>>(
         ≤ seat_steps seat.old.me.0.passes + visit_left (shared_nodes hand.entry.layout.now) run.old (Ok (RangeNext.Value key node)) }
     ensures nearer { visit_left (shared_nodes hand.entry.layout.now) run.new result < visit_left (shared_nodes hand.entry.layout.now) run.old (Ok (RangeNext.Value key node)) }
 {
-    let part = NodeWord::Settled(SettledPart::Value);
+    let part = NodeWord::Settled(SettledPart::Value(Slot::First));
     let value = read::<S, M, Tree, RangeRun>(hand, seat, node, part);
     match run.value_on(Pair { key, value }) {
         Ok(next) => Ok(next),
@@ -171,7 +171,7 @@ fn read_key<S: Shape, M: Machine<S>>(
         ≤ seat_steps seat.old.me.0.passes + visit_left (shared_nodes hand.entry.layout.now) run.old (Ok (RangeNext.Key head node)) }
     ensures nearer { visit_left (shared_nodes hand.entry.layout.now) run.new result < visit_left (shared_nodes hand.entry.layout.now) run.old (Ok (RangeNext.Key head node)) }
 {
-    let part = NodeWord::Settled(SettledPart::Key);
+    let part = NodeWord::Settled(SettledPart::Key(Slot::First));
     let key = read::<S, M, Tree, RangeRun>(hand, seat, node, part);
     let next = run.key_on(head, node, key);
     match next {

@@ -16,7 +16,9 @@ use crate::straight::ordered_read::{read, tell};
 use crate::straight::vlx::validate;
 use crate::straight::walk;
 use crate::view::SeatView;
-use arena::{Head, Kind, Machine, NodeNo, NodeWord, ScxWord, SettledPart, Shape, Side, Turn, Word};
+use arena::{
+    Head, Kind, Machine, NodeNo, NodeWord, ScxWord, SettledPart, Shape, Side, Slot, Turn, Word,
+};
 use atomic_table::Seat;
 use order::{Refused, Route, SuccessorAt, SuccessorNext, SuccessorRun};
 use ordered_map::Pair;
@@ -138,12 +140,12 @@ fn search_on<S: Shape, M: Machine<S>>(
             Ok(run.head_on(route, Head::of(word), node))
         }
         SuccessorNext::Key { route, head, node } => {
-            let part = NodeWord::Settled(SettledPart::Key);
+            let part = NodeWord::Settled(SettledPart::Key(Slot::First));
             let key = read::<S, M, Tree, SuccessorRun>(hand, seat, node, part);
             Ok(run.key_on(route, head, node, key))
         }
         SuccessorNext::Value { key, node } => {
-            let part = NodeWord::Settled(SettledPart::Value);
+            let part = NodeWord::Settled(SettledPart::Value(Slot::First));
             let value = read::<S, M, Tree, SuccessorRun>(hand, seat, node, part);
             Ok(SuccessorNext::Validate(Some(Pair { key, value })))
         }

@@ -16,7 +16,9 @@ ghost use Rattle.template.specs.Walk.Places.{walk_at, LoadsHead};
 use crate::straight::hand::Hand;
 use crate::straight::step::step;
 use crate::view::SeatView;
-use arena::{Access, Head, Kind, Machine, NodeNo, NodeWord, SettledPart, Shape, Side, Step, Word};
+use arena::{
+    Access, Head, Kind, Machine, NodeNo, NodeWord, SettledPart, Shape, Side, Slot, Step, Word,
+};
 use atomic_table::Seat;
 use template::{Found, Goal, Trail, WalkAt};
 
@@ -111,7 +113,10 @@ fn end<S: Shape, M: Machine<S>>(
         → WalkerFinds w seat.new.me.0.passes goal turn result }
 {
     if asks_value(goal, key) {
-        let (kind, part) = (Kind::LoadSettled, NodeWord::Settled(SettledPart::Value));
+        let (kind, part) = (
+            Kind::LoadSettled,
+            NodeWord::Settled(SettledPart::Value(Slot::First)),
+        );
         let value = read::<S, M>(hand, seat, kind, trail.node, part);
         return Found {
             trail,
@@ -154,7 +159,10 @@ fn pass<S: Shape, M: Machine<S>>(
 {
     let head = Head::of(word);
     if asks_key(goal, word) {
-        let (kind, part) = (Kind::LoadSettled, NodeWord::Settled(SettledPart::Key));
+        let (kind, part) = (
+            Kind::LoadSettled,
+            NodeWord::Settled(SettledPart::Key(Slot::First)),
+        );
         let key = read::<S, M>(hand, seat, kind, trail.node, part);
         if is_leaf(word) {
             return Err(end::<S, M>(hand, seat, goal, trail, head, key));

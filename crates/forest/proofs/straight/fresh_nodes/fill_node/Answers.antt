@@ -2,7 +2,8 @@ use Rattle.std.proofs.Common.{◌≡◌, refl, arith}
 use Rattle.arena.specs.declared.step.Access.TheVariants.{Store}
 use Rattle.arena.specs.declared.step.Kind.TheVariants.{Fill as FillKind}
 use Rattle.arena.specs.declared.word.NodeWord.TheVariants.{Settled, Child}
-use Rattle.arena.specs.declared.word.SettledPart.TheVariants.{Head, Key, Value}
+use Rattle.arena.specs.Words.{first_key, first_value}
+use Rattle.arena.specs.declared.word.SettledPart.TheVariants.{Head}
 use Rattle.arena.specs.declared.word.Side.TheVariants.{Left, Right}
 use Rattle.arena.specs.declared.word.Word.TheVariants.{Node as NodeOf}
 use Rattle.forest.specs.Traces.{shared_nodes}
@@ -24,29 +25,29 @@ is_said g c = rw (← c.as_slice-snaps.ensures.value) c.piece-piece.ensures
 at_head : (g : Over) (c : After-word-key g) (u : Updater (calls g.S.Shape g.M.Machine c.args.hand.layout.now c.args.hand.number) g.E.Edit.means) → UpdaterTries u c.args.seat.now.me.0.passes c.args.run.now c.args.found.now (FillNext c.args.nth) → HostedWaits u c.args.seat.now.me.0.passes (filling u c.args.run.now c.args.found.now c.args.nth (Settled Head)) record { kind = FillKind; word = NodeOf c.at-node.result (Settled Head); access = Store c.word-head.result }
 at_head g c u x = begins_fill u _ c.args.run.now c.args.found.now c.args.nth c.piece-piece.result c.at-node.result c.word-head.result (is_said g c) c.at-node.ensures c.word-head.ensures x
 
-at_key : (g : Over) (c : After-fill g) (u : Updater (calls g.S.Shape g.M.Machine c.args.hand.layout.now c.args.hand.number) g.E.Edit.means) → UpdaterTries u c.args.seat.now.me.0.passes c.args.run.now c.args.found.now (FillNext c.args.nth) → HostedWaits u c.fill.new.seat.me.0.passes (filling u c.args.run.now c.args.found.now c.args.nth (Settled Key)) record { kind = FillKind; word = NodeOf c.at-node.result (Settled Key); access = Store c.word-key.result }
-at_key g c u x = let k = (goal.at.fill-requires-clause-waits g c.before).After-word-key in fills_on u _ c.args.run.now c.args.found.now c.args.nth (Settled Head) (Settled Key) c.fill.result c.piece-piece.result c.at-node.result c.word-key.result g.met.E.Edit.laws.fills (head_next c.piece-piece.result) (is_said g k) c.at-node.ensures c.word-key.ensures (c.fill.ensures.told u.call u.first (u.with_run (filling u c.args.run.now c.args.found.now c.args.nth (Settled Head))) (u.is_layout, u.is_number) (at_head g k u x))
+at_key : (g : Over) (c : After-fill g) (u : Updater (calls g.S.Shape g.M.Machine c.args.hand.layout.now c.args.hand.number) g.E.Edit.means) → UpdaterTries u c.args.seat.now.me.0.passes c.args.run.now c.args.found.now (FillNext c.args.nth) → HostedWaits u c.fill.new.seat.me.0.passes (filling u c.args.run.now c.args.found.now c.args.nth first_key) record { kind = FillKind; word = NodeOf c.at-node.result first_key; access = Store c.word-key.result }
+at_key g c u x = let k = (goal.at.fill-requires-clause-waits g c.before).After-word-key in fills_on u _ c.args.run.now c.args.found.now c.args.nth (Settled Head) first_key c.fill.result c.piece-piece.result c.at-node.result c.word-key.result g.met.E.Edit.laws.fills (head_next c.piece-piece.result) (is_said g k) c.at-node.ensures c.word-key.ensures (c.fill.ensures.told u.call u.first (u.with_run (filling u c.args.run.now c.args.found.now c.args.nth (Settled Head))) (u.is_layout, u.is_number) (at_head g k u x))
 
-told_key : (g : Over) (c : After-fill-2 g) (u : Updater (calls g.S.Shape g.M.Machine c.args.hand.layout.now c.args.hand.number) g.E.Edit.means) → UpdaterTries u c.args.seat.now.me.0.passes c.args.run.now c.args.found.now (FillNext c.args.nth) → HostedIsTold u c.fill-2.new.seat.me.0.passes (filling u c.args.run.now c.args.found.now c.args.nth (Settled Key)) c.fill-2.result
-told_key g c u x = (c.fill-2.ensures.told u.call u.first (u.with_run (filling u c.args.run.now c.args.found.now c.args.nth (Settled Key))) (u.is_layout, u.is_number) (at_key g (goal.at.fill-requires-2-clause-waits g c.before).After-fill u x))
+told_key : (g : Over) (c : After-fill-2 g) (u : Updater (calls g.S.Shape g.M.Machine c.args.hand.layout.now c.args.hand.number) g.E.Edit.means) → UpdaterTries u c.args.seat.now.me.0.passes c.args.run.now c.args.found.now (FillNext c.args.nth) → HostedIsTold u c.fill-2.new.seat.me.0.passes (filling u c.args.run.now c.args.found.now c.args.nth first_key) c.fill-2.result
+told_key g c u x = (c.fill-2.ensures.told u.call u.first (u.with_run (filling u c.args.run.now c.args.found.now c.args.nth first_key)) (u.is_layout, u.is_number) (at_key g (goal.at.fill-requires-2-clause-waits g c.before).After-fill u x))
 
 pub fill-requires-clause-waits : goal.fill-requires-clause-waits
 fill-requires-clause-waits g c = let r = c.requires.tries in let u = r.0 in (u.call, u.first, u.with_run (filling u c.args.run.now c.args.found.now c.args.nth (Settled Head)), (u.is_layout, u.is_number), at_head g (goal.at.fill-requires-clause-waits g c).After-word-key u r.1)
 
 pub fill-requires-2-clause-waits : goal.fill-requires-2-clause-waits
-fill-requires-2-clause-waits g c = let r = c.requires.tries in let u = r.0 in (u.call, u.first, u.with_run (filling u c.args.run.now c.args.found.now c.args.nth (Settled Key)), (u.is_layout, u.is_number), at_key g (goal.at.fill-requires-2-clause-waits g c).After-fill u r.1)
+fill-requires-2-clause-waits g c = let r = c.requires.tries in let u = r.0 in (u.call, u.first, u.with_run (filling u c.args.run.now c.args.found.now c.args.nth first_key), (u.is_layout, u.is_number), at_key g (goal.at.fill-requires-2-clause-waits g c).After-fill u r.1)
 
 -- the last word of a leaf
-at_value : (g : Over) (c : After-fill-arg-in-Leaf-1 g) (u : Updater (calls g.S.Shape g.M.Machine c.args.hand.layout.now c.args.hand.number) g.E.Edit.means) → UpdaterTries u c.args.seat.now.me.0.passes c.args.run.now c.args.found.now (FillNext c.args.nth) → HostedWaits u c.fill-2.new.seat.me.0.passes (filling u c.args.run.now c.args.found.now c.args.nth (Settled Value)) record { kind = FillKind; word = NodeOf c.at-node.result (Settled Value); access = Store c.in-Leaf.value }
+at_value : (g : Over) (c : After-fill-arg-in-Leaf-1 g) (u : Updater (calls g.S.Shape g.M.Machine c.args.hand.layout.now c.args.hand.number) g.E.Edit.means) → UpdaterTries u c.args.seat.now.me.0.passes c.args.run.now c.args.found.now (FillNext c.args.nth) → HostedWaits u c.fill-2.new.seat.me.0.passes (filling u c.args.run.now c.args.found.now c.args.nth first_value) record { kind = FillKind; word = NodeOf c.at-node.result first_value; access = Store c.in-Leaf.value }
 at_value g c u x = let k = (goal.at.fill-requires-in-Leaf-clause-waits g c).After-word-key in
-    fills_on u _ c.args.run.now c.args.found.now c.args.nth (Settled Key) (Settled Value) c.fill-2.result c.piece-piece.result c.at-node.result c.in-Leaf.value g.met.E.Edit.laws.fills (rw c.in-Leaf.is refl) (is_said g k) c.at-node.ensures (rw c.in-Leaf.is refl) (told_key g (goal.at.fill-requires-in-Leaf-clause-waits g c).After-fill-2 u x)
+    fills_on u _ c.args.run.now c.args.found.now c.args.nth first_key first_value c.fill-2.result c.piece-piece.result c.at-node.result c.in-Leaf.value g.met.E.Edit.laws.fills (rw c.in-Leaf.is refl) (is_said g k) c.at-node.ensures (rw c.in-Leaf.is refl) (told_key g (goal.at.fill-requires-in-Leaf-clause-waits g c).After-fill-2 u x)
 
 pub fill-requires-in-Leaf-clause-waits : goal.fill-requires-in-Leaf-clause-waits
-fill-requires-in-Leaf-clause-waits g c = let r = c.requires.tries in let u = r.0 in (u.call, u.first, u.with_run (filling u c.args.run.now c.args.found.now c.args.nth (Settled Value)), (u.is_layout, u.is_number), at_value g c u r.1)
+fill-requires-in-Leaf-clause-waits g c = let r = c.requires.tries in let u = r.0 in (u.call, u.first, u.with_run (filling u c.args.run.now c.args.found.now c.args.nth first_value), (u.is_layout, u.is_number), at_value g c u r.1)
 
 pub returns-in-Leaf-clause-goes_on : goal.returns-in-Leaf-clause-goes_on
-returns-in-Leaf-clause-goes_on g c = λ u x. fills_end u _ c.args.run.now c.filled.new.self c.args.found.now c.args.nth (Settled Value) c.fill-in-Leaf.result c.filled.result c.filled.ensures.same c.filled.ensures.tries c.filled.ensures.spends (λ b h run try x. c.filled.ensures.turn u.call b h (Settled Value) run try x (leaf_ends g.E.Edit.means c.args.run.now c.args.found.now c.args.nth c.piece-piece.result (is_said g (goal.at.returns-in-Leaf-clause-goes_on g c).After-word-key) _ _ _ _ c.in-Leaf.is))
-    (c.fill-in-Leaf.ensures.told u.call u.first (u.with_run (filling u c.args.run.now c.args.found.now c.args.nth (Settled Value))) (u.is_layout, u.is_number) (at_value g (goal.at.returns-in-Leaf-clause-goes_on g c).After-fill-arg-in-Leaf-1 u x))
+returns-in-Leaf-clause-goes_on g c = λ u x. fills_end u _ c.args.run.now c.filled.new.self c.args.found.now c.args.nth first_value c.fill-in-Leaf.result c.filled.result c.filled.ensures.same c.filled.ensures.tries c.filled.ensures.spends (λ b h run try x. c.filled.ensures.turn u.call b h first_value run try x (leaf_ends g.E.Edit.means c.args.run.now c.args.found.now c.args.nth c.piece-piece.result (is_said g (goal.at.returns-in-Leaf-clause-goes_on g c).After-word-key) _ _ _ _ c.in-Leaf.is))
+    (c.fill-in-Leaf.ensures.told u.call u.first (u.with_run (filling u c.args.run.now c.args.found.now c.args.nth first_value)) (u.is_layout, u.is_number) (at_value g (goal.at.returns-in-Leaf-clause-goes_on g c).After-fill-arg-in-Leaf-1 u x))
 
 pub returns-in-Leaf-clause-steps : goal.returns-in-Leaf-clause-steps
 returns-in-Leaf-clause-steps g c =
@@ -61,7 +62,7 @@ returns-in-Leaf-clause-nearer g c =
 -- the last two words of a fork
 at_left : (g : Over) (c : After-fill-arg-in-Fork-1 g) (u : Updater (calls g.S.Shape g.M.Machine c.args.hand.layout.now c.args.hand.number) g.E.Edit.means) → UpdaterTries u c.args.seat.now.me.0.passes c.args.run.now c.args.found.now (FillNext c.args.nth) → HostedWaits u c.fill-2.new.seat.me.0.passes (filling u c.args.run.now c.args.found.now c.args.nth (Child Left)) record { kind = FillKind; word = NodeOf c.at-node.result (Child Left); access = Store c.in-Fork.left.0 }
 at_left g c u x = let k = (goal.at.fill-requires-in-Fork-clause-waits g c).After-word-key in
-    fills_on u _ c.args.run.now c.args.found.now c.args.nth (Settled Key) (Child Left) c.fill-2.result c.piece-piece.result c.at-node.result c.in-Fork.left.0 g.met.E.Edit.laws.fills (rw c.in-Fork.is refl) (is_said g k) c.at-node.ensures (rw c.in-Fork.is refl) (told_key g (goal.at.fill-requires-in-Fork-clause-waits g c).After-fill-2 u x)
+    fills_on u _ c.args.run.now c.args.found.now c.args.nth first_key (Child Left) c.fill-2.result c.piece-piece.result c.at-node.result c.in-Fork.left.0 g.met.E.Edit.laws.fills (rw c.in-Fork.is refl) (is_said g k) c.at-node.ensures (rw c.in-Fork.is refl) (told_key g (goal.at.fill-requires-in-Fork-clause-waits g c).After-fill-2 u x)
 
 at_right : (g : Over) (c : After-fill-in-Fork g) (u : Updater (calls g.S.Shape g.M.Machine c.args.hand.layout.now c.args.hand.number) g.E.Edit.means) → UpdaterTries u c.args.seat.now.me.0.passes c.args.run.now c.args.found.now (FillNext c.args.nth) → HostedWaits u c.fill-in-Fork.new.seat.me.0.passes (filling u c.args.run.now c.args.found.now c.args.nth (Child Right)) record { kind = FillKind; word = NodeOf c.at-node.result (Child Right); access = Store c.in-Fork.right.0 }
 at_right g c u x = let k = (goal.at.fill-requires-in-Fork-clause-waits g c.before).After-word-key in
