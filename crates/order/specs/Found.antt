@@ -70,7 +70,7 @@ module _ {R A : Type 0} (means : ReadMeaning R A) (r : R) where
   pub record BeginsAtRoot : Type 0 where
     pub asks : means.asks (means.call r)
     pub waits : means.waiting r ≡ []
-    pub root : (lay : Layout) (b : History) → IsTreeRun lay b → means.IsAt r b 0
+    pub root : (lay : Layout) (b : History) → means.suits (means.call r) → IsTreeRun lay b → means.IsAt r b 0
 
   -- so a try begins; or all maps give the answer
   abbrev pub BeginsSo : ReadBegin A → Type 0

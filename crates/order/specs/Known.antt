@@ -13,6 +13,7 @@ use Rattle.arena.specs.Machines.{Call, MatchTurn, begun_at}
 use Rattle.prims.specs.Llx.Known.{load, LlxIsReady, LlxWaits}
 use Rattle.prims.specs.Moments.{AreFinished}
 use Rattle.prims.specs.Vlx.Known.{VlxIsReady, VlxWaits}
+use Rattle.prims.specs.declared.snap.Snap.{Snap}
 use Rattle.ordered_map.specs.declared.pair.Pair.{Pair}
 use Rattle.ordered_map.specs.OrderedMap.{reply}
 use Rattle.ordered_map.specs.TreeShape.{TreeAllows}
@@ -50,20 +51,20 @@ IsLastTurn c h k n = (n ≡ 0) ⊎ HasTurnedLeft c h k n
 
 module _ {R A : Type 0} (means : ReadMeaning R A) where
   -- it walks to a key, from the last fork where that turns left it goes down
-  pub record Walks (m : ReadRun R) (c : Call) (h : History) (walk : WalkRun) (turn : NodeNo) : Type 0 where
+  pub record Walks (r : R) (c : Call) (h : History) (walk : WalkRun) (turn : NodeNo) : Type 0 where
     pub key : ℕ
     pub goal : walk.goal ≡ ToKey key
-    pub goes_to : WalksTo means m.read key
+    pub goes_to : WalksTo means r key
     pub last : IsLastTurn c h key turn.0
 
   -- its VLX has begun at an own moment of the call, at which what it has found was right if all infos
   -- were as found
-  pub record Validates (m : ReadRun R) (c : Call) (h begin : History) : Type 0 where
-    pub asks : means.asks (means.call m.read)
+  pub record Validates (r : R) (snaps : List Snap) (c : Call) (h begin : History) : Type 0 where
+    pub asks : means.asks (means.call r)
     pub own : IsOwnMoment c begin
     pub within : Extends h begin
-    pub reads : Reads c begin m.snaps.items
-    pub right : AllHold begin m.snaps.items → IsRightAt means m.read c.layout begin
+    pub reads : Reads c begin snaps
+    pub right : AllHold begin snaps → IsRightAt means r c.layout begin
 
   -- the second is the first, further on: it has given up one try at most
   abbrev pub IsSameRead : ReadRun R → ReadRun R → Type 0
@@ -81,32 +82,30 @@ module _ {R A : Type 0} (means : ReadMeaning R A) where
     -- what holds while it waits for this step at this place
     abbrev pub ReadWaitsAt : Step → ReadAt → Type 0
     ReadWaitsAt s Start = ⊥
-    ReadWaitsAt s (Walk walk turn) = Walks m c h walk turn × WalkWaits walk c h s
+    ReadWaitsAt s (Walk walk turn) = Walks m.read c h walk turn × WalkWaits walk c h s
     ReadWaitsAt s Root = RunStands 0 × (s ≡ load LoadSettled (node 0 (Settled HeadWord)))
     ReadWaitsAt s (Head above n) = RunStands n.0 × (above < level (value h) n.0) × (s ≡ load LoadSettled (node n.0 (Settled HeadWord)))
     ReadWaitsAt s (Key head n) = RunStands n.0 × HasLowHead h n.0 head × (s ≡ load LoadSettled (node n.0 (Settled KeyWord)))
     ReadWaitsAt s (Value key n) = HasKey means m.read m.snaps.items c h n.0 key × (s ≡ load LoadSettled (node n.0 (Settled ValueWord)))
     ReadWaitsAt s (Look children low llx) = Looks means m.read m.snaps.items c h children low llx.node.0 × ((begin : History) × Extends begin c.start × LlxWaits TreeAllows llx (begun_at c begin) h s)
-    ReadWaitsAt s (Validate asked) = (begin : History) × Validates m c h begin × VlxWaits m.snaps.items asked (begun_at c begin) h s
+    ReadWaitsAt s (Validate asked) = (begin : History) × Validates m.read m.snaps.items c h begin × VlxWaits m.snaps.items asked (begun_at c begin) h s
 
     -- what holds once the step of this place has told v
     abbrev pub ReadIsToldAt : ℕ → ReadAt → Type 0
     ReadIsToldAt v Start = ⊥
-    ReadIsToldAt v (Walk walk turn) = Walks m c h walk turn × WalkIsReady walk c h (Some v)
+    ReadIsToldAt v (Walk walk turn) = Walks m.read c h walk turn × WalkIsReady walk c h (Some v)
     ReadIsToldAt v Root = RunStands 0 × (value h (node 0 (Settled HeadWord)) ≡ v)
     ReadIsToldAt v (Head above n) = RunStands n.0 × (above < level (value h) n.0) × (value h (node n.0 (Settled HeadWord)) ≡ v)
     ReadIsToldAt v (Key head n) = RunStands n.0 × HasLowHead h n.0 head × (value h (node n.0 (Settled KeyWord)) ≡ v)
     ReadIsToldAt v (Value key n) = HasKey means m.read m.snaps.items c h n.0 key × (value h (node n.0 (Settled ValueWord)) ≡ v)
     ReadIsToldAt v (Look children low llx) = Looks means m.read m.snaps.items c h children low llx.node.0 × ((begin : History) × Extends begin c.start × LlxIsReady TreeAllows llx (begun_at c begin) h (Some v))
-    ReadIsToldAt v (Validate asked) = (begin : History) × Validates m c h begin × VlxIsReady m.snaps.items asked (begun_at c begin) h (Some v)
+    ReadIsToldAt v (Validate asked) = (begin : History) × Validates m.read m.snaps.items c h begin × VlxIsReady m.snaps.items asked (begun_at c begin) h (Some v)
 
     -- Its try
 
     -- with the load of the root's head it begins a try, and has found nothing in that yet
-    pub record BeginsHere : Type 0 where
-      pub begins : BeginsTry c h m.limit m.tries
-      pub none : m.snaps.items ≡ []
-      pub waits : means.waiting m.read ≡ []
+    abbrev pub BeginsHere : Type 0
+    BeginsHere = BeginsTry c h m.limit m.tries × (m.snaps.items ≡ []) × (means.waiting m.read ≡ [])
 
     module _ (begin : History) where
       -- with the first step of its walk it begins one; behind that it is in the try that began at

@@ -1,5 +1,5 @@
 -- A successor, as an ordered read.
-use Rattle.std.specs.Prelude.{◌≡◌, ℕ, ◌+◌, ◌*◌, ◌^◌, ◌<◌, ◌≤◌, Bool, true, false, if◌then◌else◌, ◌==◌, nat_lt, List, [], ◌∷◌, Option}
+use Rattle.std.specs.Prelude.{◌≡◌, ℕ, ◌+◌, ◌*◌, ◌^◌, ◌<◌, ◌≤◌, Bool, true, false, if◌then◌else◌, ◌==◌, nat_lt, List, [], ◌∷◌, Option, Some, None}
 use Rattle.arena.specs.declared.head.Head.{Head as HeadParts}
 use Rattle.arena.specs.declared.number.NodeNo.{NodeNo}
 use Rattle.arena.specs.Words.{marked}
@@ -22,10 +22,16 @@ abbrev pub asks_key : Route → HeadParts → Bool
 asks_key Beyond head = if head.class == 0 then head.leaf else false
 asks_key _ head = head.class == 0
 
--- which children of a fork of class 0 with this key are to be visited
-abbrev pub children_below : Route → ℕ → ℕ → Children
-children_below Beyond k key = Left
-children_below _ k key = if nat_lt k key then Both else Right
+-- which children of a fork are to be visited, at which the path of the key goes left or not
+abbrev pub children_below : Route → Bool → Children
+children_below Beyond left = Left
+children_below _ true = Both
+children_below _ false = Right
+
+-- from which node it goes on behind a leaf of class 0 with this key, where that is not the answer
+abbrev pub behind_leaf : Route → ℕ → ℕ → Option NodeNo
+behind_leaf (Along right) k key = if nat_lt k key then None else Some right
+behind_leaf _ k key = None
 
 -- the keys of a successor are words
 abbrev pub IsSmallSuccessor : MapCall → Type 0
@@ -75,7 +81,7 @@ successor_means = record {
   waiting = λ r. behind_path r.route;
   IsAt = λ r b n. IsOnRoute r.route b r.key n;
   IsAtFork = λ r b n children. LooksOnRoute r.route b r.key n children;
-  Takes = λ r key. Unit {0};
+  Takes = λ r key. r.route ≡ Beyond;
   try_left = λ call nodes. successor_try_left nodes;
   behind = λ r nodes. second_path_left r.route nodes;
 }

@@ -37,7 +37,7 @@ impl Range {
     ghost use Rattle.order.specs.Found.{IsReading};
     ghost use Rattle.order.specs.Next.{MayDo};
     ghost use Rattle.order.specs.Paths.{ComesNearer};
-    ghost use Rattle.order.specs.Range.{GoesBehind, range_means, range_try_left};
+    ghost use Rattle.order.specs.Range.{AreWithin, GoesBehind, range_means, range_try_left};
     ghost use Rattle.order.specs.Steps.{read_left};
     ghost use Rattle.order.specs.declared.run.ReadAt.{ReadAt};
 
@@ -67,6 +67,18 @@ impl Range {
             leaves: 0,
         };
         ReadRun::new(alloc, read, tries)
+    }
+
+    /// Which children of a fork of class 0 with this key are to be visited.
+    #[inline(always)]
+    fn children(&self, key: u64) -> Children
+        ensures { self.now.low ≤ self.now.high → AreWithin self.now key result }
+    {
+        match (self.low < key, key <= self.high) {
+            (true, true) => Children::Both,
+            (true, false) => Children::Left,
+            (false, _) => Children::Right,
+        }
     }
 
     /// What is done behind a leaf.
@@ -151,23 +163,18 @@ impl Read for Range {
 
     #[inline(always)]
     fn key_on(&mut self, head: Head, node: NodeNo, key: u64) -> ReadNext {
-        let level = head.level;
         if !head.leaf {
-            let children = match (self.low < key, key <= self.high) {
-                (true, true) => Children::Both,
-                (true, false) => Children::Left,
-                (false, _) => Children::Right,
-            };
-            return ReadNext::Look {
+            let (children, level) = (self.children(key), head.level);
+            ReadNext::Look {
                 children,
                 level,
                 node,
-            };
+            }
+        } else if self.low > key || key > self.high {
+            self.visited()
+        } else {
+            ReadNext::Value { key, node }
         }
-        if self.low > key || key > self.high {
-            return self.visited();
-        }
-        ReadNext::Value { key, node }
     }
 
     #[inline(always)]

@@ -310,12 +310,12 @@ impl<R: Read + Drop> ReadRun<R> {
     ) -> Turn<Result<R::Answer, Refused>>
         ensures turn { (c : Call) (begin look h : History) → IsInTry c h begin self.old.limit self.old.tries
             → IsReading R.means self.old.read self.old.snaps.items (begun_at c begin) h
-            → Validates R.means self.old (begun_at c begin) h look → VlxIsReady self.old.snaps.items asked (begun_at c look) h got
+            → Validates R.means self.old.read self.old.snaps.items (begun_at c begin) h look → VlxIsReady self.old.snaps.items asked (begun_at c look) h got
             → ReadTurn R.means c h self.new result }
         ensures same { IsSameRead R.means self.old self.new }
         ensures nearer { (nodes : ℕ) → ReadIsNearer R.means self.new nodes result (tries_left R.means self.old nodes + vlx_left self.old.snaps.items asked) }
         ensures tries { (c : Call) (begin h : History) → IsReading R.means self.old.read self.old.snaps.items c h
-            → Validates R.means self.old c h begin → VlxIsReady self.old.snaps.items asked (begun_at c begin) h got
+            → Validates R.means self.old.read self.old.snaps.items c h begin → VlxIsReady self.old.snaps.items asked (begun_at c begin) h got
             → KeepsTries c h self.old.tries self.new.tries result }
     {
         let mut vlx = VlxRun {

@@ -40,7 +40,7 @@ pub type SuccessorRun = ReadRun<Successor>;
 impl Successor {
     ghost use Rattle.std.specs.Prelude.{◌≡◌, ℕ, ◌-◌, ◌*◌, ◌<◌, ◌≤◌, if◌then◌else◌, nat_lt, []};
     ghost use Rattle.order.specs.Steps.{read_left};
-    ghost use Rattle.order.specs.Successor.{asks_key, children_below, is_answer, successor_try_left, successor_means};
+    ghost use Rattle.order.specs.Successor.{asks_key, behind_leaf, children_below, successor_try_left, successor_means};
     ghost use Rattle.order.specs.declared.read.Children.{Children};
     ghost use Rattle.order.specs.declared.run.ReadAt.{ReadAt};
 
@@ -72,15 +72,33 @@ impl Successor {
         }
     }
 
-    /// Which children of a fork of class 0 with this key are to be visited.
+    /// Which children of a fork are to be visited, at which the path of the key goes left or not.
     #[inline(always)]
-    fn children(&self, key: u64) -> Children
-        ensures { result ≡ children_below self.now.route self.now.key key }
+    fn children(&self, left: bool) -> Children
+        ensures { result ≡ children_below self.now.route left }
+    {
+        match (self.route, left) {
+            (Route::Beyond, _) => Children::Left,
+            (_, true) => Children::Both,
+            (_, false) => Children::Right,
+        }
+    }
+
+    /// The node from which it goes on behind a leaf of class 0 with this key, where that is not the
+    /// answer.
+    #[inline(always)]
+    fn behind(&self, key: u64) -> Option<NodeNo>
+        ensures { result ≡ behind_leaf self.now.route self.now.key key }
     {
         match self.route {
-            Route::Beyond => Children::Left,
-            _ if self.key < key => Children::Both,
-            _ => Children::Right,
+            Route::Along { right } => {
+                if self.key < key {
+                    None
+                } else {
+                    Some(right)
+                }
+            }
+            _ => None,
         }
     }
 }
@@ -105,13 +123,14 @@ impl Read for Successor {
         left: NodeNo,
         right: NodeNo,
     ) -> Result<NodeNo, Refused> {
-        match children {
-            Children::Both => {
+        match (self.route, children) {
+            (Route::Beyond, _) => Ok(left),
+            (_, Children::Both) => {
                 self.route = Route::Along { right };
                 Ok(left)
             }
-            Children::Left => Ok(left),
-            Children::Right => Ok(right),
+            (_, Children::Left) => Ok(left),
+            (_, Children::Right) => Ok(right),
         }
     }
 
@@ -126,10 +145,7 @@ impl Read for Successor {
             self.found = None;
             return ReadNext::Validate;
         }
-        let children = match self.route {
-            Route::Beyond => Children::Left,
-            _ => Children::Both,
-        };
+        let children = self.children(true);
         ReadNext::Look {
             children,
             level,
@@ -140,21 +156,18 @@ impl Read for Successor {
     #[inline(always)]
     fn key_on(&mut self, head: Head, node: NodeNo, key: u64) -> ReadNext {
         if !head.leaf {
-            let (children, level) = (self.children(key), head.level);
+            let (children, level) = (self.children(self.key < key), head.level);
             return ReadNext::Look {
                 children,
                 level,
                 node,
             };
         }
-        let route = self.route;
+        let behind = self.behind(key);
         self.route = Route::Beyond;
-        match route {
-            Route::Along { right } if key <= self.key => ReadNext::Head {
-                above: 0,
-                node: right,
-            },
-            _ => ReadNext::Value { key, node },
+        match behind {
+            Some(node) => ReadNext::Head { above: 0, node },
+            None => ReadNext::Value { key, node },
         }
     }
 

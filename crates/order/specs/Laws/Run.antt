@@ -72,7 +72,7 @@ module _ {R A : Type 0} (means : ReadMeaning R A) (m : ReadRun R) where
         same : SameSettled (value h) (value (r ⊳ h)) n
         same = stood_settled c.layout (r ⊳ h) h n (g.0, run) (inr (ends_self h)) (was_passed h x.passed.first k n x.passed.passed)
 
-    walks_more : (walk : WalkRun) (turn : NodeNo) → Walks means m c h walk turn → Walks means m c (r ⊳ h) walk turn
+    walks_more : (walk : WalkRun) (turn : NodeNo) → Walks means m.read c h walk turn → Walks means m.read c (r ⊳ h) walk turn
     walks_more walk turn x = record { key = x.key; goal = x.goal; goes_to = x.goes_to; last = last_more x.key turn.0 x.last }
 
     stands_more : (n : ℕ) → RunStands means m c h n → RunStands means m c (r ⊳ h) n
@@ -112,7 +112,7 @@ module _ {R A : Type 0} (means : ReadMeaning R A) (m : ReadRun R) where
         same : SameSettled (value h) (value (r ⊳ h)) n
         same = settled_more c h r run n g x.stands.stood
 
-    validates_more : (begin : History) → Validates means m c h begin → Validates means m c (r ⊳ h) begin
+    validates_more : (begin : History) → Validates means m.read m.snaps.items c h begin → Validates means m.read m.snaps.items c (r ⊳ h) begin
     validates_more begin x = record { asks = x.asks; own = x.own; within = inr x.within; reads = x.reads; right = x.right }
 
     goes_more : TakesOnly c.layout c.pass 0 h r → ReadGoes means m c h → ReadGoes means m c (r ⊳ h)
@@ -132,7 +132,7 @@ module _ {R A : Type 0} (means : ReadMeaning R A) (m : ReadRun R) where
 
   module _ (c : Call) (h begin : History) (r : Row) (idle : IsIdle c.layout c.pass (r ⊳ h)) (none : begins_try c.pass r ≡ false) where
     begins_on : BeginsHere means m c h → BeginsHere means m c (r ⊳ h)
-    begins_on x = record { begins = begins_more c h r m.limit m.tries idle none x.begins; none = x.none; waits = x.waits }
+    begins_on x = (begins_more c h r m.limit m.tries idle none x.0, x.1, x.2)
 
     walks_on : (turn : NodeNo) (p : WalkAt) → WalksInTry means m c h begin turn p → WalksInTry means m c (r ⊳ h) begin turn p
     walks_on turn places.Root x = (begins_on x.0, x.1)
@@ -194,6 +194,22 @@ module _ {R A : Type 0} (means : ReadMeaning R A) (m : ReadRun R) where
   pub read_fills_not : (c : Call) (h : History) (s : Step) → ReadWaits means m c h s → s.kind ≢ Fill
   read_fills_not c h s w = fills_not_at (begun_at c w.0) h s m.at w.3
 
+  -- It has something to find
+
+  asks_at : (c : Call) (h : History) (s : Step) (at : ReadAt) → ReadWaitsAt means m c h s at → means.asks (means.call m.read)
+  asks_at c h s Start w = absurd w
+  asks_at c h s (Walk walk turn) w = w.0.goes_to.asks
+  asks_at c h s Root w = w.0.asks
+  asks_at c h s (Head above n) w = w.0.asks
+  asks_at c h s (Key head n) w = w.0.asks
+  asks_at c h s (Value key n) w = w.0.stands.asks
+  asks_at c h s (Look children low llx) w = w.0.asks
+  asks_at c h s (Validate asked) w = w.1.asks
+
+  -- a read that waits for a step has something to find
+  pub read_asks : (c : Call) (h : History) (s : Step) → ReadWaits means m c h s → means.asks (means.call m.read)
+  read_asks c h s w = asks_at (begun_at c w.0) h s m.at w.3
+
   -- Its own row
 
   module _ (c : Call) (h : History) (s : Step) (v : ℕ) (g : IsTreeRun c.layout h) (run : IsRun TreeAllows c.layout (row_of c s h ⊳ h)) (t : IsTold s.access (value h s.word) v) where
@@ -241,10 +257,10 @@ module _ {R A : Type 0} (means : ReadMeaning R A) (m : ReadRun R) where
     -- the load of the root's head begins one, of which it knows what it has known so far
     module _ (begin : History) (goes : ReadGoes means m (begun_at c begin) h) (try : BeginsHere means m c h) (loads : s ≡ load LoadSettled (node 0 (Settled HeadWord))) where
       begins_now : (at : ReadAt) → ReadWaitsAt means m (begun_at c begin) h s at → ReadWaitsAt means m (begun_at c h) h s at → ReadyAt c made v at
-      begins_now at w again = told_in_try h record { reads = reads_anew c h m.snaps.items try.none goes.reads.run goes.reads.over; suits = goes.suits } at (in_try_now c h (row_of c s h) m.limit m.tries (idle_made begin goes at w) (own_begins c s h loads) try.begins) again
+      begins_now at w again = told_in_try h record { reads = reads_anew c h m.snaps.items try.1 goes.reads.run goes.reads.over; suits = goes.suits } at (in_try_now c h (row_of c s h) m.limit m.tries (idle_made begin goes at w) (own_begins c s h loads) try.0) again
 
       root_begins : ReadWaitsAt means m (begun_at c begin) h s Root → ReadyAt c made v Root
-      root_begins w = begins_now Root w (record { stood = root_there (begun_at c h) h goes.reads.run (ends_self h); asks = w.0.asks; some = w.0.some; waits = rw try.waits tt; here = w.0.here }, w.1)
+      root_begins w = begins_now Root w (record { stood = root_there (begun_at c h) h goes.reads.run (ends_self h); asks = w.0.asks; some = w.0.some; waits = rw try.2 tt; here = w.0.here }, w.1)
 
     walk_begins : (begin : History) (walk : WalkRun) (turn : NodeNo) → walk.at ≡ places.Root → WalksInTry means m c h begin turn places.Root → ReadGoes means m (begun_at c begin) h → ReadWaitsAt means m (begun_at c begin) h s (Walk walk turn) → ReadyAt c made v (Walk walk turn)
     walk_begins begin walk turn e try goes w = begins_now begin goes try.0 loads (Walk walk turn) w (record { key = w.0.key; goal = w.0.goal; goes_to = w.0.goes_to; last = inl try.1 }, again)

@@ -1,0 +1,5 @@
+-- What the layers above know of ordered reads beside their clauses, passed on from one place: no
+-- other module of these proofs can be named outside. Declares nothing.
+pub use Rattle.order.proofs.Looking.{walk_found}
+pub use Rattle.order.proofs.Ready.{read_ready_first}
+pub use Rattle.order.proofs.Turns.{ends_refused, next_waits, placed_nearer, told as answers_right, walk_waits}

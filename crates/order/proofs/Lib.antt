@@ -1,0 +1,13 @@
+mod Following
+mod Searching
+mod Blaming
+mod Snapping
+mod Looking
+mod Turns
+mod Nearer
+mod Undisturbed
+mod Finding
+mod Visiting
+mod RangeVisits
+mod Ready
+pub mod Lemmas

@@ -1,0 +1,47 @@
+-- That each turn of a read leaves fewer steps.
+use Rattle.std.proofs.Common.{◌≡◌, ◌≢◌, ℕ, zero, suc, ◌+◌, ◌*◌, ◌-◌, ◌<◌, ◌≤◌, refl, arith}
+use Rattle.std.proofs.Math.Nat.{suc-mul}
+use Rattle.arena.specs.declared.machine.Turn.{Turn}
+use Rattle.arena.specs.declared.machine.Turn.TheVariants.{Ask, Done}
+use Rattle.arena.specs.Machines.{MatchTurn}
+
+-- what is below a number is below a greater one
+pub below : {A : Type 0} (turn : Turn A) (x a b : ℕ) → MatchTurn turn (λ _. x < a) (λ _. Unit {0}) → a ≤ b → MatchTurn turn (λ _. x < b) (λ _. Unit {0})
+below (Ask s) x a b i j = omega (arith, i, j)
+below (Done u) x a b i j = tt
+
+no_more : (n : ℕ) → n ≤ n
+no_more n = omega arith
+
+-- a try less
+pub try_less : (tries each : ℕ) → tries ≢ 0 → (tries - 1) * each + each ≤ tries * each
+try_less zero each d = absurd (let z : zero ≡ zero = refl in d z)
+try_less (suc tries) each d = let e : suc tries - 1 ≡ tries = omega arith in rw (e, suc-mul tries each) (no_more (tries * each + each))
+
+-- where t is what the later tries may take
+pub to_tries : (t rest : ℕ) → t ≤ t + rest
+to_tries t rest = omega arith
+
+pub less_walk : (t now left size path behind : ℕ) → now < left → t + (now + size + path + behind) < t + (left + size + path + behind)
+less_walk t now left size path behind i = omega (arith, i)
+
+pub less_look : (t now left size rest behind : ℕ) → now < left → t + (now + size + 1 + rest + behind) < t + (left + size + 1 + rest + behind)
+less_look t now left size rest behind i = omega (arith, i)
+
+pub from_looked : (t left size rest behind : ℕ) → t + (size + 1 + rest + behind) ≤ t + (left + size + 1 + rest + behind)
+from_looked t left size rest behind = omega arith
+
+pub less_vlx : (t now left : ℕ) → now < left → t + now < t + left
+less_vlx t now left i = omega (arith, i)
+
+pub from_root : (t size level nodes behind : ℕ) → t + (size + (67 * (2 + nodes - level) - 1 + behind)) ≤ t + (size + 67 * (2 + nodes) - 1 + behind)
+from_root t size level nodes behind = omega arith
+
+pub from_head : (t size above level nodes behind : ℕ) → above < level → level < 2 + nodes → t + (size + (67 * (2 + nodes - level) - 1 + behind)) ≤ t + (size + 67 * (1 + nodes - above) - 1 + behind)
+from_head t size above level nodes behind i j = omega (arith, i, j)
+
+pub from_key : (t size level nodes behind : ℕ) → level < 2 + nodes → t + (size + (67 * (2 + nodes - level) - 2 + behind)) ≤ t + (size + 67 * (2 + nodes - level) - 2 + behind)
+from_key t size level nodes behind i = omega (arith, i)
+
+pub from_validate : (t size n : ℕ) → size + 0 ≤ n → t + (size - 0) ≤ t + n
+from_validate t size n i = omega (arith, i)

@@ -1,0 +1,272 @@
+-- What a range knows one place further.
+use Rattle.std.proofs.Common.{◌≡◌, ◌≢◌, ℕ, zero, suc, ◌+◌, ◌-◌, ◌*◌, ◌<◌, ◌≤◌, ◌⊎◌, Bool, true, false, ltb, leb, ◌&&◌, List, [], ◌∷◌, ◌++◌, length, reverse, inl, inr, ⊎_elim, refl, sym, ◌∙◌, ap, subst, arith, lt-ltb, le-ltb, le-leb, min, Vec}
+use Rattle.std.specs.Prelude.{take}
+use Rattle.std.specs.Global.{Global}
+use Rattle.std.proofs.Math.Nat.{suc-mul, mul-le-mul_right}
+use Rattle.std.proofs.lemmas.Bool.Decides.{leb_tells}
+use Rattle.std.proofs.lemmas.List.{reverse-append}
+use Rattle.arena.specs.declared.head.Head.{Head as HeadParts}
+use Rattle.arena.specs.declared.layout.Layout.{Layout}
+use Rattle.arena.specs.declared.number.NodeNo.{NodeNo}
+use Rattle.arena.specs.declared.word.NodeWord.TheVariants.{Settled}
+use Rattle.arena.specs.declared.word.SettledPart.TheVariants.{Key as KeyWord, Value as ValueWord}
+use Rattle.arena.specs.Words.{node}
+use Rattle.arena.specs.History.{History, value, Extends}
+use Rattle.arena.specs.Machines.{Call}
+use Rattle.prims.specs.declared.snap.Snap.{Snap}
+use Rattle.ordered_map.specs.declared.pair.Pair.{Pair}
+use Rattle.ordered_map.specs.OrderedMap.{between, range, ManyPairs}
+use Rattle.ordered_map.specs.Runs.{IsTreeRun}
+use Rattle.ordered_map.specs.Spelled.{Spells}
+use Rattle.ordered_map.specs.TreeWords.{class, is_leaf, level, rank}
+use Rattle.ordered_map.proofs.Lemmas.{run_spells, stood_settled, SameSettled, settled_class, settled_leaf, settled_rank}
+use Rattle.template.specs.Trails.{IsOwnMoment}
+use Rattle.order.specs.Found.{AreThere, BeginsAtRoot, GoesTo, HasKey, HasLowHead, IsReading, IsThere, Looks, Stands, head_at, key_at, value_at}
+use Rattle.order.specs.Next.{MayValidate}
+use Rattle.order.specs.Range.{AreWithin, GoesBehind, Visits, bounds_of, range_means, waiting_of}
+use Rattle.order.specs.Reads.{Whenever, HasStood}
+use Rattle.order.specs.Visits.{IsVisiting, HasVisited}
+use Rattle.order.specs.declared.range.Range.{Range}
+use Rattle.order.specs.declared.read.Children.{Children}
+use Rattle.order.specs.declared.read.Children.TheVariants.{Left, Right, Both}
+use Rattle.order.proofs.Looking.{some_taken}
+use Rattle.order.proofs.Visiting.{visits_both, visits_left, visits_right, takes, passes_below, passes_above, visits_next, visits_root, ends_all, ends_full, ends_last}
+
+-- Of no pairs, and of no keys
+
+abbrev no_pairs : List Pair
+no_pairs = []
+
+split : (a b : ℕ) → (a < b) ⊎ (b ≤ a)
+split a b = grind arith
+
+gt_leb : (a b : ℕ) → b < a → leb a b ≡ false
+gt_leb a b i = ⊎_elim (λ x. absurd (let y = x.1 in omega (arith, y, i))) (λ x. x.0) (leb_tells a b)
+
+no_and : (b : Bool) → (b && false) ≡ false
+no_and true = refl
+no_and false = refl
+
+outside : (low high k : ℕ) → high < low → (leb low k && leb k high) ≡ false
+outside low high k i = ⊎_elim (λ l. rw (gt_leb low k l) refl) (λ l. rw (gt_leb k high (omega (arith, i, l))) (no_and (leb low k))) (split k low)
+
+pub no_keys : (low high : ℕ) (m : List Pair) → high < low → between low high m ≡ []
+no_keys low high [] i = refl
+no_keys low high (p ∷ ps) i = rw (outside low high p.key i) (no_keys low high ps i)
+
+pub take_none : (n : ℕ) → take n no_pairs ≡ []
+take_none zero = refl
+take_none (suc n) = refl
+
+take_zero : (ys : List Pair) → take 0 ys ≡ []
+take_zero [] = refl
+take_zero (y ∷ ys) = refl
+
+pub none_of_none : (low high : ℕ) (m : List Pair) → range low high 0 m ≡ []
+none_of_none low high m = take_zero (between low high m)
+
+-- it takes no pair, whatever the map has
+pub takes_nothing : (low high most : ℕ) → (most ≡ 0) ⊎ (high < low) → (map : List Pair) → range low high most map ≡ []
+takes_nothing low high most (inl e) map = rw e (none_of_none low high map)
+takes_nothing low high most (inr i) map = ap (take most) (no_keys low high map i) ∙ take_none most
+
+-- How it begins
+
+so_many_leaves : (most leaves : ℕ) → most ≤ 64 → leaves ≡ min (most + 2) 18446744073709551615 → leaves ≡ most + 2
+so_many_leaves most leaves few is = omega (arith, few, is)
+
+pub begins_at_root : (r : Range) → 0 < r.most → r.low ≤ r.high → r.waiting.items ≡ [] → r.taken.items ≡ [] → r.leaves ≡ min (r.most + 2) 18446744073709551615 → BeginsAtRoot range_means r
+begins_at_root r some ordered waiting taken leaves = record {
+  asks = (some, ordered);
+  waits = ap reverse waiting;
+  root = λ lay b suits run.
+      let spelled : (ps : List Pair) × Spells lay (value b) ps = run_spells lay b run in
+      rw (taken, waiting, so_many_leaves r.most r.leaves suits.1 leaves) (some, visits_root b (bounds_of r) spelled.1.tree spelled.1.is_tree);
+}
+
+pub begins_near : (most leaves each : ℕ) → leaves ≡ min (most + 2) 18446744073709551615 → each + (leaves - 1) * each ≤ (most + 2) * each
+begins_near most leaves each is =
+    let one : suc (leaves - 1) * each ≤ (most + 2) * each = mul-le-mul_right each (omega (arith, is)) in
+    let e : suc (leaves - 1) * each ≡ (leaves - 1) * each + each = suc-mul (leaves - 1) each in
+    omega (arith, one, e)
+
+-- From a fork
+
+module _ (r : Range) (left right : NodeNo) where
+  pub both_go : (waiting : Vec NodeNo Global) → waiting.items ≡ r.waiting.items ++ right ∷ [] → GoesTo range_means r (record r { waiting = waiting }) Both left right left
+  both_go waiting more = record {
+    one = inl refl;
+    waits = λ c h before there. rw waits_is (there, before);
+    below = λ lay b n run fork unmarked to_left to_right x. rw (waits_is, ← to_left, ← to_right) (x.1.0, visits_both b (bounds_of r) n r.taken.items (waiting_of r) r.leaves x.1.1 fork x.0.0 x.0.1);
+  }
+    where
+      waits_is : reverse waiting.items ≡ right ∷ reverse r.waiting.items
+      waits_is = ap reverse more ∙ reverse-append r.waiting.items (right ∷ [])
+
+  pub left_goes : GoesTo range_means r r Left left right left
+  left_goes = record {
+    one = inl refl;
+    waits = λ c h before there. before;
+    below = λ lay b n run fork unmarked to_left to_right x. rw (← to_left) (x.1.0, visits_left b (bounds_of r) n r.taken.items (waiting_of r) r.leaves x.1.1 fork x.0);
+  }
+
+  pub right_goes : GoesTo range_means r r Right left right right
+  right_goes = record {
+    one = inr refl;
+    waits = λ c h before there. before;
+    below = λ lay b n run fork unmarked to_left to_right x. rw (← to_right) (x.1.0, visits_right b (bounds_of r) n r.taken.items (waiting_of r) r.leaves x.1.1 fork x.0);
+  }
+
+-- At a node
+
+pub lt_of : (a b : ℕ) → ltb a b ≡ true → a < b
+lt_of a b p = ⊎_elim (λ i. i) (λ i. absurd (let f : true ≡ false = sym p ∙ le-ltb a b i in cc)) (split a b)
+
+pub ge_of : (a b : ℕ) → ltb a b ≡ false → b ≤ a
+ge_of a b p = ⊎_elim (λ i. absurd (let f : false ≡ true = sym p ∙ lt-ltb a b i in cc)) (λ i. i) (split a b)
+
+module _ (r : Range) (snaps : List Snap) (c : Call) (h : History) (n : ℕ) (reading : IsReading range_means r snaps c h) (x : Stands range_means r snaps c h n) where
+  same_then : (b : History) → IsTreeRun c.layout b → Extends b h → SameSettled (value h) (value b) n
+  same_then b run e = stood_settled c.layout b h n run e x.stood.stood
+
+  -- a leaf without a pair within the bounds is behind it
+  goes_behind : IsOwnMoment c h → is_leaf (value h) n ≡ true → Whenever c.layout h snaps (λ b. HasVisited b (bounds_of r) r.taken.items (waiting_of r) (r.leaves - 1)) → GoesBehind r snaps c h (r.leaves - 1)
+  goes_behind own leaf visited = record {
+    own = own;
+    asks = x.asks;
+    some = some_taken range_means r snaps c h reading n x leaf;
+    waits = x.waits;
+    visited = λ b run e hold. ((let i = (x.here b run e hold).0 in omega (arith, i)), visited b run e hold);
+  }
+
+  -- above all keys
+  pub high_behind : IsOwnMoment c h → is_leaf (value h) n ≡ true → class (value h) n ≢ 0 → GoesBehind r snaps c h (r.leaves - 1)
+  high_behind own leaf high = goes_behind own leaf (λ b run e hold. passes_above b (bounds_of r) n r.taken.items (waiting_of r) r.leaves (x.here b run e hold).1 (settled_leaf (value h) (value b) n (same_then b run e) ∙ leaf) (above b run e))
+    where
+      above : (b : History) → IsTreeRun c.layout b → Extends b h → r.high < rank (value b) n
+      above b run e =
+          let k : rank (value b) n ≡ rank (value h) n = settled_rank (value h) (value b) n (same_then b run e) in
+          let s = reading.suits.0 in
+          omega (arith, k, s, high)
+
+  -- a fork
+  looks_at : (children : Children) (head : HeadParts) → head_at h n ≡ head → head.leaf ≡ false → AreWithin r (rank (value h) n) children → Looks range_means r snaps c h children head.level n
+  looks_at children head is fork within = record {
+    stood = x.stood;
+    asks = x.asks;
+    fork = ap (λ (w : HeadParts). w.leaf) is ∙ fork;
+    deep = let l : level (value h) n ≡ head.level = ap (λ (w : HeadParts). w.level) is in omega (arith, l);
+    waits = x.waits;
+    here = λ b run e hold. (subst (λ k. AreWithin r k children) (sym (settled_rank (value h) (value b) n (same_then b run e))) within, x.here b run e hold);
+  }
+
+  pub high_looks : (head : HeadParts) → head_at h n ≡ head → head.leaf ≡ false → head.class ≢ 0 → Looks range_means r snaps c h Left head.level n
+  high_looks head is fork high = looks_at Left head is fork (let k : class (value h) n ≡ head.class = ap (λ (w : HeadParts). w.class) is in let s = reading.suits.0 in omega (arith, s, k, high))
+
+  -- of class 0
+  module _ (head : HeadParts) (key : ℕ) (has : HasLowHead h n head) (d : key_at h n ≡ key) where
+    zero_class : class (value h) n ≡ 0
+    zero_class = ap (λ (w : HeadParts). w.class) has.head_is ∙ has.low
+
+    rank_is : rank (value h) n ≡ key
+    rank_is = let z = zero_class in let e = d in omega (arith, z, e)
+
+    pub low_looks : (children : Children) → head.leaf ≡ false → AreWithin r key children → Looks range_means r snaps c h children head.level n
+    low_looks children fork within = looks_at children head has.head_is fork (subst (λ k. AreWithin r k children) (sym rank_is) within)
+
+    module _ (leaf : head.leaf ≡ true) where
+      leaf_is : is_leaf (value h) n ≡ true
+      leaf_is = ap (λ (w : HeadParts). w.leaf) has.head_is ∙ leaf
+
+      low_leaf : (b : History) → IsTreeRun c.layout b → Extends b h → is_leaf (value b) n ≡ true
+      low_leaf b run e = settled_leaf (value h) (value b) n (same_then b run e) ∙ leaf_is
+
+      low_class : (b : History) → IsTreeRun c.layout b → Extends b h → class (value b) n ≡ 0
+      low_class b run e = settled_class (value h) (value b) n (same_then b run e) ∙ zero_class
+
+      low_key : (b : History) → IsTreeRun c.layout b → Extends b h → value b (node n (Settled KeyWord)) ≡ key
+      low_key b run e = same_then b run e (Settled KeyWord) tt ∙ d
+
+      pub low_behind : IsOwnMoment c h → (key < r.low) ⊎ (r.high < key) → GoesBehind r snaps c h (r.leaves - 1)
+      low_behind own out = goes_behind own leaf_is (λ b run e hold. ⊎_elim
+          (λ i. passes_below b (bounds_of r) n r.taken.items (waiting_of r) r.leaves (x.here b run e hold).1 (low_leaf b run e) (low_class b run e) (rw (low_key b run e) i))
+          (λ i. passes_above b (bounds_of r) n r.taken.items (waiting_of r) r.leaves (x.here b run e hold).1 (low_leaf b run e) (let z = low_class b run e in let k = low_key b run e in omega (arith, z, k, i)))
+          out)
+
+      pub low_taken : r.low ≤ key → key ≤ r.high → HasKey range_means r snaps c h n key
+      low_taken i j = record { stands = x; leaf = leaf_is; low = zero_class; key_is = d; takes = (i, j) }
+
+-- At the value of a leaf
+
+one_longer : (xs : List Pair) (p : Pair) → length (xs ++ p ∷ []) ≡ length xs + 1
+one_longer [] p = refl
+one_longer (x ∷ xs) p = let e = one_longer xs p in omega (arith, e)
+
+-- its pair is taken
+pub pair_taken : (r : Range) (snaps : List Snap) (c : Call) (h : History) (n : ℕ) (p : Pair) (taken : Vec Pair Global) → IsReading range_means r snaps c h → IsOwnMoment c h → HasKey range_means r snaps c h n p.key → value_at h n ≡ p.value → taken.items ≡ r.taken.items ++ p ∷ [] → GoesBehind (record r { taken = taken }) snaps c h (r.leaves - 1)
+pair_taken r snaps c h n p taken reading own x d items = record {
+  own = own;
+  asks = x.stands.asks;
+  some = some_taken range_means r snaps c h reading n x.stands x.leaf;
+  waits = x.stands.waits;
+  visited = λ b run e hold.
+      let same : SameSettled (value h) (value b) n = stood_settled c.layout b h n run e x.stands.stood.stood in
+      let key_is : value b (node n (Settled KeyWord)) ≡ p.key = same (Settled KeyWord) tt ∙ x.key_is in
+      let here : Visits r b n = x.stands.here b run e hold in
+      rw items (
+        (let i = here.0 in let l : length (r.taken.items ++ p ∷ []) ≡ length r.taken.items + 1 = one_longer r.taken.items p in omega (arith, i, l)),
+        rw (key_is, same (Settled ValueWord) tt ∙ d) at (takes b (bounds_of r) n r.taken.items (waiting_of r) r.leaves here.1 (settled_leaf (value h) (value b) n same ∙ x.leaf) (settled_class (value h) (value b) n same ∙ x.low) (rw key_is x.takes.0) (rw key_is x.takes.1)),
+      );
+}
+
+-- Behind a leaf
+
+module _ (r : Range) (snaps : List Snap) (c : Call) (h : History) (leaves : ℕ) (x : GoesBehind r snaps c h leaves) where
+  -- the next node that waits
+  pub next_visited : (n : NodeNo) (waiting : Vec NodeNo Global) → length r.taken.items < r.most → r.waiting.items ≡ waiting.items ++ n ∷ [] → Stands range_means (record r { leaves = leaves; waiting = waiting }) snaps c h n.0 × (0 < level (value h) n.0)
+  next_visited n waiting room is = (
+    record {
+      stood = there.0.0;
+      asks = x.asks;
+      some = inr x.some;
+      waits = there.1;
+      here = λ b run e hold. (room, visits_next b (bounds_of r) n r.taken.items (reverse waiting.items) leaves (rw waits_is at (x.visited b run e hold).1));
+    },
+    there.0.1,
+  )
+    where
+      waits_is : waiting_of r ≡ n ∷ reverse waiting.items
+      waits_is = ap reverse is ∙ reverse-append waiting.items (n ∷ [])
+
+      there : IsThere c h n × AreThere c h (reverse waiting.items)
+      there = rw waits_is at x.waits
+
+  -- none is visited any more: none waits, enough pairs were taken, or enough leaves were visited
+  pub visits_end : (now : Range) → now.low ≡ r.low → now.high ≡ r.high → now.most ≡ r.most → now.taken ≡ r.taken → (r.waiting.items ≡ []) ⊎ ((r.most ≤ length r.taken.items) ⊎ (leaves ≡ 0)) → MayValidate range_means now snaps c h
+  visits_end now low high most taken why = record {
+    asks = rw (low, high, most) x.asks;
+    own = x.own;
+    some = x.some;
+    right = λ b run e hold ps spelled.
+        let v : (length r.taken.items ≤ r.most) × HasVisited b (bounds_of r) r.taken.items (waiting_of r) leaves = x.visited b run e hold in
+        rw (low, high, most, taken) (ap ManyPairs (go b v.0 v.1 why ps spelled));
+  }
+    where
+      go : (b : History) → length r.taken.items ≤ r.most → HasVisited b (bounds_of r) r.taken.items (waiting_of r) leaves → (r.waiting.items ≡ []) ⊎ ((r.most ≤ length r.taken.items) ⊎ (leaves ≡ 0)) → (ps : List Pair) → Spells c.layout (value b) ps → range r.low r.high r.most ps ≡ r.taken.items
+      go b room v (inl none) = ends_all c.layout b (bounds_of r) r.taken.items (waiting_of r) leaves v room (ap reverse none)
+      go b room v (inr (inl full)) = ends_full c.layout b (bounds_of r) r.taken.items (waiting_of r) leaves v room (omega (arith, room, full))
+      go b room v (inr (inr last)) = ends_last c.layout b (bounds_of r) r.taken.items (waiting_of r) leaves v room last
+
+-- the next path takes no more steps than those that are left behind this one
+pub next_path : (leaves nodes : ℕ) → leaves - 1 ≢ 0 → 67 * (1 + nodes - 0) + (leaves - 1 - 1) * (67 * (2 + nodes)) ≤ (leaves - 1) * (67 * (2 + nodes))
+next_path leaves nodes d =
+    let one : suc (leaves - 1 - 1) * (67 * (2 + nodes)) ≤ (leaves - 1) * (67 * (2 + nodes)) = mul-le-mul_right (67 * (2 + nodes)) (omega (arith, d)) in
+    let e : suc (leaves - 1 - 1) * (67 * (2 + nodes)) ≡ (leaves - 1 - 1) * (67 * (2 + nodes)) + 67 * (2 + nodes) = suc-mul (leaves - 1 - 1) (67 * (2 + nodes)) in
+    close ((leaves - 1 - 1) * (67 * (2 + nodes))) ((leaves - 1) * (67 * (2 + nodes))) (rw e at one)
+  where
+    close : (a b : ℕ) → a + 67 * (2 + nodes) ≤ b → 67 * (1 + nodes - 0) + a ≤ b
+    close a b i = omega (arith, i)
+
+pub none_left : {A : Type 0} (items : List A) → length items ≡ 0 → items ≡ []
+none_left [] e = refl
+none_left (a ∷ items) e = absurd (omega (arith, e))

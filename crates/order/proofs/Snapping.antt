@@ -1,0 +1,87 @@
+-- One snapshot more: what it says of the children of its node, and what holds as long as the infos
+-- are what was found.
+use Rattle.std.proofs.Common.{◌≡◌, ℕ, zero, suc, ◌<◌, ◌⊎◌, false, List, [], ◌∷◌, ◌++◌, length, inl, inr, ⊎_elim, refl, sym, subst, arith}
+use Rattle.arena.specs.declared.word.Side.{Side}
+use Rattle.arena.specs.Words.{child, info, marked}
+use Rattle.arena.specs.History.{History, value, Extends}
+use Rattle.arena.specs.Machines.{Call}
+use Rattle.arena.proofs.Lemmas.{ends_self}
+use Rattle.prims.specs.Laws.InTheWay.{been_now}
+use Rattle.prims.specs.Laws.Linked.{IsLinked, linked_since}
+use Rattle.prims.specs.Llx.Known.{IsSnapshot}
+use Rattle.prims.specs.Snap.{child_of, snap_at}
+use Rattle.prims.specs.declared.snap.Snap.{Snap}
+use Rattle.ordered_map.specs.Runs.{IsTreeRun}
+use Rattle.ordered_map.specs.TreeWords.{is_leaf, level}
+use Rattle.ordered_map.proofs.Lemmas.{child_not_final, child_stood, levels_rise}
+use Rattle.order.specs.Reads.{AreSnapped, HasSnapped, Reads, AllHold, HasStood}
+
+-- a place in the longer list is one of the shorter, or the last
+at_end : (snaps : List Snap) (s : Snap) (i : ℕ) → i < length (snaps ++ s ∷ []) → ((i < length snaps) × (snap_at (snaps ++ s ∷ []) i ≡ snap_at snaps i)) ⊎ ((i ≡ length snaps) × (snap_at (snaps ++ s ∷ []) i ≡ s))
+at_end [] s zero p = inr (refl, refl)
+at_end [] s (suc i) p = absurd (omega (arith, p))
+at_end (t ∷ snaps) s zero p = inl (omega arith, refl)
+at_end (t ∷ snaps) s (suc i) p = ⊎_elim (λ x. inl ((let y = x.0 in omega (arith, y)), x.1)) (λ x. inr ((let y = x.0 in omega (arith, y)), x.1)) (at_end snaps s i (omega (arith, p)))
+
+at_first : (snaps : List Snap) (s : Snap) (i : ℕ) → i < length snaps → (i < length (snaps ++ s ∷ [])) × (snap_at (snaps ++ s ∷ []) i ≡ snap_at snaps i)
+at_first [] s i p = absurd (omega (arith, p))
+at_first (t ∷ snaps) s zero p = (omega arith, refl)
+at_first (t ∷ snaps) s (suc i) p =
+    let x : (i < length (snaps ++ s ∷ [])) × (snap_at (snaps ++ s ∷ []) i ≡ snap_at snaps i) = at_first snaps s i (omega (arith, p)) in
+    ((let y = x.0 in omega (arith, y)), x.1)
+
+at_last : (snaps : List Snap) (s : Snap) → (length snaps < length (snaps ++ s ∷ [])) × (snap_at (snaps ++ s ∷ []) (length snaps) ≡ s)
+at_last [] s = (omega arith, refl)
+at_last (t ∷ snaps) s =
+    let x : (length snaps < length (snaps ++ s ∷ [])) × (snap_at (snaps ++ s ∷ []) (length snaps) ≡ s) = at_last snaps s in
+    ((let y = x.0 in omega (arith, y)), x.1)
+
+pub some_more : (snaps : List Snap) (s : Snap) → 0 < length (snaps ++ s ∷ [])
+some_more [] s = omega arith
+some_more (t ∷ snaps) s = omega arith
+
+-- where the infos of the longer list hold, those of the shorter do
+pub hold_before : (b : History) (snaps : List Snap) (s : Snap) → AllHold b (snaps ++ s ∷ []) → AllHold b snaps
+hold_before b snaps s x i p =
+    let y : (i < length (snaps ++ s ∷ [])) × (snap_at (snaps ++ s ∷ []) i ≡ snap_at snaps i) = at_first snaps s i p in
+    subst (λ (t : Snap). value b (info t.node.0) ≡ t.scx.0) y.1 (x i y.0)
+
+-- and the last one
+hold_last : (b : History) (snaps : List Snap) (s : Snap) → AllHold b (snaps ++ s ∷ []) → value b (info s.node.0) ≡ s.scx.0
+hold_last b snaps s x =
+    let y : (length snaps < length (snaps ++ s ∷ [])) × (snap_at (snaps ++ s ∷ []) (length snaps) ≡ s) = at_last snaps s in
+    subst (λ (t : Snap). value b (info t.node.0) ≡ t.scx.0) y.1 (x (length snaps) y.0)
+
+module _ (c : Call) (h : History) (snaps : List Snap) (snap : Snap) (reads : Reads c h snaps) (is : IsSnapshot c.layout h snap.node.0 snap) where
+  snapped_one_more : AreSnapped c h (snaps ++ snap ∷ [])
+  snapped_one_more i p = ⊎_elim (λ q. subst (HasSnapped c h) (sym q.1) (reads.snapped i q.0)) (λ q. subst (HasSnapped c h) (sym q.1) now) (at_end snaps snap i p)
+    where
+      now : HasSnapped c h snap
+      now = record { moment = h; within = ends_self h; since = reads.since; is = is }
+
+  -- the read goes on with the longer list
+  pub reads_one_more : Reads c h (snaps ++ snap ∷ [])
+  reads_one_more = record { run = reads.run; since = reads.since; over = reads.over; quiet = reads.quiet; snapped = snapped_one_more }
+
+  module _ (stood : HasStood c h snap.node.0) (fork : is_leaf (value h) snap.node.0 ≡ false) where
+    -- a child of the node has stood in the tree, too
+    pub child_there : (s : Side) → HasStood c h (child_of snap s).0
+    child_there s = subst (HasStood c h) (is.linked.fields s is.info) record {
+      stood = child_stood c.layout h h snap.node.0 s reads.run (ends_self h) stood.stood is.not_final fork;
+      not_final = been_now h c.start _ reads.since (child_not_final c.layout h snap.node.0 s reads.run stood.stood is.not_final fork);
+    }
+
+    -- on a level above its own
+    pub child_rises : (s : Side) → level (value h) snap.node.0 < level (value h) (child_of snap s).0
+    child_rises s = subst (λ n. level (value h) snap.node.0 < level (value h) n) (is.linked.fields s is.info) (levels_rise c.layout h snap.node.0 s reads.run stood.stood fork)
+
+    -- at a moment at which all infos still hold
+    module _ (b : History) (run : IsTreeRun c.layout b) (e : Extends b h) (hold : AllHold b (snaps ++ snap ∷ [])) where
+      linked : IsLinked c.layout b snap
+      linked = linked_since c.layout b h snap run.1.lawful e is.linked
+
+      pub unmarked_then : value b (marked snap.node.0) ≡ 0
+      unmarked_then = linked.unmarked (hold_last b snaps snap hold)
+
+      pub field_then : (s : Side) → value b (child snap.node.0 s) ≡ (child_of snap s).0
+      field_then s = linked.fields s (hold_last b snaps snap hold)
