@@ -22,7 +22,7 @@ use Rattle.order.specs.Found.{AreThere, GoesTo, HasKey, HasLowHead, IsReading, I
 use Rattle.order.specs.Laws.Search.{IsFirstBehind}
 use Rattle.order.specs.Next.{MayValidate}
 use Rattle.order.specs.Reads.{Whenever}
-use Rattle.order.specs.Successor.{IsOnRoute, LooksOnRoute, asks_key, behind_leaf, behind_path, children_below, successor_means}
+use Rattle.order.specs.Successor.{IsOnRoute, LooksOnRoute, asks_key, behind_leaf, behind_path, children_below, route_below, second_path_left, successor_means}
 use Rattle.order.specs.declared.read.Children.{Children}
 use Rattle.order.specs.declared.read.Children.TheVariants.{Left, Right, Both}
 use Rattle.order.specs.declared.successor.Route.{Route}
@@ -55,7 +55,7 @@ no_child : (P : Type 0) (a b : Children) → a ≢ b → a ≡ b → P
 no_child P a b d e = absurd (d e)
 
 module _ (k : ℕ) (b : History) (n : ℕ) (fork : is_leaf (value b) n ≡ false) (unmarked : value b (marked n) ≡ 0) where
-  left_searched : (right : ℕ) → (route : Route) → value b (child n sides.Right) ≡ right → LooksOnRoute route b k n Both → IsOnRoute (Along record { 0 = right }) b k (value b (child n sides.Left))
+  left_searched : (right : NodeNo) → (route : Route) → value b (child n sides.Right) ≡ right.0 → LooksOnRoute route b k n Both → IsOnRoute (route_below route right) b k (value b (child n sides.Left))
   left_searched right Above e x = rw e at (begins_below b k n (x.2 unmarked) fork x.1)
   left_searched right (Along before) e x = rw e at (goes_left b k n before.0 x.1 fork x.0)
   left_searched right Beyond e x = absurd (let d : Both ≡ Left = x.0 in cc)
@@ -71,20 +71,17 @@ module _ (k : ℕ) (b : History) (n : ℕ) (fork : is_leaf (value b) n ≡ false
   right_searched Beyond x = absurd (let d : Right ≡ Left = x.0 in cc)
 
 module _ (r : Successor) (left right : NodeNo) where
+  right_waits : (c : Call) (h : History) (route : Route) → IsThere c h right → AreThere c h (behind_path (route_below route right))
+  right_waits c h Above there = (there, tt)
+  right_waits c h (Along before) there = (there, tt)
+  right_waits c h Beyond there = tt
+
   -- the right child waits where it goes on to the left one of both
-  pub both_go : GoesTo successor_means r (record r { route = Along right }) Both left right left
+  pub both_go : GoesTo successor_means r (record r { route = route_below r.route right }) Both left right left
   both_go = record {
     one = inl refl;
-    waits = λ c h before there. (there, tt);
-    below = λ lay b n run fork unmarked to_left to_right x. subst (IsOnRoute (Along right) b r.key) to_left (left_searched r.key b n fork unmarked right.0 r.route to_right x);
-  }
-
-  -- behind the path it goes left alone
-  pub beyond_goes : (children : Children) → r.route ≡ Beyond → GoesTo successor_means r r children left right left
-  beyond_goes children is = record {
-    one = inl refl;
-    waits = λ c h before there. before;
-    below = λ lay b n run fork unmarked to_left to_right x. subst (λ route. IsOnRoute route b r.key left.0) (sym is) (rw to_left at (first_left b r.key n (subst (λ route. LooksOnRoute route b r.key n children) is x).1 fork));
+    waits = λ c h before there. right_waits c h r.route there;
+    below = λ lay b n run fork unmarked to_left to_right x. subst (IsOnRoute (route_below r.route right) b r.key) to_left (left_searched r.key b n fork unmarked right r.route to_right x);
   }
 
   pub left_goes : GoesTo successor_means r r Left left right left
@@ -100,6 +97,12 @@ module _ (r : Successor) (left right : NodeNo) where
     waits = λ c h before there. before;
     below = λ lay b n run fork unmarked to_left to_right x. subst (IsOnRoute r.route b r.key) to_right (right_searched r.key b n fork unmarked r.route x);
   }
+
+-- with no more steps left than before
+pub both_near : (route : Route) (right : NodeNo) (nodes : ℕ) → second_path_left (route_below route right) nodes ≤ second_path_left route nodes
+both_near Above right nodes = omega arith
+both_near (Along before) right nodes = omega arith
+both_near Beyond right nodes = omega arith
 
 -- What its tests say of a head
 

@@ -135,7 +135,6 @@ module _ {R A : Type 0} (means : ReadMeaning R A) (m : ReadRun R) where
     pub begins_root : BeginsAtRoot means m.read → now ≡ record m { at = Root } → turn ≡ Ask (load LoadSettled (node 0 (Settled HeadWord))) → ReadTurn means c h now turn
     begins_root x is asked = rw (asked, is) (roots_first c begin h try_now none (goes_again old (begun_at c begin) h same none goes) x)
 
-
   pub answers_all : (old : ReadRun R) (c : Call) (begin h : History) → IsSameRead means old m → BeginsTry c h old.limit old.tries → ReadGoes means old (begun_at c begin) h → (answer : A) → BeginsSo means m.read (begins.Answer answer) → ReadAnswers means m c h (Ok answer)
   answers_all old c begin h same try goes answer x = (goes.reads.over, inr x, rw same.1 (tried_before c h old.limit old.tries try))
 

@@ -33,6 +33,11 @@ abbrev pub behind_leaf : Route → ℕ → ℕ → Option NodeNo
 behind_leaf (Along right) k key = if nat_lt k key then None else Some right
 behind_leaf _ k key = None
 
+-- which part of the way is behind a fork at which the path of the key goes left
+abbrev pub route_below : Route → NodeNo → Route
+route_below Beyond right = Beyond
+route_below _ right = Along right
+
 -- the keys of a successor are words
 abbrev pub IsSmallSuccessor : MapCall → Type 0
 IsSmallSuccessor (SuccessorOf key) = key < 2 ^ 64

@@ -83,12 +83,7 @@ pub trait Read {
     /// # Errors
     ///
     /// `NoMemory` where there is none to keep the other.
-    fn looked(
-        &mut self,
-        children: Children,
-        left: NodeNo,
-        right: NodeNo,
-    ) -> Result<NodeNo, Refused>
+    fn looked(&mut self, children: Children, left: NodeNo, right: NodeNo) -> Result<NodeNo, Refused>
         ensures goes_on { GoesBelow means self.old self.new children left right result }
         ensures same { means.call self.new ≡ means.call self.old }
         ensures nearer { (nodes : ℕ) → means.behind self.new nodes ≤ means.behind self.old nodes };

@@ -82,7 +82,6 @@ impl<R: Read + Drop> ReadRun<R> {
     ghost use Rattle.template.specs.Walk.Steps.{walk_left, WalkFits};
     ghost use Rattle.order.specs.Found.{BeginsSo, WalksTo, IsReading, Looks};
     ghost use Rattle.order.specs.Known.{IsLastTurn, IsSameRead, ReadIsReady, ReadTurn, Validates};
-    
     ghost use Rattle.order.specs.Paths.{BeginsNear, ComesNearer, path_left};
     ghost use Rattle.order.specs.Places.{GoesOn, MayGoOn, RunComesNearer};
     ghost use Rattle.order.specs.Replies.{KeepsTries};
@@ -303,11 +302,7 @@ impl<R: Read + Drop> ReadRun<R> {
     }
 
     /// Goes on with what the last step of the VLX found.
-    fn validate_on(
-        &mut self,
-        asked: usize,
-        got: Option<u64>,
-    ) -> Turn<Result<R::Answer, Refused>>
+    fn validate_on(&mut self, asked: usize, got: Option<u64>) -> Turn<Result<R::Answer, Refused>>
         ensures turn { (c : Call) (begin look h : History) → IsInTry c h begin self.old.limit self.old.tries
             → IsReading R.means self.old.read self.old.snaps.items (begun_at c begin) h
             → Validates R.means self.old.read self.old.snaps.items (begun_at c begin) h look → VlxIsReady self.old.snaps.items asked (begun_at c look) h got

@@ -14,11 +14,25 @@ pub enum Route {
     /// At the last fork where the path of the key turns left.
     Above,
     /// Down that path. The first leaf behind it is below the fork `right`, or that itself.
-    Along {
-        right: NodeNo,
-    },
+    Along { right: NodeNo },
     /// Then down to that leaf.
     Beyond,
+}
+
+impl Route {
+    ghost use Rattle.std.specs.Prelude.{◌≡◌};
+    ghost use Rattle.order.specs.Successor.{route_below};
+
+    /// The part behind a fork at which the path of the key goes left, with this right child.
+    #[inline(always)]
+    fn below(self, right: NodeNo) -> Route
+        ensures { result ≡ route_below self right }
+    {
+        match self {
+            Route::Beyond => Route::Beyond,
+            _ => Route::Along { right },
+        }
+    }
 }
 
 /// The pair with the least key above a key, if there is one: a walk to the leaf of the key; LLXs
@@ -91,13 +105,7 @@ impl Successor {
         ensures { result ≡ behind_leaf self.now.route self.now.key key }
     {
         match self.route {
-            Route::Along { right } => {
-                if self.key < key {
-                    None
-                } else {
-                    Some(right)
-                }
-            }
+            Route::Along { right } => { if self.key < key { None } else { Some(right) } }
             _ => None,
         }
     }
@@ -123,14 +131,13 @@ impl Read for Successor {
         left: NodeNo,
         right: NodeNo,
     ) -> Result<NodeNo, Refused> {
-        match (self.route, children) {
-            (Route::Beyond, _) => Ok(left),
-            (_, Children::Both) => {
-                self.route = Route::Along { right };
+        match children {
+            Children::Both => {
+                self.route = self.route.below(right);
                 Ok(left)
             }
-            (_, Children::Left) => Ok(left),
-            (_, Children::Right) => Ok(right),
+            Children::Left => Ok(left),
+            Children::Right => Ok(right),
         }
     }
 
