@@ -221,9 +221,11 @@ replace_is = record {
 
 -- A kind of ordered read is one that a call of the map makes, which only reads.
 pub record IsReadKind (k : ReadKind) : Type 0 where
+  -- it keeps lists, takes no nodes, may begin all its tries, and makes no edit
   pub lists : (r : k.R) → KeepsLists (k.means.call r)
   pub nodes : (r : k.R) → most_nodes (k.means.call r) ≡ 0
   pub tries : (r : k.R) (tries : ℕ) → most_tries (k.means.call r) tries ≡ tries
+  pub small : (r : k.R) → IsSmallCall (k.means.call r)
   pub makes_none : (r : k.R) (told : MapReply) → edit_of (k.means.call r) told ≡ None
   -- it has something to find where its call asks for pairs
   pub asks : (r : k.R) → k.means.asks (k.means.call r) → AsksForPairs (k.means.call r)
@@ -246,6 +248,7 @@ successor_is = record {
   lists = λ r. tt;
   nodes = λ r. refl;
   tries = λ r tries. refl;
+  small = λ r. tt;
   makes_none = λ r told. refl;
   asks = λ r asks. tt;
   finds = λ r asks. tt;
@@ -271,6 +274,7 @@ range_is = record {
   lists = λ r. tt;
   nodes = λ r. refl;
   tries = λ r tries. refl;
+  small = λ r. tt;
   makes_none = λ r told. refl;
   asks = λ r asks. asks;
   finds = λ r asks. asks;
