@@ -1,7 +1,6 @@
 -- What a successor knows one place further.
-use Rattle.std.proofs.Common.{◌≡◌, ◌≢◌, ℕ, ◌<◌, ◌≤◌, ◌⊎◌, Bool, true, false, cond, eqb, ltb, List, [], ◌∷◌, inl, inr, ⊎_elim, refl, sym, ◌∙◌, ap, subst, arith, lt-ltb, ltb-true, ltb-false, eqb-true, eq-eqb, Option, Some, None}
+use Rattle.std.proofs.Common.{◌≡◌, ◌≢◌, ℕ, ◌<◌, ◌≤◌, ◌⊎◌, Bool, true, false, cond, eqb, ltb, List, [], ◌∷◌, inl, inr, refl, sym, ◌∙◌, ap, subst, arith, ltb-true, ltb-false, eqb-true, eq-eqb, Some, None}
 use Rattle.arena.specs.declared.head.Head.{Head as HeadParts}
-use Rattle.arena.specs.declared.layout.Layout.{Layout}
 use Rattle.arena.specs.declared.number.NodeNo.{NodeNo}
 use Rattle.arena.specs.declared.word.NodeWord.TheVariants.{Settled}
 use Rattle.arena.specs.declared.word.SettledPart.TheVariants.{Key as KeyWord, Value as ValueWord}
@@ -12,16 +11,14 @@ use Rattle.arena.specs.History.{History, value, Extends}
 use Rattle.arena.specs.Machines.{Call}
 use Rattle.prims.specs.declared.snap.Snap.{Snap}
 use Rattle.ordered_map.specs.declared.pair.Pair.{Pair}
-use Rattle.ordered_map.specs.OrderedMap.{pair, pair_or_none}
-use Rattle.ordered_map.specs.Paths.{IsOnPath}
+use Rattle.ordered_map.specs.OrderedMap.{pair_or_none}
 use Rattle.ordered_map.specs.Runs.{IsTreeRun}
 use Rattle.ordered_map.specs.TreeWords.{class, is_leaf, level, rank, toward}
-use Rattle.ordered_map.proofs.Lemmas.{root_head, stood_settled, SameSettled, settled_class, settled_leaf, settled_rank}
+use Rattle.ordered_map.proofs.Lemmas.{stood_settled, SameSettled, settled_class, settled_leaf, settled_rank}
 use Rattle.template.specs.Trails.{IsOwnMoment}
-use Rattle.order.specs.Found.{AreThere, GoesTo, HasKey, HasLowHead, IsReading, IsRightAt, IsThere, Looks, Stands, WalksTo, head_at, key_at, value_at}
+use Rattle.order.specs.Found.{AreThere, GoesTo, HasKey, HasLowHead, IsReading, IsThere, Looks, Stands, WalksTo, head_at, key_at, value_at}
 use Rattle.order.specs.Laws.Search.{IsFirstBehind}
 use Rattle.order.specs.Next.{MayValidate}
-use Rattle.order.specs.Reads.{Whenever}
 use Rattle.order.specs.Successor.{IsOnRoute, LooksOnRoute, asks_key, behind_leaf, behind_path, children_below, route_below, second_path_left, successor_means}
 use Rattle.order.specs.declared.read.Children.{Children}
 use Rattle.order.specs.declared.read.Children.TheVariants.{Left, Right, Both}

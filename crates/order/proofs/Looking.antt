@@ -1,13 +1,12 @@
 -- What an ordered read knows one place further, whichever it is.
-use Rattle.std.proofs.Common.{◌≡◌, ℕ, ◌^◌, ◌<◌, ◌≤◌, ◌⊎◌, true, false, List, [], ◌∷◌, ◌++◌, length, inl, inr, ⊎_elim, refl, sym, ◌∙◌, ap, subst, arith, lt-ltb, None}
-use Rattle.arena.specs.declared.head.Head.{Head as HeadParts}
+use Rattle.std.proofs.Common.{◌≡◌, ℕ, ◌^◌, ◌<◌, true, false, List, [], ◌∷◌, ◌++◌, length, inl, inr, ⊎_elim, refl, sym, ◌∙◌, subst, arith, lt-ltb, None}
 use Rattle.arena.specs.declared.number.NodeNo.{NodeNo}
 use Rattle.arena.specs.declared.word.NodeWord.TheVariants.{Settled}
 use Rattle.arena.specs.declared.word.SettledPart.TheVariants.{Head as HeadWord}
 use Rattle.arena.specs.declared.word.Side.{Side}
 use Rattle.arena.specs.declared.word.Side.TheVariants.{Left, Right}
 use Rattle.arena.specs.Words.{node}
-use Rattle.arena.specs.History.{History, value, Extends}
+use Rattle.arena.specs.History.{History, value}
 use Rattle.arena.specs.Machines.{Call, begun_at}
 use Rattle.arena.proofs.Lemmas.{ends_self, ends_trans}
 use Rattle.prims.specs.Laws.Idle.{quiet_at_start, idle_if_finished}
@@ -23,10 +22,9 @@ use Rattle.ordered_map.specs.Paths.{Passed, WasInTree}
 use Rattle.ordered_map.specs.Runs.{IsTreeRun}
 use Rattle.ordered_map.specs.Spelled.{Spells}
 use Rattle.ordered_map.specs.TreeShape.{TreeAllows}
-use Rattle.ordered_map.specs.TreeWords.{is_leaf, level, rank, toward}
-use Rattle.ordered_map.proofs.Lemmas.{passed_unmarked, path_not_final, root_head, run_since, run_spells, stood_settled, walk_first, was_passed, SameSettled, settled_leaf, settled_toward}
+use Rattle.ordered_map.specs.TreeWords.{is_leaf, level, rank}
+use Rattle.ordered_map.proofs.Lemmas.{passed_unmarked, path_not_final, root_head, run_since, run_spells, stood_settled, walk_first, was_passed, settled_leaf, settled_toward}
 use Rattle.template.specs.FoundLeaf.{HasEnded, HasFoundGoal}
-use Rattle.template.specs.Trails.{IsOwnMoment}
 use Rattle.template.specs.declared.walk.Found.{Found}
 use Rattle.template.specs.declared.walk.Goal.TheVariants.{Key as ToKey}
 use Rattle.template.proofs.Lemmas.{own_since, opened_if_stood}

@@ -1,12 +1,11 @@
 -- What a range knows one place further.
-use Rattle.std.proofs.Common.{◌≡◌, ◌≢◌, ℕ, zero, suc, ◌+◌, ◌-◌, ◌*◌, ◌<◌, ◌≤◌, ◌⊎◌, Bool, true, false, ltb, leb, ◌&&◌, List, [], ◌∷◌, ◌++◌, length, reverse, inl, inr, ⊎_elim, refl, sym, ◌∙◌, ap, subst, arith, lt-ltb, le-ltb, le-leb, min, Vec}
+use Rattle.std.proofs.Common.{◌≡◌, ◌≢◌, ℕ, zero, suc, ◌+◌, ◌-◌, ◌*◌, ◌<◌, ◌≤◌, ◌⊎◌, Bool, true, false, ltb, leb, ◌&&◌, List, [], ◌∷◌, ◌++◌, length, reverse, inl, inr, ⊎_elim, refl, sym, ◌∙◌, ap, subst, arith, lt-ltb, le-ltb, min, Vec}
 use Rattle.std.specs.Prelude.{take}
 use Rattle.std.specs.Global.{Global}
 use Rattle.std.proofs.Math.Nat.{suc-mul, mul-le-mul_right}
 use Rattle.std.proofs.lemmas.Bool.Decides.{leb_tells}
 use Rattle.std.proofs.lemmas.List.{reverse-append}
 use Rattle.arena.specs.declared.head.Head.{Head as HeadParts}
-use Rattle.arena.specs.declared.layout.Layout.{Layout}
 use Rattle.arena.specs.declared.number.NodeNo.{NodeNo}
 use Rattle.arena.specs.declared.word.NodeWord.TheVariants.{Settled}
 use Rattle.arena.specs.declared.word.SettledPart.TheVariants.{Key as KeyWord, Value as ValueWord}
@@ -24,8 +23,8 @@ use Rattle.template.specs.Trails.{IsOwnMoment}
 use Rattle.order.specs.Found.{AreThere, BeginsAtRoot, GoesTo, HasKey, HasLowHead, IsReading, IsThere, Looks, Stands, head_at, key_at, value_at}
 use Rattle.order.specs.Next.{MayValidate}
 use Rattle.order.specs.Range.{AreWithin, GoesBehind, Visits, bounds_of, range_means, waiting_of}
-use Rattle.order.specs.Reads.{Whenever, HasStood}
-use Rattle.order.specs.Visits.{IsVisiting, HasVisited}
+use Rattle.order.specs.Reads.{Whenever}
+use Rattle.order.specs.Visits.{HasVisited}
 use Rattle.order.specs.declared.range.Range.{Range}
 use Rattle.order.specs.declared.read.Children.{Children}
 use Rattle.order.specs.declared.read.Children.TheVariants.{Left, Right, Both}

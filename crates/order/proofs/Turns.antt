@@ -38,11 +38,10 @@ use Rattle.template.specs.declared.walk.Goal.TheVariants.{Key as ToKey}
 use Rattle.template.specs.declared.walk.WalkAt.{WalkAt}
 use Rattle.template.specs.declared.walk.WalkAt.TheVariants.{Start as WalkStart, Root as WalkRoot, Head as AtHead, Key as AtKey, Child, Value as AtValue}
 use Rattle.template.specs.declared.walk.WalkRun.{WalkRun}
-use Rattle.order.specs.Found.{BeginsAtRoot, BeginsSo, HasKey, HasLowHead, IsReading, Looks, Stands, WalksTo}
+use Rattle.order.specs.Found.{BeginsAtRoot, BeginsSo, HasKey, HasLowHead, IsReading, Looks, WalksTo}
 use Rattle.order.specs.Known.{IsLastTurn, IsSameRead, ReadAnswers, ReadGoes, ReadIsReady, ReadIsToldAt, ReadTurn, ReadWaits, RunStands, Validates, Walks, WalksInTry}
 use Rattle.order.specs.Laws.Kept.{root_there}
 use Rattle.order.specs.Meaning.{ReadMeaning}
-use Rattle.order.specs.Next.{MayDo}
 use Rattle.order.specs.Paths.{BeginsNear, ComesNearer}
 use Rattle.order.specs.Places.{GoesOn, MayGoOn, RunComesNearer, next_step, placed}
 use Rattle.order.specs.Steps.{ReadFits, ReadFitsAt, ReadIsNearer, last_turn, phase_left, read_left, run_try_left, tries_left}

@@ -19,7 +19,7 @@ use Rattle.histories.proofs.Lemmas.{Facts, IsOwned, Logs, facts, lawful_since, l
 use Rattle.prims.specs.Laws.Idle.{IsQuietSince, out_by_others}
 use Rattle.prims.proofs.Lemmas.{wins_in_progress}
 use Rattle.ordered_map.specs.declared.pair.Pair.{Pair}
-use Rattle.ordered_map.specs.OrderedMap.{MapCall, MapReply, OnePair, ManyPairs, Range, Successor, pair_or_none, range, reply, successor}
+use Rattle.ordered_map.specs.OrderedMap.{MapCall, MapReply, OnePair, ManyPairs, pair_or_none, range, reply, successor}
 use Rattle.ordered_map.specs.Runs.{IsTreeRun}
 use Rattle.ordered_map.specs.Spelled.{Spells}
 use Rattle.ordered_map.proofs.Lemmas.{one_spelling, quiet_spells, run_since}

@@ -1,5 +1,5 @@
 -- From place to place of an ordered read.
-use Rattle.std.specs.Prelude.{◌≡◌, ℕ, ◌+◌, ◌≤◌, length, Result, Ok, Err}
+use Rattle.std.specs.Prelude.{ℕ, ◌+◌, ◌≤◌, length, Result, Ok}
 use Rattle.arena.specs.declared.step.Step.{Step}
 use Rattle.arena.specs.declared.step.Kind.TheVariants.{LoadInfo, LoadMarked, LoadSettled}
 use Rattle.arena.specs.declared.word.NodeWord.TheVariants.{Settled}
@@ -12,8 +12,8 @@ use Rattle.prims.specs.Snap.{snap_at}
 use Rattle.prims.specs.declared.llx.LlxAt.TheVariants.{Marked}
 use Rattle.order.specs.Known.{ReadGoes}
 use Rattle.order.specs.Meaning.{ReadMeaning}
-use Rattle.order.specs.Next.{GoesOnSo, MayDo}
-use Rattle.order.specs.Paths.{ComesNearer, NextFits, next_left}
+use Rattle.order.specs.Next.{GoesOnSo}
+use Rattle.order.specs.Paths.{NextFits, next_left}
 use Rattle.order.specs.Tries.{IsInTry}
 use Rattle.order.specs.declared.read.ReadNext.{ReadNext}
 use Rattle.order.specs.declared.read.ReadNext.TheVariants.{Head as HeadNext, Key as KeyNext, Value as ValueNext, Look as LookNext, Validate as ValidateNext}

@@ -6,7 +6,6 @@ use Rattle.arena.specs.declared.number.NodeNo.{NodeNo}
 use Rattle.arena.specs.declared.step.Row.{Row}
 use Rattle.arena.specs.declared.step.Step.{Step}
 use Rattle.arena.specs.declared.step.Kind.TheVariants.{Fill, LoadSettled}
-use Rattle.arena.specs.declared.word.NodeWord.{NodeWord}
 use Rattle.arena.specs.declared.word.NodeWord.TheVariants.{Settled}
 use Rattle.arena.specs.declared.word.SettledPart.{SettledPart}
 use Rattle.arena.specs.declared.word.SettledPart.TheVariants.{Head as HeadWord, Key as KeyWord, Value as ValueWord}
@@ -36,7 +35,7 @@ use Rattle.template.specs.declared.walk.WalkAt.{WalkAt}
 use Rattle.template.specs.declared.walk.WalkAt.TheVariants as places
 use Rattle.template.specs.declared.walk.WalkRun.{WalkRun}
 use Rattle.template.proofs.Lemmas.{BeginsNoTry, llx_begins_none, others_begin_none, own_begins, own_begins_none, vlx_begins_none, walk_begins_none, walk_fills_not, stood_inside}
-use Rattle.order.specs.Found.{AreThere, HasKey, HasLowHead, IsReading, IsThere, Looks, Stands}
+use Rattle.order.specs.Found.{AreThere, HasKey, HasLowHead, Looks}
 use Rattle.order.specs.Known.{BeginsHere, IsLastTurn, ReadGoes, ReadIsReady, ReadIsToldAt, ReadWaits, ReadWaitsAt, RunStands, StandsInTry, Validates, Walks, WalksInTry}
 use Rattle.order.specs.Laws.Depth.{fork_depth, head_fits}
 use Rattle.order.specs.Laws.Kept.{begins_more, head_begins_none, in_try_more, in_try_now, reads_anew, root_there, stood_more, whenever_more, reads_more, settled_more, word_begins_none}

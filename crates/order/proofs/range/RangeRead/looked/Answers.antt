@@ -1,4 +1,4 @@
-use Rattle.std.proofs.Common.{◌≡◌, true, is_ok, not, [], ◌∷◌, ◌++◌, ap, ◌∙◌}
+use Rattle.std.proofs.Common.{◌≡◌, true, is_ok, not, ap, ◌∙◌}
 use Rattle.order.proofs.RangeVisits.{both_go, left_goes, right_goes}
 use Rattle.order.proofs.range.RangeRead.looked.Goals as goal
 

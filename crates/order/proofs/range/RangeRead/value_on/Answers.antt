@@ -1,4 +1,4 @@
-use Rattle.std.proofs.Common.{◌≡◌, true, is_ok, not, [], ◌∷◌, ◌++◌, ap, ◌∙◌}
+use Rattle.std.proofs.Common.{◌≡◌, true, is_ok, not, ap, ◌∙◌}
 use Rattle.order.proofs.RangeVisits.{pair_taken}
 use Rattle.order.proofs.range.RangeRead.value_on.Goals as goal
 

@@ -1,4 +1,4 @@
-use Rattle.std.proofs.Common.{◌≡◌, true, is_ok, not, [], ◌∷◌, ◌++◌, refl, ap, ◌∙◌}
+use Rattle.std.proofs.Common.{◌≡◌, true, is_ok, not, [], ◌∷◌, ◌++◌, ap, ◌∙◌}
 use Rattle.order.proofs.Looking.{reads_on, stands_below}
 use Rattle.order.proofs.run.ReadRun.looked.Goals as goal
 

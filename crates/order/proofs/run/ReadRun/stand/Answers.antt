@@ -1,4 +1,4 @@
-use Rattle.std.proofs.Common.{inl, refl, arith}
+use Rattle.std.proofs.Common.{inl, refl}
 use Rattle.arena.specs.Machines.{begun_at}
 use Rattle.order.specs.Places.{RunComesNearer}
 use Rattle.order.specs.declared.read.ReadNext.TheVariants.{Head, Key, Value, Look}

@@ -1,8 +1,7 @@
-use Rattle.std.proofs.Common.{◌≡◌, refl, sym, ◌∙◌, ap}
+use Rattle.std.proofs.Common.{refl, sym, ◌∙◌, ap}
 use Rattle.arena.specs.Heads.{head_of}
 use Rattle.arena.specs.Machines.{begun_at}
-use Rattle.order.specs.declared.run.ReadAt.TheVariants.{Start, Walk, Root, Look, Head, Key, Value, Validate}
-use Rattle.order.proofs.Blaming.{keeps_wider, try_as}
+use Rattle.order.proofs.Blaming.{keeps_wider}
 use Rattle.order.proofs.Nearer.{below, from_head, from_key, from_root}
 use Rattle.order.proofs.Turns.{at_start, at_walk, at_root, at_look, at_head, at_key, at_value, at_validate, fits_at, all_taken, goes_read, goes_taken, left_as, left_at}
 use Rattle.order.proofs.run.ReadRun.step.Goals as goal

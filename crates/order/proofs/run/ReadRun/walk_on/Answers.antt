@@ -1,8 +1,6 @@
 use Rattle.std.proofs.Common.{arith}
 use Rattle.arena.specs.Machines.{begun_at}
-use Rattle.arena.proofs.Lemmas.{ends_self}
 use Rattle.template.proofs.Lemmas.{walk_past_root}
-use Rattle.order.proofs.Looking.{walk_found}
 use Rattle.order.proofs.Nearer.{less_walk}
 use Rattle.order.proofs.Turns.{found_looks, stands_there, stands_nearer, walk_waits}
 use Rattle.order.specs.declared.read.Children.TheVariants.{Both}
