@@ -7,7 +7,7 @@ use Rattle.arena.specs.declared.limits.Mode.TheVariants.{Tree}
 use Rattle.arena.specs.History.{History, Extends}
 use Rattle.arena.specs.Share.{Remaining}
 use Rattle.std.specs.Prelude.{Result, Ok, Err, IfOk, IfSome}
-use Rattle.ordered_map.specs.OrderedMap.{MapCall, PopFirst, Range, MapReply}
+use Rattle.ordered_map.specs.OrderedMap.{MapCall, Edit, Get, PopFirst, Range, ReplaceIf, Successor, MapReply}
 use Rattle.ordered_map.specs.Runs.{IsTreeRun}
 use Rattle.prims.specs.Laws.Begun.{taken_since}
 use Rattle.prims.specs.Shares.{IsShare}
@@ -21,7 +21,7 @@ use Rattle.dict.specs.DictKnown.{DictIsReady, DictWaits, DictAnswers, DictRefuse
 use Rattle.dict.specs.Known.{IsUnbegun}
 use Rattle.dict.specs.Laws.OneShare.{one_share}
 use Rattle.dict.proofs.Lemmas.{was_contended}
-use Rattle.dict.specs.Says.{TellsOfMap}
+use Rattle.dict.specs.Says.{KeepsLists, TellsOfMap}
 use Rattle.dict.specs.Typed.{IsTypedCall, TypedAllows}
 use Rattle.dict.specs.Laws.TypedMaps.{typed_run}
 use Rattle.dict.specs.Laws.Kinds.{IsEditing}
@@ -36,7 +36,7 @@ use Rattle.ordered_map.specs.declared.reply.Reply.TheVariants as replies
 use Rattle.forest.specs.declared.view.SeatView.{SeatView}
 use Rattle.forest.specs.declared.pass.Pass.TheInside.{Inside}
 use Rattle.forest.specs.Dictionary.{IsToldOf, IsRefusalOf, HasSpentAtMost, PopSays, UpdateSays, blamed_by_reply, blamed_by_update, popped_reply, update_reply}
-use Rattle.forest.specs.StraightCalls.{IsFreshEdit, IsSameDictCall}
+use Rattle.forest.specs.StraightCalls.{IsFreshCall, IsSameDictCall, SeatCallBegins}
 use Rattle.forest.specs.declared.fault.UpdateFault.{UpdateFault}
 use Rattle.forest.specs.declared.fault.UpdateFault.TheVariants as faults
 use Rattle.forest.specs.Passes.{PassView, HasBlamed, HasGoneOn, run_of, taken_of}
@@ -111,13 +111,26 @@ module _ {K V : Type 0} (valid_key : K → Type 0) (key : K → ℕ) (valid_valu
       rests : RestsWith (call_of p x (taken_of (pass_view p))) (call_of p x (taken_of (pass_view p))).start p.share
       rests = record { share = x.rest.share; over = all_over p.layout _ p.number.0 p.share p.share.next_node p.share.next_scx x.rest.share x.rest.over }
 
+  -- an ordered read is of a typed call
+  pub typed_read : (call : MapCall) → KeepsLists call → IsTypedCall keys values call
+  typed_read (Successor key) x = tt
+  typed_read (Range low high most) x = tt
+  typed_read (Edit e) x = absurd x
+  typed_read PopFirst x = absurd x
+  typed_read (ReplaceIf key expected value) x = absurd x
+  typed_read (Get key) x = absurd x
+
   -- so may the machine of a request
   pub request_starts : {T : Type 0} (p : Inside T) (x : IsPass allows Tree p) (m : DictRun K V) (request : Request K V) (tries number : ℕ) → taken_of (pass_view p) ≡ number → call_in m.run ≡ as_map_call key value_word request → IsTypedCall keys values (call_in m.run) → m.tries ≡ tries → IsUnbegun m.run tries number → AsksForFew request → share_of m.run ≡ p.share → CallBegins allows (DictIsReady keys values) (call_of p x (taken_of (pass_view p))) p.seat.me.0.passes m
   request_starts p x m request tries number named call typed same fresh few share = dict_starts p x m typed (rw (same, named) fresh) (few_of key value_word request (call_in m.run) call few) share
 
-  -- and so may a machine of a call that may edit
-  pub edit_starts : {T : Type 0} (p : Inside T) (x : IsPass allows Tree p) (m : DictRun K V) (call : MapCall) (tries number : ℕ) → taken_of (pass_view p) ≡ number → IsTypedCall keys values call → IsFewCall call → IsFreshEdit call p.share tries number m → CallBegins allows (DictIsReady keys values) (call_of p x (taken_of (pass_view p))) p.seat.me.0.passes m
-  edit_starts p x m call tries number named typed few fresh = dict_starts p x m (rw fresh.is_call typed) (rw (fresh.has_tries, named) fresh.unbegun) (rw fresh.is_call few) fresh.has_share
+  -- and so may a machine of a call of its own
+  pub call_starts : {T : Type 0} (p : Inside T) (x : IsPass allows Tree p) (m : DictRun K V) (call : MapCall) (tries number : ℕ) → taken_of (pass_view p) ≡ number → IsTypedCall keys values call → IsFewCall call → IsFreshCall call p.share tries number m → CallBegins allows (DictIsReady keys values) (call_of p x (taken_of (pass_view p))) p.seat.me.0.passes m
+  call_starts p x m call tries number named typed few fresh = dict_starts p x m (rw fresh.is_call typed) (rw (fresh.has_tries, named) fresh.unbegun) (rw fresh.is_call few) fresh.has_share
+
+  -- so may any machine of an ordered read that has not begun
+  pub read_starts : {T : Type 0} (p : Inside T) (x : IsPass allows Tree p) (request : Request K V) (tries number : ℕ) → taken_of (pass_view p) ≡ number → KeepsLists (as_map_call key value_word request) → AsksForFew request → SeatCallBegins valid_key key valid_value value_word (call_of p x (taken_of (pass_view p))) p.seat.me.0.passes (as_map_call key value_word request) p.share tries number
+  read_starts p x request tries number named ordered few = λ first fresh. call_starts p x first (as_map_call key value_word request) tries number named (typed_read (as_map_call key value_word request) ordered) (few_of key value_word request (as_map_call key value_word request) refl few) fresh
 
   module _ {T : Type 0} (p : Inside T) (x : IsPass allows Tree p) (s : Seat ℕ SeatView) (m : DictRun K V) (reply : Reply K V) where
     -- the number of the call

@@ -1,15 +1,20 @@
 -- Whole calls of a dictionary whose updates are straight.
 use Rattle.std.specs.Global.{Global}
 use Rattle.std.specs.Prelude.{Result, Vec}
-use Rattle.std.proofs.Common.{◌≡◌, ℕ, zero, suc, ◌+◌, ◌*◌, ◌-◌, ◌<◌, ◌≤◌, List, Option, None, refl, sym, subst, ap, arith, ◌∙◌}
+use Rattle.std.proofs.Common.{◌≡◌, ℕ, zero, suc, ◌+◌, ◌*◌, ◌^◌, ◌-◌, ◌<◌, ◌≤◌, List, [], Option, None, refl, sym, subst, ap, arith, ◌∙◌}
 use Rattle.arena.specs.declared.layout.Layout.{Layout}
 use Rattle.arena.specs.declared.step.Step.{Step}
 use Rattle.arena.specs.History.{History}
 use Rattle.arena.specs.Machines.{Call}
 use Rattle.arena.specs.Share.{Remaining}
+use Rattle.arena.specs.declared.number.NodeNo.{NodeNo}
+use Rattle.prims.specs.declared.snap.Snap.{Snap}
 use Rattle.order.specs.Range.Known.{IsSameRange}
+use Rattle.order.specs.Range.Steps.{range_left, range_phase_left, range_try_left}
+use Rattle.order.specs.declared.range.RangeAt.TheVariants.{Start as VisitStart}
 use Rattle.order.specs.declared.range.RangeRun.{RangeRun}
 use Rattle.order.specs.declared.refused.Refused.{Refused}
+use Rattle.order.specs.declared.successor.SuccessorAt.TheVariants.{Start as SearchStart}
 use Rattle.order.specs.declared.successor.SuccessorRun.{SuccessorRun}
 use Rattle.ordered_map.specs.declared.pair.Pair.{Pair}
 use Rattle.ordered_map.specs.OrderedMap.{Successor as SuccessorCall, Range as RangeCall}
@@ -36,7 +41,7 @@ use Rattle.ordered_map.specs.declared.reply.Reply.{Reply}
 use Rattle.dict.specs.declared.told.WordReply.{WordReply}
 use Rattle.dict.proofs.Lemmas.{edit_goes, edit_ends, successor_ends, range_ends, dict_ends}
 use Rattle.forest.specs.declared.view.SeatedPass.{SeatedPass}
-use Rattle.forest.specs.StraightCalls.{DictAllows, DictCallIsReady, DictCallWaits, IsSameDictCall, SeatDictBegins, SeatDictEnds, SeatWordEnds, IsFreshEdit}
+use Rattle.forest.specs.StraightCalls.{DictAllows, DictCallIsReady, DictCallWaits, IsSameDictCall, SeatDictBegins, SeatDictEnds, SeatWordEnds, IsFreshCall}
 use Rattle.forest.specs.StraightReads.{RangeReader, SearchBegins, SearchEnds, SuccessorReader, VisitBegins, VisitEnds}
 use Rattle.forest.specs.StraightUpdate.{Updater, HasUpdateGoneOn, UpdaterBegins, UpdaterEnds}
 use Rattle.forest.specs.TableRule.{history_of}
@@ -125,7 +130,7 @@ module _ {K V : Type 0} (valid_key : K → Type 0) (key : K → ℕ) (valid_valu
     abbrev searching : Remaining → SuccessorRun → DictRun K V
     searching share m = record machine { run = Successor m share }
 
-    pub searcher : Remaining → SuccessorReader (dict_calls layout number)
+    pub searcher : Remaining → Reader (dict_calls layout number) successor_kind.means
     searcher share = record {
       call = c;
       is_layout = is_layout;
@@ -135,23 +140,23 @@ module _ {K V : Type 0} (valid_key : K → Type 0) (key : K → ℕ) (valid_valu
       with_run = searching share;
       opens = λ m h s x. x.1.1.0;
       tells = λ m h got x. x.1.1.0;
-      turns = λ old now h got s is x w. (tt, (record { mode = x.1.0.mode; small = tt; number = tt; limit = is.1 ∙ x.1.0.limit; spent = x.1.0.spent }, (w, x.1.1.1)));
-      stays = λ old now is. (ap SuccessorCall is.0, refl, (is.2, is.3));
+      turns = λ old now h got s is x w. (tt, (record { mode = x.1.0.mode; small = tt; number = tt; limit = is.1 ∙ x.1.0.limit; spent = subst (λ k. HasSpent c c.start k machine.tries share) (sym is.0) x.1.0.spent }, (w, x.1.1.1)));
+      stays = λ old now is. (is.0, refl, (is.2, is.3));
     }
 
-    pub search_begins : (ps : List SeatedPass) (share : Remaining) (m : SuccessorRun) → machine.run ≡ Successor m share → SeatDictBegins valid_key key valid_value value_word c ps machine → SearchBegins (searcher share) ps m
+    pub search_begins : (ps : List SeatedPass) (share : Remaining) (m : SuccessorRun) → machine.run ≡ Successor m share → SeatDictBegins valid_key key valid_value value_word c ps machine → ReaderBegins (searcher share) ps m
     unfolding searcher
     search_begins ps share m is x = record { known = x.known; is = x.is; sound = x.sound; so = (subst (λ r. ready (record machine { run = r }) c (history_of c.layout.mode x.known) None) is x.so.1, begins (λ i. record machine { run = sym is i }) (sym x.so.0)) }
 
-    pub search_ended : (ps : List SeatedPass) (share : Remaining) (m : SuccessorRun) (a : Result (Option Pair) Refused) → SearchEnds (searcher share) ps m a → ends c ps machine (searching share m) (successor_reply a)
+    pub search_ended : (ps : List SeatedPass) (share : Remaining) (m : SuccessorRun) (a : Result (Option Pair) Refused) → ReaderEnds (searcher share) ps m a → ends c ps machine (searching share m) (read_reply successor_kind.tells a)
     unfolding searcher
     search_ended ps share m a x = let y = x.so in record {
       known = x.known;
       is = x.is;
       sound = x.sound;
       so = (
-        (y.was.1.0.mode, successor_ends machine.tries c _ m share a y.was.1.1.1 y.was.1.0.spent (y.goes.1 ∙ y.was.1.0.limit) y.answers),
-        goes_on (searching share y.old) (ap SuccessorCall y.goes.0, refl, (y.goes.2, y.goes.3)) y.course,
+        (y.was.1.0.mode, read_ends machine.tries c _ successor_kind successor_is m share a y.was.1.1.1 y.was.1.0.spent (y.goes.1 ∙ y.was.1.0.limit) y.answers),
+        goes_on (searching share y.old) (y.goes.0, refl, (y.goes.2, y.goes.3)) y.course,
       );
     }
 
@@ -160,10 +165,7 @@ module _ {K V : Type 0} (valid_key : K → Type 0) (key : K → ℕ) (valid_valu
     abbrev ranging : Remaining → RangeRun → DictRun K V
     ranging share m = record machine { run = Range m share }
 
-    range_call : (old now : RangeRun) → IsSameRange old now → RangeCall now.low now.high now.most ≡ RangeCall old.low old.high old.most
-    range_call old now is i = RangeCall (is.0 i) (is.1 i) (is.2 i)
-
-    pub ranger : Remaining → RangeReader (dict_calls layout number)
+    pub ranger : Remaining → Reader (dict_calls layout number) range_kind.means
     ranger share = record {
       call = c;
       is_layout = is_layout;
@@ -173,23 +175,23 @@ module _ {K V : Type 0} (valid_key : K → Type 0) (key : K → ℕ) (valid_valu
       with_run = ranging share;
       opens = λ m h s x. x.1.1.0;
       tells = λ m h got x. x.1.1.0;
-      turns = λ old now h got s is x w. (tt, (record { mode = x.1.0.mode; small = tt; number = tt; limit = is.3 ∙ x.1.0.limit; spent = x.1.0.spent }, (w, x.1.1.1)));
-      stays = λ old now is. (range_call old now is, refl, (is.4, is.5));
+      turns = λ old now h got s is x w. (tt, (record { mode = x.1.0.mode; small = tt; number = tt; limit = is.1 ∙ x.1.0.limit; spent = subst (λ k. HasSpent c c.start k machine.tries share) (sym is.0) x.1.0.spent }, (w, x.1.1.1)));
+      stays = λ old now is. (is.0, refl, (is.2, is.3));
     }
 
-    pub range_begins : (ps : List SeatedPass) (share : Remaining) (m : RangeRun) → machine.run ≡ Range m share → SeatDictBegins valid_key key valid_value value_word c ps machine → VisitBegins (ranger share) ps m
+    pub range_begins : (ps : List SeatedPass) (share : Remaining) (m : RangeRun) → machine.run ≡ Range m share → SeatDictBegins valid_key key valid_value value_word c ps machine → ReaderBegins (ranger share) ps m
     unfolding ranger
     range_begins ps share m is x = record { known = x.known; is = x.is; sound = x.sound; so = (subst (λ r. ready (record machine { run = r }) c (history_of c.layout.mode x.known) None) is x.so.1, begins (λ i. record machine { run = sym is i }) (sym x.so.0)) }
 
-    pub range_ended : (ps : List SeatedPass) (share : Remaining) (m : RangeRun) (a : Result (Vec Pair Global) Refused) → VisitEnds (ranger share) ps m a → ends c ps machine (ranging share m) (range_reply a)
+    pub range_ended : (ps : List SeatedPass) (share : Remaining) (m : RangeRun) (a : Result (Vec Pair Global) Refused) → ReaderEnds (ranger share) ps m a → ends c ps machine (ranging share m) (read_reply range_kind.tells a)
     unfolding ranger
     range_ended ps share m a x = let y = x.so in record {
       known = x.known;
       is = x.is;
       sound = x.sound;
       so = (
-        (y.was.1.0.mode, range_ends machine.tries c _ m share a y.was.1.1.1 y.was.1.0.spent (y.goes.3 ∙ y.was.1.0.limit) y.answers),
-        goes_on (ranging share y.old) (range_call y.old m y.goes, refl, (y.goes.4, y.goes.5)) y.course,
+        (y.was.1.0.mode, read_ends machine.tries c _ range_kind range_is m share a y.was.1.1.1 y.was.1.0.spent (y.goes.1 ∙ y.was.1.0.limit) y.answers),
+        goes_on (ranging share y.old) (y.goes.0, refl, (y.goes.2, y.goes.3)) y.course,
       );
     }
 
@@ -212,12 +214,37 @@ module _ {K V A : Type 0} (k : EditKind) (around : UpdateRun k.E UpdateAt → Ma
   abbrev pub edit_machine : ℕ → UpdateRun k.E A → DictRun K V
   edit_machine tries m = record { run = around (standing m Start); tries = tries; alloc = None; types = record {} }
 
-  pub edit_fresh : (share : Remaining) (tries number : ℕ) → 0 < tries → (m : UpdateRun k.E A) (ed : k.E) → m.edit ≡ ed → m.share ≡ share → m.call ≡ number → m.tries ≡ tries - 1 → m.limit ≡ tries → IsSmallCall (k.call ed) → IsFreshEdit (k.call ed) share tries number (edit_machine tries m)
+  pub edit_fresh : (share : Remaining) (tries number : ℕ) → 0 < tries → (m : UpdateRun k.E A) (ed : k.E) → m.edit ≡ ed → m.share ≡ share → m.call ≡ number → m.tries ≡ tries - 1 → m.limit ≡ tries → IsSmallCall (k.call ed) → IsFreshCall (k.call ed) share tries number (edit_machine tries m)
   edit_fresh share tries number some m ed is_edit is_share is_call is_tries is_limit small = record {
     is_call = is.is_call (standing m Start) ∙ ap k.call is_edit;
     has_tries = refl;
     unbegun = is.unbegun (standing m Start) tries number (refl, all_tries m.tries tries some is_tries, is_call, subst (λ (e : k.E). IsSmallCall (k.call e)) (sym is_edit) small, is_limit);
     has_share = is.is_share (standing m Start) ∙ is_share;
+  }
+
+module _ {K V : Type 0} where
+  -- the machine of a successor
+  abbrev pub search_machine : ℕ → Remaining → SuccessorRun → DictRun K V
+  search_machine tries share m = record { run = Successor m share; tries = tries; alloc = None; types = record {} }
+
+  pub search_fresh : (share : Remaining) (tries number key : ℕ) → 0 < tries → (m : SuccessorRun) → m.read.key ≡ key → m.at ≡ Start → m.snaps.items ≡ [] → m.tries ≡ tries - 1 → m.limit ≡ tries → key < 2 ^ 64 → IsFreshCall (SuccessorCall key) share tries number (search_machine tries share m)
+  search_fresh share tries number key some m is_key at none is_tries is_limit small = record {
+    is_call = ap SuccessorCall is_key;
+    has_tries = refl;
+    has_share = refl;
+    unbegun = (at, all_tries m.tries tries some is_tries, none, (λ few. rw is_key small), is_limit);
+  }
+
+  -- and of a range
+  abbrev pub range_machine : ℕ → Remaining → RangeRun → DictRun K V
+  range_machine tries share m = record { run = Range m share; tries = tries; alloc = None; types = record {} }
+
+  pub range_fresh : (share : Remaining) (tries number low high most : ℕ) → 0 < tries → (m : RangeRun) → m.read.low ≡ low → m.read.high ≡ high → m.read.most ≡ most → m.at ≡ Start → m.snaps.items ≡ [] → m.tries ≡ tries - 1 → m.limit ≡ tries → high < 2 ^ 64 → IsFreshCall (RangeCall low high most) share tries number (range_machine tries share m)
+  range_fresh share tries number low high most some m is_low is_high is_most at none is_tries is_limit small = record {
+    is_call = rw (is_low, is_high, is_most) refl;
+    has_tries = refl;
+    has_share = refl;
+    unbegun = (at, all_tries m.tries tries some is_tries, none, (λ few. (rw is_high small, few)), is_limit);
   }
 
 -- all tries have as many steps as each of them so many times

@@ -20,7 +20,7 @@ use Rattle.forest.specs.Traces.{CallBegins, Ends, HoldsForCall, Trace}
 
 -- a machine that makes this call with so many tries and this share, in the call of this number, has
 -- not begun
-pub record IsFreshEdit {K V : Type 0} (call : MapCall) (share : Remaining) (tries number : ℕ) (m : DictRun K V) : Type 0 where
+pub record IsFreshCall {K V : Type 0} (call : MapCall) (share : Remaining) (tries number : ℕ) (m : DictRun K V) : Type 0 where
   pub is_call : call_in m.run ≡ call
   pub has_tries : m.tries ≡ tries
   pub has_share : share_of m.run ≡ share
@@ -57,15 +57,15 @@ module _ {K V : Type 0} (valid_key : K → Type 0) (key : K → ℕ) (valid_valu
     abbrev pub SeatDictEnds : DictRun K V → Reply K V → Type 0
     SeatDictEnds = Ends DictAllows DictCallWaits IsSameDictCall c ps first (DictAnswers valid_key key valid_value value)
 
-  -- a call that may edit begins, with whichever machine of it that has not begun
-  abbrev pub SeatEditBegins : Call → List SeatedPass → MapCall → Remaining → ℕ → ℕ → Type 0
-  SeatEditBegins c ps call share tries number = (first : DictRun K V) → IsFreshEdit call share tries number first → SeatDictBegins c ps first
+  -- a call begins, with whichever machine of it that has not begun
+  abbrev pub SeatCallBegins : Call → List SeatedPass → MapCall → Remaining → ℕ → ℕ → Type 0
+  SeatCallBegins c ps call share tries number = (first : DictRun K V) → IsFreshCall call share tries number first → SeatDictBegins c ps first
 
-  -- A call that may edit has ended with this reply: a machine of it has begun it, and one that has
-  -- so much of the share left has ended it.
-  pub record EditHasEnded (c : Call) (ps : List SeatedPass) (call : MapCall) (share : Remaining) (tries number : ℕ) (left : Remaining) (told : Reply K V) : Type 0 where
+  -- A call has ended with this reply: a machine of it has begun it, and one that has so much of the
+  -- share left has ended it.
+  pub record CallHasEnded (c : Call) (ps : List SeatedPass) (call : MapCall) (share : Remaining) (tries number : ℕ) (left : Remaining) (told : Reply K V) : Type 0 where
     pub first : DictRun K V
     pub last : DictRun K V
-    pub fresh : IsFreshEdit call share tries number first
+    pub fresh : IsFreshCall call share tries number first
     pub is_left : share_of last.run ≡ left
     pub ends : SeatDictEnds c ps first last told

@@ -314,6 +314,7 @@ impl<K: WordKey, V: WordValue> Forest<Dict<K, V>> {
     }
 
     /// Makes an ordered read.
+    #[inline(always)]
     fn read(
         &self,
         alloc: Global,
@@ -336,16 +337,13 @@ impl<K: WordKey, V: WordValue> Forest<Dict<K, V>> {
         ensures valid { IsValidReply K.is_valid V.is_valid result }
     {
         let number = pass.taken();
-        let share = replace(&mut pass.share, Share::of(&self.layout, pass.number));
-        let mut run = DictRun::new(Some(alloc), request, share, self.tries, number);
         let hand = Hand {
             words: &self.words,
             layout: &self.layout,
             number,
         };
         let seat = &mut pass.seat;
-        let reply = calls::read(hand, seat, &mut run);
-        pass.share = run.into_share();
+        let reply = calls::read(hand, seat, alloc, self.tries, request);
         pass.blamed.note_reply(&reply);
         reply
     }

@@ -1,31 +1,38 @@
 //! Edits and ordered reads of a dictionary.
-ghost use Rattle.std.specs.Prelude.{◌≡◌, ◌≤◌, ◌<◌, ◌+◌};
+ghost use Rattle.std.specs.Prelude.{◌≡◌, ◌≤◌, ◌<◌, ◌+◌, ◌-◌, ◌*◌, ℕ, []};
 ghost use Rattle.arena.specs.Machines.{Call};
-ghost use Rattle.dict.specs.Calls.{AsksForPairs, IsSmallCall, call_in};
+ghost use Rattle.arena.specs.Share.{Remaining};
+ghost use Rattle.dict.specs.Calls.{AsksForPairs, IsSmallCall};
 ghost use Rattle.dict.specs.Says.{KeepsLists};
 ghost use Rattle.ordered_map.specs.CallRules.{most_steps};
-ghost use Rattle.dict.specs.Steps.{map_left};
+ghost use Rattle.ordered_map.specs.Requests.{as_map_call};
 ghost use Rattle.dict.specs.Translated.{HasFormOf, IsTranslated};
-ghost use Rattle.dict.specs.WordReplies.{edit_reply, goal_reply};
+ghost use Rattle.dict.specs.WordReplies.{edit_reply, goal_reply, range_reply, successor_reply};
 ghost use Rattle.dict.specs.Words.{IsValidReply};
-ghost use Rattle.dict.specs.declared.dict.DictRun.{DictRun as Run};
+ghost use Rattle.order.specs.Range.Steps.{range_left, range_try_left};
+ghost use Rattle.order.specs.declared.range.RangeAt.{RangeAt};
 ghost use Rattle.forest.specs.Hands.{IsAt, IsCallOf};
 ghost use Rattle.forest.specs.Seats.{StaysAtTable};
 ghost use Rattle.forest.specs.Traces.{seat_steps, shared_nodes};
-ghost use Rattle.forest.specs.StraightCalls.{EditHasEnded, SeatDictBegins, SeatDictEnds, SeatEditBegins, SeatWordEnds};
+ghost use Rattle.forest.specs.StraightCalls.{CallHasEnded, SeatCallBegins};
 
 use crate::straight::hand::Hand;
-use crate::straight::{range, successor, update};
+use crate::straight::{ordered_read, update};
 use crate::view::SeatView;
 use arena::Share;
 use atomic_table::Seat;
 use dict::{
-    Dict, DictRun, EditCall, MapRun, Reply, WordKey, WordReply, WordValue, pair_of, translated,
+    Dict, DictRun, EditCall, Reply, Request, WordKey, WordReply, WordValue, pair_of, translated,
     value_of,
 };
 use edits::{UpdateRun, Updated};
+use order::{Range, RangeRun, Refused, Successor};
 use ordered_map::Pair;
+use std::alloc::Global;
 use template::Goal;
+
+/// The most forks that there are as a rule from the root to a leaf.
+const DEEP: usize = 32;
 
 /// What an edit that walks there replies where its leaf has this key, and tells this value.
 #[inline(always)]
@@ -67,11 +74,11 @@ pub(crate) fn make<K: WordKey, V: WordValue, E: EditCall>(
     requires tries { 0 < tries }
     requires small { IsSmallCall (E.call edit) }
     requires begins { (c : Call) × IsCallOf hand c
-        × SeatEditBegins K.is_valid K.word_of V.is_valid V.word_of c seat.old.me.0.passes (E.call edit) share tries hand.number }
+        × SeatCallBegins K.is_valid K.word_of V.is_valid V.word_of c seat.old.me.0.passes (E.call edit) share tries hand.number }
     ensures table { StaysAtTable seat.old seat.new }
     ensures ends { (c : Call) → IsCallOf hand.entry c
-        → SeatEditBegins K.is_valid K.word_of V.is_valid V.word_of c seat.old.me.0.passes (E.call edit) share tries hand.entry.number
-        → EditHasEnded K.is_valid K.word_of V.is_valid V.word_of c seat.new.me.0.passes (E.call edit) share tries hand.entry.number result.1 result.0 }
+        → SeatCallBegins K.is_valid K.word_of V.is_valid V.word_of c seat.old.me.0.passes (E.call edit) share tries hand.entry.number
+        → CallHasEnded K.is_valid K.word_of V.is_valid V.word_of c seat.new.me.0.passes (E.call edit) share tries hand.entry.number result.1 result.0 }
     ensures steps { seat_steps seat.new.me.0.passes ≤ seat_steps seat.old.me.0.passes + most_steps (E.call edit) tries (shared_nodes hand.entry.layout.now) }
 {
     let mut run = UpdateRun::new(edit, share, tries, hand.number, ());
@@ -80,60 +87,92 @@ pub(crate) fn make<K: WordKey, V: WordValue, E: EditCall>(
     (of_update(goal, updated), run.into_share())
 }
 
-/// Makes an ordered read, in words.
-fn in_words<K: WordKey, V: WordValue>(
+/// What a successor replies of what its machine has answered.
+#[inline(always)]
+fn of_successor<K: WordKey, V: WordValue>(told: Result<Option<Pair>, Refused>) -> Reply<K, V>
+    ensures valid { IsValidReply K.is_valid V.is_valid result }
+    ensures says { IsTranslated K.is_valid K.word_of V.is_valid V.word_of (successor_reply told) result }
+    ensures form { HasFormOf (successor_reply told) result }
+{
+    match told {
+        Ok(pair) => Reply::Pair(pair_of(pair)),
+        Err(Refused::Contended { node, scx }) => Reply::Contended { node, scx },
+        Err(Refused::NoMemory) => Reply::NoMemory,
+    }
+}
+
+/// What a range replies of what its machine has answered. What it lists grows with this allocator.
+#[inline(always)]
+fn of_range<K: WordKey, V: WordValue>(
+    alloc: Global,
+    told: Result<Vec<Pair>, Refused>,
+) -> Reply<K, V>
+    ensures valid { IsValidReply K.is_valid V.is_valid result }
+    ensures says { IsTranslated K.is_valid K.word_of V.is_valid V.word_of (range_reply told) result }
+    ensures form { HasFormOf (range_reply told) result }
+{
+    translated(Some(alloc), WordReply::of_range(told))
+}
+
+/// A range that has not begun, with room for what it keeps as a rule: for its pairs, and for the
+/// forks above them and on the way to them. Where that is refused, its lists grow as they are
+/// filled.
+#[inline(always)]
+fn range_run(alloc: Global, low: u64, high: u64, most: usize, tries: u32) -> RangeRun
+    ensures low { result.low ≡ low }
+    ensures high { result.high ≡ high }
+    ensures most { result.most ≡ most }
+    ensures start { result.at ≡ RangeAt.Start }
+    ensures snaps { result.snaps.items ≡ [] }
+    ensures limit { result.limit ≡ tries }
+    ensures tries { result.tries ≡ tries - 1 }
+    ensures bound { (nodes : ℕ) → 0 < tries → range_left result nodes ≤ tries * range_try_left most nodes }
+{
+    let mut run = Range::run(alloc, low, high, most, tries);
+    let pairs = most.min(64);
+    let _ = run.read.taken.reserve(pairs);
+    let _ = run.snaps.reserve(pairs + DEEP);
+    let _ = run.read.waiting.reserve(DEEP);
+    run
+}
+
+/// Makes an ordered read with so many tries, which takes nothing of a share. What it keeps grows
+/// with this allocator.
+#[inline(always)]
+pub(crate) fn read<K: WordKey, V: WordValue>(
     hand: Hand<Dict<K, V>>,
     seat: &mut Seat<u8, SeatView>,
-    run: &mut MapRun,
-) -> WordReply
+    alloc: Global,
+    tries: u32,
+    request: Request<K, V>,
+) -> Reply<K, V>
     requires table { IsAt hand seat.old }
-    requires ordered { KeepsLists (call_in run.old) }
-    requires begins { (c : Call) × (first : Run K V) × IsCallOf hand c × (first.run ≡ run.old)
-        × SeatDictBegins K.is_valid K.word_of V.is_valid V.word_of c seat.old.me.0.passes first }
+    requires tries { 0 < tries }
+    requires ordered { KeepsLists (as_map_call K.word_of V.word_of request) }
+    requires begins { (c : Call) × (share : Remaining) × IsCallOf hand c
+        × SeatCallBegins K.is_valid K.word_of V.is_valid V.word_of c seat.old.me.0.passes (as_map_call K.word_of V.word_of request) share tries hand.number }
     ensures table { StaysAtTable seat.old seat.new }
-    ensures ends { (c : Call) (first : Run K V) → IsCallOf hand.entry c → first.run ≡ run.old
-        → SeatDictBegins K.is_valid K.word_of V.is_valid V.word_of c seat.old.me.0.passes first
-        → SeatWordEnds K.is_valid K.word_of V.is_valid V.word_of c seat.new.me.0.passes first record first { run = run.new } result }
-    ensures steps { seat_steps seat.new.me.0.passes ≤ seat_steps seat.old.me.0.passes + map_left run.old (shared_nodes hand.entry.layout.now) }
-    ensures nothing { ¬ AsksForPairs (call_in run.old) → seat.new ≡ seat.old }
+    ensures ends { (c : Call) (share : Remaining) → IsCallOf hand.entry c
+        → SeatCallBegins K.is_valid K.word_of V.is_valid V.word_of c seat.old.me.0.passes (as_map_call K.word_of V.word_of request) share tries hand.entry.number
+        → CallHasEnded K.is_valid K.word_of V.is_valid V.word_of c seat.new.me.0.passes (as_map_call K.word_of V.word_of request) share tries hand.entry.number share result }
+    ensures steps { seat_steps seat.new.me.0.passes
+        ≤ seat_steps seat.old.me.0.passes + most_steps (as_map_call K.word_of V.word_of request) tries (shared_nodes hand.entry.layout.now) }
+    ensures nothing { ¬ AsksForPairs (as_map_call K.word_of V.word_of request) → seat.new ≡ seat.old }
 {
-    match run {
-        MapRun::Successor {
-            run: inner,
-            share: _,
-        } => {
-            let told = successor::call::<Dict<K, V>, DictRun<K, V>>(hand, seat, inner);
-            WordReply::of_successor(told)
+    match request {
+        Request::Successor { key } => {
+            key.valid();
+            let mut run = Successor::run(alloc, key.word(), tries);
+            let told = ordered_read::call::<Dict<K, V>, DictRun<K, V>, Successor>(hand, seat, &mut run);
+            of_successor(told)
         }
-        MapRun::Range {
-            run: inner,
-            share: _,
-        } => {
-            let told = range::call::<Dict<K, V>, DictRun<K, V>>(hand, seat, inner);
-            WordReply::of_range(told)
+        Request::Range { low, high, most } => {
+            high.valid();
+            let mut run = range_run(alloc, low.word(), high.word(), most as usize, tries);
+            let told = ordered_read::call::<Dict<K, V>, DictRun<K, V>, Range>(hand, seat, &mut run);
+            of_range(alloc, told)
         }
         // Never: its callers make ordered reads alone, by the clause `ordered`.
         _ => unreachable!(),
     }
-}
-
-/// Makes an ordered read.
-pub(crate) fn read<K: WordKey, V: WordValue>(
-    hand: Hand<Dict<K, V>>,
-    seat: &mut Seat<u8, SeatView>,
-    run: &mut DictRun<K, V>,
-) -> Reply<K, V>
-    requires table { IsAt hand seat.old }
-    requires ordered { KeepsLists (call_in run.old.run) }
-    requires begins { (c : Call) × IsCallOf hand c
-        × SeatDictBegins K.is_valid K.word_of V.is_valid V.word_of c seat.old.me.0.passes run.old }
-    ensures table { StaysAtTable seat.old seat.new }
-    ensures ends { (c : Call) → IsCallOf hand.entry c
-        → SeatDictBegins K.is_valid K.word_of V.is_valid V.word_of c seat.old.me.0.passes run.old
-        → SeatDictEnds K.is_valid K.word_of V.is_valid V.word_of c seat.new.me.0.passes run.old run.new result }
-    ensures steps { seat_steps seat.new.me.0.passes ≤ seat_steps seat.old.me.0.passes + map_left run.old.run (shared_nodes hand.entry.layout.now) }
-    ensures nothing { ¬ AsksForPairs (call_in run.old.run) → seat.new ≡ seat.old }
-{
-    let told = in_words::<K, V>(hand, seat, &mut run.run);
-    translated(run.alloc, told)
 }

@@ -10,9 +10,9 @@ use Rattle.forest.specs.Dictionary.{HasSpentAtMost, IsRefusalOf, IsToldOf, blame
 use Rattle.arena.specs.declared.limits.Mode.TheVariants.{Tree}
 use Rattle.forest.specs.Passes.{Ground, HasGoneOn, taken_of}
 use Rattle.forest.specs.PassInvariant.{IsPass, pass_view}
-use Rattle.forest.specs.StraightCalls.{IsFreshEdit, EditHasEnded, SeatEditBegins}
+use Rattle.forest.specs.StraightCalls.{IsFreshCall, CallHasEnded, SeatCallBegins}
 use Rattle.forest.specs.Traces.{shared_nodes}
-use Rattle.forest.proofs.DictCalls.{Answered, IsSameCall, behind, edit_starts, few_edit, dict_ended, dict_pass, dict_goes_on, dict_spends, dict_tells, dict_refuses, so_behind}
+use Rattle.forest.proofs.DictCalls.{Answered, IsSameCall, behind, call_starts, few_edit, dict_ended, dict_pass, dict_goes_on, dict_spends, dict_tells, dict_refuses, so_behind}
 use Rattle.forest.proofs.Entered.{HasEnded}
 use Rattle.forest.proofs.Passes.{layout_of, call_of}
 use Rattle.forest.proofs.dictionary.Forest+Dict+K+V.edit.Given.{Over}
@@ -20,8 +20,8 @@ use Rattle.forest.proofs.dictionary.Forest+Dict+K+V.edit.Goals.{After-note_reply
 use Rattle.forest.proofs.dictionary.Forest+Dict+K+V.edit.Goals as goal
 
 -- a machine of the edit may begin the call
-begins : (g : Over) (c : After-replace-share g) → SeatEditBegins g.K.WordKey.is_valid g.K.WordKey.word_of g.V.WordValue.is_valid g.V.WordValue.word_of (call_of c.pass.inside c.pass.invariant (taken_of (pass_view c.pass.inside))) c.pass.inside.seat.me.0.passes (g.E.EditCall.call c.args.edit) c.replace-share.result c.self.inside.tries c.taken-number.result
-begins g c = λ first fresh. edit_starts g.K.WordKey.is_valid g.K.WordKey.word_of g.V.WordValue.is_valid g.V.WordValue.word_of c.pass.inside c.pass.invariant first (g.E.EditCall.call c.args.edit) c.self.inside.tries c.taken-number.result (ap taken_of c.pass.view_is ∙ sym c.taken-number.ensures) c.requires.typed (few_edit (g.E.EditCall.call c.args.edit) (g.met.E.EditCall.is_kind.edits c.args.edit)) (subst (λ share. IsFreshEdit (g.E.EditCall.call c.args.edit) share c.self.inside.tries c.taken-number.result first) c.replace-share.ensures.value fresh)
+begins : (g : Over) (c : After-replace-share g) → SeatCallBegins g.K.WordKey.is_valid g.K.WordKey.word_of g.V.WordValue.is_valid g.V.WordValue.word_of (call_of c.pass.inside c.pass.invariant (taken_of (pass_view c.pass.inside))) c.pass.inside.seat.me.0.passes (g.E.EditCall.call c.args.edit) c.replace-share.result c.self.inside.tries c.taken-number.result
+begins g c = λ first fresh. call_starts g.K.WordKey.is_valid g.K.WordKey.word_of g.V.WordValue.is_valid g.V.WordValue.word_of c.pass.inside c.pass.invariant first (g.E.EditCall.call c.args.edit) c.self.inside.tries c.taken-number.result (ap taken_of c.pass.view_is ∙ sym c.taken-number.ensures) c.requires.typed (few_edit (g.E.EditCall.call c.args.edit) (g.met.E.EditCall.is_kind.edits c.args.edit)) (subst (λ share. IsFreshCall (g.E.EditCall.call c.args.edit) share c.self.inside.tries c.taken-number.result first) c.replace-share.ensures.value fresh)
 
 pub make-told-requires-clause-begins : goal.make-told-requires-clause-begins
 make-told-requires-clause-begins g c = (
@@ -31,7 +31,7 @@ make-told-requires-clause-begins g c = (
 )
 
 -- how it has ended
-call_ended : (g : Over) (c : After-note_reply g) → EditHasEnded g.K.WordKey.is_valid g.K.WordKey.word_of g.V.WordValue.is_valid g.V.WordValue.word_of (call_of c.pass.inside c.pass.invariant (taken_of (pass_view c.pass.inside))) c.make-told.new.seat.me.0.passes (g.E.EditCall.call c.args.edit) c.replace-share.result c.self.inside.tries c.taken-number.result c.make-told.result.1 c.make-told.result.0
+call_ended : (g : Over) (c : After-note_reply g) → CallHasEnded g.K.WordKey.is_valid g.K.WordKey.word_of g.V.WordValue.is_valid g.V.WordValue.word_of (call_of c.pass.inside c.pass.invariant (taken_of (pass_view c.pass.inside))) c.make-told.new.seat.me.0.passes (g.E.EditCall.call c.args.edit) c.replace-share.result c.self.inside.tries c.taken-number.result c.make-told.result.1 c.make-told.result.0
 call_ended g c = c.make-told.ensures.ends (call_of c.pass.inside c.pass.invariant (taken_of (pass_view c.pass.inside))) (layout_of c.pass.view_is c.self.view_is c.requires.pass, ap taken_of c.pass.view_is ∙ sym c.taken-number.ensures) (begins g (goal.at.returns-clause-told g c).After-replace-share)
 
 -- the machine with which it has ended, and the reply

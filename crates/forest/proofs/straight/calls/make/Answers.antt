@@ -5,7 +5,7 @@ use Rattle.forest.specs.Traces.{seat_steps, shared_nodes}
 use Rattle.dict.specs.Inner.{EditKind}
 use Rattle.dict.specs.WordReplies.{edit_reply}
 use Rattle.dict.specs.declared.dict.DictRun.{DictRun}
-use Rattle.forest.specs.StraightCalls.{IsFreshEdit, SeatEditBegins}
+use Rattle.forest.specs.StraightCalls.{IsFreshCall, SeatCallBegins}
 use Rattle.forest.specs.StraightUpdate.{UpdaterBegins}
 use Rattle.forest.proofs.StraightCalls.{editor, edit_begins, edit_ended, edit_fresh, edit_machine, replies, tries_steps}
 use Rattle.forest.proofs.straight.calls.make.Given.{Over}
@@ -20,10 +20,10 @@ kind g = record { E = g.row.E.Denot; means = g.E.Edit.means; call = g.E.EditCall
 abbrev first : (g : Over) (c : After-new-run g) → DictRun g.row.K.Denot g.row.V.Denot
 first g c = edit_machine (kind g) g.E.EditCall.around g.met.E.EditCall.is_around c.args.tries c.new-run.result
 
-is_fresh : (g : Over) (c : After-new-run g) → IsFreshEdit (g.E.EditCall.call c.args.edit) c.args.share c.args.tries c.args.hand.number (first g c)
+is_fresh : (g : Over) (c : After-new-run g) → IsFreshCall (g.E.EditCall.call c.args.edit) c.args.share c.args.tries c.args.hand.number (first g c)
 is_fresh g c = edit_fresh (kind g) g.E.EditCall.around g.met.E.EditCall.is_around c.args.share c.args.tries c.args.hand.number c.requires.tries c.new-run.result c.args.edit c.new-run.ensures.edit c.new-run.ensures.share c.new-run.ensures.call c.new-run.ensures.tries c.new-run.ensures.limit c.requires.small
 
-may_begin : (g : Over) (c : After-new-run g) (k : Call) (lay : k.layout ≡ c.args.hand.layout.now) (number : k.number ≡ c.args.hand.number) → SeatEditBegins g.K.WordKey.is_valid g.K.WordKey.word_of g.V.WordValue.is_valid g.V.WordValue.word_of k c.args.seat.now.me.0.passes (g.E.EditCall.call c.args.edit) c.args.share c.args.tries c.args.hand.number → UpdaterBegins (editor g.K.WordKey.is_valid g.K.WordKey.word_of g.V.WordValue.is_valid g.V.WordValue.word_of (first g c) k c.args.hand.layout.now c.args.hand.number lay number (kind g) g.met.E.EditCall.is_kind g.E.EditCall.around g.met.E.EditCall.is_around) c.args.seat.now.me.0.passes c.new-run.result
+may_begin : (g : Over) (c : After-new-run g) (k : Call) (lay : k.layout ≡ c.args.hand.layout.now) (number : k.number ≡ c.args.hand.number) → SeatCallBegins g.K.WordKey.is_valid g.K.WordKey.word_of g.V.WordValue.is_valid g.V.WordValue.word_of k c.args.seat.now.me.0.passes (g.E.EditCall.call c.args.edit) c.args.share c.args.tries c.args.hand.number → UpdaterBegins (editor g.K.WordKey.is_valid g.K.WordKey.word_of g.V.WordValue.is_valid g.V.WordValue.word_of (first g c) k c.args.hand.layout.now c.args.hand.number lay number (kind g) g.met.E.EditCall.is_kind g.E.EditCall.around g.met.E.EditCall.is_around) c.args.seat.now.me.0.passes c.new-run.result
 may_begin g c k lay number x = edit_begins g.K.WordKey.is_valid g.K.WordKey.word_of g.V.WordValue.is_valid g.V.WordValue.word_of (first g c) k c.args.hand.layout.now c.args.hand.number lay number (kind g) g.met.E.EditCall.is_kind g.E.EditCall.around g.met.E.EditCall.is_around _ c.new-run.result refl (x (first g c) (is_fresh g c))
 
 pub call-updated-requires-clause-begins : goal.call-updated-requires-clause-begins
