@@ -107,8 +107,6 @@ fn end_two<K: WordKey, V: WordValue>(
     requires one { IsOf forest one }
     requires other { IsOf forest other }
 {
-    let mut passes = Vec::new(alloc);
-    passes.push(one)?;
-    passes.push(other)?;
+    let passes = Vec::from_array(alloc, [one, other])?;
     Ok(end(alloc, forest, passes))
 }

@@ -1,4 +1,5 @@
 //! Texts of the greatest length, and one row more.
+use crate::same::same;
 use arena::Mode;
 use program::play_over;
 use report::{ReportFault, read_record};
@@ -27,9 +28,18 @@ fn played(alloc: Global, script: &str, schedule: &str) -> Ended {
     Ended { status, out, err }
 }
 
-/// How many lines a text has.
-fn count_lines(text: &[u8]) -> usize {
-    text.iter().filter(|byte| **byte == b'\n').count()
+impl Ended {
+    /// It ended well, with so many lines of which these are the last.
+    fn is_done(&self, lines: usize, last: &str) -> bool {
+        let out = self.out.as_slice();
+        let count = out.iter().filter(|byte| **byte == b'\n').count();
+        self.status == 0 && count == lines && out.ends_with(last.as_bytes())
+    }
+
+    /// It wrote nothing but this fault.
+    fn is_refused(&self, line: &str) -> bool {
+        self.status == 1 && self.out.is_empty() && self.err.as_slice() == line.as_bytes()
+    }
 }
 
 /// A first line, so many others, and a last one.
@@ -60,25 +70,11 @@ fn longest_texts(rt: HostRuntime) -> Result<(), Fail> {
     let long_schedule = long_text(alloc, "", order, 65537, "end,65537,,\n")?;
     let ended = played(rt.alloc(), script.as_str(), schedule.as_str());
     let end = "reply,0,65535,65536,65536,,unlinked n1\nend,65536,65536,0,,,\n";
-    assert!(rt; ended.out.as_slice().ends_with(end.as_bytes()));
-    assert_eq!(rt;
-        (ended.status, count_lines(ended.out.as_slice())),
-        (0, 3 * 65536 + 3)
-    );
-    let refused = [
-        (
-            played(rt.alloc(), long_script.as_str(), schedule.as_str()),
-            "bad script: row 65538: long\n",
-        ),
-        (
-            played(rt.alloc(), script.as_str(), long_schedule.as_str()),
-            "bad schedule: row 65537: long\n",
-        ),
-    ];
-    for (ended, line) in refused {
-        assert_eq!(rt; ended.err.as_slice(), line.as_bytes());
-        assert_eq!(rt; (ended.status, ended.out.len()), (1, 0));
-    }
+    assert!(rt; ended.is_done(3 * 65536 + 3, end));
+    let ended = played(rt.alloc(), long_script.as_str(), schedule.as_str());
+    assert!(rt; ended.is_refused("bad script: row 65538: long\n"));
+    let ended = played(rt.alloc(), script.as_str(), long_schedule.as_str());
+    assert!(rt; ended.is_refused("bad schedule: row 65537: long\n"));
     Ok(())
 }
 
@@ -93,11 +89,7 @@ fn million_idle_turns(rt: HostRuntime) {
     );
     let end = "\nreply,0,0,999991,999997,999997,snap 0 0\nstep,999998,0,idle,,,\n\
                step,999999,0,idle,,,\nstep,1000000,0,idle,,,\nend,1000000,1,0,,,\n";
-    assert!(rt; ended.out.as_slice().ends_with(end.as_bytes()));
-    assert_eq!(rt;
-        (ended.status, count_lines(ended.out.as_slice())),
-        (0, 1000005)
-    );
+    assert!(rt; ended.is_done(1000005, end));
 }
 
 /// A report of so many calls, which no one began.
@@ -114,12 +106,10 @@ fn long_report(alloc: Global, calls: u64) -> Result<String, Fail> {
 fn the_call_past_the_most_is_named(rt: HostRuntime) -> Result<(), Fail> {
     let text = long_report(rt.alloc(), 65536)?;
     let record = read_record(rt.alloc(), &mut Metered::new(text.as_bytes()))?;
-    assert_eq!(rt; record.script.calls.len(), 65536);
+    same(&rt, record.script.calls.len(), 65536);
     let text = long_report(rt.alloc(), 65537)?;
     let fault = ReportFault::NotLawful { row: 65539 };
-    assert_eq!(rt;
-        read_record(rt.alloc(), &mut Metered::new(text.as_bytes())).err(),
-        Some(fault)
-    );
+    let got = read_record(rt.alloc(), &mut Metered::new(text.as_bytes())).err();
+    same(&rt, got, Some(fault));
     Ok(())
 }

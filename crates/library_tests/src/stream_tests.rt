@@ -167,7 +167,7 @@ fn finish(
             // It would take more bytes from here on, and gets none.
             to.inner.left = usize::MAX;
             let again = turn(rt, stream, client, to).err();
-            assert_eq!(rt; again, Some(StreamFault::Ended));
+            assert!(rt; again == Some(StreamFault::Ended));
             return Err(fault);
         }
     }
@@ -184,7 +184,7 @@ fn write(
     let mut stream = Stream::new(alloc, script, to)?;
     for client in 0..script.layout.passes {
         if let Err(fault) = finish(rt, &mut stream, PassNo(client), to) {
-            assert_eq!(rt; stream.end(to).err(), Some(StreamFault::Ended));
+            assert!(rt; stream.end(to).err() == Some(StreamFault::Ended));
             return Err(fault);
         }
     }
@@ -204,8 +204,8 @@ fn fails_at_each_byte(
         let mut to = Metered::new(FailAt::new(Vec::new(alloc), bytes));
         let fault = write(rt, alloc, &script, &mut to).err();
         let due = (bytes < whole.len()).then_some(StreamFault::Write);
-        assert_eq!(rt; fault, due, "after {bytes} bytes");
-        assert_eq!(rt; to.inner.inner.as_slice(), &whole[..bytes]);
+        let is_cut = fault == due && to.inner.inner.as_slice() == &whole[..bytes];
+        assert!(rt; is_cut, "after {bytes} bytes");
     }
     Ok(())
 }
@@ -230,10 +230,9 @@ fn a_stream_whose_turn_was_not_written_has_ended(rt: HostRuntime) -> Result<(), 
     assert!(rt; script.layout.passes > 0);
     let first = turn(&rt, &mut stream, PassNo(0), &mut to).err();
     let second = turn(&rt, &mut stream, PassNo(0), &mut to).err();
-    assert_eq!(rt; first, Some(StreamFault::Write));
-    assert_eq!(rt; second, Some(StreamFault::Ended));
+    assert!(rt; first == Some(StreamFault::Write) && second == Some(StreamFault::Ended));
     let beginning = "report,1,tree,,,,\nlimits,1,10,10,3,,\ncall,0,0,get,0,,\n";
-    assert_eq!(rt; to.inner.inner.as_slice(), beginning.as_bytes());
+    assert!(rt; to.inner.inner.as_slice() == beginning.as_bytes());
     Ok(())
 }
 
@@ -269,7 +268,7 @@ fn a_refused_turn_is_asked_again(rt: HostRuntime) -> Result<(), Fail> {
     let script = match read_script(rt.alloc(), Mode::Records, &mut text) {
         Ok(script) if script.layout.passes > 0 => script,
         other => {
-            assert_eq!(rt; other.err(), Some(ScriptFault::NoMemory));
+            assert!(rt; other.err() == Some(ScriptFault::NoMemory));
             return Ok(());
         }
     };
@@ -282,11 +281,10 @@ fn a_refused_turn_is_asked_again(rt: HostRuntime) -> Result<(), Fail> {
     };
     let whole = REPORT_OF_UNLINKED.as_bytes();
     match fault {
-        None => assert_eq!(rt; to.inner.as_slice(), whole),
-        Some(fault) => {
-            assert_eq!(rt; fault, StreamFault::NoMemory);
-            assert!(rt; whole.starts_with(to.inner.as_slice()));
-        }
+        None => assert!(rt; to.inner.as_slice() == whole),
+        Some(fault) => assert!(rt;
+            fault == StreamFault::NoMemory && whole.starts_with(to.inner.as_slice())
+        ),
     }
     Ok(())
 }

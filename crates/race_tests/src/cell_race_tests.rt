@@ -149,29 +149,35 @@ fn is_judged_alike(alloc: Global, record: &Record) -> Result<bool, Fail> {
     Ok(first_unlawful(alloc, &record.script.layout, rows.as_slice())?.is_none())
 }
 
+/// Whether so many random changes of a record are judged alike.
+fn are_judged_alike(alloc: Global, random: &mut Random, record: &Record) -> Result<bool, Fail> {
+    for _ in 0..CHANGES {
+        let other = changed_once(alloc, random, record)?;
+        if !is_judged_alike(alloc, &other)? {
+            return Ok(false);
+        }
+    }
+    Ok(true)
+}
+
+/// The record of the next random race.
+fn random_cell_record(alloc: Global, random: &mut Random) -> Result<Record, Fail> {
+    let clients = 1 + random.below(4);
+    let script = random_cell_script(alloc, random, clients)?;
+    let schedule = random_schedule(alloc, random, clients)?;
+    played_in(alloc, Mode::Records, script.as_str(), schedule.as_str())
+}
+
 #[test]
 fn races_on_cells_are_lawful(rt: HostRuntime) -> Result<(), Fail> {
-    let alloc = rt.alloc();
     let mut random = Random::new(SEED);
     let mut told = Told::default();
     for race in 0..RACES {
-        let clients = 1 + random.below(4);
-        let script = random_cell_script(alloc, &mut random, clients)?;
-        let schedule = random_schedule(alloc, &mut random, clients)?;
-        let record = played_in(alloc, Mode::Records, script.as_str(), schedule.as_str())?;
-        assert_eq!(rt;
-            audit(alloc, &record),
-            Ok(()),
-            "race {race}:\n{script}{schedule}"
-        );
+        let record = random_cell_record(rt.alloc(), &mut random)?;
+        assert!(rt; audit(rt.alloc(), &record).is_ok(), "race {race}");
         told.count(&record);
-        for _ in 0..CHANGES {
-            let other = changed_once(alloc, &mut random, &record)?;
-            assert!(rt;
-                is_judged_alike(alloc, &other)?,
-                "race {race}:\n{script}{schedule}"
-            );
-        }
+        let are_alike = are_judged_alike(rt.alloc(), &mut random, &record)?;
+        assert!(rt; are_alike, "race {race}");
     }
     assert!(rt; told.each_occurred(), "{told:?}");
     Ok(())

@@ -2,14 +2,14 @@
 //! accepted by two others too, the judge of rows and the check by means of its own.
 use crate::change::{Change, changed, random_change};
 use crate::check::check;
-use crate::race::played;
-use crate::race_tests::{random_schedule, random_script};
+use crate::race_tests::random_record;
 use crate::random::Random;
 use arena::Row as StepRow;
 use audit::{AuditFault, audit};
 use judge::first_unlawful;
 use record::{Line, Record, Row};
 use std::alloc::{AllocError, Global};
+use std::process::Abort;
 use std::test::Fail;
 
 const SEED: u64 = 20261124;
@@ -38,46 +38,41 @@ fn is_accepted(alloc: Global, record: &Record) -> Result<bool, Fail> {
     Ok(first_unlawful(alloc, &record.script.layout, rows.as_slice())?.is_none())
 }
 
-/// How many changed records the audit has refused, and how many it has accepted.
-#[derive(Clone, Copy, Debug, Default)]
-struct Found {
-    refused: u64,
-    accepted: u64,
+/// Makes a random change of the record of a race: whether the audit refuses it. What the audit accepts,
+/// two others accept too.
+fn is_refused(
+    rt: &impl Abort,
+    alloc: Global,
+    random: &mut Random,
+    (race, record): (u64, &Record),
+) -> Result<bool, Fail> {
+    let Some(change) = random_change(random, record) else {
+        return Ok(false);
+    };
+    let other = changed(alloc, random, record, change)?;
+    if other.lines == record.lines {
+        return Ok(false);
+    }
+    match audit(alloc, &other) {
+        Ok(()) => assert!(rt; is_accepted(alloc, &other)?, "race {race}, {change:?}"),
+        Err(AuditFault::NotLawful { .. }) => return Ok(true),
+        Err(AuditFault::NoMemory) => return Err("no memory".into()),
+    }
+    Ok(false)
 }
 
 #[test]
 fn changes_are_found(rt: HostRuntime) -> Result<(), Fail> {
     let alloc = rt.alloc();
     let mut random = Random::new(SEED);
-    let mut found = Found::default();
+    let mut refused = 0u64;
     for race in 0..RACES {
-        let clients = 1 + random.below(4);
-        let script = random_script(alloc, &mut random, clients)?;
-        let schedule = random_schedule(alloc, &mut random, clients)?;
-        let record = played(alloc, script.as_str(), schedule.as_str())?;
+        let record = random_record(alloc, &mut random)?;
         for _ in 0..CHANGES {
-            let Some(change) = random_change(&mut random, &record) else {
-                continue;
-            };
-            let other = changed(alloc, &mut random, &record, change)?;
-            if other.lines == record.lines {
-                continue;
-            }
-            match audit(alloc, &other) {
-                Ok(()) => {
-                    assert!(rt;
-                        is_accepted(alloc, &other)?,
-                        "race {race}, {change:?}:\n{script}{schedule}"
-                    );
-                    found.accepted = found.accepted.saturating_add(1);
-                }
-                Err(AuditFault::NotLawful { .. }) => {
-                    found.refused = found.refused.saturating_add(1);
-                }
-                Err(AuditFault::NoMemory) => return Err("no memory".into()),
-            }
+            let found = is_refused(&rt, alloc, &mut random, (race, &record))?;
+            refused = refused.saturating_add(u64::from(found));
         }
     }
-    assert!(rt; found.refused > 1000, "{found:?}");
+    assert!(rt; refused > 1000, "{refused}");
     Ok(())
 }

@@ -50,11 +50,7 @@ struct Seen<'a> {
 pub(crate) fn check(alloc: Global, record: &Record) -> Result<(), Wrong> {
     let mut seen = Seen::new(alloc, &record.script)?;
     for line in record.lines.iter() {
-        match line {
-            Line::Step(row) => seen.step(row)?,
-            Line::Log(entry) => seen.entry(entry)?,
-            Line::Reply(reply) => seen.reply(reply)?,
-        }
+        seen.line(line)?;
     }
     seen.settle()?;
     seen.end()
@@ -72,6 +68,15 @@ impl<'a> Seen<'a> {
             owed: None,
             at_once: false,
         })
+    }
+
+    /// The next line is right behind those so far.
+    fn line(&mut self, line: &'a Line) -> Result<(), Wrong> {
+        match line {
+            Line::Step(row) => self.step(row),
+            Line::Log(entry) => self.entry(entry),
+            Line::Reply(reply) => self.reply(reply),
+        }
     }
 
     /// The turn before has the entry that it owes.
@@ -176,13 +181,16 @@ impl<'a> Seen<'a> {
         if self.owed.take() != Some(*entry) {
             return Err(wrong);
         }
-        let call = self.entering(entry).ok_or(wrong)?;
+        let Some(call) = self.entering(entry) else {
+            return Err(wrong);
+        };
         let turn = entry.step;
         self.past.change(turn, call)?;
         self.replay.finalize(entry.scx)?;
         self.entries = entry.place;
-        let client = self.clients.get_mut(entry.client.0 as usize).ok_or(wrong)?;
-        client.entered = Some(turn);
+        if let Some(client) = self.clients.get_mut(entry.client.0 as usize) {
+            client.entered = Some(turn);
+        }
         Ok(())
     }
 
@@ -200,15 +208,19 @@ impl<'a> Seen<'a> {
     fn reply(&mut self, reply: &'a Finished) -> Result<(), Wrong> {
         self.has_entry()?;
         let wrong = Wrong::Reply(self.turn);
-        let call = MapCall::of(self.script, reply.client, reply.call).ok_or(wrong)?;
-        let client = self.clients.get_mut(reply.client.0 as usize).ok_or(wrong)?;
+        let Some(call) = MapCall::of(self.script, reply.client, reply.call) else {
+            return Err(wrong);
+        };
+        let Some(client) = self.clients.get_mut(reply.client.0 as usize) else {
+            return Err(wrong);
+        };
         let said = (reply.call, Some(reply.begin), reply.end);
         if said != (client.answered, client.begun, self.turn) || client.last != self.turn {
             return Err(wrong);
         }
         let entered = client.entered.take();
         client.begun = None;
-        client.answered = client.answered.checked_add(1).ok_or(wrong)?;
+        client.answered = client.answered.saturating_add(1);
         self.answer(reply, call, entered)
     }
 

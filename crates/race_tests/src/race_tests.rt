@@ -1,11 +1,11 @@
 //! Random races: each record passes the check.
 ghost use Rattle.std.specs.Prelude.{◌<◌, ◌≤◌};
 
-use crate::check::check;
+use crate::answered_tests::is_right;
 use crate::counts::Counts;
 use crate::race::played;
 use crate::random::Random;
-use audit::audit;
+use record::Record;
 use std::alloc::{AllocError, Global};
 use std::test::Fail;
 
@@ -15,11 +15,7 @@ const RACES: u64 = 400;
 
 /// A few calls of so many clients on few keys, under tight limits. Half of the values are one of two, so
 /// that a replacement finds what it expects.
-pub(crate) fn random_script(
-    alloc: Global,
-    random: &mut Random,
-    clients: u64,
-) -> Result<String, AllocError>
+fn random_script(alloc: Global, random: &mut Random, clients: u64) -> Result<String, AllocError>
     requires { 0 < clients }
 {
     let nodes = random.among([2, 6, 9, 40]);
@@ -72,28 +68,23 @@ pub(crate) fn random_schedule(
     Ok(text)
 }
 
+/// The record of the next random race.
+pub(crate) fn random_record(alloc: Global, random: &mut Random) -> Result<Record, Fail> {
+    let clients = 1 + random.below(4);
+    let script = random_script(alloc, random, clients)?;
+    let schedule = random_schedule(alloc, random, clients)?;
+    played(alloc, script.as_str(), schedule.as_str())
+}
+
 /// Among the answers are all kinds, of each edit but insert, of ordered reads and of other calls, so
 /// that each was checked.
 #[test]
 fn random_races_pass(rt: HostRuntime) -> Result<(), Fail> {
-    let alloc = rt.alloc();
     let mut random = Random::new(SEED);
     let mut counts = Counts::default();
     for race in 0..RACES {
-        let clients = 1 + random.below(4);
-        let script = random_script(alloc, &mut random, clients)?;
-        let schedule = random_schedule(alloc, &mut random, clients)?;
-        let record = played(alloc, script.as_str(), schedule.as_str())?;
-        assert_eq!(rt;
-            check(alloc, &record),
-            Ok(()),
-            "race {race}:\n{script}{schedule}"
-        );
-        assert_eq!(rt;
-            audit(alloc, &record),
-            Ok(()),
-            "race {race}:\n{script}{schedule}"
-        );
+        let record = random_record(rt.alloc(), &mut random)?;
+        assert!(rt; is_right(rt.alloc(), &record), "race {race}");
         counts.count(&record);
     }
     assert!(rt; counts.each_occurred(), "{counts:?}");

@@ -6,6 +6,7 @@ use super::{end_two, opened};
 use crate::same::{has, same};
 use dict::{Dict, Name8};
 use forest::{Forest, Pass, UpdateFault};
+use std::alloc::Global;
 use std::test::Fail;
 
 /// A dictionary of names and numbers.
@@ -32,22 +33,55 @@ fn raise(board: &Forest<Names>, pass: &mut Pass<Names>, name: Name8, score: u32)
     }
 }
 
+/// Each pass puts in a name, and once they have met the second sees that of the first.
+fn both_put(
+    alloc: Global,
+    forest: &Forest<Names>,
+    first: &mut Pass<Names>,
+    second: &mut Pass<Names>,
+    names: [Name8; 4],
+) -> bool
+    requires first { IsOf forest.now first.old }
+    requires second { IsOf forest.now second.old }
+    ensures first { IsOf forest.now first.new }
+    ensures second { IsOf forest.now second.new }
+{
+    let [ab, b, _, _] = names;
+    let is_fresh = insert(forest, first, b, 2) == Ok(None);
+    let is_raised = raise(forest, second, ab, 1) == None;
+    meet(forest, first, second);
+    let is_next = successor(alloc, forest, second, ab) == Ok(Some((b, 2)));
+    is_fresh & is_raised & is_next
+}
+
+/// The first pass sees both names, and takes its own out.
+fn first_takes(
+    alloc: Global,
+    forest: &Forest<Names>,
+    first: &mut Pass<Names>,
+    names: [Name8; 4],
+) -> bool
+    requires { IsOf forest.now first.old }
+    ensures { IsOf forest.now first.new }
+{
+    let [ab, b, low, high] = names;
+    let all = range(alloc, forest, first, low, high);
+    let is_taken = delete(forest, first, b) == Ok(Some(2));
+    let is_gone = get(forest, first, b) == None;
+    let is_left = get(forest, first, ab) == Some(1);
+    has(&all, &[(ab, 1), (b, 2)]) & is_taken & is_gone & is_left
+}
+
 #[test]
 fn two_passes_have_one_map(rt: HostRuntime) -> Result<(), Fail> {
+    let Some(names) = names() else {
+        return Err("no names".into());
+    };
     let (forest, mut first, mut second) = opened::<Name8, u32>(rt.alloc())?;
-    let [ab, b, low, high] = names().ok_or("no names")?;
-    same(&rt, insert(&forest, &mut first, b, 2), Ok(None));
-    same(&rt, raise(&forest, &mut second, ab, 1), None);
-    meet(&forest, &mut first, &mut second);
-    let next = successor(rt.alloc(), &forest, &mut second, ab);
-    same(&rt, next, Ok(Some((b, 2))));
-    let all = range(rt.alloc(), &forest, &mut first, low, high);
-    assert!(rt; has(&all, &[(ab, 1), (b, 2)]));
-    same(&rt, delete(&forest, &mut first, b), Ok(Some(2)));
-    same(&rt, get(&forest, &mut first, b), None);
-    same(&rt, get(&forest, &mut first, ab), Some(1));
+    assert!(rt; both_put(rt.alloc(), &forest, &mut first, &mut second, names));
+    assert!(rt; first_takes(rt.alloc(), &forest, &mut first, names));
     same(&rt, [first.left(), second.left()], [(16, 18), (17, 19)]);
     let left = end_two(rt.alloc(), forest, first, second)?;
-    assert!(rt; has(&left, &[(ab, 1)]));
+    assert!(rt; has(&left, &[(names[0], 1)]));
     Ok(())
 }

@@ -13,7 +13,7 @@ use std::process::Abort;
 use std::test::Fail;
 
 /// An edit of a dictionary of numbers.
-#[derive(Clone, Copy, Debug)]
+#[derive(Clone, Copy)]
 enum Edit {
     Insert(u64, u64),
     Delete(u64),
@@ -22,7 +22,7 @@ enum Edit {
 }
 
 /// What is known of an edit that has begun.
-#[derive(Clone, Copy, Debug)]
+#[derive(Clone, Copy)]
 enum Answer {
     /// It told the value that its key had.
     Told(Option<u64>),
@@ -172,8 +172,9 @@ fn leave(own: &[Made], other: Made, place: usize, pairs: &[(u64, u64)]) -> bool 
 
 /// What passes do: the first makes its edits, and stops in one of them; the other has one. And how
 /// often a call tries.
-#[derive(Clone, Copy, Debug)]
+#[derive(Clone, Copy)]
 struct Race {
+    name: &'static str,
     own: &'static [Edit],
     other: Edit,
     tries: u32,
@@ -181,6 +182,7 @@ struct Race {
 
 /// The first gives a key three values, the other a fourth.
 const INSERTS: Race = Race {
+    name: "inserts",
     own: &[
         Edit::Insert(5, 50),
         Edit::Insert(5, 51),
@@ -192,6 +194,7 @@ const INSERTS: Race = Race {
 
 /// The first takes its key out again, the other brings in another one.
 const DELETE_AND_INSERT: Race = Race {
+    name: "a delete and an insert",
     own: &[Edit::Insert(5, 50), Edit::Delete(5)],
     other: Edit::Insert(7, 70),
     tries: 3,
@@ -199,6 +202,7 @@ const DELETE_AND_INSERT: Race = Race {
 
 /// Both take the key out.
 const DELETES: Race = Race {
+    name: "deletes",
     own: &[Edit::Insert(5, 50), Edit::Delete(5)],
     other: Edit::Delete(5),
     tries: 3,
@@ -206,6 +210,7 @@ const DELETES: Race = Race {
 
 /// Both take the first pair out.
 const POPS: Race = Race {
+    name: "pops",
     own: &[Edit::Insert(5, 50), Edit::PopFirst],
     other: Edit::PopFirst,
     tries: 3,
@@ -213,13 +218,16 @@ const POPS: Race = Race {
 
 /// Both replace one value.
 const REPLACEMENTS: Race = Race {
+    name: "replacements",
     own: &[Edit::Insert(5, 50), Edit::ReplaceIf(5, 50, 51)],
     other: Edit::ReplaceIf(5, 50, 52),
     tries: 3,
 };
 
+const RACES: [Race; 5] = [INSERTS, DELETE_AND_INSERT, DELETES, POPS, REPLACEMENTS];
+
 /// Where the first pass stops: in its edit of this number, behind so many steps.
-#[derive(Clone, Copy, Debug)]
+#[derive(Clone, Copy)]
 struct Stop {
     number: usize,
     steps: usize,
@@ -253,10 +261,10 @@ fn opened_at(
     ensures held { IfOk result (λ t. IsOf t.0 t.1.began × (t.1.over ≡ false)) }
     ensures second { IfOk result (λ t. IsOf t.0 t.2) }
 {
-    let (forest, mut first, second) = opened_with::<u64, u64>(alloc, race.tries)?;
     let Some((before, [edit, ..])) = race.own.split_at_checked(number) else {
         return Err("no such edit".into());
     };
+    let (forest, mut first, second) = opened_with::<u64, u64>(alloc, race.tries)?;
     make_all(&forest, &mut first, before, own)?;
     let call = edit.open(alloc, &forest, first);
     Ok((forest, call, second))
@@ -407,6 +415,24 @@ fn is_right_when_it_goes_on(
     is_right_at_the_end(alloc, race, (forest, first, second), &own, other, places)
 }
 
+/// The same where both go on, the first with all its edits, and then the other.
+fn is_right_when_both_go_on(
+    alloc: Global,
+    race: Race,
+    number: usize,
+    both: (Forest<Numbers>, Held, Held),
+    own: &mut Vec<Made>,
+) -> Result<bool, Fail>
+    requires call { IsOf both.0 both.1.began × (both.1.over ≡ false) }
+    requires helper { IsOf both.0 both.2.began × (both.2.over ≡ false) }
+{
+    let (forest, call, helper) = both;
+    let first = go_on(alloc, &forest, call, race, number, own)?;
+    let (second, reply) = rest(&forest, helper, &mut Vec::new(alloc))?;
+    let (other, places) = ((race.other, replied(reply)), (number, own.len()));
+    is_right_at_the_end(alloc, race, (forest, first, second), own, other, places)
+}
+
 /// The same where the other stops too, behind so many steps, and goes on once the first has made all
 /// its edits. None where it is over before.
 fn is_right_when_both_stop(
@@ -421,11 +447,8 @@ fn is_right_when_both_stop(
     if !hold(&forest, &mut helper, steps, &mut kinds)? {
         return Ok(None);
     }
-    let first = go_on(alloc, &forest, call, race, stop.number, &mut own)?;
-    let (second, reply) = rest(&forest, helper, &mut kinds)?;
-    let (other, places) = ((race.other, replied(reply)), (stop.number, own.len()));
-    let ends = (forest, first, second);
-    Ok(Some(is_right_at_the_end(alloc, race, ends, &own, other, places)?))
+    let both = (forest, call, helper);
+    Ok(Some(is_right_when_both_go_on(alloc, race, stop.number, both, &mut own)?))
 }
 
 /// The first stops after each of its steps in turn. It tells how many edits were contended.
@@ -436,7 +459,8 @@ fn sweep(rt: &impl Abort, alloc: Global, race: Race) -> Result<usize, Fail> {
             let stop = Stop { number, steps };
             let is_right = is_right_when_left(alloc, race, stop)?
                 && is_right_when_it_goes_on(alloc, race, stop, &mut contended)?;
-            assert!(rt; is_right, "{race:?}, {stop:?}");
+            let (name, tries) = (race.name, race.tries);
+            assert!(rt; is_right, "{name}, {tries}: {steps} steps of edit {number}");
         }
     }
     Ok(contended)
@@ -445,10 +469,11 @@ fn sweep(rt: &impl Abort, alloc: Global, race: Race) -> Result<usize, Fail> {
 /// With one try some edits are contended, with three none.
 #[test]
 fn a_stopped_edit_is_left_or_goes_on(rt: HostRuntime) -> Result<(), Fail> {
-    for race in [INSERTS, DELETE_AND_INSERT, DELETES, POPS, REPLACEMENTS] {
-        let contended = sweep(&rt, rt.alloc(), Race { tries: 1, ..race })?;
-        assert!(rt; contended > 0, "{race:?}");
-        sweep(&rt, rt.alloc(), race)?;
+    for race in &RACES {
+        let contended = sweep(&rt, rt.alloc(), Race { tries: 1, ..*race })?;
+        let name = race.name;
+        assert!(rt; contended > 0, "{name}");
+        sweep(&rt, rt.alloc(), *race)?;
     }
     Ok(())
 }
@@ -464,7 +489,7 @@ fn an_insert_that_stops_as_it_helps_goes_on(rt: HostRuntime) -> Result<(), Fail>
         for steps in 0..MOST_STEPS {
             let stop = Stop { number, steps: own };
             match is_right_when_both_stop(rt.alloc(), INSERTS, stop, steps)? {
-                Some(is_right) => assert!(&rt; is_right, "{stop:?}, {steps}"),
+                Some(is_right) => assert!(&rt; is_right, "{own}, {steps}"),
                 None => break,
             }
         }

@@ -43,9 +43,7 @@ fn end_two(
     requires one { IsOf forest one }
     requires other { IsOf forest other }
 {
-    let mut passes = Vec::new(alloc);
-    passes.push(one)?;
-    passes.push(other)?;
+    let passes = Vec::from_array(alloc, [one, other])?;
     Ok(end(forest, passes))
 }
 
