@@ -4,6 +4,8 @@ use Rattle.std.specs.Prelude.{ℕ, ◌+◌, ◌*◌, ◌<◌, if◌then◌else�
 use Rattle.arena.specs.declared.limits.Mode.{Mode}
 use Rattle.arena.specs.declared.limits.Mode.TheVariants.{Tree, Records}
 use Rattle.arena.specs.declared.layout.Layout.{Layout}
+use Rattle.arena.specs.declared.number.NodeNo.{NodeNo}
+use Rattle.arena.specs.declared.number.ScxNo.{ScxNo}
 use Rattle.arena.specs.declared.word.Side.TheVariants.{Left, Right}
 use Rattle.arena.specs.declared.word.NodeWord.TheVariants.{Settled, Child}
 use Rattle.arena.specs.declared.word.SettledPart.TheVariants.{Head}
@@ -34,6 +36,19 @@ first_scx lay c = 1 + c * lay.scx
 -- how many words the table has
 abbrev pub table_size : Layout → ℕ
 table_size lay = 18 * all_nodes lay + 14 * all_scx lay
+
+-- where the words of a node begin in the table
+abbrev pub node_start : NodeNo → ℕ
+node_start n = 18 * n.0
+
+-- and where those of an SCX-record do, behind all nodes
+abbrev pub scx_start : Layout → ScxNo → ℕ
+scx_start lay s = 18 * all_nodes lay + 14 * s.0
+
+-- where the words of a word's node or SCX-record begin
+abbrev pub start_of : Layout → Word → ℕ
+start_of lay (Node n part) = node_start n
+start_of lay (Scx s part) = scx_start lay s
 
 -- the place of a word in the table
 abbrev pub place : Layout → Word → ℕ

@@ -3,7 +3,7 @@ ghost use Rattle.std.specs.Prelude.{◌≡◌, ℕ, ◌+◌, ◌*◌, ◌<◌, �
 ghost use Rattle.arena.specs.Opening.{opening_nodes};
 
 use crate::limits::{Limits, Mode};
-use crate::number::{PassNo, ScxNo};
+use crate::number::{NodeNo, PassNo, ScxNo};
 use crate::word::{NodeWord, ScxWord, SettledPart, Side, Slot, Word};
 
 /// A table within accepted limits.
@@ -27,7 +27,7 @@ pub struct Layout {
 
 impl Layout {
     ghost use Rattle.arena.specs.Limits.{IsAccepted, IsLayoutOf};
-    ghost use Rattle.arena.specs.Layout.{all_nodes, all_scx, first_node, first_scx, table_size, place, IsWord};
+    ghost use Rattle.arena.specs.Layout.{all_nodes, all_scx, first_node, first_scx, table_size, node_start, scx_start, start_of, place, IsWord};
     ghost use Rattle.arena.specs.declared.word.Word.{Word};
 
     /// The table of this mode within limits.
@@ -126,6 +126,52 @@ impl Layout {
         }
     }
 
+    /// Where the words of a node begin in the table.
+    #[inline(always)]
+    pub fn node_start(&self, node: NodeNo) -> usize
+        requires { node.0 < all_nodes self.now }
+        ensures { result ≡ node_start node }
+    {
+        18 * node.0 as usize
+    }
+
+    /// Where the words of an SCX-record begin in the table.
+    #[inline(always)]
+    pub fn scx_start(&self, scx: ScxNo) -> usize
+        requires { scx.0 < all_scx self.now }
+        ensures { result ≡ scx_start self.now scx }
+    {
+        self.node_words as usize + 14 * scx.0 as usize
+    }
+
+    /// Where the words of the node or of the SCX-record begin that has this word.
+    #[inline(always)]
+    pub fn start_of(&self, word: Word) -> usize
+        requires { IsWord self.now word }
+        ensures { result ≡ start_of self.now word }
+    {
+        match word {
+            Word::Node(node, _) => self.node_start(node),
+            Word::Scx(scx, _) => self.scx_start(scx),
+        }
+    }
+
+    /// The place of a word in the table, whose node or SCX-record begins there. No other word has
+    /// it.
+    #[inline(always)]
+    pub fn place_from(&self, start: usize, word: Word) -> usize
+        requires word { IsWord self.now word }
+        requires start { start ≡ start_of self.now word }
+        ensures place { result ≡ place self.now word }
+        ensures inside { result < table_size self.now }
+        ensures apart { (other : Word) → IsWord self.now other → place self.now other ≡ result → other ≡ word }
+    {
+        match word {
+            Word::Node(_, part) => start + node_place(part),
+            Word::Scx(_, part) => start + scx_place(part),
+        }
+    }
+
     /// The place of a word in the table. No other word has it.
     #[inline(always)]
     pub fn place(&self, word: Word) -> usize
@@ -134,12 +180,7 @@ impl Layout {
         ensures inside { result < table_size self.now }
         ensures apart { (other : Word) → IsWord self.now other → place self.now other ≡ result → other ≡ word }
     {
-        match word {
-            Word::Node(node, part) => 18 * node.0 as usize + node_place(part),
-            Word::Scx(scx, part) => {
-                self.node_words as usize + 14 * scx.0 as usize + scx_place(part)
-            }
-        }
+        self.place_from(self.start_of(word), word)
     }
 }
 
@@ -190,12 +231,7 @@ fn settled_place(part: SettledPart) -> usize
 fn slot_no(slot: Slot) -> usize
     ensures { result ≡ slot_no slot }
 {
-    match slot {
-        Slot::First => 0,
-        Slot::Second => 1,
-        Slot::Third => 2,
-        Slot::Fourth => 3,
-    }
+    slot as usize
 }
 
 /// The place of a word within its SCX-record.
