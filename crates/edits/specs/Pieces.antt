@@ -44,9 +44,9 @@ fills_of (Fork level class key l r) =
     ∷ []
 
 -- what a word of a fresh node holds after these fills, the last in front: what is not filled is 0
-abbrev pub filled : List WordFill → NodeWord → ℕ
-filled [] part = 0
-filled (x ∷ xs) part = if same_node_word x.part part then x.word else filled xs part
+abbrev pub filled_word : List WordFill → NodeWord → ℕ
+filled_word [] part = 0
+filled_word (x ∷ xs) part = if same_node_word x.part part then x.word else filled_word xs part
 
 -- whether the word is one that these fill
 abbrev pub fills_word : List WordFill → NodeWord → Bool
@@ -75,7 +75,7 @@ next_behind next (x ∷ xs) part = if same_node_word x.part part then next else 
 
 -- what a word of the node is to hold
 abbrev pub word_of : Piece → NodeWord → ℕ
-word_of p part = filled (fills_of p) part
+word_of p part = filled_word (fills_of p) part
 
 -- the word that is filled behind this one
 abbrev pub part_behind : Piece → NodeWord → Option NodeWord

@@ -22,9 +22,9 @@ use Rattle.prims.specs.Laws.Begun.{takes_by_others, takes_by_node, takes_by_step
 use Rattle.prims.specs.Shares.{IsShare}
 use Rattle.prims.proofs.Lemmas.{left_own_node, over_more, share_by_others, share_by_step}
 use Rattle.edits.specs.declared.edit.Piece.{Piece}
-use Rattle.edits.specs.Pieces.{WordFill, filled, fills_of, fills_word, made_before, made_with}
+use Rattle.edits.specs.Pieces.{WordFill, filled_word, fills_of, fills_word, made_before, made_with}
 use Rattle.edits.specs.Laws.NodeFills.{named_before, others_stay, same_stays}
-use Rattle.edits.specs.Laws.PieceFills.{HoldsFills, one_more, part_same}
+use Rattle.edits.specs.Laws.PieceFills.{HoldsFills, one_fill_more, part_same}
 
 -- What is known
 
@@ -146,11 +146,11 @@ module _ (lay : Layout) (h : History) (r : Row) (c : ℕ) (left : Remaining) (fi
   }
 
   -- and so do the words of this node but the one that is stored
-  pub words_more : (xs : List WordFill) → fills_word xs part ≡ true → r.after ≡ filled xs part → HoldsFills h n (made_before xs part) → HoldsFills (r ⊳ h) n (made_with xs part)
-  words_more xs among stored y q i = go (same_node_word part q) refl ∙ sym (one_more xs part q among)
+  pub words_more : (xs : List WordFill) → fills_word xs part ≡ true → r.after ≡ filled_word xs part → HoldsFills h n (made_before xs part) → HoldsFills (r ⊳ h) n (made_with xs part)
+  words_more xs among stored y q i = go (same_node_word part q) refl ∙ sym (one_fill_more xs part q among)
     where
-      go : (t : Bool) → same_node_word part q ≡ t → value (r ⊳ h) (node n q) ≡ (if same_node_word part q then filled xs part else filled (made_before xs part) q)
-      go true t = rw t (subst (λ w. value (r ⊳ h) (node n w) ≡ filled xs part) (part_same part q t) (value_at r h (node n part) word ∙ stored))
+      go : (t : Bool) → same_node_word part q ≡ t → value (r ⊳ h) (node n q) ≡ (if same_node_word part q then filled_word xs part else filled_word (made_before xs part) q)
+      go true t = rw t (subst (λ w. value (r ⊳ h) (node n w) ≡ filled_word xs part) (part_same part q t) (value_at r h (node n part) word ∙ stored))
       go false t = rw t (same_stays lay h r n part word fill unnamed_here q t ∙ y q i)
 
   -- this node is taken

@@ -14,11 +14,11 @@ use Rattle.histories.proofs.Lemmas.{IsNodeFill}
 use Rattle.ordered_map.specs.Holding.{HasOnePair}
 use Rattle.edits.specs.declared.edit.Piece.{Piece}
 use Rattle.edits.specs.declared.edit.Piece.TheVariants.{Leaf, Fork}
-use Rattle.edits.specs.Pieces.{WordFill, filled, fills_of, fills_word, made_before, made_with, many_left, next_behind, part_behind}
+use Rattle.edits.specs.Pieces.{WordFill, filled_word, fills_of, fills_word, made_before, made_with, many_left, next_behind, part_behind}
 
 -- all settled words and fields of the node are as these fills have left them, the last in front
 abbrev pub HoldsFills : History → ℕ → List WordFill → Type 0
-HoldsFills h n made = (part : NodeWord) → IsNodeFill part → value h (node n part) ≡ filled made part
+HoldsFills h n made = (part : NodeWord) → IsNodeFill part → value h (node n part) ≡ filled_word made part
 
 -- Words of a node
 
@@ -44,15 +44,15 @@ piece_fill (Fork level class key l r) Info i = absurd (let z : false ≡ true = 
 piece_fill (Fork level class key l r) Marked i = absurd (let z : false ≡ true = i in cc)
 
 -- once one word more is filled, it holds what it got, and the others what they held
-abbrev pub IsOneMore : List WordFill → NodeWord → NodeWord → Type 0
-IsOneMore xs part other = fills_word xs part ≡ true → filled (made_with xs part) other ≡ (if same_node_word part other then filled xs part else filled (made_before xs part) other)
+abbrev pub IsOneFillMore : List WordFill → NodeWord → NodeWord → Type 0
+IsOneFillMore xs part other = fills_word xs part ≡ true → filled_word (made_with xs part) other ≡ (if same_node_word part other then filled_word xs part else filled_word (made_before xs part) other)
 
-pub one_more : (xs : List WordFill) (part other : NodeWord) → IsOneMore xs part other
-one_more [] part other i = absurd (let z : false ≡ true = i in cc)
-one_more (x ∷ xs) part other i = go (same_node_word x.part part) refl (one_more xs part other)
+pub one_fill_more : (xs : List WordFill) (part other : NodeWord) → IsOneFillMore xs part other
+one_fill_more [] part other i = absurd (let z : false ≡ true = i in cc)
+one_fill_more (x ∷ xs) part other i = go (same_node_word x.part part) refl (one_fill_more xs part other)
   where
-    go : (t : Bool) → same_node_word x.part part ≡ t → IsOneMore xs part other → filled (made_with (x ∷ xs) part) other ≡ (if same_node_word part other then filled (x ∷ xs) part else filled (made_before (x ∷ xs) part) other)
-    go true e rest = rw e (ap (λ q. if same_node_word q other then x.word else filled xs other) (part_same x.part part e))
+    go : (t : Bool) → same_node_word x.part part ≡ t → IsOneFillMore xs part other → filled_word (made_with (x ∷ xs) part) other ≡ (if same_node_word part other then filled_word (x ∷ xs) part else filled_word (made_before (x ∷ xs) part) other)
+    go true e rest = rw e (ap (λ q. if same_node_word q other then x.word else filled_word xs other) (part_same x.part part e))
     go false e rest = rw e (rest (rw e at i))
 
 -- no piece fills a count, or a high half: it holds one pair
