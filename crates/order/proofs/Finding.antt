@@ -1,403 +1,262 @@
 -- What a successor knows one place further.
-use Rattle.std.proofs.Common.{◌≡◌, ◌≢◌, ℕ, ◌^◌, ◌<◌, ◌≤◌, ◌⊎◌, Bool, true, false, cond, eqb, List, [], ◌∷◌, ◌++◌, length, inl, inr, ⊎_elim, refl, sym, ◌∙◌, ap, subst, arith, lt-ltb, le-ltb, ltb-true, ltb-false, eqb-true, eq-eqb, Option, Some, None}
+use Rattle.std.proofs.Common.{◌≡◌, ◌≢◌, ℕ, ◌<◌, ◌≤◌, ◌⊎◌, Bool, true, false, cond, eqb, ltb, List, [], ◌∷◌, inl, inr, refl, sym, ◌∙◌, ap, subst, arith, ltb-true, ltb-false, eqb-true, eq-eqb, Some, None}
 use Rattle.arena.specs.declared.head.Head.{Head as HeadParts}
-use Rattle.arena.specs.declared.word.NodeWord.TheVariants.{Settled}
-use Rattle.arena.specs.declared.word.SettledPart.TheVariants.{Head as HeadWord}
-use Rattle.arena.specs.declared.word.Side.{Side}
-use Rattle.arena.specs.declared.word.Side.TheVariants.{Left, Right}
+use Rattle.arena.specs.declared.number.NodeNo.{NodeNo}
+use Rattle.arena.specs.declared.word.Side.TheVariants as sides
 use Rattle.arena.specs.declared.word.Word.{Word}
-use Rattle.arena.specs.Words.{node, child, first_key, first_value}
+use Rattle.arena.specs.Words.{child, marked, node, first_key, first_value}
 use Rattle.arena.specs.History.{History, value, Extends}
-use Rattle.arena.specs.Machines.{Call, begun_at}
-use Rattle.arena.proofs.Lemmas.{ends_self, ends_trans}
-use Rattle.prims.specs.Laws.Idle.{quiet_at_start, idle_if_finished}
-use Rattle.prims.specs.Llx.Known.{IsSnapshot, LlxKnows, LlxIsReady}
-use Rattle.prims.specs.Snap.{child_of}
-use Rattle.prims.specs.Vlx.Known.{IsSame, VlxIsReady}
-use Rattle.prims.specs.declared.llx.LlxAt.TheVariants.{Start as LlxStart}
-use Rattle.prims.specs.declared.llx.LlxRun.{LlxRun}
+use Rattle.arena.specs.Machines.{Call}
 use Rattle.prims.specs.declared.snap.Snap.{Snap}
 use Rattle.ordered_map.specs.declared.pair.Pair.{Pair}
-use Rattle.ordered_map.specs.OrderedMap.{pair, Successor, pair_or_none}
-use Rattle.ordered_map.specs.Paths.{IsOnPath, Passed}
+use Rattle.ordered_map.specs.OrderedMap.{pair_or_none}
 use Rattle.ordered_map.specs.Runs.{IsTreeRun}
-use Rattle.ordered_map.specs.Spelled.{Spells}
-use Rattle.ordered_map.specs.TreeShape.{TreeAllows}
 use Rattle.ordered_map.specs.TreeWords.{class, is_leaf, level, rank, toward}
-use Rattle.ordered_map.proofs.Lemmas.{passed_unmarked, path_not_final, root_head, run_since, run_spells, stood_settled, walk_first, was_passed, SameSettled, settled_class, settled_leaf, settled_rank, settled_toward}
-use Rattle.template.specs.FoundLeaf.{HasEnded}
+use Rattle.ordered_map.proofs.Lemmas.{stood_settled, SameSettled, settled_class, settled_leaf, settled_rank}
 use Rattle.template.specs.Trails.{IsOwnMoment}
-use Rattle.template.specs.declared.walk.Found.{Found}
-use Rattle.template.proofs.Lemmas.{own_since, opened_if_stood}
-use Rattle.order.specs.Reads.{AllHold, Whenever, HasStood}
-use Rattle.order.specs.Replies.{IsReplyAt}
-use Rattle.order.specs.Laws.Search.{IsSearched, IsFirstBehind, IsNextAt}
-use Rattle.order.specs.Successor.Known.{head_at, key_at, successor_asks_key, is_answer, HasTurnedLeft, IsLastTurn, IsOnRoute, IsSideOf, IsRightThere, LooksAt, SuccessorStandsAt, HasHead, HasLeaf, SuccessorValidates, SuccessorGoes}
+use Rattle.order.specs.Found.{AreThere, GoesTo, HasKey, HasLowHead, IsReading, IsThere, Looks, Stands, WalksTo, head_at, key_at, value_at}
+use Rattle.order.specs.Laws.Search.{IsFirstBehind}
+use Rattle.order.specs.Next.{MayValidate}
+use Rattle.order.specs.Successor.{IsOnRoute, LooksOnRoute, asks_key, behind_leaf, behind_path, children_below, route_below, second_path_left, successor_means}
+use Rattle.order.specs.declared.read.Children.{Children}
+use Rattle.order.specs.declared.read.Children.TheVariants.{Left, Right, Both}
 use Rattle.order.specs.declared.successor.Route.{Route}
-use Rattle.order.specs.declared.successor.Route.TheVariants.{Along, Beyond}
-use Rattle.order.specs.declared.successor.SuccessorRun.{SuccessorRun}
-use Rattle.order.proofs.Blaming.{first_look}
-use Rattle.order.proofs.Snapping.{hold_before, some_more, reads_one_more, child_there, child_rises, unmarked_then, field_then}
+use Rattle.order.specs.declared.successor.Route.TheVariants.{Above, Along, Beyond}
+use Rattle.order.specs.declared.successor.Successor.{Successor}
+use Rattle.order.proofs.Looking.{some_taken}
 use Rattle.order.proofs.Searching.{begins_below, goes_left, goes_right, ends_here, ends_behind, first_left, first_counted, first_tells, tells_pair, tells_none}
 
--- Sides
+-- How it begins
 
-left_below : (f : Word → ℕ) (n k : ℕ) → toward f n k ≡ Left → k < rank f n
-left_below f n k e = ⊎_elim (λ l. l) (λ l. absurd (let x : Right ≡ Left = sym (right_of l) ∙ e in cc)) (split k (rank f n))
+left_below : (f : Word → ℕ) (n k : ℕ) → toward f n k ≡ sides.Left → k < rank f n
+left_below f n k e = go (ltb k (rank f n)) refl
   where
-    split : (a b : ℕ) → (a < b) ⊎ (b ≤ a)
-    split a b = grind arith
+    go : (b : Bool) → ltb k (rank f n) ≡ b → k < rank f n
+    go true p = ltb-true k (rank f n) p
+    go false p = absurd (let x : sides.Right ≡ sides.Left = sym (ap (λ b. cond b sides.Left sides.Right) p) ∙ e in cc)
 
-    right_of : rank f n ≤ k → toward f n k ≡ Right
-    right_of l = rw (le-ltb k (rank f n) l) refl
-
-right_above : (f : Word → ℕ) (n k : ℕ) → toward f n k ≡ Right → rank f n ≤ k
-right_above f n k e = ⊎_elim (λ l. absurd (let x : Left ≡ Right = sym (left_of l) ∙ e in cc)) (λ l. l) (split k (rank f n))
-  where
-    split : (a b : ℕ) → (a < b) ⊎ (b ≤ a)
-    split a b = grind arith
-
-    left_of : k < rank f n → toward f n k ≡ Left
-    left_of l = rw (lt-ltb k (rank f n) l) refl
-
-no_side : (P : Type 0) → Left ≡ Right → P
-no_side P e = absurd (let x : Left ≡ Right = e in cc)
-
-no_route : (P : Type 0) → Beyond ≡ Along → P
-no_route P e = absurd (let x : Beyond ≡ Along = e in cc)
-
--- The fork where the search begins
-
--- the root is a fork of class 2
-root_turned : (c : Call) (h : History) (k asked : ℕ) (f : Found) → IsTreeRun c.layout h → k < 2 ^ 64 → HasEnded c h k asked f → HasTurnedLeft c h k 0
-root_turned c h k asked f run small a = record { passed = record { first = a.trail.node.first; own = a.trail.node.own; passed = there }; fork = rw head refl; left = rw (lt-ltb k (rank (value h) 0) high) refl }
-  where
-    head : value h (node 0 (Settled HeadWord)) ≡ 2
-    head = root_head c.layout h run
-
-    high : k < rank (value h) 0
-    high = let e = head in omega (arith, small, e)
-
-    there : Passed h a.trail.node.first k 0
-    there =
-        let p = a.trail.node.passed in
-        let x : Passed p.0 p.0 k 0 = walk_first c.layout p.0 k (run_since c.layout h p.0 run p.1) in
-        (x.0, ends_trans h p.0 x.0 p.1 x.1, ends_trans x.0 p.0 a.trail.node.first x.2 p.2, x.3)
-
-pub last_turned : (c : Call) (h : History) (k asked n : ℕ) (f : Found) → IsTreeRun c.layout h → k < 2 ^ 64 → HasEnded c h k asked f → IsLastTurn c h k n → HasTurnedLeft c h k n
-last_turned c h k asked n f run small a (inl e) = rw e (root_turned c h k asked f run small a)
-last_turned c h k asked n f run small a (inr x) = x
-
--- it may look there
-pub looks_first : (m : SuccessorRun) (c : Call) (h : History) (n : ℕ) → SuccessorGoes m c h → HasTurnedLeft c h m.key n → LooksAt m c h Along 0 Left n
-looks_first m c h n goes x = record {
-  stood = record {
-    stood = was_passed h x.passed.first m.key n p;
-    not_final = record { moment = p.0; within = p.1; since = ends_trans p.0 x.passed.first c.start p.2 (own_since c x.passed.first x.passed.own); was = path_not_final c.layout p.0 m.key n (run_since c.layout h p.0 goes.reads.run p.1) p.3 };
-  };
-  fork = x.fork;
-  deep = omega arith;
-  side_is = x.left;
-  right = λ a e. no_side _ e;
-  at_fork = λ b run e hold unmarked. inr (refl, refl, passed_unmarked c.layout b x.passed.first m.key n run (p.0, ends_trans b h p.0 e p.1, p.2, p.3) unmarked);
-}
-  where
-    p : Passed h x.passed.first m.key n
-    p = x.passed.passed
-
--- An LLX
-
-pub look_ready : (m : SuccessorRun) (c : Call) (h : History) (n : ℕ) (llx : LlxRun) → SuccessorGoes m c h → HasStood c h n → llx.node.0 ≡ n → llx.at ≡ LlxStart → LlxIsReady TreeAllows llx (begun_at c h) h None
-look_ready m c h n llx goes stood is at = record {
-  opened = rw is (opened_if_stood c.layout h n goes.reads.run stood.stood);
-  since = ends_self h;
-  quiet = quiet_at_start c.layout c.pass h (idle_if_finished c h goes.reads.run.1.lawful goes.reads.over);
-  known = subst (LlxKnows (begun_at c h) h llx.node.0) (sym at) tt;
-  told = at;
+-- it goes down from the last fork where its walk turns left
+pub walks_to : (r : Successor) → r.route ≡ Above → WalksTo successor_means r r.key
+walks_to r is = record {
+  asks = tt;
+  small = λ small. small;
+  waits = ap behind_path is;
+  turned = λ b n path left. subst (λ route. LooksOnRoute route b r.key n Both) (sym is) (refl, left_below (value b) n r.key left, path);
 }
 
--- A snapshot more
+-- From a fork
 
-module _ (m : SuccessorRun) (c : Call) (h : History) (snap : Snap) (goes : SuccessorGoes m c h) (is : IsSnapshot c.layout h snap.node.0 snap) where
-  pub goes_one_more : (now : SuccessorRun) → now.key ≡ m.key → now.snaps.items ≡ m.snaps.items ++ snap ∷ [] → SuccessorGoes now c h
-  goes_one_more now key items = record { reads = rw items (reads_one_more c h m.snaps.items snap goes.reads is); small = rw key goes.small }
+no_child : (P : Type 0) (a b : Children) → a ≢ b → a ≡ b → P
+no_child P a b d e = absurd (d e)
 
-  module _ (route : Route) (low : ℕ) (side : Side) (x : LooksAt m c h route low side snap.node.0) where
-    there : (s : Side) → HasStood c h (child_of snap s).0
-    there = child_there c h m.snaps.items snap goes.reads is x.stood x.fork
+module _ (k : ℕ) (b : History) (n : ℕ) (fork : is_leaf (value b) n ≡ false) (unmarked : value b (marked n) ≡ 0) where
+  left_searched : (right : NodeNo) → (route : Route) → value b (child n sides.Right) ≡ right.0 → LooksOnRoute route b k n Both → IsOnRoute (route_below route right) b k (value b (child n sides.Left))
+  left_searched right Above e x = rw e at (begins_below b k n (x.2 unmarked) fork x.1)
+  left_searched right (Along before) e x = rw e at (goes_left b k n before.0 x.1 fork x.0)
+  left_searched right Beyond e x = absurd (let d : Both ≡ Left = x.0 in cc)
 
-    pub child_deeper : (s : Side) → low < level (value h) (child_of snap s).0
-    child_deeper s =
-        let i : level (value h) snap.node.0 < level (value h) (child_of snap s).0 = child_rises c h m.snaps.items snap goes.reads is x.stood x.fork s in
-        let deep = x.deep in
-        omega (arith, i, deep)
+  left_first : (route : Route) → LooksOnRoute route b k n Left → IsOnRoute route b k (value b (child n sides.Left))
+  left_first Above x = absurd (let d : Left ≡ Both = x.0 in cc)
+  left_first (Along right) x = absurd x.0
+  left_first Beyond x = first_left b k n x.1 fork
 
-    right_there : IsRightThere c h snap.right.0
-    right_there = record { stood = there Right; below = let i = child_deeper Right in omega (arith, i) }
+  right_searched : (route : Route) → LooksOnRoute route b k n Right → IsOnRoute route b k (value b (child n sides.Right))
+  right_searched Above x = absurd (let d : Right ≡ Both = x.0 in cc)
+  right_searched (Along right) x = goes_right b k n right.0 x.1 fork x.0
+  right_searched Beyond x = absurd (let d : Right ≡ Left = x.0 in cc)
 
-    -- at a moment at which all infos still hold
-    module _ (b : History) (run : IsTreeRun c.layout b) (e : Extends b h) (hold : AllHold b (m.snaps.items ++ snap ∷ [])) where
-      field : (s : Side) → value b (child snap.node.0 s) ≡ (child_of snap s).0
-      field = field_then c h m.snaps.items snap goes.reads is x.stood x.fork b run e hold
+module _ (r : Successor) (left right : NodeNo) where
+  right_waits : (c : Call) (h : History) (route : Route) → IsThere c h right → AreThere c h (behind_path (route_below route right))
+  right_waits c h Above there = (there, tt)
+  right_waits c h (Along before) there = (there, tt)
+  right_waits c h Beyond there = tt
 
-      same : SameSettled (value h) (value b) snap.node.0
-      same = stood_settled c.layout b h snap.node.0 run e x.stood.stood
+  -- the right child waits where it goes on to the left one of both
+  pub both_go : GoesTo successor_means r (record r { route = route_below r.route right }) Both left right left
+  both_go = record {
+    one = inl refl;
+    waits = λ c h before there. right_waits c h r.route there;
+    below = λ lay b n run fork unmarked to_left to_right x. subst (IsOnRoute (route_below r.route right) b r.key) to_left (left_searched r.key b n fork unmarked right r.route to_right x);
+  }
 
-      fork : is_leaf (value b) snap.node.0 ≡ false
-      fork = settled_leaf (value h) (value b) snap.node.0 same ∙ x.fork
+  pub left_goes : GoesTo successor_means r r Left left right left
+  left_goes = record {
+    one = inl refl;
+    waits = λ c h before there. before;
+    below = λ lay b n run fork unmarked to_left to_right x. subst (IsOnRoute r.route b r.key) to_left (left_first r.key b n fork unmarked r.route x);
+  }
 
-      side_then : toward (value h) snap.node.0 m.key ≡ side → toward (value b) snap.node.0 m.key ≡ side
-      side_then d = settled_toward (value h) (value b) snap.node.0 m.key same ∙ d
+  pub right_goes : GoesTo successor_means r r Right left right right
+  right_goes = record {
+    one = inr refl;
+    waits = λ c h before there. before;
+    below = λ lay b n run fork unmarked to_left to_right x. subst (IsOnRoute r.route b r.key) to_right (right_searched r.key b n fork unmarked r.route x);
+  }
 
-      at_fork : IsOnRoute route b m.key snap.node.0 m.right.0 ⊎ ((route ≡ Along) × (side ≡ Left) × IsOnPath b m.key snap.node.0)
-      at_fork = x.at_fork b run e (hold_before b m.snaps.items snap hold) (unmarked_then c h m.snaps.items snap goes.reads is x.stood x.fork b run e hold)
+-- with no more steps left than before
+pub both_near : (route : Route) (right : NodeNo) (nodes : ℕ) → second_path_left (route_below route right) nodes ≤ second_path_left route nodes
+both_near Above right nodes = omega arith
+both_near (Along before) right nodes = omega arith
+both_near Beyond right nodes = omega arith
 
-      searched_left : IsSearched b m.key (value b (child snap.node.0 Left)) (value b (child snap.node.0 Right)) → IsSearched b m.key snap.left.0 snap.right.0
-      searched_left y = rw (field Left, field Right) at y
+-- What its tests say of a head
 
-    pub along_left : route ≡ Along → side ≡ Left → Whenever c.layout h (m.snaps.items ++ snap ∷ []) (λ b. IsSearched b m.key snap.left.0 snap.right.0)
-    along_left a l b run e hold = searched_left b run e hold (go (at_fork b run e hold))
-      where
-        below : m.key < rank (value b) snap.node.0
-        below = left_below (value b) snap.node.0 m.key (side_then b run e hold (subst (λ r. IsSideOf r h m.key snap.node.0 side) a x.side_is) ∙ l)
+-- it loads the key of nodes of class 0 alone
+pub asks_low : (route : Route) (head : HeadParts) → asks_key route head ≡ true → head.class ≡ 0
+asks_low Above head e = eqb-true head.class 0 e
+asks_low (Along right) head e = eqb-true head.class 0 e
+asks_low Beyond head e = both (eqb head.class 0) refl e
+  where
+    both : (b : Bool) → eqb head.class 0 ≡ b → cond b head.leaf false ≡ true → head.class ≡ 0
+    both true q d = eqb-true head.class 0 q
+    both false q d = absurd (let y : false ≡ true = d in cc)
 
-        go : IsOnRoute route b m.key snap.node.0 m.right.0 ⊎ ((route ≡ Along) × (side ≡ Left) × IsOnPath b m.key snap.node.0) → IsSearched b m.key (value b (child snap.node.0 Left)) (value b (child snap.node.0 Right))
-        go (inl y) = goes_left b m.key snap.node.0 m.right.0 (subst (λ r. IsOnRoute r b m.key snap.node.0 m.right.0) a y) (fork b run e hold) below
-        go (inr y) = begins_below b m.key snap.node.0 y.2 (fork b run e hold) below
+-- and of each on the path of the key, and of each leaf
+asks_not : (head : HeadParts) → eqb head.class 0 ≡ false → head.class ≢ 0
+asks_not head e z = let y : true ≡ false = sym (eq-eqb head.class 0 z) ∙ e in cc
 
-    pub along_right : route ≡ Along → side ≡ Right → Whenever c.layout h (m.snaps.items ++ snap ∷ []) (λ b. IsSearched b m.key snap.right.0 m.right.0)
-    along_right a r b run e hold = rw (field b run e hold Right) at (go (at_fork b run e hold))
-      where
-        above : rank (value b) snap.node.0 ≤ m.key
-        above = right_above (value b) snap.node.0 m.key (side_then b run e hold (subst (λ q. IsSideOf q h m.key snap.node.0 side) a x.side_is) ∙ r)
-
-        go : IsOnRoute route b m.key snap.node.0 m.right.0 ⊎ ((route ≡ Along) × (side ≡ Left) × IsOnPath b m.key snap.node.0) → IsSearched b m.key (value b (child snap.node.0 Right)) m.right.0
-        go (inl y) = goes_right b m.key snap.node.0 m.right.0 (subst (λ q. IsOnRoute q b m.key snap.node.0 m.right.0) a y) (fork b run e hold) above
-        go (inr y) = no_side _ (sym y.1 ∙ r)
-
-    pub beyond_left : route ≡ Beyond → Whenever c.layout h (m.snaps.items ++ snap ∷ []) (λ b. IsFirstBehind b m.key snap.left.0)
-    beyond_left a b run e hold = rw (field b run e hold Left) at (go (at_fork b run e hold))
-      where
-        go : IsOnRoute route b m.key snap.node.0 m.right.0 ⊎ ((route ≡ Along) × (side ≡ Left) × IsOnPath b m.key snap.node.0) → IsFirstBehind b m.key (value b (child snap.node.0 Left))
-        go (inl y) = first_left b m.key snap.node.0 (subst (λ q. IsOnRoute q b m.key snap.node.0 m.right.0) a y) (fork b run e hold)
-        go (inr y) = no_route _ (sym a ∙ y.0)
-
-    -- it stands at the child to which it goes
-    pub stands_left : (now : SuccessorRun) → now.key ≡ m.key → now.snaps.items ≡ m.snaps.items ++ snap ∷ [] → route ≡ Along → side ≡ Left → now.right ≡ snap.right → SuccessorStandsAt now c h Along snap.left.0
-    stands_left now key items a l right = record {
-      stood = there Left;
-      some = rw items (some_more m.snaps.items snap);
-      right = λ _. rw right right_there;
-      on_route = rw (key, items, right) (along_left a l);
-    }
-
-    pub stands_right : (now : SuccessorRun) → now.key ≡ m.key → now.snaps.items ≡ m.snaps.items ++ snap ∷ [] → route ≡ Along → side ≡ Right → now.right ≡ m.right → SuccessorStandsAt now c h Along snap.right.0
-    stands_right now key items a r right = record {
-      stood = there Right;
-      some = rw items (some_more m.snaps.items snap);
-      right = λ _. rw right (x.right a r);
-      on_route = rw (key, items, right) (along_right a r);
-    }
-
-    pub stands_beyond : (now : SuccessorRun) → now.key ≡ m.key → now.snaps.items ≡ m.snaps.items ++ snap ∷ [] → route ≡ Beyond → SuccessorStandsAt now c h Beyond snap.left.0
-    stands_beyond now key items a = record {
-      stood = there Left;
-      some = rw items (some_more m.snaps.items snap);
-      right = λ e. no_route _ e;
-      on_route = rw (key, items) (beyond_left a);
-    }
+pub leaf_high : (route : Route) (head : HeadParts) → asks_key route head ≡ false → head.leaf ≡ true → head.class ≢ 0
+leaf_high Above head e leaf z = asks_not head e z
+leaf_high (Along right) head e leaf z = asks_not head e z
+leaf_high Beyond head e leaf z = let y : true ≡ false = sym (ap (λ b. cond b head.leaf false) (eq-eqb head.class 0 z) ∙ leaf) ∙ e in cc
 
 -- At a node
 
-module _ (m : SuccessorRun) (c : Call) (h : History) (route : Route) (n : ℕ) (goes : SuccessorGoes m c h) (x : SuccessorStandsAt m c h route n) where
-  module _ (b : History) (run : IsTreeRun c.layout b) (e : Extends b h) where
-    same_then : SameSettled (value h) (value b) n
-    same_then = stood_settled c.layout b h n run e x.stood.stood
+module _ (r : Successor) (snaps : List Snap) (c : Call) (h : History) (n : ℕ) (reading : IsReading successor_means r snaps c h) (x : Stands successor_means r snaps c h n) where
+  same_then : (b : History) → IsTreeRun c.layout b → Extends b h → SameSettled (value h) (value b) n
+  same_then b run e = stood_settled c.layout b h n run e x.stood.stood
 
   -- a leaf above all keys: there is no pair
-  pub tells_nothing : is_leaf (value h) n ≡ true → class (value h) n ≢ 0 → Whenever c.layout h m.snaps.items (λ b. IsNextAt c.layout b m.key None)
-  tells_nothing leaf high b run e hold ps spelled = first_tells b m.key n (go route (x.on_route b run e hold)) c.layout ps leaf_then spelled ∙ tells_none (value b) n high_then
-    where
-      same : SameSettled (value h) (value b) n
-      same = same_then b run e
-
-      leaf_then : is_leaf (value b) n ≡ true
-      leaf_then = settled_leaf (value h) (value b) n same ∙ leaf
-
-      high_then : class (value b) n ≢ 0
-      high_then z = high (sym (settled_class (value h) (value b) n same) ∙ z)
-
-      above : m.key < rank (value b) n
-      above = let s = goes.small in omega (arith, s, high_then)
-
-      go : (r : Route) → IsOnRoute r b m.key n m.right.0 → IsFirstBehind b m.key n
-      go Along y = ends_here b m.key n m.right.0 y leaf_then above
-      go Beyond y = y
-
-  -- a fork: it goes on to this side
-  pub looks_at : (low : ℕ) (side : Side) → is_leaf (value h) n ≡ false → low ≤ level (value h) n → IsSideOf route h m.key n side → LooksAt m c h route low side n
-  looks_at low side fork deep side_is = record {
-    stood = x.stood;
-    fork = fork;
-    deep = deep;
-    side_is = side_is;
-    right = λ a r. x.right a;
-    at_fork = λ b run e hold unmarked. inl (x.on_route b run e hold);
+  pub tells_nothing : IsOwnMoment c h → is_leaf (value h) n ≡ true → class (value h) n ≢ 0 → MayValidate successor_means (record r { found = None }) snaps c h
+  tells_nothing own leaf high = record {
+    asks = tt;
+    own = own;
+    some = some_taken successor_means r snaps c h reading n x leaf;
+    right = λ b run e hold ps spelled.
+        let same : SameSettled (value h) (value b) n = same_then b run e in
+        let leaf_then : is_leaf (value b) n ≡ true = settled_leaf (value h) (value b) n same ∙ leaf in
+        let high_then : class (value b) n ≢ 0 = λ z. high (sym (settled_class (value h) (value b) n same) ∙ z) in
+        ap pair_or_none (first_tells b r.key n (go b leaf_then high_then r.route (x.here b run e hold)) c.layout ps leaf_then spelled ∙ tells_none (value b) n high_then);
   }
+    where
+      go : (b : History) → is_leaf (value b) n ≡ true → class (value b) n ≢ 0 → (route : Route) → IsOnRoute route b r.key n → IsFirstBehind b r.key n
+      go b leaf_then high_then Above y = absurd y
+      go b leaf_then high_then (Along right) y = ends_here b r.key n right.0 y leaf_then (let s = reading.suits in omega (arith, s, high_then))
+      go b leaf_then high_then Beyond y = y
 
-  -- a leaf of the map
-  module _ (key : ℕ) (leaf : is_leaf (value h) n ≡ true) (low : class (value h) n ≡ 0) (d : key_at h n ≡ key) where
-    rank_then : (b : History) (run : IsTreeRun c.layout b) (e : Extends b h) → rank (value b) n ≡ key
-    rank_then b run e =
-        let r : rank (value b) n ≡ rank (value h) n = settled_rank (value h) (value b) n (same_then b run e) in
-        let y = low in let z = d in
-        omega (arith, r, y, z)
+  -- a fork
+  looks_at : (left : Bool) (head : HeadParts) → head_at h n ≡ head → head.leaf ≡ false → ((right : NodeNo) → r.route ≡ Along right → ((left ≡ true) × (r.key < rank (value h) n)) ⊎ ((left ≡ false) × (rank (value h) n ≤ r.key))) → Looks successor_means r snaps c h (children_below r.route left) head.level n
+  looks_at left head is fork side = record {
+    stood = x.stood;
+    asks = tt;
+    fork = ap (λ (w : HeadParts). w.leaf) is ∙ fork;
+    deep = let l : level (value h) n ≡ head.level = ap (λ (w : HeadParts). w.level) is in omega (arith, l);
+    waits = x.waits;
+    here = λ b run e hold. go b (settled_rank (value h) (value b) n (same_then b run e)) r.route refl (x.here b run e hold);
+  }
+    where
+      on_path : (b : History) (right : NodeNo) → rank (value b) n ≡ rank (value h) n → ((left ≡ true) × (r.key < rank (value h) n)) ⊎ ((left ≡ false) × (rank (value h) n ≤ r.key)) → IsOnRoute (Along right) b r.key n → LooksOnRoute (Along right) b r.key n (children_below (Along right) left)
+      on_path b right same (inl i) y = rw i.0 (rw same i.1, y)
+      on_path b right same (inr i) y = rw i.0 (rw same i.1, y)
 
-    pub leaf_above : m.key < key → HasLeaf m c h n key
-    leaf_above i = record { stood = x.stood; some = x.some; leaf = leaf; low = low; key_is = d; first = λ b run e hold. go b run e route (x.on_route b run e hold) }
+      go : (b : History) → rank (value b) n ≡ rank (value h) n → (route : Route) → r.route ≡ route → IsOnRoute route b r.key n → LooksOnRoute route b r.key n (children_below route left)
+      go b same Above e y = absurd y
+      go b same (Along right) e y = on_path b right same (side right e) y
+      go b same Beyond e y = (refl, y)
+
+  -- of which it loads no key
+  pub high_looks : (head : HeadParts) → head_at h n ≡ head → asks_key r.route head ≡ false → head.leaf ≡ false → Looks successor_means r snaps c h (children_below r.route true) head.level n
+  high_looks head is e fork = looks_at true head is fork (λ right on. inl (refl, above (subst (λ route. asks_key route head ≡ false) on e)))
+    where
+      above : asks_key (Along record { 0 = 0 }) head ≡ false → r.key < rank (value h) n
+      above d =
+          let high : class (value h) n ≢ 0 = λ z. asks_not head d (sym (ap (λ (w : HeadParts). w.class) is) ∙ z) in
+          let s = reading.suits in
+          omega (arith, s, high)
+
+  -- Of class 0
+
+  module _ (head : HeadParts) (key : ℕ) (has : HasLowHead h n head) (key_is : key_at h n ≡ key) where
+    low : class (value h) n ≡ 0
+    low = ap (λ (w : HeadParts). w.class) has.head_is ∙ has.low
+
+    rank_is : rank (value h) n ≡ key
+    rank_is = let z = low in let e = key_is in omega (arith, z, e)
+
+    pub low_looks : head.leaf ≡ false → Looks successor_means r snaps c h (children_below r.route (ltb r.key key)) head.level n
+    low_looks fork = looks_at (ltb r.key key) head has.head_is fork (λ right on. split (ltb r.key key) refl)
       where
-        go : (b : History) → IsTreeRun c.layout b → Extends b h → (r : Route) → IsOnRoute r b m.key n m.right.0 → IsFirstBehind b m.key n
-        go b run e Along y = ends_here b m.key n m.right.0 y (settled_leaf (value h) (value b) n (same_then b run e) ∙ leaf) (let r = rank_then b run e in omega (arith, r, i))
-        go b run e Beyond y = y
+        split : (b : Bool) → ltb r.key key ≡ b → ((ltb r.key key ≡ true) × (r.key < rank (value h) n)) ⊎ ((ltb r.key key ≡ false) × (rank (value h) n ≤ r.key))
+        split true p = inl (p, rw rank_is (ltb-true r.key key p))
+        split false p = inr (p, rw rank_is (ltb-false r.key key p))
 
-    pub leaf_beyond : route ≡ Beyond → HasLeaf m c h n key
-    leaf_beyond a = record { stood = x.stood; some = x.some; leaf = leaf; low = low; key_is = d; first = λ b run e hold. subst (λ r. IsOnRoute r b m.key n m.right.0) a (x.on_route b run e hold) }
+    module _ (leaf : head.leaf ≡ true) where
+      leaf_is : is_leaf (value h) n ≡ true
+      leaf_is = ap (λ (w : HeadParts). w.leaf) has.head_is ∙ leaf
 
-    -- that is not above the key: it goes on from the right child
-    pub stands_behind : route ≡ Along → key ≤ m.key → SuccessorStandsAt m c h Beyond m.right.0
-    stands_behind a i = record {
-      stood = (x.right a).stood;
-      some = x.some;
-      right = λ q. no_route _ q;
-      on_route = λ b run e hold. ends_behind b m.key n m.right.0 (subst (λ r. IsOnRoute r b m.key n m.right.0) a (x.on_route b run e hold)) (settled_leaf (value h) (value b) n (same_then b run e) ∙ leaf) (let r = rank_then b run e in omega (arith, r, i));
-    }
+      leaf_then : (b : History) → IsTreeRun c.layout b → Extends b h → is_leaf (value b) n ≡ true
+      leaf_then b run e = settled_leaf (value h) (value b) n (same_then b run e) ∙ leaf_is
 
--- What its tests say
+      rank_then : (b : History) → IsTreeRun c.layout b → Extends b h → rank (value b) n ≡ key
+      rank_then b run e = settled_rank (value h) (value b) n (same_then b run e) ∙ rank_is
 
-module _ (m : SuccessorRun) (c : Call) (h : History) (route : Route) (n : ℕ) (goes : SuccessorGoes m c h) (x : SuccessorStandsAt m c h route n) (head : HeadParts) (is : head_at h n ≡ head) where
-  class_is : class (value h) n ≡ head.class
-  class_is = ap (λ (w : HeadParts). w.class) is
+      -- it is the leaf of the answer
+      pub answers_here : behind_leaf r.route r.key key ≡ None → HasKey successor_means (record r { route = Beyond }) snaps c h n key
+      answers_here none = record {
+        stands = record { stood = x.stood; asks = tt; some = x.some; waits = tt; here = λ b run e hold. go b run e r.route none (x.here b run e hold) };
+        leaf = leaf_is;
+        low = low;
+        key_is = key_is;
+        takes = refl;
+      }
+        where
+          above : (right : NodeNo) (b : Bool) → ltb r.key key ≡ b → cond b None (Some right) ≡ None → r.key < key
+          above right true p d = ltb-true r.key key p
+          above right false p d = absurd (let y : Some right ≡ None = d in cc)
 
-  pub leaf_is : head.leaf ≡ true → is_leaf (value h) n ≡ true
-  leaf_is e = ap (λ (w : HeadParts). w.leaf) is ∙ e
+          go : (b : History) → IsTreeRun c.layout b → Extends b h → (route : Route) → behind_leaf route r.key key ≡ None → IsOnRoute route b r.key n → IsFirstBehind b r.key n
+          go b run e Above d y = absurd y
+          go b run e (Along right) d y = ends_here b r.key n right.0 y (leaf_then b run e) (rw (rank_then b run e) (above right (ltb r.key key) refl d))
+          go b run e Beyond d y = y
 
-  pub fork_is : head.leaf ≡ false → is_leaf (value h) n ≡ false
-  fork_is e = ap (λ (w : HeadParts). w.leaf) is ∙ e
+      -- or it goes on from the node that waits
+      pub stands_behind : (right : NodeNo) → behind_leaf r.route r.key key ≡ Some right → Stands successor_means (record r { route = Beyond }) snaps c h right.0 × (0 < level (value h) right.0)
+      stands_behind right some = go r.route refl some
+        where
+          below : (before : NodeNo) (b : Bool) → ltb r.key key ≡ b → cond b None (Some before) ≡ Some right → (key ≤ r.key) × (before ≡ right)
+          below before true p d = absurd (let y : None ≡ Some right = d in cc)
+          below before false p d = (ltb-false r.key key p, (let y : Some before ≡ Some right = d in cc))
 
-  -- it loads the key
-  pub head_there : successor_asks_key route head ≡ true → HasHead h route n head
-  head_there e = record { head_is = is; low = low route e; leaf = λ b. leaf (subst (λ r. successor_asks_key r head ≡ true) b e) }
-    where
-      zero_class : eqb head.class 0 ≡ true → head.class ≡ 0
-      zero_class d = eqb-true head.class 0 d
+          on_path : r.route ≡ Along right → key ≤ r.key → Stands successor_means (record r { route = Beyond }) snaps c h right.0 × (0 < level (value h) right.0)
+          on_path is i =
+              let there : AreThere c h (right ∷ []) = subst (λ route. AreThere c h (behind_path route)) is x.waits in (
+                record {
+                  stood = there.0.0;
+                  asks = tt;
+                  some = inr (some_taken successor_means r snaps c h reading n x leaf_is);
+                  waits = tt;
+                  here = λ b run e hold. ends_behind b r.key n right.0 (subst (λ route. IsOnRoute route b r.key n) is (x.here b run e hold)) (leaf_then b run e) (rw (rank_then b run e) i);
+                },
+                there.0.1,
+              )
 
-      both : (b : Bool) → eqb head.class 0 ≡ b → cond b head.leaf false ≡ true → (eqb head.class 0 ≡ true) × (head.leaf ≡ true)
-      both true q d = (q, d)
-      both false q d = absurd (let y : false ≡ true = d in cc)
-
-      low : (r : Route) → successor_asks_key r head ≡ true → head.class ≡ 0
-      low Along d = zero_class d
-      low Beyond d = zero_class (both (eqb head.class 0) refl d).0
-
-      leaf : successor_asks_key Beyond head ≡ true → head.leaf ≡ true
-      leaf d = (both (eqb head.class 0) refl d).1
-
-  -- a leaf of which it loads no key is above all keys
-  pub high_there : successor_asks_key route head ≡ false → head.leaf ≡ true → class (value h) n ≢ 0
-  high_there e leaf z = go route e
-    where
-      zero_class : head.class ≡ 0
-      zero_class = sym class_is ∙ z
-
-      go : (r : Route) → successor_asks_key r head ≡ false → ⊥
-      go Along d = let y : true ≡ false = sym (eq-eqb head.class 0 zero_class) ∙ d in cc
-      go Beyond d = let y : true ≡ false = sym (ap (λ b. cond b head.leaf false) (eq-eqb head.class 0 zero_class) ∙ leaf) ∙ d in cc
-
-  -- a fork of which it loads no key it leaves on the left
-  pub looks_left : successor_asks_key route head ≡ false → head.leaf ≡ false → LooksAt m c h route head.level Left n
-  looks_left e fork = looks_at m c h route n goes x head.level Left (fork_is fork) (let l : level (value h) n ≡ head.level = ap (λ (w : HeadParts). w.level) is in omega (arith, l)) (go route e)
-    where
-      high : successor_asks_key Along head ≡ false → class (value h) n ≢ 0
-      high d z = let y : true ≡ false = sym (eq-eqb head.class 0 (sym class_is ∙ z)) ∙ d in cc
-
-      above : successor_asks_key Along head ≡ false → m.key < rank (value h) n
-      above d = let s = goes.small in let z = high d in omega (arith, s, z)
-
-      go : (r : Route) → successor_asks_key r head ≡ false → IsSideOf r h m.key n Left
-      go Along d = rw (lt-ltb m.key (rank (value h) n) (above d)) refl
-      go Beyond d = refl
-
--- behind the path each leaf of class 0 is the answer
-pub along_of : (route : Route) (k key : ℕ) → is_answer route k key ≡ false → route ≡ Along
-along_of Along k key e = refl
-along_of Beyond k key e = absurd (let y : true ≡ false = e in cc)
-
-module _ (m : SuccessorRun) (c : Call) (h : History) (route : Route) (n key : ℕ) (goes : SuccessorGoes m c h) (x : SuccessorStandsAt m c h route n) (head : HeadParts) (has : HasHead h route n head) (key_is : key_at h n ≡ key) where
-  low_class : class (value h) n ≡ 0
-  low_class = ap (λ (w : HeadParts). w.class) has.head_is ∙ has.low
-
-  -- the leaf is the answer
-  pub answers_here : head.leaf ≡ true → is_answer route m.key key ≡ true → HasLeaf m c h n key
-  answers_here leaf e = go route refl e
-    where
-      is : is_leaf (value h) n ≡ true
-      is = ap (λ (w : HeadParts). w.leaf) has.head_is ∙ leaf
-
-      go : (r : Route) → route ≡ r → is_answer r m.key key ≡ true → HasLeaf m c h n key
-      go Along a d = leaf_above m c h route n goes x key is low_class key_is (ltb-true m.key key d)
-      go Beyond a d = leaf_beyond m c h route n goes x key is low_class key_is a
-
-  -- or it goes on from the right child
-  along_then : is_answer route m.key key ≡ false → route ≡ Along
-  along_then e = along_of route m.key key e
-
-  pub answers_behind : head.leaf ≡ true → is_answer route m.key key ≡ false → SuccessorStandsAt m c h Beyond m.right.0
-  answers_behind leaf e = stands_behind m c h route n goes x key is low_class key_is (along_then e) (ltb-false m.key key (subst (λ r. is_answer r m.key key ≡ false) (along_then e) e))
-    where
-      is : is_leaf (value h) n ≡ true
-      is = ap (λ (w : HeadParts). w.leaf) has.head_is ∙ leaf
-
-  pub deeper_behind : is_answer route m.key key ≡ false → 0 < level (value h) m.right.0
-  deeper_behind e = (x.right (along_then e)).below
+          go : (route : Route) → r.route ≡ route → behind_leaf route r.key key ≡ Some right → Stands successor_means (record r { route = Beyond }) snaps c h right.0 × (0 < level (value h) right.0)
+          go Above is d = absurd (let y : None ≡ Some right = d in cc)
+          go (Along before) is d = let y = below before (ltb r.key key) refl d in on_path (is ∙ ap Along y.1) y.0
+          go Beyond is d = absurd (let y : None ≡ Some right = d in cc)
 
 -- At the leaf of the answer
 
-pub tells_this : (m : SuccessorRun) (c : Call) (h : History) (n key v : ℕ) → HasLeaf m c h n key → value h (node n first_value) ≡ v → Whenever c.layout h m.snaps.items (λ b. IsNextAt c.layout b m.key (Some (pair key v)))
-tells_this m c h n key v x d b run e hold ps spelled = first_tells b m.key n first c.layout ps leaf spelled ∙ tells_pair (value b) n key v (first_counted b m.key n first leaf low) low is_key (same first_value tt ∙ d)
-  where
-    first : IsFirstBehind b m.key n
-    first = x.first b run e hold
-
-    same : SameSettled (value h) (value b) n
-    same = stood_settled c.layout b h n run e x.stood.stood
-
-    leaf : is_leaf (value b) n ≡ true
-    leaf = settled_leaf (value h) (value b) n same ∙ x.leaf
-
-    low : class (value b) n ≡ 0
-    low = settled_class (value h) (value b) n same ∙ x.low
-
-    is_key : value b (node n first_key) ≡ key
-    is_key = same first_key tt ∙ x.key_is
-
--- The VLX
-
-pub validates : (m : SuccessorRun) (c : Call) (h : History) (found : Option Pair) → SuccessorGoes m c h → IsOwnMoment c h → Whenever c.layout h m.snaps.items (λ b. IsNextAt c.layout b m.key found) → SuccessorValidates m c h h found
-validates m c h found goes own x = record { own = own; within = ends_self h; reads = goes.reads; right = λ hold. x h goes.reads.run (ends_self h) hold }
-
-pub vlx_ready : (m : SuccessorRun) (c : Call) (h : History) → SuccessorGoes m c h → 0 < length m.snaps.items → VlxIsReady m.snaps.items 0 (begun_at c h) h None
-vlx_ready m c h goes some = first_look c h m.snaps.items goes.reads some
-
--- all nodes are as they were found: the answer is the map's as the VLX began
-pub replies : (m : SuccessorRun) (c : Call) (begin h : History) (found : Option Pair) → SuccessorValidates m c h begin found → IsSame (begun_at c begin) h m.snaps.items → IsReplyAt c h (Successor m.key) (pair_or_none found)
-replies m c begin h found x same = record {
-  moment = begin;
-  within = x.within;
-  own = x.own;
-  map = spelled.0;
-  spelled = spelled.1;
-  gives = ap pair_or_none (x.right same.info spelled.0 spelled.1);
+pub tells_this : (r : Successor) (snaps : List Snap) (c : Call) (h : History) (n : ℕ) (p : Pair) → IsReading successor_means r snaps c h → IsOwnMoment c h → HasKey successor_means r snaps c h n p.key → value_at h n ≡ p.value → MayValidate successor_means (record r { found = Some p }) snaps c h
+tells_this r snaps c h n p reading own x d = record {
+  asks = tt;
+  own = own;
+  some = some_taken successor_means r snaps c h reading n x.stands x.leaf;
+  right = λ b run e hold ps spelled.
+      let same : SameSettled (value h) (value b) n = stood_settled c.layout b h n run e x.stands.stood.stood in
+      let leaf : is_leaf (value b) n ≡ true = settled_leaf (value h) (value b) n same ∙ x.leaf in
+      let low : class (value b) n ≡ 0 = settled_class (value h) (value b) n same ∙ x.low in
+      let key_is : value b (node n first_key) ≡ p.key = same first_key tt ∙ x.key_is in
+      let first : IsFirstBehind b r.key n = subst (λ route. IsOnRoute route b r.key n) x.takes (x.stands.here b run e hold) in
+      ap pair_or_none (first_tells b r.key n first c.layout ps leaf spelled ∙ tells_pair (value b) n p.key p.value (first_counted b r.key n first leaf low) low key_is (same first_value tt ∙ d));
 }
-  where
-    spelled : (ps : List Pair) × Spells c.layout (value begin) ps
-    spelled = run_spells c.layout begin x.reads.run

@@ -1,21 +1,22 @@
 -- How an ordered read begins.
-use Rattle.std.proofs.Common.{◌≡◌, ◌^◌, ◌<◌, suc, [], subst, None}
+use Rattle.std.proofs.Common.{◌≡◌, suc, [], subst, None}
 use Rattle.arena.specs.History.{History}
 use Rattle.arena.specs.Machines.{Call, begun_at}
 use Rattle.prims.specs.Moments.{AreFinished}
 use Rattle.prims.specs.Laws.Idle.{idle_if_finished}
 use Rattle.ordered_map.specs.Runs.{IsTreeRun}
+use Rattle.order.specs.Known.{ReadIsReady}
 use Rattle.order.specs.Laws.Kept.{reads_anew}
+use Rattle.order.specs.Meaning.{ReadMeaning}
 use Rattle.order.specs.Reads.{Reads}
-use Rattle.order.specs.Successor.Known.{SuccessorIsReady}
-use Rattle.order.specs.declared.successor.SuccessorAt.TheVariants.{Start}
-use Rattle.order.specs.declared.successor.SuccessorRun.{SuccessorRun}
+use Rattle.order.specs.declared.run.ReadAt.TheVariants.{Start}
+use Rattle.order.specs.declared.run.ReadRun.{ReadRun}
 use Rattle.order.proofs.Blaming.{begins_first}
 
--- a successor that has not begun may be called, where all that its pass has taken is finished
-pub successor_ready_first : (m : SuccessorRun) (c : Call) (h : History) → IsTreeRun c.layout h → h ≡ c.start → m.key < 2 ^ 64 → AreFinished c.layout c.pass 0 h → m.at ≡ Start → m.snaps.items ≡ [] → m.limit ≡ suc m.tries → SuccessorIsReady m c h None
-successor_ready_first m c h run e small over at items all = (
-  record { reads = subst (λ k. Reads (begun_at c k) h m.snaps.items) e (reads_anew c h m.snaps.items items run over); small = small },
+-- a read that has not begun may be called, where all that its pass has taken is finished
+pub read_ready_first : {R A : Type 0} (means : ReadMeaning R A) (m : ReadRun R) (c : Call) (h : History) → IsTreeRun c.layout h → h ≡ c.start → means.suits (means.call m.read) → AreFinished c.layout c.pass 0 h → m.at ≡ Start → m.snaps.items ≡ [] → m.limit ≡ suc m.tries → ReadIsReady means m c h None
+read_ready_first means m c h run e suits over at items all = (
+  record { reads = subst (λ k. Reads (begun_at c k) h m.snaps.items) e (reads_anew c h m.snaps.items items run over); suits = suits },
   at,
   begins_first c h m.limit m.tries e (idle_if_finished c h run.1.lawful over) all,
 )

@@ -1,236 +1,310 @@
--- What a successor waits for after each of its turns.
-use Rattle.std.proofs.Common.{◌≡◌, ℕ, ◌<◌, [], inl, inr, refl, sym, ◌∙◌, ap, subst, arith, Option, Some, None, unwrap_or, Result, Ok}
+-- What an ordered read waits for after each of its turns.
+use Rattle.std.proofs.Common.{◌≡◌, ℕ, ◌+◌, ◌*◌, ◌<◌, List, [], length, inl, inr, refl, sym, ◌∙◌, ap, subst, arith, Option, Some, None, Result, Ok, Err, IfOk, unwrap_or}
 use Rattle.arena.specs.declared.head.Head.{Head as HeadParts}
 use Rattle.arena.specs.declared.machine.Turn.{Turn}
 use Rattle.arena.specs.declared.machine.Turn.TheVariants.{Ask, Done}
 use Rattle.arena.specs.declared.number.NodeNo.{NodeNo}
 use Rattle.arena.specs.declared.number.ScxNo.{ScxNo}
 use Rattle.arena.specs.declared.step.Step.{Step}
-use Rattle.arena.specs.declared.step.Kind.TheVariants.{LoadSettled}
+use Rattle.arena.specs.declared.step.Kind.TheVariants.{LoadMarked, LoadSettled}
 use Rattle.arena.specs.declared.word.NodeWord.TheVariants.{Settled}
 use Rattle.arena.specs.declared.word.SettledPart.TheVariants.{Head as HeadWord}
-use Rattle.arena.specs.declared.word.Side.{Side}
-use Rattle.arena.specs.declared.word.Side.TheVariants.{Left, Right}
-use Rattle.arena.specs.Words.{node, first_key, first_value}
+use Rattle.arena.specs.declared.word.Side.TheVariants as sides
+use Rattle.arena.specs.Words.{marked, node, first_key, first_value}
 use Rattle.arena.specs.History.{History, value, Extends}
-use Rattle.arena.specs.Machines.{Call, MatchTurn, begun_at}
+use Rattle.arena.specs.Machines.{Call, IsRun, MatchTurn, begun_at}
 use Rattle.prims.specs.Llx.Known.{load, IsSnapshot, LlxIsReady, LlxWaits, LlxAnswers}
 use Rattle.prims.specs.Vlx.Known.{VlxIsReady, VlxWaits, VlxAnswers}
+use Rattle.prims.specs.Vlx.Laws.{first_looked, looks_next}
+use Rattle.prims.specs.Vlx.Steps.{vlx_left}
 use Rattle.prims.specs.declared.llx.Llx.{Llx}
 use Rattle.prims.specs.declared.llx.Llx.TheVariants.{Snapshot, Finalized, Fail}
+use Rattle.prims.specs.declared.llx.LlxAt.{LlxAt}
+use Rattle.prims.specs.declared.llx.LlxAt.TheVariants.{Start as LlxStart, Marked}
 use Rattle.prims.specs.declared.llx.LlxRun.{LlxRun}
 use Rattle.prims.specs.declared.snap.Snap.{Snap}
 use Rattle.prims.specs.declared.vlx.Vlx.{Vlx}
 use Rattle.prims.specs.declared.vlx.Vlx.TheVariants.{Same, Changed}
-use Rattle.ordered_map.specs.declared.pair.Pair.{Pair}
+use Rattle.prims.proofs.Lemmas.{turn_first}
 use Rattle.ordered_map.specs.TreeShape.{TreeAllows}
 use Rattle.ordered_map.specs.TreeWords.{level}
-use Rattle.template.specs.FoundLeaf.{path_key, HasEnded, HasFoundGoal}
+use Rattle.template.specs.Blame.{IsContended}
+use Rattle.template.specs.FoundLeaf.{path_key, HasFoundGoal}
 use Rattle.template.specs.Trails.{IsOwnMoment}
 use Rattle.template.specs.Walk.Known.{WalkKnows, WalkIsReady, WalkWaits, WalkAnswers}
 use Rattle.template.specs.Walk.Places.{IsPastRoot}
 use Rattle.template.specs.declared.walk.Found.{Found}
 use Rattle.template.specs.declared.walk.Goal.TheVariants.{Key as ToKey}
 use Rattle.template.specs.declared.walk.WalkAt.{WalkAt}
-use Rattle.template.specs.declared.walk.WalkAt.TheVariants.{Start as WalkStart, Root, Head as AtHead, Key as AtKey, Child, Value as AtValue}
+use Rattle.template.specs.declared.walk.WalkAt.TheVariants.{Start as WalkStart, Root as WalkRoot, Head as AtHead, Key as AtKey, Child, Value as AtValue}
 use Rattle.template.specs.declared.walk.WalkRun.{WalkRun}
+use Rattle.order.specs.Found.{BeginsAtRoot, BeginsSo, HasKey, HasLowHead, IsReading, Looks, WalksTo}
+use Rattle.order.specs.Known.{IsLastTurn, IsSameRead, ReadAnswers, ReadGoes, ReadIsReady, ReadIsToldAt, ReadTurn, ReadWaits, RunStands, Validates, Walks, WalksInTry}
+use Rattle.order.specs.Laws.Kept.{root_there}
+use Rattle.order.specs.Meaning.{ReadMeaning}
+use Rattle.order.specs.Paths.{BeginsNear, ComesNearer}
+use Rattle.order.specs.Places.{GoesOn, MayGoOn, RunComesNearer, next_step, placed}
+use Rattle.order.specs.Steps.{ReadFits, ReadFitsAt, ReadIsNearer, last_turn, phase_left, read_left, run_try_left, tries_left}
 use Rattle.order.specs.Tries.{BeginsTry, IsInTry}
-use Rattle.template.specs.Blame.{IsContended}
-use Rattle.order.specs.Successor.Known.{HasTurnedLeft, IsLastTurn, WalksInTry, LooksAt, SuccessorStandsAt, HasHead, HasLeaf, SuccessorValidates, SuccessorGoes, SuccessorIsToldAt, SuccessorWaits, SuccessorIsReady, SuccessorAnswers, SuccessorTurn}
-use Rattle.order.specs.Successor.Steps.{last_turn}
+use Rattle.order.specs.declared.read.Children.{Children}
+use Rattle.order.specs.declared.read.Children.TheVariants.{Both}
+use Rattle.order.specs.declared.read.ReadBegin.TheVariants as begins
+use Rattle.order.specs.declared.read.ReadNext.{ReadNext}
+use Rattle.order.specs.declared.read.ReadNext.TheVariants as next
 use Rattle.order.specs.declared.refused.Refused.{Refused}
-use Rattle.order.specs.declared.successor.Route.{Route}
-use Rattle.order.specs.declared.successor.SuccessorAt.{SuccessorAt}
-use Rattle.order.specs.declared.successor.SuccessorAt.TheVariants.{Start, Walk, Look, Head, Key, Value, Validate}
-use Rattle.order.specs.declared.successor.SuccessorRun.{SuccessorRun}
-use Rattle.order.proofs.Blaming.{look_failed, look_finalized, look_changed, reply_wider, tried_here}
-use Rattle.order.proofs.Finding.{last_turned, replies}
+use Rattle.order.specs.declared.run.ReadAt.{ReadAt}
+use Rattle.order.specs.declared.run.ReadAt.TheVariants.{Start, Walk, Root, Head, Key, Value, Look, Validate}
+use Rattle.order.specs.declared.run.ReadRun.{ReadRun}
+use Rattle.order.proofs.Blaming.{first_look, look_failed, look_finalized, look_changed, reply_wider, tried_before, tried_here}
+use Rattle.order.proofs.Looking.{look_ready, replies, validates, walk_found}
 
-abbrev pub Told : Type 0
-Told = Result (Option Pair) Refused
+module _ {R A : Type 0} (means : ReadMeaning R A) (m : ReadRun R) where
+  -- Its walk
 
--- Wherever it stands
+  module _ (walk after : WalkRun) (turn : NodeNo) (c : Call) (begin h : History) (try : IsInTry c h begin m.limit m.tries) (goes : ReadGoes means m (begun_at c begin) h) (key : ℕ) (goal : walk.goal ≡ ToKey key) (to : WalksTo means m.read key) (last : IsLastTurn (begun_at c begin) h key turn.0) (same : after.goal ≡ walk.goal) where
+    turned : (at : WalkAt) → WalkKnows (begun_at c begin) h after at → IsLastTurn (begun_at c begin) h key (last_turn at after.trail.node turn).0
+    turned (Child low sides.Left) k = inr record { passed = rw is at k.0.node; fork = k.2; left = rw is at k.3 }
+      where
+        is : path_key after.goal ≡ key
+        is = ap path_key (same ∙ goal)
+    turned (Child low sides.Right) k = last
+    turned WalkStart k = last
+    turned WalkRoot k = last
+    turned (AtHead above) k = last
+    turned (AtKey head) k = last
+    turned (AtValue head k') k = last
 
--- what it knows does not depend on where it stands
-pub goes_at : (m : SuccessorRun) (at : SuccessorAt) (c : Call) (h : History) → SuccessorGoes m c h → SuccessorGoes (record m { at = at }) c h
-goes_at m at c h x = record { reads = x.reads; small = x.small }
+    past : (next : NodeNo) (at : WalkAt) → IsPastRoot at → WalksInTry means m c h begin next at
+    past next WalkStart p = absurd p
+    past next WalkRoot p = absurd p
+    past next _ p = try
 
--- a try less, and no snapshot
-pub goes_again : (m now : SuccessorRun) (c : Call) (h : History) → now.key ≡ m.key → now.snaps.items ≡ [] → SuccessorGoes m c h → SuccessorGoes now c h
-goes_again m now c h key items x = record {
-  reads = rw items record { run = x.reads.run; since = x.reads.since; over = x.reads.over; quiet = x.reads.quiet; snapped = λ i p. absurd (omega (arith, p)) };
-  small = rw key x.small;
-}
+    -- a step behind the root takes it on, with the last fork where it has turned left
+    pub walk_waits : (step : Step) → IsPastRoot after.at → WalkWaits after (begun_at c begin) h step → ReadWaits means (record m { at = Walk after (last_turn after.at after.trail.node turn) }) c h step
+    walk_waits step p waits = (
+      begin,
+      past (last_turn after.at after.trail.node turn) after.at p,
+      goes,
+      (record { key = key; goal = same ∙ goal; goes_to = to; last = turned after.at waits.known }, waits),
+    )
 
-pub goes_less : (m now : SuccessorRun) (c : Call) (h : History) → now.key ≡ m.key → now.snaps ≡ m.snaps → SuccessorGoes m c h → SuccessorGoes now c h
-goes_less m now c h key items x = record {
-  reads = rw items record { run = x.reads.run; since = x.reads.since; over = x.reads.over; quiet = x.reads.quiet; snapped = x.reads.snapped };
-  small = rw key x.small;
-}
-
--- Its loads
-
-module _ (m now : SuccessorRun) (c : Call) (begin h : History) (turn : Turn Told) (try : IsInTry c h begin m.limit m.tries) (goes : SuccessorGoes m (begun_at c begin) h) where
-  pub asks_head : (route : Route) (above : ℕ) (n : NodeNo) → now ≡ record m { at = Head route above n } → turn ≡ Ask (load LoadSettled (node n.0 (Settled HeadWord))) → SuccessorStandsAt m (begun_at c begin) h route n.0 → above < level (value h) n.0 → SuccessorTurn c h now turn
-  asks_head route above n is asked x deep = rw (asked, is) (
-    begin,
-    try,
-    goes_at m (Head route above n) (begun_at c begin) h goes,
-    (record { stood = x.stood; some = x.some; right = x.right; on_route = x.on_route }, deep, refl),
-  )
-
-  pub asks_key : (route : Route) (head : HeadParts) (n : NodeNo) → now ≡ record m { at = Key route head n } → turn ≡ Ask (load LoadSettled (node n.0 first_key)) → SuccessorStandsAt m (begun_at c begin) h route n.0 → HasHead h route n.0 head → SuccessorTurn c h now turn
-  asks_key route head n is asked x has = rw (asked, is) (
-    begin,
-    try,
-    goes_at m (Key route head n) (begun_at c begin) h goes,
-    (record { stood = x.stood; some = x.some; right = x.right; on_route = x.on_route }, has, refl),
-  )
-
-  pub asks_value : (key : ℕ) (n : NodeNo) → now ≡ record m { at = Value key n } → turn ≡ Ask (load LoadSettled (node n.0 first_value)) → HasLeaf m (begun_at c begin) h n.0 key → SuccessorTurn c h now turn
-  asks_value key n is asked x = rw (asked, is) (
-    begin,
-    try,
-    goes_at m (Value key n) (begun_at c begin) h goes,
-    (record { stood = x.stood; some = x.some; leaf = x.leaf; low = x.low; key_is = x.key_is; first = x.first }, refl),
-  )
-
--- Its walk
-
-module _ (m : SuccessorRun) (walk after : WalkRun) (turn : NodeNo) (c : Call) (begin h : History) (t : Turn Found) (goes : SuccessorGoes m (begun_at c begin) h) (goal : walk.goal ≡ ToKey m.key) (last : IsLastTurn (begun_at c begin) h m.key turn.0)
-    (same : after.goal ≡ walk.goal) (w : MatchTurn t (WalkWaits after (begun_at c begin) h) (WalkAnswers after (begun_at c begin) h)) where
-  turned : (at : WalkAt) → WalkKnows (begun_at c begin) h after at → IsLastTurn (begun_at c begin) h m.key (last_turn at after.trail.node turn).0
-  turned (Child low Left) k = inr record { passed = rw key at k.0.node; fork = k.2; left = rw key at k.3 }
+  -- behind the leaf that it has found it looks at that fork
+  pub found_looks : (walk after : WalkRun) (turn : NodeNo) (c : Call) (h : History) (t : Turn Found) (f : Found) → ReadGoes means m c h → (key : ℕ) → walk.goal ≡ ToKey key → WalksTo means m.read key → IsLastTurn c h key turn.0 → after.goal ≡ walk.goal → t ≡ Done f → MatchTurn t (WalkWaits after c h) (WalkAnswers after c h) → Looks means m.read m.snaps.items c h Both 0 turn.0
+  found_looks walk after turn c h t f goes key goal to last same done w = walk_found means m.read m.snaps.items c h goes key turn.0 f to last (subst (λ g. HasFoundGoal g c h f) (same ∙ goal) found)
     where
-      key : path_key after.goal ≡ m.key
-      key = ap path_key (same ∙ goal)
-  turned (Child low Right) k = last
-  turned WalkStart k = last
-  turned Root k = last
-  turned (AtHead above) k = last
-  turned (AtKey head) k = last
-  turned (AtValue head key) k = last
-
-  past : (next : NodeNo) (at : WalkAt) → IsPastRoot at → IsInTry c h begin m.limit m.tries → WalksInTry m c h begin next at
-  past next WalkStart p try = absurd p
-  past next Root p try = absurd p
-  past next _ p try = try
-
-  -- it asks for a step
-  pub walks_on : (step : Step) (next : NodeNo) → t ≡ Ask step → next ≡ last_turn after.at after.trail.node turn → IsPastRoot after.at → IsInTry c h begin m.limit m.tries → SuccessorWaits (record m { at = Walk after next }) c h step
-  walks_on step next asked is p try = (
-    begin,
-    past next after.at p try,
-    goes_at m (Walk after next) (begun_at c begin) h goes,
-    (same ∙ goal, rw is (turned after.at waits.known), waits),
-  )
-    where
-      waits : WalkWaits after (begun_at c begin) h step
-      waits = rw asked at w
-
-  -- it has found the leaf
-  pub walk_turned : (f : Found) → t ≡ Done f → HasTurnedLeft (begun_at c begin) h m.key turn.0
-  walk_turned f done = last_turned (begun_at c begin) h m.key m.key turn.0 f goes.reads.run goes.small ended last
-    where
-      found : HasFoundGoal after.goal (begun_at c begin) h f
+      found : HasFoundGoal after.goal c h f
       found = rw done at w
 
-      ended : HasEnded (begun_at c begin) h m.key m.key f
-      ended = subst (λ g. HasFoundGoal g (begun_at c begin) h f) (same ∙ goal) found
-
--- it begins with the load of the root's head, once the snapshots of the last try are forgotten
-pub walks_first : (m empty now : SuccessorRun) (walk : WalkRun) (c : Call) (begin h : History) (turn : Turn Told) → BeginsTry c h empty.limit empty.tries → SuccessorGoes m (begun_at c begin) h → empty.key ≡ m.key → empty.snaps.items ≡ [] → walk.goal ≡ ToKey m.key → walk.trail.node.0 ≡ 0 → now ≡ record empty { at = Walk (record walk { at = Root }) (record { 0 = 0 }) } → turn ≡ Ask (load LoadSettled (node 0 (Settled HeadWord))) → SuccessorTurn c h now turn
-walks_first m empty now walk c begin h turn try goes key items goal root is asked = rw (asked, is) (
-  begin,
-  (try, items, refl),
-  goes_at empty (Walk (record walk { at = Root }) (record { 0 = 0 })) (begun_at c begin) h (goes_again m empty (begun_at c begin) h key items goes),
-  (goal ∙ ap ToKey (sym key), inl refl, record { run = goes.reads.run; small = rw goal goes.small; since = goes.reads.since; known = root; asked = ap (λ n. load LoadSettled (node n (Settled HeadWord))) (sym root) }),
-)
-
--- Its LLXs
-
-module _ (m : SuccessorRun) (c : Call) (begin look h : History) (route : Route) (low : ℕ) (side : Side) (llx after : LlxRun) (turn : Turn Llx) (goes : SuccessorGoes m (begun_at c begin) h) (x : LooksAt m (begun_at c begin) h route low side llx.node.0) (since : Extends look begin)
-    (same : after.node ≡ llx.node) (w : MatchTurn turn (LlxWaits TreeAllows after (begun_at c look) h) (LlxAnswers after (begun_at c look) h)) where
-  looks_same : LooksAt m (begun_at c begin) h route low side after.node.0
-  looks_same = subst (λ (n : NodeNo). LooksAt m (begun_at c begin) h route low side n.0) (sym same) x
-
-  -- it asks for a step
-  pub looks_on : (step : Step) → turn ≡ Ask step → IsInTry c h begin m.limit m.tries → SuccessorWaits (record m { at = Look route low side after }) c h step
-  looks_on step asked try = (
+  -- it begins with the load of the root's head, as it walks
+  pub walks_first : (walk : WalkRun) (c : Call) (begin h : History) → BeginsTry c h m.limit m.tries → m.snaps.items ≡ [] → ReadGoes means m (begun_at c begin) h → (key : ℕ) → walk.goal ≡ ToKey key → walk.trail.node.0 ≡ 0 → WalksTo means m.read key → ReadWaits means (record m { at = Walk (record walk { at = WalkRoot }) (record { 0 = 0 }) }) c h (load LoadSettled (node 0 (Settled HeadWord)))
+  walks_first walk c begin h try none goes key goal root to = (
     begin,
-    try,
-    goes_at m (Look route low side after) (begun_at c begin) h goes,
+    ((try, none, to.waits), refl),
+    goes,
     (
-      record { stood = looks_same.stood; fork = looks_same.fork; deep = looks_same.deep; side_is = looks_same.side_is; right = looks_same.right; at_fork = looks_same.at_fork },
-      (look, since, rw asked at w),
+      record { key = key; goal = goal; goes_to = to; last = inl refl },
+      record { run = goes.reads.run; small = rw goal (to.small goes.suits); since = goes.reads.since; known = root; asked = ap (λ n. load LoadSettled (node n (Settled HeadWord))) (sym root) },
     ),
   )
 
-  -- it has taken a snapshot
-  pub snapped : (snap : Snap) → turn ≡ Done (Snapshot snap) → LooksAt m (begun_at c begin) h route low side snap.node.0 × IsSnapshot c.layout h snap.node.0 snap
-  snapped snap done = (rw (← is.node) at looks_same, subst (λ n. IsSnapshot c.layout h n snap) (sym is.node) is)
-    where
-      is : IsSnapshot c.layout h after.node.0 snap
-      is = (rw done at w).0
-
-  -- or none
-  pub finalized : (n : NodeNo) (s : ScxNo) → turn ≡ Done (Finalized n s) → IsContended (begun_at c begin) h n.0 s.0
-  finalized n s done = look_finalized (begun_at c begin) h m.snaps.items goes.reads after look n s since looks_same.stood (rw done at w)
-
-  pub failed : (n : NodeNo) (s : ScxNo) → turn ≡ Done (Fail n s) → IsContended (begun_at c begin) h n.0 s.0
-  failed n s done = look_failed (begun_at c begin) h m.snaps.items goes.reads after look n s since (rw done at w)
-
--- Its VLX
-
-module _ (m : SuccessorRun) (c : Call) (begin look h : History) (asked : ℕ) (found : Option Pair) (turn : Turn Vlx) (goes : SuccessorGoes m (begun_at c begin) h) (x : SuccessorValidates m (begun_at c begin) h look found) (w : MatchTurn turn (VlxWaits m.snaps.items asked (begun_at c look) h) (VlxAnswers m.snaps.items (begun_at c look) h)) where
-  pub validates_on : (step : Step) → turn ≡ Ask step → IsInTry c h begin m.limit m.tries → SuccessorWaits (record m { at = Validate asked found }) c h step
-  validates_on step is try = (
+  -- or as it visits that
+  pub roots_first : (c : Call) (begin h : History) → BeginsTry c h m.limit m.tries → m.snaps.items ≡ [] → ReadGoes means m (begun_at c begin) h → BeginsAtRoot means m.read → ReadWaits means (record m { at = Root }) c h (load LoadSettled (node 0 (Settled HeadWord)))
+  roots_first c begin h try none goes x = (
     begin,
-    try,
-    goes_at m (Validate asked found) (begun_at c begin) h goes,
-    (look, record { own = x.own; within = x.within; reads = x.reads; right = x.right }, rw is at w),
+    (try, none, x.waits),
+    goes,
+    (record { stood = root_there (begun_at c begin) h goes.reads.run goes.reads.since; asks = x.asks; some = inl refl; waits = rw x.waits tt; here = λ b run e hold. x.root c.layout b goes.suits run }, refl),
   )
 
-  pub told : turn ≡ Done Same → IsInTry c h begin m.limit m.tries → SuccessorAnswers m c h (Ok found)
-  told is try = (goes.reads.over, reply_wider c begin h _ _ try.begins.since (replies m (begun_at c begin) look h found x (rw is at w)), tried_here c h begin m.limit m.tries try)
+  -- a try less, and no snapshot
+  goes_again : (old : ReadRun R) (c : Call) (h : History) → IsSameRead means old m → m.snaps.items ≡ [] → ReadGoes means old c h → ReadGoes means m c h
+  goes_again old c h same none x = record {
+    reads = rw none record { run = x.reads.run; since = x.reads.since; over = x.reads.over; quiet = x.reads.quiet; snapped = λ i p. absurd (omega (arith, p)) };
+    suits = rw same.0 x.suits;
+  }
 
-  pub changed : (n : NodeNo) (s : ScxNo) → turn ≡ Done (Changed n s) → IsContended (begun_at c begin) h n.0 s.0
-  changed n s is = look_changed (begun_at c begin) look h m.snaps.items n.0 s.0 goes.reads.run.1.lawful x.reads (rw is at w)
+  -- so it begins a try, or ends at once
+  module _ (old now : ReadRun R) (c : Call) (begin h : History) (turn : Turn (Result A Refused)) (same : IsSameRead means old m) (tries : m.tries ≡ old.tries) (none : m.snaps.items ≡ []) (try : BeginsTry c h old.limit old.tries) (goes : ReadGoes means old (begun_at c begin) h) where
+    try_now : BeginsTry c h m.limit m.tries
+    try_now = rw (same.1, tries) try
 
--- As it is told something
+    pub begins_walk : (walk : WalkRun) (key : ℕ) → walk.goal ≡ ToKey key → walk.trail.node.0 ≡ 0 → WalksTo means m.read key → now ≡ record m { at = Walk (record walk { at = WalkRoot }) (record { 0 = 0 }) } → turn ≡ Ask (load LoadSettled (node 0 (Settled HeadWord))) → ReadTurn means c h now turn
+    begins_walk walk key goal root to is asked = rw (asked, is) (walks_first walk c begin h try_now none (goes_again old (begun_at c begin) h same none goes) key goal root to)
 
-module _ (m : SuccessorRun) (c : Call) (h : History) where
-  pub at_start : (got : Option ℕ) → m.at ≡ Start → SuccessorIsReady m c h got → BeginsTry c h m.limit m.tries × SuccessorGoes m c h
-  at_start None is r = (r.2, r.0)
-  at_start (Some v) is r = absurd (subst (λ p. SuccessorIsToldAt m (begun_at c r.0) h v p) is r.4)
+    pub begins_root : BeginsAtRoot means m.read → now ≡ record m { at = Root } → turn ≡ Ask (load LoadSettled (node 0 (Settled HeadWord))) → ReadTurn means c h now turn
+    begins_root x is asked = rw (asked, is) (roots_first c begin h try_now none (goes_again old (begun_at c begin) h same none goes) x)
 
-  -- it is told of what it has asked for in a try
-  abbrev pub ToldInTry : (Call → Type 0) → Type 0
-  ToldInTry P = (begin : History) × IsInTry c h begin m.limit m.tries × SuccessorGoes m (begun_at c begin) h × IsOwnMoment (begun_at c begin) h × P (begun_at c begin)
+  pub answers_all : (old : ReadRun R) (c : Call) (begin h : History) → IsSameRead means old m → BeginsTry c h old.limit old.tries → ReadGoes means old (begun_at c begin) h → (answer : A) → BeginsSo means m.read (begins.Answer answer) → ReadAnswers means m c h (Ok answer)
+  answers_all old c begin h same try goes answer x = (goes.reads.over, inr x, rw same.1 (tried_before c h old.limit old.tries try))
 
-  told_at : (v : ℕ) (at : SuccessorAt) → m.at ≡ at → SuccessorIsReady m c h (Some v) → ToldInTry (λ d. SuccessorIsToldAt m d h v at)
-  told_at v at is r = (r.0, r.1, r.2, r.3, subst (λ p. SuccessorIsToldAt m (begun_at c r.0) h v p) is r.4)
+  -- with fewer steps left than in a try
+  module _ {T : Type 0} (old now : ReadRun R) (nodes : ℕ) (turn : Turn T) (step : Step) (same : IsSameRead means old m) (tries : m.tries ≡ old.tries) (none : m.snaps.items ≡ []) (asked : turn ≡ Ask step) where
+    each_same : run_try_left means m nodes ≡ run_try_left means old nodes
+    each_same = ap (λ call. means.try_left call nodes) same.0
 
-  pub at_walk : (got : Option ℕ) (walk : WalkRun) (turn : NodeNo) → m.at ≡ Walk walk turn → SuccessorIsReady m c h got → (v : ℕ) × (got ≡ Some v) × ToldInTry (λ d. (walk.goal ≡ ToKey m.key) × IsLastTurn d h m.key turn.0 × WalkIsReady walk d h (Some v))
-  at_walk None walk turn is r = absurd (let d : Walk walk turn ≡ Start = sym is ∙ r.1 in cc)
-  at_walk (Some v) walk turn is r = (v, refl, told_at v (Walk walk turn) is r)
+    all_same : tries_left means m nodes ≡ tries_left means old nodes
+    all_same = λ i. tries i * means.try_left (same.0 i) nodes
 
-  pub at_look : (got : Option ℕ) (route : Route) (low : ℕ) (side : Side) (llx : LlxRun) → m.at ≡ Look route low side llx → SuccessorIsReady m c h got → ToldInTry (λ d. LooksAt m d h route low side llx.node.0 × ((look : History) × Extends look d.start × LlxIsReady TreeAllows llx (begun_at d look) h got))
-  at_look None route low side llx is r = absurd (let d : Look route low side llx ≡ Start = sym is ∙ r.1 in cc)
-  at_look (Some v) route low side llx is r = told_at v (Look route low side llx) is r
+    pub walk_nearer : (walk : WalkRun) (last : NodeNo) (key : ℕ) → now ≡ record m { at = Walk (record walk { at = WalkRoot }) last } → BeginsNear means m.read nodes (begins.Walk key) → ReadIsNearer means now nodes turn (tries_left means old nodes + run_try_left means old nodes)
+    walk_nearer walk last key is near = let e = ap length none in let each = each_same in let all = all_same in rw (asked, is) (omega (arith, e, near, each, all))
 
-  pub at_head : (got : Option ℕ) (route : Route) (above : ℕ) (n : NodeNo) → m.at ≡ Head route above n → SuccessorIsReady m c h got → ToldInTry (λ d. SuccessorStandsAt m d h route n.0 × (above < level (value h) n.0) × (value h (node n.0 (Settled HeadWord)) ≡ unwrap_or got 0))
-  at_head None route above n is r = absurd (let d : Head route above n ≡ Start = sym is ∙ r.1 in cc)
-  at_head (Some v) route above n is r = told_at v (Head route above n) is r
+    pub root_nearer : now ≡ record m { at = Root } → BeginsNear means m.read nodes begins.Root → ReadIsNearer means now nodes turn (tries_left means old nodes + run_try_left means old nodes)
+    root_nearer is near = let e = ap length none in let each = each_same in let all = all_same in rw (asked, is) (omega (arith, e, near, each, all))
 
-  pub at_key : (got : Option ℕ) (route : Route) (head : HeadParts) (n : NodeNo) → m.at ≡ Key route head n → SuccessorIsReady m c h got → ToldInTry (λ d. SuccessorStandsAt m d h route n.0 × HasHead h route n.0 head × (value h (node n.0 first_key) ≡ unwrap_or got 0))
-  at_key None route head n is r = absurd (let d : Key route head n ≡ Start = sym is ∙ r.1 in cc)
-  at_key (Some v) route head n is r = told_at v (Key route head n) is r
+  -- Its LLXs
 
-  pub at_value : (got : Option ℕ) (key : ℕ) (n : NodeNo) → m.at ≡ Value key n → SuccessorIsReady m c h got → ToldInTry (λ d. HasLeaf m d h n.0 key × (value h (node n.0 first_value) ≡ unwrap_or got 0))
-  at_value None key n is r = absurd (let d : Value key n ≡ Start = sym is ∙ r.1 in cc)
-  at_value (Some v) key n is r = told_at v (Value key n) is r
+  module _ (c : Call) (begin look h : History) (children : Children) (low : ℕ) (llx after : LlxRun) (turn : Turn Llx) (goes : ReadGoes means m (begun_at c begin) h) (x : Looks means m.read m.snaps.items (begun_at c begin) h children low llx.node.0) (since : Extends look begin)
+      (same : after.node ≡ llx.node) (w : MatchTurn turn (LlxWaits TreeAllows after (begun_at c look) h) (LlxAnswers after (begun_at c look) h)) where
+    looks_same : Looks means m.read m.snaps.items (begun_at c begin) h children low after.node.0
+    looks_same = subst (λ (n : NodeNo). Looks means m.read m.snaps.items (begun_at c begin) h children low n.0) (sym same) x
 
-  pub at_validate : (got : Option ℕ) (asked : ℕ) (found : Option Pair) → m.at ≡ Validate asked found → SuccessorIsReady m c h got → ToldInTry (λ d. (look : History) × SuccessorValidates m d h look found × VlxIsReady m.snaps.items asked (begun_at d look) h got)
-  at_validate None asked found is r = absurd (let d : Validate asked found ≡ Start = sym is ∙ r.1 in cc)
-  at_validate (Some v) asked found is r = told_at v (Validate asked found) is r
+    -- it asks for a step
+    pub looks_on : (step : Step) → turn ≡ Ask step → IsInTry c h begin m.limit m.tries → ReadWaits means (record m { at = Look children low after }) c h step
+    looks_on step asked try = (begin, try, goes, (looks_same, (look, since, rw asked at w)))
+
+    -- it has taken a snapshot
+    pub snapped : (snap : Snap) → turn ≡ Done (Snapshot snap) → Looks means m.read m.snaps.items (begun_at c begin) h children low snap.node.0 × IsSnapshot c.layout h snap.node.0 snap
+    snapped snap done = (rw (← is.node) at looks_same, subst (λ n. IsSnapshot c.layout h n snap) (sym is.node) is)
+      where
+        is : IsSnapshot c.layout h after.node.0 snap
+        is = (rw done at w).0
+
+    -- or none
+    pub finalized : (n : NodeNo) (s : ScxNo) → turn ≡ Done (Finalized n s) → IsContended (begun_at c begin) h n.0 s.0
+    finalized n s done = look_finalized (begun_at c begin) h m.snaps.items goes.reads after look n s since looks_same.stood (rw done at w)
+
+    pub failed : (n : NodeNo) (s : ScxNo) → turn ≡ Done (Fail n s) → IsContended (begun_at c begin) h n.0 s.0
+    failed n s done = look_failed (begun_at c begin) h m.snaps.items goes.reads after look n s since (rw done at w)
+
+  -- Its VLX
+
+  -- what that is told and tells, of the snapshots as they stand in their list
+  pub vlx_turn : (c : Call) (begin look h : History) (before after : List Snap) (asked now : ℕ) (got : Option ℕ) (turn : Turn Vlx) → before ≡ m.snaps.items → after ≡ before → ((d : Call) (k : History) → IsRun TreeAllows d.layout k → VlxIsReady before asked d k got → MatchTurn turn (VlxWaits after now d k) (VlxAnswers after d k)) → ReadGoes means m (begun_at c begin) h → VlxIsReady m.snaps.items asked (begun_at c look) h got → MatchTurn turn (VlxWaits m.snaps.items now (begun_at c look) h) (VlxAnswers m.snaps.items (begun_at c look) h)
+  vlx_turn c begin look h before after asked now got turn is same step goes ready = subst (λ (l : List Snap). MatchTurn turn (VlxWaits l now (begun_at c look) h) (VlxAnswers l (begun_at c look) h)) (same ∙ is) (step (begun_at c look) h goes.reads.run.1 (subst (λ (l : List Snap). VlxIsReady l asked (begun_at c look) h got) (sym is) ready))
+
+  pub vlx_nearer : (before after : List Snap) (asked now : ℕ) (turn : Turn Vlx) (step : Step) → before ≡ m.snaps.items → after ≡ before → turn ≡ Ask step → MatchTurn turn (λ _. vlx_left after now < vlx_left before asked) (λ _. Unit {0}) → vlx_left m.snaps.items now < vlx_left m.snaps.items asked
+  vlx_nearer before after asked now turn step is same asks near = subst (λ (l : List Snap). vlx_left l now < vlx_left l asked) is (subst (λ (l : List Snap). vlx_left l now < vlx_left before asked) same (rw asks at near))
+
+  module _ (c : Call) (begin look h : History) (goes : ReadGoes means m (begun_at c begin) h) (x : Validates means m.read m.snaps.items (begun_at c begin) h look) where
+    pub validates_on : (asked : ℕ) (turn : Turn Vlx) (step : Step) → MatchTurn turn (VlxWaits m.snaps.items asked (begun_at c look) h) (VlxAnswers m.snaps.items (begun_at c look) h) → turn ≡ Ask step → IsInTry c h begin m.limit m.tries → ReadWaits means (record m { at = Validate asked }) c h step
+    validates_on asked turn step w is try = (begin, try, goes, (look, x, rw is at w))
+
+    -- where it finds all as it was, what the read has found is its answer
+    pub told : (turn : Turn Vlx) (asked : ℕ) (now : ReadRun R) (answer : A) → MatchTurn turn (VlxWaits m.snaps.items asked (begun_at c look) h) (VlxAnswers m.snaps.items (begun_at c look) h) → turn ≡ Done Same → IsInTry c h begin m.limit m.tries → means.call now.read ≡ means.call m.read → now.limit ≡ m.limit → means.told answer ≡ means.found m.read → ReadAnswers means now c h (Ok answer)
+    told turn asked now answer w is try call limit tells = (
+      goes.reads.over,
+      inl (reply_wider c begin h _ _ try.begins.since (rw call (replies means m.read m.snaps.items (begun_at c begin) look h (means.told answer) x (rw is at w) tells))),
+      rw limit (tried_here c h begin m.limit m.tries try),
+    )
+
+    pub changed : (turn : Turn Vlx) (asked : ℕ) (n : NodeNo) (s : ScxNo) → MatchTurn turn (VlxWaits m.snaps.items asked (begun_at c look) h) (VlxAnswers m.snaps.items (begun_at c look) h) → turn ≡ Done (Changed n s) → IsContended (begun_at c begin) h n.0 s.0
+    changed turn asked n s w is = look_changed (begun_at c begin) look h m.snaps.items n.0 s.0 goes.reads.run.1.lawful x.reads (rw is at w)
+
+  -- What comes next
+
+  -- it waits for the step with which that begins
+  pub next_waits : (c : Call) (h : History) (next : ReadNext) → MayGoOn means c h m next → ReadWaits means (placed m next) c h (next_step m next)
+  next_waits c h (next.Head above n) (begin, try, on) = (begin, try, on.0, (on.1.0, on.1.1, refl))
+  next_waits c h (next.Key head n) (begin, try, on) = (begin, try, on.0, (on.1.0, on.1.1, refl))
+  next_waits c h (next.Value key n) (begin, try, on) = (begin, try, on.0, (on.1, refl))
+  next_waits c h (next.Look children low n) (begin, try, on) = looks_on c begin h h children low (llx LlxStart) (llx Marked) (Ask (load LoadMarked (marked n.0))) on.0 on.1 on.0.reads.since refl (turn_first TreeAllows (begun_at c h) h on.0.reads.run.1 (llx LlxStart) (llx Marked) (Ask _) (look_ready (begun_at c begin) h m.snaps.items n.0 (llx LlxStart) on.0.reads on.1.stood refl refl) record { stands = refl; asked = refl }) _ refl try
+    where
+      llx : LlxAt → LlxRun
+      llx at = record { node = n; at = at }
+  next_waits c h next.Validate (begin, try, on) = validates_on c begin h h on.0 (validates means m.read m.snaps.items (begun_at c begin) h on.0 on.1) 1 (Ask _) _ (looks_next (begun_at c h) h m.snaps.items 0 (first_looked (begun_at c h) h m.snaps.items 0 (first_look (begun_at c begin) h m.snaps.items on.0.reads on.1.some)) on.1.some) refl try
+
+  pub stands_there : (now : ReadRun R) (c : Call) (h : History) (turn : Turn (Result A Refused)) (next : ReadNext) → now ≡ placed m next → turn ≡ Ask (next_step m next) → MayGoOn means c h m next → ReadTurn means c h now turn
+  stands_there now c h turn next is asked x = rw (asked, is) (next_waits c h next x)
+
+  -- or it ends, for want of memory
+  pub ends_refused : (c : Call) (begin h : History) (refused : Refused) (left : ℕ) → IsInTry c h begin m.limit left → GoesOn means (begun_at c begin) h m (Err refused) → ReadAnswers means m c h (Err refused)
+  ends_refused c begin h refused left try x = rw x.1 (x.0.reads.over, tt, tried_here c h begin m.limit left try)
+
+  -- and has fewer steps left than before
+  pub placed_nearer : (next : ReadNext) (nodes n : ℕ) → 0 < n → RunComesNearer means m nodes next n → read_left means (placed m next) nodes < tries_left means m nodes + n
+  placed_nearer (next.Head above node) nodes n some near = let i = near.0 in let j = near.1 in omega (arith, i, j)
+  placed_nearer (next.Key head node) nodes n some near = let i = near.0 in let j = near.1 in omega (arith, i, j)
+  placed_nearer (next.Value key node) nodes n some near = let j = near.1 in omega (arith, j)
+  placed_nearer (next.Look children level node) nodes n some near = let i = near.1 in omega (arith, i)
+  placed_nearer next.Validate nodes n some near = let j = near.1 in omega (arith, j, some)
+
+  -- what is not the VLX is a step at least
+  abbrev IsNoVlx : ReadNext → Type 0
+  IsNoVlx next.Validate = ⊥
+  IsNoVlx _ = Unit {0}
+
+  pub some_left : (next : ReadNext) (nodes n : ℕ) → IsNoVlx next → RunComesNearer means m nodes next n → 0 < n
+  some_left (next.Head above node) nodes n is near = let i = near.0 in let j = near.1 in omega (arith, i, j)
+  some_left (next.Key head node) nodes n is near = let i = near.0 in let j = near.1 in omega (arith, i, j)
+  some_left (next.Value key node) nodes n is near = let j = near.1 in omega (arith, j)
+  some_left (next.Look children level node) nodes n is near = let j = near.1 in omega (arith, j)
+  some_left next.Validate nodes n is near = absurd is
+
+  pub stands_nearer : {T : Type 0} (now : ReadRun R) (turn : Turn T) (next : ReadNext) (step : Step) (nodes n : ℕ) → now ≡ placed m next → turn ≡ Ask step → 0 < n → RunComesNearer means m nodes next n → ReadIsNearer means now nodes turn (tries_left means m nodes + n)
+  stands_nearer now turn next step nodes n is asked some near = rw (asked, is) (placed_nearer next nodes n some near)
+
+  -- As it is told something
+
+  module _ (c : Call) (h : History) where
+    pub at_start : (got : Option ℕ) → m.at ≡ Start → ReadIsReady means m c h got → BeginsTry c h m.limit m.tries × ReadGoes means m c h
+    at_start None is r = (r.2, r.0)
+    at_start (Some v) is r = absurd (subst (λ p. ReadIsToldAt means m (begun_at c r.0) h v p) is r.4)
+
+    -- it is told of what it has asked for in a try
+    abbrev pub ToldInTry : (Call → Type 0) → Type 0
+    ToldInTry P = (begin : History) × IsInTry c h begin m.limit m.tries × ReadGoes means m (begun_at c begin) h × IsOwnMoment (begun_at c begin) h × P (begun_at c begin)
+
+    told_at : (v : ℕ) (at : ReadAt) → m.at ≡ at → ReadIsReady means m c h (Some v) → ToldInTry (λ d. ReadIsToldAt means m d h v at)
+    told_at v at is r = (r.0, r.1, r.2, r.3, subst (λ p. ReadIsToldAt means m (begun_at c r.0) h v p) is r.4)
+
+    pub at_walk : (got : Option ℕ) (walk : WalkRun) (turn : NodeNo) → m.at ≡ Walk walk turn → ReadIsReady means m c h got → (v : ℕ) × (got ≡ Some v) × ToldInTry (λ d. Walks means m.read d h walk turn × WalkIsReady walk d h (Some v))
+    at_walk None walk turn is r = absurd (let d : Walk walk turn ≡ Start = sym is ∙ r.1 in cc)
+    at_walk (Some v) walk turn is r = (v, refl, told_at v (Walk walk turn) is r)
+
+    pub at_look : (got : Option ℕ) (children : Children) (low : ℕ) (llx : LlxRun) → m.at ≡ Look children low llx → ReadIsReady means m c h got → ToldInTry (λ d. Looks means m.read m.snaps.items d h children low llx.node.0 × ((look : History) × Extends look d.start × LlxIsReady TreeAllows llx (begun_at d look) h got))
+    at_look None children low llx is r = absurd (let d : Look children low llx ≡ Start = sym is ∙ r.1 in cc)
+    at_look (Some v) children low llx is r = told_at v (Look children low llx) is r
+
+    pub at_root : (got : Option ℕ) → m.at ≡ Root → ReadIsReady means m c h got → ToldInTry (λ d. RunStands means m d h 0 × (value h (node 0 (Settled HeadWord)) ≡ unwrap_or got 0))
+    at_root None is r = absurd (let d : Root ≡ Start = sym is ∙ r.1 in cc)
+    at_root (Some v) is r = told_at v Root is r
+
+    pub at_head : (got : Option ℕ) (above : ℕ) (n : NodeNo) → m.at ≡ Head above n → ReadIsReady means m c h got → ToldInTry (λ d. RunStands means m d h n.0 × (above < level (value h) n.0) × (value h (node n.0 (Settled HeadWord)) ≡ unwrap_or got 0))
+    at_head None above n is r = absurd (let d : Head above n ≡ Start = sym is ∙ r.1 in cc)
+    at_head (Some v) above n is r = told_at v (Head above n) is r
+
+    pub at_key : (got : Option ℕ) (head : HeadParts) (n : NodeNo) → m.at ≡ Key head n → ReadIsReady means m c h got → ToldInTry (λ d. RunStands means m d h n.0 × HasLowHead h n.0 head × (value h (node n.0 first_key) ≡ unwrap_or got 0))
+    at_key None head n is r = absurd (let d : Key head n ≡ Start = sym is ∙ r.1 in cc)
+    at_key (Some v) head n is r = told_at v (Key head n) is r
+
+    pub at_value : (got : Option ℕ) (key : ℕ) (n : NodeNo) → m.at ≡ Value key n → ReadIsReady means m c h got → ToldInTry (λ d. HasKey means m.read m.snaps.items d h n.0 key × (value h (node n.0 first_value) ≡ unwrap_or got 0))
+    at_value None key n is r = absurd (let d : Value key n ≡ Start = sym is ∙ r.1 in cc)
+    at_value (Some v) key n is r = told_at v (Value key n) is r
+
+    pub at_validate : (got : Option ℕ) (asked : ℕ) → m.at ≡ Validate asked → ReadIsReady means m c h got → ToldInTry (λ d. (look : History) × Validates means m.read m.snaps.items d h look × VlxIsReady m.snaps.items asked (begun_at d look) h got)
+    at_validate None asked is r = absurd (let d : Validate asked ≡ Start = sym is ∙ r.1 in cc)
+    at_validate (Some v) asked is r = told_at v (Validate asked) is r
+
+  -- what it is told fits as its place says, and so it leaves fewer steps
+  pub fits_at : (got : Option ℕ) (nodes : ℕ) (at : ReadAt) → m.at ≡ at → ReadFits means m got nodes → ReadFitsAt means m got nodes at
+  fits_at got nodes at is fits = subst (ReadFitsAt means m got nodes) is fits
+
+  pub left_as : {T : Type 0} (mid now : ReadRun R) (nodes n : ℕ) (turn : Turn T) → mid.tries ≡ m.tries → means.call mid.read ≡ means.call m.read → ReadIsNearer means now nodes turn (tries_left means mid nodes + n) → ReadIsNearer means now nodes turn (tries_left means m nodes + n)
+  left_as mid now nodes n turn tries same near = subst (λ t. ReadIsNearer means now nodes turn (t + n)) (λ i. tries i * means.try_left (same i) nodes) near
+
+  pub left_at : {T : Type 0} (nodes : ℕ) (now : ReadRun R) (turn : Turn T) (at : ReadAt) → m.at ≡ at → ReadIsNearer means now nodes turn (tries_left means m nodes + phase_left means m nodes at) → ReadIsNearer means now nodes turn (read_left means m nodes)
+  left_at nodes now turn at is near = subst (λ p. ReadIsNearer means now nodes turn (tries_left means m nodes + phase_left means m nodes p)) (sym is) near
+
+  -- What the read tells is told of the run
+
+  pub goes_read : (now : R) (c : Call) (h : History) → means.call now ≡ means.call m.read → ReadGoes means m c h → IsReading means now m.snaps.items c h
+  goes_read now c h same x = record { reads = x.reads; suits = rw same x.suits }
+
+-- with the snapshots that it has
+module _ {R A : Type 0} (means : ReadMeaning R A) (now : R) (m : ReadRun R) (nodes : ℕ) where
+  pub goes_taken : (next : ReadNext) (n : ℕ) → ComesNearer means now nodes next n → RunComesNearer means (record m { read = now }) nodes next (length m.snaps.items + n)
+  goes_taken next n near = (near.0, (let i = near.1 in omega (arith, i)))
+
+  pub all_taken : (next : Result ReadNext Refused) (n : ℕ) → IfOk next (λ next. ComesNearer means now nodes next n) → IfOk next (λ next. RunComesNearer means (record m { read = now }) nodes next (length m.snaps.items + n))
+  all_taken (Ok next) n near = goes_taken next n near
+  all_taken (Err refused) n near = tt

@@ -19,22 +19,24 @@ use Rattle.histories.proofs.Lemmas.{Facts, IsOwned, Logs, facts, lawful_since, l
 use Rattle.prims.specs.Laws.Idle.{IsQuietSince, out_by_others}
 use Rattle.prims.proofs.Lemmas.{wins_in_progress}
 use Rattle.ordered_map.specs.declared.pair.Pair.{Pair}
-use Rattle.ordered_map.specs.OrderedMap.{MapCall, MapReply, OnePair, ManyPairs, Range, Successor, pair_or_none, range, reply, successor}
+use Rattle.ordered_map.specs.OrderedMap.{MapCall, MapReply, OnePair, ManyPairs, pair_or_none, range, reply, successor}
 use Rattle.ordered_map.specs.Runs.{IsTreeRun}
 use Rattle.ordered_map.specs.Spelled.{Spells}
 use Rattle.ordered_map.proofs.Lemmas.{one_spelling, quiet_spells, run_since}
 use Rattle.template.proofs.Lemmas.{own_since}
-use Rattle.order.specs.Range.Known.{IsSameRange, RangeIsReady, RangeAnswers, RangeReplies, RangeTurn}
-use Rattle.order.specs.Range.Steps.{range_left, RangeIsNearer, range_phase_left, range_try_left}
-use Rattle.order.specs.Replies.{IsReplyAt, KeepsTries}
 use Rattle.template.specs.Blame.{IsContended}
-use Rattle.order.specs.Successor.Known.{SuccessorIsReady, SuccessorAnswers, SuccessorTurn}
-use Rattle.order.specs.Successor.Steps.{successor_left, SuccessorIsNearer, successor_phase_left, successor_try_left}
+use Rattle.order.specs.Known.{HasReplied, IsSameRead, ReadAnswers, ReadIsReady, ReadTurn}
+use Rattle.order.specs.Meaning.{ReadMeaning}
+use Rattle.order.specs.Range.{range_means}
+use Rattle.order.specs.Replies.{IsReplyAt, KeepsTries}
+use Rattle.order.specs.Steps.{ReadIsNearer, phase_left, read_left, run_try_left}
+use Rattle.order.specs.Successor.{successor_means}
 use Rattle.order.specs.Undisturbed.{HasLeftAll, HasLessOfTry, TellsNext, TellsRange}
-use Rattle.order.specs.declared.range.RangeRun.{RangeRun}
+use Rattle.order.specs.declared.range.Range.{Range as RangeRead}
 use Rattle.order.specs.declared.refused.Refused.{Refused}
 use Rattle.order.specs.declared.refused.Refused.TheVariants.{Contended, NoMemory}
-use Rattle.order.specs.declared.successor.SuccessorRun.{SuccessorRun}
+use Rattle.order.specs.declared.run.ReadRun.{ReadRun}
+use Rattle.order.specs.declared.successor.Successor.{Successor as SuccessorRead}
 
 -- What a reply tells
 
@@ -85,19 +87,12 @@ module _ (c : Call) (h : History) (run : IsTreeRun c.layout h) (alone : IsUndist
 
   -- and a turn leaves fewer steps of this try
   module _ (nodes : ℕ) where
-    next_in_try : (old now : SuccessorRun) (turn : Turn (Result (Option Pair) Refused)) → now.tries ≡ old.tries → SuccessorIsNearer now nodes turn (successor_left old nodes) → HasLessOfTry turn (successor_phase_left now nodes now.at) (successor_phase_left old nodes old.at)
-    next_in_try old now (Ask step) is near = less old.tries now.tries (successor_try_left nodes) _ _ is near
-    next_in_try old now (Done answer) is near = tt
+    in_try : {R A T : Type 0} (means : ReadMeaning R A) (old now : ReadRun R) (turn : Turn T) → now.tries ≡ old.tries → means.call now.read ≡ means.call old.read → ReadIsNearer means now nodes turn (read_left means old nodes) → HasLessOfTry turn (phase_left means now nodes now.at) (phase_left means old nodes old.at)
+    in_try means old now (Ask step) is call_is near = less old.tries now.tries (run_try_left means old nodes) _ _ is (subst (λ call. now.tries * means.try_left call nodes + phase_left means now nodes now.at < read_left means old nodes) call_is near)
+    in_try means old now (Done answer) is call_is near = tt
 
-    range_in_try : (old now : RangeRun) (turn : Turn (Result (Vec Pair Global) Refused)) → now.tries ≡ old.tries → now.most ≡ old.most → RangeIsNearer now nodes turn (range_left old nodes) → HasLessOfTry turn (range_phase_left now nodes now.at) (range_phase_left old nodes old.at)
-    range_in_try old now (Ask step) is most near = less old.tries now.tries (range_try_left old.most nodes) _ _ is (subst (λ m. now.tries * range_try_left m nodes + range_phase_left now nodes now.at < range_left old nodes) most near)
-    range_in_try old now (Done answer) is most near = tt
-
-    pub alone_next_try : (old now : SuccessorRun) (turn : Turn (Result (Option Pair) Refused)) → KeepsTries c h old.tries now.tries turn → SuccessorIsNearer now nodes turn (successor_left old nodes) → (now.tries ≡ old.tries) × HasLessOfTry turn (successor_phase_left now nodes now.at) (successor_phase_left old nodes old.at)
-    alone_next_try old now turn keeps near = (tries_kept old.tries now.tries turn keeps, next_in_try old now turn (tries_kept old.tries now.tries turn keeps) near)
-
-    pub alone_range_try : (old now : RangeRun) (turn : Turn (Result (Vec Pair Global) Refused)) → IsSameRange old now → KeepsTries c h old.tries now.tries turn → RangeIsNearer now nodes turn (range_left old nodes) → (now.tries ≡ old.tries) × HasLessOfTry turn (range_phase_left now nodes now.at) (range_phase_left old nodes old.at)
-    alone_range_try old now turn is keeps near = (tries_kept old.tries now.tries turn keeps, range_in_try old now turn (tries_kept old.tries now.tries turn keeps) is.2 near)
+    pub alone_try : {R A T : Type 0} (means : ReadMeaning R A) (old now : ReadRun R) (turn : Turn T) → IsSameRead means old now → KeepsTries c h old.tries now.tries turn → ReadIsNearer means now nodes turn (read_left means old nodes) → (now.tries ≡ old.tries) × HasLessOfTry turn (phase_left means now nodes now.at) (phase_left means old nodes old.at)
+    alone_try means old now turn is keeps near = (tries_kept old.tries now.tries turn keeps, in_try means old now turn (tries_kept old.tries now.tries turn keeps) is.0 near)
 
   -- a pass that was idle all the time finds all at rest
   module _ (quiet : IsQuietSince c.layout c.pass c.start h) where
@@ -141,42 +136,53 @@ module _ (c : Call) (h : History) (run : IsTreeRun c.layout h) (alone : IsUndist
     alone_replies : (call : MapCall) (told : MapReply) (map : List Pair) → IsReplyAt c h call told → Spells c.layout (value c.start) map → told ≡ reply call map
     alone_replies call told map x spells = sym x.gives ∙ ap (reply call) (one_spelling c.layout (value x.moment) x.map map x.spelled (still map spells x.moment x.within (own_since c x.moment x.own)).spelled)
 
-module _ (c : Call) (h : History) (alone : IsUndisturbed c h) (map : List Pair) (spells : Spells c.layout (value c.start) map) (run : IsTreeRun c.layout h) (quiet : IsQuietSince c.layout c.pass c.start h) where
-  -- a successor by itself
-  module _ (old now : SuccessorRun) (key : now.key ≡ old.key) where
-    next_told : (answer : Result (Option Pair) Refused) → SuccessorAnswers now c h answer → TellsNext map old.key answer
-    next_told (Ok found) x = rw key at (same_next found (successor now.key map) (alone_replies c h run alone quiet (Successor now.key) (pair_or_none found) map x.1 spells))
-    next_told (Err (Contended n s)) x = never_contended c h run alone n.0 s.0 x.1.0
-    next_told (Err NoMemory) x = tt
+-- what a read answers is what the map gives; it is not contended
+abbrev Tells : {A : Type 0} → (A → MapReply) → MapReply → Result A Refused → Type 0
+Tells told gives (Ok answer) = told answer ≡ gives
+Tells told gives (Err (Contended n s)) = ⊥
+Tells told gives (Err NoMemory) = Unit {0}
 
-    next_turn : (turn : Turn (Result (Option Pair) Refused)) → SuccessorTurn c h now turn → HasLeftAll c h map × MatchTurn turn (λ _. Unit {0}) (TellsNext map old.key)
-    next_turn (Ask step) x = (still c h run alone quiet map spells h (ends_self h) alone.since, tt)
-    next_turn (Done answer) x = (still c h run alone quiet map spells h (ends_self h) alone.since, next_told answer x)
+module _ {R A : Type 0} (means : ReadMeaning R A) (c : Call) (h : History) (alone : IsUndisturbed c h) (map : List Pair) (spells : Spells c.layout (value c.start) map) where
+  module _ (old now : ReadRun R) (is : IsSameRead means old now) (run : IsTreeRun c.layout h) (quiet : IsQuietSince c.layout c.pass c.start h) where
+    replied : (answer : A) → HasReplied means now c h answer → means.told answer ≡ reply (means.call now.read) map
+    replied answer (inl x) = alone_replies c h run alone quiet (means.call now.read) (means.told answer) map x spells
+    replied answer (inr x) = sym (x.1 map)
 
-  -- a range by itself
-  module _ (old now : RangeRun) (is : IsSameRange old now) where
-    range_replied : (told : List Pair) → RangeReplies now c h told → told ≡ range now.low now.high now.most map
-    range_replied told (inl x) = same_pairs told (range now.low now.high now.most map) (alone_replies c h run alone quiet (Range now.low now.high now.most) (ManyPairs told) map x spells)
-    range_replied told (inr x) = sym (x.1 map)
+    tells : (answer : Result A Refused) → ReadAnswers means now c h answer → Tells means.told (reply (means.call old.read) map) answer
+    tells (Ok answer) x = rw is.0 at (replied answer x.1)
+    tells (Err (Contended n s)) x = never_contended c h run alone n.0 s.0 x.1.0
+    tells (Err NoMemory) x = tt
 
-    range_told : (answer : Result (Vec Pair Global) Refused) → RangeAnswers now c h answer → TellsRange map old.low old.high old.most answer
-    range_told (Ok told) x = rw (is.0, is.1, is.2) at (range_replied told.items x.1)
-    range_told (Err (Contended n s)) x = never_contended c h run alone n.0 s.0 x.1.0
-    range_told (Err NoMemory) x = tt
+    turn_tells : (turn : Turn (Result A Refused)) → ReadTurn means c h now turn → HasLeftAll c h map × MatchTurn turn (λ _. Unit {0}) (Tells means.told (reply (means.call old.read) map))
+    turn_tells (Ask step) x = (still c h run alone quiet map spells h (ends_self h) alone.since, tt)
+    turn_tells (Done answer) x = (still c h run alone quiet map spells h (ends_self h) alone.since, tells answer x)
 
-    range_turn : (turn : Turn (Result (Vec Pair Global) Refused)) → RangeTurn c h now turn → HasLeftAll c h map × MatchTurn turn (λ _. Unit {0}) (TellsRange map old.low old.high old.most)
-    range_turn (Ask step) x = (still c h run alone quiet map spells h (ends_self h) alone.since, tt)
-    range_turn (Done answer) x = (still c h run alone quiet map spells h (ends_self h) alone.since, range_told answer x)
+  -- what it may be called with tells that its pass was idle since the call began
+  alone_read : (old now : ReadRun R) (got : Option ℕ) → ReadIsReady means old c h got → IsSameRead means old now → (turn : Turn (Result A Refused)) → ReadTurn means c h now turn → HasLeftAll c h map × MatchTurn turn (λ _. Unit {0}) (Tells means.told (reply (means.call old.read) map))
+  alone_read old now None ready is turn x = turn_tells old now is ready.0.reads.run ready.0.reads.quiet turn x
+  alone_read old now (Some v) ready is turn x = turn_tells old now is ready.2.reads.run ready.1.quiet turn x
 
--- what a read may be called with tells that its pass was idle since the call began
 module _ (c : Call) (h : History) (alone : IsUndisturbed c h) (map : List Pair) (spells : Spells c.layout (value c.start) map) where
-  pub alone_next : (old now : SuccessorRun) (turn : Turn (Result (Option Pair) Refused)) (got : Option ℕ) → SuccessorIsReady old c h got → now.key ≡ old.key → SuccessorTurn c h now turn → HasLeftAll c h map × MatchTurn turn (λ _. Unit {0}) (TellsNext map old.key)
-  alone_next old now turn None ready key x = next_turn c h alone map spells ready.0.reads.run ready.0.reads.quiet old now key turn x
-  alone_next old now turn (Some v) ready key x = next_turn c h alone map spells ready.2.reads.run ready.1.quiet old now key turn x
+  next_told : (k : ℕ) (answer : Result (Option Pair) Refused) → Tells pair_or_none (pair_or_none (successor k map)) answer → TellsNext map k answer
+  next_told k (Ok found) x = same_next found (successor k map) x
+  next_told k (Err (Contended n s)) x = x
+  next_told k (Err NoMemory) x = x
 
-  pub alone_range : (old now : RangeRun) (turn : Turn (Result (Vec Pair Global) Refused)) (got : Option ℕ) → RangeIsReady old c h got → IsSameRange old now → RangeTurn c h now turn → HasLeftAll c h map × MatchTurn turn (λ _. Unit {0}) (TellsRange map old.low old.high old.most)
-  alone_range old now turn None ready is x = range_turn c h alone map spells ready.0.reads.run ready.0.reads.quiet old now is turn x
-  alone_range old now turn (Some v) ready is x = range_turn c h alone map spells ready.2.reads.run ready.1.quiet old now is turn x
+  range_told : (low high most : ℕ) (answer : Result (Vec Pair Global) Refused) → Tells (λ (told : Vec Pair Global). ManyPairs told.items) (ManyPairs (range low high most map)) answer → TellsRange map low high most answer
+  range_told low high most (Ok told) x = same_pairs told.items (range low high most map) x
+  range_told low high most (Err (Contended n s)) x = x
+  range_told low high most (Err NoMemory) x = x
+
+  turn_as : {A : Type 0} (turn : Turn A) (P Q : A → Type 0) → ((a : A) → P a → Q a) → MatchTurn turn (λ _. Unit {0}) P → MatchTurn turn (λ _. Unit {0}) Q
+  turn_as (Ask step) P Q f x = tt
+  turn_as (Done answer) P Q f x = f answer x
+
+  -- a successor by itself, and a range
+  pub alone_next : (old now : ReadRun SuccessorRead) (turn : Turn (Result (Option Pair) Refused)) (got : Option ℕ) → ReadIsReady successor_means old c h got → IsSameRead successor_means old now → ReadTurn successor_means c h now turn → HasLeftAll c h map × MatchTurn turn (λ _. Unit {0}) (TellsNext map old.read.key)
+  alone_next old now turn got ready is x = let y = alone_read successor_means c h alone map spells old now got ready is turn x in (y.0, turn_as turn _ _ (next_told old.read.key) y.1)
+
+  pub alone_range : (old now : ReadRun RangeRead) (turn : Turn (Result (Vec Pair Global) Refused)) (got : Option ℕ) → ReadIsReady range_means old c h got → IsSameRead range_means old now → ReadTurn range_means c h now turn → HasLeftAll c h map × MatchTurn turn (λ _. Unit {0}) (TellsRange map old.read.low old.read.high old.read.most)
+  alone_range old now turn got ready is x = let y = alone_read range_means c h alone map spells old now got ready is turn x in (y.0, turn_as turn _ _ (range_told old.read.low old.read.high old.read.most) y.1)
 
 -- with one pass there is no other
 pub one_never_contended : (c : Call) (h : History) (n s : ℕ) → c.layout.passes ≡ 1 → ¬ IsContended c h n s

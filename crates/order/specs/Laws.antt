@@ -1,3 +1,4 @@
 pub mod Kept
 pub mod Search
 pub mod Depth
+pub mod Run

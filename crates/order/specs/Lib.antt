@@ -1,8 +1,15 @@
 pub mod Replies
 pub mod Tries
 pub mod Reads
-pub mod Undisturbed
+pub mod Meaning
+pub mod Paths
+pub mod Found
+pub mod Next
+pub mod Steps
+pub mod Known
+pub mod Places
 pub mod Successor
 pub mod Visits
 pub mod Range
+pub mod Undisturbed
 pub mod Laws

@@ -8,16 +8,17 @@ ghost use Rattle.arena.specs.declared.machine.Turn.{Turn};
 ghost use Rattle.ordered_map.specs.declared.pair.Pair.{Pair};
 ghost use Rattle.ordered_map.specs.Runs.{IsTreeRun};
 ghost use Rattle.ordered_map.specs.Spelled.{Spells};
-ghost use Rattle.order.specs.Undisturbed.{HasLeftAll, HasLessOfTry, TellsNext, TellsRange};
-ghost use Rattle.order.specs.Range.Known.{IsSameRange, RangeIsReady, RangeTurn};
-ghost use Rattle.order.specs.Range.Steps.{range_left, RangeIsNearer, range_phase_left};
+ghost use Rattle.order.specs.Known.{IsSameRead, ReadIsReady, ReadTurn};
+ghost use Rattle.order.specs.Range.{range_means};
 ghost use Rattle.order.specs.Replies.{KeepsTries};
-ghost use Rattle.template.specs.Blame.{IsContended};
-ghost use Rattle.order.specs.Successor.Known.{SuccessorIsReady, SuccessorTurn};
-ghost use Rattle.order.specs.Successor.Steps.{successor_left, SuccessorIsNearer, successor_phase_left};
-ghost use Rattle.order.specs.declared.range.RangeRun.{RangeRun};
+ghost use Rattle.order.specs.Steps.{ReadIsNearer, phase_left, read_left};
+ghost use Rattle.order.specs.Successor.{successor_means};
+ghost use Rattle.order.specs.Undisturbed.{HasLeftAll, HasLessOfTry, TellsNext, TellsRange};
+ghost use Rattle.order.specs.declared.range.Range.{Range};
 ghost use Rattle.order.specs.declared.refused.Refused.{Refused};
-ghost use Rattle.order.specs.declared.successor.SuccessorRun.{SuccessorRun};
+ghost use Rattle.order.specs.declared.run.ReadRun.{ReadRun};
+ghost use Rattle.order.specs.declared.successor.Successor.{Successor};
+ghost use Rattle.template.specs.Blame.{IsContended};
 
 /// What a turn of an ordered read says of a call by itself: nothing was in progress as it began,
 /// and no other pass makes a row while it runs. The log and the map are what they were as the call
@@ -25,22 +26,26 @@ ghost use Rattle.order.specs.declared.successor.SuccessorRun.{SuccessorRun};
 /// turn leaves fewer steps of the first. Nor is any read contended where there is one pass alone.
 /// It does nothing; a caller learns the laws from its contract.
 pub fn alone_holds()
-    ensures successor { (old now : SuccessorRun) (turn : Turn (Result (Option Pair) Refused)) (c : Call) (h : History)
+    ensures successor { (old now : ReadRun Successor) (turn : Turn (Result (Option Pair) Refused)) (c : Call) (h : History)
         (got : Option ℕ) (map : List Pair) → IsUndisturbed c h → Spells c.layout (value c.start) map
-        → SuccessorIsReady old c h got → now.key ≡ old.key → SuccessorTurn c h now turn
-        → HasLeftAll c h map × MatchTurn turn (λ _. Unit {0}) (TellsNext map old.key) }
-    ensures range { (old now : RangeRun) (turn : Turn (Result (Vec Pair Global) Refused)) (c : Call) (h : History)
-        (got : Option ℕ) (map : List Pair) → IsUndisturbed c h → Spells c.layout (value c.start) map → RangeIsReady old c h got
-        → IsSameRange old now → RangeTurn c h now turn
-        → HasLeftAll c h map × MatchTurn turn (λ _. Unit {0}) (TellsRange map old.low old.high old.most) }
-    ensures successor_try { (old now : SuccessorRun) (turn : Turn (Result (Option Pair) Refused)) (c : Call) (h : History)
-        (nodes : ℕ) → IsTreeRun c.layout h → IsUndisturbed c h → KeepsTries c h old.tries now.tries turn
-        → SuccessorIsNearer now nodes turn (successor_left old nodes)
-        → (now.tries ≡ old.tries) × HasLessOfTry turn (successor_phase_left now nodes now.at) (successor_phase_left old nodes old.at) }
-    ensures range_try { (old now : RangeRun) (turn : Turn (Result (Vec Pair Global) Refused)) (c : Call) (h : History)
-        (nodes : ℕ) → IsTreeRun c.layout h → IsUndisturbed c h → IsSameRange old now → KeepsTries c h old.tries now.tries turn
-        → RangeIsNearer now nodes turn (range_left old nodes)
-        → (now.tries ≡ old.tries) × HasLessOfTry turn (range_phase_left now nodes now.at) (range_phase_left old nodes old.at) }
+        → ReadIsReady successor_means old c h got → IsSameRead successor_means old now → ReadTurn successor_means c h now turn
+        → HasLeftAll c h map × MatchTurn turn (λ _. Unit {0}) (TellsNext map old.read.key) }
+    ensures range { (old now : ReadRun Range) (turn : Turn (Result (Vec Pair Global) Refused)) (c : Call) (h : History)
+        (got : Option ℕ) (map : List Pair) → IsUndisturbed c h → Spells c.layout (value c.start) map
+        → ReadIsReady range_means old c h got → IsSameRead range_means old now → ReadTurn range_means c h now turn
+        → HasLeftAll c h map × MatchTurn turn (λ _. Unit {0}) (TellsRange map old.read.low old.read.high old.read.most) }
+    ensures successor_try { (old now : ReadRun Successor) (turn : Turn (Result (Option Pair) Refused)) (c : Call) (h : History)
+        (nodes : ℕ) → IsTreeRun c.layout h → IsUndisturbed c h → IsSameRead successor_means old now
+        → KeepsTries c h old.tries now.tries turn
+        → ReadIsNearer successor_means now nodes turn (read_left successor_means old nodes)
+        → (now.tries ≡ old.tries)
+        × HasLessOfTry turn (phase_left successor_means now nodes now.at) (phase_left successor_means old nodes old.at) }
+    ensures range_try { (old now : ReadRun Range) (turn : Turn (Result (Vec Pair Global) Refused)) (c : Call) (h : History)
+        (nodes : ℕ) → IsTreeRun c.layout h → IsUndisturbed c h → IsSameRead range_means old now
+        → KeepsTries c h old.tries now.tries turn
+        → ReadIsNearer range_means now nodes turn (read_left range_means old nodes)
+        → (now.tries ≡ old.tries)
+        × HasLessOfTry turn (phase_left range_means now nodes now.at) (phase_left range_means old nodes old.at) }
     ensures undisturbed { (c : Call) (h : History) (n s : ℕ) → IsTreeRun c.layout h → IsUndisturbed c h → ¬ IsContended c h n s }
     ensures one_pass { (c : Call) (h : History) (n s : ℕ) → c.layout.passes ≡ 1 → ¬ IsContended c h n s }
 {}

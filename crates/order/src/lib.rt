@@ -4,11 +4,15 @@
 
 mod alone;
 mod range;
+mod read;
 mod refused;
+mod run;
 mod successor;
 
 pub use alone::alone_holds;
-pub use range::{RangeAt, RangeNext, RangeRun};
+pub use range::{Range, RangeRun};
+pub use read::{Children, Read, ReadBegin, ReadNext};
 pub use refused::Refused;
-pub use successor::{Route, SuccessorAt, SuccessorNext, SuccessorRun};
+pub use run::{ReadAt, ReadRun};
+pub use successor::{Route, Successor, SuccessorRun};
 pub use template::Tree;

@@ -15,7 +15,7 @@ use Rattle.ordered_map.specs.Runs.{IsTreeRun}
 use Rattle.ordered_map.specs.TreeWords.{is_leaf, level}
 use Rattle.ordered_map.proofs.Lemmas.{child_stood, levels_rise, run_since, stood_depth, stood_settled, tree_not_final, was_now, SameSettled, settled_leaf, settled_level}
 use Rattle.order.specs.Laws.Kept.{taken_nodes_grow}
-use Rattle.order.specs.Successor.Steps.{HeadFits}
+use Rattle.order.specs.Paths.{HeadFits}
 
 -- the children of a fork that has stood in the tree are not deeper than the taken nodes allow
 pub fork_depth : (lay : Layout) (h : History) (n : ℕ) → IsTreeRun lay h → WasInTree h n → is_leaf (value h) n ≡ false → level (value h) n + 1 < 2 + length (taken_nodes h)

@@ -1,0 +1,160 @@
+-- What an ordered read knows one place further, whichever it is.
+use Rattle.std.proofs.Common.{◌≡◌, ℕ, ◌^◌, ◌<◌, true, false, List, [], ◌∷◌, ◌++◌, length, inl, inr, ⊎_elim, refl, sym, ◌∙◌, subst, arith, lt-ltb, None}
+use Rattle.arena.specs.declared.number.NodeNo.{NodeNo}
+use Rattle.arena.specs.declared.word.NodeWord.TheVariants.{Settled}
+use Rattle.arena.specs.declared.word.SettledPart.TheVariants.{Head as HeadWord}
+use Rattle.arena.specs.declared.word.Side.{Side}
+use Rattle.arena.specs.declared.word.Side.TheVariants.{Left, Right}
+use Rattle.arena.specs.Words.{node}
+use Rattle.arena.specs.History.{History, value}
+use Rattle.arena.specs.Machines.{Call, begun_at}
+use Rattle.arena.proofs.Lemmas.{ends_self, ends_trans}
+use Rattle.prims.specs.Laws.Idle.{quiet_at_start, idle_if_finished}
+use Rattle.prims.specs.Llx.Known.{IsSnapshot, LlxKnows, LlxIsReady}
+use Rattle.prims.specs.Snap.{child_of}
+use Rattle.prims.specs.Vlx.Known.{IsSame}
+use Rattle.prims.specs.declared.llx.LlxAt.TheVariants.{Start as LlxStart}
+use Rattle.prims.specs.declared.llx.LlxRun.{LlxRun}
+use Rattle.prims.specs.declared.snap.Snap.{Snap}
+use Rattle.ordered_map.specs.declared.pair.Pair.{Pair}
+use Rattle.ordered_map.specs.OrderedMap.{MapReply}
+use Rattle.ordered_map.specs.Paths.{Passed, WasInTree}
+use Rattle.ordered_map.specs.Runs.{IsTreeRun}
+use Rattle.ordered_map.specs.Spelled.{Spells}
+use Rattle.ordered_map.specs.TreeShape.{TreeAllows}
+use Rattle.ordered_map.specs.TreeWords.{is_leaf, level, rank}
+use Rattle.ordered_map.proofs.Lemmas.{passed_unmarked, path_not_final, root_head, run_since, run_spells, stood_settled, walk_first, was_passed, settled_leaf, settled_toward}
+use Rattle.template.specs.FoundLeaf.{HasEnded, HasFoundGoal}
+use Rattle.template.specs.declared.walk.Found.{Found}
+use Rattle.template.specs.declared.walk.Goal.TheVariants.{Key as ToKey}
+use Rattle.template.proofs.Lemmas.{own_since, opened_if_stood}
+use Rattle.order.specs.Found.{GoesTo, IsReading, IsThere, Looks, Stands, WalksTo}
+use Rattle.order.specs.Known.{HasTurnedLeft, IsLastTurn, Validates}
+use Rattle.order.specs.Meaning.{ReadMeaning}
+use Rattle.order.specs.Next.{MayValidate}
+use Rattle.order.specs.Reads.{HasStood, Reads}
+use Rattle.order.specs.Replies.{IsReplyAt}
+use Rattle.order.specs.declared.read.Children.{Children}
+use Rattle.order.specs.declared.read.Children.TheVariants.{Both}
+use Rattle.order.proofs.Snapping.{hold_before, some_more, reads_one_more, child_there, child_rises, unmarked_then, field_then}
+
+-- The fork where the search begins
+
+-- the root is a fork of class 2
+root_turned : (c : Call) (h : History) (k asked : ℕ) (f : Found) → IsTreeRun c.layout h → k < 2 ^ 64 → HasEnded c h k asked f → HasTurnedLeft c h k 0
+root_turned c h k asked f run small a = record { passed = record { first = a.trail.node.first; own = a.trail.node.own; passed = there }; fork = rw head refl; left = rw (lt-ltb k (rank (value h) 0) high) refl }
+  where
+    head : value h (node 0 (Settled HeadWord)) ≡ 2
+    head = root_head c.layout h run
+
+    high : k < rank (value h) 0
+    high = let e = head in omega (arith, small, e)
+
+    there : Passed h a.trail.node.first k 0
+    there =
+        let p = a.trail.node.passed in
+        let x : Passed p.0 p.0 k 0 = walk_first c.layout p.0 k (run_since c.layout h p.0 run p.1) in
+        (x.0, ends_trans h p.0 x.0 p.1 x.1, ends_trans x.0 p.0 a.trail.node.first x.2 p.2, x.3)
+
+last_turned : (c : Call) (h : History) (k asked n : ℕ) (f : Found) → IsTreeRun c.layout h → k < 2 ^ 64 → HasEnded c h k asked f → IsLastTurn c h k n → HasTurnedLeft c h k n
+last_turned c h k asked n f run small a (inl e) = rw e (root_turned c h k asked f run small a)
+last_turned c h k asked n f run small a (inr x) = x
+
+-- an LLX may begin at a node that has stood
+pub look_ready : (c : Call) (h : History) (snaps : List Snap) (n : ℕ) (llx : LlxRun) → Reads c h snaps → HasStood c h n → llx.node.0 ≡ n → llx.at ≡ LlxStart → LlxIsReady TreeAllows llx (begun_at c h) h None
+look_ready c h snaps n llx reads stood is at = record {
+  opened = rw is (opened_if_stood c.layout h n reads.run stood.stood);
+  since = ends_self h;
+  quiet = quiet_at_start c.layout c.pass h (idle_if_finished c h reads.run.1.lawful reads.over);
+  known = subst (LlxKnows (begun_at c h) h llx.node.0) (sym at) tt;
+  told = at;
+}
+
+module _ {R A : Type 0} (means : ReadMeaning R A) (r : R) (snaps : List Snap) (c : Call) (h : History) (reading : IsReading means r snaps c h) where
+  -- where its walk has last turned left it may look
+  looks_first : (key n : ℕ) → WalksTo means r key → HasTurnedLeft c h key n → Looks means r snaps c h Both 0 n
+  looks_first key n w x = record {
+    stood = record {
+      stood = stood;
+      not_final = record { moment = p.0; within = p.1; since = ends_trans p.0 x.passed.first c.start p.2 (own_since c x.passed.first x.passed.own); was = path_not_final c.layout p.0 key n (run_since c.layout h p.0 reading.reads.run p.1) p.3 };
+    };
+    asks = w.asks;
+    fork = x.fork;
+    deep = omega arith;
+    waits = rw w.waits tt;
+    here = λ b run e hold. w.turned b n (λ unmarked. passed_unmarked c.layout b x.passed.first key n run (p.0, ends_trans b h p.0 e p.1, p.2, p.3) unmarked) (settled_toward (value h) (value b) n key (stood_settled c.layout b h n run e stood) ∙ x.left);
+  }
+    where
+      p : Passed h x.passed.first key n
+      p = x.passed.passed
+
+      stood : WasInTree h n
+      stood = was_passed h x.passed.first key n p
+
+  -- so it may behind the leaf that its walk has found
+  pub walk_found : (key n : ℕ) (f : Found) → WalksTo means r key → IsLastTurn c h key n → HasFoundGoal (ToKey key) c h f → Looks means r snaps c h Both 0 n
+  walk_found key n f w last found = looks_first key n w (last_turned c h key key n f reading.reads.run (w.small reading.suits) found last)
+
+  -- A snapshot more
+
+  module _ (snap : Snap) (is : IsSnapshot c.layout h snap.node.0 snap) (children : Children) (low : ℕ) (x : Looks means r snaps c h children low snap.node.0) where
+    rises : (s : Side) → low < level (value h) (child_of snap s).0
+    rises s =
+        let i : level (value h) snap.node.0 < level (value h) (child_of snap s).0 = child_rises c h snaps snap reading.reads is x.stood x.fork s in
+        let deep = x.deep in
+        omega (arith, i, deep)
+
+    there : (s : Side) → IsThere c h (child_of snap s)
+    there s = (child_there c h snaps snap reading.reads is x.stood x.fork s, (let i = rises s in omega (arith, i)))
+
+    module _ (now : R) (n : NodeNo) (to : GoesTo means r now children snap.left snap.right n) where
+      one : (HasStood c h n.0) × (low < level (value h) n.0)
+      one = ⊎_elim (λ e. rw e ((there Left).0, rises Left)) (λ e. rw e ((there Right).0, rises Right)) to.one
+
+      -- it goes on to the child to which that takes it
+      pub stands_below : means.call now ≡ means.call r → Stands means now (snaps ++ snap ∷ []) c h n.0 × (low < level (value h) n.0)
+      stands_below same = (
+        record {
+          stood = one.0;
+          asks = rw same x.asks;
+          some = inr (some_more snaps snap);
+          waits = to.waits c h x.waits (there Right);
+          here = λ b run e hold.
+              let field = field_then c h snaps snap reading.reads is x.stood x.fork b run e hold in
+              to.below c.layout b snap.node.0 run (settled_leaf (value h) (value b) snap.node.0 (stood_settled c.layout b h snap.node.0 run e x.stood.stood) ∙ x.fork) (unmarked_then c h snaps snap reading.reads is x.stood x.fork b run e hold) (field Left) (field Right) (x.here b run e (hold_before b snaps snap hold));
+        },
+        one.1,
+      )
+
+    -- and reads on with the longer list
+    pub reads_on : (now : R) → means.call now ≡ means.call r → IsReading means now (snaps ++ snap ∷ []) c h
+    reads_on now same = record { reads = reads_one_more c h snaps snap reading.reads is; suits = rw same reading.suits }
+
+  -- a leaf is not the root: a snapshot was taken
+  pub some_taken : (n : ℕ) → Stands means r snaps c h n → is_leaf (value h) n ≡ true → 0 < length snaps
+  some_taken n x leaf = ⊎_elim (λ e. absurd (go e)) (λ i. i) x.some
+    where
+      go : n ≡ 0 → ⊥
+      go e =
+          let head : value h (node 0 (Settled HeadWord)) ≡ 2 = root_head c.layout h reading.reads.run in
+          let l : is_leaf (value h) 0 ≡ true = subst (λ k. is_leaf (value h) k ≡ true) e leaf in
+          (let f : false ≡ true = rw head at l in cc)
+
+  -- The VLX
+
+  pub validates : MayValidate means r snaps c h → Validates means r snaps c h h
+  validates x = record { asks = x.asks; own = x.own; within = ends_self h; reads = reading.reads; right = λ hold. x.right h reading.reads.run (ends_self h) hold }
+
+-- all nodes are as they were found: what it has found is the map's reply as the VLX began
+pub replies : {R A : Type 0} (means : ReadMeaning R A) (r : R) (snaps : List Snap) (c : Call) (begin h : History) (told : MapReply) → Validates means r snaps c h begin → IsSame (begun_at c begin) h snaps → told ≡ means.found r → IsReplyAt c h (means.call r) told
+replies means r snaps c begin h told x same is = record {
+  moment = begin;
+  within = x.within;
+  own = x.own;
+  map = spelled.0;
+  spelled = spelled.1;
+  gives = x.right same.info spelled.0 spelled.1 ∙ sym is;
+}
+  where
+    spelled : (ps : List Pair) × Spells c.layout (value begin) ps
+    spelled = run_spells c.layout begin x.reads.run

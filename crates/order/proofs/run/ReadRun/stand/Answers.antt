@@ -1,0 +1,67 @@
+use Rattle.std.proofs.Common.{inl, refl}
+use Rattle.arena.specs.Machines.{begun_at}
+use Rattle.order.specs.Places.{RunComesNearer}
+use Rattle.order.specs.declared.read.ReadNext.TheVariants.{Head, Key, Value, Look}
+use Rattle.order.proofs.Blaming.{first_look}
+use Rattle.order.proofs.Looking.{validates}
+use Rattle.order.proofs.Nearer.{below, from_validate}
+use Rattle.order.proofs.Turns.{some_left, stands_there, stands_nearer}
+use Rattle.order.proofs.run.ReadRun.stand.Goals as goal
+
+pub returns-in-Head-clause-turn : goal.returns-in-Head-clause-turn
+returns-in-Head-clause-turn g c d h x = stands_there g.R.Read.means c.args.self.now c.load.new.self d h c.load.result (Head c.in-Head.above c.in-Head.node) c.load.ensures.stands c.load.ensures.asked (rw c.in-Head.is at x)
+
+pub returns-in-Head-clause-nearer : goal.returns-in-Head-clause-nearer
+returns-in-Head-clause-nearer g c nodes n near =
+    let x : RunComesNearer g.R.Read.means c.args.self.now nodes (Head c.in-Head.above c.in-Head.node) n = rw c.in-Head.is at near in
+    stands_nearer g.R.Read.means c.args.self.now c.load.new.self c.load.result (Head c.in-Head.above c.in-Head.node) _ nodes n c.load.ensures.stands c.load.ensures.asked (some_left g.R.Read.means c.args.self.now (Head c.in-Head.above c.in-Head.node) nodes n tt x) x
+
+pub returns-in-Head-clause-tries : goal.returns-in-Head-clause-tries
+returns-in-Head-clause-tries g c d h x = rw c.load.ensures.stands (inl refl)
+
+pub returns-in-Key-clause-turn : goal.returns-in-Key-clause-turn
+returns-in-Key-clause-turn g c d h x = stands_there g.R.Read.means c.args.self.now c.load-in-Key.new.self d h c.load-in-Key.result (Key c.in-Key.head c.in-Key.node) c.load-in-Key.ensures.stands c.load-in-Key.ensures.asked (rw c.in-Key.is at x)
+
+pub returns-in-Key-clause-nearer : goal.returns-in-Key-clause-nearer
+returns-in-Key-clause-nearer g c nodes n near =
+    let x : RunComesNearer g.R.Read.means c.args.self.now nodes (Key c.in-Key.head c.in-Key.node) n = rw c.in-Key.is at near in
+    stands_nearer g.R.Read.means c.args.self.now c.load-in-Key.new.self c.load-in-Key.result (Key c.in-Key.head c.in-Key.node) _ nodes n c.load-in-Key.ensures.stands c.load-in-Key.ensures.asked (some_left g.R.Read.means c.args.self.now (Key c.in-Key.head c.in-Key.node) nodes n tt x) x
+
+pub returns-in-Key-clause-tries : goal.returns-in-Key-clause-tries
+returns-in-Key-clause-tries g c d h x = rw c.load-in-Key.ensures.stands (inl refl)
+
+pub returns-in-Value-clause-turn : goal.returns-in-Value-clause-turn
+returns-in-Value-clause-turn g c d h x = stands_there g.R.Read.means c.args.self.now c.load-in-Value.new.self d h c.load-in-Value.result (Value c.in-Value.key c.in-Value.node) c.load-in-Value.ensures.stands c.load-in-Value.ensures.asked (rw c.in-Value.is at x)
+
+pub returns-in-Value-clause-nearer : goal.returns-in-Value-clause-nearer
+returns-in-Value-clause-nearer g c nodes n near =
+    let x : RunComesNearer g.R.Read.means c.args.self.now nodes (Value c.in-Value.key c.in-Value.node) n = rw c.in-Value.is at near in
+    stands_nearer g.R.Read.means c.args.self.now c.load-in-Value.new.self c.load-in-Value.result (Value c.in-Value.key c.in-Value.node) _ nodes n c.load-in-Value.ensures.stands c.load-in-Value.ensures.asked (some_left g.R.Read.means c.args.self.now (Value c.in-Value.key c.in-Value.node) nodes n tt x) x
+
+pub returns-in-Value-clause-tries : goal.returns-in-Value-clause-tries
+returns-in-Value-clause-tries g c d h x = rw c.load-in-Value.ensures.stands (inl refl)
+
+pub returns-in-Look-clause-turn : goal.returns-in-Look-clause-turn
+returns-in-Look-clause-turn g c d h x = stands_there g.R.Read.means c.args.self.now c.look.new.self d h c.look.result (Look c.in-Look.children c.in-Look.level c.in-Look.node) c.look.ensures.stands c.look.ensures.asked (rw c.in-Look.is at x)
+
+pub returns-in-Look-clause-nearer : goal.returns-in-Look-clause-nearer
+returns-in-Look-clause-nearer g c nodes n near =
+    let x : RunComesNearer g.R.Read.means c.args.self.now nodes (Look c.in-Look.children c.in-Look.level c.in-Look.node) n = rw c.in-Look.is at near in
+    stands_nearer g.R.Read.means c.args.self.now c.look.new.self c.look.result (Look c.in-Look.children c.in-Look.level c.in-Look.node) _ nodes n c.look.ensures.stands c.look.ensures.asked (some_left g.R.Read.means c.args.self.now (Look c.in-Look.children c.in-Look.level c.in-Look.node) nodes n tt x) x
+
+pub returns-in-Look-clause-tries : goal.returns-in-Look-clause-tries
+returns-in-Look-clause-tries g c d h x = rw c.look.ensures.stands (inl refl)
+
+pub returns-in-Validate-clause-turn : goal.returns-in-Validate-clause-turn
+returns-in-Validate-clause-turn g c d h x =
+    let y = rw c.in-Validate.is at x in
+    let goes = y.2.0 in
+    c.validate_on.ensures.turn d y.0 h h y.1 goes (validates g.R.Read.means c.args.self.now.read c.args.self.now.snaps.items (begun_at d y.0) h goes y.2.1) (first_look (begun_at d y.0) h c.args.self.now.snaps.items goes.reads y.2.1.some)
+
+pub returns-in-Validate-clause-nearer : goal.returns-in-Validate-clause-nearer
+returns-in-Validate-clause-nearer g c nodes n near = let i = (rw c.in-Validate.is at near).1 in below c.validate_on.result _ _ _ (c.validate_on.ensures.nearer nodes) (from_validate _ _ _ i)
+
+pub returns-in-Validate-clause-tries : goal.returns-in-Validate-clause-tries
+returns-in-Validate-clause-tries g c d h x =
+    let y = rw c.in-Validate.is at x in
+    c.validate_on.ensures.tries d h h y.0 (validates g.R.Read.means c.args.self.now.read c.args.self.now.snaps.items d h y.0 y.1) (first_look d h c.args.self.now.snaps.items y.0.reads y.1.some)

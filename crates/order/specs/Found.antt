@@ -1,0 +1,121 @@
+-- What an ordered read knows of the nodes that it comes to.
+use Rattle.std.specs.Prelude.{◌≡◌, ◌⊎◌, ℕ, ◌^◌, ◌<◌, ◌≤◌, true, false, List, [], ◌∷◌, length, Result, Ok, Err}
+use Rattle.arena.specs.declared.head.Head.{Head as HeadParts}
+use Rattle.arena.specs.declared.layout.Layout.{Layout}
+use Rattle.arena.specs.declared.number.NodeNo.{NodeNo}
+use Rattle.arena.specs.declared.word.NodeWord.TheVariants.{Settled}
+use Rattle.arena.specs.declared.word.SettledPart.TheVariants.{Head as HeadWord}
+use Rattle.arena.specs.declared.word.Side.TheVariants as sides
+use Rattle.arena.specs.Heads.{head_of}
+use Rattle.arena.specs.Words.{child, marked, node, first_key, first_value}
+use Rattle.arena.specs.History.{History, value}
+use Rattle.arena.specs.Machines.{Call}
+use Rattle.prims.specs.declared.snap.Snap.{Snap}
+use Rattle.ordered_map.specs.declared.pair.Pair.{Pair}
+use Rattle.ordered_map.specs.OrderedMap.{reply}
+use Rattle.ordered_map.specs.Paths.{IsOnPath}
+use Rattle.ordered_map.specs.Runs.{IsTreeRun}
+use Rattle.ordered_map.specs.Spelled.{Spells}
+use Rattle.ordered_map.specs.TreeWords.{class, is_leaf, level, toward}
+use Rattle.order.specs.Meaning.{ReadMeaning}
+use Rattle.order.specs.Reads.{Reads, Whenever, HasStood}
+use Rattle.order.specs.declared.read.Children.{Children}
+use Rattle.order.specs.declared.read.Children.TheVariants.{Both}
+use Rattle.order.specs.declared.read.ReadBegin.{ReadBegin}
+use Rattle.order.specs.declared.read.ReadBegin.TheVariants.{Walk, Root, Answer}
+use Rattle.order.specs.declared.refused.Refused.{Refused}
+use Rattle.order.specs.declared.refused.Refused.TheVariants.{NoMemory}
+
+-- Settled words
+
+abbrev pub head_at : History → ℕ → HeadParts
+head_at h n = head_of (value h (node n (Settled HeadWord)))
+
+abbrev pub key_at : History → ℕ → ℕ
+key_at h n = value h (node n first_key)
+
+abbrev pub value_at : History → ℕ → ℕ
+value_at h n = value h (node n first_value)
+
+-- this is the head of a node of class 0
+pub record HasLowHead (h : History) (n : ℕ) (head : HeadParts) : Type 0 where
+  pub head_is : head_at h n ≡ head
+  pub low : head.class ≡ 0
+
+-- Nodes
+
+-- the node stands below some fork
+abbrev pub IsThere : Call → History → NodeNo → Type 0
+IsThere c h n = HasStood c h n.0 × (0 < level (value h) n.0)
+
+-- all these do
+abbrev pub AreThere : Call → History → List NodeNo → Type 0
+AreThere c h [] = Unit {0}
+AreThere c h (n ∷ ns) = IsThere c h n × AreThere c h ns
+
+module _ {R A : Type 0} (means : ReadMeaning R A) (r : R) where
+  -- The map that the words spell gives the reply that the read has found.
+  abbrev pub IsRightAt : Layout → History → Type 0
+  IsRightAt lay b = (map : List Pair) → Spells lay (value b) map → reply (means.call r) map ≡ means.found r
+
+  -- What begins with a walk to this key goes down from the last fork where that turns left, which may
+  -- have been removed by then.
+  pub record WalksTo (key : ℕ) : Type 0 where
+    pub asks : means.asks (means.call r)
+    pub small : means.suits (means.call r) → key < 2 ^ 64
+    pub waits : means.waiting r ≡ []
+    pub turned : (b : History) (n : ℕ) → (value b (marked n) ≡ 0 → IsOnPath b key n) → toward (value b) n key ≡ sides.Left → means.IsAtFork r b n Both
+
+  -- what begins at the root stands there
+  pub record BeginsAtRoot : Type 0 where
+    pub asks : means.asks (means.call r)
+    pub waits : means.waiting r ≡ []
+    pub root : (lay : Layout) (b : History) → means.suits (means.call r) → IsTreeRun lay b → means.IsAt r b 0
+
+  -- so a try begins; or all maps give the answer
+  abbrev pub BeginsSo : ReadBegin A → Type 0
+  BeginsSo (Walk key) = WalksTo key
+  BeginsSo Root = BeginsAtRoot
+  BeginsSo (Answer answer) = ¬ means.asks (means.call r) × ((map : List Pair) → reply (means.call r) map ≡ means.told answer)
+
+  module _ (snaps : List Snap) (c : Call) (h : History) where
+    -- what a read with these snapshots knows all the way
+    pub record IsReading : Type 0 where
+      pub reads : Reads c h snaps
+      pub suits : means.suits (means.call r)
+
+    -- it stands at this node: the root, or one below a fork of which it has a snapshot
+    pub record Stands (n : ℕ) : Type 0 where
+      pub stood : HasStood c h n
+      pub asks : means.asks (means.call r)
+      pub some : (n ≡ 0) ⊎ (0 < length snaps)
+      pub waits : AreThere c h (means.waiting r)
+      pub here : Whenever c.layout h snaps (λ b. means.IsAt r b n)
+
+    -- it stands at a leaf with this key, whose pair it takes
+    pub record HasKey (n key : ℕ) : Type 0 where
+      pub stands : Stands n
+      pub leaf : is_leaf (value h) n ≡ true
+      pub low : class (value h) n ≡ 0
+      pub key_is : key_at h n ≡ key
+      pub takes : means.Takes r key
+
+    -- it may look at this fork, not above the level `low`, of which these children are to be visited
+    pub record Looks (children : Children) (low n : ℕ) : Type 0 where
+      pub stood : HasStood c h n
+      pub asks : means.asks (means.call r)
+      pub fork : is_leaf (value h) n ≡ false
+      pub deep : low ≤ level (value h) n
+      pub waits : AreThere c h (means.waiting r)
+      pub here : Whenever c.layout h snaps (λ b. means.IsAtFork r b n children)
+
+-- behind a fork with these two it stands at one of them, and the other may wait
+pub record GoesTo {R A : Type 0} (means : ReadMeaning R A) (old now : R) (children : Children) (left right n : NodeNo) : Type 0 where
+  pub one : (n ≡ left) ⊎ (n ≡ right)
+  pub waits : (c : Call) (h : History) → AreThere c h (means.waiting old) → IsThere c h right → AreThere c h (means.waiting now)
+  pub below : (lay : Layout) (b : History) (fork : ℕ) → IsTreeRun lay b → is_leaf (value b) fork ≡ false → value b (marked fork) ≡ 0 → value b (child fork sides.Left) ≡ left.0 → value b (child fork sides.Right) ≡ right.0 → means.IsAtFork old b fork children → means.IsAt now b n.0
+
+-- it goes on so, or has no memory
+abbrev pub GoesBelow : {R A : Type 0} → ReadMeaning R A → R → R → Children → NodeNo → NodeNo → Result NodeNo Refused → Type 0
+GoesBelow means old now children left right (Ok n) = GoesTo means old now children left right n
+GoesBelow means old now children left right (Err refused) = refused ≡ NoMemory

@@ -1,0 +1,153 @@
+-- When an ordered read may go on, what it waits for, and what its answer says.
+use Rattle.std.specs.Prelude.{◌≡◌, ◌⊎◌, ℕ, ◌+◌, ◌<◌, ◌≤◌, false, List, [], Option, Some, None, Result, Ok, Err}
+use Rattle.arena.specs.declared.machine.Turn.{Turn}
+use Rattle.arena.specs.declared.number.NodeNo.{NodeNo}
+use Rattle.arena.specs.declared.step.Step.{Step}
+use Rattle.arena.specs.declared.step.Kind.TheVariants.{LoadSettled}
+use Rattle.arena.specs.declared.word.NodeWord.TheVariants.{Settled}
+use Rattle.arena.specs.declared.word.SettledPart.TheVariants.{Head as HeadWord}
+use Rattle.arena.specs.declared.word.Side.TheVariants as sides
+use Rattle.arena.specs.Words.{node, first_key, first_value}
+use Rattle.arena.specs.History.{History, value, Extends}
+use Rattle.arena.specs.Machines.{Call, MatchTurn, begun_at}
+use Rattle.prims.specs.Llx.Known.{load, LlxIsReady, LlxWaits}
+use Rattle.prims.specs.Moments.{AreFinished}
+use Rattle.prims.specs.Vlx.Known.{VlxIsReady, VlxWaits}
+use Rattle.prims.specs.declared.snap.Snap.{Snap}
+use Rattle.ordered_map.specs.declared.pair.Pair.{Pair}
+use Rattle.ordered_map.specs.OrderedMap.{reply}
+use Rattle.ordered_map.specs.TreeShape.{TreeAllows}
+use Rattle.ordered_map.specs.TreeWords.{is_leaf, level, toward}
+use Rattle.template.specs.Blame.{IsContended, HasLostTriesTo}
+use Rattle.template.specs.Trails.{IsOwnMoment, WasPassed}
+use Rattle.template.specs.Tries.{HasTriedAtMost}
+use Rattle.template.specs.Walk.Known.{WalkIsReady, WalkWaits}
+use Rattle.template.specs.declared.walk.Goal.TheVariants.{Key as ToKey}
+use Rattle.template.specs.declared.walk.WalkAt.{WalkAt}
+use Rattle.template.specs.declared.walk.WalkAt.TheVariants as walks
+use Rattle.template.specs.declared.walk.WalkRun.{WalkRun}
+use Rattle.order.specs.Found.{HasKey, HasLowHead, IsReading, IsRightAt, Looks, Stands, WalksTo}
+use Rattle.order.specs.Meaning.{ReadMeaning}
+use Rattle.order.specs.Reads.{AllHold, Reads}
+use Rattle.order.specs.Replies.{IsReplyAt}
+use Rattle.order.specs.Tries.{BeginsTry, IsInTry}
+use Rattle.order.specs.declared.refused.Refused.{Refused}
+use Rattle.order.specs.declared.refused.Refused.TheVariants.{Contended, NoMemory}
+use Rattle.order.specs.declared.run.ReadAt.{ReadAt}
+use Rattle.order.specs.declared.run.ReadAt.TheVariants.{Start, Walk, Root, Head, Key, Value, Look, Validate}
+use Rattle.order.specs.declared.run.ReadRun.{ReadRun}
+
+-- Its walk
+
+-- the call has passed this fork on its way to k, which is on the left of it
+pub record HasTurnedLeft (c : Call) (h : History) (k n : ℕ) : Type 0 where
+  pub passed : WasPassed c h k n
+  pub fork : is_leaf (value h) n ≡ false
+  pub left : toward (value h) n k ≡ sides.Left
+
+-- so it is with the last fork where the walk has turned left; the root is always one
+abbrev pub IsLastTurn : Call → History → ℕ → ℕ → Type 0
+IsLastTurn c h k n = (n ≡ 0) ⊎ HasTurnedLeft c h k n
+
+module _ {R A : Type 0} (means : ReadMeaning R A) where
+  -- it walks to a key, from the last fork where that turns left it goes down
+  pub record Walks (r : R) (c : Call) (h : History) (walk : WalkRun) (turn : NodeNo) : Type 0 where
+    pub key : ℕ
+    pub goal : walk.goal ≡ ToKey key
+    pub goes_to : WalksTo means r key
+    pub last : IsLastTurn c h key turn.0
+
+  -- its VLX has begun at an own moment of the call, at which what it has found was right if all infos
+  -- were as found
+  pub record Validates (r : R) (snaps : List Snap) (c : Call) (h begin : History) : Type 0 where
+    pub asks : means.asks (means.call r)
+    pub own : IsOwnMoment c begin
+    pub within : Extends h begin
+    pub reads : Reads c begin snaps
+    pub right : AllHold begin snaps → IsRightAt means r c.layout begin
+
+  -- the second is the first, further on: it has given up one try at most
+  abbrev pub IsSameRead : ReadRun R → ReadRun R → Type 0
+  IsSameRead old now = (means.call now.read ≡ means.call old.read) × (now.limit ≡ old.limit) × (now.tries ≤ old.tries) × (old.tries ≤ now.tries + 1)
+
+  module _ (m : ReadRun R) (c : Call) (h : History) where
+    -- What it waits for
+
+    abbrev pub ReadGoes : Type 0
+    ReadGoes = IsReading means m.read m.snaps.items c h
+
+    abbrev pub RunStands : ℕ → Type 0
+    RunStands n = Stands means m.read m.snaps.items c h n
+
+    -- what holds while it waits for this step at this place
+    abbrev pub ReadWaitsAt : Step → ReadAt → Type 0
+    ReadWaitsAt s Start = ⊥
+    ReadWaitsAt s (Walk walk turn) = Walks m.read c h walk turn × WalkWaits walk c h s
+    ReadWaitsAt s Root = RunStands 0 × (s ≡ load LoadSettled (node 0 (Settled HeadWord)))
+    ReadWaitsAt s (Head above n) = RunStands n.0 × (above < level (value h) n.0) × (s ≡ load LoadSettled (node n.0 (Settled HeadWord)))
+    ReadWaitsAt s (Key head n) = RunStands n.0 × HasLowHead h n.0 head × (s ≡ load LoadSettled (node n.0 first_key))
+    ReadWaitsAt s (Value key n) = HasKey means m.read m.snaps.items c h n.0 key × (s ≡ load LoadSettled (node n.0 first_value))
+    ReadWaitsAt s (Look children low llx) = Looks means m.read m.snaps.items c h children low llx.node.0 × ((begin : History) × Extends begin c.start × LlxWaits TreeAllows llx (begun_at c begin) h s)
+    ReadWaitsAt s (Validate asked) = (begin : History) × Validates m.read m.snaps.items c h begin × VlxWaits m.snaps.items asked (begun_at c begin) h s
+
+    -- what holds once the step of this place has told v
+    abbrev pub ReadIsToldAt : ℕ → ReadAt → Type 0
+    ReadIsToldAt v Start = ⊥
+    ReadIsToldAt v (Walk walk turn) = Walks m.read c h walk turn × WalkIsReady walk c h (Some v)
+    ReadIsToldAt v Root = RunStands 0 × (value h (node 0 (Settled HeadWord)) ≡ v)
+    ReadIsToldAt v (Head above n) = RunStands n.0 × (above < level (value h) n.0) × (value h (node n.0 (Settled HeadWord)) ≡ v)
+    ReadIsToldAt v (Key head n) = RunStands n.0 × HasLowHead h n.0 head × (value h (node n.0 first_key) ≡ v)
+    ReadIsToldAt v (Value key n) = HasKey means m.read m.snaps.items c h n.0 key × (value h (node n.0 first_value) ≡ v)
+    ReadIsToldAt v (Look children low llx) = Looks means m.read m.snaps.items c h children low llx.node.0 × ((begin : History) × Extends begin c.start × LlxIsReady TreeAllows llx (begun_at c begin) h (Some v))
+    ReadIsToldAt v (Validate asked) = (begin : History) × Validates m.read m.snaps.items c h begin × VlxIsReady m.snaps.items asked (begun_at c begin) h (Some v)
+
+    -- Its try
+
+    -- with the load of the root's head it begins a try, and has found nothing in that yet
+    abbrev pub BeginsHere : Type 0
+    BeginsHere = BeginsTry c h m.limit m.tries × (m.snaps.items ≡ []) × (means.waiting m.read ≡ [])
+
+    module _ (begin : History) where
+      -- with the first step of its walk it begins one; behind that it is in the try that began at
+      -- `begin`
+      abbrev pub WalksInTry : NodeNo → WalkAt → Type 0
+      WalksInTry turn walks.Root = BeginsHere × (turn.0 ≡ 0)
+      WalksInTry turn _ = IsInTry c h begin m.limit m.tries
+
+      -- so it is at any place
+      abbrev pub StandsInTry : ReadAt → Type 0
+      StandsInTry (Walk walk turn) = WalksInTry turn walk.at
+      StandsInTry Root = BeginsHere
+      StandsInTry _ = IsInTry c h begin m.limit m.tries
+
+  module _ (m : ReadRun R) (c : Call) (h : History) where
+    -- it waits for this step where it stands; what it knows is of its try, which is the call from the
+    -- moment `begin` on
+    abbrev pub ReadWaits : Step → Type 0
+    ReadWaits s = (begin : History) × StandsInTry m c h begin m.at × ReadGoes m (begun_at c begin) h × ReadWaitsAt m (begun_at c begin) h s m.at
+
+    -- it may be called with this: with nothing at its start, then with what its step told by an own row
+    abbrev pub ReadIsReady : Option ℕ → Type 0
+    ReadIsReady None = ReadGoes m c h × (m.at ≡ Start) × BeginsTry c h m.limit m.tries
+    ReadIsReady (Some v) = (begin : History) × IsInTry c h begin m.limit m.tries × ReadGoes m (begun_at c begin) h × IsOwnMoment (begun_at c begin) h × ReadIsToldAt m (begun_at c begin) h v m.at
+
+    -- What it answers
+
+    -- the map's reply at a moment of the call; or, where there is nothing to be found, that of every
+    -- map
+    abbrev pub HasReplied : A → Type 0
+    HasReplied answer = IsReplyAt c h (means.call m.read) (means.told answer) ⊎ (¬ means.asks (means.call m.read) × ((map : List Pair) → reply (means.call m.read) map ≡ means.told answer))
+
+    -- what its answer says: that; or that all tries were lost, and who was in the way of the last
+    abbrev pub IsReadAnswer : Result A Refused → Type 0
+    IsReadAnswer (Ok answer) = HasReplied answer
+    IsReadAnswer (Err (Contended n s)) = IsContended c h n.0 s.0 × (m.tries ≡ 0) × HasLostTriesTo c.pass h c.start m.limit n.0 s.0
+    IsReadAnswer (Err NoMemory) = Unit {0}
+
+    -- and behind it the pass is at rest, and has begun no more tries than it may, each only as needed
+    abbrev pub ReadAnswers : Result A Refused → Type 0
+    ReadAnswers answer = AreFinished c.layout c.pass 0 h × IsReadAnswer answer × HasTriedAtMost c.layout c.pass h c.start m.limit
+
+  -- it waits for the step that it asks for, or its answer is right
+  abbrev pub ReadTurn : Call → History → ReadRun R → Turn (Result A Refused) → Type 0
+  ReadTurn c h m turn = MatchTurn turn (ReadWaits m c h) (ReadAnswers m c h)

@@ -1,0 +1,316 @@
+-- The laws of ordered reads: rows of others leave them waiting, their steps are lawful, and what they
+-- are told is so.
+use Rattle.std.proofs.Common.{◌≡◌, ◌≢◌, ℕ, ◌+◌, ◌<◌, ◌≤◌, false, length, List, [], ◌∷◌, inl, inr, refl, sym, ◌∙◌, ap, subst, arith, Option, Some, None}
+use Rattle.arena.specs.declared.head.Head.{Head as HeadParts}
+use Rattle.arena.specs.declared.number.NodeNo.{NodeNo}
+use Rattle.arena.specs.declared.step.Row.{Row}
+use Rattle.arena.specs.declared.step.Step.{Step}
+use Rattle.arena.specs.declared.step.Kind.TheVariants.{Fill, LoadSettled}
+use Rattle.arena.specs.declared.word.NodeWord.TheVariants.{Settled}
+use Rattle.arena.specs.declared.word.SettledPart.{SettledPart}
+use Rattle.arena.specs.declared.word.SettledPart.TheVariants.{Head as HeadWord, Key as KeyWord, Value as ValueWord}
+use Rattle.arena.specs.declared.word.Slot.TheVariants.{First}
+use Rattle.arena.specs.declared.word.Word.{Word}
+use Rattle.arena.specs.Heads.{head_of}
+use Rattle.arena.specs.Words.{node, first_key, first_value}
+use Rattle.arena.specs.History.{History, ◌⊳◌, value}
+use Rattle.arena.specs.Machines.{IsRun, Call, row_of, IsTold, begun_at}
+use Rattle.arena.specs.TakenNodes.{taken_nodes}
+use Rattle.arena.proofs.Lemmas.{ends_self}
+use Rattle.prims.specs.Laws.Idle.{IsIdle, idle_if_finished}
+use Rattle.prims.specs.Laws.Begun.{TakesOnly, takes_by_others, takes_by_step}
+use Rattle.prims.specs.Llx.Known.{load}
+use Rattle.prims.specs.Llx.Laws.{llx_keeps, llx_lawful, llx_made, load_lawful, load_told}
+use Rattle.prims.specs.Vlx.Laws.{vlx_keeps, vlx_lawful, vlx_made}
+use Rattle.prims.proofs.Lemmas.{llx_fills_not, vlx_fills_not}
+use Rattle.ordered_map.specs.Runs.{IsTreeRun}
+use Rattle.ordered_map.specs.TreeShape.{TreeAllows}
+use Rattle.ordered_map.specs.TreeWords.{level}
+use Rattle.ordered_map.specs.Tries.{begins_try}
+use Rattle.ordered_map.proofs.Lemmas.{stood_settled, was_passed, walk_stays, SameSettled, settled_class, settled_leaf, settled_level, settled_toward}
+use Rattle.template.specs.Trails.{IsOwnMoment}
+use Rattle.template.specs.Walk.Known.{WalkKnows, WalkWaits}
+use Rattle.template.specs.Walk.Laws.{walk_keeps, walk_lawful, walk_made, walk_told}
+use Rattle.template.specs.Walk.Places.{IsPastRoot}
+use Rattle.template.specs.declared.walk.WalkAt.{WalkAt}
+use Rattle.template.specs.declared.walk.WalkAt.TheVariants as places
+use Rattle.template.specs.declared.walk.WalkRun.{WalkRun}
+use Rattle.template.proofs.Lemmas.{BeginsNoTry, llx_begins_none, others_begin_none, own_begins, own_begins_none, vlx_begins_none, walk_begins_none, walk_fills_not, stood_inside}
+use Rattle.order.specs.Found.{AreThere, HasKey, HasLowHead, Looks}
+use Rattle.order.specs.Known.{BeginsHere, IsLastTurn, ReadGoes, ReadIsReady, ReadIsToldAt, ReadWaits, ReadWaitsAt, RunStands, StandsInTry, Validates, Walks, WalksInTry}
+use Rattle.order.specs.Laws.Depth.{fork_depth, head_fits}
+use Rattle.order.specs.Laws.Kept.{begins_more, head_begins_none, in_try_more, in_try_now, reads_anew, root_there, stood_more, whenever_more, reads_more, settled_more, word_begins_none}
+use Rattle.order.specs.Meaning.{ReadMeaning}
+use Rattle.order.specs.Paths.{HeadFits}
+use Rattle.order.specs.Reads.{HasStood}
+use Rattle.order.specs.Steps.{ReadFits, ReadFitsAt}
+use Rattle.order.specs.Tries.{IsInTry}
+use Rattle.order.specs.declared.read.Children.{Children}
+use Rattle.order.specs.declared.run.ReadAt.{ReadAt}
+use Rattle.order.specs.declared.run.ReadAt.TheVariants.{Start, Walk, Root, Head, Key, Value, Look, Validate}
+use Rattle.order.specs.declared.run.ReadRun.{ReadRun}
+
+module _ {R A : Type 0} (means : ReadMeaning R A) (m : ReadRun R) where
+  -- One row more
+
+  module _ (c : Call) (h : History) (r : Row) (g : IsTreeRun c.layout h) (run : IsRun TreeAllows c.layout (r ⊳ h)) where
+    deeper_more : (above n : ℕ) → HasStood c h n → above < level (value h) n → above < level (value (r ⊳ h)) n
+    deeper_more above n x i = let e : level (value (r ⊳ h)) n ≡ level (value h) n = settled_level (value h) (value (r ⊳ h)) n (settled_more c h r run n g x) in omega (arith, e, i)
+
+    there_more : (ns : List NodeNo) → AreThere c h ns → AreThere c (r ⊳ h) ns
+    there_more [] x = tt
+    there_more (n ∷ ns) x = ((stood_more c h r n.0 x.0.0, deeper_more 0 n.0 x.0.0 x.0.1), there_more ns x.1)
+
+    last_more : (k n : ℕ) → IsLastTurn c h k n → IsLastTurn c (r ⊳ h) k n
+    last_more k n (inl e) = inl e
+    last_more k n (inr x) = inr record {
+      passed = record { first = x.passed.first; own = x.passed.own; passed = walk_stays r h x.passed.first k n x.passed.passed };
+      fork = settled_leaf (value h) (value (r ⊳ h)) n same ∙ x.fork;
+      left = settled_toward (value h) (value (r ⊳ h)) n k same ∙ x.left;
+    }
+      where
+        same : SameSettled (value h) (value (r ⊳ h)) n
+        same = stood_settled c.layout (r ⊳ h) h n (g.0, run) (inr (ends_self h)) (was_passed h x.passed.first k n x.passed.passed)
+
+    walks_more : (walk : WalkRun) (turn : NodeNo) → Walks means m.read c h walk turn → Walks means m.read c (r ⊳ h) walk turn
+    walks_more walk turn x = record { key = x.key; goal = x.goal; goes_to = x.goes_to; last = last_more x.key turn.0 x.last }
+
+    stands_more : (n : ℕ) → RunStands means m c h n → RunStands means m c (r ⊳ h) n
+    stands_more n x = record {
+      stood = stood_more c h r n x.stood;
+      asks = x.asks;
+      some = x.some;
+      waits = there_more (means.waiting m.read) x.waits;
+      here = whenever_more c h r m.snaps.items _ x.here;
+    }
+
+    looks_more : (children : Children) (low n : ℕ) → Looks means m.read m.snaps.items c h children low n → Looks means m.read m.snaps.items c (r ⊳ h) children low n
+    looks_more children low n x = record {
+      stood = stood_more c h r n x.stood;
+      asks = x.asks;
+      fork = settled_leaf (value h) (value (r ⊳ h)) n same ∙ x.fork;
+      deep = let e : level (value (r ⊳ h)) n ≡ level (value h) n = settled_level (value h) (value (r ⊳ h)) n same in let y = x.deep in omega (arith, e, y);
+      waits = there_more (means.waiting m.read) x.waits;
+      here = whenever_more c h r m.snaps.items _ x.here;
+    }
+      where
+        same : SameSettled (value h) (value (r ⊳ h)) n
+        same = settled_more c h r run n g x.stood
+
+    head_more : (n : ℕ) (head : HeadParts) → HasStood c h n → HasLowHead h n head → HasLowHead (r ⊳ h) n head
+    head_more n head s x = record { head_is = ap head_of (settled_more c h r run n g s (Settled HeadWord) tt) ∙ x.head_is; low = x.low }
+
+    key_more : (n key : ℕ) → HasKey means m.read m.snaps.items c h n key → HasKey means m.read m.snaps.items c (r ⊳ h) n key
+    key_more n key x = record {
+      stands = stands_more n x.stands;
+      leaf = settled_leaf (value h) (value (r ⊳ h)) n same ∙ x.leaf;
+      low = settled_class (value h) (value (r ⊳ h)) n same ∙ x.low;
+      key_is = same first_key tt ∙ x.key_is;
+      takes = x.takes;
+    }
+      where
+        same : SameSettled (value h) (value (r ⊳ h)) n
+        same = settled_more c h r run n g x.stands.stood
+
+    validates_more : (begin : History) → Validates means m.read m.snaps.items c h begin → Validates means m.read m.snaps.items c (r ⊳ h) begin
+    validates_more begin x = record { asks = x.asks; own = x.own; within = inr x.within; reads = x.reads; right = x.right }
+
+    goes_more : TakesOnly c.layout c.pass 0 h r → ReadGoes means m c h → ReadGoes means m c (r ⊳ h)
+    goes_more takes x = record { reads = reads_more c h r run m.snaps.items takes x.reads; suits = x.suits }
+
+    -- Rows of other passes
+
+    kept_at : (s : Step) (at : ReadAt) → r.pass.0 ≢ c.pass → ReadWaitsAt means m c h s at → ReadWaitsAt means m c (r ⊳ h) s at
+    kept_at s Start other w = w
+    kept_at s (Walk walk turn) other w = (walks_more walk turn w.0, walk_keeps walk c h s r run other w.1)
+    kept_at s Root other w = (stands_more 0 w.0, w.1)
+    kept_at s (Head above n) other w = (stands_more n.0 w.0, deeper_more above n.0 w.0.stood w.1, w.2)
+    kept_at s (Key head n) other w = (stands_more n.0 w.0, head_more n.0 head w.0.stood w.1, w.2)
+    kept_at s (Value key n) other w = (key_more n.0 key w.0, w.1)
+    kept_at s (Look children low llx) other w = (looks_more children low llx.node.0 w.0, (w.1.0, w.1.1, llx_keeps TreeAllows llx (begun_at c w.1.0) h s r run other w.1.2))
+    kept_at s (Validate asked) other w = (w.0, validates_more w.0 w.1, vlx_keeps TreeAllows m.snaps.items asked (begun_at c w.0) h s r run other w.2)
+
+  module _ (c : Call) (h begin : History) (r : Row) (idle : IsIdle c.layout c.pass (r ⊳ h)) (none : begins_try c.pass r ≡ false) where
+    begins_on : BeginsHere means m c h → BeginsHere means m c (r ⊳ h)
+    begins_on x = (begins_more c h r m.limit m.tries idle none x.0, x.1, x.2)
+
+    walks_on : (turn : NodeNo) (p : WalkAt) → WalksInTry means m c h begin turn p → WalksInTry means m c (r ⊳ h) begin turn p
+    walks_on turn places.Root x = (begins_on x.0, x.1)
+    walks_on turn _ x = in_try_more c h r m.limit m.tries idle begin none x
+
+    try_more : (at : ReadAt) → StandsInTry means m c h begin at → StandsInTry means m c (r ⊳ h) begin at
+    try_more (Walk walk turn) x = walks_on turn walk.at x
+    try_more Root x = begins_on x
+    try_more _ x = in_try_more c h r m.limit m.tries idle begin none x
+
+  -- rows of other passes leave a read waiting for the same step
+  pub read_keeps : (c : Call) (h : History) (s : Step) (r : Row) → IsRun TreeAllows c.layout (r ⊳ h) → r.pass.0 ≢ c.pass → ReadWaits means m c h s → ReadWaits means m c (r ⊳ h) s
+  read_keeps c h s r run other w = (
+    w.0,
+    try_more c h w.0 r (idle_if_finished c (r ⊳ h) run.lawful goes.reads.over) (others_begin_none c.pass r other) m.at w.1,
+    goes,
+    kept_at (begun_at c w.0) h r w.2.reads.run run s m.at other w.3,
+  )
+    where
+      goes : ReadGoes means m (begun_at c w.0) (r ⊳ h)
+      goes = goes_more (begun_at c w.0) h r w.2.reads.run run (takes_by_others c.layout c.pass 0 h r run.lawful other) w.2
+
+  -- The step that it waits for
+
+  -- a load of a settled word of a node that has stood in the tree continues the run
+  load_on : (c : Call) (h : History) (s : Step) (n : ℕ) (part : SettledPart) → IsTreeRun c.layout h → HasStood c h n → s ≡ load LoadSettled (node n (Settled part)) → IsRun TreeAllows c.layout (row_of c s h ⊳ h)
+  load_on c h s n part g x asked = load_lawful TreeAllows c h LoadSettled (node n (Settled part)) s g.1 asked record { word = tt; same = refl } (λ q. cc) (stood_inside c.layout h n g x.stood)
+
+  lawful_at : (c : Call) (h : History) (s : Step) (at : ReadAt) → IsTreeRun c.layout h → ReadWaitsAt means m c h s at → IsRun TreeAllows c.layout (row_of c s h ⊳ h)
+  lawful_at c h s Start g w = absurd w
+  lawful_at c h s (Walk walk turn) g w = walk_lawful walk c h s g.1 w.1
+  lawful_at c h s Root g w = load_on c h s 0 HeadWord g w.0.stood w.1
+  lawful_at c h s (Head above n) g w = load_on c h s n.0 HeadWord g w.0.stood w.2
+  lawful_at c h s (Key head n) g w = load_on c h s n.0 (KeyWord First) g w.0.stood w.2
+  lawful_at c h s (Value key n) g w = load_on c h s n.0 (ValueWord First) g w.0.stands.stood w.1
+  lawful_at c h s (Look children low llx) g w = llx_lawful TreeAllows llx (begun_at c w.1.0) h s g.1 w.1.2
+  lawful_at c h s (Validate asked) g w = vlx_lawful TreeAllows m.snaps.items asked (begun_at c w.0) h s g.1 w.2
+
+  -- the step that a read waits for continues the run
+  pub read_lawful : (c : Call) (h : History) (s : Step) → IsRun TreeAllows c.layout h → ReadWaits means m c h s → IsRun TreeAllows c.layout (row_of c s h ⊳ h)
+  read_lawful c h s run w = lawful_at (begun_at c w.0) h s m.at w.2.reads.run w.3
+
+  -- It fills nothing
+
+  load_fills_not : (s : Step) (w : Word) → s ≡ load LoadSettled w → s.kind ≢ Fill
+  load_fills_not s w e f = let z : LoadSettled ≡ Fill = sym (ap (λ (t : Step). t.kind) e) ∙ f in cc
+
+  fills_not_at : (c : Call) (h : History) (s : Step) (at : ReadAt) → ReadWaitsAt means m c h s at → s.kind ≢ Fill
+  fills_not_at c h s Start w = absurd w
+  fills_not_at c h s (Walk walk turn) w = walk_fills_not walk c h s w.1
+  fills_not_at c h s Root w = load_fills_not s (node 0 (Settled HeadWord)) w.1
+  fills_not_at c h s (Head above n) w = load_fills_not s (node n.0 (Settled HeadWord)) w.2
+  fills_not_at c h s (Key head n) w = load_fills_not s (node n.0 first_key) w.2
+  fills_not_at c h s (Value key n) w = load_fills_not s (node n.0 first_value) w.1
+  fills_not_at c h s (Look children low llx) w = llx_fills_not TreeAllows llx (begun_at c w.1.0) h s w.1.2
+  fills_not_at c h s (Validate asked) w = vlx_fills_not m.snaps.items asked (begun_at c w.0) h s w.2
+
+  -- a read never asks for a fill: it takes nothing of its share
+  pub read_fills_not : (c : Call) (h : History) (s : Step) → ReadWaits means m c h s → s.kind ≢ Fill
+  read_fills_not c h s w = fills_not_at (begun_at c w.0) h s m.at w.3
+
+  -- It has something to find
+
+  asks_at : (c : Call) (h : History) (s : Step) (at : ReadAt) → ReadWaitsAt means m c h s at → means.asks (means.call m.read)
+  asks_at c h s Start w = absurd w
+  asks_at c h s (Walk walk turn) w = w.0.goes_to.asks
+  asks_at c h s Root w = w.0.asks
+  asks_at c h s (Head above n) w = w.0.asks
+  asks_at c h s (Key head n) w = w.0.asks
+  asks_at c h s (Value key n) w = w.0.stands.asks
+  asks_at c h s (Look children low llx) w = w.0.asks
+  asks_at c h s (Validate asked) w = w.1.asks
+
+  -- a read that waits for a step has something to find
+  pub read_asks : (c : Call) (h : History) (s : Step) → ReadWaits means m c h s → means.asks (means.call m.read)
+  read_asks c h s w = asks_at (begun_at c w.0) h s m.at w.3
+
+  -- Its own row
+
+  module _ (c : Call) (h : History) (s : Step) (v : ℕ) (g : IsTreeRun c.layout h) (run : IsRun TreeAllows c.layout (row_of c s h ⊳ h)) (t : IsTold s.access (value h s.word) v) where
+    abbrev r : Row
+    r = row_of c s h
+
+    made_at : (at : ReadAt) → ReadWaitsAt means m c h s at → ReadIsToldAt means m c (row_of c s h ⊳ h) v at
+    made_at Start w = w
+    made_at (Walk walk turn) w = (walks_more c h r g run walk turn w.0, walk_made walk c h s v run t w.1)
+    made_at Root w = (stands_more c h r g run 0 w.0, load_told c h LoadSettled (node 0 (Settled HeadWord)) s v w.1 t)
+    made_at (Head above n) w = (stands_more c h r g run n.0 w.0, deeper_more c h r g run above n.0 w.0.stood w.1, load_told c h LoadSettled (node n.0 (Settled HeadWord)) s v w.2 t)
+    made_at (Key head n) w = (stands_more c h r g run n.0 w.0, head_more c h r g run n.0 head w.0.stood w.1, load_told c h LoadSettled (node n.0 first_key) s v w.2 t)
+    made_at (Value key n) w = (key_more c h r g run n.0 key w.0, load_told c h LoadSettled (node n.0 first_value) s v w.1 t)
+    made_at (Look children low llx) w = (looks_more c h r g run children low llx.node.0 w.0, (w.1.0, w.1.1, llx_made TreeAllows llx (begun_at c w.1.0) h s v run t w.1.2))
+    made_at (Validate asked) w = (w.0, validates_more c h r g run w.0 w.1, vlx_made TreeAllows m.snaps.items asked (begun_at c w.0) h s v run t w.2)
+
+  -- so it may be called at this place, once its step has told v
+  abbrev ReadyAt : Call → History → ℕ → ReadAt → Type 0
+  ReadyAt c h v at = (begin : History) × IsInTry c h begin m.limit m.tries × ReadGoes means m (begun_at c begin) h × IsOwnMoment (begun_at c begin) h × ReadIsToldAt means m (begun_at c begin) h v at
+
+  module _ (c : Call) (h : History) (s : Step) (v : ℕ) (run : IsRun TreeAllows c.layout (row_of c s h ⊳ h)) (t : IsTold s.access (value h s.word) v) where
+    abbrev made : History
+    made = row_of c s h ⊳ h
+
+    module _ (begin : History) (goes : ReadGoes means m (begun_at c begin) h) where
+      goes_made : (at : ReadAt) → ReadWaitsAt means m (begun_at c begin) h s at → ReadGoes means m (begun_at c begin) made
+      goes_made at w = goes_more (begun_at c begin) h (row_of c s h) goes.reads.run run (takes_by_step c.layout c.pass 0 h (row_of c s h) (fills_not_at (begun_at c begin) h s at w)) goes
+
+      idle_made : (at : ReadAt) → ReadWaitsAt means m (begun_at c begin) h s at → IsIdle c.layout c.pass made
+      idle_made at w = idle_if_finished c made run.lawful (goes_made at w).reads.over
+
+      told_in_try : (at : ReadAt) → IsInTry c made begin m.limit m.tries → ReadWaitsAt means m (begun_at c begin) h s at → ReadyAt c made v at
+      told_in_try at try w = (
+        begin,
+        try,
+        goes_made at w,
+        record { row = row_of c s h; before = h; is = refl; since = goes.reads.since; own = refl },
+        made_at (begun_at c begin) h s v goes.reads.run run t at w,
+      )
+
+      -- in a try it stays in that
+      stays_in_try : (at : ReadAt) → IsInTry c h begin m.limit m.tries → BeginsNoTry s → ReadWaitsAt means m (begun_at c begin) h s at → ReadyAt c made v at
+      stays_in_try at try none w = told_in_try at (in_try_more c h (row_of c s h) m.limit m.tries (idle_made at w) begin (own_begins_none c s h none) try) w
+
+    -- the load of the root's head begins one, of which it knows what it has known so far
+    module _ (begin : History) (goes : ReadGoes means m (begun_at c begin) h) (try : BeginsHere means m c h) (loads : s ≡ load LoadSettled (node 0 (Settled HeadWord))) where
+      begins_now : (at : ReadAt) → ReadWaitsAt means m (begun_at c begin) h s at → ReadWaitsAt means m (begun_at c h) h s at → ReadyAt c made v at
+      begins_now at w again = told_in_try h record { reads = reads_anew c h m.snaps.items try.1 goes.reads.run goes.reads.over; suits = goes.suits } at (in_try_now c h (row_of c s h) m.limit m.tries (idle_made begin goes at w) (own_begins c s h loads) try.0) again
+
+      root_begins : ReadWaitsAt means m (begun_at c begin) h s Root → ReadyAt c made v Root
+      root_begins w = begins_now Root w (record { stood = root_there (begun_at c h) h goes.reads.run (ends_self h); asks = w.0.asks; some = w.0.some; waits = rw try.2 tt; here = w.0.here }, w.1)
+
+    walk_begins : (begin : History) (walk : WalkRun) (turn : NodeNo) → walk.at ≡ places.Root → WalksInTry means m c h begin turn places.Root → ReadGoes means m (begun_at c begin) h → ReadWaitsAt means m (begun_at c begin) h s (Walk walk turn) → ReadyAt c made v (Walk walk turn)
+    walk_begins begin walk turn e try goes w = begins_now begin goes try.0 loads (Walk walk turn) w (record { key = w.0.key; goal = w.0.goal; goes_to = w.0.goes_to; last = inl try.1 }, again)
+      where
+        at_root : walk.trail.node.0 ≡ 0
+        at_root = subst (WalkKnows (begun_at c begin) h walk) e w.1.known
+
+        loads : s ≡ load LoadSettled (node 0 (Settled HeadWord))
+        loads = rw (e, at_root) at w.1.asked
+
+        again : WalkWaits walk (begun_at c h) h s
+        again = record { run = w.1.run; small = w.1.small; since = ends_self h; known = subst (WalkKnows (begun_at c h) h walk) (sym e) at_root; asked = w.1.asked }
+
+    walk_told_in : (begin : History) (walk : WalkRun) (turn : NodeNo) (p : WalkAt) → walk.at ≡ p → WalksInTry means m c h begin turn p → ReadGoes means m (begun_at c begin) h → ReadWaitsAt means m (begun_at c begin) h s (Walk walk turn) → ReadyAt c made v (Walk walk turn)
+    walk_told_in begin walk turn places.Start e try goes w = absurd (subst (WalkKnows (begun_at c begin) h walk) e w.1.known)
+    walk_told_in begin walk turn places.Root e try goes w = walk_begins begin walk turn e try goes w
+    walk_told_in begin walk turn _ e try goes w = stays_in_try begin goes (Walk walk turn) try (walk_begins_none walk (begun_at c begin) h s (subst IsPastRoot (sym e) tt) w.1) w
+
+    ready_at : (begin : History) (at : ReadAt) → StandsInTry means m c h begin at → ReadGoes means m (begun_at c begin) h → ReadWaitsAt means m (begun_at c begin) h s at → ReadyAt c made v at
+    ready_at begin Start try goes w = absurd w
+    ready_at begin (Walk walk turn) try goes w = walk_told_in begin walk turn walk.at refl try goes w
+    ready_at begin Root try goes w = root_begins begin goes try w.1 w
+    ready_at begin (Head above n) try goes w = stays_in_try begin goes (Head above n) try (head_begins_none c h s above n.0 goes.reads.run w.1 w.2) w
+    ready_at begin (Key head n) try goes w = stays_in_try begin goes (Key head n) try (word_begins_none s n.0 first_key w.2 refl) w
+    ready_at begin (Value key n) try goes w = stays_in_try begin goes (Value key n) try (word_begins_none s n.0 first_value w.1 refl) w
+    ready_at begin (Look children low llx) try goes w = stays_in_try begin goes (Look children low llx) try (llx_begins_none TreeAllows llx (begun_at c w.1.0) h s w.1.2) w
+    ready_at begin (Validate asked) try goes w = stays_in_try begin goes (Validate asked) try (vlx_begins_none m.snaps.items asked (begun_at c w.0) h s w.2) w
+
+  -- once the step is made, a read may be called with what it told
+  pub read_made : (c : Call) (h : History) (s : Step) (v : ℕ) → IsRun TreeAllows c.layout (row_of c s h ⊳ h) → IsTold s.access (value h s.word) v → ReadWaits means m c h s → ReadIsReady means m c (row_of c s h ⊳ h) (Some v)
+  read_made c h s v run t w = ready_at c h s v run t w.0 m.at w.1 w.2 w.3
+
+  -- What it is told
+
+  fits_at : (c : Call) (h : History) (v nodes : ℕ) (at : ReadAt) → IsTreeRun c.layout h → ReadIsToldAt means m c h v at → length (taken_nodes h) ≤ nodes → ReadFitsAt means m (Some v) nodes at
+  fits_at c h v nodes Start g x few = absurd x
+  fits_at c h v nodes (Walk walk turn) g x few = walk_told walk c h (Some v) nodes g.1 x.1 few
+  fits_at c h v nodes Root g x few = head_fits c.layout h 0 nodes (head_of v) g x.0.stood.stood (ap head_of x.1) few
+  fits_at c h v nodes (Head above n) g x few =
+      let fits : HeadFits (head_of v) nodes = head_fits c.layout h n.0 nodes (head_of v) g x.0.stood.stood (ap head_of x.2) few in
+      ((let l : level (value h) n.0 ≡ (head_of v).level = ap (λ w. (head_of w).level) x.2 in let i = x.1 in omega (arith, i, l)), fits)
+  fits_at c h v nodes (Key head n) g x few = head_fits c.layout h n.0 nodes head g x.0.stood.stood x.1.head_is few
+  fits_at c h v nodes (Value key n) g x few = tt
+  fits_at c h v nodes (Look children low llx) g x few =
+      let d : level (value h) llx.node.0 + 1 < 2 + length (taken_nodes h) = fork_depth c.layout h llx.node.0 g x.0.stood.stood x.0.fork in
+      let deep = x.0.deep in
+      omega (arith, d, deep, few)
+  fits_at c h v nodes (Validate asked) g x few = tt
+
+  -- what a read may be told fits the nodes that are taken by then
+  pub read_told : (c : Call) (h : History) (got : Option ℕ) (nodes : ℕ) → IsRun TreeAllows c.layout h → ReadIsReady means m c h got → length (taken_nodes h) ≤ nodes → ReadFits means m got nodes
+  read_told c h None nodes run x few = subst (λ at. ReadFitsAt means m None nodes at) (sym x.1) tt
+  read_told c h (Some v) nodes run x few = fits_at (begun_at c x.0) h v nodes m.at x.2.reads.run x.4 few

@@ -1,0 +1,31 @@
+-- What an ordered read says to the machine that makes it.
+use Rattle.std.specs.Prelude.{ℕ, List}
+use Rattle.arena.specs.declared.number.NodeNo.{NodeNo}
+use Rattle.arena.specs.History.{History}
+use Rattle.ordered_map.specs.OrderedMap.{MapCall, MapReply}
+use Rattle.order.specs.declared.read.Children.{Children}
+
+-- What a read is, of which the answers are `A`. Where it stands is said of the words of a moment at
+-- which all infos are as they were found.
+pub record ReadMeaning (R A : Type 0) : Type 1 where
+  -- which call of the map it is
+  pub call : R → MapCall
+  -- what it has found, as a reply of the map, and what an answer tells
+  pub found : R → MapReply
+  pub told : A → MapReply
+  -- the keys and numbers of such a call are not too large
+  pub suits : MapCall → Type 0
+  -- such a call has something to find: else it answers at once
+  pub asks : MapCall → Type 0
+  -- the nodes that wait to be visited, the next one first
+  pub waiting : R → List NodeNo
+  -- it stands at this node
+  pub IsAt : R → History → ℕ → Type 0
+  -- it stands at this fork, of which these children are to be visited
+  pub IsAtFork : R → History → ℕ → Children → Type 0
+  -- it takes the pair of a leaf with this key
+  pub Takes : R → ℕ → Type 0
+  -- how many steps a try of such a call may ask for, where no more nodes than these are taken
+  pub try_left : MapCall → ℕ → ℕ
+  -- and how many behind the path on which it is
+  pub behind : R → ℕ → ℕ

@@ -1,0 +1,36 @@
+-- What an ordered read does next in its try, before it stands there.
+use Rattle.std.specs.Prelude.{◌≡◌, ◌<◌, List, length, Result, Ok, Err}
+use Rattle.arena.specs.History.{History, value}
+use Rattle.arena.specs.Machines.{Call}
+use Rattle.prims.specs.declared.snap.Snap.{Snap}
+use Rattle.ordered_map.specs.TreeWords.{level}
+use Rattle.template.specs.Trails.{IsOwnMoment}
+use Rattle.order.specs.Found.{HasKey, HasLowHead, IsRightAt, Looks, Stands}
+use Rattle.order.specs.Meaning.{ReadMeaning}
+use Rattle.order.specs.Reads.{Whenever}
+use Rattle.order.specs.declared.read.ReadNext.{ReadNext}
+use Rattle.order.specs.declared.read.ReadNext.TheVariants.{Head, Key, Value, Look, Validate}
+use Rattle.order.specs.declared.refused.Refused.{Refused}
+use Rattle.order.specs.declared.refused.Refused.TheVariants.{NoMemory}
+
+module _ {R A : Type 0} (means : ReadMeaning R A) (r : R) (snaps : List Snap) (c : Call) (h : History) where
+  -- at an own moment of its call it has looked at all that it needs, and what it has found is right
+  -- as long as all infos are as they were found
+  pub record MayValidate : Type 0 where
+    pub asks : means.asks (means.call r)
+    pub own : IsOwnMoment c h
+    pub some : 0 < length snaps
+    pub right : Whenever c.layout h snaps (λ b. IsRightAt means r c.layout b)
+
+  -- what it knows when this may come next
+  abbrev pub MayDo : ReadNext → Type 0
+  MayDo (Head above n) = Stands means r snaps c h n.0 × (above < level (value h) n.0)
+  MayDo (Key head n) = Stands means r snaps c h n.0 × HasLowHead h n.0 head
+  MayDo (Value key n) = HasKey means r snaps c h n.0 key
+  MayDo (Look children low n) = Looks means r snaps c h children low n.0
+  MayDo Validate = MayValidate
+
+  -- it goes on so; or it ends, for want of memory
+  abbrev pub GoesOnSo : Result ReadNext Refused → Type 0
+  GoesOnSo (Ok next) = MayDo next
+  GoesOnSo (Err refused) = refused ≡ NoMemory

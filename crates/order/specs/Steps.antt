@@ -1,0 +1,64 @@
+-- How many steps an ordered read may still ask for: three a node of its walk, and 67 a node of each
+-- path that it goes down with LLXs.
+use Rattle.std.specs.Prelude.{ℕ, ◌+◌, ◌*◌, ◌-◌, ◌<◌, length, Option, unwrap_or}
+use Rattle.arena.specs.Heads.{head_of}
+use Rattle.arena.specs.Machines.{MatchTurn}
+use Rattle.arena.specs.declared.machine.Turn.{Turn}
+use Rattle.arena.specs.declared.number.NodeNo.{NodeNo}
+use Rattle.arena.specs.declared.word.Side.TheVariants as sides
+use Rattle.prims.specs.Llx.Steps.{llx_left}
+use Rattle.prims.specs.Vlx.Steps.{vlx_left}
+use Rattle.template.specs.Walk.Steps.{walk_left, WalkFits}
+use Rattle.template.specs.declared.walk.WalkAt.{WalkAt}
+use Rattle.template.specs.declared.walk.WalkAt.TheVariants.{Child}
+use Rattle.order.specs.Meaning.{ReadMeaning}
+use Rattle.order.specs.Paths.{HeadFits, path_left}
+use Rattle.order.specs.declared.run.ReadAt.{ReadAt}
+use Rattle.order.specs.declared.run.ReadAt.TheVariants.{Start, Walk, Root, Head, Key, Value, Look, Validate}
+use Rattle.order.specs.declared.run.ReadRun.{ReadRun}
+
+-- the last fork where a walk has turned left, if that was `turn` before it stood here at the node
+abbrev pub last_turn : WalkAt → NodeNo → NodeNo → NodeNo
+last_turn (Child level sides.Left) node turn = node
+last_turn _ node turn = turn
+
+module _ {R A : Type 0} (means : ReadMeaning R A) (m : ReadRun R) where
+  -- how many steps a try may ask for, where no more nodes than these are taken
+  abbrev pub run_try_left : ℕ → ℕ
+  run_try_left nodes = means.try_left (means.call m.read) nodes
+
+  -- so many the tries behind this one
+  abbrev pub tries_left : ℕ → ℕ
+  tries_left nodes = m.tries * run_try_left nodes
+
+  -- and so many are left in this one at this place
+  abbrev pub phase_left : ℕ → ReadAt → ℕ
+  phase_left nodes Start = run_try_left nodes
+  phase_left nodes (Walk walk turn) = walk_left walk.at nodes + length m.snaps.items + path_left nodes + means.behind m.read nodes
+  phase_left nodes Root = length m.snaps.items + path_left nodes - 1 + means.behind m.read nodes
+  phase_left nodes (Head above node) = length m.snaps.items + 67 * (1 + nodes - above) - 1 + means.behind m.read nodes
+  phase_left nodes (Key head node) = length m.snaps.items + 67 * (2 + nodes - head.level) - 2 + means.behind m.read nodes
+  phase_left nodes (Value key node) = length m.snaps.items + means.behind m.read nodes
+  phase_left nodes (Look children level llx) = llx_left llx.at + length m.snaps.items + 1 + 67 * (1 + nodes - level) + means.behind m.read nodes
+  phase_left nodes (Validate asked) = vlx_left m.snaps.items asked
+
+  -- how many steps are left
+  abbrev pub read_left : ℕ → ℕ
+  read_left nodes = tries_left nodes + phase_left nodes m.at
+
+  -- where the run asks for a step, fewer than n are left then
+  abbrev pub ReadIsNearer : {T : Type 0} → ℕ → Turn T → ℕ → Type 0
+  ReadIsNearer nodes turn n = MatchTurn turn (λ _. read_left nodes < n) (λ _. Unit {0})
+
+  -- what the run is told at this place fits so many taken nodes
+  abbrev pub ReadFitsAt : Option ℕ → ℕ → ReadAt → Type 0
+  ReadFitsAt got nodes (Walk walk turn) = WalkFits walk got nodes
+  ReadFitsAt got nodes Root = HeadFits (head_of (unwrap_or got 0)) nodes
+  ReadFitsAt got nodes (Head above node) = (above < (head_of (unwrap_or got 0)).level) × HeadFits (head_of (unwrap_or got 0)) nodes
+  ReadFitsAt got nodes (Key head node) = HeadFits head nodes
+  ReadFitsAt got nodes (Look children level llx) = level + 1 < 2 + nodes
+  ReadFitsAt got nodes _ = Unit {0}
+
+  -- what it is told where it stands
+  abbrev pub ReadFits : Option ℕ → ℕ → Type 0
+  ReadFits got nodes = ReadFitsAt got nodes m.at

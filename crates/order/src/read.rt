@@ -1,0 +1,123 @@
+//! Ordered reads of the tree, as data for the machine that makes them.
+ghost use Rattle.std.specs.Prelude.{◌≡◌, ℕ, ◌+◌, ◌*◌, ◌-◌, ◌≤◌, List, IfOk};
+ghost use Rattle.arena.specs.History.{History};
+ghost use Rattle.arena.specs.Machines.{Call};
+ghost use Rattle.prims.specs.declared.snap.Snap.{Snap};
+ghost use Rattle.template.specs.Trails.{IsOwnMoment};
+ghost use Rattle.order.specs.Meaning.{ReadMeaning};
+ghost use Rattle.order.specs.Found.{IsReading, Stands, HasLowHead, HasKey, BeginsSo, GoesBelow, head_at, key_at, value_at};
+ghost use Rattle.order.specs.Next.{MayDo, GoesOnSo};
+ghost use Rattle.order.specs.Paths.{HeadFits, BeginsNear, ComesNearer};
+
+use crate::refused::Refused;
+use arena::{Head, NodeNo};
+use ordered_map::Pair;
+
+/// Which children of a fork are to be visited.
+#[derive(Clone, Copy, Debug, PartialEq, Eq)]
+pub enum Children {
+    /// The left one alone.
+    Left,
+    /// The right one alone.
+    Right,
+    /// The left one, and then the right one.
+    Both,
+}
+
+/// With what a try of a read begins.
+#[derive(Debug, Drop)]
+pub enum ReadBegin<A> {
+    /// A walk to this key.
+    Walk(u64),
+    /// The load of the root's head.
+    Root,
+    /// Nothing: there is nothing to be found, and this is the answer.
+    Answer(A),
+}
+
+/// What a read does next in its try, before it stands there.
+#[derive(Clone, Copy, Debug, PartialEq, Eq)]
+pub enum ReadNext {
+    /// The load of the head of a node that is below a fork of the level `above`.
+    Head {
+        above: u64,
+        node: NodeNo,
+    },
+    /// The load of the key of a node of class 0.
+    Key {
+        head: Head,
+        node: NodeNo,
+    },
+    /// The load of the value of a leaf whose pair is taken.
+    Value {
+        key: u64,
+        node: NodeNo,
+    },
+    /// The LLX of a fork of this level, of which these children are to be visited.
+    Look {
+        children: Children,
+        level: u64,
+        node: NodeNo,
+    },
+    /// The VLX.
+    Validate,
+}
+
+/// An ordered read of the tree: with what it begins, and what it does behind each word that it has
+/// found.
+pub trait Read {
+    /// What it answers, where it is not refused.
+    type Answer;
+
+    /// Which call of the map it is, and what it knows of the node where it stands.
+    ghost means: { ReadMeaning Self Self.Answer };
+
+    /// Forgets the last try.
+    fn begin(&mut self) -> ReadBegin<Self::Answer>
+        ensures begins { BeginsSo means self.new result }
+        ensures same { means.call self.new ≡ means.call self.old }
+        ensures nearer { (nodes : ℕ) → BeginsNear means self.new nodes result };
+
+    /// Goes on from a fork of which these children are to be visited, to one of the two.
+    ///
+    /// # Errors
+    ///
+    /// `NoMemory` where there is none to keep the other.
+    fn looked(&mut self, children: Children, left: NodeNo, right: NodeNo) -> Result<NodeNo, Refused>
+        ensures goes_on { GoesBelow means self.old self.new children left right result }
+        ensures same { means.call self.new ≡ means.call self.old }
+        ensures nearer { (nodes : ℕ) → means.behind self.new nodes ≤ means.behind self.old nodes };
+
+    /// What is done behind the head of a node.
+    fn head_on(&mut self, head: Head, node: NodeNo) -> ReadNext
+        ensures goes_on { (snaps : List Snap) (c : Call) (h : History) → IsReading means self.old snaps c h → IsOwnMoment c h
+            → Stands means self.old snaps c h node.0 → head_at h node.0 ≡ head → MayDo means self.new snaps c h result }
+        ensures same { means.call self.new ≡ means.call self.old }
+        ensures nearer { (nodes : ℕ) → HeadFits head nodes
+            → ComesNearer means self.new nodes result (67 * (2 + nodes - head.level) - 1 + means.behind self.old nodes) };
+
+    /// What is done behind the key of a node of class 0.
+    fn key_on(&mut self, head: Head, node: NodeNo, key: u64) -> ReadNext
+        ensures goes_on { (snaps : List Snap) (c : Call) (h : History) → IsReading means self.old snaps c h → IsOwnMoment c h
+            → Stands means self.old snaps c h node.0 → HasLowHead h node.0 head → key_at h node.0 ≡ key
+            → MayDo means self.new snaps c h result }
+        ensures same { means.call self.new ≡ means.call self.old }
+        ensures nearer { (nodes : ℕ) → HeadFits head nodes
+            → ComesNearer means self.new nodes result (67 * (2 + nodes - head.level) - 2 + means.behind self.old nodes) };
+
+    /// Takes a pair, and tells what is done behind it.
+    ///
+    /// # Errors
+    ///
+    /// `NoMemory` where there is none to keep it.
+    fn value_on(&mut self, pair: Pair) -> Result<ReadNext, Refused>
+        ensures goes_on { (snaps : List Snap) (c : Call) (h : History) (n : ℕ) → IsReading means self.old snaps c h → IsOwnMoment c h
+            → HasKey means self.old snaps c h n pair.key → value_at h n ≡ pair.value → GoesOnSo means self.new snaps c h result }
+        ensures same { means.call self.new ≡ means.call self.old }
+        ensures nearer { (nodes : ℕ) → IfOk result (λ next. ComesNearer means self.new nodes next (means.behind self.old nodes)) };
+
+    /// What it has found.
+    fn answer(&mut self) -> Self::Answer
+        ensures told { means.told result ≡ means.found self.old }
+        ensures same { means.call self.new ≡ means.call self.old };
+}

@@ -1,0 +1,465 @@
+//! The machine of an ordered read of the tree.
+ghost use Rattle.std.specs.Prelude.{◌≡◌};
+ghost use Rattle.order.specs.Steps.{last_turn};
+
+use crate::read::{Children, Read, ReadBegin, ReadNext};
+use crate::refused::Refused;
+use arena::{
+    Access, Head, Kind, Machine, NodeNo, NodeWord, ScxNo, SettledPart, Side, Slot, Step, Turn, Word,
+};
+use ordered_map::Pair;
+use prims::{Llx, LlxAt, LlxRun, Snap, Vlx, VlxRun};
+use std::alloc::Global;
+use template::{Goal, Tree, WalkAt, WalkRun};
+
+/// The step that a read has asked for.
+#[derive(Clone, Copy, Debug, PartialEq, Eq)]
+pub enum ReadAt {
+    /// None yet.
+    Start,
+    /// A step of its walk, which has last turned left at the fork `turn`.
+    Walk {
+        walk: WalkRun,
+        turn: NodeNo,
+    },
+    /// The load of the root's head.
+    Root,
+    /// The load of the head of a node that is below a fork of the level `above`.
+    Head {
+        above: u64,
+        node: NodeNo,
+    },
+    /// The load of the key of a node of class 0.
+    Key {
+        head: Head,
+        node: NodeNo,
+    },
+    /// The load of the value of a leaf whose pair is taken.
+    Value {
+        key: u64,
+        node: NodeNo,
+    },
+    /// A step of the LLX of a fork of this level, of which these children are to be visited.
+    Look {
+        children: Children,
+        level: u64,
+        llx: LlxRun,
+    },
+    /// A step of the VLX.
+    Validate {
+        asked: usize,
+    },
+}
+
+/// An ordered read, step by step: a walk, for a read that begins with one; visits of nodes, with an
+/// LLX of each fork; a VLX over all nodes that were looked at. And again where such a try is lost, as
+/// long as tries are left.
+#[derive(Debug, Drop)]
+pub struct ReadRun<R> {
+    /// What is read, and how far that has come.
+    pub read: R,
+    /// How many tries it has in all.
+    pub limit: u32,
+    /// How many of them are left behind this one.
+    pub tries: u32,
+    /// What the LLXs of this try have found.
+    pub snaps: Vec<Snap>,
+    /// Where the run stands.
+    pub at: ReadAt,
+}
+
+impl<R: Read + Drop> ReadRun<R> {
+    ghost use Rattle.std.specs.Prelude.{◌≡◌, ℕ, ◌+◌, ◌-◌, ◌*◌, ◌<◌, ◌≤◌, length, [], IfOk, None, Some, Ok};
+    ghost use Rattle.arena.specs.History.{History, Extends};
+    ghost use Rattle.arena.specs.Machines.{MatchTurn, Call, begun_at};
+    ghost use Rattle.prims.specs.Llx.Known.{IsSnapshot, LlxIsReady};
+    ghost use Rattle.prims.specs.Llx.Steps.{llx_left};
+    ghost use Rattle.prims.specs.Vlx.Known.{VlxIsReady};
+    ghost use Rattle.prims.specs.Vlx.Steps.{vlx_left};
+    ghost use Rattle.ordered_map.specs.TreeShape.{TreeAllows};
+    ghost use Rattle.template.specs.Blame.{IsContended};
+    ghost use Rattle.template.specs.Walk.Known.{WalkIsReady};
+    ghost use Rattle.template.specs.Walk.Steps.{walk_left, WalkFits};
+    ghost use Rattle.order.specs.Found.{BeginsSo, WalksTo, IsReading, Looks};
+    ghost use Rattle.order.specs.Known.{IsLastTurn, IsSameRead, ReadIsReady, ReadTurn, Validates};
+    ghost use Rattle.order.specs.Paths.{BeginsNear, ComesNearer, path_left};
+    ghost use Rattle.order.specs.Places.{GoesOn, MayGoOn, RunComesNearer};
+    ghost use Rattle.order.specs.Replies.{KeepsTries};
+    ghost use Rattle.order.specs.Steps.{ReadFits, ReadIsNearer, tries_left, read_left, run_try_left};
+    ghost use Rattle.order.specs.Tries.{BeginsTry, IsInTry};
+
+    /// A run that has not begun. What it keeps grows with this allocator. What is said of its turns
+    /// holds for some tries.
+    #[inline(always)]
+    pub fn new(alloc: Global, read: R, tries: u32) -> ReadRun<R>
+        ensures read { result.read ≡ read }
+        ensures start { result.at ≡ ReadAt.Start }
+        ensures snaps { result.snaps.items ≡ [] }
+        ensures limit { result.limit ≡ tries }
+        ensures tries { result.tries ≡ tries - 1 }
+        ensures bound { (nodes : ℕ) → 0 < tries → read_left R.means result nodes ≤ tries * run_try_left R.means result nodes }
+    {
+        ReadRun {
+            read,
+            limit: tries,
+            tries: tries.saturating_sub(1),
+            snaps: Vec::new(alloc),
+            at: ReadAt::Start,
+        }
+    }
+
+    /// Asks for a load of a word of a node, and stands there.
+    fn load(
+        &mut self,
+        at: ReadAt,
+        kind: Kind,
+        node: NodeNo,
+        part: NodeWord,
+    ) -> Turn<Result<R::Answer, Refused>>
+        ensures stands { self.new ≡ record self.old { at = at } }
+        ensures asked { result ≡ Turn.Ask record { kind = kind; word = Word.Node node part; access = Access.Load } }
+    {
+        self.at = at;
+        let (word, access) = (Word::Node(node, part), Access::Load);
+        Turn::Ask(Step { kind, word, access })
+    }
+
+    /// Forgets the last try, and tells with what the next begins.
+    #[inline(always)]
+    pub fn start(&mut self) -> ReadBegin<R::Answer>
+        ensures begins { BeginsSo R.means self.new.read result }
+        ensures empty { self.new.snaps.items ≡ [] }
+        ensures same { IsSameRead R.means self.old self.new }
+        ensures nearer { (nodes : ℕ) → BeginsNear R.means self.new.read nodes result }
+        ensures tries { self.new.tries ≡ self.old.tries }
+    {
+        self.snaps.clear();
+        self.read.begin()
+    }
+
+    /// Begins a try; where there is nothing to be found, it ends.
+    fn begin(&mut self) -> Turn<Result<R::Answer, Refused>>
+        ensures turn { (c : Call) (begin h : History) → BeginsTry c h self.old.limit self.old.tries
+            → IsReading R.means self.old.read self.old.snaps.items (begun_at c begin) h → ReadTurn R.means c h self.new result }
+        ensures begins { R.means.asks (R.means.call self.old.read) → MatchTurn result (λ _. Unit {0}) (λ _. ⊥) }
+        ensures same { IsSameRead R.means self.old self.new }
+        ensures nearer { (nodes : ℕ) → ReadIsNearer R.means self.new nodes result
+            (tries_left R.means self.old nodes + run_try_left R.means self.old nodes) }
+        ensures tries { self.new.tries ≡ self.old.tries }
+    {
+        let (kind, root) = (Kind::LoadSettled, NodeNo(0));
+        let head = NodeWord::Settled(SettledPart::Head);
+        match self.start() {
+            ReadBegin::Walk(key) => {
+                let mut walk = WalkRun::new(Goal::Key(key));
+                walk.at = WalkAt::Root;
+                self.load(ReadAt::Walk { walk, turn: root }, kind, root, head)
+            }
+            ReadBegin::Root => self.load(ReadAt::Root, kind, root, head),
+            ReadBegin::Answer(answer) => Turn::Done(Ok(answer)),
+        }
+    }
+
+    /// Ends a try that is lost to this SCX-record over this node, and begins the next if there is
+    /// one.
+    #[cold]
+    fn lost(&mut self, node: NodeNo, scx: ScxNo) -> Turn<Result<R::Answer, Refused>>
+        ensures turn { (c : Call) (begin h : History) → IsInTry c h begin self.old.limit self.old.tries
+            → IsReading R.means self.old.read self.old.snaps.items (begun_at c begin) h
+            → IsContended (begun_at c begin) h node.0 scx.0 → ReadTurn R.means c h self.new result }
+        ensures same { IsSameRead R.means self.old self.new }
+        ensures nearer { (nodes : ℕ) → ReadIsNearer R.means self.new nodes result (tries_left R.means self.old nodes) }
+        ensures tries { (c : Call) (h : History) → R.means.asks (R.means.call self.old.read) → IsContended c h node.0 scx.0
+            → KeepsTries c h self.old.tries self.new.tries result }
+    {
+        if self.tries == 0 {
+            return Turn::Done(Err(Refused::Contended { node, scx }));
+        }
+        self.tries -= 1;
+        self.begin()
+    }
+
+    /// Goes on with what the last step of the walk found.
+    fn walk_on(
+        &mut self,
+        mut walk: WalkRun,
+        turn: NodeNo,
+        got: Option<u64>,
+    ) -> Turn<Result<R::Answer, Refused>>
+        ensures turn { (c : Call) (begin h : History) (key v : ℕ) → got ≡ Some v → IsInTry c h begin self.old.limit self.old.tries
+            → IsReading R.means self.old.read self.old.snaps.items (begun_at c begin) h → walk.goal ≡ Goal.Key key
+            → WalksTo R.means self.old.read key → IsLastTurn (begun_at c begin) h key turn.0
+            → WalkIsReady walk (begun_at c begin) h (Some v) → ReadTurn R.means c h self.new result }
+        ensures same { IsSameRead R.means self.old self.new }
+        ensures nearer { (nodes : ℕ) → WalkFits walk got nodes
+            → ReadIsNearer R.means self.new nodes result
+            (tries_left R.means self.old nodes + (walk_left walk.at nodes + length self.old.snaps.items + path_left nodes + R.means.behind self.old.read nodes)) }
+        ensures tries { self.new.tries ≡ self.old.tries }
+    {
+        match Machine::<Tree>::next(&mut walk, got) {
+            Turn::Ask(step) => {
+                let turn = last_turn(&walk, turn);
+                self.at = ReadAt::Walk { walk, turn };
+                Turn::Ask(step)
+            }
+            Turn::Done(_) => self.look(Children::Both, 0, turn),
+        }
+    }
+
+    /// Begins the LLX of a fork.
+    fn look(
+        &mut self,
+        children: Children,
+        level: u64,
+        node: NodeNo,
+    ) -> Turn<Result<R::Answer, Refused>>
+        ensures stands { self.new ≡ record self.old {
+          at = ReadAt.Look children level record {
+            node = node;
+            at = LlxAt.Marked;
+          };
+        } }
+        ensures asked { result ≡ Turn.Ask record { kind = Kind.LoadMarked; word = Word.Node node NodeWord.Marked; access = Access.Load } }
+    {
+        let at = LlxAt::Marked;
+        let llx = LlxRun { node, at };
+        let at = ReadAt::Look {
+            children,
+            level,
+            llx,
+        };
+        self.load(at, Kind::LoadMarked, node, NodeWord::Marked)
+    }
+
+    /// Goes on with what the last step of an LLX found.
+    fn look_on(
+        &mut self,
+        children: Children,
+        level: u64,
+        mut llx: LlxRun,
+        got: Option<u64>,
+    ) -> Turn<Result<R::Answer, Refused>>
+        ensures turn { (c : Call) (begin look h : History) → IsInTry c h begin self.old.limit self.old.tries
+            → IsReading R.means self.old.read self.old.snaps.items (begun_at c begin) h
+            → Looks R.means self.old.read self.old.snaps.items (begun_at c begin) h children level llx.node.0 → Extends look begin
+            → LlxIsReady TreeAllows llx (begun_at c look) h got → ReadTurn R.means c h self.new result }
+        ensures same { IsSameRead R.means self.old self.new }
+        ensures nearer { (nodes : ℕ) → level + 1 < 2 + nodes
+            → ReadIsNearer R.means self.new nodes result
+            (tries_left R.means self.old nodes +
+            (llx_left llx.at + length self.old.snaps.items + 1 + 67 * (1 + nodes - level) + R.means.behind self.old.read nodes)) }
+        ensures tries { (c : Call) (begin h : History) → IsReading R.means self.old.read self.old.snaps.items c h
+            → Looks R.means self.old.read self.old.snaps.items c h children level llx.node.0 → Extends begin c.start
+            → LlxIsReady TreeAllows llx (begun_at c begin) h got → KeepsTries c h self.old.tries self.new.tries result }
+    {
+        match Machine::<Tree>::next(&mut llx, got) {
+            Turn::Ask(step) => {
+                self.at = ReadAt::Look {
+                    children,
+                    level,
+                    llx,
+                };
+                Turn::Ask(step)
+            }
+            Turn::Done(Llx::Snapshot(snap)) => {
+                let next = self.looked(children, level, snap);
+                self.proceed(next)
+            }
+            Turn::Done(Llx::Finalized { node, scx }) => self.lost(node, scx),
+            Turn::Done(Llx::Fail { node, scx }) => self.lost(node, scx),
+        }
+    }
+
+    /// Keeps a snapshot of the fork at which it looks, and tells to which child of that it goes on.
+    ///
+    /// # Errors
+    ///
+    /// `NoMemory` where there is none to keep it.
+    #[inline(always)]
+    pub fn looked(
+        &mut self,
+        children: Children,
+        level: u64,
+        snap: Snap,
+    ) -> Result<ReadNext, Refused>
+        ensures goes_on { (c : Call) (h : History) → IsReading R.means self.old.read self.old.snaps.items c h
+            → Looks R.means self.old.read self.old.snaps.items c h children level snap.node.0
+            → IsSnapshot c.layout h snap.node.0 snap → GoesOn R.means c h self.new result }
+        ensures same { IsSameRead R.means self.old self.new }
+        ensures nearer { (nodes : ℕ) → level + 1 < 2 + nodes
+            → IfOk result (λ next. RunComesNearer R.means self.new nodes next
+            (length self.old.snaps.items + 1 + 67 * (1 + nodes - level) + R.means.behind self.old.read nodes)) }
+        ensures tries { self.new.tries ≡ self.old.tries }
+    {
+        if self.snaps.push(snap).is_err() {
+            return Err(Refused::NoMemory);
+        }
+        let above = level;
+        match self.read.looked(children, snap.left, snap.right) {
+            Ok(node) => Ok(ReadNext::Head { above, node }),
+            Err(refused) => Err(refused),
+        }
+    }
+
+    /// Goes on with what the last step of the VLX found.
+    fn validate_on(&mut self, asked: usize, got: Option<u64>) -> Turn<Result<R::Answer, Refused>>
+        ensures turn { (c : Call) (begin look h : History) → IsInTry c h begin self.old.limit self.old.tries
+            → IsReading R.means self.old.read self.old.snaps.items (begun_at c begin) h
+            → Validates R.means self.old.read self.old.snaps.items (begun_at c begin) h look → VlxIsReady self.old.snaps.items asked (begun_at c look) h got
+            → ReadTurn R.means c h self.new result }
+        ensures same { IsSameRead R.means self.old self.new }
+        ensures nearer { (nodes : ℕ) → ReadIsNearer R.means self.new nodes result (tries_left R.means self.old nodes + vlx_left self.old.snaps.items asked) }
+        ensures tries { (c : Call) (begin h : History) → IsReading R.means self.old.read self.old.snaps.items c h
+            → Validates R.means self.old.read self.old.snaps.items c h begin → VlxIsReady self.old.snaps.items asked (begun_at c begin) h got
+            → KeepsTries c h self.old.tries self.new.tries result }
+    {
+        let mut vlx = VlxRun {
+            snaps: self.snaps.as_slice(),
+            asked,
+        };
+        let turn = Machine::<Tree>::next(&mut vlx, got);
+        let asked = vlx.asked;
+        match turn {
+            Turn::Ask(step) => {
+                self.at = ReadAt::Validate { asked };
+                Turn::Ask(step)
+            }
+            Turn::Done(Vlx::Same) => Turn::Done(Ok(self.read.answer())),
+            Turn::Done(Vlx::Changed { node, scx }) => self.lost(node, scx),
+        }
+    }
+
+    /// Begins what comes next, and stands there.
+    fn stand(&mut self, next: ReadNext) -> Turn<Result<R::Answer, Refused>>
+        ensures turn { (c : Call) (h : History) → MayGoOn R.means c h self.old next → ReadTurn R.means c h self.new result }
+        ensures same { IsSameRead R.means self.old self.new }
+        ensures nearer { (nodes n : ℕ) → RunComesNearer R.means self.old nodes next n
+            → ReadIsNearer R.means self.new nodes result (tries_left R.means self.old nodes + n) }
+        ensures tries { (c : Call) (h : History) → GoesOn R.means c h self.old (Ok next) → KeepsTries c h self.old.tries self.new.tries result }
+    {
+        let kind = Kind::LoadSettled;
+        match next {
+            ReadNext::Head { above, node } => {
+                let part = NodeWord::Settled(SettledPart::Head);
+                self.load(ReadAt::Head { above, node }, kind, node, part)
+            }
+            ReadNext::Key { head, node } => {
+                let part = NodeWord::Settled(SettledPart::Key(Slot::First));
+                self.load(ReadAt::Key { head, node }, kind, node, part)
+            }
+            ReadNext::Value { key, node } => {
+                let part = NodeWord::Settled(SettledPart::Value(Slot::First));
+                self.load(ReadAt::Value { key, node }, kind, node, part)
+            }
+            ReadNext::Look {
+                children,
+                level,
+                node,
+            } => self.look(children, level, node),
+            ReadNext::Validate => self.validate_on(0, None),
+        }
+    }
+
+    /// Begins what comes next, or ends where that is refused.
+    fn proceed(&mut self, next: Result<ReadNext, Refused>) -> Turn<Result<R::Answer, Refused>>
+        ensures turn { (c : Call) (begin h : History) → IsInTry c h begin self.old.limit self.old.tries
+            → GoesOn R.means (begun_at c begin) h self.old next → ReadTurn R.means c h self.new result }
+        ensures same { IsSameRead R.means self.old self.new }
+        ensures nearer { (nodes n : ℕ) → IfOk next (λ now. RunComesNearer R.means self.old nodes now n)
+            → ReadIsNearer R.means self.new nodes result (tries_left R.means self.old nodes + n) }
+        ensures tries { (c : Call) (h : History) → GoesOn R.means c h self.old next → KeepsTries c h self.old.tries self.new.tries result }
+    {
+        match next {
+            Ok(now) => self.stand(now),
+            Err(refused) => Turn::Done(Err(refused)),
+        }
+    }
+
+    /// Goes on with what the last step found; with nothing at the first call, which asks for a step
+    /// if there is something to be found, and else ends. It gives up one try at most, where an
+    /// SCX-record of another pass was in the way of the call; and none as it ends.
+    pub fn step(&mut self, got: Option<u64>) -> Turn<Result<R::Answer, Refused>>
+        ensures turn { (c : Call) (h : History) → ReadIsReady R.means self.old c h got → ReadTurn R.means c h self.new result }
+        ensures begins { got ≡ None → R.means.asks (R.means.call self.old.read) → (c : Call) (h : History)
+            → ReadIsReady R.means self.old c h None → MatchTurn result (λ _. Unit {0}) (λ _. ⊥) }
+        ensures same { IsSameRead R.means self.old self.new }
+        ensures nearer { (nodes : ℕ) → ReadFits R.means self.old got nodes
+            → ReadIsNearer R.means self.new nodes result (read_left R.means self.old nodes) }
+        ensures tries { (c : Call) (h : History) → ReadIsReady R.means self.old c h got → KeepsTries c h self.old.tries self.new.tries result }
+    {
+        let value = got.unwrap_or(0);
+        match self.at {
+            ReadAt::Start => self.begin(),
+            ReadAt::Walk { walk, turn } => self.walk_on(walk, turn, got),
+            ReadAt::Root => {
+                let next = self.read.head_on(Head::of(value), NodeNo(0));
+                self.stand(next)
+            }
+            ReadAt::Head { above: _, node } => {
+                let next = self.read.head_on(Head::of(value), node);
+                self.stand(next)
+            }
+            ReadAt::Key { head, node } => {
+                let next = self.read.key_on(head, node, value);
+                self.stand(next)
+            }
+            ReadAt::Value { key, node: _ } => {
+                let next = self.read.value_on(Pair { key, value });
+                self.proceed(next)
+            }
+            ReadAt::Look {
+                children,
+                level,
+                llx,
+            } => self.look_on(children, level, llx, got),
+            ReadAt::Validate { asked } => self.validate_on(asked, got),
+        }
+    }
+}
+
+impl<R: Read + Drop> Machine<Tree> for ReadRun<R> {
+    type Answer = Result<R::Answer, Refused>;
+
+    ghost use Rattle.order.specs.Known.{IsSameRead, ReadIsReady, ReadWaits, ReadAnswers};
+    ghost use Rattle.order.specs.Laws.Run.{read_keeps, read_lawful, read_made, read_told};
+    ghost use Rattle.order.specs.Steps.{ReadFits, read_left};
+
+    ghost ready = { ReadIsReady R.means };
+
+    ghost waits = { ReadWaits R.means };
+
+    ghost answers = { ReadAnswers R.means };
+
+    ghost same = { IsSameRead R.means };
+
+    ghost left = { read_left R.means };
+
+    ghost fits = { ReadFits R.means };
+
+    ghost asks_first = { λ m. R.means.asks (R.means.call m.read) };
+
+    fn next(&mut self, got: Option<u64>) -> Turn<Result<R::Answer, Refused>> {
+        self.step(got)
+    }
+
+    ghost keeps = { read_keeps R.means };
+
+    ghost lawful = { read_lawful R.means };
+
+    ghost made = { read_made R.means };
+
+    ghost told = { read_told R.means };
+}
+
+/// The last fork where a walk has turned left, where that was `turn` before its last step.
+fn last_turn(walk: &WalkRun, turn: NodeNo) -> NodeNo
+    ensures { result ≡ last_turn walk.now.at walk.now.trail.node turn }
+{
+    match walk.at {
+        WalkAt::Child {
+            level: _,
+            side: Side::Left,
+        } => walk.trail.node,
+        _ => turn,
+    }
+}
