@@ -1,19 +1,16 @@
 -- What the answers of the machines inside say of the call, in words.
-use Rattle.std.proofs.Common.{◌≡◌, ◌≢◌, ℕ, ◌+◌, ◌-◌, ◌*◌, ◌<◌, ◌≤◌, ◌⊎◌, inl, inr, ⊎_elim, List, Option, Result, Ok, Err, Vec, refl, sym, ◌∙◌, ap, subst, arith}
+use Rattle.std.proofs.Common.{◌≡◌, ◌≢◌, ℕ, ◌+◌, ◌-◌, ◌*◌, ◌<◌, ◌≤◌, inl, inr, List, Option, Result, Ok, Err, refl, sym, ◌∙◌, ap, subst, arith}
 use Rattle.std.proofs.Math.Nat.{mul-add, mul-le-mul_left}
-use Rattle.std.specs.Global.{Global}
 use Rattle.std.specs.Option.{option_map}
 use Rattle.arena.specs.History.{History, ◌⊳◌, value, Extends}
 use Rattle.arena.specs.Machines.{Call, begun_at}
 use Rattle.arena.specs.Share.{Remaining}
 use Rattle.arena.proofs.Lemmas.{ends_self, ends_trans}
-use Rattle.order.specs.Range.Known.{RangeAnswers}
-use Rattle.order.specs.Successor.Known.{SuccessorAnswers}
-use Rattle.order.specs.declared.range.RangeRun.{RangeRun}
+use Rattle.order.specs.Known.{HasReplied, ReadAnswers}
 use Rattle.order.specs.declared.refused.Refused.{Refused}
 use Rattle.order.specs.declared.refused.Refused.TheVariants as refused
-use Rattle.order.specs.declared.successor.SuccessorRun.{SuccessorRun}
-use Rattle.ordered_map.specs.OrderedMap.{MapCall, MapEdit, Get, Successor as SuccessorOf, Range as RangeOf, OneValue, ManyPairs, edit_key, get, pair, pair_or_none, reply}
+use Rattle.order.specs.declared.run.ReadRun.{ReadRun}
+use Rattle.ordered_map.specs.OrderedMap.{MapCall, MapEdit, Get, OneValue, edit_key, get, pair, pair_or_none, reply}
 use Rattle.ordered_map.specs.Runs.{IsTreeRun}
 use Rattle.ordered_map.specs.Spelled.{Spells}
 use Rattle.ordered_map.specs.declared.pair.Pair.{Pair}
@@ -38,13 +35,13 @@ use Rattle.edits.specs.declared.update.UpdateRun.{UpdateRun}
 use Rattle.edits.specs.declared.update.Updated.{Updated}
 use Rattle.edits.specs.declared.update.Updated.TheVariants.{Done, Contended, Full}
 use Rattle.ordered_map.specs.CallRules.{most_nodes, need}
-use Rattle.dict.specs.Calls.{most_tries, AsksForPairs, HasSpent, IsSmallCall}
+use Rattle.dict.specs.Calls.{most_tries, HasSpent, IsSmallCall}
 use Rattle.dict.specs.Goals.{goal_told, leaf_told}
-use Rattle.dict.specs.Inner.{EditKind}
+use Rattle.dict.specs.Inner.{EditKind, ReadKind}
 use Rattle.dict.specs.Known.{HasRested, HasSpentSo}
 use Rattle.dict.specs.Says.{WordSays, IsRefusal, HasLost, HasMadeEdit, HasNeeded, HasReadMap, HasTold, HasToldBy, TellsOfMap}
-use Rattle.dict.specs.Laws.Kinds.{IsEditing, IsEditKind}
-use Rattle.dict.specs.WordReplies.{goal_reply, edit_reply, successor_reply, range_reply, told_in}
+use Rattle.dict.specs.Laws.Kinds.{IsEditing, IsEditKind, IsReadKind}
+use Rattle.dict.specs.WordReplies.{goal_reply, edit_reply, read_reply, told_in}
 use Rattle.dict.specs.declared.told.WordReply.TheVariants as words
 use Rattle.dict.proofs.Readings.{none_entered, answer_read, reply_read, always_read, leaf_read, leaf_needed, ran_out}
 
@@ -53,11 +50,6 @@ needs_some : (want : Need) → want ≢ Nothing → 0 < many_nodes want
 needs_some Nothing d = absurd (d refl)
 needs_some One d = omega arith
 needs_some Three d = omega arith
-
--- a range without pairs or without keys takes none
-takes_none : (low high most : ℕ) → (most ≡ 0) ⊎ (high < low) → ¬ AsksForPairs (RangeOf low high most)
-takes_none low high most (inl none) asks = let some = asks.0 in omega (arith, none, some)
-takes_none low high most (inr apart) asks = let some = asks.1 in omega (arith, apart, some)
 
 module _ (tries : ℕ) (c : Call) (h : History) where
   -- just before an edit is made its leaf tells what the map replies
@@ -141,20 +133,23 @@ module _ (tries : ℕ) (c : Call) (h : History) where
   pub get_says : (m : GetRun) (share : Remaining) (a : Option ℕ) → HasRested c h share → GetAnswers m c h a → WordSays c h (Get m.key) share tries (words.Value a)
   get_says m share a x y = (answer_read c h y.0.first m.key a y.0.own y.0.right y.0.none, tt)
 
-  -- so has a successor
-  pub successor_says : (m : SuccessorRun) (share : Remaining) (a : Result (Option Pair) Refused) → HasRested c h share → m.limit ≡ tries → SuccessorAnswers m c h a → WordSays c h (SuccessorOf m.key) share tries (successor_reply a)
-  successor_says m share (Ok found) x limit y = (reply_read c h (SuccessorOf m.key) (pair_or_none found) refl y.1 (none_entered c h share x), tt)
-  successor_says m share (Err (refused.Contended node scx)) x limit y = (tt, read_lost (SuccessorOf m.key) limit refl y.1.0 y.1.2 (none_entered c h share x))
-  successor_says m share (Err refused.NoMemory) x limit y = (tt, (tt, none_entered c h share x))
+  -- so has an ordered read, or it tells what every map replies
+  module _ (k : ReadKind) (is : IsReadKind k) (m : ReadRun k.R) (share : Remaining) (x : HasRested c h share) (limit : m.limit ≡ tries) where
+    none : HasEnteredNone c.layout c.pass h c.start
+    none = none_entered c h share x
 
-  -- and a range, or it tells what every map replies
-  pub range_says : (m : RangeRun) (share : Remaining) (a : Result (Vec Pair Global) Refused) → HasRested c h share → m.limit ≡ tries → RangeAnswers m c h a → WordSays c h (RangeOf m.low m.high m.most) share tries (range_reply a)
-  range_says m share (Ok found) x limit y = (⊎_elim (λ z. reply_read c h (RangeOf m.low m.high m.most) (ManyPairs found.items) refl z none) (λ z. always_read c h (RangeOf m.low m.high m.most) (ManyPairs found.items) refl x.run x.since (takes_none m.low m.high m.most z.0) (λ map. ap ManyPairs (z.1 map)) none) y.1, tt)
-    where
-      none : HasEnteredNone c.layout c.pass h c.start
-      none = none_entered c h share x
-  range_says m share (Err (refused.Contended node scx)) x limit y = (tt, read_lost (RangeOf m.low m.high m.most) limit refl y.1.0 y.1.2 (none_entered c h share x))
-  range_says m share (Err refused.NoMemory) x limit y = (tt, (tt, none_entered c h share x))
+    found_says : (found : k.A) → HasReplied k.means m c h found → HasReadMap c h (k.means.call m.read) (k.means.told found)
+    found_says found (inl z) = reply_read c h (k.means.call m.read) (k.means.told found) (is.nodes m.read) z none
+    found_says found (inr z) = always_read c h (k.means.call m.read) (k.means.told found) (is.nodes m.read) x.run x.since (λ asks. z.0 (is.finds m.read asks)) z.1 none
+
+    -- which has made no edit
+    read_says_found : (found : k.A) → HasReadMap c h (k.means.call m.read) (k.means.told found) → TellsOfMap c h (k.means.call m.read) (told_in (k.tells found))
+    read_says_found found z = subst (TellsOfMap c h (k.means.call m.read)) (sym (is.told found)) (subst (λ made. HasToldBy made c h (k.means.call m.read) (k.means.told found)) (sym (is.makes_none m.read (k.means.told found))) z)
+
+    pub read_says : (a : Result k.A Refused) → ReadAnswers k.means m c h a → WordSays c h (k.means.call m.read) share tries (read_reply k.tells a)
+    read_says (Ok found) y = (read_says_found found (found_says found y.1), is.refuses c h (k.means.call m.read) share tries found)
+    read_says (Err (refused.Contended node scx)) y = (tt, read_lost (k.means.call m.read) limit (is.nodes m.read) y.1.0 y.1.2 none)
+    read_says (Err refused.NoMemory) y = (tt, (is.lists m.read, none))
 
 -- What is gone of the share
 

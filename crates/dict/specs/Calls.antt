@@ -5,18 +5,17 @@ use Rattle.arena.specs.History.{History}
 use Rattle.arena.specs.Machines.{Call}
 use Rattle.arena.specs.Share.{Remaining}
 use Rattle.ordered_map.specs.CallRules.{most_nodes, most_scx}
-use Rattle.ordered_map.specs.OrderedMap.{MapCall, Edit, ReplaceIf, Get, Successor, Range, edit_key}
+use Rattle.ordered_map.specs.OrderedMap.{MapCall, Edit, ReplaceIf, Get, Range, edit_key}
 use Rattle.template.specs.Tries.{tries_since, HasTriedAtMost}
 use Rattle.edits.specs.Known.{RestsWith}
 use Rattle.dict.specs.declared.run.MapRun.{MapRun}
-use Rattle.dict.specs.Inner.{InnerRun, Update, Get as GetRun, Successor as SuccessorRun, Range as RangeRun, inner}
+use Rattle.dict.specs.Inner.{InnerRun, Update, Get as GetRun, Read as OrderedRead, inner}
 
 -- what a call is of whose inner machine this is
 abbrev pub inner_call : InnerRun → MapCall
 inner_call (Update k m) = k.call m.edit
 inner_call (GetRun m share) = Get m.key
-inner_call (SuccessorRun m share) = Successor m.key
-inner_call (RangeRun m share) = Range m.low m.high m.most
+inner_call (OrderedRead k m share) = k.means.call m.read
 
 -- what it is a call of
 abbrev pub call_in : MapRun → MapCall
@@ -26,8 +25,7 @@ call_in m = inner_call (inner m)
 abbrev pub inner_share : InnerRun → Remaining
 inner_share (Update k m) = m.share
 inner_share (GetRun m share) = share
-inner_share (SuccessorRun m share) = share
-inner_share (RangeRun m share) = share
+inner_share (OrderedRead k m share) = share
 
 -- what is left of its share
 abbrev pub share_of : MapRun → Remaining
@@ -37,8 +35,7 @@ share_of m = inner_share (inner m)
 abbrev pub inner_tries : InnerRun → ℕ
 inner_tries (Update k m) = m.tries
 inner_tries (GetRun m share) = 0
-inner_tries (SuccessorRun m share) = m.tries
-inner_tries (RangeRun m share) = m.tries
+inner_tries (OrderedRead k m share) = m.tries
 
 -- so many to the machine
 abbrev pub tries_behind : MapRun → ℕ

@@ -5,10 +5,8 @@ use Rattle.arena.specs.declared.step.Step.{Step}
 use Rattle.arena.specs.History.{History, Extends}
 use Rattle.arena.specs.Machines.{Call}
 use Rattle.arena.specs.Share.{Remaining}
-use Rattle.order.specs.Range.Known.{RangeIsReady, RangeWaits}
-use Rattle.order.specs.Successor.Known.{SuccessorIsReady, SuccessorWaits}
-use Rattle.order.specs.declared.range.RangeAt.TheVariants.{Start as RangeStart}
-use Rattle.order.specs.declared.successor.SuccessorAt.TheVariants.{Start as SuccessorStart}
+use Rattle.order.specs.Known.{ReadIsReady, ReadWaits}
+use Rattle.order.specs.declared.run.ReadAt.TheVariants.{Start as ReadStart}
 use Rattle.prims.specs.Laws.Idle.{IsQuietSince}
 use Rattle.ordered_map.specs.Runs.{IsTreeRun}
 use Rattle.template.specs.declared.walk.Goal.TheVariants.{Key as ToKey}
@@ -17,12 +15,12 @@ use Rattle.tree.specs.Get.Known.{GetIsReady, GetWaits}
 use Rattle.edits.specs.Known.{RestsWith, UpdateIsReady, UpdateWaits}
 use Rattle.edits.specs.Steps.{node_tries, scx_tries, Spends}
 use Rattle.edits.specs.declared.update.UpdateAt.TheVariants.{Start as UpdateStart}
-use Rattle.dict.specs.Calls.{call_in, inner_call, inner_share, AsksForPairs, IsSmallCall, HasSpent}
+use Rattle.dict.specs.Calls.{call_in, inner_call, inner_share, AsksForPairs, IsFewCall, IsSmallCall, HasSpent}
 use Rattle.ordered_map.specs.CallRules.{MayReply, most_nodes}
 use Rattle.dict.specs.Forms.{word_form}
 use Rattle.dict.specs.Says.{WordSays}
 use Rattle.dict.specs.declared.run.MapRun.{MapRun}
-use Rattle.dict.specs.Inner.{InnerRun, Update, Get, Successor, Range, inner}
+use Rattle.dict.specs.Inner.{InnerRun, Update, Get, Read, inner}
 use Rattle.dict.specs.declared.told.WordReply.{WordReply}
 
 -- A read rests all the way: its share is untouched, all its pass's SCX-records are finished, and
@@ -44,8 +42,7 @@ pub record HasSpentSo (c : Call) (most : ℕ) (share : Remaining) (tries nodes s
 abbrev pub HasSpentIn : InnerRun → ℕ → Call → Type 0
 HasSpentIn (Update k m) tries c = HasSpentSo c (most_nodes (k.call m.edit)) m.share tries (node_tries m m.at) (scx_tries m m.at)
 HasSpentIn (Get m share) tries c = RestsWith c c.start share
-HasSpentIn (Successor m share) tries c = RestsWith c c.start share
-HasSpentIn (Range m share) tries c = RestsWith c c.start share
+HasSpentIn (Read k m share) tries c = RestsWith c c.start share
 
 -- an edit knows the number of its call, which goes into its entry
 abbrev pub IsNumbered : InnerRun → ℕ → Type 0
@@ -56,8 +53,7 @@ IsNumbered m number = Unit {0}
 abbrev pub HasTries : InnerRun → ℕ → Type 0
 HasTries (Update k m) tries = m.limit ≡ tries
 HasTries (Get m share) tries = Unit {0}
-HasTries (Successor m share) tries = m.limit ≡ tries
-HasTries (Range m share) tries = m.limit ≡ tries
+HasTries (Read k m share) tries = m.limit ≡ tries
 
 -- what holds of the machine inside all the way of its call, which has so many tries
 pub record Goes (m : InnerRun) (tries : ℕ) (c : Call) : Type 0 where
@@ -71,15 +67,13 @@ pub record Goes (m : InnerRun) (tries : ℕ) (c : Call) : Type 0 where
 abbrev pub IsReadyInside : InnerRun → Call → History → Option ℕ → Type 0
 IsReadyInside (Update k m) c h got = UpdateIsReady k.means m c h got
 IsReadyInside (Get m share) c h got = GetIsReady m c h got × HasRested c h share
-IsReadyInside (Successor m share) c h got = SuccessorIsReady m c h got × HasRested c h share
-IsReadyInside (Range m share) c h got = RangeIsReady m c h got × HasRested c h share
+IsReadyInside (Read k m share) c h got = ReadIsReady k.means m c h got × HasRested c h share
 
 -- the machine inside waits for this step
 abbrev pub WaitsInside : InnerRun → Call → History → Step → Type 0
 WaitsInside (Update k m) c h s = UpdateWaits k.means m c h s
 WaitsInside (Get m share) c h s = GetWaits m c h s × HasRested c h share
-WaitsInside (Successor m share) c h s = SuccessorWaits m c h s × HasRested c h share
-WaitsInside (Range m share) c h s = RangeWaits m c h s × HasRested c h share
+WaitsInside (Read k m share) c h s = ReadWaits k.means m c h s × HasRested c h share
 
 -- the machine may be called with this
 abbrev pub MapIsReady : ℕ → MapRun → Call → History → Option ℕ → Type 0
@@ -111,8 +105,7 @@ AsksFirst m = AsksForPairs (call_in m)
 abbrev pub StandsAtStart : InnerRun → ℕ → ℕ → Type 0
 StandsAtStart (Update k m) tries call = (m.at ≡ UpdateStart) × (m.tries + 1 ≡ tries) × (m.call ≡ call) × IsSmallCall (k.call m.edit) × (m.limit ≡ tries)
 StandsAtStart (Get m share) tries call = (m.walk.at ≡ WalkStart) × (m.walk.trail.node.0 ≡ 0) × (m.walk.goal ≡ ToKey m.key) × (m.key < 2 ^ 64)
-StandsAtStart (Successor m share) tries call = (m.at ≡ SuccessorStart) × (m.tries + 1 ≡ tries) × (m.snaps.items ≡ []) × (m.key < 2 ^ 64) × (m.limit ≡ tries)
-StandsAtStart (Range m share) tries call = (m.at ≡ RangeStart) × (m.tries + 1 ≡ tries) × (m.snaps.items ≡ []) × (m.high < 2 ^ 64) × (m.limit ≡ tries)
+StandsAtStart (Read k m share) tries call = (m.at ≡ ReadStart) × (m.tries + 1 ≡ tries) × (m.snaps.items ≡ []) × (IsFewCall (k.means.call m.read) → k.means.suits (k.means.call m.read)) × (m.limit ≡ tries)
 
 -- so does the machine
 abbrev pub IsUnbegun : MapRun → ℕ → ℕ → Type 0

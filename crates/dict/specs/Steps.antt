@@ -2,20 +2,18 @@
 use Rattle.std.specs.Prelude.{ℕ, ◌<◌, Option}
 use Rattle.arena.specs.Machines.{MatchTurn}
 use Rattle.arena.specs.declared.machine.Turn.{Turn}
-use Rattle.order.specs.Range.Steps.{range_left, RangeFits}
-use Rattle.order.specs.Successor.Steps.{successor_left, SuccessorFits}
+use Rattle.order.specs.Steps.{ReadFits, read_left}
 use Rattle.tree.specs.Get.Steps.{get_left, GetFits}
 use Rattle.edits.specs.Steps.{update_left, UpdateFits}
 use Rattle.dict.specs.declared.run.MapRun.{MapRun}
-use Rattle.dict.specs.Inner.{InnerRun, Update, Get, Successor, Range, inner}
+use Rattle.dict.specs.Inner.{InnerRun, Update, Get, Read, inner}
 use Rattle.dict.specs.declared.told.WordReply.{WordReply}
 
 -- how many steps the inner machine may still ask for, where no more nodes than these are taken
 abbrev pub inner_left : InnerRun → ℕ → ℕ
 inner_left (Update k m) nodes = update_left k.means m nodes
 inner_left (Get m share) nodes = get_left m nodes
-inner_left (Successor m share) nodes = successor_left m nodes
-inner_left (Range m share) nodes = range_left m nodes
+inner_left (Read k m share) nodes = read_left k.means m nodes
 
 -- so many the machine
 abbrev pub map_left : MapRun → ℕ → ℕ
@@ -25,8 +23,7 @@ map_left m nodes = inner_left (inner m) nodes
 abbrev pub InnerFits : InnerRun → Option ℕ → ℕ → Type 0
 InnerFits (Update k m) got nodes = UpdateFits k.means m got nodes
 InnerFits (Get m share) got nodes = GetFits m got nodes
-InnerFits (Successor m share) got nodes = SuccessorFits m got nodes
-InnerFits (Range m share) got nodes = RangeFits m got nodes
+InnerFits (Read k m share) got nodes = ReadFits k.means m got nodes
 
 -- so what the machine is told
 abbrev pub MapFits : MapRun → Option ℕ → ℕ → Type 0

@@ -36,17 +36,19 @@ goal_reply Least key value = Pair (option_map (pair key) value)
 abbrev pub edit_reply : Goal → Updated → WordReply
 edit_reply goal = reply_with (goal_reply goal)
 
+-- what an ordered read replies, where this is what it tells
+abbrev pub read_reply : {A : Type 0} → (A → WordReply) → Result A Refused → WordReply
+read_reply tells (Ok found) = tells found
+read_reply tells (Err (refused.Contended node scx)) = Contended node scx
+read_reply tells (Err refused.NoMemory) = NoMemory
+
 -- a successor the pair that it has found
 abbrev pub successor_reply : Result (Option PairOf) Refused → WordReply
-successor_reply (Ok found) = Pair found
-successor_reply (Err (refused.Contended node scx)) = Contended node scx
-successor_reply (Err refused.NoMemory) = NoMemory
+successor_reply = read_reply Pair
 
 -- a range its pairs
 abbrev pub range_reply : Result (Vec PairOf Global) Refused → WordReply
-range_reply (Ok found) = Pairs found
-range_reply (Err (refused.Contended node scx)) = Contended node scx
-range_reply (Err refused.NoMemory) = NoMemory
+range_reply = read_reply Pairs
 
 -- what the map has replied, if the call was not refused
 abbrev pub told_in : WordReply → Option MapReply

@@ -12,7 +12,7 @@ ghost use Rattle.ordered_map.specs.Requests.{as_map_call};
 
 use crate::told::WordReply;
 use arena::{Machine, Share, Turn};
-use order::{RangeRun, SuccessorRun};
+use order::{Range, RangeRun, Successor, SuccessorRun};
 use ordered_map::Request;
 use std::alloc::Global;
 use tree::{
@@ -78,11 +78,11 @@ impl MapRun {
                 share,
             },
             (Request::Successor { key }, Some(alloc)) => MapRun::Successor {
-                run: SuccessorRun::new(alloc, key, tries),
+                run: Successor::run(alloc, key, tries),
                 share,
             },
             (Request::Range { low, high, most }, Some(alloc)) => MapRun::Range {
-                run: RangeRun::new(alloc, low, high, most as usize, tries),
+                run: Range::run(alloc, low, high, most as usize, tries),
                 share,
             },
             (Request::Successor { .. } | Request::Range { .. }, None) => unreachable!(),

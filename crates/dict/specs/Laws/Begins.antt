@@ -4,7 +4,7 @@ use Rattle.arena.specs.declared.limits.Mode.TheVariants.{Tree as TreeMode}
 use Rattle.arena.specs.Machines.{Call, IsRun}
 use Rattle.arena.specs.Share.{Remaining}
 use Rattle.arena.proofs.Lemmas.{ends_self}
-use Rattle.order.proofs.Lemmas.{successor_ready_first, range_ready_first}
+use Rattle.order.proofs.Lemmas.{read_ready_first}
 use Rattle.prims.specs.Laws.Idle.{quiet_at_start, idle_if_finished}
 use Rattle.ordered_map.specs.Runs.{IsTreeRun}
 use Rattle.template.specs.FoundLeaf.{path_key}
@@ -25,7 +25,7 @@ use Rattle.dict.specs.Typed.{IsTypedCall, TypedAllows}
 use Rattle.dict.specs.Laws.TypedMaps.{typed_run}
 use Rattle.dict.specs.declared.dict.DictRun.{DictRun}
 use Rattle.dict.specs.declared.run.MapRun.{MapRun}
-use Rattle.dict.specs.Inner.{InnerRun, Update, Get, Successor, Range, inner}
+use Rattle.dict.specs.Inner.{InnerRun, Update, Get, Read, inner}
 use Rattle.dict.specs.Laws.Kinds.{IsOfKind, is_of_kind}
 
 module _ (c : Call) (run : IsTreeRun c.layout c.start) where
@@ -51,21 +51,19 @@ module _ (c : Call) (run : IsTreeRun c.layout c.start) where
       spends = (rw (at, all) (omega arith), rw (at, all) (omega arith), rw (at, all) (omega arith));
     }
 
-  goes : (m : InnerRun) (tries : ℕ) → StandsAtStart m tries c.number → RestsWith c c.start (inner_share m) → Goes m tries c
-  goes (Update k m) tries x r = record { mode = run.0; small = x.3; number = x.2; limit = x.4; spent = spent k.means m x.0 r (most_nodes (k.call m.edit)) tries x.1 }
-  goes (Get m share) tries x r = record { mode = run.0; small = tt; number = tt; limit = tt; spent = r }
-  goes (Successor m share) tries x r = record { mode = run.0; small = tt; number = tt; limit = x.4; spent = r }
-  goes (Range m share) tries x r = record { mode = run.0; small = tt; number = tt; limit = x.4; spent = r }
+  goes : (m : InnerRun) (tries : ℕ) → IsOfKind m → StandsAtStart m tries c.number → RestsWith c c.start (inner_share m) → Goes m tries c
+  goes (Update k m) tries kind x r = record { mode = run.0; small = x.3; number = x.2; limit = x.4; spent = spent k.means m x.0 r (most_nodes (k.call m.edit)) tries x.1 }
+  goes (Get m share) tries kind x r = record { mode = run.0; small = tt; number = tt; limit = tt; spent = r }
+  goes (Read k m share) tries kind x r = record { mode = run.0; small = kind.small m.read; number = tt; limit = x.4; spent = r }
 
   inside : (m : InnerRun) (tries : ℕ) → IsOfKind m → StandsAtStart m tries c.number → IsFewCall (inner_call m) → RestsWith c c.start (inner_share m) → IsReadyInside m c c.start None
   inside (Update k m) tries kind x few r = update_ready k.means m x.0 r (kind.small m.edit x.3) (x.4 ∙ sym x.1)
   inside (Get m share) tries kind x few r = (get_ready_first m c run x.3 r.over x.0 x.1 x.2, rests share r)
-  inside (Successor m share) tries kind x few r = (successor_ready_first m c c.start run refl x.3 r.over x.0 x.2 (let e = x.4 in let f = x.1 in omega (arith, e, f)), rests share r)
-  inside (Range m share) tries kind x few r = (range_ready_first m c c.start run refl x.3 few r.over x.0 x.2 (let e = x.4 in let f = x.1 in omega (arith, e, f)), rests share r)
+  inside (Read k m share) tries kind x few r = (read_ready_first k.means m c c.start run refl (x.3 few) r.over x.0 x.2 (let e = x.4 in let f = x.1 in omega (arith, e, f)), rests share r)
 
   -- the machine may be called where the call begins
   pub map_begins : (m : MapRun) (tries : ℕ) → IsUnbegun m tries c.number → IsFewCall (call_in m) → RestsWith c c.start (share_of m) → MapIsReady tries m c c.start None
-  map_begins m tries x few r = (goes (inner m) tries x r, inside (inner m) tries (is_of_kind m) x few r)
+  map_begins m tries x few r = (goes (inner m) tries (is_of_kind m) x r, inside (inner m) tries (is_of_kind m) x few r)
 
 -- so may that of a dictionary
 pub dict_begins : (keys values : ℕ → Type 0) {K V : Type 0} (m : DictRun K V) (c : Call) → c.layout.mode ≡ TreeMode → IsRun (TypedAllows keys values) c.layout c.start → IsTypedCall keys values (call_in m.run) → IsUnbegun m.run m.tries c.number → IsFewCall (call_in m.run) → RestsWith c c.start (share_of m.run) → DictIsReady keys values m c c.start None

@@ -9,8 +9,7 @@ use Rattle.arena.specs.Machines.{Call, IsRun, IsTold, begun_at, row_of}
 use Rattle.arena.specs.Share.{Remaining}
 use Rattle.arena.specs.TakenNodes.{taken_nodes}
 use Rattle.arena.proofs.Lemmas.{ends_trans}
-use Rattle.order.specs.Range.Laws.{range_fills_not}
-use Rattle.order.specs.Successor.Laws.{successor_fills_not}
+use Rattle.order.specs.Laws.Run.{read_fills_not}
 use Rattle.ordered_map.specs.TreeShape.{TreeAllows}
 use Rattle.template.specs.declared.walk.Found.{Found}
 use Rattle.tree.proofs.Lemmas.{get_fills_not}
@@ -27,7 +26,7 @@ use Rattle.dict.specs.Laws.EachCall.{reply_typed, edit_typed}
 use Rattle.dict.specs.Laws.TypedMaps.{typed_run, typed_since, typed_map}
 use Rattle.dict.specs.Laws.TypedSteps.{HasWalkedTo, typed_quiet, typed_update_lawful}
 use Rattle.dict.specs.declared.dict.DictRun.{DictRun}
-use Rattle.dict.specs.Inner.{EditKind, InnerRun, Update, Get, Successor, Range, inner}
+use Rattle.dict.specs.Inner.{EditKind, InnerRun, Update, Get, Read, inner}
 use Rattle.dict.specs.Laws.Kinds.{IsEditKind, IsOfKind, is_of_kind}
 
 module _ (keys values : ℕ → Type 0) where
@@ -48,8 +47,7 @@ module _ (keys values : ℕ → Type 0) where
   lawful_inside : (m : InnerRun) (c : Call) (h : History) (s : Step) → IsOfKind m → IsRun (TypedAllows keys values) c.layout h → IsRun TreeAllows c.layout (row_of c s h ⊳ h) → IsTypedCall keys values (inner_call m) → WaitsInside m c h s → IsRun (TypedAllows keys values) c.layout (row_of c s h ⊳ h)
   lawful_inside (Update k m) c h s kind run tree typed w = typed_update_lawful keys values k.means m c h s run (λ f walked needed. edit_found_typed k kind m.edit c h f run typed walked needed) w
   lawful_inside (Get m share) c h s kind run tree typed w = read_lawful c h s share (get_fills_not m c h s w.0) run tree w.1
-  lawful_inside (Successor m share) c h s kind run tree typed w = read_lawful c h s share (successor_fills_not m c h s w.0) run tree w.1
-  lawful_inside (Range m share) c h s kind run tree typed w = read_lawful c h s share (range_fills_not m c h s w.0) run tree w.1
+  lawful_inside (Read k m share) c h s kind run tree typed w = read_lawful c h s share (read_fills_not k.means m c h s w.0) run tree w.1
 
   module _ {K V : Type 0} where
     -- rows of other passes leave the machine waiting for the same step

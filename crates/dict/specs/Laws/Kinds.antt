@@ -1,13 +1,18 @@
 -- What has to be so of a kind of edit, and that it is so of each that runs inside of a call.
-use Rattle.std.proofs.Common.{◌≡◌, ◌≢◌, ℕ, ◌*◌, ◌^◌, ◌<◌, Bool, true, false, cond, List, Option, Some, None, refl, sym, ap, ◌∙◌, arith}
+use Rattle.std.proofs.Common.{◌≡◌, ◌≢◌, ℕ, ◌*◌, ◌^◌, ◌<◌, ◌≤◌, Bool, true, false, cond, List, Option, Some, None, Result, Ok, Err, Vec, inl, inr, refl, sym, ap, ◌∙◌, arith}
+use Rattle.std.specs.Global.{Global}
 use Rattle.std.specs.Option.{option_map}
 use Rattle.arena.specs.declared.step.Kind.{Kind}
+use Rattle.arena.specs.declared.step.Kind.TheVariants.{Fill}
 use Rattle.arena.specs.declared.step.Step.{Step}
 use Rattle.arena.specs.History.{History}
 use Rattle.arena.specs.Machines.{Call, row_of}
+use Rattle.arena.specs.Share.{Remaining}
 use Rattle.ordered_map.specs.FillOrder.{AreFilledInOrder, IsFillInOrder}
-use Rattle.ordered_map.specs.CallRules.{insert_nodes, delete_nodes, pop_nodes, replace_nodes, call_rules, most_nodes, most_scx, most_steps, need, MayReply}
-use Rattle.ordered_map.specs.OrderedMap.{MapCall, MapEdit, MapReply, Edit, PopFirst, ReplaceIf, OneValue, OnePair, edit_of, first_pair, get, is_value, pair, pair_or_none, reply}
+use Rattle.order.specs.declared.refused.Refused.{Refused}
+use Rattle.order.specs.declared.refused.Refused.TheVariants as refused
+use Rattle.ordered_map.specs.CallRules.{TakesNothing, insert_nodes, delete_nodes, pop_nodes, replace_nodes, call_rules, most_nodes, most_scx, most_steps, need, MayReply}
+use Rattle.ordered_map.specs.OrderedMap.{MapCall, MapEdit, MapReply, Edit, PopFirst, ReplaceIf, Successor as SuccessorOf, Range as RangeOf, OneValue, OnePair, edit_of, first_pair, get, is_value, pair, pair_or_none, reply}
 use Rattle.ordered_map.specs.declared.pair.Pair.{Pair}
 use Rattle.template.specs.FoundLeaf.{path_key}
 use Rattle.template.specs.declared.walk.Found.{Found}
@@ -27,8 +32,10 @@ use Rattle.dict.specs.Around.{IsAround}
 use Rattle.dict.specs.Calls.{AsksForPairs, IsSmallCall, most_tries}
 use Rattle.dict.specs.Forms.{word_form}
 use Rattle.dict.specs.Goals.{goal_told, leaf_told}
-use Rattle.dict.specs.WordReplies.{word_reply, pop_reply, edit_reply}
-use Rattle.dict.specs.Inner.{EditKind, InnerRun, Update, insert_kind, delete_kind, pop_kind, replace_kind, inner}
+use Rattle.dict.specs.WordReplies.{word_reply, pop_reply, edit_reply, read_reply, told_in}
+use Rattle.dict.specs.declared.told.WordReply.TheVariants as words
+use Rattle.dict.specs.Inner.{EditKind, ReadKind, InnerRun, Update, Get, Read, insert_kind, delete_kind, pop_kind, replace_kind, successor_kind, range_kind, inner}
+use Rattle.dict.specs.Says.{IsRefusal, KeepsLists}
 use Rattle.dict.specs.declared.run.MapRun.{MapRun}
 use Rattle.dict.specs.declared.run.MapRun.TheVariants as runs
 
@@ -212,10 +219,76 @@ replace_is = record {
   changes = λ e f needed. replace_changes (is_value e.expected f.value) (MapEdit.Insert e.key e.value) needed;
 }
 
--- the kind of an update that runs inside is such a one
+-- A kind of ordered read is one that a call of the map makes, which only reads.
+pub record IsReadKind (k : ReadKind) : Type 0 where
+  -- it keeps lists, takes no nodes, may begin all its tries, and makes no edit
+  pub lists : (r : k.R) → KeepsLists (k.means.call r)
+  pub nodes : (r : k.R) → most_nodes (k.means.call r) ≡ 0
+  pub tries : (r : k.R) (tries : ℕ) → most_tries (k.means.call r) tries ≡ tries
+  pub small : (r : k.R) → IsSmallCall (k.means.call r)
+  pub makes_none : (r : k.R) (told : MapReply) → edit_of (k.means.call r) told ≡ None
+  -- it has something to find where its call asks for pairs
+  pub asks : (r : k.R) → k.means.asks (k.means.call r) → AsksForPairs (k.means.call r)
+  pub finds : (r : k.R) → AsksForPairs (k.means.call r) → k.means.asks (k.means.call r)
+  -- and then it may make all steps but fills
+  pub kinds : (r : k.R) (kind : Kind) → k.means.asks (k.means.call r) → kind ≢ Fill → (call_rules (k.means.call r)).MayMake kind
+  -- what it answers is of a form that its call may reply, and tells what it has found
+  pub form : (r : k.R) (a : Result k.A Refused) → MayReply (k.means.call r) (word_form (read_reply k.tells a))
+  pub told : (a : k.A) → told_in (k.tells a) ≡ Some (k.means.told a)
+  pub refuses : (c : Call) (h : History) (call : MapCall) (share : Remaining) (tries : ℕ) (a : k.A) → IsRefusal c h call share tries (k.tells a)
+
+successor_form : (key : ℕ) (a : Result (Option Pair) Refused) → MayReply (SuccessorOf key) (word_form (read_reply words.Pair a))
+successor_form key (Ok found) = tt
+successor_form key (Err (refused.Contended node scx)) = tt
+successor_form key (Err refused.NoMemory) = tt
+
+-- a successor is such a kind
+pub successor_is : IsReadKind successor_kind
+successor_is = record {
+  lists = λ r. tt;
+  nodes = λ r. refl;
+  tries = λ r tries. refl;
+  small = λ r. tt;
+  makes_none = λ r told. refl;
+  asks = λ r asks. tt;
+  finds = λ r asks. tt;
+  kinds = λ r kind asks fills_not. fills_not;
+  form = λ r a. successor_form r.key a;
+  told = λ a. refl;
+  refuses = λ c h call share tries a. tt;
+}
+
+range_form : (low high most : ℕ) (a : Result (Vec Pair Global) Refused) → MayReply (RangeOf low high most) (word_form (read_reply words.Pairs a))
+range_form low high most (Ok found) = tt
+range_form low high most (Err (refused.Contended node scx)) = tt
+range_form low high most (Err refused.NoMemory) = tt
+
+-- one that asks for some pairs does not take nothing
+takes_some : (low high most : ℕ) → (0 < most) × (low ≤ high) → ¬ TakesNothing low high most
+takes_some low high most x (inl e) = let some = x.0 in omega (arith, e, some)
+takes_some low high most x (inr i) = let rises = x.1 in omega (arith, i, rises)
+
+-- so is a range
+pub range_is : IsReadKind range_kind
+range_is = record {
+  lists = λ r. tt;
+  nodes = λ r. refl;
+  tries = λ r tries. refl;
+  small = λ r. tt;
+  makes_none = λ r told. refl;
+  asks = λ r asks. asks;
+  finds = λ r asks. asks;
+  kinds = λ r kind asks fills_not. (fills_not, takes_some r.low r.high r.most asks);
+  form = λ r a. range_form r.low r.high r.most a;
+  told = λ a. refl;
+  refuses = λ c h call share tries a. tt;
+}
+
+-- the kind of an update or an ordered read that runs inside is such a one
 abbrev pub IsOfKind : InnerRun → Type 0
 IsOfKind (Update k m) = IsEditKind k
-IsOfKind m = Unit {0}
+IsOfKind (Get m share) = Unit {0}
+IsOfKind (Read k m share) = IsReadKind k
 
 -- each that runs inside is
 pub is_of_kind : (m : MapRun) → IsOfKind (inner m)
@@ -224,8 +297,8 @@ is_of_kind (runs.Delete m) = delete_is
 is_of_kind (runs.PopFirst m) = pop_is
 is_of_kind (runs.ReplaceIf m) = replace_is
 is_of_kind (runs.Get m share) = tt
-is_of_kind (runs.Successor m share) = tt
-is_of_kind (runs.Range m share) = tt
+is_of_kind (runs.Successor m share) = successor_is
+is_of_kind (runs.Range m share) = range_is
 
 -- the machines of inserts are around their updates
 pub around_insert : IsAround insert_kind (λ m. runs.Insert m)

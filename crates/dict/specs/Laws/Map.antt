@@ -8,8 +8,7 @@ use Rattle.arena.specs.History.{History, ◌⊳◌, value}
 use Rattle.arena.specs.Machines.{Call, IsRun, IsTold, row_of}
 use Rattle.arena.specs.Share.{Remaining}
 use Rattle.arena.specs.TakenNodes.{taken_nodes}
-use Rattle.order.specs.Range.Laws.{range_keeps, range_lawful, range_made, range_told, range_fills_not}
-use Rattle.order.specs.Successor.Laws.{successor_keeps, successor_lawful, successor_made, successor_told, successor_fills_not}
+use Rattle.order.specs.Laws.Run.{read_keeps, read_lawful, read_made, read_told, read_fills_not}
 use Rattle.ordered_map.specs.TreeShape.{TreeAllows}
 use Rattle.tree.specs.Get.Laws.{get_keeps, get_lawful, get_made, get_told}
 use Rattle.tree.proofs.Lemmas.{get_fills_not}
@@ -19,7 +18,7 @@ use Rattle.edits.specs.Laws.Update.{update_keeps, update_lawful, update_made, up
 use Rattle.dict.specs.Known.{HasRested, IsReadyInside, WaitsInside, MapIsReady, MapWaits}
 use Rattle.dict.specs.Steps.{InnerFits, MapFits}
 use Rattle.dict.specs.declared.run.MapRun.{MapRun}
-use Rattle.dict.specs.Inner.{InnerRun, Update, Get, Successor, Range, inner}
+use Rattle.dict.specs.Inner.{InnerRun, Update, Get, Read, inner}
 
 -- a read rests on behind one row more, if its pass does
 module _ (c : Call) (h : History) (r : Row) (share : Remaining) (run : IsRun TreeAllows c.layout (r ⊳ h)) where
@@ -37,8 +36,7 @@ module _ (c : Call) (h : History) (r : Row) (share : Remaining) (run : IsRun Tre
 kept : (m : InnerRun) (c : Call) (h : History) (s : Step) (r : Row) → IsRun TreeAllows c.layout (r ⊳ h) → r.pass.0 ≢ c.pass → WaitsInside m c h s → WaitsInside m c (r ⊳ h) s
 kept (Update k m) c h s r run other w = update_keeps k.means m c h s r run other w
 kept (Get m share) c h s r run other w = (get_keeps m c h s r run other w.0, still c h r share run other w.1)
-kept (Successor m share) c h s r run other w = (successor_keeps m c h s r run other w.0, still c h r share run other w.1)
-kept (Range m share) c h s r run other w = (range_keeps m c h s r run other w.0, still c h r share run other w.1)
+kept (Read k m share) c h s r run other w = (read_keeps k.means m c h s r run other w.0, still c h r share run other w.1)
 
 pub map_keeps : (tries : ℕ) (m : MapRun) (c : Call) (h : History) (s : Step) (r : Row) → IsRun TreeAllows c.layout (r ⊳ h) → r.pass.0 ≢ c.pass → MapWaits tries m c h s → MapWaits tries m c (r ⊳ h) s
 map_keeps tries m c h s r run other w = (w.0, kept (inner m) c h s r run other w.1)
@@ -47,15 +45,13 @@ map_keeps tries m c h s r run other w = (w.0, kept (inner m) c h s r run other w
 pub inner_lawful : (m : InnerRun) (c : Call) (h : History) (s : Step) → IsRun TreeAllows c.layout h → WaitsInside m c h s → IsRun TreeAllows c.layout (row_of c s h ⊳ h)
 inner_lawful (Update k m) c h s run w = update_lawful k.means m c h s run w
 inner_lawful (Get m share) c h s run w = get_lawful m c h s run w.0
-inner_lawful (Successor m share) c h s run w = successor_lawful m c h s run w.0
-inner_lawful (Range m share) c h s run w = range_lawful m c h s run w.0
+inner_lawful (Read k m share) c h s run w = read_lawful k.means m c h s run w.0
 
 -- once the step is made, it may be called with what that told
 made : (m : InnerRun) (c : Call) (h : History) (s : Step) (v : ℕ) → IsRun TreeAllows c.layout (row_of c s h ⊳ h) → IsTold s.access (value h s.word) v → WaitsInside m c h s → IsReadyInside m c (row_of c s h ⊳ h) (Some v)
 made (Update k m) c h s v run told w = update_made k.means m c h s v run told w
 made (Get m share) c h s v run told w = (get_made m c h s v run told w.0, on c h (row_of c s h) share run (get_fills_not m c h s w.0) w.1)
-made (Successor m share) c h s v run told w = (successor_made m c h s v run told w.0, on c h (row_of c s h) share run (successor_fills_not m c h s w.0) w.1)
-made (Range m share) c h s v run told w = (range_made m c h s v run told w.0, on c h (row_of c s h) share run (range_fills_not m c h s w.0) w.1)
+made (Read k m share) c h s v run told w = (read_made k.means m c h s v run told w.0, on c h (row_of c s h) share run (read_fills_not k.means m c h s w.0) w.1)
 
 -- once its step is made the machine is ready for what the step has found
 pub map_made : (tries : ℕ) (m : MapRun) (c : Call) (h : History) (s : Step) (v : ℕ) → IsRun TreeAllows c.layout (row_of c s h ⊳ h) → IsTold s.access (value h s.word) v → MapWaits tries m c h s → MapIsReady tries m c (row_of c s h ⊳ h) (Some v)
@@ -65,8 +61,7 @@ map_made tries m c h s v run told w = (w.0, made (inner m) c h s v run told w.1)
 told : (m : InnerRun) (c : Call) (h : History) (got : Option ℕ) (nodes : ℕ) → IsRun TreeAllows c.layout h → IsReadyInside m c h got → length (taken_nodes h) ≤ nodes → InnerFits m got nodes
 told (Update k m) c h got nodes run x few = update_told k.means m c h got nodes run x few
 told (Get m share) c h got nodes run x few = get_told m c h got nodes run x.0 few
-told (Successor m share) c h got nodes run x few = successor_told m c h got nodes run x.0 few
-told (Range m share) c h got nodes run x few = range_told m c h got nodes run x.0 few
+told (Read k m share) c h got nodes run x few = read_told k.means m c h got nodes run x.0 few
 
 pub map_told : (tries : ℕ) (m : MapRun) (c : Call) (h : History) (got : Option ℕ) (nodes : ℕ) → IsRun TreeAllows c.layout h → MapIsReady tries m c h got → length (taken_nodes h) ≤ nodes → MapFits m got nodes
 map_told tries m c h got nodes run x few = told (inner m) c h got nodes run x.1 few

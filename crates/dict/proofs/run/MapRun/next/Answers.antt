@@ -6,9 +6,9 @@ use Rattle.tree.specs.ReplaceIf.Means.{replace_means}
 use Rattle.edits.specs.Laws.Update.{update_scx_left}
 use Rattle.dict.specs.Known.{MapIsReady}
 use Rattle.dict.specs.declared.run.MapRun.TheVariants.{Insert, Delete, PopFirst, ReplaceIf, Get, Successor, Range}
-use Rattle.dict.specs.Inner.{insert_kind, delete_kind, pop_kind, replace_kind}
-use Rattle.dict.specs.Laws.Kinds.{insert_is, delete_is, pop_is, replace_is}
-use Rattle.dict.proofs.Ends.{edit_goes, edit_ends, get_ends, successor_ends, range_ends}
+use Rattle.dict.specs.Inner.{insert_kind, delete_kind, pop_kind, replace_kind, successor_kind, range_kind}
+use Rattle.dict.specs.Laws.Kinds.{insert_is, delete_is, pop_is, replace_is, successor_is, range_is}
+use Rattle.dict.proofs.Ends.{edit_goes, edit_ends, get_ends, read_ends}
 use Rattle.dict.proofs.run.MapRun.next.Goals as goal
 
 pub returns-in-Done-clause-turn : goal.returns-in-Done-clause-turn
@@ -43,12 +43,12 @@ returns-in-Done-next-clause-turn c tries d h run ready =
 pub returns-in-Done-step-4-clause-turn : goal.returns-in-Done-step-4-clause-turn
 returns-in-Done-step-4-clause-turn c tries d h run ready =
     let r : MapIsReady tries (Successor c.in-Successor.run' c.in-Successor.share) d h c.args.got = rw c.in-Successor.is at ready in
-    rw c.of_successor.ensures (successor_ends tries d h c.step-in-Successor.new.self c.in-Successor.share c.in-Done-step-4.told r.1.1 r.0.spent (c.step-in-Successor.ensures.same.1 ∙ r.0.limit) (c.in-Done-step-4.ensures.turn d h r.1.0))
+    rw c.of_successor.ensures (read_ends tries d h successor_kind successor_is c.step-in-Successor.new.self c.in-Successor.share c.in-Done-step-4.told r.1.1 r.0.spent (c.step-in-Successor.ensures.same.1 ∙ r.0.limit) (c.in-Done-step-4.ensures.turn d h r.1.0))
 
 pub returns-in-Done-step-5-clause-turn : goal.returns-in-Done-step-5-clause-turn
 returns-in-Done-step-5-clause-turn c tries d h run ready =
     let r : MapIsReady tries (Range c.in-Range.run' c.in-Range.share) d h c.args.got = rw c.in-Range.is at ready in
-    rw c.of_range.ensures (range_ends tries d h c.step-in-Range.new.self c.in-Range.share c.in-Done-step-5.told r.1.1 r.0.spent (c.step-in-Range.ensures.same.3 ∙ r.0.limit) (c.in-Done-step-5.ensures.turn d h r.1.0))
+    rw c.of_range.ensures (read_ends tries d h range_kind range_is c.step-in-Range.new.self c.in-Range.share c.in-Done-step-5.told r.1.1 r.0.spent (c.step-in-Range.ensures.same.1 ∙ r.0.limit) (c.in-Done-step-5.ensures.turn d h r.1.0))
 
 pub returns-in-Ask-clause-turn : goal.returns-in-Ask-clause-turn
 returns-in-Ask-clause-turn c tries d h run ready =
@@ -82,4 +82,4 @@ returns-in-Ask-step-4-clause-turn c tries d h run ready =
 pub returns-in-Ask-step-5-clause-turn : goal.returns-in-Ask-step-5-clause-turn
 returns-in-Ask-step-5-clause-turn c tries d h run ready =
     let r : MapIsReady tries (Range c.in-Range.run' c.in-Range.share) d h c.args.got = rw c.in-Range.is at ready in
-    (record { mode = r.0.mode; small = tt; number = tt; limit = c.step-in-Range.ensures.same.3 ∙ r.0.limit; spent = r.0.spent }, (c.in-Ask-step-5.ensures.turn d h r.1.0, r.1.1))
+    (record { mode = r.0.mode; small = tt; number = tt; limit = c.step-in-Range.ensures.same.1 ∙ r.0.limit; spent = r.0.spent }, (c.in-Ask-step-5.ensures.turn d h r.1.0, r.1.1))
