@@ -31,10 +31,9 @@ use Rattle.prims.proofs.Lemmas.{llx_fills_not, vlx_fills_not, own_in_hand}
 use Rattle.dict.specs.Calls.{inner_call, inner_share}
 use Rattle.dict.specs.Known.{IsNumbered, WaitsInside}
 use Rattle.dict.specs.Goals.{goal_told, leaf_told}
-use Rattle.dict.specs.Inner.{InnerRun, Update, Get, Successor, Range, inner}
+use Rattle.dict.specs.Inner.{InnerRun, Update, Get, Read, inner}
 use Rattle.dict.specs.Laws.Kinds.{IsOfKind}
-use Rattle.order.specs.Range.Laws.{range_fills_not}
-use Rattle.order.specs.Successor.Laws.{successor_fills_not}
+use Rattle.order.specs.Laws.Run.{read_fills_not}
 use Rattle.ordered_map.specs.declared.pair.Pair.{Pair}
 use Rattle.ordered_map.specs.OrderedMap.{MapEdit, OneValue, edit_key, edit_of, get, pair_or_none, reply}
 use Rattle.ordered_map.specs.Runs.{IsEditAt, IsTreeRun, Makes}
@@ -209,8 +208,7 @@ module _ (call : MachineCall) (h : History) (t : ℕ) (l : Lawful call.layout h)
 map_says : (m : InnerRun) (call : MachineCall) (h : History) (s : Step) (t v : ℕ) → IsNumbered m call.number → WaitsInside m call h s → s.kind ≡ FillKind → s.word ≡ scx_word t CallWord → word_after s.access v ≡ call.number
 map_says (Update k m) call h s t v number w kind word = update_says_at k.means m (begun_at call w.0) h s t v m.at w.3 kind word ∙ number
 map_says (Get m share) call h s t v number w kind word = absurd (get_fills_not m call h s w.0 kind)
-map_says (Successor m share) call h s t v number w kind word = absurd (successor_fills_not m call h s w.0 kind)
-map_says (Range m share) call h s t v number w kind word = absurd (range_fills_not m call h s w.0 kind)
+map_says (Read k m share) call h s t v number w kind word = absurd (read_fills_not k.means m call h s w.0 kind)
 
 put_says_at : (m : PutRun) (call : MachineCall) (h : History) (s : Step) (t v : ℕ) (at : PutAt) → PutWaitsAt AllowsAll call h m at s → s.kind ≡ FillKind → s.word ≡ scx_word t CallWord → word_after s.access v ≡ m.scx.call
 put_says_at m call h s t v PutStart w kind word = absurd w

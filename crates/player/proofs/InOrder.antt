@@ -5,11 +5,10 @@ use Rattle.arena.specs.declared.step.Kind.TheVariants.{Fill}
 use Rattle.arena.specs.declared.step.Step.{Step}
 use Rattle.arena.specs.History.{History}
 use Rattle.arena.specs.Machines.{Call, row_of}
-use Rattle.dict.specs.Inner.{InnerRun, Update, Get, Successor, Range, inner}
+use Rattle.dict.specs.Inner.{InnerRun, Update, Get, Read, inner}
 use Rattle.dict.specs.Laws.Kinds.{IsOfKind, is_of_kind}
 use Rattle.dict.specs.Known.{WaitsInside}
-use Rattle.order.specs.Range.Laws.{range_fills_not}
-use Rattle.order.specs.Successor.Laws.{successor_fills_not}
+use Rattle.order.specs.Laws.Run.{read_fills_not}
 use Rattle.ordered_map.specs.FillOrder.{AreFilledInOrder, IsFillInOrder}
 use Rattle.tree.proofs.Lemmas.{get_in_order}
 use Rattle.player.specs.declared.run.Run.{Run}
@@ -23,8 +22,7 @@ no_fill call h s none = record { head = λ n fill. absurd (none fill); field = �
 map_in_order : (m : InnerRun) (call : Call) (h : History) (s : Step) → AreFilledInOrder h → IsOfKind m → WaitsInside m call h s → IsFillInOrder h (row_of call s h)
 map_in_order (Update k m) call h s filled kind w = kind.in_order m call h s filled w
 map_in_order (Get m share) call h s filled kind w = get_in_order m call h s w.0
-map_in_order (Successor m share) call h s filled kind w = no_fill call h s (successor_fills_not m call h s w.0)
-map_in_order (Range m share) call h s filled kind w = no_fill call h s (range_fills_not m call h s w.0)
+map_in_order (Read k m share) call h s filled kind w = no_fill call h s (read_fills_not k.means m call h s w.0)
 
 pub run_in_order : (run : Run) (call : Call) (h : History) (s : Step) → run_mode run ≡ Tree → AreFilledInOrder h → RunWaits run call h s → IsFillInOrder h (row_of call s h)
 run_in_order (Map m) call h s tree filled w = map_in_order (inner m.run) call h s filled (is_of_kind m.run) w.1.1

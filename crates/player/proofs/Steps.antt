@@ -1,5 +1,5 @@
 -- The turn of a client that makes a step.
-use Rattle.std.proofs.Common.{◌≡◌, ℕ, suc, true, ◌≤◌, ◌≢◌, ◌⊎◌, inl, inr, ⊎_elim, List, ◌∷◌, set, length, Option, Some, None, MatchOption, IsSome, All, get_or, slice_get, unwrap_or, refl, sym, ◌∙◌, ap, subst, eq-eqb, arith, [], ◌++◌, IfSome}
+use Rattle.std.proofs.Common.{◌≡◌, ℕ, suc, true, ◌≤◌, ◌≢◌, ◌⊎◌, inl, inr, ⊎_elim, List, ◌∷◌, set, length, Option, Some, None, MatchOption, IsSome, All, get_or, slice_get, unwrap_or, refl, sym, ◌∙◌, ap, subst, eq-eqb, arith, [], IfSome}
 use native.Mathlib.Decide.{ℕ_discrete}
 use Rattle.arena.specs.Fills.{IsOwnScx}
 use Rattle.arena.specs.declared.layout.Layout.{Layout}

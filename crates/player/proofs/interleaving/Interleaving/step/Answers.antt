@@ -1,16 +1,14 @@
-use Rattle.std.proofs.Common.{[], ◌≡◌, ◌+◌, suc, List, ◌∷◌, ◌++◌, Some, None, set, slice_get, refl, sym, ◌∙◌, ap, subst, arith}
+use Rattle.std.proofs.Common.{[], ◌≡◌, ◌+◌, suc, List, ◌∷◌, ◌++◌, Some, None, slice_get, refl, sym, ◌∙◌, ap, arith}
 use Rattle.arena.specs.declared.number.PassNo.{PassNo}
 use Rattle.script.proofs.Lemmas.{calls_are_of_mode}
 use Rattle.record.specs.declared.record.Line.{Line}
 use Rattle.record.specs.declared.record.Line.TheVariants.{Step, Reply}
-use Rattle.record.specs.declared.record.Row.{Row}
 use Rattle.record.specs.declared.record.Row.TheVariants.{Idle}
-use Rattle.player.specs.declared.client.Client.{Client}
 use Rattle.player.specs.Player.{script_view}
-use Rattle.record.specs.Turns.{turns, clients, begin}
+use Rattle.record.specs.Turns.{turns, begin}
 use Rattle.player.specs.ClientView.{IsNextAction, client_view}
 use Rattle.moments.specs.Places.{changes}
-use Rattle.player.specs.BetweenTurns.{ArePlaces, IsBetweenTurns, IsStepAsked}
+use Rattle.player.specs.BetweenTurns.{ArePlaces, IsBetweenTurns}
 use Rattle.player.proofs.Middles.{some_client, get_own, wins_idle, wins_reply}
 use Rattle.player.proofs.Steps.{between_at, places_roomy}
 use Rattle.player.proofs.Stands.{client_there, is_client, stood_asked, stood_finished, stood_refused}
