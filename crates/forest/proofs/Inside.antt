@@ -1,15 +1,23 @@
 -- From place to place of a machine inside another, and machines inside these.
-use Rattle.std.proofs.Common.{ℕ, List}
+use Rattle.std.proofs.Common.{ℕ, List, refl, subst}
+use Rattle.arena.specs.declared.layout.Layout.{Layout}
 use Rattle.arena.specs.declared.step.Step.{Step}
-use Rattle.arena.specs.History.{History}
+use Rattle.arena.specs.History.{History, ◌⊳◌}
+use Rattle.arena.specs.Layout.{IsWord}
+use Rattle.arena.specs.Machines.{Call, IsRun, row_of}
 use Rattle.forest.specs.declared.view.SeatedPass.{SeatedPass}
 use Rattle.forest.specs.CallKinds.{Calls}
 use Rattle.forest.specs.Inside.{Inner, Inside, InnerIsTold, InnerWaits}
 use Rattle.forest.specs.Traces.{goes_on}
+use Rattle.forest.proofs.Advances.{called_so, word_of}
 
 -- an edge of the inner machine takes the call from place to place
 pub goes_to : {M N : Type 0} {o : Calls M} {i : Inner N} (k : Inside o i) (ps : List SeatedPass) (old now : N) (v : ℕ) (s : Step) → i.goes old now → ((d : i.Context) (h : History) → i.told d old h v → i.waits d now h s) → InnerIsTold k ps old v → InnerWaits k ps now s
 goes_to k ps old now v s goes edge x = record { known = x.known; is = x.is; sound = x.sound; so = (k.turns old now _ v s goes (λ d. edge d _) x.sound x.so.0, goes_on (k.with_run old) (k.stays old now goes) x.so.1) }
+
+-- the word of the step for which it waits is one of the table
+pub waits_within : {M N : Type 0} {o : Calls M} {i : Inner N} (k : Inside o i) (ps : List SeatedPass) → ((m : M) (c : Call) (h : History) (s : Step) → IsRun o.allows c.layout h → o.waits m c h s → IsRun o.allows c.layout (row_of c s h ⊳ h)) → (m : N) (s : Step) → InnerWaits k ps m s → IsWord o.layout s.word
+waits_within k ps lawful m s x = subst (λ (l : Layout). IsWord l s.word) k.is_layout (word_of _ k.call record { call = k.call.number; step = s } refl ps _ (λ h. lawful (k.with_run m) k.call h s) (called_so x))
 
 module _ {N P : Type 0} (i : Inner N) (j : Inner P) where
   -- where a machine stands inside one that is inside another itself

@@ -27,8 +27,6 @@ mod StraightPut
 mod StraightVlx
 mod StraightWalk
 mod StraightReads
-mod StraightSuccessor
-mod StraightRange
 mod StraightUpdate
 mod Took
 mod Versions

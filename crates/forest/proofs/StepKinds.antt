@@ -1,11 +1,9 @@
 -- Which kinds of step a call of a dictionary makes, and that a range that asks for no pairs makes none.
-use Rattle.std.proofs.Common.{◌≡◌, ◌∙◌, ℕ, suc, ◌<◌, inl, inr, List, refl, sym, ap, subst, arith}
-use Rattle.std.proofs.Math.Nat.{lt_of_not-le}
+use Rattle.std.proofs.Common.{◌≡◌, ◌∙◌, ℕ, List, refl, sym, ap, subst}
 use Rattle.atomic_table.specs.Seated.{TableId}
 use Rattle.atomic_table.specs.declared.shared.Seat.{Seat}
 use Rattle.arena.specs.declared.layout.Layout.{Layout}
 use Rattle.arena.specs.declared.limits.Mode.TheVariants.{Tree}
-use Rattle.arena.specs.declared.machine.Turn.TheVariants.{Ask}
 use Rattle.arena.specs.declared.step.Row.{Row}
 use Rattle.arena.specs.declared.step.Step.{Step}
 use Rattle.arena.specs.History.{History, ◌⊳◌, Extends}
@@ -17,8 +15,6 @@ use Rattle.ordered_map.specs.CallRules.{call_rules}
 use Rattle.ordered_map.specs.OrderedMap.{MapCall}
 use Rattle.ordered_map.specs.declared.reply.Reply.{Reply}
 use Rattle.ordered_map.specs.declared.reply.Reply.TheVariants as replies
-use Rattle.order.specs.Range.Known.{AsksForNothing, AsksForSome, TellsNone}
-use Rattle.order.specs.declared.range.RangeRun.{RangeRun}
 use Rattle.edits.specs.Known.{RestsWith}
 use Rattle.dict.specs.Inner.{inner}
 use Rattle.dict.specs.Calls.{AsksForPairs, call_in, share_of}
@@ -43,19 +39,6 @@ use Rattle.forest.proofs.Calls.{course_keeps}
 use Rattle.forest.proofs.DictCalls.{Answered, IsSameCall, behind, dict_refuses}
 use Rattle.forest.proofs.Entered.{HasEnded}
 use Rattle.forest.proofs.Passes.{call_of}
-
--- What a range asks for
-
--- a range that does not ask for nothing asks for some pairs
-asks_some : (m : RangeRun) → ¬ AsksForNothing m → AsksForSome m
-asks_some m some = (
-  lt_of_not-le (λ d. some (inl (omega (arith, d)))),
-  (let less : m.low < suc m.high = lt_of_not-le (λ d. some (inr (omega (arith, d)))) in omega (arith, less)),
-)
-
--- so does one that asks for a step where one that asks for nothing tells none
-pub asks_on : (m : RangeRun) (s : Step) → (AsksForNothing m → TellsNone (Ask s)) → AsksForSome m
-asks_on m s tells = asks_some m (λ x. let e = (tells x).1 in cc)
 
 -- no row of a history is behind it
 no_row : (h : History) (r : Row) (before : History) → Extends h (r ⊳ before) → Extends before h → ⊥

@@ -1,7 +1,7 @@
 -- Whole calls of a dictionary whose updates are straight.
 use Rattle.std.specs.Global.{Global}
 use Rattle.std.specs.Prelude.{Result, Vec}
-use Rattle.std.proofs.Common.{◌≡◌, ℕ, zero, suc, ◌+◌, ◌*◌, ◌^◌, ◌-◌, ◌<◌, ◌≤◌, List, [], Option, None, refl, sym, subst, ap, arith, ◌∙◌}
+use Rattle.std.proofs.Common.{◌≡◌, ℕ, zero, suc, ◌+◌, ◌*◌, ◌-◌, ◌<◌, ◌≤◌, List, [], Option, None, refl, sym, subst, ap, arith, ◌∙◌}
 use Rattle.arena.specs.declared.layout.Layout.{Layout}
 use Rattle.arena.specs.declared.step.Step.{Step}
 use Rattle.arena.specs.History.{History}
@@ -9,15 +9,15 @@ use Rattle.arena.specs.Machines.{Call}
 use Rattle.arena.specs.Share.{Remaining}
 use Rattle.arena.specs.declared.number.NodeNo.{NodeNo}
 use Rattle.prims.specs.declared.snap.Snap.{Snap}
-use Rattle.order.specs.Range.Known.{IsSameRange}
-use Rattle.order.specs.Range.Steps.{range_left, range_phase_left, range_try_left}
-use Rattle.order.specs.declared.range.RangeAt.TheVariants.{Start as VisitStart}
-use Rattle.order.specs.declared.range.RangeRun.{RangeRun}
+use Rattle.order.specs.Known.{IsSameRead, ReadIsReady, ReadWaits}
+use Rattle.order.specs.Range.{range_means}
+use Rattle.order.specs.Steps.{phase_left, read_left, tries_left}
+use Rattle.order.specs.declared.range.Range.{Range as RangeRead}
 use Rattle.order.specs.declared.refused.Refused.{Refused}
-use Rattle.order.specs.declared.successor.SuccessorAt.TheVariants.{Start as SearchStart}
-use Rattle.order.specs.declared.successor.SuccessorRun.{SuccessorRun}
+use Rattle.order.specs.declared.run.ReadAt.TheVariants.{Start as ReadStart}
+use Rattle.order.specs.declared.run.ReadRun.{ReadRun}
 use Rattle.ordered_map.specs.declared.pair.Pair.{Pair}
-use Rattle.ordered_map.specs.OrderedMap.{Successor as SuccessorCall, Range as RangeCall}
+use Rattle.ordered_map.specs.OrderedMap.{MapCall}
 use Rattle.edits.specs.Next.{standing}
 use Rattle.edits.specs.Steps.{node_tries, scx_tries}
 use Rattle.edits.specs.declared.update.UpdateAt.{UpdateAt}
@@ -29,24 +29,37 @@ use Rattle.dict.specs.Laws.TypedMaps.{typed_run}
 use Rattle.dict.specs.Words.{IsWordOf, IsValidReply}
 use Rattle.dict.specs.declared.dict.DictRun.{DictRun}
 use Rattle.dict.specs.Around.{IsAround}
-use Rattle.dict.specs.Calls.{IsSmallCall, KeepsTriesButOne, call_in}
-use Rattle.dict.specs.Inner.{EditKind, Update, inner}
-use Rattle.dict.specs.Known.{Goes}
-use Rattle.dict.specs.Laws.Kinds.{IsEditKind}
+use Rattle.dict.specs.Calls.{IsFewCall, IsSmallCall, KeepsTriesButOne, call_in, inner_call, inner_share}
+use Rattle.dict.specs.Inner.{EditKind, InnerRun, Read, ReadKind, Update, inner, range_kind, successor_kind}
+use Rattle.dict.specs.Known.{Goes, HasRested, InnerAnswers, IsReadyInside, StandsAtStart, WaitsInside}
+use Rattle.dict.specs.Laws.Kinds.{IsEditKind, IsReadKind, range_is, successor_is}
 use Rattle.dict.specs.declared.run.MapRun.{MapRun}
 use Rattle.dict.specs.declared.run.MapRun.TheVariants.{Successor, Range}
 use Rattle.dict.specs.Translated.{IsTranslated, HasFormOf}
-use Rattle.dict.specs.WordReplies.{edit_reply, successor_reply, range_reply}
+use Rattle.dict.specs.WordReplies.{edit_reply, read_reply}
 use Rattle.ordered_map.specs.declared.reply.Reply.{Reply}
 use Rattle.dict.specs.declared.told.WordReply.{WordReply}
-use Rattle.dict.proofs.Lemmas.{edit_goes, edit_ends, successor_ends, range_ends, dict_ends}
+use Rattle.dict.proofs.Lemmas.{edit_goes, edit_ends, read_ends, dict_ends}
 use Rattle.forest.specs.declared.view.SeatedPass.{SeatedPass}
-use Rattle.forest.specs.StraightCalls.{DictAllows, DictCallIsReady, DictCallWaits, IsSameDictCall, SeatDictBegins, SeatDictEnds, SeatWordEnds, IsFreshCall}
-use Rattle.forest.specs.StraightReads.{RangeReader, SearchBegins, SearchEnds, SuccessorReader, VisitBegins, VisitEnds}
+use Rattle.forest.specs.StraightCalls.{DictAllows, DictCallIsReady, DictCallWaits, IsSameDictCall, SeatDictBegins, SeatDictEnds, SeatWordEnds, IsFreshCall, SeatCallBegins, CallHasEnded}
+use Rattle.forest.specs.StraightReads.{Reader, ReaderBegins, ReaderEnds}
 use Rattle.forest.specs.StraightUpdate.{Updater, HasUpdateGoneOn, UpdaterBegins, UpdaterEnds}
 use Rattle.forest.specs.TableRule.{history_of}
 use Rattle.forest.specs.Traces.{begins, goes_on}
 use Rattle.forest.specs.CallKinds.{Calls}
+
+-- An ordered read of a dictionary: its kind, and the machine of a call of the map around it.
+pub record DictRead : Type 1 where
+  pub kind : ReadKind
+  pub is : IsReadKind kind
+  pub around : ReadRun kind.R → Remaining → MapRun
+  pub inside : (m : ReadRun kind.R) (share : Remaining) → inner (around m share) ≡ Read kind m share
+
+abbrev pub successors : DictRead
+successors = record { kind = successor_kind; is = successor_is; around = λ m share. Successor m share; inside = λ m share. refl }
+
+abbrev pub ranges : DictRead
+ranges = record { kind = range_kind; is = range_is; around = λ m share. Range m share; inside = λ m share. refl }
 
 module _ {K V : Type 0} (valid_key : K → Type 0) (key : K → ℕ) (valid_value : V → Type 0) (value_word : V → ℕ) where
   abbrev allows : Layout → History → ℕ → Type 0
@@ -125,78 +138,59 @@ module _ {K V : Type 0} (valid_key : K → Type 0) (key : K → ℕ) (valid_valu
             );
           }
 
-    -- Successors
+    -- Ordered reads
 
-    abbrev searching : Remaining → SuccessorRun → DictRun K V
-    searching share m = record machine { run = Successor m share }
+    module _ (d : DictRead) (share : Remaining) where
+      abbrev reading : ReadRun d.kind.R → DictRun K V
+      reading m = record machine { run = d.around m share }
 
-    pub searcher : Remaining → SuccessorReader (dict_calls layout number)
-    searcher share = record {
-      call = c;
-      is_layout = is_layout;
-      is_number = is_number;
-      runs = λ h run. typed_run keys values c.layout h run;
-      first = machine;
-      with_run = searching share;
-      opens = λ m h s x. x.1.1.0;
-      tells = λ m h got x. x.1.1.0;
-      turns = λ old now h got s is x w. (tt, (record { mode = x.1.0.mode; small = tt; number = tt; limit = is.1 ∙ x.1.0.limit; spent = x.1.0.spent }, (w, x.1.1.1)));
-      stays = λ old now is. (ap SuccessorCall is.0, refl, (is.2, is.3));
-    }
+      same_read : (old now : ReadRun d.kind.R) → IsSameRead d.kind.means old now → same (reading old) (reading now)
+      same_read old now x = rw (d.inside old share, d.inside now share) (x.0, refl, (x.2, x.3))
 
-    pub search_begins : (ps : List SeatedPass) (share : Remaining) (m : SuccessorRun) → machine.run ≡ Successor m share → SeatDictBegins valid_key key valid_value value_word c ps machine → SearchBegins (searcher share) ps m
-    unfolding searcher
-    search_begins ps share m is x = record { known = x.known; is = x.is; sound = x.sound; so = (subst (λ r. ready (record machine { run = r }) c (history_of c.layout.mode x.known) None) is x.so.1, begins (λ i. record machine { run = sym is i }) (sym x.so.0)) }
+      -- what it is told, and what it then waits for, its machine does
+      told_inside : (m : ReadRun d.kind.R) (h : History) (got : Option ℕ) → ready (reading m) c h got → Goes (Read d.kind m share) machine.tries c × (ReadIsReady d.kind.means m c h got × HasRested c h share)
+      told_inside m h got x = subst (λ (i : InnerRun). Goes i machine.tries c × IsReadyInside i c h got) (d.inside m share) x.1
 
-    pub search_ended : (ps : List SeatedPass) (share : Remaining) (m : SuccessorRun) (a : Result (Option Pair) Refused) → SearchEnds (searcher share) ps m a → ends c ps machine (searching share m) (successor_reply a)
-    unfolding searcher
-    search_ended ps share m a x = let y = x.so in record {
-      known = x.known;
-      is = x.is;
-      sound = x.sound;
-      so = (
-        (y.was.1.0.mode, successor_ends machine.tries c _ m share a y.was.1.1.1 y.was.1.0.spent (y.goes.1 ∙ y.was.1.0.limit) y.answers),
-        goes_on (searching share y.old) (ap SuccessorCall y.goes.0, refl, (y.goes.2, y.goes.3)) y.course,
-      );
-    }
+      waits_so : (m : ReadRun d.kind.R) (h : History) (s : Step) → Goes (Read d.kind m share) machine.tries c × (ReadWaits d.kind.means m c h s × HasRested c h share) → Goes (inner (d.around m share)) machine.tries c × WaitsInside (inner (d.around m share)) c h s
+      waits_so m h s x = subst (λ (i : InnerRun). Goes i machine.tries c × WaitsInside i c h s) (sym (d.inside m share)) x
 
-    -- Ranges
+      pub reader : Reader (dict_calls layout number) d.kind.means
+      reader = record {
+        call = c;
+        is_layout = is_layout;
+        is_number = is_number;
+        runs = λ h run. typed_run keys values c.layout h run;
+        first = machine;
+        with_run = reading;
+        opens = λ m h s x. (subst (λ (i : InnerRun). WaitsInside i c h s) (d.inside m share) x.1.1).0;
+        tells = λ m h got x. (told_inside m h got x).1.0;
+        turns = λ old now h got s is x w.
+            let y = told_inside old h got x in (
+              subst (IsTypedCall keys values) (sym (same_read old now is).0) x.0,
+              waits_so now h s (record { mode = y.0.mode; small = d.is.small now.read; number = tt; limit = is.1 ∙ y.0.limit; spent = y.0.spent }, (w, y.1.1)),
+            );
+        stays = same_read;
+      }
 
-    abbrev ranging : Remaining → RangeRun → DictRun K V
-    ranging share m = record machine { run = Range m share }
+      pub read_begins : (ps : List SeatedPass) (m : ReadRun d.kind.R) → machine.run ≡ d.around m share → SeatDictBegins valid_key key valid_value value_word c ps machine → ReaderBegins reader ps m
+      unfolding reader
+      read_begins ps m is x = record { known = x.known; is = x.is; sound = x.sound; so = (subst (λ r. ready (record machine { run = r }) c (history_of c.layout.mode x.known) None) is x.so.1, begins (λ i. record machine { run = sym is i }) (sym x.so.0)) }
 
-    range_call : (old now : RangeRun) → IsSameRange old now → RangeCall now.low now.high now.most ≡ RangeCall old.low old.high old.most
-    range_call old now is i = RangeCall (is.0 i) (is.1 i) (is.2 i)
-
-    pub ranger : Remaining → RangeReader (dict_calls layout number)
-    ranger share = record {
-      call = c;
-      is_layout = is_layout;
-      is_number = is_number;
-      runs = λ h run. typed_run keys values c.layout h run;
-      first = machine;
-      with_run = ranging share;
-      opens = λ m h s x. x.1.1.0;
-      tells = λ m h got x. x.1.1.0;
-      turns = λ old now h got s is x w. (tt, (record { mode = x.1.0.mode; small = tt; number = tt; limit = is.3 ∙ x.1.0.limit; spent = x.1.0.spent }, (w, x.1.1.1)));
-      stays = λ old now is. (range_call old now is, refl, (is.4, is.5));
-    }
-
-    pub range_begins : (ps : List SeatedPass) (share : Remaining) (m : RangeRun) → machine.run ≡ Range m share → SeatDictBegins valid_key key valid_value value_word c ps machine → VisitBegins (ranger share) ps m
-    unfolding ranger
-    range_begins ps share m is x = record { known = x.known; is = x.is; sound = x.sound; so = (subst (λ r. ready (record machine { run = r }) c (history_of c.layout.mode x.known) None) is x.so.1, begins (λ i. record machine { run = sym is i }) (sym x.so.0)) }
-
-    pub range_ended : (ps : List SeatedPass) (share : Remaining) (m : RangeRun) (a : Result (Vec Pair Global) Refused) → VisitEnds (ranger share) ps m a → ends c ps machine (ranging share m) (range_reply a)
-    unfolding ranger
-    range_ended ps share m a x = let y = x.so in record {
-      known = x.known;
-      is = x.is;
-      sound = x.sound;
-      so = (
-        (y.was.1.0.mode, range_ends machine.tries c _ m share a y.was.1.1.1 y.was.1.0.spent (y.goes.3 ∙ y.was.1.0.limit) y.answers),
-        goes_on (ranging share y.old) (range_call y.old m y.goes, refl, (y.goes.4, y.goes.5)) y.course,
-      );
-    }
+      pub read_ended : (ps : List SeatedPass) (m : ReadRun d.kind.R) (a : Result d.kind.A Refused) → ReaderEnds reader ps m a → ends c ps machine (reading m) (read_reply d.kind.tells a)
+      unfolding reader
+      read_ended ps m a x =
+          let y = x.so in
+          let h = history_of c.layout.mode x.known in
+          let was = told_inside y.old h y.got y.was in
+          record {
+            known = x.known;
+            is = x.is;
+            sound = x.sound;
+            so = (
+              (was.0.mode, subst (λ (i : InnerRun). InnerAnswers machine.tries i c h (read_reply d.kind.tells a)) (sym (d.inside m share)) (read_ends machine.tries c h d.kind d.is m share a was.1.1 was.0.spent (y.goes.1 ∙ was.0.limit) y.answers)),
+              goes_on (reading y.old) (same_read y.old m y.goes) y.course,
+            );
+          }
 
   -- a machine that has answered is told as a reply of keys and values
   pub replies : (c : Call) (ps : List SeatedPass) (first m : DictRun K V) (w : WordReply) (r : Reply K V) → IsValidReply valid_key valid_value r → IsTranslated valid_key key valid_value value_word w r → HasFormOf w r → ends c ps first m w → SeatDictEnds valid_key key valid_value value_word c ps first m r
@@ -225,34 +219,39 @@ module _ {K V A : Type 0} (k : EditKind) (around : UpdateRun k.E UpdateAt → Ma
     has_share = is.is_share (standing m Start) ∙ is_share;
   }
 
-module _ {K V : Type 0} where
-  -- the machine of a successor
-  abbrev pub search_machine : ℕ → Remaining → SuccessorRun → DictRun K V
-  search_machine tries share m = record { run = Successor m share; tries = tries; alloc = None; types = record {} }
+module _ {K V : Type 0} (d : DictRead) where
+  -- the machine of an ordered read
+  abbrev pub read_machine : ℕ → Remaining → ReadRun d.kind.R → DictRun K V
+  read_machine tries share m = record { run = d.around m share; tries = tries; alloc = None; types = record {} }
 
-  pub search_fresh : (share : Remaining) (tries number key : ℕ) → 0 < tries → (m : SuccessorRun) → m.key ≡ key → m.at ≡ SearchStart → m.snaps.items ≡ [] → m.tries ≡ tries - 1 → m.limit ≡ tries → key < 2 ^ 64 → IsFreshCall (SuccessorCall key) share tries number (search_machine tries share m)
-  search_fresh share tries number key some m is_key at none is_tries is_limit small = record {
-    is_call = ap SuccessorCall is_key;
+  pub read_fresh : (share : Remaining) (tries number : ℕ) (call : MapCall) → 0 < tries → (m : ReadRun d.kind.R) → d.kind.means.call m.read ≡ call → m.at ≡ ReadStart → m.snaps.items ≡ [] → m.tries ≡ tries - 1 → m.limit ≡ tries → (IsFewCall call → d.kind.means.suits call) → IsFreshCall call share tries number (read_machine tries share m)
+  read_fresh share tries number call some m is_call at none is_tries is_limit suits = record {
+    is_call = ap inner_call (d.inside m share) ∙ is_call;
     has_tries = refl;
-    has_share = refl;
-    unbegun = (at, all_tries m.tries tries some is_tries, none, rw is_key small, is_limit);
+    has_share = ap inner_share (d.inside m share);
+    unbegun = subst (λ (i : InnerRun). StandsAtStart i tries number) (sym (d.inside m share)) (at, all_tries m.tries tries some is_tries, none, rw is_call suits, is_limit);
   }
 
-  -- and of a range
-  abbrev pub range_machine : ℕ → Remaining → RangeRun → DictRun K V
-  range_machine tries share m = record { run = Range m share; tries = tries; alloc = None; types = record {} }
+-- A whole ordered read: it begins with that machine, and as that has answered it has ended.
+module _ {K V : Type 0} (valid_key : K → Type 0) (key : K → ℕ) (valid_value : V → Type 0) (value_word : V → ℕ) (d : DictRead) (c : Call) (layout : Layout) (number : ℕ) (is : (c.layout ≡ layout) × (c.number ≡ number)) (tries : ℕ) (call : MapCall) (share : Remaining) (m : ReadRun d.kind.R) (fresh : IsFreshCall {K = K} {V = V} call share tries number (read_machine d tries share m)) where
+  abbrev pub made_by : Reader (dict_calls valid_key key valid_value value_word layout number) d.kind.means
+  made_by = reader valid_key key valid_value value_word (read_machine d tries share m) c layout number is.0 is.1 d share
 
-  pub range_fresh : (share : Remaining) (tries number low high most : ℕ) → 0 < tries → (m : RangeRun) → m.low ≡ low → m.high ≡ high → m.most ≡ most → m.at ≡ VisitStart → m.snaps.items ≡ [] → m.tries ≡ tries - 1 → m.limit ≡ tries → high < 2 ^ 64 → IsFreshCall (RangeCall low high most) share tries number (range_machine tries share m)
-  range_fresh share tries number low high most some m is_low is_high is_most at none is_tries is_limit small = record {
-    is_call = rw (is_low, is_high, is_most) refl;
-    has_tries = refl;
-    has_share = refl;
-    unbegun = (at, all_tries m.tries tries some is_tries, none, rw is_high small, is_limit);
+  pub made_begins : (ps : List SeatedPass) → SeatCallBegins valid_key key valid_value value_word c ps call share tries number → ReaderBegins made_by ps m
+  made_begins ps x = read_begins valid_key key valid_value value_word (read_machine d tries share m) c layout number is.0 is.1 d share ps m refl (x (read_machine d tries share m) fresh)
+
+  pub made_ended : (ps : List SeatedPass) (last : ReadRun d.kind.R) (a : Result d.kind.A Refused) (r : Reply K V) → IsValidReply valid_key valid_value r → IsTranslated valid_key key valid_value value_word (read_reply d.kind.tells a) r → HasFormOf (read_reply d.kind.tells a) r → ReaderEnds made_by ps last a → CallHasEnded valid_key key valid_value value_word c ps call share tries number share r
+  made_ended ps last a r valid says form x = record {
+    first = read_machine d tries share m;
+    last = read_machine d tries share last;
+    fresh = fresh;
+    is_left = ap inner_share (d.inside last share);
+    ends = replies valid_key key valid_value value_word c ps (read_machine d tries share m) (read_machine d tries share last) (read_reply d.kind.tells a) r valid says form (read_ended valid_key key valid_value value_word (read_machine d tries share m) c layout number is.0 is.1 d share ps last a x);
   }
 
 -- a range that has not begun has no more steps left with other lists
-pub as_many_steps : (m : RangeRun) (snaps : Vec Snap Global) (waiting : Vec NodeNo Global) (taken : Vec Pair Global) (nodes bound : ℕ) → m.at ≡ VisitStart → range_left m nodes ≤ bound → range_left (record m { snaps = snaps; waiting = waiting; taken = taken }) nodes ≤ bound
-as_many_steps m snaps waiting taken nodes bound at few = subst (λ a. m.tries * range_try_left m.most nodes + range_phase_left (record m { snaps = snaps; waiting = waiting; taken = taken }) nodes a ≤ bound) (sym at) (subst (λ a. m.tries * range_try_left m.most nodes + range_phase_left m nodes a ≤ bound) at few)
+pub as_many_steps : (m : ReadRun RangeRead) (snaps : Vec Snap Global) (waiting : Vec NodeNo Global) (taken : Vec Pair Global) (nodes bound : ℕ) → m.at ≡ ReadStart → read_left range_means m nodes ≤ bound → read_left range_means (record m { read = record m.read { waiting = waiting; taken = taken }; snaps = snaps }) nodes ≤ bound
+as_many_steps m snaps waiting taken nodes bound at few = subst (λ a. tries_left range_means m nodes + phase_left range_means (record m { read = record m.read { waiting = waiting; taken = taken }; snaps = snaps }) nodes a ≤ bound) (sym at) (subst (λ a. tries_left range_means m nodes + phase_left range_means m nodes a ≤ bound) at few)
 
 -- all tries have as many steps as each of them so many times
 pub tries_steps : (now old left tries each : ℕ) → 0 < tries → left ≡ tries - 1 → now ≤ old + (left * each + each) → now ≤ old + tries * each

@@ -1,5 +1,62 @@
--- Steps of ordered reads.
-use Rattle.std.proofs.Common.{◌≡◌, ℕ, suc, ◌+◌, ◌<◌, ◌≤◌, arith}
+-- From place to place of an ordered read, of whatever machine makes one.
+use Rattle.std.proofs.Common.{◌≡◌, ◌∙◌, ℕ, suc, ◌+◌, ◌-◌, ◌*◌, ◌<◌, ◌≤◌, Bool, List, None, Some, Result, Ok, length, [], refl, sym, ap, subst, arith}
+use Rattle.std.specs.Prelude.{Err}
+use Rattle.arena.specs.declared.head.Head.{Head as HeadParts}
+use Rattle.arena.specs.declared.machine.Turn.{Turn}
+use Rattle.arena.specs.declared.machine.Turn.TheVariants.{Ask, Done}
+use Rattle.arena.specs.declared.number.NodeNo.{NodeNo}
+use Rattle.arena.specs.declared.number.ScxNo.{ScxNo}
+use Rattle.arena.specs.declared.step.Kind.TheVariants.{LoadInfo, LoadMarked, LoadSettled, LoadState}
+use Rattle.arena.specs.declared.word.NodeWord.TheVariants.{Settled}
+use Rattle.arena.specs.declared.word.SettledPart.TheVariants.{Head as HeadWord}
+use Rattle.arena.specs.Heads.{head_of}
+use Rattle.arena.specs.History.{History}
+use Rattle.arena.specs.Machines.{Call, IsRun, MatchTurn, begun_at}
+use Rattle.arena.specs.Words.{info, marked, node, state}
+use Rattle.order.specs.Found.{BeginsAtRoot, BeginsSo, HasKey, HasLowHead, IsReading, Looks, Stands, WalksTo, head_at, key_at, value_at}
+use Rattle.order.specs.Known.{IsSameRead, ReadAnswers, ReadGoes, ReadIsReady, ReadWaits}
+use Rattle.order.specs.Laws.Run.{read_told}
+use Rattle.order.specs.Meaning.{ReadMeaning}
+use Rattle.order.specs.Next.{GoesOnSo, MayDo}
+use Rattle.order.specs.Paths.{BeginsNear, ComesNearer, HeadFits}
+use Rattle.order.specs.Places.{GoesOn, MayGoOn, next_step, placed}
+use Rattle.order.specs.Tries.{IsInTry}
+use Rattle.order.specs.Steps.{ReadFits, last_turn, phase_left, read_left, run_try_left, tries_left}
+use Rattle.order.specs.declared.read.Children.{Children}
+use Rattle.order.specs.declared.read.Children.TheVariants.{Both}
+use Rattle.order.specs.declared.read.ReadBegin.TheVariants.{Walk as Walking, Root as AtRoot, Answer}
+use Rattle.order.specs.declared.read.ReadNext.{ReadNext}
+use Rattle.order.specs.declared.read.ReadNext.TheVariants.{Look as LookNext, Head as HeadNext, Key as KeyNext, Value as ValueNext, Validate as ValidateNext}
+use Rattle.order.specs.declared.refused.Refused.{Refused}
+use Rattle.order.specs.declared.run.ReadAt.TheVariants.{Start, Look, Walk, Validate}
+use Rattle.order.specs.declared.run.ReadRun.{ReadRun}
+use Rattle.order.proofs.Lemmas.{answers_all, answers_right, begins_root, begins_walk, ends_refused, next_waits, placed_nearer, walk_found, walk_waits}
+use Rattle.prims.specs.Llx.Known.{load, IsSnapshot}
+use Rattle.prims.specs.Snap.{snap_at}
+use Rattle.prims.specs.Vlx.Known.{HasFoundUnchanged, VlxAnswers, VlxIsTold, VlxWaits}
+use Rattle.prims.specs.Vlx.Laws.{all_same, looked_on}
+use Rattle.prims.specs.declared.llx.LlxAt.TheVariants.{Marked, StateAgain}
+use Rattle.prims.specs.declared.llx.LlxRun.{LlxRun}
+use Rattle.prims.specs.declared.snap.Snap.{Snap}
+use Rattle.prims.specs.declared.vlx.Vlx.TheVariants.{Same}
+use Rattle.ordered_map.specs.TreeShape.{TreeAllows}
+use Rattle.template.specs.Trails.{IsOwnMoment}
+use Rattle.template.specs.FoundLeaf.{HasFoundGoal}
+use Rattle.template.specs.Walk.Places.{walk_from}
+use Rattle.template.specs.declared.walk.Found.{Found}
+use Rattle.template.specs.declared.walk.Goal.TheVariants.{Key as ToKey}
+use Rattle.template.specs.declared.walk.WalkRun.{WalkRun}
+use Rattle.forest.specs.declared.view.SeatedPass.{SeatedPass}
+use Rattle.forest.specs.CallKinds.{Calls}
+use Rattle.forest.specs.Hosts.{HostedIsTold, HostedStands, HostedWaits}
+use Rattle.forest.specs.Inside.{InnerIsTold, InnerWaits}
+use Rattle.forest.specs.StraightLlx.{llx_at, Looker, LookerSnaps}
+use Rattle.forest.specs.StraightReads.{Reader, ReaderBegins, ReaderEnds, ReaderLooksAgain, ReaderRoots, ReaderWaits, at_root, root_left}
+use Rattle.forest.specs.StraightVlx.{Validator}
+use Rattle.forest.specs.StraightWalk.{Walker, WalkerFinds, WalkerWaits}
+use Rattle.forest.specs.Traces.{shared_nodes}
+use Rattle.forest.proofs.Advances.{few_taken}
+use Rattle.forest.proofs.Hosts.{either_turn, told_on}
 
 -- one step of a seat, of a run that then has fewer steps left
 pub one_step : (before after left less : ℕ) → after ≡ suc before → less < left → after + suc less ≤ before + suc left
@@ -18,3 +75,284 @@ nearer_still left less rest i j = omega (arith, i, j)
 -- and of the last ones
 pub last_steps : (before mid after left less : ℕ) → mid ≡ suc before → less < left → after ≤ mid + suc less → after ≤ before + suc left
 last_steps before mid after left less one i more = omega (arith, one, i, more)
+
+module _ {R A : Type 0} (means : ReadMeaning R A) where
+  itself : (m : ReadRun R) → IsSameRead means m m
+  itself m = (refl, refl, omega arith, omega arith)
+
+  -- so many steps are left, as this comes next
+  pub steps_as : (m : ReadRun R) (next now : ReadNext) (nodes a b : ℕ) → next ≡ now → a ≤ b + suc (read_left means (placed m now) nodes) → a ≤ b + suc (read_left means (placed m next) nodes)
+  steps_as m next now nodes a b e i = subst (λ (k : ReadNext). a ≤ b + suc (read_left means (placed m k) nodes)) (sym e) i
+
+  pub lighter_as : (m : ReadRun R) (next now : ReadNext) (nodes b : ℕ) → next ≡ now → read_left means (placed m next) nodes < b → read_left means (placed m now) nodes < b
+  lighter_as m next now nodes b e i = subst (λ (k : ReadNext). read_left means (placed m k) nodes < b) e i
+
+  pub nearer_as : (m : ReadRun R) (next now : ReadNext) (nodes a : ℕ) → next ≡ now → a < suc (read_left means (placed m now) nodes) → a < suc (read_left means (placed m next) nodes)
+  nearer_as m next now nodes a e i = subst (λ (k : ReadNext). a < suc (read_left means (placed m k) nodes)) (sym e) i
+
+module _ {M R A : Type 0} {o : Calls M} {means : ReadMeaning R A} (r : Reader o means) where
+  -- its step has told this
+  abbrev IsTold : List SeatedPass → ReadRun R → ℕ → Type 0
+  IsTold ps m v = HostedIsTold r ps m v
+
+  -- what it is told takes it to what comes next
+  on_to : (ps : List SeatedPass) (old m : ReadRun R) (next : ReadNext) (v : ℕ) → IsSameRead means old (placed m next) → ((h : History) → IsRun TreeAllows r.call.layout h → ReadIsReady means old r.call h (Some v) → MayGoOn means r.call h m next) → IsTold ps old v → ReaderWaits r ps m next
+  on_to ps old m next v is know x = told_on r ps old (placed m next) (Some v) (Ask (next_step m next)) is (λ h run y. next_waits means m r.call h next (know h run y)) x
+
+  -- what it is told fits the taken nodes
+  pub told_fits : (ps : List SeatedPass) (m : ReadRun R) (v : ℕ) → IsTold ps m v → ReadFits means m (Some v) (shared_nodes o.layout)
+  told_fits ps m v x = read_told means m r.call _ (Some v) (shared_nodes o.layout) (r.runs _ x.sound) (r.tells m _ (Some v) x.so.0) (few_taken o.allows o.layout r.call _ r.is_layout x.sound)
+
+  -- Behind its loads: the read has gone on
+  module _ (m : ReadRun R) (read : R) (same : means.call read ≡ means.call m.read) where
+    abbrev now : ReadRun R
+    now = record m { read = read }
+
+    reads_on : (c : Call) (h : History) → ReadGoes means m c h → ReadGoes means now c h
+    reads_on c h x = record { reads = x.reads; suits = rw same x.suits }
+
+    is_same : IsSameRead means m now
+    is_same = (same, refl, omega arith, omega arith)
+
+    -- what is known then of what comes next, at its node
+    abbrev Knows : ReadNext → ((h : History) → Type 0) → ℕ → Type 0
+    Knows next known n = (snaps : List Snap) (c : Call) (h : History) → IsReading means m.read snaps c h → IsOwnMoment c h → Stands means m.read snaps c h n → known h → MayDo means read snaps c h next
+
+    pub root_goes_on : (ps : List SeatedPass) (v : ℕ) (next : ReadNext) → Knows next (λ h. head_at h 0 ≡ head_of v) 0 → IsTold ps (at_root m) v → ReaderWaits r ps now next
+    root_goes_on ps v next goes = on_to ps (at_root m) now next v is_same (λ h run y. let c = begun_at r.call y.0 in (y.0, y.1, (reads_on c h y.2, goes m.snaps.items c h y.2 y.3 y.4.0 (ap head_of y.4.1))))
+
+    pub head_goes_on : (ps : List SeatedPass) (above : ℕ) (n : NodeNo) (v : ℕ) (next : ReadNext) → Knows next (λ h. head_at h n.0 ≡ head_of v) n.0 → IsTold ps (placed m (HeadNext above n)) v → ReaderWaits r ps now next
+    head_goes_on ps above n v next goes = on_to ps (placed m (HeadNext above n)) now next v is_same (λ h run y. let c = begun_at r.call y.0 in (y.0, y.1, (reads_on c h y.2, goes m.snaps.items c h y.2 y.3 y.4.0 (ap head_of y.4.2))))
+
+    pub key_goes_on : (ps : List SeatedPass) (head : HeadParts) (n : NodeNo) (v : ℕ) (next : ReadNext) → ((snaps : List Snap) (c : Call) (h : History) → IsReading means m.read snaps c h → IsOwnMoment c h → Stands means m.read snaps c h n.0 → HasLowHead h n.0 head → key_at h n.0 ≡ v → MayDo means read snaps c h next) → IsTold ps (placed m (KeyNext head n)) v → ReaderWaits r ps now next
+    key_goes_on ps head n v next goes = on_to ps (placed m (KeyNext head n)) now next v is_same (λ h run y. let c = begun_at r.call y.0 in (y.0, y.1, (reads_on c h y.2, goes m.snaps.items c h y.2 y.3 y.4.0 y.4.1 y.4.2)))
+
+    -- what is known once it has taken a pair
+    abbrev Takes : Result ReadNext Refused → ℕ → ℕ → Type 0
+    Takes next key v = (snaps : List Snap) (c : Call) (h : History) (n : ℕ) → IsReading means m.read snaps c h → IsOwnMoment c h → HasKey means m.read snaps c h n key → value_at h n ≡ v → GoesOnSo means read snaps c h next
+
+    pub value_goes_on : (ps : List SeatedPass) (key : ℕ) (n : NodeNo) (v : ℕ) (next : ReadNext) → Takes (Ok next) key v → IsTold ps (placed m (ValueNext key n)) v → ReaderWaits r ps now next
+    value_goes_on ps key n v next goes = on_to ps (placed m (ValueNext key n)) now next v is_same (λ h run y. let c = begun_at r.call y.0 in (y.0, y.1, (reads_on c h y.2, goes m.snaps.items c h n.0 y.2 y.3 y.4.0 y.4.1)))
+
+    pub value_last : (ps : List SeatedPass) (key : ℕ) (n : NodeNo) (v : ℕ) (a : Refused) → Takes (Err a) key v → IsTold ps (placed m (ValueNext key n)) v → ReaderEnds r ps now (Err a)
+    value_last ps key n v a goes x = told_on r ps (placed m (ValueNext key n)) now (Some v) (Done (Err a)) is_same
+        (λ h run y. let c = begun_at r.call y.0 in ends_refused means now r.call y.0 h a m.tries y.1 (reads_on c h y.2, goes m.snaps.items c h n.0 y.2 y.3 y.4.0 y.4.1)) x
+
+    -- and has fewer steps left
+    some_left : (c : Call) (h : History) (next : ReadNext) (nodes n : ℕ) → MayDo means read m.snaps.items c h next → ComesNearer means read nodes next n → 0 < length m.snaps.items + n
+    some_left c h (HeadNext above l) nodes n y e = let i = e.0 in let j = e.1 in omega (arith, i, j)
+    some_left c h (KeyNext head l) nodes n y e = let i = e.0 in let j = e.1 in omega (arith, i, j)
+    some_left c h (ValueNext key l) nodes n y e = let j = e.1 in omega (arith, j)
+    some_left c h (LookNext children level l) nodes n y e = let j = e.1 in omega (arith, j)
+    some_left c h ValidateNext nodes n y e = let i = y.some in omega (arith, i)
+
+    lighter : (c : Call) (h : History) (next : ReadNext) (nodes n : ℕ) → MayDo means read m.snaps.items c h next → ComesNearer means read nodes next n → read_left means (placed now next) nodes < tries_left means m nodes + (length m.snaps.items + n)
+    lighter c h next nodes n may near = subst (λ k. read_left means (placed now next) nodes < m.tries * means.try_left k nodes + (length m.snaps.items + n)) same (placed_nearer means now next nodes (length m.snaps.items + n) (some_left c h next nodes n may near) (near.0, (let i = near.1 in omega (arith, i))))
+
+    pub root_lighter : (ps : List SeatedPass) (v : ℕ) (next : ReadNext) → Knows next (λ h. head_at h 0 ≡ head_of v) 0 → ((nodes : ℕ) → HeadFits (head_of v) nodes → ComesNearer means read nodes next (67 * (2 + nodes - (head_of v).level) - 1 + means.behind m.read nodes)) → IsTold ps (at_root m) v → read_left means (placed now next) (shared_nodes o.layout) < read_left means (at_root m) (shared_nodes o.layout)
+    root_lighter ps v next goes near x =
+        let y = r.tells (at_root m) _ (Some v) x.so.0 in
+        let c = begun_at r.call y.0 in
+        let f = told_fits ps (at_root m) v x in
+        let i = f.0 in
+        let p = lighter c _ next (shared_nodes o.layout) _ (goes m.snaps.items c _ y.2 y.3 y.4.0 (ap head_of y.4.1)) (near (shared_nodes o.layout) f) in
+        omega (arith, i, p)
+
+    pub head_lighter : (ps : List SeatedPass) (above : ℕ) (n : NodeNo) (v : ℕ) (next : ReadNext) → Knows next (λ h. head_at h n.0 ≡ head_of v) n.0 → ((nodes : ℕ) → HeadFits (head_of v) nodes → ComesNearer means read nodes next (67 * (2 + nodes - (head_of v).level) - 1 + means.behind m.read nodes)) → IsTold ps (placed m (HeadNext above n)) v → read_left means (placed now next) (shared_nodes o.layout) < read_left means (placed m (HeadNext above n)) (shared_nodes o.layout)
+    head_lighter ps above n v next goes near x =
+        let y = r.tells (placed m (HeadNext above n)) _ (Some v) x.so.0 in
+        let c = begun_at r.call y.0 in
+        let f = told_fits ps (placed m (HeadNext above n)) v x in
+        let a = f.0 in let b = f.1.0 in
+        let p = lighter c _ next (shared_nodes o.layout) _ (goes m.snaps.items c _ y.2 y.3 y.4.0 (ap head_of y.4.2)) (near (shared_nodes o.layout) f.1) in
+        omega (arith, a, b, p)
+
+    pub key_lighter : (ps : List SeatedPass) (head : HeadParts) (n : NodeNo) (v : ℕ) (next : ReadNext) → ((snaps : List Snap) (c : Call) (h : History) → IsReading means m.read snaps c h → IsOwnMoment c h → Stands means m.read snaps c h n.0 → HasLowHead h n.0 head → key_at h n.0 ≡ v → MayDo means read snaps c h next) → ((nodes : ℕ) → HeadFits head nodes → ComesNearer means read nodes next (67 * (2 + nodes - head.level) - 2 + means.behind m.read nodes)) → IsTold ps (placed m (KeyNext head n)) v → read_left means (placed now next) (shared_nodes o.layout) < read_left means (placed m (KeyNext head n)) (shared_nodes o.layout)
+    key_lighter ps head n v next goes near x =
+        let y = r.tells (placed m (KeyNext head n)) _ (Some v) x.so.0 in
+        let c = begun_at r.call y.0 in
+        let f = told_fits ps (placed m (KeyNext head n)) v x in
+        let b = f.0 in
+        let p = lighter c _ next (shared_nodes o.layout) _ (goes m.snaps.items c _ y.2 y.3 y.4.0 y.4.1 y.4.2) (near (shared_nodes o.layout) f) in
+        omega (arith, b, p)
+
+    pub value_lighter : (ps : List SeatedPass) (key : ℕ) (n : NodeNo) (v : ℕ) (next : ReadNext) → Takes (Ok next) key v → ((nodes : ℕ) → ComesNearer means read nodes next (means.behind m.read nodes)) → IsTold ps (placed m (ValueNext key n)) v → read_left means (placed now next) (shared_nodes o.layout) < read_left means (placed m (ValueNext key n)) (shared_nodes o.layout)
+    value_lighter ps key n v next goes near x =
+        let y = r.tells (placed m (ValueNext key n)) _ (Some v) x.so.0 in
+        let c = begun_at r.call y.0 in
+        lighter c _ next (shared_nodes o.layout) _ (goes m.snaps.items c _ n.0 y.2 y.3 y.4.0 y.4.1) (near (shared_nodes o.layout))
+
+  -- It looks
+  module _ (m : ReadRun R) (children : Children) (level : ℕ) where
+    abbrev at : LlxRun → ReadRun R
+    at llx = record m { at = Look children level llx }
+
+    pub looker : Looker TreeAllows o
+    looker = record {
+      call = r.call;
+      is_layout = r.is_layout;
+      is_number = r.is_number;
+      first = r.first;
+      with_run = λ llx. r.with_run (at llx);
+      tells = λ llx h v run x. let y = r.tells (at llx) h (Some v) x in (begun_at (begun_at r.call y.0) y.4.1.0, (r.runs h run, y.4.1.2));
+      turns = λ llx now h v s node turn run x.
+          let y = r.tells (at llx) h (Some v) x in
+          r.turns (at llx) (at now) h (Some v) s (itself means (at llx)) x (
+            y.0,
+            y.1,
+            y.2,
+            (
+              subst (λ (k : NodeNo). Looks means m.read m.snaps.items (begun_at r.call y.0) h children level k.0) (sym node) y.4.0,
+              (y.4.1.0, y.4.1.1, turn (begun_at (begun_at r.call y.0) y.4.1.0) (r.runs h run, y.4.1.2)),
+            ),
+          );
+      stays = λ llx now node. r.stays (at llx) (at now) (itself means (at llx));
+    }
+
+    -- it begins to look
+    pub begins_look : (ps : List SeatedPass) (n : NodeNo) → ReaderWaits r ps m (LookNext children level n) → InnerWaits looker ps (llx_at n Marked) (load LoadMarked (marked n.0))
+    unfolding looker
+    begins_look ps n x = x
+
+    -- with the snapshot it goes on as its turn says
+    looked : (ps : List SeatedPass) (now : ReadRun R) (n : NodeNo) (snap : Snap) (turn : Turn (Result A Refused)) → IsSameRead means m now
+        → ((begin h : History) → IsInTry r.call h begin m.limit m.tries → ReadGoes means m (begun_at r.call begin) h → Looks means m.read m.snaps.items (begun_at r.call begin) h children level snap.node.0 → IsSnapshot r.call.layout h snap.node.0 snap → MatchTurn turn (ReadWaits means now r.call h) (ReadAnswers means now r.call h))
+        → LookerSnaps looker ps n snap → HostedStands r ps now turn
+    unfolding looker
+    looked ps now n snap turn is goes x = told_on r ps (at x.last) now (Some x.told) turn (either_turn turn is) next x.so
+      where
+        here : x.last.node ≡ snap.node
+        here = x.is_node ∙ sym x.of_node
+
+        next : (h : History) → IsRun TreeAllows r.call.layout h → ReadIsReady means (at x.last) r.call h (Some x.told) → MatchTurn turn (ReadWaits means now r.call h) (ReadAnswers means now r.call h)
+        next h run y =
+            goes y.0 h y.1 y.2 (subst (λ (k : NodeNo). Looks means m.read m.snaps.items (begun_at r.call y.0) h children level k.0) here y.4.0)
+            (subst (λ (k : NodeNo). IsSnapshot r.call.layout h k.0 snap) (sym x.of_node) (x.snaps (begun_at (begun_at r.call y.0) y.4.1.0) h run y.4.1.2))
+
+    -- what is known of the run that keeps the snapshot
+    abbrev Keeps : ReadRun R → Snap → Result ReadNext Refused → Type 0
+    Keeps now snap next = (c : Call) (h : History) → IsReading means m.read m.snaps.items c h → Looks means m.read m.snaps.items c h children level snap.node.0 → IsSnapshot c.layout h snap.node.0 snap → GoesOn means c h now next
+
+    pub looks_on : (ps : List SeatedPass) (now : ReadRun R) (n : NodeNo) (snap : Snap) (next : ReadNext) → now.tries ≡ m.tries → IsSameRead means m now → Keeps now snap (Ok next) → LookerSnaps looker ps n snap → ReaderWaits r ps now next
+    looks_on ps now n snap next tries is goes = looked ps (placed now next) n snap (Ask (next_step now next)) is (λ begin h try g l s. next_waits means now r.call h next (begin, rw (is.1, tries) try, goes (begun_at r.call begin) h g l s))
+
+    pub looks_last : (ps : List SeatedPass) (now : ReadRun R) (n : NodeNo) (snap : Snap) (a : Refused) → IsSameRead means m now → Keeps now snap (Err a) → LookerSnaps looker ps n snap → ReaderEnds r ps now (Err a)
+    looks_last ps now n snap a is goes = looked ps now n snap (Done (Err a)) is (λ begin h try g l s. ends_refused means now r.call begin h a m.tries (rw is.1 try) (goes (begun_at r.call begin) h g l s))
+
+    -- its fork is no deeper than the taken nodes allow
+    pub level_fits : (ps : List SeatedPass) (n : NodeNo) (snap : Snap) → LookerSnaps looker ps n snap → level + 1 < 2 + shared_nodes o.layout
+    unfolding looker
+    level_fits ps n snap x = told_fits ps (at x.last) x.told x.so
+
+    -- where something is in the way, it stands there
+    pub looks_again : (ps : List SeatedPass) (n : NodeNo) (b : Bool) (scx : ScxNo) → InnerWaits looker ps (llx_at n (StateAgain b scx)) (load LoadState (state scx.0)) → ReaderLooksAgain r ps m children level n b scx
+    unfolding looker
+    looks_again ps n b scx x = x
+
+  -- It validates these snapshots
+  module _ (m : ReadRun R) (snaps : List Snap) (e : snaps ≡ m.snaps.items) where
+    abbrev asking : ℕ → ReadRun R
+    asking n = record m { at = Validate n }
+
+    pub validator : Validator o snaps
+    validator = record {
+      call = r.call;
+      is_layout = r.is_layout;
+      is_number = r.is_number;
+      first = r.first;
+      with_run = λ n. r.with_run (asking n);
+      tells = λ n h v run x. let y = r.tells (asking n) h (Some v) x in (begun_at (begun_at r.call y.0) y.4.0, (y.2.reads.run.1.lawful, subst (λ (l : List Snap). VlxIsTold l n (begun_at (begun_at r.call y.0) y.4.0) h v) (sym e) y.4.2));
+      turns = λ old now h v s is turn run x.
+          let y = r.tells (asking old) h (Some v) x in
+          let b = y.4.0 in let d = begun_at (begun_at r.call y.0) b in
+          r.turns (asking old) (asking now) h (Some v) s (itself means (asking old)) x (
+            y.0,
+            y.1,
+            y.2,
+            (b, y.4.1, subst (λ (l : List Snap). VlxWaits l now d h s) e (turn d (y.2.reads.run.1.lawful, subst (λ (l : List Snap). VlxIsTold l old d h v) (sym e) y.4.2))),
+          );
+      stays = λ old now is. r.stays (asking old) (asking now) (itself means (asking old));
+    }
+
+    pub begins_vlx : (ps : List SeatedPass) → ReaderWaits r ps m ValidateNext → InnerWaits validator ps 1 (load LoadInfo (info (snap_at snaps 0).node.0))
+    unfolding validator
+    begins_vlx ps x = subst (λ (l : List Snap). HostedWaits r ps (asking 1) (load LoadInfo (info (snap_at l 0).node.0))) (sym e) x
+
+    pub told_vlx : (ps : List SeatedPass) (n v : ℕ) → InnerIsTold validator ps n v → IsTold ps (asking n) v
+    unfolding validator
+    told_vlx ps n v x = x
+
+    -- where the last info was what its snapshot found, what it has read is its answer
+    pub answers_found : (ps : List SeatedPass) (now : ReadRun R) (n asked v : ℕ) (answer : A) → means.call now.read ≡ means.call m.read → now.limit ≡ m.limit → now.tries ≡ m.tries → means.told answer ≡ means.found m.read → suc n ≡ asked → (snap_at snaps n).scx.0 ≡ v → asked ≡ length snaps → InnerIsTold validator ps asked v → ReaderEnds r ps now (Ok answer)
+    unfolding validator
+    answers_found ps now n asked v answer call limit tries tells is found all x = told_on r ps (asking asked) now (Some v) (Done (Ok answer)) (call, limit, omega (arith, tries), omega (arith, tries)) ends x
+      where
+        same : (d : Call) (h : History) → IsRun TreeAllows d.layout h → VlxIsTold m.snaps.items asked d h v → VlxAnswers m.snaps.items d h Same
+        same d h run y = all_same d h m.snaps.items run.lawful
+            (subst (λ (k : ℕ). HasFoundUnchanged d h m.snaps.items k) (all ∙ ap length e) (looked_on d h m.snaps.items asked n v run.lawful y is (subst (λ (l : List Snap). (snap_at l n).scx.0 ≡ v) e found)))
+
+        ends : (h : History) → IsRun TreeAllows r.call.layout h → ReadIsReady means (asking asked) r.call h (Some v) → ReadAnswers means now r.call h (Ok answer)
+        ends h run y = answers_right means m r.call y.0 y.4.0 h y.2 y.4.1 (Done Same) asked now answer (same (begun_at r.call y.4.0) h y.2.reads.run.1 y.4.2) refl y.1 call limit tells
+
+    pub some_snap : (ps : List SeatedPass) → ReaderWaits r ps m ValidateNext → 0 < length snaps
+    some_snap ps x = let w = r.opens (placed m ValidateNext) _ _ x.so.0 in let i = w.3.2.looks.within in rw e (omega (arith, i))
+
+  -- It walks to a key
+  module _ (m : ReadRun R) (key : ℕ) (to : WalksTo means m.read key) where
+    abbrev walking : WalkRun → NodeNo → ReadRun R
+    walking walk turn = record m { at = Walk walk turn }
+
+    pub walker : Walker o
+    walker = record {
+      call = r.call;
+      is_layout = r.is_layout;
+      is_number = r.is_number;
+      first = r.first;
+      with_run = λ w. r.with_run (walking w.0 w.1);
+      tells = λ w h v run x. let y = r.tells (walking w.0 w.1) h (Some v) x in (begun_at r.call y.0, y.4.1);
+      turns = λ old now h v s goes next run x.
+          let y = r.tells (walking old.0 old.1) h (Some v) x in
+          let w = y.4.0 in
+          let turned = last_turn now.0.at now.0.trail.node old.1 in
+          subst (λ (t : NodeNo). o.waits (r.with_run (walking now.0 t)) r.call h s) (sym goes.2) (r.turns (walking old.0 old.1) (walking now.0 turned) h (Some v) s (itself means m) x
+          (walk_waits means m old.0 now.0 old.1 r.call y.0 h y.1 y.2 w.key w.goal w.goes_to w.last goes.1 s goes.0 (next (begun_at r.call y.0) y.4.1)));
+      stays = λ old now goes. r.stays (walking old.0 old.1) (walking now.0 now.1) (itself means m);
+    }
+
+    -- it begins its walk, with no snapshot
+    pub walks : (ps : List SeatedPass) (old : ReadRun R) → IsSameRead means old m → m.tries ≡ old.tries → m.snaps.items ≡ [] → ReaderBegins r ps old → WalkerWaits walker ps (walk_from (ToKey key)) record { 0 = 0 } (load LoadSettled (node 0 (Settled HeadWord)))
+    unfolding walker
+    walks ps old is tries none x = told_on r ps old (walking (walk_from (ToKey key)) record { 0 = 0 }) None (Ask (load LoadSettled (node 0 (Settled HeadWord)))) is
+        (λ h run y. begins_walk means m old (walking (walk_from (ToKey key)) record { 0 = 0 }) r.call r.call.start h (Ask (load LoadSettled (node 0 (Settled HeadWord)))) is tries none y.2 y.0 (walk_from (ToKey key)) key refl refl to refl refl) x
+
+    -- behind the leaf that it finds it looks at the last fork where it has turned left
+    pub walk_looks : (ps : List SeatedPass) (f : Found) (turn : NodeNo) → WalkerFinds walker ps (ToKey key) turn f → ReaderWaits r ps m (LookNext Both 0 turn)
+    unfolding walker
+    walk_looks ps f turn x = on_to ps (walking x.last turn) m (LookNext Both 0 turn) x.told (itself means m)
+        (λ h run y. let c = begun_at r.call y.0 in let w = y.4.0 in (y.0, y.1, (y.2, walk_found means m.read m.snaps.items c h y.2 w.key turn.0 f w.goes_to w.last (subst (λ g. HasFoundGoal g c h f) (sym x.is_goal ∙ w.goal) (x.finds c h y.4.1))))) x.so
+
+  -- A try that has begun otherwise
+  module _ (ps : List SeatedPass) (old m : ReadRun R) (is : IsSameRead means old m) where
+    -- with the load of the root's head
+    pub roots : m.tries ≡ old.tries → m.snaps.items ≡ [] → BeginsAtRoot means m.read → ReaderBegins r ps old → ReaderRoots r ps m
+    roots tries none from x = told_on r ps old (at_root m) None (Ask (load LoadSettled (node 0 (Settled HeadWord)))) is
+        (λ h run y. begins_root means m old (at_root m) r.call r.call.start h (Ask (load LoadSettled (node 0 (Settled HeadWord)))) is tries none y.2 y.0 from refl refl) x
+
+    -- or ended, with nothing to be found
+    pub ends_at_once : (answer : A) → BeginsSo means m.read (Answer answer) → ReaderBegins r ps old → ReaderEnds r ps m (Ok answer)
+    ends_at_once answer all x = told_on r ps old m None (Done (Ok answer)) is (λ h run y. answers_all means m old r.call r.call.start h is y.2 y.0 answer all) x
+
+-- What a try takes with which it begins
+module _ {R A : Type 0} (means : ReadMeaning R A) (old m : ReadRun R) (is : IsSameRead means old m) (tries : m.tries ≡ old.tries) (none : m.snaps.items ≡ []) (at : old.at ≡ Start) (nodes before after : ℕ) where
+  in_try : after ≤ before + (tries_left means m nodes + run_try_left means m nodes) → after ≤ before + read_left means old nodes
+  in_try few =
+      subst (λ a. after ≤ before + (tries_left means old nodes + phase_left means old nodes a)) (sym at)
+      (subst (λ n. after ≤ before + n) (λ i. tries i * means.try_left (is.0 i) nodes + means.try_left (is.0 i) nodes) few)
+
+  -- its walk, and the rest
+  pub walk_in_try : (turn : NodeNo) (key mid : ℕ) → BeginsNear means m.read nodes (Walking key) → mid ≤ before + 3 * (2 + nodes) → after ≤ mid + suc (read_left means (placed m (LookNext Both 0 turn)) nodes) → after ≤ before + read_left means old nodes
+  walk_in_try turn key mid near walks rest = in_try (let e = ap length none in omega (arith, e, near, walks, rest))
+
+  -- or all from the root on
+  pub root_in_try : BeginsNear means m.read nodes AtRoot → after ≤ before + suc (root_left means m nodes) → after ≤ before + read_left means old nodes
+  root_in_try near rest = in_try (let e = ap length none in omega (arith, e, near, rest))

@@ -12,7 +12,7 @@ use Rattle.arena.specs.Heads.{head_of}
 use Rattle.arena.specs.History.{History}
 use Rattle.arena.specs.Machines.{Call}
 use Rattle.arena.specs.Words.{node, first_key, first_value}
-use Rattle.order.specs.Successor.Steps.{last_turn}
+use Rattle.order.specs.Steps.{last_turn}
 use Rattle.prims.specs.Llx.Known.{load}
 use Rattle.template.specs.FoundLeaf.{asked_key, path_key}
 use Rattle.template.specs.Walk.Known.{WalkIsTold, WalkWaits, asks_key}

@@ -10,7 +10,7 @@ use Rattle.arena.specs.declared.word.SettledPart.TheVariants.{Head as HeadWord}
 use Rattle.arena.specs.declared.word.Side.{Side}
 use Rattle.arena.specs.Words.{child, node}
 use Rattle.prims.specs.Llx.Known.{load}
-use Rattle.order.specs.Successor.Steps.{last_turn}
+use Rattle.order.specs.Steps.{last_turn}
 use Rattle.template.specs.FoundLeaf.{HasFoundGoal}
 use Rattle.template.specs.Walk.Known.{WalkIsTold, WalkWaits}
 use Rattle.template.specs.Walk.Places.{IsPastRoot, walk_at, walk_from}

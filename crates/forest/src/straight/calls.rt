@@ -9,15 +9,16 @@ ghost use Rattle.ordered_map.specs.Requests.{as_map_call};
 ghost use Rattle.dict.specs.Translated.{HasFormOf, IsTranslated};
 ghost use Rattle.dict.specs.WordReplies.{edit_reply, goal_reply, range_reply, successor_reply};
 ghost use Rattle.dict.specs.Words.{IsValidReply};
-ghost use Rattle.order.specs.Range.Steps.{range_left, range_try_left};
-ghost use Rattle.order.specs.declared.range.RangeAt.{RangeAt};
+ghost use Rattle.order.specs.Range.{range_means, range_try_left};
+ghost use Rattle.order.specs.Steps.{read_left};
+ghost use Rattle.order.specs.declared.run.ReadAt.{ReadAt};
 ghost use Rattle.forest.specs.Hands.{IsAt, IsCallOf};
 ghost use Rattle.forest.specs.Seats.{StaysAtTable};
 ghost use Rattle.forest.specs.Traces.{seat_steps, shared_nodes};
 ghost use Rattle.forest.specs.StraightCalls.{CallHasEnded, SeatCallBegins};
 
 use crate::straight::hand::Hand;
-use crate::straight::{range, successor, update};
+use crate::straight::{ordered_read, update};
 use crate::view::SeatView;
 use arena::Share;
 use atomic_table::Seat;
@@ -26,7 +27,7 @@ use dict::{
     value_of,
 };
 use edits::{UpdateRun, Updated};
-use order::{RangeRun, Refused, SuccessorRun};
+use order::{Range, RangeRun, Refused, Successor};
 use ordered_map::Pair;
 use std::alloc::Global;
 use template::Goal;
@@ -119,20 +120,20 @@ fn of_range<K: WordKey, V: WordValue>(
 /// filled.
 #[inline(always)]
 fn range_run(alloc: Global, low: u64, high: u64, most: usize, tries: u32) -> RangeRun
-    ensures low { result.low ≡ low }
-    ensures high { result.high ≡ high }
-    ensures most { result.most ≡ most }
-    ensures start { result.at ≡ RangeAt.Start }
+    ensures low { result.read.low ≡ low }
+    ensures high { result.read.high ≡ high }
+    ensures most { result.read.most ≡ most }
+    ensures start { result.at ≡ ReadAt.Start }
     ensures snaps { result.snaps.items ≡ [] }
     ensures limit { result.limit ≡ tries }
     ensures tries { result.tries ≡ tries - 1 }
-    ensures bound { (nodes : ℕ) → 0 < tries → range_left result nodes ≤ tries * range_try_left most nodes }
+    ensures bound { (nodes : ℕ) → 0 < tries → read_left range_means result nodes ≤ tries * range_try_left most nodes }
 {
-    let mut run = RangeRun::new(alloc, low, high, most, tries);
+    let mut run = Range::run(alloc, low, high, most, tries);
     let pairs = most.min(64);
-    let _ = run.taken.reserve(pairs);
+    let _ = run.read.taken.reserve(pairs);
     let _ = run.snaps.reserve(pairs + DEEP);
-    let _ = run.waiting.reserve(DEEP);
+    let _ = run.read.waiting.reserve(DEEP);
     run
 }
 
@@ -162,14 +163,16 @@ pub(crate) fn read<K: WordKey, V: WordValue>(
     match request {
         Request::Successor { key } => {
             key.valid();
-            let mut run = SuccessorRun::new(alloc, key.word(), tries);
-            let told = successor::call::<Dict<K, V>, DictRun<K, V>>(hand, seat, &mut run);
+            let mut run = Successor::run(alloc, key.word(), tries);
+            let told = ordered_read::call::<Dict<K, V>, DictRun<K, V>, Successor>(
+                hand, seat, &mut run,
+            );
             of_successor(told)
         }
         Request::Range { low, high, most } => {
             high.valid();
             let mut run = range_run(alloc, low.word(), high.word(), most as usize, tries);
-            let told = range::call::<Dict<K, V>, DictRun<K, V>>(hand, seat, &mut run);
+            let told = ordered_read::call::<Dict<K, V>, DictRun<K, V>, Range>(hand, seat, &mut run);
             of_range(alloc, told)
         }
         // Never: its callers make ordered reads alone, by the clause `ordered`.

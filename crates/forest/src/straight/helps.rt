@@ -1,5 +1,6 @@
 //! HELP, of whatever machine helps: its steps in line.
 ghost use Rattle.std.specs.Prelude.{◌≡◌, ◌≢◌, ◌+◌, ◌≤◌, ◌<◌, ◌⊎◌, ℕ, suc, true, false};
+ghost use Rattle.arena.specs.Layout.{scx_start};
 ghost use Rattle.arena.specs.ScxRecords.{raw_count};
 ghost use Rattle.arena.specs.MemberIndex.{member_index};
 ghost use Rattle.help.specs.Help.Steps.{help_left};
@@ -12,7 +13,7 @@ ghost use Rattle.forest.specs.StraightHelp.{Helper, HelperMarks, LoadsPlan, Load
 ghost use Rattle.forest.specs.Inside.{InnerIsTold, InnerWaits};
 
 use crate::straight::hand::Hand;
-use crate::straight::step::step;
+use crate::straight::step::step_from;
 use crate::view::SeatView;
 use arena::{
     Access, COMMITTED, Kind, Machine, MemberIndex, NodeNo, NodeWord, Plan, ScxNo, ScxWord, Shape,
@@ -21,36 +22,66 @@ use arena::{
 use atomic_table::Seat;
 use help::{HelpAt, HelpRun};
 
-/// Makes the step that a HELP waits for.
+/// Makes the step that a HELP waits for, on a word of a node.
 #[inline(always)]
 fn act<S: Shape, M: Machine<S>, T: Shape>(
     hand: Hand<S>,
     seat: &mut Seat<u8, SeatView>,
+    node: NodeNo,
+    part: NodeWord,
     kind: Kind,
-    word: Word,
     access: Access,
 ) -> u64
     requires table { IsAt hand seat.old }
     requires waits { (k : Helper T.allows (hand_calls S.Shape M.Machine hand)) × (m : HelpRun)
-        × InnerWaits k seat.old.me.0.passes m record { kind = kind; word = word; access = access } }
+        × InnerWaits k seat.old.me.0.passes m record { kind = kind; word = Word.Node node part; access = access } }
     ensures table { StaysAtTable seat.old seat.new }
     ensures one { seat_steps seat.new.me.0.passes ≡ suc (seat_steps seat.old.me.0.passes) }
     ensures told { (k : Helper T.allows (hand_calls S.Shape M.Machine hand.entry)) (m : HelpRun)
-        → InnerWaits k seat.old.me.0.passes m record { kind = kind; word = word; access = access }
+        → InnerWaits k seat.old.me.0.passes m record { kind = kind; word = Word.Node node part; access = access }
         → InnerIsTold k seat.new.me.0.passes m result }
 {
-    step::<S, M>(hand, seat, Step { kind, word, access })
+    let start = hand.layout.node_start(node);
+    let word = Word::Node(node, part);
+    step_from::<S, M>(hand, seat, Step { kind, word, access }, start)
 }
 
-/// Loads a settled word of the SCX-record.
+/// Makes the step that a HELP waits for, on a word of the SCX-record, which begins there.
+#[inline(always)]
+fn act_on<S: Shape, M: Machine<S>, T: Shape>(
+    hand: Hand<S>,
+    seat: &mut Seat<u8, SeatView>,
+    scx: ScxNo,
+    start: usize,
+    part: ScxWord,
+    kind: Kind,
+    access: Access,
+) -> u64
+    requires table { IsAt hand seat.old }
+    requires start { start ≡ scx_start hand.layout.now scx }
+    requires waits { (k : Helper T.allows (hand_calls S.Shape M.Machine hand)) × (m : HelpRun)
+        × InnerWaits k seat.old.me.0.passes m record { kind = kind; word = Word.Scx scx part; access = access } }
+    ensures table { StaysAtTable seat.old seat.new }
+    ensures one { seat_steps seat.new.me.0.passes ≡ suc (seat_steps seat.old.me.0.passes) }
+    ensures told { (k : Helper T.allows (hand_calls S.Shape M.Machine hand.entry)) (m : HelpRun)
+        → InnerWaits k seat.old.me.0.passes m record { kind = kind; word = Word.Scx scx part; access = access }
+        → InnerIsTold k seat.new.me.0.passes m result }
+{
+    let word = Word::Scx(scx, part);
+    step_from::<S, M>(hand, seat, Step { kind, word, access }, start)
+}
+
+/// Loads a settled word of the SCX-record, which begins there.
 #[inline(always)]
 fn read<S: Shape, M: Machine<S>, T: Shape>(
     hand: Hand<S>,
     seat: &mut Seat<u8, SeatView>,
     scx: ScxNo,
+    start: usize,
     part: ScxWord,
 ) -> u64
     requires table { IsAt hand seat.old }
+    requires start { start ≡ scx_start hand.layout.now scx }
     requires waits { (k : Helper T.allows (hand_calls S.Shape M.Machine hand)) × (m : HelpRun)
         × InnerWaits k seat.old.me.0.passes m (settled_load scx.0 part) }
     ensures table { StaysAtTable seat.old seat.new }
@@ -59,8 +90,8 @@ fn read<S: Shape, M: Machine<S>, T: Shape>(
         → InnerWaits k seat.old.me.0.passes m (settled_load scx.0 part)
         → InnerIsTold k seat.new.me.0.passes m result }
 {
-    let (kind, word) = (Kind::LoadSettled, Word::Scx(scx, part));
-    act::<S, M, T>(hand, seat, kind, word, Access::Load)
+    let (kind, access) = (Kind::LoadSettled, Access::Load);
+    act_on::<S, M, T>(hand, seat, scx, start, part, kind, access)
 }
 
 /// Whether an info that a freezing exchange found so is frozen now.
@@ -72,16 +103,18 @@ fn is_frozen(found: u64, seen: u64, scx: ScxNo) -> bool
     found == seen || found == scx.0
 }
 
-/// Freezes the node of this place of an SCX-record whose plan has been read; tells whether it is
-/// frozen.
+/// Freezes the node of this place of an SCX-record that begins there and whose plan has been read;
+/// tells whether it is frozen.
 #[inline(always)]
 fn freeze<S: Shape, M: Machine<S>, T: Shape>(
     hand: Hand<S>,
     seat: &mut Seat<u8, SeatView>,
+    start: usize,
     run: &mut HelpRun,
     j: MemberIndex,
 ) -> bool
     requires table { IsAt hand seat.old }
+    requires start { start ≡ scx_start hand.layout.now run.old.scx }
     requires waits { (k : Helper T.allows (hand_calls S.Shape M.Machine hand)) × LoadsMember k seat.old.me.0.passes run.old j }
     ensures table { StaysAtTable seat.old seat.new }
     ensures steps { seat_steps seat.new.me.0.passes ≡ seat_steps seat.old.me.0.passes + 3 }
@@ -101,17 +134,25 @@ fn freeze<S: Shape, M: Machine<S>, T: Shape>(
         → LoadsFlag k seat.new.me.0.passes run.new }
 {
     let scx = run.scx;
-    let part = ScxWord::Member(j.number());
-    let member = read::<S, M, T>(hand, seat, scx, part);
-    run.members[j.index()] = NodeNo(member);
-    let part = ScxWord::Seen(j.number());
-    let seen = read::<S, M, T>(hand, seat, scx, part);
-    let info = Word::Node(run.members[j.index()], NodeWord::Info);
+    let number = j.number();
+    let part = ScxWord::Member(number);
+    let member = read::<S, M, T>(hand, seat, scx, start, part);
+    let index = j.index();
+    run.members[index] = NodeNo(member);
+    let part = ScxWord::Seen(number);
+    let seen = read::<S, M, T>(hand, seat, scx, start, part);
     let freeze = Access::Exchange {
         expected: seen,
         new: scx.0,
     };
-    let found = act::<S, M, T>(hand, seat, Kind::Freeze, info, freeze);
+    let found = act::<S, M, T>(
+        hand,
+        seat,
+        run.members[index],
+        NodeWord::Info,
+        Kind::Freeze,
+        freeze,
+    );
     if !is_frozen(found, seen, scx) {
         run.at = HelpAt::AllFrozen { j, found };
         return false;
@@ -124,9 +165,11 @@ fn freeze<S: Shape, M: Machine<S>, T: Shape>(
 fn freeze_all<S: Shape, M: Machine<S>, T: Shape>(
     hand: Hand<S>,
     seat: &mut Seat<u8, SeatView>,
+    start: usize,
     run: &mut HelpRun,
 ) -> bool
     requires table { IsAt hand seat.old }
+    requires start { start ≡ scx_start hand.layout.now run.old.scx }
     requires waits { (k : Helper T.allows (hand_calls S.Shape M.Machine hand)) × LoadsMember k seat.old.me.0.passes run.old MemberIndex.First }
     ensures table { StaysAtTable seat.old seat.new }
     ensures steps { seat_steps seat.new.me.0.passes ≤ seat_steps seat.old.me.0.passes + 12 }
@@ -141,25 +184,25 @@ fn freeze_all<S: Shape, M: Machine<S>, T: Shape>(
 {
     let plan = run.plan;
     let first = MemberIndex::First;
-    if !freeze::<S, M, T>(hand, seat, run, first) {
+    if !freeze::<S, M, T>(hand, seat, start, run, first) {
         return false;
     }
     let Some(second) = plan.member_behind(first) else {
         return true;
     };
-    if !freeze::<S, M, T>(hand, seat, run, second) {
+    if !freeze::<S, M, T>(hand, seat, start, run, second) {
         return false;
     }
     let Some(third) = plan.member_behind(second) else {
         return true;
     };
-    if !freeze::<S, M, T>(hand, seat, run, third) {
+    if !freeze::<S, M, T>(hand, seat, start, run, third) {
         return false;
     }
     let Some(fourth) = plan.member_behind(third) else {
         return true;
     };
-    freeze::<S, M, T>(hand, seat, run, fourth)
+    freeze::<S, M, T>(hand, seat, start, run, fourth)
 }
 
 /// Marks the node of this place, if the SCX-record, whose flag is set, finalizes it.
@@ -179,9 +222,9 @@ fn mark<S: Shape, M: Machine<S>, T: Shape>(
         → HelperMarks k seat.new.me.0.passes run.now (member_index j + 1) }
 {
     if run.plan.finalizes(j) {
-        let marked = Word::Node(run.members[j.index()], NodeWord::Marked);
+        let node = run.members[j.index()];
         let mark = Access::Store(1);
-        act::<S, M, T>(hand, seat, Kind::Mark, marked, mark);
+        act::<S, M, T>(hand, seat, node, NodeWord::Marked, Kind::Mark, mark);
     }
 }
 
@@ -212,9 +255,11 @@ fn mark_all<S: Shape, M: Machine<S>, T: Shape>(
 pub(crate) fn begin<S: Shape, M: Machine<S>, T: Shape>(
     hand: Hand<S>,
     seat: &mut Seat<u8, SeatView>,
+    start: usize,
     run: &mut HelpRun,
 ) -> bool
     requires table { IsAt hand seat.old }
+    requires start { start ≡ scx_start hand.layout.now run.old.scx }
     requires waits { (k : Helper T.allows (hand_calls S.Shape M.Machine hand)) × LoadsPlan k seat.old.me.0.passes run.old }
     ensures table { StaysAtTable seat.old seat.new }
     ensures steps { seat_steps seat.new.me.0.passes ≤ seat_steps seat.old.me.0.passes + 13 }
@@ -227,9 +272,9 @@ pub(crate) fn begin<S: Shape, M: Machine<S>, T: Shape>(
         → LoadsPlan k seat.old.me.0.passes run.old
         → LoadsFlag k seat.new.me.0.passes run.new }
 {
-    let word = read::<S, M, T>(hand, seat, run.scx, ScxWord::Plan);
+    let word = read::<S, M, T>(hand, seat, run.scx, start, ScxWord::Plan);
     run.plan = Plan(word);
-    freeze_all::<S, M, T>(hand, seat, run)
+    freeze_all::<S, M, T>(hand, seat, start, run)
 }
 
 /// Commits an SCX-record whose nodes are frozen: sets its flag, marks the nodes that it finalizes,
@@ -238,9 +283,11 @@ pub(crate) fn begin<S: Shape, M: Machine<S>, T: Shape>(
 pub(crate) fn commit<S: Shape, M: Machine<S>, T: Shape>(
     hand: Hand<S>,
     seat: &mut Seat<u8, SeatView>,
+    start: usize,
     run: &HelpRun,
 )
     requires table { IsAt hand seat.old }
+    requires start { start ≡ scx_start hand.layout.now run.now.scx }
     requires waits { (k : Helper T.allows (hand_calls S.Shape M.Machine hand)) × SetsFlag k seat.old.me.0.passes run.now }
     ensures table { StaysAtTable seat.old seat.new }
     ensures steps { seat_steps seat.new.me.0.passes ≤ seat_steps seat.old.me.0.passes + 9 }
@@ -249,19 +296,19 @@ pub(crate) fn commit<S: Shape, M: Machine<S>, T: Shape>(
         → (v : ℕ) × InnerIsTold k seat.new.me.0.passes (record run.now { at = HelpAt.Commit }) v }
 {
     let (scx, plan) = (run.scx, run.plan);
-    let all_frozen = Word::Scx(scx, ScxWord::AllFrozen);
+    let part = ScxWord::AllFrozen;
     let flag = Access::Store(1);
-    act::<S, M, T>(hand, seat, Kind::SetFrozen, all_frozen, flag);
+    act_on::<S, M, T>(hand, seat, scx, start, part, Kind::SetFrozen, flag);
     mark_all::<S, M, T>(hand, seat, run);
-    let new = read::<S, M, T>(hand, seat, scx, ScxWord::New);
-    let old = read::<S, M, T>(hand, seat, scx, ScxWord::Old);
+    let new = read::<S, M, T>(hand, seat, scx, start, ScxWord::New);
+    let old = read::<S, M, T>(hand, seat, scx, start, ScxWord::Old);
     let node = run.members[plan.at().index()];
-    let field = Word::Node(node, NodeWord::Child(plan.side()));
+    let field = NodeWord::Child(plan.side());
     let change = Access::Exchange { expected: old, new };
-    act::<S, M, T>(hand, seat, Kind::Update, field, change);
-    let state = Word::Scx(scx, ScxWord::State);
+    act::<S, M, T>(hand, seat, node, field, Kind::Update, change);
+    let part = ScxWord::State;
     let commit = Access::Store(COMMITTED);
-    act::<S, M, T>(hand, seat, Kind::Commit, state, commit);
+    act_on::<S, M, T>(hand, seat, scx, start, part, Kind::Commit, commit);
 }
 
 /// HELP of an SCX-record by a run that has not begun; tells whether it has committed. Where a node
@@ -270,9 +317,11 @@ pub(crate) fn commit<S: Shape, M: Machine<S>, T: Shape>(
 pub(crate) fn call<S: Shape, M: Machine<S>, T: Shape>(
     hand: Hand<S>,
     seat: &mut Seat<u8, SeatView>,
+    start: usize,
     run: &mut HelpRun,
 ) -> bool
     requires table { IsAt hand seat.old }
+    requires start { start ≡ scx_start hand.layout.now run.old.scx }
     requires waits { (k : Helper T.allows (hand_calls S.Shape M.Machine hand)) × LoadsPlan k seat.old.me.0.passes run.old }
     ensures table { StaysAtTable seat.old seat.new }
     ensures steps { seat_steps seat.new.me.0.passes ≤ seat_steps seat.old.me.0.passes + 22 }
@@ -285,9 +334,9 @@ pub(crate) fn call<S: Shape, M: Machine<S>, T: Shape>(
         → LoadsPlan k seat.old.me.0.passes run.old
         → LoadsFlag k seat.new.me.0.passes run.new }
 {
-    if !begin::<S, M, T>(hand, seat, run) {
+    if !begin::<S, M, T>(hand, seat, start, run) {
         return false;
     }
-    commit::<S, M, T>(hand, seat, run);
+    commit::<S, M, T>(hand, seat, start, run);
     true
 }

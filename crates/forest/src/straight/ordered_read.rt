@@ -1,17 +1,32 @@
-//! Ordered reads, of whatever machine reads: their loads, and the way to the end by the machine.
-ghost use Rattle.std.specs.Prelude.{◌≡◌, ◌≤◌, ◌+◌, suc};
-ghost use Rattle.forest.specs.Hosts.{Host, HostedEnds, HostedIsTold, HostedWaits, inner_machine};
+//! Ordered reads, of whatever machine makes one: the first try in line, as long as nothing is in its
+//! way. Where something is, or has come between, the machine of the read goes on from there; until
+//! then its place is left as it was.
+ghost use Rattle.std.specs.Prelude.{◌≡◌, ◌≤◌, ◌<◌, ◌+◌, suc, Ok};
+ghost use Rattle.forest.specs.StraightReads.{Reader, ReaderBegins, ReaderEnds, ReaderGoesOn, ReaderLooksAgain, ReaderRoots, ReaderWaits, again_left, left_then, root_left};
 ghost use Rattle.forest.specs.Hands.{IsAt, hand_calls};
+ghost use Rattle.forest.specs.Hosts.{Host, HostedEnds, HostedIsTold, HostedWaits, inner_machine};
 ghost use Rattle.forest.specs.Seats.{StaysAtTable};
 ghost use Rattle.forest.specs.Traces.{seat_steps, shared_nodes};
+ghost use Rattle.order.specs.Steps.{read_left};
+ghost use Rattle.order.specs.declared.read.ReadNext.{ReadNext};
 ghost use Rattle.prims.specs.Llx.Known.{load};
 
 use crate::steps::complete;
 use crate::straight::hand::Hand;
+use crate::straight::llx::{load, look};
 use crate::straight::step::step;
+use crate::straight::vlx::validate;
+use crate::straight::walk;
 use crate::view::SeatView;
-use arena::{Access, Kind, Machine, NodeNo, NodeWord, Shape, Step, Word};
+use arena::{
+    Access, Head, Kind, Machine, NodeNo, NodeWord, ScxNo, ScxWord, SettledPart, Shape, Slot, Step,
+    Turn, Word,
+};
 use atomic_table::Seat;
+use order::{Children, Read, ReadAt, ReadBegin, ReadNext, ReadRun, Refused};
+use ordered_map::Pair;
+use prims::{LlxAt, LlxRun, Snap, SnapList};
+use template::{Goal, Tree};
 
 /// Loads a settled word of a node.
 #[inline(always)]
@@ -54,4 +69,362 @@ pub(crate) fn tell<S: Shape, M: Machine<S>, T: Shape, N: Machine<T>>(
 {
     let turn = run.next(Some(told));
     complete::<S, M, T, N>(hand.words, hand.layout, seat, hand.number, run, turn)
+}
+
+/// Looks at a fork, and tells what comes behind that, or what the read has answered: that there
+/// is no memory to keep what was found, or, where something is in the way, what its machine says.
+#[inline(always)]
+fn look_on<S: Shape, M: Machine<S>, R: Read + Drop>(
+    hand: Hand<S>,
+    seat: &mut Seat<u8, SeatView>,
+    run: &mut ReadRun<R>,
+    children: Children,
+    level: u64,
+    node: NodeNo,
+) -> Result<ReadNext, Result<R::Answer, Refused>>
+    requires table { IsAt hand seat.old }
+    requires waits { (r : Reader (hand_calls S.Shape M.Machine hand) R.means)
+        × ReaderWaits r seat.old.me.0.passes run.old (ReadNext.Look children level node) }
+    ensures table { StaysAtTable seat.old seat.new }
+    ensures goes_on { (r : Reader (hand_calls S.Shape M.Machine hand.entry) R.means)
+        → ReaderWaits r seat.old.me.0.passes run.old (ReadNext.Look children level node)
+        → ReaderGoesOn r seat.new.me.0.passes run.new result }
+    ensures steps { seat_steps seat.new.me.0.passes + left_then R.means (shared_nodes hand.entry.layout.now) run.new result
+        ≤ seat_steps seat.old.me.0.passes + left_then R.means (shared_nodes hand.entry.layout.now) run.old (Ok (ReadNext.Look children level node)) }
+    ensures nearer { left_then R.means (shared_nodes hand.entry.layout.now) run.new result
+        < left_then R.means (shared_nodes hand.entry.layout.now) run.old (Ok (ReadNext.Look children level node)) }
+{
+    match look::<S, M, Tree>(hand, seat, node) {
+        Ok(snap) => match run.looked(children, level, snap) {
+            Ok(next) => Ok(next),
+            Err(refused) => Err(Err(refused)),
+        },
+        Err((marked, scx)) => {
+            let told = look_again::<S, M, R>(hand, seat, run, children, level, node, marked, scx);
+            Err(told)
+        }
+    }
+}
+
+/// Goes on by the machine, where something is in the way of a look. Out of line, so that no turn
+/// pays for its locals.
+#[cold]
+#[inline(never)]
+fn look_again<S: Shape, M: Machine<S>, R: Read + Drop>(
+    hand: Hand<S>,
+    seat: &mut Seat<u8, SeatView>,
+    run: &mut ReadRun<R>,
+    children: Children,
+    level: u64,
+    node: NodeNo,
+    marked: bool,
+    scx: ScxNo,
+) -> Result<R::Answer, Refused>
+    requires table { IsAt hand seat.old }
+    requires waits { (r : Reader (hand_calls S.Shape M.Machine hand) R.means) × ReaderLooksAgain r seat.old.me.0.passes run.old children level node marked scx }
+    ensures table { StaysAtTable seat.old seat.new }
+    ensures ends { (r : Reader (hand_calls S.Shape M.Machine hand.entry) R.means)
+        → ReaderLooksAgain r seat.old.me.0.passes run.old children level node marked scx
+        → ReaderEnds r seat.new.me.0.passes run.new result }
+    ensures steps { seat_steps seat.new.me.0.passes
+        ≤ seat_steps seat.old.me.0.passes + suc (again_left R.means run.old children level node marked scx (shared_nodes hand.entry.layout.now)) }
+{
+    let at = LlxAt::StateAgain { marked, scx };
+    let llx = LlxRun { node, at };
+    run.at = ReadAt::Look {
+        children,
+        level,
+        llx,
+    };
+    let turn = Turn::Ask(load(Kind::LoadState, Word::Scx(scx, ScxWord::State)));
+    complete::<S, M, Tree, ReadRun<R>>(hand.words, hand.layout, seat, hand.number, run, turn)
+}
+
+/// Validates what it has looked at, and tells what the read has answered. Where the last load has
+/// not told what was found, its machine is told of that, and goes on to the end.
+#[inline(always)]
+fn validate_on<S: Shape, M: Machine<S>, R: Read + Drop>(
+    hand: Hand<S>,
+    seat: &mut Seat<u8, SeatView>,
+    run: &mut ReadRun<R>,
+) -> Result<R::Answer, Refused>
+    requires table { IsAt hand seat.old }
+    requires waits { (r : Reader (hand_calls S.Shape M.Machine hand) R.means) × ReaderWaits r seat.old.me.0.passes run.old ReadNext.Validate }
+    ensures table { StaysAtTable seat.old seat.new }
+    ensures ends { (r : Reader (hand_calls S.Shape M.Machine hand.entry) R.means)
+        → ReaderWaits r seat.old.me.0.passes run.old ReadNext.Validate
+        → ReaderEnds r seat.new.me.0.passes run.new result }
+    ensures steps { seat_steps seat.new.me.0.passes ≤ seat_steps seat.old.me.0.passes + left_then R.means (shared_nodes hand.entry.layout.now) run.old (Ok ReadNext.Validate) }
+{
+    let snaps = run.snaps.as_slice();
+    let (asked, told) = validate::<S, M, &[Snap]>(hand, seat, snaps);
+    let last = SnapList::get(&snaps, asked - 1);
+    if told == last.scx.0 {
+        return Ok(run.read.answer());
+    }
+    run.at = ReadAt::Validate { asked };
+    tell::<S, M, Tree, ReadRun<R>>(hand, seat, run, told)
+}
+
+/// Loads the value of a leaf whose pair is taken, and tells what comes behind that, or that
+/// there is no memory to keep its pair.
+#[inline(always)]
+fn read_value<S: Shape, M: Machine<S>, R: Read + Drop>(
+    hand: Hand<S>,
+    seat: &mut Seat<u8, SeatView>,
+    run: &mut ReadRun<R>,
+    key: u64,
+    node: NodeNo,
+) -> Result<ReadNext, Result<R::Answer, Refused>>
+    requires table { IsAt hand seat.old }
+    requires waits { (r : Reader (hand_calls S.Shape M.Machine hand) R.means) × ReaderWaits r seat.old.me.0.passes run.old (ReadNext.Value key node) }
+    ensures table { StaysAtTable seat.old seat.new }
+    ensures goes_on { (r : Reader (hand_calls S.Shape M.Machine hand.entry) R.means)
+        → ReaderWaits r seat.old.me.0.passes run.old (ReadNext.Value key node)
+        → ReaderGoesOn r seat.new.me.0.passes run.new result }
+    ensures steps { seat_steps seat.new.me.0.passes + left_then R.means (shared_nodes hand.entry.layout.now) run.new result
+        ≤ seat_steps seat.old.me.0.passes + left_then R.means (shared_nodes hand.entry.layout.now) run.old (Ok (ReadNext.Value key node)) }
+    ensures nearer { left_then R.means (shared_nodes hand.entry.layout.now) run.new result < left_then R.means (shared_nodes hand.entry.layout.now) run.old (Ok (ReadNext.Value key node)) }
+{
+    let part = NodeWord::Settled(SettledPart::Value(Slot::First));
+    let value = read::<S, M, Tree, ReadRun<R>>(hand, seat, node, part);
+    match run.read.value_on(Pair { key, value }) {
+        Ok(next) => Ok(next),
+        Err(refused) => Err(Err(refused)),
+    }
+}
+
+/// Loads the key of a node, and what it needs behind that but a look. What comes next is matched at
+/// once: handed round a loop, it would be packed and parted again at each turn.
+#[inline(always)]
+fn read_key<S: Shape, M: Machine<S>, R: Read + Drop>(
+    hand: Hand<S>,
+    seat: &mut Seat<u8, SeatView>,
+    run: &mut ReadRun<R>,
+    head: Head,
+    node: NodeNo,
+) -> Result<ReadNext, Result<R::Answer, Refused>>
+    requires table { IsAt hand seat.old }
+    requires waits { (r : Reader (hand_calls S.Shape M.Machine hand) R.means) × ReaderWaits r seat.old.me.0.passes run.old (ReadNext.Key head node) }
+    ensures table { StaysAtTable seat.old seat.new }
+    ensures goes_on { (r : Reader (hand_calls S.Shape M.Machine hand.entry) R.means)
+        → ReaderWaits r seat.old.me.0.passes run.old (ReadNext.Key head node)
+        → ReaderGoesOn r seat.new.me.0.passes run.new result }
+    ensures steps { seat_steps seat.new.me.0.passes + left_then R.means (shared_nodes hand.entry.layout.now) run.new result
+        ≤ seat_steps seat.old.me.0.passes + left_then R.means (shared_nodes hand.entry.layout.now) run.old (Ok (ReadNext.Key head node)) }
+    ensures nearer { left_then R.means (shared_nodes hand.entry.layout.now) run.new result < left_then R.means (shared_nodes hand.entry.layout.now) run.old (Ok (ReadNext.Key head node)) }
+{
+    let part = NodeWord::Settled(SettledPart::Key(Slot::First));
+    let key = read::<S, M, Tree, ReadRun<R>>(hand, seat, node, part);
+    let next = run.read.key_on(head, node, key);
+    match next {
+        ReadNext::Value { key, node } => read_value::<S, M, R>(hand, seat, run, key, node),
+        _ => Ok(next),
+    }
+}
+
+/// Loads the head of a node, and what it needs behind that but a look.
+#[inline(always)]
+fn read_head<S: Shape, M: Machine<S>, R: Read + Drop>(
+    hand: Hand<S>,
+    seat: &mut Seat<u8, SeatView>,
+    run: &mut ReadRun<R>,
+    above: u64,
+    node: NodeNo,
+) -> Result<ReadNext, Result<R::Answer, Refused>>
+    requires table { IsAt hand seat.old }
+    requires waits { (r : Reader (hand_calls S.Shape M.Machine hand) R.means) × ReaderWaits r seat.old.me.0.passes run.old (ReadNext.Head above node) }
+    ensures table { StaysAtTable seat.old seat.new }
+    ensures goes_on { (r : Reader (hand_calls S.Shape M.Machine hand.entry) R.means)
+        → ReaderWaits r seat.old.me.0.passes run.old (ReadNext.Head above node)
+        → ReaderGoesOn r seat.new.me.0.passes run.new result }
+    ensures steps { seat_steps seat.new.me.0.passes + left_then R.means (shared_nodes hand.entry.layout.now) run.new result
+        ≤ seat_steps seat.old.me.0.passes + left_then R.means (shared_nodes hand.entry.layout.now) run.old (Ok (ReadNext.Head above node)) }
+    ensures nearer { left_then R.means (shared_nodes hand.entry.layout.now) run.new result < left_then R.means (shared_nodes hand.entry.layout.now) run.old (Ok (ReadNext.Head above node)) }
+{
+    let part = NodeWord::Settled(SettledPart::Head);
+    let word = read::<S, M, Tree, ReadRun<R>>(hand, seat, node, part);
+    let next = run.read.head_on(Head::of(word), node);
+    match next {
+        ReadNext::Key { head, node } => read_key::<S, M, R>(hand, seat, run, head, node),
+        _ => Ok(next),
+    }
+}
+
+/// Looks at a fork, if that comes next.
+#[inline(always)]
+fn look_next<S: Shape, M: Machine<S>, R: Read + Drop>(
+    hand: Hand<S>,
+    seat: &mut Seat<u8, SeatView>,
+    run: &mut ReadRun<R>,
+    next: ReadNext,
+) -> Result<ReadNext, Result<R::Answer, Refused>>
+    requires table { IsAt hand seat.old }
+    requires waits { (r : Reader (hand_calls S.Shape M.Machine hand) R.means) × ReaderWaits r seat.old.me.0.passes run.old next }
+    ensures table { StaysAtTable seat.old seat.new }
+    ensures goes_on { (r : Reader (hand_calls S.Shape M.Machine hand.entry) R.means)
+        → ReaderWaits r seat.old.me.0.passes run.old next
+        → ReaderGoesOn r seat.new.me.0.passes run.new result }
+    ensures steps { seat_steps seat.new.me.0.passes + left_then R.means (shared_nodes hand.entry.layout.now) run.new result
+        ≤ seat_steps seat.old.me.0.passes + left_then R.means (shared_nodes hand.entry.layout.now) run.old (Ok next) }
+    ensures no_farther { left_then R.means (shared_nodes hand.entry.layout.now) run.new result ≤ left_then R.means (shared_nodes hand.entry.layout.now) run.old (Ok next) }
+{
+    match next {
+        ReadNext::Look {
+            children,
+            level,
+            node,
+        } => look_on::<S, M, R>(hand, seat, run, children, level, node),
+        _ => Ok(next),
+    }
+}
+
+/// Does what comes next, and tells what comes behind that, or what the read has answered.
+#[inline(always)]
+fn visit_on<S: Shape, M: Machine<S>, R: Read + Drop>(
+    hand: Hand<S>,
+    seat: &mut Seat<u8, SeatView>,
+    run: &mut ReadRun<R>,
+    next: ReadNext,
+) -> Result<ReadNext, Result<R::Answer, Refused>>
+    requires table { IsAt hand seat.old }
+    requires waits { (r : Reader (hand_calls S.Shape M.Machine hand) R.means) × ReaderWaits r seat.old.me.0.passes run.old next }
+    ensures table { StaysAtTable seat.old seat.new }
+    ensures goes_on { (r : Reader (hand_calls S.Shape M.Machine hand.entry) R.means)
+        → ReaderWaits r seat.old.me.0.passes run.old next
+        → ReaderGoesOn r seat.new.me.0.passes run.new result }
+    ensures steps { seat_steps seat.new.me.0.passes + left_then R.means (shared_nodes hand.entry.layout.now) run.new result
+        ≤ seat_steps seat.old.me.0.passes + left_then R.means (shared_nodes hand.entry.layout.now) run.old (Ok next) }
+    ensures nearer { left_then R.means (shared_nodes hand.entry.layout.now) run.new result < left_then R.means (shared_nodes hand.entry.layout.now) run.old (Ok next) }
+{
+    match next {
+        ReadNext::Head { above, node } => read_head::<S, M, R>(hand, seat, run, above, node),
+        ReadNext::Key { head, node } => read_key::<S, M, R>(hand, seat, run, head, node),
+        ReadNext::Value { key, node } => read_value::<S, M, R>(hand, seat, run, key, node),
+        ReadNext::Look {
+            children,
+            level,
+            node,
+        } => look_on::<S, M, R>(hand, seat, run, children, level, node),
+        ReadNext::Validate => Err(validate_on::<S, M, R>(hand, seat, run)),
+    }
+}
+
+/// Makes what is left of a try, which is the VLX once no node is left. Out of line, so that the
+/// turns before it are put together as if there were nothing else.
+#[inline(never)]
+fn rest<S: Shape, M: Machine<S>, R: Read + Drop>(
+    hand: Hand<S>,
+    seat: &mut Seat<u8, SeatView>,
+    run: &mut ReadRun<R>,
+    mut next: ReadNext,
+) -> Result<R::Answer, Refused>
+    requires table { IsAt hand seat.old }
+    requires waits { (r : Reader (hand_calls S.Shape M.Machine hand) R.means) × ReaderWaits r seat.old.me.0.passes run.old next }
+    ensures table { StaysAtTable seat.old seat.new }
+    ensures ends { (r : Reader (hand_calls S.Shape M.Machine hand.entry) R.means)
+        → ReaderWaits r seat.old.me.0.passes run.old next
+        → ReaderEnds r seat.new.me.0.passes run.new result }
+    ensures steps { seat_steps seat.new.me.0.passes ≤ seat_steps seat.old.me.0.passes + left_then R.means (shared_nodes hand.entry.layout.now) run.old (Ok next) }
+{
+    loop {
+        match visit_on::<S, M, R>(hand, seat, run, next) {
+            Ok(after) => next = after,
+            Err(told) => return told,
+        }
+    }
+}
+
+/// Makes what is left of a try from this on.
+#[inline(always)]
+fn go_on<S: Shape, M: Machine<S>, R: Read + Drop>(
+    hand: Hand<S>,
+    seat: &mut Seat<u8, SeatView>,
+    run: &mut ReadRun<R>,
+    first: ReadNext,
+) -> Result<R::Answer, Refused>
+    requires table { IsAt hand seat.old }
+    requires waits { (r : Reader (hand_calls S.Shape M.Machine hand) R.means) × ReaderWaits r seat.old.me.0.passes run.old first }
+    ensures table { StaysAtTable seat.old seat.new }
+    ensures ends { (r : Reader (hand_calls S.Shape M.Machine hand.entry) R.means)
+        → ReaderWaits r seat.old.me.0.passes run.old first
+        → ReaderEnds r seat.new.me.0.passes run.new result }
+    ensures steps { seat_steps seat.new.me.0.passes ≤ seat_steps seat.old.me.0.passes + left_then R.means (shared_nodes hand.entry.layout.now) run.old (Ok first) }
+{
+    let mut next = match look_next::<S, M, R>(hand, seat, run, first) {
+        Ok(next) => next,
+        Err(told) => return told,
+    };
+    loop {
+        match next {
+            ReadNext::Head { above, node } => {
+                let behind = match read_head::<S, M, R>(hand, seat, run, above, node) {
+                    Ok(behind) => behind,
+                    Err(told) => return told,
+                };
+                next = match look_next::<S, M, R>(hand, seat, run, behind) {
+                    Ok(after) => after,
+                    Err(told) => return told,
+                };
+            }
+            _ => {
+                let last = next;
+                return rest::<S, M, R>(hand, seat, run, last);
+            }
+        }
+    }
+}
+
+/// Makes the try that begins with the load of the root's head.
+#[inline(always)]
+fn from_root<S: Shape, M: Machine<S>, R: Read + Drop>(
+    hand: Hand<S>,
+    seat: &mut Seat<u8, SeatView>,
+    run: &mut ReadRun<R>,
+) -> Result<R::Answer, Refused>
+    requires table { IsAt hand seat.old }
+    requires waits { (r : Reader (hand_calls S.Shape M.Machine hand) R.means) × ReaderRoots r seat.old.me.0.passes run.old }
+    ensures table { StaysAtTable seat.old seat.new }
+    ensures ends { (r : Reader (hand_calls S.Shape M.Machine hand.entry) R.means)
+        → ReaderRoots r seat.old.me.0.passes run.old
+        → ReaderEnds r seat.new.me.0.passes run.new result }
+    ensures steps { seat_steps seat.new.me.0.passes ≤ seat_steps seat.old.me.0.passes + suc (root_left R.means run.old (shared_nodes hand.entry.layout.now)) }
+{
+    let root = NodeNo(0);
+    let part = NodeWord::Settled(SettledPart::Head);
+    let word = read::<S, M, Tree, ReadRun<R>>(hand, seat, root, part);
+    let first = run.read.head_on(Head::of(word), root);
+    go_on::<S, M, R>(hand, seat, run, first)
+}
+
+/// Makes an ordered read: its first try in line. A function of its own, as that of an update.
+#[inline(never)]
+pub(crate) fn call<S: Shape, M: Machine<S>, R: Read + Drop>(
+    hand: Hand<S>,
+    seat: &mut Seat<u8, SeatView>,
+    run: &mut ReadRun<R>,
+) -> Result<R::Answer, Refused>
+    requires table { IsAt hand seat.old }
+    requires begins { (r : Reader (hand_calls S.Shape M.Machine hand) R.means) × ReaderBegins r seat.old.me.0.passes run.old }
+    ensures table { StaysAtTable seat.old seat.new }
+    ensures ends { (r : Reader (hand_calls S.Shape M.Machine hand.entry) R.means)
+        → ReaderBegins r seat.old.me.0.passes run.old
+        → ReaderEnds r seat.new.me.0.passes run.new result }
+    ensures steps { seat_steps seat.new.me.0.passes ≤ seat_steps seat.old.me.0.passes + read_left R.means run.old (shared_nodes hand.entry.layout.now) }
+    ensures nothing { ¬ R.means.asks (R.means.call run.old.read) → seat.new ≡ seat.old }
+{
+    match run.start() {
+        ReadBegin::Walk(key) => {
+            let (_, node) = walk::call::<S, M>(hand, seat, Goal::Key(key));
+            let (children, level) = (Children::Both, 0);
+            let first = ReadNext::Look {
+                children,
+                level,
+                node,
+            };
+            go_on::<S, M, R>(hand, seat, run, first)
+        }
+        ReadBegin::Root => from_root::<S, M, R>(hand, seat, run),
+        ReadBegin::Answer(answer) => Ok(answer),
+    }
 }

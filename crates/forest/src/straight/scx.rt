@@ -1,5 +1,6 @@
 //! SCX with an SCX-record of the share, of whatever machine makes one: its steps in line.
 ghost use Rattle.std.specs.Prelude.{◌≡◌, ◌≤◌, ◌<◌, ◌+◌, ℕ, suc, true, false, IfSome, IfNone};
+ghost use Rattle.arena.specs.Layout.{scx_start};
 ghost use Rattle.arena.specs.MemberIndex.{member_index};
 ghost use Rattle.forest.specs.Hands.{IsAt, hand_calls};
 ghost use Rattle.forest.specs.Seats.{StaysAtTable};
@@ -14,7 +15,7 @@ ghost use Rattle.help.specs.declared.state.HelpAt.{HelpAt};
 
 use crate::straight::hand::Hand;
 use crate::straight::helps;
-use crate::straight::step::step;
+use crate::straight::step::step_from;
 use crate::view::SeatView;
 use arena::{Access, Kind, Machine, MemberIndex, NodeNo, Plan, ScxNo, ScxWord, Shape, Step, Word};
 use atomic_table::Seat;
@@ -31,16 +32,18 @@ pub(crate) struct Change {
     pub(crate) fresh: NodeNo,
 }
 
-/// Fills a word of the SCX-record.
+/// Fills a word of the SCX-record, which begins there.
 #[inline(always)]
 fn fill<S: Shape, M: Machine<S>, T: Shape>(
     hand: Hand<S>,
     seat: &mut Seat<u8, SeatView>,
     scx: ScxNo,
+    start: usize,
     part: ScxWord,
     value: u64,
 ) -> u64
     requires table { IsAt hand seat.old }
+    requires start { start ≡ scx_start hand.layout.now scx }
     requires waits { (k : Changer T.allows (hand_calls S.Shape M.Machine hand)) × (m : ScxRun)
         × InnerWaits k seat.old.me.0.passes m (scx_fill scx part value) }
     ensures table { StaysAtTable seat.old seat.new }
@@ -51,7 +54,7 @@ fn fill<S: Shape, M: Machine<S>, T: Shape>(
 {
     let (kind, word) = (Kind::Fill, Word::Scx(scx, part));
     let access = Access::Store(value);
-    step::<S, M>(hand, seat, Step { kind, word, access })
+    step_from::<S, M>(hand, seat, Step { kind, word, access }, start)
 }
 
 /// Fills the node of this place, and tells the place behind it.
@@ -61,9 +64,11 @@ fn fill_member<S: Shape, M: Machine<S>, T: Shape, L: SnapList>(
     seat: &mut Seat<u8, SeatView>,
     snaps: &L,
     change: Change,
+    start: usize,
     j: MemberIndex,
 ) -> Option<MemberIndex>
     requires table { IsAt hand seat.old }
+    requires start { start ≡ scx_start hand.layout.now change.scx }
     requires waits { (k : Changer T.allows (hand_calls S.Shape M.Machine hand)) × FillsMember k seat.old.me.0.passes (L.list snaps.now) change j }
     ensures table { StaysAtTable seat.old seat.new }
     ensures one { seat_steps seat.new.me.0.passes ≡ suc (seat_steps seat.old.me.0.passes) }
@@ -77,7 +82,7 @@ fn fill_member<S: Shape, M: Machine<S>, T: Shape, L: SnapList>(
 {
     let part = ScxWord::Member(j.number());
     let wanted = snaps.get(j.index()).node.0;
-    fill::<S, M, T>(hand, seat, change.scx, part, wanted);
+    fill::<S, M, T>(hand, seat, change.scx, start, part, wanted);
     change.plan.member_behind(j)
 }
 
@@ -88,8 +93,10 @@ fn fill_members<S: Shape, M: Machine<S>, T: Shape, L: SnapList>(
     seat: &mut Seat<u8, SeatView>,
     snaps: &L,
     change: Change,
+    start: usize,
 )
     requires table { IsAt hand seat.old }
+    requires start { start ≡ scx_start hand.layout.now change.scx }
     requires waits { (k : Changer T.allows (hand_calls S.Shape M.Machine hand))
         × FillsMember k seat.old.me.0.passes (L.list snaps.now) change MemberIndex.First }
     ensures table { StaysAtTable seat.old seat.new }
@@ -99,16 +106,16 @@ fn fill_members<S: Shape, M: Machine<S>, T: Shape, L: SnapList>(
         → FillsSeen k seat.new.me.0.passes (L.list snaps.now) change MemberIndex.First }
 {
     let first = MemberIndex::First;
-    let Some(second) = fill_member::<S, M, T, L>(hand, seat, snaps, change, first) else {
+    let Some(second) = fill_member::<S, M, T, L>(hand, seat, snaps, change, start, first) else {
         return;
     };
-    let Some(third) = fill_member::<S, M, T, L>(hand, seat, snaps, change, second) else {
+    let Some(third) = fill_member::<S, M, T, L>(hand, seat, snaps, change, start, second) else {
         return;
     };
-    let Some(fourth) = fill_member::<S, M, T, L>(hand, seat, snaps, change, third) else {
+    let Some(fourth) = fill_member::<S, M, T, L>(hand, seat, snaps, change, start, third) else {
         return;
     };
-    fill_member::<S, M, T, L>(hand, seat, snaps, change, fourth);
+    fill_member::<S, M, T, L>(hand, seat, snaps, change, start, fourth);
 }
 
 /// Fills what the info of the node of this place was, and tells the place behind it.
@@ -118,9 +125,11 @@ fn fill_seen<S: Shape, M: Machine<S>, T: Shape, L: SnapList>(
     seat: &mut Seat<u8, SeatView>,
     snaps: &L,
     change: Change,
+    start: usize,
     j: MemberIndex,
 ) -> Option<MemberIndex>
     requires table { IsAt hand seat.old }
+    requires start { start ≡ scx_start hand.layout.now change.scx }
     requires waits { (k : Changer T.allows (hand_calls S.Shape M.Machine hand)) × FillsSeen k seat.old.me.0.passes (L.list snaps.now) change j }
     ensures table { StaysAtTable seat.old seat.new }
     ensures one { seat_steps seat.new.me.0.passes ≡ suc (seat_steps seat.old.me.0.passes) }
@@ -134,7 +143,7 @@ fn fill_seen<S: Shape, M: Machine<S>, T: Shape, L: SnapList>(
 {
     let part = ScxWord::Seen(j.number());
     let wanted = snaps.get(j.index()).scx.0;
-    fill::<S, M, T>(hand, seat, change.scx, part, wanted);
+    fill::<S, M, T>(hand, seat, change.scx, start, part, wanted);
     change.plan.member_behind(j)
 }
 
@@ -145,8 +154,10 @@ fn fill_infos<S: Shape, M: Machine<S>, T: Shape, L: SnapList>(
     seat: &mut Seat<u8, SeatView>,
     snaps: &L,
     change: Change,
+    start: usize,
 )
     requires table { IsAt hand seat.old }
+    requires start { start ≡ scx_start hand.layout.now change.scx }
     requires waits { (k : Changer T.allows (hand_calls S.Shape M.Machine hand))
         × FillsSeen k seat.old.me.0.passes (L.list snaps.now) change MemberIndex.First }
     ensures table { StaysAtTable seat.old seat.new }
@@ -156,16 +167,16 @@ fn fill_infos<S: Shape, M: Machine<S>, T: Shape, L: SnapList>(
         → FillsCall k seat.new.me.0.passes (L.list snaps.now) change }
 {
     let first = MemberIndex::First;
-    let Some(second) = fill_seen::<S, M, T, L>(hand, seat, snaps, change, first) else {
+    let Some(second) = fill_seen::<S, M, T, L>(hand, seat, snaps, change, start, first) else {
         return;
     };
-    let Some(third) = fill_seen::<S, M, T, L>(hand, seat, snaps, change, second) else {
+    let Some(third) = fill_seen::<S, M, T, L>(hand, seat, snaps, change, start, second) else {
         return;
     };
-    let Some(fourth) = fill_seen::<S, M, T, L>(hand, seat, snaps, change, third) else {
+    let Some(fourth) = fill_seen::<S, M, T, L>(hand, seat, snaps, change, start, third) else {
         return;
     };
-    fill_seen::<S, M, T, L>(hand, seat, snaps, change, fourth);
+    fill_seen::<S, M, T, L>(hand, seat, snaps, change, start, fourth);
 }
 
 /// Fills the words of the SCX-record, from its plan on.
@@ -175,8 +186,10 @@ pub(crate) fn fill_all<S: Shape, M: Machine<S>, T: Shape, L: SnapList>(
     seat: &mut Seat<u8, SeatView>,
     snaps: &L,
     change: Change,
+    start: usize,
 ) -> u64
     requires table { IsAt hand seat.old }
+    requires start { start ≡ scx_start hand.layout.now change.scx }
     requires waits { (k : Changer T.allows (hand_calls S.Shape M.Machine hand)) × FillsPlan k seat.old.me.0.passes (L.list snaps.now) change }
     ensures table { StaysAtTable seat.old seat.new }
     ensures steps { seat_steps seat.new.me.0.passes ≤ seat_steps seat.old.me.0.passes + 12 }
@@ -185,12 +198,12 @@ pub(crate) fn fill_all<S: Shape, M: Machine<S>, T: Shape, L: SnapList>(
         → InnerIsTold k seat.new.me.0.passes (changing_at (L.list snaps.now) change ScxAt.Call) result }
 {
     let scx = change.scx;
-    fill::<S, M, T>(hand, seat, scx, ScxWord::Plan, change.plan.0);
-    fill::<S, M, T>(hand, seat, scx, ScxWord::New, change.fresh.0);
-    fill::<S, M, T>(hand, seat, scx, ScxWord::Old, change.old.0);
-    fill_members::<S, M, T, L>(hand, seat, snaps, change);
-    fill_infos::<S, M, T, L>(hand, seat, snaps, change);
-    fill::<S, M, T>(hand, seat, scx, ScxWord::Call, change.call)
+    fill::<S, M, T>(hand, seat, scx, start, ScxWord::Plan, change.plan.0);
+    fill::<S, M, T>(hand, seat, scx, start, ScxWord::New, change.fresh.0);
+    fill::<S, M, T>(hand, seat, scx, start, ScxWord::Old, change.old.0);
+    fill_members::<S, M, T, L>(hand, seat, snaps, change, start);
+    fill_infos::<S, M, T, L>(hand, seat, snaps, change, start);
+    fill::<S, M, T>(hand, seat, scx, start, ScxWord::Call, change.call)
 }
 
 /// SCX that begins with the fill of its plan, and then by this run of HELP, which has not begun;
@@ -223,6 +236,7 @@ pub(crate) fn call<S: Shape, M: Machine<S>, T: Shape, L: SnapList>(
         layout: &layout,
         number: hand.number,
     };
-    fill_all::<S, M, T, L>(hand, seat, snaps, change);
-    helps::call::<S, M, T>(hand, seat, help)
+    let start = hand.layout.scx_start(change.scx);
+    fill_all::<S, M, T, L>(hand, seat, snaps, change, start);
+    helps::call::<S, M, T>(hand, seat, start, help)
 }

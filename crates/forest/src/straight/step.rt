@@ -1,5 +1,6 @@
 //! Steps of a call whose machine stands nowhere: clauses alone say where it would stand.
 ghost use Rattle.std.specs.Prelude.{◌≡◌, suc, [], ◌∷◌};
+ghost use Rattle.arena.specs.Layout.{start_of};
 ghost use Rattle.arena.specs.Machines.{Call};
 ghost use Rattle.forest.specs.declared.view.SeatedPass.{SeatedPass};
 ghost use Rattle.forest.specs.Opened.{IsStepBehind};
@@ -13,6 +14,34 @@ use crate::view::SeatView;
 use arena::{Machine, Shape, Step};
 use atomic_table::Seat;
 use std::marker::Brand;
+
+/// Makes the step for which a machine of this type waits, on a word whose node or SCX-record begins
+/// there, and answers what it may be told.
+#[inline(always)]
+pub(crate) fn step_from<S: Shape, M: Machine<S>>(
+    hand: Hand<S>,
+    seat: &mut Seat<u8, SeatView>,
+    step: Step,
+    start: usize,
+) -> u64
+    requires table { IsAt hand seat.old }
+    requires start { start ≡ start_of hand.layout.now step.word }
+    requires waits { (c : Call) × (first : M) × (m : M) × IsCallOf hand c
+        × Waits S.allows M.waits M.same c seat.old.me.0.passes first m step }
+    ensures table { StaysAtTable seat.old seat.new }
+    ensures told { (c : Call) (first m : M) → IsCallOf hand.entry c
+        → Waits S.allows M.waits M.same c seat.old.me.0.passes first m step
+        → Told S.allows M.waits M.same c seat.new.me.0.passes first M.ready m result }
+    ensures one { seat_steps seat.new.me.0.passes ≡ suc (seat_steps seat.old.me.0.passes) }
+    ensures row { (p : SeatedPass) × (seat.old.me.0.passes ≡ p ∷ []) × IsStepBehind p.known (known_of seat.new.me.0.passes) p.number.0 hand.entry.number step.kind }
+{
+    let at = hand.layout.place_from(start, step.word);
+    let asked = Asked {
+        call: hand.number,
+        step,
+    };
+    hand.words.make::<Brand>(seat, &asked, at)
+}
 
 /// Makes the step for which a machine of this type waits, and answers what it may be told.
 #[inline(always)]
@@ -31,10 +60,6 @@ pub(crate) fn step<S: Shape, M: Machine<S>>(
     ensures one { seat_steps seat.new.me.0.passes ≡ suc (seat_steps seat.old.me.0.passes) }
     ensures row { (p : SeatedPass) × (seat.old.me.0.passes ≡ p ∷ []) × IsStepBehind p.known (known_of seat.new.me.0.passes) p.number.0 hand.entry.number step.kind }
 {
-    let at = hand.layout.place(step.word);
-    let asked = Asked {
-        call: hand.number,
-        step,
-    };
-    hand.words.make::<Brand>(seat, &asked, at)
+    let start = hand.layout.start_of(step.word);
+    step_from::<S, M>(hand, seat, step, start)
 }

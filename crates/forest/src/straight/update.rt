@@ -208,9 +208,10 @@ fn change<S: Shape, M: Machine<S>, E: Edit + Copy>(
     };
     let snaps = run.snaps.as_slice();
     let mut help = HelpRun::new(scx);
-    scx::fill_all::<S, M, Tree, &[Snap]>(own, seat, &snaps, change);
-    if helps::begin::<S, M, Tree>(own, seat, &mut help) {
-        helps::commit::<S, M, Tree>(own, seat, &help);
+    let start = own.layout.scx_start(scx);
+    scx::fill_all::<S, M, Tree, &[Snap]>(own, seat, &snaps, change, start);
+    if helps::begin::<S, M, Tree>(own, seat, start, &mut help) {
+        helps::commit::<S, M, Tree>(own, seat, start, &help);
         return Updated::at(found);
     }
     resume::from_block::<S, M, E>(hand, seat, run, found, scx, &help)

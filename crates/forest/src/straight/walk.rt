@@ -1,12 +1,13 @@
 //! Walks down the tree, of whatever machine walks.
 ghost use Rattle.std.specs.Prelude.{◌≡◌, ◌≤◌, ◌+◌, ◌*◌, ◌==◌, ℕ, suc, true, if◌then◌else◌, nat_lt, IfOk, IfErr};
 ghost use Rattle.arena.specs.Heads.{head_of};
+ghost use Rattle.arena.specs.Layout.{node_start};
 ghost use Rattle.arena.specs.declared.number.NodeNo.{NodeNo};
 ghost use Rattle.forest.specs.Hands.{IsAt, hand_calls};
 ghost use Rattle.forest.specs.Seats.{StaysAtTable};
 ghost use Rattle.forest.specs.Traces.{seat_steps, shared_nodes};
 ghost use Rattle.forest.specs.StraightWalk.{Walker, WalkerFinds, WalkerGoesDown, WalkerIsTold, WalkerWaits, WalksFromRoot};
-ghost use Rattle.order.specs.Successor.Steps.{last_turn};
+ghost use Rattle.order.specs.Steps.{last_turn};
 ghost use Rattle.prims.specs.Llx.Known.{load};
 ghost use Rattle.template.specs.FoundLeaf.{asked_key, path_key};
 ghost use Rattle.template.specs.declared.walk.WalkRun.{WalkRun};
@@ -14,7 +15,7 @@ ghost use Rattle.template.specs.Walk.Known.{asks_key};
 ghost use Rattle.template.specs.Walk.Places.{walk_at, LoadsHead};
 
 use crate::straight::hand::Hand;
-use crate::straight::step::step;
+use crate::straight::step::step_from;
 use crate::view::SeatView;
 use arena::{
     Access, Head, Kind, Machine, NodeNo, NodeWord, SettledPart, Shape, Side, Slot, Step, Word,
@@ -22,16 +23,18 @@ use arena::{
 use atomic_table::Seat;
 use template::{Found, Goal, Trail, WalkAt};
 
-/// Loads a word of a node.
+/// Loads a word of a node that begins there.
 #[inline(always)]
 fn read<S: Shape, M: Machine<S>>(
     hand: Hand<S>,
     seat: &mut Seat<u8, SeatView>,
     kind: Kind,
     node: NodeNo,
+    start: usize,
     part: NodeWord,
 ) -> u64
     requires table { IsAt hand seat.old }
+    requires start { start ≡ node_start node }
     requires waits { (w : Walker (hand_calls S.Shape M.Machine hand)) × (m : WalkRun) × (turn : NodeNo)
         × WalkerWaits w seat.old.me.0.passes m turn (load kind (Word.Node node part)) }
     ensures table { StaysAtTable seat.old seat.new }
@@ -42,7 +45,7 @@ fn read<S: Shape, M: Machine<S>>(
 {
     let word = Word::Node(node, part);
     let access = Access::Load;
-    step::<S, M>(hand, seat, Step { kind, word, access })
+    step_from::<S, M>(hand, seat, Step { kind, word, access }, start)
 }
 
 /// On which side of a fork with this key the walk goes on.
@@ -92,17 +95,19 @@ fn asks_value(goal: Goal, key: u64) -> bool
     }
 }
 
-/// Ends at a leaf of class 0 that has this key.
+/// Ends at a leaf of class 0 that begins there and has this key.
 #[inline(always)]
 fn end<S: Shape, M: Machine<S>>(
     hand: Hand<S>,
     seat: &mut Seat<u8, SeatView>,
     goal: Goal,
     trail: Trail,
+    start: usize,
     head: Head,
     key: u64,
 ) -> Found
     requires table { IsAt hand seat.old }
+    requires start { start ≡ node_start trail.node }
     requires leaf { head.leaf ≡ true }
     requires told { (w : Walker (hand_calls S.Shape M.Machine hand)) × (turn : NodeNo)
         × WalkerIsTold w seat.old.me.0.passes (walk_at goal trail (WalkAt.Key head)) turn key }
@@ -117,7 +122,7 @@ fn end<S: Shape, M: Machine<S>>(
             Kind::LoadSettled,
             NodeWord::Settled(SettledPart::Value(Slot::First)),
         );
-        let value = read::<S, M>(hand, seat, kind, trail.node, part);
+        let value = read::<S, M>(hand, seat, kind, trail.node, start, part);
         return Found {
             trail,
             head,
@@ -133,18 +138,21 @@ fn end<S: Shape, M: Machine<S>>(
     }
 }
 
-/// Goes on behind the head of a node: on a side of a fork, or to the end at a leaf.
+/// Goes on behind the head of a node that begins there: on a side of a fork, or to the end at a
+/// leaf.
 #[inline(always)]
 fn pass<S: Shape, M: Machine<S>>(
     hand: Hand<S>,
     seat: &mut Seat<u8, SeatView>,
     goal: Goal,
     trail: Trail,
+    start: usize,
     at: WalkAt,
     word: u64,
 ) -> Result<Side, Found>
     requires place { LoadsHead at }
     requires table { IsAt hand seat.old }
+    requires start { start ≡ node_start trail.node }
     requires told { (w : Walker (hand_calls S.Shape M.Machine hand)) × (turn : NodeNo)
         × WalkerIsTold w seat.old.me.0.passes (walk_at goal trail at) turn word }
     ensures table { StaysAtTable seat.old seat.new }
@@ -163,9 +171,9 @@ fn pass<S: Shape, M: Machine<S>>(
             Kind::LoadSettled,
             NodeWord::Settled(SettledPart::Key(Slot::First)),
         );
-        let key = read::<S, M>(hand, seat, kind, trail.node, part);
+        let key = read::<S, M>(hand, seat, kind, trail.node, start, part);
         if is_leaf(word) {
-            return Err(end::<S, M>(hand, seat, goal, trail, head, key));
+            return Err(end::<S, M>(hand, seat, goal, trail, start, head, key));
         }
         return Ok(side_of(goal, key));
     }
@@ -193,7 +201,8 @@ fn turn_at(side: Side, node: NodeNo, turn: NodeNo) -> NodeNo
 }
 
 /// The walk from the root to the leaf where a key stands, or would stand, or to the first leaf, and
-/// the last fork where it turned left, or the root if it turned left at none.
+/// the last fork where it turned left, or the root if it turned left at none. Where the words of a
+/// node begin is reckoned once, as soon as its parent has told it.
 #[inline(always)]
 pub(crate) fn call<S: Shape, M: Machine<S>>(
     hand: Hand<S>,
@@ -223,17 +232,18 @@ pub(crate) fn call<S: Shape, M: Machine<S>>(
         node: root,
     };
     let (mut at, mut turn) = (WalkAt::Root, root);
+    let mut start = 0;
     loop {
         let node = trail.node;
         let (kind, part) = (Kind::LoadSettled, NodeWord::Settled(SettledPart::Head));
-        let word = read::<S, M>(hand, seat, kind, node, part);
+        let word = read::<S, M>(hand, seat, kind, node, start, part);
         let head = Head::of(word);
-        let side = match pass::<S, M>(hand, seat, goal, trail, at, word) {
+        let side = match pass::<S, M>(hand, seat, goal, trail, start, at, word) {
             Ok(side) => side,
             Err(found) => return (found, turn),
         };
         let (kind, part) = (Kind::LoadChild, NodeWord::Child(side));
-        let child = read::<S, M>(hand, seat, kind, node, part);
+        let child = read::<S, M>(hand, seat, kind, node, start, part);
         turn = turn_at(side, node, turn);
         trail = Trail {
             grand: trail.parent,
@@ -242,6 +252,7 @@ pub(crate) fn call<S: Shape, M: Machine<S>>(
             side,
             node: NodeNo(child),
         };
+        start = hand.layout.node_start(trail.node);
         at = WalkAt::Head { above: head.level };
     }
 }

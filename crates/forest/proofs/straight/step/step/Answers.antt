@@ -1,35 +1,9 @@
-use Rattle.std.proofs.Common.{Some, refl, sym, ap, subst}
+use Rattle.std.proofs.Common.{subst}
 use Rattle.arena.specs.declared.layout.Layout.{Layout}
 use Rattle.arena.specs.Layout.{IsWord}
-use Rattle.arena.specs.History.{History}
-use Rattle.forest.specs.TableRule.{past_of, row}
-use Rattle.forest.specs.Traces.{Trace, known_of, others, makes}
-use Rattle.forest.proofs.Advances.{called_so, may, word_of, told, one_step}
+use Rattle.forest.proofs.Advances.{called_so, word_of}
 use Rattle.forest.proofs.straight.step.step.Goals as goal
 
-pub place-at-requires : goal.place-at-requires
-place-at-requires g c = let w = c.requires.waits in let law = g.met.M.Machine in
+pub start_of-start-requires : goal.start_of-start-requires
+start_of-start-requires g c = let w = c.requires.waits in let law = g.met.M.Machine in
     subst (λ (l : Layout). IsWord l c.args.step.word) w.3.0 (word_of g.S.Shape.allows w.0 record { call = c.args.hand.number; step = c.args.step } w.3.1 _ _ (λ h. law.lawful w.2 w.0 h c.args.step) (called_so w.4))
-
-pub make-requires-clause-word : goal.make-requires-clause-word
-make-requires-clause-word g c = subst (λ (l : Layout). IsWord l c.args.step.word) (sym c.args.hand.of_table.1) (let w = c.requires.waits in let law = g.met.M.Machine in
-    subst (λ (l : Layout). IsWord l c.args.step.word) w.3.0 (word_of g.S.Shape.allows w.0 record { call = c.args.hand.number; step = c.args.step } w.3.1 _ _ (λ h. law.lawful w.2 w.0 h c.args.step) (called_so w.4)))
-
-pub make-requires-clause-may : goal.make-requires-clause-may
-make-requires-clause-may g c = let w = c.requires.waits in let law = g.met.M.Machine in
-    may g.S.Shape.allows w.0 record { call = c.args.hand.number; step = c.args.step } w.3.1 _ _ (λ h r. law.keeps w.2 w.0 h c.args.step r) (λ h. law.lawful w.2 w.0 h c.args.step) (called_so w.4)
-
-pub returns-clause-told : goal.returns-clause-told
-returns-clause-told g c = λ k first m fits x. let law = g.met.M.Machine in let step = c.args.step in let found = c.make.result in
-    let allows = g.S.Shape.allows in
-    let course : g.row.M.Denot → History → Type 0 = λ n h. Trace {M = g.row.M.Denot} allows g.M.Machine.waits g.M.Machine.same k first n h in
-    told allows k record { call = c.args.hand.number; step = c.args.step } fits.1 c.args.seat.now.me.0.passes c.make.new.seat.me.0.passes found (λ h. g.M.Machine.waits m k h step × course m h) (λ h. g.M.Machine.ready m k h (Some found) × course m h)
-    (λ h r run other p. (law.keeps m k h step r run other p.0, others step r h refl (law.keeps m k h step r run other p.0) other run p.1))
-    (λ h run tells p. (law.made m k h step found run tells p.0, makes step h refl p.0 run p.1))
-    c.make.ensures.made x
-
-pub returns-clause-one : goal.returns-clause-one
-returns-clause-one g c = one_step g.S.Shape.allows record { call = c.args.hand.number; step = c.args.step } _ _ _ c.make.ensures.made
-
-pub returns-clause-row : goal.returns-clause-row
-returns-clause-row g c = let m = c.make.ensures.made in (m.pass, m.was, record { others = m.others; row = row m.pass.number.0 record { call = c.args.hand.number; step = c.args.step } (past_of m.pass m.others); is = ap known_of m.is; by_others = m.by_others; of_pass = refl; of_call = refl; of_kind = refl })

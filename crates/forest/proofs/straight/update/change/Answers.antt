@@ -12,6 +12,7 @@ use Rattle.forest.specs.StraightScx.{all_frozen_load}
 use Rattle.forest.specs.StraightUpdate.{Updater, UpdaterIsBlocked, UpdaterTries}
 use Rattle.forest.specs.declared.straight.scx.Change.{Change as ChangeOf}
 use Rattle.forest.specs.CallKinds.{calls}
+use Rattle.forest.proofs.Inside.{waits_within}
 use Rattle.forest.proofs.StraightScx.{helper, to_help, help_waits, help_told}
 use Rattle.forest.proofs.StraightUpdate.{changer, begins_change, changed, is_blocked, update_is}
 use Rattle.forest.proofs.straight.update.change.Given.{Over}
@@ -26,6 +27,10 @@ change_of g c = record { scx = c.args.scx; call = c.args.run.now.call; plan = c.
 helps : (g : Over) (c : After-fill_all g) (u : Updater (calls g.S.Shape g.M.Machine c.args.hand.layout.now c.args.hand.number) g.E.Edit.means) → UpdaterTries u c.args.seat.now.me.0.passes c.args.run.now c.args.found.now (Change c.args.scx) → LoadsPlan (helper (changer u c.args.run.now c.args.found.now) c.as_slice-snaps.result.now (change_of g c)) c.fill_all.new.seat.me.0.passes c.new-help.result
 helps g c u x = to_help (changer u c.args.run.now c.args.found.now) c.as_slice-snaps.result.now (change_of g c) _ c.new-help.result c.fill_all.result c.new-help.ensures.scx c.new-help.ensures.start
     (c.fill_all.ensures.told (changer u c.args.run.now c.args.found.now) (begins_change u _ c.args.run.now c.args.found.now c.args.scx c.as_slice-snaps.result.now c.plan.result c.old.result c.fresh.result c.as_slice-snaps.ensures.value c.plan.ensures c.old.ensures c.fresh.ensures x))
+
+pub scx_start-start-requires : goal.scx_start-start-requires
+scx_start-start-requires g c = let r = c.requires.tries in let u = r.0 in
+    (waits_within (changer u c.args.run.now c.args.found.now) _ g.met.M.Machine.lawful _ _ (begins_change u _ c.args.run.now c.args.found.now c.args.scx c.as_slice-snaps.result.now c.plan.result c.old.result c.fresh.result c.as_slice-snaps.ensures.value c.plan.ensures c.old.ensures c.fresh.ensures r.1)).0
 
 pub fill_all-requires-clause-waits : goal.fill_all-requires-clause-waits
 fill_all-requires-clause-waits g c = let r = c.requires.tries in let u = r.0 in (changer u c.args.run.now c.args.found.now, begins_change u _ c.args.run.now c.args.found.now c.args.scx c.as_slice-snaps.result.now c.plan.result c.old.result c.fresh.result c.as_slice-snaps.ensures.value c.plan.ensures c.old.ensures c.fresh.ensures r.1)

@@ -1,12 +1,18 @@
 use Rattle.std.proofs.Common.{◌+◌, ◌<◌, ◌∙◌, sym, arith}
+use Rattle.arena.specs.declared.step.Kind.TheVariants.{LoadSettled}
+use Rattle.arena.specs.declared.word.NodeWord.TheVariants.{Settled}
+use Rattle.arena.specs.declared.word.SettledPart.TheVariants.{Head as HeadWord}
 use Rattle.arena.specs.Heads.{head_of}
-use Rattle.forest.specs.StraightWalk.{Walker, WalkerIsTold, WalksFromRoot}
+use Rattle.arena.specs.Words.{node}
+use Rattle.forest.specs.StraightWalk.{Walker, WalkerIsTold, WalkerWaits, WalksFromRoot}
 use Rattle.forest.specs.Traces.{shared_nodes}
 use Rattle.forest.specs.CallKinds.{calls}
-use Rattle.order.specs.Successor.Steps.{last_turn}
-use Rattle.template.specs.Walk.Places.{walk_at}
+use Rattle.order.specs.Steps.{last_turn}
+use Rattle.prims.specs.Llx.Known.{load}
+use Rattle.template.specs.Walk.Places.{walk_at, trail_below}
 use Rattle.template.specs.Walk.Steps.{WalkFitsAt}
-use Rattle.template.specs.declared.walk.WalkAt.TheVariants.{Child}
+use Rattle.template.specs.declared.walk.WalkAt.TheVariants.{Child, Head}
+use Rattle.forest.proofs.Inside.{waits_within}
 use Rattle.forest.proofs.StraightWalk.{to_head, fits, fewer, some_left}
 use Rattle.forest.proofs.straight.walk.call.Given.{Over}
 use Rattle.forest.proofs.straight.walk.call.Goals.{After-read-word, After-read-child}
@@ -56,6 +62,15 @@ read-child-requires-clause-waits g c = let r = c.requires.waits in (
   c.in-Ok.ensures.down r.0 c.loop-side.turn (told g (goal.at.read-child-requires-clause-waits g c).After-read-word r.0 r.1),
 )
 
+-- so that the head of the child is what the walk waits for, wherever its words begin
+waits_below : (g : Over) (c : After-read-child g) (w : Walker (calls g.S.Shape g.M.Machine c.args.hand.layout.now c.args.hand.number))
+    → WalksFromRoot w c.args.seat.now.me.0.passes c.args.goal
+    → WalkerWaits w c.read-child.new.seat.me.0.passes (walk_at c.args.goal (trail_below c.loop-side.trail c.in-Ok.side c.read-child.result) (Head (head_of c.read-word.result).level)) (last_turn (Child (head_of c.read-word.result).level c.in-Ok.side) c.loop-side.trail.node c.loop-side.turn) (load LoadSettled (node c.read-child.result (Settled HeadWord)))
+waits_below g c w x = to_head w _ c.args.goal c.loop-side.trail (last_turn (Child (head_of c.read-word.result).level c.in-Ok.side) c.loop-side.trail.node c.loop-side.turn) (head_of c.read-word.result).level c.in-Ok.side c.read-child.result (told_child g c w x)
+
+pub node_start-start-requires : goal.node_start-start-requires
+node_start-start-requires g c = let r = c.requires.waits in waits_within r.0 _ g.met.M.Machine.lawful _ _ (waits_below g (goal.at.node_start-start-requires g c).After-read-child r.0 r.1)
+
 pub loop-side-smaller : goal.loop-side-smaller
 loop-side-smaller g c =
     let less = fewer c.loop-side.at c.read-word.result (shared_nodes c.args.hand.layout.now) c.of-head.result c.loop-side.invariant.place (sym c.of-head.ensures) (head_fits g (goal.at.loop-side-smaller g c).After-read-word) (rw c.of-head.ensures (child_fits g (goal.at.loop-side-smaller g c).After-read-child)) in
@@ -65,6 +80,7 @@ pub loop-side-preserved : goal.loop-side-preserved
 loop-side-preserved g c = record {
   here = (c.read-child.ensures.table.0 ∙ c.in-Ok.ensures.table.0 ∙ c.read-word.ensures.table.0 ∙ c.loop-side.invariant.here.0, c.read-child.ensures.table.1 ∙ c.in-Ok.ensures.table.1 ∙ c.read-word.ensures.table.1 ∙ c.loop-side.invariant.here.1);
   place = tt;
+  start = c.node_start-start.ensures;
   steps = (
       let less = fewer c.loop-side.at c.read-word.result (shared_nodes c.args.hand.layout.now) c.of-head.result c.loop-side.invariant.place (sym c.of-head.ensures) (head_fits g (goal.at.loop-side-preserved g c).After-read-word) (rw c.of-head.ensures (child_fits g (goal.at.loop-side-preserved g c).After-read-child)) in
       let one = c.read-word.ensures.one in let more = c.in-Ok.ensures.steps in let last = c.read-child.ensures.one in let old = c.loop-side.invariant.steps in

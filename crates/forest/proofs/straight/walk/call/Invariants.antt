@@ -2,6 +2,7 @@ use Rattle.std.proofs.Common.{◌≡◌, ◌+◌, ◌*◌, ◌≤◌, suc}
 use Rattle.arena.specs.declared.step.Kind.TheVariants.{LoadSettled}
 use Rattle.arena.specs.declared.word.NodeWord.TheVariants.{Settled}
 use Rattle.arena.specs.declared.word.SettledPart.TheVariants.{Head}
+use Rattle.arena.specs.Layout.{node_start}
 use Rattle.arena.specs.Words.{node}
 use Rattle.forest.specs.StraightWalk.{Walker, WalkerWaits, WalksFromRoot}
 use Rattle.forest.specs.Traces.{seat_steps, shared_nodes}
@@ -15,6 +16,7 @@ abbrev pub invariant-loop-side : goal.invariant-loop-side
 invariant-loop-side g l = record {
   here : (l.seat.table_id ≡ l.fn.seat.table_id) × (l.seat.me.1 ≡ l.fn.seat.me.1);
   place : LoadsHead l.at;
+  start : l.start ≡ node_start l.trail.node;
   steps : seat_steps l.seat.me.0.passes + suc (walk_left l.at (shared_nodes l.fn.hand.layout.now)) ≤ seat_steps l.fn.seat.me.0.passes + 3 * (2 + shared_nodes l.fn.hand.layout.now);
   waits : (w : Walker (calls g.S.Shape g.M.Machine l.fn.hand.layout.now l.fn.hand.number))
       → WalksFromRoot w l.fn.seat.me.0.passes l.goal
