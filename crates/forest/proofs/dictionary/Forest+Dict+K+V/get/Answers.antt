@@ -42,7 +42,7 @@ returns-clause-goes_on g c =
     let ended = get_has_ended g.K.WordKey.is_valid g.K.WordKey.word_of g.V.WordValue.is_valid g.V.WordValue.word_of c.pass.inside c.pass.invariant c.call.new.seat c.self.inside.tries c.word.result c.taken-number.result c.self.inside.layout lay named c.call.result.1 c.call.result.0 c.value_of.result c.value_of.ensures.valid c.value_of.ensures.word found in
     let layout_is = ap (λ (f : Ground). f.layout) (sym c.self.view_is) in
     let nodes = shared_nodes c.self.inside.layout in
-    rw (← c.pass.view_is, layout_is) (dict_goes_on g.K.WordKey.is_valid g.K.WordKey.word_of g.V.WordValue.is_valid g.V.WordValue.word_of c.pass.inside c.pass.invariant c.call.new.seat m (Value c.value_of.result) ended (3 * (2 + nodes)) (3 * (2 + nodes)) c.call.ensures.table.0 c.call.ensures.steps (omega arith))
+    rw (← c.pass.view_is, layout_is) (dict_goes_on g.K.WordKey.is_valid g.K.WordKey.word_of g.V.WordValue.is_valid g.V.WordValue.word_of c.pass.inside c.pass.invariant c.call.new.seat m (Value c.value_of.result) ended (3 * (2 + nodes) + 5) (3 * (2 + nodes) + 5) c.call.ensures.table.0 c.call.ensures.steps (omega arith))
 
 pub returns-clause-spends : goal.returns-clause-spends
 returns-clause-spends g c =
