@@ -108,10 +108,10 @@ module _ {E : Type 0} (e : EditMeaning E) {A : Type 0} (m : UpdateRun E A) (run 
   pub scx_ready : ScxIsReady TreeAllows run (begun_at c h) h None
   scx_ready = hand_ready c h m.share m.nodes.first.0 (top e m f) (piece e m f) run x.run.1.lawful x.full x.some over
       (λ i p. let u = usable i p in (u.moment, snapped_usable c h (e.goal m.edit) f (snap_at run.update.snaps i) x.run.1.lawful u)) at is.fresh is_scx
-      (λ d says. promised_allowed c.layout c.pass h run.scx.0 d (e.edit m.edit f) (sound.promised m.edit c h f m.snaps.items m.nodes m.loaded (job_of run) d x.run x.need x.all is says))
+      (λ d says. promised_allowed c.layout c.pass h run.scx.0 d (e.edit m.edit f) (sound.promised m.edit c h f m.snaps.items m.nodes m.read (job_of run) d x.run x.need x.all is says))
 
   promised : (d : Descriptor) → Says d (job_of run) → IsPromised c.layout c.pass h run.scx.0 d (e.edit m.edit f)
-  promised d says = sound.promised m.edit c h f m.snaps.items m.nodes m.loaded (job_of run) d x.run x.need x.all is says
+  promised d says = sound.promised m.edit c h f m.snaps.items m.nodes m.read (job_of run) d x.run x.need x.all is says
 
   tracked : Tracks c.layout c.pass h (job_of run) (e.edit m.edit f)
   tracked = waits promised scx_ready.1.is_open.unnamed

@@ -12,20 +12,20 @@ use Rattle.edits.specs.declared.edit.Need.TheVariants.{Nothing, One, Three}
 use Rattle.edits.specs.declared.edit.Nodes.{Nodes}
 use Rattle.edits.specs.declared.edit.Nth.{Nth}
 use Rattle.edits.specs.declared.edit.Nth.TheVariants.{First, Second, Third}
-use Rattle.edits.specs.declared.edit.Piece.{Piece}
+use Rattle.edits.specs.declared.piece.Piece.{Piece}
 use Rattle.edits.specs.declared.update.UpdateRun.{UpdateRun}
 use Rattle.edits.specs.Edits.{EditMeaning}
-use Rattle.edits.specs.Known.{ComesBefore, IsNeeded, AreInOrder, CanLoad, CanFill, CanScx, IsFilledUpTo, HoldsPiece, piece, fills_here, top}
+use Rattle.edits.specs.Known.{ComesBefore, IsNeeded, StandInRow, CanFill, CanFillNode, CanScx, IsFilledUpTo, HoldsPiece, piece, top}
 use Rattle.edits.specs.Laws.Hand.{HasFilledTo, IsForField, FieldMay, filled_next}
-use Rattle.edits.specs.Laws.PieceFills.{ComesNext, HoldsFills, last_word, next_word, the_same}
-use Rattle.edits.specs.Pieces.{fills_of, fills_word, made_before, made_with, nth_behind, nth_node, part_behind, word_of, top_of}
+use Rattle.edits.specs.Laws.PieceFills.{ComesNext, HoldsWords, holds_all, holds_next, next_word, the_same}
+use Rattle.edits.specs.Pieces.{is_filled, nth_behind, nth_node, part_behind, word_of, top_of}
 use Rattle.edits.specs.Sound.{FillsWell}
-use Rattle.edits.proofs.Loading.{piece_is}
+use Rattle.edits.proofs.ReadWords.{piece_is}
 
 -- The next node
 
 -- a needed node of a place before is not the last
-earlier_below : (ns : Nodes) (need : Need) (nth i : Nth) → IsNeeded need nth → AreInOrder need ns → ComesBefore i nth → (ns.first.0 ≤ (nth_node ns i).0) × ((nth_node ns i).0 < top_of need ns)
+earlier_below : (ns : Nodes) (need : Need) (nth i : Nth) → IsNeeded need nth → StandInRow need ns → ComesBefore i nth → (ns.first.0 ≤ (nth_node ns i).0) × ((nth_node ns i).0 < top_of need ns)
 earlier_below ns Nothing nth i n o b = absurd n
 earlier_below ns One First First n o b = absurd b
 earlier_below ns One First Second n o b = absurd b
@@ -48,23 +48,12 @@ record ComesBehind (ns : Nodes) (need : Need) (nth after : Nth) : Type 0 where
   number : suc (nth_node ns nth).0 ≡ (nth_node ns after).0
   lowest : ns.first.0 ≤ (nth_node ns after).0
   highest : (nth_node ns after).0 ≤ top_of need ns
-  before : (i : Nth) → ComesBefore i after → ComesBefore i nth ⊎ (nth ≡ i)
 
-before_second : (i : Nth) → ComesBefore i Second → ComesBefore i First ⊎ (First ≡ i)
-before_second First b = inr refl
-before_second Second b = absurd b
-before_second Third b = absurd b
-
-before_third : (i : Nth) → ComesBefore i Third → ComesBefore i Second ⊎ (Second ≡ i)
-before_third First b = inl tt
-before_third Second b = inr refl
-before_third Third b = absurd b
-
-next_node : (ns : Nodes) (need : Need) (nth after : Nth) → AreInOrder need ns → nth_behind need nth ≡ Some after → ComesBehind ns need nth after
+next_node : (ns : Nodes) (need : Need) (nth after : Nth) → StandInRow need ns → nth_behind need nth ≡ Some after → ComesBehind ns need nth after
 next_node ns Nothing nth after o e = absurd (let d : None ≡ Some after = e in cc)
 next_node ns One nth after o e = absurd (let d : None ≡ Some after = e in cc)
-next_node ns Three First after o e = let p = o.0 in let q = o.1 in subst (λ i. ComesBehind ns Three First i) (the_same Second after e) record { needed = tt; number = omega (arith, p); lowest = omega (arith, p); highest = omega (arith, q); before = before_second }
-next_node ns Three Second after o e = let p = o.0 in let q = o.1 in subst (λ i. ComesBehind ns Three Second i) (the_same Third after e) record { needed = tt; number = omega (arith, q); lowest = omega (arith, p, q); highest = omega arith; before = before_third }
+next_node ns Three First after o e = let p = o.0 in let q = o.1 in subst (λ i. ComesBehind ns Three First i) (the_same Second after e) record { needed = tt; number = omega (arith, p); lowest = omega (arith, p); highest = omega (arith, q) }
+next_node ns Three Second after o e = let p = o.0 in let q = o.1 in subst (λ i. ComesBehind ns Three Second i) (the_same Third after e) record { needed = tt; number = omega (arith, q); lowest = omega (arith, p, q); highest = omega arith }
 next_node ns Three Third after o e = absurd (let d : None ≡ Some after = e in cc)
 
 -- The last node
@@ -79,22 +68,8 @@ last_node ns Three First n e = absurd (let d : Some Second ≡ None = e in cc)
 last_node ns Three Second n e = absurd (let d : Some Third ≡ None = e in cc)
 last_node ns Three Third n e = refl
 
--- and each that is needed is that one or comes before it
-last_place : (need : Need) (nth i : Nth) → IsNeeded need nth → nth_behind need nth ≡ None → IsNeeded need i → ComesBefore i nth ⊎ (nth ≡ i)
-last_place Nothing nth i n e j = absurd n
-last_place One First First n e j = inr refl
-last_place One First Second n e j = absurd j
-last_place One First Third n e j = absurd j
-last_place One Second i n e j = absurd n
-last_place One Third i n e j = absurd n
-last_place Three First i n e j = absurd (let d : Some Second ≡ None = e in cc)
-last_place Three Second i n e j = absurd (let d : Some Third ≡ None = e in cc)
-last_place Three Third First n e j = inl tt
-last_place Three Third Second n e j = inl tt
-last_place Three Third Third n e j = inr refl
-
 -- each needed node is one of those in hand
-needed_within : (ns : Nodes) (need : Need) (i : Nth) → IsNeeded need i → AreInOrder need ns → (ns.first.0 ≤ (nth_node ns i).0) × ((nth_node ns i).0 ≤ top_of need ns)
+needed_within : (ns : Nodes) (need : Need) (i : Nth) → IsNeeded need i → StandInRow need ns → (ns.first.0 ≤ (nth_node ns i).0) × ((nth_node ns i).0 ≤ top_of need ns)
 needed_within ns Nothing i n o = absurd n
 needed_within ns One First n o = (omega arith, omega arith)
 needed_within ns One Second n o = absurd n
@@ -113,19 +88,19 @@ module _ {E : Type 0} (e : EditMeaning E) {A : Type 0} (m : UpdateRun E A) (c : 
   here = (nth_node m.nodes nth).0
 
   abbrev said : Piece
-  said = e.pieces m.edit f m.snaps.items m.nodes m.loaded nth
+  said = e.pieces m.edit f m.snaps.items m.nodes m.read nth
 
   is_said : piece e m f here ≡ said
-  is_said = piece_is (λ i. e.pieces m.edit f m.snaps.items m.nodes m.loaded i) m.nodes (e.needs m.edit f) nth x.0.works.need x.0.works.in_order
+  is_said = piece_is (λ i. e.pieces m.edit f m.snaps.items m.nodes m.read i) m.nodes (e.needs m.edit f) nth x.0.works.need x.0.works.in_order
 
-  for_field : FillsWell e → (side : Side) → fills_word (fills_of said) (Child side) ≡ true → IsForField c.layout h m.nodes.first.0 (top e m f) (word_of said (Child side))
-  for_field sound side i = go (sound.fields m.edit c h f m.snaps.items m.nodes m.loaded nth side x.0.works.run x.0.works.looked x.0.works.enough x.0.works.need i)
+  for_field : FillsWell e → (side : Side) → is_filled said (Child side) ≡ true → IsForField c.layout h m.nodes.first.0 (top e m f) (word_of said (Child side))
+  for_field sound side i = go (sound.fields m.edit c h f m.snaps.items m.nodes m.read nth side x.0.works.run x.0.works.looked x.0.works.enough x.0.works.need i)
     where
       go : ((j : Nth) × ComesBefore j nth × (word_of said (Child side) ≡ (nth_node m.nodes j).0)) ⊎ IsInField c.layout h (word_of said (Child side)) → IsForField c.layout h m.nodes.first.0 (top e m f) (word_of said (Child side))
       go (inl y) = inl (subst (λ v. (m.nodes.first.0 ≤ v) × (v < top e m f)) (sym y.2) (earlier_below m.nodes (e.needs m.edit f) nth y.0 x.0.works.need x.0.works.in_order y.1))
       go (inr y) = inr y
 
-  field_may : FillsWell e → (next : NodeWord) → fills_word (fills_of said) next ≡ true → FieldMay next (IsForField c.layout h m.nodes.first.0 (top e m f) (word_of said next))
+  field_may : FillsWell e → (next : NodeWord) → is_filled said next ≡ true → FieldMay next (IsForField c.layout h m.nodes.first.0 (top e m f) (word_of said next))
   field_may sound (Child side) i = for_field sound side i
   field_may sound (Settled p) i = tt
   field_may sound Info i = tt
@@ -134,47 +109,31 @@ module _ {E : Type 0} (e : EditMeaning E) {A : Type 0} (m : UpdateRun E A) (c : 
   -- it may fill the next word
   pub fills_next : (next : NodeWord) → FillsWell e → part_behind said part ≡ Some next → CanFill e m c h f nth next
   fills_next next sound is = record {
-    fills = record { works = x.0.works; full = x.0.full; hand = x.0.hand; done = x.0.done; part_is = subst (λ p. fills_word (fills_of p) next ≡ true) (sym is_said) next_is.is };
+    fills = record { works = x.0.works; full = x.0.full; hand = x.0.hand; read = x.0.read; whole = x.0.whole; part_is = subst (λ p. is_filled p next ≡ true) (sym is_said) next_is.is };
     same = is_said;
     may = subst (λ p. FieldMay next (IsForField c.layout h m.nodes.first.0 (top e m f) (word_of p next))) (sym is_said) (field_may sound next next_is.is);
-    words = subst (HoldsFills h here) (sym (subst (λ p. made_before (fills_of p) next ≡ made_with (fills_of p) part) (sym is_said) next_is.before)) x.1;
+    words = holds_next h here (piece e m f here) part next (subst (λ p. part_behind p part ≡ Some next) (sym is_said) is) x.1;
   }
     where
-      next_is : ComesNext (fills_of said) part next
+      next_is : ComesNext said part next
       next_is = next_word said part next is
 
   -- the node of this place is full
-  all_words : part_behind said part ≡ None → HoldsFills h here (fills_here e m f nth)
-  all_words none = subst (HoldsFills h here) (last_word (piece e m f here) part x.0.part_is (subst (λ p. part_behind p part ≡ None) (sym is_said) none)) x.1
+  all_words : part_behind said part ≡ None → HoldsWords h here (piece e m f here)
+  all_words none = holds_all h here (piece e m f here) part x.0.part_is (subst (λ p. part_behind p part ≡ None) (sym is_said) none) x.1
 
   filled_here : part_behind said part ≡ None → HasFilledTo c.layout h c.pass m.share m.nodes.first.0 (top e m f) (suc here) (piece e m f)
   filled_here none = filled_next c.layout h c.pass m.share m.nodes.first.0 (top e m f) here (piece e m f) x.2 (all_words none) x.0.full
 
-  -- nothing more is wanted for it, nor for those before
-  wants_none : (i : Nth) → ComesBefore i nth ⊎ (nth ≡ i) → e.wants m.edit f m.snaps.items m.loaded i ≡ None
-  wants_none i (inl b) = x.0.works.before i b
-  wants_none i (inr q) = subst (λ j. e.wants m.edit f m.snaps.items m.loaded j ≡ None) q x.0.done
-
   -- it may go on with the next node
-  pub loads_next : (after : Nth) → part_behind said part ≡ None → nth_behind (e.needs m.edit f) nth ≡ Some after → CanLoad e m c h f after
-  loads_next after none is = record {
-    works = record {
-      run = x.0.works.run;
-      since = x.0.works.since;
-      quiet = x.0.works.quiet;
-      looked = x.0.works.looked;
-      enough = x.0.works.enough;
-      need = behind.needed;
-      in_order = x.0.works.in_order;
-      some = x.0.works.some;
-      named = x.0.works.named;
-      inside = x.0.works.inside;
-      loaded = x.0.works.loaded;
-      before = λ i b. wants_none i (behind.before i b);
-    };
+  pub node_next : (after : Nth) → part_behind said part ≡ None → nth_behind (e.needs m.edit f) nth ≡ Some after → CanFillNode e m c h f after
+  node_next after none is = record {
+    works = record { run = x.0.works.run; since = x.0.works.since; quiet = x.0.works.quiet; looked = x.0.works.looked; enough = x.0.works.enough; need = behind.needed; in_order = x.0.works.in_order; some = x.0.works.some };
     full = subst (λ n. HasFilledTo c.layout h c.pass m.share m.nodes.first.0 (top e m f) n (piece e m f)) behind.number (filled_here none);
     hand = record { lowest = behind.lowest; highest = behind.highest };
     blank = x.0.full.blank (nth_node m.nodes after).0 behind.lowest (let n = behind.number in omega (arith, n)) behind.highest;
+    read = x.0.read;
+    whole = x.0.whole;
   }
     where
       behind : ComesBehind m.nodes (e.needs m.edit f) nth after
@@ -192,8 +151,8 @@ module _ {E : Type 0} (e : EditMeaning E) {A : Type 0} (m : UpdateRun E A) (c : 
       looked = x.0.works.looked;
       enough = x.0.works.enough;
       in_order = x.0.works.in_order;
-      loaded = x.0.works.loaded;
-      done = λ i n. wants_none i (last_place (e.needs m.edit f) nth i x.0.works.need last n);
+      right = x.0.read;
+      whole = x.0.whole;
       holds = holds;
     };
     full = all_full;
@@ -202,12 +161,12 @@ module _ {E : Type 0} (e : EditMeaning E) {A : Type 0} (m : UpdateRun E A) (c : 
       all_full : HasFilledTo c.layout h c.pass m.share m.nodes.first.0 (top e m f) (suc (top e m f)) (piece e m f)
       all_full = subst (λ n. HasFilledTo c.layout h c.pass m.share m.nodes.first.0 (top e m f) (suc n) (piece e m f)) (last_node m.nodes (e.needs m.edit f) nth x.0.works.need last) (filled_here none)
 
-      holds : (i : Nth) → IsNeeded (e.needs m.edit f) i → HoldsPiece c h (nth_node m.nodes i).0 (e.pieces m.edit f m.snaps.items m.nodes m.loaded i)
+      holds : (i : Nth) → IsNeeded (e.needs m.edit f) i → HoldsPiece c h (nth_node m.nodes i).0 (e.pieces m.edit f m.snaps.items m.nodes m.read i)
       holds i n =
           let w = needed_within m.nodes (e.needs m.edit f) i n x.0.works.in_order in
           let from = w.0 in
           let to = w.1 in
-          subst (λ p. HoldsPiece c h (nth_node m.nodes i).0 p) (piece_is (λ j. e.pieces m.edit f m.snaps.items m.nodes m.loaded j) m.nodes (e.needs m.edit f) i n x.0.works.in_order) record {
+          subst (λ p. HoldsPiece c h (nth_node m.nodes i).0 p) (piece_is (λ j. e.pieces m.edit f m.snaps.items m.nodes m.read j) m.nodes (e.needs m.edit f) i n x.0.works.in_order) record {
             fresh = record { own = all_full.hand.own (nth_node m.nodes i).0 from to; unnamed = all_full.hand.unnamed (nth_node m.nodes i).0 from to };
             words = all_full.full (nth_node m.nodes i).0 from (omega (arith, to)) to;
           }

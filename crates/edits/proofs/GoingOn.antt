@@ -15,7 +15,7 @@ use Rattle.edits.specs.Steps.{IsNearer, IsSpending, Spends, fills_left, node_tri
 use Rattle.edits.specs.Tries.{IsTry}
 use Rattle.edits.specs.declared.edit.Nth.{Nth}
 use Rattle.edits.specs.declared.update.Next.{Next}
-use Rattle.edits.specs.declared.update.Next.TheVariants.{Look, Wait, Load, Fill as FillNext, Change}
+use Rattle.edits.specs.declared.update.Next.TheVariants.{Look, Wait, Read, Fill as FillNext, Change}
 use Rattle.edits.specs.declared.update.Stop.{Stop}
 use Rattle.edits.specs.declared.update.UpdateAt.{UpdateAt}
 use Rattle.edits.specs.declared.update.UpdateAt.TheVariants.{Fill}
@@ -49,14 +49,14 @@ module _ {E : Type 0} (e : EditMeaning E) {A : Type 0} (m : UpdateRun E A) (now 
 pub placed_same : {E : Type 0} (e : EditMeaning E) {A : Type 0} (m : UpdateRun E A) (f : Found) (next : Next) → IsSameUpdate m (placed e m f next)
 placed_same e m f (Look n) = (refl, refl, refl)
 placed_same e m f (Wait n b scx) = (refl, refl, refl)
-placed_same e m f (Load nth part) = (refl, refl, refl)
+placed_same e m f (Read n part) = (refl, refl, refl)
 placed_same e m f (FillNext nth) = (refl, refl, refl)
 placed_same e m f (Change scx) = (refl, refl, refl)
 
 pub placed_tries : {E : Type 0} (e : EditMeaning E) {A : Type 0} (m : UpdateRun E A) (f : Found) (next : Next) → (placed e m f next).tries ≡ m.tries
 placed_tries e m f (Look n) = refl
 placed_tries e m f (Wait n b scx) = refl
-placed_tries e m f (Load nth part) = refl
+placed_tries e m f (Read n part) = refl
 placed_tries e m f (FillNext nth) = refl
 placed_tries e m f (Change scx) = refl
 

@@ -1,9 +1,12 @@
+mod PairPlaces
 mod Nearer
 mod Widened
 mod Undisturbed
 mod Making
 mod Turns
-mod Loading
+mod ReadWords
+mod FilledNodes
+mod PairFills
 mod Looking
 mod Filling
 mod Beginning

@@ -3,8 +3,8 @@ use Rattle.std.proofs.Common.{◌≡◌, ◌≢◌, ℕ, zero, suc, ◌+◌, ◌
 use Rattle.std.specs.Prelude.{take, Result, Ok, Err, OnOk, OnErr}
 use Rattle.std.proofs.lemmas.List.{take-append-le}
 use Rattle.arena.specs.declared.number.NodeNo.{NodeNo}
-use Rattle.arena.specs.Fills.{IsNamed, IsOwnNode}
-use Rattle.arena.specs.History.{History, value, Extends}
+use Rattle.arena.specs.Fills.{IsOwnNode}
+use Rattle.arena.specs.History.{History, Extends}
 use Rattle.arena.specs.Lawful.{Lawful}
 use Rattle.arena.specs.Machines.{Call, MatchTurn, begun_at}
 use Rattle.arena.specs.Share.{Remaining, HasNode}
@@ -32,17 +32,14 @@ use Rattle.template.specs.declared.walk.Goal.{Goal}
 use Rattle.edits.specs.declared.edit.Look.TheVariants.{At, Enough}
 use Rattle.edits.specs.declared.edit.Need.{Need}
 use Rattle.edits.specs.declared.edit.Need.TheVariants.{Nothing, One, Three}
-use Rattle.edits.specs.declared.edit.Nth.{Nth}
-use Rattle.edits.specs.declared.edit.Nth.TheVariants.{First, Second, Third}
-use Rattle.edits.specs.declared.edit.Piece.{Piece}
+use Rattle.edits.specs.declared.piece.Piece.{Piece}
 use Rattle.edits.specs.declared.update.UpdateRun.{UpdateRun}
 use Rattle.edits.specs.Next.{standing}
 use Rattle.edits.specs.Edits.{EditMeaning}
-use Rattle.edits.specs.Known.{IsBelowRoot, RestsWith, MayBeginTry, HasNodesFor, HasSnappedAfterWalk, AreUsable, AreLoaded, ComesBefore, AreSeen, CanLook, CanLoad, Looks, TryWaits, copied, piece, nothing_loaded}
+use Rattle.edits.specs.Known.{RestsWith, MayBeginTry, HasNodesFor, HasSnappedAfterWalk, AreUsable, AreSeen, CanLook, CanWork, Looks, TryWaits, piece}
 use Rattle.edits.specs.Pieces.{less_a_node, many_nodes, top_of}
-use Rattle.edits.specs.Sound.{LooksWell}
 use Rattle.edits.specs.Laws.Hand.{HasFilledTo}
-use Rattle.edits.specs.Laws.PieceFills.{HoldsFills}
+use Rattle.edits.specs.Laws.PieceFills.{IsUnfilled}
 use Rattle.edits.specs.Tries.{IsTry}
 
 -- A snapshot more
@@ -165,10 +162,6 @@ no_nothing Three left x e = cc
 pub is_needed : {E : Type 0} (e : EditMeaning E) {A : Type 0} (m : UpdateRun E A) (c : Call) (h : History) (f : Found) → CanLook e m c h f → e.needs m.edit f ≢ Nothing
 is_needed e m c h f x = no_nothing (e.needs m.edit f) m.share x.room
 
--- what was loaded in a try before is forgotten
-pub forgets : {E : Type 0} (e : EditMeaning E) {A : Type 0} (m : UpdateRun E A) (c : Call) (h : History) (f : Found) → CanLook e m c h f → CanLook e (record m { loaded = nothing_loaded }) c h f
-forgets e m c h f x = record { begins = record { run = x.begins.run; small = x.begins.small; since = x.begins.since; rests = x.begins.rests }; quiet = x.quiet; looked = x.looked; room = x.room }
-
 one_or_three : (need : Need) (left : Remaining) → HasNodesFor need left → need ≢ Three → need ≡ One
 one_or_three Nothing left x d = absurd x
 one_or_three One left x d = refl
@@ -178,22 +171,10 @@ one_or_three Three left x d = absurd (d refl)
 pub needs_one : {E : Type 0} (e : EditMeaning E) {A : Type 0} (m : UpdateRun E A) (c : Call) (h : History) (f : Found) → CanLook e m c h f → e.needs m.edit f ≢ Three → e.needs m.edit f ≡ One
 needs_one e m c h f x d = one_or_three (e.needs m.edit f) m.share x.room d
 
-module _ {E : Type 0} (e : EditMeaning E) {A : Type 0} (m : UpdateRun E A) (c : Call) (h : History) (f : Found) (looks : LooksWell e) (x : CanLook e m c h f)
-    (enough : e.looks m.edit f m.snaps.items ≡ Enough) (blank : m.loaded ≡ nothing_loaded) where
-  is_copied : IsNamed c.layout h (copied e m f) × IsBelowRoot c.layout (copied e m f)
-  is_copied = looks.copied m.edit c h f m.snaps.items x.begins.run (is_needed e m c h f x) x.looked enough
-
-  loaded_blank : AreLoaded (value h) (copied e m f) m.loaded
-  loaded_blank = rw blank record { head = tt; key = tt; value = tt }
-
+module _ {E : Type 0} (e : EditMeaning E) {A : Type 0} (m : UpdateRun E A) (c : Call) (h : History) (f : Found) (x : CanLook e m c h f) (enough : e.looks m.edit f m.snaps.items ≡ Enough) where
   -- nothing of the next node is filled
-  first_blank : 0 < m.share.nodes → HoldsFills h m.share.next_node []
+  first_blank : 0 < m.share.nodes → IsUnfilled h m.share.next_node
   first_blank some q fill = left_zero c.layout h c.pass m.share m.share.next_node m.share.next_scx m.share.next_node q x.begins.run.1.lawful x.begins.rests.share record { from = omega arith; below = omega (arith, some) } fill
-
-  none_before : (i : Nth) → ComesBefore i First → ⊥
-  none_before First b = absurd b
-  none_before Second b = absurd b
-  none_before Third b = absurd b
 
   -- one node
   abbrev nodes_one : NodeNo → Nodes
@@ -202,7 +183,7 @@ module _ {E : Type 0} (e : EditMeaning E) {A : Type 0} (m : UpdateRun E A) (c : 
   abbrev one_taken : UpdateRun E A
   one_taken = record m { share = less_a_node m.share; nodes = nodes_one (record { 0 = m.share.next_node }) }
 
-  takes_one : e.needs m.edit f ≡ One → CanLoad e one_taken c h f First
+  takes_one : e.needs m.edit f ≡ One → CanWork e one_taken c h f
   takes_one one = record {
     works = record {
       run = x.begins.run;
@@ -213,10 +194,6 @@ module _ {E : Type 0} (e : EditMeaning E) {A : Type 0} (m : UpdateRun E A) (c : 
       need = rw one tt;
       in_order = rw one tt;
       some = room.1;
-      named = is_copied.0;
-      inside = is_copied.1;
-      loaded = loaded_blank;
-      before = λ i b. absurd (none_before i b);
     };
     full = subst (λ (t : ℕ). HasFilledTo c.layout h c.pass (less_a_node m.share) m.share.next_node t m.share.next_node (piece e one_taken f)) top_is (hand_begins c h m.share 0 (piece e one_taken f) x.begins.run.1.lawful room.0 x.begins.rests);
     hand = record { lowest = omega arith; highest = rw one (omega arith) };
@@ -232,10 +209,10 @@ module _ {E : Type 0} (e : EditMeaning E) {A : Type 0} (m : UpdateRun E A) (c : 
       top_is : m.share.next_node + 0 ≡ top_of (e.needs m.edit f) (nodes_one (record { 0 = m.share.next_node }))
       top_is = none_more m.share.next_node ∙ sym (ap (λ n. top_of n (nodes_one (record { 0 = m.share.next_node }))) one)
 
-  pub one_then : (now : UpdateRun E A) (first : NodeNo) → e.needs m.edit f ≡ One → now ≡ record m { share = now.share } → (0 < m.share.nodes → (first.0 ≡ m.share.next_node) × (now.share ≡ less_a_node m.share)) → CanLoad e (record now { nodes = nodes_one first }) c h f First
+  pub one_then : (now : UpdateRun E A) (first : NodeNo) → e.needs m.edit f ≡ One → now ≡ record m { share = now.share } → (0 < m.share.nodes → (first.0 ≡ m.share.next_node) × (now.share ≡ less_a_node m.share)) → CanWork e (record now { nodes = nodes_one first }) c h f
   one_then now first one same taken =
-      subst (λ (n : UpdateRun E A). CanLoad e (record n { nodes = nodes_one first }) c h f First) (sym (same ∙ ap (λ (s : Remaining). record m { share = s }) t.1))
-      (subst (λ (k : NodeNo). CanLoad e (record m { share = less_a_node m.share; nodes = nodes_one k }) c h f First) (λ i. record { 0 = sym t.0 i }) (takes_one one))
+      subst (λ (n : UpdateRun E A). CanWork e (record n { nodes = nodes_one first }) c h f) (sym (same ∙ ap (λ (s : Remaining). record m { share = s }) t.1))
+      (subst (λ (k : NodeNo). CanWork e (record m { share = less_a_node m.share; nodes = nodes_one k }) c h f) (λ i. record { 0 = sym t.0 i }) (takes_one one))
     where
       room : HasNodesFor One m.share
       room = rw one at x.room
@@ -256,7 +233,7 @@ module _ {E : Type 0} (e : EditMeaning E) {A : Type 0} (m : UpdateRun E A) (c : 
   abbrev three_taken : UpdateRun E A
   three_taken = record m { share = less_three; nodes = nodes_three }
 
-  takes_three : e.needs m.edit f ≡ Three → CanLoad e three_taken c h f First
+  takes_three : e.needs m.edit f ≡ Three → CanWork e three_taken c h f
   takes_three three = record {
     works = record {
       run = x.begins.run;
@@ -267,10 +244,6 @@ module _ {E : Type 0} (e : EditMeaning E) {A : Type 0} (m : UpdateRun E A) (c : 
       need = rw three tt;
       in_order = rw three (omega arith, omega arith);
       some = room.1;
-      named = is_copied.0;
-      inside = is_copied.1;
-      loaded = loaded_blank;
-      before = λ i b. absurd (none_before i b);
     };
     full = subst (λ (t : ℕ). HasFilledTo c.layout h c.pass less_three m.share.next_node t m.share.next_node (piece e three_taken f)) top_is
         (subst (λ (s : Remaining). HasFilledTo c.layout h c.pass s m.share.next_node (m.share.next_node + 2) m.share.next_node (piece e three_taken f)) share_is
@@ -301,10 +274,10 @@ module _ {E : Type 0} (e : EditMeaning E) {A : Type 0} (m : UpdateRun E A) (c : 
       → one ≡ record m { share = one.share } → (0 < m.share.nodes → (first.0 ≡ m.share.next_node) × (one.share ≡ less_a_node m.share))
       → two ≡ record one { share = two.share } → (0 < one.share.nodes → (second.0 ≡ one.share.next_node) × (two.share ≡ less_a_node one.share))
       → now ≡ record two { share = now.share } → (0 < two.share.nodes → (third.0 ≡ two.share.next_node) × (now.share ≡ less_a_node two.share))
-      → CanLoad e (record now { nodes = record { first = first; second = second; third = third } }) c h f First
+      → CanWork e (record now { nodes = record { first = first; second = second; third = third } }) c h f
   three_then one two now first second third three same_one taken_one same_two taken_two same_now taken_now =
-      subst (λ (n : UpdateRun E A). CanLoad e (record n { nodes = record { first = first; second = second; third = third } }) c h f First) (sym is_now)
-      (subst (λ (ns : Nodes). CanLoad e (record m { share = less_three; nodes = ns }) c h f First) nodes_are (takes_three three))
+      subst (λ (n : UpdateRun E A). CanWork e (record n { nodes = record { first = first; second = second; third = third } }) c h f) (sym is_now)
+      (subst (λ (ns : Nodes). CanWork e (record m { share = less_three; nodes = ns }) c h f) nodes_are (takes_three three))
     where
       room : HasNodesFor Three m.share
       room = rw three at x.room

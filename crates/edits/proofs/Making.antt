@@ -24,7 +24,8 @@ use Rattle.ordered_map.specs.TreeShape.{edit_leaf}
 use Rattle.ordered_map.specs.TreeWords.{first_said, is_leaf, said}
 use Rattle.ordered_map.proofs.Lemmas.{SameSettled, run_since, settled_said, settled_first, settled_leaf, walk_named, win_first, win_makes, wins_of}
 use Rattle.template.proofs.Lemmas.{found_told, tracked_makes}
-use Rattle.template.specs.FoundLeaf.{path_key, HasFoundGoal}
+use Rattle.arena.specs.Words.{node, first_key}
+use Rattle.template.specs.FoundLeaf.{path_key, asked_key, HasFoundGoal}
 use Rattle.template.specs.declared.walk.Found.{Found}
 use Rattle.template.specs.declared.walk.Goal.{Goal}
 use Rattle.template.specs.declared.walk.Goal.TheVariants.{Key as ToKey, Least}
@@ -56,6 +57,11 @@ members_many h s j zero (t ∷ snaps) e = absurd (let z : [] ≡ t.node.0 ∷ no
 members_many h s j (suc n) [] e = absurd (let z : member h s j ∷ members_from h s (suc j) n ≡ [] = e in cc)
 members_many h s j (suc n) (t ∷ snaps) e = ap suc (members_many h s (suc j) n snaps (ap rest e))
 
+-- what is asked of the key that was asked for is that key
+asked_twice : (goal : Goal) (first : ℕ) → asked_key goal (asked_key goal first) ≡ asked_key goal first
+asked_twice (ToKey k) first = refl
+asked_twice Least first = refl
+
 newest : List Entry → Entry → Entry
 newest [] e = e
 newest (x ∷ xs) e = x
@@ -81,8 +87,8 @@ module _ (c : Call) (h : History) (m : ScxRun) (row : Row) (before : History) (l
       all : members_from before m.scx.0 0 (count before m.scx.0) ≡ nodes_of m.update.snaps
       all = ap (λ (e : Entry). e.members) entry_is
 
--- At the row at which the SCX-record of an edit wins that covers these snapshots, of a leaf that was
--- found before.
+-- At the row at which the SCX-record of an edit wins that covers these snapshots, of a leaf that
+-- was found before.
 module _ {E : Type 0} (e : EditMeaning E) (ed : E) (c : Call) (f : Found) (begin before : History) (row : Row) (s : ℕ) (snaps : List Snap)
     (now : IsTreeRun c.layout (row ⊳ before)) (since : Extends before begin) (won : IsWin before row s) (makes : Makes c.layout before s (e.edit ed f))
     (found : HasFoundGoal (e.goal ed) c begin f) (covers_leaf : CoversLeaf e ed f c begin s snaps) (covers_snaps : CoversSnaps before s snaps) where
@@ -102,7 +108,7 @@ module _ {E : Type 0} (e : EditMeaning E) (ed : E) (c : Call) (f : Found) (begin
   leaf_told : IsAtFound e → IsEditAt c.layout before row s (e.edit ed f) → (map : List Pair) → Spells c.layout (value before) map → get (edit_key (e.edit ed f)) map ≡ f.value
   leaf_told at_found edits map spells =
       let k : ℕ = edit_key (e.edit ed f) in
-      edits.replies map spells ∙ ap (said (value before) k) leaf ∙ settled_said (value begin) (value before) k f.trail.node.0 settled ∙ ap (λ q. said (value begin) q f.trail.node.0) (at_found ed f) ∙ sym found.says
+      edits.replies map spells ∙ ap (said (value before) k) leaf ∙ settled_said (value begin) (value before) k f.trail.node.0 settled ∙ ap (λ q. said (value begin) q f.trail.node.0) (at_found ed f ∙ ap (asked_key (e.goal ed)) (sym found.key) ∙ asked_twice (e.goal ed) (value begin (node f.trail.node.0 first_key))) ∙ sym found.says
 
   -- and if the walk went to the least key, its first pair
   first_at : (goal : Goal) → HasFoundGoal goal c begin f → ToldFirst goal c.layout before f
@@ -147,7 +153,8 @@ module _ {E : Type 0} (e : EditMeaning E) (at_found : IsAtFound e) {A : Type 0} 
   covers_snaps : CoversSnaps before after.scx.0 scx.update.snaps
   covers_snaps = subst (λ (u : Update). CoversSnaps before after.scx.0 u.snaps) same_update (covers (begun_at c begin) h after row before x.run.1.lawful y)
 
-  -- its edit is made by one entry, and just before that the leaf that was found told what the map did
+  -- its edit is made by one entry, and just before that the leaf that was found told what the map
+  -- did
   has_made : HasMade (e.edit m.edit f) c h m.call f.value
   has_made = record {
     scx = after.scx.0;

@@ -10,11 +10,9 @@ use Rattle.edits.specs.declared.edit.Need.{Need}
 use Rattle.edits.specs.declared.edit.Need.TheVariants.{Nothing, One, Three}
 use Rattle.edits.specs.declared.edit.Nth.{Nth}
 use Rattle.edits.specs.declared.edit.Nth.TheVariants.{First, Second, Third}
-use Rattle.edits.specs.declared.edit.Piece.{Piece}
-use Rattle.edits.specs.Edits.{EditMeaning}
+use Rattle.edits.specs.declared.piece.Piece.{Piece}
 use Rattle.edits.specs.Laws.PieceFills.{next_word, the_same}
-use Rattle.edits.specs.Pieces.{nth_behind, part_behind, fills_behind, HasPlace}
-use Rattle.edits.specs.Steps.{works_after}
+use Rattle.edits.specs.Pieces.{nth_behind, part_behind, fills_after, fills_behind, many_fills}
 use Rattle.edits.specs.declared.update.Updated.{Updated}
 
 -- what is below a number is below a greater one
@@ -25,7 +23,7 @@ below (Done u) x a b i j = tt
 pub less_than : (x a b : ℕ) → x < a → a ≤ b → x < b
 less_than x a b i j = omega (arith, i, j)
 
-no_more : (n : ℕ) → n ≤ n
+pub no_more : (n : ℕ) → n ≤ n
 no_more n = omega arith
 
 -- a try less
@@ -65,23 +63,27 @@ pub one_more : (t looks seen now works : ℕ) → looks ≤ 4 → (now ≡ suc s
 one_more t looks seen now works few (inl e) = omega (arith, few, e)
 one_more t looks seen now works few (inr i) = omega (arith, few, i)
 
-pub from_work : (t works most rest : ℕ) → works ≤ most → t + (works + rest + 39) ≤ t + (most + rest + 39)
-from_work t works most rest i = omega (arith, i)
+-- what is read first, or the first fill
+pub from_reads : (t reads most_reads fills : ℕ) → reads ≤ most_reads → t + (reads + fills + 39) ≤ t + (most_reads + fills + 39)
+from_reads t reads most_reads fills i = omega (arith, i)
 
-pub to_load : (t works rest : ℕ) → 0 < works → t + (works + rest - 1 + 39) < t + (works + rest + 39)
-to_load t works rest i = omega (arith, i)
+pub to_read : (t reads fills : ℕ) → 0 < reads → t + (reads - 1 + fills + 39) < t + (reads + fills + 39)
+to_read t reads fills i = omega (arith, i)
 
-pub to_fill : (t fills works rest : ℕ) → fills < works → t + (fills + rest + 39) < t + (works + rest + 39)
-to_fill t fills works rest i = omega (arith, i)
+pub to_next_read : (t now reads fills : ℕ) → 0 < now → now < reads → t + (now - 1 + fills + 39) < t + (reads - 1 + fills + 39)
+to_next_read t now reads fills some i = omega (arith, some, i)
 
-pub from_load : (t now works rest : ℕ) → now < works → t + (now + rest + 39) ≤ t + (works + rest - 1 + 39)
-from_load t now works rest i = omega (arith, i)
+pub to_first_fill : (t fills after most reads : ℕ) → suc fills + after ≤ most → t + (fills + after + 39) < t + (reads + most + 39)
+to_first_fill t fills after most reads i = omega (arith, i)
+
+pub from_read : (t now reads fills : ℕ) → now < reads → t + (now + fills + 39) ≤ t + (reads - 1 + fills + 39)
+from_read t now reads fills i = omega (arith, i)
 
 pub to_next_fill : (t now fills rest : ℕ) → now < fills → t + (now + rest + 39) < t + (fills + rest + 39)
 to_next_fill t now fills rest i = omega (arith, i)
 
-pub to_next_node : (t works most after : ℕ) → works ≤ most → t + (works + after + 39) ≤ t + (most + after + 39)
-to_next_node t works most after i = omega (arith, i)
+pub to_next_node : (t fills after : ℕ) → t + (fills + after + 39) < t + (suc fills + after + 39)
+to_next_node t fills after = omega arith
 
 pub to_scx : (t rest : ℕ) → t + 39 ≤ t + (rest + 39)
 to_scx t rest = omega arith
@@ -99,28 +101,24 @@ less_scx t left now i = omega (arith, i)
 pub scx_for_nodes : (most nodes scx tries : ℕ) → 0 < scx → nodes + most * (scx - 1 + (tries + 1) + tries) ≤ nodes + most * (scx + tries + tries)
 scx_for_nodes most nodes scx tries some = let same : scx - 1 + (tries + 1) + tries ≡ scx + tries + tries = omega (arith, some) in rw same (omega arith)
 
-none_more : (n : ℕ) → n ≡ n + 0
-none_more n = omega arith
+-- one that reads on takes nothing
+pub as_many : (most nodes scx tries : ℕ) → nodes + most * (scx + (tries + 1) + tries) ≤ nodes + most * (scx + tries + (tries + 1))
+as_many most nodes scx tries = let same : scx + (tries + 1) + tries ≡ scx + tries + (tries + 1) = omega arith in rw same (no_more (nodes + most * (scx + tries + (tries + 1))))
 
 -- what is below something is not 0
 pub some_left : (now left : ℕ) → now < left → 0 < left
 some_left now left i = omega (arith, i)
 
--- what is left behind a node is left for the next one
-pub after_next : {E : Type 0} (e : EditMeaning E) (need : Need) (nth after : Nth) → nth_behind need nth ≡ Some after → works_after e nth ≡ e.most_works after + works_after e after
-after_next e Nothing nth after d = absurd (let z : None ≡ Some after = d in cc)
-after_next e One nth after d = absurd (let z : None ≡ Some after = d in cc)
-after_next e Three First after d = subst (λ i. e.most_works Second + e.most_works Third ≡ e.most_works i + works_after e i) (the_same Second after d) refl
-after_next e Three Second after d = subst (λ i. e.most_works Third ≡ e.most_works i + works_after e i) (the_same Third after d) (none_more (e.most_works Third))
-after_next e Three Third after d = absurd (let z : None ≡ Some after = d in cc)
+none_more : (n : ℕ) → n ≡ n + 0
+none_more n = omega arith
 
--- and one has its place there
-pub place_behind : (need : Need) (nth after : Nth) → nth_behind need nth ≡ Some after → HasPlace need after
-place_behind Nothing nth after d = absurd (let z : None ≡ Some after = d in cc)
-place_behind One nth after d = absurd (let z : None ≡ Some after = d in cc)
-place_behind Three First after d = subst (λ i. HasPlace Three i) (the_same Second after d) refl
-place_behind Three Second after d = subst (λ i. HasPlace Three i) (the_same Third after d) refl
-place_behind Three Third after d = absurd (let z : None ≡ Some after = d in cc)
+-- what is left behind a node is left for the next one
+pub after_next : (need : Need) (pieces : Nth → Piece) (nth after : Nth) → nth_behind need nth ≡ Some after → fills_after need pieces nth ≡ many_fills (pieces after) + fills_after need pieces after
+after_next Nothing pieces nth after d = absurd (let z : None ≡ Some after = d in cc)
+after_next One pieces nth after d = absurd (let z : None ≡ Some after = d in cc)
+after_next Three pieces First after d = subst (λ i. many_fills (pieces Second) + many_fills (pieces Third) ≡ many_fills (pieces i) + fills_after Three pieces i) (the_same Second after d) refl
+after_next Three pieces Second after d = subst (λ i. many_fills (pieces Third) ≡ many_fills (pieces i) + fills_after Three pieces i) (the_same Third after d) (none_more (many_fills (pieces Third)))
+after_next Three pieces Third after d = absurd (let z : None ≡ Some after = d in cc)
 
 -- fewer words are filled behind the next
 pub fewer_fills : (p : Piece) (part next : NodeWord) → part_behind p part ≡ Some next → fills_behind p next < fills_behind p part

@@ -1,6 +1,9 @@
 -- What an update knows as it is told something, by the place where it stands.
 use Rattle.std.proofs.Common.{◌≡◌, ℕ, Option, Some, None, unwrap_or, refl, sym, ◌∙◌, subst}
+use Rattle.arena.specs.declared.number.NodeNo.{NodeNo}
 use Rattle.arena.specs.declared.word.NodeWord.{NodeWord}
+use Rattle.arena.specs.declared.word.NodeWord.TheVariants.{Settled}
+use Rattle.arena.specs.declared.word.SettledPart.{SettledPart}
 use Rattle.arena.specs.History.{History, value}
 use Rattle.arena.specs.Machines.{Call, begun_at}
 use Rattle.arena.specs.Words.{node}
@@ -14,10 +17,10 @@ use Rattle.template.specs.declared.walk.Found.{Found}
 use Rattle.template.specs.declared.walk.WalkRun.{WalkRun}
 use Rattle.edits.specs.declared.edit.Nth.{Nth}
 use Rattle.edits.specs.declared.update.UpdateAt.{UpdateAt}
-use Rattle.edits.specs.declared.update.UpdateAt.TheVariants.{Start, Walk, Look, Load, Fill, Scx}
+use Rattle.edits.specs.declared.update.UpdateAt.TheVariants.{Start, Walk, Look, Read, Fill, Scx}
 use Rattle.edits.specs.declared.update.UpdateRun.{UpdateRun}
 use Rattle.edits.specs.Edits.{EditMeaning}
-use Rattle.edits.specs.Known.{RestsWith, IsUntouched, FirstOrLost, MayBeginTry, Walks, Looks, Loads, Scxs, IsFilledUpTo, UpdateIsToldAt, UpdateIsReady, copied}
+use Rattle.edits.specs.Known.{RestsWith, IsUntouched, FirstOrLost, MayBeginTry, Walks, Looks, Reads, Scxs, IsFilledUpTo, UpdateIsToldAt, UpdateIsReady}
 use Rattle.edits.specs.Tries.{MayTry, IsTry}
 
 module _ {E : Type 0} (e : EditMeaning E) (m : UpdateRun E UpdateAt) (c : Call) (h : History) where
@@ -33,9 +36,9 @@ module _ {E : Type 0} (e : EditMeaning E) (m : UpdateRun E UpdateAt) (c : Call) 
   at_look None f llx is r = absurd (let d : Look f llx ≡ Start = sym is ∙ r.3 in cc)
   at_look (Some v) f llx is r = let t = subst (λ p. UpdateIsToldAt e m (begun_at c r.0) h v p) is r.3 in (r.0, r.1, t.0, t.1, t.2)
 
-  pub at_load : (got : Option ℕ) (f : Found) (nth : Nth) (part : NodeWord) → m.at ≡ Load f nth part → UpdateIsReady e m c h got → (b : History) × IsTry c b h m.limit m.tries × Loads e m (begun_at c b) h f nth part × (value h (node (copied e m f) part) ≡ unwrap_or got 0)
-  at_load None f nth part is r = absurd (let d : Load f nth part ≡ Start = sym is ∙ r.3 in cc)
-  at_load (Some v) f nth part is r = let t = subst (λ p. UpdateIsToldAt e m (begun_at c r.0) h v p) is r.3 in (r.0, r.1, t.0, t.1)
+  pub at_read : (got : Option ℕ) (f : Found) (n : NodeNo) (part : SettledPart) → m.at ≡ Read f n part → UpdateIsReady e m c h got → (b : History) × IsTry c b h m.limit m.tries × Reads e m (begun_at c b) h f n part × (value h (node n.0 (Settled part)) ≡ unwrap_or got 0)
+  at_read None f n part is r = absurd (let d : Read f n part ≡ Start = sym is ∙ r.3 in cc)
+  at_read (Some v) f n part is r = let t = subst (λ p. UpdateIsToldAt e m (begun_at c r.0) h v p) is r.3 in (r.0, r.1, t.0, t.1)
 
   pub at_fill : (got : Option ℕ) (f : Found) (nth : Nth) (part : NodeWord) → m.at ≡ Fill f nth part → UpdateIsReady e m c h got → (b : History) × IsTry c b h m.limit m.tries × IsFilledUpTo e m (begun_at c b) h f nth part
   at_fill None f nth part is r = absurd (let d : Fill f nth part ≡ Start = sym is ∙ r.3 in cc)

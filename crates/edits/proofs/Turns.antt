@@ -32,7 +32,7 @@ use Rattle.prims.specs.declared.update.Update.{Update}
 use Rattle.prims.proofs.Lemmas.{over_ends, turn_first}
 use Rattle.ordered_map.specs.TreeShape.{TreeAllows}
 use Rattle.template.proofs.Lemmas.{contended_wider, next_again, own_since, tried_in}
-use Rattle.template.specs.FoundLeaf.{path_key, HasFoundGoal}
+use Rattle.template.specs.FoundLeaf.{HasFoundGoal}
 use Rattle.template.specs.Tracked.{Tracks}
 use Rattle.template.specs.Walk.Known.{WalkIsTold, WalkWaits, WalkAnswers}
 use Rattle.template.specs.Walk.Places.{IsPastRoot}
@@ -41,7 +41,7 @@ use Rattle.template.specs.declared.walk.WalkAt.TheVariants.{Root}
 use Rattle.template.specs.declared.walk.WalkRun.{WalkRun}
 use Rattle.edits.specs.declared.edit.Look.TheVariants.{At}
 use Rattle.edits.specs.declared.edit.Nth.{Nth}
-use Rattle.edits.specs.declared.edit.Piece.{Piece}
+use Rattle.edits.specs.declared.piece.Piece.{Piece}
 use Rattle.edits.specs.declared.update.Updated.{Updated}
 use Rattle.edits.specs.declared.update.UpdateAt.TheVariants.{Walk, Look, Fill, Scx}
 use Rattle.edits.specs.declared.update.UpdateRun.{UpdateRun}
@@ -133,26 +133,14 @@ module _ {E : Type 0} (e : EditMeaning E) where
     } record { stands = refl; asked = refl },
   )
 
-  pub fills_word : {A : Type 0} (m : UpdateRun E A) (f : Found) (nth : Nth) (part : NodeWord) (p : Piece) (n : NodeNo) (v : ℕ) (c : Call) (h : History) → CanFill e m c h f nth part → p ≡ e.pieces m.edit f m.snaps.items m.nodes m.loaded nth → n ≡ nth_node m.nodes nth → v ≡ word_of p part → TryWaits e (standing m (Fill f nth part)) c h record { kind = FillKind; word = NodeOf n part; access = Store v }
+  pub fills_word : {A : Type 0} (m : UpdateRun E A) (f : Found) (nth : Nth) (part : NodeWord) (p : Piece) (n : NodeNo) (v : ℕ) (c : Call) (h : History) → CanFill e m c h f nth part → p ≡ e.pieces m.edit f m.snaps.items m.nodes m.read nth → n ≡ nth_node m.nodes nth → v ≡ word_of p part → TryWaits e (standing m (Fill f nth part)) c h record { kind = FillKind; word = NodeOf n part; access = Store v }
   fills_word m f nth part p n v c h x is_p is_n is_v = (
     record {
-      works = record {
-        run = x.fills.works.run;
-        since = x.fills.works.since;
-        quiet = x.fills.works.quiet;
-        looked = x.fills.works.looked;
-        enough = x.fills.works.enough;
-        need = x.fills.works.need;
-        in_order = x.fills.works.in_order;
-        some = x.fills.works.some;
-        named = x.fills.works.named;
-        inside = x.fills.works.inside;
-        loaded = x.fills.works.loaded;
-        before = x.fills.works.before;
-      };
+      works = record { run = x.fills.works.run; since = x.fills.works.since; quiet = x.fills.works.quiet; looked = x.fills.works.looked; enough = x.fills.works.enough; need = x.fills.works.need; in_order = x.fills.works.in_order; some = x.fills.works.some };
       full = x.fills.full;
       hand = record { lowest = x.fills.hand.lowest; highest = x.fills.hand.highest };
-      done = x.fills.done;
+      read = x.fills.read;
+      whole = x.fills.whole;
       part_is = x.fills.part_is;
     },
     x.may,
@@ -204,7 +192,7 @@ module _ {E : Type 0} (e : EditMeaning E) where
         record {
           moment = begin;
           within = ends_trans h (is_done.entry.row ⊳ is_done.entry.before) begin is_done.entry.is.within (inr is_done.entry.is.since);
-          has_found = found_wider c b try.since begin (path_key (e.goal m.edit)) f x.found;
+          has_found = found_wider c b try.since begin (e.goal m.edit) f x.found;
           needed = x.need;
         },
         made.1,

@@ -4,9 +4,10 @@ use Rattle.arena.specs.declared.word.Side.{Side}
 use Rattle.arena.specs.History.{History, Extends}
 use Rattle.arena.specs.Machines.{Call, begun_at}
 use Rattle.arena.proofs.Lemmas.{ends_trans}
-use Rattle.template.specs.FoundLeaf.{HasEnded}
+use Rattle.template.specs.FoundLeaf.{HasFoundGoal, path_key}
 use Rattle.template.specs.Trails.{IsOwnMoment, WasPassed, HasTurned}
 use Rattle.template.specs.declared.walk.Found.{Found}
+use Rattle.template.specs.declared.walk.Goal.{Goal}
 
 module _ (c : Call) (b : History) (since : Extends b c.start) where
   own_wider : (h : History) → IsOwnMoment (begun_at c b) h → IsOwnMoment c h
@@ -29,18 +30,19 @@ module _ (c : Call) (b : History) (since : Extends b c.start) where
     };
   }
 
-  pub found_wider : {asked : ℕ} (h : History) (k : ℕ) (f : Found) → HasEnded (begun_at c b) h k asked f → HasEnded c h k asked f
-  found_wider h k f x = record {
+  pub found_wider : (h : History) (goal : Goal) (f : Found) → HasFoundGoal goal (begun_at c b) h f → HasFoundGoal goal c h f
+  found_wider h goal f x = record {
     trail = record {
-      node = passed_wider h k f.trail.node.0 x.trail.node;
-      parent = λ d. turned_wider h k f.trail.parent.0 f.trail.side f.trail.node.0 (x.trail.parent d);
-      grand = λ d p. turned_wider h k f.trail.grand.0 f.trail.grand_side f.trail.parent.0 (x.trail.grand d p);
+      node = passed_wider h (path_key goal) f.trail.node.0 x.trail.node;
+      parent = λ d. turned_wider h (path_key goal) f.trail.parent.0 f.trail.side f.trail.node.0 (x.trail.parent d);
+      grand = λ d p. turned_wider h (path_key goal) f.trail.grand.0 f.trail.grand_side f.trail.parent.0 (x.trail.grand d p);
       high = x.trail.high;
     };
     leaf = x.leaf;
     head = x.head;
     deep = x.deep;
+    more = x.more;
+    none = x.none;
     key = x.key;
-    blank = x.blank;
     says = x.says;
   }

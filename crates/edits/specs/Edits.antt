@@ -1,22 +1,20 @@
 -- What an edit of the tree says to the machine that makes it.
-use Rattle.std.specs.Prelude.{◌≡◌, ℕ, ◌<◌, ◌≤◌, List, length, Option, Some, None}
+use Rattle.std.specs.Prelude.{◌≡◌, ℕ, ◌<◌, ◌≤◌, List, length, Option, Some}
 use Rattle.arena.specs.declared.number.NodeNo.{NodeNo}
-use Rattle.arena.specs.declared.word.NodeWord.{NodeWord}
-use Rattle.arena.specs.declared.word.NodeWord.TheVariants.{Settled}
-use Rattle.arena.specs.declared.word.SettledPart.TheVariants.{Head}
 use Rattle.arena.specs.declared.word.Side.{Side}
 use Rattle.prims.specs.declared.snap.Snap.{Snap}
 use Rattle.ordered_map.specs.OrderedMap.{MapEdit}
 use Rattle.template.specs.declared.walk.Found.{Found}
 use Rattle.template.specs.declared.walk.Goal.{Goal}
-use Rattle.edits.specs.declared.edit.Loaded.{Loaded}
 use Rattle.edits.specs.declared.edit.Look.{Look}
 use Rattle.edits.specs.declared.edit.Look.TheVariants.{At}
 use Rattle.edits.specs.declared.edit.Need.{Need}
 use Rattle.edits.specs.declared.edit.Nodes.{Nodes}
 use Rattle.edits.specs.declared.edit.Nth.{Nth}
-use Rattle.edits.specs.declared.edit.Piece.{Piece}
-use Rattle.edits.specs.Pieces.{many_nodes, with_word, fills_behind, HasPlace}
+use Rattle.edits.specs.declared.piece.Piece.{Piece}
+use Rattle.edits.specs.declared.reading.Reading.{Reading}
+use Rattle.edits.specs.Pieces.{all_fills, many_nodes}
+use Rattle.edits.specs.Readings.{reads_left}
 
 -- what an edit answers at each of its places
 pub record EditMeaning (E : Type 0) : Type 0 where
@@ -34,16 +32,14 @@ pub record EditMeaning (E : Type 0) : Type 0 where
   pub looks : E → Found → List Snap → Look
   -- at most so many nodes
   pub most_looks : ℕ
-  -- of which node it copies settled words
-  pub copies : E → Found → List Snap → NodeNo
-  -- which of them it loads next for the fresh node of this place
-  pub wants : E → Found → List Snap → Loaded → Nth → Option NodeWord
-  -- what the fresh node of this place is to hold
-  pub pieces : E → Found → List Snap → Nodes → Loaded → Nth → Piece
-  -- at most so many loads and fills are made for the fresh node of this place from then on
-  pub works : E → Found → List Snap → Loaded → Nth → ℕ
-  -- and at most so many in all
-  pub most_works : Nth → ℕ
+  -- the node of which it reads settled words, if it reads any, and what is known of that before
+  pub reads : E → Found → List Snap → Option (NodeNo × Reading)
+  -- at most so many words
+  pub most_reads : ℕ
+  -- what the fresh node of this place is to hold, once that is read
+  pub pieces : E → Found → List Snap → Nodes → Reading → Nth → Piece
+  -- at most so many fills
+  pub most_fills : ℕ
 
 -- the bounds of an edit are right
 pub record EditBounds {E : Type 0} (m : EditMeaning E) : Type 0 where
@@ -51,8 +47,5 @@ pub record EditBounds {E : Type 0} (m : EditMeaning E) : Type 0 where
   pub small : m.most_looks ≤ 4
   pub few_nodes : (e : E) (f : Found) → many_nodes (m.needs e f) ≤ m.most_nodes
   pub some_nodes : 0 < m.most_nodes
-  pub few_works : (e : E) (f : Found) (snaps : List Snap) (ld : Loaded) (nth : Nth) → m.works e f snaps ld nth ≤ m.most_works nth
-  -- a load is one of them, whatever it tells
-  pub load_works : (e : E) (f : Found) (snaps : List Snap) (ld : Loaded) (nth : Nth) (part : NodeWord) → m.wants e f snaps ld nth ≡ Some part → (v : ℕ) → m.works e f snaps (with_word ld part v) nth < m.works e f snaps ld nth
-  -- and so is each fill of a node that is needed
-  pub fill_works : (e : E) (f : Found) (snaps : List Snap) (ld : Loaded) (nth : Nth) → HasPlace (m.needs e f) nth → m.wants e f snaps ld nth ≡ None → (ns : Nodes) → fills_behind (m.pieces e f snaps ns ld nth) (Settled Head) < m.works e f snaps ld nth
+  pub few_reads : (e : E) (f : Found) (snaps : List Snap) (x : NodeNo × Reading) → m.reads e f snaps ≡ Some x → reads_left x.1 ≤ m.most_reads
+  pub few_fills : (e : E) (f : Found) (snaps : List Snap) (ns : Nodes) (read : Reading) → all_fills (m.needs e f) (m.pieces e f snaps ns read) ≤ m.most_fills

@@ -1,5 +1,5 @@
 -- When an update may go on, and what it waits for.
-use Rattle.std.specs.Prelude.{◌≡◌, ◌≢◌, ℕ, suc, ◌^◌, ◌<◌, ◌≤◌, ◌⊎◌, ◌==◌, if◌then◌else◌, true, List, [], ◌∷◌, length, take, Option, Some, None}
+use Rattle.std.specs.Prelude.{◌≡◌, ◌≢◌, ℕ, suc, ◌^◌, ◌<◌, ◌≤◌, ◌⊎◌, ◌==◌, if◌then◌else◌, true, List, ◌∷◌, length, take, Option, Some, None}
 use Rattle.arena.specs.declared.fault.Full.{Full}
 use Rattle.arena.specs.declared.fault.Resource.{Resource}
 use Rattle.arena.specs.declared.fault.Resource.TheVariants.{Nodes as FreshNodes, Scx as ScxRecords}
@@ -10,16 +10,16 @@ use Rattle.arena.specs.declared.step.Step.{Step}
 use Rattle.arena.specs.declared.step.Kind.TheVariants.{LoadSettled}
 use Rattle.arena.specs.declared.word.NodeWord.{NodeWord}
 use Rattle.arena.specs.declared.word.NodeWord.TheVariants.{Settled}
-use Rattle.arena.specs.declared.word.SettledPart.TheVariants.{Head as HeadWord}
-use Rattle.arena.specs.declared.word.Word.{Word}
+use Rattle.arena.specs.declared.word.SettledPart.{SettledPart}
+use Rattle.arena.specs.declared.number.NodeNo.{NodeNo}
 use Rattle.arena.specs.Fills.{IsNamed, IsOwnNode, IsOwnScx, IsTakenNode}
 use Rattle.arena.specs.History.{History, ◌⊳◌, value, Extends}
-use Rattle.arena.specs.Lawful.{IsSettled, IsWin}
+use Rattle.arena.specs.Lawful.{IsWin}
 use Rattle.arena.specs.Layout.{all_nodes}
 use Rattle.arena.specs.Log.{Entry, log}
 use Rattle.arena.specs.Machines.{Call, MatchTurn, begun_at}
 use Rattle.arena.specs.Share.{Remaining}
-use Rattle.arena.specs.Words.{node, first_key, first_value}
+use Rattle.arena.specs.Words.{node}
 use Rattle.prims.specs.FoundThere.{HasFoundThere}
 use Rattle.prims.specs.Laws.Idle.{IsQuietSince}
 use Rattle.prims.specs.Llx.Known.{load, IsSnapshot, LlxIsReady, LlxWaits}
@@ -43,26 +43,27 @@ use Rattle.template.specs.Walk.Known.{WalkIsReady, WalkWaits}
 use Rattle.template.specs.declared.walk.Found.{Found}
 use Rattle.template.specs.declared.walk.Goal.{Goal}
 use Rattle.template.specs.declared.walk.Goal.TheVariants.{Key as ToKey, Least}
-use Rattle.edits.specs.declared.edit.Loaded.{Loaded}
 use Rattle.edits.specs.declared.edit.Look.TheVariants.{At, Enough}
 use Rattle.edits.specs.declared.edit.Need.{Need}
 use Rattle.edits.specs.declared.edit.Need.TheVariants.{Nothing, One, Three}
 use Rattle.edits.specs.declared.edit.Nodes.{Nodes}
 use Rattle.edits.specs.declared.edit.Nth.{Nth}
 use Rattle.edits.specs.declared.edit.Nth.TheVariants.{First, Second, Third}
-use Rattle.edits.specs.declared.edit.Piece.{Piece}
+use Rattle.edits.specs.declared.piece.Piece.{Piece}
+use Rattle.edits.specs.declared.reading.Reading.{Reading}
 use Rattle.edits.specs.declared.update.Updated.{Updated}
 use Rattle.edits.specs.declared.update.Updated.TheVariants.{Done, Contended, Full as FullAnswer}
 use Rattle.edits.specs.declared.update.UpdateAt.{UpdateAt}
-use Rattle.edits.specs.declared.update.UpdateAt.TheVariants.{Start, Walk, Look, Load, Fill, Scx}
+use Rattle.edits.specs.declared.update.UpdateAt.TheVariants.{Start, Walk, Look, Read, Fill, Scx}
 use Rattle.edits.specs.declared.update.UpdateRun.{UpdateRun}
 use Rattle.template.specs.Blame.{IsContended, HasLostTriesTo}
 use Rattle.template.specs.Tries.{HasTriedAllBut}
 use Rattle.edits.specs.Edits.{EditMeaning}
 use Rattle.edits.specs.Laws.Hand.{HasFilledTo, IsForField, FieldMay}
 use Rattle.edits.specs.Laws.NodeFills.{node_fill}
-use Rattle.edits.specs.Laws.PieceFills.{HoldsFills}
-use Rattle.edits.specs.Pieces.{WordFill, fills_of, fills_word, made_before, made_with, many_nodes, nth_node, top_of, plan_over, word_of}
+use Rattle.edits.specs.Laws.PieceFills.{IsUnfilled, HoldsWords, HoldsBefore, HoldsUpTo}
+use Rattle.edits.specs.Pieces.{is_filled, many_nodes, nth_node, top_of, plan_over, word_of}
+use Rattle.edits.specs.Readings.{IsRead, next_read}
 use Rattle.edits.specs.Tries.{HasEnteredOnly, HasEnteredNone, HasFilledNone, HasOnlyLooked, MayTry, IsTry, IsTryAt, CoversSnaps}
 
 -- a node of the table other than the root
@@ -107,20 +108,21 @@ pub record HasSnappedAfterWalk (c : Call) (h : History) (goal : Goal) (f : Found
 abbrev pub AreUsable : Call → History → Goal → Found → List Snap → Type 0
 AreUsable c h goal f snaps = (i : ℕ) → i < length snaps → HasSnappedAfterWalk c h goal f (snap_at snaps i)
 
--- the word that was loaded, if it was, is what the node holds
-abbrev pub IsLoaded : Option ℕ → ℕ → Type 0
-IsLoaded None v = Unit {0}
-IsLoaded (Some w) v = w ≡ v
+-- what is read of this node is what it holds; every pass may know it, and it is not the root
+pub record MayRead (lay : Layout) (h : History) (n : ℕ) (read : Reading) : Type 0 where
+  pub named : IsNamed lay h n
+  pub inside : IsBelowRoot lay n
+  pub is : IsRead (value h) n read
 
--- the words that were loaded are those of this node
-pub record AreLoaded (f : Word → ℕ) (n : ℕ) (ld : Loaded) : Type 0 where
-  pub head : IsLoaded ld.head (f (node n (Settled HeadWord)))
-  pub key : IsLoaded ld.key (f (node n first_key))
-  pub value : IsLoaded ld.value (f (node n first_value))
+-- so it is with the node that is to be read, if one is
+abbrev pub MayReadAt : Layout → History → Option (NodeNo × Reading) → Reading → Type 0
+MayReadAt lay h None read = Unit {0}
+MayReadAt lay h (Some x) read = MayRead lay h x.0.0 read
 
--- none is loaded
-abbrev pub nothing_loaded : Loaded
-nothing_loaded = record { head = None; key = None; value = None }
+-- and it is read to the end
+abbrev pub IsReadWhole : Option (NodeNo × Reading) → Reading → Type 0
+IsReadWhole None read = Unit {0}
+IsReadWhole (Some x) read = next_read read ≡ None
 
 -- Its fresh nodes
 
@@ -138,9 +140,9 @@ IsNeeded Three nth = Unit {0}
 IsNeeded _ _ = ⊥
 
 -- three nodes stand one behind the other
-abbrev pub AreInOrder : Need → Nodes → Type 0
-AreInOrder Three ns = (ns.second.0 ≡ suc ns.first.0) × (ns.third.0 ≡ suc ns.second.0)
-AreInOrder _ ns = Unit {0}
+abbrev pub StandInRow : Need → Nodes → Type 0
+StandInRow Three ns = (ns.second.0 ≡ suc ns.first.0) × (ns.third.0 ≡ suc ns.second.0)
+StandInRow _ ns = Unit {0}
 
 -- what the edit says of them, by their numbers
 abbrev pub pieces_by : (Nth → Piece) → Nodes → ℕ → Piece
@@ -151,7 +153,7 @@ pieces_by p ns n =
 -- this node is fresh, and holds what the piece says
 pub record HoldsPiece (c : Call) (h : History) (n : ℕ) (p : Piece) : Type 0 where
   pub fresh : IsFresh c.layout c.pass h n
-  pub words : HoldsFills h n (fills_of p)
+  pub words : HoldsWords h n p
 
 -- What it makes
 
@@ -197,14 +199,14 @@ module _ {E : Type 0} (e : EditMeaning E) where
     pub usable : AreUsable c h (e.goal ed) f snaps
     pub seen : AreSeen ed f snaps
 
-  -- all is looked at, all that the edit wants is loaded, and its fresh nodes hold what they are to
-  pub record HasFilledAll (c : Call) (h : History) (ed : E) (f : Found) (snaps : List Snap) (ns : Nodes) (ld : Loaded) : Type 0 where
+  -- all is looked at, all is read, and its fresh nodes hold what they are to
+  pub record HasFilledAll (c : Call) (h : History) (ed : E) (f : Found) (snaps : List Snap) (ns : Nodes) (read : Reading) : Type 0 where
     pub looked : HasLooked c h ed f snaps
     pub enough : e.looks ed f snaps ≡ Enough
-    pub in_order : AreInOrder (e.needs ed f) ns
-    pub loaded : AreLoaded (value h) (e.copies ed f snaps).0 ld
-    pub done : (i : Nth) → IsNeeded (e.needs ed f) i → e.wants ed f snaps ld i ≡ None
-    pub holds : (i : Nth) → IsNeeded (e.needs ed f) i → HoldsPiece c h (nth_node ns i).0 (e.pieces ed f snaps ns ld i)
+    pub in_order : StandInRow (e.needs ed f) ns
+    pub right : MayReadAt c.layout h (e.reads ed f snaps) read
+    pub whole : IsReadWhole (e.reads ed f snaps) read
+    pub holds : (i : Nth) → IsNeeded (e.needs ed f) i → HoldsPiece c h (nth_node ns i).0 (e.pieces ed f snaps ns read i)
 
   -- the update covers all that was looked at, finalizes all but the first, and puts the last fresh
   -- node into a field of that
@@ -221,17 +223,13 @@ module _ {E : Type 0} (e : EditMeaning E) where
 
   -- what each fresh node is to hold
   abbrev pub piece : {A : Type 0} → UpdateRun E A → Found → ℕ → Piece
-  piece m f n = pieces_by (λ nth. e.pieces m.edit f m.snaps.items m.nodes m.loaded nth) m.nodes n
+  piece m f n = pieces_by (λ nth. e.pieces m.edit f m.snaps.items m.nodes m.read nth) m.nodes n
 
   -- the last fresh node
   abbrev pub top : {A : Type 0} → UpdateRun E A → Found → ℕ
   top m f = top_of (e.needs m.edit f) m.nodes
 
-  -- the node of which the edit copies words
-  abbrev pub copied : {A : Type 0} → UpdateRun E A → Found → ℕ
-  copied m f = (e.copies m.edit f m.snaps.items).0
-
-  -- all is looked at, and the fresh nodes before this one are done with
+  -- all is looked at, and this fresh node is needed
   pub record WorksAtNode {A : Type 0} (m : UpdateRun E A) (c : Call) (h : History) (f : Found) (nth : Nth) : Type 0 where
     pub run : IsTreeRun c.layout h
     pub since : Extends h c.start
@@ -239,14 +237,8 @@ module _ {E : Type 0} (e : EditMeaning E) where
     pub looked : HasLooked c h m.edit f m.snaps.items
     pub enough : e.looks m.edit f m.snaps.items ≡ Enough
     pub need : IsNeeded (e.needs m.edit f) nth
-    pub in_order : AreInOrder (e.needs m.edit f) m.nodes
+    pub in_order : StandInRow (e.needs m.edit f) m.nodes
     pub some : 0 < m.share.scx
-    -- what is copied
-    pub named : IsNamed c.layout h (copied m f)
-    pub inside : IsBelowRoot c.layout (copied m f)
-    pub loaded : AreLoaded (value h) (copied m f) m.loaded
-    -- nothing more is to be loaded for the nodes before
-    pub before : (i : Nth) → ComesBefore i nth → e.wants m.edit f m.snaps.items m.loaded i ≡ None
 
   -- those before it are full
   abbrev pub AreFull : {A : Type 0} → UpdateRun E A → Call → History → Found → Nth → Type 0
@@ -259,11 +251,15 @@ module _ {E : Type 0} (e : EditMeaning E) where
 
   -- nothing of it is filled
   abbrev pub IsBlankHere : {A : Type 0} → UpdateRun E A → History → Nth → Type 0
-  IsBlankHere m h nth = HoldsFills h (nth_node m.nodes nth).0 []
+  IsBlankHere m h nth = IsUnfilled h (nth_node m.nodes nth).0
 
-  -- what is filled of it, the last fill in front
-  abbrev pub fills_here : {A : Type 0} → UpdateRun E A → Found → Nth → List WordFill
-  fills_here m f nth = fills_of (piece m f (nth_node m.nodes nth).0)
+  -- what it is to hold
+  abbrev pub piece_here : {A : Type 0} → UpdateRun E A → Found → Nth → Piece
+  piece_here m f nth = piece m f (nth_node m.nodes nth).0
+
+  -- what is read is right, of the node that is to be read, if one is
+  abbrev pub HasRead : {A : Type 0} → UpdateRun E A → Call → History → Found → Type 0
+  HasRead m c h f = MayReadAt c.layout h (e.reads m.edit f m.snaps.items) m.read
 
   -- What it waits for
 
@@ -278,26 +274,29 @@ module _ {E : Type 0} (e : EditMeaning E) where
     pub quiet : IsQuietSince c.layout c.pass c.start h
     pub since : Extends begin c.start
 
-  -- the load of a word for a fresh node
-  pub record Loads {A : Type 0} (m : UpdateRun E A) (c : Call) (h : History) (f : Found) (nth : Nth) (part : NodeWord) : Type 0 where
-    pub works : WorksAtNode m c h f nth
-    pub full : AreFull m c h f nth
-    pub hand : IsInHand m f nth
-    pub blank : IsBlankHere m h nth
-    pub wanted : e.wants m.edit f m.snaps.items m.loaded nth ≡ Some part
-    pub settled : IsSettled (node (copied m f) part)
+  -- the load of a word of the node that is read
+  pub record Reads {A : Type 0} (m : UpdateRun E A) (c : Call) (h : History) (f : Found) (node : NodeNo) (part : SettledPart) : Type 0 where
+    pub works : WorksAtNode m c h f First
+    pub full : AreFull m c h f First
+    pub hand : IsInHand m f First
+    pub blank : IsBlankHere m h First
+    pub from : Reading
+    pub is : e.reads m.edit f m.snaps.items ≡ Some (node, from)
+    pub read : MayRead c.layout h node.0 m.read
+    pub next : next_read m.read ≡ Some part
 
   -- the fill of a word of it, with what the piece says
   pub record FillsPiece {A : Type 0} (m : UpdateRun E A) (c : Call) (h : History) (f : Found) (nth : Nth) (part : NodeWord) : Type 0 where
     pub works : WorksAtNode m c h f nth
     pub full : AreFull m c h f nth
     pub hand : IsInHand m f nth
-    pub done : e.wants m.edit f m.snaps.items m.loaded nth ≡ None
-    pub part_is : fills_word (fills_here m f nth) part ≡ true
+    pub read : HasRead m c h f
+    pub whole : IsReadWhole (e.reads m.edit f m.snaps.items) m.read
+    pub part_is : is_filled (piece_here m f nth) part ≡ true
 
   -- that word is filled, as those before it
   abbrev pub IsFilledUpTo : {A : Type 0} → UpdateRun E A → Call → History → Found → Nth → NodeWord → Type 0
-  IsFilledUpTo m c h f nth part = FillsPiece m c h f nth part × HoldsFills h (nth_node m.nodes nth).0 (made_with (fills_here m f nth) part) × IsTakenNode h (nth_node m.nodes nth).0
+  IsFilledUpTo m c h f nth part = FillsPiece m c h f nth part × HoldsUpTo h (nth_node m.nodes nth).0 (piece_here m f nth) part × IsTakenNode h (nth_node m.nodes nth).0
 
   -- a step of its SCX, which has the fresh nodes and an SCX-record in hand
   pub record Scxs {A : Type 0} (m : UpdateRun E A) (c : Call) (h : History) (f : Found) (scx : ScxRun) (begin : History) : Type 0 where
@@ -341,8 +340,8 @@ module _ {E : Type 0} (e : EditMeaning E) where
   UpdateWaitsAt m c h s Start = ⊥
   UpdateWaitsAt m c h s (Walk walk) = Walks m c h walk.goal × WalkWaits walk c h s
   UpdateWaitsAt m c h s (Look f llx) = (begin : History) × Looks m c h f llx begin × LlxWaits TreeAllows llx (begun_at c begin) h s
-  UpdateWaitsAt m c h s (Load f nth part) = Loads m c h f nth part × (s ≡ load LoadSettled (node (copied m f) part))
-  UpdateWaitsAt m c h s (Fill f nth part) = FillsPiece m c h f nth part × FieldMay part (IsForField c.layout h m.nodes.first.0 (top m f) (word_of (piece m f (nth_node m.nodes nth).0) part)) × HoldsFills h (nth_node m.nodes nth).0 (made_before (fills_here m f nth) part) × (s ≡ piece_fill_step m f nth part)
+  UpdateWaitsAt m c h s (Read f n part) = Reads m c h f n part × (s ≡ load LoadSettled (node n.0 (Settled part)))
+  UpdateWaitsAt m c h s (Fill f nth part) = FillsPiece m c h f nth part × FieldMay part (IsForField c.layout h m.nodes.first.0 (top m f) (word_of (piece m f (nth_node m.nodes nth).0) part)) × HoldsBefore h (nth_node m.nodes nth).0 (piece_here m f nth) part × (s ≡ piece_fill_step m f nth part)
   UpdateWaitsAt m c h s (Scx f scx) = (begin : History) × Scxs m c h f scx begin × ScxWaits TreeAllows scx (begun_at c begin) h s
 
   -- what holds once the step of this place has told v
@@ -350,7 +349,7 @@ module _ {E : Type 0} (e : EditMeaning E) where
   UpdateIsToldAt m c h v Start = ⊥
   UpdateIsToldAt m c h v (Walk walk) = Walks m c h walk.goal × WalkIsReady walk c h (Some v)
   UpdateIsToldAt m c h v (Look f llx) = (begin : History) × Looks m c h f llx begin × LlxIsReady TreeAllows llx (begun_at c begin) h (Some v)
-  UpdateIsToldAt m c h v (Load f nth part) = Loads m c h f nth part × (value h (node (copied m f) part) ≡ v)
+  UpdateIsToldAt m c h v (Read f n part) = Reads m c h f n part × (value h (node n.0 (Settled part)) ≡ v)
   UpdateIsToldAt m c h v (Fill f nth part) = IsFilledUpTo m c h f nth part
   UpdateIsToldAt m c h v (Scx f scx) = (begin : History) × Scxs m c h f scx begin × ScxIsReady TreeAllows scx (begun_at c begin) h (Some v)
 
@@ -394,19 +393,35 @@ module _ {E : Type 0} (e : EditMeaning E) where
     pub looked : HasLooked c h m.edit f m.snaps.items
     pub room : HasNodesFor (e.needs m.edit f) m.share
 
-  -- it may load for the fresh node of this place
-  pub record CanLoad {A : Type 0} (m : UpdateRun E A) (c : Call) (h : History) (f : Found) (nth : Nth) : Type 0 where
+  -- it may begin to read, or to fill its fresh nodes: it has taken them
+  pub record CanWork {A : Type 0} (m : UpdateRun E A) (c : Call) (h : History) (f : Found) : Type 0 where
+    pub works : WorksAtNode m c h f First
+    pub full : AreFull m c h f First
+    pub hand : IsInHand m f First
+    pub blank : IsBlankHere m h First
+
+  -- it may go on to read this node
+  pub record CanRead {A : Type 0} (m : UpdateRun E A) (c : Call) (h : History) (f : Found) (node : NodeNo) : Type 0 where
+    pub work : CanWork m c h f
+    pub from : Reading
+    pub is : e.reads m.edit f m.snaps.items ≡ Some (node, from)
+    pub read : MayRead c.layout h node.0 m.read
+
+  -- it may fill the fresh node of this place, from its head on
+  pub record CanFillNode {A : Type 0} (m : UpdateRun E A) (c : Call) (h : History) (f : Found) (nth : Nth) : Type 0 where
     pub works : WorksAtNode m c h f nth
     pub full : AreFull m c h f nth
     pub hand : IsInHand m f nth
     pub blank : IsBlankHere m h nth
+    pub read : HasRead m c h f
+    pub whole : IsReadWhole (e.reads m.edit f m.snaps.items) m.read
 
   -- it may fill this word of that node
   pub record CanFill {A : Type 0} (m : UpdateRun E A) (c : Call) (h : History) (f : Found) (nth : Nth) (part : NodeWord) : Type 0 where
     pub fills : FillsPiece m c h f nth part
-    pub same : piece m f (nth_node m.nodes nth).0 ≡ e.pieces m.edit f m.snaps.items m.nodes m.loaded nth
-    pub may : FieldMay part (IsForField c.layout h m.nodes.first.0 (top m f) (word_of (piece m f (nth_node m.nodes nth).0) part))
-    pub words : HoldsFills h (nth_node m.nodes nth).0 (made_before (fills_here m f nth) part)
+    pub same : piece_here m f nth ≡ e.pieces m.edit f m.snaps.items m.nodes m.read nth
+    pub may : FieldMay part (IsForField c.layout h m.nodes.first.0 (top m f) (word_of (piece_here m f nth) part))
+    pub words : HoldsBefore h (nth_node m.nodes nth).0 (piece_here m f nth) part
 
   -- it may begin its SCX: all its fresh nodes are full
   pub record CanScx {A : Type 0} (m : UpdateRun E A) (c : Call) (h : History) (f : Found) : Type 0 where
@@ -415,7 +430,7 @@ module _ {E : Type 0} (e : EditMeaning E) where
     pub quiet : IsQuietSince c.layout c.pass c.start h
     pub need : e.needs m.edit f ≢ Nothing
     pub some : 0 < m.share.scx
-    pub all : HasFilledAll c h m.edit f m.snaps.items m.nodes m.loaded
+    pub all : HasFilledAll c h m.edit f m.snaps.items m.nodes m.read
     pub full : HasFilledTo c.layout h c.pass m.share m.nodes.first.0 (top m f) (suc (top m f)) (piece m f)
 
   -- What it answers
@@ -447,9 +462,9 @@ module _ {E : Type 0} (e : EditMeaning E) where
     pub has_found : HasFoundGoal (e.goal ed) c moment found
     pub needed : e.needs ed found ≢ Nothing
 
-  -- The try that began at the moment `begin` is lost: in it the SCX-record s was in the way over the
-  -- node n, and in it the call has found a leaf at which there was something to make. The pass has
-  -- entered nothing.
+  -- The try that began at the moment `begin` is lost: in it the SCX-record s was in the way over
+  -- the node n, and in it the call has found a leaf at which there was something to make. The pass
+  -- has entered nothing.
   pub record HasLostTry (ed : E) (c : Call) (now : History) (limit left n s : ℕ) : Type 0 where
     pub begin : History
     pub try : IsTry c begin now limit left
@@ -458,8 +473,9 @@ module _ {E : Type 0} (e : EditMeaning E) where
     pub found : Found
     pub needed : WasNeeded ed (begun_at c begin) now found
 
-  -- All tries of the call, so many, were lost, the newest to the SCX-record s over the node n; in it
-  -- the call has found a leaf at which there was something to make. The pass has entered nothing.
+  -- All tries of the call, so many, were lost, the newest to the SCX-record s over the node n; in
+  -- it the call has found a leaf at which there was something to make. The pass has entered
+  -- nothing.
   pub record HasLostEveryTry (ed : E) (c : Call) (h : History) (limit n s : ℕ) : Type 0 where
     pub way : IsContended c h n s
     pub none : HasEnteredNone c.layout c.pass h c.start

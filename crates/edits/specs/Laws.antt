@@ -1,3 +1,4 @@
+pub mod PairPlaces
 pub mod NodeFills
 pub mod PieceFills
 pub mod Hand

@@ -1,4 +1,6 @@
+pub mod Pairs
 pub mod Pieces
+pub mod Readings
 pub mod Edits
 pub mod Steps
 pub mod Tries

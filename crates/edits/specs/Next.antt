@@ -6,7 +6,9 @@ use Rattle.arena.specs.declared.step.Kind.TheVariants.{LoadMarked, LoadState, Lo
 use Rattle.arena.specs.declared.step.Step.{Step}
 use Rattle.arena.specs.declared.word.NodeWord.{NodeWord}
 use Rattle.arena.specs.declared.word.NodeWord.TheVariants.{Settled, Marked as MarkedWord}
-use Rattle.arena.specs.declared.word.SettledPart.TheVariants.{Head}
+use Rattle.arena.specs.declared.word.SettledPart.{SettledPart}
+use Rattle.arena.specs.declared.word.SettledPart.TheVariants.{Head, Key, Value}
+use Rattle.arena.specs.declared.word.Slot.{Slot}
 use Rattle.arena.specs.declared.word.ScxWord.TheVariants.{Plan as PlanWord, State as StateWord}
 use Rattle.arena.specs.declared.word.Word.TheVariants.{Node as NodeOf, Scx as ScxOf}
 use Rattle.arena.specs.History.{History}
@@ -20,12 +22,13 @@ use Rattle.template.specs.declared.walk.Found.{Found}
 use Rattle.edits.specs.Edits.{EditMeaning}
 use Rattle.edits.specs.Known.{MayBeginTry, HasLostTry, UpdateAnswers, UpdateWaits, done_at}
 use Rattle.edits.specs.Pieces.{nth_node, plan_over, top_of, word_of}
+use Rattle.edits.specs.Readings.{read_with}
 use Rattle.edits.specs.Steps.{IsSpending, Spends, try_left, update_left}
 use Rattle.edits.specs.declared.edit.Nth.{Nth}
 use Rattle.edits.specs.declared.update.Next.{Next}
-use Rattle.edits.specs.declared.update.Next.TheVariants.{Look as LookNext, Wait, Load as LoadNext, Fill as FillNext, Change}
+use Rattle.edits.specs.declared.update.Next.TheVariants.{Look as LookNext, Wait, Read as ReadNext, Fill as FillNext, Change}
 use Rattle.edits.specs.declared.update.UpdateAt.{UpdateAt}
-use Rattle.edits.specs.declared.update.UpdateAt.TheVariants.{Look, Load, Fill, Scx}
+use Rattle.edits.specs.declared.update.UpdateAt.TheVariants.{Look, Read, Fill, Scx}
 use Rattle.edits.specs.declared.update.UpdateRun.{UpdateRun}
 use Rattle.edits.specs.declared.update.Stop.{Stop}
 use Rattle.edits.specs.declared.update.Stop.TheVariants.{Nothing, Lost, Full as FullStop}
@@ -33,11 +36,19 @@ use Rattle.edits.specs.declared.update.Updated.TheVariants.{Full as FullAnswer}
 
 -- the update where it stands at this place, or at none
 abbrev pub standing : {E A B : Type 0} → UpdateRun E A → B → UpdateRun E B
-standing m at = record { edit = m.edit; share = m.share; snaps = m.snaps; nodes = m.nodes; loaded = m.loaded; tries = m.tries; limit = m.limit; call = m.call; at = at }
+standing m at = record { edit = m.edit; share = m.share; snaps = m.snaps; nodes = m.nodes; read = m.read; tries = m.tries; limit = m.limit; call = m.call; at = at }
 
 -- it makes the same edit, in the same call, which may try as often
 abbrev pub IsSameUpdate : {E A B : Type 0} → UpdateRun E A → UpdateRun E B → Type 0
 IsSameUpdate old now = (now.edit ≡ old.edit) × (now.call ≡ old.call) × (now.limit ≡ old.limit)
+
+-- the update once this word of the node that it reads has told v
+abbrev pub told : {E A : Type 0} → UpdateRun E A → SettledPart → ℕ → UpdateRun E A
+told m part v = record m { read = read_with m.read part v }
+
+-- and once key and value of the pair in this slot have told these
+abbrev pub half_told : {E A : Type 0} → UpdateRun E A → Slot → ℕ → ℕ → UpdateRun E A
+half_told m slot key low = told (told m (Key slot) key) (Value slot) low
 
 module _ {E : Type 0} (e : EditMeaning E) where
   -- The SCX covers all that was looked at and finalizes all but the first, of which a field gets
@@ -52,13 +63,13 @@ module _ {E : Type 0} (e : EditMeaning E) where
 
   -- the fill of a word of the fresh node of this place
   abbrev pub fills : {A : Type 0} → UpdateRun E A → Found → Nth → NodeWord → Step
-  fills m f nth part = record { kind = FillKind; word = NodeOf (nth_node m.nodes nth) part; access = Store (word_of (e.pieces m.edit f m.snaps.items m.nodes m.loaded nth) part) }
+  fills m f nth part = record { kind = FillKind; word = NodeOf (nth_node m.nodes nth) part; access = Store (word_of (e.pieces m.edit f m.snaps.items m.nodes m.read nth) part) }
 
   -- the update where it stands once this has begun
   abbrev pub placed : {A : Type 0} → UpdateRun E A → Found → Next → UpdateRun E UpdateAt
   placed m f (LookNext n) = standing m (Look f record { node = n; at = Marked })
   placed m f (Wait n b scx) = standing m (Look f record { node = n; at = StateAgain b scx })
-  placed m f (LoadNext nth part) = standing m (Load f nth part)
+  placed m f (ReadNext n part) = standing m (Read f n part)
   placed m f (FillNext nth) = standing m (Fill f nth (Settled Head))
   placed m f (Change scx) = standing m (Scx f record { scx = scx; call = m.call; update = update_of m f; at = AtPlan })
 
@@ -66,7 +77,7 @@ module _ {E : Type 0} (e : EditMeaning E) where
   abbrev pub next_step : {A : Type 0} → UpdateRun E A → Found → Next → Step
   next_step m f (LookNext n) = record { kind = LoadMarked; word = NodeOf n MarkedWord; access = LoadAccess }
   next_step m f (Wait n b scx) = record { kind = LoadState; word = ScxOf scx StateWord; access = LoadAccess }
-  next_step m f (LoadNext nth part) = record { kind = LoadSettled; word = NodeOf (e.copies m.edit f m.snaps.items) part; access = LoadAccess }
+  next_step m f (ReadNext n part) = record { kind = LoadSettled; word = NodeOf n (Settled part); access = LoadAccess }
   next_step m f (FillNext nth) = fills m f nth (Settled Head)
   next_step m f (Change scx) = record { kind = FillKind; word = ScxOf scx PlanWord; access = Store (plan_over (length m.snaps.items) (e.side m.edit f)) }
 

@@ -1,89 +1,143 @@
 -- What fresh nodes are to hold.
-use Rattle.std.specs.Prelude.{◌≡◌, ℕ, suc, ◌+◌, ◌*◌, ◌-◌, ◌%◌, ◌^◌, min, nat_lt, Bool, true, false, if◌then◌else◌, List, [], ◌∷◌, Option, Some, None}
+use Rattle.std.specs.Prelude.{ℕ, suc, ◌+◌, ◌*◌, ◌-◌, ◌/◌, ◌%◌, ◌^◌, min, nat_lt, Bool, true, false, if◌then◌else◌, List, [], ◌∷◌, length, Option, Some, None}
 use Rattle.arena.specs.declared.word.Side.{Side}
 use Rattle.arena.specs.declared.number.NodeNo.{NodeNo}
 use Rattle.arena.specs.declared.word.Side.TheVariants.{Left, Right}
 use Rattle.arena.specs.declared.word.NodeWord.{NodeWord}
-use Rattle.arena.specs.declared.word.NodeWord.TheVariants.{Settled, Child}
-use Rattle.arena.specs.declared.word.SettledPart.TheVariants.{Head, Key, Value}
+use Rattle.arena.specs.declared.word.NodeWord.TheVariants.{Settled, Child, Info, Marked}
+use Rattle.arena.specs.declared.word.SettledPart.TheVariants.{Head, More, Key, Value, High}
+use Rattle.arena.specs.declared.word.Slot.{Slot}
 use Rattle.arena.specs.declared.word.Slot.TheVariants.{First as FirstSlot}
 use Rattle.arena.specs.Heads.{head_word}
 use Rattle.arena.specs.ScxRecords.{side_no, removed_bits}
 use Rattle.arena.specs.Share.{Remaining}
-use Rattle.arena.specs.Words.{same_node_word, first_key, first_value}
-use Rattle.edits.specs.declared.edit.Loaded.{Loaded}
+use Rattle.arena.specs.Words.{slot_no, first_key}
+use Rattle.ordered_map.specs.declared.pair.Pair.{Pair}
+use Rattle.ordered_map.specs.Holding.{slot_behind}
 use Rattle.edits.specs.declared.edit.Need.{Need}
 use Rattle.edits.specs.declared.edit.Need.TheVariants.{Nothing, One, Three}
 use Rattle.edits.specs.declared.edit.Nodes.{Nodes}
 use Rattle.edits.specs.declared.edit.Nth.{Nth}
 use Rattle.edits.specs.declared.edit.Nth.TheVariants.{First, Second, Third}
-use Rattle.edits.specs.declared.edit.Piece.{Piece}
-use Rattle.edits.specs.declared.edit.Piece.TheVariants.{Leaf, Fork}
+use Rattle.edits.specs.declared.piece.Piece.{Piece}
+use Rattle.edits.specs.declared.piece.Piece.TheVariants.{Leaf, Fork}
+use Rattle.edits.specs.Pairs.{pair_at}
 
 -- the word of a head, of a level that a word can hold
 abbrev pub piece_head : ℕ → Bool → ℕ → ℕ
 piece_head level leaf class = head_word record { level = min level (2 ^ 61 - 1); leaf = leaf; class = class % 4 }
 
--- a fill: a word of a node, and what it gets
-pub record WordFill : Type 0 where
-  pub part : NodeWord
-  pub word : ℕ
+-- what a word of a leaf behind its head is to hold
+abbrev pub leaf_word : List Pair → NodeWord → ℕ
+leaf_word pairs (Settled More) = length pairs - 1
+leaf_word pairs (Settled (Key slot)) = (pair_at pairs (slot_no slot)).key
+leaf_word pairs (Settled (Value slot)) = (pair_at pairs (slot_no slot)).value % 2 ^ 64
+leaf_word pairs (Settled (High slot)) = (pair_at pairs (slot_no slot)).value / 2 ^ 64
+leaf_word pairs _ = 0
 
--- what is filled of a fresh node, the last fill in front
-abbrev pub fills_of : Piece → List WordFill
-fills_of (Leaf level class key v) =
-    record { part = first_value; word = v }
-    ∷ record { part = first_key; word = key }
-    ∷ record { part = Settled Head; word = piece_head level true class }
-    ∷ []
-fills_of (Fork level class key l r) =
-    record { part = Child Right; word = r.0 }
-    ∷ record { part = Child Left; word = l.0 }
-    ∷ record { part = first_key; word = key }
-    ∷ record { part = Settled Head; word = piece_head level false class }
-    ∷ []
-
--- what a word of a fresh node holds after these fills, the last in front: what is not filled is 0
-abbrev pub filled_word : List WordFill → NodeWord → ℕ
-filled_word [] part = 0
-filled_word (x ∷ xs) part = if same_node_word x.part part then x.word else filled_word xs part
-
--- whether the word is one that these fill
-abbrev pub fills_word : List WordFill → NodeWord → Bool
-fills_word [] part = false
-fills_word (x ∷ xs) part = if same_node_word x.part part then true else fills_word xs part
-
--- those of them that are made before this word is filled
-abbrev pub made_before : List WordFill → NodeWord → List WordFill
-made_before [] part = []
-made_before (x ∷ xs) part = if same_node_word x.part part then xs else made_before xs part
-
--- those that are made once it is filled too
-abbrev pub made_with : List WordFill → NodeWord → List WordFill
-made_with [] part = []
-made_with (x ∷ xs) part = if same_node_word x.part part then x ∷ xs else made_with xs part
-
--- how many are left behind it
-abbrev pub many_left : List WordFill → NodeWord → ℕ
-many_left [] part = 0
-many_left (x ∷ xs) part = if same_node_word x.part part then 0 else suc (many_left xs part)
-
--- the word that is filled next, where `next` is filled behind all of these
-abbrev pub next_behind : Option NodeWord → List WordFill → NodeWord → Option NodeWord
-next_behind next [] part = None
-next_behind next (x ∷ xs) part = if same_node_word x.part part then next else next_behind (Some x.part) xs part
-
--- what a word of the node is to hold
+-- What a word of the node is to hold. What is not filled is 0.
 abbrev pub word_of : Piece → NodeWord → ℕ
-word_of p part = filled_word (fills_of p) part
+word_of (Leaf level class pairs) (Settled Head) = piece_head level true class
+word_of (Leaf level class pairs) part = leaf_word pairs part
+word_of (Fork level class key l r) (Settled Head) = piece_head level false class
+word_of (Fork level class key l r) (Settled (Key FirstSlot)) = key
+word_of (Fork level class key l r) (Child Left) = l.0
+word_of (Fork level class key l r) (Child Right) = r.0
+word_of _ _ = 0
+
+-- whether it is a leaf
+abbrev pub is_leaf : Piece → Bool
+is_leaf (Leaf level class pairs) = true
+is_leaf (Fork level class key l r) = false
+
+-- whether the value in this slot has a high half that is not 0
+abbrev pub has_high : List Pair → Slot → Bool
+has_high pairs slot = nat_lt 0 ((pair_at pairs (slot_no slot)).value / 2 ^ 64)
+
+-- Whether the word is filled: a leaf's count, where it has more than one pair; key and value of
+-- each pair, and the high half of the value where that is not 0.
+abbrev pub is_filled : Piece → NodeWord → Bool
+is_filled (Leaf level class pairs) (Settled Head) = true
+is_filled (Leaf level class pairs) (Settled More) = nat_lt 1 (length pairs)
+is_filled (Leaf level class pairs) (Settled (Key slot)) = nat_lt (slot_no slot) (length pairs)
+is_filled (Leaf level class pairs) (Settled (Value slot)) = nat_lt (slot_no slot) (length pairs)
+is_filled (Leaf level class pairs) (Settled (High slot)) = has_high pairs slot
+is_filled (Fork level class key l r) (Settled Head) = true
+is_filled (Fork level class key l r) (Settled (Key FirstSlot)) = true
+is_filled (Fork level class key l r) (Child side) = true
+is_filled _ _ = false
+
+-- the words of a node in the order in which they are filled
+abbrev pub fill_place : NodeWord → ℕ
+fill_place (Settled Head) = 0
+fill_place (Settled More) = 1
+fill_place (Settled (Key slot)) = 2 + 3 * slot_no slot
+fill_place (Settled (Value slot)) = 3 + 3 * slot_no slot
+fill_place (Settled (High slot)) = 4 + 3 * slot_no slot
+fill_place (Child Left) = 14
+fill_place (Child Right) = 15
+fill_place Info = 16
+fill_place Marked = 17
+
+-- the key of the first pair, if there is one
+abbrev pub key_first : List Pair → Option NodeWord
+key_first pairs = if nat_lt 0 (length pairs) then Some first_key else None
+
+-- the key in this slot, if it is one
+abbrev pub slot_key : Option Slot → Option NodeWord
+slot_key None = None
+slot_key (Some slot) = Some (Settled (Key slot))
+
+-- the key behind the pair of this slot, if there is one
+abbrev pub key_behind : List Pair → Slot → Option NodeWord
+key_behind pairs slot = slot_key (slot_behind (length pairs - 1) slot)
+
+-- the value in this slot, if the list has a pair there
+abbrev pub value_in : List Pair → Slot → Option NodeWord
+value_in pairs slot = if nat_lt (slot_no slot) (length pairs) then Some (Settled (Value slot)) else None
+
+-- the word that is filled behind this one of a leaf
+abbrev pub leaf_behind : List Pair → NodeWord → Option NodeWord
+leaf_behind pairs (Settled Head) = if nat_lt 1 (length pairs) then Some (Settled More) else key_first pairs
+leaf_behind pairs (Settled More) = key_first pairs
+leaf_behind pairs (Settled (Key slot)) = value_in pairs slot
+leaf_behind pairs (Settled (Value slot)) = if has_high pairs slot then Some (Settled (High slot)) else key_behind pairs slot
+leaf_behind pairs (Settled (High slot)) = key_behind pairs slot
+leaf_behind pairs _ = None
+
+-- and of a fork
+abbrev pub fork_behind : NodeWord → Option NodeWord
+fork_behind (Settled Head) = Some first_key
+fork_behind (Settled (Key FirstSlot)) = Some (Child Left)
+fork_behind (Child Left) = Some (Child Right)
+fork_behind _ = None
 
 -- the word that is filled behind this one
 abbrev pub part_behind : Piece → NodeWord → Option NodeWord
-part_behind p part = next_behind None (fills_of p) part
+part_behind (Leaf level class pairs) part = leaf_behind pairs part
+part_behind (Fork level class key l r) part = fork_behind part
 
--- how many words are filled behind this one
+-- at most so many words are filled behind this one
 abbrev pub fills_behind : Piece → NodeWord → ℕ
-fills_behind p part = many_left (fills_of p) part
+fills_behind (Leaf level class pairs) part = 1 + 3 * min (length pairs) 4 - fill_place part
+fills_behind (Fork level class key l r) (Settled Head) = 3
+fills_behind (Fork level class key l r) (Settled (Key FirstSlot)) = 2
+fills_behind (Fork level class key l r) (Child Left) = 1
+fills_behind (Fork level class key l r) _ = 0
+
+-- and so many in all
+abbrev pub many_fills : Piece → ℕ
+many_fills p = suc (fills_behind p (Settled Head))
+
+-- so many in the fresh nodes behind this place, where so many are needed
+abbrev pub fills_after : Need → (Nth → Piece) → Nth → ℕ
+fills_after Three pieces First = many_fills (pieces Second) + many_fills (pieces Third)
+fills_after Three pieces Second = many_fills (pieces Third)
+fills_after _ pieces nth = 0
+
+-- and in all of them
+abbrev pub all_fills : Need → (Nth → Piece) → ℕ
+all_fills need pieces = many_fills (pieces First) + fills_after need pieces First
 
 -- the fresh node of this place
 abbrev pub nth_node : Nodes → Nth → NodeNo
@@ -95,13 +149,6 @@ nth_node ns Third = ns.third
 abbrev pub top_of : Need → Nodes → ℕ
 top_of Three ns = ns.third.0
 top_of _ ns = ns.first.0
-
--- the words that were loaded, with one more
-abbrev pub with_word : Loaded → NodeWord → ℕ → Loaded
-with_word x (Settled Head) v = record x { head = Some v }
-with_word x (Settled (Key FirstSlot)) v = record x { key = Some v }
-with_word x (Settled (Value FirstSlot)) v = record x { value = Some v }
-with_word x _ v = x
 
 -- what is left of a share once a node is taken
 abbrev pub less_a_node : Remaining → Remaining
@@ -118,11 +165,6 @@ abbrev pub nth_behind : Need → Nth → Option Nth
 nth_behind Three First = Some Second
 nth_behind Three Second = Some Third
 nth_behind _ _ = None
-
--- so many fresh nodes have one at this place: the first is filled in any case
-abbrev pub HasPlace : Need → Nth → Type 0
-HasPlace need First = Unit {0}
-HasPlace need nth = need ≡ Three
 
 -- which of so many nodes an update finalizes: all but the first
 abbrev pub all_but_first : ℕ → List Bool

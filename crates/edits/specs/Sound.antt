@@ -2,10 +2,9 @@
 use Rattle.std.specs.Prelude.{◌≡◌, ◌≢◌, ◌⊎◌, ℕ, true, List, [], Some}
 use Rattle.arena.specs.declared.number.NodeNo.{NodeNo}
 use Rattle.arena.specs.declared.number.ScxNo.{ScxNo}
-use Rattle.arena.specs.declared.word.NodeWord.{NodeWord}
 use Rattle.arena.specs.declared.word.NodeWord.TheVariants.{Child}
 use Rattle.arena.specs.declared.word.Side.{Side}
-use Rattle.arena.specs.Fills.{IsInField, IsNamed}
+use Rattle.arena.specs.Fills.{IsInField}
 use Rattle.arena.specs.History.{History}
 use Rattle.arena.specs.Machines.{Call}
 use Rattle.histories.specs.Descriptor.{Descriptor}
@@ -13,45 +12,37 @@ use Rattle.prims.specs.Laws.Idle.{IsQuietSince}
 use Rattle.prims.specs.Llx.Known.{IsOpened}
 use Rattle.prims.specs.Scx.Known.{Job, Says}
 use Rattle.prims.specs.Snaps.{AreDistinct}
+use Rattle.prims.specs.declared.snap.Snap.{Snap}
 use Rattle.ordered_map.specs.OrderedMap.{edit_key}
 use Rattle.ordered_map.specs.Runs.{IsTreeRun}
-use Rattle.edits.specs.declared.edit.Look.TheVariants.{At, Differs, Enough}
-use Rattle.edits.specs.declared.edit.Need.TheVariants.{Nothing}
-use Rattle.arena.specs.Lawful.{IsSettled}
-use Rattle.arena.specs.Words.{node}
-use Rattle.prims.specs.declared.snap.Snap.{Snap}
+use Rattle.template.specs.Blame.{IsContended, WasNotFinal}
 use Rattle.template.specs.FoundLeaf.{asked_key}
 use Rattle.template.specs.Promises.{IsPromised}
 use Rattle.template.specs.declared.walk.Found.{Found}
-use Rattle.edits.specs.declared.edit.Loaded.{Loaded}
+use Rattle.edits.specs.declared.edit.Look.TheVariants.{At, Differs, Enough}
+use Rattle.edits.specs.declared.edit.Need.TheVariants.{Nothing}
 use Rattle.edits.specs.declared.edit.Nodes.{Nodes}
 use Rattle.edits.specs.declared.edit.Nth.{Nth}
-use Rattle.template.specs.Blame.{IsContended, WasNotFinal}
+use Rattle.edits.specs.declared.reading.Reading.{Reading}
 use Rattle.edits.specs.Edits.{EditMeaning, EditBounds}
-use Rattle.edits.specs.Known.{IsBelowRoot, ComesBefore, CoversLeaf, IsNeeded, HasLooked, HasFilledAll, IsUpdateFor}
-use Rattle.edits.specs.Pieces.{fills_of, fills_word, nth_node, with_word, word_of}
+use Rattle.edits.specs.Known.{ComesBefore, CoversLeaf, IsNeeded, HasLooked, HasFilledAll, IsUpdateFor, MayRead}
+use Rattle.edits.specs.Pieces.{is_filled, nth_node, word_of}
 
 -- What an edit looks at an LLX may look at, and was not final at a moment of the call. Where a
 -- snapshot differs from what the walk has found, what the edit names was in the way of a pass that
--- was idle. What an edit copies every pass may know, and it is not the root.
+-- was idle. What an edit reads every pass may know, it is not the root, and what is known of it
+-- before is right.
 pub record LooksWell {E : Type 0} (m : EditMeaning E) : Type 0 where
   pub opens : (e : E) (c : Call) (h : History) (f : Found) (snaps : List Snap) (n : NodeNo) → IsTreeRun c.layout h → m.needs e f ≢ Nothing → HasLooked m c h e f snaps → m.looks e f snaps ≡ At n → IsOpened c.layout h n.0
   pub stood : (e : E) (c : Call) (h : History) (f : Found) (snaps : List Snap) (n : NodeNo) → IsTreeRun c.layout h → m.needs e f ≢ Nothing → HasLooked m c h e f snaps → m.looks e f snaps ≡ At n → WasNotFinal c h n.0
   pub differs : (e : E) (c : Call) (h : History) (f : Found) (snaps : List Snap) (n : NodeNo) (s : ScxNo) → IsTreeRun c.layout h → m.needs e f ≢ Nothing → HasLooked m c h e f snaps → m.looks e f snaps ≡ Differs n s → IsQuietSince c.layout c.pass c.start h → IsContended c h n.0 s.0
-  pub copied : (e : E) (c : Call) (h : History) (f : Found) (snaps : List Snap) → IsTreeRun c.layout h → m.needs e f ≢ Nothing → HasLooked m c h e f snaps → m.looks e f snaps ≡ Enough → IsNamed c.layout h (m.copies e f snaps).0 × IsBelowRoot c.layout (m.copies e f snaps).0
-
--- what an edit loads is settled, and what it loads for a fresh node does not change what it says of
--- those before
-pub record LoadsWell {E : Type 0} (m : EditMeaning E) : Type 0 where
-  pub settled : (e : E) (f : Found) (snaps : List Snap) (ld : Loaded) (nth : Nth) (part : NodeWord) → m.wants e f snaps ld nth ≡ Some part → (n : ℕ) → IsSettled (node n part)
-  pub steady_wants : (e : E) (f : Found) (snaps : List Snap) (ld : Loaded) (nth : Nth) (part : NodeWord) → m.wants e f snaps ld nth ≡ Some part → (v : ℕ) (i : Nth) → ComesBefore i nth → m.wants e f snaps (with_word ld part v) i ≡ m.wants e f snaps ld i
-  pub steady_pieces : (e : E) (f : Found) (snaps : List Snap) (ld : Loaded) (nth : Nth) (part : NodeWord) → m.wants e f snaps ld nth ≡ Some part → (v : ℕ) (i : Nth) → ComesBefore i nth → (ns : Nodes) → m.pieces e f snaps ns (with_word ld part v) i ≡ m.pieces e f snaps ns ld i
+  pub reads : (e : E) (c : Call) (h : History) (f : Found) (snaps : List Snap) (x : NodeNo × Reading) → IsTreeRun c.layout h → m.needs e f ≢ Nothing → HasLooked m c h e f snaps → m.looks e f snaps ≡ Enough → m.reads e f snaps ≡ Some x → MayRead c.layout h x.0.0 x.1
 
 -- a field of its fresh nodes is to hold a fresh node of a place before, or a node that a field has
 -- held
 pub record FillsWell {E : Type 0} (m : EditMeaning E) : Type 0 where
-  pub fields : (e : E) (c : Call) (h : History) (f : Found) (snaps : List Snap) (ns : Nodes) (ld : Loaded) (nth : Nth) (side : Side) → IsTreeRun c.layout h → HasLooked m c h e f snaps → m.looks e f snaps ≡ Enough → IsNeeded (m.needs e f) nth → fills_word (fills_of (m.pieces e f snaps ns ld nth)) (Child side) ≡ true
-      → ((i : Nth) × ComesBefore i nth × (word_of (m.pieces e f snaps ns ld nth) (Child side) ≡ (nth_node ns i).0)) ⊎ IsInField c.layout h (word_of (m.pieces e f snaps ns ld nth) (Child side))
+  pub fields : (e : E) (c : Call) (h : History) (f : Found) (snaps : List Snap) (ns : Nodes) (read : Reading) (nth : Nth) (side : Side) → IsTreeRun c.layout h → HasLooked m c h e f snaps → m.looks e f snaps ≡ Enough → IsNeeded (m.needs e f) nth → is_filled (m.pieces e f snaps ns read nth) (Child side) ≡ true
+      → ((i : Nth) × ComesBefore i nth × (word_of (m.pieces e f snaps ns read nth) (Child side) ≡ (nth_node ns i).0)) ⊎ IsInField c.layout h (word_of (m.pieces e f snaps ns read nth) (Child side))
 
 -- what an edit looks at are nodes apart, one at least, and what it makes of them is its edit
 pub record MakesWell {E : Type 0} (m : EditMeaning E) : Type 0 where
@@ -59,7 +50,7 @@ pub record MakesWell {E : Type 0} (m : EditMeaning E) : Type 0 where
   pub distinct : (e : E) (c : Call) (h : History) (f : Found) (snaps : List Snap) → IsTreeRun c.layout h → m.needs e f ≢ Nothing → HasLooked m c h e f snaps → m.looks e f snaps ≡ Enough → AreDistinct snaps
   -- and its leaf is the one that was found
   pub leaf : (e : E) (c : Call) (h : History) (f : Found) (snaps : List Snap) (s : ℕ) → IsTreeRun c.layout h → m.needs e f ≢ Nothing → HasLooked m c h e f snaps → m.looks e f snaps ≡ Enough → CoversLeaf m e f c h s snaps
-  pub promised : (e : E) (c : Call) (h : History) (f : Found) (snaps : List Snap) (ns : Nodes) (ld : Loaded) (j : Job) (d : Descriptor) → IsTreeRun c.layout h → m.needs e f ≢ Nothing → HasFilledAll m c h e f snaps ns ld → IsUpdateFor m e f snaps ns j.update → Says d j → IsPromised c.layout c.pass h j.scx.0 d (m.edit e f)
+  pub promised : (e : E) (c : Call) (h : History) (f : Found) (snaps : List Snap) (ns : Nodes) (read : Reading) (j : Job) (d : Descriptor) → IsTreeRun c.layout h → m.needs e f ≢ Nothing → HasFilledAll m c h e f snaps ns read → IsUpdateFor m e f snaps ns j.update → Says d j → IsPromised c.layout c.pass h j.scx.0 d (m.edit e f)
 
 -- its edit is of the key of which the leaf that was found tells the value
 abbrev pub IsAtFound : {E : Type 0} → EditMeaning E → Type 0
@@ -70,6 +61,5 @@ pub record EditLaws {E : Type 0} (m : EditMeaning E) : Type 0 where
   pub at_found : IsAtFound m
   pub bounds : EditBounds m
   pub looks : LooksWell m
-  pub loads : LoadsWell m
   pub fills : FillsWell m
   pub makes : MakesWell m

@@ -10,43 +10,39 @@ use Rattle.prims.specs.Scx.Steps.{scx_left}
 use Rattle.template.specs.Walk.Steps.{walk_left, WalkFits}
 use Rattle.template.specs.declared.walk.Found.{Found}
 use Rattle.edits.specs.declared.edit.Nth.{Nth}
-use Rattle.edits.specs.declared.edit.Nth.TheVariants.{First, Second, Third}
+use Rattle.edits.specs.declared.piece.Piece.{Piece}
 use Rattle.edits.specs.declared.update.Updated.{Updated}
 use Rattle.edits.specs.declared.update.UpdateAt.{UpdateAt}
-use Rattle.edits.specs.declared.update.UpdateAt.TheVariants.{Start, Walk, Look, Load, Fill, Scx}
+use Rattle.edits.specs.declared.update.UpdateAt.TheVariants.{Start, Walk, Look, Read, Fill, Scx}
 use Rattle.edits.specs.declared.update.UpdateRun.{UpdateRun}
 use Rattle.edits.specs.Edits.{EditMeaning}
-use Rattle.edits.specs.Pieces.{fills_behind, HasPlace}
+use Rattle.edits.specs.Pieces.{fills_after, fills_behind}
+use Rattle.edits.specs.Readings.{next_read, reads_left}
 
--- how many loads and fills are made at most for the fresh nodes behind this one
-abbrev pub works_after : {E : Type 0} → EditMeaning E → Nth → ℕ
-works_after e First = e.most_works Second + e.most_works Third
-works_after e Second = e.most_works Third
-works_after e Third = 0
-
--- and for this one too
-abbrev pub works_behind : {E : Type 0} → EditMeaning E → Nth → ℕ
-works_behind e nth = e.most_works nth + works_after e nth
+-- how many loads and fills are made at most in a try
+abbrev pub most_works : {E : Type 0} → EditMeaning E → ℕ
+most_works e = e.most_reads + e.most_fills
 
 -- how many steps a try may ask for, where no more nodes than these are taken: the walk three for
--- each of them and for two more, each LLX 64, the loads and fills theirs, and the SCX 39
+-- each of them and for two more, and five at its leaf, each LLX 64, the loads and fills theirs, and
+-- the SCX 39
 abbrev pub try_left : {E : Type 0} → EditMeaning E → ℕ → ℕ
-try_left e nodes = 3 * (2 + nodes) + (64 * e.most_looks + works_behind e First + 39)
+try_left e nodes = 3 * (2 + nodes) + 5 + (64 * e.most_looks + most_works e + 39)
 
--- how many loads and fills are left, where no word of the fresh node of this place is filled
-abbrev pub works_left : {E A : Type 0} → EditMeaning E → UpdateRun E A → Found → Nth → ℕ
-works_left e m f nth = e.works m.edit f m.snaps.items m.loaded nth + works_after e nth
+-- what the fresh nodes are to hold
+abbrev pub pieces_now : {E A : Type 0} → EditMeaning E → UpdateRun E A → Found → Nth → Piece
+pieces_now e m f nth = e.pieces m.edit f m.snaps.items m.nodes m.read nth
 
--- how many are left behind the fill of this word
+-- how many fills are left behind that of this word
 abbrev pub fills_left : {E A : Type 0} → EditMeaning E → UpdateRun E A → Found → Nth → NodeWord → ℕ
-fills_left e m f nth part = fills_behind (e.pieces m.edit f m.snaps.items m.nodes m.loaded nth) part + works_after e nth
+fills_left e m f nth part = fills_behind (pieces_now e m f nth) part + fills_after (e.needs m.edit f) (pieces_now e m f) nth
 
 -- how many steps are left in this try, at this place
 abbrev pub phase_left : {E A : Type 0} → EditMeaning E → UpdateRun E A → ℕ → UpdateAt → ℕ
 phase_left e m nodes Start = try_left e nodes
-phase_left e m nodes (Walk walk) = walk_left walk.at nodes + (64 * e.most_looks + works_behind e First + 39)
-phase_left e m nodes (Look f llx) = llx_left llx.at + 64 * (e.most_looks - 1 - length m.snaps.items) + works_behind e First + 39
-phase_left e m nodes (Load f nth part) = works_left e m f nth - 1 + 39
+phase_left e m nodes (Walk walk) = walk_left walk.at nodes + (64 * e.most_looks + most_works e + 39)
+phase_left e m nodes (Look f llx) = llx_left llx.at + 64 * (e.most_looks - 1 - length m.snaps.items) + most_works e + 39
+phase_left e m nodes (Read f n part) = reads_left m.read - 1 + e.most_fills + 39
 phase_left e m nodes (Fill f nth part) = fills_left e m f nth part + 39
 phase_left e m nodes (Scx f scx) = scx_left scx.at
 
@@ -58,25 +54,22 @@ update_left e m nodes = m.tries * try_left e nodes + phase_left e m nodes m.at
 abbrev pub IsNearer : {E : Type 0} → EditMeaning E → UpdateRun E UpdateAt → ℕ → Turn Updated → ℕ → Type 0
 IsNearer e m nodes turn n = MatchTurn turn (λ _. update_left e m nodes < n) (λ _. Unit {0})
 
--- the edit has a fresh node at this place, and wants this word next for it
-abbrev pub IsWanted : {E A : Type 0} → EditMeaning E → UpdateRun E A → Found → Nth → NodeWord → Type 0
-IsWanted e m f nth part = (e.wants m.edit f m.snaps.items m.loaded nth ≡ Some part) × HasPlace (e.needs m.edit f) nth
-
--- what the run is told at this place fits so many taken nodes
-abbrev pub UpdateFitsAt : {E A : Type 0} → EditMeaning E → UpdateRun E A → Option ℕ → ℕ → UpdateAt → Type 0
-UpdateFitsAt e m got nodes (Walk walk) = WalkFits walk got nodes
-UpdateFitsAt e m got nodes (Load f nth part) = IsWanted e m f nth part
-UpdateFitsAt e m got nodes _ = Unit {0}
+-- what the run is told at this place fits so many taken nodes, and is of the word that it reads
+-- next
+abbrev pub UpdateFitsAt : {E A : Type 0} → UpdateRun E A → Option ℕ → ℕ → UpdateAt → Type 0
+UpdateFitsAt m got nodes (Walk walk) = WalkFits walk got nodes
+UpdateFitsAt m got nodes (Read f n part) = next_read m.read ≡ Some part
+UpdateFitsAt m got nodes _ = Unit {0}
 
 -- what the run is told where it stands fits so many taken nodes
-abbrev pub UpdateFits : {E : Type 0} → EditMeaning E → UpdateRun E UpdateAt → Option ℕ → ℕ → Type 0
-UpdateFits e m got nodes = UpdateFitsAt e m got nodes m.at
+abbrev pub UpdateFits : {E : Type 0} → UpdateRun E UpdateAt → Option ℕ → ℕ → Type 0
+UpdateFits m got nodes = UpdateFitsAt m got nodes m.at
 
 -- What it takes of its share
 
 -- how many tries, this one and those behind it, may still take nodes
 abbrev pub node_tries : {E A : Type 0} → UpdateRun E A → UpdateAt → ℕ
-node_tries m (Load f nth part) = m.tries
+node_tries m (Read f n part) = m.tries
 node_tries m (Fill f nth part) = m.tries
 node_tries m (Scx f scx) = m.tries
 node_tries m _ = m.tries + 1

@@ -3,7 +3,9 @@ ghost use Rattle.std.specs.Prelude.{◌≡◌};
 ghost use Rattle.edits.specs.Edits.{EditMeaning};
 ghost use Rattle.edits.specs.Sound.{EditLaws};
 
-use arena::{Head, NodeNo, NodeWord, ScxNo, SettledPart, Side, Slot};
+use crate::piece::Piece;
+use crate::reading::Reading;
+use arena::{NodeNo, ScxNo, Side};
 use prims::Snap;
 use template::{Found, Goal};
 
@@ -55,84 +57,6 @@ pub enum Look {
     Enough,
 }
 
-/// What a fresh node is to hold.
-#[derive(Clone, Copy, Debug, PartialEq, Eq)]
-pub enum Piece {
-    Leaf {
-        level: u64,
-        class: u8,
-        key: u64,
-        value: u64,
-    },
-    Fork {
-        level: u64,
-        class: u8,
-        key: u64,
-        left: NodeNo,
-        right: NodeNo,
-    },
-}
-
-/// The word of a head. A level beyond the deepest that a word holds is taken for that one.
-fn head(level: u64, leaf: bool, class: u8) -> u64
-    ensures { result ≡ piece_head level leaf class }
-{
-    let deepest = 2305843009213693951;
-    Head {
-        level: level.min(deepest),
-        leaf,
-        class: class % 4,
-    }
-    .word()
-}
-
-impl Piece {
-    ghost use Rattle.std.specs.Prelude.{◌≡◌};
-    ghost use Rattle.edits.specs.Pieces.{word_of, part_behind};
-
-    /// What one of its words is to hold.
-    pub fn word(self, part: NodeWord) -> u64
-        ensures { result ≡ word_of self part }
-    {
-        match (self, part) {
-            (Piece::Leaf { level, class, .. }, NodeWord::Settled(SettledPart::Head)) => head(
-                level, true, class,
-            ),
-            (Piece::Leaf { key, .. }, NodeWord::Settled(SettledPart::Key(Slot::First))) => key,
-            (Piece::Leaf { value, .. }, NodeWord::Settled(SettledPart::Value(Slot::First))) =>
-                value,
-            (Piece::Fork { level, class, .. }, NodeWord::Settled(SettledPart::Head)) => head(
-                level, false, class,
-            ),
-            (Piece::Fork { key, .. }, NodeWord::Settled(SettledPart::Key(Slot::First))) => key,
-            (Piece::Fork { left, .. }, NodeWord::Child(Side::Left)) => left.0,
-            (Piece::Fork { right, .. }, NodeWord::Child(Side::Right)) => right.0,
-            _ => 0,
-        }
-    }
-
-    /// The word that is filled behind this one, if one is.
-    pub fn behind(self, part: NodeWord) -> Option<NodeWord>
-        ensures { result ≡ part_behind self part }
-    {
-        match (self, part) {
-            (_, NodeWord::Settled(SettledPart::Head)) => Some(NodeWord::Settled(SettledPart::Key(
-                Slot::First,
-            ))),
-            (Piece::Leaf { .. }, NodeWord::Settled(SettledPart::Key(Slot::First))) => Some(
-                NodeWord::Settled(SettledPart::Value(Slot::First)),
-            ),
-            (Piece::Fork { .. }, NodeWord::Settled(SettledPart::Key(Slot::First))) => Some(
-                NodeWord::Child(Side::Left),
-            ),
-            (Piece::Fork { .. }, NodeWord::Child(Side::Left)) => {
-                Some(NodeWord::Child(Side::Right))
-            }
-            _ => None,
-        }
-    }
-}
-
 /// Which of the fresh nodes of an edit.
 #[derive(Clone, Copy, Debug, PartialEq, Eq)]
 pub enum Nth {
@@ -175,42 +99,8 @@ impl Nodes {
     }
 }
 
-/// The settled words that an edit has loaded of the node that it copies.
-#[derive(Clone, Copy, Debug, Default, PartialEq, Eq)]
-pub struct Loaded {
-    pub head: Option<u64>,
-    pub key: Option<u64>,
-    pub value: Option<u64>,
-}
-
-impl Loaded {
-    ghost use Rattle.std.specs.Prelude.{◌≡◌};
-    ghost use Rattle.edits.specs.Pieces.{with_word};
-
-    /// The same with one more.
-    pub fn with(self, part: NodeWord, value: u64) -> Loaded
-        ensures { result ≡ with_word self part value }
-    {
-        match part {
-            NodeWord::Settled(SettledPart::Head) => Loaded {
-                head: Some(value),
-                ..self
-            },
-            NodeWord::Settled(SettledPart::Key(Slot::First)) => Loaded {
-                key: Some(value),
-                ..self
-            },
-            NodeWord::Settled(SettledPart::Value(Slot::First)) => Loaded {
-                value: Some(value),
-                ..self
-            },
-            _ => self,
-        }
-    }
-}
-
-/// An edit of the tree: what it looks at behind its walk, what it loads, and what its fresh nodes are
-/// to hold.
+/// An edit of the tree: what it looks at behind its walk, what it reads, and what its fresh nodes
+/// are to hold.
 pub trait Edit {
     /// What each of its functions answers, and which edit of the map it is.
     ghost means: { EditMeaning Self };
@@ -231,28 +121,16 @@ pub trait Edit {
     fn look(&self, found: &Found, snaps: &[Snap]) -> Look
         ensures { result ≡ means.looks self.now found.now snaps.now };
 
-    /// The node of which it copies settled words.
-    fn copied(&self, found: &Found, snaps: &[Snap]) -> NodeNo
-        ensures { result ≡ means.copies self.now found.now snaps.now };
+    /// The node of which it reads settled words once all is looked at, if it reads any, and what is
+    /// known of that by then.
+    fn reads(&self, found: &Found, snaps: &[Snap]) -> Option<(NodeNo, Reading)>
+        ensures { result ≡ means.reads self.now found.now snaps.now };
 
-    /// Which word of that it loads next before it fills the fresh node of this place.
-    fn load(&self, found: &Found, snaps: &[Snap], loaded: &Loaded, nth: Nth) -> Option<NodeWord>
-        ensures { result ≡ means.wants self.now found.now snaps.now loaded.now nth };
-
-    /// What the fresh node of this place is to hold.
-    fn piece(
-        &self,
-        found: &Found,
-        snaps: &[Snap],
-        nodes: &Nodes,
-        loaded: &Loaded,
-        nth: Nth,
-    ) -> Piece
-        ensures { result ≡ means.pieces self.now found.now snaps.now nodes.now loaded.now nth };
+    /// What the fresh node of this place is to hold, once that is read.
+    fn piece(&self, found: &Found, snaps: &[Snap], nodes: &Nodes, read: &Reading, nth: Nth) -> Piece
+        ensures { result ≡ means.pieces self.now found.now snaps.now nodes.now read.now nth };
 
     /// How many nodes it looks at and how many steps its loads and fills take; and that what it
-    /// looks at, loads and fills makes its edit.
+    /// looks at, reads and fills makes its edit.
     ghost laws: { EditLaws means };
 }
-
-ghost use Rattle.edits.specs.Pieces.{piece_head};

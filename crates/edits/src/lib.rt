@@ -3,9 +3,15 @@
 
 mod alone;
 mod edit;
+mod pairs;
+mod piece;
+mod reading;
 mod update;
 mod work;
 
 pub use alone::alone_holds;
-pub use edit::{Edit, Loaded, Look, Need, Nodes, Nth, Piece};
+pub use edit::{Edit, Look, Need, Nodes, Nth};
+pub use pairs::Pairs;
+pub use piece::Piece;
+pub use reading::Reading;
 pub use update::{Next, Stop, UpdateAt, UpdateRun, Updated, anew};

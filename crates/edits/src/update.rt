@@ -1,9 +1,10 @@
 //! The machine of an edit of the tree.
 ghost use Rattle.std.specs.Prelude.{◌≡◌, ℕ, ◌+◌, ◌*◌, ◌-◌, ◌<◌, ◌≤◌, length};
 ghost use Rattle.arena.specs.Machines.{MatchTurn};
-ghost use Rattle.edits.specs.Steps.{try_left, works_behind, update_left, IsNearer};
+ghost use Rattle.edits.specs.Steps.{try_left, most_works, update_left, IsNearer};
 
-use crate::edit::{Edit, Loaded, Nodes, Nth};
+use crate::edit::{Edit, Nodes, Nth};
+use crate::reading::Reading;
 use arena::{
     Access, Full, Head, Kind, Machine, NodeNo, NodeWord, ScxNo, ScxWord, SettledPart, Share, Step,
     Turn, Word,
@@ -16,9 +17,9 @@ use template::{Found, Trail, Tree, WalkAt, WalkRun};
 /// What an update answers.
 #[derive(Clone, Copy, Debug, PartialEq, Eq)]
 pub enum Updated {
-    /// It is made, or there was nothing to make, at a leaf of this key; `value` is what the key of
-    /// the edit had, none where the leaf has another.
-    Done { key: u64, value: Option<u64> },
+    /// It is made, or there was nothing to make; the walk told of this key, and `value` is what
+    /// that had, if it had one.
+    Done { key: u64, value: Option<u128> },
     /// All tries were lost, the last to this SCX-record over this node.
     Contended { node: NodeNo, scx: ScxNo },
     /// The share has too little left for the next try.
@@ -64,10 +65,10 @@ pub enum Next {
         marked: bool,
         scx: ScxNo,
     },
-    /// It loads a settled word for the fresh node of this place.
-    Load {
-        nth: Nth,
-        part: NodeWord,
+    /// It reads a settled word of this node.
+    Read {
+        node: NodeNo,
+        part: SettledPart,
     },
     /// It fills the fresh node of this place, from its head on.
     Fill(Nth),
@@ -89,11 +90,11 @@ pub enum UpdateAt {
         found: Found,
         llx: LlxRun,
     },
-    /// The load of a settled word for the fresh node of this place.
-    Load {
+    /// The load of a settled word of the node that is read.
+    Read {
         found: Found,
-        nth: Nth,
-        part: NodeWord,
+        node: NodeNo,
+        part: SettledPart,
     },
     /// The fill of a word of the fresh node of this place.
     Fill {
@@ -108,10 +109,11 @@ pub enum UpdateAt {
     },
 }
 
-/// An update of the tree, step by step: a walk, LLXs of the nodes that the edit names, loads and fills
-/// of fresh nodes, an SCX; and again where such a try is lost, as long as tries are left. From Brown,
-/// Ellen and Ruppert (PPoPP 2014). The machine stands at an `UpdateAt`; whoever makes its steps in
-/// line keeps no place, `()`, which spares the writing of one.
+/// An update of the tree, step by step: a walk, LLXs of the nodes that the edit names, loads of
+/// what it reads of one of them, fills of fresh nodes, an SCX; and again where such a try is lost,
+/// as long as tries are left. From Brown, Ellen and Ruppert (PPoPP 2014). The machine stands at an
+/// `UpdateAt`; whoever makes its steps in line keeps no place, `()`, which spares the writing of
+/// one.
 #[derive(Debug, Drop)]
 pub struct UpdateRun<E, A> {
     /// What is to be done.
@@ -122,8 +124,8 @@ pub struct UpdateRun<E, A> {
     pub snaps: ArrayVec<Snap, 4>,
     /// The fresh nodes of this try.
     pub nodes: Nodes,
-    /// What was loaded for them.
-    pub loaded: Loaded,
+    /// What was read for them.
+    pub read: Reading,
     /// How many tries are left behind this one.
     pub tries: u32,
     /// How many it has in all.
@@ -153,6 +155,7 @@ pub fn anew(found: &Found) -> Found
             leaf: found.head.leaf,
             class: found.head.class,
         },
+        more: found.more,
         key: found.key,
         value: match found.value {
             Some(value) => Some(value),
@@ -163,7 +166,6 @@ pub fn anew(found: &Found) -> Found
 
 impl<E: Edit + Drop> UpdateRun<E, UpdateAt> {
     ghost use Rattle.std.specs.Prelude.{◌≡◌, ℕ, ◌≤◌, ◌*◌, ◌+◌, ◌-◌, length};
-    ghost use Rattle.edits.specs.declared.edit.Nth.TheVariants.{First};
     ghost use Rattle.template.specs.Walk.Steps.{WalkFits, walk_left};
     ghost use Rattle.prims.specs.Llx.Steps.{llx_left};
     ghost use Rattle.prims.specs.Scx.Steps.{scx_left};
@@ -202,7 +204,8 @@ impl<E: Edit + Drop> UpdateRun<E, UpdateAt> {
         })
     }
 
-    /// Ends a try that is lost to this SCX-record over this node, and begins the next if there is one.
+    /// Ends a try that is lost to this SCX-record over this node, and begins the next if there is
+    /// one.
     #[cold]
     fn lost(&mut self, node: NodeNo, scx: ScxNo) -> Turn<Updated>
         ensures turn { (c : Call) (h : History) → IsRun TreeAllows c.layout h → MayBeginTry E.means self.old c h
@@ -230,7 +233,7 @@ impl<E: Edit + Drop> UpdateRun<E, UpdateAt> {
         ensures nearer { (nodes : ℕ) → WalkFits walk got nodes
             → IsNearer E.means self.new nodes result
             (self.old.tries * try_left E.means nodes +
-            (walk_left walk.at nodes + (64 * E.means.most_looks + works_behind E.means First + 39))) }
+            (walk_left walk.at nodes + (64 * E.means.most_looks + most_works E.means + 39))) }
         ensures spends { IsSpending E.means result self.old.share self.new (self.old.tries + 1) (self.old.tries + 1) }
         ensures tries { (self.old.tries ≤ self.new.tries + 1) × (self.new.tries ≤ self.old.tries) }
     {
@@ -254,7 +257,7 @@ impl<E: Edit + Drop> UpdateRun<E, UpdateAt> {
         ensures same { IsSameUpdate self.old self.new }
         ensures nearer { (nodes : ℕ) → IsNearer E.means self.new nodes result
             (self.old.tries * try_left E.means nodes +
-            (llx_left llx.at + 64 * (E.means.most_looks - 1 - length self.old.snaps.items) + works_behind E.means First + 39)) }
+            (llx_left llx.at + 64 * (E.means.most_looks - 1 - length self.old.snaps.items) + most_works E.means + 39)) }
         ensures spends { IsSpending E.means result self.old.share self.new (self.old.tries + 1) (self.old.tries + 1) }
         ensures tries { (self.old.tries ≤ self.new.tries + 1) × (self.new.tries ≤ self.old.tries) }
     {
@@ -279,9 +282,7 @@ impl<E: Edit + Drop> UpdateRun<E, UpdateAt> {
         ensures asks { result ≡ Turn.Ask (fills E.means self.old found nth part) }
     {
         let snaps = self.snaps.as_slice();
-        let piece = self
-            .edit
-            .piece(&found, snaps, &self.nodes, &self.loaded, nth);
+        let piece = self.edit.piece(&found, snaps, &self.nodes, &self.read, nth);
         self.at = UpdateAt::Fill { found, nth, part };
         Turn::Ask(Step {
             kind: Kind::Fill,
@@ -301,9 +302,7 @@ impl<E: Edit + Drop> UpdateRun<E, UpdateAt> {
         ensures tries { (self.old.tries ≤ self.new.tries + 1) × (self.new.tries ≤ self.old.tries) }
     {
         let snaps = self.snaps.as_slice();
-        let piece = self
-            .edit
-            .piece(&found, snaps, &self.nodes, &self.loaded, nth);
+        let piece = self.edit.piece(&found, snaps, &self.nodes, &self.read, nth);
         if let Some(next) = piece.behind(part) {
             return self.fill(found, nth, next);
         }
@@ -319,7 +318,7 @@ impl<E: Edit + Drop> UpdateRun<E, UpdateAt> {
         match next {
             Next::Look(node) => self.begin_look(found, node),
             Next::Wait { node, marked, scx } => self.begin_wait(found, node, marked, scx),
-            Next::Load { nth, part } => self.begin_load(found, nth, part),
+            Next::Read { node, part } => self.begin_read(found, node, part),
             Next::Fill(nth) => self.fill(found, nth, NodeWord::Settled(SettledPart::Head)),
             Next::Change(scx) => self.begin_scx(found, scx),
         }
@@ -356,15 +355,14 @@ impl<E: Edit + Drop> UpdateRun<E, UpdateAt> {
     }
 
     /// Begins the load of a settled word.
-    fn begin_load(&mut self, found: Found, nth: Nth, part: NodeWord) -> Turn<Updated>
-        ensures place { self.new ≡ placed E.means self.old found (Next.Load nth part) }
-        ensures asks { result ≡ Turn.Ask (next_step E.means self.old found (Next.Load nth part)) }
+    fn begin_read(&mut self, found: Found, node: NodeNo, part: SettledPart) -> Turn<Updated>
+        ensures place { self.new ≡ placed E.means self.old found (Next.Read node part) }
+        ensures asks { result ≡ Turn.Ask (next_step E.means self.old found (Next.Read node part)) }
     {
-        let node = self.edit.copied(&found, self.snaps.as_slice());
-        self.at = UpdateAt::Load { found, nth, part };
+        self.at = UpdateAt::Read { found, node, part };
         Turn::Ask(Step {
             kind: Kind::LoadSettled,
-            word: Word::Node(node, part),
+            word: Word::Node(node, NodeWord::Settled(part)),
             access: Access::Load,
         })
     }
@@ -465,7 +463,7 @@ impl<E: Edit + Drop> UpdateRun<E, UpdateAt> {
             → UpdateTurn E.means c h self.new result }
         ensures begins { got ≡ None → (c : Call) (h : History) → UpdateIsReady E.means self.old c h None → MatchTurn result (λ _. Unit {0}) (λ _. ⊥) }
         ensures same { IsSameUpdate self.old self.new }
-        ensures nearer { (nodes : ℕ) → UpdateFits E.means self.old got nodes → IsNearer E.means self.new nodes result (update_left E.means self.old nodes) }
+        ensures nearer { (nodes : ℕ) → UpdateFits self.old got nodes → IsNearer E.means self.new nodes result (update_left E.means self.old nodes) }
         ensures spends { HasScxForFill self.old self.old.at
             → IsSpending E.means result self.old.share self.new (node_tries self.old self.old.at) (scx_tries self.old self.old.at) }
         ensures tries { (self.old.tries ≤ self.new.tries + 1) × (self.new.tries ≤ self.old.tries) }
@@ -474,8 +472,8 @@ impl<E: Edit + Drop> UpdateRun<E, UpdateAt> {
             UpdateAt::Start => self.begin_walk(),
             UpdateAt::Walk { walk } => self.walk_on(walk, got),
             UpdateAt::Look { found, llx } => self.look_on(found, llx, got),
-            UpdateAt::Load { found, nth, part } => {
-                let next = self.loaded(&found, nth, part, got.unwrap_or(0));
+            UpdateAt::Read { found, node, part } => {
+                let next = self.read_on(&found, node, part, got.unwrap_or(0));
                 self.go_on(found, Ok(next))
             }
             UpdateAt::Fill { found, nth, part } => self.fill_on(found, nth, part),
@@ -502,7 +500,7 @@ impl<E: Edit + Drop> Machine<Tree> for UpdateRun<E, UpdateAt> {
 
     ghost left = { update_left E.means };
 
-    ghost fits = { UpdateFits E.means };
+    ghost fits = { UpdateFits };
 
     ghost asks_first = { λ _. Unit {0} };
 

@@ -1,31 +1,31 @@
 //! The work of an update, wherever it stands.
-ghost use Rattle.edits.specs.Steps.{try_left, works_behind, works_left};
+ghost use Rattle.edits.specs.Steps.{try_left, most_works, pieces_now};
 
-use crate::edit::{Edit, Loaded, Look, Need, Nodes, Nth};
+use crate::edit::{Edit, Look, Need, Nodes, Nth};
+use crate::reading::Reading;
 use crate::update::{Next, Stop, UpdateRun};
-use arena::{Full, MemberIndex, NodeNo, NodeWord, Plan, Resource, ScxNo, Share};
+use arena::{Full, MemberIndex, NodeNo, Plan, Resource, ScxNo, SettledPart, Share, Slot};
 use arrayvec::ArrayVec;
 use prims::{ScxAt, ScxRun, Snap, SnapList, Snaps, Update};
 use template::Found;
 
 impl<E: Edit + Drop, A: Drop> UpdateRun<E, A> {
     ghost use Rattle.std.specs.Prelude.{◌≡◌, ℕ, ◌<◌, ◌≤◌, ◌*◌, ◌+◌, ◌-◌, length};
-    ghost use Rattle.edits.specs.declared.edit.Nth.TheVariants.{First};
-    ghost use Rattle.std.specs.Prelude.{◌≢◌, IfNone, IfSome, None, Ok};
+    ghost use Rattle.std.specs.Prelude.{◌≢◌, IfNone, IfSome, None, Some, Ok};
     ghost use Rattle.template.specs.FoundLeaf.{HasFoundGoal};
     ghost use Rattle.edits.specs.Known.{HasNodesFor, IsShort, IsFilledUpTo, CanScx};
-    ghost use Rattle.edits.specs.Pieces.{HasPlace, part_behind};
-    ghost use Rattle.edits.specs.Steps.{IsWanted};
-    ghost use Rattle.edits.specs.Pieces.{less_a_node};
+    ghost use Rattle.edits.specs.Pieces.{fills_after, part_behind, less_a_node};
+    ghost use Rattle.edits.specs.Readings.{next_read, reads_left};
     ghost use Rattle.arena.specs.History.{History, value};
     ghost use Rattle.arena.specs.Machines.{Call, IsRun, begun_at};
     ghost use Rattle.prims.specs.FoundThere.{HasFoundThere};
     ghost use Rattle.prims.specs.Llx.Known.{IsSnapshot};
     ghost use Rattle.ordered_map.specs.TreeShape.{TreeAllows};
-    ghost use Rattle.edits.specs.Known.{MayBeginTry, IsUntouched, CanLook, nothing_loaded, CanLoad, Loads, copied};
-    ghost use Rattle.arena.specs.Words.{node};
-    ghost use Rattle.edits.specs.Steps.{works_after};
-    ghost use Rattle.edits.specs.Next.{IsSameUpdate, standing, update_of, UpdateGoesOn, ComesNearer, HasSpentForNext};
+    ghost use Rattle.edits.specs.Known.{MayBeginTry, IsUntouched, CanLook, CanWork, CanRead, Reads};
+    ghost use Rattle.arena.specs.declared.word.NodeWord.{NodeWord};
+    ghost use Rattle.arena.specs.declared.word.SettledPart.{SettledPart};
+    ghost use Rattle.arena.specs.declared.word.Word.{Word};
+    ghost use Rattle.edits.specs.Next.{IsSameUpdate, half_told, standing, update_of, UpdateGoesOn, ComesNearer, HasSpentForNext};
     ghost use Rattle.edits.specs.Tries.{IsTry, HasFilledNone};
     ghost use Rattle.prims.specs.Laws.Idle.{IsQuietSince};
 
@@ -44,7 +44,7 @@ impl<E: Edit + Drop, A: Drop> UpdateRun<E, A> {
             share,
             snaps: ArrayVec::new(),
             nodes: Nodes::default(),
-            loaded: Loaded::default(),
+            read: Reading::new(),
             tries: tries.saturating_sub(1),
             limit: tries,
             call,
@@ -61,7 +61,7 @@ impl<E: Edit + Drop, A: Drop> UpdateRun<E, A> {
             share: self.share,
             snaps: self.snaps,
             nodes: self.nodes,
-            loaded: self.loaded,
+            read: self.read,
             tries: self.tries,
             limit: self.limit,
             call: self.call,
@@ -104,7 +104,7 @@ impl<E: Edit + Drop, A: Drop> UpdateRun<E, A> {
             → UpdateGoesOn E.means c h self.new found.now result }
         ensures same { IsSameUpdate self.old self.new }
         ensures nearer { (nodes : ℕ) → ComesNearer E.means self.new found.now result nodes
-            (self.old.tries * try_left E.means nodes + (64 * E.means.most_looks + works_behind E.means First + 39)) }
+            (self.old.tries * try_left E.means nodes + (64 * E.means.most_looks + most_works E.means + 39)) }
         ensures spends { HasSpentForNext E.means self.old.share self.new found.now result (self.old.tries + 1) (self.old.tries + 1) }
         ensures tries { self.new.tries ≡ self.old.tries }
     {
@@ -127,7 +127,7 @@ impl<E: Edit + Drop, A: Drop> UpdateRun<E, A> {
         ensures same { IsSameUpdate self.old self.new }
         ensures nearer { (nodes : ℕ) → ComesNearer E.means self.new found.now result nodes
             (self.old.tries * try_left E.means nodes +
-            (64 * (E.means.most_looks - length self.old.snaps.items) + works_behind E.means First + 39)) }
+            (64 * (E.means.most_looks - length self.old.snaps.items) + most_works E.means + 39)) }
         ensures spends { HasSpentForNext E.means self.old.share self.new found.now result (self.old.tries + 1) (self.old.tries + 1) }
         ensures tries { self.new.tries ≡ self.old.tries }
     {
@@ -149,7 +149,7 @@ impl<E: Edit + Drop, A: Drop> UpdateRun<E, A> {
         ensures same { IsSameUpdate self.old self.new }
         ensures nearer { (nodes : ℕ) → ComesNearer E.means self.new found.now result nodes
             (self.old.tries * try_left E.means nodes +
-            (64 * (E.means.most_looks - 1 - length self.old.snaps.items) + works_behind E.means First + 39)) }
+            (64 * (E.means.most_looks - 1 - length self.old.snaps.items) + most_works E.means + 39)) }
         ensures spends { HasSpentForNext E.means self.old.share self.new found.now result (self.old.tries + 1) (self.old.tries + 1) }
         ensures tries { self.new.tries ≡ self.old.tries }
     {
@@ -166,15 +166,10 @@ impl<E: Edit + Drop, A: Drop> UpdateRun<E, A> {
             → UpdateGoesOn E.means c h self.new found.now (Ok result) }
         ensures same { IsSameUpdate self.old self.new }
         ensures nearer { (nodes : ℕ) → ComesNearer E.means self.new found.now (Ok result) nodes
-            (self.old.tries * try_left E.means nodes + (works_behind E.means First + 39)) }
+            (self.old.tries * try_left E.means nodes + (most_works E.means + 39)) }
         ensures spends { HasSpentForNext E.means self.old.share self.new found.now (Ok result) (self.old.tries + 1) (self.old.tries + 1) }
         ensures tries { self.new.tries ≡ self.old.tries }
     {
-        self.loaded = Loaded {
-            head: None,
-            key: None,
-            value: None,
-        };
         if self.edit.need(found) == Need::Three {
             self.begin_three(found)
         } else {
@@ -188,11 +183,11 @@ impl<E: Edit + Drop, A: Drop> UpdateRun<E, A> {
         ensures turn { (c : Call) (b h : History) → IsRun TreeAllows c.layout h → IsTry c b h self.old.limit self.old.tries
             → CanLook E.means self.old (begun_at c b) h found.now
             → E.means.looks self.old.edit found.now self.old.snaps.items ≡ Look.Enough
-            → E.means.needs self.old.edit found.now ≡ Need.One → self.old.loaded ≡ nothing_loaded
+            → E.means.needs self.old.edit found.now ≡ Need.One
             → UpdateGoesOn E.means c h self.new found.now (Ok result) }
         ensures same { IsSameUpdate self.old self.new }
         ensures nearer { (nodes : ℕ) → ComesNearer E.means self.new found.now (Ok result) nodes
-            (self.old.tries * try_left E.means nodes + (works_behind E.means First + 39)) }
+            (self.old.tries * try_left E.means nodes + (most_works E.means + 39)) }
         ensures spends { HasSpentForNext E.means self.old.share self.new found.now (Ok result) (self.old.tries + 1) (self.old.tries + 1) }
         ensures tries { self.new.tries ≡ self.old.tries }
     {
@@ -202,7 +197,7 @@ impl<E: Edit + Drop, A: Drop> UpdateRun<E, A> {
             second: NodeNo(0),
             third: NodeNo(0),
         };
-        self.load(found, Nth::First)
+        self.begin_reading(found)
     }
 
     /// Takes three.
@@ -211,11 +206,11 @@ impl<E: Edit + Drop, A: Drop> UpdateRun<E, A> {
         ensures turn { (c : Call) (b h : History) → IsRun TreeAllows c.layout h → IsTry c b h self.old.limit self.old.tries
             → CanLook E.means self.old (begun_at c b) h found.now
             → E.means.looks self.old.edit found.now self.old.snaps.items ≡ Look.Enough
-            → E.means.needs self.old.edit found.now ≡ Need.Three → self.old.loaded ≡ nothing_loaded
+            → E.means.needs self.old.edit found.now ≡ Need.Three
             → UpdateGoesOn E.means c h self.new found.now (Ok result) }
         ensures same { IsSameUpdate self.old self.new }
         ensures nearer { (nodes : ℕ) → ComesNearer E.means self.new found.now (Ok result) nodes
-            (self.old.tries * try_left E.means nodes + (works_behind E.means First + 39)) }
+            (self.old.tries * try_left E.means nodes + (most_works E.means + 39)) }
         ensures spends { E.means.needs self.old.edit found.now ≡ Need.Three
             → HasSpentForNext E.means self.old.share self.new found.now (Ok result) (self.old.tries + 1) (self.old.tries + 1) }
         ensures tries { self.new.tries ≡ self.old.tries }
@@ -228,7 +223,7 @@ impl<E: Edit + Drop, A: Drop> UpdateRun<E, A> {
             second,
             third,
         };
-        self.load(found, Nth::First)
+        self.begin_reading(found)
     }
 
     /// Takes a fresh node.
@@ -246,40 +241,88 @@ impl<E: Edit + Drop, A: Drop> UpdateRun<E, A> {
         }
     }
 
-    /// The next word to be loaded for the fresh node of this place, if there is one, before its fills.
+    /// The first word that is read, or else the first fill.
     #[inline(always)]
-    fn load(&self, found: &Found, nth: Nth) -> Next
+    fn begin_reading(&mut self, found: &Found) -> Next
+        ensures turn { (c : Call) (b h : History) → IsRun TreeAllows c.layout h → IsTry c b h self.old.limit self.old.tries
+            → CanWork E.means self.old (begun_at c b) h found.now → UpdateGoesOn E.means c h self.new found.now (Ok result) }
+        ensures same { IsSameUpdate self.old self.new }
+        ensures nearer { (nodes : ℕ) → ComesNearer E.means self.new found.now (Ok result) nodes
+            (self.old.tries * try_left E.means nodes + (most_works E.means + 39)) }
+        ensures spends { HasSpentForNext E.means self.old.share self.new found.now (Ok result) self.old.tries (self.old.tries + 1) }
+        ensures tries { self.new.tries ≡ self.old.tries }
+    {
+        match self.edit.reads(found, self.snaps.as_slice()) {
+            Some((node, read)) => {
+                self.read = read;
+                self.read_next(found, node)
+            }
+            None => Next::Fill(Nth::First),
+        }
+    }
+
+    /// The word of this node that is read next, or else the first fill.
+    #[inline(always)]
+    fn read_next(&self, found: &Found, node: NodeNo) -> Next
         ensures turn { (c : Call) (b h : History) → IsRun TreeAllows c.layout h → IsTry c b h self.now.limit self.now.tries
-            → CanLoad E.means self.now (begun_at c b) h found.now nth → UpdateGoesOn E.means c h self.now found.now (Ok result) }
-        ensures nearer { (nodes : ℕ) → HasPlace (E.means.needs self.now.edit found.now) nth
-            → ComesNearer E.means self.now found.now (Ok result) nodes
-            (self.now.tries * try_left E.means nodes + (works_left E.means self.now found.now nth + 39)) }
+            → CanRead E.means self.now (begun_at c b) h found.now node → UpdateGoesOn E.means c h self.now found.now (Ok result) }
+        ensures nearer { (nodes : ℕ) → ComesNearer E.means self.now found.now (Ok result) nodes
+            (self.now.tries * try_left E.means nodes + (reads_left self.now.read + E.means.most_fills + 39)) }
         ensures spends { HasSpentForNext E.means self.now.share self.now found.now (Ok result) self.now.tries (self.now.tries + 1) }
     {
-        match self
-            .edit
-            .load(found, self.snaps.as_slice(), &self.loaded, nth)
-        {
-            Some(part) => Next::Load { nth, part },
-            None => Next::Fill(nth),
+        match self.read.next() {
+            Some(part) => Next::Read { node, part },
+            None => Next::Fill(Nth::First),
         }
     }
 
     /// Keeps what that load has told, and tells what is done behind it.
     #[inline(always)]
-    pub fn loaded(&mut self, found: &Found, nth: Nth, part: NodeWord, told: u64) -> Next
+    pub fn read_on(&mut self, found: &Found, node: NodeNo, part: SettledPart, told: u64) -> Next
         ensures turn { (c : Call) (b h : History) → IsRun TreeAllows c.layout h → IsTry c b h self.old.limit self.old.tries
-            → Loads E.means self.old (begun_at c b) h found.now nth part
-            → value h (node (copied E.means self.old found.now) part) ≡ told → UpdateGoesOn E.means c h self.new found.now (Ok result) }
+            → Reads E.means self.old (begun_at c b) h found.now node part
+            → value h (Word.Node node (NodeWord.Settled part)) ≡ told → UpdateGoesOn E.means c h self.new found.now (Ok result) }
         ensures same { IsSameUpdate self.old self.new }
-        ensures nearer { (nodes : ℕ) → IsWanted E.means self.old found.now nth part
+        ensures nearer { (nodes : ℕ) → next_read self.old.read ≡ Some part
             → ComesNearer E.means self.new found.now (Ok result) nodes
-            (self.old.tries * try_left E.means nodes + (works_left E.means self.old found.now nth - 1 + 39)) }
+            (self.old.tries * try_left E.means nodes + (reads_left self.old.read - 1 + E.means.most_fills + 39)) }
         ensures spends { HasSpentForNext E.means self.old.share self.new found.now (Ok result) self.old.tries (self.old.tries + 1) }
         ensures tries { self.new.tries ≡ self.old.tries }
     {
-        self.loaded = self.loaded.with(part, told);
-        self.load(found, nth)
+        self.read.keep(part, told);
+        self.read_next(found, node)
+    }
+
+    /// Keeps what the loads of key, value and high half of the pair in this slot of a leaf have
+    /// told, and tells what is done behind the last of them: so it is behind `read_on` of each.
+    #[inline(always)]
+    pub fn read_pair(
+        &mut self,
+        found: &Found,
+        node: NodeNo,
+        slot: Slot,
+        key: u64,
+        low: u64,
+        high: u64,
+    ) -> Next
+        ensures turn { (c : Call) (b h : History) → IsRun TreeAllows c.layout h → IsTry c b h self.old.limit self.old.tries
+            → Reads E.means (half_told self.old slot key low) (begun_at c b) h found.now node (SettledPart.High slot)
+            → value h (Word.Node node (NodeWord.Settled (SettledPart.High slot))) ≡ high → UpdateGoesOn E.means c h self.new found.now (Ok result) }
+        ensures same { IsSameUpdate self.old self.new }
+        ensures nearer { (nodes : ℕ) → next_read (half_told self.old slot key low).read ≡ Some (SettledPart.High slot)
+            → ComesNearer E.means self.new found.now (Ok result) nodes
+            (self.old.tries * try_left E.means nodes + (reads_left (half_told self.old slot key low).read - 1 + E.means.most_fills + 39)) }
+        ensures spends { HasSpentForNext E.means self.old.share self.new found.now (Ok result) self.old.tries (self.old.tries + 1) }
+        ensures tries { self.new.tries ≡ self.old.tries }
+    {
+        self.read.keep_pair(slot, key, low, high);
+        match self.read.slot {
+            Some(slot) => {
+                let part = SettledPart::Key(slot);
+                Next::Read { node, part }
+            }
+            None => Next::Fill(Nth::First),
+        }
     }
 
     /// What is done once the fresh node of this place is filled: with the next node, or the SCX.
@@ -287,16 +330,16 @@ impl<E: Edit + Drop, A: Drop> UpdateRun<E, A> {
     pub fn filled(&mut self, found: &Found, nth: Nth) -> Result<Next, Stop>
         ensures turn { (c : Call) (b h : History) (part : NodeWord) → IsRun TreeAllows c.layout h
             → IsTry c b h self.old.limit self.old.tries → IsFilledUpTo E.means self.old (begun_at c b) h found.now nth part
-            → part_behind (E.means.pieces self.old.edit found.now self.old.snaps.items self.old.nodes self.old.loaded nth) part
-            ≡ None → UpdateGoesOn E.means c h self.new found.now result }
+            → part_behind (pieces_now E.means self.old found.now nth) part ≡ None → UpdateGoesOn E.means c h self.new found.now result }
         ensures same { IsSameUpdate self.old self.new }
         ensures nearer { (nodes : ℕ) → ComesNearer E.means self.new found.now result nodes
-            (self.old.tries * try_left E.means nodes + (works_after E.means nth + 39)) }
+            (self.old.tries * try_left E.means nodes +
+            (fills_after (E.means.needs self.old.edit found.now) (pieces_now E.means self.old found.now) nth + 39)) }
         ensures spends { 0 < self.old.share.scx → HasSpentForNext E.means self.old.share self.new found.now result self.old.tries (self.old.tries + 1) }
         ensures tries { self.new.tries ≡ self.old.tries }
     {
         match self.edit.need(found).behind(nth) {
-            Some(after) => Ok(self.load(found, after)),
+            Some(after) => Ok(Next::Fill(after)),
             None => self.take_scx(found),
         }
     }

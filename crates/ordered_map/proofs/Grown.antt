@@ -14,7 +14,7 @@ use Rattle.arena.proofs.Lemmas.{held_start, opening_info}
 use Rattle.histories.proofs.Lemmas.{Effect, Facts, FreezeWins, effect, facts_before, freeze, freeze_in_progress, freeze_rest, lawful_since, lawful_tail, quiet, shaped_begin, shaped_since, shaped_tail, update}
 use Rattle.ordered_map.specs.OrderedMap.{MapEdit}
 use Rattle.ordered_map.proofs.Pending.{AllowsGiven}
-use Rattle.ordered_map.proofs.Holding.{leaf_here}
+use Rattle.ordered_map.proofs.Holding.{high_leaf}
 use Rattle.ordered_map.proofs.Trees.{items, ends}
 use Rattle.ordered_map.specs.Runs.{map_of_log}
 use Rattle.ordered_map.specs.Spelled.{IsTree}
@@ -33,8 +33,8 @@ unfolding value
 opening_tree = record {
   shows = (
     record { fork = refl; left = refl; right = refl; low = omega arith; high = omega arith },
-    leaf_here (value (Start TreeMode)) 1 _ _ refl (λ z. absurd (cc)) (omega arith) (omega arith) (omega arith),
-    leaf_here (value (Start TreeMode)) 2 _ _ refl (λ z. absurd (cc)) (omega arith) (omega arith) (omega arith),
+    high_leaf (value (Start TreeMode)) 1 _ _ refl (λ z. absurd (cc)) (omega arith) (omega arith) (omega arith),
+    high_leaf (value (Start TreeMode)) 2 _ _ refl (λ z. absurd (cc)) (omega arith) (omega arith) (omega arith),
   );
   is = refl;
 }

@@ -1,35 +1,125 @@
 -- What a leaf holds. The facts that depend on the words in which it does are proved here, and all
 -- else goes by them.
-use Rattle.std.proofs.Common.{◌≡◌, ◌≢◌, ℕ, zero, suc, ◌+◌, ◌*◌, ◌/◌, ◌%◌, ◌^◌, ◌<◌, ◌≤◌, true, cond, eqb, List, [], ◌∷◌, refl, sym, ◌∙◌, ap, arith, subst, eq-eqb, ne_eqb}
-use Rattle.std.specs.Prelude.{map}
+use Rattle.std.proofs.Common.{◌≡◌, ◌≢◌, ℕ, zero, suc, ◌+◌, ◌*◌, ◌/◌, ◌%◌, ◌^◌, ◌<◌, ◌≤◌, true, cond, eqb, List, [], ◌∷◌, length, refl, sym, ◌∙◌, ap, arith, subst, lt-ltb, eq-eqb, ne_eqb}
+use Rattle.std.specs.Prelude.{map, Option, Some, None}
 use native.Mathlib.Decide.{ℕ_discrete}
 use Rattle.arena.specs.declared.word.NodeWord.{NodeWord}
 use Rattle.arena.specs.declared.word.NodeWord.TheVariants.{Settled}
 use Rattle.arena.specs.declared.word.SettledPart.TheVariants.{Head, More, Key, Value, High}
+use Rattle.arena.specs.declared.word.Slot.{Slot}
 use Rattle.arena.specs.declared.word.Slot.TheVariants.{First, Second, Third, Fourth}
 use Rattle.arena.specs.declared.word.Word.{Word}
 use Rattle.arena.specs.Lawful.{IsSettled}
-use Rattle.arena.specs.Words.{node, first_key, first_value, first_key, first_value}
+use Rattle.arena.specs.Words.{node, first_key}
 use Rattle.ordered_map.specs.declared.pair.Pair.{Pair}
 use Rattle.ordered_map.specs.OrderedMap.{pair, AllBelow, AllFrom, IsRising}
-use Rattle.ordered_map.specs.Holding.{HasOnePair, slots, pair_in, held_pairs, IsWellCounted}
+use Rattle.ordered_map.specs.Holding.{slots, slots_from, slot_behind, wide_value, pair_in, held_from, held_behind, held_pairs, IsWellCounted}
 use Rattle.ordered_map.specs.TreeWords.{class, is_leaf, rank, leaf_pairs, leaf_items, HasItems, IsLeaf}
-use Rattle.ordered_map.proofs.Lists.{from_less, below_more}
+use Rattle.ordered_map.proofs.Lists.{from_less, below_more, rising_from}
 
 -- the settled words of n are the same
 abbrev pub SameSettled : (Word → ℕ) → (Word → ℕ) → ℕ → Type 0
 SameSettled b f n = (a : NodeWord) → IsSettled (node n a) → f (node n a) ≡ b (node n a)
 
+-- how many pairs the leaf n has behind its first
+abbrev more_of : (Word → ℕ) → ℕ → ℕ
+more_of f n = f (node n (Settled More))
+
 -- The facts that depend on the layout
 
 -- the same settled words hold the same, and as many
+pub same_pair : (b f : Word → ℕ) (n : ℕ) (slot : Slot) → SameSettled b f n → pair_in f n slot ≡ pair_in b n slot
+same_pair b f n slot e = λ i. pair (e (Settled (Key slot)) tt i) (wide_value (e (Settled (Value slot)) tt i) (e (Settled (High slot)) tt i))
+
+pub same_from : (b f : Word → ℕ) (n : ℕ) (slot : Slot) → SameSettled b f n → held_from f n slot ≡ held_from b n slot
+unfolding held_from
+same_from b f n slot e = λ i. map (λ s. same_pair b f n s e i) (slots_from (e (Settled More) tt i) slot)
+
 pub held_same : (b f : Word → ℕ) (n : ℕ) → SameSettled b f n → held_pairs f n ≡ held_pairs b n
-unfolding held_pairs
-held_same b f n e = λ i. map (λ slot. pair (e (Settled (Key slot)) tt i) (e (Settled (Value slot)) tt i + 2 ^ 64 * e (Settled (High slot)) tt i)) (slots (e (Settled More) tt i))
+held_same b f n e = same_from b f n First e
 
 pub counted_same : (b f : Word → ℕ) (n : ℕ) → SameSettled b f n → IsWellCounted b n → IsWellCounted f n
 unfolding IsWellCounted
-counted_same b f n e c = (e (Settled More) tt ∙ c.0, e (Settled (High First)) tt ∙ c.1, e (Settled (High Second)) tt ∙ c.2, e (Settled (High Third)) tt ∙ c.3, e (Settled (High Fourth)) tt ∙ c.4)
+counted_same b f n e c = let more : f (node n (Settled More)) ≡ b (node n (Settled More)) = e (Settled More) tt in rw more c
+
+-- it is as it may be just where it has at most three pairs behind its first
+pub few_counted : (f : Word → ℕ) (n : ℕ) → f (node n (Settled More)) < 4 → IsWellCounted f n
+unfolding IsWellCounted
+few_counted f n few = few
+
+pub counted_few : (f : Word → ℕ) (n : ℕ) → IsWellCounted f n → f (node n (Settled More)) < 4
+unfolding IsWellCounted
+counted_few f n c = c
+
+-- it holds the pairs of its slots
+pub held_slots : (f : Word → ℕ) (n : ℕ) → held_pairs f n ≡ map (pair_in f n) (slots (f (node n (Settled More))))
+unfolding held_from
+held_slots f n = refl
+
+-- with the slots at hand
+module _ (f : Word → ℕ) (n : ℕ) where
+  abbrev in_slots : ℕ → Slot → List Pair
+  in_slots more slot = map (pair_in f n) (slots_from more slot)
+
+  abbrev in_slots_behind : ℕ → Option Slot → List Pair
+  in_slots_behind more None = []
+  in_slots_behind more (Some slot) = in_slots more slot
+
+  next_slot : (more : ℕ) (slot : Slot) → in_slots more slot ≡ pair_in f n slot ∷ in_slots_behind more (slot_behind more slot)
+  next_slot zero First = refl
+  next_slot (suc zero) First = refl
+  next_slot (suc (suc zero)) First = refl
+  next_slot (suc (suc (suc more))) First = rw (lt-ltb 0 (suc (suc (suc more))) (omega arith)) refl
+  next_slot zero Second = refl
+  next_slot (suc zero) Second = refl
+  next_slot (suc (suc zero)) Second = refl
+  next_slot (suc (suc (suc more))) Second = rw (lt-ltb 1 (suc (suc (suc more))) (omega arith)) refl
+  next_slot zero Third = refl
+  next_slot (suc zero) Third = refl
+  next_slot (suc (suc zero)) Third = refl
+  next_slot (suc (suc (suc more))) Third = rw (lt-ltb 2 (suc (suc (suc more))) (omega arith)) refl
+  next_slot more Fourth = refl
+
+  behind_slot : (next : Option Slot) → in_slots_behind (more_of f n) next ≡ held_behind f n next
+  unfolding held_from
+  behind_slot None = refl
+  behind_slot (Some slot) = refl
+
+  slots_count : (more : ℕ) → more < 4 → length (in_slots more First) ≡ 1 + more
+  slots_count zero l = refl
+  slots_count (suc zero) l = refl
+  slots_count (suc (suc zero)) l = refl
+  slots_count (suc (suc (suc zero))) l = refl
+  slots_count (suc (suc (suc (suc more)))) l = absurd (omega (arith, l))
+
+  slots_rise : (more : ℕ) (slot : Slot) → IsRising (in_slots more First) → IsRising (in_slots more slot)
+  slots_rise more First r = r
+  slots_rise zero Second r = (tt, tt)
+  slots_rise (suc zero) Second r = r.1
+  slots_rise (suc (suc zero)) Second r = r.1
+  slots_rise (suc (suc (suc more))) Second r = r.1
+  slots_rise zero Third r = (tt, tt)
+  slots_rise (suc zero) Third r = (tt, tt)
+  slots_rise (suc (suc zero)) Third r = r.1.1
+  slots_rise (suc (suc (suc more))) Third r = r.1.1
+  slots_rise more Fourth r = (tt, tt)
+
+-- from a slot on it holds the pair that is there, and what it holds from the slot behind that on
+pub held_next : (f : Word → ℕ) (n : ℕ) (slot : Slot) → held_from f n slot ≡ pair_in f n slot ∷ held_behind f n (slot_behind (f (node n (Settled More))) slot)
+unfolding held_from
+held_next f n slot = next_slot f n (more_of f n) slot ∙ ap (λ ps. pair_in f n slot ∷ ps) (behind_slot f n (slot_behind (more_of f n) slot))
+
+-- the first and those behind it
+pub held_count : (f : Word → ℕ) (n : ℕ) → IsWellCounted f n → length (held_pairs f n) ≡ 1 + f (node n (Settled More))
+unfolding held_from IsWellCounted
+held_count f n counted = slots_count f n (more_of f n) counted
+
+-- what it holds from a slot on rises if all that it holds does
+pub from_rises : (f : Word → ℕ) (n : ℕ) (slot : Slot) → IsRising (held_pairs f n) → IsRising (held_from f n slot)
+unfolding held_from
+from_rises f n slot rises = slots_rise f n (more_of f n) slot rises
+
+-- Reading slot by slot
 
 -- there is one pair at least, and its key is that of the node
 pub record HeldFirst (f : Word → ℕ) (n : ℕ) : Type 0 where
@@ -38,30 +128,11 @@ pub record HeldFirst (f : Word → ℕ) (n : ℕ) : Type 0 where
   pub is : held_pairs f n ≡ pair (f (node n first_key)) value ∷ rest
 
 pub held_first : (f : Word → ℕ) (n : ℕ) → HeldFirst f n
-unfolding held_pairs
-held_first f n = go (f (node n (Settled More))) refl
-  where
-    go : (more : ℕ) → f (node n (Settled More)) ≡ more → HeldFirst f n
-    go zero e = record { value = (pair_in f n First).value; rest = []; is = rw e refl }
-    go (suc zero) e = record { value = (pair_in f n First).value; rest = map (pair_in f n) (Second ∷ []); is = rw e refl }
-    go (suc (suc zero)) e = record { value = (pair_in f n First).value; rest = map (pair_in f n) (Second ∷ Third ∷ []); is = rw e refl }
-    go (suc (suc (suc more))) e = record { value = (pair_in f n First).value; rest = map (pair_in f n) (Second ∷ Third ∷ Fourth ∷ []); is = rw e refl }
+held_first f n = record { value = (pair_in f n First).value; rest = held_behind f n (slot_behind (more_of f n) First); is = held_next f n First }
 
--- where it is as it may be there is no other one, and its value is that of the node
-pub held_one : (f : Word → ℕ) (n : ℕ) → IsWellCounted f n → held_pairs f n ≡ pair (f (node n first_key)) (f (node n first_value)) ∷ []
-unfolding held_pairs IsWellCounted
-held_one f n c =
-    let v : f (node n first_value) + 2 ^ 64 * f (node n (Settled (High First))) ≡ f (node n first_value) = let high = c.1 in omega (arith, high) in
-    rw c.0 (λ i. pair (f (node n first_key)) (v i) ∷ [])
-
--- it is as it may be just where it has one pair
-pub counted_one : (f : Word → ℕ) (n : ℕ) → HasOnePair f n → IsWellCounted f n
-unfolding IsWellCounted
-counted_one f n one = one
-
-pub one_counted : (f : Word → ℕ) (n : ℕ) → IsWellCounted f n → HasOnePair f n
-unfolding IsWellCounted
-one_counted f n c = c
+-- a leaf with no pair behind its first has this one
+pub held_alone : (f : Word → ℕ) (n : ℕ) → f (node n (Settled More)) ≡ 0 → held_pairs f n ≡ pair_in f n First ∷ []
+held_alone f n none = held_next f n First ∙ ap (λ more. pair_in f n First ∷ held_behind f n (slot_behind more First)) none
 
 -- The items of a leaf
 
@@ -99,29 +170,34 @@ same_items b f n e = λ i. cond (eqb (e (Settled Head) tt i % 4) 0) (held_same b
 pub same_pairs : (b f : Word → ℕ) (n : ℕ) → SameSettled b f n → leaf_pairs f n ≡ leaf_pairs b n
 same_pairs b f n e = λ i. cond (eqb (e (Settled Head) tt i % 4) 0) (held_same b f n e i) []
 
--- A leaf has its items between its bounds; today it has one
+-- A leaf has its items between its bounds
 
-pub one_item : (f : Word → ℕ) (n : ℕ) → (class f n ≡ 0 → IsWellCounted f n) → (value : ℕ) × (leaf_items f n ≡ pair (rank f n) value ∷ [])
-one_item f n counted = go (ℕ_discrete (class f n) 0)
-  where
-    go : Dec (class f n ≡ 0) → (value : ℕ) × (leaf_items f n ≡ pair (rank f n) value ∷ [])
-    go (yes z) =
-        let r : f (node n first_key) ≡ rank f n = omega (arith, z) in
-        (f (node n first_value), low_items f n z ∙ held_one f n (counted z) ∙ (λ i. pair (r i) (f (node n first_value)) ∷ []))
-    go (no d) = (0, high_items f n d)
+-- one above all keys, if its rank is there
+pub high_leaf : (f : Word → ℕ) (n lo hi : ℕ) → is_leaf f n ≡ true → class f n ≢ 0 → f (node n first_key) < 2 ^ 64 → lo ≤ rank f n → rank f n < hi → IsLeaf f n lo hi
+high_leaf f n lo hi leaf high small from below = record {
+  leaf = leaf;
+  small = small;
+  items = record {
+    keys = λ z. absurd (high z);
+    rising = subst IsRising (sym (high_items f n high)) (tt, tt);
+    from = subst (AllFrom lo) (sym (high_items f n high)) (from, tt);
+    below = subst (AllBelow hi) (sym (high_items f n high)) (below, tt);
+  };
+}
 
--- so it has it there if its rank is
-pub leaf_here : (f : Word → ℕ) (n lo hi : ℕ) → is_leaf f n ≡ true → (class f n ≡ 0 → IsWellCounted f n) → f (node n first_key) < 2 ^ 64 → lo ≤ rank f n → rank f n < hi → IsLeaf f n lo hi
-leaf_here f n lo hi leaf counted small from below =
-    let x = one_item f n counted in
+-- one of class 0, if its pairs rise to below the upper bound, and its rank is not below the lower one
+pub low_leaf : (f : Word → ℕ) (n lo hi : ℕ) → is_leaf f n ≡ true → class f n ≡ 0 → IsWellCounted f n → IsRising (held_pairs f n) → AllBelow hi (held_pairs f n) → AllBelow (2 ^ 64) (held_pairs f n) → lo ≤ rank f n → IsLeaf f n lo hi
+low_leaf f n lo hi leaf low counted rises below words from =
+    let x = held_first f n in
+    let first : lo ≤ f (node n first_key) = omega (arith, low, from) in
     record {
       leaf = leaf;
-      small = small;
+      small = (subst (AllBelow (2 ^ 64)) x.is words).0;
       items = record {
-        keys = λ z. (counted z, subst (AllBelow (2 ^ 64)) (sym (held_one f n (counted z))) (small, tt));
-        rising = subst IsRising (sym x.1) (tt, tt);
-        from = subst (AllFrom lo) (sym x.1) (from, tt);
-        below = subst (AllBelow hi) (sym x.1) (below, tt);
+        keys = λ z. (counted, words);
+        rising = subst IsRising (sym (low_items f n low)) rises;
+        from = subst (AllFrom lo) (sym (low_items f n low ∙ x.is)) (rising_from lo (pair (f (node n first_key)) x.value) x.rest first (subst IsRising x.is rises));
+        below = subst (AllBelow hi) (sym (low_items f n low)) below;
       };
     }
 

@@ -5,13 +5,18 @@ use Rattle.std.proofs.lemmas.List.{take_more}
 use Rattle.std.proofs.lemmas.List.Elements.{All-cons, All-head, All-tail, All-append, All-weaker, All-nil, All-more}
 use Rattle.arena.specs.Layout.{all_nodes}
 use Rattle.arena.specs.PlainWords.{Contents, word_at}
+use Rattle.arena.specs.declared.word.NodeWord.TheVariants.{Settled}
+use Rattle.arena.specs.declared.word.SettledPart.TheVariants.{More}
+use Rattle.arena.specs.declared.word.Slot.{Slot}
 use Rattle.arena.specs.declared.word.Word.{Word}
+use Rattle.arena.specs.Words.{node}
 use Rattle.ordered_map.specs.declared.pair.Pair.{Pair}
 use Rattle.ordered_map.specs.OrderedMap.{IsRising}
-use Rattle.ordered_map.specs.TreeWords.{class, rank, leaf_pairs, Tree, Leaf, Fork, Shows, Has, pairs, leaf_nodes}
-use Rattle.ordered_map.specs.Holding.{IsWellCounted}
+use Rattle.ordered_map.specs.TreeWords.{class, leaf_pairs, Tree, Leaf, Fork, Shows, Has, pairs, leaf_nodes}
+use Rattle.ordered_map.specs.Holding.{slot_behind, pair_in, held_from, held_behind, held_pairs}
+use Rattle.ordered_map.proofs.Holding.{held_next, low_pairs}
 use Rattle.ordered_map.specs.Spelled.{IsTree, Spells}
-use Rattle.ordered_map.specs.Parts.{ShowLeaves, HasEnds, HoldPairs, AreInside, AreWellCounted, all_pairs}
+use Rattle.ordered_map.specs.Parts.{ShowLeaves, HasEnds, HoldPairs, AreInside, all_pairs}
 use Rattle.ordered_map.proofs.Trees.{items, same_tree}
 use Rattle.ordered_map.proofs.Growing.{low, low_rises, pairs_low, items_rise, front_same}
 
@@ -27,20 +32,12 @@ leaves_in (Fork n a b) = All-append (λ m. Has (Fork n a b) m) (leaf_nodes a) (l
 pub leaves_inside : (c : Contents) (ns : List ℕ) → ShowLeaves c ns → AreInside c ns
 leaves_inside c ns s = subst (AreInside c) s.leaves (All-weaker (λ n. Has s.tree n) (λ n. n < all_nodes c.layout) s.inside (leaf_nodes s.tree) (leaves_in s.tree))
 
--- each leaf that a tree shows holds as many pairs as it may hold
-tree_counted : (f : Word → ℕ) (t : Tree) (lo hi : ℕ) → Shows f lo hi t → All (λ n. class f n ≡ 0 → IsWellCounted f n) (leaf_nodes t)
-tree_counted f (Leaf n) lo hi s = All-cons (λ m. class f m ≡ 0 → IsWellCounted f m) n [] (λ z. (s.items.keys z).0) (All-nil (λ m. class f m ≡ 0 → IsWellCounted f m))
-tree_counted f (Fork n a b) lo hi s = All-append (λ m. class f m ≡ 0 → IsWellCounted f m) (leaf_nodes a) (leaf_nodes b) (tree_counted f a lo (rank f n) s.1) (tree_counted f b (rank f n) hi s.2)
-
 front : (P : ℕ → Type 0) (xs ys : List ℕ) → All P (xs ++ ys) → All P xs
 front P [] ys a = All-nil P
 front P (x ∷ xs) ys a = All-cons P x xs (All-head P x (xs ++ ys) a) (front P xs ys (All-tail P x (xs ++ ys) a))
 
 pub others_inside : (c : Contents) (ns others : List ℕ) → AreInside c ns → HasEnds c ns others → AreInside c others
 others_inside c ns others a e = front (λ n. n < all_nodes c.layout) others (e.one ∷ 2 ∷ []) (subst (AreInside c) e.last a)
-
-pub others_counted : (c : Contents) (ns others : List ℕ) → ShowLeaves c ns → HasEnds c ns others → AreWellCounted c others
-others_counted c ns others s e = front (λ n. class (word_at c) n ≡ 0 → IsWellCounted (word_at c) n) others (e.one ∷ 2 ∷ []) (subst (AreWellCounted c) (s.leaves ∙ e.last) (tree_counted (word_at c) s.tree _ _ s.is_tree.shows))
 
 -- The two last
 
@@ -122,11 +119,25 @@ none_then None p f = f p
 none_then (Some x) p f = tt
 
 -- one leaf more
-pub holds_more : (c : Contents) (ns : List ℕ) (i : ℕ) (ps qs : List Pair) (p : Pair) → i < length ns → HoldPairs c (take i ns) ps → class (word_at c) (slice_index_or ns i 0) ≡ 0 → leaf_pairs (word_at c) (slice_index_or ns i 0) ≡ p ∷ [] → qs ≡ ps ++ p ∷ [] → HoldPairs c (take (i + 1) ns) qs
-holds_more c ns i ps qs p lt h low one e = record {
+pub holds_more : (c : Contents) (ns : List ℕ) (i : ℕ) (ps qs : List Pair) → i < length ns → HoldPairs c (take i ns) ps → class (word_at c) (slice_index_or ns i 0) ≡ 0 → qs ≡ ps ++ held_pairs (word_at c) (slice_index_or ns i 0) → HoldPairs c (take (i + 1) ns) qs
+holds_more c ns i ps qs lt h low e = record {
   low = All-more (λ k. class (word_at c) k ≡ 0) ns i 0 lt h.low low;
   pairs =
-      ap (all_pairs c) (take_more ns i 0 lt) ∙ pairs_join c (take i ns) (slice_index_or ns i 0 ∷ [])
-      ∙ (λ j. h.pairs j ++ (one j ++ []))
+      ap (all_pairs c) (take_more ns i 0 lt) ∙ pairs_join c (take i ns) (n ∷ [])
+      ∙ (λ j. h.pairs j ++ append-nil (leaf_pairs (word_at c) n) j)
+      ∙ ap (λ z. ps ++ z) (low_pairs (word_at c) n low)
       ∙ sym e;
 }
+  where
+    n : ℕ
+    n = slice_index_or ns i 0
+
+-- Pairs of a leaf, pushed slot by slot
+
+pub pushed_last : (f : Word → ℕ) (n : ℕ) (slot : Slot) (ps qs : List Pair) → slot_behind (f (node n (Settled More))) slot ≡ None → qs ≡ ps ++ pair_in f n slot ∷ [] → qs ≡ ps ++ held_from f n slot
+pushed_last f n slot ps qs none e = e ∙ ap (λ zs. ps ++ zs) (sym (held_next f n slot ∙ ap (λ o. pair_in f n slot ∷ held_behind f n o) none))
+
+pub pushed_more : (f : Word → ℕ) (n : ℕ) (slot next : Slot) (ps qs all : List Pair) → slot_behind (f (node n (Settled More))) slot ≡ Some next → qs ≡ ps ++ pair_in f n slot ∷ [] → all ≡ qs ++ held_from f n next → all ≡ ps ++ held_from f n slot
+pushed_more f n slot next ps qs all some e d =
+    d ∙ ap (λ zs. zs ++ held_from f n next) e ∙ append_assoc ps (pair_in f n slot ∷ []) (held_from f n next)
+    ∙ ap (λ zs. ps ++ zs) (sym (held_next f n slot ∙ ap (λ o. pair_in f n slot ∷ held_behind f n o) some))

@@ -29,5 +29,6 @@ mod FirstLeaf
 mod Reading
 mod LeafLists
 mod Maps
+mod SlotReads
 mod WorkedInsert
 pub mod Lemmas

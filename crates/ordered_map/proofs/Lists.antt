@@ -56,6 +56,22 @@ pub below_more : (j k : ℕ) (xs : List Pair) → j ≤ k → AllBelow j xs → 
 below_more j k [] l a = tt
 below_more j k (x ∷ xs) l a = ((let m = a.0 in omega (arith, l, m)), below_more j k xs l a.1)
 
+pub above_less : (j k : ℕ) (xs : List Pair) → j ≤ k → AllAbove k xs → AllAbove j xs
+above_less j k [] l a = tt
+above_less j k (x ∷ xs) l a = ((let m = a.0 in omega (arith, l, m)), above_less j k xs l a.1)
+
+-- where keys rise all are from the first on
+above_up : (lo k : ℕ) (xs : List Pair) → lo ≤ k → AllAbove k xs → AllFrom lo xs
+above_up lo k [] l a = tt
+above_up lo k (x ∷ xs) l a = ((let m = a.0 in omega (arith, l, m)), above_up lo k xs l a.1)
+
+pub rising_from : (lo : ℕ) (x : Pair) (xs : List Pair) → lo ≤ x.key → IsRising (x ∷ xs) → AllFrom lo (x ∷ xs)
+rising_from lo x xs l r = (l, above_up lo x.key xs l r.0)
+
+-- one more in front
+pub rising_cons : (x y : Pair) (ys : List Pair) → x.key < y.key → IsRising (y ∷ ys) → IsRising (x ∷ y ∷ ys)
+rising_cons x y ys l r = ((l, above_less x.key y.key ys (omega (arith, l)) r.0), r)
+
 -- An edit keeps bounds
 
 either : (P : List Pair → Type 0) (b : Bool) (xs ys : List Pair) → P xs → P ys → P (cond b xs ys)

@@ -4,6 +4,7 @@ use Rattle.std.specs.Prelude.{Option, Some, None}
 use Rattle.std.proofs.lemmas.Bool.{eqb-true, eqb-false}
 use native.Mathlib.Decide.{ℕ_discrete}
 use Rattle.ordered_map.specs.declared.pair.Pair.{Pair}
+use Rattle.ordered_map.proofs.Lists.{above_less}
 use Rattle.ordered_map.specs.OrderedMap.{pair, AllAbove, IsRising, get, insert, delete, first_pair, without_first, is_value, replace_if, successor, between, MapEdit, Insert, Delete, edit_key, edited, value_left, pop_edit, replace_edit, after_edit, MapCall, OneValue, Edit, PopFirst, ReplaceIf, Get, Successor, Range, reply, after, edit_of}
 use Rattle.ordered_map.specs.MapLaws.{IsLeast, IsSuccessor, within}
 use Rattle.ordered_map.proofs.Trees.{split_at}
@@ -32,10 +33,6 @@ not_below j k l = le-ltb j k l
 pub get_above : (k : ℕ) (m : List Pair) → AllAbove k m → get k m ≡ None
 get_above k [] a = refl
 get_above k (p ∷ ps) a = rw (ne_eqb k p.key (λ e. let x = a.0 in omega (arith, e, x))) (get_above k ps a.1)
-
-above_less : (j k : ℕ) (m : List Pair) → j ≤ k → AllAbove k m → AllAbove j m
-above_less j k [] l a = tt
-above_less j k (p ∷ ps) l a = ((let x = a.0 in omega (arith, l, x)), above_less j k ps l a.1)
 
 -- Insert
 

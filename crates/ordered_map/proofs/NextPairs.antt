@@ -8,10 +8,9 @@ use Rattle.arena.specs.declared.word.Word.{Word}
 use Rattle.arena.specs.Words.{node, first_key}
 use Rattle.ordered_map.specs.declared.pair.Pair.{Pair}
 use Rattle.ordered_map.specs.OrderedMap.{pair, AllAbove, IsRising, first_pair, successor}
-use Rattle.ordered_map.specs.Holding.{IsWellCounted}
 use Rattle.ordered_map.specs.Spelled.{Spells}
-use Rattle.ordered_map.specs.TreeWords.{Leaf, IsLeaf, class, rank, leaf_pairs}
-use Rattle.ordered_map.proofs.Holding.{held_first, first_item, one_item, low_items, high_items, low_pairs, high_pairs}
+use Rattle.ordered_map.specs.TreeWords.{Leaf, IsLeaf, class, rank, leaf_items, leaf_pairs}
+use Rattle.ordered_map.proofs.Holding.{held_first, first_item, low_items, high_items, low_pairs, high_pairs}
 use Rattle.ordered_map.proofs.Trees.{items, split_at}
 use Rattle.ordered_map.proofs.Growing.{low, pairs_low, items_rise}
 use Rattle.ordered_map.proofs.Next.{or_else, first_of, search_items, search_is}
@@ -77,9 +76,6 @@ search_here f k n d l =
     let found : successor k (pair (rank f n) x.value ∷ x.rest) ≡ Some (pair (rank f n) x.value) = rw (lt-ltb k (rank f n) l) refl in
     ap (λ o. or_else o d) (ap (successor k) x.is ∙ found) ∙ sym (ap first_pair x.is)
 
--- and goes on behind one that is not: it has one item
-pub search_behind : (f : Word → ℕ) (k n : ℕ) (d : Option Pair) → (class f n ≡ 0 → IsWellCounted f n) → rank f n ≤ k → search_items f k (Leaf n) d ≡ d
-search_behind f k n d counted l =
-    let x = one_item f n counted in
-    let none : successor k (pair (rank f n) x.0 ∷ []) ≡ None = rw (le-ltb k (rank f n) l) refl in
-    ap (λ o. or_else o d) (ap (successor k) x.1 ∙ none)
+-- and goes on behind one that has no key above k
+pub search_past : (f : Word → ℕ) (k n : ℕ) (d : Option Pair) → successor k (leaf_items f n) ≡ None → search_items f k (Leaf n) d ≡ d
+search_past f k n d none = ap (λ o. or_else o d) none

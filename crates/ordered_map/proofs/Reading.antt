@@ -1,19 +1,30 @@
 -- Words are read part by part, and no tree is missed that they may show.
 use Rattle.std.proofs.Common.{◌≡◌, ◌≢◌, ℕ, suc, ◌+◌, ◌-◌, ◌*◌, ◌/◌, ◌%◌, ◌^◌, ◌<◌, ◌≤◌, true, false, inl, inr, List, [], ◌∷◌, ◌++◌, refl, sym, ◌∙◌, ap, arith, subst, append_assoc, append-nil, eq-eqb}
+use Rattle.std.specs.Prelude.{Option, Some, None}
 use Rattle.arena.specs.Layout.{all_nodes}
 use Rattle.arena.specs.Words.{node, child, first_key}
 use Rattle.arena.specs.declared.word.NodeWord.TheVariants.{Settled}
-use Rattle.arena.specs.declared.word.SettledPart.TheVariants.{Head}
+use Rattle.arena.specs.declared.word.SettledPart.TheVariants.{Head, More}
+use Rattle.arena.specs.declared.word.Slot.{Slot}
+use Rattle.arena.specs.declared.word.Word.{Word}
 use Rattle.arena.specs.declared.word.Side.TheVariants.{Left, Right}
 use Rattle.arena.specs.PlainWords.{Contents, word_at}
 use Rattle.ordered_map.specs.declared.part.Part.{Part}
 use Rattle.ordered_map.specs.declared.part.Seen.TheVariants.{Leaf as LeafSeen, Nothing}
-use Rattle.ordered_map.specs.TreeWords.{class, level, rank, Tree, Leaf, Fork, root, Shows, Has, leaf_nodes}
-use Rattle.ordered_map.specs.Holding.{IsWellCounted}
+use Rattle.ordered_map.specs.TreeWords.{class, level, rank, IsLeaf, Tree, Leaf, Fork, root, Shows, Has, leaf_nodes}
+use Rattle.ordered_map.specs.declared.pair.Pair.{Pair}
+use Rattle.ordered_map.specs.Holding.{slot_behind, pair_in, held_from, held_behind}
+use Rattle.ordered_map.specs.OrderedMap.{AllAbove, AllBelow, IsRising}
 use Rattle.ordered_map.specs.Spelled.{IsTree}
-use Rattle.ordered_map.specs.Parts.{IsPart, IsFit, IsLeafRoot, IsRoot, IsSplitInto, IsSeen, ShowLeaves, part_size}
+use Rattle.ordered_map.specs.Parts.{AreInOrder, HoldsInOrder, IsPart, IsFit, IsLeafRoot, IsRoot, IsSplitInto, IsSeen, ShowLeaves, part_size}
 use Rattle.ordered_map.proofs.Trees.{open_between, has_root}
-use Rattle.ordered_map.proofs.Holding.{leaf_here, rank_from, rank_below}
+use Rattle.ordered_map.proofs.Lists.{rising_cons}
+use Rattle.ordered_map.proofs.Holding.{held_next, high_leaf, low_leaf, low_items, rank_from, rank_below}
+
+-- what stands behind a key: nothing, or pairs in order of which the first is above it
+abbrev OrderedBehind : (Word → ℕ) → ℕ → ℕ → ℕ → Option Slot → Type 0
+OrderedBehind f n high key None = Unit {0}
+OrderedBehind f n high key (Some next) = (key < (pair_in f n next).key) × AreInOrder high (held_from f n next)
 
 -- One part
 
@@ -39,20 +50,48 @@ no_tree c p head key r e d q none t i =
     is = q ∙ (λ j. e j % 4 * 2 ^ 64 + d j)
 
 -- at a leaf
-pub seen_leaf : (c : Contents) (p : Part) → IsLeafRoot c p → (class (word_at c) p.node ≡ 0 → IsWellCounted (word_at c) p.node) → IsSeen c p LeafSeen
-seen_leaf c p l counted = (
-  record { shows = leaf_here (word_at c) p.node p.low p.high l.leaf counted l.small l.fits.1 l.fits.2; is = refl; deep = l.fits.0; inside = λ n e. rw (← e) l.inside },
-  only,
-)
-  where
-    only : (t : Tree) → IsPart c p t → t ≡ Leaf p.node
-    only (Leaf n) x = ap Leaf x.is
-    only (Fork n a b) x = absurd (let y : true ≡ false = sym l.leaf ∙ rw (← x.is) x.shows.0.fork in cc)
+only_leaf : (c : Contents) (p : Part) → IsLeafRoot c p → (t : Tree) → IsPart c p t → t ≡ Leaf p.node
+only_leaf c p l (Leaf n) x = ap Leaf x.is
+only_leaf c p l (Fork n a b) x = absurd (let y : true ≡ false = sym l.leaf ∙ rw (← x.is) x.shows.0.fork in cc)
 
--- where it holds more or less than a leaf may hold, there is no tree
-pub no_leaf : (c : Contents) (p : Part) → IsLeafRoot c p → class (word_at c) p.node ≡ 0 → ¬ IsWellCounted (word_at c) p.node → (t : Tree) → IsPart c p t → ⊥
-no_leaf c p l low none (Leaf n) x = none (subst (IsWellCounted (word_at c)) x.is (x.shows.items.keys (rw x.is low)).0)
+seen_leaf : (c : Contents) (p : Part) → IsLeafRoot c p → IsLeaf (word_at c) p.node p.low p.high → IsSeen c p LeafSeen
+seen_leaf c p l shown = (record { shows = shown; is = refl; deep = l.fits.0; inside = λ n e. rw (← e) l.inside }, only_leaf c p l)
+
+pub seen_high : (c : Contents) (p : Part) → IsLeafRoot c p → class (word_at c) p.node ≢ 0 → IsSeen c p LeafSeen
+seen_high c p l high = seen_leaf c p l (high_leaf (word_at c) p.node p.low p.high l.leaf high l.small l.fits.1 l.fits.2)
+
+pub seen_low : (c : Contents) (p : Part) → IsLeafRoot c p → class (word_at c) p.node ≡ 0 → HoldsInOrder c p.node p.high → IsSeen c p LeafSeen
+seen_low c p l low x = seen_leaf c p l (low_leaf (word_at c) p.node p.low p.high l.leaf low x.0 x.1.0 x.1.1 x.1.2 l.fits.1)
+
+-- where it holds more than a leaf may hold, or not in order, there is no tree
+pub no_leaf : (c : Contents) (p : Part) → IsLeafRoot c p → class (word_at c) p.node ≡ 0 → ¬ HoldsInOrder c p.node p.high → (t : Tree) → IsPart c p t → ⊥
+no_leaf c p l low none (Leaf n) x =
+    let z : class (word_at c) n ≡ 0 = rw x.is low in
+    let y = x.shows.items in
+    none (subst (λ m. HoldsInOrder c m p.high) x.is
+    ((y.keys z).0, (subst IsRising (low_items (word_at c) n z) y.rising, subst (AllBelow p.high) (low_items (word_at c) n z) y.below, (y.keys z).1)))
 no_leaf c p l low none (Fork n a b) x = absurd (let y : true ≡ false = sym l.leaf ∙ rw (← x.is) x.shows.0.fork in cc)
+
+-- Pairs of a leaf in order
+
+-- they are where the first of them is, and the next is above it and in order itself
+pub in_order : (f : Word → ℕ) (n high : ℕ) (slot : Slot) (next : Option Slot) → slot_behind (f (node n (Settled More))) slot ≡ next → (pair_in f n slot).key < high → (pair_in f n slot).key < 2 ^ 64 → OrderedBehind f n high (pair_in f n slot).key next → AreInOrder high (held_from f n slot)
+in_order f n high slot None e below word behind = subst (AreInOrder high) (sym (held_next f n slot ∙ ap (λ o. pair_in f n slot ∷ held_behind f n o) e)) ((tt, tt), (below, tt), (word, tt))
+in_order f n high slot (Some next) e below word behind =
+    let rest : List Pair = held_behind f n (slot_behind (f (node n (Settled More))) next) in
+    let ordered : AreInOrder high (pair_in f n next ∷ rest) = subst (AreInOrder high) (held_next f n next) behind.1 in
+    subst (AreInOrder high) (sym (held_next f n slot ∙ ap (λ o. pair_in f n slot ∷ held_behind f n o) e ∙ ap (λ ps. pair_in f n slot ∷ ps) (held_next f n next)))
+    (rising_cons (pair_in f n slot) (pair_in f n next) rest behind.0 ordered.0, (below, ordered.1), (word, ordered.2))
+
+-- and if they are in order this is so
+pub order_here : (f : Word → ℕ) (n high : ℕ) (slot : Slot) → AreInOrder high (held_from f n slot) → (pair_in f n slot).key < high
+order_here f n high slot x = (subst (AreInOrder high) (held_next f n slot) x).1.0
+
+pub order_behind : (f : Word → ℕ) (n high : ℕ) (slot : Slot) (next : Option Slot) → slot_behind (f (node n (Settled More))) slot ≡ next → AreInOrder high (held_from f n slot) → OrderedBehind f n high (pair_in f n slot).key next
+order_behind f n high slot None e x = tt
+order_behind f n high slot (Some next) e x =
+    let here : AreInOrder high (pair_in f n slot ∷ held_from f n next) = subst (AreInOrder high) (held_next f n slot ∙ ap (λ o. pair_in f n slot ∷ held_behind f n o) e) x in
+    ((subst (AllAbove (pair_in f n slot).key) (held_next f n next) here.0.0).0, (here.0.1, here.1.1, here.2.1))
 
 -- the words of a root say that it is one
 pub leaf_root_at : (c : Contents) (p : Part) (head key r : ℕ) → p.node < all_nodes c.layout → head ≡ word_at c (node p.node (Settled Head)) → key ≡ word_at c (node p.node first_key) → key < 2 ^ 64 → r ≡ head % 4 * 2 ^ 64 + key → IsFit p (head / 8) r → head / 4 % 2 ≡ 1 → IsLeafRoot c p

@@ -27,13 +27,13 @@ use Rattle.arena.specs.Fills.{MayFill}
 use Rattle.arena.specs.Layout.{IsWord}
 use native.Mathlib.Decide.{ℕ_discrete}
 use Rattle.histories.proofs.Lemmas.{IsNodeFill}
-use Rattle.ordered_map.specs.OrderedMap.{pair, Insert, AllBelow}
+use Rattle.ordered_map.specs.OrderedMap.{pair, Insert, AllBelow, IsRising}
 use Rattle.ordered_map.specs.TreeWords.{Leaf, Fork, is_leaf, class, Has}
 use Rattle.ordered_map.specs.TreeShape.{MayEdit, TreeAllows}
 use Rattle.ordered_map.specs.Spelled.{Spells}
 use Rattle.ordered_map.specs.Runs.{IsTreeRun}
-use Rattle.ordered_map.specs.Holding.{IsWellCounted}
-use Rattle.ordered_map.proofs.Holding.{counted_one, held_one, leaf_here}
+use Rattle.ordered_map.specs.Holding.{held_pairs, IsWellCounted}
+use Rattle.ordered_map.proofs.Holding.{few_counted, held_alone, high_leaf, low_leaf}
 use Rattle.ordered_map.proofs.Grown.{opening_tree}
 use Rattle.ordered_map.proofs.Maps.{put_before}
 
@@ -248,10 +248,14 @@ start_in (f ∷ fs) = inr (start_in fs)
 fresh_leaf : (n : ℕ) → 3 ≤ n → ¬ IsNamed lay (filled fills) n
 fresh_leaf n i p = let x : n < 3 = named_low fills n all_filled.fresh p in omega (arith, i, x)
 
--- its count, and the high halves, which are not filled, are 0
+-- its count, and the high half of its value, which are not filled, are 0
 first_counted : IsWellCounted (value (filled fills)) 4
 unfolding value
-first_counted = counted_one (value (filled fills)) 4 (refl, refl, refl, refl, refl)
+first_counted = few_counted (value (filled fills)) 4 (lit< tt)
+
+first_held : held_pairs (value (filled fills)) 4 ≡ pair 7 70 ∷ []
+unfolding value
+first_held = held_alone (value (filled fills)) 4 refl
 
 may_edit : MayEdit lay (filled fills) 1 (Insert 7 70)
 unfolding value
@@ -271,10 +275,10 @@ may_edit = record {
         left = refl;
         right = refl;
         first = record { leaf = refl; class = refl; counted = first_counted };
-        small = subst (AllBelow (2 ^ 64)) (sym (held_one (value (filled fills)) 4 first_counted)) (lit< tt, tt);
+        small = subst (AllBelow (2 ^ 64)) (sym (first_held)) (lit< tt, tt);
         last = record { leaf = refl; same_class = refl; counted = λ z. absurd (let y : 1 ≡ 0 = z in cc); key = λ _. refl };
-        items = (λ i. held_one (value (filled fills)) 4 first_counted i ++ pair (2 ^ 64) 0 ∷ []) ∙ sym (put_before 7 70 (2 ^ 64) 0 (lit< tt));
-        before = subst (AllBelow (2 ^ 64)) (sym (held_one (value (filled fills)) 4 first_counted)) (lit< tt, tt);
+        items = (λ i. first_held i ++ pair (2 ^ 64) 0 ∷ []) ∙ sym (put_before 7 70 (2 ^ 64) 0 (lit< tt));
+        before = subst (AllBelow (2 ^ 64)) (sym (first_held)) (lit< tt, tt);
         behind = (lit≤ tt, tt);
         above = λ _. record { class = refl; key = refl };
         deep = refl;
@@ -459,7 +463,11 @@ tree_run = (refl, record { lawful = run_lawful; shaped = run_shaped })
 
 first_counted_then : IsWellCounted (value done) 4
 unfolding value
-first_counted_then = counted_one (value done) 4 (refl, refl, refl, refl, refl)
+first_counted_then = few_counted (value done) 4 (lit< tt)
+
+first_held_then : held_pairs (value done) 4 ≡ pair 7 70 ∷ []
+unfolding value
+first_held_then = held_alone (value done) 4 refl
 
 spells_one : Spells lay (value done) (pair 7 70 ∷ [])
 unfolding value
@@ -470,15 +478,15 @@ spells_one = record {
       record { fork = refl; left = refl; right = refl; low = lit< tt; high = lit< tt },
       (
         record { fork = refl; left = refl; right = refl; low = lit< tt; high = lit< tt },
-        leaf_here (value done) 4 _ _ refl (λ _. first_counted_then) (lit< tt) (lit≤ tt) (lit< tt),
-        leaf_here (value done) 5 _ _ refl (λ z. absurd (let y : 1 ≡ 0 = z in cc)) (lit< tt) (lit≤ tt) (lit< tt),
+        low_leaf (value done) 4 _ _ refl refl first_counted_then (subst IsRising (sym first_held_then) (tt, tt)) (subst (AllBelow _) (sym first_held_then) (lit< tt, tt)) (subst (AllBelow _) (sym first_held_then) (lit< tt, tt)) (lit≤ tt),
+        high_leaf (value done) 5 _ _ refl (λ z. absurd (let y : 1 ≡ 0 = z in cc)) (lit< tt) (lit≤ tt) (lit< tt),
       ),
-      leaf_here (value done) 2 _ _ refl (λ z. absurd (let y : 2 ≡ 0 = z in cc)) (lit< tt) (lit≤ tt) (lit< tt),
+      high_leaf (value done) 2 _ _ refl (λ z. absurd (let y : 2 ≡ 0 = z in cc)) (lit< tt) (lit≤ tt) (lit< tt),
     );
     is = refl;
   };
   inside = inside;
-  pairs = ap (λ ps. (ps ++ []) ++ []) (held_one (value done) 4 first_counted_then);
+  pairs = ap (λ ps. (ps ++ []) ++ []) (first_held_then);
   rising = (tt, tt);
   others = 4 ∷ [];
   one = 5;

@@ -42,13 +42,13 @@ pub record CallRules : Type 1 where
 
 -- Edits
 
--- an insert makes two leaves and a fork over them, or a leaf in place of another: so many nodes it
--- needs, where the key has this value
+-- an insert makes two leaves and a fork over them, or a leaf in place of another: no more nodes than
+-- these it needs, where the key has this value
 abbrev pub insert_nodes : Option ℕ → ℕ
 insert_nodes None = 3
 insert_nodes (Some value) = 1
 
--- a delete makes a copy of the leaf's sibling, where it finds its key
+-- a delete makes a leaf in place of another, or a copy of the leaf's sibling, where it finds its key
 abbrev pub delete_nodes : Option ℕ → ℕ
 delete_nodes None = 0
 delete_nodes (Some value) = 1
@@ -115,15 +115,16 @@ IsFormOfRange NoMemory = Unit {0}
 IsFormOfRange _ = ⊥
 
 -- The one match from calls to their rules. A walk makes at most three steps for each level that the
--- tree may have, two more than nodes are taken; a search with snapshots 67, and a successor makes
--- two of these behind a walk, a range one for each pair that it may take and for two more.
+-- tree may have, two more than nodes are taken, and five more at its leaf; a search with snapshots 67
+-- for each level, and a successor makes two of these behind a walk, a range one for each pair that it
+-- may take and for two more.
 abbrev pub call_rules : MapCall → CallRules
-call_rules (Edit (Insert key value)) = edit_rules 178 3 (λ map. insert_nodes (get key map)) IsFormOfEdit
-call_rules (Edit (Delete key)) = edit_rules 301 1 (λ map. delete_nodes (get key map)) IsFormOfEdit
-call_rules PopFirst = edit_rules 301 1 (λ map. pop_nodes (first_pair map)) IsFormOfPop
-call_rules (ReplaceIf key expected value) = edit_rules 178 1 (λ map. replace_nodes expected (get key map)) IsFormOfEdit
+call_rules (Edit (Insert key value)) = edit_rules 207 3 (λ map. insert_nodes (get key map)) IsFormOfEdit
+call_rules (Edit (Delete key)) = edit_rules 328 1 (λ map. delete_nodes (get key map)) IsFormOfEdit
+call_rules PopFirst = edit_rules 328 1 (λ map. pop_nodes (first_pair map)) IsFormOfPop
+call_rules (ReplaceIf key expected value) = edit_rules 207 1 (λ map. replace_nodes expected (get key map)) IsFormOfEdit
 call_rules (Get key) = record {
-  most_steps = λ tries nodes. 3 * (2 + nodes);
+  most_steps = λ tries nodes. 3 * (2 + nodes) + 5;
   MayMake = λ kind. (kind ≡ LoadSettled) ⊎ (kind ≡ LoadChild);
   most_scx = λ tries. 0;
   most_nodes = 0;

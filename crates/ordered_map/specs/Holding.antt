@@ -1,6 +1,6 @@
 -- What the words of a leaf hold: in which words its pairs stand is written here alone. One file of
 -- proofs opens this; all others go by what it tells.
-use Rattle.std.specs.Prelude.{◌≡◌, ℕ, zero, suc, ◌+◌, ◌*◌, ◌^◌, List, [], ◌∷◌, map}
+use Rattle.std.specs.Prelude.{ℕ, zero, suc, ◌+◌, ◌*◌, ◌^◌, ◌<◌, if◌then◌else◌, nat_lt, List, [], ◌∷◌, map, Option, Some, None}
 use Rattle.arena.specs.declared.word.NodeWord.TheVariants.{Settled}
 use Rattle.arena.specs.declared.word.SettledPart.TheVariants.{More, Key, Value, High}
 use Rattle.arena.specs.declared.word.Slot.{Slot}
@@ -17,19 +17,42 @@ slots (suc zero) = First ∷ Second ∷ []
 slots (suc (suc zero)) = First ∷ Second ∷ Third ∷ []
 slots (suc (suc (suc more))) = First ∷ Second ∷ Third ∷ Fourth ∷ []
 
+-- those of them from this one on
+abbrev pub slots_from : ℕ → Slot → List Slot
+slots_from more First = slots more
+slots_from (suc (suc zero)) Second = Second ∷ Third ∷ []
+slots_from (suc (suc (suc more))) Second = Second ∷ Third ∷ Fourth ∷ []
+slots_from (suc (suc (suc more))) Third = Third ∷ Fourth ∷ []
+slots_from more slot = slot ∷ []
+
+-- the slot behind this one in a leaf that has so many pairs behind its first, if there is one
+abbrev pub slot_behind : ℕ → Slot → Option Slot
+slot_behind more First = if nat_lt 0 more then Some Second else None
+slot_behind more Second = if nat_lt 1 more then Some Third else None
+slot_behind more Third = if nat_lt 2 more then Some Fourth else None
+slot_behind more Fourth = None
+
+-- the value of these two halves
+abbrev pub wide_value : ℕ → ℕ → ℕ
+wide_value low high = low + 2 ^ 64 * high
+
 -- the pair of the leaf n in this slot; its value has two words
 abbrev pub pair_in : (Word → ℕ) → ℕ → Slot → Pair
-pair_in f n slot = pair (f (node n (Settled (Key slot)))) (f (node n (Settled (Value slot))) + 2 ^ 64 * f (node n (Settled (High slot))))
+pair_in f n slot = pair (f (node n (Settled (Key slot)))) (wide_value (f (node n (Settled (Value slot)))) (f (node n (Settled (High slot)))))
+
+-- the pairs that the leaf n holds from this slot on
+unfoldable pub held_from : (Word → ℕ) → ℕ → Slot → List Pair
+held_from f n slot = map (pair_in f n) (slots_from (f (node n (Settled More))) slot)
+
+-- those that it holds from the slot behind another one on, if there is one
+abbrev pub held_behind : (Word → ℕ) → ℕ → Option Slot → List Pair
+held_behind f n None = []
+held_behind f n (Some slot) = held_from f n slot
 
 -- the pairs that the leaf n holds where it is of class 0, by rising key
-unfoldable pub held_pairs : (Word → ℕ) → ℕ → List Pair
-held_pairs f n = map (pair_in f n) (slots (f (node n (Settled More))))
+abbrev pub held_pairs : (Word → ℕ) → ℕ → List Pair
+held_pairs f n = held_from f n First
 
--- its count, and the high halves of all values, are 0: it has one pair, with a value of one word
-abbrev pub HasOnePair : (Word → ℕ) → ℕ → Type 0
-HasOnePair f n =
-    (f (node n (Settled More)) ≡ 0) × (f (node n (Settled (High First))) ≡ 0) × (f (node n (Settled (High Second))) ≡ 0) × (f (node n (Settled (High Third))) ≡ 0) × (f (node n (Settled (High Fourth))) ≡ 0)
-
--- it holds as many as a leaf may hold, which is one
+-- it holds as many as a leaf may hold: three behind its first, at most
 unfoldable pub IsWellCounted : (Word → ℕ) → ℕ → Type 0
-IsWellCounted f n = HasOnePair f n
+IsWellCounted f n = f (node n (Settled More)) < 4

@@ -7,7 +7,8 @@ use Rattle.ordered_map.specs.declared.part.Part.{Part}
 use Rattle.ordered_map.specs.declared.part.Seen.{Seen}
 use Rattle.ordered_map.specs.declared.part.Seen.TheVariants.{Leaf as LeafSeen, Fork as ForkSeen, Nothing}
 use Rattle.ordered_map.specs.declared.pair.Pair.{Pair}
-use Rattle.ordered_map.specs.Holding.{IsWellCounted}
+use Rattle.ordered_map.specs.Holding.{held_pairs, IsWellCounted}
+use Rattle.ordered_map.specs.OrderedMap.{AllBelow, IsRising}
 use Rattle.ordered_map.specs.TreeWords.{class, is_leaf, level, rank, leaf_pairs, Tree, Leaf, Fork, root, Shows, Has, leaf_nodes}
 use Rattle.ordered_map.specs.Spelled.{IsTree}
 
@@ -54,6 +55,14 @@ pub record IsLeafRoot (c : Contents) (p : Part) : Type 0 where
   pub small : word_at c (node p.node first_key) < 2 ^ 64
   pub fits : IsFit p (level (word_at c) p.node) (rank (word_at c) p.node)
 
+-- the pairs stand by rising key, and their keys are words below `high`
+abbrev pub AreInOrder : ℕ → List Pair → Type 0
+AreInOrder high ps = IsRising ps × AllBelow high ps × AllBelow (2 ^ 64) ps
+
+-- a leaf of class 0 holds as many pairs as it may hold, in order
+abbrev pub HoldsInOrder : Contents → ℕ → ℕ → Type 0
+HoldsInOrder c n high = IsWellCounted (word_at c) n × AreInOrder high (held_pairs (word_at c) n)
+
 -- from node 0 the words show a tree of nodes of the table, with these leaves
 pub record ShowLeaves (c : Contents) (ns : List ℕ) : Type 0 where
   pub tree : Tree
@@ -64,10 +73,6 @@ pub record ShowLeaves (c : Contents) (ns : List ℕ) : Type 0 where
 -- nodes of the table
 abbrev pub AreInside : Contents → List ℕ → Type 0
 AreInside c ns = All (λ n. n < all_nodes c.layout) ns
-
--- nodes each of which, if it is of class 0, holds as many pairs as a leaf may hold
-abbrev pub AreWellCounted : Contents → List ℕ → Type 0
-AreWellCounted c ns = All (λ n. class (word_at c) n ≡ 0 → IsWellCounted (word_at c) n) ns
 
 -- the leaves end with one of class 1 and node 2, of class 2, behind these others
 pub record HasEnds (c : Contents) (ns others : List ℕ) : Type 0 where

@@ -1,15 +1,19 @@
 //! What map the words of a tree spell, and the calls of a map with their replies.
 #![tactic(auto)]
 
+mod held;
 mod laws;
 mod pair;
 mod part;
 mod reader;
 mod reply;
 mod request;
+mod wide;
 
+pub use held::slot_behind;
 pub use laws::{laws_hold, map_laws_hold};
 pub use pair::Pair;
 pub use reader::spelled;
 pub use reply::Reply;
 pub use request::Request;
+pub use wide::{halves, wide_value};

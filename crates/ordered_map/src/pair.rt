@@ -4,5 +4,5 @@
 #[derive(Clone, Copy, Debug, PartialEq, Eq)]
 pub struct Pair {
     pub key: u64,
-    pub value: u64,
+    pub value: u128,
 }

@@ -7,9 +7,9 @@ ghost use Rattle.arena.specs.declared.word.NodeWord.TheVariants.{Settled};
 ghost use Rattle.arena.specs.declared.word.SettledPart.TheVariants.{Head};
 ghost use Rattle.arena.specs.declared.word.NodeWord.{NodeWord};
 ghost use Rattle.arena.specs.declared.word.Word.{Word};
-ghost use Rattle.ordered_map.specs.Holding.{HasOnePair};
 ghost use Rattle.ordered_map.specs.Parts.{IsFit, IsLeafRoot, IsRoot, IsSeen};
 
+use crate::held::holds_in_order;
 use arena::{NodeNo, NodeWord, PlainWords, SettledPart, Side, Slot, Word};
 
 /// A part of the tree: its root, a level that the root's is not below, and the ranks of its leaves,
@@ -72,40 +72,19 @@ fn look_at(words: &PlainWords, part: Part, head: u64, key: u64) -> Seen
     }
 }
 
-/// The same, at a leaf: one of class 0 holds as many pairs as it may hold.
+/// The same, at a leaf: one of class 0 holds as many pairs as it may hold, in the order of their keys,
+/// and all below the part's end.
 fn look_leaf(words: &PlainWords, part: Part) -> Seen
     requires { IsLeafRoot words.now part }
     ensures { IsSeen words.now part result }
 {
     let node = NodeNo(part.node);
     let head = words.get(Word::Node(node, NodeWord::Settled(SettledPart::Head)));
-    if head % 4 != 0 {
-        Seen::Leaf
-    } else if is_well_counted(words, node) {
+    if head % 4 != 0 || holds_in_order(words, node, part.high) {
         Seen::Leaf
     } else {
         Seen::Nothing
     }
-}
-
-/// Whether a leaf of class 0 holds as many pairs as it may hold: one, with a value of one word.
-fn is_well_counted(words: &PlainWords, leaf: NodeNo) -> bool
-    requires { leaf.0 < all_nodes words.now.layout }
-    ensures { IsTrue result ↔ HasOnePair (word_at words.now) leaf.0 }
-{
-    is_zero(words, leaf, SettledPart::More)
-        && is_zero(words, leaf, SettledPart::High(Slot::First))
-        && is_zero(words, leaf, SettledPart::High(Slot::Second))
-        && is_zero(words, leaf, SettledPart::High(Slot::Third))
-        && is_zero(words, leaf, SettledPart::High(Slot::Fourth))
-}
-
-/// Whether a settled word of a node is 0.
-fn is_zero(words: &PlainWords, node: NodeNo, part: SettledPart) -> bool
-    requires { node.0 < all_nodes words.now.layout }
-    ensures { IsTrue result ↔ (word_at words.now (Word.Node node (NodeWord.Settled part)) ≡ 0) }
-{
-    words.get(Word::Node(node, NodeWord::Settled(part))) == 0
 }
 
 /// Whether a part's root may be of this level and this rank.

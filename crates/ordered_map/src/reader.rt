@@ -2,11 +2,11 @@
 ghost use Rattle.std.specs.Prelude.{◌≡◌, ℕ, ◌*◌, ◌^◌, ◌<◌, ◌++◌, IfOk, IfSome, IfNone, IsTrue, List, [], ◌∷◌, All};
 ghost use Rattle.arena.specs.Layout.{all_nodes};
 ghost use Rattle.arena.specs.PlainWords.{word_at};
-ghost use Rattle.ordered_map.specs.TreeWords.{class, leaf_pairs};
-ghost use Rattle.ordered_map.specs.Holding.{IsWellCounted};
+ghost use Rattle.ordered_map.specs.TreeWords.{class};
 ghost use Rattle.ordered_map.specs.Spelled.{Spells};
-ghost use Rattle.ordered_map.specs.Parts.{ShowLeaves, HasEnds, HoldPairs, AreInside, AreWellCounted};
+ghost use Rattle.ordered_map.specs.Parts.{ShowLeaves, HasEnds, HoldPairs, AreInside};
 
+use crate::held::push_held;
 use crate::pair::Pair;
 use crate::part::{Part, Seen, look};
 use arena::{NoMemory, NodeNo, NodeWord, PlainWords, SettledPart, Slot, Word};
@@ -97,8 +97,7 @@ fn take_ends(words: &PlainWords, leaves: &mut Vec<u64>) -> bool
 
 /// The pairs of leaves that are all of class 0.
 fn pairs(alloc: Global, words: &PlainWords, leaves: &[u64]) -> Result<Option<Vec<Pair>>, NoMemory>
-    requires inside { AreInside words.now leaves.now }
-    requires counted { AreWellCounted words.now leaves.now }
+    requires { AreInside words.now leaves.now }
     ensures low { IfOk result (λ o. IfSome o (λ m. HoldPairs words.now leaves.now m.items)) }
     ensures none { IfOk result (λ o. IfNone o ((m : List Pair) → ¬ HoldPairs words.now leaves.now m)) }
 {
@@ -107,21 +106,7 @@ fn pairs(alloc: Global, words: &PlainWords, leaves: &[u64]) -> Result<Option<Vec
         if class_of(words, *leaf) != 0 {
             return Ok(None);
         }
-        pairs.push(pair_of(words, *leaf))?;
+        push_held(words, NodeNo(*leaf), Slot::First, &mut pairs)?;
     }
     Ok(Some(pairs))
-}
-
-/// The pair of a leaf of class 0.
-fn pair_of(words: &PlainWords, leaf: u64) -> Pair
-    requires inside { leaf < all_nodes words.now.layout }
-    requires counted { IsWellCounted (word_at words.now) leaf }
-    requires low { class (word_at words.now) leaf ≡ 0 }
-    ensures { leaf_pairs (word_at words.now) leaf ≡ result ∷ [] }
-{
-    let node = NodeNo(leaf);
-    Pair {
-        key: words.get(Word::Node(node, NodeWord::Settled(SettledPart::Key(Slot::First)))),
-        value: words.get(Word::Node(node, NodeWord::Settled(SettledPart::Value(Slot::First)))),
-    }
 }

@@ -1,8 +1,10 @@
 -- What a delete has filled makes its edit, whatever rows come until its SCX-record begins.
-use Rattle.std.proofs.Common.{◌≡◌, ◌≢◌, ℕ, zero, suc, ◌<◌, ◌^◌, false, Some, [], ◌∷◌, sym, ◌∙◌, ap, arith, subst}
+use Rattle.std.proofs.Common.{◌≡◌, ◌≢◌, ℕ, zero, suc, ◌<◌, ◌^◌, false, Some, None, List, [], ◌∷◌, refl, sym, ◌∙◌, ap, arith, subst, eq-eqb, ne_eqb}
+use native.Mathlib.Decide.{ℕ_discrete}
+use Rattle.arena.specs.declared.word.Slot.TheVariants.{First}
 use Rattle.arena.specs.declared.word.Side.{Side}
 use Rattle.arena.specs.declared.word.Side.TheVariants.{Left, Right}
-use Rattle.arena.specs.Words.{node, child, first_key, first_value}
+use Rattle.arena.specs.Words.{child}
 use Rattle.arena.specs.History.{History, value}
 use Rattle.arena.specs.Fills.{IsNamed}
 use Rattle.arena.specs.Machines.{Call}
@@ -11,40 +13,47 @@ use Rattle.prims.specs.Snap.{child_of}
 use Rattle.prims.specs.Laws.Linked.{in_field_named}
 use Rattle.prims.specs.declared.snap.Snap.{Snap}
 use Rattle.ordered_map.specs.Edits.{IsJoinBy}
-use Rattle.ordered_map.specs.OrderedMap.{pair, Delete, delete}
+use Rattle.ordered_map.specs.OrderedMap.{Delete, delete, get}
 use Rattle.ordered_map.specs.Paths.{WasOnPath}
 use Rattle.ordered_map.specs.Runs.{IsTreeRun}
 use Rattle.ordered_map.specs.TreeShape.{join_plan, leaf_place, sibling_place}
 use Rattle.ordered_map.specs.TreeWords.{class, is_leaf, toward}
-use Rattle.ordered_map.proofs.Lemmas.{walk_named, held_one, taken_out}
-use Rattle.ordered_map.specs.Holding.{IsWellCounted}
+use Rattle.ordered_map.proofs.Lemmas.{walk_named, held_alone, low_pairs}
+use Rattle.ordered_map.specs.Holding.{pair_in, held_pairs}
 use Rattle.template.specs.FoundLeaf.{HasFoundLeaf}
 use Rattle.template.specs.FreshNodes.{IsJoinAt, HasFreshCopy}
 use Rattle.template.specs.Promises.{IsPromised, IsFresh, IsSnapOf, WillTakeOut}
 use Rattle.template.specs.Trails.{HasTurned}
+use Rattle.ordered_map.specs.declared.pair.Pair.{Pair}
 use Rattle.template.specs.declared.walk.Found.{Found}
+use Rattle.template.specs.declared.walk.Goal.TheVariants.{Key as ToKey}
 use Rattle.template.proofs.Promised.{taken_out_promised}
-use Rattle.template.proofs.WalkBounds.{said_some, found_below, found_counted}
+use Rattle.template.proofs.WalkBounds.{said_low, found_below}
+
+-- without its only key nothing is left of a list
+only_taken : (k old : ℕ) (p : Pair) (ps : List Pair) → ps ≡ p ∷ [] → get k ps ≡ Some old → delete k ps ≡ []
+only_taken k old p ps one there = ap (delete k) one ∙ go (ℕ_discrete k p.key)
+  where
+    go : Dec (k ≡ p.key) → delete k (p ∷ []) ≡ []
+    go (yes e) = rw (eq-eqb k p.key e) refl
+    go (no d) = absurd (let z : None ≡ Some old = sym (ap (get k) one ∙ rw (ne_eqb k p.key d) refl) ∙ there in cc)
 
 module _ (c : Call) (h : History) (k old : ℕ) (f : Found) (d : Descriptor) (above sibling : Snap) (n : ℕ)
-    (run : IsTreeRun c.layout h) (small : k < 2 ^ 64) (a : HasFoundLeaf c h k f) (found : f.value ≡ Some old)
+    (run : IsTreeRun c.layout h) (small : k < 2 ^ 64) (a : HasFoundLeaf c h k f) (found : f.value ≡ Some old) (alone : f.more ≡ 0)
     (i : IsJoinAt f d above n) (above_is : IsSnapOf c.layout h d 1 above) (same : (child_of above f.trail.side).0 ≡ f.trail.node.0)
     (sibling_is : IsSnapOf c.layout h d (sibling_place f.trail.side) sibling) (w : HasFreshCopy c.layout c.pass h sibling n) where
-  counted : class (value h) f.trail.node.0 ≡ 0 → IsWellCounted (value h) f.trail.node.0
-  counted = found_counted k c h f run a
-
-  says : (class (value h) f.trail.node.0 ≡ 0) × (value h (node f.trail.node.0 first_key) ≡ k)
-  says = said_some (value h) k f.trail.node.0 old counted (sym found ∙ a.says)
+  low : class (value h) f.trail.node.0 ≡ 0
+  low = said_low (value h) k f.trail.node.0 old (sym found ∙ a.says)
 
   below : f.trail.node.0 ≢ 0
-  below = found_below k c h f run a
+  below = found_below (ToKey k) c h f run a
 
   parent : HasTurned c h k f.trail.parent.0 f.trail.side f.trail.node.0
   parent = a.trail.parent below
 
   -- a leaf of a key is not a child of the root
   grand : HasTurned c h k f.trail.grand.0 f.trail.grand_side f.trail.parent.0
-  grand = a.trail.grand below (λ z. a.trail.high below z a.leaf says.0)
+  grand = a.trail.grand below (λ z. a.trail.high below z a.leaf low)
 
   leaf_at : d.member (leaf_place f.trail.side) ≡ f.trail.node.0
   leaf_at = go f.trail.side same
@@ -77,8 +86,10 @@ module _ (c : Call) (h : History) (k old : ℕ) (f : Found) (d : Descriptor) (ab
   is_join = record {
     fork = parent.fork;
     leaf = a.leaf;
-    low = says.0;
-    emptied = let v : ℕ = value h (node f.trail.node.0 first_value) in ap (delete k) (held_one (value h) f.trail.node.0 (counted says.0) ∙ (λ i. pair (says.1 i) v ∷ [])) ∙ taken_out k v;
+    low = low;
+    emptied = only_taken k old (pair_in (value h) f.trail.node.0 First) (held_pairs (value h) f.trail.node.0)
+        (held_alone (value h) f.trail.node.0 (a.more (sym (ap (λ w. w.class) a.head) ∙ low) ∙ alone))
+        (sym (ap (get k) (low_pairs (value h) f.trail.node.0 low)) ∙ sym a.says ∙ found);
     copy = w.copy;
   }
 
@@ -105,7 +116,7 @@ module _ (c : Call) (h : History) (k old : ℕ) (f : Found) (d : Descriptor) (ab
     copied = λ fork side. subst (λ m. value h (child m side) ≡ (child_of sibling side).0) (sym i.new) (w.fields (subst (λ m. is_leaf (value h) m ≡ false) (sym sibling_is.node) fork) side);
   }
 
--- An SCX-record that puts a fresh copy of the sibling of the key's leaf into the place of their
--- parent deletes the key.
-pub join_promised : (c : Call) (h : History) (s k old : ℕ) (f : Found) (d : Descriptor) (above sibling : Snap) (n : ℕ) → IsTreeRun c.layout h → k < 2 ^ 64 → HasFoundLeaf c h k f → f.value ≡ Some old → IsJoinAt f d above n → IsSnapOf c.layout h d 1 above → (child_of above f.trail.side).0 ≡ f.trail.node.0 → IsSnapOf c.layout h d (sibling_place f.trail.side) sibling → HasFreshCopy c.layout c.pass h sibling n → IsPromised c.layout c.pass h s d (Delete k)
-join_promised c h s k old f d above sibling n run small a found i above_is same sibling_is w = taken_out_promised c.layout c.pass s h d (Delete k) f.trail.side c.is_pass (will_take_out c h k old f d above sibling n run small a found i above_is same sibling_is w)
+-- An SCX-record that puts a fresh copy of the sibling of the key's leaf, which has no other pair, into
+-- the place of their parent deletes the key.
+pub join_promised : (c : Call) (h : History) (s k old : ℕ) (f : Found) (d : Descriptor) (above sibling : Snap) (n : ℕ) → IsTreeRun c.layout h → k < 2 ^ 64 → HasFoundLeaf c h k f → f.value ≡ Some old → f.more ≡ 0 → IsJoinAt f d above n → IsSnapOf c.layout h d 1 above → (child_of above f.trail.side).0 ≡ f.trail.node.0 → IsSnapOf c.layout h d (sibling_place f.trail.side) sibling → HasFreshCopy c.layout c.pass h sibling n → IsPromised c.layout c.pass h s d (Delete k)
+join_promised c h s k old f d above sibling n run small a found alone i above_is same sibling_is w = taken_out_promised c.layout c.pass s h d (Delete k) f.trail.side c.is_pass (will_take_out c h k old f d above sibling n run small a found alone i above_is same sibling_is w)

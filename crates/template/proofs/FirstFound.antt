@@ -1,23 +1,24 @@
 -- What the walk to the first leaf has found: the leaf on the path of its own key, and the first pair
 -- of the map.
-use Rattle.std.proofs.Common.{false, ◌≡◌, ◌≢◌, ℕ, ◌<◌, ◌≤◌, ◌^◌, eq-eqb, lt-ltb, [], refl, sym, ◌∙◌, ap, arith, subst, Some}
+use Rattle.std.proofs.Common.{false, ◌≡◌, ◌≢◌, ℕ, ◌<◌, ◌≤◌, ◌^◌, eq-eqb, lt-ltb, [], ◌∷◌, refl, sym, ◌∙◌, ap, arith, subst, Some}
 use Rattle.std.specs.Option.{option_map}
 use native.Mathlib.Decide.{ℕ_discrete}
 use Rattle.arena.specs.declared.word.Side.{Side}
 use Rattle.arena.specs.declared.word.Side.TheVariants.{Left}
-use Rattle.arena.specs.Words.{node, child, first_key, first_value}
+use Rattle.arena.specs.Words.{node, child, first_key}
 use Rattle.arena.specs.History.{History, value, Extends}
 use Rattle.arena.specs.Machines.{Call}
 use Rattle.histories.proofs.Lemmas.{node_since}
 use Rattle.ordered_map.specs.OrderedMap.{pair, get, first_pair}
 use Rattle.ordered_map.specs.Paths.{Passed, IsFirstAt}
 use Rattle.ordered_map.specs.Runs.{IsTreeRun}
-use Rattle.ordered_map.specs.TreeWords.{class, is_leaf, rank, toward, leaf_pairs, first_said}
-use Rattle.ordered_map.proofs.Lemmas.{run_since, walk_holds, walk_small, walk_before, walk_left, walk_least, walk_named, walk_next, walk_own, SameSettled, held_one, low_pairs, high_pairs, settled_rank, settled_leaf}
-use Rattle.template.specs.FoundLeaf.{HasEnded, HasFoundGoal, HasFoundLeaf, first_told}
+use Rattle.ordered_map.specs.TreeWords.{class, is_leaf, rank, toward, said, leaf_pairs, first_said}
+use Rattle.ordered_map.proofs.Lemmas.{run_since, walk_small, walk_before, walk_left, walk_least, walk_named, walk_next, walk_own, SameSettled, held_first, low_pairs, high_pairs, settled_rank, settled_leaf}
+use Rattle.template.specs.FoundLeaf.{path_key, asked_key, HasFoundGoal, HasFoundLeaf, first_told}
 use Rattle.template.specs.Trails.{WasPassed, HasTurned}
 use Rattle.template.specs.declared.walk.Found.{Found}
-use Rattle.template.specs.declared.walk.Goal.TheVariants.{Least}
+use Rattle.template.specs.declared.walk.Goal.{Goal}
+use Rattle.template.specs.declared.walk.Goal.TheVariants.{Key as ToKey, Least}
 
 -- what was passed on the way to the least key was passed on the way to each up to its own
 own_passed : (c : Call) (h : History) (k n : ℕ) → IsTreeRun c.layout h → WasPassed c h 0 n → k ≤ rank (value h) n → WasPassed c h k n
@@ -63,9 +64,13 @@ module _ (c : Call) (h : History) (n : ℕ) (side : Side) (next : ℕ) (run : Is
         };
   }
 
--- the key of a leaf of class 0 is below 2 ^ 64
-pub found_small : {asked : ℕ} (k : ℕ) (c : Call) (h : History) (f : Found) → IsTreeRun c.layout h → HasEnded c h k asked f → f.head.class ≡ 0 → f.key < 2 ^ 64
-found_small k c h f run a low = rw (a.key low) at (walk_small c.layout h a.trail.node.first k f.trail.node.0 run a.trail.node.passed a.leaf)
+-- the key of which it tells is below 2 ^ 64
+pub found_small : (goal : Goal) (c : Call) (h : History) (f : Found) → IsTreeRun c.layout h → path_key goal < 2 ^ 64 → HasFoundGoal goal c h f → f.key < 2 ^ 64
+found_small goal c h f run small a = subst (λ k. k < 2 ^ 64) a.key (asked_small goal small)
+  where
+    asked_small : (to : Goal) → path_key to < 2 ^ 64 → asked_key to (value h (node f.trail.node.0 first_key)) < 2 ^ 64
+    asked_small (ToKey k) low = low
+    asked_small Least low = walk_small c.layout h a.trail.node.first (path_key goal) f.trail.node.0 run a.trail.node.passed a.leaf
 
 module _ (c : Call) (h : History) (f : Found) (run : IsTreeRun c.layout h) (a : HasFoundGoal Least c h f) where
   abbrev leaf : ℕ
@@ -75,7 +80,7 @@ module _ (c : Call) (h : History) (f : Found) (run : IsTreeRun c.layout h) (a : 
   class_is = ap (λ w. w.class) a.head
 
   own_key : f.head.class ≡ 0 → rank (value h) leaf ≡ f.key
-  own_key low = let x = class_is in let y = a.key low in omega (arith, x, y, low)
+  own_key low = let x = class_is in let y : value h (node leaf first_key) ≡ f.key = a.key in omega (arith, x, y, low)
 
   -- where the first leaf has a key, it is the leaf of that
   pub found_own : f.head.class ≡ 0 → HasFoundLeaf c h f.key f
@@ -89,9 +94,10 @@ module _ (c : Call) (h : History) (f : Found) (run : IsTreeRun c.layout h) (a : 
     leaf = a.leaf;
     head = a.head;
     deep = a.deep;
-    key = a.key;
-    blank = a.blank;
-    says = a.says;
+    more = a.more;
+    none = a.none;
+    key = refl;
+    says = a.says ∙ ap (λ k. said (value h) k leaf) a.key;
   }
     where
       above_parent : leaf ≢ 0 → f.key < rank (value h) f.trail.parent.0
@@ -112,16 +118,16 @@ module _ (c : Call) (h : History) (f : Found) (run : IsTreeRun c.layout h) (a : 
     where
       at_low : f.head.class ≡ 0 → first_said (value h) leaf ≡ first_told f
       at_low z =
-          let low : class (value h) leaf ≡ 0 = class_is ∙ z in
-          let key : value h (node leaf first_key) ≡ f.key = a.key z in
-          let one = held_one (value h) leaf (walk_holds c.layout h a.trail.node.first 0 leaf run a.trail.node.passed a.leaf low).0 in
-          let says : f.value ≡ Some (value h (node leaf first_value)) = a.says ∙ ap (get f.key) (low_pairs (value h) leaf low ∙ one) ∙ rw (eq-eqb f.key (value h (node leaf first_key)) (sym key)) refl in
-          ap first_pair (low_pairs (value h) leaf low ∙ one) ∙ (λ i. Some (pair (key i) (value h (node leaf first_value)))) ∙ sym (ap (option_map (pair f.key)) says)
+          let x = held_first (value h) leaf in
+          let own : ℕ = value h (node leaf first_key) in
+          let holds : leaf_pairs (value h) leaf ≡ pair own x.value ∷ x.rest = low_pairs (value h) leaf (class_is ∙ z) ∙ x.is in
+          let says : f.value ≡ Some x.value = a.says ∙ ap (get own) holds ∙ rw (eq-eqb own own refl) refl in
+          ap first_pair holds ∙ ap (λ k. Some (pair k x.value)) a.key ∙ sym (ap (option_map (pair f.key)) says)
 
       at_high : f.head.class ≢ 0 → first_said (value h) leaf ≡ first_told f
       at_high d =
           let none : leaf_pairs (value h) leaf ≡ [] = high_pairs (value h) leaf (λ z. d (sym class_is ∙ z)) in
-          ap first_pair none ∙ sym (ap (option_map (pair f.key)) (a.says ∙ ap (get f.key) none))
+          ap first_pair none ∙ sym (ap (option_map (pair f.key)) (a.says ∙ ap (get (value h (node leaf first_key))) none))
 
       go : Dec (f.head.class ≡ 0) → first_said (value h) leaf ≡ first_told f
       go (yes z) = at_low z

@@ -17,6 +17,7 @@ use Rattle.template.specs.FreshNodes.{IsLeafEditAt}
 use Rattle.template.specs.Promises.{IsPromised, HasFreshEdit}
 use Rattle.template.specs.Trails.{HasTurned}
 use Rattle.template.specs.declared.walk.Found.{Found}
+use Rattle.template.specs.declared.walk.Goal.TheVariants.{Key as ToKey}
 use Rattle.template.proofs.Promised.{leaf_edit_promised}
 use Rattle.template.proofs.WalkBounds.{found_below}
 
@@ -45,4 +46,4 @@ edit_promised c h s e f d n run small a i w there = leaf_edit_promised c.layout 
 }
   where
     parent : HasTurned c h (edit_key e) f.trail.parent.0 f.trail.side f.trail.node.0
-    parent = a.trail.parent (found_below (edit_key e) c h f run a)
+    parent = a.trail.parent (found_below (ToKey (edit_key e)) c h f run a)

@@ -38,7 +38,7 @@ use Rattle.template.specs.Walk.Laws.{walk_told}
 use Rattle.template.specs.Walk.Places.{IsPastRoot}
 use Rattle.template.specs.Walk.Steps.{WalkFits, walk_left}
 use Rattle.template.specs.declared.walk.WalkAt.{WalkAt}
-use Rattle.template.specs.declared.walk.WalkAt.TheVariants.{Start as WalkStart, Root, Head, Key, Child, Value}
+use Rattle.template.specs.declared.walk.WalkAt.TheVariants.{Start as WalkStart, Root, Head, Key, Child, More, Pair, Value, High}
 use Rattle.template.specs.declared.walk.WalkRun.{WalkRun}
 
 -- Rows
@@ -179,7 +179,10 @@ module _ (m : WalkRun) (c : Call) (h : History) where
       below z = let low : above < level (value h) 0 = subst (λ n. above < level (value h) n) z k.1 in let root = root_head c.layout h run in omega (arith, low, root)
   walk_step_begins_none (Key head) run past k = no_and_left (eqb m.trail.node.0 0)
   walk_step_begins_none (Child low side) run past k = refl
-  walk_step_begins_none (Value head key) run past k = no_and_left (eqb m.trail.node.0 0)
+  walk_step_begins_none (More head) run past k = no_and_left (eqb m.trail.node.0 0)
+  walk_step_begins_none (Pair head more slot) run past k = no_and_left (eqb m.trail.node.0 0)
+  walk_step_begins_none (Value head more slot key) run past k = no_and_left (eqb m.trail.node.0 0)
+  walk_step_begins_none (High head more slot key low) run past k = no_and_left (eqb m.trail.node.0 0)
 
   -- behind the load of the root's head a walk begins no try
   pub walk_begins_none : (s : Step) → IsPastRoot m.at → WalkWaits m c h s → BeginsNoTry s
@@ -192,7 +195,10 @@ module _ (m : WalkRun) (c : Call) (h : History) where
   few_left (Head above) nodes k = omega arith
   few_left (Key head) nodes k = omega arith
   few_left (Child low side) nodes k = omega arith
-  few_left (Value head key) nodes k = omega arith
+  few_left (More head) nodes k = omega arith
+  few_left (Pair head more slot) nodes k = omega arith
+  few_left (Value head more slot key) nodes k = omega arith
+  few_left (High head more slot key low) nodes k = omega arith
 
   past_root : (p : WalkAt) (nodes : ℕ) → walk_left p nodes < walk_left Root nodes → IsPastRoot p
   past_root WalkStart nodes fewer = absurd (omega (arith, fewer))
@@ -200,7 +206,10 @@ module _ (m : WalkRun) (c : Call) (h : History) where
   past_root (Head above) nodes fewer = tt
   past_root (Key head) nodes fewer = tt
   past_root (Child low side) nodes fewer = tt
-  past_root (Value head key) nodes fewer = tt
+  past_root (More head) nodes fewer = tt
+  past_root (Pair head more slot) nodes fewer = tt
+  past_root (Value head more slot key) nodes fewer = tt
+  past_root (High head more slot key low) nodes fewer = tt
 
   -- once it was told something, and asks for a step, it is past the root's head
   pub walk_past_root : (now : WalkRun) (v : ℕ) → IsRun TreeAllows c.layout h → WalkIsTold m c h v → ((nodes : ℕ) → WalkFits m (Some v) nodes → walk_left now.at nodes < walk_left m.at nodes) → IsPastRoot now.at

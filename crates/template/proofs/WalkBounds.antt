@@ -1,5 +1,5 @@
 -- What else is known of walks: they ask for loads alone; how they begin, and what they have found.
-use Rattle.std.proofs.Common.{◌≡◌, ◌≢◌, ℕ, ◌+◌, ◌*◌, ◌^◌, ◌<◌, ◌≤◌, length, arith, true, false, ◌⊎◌, inl, inr, eq-eqb, ne_eqb, Option, Some, None, refl, sym, ◌∙◌, ap, subst}
+use Rattle.std.proofs.Common.{◌≡◌, ◌≢◌, ℕ, ◌+◌, ◌*◌, ◌^◌, ◌<◌, ◌≤◌, length, arith, true, false, ◌⊎◌, inl, inr, ne_eqb, Option, Some, None, refl, sym, ◌∙◌, ap, subst}
 use native.Mathlib.Decide.{ℕ_discrete}
 use Rattle.std.proofs.lemmas.Nat.{mul-le}
 use Rattle.arena.specs.declared.step.Row.{Row}
@@ -9,10 +9,10 @@ use Rattle.arena.specs.declared.step.Kind.{Kind}
 use Rattle.arena.specs.declared.step.Kind.TheVariants.{Fill, LoadSettled, LoadChild}
 use Rattle.arena.specs.declared.word.Side.{Side}
 use Rattle.arena.specs.declared.word.NodeWord.TheVariants.{Settled}
-use Rattle.arena.specs.declared.word.SettledPart.TheVariants.{Head as HeadWord}
+use Rattle.arena.specs.declared.word.SettledPart.TheVariants.{Head as HeadWord, More as MoreWord}
 use Rattle.arena.specs.declared.word.Word.{Word}
 use Rattle.arena.specs.Heads.{head_of}
-use Rattle.arena.specs.Words.{node, info, child, first_key, first_value}
+use Rattle.arena.specs.Words.{node, info, child, first_key}
 use Rattle.arena.specs.History.{History, ◌⊳◌, value, Extends}
 use Rattle.arena.specs.Fills.{IsNamed}
 use Rattle.arena.specs.Blame.{WasInTheWay}
@@ -20,18 +20,19 @@ use Rattle.arena.specs.Machines.{IsRun, Call}
 use Rattle.arena.specs.TakenNodes.{taken_nodes}
 use Rattle.arena.proofs.Lemmas.{ends_trans, taken_few, taken_more}
 use Rattle.histories.proofs.Lemmas.{node_stays}
-use Rattle.ordered_map.specs.Holding.{IsWellCounted}
-use Rattle.ordered_map.specs.OrderedMap.{get}
+use Rattle.ordered_map.specs.Holding.{held_pairs, IsWellCounted}
+use Rattle.ordered_map.specs.OrderedMap.{AllBelow, IsRising}
 use Rattle.ordered_map.specs.Paths.{IsAnswerAt}
 use Rattle.ordered_map.specs.Runs.{IsTreeRun}
 use Rattle.ordered_map.specs.TreeShape.{TreeAllows}
-use Rattle.ordered_map.specs.TreeWords.{class, is_leaf, rank, said, IsBlankAboveKeys}
-use Rattle.ordered_map.proofs.Lemmas.{walk_answers, walk_holds, walk_named, run_since, root_head, passed_blank, blame_field, SameSettled, held_one, low_pairs, settled_said, settled_leaf}
+use Rattle.ordered_map.specs.TreeWords.{class, is_leaf, said}
+use Rattle.ordered_map.proofs.Lemmas.{walk_answers, walk_holds, walk_named, run_since, root_head, passed_blank, blame_field, SameSettled, settled_said, settled_leaf}
 use Rattle.template.specs.declared.walk.Found.{Found}
+use Rattle.template.specs.declared.walk.Goal.{Goal}
 use Rattle.template.specs.declared.walk.WalkRun.{WalkRun}
 use Rattle.template.specs.declared.walk.WalkAt.{WalkAt}
-use Rattle.template.specs.declared.walk.WalkAt.TheVariants.{Start, Root, Head, Key, Child, Value}
-use Rattle.template.specs.FoundLeaf.{path_key, HasEnded, HasFoundLeaf}
+use Rattle.template.specs.declared.walk.WalkAt.TheVariants.{Start, Root, Head, Key, Child, More, Pair, Value, High}
+use Rattle.template.specs.FoundLeaf.{path_key, asked_key, HasFoundGoal, HasFoundLeaf}
 use Rattle.template.specs.Trails.{HasTurned}
 use Rattle.template.specs.Walk.Laws.{trail_more}
 use Rattle.template.specs.Walk.Known.{walk_kind, WalkWaits, WalkIsReady}
@@ -45,7 +46,10 @@ kind_is Root = inl refl
 kind_is (Head above) = inl refl
 kind_is (Key head) = inl refl
 kind_is (Child low side) = inr refl
-kind_is (Value head key) = inl refl
+kind_is (More head) = inl refl
+kind_is (Pair head more slot) = inl refl
+kind_is (Value head more slot key) = inl refl
+kind_is (High head more slot key low) = inl refl
 
 -- a walk asks for loads alone, of settled words and of fields
 pub walk_loads : (m : WalkRun) (c : Call) (h : History) (s : Step) → WalkWaits m c h s → ((s.kind ≡ LoadSettled) ⊎ (s.kind ≡ LoadChild)) × (s.access ≡ Load)
@@ -84,36 +88,9 @@ said_low f k n old e = go (ℕ_discrete (class f n) 0)
     go (yes z) = z
     go (no d) = absurd (let y : Some old ≡ None = e ∙ rw (ne_eqb (class f n) 0 d) refl in cc)
 
--- and its key is that one
-pub said_some : (f : Word → ℕ) (k n old : ℕ) → (class f n ≡ 0 → IsWellCounted f n) → Some old ≡ said f k n → (class f n ≡ 0) × (f (node n first_key) ≡ k)
-said_some f k n old counted e = (low, at_key (ℕ_discrete k (f (node n first_key))))
-  where
-    low : class f n ≡ 0
-    low = said_low f k n old e
-
-    nothing_of : k ≢ f (node n first_key) → said f k n ≡ None
-    nothing_of d = ap (get k) (low_pairs f n low ∙ held_one f n (counted low)) ∙ rw (ne_eqb k (f (node n first_key)) d) refl
-
-    at_key : Dec (k ≡ f (node n first_key)) → f (node n first_key) ≡ k
-    at_key (yes q) = sym q
-    at_key (no d) = absurd (let y : Some old ≡ None = e ∙ nothing_of d in cc)
-
--- of one that tells none: the key is another one
-pub said_none : (f : Word → ℕ) (k n : ℕ) → (class f n ≡ 0 → IsWellCounted f n) → k < 2 ^ 64 → None ≡ said f k n → k ≢ rank f n
-said_none f k n counted small e at = absurd (let y : None ≡ Some (f (node n first_value)) = e ∙ value_of low key in cc)
-  where
-    low : class f n ≡ 0
-    low = omega (arith, at, small)
-
-    key : k ≡ f (node n first_key)
-    key = omega (arith, at, small)
-
-    value_of : class f n ≡ 0 → k ≡ f (node n first_key) → said f k n ≡ Some (f (node n first_value))
-    value_of z q = ap (get k) (low_pairs f n z ∙ held_one f n (counted z)) ∙ rw (eq-eqb k (f (node n first_key)) q) refl
-
 -- What it has found
 
-module _ {asked : ℕ} (k : ℕ) (c : Call) (h : History) (f : Found) (run : IsTreeRun c.layout h) (a : HasEnded c h k asked f) where
+module _ (goal : Goal) (c : Call) (h : History) (f : Found) (run : IsTreeRun c.layout h) (a : HasFoundGoal goal c h f) where
   -- a leaf is not the root
   pub found_below : f.trail.node.0 ≢ 0
   found_below e =
@@ -122,23 +99,13 @@ module _ {asked : ℕ} (k : ℕ) (c : Call) (h : History) (f : Found) (run : IsT
       let x : true ≡ false = sym leaf ∙ fork in
       cc
 
-  -- a leaf of class 0 holds as many pairs as it may hold
-  pub found_counted : class (value h) f.trail.node.0 ≡ 0 → IsWellCounted (value h) f.trail.node.0
-  found_counted low = (walk_holds c.layout h a.trail.node.first k f.trail.node.0 run a.trail.node.passed a.leaf low).0
+  -- a leaf of class 0 holds as many pairs as it may hold, of rising keys below 2 ^ 64
+  pub found_holds : f.head.class ≡ 0 → IsWellCounted (value h) f.trail.node.0 × AllBelow (2 ^ 64) (held_pairs (value h) f.trail.node.0) × IsRising (held_pairs (value h) f.trail.node.0)
+  found_holds low = walk_holds c.layout h a.trail.node.first (path_key goal) f.trail.node.0 run a.trail.node.passed a.leaf (ap (λ w. w.class) a.head ∙ low)
 
-  blank : IsBlankAboveKeys (value h) f.trail.node.0
-  blank = passed_blank c.layout h a.trail.node.first k f.trail.node.0 run a.trail.node.passed
-
-  high : f.head.class ≢ 0 → class (value h) f.trail.node.0 ≢ 0
-  high d e = d (sym (ap (λ w. w.class) a.head) ∙ e)
-
-  -- the key of the leaf is the one that is found, whether it was loaded or not
-  pub found_key : value h (node f.trail.node.0 first_key) ≡ f.key
-  found_key = go (ℕ_discrete f.head.class 0)
-    where
-      go : Dec (f.head.class ≡ 0) → value h (node f.trail.node.0 first_key) ≡ f.key
-      go (yes e) = a.key e
-      go (no d) = blank (high d) ∙ sym (a.blank d)
+  -- the key of a leaf above all keys is 0
+  pub found_blank : f.head.class ≢ 0 → value h (node f.trail.node.0 first_key) ≡ 0
+  found_blank high = passed_blank c.layout h a.trail.node.first (path_key goal) f.trail.node.0 run a.trail.node.passed (λ e. high (sym (ap (λ w. w.class) a.head) ∙ e))
 
   -- its class is one that a word can hold
   pub found_class : f.head.class < 4
@@ -153,19 +120,20 @@ module _ {asked : ℕ} (k : ℕ) (c : Call) (h : History) (f : Found) (run : IsT
       omega (arith, deep, few, most)
 
 -- what a call has found it has found, whatever row comes
-pub found_more : (c : Call) (h : History) (r : Row) (k asked : ℕ) (f : Found) → IsTreeRun c.layout h → IsRun TreeAllows c.layout (r ⊳ h) → HasEnded c h k asked f → HasEnded c (r ⊳ h) k asked f
-found_more c h r k asked f run run_now a = record {
-  trail = trail_more c h r run run_now k f.trail a.trail;
+pub found_more : (c : Call) (h : History) (r : Row) (goal : Goal) (f : Found) → IsTreeRun c.layout h → IsRun TreeAllows c.layout (r ⊳ h) → HasFoundGoal goal c h f → HasFoundGoal goal c (r ⊳ h) f
+found_more c h r goal f run run_now a = record {
+  trail = trail_more c h r run run_now (path_key goal) f.trail a.trail;
   leaf = settled_leaf (value h) (value (r ⊳ h)) f.trail.node.0 same ∙ a.leaf;
   head = ap head_of (same (Settled HeadWord) tt) ∙ a.head;
   deep = let deep : f.head.level < 2 + length (taken_nodes h) = a.deep in let more : length (taken_nodes h) ≤ length (taken_nodes (r ⊳ h)) = taken_more h r in omega (arith, deep, more);
-  key = λ low. same first_key tt ∙ a.key low;
-  blank = a.blank;
-  says = a.says ∙ sym (settled_said (value h) (value (r ⊳ h)) asked f.trail.node.0 same);
+  more = λ low. same (Settled MoreWord) tt ∙ a.more low;
+  none = a.none;
+  key = ap (asked_key goal) (same first_key tt) ∙ a.key;
+  says = a.says ∙ sym (ap (λ k. said (value (r ⊳ h)) (asked_key goal k) f.trail.node.0) (same first_key tt) ∙ settled_said (value h) (value (r ⊳ h)) (asked_key goal (value h (node f.trail.node.0 first_key))) f.trail.node.0 same);
 }
   where
     same : SameSettled (value h) (value (r ⊳ h)) f.trail.node.0
-    same part i = node_stays c.layout h r f.trail.node.0 part run_now.lawful i (walk_named c.layout h a.trail.node.first k f.trail.node.0 run a.trail.node.passed)
+    same part i = node_stays c.layout h r f.trail.node.0 part run_now.lawful i (walk_named c.layout h a.trail.node.first (path_key goal) f.trail.node.0 run a.trail.node.passed)
 
 -- A field by which the call went down, and that holds another node now: the SCX-record that its
 -- node's info names was in the way of the call.

@@ -1,17 +1,20 @@
 -- From place to place of a walk.
-use Rattle.std.proofs.Common.{◌≡◌, ◌≢◌, ℕ, ◌^◌, ◌<◌, true, false, cond, ltb, refl, sym, ◌∙◌, None, Some}
+use Rattle.std.proofs.Common.{◌≡◌, ◌≢◌, ℕ, ◌^◌, ◌<◌, ◌⊎◌, true, false, cond, ltb, refl, None, Some}
 use Rattle.arena.specs.declared.head.Head.{Head as HeadParts}
 use Rattle.arena.specs.declared.machine.Turn.TheVariants.{Ask, Done}
 use Rattle.arena.specs.declared.step.Kind.TheVariants.{LoadSettled, LoadChild}
 use Rattle.arena.specs.declared.word.Side.{Side}
 use Rattle.arena.specs.declared.word.Side.TheVariants.{Left, Right}
 use Rattle.arena.specs.declared.word.NodeWord.TheVariants.{Settled, Child as ChildWord}
-use Rattle.arena.specs.declared.word.SettledPart.TheVariants.{Head as HeadWord}
+use Rattle.arena.specs.declared.word.SettledPart.TheVariants.{Head as HeadWord, More as MoreWord, Key as KeyWord, Value as ValueWord, High as HighWord}
+use Rattle.arena.specs.declared.word.Slot.{Slot}
+use Rattle.arena.specs.declared.word.Slot.TheVariants.{First}
 use Rattle.arena.specs.Heads.{head_of}
-use Rattle.arena.specs.Words.{node, first_key, first_value}
+use Rattle.arena.specs.Words.{node, first_key}
 use Rattle.arena.specs.History.{History, Extends}
 use Rattle.arena.specs.Machines.{Call}
 use Rattle.prims.specs.Llx.Known.{load}
+use Rattle.ordered_map.specs.Holding.{slot_behind, wide_value}
 use Rattle.ordered_map.specs.Runs.{IsTreeRun}
 use Rattle.template.specs.FoundLeaf.{HasFoundGoal, asked_key, path_key}
 use Rattle.template.specs.Walk.Known.{asks_key, here, WalkIsTold, WalkWaits, WalkStands}
@@ -19,8 +22,9 @@ use Rattle.template.specs.Walk.Places.{walk_at, walk_from, trail_below, LoadsHea
 use Rattle.template.specs.declared.walk.Goal.{Goal}
 use Rattle.template.specs.declared.walk.Trail.{Trail}
 use Rattle.template.specs.declared.walk.WalkAt.{WalkAt}
-use Rattle.template.specs.declared.walk.WalkAt.TheVariants.{Start, Root, Head, Key, Child, Value}
-use Rattle.template.proofs.WalkTurns.{waits_at, ends_above, ends_low, level_is, fork_is, says_nothing, goes_by_key, turn_value, turn_down, stands_at_root, asked_low, unasked_high, unasked_left}
+use Rattle.template.specs.declared.walk.WalkAt.TheVariants.{Start, Root, Head, Key, Child, More, Pair, Value, High}
+use Rattle.template.specs.declared.walk.WalkRun.{WalkRun}
+use Rattle.template.proofs.WalkTurns.{waits_at, ends_above, level_is, fork_is, stands_by, turn_key, turn_more, turn_value, turn_high, asks_value, asks_next, ends_without, turn_down, stands_at_root, asked_low, unasked_left}
 
 -- it begins at the root
 pub walk_begins : (goal : Goal) (d : Call) (h : History) → IsTreeRun d.layout h → path_key goal < 2 ^ 64 → Extends h d.start → WalkWaits (walk_from goal) d h (load LoadSettled (node 0 (Settled HeadWord)))
@@ -34,7 +38,10 @@ module _ (goal : Goal) (t : Trail) (d : Call) (h : History) where
   stands_at_head Start v x w = absurd x
   stands_at_head (Key head) v x w = absurd x
   stands_at_head (Child low side) v x w = absurd x
-  stands_at_head (Value head low) v x w = absurd x
+  stands_at_head (More head) v x w = absurd x
+  stands_at_head (Pair head more slot) v x w = absurd x
+  stands_at_head (Value head more slot key) v x w = absurd x
+  stands_at_head (High head more slot key low) v x w = absurd x
 
   module _ (p : WalkAt) (v : ℕ) (head : HeadParts) (x : LoadsHead p) (is : head_of v ≡ head) (w : WalkIsTold (walk_at goal t p) d h v) where
     stood : WalkStands (walk_at goal t p) d h
@@ -43,45 +50,58 @@ module _ (goal : Goal) (t : Trail) (d : Call) (h : History) where
     head_is : head_of (here h (walk_at goal t p) (Settled HeadWord)) ≡ head
     head_is = rw (stands_at_head p v x w).1 is
 
-    -- it loads the key of a node where it asks for it
-    pub head_to_key : asks_key goal head ≡ true → WalkWaits (walk_at goal t (Key head)) d h (load LoadSettled (node t.node.0 first_key))
-    head_to_key asks = waits_at d h (walk_at goal t p) (walk_at goal t (Key head)) (Ask _) (Key head) _ stood record { stands = refl; asked = refl } (stood.trail, head_is, asked_low goal head asks) refl
+    -- it ends at a leaf above all keys
+    pub head_ends : head.leaf ≡ true → head.class ≢ 0 → HasFoundGoal goal d h record { trail = t; head = head; more = 0; key = asked_key goal 0; value = None }
+    head_ends leaf high = ends_above d h (walk_at goal t p) (walk_at goal t p) (Done _) head stood record { stands = refl; done = refl } head_is high leaf
 
-    -- it ends at another leaf, which is above all keys
-    pub head_ends : asks_key goal head ≡ false → head.leaf ≡ true → HasFoundGoal goal d h record { trail = t; head = head; key = 0; value = None }
-    head_ends asks leaf = ends_above d h (walk_at goal t p) (walk_at goal t p) (Done _) head stood record { stands = refl; done = refl } head_is (unasked_high goal head asks leaf) leaf
+    -- of another leaf it loads how many pairs it has behind its first
+    pub head_to_more : head.leaf ≡ true → head.class ≡ 0 → WalkWaits (walk_at goal t (More head)) d h (load LoadSettled (node t.node.0 (Settled MoreWord)))
+    head_to_more leaf low = waits_at d h (walk_at goal t p) (walk_at goal t (More head)) (Ask _) (More head) _ stood record { stands = refl; asked = refl } (record { trail = stood.trail; head = head_is; low = low; leaf = leaf }) refl
+
+    -- it loads the key of a fork where it asks for it
+    pub head_to_key : head.leaf ≡ false → asks_key goal head ≡ true → WalkWaits (walk_at goal t (Key head)) d h (load LoadSettled (node t.node.0 first_key))
+    head_to_key fork asks = waits_at d h (walk_at goal t p) (walk_at goal t (Key head)) (Ask _) (Key head) _ stood record { stands = refl; asked = refl } (stood.trail, head_is, asked_low goal head asks, fork) refl
 
     -- it goes left at another fork
-    pub head_to_child : asks_key goal head ≡ false → head.leaf ≡ false → WalkWaits (walk_at goal t (Child head.level Left)) d h (load LoadChild (node t.node.0 (ChildWord Left)))
-    head_to_child asks fork = let m = walk_at goal t p in
+    pub head_to_child : head.leaf ≡ false → asks_key goal head ≡ false → WalkWaits (walk_at goal t (Child head.level Left)) d h (load LoadChild (node t.node.0 (ChildWord Left)))
+    head_to_child fork asks = let m = walk_at goal t p in
         waits_at d h m (walk_at goal t (Child head.level Left)) (Ask _) (Child head.level Left) _ stood record { stands = refl; asked = refl }
         (stood.trail, level_is d h m stood head head_is, fork_is d h m stood head head_is fork, unasked_left d h m head stood head_is asks fork) refl
 
-  -- at a node of class 0 whose key it has loaded
-  module _ (head : HeadParts) (low : ℕ) (w : WalkIsTold (walk_at goal t (Key head)) d h low) where
-    at_low : WalkStands (walk_at goal t (Key head)) d h
-    at_low = record { run = w.run; small = w.small; own = w.own; trail = w.known.0 }
+  -- behind the key of a fork it goes on by that
+  pub key_to_child : (head : HeadParts) (low : ℕ) (side : Side) → WalkIsTold (walk_at goal t (Key head)) d h low → side ≡ cond (ltb (path_key goal) low) Left Right → WalkWaits (walk_at goal t (Child head.level side)) d h (load LoadChild (node t.node.0 (ChildWord side)))
+  key_to_child head low side w is = turn_key d h (walk_at goal t (Key head)) (walk_at goal t (Child head.level side)) (Ask _) head side low refl w is record { stands = refl; asked = refl }
 
-    -- it goes on by the key of a fork
-    pub key_to_child : (side : Side) → side ≡ cond (ltb (path_key goal) low) Left Right → head.leaf ≡ false → WalkWaits (walk_at goal t (Child head.level side)) d h (load LoadChild (node t.node.0 (ChildWord side)))
-    key_to_child side is fork = let m = walk_at goal t (Key head) in
-        waits_at d h m (walk_at goal t (Child head.level side)) (Ask _) (Child head.level side) _ at_low record { stands = refl; asked = refl }
-        (w.known.0, level_is d h m at_low head w.known.1, fork_is d h m at_low head w.known.1 fork, goes_by_key d h m at_low head w.known.1 w.known.2 low w.told ∙ sym is) refl
+  -- of a leaf it loads the first key
+  pub more_to_pair : (head : HeadParts) (more : ℕ) → WalkIsTold (walk_at goal t (More head)) d h more → WalkWaits (walk_at goal t (Pair head more First)) d h (load LoadSettled (node t.node.0 first_key))
+  more_to_pair head more w = turn_more d h (walk_at goal t (More head)) (walk_at goal t (Pair head more First)) (Ask _) head more refl w record { stands = refl; asked = refl }
 
-    -- it loads the value of a leaf of whose key it tells
-    pub key_to_value : head.leaf ≡ true → asked_key goal low ≡ low → WalkWaits (walk_at goal t (Value head low)) d h (load LoadSettled (node t.node.0 first_value))
-    key_to_value leaf same = waits_at d h (walk_at goal t (Key head)) (walk_at goal t (Value head low)) (Ask _) (Value head low) _ at_low record { stands = refl; asked = refl }
-        (w.known.0, w.known.1, w.known.2, leaf, w.told, same) refl
+  module _ (head : HeadParts) (more : ℕ) (slot : Slot) (key : ℕ) (w : WalkIsTold (walk_at goal t (Pair head more slot)) d h key) where
+    abbrev at_slot : WalkRun
+    at_slot = walk_at goal t (Pair head more slot)
 
-    -- and ends at one that has another
-    pub key_ends : head.leaf ≡ true → asked_key goal low ≢ low → HasFoundGoal goal d h record { trail = t; head = head; key = low; value = None }
-    key_ends leaf other = let m = walk_at goal t (Key head) in
-        ends_low d h m m (Done _) head low None at_low record { stands = refl; done = refl } w.known.1 w.known.2 leaf w.told
-        (says_nothing d h m at_low head w.known.1 w.known.2 low w.told leaf (asked_key goal low) other)
+    stood_at_slot : WalkStands at_slot d h
+    stood_at_slot = stands_by at_slot d h key w w.known.0.trail
 
-  -- the value of a leaf is the last that it is told
-  pub value_ends : (head : HeadParts) (low v : ℕ) → WalkIsTold (walk_at goal t (Value head low)) d h v → HasFoundGoal goal d h record { trail = t; head = head; key = low; value = Some v }
-  value_ends head low v w = let m = walk_at goal t (Value head low) in turn_value d h m m (Done _) head low v refl w record { stands = refl; done = refl }
+    -- the value of the key that it tells of
+    pub pair_to_value : asked_key goal key ≡ key → WalkWaits (walk_at goal t (Value head more slot key)) d h (load LoadSettled (node t.node.0 (Settled (ValueWord slot))))
+    pair_to_value same = asks_value d h at_slot (walk_at goal t (Value head more slot key)) (Ask _) head more slot key stood_at_slot w.known.0 w.known.1 w.known.2 w.told same record { stands = refl; asked = refl }
+
+    -- or the next key
+    pub pair_to_pair : asked_key goal key ≢ key → (next : Slot) → slot_behind more slot ≡ Some next → WalkWaits (walk_at goal t (Pair head more next)) d h (load LoadSettled (node t.node.0 (Settled (KeyWord next))))
+    pair_to_pair other next behind = asks_next d h at_slot (walk_at goal t (Pair head more next)) (Ask _) head more slot key stood_at_slot w.known.0 w.known.1 w.known.2 w.told other next behind record { stands = refl; asked = refl }
+
+    -- or it ends
+    pub pair_ends : asked_key goal key ≢ key → (slot_behind more slot ≡ None) ⊎ (asked_key goal key < key) → HasFoundGoal goal d h record { trail = t; head = head; more = more; key = asked_key goal key; value = None }
+    pair_ends other none = ends_without d h at_slot at_slot (Done _) head more slot key stood_at_slot w.known.0 w.known.1 w.known.2 w.told other none record { stands = refl; done = refl }
+
+  -- behind the value comes its high half
+  pub value_to_high : (head : HeadParts) (more : ℕ) (slot : Slot) (key low : ℕ) → WalkIsTold (walk_at goal t (Value head more slot key)) d h low → WalkWaits (walk_at goal t (High head more slot key low)) d h (load LoadSettled (node t.node.0 (Settled (HighWord slot))))
+  value_to_high head more slot key low w = turn_value d h (walk_at goal t (Value head more slot key)) (walk_at goal t (High head more slot key low)) (Ask _) head more slot key low refl w record { stands = refl; asked = refl }
+
+  -- which is the last that it is told
+  pub high_ends : (head : HeadParts) (more : ℕ) (slot : Slot) (key low high : ℕ) → WalkIsTold (walk_at goal t (High head more slot key low)) d h high → HasFoundGoal goal d h record { trail = t; head = head; more = more; key = key; value = Some (wide_value low high) }
+  high_ends head more slot key low high w = let m = walk_at goal t (High head more slot key low) in turn_high d h m m (Done _) head more slot key low high refl w record { stands = refl; done = refl }
 
   -- it goes down to the child that it was told
   pub child_to_head : (level : ℕ) (side : Side) (n : ℕ) → WalkIsTold (walk_at goal t (Child level side)) d h n → WalkWaits (walk_at goal (trail_below t side n) (Head level)) d h (load LoadSettled (node n (Settled HeadWord)))

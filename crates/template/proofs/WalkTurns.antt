@@ -1,7 +1,6 @@
 -- What a walk waits for after each of its turns.
-use Rattle.std.proofs.Common.{◌≡◌, ◌≢◌, ℕ, ◌*◌, ◌+◌, ◌-◌, ◌^◌, ◌<◌, true, false, cond, ltb, length, eqb, eq-eqb, eqb-true, ne_eqb, lt-ltb, inr, refl, sym, ◌∙◌, ap, arith, subst, Option, Some, None, [], ◌∷◌}
+use Rattle.std.proofs.Common.{◌≡◌, ◌≢◌, ℕ, ◌*◌, ◌+◌, ◌-◌, ◌^◌, ◌<◌, true, false, cond, ltb, length, eq-eqb, eqb-true, ne_eqb, lt-ltb, ◌⊎◌, inl, inr, refl, sym, ◌∙◌, ap, arith, subst, Option, Some, None}
 use Rattle.std.specs.Prelude.{unwrap_or}
-use native.Mathlib.Decide.{ℕ_discrete}
 use Rattle.arena.specs.declared.head.Head.{Head as HeadParts}
 use Rattle.arena.specs.declared.machine.Turn.{Turn}
 use Rattle.arena.specs.declared.machine.Turn.TheVariants.{Ask, Done}
@@ -9,16 +8,19 @@ use Rattle.arena.specs.declared.step.Step.{Step}
 use Rattle.arena.specs.declared.word.Side.{Side}
 use Rattle.arena.specs.declared.word.Side.TheVariants.{Left, Right}
 use Rattle.arena.specs.declared.word.NodeWord.TheVariants.{Settled, Child as ChildWord}
-use Rattle.arena.specs.declared.word.SettledPart.TheVariants.{Head as HeadWord}
+use Rattle.arena.specs.declared.word.SettledPart.TheVariants.{Head as HeadWord, More as MoreWord, Key as KeyWord, Value as ValueWord, High as HighWord}
 use Rattle.arena.specs.Heads.{head_of}
-use Rattle.arena.specs.Words.{child, first_key, first_value}
+use Rattle.arena.specs.Words.{node, child, first_key}
+use Rattle.arena.specs.declared.word.Slot.{Slot}
+use Rattle.arena.specs.declared.word.Slot.TheVariants.{First}
+use Rattle.arena.specs.declared.word.Word.{Word}
 use Rattle.arena.specs.History.{History, value, Extends}
 use Rattle.arena.specs.Machines.{Call, MatchTurn}
 use Rattle.arena.specs.TakenNodes.{taken_nodes}
 use Rattle.arena.proofs.Lemmas.{ends_self}
-use Rattle.ordered_map.proofs.Lemmas.{walk_first, walk_holds, walk_next, walk_left, walk_rises, below_root, passed_depth, held_one, low_pairs}
-use Rattle.ordered_map.specs.Holding.{held_pairs}
-use Rattle.ordered_map.specs.OrderedMap.{get, pair}
+use Rattle.ordered_map.proofs.Lemmas.{walk_first, walk_holds, walk_next, walk_left, walk_rises, below_root, passed_blank, passed_depth, low_pairs, from_rises, get_here, get_behind, get_nowhere}
+use Rattle.ordered_map.specs.Holding.{held_pairs, held_from, held_behind, slot_behind, wide_value}
+use Rattle.ordered_map.specs.OrderedMap.{get}
 use Rattle.ordered_map.specs.Paths.{Passed}
 use Rattle.ordered_map.specs.Runs.{IsTreeRun}
 use Rattle.ordered_map.specs.TreeWords.{class, is_leaf, level, rank, toward, said}
@@ -29,9 +31,9 @@ use Rattle.template.specs.declared.walk.Goal.{Goal}
 use Rattle.template.specs.declared.walk.Goal.TheVariants.{Key as ToKey, Least}
 use Rattle.template.specs.declared.walk.WalkRun.{WalkRun}
 use Rattle.template.specs.declared.walk.WalkAt.{WalkAt}
-use Rattle.template.specs.declared.walk.WalkAt.TheVariants.{Start, Root, Head, Value}
+use Rattle.template.specs.declared.walk.WalkAt.TheVariants.{Start, Root, Head, Key, Child, More, Pair, Value, High}
 use Rattle.template.specs.FoundLeaf.{path_key, asked_key}
-use Rattle.template.specs.Walk.Known.{asks_key, here, WalkKnows, walk_step, WalkIsReady, WalkIsTold, WalkTurn, WalkAsks, WalkEnds, WalkStands}
+use Rattle.template.specs.Walk.Known.{asks_key, here, WalkStandsAtLeaf, IsSlotFor, WalkKnows, walk_step, WalkIsReady, WalkIsTold, WalkTurn, WalkAsks, WalkEnds, WalkStands}
 
 pub own_since : (c : Call) (h : History) → IsOwnMoment c h → Extends h c.start
 own_since c h b = subst (λ k. Extends k c.start) (sym b.is) (inr b.since)
@@ -41,10 +43,11 @@ pub waits_at : (c : Call) (h : History) (old now : WalkRun) (turn : Turn Found) 
 waits_at c h old now turn at step k a known e = rw (a.asked, a.stands) record { run = k.run; small = k.small; since = own_since c h k.own; known = known; asked = e }
 
 -- it has ended
-answers_at : (c : Call) (h : History) (old now : WalkRun) (turn : Turn Found) (head : HeadParts) (key : ℕ) (found : Option ℕ) → WalkStands old c h → WalkEnds old now turn head key found → is_leaf (value h) old.trail.node.0 ≡ true → head_of (here h old (Settled HeadWord)) ≡ head → (head.class ≡ 0 → here h old first_key ≡ key) → (head.class ≢ 0 → key ≡ 0) → found ≡ said (value h) (asked_key old.goal key) old.trail.node.0 → WalkTurn c h now turn
-answers_at c h old now turn head key found k a leaf e d blank says =
+answers_at : (c : Call) (h : History) (old now : WalkRun) (turn : Turn Found) (head : HeadParts) (more key : ℕ) (found : Option ℕ) → WalkStands old c h → WalkEnds old now turn head more key found → is_leaf (value h) old.trail.node.0 ≡ true → head_of (here h old (Settled HeadWord)) ≡ head
+    → (head.class ≡ 0 → here h old (Settled MoreWord) ≡ more) → (head.class ≢ 0 → more ≡ 0) → asked_key old.goal (here h old first_key) ≡ key → found ≡ said (value h) (asked_key old.goal (here h old first_key)) old.trail.node.0 → WalkTurn c h now turn
+answers_at c h old now turn head more key found k a leaf e many none d says =
     let deep : head.level < 2 + length (taken_nodes h) = subst (λ w. w.level < 2 + length (taken_nodes h)) e (passed_depth c.layout h k.trail.node.first (path_key old.goal) old.trail.node.0 k.run k.trail.node.passed) in
-    rw (a.done, a.stands) record { trail = k.trail; leaf = leaf; head = e; deep = deep; key = d; blank = blank; says = says }
+    rw (a.done, a.stands) record { trail = k.trail; leaf = leaf; head = e; deep = deep; more = many; none = none; key = d; says = says }
 
 module _ (c : Call) (h : History) (m : WalkRun) (k : WalkStands m c h) (head : HeadParts) (e : head_of (here h m (Settled HeadWord)) ≡ head) where
   abbrev n : ℕ
@@ -73,53 +76,112 @@ module _ (c : Call) (h : History) (m : WalkRun) (k : WalkStands m c h) (head : H
   pub says_nothing_above : (asked : ℕ) → head.class ≢ 0 → None ≡ said (value h) asked n
   says_nothing_above asked q = rw (ne_eqb (class (value h) n) 0 (λ x. q (sym class_is ∙ x))) refl
 
-  -- at a key
-  module _ (low : head.class ≡ 0) (key : ℕ) (d : here h m first_key ≡ key) where
-    class_zero : class (value h) n ≡ 0
-    class_zero = class_is ∙ low
+  -- a leaf above all keys has the key 0
+  pub blank_above : head.class ≢ 0 → here h m first_key ≡ 0
+  blank_above q = passed_blank c.layout h k.trail.node.first (path_key m.goal) n k.run k.trail.node.passed (λ z. q (sym class_is ∙ z))
 
-    at_key : rank (value h) n ≡ key
-    at_key = let x = class_zero in omega (arith, x, d)
-
-    -- what it holds, where it is a leaf
-    holds_key : head.leaf ≡ true → held_pairs (value h) n ≡ pair (here h m first_key) (here h m first_value) ∷ []
-    holds_key leaf = held_one (value h) n (walk_holds c.layout h k.trail.node.first (path_key m.goal) n k.run k.trail.node.passed (leaf_is leaf) class_zero).0
-
-    pub says_nothing : head.leaf ≡ true → (asked : ℕ) → asked ≢ key → None ≡ said (value h) asked n
-    says_nothing leaf asked q = sym (ap (get asked) (low_pairs (value h) n class_zero ∙ holds_key leaf) ∙ rw (ne_eqb asked (here h m first_key) (λ x. q (x ∙ d))) refl)
-
-    pub goes_by_key : toward (value h) n (path_key m.goal) ≡ cond (ltb (path_key m.goal) key) Left Right
-    goes_by_key = ap (λ r. cond (ltb (path_key m.goal) r) Left Right) at_key
-
-    pub says_value : head.leaf ≡ true → (asked : ℕ) → asked ≡ key → (v : ℕ) → here h m first_value ≡ v → Some v ≡ said (value h) asked n
-    says_value leaf asked q v x = sym (ap (get asked) (low_pairs (value h) n class_zero ∙ holds_key leaf) ∙ rw (eq-eqb asked (here h m first_key) (q ∙ sym d)) (ap Some x))
+  -- where it goes at a fork of class 0 depends on its key
+  pub goes_by_key : head.class ≡ 0 → (key : ℕ) → here h m first_key ≡ key → toward (value h) n (path_key m.goal) ≡ cond (ltb (path_key m.goal) key) Left Right
+  goes_by_key low key d =
+      let z : class (value h) n ≡ 0 = class_is ∙ low in
+      let at_key : rank (value h) n ≡ key = omega (arith, z, d) in
+      ap (λ r. cond (ltb (path_key m.goal) r) Left Right) at_key
 
 -- it has ended at a leaf above all keys
-pub ends_above : (c : Call) (h : History) (old now : WalkRun) (turn : Turn Found) (head : HeadParts) → WalkStands old c h → WalkEnds old now turn head 0 None → head_of (here h old (Settled HeadWord)) ≡ head → head.class ≢ 0 → head.leaf ≡ true → WalkTurn c h now turn
-ends_above c h old now turn head k a e high leaf = answers_at c h old now turn head 0 None k a (leaf_is c h old k head e leaf) e (λ q. absurd (high q)) (λ d. refl) (says_nothing_above c h old k head e (asked_key old.goal 0) high)
+pub ends_above : (c : Call) (h : History) (old now : WalkRun) (turn : Turn Found) (parts : HeadParts) → WalkStands old c h → WalkEnds old now turn parts 0 (asked_key old.goal 0) None → head_of (here h old (Settled HeadWord)) ≡ parts → parts.class ≢ 0 → parts.leaf ≡ true → WalkTurn c h now turn
+ends_above c h old now turn parts k a e above leaf = answers_at c h old now turn parts 0 (asked_key old.goal 0) None k a (leaf_is c h old k parts e leaf) e (λ q. absurd (above q)) (λ d. refl) (ap (asked_key old.goal) (blank_above c h old k parts e above)) (says_nothing_above c h old k parts e (asked_key old.goal (here h old first_key)) above)
 
--- it has ended at a leaf with a key
-pub ends_low : (c : Call) (h : History) (old now : WalkRun) (turn : Turn Found) (head : HeadParts) (key : ℕ) (found : Option ℕ) → WalkStands old c h → WalkEnds old now turn head key found → head_of (here h old (Settled HeadWord)) ≡ head → head.class ≡ 0 → head.leaf ≡ true → here h old first_key ≡ key → found ≡ said (value h) (asked_key old.goal key) old.trail.node.0 → WalkTurn c h now turn
-ends_low c h old now turn head key found k a e low leaf d says = answers_at c h old now turn head key found k a (leaf_is c h old k head e leaf) e (λ q. d) (λ high. absurd (high low)) says
+-- In a leaf of class 0
+
+-- it begins with the first slot
+pub first_slot : (goal : Goal) (f : Word → ℕ) (n : ℕ) → IsSlotFor goal f n First
+first_slot (ToKey k) f n = refl
+first_slot Least f n = refl
+
+-- what it tells of is in a slot or behind it
+slot_says : (goal : Goal) (f : Word → ℕ) (n : ℕ) (slot : Slot) → IsSlotFor goal f n slot → get (asked_key goal (f (node n first_key))) (held_pairs f n) ≡ get (asked_key goal (f (node n first_key))) (held_from f n slot)
+slot_says (ToKey k) f n slot at = at
+slot_says Least f n slot at = ap (λ s. get (f (node n first_key)) (held_from f n s)) (sym at)
+
+-- the key asked for, in a slot that has it
+slot_asked : (goal : Goal) (f : Word → ℕ) (n : ℕ) (slot : Slot) (key : ℕ) → IsSlotFor goal f n slot → f (node n (Settled (KeyWord slot))) ≡ key → asked_key goal key ≡ key → asked_key goal (f (node n first_key)) ≡ key
+slot_asked (ToKey k) f n slot key at d same = same
+slot_asked Least f n slot key at d same = ap (λ s. f (node n (Settled (KeyWord s)))) (sym at) ∙ d
+
+-- and where the slot has another
+other_asked : (goal : Goal) (first key : ℕ) → asked_key goal key ≢ key → asked_key goal first ≡ asked_key goal key
+other_asked (ToKey k) first key d = refl
+other_asked Least first key d = absurd (d refl)
+
+-- it is then behind the slot
+slot_next : (goal : Goal) (f : Word → ℕ) (n : ℕ) (slot next : Slot) (key : ℕ) → IsSlotFor goal f n slot → f (node n (Settled (KeyWord slot))) ≡ key → asked_key goal key ≢ key → slot_behind (f (node n (Settled MoreWord))) slot ≡ Some next → IsSlotFor goal f n next
+slot_next (ToKey k) f n slot next key at e d behind = at ∙ get_behind f n slot k (λ z. d (z ∙ e)) ∙ ap (λ o. get k (held_behind f n o)) behind
+slot_next Least f n slot next key at e d behind = absurd (d refl)
+
+module _ (c : Call) (h : History) (m : WalkRun) (k : WalkStands m c h) (parts : HeadParts) (x : WalkStandsAtLeaf c h m.goal m.trail parts) (slot : Slot) (at : IsSlotFor m.goal (value h) m.trail.node.0 slot) (key : ℕ) (d : here h m (Settled (KeyWord slot)) ≡ key) where
+  abbrev asked : ℕ
+  asked = asked_key m.goal (here h m first_key)
+
+  abbrev leaf_no : ℕ
+  leaf_no = m.trail.node.0
+
+  class_zero : class (value h) leaf_no ≡ 0
+  class_zero = ap (λ w. w.class) x.head ∙ x.low
+
+  says_slot : said (value h) asked leaf_no ≡ get asked (held_from (value h) leaf_no slot)
+  says_slot = ap (get asked) (low_pairs (value h) leaf_no class_zero) ∙ slot_says m.goal (value h) leaf_no slot at
+
+  -- the value that is in the slot
+  says_value : asked_key m.goal key ≡ key → Some (wide_value (here h m (Settled (ValueWord slot))) (here h m (Settled (HighWord slot)))) ≡ said (value h) asked leaf_no
+  says_value same = sym (says_slot ∙ get_here (value h) leaf_no slot asked (slot_asked m.goal (value h) leaf_no slot key at d same ∙ sym d))
+
+  unlike : asked_key m.goal key ≢ key → asked ≢ here h m (Settled (KeyWord slot))
+  unlike other e = other (sym (other_asked m.goal (here h m first_key) key other) ∙ e ∙ d)
+
+  -- there is none behind the last slot
+  says_none_last : asked_key m.goal key ≢ key → slot_behind (here h m (Settled MoreWord)) slot ≡ None → None ≡ said (value h) asked leaf_no
+  says_none_last other last = sym (says_slot ∙ get_behind (value h) leaf_no slot asked (unlike other) ∙ ap (λ o. get asked (held_behind (value h) leaf_no o)) last)
+
+  -- nor where a greater key comes first
+  says_none_low : asked_key m.goal key < key → None ≡ said (value h) asked leaf_no
+  says_none_low low =
+      let holds = walk_holds c.layout h k.trail.node.first (path_key m.goal) leaf_no k.run k.trail.node.passed (leaf_is c h m k parts x.head x.leaf) class_zero in
+      let same : asked ≡ asked_key m.goal key = other_asked m.goal (here h m first_key) key (λ e. omega (arith, e, low)) in
+      let less : asked < here h m (Settled (KeyWord slot)) = omega (arith, same, d, low) in
+      sym (says_slot ∙ get_nowhere (value h) leaf_no slot asked (from_rises (value h) leaf_no slot holds.2) less)
+
+-- it has ended at a leaf of class 0
+ends_low : (c : Call) (h : History) (old now : WalkRun) (turn : Turn Found) (parts : HeadParts) (more key : ℕ) (found : Option ℕ) → WalkStands old c h → WalkEnds old now turn parts more key found → WalkStandsAtLeaf c h old.goal old.trail parts → here h old (Settled MoreWord) ≡ more → asked_key old.goal (here h old first_key) ≡ key → found ≡ said (value h) (asked_key old.goal (here h old first_key)) old.trail.node.0 → WalkTurn c h now turn
+ends_low c h old now turn parts more key found k a x many d says = answers_at c h old now turn parts more key found k a (leaf_is c h old k parts x.head x.leaf) x.head (λ q. many) (λ above. absurd (above x.low)) d says
+
+module _ (c : Call) (h : History) (old now : WalkRun) (turn : Turn Found) (parts : HeadParts) (more : ℕ) (slot : Slot) (key : ℕ) (k : WalkStands old c h) (x : WalkStandsAtLeaf c h old.goal old.trail parts) (many : here h old (Settled MoreWord) ≡ more) (at : IsSlotFor old.goal (value h) old.trail.node.0 slot) (d : here h old (Settled (KeyWord slot)) ≡ key) where
+  -- it waits for the value of the key that it tells of
+  pub asks_value : asked_key old.goal key ≡ key → WalkAsks old now turn (Value parts more slot key) (walk_step old (Value parts more slot key)) → WalkTurn c h now turn
+  asks_value same a = waits_at c h old now turn (Value parts more slot key) (walk_step old (Value parts more slot key)) k a (x, many, at, d, same) refl
+
+  -- behind another key it waits for the next one
+  pub asks_next : asked_key old.goal key ≢ key → (next : Slot) → slot_behind more slot ≡ Some next → WalkAsks old now turn (Pair parts more next) (walk_step old (Pair parts more next)) → WalkTurn c h now turn
+  asks_next other next behind a = waits_at c h old now turn (Pair parts more next) (walk_step old (Pair parts more next)) k a
+      (x, many, slot_next old.goal (value h) old.trail.node.0 slot next key at d other (ap (λ v. slot_behind v slot) many ∙ behind)) refl
+
+  -- it ends where there is none, or where that is not below its own
+  pub ends_without : asked_key old.goal key ≢ key → (slot_behind more slot ≡ None) ⊎ (asked_key old.goal key < key) → WalkEnds old now turn parts more (asked_key old.goal key) None → WalkTurn c h now turn
+  ends_without other (inl last) a = ends_low c h old now turn parts more (asked_key old.goal key) None k a x many (other_asked old.goal (here h old first_key) key other)
+      (says_none_last c h old k parts x slot at key d other (ap (λ v. slot_behind v slot) many ∙ last))
+  ends_without other (inr low) a = ends_low c h old now turn parts more (asked_key old.goal key) None k a x many (other_asked old.goal (here h old first_key) key other)
+      (says_none_low c h old k parts x slot at key d low)
+
+  -- and at its key with the value of that
+  pub ends_with : asked_key old.goal key ≡ key → (low high : ℕ) → here h old (Settled (ValueWord slot)) ≡ low → here h old (Settled (HighWord slot)) ≡ high → WalkEnds old now turn parts more key (Some (wide_value low high)) → WalkTurn c h now turn
+  ends_with same low high l u a = ends_low c h old now turn parts more key (Some (wide_value low high)) k a x many (slot_asked old.goal (value h) old.trail.node.0 slot key at d same)
+      ((λ i. Some (wide_value (sym l i) (sym u i))) ∙ says_value c h old k parts x slot at key d same)
 
 -- Which keys it loads
 
-pub unequal : (a b : ℕ) → eqb a b ≡ false → a ≢ b
-unequal a b e d = let x : true ≡ false = sym (eq-eqb a b d) ∙ e in cc
-
--- the key of a node of class 0 alone
+-- the key of a fork of class 0 alone
 pub asked_low : (goal : Goal) (head : HeadParts) → asks_key goal head ≡ true → head.class ≡ 0
 asked_low (ToKey k) head e = eqb-true head.class 0 e
-asked_low Least head e = go (ℕ_discrete head.class 0)
-  where
-    go : Dec (head.class ≡ 0) → head.class ≡ 0
-    go (yes z) = z
-    go (no d) = absurd (let x : false ≡ true = sym (ap (λ b. cond b head.leaf false) (ne_eqb head.class 0 d)) ∙ e in cc)
-
--- and of each such leaf
-pub unasked_high : (goal : Goal) (head : HeadParts) → asks_key goal head ≡ false → head.leaf ≡ true → head.class ≢ 0
-unasked_high (ToKey k) head e leaf z = let x : true ≡ false = sym (eq-eqb head.class 0 z) ∙ e in cc
-unasked_high Least head e leaf z = let x : true ≡ false = sym (ap (λ b. cond b head.leaf false) (eq-eqb head.class 0 z) ∙ leaf) ∙ e in cc
+asked_low Least head e = absurd (let x : false ≡ true = e in cc)
 
 -- a fork of which it loads no key it leaves on the left
 pub unasked_left : (c : Call) (h : History) (m : WalkRun) (head : HeadParts) → WalkStands m c h → head_of (here h m (Settled HeadWord)) ≡ head → asks_key m.goal head ≡ false → head.leaf ≡ false → toward (value h) m.trail.node.0 (path_key m.goal) ≡ Left
@@ -187,20 +249,42 @@ told_root m c h found is t =
     let k : m.trail.node.0 ≡ 0 = subst (WalkKnows c h m) is t.known in
     (stands_at_root c h m t.run t.small t.own k, rw is at t.told)
 
--- the value of a leaf that has its key is the last that it is told
-pub turn_value : (c : Call) (h : History) (old now : WalkRun) (turn : Turn Found) (head : HeadParts) (key found : ℕ) → old.at ≡ Value head key → WalkIsTold old c h found → WalkEnds old now turn head key (Some found) → WalkTurn c h now turn
-turn_value c h old now turn head key found is t a =
-    let x : WalkKnows c h old (Value head key) = subst (WalkKnows c h old) is t.known in
-    let k : WalkStands old c h = record { run = t.run; small = t.small; own = t.own; trail = x.0 } in
-    ends_low c h old now turn head key (Some found) k a x.1 x.2 x.3 x.4 (says_value c h old k head x.1 x.2 key x.4 x.3 (asked_key old.goal key) x.5 found (rw is at t.told))
+-- at a place where it knows the trail of its node
+pub stands_by : (m : WalkRun) (c : Call) (h : History) (found : ℕ) → WalkIsTold m c h found → OnTrail c h (path_key m.goal) m.trail → WalkStands m c h
+stands_by m c h found t trail = record { run = t.run; small = t.small; own = t.own; trail = trail }
+
+-- by the key of a fork it goes down on a side
+pub turn_key : (c : Call) (h : History) (old now : WalkRun) (turn : Turn Found) (head : HeadParts) (side : Side) (found : ℕ) → old.at ≡ Key head → WalkIsTold old c h found → side ≡ cond (ltb (path_key old.goal) found) Left Right → WalkAsks old now turn (Child head.level side) (walk_step old (Child head.level side)) → WalkTurn c h now turn
+turn_key c h old now turn head side found is t by a =
+    let x : WalkKnows c h old (Key head) = subst (WalkKnows c h old) is t.known in
+    let k = stands_by old c h found t x.0 in
+    waits_at c h old now turn (Child head.level side) (walk_step old (Child head.level side)) k a (x.0, level_is c h old k head x.1, fork_is c h old k head x.1 x.3, goes_by_key c h old k head x.1 x.2 found (rw is at t.told) ∙ sym by) refl
+
+-- once it knows how many pairs a leaf has, it waits for the first key
+pub turn_more : (c : Call) (h : History) (old now : WalkRun) (turn : Turn Found) (head : HeadParts) (found : ℕ) → old.at ≡ More head → WalkIsTold old c h found → WalkAsks old now turn (Pair head found First) (walk_step old (Pair head found First)) → WalkTurn c h now turn
+turn_more c h old now turn head found is t a =
+    let x : WalkStandsAtLeaf c h old.goal old.trail head = subst (WalkKnows c h old) is t.known in
+    waits_at c h old now turn (Pair head found First) (walk_step old (Pair head found First)) (stands_by old c h found t x.trail) a (x, rw is at t.told, first_slot old.goal (value h) old.trail.node.0) refl
+
+-- behind the value of a key it waits for the high half of that
+pub turn_value : (c : Call) (h : History) (old now : WalkRun) (turn : Turn Found) (head : HeadParts) (more : ℕ) (slot : Slot) (key found : ℕ) → old.at ≡ Value head more slot key → WalkIsTold old c h found → WalkAsks old now turn (High head more slot key found) (walk_step old (High head more slot key found)) → WalkTurn c h now turn
+turn_value c h old now turn head more slot key found is t a =
+    let x : WalkKnows c h old (Value head more slot key) = subst (WalkKnows c h old) is t.known in
+    waits_at c h old now turn (High head more slot key found) (walk_step old (High head more slot key found)) (stands_by old c h found t x.0.trail) a (x.0, x.1, x.2, x.3, x.4, rw is at t.told) refl
+
+-- which is the last that it is told
+pub turn_high : (c : Call) (h : History) (old now : WalkRun) (turn : Turn Found) (head : HeadParts) (more : ℕ) (slot : Slot) (key low found : ℕ) → old.at ≡ High head more slot key low → WalkIsTold old c h found → WalkEnds old now turn head more key (Some (wide_value low found)) → WalkTurn c h now turn
+turn_high c h old now turn head more slot key low found is t a =
+    let x : WalkKnows c h old (High head more slot key low) = subst (WalkKnows c h old) is t.known in
+    ends_with c h old now turn head more slot key (stands_by old c h found t x.0.trail) x.0 x.1 x.2 x.3 x.4 low found x.5 (rw is at t.told) a
 
 -- Its steps
 
 -- what is left at a node is no more than was left as its head was asked for
-pub nearer_root : (turn : Turn Found) (nodes deep left : ℕ) → MatchTurn turn (λ _. left < 3 * (2 + nodes - deep) - 1) (λ _. Unit {0}) → MatchTurn turn (λ _. left < 3 * (2 + nodes) - 1) (λ _. Unit {0})
+pub nearer_root : (turn : Turn Found) (nodes deep left : ℕ) → MatchTurn turn (λ _. left < 3 * (2 + nodes - deep) + 4) (λ _. Unit {0}) → MatchTurn turn (λ _. left < 3 * (2 + nodes) + 4) (λ _. Unit {0})
 nearer_root (Ask s) nodes deep left x = omega (arith, x)
 nearer_root (Done f) nodes deep left x = tt
 
-pub nearer_below : (turn : Turn Found) (nodes above deep left : ℕ) → above < deep → MatchTurn turn (λ _. left < 3 * (2 + nodes - deep) - 1) (λ _. Unit {0}) → MatchTurn turn (λ _. left < 3 * (1 + nodes - above) - 1) (λ _. Unit {0})
+pub nearer_below : (turn : Turn Found) (nodes above deep left : ℕ) → above < deep → MatchTurn turn (λ _. left < 3 * (2 + nodes - deep) + 4) (λ _. Unit {0}) → MatchTurn turn (λ _. left < 3 * (1 + nodes - above) + 4) (λ _. Unit {0})
 nearer_below (Ask s) nodes above deep left rises x = omega (arith, rises, x)
 nearer_below (Done f) nodes above deep left rises x = tt

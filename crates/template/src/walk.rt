@@ -5,6 +5,7 @@ use crate::shape::Tree;
 use arena::{
     Access, Head, Kind, Machine, NodeNo, NodeWord, SettledPart, Side, Slot, Step, Turn, Word,
 };
+use ordered_map::{slot_behind, wide_value};
 
 /// The last nodes of a walk: the node that it has come to, and the two forks above it with the sides
 /// to which it has gone there. A walk that stands at the root has no fork above it, and one that
@@ -26,13 +27,43 @@ pub enum WalkAt {
     /// The load of the root's head.
     Root,
     /// The load of the head of a node that is below a fork of the level `above`.
-    Head { above: u64 },
-    /// The load of the key of a node of class 0.
-    Key { head: Head },
+    Head {
+        above: u64,
+    },
+    /// The load of the key of a fork of class 0.
+    Key {
+        head: Head,
+    },
     /// The load of a field of a fork of this level.
-    Child { level: u64, side: Side },
-    /// The load of the value of a leaf that has this key.
-    Value { head: Head, key: u64 },
+    Child {
+        level: u64,
+        side: Side,
+    },
+    /// The load of how many pairs a leaf of class 0 has behind its first.
+    More {
+        head: Head,
+    },
+    /// The load of the key in this slot of a leaf that has so many pairs behind its first.
+    Pair {
+        head: Head,
+        more: u64,
+        slot: Slot,
+    },
+    /// The load of the value in this slot, of which the key is this one, without its high half.
+    Value {
+        head: Head,
+        more: u64,
+        slot: Slot,
+        key: u64,
+    },
+    /// The load of the high half of that value, of which this is the rest.
+    High {
+        head: Head,
+        more: u64,
+        slot: Slot,
+        key: u64,
+        low: u64,
+    },
 }
 
 /// To which leaf a walk goes.
@@ -44,21 +75,25 @@ pub enum Goal {
     Least,
 }
 
-/// The leaf at which a walk has ended: its head, its key if it is of class 0 (else 0), and its value
-/// if its key is the walk's, or the walk goes to the least.
+/// The leaf at which a walk has ended: its head, and how many pairs it has behind its first, 0 if it is
+/// above all keys; the key of which the walk tells what the leaf says, and the value of that, if it has
+/// one. It is the walk's own key, or, of a walk to the least, the first of the leaf, and 0 above all
+/// keys.
 #[derive(Clone, Copy, Debug, PartialEq, Eq)]
 pub struct Found {
     pub trail: Trail,
     pub head: Head,
+    pub more: u64,
     pub key: u64,
-    pub value: Option<u64>,
+    pub value: Option<u128>,
 }
 
 /// A walk from the root to the leaf where a key stands, or would stand, or to the first leaf. On its
-/// way to a key it loads of each fork the head, the key if that is of class 0, and a field; of the
-/// leaf the head, the key if that is of class 0, and the value if that key is the walk's. On its way
-/// to the first leaf it loads of each fork the head and the left field; of the leaf the head, and
-/// the key and the value if they are of class 0.
+/// way to a key it loads of each fork the head, the key if that is of class 0, and a field; on its way
+/// to the first leaf the head and the left field. Of the leaf it loads the head, and, if that is of
+/// class 0, how many pairs it has behind its first, the keys by rising order up to the first that is
+/// not below the walk's, and the two words of the value if that key is the walk's; of the first leaf
+/// the first key and its value.
 #[derive(Clone, Copy, Debug, PartialEq, Eq)]
 pub struct WalkRun {
     /// Where it goes.
@@ -73,22 +108,22 @@ impl WalkRun {
     ghost use Rattle.std.specs.Prelude.{◌≡◌, ℕ, ◌+◌, ◌-◌, ◌*◌, ◌^◌, ◌<◌, ◌≤◌, true, false, if◌then◌else◌, ◌==◌, nat_lt};
     ghost use Rattle.arena.specs.Heads.{head_of};
     ghost use Rattle.arena.specs.declared.word.NodeWord.TheVariants.{Settled, Child as ChildWord};
-    ghost use Rattle.arena.specs.declared.word.SettledPart.TheVariants.{Head as HeadWord};
+    ghost use Rattle.arena.specs.declared.word.SettledPart.TheVariants.{Head as HeadWord, More as MoreWord, Key as KeyWord};
     ghost use Rattle.arena.specs.Words.{first_key};
     ghost use Rattle.arena.specs.History.{History, value};
     ghost use Rattle.arena.specs.Machines.{MatchTurn, Call};
     ghost use Rattle.ordered_map.specs.TreeWords.{is_leaf, level, toward};
     ghost use Rattle.template.specs.FoundLeaf.{path_key, asked_key};
     ghost use Rattle.template.specs.Walk.Steps.{walk_left};
-    ghost use Rattle.template.specs.Walk.Known.{asks_key, WalkAsks, WalkEnds, WalkStands, WalkTurn, here};
+    ghost use Rattle.template.specs.Walk.Known.{asks_key, WalkAsks, WalkEnds, WalkStands, WalkStandsAtLeaf, IsSlotFor, WalkTurn, here};
 
     /// A walk that has not begun. It asks for at most three steps for each node that has been taken
-    /// when it ends, and for six more.
+    /// when it ends, and for eleven more.
     pub fn new(goal: Goal) -> WalkRun
         ensures goal { result.goal ≡ goal }
         ensures start { result.at ≡ WalkAt.Start }
         ensures root { result.trail.node.0 ≡ 0 }
-        ensures bound { (nodes : ℕ) → walk_left result.at nodes ≤ 3 * (2 + nodes) }
+        ensures bound { (nodes : ℕ) → walk_left result.at nodes ≤ 3 * (2 + nodes) + 5 }
     {
         let root = NodeNo(0);
         let side = Side::Left;
@@ -115,10 +150,18 @@ impl WalkRun {
         Turn::Ask(Step { kind, word, access })
     }
 
-    fn load_settled(&mut self, at: WalkAt, part: NodeWord) -> Turn<Found>
-        ensures { WalkAsks self.old self.new result at record { kind = Kind.LoadSettled; word = Word.Node self.old.trail.node part; access = Access.Load } }
+    fn load_settled(&mut self, at: WalkAt, part: SettledPart) -> Turn<Found>
+        ensures { WalkAsks self.old self.new result at record { kind = Kind.LoadSettled; word = Word.Node self.old.trail.node (Settled part); access = Access.Load } }
     {
-        self.load(at, Kind::LoadSettled, part)
+        self.load(at, Kind::LoadSettled, NodeWord::Settled(part))
+    }
+
+    /// Asks for the key in a slot of a leaf.
+    fn load_key(&mut self, head: Head, more: u64, slot: Slot) -> Turn<Found>
+        ensures { WalkAsks self.old self.new result (WalkAt.Pair head more slot)
+            record { kind = Kind.LoadSettled; word = Word.Node self.old.trail.node (Settled (KeyWord slot)); access = Access.Load } }
+    {
+        self.load_settled(WalkAt::Pair { head, more, slot }, SettledPart::Key(slot))
     }
 
     /// Asks for a field of a fork of this level.
@@ -131,26 +174,27 @@ impl WalkRun {
     }
 
     /// Ends at the node that it has come to.
-    fn end(&mut self, head: Head, key: u64, value: Option<u64>) -> Turn<Found>
-        ensures { WalkEnds self.old self.new result head key value }
+    fn end(&mut self, head: Head, more: u64, key: u64, value: Option<u128>) -> Turn<Found>
+        ensures { WalkEnds self.old self.new result head more key value }
     {
         let trail = self.trail;
         Turn::Done(Found {
             trail,
             head,
+            more,
             key,
             value,
         })
     }
 
-    /// Whether the walk loads the key of a node with this head: where it goes at a fork of class 0
-    /// depends on its key, unless it always goes left.
+    /// Whether the walk loads the key of a fork with this head: where it goes at one of class 0 depends
+    /// on its key, unless it always goes left.
     fn asks_key(&self, head: Head) -> bool
         ensures { result ≡ asks_key self.now.goal head }
     {
         match self.goal {
             Goal::Key(_) => head.class == 0,
-            Goal::Least => head.class == 0 && head.leaf,
+            Goal::Least => false,
         }
     }
 
@@ -169,13 +213,13 @@ impl WalkRun {
         }
     }
 
-    /// Whether the walk tells the value of a leaf of class 0 with this key.
-    fn asks_value(&self, key: u64) -> bool
-        ensures { result ≡ (asked_key self.now.goal key == key) }
+    /// The key of which the walk tells at a leaf that has this first key.
+    fn asked_key(&self, first: u64) -> u64
+        ensures { result ≡ asked_key self.now.goal first }
     {
         match self.goal {
-            Goal::Key(wanted) => wanted == key,
-            Goal::Least => true,
+            Goal::Key(wanted) => wanted,
+            Goal::Least => first,
         }
     }
 
@@ -184,37 +228,55 @@ impl WalkRun {
         ensures turn { (c : Call) (h : History) → WalkStands self.old c h → head_of (here h self.old (Settled HeadWord)) ≡ head → WalkTurn c h self.new result }
         ensures same { self.new.goal ≡ self.old.goal }
         ensures nearer { (nodes : ℕ) → head.level < 2 + nodes
-            → MatchTurn result (λ _. walk_left self.new.at nodes < 3 * (2 + nodes - head.level) - 1) (λ _. Unit {0}) }
+            → MatchTurn result (λ _. walk_left self.new.at nodes < 3 * (2 + nodes - head.level) + 4) (λ _. Unit {0}) }
     {
-        if self.asks_key(head) {
-            self.load_settled(
-                WalkAt::Key { head },
-                NodeWord::Settled(SettledPart::Key(Slot::First)),
-            )
-        } else if head.leaf {
-            self.end(head, 0, None)
+        if head.leaf {
+            self.read_leaf(head)
+        } else if self.asks_key(head) {
+            self.load_settled(WalkAt::Key { head }, SettledPart::Key(Slot::First))
         } else {
             self.load_child(head.level, Side::Left)
         }
     }
 
-    /// Goes on with the key of a node of class 0.
-    fn read_key(&mut self, head: Head, key: u64) -> Turn<Found>
-        ensures turn { (c : Call) (h : History) → WalkStands self.old c h → head_of (here h self.old (Settled HeadWord)) ≡ head
-            → head.class ≡ 0 → here h self.old first_key ≡ key → WalkTurn c h self.new result }
+    /// Goes on with the head of a leaf: one above all keys has no pair.
+    fn read_leaf(&mut self, head: Head) -> Turn<Found>
+        requires { head.leaf ≡ true }
+        ensures turn { (c : Call) (h : History) → WalkStands self.old c h → head_of (here h self.old (Settled HeadWord)) ≡ head → WalkTurn c h self.new result }
         ensures same { self.new.goal ≡ self.old.goal }
         ensures nearer { (nodes : ℕ) → head.level < 2 + nodes
-            → MatchTurn result (λ _. walk_left self.new.at nodes < walk_left (WalkAt.Key head) nodes) (λ _. Unit {0}) }
+            → MatchTurn result (λ _. walk_left self.new.at nodes < 3 * (2 + nodes - head.level) + 4) (λ _. Unit {0}) }
     {
-        if !head.leaf {
-            self.load_child(head.level, self.side(key))
-        } else if self.asks_value(key) {
-            self.load_settled(
-                WalkAt::Value { head, key },
-                NodeWord::Settled(SettledPart::Value(Slot::First)),
-            )
+        if head.class == 0 {
+            self.load_settled(WalkAt::More { head }, SettledPart::More)
         } else {
-            self.end(head, key, None)
+            self.end(head, 0, self.asked_key(0), None)
+        }
+    }
+
+    /// Goes on with the key in a slot of a leaf of class 0: where it is below the walk's own, with the
+    /// next one, if there is one.
+    fn read_pair(&mut self, head: Head, more: u64, slot: Slot, key: u64) -> Turn<Found>
+        ensures turn { (c : Call) (h : History) → WalkStands self.old c h → WalkStandsAtLeaf c h self.old.goal self.old.trail head
+            → here h self.old (Settled MoreWord) ≡ more → IsSlotFor self.old.goal (value h) self.old.trail.node.0 slot
+            → here h self.old (Settled (KeyWord slot)) ≡ key → WalkTurn c h self.new result }
+        ensures same { self.new.goal ≡ self.old.goal }
+        ensures nearer { (nodes : ℕ) → head.level < 2 + nodes
+            → MatchTurn result (λ _. walk_left self.new.at nodes < walk_left (WalkAt.Pair head more slot) nodes) (λ _. Unit {0}) }
+    {
+        let asked = self.asked_key(key);
+        if asked == key {
+            let at = WalkAt::Value {
+                head,
+                more,
+                slot,
+                key,
+            };
+            return self.load_settled(at, SettledPart::Value(slot));
+        }
+        match slot_behind(more, slot) {
+            Some(next) if key < asked => self.load_key(head, more, next),
+            _ => self.end(head, more, asked, None),
         }
     }
 
@@ -236,7 +298,7 @@ impl WalkRun {
             side,
             node: NodeNo(child),
         };
-        self.load_settled(WalkAt::Head { above }, NodeWord::Settled(SettledPart::Head))
+        self.load_settled(WalkAt::Head { above }, SettledPart::Head)
     }
 }
 
@@ -265,12 +327,35 @@ impl Machine<Tree> for WalkRun {
     fn next(&mut self, got: Option<u64>) -> Turn<Found> {
         let found = got.unwrap_or(0);
         match self.at {
-            WalkAt::Start => self.load_settled(WalkAt::Root, NodeWord::Settled(SettledPart::Head)),
+            WalkAt::Start => self.load_settled(WalkAt::Root, SettledPart::Head),
             WalkAt::Root => self.read_head(Head::of(found)),
             WalkAt::Head { above: _ } => self.read_head(Head::of(found)),
-            WalkAt::Key { head } => self.read_key(head, found),
+            WalkAt::Key { head } => self.load_child(head.level, self.side(found)),
             WalkAt::Child { level, side } => self.go_down(level, side, found),
-            WalkAt::Value { head, key } => self.end(head, key, Some(found)),
+            WalkAt::More { head } => self.load_key(head, found, Slot::First),
+            WalkAt::Pair { head, more, slot } => self.read_pair(head, more, slot, found),
+            WalkAt::Value {
+                head,
+                more,
+                slot,
+                key,
+            } => {
+                let at = WalkAt::High {
+                    head,
+                    more,
+                    slot,
+                    key,
+                    low: found,
+                };
+                self.load_settled(at, SettledPart::High(slot))
+            }
+            WalkAt::High {
+                head,
+                more,
+                slot: _,
+                key,
+                low,
+            } => self.end(head, more, key, Some(wide_value(low, found))),
         }
     }
 

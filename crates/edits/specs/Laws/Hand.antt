@@ -1,7 +1,6 @@
 -- Several fresh nodes in hand: what a pass knows of them while it fills them one after the other,
 -- and which rows leave that.
-use Rattle.std.proofs.Common.{◌≡◌, ◌≢◌, ℕ, ◌<◌, ◌≤◌, ◌⊎◌, Bool, true, false, List, [], suc, arith, inl, inr, ⊎_elim, refl, sym, ◌∙◌, ap, subst}
-use Rattle.std.specs.Prelude.{if◌then◌else◌}
+use Rattle.std.proofs.Common.{◌≡◌, ◌≢◌, ℕ, ◌<◌, ◌≤◌, ◌⊎◌, Bool, true, false, suc, arith, inl, inr, ⊎_elim, refl, sym, ◌∙◌, ap, subst}
 use Rattle.arena.specs.declared.layout.Layout.{Layout}
 use Rattle.arena.specs.declared.step.Row.{Row}
 use Rattle.arena.specs.declared.step.Kind.TheVariants.{Fill}
@@ -21,10 +20,10 @@ use Rattle.prims.specs.Moments.{AreFinished}
 use Rattle.prims.specs.Laws.Begun.{takes_by_others, takes_by_node, takes_by_step}
 use Rattle.prims.specs.Shares.{IsShare}
 use Rattle.prims.proofs.Lemmas.{left_own_node, over_more, share_by_others, share_by_step}
-use Rattle.edits.specs.declared.edit.Piece.{Piece}
-use Rattle.edits.specs.Pieces.{WordFill, filled_word, fills_of, fills_word, made_before, made_with}
+use Rattle.edits.specs.declared.piece.Piece.{Piece}
+use Rattle.edits.specs.Pieces.{fill_place, word_of}
 use Rattle.edits.specs.Laws.NodeFills.{named_before, others_stay, same_stays}
-use Rattle.edits.specs.Laws.PieceFills.{HoldsFills, one_fill_more, part_same}
+use Rattle.edits.specs.Laws.PieceFills.{IsUnfilled, HoldsBefore, HoldsUpTo, HoldsWords, other_place, part_same}
 
 -- What is known
 
@@ -45,8 +44,8 @@ pub record HasFilledTo (lay : Layout) (h : History) (c : ℕ) (left : Remaining)
   pub next : left.next_node ≡ suc top
   pub over : AreFinished lay c 0 h
   pub taken : (k : ℕ) → first ≤ k → k < n → k ≤ top → IsTakenNode h k
-  pub full : (k : ℕ) → first ≤ k → k < n → k ≤ top → HoldsFills h k (fills_of (piece k))
-  pub blank : (k : ℕ) → first ≤ k → n < k → k ≤ top → HoldsFills h k []
+  pub full : (k : ℕ) → first ≤ k → k < n → k ≤ top → HoldsWords h k (piece k)
+  pub blank : (k : ℕ) → first ≤ k → n < k → k ≤ top → IsUnfilled h k
 
 -- what a field of a fresh node may get: another one in hand below the top, or a node that a field
 -- has named
@@ -146,12 +145,19 @@ module _ (lay : Layout) (h : History) (r : Row) (c : ℕ) (left : Remaining) (fi
   }
 
   -- and so do the words of this node but the one that is stored
-  pub words_more : (xs : List WordFill) → fills_word xs part ≡ true → r.after ≡ filled_word xs part → HoldsFills h n (made_before xs part) → HoldsFills (r ⊳ h) n (made_with xs part)
-  words_more xs among stored y q i = go (same_node_word part q) refl ∙ sym (one_fill_more xs part q among)
+  pub words_more : (p : Piece) → r.after ≡ word_of p part → HoldsBefore h n p part → HoldsUpTo (r ⊳ h) n p part
+  words_more p stored y = record { done = λ q i a. done q i a (same_node_word part q) refl; blank = λ q i a. blank q i a (same_node_word part q) refl }
     where
-      go : (t : Bool) → same_node_word part q ≡ t → value (r ⊳ h) (node n q) ≡ (if same_node_word part q then filled_word xs part else filled_word (made_before xs part) q)
-      go true t = rw t (subst (λ w. value (r ⊳ h) (node n w) ≡ filled_word xs part) (part_same part q t) (value_at r h (node n part) word ∙ stored))
-      go false t = rw t (same_stays lay h r n part word fill unnamed_here q t ∙ y q i)
+      here : (q : NodeWord) → same_node_word part q ≡ true → value (r ⊳ h) (node n q) ≡ word_of p q
+      here q t = subst (λ w. value (r ⊳ h) (node n w) ≡ word_of p w) (part_same part q t) (value_at r h (node n part) word ∙ stored)
+
+      done : (q : NodeWord) → IsNodeFill q → fill_place q ≤ fill_place part → (t : Bool) → same_node_word part q ≡ t → value (r ⊳ h) (node n q) ≡ word_of p q
+      done q i a true t = here q t
+      done q i a false t = same_stays lay h r n part word fill unnamed_here q t ∙ y.done q i (let d = other_place part q t in omega (arith, a, d))
+
+      blank : (q : NodeWord) → IsNodeFill q → fill_place part < fill_place q → (t : Bool) → same_node_word part q ≡ t → value (r ⊳ h) (node n q) ≡ 0
+      blank q i a true t = absurd (let e : fill_place part ≡ fill_place q = ap fill_place (part_same part q t) in omega (arith, a, e))
+      blank q i a false t = same_stays lay h r n part word fill unnamed_here q t ∙ y.blank q i (omega (arith, a))
 
   -- this node is taken
   pub taken_now : IsTakenNode (r ⊳ h) n
@@ -185,8 +191,17 @@ may_fill lay h c left first top n piece part v fill from to may x = go part fill
 
 module _ (lay : Layout) (h : History) (r : Row) (c : ℕ) (left : Remaining) (first top : ℕ) (piece : ℕ → Piece)
     (is_pass : c < lay.passes) (l : Lawful lay (r ⊳ h)) (other : r.pass.0 ≢ c) where
-  pub words_by_others : (n : ℕ) (made : List WordFill) → HasHand lay h c first top → first ≤ n → n ≤ top → HoldsFills h n made → HoldsFills (r ⊳ h) n made
-  words_by_others n made x i j y q a = unnamed_stays lay h r c l is_pass other n q (x.own n i j) (x.unnamed n i j) ∙ y q a
+  word_by_others : (n : ℕ) → HasHand lay h c first top → first ≤ n → n ≤ top → (q : NodeWord) → value (r ⊳ h) (node n q) ≡ value h (node n q)
+  word_by_others n x i j q = unnamed_stays lay h r c l is_pass other n q (x.own n i j) (x.unnamed n i j)
+
+  pub words_by_others : (n : ℕ) (p : Piece) → HasHand lay h c first top → first ≤ n → n ≤ top → HoldsWords h n p → HoldsWords (r ⊳ h) n p
+  words_by_others n p x i j y q a = word_by_others n x i j q ∙ y q a
+
+  pub before_by_others : (n : ℕ) (p : Piece) (part : NodeWord) → HasHand lay h c first top → first ≤ n → n ≤ top → HoldsBefore h n p part → HoldsBefore (r ⊳ h) n p part
+  before_by_others n p part x i j y = record { done = λ q a b. word_by_others n x i j q ∙ y.done q a b; blank = λ q a b. word_by_others n x i j q ∙ y.blank q a b }
+
+  pub blank_by_others : (n : ℕ) → HasHand lay h c first top → first ≤ n → n ≤ top → IsUnfilled h n → IsUnfilled (r ⊳ h) n
+  blank_by_others n x i j y q a = word_by_others n x i j q ∙ y q a
 
   pub by_others : (n : ℕ) → HasFilledTo lay h c left first top n piece → HasFilledTo lay (r ⊳ h) c left first top n piece
   by_others n x = record {
@@ -201,8 +216,8 @@ module _ (lay : Layout) (h : History) (r : Row) (c : ℕ) (left : Remaining) (fi
     next = x.next;
     over = over_more lay c 0 h r l (takes_by_others lay c 0 h r l other) x.over;
     taken = λ k i j t. taken_node_more r h k (x.taken k i j t);
-    full = λ k i j t. words_by_others k (fills_of (piece k)) x.hand i t (x.full k i j t);
-    blank = λ k i j t. words_by_others k [] x.hand i t (x.blank k i j t);
+    full = λ k i j t. words_by_others k (piece k) x.hand i t (x.full k i j t);
+    blank = λ k i j t. blank_by_others k x.hand i t (x.blank k i j t);
   }
 
 -- A row that changes nothing and is no fill: a load
@@ -231,7 +246,7 @@ by_load lay h r c left first top n piece l no_fill same x = record {
 
 -- Behind the last word of a node
 
-pub filled_next : (lay : Layout) (h : History) (c : ℕ) (left : Remaining) (first top n : ℕ) (piece : ℕ → Piece) → IsTakenNode h n → HoldsFills h n (fills_of (piece n)) → HasFilledTo lay h c left first top n piece → HasFilledTo lay h c left first top (suc n) piece
+pub filled_next : (lay : Layout) (h : History) (c : ℕ) (left : Remaining) (first top n : ℕ) (piece : ℕ → Piece) → IsTakenNode h n → HoldsWords h n (piece n) → HasFilledTo lay h c left first top n piece → HasFilledTo lay h c left first top (suc n) piece
 filled_next lay h c left first top n piece t w x = record {
   some = x.some;
   hand = x.hand;
@@ -239,7 +254,7 @@ filled_next lay h c left first top n piece t w x = record {
   next = x.next;
   over = x.over;
   taken = λ k i j b. ⊎_elim (λ e. x.taken k i e b) (λ e. rw e t) (less k j);
-  full = λ k i j b. ⊎_elim (λ e. x.full k i e b) (λ e. subst (λ m. HoldsFills h m (fills_of (piece m))) (sym e) w) (less k j);
+  full = λ k i j b. ⊎_elim (λ e. x.full k i e b) (λ e. subst (λ m. HoldsWords h m (piece m)) (sym e) w) (less k j);
   blank = λ k i j t. x.blank k i (omega (arith, j)) t;
 }
   where

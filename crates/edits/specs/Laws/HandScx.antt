@@ -20,7 +20,7 @@ use Rattle.prims.specs.declared.scx.ScxRun.{ScxRun}
 use Rattle.prims.specs.declared.scx.ScxAt.TheVariants.{Start}
 use Rattle.prims.proofs.Lemmas.{left_own_scx}
 use Rattle.ordered_map.specs.TreeShape.{TreeAllows}
-use Rattle.edits.specs.declared.edit.Piece.{Piece}
+use Rattle.edits.specs.declared.piece.Piece.{Piece}
 use Rattle.edits.specs.Laws.Hand.{HasFilledTo}
 
 module _ (c : Call) (h : History) (left : Remaining) (first top : ℕ) (piece : ℕ → Piece) (m : ScxRun) (l : Lawful c.layout h)

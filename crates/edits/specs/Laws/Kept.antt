@@ -1,10 +1,14 @@
 -- What an update knows stays true after any row.
-use Rattle.std.proofs.Common.{◌≡◌, ◌≢◌, ℕ, Some, None, Option, List, inr, sym, ◌∙◌}
+use Rattle.std.proofs.Common.{◌≡◌, ◌≢◌, ℕ, Some, None, Option, List, ◌++◌, inr, refl, sym, ◌∙◌, ap}
+use Rattle.std.specs.Prelude.{IfSome}
+use Rattle.arena.specs.declared.number.NodeNo.{NodeNo}
 use Rattle.arena.specs.declared.step.Row.{Row}
 use Rattle.arena.specs.declared.step.Kind.TheVariants.{Fill}
 use Rattle.arena.specs.declared.word.NodeWord.TheVariants.{Settled}
-use Rattle.arena.specs.Words.{first_key, first_value}
-use Rattle.arena.specs.declared.word.SettledPart.TheVariants.{Head}
+use Rattle.arena.specs.declared.word.SettledPart.TheVariants.{Head as HeadPart, More, Key, Value}
+use Rattle.arena.specs.declared.word.Slot.{Slot}
+use Rattle.arena.specs.declared.word.Word.{Word}
+use Rattle.arena.specs.Heads.{head_of}
 use Rattle.arena.specs.History.{History, ◌⊳◌, value}
 use Rattle.arena.specs.Lawful.{Lawful}
 use Rattle.arena.specs.Machines.{IsRun, Call}
@@ -15,18 +19,19 @@ use Rattle.prims.specs.Laws.Idle.{IsIdle, IsQuietSince, quiet_more, idle_if_fini
 use Rattle.prims.specs.Shares.{IsUsable}
 use Rattle.prims.specs.declared.snap.Snap.{Snap}
 use Rattle.prims.proofs.Lemmas.{over_more, share_by_others, share_by_step, usable_now, usable_since}
+use Rattle.ordered_map.specs.Holding.{held_behind}
 use Rattle.ordered_map.specs.Runs.{IsTreeRun}
 use Rattle.ordered_map.specs.TreeShape.{TreeAllows}
-use Rattle.ordered_map.proofs.Lemmas.{SameSettled}
-use Rattle.template.specs.FoundLeaf.{path_key, asked_key}
+use Rattle.ordered_map.proofs.Lemmas.{SameSettled, held_same, same_from}
 use Rattle.template.specs.declared.walk.Found.{Found}
 use Rattle.template.specs.declared.walk.Goal.{Goal}
-use Rattle.edits.specs.declared.edit.Loaded.{Loaded}
+use Rattle.template.proofs.Lemmas.{found_more}
 use Rattle.edits.specs.declared.edit.Nth.{Nth}
+use Rattle.edits.specs.declared.reading.Reading.{Reading}
 use Rattle.edits.specs.declared.update.UpdateRun.{UpdateRun}
 use Rattle.edits.specs.Edits.{EditMeaning}
-use Rattle.template.proofs.Lemmas.{found_more}
-use Rattle.edits.specs.Known.{RestsWith, HasSnappedAfterWalk, AreUsable, IsLoaded, AreLoaded, HasLooked, WorksAtNode, copied}
+use Rattle.edits.specs.Known.{RestsWith, HasSnappedAfterWalk, AreUsable, HasLooked, MayRead, MayReadAt, WorksAtNode}
+use Rattle.edits.specs.Readings.{IsRead, slot_read}
 
 -- a pass at rest is idle
 pub idle_rests : (c : Call) (h : History) (left : Remaining) → Lawful c.layout h → RestsWith c h left → IsIdle c.layout c.pass h
@@ -58,23 +63,43 @@ snapped_usable c h goal f snap l x = usable_since c.layout h x.moment snap x.mom
 pub usable_more : (c : Call) (h : History) (r : Row) (goal : Goal) (f : Found) (snaps : List Snap) → AreUsable c h goal f snaps → AreUsable c (r ⊳ h) goal f snaps
 usable_more c h r goal f snaps x i p = let u = x i p in record { moment = u.moment; within = inr u.within; since = u.since; found = u.found; is = u.is; met = u.met }
 
-loaded_word : (o : Option ℕ) (v w : ℕ) → w ≡ v → IsLoaded o v → IsLoaded o w
-loaded_word None v w e x = tt
-loaded_word (Some u) v w e x = x ∙ sym e
+-- what is read of a named node is what it holds for ever
+module _ (b f : Word → ℕ) (n : ℕ) (same : SameSettled b f n) where
+  same_option : {A : Type 0} (o : Option A) (P Q : A → Type 0) → ((x : A) → P x → Q x) → IfSome o P → IfSome o Q
+  same_option None P Q go x = tt
+  same_option (Some v) P Q go x = go v x
 
--- and so are the words that were loaded of a named node
-pub loaded_more : (c : Call) (h : History) (r : Row) (n : ℕ) (ld : Loaded) → Lawful c.layout (r ⊳ h) → SameSettled (value h) (value (r ⊳ h)) n → AreLoaded (value h) n ld → AreLoaded (value (r ⊳ h)) n ld
-loaded_more c h r n ld l same x = record {
-  head = loaded_word ld.head _ _ (same (Settled Head) tt) x.head;
-  key = loaded_word ld.key _ _ (same first_key tt) x.key;
-  value = loaded_word ld.value _ _ (same first_value tt) x.value;
+  same_behind : (o : Option Slot) → held_behind f n o ≡ held_behind b n o
+  same_behind None = refl
+  same_behind (Some slot) = same_from b f n slot same
+
+  pub read_same : (read : Reading) → IsRead b n read → IsRead f n read
+  read_same read x = record {
+    head = same_option read.head _ _ (λ v e. ap head_of (same (Settled HeadPart) tt) ∙ e) x.head;
+    more = same_option read.more _ _ (λ v e. same (Settled More) tt ∙ e) x.more;
+    key = same_option read.key _ _ (λ v e. same (Settled (Key (slot_read read))) tt ∙ e) x.key;
+    low = same_option read.low _ _ (λ v e. same (Settled (Value (slot_read read))) tt ∙ e) x.low;
+    pairs = ap (λ ps. read.pairs ++ ps) (same_behind read.slot) ∙ x.pairs ∙ sym (held_same b f n same);
+    count = x.count;
+    first = x.first;
+  }
+
+pub may_read_more : (c : Call) (h : History) (r : Row) (n : ℕ) (read : Reading) → Lawful c.layout (r ⊳ h) → MayRead c.layout h n read → MayRead c.layout (r ⊳ h) n read
+may_read_more c h r n read l x = record {
+  named = named_more r x.named;
+  inside = x.inside;
+  is = read_same (value h) (value (r ⊳ h)) n (λ part i. node_stays c.layout h r n part l i x.named) read x.is;
 }
+
+pub read_more : (c : Call) (h : History) (r : Row) (o : Option (NodeNo × Reading)) (read : Reading) → Lawful c.layout (r ⊳ h) → MayReadAt c.layout h o read → MayReadAt c.layout (r ⊳ h) o read
+read_more c h r None read l x = tt
+read_more c h r (Some y) read l x = may_read_more c h r y.0.0 read l x
 
 module _ {E : Type 0} (e : EditMeaning E) where
   pub looked_more : (c : Call) (h : History) (r : Row) (ed : E) (f : Found) (snaps : List Snap) → IsTreeRun c.layout h → IsRun TreeAllows c.layout (r ⊳ h) → HasLooked e c h ed f snaps → HasLooked e c (r ⊳ h) ed f snaps
   looked_more c h r ed f snaps g run x = record {
     small = x.small;
-    found = found_more c h r (path_key (e.goal ed)) (asked_key (e.goal ed) f.key) f g run x.found;
+    found = found_more c h r (e.goal ed) f g run x.found;
     usable = usable_more c h r (e.goal ed) f snaps x.usable;
     seen = x.seen;
   }
@@ -89,8 +114,4 @@ module _ {E : Type 0} (e : EditMeaning E) where
     need = x.need;
     in_order = x.in_order;
     some = x.some;
-    named = named_more r x.named;
-    inside = x.inside;
-    loaded = loaded_more c h r (copied e m f) m.loaded run.lawful (λ part i. node_stays c.layout h r (copied e m f) part run.lawful i x.named) x.loaded;
-    before = x.before;
   }

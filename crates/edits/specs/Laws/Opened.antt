@@ -7,19 +7,20 @@ use Rattle.arena.specs.Machines.{Call}
 use Rattle.prims.specs.Llx.Known.{IsOpened}
 use Rattle.ordered_map.specs.Runs.{IsTreeRun}
 use Rattle.ordered_map.proofs.Lemmas.{walk_named, was_passed}
-use Rattle.template.specs.FoundLeaf.{HasEnded}
+use Rattle.template.specs.FoundLeaf.{HasFoundGoal, path_key}
 use Rattle.template.specs.Trails.{WasPassed}
 use Rattle.template.specs.declared.walk.Found.{Found}
+use Rattle.template.specs.declared.walk.Goal.{Goal}
 use Rattle.template.proofs.Lemmas.{found_below, opened_if_stood}
 
-module _ (c : Call) (h : History) (k : ℕ) (run : IsTreeRun c.layout h) where
-  passed_opened : (n : ℕ) → WasPassed c h k n → IsOpened c.layout h n
-  passed_opened n p = opened_if_stood c.layout h n run (was_passed h p.first k n p.passed)
+module _ (goal : Goal) (c : Call) (h : History) (run : IsTreeRun c.layout h) where
+  passed_opened : (n : ℕ) → WasPassed c h (path_key goal) n → IsOpened c.layout h n
+  passed_opened n p = opened_if_stood c.layout h n run (was_passed h p.first (path_key goal) n p.passed)
 
-  module _ {asked : ℕ} (f : Found) (a : HasEnded c h k asked f) where
+  module _ (f : Found) (a : HasFoundGoal goal c h f) where
     -- passes other than its owner may know the leaf
     pub found_named : IsNamed c.layout h f.trail.node.0
-    found_named = walk_named c.layout h a.trail.node.first k f.trail.node.0 run a.trail.node.passed
+    found_named = walk_named c.layout h a.trail.node.first (path_key goal) f.trail.node.0 run a.trail.node.passed
 
     -- an LLX may look at the leaf
     pub found_opened : IsOpened c.layout h f.trail.node.0
@@ -27,4 +28,4 @@ module _ (c : Call) (h : History) (k : ℕ) (run : IsTreeRun c.layout h) where
 
     -- and at its parent
     pub above_opened : IsOpened c.layout h f.trail.parent.0
-    above_opened = passed_opened f.trail.parent.0 (a.trail.parent (found_below k c h f run a)).passed
+    above_opened = passed_opened f.trail.parent.0 (a.trail.parent (found_below goal c h f run a)).passed

@@ -14,7 +14,7 @@ use Rattle.prims.specs.Llx.Known.{load}
 use Rattle.ordered_map.specs.Tries.{begins_try}
 use Rattle.template.specs.Walk.Places.{IsPastRoot}
 use Rattle.template.specs.declared.walk.WalkAt.{WalkAt}
-use Rattle.template.specs.declared.walk.WalkAt.TheVariants.{Start, Root, Head, Key, Child, Value}
+use Rattle.template.specs.declared.walk.WalkAt.TheVariants.{Start, Root, Head, Key, Child, More, Pair, Value, High}
 use Rattle.template.proofs.Lemmas.{contended_later, in_newest_more, in_newest_now, next_more, own_begins}
 use Rattle.edits.specs.Known.{IsUntouched}
 use Rattle.edits.specs.Tries.{HasEnteredNone, MayTry, IsTry, IsTryAt}
@@ -33,7 +33,10 @@ module _ (c : Call) (begin h : History) (r : Row) (limit left : ℕ) (none : beg
   try_at_more (Head above) x = try_more x
   try_at_more (Key head) x = try_more x
   try_at_more (Child level side) x = try_more x
-  try_at_more (Value head key) x = try_more x
+  try_at_more (More head) x = try_more x
+  try_at_more (Pair head more slot) x = try_more x
+  try_at_more (Value head more slot key) x = try_more x
+  try_at_more (High head more slot key low) x = try_more x
 
 -- behind the root's head the try has begun
 pub past_root : {c : Call} {begin h : History} {limit left : ℕ} (at : WalkAt) → IsPastRoot at → IsTry c begin h limit left → IsTryAt c begin h limit left at
@@ -42,7 +45,10 @@ past_root Root past x = absurd past
 past_root (Head above) past x = x
 past_root (Key head) past x = x
 past_root (Child level side) past x = x
-past_root (Value head key) past x = x
+past_root (More head) past x = x
+past_root (Pair head more slot) past x = x
+past_root (Value head more slot key) past x = x
+past_root (High head more slot key low) past x = x
 
 -- the load of the root's head begins one, where the pass has entered nothing yet
 pub try_begins : (c : Call) (begin h : History) (s : Step) (limit left : ℕ) → s ≡ load LoadSettled (node 0 (Settled HeadWord)) → Extends h c.start → HasEnteredNone c.layout c.pass h c.start → MayTry c begin h limit left → IsTry c h (row_of c s h ⊳ h) limit left

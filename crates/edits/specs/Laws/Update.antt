@@ -1,12 +1,14 @@
 -- The laws of updates: rows of others leave them waiting, their steps are lawful, and what they are
 -- told is so.
-use Rattle.std.proofs.Common.{◌≡◌, ◌≢◌, ℕ, ◌≤◌, false, Some, None, Option, List, [], length, inl, inr, refl, sym, ◌∙◌, ap, subst, arith}
+use Rattle.std.proofs.Common.{◌≡◌, ◌≢◌, ℕ, ◌≤◌, false, Some, None, Option, length, inl, inr, refl, sym, ◌∙◌, ap, subst, arith}
 use Rattle.arena.specs.declared.layout.Layout.{Layout}
 use Rattle.arena.specs.declared.step.Row.{Row}
 use Rattle.arena.specs.declared.step.Step.{Step}
 use Rattle.arena.specs.declared.step.Kind.TheVariants.{Fill as FillKind, LoadSettled}
 use Rattle.arena.specs.declared.word.NodeWord.{NodeWord}
 use Rattle.arena.specs.declared.word.NodeWord.TheVariants.{Settled, Child, Info, Marked}
+use Rattle.arena.specs.declared.number.NodeNo.{NodeNo}
+use Rattle.arena.specs.declared.word.SettledPart.{SettledPart}
 use Rattle.arena.specs.declared.word.SettledPart.TheVariants.{Head}
 use Rattle.arena.specs.History.{History, ◌⊳◌, value}
 use Rattle.arena.specs.Fills.{IsTakenNode}
@@ -38,23 +40,21 @@ use Rattle.template.specs.declared.walk.Goal.{Goal}
 use Rattle.template.specs.declared.walk.WalkAt.{WalkAt}
 use Rattle.template.specs.declared.walk.WalkAt.TheVariants as walks
 use Rattle.template.specs.declared.walk.WalkRun.{WalkRun}
-use Rattle.edits.specs.declared.edit.Need.{Need}
-use Rattle.edits.specs.declared.edit.Need.TheVariants.{Nothing, One, Three}
 use Rattle.edits.specs.declared.edit.Nth.{Nth}
-use Rattle.edits.specs.declared.edit.Nth.TheVariants.{First, Second, Third}
-use Rattle.edits.specs.declared.edit.Piece.{Piece}
+use Rattle.edits.specs.declared.edit.Nth.TheVariants.{First}
+use Rattle.edits.specs.declared.piece.Piece.{Piece}
 use Rattle.edits.specs.declared.update.UpdateAt.{UpdateAt}
-use Rattle.edits.specs.declared.update.UpdateAt.TheVariants.{Start, Walk, Look, Load, Fill, Scx}
+use Rattle.edits.specs.declared.update.UpdateAt.TheVariants.{Start, Walk, Look, Read, Fill, Scx}
 use Rattle.edits.specs.declared.update.UpdateRun.{UpdateRun}
 use Rattle.edits.specs.Edits.{EditMeaning}
 use Rattle.edits.specs.Steps.{HasScxForFill, UpdateFitsAt, UpdateFits}
-use Rattle.edits.specs.Pieces.{WordFill, HasPlace, fills_of, made_before, made_with, nth_node, word_of}
-use Rattle.edits.specs.Known.{IsNeeded, RestsWith, IsUntouched, AreFull, IsInHand, Looks, Loads, FillsPiece, Scxs, Walks, FirstOrLost, Tries, piece_fill_step, UpdateWaitsAt, UpdateIsToldAt, UpdateWaits, UpdateIsReady, piece, fills_here, top, copied}
-use Rattle.edits.specs.Laws.Hand.{HasFilledTo, IsForField, FieldMay, by_others, by_load, filled_to_more, words_by_others, words_more, taken_now, may_fill}
-use Rattle.edits.specs.Laws.Kept.{quiet_rests, rests_by_others, rests_by_step, looked_more, works_more}
+use Rattle.edits.specs.Pieces.{nth_node, word_of}
+use Rattle.edits.specs.Known.{RestsWith, IsUntouched, AreFull, Looks, Reads, FillsPiece, Scxs, Walks, WorksAtNode, FirstOrLost, Tries, piece_fill_step, UpdateWaitsAt, UpdateIsToldAt, UpdateWaits, UpdateIsReady, piece, piece_here, top}
+use Rattle.edits.specs.Laws.Hand.{HasFilledTo, IsForField, FieldMay, by_others, by_load, blank_by_others, before_by_others, filled_to_more, words_more, taken_now, may_fill}
+use Rattle.edits.specs.Laws.Kept.{quiet_rests, rests_by_others, rests_by_step, looked_more, may_read_more, read_more, works_more}
 use Rattle.edits.specs.Laws.Entered.{none_filled_more, none_joined, none_quiet, only_more}
 use Rattle.edits.specs.Laws.NodeFills.{fill_lawful}
-use Rattle.edits.specs.Laws.PieceFills.{HoldsFills, piece_fill}
+use Rattle.edits.specs.Laws.PieceFills.{HoldsBefore, HoldsUpTo, piece_fill}
 use Rattle.edits.specs.Laws.Trying.{try_more, try_at_more, try_begins, untouched_later}
 use Rattle.edits.specs.Tries.{MayTry, IsTry, IsTryAt}
 
@@ -92,8 +92,8 @@ module _ {E : Type 0} (e : EditMeaning E) where
   full_by_others : (m : UpdateRun E UpdateAt) (c : Call) (h : History) (r : Row) (f : Found) (nth : Nth) → IsRun TreeAllows c.layout (r ⊳ h) → r.pass.0 ≢ c.pass → HasFilledTo c.layout h c.pass m.share m.nodes.first.0 (top e m f) (nth_node m.nodes nth).0 (piece e m f) → HasFilledTo c.layout (r ⊳ h) c.pass m.share m.nodes.first.0 (top e m f) (nth_node m.nodes nth).0 (piece e m f)
   full_by_others m c h r f nth run other x = by_others c.layout h r c.pass m.share m.nodes.first.0 (top e m f) (piece e m f) c.is_pass run.lawful other (nth_node m.nodes nth).0 x
 
-  here_by_others : (m : UpdateRun E UpdateAt) (c : Call) (h : History) (r : Row) (f : Found) (nth : Nth) (made : List WordFill) → IsRun TreeAllows c.layout (r ⊳ h) → r.pass.0 ≢ c.pass → AreFull e m c h f nth → IsInHand e m f nth → HoldsFills h (nth_node m.nodes nth).0 made → HoldsFills (r ⊳ h) (nth_node m.nodes nth).0 made
-  here_by_others m c h r f nth made run other full hand x = words_by_others c.layout h r c.pass m.share m.nodes.first.0 (top e m f) (piece e m f) c.is_pass run.lawful other (nth_node m.nodes nth).0 made full.hand hand.lowest hand.highest x
+  works_by_others : (m : UpdateRun E UpdateAt) (c : Call) (h : History) (r : Row) (f : Found) (nth : Nth) → IsRun TreeAllows c.layout (r ⊳ h) → r.pass.0 ≢ c.pass → AreFull e m c h f nth → WorksAtNode e m c h f nth → WorksAtNode e m c (r ⊳ h) f nth
+  works_by_others m c h r f nth run other full x = works_more e m c h r f nth run (idle_if_finished c (r ⊳ h) run.lawful (full_by_others m c h r f nth run other full).over) x
 
   scxs_by_others : (m : UpdateRun E UpdateAt) (c : Call) (h : History) (r : Row) (f : Found) (scx : ScxRun) (begin : History) → IsRun TreeAllows c.layout (r ⊳ h) → r.pass.0 ≢ c.pass → Scxs e m c h f scx begin → Scxs e m c (r ⊳ h) f scx begin
   scxs_by_others m c h r f scx begin run other x = record {
@@ -121,14 +121,30 @@ module _ {E : Type 0} (e : EditMeaning E) where
   kept_at m c h s r Start run other w = w
   kept_at m c h s r (Walk walk) run other w = (walks_by_others m c h r walk.goal run other w.0, walk_keeps walk c h s r run other w.1)
   kept_at m c h s r (Look f llx) run other w = (w.0, looks_by_others m c h r f llx w.0 run other w.1, llx_keeps TreeAllows llx (begun_at c w.0) h s r run other w.2)
-  kept_at m c h s r (Load f nth part) run other w = (
-    record { works = works_more e m c h r f nth run (idle_if_finished c (r ⊳ h) run.lawful (full_by_others m c h r f nth run other w.0.full).over) w.0.works; full = full_by_others m c h r f nth run other w.0.full; hand = w.0.hand; blank = here_by_others m c h r f nth [] run other w.0.full w.0.hand w.0.blank; wanted = w.0.wanted; settled = w.0.settled },
+  kept_at m c h s r (Read f n part) run other w = (
+    record {
+      works = works_by_others m c h r f First run other w.0.full w.0.works;
+      full = full_by_others m c h r f First run other w.0.full;
+      hand = w.0.hand;
+      blank = blank_by_others c.layout h r c.pass m.share m.nodes.first.0 (top e m f) (piece e m f) c.is_pass run.lawful other m.nodes.first.0 w.0.full.hand w.0.hand.lowest w.0.hand.highest w.0.blank;
+      from = w.0.from;
+      is = w.0.is;
+      read = may_read_more c h r n.0 m.read run.lawful w.0.read;
+      next = w.0.next;
+    },
     w.1,
   )
   kept_at m c h s r (Fill f nth part) run other w = (
-    record { works = works_more e m c h r f nth run (idle_if_finished c (r ⊳ h) run.lawful (full_by_others m c h r f nth run other w.0.full).over) w.0.works; full = full_by_others m c h r f nth run other w.0.full; hand = w.0.hand; done = w.0.done; part_is = w.0.part_is },
-    field_may_more part _ _ (for_field_more c.layout h r m.nodes.first.0 (top e m f) (word_of (piece e m f (nth_node m.nodes nth).0) part)) w.1,
-    here_by_others m c h r f nth (made_before (fills_here e m f nth) part) run other w.0.full w.0.hand w.2,
+    record {
+      works = works_by_others m c h r f nth run other w.0.full w.0.works;
+      full = full_by_others m c h r f nth run other w.0.full;
+      hand = w.0.hand;
+      read = read_more c h r (e.reads m.edit f m.snaps.items) m.read run.lawful w.0.read;
+      whole = w.0.whole;
+      part_is = w.0.part_is;
+    },
+    field_may_more part _ _ (for_field_more c.layout h r m.nodes.first.0 (top e m f) (word_of (piece_here e m f nth) part)) w.1,
+    before_by_others c.layout h r c.pass m.share m.nodes.first.0 (top e m f) (piece e m f) c.is_pass run.lawful other (nth_node m.nodes nth).0 (piece_here e m f nth) part w.0.full.hand w.0.hand.lowest w.0.hand.highest w.2,
     w.3,
   )
   kept_at m c h s r (Scx f scx) run other w = (w.0, scxs_by_others m c h r f scx w.0 run other w.1, scx_keeps TreeAllows scx (begun_at c w.0) h s r run other w.2)
@@ -138,7 +154,7 @@ module _ {E : Type 0} (e : EditMeaning E) where
   tries_more m c b h r Start none x = try_more c b h r m.limit m.tries none x
   tries_more m c b h r (Walk walk) none x = try_at_more c b h r m.limit m.tries none walk.at x
   tries_more m c b h r (Look f llx) none x = try_more c b h r m.limit m.tries none x
-  tries_more m c b h r (Load f nth part) none x = try_more c b h r m.limit m.tries none x
+  tries_more m c b h r (Read f n part) none x = try_more c b h r m.limit m.tries none x
   tries_more m c b h r (Fill f nth part) none x = try_more c b h r m.limit m.tries none x
   tries_more m c b h r (Scx f scx) none x = try_more c b h r m.limit m.tries none x
 
@@ -152,7 +168,7 @@ module _ {E : Type 0} (e : EditMeaning E) where
   lawful_at m c h s Start run w = absurd w
   lawful_at m c h s (Walk walk) run w = walk_lawful walk c h s run w.1
   lawful_at m c h s (Look f llx) run w = llx_lawful TreeAllows llx (begun_at c w.0) h s run w.2
-  lawful_at m c h s (Load f nth part) run w = load_lawful TreeAllows c h LoadSettled (node (copied e m f) part) s run w.1 record { word = w.0.settled; same = refl } (λ q. cc) w.0.works.inside.1
+  lawful_at m c h s (Read f n part) run w = load_lawful TreeAllows c h LoadSettled (node n.0 (Settled part)) s run w.1 record { word = tt; same = refl } (λ q. cc) w.0.read.inside.1
   lawful_at m c h s (Fill f nth part) run w = fill_lawful TreeAllows c h (nth_node m.nodes nth).0 part (word_of (piece e m f (nth_node m.nodes nth).0) part) s run w.3
       (w.0.full.hand.own (nth_node m.nodes nth).0 w.0.hand.lowest w.0.hand.highest)
       (may_fill c.layout h c.pass m.share m.nodes.first.0 (top e m f) (nth_node m.nodes nth).0 (piece e m f) part (word_of (piece e m f (nth_node m.nodes nth).0) part) (piece_fill (piece e m f (nth_node m.nodes nth).0) part w.0.part_is) w.0.hand.lowest w.0.hand.highest w.1 w.0.full)
@@ -182,21 +198,23 @@ module _ {E : Type 0} (e : EditMeaning E) where
   }
 
   -- a load changes nothing
-  loads_made : (m : UpdateRun E UpdateAt) (c : Call) (h : History) (s : Step) (f : Found) (nth : Nth) (part : NodeWord) → IsRun TreeAllows c.layout (row_of c s h ⊳ h) → s ≡ load LoadSettled (node (copied e m f) part) → Loads e m c h f nth part → Loads e m c (row_of c s h ⊳ h) f nth part
-  loads_made m c h s f nth part run asked x = record {
-    works = works_more e m c h (row_of c s h) f nth run (idle_if_finished c (row_of c s h ⊳ h) run.lawful full.over) x.works;
+  reads_made : (m : UpdateRun E UpdateAt) (c : Call) (h : History) (s : Step) (f : Found) (n : NodeNo) (part : SettledPart) → IsRun TreeAllows c.layout (row_of c s h ⊳ h) → s ≡ load LoadSettled (node n.0 (Settled part)) → Reads e m c h f n part → Reads e m c (row_of c s h ⊳ h) f n part
+  reads_made m c h s f n part run asked x = record {
+    works = works_more e m c h (row_of c s h) f First run (idle_if_finished c (row_of c s h ⊳ h) run.lawful full.over) x.works;
     full = full;
     hand = x.hand;
-    blank = λ q i. same (node (nth_node m.nodes nth).0 q) ∙ x.blank q i;
-    wanted = x.wanted;
-    settled = x.settled;
+    blank = λ q i. same (node m.nodes.first.0 q) ∙ x.blank q i;
+    from = x.from;
+    is = x.is;
+    read = may_read_more c h (row_of c s h) n.0 m.read run.lawful x.read;
+    next = x.next;
   }
     where
       same : (w : Word) → value (row_of c s h ⊳ h) w ≡ value h w
       same = value_quiet (row_of c s h) h refl (rw asked refl)
 
-      full : HasFilledTo c.layout (row_of c s h ⊳ h) c.pass m.share m.nodes.first.0 (top e m f) (nth_node m.nodes nth).0 (piece e m f)
-      full = by_load c.layout h (row_of c s h) c.pass m.share m.nodes.first.0 (top e m f) (nth_node m.nodes nth).0 (piece e m f) run.lawful (λ q. let z : LoadSettled ≡ FillKind = sym (ap (λ (t : Step). t.kind) asked) ∙ q in cc) same x.full
+      full : HasFilledTo c.layout (row_of c s h ⊳ h) c.pass m.share m.nodes.first.0 (top e m f) m.nodes.first.0 (piece e m f)
+      full = by_load c.layout h (row_of c s h) c.pass m.share m.nodes.first.0 (top e m f) m.nodes.first.0 (piece e m f) run.lawful (λ q. let z : LoadSettled ≡ FillKind = sym (ap (λ (t : Step). t.kind) asked) ∙ q in cc) same x.full
 
   -- a fill of a word of the fresh node of this place
   module _ (m : UpdateRun E UpdateAt) (c : Call) (h : History) (f : Found) (nth : Nth) (part : NodeWord) where
@@ -213,25 +231,26 @@ module _ {E : Type 0} (e : EditMeaning E) where
     May = FieldMay part (IsForField c.layout h m.nodes.first.0 (top e m f) (word_of p part))
 
     abbrev Then : History → Type 0
-    Then k = FillsPiece e m c k f nth part × HoldsFills k n (made_with (fills_of p) part) × IsTakenNode k n
+    Then k = FillsPiece e m c k f nth part × HoldsUpTo k n p part × IsTakenNode k n
 
-    fills_made : IsRun TreeAllows c.layout (r ⊳ h) → FillsPiece e m c h f nth part → May → HoldsFills h n (made_before (fills_of p) part) → Then (r ⊳ h)
+    fills_made : IsRun TreeAllows c.layout (r ⊳ h) → FillsPiece e m c h f nth part → May → HoldsBefore h n p part → Then (r ⊳ h)
     fills_made run x may words = (
       record {
         works = works_more e m c h r f nth run (idle_if_finished c (r ⊳ h) run.lawful full.over) x.works;
         full = full;
         hand = x.hand;
-        done = x.done;
+        read = read_more c h r (e.reads m.edit f m.snaps.items) m.read run.lawful x.read;
+        whole = x.whole;
         part_is = x.part_is;
       },
-      words_more c.layout h r c.pass m.share m.nodes.first.0 (top e m f) n (piece e m f) part run.lawful refl refl (piece_fill p part x.part_is) x.hand.lowest x.hand.highest may x.full (fills_of p) x.part_is refl words,
+      words_more c.layout h r c.pass m.share m.nodes.first.0 (top e m f) n (piece e m f) part run.lawful refl refl (piece_fill p part x.part_is) x.hand.lowest x.hand.highest may x.full p refl words,
       taken_now c.layout h r c.pass m.share m.nodes.first.0 (top e m f) n (piece e m f) part run.lawful refl refl (piece_fill p part x.part_is) x.hand.lowest x.hand.highest may x.full,
     )
       where
         full : HasFilledTo c.layout (r ⊳ h) c.pass m.share m.nodes.first.0 (top e m f) n (piece e m f)
         full = filled_to_more c.layout h r c.pass m.share m.nodes.first.0 (top e m f) n (piece e m f) part run.lawful refl refl (piece_fill p part x.part_is) x.hand.lowest x.hand.highest may x.full
 
-    fills_then : (s : Step) → s ≡ piece_fill_step e m f nth part → IsRun TreeAllows c.layout (row_of c s h ⊳ h) → FillsPiece e m c h f nth part → May → HoldsFills h n (made_before (fills_of p) part) → Then (row_of c s h ⊳ h)
+    fills_then : (s : Step) → s ≡ piece_fill_step e m f nth part → IsRun TreeAllows c.layout (row_of c s h ⊳ h) → FillsPiece e m c h f nth part → May → HoldsBefore h n p part → Then (row_of c s h ⊳ h)
     fills_then s asked run x may words = rw asked (fills_made (rw asked at run) x may words)
 
   scxs_made : (m : UpdateRun E UpdateAt) (c : Call) (h : History) (s : Step) (f : Found) (scx : ScxRun) (begin : History) → IsRun TreeAllows c.layout (row_of c s h ⊳ h) → Scxs e m c h f scx begin → ScxWaits TreeAllows scx (begun_at c begin) h s → Scxs e m c (row_of c s h ⊳ h) f scx begin
@@ -303,7 +322,10 @@ module _ {E : Type 0} (e : EditMeaning E) where
     walk_goes (walks.Head above) at try = goes_past (subst IsPastRoot (sym at) tt) try
     walk_goes (walks.Key head) at try = goes_past (subst IsPastRoot (sym at) tt) try
     walk_goes (walks.Child level side) at try = goes_past (subst IsPastRoot (sym at) tt) try
-    walk_goes (walks.Value head key) at try = goes_past (subst IsPastRoot (sym at) tt) try
+    walk_goes (walks.More head) at try = goes_past (subst IsPastRoot (sym at) tt) try
+    walk_goes (walks.Pair head more slot) at try = goes_past (subst IsPastRoot (sym at) tt) try
+    walk_goes (walks.Value head more slot key) at try = goes_past (subst IsPastRoot (sym at) tt) try
+    walk_goes (walks.High head more slot key low) at try = goes_past (subst IsPastRoot (sym at) tt) try
 
   -- what is known once the step of this place has told v
   abbrev ToldThen : UpdateRun E UpdateAt → Call → History → ℕ → UpdateAt → Type 0
@@ -318,11 +340,11 @@ module _ {E : Type 0} (e : EditMeaning E) where
     tt,
     (w.0, looks_by_step m (begun_at c b) h (row_of c s h) f llx w.0 run (llx_fills_not TreeAllows llx (begun_at (begun_at c b) w.0) h s w.2) w.1, llx_made TreeAllows llx (begun_at (begun_at c b) w.0) h s v run t w.2),
   )
-  made_at m c b h s v (Load f nth part) run t try first w = (
+  made_at m c b h s v (Read f n part) run t try first w = (
     b,
-    try_more c b h (row_of c s h) m.limit m.tries (own_begins_none c s h (other_node_begins_none s (copied e m f) part (ap (λ (q : Step). q.word) w.1) w.0.works.inside.0)) try,
+    try_more c b h (row_of c s h) m.limit m.tries (own_begins_none c s h (other_node_begins_none s n.0 (Settled part) (ap (λ (q : Step). q.word) w.1) w.0.read.inside.0)) try,
     tt,
-    (loads_made m (begun_at c b) h s f nth part run w.1 w.0, load_told (begun_at c b) h LoadSettled (node (copied e m f) part) s v w.1 t),
+    (reads_made m (begun_at c b) h s f n part run w.1 w.0, load_told (begun_at c b) h LoadSettled (node n.0 (Settled part)) s v w.1 t),
   )
   made_at m c b h s v (Fill f nth part) run t try first w = (
     b,
@@ -345,7 +367,7 @@ module _ {E : Type 0} (e : EditMeaning E) where
   scx_left_at m c h v Start x = tt
   scx_left_at m c h v (Walk walk) x = tt
   scx_left_at m c h v (Look f llx) x = tt
-  scx_left_at m c h v (Load f nth part) x = tt
+  scx_left_at m c h v (Read f n part) x = tt
   scx_left_at m c h v (Fill f nth part) x = x.0.works.some
   scx_left_at m c h v (Scx f scx) x = tt
 
@@ -356,24 +378,15 @@ module _ {E : Type 0} (e : EditMeaning E) where
 
   -- What it is told
 
-  needed_place : (need : Need) (nth : Nth) → IsNeeded need nth → HasPlace need nth
-  needed_place need First x = tt
-  needed_place Three Second x = refl
-  needed_place Three Third x = refl
-  needed_place One Second x = absurd x
-  needed_place One Third x = absurd x
-  needed_place Nothing Second x = absurd x
-  needed_place Nothing Third x = absurd x
-
-  fits_at : (m : UpdateRun E UpdateAt) (c : Call) (h : History) (v nodes : ℕ) (at : UpdateAt) → IsRun TreeAllows c.layout h → UpdateIsToldAt e m c h v at → length (taken_nodes h) ≤ nodes → UpdateFitsAt e m (Some v) nodes at
+  fits_at : (m : UpdateRun E UpdateAt) (c : Call) (h : History) (v nodes : ℕ) (at : UpdateAt) → IsRun TreeAllows c.layout h → UpdateIsToldAt e m c h v at → length (taken_nodes h) ≤ nodes → UpdateFitsAt m (Some v) nodes at
   fits_at m c h v nodes Start run x few = absurd x
   fits_at m c h v nodes (Walk walk) run x few = walk_told walk c h (Some v) nodes run x.1 few
   fits_at m c h v nodes (Look f llx) run x few = tt
-  fits_at m c h v nodes (Load f nth part) run x few = (x.0.wanted, needed_place (e.needs m.edit f) nth x.0.works.need)
+  fits_at m c h v nodes (Read f n part) run x few = x.0.next
   fits_at m c h v nodes (Fill f nth part) run x few = tt
   fits_at m c h v nodes (Scx f scx) run x few = tt
 
   -- what an update may be told fits the nodes that are taken by then
-  pub update_told : (m : UpdateRun E UpdateAt) (c : Call) (h : History) (got : Option ℕ) (nodes : ℕ) → IsRun TreeAllows c.layout h → UpdateIsReady e m c h got → length (taken_nodes h) ≤ nodes → UpdateFits e m got nodes
-  update_told m c h None nodes run x few = subst (λ at. UpdateFitsAt e m None nodes at) (sym x.3) tt
+  pub update_told : (m : UpdateRun E UpdateAt) (c : Call) (h : History) (got : Option ℕ) (nodes : ℕ) → IsRun TreeAllows c.layout h → UpdateIsReady e m c h got → length (taken_nodes h) ≤ nodes → UpdateFits m got nodes
+  update_told m c h None nodes run x few = subst (λ at. UpdateFitsAt m None nodes at) (sym x.3) tt
   update_told m c h (Some v) nodes run x few = fits_at m (begun_at c x.0) h v nodes m.at run x.3 few

@@ -1,5 +1,5 @@
 -- When a walk may go on, what it waits for, and what its answer says.
-use Rattle.std.specs.Prelude.{◌≡◌, ℕ, ◌^◌, ◌<◌, Bool, true, false, if◌then◌else◌, ◌==◌, Option, Some, None}
+use Rattle.std.specs.Prelude.{◌≡◌, ℕ, ◌^◌, ◌<◌, Bool, true, false, ◌==◌, Option, Some, None}
 use Rattle.arena.specs.declared.head.Head.{Head as HeadParts}
 use Rattle.arena.specs.declared.machine.Turn.{Turn}
 use Rattle.arena.specs.declared.machine.Turn.TheVariants.{Ask, Done}
@@ -8,46 +8,75 @@ use Rattle.arena.specs.declared.step.Kind.{Kind}
 use Rattle.arena.specs.declared.step.Kind.TheVariants.{LoadSettled, LoadChild}
 use Rattle.arena.specs.declared.word.NodeWord.{NodeWord}
 use Rattle.arena.specs.declared.word.NodeWord.TheVariants.{Settled, Child as ChildWord}
-use Rattle.arena.specs.declared.word.SettledPart.TheVariants.{Head as HeadWord}
+use Rattle.arena.specs.declared.word.SettledPart.TheVariants.{Head as HeadWord, More as MoreWord, Key as KeyWord, Value as ValueWord, High as HighWord}
+use Rattle.arena.specs.declared.word.Slot.{Slot}
+use Rattle.arena.specs.declared.word.Slot.TheVariants.{First}
+use Rattle.arena.specs.declared.word.Word.{Word}
 use Rattle.arena.specs.Heads.{head_of}
-use Rattle.arena.specs.Words.{node, first_key, first_value}
+use Rattle.arena.specs.Words.{node, first_key}
 use Rattle.arena.specs.History.{History, value, Extends}
 use Rattle.arena.specs.Machines.{Call, MatchTurn}
 use Rattle.prims.specs.Llx.Known.{load}
+use Rattle.ordered_map.specs.Holding.{held_pairs, held_from}
+use Rattle.ordered_map.specs.OrderedMap.{get}
 use Rattle.ordered_map.specs.Runs.{IsTreeRun}
 use Rattle.ordered_map.specs.TreeWords.{is_leaf, level, toward}
 use Rattle.template.specs.FoundLeaf.{path_key, asked_key, HasFoundGoal}
 use Rattle.template.specs.Trails.{OnTrail, IsOwnMoment}
+use Rattle.template.specs.declared.walk.Trail.{Trail}
 use Rattle.template.specs.declared.walk.Found.{Found}
 use Rattle.template.specs.declared.walk.Goal.{Goal}
 use Rattle.template.specs.declared.walk.Goal.TheVariants.{Key as ToKey, Least}
 use Rattle.template.specs.declared.walk.WalkRun.{WalkRun}
 use Rattle.template.specs.declared.walk.WalkAt.{WalkAt}
-use Rattle.template.specs.declared.walk.WalkAt.TheVariants.{Start, Root, Head, Key, Child, Value}
+use Rattle.template.specs.declared.walk.WalkAt.TheVariants.{Start, Root, Head, Key, Child, More, Pair, Value, High}
 
 -- what a word of the node that the walk has come to holds
 abbrev pub here : History → WalkRun → NodeWord → ℕ
 here h m part = value h (node m.trail.node.0 part)
 
--- whether a walk loads the key of a node with this head: not of a fork where it always goes left
+-- whether a walk loads the key of a fork with this head: not where it always goes left
 abbrev pub asks_key : Goal → HeadParts → Bool
 asks_key (ToKey k) head = head.class == 0
-asks_key Least head = if head.class == 0 then head.leaf else false
+asks_key Least head = false
+
+-- a walk to this goal that has come by this trail stands at a leaf of class 0 that has this head
+pub record WalkStandsAtLeaf (c : Call) (h : History) (goal : Goal) (t : Trail) (parts : HeadParts) : Type 0 where
+  pub trail : OnTrail c h (path_key goal) t
+  pub head : head_of (value h (node t.node.0 (Settled HeadWord))) ≡ parts
+  pub low : parts.class ≡ 0
+  pub leaf : parts.leaf ≡ true
+
+-- what a walk to this goal looks for in the leaf n stands in this slot, or behind it, if the leaf has
+-- it: it looks for its key, or for the first pair
+abbrev pub IsSlotFor : Goal → (Word → ℕ) → ℕ → Slot → Type 0
+IsSlotFor (ToKey k) f n slot = get k (held_pairs f n) ≡ get k (held_from f n slot)
+IsSlotFor Least f n slot = slot ≡ First
 
 -- what holds while a walk waits at this place
 abbrev pub WalkKnows : Call → History → WalkRun → WalkAt → Type 0
 WalkKnows c h m Start = ⊥
 WalkKnows c h m Root = m.trail.node.0 ≡ 0
 WalkKnows c h m (Head above) = OnTrail c h (path_key m.goal) m.trail × (above < level (value h) m.trail.node.0)
-WalkKnows c h m (Key head) = OnTrail c h (path_key m.goal) m.trail × (head_of (here h m (Settled HeadWord)) ≡ head) × (head.class ≡ 0)
+WalkKnows c h m (Key head) = OnTrail c h (path_key m.goal) m.trail × (head_of (here h m (Settled HeadWord)) ≡ head) × (head.class ≡ 0) × (head.leaf ≡ false)
 WalkKnows c h m (Child low side) = OnTrail c h (path_key m.goal) m.trail × (level (value h) m.trail.node.0 ≡ low) × (is_leaf (value h) m.trail.node.0 ≡ false) × (toward (value h) m.trail.node.0 (path_key m.goal) ≡ side)
-WalkKnows c h m (Value head key) = OnTrail c h (path_key m.goal) m.trail × (head_of (here h m (Settled HeadWord)) ≡ head) × (head.class ≡ 0) × (head.leaf ≡ true) × (here h m first_key ≡ key) × (asked_key m.goal key ≡ key)
+WalkKnows c h m (More head) = WalkStandsAtLeaf c h m.goal m.trail head
+WalkKnows c h m (Pair head more slot) = WalkStandsAtLeaf c h m.goal m.trail head × (here h m (Settled MoreWord) ≡ more) × IsSlotFor m.goal (value h) m.trail.node.0 slot
+WalkKnows c h m (Value head more slot key) =
+    WalkStandsAtLeaf c h m.goal m.trail head × (here h m (Settled MoreWord) ≡ more) × IsSlotFor m.goal (value h) m.trail.node.0 slot
+    × (here h m (Settled (KeyWord slot)) ≡ key) × (asked_key m.goal key ≡ key)
+WalkKnows c h m (High head more slot key low) =
+    WalkStandsAtLeaf c h m.goal m.trail head × (here h m (Settled MoreWord) ≡ more) × IsSlotFor m.goal (value h) m.trail.node.0 slot
+    × (here h m (Settled (KeyWord slot)) ≡ key) × (asked_key m.goal key ≡ key) × (here h m (Settled (ValueWord slot)) ≡ low)
 
 -- the word that it loads at this place
 abbrev pub walk_part : WalkAt → NodeWord
 walk_part (Key head) = first_key
 walk_part (Child low side) = ChildWord side
-walk_part (Value head key) = first_value
+walk_part (More head) = Settled MoreWord
+walk_part (Pair head more slot) = Settled (KeyWord slot)
+walk_part (Value head more slot key) = Settled (ValueWord slot)
+walk_part (High head more slot key low) = Settled (HighWord slot)
 walk_part _ = Settled HeadWord
 
 -- the kind of the load
@@ -104,9 +133,9 @@ pub record WalkAsks (old now : WalkRun) (turn : Turn Found) (at : WalkAt) (step 
   pub asked : turn ≡ Ask step
 
 -- it ends at its node, of which it has found this
-pub record WalkEnds (old now : WalkRun) (turn : Turn Found) (head : HeadParts) (key : ℕ) (found : Option ℕ) : Type 0 where
+pub record WalkEnds (old now : WalkRun) (turn : Turn Found) (head : HeadParts) (more key : ℕ) (found : Option ℕ) : Type 0 where
   pub stands : now ≡ old
-  pub done : turn ≡ Done record { trail = old.trail; head = head; key = key; value = found }
+  pub done : turn ≡ Done record { trail = old.trail; head = head; more = more; key = key; value = found }
 
 -- what a walk knows as it is told something, but for what it is told: it stands at a node that was
 -- on its path

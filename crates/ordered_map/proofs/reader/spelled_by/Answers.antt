@@ -1,17 +1,14 @@
 use Rattle.std.proofs.Common.{refl}
 use Rattle.std.proofs.lemmas.Result.{IfOk-weaker}
 use Rattle.std.proofs.lemmas.Option.{IfSome_then}
-use Rattle.ordered_map.proofs.LeafLists.{none_then, leaves_inside, others_inside, others_counted, leaves_spell, spells_ends, spells_holds}
+use Rattle.ordered_map.proofs.LeafLists.{none_then, leaves_inside, others_inside, leaves_spell, spells_ends, spells_holds}
 use Rattle.ordered_map.proofs.reader.spelled_by.Goals as goal
 
 pub take_ends-requires : goal.take_ends-requires
 take_ends-requires c = leaves_inside c.args.words.now c.args.leaves.items c.requires
 
-pub pairs-requires-clause-counted : goal.pairs-requires-clause-counted
-pairs-requires-clause-counted c = rw c.as_slice.ensures.value (others_counted c.args.words.now c.args.leaves.items c.take_ends.new.leaves.items c.requires (c.if-take_ends.ensures.ends refl))
-
-pub pairs-requires-clause-inside : goal.pairs-requires-clause-inside
-pairs-requires-clause-inside c = rw c.as_slice.ensures.value (others_inside c.args.words.now c.args.leaves.items c.take_ends.new.leaves.items (leaves_inside c.args.words.now c.args.leaves.items c.requires) (c.if-take_ends.ensures.ends refl))
+pub pairs-requires : goal.pairs-requires
+pairs-requires c = rw c.as_slice.ensures.value (others_inside c.args.words.now c.args.leaves.items c.take_ends.new.leaves.items (leaves_inside c.args.words.now c.args.leaves.items c.requires) (c.if-take_ends.ensures.ends refl))
 
 pub returns-then-take_ends-clause-spells : goal.returns-then-take_ends-clause-spells
 returns-then-take_ends-clause-spells c = IfOk-weaker c.pairs.result _ _

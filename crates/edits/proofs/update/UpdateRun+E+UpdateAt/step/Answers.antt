@@ -1,6 +1,6 @@
 use Rattle.std.proofs.Common.{◌≡◌, sym, ◌∙◌, inl}
-use Rattle.edits.specs.declared.update.UpdateAt.TheVariants.{Start, Walk, Look, Load, Fill, Scx}
-use Rattle.edits.proofs.Stepping.{at_start, at_walk, at_look, at_load, at_fill, at_scx}
+use Rattle.edits.specs.declared.update.UpdateAt.TheVariants.{Start, Walk, Look, Read, Fill, Scx}
+use Rattle.edits.proofs.Stepping.{at_start, at_walk, at_look, at_read, at_fill, at_scx}
 use Rattle.edits.proofs.update.UpdateRun+E+UpdateAt.step.Goals as goal
 
 pub returns-in-Start-clause-turn : goal.returns-in-Start-clause-turn
@@ -17,10 +17,10 @@ returns-in-Look-clause-turn g c d h run r =
     let t = at_look g.E.Edit.means c.args.self.now d h c.args.got c.in-Look.found c.in-Look.llx c.in-Look.is r in
     c.look_on.ensures.turn d t.0 t.2 h run t.1 t.3 t.4
 
-pub returns-in-Load-clause-turn : goal.returns-in-Load-clause-turn
-returns-in-Load-clause-turn g c d h run r =
-    let t = at_load g.E.Edit.means c.args.self.now d h c.args.got c.in-Load.found c.in-Load.nth c.in-Load.part c.in-Load.is r in
-    c.go_on.ensures.turn d h run (c.loaded-next.ensures.turn d t.0 h run t.1 t.2 (t.3 ∙ sym c.unwrap_or.ensures))
+pub returns-in-Read-clause-turn : goal.returns-in-Read-clause-turn
+returns-in-Read-clause-turn g c d h run r =
+    let t = at_read g.E.Edit.means c.args.self.now d h c.args.got c.in-Read.found c.in-Read.node c.in-Read.part c.in-Read.is r in
+    c.go_on.ensures.turn d h run (c.read_on-next.ensures.turn d t.0 h run t.1 t.2 (t.3 ∙ sym c.unwrap_or.ensures))
 
 pub returns-in-Fill-clause-turn : goal.returns-in-Fill-clause-turn
 returns-in-Fill-clause-turn g c d h run r =
@@ -41,8 +41,8 @@ returns-in-Walk-clause-begins g c none d h r = absurd (let z : Walk c.in-Walk.wa
 pub returns-in-Look-clause-begins : goal.returns-in-Look-clause-begins
 returns-in-Look-clause-begins g c none d h r = absurd (let z : Look c.in-Look.found c.in-Look.llx ≡ Start = sym c.in-Look.is ∙ r.3 in cc)
 
-pub returns-in-Load-clause-begins : goal.returns-in-Load-clause-begins
-returns-in-Load-clause-begins g c none d h r = absurd (let z : Load c.in-Load.found c.in-Load.nth c.in-Load.part ≡ Start = sym c.in-Load.is ∙ r.3 in cc)
+pub returns-in-Read-clause-begins : goal.returns-in-Read-clause-begins
+returns-in-Read-clause-begins g c none d h r = absurd (let z : Read c.in-Read.found c.in-Read.node c.in-Read.part ≡ Start = sym c.in-Read.is ∙ r.3 in cc)
 
 pub returns-in-Fill-clause-begins : goal.returns-in-Fill-clause-begins
 returns-in-Fill-clause-begins g c none d h r = absurd (let z : Fill c.in-Fill.found c.in-Fill.nth c.in-Fill.part ≡ Start = sym c.in-Fill.is ∙ r.3 in cc)

@@ -1,16 +1,15 @@
 use Rattle.std.proofs.Common.{◌≤◌, sym, ◌∙◌, subst, arith}
 use Rattle.arena.specs.Machines.{begun_at}
-use Rattle.edits.proofs.Nearer.{less_than, from_work}
 use Rattle.edits.proofs.GoingOn.{taken_before}
 use Rattle.edits.proofs.Looking.{same_tries, three_then}
 use Rattle.edits.specs.Pieces.{many_nodes}
 use Rattle.edits.proofs.update.UpdateRun.begin_three.Goals as goal
 
 pub returns-clause-nearer : goal.returns-clause-nearer
-returns-clause-nearer g c nodes = rw (sym c.take-first.ensures.tries, sym c.take-second.ensures.tries, sym c.take-third.ensures.tries) (less_than _ _ _ (c.load.ensures.nearer nodes tt) (from_work _ _ _ _ (g.met.E.Edit.laws.bounds.few_works _ _ _ _ _)))
+returns-clause-nearer g c nodes = rw (sym c.take-first.ensures.tries, sym c.take-second.ensures.tries, sym c.take-third.ensures.tries) (c.begin_reading.ensures.nearer nodes)
 
 pub returns-clause-turn : goal.returns-clause-turn
-returns-clause-turn g c d b h run try x enough three blank = c.load.ensures.turn d b h run (same_tries (c.take-third.ensures.limit ∙ c.take-second.ensures.limit ∙ c.take-first.ensures.limit) (c.take-third.ensures.tries ∙ c.take-second.ensures.tries ∙ c.take-first.ensures.tries) try) (three_then g.E.Edit.means c.args.self.now (begun_at d b) h c.args.found.now g.met.E.Edit.laws.looks x enough blank c.take-first.new.self c.take-second.new.self c.take-third.new.self c.take-first.result c.take-second.result c.take-third.result three c.take-first.ensures.same c.take-first.ensures.taken c.take-second.ensures.same c.take-second.ensures.taken c.take-third.ensures.same c.take-third.ensures.taken)
+returns-clause-turn g c d b h run try x enough three = c.begin_reading.ensures.turn d b h run (same_tries (c.take-third.ensures.limit ∙ c.take-second.ensures.limit ∙ c.take-first.ensures.limit) (c.take-third.ensures.tries ∙ c.take-second.ensures.tries ∙ c.take-first.ensures.tries) try) (three_then g.E.Edit.means c.args.self.now (begun_at d b) h c.args.found.now x enough c.take-first.new.self c.take-second.new.self c.take-third.new.self c.take-first.result c.take-second.result c.take-third.result three c.take-first.ensures.same c.take-first.ensures.taken c.take-second.ensures.same c.take-second.ensures.taken c.take-third.ensures.same c.take-third.ensures.taken)
 
 pub returns-clause-spends : goal.returns-clause-spends
 returns-clause-spends g c three =
@@ -18,4 +17,4 @@ returns-clause-spends g c three =
     let second = c.take-second.ensures.spent in
     let third = c.take-third.ensures.spent in
     let enough : 3 ≤ g.E.Edit.means.most_nodes = subst (λ need. many_nodes need ≤ g.E.Edit.means.most_nodes) three (g.met.E.Edit.laws.bounds.few_nodes c.args.self.now.edit c.args.found.now) in
-    rw (sym c.take-first.ensures.tries, sym c.take-second.ensures.tries, sym c.take-third.ensures.tries) (taken_before g.E.Edit.means c.args.self.now.share c.take-third.new.self.share (record c.take-third.new.self { nodes = record { first = c.take-first.result; second = c.take-second.result; third = c.take-third.result } }) c.args.found.now c.load.result _ _ (omega (arith, first.0, second.0, third.0, enough)) (third.1 ∙ second.1 ∙ first.1) c.load.ensures.spends)
+    rw (sym c.take-first.ensures.tries, sym c.take-second.ensures.tries, sym c.take-third.ensures.tries) (taken_before g.E.Edit.means c.args.self.now.share c.take-third.new.self.share c.begin_reading.new.self c.args.found.now c.begin_reading.result _ _ (omega (arith, first.0, second.0, third.0, enough)) (third.1 ∙ second.1 ∙ first.1) c.begin_reading.ensures.spends)

@@ -1,8 +1,10 @@
-use Rattle.std.proofs.Common.{◌+◌, ◌<◌, sym, ◌∙◌, ap}
+use Rattle.std.specs.Prelude.{Some}
+use Rattle.std.proofs.Common.{◌+◌, ◌<◌, sym, ◌∙◌, ap, subst}
 use Rattle.arena.specs.Heads.{head_of}
-use Rattle.template.specs.declared.walk.WalkAt.TheVariants.{Root, Value}
+use Rattle.template.specs.declared.walk.WalkAt.TheVariants.{Root, High}
+use Rattle.template.specs.Walk.Known.{WalkEnds}
 use Rattle.template.specs.Walk.Steps.{walk_left}
-use Rattle.template.proofs.WalkTurns.{told_at, told_root, turn_value, nearer_root, nearer_below}
+use Rattle.template.proofs.WalkTurns.{told_at, told_root, turn_high, nearer_root, nearer_below}
 use Rattle.template.proofs.walk.WalkRunMachineTree.next.Goals as goal
 
 pub returns-in-Root-clause-turn : goal.returns-in-Root-clause-turn
@@ -17,11 +19,14 @@ returns-in-Root-clause-nearer c nodes fits =
     let deep : c.of.result.level < 2 + nodes = rw c.of.ensures low in
     rw c.in-Root.is (nearer_root c.read_head.result nodes c.of.result.level (walk_left c.read_head.new.self.at nodes) (c.read_head.ensures.nearer nodes deep))
 
-pub returns-in-Value-clause-turn : goal.returns-in-Value-clause-turn
-returns-in-Value-clause-turn c d h run r =
+pub returns-in-High-clause-turn : goal.returns-in-High-clause-turn
+returns-in-High-clause-turn c d h run r =
+    let m = c.args.self.now in
     let found = c.unwrap_or-found.result in
-    let t = told_at c.args.self.now d h c.args.got found (Value c.in-Value.head c.in-Value.key) c.in-Value.is (λ e. cc) c.unwrap_or-found.ensures r in
-    turn_value d h c.args.self.now c.end.new.self c.end.result c.in-Value.head c.in-Value.key found c.in-Value.is t c.end.ensures
+    let w = c.in-High in
+    let t = told_at m d h c.args.got found (High w.head w.more w.slot w.key w.low) w.is (λ e. cc) c.unwrap_or-found.ensures r in
+    turn_high d h m c.end.new.self c.end.result w.head w.more w.slot w.key w.low found w.is t
+    (subst (λ v. WalkEnds m c.end.new.self c.end.result w.head w.more w.key (Some v)) c.wide_value.ensures c.end.ensures)
 
 pub returns-in-Head-clause-nearer : goal.returns-in-Head-clause-nearer
 returns-in-Head-clause-nearer c nodes fits =

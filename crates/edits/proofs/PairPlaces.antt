@@ -1,0 +1,374 @@
+-- What becomes of up to five pairs in their places.
+use Rattle.std.proofs.Common.{◌≡◌, ◌≢◌, ℕ, zero, suc, ◌+◌, ◌-◌, ◌<◌, ◌≤◌, Bool, true, false, not, ◌==◌, List, [], ◌∷◌, ◌++◌, length, take, drop, refl, sym, ◌∙◌, ap, subst, arith, eq-eqb, ne_eqb, lt-ltb, le-ltb}
+use Rattle.std.specs.Prelude.{min, nat_lt, slice_set, if◌then◌else◌}
+use Rattle.std.specs.List.{remove}
+use native.Mathlib.Decide.{ℕ_discrete}
+use Rattle.std.proofs.Math.Decide.{dec_lt}
+use Rattle.ordered_map.specs.declared.pair.Pair.{Pair}
+use Rattle.ordered_map.specs.OrderedMap.{pair, insert, delete}
+use Rattle.edits.specs.declared.pairs.Pairs.TheInside.{Inside}
+use Rattle.edits.specs.Laws.PairPlaces.{listed, placed_pairs}
+use Rattle.edits.specs.Pairs.{pair_at, below, before, has_at, run, moved_on, moved_back, replaced}
+
+-- where places are those of the list that they hold, that has at most five
+pub at_most_five : (s : Inside) → s ≡ placed_pairs (listed s) → length (listed s) ≤ 5
+at_most_five s i = few s.count
+  where
+    few : (n : ℕ) → length (take n (s.first ∷ s.second ∷ s.third ∷ s.fourth ∷ s.fifth ∷ [])) ≤ 5
+    few zero = omega arith
+    few (suc zero) = omega arith
+    few (suc (suc zero)) = omega arith
+    few (suc (suc (suc zero))) = omega arith
+    few (suc (suc (suc (suc zero)))) = omega arith
+    few (suc (suc (suc (suc (suc zero))))) = omega arith
+    few (suc (suc (suc (suc (suc (suc n)))))) = omega arith
+
+-- the places of a list of at most five are those of the list
+pub listed_again : (ps : List Pair) → length ps ≤ 5 → listed (placed_pairs ps) ≡ ps
+listed_again [] few = refl
+listed_again (a ∷ []) few = refl
+listed_again (a ∷ b ∷ []) few = refl
+listed_again (a ∷ b ∷ c ∷ []) few = refl
+listed_again (a ∷ b ∷ c ∷ d ∷ []) few = refl
+listed_again (a ∷ b ∷ c ∷ d ∷ e ∷ []) few = refl
+listed_again (a ∷ b ∷ c ∷ d ∷ e ∷ f ∷ ps) few = absurd (omega (arith, few))
+
+-- a pair is put at a place
+pub put_at : (ps : List Pair) → length ps ≤ 5 → (at : ℕ) → at ≤ length ps → (p : Pair) → record { first = moved_on at 0 (pair_at ps 0) p (pair 0 0); second = moved_on at 1 (pair_at ps 1) p (pair_at ps 0); third = moved_on at 2 (pair_at ps 2) p (pair_at ps 1); fourth = moved_on at 3 (pair_at ps 3) p (pair_at ps 2); fifth = moved_on at 4 (pair_at ps 4) p (pair_at ps 3); count = min (length ps + 1) 5 } ≡ placed_pairs (take 5 (take at ps ++ p ∷ drop at ps))
+put_at [] few zero i p = refl
+put_at [] few (suc at) i p = absurd (omega (arith, i))
+put_at (a ∷ []) few zero i p = refl
+put_at (a ∷ []) few (suc zero) i p = refl
+put_at (a ∷ []) few (suc (suc at)) i p = absurd (omega (arith, i))
+put_at (a ∷ b ∷ []) few zero i p = refl
+put_at (a ∷ b ∷ []) few (suc zero) i p = refl
+put_at (a ∷ b ∷ []) few (suc (suc zero)) i p = refl
+put_at (a ∷ b ∷ []) few (suc (suc (suc at))) i p = absurd (omega (arith, i))
+put_at (a ∷ b ∷ c ∷ []) few zero i p = refl
+put_at (a ∷ b ∷ c ∷ []) few (suc zero) i p = refl
+put_at (a ∷ b ∷ c ∷ []) few (suc (suc zero)) i p = refl
+put_at (a ∷ b ∷ c ∷ []) few (suc (suc (suc zero))) i p = refl
+put_at (a ∷ b ∷ c ∷ []) few (suc (suc (suc (suc at)))) i p = absurd (omega (arith, i))
+put_at (a ∷ b ∷ c ∷ d ∷ []) few zero i p = refl
+put_at (a ∷ b ∷ c ∷ d ∷ []) few (suc zero) i p = refl
+put_at (a ∷ b ∷ c ∷ d ∷ []) few (suc (suc zero)) i p = refl
+put_at (a ∷ b ∷ c ∷ d ∷ []) few (suc (suc (suc zero))) i p = refl
+put_at (a ∷ b ∷ c ∷ d ∷ []) few (suc (suc (suc (suc zero)))) i p = refl
+put_at (a ∷ b ∷ c ∷ d ∷ []) few (suc (suc (suc (suc (suc at))))) i p = absurd (omega (arith, i))
+put_at (a ∷ b ∷ c ∷ d ∷ e ∷ []) few zero i p = refl
+put_at (a ∷ b ∷ c ∷ d ∷ e ∷ []) few (suc zero) i p = refl
+put_at (a ∷ b ∷ c ∷ d ∷ e ∷ []) few (suc (suc zero)) i p = refl
+put_at (a ∷ b ∷ c ∷ d ∷ e ∷ []) few (suc (suc (suc zero))) i p = refl
+put_at (a ∷ b ∷ c ∷ d ∷ e ∷ []) few (suc (suc (suc (suc zero)))) i p = refl
+put_at (a ∷ b ∷ c ∷ d ∷ e ∷ []) few (suc (suc (suc (suc (suc zero))))) i p = refl
+put_at (a ∷ b ∷ c ∷ d ∷ e ∷ []) few (suc (suc (suc (suc (suc (suc at)))))) i p = absurd (omega (arith, i))
+put_at (a ∷ b ∷ c ∷ d ∷ e ∷ f ∷ ps) few at i p = absurd (omega (arith, few))
+
+-- or in the stead of another one
+pub set_at : (ps : List Pair) → length ps ≤ 5 → (at : ℕ) → at < length ps → (p : Pair) → record { first = replaced at 0 (pair_at ps 0) p; second = replaced at 1 (pair_at ps 1) p; third = replaced at 2 (pair_at ps 2) p; fourth = replaced at 3 (pair_at ps 3) p; fifth = replaced at 4 (pair_at ps 4) p; count = length ps } ≡ placed_pairs (slice_set ps at p)
+set_at [] few at i p = absurd (omega (arith, i))
+set_at (a ∷ []) few zero i p = refl
+set_at (a ∷ []) few (suc at) i p = absurd (omega (arith, i))
+set_at (a ∷ b ∷ []) few zero i p = refl
+set_at (a ∷ b ∷ []) few (suc zero) i p = refl
+set_at (a ∷ b ∷ []) few (suc (suc at)) i p = absurd (omega (arith, i))
+set_at (a ∷ b ∷ c ∷ []) few zero i p = refl
+set_at (a ∷ b ∷ c ∷ []) few (suc zero) i p = refl
+set_at (a ∷ b ∷ c ∷ []) few (suc (suc zero)) i p = refl
+set_at (a ∷ b ∷ c ∷ []) few (suc (suc (suc at))) i p = absurd (omega (arith, i))
+set_at (a ∷ b ∷ c ∷ d ∷ []) few zero i p = refl
+set_at (a ∷ b ∷ c ∷ d ∷ []) few (suc zero) i p = refl
+set_at (a ∷ b ∷ c ∷ d ∷ []) few (suc (suc zero)) i p = refl
+set_at (a ∷ b ∷ c ∷ d ∷ []) few (suc (suc (suc zero))) i p = refl
+set_at (a ∷ b ∷ c ∷ d ∷ []) few (suc (suc (suc (suc at)))) i p = absurd (omega (arith, i))
+set_at (a ∷ b ∷ c ∷ d ∷ e ∷ []) few zero i p = refl
+set_at (a ∷ b ∷ c ∷ d ∷ e ∷ []) few (suc zero) i p = refl
+set_at (a ∷ b ∷ c ∷ d ∷ e ∷ []) few (suc (suc zero)) i p = refl
+set_at (a ∷ b ∷ c ∷ d ∷ e ∷ []) few (suc (suc (suc zero))) i p = refl
+set_at (a ∷ b ∷ c ∷ d ∷ e ∷ []) few (suc (suc (suc (suc zero)))) i p = refl
+set_at (a ∷ b ∷ c ∷ d ∷ e ∷ []) few (suc (suc (suc (suc (suc at))))) i p = absurd (omega (arith, i))
+set_at (a ∷ b ∷ c ∷ d ∷ e ∷ f ∷ ps) few at i p = absurd (omega (arith, few))
+
+-- or taken out
+pub out_at : (ps : List Pair) → length ps ≤ 5 → (at : ℕ) → at ≤ length ps → record { first = moved_back at 0 (pair_at ps 0) (pair_at ps 1); second = moved_back at 1 (pair_at ps 1) (pair_at ps 2); third = moved_back at 2 (pair_at ps 2) (pair_at ps 3); fourth = moved_back at 3 (pair_at ps 3) (pair_at ps 4); fifth = moved_back at 4 (pair_at ps 4) (pair 0 0); count = (if nat_lt at (length ps) then length ps - 1 else length ps) } ≡ placed_pairs (remove ps at)
+out_at [] few zero i = refl
+out_at [] few (suc at) i = absurd (omega (arith, i))
+out_at (a ∷ []) few zero i = refl
+out_at (a ∷ []) few (suc zero) i = refl
+out_at (a ∷ []) few (suc (suc at)) i = absurd (omega (arith, i))
+out_at (a ∷ b ∷ []) few zero i = refl
+out_at (a ∷ b ∷ []) few (suc zero) i = refl
+out_at (a ∷ b ∷ []) few (suc (suc zero)) i = refl
+out_at (a ∷ b ∷ []) few (suc (suc (suc at))) i = absurd (omega (arith, i))
+out_at (a ∷ b ∷ c ∷ []) few zero i = refl
+out_at (a ∷ b ∷ c ∷ []) few (suc zero) i = refl
+out_at (a ∷ b ∷ c ∷ []) few (suc (suc zero)) i = refl
+out_at (a ∷ b ∷ c ∷ []) few (suc (suc (suc zero))) i = refl
+out_at (a ∷ b ∷ c ∷ []) few (suc (suc (suc (suc at)))) i = absurd (omega (arith, i))
+out_at (a ∷ b ∷ c ∷ d ∷ []) few zero i = refl
+out_at (a ∷ b ∷ c ∷ d ∷ []) few (suc zero) i = refl
+out_at (a ∷ b ∷ c ∷ d ∷ []) few (suc (suc zero)) i = refl
+out_at (a ∷ b ∷ c ∷ d ∷ []) few (suc (suc (suc zero))) i = refl
+out_at (a ∷ b ∷ c ∷ d ∷ []) few (suc (suc (suc (suc zero)))) i = refl
+out_at (a ∷ b ∷ c ∷ d ∷ []) few (suc (suc (suc (suc (suc at))))) i = absurd (omega (arith, i))
+out_at (a ∷ b ∷ c ∷ d ∷ e ∷ []) few zero i = refl
+out_at (a ∷ b ∷ c ∷ d ∷ e ∷ []) few (suc zero) i = refl
+out_at (a ∷ b ∷ c ∷ d ∷ e ∷ []) few (suc (suc zero)) i = refl
+out_at (a ∷ b ∷ c ∷ d ∷ e ∷ []) few (suc (suc (suc zero))) i = refl
+out_at (a ∷ b ∷ c ∷ d ∷ e ∷ []) few (suc (suc (suc (suc zero)))) i = refl
+out_at (a ∷ b ∷ c ∷ d ∷ e ∷ []) few (suc (suc (suc (suc (suc zero))))) i = refl
+out_at (a ∷ b ∷ c ∷ d ∷ e ∷ []) few (suc (suc (suc (suc (suc (suc at)))))) i = absurd (omega (arith, i))
+out_at (a ∷ b ∷ c ∷ d ∷ e ∷ f ∷ ps) few at i = absurd (omega (arith, few))
+
+-- the first two, and what is behind them
+pub two_first : (ps : List Pair) → length ps ≤ 5 → record { first = pair_at ps 0; second = pair_at ps 1; third = pair 0 0; fourth = pair 0 0; fifth = pair 0 0; count = min (length ps) 2 } ≡ placed_pairs (take 2 ps)
+two_first [] few = refl
+two_first (a ∷ []) few = refl
+two_first (a ∷ b ∷ []) few = refl
+two_first (a ∷ b ∷ c ∷ []) few = refl
+two_first (a ∷ b ∷ c ∷ d ∷ []) few = refl
+two_first (a ∷ b ∷ c ∷ d ∷ e ∷ []) few = refl
+two_first (a ∷ b ∷ c ∷ d ∷ e ∷ f ∷ ps) few = absurd (omega (arith, few))
+
+pub two_behind : (ps : List Pair) → length ps ≤ 5 → record { first = pair_at ps 2; second = pair_at ps 3; third = pair_at ps 4; fourth = pair 0 0; fifth = pair 0 0; count = length ps - 2 } ≡ placed_pairs (drop 2 ps)
+two_behind [] few = refl
+two_behind (a ∷ []) few = refl
+two_behind (a ∷ b ∷ []) few = refl
+two_behind (a ∷ b ∷ c ∷ []) few = refl
+two_behind (a ∷ b ∷ c ∷ d ∷ []) few = refl
+two_behind (a ∷ b ∷ c ∷ d ∷ e ∷ []) few = refl
+two_behind (a ∷ b ∷ c ∷ d ∷ e ∷ f ∷ ps) few = absurd (omega (arith, few))
+
+-- The place of a key
+
+same_run : (t : Bool) (n m : ℕ) → n ≡ m → (if t then suc n else 0) ≡ (if t then suc m else 0)
+same_run t n m e = ap (λ k. if t then suc k else 0) e
+
+pub below_is : (k : ℕ) (ps : List Pair) → length ps ≤ 5 → min (run (nat_lt (pair_at ps 0).key k) (nat_lt (pair_at ps 1).key k) (nat_lt (pair_at ps 2).key k) (nat_lt (pair_at ps 3).key k) (nat_lt (pair_at ps 4).key k)) (length ps) ≡ below k ps
+below_is k [] few = go (nat_lt (pair 0 0).key k) (nat_lt (pair 0 0).key k) (nat_lt (pair 0 0).key k) (nat_lt (pair 0 0).key k) (nat_lt (pair 0 0).key k)
+  where
+    go : (t0 t1 t2 t3 t4 : Bool) → min (run t0 t1 t2 t3 t4) 0 ≡ 0
+    go false t1 t2 t3 t4 = refl
+    go true false t2 t3 t4 = refl
+    go true true false t3 t4 = refl
+    go true true true false t4 = refl
+    go true true true true false = refl
+    go true true true true true = refl
+below_is k (a ∷ []) few = go (nat_lt a.key k) (nat_lt (pair 0 0).key k) (nat_lt (pair 0 0).key k) (nat_lt (pair 0 0).key k) (nat_lt (pair 0 0).key k)
+  where
+    go : (t0 t1 t2 t3 t4 : Bool) → min (run t0 t1 t2 t3 t4) 1 ≡ (if t0 then suc 0 else 0)
+    go false t1 t2 t3 t4 = refl
+    go true false t2 t3 t4 = refl
+    go true true false t3 t4 = refl
+    go true true true false t4 = refl
+    go true true true true false = refl
+    go true true true true true = refl
+below_is k (a ∷ b ∷ []) few = go (nat_lt a.key k) (nat_lt b.key k) (nat_lt (pair 0 0).key k) (nat_lt (pair 0 0).key k) (nat_lt (pair 0 0).key k)
+  where
+    go : (t0 t1 t2 t3 t4 : Bool) → min (run t0 t1 t2 t3 t4) 2 ≡ (if t0 then suc (if t1 then suc 0 else 0) else 0)
+    go false t1 t2 t3 t4 = refl
+    go true false t2 t3 t4 = refl
+    go true true false t3 t4 = refl
+    go true true true false t4 = refl
+    go true true true true false = refl
+    go true true true true true = refl
+below_is k (a ∷ b ∷ c ∷ []) few = go (nat_lt a.key k) (nat_lt b.key k) (nat_lt c.key k) (nat_lt (pair 0 0).key k) (nat_lt (pair 0 0).key k)
+  where
+    go : (t0 t1 t2 t3 t4 : Bool) → min (run t0 t1 t2 t3 t4) 3 ≡ (if t0 then suc (if t1 then suc (if t2 then suc 0 else 0) else 0) else 0)
+    go false t1 t2 t3 t4 = refl
+    go true false t2 t3 t4 = refl
+    go true true false t3 t4 = refl
+    go true true true false t4 = refl
+    go true true true true false = refl
+    go true true true true true = refl
+below_is k (a ∷ b ∷ c ∷ d ∷ []) few = go (nat_lt a.key k) (nat_lt b.key k) (nat_lt c.key k) (nat_lt d.key k) (nat_lt (pair 0 0).key k)
+  where
+    go : (t0 t1 t2 t3 t4 : Bool) → min (run t0 t1 t2 t3 t4) 4 ≡ (if t0 then suc (if t1 then suc (if t2 then suc (if t3 then suc 0 else 0) else 0) else 0) else 0)
+    go false t1 t2 t3 t4 = refl
+    go true false t2 t3 t4 = refl
+    go true true false t3 t4 = refl
+    go true true true false t4 = refl
+    go true true true true false = refl
+    go true true true true true = refl
+below_is k (a ∷ b ∷ c ∷ d ∷ e ∷ []) few = go (nat_lt a.key k) (nat_lt b.key k) (nat_lt c.key k) (nat_lt d.key k) (nat_lt e.key k)
+  where
+    go : (t0 t1 t2 t3 t4 : Bool) → min (run t0 t1 t2 t3 t4) 5 ≡ (if t0 then suc (if t1 then suc (if t2 then suc (if t3 then suc (if t4 then suc 0 else 0) else 0) else 0) else 0) else 0)
+    go false t1 t2 t3 t4 = refl
+    go true false t2 t3 t4 = refl
+    go true true false t3 t4 = refl
+    go true true true false t4 = refl
+    go true true true true false = refl
+    go true true true true true = refl
+below_is k (a ∷ b ∷ c ∷ d ∷ e ∷ f ∷ ps) few = absurd (omega (arith, few))
+
+pub before_is : (k : ℕ) (ps : List Pair) → length ps ≤ 5 → min (run (not ((pair_at ps 0).key == k)) (not ((pair_at ps 1).key == k)) (not ((pair_at ps 2).key == k)) (not ((pair_at ps 3).key == k)) (not ((pair_at ps 4).key == k))) (length ps) ≡ before k ps
+before_is k [] few = go (not ((pair 0 0).key == k)) (not ((pair 0 0).key == k)) (not ((pair 0 0).key == k)) (not ((pair 0 0).key == k)) (not ((pair 0 0).key == k))
+  where
+    go : (t0 t1 t2 t3 t4 : Bool) → min (run t0 t1 t2 t3 t4) 0 ≡ 0
+    go false t1 t2 t3 t4 = refl
+    go true false t2 t3 t4 = refl
+    go true true false t3 t4 = refl
+    go true true true false t4 = refl
+    go true true true true false = refl
+    go true true true true true = refl
+before_is k (a ∷ []) few = go (not (a.key == k)) (not ((pair 0 0).key == k)) (not ((pair 0 0).key == k)) (not ((pair 0 0).key == k)) (not ((pair 0 0).key == k))
+  where
+    go : (t0 t1 t2 t3 t4 : Bool) → min (run t0 t1 t2 t3 t4) 1 ≡ (if t0 then suc 0 else 0)
+    go false t1 t2 t3 t4 = refl
+    go true false t2 t3 t4 = refl
+    go true true false t3 t4 = refl
+    go true true true false t4 = refl
+    go true true true true false = refl
+    go true true true true true = refl
+before_is k (a ∷ b ∷ []) few = go (not (a.key == k)) (not (b.key == k)) (not ((pair 0 0).key == k)) (not ((pair 0 0).key == k)) (not ((pair 0 0).key == k))
+  where
+    go : (t0 t1 t2 t3 t4 : Bool) → min (run t0 t1 t2 t3 t4) 2 ≡ (if t0 then suc (if t1 then suc 0 else 0) else 0)
+    go false t1 t2 t3 t4 = refl
+    go true false t2 t3 t4 = refl
+    go true true false t3 t4 = refl
+    go true true true false t4 = refl
+    go true true true true false = refl
+    go true true true true true = refl
+before_is k (a ∷ b ∷ c ∷ []) few = go (not (a.key == k)) (not (b.key == k)) (not (c.key == k)) (not ((pair 0 0).key == k)) (not ((pair 0 0).key == k))
+  where
+    go : (t0 t1 t2 t3 t4 : Bool) → min (run t0 t1 t2 t3 t4) 3 ≡ (if t0 then suc (if t1 then suc (if t2 then suc 0 else 0) else 0) else 0)
+    go false t1 t2 t3 t4 = refl
+    go true false t2 t3 t4 = refl
+    go true true false t3 t4 = refl
+    go true true true false t4 = refl
+    go true true true true false = refl
+    go true true true true true = refl
+before_is k (a ∷ b ∷ c ∷ d ∷ []) few = go (not (a.key == k)) (not (b.key == k)) (not (c.key == k)) (not (d.key == k)) (not ((pair 0 0).key == k))
+  where
+    go : (t0 t1 t2 t3 t4 : Bool) → min (run t0 t1 t2 t3 t4) 4 ≡ (if t0 then suc (if t1 then suc (if t2 then suc (if t3 then suc 0 else 0) else 0) else 0) else 0)
+    go false t1 t2 t3 t4 = refl
+    go true false t2 t3 t4 = refl
+    go true true false t3 t4 = refl
+    go true true true false t4 = refl
+    go true true true true false = refl
+    go true true true true true = refl
+before_is k (a ∷ b ∷ c ∷ d ∷ e ∷ []) few = go (not (a.key == k)) (not (b.key == k)) (not (c.key == k)) (not (d.key == k)) (not (e.key == k))
+  where
+    go : (t0 t1 t2 t3 t4 : Bool) → min (run t0 t1 t2 t3 t4) 5 ≡ (if t0 then suc (if t1 then suc (if t2 then suc (if t3 then suc (if t4 then suc 0 else 0) else 0) else 0) else 0) else 0)
+    go false t1 t2 t3 t4 = refl
+    go true false t2 t3 t4 = refl
+    go true true false t3 t4 = refl
+    go true true true false t4 = refl
+    go true true true true false = refl
+    go true true true true true = refl
+before_is k (a ∷ b ∷ c ∷ d ∷ e ∷ f ∷ ps) few = absurd (omega (arith, few))
+
+pub below_few : (k : ℕ) (ps : List Pair) → below k ps ≤ length ps
+below_few k [] = omega arith
+below_few k (p ∷ ps) = go (nat_lt p.key k) (below_few k ps)
+  where
+    go : (t : Bool) → below k ps ≤ length ps → (if t then suc (below k ps) else 0) ≤ suc (length ps)
+    go true i = omega (arith, i)
+    go false i = omega arith
+
+pub before_few : (k : ℕ) (ps : List Pair) → before k ps ≤ length ps
+before_few k [] = omega arith
+before_few k (p ∷ ps) = go (not (p.key == k)) (before_few k ps)
+  where
+    go : (t : Bool) → before k ps ≤ length ps → (if t then suc (before k ps) else 0) ≤ suc (length ps)
+    go true i = omega (arith, i)
+    go false i = omega arith
+
+-- an insert puts the pair there, in the stead of one with its key
+abbrev Inserted : ℕ → ℕ → List Pair → Type 0
+Inserted k v ps = insert k v ps ≡ (if has_at k (below k ps) ps then slice_set ps (below k ps) (pair k v) else take (below k ps) ps ++ pair k v ∷ drop (below k ps) ps)
+
+pub inserted_at : (k v : ℕ) (ps : List Pair) → Inserted k v ps
+inserted_at k v [] = refl
+inserted_at k v (p ∷ ps) = go (inserted_at k v ps) (ℕ_discrete k p.key)
+  where
+    further : Inserted k v ps → (t : Bool) → has_at k (below k ps) ps ≡ t → p ∷ insert k v ps ≡ (if t then slice_set (p ∷ ps) (suc (below k ps)) (pair k v) else p ∷ take (below k ps) ps ++ pair k v ∷ drop (below k ps) ps)
+    further rest true t = ap (λ qs. p ∷ qs) (rest ∙ rw t refl)
+    further rest false t = ap (λ qs. p ∷ qs) (rest ∙ rw t refl)
+
+    other : Inserted k v ps → k ≢ p.key → Dec (k < p.key) → Inserted k v (p ∷ ps)
+    other rest d (yes l) = rw (lt-ltb k p.key l, le-ltb p.key k (omega (arith, l)), ne_eqb p.key k (λ e. omega (arith, l, e))) refl
+    other rest d (no n) = rw (le-ltb k p.key (omega (arith, n)), ne_eqb k p.key d, lt-ltb p.key k (omega (arith, n, d))) (further rest (has_at k (below k ps) ps) refl)
+
+    go : Inserted k v ps → Dec (k ≡ p.key) → Inserted k v (p ∷ ps)
+    go rest (yes e) = rw (le-ltb k p.key (omega (arith, e)), eq-eqb k p.key e, le-ltb p.key k (omega (arith, e)), eq-eqb p.key k (sym e)) refl
+    go rest (no d) = other rest d (dec_lt k p.key)
+
+-- a delete takes out what stands there
+pub deleted_at : (k : ℕ) (ps : List Pair) → delete k ps ≡ remove ps (before k ps)
+deleted_at k [] = refl
+deleted_at k (p ∷ ps) = go (deleted_at k ps) (ℕ_discrete k p.key)
+  where
+    go : delete k ps ≡ remove ps (before k ps) → Dec (k ≡ p.key) → delete k (p ∷ ps) ≡ remove (p ∷ ps) (before k (p ∷ ps))
+    go rest (yes e) = rw (eq-eqb k p.key e, eq-eqb p.key k (sym e)) refl
+    go rest (no d) = rw (ne_eqb k p.key d, ne_eqb p.key k (λ e. d (sym e))) (ap (λ qs. p ∷ qs) rest)
+
+-- a list that is short enough is taken whole
+pub take_whole : (n : ℕ) (ps : List Pair) → length ps ≤ n → take n ps ≡ ps
+take_whole zero [] i = refl
+take_whole (suc n) [] i = refl
+take_whole zero (p ∷ ps) i = absurd (omega (arith, i))
+take_whole (suc n) (p ∷ ps) i = ap (λ qs. p ∷ qs) (take_whole n ps (omega (arith, i)))
+
+as_long : (ps : List Pair) (i : ℕ) (p : Pair) → length (slice_set ps i p) ≡ length ps
+as_long [] zero p = refl
+as_long [] (suc i) p = refl
+as_long (q ∷ ps) zero p = refl
+as_long (q ∷ ps) (suc i) p = ap suc (as_long ps i p)
+
+pub has_within : (k i : ℕ) (ps : List Pair) → has_at k i ps ≡ true → i < length ps
+has_within k i [] e = absurd (let z : false ≡ true = e in cc)
+has_within k zero (p ∷ ps) e = omega arith
+has_within k (suc i) (p ∷ ps) e = let l = has_within k i ps e in omega (arith, l)
+
+pub has_there : (k i : ℕ) (ps : List Pair) → i < length ps → ((pair_at ps i).key == k) ≡ has_at k i ps
+has_there k i [] l = absurd (omega (arith, l))
+has_there k zero (p ∷ ps) l = refl
+has_there k (suc i) (p ∷ ps) l = has_there k i ps (omega (arith, l))
+
+pub has_beyond : (k i : ℕ) (ps : List Pair) → length ps ≤ i → false ≡ has_at k i ps
+has_beyond k i [] l = refl
+has_beyond k zero (p ∷ ps) l = absurd (omega (arith, l))
+has_beyond k (suc i) (p ∷ ps) l = has_beyond k i ps (omega (arith, l))
+
+pub set_there : (k v : ℕ) (ps : List Pair) → length ps ≤ 5 → has_at k (below k ps) ps ≡ true → slice_set ps (below k ps) (pair k v) ≡ take 5 (insert k v ps)
+set_there k v ps few t = sym (take_whole 5 (slice_set ps (below k ps) (pair k v)) (rw (as_long ps (below k ps) (pair k v)) few)) ∙ ap (λ qs. take 5 qs) (sym (inserted_at k v ps ∙ rw t refl))
+
+pub put_there : (k v : ℕ) (ps : List Pair) → has_at k (below k ps) ps ≡ false → take 5 (take (below k ps) ps ++ pair k v ∷ drop (below k ps) ps) ≡ take 5 (insert k v ps)
+put_there k v ps t = ap (λ qs. take 5 qs) (sym (inserted_at k v ps ∙ rw t refl))
+
+-- Of places that hold a list
+
+take_few : (n : ℕ) (ps : List Pair) → length (take n ps) ≤ n
+take_few zero ps = omega arith
+take_few (suc n) [] = omega arith
+take_few (suc n) (p ∷ ps) = let i = take_few n ps in omega (arith, i)
+
+out_few : (ps : List Pair) (at : ℕ) → length (remove ps at) ≤ length ps
+out_few [] zero = omega arith
+out_few [] (suc at) = omega arith
+out_few (p ∷ ps) zero = omega arith
+out_few (p ∷ ps) (suc at) = let i = out_few ps at in omega (arith, i)
+
+module _ (s : Inside) (ps : List Pair) (is : listed s ≡ ps) (placed : s ≡ placed_pairs (listed s)) where
+  pub few_listed : length ps ≤ 5
+  few_listed = subst (λ qs. length qs ≤ 5) is (at_most_five s placed)
+
+  places : placed_pairs ps ≡ s
+  places = sym (placed ∙ ap placed_pairs is)
+
+  pub put_is : (at : ℕ) → at ≤ length ps → (p : Pair) → listed (record { first = moved_on at 0 s.first p (pair 0 0); second = moved_on at 1 s.second p s.first; third = moved_on at 2 s.third p s.second; fourth = moved_on at 3 s.fourth p s.third; fifth = moved_on at 4 s.fifth p s.fourth; count = min (s.count + 1) 5 }) ≡ take 5 (take at ps ++ p ∷ drop at ps)
+  put_is at i p =
+      subst (λ (t : Inside). listed (record { first = moved_on at 0 t.first p (pair 0 0); second = moved_on at 1 t.second p t.first; third = moved_on at 2 t.third p t.second; fourth = moved_on at 3 t.fourth p t.third; fifth = moved_on at 4 t.fifth p t.fourth; count = min (t.count + 1) 5 }) ≡ take 5 (take at ps ++ p ∷ drop at ps)) places
+      (ap listed (put_at ps few_listed at i p) ∙ listed_again (take 5 (take at ps ++ p ∷ drop at ps)) (take_few 5 (take at ps ++ p ∷ drop at ps)))
+
+  pub out_is : (at : ℕ) → at ≤ length ps → (n : ℕ) → n ≡ (if nat_lt at s.count then s.count - 1 else s.count) → listed (record { first = moved_back at 0 s.first s.second; second = moved_back at 1 s.second s.third; third = moved_back at 2 s.third s.fourth; fourth = moved_back at 3 s.fourth s.fifth; fifth = moved_back at 4 s.fifth (pair 0 0); count = n }) ≡ remove ps at
+  out_is at i n e = rw e
+      (subst (λ (t : Inside). listed (record { first = moved_back at 0 t.first t.second; second = moved_back at 1 t.second t.third; third = moved_back at 2 t.third t.fourth; fourth = moved_back at 3 t.fourth t.fifth; fifth = moved_back at 4 t.fifth (pair 0 0); count = (if nat_lt at t.count then t.count - 1 else t.count) }) ≡ remove ps at) places
+      (ap listed (out_at ps few_listed at i) ∙ listed_again (remove ps at) (let a = out_few ps at in let b = few_listed in omega (arith, a, b))))
+
+  pub below_here : (k : ℕ) → min (run (nat_lt s.first.key k) (nat_lt s.second.key k) (nat_lt s.third.key k) (nat_lt s.fourth.key k) (nat_lt s.fifth.key k)) s.count ≡ below k ps
+  below_here k = subst (λ (t : Inside). min (run (nat_lt t.first.key k) (nat_lt t.second.key k) (nat_lt t.third.key k) (nat_lt t.fourth.key k) (nat_lt t.fifth.key k)) t.count ≡ below k ps) places (below_is k ps few_listed)
+
+  pub before_here : (k : ℕ) → min (run (not (s.first.key == k)) (not (s.second.key == k)) (not (s.third.key == k)) (not (s.fourth.key == k)) (not (s.fifth.key == k))) s.count ≡ before k ps
+  before_here k = subst (λ (t : Inside). min (run (not (t.first.key == k)) (not (t.second.key == k)) (not (t.third.key == k)) (not (t.fourth.key == k)) (not (t.fifth.key == k))) t.count ≡ before k ps) places (before_is k ps few_listed)

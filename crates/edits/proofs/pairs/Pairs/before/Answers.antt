@@ -1,0 +1,7 @@
+use Rattle.std.proofs.Common.{◌∙◌}
+use Rattle.std.specs.Prelude.{min}
+use Rattle.edits.proofs.PairPlaces.{before_here}
+use Rattle.edits.proofs.pairs.Pairs.before.Goals as goal
+
+pub returns : goal.returns
+returns c = c.min.ensures ∙ (λ i. min (c.run.ensures i) c.self.inside.count) ∙ before_here c.self.inside c.args.self.now c.self.view_is c.self.invariant c.args.key
