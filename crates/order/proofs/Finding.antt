@@ -1,30 +1,37 @@
 -- What a successor knows one place further.
-use Rattle.std.proofs.Common.{◌≡◌, ◌≢◌, ℕ, ◌<◌, ◌≤◌, ◌⊎◌, Bool, true, false, cond, eqb, ltb, List, [], ◌∷◌, inl, inr, refl, sym, ◌∙◌, ap, subst, arith, ltb-true, ltb-false, eqb-true, eq-eqb, Some, None}
+use Rattle.std.proofs.Common.{◌≡◌, ◌≢◌, ℕ, ◌<◌, ◌≤◌, ◌⊎◌, Bool, true, false, cond, eqb, ltb, List, inl, inr, refl, sym, ◌∙◌, ap, subst, arith, ltb-true, ltb-false, eq-eqb, Some, None}
 use Rattle.arena.specs.declared.head.Head.{Head as HeadParts}
 use Rattle.arena.specs.declared.number.NodeNo.{NodeNo}
+use Rattle.arena.specs.declared.word.NodeWord.TheVariants.{Settled}
+use Rattle.arena.specs.declared.word.SettledPart.TheVariants.{More as MoreWord, Key as KeyWord}
 use Rattle.arena.specs.declared.word.Side.TheVariants as sides
 use Rattle.arena.specs.declared.word.Word.{Word}
-use Rattle.arena.specs.Words.{child, marked, node, first_key, first_value}
+use Rattle.arena.specs.Words.{child, marked}
 use Rattle.arena.specs.History.{History, value, Extends}
 use Rattle.arena.specs.Machines.{Call}
 use Rattle.prims.specs.declared.snap.Snap.{Snap}
 use Rattle.ordered_map.specs.declared.pair.Pair.{Pair}
-use Rattle.ordered_map.specs.OrderedMap.{pair_or_none}
+use Rattle.ordered_map.specs.OrderedMap.{pair_or_none, successor}
 use Rattle.ordered_map.specs.Runs.{IsTreeRun}
+use Rattle.ordered_map.specs.Spelled.{Spells}
 use Rattle.ordered_map.specs.TreeWords.{class, is_leaf, level, rank, toward}
-use Rattle.ordered_map.proofs.Lemmas.{stood_settled, SameSettled, settled_class, settled_leaf, settled_rank}
+use Rattle.ordered_map.proofs.Lemmas.{same_pair, stood_settled, SameSettled, settled_class, settled_leaf, settled_rank}
 use Rattle.template.specs.Trails.{IsOwnMoment}
-use Rattle.order.specs.Found.{AreThere, GoesTo, HasKey, HasLowHead, IsReading, IsThere, Looks, Stands, WalksTo, head_at, key_at, value_at}
+use Rattle.order.specs.Found.{AreThere, GoesTo, IsAtLowFork, IsReading, IsThere, Looks, Stands, StandsIn, TakesPair, WalksTo, head_at, key_at, place_key, more_at, place_pair}
 use Rattle.order.specs.Laws.Search.{IsFirstBehind}
-use Rattle.order.specs.Next.{MayValidate}
-use Rattle.order.specs.Successor.{IsOnRoute, LooksOnRoute, asks_key, behind_leaf, behind_path, children_below, route_below, second_path_left, successor_means}
+use Rattle.order.specs.Loads.{first_place, place_behind}
+use Rattle.order.specs.Next.{MayLoad, MayValidate}
+use Rattle.order.specs.Reads.{HasStood, Whenever}
+use Rattle.order.specs.Successor.{GoesBeyond, IsNextLeaf, IsInLeaf, IsOnRoute, LooksOnRoute, TakesOnRoute, asks_key, behind_path, children_below, is_answer, leaf_load, route_below, second_path_left, successor_means}
+use Rattle.order.specs.declared.load.LeafPlace.{LeafPlace}
 use Rattle.order.specs.declared.read.Children.{Children}
 use Rattle.order.specs.declared.read.Children.TheVariants.{Left, Right, Both}
 use Rattle.order.specs.declared.successor.Route.{Route}
 use Rattle.order.specs.declared.successor.Route.TheVariants.{Above, Along, Beyond}
 use Rattle.order.specs.declared.successor.Successor.{Successor}
 use Rattle.order.proofs.Looking.{some_taken}
-use Rattle.order.proofs.Searching.{begins_below, goes_left, goes_right, ends_here, ends_behind, first_left, first_counted, first_tells, tells_pair, tells_none}
+use Rattle.order.proofs.Placing.{behind_node}
+use Rattle.order.proofs.Searching.{begins_below, ends_behind, ends_here, first_left, first_tells, goes_left, goes_on, goes_right, searched_in, tells_first, tells_here, tells_none}
 
 -- How it begins
 
@@ -101,24 +108,9 @@ both_near Beyond right nodes = omega arith
 
 -- What its tests say of a head
 
--- it loads the key of nodes of class 0 alone
-pub asks_low : (route : Route) (head : HeadParts) → asks_key route head ≡ true → head.class ≡ 0
-asks_low Above head e = eqb-true head.class 0 e
-asks_low (Along right) head e = eqb-true head.class 0 e
-asks_low Beyond head e = both (eqb head.class 0) refl e
-  where
-    both : (b : Bool) → eqb head.class 0 ≡ b → cond b head.leaf false ≡ true → head.class ≡ 0
-    both true q d = eqb-true head.class 0 q
-    both false q d = absurd (let y : false ≡ true = d in cc)
-
--- and of each on the path of the key, and of each leaf
+-- on the path of its key it loads the key of each fork of class 0
 asks_not : (head : HeadParts) → eqb head.class 0 ≡ false → head.class ≢ 0
 asks_not head e z = let y : true ≡ false = sym (eq-eqb head.class 0 z) ∙ e in cc
-
-pub leaf_high : (route : Route) (head : HeadParts) → asks_key route head ≡ false → head.leaf ≡ true → head.class ≢ 0
-leaf_high Above head e leaf z = asks_not head e z
-leaf_high (Along right) head e leaf z = asks_not head e z
-leaf_high Beyond head e leaf z = let y : true ≡ false = sym (ap (λ b. cond b head.leaf false) (eq-eqb head.class 0 z) ∙ leaf) ∙ e in cc
 
 -- At a node
 
@@ -145,12 +137,12 @@ module _ (r : Successor) (snaps : List Snap) (c : Call) (h : History) (n : ℕ) 
       go b leaf_then high_then Beyond y = y
 
   -- a fork
-  looks_at : (left : Bool) (head : HeadParts) → head_at h n ≡ head → head.leaf ≡ false → ((right : NodeNo) → r.route ≡ Along right → ((left ≡ true) × (r.key < rank (value h) n)) ⊎ ((left ≡ false) × (rank (value h) n ≤ r.key))) → Looks successor_means r snaps c h (children_below r.route left) head.level n
-  looks_at left head is fork side = record {
+  looks_at : (left : Bool) (deep : ℕ) → is_leaf (value h) n ≡ false → level (value h) n ≡ deep → ((right : NodeNo) → r.route ≡ Along right → ((left ≡ true) × (r.key < rank (value h) n)) ⊎ ((left ≡ false) × (rank (value h) n ≤ r.key))) → Looks successor_means r snaps c h (children_below r.route left) deep n
+  looks_at left deep fork is side = record {
     stood = x.stood;
     asks = tt;
-    fork = ap (λ (w : HeadParts). w.leaf) is ∙ fork;
-    deep = let l : level (value h) n ≡ head.level = ap (λ (w : HeadParts). w.level) is in omega (arith, l);
+    fork = fork;
+    deep = omega (arith, is);
     waits = x.waits;
     here = λ b run e hold. go b (settled_rank (value h) (value b) n (same_then b run e)) r.route refl (x.here b run e hold);
   }
@@ -166,7 +158,7 @@ module _ (r : Successor) (snaps : List Snap) (c : Call) (h : History) (n : ℕ) 
 
   -- of which it loads no key
   pub high_looks : (head : HeadParts) → head_at h n ≡ head → asks_key r.route head ≡ false → head.leaf ≡ false → Looks successor_means r snaps c h (children_below r.route true) head.level n
-  high_looks head is e fork = looks_at true head is fork (λ right on. inl (refl, above (subst (λ route. asks_key route head ≡ false) on e)))
+  high_looks head is e fork = looks_at true head.level (ap (λ (w : HeadParts). w.leaf) is ∙ fork) (ap (λ (w : HeadParts). w.level) is) (λ right on. inl (refl, above (subst (λ route. asks_key route head ≡ false) on e)))
     where
       above : asks_key (Along record { 0 = 0 }) head ≡ false → r.key < rank (value h) n
       above d =
@@ -174,89 +166,104 @@ module _ (r : Successor) (snaps : List Snap) (c : Call) (h : History) (n : ℕ) 
           let s = reading.suits in
           omega (arith, s, high)
 
-  -- Of class 0
+-- At the key of a fork
 
-  module _ (head : HeadParts) (key : ℕ) (has : HasLowHead h n head) (key_is : key_at h n ≡ key) where
-    low : class (value h) n ≡ 0
-    low = ap (λ (w : HeadParts). w.class) has.head_is ∙ has.low
-
+pub low_looks : (r : Successor) (snaps : List Snap) (c : Call) (h : History) (low n key : ℕ) → IsReading successor_means r snaps c h → IsAtLowFork successor_means r snaps c h low n → key_at h n ≡ key → Looks successor_means r snaps c h (children_below r.route (ltb r.key key)) low n
+low_looks r snaps c h low n key reading x key_is = looks_at r snaps c h n reading x.stands (ltb r.key key) low x.fork x.deep (λ right on. split (ltb r.key key) refl)
+  where
     rank_is : rank (value h) n ≡ key
-    rank_is = let z = low in let e = key_is in omega (arith, z, e)
+    rank_is = let z = x.class in let e = key_is in omega (arith, z, e)
 
-    pub low_looks : head.leaf ≡ false → Looks successor_means r snaps c h (children_below r.route (ltb r.key key)) head.level n
-    low_looks fork = looks_at (ltb r.key key) head has.head_is fork (λ right on. split (ltb r.key key) refl)
-      where
-        split : (b : Bool) → ltb r.key key ≡ b → ((ltb r.key key ≡ true) × (r.key < rank (value h) n)) ⊎ ((ltb r.key key ≡ false) × (rank (value h) n ≤ r.key))
-        split true p = inl (p, rw rank_is (ltb-true r.key key p))
-        split false p = inr (p, rw rank_is (ltb-false r.key key p))
+    split : (b : Bool) → ltb r.key key ≡ b → ((ltb r.key key ≡ true) × (r.key < rank (value h) n)) ⊎ ((ltb r.key key ≡ false) × (rank (value h) n ≤ r.key))
+    split true p = inl (p, rw rank_is (ltb-true r.key key p))
+    split false p = inr (p, rw rank_is (ltb-false r.key key p))
 
-    module _ (leaf : head.leaf ≡ true) where
-      leaf_is : is_leaf (value h) n ≡ true
-      leaf_is = ap (λ (w : HeadParts). w.leaf) has.head_is ∙ leaf
+-- At the head of a leaf of class 0
 
-      leaf_then : (b : History) → IsTreeRun c.layout b → Extends b h → is_leaf (value b) n ≡ true
-      leaf_then b run e = settled_leaf (value h) (value b) n (same_then b run e) ∙ leaf_is
+module _ (r : Successor) (snaps : List Snap) (c : Call) (h : History) (n : NodeNo) (reading : IsReading successor_means r snaps c h) (x : Stands successor_means r snaps c h n.0) (leaf : is_leaf (value h) n.0 ≡ true) (low : class (value h) n.0 ≡ 0) where
+  -- before its first place
+  starts_at : (more : ℕ) → Whenever c.layout h snaps (λ b. IsInLeaf r.route b r.key (first_place n more)) → StandsIn successor_means r snaps c h (first_place n more)
+  starts_at more here = record { stood = x.stood; asks = tt; some = some_taken successor_means r snaps c h reading n.0 x leaf; waits = x.waits; here = here }
 
-      rank_then : (b : History) → IsTreeRun c.layout b → Extends b h → rank (value b) n ≡ key
-      rank_then b run e = settled_rank (value h) (value b) n (same_then b run e) ∙ rank_is
+  module _ (b : History) (run : IsTreeRun c.layout b) (e : Extends b h) where
+    same_leaf : SameSettled (value h) (value b) n.0
+    same_leaf = stood_settled c.layout b h n.0 run e x.stood.stood
 
-      -- it is the leaf of the answer
-      pub answers_here : behind_leaf r.route r.key key ≡ None → HasKey successor_means (record r { route = Beyond }) snaps c h n key
-      answers_here none = record {
-        stands = record { stood = x.stood; asks = tt; some = x.some; waits = tt; here = λ b run e hold. go b run e r.route none (x.here b run e hold) };
-        leaf = leaf_is;
-        low = low;
-        key_is = key_is;
-        takes = refl;
-      }
-        where
-          above : (right : NodeNo) (b : Bool) → ltb r.key key ≡ b → cond b None (Some right) ≡ None → r.key < key
-          above right true p d = ltb-true r.key key p
-          above right false p d = absurd (let y : Some right ≡ None = d in cc)
+    leaf_then : is_leaf (value b) n.0 ≡ true
+    leaf_then = settled_leaf (value h) (value b) n.0 same_leaf ∙ leaf
 
-          go : (b : History) → IsTreeRun c.layout b → Extends b h → (route : Route) → behind_leaf route r.key key ≡ None → IsOnRoute route b r.key n → IsFirstBehind b r.key n
-          go b run e Above d y = absurd y
-          go b run e (Along right) d y = ends_here b r.key n right.0 y (leaf_then b run e) (rw (rank_then b run e) (above right (ltb r.key key) refl d))
-          go b run e Beyond d y = y
+    low_then : class (value b) n.0 ≡ 0
+    low_then = settled_class (value h) (value b) n.0 same_leaf ∙ low
 
-      -- or it goes on from the node that waits
-      pub stands_behind : (right : NodeNo) → behind_leaf r.route r.key key ≡ Some right → Stands successor_means (record r { route = Beyond }) snaps c h right.0 × (0 < level (value h) right.0)
-      stands_behind right some = go r.route refl some
-        where
-          below : (before : NodeNo) (b : Bool) → ltb r.key key ≡ b → cond b None (Some before) ≡ Some right → (key ≤ r.key) × (before ≡ right)
-          below before true p d = absurd (let y : None ≡ Some right = d in cc)
-          below before false p d = (ltb-false r.key key p, (let y : Some before ≡ Some right = d in cc))
+    in_path : (route : Route) → route ≢ Beyond → IsOnRoute route b r.key n.0 → IsInLeaf route b r.key (first_place n (more_at h n.0))
+    in_path Above d y = absurd y
+    in_path (Along right) d y = searched_in b r.key n (more_at h n.0) right.0 y leaf_then low_then (same_leaf (Settled MoreWord) tt)
+    in_path Beyond d y = absurd (d refl)
 
-          on_path : r.route ≡ Along right → key ≤ r.key → Stands successor_means (record r { route = Beyond }) snaps c h right.0 × (0 < level (value h) right.0)
-          on_path is i =
-              let there : AreThere c h (right ∷ []) = subst (λ route. AreThere c h (behind_path route)) is x.waits in (
-                record {
-                  stood = there.0.0;
-                  asks = tt;
-                  some = inr (some_taken successor_means r snaps c h reading n x leaf_is);
-                  waits = tt;
-                  here = λ b run e hold. ends_behind b r.key n right.0 (subst (λ route. IsOnRoute route b r.key n) is (x.here b run e hold)) (leaf_then b run e) (rw (rank_then b run e) i);
-                },
-                there.0.1,
-              )
+    in_next : (route : Route) → route ≡ Beyond → IsOnRoute route b r.key n.0 → IsInLeaf route b r.key (first_place n 0)
+    in_next route is y = subst (λ (w : Route). IsInLeaf w b r.key (first_place n 0)) (sym is) record { first = subst (λ (w : Route). IsOnRoute w b r.key n.0) is y; leaf = leaf_then; low = low_then; slot = refl }
 
-          go : (route : Route) → r.route ≡ route → behind_leaf route r.key key ≡ Some right → Stands successor_means (record r { route = Beyond }) snaps c h right.0 × (0 < level (value h) right.0)
-          go Above is d = absurd (let y : None ≡ Some right = d in cc)
-          go (Along before) is d = let y = below before (ltb r.key key) refl d in on_path (is ∙ ap Along y.1) y.0
-          go Beyond is d = absurd (let y : None ≡ Some right = d in cc)
+  pub starts_in : MayLoad successor_means r snaps c h (leaf_load r.route n)
+  starts_in = go r.route refl
+    where
+      go : (route : Route) → r.route ≡ route → MayLoad successor_means r snaps c h (leaf_load route n)
+      go Above is = starts_at (more_at h n.0) (λ b run e hold. in_path b run e r.route (λ z. (let y : Above ≡ Beyond = sym is ∙ z in cc)) (x.here b run e hold))
+      go (Along right) is = starts_at (more_at h n.0) (λ b run e hold. in_path b run e r.route (λ z. (let y : Along right ≡ Beyond = sym is ∙ z in cc)) (x.here b run e hold))
+      go Beyond is = starts_at 0 (λ b run e hold. in_next b run e r.route is (x.here b run e hold))
 
--- At the leaf of the answer
+-- At the key of a pair
 
-pub tells_this : (r : Successor) (snaps : List Snap) (c : Call) (h : History) (n : ℕ) (p : Pair) → IsReading successor_means r snaps c h → IsOwnMoment c h → HasKey successor_means r snaps c h n p.key → value_at h n ≡ p.value → MayValidate successor_means (record r { found = Some p }) snaps c h
-tells_this r snaps c h n p reading own x d = record {
+module _ (r : Successor) (snaps : List Snap) (c : Call) (h : History) (p : LeafPlace) (key : ℕ) (x : StandsIn successor_means r snaps c h p) (key_is : place_key h p ≡ key) where
+  -- it is the answer
+  pub takes_pair : is_answer r.route r.key key ≡ true → TakesPair successor_means r snaps c h p key
+  takes_pair is = record { stands = x; key_is = key_is; takes = go r.route is }
+    where
+      go : (route : Route) → is_answer route r.key key ≡ true → TakesOnRoute route r.key key
+      go Above e = ltb-true r.key key e
+      go (Along right) e = ltb-true r.key key e
+      go Beyond e = tt
+
+  module _ (not : is_answer r.route r.key key ≡ false) where
+    -- or not: then it is on the path of its key
+    key_then : (b : History) → IsTreeRun c.layout b → Extends b h → place_key b p ≡ key
+    key_then b run e = stood_settled c.layout b h p.node.0 run e x.stood.stood (Settled (KeyWord p.slot)) tt ∙ key_is
+
+    next_in : (q : LeafPlace) → place_behind p ≡ Some q → (b : History) → place_key b p ≡ key → (route : Route) → is_answer route r.key key ≡ false → IsInLeaf route b r.key p → IsInLeaf route b r.key q
+    next_in q is b e Above d y = absurd y
+    next_in q is b e (Along right) d y = goes_on b r.key p right.0 y q (rw e (ltb-false r.key key d)) is
+    next_in q is b e Beyond d y = absurd (let z : true ≡ false = d in cc)
+
+    pub stands_next : (q : LeafPlace) → place_behind p ≡ Some q → StandsIn successor_means r snaps c h q
+    stands_next q is = record {
+      stood = subst (λ (n : NodeNo). HasStood c h n.0) (sym (behind_node p q is)) x.stood;
+      asks = tt;
+      some = x.some;
+      waits = x.waits;
+      here = λ b run e hold. next_in q is b (key_then b run e) r.route not (x.here b run e hold);
+    }
+
+    next_leaf : place_behind p ≡ None → (b : History) → place_key b p ≡ key → (route : Route) → is_answer route r.key key ≡ false → IsInLeaf route b r.key p → IsNextLeaf route b r.key
+    next_leaf is b e Above d y = absurd y
+    next_leaf is b e (Along right) d y = ends_behind b r.key p right.0 y (rw e (ltb-false r.key key d)) is
+    next_leaf is b e Beyond d y = absurd (let z : true ≡ false = d in cc)
+
+    pub beyond_leaf : IsOwnMoment c h → place_behind p ≡ None → GoesBeyond r snaps c h
+    beyond_leaf own is = record { own = own; some = x.some; waits = x.waits; behind = λ b run e hold. next_leaf is b (key_then b run e) r.route not (x.here b run e hold) }
+
+-- At the pair of the answer
+
+pub tells_this : (r : Successor) (snaps : List Snap) (c : Call) (h : History) (p : LeafPlace) (found : Pair) → IsOwnMoment c h → TakesPair successor_means r snaps c h p found.key → place_pair h p ≡ found → MayValidate successor_means (record r { found = Some found }) snaps c h
+tells_this r snaps c h p found own x is = record {
   asks = tt;
   own = own;
-  some = some_taken successor_means r snaps c h reading n x.stands x.leaf;
+  some = x.stands.some;
   right = λ b run e hold ps spelled.
-      let same : SameSettled (value h) (value b) n = stood_settled c.layout b h n run e x.stands.stood.stood in
-      let leaf : is_leaf (value b) n ≡ true = settled_leaf (value h) (value b) n same ∙ x.leaf in
-      let low : class (value b) n ≡ 0 = settled_class (value h) (value b) n same ∙ x.low in
-      let key_is : value b (node n first_key) ≡ p.key = same first_key tt ∙ x.key_is in
-      let first : IsFirstBehind b r.key n = subst (λ route. IsOnRoute route b r.key n) x.takes (x.stands.here b run e hold) in
-      ap pair_or_none (first_tells b r.key n first c.layout ps leaf spelled ∙ tells_pair (value b) n p.key p.value (first_counted b r.key n first leaf low) low key_is (same first_value tt ∙ d));
+      let same : SameSettled (value h) (value b) p.node.0 = stood_settled c.layout b h p.node.0 run e x.stands.stood.stood in
+      let key_is : place_key b p ≡ found.key = same (Settled (KeyWord p.slot)) tt ∙ x.key_is in
+      ap pair_or_none (go b ps spelled key_is r.route x.takes (x.stands.here b run e hold) ∙ ap Some (same_pair (value h) (value b) p.node.0 p.slot same ∙ is));
 }
+  where
+    go : (b : History) (ps : List Pair) → Spells c.layout (value b) ps → place_key b p ≡ found.key → (route : Route) → TakesOnRoute route r.key found.key → IsInLeaf route b r.key p → successor r.key ps ≡ Some (place_pair b p)
+    go b ps spelled e Above t y = absurd y
+    go b ps spelled e (Along right) t y = tells_here b r.key p right.0 y c.layout ps (rw e t) spelled
+    go b ps spelled e Beyond t y = tells_first c.layout b r.key p ps y spelled

@@ -1,4 +1,5 @@
 mod Following
+mod Placing
 mod Searching
 mod Blaming
 mod Snapping

@@ -24,7 +24,7 @@ use Rattle.ordered_map.specs.Spelled.{Spells}
 use Rattle.ordered_map.specs.TreeShape.{TreeAllows}
 use Rattle.ordered_map.specs.TreeWords.{is_leaf, level, rank}
 use Rattle.ordered_map.proofs.Lemmas.{passed_unmarked, path_not_final, root_head, run_since, run_spells, stood_settled, walk_first, was_passed, settled_leaf, settled_toward}
-use Rattle.template.specs.FoundLeaf.{HasEnded, HasFoundGoal}
+use Rattle.template.specs.FoundLeaf.{HasFoundGoal, HasFoundLeaf}
 use Rattle.template.specs.declared.walk.Found.{Found}
 use Rattle.template.specs.declared.walk.Goal.TheVariants.{Key as ToKey}
 use Rattle.template.proofs.Lemmas.{own_since, opened_if_stood}
@@ -41,8 +41,8 @@ use Rattle.order.proofs.Snapping.{hold_before, some_more, reads_one_more, child_
 -- The fork where the search begins
 
 -- the root is a fork of class 2
-root_turned : (c : Call) (h : History) (k asked : ℕ) (f : Found) → IsTreeRun c.layout h → k < 2 ^ 64 → HasEnded c h k asked f → HasTurnedLeft c h k 0
-root_turned c h k asked f run small a = record { passed = record { first = a.trail.node.first; own = a.trail.node.own; passed = there }; fork = rw head refl; left = rw (lt-ltb k (rank (value h) 0) high) refl }
+root_turned : (c : Call) (h : History) (k : ℕ) (f : Found) → IsTreeRun c.layout h → k < 2 ^ 64 → HasFoundLeaf c h k f → HasTurnedLeft c h k 0
+root_turned c h k f run small a = record { passed = record { first = a.trail.node.first; own = a.trail.node.own; passed = there }; fork = rw head refl; left = rw (lt-ltb k (rank (value h) 0) high) refl }
   where
     head : value h (node 0 (Settled HeadWord)) ≡ 2
     head = root_head c.layout h run
@@ -56,9 +56,9 @@ root_turned c h k asked f run small a = record { passed = record { first = a.tra
         let x : Passed p.0 p.0 k 0 = walk_first c.layout p.0 k (run_since c.layout h p.0 run p.1) in
         (x.0, ends_trans h p.0 x.0 p.1 x.1, ends_trans x.0 p.0 a.trail.node.first x.2 p.2, x.3)
 
-last_turned : (c : Call) (h : History) (k asked n : ℕ) (f : Found) → IsTreeRun c.layout h → k < 2 ^ 64 → HasEnded c h k asked f → IsLastTurn c h k n → HasTurnedLeft c h k n
-last_turned c h k asked n f run small a (inl e) = rw e (root_turned c h k asked f run small a)
-last_turned c h k asked n f run small a (inr x) = x
+last_turned : (c : Call) (h : History) (k n : ℕ) (f : Found) → IsTreeRun c.layout h → k < 2 ^ 64 → HasFoundLeaf c h k f → IsLastTurn c h k n → HasTurnedLeft c h k n
+last_turned c h k n f run small a (inl e) = rw e (root_turned c h k f run small a)
+last_turned c h k n f run small a (inr x) = x
 
 -- an LLX may begin at a node that has stood
 pub look_ready : (c : Call) (h : History) (snaps : List Snap) (n : ℕ) (llx : LlxRun) → Reads c h snaps → HasStood c h n → llx.node.0 ≡ n → llx.at ≡ LlxStart → LlxIsReady TreeAllows llx (begun_at c h) h None
@@ -93,7 +93,7 @@ module _ {R A : Type 0} (means : ReadMeaning R A) (r : R) (snaps : List Snap) (c
 
   -- so it may behind the leaf that its walk has found
   pub walk_found : (key n : ℕ) (f : Found) → WalksTo means r key → IsLastTurn c h key n → HasFoundGoal (ToKey key) c h f → Looks means r snaps c h Both 0 n
-  walk_found key n f w last found = looks_first key n w (last_turned c h key key n f reading.reads.run (w.small reading.suits) found last)
+  walk_found key n f w last found = looks_first key n w (last_turned c h key n f reading.reads.run (w.small reading.suits) found last)
 
   -- A snapshot more
 

@@ -3,7 +3,10 @@ use Rattle.std.proofs.Common.{◌≡◌, ◌≢◌, ℕ, zero, suc, ◌+◌, ◌
 use Rattle.std.proofs.Math.Nat.{suc-mul}
 use Rattle.arena.specs.declared.machine.Turn.{Turn}
 use Rattle.arena.specs.declared.machine.Turn.TheVariants.{Ask, Done}
+use Rattle.arena.specs.declared.word.Slot.{Slot}
+use Rattle.arena.specs.declared.word.Slot.TheVariants.{First, Second, Third, Fourth}
 use Rattle.arena.specs.Machines.{MatchTurn}
+use Rattle.arena.specs.Words.{slot_no}
 
 -- what is below a number is below a greater one
 pub below : {A : Type 0} (turn : Turn A) (x a b : ℕ) → MatchTurn turn (λ _. x < a) (λ _. Unit {0}) → a ≤ b → MatchTurn turn (λ _. x < b) (λ _. Unit {0})
@@ -37,11 +40,24 @@ less_vlx t now left i = omega (arith, i)
 pub from_root : (t size level nodes behind : ℕ) → t + (size + (67 * (2 + nodes - level) - 1 + behind)) ≤ t + (size + 67 * (2 + nodes) - 1 + behind)
 from_root t size level nodes behind = omega arith
 
-pub from_head : (t size above level nodes behind : ℕ) → above < level → level < 2 + nodes → t + (size + (67 * (2 + nodes - level) - 1 + behind)) ≤ t + (size + 67 * (1 + nodes - above) - 1 + behind)
-from_head t size above level nodes behind i j = omega (arith, i, j)
+pub from_head : (above level nodes behind : ℕ) → above < level → level < 2 + nodes → 67 * (2 + nodes - level) - 1 + behind < 67 * (1 + nodes - above) + behind
+from_head above level nodes behind i j = omega (arith, i, j)
 
-pub from_key : (t size level nodes behind : ℕ) → level < 2 + nodes → t + (size + (67 * (2 + nodes - level) - 2 + behind)) ≤ t + (size + 67 * (2 + nodes - level) - 2 + behind)
-from_key t size level nodes behind i = omega (arith, i)
+pub from_fork : (level nodes behind : ℕ) → level + 1 < 2 + nodes → 67 * (2 + nodes - level) - 2 + behind < 67 * (2 + nodes - level) - 1 + behind
+from_fork level nodes behind i = omega (arith, i)
+
+-- a leaf has four slots
+few_slots : (slot : Slot) → slot_no slot < 4
+few_slots First = omega arith
+few_slots Second = omega arith
+few_slots Third = omega arith
+few_slots Fourth = omega arith
+
+pub from_pair : (slot : Slot) (behind : ℕ) → 12 - 3 * slot_no slot - 1 + behind < 12 - 3 * slot_no slot + behind
+from_pair slot behind = let i = few_slots slot in omega (arith, i)
+
+pub from_value : (slot : Slot) (behind : ℕ) → 12 - 3 * slot_no slot - 3 + behind < 12 - 3 * slot_no slot - 2 + behind
+from_value slot behind = let i = few_slots slot in omega (arith, i)
 
 pub from_validate : (t size n : ℕ) → size + 0 ≤ n → t + (size - 0) ≤ t + n
 from_validate t size n i = omega (arith, i)

@@ -1,5 +1,5 @@
 -- What a range knows one place further.
-use Rattle.std.proofs.Common.{◌≡◌, ◌≢◌, ℕ, zero, suc, ◌+◌, ◌-◌, ◌*◌, ◌<◌, ◌≤◌, ◌⊎◌, Bool, true, false, ltb, leb, ◌&&◌, List, [], ◌∷◌, ◌++◌, length, reverse, inl, inr, ⊎_elim, refl, sym, ◌∙◌, ap, subst, arith, lt-ltb, le-ltb, min, Vec}
+use Rattle.std.proofs.Common.{◌≡◌, ◌≢◌, ℕ, zero, suc, ◌+◌, ◌-◌, ◌*◌, ◌<◌, ◌≤◌, ◌⊎◌, Bool, true, false, ltb, leb, ◌&&◌, List, [], ◌∷◌, ◌++◌, length, reverse, inl, inr, ⊎_elim, refl, sym, ◌∙◌, ap, subst, arith, lt-ltb, le-ltb, min, Some, None, Vec}
 use Rattle.std.specs.Prelude.{take}
 use Rattle.std.specs.Global.{Global}
 use Rattle.std.proofs.Math.Nat.{suc-mul, mul-le-mul_right}
@@ -7,7 +7,8 @@ use Rattle.std.proofs.lemmas.Bool.Decides.{leb_tells}
 use Rattle.std.proofs.lemmas.List.{reverse-append}
 use Rattle.arena.specs.declared.head.Head.{Head as HeadParts}
 use Rattle.arena.specs.declared.number.NodeNo.{NodeNo}
-use Rattle.arena.specs.Words.{node, first_key, first_value}
+use Rattle.arena.specs.declared.word.NodeWord.TheVariants.{Settled}
+use Rattle.arena.specs.declared.word.SettledPart.TheVariants.{More as MoreWord, Key as KeyWord}
 use Rattle.arena.specs.History.{History, value, Extends}
 use Rattle.arena.specs.Machines.{Call}
 use Rattle.prims.specs.declared.snap.Snap.{Snap}
@@ -16,18 +17,21 @@ use Rattle.ordered_map.specs.OrderedMap.{between, range, ManyPairs}
 use Rattle.ordered_map.specs.Runs.{IsTreeRun}
 use Rattle.ordered_map.specs.Spelled.{Spells}
 use Rattle.ordered_map.specs.TreeWords.{class, is_leaf, level, rank}
-use Rattle.ordered_map.proofs.Lemmas.{run_spells, stood_settled, SameSettled, settled_class, settled_leaf, settled_rank}
+use Rattle.ordered_map.proofs.Lemmas.{run_spells, same_pair, stood_settled, SameSettled, settled_class, settled_leaf, settled_rank}
 use Rattle.template.specs.Trails.{IsOwnMoment}
-use Rattle.order.specs.Found.{AreThere, BeginsAtRoot, GoesTo, HasKey, HasLowHead, IsReading, IsThere, Looks, Stands, head_at, key_at, value_at}
+use Rattle.order.specs.Found.{AreThere, BeginsAtRoot, GoesTo, IsAtLowFork, IsReading, IsThere, Looks, Stands, StandsBefore, StandsIn, TakesPair, head_at, key_at, place_key, more_at, place_pair}
+use Rattle.order.specs.Loads.{place_behind}
 use Rattle.order.specs.Next.{MayValidate}
-use Rattle.order.specs.Range.{AreWithin, GoesBehind, Visits, bounds_of, range_means, waiting_of}
-use Rattle.order.specs.Reads.{Whenever}
-use Rattle.order.specs.Visits.{HasVisited}
+use Rattle.order.specs.Range.{AreWithin, GoesBehind, GoesOnBehind, Visits, VisitsIn, bounds_of, range_means, waiting_of}
+use Rattle.order.specs.Reads.{HasStood}
+use Rattle.order.specs.Visits.{HasVisited, HasVisitedIn}
+use Rattle.order.specs.declared.load.LeafPlace.{LeafPlace}
 use Rattle.order.specs.declared.range.Range.{Range}
 use Rattle.order.specs.declared.read.Children.{Children}
 use Rattle.order.specs.declared.read.Children.TheVariants.{Left, Right, Both}
 use Rattle.order.proofs.Looking.{some_taken}
-use Rattle.order.proofs.Visiting.{visits_both, visits_left, visits_right, takes, passes_below, passes_above, visits_next, visits_root, ends_all, ends_full, ends_last}
+use Rattle.order.proofs.Placing.{behind_node}
+use Rattle.order.proofs.Visiting.{ends_all, ends_full, ends_last, passes, passes_above, takes, visited_in, visits_both, visits_in, visits_left, visits_next, visits_on, visits_right, visits_root}
 
 -- Of no pairs, and of no keys
 
@@ -126,19 +130,15 @@ module _ (r : Range) (snaps : List Snap) (c : Call) (h : History) (n : ℕ) (rea
   same_then : (b : History) → IsTreeRun c.layout b → Extends b h → SameSettled (value h) (value b) n
   same_then b run e = stood_settled c.layout b h n run e x.stood.stood
 
-  -- a leaf without a pair within the bounds is behind it
-  goes_behind : IsOwnMoment c h → is_leaf (value h) n ≡ true → Whenever c.layout h snaps (λ b. HasVisited b (bounds_of r) r.taken.items (waiting_of r) (r.leaves - 1)) → GoesBehind r snaps c h (r.leaves - 1)
-  goes_behind own leaf visited = record {
+  -- above all keys
+  pub high_behind : IsOwnMoment c h → is_leaf (value h) n ≡ true → class (value h) n ≢ 0 → GoesBehind r snaps c h (r.leaves - 1)
+  high_behind own leaf high = record {
     own = own;
     asks = x.asks;
     some = some_taken range_means r snaps c h reading n x leaf;
     waits = x.waits;
-    visited = λ b run e hold. ((let i = (x.here b run e hold).0 in omega (arith, i)), visited b run e hold);
+    visited = λ b run e hold. let v : Visits r b n = x.here b run e hold in (v.0, passes_above b (bounds_of r) n r.taken.items (waiting_of r) r.leaves v.1 (settled_leaf (value h) (value b) n (same_then b run e) ∙ leaf) (λ z. high (sym (settled_class (value h) (value b) n (same_then b run e)) ∙ z)) (above b run e));
   }
-
-  -- above all keys
-  pub high_behind : IsOwnMoment c h → is_leaf (value h) n ≡ true → class (value h) n ≢ 0 → GoesBehind r snaps c h (r.leaves - 1)
-  high_behind own leaf high = goes_behind own leaf (λ b run e hold. passes_above b (bounds_of r) n r.taken.items (waiting_of r) r.leaves (x.here b run e hold).1 (settled_leaf (value h) (value b) n (same_then b run e) ∙ leaf) (above b run e))
     where
       above : (b : History) → IsTreeRun c.layout b → Extends b h → r.high < rank (value b) n
       above b run e =
@@ -147,87 +147,127 @@ module _ (r : Range) (snaps : List Snap) (c : Call) (h : History) (n : ℕ) (rea
           omega (arith, k, s, high)
 
   -- a fork
-  looks_at : (children : Children) (head : HeadParts) → head_at h n ≡ head → head.leaf ≡ false → AreWithin r (rank (value h) n) children → Looks range_means r snaps c h children head.level n
-  looks_at children head is fork within = record {
+  looks_at : (children : Children) (deep : ℕ) → is_leaf (value h) n ≡ false → level (value h) n ≡ deep → AreWithin r (rank (value h) n) children → Looks range_means r snaps c h children deep n
+  looks_at children deep fork is within = record {
     stood = x.stood;
     asks = x.asks;
-    fork = ap (λ (w : HeadParts). w.leaf) is ∙ fork;
-    deep = let l : level (value h) n ≡ head.level = ap (λ (w : HeadParts). w.level) is in omega (arith, l);
+    fork = fork;
+    deep = omega (arith, is);
     waits = x.waits;
     here = λ b run e hold. (subst (λ k. AreWithin r k children) (sym (settled_rank (value h) (value b) n (same_then b run e))) within, x.here b run e hold);
   }
 
   pub high_looks : (head : HeadParts) → head_at h n ≡ head → head.leaf ≡ false → head.class ≢ 0 → Looks range_means r snaps c h Left head.level n
-  high_looks head is fork high = looks_at Left head is fork (let k : class (value h) n ≡ head.class = ap (λ (w : HeadParts). w.class) is in let s = reading.suits.0 in omega (arith, s, k, high))
+  high_looks head is fork high = looks_at Left head.level (ap (λ (w : HeadParts). w.leaf) is ∙ fork) (ap (λ (w : HeadParts). w.level) is) (let k : class (value h) n ≡ head.class = ap (λ (w : HeadParts). w.class) is in let s = reading.suits.0 in omega (arith, s, k, high))
 
-  -- of class 0
-  module _ (head : HeadParts) (key : ℕ) (has : HasLowHead h n head) (d : key_at h n ≡ key) where
-    zero_class : class (value h) n ≡ 0
-    zero_class = ap (λ (w : HeadParts). w.class) has.head_is ∙ has.low
+-- At the key of a fork
 
+pub low_looks : (r : Range) (snaps : List Snap) (c : Call) (h : History) (children : Children) (low n key : ℕ) → IsReading range_means r snaps c h → IsAtLowFork range_means r snaps c h low n → key_at h n ≡ key → AreWithin r key children → Looks range_means r snaps c h children low n
+low_looks r snaps c h children low n key reading x d within = looks_at r snaps c h n reading x.stands children low x.fork x.deep (subst (λ k. AreWithin r k children) (sym rank_is) within)
+  where
     rank_is : rank (value h) n ≡ key
-    rank_is = let z = zero_class in let e = d in omega (arith, z, e)
+    rank_is = let z = x.class in let e = d in omega (arith, z, e)
 
-    pub low_looks : (children : Children) → head.leaf ≡ false → AreWithin r key children → Looks range_means r snaps c h children head.level n
-    low_looks children fork within = looks_at children head has.head_is fork (subst (λ k. AreWithin r k children) (sym rank_is) within)
+-- At the head of a leaf of class 0
 
-    module _ (leaf : head.leaf ≡ true) where
-      leaf_is : is_leaf (value h) n ≡ true
-      leaf_is = ap (λ (w : HeadParts). w.leaf) has.head_is ∙ leaf
+pub starts_in : (r : Range) (snaps : List Snap) (c : Call) (h : History) (n : NodeNo) → IsReading range_means r snaps c h → Stands range_means r snaps c h n.0 → is_leaf (value h) n.0 ≡ true → class (value h) n.0 ≡ 0 → StandsBefore range_means r snaps c h n
+starts_in r snaps c h n reading x leaf low = record {
+  stood = x.stood;
+  asks = x.asks;
+  some = some_taken range_means r snaps c h reading n.0 x leaf;
+  waits = x.waits;
+  here = λ b run e hold.
+      let same : SameSettled (value h) (value b) n.0 = stood_settled c.layout b h n.0 run e x.stood.stood in
+      let v : Visits r b n.0 = x.here b run e hold in
+      (v.0, visits_in b (bounds_of r) n (more_at h n.0) r.taken.items (waiting_of r) r.leaves v.1 (settled_leaf (value h) (value b) n.0 same ∙ leaf) (settled_class (value h) (value b) n.0 same ∙ low) (same (Settled MoreWord) tt));
+}
 
-      low_leaf : (b : History) → IsTreeRun c.layout b → Extends b h → is_leaf (value b) n ≡ true
-      low_leaf b run e = settled_leaf (value h) (value b) n (same_then b run e) ∙ leaf_is
-
-      low_class : (b : History) → IsTreeRun c.layout b → Extends b h → class (value b) n ≡ 0
-      low_class b run e = settled_class (value h) (value b) n (same_then b run e) ∙ zero_class
-
-      low_key : (b : History) → IsTreeRun c.layout b → Extends b h → value b (node n first_key) ≡ key
-      low_key b run e = same_then b run e first_key tt ∙ d
-
-      pub low_behind : IsOwnMoment c h → (key < r.low) ⊎ (r.high < key) → GoesBehind r snaps c h (r.leaves - 1)
-      low_behind own out = goes_behind own leaf_is (λ b run e hold. ⊎_elim
-          (λ i. passes_below b (bounds_of r) n r.taken.items (waiting_of r) r.leaves (x.here b run e hold).1 (low_leaf b run e) (low_class b run e) (rw (low_key b run e) i))
-          (λ i. passes_above b (bounds_of r) n r.taken.items (waiting_of r) r.leaves (x.here b run e hold).1 (low_leaf b run e) (let z = low_class b run e in let k = low_key b run e in omega (arith, z, k, i)))
-          out)
-
-      pub low_taken : r.low ≤ key → key ≤ r.high → HasKey range_means r snaps c h n key
-      low_taken i j = record { stands = x; leaf = leaf_is; low = zero_class; key_is = d; takes = (i, j) }
-
--- At the value of a leaf
+-- At a pair of a leaf
 
 one_longer : (xs : List Pair) (p : Pair) → length (xs ++ p ∷ []) ≡ length xs + 1
 one_longer [] p = refl
 one_longer (x ∷ xs) p = let e = one_longer xs p in omega (arith, e)
 
--- its pair is taken
-pub pair_taken : (r : Range) (snaps : List Snap) (c : Call) (h : History) (n : ℕ) (p : Pair) (taken : Vec Pair Global) → IsReading range_means r snaps c h → IsOwnMoment c h → HasKey range_means r snaps c h n p.key → value_at h n ≡ p.value → taken.items ≡ r.taken.items ++ p ∷ [] → GoesBehind (record r { taken = taken }) snaps c h (r.leaves - 1)
-pair_taken r snaps c h n p taken reading own x d items = record {
+-- one outside of the bounds is behind it
+pub pair_passed : (r : Range) (snaps : List Snap) (c : Call) (h : History) (p : LeafPlace) (key : ℕ) → IsOwnMoment c h → StandsIn range_means r snaps c h p → place_key h p ≡ key → (key < r.low) ⊎ (r.high < key) → GoesOnBehind r snaps c h p
+pair_passed r snaps c h p key own x is out = record {
+  own = own;
+  asks = x.asks;
+  some = x.some;
+  stood = x.stood;
+  waits = x.waits;
+  visited = λ b run e hold.
+      let key_is : place_key b p ≡ key = stood_settled c.layout b h p.node.0 run e x.stood.stood (Settled (KeyWord p.slot)) tt ∙ is in
+      let v : VisitsIn r b p = x.here b run e hold in
+      ((let i = v.0 in omega (arith, i)), passes b (bounds_of r) p r.taken.items (waiting_of r) r.leaves v.1 (rw key_is out));
+}
+
+-- one within them is taken
+pub pair_taken : (r : Range) (snaps : List Snap) (c : Call) (h : History) (p : LeafPlace) (found : Pair) (taken : Vec Pair Global) → IsOwnMoment c h → TakesPair range_means r snaps c h p found.key → place_pair h p ≡ found → taken.items ≡ r.taken.items ++ found ∷ [] → GoesOnBehind (record r { taken = taken }) snaps c h p
+pair_taken r snaps c h p found taken own x is items = record {
   own = own;
   asks = x.stands.asks;
-  some = some_taken range_means r snaps c h reading n x.stands x.leaf;
+  some = x.stands.some;
+  stood = x.stands.stood;
   waits = x.stands.waits;
   visited = λ b run e hold.
-      let same : SameSettled (value h) (value b) n = stood_settled c.layout b h n run e x.stands.stood.stood in
-      let key_is : value b (node n first_key) ≡ p.key = same first_key tt ∙ x.key_is in
-      let here : Visits r b n = x.stands.here b run e hold in
+      let same : SameSettled (value h) (value b) p.node.0 = stood_settled c.layout b h p.node.0 run e x.stands.stood.stood in
+      let key_is : place_key b p ≡ found.key = same (Settled (KeyWord p.slot)) tt ∙ x.key_is in
+      let pair_is : place_pair b p ≡ found = same_pair (value h) (value b) p.node.0 p.slot same ∙ is in
+      let v : VisitsIn r b p = x.stands.here b run e hold in
       rw items (
-        (let i = here.0 in let l : length (r.taken.items ++ p ∷ []) ≡ length r.taken.items + 1 = one_longer r.taken.items p in omega (arith, i, l)),
-        rw (key_is, same first_value tt ∙ d) at (takes b (bounds_of r) n r.taken.items (waiting_of r) r.leaves here.1 (settled_leaf (value h) (value b) n same ∙ x.leaf) (settled_class (value h) (value b) n same ∙ x.low) (rw key_is x.takes.0) (rw key_is x.takes.1)),
+        (let i = v.0 in let l : length (r.taken.items ++ found ∷ []) ≡ length r.taken.items + 1 = one_longer r.taken.items found in omega (arith, i, l)),
+        subst (λ (q : Pair). HasVisitedIn b (bounds_of r) p (r.taken.items ++ q ∷ []) (waiting_of r) r.leaves) pair_is (takes b (bounds_of r) p r.taken.items (waiting_of r) r.leaves v.1 (rw key_is x.takes.0) (rw key_is x.takes.1)),
       );
 }
+
+-- Behind a pair
+
+module _ (r : Range) (snaps : List Snap) (c : Call) (h : History) (p : LeafPlace) (x : GoesOnBehind r snaps c h p) where
+  -- as many are taken as it tells
+  pub taken_all : r.most ≤ length r.taken.items → MayValidate range_means r snaps c h
+  taken_all full = record {
+    asks = x.asks;
+    own = x.own;
+    some = x.some;
+    right = λ b run e hold ps spelled.
+        let v : (length r.taken.items ≤ r.most) × HasVisitedIn b (bounds_of r) p r.taken.items (waiting_of r) r.leaves = x.visited b run e hold in
+        ap ManyPairs (ends_full c.layout b (bounds_of r) p r.taken.items (waiting_of r) r.leaves v.1 (let i = v.0 in omega (arith, i, full)) ps spelled);
+  }
+
+  module _ (room : length r.taken.items < r.most) where
+    -- the next one is read
+    pub stands_next : (q : LeafPlace) → place_behind p ≡ Some q → StandsIn range_means r snaps c h q
+    stands_next q is = record {
+      stood = subst (λ (n : NodeNo). HasStood c h n.0) (sym (behind_node p q is)) x.stood;
+      asks = x.asks;
+      some = x.some;
+      waits = x.waits;
+      here = λ b run e hold. (room, visits_on b (bounds_of r) p r.taken.items (waiting_of r) r.leaves (x.visited b run e hold).1 q is);
+    }
+
+    -- or the leaf is behind it
+    pub leaf_behind : place_behind p ≡ None → GoesBehind r snaps c h (r.leaves - 1)
+    leaf_behind is = record {
+      own = x.own;
+      asks = x.asks;
+      some = x.some;
+      waits = x.waits;
+      visited = λ b run e hold. (room, visited_in b (bounds_of r) p r.taken.items (waiting_of r) r.leaves (x.visited b run e hold).1 is);
+    }
 
 -- Behind a leaf
 
 module _ (r : Range) (snaps : List Snap) (c : Call) (h : History) (leaves : ℕ) (x : GoesBehind r snaps c h leaves) where
   -- the next node that waits
-  pub next_visited : (n : NodeNo) (waiting : Vec NodeNo Global) → length r.taken.items < r.most → r.waiting.items ≡ waiting.items ++ n ∷ [] → Stands range_means (record r { leaves = leaves; waiting = waiting }) snaps c h n.0 × (0 < level (value h) n.0)
-  next_visited n waiting room is = (
+  pub next_visited : (n : NodeNo) (waiting : Vec NodeNo Global) → r.waiting.items ≡ waiting.items ++ n ∷ [] → Stands range_means (record r { leaves = leaves; waiting = waiting }) snaps c h n.0 × (0 < level (value h) n.0)
+  next_visited n waiting is = (
     record {
       stood = there.0.0;
       asks = x.asks;
       some = inr x.some;
       waits = there.1;
-      here = λ b run e hold. (room, visits_next b (bounds_of r) n r.taken.items (reverse waiting.items) leaves (rw waits_is at (x.visited b run e hold).1));
+      here = λ b run e hold. let v = x.visited b run e hold in (v.0, visits_next b (bounds_of r) n r.taken.items (reverse waiting.items) leaves (rw waits_is at v.1));
     },
     there.0.1,
   )
@@ -238,21 +278,20 @@ module _ (r : Range) (snaps : List Snap) (c : Call) (h : History) (leaves : ℕ)
       there : IsThere c h n × AreThere c h (reverse waiting.items)
       there = rw waits_is at x.waits
 
-  -- none is visited any more: none waits, enough pairs were taken, or enough leaves were visited
-  pub visits_end : (now : Range) → now.low ≡ r.low → now.high ≡ r.high → now.most ≡ r.most → now.taken ≡ r.taken → (r.waiting.items ≡ []) ⊎ ((r.most ≤ length r.taken.items) ⊎ (leaves ≡ 0)) → MayValidate range_means now snaps c h
+  -- none is visited any more: none waits, or enough leaves were visited
+  pub visits_end : (now : Range) → now.low ≡ r.low → now.high ≡ r.high → now.most ≡ r.most → now.taken ≡ r.taken → (r.waiting.items ≡ []) ⊎ (leaves ≡ 0) → MayValidate range_means now snaps c h
   visits_end now low high most taken why = record {
     asks = rw (low, high, most) x.asks;
     own = x.own;
     some = x.some;
     right = λ b run e hold ps spelled.
-        let v : (length r.taken.items ≤ r.most) × HasVisited b (bounds_of r) r.taken.items (waiting_of r) leaves = x.visited b run e hold in
-        rw (low, high, most, taken) (ap ManyPairs (go b v.0 v.1 why ps spelled));
+        let v : (length r.taken.items < r.most) × HasVisited b (bounds_of r) r.taken.items (waiting_of r) leaves = x.visited b run e hold in
+        rw (low, high, most, taken) (ap ManyPairs (go b (let i = v.0 in omega (arith, i)) v.1 why ps spelled));
   }
     where
-      go : (b : History) → length r.taken.items ≤ r.most → HasVisited b (bounds_of r) r.taken.items (waiting_of r) leaves → (r.waiting.items ≡ []) ⊎ ((r.most ≤ length r.taken.items) ⊎ (leaves ≡ 0)) → (ps : List Pair) → Spells c.layout (value b) ps → range r.low r.high r.most ps ≡ r.taken.items
+      go : (b : History) → length r.taken.items ≤ r.most → HasVisited b (bounds_of r) r.taken.items (waiting_of r) leaves → (r.waiting.items ≡ []) ⊎ (leaves ≡ 0) → (ps : List Pair) → Spells c.layout (value b) ps → range r.low r.high r.most ps ≡ r.taken.items
       go b room v (inl none) = ends_all c.layout b (bounds_of r) r.taken.items (waiting_of r) leaves v room (ap reverse none)
-      go b room v (inr (inl full)) = ends_full c.layout b (bounds_of r) r.taken.items (waiting_of r) leaves v room (omega (arith, room, full))
-      go b room v (inr (inr last)) = ends_last c.layout b (bounds_of r) r.taken.items (waiting_of r) leaves v room last
+      go b room v (inr last) = ends_last c.layout b (bounds_of r) r.taken.items (waiting_of r) leaves v room last
 
 -- the next path takes no more steps than those that are left behind this one
 pub next_path : (leaves nodes : ℕ) → leaves - 1 ≢ 0 → 67 * (1 + nodes - 0) + (leaves - 1 - 1) * (67 * (2 + nodes)) ≤ (leaves - 1) * (67 * (2 + nodes))

@@ -1,19 +1,25 @@
 -- How the search for the least key above k goes down a tree.
-use Rattle.std.proofs.Common.{◌≡◌, ◌≢◌, ℕ, ◌<◌, ◌≤◌, true, false, inl, inr, List, refl, sym, ◌∙◌, ap, lt-ltb, le-ltb, subst, Option, Some, None}
+use Rattle.std.proofs.Common.{◌≡◌, ◌≢◌, ℕ, ◌^◌, ◌<◌, ◌≤◌, true, false, inl, inr, List, ◌∷◌, refl, sym, ◌∙◌, ap, lt-ltb, le-ltb, subst, Option, Some, None}
 use Rattle.arena.specs.declared.layout.Layout.{Layout}
+use Rattle.arena.specs.declared.number.NodeNo.{NodeNo}
 use Rattle.arena.specs.declared.word.Side.TheVariants.{Left, Right}
+use Rattle.arena.specs.declared.word.Slot.TheVariants.{First}
 use Rattle.arena.specs.declared.word.Word.{Word}
-use Rattle.arena.specs.Words.{node, child, first_key, first_value}
+use Rattle.arena.specs.Words.{child}
 use Rattle.arena.specs.History.{History, value}
-use Rattle.ordered_map.specs.Holding.{IsWellCounted}
+use Rattle.ordered_map.specs.Holding.{held_behind, held_pairs, pair_in, slot_behind}
 use Rattle.ordered_map.specs.declared.pair.Pair.{Pair}
-use Rattle.ordered_map.specs.OrderedMap.{pair, first_pair, successor}
+use Rattle.ordered_map.specs.OrderedMap.{AllBelow, first_pair, successor}
 use Rattle.ordered_map.specs.Paths.{IsOnPath}
 use Rattle.ordered_map.specs.Spelled.{Spells}
-use Rattle.ordered_map.specs.TreeWords.{Tree, Leaf, Fork, root, Shows, Passes, class, is_leaf, rank, leaf_pairs}
-use Rattle.ordered_map.proofs.Lemmas.{first_of, search_items, search_here, search_behind, search_tells, leaf_tells, low_pair, low_pairs, high_pairs, held_one}
-use Rattle.order.specs.Laws.Search.{IsSearched, IsFirstBehind}
+use Rattle.ordered_map.specs.TreeWords.{Tree, Leaf, Fork, root, Shows, Passes, class, is_leaf, rank, leaf_items, leaf_pairs}
+use Rattle.ordered_map.proofs.Lemmas.{first_of, search_items, search_here, search_past, search_tells, leaf_tells, low_pair, low_items, low_pairs, high_pairs, held_next, successor_behind, successor_here}
+use Rattle.order.specs.Found.{place_key, more_at, place_pair, pairs_behind}
+use Rattle.order.specs.Laws.Search.{IsSearched, IsSearchedIn, IsFirstBehind, IsFirstIn, or_next}
+use Rattle.order.specs.Loads.{first_place, place_behind}
+use Rattle.order.specs.declared.load.LeafPlace.{LeafPlace}
 use Rattle.order.proofs.Following.{no_leaf, one_tree}
+use Rattle.order.proofs.Placing.{behind_more, behind_none, behind_some, place_next}
 
 -- At a fork on the path, with k on the left of it
 
@@ -136,19 +142,6 @@ module _ (h : History) (k n right : ℕ) (x : IsSearched h k n right) where
         finds = d ∙ search_here f k m (first_of f x.behind.tree) (subst (λ j. k < rank f j) (sym e) l);
       }
 
-  -- at a leaf that is not above k
-  pub ends_behind : is_leaf (value h) n ≡ true → rank (value h) n ≤ k → IsFirstBehind h k right
-  ends_behind leaf l = go x.part.tree x.part.low x.part.high x.part.shows x.part.is x.finds
-    where
-      go : (p : Tree) (low high : ℕ) → Shows f low high p → root p ≡ n → Finds p → IsFirstBehind h k right
-      go (Fork m a b) low high s e d = no_leaf f n _ leaf (rw e at s.0.fork)
-      go (Leaf m) low high s e d = record {
-        tree = x.tree;
-        is_tree = x.is_tree;
-        part = x.behind;
-        finds = d ∙ search_behind f k m (first_of f x.behind.tree) (λ z. (s.items.keys z).0) (subst (λ j. rank f j ≤ k) (sym e) l);
-      }
-
 -- On the way to the first leaf
 
 module _ (h : History) (k n : ℕ) (x : IsFirstBehind h k n) where
@@ -175,18 +168,72 @@ module _ (h : History) (k n : ℕ) (x : IsFirstBehind h k n) where
       go (Fork m a b) low high s e d = no_leaf (value h) n _ leaf (rw e at s.0.fork)
       go (Leaf m) low high s e d = ap low_pair d ∙ leaf_tells (value h) m low high s ∙ ap (λ j. first_pair (leaf_pairs (value h) j)) e
 
-  -- and holds as many pairs as it may hold
-  pub first_counted : is_leaf (value h) n ≡ true → class (value h) n ≡ 0 → IsWellCounted (value h) n
-  first_counted leaf low = go x.part.tree x.part.low x.part.high x.part.shows x.part.is
+-- At a leaf of class 0
+
+-- what the search finds there
+leaf_finds : (f : Word → ℕ) (k n : ℕ) (d : Option Pair) → search_items f k (Leaf n) d ≡ or_next (successor k (leaf_items f n)) d
+leaf_finds f k n d = go (successor k (leaf_items f n)) refl
+  where
+    go : (x : Option Pair) → successor k (leaf_items f n) ≡ x → search_items f k (Leaf n) d ≡ or_next (successor k (leaf_items f n)) d
+    go None e = search_past f k n d e ∙ sym (ap (λ o. or_next o d) e)
+    go (Some p) e = rw e refl
+
+-- on the path of k it stands at the first place
+pub searched_in : (h : History) (k : ℕ) (n : NodeNo) (more right : ℕ) → IsSearched h k n.0 right → is_leaf (value h) n.0 ≡ true → class (value h) n.0 ≡ 0 → more_at h n.0 ≡ more → IsSearchedIn h k (first_place n more) right
+searched_in h k n more right x leaf low count = go x.part.tree x.part.low x.part.high x.part.shows x.part.is x.finds
+  where
+    go : (p : Tree) (least high : ℕ) → Shows (value h) least high p → root p ≡ n.0 → search_items (value h) k x.tree None ≡ search_items (value h) k p (first_of (value h) x.behind.tree) → IsSearchedIn h k (first_place n more) right
+    go (Fork m a b) least high s e d = no_leaf (value h) n.0 _ leaf (rw e at s.0.fork)
+    go (Leaf m) least high s e d = record {
+      tree = x.tree;
+      is_tree = x.is_tree;
+      behind = x.behind;
+      more = count;
+      small = subst (λ j. AllBelow (2 ^ 64) (held_pairs (value h) j)) e (s.items.keys (ap (class (value h)) e ∙ low)).1;
+      finds = d ∙ leaf_finds (value h) k m (first_of (value h) x.behind.tree) ∙ ap (λ ps. or_next (successor k ps) (first_of (value h) x.behind.tree)) (low_items (value h) m (ap (class (value h)) e ∙ low) ∙ ap (held_pairs (value h)) e);
+    }
+
+module _ (h : History) (k : ℕ) (p : LeafPlace) (right : ℕ) (x : IsSearchedIn h k p right) where
+  -- the pair there is the answer if its key is above k
+  finds_here : k < place_key h p → search_items (value h) k x.tree None ≡ Some (place_pair h p)
+  finds_here l = x.finds ∙ ap (λ o. or_next o (first_of (value h) x.behind.tree)) (successor_here (value h) p.node.0 p.slot k l)
+
+  here_small : place_key h p < 2 ^ 64
+  here_small = (subst (AllBelow (2 ^ 64)) (place_next h p x.more) x.small).0
+
+  pub tells_here : (lay : Layout) (ps : List Pair) → k < place_key h p → Spells lay (value h) ps → successor k ps ≡ Some (place_pair h p)
+  tells_here lay ps l spelled = search_tells lay (value h) ps k spelled ∙ ap (λ t. low_pair (search_items (value h) k t None)) (one_tree h spelled.tree x.tree spelled.is_tree x.is_tree) ∙ ap low_pair (finds_here l) ∙ stays
     where
-      go : (p : Tree) (low high : ℕ) → Shows (value h) low high p → root p ≡ n → IsWellCounted (value h) n
-      go (Fork m a b) least high s e = no_leaf (value h) n _ leaf (rw e at s.0.fork)
-      go (Leaf m) least high s e = rw e at (s.items.keys (ap (class (value h)) e ∙ low)).0
+      stays : low_pair (Some (place_pair h p)) ≡ Some (place_pair h p)
+      stays = rw (lt-ltb (place_key h p) (2 ^ 64) here_small) refl
 
--- a pair of the map
-pub tells_pair : (f : Word → ℕ) (n key v : ℕ) → IsWellCounted f n → class f n ≡ 0 → f (node n first_key) ≡ key → f (node n first_value) ≡ v → first_pair (leaf_pairs f n) ≡ Some (pair key v)
-tells_pair f n key v counted low d e = ap first_pair (low_pairs f n low ∙ held_one f n counted) ∙ (λ i. Some (pair (d i) (e i)))
+  -- else it goes on behind that
+  finds_behind : place_key h p ≤ k → search_items (value h) k x.tree None ≡ or_next (successor k (pairs_behind h p)) (first_of (value h) x.behind.tree)
+  finds_behind l = x.finds ∙ ap (λ o. or_next o (first_of (value h) x.behind.tree)) (successor_behind (value h) p.node.0 p.slot k l ∙ ap (λ more. successor k (held_behind (value h) p.node.0 (slot_behind more p.slot))) x.more)
 
--- and none
+  pub goes_on : (q : LeafPlace) → place_key h p ≤ k → place_behind p ≡ Some q → IsSearchedIn h k q right
+  goes_on q l is = record {
+    tree = x.tree;
+    is_tree = x.is_tree;
+    behind = x.behind;
+    more = behind_more h p q is x.more;
+    small = subst (AllBelow (2 ^ 64)) (behind_some h p q is) (subst (AllBelow (2 ^ 64)) (place_next h p x.more) x.small).1;
+    finds = finds_behind l ∙ ap (λ ps. or_next (successor k ps) (first_of (value h) x.behind.tree)) (behind_some h p q is);
+  }
+
+  -- or on to the next leaf
+  pub ends_behind : place_key h p ≤ k → place_behind p ≡ None → IsFirstBehind h k right
+  ends_behind l is = record {
+    tree = x.tree;
+    is_tree = x.is_tree;
+    part = x.behind;
+    finds = finds_behind l ∙ ap (λ ps. or_next (successor k ps) (first_of (value h) x.behind.tree)) (behind_none h p is);
+  }
+
+-- the first pair of the next leaf is the answer
+pub tells_first : (lay : Layout) (h : History) (k : ℕ) (p : LeafPlace) (ps : List Pair) → IsFirstIn h k p → Spells lay (value h) ps → successor k ps ≡ Some (place_pair h p)
+tells_first lay h k p ps x spelled = first_tells h k p.node.0 x.first lay ps x.leaf spelled ∙ ap first_pair (low_pairs (value h) p.node.0 x.low ∙ held_next (value h) p.node.0 First) ∙ ap (λ slot. Some (pair_in (value h) p.node.0 slot)) (sym x.slot)
+
+-- above all keys there is none
 pub tells_none : (f : Word → ℕ) (n : ℕ) → class f n ≢ 0 → first_pair (leaf_pairs f n) ≡ None
 tells_none f n high = ap first_pair (high_pairs f n high)

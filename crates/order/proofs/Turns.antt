@@ -1,6 +1,5 @@
 -- What an ordered read waits for after each of its turns.
-use Rattle.std.proofs.Common.{◌≡◌, ℕ, ◌+◌, ◌*◌, ◌<◌, List, [], length, inl, inr, refl, sym, ◌∙◌, ap, subst, arith, Option, Some, None, Result, Ok, Err, IfOk, unwrap_or}
-use Rattle.arena.specs.declared.head.Head.{Head as HeadParts}
+use Rattle.std.proofs.Common.{◌≡◌, ℕ, ◌+◌, ◌-◌, ◌*◌, ◌<◌, List, [], length, inl, inr, refl, sym, ◌∙◌, ap, subst, arith, Option, Some, None, Result, Ok, Err, IfOk, unwrap_or}
 use Rattle.arena.specs.declared.machine.Turn.{Turn}
 use Rattle.arena.specs.declared.machine.Turn.TheVariants.{Ask, Done}
 use Rattle.arena.specs.declared.number.NodeNo.{NodeNo}
@@ -10,7 +9,7 @@ use Rattle.arena.specs.declared.step.Kind.TheVariants.{LoadMarked, LoadSettled}
 use Rattle.arena.specs.declared.word.NodeWord.TheVariants.{Settled}
 use Rattle.arena.specs.declared.word.SettledPart.TheVariants.{Head as HeadWord}
 use Rattle.arena.specs.declared.word.Side.TheVariants as sides
-use Rattle.arena.specs.Words.{marked, node, first_key, first_value}
+use Rattle.arena.specs.Words.{marked, node}
 use Rattle.arena.specs.History.{History, value, Extends}
 use Rattle.arena.specs.Machines.{Call, IsRun, MatchTurn, begun_at}
 use Rattle.prims.specs.Llx.Known.{load, IsSnapshot, LlxIsReady, LlxWaits, LlxAnswers}
@@ -27,7 +26,6 @@ use Rattle.prims.specs.declared.vlx.Vlx.{Vlx}
 use Rattle.prims.specs.declared.vlx.Vlx.TheVariants.{Same, Changed}
 use Rattle.prims.proofs.Lemmas.{turn_first}
 use Rattle.ordered_map.specs.TreeShape.{TreeAllows}
-use Rattle.ordered_map.specs.TreeWords.{level}
 use Rattle.template.specs.Blame.{IsContended}
 use Rattle.template.specs.FoundLeaf.{path_key, HasFoundGoal}
 use Rattle.template.specs.Trails.{IsOwnMoment}
@@ -36,16 +34,19 @@ use Rattle.template.specs.Walk.Places.{IsPastRoot}
 use Rattle.template.specs.declared.walk.Found.{Found}
 use Rattle.template.specs.declared.walk.Goal.TheVariants.{Key as ToKey}
 use Rattle.template.specs.declared.walk.WalkAt.{WalkAt}
-use Rattle.template.specs.declared.walk.WalkAt.TheVariants.{Start as WalkStart, Root as WalkRoot, Head as AtHead, Key as AtKey, Child, Value as AtValue}
+use Rattle.template.specs.declared.walk.WalkAt.TheVariants.{Start as WalkStart, Root as WalkRoot, Head as AtHead, Key as AtKey, Child, More as AtMore, Pair as AtPair, Value as AtValue, High as AtHigh}
 use Rattle.template.specs.declared.walk.WalkRun.{WalkRun}
-use Rattle.order.specs.Found.{BeginsAtRoot, BeginsSo, HasKey, HasLowHead, IsReading, Looks, WalksTo}
+use Rattle.order.specs.Found.{BeginsAtRoot, BeginsSo, IsReading, Looks, WalksTo}
 use Rattle.order.specs.Known.{IsLastTurn, IsSameRead, ReadAnswers, ReadGoes, ReadIsReady, ReadIsToldAt, ReadTurn, ReadWaits, RunStands, Validates, Walks, WalksInTry}
 use Rattle.order.specs.Laws.Kept.{root_there}
+use Rattle.order.specs.Loads.{load_value}
 use Rattle.order.specs.Meaning.{ReadMeaning}
+use Rattle.order.specs.Next.{MayLoad}
 use Rattle.order.specs.Paths.{BeginsNear, ComesNearer}
 use Rattle.order.specs.Places.{GoesOn, MayGoOn, RunComesNearer, next_step, placed}
 use Rattle.order.specs.Steps.{ReadFits, ReadFitsAt, ReadIsNearer, last_turn, phase_left, read_left, run_try_left, tries_left}
 use Rattle.order.specs.Tries.{BeginsTry, IsInTry}
+use Rattle.order.specs.declared.load.ReadLoad.{ReadLoad}
 use Rattle.order.specs.declared.read.Children.{Children}
 use Rattle.order.specs.declared.read.Children.TheVariants.{Both}
 use Rattle.order.specs.declared.read.ReadBegin.TheVariants as begins
@@ -53,7 +54,7 @@ use Rattle.order.specs.declared.read.ReadNext.{ReadNext}
 use Rattle.order.specs.declared.read.ReadNext.TheVariants as next
 use Rattle.order.specs.declared.refused.Refused.{Refused}
 use Rattle.order.specs.declared.run.ReadAt.{ReadAt}
-use Rattle.order.specs.declared.run.ReadAt.TheVariants.{Start, Walk, Root, Head, Key, Value, Look, Validate}
+use Rattle.order.specs.declared.run.ReadAt.TheVariants.{Start, Walk, Root, Load, Look, Validate}
 use Rattle.order.specs.declared.run.ReadRun.{ReadRun}
 use Rattle.order.proofs.Blaming.{first_look, look_failed, look_finalized, look_changed, reply_wider, tried_before, tried_here}
 use Rattle.order.proofs.Looking.{look_ready, replies, validates, walk_found}
@@ -72,7 +73,10 @@ module _ {R A : Type 0} (means : ReadMeaning R A) (m : ReadRun R) where
     turned WalkRoot k = last
     turned (AtHead above) k = last
     turned (AtKey head) k = last
-    turned (AtValue head k') k = last
+    turned (AtMore head) k = last
+    turned (AtPair head more slot) k = last
+    turned (AtValue head more slot found) k = last
+    turned (AtHigh head more slot found low) k = last
 
     past : (next : NodeNo) (at : WalkAt) → IsPastRoot at → WalksInTry means m c h begin next at
     past next WalkStart p = absurd p
@@ -204,9 +208,7 @@ module _ {R A : Type 0} (means : ReadMeaning R A) (m : ReadRun R) where
 
   -- it waits for the step with which that begins
   pub next_waits : (c : Call) (h : History) (next : ReadNext) → MayGoOn means c h m next → ReadWaits means (placed m next) c h (next_step m next)
-  next_waits c h (next.Head above n) (begin, try, on) = (begin, try, on.0, (on.1.0, on.1.1, refl))
-  next_waits c h (next.Key head n) (begin, try, on) = (begin, try, on.0, (on.1.0, on.1.1, refl))
-  next_waits c h (next.Value key n) (begin, try, on) = (begin, try, on.0, (on.1, refl))
+  next_waits c h (next.Load of) (begin, try, on) = (begin, try, on.0, (on.1, refl))
   next_waits c h (next.Look children low n) (begin, try, on) = looks_on c begin h h children low (llx LlxStart) (llx Marked) (Ask (load LoadMarked (marked n.0))) on.0 on.1 on.0.reads.since refl (turn_first TreeAllows (begun_at c h) h on.0.reads.run.1 (llx LlxStart) (llx Marked) (Ask _) (look_ready (begun_at c begin) h m.snaps.items n.0 (llx LlxStart) on.0.reads on.1.stood refl refl) record { stands = refl; asked = refl }) _ refl try
     where
       llx : LlxAt → LlxRun
@@ -222,9 +224,7 @@ module _ {R A : Type 0} (means : ReadMeaning R A) (m : ReadRun R) where
 
   -- and has fewer steps left than before
   pub placed_nearer : (next : ReadNext) (nodes n : ℕ) → 0 < n → RunComesNearer means m nodes next n → read_left means (placed m next) nodes < tries_left means m nodes + n
-  placed_nearer (next.Head above node) nodes n some near = let i = near.0 in let j = near.1 in omega (arith, i, j)
-  placed_nearer (next.Key head node) nodes n some near = let i = near.0 in let j = near.1 in omega (arith, i, j)
-  placed_nearer (next.Value key node) nodes n some near = let j = near.1 in omega (arith, j)
+  placed_nearer (next.Load of) nodes n some near = let j = near.1 in omega (arith, j, some)
   placed_nearer (next.Look children level node) nodes n some near = let i = near.1 in omega (arith, i)
   placed_nearer next.Validate nodes n some near = let j = near.1 in omega (arith, j, some)
 
@@ -234,9 +234,7 @@ module _ {R A : Type 0} (means : ReadMeaning R A) (m : ReadRun R) where
   IsNoVlx _ = Unit {0}
 
   pub some_left : (next : ReadNext) (nodes n : ℕ) → IsNoVlx next → RunComesNearer means m nodes next n → 0 < n
-  some_left (next.Head above node) nodes n is near = let i = near.0 in let j = near.1 in omega (arith, i, j)
-  some_left (next.Key head node) nodes n is near = let i = near.0 in let j = near.1 in omega (arith, i, j)
-  some_left (next.Value key node) nodes n is near = let j = near.1 in omega (arith, j)
+  some_left (next.Load of) nodes n is near = let i = near.0 in let j = near.1 in omega (arith, i, j)
   some_left (next.Look children level node) nodes n is near = let j = near.1 in omega (arith, j)
   some_left next.Validate nodes n is near = absurd is
 
@@ -269,17 +267,9 @@ module _ {R A : Type 0} (means : ReadMeaning R A) (m : ReadRun R) where
     at_root None is r = absurd (let d : Root ≡ Start = sym is ∙ r.1 in cc)
     at_root (Some v) is r = told_at v Root is r
 
-    pub at_head : (got : Option ℕ) (above : ℕ) (n : NodeNo) → m.at ≡ Head above n → ReadIsReady means m c h got → ToldInTry (λ d. RunStands means m d h n.0 × (above < level (value h) n.0) × (value h (node n.0 (Settled HeadWord)) ≡ unwrap_or got 0))
-    at_head None above n is r = absurd (let d : Head above n ≡ Start = sym is ∙ r.1 in cc)
-    at_head (Some v) above n is r = told_at v (Head above n) is r
-
-    pub at_key : (got : Option ℕ) (head : HeadParts) (n : NodeNo) → m.at ≡ Key head n → ReadIsReady means m c h got → ToldInTry (λ d. RunStands means m d h n.0 × HasLowHead h n.0 head × (value h (node n.0 first_key) ≡ unwrap_or got 0))
-    at_key None head n is r = absurd (let d : Key head n ≡ Start = sym is ∙ r.1 in cc)
-    at_key (Some v) head n is r = told_at v (Key head n) is r
-
-    pub at_value : (got : Option ℕ) (key : ℕ) (n : NodeNo) → m.at ≡ Value key n → ReadIsReady means m c h got → ToldInTry (λ d. HasKey means m.read m.snaps.items d h n.0 key × (value h (node n.0 first_value) ≡ unwrap_or got 0))
-    at_value None key n is r = absurd (let d : Value key n ≡ Start = sym is ∙ r.1 in cc)
-    at_value (Some v) key n is r = told_at v (Value key n) is r
+    pub at_load : (got : Option ℕ) (of : ReadLoad) → m.at ≡ Load of → ReadIsReady means m c h got → ToldInTry (λ d. MayLoad means m.read m.snaps.items d h of × (load_value h of ≡ unwrap_or got 0))
+    at_load None of is r = absurd (let d : Load of ≡ Start = sym is ∙ r.1 in cc)
+    at_load (Some v) of is r = told_at v (Load of) is r
 
     pub at_validate : (got : Option ℕ) (asked : ℕ) → m.at ≡ Validate asked → ReadIsReady means m c h got → ToldInTry (λ d. (look : History) × Validates means m.read m.snaps.items d h look × VlxIsReady m.snaps.items asked (begun_at d look) h got)
     at_validate None asked is r = absurd (let d : Validate asked ≡ Start = sym is ∙ r.1 in cc)
@@ -305,6 +295,10 @@ module _ {R A : Type 0} (means : ReadMeaning R A) (now : R) (m : ReadRun R) (nod
   pub goes_taken : (next : ReadNext) (n : ℕ) → ComesNearer means now nodes next n → RunComesNearer means (record m { read = now }) nodes next (length m.snaps.items + n)
   goes_taken next n near = (near.0, (let i = near.1 in omega (arith, i)))
 
-  pub all_taken : (next : Result ReadNext Refused) (n : ℕ) → IfOk next (λ next. ComesNearer means now nodes next n) → IfOk next (λ next. RunComesNearer means (record m { read = now }) nodes next (length m.snaps.items + n))
-  all_taken (Ok next) n near = goes_taken next n near
-  all_taken (Err refused) n near = tt
+  -- a load is behind it
+  pub load_taken : (next : ReadNext) (n most : ℕ) → n < most → ComesNearer means now nodes next n → RunComesNearer means (record m { read = now }) nodes next (length m.snaps.items + most - 1)
+  load_taken next n most less near = (near.0, (let i = near.1 in omega (arith, i, less)))
+
+  pub all_taken : (next : Result ReadNext Refused) (n most : ℕ) → n < most → IfOk next (λ next. ComesNearer means now nodes next n) → IfOk next (λ next. RunComesNearer means (record m { read = now }) nodes next (length m.snaps.items + most - 1))
+  all_taken (Ok next) n most less near = load_taken next n most less near
+  all_taken (Err refused) n most less near = tt

@@ -1,5 +1,5 @@
 -- How the visits of a range go down a tree, and on from leaf to leaf.
-use Rattle.std.proofs.Common.{◌≡◌, ◌≢◌, ℕ, zero, suc, ◌+◌, ◌-◌, ◌*◌, ◌^◌, ◌<◌, ◌≤◌, Bool, true, false, cond, ◌&&◌, leb, ⊎_elim, le-leb, List, [], ◌∷◌, ◌++◌, length, refl, sym, ◌∙◌, ap, subst, arith, append_assoc, append-nil}
+use Rattle.std.proofs.Common.{◌≡◌, ◌≢◌, ℕ, zero, suc, ◌+◌, ◌-◌, ◌*◌, ◌^◌, ◌<◌, ◌≤◌, Bool, true, false, cond, ◌&&◌, leb, ◌⊎◌, inl, inr, ⊎_elim, le-leb, List, [], ◌∷◌, ◌++◌, length, refl, sym, ◌∙◌, ap, subst, arith, append_assoc, append-nil, Some, None}
 use Rattle.std.specs.Prelude.{take}
 use Rattle.std.proofs.lemmas.Bool.Decides.{leb_tells}
 use native.Mathlib.Decide.{ℕ_discrete}
@@ -7,16 +7,19 @@ use Rattle.arena.specs.declared.layout.Layout.{Layout}
 use Rattle.arena.specs.declared.number.NodeNo.{NodeNo}
 use Rattle.arena.specs.declared.word.Side.TheVariants.{Left, Right}
 use Rattle.arena.specs.declared.word.Word.{Word}
-use Rattle.arena.specs.Words.{node, child, first_key, first_value}
+use Rattle.arena.specs.Words.{child}
 use Rattle.arena.specs.History.{History, value}
-use Rattle.ordered_map.specs.Holding.{IsWellCounted}
 use Rattle.ordered_map.specs.declared.pair.Pair.{Pair}
-use Rattle.ordered_map.specs.OrderedMap.{pair, between}
+use Rattle.ordered_map.specs.OrderedMap.{AllBelow, AllFrom, between}
 use Rattle.ordered_map.specs.Spelled.{IsTree, Spells}
-use Rattle.ordered_map.specs.TreeWords.{Tree, Leaf, Fork, root, Shows, class, is_leaf, rank, pairs, leaf_pairs}
-use Rattle.ordered_map.proofs.Lemmas.{open_between, held_one, low_pairs, high_pairs, rank_from, rank_below}
-use Rattle.order.specs.Visits.{Bounds, part_pairs, IsVisiting, HasVisited, IsRangeAt}
+use Rattle.ordered_map.specs.TreeWords.{Tree, Leaf, Fork, root, Shows, class, is_leaf, rank, pairs, leaf_items, leaf_pairs}
+use Rattle.ordered_map.proofs.Lemmas.{open_between, low_items, low_pairs, high_pairs, rank_from, rank_below}
+use Rattle.order.specs.Found.{place_key, more_at, place_pair, pairs_behind}
+use Rattle.order.specs.Loads.{first_place, place_behind}
+use Rattle.order.specs.Visits.{Bounds, part_pairs, IsVisiting, IsVisitingIn, HasVisited, HasVisitedIn, IsRangeAt}
+use Rattle.order.specs.declared.load.LeafPlace.{LeafPlace}
 use Rattle.order.proofs.Following.{no_leaf, one_tree}
+use Rattle.order.proofs.Placing.{behind_more, behind_none, behind_some, place_next}
 
 -- Pairs within bounds
 
@@ -63,25 +66,35 @@ outside_below low high k i = rw (gt_leb low k i) refl
 outside_above : (low high k : ℕ) → high < k → (leb low k && leb k high) ≡ false
 outside_above low high k i = rw (gt_leb k high i) (no_and (leb low k))
 
--- the pairs of a leaf
-leaf_taken : (f : Word → ℕ) (w : Bounds) (n : ℕ) → IsWellCounted f n → class f n ≡ 0 → w.low ≤ f (node n first_key) → f (node n first_key) ≤ w.high → between w.low w.high (leaf_pairs f n) ≡ pair (f (node n first_key)) (f (node n first_value)) ∷ []
-leaf_taken f w n counted z i j = ap (between w.low w.high) (low_pairs f n z ∙ held_one f n counted) ∙ rw (inside w.low w.high (f (node n first_key)) i j) refl
+-- pairs outside of the bounds
+all_above : (low high from : ℕ) (ps : List Pair) → high < from → AllFrom from ps → between low high ps ≡ []
+all_above low high from [] i a = refl
+all_above low high from (p ∷ ps) i a = rw (outside_above low high p.key (let j = a.0 in omega (arith, i, j))) (all_above low high from ps i a.1)
 
-leaf_below : (f : Word → ℕ) (w : Bounds) (n : ℕ) → IsWellCounted f n → class f n ≡ 0 → f (node n first_key) < w.low → between w.low w.high (leaf_pairs f n) ≡ []
-leaf_below f w n counted z i = ap (between w.low w.high) (low_pairs f n z ∙ held_one f n counted) ∙ rw (outside_below w.low w.high (f (node n first_key)) i) refl
+all_below : (low high to : ℕ) (ps : List Pair) → to ≤ low → AllBelow to ps → between low high ps ≡ []
+all_below low high to [] i a = refl
+all_below low high to (p ∷ ps) i a = rw (outside_below low high p.key (let j = a.0 in omega (arith, i, j))) (all_below low high to ps i a.1)
 
-leaf_above : (f : Word → ℕ) (w : Bounds) (n : ℕ) → IsWellCounted f n → class f n ≡ 0 → w.high < f (node n first_key) → between w.low w.high (leaf_pairs f n) ≡ []
-leaf_above f w n counted z i = ap (between w.low w.high) (low_pairs f n z ∙ held_one f n counted) ∙ rw (outside_above w.low w.high (f (node n first_key)) i) refl
+below_more : (a b : ℕ) (ps : List Pair) → a ≤ b → AllBelow a ps → AllBelow b ps
+below_more a b [] i x = tt
+below_more a b (p ∷ ps) i x = ((let j = x.0 in omega (arith, i, j)), below_more a b ps i x.1)
 
 leaf_high : (f : Word → ℕ) (w : Bounds) (n : ℕ) → class f n ≢ 0 → between w.low w.high (leaf_pairs f n) ≡ []
 leaf_high f w n d = ap (between w.low w.high) (high_pairs f n d)
+
+-- the items of a leaf of class 0 are its pairs
+leaf_from : (f : Word → ℕ) (n lo : ℕ) → class f n ≡ 0 → AllFrom lo (leaf_items f n) → AllFrom lo (leaf_pairs f n)
+leaf_from f n lo z a = subst (AllFrom lo) (low_items f n z ∙ sym (low_pairs f n z)) a
+
+leaf_below : (f : Word → ℕ) (n hi : ℕ) → class f n ≡ 0 → AllBelow hi (leaf_items f n) → AllBelow hi (leaf_pairs f n)
+leaf_below f n hi z a = subst (AllBelow hi) (low_items f n z ∙ sym (low_pairs f n z)) a
 
 -- a part above the bounds holds none
 none_above : (f : Word → ℕ) (w : Bounds) (t : Tree) (lo hi : ℕ) → Shows f lo hi t → w.high < lo → between w.low w.high (pairs f t) ≡ []
 none_above f w (Leaf n) lo hi s i = go (ℕ_discrete (class f n) 0)
   where
     go : Dec (class f n ≡ 0) → between w.low w.high (leaf_pairs f n) ≡ []
-    go (yes z) = leaf_above f w n (s.items.keys z).0 z (let a : lo ≤ rank f n = rank_from f n lo hi s.items in omega (arith, a, i, z))
+    go (yes z) = all_above w.low w.high lo (leaf_pairs f n) i (leaf_from f n lo z s.items.from)
     go (no d) = leaf_high f w n d
 none_above f w (Fork n a b) lo hi s i =
     let x : between w.low w.high (pairs f a) ≡ [] = none_above f w a lo (rank f n) s.1 i in
@@ -94,7 +107,7 @@ none_below : (f : Word → ℕ) (w : Bounds) (t : Tree) (lo hi : ℕ) → Shows 
 none_below f w (Leaf n) lo hi s i = go (ℕ_discrete (class f n) 0)
   where
     go : Dec (class f n ≡ 0) → between w.low w.high (leaf_pairs f n) ≡ []
-    go (yes z) = leaf_below f w n (s.items.keys z).0 z (let a : rank f n < hi = rank_below f n lo hi s.items in omega (arith, a, i, z))
+    go (yes z) = all_below w.low w.high hi (leaf_pairs f n) i (leaf_below f n hi z s.items.below)
     go (no d) = leaf_high f w n d
 none_below f w (Fork n a b) lo hi s i =
     let l : rank f n < hi = open_between f b (rank f n) hi s.2 in
@@ -191,8 +204,7 @@ module _ (h : History) (w : Bounds) (n : ℕ) (taken : List Pair) (waiting : Lis
       holds : part_pairs h w x.part.tree ≡ between w.low w.high (leaf_pairs (value h) n)
       from : x.part.low ≤ rank (value h) n
       to : rank (value h) n < x.part.high
-      small : value h (node n first_key) < 2 ^ 64
-      counted : class (value h) n ≡ 0 → IsWellCounted (value h) n
+      below : class (value h) n ≡ 0 → AllBelow x.part.high (leaf_pairs (value h) n)
 
     one_leaf : IsOneLeaf
     one_leaf = go x.part.tree refl x.part.shows x.part.is
@@ -203,48 +215,110 @@ module _ (h : History) (w : Bounds) (n : ℕ) (taken : List Pair) (waiting : Lis
           holds = ap (part_pairs h w) q ∙ ap (λ k. between w.low w.high (leaf_pairs (value h) k)) e;
           from = rw e at (rank_from (value h) m x.part.low x.part.high s.items);
           to = rw e at (rank_below (value h) m x.part.low x.part.high s.items);
-          small = rw e at s.small;
-          counted = λ z. subst (IsWellCounted (value h)) e (s.items.keys (ap (class (value h)) e ∙ z)).0;
+          below = λ z. subst (λ k. AllBelow x.part.high (leaf_pairs (value h) k)) e (leaf_below (value h) m x.part.high (ap (class (value h)) e ∙ z) s.items.below);
         }
 
-    -- its pair is taken
-    pub takes : class (value h) n ≡ 0 → w.low ≤ value h (node n first_key) → value h (node n first_key) ≤ w.high → HasVisited h w (taken ++ pair (value h (node n first_key)) (value h (node n first_value)) ∷ []) waiting (leaves - 1)
-    takes z i j = record {
+    -- above all keys it has no pair
+    pub passes_above : class (value h) n ≢ 0 → w.high < rank (value h) n → HasVisited h w taken waiting (leaves - 1)
+    passes_above high i = record {
       tree = x.tree;
       is_tree = x.is_tree;
       rest = x.rest;
       waits = x.waits;
-      finds = x.finds ∙ ap (λ y. taken ++ (y ++ x.rest)) (one_leaf.holds ∙ leaf_taken (value h) w n (one_leaf.counted z) z i j) ∙ sym (append_assoc taken (pair (value h (node n first_key)) (value h (node n first_value)) ∷ []) x.rest);
-      few = λ d. (let a = x.few in let l : length (taken ++ pair (value h (node n first_key)) (value h (node n first_value)) ∷ []) ≡ length taken + 1 = one_longer taken _ in omega (arith, a, l));
+      finds = x.finds ∙ ap (λ y. taken ++ (y ++ x.rest)) (one_leaf.holds ∙ leaf_high (value h) w n high);
+      few = λ d. absurd (let a = x.below d in let b = one_leaf.to in omega (arith, a, b, i));
     }
 
-    -- it has none within the bounds
-    passes_none : between w.low w.high (leaf_pairs (value h) n) ≡ [] → (waiting ≢ [] → leaves ≡ w.most + 2) → HasVisited h w taken waiting (leaves - 1)
-    passes_none none first = record {
-      tree = x.tree;
-      is_tree = x.is_tree;
-      rest = x.rest;
-      waits = x.waits;
-      finds = x.finds ∙ ap (λ y. taken ++ (y ++ x.rest)) (one_leaf.holds ∙ none);
-      few = λ d. (let e = first d in omega (arith, e));
-    }
+-- In a leaf of class 0
 
-    pub passes_below : class (value h) n ≡ 0 → value h (node n first_key) < w.low → HasVisited h w taken waiting (leaves - 1)
-    passes_below z i = passes_none (leaf_below (value h) w n (one_leaf.counted z) z i) (λ d. go (ℕ_discrete leaves (w.most + 2)))
-      where
-        go : Dec (leaves ≡ w.most + 2) → leaves ≡ w.most + 2
-        go (yes e) = e
-        go (no d) = absurd (let a = x.behind d in let b = one_leaf.from in omega (arith, a, b, i, z))
+-- the visit begins at its first place
+pub visits_in : (h : History) (w : Bounds) (n : NodeNo) (more : ℕ) (taken : List Pair) (waiting : List NodeNo) (leaves : ℕ) → IsVisiting h w n.0 taken waiting leaves → is_leaf (value h) n.0 ≡ true → class (value h) n.0 ≡ 0 → more_at h n.0 ≡ more → IsVisitingIn h w (first_place n more) taken waiting leaves
+visits_in h w n more taken waiting leaves x leaf low count = record {
+  tree = x.tree;
+  is_tree = x.is_tree;
+  more = count;
+  rest = x.rest;
+  waits = x.waits;
+  finds = x.finds ∙ ap (λ y. taken ++ (y ++ x.rest)) (one.holds ∙ ap (between w.low w.high) (low_pairs (value h) n.0 low));
+  few = λ d. x.few;
+  behind = go (ℕ_discrete leaves (w.most + 2));
+  below = λ d. subst (AllBelow (w.high + 1)) (low_pairs (value h) n.0 low) (below_more x.part.high (w.high + 1) (leaf_pairs (value h) n.0) (let a = x.below d in omega (arith, a)) (one.below low));
+}
+  where
+    one : IsOneLeaf h w n.0 taken waiting leaves x leaf
+    one = one_leaf h w n.0 taken waiting leaves x leaf
 
-    pub passes_above : w.high < rank (value h) n → HasVisited h w taken waiting (leaves - 1)
-    passes_above i = passes_none none (λ d. absurd (let a = x.below d in let b = one_leaf.to in omega (arith, a, b, i)))
-      where
-        go : Dec (class (value h) n ≡ 0) → between w.low w.high (leaf_pairs (value h) n) ≡ []
-        go (yes z) = leaf_above (value h) w n (one_leaf.counted z) z (omega (arith, i, z))
-        go (no d) = leaf_high (value h) w n d
+    go : Dec (leaves ≡ w.most + 2) → (w.low < place_key h (first_place n more)) ⊎ (waiting ≢ [] → w.most + 1 ≤ leaves - 1 + length taken)
+    go (yes e) = inr (λ d. omega (arith, e))
+    go (no d) = inl (let a = x.behind d in let b = one.from in omega (arith, a, b, low))
 
-        none : between w.low w.high (leaf_pairs (value h) n) ≡ []
-        none = go (ℕ_discrete (class (value h) n) 0)
+module _ (h : History) (w : Bounds) (p : LeafPlace) (taken : List Pair) (waiting : List NodeNo) (leaves : ℕ) (x : IsVisitingIn h w p taken waiting leaves) where
+  here_next : (waiting ≢ []) → (place_key h p < w.high + 1) × AllBelow (w.high + 1) (pairs_behind h p)
+  here_next d = subst (AllBelow (w.high + 1)) (place_next h p x.more) (x.below d)
+
+  -- the pair there is taken
+  pub takes : w.low ≤ place_key h p → place_key h p ≤ w.high → HasVisitedIn h w p (taken ++ place_pair h p ∷ []) waiting leaves
+  takes i j = record {
+    tree = x.tree;
+    is_tree = x.is_tree;
+    more = x.more;
+    rest = x.rest;
+    waits = x.waits;
+    finds = x.finds ∙ ap (λ y. taken ++ (y ++ x.rest)) (ap (between w.low w.high) (place_next h p x.more) ∙ first) ∙ sym (append_assoc taken (place_pair h p ∷ []) (between w.low w.high (pairs_behind h p) ++ x.rest));
+    few = λ d. (let a = x.few d in let l : length (taken ++ place_pair h p ∷ []) ≡ length taken + 1 = one_longer taken (place_pair h p) in omega (arith, a, l));
+    below = λ d. (here_next d).1;
+  }
+    where
+      first : between w.low w.high (place_pair h p ∷ pairs_behind h p) ≡ place_pair h p ∷ between w.low w.high (pairs_behind h p)
+      first = rw (inside w.low w.high (place_key h p) i j) refl
+
+  -- it is not within the bounds
+  pub passes : (place_key h p < w.low) ⊎ (w.high < place_key h p) → HasVisitedIn h w p taken waiting leaves
+  passes out = record {
+    tree = x.tree;
+    is_tree = x.is_tree;
+    more = x.more;
+    rest = x.rest;
+    waits = x.waits;
+    finds = x.finds ∙ ap (λ y. taken ++ (y ++ x.rest)) (ap (between w.low w.high) (place_next h p x.more) ∙ past out);
+    few = λ d. enough d out x.behind;
+    below = λ d. (here_next d).1;
+  }
+    where
+      past : (place_key h p < w.low) ⊎ (w.high < place_key h p) → between w.low w.high (place_pair h p ∷ pairs_behind h p) ≡ between w.low w.high (pairs_behind h p)
+      past (inl i) = rw (outside_below w.low w.high (place_key h p) i) refl
+      past (inr i) = rw (outside_above w.low w.high (place_key h p) i) refl
+
+      enough : waiting ≢ [] → (place_key h p < w.low) ⊎ (w.high < place_key h p) → (w.low < place_key h p) ⊎ (waiting ≢ [] → w.most + 1 ≤ leaves - 1 + length taken) → w.most + 1 ≤ leaves - 1 + length taken
+      enough d out (inr few) = few d
+      enough d (inl i) (inl j) = absurd (omega (arith, i, j))
+      enough d (inr i) (inl j) = absurd (let k = (here_next d).0 in omega (arith, i, k))
+
+module _ (h : History) (w : Bounds) (p : LeafPlace) (taken : List Pair) (waiting : List NodeNo) (leaves : ℕ) (x : HasVisitedIn h w p taken waiting leaves) where
+  -- the pair behind is next
+  pub visits_on : (q : LeafPlace) → place_behind p ≡ Some q → IsVisitingIn h w q taken waiting leaves
+  visits_on q is = record {
+    tree = x.tree;
+    is_tree = x.is_tree;
+    more = behind_more h p q is x.more;
+    rest = x.rest;
+    waits = x.waits;
+    finds = x.finds ∙ ap (λ ps. taken ++ (between w.low w.high ps ++ x.rest)) (behind_some h p q is);
+    few = λ d. (let a = x.few d in omega (arith, a));
+    behind = inr x.few;
+    below = λ d. subst (AllBelow (w.high + 1)) (behind_some h p q is) (x.below d);
+  }
+
+  -- or the leaf is visited
+  pub visited_in : place_behind p ≡ None → HasVisited h w taken waiting (leaves - 1)
+  visited_in is = record {
+    tree = x.tree;
+    is_tree = x.is_tree;
+    rest = x.rest;
+    waits = x.waits;
+    finds = x.finds ∙ ap (λ ps. taken ++ (between w.low w.high ps ++ x.rest)) (behind_none h p is);
+    few = x.few;
+  }
 
 -- Behind a leaf
 
@@ -288,6 +362,10 @@ take_front n [] ys e = rw (← e) (take_zero ys)
 take_front zero (x ∷ xs) ys e = absurd (omega (arith, e))
 take_front (suc n) (x ∷ xs) ys e = ap (λ z. x ∷ z) (take_front n xs ys (omega (arith, e)))
 
+-- as many pairs are taken as were asked for
+pub ends_full : (lay : Layout) (h : History) (w : Bounds) (p : LeafPlace) (taken : List Pair) (waiting : List NodeNo) (leaves : ℕ) → HasVisitedIn h w p taken waiting leaves → length taken ≡ w.most → IsRangeAt lay h w taken
+ends_full lay h w p taken waiting leaves x e m s = ap (take w.most) (ap (between w.low w.high) (sym s.pairs ∙ ap (pairs (value h)) (one_tree h s.tree x.tree s.is_tree x.is_tree)) ∙ x.finds) ∙ take_front w.most taken (between w.low w.high (pairs_behind h p) ++ x.rest) e
+
 module _ (lay : Layout) (h : History) (w : Bounds) (taken : List Pair) (waiting : List NodeNo) (leaves : ℕ) (x : HasVisited h w taken waiting leaves) (few : length taken ≤ w.most) where
   same_pairs : (m : List Pair) → Spells lay (value h) m → between w.low w.high m ≡ taken ++ x.rest
   same_pairs m s = ap (between w.low w.high) (sym s.pairs ∙ ap (pairs (value h)) (one_tree h s.tree x.tree s.is_tree x.is_tree)) ∙ x.finds
@@ -298,10 +376,6 @@ module _ (lay : Layout) (h : History) (w : Bounds) (taken : List Pair) (waiting 
     where
       none : x.rest ≡ []
       none = rw e at x.waits
-
-  -- as many pairs are taken as were asked for
-  pub ends_full : length taken ≡ w.most → IsRangeAt lay h w taken
-  ends_full e m s = ap (take w.most) (same_pairs m s) ∙ take_front w.most taken x.rest e
 
   -- no leaf may be visited any more: then nothing waits
   pub ends_last : leaves ≡ 0 → IsRangeAt lay h w taken

@@ -1,24 +1,27 @@
 -- What an ordered read knows of the nodes that it comes to.
-use Rattle.std.specs.Prelude.{◌≡◌, ◌⊎◌, ℕ, ◌^◌, ◌<◌, ◌≤◌, true, false, List, [], ◌∷◌, length, Result, Ok, Err}
+use Rattle.std.specs.Prelude.{◌≡◌, ◌⊎◌, ℕ, ◌^◌, ◌<◌, ◌≤◌, false, List, [], ◌∷◌, length, Result, Ok, Err}
 use Rattle.arena.specs.declared.head.Head.{Head as HeadParts}
 use Rattle.arena.specs.declared.layout.Layout.{Layout}
 use Rattle.arena.specs.declared.number.NodeNo.{NodeNo}
 use Rattle.arena.specs.declared.word.NodeWord.TheVariants.{Settled}
-use Rattle.arena.specs.declared.word.SettledPart.TheVariants.{Head as HeadWord}
+use Rattle.arena.specs.declared.word.SettledPart.TheVariants.{Head as HeadWord, More as MoreWord, Key as KeyWord, Value as ValueWord}
 use Rattle.arena.specs.declared.word.Side.TheVariants as sides
 use Rattle.arena.specs.Heads.{head_of}
-use Rattle.arena.specs.Words.{child, marked, node, first_key, first_value}
+use Rattle.arena.specs.Words.{child, marked, node, first_key}
 use Rattle.arena.specs.History.{History, value}
 use Rattle.arena.specs.Machines.{Call}
 use Rattle.prims.specs.declared.snap.Snap.{Snap}
 use Rattle.ordered_map.specs.declared.pair.Pair.{Pair}
+use Rattle.ordered_map.specs.Holding.{held_behind, pair_in, slot_behind}
 use Rattle.ordered_map.specs.OrderedMap.{reply}
 use Rattle.ordered_map.specs.Paths.{IsOnPath}
 use Rattle.ordered_map.specs.Runs.{IsTreeRun}
 use Rattle.ordered_map.specs.Spelled.{Spells}
 use Rattle.ordered_map.specs.TreeWords.{class, is_leaf, level, toward}
+use Rattle.order.specs.Loads.{first_place}
 use Rattle.order.specs.Meaning.{ReadMeaning}
 use Rattle.order.specs.Reads.{Reads, Whenever, HasStood}
+use Rattle.order.specs.declared.load.LeafPlace.{LeafPlace}
 use Rattle.order.specs.declared.read.Children.{Children}
 use Rattle.order.specs.declared.read.Children.TheVariants.{Both}
 use Rattle.order.specs.declared.read.ReadBegin.{ReadBegin}
@@ -34,13 +37,25 @@ head_at h n = head_of (value h (node n (Settled HeadWord)))
 abbrev pub key_at : History → ℕ → ℕ
 key_at h n = value h (node n first_key)
 
-abbrev pub value_at : History → ℕ → ℕ
-value_at h n = value h (node n first_value)
+-- how many pairs a leaf has behind its first
+abbrev pub more_at : History → ℕ → ℕ
+more_at h n = value h (node n (Settled MoreWord))
 
--- this is the head of a node of class 0
-pub record HasLowHead (h : History) (n : ℕ) (head : HeadParts) : Type 0 where
-  pub head_is : head_at h n ≡ head
-  pub low : head.class ≡ 0
+-- the key at a place of a leaf
+abbrev pub place_key : History → LeafPlace → ℕ
+place_key h p = value h (node p.node.0 (Settled (KeyWord p.slot)))
+
+-- the low half of the value there
+abbrev pub place_low : History → LeafPlace → ℕ
+place_low h p = value h (node p.node.0 (Settled (ValueWord p.slot)))
+
+-- and the whole pair
+abbrev pub place_pair : History → LeafPlace → Pair
+place_pair h p = pair_in (value h) p.node.0 p.slot
+
+-- the pairs of the leaf behind that place, as far as they may be read
+abbrev pub pairs_behind : History → LeafPlace → List Pair
+pairs_behind h p = held_behind (value h) p.node.0 (slot_behind p.more p.slot)
 
 -- Nodes
 
@@ -92,12 +107,29 @@ module _ {R A : Type 0} (means : ReadMeaning R A) (r : R) where
       pub waits : AreThere c h (means.waiting r)
       pub here : Whenever c.layout h snaps (λ b. means.IsAt r b n)
 
-    -- it stands at a leaf with this key, whose pair it takes
-    pub record HasKey (n key : ℕ) : Type 0 where
+    -- it stands at a fork of class 0 and of this level
+    pub record IsAtLowFork (low n : ℕ) : Type 0 where
       pub stands : Stands n
-      pub leaf : is_leaf (value h) n ≡ true
-      pub low : class (value h) n ≡ 0
-      pub key_is : key_at h n ≡ key
+      pub fork : is_leaf (value h) n ≡ false
+      pub class : class (value h) n ≡ 0
+      pub deep : level (value h) n ≡ low
+
+    -- it stands at a place of a leaf, below a fork of which it has a snapshot
+    pub record StandsIn (p : LeafPlace) : Type 0 where
+      pub stood : HasStood c h p.node.0
+      pub asks : means.asks (means.call r)
+      pub some : 0 < length snaps
+      pub waits : AreThere c h (means.waiting r)
+      pub here : Whenever c.layout h snaps (λ b. means.IsIn r b p)
+
+    -- it is about to stand at the first place of a leaf, once it is told of its count
+    abbrev pub StandsBefore : NodeNo → Type 0
+    StandsBefore n = StandsIn (first_place n (more_at h n.0))
+
+    -- it takes the pair at a place of a leaf, which has this key
+    pub record TakesPair (p : LeafPlace) (key : ℕ) : Type 0 where
+      pub stands : StandsIn p
+      pub key_is : place_key h p ≡ key
       pub takes : means.Takes r key
 
     -- it may look at this fork, not above the level `low`, of which these children are to be visited

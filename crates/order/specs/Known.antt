@@ -1,5 +1,5 @@
 -- When an ordered read may go on, what it waits for, and what its answer says.
-use Rattle.std.specs.Prelude.{◌≡◌, ◌⊎◌, ℕ, ◌+◌, ◌<◌, ◌≤◌, false, List, [], Option, Some, None, Result, Ok, Err}
+use Rattle.std.specs.Prelude.{◌≡◌, ◌⊎◌, ℕ, ◌+◌, ◌≤◌, false, List, [], Option, Some, None, Result, Ok, Err}
 use Rattle.arena.specs.declared.machine.Turn.{Turn}
 use Rattle.arena.specs.declared.number.NodeNo.{NodeNo}
 use Rattle.arena.specs.declared.step.Step.{Step}
@@ -7,7 +7,7 @@ use Rattle.arena.specs.declared.step.Kind.TheVariants.{LoadSettled}
 use Rattle.arena.specs.declared.word.NodeWord.TheVariants.{Settled}
 use Rattle.arena.specs.declared.word.SettledPart.TheVariants.{Head as HeadWord}
 use Rattle.arena.specs.declared.word.Side.TheVariants as sides
-use Rattle.arena.specs.Words.{node, first_key, first_value}
+use Rattle.arena.specs.Words.{node}
 use Rattle.arena.specs.History.{History, value, Extends}
 use Rattle.arena.specs.Machines.{Call, MatchTurn, begun_at}
 use Rattle.prims.specs.Llx.Known.{load, LlxIsReady, LlxWaits}
@@ -17,7 +17,7 @@ use Rattle.prims.specs.declared.snap.Snap.{Snap}
 use Rattle.ordered_map.specs.declared.pair.Pair.{Pair}
 use Rattle.ordered_map.specs.OrderedMap.{reply}
 use Rattle.ordered_map.specs.TreeShape.{TreeAllows}
-use Rattle.ordered_map.specs.TreeWords.{is_leaf, level, toward}
+use Rattle.ordered_map.specs.TreeWords.{is_leaf, toward}
 use Rattle.template.specs.Blame.{IsContended, HasLostTriesTo}
 use Rattle.template.specs.Trails.{IsOwnMoment, WasPassed}
 use Rattle.template.specs.Tries.{HasTriedAtMost}
@@ -26,15 +26,17 @@ use Rattle.template.specs.declared.walk.Goal.TheVariants.{Key as ToKey}
 use Rattle.template.specs.declared.walk.WalkAt.{WalkAt}
 use Rattle.template.specs.declared.walk.WalkAt.TheVariants as walks
 use Rattle.template.specs.declared.walk.WalkRun.{WalkRun}
-use Rattle.order.specs.Found.{HasKey, HasLowHead, IsReading, IsRightAt, Looks, Stands, WalksTo}
+use Rattle.order.specs.Found.{IsReading, IsRightAt, Looks, Stands, WalksTo}
+use Rattle.order.specs.Loads.{load_value, load_word}
 use Rattle.order.specs.Meaning.{ReadMeaning}
+use Rattle.order.specs.Next.{MayLoad}
 use Rattle.order.specs.Reads.{AllHold, Reads}
 use Rattle.order.specs.Replies.{IsReplyAt}
 use Rattle.order.specs.Tries.{BeginsTry, IsInTry}
 use Rattle.order.specs.declared.refused.Refused.{Refused}
 use Rattle.order.specs.declared.refused.Refused.TheVariants.{Contended, NoMemory}
 use Rattle.order.specs.declared.run.ReadAt.{ReadAt}
-use Rattle.order.specs.declared.run.ReadAt.TheVariants.{Start, Walk, Root, Head, Key, Value, Look, Validate}
+use Rattle.order.specs.declared.run.ReadAt.TheVariants.{Start, Walk, Root, Load, Look, Validate}
 use Rattle.order.specs.declared.run.ReadRun.{ReadRun}
 
 -- Its walk
@@ -84,9 +86,7 @@ module _ {R A : Type 0} (means : ReadMeaning R A) where
     ReadWaitsAt s Start = ⊥
     ReadWaitsAt s (Walk walk turn) = Walks m.read c h walk turn × WalkWaits walk c h s
     ReadWaitsAt s Root = RunStands 0 × (s ≡ load LoadSettled (node 0 (Settled HeadWord)))
-    ReadWaitsAt s (Head above n) = RunStands n.0 × (above < level (value h) n.0) × (s ≡ load LoadSettled (node n.0 (Settled HeadWord)))
-    ReadWaitsAt s (Key head n) = RunStands n.0 × HasLowHead h n.0 head × (s ≡ load LoadSettled (node n.0 first_key))
-    ReadWaitsAt s (Value key n) = HasKey means m.read m.snaps.items c h n.0 key × (s ≡ load LoadSettled (node n.0 first_value))
+    ReadWaitsAt s (Load of) = MayLoad means m.read m.snaps.items c h of × (s ≡ load LoadSettled (load_word of))
     ReadWaitsAt s (Look children low llx) = Looks means m.read m.snaps.items c h children low llx.node.0 × ((begin : History) × Extends begin c.start × LlxWaits TreeAllows llx (begun_at c begin) h s)
     ReadWaitsAt s (Validate asked) = (begin : History) × Validates m.read m.snaps.items c h begin × VlxWaits m.snaps.items asked (begun_at c begin) h s
 
@@ -95,9 +95,7 @@ module _ {R A : Type 0} (means : ReadMeaning R A) where
     ReadIsToldAt v Start = ⊥
     ReadIsToldAt v (Walk walk turn) = Walks m.read c h walk turn × WalkIsReady walk c h (Some v)
     ReadIsToldAt v Root = RunStands 0 × (value h (node 0 (Settled HeadWord)) ≡ v)
-    ReadIsToldAt v (Head above n) = RunStands n.0 × (above < level (value h) n.0) × (value h (node n.0 (Settled HeadWord)) ≡ v)
-    ReadIsToldAt v (Key head n) = RunStands n.0 × HasLowHead h n.0 head × (value h (node n.0 first_key) ≡ v)
-    ReadIsToldAt v (Value key n) = HasKey means m.read m.snaps.items c h n.0 key × (value h (node n.0 first_value) ≡ v)
+    ReadIsToldAt v (Load of) = MayLoad means m.read m.snaps.items c h of × (load_value h of ≡ v)
     ReadIsToldAt v (Look children low llx) = Looks means m.read m.snaps.items c h children low llx.node.0 × ((begin : History) × Extends begin c.start × LlxIsReady TreeAllows llx (begun_at c begin) h (Some v))
     ReadIsToldAt v (Validate asked) = (begin : History) × Validates m.read m.snaps.items c h begin × VlxIsReady m.snaps.items asked (begun_at c begin) h (Some v)
 

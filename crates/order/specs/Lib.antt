@@ -1,6 +1,7 @@
 pub mod Replies
 pub mod Tries
 pub mod Reads
+pub mod Loads
 pub mod Meaning
 pub mod Paths
 pub mod Found

@@ -3,6 +3,7 @@ use Rattle.std.specs.Prelude.{ℕ, List}
 use Rattle.arena.specs.declared.number.NodeNo.{NodeNo}
 use Rattle.arena.specs.History.{History}
 use Rattle.ordered_map.specs.OrderedMap.{MapCall, MapReply}
+use Rattle.order.specs.declared.load.LeafPlace.{LeafPlace}
 use Rattle.order.specs.declared.read.Children.{Children}
 
 -- What a read is, of which the answers are `A`. Where it stands is said of the words of a moment at
@@ -23,7 +24,9 @@ pub record ReadMeaning (R A : Type 0) : Type 1 where
   pub IsAt : R → History → ℕ → Type 0
   -- it stands at this fork, of which these children are to be visited
   pub IsAtFork : R → History → ℕ → Children → Type 0
-  -- it takes the pair of a leaf with this key
+  -- it stands at this place of a leaf, with the pairs before it behind it
+  pub IsIn : R → History → LeafPlace → Type 0
+  -- it takes the pair with this key
   pub Takes : R → ℕ → Type 0
   -- how many steps a try of such a call may ask for, where no more nodes than these are taken
   pub try_left : MapCall → ℕ → ℕ

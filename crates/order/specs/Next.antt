@@ -5,11 +5,13 @@ use Rattle.arena.specs.Machines.{Call}
 use Rattle.prims.specs.declared.snap.Snap.{Snap}
 use Rattle.ordered_map.specs.TreeWords.{level}
 use Rattle.template.specs.Trails.{IsOwnMoment}
-use Rattle.order.specs.Found.{HasKey, HasLowHead, IsRightAt, Looks, Stands}
+use Rattle.order.specs.Found.{IsAtLowFork, IsRightAt, Looks, Stands, StandsBefore, StandsIn, TakesPair, place_low}
 use Rattle.order.specs.Meaning.{ReadMeaning}
 use Rattle.order.specs.Reads.{Whenever}
+use Rattle.order.specs.declared.load.ReadLoad.{ReadLoad}
+use Rattle.order.specs.declared.load.ReadLoad.TheVariants.{Head, Key, More, Pair, Value, High}
 use Rattle.order.specs.declared.read.ReadNext.{ReadNext}
-use Rattle.order.specs.declared.read.ReadNext.TheVariants.{Head, Key, Value, Look, Validate}
+use Rattle.order.specs.declared.read.ReadNext.TheVariants.{Load, Look, Validate}
 use Rattle.order.specs.declared.refused.Refused.{Refused}
 use Rattle.order.specs.declared.refused.Refused.TheVariants.{NoMemory}
 
@@ -22,11 +24,18 @@ module _ {R A : Type 0} (means : ReadMeaning R A) (r : R) (snaps : List Snap) (c
     pub some : 0 < length snaps
     pub right : Whenever c.layout h snaps (λ b. IsRightAt means r c.layout b)
 
-  -- what it knows when this may come next
+  -- what it knows when this word may be loaded
+  abbrev pub MayLoad : ReadLoad → Type 0
+  MayLoad (Head above n) = Stands means r snaps c h n.0 × (above < level (value h) n.0)
+  MayLoad (Key low n) = IsAtLowFork means r snaps c h low n.0
+  MayLoad (More n) = StandsBefore means r snaps c h n
+  MayLoad (Pair p) = StandsIn means r snaps c h p
+  MayLoad (Value p key) = TakesPair means r snaps c h p key
+  MayLoad (High p key low) = TakesPair means r snaps c h p key × (place_low h p ≡ low)
+
+  -- and when this may come next
   abbrev pub MayDo : ReadNext → Type 0
-  MayDo (Head above n) = Stands means r snaps c h n.0 × (above < level (value h) n.0)
-  MayDo (Key head n) = Stands means r snaps c h n.0 × HasLowHead h n.0 head
-  MayDo (Value key n) = HasKey means r snaps c h n.0 key
+  MayDo (Load load) = MayLoad load
   MayDo (Look children low n) = Looks means r snaps c h children low n.0
   MayDo Validate = MayValidate
 

@@ -2,31 +2,28 @@
 use Rattle.std.specs.Prelude.{ℕ, ◌+◌, ◌≤◌, length, Result, Ok}
 use Rattle.arena.specs.declared.step.Step.{Step}
 use Rattle.arena.specs.declared.step.Kind.TheVariants.{LoadInfo, LoadMarked, LoadSettled}
-use Rattle.arena.specs.declared.word.NodeWord.TheVariants.{Settled}
-use Rattle.arena.specs.declared.word.SettledPart.TheVariants.{Head as HeadWord}
-use Rattle.arena.specs.Words.{info, marked, node, first_key, first_value}
+use Rattle.arena.specs.Words.{info, marked}
 use Rattle.arena.specs.History.{History}
 use Rattle.arena.specs.Machines.{Call, begun_at}
 use Rattle.prims.specs.Llx.Known.{load}
 use Rattle.prims.specs.Snap.{snap_at}
 use Rattle.prims.specs.declared.llx.LlxAt.TheVariants.{Marked}
 use Rattle.order.specs.Known.{ReadGoes}
+use Rattle.order.specs.Loads.{load_word}
 use Rattle.order.specs.Meaning.{ReadMeaning}
 use Rattle.order.specs.Next.{GoesOnSo}
-use Rattle.order.specs.Paths.{NextFits, next_left}
+use Rattle.order.specs.Paths.{IsStep, next_left}
 use Rattle.order.specs.Tries.{IsInTry}
 use Rattle.order.specs.declared.read.ReadNext.{ReadNext}
-use Rattle.order.specs.declared.read.ReadNext.TheVariants.{Head as HeadNext, Key as KeyNext, Value as ValueNext, Look as LookNext, Validate as ValidateNext}
+use Rattle.order.specs.declared.read.ReadNext.TheVariants.{Load as LoadNext, Look as LookNext, Validate as ValidateNext}
 use Rattle.order.specs.declared.refused.Refused.{Refused}
 use Rattle.order.specs.declared.run.ReadAt.{ReadAt}
-use Rattle.order.specs.declared.run.ReadAt.TheVariants.{Head, Key, Value, Look, Validate}
+use Rattle.order.specs.declared.run.ReadAt.TheVariants.{Load, Look, Validate}
 use Rattle.order.specs.declared.run.ReadRun.{ReadRun}
 
 -- where the read stands once this has begun
 abbrev pub place_of : ReadNext → ReadAt
-place_of (HeadNext above n) = Head above n
-place_of (KeyNext head n) = Key head n
-place_of (ValueNext key n) = Value key n
+place_of (LoadNext of) = Load of
 place_of (LookNext children level n) = Look children level record { node = n; at = Marked }
 place_of ValidateNext = Validate 1
 
@@ -35,9 +32,7 @@ placed m next = record m { at = place_of next }
 
 -- the step with which it begins
 abbrev pub next_step : {R : Type 0} → ReadRun R → ReadNext → Step
-next_step m (HeadNext above n) = load LoadSettled (node n.0 (Settled HeadWord))
-next_step m (KeyNext head n) = load LoadSettled (node n.0 first_key)
-next_step m (ValueNext key n) = load LoadSettled (node n.0 first_value)
+next_step m (LoadNext of) = load LoadSettled (load_word of)
 next_step m (LookNext children level n) = load LoadMarked (marked n.0)
 next_step m ValidateNext = load LoadInfo (info (snap_at m.snaps.items 0).node.0)
 
@@ -52,4 +47,4 @@ module _ {R A : Type 0} (means : ReadMeaning R A) where
 
   -- at most n steps are left before this has begun
   abbrev pub RunComesNearer : ReadRun R → ℕ → ReadNext → ℕ → Type 0
-  RunComesNearer m nodes next n = NextFits means m.read nodes next × (length m.snaps.items + next_left means m.read nodes next ≤ n)
+  RunComesNearer m nodes next n = IsStep means m.read nodes next × (length m.snaps.items + next_left means m.read nodes next ≤ n)

@@ -12,8 +12,9 @@ use Rattle.template.specs.Trails.{IsOwnMoment}
 use Rattle.order.specs.Found.{AreThere}
 use Rattle.order.specs.Meaning.{ReadMeaning}
 use Rattle.order.specs.Paths.{path_left}
-use Rattle.order.specs.Reads.{Whenever}
-use Rattle.order.specs.Visits.{Bounds, IsVisiting, HasVisited}
+use Rattle.order.specs.Reads.{HasStood, Whenever}
+use Rattle.order.specs.Visits.{Bounds, IsVisiting, IsVisitingIn, HasVisited, HasVisitedIn}
+use Rattle.order.specs.declared.load.LeafPlace.{LeafPlace}
 use Rattle.order.specs.declared.range.Range.{Range}
 use Rattle.order.specs.declared.read.Children.{Children}
 use Rattle.order.specs.declared.read.Children.TheVariants.{Left, Right, Both}
@@ -46,13 +47,26 @@ AreWithin r rank Right = rank ≤ r.low
 abbrev pub Visits : Range → History → ℕ → Type 0
 Visits r b n = (length r.taken.items < r.most) × IsVisiting b (bounds_of r) n r.taken.items (waiting_of r) r.leaves
 
+-- so it does at a place of a leaf
+abbrev pub VisitsIn : Range → History → LeafPlace → Type 0
+VisitsIn r b p = (length r.taken.items < r.most) × IsVisitingIn b (bounds_of r) p r.taken.items (waiting_of r) r.leaves
+
+-- a pair of a leaf is behind it, and it has taken that if it is within the bounds
+pub record GoesOnBehind (r : Range) (snaps : List Snap) (c : Call) (h : History) (p : LeafPlace) : Type 0 where
+  pub own : IsOwnMoment c h
+  pub asks : (0 < r.most) × (r.low ≤ r.high)
+  pub some : 0 < length snaps
+  pub stood : HasStood c h p.node.0
+  pub waits : AreThere c h (waiting_of r)
+  pub visited : Whenever c.layout h snaps (λ b. (length r.taken.items ≤ r.most) × HasVisitedIn b (bounds_of r) p r.taken.items (waiting_of r) r.leaves)
+
 -- a leaf is visited, and it has taken what that has
 pub record GoesBehind (r : Range) (snaps : List Snap) (c : Call) (h : History) (leaves : ℕ) : Type 0 where
   pub own : IsOwnMoment c h
   pub asks : (0 < r.most) × (r.low ≤ r.high)
   pub some : 0 < length snaps
   pub waits : AreThere c h (waiting_of r)
-  pub visited : Whenever c.layout h snaps (λ b. (length r.taken.items ≤ r.most) × HasVisited b (bounds_of r) r.taken.items (waiting_of r) leaves)
+  pub visited : Whenever c.layout h snaps (λ b. (length r.taken.items < r.most) × HasVisited b (bounds_of r) r.taken.items (waiting_of r) leaves)
 
 -- how many steps a try of a range may ask for, where no more nodes than these are taken
 abbrev pub range_try_left : ℕ → ℕ → ℕ
@@ -76,6 +90,7 @@ range_means = record {
   waiting = waiting_of;
   IsAt = Visits;
   IsAtFork = λ r b n children. AreWithin r (rank (value b) n) children × Visits r b n;
+  IsIn = VisitsIn;
   Takes = λ r key. (r.low ≤ key) × (key ≤ r.high);
   try_left = call_left;
   behind = λ r nodes. leaves_left r.leaves nodes;

@@ -1,5 +1,5 @@
--- How many steps an ordered read may still ask for: three a node of its walk, and 67 a node of each
--- path that it goes down with LLXs.
+-- How many steps an ordered read may still ask for: three a node of its walk and five more at its
+-- leaf, and 67 a node of each path that it goes down with LLXs.
 use Rattle.std.specs.Prelude.{ℕ, ◌+◌, ◌*◌, ◌-◌, ◌<◌, length, Option, unwrap_or}
 use Rattle.arena.specs.Heads.{head_of}
 use Rattle.arena.specs.Machines.{MatchTurn}
@@ -12,9 +12,9 @@ use Rattle.template.specs.Walk.Steps.{walk_left, WalkFits}
 use Rattle.template.specs.declared.walk.WalkAt.{WalkAt}
 use Rattle.template.specs.declared.walk.WalkAt.TheVariants.{Child}
 use Rattle.order.specs.Meaning.{ReadMeaning}
-use Rattle.order.specs.Paths.{HeadFits, path_left}
+use Rattle.order.specs.Paths.{HeadFits, LoadFits, load_left, path_left}
 use Rattle.order.specs.declared.run.ReadAt.{ReadAt}
-use Rattle.order.specs.declared.run.ReadAt.TheVariants.{Start, Walk, Root, Head, Key, Value, Look, Validate}
+use Rattle.order.specs.declared.run.ReadAt.TheVariants.{Start, Walk, Root, Load, Look, Validate}
 use Rattle.order.specs.declared.run.ReadRun.{ReadRun}
 
 -- the last fork where a walk has turned left, if that was `turn` before it stood here at the node
@@ -36,9 +36,7 @@ module _ {R A : Type 0} (means : ReadMeaning R A) (m : ReadRun R) where
   phase_left nodes Start = run_try_left nodes
   phase_left nodes (Walk walk turn) = walk_left walk.at nodes + length m.snaps.items + path_left nodes + means.behind m.read nodes
   phase_left nodes Root = length m.snaps.items + path_left nodes - 1 + means.behind m.read nodes
-  phase_left nodes (Head above node) = length m.snaps.items + 67 * (1 + nodes - above) - 1 + means.behind m.read nodes
-  phase_left nodes (Key head node) = length m.snaps.items + 67 * (2 + nodes - head.level) - 2 + means.behind m.read nodes
-  phase_left nodes (Value key node) = length m.snaps.items + means.behind m.read nodes
+  phase_left nodes (Load load) = length m.snaps.items + load_left means m.read nodes load - 1
   phase_left nodes (Look children level llx) = llx_left llx.at + length m.snaps.items + 1 + 67 * (1 + nodes - level) + means.behind m.read nodes
   phase_left nodes (Validate asked) = vlx_left m.snaps.items asked
 
@@ -54,8 +52,7 @@ module _ {R A : Type 0} (means : ReadMeaning R A) (m : ReadRun R) where
   abbrev pub ReadFitsAt : Option ℕ → ℕ → ReadAt → Type 0
   ReadFitsAt got nodes (Walk walk turn) = WalkFits walk got nodes
   ReadFitsAt got nodes Root = HeadFits (head_of (unwrap_or got 0)) nodes
-  ReadFitsAt got nodes (Head above node) = (above < (head_of (unwrap_or got 0)).level) × HeadFits (head_of (unwrap_or got 0)) nodes
-  ReadFitsAt got nodes (Key head node) = HeadFits head nodes
+  ReadFitsAt got nodes (Load load) = LoadFits (unwrap_or got 0) nodes load
   ReadFitsAt got nodes (Look children level llx) = level + 1 < 2 + nodes
   ReadFitsAt got nodes _ = Unit {0}
 

@@ -1,37 +1,51 @@
 -- A successor, as an ordered read.
-use Rattle.std.specs.Prelude.{◌≡◌, ℕ, ◌+◌, ◌*◌, ◌^◌, ◌<◌, ◌≤◌, Bool, true, false, if◌then◌else◌, ◌==◌, nat_lt, List, [], ◌∷◌, Option, Some, None}
+use Rattle.std.specs.Prelude.{◌≡◌, ℕ, ◌+◌, ◌*◌, ◌^◌, ◌<◌, ◌≤◌, Bool, true, false, ◌==◌, nat_lt, List, [], ◌∷◌, length, Option}
 use Rattle.arena.specs.declared.head.Head.{Head as HeadParts}
 use Rattle.arena.specs.declared.number.NodeNo.{NodeNo}
 use Rattle.arena.specs.Words.{marked}
 use Rattle.arena.specs.History.{History, value}
+use Rattle.arena.specs.Machines.{Call}
+use Rattle.prims.specs.declared.snap.Snap.{Snap}
 use Rattle.ordered_map.specs.declared.pair.Pair.{Pair}
 use Rattle.ordered_map.specs.OrderedMap.{MapCall, Successor as SuccessorOf, pair_or_none}
 use Rattle.ordered_map.specs.Paths.{IsOnPath}
 use Rattle.ordered_map.specs.TreeWords.{rank}
+use Rattle.template.specs.Trails.{IsOwnMoment}
+use Rattle.order.specs.Found.{AreThere}
+use Rattle.order.specs.Loads.{first_place}
 use Rattle.order.specs.Meaning.{ReadMeaning}
-use Rattle.order.specs.Paths.{path_left}
-use Rattle.order.specs.Laws.Search.{IsSearched, IsFirstBehind}
+use Rattle.order.specs.Laws.Search.{IsSearched, IsSearchedIn, IsFirstBehind, IsFirstIn}
+use Rattle.order.specs.Reads.{Whenever}
+use Rattle.order.specs.declared.load.LeafPlace.{LeafPlace}
+use Rattle.order.specs.declared.load.ReadLoad.{ReadLoad}
+use Rattle.order.specs.declared.load.ReadLoad.TheVariants.{Pair as PairLoad, More}
 use Rattle.order.specs.declared.read.Children.{Children}
 use Rattle.order.specs.declared.read.Children.TheVariants.{Left, Right, Both}
 use Rattle.order.specs.declared.successor.Route.{Route}
 use Rattle.order.specs.declared.successor.Route.TheVariants.{Above, Along, Beyond}
 use Rattle.order.specs.declared.successor.Successor.{Successor}
 
--- whether it loads the key of a node with this head
+-- whether it loads the key of a fork with this head
 abbrev pub asks_key : Route → HeadParts → Bool
-asks_key Beyond head = if head.class == 0 then head.leaf else false
+asks_key Beyond head = false
 asks_key _ head = head.class == 0
+
+-- what it loads first of a leaf of class 0: on the path of its key how many pairs that has, behind it
+-- the first pair alone
+abbrev pub leaf_load : Route → NodeNo → ReadLoad
+leaf_load Beyond n = PairLoad (first_place n 0)
+leaf_load _ n = More n
+
+-- whether the pair with this key at its leaf is the answer
+abbrev pub is_answer : Route → ℕ → ℕ → Bool
+is_answer Beyond k key = true
+is_answer _ k key = nat_lt k key
 
 -- which children of a fork are to be visited, at which the path of the key goes left or not
 abbrev pub children_below : Route → Bool → Children
 children_below Beyond left = Left
 children_below _ true = Both
 children_below _ false = Right
-
--- from which node it goes on behind a leaf of class 0 with this key, where that is not the answer
-abbrev pub behind_leaf : Route → ℕ → ℕ → Option NodeNo
-behind_leaf (Along right) k key = if nat_lt k key then None else Some right
-behind_leaf _ k key = None
 
 -- which part of the way is behind a fork at which the path of the key goes left
 abbrev pub route_below : Route → NodeNo → Route
@@ -67,14 +81,36 @@ LooksOnRoute Above b k n children = (children ≡ Both) × (k < rank (value b) n
 LooksOnRoute (Along right) b k n children = AreOnPath k (rank (value b) n) children × IsSearched b k n right.0
 LooksOnRoute Beyond b k n children = (children ≡ Left) × IsFirstBehind b k n
 
+-- where it stands at a place of a leaf
+abbrev pub IsInLeaf : Route → History → ℕ → LeafPlace → Type 0
+IsInLeaf Above b k p = ⊥
+IsInLeaf (Along right) b k p = IsSearchedIn b k p right.0
+IsInLeaf Beyond b k p = IsFirstIn b k p
+
+-- it takes the first pair with a key above its own
+abbrev pub TakesOnRoute : Route → ℕ → ℕ → Type 0
+TakesOnRoute Beyond k key = Unit {0}
+TakesOnRoute _ k key = k < key
+
+-- no key of its leaf is above its own: it goes on to the next leaf
+abbrev pub IsNextLeaf : Route → History → ℕ → Type 0
+IsNextLeaf (Along right) b k = IsFirstBehind b k right.0
+IsNextLeaf _ b k = ⊥
+
+pub record GoesBeyond (r : Successor) (snaps : List Snap) (c : Call) (h : History) : Type 0 where
+  pub own : IsOwnMoment c h
+  pub some : 0 < length snaps
+  pub waits : AreThere c h (behind_path r.route)
+  pub behind : Whenever c.layout h snaps (λ b. IsNextLeaf r.route b r.key)
+
 -- how many steps a try of a successor may ask for, where no more nodes than these are taken
 abbrev pub successor_try_left : ℕ → ℕ
 successor_try_left nodes = 137 * (2 + nodes)
 
--- the second path is still to go
+-- the second path is still to go, from below a fork on
 abbrev pub second_path_left : Route → ℕ → ℕ
 second_path_left Beyond nodes = 0
-second_path_left _ nodes = path_left nodes
+second_path_left _ nodes = 67 * (1 + nodes)
 
 abbrev pub successor_means : ReadMeaning Successor (Option Pair)
 successor_means = record {
@@ -86,7 +122,8 @@ successor_means = record {
   waiting = λ r. behind_path r.route;
   IsAt = λ r b n. IsOnRoute r.route b r.key n;
   IsAtFork = λ r b n children. LooksOnRoute r.route b r.key n children;
-  Takes = λ r key. r.route ≡ Beyond;
+  IsIn = λ r b p. IsInLeaf r.route b r.key p;
+  Takes = λ r key. TakesOnRoute r.route r.key key;
   try_left = λ call nodes. successor_try_left nodes;
   behind = λ r nodes. second_path_left r.route nodes;
 }

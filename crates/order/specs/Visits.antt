@@ -1,13 +1,16 @@
 -- How far the visits of a range have come, in the tree that the words show.
-use Rattle.std.specs.Prelude.{◌≡◌, ◌≢◌, ℕ, ◌+◌, ◌<◌, ◌≤◌, List, [], ◌∷◌, ◌++◌, length}
+use Rattle.std.specs.Prelude.{◌≡◌, ◌≢◌, ◌⊎◌, ℕ, ◌+◌, ◌-◌, ◌<◌, ◌≤◌, List, [], ◌∷◌, ◌++◌, length}
 use Rattle.arena.specs.declared.layout.Layout.{Layout}
 use Rattle.arena.specs.declared.number.NodeNo.{NodeNo}
 use Rattle.arena.specs.History.{History, value}
 use Rattle.ordered_map.specs.declared.pair.Pair.{Pair}
-use Rattle.ordered_map.specs.OrderedMap.{between, range}
+use Rattle.ordered_map.specs.Holding.{held_from}
+use Rattle.ordered_map.specs.OrderedMap.{AllBelow, between, range}
 use Rattle.ordered_map.specs.Spelled.{IsTree, Spells}
 use Rattle.ordered_map.specs.TreeWords.{Tree, pairs}
+use Rattle.order.specs.Found.{place_key, more_at, pairs_behind}
 use Rattle.order.specs.Laws.Search.{IsPartAt}
+use Rattle.order.specs.declared.load.LeafPlace.{LeafPlace}
 
 -- the keys that are asked for, and how many pairs at most
 pub record Bounds : Type 0 where
@@ -40,7 +43,31 @@ pub record IsVisiting (h : History) (w : Bounds) (n : ℕ) (taken : List Pair) (
   pub behind : leaves ≢ w.most + 2 → w.low < part.low
   pub below : waiting ≢ [] → part.high ≤ w.high
 
--- a leaf is visited: its pair was taken, or it has none within the bounds
+-- Such visits stand at a place of a leaf of class 0. Where a leaf is visited of which no pair is
+-- taken, no node waits, or it is the first one.
+pub record IsVisitingIn (h : History) (w : Bounds) (p : LeafPlace) (taken : List Pair) (waiting : List NodeNo) (leaves : ℕ) : Type 0 where
+  pub tree : Tree
+  pub is_tree : IsTree (value h) tree
+  pub more : more_at h p.node.0 ≡ p.more
+  pub rest : List Pair
+  pub waits : AreWaiting h w waiting rest
+  pub finds : between w.low w.high (pairs (value h) tree) ≡ taken ++ (between w.low w.high (held_from (value h) p.node.0 p.slot) ++ rest)
+  pub few : waiting ≢ [] → w.most + 1 ≤ leaves + length taken
+  pub behind : (w.low < place_key h p) ⊎ (waiting ≢ [] → w.most + 1 ≤ leaves - 1 + length taken)
+  pub below : waiting ≢ [] → AllBelow (w.high + 1) (held_from (value h) p.node.0 p.slot)
+
+-- they are behind the pair at that place
+pub record HasVisitedIn (h : History) (w : Bounds) (p : LeafPlace) (taken : List Pair) (waiting : List NodeNo) (leaves : ℕ) : Type 0 where
+  pub tree : Tree
+  pub is_tree : IsTree (value h) tree
+  pub more : more_at h p.node.0 ≡ p.more
+  pub rest : List Pair
+  pub waits : AreWaiting h w waiting rest
+  pub finds : between w.low w.high (pairs (value h) tree) ≡ taken ++ (between w.low w.high (pairs_behind h p) ++ rest)
+  pub few : waiting ≢ [] → w.most + 1 ≤ leaves - 1 + length taken
+  pub below : waiting ≢ [] → AllBelow (w.high + 1) (pairs_behind h p)
+
+-- a leaf is visited: its pairs within the bounds were taken
 pub record HasVisited (h : History) (w : Bounds) (taken : List Pair) (waiting : List NodeNo) (leaves : ℕ) : Type 0 where
   pub tree : Tree
   pub is_tree : IsTree (value h) tree

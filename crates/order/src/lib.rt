@@ -3,6 +3,7 @@
 #![tactic(auto)]
 
 mod alone;
+mod load;
 mod range;
 mod read;
 mod refused;
@@ -10,6 +11,7 @@ mod run;
 mod successor;
 
 pub use alone::alone_holds;
+pub use load::{LeafPlace, ReadLoad};
 pub use range::{Range, RangeRun};
 pub use read::{Children, Read, ReadBegin, ReadNext};
 pub use refused::Refused;

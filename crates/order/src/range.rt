@@ -1,6 +1,7 @@
 //! Range.
 ghost use Rattle.std.specs.Prelude.{◌≡◌};
 
+use crate::load::{LeafPlace, ReadLoad};
 use crate::read::{Children, Read, ReadBegin, ReadNext};
 use crate::refused::Refused;
 use crate::run::ReadRun;
@@ -30,14 +31,13 @@ pub struct Range {
 pub type RangeRun = ReadRun<Range>;
 
 impl Range {
-    ghost use Rattle.std.specs.Prelude.{◌≡◌, ℕ, ◌-◌, ◌*◌, ◌<◌, ◌≤◌, List, []};
+    ghost use Rattle.std.specs.Prelude.{◌≡◌, ℕ, ◌+◌, ◌-◌, ◌*◌, ◌<◌, ◌≤◌, List, []};
     ghost use Rattle.arena.specs.History.{History};
     ghost use Rattle.arena.specs.Machines.{Call};
     ghost use Rattle.prims.specs.declared.snap.Snap.{Snap};
-    ghost use Rattle.order.specs.Found.{IsReading};
     ghost use Rattle.order.specs.Next.{MayDo};
-    ghost use Rattle.order.specs.Paths.{ComesNearer};
-    ghost use Rattle.order.specs.Range.{AreWithin, GoesBehind, range_means, range_try_left};
+    ghost use Rattle.order.specs.Paths.{ComesNearer, slots_left};
+    ghost use Rattle.order.specs.Range.{AreWithin, GoesBehind, GoesOnBehind, range_means, range_try_left};
     ghost use Rattle.order.specs.Steps.{read_left};
     ghost use Rattle.order.specs.declared.run.ReadAt.{ReadAt};
 
@@ -81,24 +81,37 @@ impl Range {
         }
     }
 
-    /// What is done behind a leaf.
+    /// What is done behind a leaf, where fewer pairs are taken than it tells at most.
     #[inline(always)]
     fn visited(&mut self) -> ReadNext
-        ensures goes_on { (snaps : List Snap) (c : Call) (h : History) → IsReading range_means self.old snaps c h
-            → GoesBehind self.old snaps c h (self.old.leaves - 1) → MayDo range_means self.new snaps c h result }
+        ensures goes_on { (snaps : List Snap) (c : Call) (h : History) → GoesBehind self.old snaps c h (self.old.leaves - 1)
+            → MayDo range_means self.new snaps c h result }
         ensures same { range_means.call self.new ≡ range_means.call self.old }
         ensures nearer { (nodes : ℕ) → ComesNearer range_means self.new nodes result (range_means.behind self.old nodes) }
     {
         self.leaves = self.leaves.saturating_sub(1);
-        if self.taken.len() >= self.most {
-            return ReadNext::Validate;
-        }
         if self.leaves == 0 {
             return ReadNext::Validate;
         }
         match self.waiting.pop() {
-            Some(node) => ReadNext::Head { above: 0, node },
+            Some(node) => ReadNext::Load(ReadLoad::Head { above: 0, node }),
             None => ReadNext::Validate,
+        }
+    }
+
+    /// What is done behind a pair of a leaf: no more is loaded once as many are taken as it tells.
+    #[inline(always)]
+    fn go_on(&mut self, place: LeafPlace) -> ReadNext
+        ensures goes_on { (snaps : List Snap) (c : Call) (h : History) → GoesOnBehind self.old snaps c h place → MayDo range_means self.new snaps c h result }
+        ensures same { range_means.call self.new ≡ range_means.call self.old }
+        ensures nearer { (nodes : ℕ) → ComesNearer range_means self.new nodes result (slots_left place - 3 + range_means.behind self.old nodes) }
+    {
+        if self.taken.len() >= self.most {
+            return ReadNext::Validate;
+        }
+        match place.behind() {
+            Some(place) => ReadNext::Load(ReadLoad::Pair { place }),
+            None => self.visited(),
         }
     }
 }
@@ -147,13 +160,25 @@ impl Read for Range {
     /// On the right of what is above all keys there is no pair.
     #[inline(always)]
     fn head_on(&mut self, head: Head, node: NodeNo) -> ReadNext {
-        if head.class == 0 {
-            return ReadNext::Key { head, node };
+        let level = head.level;
+        match (head.leaf, head.class == 0) {
+            (true, true) => ReadNext::Load(ReadLoad::More { node }),
+            (true, false) => self.visited(),
+            (false, true) => ReadNext::Load(ReadLoad::Key { level, node }),
+            (false, false) => {
+                let children = Children::Left;
+                ReadNext::Look {
+                    children,
+                    level,
+                    node,
+                }
+            }
         }
-        if head.leaf {
-            return self.visited();
-        }
-        let (children, level) = (Children::Left, head.level);
+    }
+
+    #[inline(always)]
+    fn key_on(&mut self, level: u64, node: NodeNo, key: u64) -> ReadNext {
+        let children = self.children(key);
         ReadNext::Look {
             children,
             level,
@@ -162,27 +187,20 @@ impl Read for Range {
     }
 
     #[inline(always)]
-    fn key_on(&mut self, head: Head, node: NodeNo, key: u64) -> ReadNext {
-        if !head.leaf {
-            let (children, level) = (self.children(key), head.level);
-            ReadNext::Look {
-                children,
-                level,
-                node,
-            }
-        } else if self.low > key || key > self.high {
-            self.visited()
+    fn pair_on(&mut self, place: LeafPlace, key: u64) -> ReadNext {
+        if self.low > key || key > self.high {
+            self.go_on(place)
         } else {
-            ReadNext::Value { key, node }
+            ReadNext::Load(ReadLoad::Value { place, key })
         }
     }
 
     #[inline(always)]
-    fn value_on(&mut self, pair: Pair) -> Result<ReadNext, Refused> {
+    fn value_on(&mut self, place: LeafPlace, pair: Pair) -> Result<ReadNext, Refused> {
         if self.taken.push(pair).is_err() {
             return Err(Refused::NoMemory);
         }
-        Ok(self.visited())
+        Ok(self.go_on(place))
     }
 
     #[inline(always)]

@@ -1,14 +1,15 @@
 //! Ordered reads of the tree, as data for the machine that makes them.
-ghost use Rattle.std.specs.Prelude.{◌≡◌, ℕ, ◌+◌, ◌*◌, ◌-◌, ◌≤◌, List, IfOk};
+ghost use Rattle.std.specs.Prelude.{◌≡◌, ℕ, ◌+◌, ◌*◌, ◌-◌, ◌<◌, ◌≤◌, List, IfOk};
 ghost use Rattle.arena.specs.History.{History};
 ghost use Rattle.arena.specs.Machines.{Call};
 ghost use Rattle.prims.specs.declared.snap.Snap.{Snap};
 ghost use Rattle.template.specs.Trails.{IsOwnMoment};
 ghost use Rattle.order.specs.Meaning.{ReadMeaning};
-ghost use Rattle.order.specs.Found.{IsReading, Stands, HasLowHead, HasKey, BeginsSo, GoesBelow, head_at, key_at, value_at};
+ghost use Rattle.order.specs.Found.{IsReading, Stands, IsAtLowFork, StandsIn, TakesPair, BeginsSo, GoesBelow, head_at, key_at, place_key, place_pair};
 ghost use Rattle.order.specs.Next.{MayDo, GoesOnSo};
-ghost use Rattle.order.specs.Paths.{HeadFits, BeginsNear, ComesNearer};
+ghost use Rattle.order.specs.Paths.{HeadFits, BeginsNear, ComesNearer, slots_left};
 
+use crate::load::{LeafPlace, ReadLoad};
 use crate::refused::Refused;
 use arena::{Head, NodeNo};
 use ordered_map::Pair;
@@ -38,21 +39,8 @@ pub enum ReadBegin<A> {
 /// What a read does next in its try, before it stands there.
 #[derive(Clone, Copy, Debug, PartialEq, Eq)]
 pub enum ReadNext {
-    /// The load of the head of a node that is below a fork of the level `above`.
-    Head {
-        above: u64,
-        node: NodeNo,
-    },
-    /// The load of the key of a node of class 0.
-    Key {
-        head: Head,
-        node: NodeNo,
-    },
-    /// The load of the value of a leaf whose pair is taken.
-    Value {
-        key: u64,
-        node: NodeNo,
-    },
+    /// The load of a word of a node.
+    Load(ReadLoad),
     /// The LLX of a fork of this level, of which these children are to be visited.
     Look {
         children: Children,
@@ -96,25 +84,33 @@ pub trait Read {
         ensures nearer { (nodes : ℕ) → HeadFits head nodes
             → ComesNearer means self.new nodes result (67 * (2 + nodes - head.level) - 1 + means.behind self.old nodes) };
 
-    /// What is done behind the key of a node of class 0.
-    fn key_on(&mut self, head: Head, node: NodeNo, key: u64) -> ReadNext
+    /// What is done behind the key of a fork of class 0 and of this level.
+    fn key_on(&mut self, level: u64, node: NodeNo, key: u64) -> ReadNext
         ensures goes_on { (snaps : List Snap) (c : Call) (h : History) → IsReading means self.old snaps c h → IsOwnMoment c h
-            → Stands means self.old snaps c h node.0 → HasLowHead h node.0 head → key_at h node.0 ≡ key
-            → MayDo means self.new snaps c h result }
+            → IsAtLowFork means self.old snaps c h level node.0 → key_at h node.0 ≡ key → MayDo means self.new snaps c h result }
         ensures same { means.call self.new ≡ means.call self.old }
-        ensures nearer { (nodes : ℕ) → HeadFits head nodes
-            → ComesNearer means self.new nodes result (67 * (2 + nodes - head.level) - 2 + means.behind self.old nodes) };
+        ensures nearer { (nodes : ℕ) → level + 1 < 2 + nodes
+            → ComesNearer means self.new nodes result (67 * (2 + nodes - level) - 2 + means.behind self.old nodes) };
 
-    /// Takes a pair, and tells what is done behind it.
+    /// What is done behind the key at this place of a leaf.
+    fn pair_on(&mut self, place: LeafPlace, key: u64) -> ReadNext
+        ensures goes_on { (snaps : List Snap) (c : Call) (h : History) → IsReading means self.old snaps c h → IsOwnMoment c h
+            → StandsIn means self.old snaps c h place → place_key h place ≡ key → MayDo means self.new snaps c h result }
+        ensures same { means.call self.new ≡ means.call self.old }
+        ensures nearer { (nodes : ℕ)
+            → ComesNearer means self.new nodes result (slots_left place - 1 + means.behind self.old nodes) };
+
+    /// Takes the pair at this place of a leaf, and tells what is done behind it.
     ///
     /// # Errors
     ///
     /// `NoMemory` where there is none to keep it.
-    fn value_on(&mut self, pair: Pair) -> Result<ReadNext, Refused>
-        ensures goes_on { (snaps : List Snap) (c : Call) (h : History) (n : ℕ) → IsReading means self.old snaps c h → IsOwnMoment c h
-            → HasKey means self.old snaps c h n pair.key → value_at h n ≡ pair.value → GoesOnSo means self.new snaps c h result }
+    fn value_on(&mut self, place: LeafPlace, pair: Pair) -> Result<ReadNext, Refused>
+        ensures goes_on { (snaps : List Snap) (c : Call) (h : History) → IsReading means self.old snaps c h → IsOwnMoment c h
+            → TakesPair means self.old snaps c h place pair.key → place_pair h place ≡ pair → GoesOnSo means self.new snaps c h result }
         ensures same { means.call self.new ≡ means.call self.old }
-        ensures nearer { (nodes : ℕ) → IfOk result (λ next. ComesNearer means self.new nodes next (means.behind self.old nodes)) };
+        ensures nearer { (nodes : ℕ) → IfOk result (λ next. ComesNearer means self.new nodes next
+            (slots_left place - 3 + means.behind self.old nodes)) };
 
     /// What it has found.
     fn answer(&mut self) -> Self::Answer

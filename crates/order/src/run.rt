@@ -2,12 +2,13 @@
 ghost use Rattle.std.specs.Prelude.{◌≡◌};
 ghost use Rattle.order.specs.Steps.{last_turn};
 
+use crate::load::{LeafPlace, ReadLoad};
 use crate::read::{Children, Read, ReadBegin, ReadNext};
 use crate::refused::Refused;
 use arena::{
     Access, Head, Kind, Machine, NodeNo, NodeWord, ScxNo, SettledPart, Side, Slot, Step, Turn, Word,
 };
-use ordered_map::Pair;
+use ordered_map::{Pair, wide_value};
 use prims::{Llx, LlxAt, LlxRun, Snap, Vlx, VlxRun};
 use std::alloc::Global;
 use template::{Goal, Tree, WalkAt, WalkRun};
@@ -24,21 +25,8 @@ pub enum ReadAt {
     },
     /// The load of the root's head.
     Root,
-    /// The load of the head of a node that is below a fork of the level `above`.
-    Head {
-        above: u64,
-        node: NodeNo,
-    },
-    /// The load of the key of a node of class 0.
-    Key {
-        head: Head,
-        node: NodeNo,
-    },
-    /// The load of the value of a leaf whose pair is taken.
-    Value {
-        key: u64,
-        node: NodeNo,
-    },
+    /// The load of a word of a node.
+    Load(ReadLoad),
     /// A step of the LLX of a fork of this level, of which these children are to be visited.
     Look {
         children: Children,
@@ -80,9 +68,12 @@ impl<R: Read + Drop> ReadRun<R> {
     ghost use Rattle.template.specs.Blame.{IsContended};
     ghost use Rattle.template.specs.Walk.Known.{WalkIsReady};
     ghost use Rattle.template.specs.Walk.Steps.{walk_left, WalkFits};
+    ghost use Rattle.template.specs.Trails.{IsOwnMoment};
     ghost use Rattle.order.specs.Found.{BeginsSo, WalksTo, IsReading, Looks};
     ghost use Rattle.order.specs.Known.{IsLastTurn, IsSameRead, ReadIsReady, ReadTurn, Validates};
-    ghost use Rattle.order.specs.Paths.{BeginsNear, ComesNearer, path_left};
+    ghost use Rattle.order.specs.Loads.{load_value};
+    ghost use Rattle.order.specs.Next.{MayLoad};
+    ghost use Rattle.order.specs.Paths.{BeginsNear, ComesNearer, LoadFits, load_left, path_left};
     ghost use Rattle.order.specs.Places.{GoesOn, MayGoOn, RunComesNearer};
     ghost use Rattle.order.specs.Replies.{KeepsTries};
     ghost use Rattle.order.specs.Steps.{ReadFits, ReadIsNearer, tries_left, read_left, run_try_left};
@@ -108,19 +99,13 @@ impl<R: Read + Drop> ReadRun<R> {
         }
     }
 
-    /// Asks for a load of a word of a node, and stands there.
-    fn load(
-        &mut self,
-        at: ReadAt,
-        kind: Kind,
-        node: NodeNo,
-        part: NodeWord,
-    ) -> Turn<Result<R::Answer, Refused>>
+    /// Asks for a load of a word, and stands there.
+    fn load(&mut self, at: ReadAt, kind: Kind, word: Word) -> Turn<Result<R::Answer, Refused>>
         ensures stands { self.new ≡ record self.old { at = at } }
-        ensures asked { result ≡ Turn.Ask record { kind = kind; word = Word.Node node part; access = Access.Load } }
+        ensures asked { result ≡ Turn.Ask record { kind = kind; word = word; access = Access.Load } }
     {
         self.at = at;
-        let (word, access) = (Word::Node(node, part), Access::Load);
+        let access = Access::Load;
         Turn::Ask(Step { kind, word, access })
     }
 
@@ -148,14 +133,14 @@ impl<R: Read + Drop> ReadRun<R> {
         ensures tries { self.new.tries ≡ self.old.tries }
     {
         let (kind, root) = (Kind::LoadSettled, NodeNo(0));
-        let head = NodeWord::Settled(SettledPart::Head);
+        let head = Word::Node(root, NodeWord::Settled(SettledPart::Head));
         match self.start() {
             ReadBegin::Walk(key) => {
                 let mut walk = WalkRun::new(Goal::Key(key));
                 walk.at = WalkAt::Root;
-                self.load(ReadAt::Walk { walk, turn: root }, kind, root, head)
+                self.load(ReadAt::Walk { walk, turn: root }, kind, head)
             }
-            ReadBegin::Root => self.load(ReadAt::Root, kind, root, head),
+            ReadBegin::Root => self.load(ReadAt::Root, kind, head),
             ReadBegin::Answer(answer) => Turn::Done(Ok(answer)),
         }
     }
@@ -228,7 +213,8 @@ impl<R: Read + Drop> ReadRun<R> {
             level,
             llx,
         };
-        self.load(at, Kind::LoadMarked, node, NodeWord::Marked)
+        let marked = Word::Node(node, NodeWord::Marked);
+        self.load(at, Kind::LoadMarked, marked)
     }
 
     /// Goes on with what the last step of an LLX found.
@@ -296,7 +282,7 @@ impl<R: Read + Drop> ReadRun<R> {
         }
         let above = level;
         match self.read.looked(children, snap.left, snap.right) {
-            Ok(node) => Ok(ReadNext::Head { above, node }),
+            Ok(node) => Ok(ReadNext::Load(ReadLoad::Head { above, node })),
             Err(refused) => Err(refused),
         }
     }
@@ -337,20 +323,8 @@ impl<R: Read + Drop> ReadRun<R> {
             → ReadIsNearer R.means self.new nodes result (tries_left R.means self.old nodes + n) }
         ensures tries { (c : Call) (h : History) → GoesOn R.means c h self.old (Ok next) → KeepsTries c h self.old.tries self.new.tries result }
     {
-        let kind = Kind::LoadSettled;
         match next {
-            ReadNext::Head { above, node } => {
-                let part = NodeWord::Settled(SettledPart::Head);
-                self.load(ReadAt::Head { above, node }, kind, node, part)
-            }
-            ReadNext::Key { head, node } => {
-                let part = NodeWord::Settled(SettledPart::Key(Slot::First));
-                self.load(ReadAt::Key { head, node }, kind, node, part)
-            }
-            ReadNext::Value { key, node } => {
-                let part = NodeWord::Settled(SettledPart::Value(Slot::First));
-                self.load(ReadAt::Value { key, node }, kind, node, part)
-            }
+            ReadNext::Load(load) => self.load(ReadAt::Load(load), Kind::LoadSettled, load.word()),
             ReadNext::Look {
                 children,
                 level,
@@ -375,6 +349,42 @@ impl<R: Read + Drop> ReadRun<R> {
         }
     }
 
+    /// Goes on with what a load of a word of a node found: behind the count of a leaf comes its first
+    /// key, and behind a value the high half of that.
+    ///
+    /// # Errors
+    ///
+    /// `NoMemory` where there is none to keep what is found.
+    #[inline(always)]
+    pub fn loaded(&mut self, load: ReadLoad, value: u64) -> Result<ReadNext, Refused>
+        ensures goes_on { (c : Call) (h : History) → IsReading R.means self.old.read self.old.snaps.items c h → IsOwnMoment c h
+            → MayLoad R.means self.old.read self.old.snaps.items c h load → load_value h load ≡ value → GoesOn R.means c h self.new result }
+        ensures same { IsSameRead R.means self.old self.new }
+        ensures nearer { (nodes : ℕ) → LoadFits value nodes load
+            → IfOk result (λ next. RunComesNearer R.means self.new nodes next
+            (length self.old.snaps.items + load_left R.means self.old.read nodes load - 1)) }
+        ensures tries { self.new.tries ≡ self.old.tries }
+    {
+        match load {
+            ReadLoad::Head { above: _, node } => Ok(self.read.head_on(Head::of(value), node)),
+            ReadLoad::Key { level, node } => Ok(self.read.key_on(level, node, value)),
+            ReadLoad::More { node } => {
+                let (more, slot) = (value, Slot::First);
+                let place = LeafPlace { node, more, slot };
+                Ok(ReadNext::Load(ReadLoad::Pair { place }))
+            }
+            ReadLoad::Pair { place } => Ok(self.read.pair_on(place, value)),
+            ReadLoad::Value { place, key } => {
+                let low = value;
+                Ok(ReadNext::Load(ReadLoad::High { place, key, low }))
+            }
+            ReadLoad::High { place, key, low } => {
+                let value = wide_value(low, value);
+                self.read.value_on(place, Pair { key, value })
+            }
+        }
+    }
+
     /// Goes on with what the last step found; with nothing at the first call, which asks for a step
     /// if there is something to be found, and else ends. It gives up one try at most, where an
     /// SCX-record of another pass was in the way of the call; and none as it ends.
@@ -395,16 +405,8 @@ impl<R: Read + Drop> ReadRun<R> {
                 let next = self.read.head_on(Head::of(value), NodeNo(0));
                 self.stand(next)
             }
-            ReadAt::Head { above: _, node } => {
-                let next = self.read.head_on(Head::of(value), node);
-                self.stand(next)
-            }
-            ReadAt::Key { head, node } => {
-                let next = self.read.key_on(head, node, value);
-                self.stand(next)
-            }
-            ReadAt::Value { key, node: _ } => {
-                let next = self.read.value_on(Pair { key, value });
+            ReadAt::Load(load) => {
+                let next = self.loaded(load, value);
                 self.proceed(next)
             }
             ReadAt::Look {

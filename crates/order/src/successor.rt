@@ -1,10 +1,11 @@
 //! Successor.
 ghost use Rattle.std.specs.Prelude.{◌≡◌};
 
+use crate::load::{LeafPlace, ReadLoad};
 use crate::read::{Children, Read, ReadBegin, ReadNext};
 use crate::refused::Refused;
 use crate::run::ReadRun;
-use arena::{Head, NodeNo};
+use arena::{Head, NodeNo, Slot};
 use ordered_map::Pair;
 use std::alloc::Global;
 
@@ -52,9 +53,14 @@ pub struct Successor {
 pub type SuccessorRun = ReadRun<Successor>;
 
 impl Successor {
-    ghost use Rattle.std.specs.Prelude.{◌≡◌, ℕ, ◌-◌, ◌*◌, ◌<◌, ◌≤◌, if◌then◌else◌, nat_lt, []};
+    ghost use Rattle.std.specs.Prelude.{◌≡◌, ℕ, ◌-◌, ◌*◌, ◌<◌, ◌≤◌, List, []};
+    ghost use Rattle.arena.specs.History.{History};
+    ghost use Rattle.arena.specs.Machines.{Call};
+    ghost use Rattle.prims.specs.declared.snap.Snap.{Snap};
+    ghost use Rattle.order.specs.Next.{MayDo};
+    ghost use Rattle.order.specs.Paths.{ComesNearer};
     ghost use Rattle.order.specs.Steps.{read_left};
-    ghost use Rattle.order.specs.Successor.{asks_key, behind_leaf, children_below, successor_try_left, successor_means};
+    ghost use Rattle.order.specs.Successor.{GoesBeyond, asks_key, children_below, is_answer, leaf_load, second_path_left, successor_try_left, successor_means};
     ghost use Rattle.order.specs.declared.read.Children.{Children};
     ghost use Rattle.order.specs.declared.run.ReadAt.{ReadAt};
 
@@ -74,15 +80,31 @@ impl Successor {
         ReadRun::new(alloc, Successor { key, route, found }, tries)
     }
 
-    /// Whether it loads the key of a node with this head: behind the path of its key it goes left at
+    /// Whether it loads the key of a fork with this head: behind the path of its key it goes left at
     /// all forks.
     #[inline(always)]
     fn asks_key(&self, head: Head) -> bool
         ensures { result ≡ asks_key self.now.route head }
     {
         match self.route {
-            Route::Beyond => head.class == 0 && head.leaf,
+            Route::Beyond => false,
             _ => head.class == 0,
+        }
+    }
+
+    /// What it loads of a leaf of class 0 behind its head: behind the path of its key the first pair
+    /// alone, and else how many pairs it has.
+    #[inline(always)]
+    fn first_load(&self, node: NodeNo) -> ReadLoad
+        ensures { result ≡ leaf_load self.now.route node }
+    {
+        match self.route {
+            Route::Beyond => {
+                let (more, slot) = (0, Slot::First);
+                let place = LeafPlace { node, more, slot };
+                ReadLoad::Pair { place }
+            }
+            _ => ReadLoad::More { node },
         }
     }
 
@@ -98,15 +120,31 @@ impl Successor {
         }
     }
 
-    /// The node from which it goes on behind a leaf of class 0 with this key, where that is not the
-    /// answer.
+    /// Whether the pair with this key at its leaf is the answer: the first that is above its own.
     #[inline(always)]
-    fn behind(&self, key: u64) -> Option<NodeNo>
-        ensures { result ≡ behind_leaf self.now.route self.now.key key }
+    fn is_answer(&self, key: u64) -> bool
+        ensures { result ≡ is_answer self.now.route self.now.key key }
     {
         match self.route {
-            Route::Along { right } => { if self.key < key { None } else { Some(right) } }
-            _ => None,
+            Route::Beyond => true,
+            _ => self.key < key,
+        }
+    }
+
+    /// What is done behind a leaf that has no key above its own.
+    #[inline(always)]
+    fn go_beyond(&mut self) -> ReadNext
+        ensures goes_on { (snaps : List Snap) (c : Call) (h : History) → GoesBeyond self.old snaps c h → MayDo successor_means self.new snaps c h result }
+        ensures same { self.new.key ≡ self.old.key }
+        ensures nearer { (nodes : ℕ) → ComesNearer successor_means self.new nodes result (second_path_left self.old.route nodes) }
+    {
+        match self.route {
+            Route::Along { right } => {
+                self.route = Route::Beyond;
+                let (above, node) = (0, right);
+                ReadNext::Load(ReadLoad::Head { above, node })
+            }
+            _ => ReadNext::Validate,
         }
     }
 }
@@ -145,12 +183,15 @@ impl Read for Successor {
     #[inline(always)]
     fn head_on(&mut self, head: Head, node: NodeNo) -> ReadNext {
         let level = head.level;
-        if self.asks_key(head) {
-            return ReadNext::Key { head, node };
+        if head.leaf && head.class == 0 {
+            return ReadNext::Load(self.first_load(node));
         }
         if head.leaf {
             self.found = None;
             return ReadNext::Validate;
+        }
+        if self.asks_key(head) {
+            return ReadNext::Load(ReadLoad::Key { level, node });
         }
         let children = self.children(true);
         ReadNext::Look {
@@ -161,25 +202,28 @@ impl Read for Successor {
     }
 
     #[inline(always)]
-    fn key_on(&mut self, head: Head, node: NodeNo, key: u64) -> ReadNext {
-        if !head.leaf {
-            let (children, level) = (self.children(self.key < key), head.level);
-            return ReadNext::Look {
-                children,
-                level,
-                node,
-            };
-        }
-        let behind = self.behind(key);
-        self.route = Route::Beyond;
-        match behind {
-            Some(node) => ReadNext::Head { above: 0, node },
-            None => ReadNext::Value { key, node },
+    fn key_on(&mut self, level: u64, node: NodeNo, key: u64) -> ReadNext {
+        let children = self.children(self.key < key);
+        ReadNext::Look {
+            children,
+            level,
+            node,
         }
     }
 
     #[inline(always)]
-    fn value_on(&mut self, pair: Pair) -> Result<ReadNext, Refused> {
+    fn pair_on(&mut self, place: LeafPlace, key: u64) -> ReadNext {
+        if self.is_answer(key) {
+            return ReadNext::Load(ReadLoad::Value { place, key });
+        }
+        match place.behind() {
+            Some(place) => ReadNext::Load(ReadLoad::Pair { place }),
+            None => self.go_beyond(),
+        }
+    }
+
+    #[inline(always)]
+    fn value_on(&mut self, _place: LeafPlace, pair: Pair) -> Result<ReadNext, Refused> {
         self.found = Some(pair);
         Ok(ReadNext::Validate)
     }

@@ -1,5 +1,5 @@
--- A delete fills its copy in order: nothing mentions the copy, and its fields get what the sibling's
--- held, which has stood in the tree.
+-- A delete fills its copy in order: nothing mentions the copy, and its fields get what the
+-- sibling's held, which has stood in the tree.
 use Rattle.std.proofs.Common.{◌≡◌, ℕ, ◌/◌, ◌%◌, ◌<◌, inl, inr, Bool, true, false, cond, eqb, Option, Some, None, refl, sym, ◌∙◌, ap, subst, arith}
 use Rattle.std.specs.Prelude.{unwrap_or}
 use Rattle.arena.specs.declared.limits.Mode.{Mode}
@@ -26,18 +26,24 @@ use Rattle.ordered_map.proofs.Lemmas.{held_stood}
 use Rattle.template.specs.declared.walk.Found.{Found}
 use Rattle.template.specs.declared.walk.Goal.TheVariants.{Key as ToKey}
 use Rattle.tree.specs.declared.delete.Delete.{Delete}
-use Rattle.tree.specs.Delete.Means.{delete_means, delete_need, delete_piece, sibling_of}
-use Rattle.tree.specs.Laws.Delete.Sound.{HasFour, copy_fields, few_places, has_four, loaded_head, usable_at}
+use Rattle.tree.specs.LeafEdit.{HasLookedBy}
+use Rattle.tree.specs.Delete.Means.{copied_pairs, copy_with, delete_means, delete_need, delete_piece, has_more, join_looks, sibling_of}
+use Rattle.tree.specs.Laws.Delete.Sound.{HasFour, copy_fields, few_places, has_four, looked_join, usable_at}
 use Rattle.tree.proofs.Fills.{piece_is, same_number, same_part, unstood, update_in_order}
 use Rattle.edits.specs.declared.edit.Nodes.{Nodes}
 use Rattle.edits.specs.declared.edit.Nth.{Nth}
 use Rattle.edits.specs.declared.edit.Nth.TheVariants.{First, Second, Third}
-use Rattle.edits.specs.declared.edit.Piece.{Piece}
-use Rattle.edits.specs.declared.edit.Piece.TheVariants.{Leaf, Fork}
+use Rattle.edits.specs.declared.piece.Piece.{Piece}
+use Rattle.edits.specs.declared.piece.Piece.TheVariants.{Leaf, Fork}
+use Rattle.edits.specs.declared.reading.Reading.{Reading}
 use Rattle.edits.specs.declared.update.UpdateAt.{UpdateAt}
 use Rattle.edits.specs.declared.update.UpdateRun.{UpdateRun}
-use Rattle.edits.specs.Known.{HasSnappedAfterWalk, IsNeeded, FillsPiece, UpdateWaits, piece_fill_step, piece, top}
-use Rattle.edits.specs.Pieces.{fills_of, fills_word, nth_node, top_of, word_of}
+use Rattle.edits.specs.Known.{HasSnappedAfterWalk, IsNeeded, FillsPiece, MayRead, UpdateWaits, piece_fill_step, piece, top}
+use Rattle.edits.specs.Pieces.{is_filled, nth_node, top_of, word_of}
+use Rattle.edits.specs.Readings.{next_read}
+use Rattle.edits.proofs.Lemmas.{head_read}
+use Rattle.arena.specs.declared.head.Head.{Head as HeadParts}
+use Rattle.ordered_map.specs.OrderedMap.{delete}
 
 -- One fresh node
 
@@ -54,17 +60,25 @@ one_top (Some v) Third ns x = absurd x
 one_top None nth ns x = absurd x
 
 -- only a fork has fields
-fork_there : (leaf : Bool) (level class k v : ℕ) (s : Snap) (side : Side) → fills_word (fills_of (cond leaf (Leaf level class k v) (Fork level class k s.left s.right))) (Child side) ≡ true → leaf ≡ false
-fork_there true level class k v s side p = absurd (let z : false ≡ true = p in cc)
-fork_there false level class k v s side p = refl
+fork_there : (s : Snap) (head : HeadParts) (read : Reading) (side : Side) → is_filled (copy_with s head read) (Child side) ≡ true → head.leaf ≡ false
+fork_there s head read side p = go head.leaf p
+  where
+    go : (leaf : Bool) → is_filled (cond leaf (Leaf head.level head.class (copied_pairs head.class read)) (Fork head.level head.class (unwrap_or read.key 0) s.left s.right)) (Child side) ≡ true → leaf ≡ false
+    go true q = absurd (let z : false ≡ true = q in cc)
+    go false q = refl
+
+-- so only where the leaf is taken out
+joined : (b : Bool) (level k : ℕ) (read : Reading) (q : Piece) (side : Side) → is_filled (cond b (Leaf level 0 (delete k read.pairs)) q) (Child side) ≡ true → b ≡ false
+joined true level k read q side p = absurd (let z : false ≡ true = p in cc)
+joined false level k read q side p = refl
 
 module _ (m : UpdateRun Delete UpdateAt) (c : Call) (h : History) (f : Found) (nth : Nth) (part : NodeWord) (x : FillsPiece delete_means m c h f nth part) where
   -- what the node at hand is to hold
-  abbrev copy : Piece
-  copy = delete_piece f m.snaps.items m.loaded
+  abbrev said : Piece
+  said = delete_piece m.edit.key f m.snaps.items m.read
 
-  said_is : piece delete_means m f (nth_node m.nodes nth).0 ≡ copy
-  said_is = piece_is (delete_need f.value) m.nodes (λ i. delete_piece f m.snaps.items m.loaded) nth x.works.need x.works.in_order
+  said_is : piece delete_means m f (nth_node m.nodes nth).0 ≡ said
+  said_is = piece_is (delete_need f.value) m.nodes (λ i. said) nth x.works.need x.works.in_order
 
   head_ordered : (k : ℕ) → node (nth_node m.nodes nth).0 part ≡ node k (Settled Head) → ¬ HasStoodInField h k
   head_ordered k e = subst (λ n. ¬ HasStoodInField h n) (sym (one_top f.value nth m.nodes x.works.need) ∙ same_number (nth_node m.nodes nth).0 k part (Settled Head) e) (unstood c.layout h c.pass (top delete_means m f) x.works.run.0 (x.full.hand.own (top delete_means m f) x.full.some (omega arith)) x.full.hand.unmentioned)
@@ -72,36 +86,47 @@ module _ (m : UpdateRun Delete UpdateAt) (c : Call) (h : History) (f : Found) (n
   abbrev sibling : Snap
   sibling = sibling_of f m.snaps.items
 
-  -- the head of the sibling is loaded
-  head_is : unwrap_or m.loaded.head 0 ≡ value h (node sibling.node.0 (Settled Head))
-  head_is = ap (λ o. unwrap_or o 0) (loaded_head m.loaded.head m.loaded.key m.loaded.value (value h (node sibling.node.0 (Settled Head))) (subst (λ i. delete_means.wants m.edit f m.snaps.items m.loaded i ≡ None) (one_place f.value nth x.works.need) x.done) x.works.loaded.head)
+  module _ (t : has_more f ≡ false) where
+    -- the head of the sibling is read
+    head_is : unwrap_or m.read.head (head_of 0) ≡ head_of (value h (node sibling.node.0 (Settled Head)))
+    head_is =
+        let right : MayRead c.layout h sibling.node.0 m.read = rw t at x.read in
+        let whole : next_read m.read ≡ None = x.whole in
+        ap (λ o. unwrap_or o (head_of 0)) (head_read (value h) sibling.node.0 m.read right.is whole)
 
-  -- what a field of the sibling held has stood in the tree
-  field_stood : (side : Side) → AreFilledInOrder h → is_leaf (value h) sibling.node.0 ≡ false → WasInTree h (child_of sibling side).0
-  field_stood side filled fork = subst (WasInTree h) (u.is.linked.fields side u.is.info) (held_stood c.layout h u.moment sibling.node.0 side x.works.run filled u.within (named u.is.linked.in_field) u.is.not_final then)
-    where
-      four : HasFour f m.snaps.items
-      four = has_four m.edit f m.snaps.items x.works.enough x.works.looked.seen
+    -- what a field of the sibling held has stood in the tree
+    field_stood : (side : Side) → AreFilledInOrder h → is_leaf (value h) sibling.node.0 ≡ false → WasInTree h (child_of sibling side).0
+    field_stood side filled fork = subst (WasInTree h) (u.is.linked.fields side u.is.info) (held_stood c.layout h u.moment sibling.node.0 side x.works.run filled u.within (named u.is.linked.in_field) u.is.not_final then)
+      where
+        looked : HasLookedBy join_looks c h m.edit.key f m.snaps.items
+        looked = looked_join m.edit c h f m.snaps.items t x.works.looked
 
-      u : HasSnappedAfterWalk c h (ToKey m.edit.key) f sibling
-      u = usable_at m.edit c h f m.snaps.items (sibling_place f.trail.side) (few_places f.trail.side) four x.works.looked
+        four : HasFour f m.snaps.items
+        four = has_four m.edit f m.snaps.items (rw t at x.works.enough) looked.seen
 
-      named : IsInField c.layout u.moment sibling.node.0 → HasStoodInField u.moment sibling.node.0
-      named (inl i) = inl (subst (λ (q : Mode). sibling.node.0 < opening_nodes q) x.works.run.0 i)
-      named (inr y) = inr (y.0, y.1, y.3)
+        u : HasSnappedAfterWalk c h (ToKey m.edit.key) f sibling
+        u = usable_at m.edit c h f m.snaps.items (sibling_place f.trail.side) (few_places f.trail.side) four looked
 
-      then : is_leaf (value u.moment) sibling.node.0 ≡ false
-      then = ap (λ w. eqb (w / 4 % 2) 1) (sym (node_since c.layout h u.moment sibling.node.0 (Settled Head) x.works.run.1.lawful u.within tt (in_field_named sibling.node.0 u.is.linked.in_field))) ∙ fork
+        named : IsInField c.layout u.moment sibling.node.0 → HasStoodInField u.moment sibling.node.0
+        named (inl i) = inl (subst (λ (q : Mode). sibling.node.0 < opening_nodes q) x.works.run.0 i)
+        named (inr y) = inr (y.0, y.1, y.3)
+
+        then : is_leaf (value u.moment) sibling.node.0 ≡ false
+        then = ap (λ w. eqb (w / 4 % 2) 1) (sym (node_since c.layout h u.moment sibling.node.0 (Settled Head) x.works.run.1.lawful u.within tt (in_field_named sibling.node.0 u.is.linked.in_field))) ∙ fork
+
+    join_ordered : (side : Side) → AreFilledInOrder h → is_filled (copy_with sibling (unwrap_or m.read.head (head_of 0)) m.read) (Child side) ≡ true → WasInTree h (word_of (copy_with sibling (unwrap_or m.read.head (head_of 0)) m.read) (Child side))
+    join_ordered side filled q =
+        let fork : (unwrap_or m.read.head (head_of 0)).leaf ≡ false = fork_there sibling (unwrap_or m.read.head (head_of 0)) m.read side q in
+        subst (WasInTree h) (copy_fields sibling (unwrap_or m.read.head (head_of 0)) m.read side q) (field_stood side filled (sym (ap (λ (y : HeadParts). y.leaf) head_is) ∙ fork))
 
   field_ordered : (k : ℕ) (side : Side) → AreFilledInOrder h → node (nth_node m.nodes nth).0 part ≡ child k side → WasInTree h (word_of (piece delete_means m f (nth_node m.nodes nth).0) part)
   field_ordered k side filled e =
       let p : part ≡ Child side = same_part (nth_node m.nodes nth).0 k part (Child side) e in
-      let q : fills_word (fills_of copy) (Child side) ≡ true = subst (λ (a : Piece). fills_word (fills_of a) (Child side) ≡ true) said_is (subst (λ (a : NodeWord). fills_word (fills_of (piece delete_means m f (nth_node m.nodes nth).0)) a ≡ true) p x.part_is) in
-      let w : ℕ = unwrap_or m.loaded.head 0 in
-      let fork : (head_of w).leaf ≡ false = fork_there (head_of w).leaf (head_of w).level (head_of w).class (unwrap_or m.loaded.key 0) (unwrap_or m.loaded.value 0) sibling side q in
-      let held : (child_of sibling side).0 ≡ word_of copy (Child side) = copy_fields (head_of w).leaf (head_of w).level (head_of w).class (unwrap_or m.loaded.key 0) (unwrap_or m.loaded.value 0) sibling side q in
-      let same : word_of (piece delete_means m f (nth_node m.nodes nth).0) part ≡ word_of copy (Child side) = ap (λ (a : NodeWord). word_of (piece delete_means m f (nth_node m.nodes nth).0) a) p ∙ ap (λ (a : Piece). word_of a (Child side)) said_is in
-      subst (WasInTree h) (held ∙ sym same) (field_stood side filled (ap (λ v. eqb (v / 4 % 2) 1) (sym head_is) ∙ fork))
+      let q : is_filled said (Child side) ≡ true = subst (λ (a : Piece). is_filled a (Child side) ≡ true) said_is (subst (λ (a : NodeWord). is_filled (piece delete_means m f (nth_node m.nodes nth).0) a ≡ true) p x.part_is) in
+      let t : has_more f ≡ false = joined (has_more f) f.head.level m.edit.key m.read (copy_with sibling (unwrap_or m.read.head (head_of 0)) m.read) side q in
+      let copy : said ≡ copy_with sibling (unwrap_or m.read.head (head_of 0)) m.read = rw t refl in
+      let same : word_of (piece delete_means m f (nth_node m.nodes nth).0) part ≡ word_of said (Child side) = ap (λ (a : NodeWord). word_of (piece delete_means m f (nth_node m.nodes nth).0) a) p ∙ ap (λ (a : Piece). word_of a (Child side)) said_is in
+      subst (WasInTree h) (sym (same ∙ ap (λ (a : Piece). word_of a (Child side)) copy)) (join_ordered t side filled (subst (λ (a : Piece). is_filled a (Child side) ≡ true) copy q))
 
   -- a fill of its node is in order
   pub fill_in_order : AreFilledInOrder h → IsFillInOrder h (row_of c (piece_fill_step delete_means m f nth part) h)

@@ -36,15 +36,15 @@ use Rattle.edits.specs.declared.edit.Need.TheVariants.{Nothing, One, Three}
 use Rattle.edits.specs.declared.edit.Nodes.{Nodes}
 use Rattle.edits.specs.declared.edit.Nth.{Nth}
 use Rattle.edits.specs.declared.edit.Nth.TheVariants.{First, Second, Third}
-use Rattle.edits.specs.declared.edit.Piece.{Piece}
+use Rattle.edits.specs.declared.piece.Piece.{Piece}
 use Rattle.edits.specs.declared.update.UpdateAt.{UpdateAt}
-use Rattle.edits.specs.declared.update.UpdateAt.TheVariants.{Start, Walk, Look, Load, Fill, Scx}
+use Rattle.edits.specs.declared.update.UpdateAt.TheVariants.{Start, Walk, Look, Read, Fill, Scx}
 use Rattle.edits.specs.declared.update.UpdateRun.{UpdateRun}
-use Rattle.edits.specs.Known.{IsNeeded, AreInOrder, FillsPiece, UpdateWaits, UpdateWaitsAt, piece_fill_step, pieces_by}
+use Rattle.edits.specs.Known.{IsNeeded, StandInRow, FillsPiece, UpdateWaits, UpdateWaitsAt, piece_fill_step, pieces_by}
 use Rattle.edits.specs.Pieces.{nth_node, piece_head}
 
 -- each holds its own piece
-pub piece_is : (need : Need) (ns : Nodes) (p : Nth → Piece) (nth : Nth) → IsNeeded need nth → AreInOrder need ns → pieces_by p ns (nth_node ns nth).0 ≡ p nth
+pub piece_is : (need : Need) (ns : Nodes) (p : Nth → Piece) (nth : Nth) → IsNeeded need nth → StandInRow need ns → pieces_by p ns (nth_node ns nth).0 ≡ p nth
 piece_is Nothing ns p nth x o = absurd x
 piece_is One ns p First x o = rw (eq-eqb ns.first.0 ns.first.0 refl) refl
 piece_is One ns p Second x o = absurd x
@@ -108,7 +108,7 @@ update_in_order means m c h s fills x = go m.at x.3
     go Start w = absurd w
     go (Walk walk) w = no_fill c h s (walk_fills_not walk (begun_at c x.0) h s w.1)
     go (Look f llx) w = no_fill c h s (llx_fills_not TreeAllows llx (begun_at (begun_at c x.0) w.0) h s w.2)
-    go (Load f nth part) w = no_fill c h s (λ k. let e : s.kind ≡ LoadSettled = ap (λ (t : Step). t.kind) w.1 in cc)
+    go (Read f n part) w = no_fill c h s (λ k. let e : s.kind ≡ LoadSettled = ap (λ (t : Step). t.kind) w.1 in cc)
     go (Fill f nth part) w = subst (λ (t : Step). IsFillInOrder h (row_of c t h)) (sym w.3) (fills (begun_at c x.0) f nth part w.0)
     go (Scx f run) w = scx_in_order c (begun_at (begun_at c x.0) w.0) h (job_of run) run.at s w.2
 

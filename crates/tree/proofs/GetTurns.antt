@@ -18,7 +18,7 @@ use Rattle.template.specs.declared.walk.Found.{Found}
 use Rattle.template.specs.declared.walk.Goal.TheVariants.{Key as ToKey}
 use Rattle.template.specs.declared.walk.WalkRun.{WalkRun}
 use Rattle.template.specs.declared.walk.WalkAt.{WalkAt}
-use Rattle.template.specs.declared.walk.WalkAt.TheVariants.{Start, Root, Head, Key, Child, Value}
+use Rattle.template.specs.declared.walk.WalkAt.TheVariants.{Start, Root, Head, Key, Child, More, Pair, Value, High}
 use Rattle.template.specs.Walk.Places.{IsPastRoot}
 use Rattle.template.specs.Walk.Steps.{WalkFits, walk_left}
 use Rattle.template.specs.Walk.Known.{WalkIsReady, WalkWaits, WalkAnswers}
@@ -35,7 +35,10 @@ none_tried Root now then e = e
 none_tried (Head above) now then e = omega (arith, e)
 none_tried (Key head) now then e = omega (arith, e)
 none_tried (Child low side) now then e = omega (arith, e)
-none_tried (Value head key) now then e = omega (arith, e)
+none_tried (More head) now then e = omega (arith, e)
+none_tried (Pair head more slot) now then e = omega (arith, e)
+none_tried (Value head more slot key) now then e = omega (arith, e)
+none_tried (High head more slot key low) now then e = omega (arith, e)
 
 -- past the root it has begun one at most
 pub once_past : (at : WalkAt) (now then : ℕ) → IsPastRoot at → now ≤ suc then → HasTriedOnceAt at now then
@@ -44,7 +47,10 @@ once_past Root now then past i = absurd past
 once_past (Head above) now then past i = i
 once_past (Key head) now then past i = i
 once_past (Child low side) now then past i = i
-once_past (Value head key) now then past i = i
+once_past (More head) now then past i = i
+once_past (Pair head more slot) now then past i = i
+once_past (Value head more slot key) now then past i = i
+once_past (High head more slot key low) now then past i = i
 
 tried_once : (got : Option ℕ) (now then : ℕ) → HasTriedOnce got now then → now ≤ suc then
 tried_once None now then e = omega (arith, e)

@@ -1,5 +1,5 @@
 -- An insert fills its nodes in order: the leaves before the fork over them, which nothing mentions.
-use Rattle.std.proofs.Common.{◌≡◌, ℕ, suc, ◌/◌, ◌%◌, ◌<◌, ◌≤◌, ◌⊎◌, inl, inr, true, false, eqb, refl, sym, ◌∙◌, ap, subst, arith}
+use Rattle.std.proofs.Common.{◌≡◌, ℕ, suc, ◌/◌, ◌%◌, ◌<◌, ◌≤◌, ◌⊎◌, inl, inr, true, false, eqb, List, refl, sym, ◌∙◌, ap, subst, arith}
 use Rattle.arena.specs.declared.step.Step.{Step}
 use Rattle.arena.specs.declared.word.NodeWord.{NodeWord}
 use Rattle.arena.specs.declared.word.NodeWord.TheVariants.{Settled, Child}
@@ -8,25 +8,25 @@ use Rattle.arena.specs.declared.word.Side.{Side}
 use Rattle.arena.specs.History.{History, value}
 use Rattle.arena.specs.Machines.{Call, row_of}
 use Rattle.arena.specs.Words.{node, child}
+use Rattle.ordered_map.specs.declared.pair.Pair.{Pair}
 use Rattle.ordered_map.specs.FillOrder.{HasStoodInField, IsFillInOrder}
 use Rattle.ordered_map.specs.TreeWords.{is_leaf}
 use Rattle.template.specs.declared.walk.Found.{Found}
 use Rattle.tree.proofs.Fills.{leaf_head, piece_is, same_number, same_part, unstood, update_in_order}
 use Rattle.tree.specs.declared.insert.Insert.{Insert}
-use Rattle.tree.specs.Insert.Means.{insert_means, insert_need, insert_pieces}
+use Rattle.tree.specs.Insert.Means.{insert_means, insert_need, insert_pieces, lower, pairs_with, pieces_by_need}
 use Rattle.tree.specs.Laws.Insert.Sound.{insert_fields}
 use Rattle.edits.specs.declared.edit.Need.{Need}
 use Rattle.edits.specs.declared.edit.Need.TheVariants.{Nothing, One, Three}
 use Rattle.edits.specs.declared.edit.Nodes.{Nodes}
 use Rattle.edits.specs.declared.edit.Nth.{Nth}
 use Rattle.edits.specs.declared.edit.Nth.TheVariants.{First, Second, Third}
-use Rattle.edits.specs.declared.edit.Piece.{Piece}
-use Rattle.edits.specs.declared.edit.Piece.TheVariants.{Leaf as LeafPiece}
+use Rattle.edits.specs.declared.piece.Piece.{Piece}
 use Rattle.edits.specs.declared.update.UpdateAt.{UpdateAt}
 use Rattle.edits.specs.declared.update.UpdateRun.{UpdateRun}
-use Rattle.edits.specs.Known.{ComesBefore, IsNeeded, AreInOrder, FillsPiece, UpdateWaits, piece_fill_step, piece, top}
-use Rattle.edits.specs.Laws.PieceFills.{HoldsFills}
-use Rattle.edits.specs.Pieces.{fills_of, fills_word, nth_node, top_of, word_of}
+use Rattle.edits.specs.Known.{ComesBefore, IsNeeded, StandInRow, FillsPiece, UpdateWaits, piece_fill_step, piece, top}
+use Rattle.edits.specs.Laws.PieceFills.{HoldsWords}
+use Rattle.edits.specs.Pieces.{is_filled, nth_node, top_of, word_of}
 
 -- Three fresh nodes
 
@@ -40,46 +40,67 @@ third_top Three ns x = refl
 third_top One ns x = absurd x
 third_top Nothing ns x = absurd x
 
-three_rise : (need : Need) (ns : Nodes) → IsNeeded need Third → AreInOrder need ns → (ns.second.0 ≡ suc ns.first.0) × (ns.third.0 ≡ suc ns.second.0)
+three_rise : (need : Need) (ns : Nodes) → IsNeeded need Third → StandInRow need ns → (ns.second.0 ≡ suc ns.first.0) × (ns.third.0 ≡ suc ns.second.0)
 three_rise Three ns x o = o
 three_rise One ns x o = absurd x
 three_rise Nothing ns x o = absurd x
 
+-- what has fields is the third of three
+has_fields : (need : Need) (ps : List Pair) (f : Found) (ns : Nodes) (nth : Nth) (side : Side) → is_filled (pieces_by_need need ps f ns nth) (Child side) ≡ true → nth ≡ Third
+has_fields Nothing ps f ns nth side p = absurd (let z : false ≡ true = p in cc)
+has_fields One ps f ns nth side p = absurd (let z : false ≡ true = p in cc)
+has_fields Three ps f ns First side p = absurd (let z : false ≡ true = p in cc)
+has_fields Three ps f ns Second side p = absurd (let z : false ≡ true = p in cc)
+has_fields Three ps f ns Third side p = refl
+
+-- those before it are leaves
+leaf_first : (need : Need) (ps : List Pair) (f : Found) (ns : Nodes) → eqb (word_of (pieces_by_need need ps f ns First) (Settled Head) / 4 % 2) 1 ≡ true
+leaf_first Nothing ps f ns = leaf_head f.head.level 0
+leaf_first One ps f ns = leaf_head f.head.level 0
+leaf_first Three ps f ns = leaf_head (lower f.head.level) 0
+
+leaf_second : (need : Need) (ps : List Pair) (f : Found) (ns : Nodes) → eqb (word_of (pieces_by_need need ps f ns Second) (Settled Head) / 4 % 2) 1 ≡ true
+leaf_second Nothing ps f ns = leaf_head f.head.level 0
+leaf_second One ps f ns = leaf_head f.head.level 0
+leaf_second Three ps f ns = leaf_head (lower f.head.level) f.head.class
+
 module _ (m : UpdateRun Insert UpdateAt) (c : Call) (h : History) (f : Found) where
+  abbrev said : Nth → Piece
+  said nth = insert_pieces m.edit.key m.edit.value f m.nodes m.read nth
+
   -- what a node at hand is to hold
-  said_is : (nth : Nth) (part : NodeWord) → FillsPiece insert_means m c h f nth part → piece insert_means m f (nth_node m.nodes nth).0 ≡ insert_pieces m.edit.key m.edit.value f m.nodes m.loaded nth
-  said_is nth part x = piece_is (insert_need f.value) m.nodes (λ i. insert_pieces m.edit.key m.edit.value f m.nodes m.loaded i) nth x.works.need x.works.in_order
+  said_is : (nth : Nth) (part : NodeWord) → FillsPiece insert_means m c h f nth part → piece insert_means m f (nth_node m.nodes nth).0 ≡ said nth
+  said_is nth part x = piece_is (insert_need f) m.nodes (λ i. said i) nth x.works.need x.works.in_order
 
   -- the leaves before the fork are full
-  leaf_full : (part : NodeWord) (i : Nth) → FillsPiece insert_means m c h f Third part → (level class key v : ℕ) → insert_pieces m.edit.key m.edit.value f m.nodes m.loaded i ≡ LeafPiece level class key v → m.nodes.first.0 ≤ (nth_node m.nodes i).0 → (nth_node m.nodes i).0 < m.nodes.third.0 → is_leaf (value h) (nth_node m.nodes i).0 ≡ true
-  leaf_full part i x level class key v is low high =
-      let third : top insert_means m f ≡ m.nodes.third.0 = third_top (insert_need f.value) m.nodes x.works.need in
-      let w : HoldsFills h (nth_node m.nodes i).0 (fills_of (piece insert_means m f (nth_node m.nodes i).0)) = x.full.full (nth_node m.nodes i).0 low high (omega (third, high, arith)) in
-      let same : piece insert_means m f (nth_node m.nodes i).0 ≡ LeafPiece level class key v = piece_is (insert_need f.value) m.nodes (λ j. insert_pieces m.edit.key m.edit.value f m.nodes m.loaded j) i (all_needed (insert_need f.value) x.works.need i) x.works.in_order ∙ is in
-      ap (λ u. eqb (u / 4 % 2) 1) (w (Settled Head) tt ∙ ap (λ (p : Piece). word_of p (Settled Head)) same) ∙ leaf_head level class
+  leaf_full : (part : NodeWord) (i : Nth) → FillsPiece insert_means m c h f Third part → eqb (word_of (said i) (Settled Head) / 4 % 2) 1 ≡ true → m.nodes.first.0 ≤ (nth_node m.nodes i).0 → (nth_node m.nodes i).0 < m.nodes.third.0 → is_leaf (value h) (nth_node m.nodes i).0 ≡ true
+  leaf_full part i x is low high =
+      let third : top insert_means m f ≡ m.nodes.third.0 = third_top (insert_need f) m.nodes x.works.need in
+      let w : HoldsWords h (nth_node m.nodes i).0 (piece insert_means m f (nth_node m.nodes i).0) = x.full.full (nth_node m.nodes i).0 low high (omega (third, high, arith)) in
+      let same : piece insert_means m f (nth_node m.nodes i).0 ≡ said i = piece_is (insert_need f) m.nodes (λ j. said j) i (all_needed (insert_need f) x.works.need i) x.works.in_order in
+      ap (λ u. eqb (u / 4 % 2) 1) (w (Settled Head) tt ∙ ap (λ (p : Piece). word_of p (Settled Head)) same) ∙ is
 
   before_third : (part : NodeWord) (i : Nth) → FillsPiece insert_means m c h f Third part → ComesBefore i Third → is_leaf (value h) (nth_node m.nodes i).0 ≡ true
-  before_third part First x b = let o = three_rise (insert_need f.value) m.nodes x.works.need x.works.in_order in leaf_full part First x _ _ _ _ refl (omega arith) (omega (o.0, o.1, arith))
-  before_third part Second x b = let o = three_rise (insert_need f.value) m.nodes x.works.need x.works.in_order in leaf_full part Second x _ _ _ _ refl (omega (o.0, arith)) (omega (o.1, arith))
+  before_third part First x b = let o = three_rise (insert_need f) m.nodes x.works.need x.works.in_order in leaf_full part First x (leaf_first (insert_need f) (pairs_with m.edit.key m.edit.value f m.read) f m.nodes) (omega arith) (omega (o.0, o.1, arith))
+  before_third part Second x b = let o = three_rise (insert_need f) m.nodes x.works.need x.works.in_order in leaf_full part Second x (leaf_second (insert_need f) (pairs_with m.edit.key m.edit.value f m.read) f m.nodes) (omega (o.0, arith)) (omega (o.1, arith))
   before_third part Third x b = absurd b
 
   head_ordered : (nth : Nth) (part : NodeWord) (k : ℕ) → FillsPiece insert_means m c h f nth part → node (nth_node m.nodes nth).0 part ≡ node k (Settled Head) → (eqb (word_of (piece insert_means m f (nth_node m.nodes nth).0) part / 4 % 2) 1 ≡ true) ⊎ (¬ HasStoodInField h k)
-  head_ordered First part k x e = inl (rw (same_part m.nodes.first.0 k part (Settled Head) e, said_is First part x) (leaf_head _ 0))
-  head_ordered Second part k x e = inl (rw (same_part m.nodes.second.0 k part (Settled Head) e, said_is Second part x) (leaf_head _ f.head.class))
+  head_ordered First part k x e = inl (rw (same_part m.nodes.first.0 k part (Settled Head) e, said_is First part x) (leaf_first (insert_need f) (pairs_with m.edit.key m.edit.value f m.read) f m.nodes))
+  head_ordered Second part k x e = inl (rw (same_part m.nodes.second.0 k part (Settled Head) e, said_is Second part x) (leaf_second (insert_need f) (pairs_with m.edit.key m.edit.value f m.read) f m.nodes))
   head_ordered Third part k x e = inr (subst (λ n. ¬ HasStoodInField h n) (sym third ∙ same_number m.nodes.third.0 k part (Settled Head) e) (unstood c.layout h c.pass (top insert_means m f) x.works.run.0 (x.full.hand.own (top insert_means m f) x.full.some (omega arith)) x.full.hand.unmentioned))
     where
       third : m.nodes.third.0 ≡ top insert_means m f
-      third = sym (third_top (insert_need f.value) m.nodes x.works.need)
+      third = sym (third_top (insert_need f) m.nodes x.works.need)
 
   field_ordered : (nth : Nth) (part : NodeWord) (k : ℕ) (side : Side) → FillsPiece insert_means m c h f nth part → node (nth_node m.nodes nth).0 part ≡ child k side → is_leaf (value h) (word_of (piece insert_means m f (nth_node m.nodes nth).0) part) ≡ true
-  field_ordered First part k side x e = absurd (let y : fills_word (fills_of (insert_pieces m.edit.key m.edit.value f m.nodes m.loaded First)) (Child side) ≡ true = rw (same_part m.nodes.first.0 k part (Child side) e, said_is First part x) at x.part_is in let z : false ≡ true = y in cc)
-  field_ordered Second part k side x e = absurd (let y : fills_word (fills_of (insert_pieces m.edit.key m.edit.value f m.nodes m.loaded Second)) (Child side) ≡ true = rw (same_part m.nodes.second.0 k part (Child side) e, said_is Second part x) at x.part_is in let z : false ≡ true = y in cc)
-  field_ordered Third part k side x e =
-      let p : part ≡ Child side = same_part m.nodes.third.0 k part (Child side) e in
-      let q : fills_word (fills_of (insert_pieces m.edit.key m.edit.value f m.nodes m.loaded Third)) (Child side) ≡ true = subst (λ (a : Piece). fills_word (fills_of a) (Child side) ≡ true) (said_is Third part x) (subst (λ (a : NodeWord). fills_word (fills_of (piece insert_means m f m.nodes.third.0)) a ≡ true) p x.part_is) in
-      let y = insert_fields m.edit.key m.edit.value f m.nodes m.loaded Third side q in
-      let w : word_of (piece insert_means m f m.nodes.third.0) part ≡ (nth_node m.nodes y.0).0 = ap (λ (a : NodeWord). word_of (piece insert_means m f m.nodes.third.0) a) p ∙ ap (λ (a : Piece). word_of a (Child side)) (said_is Third part x) ∙ y.2 in
-      subst (λ n. is_leaf (value h) n ≡ true) (sym w) (before_third part y.0 x y.1)
+  field_ordered nth part k side x e =
+      let p : part ≡ Child side = same_part (nth_node m.nodes nth).0 k part (Child side) e in
+      let q : is_filled (said nth) (Child side) ≡ true = subst (λ (a : Piece). is_filled a (Child side) ≡ true) (said_is nth part x) (subst (λ (a : NodeWord). is_filled (piece insert_means m f (nth_node m.nodes nth).0) a ≡ true) p x.part_is) in
+      let y = insert_fields (insert_need f) (pairs_with m.edit.key m.edit.value f m.read) f m.nodes nth side q in
+      let third : nth ≡ Third = has_fields (insert_need f) (pairs_with m.edit.key m.edit.value f m.read) f m.nodes nth side q in
+      let w : word_of (piece insert_means m f (nth_node m.nodes nth).0) part ≡ (nth_node m.nodes y.0).0 = ap (λ (a : NodeWord). word_of (piece insert_means m f (nth_node m.nodes nth).0) a) p ∙ ap (λ (a : Piece). word_of a (Child side)) (said_is nth part x) ∙ y.2 in
+      subst (λ n. is_leaf (value h) n ≡ true) (sym w) (before_third part y.0 (subst (λ i. FillsPiece insert_means m c h f i part) third x) (subst (λ i. ComesBefore y.0 i) third y.1))
 
   -- a fill of its nodes is in order
   pub fill_in_order : (nth : Nth) (part : NodeWord) → FillsPiece insert_means m c h f nth part → IsFillInOrder h (row_of c (piece_fill_step insert_means m f nth part) h)

@@ -54,7 +54,7 @@ module _ (ed : PopFirst) (c : Call) (h : History) (number : ℕ) (f : Found) whe
 
 -- the delete that it does at this leaf
 abbrev as_delete : UpdateRun PopFirst UpdateAt → Found → UpdateRun Delete UpdateAt
-as_delete m f = record { edit = delete_at f; share = m.share; snaps = m.snaps; nodes = m.nodes; loaded = m.loaded; tries = m.tries; limit = m.limit; call = m.call; at = m.at }
+as_delete m f = record { edit = delete_at f; share = m.share; snaps = m.snaps; nodes = m.nodes; read = m.read; tries = m.tries; limit = m.limit; call = m.call; at = m.at }
 
 own_fills : (m : UpdateRun PopFirst UpdateAt) (c : Call) (h : History) (f : Found) (nth : Nth) (part : NodeWord) → FillsPiece pop_means m c h f nth part → FillsPiece delete_means (as_delete m f) c h f nth part
 own_fills m c h f nth part x = record {
@@ -67,14 +67,11 @@ own_fills m c h f nth part x = record {
     need = x.works.need;
     in_order = x.works.in_order;
     some = x.works.some;
-    named = x.works.named;
-    inside = x.works.inside;
-    loaded = x.works.loaded;
-    before = x.works.before;
   };
   full = x.full;
   hand = record { lowest = x.hand.lowest; highest = x.hand.highest };
-  done = x.done;
+  read = x.read;
+  whole = x.whole;
   part_is = x.part_is;
 }
 

@@ -25,7 +25,7 @@ use Rattle.edits.specs.declared.edit.Need.TheVariants.{Nothing, One}
 use Rattle.edits.specs.declared.edit.Nth.{Nth}
 use Rattle.edits.specs.declared.update.UpdateAt.{UpdateAt}
 use Rattle.edits.specs.declared.update.UpdateRun.{UpdateRun}
-use Rattle.edits.specs.Known.{AreInOrder, FillsPiece, HasMade, IsDoneAt, IsNeeded, UpdateWaits, piece}
+use Rattle.edits.specs.Known.{StandInRow, FillsPiece, HasMade, IsDoneAt, IsNeeded, UpdateWaits, piece}
 use Rattle.edits.specs.Laws.Hand.{HasFilledTo}
 use Rattle.edits.specs.Pieces.{nth_node, top_of}
 
@@ -54,7 +54,7 @@ module _ (ed : ReplaceIf) (c : Call) (h : History) (number : ℕ) (f : Found) wh
 
 -- the insert that it does
 abbrev as_insert : UpdateRun ReplaceIf UpdateAt → UpdateRun Insert UpdateAt
-as_insert m = record { edit = insert_of m.edit; share = m.share; snaps = m.snaps; nodes = m.nodes; loaded = m.loaded; tries = m.tries; limit = m.limit; call = m.call; at = m.at }
+as_insert m = record { edit = insert_of m.edit; share = m.share; snaps = m.snaps; nodes = m.nodes; read = m.read; tries = m.tries; limit = m.limit; call = m.call; at = m.at }
 
 own_fills : (m : UpdateRun ReplaceIf UpdateAt) (c : Call) (h : History) (f : Found) (nth : Nth) (part : NodeWord) → FillsPiece replace_means m c h f nth part → FillsPiece insert_means (as_insert m) c h f nth part
 own_fills m c h f nth part x = record {
@@ -65,21 +65,18 @@ own_fills m c h f nth part x = record {
     looked = own_looked m.edit c h f m.snaps.items x.works.looked;
     enough = x.works.enough;
     need = subst (λ (need : Need). IsNeeded need nth) same x.works.need;
-    in_order = subst (λ (need : Need). AreInOrder need m.nodes) same x.works.in_order;
+    in_order = subst (λ (need : Need). StandInRow need m.nodes) same x.works.in_order;
     some = x.works.some;
-    named = x.works.named;
-    inside = x.works.inside;
-    loaded = x.works.loaded;
-    before = x.works.before;
   };
   full = subst (λ (need : Need). HasFilledTo c.layout h c.pass m.share m.nodes.first.0 (top_of need m.nodes) (nth_node m.nodes nth).0 (piece replace_means m f)) same x.full;
   hand = record { lowest = x.hand.lowest; highest = subst (λ (need : Need). (nth_node m.nodes nth).0 ≤ top_of need m.nodes) same x.hand.highest };
-  done = x.done;
+  read = x.read;
+  whole = x.whole;
   part_is = x.part_is;
 }
   where
-    same : replace_need m.edit.expected f.value ≡ insert_need f.value
-    same = same_need m.edit.expected f.value (some_need (replace_need m.edit.expected f.value) nth x.works.need)
+    same : replace_need m.edit.expected f.value ≡ insert_need f
+    same = same_need m.edit.expected f (some_need (replace_need m.edit.expected f.value) nth x.works.need)
 
 -- whatever step a replacement waits for
 pub replace_in_order : (m : UpdateRun ReplaceIf UpdateAt) (c : Call) (h : History) (s : Step) → UpdateWaits replace_means m c h s → IsFillInOrder h (row_of c s h)

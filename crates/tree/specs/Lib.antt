@@ -1,4 +1,5 @@
 pub mod Get
+pub mod LeafEdit
 pub mod Insert
 pub mod Delete
 pub mod PopFirst

@@ -1,8 +1,10 @@
 //! Delete.
 ghost use Rattle.std.specs.Prelude.{◌≡◌};
 
-use arena::{Head, NodeNo, NodeWord, SettledPart, Share, Side, Slot};
-use edits::{Edit, Loaded, Look, Need, Nodes, Nth, Piece, UpdateAt, UpdateRun};
+use crate::leaf;
+use arena::{Head, NodeNo, Share, Side};
+use edits::{Edit, Look, Need, Nodes, Nth, Pairs, Piece, Reading, UpdateAt, UpdateRun};
+use ordered_map::Pair;
 use prims::Snap;
 use template::{Found, Goal};
 
@@ -18,7 +20,7 @@ pub type DeleteRun = UpdateRun<Delete, UpdateAt>;
 impl Delete {
     /// A delete of that key with so many tries, in the caller's call of this number; it takes fresh
     /// nodes and SCX-records out of the share, at most one node and one SCX-record in a try. Where
-    /// `nodes` are taken when it ends, it makes at most `tries * (3 * (2 + nodes) + 301)` steps.
+    /// `nodes` are taken when it ends, it makes at most `tries * (3 * (2 + nodes) + 328)` steps.
     #[inline(always)]
     pub fn run(self, share: Share, tries: u32, call: u64) -> DeleteRun
         ensures start { result.at ≡ UpdateAt.Start }
@@ -27,7 +29,7 @@ impl Delete {
         ensures call { result.call ≡ call }
         ensures tries { result.tries ≡ tries - 1 }
         ensures limit { result.limit ≡ tries }
-        ensures steps { (nodes : ℕ) → 0 < tries → update_left delete_means result nodes ≡ tries * (3 * (2 + nodes) + 301) }
+        ensures steps { (nodes : ℕ) → 0 < tries → update_left delete_means result nodes ≡ tries * (3 * (2 + nodes) + 328) }
     {
         UpdateRun::new(self, share, tries, call, UpdateAt::Start)
     }
@@ -38,7 +40,7 @@ impl Delete {
     ghost use Rattle.ordered_map.specs.TreeShape.{sibling_place};
     ghost use Rattle.tree.specs.Delete.Means.{delete_means};
     ghost use Rattle.edits.specs.Steps.{update_left};
-    ghost use Rattle.tree.specs.Delete.Means.{past, copy_wants, sibling_copy};
+    ghost use Rattle.tree.specs.Delete.Means.{past, join_looks, copied_pairs, sibling_copy};
 
     /// Looks at the next node, where the snapshot still shows the child that the walk has found.
     fn past(snap: &Snap, side: Side, child: NodeNo, next: NodeNo) -> Look
@@ -68,47 +70,53 @@ impl Delete {
         }
     }
 
-    /// Which word of the sibling is loaded next.
-    fn wanted(loaded: &Loaded) -> Option<NodeWord>
-        ensures { result ≡ copy_wants loaded.now.head loaded.now.key loaded.now.value }
+    /// The fork above the parent; the parent, if that is still its child; and both children of the
+    /// parent, if the leaf is still one.
+    #[inline(always)]
+    fn look_to_join(found: &Found, snaps: &[Snap]) -> Look
+        ensures { result ≡ join_looks found.now snaps.now }
     {
-        let Some(word) = loaded.head else {
-            return Some(NodeWord::Settled(SettledPart::Head));
-        };
-        let head = Head::of(word);
-        if head.class != 0 {
-            None
-        } else if loaded.key.is_none() {
-            Some(NodeWord::Settled(SettledPart::Key(Slot::First)))
-        } else if head.leaf && loaded.value.is_none() {
-            Some(NodeWord::Settled(SettledPart::Value(Slot::First)))
-        } else {
-            None
+        let trail = found.trail;
+        match snaps {
+            [] => Look::At(trail.grand),
+            [grand] => Delete::past(grand, trail.grand_side, trail.parent, trail.parent),
+            [_, parent] => Delete::past(parent, trail.side, trail.node, parent.left),
+            [_, parent, _] => Look::At(parent.right),
+            _ => Look::Enough,
         }
     }
 
-    /// A copy of the sibling.
-    fn copy(sibling: &Snap, head: Head, loaded: &Loaded) -> Piece
-        ensures { result ≡ sibling_copy sibling.now head loaded.now }
+    /// The pairs of a copy of a leaf of this class; above all keys it has its own key, 0.
+    #[inline(always)]
+    fn copied(class: u8, read: &Reading) -> Pairs
+        ensures { result ≡ copied_pairs class read.now }
     {
-        let Head { level, leaf, class } = head;
-        let key = loaded.key.unwrap_or(0);
-        let value = loaded.value.unwrap_or(0);
-        let (left, right) = (sibling.left, sibling.right);
+        if class == 0 {
+            read.pairs
+        } else {
+            Pairs::one(Pair { key: 0, value: 0 })
+        }
+    }
+
+    /// A copy of the sibling, as it was read and as its snapshot shows it.
+    #[inline(always)]
+    fn copy(sibling: &Snap, read: &Reading) -> Piece
+        ensures { result ≡ sibling_copy sibling.now read.now }
+    {
+        let Head { level, leaf, class } = read.head.unwrap_or(Head::of(0));
         if leaf {
             Piece::Leaf {
                 level,
                 class,
-                key,
-                value,
+                pairs: Delete::copied(class, read),
             }
         } else {
             Piece::Fork {
                 level,
                 class,
-                key,
-                left,
-                right,
+                key: read.key.unwrap_or(0),
+                left: sibling.left,
+                right: sibling.right,
             }
         }
     }
@@ -133,41 +141,50 @@ impl Edit for Delete {
     }
 
     fn side(&self, found: &Found) -> Side {
-        found.trail.grand_side
+        if 0 < found.more {
+            found.trail.side
+        } else {
+            found.trail.grand_side
+        }
     }
 
+    #[inline(always)]
     fn look(&self, found: &Found, snaps: &[Snap]) -> Look {
-        let trail = found.trail;
-        match snaps {
-            [] => Look::At(trail.grand),
-            [grand] => Delete::past(grand, trail.grand_side, trail.parent, trail.parent),
-            [_, parent] => Delete::past(parent, trail.side, trail.node, parent.left),
-            [_, parent, _] => Look::At(parent.right),
-            _ => Look::Enough,
+        if 0 < found.more {
+            leaf::look(found, snaps)
+        } else {
+            Delete::look_to_join(found, snaps)
         }
     }
 
-    fn copied(&self, found: &Found, snaps: &[Snap]) -> NodeNo {
-        Delete::sibling(found, snaps).node
-    }
-
-    fn load(&self, found: &Found, snaps: &[Snap], loaded: &Loaded, nth: Nth) -> Option<NodeWord> {
-        match nth {
-            Nth::First => Delete::wanted(loaded),
-            _ => None,
+    #[inline(always)]
+    fn reads(&self, found: &Found, snaps: &[Snap]) -> Option<(NodeNo, Reading)> {
+        if 0 < found.more {
+            Some(leaf::reads(found))
+        } else {
+            Some((Delete::sibling(found, snaps).node, Reading::new()))
         }
     }
 
+    #[inline(always)]
     fn piece(
         &self,
         found: &Found,
         snaps: &[Snap],
         nodes: &Nodes,
-        loaded: &Loaded,
+        read: &Reading,
         nth: Nth,
     ) -> Piece {
-        let head = Head::of(loaded.head.unwrap_or(0));
-        Delete::copy(&Delete::sibling(found, snaps), head, loaded)
+        if 0 < found.more {
+            let pairs = read.pairs;
+            Piece::Leaf {
+                level: found.head.level,
+                class: 0,
+                pairs: pairs.delete(self.key),
+            }
+        } else {
+            Delete::copy(&Delete::sibling(found, snaps), read)
+        }
     }
 
     ghost laws = { delete_laws };

@@ -18,13 +18,13 @@ impl GetRun {
     ghost use Rattle.tree.specs.Get.Steps.{get_left};
 
     /// A run that has not begun. It asks for at most three steps for each node that has been taken
-    /// when it ends, and for six more.
+    /// when it ends, and for eleven more.
     pub fn new(key: u64) -> GetRun
         ensures key { result.key ≡ key }
         ensures goal { result.walk.goal ≡ Goal.Key result.key }
         ensures start { result.walk.at ≡ Start }
         ensures root { result.walk.trail.node.0 ≡ 0 }
-        ensures bound { (nodes : ℕ) → get_left result nodes ≤ 3 * (2 + nodes) }
+        ensures bound { (nodes : ℕ) → get_left result nodes ≤ 3 * (2 + nodes) + 5 }
     {
         GetRun {
             key,
@@ -34,7 +34,7 @@ impl GetRun {
 }
 
 impl Machine<Tree> for GetRun {
-    type Answer = Option<u64>;
+    type Answer = Option<u128>;
 
     ghost use Rattle.std.specs.Prelude.{◌≡◌, ℕ};
     ghost use Rattle.tree.specs.Get.Steps.{get_left, GetFits};
@@ -55,7 +55,7 @@ impl Machine<Tree> for GetRun {
 
     ghost asks_first = { λ _. Unit {0} };
 
-    fn next(&mut self, got: Option<u64>) -> Turn<Option<u64>> {
+    fn next(&mut self, got: Option<u64>) -> Turn<Option<u128>> {
         match Machine::<Tree>::next(&mut self.walk, got) {
             Turn::Ask(step) => Turn::Ask(step),
             Turn::Done(found) => Turn::Done(found.value),

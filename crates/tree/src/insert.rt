@@ -1,8 +1,10 @@
 //! Insert.
 ghost use Rattle.std.specs.Prelude.{◌≡◌};
 
-use arena::{NodeNo, NodeWord, SettledPart, Share, Side, Slot};
-use edits::{Edit, Loaded, Look, Need, Nodes, Nth, Piece, UpdateAt, UpdateRun};
+use crate::leaf;
+use arena::{NodeNo, Share, Side, Slot};
+use edits::{Edit, Look, Need, Nodes, Nth, Pairs, Piece, Reading, UpdateAt, UpdateRun};
+use ordered_map::Pair;
 use prims::Snap;
 use template::{Found, Goal};
 
@@ -10,16 +12,17 @@ use template::{Found, Goal};
 #[derive(Clone, Copy, Debug, PartialEq, Eq)]
 pub struct Insert {
     pub key: u64,
-    pub value: u64,
+    pub value: u128,
 }
 
 /// An insert, step by step.
 pub type InsertRun = UpdateRun<Insert, UpdateAt>;
 
 impl Insert {
-    /// An insert of that with so many tries, in the caller's call of this number; it takes fresh nodes
-    /// and SCX-records out of the share, at most three nodes and one SCX-record in a try. Where
-    /// `nodes` are taken when it ends, it makes at most `tries * (3 * (2 + nodes) + 178)` steps.
+    /// An insert of that with so many tries, in the caller's call of this number; it takes fresh
+    /// nodes and SCX-records out of the share, at most three nodes and one SCX-record in a try.
+    /// Where `nodes` are taken when it ends, it makes at most `tries * (3 * (2 + nodes) + 207)`
+    /// steps.
     #[inline(always)]
     pub fn run(self, share: Share, tries: u32, call: u64) -> InsertRun
         ensures start { result.at ≡ UpdateAt.Start }
@@ -28,7 +31,7 @@ impl Insert {
         ensures call { result.call ≡ call }
         ensures tries { result.tries ≡ tries - 1 }
         ensures limit { result.limit ≡ tries }
-        ensures steps { (nodes : ℕ) → 0 < tries → update_left insert_means result nodes ≡ tries * (3 * (2 + nodes) + 178) }
+        ensures steps { (nodes : ℕ) → 0 < tries → update_left insert_means result nodes ≡ tries * (3 * (2 + nodes) + 207) }
     {
         UpdateRun::new(self, share, tries, call, UpdateAt::Start)
     }
@@ -37,64 +40,81 @@ impl Insert {
     ghost use Rattle.std.specs.Prelude.{ℕ, ◌+◌, ◌*◌, ◌-◌, ◌<◌};
     ghost use Rattle.tree.specs.Insert.Means.{insert_means};
     ghost use Rattle.edits.specs.Steps.{update_left};
-    ghost use Rattle.tree.specs.Insert.Means.{is_below, fresh_leaf, leaf_copy, fork_over};
+    ghost use Rattle.tree.specs.Insert.Means.{has_room, pairs_with, second_pairs, split_pieces, fork_over};
 
-    /// Whether the key comes before the leaf.
-    fn is_below(&self, found: &Found) -> bool
-        ensures { result ≡ is_below self.now.key found.now }
+    /// Whether the leaf has room for one pair more.
+    fn has_room(found: &Found) -> bool
+        ensures { result ≡ has_room found.now }
     {
-        found.head.class != 0 || self.key < found.key
-    }
-
-    /// A leaf of the key, in the place of the leaf that was found or below the fork.
-    fn leaf(&self, found: &Found) -> Piece
-        ensures { result ≡ fresh_leaf self.now.key self.now.value found.now }
-    {
-        let level = match found.value {
-            Some(_) => found.head.level,
-            None => found.head.level.saturating_add(1),
-        };
-        Piece::Leaf {
-            level,
-            class: 0,
-            key: self.key,
-            value: self.value,
+        if found.head.class == 0 {
+            found.more < 3
+        } else {
+            false
         }
     }
 
-    /// A copy of the leaf that was found, below the fork.
-    fn copy(found: &Found, loaded: &Loaded) -> Piece
-        ensures { result ≡ leaf_copy found.now loaded.now }
+    /// The pairs of the leaf, which is read, with the new one.
+    #[inline(always)]
+    fn pairs(&self, found: &Found, read: &Reading) -> Pairs
+        ensures { result ≡ pairs_with self.now.key self.now.value found.now read.now }
     {
-        Piece::Leaf {
-            level: found.head.level.saturating_add(1),
-            class: found.head.class,
-            key: found.key,
-            value: loaded.value.unwrap_or(0),
+        if found.head.class == 0 {
+            let pairs = read.pairs;
+            pairs.insert(self.key, self.value)
+        } else {
+            Pairs::one(Pair {
+                key: self.key,
+                value: self.value,
+            })
         }
     }
 
-    /// The fork over both leaves.
-    fn fork(&self, found: &Found, nodes: &Nodes) -> Piece
-        ensures { result ≡ fork_over self.now.key found.now nodes.now }
+    /// Those of them that go to the second of two leaves; of a leaf above all keys its own key, 0.
+    #[inline(always)]
+    fn second(found: &Found, pairs: Pairs) -> Pairs
+        ensures { result ≡ second_pairs found.now pairs }
+    {
+        if found.head.class == 0 {
+            pairs.behind_two()
+        } else {
+            Pairs::one(Pair { key: 0, value: 0 })
+        }
+    }
+
+    /// One of three fresh nodes that hold these pairs: two leaves, or the fork over them.
+    #[inline(always)]
+    fn split(found: &Found, pairs: Pairs, nodes: &Nodes, nth: Nth) -> Piece
+        ensures { result ≡ split_pieces pairs found.now nodes.now nth }
     {
         let level = found.head.level;
-        if self.is_below(found) {
-            Piece::Fork {
-                level,
-                class: found.head.class,
-                key: found.key,
-                left: nodes.first,
-                right: nodes.second,
-            }
-        } else {
-            Piece::Fork {
-                level,
+        let below = level.saturating_add(1);
+        let class = found.head.class;
+        match nth {
+            Nth::First => Piece::Leaf {
+                level: below,
                 class: 0,
-                key: self.key,
-                left: nodes.second,
-                right: nodes.first,
-            }
+                pairs: pairs.first_two(),
+            },
+            Nth::Second => Piece::Leaf {
+                level: below,
+                class,
+                pairs: Insert::second(found, pairs),
+            },
+            Nth::Third => Insert::fork(found, &Insert::second(found, pairs), nodes),
+        }
+    }
+
+    /// The fork over both leaves, with the first key of the second.
+    #[inline(always)]
+    fn fork(found: &Found, second: &Pairs, nodes: &Nodes) -> Piece
+        ensures { result ≡ fork_over second.now found.now nodes.now }
+    {
+        Piece::Fork {
+            level: found.head.level,
+            class: found.head.class,
+            key: second.at(Slot::First).key,
+            left: nodes.first,
+            right: nodes.second,
         }
     }
 }
@@ -113,7 +133,13 @@ impl Edit for Insert {
     fn need(&self, found: &Found) -> Need {
         match found.value {
             Some(_) => Need::One,
-            None => Need::Three,
+            None => {
+                if Insert::has_room(found) {
+                    Need::One
+                } else {
+                    Need::Three
+                }
+            }
         }
     }
 
@@ -121,47 +147,37 @@ impl Edit for Insert {
         found.trail.side
     }
 
+    #[inline(always)]
     fn look(&self, found: &Found, snaps: &[Snap]) -> Look {
-        match snaps {
-            [] => Look::At(found.trail.parent),
-            [parent] => {
-                if parent.child(found.trail.side).0 == found.trail.node.0 {
-                    Look::At(found.trail.node)
-                } else {
-                    Look::Differs {
-                        node: parent.node,
-                        scx: parent.scx,
-                    }
-                }
-            }
-            _ => Look::Enough,
-        }
+        leaf::look(found, snaps)
     }
 
-    fn copied(&self, found: &Found, snaps: &[Snap]) -> NodeNo {
-        found.trail.node
-    }
-
-    fn load(&self, found: &Found, snaps: &[Snap], loaded: &Loaded, nth: Nth) -> Option<NodeWord> {
-        if nth == Nth::Second && found.head.class == 0 && loaded.value.is_none() {
-            Some(NodeWord::Settled(SettledPart::Value(Slot::First)))
+    #[inline(always)]
+    fn reads(&self, found: &Found, snaps: &[Snap]) -> Option<(NodeNo, Reading)> {
+        if found.head.class == 0 {
+            Some(leaf::reads(found))
         } else {
             None
         }
     }
 
+    #[inline(always)]
     fn piece(
         &self,
         found: &Found,
         snaps: &[Snap],
         nodes: &Nodes,
-        loaded: &Loaded,
+        read: &Reading,
         nth: Nth,
     ) -> Piece {
-        match nth {
-            Nth::First => self.leaf(found),
-            Nth::Second => Insert::copy(found, loaded),
-            Nth::Third => self.fork(found, nodes),
+        let pairs = self.pairs(found, read);
+        match self.need(found) {
+            Need::Three => Insert::split(found, pairs, nodes, nth),
+            Need::Nothing | Need::One => Piece::Leaf {
+                level: found.head.level,
+                class: 0,
+                pairs,
+            },
         }
     }
 

@@ -2,8 +2,8 @@
 ghost use Rattle.std.specs.Prelude.{◌≡◌};
 
 use crate::delete::Delete;
-use arena::{NodeNo, NodeWord, Share, Side};
-use edits::{Edit, Loaded, Look, Need, Nodes, Nth, Piece, UpdateAt, UpdateRun};
+use arena::{NodeNo, Share, Side};
+use edits::{Edit, Look, Need, Nodes, Nth, Piece, Reading, UpdateAt, UpdateRun};
 use prims::Snap;
 use template::{Found, Goal};
 
@@ -16,8 +16,8 @@ pub type PopFirstRun = UpdateRun<PopFirst, UpdateAt>;
 
 impl PopFirst {
     /// A pop with so many tries, in the caller's call of this number; it takes fresh nodes and
-    /// SCX-records out of the share, at most one node and one SCX-record in a try. Where `nodes` are
-    /// taken when it ends, it makes at most `tries * (3 * (2 + nodes) + 301)` steps.
+    /// SCX-records out of the share, at most one node and one SCX-record in a try. Where `nodes`
+    /// are taken when it ends, it makes at most `tries * (3 * (2 + nodes) + 328)` steps.
     #[inline(always)]
     pub fn run(self, share: Share, tries: u32, call: u64) -> PopFirstRun
         ensures start { result.at ≡ UpdateAt.Start }
@@ -26,7 +26,7 @@ impl PopFirst {
         ensures call { result.call ≡ call }
         ensures tries { result.tries ≡ tries - 1 }
         ensures limit { result.limit ≡ tries }
-        ensures steps { (nodes : ℕ) → 0 < tries → update_left pop_means result nodes ≡ tries * (3 * (2 + nodes) + 301) }
+        ensures steps { (nodes : ℕ) → 0 < tries → update_left pop_means result nodes ≡ tries * (3 * (2 + nodes) + 328) }
     {
         UpdateRun::new(self, share, tries, call, UpdateAt::Start)
     }
@@ -64,27 +64,26 @@ impl Edit for PopFirst {
         PopFirst::delete(found).side(found)
     }
 
+    #[inline(always)]
     fn look(&self, found: &Found, snaps: &[Snap]) -> Look {
         PopFirst::delete(found).look(found, snaps)
     }
 
-    fn copied(&self, found: &Found, snaps: &[Snap]) -> NodeNo {
-        PopFirst::delete(found).copied(found, snaps)
+    #[inline(always)]
+    fn reads(&self, found: &Found, snaps: &[Snap]) -> Option<(NodeNo, Reading)> {
+        PopFirst::delete(found).reads(found, snaps)
     }
 
-    fn load(&self, found: &Found, snaps: &[Snap], loaded: &Loaded, nth: Nth) -> Option<NodeWord> {
-        PopFirst::delete(found).load(found, snaps, loaded, nth)
-    }
-
+    #[inline(always)]
     fn piece(
         &self,
         found: &Found,
         snaps: &[Snap],
         nodes: &Nodes,
-        loaded: &Loaded,
+        read: &Reading,
         nth: Nth,
     ) -> Piece {
-        PopFirst::delete(found).piece(found, snaps, nodes, loaded, nth)
+        PopFirst::delete(found).piece(found, snaps, nodes, read, nth)
     }
 
     ghost laws = { pop_laws };

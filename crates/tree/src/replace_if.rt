@@ -2,8 +2,8 @@
 ghost use Rattle.std.specs.Prelude.{◌≡◌};
 
 use crate::insert::Insert;
-use arena::{NodeNo, NodeWord, Share, Side};
-use edits::{Edit, Loaded, Look, Need, Nodes, Nth, Piece, UpdateAt, UpdateRun};
+use arena::{NodeNo, Share, Side};
+use edits::{Edit, Look, Need, Nodes, Nth, Piece, Reading, UpdateAt, UpdateRun};
 use prims::Snap;
 use template::{Found, Goal};
 
@@ -11,8 +11,8 @@ use template::{Found, Goal};
 #[derive(Clone, Copy, Debug, PartialEq, Eq)]
 pub struct ReplaceIf {
     pub key: u64,
-    pub expected: u64,
-    pub value: u64,
+    pub expected: u128,
+    pub value: u128,
 }
 
 /// A replacement, step by step.
@@ -20,8 +20,8 @@ pub type ReplaceIfRun = UpdateRun<ReplaceIf, UpdateAt>;
 
 impl ReplaceIf {
     /// A replacement with so many tries, in the caller's call of this number; it takes fresh nodes
-    /// and SCX-records out of the share, at most one node and one SCX-record in a try. Where `nodes`
-    /// are taken when it ends, it makes at most `tries * (3 * (2 + nodes) + 178)` steps.
+    /// and SCX-records out of the share, at most one node and one SCX-record in a try. Where
+    /// `nodes` are taken when it ends, it makes at most `tries * (3 * (2 + nodes) + 207)` steps.
     #[inline(always)]
     pub fn run(self, share: Share, tries: u32, call: u64) -> ReplaceIfRun
         ensures start { result.at ≡ UpdateAt.Start }
@@ -30,7 +30,7 @@ impl ReplaceIf {
         ensures call { result.call ≡ call }
         ensures tries { result.tries ≡ tries - 1 }
         ensures limit { result.limit ≡ tries }
-        ensures steps { (nodes : ℕ) → 0 < tries → update_left replace_means result nodes ≡ tries * (3 * (2 + nodes) + 178) }
+        ensures steps { (nodes : ℕ) → 0 < tries → update_left replace_means result nodes ≡ tries * (3 * (2 + nodes) + 207) }
     {
         UpdateRun::new(self, share, tries, call, UpdateAt::Start)
     }
@@ -74,27 +74,26 @@ impl Edit for ReplaceIf {
         self.insert().side(found)
     }
 
+    #[inline(always)]
     fn look(&self, found: &Found, snaps: &[Snap]) -> Look {
         self.insert().look(found, snaps)
     }
 
-    fn copied(&self, found: &Found, snaps: &[Snap]) -> NodeNo {
-        self.insert().copied(found, snaps)
+    #[inline(always)]
+    fn reads(&self, found: &Found, snaps: &[Snap]) -> Option<(NodeNo, Reading)> {
+        self.insert().reads(found, snaps)
     }
 
-    fn load(&self, found: &Found, snaps: &[Snap], loaded: &Loaded, nth: Nth) -> Option<NodeWord> {
-        self.insert().load(found, snaps, loaded, nth)
-    }
-
+    #[inline(always)]
     fn piece(
         &self,
         found: &Found,
         snaps: &[Snap],
         nodes: &Nodes,
-        loaded: &Loaded,
+        read: &Reading,
         nth: Nth,
     ) -> Piece {
-        self.insert().piece(found, snaps, nodes, loaded, nth)
+        self.insert().piece(found, snaps, nodes, read, nth)
     }
 
     ghost laws = { replace_laws };

@@ -1,12 +1,13 @@
 -- What an ordered read knows stays so, whatever row comes that takes nothing of its pass's share.
-use Rattle.std.proofs.Common.{◌≡◌, ◌≢◌, ℕ, ◌<◌, ◌≤◌, true, false, ◌==◌, length, List, [], inl, inr, ap, subst, arith}
+use Rattle.std.proofs.Common.{◌≡◌, ◌≢◌, ℕ, ◌<◌, ◌≤◌, true, false, ◌==◌, length, List, [], inl, inr, refl, ap, subst, arith}
 use Rattle.std.proofs.Math.Bool.{and-false}
 use Rattle.arena.specs.declared.step.Row.{Row}
 use Rattle.arena.specs.declared.step.Step.{Step}
 use Rattle.arena.specs.declared.step.Kind.TheVariants.{LoadSettled}
 use Rattle.arena.specs.declared.word.NodeWord.{NodeWord}
 use Rattle.arena.specs.declared.word.NodeWord.TheVariants.{Settled}
-use Rattle.arena.specs.declared.word.SettledPart.TheVariants.{Head}
+use Rattle.arena.specs.declared.word.SettledPart.TheVariants.{Head, More as MoreWord, Key as KeyWord, Value as ValueWord, High as HighWord}
+use Rattle.arena.specs.declared.word.Slot.TheVariants.{First}
 use Rattle.arena.specs.Words.{node, same_node_word}
 use Rattle.arena.specs.History.{History, Start, ◌⊳◌, value, Extends}
 use Rattle.arena.specs.Machines.{IsRun, Call, begun_at}
@@ -26,8 +27,13 @@ use Rattle.ordered_map.specs.TreeWords.{level}
 use Rattle.ordered_map.specs.Tries.{begins_try}
 use Rattle.ordered_map.proofs.Lemmas.{path_not_final, root_head, run_since, stood_settled, walk_first, was_passed, SameSettled}
 use Rattle.template.proofs.Lemmas.{BeginsNoTry, newest_more, newest_now, next_more, other_node_begins_none}
+use Rattle.order.specs.Loads.{load_word}
+use Rattle.order.specs.Meaning.{ReadMeaning}
+use Rattle.order.specs.Next.{MayLoad}
 use Rattle.order.specs.Reads.{AreSnapped, Reads, Whenever, HasStood}
 use Rattle.order.specs.Tries.{BeginsTry, IsInTry}
+use Rattle.order.specs.declared.load.ReadLoad.{ReadLoad}
+use Rattle.order.specs.declared.load.ReadLoad.TheVariants as loads
 
 -- the root has stood in the tree
 pub root_there : (c : Call) (h : History) → IsTreeRun c.layout h → Extends h c.start → HasStood c h 0
@@ -103,12 +109,21 @@ module _ (c : Call) (h : History) (r : Row) (limit left : ℕ) (idle : IsIdle c.
   in_try_now begins x = record { begins = x; quiet = quiet_more c.layout c.pass c.start h r idle x.quiet; newest = newest_now c.pass r h begins }
 
 -- a load of the head of a node below some fork begins none
-pub head_begins_none : (c : Call) (h : History) (s : Step) (above n : ℕ) → IsTreeRun c.layout h → above < level (value h) n → s ≡ load LoadSettled (node n (Settled Head)) → BeginsNoTry s
+head_begins_none : (c : Call) (h : History) (s : Step) (above n : ℕ) → IsTreeRun c.layout h → above < level (value h) n → s ≡ load LoadSettled (node n (Settled Head)) → BeginsNoTry s
 head_begins_none c h s above n run deep e = other_node_begins_none s n (Settled Head) (ap (λ (t : Step). t.word) e) below
   where
     below : n ≢ 0
     below z = let low : above < level (value h) 0 = subst (λ k. above < level (value h) k) z deep in let root = root_head c.layout h run in omega (arith, low, root)
 
 -- nor does a load of another word
-pub word_begins_none : (s : Step) (n : ℕ) (part : NodeWord) → s ≡ load LoadSettled (node n part) → same_node_word part (Settled Head) ≡ false → BeginsNoTry s
+word_begins_none : (s : Step) (n : ℕ) (part : NodeWord) → s ≡ load LoadSettled (node n part) → same_node_word part (Settled Head) ≡ false → BeginsNoTry s
 word_begins_none s n part e other = rw (e, other) (and-false (n == 0))
+
+-- so no load of an ordered read but that of the root's head does
+pub load_begins_none : {R A : Type 0} (means : ReadMeaning R A) (r : R) (snaps : List Snap) (c : Call) (h : History) (s : Step) (of : ReadLoad) → IsTreeRun c.layout h → MayLoad means r snaps c h of → s ≡ load LoadSettled (load_word of) → BeginsNoTry s
+load_begins_none means r snaps c h s (loads.Head above n) run x e = head_begins_none c h s above n.0 run x.1 e
+load_begins_none means r snaps c h s (loads.Key low n) run x e = word_begins_none s n.0 (Settled (KeyWord First)) e refl
+load_begins_none means r snaps c h s (loads.More n) run x e = word_begins_none s n.0 (Settled MoreWord) e refl
+load_begins_none means r snaps c h s (loads.Pair p) run x e = word_begins_none s p.node.0 (Settled (KeyWord p.slot)) e refl
+load_begins_none means r snaps c h s (loads.Value p key) run x e = word_begins_none s p.node.0 (Settled (ValueWord p.slot)) e refl
+load_begins_none means r snaps c h s (loads.High p key low) run x e = word_begins_none s p.node.0 (Settled (HighWord p.slot)) e refl

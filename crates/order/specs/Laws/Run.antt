@@ -1,18 +1,16 @@
 -- The laws of ordered reads: rows of others leave them waiting, their steps are lawful, and what they
 -- are told is so.
 use Rattle.std.proofs.Common.{◌≡◌, ◌≢◌, ℕ, ◌+◌, ◌<◌, ◌≤◌, false, length, List, [], ◌∷◌, inl, inr, refl, sym, ◌∙◌, ap, subst, arith, Option, Some, None}
-use Rattle.arena.specs.declared.head.Head.{Head as HeadParts}
 use Rattle.arena.specs.declared.number.NodeNo.{NodeNo}
 use Rattle.arena.specs.declared.step.Row.{Row}
 use Rattle.arena.specs.declared.step.Step.{Step}
 use Rattle.arena.specs.declared.step.Kind.TheVariants.{Fill, LoadSettled}
 use Rattle.arena.specs.declared.word.NodeWord.TheVariants.{Settled}
 use Rattle.arena.specs.declared.word.SettledPart.{SettledPart}
-use Rattle.arena.specs.declared.word.SettledPart.TheVariants.{Head as HeadWord, Key as KeyWord, Value as ValueWord}
-use Rattle.arena.specs.declared.word.Slot.TheVariants.{First}
+use Rattle.arena.specs.declared.word.SettledPart.TheVariants.{Head as HeadWord, More as MoreWord, Key as KeyWord, Value as ValueWord}
 use Rattle.arena.specs.declared.word.Word.{Word}
 use Rattle.arena.specs.Heads.{head_of}
-use Rattle.arena.specs.Words.{node, first_key, first_value}
+use Rattle.arena.specs.Words.{node}
 use Rattle.arena.specs.History.{History, ◌⊳◌, value}
 use Rattle.arena.specs.Machines.{IsRun, Call, row_of, IsTold, begun_at}
 use Rattle.arena.specs.TakenNodes.{taken_nodes}
@@ -36,18 +34,23 @@ use Rattle.template.specs.declared.walk.WalkAt.{WalkAt}
 use Rattle.template.specs.declared.walk.WalkAt.TheVariants as places
 use Rattle.template.specs.declared.walk.WalkRun.{WalkRun}
 use Rattle.template.proofs.Lemmas.{BeginsNoTry, llx_begins_none, others_begin_none, own_begins, own_begins_none, vlx_begins_none, walk_begins_none, walk_fills_not, stood_inside}
-use Rattle.order.specs.Found.{AreThere, HasKey, HasLowHead, Looks}
+use Rattle.order.specs.Found.{AreThere, IsAtLowFork, Looks, StandsIn, TakesPair, more_at}
 use Rattle.order.specs.Known.{BeginsHere, IsLastTurn, ReadGoes, ReadIsReady, ReadIsToldAt, ReadWaits, ReadWaitsAt, RunStands, StandsInTry, Validates, Walks, WalksInTry}
 use Rattle.order.specs.Laws.Depth.{fork_depth, head_fits}
-use Rattle.order.specs.Laws.Kept.{begins_more, head_begins_none, in_try_more, in_try_now, reads_anew, root_there, stood_more, whenever_more, reads_more, settled_more, word_begins_none}
+use Rattle.order.specs.Laws.Kept.{begins_more, in_try_more, in_try_now, load_begins_none, reads_anew, root_there, stood_more, whenever_more, reads_more, settled_more}
+use Rattle.order.specs.Loads.{first_place, load_node, load_part, load_value, load_word}
 use Rattle.order.specs.Meaning.{ReadMeaning}
-use Rattle.order.specs.Paths.{HeadFits}
+use Rattle.order.specs.Next.{MayLoad}
+use Rattle.order.specs.Paths.{HeadFits, LoadFits}
 use Rattle.order.specs.Reads.{HasStood}
 use Rattle.order.specs.Steps.{ReadFits, ReadFitsAt}
 use Rattle.order.specs.Tries.{IsInTry}
+use Rattle.order.specs.declared.load.LeafPlace.{LeafPlace}
+use Rattle.order.specs.declared.load.ReadLoad.{ReadLoad}
+use Rattle.order.specs.declared.load.ReadLoad.TheVariants as loads
 use Rattle.order.specs.declared.read.Children.{Children}
 use Rattle.order.specs.declared.run.ReadAt.{ReadAt}
-use Rattle.order.specs.declared.run.ReadAt.TheVariants.{Start, Walk, Root, Head, Key, Value, Look, Validate}
+use Rattle.order.specs.declared.run.ReadAt.TheVariants.{Start, Walk, Root, Load, Look, Validate}
 use Rattle.order.specs.declared.run.ReadRun.{ReadRun}
 
 module _ {R A : Type 0} (means : ReadMeaning R A) (m : ReadRun R) where
@@ -97,20 +100,36 @@ module _ {R A : Type 0} (means : ReadMeaning R A) (m : ReadRun R) where
         same : SameSettled (value h) (value (r ⊳ h)) n
         same = settled_more c h r run n g x.stood
 
-    head_more : (n : ℕ) (head : HeadParts) → HasStood c h n → HasLowHead h n head → HasLowHead (r ⊳ h) n head
-    head_more n head s x = record { head_is = ap head_of (settled_more c h r run n g s (Settled HeadWord) tt) ∙ x.head_is; low = x.low }
-
-    key_more : (n key : ℕ) → HasKey means m.read m.snaps.items c h n key → HasKey means m.read m.snaps.items c (r ⊳ h) n key
-    key_more n key x = record {
+    fork_more : (low n : ℕ) → IsAtLowFork means m.read m.snaps.items c h low n → IsAtLowFork means m.read m.snaps.items c (r ⊳ h) low n
+    fork_more low n x = record {
       stands = stands_more n x.stands;
-      leaf = settled_leaf (value h) (value (r ⊳ h)) n same ∙ x.leaf;
-      low = settled_class (value h) (value (r ⊳ h)) n same ∙ x.low;
-      key_is = same first_key tt ∙ x.key_is;
-      takes = x.takes;
+      fork = settled_leaf (value h) (value (r ⊳ h)) n same ∙ x.fork;
+      class = settled_class (value h) (value (r ⊳ h)) n same ∙ x.class;
+      deep = settled_level (value h) (value (r ⊳ h)) n same ∙ x.deep;
     }
       where
         same : SameSettled (value h) (value (r ⊳ h)) n
         same = settled_more c h r run n g x.stands.stood
+
+    place_more : (p : LeafPlace) → StandsIn means m.read m.snaps.items c h p → StandsIn means m.read m.snaps.items c (r ⊳ h) p
+    place_more p x = record {
+      stood = stood_more c h r p.node.0 x.stood;
+      asks = x.asks;
+      some = x.some;
+      waits = there_more (means.waiting m.read) x.waits;
+      here = whenever_more c h r m.snaps.items _ x.here;
+    }
+
+    pair_more : (p : LeafPlace) (key : ℕ) → TakesPair means m.read m.snaps.items c h p key → TakesPair means m.read m.snaps.items c (r ⊳ h) p key
+    pair_more p key x = record { stands = place_more p x.stands; key_is = settled_more c h r run p.node.0 g x.stands.stood (Settled (KeyWord p.slot)) tt ∙ x.key_is; takes = x.takes }
+
+    load_more : (of : ReadLoad) → MayLoad means m.read m.snaps.items c h of → MayLoad means m.read m.snaps.items c (r ⊳ h) of
+    load_more (loads.Head above n) x = (stands_more n.0 x.0, deeper_more above n.0 x.0.stood x.1)
+    load_more (loads.Key low n) x = fork_more low n.0 x
+    load_more (loads.More n) x = subst (λ more. StandsIn means m.read m.snaps.items c (r ⊳ h) (first_place n more)) (sym (settled_more c h r run n.0 g x.stood (Settled MoreWord) tt)) (place_more (first_place n (more_at h n.0)) x)
+    load_more (loads.Pair p) x = place_more p x
+    load_more (loads.Value p key) x = pair_more p key x
+    load_more (loads.High p key low) x = (pair_more p key x.0, settled_more c h r run p.node.0 g x.0.stands.stood (Settled (ValueWord p.slot)) tt ∙ x.1)
 
     validates_more : (begin : History) → Validates means m.read m.snaps.items c h begin → Validates means m.read m.snaps.items c (r ⊳ h) begin
     validates_more begin x = record { asks = x.asks; own = x.own; within = inr x.within; reads = x.reads; right = x.right }
@@ -124,9 +143,7 @@ module _ {R A : Type 0} (means : ReadMeaning R A) (m : ReadRun R) where
     kept_at s Start other w = w
     kept_at s (Walk walk turn) other w = (walks_more walk turn w.0, walk_keeps walk c h s r run other w.1)
     kept_at s Root other w = (stands_more 0 w.0, w.1)
-    kept_at s (Head above n) other w = (stands_more n.0 w.0, deeper_more above n.0 w.0.stood w.1, w.2)
-    kept_at s (Key head n) other w = (stands_more n.0 w.0, head_more n.0 head w.0.stood w.1, w.2)
-    kept_at s (Value key n) other w = (key_more n.0 key w.0, w.1)
+    kept_at s (Load of) other w = (load_more of w.0, w.1)
     kept_at s (Look children low llx) other w = (looks_more children low llx.node.0 w.0, (w.1.0, w.1.1, llx_keeps TreeAllows llx (begun_at c w.1.0) h s r run other w.1.2))
     kept_at s (Validate asked) other w = (w.0, validates_more w.0 w.1, vlx_keeps TreeAllows m.snaps.items asked (begun_at c w.0) h s r run other w.2)
 
@@ -161,13 +178,19 @@ module _ {R A : Type 0} (means : ReadMeaning R A) (m : ReadRun R) where
   load_on : (c : Call) (h : History) (s : Step) (n : ℕ) (part : SettledPart) → IsTreeRun c.layout h → HasStood c h n → s ≡ load LoadSettled (node n (Settled part)) → IsRun TreeAllows c.layout (row_of c s h ⊳ h)
   load_on c h s n part g x asked = load_lawful TreeAllows c h LoadSettled (node n (Settled part)) s g.1 asked record { word = tt; same = refl } (λ q. cc) (stood_inside c.layout h n g x.stood)
 
+  load_stood : (c : Call) (h : History) (of : ReadLoad) → MayLoad means m.read m.snaps.items c h of → HasStood c h (load_node of).0
+  load_stood c h (loads.Head above n) x = x.0.stood
+  load_stood c h (loads.Key low n) x = x.stands.stood
+  load_stood c h (loads.More n) x = x.stood
+  load_stood c h (loads.Pair p) x = x.stood
+  load_stood c h (loads.Value p key) x = x.stands.stood
+  load_stood c h (loads.High p key low) x = x.0.stands.stood
+
   lawful_at : (c : Call) (h : History) (s : Step) (at : ReadAt) → IsTreeRun c.layout h → ReadWaitsAt means m c h s at → IsRun TreeAllows c.layout (row_of c s h ⊳ h)
   lawful_at c h s Start g w = absurd w
   lawful_at c h s (Walk walk turn) g w = walk_lawful walk c h s g.1 w.1
   lawful_at c h s Root g w = load_on c h s 0 HeadWord g w.0.stood w.1
-  lawful_at c h s (Head above n) g w = load_on c h s n.0 HeadWord g w.0.stood w.2
-  lawful_at c h s (Key head n) g w = load_on c h s n.0 (KeyWord First) g w.0.stood w.2
-  lawful_at c h s (Value key n) g w = load_on c h s n.0 (ValueWord First) g w.0.stands.stood w.1
+  lawful_at c h s (Load of) g w = load_on c h s (load_node of).0 (load_part of) g (load_stood c h of w.0) w.1
   lawful_at c h s (Look children low llx) g w = llx_lawful TreeAllows llx (begun_at c w.1.0) h s g.1 w.1.2
   lawful_at c h s (Validate asked) g w = vlx_lawful TreeAllows m.snaps.items asked (begun_at c w.0) h s g.1 w.2
 
@@ -184,9 +207,7 @@ module _ {R A : Type 0} (means : ReadMeaning R A) (m : ReadRun R) where
   fills_not_at c h s Start w = absurd w
   fills_not_at c h s (Walk walk turn) w = walk_fills_not walk c h s w.1
   fills_not_at c h s Root w = load_fills_not s (node 0 (Settled HeadWord)) w.1
-  fills_not_at c h s (Head above n) w = load_fills_not s (node n.0 (Settled HeadWord)) w.2
-  fills_not_at c h s (Key head n) w = load_fills_not s (node n.0 first_key) w.2
-  fills_not_at c h s (Value key n) w = load_fills_not s (node n.0 first_value) w.1
+  fills_not_at c h s (Load of) w = load_fills_not s (load_word of) w.1
   fills_not_at c h s (Look children low llx) w = llx_fills_not TreeAllows llx (begun_at c w.1.0) h s w.1.2
   fills_not_at c h s (Validate asked) w = vlx_fills_not m.snaps.items asked (begun_at c w.0) h s w.2
 
@@ -196,13 +217,19 @@ module _ {R A : Type 0} (means : ReadMeaning R A) (m : ReadRun R) where
 
   -- It has something to find
 
+  load_asks : (c : Call) (h : History) (of : ReadLoad) → MayLoad means m.read m.snaps.items c h of → means.asks (means.call m.read)
+  load_asks c h (loads.Head above n) x = x.0.asks
+  load_asks c h (loads.Key low n) x = x.stands.asks
+  load_asks c h (loads.More n) x = x.asks
+  load_asks c h (loads.Pair p) x = x.asks
+  load_asks c h (loads.Value p key) x = x.stands.asks
+  load_asks c h (loads.High p key low) x = x.0.stands.asks
+
   asks_at : (c : Call) (h : History) (s : Step) (at : ReadAt) → ReadWaitsAt means m c h s at → means.asks (means.call m.read)
   asks_at c h s Start w = absurd w
   asks_at c h s (Walk walk turn) w = w.0.goes_to.asks
   asks_at c h s Root w = w.0.asks
-  asks_at c h s (Head above n) w = w.0.asks
-  asks_at c h s (Key head n) w = w.0.asks
-  asks_at c h s (Value key n) w = w.0.stands.asks
+  asks_at c h s (Load of) w = load_asks c h of w.0
   asks_at c h s (Look children low llx) w = w.0.asks
   asks_at c h s (Validate asked) w = w.1.asks
 
@@ -220,9 +247,7 @@ module _ {R A : Type 0} (means : ReadMeaning R A) (m : ReadRun R) where
     made_at Start w = w
     made_at (Walk walk turn) w = (walks_more c h r g run walk turn w.0, walk_made walk c h s v run t w.1)
     made_at Root w = (stands_more c h r g run 0 w.0, load_told c h LoadSettled (node 0 (Settled HeadWord)) s v w.1 t)
-    made_at (Head above n) w = (stands_more c h r g run n.0 w.0, deeper_more c h r g run above n.0 w.0.stood w.1, load_told c h LoadSettled (node n.0 (Settled HeadWord)) s v w.2 t)
-    made_at (Key head n) w = (stands_more c h r g run n.0 w.0, head_more c h r g run n.0 head w.0.stood w.1, load_told c h LoadSettled (node n.0 first_key) s v w.2 t)
-    made_at (Value key n) w = (key_more c h r g run n.0 key w.0, load_told c h LoadSettled (node n.0 first_value) s v w.1 t)
+    made_at (Load of) w = (load_more c h r g run of w.0, load_told c h LoadSettled (load_word of) s v w.1 t)
     made_at (Look children low llx) w = (looks_more c h r g run children low llx.node.0 w.0, (w.1.0, w.1.1, llx_made TreeAllows llx (begun_at c w.1.0) h s v run t w.1.2))
     made_at (Validate asked) w = (w.0, validates_more c h r g run w.0 w.1, vlx_made TreeAllows m.snaps.items asked (begun_at c w.0) h s v run t w.2)
 
@@ -283,9 +308,7 @@ module _ {R A : Type 0} (means : ReadMeaning R A) (m : ReadRun R) where
     ready_at begin Start try goes w = absurd w
     ready_at begin (Walk walk turn) try goes w = walk_told_in begin walk turn walk.at refl try goes w
     ready_at begin Root try goes w = root_begins begin goes try w.1 w
-    ready_at begin (Head above n) try goes w = stays_in_try begin goes (Head above n) try (head_begins_none c h s above n.0 goes.reads.run w.1 w.2) w
-    ready_at begin (Key head n) try goes w = stays_in_try begin goes (Key head n) try (word_begins_none s n.0 first_key w.2 refl) w
-    ready_at begin (Value key n) try goes w = stays_in_try begin goes (Value key n) try (word_begins_none s n.0 first_value w.1 refl) w
+    ready_at begin (Load of) try goes w = stays_in_try begin goes (Load of) try (load_begins_none means m.read m.snaps.items (begun_at c begin) h s of goes.reads.run w.0 w.1) w
     ready_at begin (Look children low llx) try goes w = stays_in_try begin goes (Look children low llx) try (llx_begins_none TreeAllows llx (begun_at c w.1.0) h s w.1.2) w
     ready_at begin (Validate asked) try goes w = stays_in_try begin goes (Validate asked) try (vlx_begins_none m.snaps.items asked (begun_at c w.0) h s w.2) w
 
@@ -295,15 +318,21 @@ module _ {R A : Type 0} (means : ReadMeaning R A) (m : ReadRun R) where
 
   -- What it is told
 
+  load_fits : (c : Call) (h : History) (v nodes : ℕ) (of : ReadLoad) → IsTreeRun c.layout h → MayLoad means m.read m.snaps.items c h of → load_value h of ≡ v → length (taken_nodes h) ≤ nodes → LoadFits v nodes of
+  load_fits c h v nodes (loads.Head above n) g x t few =
+      let fits : HeadFits (head_of v) nodes = head_fits c.layout h n.0 nodes (head_of v) g x.0.stood.stood (ap head_of t) few in
+      ((let l : level (value h) n.0 ≡ (head_of v).level = ap (λ w. (head_of w).level) t in let i = x.1 in omega (arith, i, l)), fits)
+  load_fits c h v nodes (loads.Key low n) g x t few = let d : level (value h) n.0 + 1 < 2 + length (taken_nodes h) = fork_depth c.layout h n.0 g x.stands.stood.stood x.fork in let l = x.deep in omega (arith, d, l, few)
+  load_fits c h v nodes (loads.More n) g x t few = tt
+  load_fits c h v nodes (loads.Pair p) g x t few = tt
+  load_fits c h v nodes (loads.Value p key) g x t few = tt
+  load_fits c h v nodes (loads.High p key low) g x t few = tt
+
   fits_at : (c : Call) (h : History) (v nodes : ℕ) (at : ReadAt) → IsTreeRun c.layout h → ReadIsToldAt means m c h v at → length (taken_nodes h) ≤ nodes → ReadFitsAt means m (Some v) nodes at
   fits_at c h v nodes Start g x few = absurd x
   fits_at c h v nodes (Walk walk turn) g x few = walk_told walk c h (Some v) nodes g.1 x.1 few
   fits_at c h v nodes Root g x few = head_fits c.layout h 0 nodes (head_of v) g x.0.stood.stood (ap head_of x.1) few
-  fits_at c h v nodes (Head above n) g x few =
-      let fits : HeadFits (head_of v) nodes = head_fits c.layout h n.0 nodes (head_of v) g x.0.stood.stood (ap head_of x.2) few in
-      ((let l : level (value h) n.0 ≡ (head_of v).level = ap (λ w. (head_of w).level) x.2 in let i = x.1 in omega (arith, i, l)), fits)
-  fits_at c h v nodes (Key head n) g x few = head_fits c.layout h n.0 nodes head g x.0.stood.stood x.1.head_is few
-  fits_at c h v nodes (Value key n) g x few = tt
+  fits_at c h v nodes (Load of) g x few = load_fits c h v nodes of g x.0 x.1 few
   fits_at c h v nodes (Look children low llx) g x few =
       let d : level (value h) llx.node.0 + 1 < 2 + length (taken_nodes h) = fork_depth c.layout h llx.node.0 g x.0.stood.stood x.0.fork in
       let deep = x.0.deep in

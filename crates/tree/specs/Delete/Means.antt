@@ -1,30 +1,27 @@
--- What a delete needs, looks at, loads and fills.
-use Rattle.std.specs.Prelude.{ℕ, ◌+◌, ◌==◌, if◌then◌else◌, Bool, List, [], ◌∷◌, Option, Some, None, unwrap_or}
+-- What a delete needs, looks at, reads and fills.
+use Rattle.std.specs.Prelude.{ℕ, ◌==◌, nat_lt, if◌then◌else◌, Bool, List, [], ◌∷◌, Option, Some, None, unwrap_or}
 use Rattle.arena.specs.declared.head.Head.{Head}
 use Rattle.arena.specs.declared.number.NodeNo.{NodeNo}
-use Rattle.arena.specs.declared.word.NodeWord.{NodeWord}
-use Rattle.arena.specs.Words.{first_key, first_value}
-use Rattle.arena.specs.declared.word.NodeWord.TheVariants.{Settled}
-use Rattle.arena.specs.declared.word.SettledPart.TheVariants.{Head as HeadWord}
 use Rattle.arena.specs.declared.word.Side.{Side}
 use Rattle.arena.specs.Heads.{head_of}
 use Rattle.prims.specs.declared.snap.Snap.{Snap}
 use Rattle.prims.specs.Snap.{child_of, snap_at}
-use Rattle.ordered_map.specs.OrderedMap.{Delete as TakeEdit}
+use Rattle.ordered_map.specs.declared.pair.Pair.{Pair}
+use Rattle.ordered_map.specs.OrderedMap.{Delete as TakeEdit, delete, pair}
 use Rattle.ordered_map.specs.TreeShape.{sibling_place}
 use Rattle.template.specs.declared.walk.Found.{Found}
 use Rattle.template.specs.declared.walk.Goal.TheVariants.{Key as ToKey}
+use Rattle.tree.specs.LeafEdit.{leaf_looks, leaf_reads}
 use Rattle.tree.specs.declared.delete.Delete.{Delete}
-use Rattle.edits.specs.declared.edit.Loaded.{Loaded}
 use Rattle.edits.specs.declared.edit.Look.{Look}
 use Rattle.edits.specs.declared.edit.Look.TheVariants.{At, Differs, Enough}
 use Rattle.edits.specs.declared.edit.Need.{Need}
 use Rattle.edits.specs.declared.edit.Need.TheVariants.{Nothing, One}
-use Rattle.edits.specs.declared.edit.Nth.{Nth}
-use Rattle.edits.specs.declared.edit.Nth.TheVariants.{First}
-use Rattle.edits.specs.declared.edit.Piece.{Piece}
-use Rattle.edits.specs.declared.edit.Piece.TheVariants.{Leaf, Fork}
+use Rattle.edits.specs.declared.piece.Piece.{Piece}
+use Rattle.edits.specs.declared.piece.Piece.TheVariants.{Leaf, Fork}
+use Rattle.edits.specs.declared.reading.Reading.{Reading}
 use Rattle.edits.specs.Edits.{EditMeaning}
+use Rattle.edits.specs.Readings.{nothing_read}
 
 -- a present key takes one node, and of an absent one there is nothing to delete
 abbrev pub delete_need : Option ℕ → Need
@@ -35,70 +32,53 @@ delete_need (Some v) = One
 abbrev pub past : Snap → Side → NodeNo → NodeNo → Look
 past s side n next = if (child_of s side).0 == n.0 then At next else Differs s.node s.scx
 
--- it looks at the fork above the parent, at the parent if that is still its child, and at both
--- children of the parent if the leaf is still one
+-- to take the leaf out it looks at the fork above the parent, at the parent if that is still its
+-- child, and at both children of the parent if the leaf is still one
+abbrev pub join_looks : Found → List Snap → Look
+join_looks f [] = At f.trail.grand
+join_looks f (g ∷ []) = past g f.trail.grand_side f.trail.parent f.trail.parent
+join_looks f (g ∷ p ∷ []) = past p f.trail.side f.trail.node p.left
+join_looks f (g ∷ p ∷ l ∷ []) = At p.right
+join_looks f (g ∷ p ∷ l ∷ r ∷ snaps) = Enough
+
+-- a leaf of one pair is taken out, and of one with more the pair is
+abbrev pub has_more : Found → Bool
+has_more f = nat_lt 0 f.more
+
 abbrev pub delete_looks : Found → List Snap → Look
-delete_looks f [] = At f.trail.grand
-delete_looks f (g ∷ []) = past g f.trail.grand_side f.trail.parent f.trail.parent
-delete_looks f (g ∷ p ∷ []) = past p f.trail.side f.trail.node p.left
-delete_looks f (g ∷ p ∷ l ∷ []) = At p.right
-delete_looks f (g ∷ p ∷ l ∷ r ∷ snaps) = Enough
+delete_looks f snaps = if has_more f then leaf_looks f snaps else join_looks f snaps
+
+-- on which side the field is that it changes
+abbrev pub delete_side : Found → Side
+delete_side f = if has_more f then f.trail.side else f.trail.grand_side
 
 -- the snapshot of the leaf's sibling
 abbrev pub sibling_of : Found → List Snap → Snap
 sibling_of f snaps = snap_at snaps (sibling_place f.trail.side)
 
--- the value, if that is not loaded
-abbrev pub then_value : Option ℕ → Option NodeWord
-then_value None = Some first_value
-then_value (Some v) = None
+-- it reads the leaf, or the sibling from its head on
+abbrev pub delete_reads : Found → List Snap → NodeNo × Reading
+delete_reads f snaps = if has_more f then leaf_reads f else ((sibling_of f snaps).node, nothing_read)
 
--- the key of a node of class 0, and then a leaf's value, as long as they are not loaded
-abbrev pub then_key : Bool → Option ℕ → Option ℕ → Option NodeWord
-then_key leaf None v = Some first_key
-then_key leaf (Some k) v = if leaf then then_value v else None
+-- the pairs of a copy of a leaf of this class; above all keys it has its own key, 0
+abbrev pub copied_pairs : ℕ → Reading → List Pair
+copied_pairs class read = if class == 0 then read.pairs else pair 0 0 ∷ []
 
--- of the sibling it loads the head, and then these
-abbrev pub copy_wants : Option ℕ → Option ℕ → Option ℕ → Option NodeWord
-copy_wants None k v = Some (Settled HeadWord)
-copy_wants (Some w) k v = if (head_of w).class == 0 then then_key (head_of w).leaf k v else None
+-- a copy of the sibling with this head: a fork has the fields of its snapshot
+abbrev pub copy_with : Snap → Head → Reading → Piece
+copy_with s head read =
+    if head.leaf then Leaf head.level head.class (copied_pairs head.class read)
+    else Fork head.level head.class (unwrap_or read.key 0) s.left s.right
 
--- all before it fills the one node
-abbrev pub delete_wants : Loaded → Nth → Option NodeWord
-delete_wants ld First = copy_wants ld.head ld.key ld.value
-delete_wants ld _ = None
+-- a copy of the sibling, as it was read
+abbrev pub sibling_copy : Snap → Reading → Piece
+sibling_copy s read = copy_with s (unwrap_or read.head (head_of 0)) read
 
--- a copy of the sibling, of which this is the head: a fork has the fields of its snapshot
-abbrev pub sibling_copy : Snap → Head → Loaded → Piece
-sibling_copy s head ld =
-    if head.leaf then Leaf head.level head.class (unwrap_or ld.key 0) (unwrap_or ld.value 0)
-    else Fork head.level head.class (unwrap_or ld.key 0) s.left s.right
-
--- that is its one piece
-abbrev pub delete_piece : Found → List Snap → Loaded → Piece
-delete_piece f snaps ld = sibling_copy (sibling_of f snaps) (head_of (unwrap_or ld.head 0)) ld
-
--- one load for a word that is not loaded
-abbrev pub load_of : Option ℕ → ℕ
-load_of None = 1
-load_of (Some v) = 0
-
--- at most six loads and fills; once the head is loaded so many as its class and kind need
-abbrev pub copy_works : Option ℕ → Option ℕ → Option ℕ → ℕ
-copy_works None k v = 6
-copy_works (Some w) k v =
-    (if (head_of w).class == 0 then load_of k + (if (head_of w).leaf then load_of v else 0) else 0)
-    + (if (head_of w).leaf then 3 else 4)
-
--- how many loads and fills are left for the fresh node
-abbrev pub delete_works : Loaded → Nth → ℕ
-delete_works ld First = copy_works ld.head ld.key ld.value
-delete_works ld _ = 0
-
--- at most
-abbrev pub delete_most_works : Nth → ℕ
-delete_most_works First = 6
-delete_most_works _ = 0
+-- that is its one piece, or a leaf without the pair
+abbrev pub delete_piece : ℕ → Found → List Snap → Reading → Piece
+delete_piece k f snaps read =
+    if has_more f then Leaf f.head.level 0 (delete k read.pairs)
+    else sibling_copy (sibling_of f snaps) read
 
 -- the edit that a delete is
 abbrev pub delete_means : EditMeaning Delete
@@ -107,12 +87,11 @@ delete_means = record {
   edit = λ e f. TakeEdit e.key;
   needs = λ e f. delete_need f.value;
   most_nodes = 1;
-  side = λ e f. f.trail.grand_side;
+  side = λ e f. delete_side f;
   looks = λ e f snaps. delete_looks f snaps;
   most_looks = 4;
-  copies = λ e f snaps. (sibling_of f snaps).node;
-  wants = λ e f snaps ld nth. delete_wants ld nth;
-  pieces = λ e f snaps ns ld nth. delete_piece f snaps ld;
-  works = λ e f snaps ld nth. delete_works ld nth;
-  most_works = delete_most_works;
+  reads = λ e f snaps. Some (delete_reads f snaps);
+  most_reads = 14;
+  pieces = λ e f snaps ns read nth. delete_piece e.key f snaps read;
+  most_fills = 14;
 }

@@ -21,8 +21,8 @@ pub record GetRests (c : Call) (h : History) : Type 0 where
   pub over : AreFinished c.layout c.pass 0 h
   pub quiet : IsQuietSince c.layout c.pass c.start h
 
--- it begins one try at most, and none before it was told anything: its pass has begun so many by now,
--- and had so many as the call began
+-- it begins one try at most, and none before it was told anything: its pass has begun so many by
+-- now, and had so many as the call began
 abbrev pub HasTriedOnce : Option ℕ → ℕ → ℕ → Type 0
 HasTriedOnce None now then = now ≡ then
 HasTriedOnce (Some v) now then = now ≤ suc then

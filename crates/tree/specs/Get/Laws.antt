@@ -16,7 +16,7 @@ use Rattle.template.proofs.Lemmas.{one_row, others_begin_none, own_begins_none, 
 use Rattle.template.specs.Walk.Known.{WalkKnows}
 use Rattle.template.specs.Walk.Places.{IsPastRoot}
 use Rattle.template.specs.declared.walk.WalkAt.{WalkAt}
-use Rattle.template.specs.declared.walk.WalkAt.TheVariants.{Start, Root, Head, Key, Child, Value}
+use Rattle.template.specs.declared.walk.WalkAt.TheVariants.{Start, Root, Head, Key, Child, More, Pair, Value, High}
 use Rattle.template.specs.Walk.Laws.{walk_keeps, walk_lawful, walk_made, walk_told}
 use Rattle.tree.specs.declared.get.GetRun.{GetRun}
 use Rattle.tree.specs.Get.Known.{GetRests, GetIsReady, GetWaits, HasTriedOnceAt}
@@ -47,7 +47,10 @@ tries_made m c h s w = go m.walk.at refl w.3
     go (Head above) is x = rw (none (subst IsPastRoot (sym is) tt)) x
     go (Key head) is x = rw (none (subst IsPastRoot (sym is) tt)) x
     go (Child low side) is x = rw (none (subst IsPastRoot (sym is) tt)) x
-    go (Value head key) is x = rw (none (subst IsPastRoot (sym is) tt)) x
+    go (More head) is x = rw (none (subst IsPastRoot (sym is) tt)) x
+    go (Pair head more slot) is x = rw (none (subst IsPastRoot (sym is) tt)) x
+    go (Value head more slot key) is x = rw (none (subst IsPastRoot (sym is) tt)) x
+    go (High head more slot key low) is x = rw (none (subst IsPastRoot (sym is) tt)) x
 
 -- once the step is made, the get may be called with what it told
 pub get_made : (m : GetRun) (c : Call) (h : History) (s : Step) (v : ℕ) → IsRun TreeAllows c.layout (row_of c s h ⊳ h) → IsTold s.access (value h s.word) v → GetWaits m c h s → GetIsReady m c (row_of c s h ⊳ h) (Some v)

@@ -1,79 +1,84 @@
 -- The bounds of an insert.
-use Rattle.std.proofs.Common.{◌≡◌, ℕ, ◌<◌, ◌≤◌, Bool, true, false, ◌==◌, if◌then◌else◌, List, [], ◌∷◌, length, Option, Some, None, refl, arith}
+use Rattle.std.proofs.Common.{◌≡◌, ℕ, ◌+◌, ◌*◌, ◌<◌, ◌≤◌, Bool, true, false, ◌==◌, if◌then◌else◌, List, [], ◌∷◌, length, take, drop, Option, Some, None, subst, arith}
 use Rattle.arena.specs.declared.number.NodeNo.{NodeNo}
-use Rattle.arena.specs.declared.word.NodeWord.{NodeWord}
-use Rattle.arena.specs.Words.{first_value}
-use Rattle.arena.specs.declared.word.NodeWord.TheVariants.{Settled}
-use Rattle.arena.specs.declared.word.SettledPart.TheVariants.{Head, Value}
-use Rattle.arena.specs.declared.word.Slot.TheVariants.{First as FirstSlot}
 use Rattle.prims.specs.declared.snap.Snap.{Snap}
+use Rattle.ordered_map.specs.declared.pair.Pair.{Pair}
+use Rattle.ordered_map.specs.OrderedMap.{pair, insert}
 use Rattle.template.specs.declared.walk.Found.{Found}
-use Rattle.tree.specs.declared.insert.Insert.{Insert}
-use Rattle.edits.specs.declared.edit.Loaded.{Loaded}
+use Rattle.tree.specs.LeafEdit.{leaf_looks, leaf_reads}
+use Rattle.tree.specs.Insert.Means.{insert_means, insert_need, insert_reads, need_by, has_room, lower, pieces_by_need, pairs_with, second_pairs}
 use Rattle.edits.specs.declared.edit.Look.TheVariants.{At, Enough}
+use Rattle.edits.specs.declared.edit.Need.{Need}
+use Rattle.edits.specs.declared.edit.Need.TheVariants.{Nothing, One, Three}
 use Rattle.edits.specs.declared.edit.Nodes.{Nodes}
-use Rattle.edits.specs.declared.edit.Nth.{Nth}
-use Rattle.edits.specs.declared.edit.Nth.TheVariants.{First, Second, Third}
-use Rattle.edits.specs.declared.edit.Piece.TheVariants.{Fork}
+use Rattle.edits.specs.declared.piece.Piece.TheVariants.{Leaf}
+use Rattle.edits.specs.declared.reading.Reading.{Reading}
 use Rattle.edits.specs.Edits.{EditBounds}
-use Rattle.edits.specs.Pieces.{many_nodes, with_word, fills_behind}
-use Rattle.tree.specs.Insert.Means.{insert_means, insert_need, insert_looks, insert_wants, insert_works, insert_pieces, value_if_none, leaf_copy_works, is_below}
+use Rattle.edits.specs.Laws.PieceFills.{the_same}
+use Rattle.edits.specs.Pieces.{all_fills, many_fills, many_nodes}
+use Rattle.edits.specs.Readings.{reads_left}
+use Rattle.edits.proofs.Lemmas.{begun_left}
 
-few_looks : (f : Found) (snaps : List Snap) (n : NodeNo) → insert_looks f snaps ≡ At n → length snaps < 2
+pub few_looks : (f : Found) (snaps : List Snap) (n : NodeNo) → leaf_looks f snaps ≡ At n → length snaps < 2
 few_looks f [] n e = omega arith
 few_looks f (p ∷ []) n e = omega arith
 few_looks f (p ∷ l ∷ snaps) n e = absurd (let d : Enough ≡ At n = e in cc)
 
-most_at_second : (b : Bool) (v : Option ℕ) → (if b then leaf_copy_works v else 3) ≤ 4
-most_at_second true None = omega arith
-most_at_second true (Some v) = omega arith
-most_at_second false v = omega arith
+few_nodes : (o : Option ℕ) (room : Bool) → many_nodes (need_by o room) ≤ 3
+few_nodes (Some v) room = omega arith
+few_nodes None true = omega arith
+few_nodes None false = omega arith
 
-few_works : (f : Found) (ld : Loaded) (nth : Nth) → insert_works f ld nth ≤ insert_means.most_works nth
-few_works f ld First = omega arith
-few_works f ld Second = most_at_second (f.head.class == 0) ld.value
-few_works f ld Third = omega arith
-
-load_at_second : (b : Bool) (old : Option ℕ) (ld : Loaded) (part : NodeWord) (v : ℕ) → ld.value ≡ old → (if b then value_if_none old else None) ≡ Some part → (if b then leaf_copy_works (with_word ld part v).value else 3) < (if b then leaf_copy_works old else 3)
-load_at_second false old ld part v is e = absurd (let d : None ≡ Some part = e in cc)
-load_at_second true (Some w) ld part v is e = absurd (let d : None ≡ Some part = e in cc)
-load_at_second true None ld part v is e = go part e
+few_reads : (f : Found) (x : NodeNo × Reading) → insert_reads f ≡ Some x → reads_left x.1 ≤ 12
+few_reads f x e = go (f.head.class == 0) e
   where
-    go : (q : NodeWord) → Some first_value ≡ Some q → leaf_copy_works (with_word ld q v).value < 4
-    go (Settled (Value FirstSlot)) d = omega arith
-    go q d = absurd (let z = d in cc)
+    go : (b : Bool) → (if b then Some (leaf_reads f) else None) ≡ Some x → reads_left x.1 ≤ 12
+    go true d = subst (λ (y : NodeNo × Reading). reads_left y.1 ≤ 12) (the_same (leaf_reads f) x d) (begun_left f.head f.more)
+    go false d = absurd (let z : None ≡ Some x = d in cc)
 
-load_works : (f : Found) (ld : Loaded) (nth : Nth) (part : NodeWord) → insert_wants f ld nth ≡ Some part → (v : ℕ) → insert_works f (with_word ld part v) nth < insert_works f ld nth
-load_works f ld Second part e v = load_at_second (f.head.class == 0) ld.value ld part v refl e
-load_works f ld First part e v = absurd (let d : None ≡ Some part = e in cc)
-load_works f ld Third part e v = absurd (let d : None ≡ Some part = e in cc)
+-- a leaf of so many pairs
+leaf_fills : (level class : ℕ) (ps : List Pair) (n : ℕ) → length ps ≤ n → n ≤ 4 → many_fills (Leaf level class ps) ≤ 2 + 3 * n
+leaf_fills level class ps n few four = omega (arith, few, four)
 
-fill_at_second : (b : Bool) (old : Option ℕ) → (if b then value_if_none old else None) ≡ None → 2 < (if b then leaf_copy_works old else 3)
-fill_at_second false old e = omega arith
-fill_at_second true (Some w) e = omega arith
-fill_at_second true None e = absurd (let d : Some first_value ≡ None = e in cc)
+any_leaf : (level class : ℕ) (ps : List Pair) → many_fills (Leaf level class ps) ≤ 14
+any_leaf level class ps = omega arith
 
-fork_fills : (b : Bool) (level class other key k : ℕ) (x y : NodeNo) → fills_behind (if b then Fork level class key x y else Fork level other k y x) (Settled Head) < 4
-fork_fills true level class other key k x y = omega arith
-fork_fills false level class other key k x y = omega arith
+first_few : (ps : List Pair) → length (take 2 ps) ≤ 2
+first_few [] = omega arith
+first_few (a ∷ []) = omega arith
+first_few (a ∷ b ∷ ps) = omega arith
 
-fill_works : (e : Insert) (f : Found) (ld : Loaded) (nth : Nth) → insert_wants f ld nth ≡ None → (ns : Nodes) → fills_behind (insert_pieces e.key e.value f ns ld nth) (Settled Head) < insert_works f ld nth
-fill_works e f ld First d ns = omega arith
-fill_works e f ld Second d ns = fill_at_second (f.head.class == 0) ld.value d
-fill_works e f ld Third d ns = fork_fills (is_below e.key f) f.head.level f.head.class 0 f.key e.key ns.first ns.second
+rest_few : (ps : List Pair) → length (drop 2 (take 5 ps)) ≤ 3
+rest_few [] = omega arith
+rest_few (a ∷ []) = omega arith
+rest_few (a ∷ b ∷ []) = omega arith
+rest_few (a ∷ b ∷ c ∷ []) = omega arith
+rest_few (a ∷ b ∷ c ∷ d ∷ []) = omega arith
+rest_few (a ∷ b ∷ c ∷ d ∷ e ∷ ps) = omega arith
 
-few_nodes : (o : Option ℕ) → many_nodes (insert_need o) ≤ 3
-few_nodes None = omega arith
-few_nodes (Some v) = omega arith
+second_few : (k v : ℕ) (f : Found) (read : Reading) → length (second_pairs f (pairs_with k v f read)) ≤ 3
+second_few k v f read = go (f.head.class == 0)
+  where
+    go : (b : Bool) → length (if b then drop 2 (if b then take 5 (insert k v read.pairs) else pair k v ∷ []) else pair 0 0 ∷ []) ≤ 3
+    go true = rest_few (insert k v read.pairs)
+    go false = omega arith
 
--- an insert looks at two nodes, takes at most three, and makes at most 11 loads and fills
+few_fills : (need : Need) (k v : ℕ) (f : Found) (ns : Nodes) (read : Reading) → all_fills need (pieces_by_need need (pairs_with k v f read) f ns) ≤ 23
+few_fills Nothing k v f ns read = let a = any_leaf f.head.level 0 (pairs_with k v f read) in omega (arith, a)
+few_fills One k v f ns read = let a = any_leaf f.head.level 0 (pairs_with k v f read) in omega (arith, a)
+few_fills Three k v f ns read =
+    let a = leaf_fills (lower f.head.level) 0 (take 2 (pairs_with k v f read)) 2 (first_few (pairs_with k v f read)) (omega arith) in
+    let b = leaf_fills (lower f.head.level) f.head.class (second_pairs f (pairs_with k v f read)) 3 (second_few k v f read) (omega arith) in
+    omega (arith, a, b)
+
+-- an insert looks at two nodes, takes at most three, reads at most twelve words and makes at most
+-- 23 fills
 pub insert_bounds : EditBounds insert_means
 insert_bounds = record {
   few_looks = λ e f snaps n d. few_looks f snaps n d;
   small = omega arith;
-  few_nodes = λ e f. few_nodes f.value;
+  few_nodes = λ e f. few_nodes f.value (has_room f);
   some_nodes = omega arith;
-  few_works = λ e f snaps ld nth. few_works f ld nth;
-  load_works = λ e f snaps ld nth part d v. load_works f ld nth part d v;
-  fill_works = λ e f snaps ld nth place d ns. fill_works e f ld nth d ns;
+  few_reads = λ e f snaps x d. few_reads f x d;
+  few_fills = λ e f snaps ns read. few_fills (insert_need f) e.key e.value f ns read;
 }

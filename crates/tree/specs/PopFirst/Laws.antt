@@ -9,7 +9,6 @@ pop_bounds = record {
   small = delete_bounds.small;
   few_nodes = λ e f. delete_bounds.few_nodes (delete_at f) f;
   some_nodes = delete_bounds.some_nodes;
-  few_works = λ e f snaps ld nth. delete_bounds.few_works (delete_at f) f snaps ld nth;
-  load_works = λ e f snaps ld nth part d v. delete_bounds.load_works (delete_at f) f snaps ld nth part d v;
-  fill_works = λ e f snaps ld nth place d ns. delete_bounds.fill_works (delete_at f) f snaps ld nth place d ns;
+  few_reads = λ e f snaps x is. delete_bounds.few_reads (delete_at f) f snaps x is;
+  few_fills = λ e f snaps ns read. delete_bounds.few_fills (delete_at f) f snaps ns read;
 }

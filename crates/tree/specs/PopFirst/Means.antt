@@ -1,4 +1,4 @@
--- What a pop of the first pair needs, looks at, loads and fills: at the first leaf it does what a
+-- What a pop of the first pair needs, looks at, reads and fills: at the first leaf it does what a
 -- delete of that leaf's key does.
 use Rattle.ordered_map.specs.OrderedMap.{Delete as TakeEdit}
 use Rattle.template.specs.declared.walk.Found.{Found}
@@ -22,9 +22,8 @@ pop_means = record {
   side = λ e f. delete_means.side (delete_at f) f;
   looks = λ e f snaps. delete_means.looks (delete_at f) f snaps;
   most_looks = delete_means.most_looks;
-  copies = λ e f snaps. delete_means.copies (delete_at f) f snaps;
-  wants = λ e f snaps ld nth. delete_means.wants (delete_at f) f snaps ld nth;
-  pieces = λ e f snaps ns ld nth. delete_means.pieces (delete_at f) f snaps ns ld nth;
-  works = λ e f snaps ld nth. delete_means.works (delete_at f) f snaps ld nth;
-  most_works = delete_means.most_works;
+  reads = λ e f snaps. delete_means.reads (delete_at f) f snaps;
+  most_reads = delete_means.most_reads;
+  pieces = λ e f snaps ns read nth. delete_means.pieces (delete_at f) f snaps ns read nth;
+  most_fills = delete_means.most_fills;
 }

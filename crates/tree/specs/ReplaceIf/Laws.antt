@@ -1,28 +1,31 @@
 -- The bounds of a replacement: it takes one node, and the others are those of an insert.
-use Rattle.std.proofs.Common.{◌≡◌, ℕ, ◌≤◌, Bool, true, false, if◌then◌else◌, Option, arith}
+use Rattle.std.proofs.Common.{◌≤◌, Bool, true, false, if◌then◌else◌, List, arith}
+use Rattle.ordered_map.specs.declared.pair.Pair.{Pair}
 use Rattle.ordered_map.specs.OrderedMap.{is_value}
+use Rattle.template.specs.declared.walk.Found.{Found}
+use Rattle.edits.specs.declared.edit.Need.{Need}
 use Rattle.edits.specs.declared.edit.Need.TheVariants.{Nothing, One, Three}
-use Rattle.edits.specs.declared.edit.Nth.{Nth}
-use Rattle.edits.specs.declared.edit.Nth.TheVariants.{First, Second, Third}
+use Rattle.edits.specs.declared.edit.Nodes.{Nodes}
+use Rattle.edits.specs.declared.edit.Nth.TheVariants.{First}
 use Rattle.edits.specs.Edits.{EditBounds}
-use Rattle.edits.specs.Pieces.{many_nodes, HasPlace}
+use Rattle.edits.specs.Pieces.{all_fills, many_fills, many_nodes}
 use Rattle.tree.specs.Insert.Laws.{insert_bounds}
-use Rattle.tree.specs.Insert.Means.{insert_need}
-use Rattle.tree.specs.ReplaceIf.Means.{insert_of, replace_means, replace_need}
+use Rattle.tree.specs.Insert.Means.{insert_need, pairs_with, pieces_by_need}
+use Rattle.tree.specs.ReplaceIf.Means.{insert_of, replace_means}
 
 few_nodes : (b : Bool) → many_nodes (if b then One else Nothing) ≤ 1
 few_nodes true = omega arith
 few_nodes false = omega arith
 
--- no replacement needs three nodes
-never_three : (b : Bool) → (if b then One else Nothing) ≡ Three → ⊥
-never_three true e = let d : One ≡ Three = e in cc
-never_three false e = let d : Nothing ≡ Three = e in cc
+-- its first node is a leaf
+first_fills : (need : Need) (ps : List Pair) (f : Found) (ns : Nodes) → many_fills (pieces_by_need need ps f ns First) ≤ 14
+first_fills Nothing ps f ns = omega arith
+first_fills One ps f ns = omega arith
+first_fills Three ps f ns = omega arith
 
-own_place : (v : ℕ) (o : Option ℕ) (nth : Nth) → HasPlace (replace_need v o) nth → HasPlace (insert_need o) nth
-own_place v o First p = tt
-own_place v o Second p = absurd (never_three (is_value v o) p)
-own_place v o Third p = absurd (never_three (is_value v o) p)
+few_fills : (b : Bool) (need : Need) (ps : List Pair) (f : Found) (ns : Nodes) → all_fills (if b then One else Nothing) (pieces_by_need need ps f ns) ≤ 23
+few_fills true need ps f ns = let a = first_fills need ps f ns in omega (arith, a)
+few_fills false need ps f ns = let a = first_fills need ps f ns in omega (arith, a)
 
 pub replace_bounds : EditBounds replace_means
 replace_bounds = record {
@@ -30,7 +33,6 @@ replace_bounds = record {
   small = insert_bounds.small;
   few_nodes = λ e f. few_nodes (is_value e.expected f.value);
   some_nodes = omega arith;
-  few_works = λ e f snaps ld nth. insert_bounds.few_works (insert_of e) f snaps ld nth;
-  load_works = λ e f snaps ld nth part d v. insert_bounds.load_works (insert_of e) f snaps ld nth part d v;
-  fill_works = λ e f snaps ld nth place d ns. insert_bounds.fill_works (insert_of e) f snaps ld nth (own_place e.expected f.value nth place) d ns;
+  few_reads = λ e f snaps x is. insert_bounds.few_reads (insert_of e) f snaps x is;
+  few_fills = λ e f snaps ns read. few_fills (is_value e.expected f.value) (insert_need f) (pairs_with e.key e.value f read) f ns;
 }

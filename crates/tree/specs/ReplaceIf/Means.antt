@@ -1,4 +1,4 @@
--- What a replacement needs, looks at, loads and fills: where the key has the value that it expects,
+-- What a replacement needs, looks at, reads and fills: where the key has the value that it expects,
 -- what an insert of the key does.
 use Rattle.std.specs.Prelude.{ℕ, if◌then◌else◌, Option}
 use Rattle.ordered_map.specs.OrderedMap.{Insert as PutEdit, is_value}
@@ -29,9 +29,8 @@ replace_means = record {
   side = λ e f. insert_means.side (insert_of e) f;
   looks = λ e f snaps. insert_means.looks (insert_of e) f snaps;
   most_looks = insert_means.most_looks;
-  copies = λ e f snaps. insert_means.copies (insert_of e) f snaps;
-  wants = λ e f snaps ld nth. insert_means.wants (insert_of e) f snaps ld nth;
-  pieces = λ e f snaps ns ld nth. insert_means.pieces (insert_of e) f snaps ns ld nth;
-  works = λ e f snaps ld nth. insert_means.works (insert_of e) f snaps ld nth;
-  most_works = insert_means.most_works;
+  reads = λ e f snaps. insert_means.reads (insert_of e) f snaps;
+  most_reads = insert_means.most_reads;
+  pieces = λ e f snaps ns read nth. insert_means.pieces (insert_of e) f snaps ns read nth;
+  most_fills = insert_means.most_fills;
 }

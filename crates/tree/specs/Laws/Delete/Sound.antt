@@ -1,19 +1,22 @@
--- What a delete looks at, loads and fills, and that it makes the edit.
-use Rattle.std.proofs.Common.{◌≡◌, ◌≢◌, ℕ, zero, suc, ◌+◌, ◌*◌, ◌/◌, ◌%◌, ◌^◌, ◌<◌, ◌≤◌, ◌⊎◌, inr, ⊎_elim, Bool, true, false, ◌==◌, eqb-true, eq-eqb, ne_eqb, if◌then◌else◌, List, [], ◌∷◌, length, Option, Some, None, refl, sym, ◌∙◌, ap, subst, arith, IsTrue}
-use Rattle.std.specs.Prelude.{unwrap_or, IsTrue}
+-- What a delete looks at, reads and fills, and that it makes the edit.
+use Rattle.std.proofs.Common.{◌≡◌, ◌≢◌, ℕ, zero, suc, ◌+◌, ◌*◌, ◌/◌, ◌%◌, ◌^◌, ◌<◌, ◌≤◌, ◌⊎◌, inl, inr, ⊎_elim, Bool, true, false, ◌==◌, eqb-true, eq-eqb, ne_eqb, lt-ltb, if◌then◌else◌, List, [], ◌∷◌, length, take, Option, Some, None, refl, sym, ◌∙◌, ap, subst, arith, IsTrue}
+use Rattle.std.specs.Prelude.{unwrap_or, IfSome, IsTrue}
+use Rattle.std.proofs.Math.Decide.{dec_lt}
+use Rattle.std.proofs.lemmas.Bool.{ltb-true}
 use Rattle.std.proofs.lemmas.Nat.{mul-le}
 use native.Mathlib.Decide.{ℕ_discrete}
+use Rattle.arena.specs.declared.head.Head.{Head as HeadParts}
 use Rattle.arena.specs.declared.number.NodeNo.{NodeNo}
 use Rattle.arena.specs.declared.number.ScxNo.{ScxNo}
-use Rattle.arena.specs.declared.word.NodeWord.{NodeWord}
 use Rattle.arena.specs.declared.word.NodeWord.TheVariants.{Settled, Child}
-use Rattle.arena.specs.declared.word.SettledPart.TheVariants.{Head}
+use Rattle.arena.specs.declared.word.SettledPart.TheVariants.{Head, Key}
 use Rattle.arena.specs.declared.word.Side.{Side}
 use Rattle.arena.specs.declared.word.Side.TheVariants.{Left, Right}
-use Rattle.arena.specs.Fills.{IsInField, IsNamed}
+use Rattle.arena.specs.declared.word.Slot.{Slot}
+use Rattle.arena.specs.declared.word.Slot.TheVariants.{First as FirstSlot}
+use Rattle.arena.specs.Fills.{IsInField}
 use Rattle.arena.specs.Heads.{head_of, head_word}
 use Rattle.arena.specs.History.{History, value, Extends}
-use Rattle.arena.specs.Lawful.{IsSettled}
 use Rattle.arena.specs.Machines.{Call}
 use Rattle.arena.specs.ScxRecords.{bit, count, member}
 use Rattle.arena.specs.TakenNodes.{taken_nodes}
@@ -27,79 +30,49 @@ use Rattle.prims.specs.Scx.Known.{Job, Says}
 use Rattle.prims.specs.Snap.{child_of, snap_at}
 use Rattle.prims.specs.Snaps.{AreDistinct}
 use Rattle.prims.specs.declared.snap.Snap.{Snap}
-use Rattle.ordered_map.specs.OrderedMap.{pair, Delete as TakeEdit}
-use Rattle.ordered_map.specs.Holding.{HasOnePair, IsWellCounted}
+use Rattle.ordered_map.specs.declared.pair.Pair.{Pair}
+use Rattle.ordered_map.specs.OrderedMap.{AllBelow, Delete as TakeEdit, IsRising, delete, pair}
+use Rattle.ordered_map.specs.Holding.{held_pairs, IsWellCounted}
 use Rattle.ordered_map.specs.Paths.{WasInTree}
 use Rattle.ordered_map.specs.Runs.{IsTreeRun}
 use Rattle.ordered_map.specs.TreeShape.{join_plan, edit_leaf, leaf_place, sibling_place}
 use Rattle.ordered_map.specs.TreeWords.{class, is_leaf, level, toward}
-use Rattle.ordered_map.proofs.Lemmas.{counted_one, held_one, root_head, run_since, settled_toward, stood_blank, stood_counted, stood_depth, stood_settled, was_passed}
+use Rattle.ordered_map.proofs.Lemmas.{counted_few, held_count, held_first, root_head, run_since, settled_toward, stood_blank, stood_counted, stood_depth, stood_settled, was_passed}
 use Rattle.template.specs.FoundLeaf.{HasFoundLeaf}
 use Rattle.template.specs.FreshNodes.{IsJoinAt, HasFreshCopy}
-use Rattle.template.specs.Promises.{IsPromised, IsSnapOf}
+use Rattle.template.specs.Promises.{IsPromised, IsSnapOf, HasFreshEdit}
 use Rattle.template.specs.Trails.{HasTurned}
 use Rattle.template.specs.declared.walk.Found.{Found}
 use Rattle.template.specs.declared.walk.Goal.TheVariants.{Key as ToKey}
-use Rattle.template.proofs.Lemmas.{found_below, join_promised, said_low, opened_if_stood}
+use Rattle.template.specs.Blame.{IsContended, WasNotFinal}
+use Rattle.template.proofs.Lemmas.{edit_promised, found_below, found_level, join_promised, said_low, opened_if_stood}
+use Rattle.tree.specs.LeafEdit.{HasLookedBy, leaf_looks, leaf_reads}
 use Rattle.tree.specs.declared.delete.Delete.{Delete}
 use Rattle.tree.specs.Delete.Laws.{delete_bounds}
-use Rattle.tree.specs.Delete.Means.{delete_means, delete_need, delete_looks, delete_wants, delete_piece, sibling_of, sibling_copy, copy_wants, then_key}
+use Rattle.tree.specs.Delete.Means.{copied_pairs, copy_with, delete_means, delete_need, delete_looks, delete_reads, has_more, join_looks, sibling_of, sibling_copy}
 use Rattle.tree.specs.Laws.Delete.Shown.{shown_stood, shown_rises, shown_apart}
-use Rattle.tree.specs.Laws.Insert.Sound.{head_is}
+use Rattle.tree.specs.Laws.LeafLooks.{HasBoth, class_is, has_both, held_is, is_leaf_edit, leaf_begins, leaf_covered, leaf_differs, leaf_distinct, leaf_opens, leaf_stood, many, pairs_are}
 use Rattle.tree.specs.Laws.Looks.{same_node, goes_on, not_enough, is_other}
-use Rattle.edits.specs.declared.edit.Loaded.{Loaded}
+use Rattle.tree.specs.Laws.PairLists.{delete_least, delete_most}
 use Rattle.edits.specs.declared.edit.Look.TheVariants.{At, Differs, Enough}
 use Rattle.edits.specs.declared.edit.Need.TheVariants.{Nothing}
 use Rattle.edits.specs.declared.edit.Nodes.{Nodes}
-use Rattle.edits.specs.declared.edit.Nth.{Nth}
-use Rattle.edits.specs.declared.edit.Nth.TheVariants.{First, Second, Third}
-use Rattle.edits.specs.declared.edit.Piece.TheVariants.{Leaf, Fork}
-use Rattle.template.specs.Blame.{IsContended, WasNotFinal}
-use Rattle.edits.specs.Known.{IsBelowRoot, ComesBefore, IsNeeded, IsLoaded, HasSnappedAfterWalk, AreSeen, HasLooked, HasFilledAll, IsUpdateFor}
+use Rattle.edits.specs.declared.edit.Nth.TheVariants.{First}
+use Rattle.edits.specs.declared.piece.Piece.TheVariants.{Leaf, Fork}
+use Rattle.edits.specs.declared.reading.Reading.{Reading}
+use Rattle.edits.specs.Known.{IsNeeded, HasSnappedAfterWalk, HasLooked, HasFilledAll, HoldsPiece, IsUpdateFor, MayRead}
 use Rattle.edits.specs.Laws.Contended.{passed_not_final, shown_not_final, turned_contended}
-use Rattle.edits.specs.Laws.PieceFills.{HoldsFills, piece_one}
-use Rattle.edits.specs.Pieces.{fills_of, fills_word, piece_head, plan_over, top_of, word_of}
+use Rattle.edits.specs.Laws.PieceFills.{HoldsWords, the_same}
+use Rattle.edits.specs.Pairs.{pair_at}
+use Rattle.edits.specs.Pieces.{is_filled, piece_head, plan_over, top_of, word_of}
+use Rattle.edits.specs.Readings.{is_leaf_read, next_read, nothing_read, slot_read}
 use Rattle.edits.specs.Tries.{CoversSnaps}
-use Rattle.edits.specs.Sound.{LooksWell, LoadsWell, FillsWell, MakesWell, EditLaws}
+use Rattle.edits.specs.Sound.{LooksWell, FillsWell, MakesWell, EditLaws}
+use Rattle.edits.proofs.Lemmas.{IsLeafWith, fork_read, head_is, head_read, leaf_read, leaf_with, unread}
 
--- What it loads
-
--- a word that is loaded, if one is, is settled
-abbrev IsSettledWord : Option NodeWord → Type 0
-IsSettledWord None = Unit {0}
-IsSettledWord (Some part) = (n : ℕ) → IsSettled (node n part)
-
-key_settled : (low leaf : Bool) (k v : Option ℕ) → IsSettledWord (if low then then_key leaf k v else None)
-key_settled false leaf k v = tt
-key_settled true leaf None v = λ n. tt
-key_settled true true (Some k) None = λ n. tt
-key_settled true true (Some k) (Some v) = tt
-key_settled true false (Some k) v = tt
-
-copy_settled : (o k v : Option ℕ) → IsSettledWord (copy_wants o k v)
-copy_settled None k v = λ n. tt
-copy_settled (Some w) k v = key_settled ((head_of w).class == 0) (head_of w).leaf k v
-
-wants_settled : (ld : Loaded) (nth : Nth) (part : NodeWord) → delete_wants ld nth ≡ Some part → (n : ℕ) → IsSettled (node n part)
-wants_settled ld First part e = subst IsSettledWord e (copy_settled ld.head ld.key ld.value)
-wants_settled ld Second part e = absurd (let d : None ≡ Some part = e in cc)
-wants_settled ld Third part e = absurd (let d : None ≡ Some part = e in cc)
-
--- it loads for its first node alone
-none_before : (ld : Loaded) (nth i : Nth) (part : NodeWord) → delete_wants ld nth ≡ Some part → ComesBefore i nth → ⊥
-none_before ld First First part e b = b
-none_before ld First Second part e b = b
-none_before ld First Third part e b = b
-none_before ld Second i part e b = let d : None ≡ Some part = e in cc
-none_before ld Third i part e b = let d : None ≡ Some part = e in cc
-
--- it loads settled words
-pub delete_loads : LoadsWell delete_means
-delete_loads = record {
-  settled = λ e f snaps ld nth part d n. wants_settled ld nth part d n;
-  steady_wants = λ e f snaps ld nth part d v i b. absurd (none_before ld nth i part d b);
-  steady_pieces = λ e f snaps ld nth part d v i b ns. absurd (none_before ld nth i part d b);
-}
+-- the snapshots are of the nodes that the looks name which are to take a leaf out
+abbrev JoinSeen : Found → List Snap → Type 0
+JoinSeen f snaps = (i : ℕ) → i < length snaps → join_looks f (take i snaps) ≡ At (snap_at snaps i).node
 
 -- What it looks at
 
@@ -110,13 +83,13 @@ key_there (Some v) d = (v, refl)
 
 -- the snapshots are those of the fork above the parent, which still is its child, and of the
 -- parent, of which the leaf still is a child
-seen_grand : (ed : Delete) (f : Found) (g : Snap) (snaps : List Snap) → AreSeen delete_means ed f (g ∷ snaps) → f.trail.grand ≡ g.node
+seen_grand : (ed : Delete) (f : Found) (g : Snap) (snaps : List Snap) → JoinSeen f (g ∷ snaps) → f.trail.grand ≡ g.node
 seen_grand ed f g snaps x = same_node f.trail.grand g.node (x 0 (omega arith))
 
-seen_parent : (ed : Delete) (f : Found) (g p : Snap) (snaps : List Snap) → AreSeen delete_means ed f (g ∷ p ∷ snaps) → IsTrue ((child_of g f.trail.grand_side).0 == f.trail.parent.0) × (f.trail.parent ≡ p.node)
+seen_parent : (ed : Delete) (f : Found) (g p : Snap) (snaps : List Snap) → JoinSeen f (g ∷ p ∷ snaps) → IsTrue ((child_of g f.trail.grand_side).0 == f.trail.parent.0) × (f.trail.parent ≡ p.node)
 seen_parent ed f g p snaps x = goes_on ((child_of g f.trail.grand_side).0 == f.trail.parent.0) f.trail.parent g p.node (x 1 (omega arith))
 
-seen_left : (ed : Delete) (f : Found) (g p l : Snap) (snaps : List Snap) → AreSeen delete_means ed f (g ∷ p ∷ l ∷ snaps) → IsTrue ((child_of p f.trail.side).0 == f.trail.node.0) × (p.left ≡ l.node)
+seen_left : (ed : Delete) (f : Found) (g p l : Snap) (snaps : List Snap) → JoinSeen f (g ∷ p ∷ l ∷ snaps) → IsTrue ((child_of p f.trail.side).0 == f.trail.node.0) × (p.left ≡ l.node)
 seen_left ed f g p l snaps x = goes_on ((child_of p f.trail.side).0 == f.trail.node.0) p.left p l.node (x 2 (omega arith))
 
 module _ (ed : Delete) (c : Call) (h : History) (f : Found) (run : IsTreeRun c.layout h) (needed : delete_need f.value ≢ Nothing) where
@@ -124,10 +97,10 @@ module _ (ed : Delete) (c : Call) (h : History) (f : Found) (run : IsTreeRun c.l
   there = key_there f.value needed
 
   grand_turned : (m : History) → IsTreeRun c.layout m → HasFoundLeaf c m ed.key f → HasTurned c m ed.key f.trail.grand.0 f.trail.grand_side f.trail.parent.0
-  grand_turned m r a = a.trail.grand (found_below ed.key c m f r a) (λ z. a.trail.high (found_below ed.key c m f r a) z a.leaf (said_low (value m) ed.key f.trail.node.0 there.0 (sym there.1 ∙ a.says)))
+  grand_turned m r a = a.trail.grand (found_below (ToKey ed.key) c m f r a) (λ z. a.trail.high (found_below (ToKey ed.key) c m f r a) z a.leaf (said_low (value m) ed.key f.trail.node.0 there.0 (sym there.1 ∙ a.says)))
 
   parent_turned : (m : History) → IsTreeRun c.layout m → HasFoundLeaf c m ed.key f → HasTurned c m ed.key f.trail.parent.0 f.trail.side f.trail.node.0
-  parent_turned m r a = a.trail.parent (found_below ed.key c m f r a)
+  parent_turned m r a = a.trail.parent (found_below (ToKey ed.key) c m f r a)
 
   -- the call had turned at both as it took their snapshots
   grand_snap : (s : Snap) (u : HasSnappedAfterWalk c h (ToKey ed.key) f s) → s.node.0 ≡ f.trail.grand.0 → HasTurned c u.moment ed.key s.node.0 f.trail.grand_side f.trail.parent.0
@@ -148,7 +121,7 @@ module _ (ed : Delete) (c : Call) (h : History) (f : Found) (run : IsTreeRun c.l
   same_no a b e = ap (λ (n : NodeNo). n.0) (sym e)
 
   -- each node at which it looks stood in the tree
-  looks_stood : (snaps : List Snap) (n : NodeNo) → HasLooked delete_means c h ed f snaps → delete_looks f snaps ≡ At n → WasInTree h n.0
+  looks_stood : (snaps : List Snap) (n : NodeNo) → HasLookedBy join_looks c h ed.key f snaps → join_looks f snaps ≡ At n → WasInTree h n.0
   looks_stood [] n x e = let t = grand_turned h run x.found in subst (λ (k : NodeNo). WasInTree h k.0) (same_node f.trail.grand n e) (was_passed h t.passed.first ed.key f.trail.grand.0 t.passed.passed)
   looks_stood (g ∷ []) n x e =
       let t = parent_turned h run x.found in
@@ -162,7 +135,7 @@ module _ (ed : Delete) (c : Call) (h : History) (f : Found) (run : IsTreeRun c.l
   looks_stood (g ∷ p ∷ l ∷ r ∷ snaps) n x e = absurd (let d : Enough ≡ At n = e in cc)
 
   -- and was not final
-  looks_not_final : (snaps : List Snap) (n : NodeNo) → HasLooked delete_means c h ed f snaps → delete_looks f snaps ≡ At n → WasNotFinal c h n.0
+  looks_not_final : (snaps : List Snap) (n : NodeNo) → HasLookedBy join_looks c h ed.key f snaps → join_looks f snaps ≡ At n → WasNotFinal c h n.0
   looks_not_final [] n x e = subst (λ (k : NodeNo). WasNotFinal c h k.0) (same_node f.trail.grand n e) (passed_not_final c h ed.key f.trail.grand.0 run (grand_turned h run x.found).passed)
   looks_not_final (g ∷ []) n x e =
       subst (λ (k : NodeNo). WasNotFinal c h k.0) (goes_on ((child_of g f.trail.grand_side).0 == f.trail.parent.0) f.trail.parent g n e).1
@@ -179,7 +152,7 @@ module _ (ed : Delete) (c : Call) (h : History) (f : Found) (run : IsTreeRun c.l
   other_child a b e q = let d : false ≡ true = sym e ∙ eq-eqb a b q in cc
 
   -- where one of the two forks has another child, its last SCX-record was in the way
-  looks_differ : (snaps : List Snap) (n : NodeNo) (s : ScxNo) → HasLooked delete_means c h ed f snaps → delete_looks f snaps ≡ Differs n s → IsQuietSince c.layout c.pass c.start h → IsContended c h n.0 s.0
+  looks_differ : (snaps : List Snap) (n : NodeNo) (s : ScxNo) → HasLookedBy join_looks c h ed.key f snaps → join_looks f snaps ≡ Differs n s → IsQuietSince c.layout c.pass c.start h → IsContended c h n.0 s.0
   looks_differ [] n s x e quiet = absurd (let d : At f.trail.grand ≡ Differs n s = e in cc)
   looks_differ (g ∷ []) n s x e quiet =
       let o = is_other ((child_of g f.trail.grand_side).0 == f.trail.parent.0) f.trail.parent g n s e in
@@ -203,7 +176,7 @@ pub record HasFour (f : Found) (snaps : List Snap) : Type 0 where
   left : (snap_at snaps 2).node.0 ≡ (snap_at snaps 1).left.0
   right : (snap_at snaps 3).node.0 ≡ (snap_at snaps 1).right.0
 
-pub has_four : (ed : Delete) (f : Found) (snaps : List Snap) → delete_looks f snaps ≡ Enough → AreSeen delete_means ed f snaps → HasFour f snaps
+pub has_four : (ed : Delete) (f : Found) (snaps : List Snap) → join_looks f snaps ≡ Enough → JoinSeen f snaps → HasFour f snaps
 has_four ed f [] e x = absurd (let d : At f.trail.grand ≡ Enough = e in cc)
 has_four ed f (g ∷ []) e x = absurd (not_enough ((child_of g f.trail.grand_side).0 == f.trail.parent.0) f.trail.parent g e)
 has_four ed f (g ∷ p ∷ []) e x = absurd (not_enough ((child_of p f.trail.side).0 == f.trail.node.0) p.left p e)
@@ -227,14 +200,14 @@ few_places Left = omega arith
 few_places Right = omega arith
 
 -- a snapshot that is there may be used
-pub usable_at : (ed : Delete) (c : Call) (h : History) (f : Found) (snaps : List Snap) (i : ℕ) → i < 4 → HasFour f snaps → HasLooked delete_means c h ed f snaps → HasSnappedAfterWalk c h (ToKey ed.key) f (snap_at snaps i)
+pub usable_at : (ed : Delete) (c : Call) (h : History) (f : Found) (snaps : List Snap) (i : ℕ) → i < 4 → HasFour f snaps → HasLookedBy join_looks c h ed.key f snaps → HasSnappedAfterWalk c h (ToKey ed.key) f (snap_at snaps i)
 usable_at ed c h f snaps i p four x = x.usable i (rw four.four p)
 
-linked_at : (ed : Delete) (c : Call) (h : History) (f : Found) (snaps : List Snap) (i : ℕ) → IsTreeRun c.layout h → i < 4 → HasFour f snaps → HasLooked delete_means c h ed f snaps → IsLinked c.layout h (snap_at snaps i)
+linked_at : (ed : Delete) (c : Call) (h : History) (f : Found) (snaps : List Snap) (i : ℕ) → IsTreeRun c.layout h → i < 4 → HasFour f snaps → HasLookedBy join_looks c h ed.key f snaps → IsLinked c.layout h (snap_at snaps i)
 linked_at ed c h f snaps i run p four x = let u = usable_at ed c h f snaps i p four x in linked_since c.layout h u.moment (snap_at snaps i) run.1.lawful u.within u.is.linked
 
 -- the leaf's sibling stood in the tree
-sibling_stood : (ed : Delete) (c : Call) (h : History) (f : Found) (snaps : List Snap) → IsTreeRun c.layout h → delete_need f.value ≢ Nothing → HasFour f snaps → HasLooked delete_means c h ed f snaps → WasInTree h (sibling_of f snaps).node.0
+sibling_stood : (ed : Delete) (c : Call) (h : History) (f : Found) (snaps : List Snap) → IsTreeRun c.layout h → delete_need f.value ≢ Nothing → HasFour f snaps → HasLookedBy join_looks c h ed.key f snaps → WasInTree h (sibling_of f snaps).node.0
 sibling_stood ed c h f snaps run d four x = go f.trail.side
   where
     shown : (side : Side) → WasInTree h (child_of (snap_at snaps 1) side).0
@@ -245,7 +218,7 @@ sibling_stood ed c h f snaps run d four x = go f.trail.side
     go Right = subst (WasInTree h) (sym four.left) (shown Left)
 
 -- and is not the root: it is below another node
-sibling_below : (ed : Delete) (c : Call) (h : History) (f : Found) (snaps : List Snap) → IsTreeRun c.layout h → delete_need f.value ≢ Nothing → HasFour f snaps → HasLooked delete_means c h ed f snaps → (sibling_of f snaps).node.0 ≢ 0
+sibling_below : (ed : Delete) (c : Call) (h : History) (f : Found) (snaps : List Snap) → IsTreeRun c.layout h → delete_need f.value ≢ Nothing → HasFour f snaps → HasLookedBy join_looks c h ed.key f snaps → (sibling_of f snaps).node.0 ≢ 0
 sibling_below ed c h f snaps run d four x = go f.trail.side
   where
     shown : (side : Side) → (child_of (snap_at snaps 1) side).0 ≢ 0
@@ -260,25 +233,16 @@ sibling_below ed c h f snaps run d four x = go f.trail.side
     go Left z = shown Right (sym four.right ∙ z)
     go Right z = shown Left (sym four.left ∙ z)
 
-delete_copied : (ed : Delete) (c : Call) (h : History) (f : Found) (snaps : List Snap) → IsTreeRun c.layout h → delete_need f.value ≢ Nothing → HasLooked delete_means c h ed f snaps → delete_looks f snaps ≡ Enough → IsNamed c.layout h (sibling_of f snaps).node.0 × IsBelowRoot c.layout (sibling_of f snaps).node.0
-delete_copied ed c h f snaps run d x enough =
+-- so it may be read from its head on
+sibling_begins : (ed : Delete) (c : Call) (h : History) (f : Found) (snaps : List Snap) → IsTreeRun c.layout h → delete_need f.value ≢ Nothing → HasLookedBy join_looks c h ed.key f snaps → join_looks f snaps ≡ Enough → MayRead c.layout h (sibling_of f snaps).node.0 nothing_read
+sibling_begins ed c h f snaps run d x enough =
     let four : HasFour f snaps = has_four ed f snaps enough x.seen in
     let o : IsOpened c.layout h (sibling_of f snaps).node.0 = opened_if_stood c.layout h (sibling_of f snaps).node.0 run (sibling_stood ed c h f snaps run d four x) in
-    (in_field_named (sibling_of f snaps).node.0 o.in_field, (sibling_below ed c h f snaps run d four x, o.inside))
-
--- an LLX may look at the four nodes, which were not final, the sibling may be copied, and where one
--- of the two forks has another child its last SCX-record was in the way
-pub delete_look : LooksWell delete_means
-delete_look = record {
-  opens = λ e c h f snaps n run d x at. opened_if_stood c.layout h n.0 run (looks_stood e c h f run d snaps n x at);
-  stood = λ e c h f snaps n run d x at. looks_not_final e c h f run d snaps n x at;
-  differs = λ e c h f snaps n s run d x at quiet. looks_differ e c h f run d snaps n s x at quiet;
-  copied = λ e c h f snaps run d x enough. delete_copied e c h f snaps run d x enough;
-}
+    record { named = in_field_named (sibling_of f snaps).node.0 o.in_field; inside = (sibling_below ed c h f snaps run d four x, o.inside); is = unread (value h) (sibling_of f snaps).node.0 }
 
 -- the levels rise from the fork above to the parent, and from there to its children, which are
 -- apart
-module _ (ed : Delete) (c : Call) (h : History) (f : Found) (snaps : List Snap) (run : IsTreeRun c.layout h) (needed : delete_need f.value ≢ Nothing) (four : HasFour f snaps) (x : HasLooked delete_means c h ed f snaps) where
+module _ (ed : Delete) (c : Call) (h : History) (f : Found) (snaps : List Snap) (run : IsTreeRun c.layout h) (needed : delete_need f.value ≢ Nothing) (four : HasFour f snaps) (x : HasLookedBy join_looks c h ed.key f snaps) where
   abbrev at_place : ℕ → ℕ
   at_place i = (snap_at snaps i).node.0
 
@@ -328,189 +292,15 @@ module _ (ed : Delete) (c : Call) (h : History) (f : Found) (snaps : List Snap) 
   four_apart : AreDistinct snaps
   four_apart i j p q d e = ⊎_elim (λ less. differ i j less (rw four.four at q) e) (λ less. differ j i less (rw four.four at p) (sym e)) (either i j d)
 
--- What it fills
-
--- the fields of a copied fork are those of the snapshot
-pub copy_fields : (leaf : Bool) (level class k v : ℕ) (s : Snap) (side : Side) → fills_word (fills_of (if leaf then Leaf level class k v else Fork level class k s.left s.right)) (Child side) ≡ true → (child_of s side).0 ≡ word_of (if leaf then Leaf level class k v else Fork level class k s.left s.right) (Child side)
-copy_fields true level class k v s side p = absurd (let z : false ≡ true = p in cc)
-copy_fields false level class k v s Left p = refl
-copy_fields false level class k v s Right p = refl
-
-delete_fields : (ed : Delete) (c : Call) (h : History) (f : Found) (snaps : List Snap) (ld : Loaded) (side : Side) → IsTreeRun c.layout h → HasLooked delete_means c h ed f snaps → delete_looks f snaps ≡ Enough → fills_word (fills_of (delete_piece f snaps ld)) (Child side) ≡ true → IsInField c.layout h (word_of (delete_piece f snaps ld) (Child side))
-delete_fields ed c h f snaps ld side run x enough p =
-    let s : Snap = sibling_of f snaps in
-    let l : IsLinked c.layout h s = linked_at ed c h f snaps (sibling_place f.trail.side) run (few_places f.trail.side) (has_four ed f snaps enough x.seen) x in
-    let w : ℕ = unwrap_or ld.head 0 in
-    subst (IsInField c.layout h) (copy_fields (head_of w).leaf (head_of w).level (head_of w).class (unwrap_or ld.key 0) (unwrap_or ld.value 0) s side p)
-    (inr (s.node.0, side, in_field_named s.node.0 l.in_field, l.had side))
-
--- the fields of its copy hold what the sibling's have held
-pub delete_fills : FillsWell delete_means
-delete_fills = record { fields = λ e c h f snaps ns ld nth side run x enough n p. inr (delete_fields e c h f snaps ld side run x enough p) }
-
--- What it makes
-
--- once nothing more is to be loaded, the head is loaded
-pub loaded_head : (o k v : Option ℕ) (w : ℕ) → copy_wants o k v ≡ None → IsLoaded o w → o ≡ Some w
-loaded_head None k v w e is = absurd (let d : Some (Settled Head) ≡ None = e in cc)
-loaded_head (Some z) k v w e is = ap Some is
-
--- so is the key of a low node
-low_key : (low leaf : Bool) (k v : Option ℕ) (w : ℕ) → (if low then then_key leaf k v else None) ≡ None → low ≡ true → IsLoaded k w → unwrap_or k 0 ≡ w
-low_key true leaf (Some z) v w e t is = is
-low_key true leaf None v w e t is = absurd (let d : Some first_key ≡ None = e in cc)
-low_key false leaf k v w e t is = absurd (let d : false ≡ true = t in cc)
-
--- and the value of a low leaf
-low_value : (low leaf : Bool) (k v : Option ℕ) (w : ℕ) → (if low then then_key leaf k v else None) ≡ None → low ≡ true → leaf ≡ true → IsLoaded v w → unwrap_or v 0 ≡ w
-low_value true true (Some z) (Some y) w e t l is = is
-low_value true true (Some z) None w e t l is = absurd (let d : Some first_value ≡ None = e in cc)
-low_value true true None v w e t l is = absurd (let d : Some first_key ≡ None = e in cc)
-low_value true false k v w e t l is = absurd (let d : false ≡ true = l in cc)
-low_value false leaf k v w e t l is = absurd (let d : false ≡ true = t in cc)
-
--- what is not loaded of a blank node is taken to be 0
-blank_word : (o : Option ℕ) (w : ℕ) → IsLoaded o w → w ≡ 0 → unwrap_or o 0 ≡ 0
-blank_word (Some z) w is e = is ∙ e
-blank_word None w is e = refl
-
--- the word of a head that was read is that word
-bit_back : (b : ℕ) → b < 2 → bit (b == 1) ≡ b
-bit_back b few = go (ℕ_discrete b 1)
-  where
-    go : Dec (b ≡ 1) → bit (b == 1) ≡ b
-    go (yes e) = rw e refl
-    go (no d) = rw (ne_eqb b 1 d) (omega (arith, few, d))
-
-head_back : (w : ℕ) → w / 8 < 2 ^ 61 → piece_head (w / 8) (w / 4 % 2 == 1) (w % 4) ≡ w
-head_back w fits = head_is (w / 8) (w % 4) (w / 4 % 2 == 1) fits (omega arith) ∙ whole
-  where
-    whole : head_word (head_of w) ≡ w
-    whole = let b : bit (w / 4 % 2 == 1) ≡ w / 4 % 2 = bit_back (w / 4 % 2) (omega arith) in omega (arith, b)
-
--- what a copy holds that is filled
-record HoldsCopy (h : History) (n : ℕ) (leaf : Bool) (level class k v : ℕ) (s : Snap) : Type 0 where
-  head : value h (node n (Settled Head)) ≡ piece_head level leaf class
-  key : value h (node n first_key) ≡ k
-  leaf_value : leaf ≡ true → value h (node n first_value) ≡ v
-  fields : leaf ≡ false → (side : Side) → value h (child n side) ≡ (child_of s side).0
-  unfilled : leaf ≡ false → value h (node n first_value) ≡ 0
-  one : HasOnePair (value h) n
-
-copy_holds : (leaf : Bool) (h : History) (n level class k v : ℕ) (s : Snap) → HoldsFills h n (fills_of (if leaf then Leaf level class k v else Fork level class k s.left s.right)) → HoldsCopy h n leaf level class k v s
-copy_holds true h n level class k v s w = record { head = w (Settled Head) tt; key = w first_key tt; leaf_value = λ e. w first_value tt; fields = λ e side. absurd (let d : true ≡ false = e in cc); unfilled = λ e. absurd (let d : true ≡ false = e in cc); one = piece_one h n (Leaf level class k v) w }
-copy_holds false h n level class k v s w = record { head = w (Settled Head) tt; key = w first_key tt; leaf_value = λ e. absurd (let d : false ≡ true = e in cc); fields = λ e side. go side; unfilled = λ e. w first_value tt; one = piece_one h n (Fork level class k s.left s.right) w }
-  where
-    go : (side : Side) → value h (child n side) ≡ (child_of s side).0
-    go Left = w (Child Left) tt
-    go Right = w (Child Right) tt
-
--- the plan word of four is that of taking a leaf out
-plan_four : (n : ℕ) (side : Side) → n ≡ 4 → plan_over n side ≡ join_plan side
-plan_four n Left e = rw e refl
-plan_four n Right e = rw e refl
-
-module _ (ed : Delete) (c : Call) (h : History) (f : Found) (snaps : List Snap) (ns : Nodes) (ld : Loaded) (run : IsTreeRun c.layout h) (needed : delete_need f.value ≢ Nothing) (x : HasFilledAll delete_means c h ed f snaps ns ld) where
-  abbrev four : HasFour f snaps
-  four = has_four ed f snaps x.enough x.looked.seen
-
-  abbrev sibling : Snap
-  sibling = sibling_of f snaps
-
-  present : (old : ℕ) × (f.value ≡ Some old)
-  present = key_there f.value needed
-
-  one : IsNeeded (delete_need f.value) First
-  one = subst (λ o. IsNeeded (delete_need o) First) (sym present.1) tt
-
-  in_tree : WasInTree h sibling.node.0
-  in_tree = sibling_stood ed c h f snaps run needed four x.looked
-
-  -- the copy
-  abbrev w : ℕ
-  w = value h (node sibling.node.0 (Settled Head))
-
-  fits : w / 8 < 2 ^ 61
-  fits =
-      let deep : level (value h) sibling.node.0 < 2 + length (taken_nodes h) = stood_depth c.layout h sibling.node.0 run in_tree in
-      let few : length (taken_nodes h) ≤ c.layout.passes * c.layout.nodes = taken_few c.layout h run.1.lawful in
-      let most : c.layout.passes * c.layout.nodes ≤ 32 * 32768 = mul-le c.layout.passes c.layout.nodes 32 32768 c.layout.passes_fit c.layout.nodes_fit in
-      omega (arith, deep, few, most)
-
-  is_head : ld.head ≡ Some w
-  is_head = loaded_head ld.head ld.key ld.value w (x.done First one) x.loaded.head
-
-  all_loaded : copy_wants (Some w) ld.key ld.value ≡ None
-  all_loaded = subst (λ (o : Option ℕ). copy_wants o ld.key ld.value ≡ None) is_head (x.done First one)
-
-  held_words : HoldsCopy h ns.first.0 (head_of w).leaf (head_of w).level (head_of w).class (unwrap_or ld.key 0) (unwrap_or ld.value 0) sibling
-  held_words = copy_holds (head_of w).leaf h ns.first.0 (head_of w).level (head_of w).class (unwrap_or ld.key 0) (unwrap_or ld.value 0) sibling
-      (subst (λ (o : Option ℕ). HoldsFills h ns.first.0 (fills_of (sibling_copy sibling (head_of (unwrap_or o 0)) ld))) is_head (x.holds First one).words)
-
-  -- its key and value are loaded if it is of class 0
-  low_key_loaded : class (value h) sibling.node.0 ≡ 0 → value h (node ns.first.0 first_key) ≡ value h (node sibling.node.0 first_key)
-  low_key_loaded low = held_words.key ∙ low_key ((head_of w).class == 0) (head_of w).leaf ld.key ld.value (value h (node sibling.node.0 first_key)) all_loaded (eq-eqb (head_of w).class 0 low) x.loaded.key
-
-  low_value_loaded : is_leaf (value h) sibling.node.0 ≡ true → class (value h) sibling.node.0 ≡ 0 → value h (node ns.first.0 first_value) ≡ value h (node sibling.node.0 first_value)
-  low_value_loaded leaf low = held_words.leaf_value leaf ∙ low_value ((head_of w).class == 0) (head_of w).leaf ld.key ld.value (value h (node sibling.node.0 first_value)) all_loaded (eq-eqb (head_of w).class 0 low) leaf x.loaded.value
-
-  -- and its key is 0 if it is above all keys
-  copied_key : Dec (class (value h) sibling.node.0 ≡ 0) → value h (node ns.first.0 first_key) ≡ value h (node sibling.node.0 first_key)
-  copied_key (yes low) = low_key_loaded low
-  copied_key (no high) =
-      let blank : value h (node sibling.node.0 first_key) ≡ 0 = stood_blank c.layout h sibling.node.0 run in_tree high in
-      held_words.key ∙ blank_word ld.key (value h (node sibling.node.0 first_key)) x.loaded.key blank ∙ sym blank
-
-  copied_one : IsWellCounted (value h) ns.first.0
-  copied_one = counted_one (value h) ns.first.0 held_words.one
-
-  copy : HasFreshCopy c.layout c.pass h sibling ns.first.0
-  copy = record {
-    fresh = (x.holds First one).fresh;
-    copy = record {
-      same_head = held_words.head ∙ head_back w fits;
-      same_key = copied_key (ℕ_discrete (class (value h) sibling.node.0) 0);
-      same_pairs = λ leaf low. (copied_one, held_one (value h) ns.first.0 copied_one ∙ (λ i. pair (low_key_loaded low i) (low_value_loaded leaf low i) ∷ []) ∙ sym (held_one (value h) sibling.node.0 (stood_counted c.layout h sibling.node.0 run in_tree leaf low)));
-    };
-    fields = λ fork side. held_words.fields fork side;
-    unfilled = λ fork. held_words.unfilled fork;
-  }
-
-  -- the SCX-record
-  module _ (j : Job) (d : Descriptor) (is : IsUpdateFor delete_means ed f snaps ns j.update) (says : Says d j) where
-    is_member : (i : ℕ) → i < 4 → d.member i ≡ (snap_at snaps i).node.0
-    is_member i p = says.member i (rw (is.covers, four.four) p) ∙ ap (λ (xs : List Snap). (snap_at xs i).node.0) is.covers
-
-    is_seen : (i : ℕ) → i < 4 → d.seen i ≡ (snap_at snaps i).scx.0
-    is_seen i p = says.seen i (rw (is.covers, four.four) p) ∙ ap (λ (xs : List Snap). (snap_at xs i).scx.0) is.covers
-
-    -- is one that takes the leaf out, which puts the copy into the place of the parent
-    is_join : IsJoinAt f d (snap_at snaps 1) ns.first.0
-    is_join = record {
-      plan = says.plan ∙ is.plan ∙ plan_four (length snaps) f.trail.grand_side four.four;
-      grand = is_member 0 (omega arith) ∙ four.grand;
-      parent = is_member 1 (omega arith) ∙ four.parent;
-      left = is_member 2 (omega arith) ∙ four.left;
-      right = is_member 3 (omega arith) ∙ four.right;
-      old = says.old ∙ ap (λ (m : NodeNo). m.0) is.old ∙ four.held;
-      new = says.new ∙ is.fresh ∙ ap (λ o. top_of (delete_need o) ns) present.1;
-    }
-
-    snap_is : (i : ℕ) → i < 4 → IsSnapOf c.layout h d i (snap_at snaps i)
-    snap_is i p = record { linked = linked_at ed c h f snaps i run p four x.looked; node = sym (is_member i p); scx = sym (is_seen i p) }
-
-    delete_is_promised : IsPromised c.layout c.pass h j.scx.0 d (TakeEdit ed.key)
-    delete_is_promised = join_promised c h j.scx.0 ed.key present.0 f d (snap_at snaps 1) sibling ns.first.0 run x.looked.small x.looked.found present.1 is_join (snap_is 1 (omega arith)) four.child (snap_is (sibling_place f.trail.side) (few_places f.trail.side)) copy
-
 -- it covers the leaf at its third or fourth place, on the side of the key
-covered_leaf : (ed : Delete) (c : Call) (h : History) (f : Found) (snaps : List Snap) (k : History) (s : ℕ) → IsTreeRun c.layout h → HasFour f snaps → HasFoundLeaf c h ed.key f → IsTreeRun c.layout k → Extends k h → CoversSnaps k s snaps → edit_leaf k s (TakeEdit ed.key) ≡ f.trail.node.0
-covered_leaf ed c h f snaps k s run four found later since covers =
+join_covered : (ed : Delete) (c : Call) (h : History) (f : Found) (snaps : List Snap) (k : History) (s : ℕ) → IsTreeRun c.layout h → HasFour f snaps → HasFoundLeaf c h ed.key f → IsTreeRun c.layout k → Extends k h → CoversSnaps k s snaps → edit_leaf k s (TakeEdit ed.key) ≡ f.trail.node.0
+join_covered ed c h f snaps k s run four found later since covers =
     let many : count k s ≡ 4 = covers.count ∙ four.four in
     rw (ne_eqb (count k s) 2 (λ two. omega (arith, two, many)))
     (ap (λ side. member k s (leaf_place side)) side_is ∙ covers.members (leaf_place f.trail.side) (rw four.four (few f.trail.side)) ∙ place f.trail.side four.child)
   where
     parent : HasTurned c h ed.key f.trail.parent.0 f.trail.side f.trail.node.0
-    parent = found.trail.parent (found_below ed.key c h f run found)
+    parent = found.trail.parent (found_below (ToKey ed.key) c h f run found)
 
     stood : WasInTree h f.trail.parent.0
     stood = was_passed h parent.passed.first ed.key f.trail.parent.0 parent.passed.passed
@@ -529,15 +319,365 @@ covered_leaf ed c h f snaps k s run four found later since covers =
     place Left e = four.left ∙ e
     place Right e = four.right ∙ e
 
--- its four nodes are apart, and what it has filled is promised to delete the key
+-- In one of two ways
+
+-- where the leaf has more than the pair, it looks as an edit of that leaf does
+pub looked_leaf : (ed : Delete) (c : Call) (h : History) (f : Found) (snaps : List Snap) → has_more f ≡ true → HasLooked delete_means c h ed f snaps → HasLookedBy leaf_looks c h ed.key f snaps
+looked_leaf ed c h f snaps t x = record { small = x.small; found = x.found; usable = x.usable; seen = λ i p. rw t at (x.seen i p) }
+
+-- and else to take it out
+pub looked_join : (ed : Delete) (c : Call) (h : History) (f : Found) (snaps : List Snap) → has_more f ≡ false → HasLooked delete_means c h ed f snaps → HasLookedBy join_looks c h ed.key f snaps
+looked_join ed c h f snaps t x = record { small = x.small; found = x.found; usable = x.usable; seen = λ i p. rw t at (x.seen i p) }
+
+-- the leaf of a key that is there is of class 0
+low_there : (k : ℕ) (c : Call) (h : History) (f : Found) → delete_need f.value ≢ Nothing → HasFoundLeaf c h k f → f.head.class ≡ 0
+low_there k c h f d a =
+    let there : (old : ℕ) × (f.value ≡ Some old) = key_there f.value d in
+    sym (ap (λ w. w.class) a.head) ∙ said_low (value h) k f.trail.node.0 there.0 (sym there.1 ∙ a.says)
+
+module _ (ed : Delete) (c : Call) (h : History) (f : Found) (snaps : List Snap) (run : IsTreeRun c.layout h) (d : delete_need f.value ≢ Nothing) (x : HasLooked delete_means c h ed f snaps) where
+  delete_opens : (n : NodeNo) → (b : Bool) → has_more f ≡ b → (if b then leaf_looks f snaps else join_looks f snaps) ≡ At n → IsOpened c.layout h n.0
+  delete_opens n true t at = leaf_opens ed.key c h f snaps run (looked_leaf ed c h f snaps t x) n at
+  delete_opens n false t at = opened_if_stood c.layout h n.0 run (looks_stood ed c h f run d snaps n (looked_join ed c h f snaps t x) at)
+
+  delete_stood : (n : NodeNo) → (b : Bool) → has_more f ≡ b → (if b then leaf_looks f snaps else join_looks f snaps) ≡ At n → WasNotFinal c h n.0
+  delete_stood n true t at = leaf_stood ed.key c h f snaps run (looked_leaf ed c h f snaps t x) n at
+  delete_stood n false t at = looks_not_final ed c h f run d snaps n (looked_join ed c h f snaps t x) at
+
+  delete_differs : (n : NodeNo) (s : ScxNo) → IsQuietSince c.layout c.pass c.start h → (b : Bool) → has_more f ≡ b → (if b then leaf_looks f snaps else join_looks f snaps) ≡ Differs n s → IsContended c h n.0 s.0
+  delete_differs n s quiet true t at = leaf_differs ed.key c h f snaps n s run (looked_leaf ed c h f snaps t x) at quiet
+  delete_differs n s quiet false t at = looks_differ ed c h f run d snaps n s (looked_join ed c h f snaps t x) at quiet
+
+  delete_reads_well : (b : Bool) → has_more f ≡ b → (if b then leaf_looks f snaps else join_looks f snaps) ≡ Enough → let y : NodeNo × Reading = (if b then leaf_reads f else ((sibling_of f snaps).node, nothing_read)) in MayRead c.layout h y.0.0 y.1
+  delete_reads_well true t enough = leaf_begins ed.key c h f snaps run (looked_leaf ed c h f snaps t x) (low_there ed.key c h f d x.found)
+  delete_reads_well false t enough = sibling_begins ed c h f snaps run d (looked_join ed c h f snaps t x) enough
+
+  delete_distinct : (b : Bool) → has_more f ≡ b → (if b then leaf_looks f snaps else join_looks f snaps) ≡ Enough → AreDistinct snaps
+  delete_distinct true t enough = leaf_distinct ed.key c h f snaps run (looked_leaf ed c h f snaps t x) enough
+  delete_distinct false t enough = let y = looked_join ed c h f snaps t x in four_apart ed c h f snaps run d (has_four ed f snaps enough y.seen) y
+
+  delete_covered : (k : History) (s : ℕ) → IsTreeRun c.layout k → Extends k h → CoversSnaps k s snaps → (b : Bool) → has_more f ≡ b → (if b then leaf_looks f snaps else join_looks f snaps) ≡ Enough → edit_leaf k s (TakeEdit ed.key) ≡ f.trail.node.0
+  delete_covered k s later since covers true t enough = leaf_covered (TakeEdit ed.key) f snaps k s (has_both f snaps enough (looked_leaf ed c h f snaps t x).seen) covers
+  delete_covered k s later since covers false t enough = join_covered ed c h f snaps k s run (has_four ed f snaps enough (looked_join ed c h f snaps t x).seen) x.found later since covers
+
+-- an LLX may look at its nodes, which were not final, what it reads may be read, and where a fork
+-- has another child its last SCX-record was in the way
+pub delete_look : LooksWell delete_means
+delete_look = record {
+  opens = λ e c h f snaps n run d x at. delete_opens e c h f snaps run d x n (has_more f) refl at;
+  stood = λ e c h f snaps n run d x at. delete_stood e c h f snaps run d x n (has_more f) refl at;
+  differs = λ e c h f snaps n s run d x at quiet. delete_differs e c h f snaps run d x n s quiet (has_more f) refl at;
+  reads = λ e c h f snaps y run d x enough is. subst (λ (z : NodeNo × Reading). MayRead c.layout h z.0.0 z.1) (the_same (delete_reads f snaps) y is) (delete_reads_well e c h f snaps run d x (has_more f) refl enough);
+}
+
+-- What it fills
+
+-- the fields of a copied fork are those of the snapshot
+pub copy_fields : (s : Snap) (head : HeadParts) (read : Reading) (side : Side) → is_filled (copy_with s head read) (Child side) ≡ true → (child_of s side).0 ≡ word_of (copy_with s head read) (Child side)
+copy_fields s head read side p = go head.leaf side p
+  where
+    go : (leaf : Bool) (side : Side) → is_filled (if leaf then Leaf head.level head.class (copied_pairs head.class read) else Fork head.level head.class (unwrap_or read.key 0) s.left s.right) (Child side) ≡ true
+        → (child_of s side).0 ≡ word_of (if leaf then Leaf head.level head.class (copied_pairs head.class read) else Fork head.level head.class (unwrap_or read.key 0) s.left s.right) (Child side)
+    go true side p = absurd (let z : false ≡ true = p in cc)
+    go false Left p = refl
+    go false Right p = refl
+
+join_fields : (ed : Delete) (c : Call) (h : History) (f : Found) (snaps : List Snap) (read : Reading) (side : Side) → IsTreeRun c.layout h → HasLookedBy join_looks c h ed.key f snaps → join_looks f snaps ≡ Enough → is_filled (sibling_copy (sibling_of f snaps) read) (Child side) ≡ true → IsInField c.layout h (word_of (sibling_copy (sibling_of f snaps) read) (Child side))
+join_fields ed c h f snaps read side run x enough p =
+    let s : Snap = sibling_of f snaps in
+    let l : IsLinked c.layout h s = linked_at ed c h f snaps (sibling_place f.trail.side) run (few_places f.trail.side) (has_four ed f snaps enough x.seen) x in
+    subst (IsInField c.layout h) (copy_fields s (unwrap_or read.head (head_of 0)) read side p) (inr (s.node.0, side, in_field_named s.node.0 l.in_field, l.had side))
+
+delete_fields : (ed : Delete) (c : Call) (h : History) (f : Found) (snaps : List Snap) (read : Reading) (side : Side) → IsTreeRun c.layout h → HasLooked delete_means c h ed f snaps → (b : Bool) → has_more f ≡ b → (if b then leaf_looks f snaps else join_looks f snaps) ≡ Enough
+    → is_filled (if b then Leaf f.head.level 0 (delete ed.key read.pairs) else sibling_copy (sibling_of f snaps) read) (Child side) ≡ true → IsInField c.layout h (word_of (if b then Leaf f.head.level 0 (delete ed.key read.pairs) else sibling_copy (sibling_of f snaps) read) (Child side))
+delete_fields ed c h f snaps read side run x true t enough p = absurd (let z : false ≡ true = p in cc)
+delete_fields ed c h f snaps read side run x false t enough p = join_fields ed c h f snaps read side run (looked_join ed c h f snaps t x) enough p
+
+-- the fields of its copy hold what the sibling's have held
+pub delete_fills : FillsWell delete_means
+delete_fills = record { fields = λ e c h f snaps ns read nth side run x enough n p. inr (delete_fields e c h f snaps read side run x (has_more f) refl enough p) }
+
+-- What it makes
+
+-- the word of a head that was read is that word
+bit_back : (b : ℕ) → b < 2 → bit (b == 1) ≡ b
+bit_back b few = go (ℕ_discrete b 1)
+  where
+    go : Dec (b ≡ 1) → bit (b == 1) ≡ b
+    go (yes e) = rw e refl
+    go (no d) = rw (ne_eqb b 1 d) (omega (arith, few, d))
+
+head_back : (w : ℕ) → w / 8 < 2 ^ 61 → piece_head (w / 8) (w / 4 % 2 == 1) (w % 4) ≡ w
+head_back w fits = head_is (w / 8) (w % 4) (w / 4 % 2 == 1) fits (omega arith) ∙ whole
+  where
+    whole : head_word (head_of w) ≡ w
+    whole = let b : bit (w / 4 % 2 == 1) ≡ w / 4 % 2 = bit_back (w / 4 % 2) (omega arith) in omega (arith, b)
+
+-- the plan word of four is that of taking a leaf out
+plan_four : (n : ℕ) (side : Side) → n ≡ 4 → plan_over n side ≡ join_plan side
+plan_four n Left e = rw e refl
+plan_four n Right e = rw e refl
+
+-- what is not read of a key that is 0 is taken to be 0
+blank_key : (o : Option ℕ) (w : ℕ) → IfSome o (λ k. w ≡ k) → w ≡ 0 → unwrap_or o 0 ≡ 0
+blank_key None w is e = refl
+blank_key (Some k) w is e = sym is ∙ e
+
+module _ (ed : Delete) (c : Call) (h : History) (f : Found) (snaps : List Snap) (ns : Nodes) (read : Reading) (run : IsTreeRun c.layout h) (needed : delete_need f.value ≢ Nothing) (x : HasFilledAll delete_means c h ed f snaps ns read) where
+  present : (old : ℕ) × (f.value ≡ Some old)
+  present = key_there f.value needed
+
+  one : IsNeeded (delete_need f.value) First
+  one = subst (λ o. IsNeeded (delete_need o) First) (sym present.1) tt
+
+  low : f.head.class ≡ 0
+  low = low_there ed.key c h f needed x.looked.found
+
+  top : top_of (delete_need f.value) ns ≡ ns.first.0
+  top = ap (λ o. top_of (delete_need o) ns) present.1
+
+  -- the pair goes out of its leaf
+  module _ (t : has_more f ≡ true) where
+    looked : HasLookedBy leaf_looks c h ed.key f snaps
+    looked = looked_leaf ed c h f snaps t x.looked
+
+    abbrev old_leaf : ℕ
+    old_leaf = f.trail.node.0
+
+    abbrev old_pairs : List Pair
+    old_pairs = held_pairs (value h) old_leaf
+
+    both : HasBoth f snaps
+    both = has_both f snaps (rw t at x.enough) looked.seen
+
+    read_is : read.pairs ≡ old_pairs
+    read_is = pairs_are ed.key c h f snaps run looked low read (rw t at x.right) x.whole
+
+    held : IsWellCounted (value h) old_leaf × AllBelow (2 ^ 64) old_pairs × IsRising old_pairs
+    held = held_is ed.key c h f snaps run looked low
+
+    -- as many are left as a leaf may hold
+    least : 0 < length (delete ed.key old_pairs)
+    least =
+        let m : length old_pairs ≡ 1 + f.more = many ed.key c h f snaps run looked low in
+        let some : 0 < f.more = ltb-true 0 f.more t in
+        let l = delete_least ed.key old_pairs in
+        omega (arith, m, some, l)
+
+    most : length (delete ed.key old_pairs) ≤ 4
+    most =
+        let m = held_count (value h) old_leaf held.0 in
+        let few = counted_few (value h) old_leaf held.0 in
+        let l = delete_most ed.key old_pairs in
+        omega (arith, m, few, l)
+
+    p : HoldsPiece c h ns.first.0 (Leaf f.head.level 0 (delete ed.key read.pairs))
+    p = rw t at (x.holds First one)
+
+    pairs_left : delete ed.key read.pairs ≡ delete ed.key old_pairs
+    pairs_left = ap (delete ed.key) read_is
+
+    now : IsLeafWith (value h) ns.first.0 f.head.level 0 (delete ed.key read.pairs)
+    now = leaf_with h ns.first.0 f.head.level f.head.level 0 (delete ed.key read.pairs) refl (let a = found_level (ToKey ed.key) c h f run x.looked.found in omega (arith, a)) (omega arith) p.words
+        (subst (λ ps. 0 < length ps) (sym pairs_left) least) (subst (λ ps. length ps ≤ 4) (sym pairs_left) most)
+
+    made : HasFreshEdit c.layout c.pass h (TakeEdit ed.key) old_leaf ns.first.0
+    made = record {
+      fresh = p.fresh;
+      edit = inl record {
+        leaf = x.looked.found.leaf;
+        class = class_is ed.key c h f snaps run looked low;
+        new = record { leaf = now.leaf; class = now.class; counted = now.counted };
+        pairs = now.pairs ∙ pairs_left;
+        deep = now.level ∙ sym (ap (λ w. w.level) x.looked.found.head);
+      };
+      below = λ fork. absurd (let z : true ≡ false = sym now.leaf ∙ fork in cc);
+    }
+
+    leaf_promised : (j : Job) (d : Descriptor) → IsUpdateFor delete_means ed f snaps ns j.update → Says d j → IsPromised c.layout c.pass h j.scx.0 d (TakeEdit ed.key)
+    leaf_promised j d is says = edit_promised c h j.scx.0 (TakeEdit ed.key) f d ns.first.0 run x.looked.small x.looked.found
+        (is_leaf_edit f snaps j d ns.first.0 both is.covers (rw t at is.plan) (rw t at is.old) (is.fresh ∙ top) says) made
+        (λ e z. let y : Some present.0 ≡ None = sym present.1 ∙ z in cc)
+
+  -- or the leaf out of the tree
+  module _ (t : has_more f ≡ false) where
+    looked_so : HasLookedBy join_looks c h ed.key f snaps
+    looked_so = looked_join ed c h f snaps t x.looked
+
+    four : HasFour f snaps
+    four = has_four ed f snaps (rw t at x.enough) looked_so.seen
+
+    abbrev sibling : Snap
+    sibling = sibling_of f snaps
+
+    abbrev z_node : ℕ
+    z_node = sibling.node.0
+
+    abbrev n_node : ℕ
+    n_node = ns.first.0
+
+    in_tree : WasInTree h z_node
+    in_tree = sibling_stood ed c h f snaps run needed four looked_so
+
+    alone : f.more ≡ 0
+    alone = go (dec_lt 0 f.more)
+      where
+        go : Dec (0 < f.more) → f.more ≡ 0
+        go (yes l) = absurd (let y : true ≡ false = sym (lt-ltb 0 f.more l) ∙ t in cc)
+        go (no n) = omega (arith, n)
+
+    -- the copy
+    abbrev w : ℕ
+    w = value h (node z_node (Settled Head))
+
+    right : MayRead c.layout h z_node read
+    right = rw t at x.right
+
+    whole : next_read read ≡ None
+    whole = x.whole
+
+    fits : w / 8 < 2 ^ 61
+    fits =
+        let deep : level (value h) z_node < 2 + length (taken_nodes h) = stood_depth c.layout h z_node run in_tree in
+        let few : length (taken_nodes h) ≤ c.layout.passes * c.layout.nodes = taken_few c.layout h run.1.lawful in
+        let most : c.layout.passes * c.layout.nodes ≤ 32 * 32768 = mul-le c.layout.passes c.layout.nodes 32 32768 c.layout.passes_fit c.layout.nodes_fit in
+        omega (arith, deep, few, most)
+
+    is_head : read.head ≡ Some (head_of w)
+    is_head = head_read (value h) z_node read right.is whole
+
+    copied : HoldsPiece c h n_node (copy_with sibling (head_of w) read)
+    copied = subst (λ (o : Option HeadParts). HoldsPiece c h n_node (copy_with sibling (unwrap_or o (head_of 0)) read)) is_head (rw t at (x.holds First one))
+
+    blank : class (value h) z_node ≢ 0 → value h (node z_node first_key) ≡ 0
+    blank high = stood_blank c.layout h z_node run in_tree high
+
+    -- of a leaf
+    module _ (leaf : is_leaf (value h) z_node ≡ true) where
+      abbrev ps : List Pair
+      ps = copied_pairs (w % 4) read
+
+      leaf_words : HoldsWords h n_node (Leaf (w / 8) (w % 4) ps)
+      leaf_words = rw leaf at copied.words
+
+      low_copied : class (value h) z_node ≡ 0 → ps ≡ read.pairs
+      low_copied is_low = rw (eq-eqb (w % 4) 0 is_low) refl
+
+      high_copied : class (value h) z_node ≢ 0 → ps ≡ pair 0 0 ∷ []
+      high_copied high = rw (ne_eqb (w % 4) 0 high) refl
+
+      low_pairs_are : class (value h) z_node ≡ 0 → ps ≡ held_pairs (value h) z_node
+      low_pairs_are is_low = low_copied is_low ∙ leaf_read (value h) z_node read right.is whole is_low leaf
+
+      leaf_copied : class (value h) z_node ≡ 0 → IsLeafWith (value h) n_node (w / 8) (w % 4) ps
+      leaf_copied is_low =
+          let counted = stood_counted c.layout h z_node run in_tree leaf is_low in
+          let m = held_count (value h) z_node counted in
+          let few = counted_few (value h) z_node counted in
+          leaf_with h n_node (w / 8) (w / 8) (w % 4) ps refl fits (omega arith) leaf_words
+          (subst (λ qs. 0 < length qs) (sym (low_pairs_are is_low)) (omega (arith, m))) (subst (λ qs. length qs ≤ 4) (sym (low_pairs_are is_low)) (omega (arith, m, few)))
+
+      leaf_key : Dec (class (value h) z_node ≡ 0) → value h (node n_node first_key) ≡ value h (node z_node first_key)
+      leaf_key (yes is_low) = (leaf_copied is_low).key ∙ ap (λ qs. (pair_at qs 0).key) (low_pairs_are is_low ∙ (held_first (value h) z_node).is)
+      leaf_key (no high) = leaf_words first_key tt ∙ ap (λ qs. (pair_at qs 0).key) (high_copied high) ∙ sym (blank high)
+
+      leaf_copy : HasFreshCopy c.layout c.pass h sibling n_node
+      leaf_copy = record {
+        fresh = copied.fresh;
+        copy = record {
+          same_head = leaf_words (Settled Head) tt ∙ ap (λ b. piece_head (w / 8) b (w % 4)) (sym leaf) ∙ head_back w fits;
+          same_key = leaf_key (ℕ_discrete (class (value h) z_node) 0);
+          same_pairs = λ _ is_low. ((leaf_copied is_low).counted, (leaf_copied is_low).pairs ∙ low_pairs_are is_low);
+        };
+        fields = λ fork side. absurd (let y : true ≡ false = sym leaf ∙ fork in cc);
+        unfilled = λ fork. absurd (let y : true ≡ false = sym leaf ∙ fork in cc);
+      }
+
+    -- or of a fork
+    module _ (fork : is_leaf (value h) z_node ≡ false) where
+      fork_words : HoldsWords h n_node (Fork (w / 8) (w % 4) (unwrap_or read.key 0) sibling.left sibling.right)
+      fork_words = rw fork at copied.words
+
+      at_first : slot_read read ≡ FirstSlot
+      at_first = ap (λ o. unwrap_or o FirstSlot) (right.is.first (ap is_leaf_read is_head ∙ fork))
+
+      fork_key : Dec (class (value h) z_node ≡ 0) → unwrap_or read.key 0 ≡ value h (node z_node first_key)
+      fork_key (yes is_low) = fork_read (value h) z_node read right.is whole is_low fork
+      fork_key (no high) = blank_key read.key (value h (node z_node first_key)) (subst (λ (s : Slot). IfSome read.key (λ k. value h (node z_node (Settled (Key s))) ≡ k)) at_first right.is.key) (blank high) ∙ sym (blank high)
+
+      field_is : (side : Side) → value h (child n_node side) ≡ (child_of sibling side).0
+      field_is Left = fork_words (Child Left) tt
+      field_is Right = fork_words (Child Right) tt
+
+      fork_copy : HasFreshCopy c.layout c.pass h sibling n_node
+      fork_copy = record {
+        fresh = copied.fresh;
+        copy = record {
+          same_head = fork_words (Settled Head) tt ∙ ap (λ b. piece_head (w / 8) b (w % 4)) (sym fork) ∙ head_back w fits;
+          same_key = fork_words first_key tt ∙ fork_key (ℕ_discrete (class (value h) z_node) 0);
+          same_pairs = λ leaf _. absurd (let y : true ≡ false = sym leaf ∙ fork in cc);
+        };
+        fields = λ _ side. field_is side;
+        unfilled = λ _. fork_words first_value tt;
+      }
+
+    copy : HasFreshCopy c.layout c.pass h sibling n_node
+    copy = go (is_leaf (value h) z_node) refl
+      where
+        go : (b : Bool) → is_leaf (value h) z_node ≡ b → HasFreshCopy c.layout c.pass h sibling n_node
+        go true leaf = leaf_copy leaf
+        go false fork = fork_copy fork
+
+    -- the SCX-record
+    module _ (j : Job) (d : Descriptor) (is : IsUpdateFor delete_means ed f snaps ns j.update) (says : Says d j) where
+      is_member : (i : ℕ) → i < 4 → d.member i ≡ (snap_at snaps i).node.0
+      is_member i p = says.member i (rw (is.covers, four.four) p) ∙ ap (λ (xs : List Snap). (snap_at xs i).node.0) is.covers
+
+      is_seen : (i : ℕ) → i < 4 → d.seen i ≡ (snap_at snaps i).scx.0
+      is_seen i p = says.seen i (rw (is.covers, four.four) p) ∙ ap (λ (xs : List Snap). (snap_at xs i).scx.0) is.covers
+
+      -- is one that takes the leaf out, which puts the copy into the place of the parent
+      is_join : IsJoinAt f d (snap_at snaps 1) n_node
+      is_join = record {
+        plan = says.plan ∙ (rw t at is.plan) ∙ plan_four (length snaps) f.trail.grand_side four.four;
+        grand = is_member 0 (omega arith) ∙ four.grand;
+        parent = is_member 1 (omega arith) ∙ four.parent;
+        left = is_member 2 (omega arith) ∙ four.left;
+        right = is_member 3 (omega arith) ∙ four.right;
+        old = says.old ∙ ap (λ (m : NodeNo). m.0) (rw t at is.old) ∙ four.held;
+        new = says.new ∙ is.fresh ∙ top;
+      }
+
+      snap_is : (i : ℕ) → i < 4 → IsSnapOf c.layout h d i (snap_at snaps i)
+      snap_is i p = record { linked = linked_at ed c h f snaps i run p four looked_so; node = sym (is_member i p); scx = sym (is_seen i p) }
+
+      join_is_promised : IsPromised c.layout c.pass h j.scx.0 d (TakeEdit ed.key)
+      join_is_promised = join_promised c h j.scx.0 ed.key present.0 f d (snap_at snaps 1) sibling n_node run x.looked.small x.looked.found present.1 alone is_join (snap_is 1 (omega arith)) four.child (snap_is (sibling_place f.trail.side) (few_places f.trail.side)) copy
+
+  delete_is_promised : (j : Job) (d : Descriptor) → IsUpdateFor delete_means ed f snaps ns j.update → Says d j → IsPromised c.layout c.pass h j.scx.0 d (TakeEdit ed.key)
+  delete_is_promised j d is says = go (has_more f) refl
+    where
+      go : (b : Bool) → has_more f ≡ b → IsPromised c.layout c.pass h j.scx.0 d (TakeEdit ed.key)
+      go true t = leaf_promised t j d is says
+      go false t = join_is_promised t j d is says
+
+-- it looks at something first
+looks_first : (f : Found) → delete_looks f [] ≢ Enough
+looks_first f = go (has_more f)
+  where
+    go : (b : Bool) → (if b then leaf_looks f [] else join_looks f []) ≢ Enough
+    go true e = let z : At f.trail.parent ≡ Enough = e in cc
+    go false e = let z : At f.trail.grand ≡ Enough = e in cc
+
+-- its nodes are apart, and what it has filled is promised to delete the key
 pub delete_makes : MakesWell delete_means
 delete_makes = record {
-  some = λ e f d. let z : At f.trail.grand ≡ Enough = d in cc;
-  distinct = λ e c h f snaps run n x enough. four_apart e c h f snaps run n (has_four e f snaps enough x.seen) x;
-  leaf = λ e c h f snaps s run n x enough k later since covers. covered_leaf e c h f snaps k s run (has_four e f snaps enough x.seen) x.found later since covers;
-  promised = λ e c h f snaps ns ld j d run n x is says. delete_is_promised e c h f snaps ns ld run n x j d is says;
+  some = λ e f. looks_first f;
+  distinct = λ e c h f snaps run n x enough. delete_distinct e c h f snaps run n x (has_more f) refl enough;
+  leaf = λ e c h f snaps s run n x enough k later since covers. delete_covered e c h f snaps run n x k s later since covers (has_more f) refl enough;
+  promised = λ e c h f snaps ns read j d run n x is says. delete_is_promised e c h f snaps ns read run n x j d is says;
 }
 
 -- a delete is an edit that an update can make
 pub delete_laws : EditLaws delete_means
-delete_laws = record { at_found = λ e f. refl; bounds = delete_bounds; looks = delete_look; loads = delete_loads; fills = delete_fills; makes = delete_makes }
+delete_laws = record { at_found = λ e f. refl; bounds = delete_bounds; looks = delete_look; fills = delete_fills; makes = delete_makes }

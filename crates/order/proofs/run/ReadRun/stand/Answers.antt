@@ -1,45 +1,25 @@
 use Rattle.std.proofs.Common.{inl, refl}
 use Rattle.arena.specs.Machines.{begun_at}
+use Rattle.arena.specs.declared.step.Access.TheVariants as accesses
+use Rattle.arena.specs.declared.step.Kind.TheVariants.{LoadSettled}
 use Rattle.order.specs.Places.{RunComesNearer}
-use Rattle.order.specs.declared.read.ReadNext.TheVariants.{Head, Key, Value, Look}
+use Rattle.order.specs.declared.read.ReadNext.TheVariants.{Load, Look}
 use Rattle.order.proofs.Blaming.{first_look}
 use Rattle.order.proofs.Looking.{validates}
 use Rattle.order.proofs.Nearer.{below, from_validate}
 use Rattle.order.proofs.Turns.{some_left, stands_there, stands_nearer}
 use Rattle.order.proofs.run.ReadRun.stand.Goals as goal
 
-pub returns-in-Head-clause-turn : goal.returns-in-Head-clause-turn
-returns-in-Head-clause-turn g c d h x = stands_there g.R.Read.means c.args.self.now c.load.new.self d h c.load.result (Head c.in-Head.above c.in-Head.node) c.load.ensures.stands c.load.ensures.asked (rw c.in-Head.is at x)
+pub returns-in-Load-clause-turn : goal.returns-in-Load-clause-turn
+returns-in-Load-clause-turn g c d h x = stands_there g.R.Read.means c.args.self.now c.load.new.self d h c.load.result (Load c.in-Load.load) c.load.ensures.stands (rw c.word.ensures at c.load.ensures.asked) (rw c.in-Load.is at x)
 
-pub returns-in-Head-clause-nearer : goal.returns-in-Head-clause-nearer
-returns-in-Head-clause-nearer g c nodes n near =
-    let x : RunComesNearer g.R.Read.means c.args.self.now nodes (Head c.in-Head.above c.in-Head.node) n = rw c.in-Head.is at near in
-    stands_nearer g.R.Read.means c.args.self.now c.load.new.self c.load.result (Head c.in-Head.above c.in-Head.node) _ nodes n c.load.ensures.stands c.load.ensures.asked (some_left g.R.Read.means c.args.self.now (Head c.in-Head.above c.in-Head.node) nodes n tt x) x
+pub returns-in-Load-clause-nearer : goal.returns-in-Load-clause-nearer
+returns-in-Load-clause-nearer g c nodes n near =
+    let x : RunComesNearer g.R.Read.means c.args.self.now nodes (Load c.in-Load.load) n = rw c.in-Load.is at near in
+    stands_nearer g.R.Read.means c.args.self.now c.load.new.self c.load.result (Load c.in-Load.load) (record { kind = LoadSettled; word = c.word.result; access = accesses.Load }) nodes n c.load.ensures.stands c.load.ensures.asked (some_left g.R.Read.means c.args.self.now (Load c.in-Load.load) nodes n tt x) x
 
-pub returns-in-Head-clause-tries : goal.returns-in-Head-clause-tries
-returns-in-Head-clause-tries g c d h x = rw c.load.ensures.stands (inl refl)
-
-pub returns-in-Key-clause-turn : goal.returns-in-Key-clause-turn
-returns-in-Key-clause-turn g c d h x = stands_there g.R.Read.means c.args.self.now c.load-in-Key.new.self d h c.load-in-Key.result (Key c.in-Key.head c.in-Key.node) c.load-in-Key.ensures.stands c.load-in-Key.ensures.asked (rw c.in-Key.is at x)
-
-pub returns-in-Key-clause-nearer : goal.returns-in-Key-clause-nearer
-returns-in-Key-clause-nearer g c nodes n near =
-    let x : RunComesNearer g.R.Read.means c.args.self.now nodes (Key c.in-Key.head c.in-Key.node) n = rw c.in-Key.is at near in
-    stands_nearer g.R.Read.means c.args.self.now c.load-in-Key.new.self c.load-in-Key.result (Key c.in-Key.head c.in-Key.node) _ nodes n c.load-in-Key.ensures.stands c.load-in-Key.ensures.asked (some_left g.R.Read.means c.args.self.now (Key c.in-Key.head c.in-Key.node) nodes n tt x) x
-
-pub returns-in-Key-clause-tries : goal.returns-in-Key-clause-tries
-returns-in-Key-clause-tries g c d h x = rw c.load-in-Key.ensures.stands (inl refl)
-
-pub returns-in-Value-clause-turn : goal.returns-in-Value-clause-turn
-returns-in-Value-clause-turn g c d h x = stands_there g.R.Read.means c.args.self.now c.load-in-Value.new.self d h c.load-in-Value.result (Value c.in-Value.key c.in-Value.node) c.load-in-Value.ensures.stands c.load-in-Value.ensures.asked (rw c.in-Value.is at x)
-
-pub returns-in-Value-clause-nearer : goal.returns-in-Value-clause-nearer
-returns-in-Value-clause-nearer g c nodes n near =
-    let x : RunComesNearer g.R.Read.means c.args.self.now nodes (Value c.in-Value.key c.in-Value.node) n = rw c.in-Value.is at near in
-    stands_nearer g.R.Read.means c.args.self.now c.load-in-Value.new.self c.load-in-Value.result (Value c.in-Value.key c.in-Value.node) _ nodes n c.load-in-Value.ensures.stands c.load-in-Value.ensures.asked (some_left g.R.Read.means c.args.self.now (Value c.in-Value.key c.in-Value.node) nodes n tt x) x
-
-pub returns-in-Value-clause-tries : goal.returns-in-Value-clause-tries
-returns-in-Value-clause-tries g c d h x = rw c.load-in-Value.ensures.stands (inl refl)
+pub returns-in-Load-clause-tries : goal.returns-in-Load-clause-tries
+returns-in-Load-clause-tries g c d h x = rw c.load.ensures.stands (inl refl)
 
 pub returns-in-Look-clause-turn : goal.returns-in-Look-clause-turn
 returns-in-Look-clause-turn g c d h x = stands_there g.R.Read.means c.args.self.now c.look.new.self d h c.look.result (Look c.in-Look.children c.in-Look.level c.in-Look.node) c.look.ensures.stands c.look.ensures.asked (rw c.in-Look.is at x)

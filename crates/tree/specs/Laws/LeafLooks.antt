@@ -1,0 +1,183 @@
+-- An edit of one leaf: what it looks at, what it reads, and its SCX-record.
+use Rattle.std.proofs.Common.{◌≡◌, ◌≢◌, ℕ, ◌+◌, ◌^◌, ◌<◌, ◌⊎◌, inl, inr, true, false, ◌==◌, eqb-true, eq-eqb, List, [], ◌∷◌, length, take, refl, sym, ◌∙◌, ap, subst, arith}
+use Rattle.std.specs.Prelude.{IsTrue, None}
+use native.Mathlib.Decide.{ℕ_discrete}
+use Rattle.arena.specs.declared.number.NodeNo.{NodeNo}
+use Rattle.arena.specs.declared.number.ScxNo.{ScxNo}
+use Rattle.arena.specs.declared.word.Side.{Side}
+use Rattle.arena.specs.declared.word.Side.TheVariants.{Left, Right}
+use Rattle.arena.specs.History.{History, value}
+use Rattle.arena.specs.Machines.{Call}
+use Rattle.arena.specs.ScxRecords.{count}
+use Rattle.histories.specs.Descriptor.{Descriptor}
+use Rattle.prims.specs.Laws.Idle.{IsQuietSince}
+use Rattle.prims.specs.Llx.Known.{IsOpened}
+use Rattle.prims.specs.Scx.Known.{Job, Says}
+use Rattle.prims.specs.Snap.{child_of, snap_at}
+use Rattle.prims.specs.Snaps.{AreDistinct}
+use Rattle.prims.specs.declared.snap.Snap.{Snap}
+use Rattle.ordered_map.specs.Holding.{held_pairs, IsWellCounted}
+use Rattle.ordered_map.specs.OrderedMap.{AllBelow, IsRising, MapEdit}
+use Rattle.ordered_map.specs.Runs.{IsTreeRun}
+use Rattle.ordered_map.specs.TreeShape.{leaf_plan, edit_leaf}
+use Rattle.ordered_map.specs.TreeWords.{class, is_leaf}
+use Rattle.ordered_map.proofs.Lemmas.{held_count, run_since}
+use Rattle.template.specs.FreshNodes.{IsLeafEditAt}
+use Rattle.template.specs.Trails.{HasTurned}
+use Rattle.template.specs.declared.walk.Found.{Found}
+use Rattle.template.specs.declared.walk.Goal.TheVariants.{Key as ToKey}
+use Rattle.template.specs.Blame.{IsContended, WasNotFinal}
+use Rattle.template.proofs.Lemmas.{found_below, found_holds, leaf_edit_words}
+use Rattle.tree.specs.LeafEdit.{HasLookedBy, leaf_looks, leaf_reads}
+use Rattle.tree.specs.Laws.Looks.{same_node, goes_on, not_enough, is_other}
+use Rattle.edits.specs.declared.edit.Look.TheVariants.{At, Differs, Enough}
+use Rattle.edits.specs.declared.reading.Reading.{Reading}
+use Rattle.edits.specs.Known.{HasSnappedAfterWalk, MayRead}
+use Rattle.edits.specs.Laws.Contended.{passed_not_final, turned_contended}
+use Rattle.edits.specs.Laws.Opened.{found_named, found_opened, above_opened}
+use Rattle.edits.specs.Pieces.{plan_over}
+use Rattle.edits.specs.Readings.{next_read}
+use Rattle.edits.specs.Tries.{CoversSnaps}
+use Rattle.edits.proofs.Lemmas.{begun_read, leaf_read}
+
+-- What it looks at
+
+-- it looks at the leaf's parent or at the leaf
+looks_at : (f : Found) (snaps : List Snap) (n : NodeNo) → leaf_looks f snaps ≡ At n → (f.trail.parent ≡ n) ⊎ (f.trail.node ≡ n)
+looks_at f [] n e = inl (same_node f.trail.parent n e)
+looks_at f (p ∷ []) n e = inr (goes_on ((child_of p f.trail.side).0 == f.trail.node.0) f.trail.node p n e).1
+looks_at f (p ∷ l ∷ snaps) n e = absurd (let d : Enough ≡ At n = e in cc)
+
+module _ (k : ℕ) (c : Call) (h : History) (f : Found) (snaps : List Snap) (run : IsTreeRun c.layout h) (x : HasLookedBy leaf_looks c h k f snaps) where
+  pub leaf_opens : (n : NodeNo) → leaf_looks f snaps ≡ At n → IsOpened c.layout h n.0
+  leaf_opens n e = go (looks_at f snaps n e)
+    where
+      go : (f.trail.parent ≡ n) ⊎ (f.trail.node ≡ n) → IsOpened c.layout h n.0
+      go (inl q) = subst (λ (m : NodeNo). IsOpened c.layout h m.0) q (above_opened (ToKey k) c h run f x.found)
+      go (inr q) = subst (λ (m : NodeNo). IsOpened c.layout h m.0) q (found_opened (ToKey k) c h run f x.found)
+
+  -- the call has passed both
+  pub leaf_stood : (n : NodeNo) → leaf_looks f snaps ≡ At n → WasNotFinal c h n.0
+  leaf_stood n e = go (looks_at f snaps n e)
+    where
+      go : (f.trail.parent ≡ n) ⊎ (f.trail.node ≡ n) → WasNotFinal c h n.0
+      go (inl q) = subst (λ (m : NodeNo). WasNotFinal c h m.0) q (passed_not_final c h k f.trail.parent.0 run (x.found.trail.parent (found_below (ToKey k) c h f run x.found)).passed)
+      go (inr q) = subst (λ (m : NodeNo). WasNotFinal c h m.0) q (passed_not_final c h k f.trail.node.0 run x.found.trail.node)
+
+-- the walk has found the leaf there, and the snapshot came later
+pub leaf_differs : (k : ℕ) (c : Call) (h : History) (f : Found) (snaps : List Snap) (n : NodeNo) (s : ScxNo) → IsTreeRun c.layout h → HasLookedBy leaf_looks c h k f snaps → leaf_looks f snaps ≡ Differs n s → IsQuietSince c.layout c.pass c.start h → IsContended c h n.0 s.0
+leaf_differs k c h f [] n s run x e quiet = absurd (let d : At f.trail.parent ≡ Differs n s = e in cc)
+leaf_differs k c h f (p ∷ l ∷ snaps) n s run x e quiet = absurd (let d : Enough ≡ Differs n s = e in cc)
+leaf_differs k c h f (p ∷ []) n s run x e quiet = rw (sym other.1, sym other.2) (turned_contended c h k f p f.trail.side f.trail.node.0 run quiet snapped turned apart)
+  where
+    other : (((child_of p f.trail.side).0 == f.trail.node.0) ≡ false) × (p.node ≡ n) × (p.scx ≡ s)
+    other = is_other ((child_of p f.trail.side).0 == f.trail.node.0) f.trail.node p n s e
+
+    parent : f.trail.parent ≡ p.node
+    parent = same_node f.trail.parent p.node (x.seen 0 (omega arith))
+
+    snapped : HasSnappedAfterWalk c h (ToKey k) f p
+    snapped = x.usable 0 (omega arith)
+
+    turned : HasTurned c snapped.moment k p.node.0 f.trail.side f.trail.node.0
+    turned = subst (λ (m : NodeNo). HasTurned c snapped.moment k m.0 f.trail.side f.trail.node.0) parent
+        (snapped.found.trail.parent (found_below (ToKey k) c snapped.moment f (run_since c.layout h snapped.moment run snapped.within) snapped.found))
+
+    apart : (child_of p f.trail.side).0 ≢ f.trail.node.0
+    apart q = let d : false ≡ true = sym other.0 ∙ eq-eqb (child_of p f.trail.side).0 f.trail.node.0 q in cc
+
+-- once it has looked at enough, it has a snapshot of the parent and one of the leaf, which is still
+-- the parent's child
+pub record HasBoth (f : Found) (snaps : List Snap) : Type 0 where
+  pub two : length snaps ≡ 2
+  pub parent : (snap_at snaps 0).node.0 ≡ f.trail.parent.0
+  pub leaf : (snap_at snaps 1).node.0 ≡ f.trail.node.0
+  pub child : (child_of (snap_at snaps 0) f.trail.side).0 ≡ f.trail.node.0
+
+pub has_both : (f : Found) (snaps : List Snap) → leaf_looks f snaps ≡ Enough → ((i : ℕ) → i < length snaps → leaf_looks f (take i snaps) ≡ At (snap_at snaps i).node) → HasBoth f snaps
+has_both f [] e x = absurd (let d : At f.trail.parent ≡ Enough = e in cc)
+has_both f (p ∷ []) e x = absurd (not_enough ((child_of p f.trail.side).0 == f.trail.node.0) f.trail.node p e)
+has_both f (p ∷ l ∷ []) e x =
+    let parent : f.trail.parent ≡ p.node = same_node f.trail.parent p.node (x 0 (omega arith)) in
+    let leaf : IsTrue ((child_of p f.trail.side).0 == f.trail.node.0) × (f.trail.node ≡ l.node) = goes_on ((child_of p f.trail.side).0 == f.trail.node.0) f.trail.node p l.node (x 1 (omega arith)) in
+    record {
+      two = refl;
+      parent = ap (λ (n : NodeNo). n.0) (sym parent);
+      leaf = ap (λ (n : NodeNo). n.0) (sym leaf.1);
+      child = eqb-true (child_of p f.trail.side).0 f.trail.node.0 leaf.0;
+    }
+has_both f (p ∷ l ∷ s ∷ snaps) e x = absurd (let d : Enough ≡ At s.node = x 2 (omega arith) in cc)
+
+-- the SCX-record of both covers the leaf at its second place
+pub leaf_covered : (e : MapEdit) (f : Found) (snaps : List Snap) (k : History) (s : ℕ) → HasBoth f snaps → CoversSnaps k s snaps → edit_leaf k s e ≡ f.trail.node.0
+leaf_covered e f snaps k s both covers =
+    let two : count k s ≡ 2 = covers.count ∙ both.two in
+    rw (eq-eqb (count k s) 2 two) (covers.members 1 (let few = both.two in omega (arith, few)) ∙ both.leaf)
+
+-- the parent is a fork, and so is not the leaf
+pub leaf_distinct : (k : ℕ) (c : Call) (h : History) (f : Found) (snaps : List Snap) → IsTreeRun c.layout h → HasLookedBy leaf_looks c h k f snaps → leaf_looks f snaps ≡ Enough → AreDistinct snaps
+leaf_distinct k c h f snaps run x enough i j p q d e = go (two_places i j (rw both.two at p) (rw both.two at q) d)
+  where
+    both : HasBoth f snaps
+    both = has_both f snaps enough x.seen
+
+    apart : f.trail.parent.0 ≢ f.trail.node.0
+    apart z =
+        let fork : is_leaf (value h) f.trail.parent.0 ≡ false = (x.found.trail.parent (found_below (ToKey k) c h f run x.found)).fork in
+        let leaf : is_leaf (value h) f.trail.parent.0 ≡ true = subst (λ n. is_leaf (value h) n ≡ true) (sym z) x.found.leaf in
+        let w : true ≡ false = sym leaf ∙ fork in
+        cc
+
+    two_places : (i j : ℕ) → i < 2 → j < 2 → i ≢ j → ((i ≡ 0) × (j ≡ 1)) ⊎ ((i ≡ 1) × (j ≡ 0))
+    two_places i j a b n = split (ℕ_discrete i 0)
+      where
+        split : Dec (i ≡ 0) → ((i ≡ 0) × (j ≡ 1)) ⊎ ((i ≡ 1) × (j ≡ 0))
+        split (yes z) = inl (z, omega (arith, z, b, n))
+        split (no z) = inr (omega (arith, z, a), omega (arith, z, a, b, n))
+
+    go : ((i ≡ 0) × (j ≡ 1)) ⊎ ((i ≡ 1) × (j ≡ 0)) → ⊥
+    go (inl z) = apart (sym both.parent ∙ (rw (z.0, z.1) at e) ∙ both.leaf)
+    go (inr z) = apart (sym both.parent ∙ sym (rw (z.0, z.1) at e) ∙ both.leaf)
+
+-- the plan word of both is that of an edit of a leaf
+plan_both : (n : ℕ) (side : Side) → n ≡ 2 → plan_over n side ≡ leaf_plan side
+plan_both n Left e = rw e refl
+plan_both n Right e = rw e refl
+
+-- its SCX-record puts the last fresh node into the place of the leaf
+pub is_leaf_edit : (f : Found) (snaps : List Snap) (j : Job) (d : Descriptor) (n : ℕ) → HasBoth f snaps → j.update.snaps ≡ snaps → j.update.plan.0 ≡ plan_over (length snaps) f.trail.side → j.update.old ≡ child_of (snap_at snaps 0) f.trail.side → j.update.fresh.0 ≡ n → Says d j → IsLeafEditAt f d n
+is_leaf_edit f snaps j d n both covers plan old fresh says = leaf_edit_words j d f n says
+    (plan ∙ plan_both (length snaps) f.trail.side both.two)
+    (ap length covers ∙ both.two)
+    (ap (λ (xs : List Snap). (snap_at xs 0).node.0) covers ∙ both.parent)
+    (ap (λ (xs : List Snap). (snap_at xs 1).node.0) covers ∙ both.leaf)
+    (ap (λ (m : NodeNo). m.0) old ∙ both.child)
+    fresh
+
+-- What it reads
+
+module _ (k : ℕ) (c : Call) (h : History) (f : Found) (snaps : List Snap) (run : IsTreeRun c.layout h) (x : HasLookedBy leaf_looks c h k f snaps) (low : f.head.class ≡ 0) where
+  abbrev old_leaf : ℕ
+  old_leaf = f.trail.node.0
+
+  pub class_is : class (value h) f.trail.node.0 ≡ 0
+  class_is = ap (λ w. w.class) x.found.head ∙ low
+
+  -- of the leaf head and count are right
+  pub leaf_begins : MayRead c.layout h f.trail.node.0 (leaf_reads f).1
+  leaf_begins = record {
+    named = found_named (ToKey k) c h run f x.found;
+    inside = (found_below (ToKey k) c h f run x.found, (found_opened (ToKey k) c h run f x.found).inside);
+    is = begun_read (value h) f.trail.node.0 f.head f.more x.found.head (x.found.more low);
+  }
+
+  -- at the end its pairs are read
+  pub pairs_are : (read : Reading) → MayRead c.layout h f.trail.node.0 read → next_read read ≡ None → read.pairs ≡ held_pairs (value h) f.trail.node.0
+  pairs_are read r whole = leaf_read (value h) f.trail.node.0 read r.is whole class_is x.found.leaf
+
+  -- which are as many as a leaf may hold
+  pub held_is : IsWellCounted (value h) f.trail.node.0 × AllBelow (2 ^ 64) (held_pairs (value h) f.trail.node.0) × IsRising (held_pairs (value h) f.trail.node.0)
+  held_is = found_holds (ToKey k) c h f run x.found low
+
+  pub many : length (held_pairs (value h) f.trail.node.0) ≡ 1 + f.more
+  many = held_count (value h) f.trail.node.0 held_is.0 ∙ ap (λ n. 1 + n) (x.found.more low)

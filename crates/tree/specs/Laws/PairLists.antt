@@ -1,0 +1,109 @@
+-- How long lists of pairs are behind an edit, and in which order their parts stand.
+use Rattle.std.proofs.Common.{◌≡◌, ◌≢◌, ℕ, suc, ◌+◌, ◌<◌, ◌≤◌, Bool, true, false, ◌==◌, if◌then◌else◌, List, [], ◌∷◌, ◌++◌, length, take, drop, Some, None, refl, sym, ◌∙◌, ap, arith, eq-eqb, ne_eqb, le-ltb}
+use Rattle.std.specs.Prelude.{nat_lt}
+use Rattle.std.proofs.Math.Decide.{dec_lt}
+use native.Mathlib.Decide.{ℕ_discrete}
+use Rattle.ordered_map.specs.declared.pair.Pair.{Pair}
+use Rattle.ordered_map.specs.OrderedMap.{pair, insert, delete, get, AllAbove, AllBelow, AllFrom, IsRising}
+use Rattle.ordered_map.proofs.Lemmas.{get_above}
+use Rattle.edits.specs.Pairs.{pair_at}
+
+-- Inserts
+
+pub insert_some : (k v : ℕ) (ps : List Pair) → 0 < length (insert k v ps)
+insert_some k v [] = omega arith
+insert_some k v (p ∷ ps) = go (nat_lt k p.key) (k == p.key)
+  where
+    go : (t u : Bool) → 0 < length (if t then pair k v ∷ p ∷ ps else (if u then pair k v ∷ ps else p ∷ insert k v ps))
+    go true u = omega arith
+    go false true = omega arith
+    go false false = omega arith
+
+pub insert_most : (k v : ℕ) (ps : List Pair) → length (insert k v ps) ≤ 1 + length ps
+insert_most k v [] = omega arith
+insert_most k v (p ∷ ps) = go (nat_lt k p.key) (k == p.key) (insert_most k v ps)
+  where
+    go : (t u : Bool) → length (insert k v ps) ≤ 1 + length ps → length (if t then pair k v ∷ p ∷ ps else (if u then pair k v ∷ ps else p ∷ insert k v ps)) ≤ 1 + suc (length ps)
+    go true u i = omega arith
+    go false true i = omega arith
+    go false false i = omega (arith, i)
+
+pub insert_least : (k v : ℕ) (ps : List Pair) → length ps ≤ length (insert k v ps)
+insert_least k v [] = omega arith
+insert_least k v (p ∷ ps) = go (nat_lt k p.key) (k == p.key) (insert_least k v ps)
+  where
+    go : (t u : Bool) → length ps ≤ length (insert k v ps) → suc (length ps) ≤ length (if t then pair k v ∷ p ∷ ps else (if u then pair k v ∷ ps else p ∷ insert k v ps))
+    go true u i = omega arith
+    go false true i = omega arith
+    go false false i = omega (arith, i)
+
+-- a present key adds none
+pub insert_present : (k v old : ℕ) (ps : List Pair) → IsRising ps → get k ps ≡ Some old → length (insert k v ps) ≡ length ps
+insert_present k v old [] r e = absurd (let z : None ≡ Some old = e in cc)
+insert_present k v old (p ∷ ps) r e = go (λ there. insert_present k v old ps r.1 there) (ℕ_discrete k p.key)
+  where
+    above : k < p.key → AllAbove k ps
+    above l = further ps r.0
+      where
+        further : (qs : List Pair) → AllAbove p.key qs → AllAbove k qs
+        further [] a = tt
+        further (q ∷ qs) a = (let b = a.0 in omega (arith, b, l), further qs a.1)
+
+    other : (get k ps ≡ Some old → length (insert k v ps) ≡ length ps) → k ≢ p.key → Dec (k < p.key) → length (insert k v (p ∷ ps)) ≡ length (p ∷ ps)
+    other rest d (yes l) = absurd (let z : None ≡ Some old = sym (get_above k ps (above l)) ∙ (rw (ne_eqb k p.key d) at e) in cc)
+    other rest d (no n) = rw (le-ltb k p.key (omega (arith, n)), ne_eqb k p.key d) (ap suc (rest (rw (ne_eqb k p.key d) at e)))
+
+    go : (get k ps ≡ Some old → length (insert k v ps) ≡ length ps) → Dec (k ≡ p.key) → length (insert k v (p ∷ ps)) ≡ length (p ∷ ps)
+    go rest (yes is) = rw (le-ltb k p.key (omega (arith, is)), eq-eqb k p.key is) refl
+    go rest (no d) = other rest d (dec_lt k p.key)
+
+-- Deletes
+
+pub delete_most : (k : ℕ) (ps : List Pair) → length (delete k ps) ≤ length ps
+delete_most k [] = omega arith
+delete_most k (p ∷ ps) = go (k == p.key) (delete_most k ps)
+  where
+    go : (t : Bool) → length (delete k ps) ≤ length ps → length (if t then ps else p ∷ delete k ps) ≤ suc (length ps)
+    go true i = omega arith
+    go false i = omega (arith, i)
+
+pub delete_least : (k : ℕ) (ps : List Pair) → length ps ≤ 1 + length (delete k ps)
+delete_least k [] = omega arith
+delete_least k (p ∷ ps) = go (k == p.key) (delete_least k ps)
+  where
+    go : (t : Bool) → length ps ≤ 1 + length (delete k ps) → suc (length ps) ≤ 1 + length (if t then ps else p ∷ delete k ps)
+    go true i = omega arith
+    go false i = omega (arith, i)
+
+-- Two parts of a list
+
+pub both_parts : (ps : List Pair) → take 2 ps ++ drop 2 ps ≡ ps
+both_parts [] = refl
+both_parts (a ∷ []) = refl
+both_parts (a ∷ b ∷ ps) = refl
+
+pub first_long : (ps : List Pair) → 2 ≤ length ps → length (take 2 ps) ≡ 2
+first_long [] l = absurd (omega (arith, l))
+first_long (a ∷ []) l = absurd (omega (arith, l))
+first_long (a ∷ b ∷ ps) l = refl
+
+pub rest_long : (ps : List Pair) → 2 ≤ length ps → 2 + length (drop 2 ps) ≡ length ps
+rest_long [] l = absurd (omega (arith, l))
+rest_long (a ∷ []) l = absurd (omega (arith, l))
+rest_long (a ∷ b ∷ ps) l = omega arith
+
+pub first_below : (hi : ℕ) (ps : List Pair) → AllBelow hi ps → AllBelow hi (take 2 ps)
+first_below hi [] x = tt
+first_below hi (a ∷ []) x = (x.0, tt)
+first_below hi (a ∷ b ∷ ps) x = (x.0, (x.1.0, tt))
+
+all_from : (k : ℕ) (ps : List Pair) → AllAbove k ps → AllFrom k ps
+all_from k [] a = tt
+all_from k (p ∷ ps) a = (let b = a.0 in omega (arith, b), all_from k ps a.1)
+
+-- where keys rise, the third stands between the parts
+pub parts_apart : (ps : List Pair) → 3 ≤ length ps → IsRising ps → AllBelow (pair_at (drop 2 ps) 0).key (take 2 ps) × AllFrom (pair_at (drop 2 ps) 0).key (drop 2 ps)
+parts_apart [] l r = absurd (omega (arith, l))
+parts_apart (a ∷ []) l r = absurd (omega (arith, l))
+parts_apart (a ∷ b ∷ []) l r = absurd (omega (arith, l))
+parts_apart (a ∷ b ∷ c ∷ ps) l r = ((r.0.1.0, (r.1.0.0, tt)), (omega arith, all_from c.key ps r.1.1.0))
