@@ -34,7 +34,7 @@ use Rattle.edits.specs.declared.update.UpdateAt.{UpdateAt}
 use Rattle.edits.specs.declared.update.UpdateRun.{UpdateRun}
 use Rattle.edits.specs.declared.update.Updated.{Updated}
 use Rattle.edits.specs.declared.update.Updated.TheVariants.{Done, Contended, Full}
-use Rattle.ordered_map.specs.CallRules.{most_nodes, need}
+use Rattle.ordered_map.specs.CallRules.{most_nodes}
 use Rattle.dict.specs.Calls.{most_tries, HasSpent, IsSmallCall}
 use Rattle.dict.specs.Goals.{goal_told, leaf_told}
 use Rattle.dict.specs.Inner.{EditKind, ReadKind}
@@ -43,7 +43,7 @@ use Rattle.dict.specs.Says.{WordSays, IsRefusal, HasLost, HasMadeEdit, HasNeeded
 use Rattle.dict.specs.Laws.Kinds.{IsEditing, IsEditKind, IsReadKind}
 use Rattle.dict.specs.WordReplies.{goal_reply, edit_reply, read_reply, told_in}
 use Rattle.dict.specs.declared.told.WordReply.TheVariants as words
-use Rattle.dict.proofs.Readings.{none_entered, answer_read, reply_read, always_read, leaf_read, leaf_needed, ran_out}
+use Rattle.dict.proofs.Readings.{NeededAs, none_entered, answer_read, reply_read, always_read, leaf_read, leaf_needed, ran_out}
 
 -- what needs something needs some nodes
 needs_some : (want : Need) → want ≢ Nothing → 0 < many_nodes want
@@ -105,7 +105,7 @@ module _ (tries : ℕ) (c : Call) (h : History) where
         subst (λ made. HasToldBy made c h call (leaf_told goal f)) (sym (is.changes m.edit f x.1.needed)) (made_edit call goal edit f (is.walks m.edit) (is.at_found m.edit f) run made.0 made.1)
 
     -- what it needs at a leaf that it has found, the map needs at a moment of the call
-    edit_needed : (then : Call) (moment : History) → IsTreeRun then.layout moment → (f : Found) → HasFoundGoal goal then moment f → k.means.needs m.edit f ≢ Nothing → (x : HasNeeded then.layout then.pass moment then.start call) × (many_nodes (k.means.needs m.edit f) ≡ need call x.map)
+    edit_needed : (then : Call) (moment : History) → IsTreeRun then.layout moment → (f : Found) → HasFoundGoal goal then moment f → k.means.needs m.edit f ≢ Nothing → NeededAs then.layout then.pass moment then.start call (k.means.needs m.edit f)
     edit_needed then moment so f found needed = leaf_needed then moment call goal f (k.means.needs m.edit f) (is.walks m.edit) (is.small m.edit small) so found (λ map e. is.needs m.edit f map e) (needs_some (k.means.needs m.edit f) needed)
 
     -- one that has lost all its tries had something to do in the newest
@@ -119,7 +119,7 @@ module _ (tries : ℕ) (c : Call) (h : History) where
         moment = x.needed.moment
 
         needed : HasNeeded c.layout c.pass h begin call
-        needed = let y = (edit_needed (begun_at c begin) moment (run_since c.layout h moment run x.needed.within) x.found x.needed.has_found x.needed.needed).0 in record { moment = y.moment; within = ends_trans h moment y.moment x.needed.within y.within; since = y.since; own = y.own; map = y.map; spelled = y.spelled; some = y.some }
+        needed = let y = (edit_needed (begun_at c begin) moment (run_since c.layout h moment run x.needed.within) x.found x.needed.has_found x.needed.needed).needed in record { moment = y.moment; within = ends_trans h moment y.moment x.needed.within y.within; since = y.since; own = y.own; map = y.map; spelled = y.spelled; some = y.some }
 
     pub edit_says : (a : Updated) → m.call ≡ c.number → m.limit ≡ tries → IsUpdateAnswer k.means m c h a → WordSays c h call m.share tries (edit_reply goal a)
     edit_says (Done key old) number limit x = (done_says goal call x.found key old x.is_key x.is_value (edit_done x.found number x.is_done), done_refuses goal call m.share key old)

@@ -1,9 +1,10 @@
 -- What a reply of the map comes from: the moment of a read, the leaf that an edit has found, the
 -- edit that it has made.
-use Rattle.std.proofs.Common.{◌≡◌, ℕ, ◌^◌, ◌<◌, List, Option, sym, ◌∙◌, ap, subst, arith}
+use Rattle.std.proofs.Common.{◌≡◌, ℕ, ◌^◌, ◌<◌, ◌≤◌, List, Option, ◌∙◌, ap, subst, arith}
 use Rattle.arena.specs.declared.fault.Full.{Full as FullOf}
 use Rattle.arena.specs.declared.fault.Resource.{Resource}
 use Rattle.arena.specs.declared.fault.Resource.TheVariants.{Nodes, Scx as ScxRecords}
+use Rattle.arena.specs.declared.layout.Layout.{Layout}
 use Rattle.arena.specs.History.{History, value, Extends}
 use Rattle.arena.specs.Machines.{Call}
 use Rattle.arena.specs.Share.{Remaining}
@@ -31,6 +32,12 @@ use Rattle.dict.specs.Goals.{goal_told, leaf_told}
 use Rattle.dict.specs.Known.{HasRested}
 use Rattle.dict.specs.Laws.Found.{found_tells}
 use Rattle.dict.specs.Says.{HasMadeRow, HasNeeded, HasReadMap, HasTooLittle, HasRunOut}
+
+-- since the moment `begin` the call has needed something, and as many nodes as this or more
+pub record NeededAs (lay : Layout) (pass : ℕ) (now begin : History) (call : MapCall) (want : Need) : Type 0 where
+  pub needed : HasNeeded lay pass now begin call
+  pub few : many_nodes want ≤ need call needed.map
+  pub some : 0 < many_nodes want
 
 module _ (c : Call) (h : History) where
   -- a pass at rest has entered nothing
@@ -99,30 +106,32 @@ module _ (c : Call) (h : History) where
         none = none;
       }
 
-  -- a share that is too small for the need, which is some, is too small for as many nodes
-  short_of : (want : Need) (many : ℕ) (left : Remaining) (what : Resource) (k : ℕ) → many_nodes want ≡ many → 0 < many → IsShort want left what k → HasTooLittle many left what k
-  short_of want many left Nodes k e some x = rw (sym e) x
-  short_of want many left ScxRecords k e some x = (let i = x.0 in omega (arith, i, e, some), x.1, x.2)
+  -- a share that is too small for the need, which is some, is too small for so many nodes or more
+  short_of : (want : Need) (many : ℕ) (left : Remaining) (what : Resource) (k : ℕ) → many_nodes want ≤ many → 0 < many_nodes want → IsShort want left what k → HasTooLittle many left what k
+  short_of want many left Nodes k few some x = (let i = x.0 in omega (arith, i, few), x.1)
+  short_of want many left ScxRecords k few some x = (let i = x.0 in omega (arith, i, some), x.1, x.2)
 
   -- the leaf that was found tells what an edit needed at a moment of the call, if it needed something
-  pub leaf_needed : (call : MapCall) (goal : Goal) (f : Found) (want : Need) → ((map : List Pair) → reply call map ≡ goal_told goal map) → path_key goal < 2 ^ 64 → IsTreeRun c.layout h → HasFoundGoal goal c h f → ((map : List Pair) → reply call map ≡ leaf_told goal f → many_nodes want ≡ need call map) → 0 < many_nodes want → (x : HasNeeded c.layout c.pass h c.start call) × (many_nodes want ≡ need call x.map)
+  pub leaf_needed : (call : MapCall) (goal : Goal) (f : Found) (want : Need) → ((map : List Pair) → reply call map ≡ goal_told goal map) → path_key goal < 2 ^ 64 → IsTreeRun c.layout h → HasFoundGoal goal c h f → ((map : List Pair) → reply call map ≡ leaf_told goal f → many_nodes want ≤ need call map) → 0 < many_nodes want → NeededAs c.layout c.pass h c.start call want
   leaf_needed call goal f want walks small run found needs some =
       let first = found.trail.node.first in
       let own = found.trail.node.own in
       let x = found_tells goal c h f small run found in
-      let e : many_nodes want ≡ need call x.map = needs x.map (walks x.map ∙ x.gives) in (
-        record {
+      let few : many_nodes want ≤ need call x.map = needs x.map (walks x.map ∙ x.gives) in
+      record {
+        needed = record {
           moment = x.moment;
           within = x.within;
           since = ends_trans x.moment first c.start x.since (own_since c first own);
           own = behind_own x.moment first own x.since;
           map = x.map;
           spelled = x.spelled;
-          some = rw (sym e) some;
-        },
-        e,
-      )
+          some = omega (arith, few, some);
+        };
+        few = few;
+        some = some;
+      }
 
   -- so the share has run out for an edit that needs it in its newest try
-  pub ran_out : (call : MapCall) (want : Need) (share : Remaining) (full : FullOf) → (only_looked : HasOnlyLooked c.pass h c.start) → (x : HasNeeded c.layout c.pass h only_looked.begin call) × (many_nodes want ≡ need call x.map) → IsShort want share full.what full.left → IsUntouched c h share → HasEnteredNone c.layout c.pass h c.start → HasRunOut c h call share full
-  ran_out call want share full only_looked x short first none = record { short = record { only_looked = only_looked; needed = x.0; short = short_of want (need call x.0.map) share full.what full.left x.1 x.0.some short }; first = first; none = none }
+  pub ran_out : (call : MapCall) (want : Need) (share : Remaining) (full : FullOf) → (only_looked : HasOnlyLooked c.pass h c.start) → NeededAs c.layout c.pass h only_looked.begin call want → IsShort want share full.what full.left → IsUntouched c h share → HasEnteredNone c.layout c.pass h c.start → HasRunOut c h call share full
+  ran_out call want share full only_looked x short first none = record { short = record { only_looked = only_looked; needed = x.needed; short = short_of want (need call x.needed.map) share full.what full.left x.few x.some short }; first = first; none = none }

@@ -21,7 +21,7 @@ map_left m nodes = inner_left (inner m) nodes
 
 -- what the inner machine is told fits so many taken nodes
 abbrev pub InnerFits : InnerRun → Option ℕ → ℕ → Type 0
-InnerFits (Update k m) got nodes = UpdateFits k.means m got nodes
+InnerFits (Update k m) got nodes = UpdateFits m got nodes
 InnerFits (Get m share) got nodes = GetFits m got nodes
 InnerFits (Read k m share) got nodes = ReadFits k.means m got nodes
 

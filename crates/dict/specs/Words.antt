@@ -1,19 +1,29 @@
--- Typed keys, values, calls and replies in words. `word` stands for the word of a key or of a
--- value, `valid` for whether it is one of its type.
-use Rattle.std.specs.Prelude.{◌≡◌, ℕ, ◌^◌, ◌<◌, All, IfSome}
+-- Typed keys, values, calls and replies in words. `word` stands for the word of a key, or for the
+-- number of a value, which has two words; `valid` for whether it is one of its type.
+use Rattle.std.specs.Prelude.{◌≡◌, ℕ, ◌^◌, ◌<◌, List, [], ◌∷◌, All, IfSome}
+use Rattle.ordered_map.specs.Holding.{wide_value}
 use Rattle.ordered_map.specs.declared.pair.Pair.{Pair}
 use Rattle.ordered_map.specs.declared.request.Request.{Request}
 use Rattle.ordered_map.specs.declared.request.Request.TheVariants.{Insert as InsertOf, Delete as DeleteOf, PopFirst as PopFirstOf, ReplaceIf as ReplaceIfOf, Get as GetOf, Successor as SuccessorOf, Range as RangeOf}
 use Rattle.ordered_map.specs.declared.reply.Reply.{Reply}
 use Rattle.ordered_map.specs.declared.reply.Reply.TheVariants.{Value, Pair as PairOf, Pairs}
 
--- a word of a key or a value
+-- the word of a key, or the number of a value
 abbrev pub IsWordOf : {T : Type 0} → (T → Type 0) → (T → ℕ) → ℕ → Type 0
 IsWordOf {T} valid word n = (x : T) × valid x × (word x ≡ n)
 
--- the word of a number that is a key or a value itself: each of 64 bits, for which it stands
+-- the word of a number that is a key itself: each of 64 bits, for which it stands
 abbrev pub IsNumber : ℕ → Type 0
 IsNumber = IsWordOf (λ n. n < 2 ^ 64) (λ n. n)
+
+-- the number of one that is a value itself: each of 128 bits
+abbrev pub IsWideNumber : ℕ → Type 0
+IsWideNumber = IsWordOf (λ n. n < 2 ^ 128) (λ n. n)
+
+-- the number of two words, the high one first
+abbrev pub number_of_words : List ℕ → ℕ
+number_of_words (high ∷ low ∷ []) = wide_value low high
+number_of_words _ = 0
 
 -- a pair of such words
 abbrev pub IsPairWord : {K V : Type 0} → (K → Type 0) → (K → ℕ) → (V → Type 0) → (V → ℕ) → Pair → Type 0

@@ -12,7 +12,7 @@ ghost use Rattle.ordered_map.specs.Requests.{as_map_call};
 use crate::key::WordKey;
 use crate::run::MapRun;
 use crate::shape::Dict;
-use crate::translation::translated;
+use crate::translation::{number_of, translated};
 use crate::value::WordValue;
 use arena::{Machine, Share, Turn};
 use ordered_map::{Reply, Request};
@@ -72,7 +72,7 @@ impl<K: WordKey, V: WordValue> DictRun<K, V> {
 
 /// The same call, in words.
 #[inline(always)]
-fn in_words<K: WordKey, V: WordValue>(request: Request<K, V>) -> Request<u64, u64>
+fn in_words<K: WordKey, V: WordValue>(request: Request<K, V>) -> Request<u64, u128>
     ensures call { as_map_call (λ k. k) (λ v. v) result ≡ as_map_call K.word_of V.word_of request }
     ensures typed { IsTypedCall (IsWordOf K.is_valid K.word_of) (IsWordOf V.is_valid V.word_of) (as_map_call K.word_of V.word_of request) }
 {
@@ -82,7 +82,7 @@ fn in_words<K: WordKey, V: WordValue>(request: Request<K, V>) -> Request<u64, u6
             value.valid();
             Request::Insert {
                 key: key.word(),
-                value: value.word(),
+                value: number_of(&value),
             }
         }
         Request::Delete { key } => {
@@ -99,8 +99,8 @@ fn in_words<K: WordKey, V: WordValue>(request: Request<K, V>) -> Request<u64, u6
             value.valid();
             Request::ReplaceIf {
                 key: key.word(),
-                expected: expected.word(),
-                value: value.word(),
+                expected: number_of(&expected),
+                value: number_of(&value),
             }
         }
         Request::Get { key } => Request::Get { key: key.word() },

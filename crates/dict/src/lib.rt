@@ -1,4 +1,4 @@
-//! An ordered dictionary on the tree: keys and values of one word each, its seven calls, and the
+//! An ordered dictionary on the tree: keys of one word, values of two, its seven calls, and the
 //! machine of one.
 #![tactic(auto)]
 
@@ -23,5 +23,5 @@ pub use ordered_map::{Reply, Request};
 pub use run::MapRun;
 pub use shape::Dict;
 pub use told::WordReply;
-pub use translation::{pair_of, pairs_of, translated, value_of};
+pub use translation::{number_of, pair_of, pairs_of, translated, value_of};
 pub use value::WordValue;

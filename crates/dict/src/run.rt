@@ -39,7 +39,7 @@ impl MapRun {
     #[inline(always)]
     pub fn new(
         alloc: Option<Global>,
-        request: Request<u64, u64>,
+        request: Request<u64, u128>,
         share: Share,
         tries: u32,
         call: u64,

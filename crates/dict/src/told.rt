@@ -11,7 +11,7 @@ use ordered_map::Pair;
 #[derive(Debug, Drop, PartialEq, Eq)]
 pub enum WordReply {
     /// What the key had, of an edit of a key, or has.
-    Value(Option<u64>),
+    Value(Option<u128>),
     /// The pair that is first, of a pop, or behind a key.
     Pair(Option<Pair>),
     /// The pairs between two keys.

@@ -1,5 +1,5 @@
 //! Replies in words as replies of keys and values.
-ghost use Rattle.std.specs.Prelude.{◌≡◌, IfSome, IfOk};
+ghost use Rattle.std.specs.Prelude.{◌≡◌, ◌≢◌, IfSome, IfOk, IsNone};
 ghost use Rattle.std.specs.Option.{option_map};
 ghost use Rattle.dict.specs.Words.{IsWordOf, IsValidReply};
 ghost use Rattle.dict.specs.Translated.{ArePairsOf, HasFormOf, IsPairOf, IsTranslated};
@@ -8,18 +8,37 @@ use crate::key::WordKey;
 use crate::told::WordReply;
 use crate::value::WordValue;
 use arena::NoMemory;
-use ordered_map::{Pair, Reply};
+use ordered_map::{Pair, Reply, halves, wide_value};
 use std::alloc::Global;
 
-/// The value of a word, if it is one's.
+/// The number of a value.
 #[inline(always)]
-pub fn value_of<V: WordValue>(word: Option<u64>) -> Option<V>
-    ensures valid { IfSome result (λ v. V.is_valid v) }
-    ensures word { IfSome word (IsWordOf V.is_valid V.word_of) → option_map V.word_of result ≡ word }
-    ensures own { IfSome result (λ v. word ≡ Option.Some (V.word_of v)) }
+pub fn number_of<V: WordValue>(value: &V) -> u128
+    ensures { result ≡ V.word_of value.now }
 {
-    match word {
-        Some(word) => V::from_word(word),
+    let [high, low] = value.words();
+    wide_value(low, high)
+}
+
+/// The value of a number, if it is one's.
+#[inline(always)]
+fn known_value<V: WordValue>(number: u128) -> Option<V>
+    ensures some { IfSome result (λ v. V.is_valid v × (V.word_of v ≡ number)) }
+    ensures none { IsNone result → (v : V) → V.is_valid v → V.word_of v ≢ number }
+{
+    let (low, high) = halves(number);
+    V::from_words([high, low])
+}
+
+/// The same, if there is a number.
+#[inline(always)]
+pub fn value_of<V: WordValue>(number: Option<u128>) -> Option<V>
+    ensures valid { IfSome result (λ v. V.is_valid v) }
+    ensures number { IfSome number (IsWordOf V.is_valid V.word_of) → option_map V.word_of result ≡ number }
+    ensures own { IfSome result (λ v. number ≡ Option.Some (V.word_of v)) }
+{
+    match number {
+        Some(number) => known_value(number),
         None => None,
     }
 }
@@ -30,7 +49,7 @@ fn known_pair<K: WordKey, V: WordValue>(words: Pair) -> Option<(K, V)>
     ensures { IsPairOf K.is_valid K.word_of V.is_valid V.word_of (Option.Some words) result }
 {
     let key = K::from_word(words.key)?;
-    let value = V::from_word(words.value)?;
+    let value = known_value(words.value)?;
     Some((key, value))
 }
 
@@ -71,7 +90,7 @@ pub fn translated<K: WordKey, V: WordValue>(alloc: Option<Global>, reply: WordRe
     ensures form { HasFormOf reply result }
 {
     match reply {
-        WordReply::Value(word) => Reply::Value(value_of(word)),
+        WordReply::Value(number) => Reply::Value(value_of(number)),
         WordReply::Pair(words) => Reply::Pair(pair_of(words)),
         WordReply::Pairs(words) => match alloc {
             Some(alloc) => match pairs_of(alloc, &words) {

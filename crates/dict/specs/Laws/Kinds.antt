@@ -1,5 +1,5 @@
 -- What has to be so of a kind of edit, and that it is so of each that runs inside of a call.
-use Rattle.std.proofs.Common.{◌≡◌, ◌≢◌, ℕ, ◌*◌, ◌^◌, ◌<◌, ◌≤◌, Bool, true, false, cond, List, Option, Some, None, Result, Ok, Err, Vec, inl, inr, refl, sym, ap, ◌∙◌, arith}
+use Rattle.std.proofs.Common.{◌≡◌, ◌≢◌, ℕ, ◌+◌, ◌*◌, ◌^◌, ◌<◌, ◌≤◌, Bool, true, false, cond, List, Option, Some, None, Result, Ok, Err, Vec, inl, inr, refl, sym, ap, ◌∙◌, subst, arith}
 use Rattle.std.specs.Global.{Global}
 use Rattle.std.specs.Option.{option_map}
 use Rattle.arena.specs.declared.step.Kind.{Kind}
@@ -17,7 +17,7 @@ use Rattle.ordered_map.specs.declared.pair.Pair.{Pair}
 use Rattle.template.specs.FoundLeaf.{path_key}
 use Rattle.template.specs.declared.walk.Found.{Found}
 use Rattle.tree.specs.Delete.Means.{delete_need}
-use Rattle.tree.specs.Insert.Means.{insert_need}
+use Rattle.tree.specs.Insert.Means.{has_room, insert_need, need_by}
 use Rattle.tree.proofs.Lemmas.{insert_in_order, delete_in_order, pop_in_order, replace_in_order}
 use Rattle.edits.specs.Known.{UpdateWaits}
 use Rattle.edits.specs.Pieces.{many_nodes}
@@ -63,8 +63,8 @@ pub record IsEditKind (k : EditKind) : Type 0 where
   pub most : (e : k.E) → k.means.most_nodes ≡ most_nodes (k.call e)
   -- and makes at most as many steps
   pub steps : (e : k.E) (tries nodes : ℕ) → tries * try_left k.means nodes ≡ most_steps (k.call e) tries nodes
-  -- it needs as many nodes on a map that replies what its leaf tells
-  pub needs : (e : k.E) (f : Found) (map : List Pair) → reply (k.call e) map ≡ leaf_told (k.means.goal e) f → many_nodes (k.means.needs e f) ≡ need (k.call e) map
+  -- it needs no more nodes than that on a map that replies what its leaf tells
+  pub needs : (e : k.E) (f : Found) (map : List Pair) → reply (k.call e) map ≡ leaf_told (k.means.goal e) f → many_nodes (k.means.needs e f) ≤ need (k.call e) map
   -- it fills its nodes in order
   pub in_order : (m : UpdateRun k.E UpdateAt) (c : Call) (h : History) (s : Step) → AreFilledInOrder h → UpdateWaits k.means m c h s → IsFillInOrder h (row_of c s h)
   -- where it needs none it is a reading
@@ -102,15 +102,25 @@ pop_form (Done own told) = tt
 pop_form (Contended node scx) = tt
 pop_form (Full full) = tt
 
--- an insert always has something to make
-insert_makes : (old : Option ℕ) → insert_need old ≢ Nothing
-insert_makes None e = cc
-insert_makes (Some v) e = cc
+-- as many are no more
+as_many : (m n : ℕ) → m ≡ n → m ≤ n
+as_many m n e = omega (arith, e)
 
--- and needs as many nodes as the call does
-insert_many : (old : Option ℕ) → many_nodes (insert_need old) ≡ insert_nodes old
-insert_many None = refl
-insert_many (Some v) = refl
+-- tries of so many steps
+steps_of : (tries n m : ℕ) → n ≡ m → tries * n ≡ tries * m
+steps_of tries n m e = ap (λ k. tries * k) e
+
+-- an insert always has something to make
+insert_makes : (old : Option ℕ) (room : Bool) → need_by old room ≢ Nothing
+insert_makes None true e = cc
+insert_makes None false e = cc
+insert_makes (Some v) room e = cc
+
+-- and needs no more nodes than the call does: one where a new key has room in its leaf
+insert_many : (old : Option ℕ) (room : Bool) → many_nodes (need_by old room) ≤ insert_nodes old
+insert_many None true = omega arith
+insert_many None false = omega arith
+insert_many (Some v) room = omega arith
 
 -- an insert is such a kind
 pub insert_is : IsEditKind insert_kind
@@ -121,10 +131,10 @@ insert_is = record {
   at_found = λ e f. refl;
   form = λ e a. value_form (MapEdit.Insert e.key e.value) a;
   most = λ e. refl;
-  steps = λ e tries nodes. refl;
-  needs = λ e f map is. insert_many f.value ∙ ap insert_nodes (sym (same_value (get e.key map) f.value is));
+  steps = λ e tries nodes. steps_of tries (try_left insert_kind.means nodes) (3 * (2 + nodes) + 207) (omega arith);
+  needs = λ e f map is. subst (λ old. many_nodes (insert_need f) ≤ insert_nodes old) (sym (same_value (get e.key map) f.value is)) (insert_many f.value (has_room f));
   in_order = λ m c h s filled w. insert_in_order m c h s w;
-  reads = λ e f nothing. absurd (insert_makes f.value nothing);
+  reads = λ e f nothing. absurd (insert_makes f.value (has_room f) nothing);
   changes = λ e f needed. refl;
 }
 
@@ -150,8 +160,8 @@ delete_is = record {
   at_found = λ e f. refl;
   form = λ e a. value_form (MapEdit.Delete e.key) a;
   most = λ e. refl;
-  steps = λ e tries nodes. refl;
-  needs = λ e f map is. delete_many f.value ∙ ap delete_nodes (sym (same_value (get e.key map) f.value is));
+  steps = λ e tries nodes. steps_of tries (try_left delete_kind.means nodes) (3 * (2 + nodes) + 328) (omega arith);
+  needs = λ e f map is. as_many _ _ (delete_many f.value ∙ ap delete_nodes (sym (same_value (get e.key map) f.value is)));
   in_order = λ m c h s filled w. delete_in_order m c h s filled w;
   reads = λ e f nothing. delete_reads e.key f.value nothing;
   changes = λ e f needed. delete_changes e.key f.value needed;
@@ -182,8 +192,8 @@ pop_is = record {
   at_found = λ e f. refl;
   form = λ e a. pop_form a;
   most = λ e. refl;
-  steps = λ e tries nodes. refl;
-  needs = λ e f map is. pop_many f.key f.value (first_pair map) is;
+  steps = λ e tries nodes. steps_of tries (try_left pop_kind.means nodes) (3 * (2 + nodes) + 328) (omega arith);
+  needs = λ e f map is. as_many _ _ (pop_many f.key f.value (first_pair map) is);
   in_order = λ m c h s filled w. pop_in_order m c h s filled w;
   reads = λ e f nothing. pop_reads f.key f.value nothing;
   changes = λ e f needed. pop_changes f.key f.value needed;
@@ -212,8 +222,8 @@ replace_is = record {
   at_found = λ e f. refl;
   form = λ e a. replace_form e.key e.expected e.value a;
   most = λ e. refl;
-  steps = λ e tries nodes. refl;
-  needs = λ e f map is. replace_many (is_value e.expected f.value) ∙ ap (replace_nodes e.expected) (sym (same_value (get e.key map) f.value is));
+  steps = λ e tries nodes. steps_of tries (try_left replace_kind.means nodes) (3 * (2 + nodes) + 207) (omega arith);
+  needs = λ e f map is. as_many _ _ (replace_many (is_value e.expected f.value) ∙ ap (replace_nodes e.expected) (sym (same_value (get e.key map) f.value is)));
   in_order = λ m c h s filled w. replace_in_order m c h s w;
   reads = λ e f nothing. replace_reads (is_value e.expected f.value) (MapEdit.Insert e.key e.value) nothing;
   changes = λ e f needed. replace_changes (is_value e.expected f.value) (MapEdit.Insert e.key e.value) needed;

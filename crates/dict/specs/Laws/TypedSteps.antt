@@ -31,7 +31,7 @@ use Rattle.edits.specs.Known.{Scxs, UpdateWaitsAt, UpdateIsToldAt, UpdateWaits}
 use Rattle.edits.specs.Laws.Update.{update_lawful, update_made}
 use Rattle.edits.specs.declared.edit.Need.TheVariants.{Nothing}
 use Rattle.edits.specs.declared.update.UpdateAt.{UpdateAt}
-use Rattle.edits.specs.declared.update.UpdateAt.TheVariants.{Start, Walk, Look, Load, Fill, Scx}
+use Rattle.edits.specs.declared.update.UpdateAt.TheVariants.{Start, Walk, Look, Read, Fill, Scx}
 use Rattle.edits.specs.declared.update.UpdateRun.{UpdateRun}
 use Rattle.prims.specs.declared.scx.ScxAt.{ScxAt}
 use Rattle.prims.specs.declared.scx.ScxAt.TheVariants.{Start as ScxStart, Help}
@@ -134,7 +134,7 @@ module _ (keys values : ℕ → Type 0) where
     lawful_at a b Start tree w x = absurd w
     lawful_at a b (Walk walk) tree w x = typed_quiet c.layout h (row_of c s h) run tree x.0.rests.over
     lawful_at a b (Look f llx) tree w x = typed_quiet c.layout h (row_of c s h) run tree x.1.rests.over
-    lawful_at a b (Load f nth part) tree w x = typed_no_freeze c.layout h (row_of c s h) run tree (λ q. let z : LoadSettled ≡ Freeze = sym (ap (λ (t : Step). t.kind) w.1) ∙ q in cc)
+    lawful_at a b (Read f n part) tree w x = typed_no_freeze c.layout h (row_of c s h) run tree (λ q. let z : LoadSettled ≡ Freeze = sym (ap (λ (t : Step). t.kind) w.1) ∙ q in cc)
     lawful_at a b (Fill f nth part) tree w x = typed_no_freeze c.layout h (row_of c s h) run tree (λ q. let z : FillKind ≡ Freeze = sym (ap (λ (t : Step). t.kind) w.3) ∙ q in cc)
     lawful_at a b (Scx f scx) tree w x = typed_step c.layout h (row_of c s h) run tree (in_hand b f scx x.0 (scx_walked a f scx w) tree x.1)
 
