@@ -21,7 +21,7 @@ pub(crate) fn changed_key(command: Command) -> Option<u64>
 
 /// The key that an entry of a command changes, and what it leaves there, if it is an edit. Of a pop
 /// the caller knows which key it has taken out.
-pub fn edited(command: Command, taken: Option<u64>) -> Option<(u64, Option<u64>)>
+pub fn edited(command: Command, taken: Option<u64>) -> Option<(u64, Option<u128>)>
     ensures edits { (e : MapEdit) → entered_edit (map_call (Some command)) taken ≡ Some e → result ≡ Some (edit_key e, value_left e) }
     ensures key { IfSome result (λ r. (changed_key command ≡ Some r.0) ⊎ (taken ≡ Some r.0)) }
 {

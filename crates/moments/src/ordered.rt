@@ -16,7 +16,7 @@ use std::ops::Bound;
 use std::slice;
 
 /// The pairs that a reply tells.
-pub fn pairs_told(reply: &Reply<u64, u64>) -> &[(u64, u64)]
+pub fn pairs_told(reply: &Reply<u64, u128>) -> &[(u64, u128)]
     ensures { number_pairs result.now ≡ pairs_in (number_reply reply.now) }
 {
     match reply {
@@ -29,9 +29,9 @@ pub fn pairs_told(reply: &Reply<u64, u64>) -> &[(u64, u64)]
 /// Whether a key of this value is not as these pairs tell, which the read has told.
 pub(crate) fn is_unlike(
     command: &Command,
-    pairs: &[(u64, u64)],
+    pairs: &[(u64, u128)],
     key: u64,
-    value: Option<u64>,
+    value: Option<u128>,
 ) -> bool
     ensures { result ≡ is_unlike command.now (number_pairs pairs.now) key value }
 {
@@ -80,14 +80,14 @@ pub(crate) fn most_told(command: &Command) -> usize
 }
 
 /// Whether these pairs, of at most so many, tell what the key has.
-fn reaches(most: usize, pairs: &[(u64, u64)], key: u64) -> bool
+fn reaches(most: usize, pairs: &[(u64, u128)], key: u64) -> bool
     ensures { result ≡ reaches most (number_pairs pairs.now) key }
 {
     pairs.len() < most || go_as_far(pairs, key)
 }
 
 /// Whether one of these pairs has this key, or a key above it.
-fn go_as_far(pairs: &[(u64, u64)], key: u64) -> bool
+fn go_as_far(pairs: &[(u64, u128)], key: u64) -> bool
     ensures { result ≡ list_any (λ p. nat_le key p.key) (number_pairs pairs.now) }
 {
     for pair in pairs {
@@ -99,7 +99,7 @@ fn go_as_far(pairs: &[(u64, u64)], key: u64) -> bool
 }
 
 /// The pairs behind the first one, where that has this key and this value.
-pub(crate) fn behind(pairs: &[(u64, u64)], key: u64, value: u64) -> Option<&[(u64, u64)]>
+pub(crate) fn behind(pairs: &[(u64, u128)], key: u64, value: u128) -> Option<&[(u64, u128)]>
     ensures some { IfSome result (λ rest. (first : PairOf) × (first.key ≡ key) × (first.value ≡ value) ×
         (number_pairs pairs.now ≡ first ∷ number_pairs rest.now)) }
     ensures none { IfNone result ((first : PairOf) (rest : List PairOf) → first.key ≡ key → first.value ≡ value → number_pairs pairs.now ≢ first ∷ rest) }
@@ -113,7 +113,7 @@ pub(crate) fn behind(pairs: &[(u64, u64)], key: u64, value: u64) -> Option<&[(u6
 }
 
 /// The value of the key in these pairs.
-fn value_in(pairs: &[(u64, u64)], key: u64) -> Option<u64>
+fn value_in(pairs: &[(u64, u128)], key: u64) -> Option<u128>
     ensures { result ≡ get key (number_pairs pairs.now) }
 {
     for pair in pairs {

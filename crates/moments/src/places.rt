@@ -17,7 +17,7 @@ use std::collections::BTreeMap;
 pub struct Change {
     pub turn: u64,
     pub key: u64,
-    pub value: Option<u64>,
+    pub value: Option<u128>,
 }
 
 /// A change, and where in the list the one before it of the same key stands.
@@ -104,7 +104,7 @@ impl Places {
     }
 
     /// The greatest turn from `first` to `last` after which the key has this value; none has one.
-    pub fn greatest(&self, key: u64, value: Option<u64>, first: u64, last: u64) -> Option<u64>
+    pub fn greatest(&self, key: u64, value: Option<u128>, first: u64, last: u64) -> Option<u64>
         requires { first ≤ last }
         ensures found { (calls : List Call) (lines : List Line) → AreEntries calls lines (changes self.now) → IfSome result
             (λ m. IsGreatestTurn (λ n. get key (map_at calls lines n) ≡ value) first last m) }
@@ -171,7 +171,7 @@ impl Places {
 
     /// Whether these pairs are what an ordered read tells of the map after a turn. It goes over the
     /// keys between which the read looks alone, and no further than the read tells.
-    pub fn tells(&self, command: &Command, pairs: &[(u64, u64)], turn: u64) -> bool
+    pub fn tells(&self, command: &Command, pairs: &[(u64, u128)], turn: u64) -> bool
         ensures told { (calls : List Call) (lines : List Line) → AreEntries calls lines (changes self.now) → IsTrue result →
             pairs_read command.now (map_at calls lines turn) ≡ number_pairs pairs.now }
         ensures other { (calls : List Call) (lines : List Line) → AreEntries calls lines (changes self.now) → result ≡ false →
@@ -195,7 +195,7 @@ impl Places {
     }
 
     /// The value after a turn of the key whose newest change stands here.
-    fn value_from(&self, newest: Option<usize>, turn: u64) -> Option<u64>
+    fn value_from(&self, newest: Option<usize>, turn: u64) -> Option<u128>
         requires { (key : ℕ) × (newest ≡ latest key (reverse self.now.list.items)) }
         ensures { (key : ℕ) (calls : List Call) (lines : List Line) → newest ≡ latest key (reverse self.now.list.items) →
             AreEntries calls lines (changes self.now) → result ≡ get key (map_at calls lines turn) }
@@ -216,7 +216,7 @@ impl Places {
     pub fn greatest_of(
         &self,
         command: &Command,
-        reply: &Reply<u64, u64>,
+        reply: &Reply<u64, u128>,
         first: u64,
         last: u64,
     ) -> u64
@@ -232,7 +232,7 @@ impl Places {
 
     /// The same by the pairs that are told: the best turn, after which the fewest keys are not as
     /// told, and of these the greatest. It goes back from change to change.
-    fn greatest_told(&self, command: &Command, pairs: &[(u64, u64)], first: u64, last: u64) -> u64
+    fn greatest_told(&self, command: &Command, pairs: &[(u64, u128)], first: u64, last: u64) -> u64
         ensures within { first ≤ last → FallFrom (suc last) (changes self.now) → (first ≤ result) × (result ≤ last) }
         ensures greatest { (calls : List Call) (lines : List Line) (n : ℕ) → AreEntries calls lines (changes self.now) →
             FallFrom (suc last) (changes self.now) → first ≤ n → n ≤ last →
@@ -257,7 +257,7 @@ impl Places {
     }
 
     /// The value that the change at a place has left to its key; none where there is no place.
-    fn value_at(&self, at: Option<usize>) -> Option<u64>
+    fn value_at(&self, at: Option<usize>) -> Option<u128>
         ensures { (key : ℕ) (newer older : List Place) → reverse self.now.list.items ≡ newer ++ older →
             at ≡ latest key older → result ≡ newest_value key (map (λ (q : Place). q.change) older) }
     {

@@ -125,7 +125,7 @@ pub enum Answer {
     /// tree; an edit was not made and never will be. `insert`, `delete`, `pop_first`, `replace_if`:
     /// `Full`, so many of the resource are left in the client's share, too few for the call.
     /// `successor`, `range`: `NoMemory`, an allocation was refused.
-    Map(Reply<u64, u64>),
+    Map(Reply<u64, u128>),
     /// `scx`, `set`: `left` of the resource are left in the client's share, too few for the call.
     Full { what: Resource, left: u32 },
 }

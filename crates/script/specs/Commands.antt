@@ -73,20 +73,20 @@ IsCell node = (1 ≤ node) × (node ≤ 8)
 abbrev pub AreCells : List ℕ → Type 0
 AreCells nodes = (1 ≤ length nodes) × All IsCell nodes
 
--- the call of the map is one that there is: its keys and its values fit a word, and it asks for at
--- most 64 pairs
+-- the call of the map is one that there is: its keys fit a word and its values two, and it asks for
+-- at most 64 pairs
 abbrev pub IsRequest : Request ℕ ℕ → Type 0
-IsRequest (Insert key value) = (key < 2 ^ 64) × (value < 2 ^ 64)
+IsRequest (Insert key value) = (key < 2 ^ 64) × (value < 2 ^ 128)
 IsRequest (Delete key) = key < 2 ^ 64
 IsRequest PopFirst = Unit {0}
-IsRequest (ReplaceIf key expected value) = (key < 2 ^ 64) × (expected < 2 ^ 64) × (value < 2 ^ 64)
+IsRequest (ReplaceIf key expected value) = (key < 2 ^ 64) × (expected < 2 ^ 128) × (value < 2 ^ 128)
 IsRequest (Get key) = key < 2 ^ 64
 IsRequest (Successor key) = key < 2 ^ 64
 IsRequest (Range low high most) = (low < 2 ^ 64) × (high < 2 ^ 64) × (most ≤ 64)
 
--- the command is one that there is: its nodes are cells, its value fits a word, and so do the keys
--- of a call of the map; an `Update` itself says that those finalized are a part of its cells, and
--- that its field belongs to one
+-- the command is one that there is: its nodes are cells, the value of a fresh cell fits a word, and a
+-- call of the map is one that there is; an `Update` itself says that those finalized are a part of its
+-- cells, and that its field belongs to one
 abbrev pub IsCommand : Command → Type 0
 IsCommand (Llx cell) = IsCell cell
 IsCommand (Scx update) = AreCells (update_cells update) × (update_value update < 2 ^ 64)

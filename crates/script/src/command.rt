@@ -19,7 +19,7 @@ pub enum Command {
     /// LLX of a cell, then SCX of it alone.
     Set { field: (Cell, Side), value: u64 },
     /// A call of the map, in tree mode.
-    Map(Request<u64, u64>),
+    Map(Request<u64, u128>),
 }
 
 /// What an SCX changes: a field of one of its cells gets a fresh cell with this value, and some of

@@ -277,15 +277,15 @@ impl CommandText {
     }
 
     /// The text of a call of the map. The only error is want of memory.
-    fn of_request(alloc: Global, request: &Request<u64, u64>) -> Result<CommandText, AllocError>
+    fn of_request(alloc: Global, request: &Request<u64, u128>) -> Result<CommandText, AllocError>
         ensures { IfOk result (λ t. t.name.now ∷ string_bytes t.a ∷ string_bytes t.b ∷ string_bytes t.c ∷ [] ≡ request_row request.now) }
     {
         match *request {
             Request::Insert { key, value } => {
-                CommandText::of_numbers(alloc, "insert", [Some(key), Some(value), None])
+                CommandText::of_numbers(alloc, "insert", [Some(key.into()), Some(value), None])
             }
             Request::Delete { key } => {
-                CommandText::of_numbers(alloc, "delete", [Some(key), None, None])
+                CommandText::of_numbers(alloc, "delete", [Some(key.into()), None, None])
             }
             Request::PopFirst => CommandText::of_numbers(alloc, "pop_first", [None, None, None]),
             Request::ReplaceIf {
@@ -295,15 +295,19 @@ impl CommandText {
             } => CommandText::of_numbers(
                 alloc,
                 "replace_if",
-                [Some(key), Some(expected), Some(value)],
+                [Some(key.into()), Some(expected), Some(value)],
             ),
-            Request::Get { key } => CommandText::of_numbers(alloc, "get", [Some(key), None, None]),
+            Request::Get { key } => {
+                CommandText::of_numbers(alloc, "get", [Some(key.into()), None, None])
+            }
             Request::Successor { key } => {
-                CommandText::of_numbers(alloc, "successor", [Some(key), None, None])
+                CommandText::of_numbers(alloc, "successor", [Some(key.into()), None, None])
             }
-            Request::Range { low, high, most } => {
-                CommandText::of_numbers(alloc, "range", [Some(low), Some(high), Some(most.into())])
-            }
+            Request::Range { low, high, most } => CommandText::of_numbers(
+                alloc,
+                "range",
+                [Some(low.into()), Some(high.into()), Some(most.into())],
+            ),
         }
     }
 
@@ -311,7 +315,7 @@ impl CommandText {
     fn of_numbers(
         alloc: Global,
         name: &'static str,
-        numbers: [Option<u64>; 3],
+        numbers: [Option<u128>; 3],
     ) -> Result<CommandText, AllocError>
         ensures { IfOk result (λ t. t.name.now ∷ string_bytes t.a ∷ string_bytes t.b ∷ string_bytes t.c ∷ []
             ≡ name.now ∷ map (λ n. option_map_or decimal n []) numbers) }
@@ -327,7 +331,7 @@ impl CommandText {
 }
 
 /// The text of an argument: of none it is empty.
-fn argument_text(alloc: Global, number: Option<u64>) -> Result<String, AllocError>
+fn argument_text(alloc: Global, number: Option<u128>) -> Result<String, AllocError>
     ensures { IfOk result (λ text. string_bytes text ≡ option_map_or decimal number []) }
 {
     match number {

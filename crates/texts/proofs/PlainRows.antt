@@ -1,7 +1,7 @@
 -- Rows whose fields csv writes as they are.
 use Rattle.std.proofs.Common.{◌≡◌, ℕ, ◌+◌, ◌%◌, ◌<◌, ◌^◌, ◌∙◌, List, [], ◌∷◌, ◌++◌, ap, append_assoc, arith, refl}
 use Rattle.std.proofs.lemmas.List.Folds.{list_any-append}
-use Rattle.std.proofs.lemmas.Fmt.{decimal_by_steps}
+use Rattle.std.proofs.lemmas.Fmt.{decimal_by_steps_wide}
 use Rattle.std.specs.Prelude.{decimal, ◌||◌}
 use Rattle.csv.specs.Writing.{default_writer, field_text, fields_text, is_blank, needs_byte, needs_quotes, row_text}
 use Rattle.std.proofs.lemmas.Bool.{ne_eqb}
@@ -21,9 +21,9 @@ pub plain_append : (xs ys : List ℕ) → IsPlain xs → IsPlain ys → IsPlain 
 plain_append xs ys p q = list_any-append (needs_byte default_writer) xs ys ∙ ap (λ b. b || needs_quotes default_writer ys) p ∙ q
 
 -- numbers are plain
-pub plain_number : (n : ℕ) → n < 2 ^ 64 → IsPlain (decimal n)
-plain_number n fits =
-    decimal_by_steps (λ n ds. IsPlain ds) (λ d small. digit_is_plain d small) (λ n ds large rest. plain_append ds ((48 + n % 10) ∷ []) rest (digit_is_plain (n % 10) (omega arith))) n fits
+pub plain_number : (n : ℕ) → n < 10 ^ 64 → IsPlain (decimal n)
+plain_number n short =
+    decimal_by_steps_wide (λ n ds. IsPlain ds) (λ d small. digit_is_plain d small) (λ n ds large rest. plain_append ds ((48 + n % 10) ∷ []) rest (digit_is_plain (n % 10) (omega arith))) n short
 
 -- a plain field is written as it is
 field_is : (field : List ℕ) → IsPlain field → field_text default_writer field ≡ field

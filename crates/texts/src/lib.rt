@@ -14,7 +14,7 @@ mod sheet;
 pub use fail_at::FailAt;
 pub use fault::{Cause, TextFault, WriteFault};
 pub use metered::Metered;
-pub use number::{is_number, number_of, small_number_of};
+pub use number::{Number, is_number, number_of, small_number_of};
 pub use page::Page;
 pub use rows::{Format, Rows, by_failure_count, field};
 pub use sending::send;

@@ -1,45 +1,97 @@
 //! Numbers as texts have them.
-ghost use Rattle.std.specs.Prelude.{◌≡◌, ◌≢◌, ℕ, ◌+◌, ◌^◌, ◌<◌, ◌≤◌, ◌↔◌, List, [], ◌∷◌, ◌++◌, decimal, IfSome, IsTrue, MatchOption};
+ghost use Rattle.std.specs.Prelude.{◌≡◌, ◌≢◌, ℕ, ◌*◌, ◌+◌, ◌^◌, ◌<◌, ◌≤◌, ◌↔◌, List, decimal, IfSome, IsSome, IsTrue, MatchOption};
+
+/// What a text may spell: a word, or a value of two words.
+pub trait Number: Copy {
+    /// All are below it.
+    ghost limit: { ℕ };
+
+    /// The number that it is.
+    ghost number: { Self → ℕ };
+
+    /// The number of one digit.
+    fn of_digit(digit: u8) -> Self
+        ensures { number result ≡ digit };
+
+    /// The number that has one digit more, if there is room for it.
+    fn with_digit(self, digit: u8) -> Option<Self>
+        requires { digit < 10 }
+        ensures fits { IsSome result ↔ (number self * 10 + digit < limit) }
+        ensures value { IfSome result (λ n. number n ≡ number self * 10 + digit) };
+
+    /// None has more than 64 digits.
+    ghost few_digits: { limit ≤ 10 ^ 64 };
+}
+
+impl Number for u64 {
+    ghost limit = { 2 ^ 64 };
+
+    ghost number = { λ n. n };
+
+    #[inline]
+    fn of_digit(digit: u8) -> u64 {
+        u64::from(digit)
+    }
+
+    /// One below 10 ^ 18 has room for the digit, so that no product is tested.
+    #[inline]
+    fn with_digit(self, digit: u8) -> Option<u64> {
+        if self < 1_000_000_000_000_000_000 {
+            return Some(self * 10 + u64::from(digit));
+        }
+        self.checked_mul(10)?.checked_add(u64::from(digit))
+    }
+
+    ghost use Rattle.std.proofs.Common.{lit≤};
+
+    ghost few_digits = { lit≤ tt };
+}
+
+impl Number for u128 {
+    ghost limit = { 2 ^ 128 };
+
+    ghost number = { λ n. n };
+
+    #[inline]
+    fn of_digit(digit: u8) -> u128 {
+        u128::from(digit)
+    }
+
+    #[inline]
+    fn with_digit(self, digit: u8) -> Option<u128> {
+        self.checked_mul(10)?.checked_add(u128::from(digit))
+    }
+
+    ghost use Rattle.std.proofs.Common.{lit≤};
+
+    ghost few_digits = { lit≤ tt };
+}
 
 /// The number that a text spells: decimal digits, with no leading zero and no sign.
-pub fn number_of(text: &str) -> Option<u64>
-    ensures { MatchOption result ((n : ℕ) → n < 2 ^ 64 → text.now ≢ decimal n) (λ n. text.now ≡ decimal n) }
+pub fn number_of<N: Number>(text: &str) -> Option<N>
+    ensures { MatchOption result ((n : ℕ) → n < N.limit → text.now ≢ decimal n) (λ n. text.now ≡ decimal (N.number n)) }
 {
     let (first, more) = text.as_bytes().split_first()?;
-    let mut number = digit_of(*first)?;
-    if number == 0 && !more.is_empty() {
+    let digit = digit_of(*first)?;
+    if digit == 0 && !more.is_empty() {
         return None;
     }
+    let mut number = N::of_digit(digit);
     for byte in more {
-        number = with_digit(number, *byte)?;
+        number = number.with_digit(digit_of(*byte)?)?;
     }
     Some(number)
 }
 
 /// The number that a digit spells.
 #[inline]
-fn digit_of(byte: u8) -> Option<u64>
+fn digit_of(byte: u8) -> Option<u8>
     ensures { MatchOption result ((n : ℕ) → n < 10 → byte ≢ 48 + n) (λ n. (n < 10) × (byte ≡ 48 + n)) }
 {
     match byte {
-        b'0'..=b'9' => Some(u64::from(byte - b'0')),
+        b'0'..=b'9' => Some(byte - b'0'),
         _ => None,
     }
-}
-
-/// The number that is spelled by the digits of another and one more. One below 10 ^ 18 has room for
-/// it, so that no product is tested.
-#[inline]
-#[tactic(auto, using(crate::proofs::Numbers::more_digits))]
-fn with_digit(number: u64, byte: u8) -> Option<u64>
-    requires { 0 < number }
-    ensures { MatchOption result ((n : ℕ) → n < 2 ^ 64 → decimal n ≢ decimal number ++ byte ∷ []) (λ n. decimal n ≡ decimal number ++ byte ∷ []) }
-{
-    let digit = digit_of(byte)?;
-    if number < 1_000_000_000_000_000_000 {
-        return Some(number * 10 + digit);
-    }
-    number.checked_mul(10)?.checked_add(digit)
 }
 
 /// Whether a text spells this number.
@@ -56,5 +108,5 @@ pub fn small_number_of(text: &str) -> Option<u32>
     ensures spells { MatchOption result ((n : ℕ) → n < 2 ^ 32 → text.now ≢ decimal n) (λ n. text.now ≡ decimal n) }
     ensures fits { IfSome result (λ n. n < 2 ^ 32) }
 {
-    u32::try_from(number_of(text)?).ok()
+    u32::try_from(number_of::<u64>(text)?).ok()
 }

@@ -1,11 +1,11 @@
 //! Rows of so many fields as lines of text.
-ghost use Rattle.std.specs.Prelude.{◌≡◌, ◌≤◌, [], ◌∷◌, ◌++◌, IfOk, OnOk, Some, decimal, length};
+ghost use Rattle.std.specs.Prelude.{◌≡◌, ◌≤◌, [], ◌∷◌, ◌++◌, IfOk, OnOk, Some, length};
 ghost use Rattle.std.specs.Io.KnownBytes.{Appends, Keeps};
 ghost use Rattle.csv.specs.Records.{fields_of, partial_of};
 ghost use Rattle.texts.specs.Pages.{IsReady, line_of, padded, page_row, page_text};
 
 use csv::{ByteRecord, Writer, WriterBuilder};
-use itoa::Buffer;
+use itoa::{Buffer, Integer};
 use std::alloc::{AllocError, Global};
 
 /// Lines of text with `WIDTH` fields each, and the first fields of the next one. After a refusal it
@@ -40,10 +40,10 @@ impl<const WIDTH: usize> Page<WIDTH> {
     }
 
     /// A number as one more field of the next line.
-    pub fn number(&mut self, n: u64) -> Result<(), AllocError>
+    pub fn number<N: Integer>(&mut self, n: N) -> Result<(), AllocError>
         requires { IsReady self.old }
         ensures ready { OnOk result (IsReady self.new) }
-        ensures row { OnOk result (page_row self.new ≡ page_row self.old ++ decimal n ∷ []) }
+        ensures row { OnOk result (page_row self.new ≡ page_row self.old ++ N.text n ∷ []) }
         ensures text { OnOk result (page_text self.new ≡ page_text self.old) }
     {
         self.text(Buffer::new().format(n))

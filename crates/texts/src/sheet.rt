@@ -2,7 +2,7 @@
 ghost use Rattle.std.specs.Prelude.{◌≡◌, ◌≤◌, ◌+◌, [], ◌++◌, OnOk, decimal, length, vec_len};
 
 use crate::digits::digits_in;
-use itoa::write_digits;
+use itoa::{Buffer, write_digits};
 use std::alloc::{AllocError, Global};
 
 /// Text, and room behind it. Room is made once for many bytes, and names and numbers are then put in
@@ -92,5 +92,20 @@ impl Sheet {
         let end = self.end + digits_in(n);
         write_digits(n, self.bytes.as_mut_slice(), end);
         self.end = end;
+    }
+
+    /// Puts the digits of a number of up to two words behind the text that stands.
+    #[inline]
+    pub fn wide_number(&mut self, n: u128)
+        requires { 39 ≤ sheet_room self.old }
+        ensures text { sheet_text self.new ≡ sheet_text self.old ++ decimal n }
+        ensures room { sheet_room self.new + length (decimal n) ≡ sheet_room self.old }
+        ensures short { length (decimal n) ≤ 39 }
+        ensures plain { IsPlain (decimal n) }
+    {
+        match u64::try_from(n) {
+            Ok(word) => self.number(word),
+            Err(_) => self.put(Buffer::new().format(n)),
+        }
     }
 }

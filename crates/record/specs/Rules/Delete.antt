@@ -23,8 +23,9 @@ DeleteIsRight key lay tries c now start linked (Map (Value (Some old))) = Unit {
 DeleteIsRight key lay tries c now start linked (Map (Value None)) = HadAtKey lay now start key None
 -- after some row behind the call's begin the map had the key, and all tries were lost
 DeleteIsRight key lay tries c now start linked (Map (Contended node scx)) = (old : ℕ) × HadAtKey lay now start key (Some old) × HasLostAllTries lay tries c now start node.0 scx.0
--- after some row behind the call's begin the map had the key, and the share has too little for the
--- copy of its leaf's sibling: already as the call began, or another client was in the way since
+-- after some row behind the call's begin the map had the key, and the share has too little for a
+-- leaf in place of the key's, or a copy of that leaf's sibling: already as the call began, or another
+-- client was in the way since
 DeleteIsRight key lay tries c now start linked (Map (Full full)) = (old : ℕ) × HadAtKey lay now start key (Some old) × HasTooFewToTry lay c now start 1 full.what full.left
 DeleteIsRight key lay tries c now start linked _ = ⊥
 

@@ -27,8 +27,9 @@ PopIsRight lay tries c now start linked (Map (Pair (Some found))) = Unit {0}
 PopIsRight lay tries c now start linked (Map (Pair None)) = HadFirst lay now start None
 -- after some row behind the call's begin the map had a pair, and all tries were lost
 PopIsRight lay tries c now start linked (Map (Contended node scx)) = (first : PairOf) × HadFirst lay now start (Some first) × HasLostAllTries lay tries c now start node.0 scx.0
--- after some row behind the call's begin the map had a pair, and the share has too little for the
--- copy of its leaf's sibling: already as the call began, or another client was in the way since
+-- after some row behind the call's begin the map had a pair, and the share has too little for a leaf
+-- in place of the pair's, or a copy of that leaf's sibling: already as the call began, or another
+-- client was in the way since
 PopIsRight lay tries c now start linked (Map (Full full)) = (first : PairOf) × HadFirst lay now start (Some first) × HasTooFewToTry lay c now start 1 full.what full.left
 PopIsRight lay tries c now start linked _ = ⊥
 
