@@ -139,7 +139,7 @@ fn draw_field(
     class: &str,
     corner: Spot,
 ) -> Result<(), AllocError> {
-    let value = table.get(held).value;
+    let value = table.get(held).first().low;
     let told = [Text("node "), Number(held), Text(", value "), Number(value)];
     canvas.rectangle(corner, Spot { x: WIDE, y: HIGH }, &[Text(class)], &told)?;
     let middle = Spot {
@@ -149,6 +149,6 @@ fn draw_field(
     if held == 0 {
         return canvas.middle_words(middle, &[Text("small")], &[Number(0)]);
     }
-    let parts = [Text("n"), Number(held), Text(": "), Short(value)];
+    let parts = [Text("n"), Number(held), Text(": "), Short(value.into())];
     canvas.middle_words(middle, &[Text("small")], &parts)
 }

@@ -1,13 +1,22 @@
 //! What the nodes hold at some turn.
 use arena::{Head, Layout, Mode, NodeNo, NodeWord, SettledPart, Side, Slot, Word, opening_word};
+use ordered_map::wide_value;
 use std::alloc::{AllocError, Global};
+
+/// A pair of a leaf. The first of a fork has the fork's key, and that of a cell what the cell holds.
+#[derive(Clone, Copy)]
+pub(crate) struct ShownPair {
+    pub(crate) key: u64,
+    pub(crate) low: u64,
+    pub(crate) high: u64,
+}
 
 /// What a node holds, but for its info.
 #[derive(Clone, Copy)]
 pub(crate) struct ShownNode {
     pub(crate) head: u64,
-    pub(crate) key: u64,
-    pub(crate) value: u64,
+    more: u64,
+    pub(crate) pairs: [ShownPair; 4],
     pub(crate) left: u64,
     pub(crate) right: u64,
     pub(crate) is_marked: bool,
@@ -20,12 +29,24 @@ pub(crate) struct NodeTable {
     nodes: Vec<ShownNode>,
 }
 
+impl ShownPair {
+    const BLANK: ShownPair = ShownPair {
+        key: 0,
+        low: 0,
+        high: 0,
+    };
+
+    pub(crate) fn value(&self) -> u128 {
+        wide_value(self.low, self.high)
+    }
+}
+
 impl ShownNode {
     /// A node that nothing has been stored into.
     const BLANK: ShownNode = ShownNode {
         head: 0,
-        key: 0,
-        value: 0,
+        more: 0,
+        pairs: [ShownPair::BLANK; 4],
         left: 0,
         right: 0,
         is_marked: false,
@@ -35,17 +56,43 @@ impl ShownNode {
         Head::of(self.head)
     }
 
+    /// The first of its pairs, which each node has.
+    pub(crate) fn first(&self) -> ShownPair {
+        self.pairs[0]
+    }
+
+    /// How many pairs it has behind its first.
+    pub(crate) fn pairs_behind(&self) -> usize {
+        self.more.min(3) as usize
+    }
+
+    fn pair_at(&mut self, slot: Slot) -> &mut ShownPair {
+        match slot {
+            Slot::First => &mut self.pairs[0],
+            Slot::Second => &mut self.pairs[1],
+            Slot::Third => &mut self.pairs[2],
+            Slot::Fourth => &mut self.pairs[3],
+        }
+    }
+
+    fn settle(&mut self, part: SettledPart, held: u64) {
+        match part {
+            SettledPart::Head => self.head = held,
+            SettledPart::More => self.more = held,
+            SettledPart::Key(slot) => self.pair_at(slot).key = held,
+            SettledPart::Value(slot) => self.pair_at(slot).low = held,
+            SettledPart::High(slot) => self.pair_at(slot).high = held,
+        }
+    }
+
     /// What a word holds from now on.
     fn set(&mut self, part: NodeWord, held: u64) {
         match part {
-            NodeWord::Settled(SettledPart::Head) => self.head = held,
-            NodeWord::Settled(SettledPart::Key(Slot::First)) => self.key = held,
-            NodeWord::Settled(SettledPart::Value(Slot::First)) => self.value = held,
+            NodeWord::Settled(part) => self.settle(part, held),
             NodeWord::Child(Side::Left) => self.left = held,
             NodeWord::Child(Side::Right) => self.right = held,
             NodeWord::Marked => self.is_marked = held != 0,
-            // A leaf has one pair, and infos are not drawn.
-            NodeWord::Settled(_) => {}
+            // Infos are not drawn.
             NodeWord::Info => {}
         }
     }

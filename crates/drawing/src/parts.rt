@@ -8,8 +8,10 @@ use std::alloc::{AllocError, Global};
 pub(crate) enum Part<'a> {
     Text(&'a str),
     Number(u64),
+    /// A number of two words.
+    Wide(u128),
     /// A number, or its first and last digits where it is too long for a small place.
-    Short(u64),
+    Short(u128),
     /// A length in the picture, to a tenth.
     Length(f64),
     /// The same to a whole.
@@ -29,6 +31,7 @@ pub(crate) fn add(text: &mut String, parts: &[Part]) -> Result<(), AllocError> {
         match *part {
             Part::Text(more) => text.push_str(more)?,
             Part::Number(number) => text.push_str(Buffer::new().format(number))?,
+            Part::Wide(number) => text.push_str(Buffer::new().format(number))?,
             Part::Short(number) => add_short(text, number)?,
             Part::Length(length) => write!(text, "{length:.1}")?,
             Part::Rounded(length) => write!(text, "{length:.0}")?,
@@ -37,7 +40,7 @@ pub(crate) fn add(text: &mut String, parts: &[Part]) -> Result<(), AllocError> {
     Ok(())
 }
 
-fn add_short(text: &mut String, number: u64) -> Result<(), AllocError> {
+fn add_short(text: &mut String, number: u128) -> Result<(), AllocError> {
     let mut buffer = Buffer::new();
     let digits = buffer.format(number);
     if number < 1_000_000 {

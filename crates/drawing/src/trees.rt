@@ -1,8 +1,8 @@
 //! The tree of a dictionary at some turn.
 use crate::canvas::{Canvas, Spot, width_of};
 use crate::flow::Flow;
-use crate::node_table::{NodeTable, ShownNode};
-use crate::parts::Part::{Number, Short, Text};
+use crate::node_table::{NodeTable, ShownNode, ShownPair};
+use crate::parts::Part::{Number, Short, Text, Wide};
 use std::alloc::{AllocError, Global};
 use std::num::nearest_usize_to_f64;
 
@@ -15,6 +15,9 @@ const MOST_LEVELS: u32 = 64;
 const STEP: f64 = 26.0;
 
 const LEVEL: f64 = 42.0;
+
+/// How high a pair of a leaf is.
+const PAIR: f64 = 20.0;
 
 /// A node of a tree: which one, and how far below the root.
 #[derive(Clone, Copy)]
@@ -57,6 +60,7 @@ impl Tree {
         }
         let shown = table.get(node);
         if shown.head().leaf {
+            self.deepest = self.deepest.max(y + high_behind(&shown));
             return Ok(Some(self.add(node, y)?));
         }
         let left = self.grow(table, shown.left, y + LEVEL, levels - 1)?;
@@ -122,21 +126,34 @@ pub(crate) fn draw_tree(
     let mut nodes = Vec::new(alloc);
     for (place, branch) in tree.branches.iter().enumerate() {
         let is_new = !earlier.is_empty() && !earlier.contains(&branch.node);
-        draw_node(canvas, table, branch.node, is_new, tree.spot(place, corner))?;
+        let shown = table.get(branch.node);
+        draw_node(
+            alloc,
+            canvas,
+            &shown,
+            branch.node,
+            is_new,
+            tree.spot(place, corner),
+        )?;
         nodes.push(branch.node)?;
     }
     Ok(nodes)
 }
 
-/// Draws a node around a spot.
+/// How high the pairs of a node behind its first are.
+fn high_behind(shown: &ShownNode) -> f64 {
+    PAIR * nearest_usize_to_f64(shown.pairs_behind())
+}
+
+/// Draws a node around a spot; its pairs behind the first hang below that.
 fn draw_node(
+    alloc: Global,
     canvas: &mut Canvas,
-    table: &NodeTable,
+    shown: &ShownNode,
     node: u64,
     is_new: bool,
     at: Spot,
 ) -> Result<(), AllocError> {
-    let shown = table.get(node);
     let class = if is_new { "new" } else { "node" };
     let high = if shown.head().leaf { 24.0 } else { 16.0 };
     let (corner, size) = (
@@ -144,19 +161,23 @@ fn draw_node(
             x: at.x - 18.0,
             y: at.y - high / 2.0,
         },
-        Spot { x: 36.0, y: high },
+        Spot {
+            x: 36.0,
+            y: high + high_behind(shown),
+        },
     );
-    let (key, value) = (Number(shown.key), Number(shown.value));
-    let told = [
-        Text("n"),
-        Number(node),
-        Text(": key "),
-        key,
-        Text(", value "),
-        value,
-    ];
-    canvas.rectangle(corner, size, &[Text(class)], &told)?;
-    draw_texts(canvas, &shown, at)?;
+    let mut told = Vec::new(alloc);
+    told.push(Text("n"))?;
+    told.push(Number(node))?;
+    let pairs = shown.pairs_behind().saturating_add(1);
+    for (at, pair) in shown.pairs.iter().take(pairs).enumerate() {
+        told.push(Text(if at == 0 { ": key " } else { "; key " }))?;
+        told.push(Number(pair.key))?;
+        told.push(Text(", value "))?;
+        told.push(Wide(pair.value()))?;
+    }
+    canvas.rectangle(corner, size, &[Text(class)], told.as_slice())?;
+    draw_texts(canvas, shown, at)?;
     let above = Spot {
         x: at.x,
         y: corner.y - 2.0,
@@ -164,26 +185,43 @@ fn draw_node(
     canvas.middle_words(above, &[Text("small quiet")], &[Text("n"), Number(node)])
 }
 
-/// Writes what a node holds around a spot: its key, and a leaf's value.
+/// Writes what a node holds around a spot: a fork's key, or the pairs of a leaf, or its class.
 fn draw_texts(canvas: &mut Canvas, shown: &ShownNode, at: Spot) -> Result<(), AllocError> {
     let head = shown.head();
-    let has_value = head.leaf && head.class == 0;
+    let middle = Spot {
+        x: at.x,
+        y: at.y + 3.0,
+    };
+    if head.class != 0 {
+        let class = Number(u64::from(head.class));
+        return canvas.middle_words(middle, &[Text("small")], &[Text("∞"), class]);
+    }
+    if !head.leaf {
+        let key = Short(shown.first().key.into());
+        return canvas.middle_words(middle, &[Text("small")], &[key]);
+    }
+    let mut y = at.y;
+    for pair in shown
+        .pairs
+        .iter()
+        .take(shown.pairs_behind().saturating_add(1))
+    {
+        draw_pair(canvas, *pair, Spot { x: at.x, y })?;
+        y = y + PAIR;
+    }
+    Ok(())
+}
+
+/// Writes a pair of a leaf around a spot, the value below the key.
+fn draw_pair(canvas: &mut Canvas, pair: ShownPair, at: Spot) -> Result<(), AllocError> {
     let key = Spot {
         x: at.x,
-        y: if has_value { at.y - 2.0 } else { at.y + 3.0 },
+        y: at.y - 2.0,
     };
-    if head.class == 0 {
-        canvas.middle_words(key, &[Text("small")], &[Short(shown.key)])?;
-    } else {
-        let class = Number(u64::from(head.class));
-        canvas.middle_words(key, &[Text("small")], &[Text("∞"), class])?;
-    }
-    if !has_value {
-        return Ok(());
-    }
+    canvas.middle_words(key, &[Text("small")], &[Short(pair.key.into())])?;
     let value = Spot {
         x: at.x,
         y: at.y + 8.0,
     };
-    canvas.middle_words(value, &[Text("small quiet")], &[Short(shown.value)])
+    canvas.middle_words(value, &[Text("small quiet")], &[Short(pair.value())])
 }

@@ -39,7 +39,7 @@ fn put_replies(
 }
 
 /// The pairs that the updates of a record leave, by rising key.
-fn pairs_of(alloc: Global, record: &Record) -> Result<Vec<(u64, u64)>, AllocError> {
+fn pairs_of(alloc: Global, record: &Record) -> Result<Vec<(u64, u128)>, AllocError> {
     let mut pairs = Vec::new(alloc);
     for line in record.lines.iter() {
         if let Line::Log(entry) = line
@@ -58,7 +58,7 @@ fn command_of(calls: &[Call], entry: &Entry) -> Option<Command> {
 }
 
 /// Edits the pairs as a command does that has an entry.
-fn edit(pairs: &mut Vec<(u64, u64)>, command: Command) -> Result<(), AllocError> {
+fn edit(pairs: &mut Vec<(u64, u128)>, command: Command) -> Result<(), AllocError> {
     match command {
         Command::Map(Request::Insert { key, value }) => put(pairs, key, value)?,
         Command::Map(Request::ReplaceIf { key, value, .. }) => put(pairs, key, value)?,
@@ -73,7 +73,7 @@ fn edit(pairs: &mut Vec<(u64, u64)>, command: Command) -> Result<(), AllocError>
 }
 
 /// Gives a key a value.
-fn put(pairs: &mut Vec<(u64, u64)>, key: u64, value: u64) -> Result<(), AllocError> {
+fn put(pairs: &mut Vec<(u64, u128)>, key: u64, value: u128) -> Result<(), AllocError> {
     pairs.retain(|pair| pair.0 != key);
     pairs.push((key, value))?;
     pairs.sort()

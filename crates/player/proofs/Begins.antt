@@ -55,7 +55,7 @@ use Rattle.dict.specs.declared.dict.DictRun.{DictRun}
 use Rattle.ordered_map.specs.OrderedMap.{MapCall}
 use Rattle.ordered_map.specs.Requests.{AsksForFew, map_request}
 use Rattle.ordered_map.specs.declared.request.Request.{Request}
-use Rattle.dict.specs.Words.{IsNumber}
+use Rattle.dict.specs.Words.{IsNumber, IsWideNumber}
 use Rattle.player.specs.RunKnown.{IsForNothing, RunAsksFirst}
 use Rattle.player.proofs.Shapes.{as_numbers}
 use Rattle.player.specs.RunSteps.{then_left}
@@ -139,7 +139,7 @@ rests_with v c r = record { share = r.holds.share; over = over }
 -- what is known of the machine of a call of the map that is made from this request
 pub record IsMadeOf (v : ClientView) (c : Client) (request : Request ℕ ℕ) (m : DictRun ℕ ℕ) : Type 0 where
   pub called : call_in m.run ≡ map_request request
-  pub typed : IsTypedCall IsNumber IsNumber (call_in m.run)
+  pub typed : IsTypedCall IsNumber IsWideNumber (call_in m.run)
   pub share : Some (share_of m.run) ≡ c.share
   pub tries : m.tries ≡ v.tries
   pub fresh : IsFresh m.run v.tries c.number
@@ -169,7 +169,7 @@ map_starts v began c m request sound mode r u few asks made is = record {
     late = λ turn e. none_late v.won turn c.begin u.won e;
   };
   none = r.none;
-  ready = let call : MachineCall = machine_call v c r.stands.is_pass v.past in dict_begins IsNumber IsNumber m call mode (as_numbers v.layout v.past mode sound) made.typed (subst (λ (n : ℕ). IsFresh m.run n c.number) (sym made.tries) made.fresh) (subst IsFewCall (sym made.called) (few_pairs request few)) (subst (RestsWith call v.past) has (rests_with v c r));
+  ready = let call : MachineCall = machine_call v c r.stands.is_pass v.past in dict_begins IsNumber IsWideNumber m call mode (as_numbers v.layout v.past mode sound) made.typed (subst (λ (n : ℕ). IsFresh m.run n c.number) (sym made.tries) made.fresh) (subst IsFewCall (sym made.called) (few_pairs request few)) (subst (RestsWith call v.past) has (rests_with v c r));
   few = λ taken i. rw u.steps (let left = made.steps taken in let most = map_few request v.tries taken in let same : most_map_steps (call_in m.run) v.tries taken ≡ most_map_steps (map_request request) v.tries taken = ap (λ (k : MapCall). most_map_steps k v.tries taken) made.called in omega (arith, left, most, same));
 }
   where

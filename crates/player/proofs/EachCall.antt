@@ -118,14 +118,14 @@ module _ (lay : Layout) (before : History) (s : ℕ) where
 -- no call makes more steps than any may
 module _ (lay : Layout) (tries taken : ℕ) (few : taken ≤ lay.passes * lay.nodes) where
   -- of those of one try, where they are not more than so many
-  in_tries : (steps : ℕ) → steps ≤ 4422 * (2 + lay.passes * lay.nodes) + 301 → tries * steps ≤ most_of_all lay tries
-  in_tries steps less = let more : tries * steps ≤ tries * (4422 * (2 + lay.passes * lay.nodes) + 301) = mul-le-mul_left tries less in omega (arith, more)
+  in_tries : (steps : ℕ) → steps ≤ 4422 * (2 + lay.passes * lay.nodes) + 328 → tries * steps ≤ most_of_all lay tries
+  in_tries steps less = let more : tries * steps ≤ tries * (4422 * (2 + lay.passes * lay.nodes) + 328) = mul-le-mul_left tries less in omega (arith, more)
 
   pub few_steps : (request : Request ℕ ℕ) → AsksForFew request → most_steps (map_request request) tries taken ≤ most_of_all lay tries
-  few_steps (InsertOf key value) asks = in_tries (3 * (2 + taken) + 178) (omega (arith, few))
-  few_steps (DeleteOf key) asks = in_tries (3 * (2 + taken) + 301) (omega (arith, few))
-  few_steps PopFirstOf asks = in_tries (3 * (2 + taken) + 301) (omega (arith, few))
-  few_steps (ReplaceIfOf key expected value) asks = in_tries (3 * (2 + taken) + 178) (omega (arith, few))
+  few_steps (InsertOf key value) asks = in_tries (3 * (2 + taken) + 207) (omega (arith, few))
+  few_steps (DeleteOf key) asks = in_tries (3 * (2 + taken) + 328) (omega (arith, few))
+  few_steps PopFirstOf asks = in_tries (3 * (2 + taken) + 328) (omega (arith, few))
+  few_steps (ReplaceIfOf key expected value) asks = in_tries (3 * (2 + taken) + 207) (omega (arith, few))
   few_steps (GetOf key) asks = omega (arith, few)
   few_steps (SuccessorOf key) asks = in_tries (137 * (2 + taken)) (omega (arith, few))
   few_steps (RangeOf low high most) asks =

@@ -57,7 +57,7 @@ use Rattle.edits.specs.Tries.{CoversSnaps, HasEnteredOnly}
 use Rattle.edits.specs.declared.edit.Need.TheVariants.{Nothing}
 use Rattle.edits.proofs.Lemmas.{told_first}
 use Rattle.edits.specs.declared.update.UpdateAt.{UpdateAt}
-use Rattle.edits.specs.declared.update.UpdateAt.TheVariants.{Start, Walk, Look, Load, Fill, Scx}
+use Rattle.edits.specs.declared.update.UpdateAt.TheVariants.{Start, Walk, Look, Read as ReadWord, Fill, Scx}
 use Rattle.edits.specs.declared.update.UpdateRun.{UpdateRun}
 use Rattle.script.specs.declared.command.Command.{Command}
 use Rattle.script.specs.declared.command.Command.TheVariants.{Scx as ScxOf, Set as SetOf}
@@ -101,6 +101,11 @@ pub record IsEditHand (m : InnerRun) (call : MachineCall) (h : History) (t : ℕ
   pub hand : IsHandOf call.number edit call h t
   pub gives : (row : Row) → IsTreeRun call.layout (row ⊳ h) → IsWin h row t → (map : List Pair) → Spells call.layout (value h) map → edit_of (inner_call m) (reply (inner_call m) map) ≡ Some edit
 
+-- what is asked of the key that a walk tells is what it was to ask
+asked_still : (goal : Goal) (first key : ℕ) → asked_key goal first ≡ key → asked_key goal key ≡ asked_key goal first
+asked_still (ToKey k) first key e = refl
+asked_still Least first key e = sym e
+
 module _ {E : Type 0} (means : EditMeaning E) (m : UpdateRun E UpdateAt) where
   -- where a row makes the update win, the leaf that was found tells what the map has just before
   record TellsAtWin (f : Found) (lay : Layout) (h : History) (t : ℕ) : Type 0 where
@@ -122,7 +127,8 @@ module _ {E : Type 0} (means : EditMeaning E) (m : UpdateRun E UpdateAt) where
       edits.replies map spells
       ∙ ap (λ (n : ℕ). said (value h) key n) (covers_leaf h then since covers_snaps)
       ∙ settled_said (value begin) (value h) key f.trail.node.0 settled
-      ∙ ap (λ (k : ℕ). said (value begin) k f.trail.node.0) (at_found m.edit f) ∙ sym found.says
+      ∙ ap (λ (k : ℕ). said (value begin) k f.trail.node.0) (at_found m.edit f ∙ asked_still (means.goal m.edit) _ f.key found.key)
+      ∙ sym found.says
     where
       key : ℕ
       key = edit_key (means.edit m.edit f)
@@ -158,7 +164,7 @@ module _ {E : Type 0} (means : EditMeaning E) (m : UpdateRun E UpdateAt) where
     hand_at b s Start try w = absurd w
     hand_at b s (Walk walk) try w = absurd (idle_rests (begun_at call b) h m.share l w.0.rests t own p)
     hand_at b s (Look f llx) try w = absurd (idle_rests (begun_at call b) h m.share l w.1.rests t own p)
-    hand_at b s (Load f nth part) try w = absurd (w.0.works.quiet h (ends_self h) w.0.works.since t own p)
+    hand_at b s (ReadWord f n part) try w = absurd (w.0.works.quiet h (ends_self h) w.0.works.since t own p)
     hand_at b s (Fill f nth part) try w = absurd (w.0.works.quiet h (ends_self h) w.0.works.since t own p)
     hand_at b s (Scx f scx) try (begin, x, w) =
         let same : t ≡ scx.scx.0 = own_in_hand call.layout h call.pass t scx.scx.0 l x.over own p in
@@ -182,7 +188,7 @@ module _ {E : Type 0} (means : EditMeaning E) (m : UpdateRun E UpdateAt) where
   update_says_at call h s t v Start w kind word = absurd w
   update_says_at call h s t v (Walk walk) w kind word = absurd (walk_fills_not walk call h s w.1 kind)
   update_says_at call h s t v (Look f llx) w kind word = absurd (llx_fills_not TreeAllows llx (begun_at call w.0) h s w.2 kind)
-  update_says_at call h s t v (Load f nth part) w kind word = absurd (let z : LoadSettled ≡ FillKind = ap (λ (q : Step). q.kind) (sym w.1) ∙ kind in cc)
+  update_says_at call h s t v (ReadWord f n part) w kind word = absurd (let z : LoadSettled ≡ FillKind = ap (λ (q : Step). q.kind) (sym w.1) ∙ kind in cc)
   update_says_at call h s t v (Fill f nth part) w kind word = absurd (let z = ap (λ (q : Step). q.word) (sym w.3) ∙ word in cc)
   update_says_at call h s t v (Scx f scx) w kind word = scx_says TreeAllows (job_of scx) (begun_at call w.0) h scx.at s t v w.2 kind word ∙ w.1.call
 

@@ -58,7 +58,7 @@ use Rattle.ordered_map.specs.Replies.{number_reply}
 use Rattle.ordered_map.specs.Requests.{map_request}
 use Rattle.ordered_map.specs.declared.request.Request.{Request}
 use Rattle.edits.specs.Known.{RestsWith}
-use Rattle.player.specs.Allowed.{IsSmall}
+use Rattle.player.specs.Allowed.{FitsTwoWords, IsSmall}
 use Rattle.player.proofs.MapEnds.{IsRightEnd, map_ends, entered_some, entered_none}
 use Rattle.record.specs.Snapshots.{IsLastLook, AreLinked, IsBehindAll}
 use Rattle.record.specs.Answers.{HasRoom, IsInTheWay, IsAsSnapped, HasItsEntry}
@@ -410,7 +410,7 @@ ends_map v c (Map m) then a x =
     let of = works.run_of.called in
     let share = share_of m.run in
     let call = machine_call v c works.is_pass v.start in
-    let answers : DictAnswers IsSmall (λ k. k) IsSmall (λ w. w) m call v.past a = subst (λ (k : History). DictAnswers IsSmall (λ k. k) IsSmall (λ w. w) m (machine_call v c works.is_pass k) v.past a) works.begun x.answers in
+    let answers : DictAnswers IsSmall (λ k. k) FitsTwoWords (λ w. w) m call v.past a = subst (λ (k : History). DictAnswers IsSmall (λ k. k) FitsTwoWords (λ w. w) m (machine_call v c works.is_pass k) v.past a) works.begun x.answers in
     let refuses : DictRefuses call v.past (map_request request) share m.tries a = subst (λ (k : MapCall). DictRefuses call v.past k share m.tries a) of answers.refuses in
     let spent : HasSpent call v.past (map_request request) m.tries share = subst (λ (k : MapCall). HasSpent call v.past k m.tries share) of answers.spent in
     let right =

@@ -10,7 +10,7 @@ use Rattle.prims.specs.Cells.{AllowsAll}
 use Rattle.ordered_map.specs.TreeShape.{TreeAllows}
 use Rattle.dict.specs.Typed.{TypedAllows}
 use Rattle.dict.specs.Laws.TypedMaps.{typed_run}
-use Rattle.dict.specs.Words.{IsNumber}
+use Rattle.dict.specs.Words.{IsNumber, IsWideNumber}
 use Rattle.player.specs.Allowed.{AllowsIn, PlayedAllows}
 
 -- cells ask nothing
@@ -22,12 +22,12 @@ pub as_played : (lay : Layout) (h : History) → lay.mode ≡ Records → IsRun 
 as_played lay h mode run = run_as AllowsAll PlayedAllows lay (λ k s a. subst (λ (m : Mode). AllowsIn m lay k s) (sym mode) tt) h run
 
 -- in tree mode what a dictionary of numbers asks, and back
-pub as_numbers : (lay : Layout) (h : History) → lay.mode ≡ Tree → IsRun PlayedAllows lay h → IsRun (TypedAllows IsNumber IsNumber) lay h
-as_numbers lay h mode run = run_as PlayedAllows (TypedAllows IsNumber IsNumber) lay (λ k s a. subst (λ (m : Mode). AllowsIn m lay k s) mode a) h run
+pub as_numbers : (lay : Layout) (h : History) → lay.mode ≡ Tree → IsRun PlayedAllows lay h → IsRun (TypedAllows IsNumber IsWideNumber) lay h
+as_numbers lay h mode run = run_as PlayedAllows (TypedAllows IsNumber IsWideNumber) lay (λ k s a. subst (λ (m : Mode). AllowsIn m lay k s) mode a) h run
 
-pub as_played_numbers : (lay : Layout) (h : History) → lay.mode ≡ Tree → IsRun (TypedAllows IsNumber IsNumber) lay h → IsRun PlayedAllows lay h
-as_played_numbers lay h mode run = run_as (TypedAllows IsNumber IsNumber) PlayedAllows lay (λ k s a. subst (λ (m : Mode). AllowsIn m lay k s) (sym mode) a) h run
+pub as_played_numbers : (lay : Layout) (h : History) → lay.mode ≡ Tree → IsRun (TypedAllows IsNumber IsWideNumber) lay h → IsRun PlayedAllows lay h
+as_played_numbers lay h mode run = run_as (TypedAllows IsNumber IsWideNumber) PlayedAllows lay (λ k s a. subst (λ (m : Mode). AllowsIn m lay k s) (sym mode) a) h run
 
 -- so it is one of the tree
 pub as_tree : (lay : Layout) (h : History) → lay.mode ≡ Tree → IsRun PlayedAllows lay h → IsRun TreeAllows lay h
-as_tree lay h mode run = typed_run IsNumber IsNumber lay h (as_numbers lay h mode run)
+as_tree lay h mode run = typed_run IsNumber IsWideNumber lay h (as_numbers lay h mode run)

@@ -5,17 +5,21 @@ use Rattle.arena.specs.declared.limits.Mode.TheVariants.{Records, Tree}
 use Rattle.arena.specs.declared.layout.Layout.{Layout}
 use Rattle.arena.specs.History.{History}
 use Rattle.dict.specs.Typed.{TypedAllows}
-use Rattle.dict.specs.Words.{IsNumber}
+use Rattle.dict.specs.Words.{IsNumber, IsWideNumber}
 use Rattle.prims.specs.Cells.{AllowsAll}
 
--- a number that fits a word: the tree of a script is a dictionary whose keys and values are such
+-- a number that fits a word: the tree of a script is a dictionary whose keys are such
 abbrev pub IsSmall : ℕ → Type 0
 IsSmall n = n < 2 ^ 64
+
+-- one that fits two words, as the values of that dictionary do
+abbrev pub FitsTwoWords : ℕ → Type 0
+FitsTwoWords n = n < 2 ^ 128
 
 -- which SCX-records may begin in this mode: in cells all, in the tree those of its edits
 abbrev pub AllowsIn : Mode → Layout → History → ℕ → Type 0
 AllowsIn Records lay h s = AllowsAll lay h s
-AllowsIn Tree lay h s = TypedAllows IsNumber IsNumber lay h s
+AllowsIn Tree lay h s = TypedAllows IsNumber IsWideNumber lay h s
 
 -- which SCX-records may begin in a player's run: those that the mode of its layout allows
 abbrev pub PlayedAllows : Layout → History → ℕ → Type 0

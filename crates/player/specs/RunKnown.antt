@@ -27,8 +27,8 @@ use Rattle.ordered_map.specs.CallRules.{TakesNothing}
 use Rattle.ordered_map.specs.OrderedMap.{MapEdit}
 use Rattle.ordered_map.specs.declared.request.Request.{Request}
 use Rattle.ordered_map.specs.declared.request.Request.TheVariants.{Range as RangeOf}
-use Rattle.dict.specs.Words.{IsNumber}
-use Rattle.player.specs.Allowed.{IsSmall}
+use Rattle.dict.specs.Words.{IsNumber, IsWideNumber}
+use Rattle.player.specs.Allowed.{FitsTwoWords, IsSmall}
 use Rattle.player.specs.declared.run.Run.{Run}
 use Rattle.player.specs.declared.run.Run.TheVariants.{Llx, Scx, Vlx, Map}
 use Rattle.player.specs.declared.run.Ended.{Ended}
@@ -39,7 +39,7 @@ abbrev pub RunIsReady : Run → Call → History → Option ℕ → Type 0
 RunIsReady (Llx m) c h got = LlxIsReady AllowsAll m c h got
 RunIsReady (Scx m) c h got = PutIsReady AllowsAll m c h got
 RunIsReady (Vlx m) c h got = VlxIsReady m.snaps m.asked c h got
-RunIsReady (Map m) c h got = DictIsReady IsNumber IsNumber m c h got
+RunIsReady (Map m) c h got = DictIsReady IsNumber IsWideNumber m c h got
 
 -- it asks for a step before it answers: all do, but for a range that takes no pair
 abbrev pub RunAsksFirst : Run → Type 0
@@ -51,14 +51,14 @@ abbrev pub RunWaits : Run → Call → History → Step → Type 0
 RunWaits (Llx m) c h s = LlxWaits AllowsAll m c h s
 RunWaits (Scx m) c h s = PutWaits AllowsAll m c h s
 RunWaits (Vlx m) c h s = VlxWaits m.snaps m.asked c h s
-RunWaits (Map m) c h s = DictWaits IsNumber IsNumber m c h s
+RunWaits (Map m) c h s = DictWaits IsNumber IsWideNumber m c h s
 
 -- what the answer of the machine says, which is one of its own kind
 abbrev pub RunAnswers : Run → Call → History → Ended → Type 0
 RunAnswers (Llx m) c h (ended.Llx a) = LlxAnswers m c h a
 RunAnswers (Scx m) c h (ended.Scx a) = PutAnswers m c h a
 RunAnswers (Vlx m) c h (ended.Vlx a) = VlxAnswers m.snaps c h a
-RunAnswers (Map m) c h (ended.Map a) = DictAnswers IsSmall (λ k. k) IsSmall (λ v. v) m c h a
+RunAnswers (Map m) c h (ended.Map a) = DictAnswers IsSmall (λ k. k) FitsTwoWords (λ v. v) m c h a
 RunAnswers _ c h _ = ⊥
 
 -- the request is for no pair, whatever the map has

@@ -18,10 +18,11 @@ pub record AreTurnsWhile (so : List Line → Type 0) (c : ℕ) (old new : Player
   pub turns : clients new.lines ≡ replicate (turns behind) c ++ clients old.lines
 
 -- no call makes more steps than these: a `set` makes 104 at most, a get three for each node of all
--- shares and for two more, an edit in each of its tries as many and 301 others, and an ordered
--- read, of 64 pairs at most, in each of its tries 67 times 66 for each of these nodes
+-- shares and for two more, and five at its leaf, an edit in each of its tries three for each of these
+-- nodes and 328 others, and an ordered read, of 64 pairs at most, in each of its tries 67 times 66 for
+-- each of them
 abbrev pub most_of_all : Layout → ℕ → ℕ
-most_of_all lay tries = 104 + 3 * (2 + lay.passes * lay.nodes) + tries * (4422 * (2 + lay.passes * lay.nodes) + 301)
+most_of_all lay tries = 104 + 3 * (2 + lay.passes * lay.nodes) + tries * (4422 * (2 + lay.passes * lay.nodes) + 328)
 
 -- a number that falls with each turn of a client that has a call left: for each call not answered
 -- one more than the steps that any call may make, less the steps that the next one has made

@@ -197,7 +197,7 @@ impl Client {
     }
 
     /// Begins a call of the map, which runs with the share; one for nothing answers at once.
-    fn begin_request(&mut self, request: Request<u64, u64>) -> Option<Answer>
+    fn begin_request(&mut self, request: Request<u64, u128>) -> Option<Answer>
         requires { AsksForFew request }
         ensures { (v : ClientView) (began : Option ℕ) → IsSound v → 0 < v.tries → v.layout.mode ≡ Tree →
             Rests v self.old → IsNextCallUnbegun v began → command_of v self.old ≡ Some (MapCommand request) →
@@ -306,7 +306,7 @@ impl Client {
     }
 
     /// The key that its call of the map changes if its SCX wins, and what it leaves there.
-    pub(crate) fn change(&self) -> Option<(u64, Option<u64>)>
+    pub(crate) fn change(&self) -> Option<(u64, Option<u128>)>
         ensures { result ≡ option_map (λ e. (edit_key e, value_left e)) (running_edit self.now.running) }
     {
         self.running.as_ref()?.run.change()
@@ -417,7 +417,7 @@ impl Client {
         &self,
         calls: &[Call],
         turn: u64,
-        reply: &Reply<u64, u64>,
+        reply: &Reply<u64, u128>,
         won: Option<u64>,
         places: &Places,
     ) -> Option<u64>
@@ -439,7 +439,7 @@ impl Client {
         &self,
         calls: &[Call],
         turn: u64,
-        reply: &Reply<u64, u64>,
+        reply: &Reply<u64, u128>,
         won: Option<u64>,
         places: &Places,
     ) -> Option<u64>
@@ -464,7 +464,7 @@ impl Client {
     fn pop_moment(
         &self,
         turn: u64,
-        reply: &Reply<u64, u64>,
+        reply: &Reply<u64, u128>,
         won: Option<u64>,
         places: &Places,
     ) -> Option<u64>
@@ -483,7 +483,7 @@ impl Client {
         &self,
         calls: &[Call],
         turn: u64,
-        value: Option<u64>,
+        value: Option<u128>,
         won: Option<u64>,
         places: &Places,
     ) -> Option<u64>
@@ -516,8 +516,8 @@ impl Client {
         &self,
         turn: u64,
         key: u64,
-        expected: u64,
-        told: Option<u64>,
+        expected: u128,
+        told: Option<u128>,
         won: Option<u64>,
         places: &Places,
     ) -> Option<u64>
@@ -549,14 +549,14 @@ fn hear(running: &mut Option<Running>, found: u64) -> Option<Ended>
 }
 
 /// Whether a pop that replies so has taken a pair.
-fn is_pair(reply: &Reply<u64, u64>) -> bool
+fn is_pair(reply: &Reply<u64, u128>) -> bool
     ensures { result ≡ is_pair reply.now }
 {
     matches!(reply, Reply::Pair(Some(_)))
 }
 
 /// Whether a replacement that tells so has found the value that it expects.
-fn is_expected(expected: u64, told: Option<u64>) -> bool
+fn is_expected(expected: u128, told: Option<u128>) -> bool
     ensures { result ≡ is_value expected told }
 {
     match told {
@@ -566,7 +566,7 @@ fn is_expected(expected: u64, told: Option<u64>) -> bool
 }
 
 /// Whether it is a range that takes no pair, whatever the map has.
-fn is_for_nothing(request: Request<u64, u64>) -> bool
+fn is_for_nothing(request: Request<u64, u128>) -> bool
     ensures { MatchBool result (IsForNothing request) (AsksForPairs (map_request request)) }
 {
     match request {

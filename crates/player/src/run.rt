@@ -21,7 +21,7 @@ pub(crate) enum Run {
     Scx(PutRun),
     Vlx(VlxRun<Snaps>),
     /// It has the client's share, until it has answered.
-    Map(DictRun<u64, u64>),
+    Map(DictRun<u64, u128>),
 }
 
 /// What a machine answered.
@@ -30,7 +30,7 @@ pub(crate) enum Ended {
     Llx(Llx),
     Scx(Scx),
     Vlx(Vlx),
-    Map(Reply<u64, u64>),
+    Map(Reply<u64, u128>),
 }
 
 impl Ended {
@@ -88,7 +88,7 @@ impl Run {
                 Turn::Ask(step) => Turn::Ask(step),
                 Turn::Done(vlx) => Turn::Done(Ended::Vlx(vlx)),
             },
-            Run::Map(run) => match Machine::<Dict<u64, u64>>::next(run, got) {
+            Run::Map(run) => match Machine::<Dict<u64, u128>>::next(run, got) {
                 Turn::Ask(step) => Turn::Ask(step),
                 Turn::Done(reply) => Turn::Done(Ended::Map(reply)),
             },
@@ -97,7 +97,7 @@ impl Run {
 
     /// The key that a call of the map changes if its SCX wins, and what it leaves there; none while
     /// it has no SCX.
-    pub(crate) fn change(&self) -> Option<(u64, Option<u64>)>
+    pub(crate) fn change(&self) -> Option<(u64, Option<u128>)>
         ensures { result ≡ option_map (λ e. (edit_key e, value_left e)) (edit_in_hand self.now) }
     {
         let Run::Map(run) = self else {

@@ -2,7 +2,7 @@
 use Rattle.std.proofs.Common.{◌≡◌, ◌≢◌, ◌<◌, ◌^◌, ◌∙◌, ℕ, zero, suc, true, not, eqb, List, [], ◌∷◌, ◌++◌, Bor, MatchOption, Option, Some, None, arith, sym, decimal, lit<, refl}
 use Rattle.std.specs.List.{list_all}
 use Rattle.std.proofs.lemmas.Bool.Decides.{nat_tests}
-use Rattle.std.proofs.lemmas.Fmt.{decimal_is_IsNumeral}
+use Rattle.std.proofs.lemmas.Fmt.{decimal_is_IsNumeral_wide}
 use Rattle.std.proofs.lemmas.Grind.{get_or_default_zero}
 use Rattle.std.proofs.lemmas.List.Elements.{All-head, All-tail}
 use Rattle.std.proofs.lemmas.List.Sums.{AllPass-from_list_all}
@@ -22,10 +22,14 @@ other_than_space b test is = grind (arith, nat_tests)
 pub literal : (text : List ℕ) → list_all (λ b. not (eqb b 32)) text ≡ true → HasNoSpace text
 literal text test k d within = other_than_space _ (AllPass-from_list_all (λ b. not (eqb b 32)) text test k d within)
 
+-- a value
+pub value_has_no_space : (n : ℕ) → n < 2 ^ 128 → HasNoSpace (decimal n)
+value_has_no_space n fits k d within = rw (get_or_default_zero (decimal n) k d within)
+    (λ is. let digit = digit_at (decimal n) k (decimal_is_IsNumeral_wide n (omega (arith, fits))).0.1 within in omega (arith, digit.0, is))
+
 -- a number
 pub number_has_no_space : (n : ℕ) → n < 2 ^ 64 → HasNoSpace (decimal n)
-number_has_no_space n fits k d within = rw (get_or_default_zero (decimal n) k d within)
-    (λ is. let digit = digit_at (decimal n) k (decimal_is_IsNumeral n fits).0.1 within in omega (arith, digit.0, is))
+number_has_no_space n fits = value_has_no_space n (omega (arith, fits))
 
 -- a name that ends in a number
 pub name_has_no_space : (letter n : ℕ) → letter ≢ 32 → n < 2 ^ 64 → HasNoSpace (letter ∷ decimal n)

@@ -1,5 +1,6 @@
 mod Texts
 mod Cuts
+mod Versions
 mod Fields
 mod Tellings
 mod LineRows

@@ -5,6 +5,7 @@ use Rattle.arena.specs.declared.step.Kind.TheVariants.{Fill, LoadSettled, LoadIn
 use Rattle.arena.specs.declared.step.Row.{Row as StepRow}
 use Rattle.record.specs.declared.record.Entry.{Entry}
 use Rattle.record.specs.declared.record.Finished.{Finished}
+use Rattle.record.specs.declared.record.Line.{Line}
 use Rattle.record.specs.declared.record.Line.TheVariants.{Step, Log, Reply}
 use Rattle.record.specs.declared.record.Row.{Row}
 use Rattle.record.specs.declared.record.Row.TheVariants.{Step as Made, Idle}
@@ -12,7 +13,8 @@ use Rattle.script.specs.Commands.{texts}
 use Rattle.script.specs.Kinds.{kind_text}
 use Rattle.report.specs.Answers.{answer_text}
 use Rattle.report.specs.Report.{line_row, moment_text, seven}
-use Rattle.report.specs.Spellings.{IsSpelledTurn}
+use Rattle.report.specs.Spellings.{IsSpelledFinished, IsSpelledLine, IsSpelledTurn}
+use Rattle.report.specs.declared.version.Version.{Version}
 use Rattle.report.specs.Words.{word_text}
 use Rattle.report.proofs.Fields.{AreFields, blank, fields_are}
 
@@ -46,6 +48,13 @@ module _ (fields : List (Bor (List ℕ))) (long : length fields ≡ 7) where
   finished_are reply is = fields_are fields (codes "reply") (decimal reply.client.0) (decimal reply.call) (decimal reply.begin) (decimal reply.end) (moment_text reply.moment) (answer_text reply.answer) long is
 
   -- only an idle turn says so
-  pub only_idle : (get_or fields 3 blank).now ≡ codes "idle" → ((number client : ℕ) → number < 2 ^ 64 → client < 2 ^ 32 → texts fields ≢ seven (codes "step" ∷ decimal number ∷ decimal client ∷ codes "idle" ∷ [])) → (row : Row) → IsSpelledTurn row → texts fields ≢ seven (line_row (Step row))
-  only_idle kind none (Made number row) fits is = kind_is_not_idle row.kind (sym (made_are number row is).three_is ∙ kind)
-  only_idle kind none (Idle number client) fits is = none number client.0 fits.0 fits.1 is
+  pub only_idle : (get_or fields 3 blank).now ≡ codes "idle" → ((number client : ℕ) → number < 2 ^ 64 → client < 2 ^ 32 → texts fields ≢ seven (codes "step" ∷ decimal number ∷ decimal client ∷ codes "idle" ∷ [])) → (version : Version) (row : Row) → IsSpelledTurn version row → texts fields ≢ seven (line_row (Step row))
+  only_idle kind none version (Made number row) fits is = kind_is_not_idle row.kind (sym (made_are number row is).three_is ∙ kind)
+  only_idle kind none version (Idle number client) fits is = none number client.0 fits.0 fits.1 is
+
+  -- and only a reply is named so
+  pub only_reply : (get_or fields 0 blank).now ≡ codes "reply" → (version : Version) → ((version : Version) (reply : Finished) → IsSpelledFinished version reply → texts fields ≢ seven (line_row (Reply reply))) → (line : Line) → IsSpelledLine version line → texts fields ≢ seven (line_row line)
+  only_reply name version none (Step (Made number row)) fits is = omega (arith, ap (λ (t : List ℕ). get_or t 0 0) (sym (made_are number row is).name_is ∙ name))
+  only_reply name version none (Step (Idle number client)) fits is = omega (arith, ap (λ (t : List ℕ). get_or t 0 0) (sym (idle_are number client.0 is).name_is ∙ name))
+  only_reply name version none (Log entry) fits is = omega (arith, ap (λ (t : List ℕ). get_or t 0 0) (sym (entry_are entry is).name_is ∙ name))
+  only_reply name version none (Reply reply) fits is = none version reply fits is

@@ -11,8 +11,9 @@ use Rattle.arena.specs.declared.limits.Mode.{Mode}
 use Rattle.script.specs.Commands.{texts}
 use Rattle.script.specs.Rows.{limits_row}
 use Rattle.record.specs.declared.record.Line.{Line}
-use Rattle.report.specs.Report.{reported_call_row, call_rows, report_end_row, line_row, rows_of_calls, rows_of_lines, rows_told, title_row, seven}
+use Rattle.report.specs.Report.{reported_call_row, call_rows, report_end_row, line_row, rows_of_calls, rows_of_lines, rows_told, title_in, seven}
 use Rattle.report.specs.RowFaults.{AreOfReport}
+use Rattle.report.specs.declared.version.Version.{Version}
 use Rattle.report.proofs.CallRows.{call_rows_after}
 use Rattle.texts.specs.Reads.{HasRead, IsAtRow, last_row}
 
@@ -64,32 +65,32 @@ line_rows_length [] = refl
 line_rows_length (line ∷ lines) = ap suc (line_rows_length lines)
 
 -- of the head, of so many calls and of the row behind
-pub calls_counted : (mode : Mode) (limits : Limits) (calls : List Call) (n : ℕ) → n ≡ length calls → suc (length (rows_of_calls mode limits calls)) ≡ 3 + n
-calls_counted mode limits calls n is = omega (arith, call_rows_length [] calls, is)
+pub calls_counted : (version : Version) (mode : Mode) (limits : Limits) (calls : List Call) (n : ℕ) → n ≡ length calls → suc (length (rows_of_calls version mode limits calls)) ≡ 3 + n
+calls_counted version mode limits calls n is = omega (arith, call_rows_length [] calls, is)
 
-pub calls_counted_more : (mode : Mode) (limits : Limits) (calls : List Call) (call : Call) (n : ℕ) → n ≡ length calls → length (rows_of_calls mode limits (calls ++ call ∷ [])) ≡ 3 + n
-calls_counted_more mode limits calls call n is = omega (arith, call_rows_length [] (calls ++ call ∷ []), length-append calls (call ∷ []), is)
+pub calls_counted_more : (version : Version) (mode : Mode) (limits : Limits) (calls : List Call) (call : Call) (n : ℕ) → n ≡ length calls → length (rows_of_calls version mode limits (calls ++ call ∷ [])) ≡ 3 + n
+calls_counted_more version mode limits calls call n is = omega (arith, call_rows_length [] (calls ++ call ∷ []), length-append calls (call ∷ []), is)
 
 -- of the head, of calls and of lines
-pub lines_counted : (mode : Mode) (limits : Limits) (calls : List Call) (lines : List Line) (n : ℕ) → n ≡ length lines → length (rows_of_lines mode limits calls lines) ≡ 2 + length calls + n
-lines_counted mode limits calls lines n is = omega (arith, call_rows_length [] calls, line_rows_length lines, length-append (rows_of_calls mode limits calls) (map seven (map line_row lines)), is)
+pub lines_counted : (version : Version) (mode : Mode) (limits : Limits) (calls : List Call) (lines : List Line) (n : ℕ) → n ≡ length lines → length (rows_of_lines version mode limits calls lines) ≡ 2 + length calls + n
+lines_counted version mode limits calls lines n is = omega (arith, call_rows_length [] calls, line_rows_length lines, length-append (rows_of_calls version mode limits calls) (map seven (map line_row lines)), is)
 
 -- and of the row behind
-pub end_counted : (mode : Mode) (limits : Limits) (calls : List Call) (lines : List Line) (row : List (List ℕ)) → length (rows_of_lines mode limits calls lines ++ row ∷ []) ≡ 3 + length calls + length lines
-end_counted mode limits calls lines row = omega (arith, lines_counted mode limits calls lines (length lines) refl, length-append (rows_of_lines mode limits calls lines) (row ∷ []))
+pub end_counted : (version : Version) (mode : Mode) (limits : Limits) (calls : List Call) (lines : List Line) (row : List (List ℕ)) → length (rows_of_lines version mode limits calls lines ++ row ∷ []) ≡ 3 + length calls + length lines
+end_counted version mode limits calls lines row = omega (arith, lines_counted version mode limits calls lines (length lines) refl, length-append (rows_of_lines version mode limits calls lines) (row ∷ []))
 
 -- the rows of a report in their parts
-pub whole_report : (mode : Mode) (limits : Limits) (calls : List Call) (lines : List Line)
-    → (map seven (title_row mode ∷ limits_row limits ∷ call_rows [] calls) ++ map seven (map line_row lines)) ++ seven (report_end_row lines) ∷ []
-    ≡ map seven (rows_told mode limits calls lines)
-whole_report mode limits calls lines =
-    let head = title_row mode ∷ limits_row limits ∷ call_rows [] calls in
+pub whole_report : (version : Version) (mode : Mode) (limits : Limits) (calls : List Call) (lines : List Line)
+    → (map seven (title_in version mode ∷ limits_row limits ∷ call_rows [] calls) ++ map seven (map line_row lines)) ++ seven (report_end_row lines) ∷ []
+    ≡ map seven (rows_told version mode limits calls lines)
+whole_report version mode limits calls lines =
+    let head = title_in version mode ∷ limits_row limits ∷ call_rows [] calls in
     append_assoc (map seven head) (map seven (map line_row lines)) (seven (report_end_row lines) ∷ [])
     ∙ ap (λ rows. map seven head ++ rows) (sym (map-append seven (map line_row lines) (report_end_row lines ∷ [])))
     ∙ sym (map-append seven head (map line_row lines ++ report_end_row lines ∷ []))
 
 -- those of any report
-pub rows_in_parts : {rows : List (List (List ℕ))} (r : AreOfReport rows) → rows ≡ seven (title_row r.mode) ∷ seven (limits_row r.limits) ∷ (map seven (call_rows [] r.calls) ++ (map seven (map line_row r.lines) ++ seven (report_end_row r.lines) ∷ []))
+pub rows_in_parts : {rows : List (List (List ℕ))} (r : AreOfReport rows) → rows ≡ seven (title_in r.version r.mode) ∷ seven (limits_row r.limits) ∷ (map seven (call_rows [] r.calls) ++ (map seven (map line_row r.lines) ++ seven (report_end_row r.lines) ∷ []))
 rows_in_parts r =
-    r.are ∙ sym (whole_report r.mode r.limits r.calls r.lines)
-    ∙ append_assoc (map seven (title_row r.mode ∷ limits_row r.limits ∷ call_rows [] r.calls)) (map seven (map line_row r.lines)) (seven (report_end_row r.lines) ∷ [])
+    r.are ∙ sym (whole_report r.version r.mode r.limits r.calls r.lines)
+    ∙ append_assoc (map seven (title_in r.version r.mode ∷ limits_row r.limits ∷ call_rows [] r.calls)) (map seven (map line_row r.lines)) (seven (report_end_row r.lines) ∷ [])

@@ -24,13 +24,17 @@ use Rattle.texts.specs.declared.fault.TextFault.{TextFault}
 use Rattle.texts.specs.declared.fault.TextFault.TheVariants.{NoMemory, Read, Bad}
 use Rattle.report.specs.Faults.{report_fault}
 use Rattle.report.specs.declared.fault.NotLawful.{NotLawful}
-use Rattle.report.specs.Report.{BeginsBehindCalls, IsCallRow, call_rows, calls_by, entries_in, head_rows, line_row, name_of, replies_in, report_end_row, reported_call_row, rows_of_calls, rows_of_lines, seven, steps_in, title_row}
+use Rattle.report.specs.Report.{BeginsBehindCalls, IsCallRow, call_rows, calls_by, entries_in, head_rows, line_row, mode_text, name_of, replies_in, report_end_row, reported_call_row, rows_of_calls, rows_of_lines, seven, steps_in, title_in}
 use Rattle.report.specs.RowFaults.{AreAdmitted, AreOfReport, BeginReport, FailsBehind, IfRefused, IsFirstBadRow}
 use Rattle.report.specs.Spellings.{IsReported, IsSpelledLine}
+use Rattle.report.specs.Versions.{HasCommand}
+use Rattle.report.specs.declared.version.Version.{Version}
+use Rattle.report.specs.declared.version.Version.TheVariants.{One}
 use Rattle.report.proofs.CallRows.{reverse_after}
 use Rattle.report.proofs.Reading.{rows_in_parts, whole_report}
 use Rattle.report.proofs.RoundTrip.{no_next, same_records}
 use Rattle.report.proofs.RowTexts.{all_both, report_is_wide}
+use Rattle.report.proofs.Versions.{same_version}
 
 -- Names of rows
 
@@ -108,9 +112,9 @@ abbrev AreBelow : ℕ → List Call → Type 0
 AreBelow passes calls = All (λ call. call.client.0 < passes) calls
 
 -- the row is one of a call that may come behind these
-pub record IsRowOfCall (row : List (List ℕ)) (mode : Mode) (passes : ℕ) (before : List Call) : Type 0 where
+pub record IsRowOfCall (row : List (List ℕ)) (version : Version) (mode : Mode) (passes : ℕ) (before : List Call) : Type 0 where
   pub call : Call
-  pub reported : IsReported mode passes call
+  pub reported : IsReported version mode passes call
   pub is : row ≡ seven (reported_call_row before call)
 
 more_alike : (call other : Call) (earlier others : List Call) → call.client.0 ≡ other.client.0 → ((client : ℕ) → calls_by client earlier ≡ calls_by client others) → (client : ℕ) → calls_by client (call ∷ earlier) ≡ calls_by client (other ∷ others)
@@ -119,38 +123,38 @@ more_alike call other earlier others same alike client =
     ∙ ap (λ (n : ℕ). cond (eqb other.client.0 client) (suc n) n) (alike client)
 
 -- a row that is named so behind the rows of some calls, where a report's calls are
-call_found : (mode : Mode) (passes : ℕ) (earlier others calls told : List Call) (row : List (List ℕ)) (more rest : List (List (List ℕ))) → passes ≤ 32
-    → ((client : ℕ) → calls_by client earlier ≡ calls_by client others) → AreBelow (2 ^ 64) calls → All (IsReported mode passes) told
+call_found : (version : Version) (mode : Mode) (passes : ℕ) (earlier others calls told : List Call) (row : List (List ℕ)) (more rest : List (List (List ℕ))) → passes ≤ 32
+    → ((client : ℕ) → calls_by client earlier ≡ calls_by client others) → AreBelow (2 ^ 64) calls → All (IsReported version mode passes) told
     → IsCallRow row → BeginsOtherwise IsCallRow rest → map seven (call_rows earlier calls) ++ row ∷ more ≡ map seven (call_rows others told) ++ rest
-    → IsRowOfCall row mode passes (reverse calls ++ earlier) × (length calls < length told)
+    → IsRowOfCall row version mode passes (reverse calls ++ earlier) × (length calls < length told)
 unfolding call_rows
-call_found mode passes earlier others [] [] row more [] few alike below all named other e = absurd (omega (arith, ap length e))
-call_found mode passes earlier others [] [] row more (x ∷ rest) few alike below all named other e = let same : row ≡ x = ap (λ (rows : List (List (List ℕ))). get_or rows 0 []) e in absurd (other (subst IsCallRow same named))
-call_found mode passes earlier others [] (c ∷ told) row more rest few alike below all named other e =
+call_found version mode passes earlier others [] [] row more [] few alike below all named other e = absurd (omega (arith, ap length e))
+call_found version mode passes earlier others [] [] row more (x ∷ rest) few alike below all named other e = let same : row ≡ x = ap (λ (rows : List (List (List ℕ))). get_or rows 0 []) e in absurd (other (subst IsCallRow same named))
+call_found version mode passes earlier others [] (c ∷ told) row more rest few alike below all named other e =
     let same : row ≡ seven (reported_call_row others c) = ap (λ (rows : List (List (List ℕ))). get_or rows 0 []) e in
-    (record { call = c; reported = All-head (IsReported mode passes) c told all; is = same ∙ ap (λ (n : ℕ). seven (codes "call" ∷ decimal c.client.0 ∷ decimal n ∷ command_row c.command)) (sym (alike c.client.0)) }, omega arith)
-call_found mode passes earlier others (c ∷ calls) [] row more [] few alike below all named other e = absurd (omega (arith, ap length e))
-call_found mode passes earlier others (c ∷ calls) [] row more (x ∷ rest) few alike below all named other e =
+    (record { call = c; reported = All-head (IsReported version mode passes) c told all; is = same ∙ ap (λ (n : ℕ). seven (codes "call" ∷ decimal c.client.0 ∷ decimal n ∷ command_row c.command)) (sym (alike c.client.0)) }, omega arith)
+call_found version mode passes earlier others (c ∷ calls) [] row more [] few alike below all named other e = absurd (omega (arith, ap length e))
+call_found version mode passes earlier others (c ∷ calls) [] row more (x ∷ rest) few alike below all named other e =
     let same : seven (reported_call_row earlier c) ≡ x = ap (λ (rows : List (List (List ℕ))). get_or rows 0 []) e in absurd (other (subst IsCallRow same refl))
-call_found mode passes earlier others (c ∷ calls) (d ∷ told) row more rest few alike below all named other e =
+call_found version mode passes earlier others (c ∷ calls) (d ∷ told) row more rest few alike below all named other e =
     let first : seven (reported_call_row earlier c) ≡ seven (reported_call_row others d) = ap (λ (rows : List (List (List ℕ))). get_or rows 0 []) e in
     let tail = ap (drop 1) e in
-    let reported = All-head (IsReported mode passes) d told all in
+    let reported = All-head (IsReported version mode passes) d told all in
     let number : decimal c.client.0 ≡ decimal d.client.0 = ap (λ (fields : List (List ℕ)). get_or fields 1 []) first in
     let client = decimal_injective c.client.0 d.client.0 (All-head (λ (call : Call). call.client.0 < 2 ^ 64) c calls below) (omega (arith, few, reported.0)) number in
-    let found = call_found mode passes (c ∷ earlier) (d ∷ others) calls told row more rest few (more_alike c d earlier others client alike) (All-tail (λ (call : Call). call.client.0 < 2 ^ 64) c calls below) (All-tail (IsReported mode passes) d told all) named other tail in
-    (subst (IsRowOfCall row mode passes) (reverse_after c calls earlier) found.0, omega (arith, found.1))
+    let found = call_found version mode passes (c ∷ earlier) (d ∷ others) calls told row more rest few (more_alike c d earlier others client alike) (All-tail (λ (call : Call). call.client.0 < 2 ^ 64) c calls below) (All-tail (IsReported version mode passes) d told all) named other tail in
+    (subst (IsRowOfCall row version mode passes) (reverse_after c calls earlier) found.0, omega (arith, found.1))
 
 -- The rows of lines
 
 -- a row that is no end row, behind the rows of some lines, where a report's lines are
-line_found : (rows : List (List (List ℕ))) (told : List Line) (row last : List (List ℕ)) (more : List (List (List ℕ))) → AllByRecursion IsNoEnd rows → IsNoEnd row → ¬ (IsNoEnd last) → All IsSpelledLine told
-    → rows ++ row ∷ more ≡ map seven (map line_row told) ++ last ∷ [] → (line : Line) × IsSpelledLine line × (row ≡ seven (line_row line))
-line_found [] [] row last more none no_end end all e = let same : row ≡ last = cc in absurd (end (subst IsNoEnd same no_end))
-line_found [] (line ∷ told) row last more none no_end end all e = (line, All-head IsSpelledLine line told all, ap (λ (rows : List (List (List ℕ))). get_or rows 0 []) e)
-line_found (x ∷ rows) [] row last more none no_end end all e = let same : x ≡ last = cc in absurd (end (subst IsNoEnd same none.0))
-line_found (x ∷ rows) (line ∷ told) row last more none no_end end all e =
-    line_found rows told row last more none.1 no_end end (All-tail IsSpelledLine line told all) (ap (drop 1) e)
+line_found : (version : Version) (rows : List (List (List ℕ))) (told : List Line) (row last : List (List ℕ)) (more : List (List (List ℕ))) → AllByRecursion IsNoEnd rows → IsNoEnd row → ¬ (IsNoEnd last) → All (IsSpelledLine version) told
+    → rows ++ row ∷ more ≡ map seven (map line_row told) ++ last ∷ [] → (line : Line) × IsSpelledLine version line × (row ≡ seven (line_row line))
+line_found version [] [] row last more none no_end end all e = let same : row ≡ last = cc in absurd (end (subst IsNoEnd same no_end))
+line_found version [] (line ∷ told) row last more none no_end end all e = (line, All-head (IsSpelledLine version) line told all, ap (λ (rows : List (List (List ℕ))). get_or rows 0 []) e)
+line_found version (x ∷ rows) [] row last more none no_end end all e = let same : x ≡ last = cc in absurd (end (subst IsNoEnd same none.0))
+line_found version (x ∷ rows) (line ∷ told) row last more none no_end end all e =
+    line_found version rows told row last more none.1 no_end end (All-tail (IsSpelledLine version) line told all) (ap (drop 1) e)
 
 -- lines with the same rows are counted alike
 same_letter : (line other : Line) (rows others : List (List (List ℕ))) → seven (line_row line) ∷ rows ≡ seven (line_row other) ∷ others → letter_of line ≡ letter_of other
@@ -179,8 +183,8 @@ same_end lines others e =
 
 -- No report begins so
 
-pub no_title : (row : List (List ℕ)) → ((mode : Mode) → row ≢ seven (title_row mode)) → ¬ (BeginReport (row ∷ []))
-no_title row none (more, r) = none r.mode (ap (λ (rows : List (List (List ℕ))). get_or rows 0 []) (rows_in_parts r))
+pub no_title : (row : List (List ℕ)) → ((version : Version) (mode : Mode) → row ≢ seven (title_in version mode)) → ¬ (BeginReport (row ∷ []))
+no_title row none (more, r) = none r.version r.mode (ap (λ (rows : List (List (List ℕ))). get_or rows 0 []) (rows_in_parts r))
 
 pub no_limits : (title row : List (List ℕ)) → ((limits : Limits) → IsAccepted limits → row ≢ seven (limits_row limits)) → ¬ (BeginReport (title ∷ row ∷ []))
 no_limits title row none (more, r) = none r.limits r.admitted.accepted (ap (λ (rows : List (List (List ℕ))). get_or rows 1 []) (rows_in_parts r))
@@ -192,34 +196,41 @@ in_the_middle P (y ∷ xs) ys x all = in_the_middle P xs ys x all.1
 pub no_row : (before : List (List (List ℕ))) (row : List (List ℕ)) → ¬ (IsRow 7 row) → ¬ (BeginReport (before ++ row ∷ []))
 no_row before row none (more, r) = none (in_the_middle (IsRow 7) before more row (report_is_wide _ r))
 
-same_mode : (mode other : Mode) → seven (title_row mode) ≡ seven (title_row other) → mode ≡ other
+same_mode : (mode other : Mode) → mode_text mode ≡ mode_text other → mode ≡ other
 same_mode Tree Tree e = refl
 same_mode Records Records e = refl
-same_mode Tree Records e = absurd (omega (arith, ap (λ (fields : List (List ℕ)). get_or (get_or fields 2 []) 0 0) e))
-same_mode Records Tree e = absurd (omega (arith, ap (λ (fields : List (List ℕ)). get_or (get_or fields 2 []) 0 0) e))
+same_mode Tree Records e = absurd (omega (arith, ap (λ (text : List ℕ). get_or text 0 0) e))
+same_mode Records Tree e = absurd (omega (arith, ap (λ (text : List ℕ). get_or text 0 0) e))
 
-module _ (mode : Mode) (limits : Limits) (calls : List Call) (row : List (List ℕ)) (admitted : AreAdmitted mode limits calls) (named : IsCallRow row) where
+-- the row of a title tells its version and its mode
+same_title : (version other : Version) (mode last : Mode) → seven (title_in version mode) ≡ seven (title_in other last) → (version ≡ other) × (mode ≡ last)
+same_title version other mode last e = (
+  same_version version other (ap (λ (fields : List (List ℕ)). get_or fields 1 []) e),
+  same_mode mode last (ap (λ (fields : List (List ℕ)). get_or fields 2 []) e),
+)
+
+module _ (version : Version) (mode : Mode) (limits : Limits) (calls : List Call) (row : List (List ℕ)) (admitted : AreAdmitted version mode limits calls) (named : IsCallRow row) where
   -- the calls of a report that goes on with this row
-  call_in : (more : List (List (List ℕ))) (r : AreOfReport ((rows_of_calls mode limits calls ++ row ∷ []) ++ more)) → IsRowOfCall row r.mode r.limits.passes (reverse calls ++ []) × (length calls < length r.calls)
+  call_in : (more : List (List (List ℕ))) (r : AreOfReport ((rows_of_calls version mode limits calls ++ row ∷ []) ++ more)) → IsRowOfCall row r.version r.mode r.limits.passes (reverse calls ++ []) × (length calls < length r.calls)
   call_in more r =
       let below : AreBelow (2 ^ 64) calls = λ k d within. let ok = admitted.reported k d within in omega (arith, ok.0, admitted.accepted.passes) in
       let rows = sym (append_assoc (map seven (call_rows [] calls)) (row ∷ []) more) ∙ ap (drop 2) (rows_in_parts r) in
-      call_found r.mode r.limits.passes [] [] calls r.calls row more _ r.admitted.accepted.passes (λ client. refl) below r.admitted.reported named (behind_calls r.lines) rows
+      call_found r.version r.mode r.limits.passes [] [] calls r.calls row more _ r.admitted.accepted.passes (λ client. refl) below r.admitted.reported named (behind_calls r.lines) rows
     where
       behind_calls : (lines : List Line) → BeginsOtherwise IsCallRow (map seven (map line_row lines) ++ seven (report_end_row lines) ∷ [])
       behind_calls [] = end_is_no_call []
       behind_calls (line ∷ lines) = line_is_no_call line
 
-  pub no_call_row : ((call : Call) → IsReported mode limits.passes call → row ≢ seven (reported_call_row (reverse calls) call)) → ¬ (BeginReport (rows_of_calls mode limits calls ++ row ∷ []))
+  pub no_call_row : ((call : Call) → IsReported version mode limits.passes call → row ≢ seven (reported_call_row (reverse calls) call)) → ¬ (BeginReport (rows_of_calls version mode limits calls ++ row ∷ []))
   no_call_row none (more, r) =
       let found = (call_in more r).0 in
       let title = ap (λ (rows : List (List (List ℕ))). get_or rows 0 []) (rows_in_parts r) in
       let told = ap (λ (rows : List (List (List ℕ))). get_or (get_or rows 1 []) 1 []) (rows_in_parts r) in
-      let of_mode = same_mode mode r.mode title in
+      let same = same_title version r.version mode r.mode title in
       let passes = decimal_injective limits.passes r.limits.passes (omega (arith, admitted.accepted.passes)) (omega (arith, r.admitted.accepted.passes)) told in
-      none found.call (omega (arith, found.reported.0, passes), found.reported.1 ∙ sym of_mode, found.reported.2) (found.is ∙ ap (λ (earlier : List Call). seven (reported_call_row earlier found.call)) (append-nil (reverse calls)))
+      none found.call (omega (arith, found.reported.0, passes), found.reported.1 ∙ sym same.1, found.reported.2, subst (λ v. HasCommand v found.call.command) (sym same.0) found.reported.3) (found.is ∙ ap (λ (earlier : List Call). seven (reported_call_row earlier found.call)) (append-nil (reverse calls)))
 
-  pub no_more_calls : length calls ≡ 65536 → ¬ (BeginReport (rows_of_calls mode limits calls ++ row ∷ []))
+  pub no_more_calls : length calls ≡ 65536 → ¬ (BeginReport (rows_of_calls version mode limits calls ++ row ∷ []))
   no_more_calls full (more, r) = let many = (call_in more r).1 in omega (arith, many, full, r.admitted.few)
 
 begins_behind : (lines : List Line) (row : List (List ℕ)) (more : List (List (List ℕ))) → BeginsBehindCalls lines row → BeginsOtherwise IsCallRow (map seven (map line_row lines) ++ row ∷ more)
@@ -231,9 +242,9 @@ pub some_behind : (lines : List Line) (line : Line) (row : List (List ℕ)) → 
 some_behind [] line row = tt
 some_behind (other ∷ lines) line row = tt
 
-module _ (mode : Mode) (limits : Limits) (calls : List Call) (lines : List Line) (row : List (List ℕ)) (behind : BeginsBehindCalls lines row) where
+module _ (version : Version) (mode : Mode) (limits : Limits) (calls : List Call) (lines : List Line) (row : List (List ℕ)) (behind : BeginsBehindCalls lines row) where
   -- the lines of a report that goes on with this row
-  lines_in : (more : List (List (List ℕ))) (r : AreOfReport ((rows_of_lines mode limits calls lines ++ row ∷ []) ++ more)) → map seven (map line_row lines) ++ row ∷ more ≡ map seven (map line_row r.lines) ++ seven (report_end_row r.lines) ∷ []
+  lines_in : (more : List (List (List ℕ))) (r : AreOfReport ((rows_of_lines version mode limits calls lines ++ row ∷ []) ++ more)) → map seven (map line_row lines) ++ row ∷ more ≡ map seven (map line_row r.lines) ++ seven (report_end_row r.lines) ∷ []
   lines_in more r =
       let here = map seven (call_rows [] calls) in
       let own = map seven (map line_row lines) in
@@ -245,23 +256,25 @@ module _ (mode : Mode) (limits : Limits) (calls : List Call) (lines : List Line)
       at_end [] = end_is_no_call []
       at_end (line ∷ told) = tt
 
-  pub no_line_row : IsNoEnd row → ((line : Line) → IsSpelledLine line → row ≢ seven (line_row line)) → ¬ (BeginReport (rows_of_lines mode limits calls lines ++ row ∷ []))
+  pub no_line_row : IsNoEnd row → ((line : Line) → IsSpelledLine version line → row ≢ seven (line_row line)) → ¬ (BeginReport (rows_of_lines version mode limits calls lines ++ row ∷ []))
   no_line_row no_end none (more, r) =
-      let found = line_found (map seven (map line_row lines)) r.lines row (seven (report_end_row r.lines)) more (lines_no_end lines) no_end (λ other. other refl) r.spelled (lines_in more r) in
-      none found.0 found.1 found.2
+      let title = ap (λ (rows : List (List (List ℕ))). get_or rows 0 []) (rows_in_parts r) in
+      let same = same_title version r.version mode r.mode title in
+      let found = line_found r.version (map seven (map line_row lines)) r.lines row (seven (report_end_row r.lines)) more (lines_no_end lines) no_end (λ other. other refl) r.spelled (lines_in more r) in
+      none found.0 (subst (λ v. IsSpelledLine v found.0) (sym same.0) found.1) found.2
 
   -- an end row ends a report, and counts its lines
-  ends : name_of row ≡ codes "end" → (more : List (List (List ℕ))) → AreOfReport ((rows_of_lines mode limits calls lines ++ row ∷ []) ++ more) → (row ≡ seven (report_end_row lines)) × (more ≡ [])
+  ends : name_of row ≡ codes "end" → (more : List (List (List ℕ))) → AreOfReport ((rows_of_lines version mode limits calls lines ++ row ∷ []) ++ more) → (row ≡ seven (report_end_row lines)) × (more ≡ [])
   ends end more r =
       let parts = same_parts IsNoEnd (map seven (map line_row lines)) (map seven (map line_row r.lines)) (row ∷ more) (seven (report_end_row r.lines) ∷ []) (lines_no_end lines) (lines_no_end r.lines) (λ other. other end) (λ other. other refl) (lines_in more r) in
       (ap (λ (rows : List (List (List ℕ))). get_or rows 0 []) parts.1 ∙ sym (same_end lines r.lines parts.0), ap (drop 1) parts.1)
 
-  pub no_end_row : name_of row ≡ codes "end" → row ≢ seven (report_end_row lines) → ¬ (BeginReport (rows_of_lines mode limits calls lines ++ row ∷ []))
+  pub no_end_row : name_of row ≡ codes "end" → row ≢ seven (report_end_row lines) → ¬ (BeginReport (rows_of_lines version mode limits calls lines ++ row ∷ []))
   no_end_row end none (more, r) = none (ends end more r).0
 
-  pub no_row_behind : name_of row ≡ codes "end" → (late : List (List ℕ)) → ¬ (BeginReport ((rows_of_lines mode limits calls lines ++ row ∷ []) ++ late ∷ []))
+  pub no_row_behind : name_of row ≡ codes "end" → (late : List (List ℕ)) → ¬ (BeginReport ((rows_of_lines version mode limits calls lines ++ row ∷ []) ++ late ∷ []))
   no_row_behind end late (more, r) =
-      let over = (ends end (late ∷ more) (subst AreOfReport (append_assoc (rows_of_lines mode limits calls lines ++ row ∷ []) (late ∷ []) more) r)).1 in absurd cc
+      let over = (ends end (late ∷ more) (subst AreOfReport (append_assoc (rows_of_lines version mode limits calls lines ++ row ∷ []) (late ∷ []) more) r)).1 in absurd cc
 
 -- Rows that are no whole report
 
@@ -272,54 +285,54 @@ last_of P (y ∷ xs) x all = last_of P xs x all.1
 -- without an end row
 pub not_whole : (rows : List (List (List ℕ))) → AllByRecursion IsNoEnd rows → ¬ (AreOfReport rows)
 not_whole rows none r =
-    let all = subst (AllByRecursion IsNoEnd) (r.are ∙ sym (whole_report r.mode r.limits r.calls r.lines)) none in
-    last_of IsNoEnd (rows_of_lines r.mode r.limits r.calls r.lines) (seven (report_end_row r.lines)) all refl
+    let all = subst (AllByRecursion IsNoEnd) (r.are ∙ sym (whole_report r.version r.mode r.limits r.calls r.lines)) none in
+    last_of IsNoEnd (rows_of_lines r.version r.mode r.limits r.calls r.lines) (seven (report_end_row r.lines)) all refl
 
-title_no_end : (mode : Mode) → IsNoEnd (seven (title_row mode))
-title_no_end mode is = omega (arith, ap (λ (t : List ℕ). get_or t 0 0) is)
+title_no_end : (version : Version) (mode : Mode) → IsNoEnd (seven (title_in version mode))
+title_no_end version mode is = omega (arith, ap (λ (t : List ℕ). get_or t 0 0) is)
 
 limits_no_end : (limits : Limits) → IsNoEnd (seven (limits_row limits))
 limits_no_end limits is = omega (arith, ap (λ (t : List ℕ). get_or t 0 0) is)
 
-pub title_not_whole : (mode : Mode) → ¬ (AreOfReport (seven (title_row mode) ∷ []))
-title_not_whole mode = not_whole (seven (title_row mode) ∷ []) (title_no_end mode, tt)
+pub title_not_whole : (version : Version) (mode : Mode) → ¬ (AreOfReport (seven (title_in version mode) ∷ []))
+title_not_whole version mode = not_whole (seven (title_in version mode) ∷ []) (title_no_end version mode, tt)
 
-calls_no_end : (mode : Mode) (limits : Limits) (calls : List Call) → AllByRecursion IsNoEnd (rows_of_calls mode limits calls)
-calls_no_end mode limits calls = (title_no_end mode, (limits_no_end limits, all_of IsCallRow IsNoEnd (map seven (call_rows [] calls)) call_is_no_end (calls_are_named [] calls)))
+calls_no_end : (version : Version) (mode : Mode) (limits : Limits) (calls : List Call) → AllByRecursion IsNoEnd (rows_of_calls version mode limits calls)
+calls_no_end version mode limits calls = (title_no_end version mode, (limits_no_end limits, all_of IsCallRow IsNoEnd (map seven (call_rows [] calls)) call_is_no_end (calls_are_named [] calls)))
 
-pub calls_not_whole : (mode : Mode) (limits : Limits) (calls : List Call) → ¬ (AreOfReport (rows_of_calls mode limits calls))
-calls_not_whole mode limits calls = not_whole (rows_of_calls mode limits calls) (calls_no_end mode limits calls)
+pub calls_not_whole : (version : Version) (mode : Mode) (limits : Limits) (calls : List Call) → ¬ (AreOfReport (rows_of_calls version mode limits calls))
+calls_not_whole version mode limits calls = not_whole (rows_of_calls version mode limits calls) (calls_no_end version mode limits calls)
 
-pub lines_not_whole : (mode : Mode) (limits : Limits) (calls : List Call) (lines : List Line) → ¬ (AreOfReport (rows_of_lines mode limits calls lines))
-lines_not_whole mode limits calls lines =
-    not_whole (rows_of_lines mode limits calls lines) (all_both IsNoEnd (rows_of_calls mode limits calls) (map seven (map line_row lines)) (calls_no_end mode limits calls) (lines_no_end lines))
+pub lines_not_whole : (version : Version) (mode : Mode) (limits : Limits) (calls : List Call) (lines : List Line) → ¬ (AreOfReport (rows_of_lines version mode limits calls lines))
+lines_not_whole version mode limits calls lines =
+    not_whole (rows_of_lines version mode limits calls lines) (all_both IsNoEnd (rows_of_calls version mode limits calls) (map seven (map line_row lines)) (calls_no_end version mode limits calls) (lines_no_end lines))
 
 -- Rows with which a report begins
 
-whole : (mode : Mode) (limits : Limits) (calls : List Call) (lines : List Line) → AreAdmitted mode limits calls → All IsSpelledLine lines → length lines < 2 ^ 64 → AreOfReport (rows_of_lines mode limits calls lines ++ seven (report_end_row lines) ∷ [])
-whole mode limits calls lines admitted spelled counted =
-    record { mode = mode; limits = limits; calls = calls; lines = lines; admitted = admitted; spelled = spelled; counted = counted; are = whole_report mode limits calls lines }
+whole : (version : Version) (mode : Mode) (limits : Limits) (calls : List Call) (lines : List Line) → AreAdmitted version mode limits calls → All (IsSpelledLine version) lines → length lines < 2 ^ 64 → AreOfReport (rows_of_lines version mode limits calls lines ++ seven (report_end_row lines) ∷ [])
+whole version mode limits calls lines admitted spelled counted =
+    record { version = version; mode = mode; limits = limits; calls = calls; lines = lines; admitted = admitted; spelled = spelled; counted = counted; are = whole_report version mode limits calls lines }
 
-pub lines_begin : (mode : Mode) (limits : Limits) (calls : List Call) (lines : List Line) → AreAdmitted mode limits calls → All IsSpelledLine lines → length lines < 2 ^ 64 → BeginReport (rows_of_lines mode limits calls lines)
-lines_begin mode limits calls lines admitted spelled counted = (seven (report_end_row lines) ∷ [], whole mode limits calls lines admitted spelled counted)
+pub lines_begin : (version : Version) (mode : Mode) (limits : Limits) (calls : List Call) (lines : List Line) → AreAdmitted version mode limits calls → All (IsSpelledLine version) lines → length lines < 2 ^ 64 → BeginReport (rows_of_lines version mode limits calls lines)
+lines_begin version mode limits calls lines admitted spelled counted = (seven (report_end_row lines) ∷ [], whole version mode limits calls lines admitted spelled counted)
 
 -- and with the end row too
-pub whole_begins : (mode : Mode) (limits : Limits) (calls : List Call) (lines : List Line) → AreAdmitted mode limits calls → All IsSpelledLine lines → length lines < 2 ^ 64 → BeginReport (rows_of_lines mode limits calls lines ++ seven (report_end_row lines) ∷ [])
-whole_begins mode limits calls lines admitted spelled counted =
-    ([], subst AreOfReport (sym (append-nil (rows_of_lines mode limits calls lines ++ seven (report_end_row lines) ∷ []))) (whole mode limits calls lines admitted spelled counted))
+pub whole_begins : (version : Version) (mode : Mode) (limits : Limits) (calls : List Call) (lines : List Line) → AreAdmitted version mode limits calls → All (IsSpelledLine version) lines → length lines < 2 ^ 64 → BeginReport (rows_of_lines version mode limits calls lines ++ seven (report_end_row lines) ∷ [])
+whole_begins version mode limits calls lines admitted spelled counted =
+    ([], subst AreOfReport (sym (append-nil (rows_of_lines version mode limits calls lines ++ seven (report_end_row lines) ∷ []))) (whole version mode limits calls lines admitted spelled counted))
 
 fewer_begin : (rows more : List (List (List ℕ))) → BeginReport (rows ++ more) → BeginReport rows
 fewer_begin rows more (rest, r) = (more ++ rest, subst AreOfReport (append_assoc rows more rest) r)
 
-pub calls_begin : (mode : Mode) (limits : Limits) (calls : List Call) → AreAdmitted mode limits calls → BeginReport (rows_of_calls mode limits calls)
-calls_begin mode limits calls admitted = fewer_begin (rows_of_calls mode limits calls) [] (lines_begin mode limits calls [] admitted (All-nil IsSpelledLine) (lit< tt))
+pub calls_begin : (version : Version) (mode : Mode) (limits : Limits) (calls : List Call) → AreAdmitted version mode limits calls → BeginReport (rows_of_calls version mode limits calls)
+calls_begin version mode limits calls admitted = fewer_begin (rows_of_calls version mode limits calls) [] (lines_begin version mode limits calls [] admitted (All-nil (IsSpelledLine version)) (lit< tt))
 
-none_admitted : (mode : Mode) (limits : Limits) → IsAccepted limits → AreAdmitted mode limits []
-none_admitted mode limits accepted = record { accepted = accepted; few = lit≤ tt; reported = All-nil (IsReported mode limits.passes) }
+none_admitted : (version : Version) (mode : Mode) (limits : Limits) → IsAccepted limits → AreAdmitted version mode limits []
+none_admitted version mode limits accepted = record { accepted = accepted; few = lit≤ tt; reported = All-nil (IsReported version mode limits.passes) }
 
-pub head_begins : (mode : Mode) (limits : Limits) → IsAccepted limits → BeginReport (head_rows mode limits)
+pub head_begins : (version : Version) (mode : Mode) (limits : Limits) → IsAccepted limits → BeginReport (head_rows version mode limits)
 unfolding call_rows
-head_begins mode limits accepted = calls_begin mode limits [] (none_admitted mode limits accepted)
+head_begins version mode limits accepted = calls_begin version mode limits [] (none_admitted version mode limits accepted)
 
 -- limits that are accepted
 abbrev least : Limits
@@ -328,11 +341,11 @@ least = record { passes = 1; nodes = 0; scx = 0; tries = 1 }
 least_accepted : IsAccepted least
 least_accepted = record { some_pass = lit≤ tt; passes = lit≤ tt; nodes = lit≤ tt; scx = lit≤ tt; some_try = lit≤ tt; tries = lit≤ tt }
 
-pub title_begins : (mode : Mode) → BeginReport (seven (title_row mode) ∷ [])
-title_begins mode = fewer_begin (seven (title_row mode) ∷ []) (seven (limits_row least) ∷ []) (head_begins mode least least_accepted)
+pub title_begins : (version : Version) (mode : Mode) → BeginReport (seven (title_in version mode) ∷ [])
+title_begins version mode = fewer_begin (seven (title_in version mode) ∷ []) (seven (limits_row least) ∷ []) (head_begins version mode least least_accepted)
 
 pub nothing_begins : BeginReport []
-nothing_begins = fewer_begin [] (seven (title_row Tree) ∷ []) (title_begins Tree)
+nothing_begins = fewer_begin [] (seven (title_in One Tree) ∷ []) (title_begins One Tree)
 
 -- The rows of a text
 
@@ -373,5 +386,5 @@ refused_for P (Bad row cause) holds = holds
 pub nothing_not_whole : ¬ (AreOfReport [])
 nothing_not_whole = not_whole [] tt
 
-pub head_not_whole : (mode : Mode) (limits : Limits) → ¬ (AreOfReport (head_rows mode limits))
-head_not_whole mode limits = not_whole (head_rows mode limits) (title_no_end mode, (limits_no_end limits, tt))
+pub head_not_whole : (version : Version) (mode : Mode) (limits : Limits) → ¬ (AreOfReport (head_rows version mode limits))
+head_not_whole version mode limits = not_whole (head_rows version mode limits) (title_no_end version mode, (limits_no_end limits, tt))

@@ -1,8 +1,8 @@
 -- The rows of a report are text, in seven fields.
-use Rattle.std.proofs.Common.{◌≡◌, ℕ, ◌<◌, ◌≤◌, ◌^◌, Bool, true, false, eqb, ltb, ltb-true, lt-ltb, cond, List, [], ◌∷◌, ◌++◌, Option, Some, None, All, Contains, IsAscii, IsUtf8, IfSome, codes, decimal, length, map, refl, sym, subst, arith, lit<, lit≤, ◌+◌}
+use Rattle.std.proofs.Common.{◌≡◌, ℕ, ◌<◌, ◌≤◌, ◌^◌, Bool, true, false, eqb, ltb, ltb-true, lt-ltb, cond, List, [], ◌∷◌, ◌++◌, Option, Some, None, All, Contains, IsAscii, IsUtf8, IfSome, codes, decimal, length, map, refl, sym, subst, arith, lit≤, ◌+◌}
 use Rattle.std.proofs.Math.Logic.{∥∥₁_elim}
 use Rattle.std.proofs.lemmas.Bool.{eqb-true}
-use Rattle.std.proofs.lemmas.Fmt.{IsAscii-decimal}
+use Rattle.std.proofs.lemmas.Fmt.{IsAscii-decimal_wide}
 use Rattle.std.proofs.lemmas.List.Elements.{All-contains, All-head, All-tail}
 use Rattle.std.proofs.lemmas.Str.Ascii.{IsAscii-cons, IsAscii-nil}
 use Rattle.std.proofs.lemmas.Str.{IsUtf8-append, IsUtf8-from_ascii, IsUtf8-nil}
@@ -46,13 +46,17 @@ use Rattle.record.specs.declared.record.Line.{Line}
 use Rattle.record.specs.declared.record.Line.TheVariants.{Step, Log, Reply as ReplyLine}
 use Rattle.record.specs.declared.record.Row.TheVariants.{Step as Made, Idle}
 use Rattle.report.specs.Answers.{answer_text, full_text, reply_text, spaced_pairs}
-use Rattle.report.specs.Report.{call_rows, calls_by, entries_in, line_row, mode_text, moment_text, replies_in, report_end_row, seven, steps_in, title_row}
+use Rattle.report.specs.Report.{call_rows, calls_by, entries_in, line_row, mode_text, moment_text, replies_in, report_end_row, seven, steps_in, title_in}
 use Rattle.report.specs.RowFaults.{AreOfReport}
-use Rattle.report.specs.Spellings.{IsReported, IsSpelledAnswer, IsSpelledLine, IsSpelledReply, IsWordPair}
+use Rattle.report.specs.Spellings.{IsReported, IsSpelledAnswer, IsSpelledLine, IsSpelledPair, IsSpelledReply}
+use Rattle.report.specs.Versions.{version_text}
+use Rattle.report.specs.declared.version.Version.{Version}
+use Rattle.report.specs.declared.version.Version.TheVariants.{One, Two}
 use Rattle.report.specs.Words.{IsSpelled, node_part, scx_part, word_text}
 use Rattle.texts.specs.Texts.{IsRow}
 use Rattle.report.proofs.Counted.{calls_by_bound}
 use Rattle.report.proofs.Reading.{rows_in_parts}
+use Rattle.report.proofs.Versions.{small_value}
 
 -- whether no byte is above 127
 abbrev is_ascii : List ℕ → Bool
@@ -71,9 +75,13 @@ bytes_below (b ∷ bs) is = go (ltb b 128) refl is (bytes_below bs)
 ascii : (bs : List ℕ) → is_ascii bs ≡ true → IsUtf8 bs
 ascii bs is = IsUtf8-from_ascii bs (bytes_below bs is)
 
+-- a value is text
+value_is_text : (n : ℕ) → n < 2 ^ 128 → IsUtf8 (decimal n)
+value_is_text n fits = IsUtf8-from_ascii (decimal n) (IsAscii-decimal_wide n (omega (arith, fits)))
+
 -- a number is text
 number : (n : ℕ) → n < 2 ^ 64 → IsUtf8 (decimal n)
-number n fits = IsUtf8-from_ascii (decimal n) (IsAscii-decimal n fits)
+number n fits = value_is_text n (omega (arith, fits))
 
 -- and so are two texts together
 both : (xs ys : List ℕ) → IsUtf8 xs → IsUtf8 ys → IsUtf8 (xs ++ ys)
@@ -122,9 +130,9 @@ scx_part_text (Member place) fits = named (codes "v") place (ascii (codes "v") r
 scx_part_text (Seen place) fits = named (codes "i") place (ascii (codes "i") refl) (omega (arith, fits))
 scx_part_text CallWord fits = ascii (codes "call") refl
 
-word_is_text : (word : Word) → IsSpelled word → IsUtf8 (word_text word)
-word_is_text (Node n part) fits = named_more (codes "n") n.0 (codes "." ++ node_part part) (ascii (codes "n") refl) fits (both (codes ".") (node_part part) (ascii (codes ".") refl) (node_part_text part))
-word_is_text (ScxWordOf s part) fits = named_more (codes "s") s.0 (codes "." ++ scx_part part) (ascii (codes "s") refl) fits.0 (both (codes ".") (scx_part part) (ascii (codes ".") refl) (scx_part_text part fits.1))
+word_is_text : (version : Version) (word : Word) → IsSpelled version word → IsUtf8 (word_text word)
+word_is_text version (Node n part) fits = named_more (codes "n") n.0 (codes "." ++ node_part part) (ascii (codes "n") refl) fits.0 (both (codes ".") (node_part part) (ascii (codes ".") refl) (node_part_text part))
+word_is_text version (ScxWordOf s part) fits = named_more (codes "s") s.0 (codes "." ++ scx_part part) (ascii (codes "s") refl) fits.0 (both (codes ".") (scx_part part) (ascii (codes ".") refl) (scx_part_text part fits.1))
 
 kind_is_text : (kind : Kind) → IsUtf8 (kind_text kind)
 kind_is_text Fill = ascii (kind_text Fill) refl
@@ -146,41 +154,43 @@ kind_is_text Abort = ascii (kind_text Abort) refl
 blame : (name : List ℕ) (node scx : ℕ) → IsUtf8 name → node < 2 ^ 64 → scx < 2 ^ 64 → IsUtf8 (name ++ (decimal node ++ (codes " s" ++ decimal scx)))
 blame name node scx text small fits = named_more name node (codes " s" ++ decimal scx) text small (named (codes " s") scx (ascii (codes " s") refl) fits)
 
-pair : (name : List ℕ) (first second : ℕ) → IsUtf8 name → first < 2 ^ 64 → second < 2 ^ 64 → IsUtf8 (name ++ (decimal first ++ (codes " " ++ decimal second)))
-pair name first second text small fits = named_more name first (codes " " ++ decimal second) text small (named (codes " ") second space fits)
+pair : (name : List ℕ) (first second : ℕ) → IsUtf8 name → first < 2 ^ 64 → second < 2 ^ 128 → IsUtf8 (name ++ (decimal first ++ (codes " " ++ decimal second)))
+pair name first second text small fits = named_more name first (codes " " ++ decimal second) text small (both (codes " ") (decimal second) space (value_is_text second fits))
 
-spaced_pairs_text : (ps : List (ℕ × ℕ)) → All IsWordPair ps → IsUtf8 (spaced_pairs ps)
+spaced_pairs_text : (version : Version) (ps : List (ℕ × ℕ)) → All (IsSpelledPair version) ps → IsUtf8 (spaced_pairs ps)
 unfolding spaced_pairs
-spaced_pairs_text [] all = IsUtf8-nil
-spaced_pairs_text (p ∷ ps) all =
-    let fits = All-head IsWordPair p ps all in
-    named_more (codes " ") p.0 (codes " " ++ (decimal p.1 ++ spaced_pairs ps)) space fits.0 (named_more (codes " ") p.1 (spaced_pairs ps) space fits.1 (spaced_pairs_text ps (All-tail IsWordPair p ps all)))
+spaced_pairs_text version [] all = IsUtf8-nil
+spaced_pairs_text version (p ∷ ps) all =
+    let fits = All-head (IsSpelledPair version) p ps all in
+    let rest = spaced_pairs_text version ps (All-tail (IsSpelledPair version) p ps all) in
+    named_more (codes " ") p.0 (codes " " ++ (decimal p.1 ++ spaced_pairs ps)) space fits.0
+    (both (codes " ") (decimal p.1 ++ spaced_pairs ps) space (both (decimal p.1) (spaced_pairs ps) (value_is_text p.1 (small_value version p.1 fits.1)) rest))
 
 full_is_text : (what : Resource) (left : ℕ) → left < 2 ^ 32 → IsUtf8 (full_text what left)
 full_is_text Nodes left fits = named (codes "full nodes ") left (ascii (codes "full nodes ") refl) (omega (arith, fits))
 full_is_text ScxShare left fits = named (codes "full scx ") left (ascii (codes "full scx ") refl) (omega (arith, fits))
 
-reply_is_text : (reply : Reply ℕ ℕ) → IsSpelledReply reply → IsUtf8 (reply_text reply)
-reply_is_text (Value (Some value)) fits = named (codes "some ") value (ascii (codes "some ") refl) fits
-reply_is_text (Value None) fits = ascii (codes "none") refl
-reply_is_text (Pair (Some p)) fits = pair (codes "pair ") p.0 p.1 (ascii (codes "pair ") refl) fits.0 fits.1
-reply_is_text (Pair None) fits = ascii (codes "none") refl
-reply_is_text (Pairs ps) fits = both (codes "pairs") (spaced_pairs ps.items) (ascii (codes "pairs") refl) (spaced_pairs_text ps.items fits)
-reply_is_text (Contended node scx) fits = blame (codes "contended n") node.0 scx.0 (ascii (codes "contended n") refl) fits.0 fits.1
-reply_is_text (FullShare full) fits = full_is_text full.what full.left fits
-reply_is_text NoMemory fits = ascii (codes "no memory") refl
+reply_is_text : (version : Version) (reply : Reply ℕ ℕ) → IsSpelledReply version reply → IsUtf8 (reply_text reply)
+reply_is_text version (Value (Some value)) fits = both (codes "some ") (decimal value) (ascii (codes "some ") refl) (value_is_text value (small_value version value fits))
+reply_is_text version (Value None) fits = ascii (codes "none") refl
+reply_is_text version (Pair (Some p)) fits = pair (codes "pair ") p.0 p.1 (ascii (codes "pair ") refl) fits.0 (small_value version p.1 fits.1)
+reply_is_text version (Pair None) fits = ascii (codes "none") refl
+reply_is_text version (Pairs ps) fits = both (codes "pairs") (spaced_pairs ps.items) (ascii (codes "pairs") refl) (spaced_pairs_text version ps.items fits)
+reply_is_text version (Contended node scx) fits = blame (codes "contended n") node.0 scx.0 (ascii (codes "contended n") refl) fits.0 fits.1
+reply_is_text version (FullShare full) fits = full_is_text full.what full.left fits
+reply_is_text version NoMemory fits = ascii (codes "no memory") refl
 
-answer_is_text : (answer : Answer) → IsSpelledAnswer answer → IsUtf8 (answer_text answer)
-answer_is_text (Snapshot left right) fits = pair (codes "snap ") left.0 right.0 (ascii (codes "snap ") refl) fits.0 fits.1
-answer_is_text Finalized fits = ascii (codes "finalized") refl
-answer_is_text (Fail node scx) fits = blame (codes "fail n") node.0 scx.0 (ascii (codes "fail n") refl) fits.0 fits.1
-answer_is_text Done fits = ascii (codes "done") refl
-answer_is_text (Lost node scx) fits = blame (codes "lost n") node.0 scx.0 (ascii (codes "lost n") refl) fits.0 fits.1
-answer_is_text Same fits = ascii (codes "same") refl
-answer_is_text (Changed node scx) fits = blame (codes "changed n") node.0 scx.0 (ascii (codes "changed n") refl) fits.0 fits.1
-answer_is_text (Unlinked node) fits = named (codes "unlinked n") node.0 (ascii (codes "unlinked n") refl) fits
-answer_is_text (Full what left) fits = full_is_text what left fits
-answer_is_text (MapAnswer reply) fits = reply_is_text reply fits
+answer_is_text : (version : Version) (answer : Answer) → IsSpelledAnswer version answer → IsUtf8 (answer_text answer)
+answer_is_text version (Snapshot left right) fits = pair (codes "snap ") left.0 right.0 (ascii (codes "snap ") refl) fits.0 (omega (arith, fits.1))
+answer_is_text version Finalized fits = ascii (codes "finalized") refl
+answer_is_text version (Fail node scx) fits = blame (codes "fail n") node.0 scx.0 (ascii (codes "fail n") refl) fits.0 fits.1
+answer_is_text version Done fits = ascii (codes "done") refl
+answer_is_text version (Lost node scx) fits = blame (codes "lost n") node.0 scx.0 (ascii (codes "lost n") refl) fits.0 fits.1
+answer_is_text version Same fits = ascii (codes "same") refl
+answer_is_text version (Changed node scx) fits = blame (codes "changed n") node.0 scx.0 (ascii (codes "changed n") refl) fits.0 fits.1
+answer_is_text version (Unlinked node) fits = named (codes "unlinked n") node.0 (ascii (codes "unlinked n") refl) fits
+answer_is_text version (Full what left) fits = full_is_text what left fits
+answer_is_text version (MapAnswer reply) fits = reply_is_text version reply fits
 
 moment_is_text : (moment : Option ℕ) → (IfSome moment (λ turn. turn < 2 ^ 64)) → IsUtf8 (moment_text moment)
 moment_is_text None fits = IsUtf8-nil
@@ -196,19 +206,19 @@ three_more : (a b c : List ℕ) (rest : List (List ℕ)) → IsUtf8 a → IsUtf8
 unfolding AllText
 three_more a b c rest p q r all = (p, (q, (r, all)))
 
-line_is_text : (line : Line) → IsSpelledLine line → AllText (seven (line_row line))
-line_is_text (Step (Made n row)) (small, fits) =
+line_is_text : (version : Version) (line : Line) → IsSpelledLine version line → AllText (seven (line_row line))
+line_is_text version (Step (Made n row)) (small, fits) =
     three_more _ _ _ _ (ascii (codes "step") refl) (number n small) (number row.pass.0 (omega (arith, fits.pass)))
-    (four_texts _ _ _ _ (kind_is_text row.kind) (word_is_text row.word fits.word) (number row.before fits.before) (number row.after fits.after))
-line_is_text (Step (Idle n client)) (small, fits) =
+    (four_texts _ _ _ _ (kind_is_text row.kind) (word_is_text version row.word fits.word) (number row.before fits.before) (number row.after fits.after))
+line_is_text version (Step (Idle n client)) (small, fits) =
     three_more _ _ _ _ (ascii (codes "step") refl) (number n small) (number client.0 (omega (arith, fits)))
     (four_texts _ _ _ _ (ascii (codes "idle") refl) IsUtf8-nil IsUtf8-nil IsUtf8-nil)
-line_is_text (Log entry) fits =
+line_is_text version (Log entry) fits =
     three_more _ _ _ _ (ascii (codes "log") refl) (number entry.place fits.place) (number entry.step fits.step)
     (four_texts _ _ _ _ (named (codes "s") entry.scx.0 (ascii (codes "s") refl) fits.scx) (number entry.client.0 (omega (arith, fits.client))) (number entry.call fits.call) IsUtf8-nil)
-line_is_text (ReplyLine reply) fits =
+line_is_text version (ReplyLine reply) fits =
     three_more _ _ _ _ (ascii (codes "reply") refl) (number reply.client.0 (omega (arith, fits.client))) (number reply.call fits.call)
-    (four_texts _ _ _ _ (number reply.begin fits.begin) (number reply.end fits.end) (moment_is_text reply.moment fits.moment) (answer_is_text reply.answer fits.answer))
+    (four_texts _ _ _ _ (number reply.begin fits.begin) (number reply.end fits.end) (moment_is_text reply.moment fits.moment) (answer_is_text version reply.answer fits.answer))
 
 -- Commands
 
@@ -244,10 +254,10 @@ part_is_small (n ∷ part) (m ∷ whole) is all = go (eqb n m) refl is (λ sub. 
     go false same sub less keep = keep sub
 
 request_is_text : (request : Request ℕ ℕ) → IsRequest request → AllText (request_row request)
-request_is_text (Insert key value) fits = four_texts _ _ _ _ (ascii (codes "insert") refl) (number key fits.0) (number value fits.1) IsUtf8-nil
+request_is_text (Insert key value) fits = four_texts _ _ _ _ (ascii (codes "insert") refl) (number key fits.0) (value_is_text value fits.1) IsUtf8-nil
 request_is_text (Delete key) fits = four_texts _ _ _ _ (ascii (codes "delete") refl) (number key fits) IsUtf8-nil IsUtf8-nil
 request_is_text PopFirst fits = four_texts _ _ _ _ (ascii (codes "pop_first") refl) IsUtf8-nil IsUtf8-nil IsUtf8-nil
-request_is_text (ReplaceIf key expected value) fits = four_texts _ _ _ _ (ascii (codes "replace_if") refl) (number key fits.0) (number expected fits.1) (number value fits.2)
+request_is_text (ReplaceIf key expected value) fits = four_texts _ _ _ _ (ascii (codes "replace_if") refl) (number key fits.0) (value_is_text expected fits.1) (value_is_text value fits.2)
 request_is_text (Get key) fits = four_texts _ _ _ _ (ascii (codes "get") refl) (number key fits) IsUtf8-nil IsUtf8-nil
 request_is_text (Successor key) fits = four_texts _ _ _ _ (ascii (codes "successor") refl) (number key fits) IsUtf8-nil IsUtf8-nil
 request_is_text (Range low high most) fits = four_texts _ _ _ _ (ascii (codes "range") refl) (number low fits.0) (number high fits.1) (number most (omega (arith, fits.2)))
@@ -306,8 +316,12 @@ mode_is_text : (mode : Mode) → IsUtf8 (mode_text mode)
 mode_is_text Tree = ascii (codes "tree") refl
 mode_is_text Records = ascii (codes "records") refl
 
-title_is_wide : (mode : Mode) → IsWide (seven (title_row mode))
-title_is_wide mode = (refl, three_more _ _ _ _ (ascii (codes "report") refl) (number 1 (lit< tt)) (mode_is_text mode) (four_texts _ _ _ _ IsUtf8-nil IsUtf8-nil IsUtf8-nil IsUtf8-nil))
+version_is_text : (version : Version) → IsUtf8 (version_text version)
+version_is_text One = ascii (codes "1") refl
+version_is_text Two = ascii (codes "2") refl
+
+title_is_wide : (version : Version) (mode : Mode) → IsWide (seven (title_in version mode))
+title_is_wide version mode = (refl, three_more _ _ _ _ (ascii (codes "report") refl) (version_is_text version) (mode_is_text mode) (four_texts _ _ _ _ IsUtf8-nil IsUtf8-nil IsUtf8-nil IsUtf8-nil))
 
 limits_are_wide : (limits : Limits) → IsAccepted limits → IsWide (seven (limits_row limits))
 limits_are_wide limits fits = (
@@ -331,20 +345,20 @@ end_is_wide lines fits =
           (four_texts _ _ _ _ (number (entries_in lines) (omega (arith, b.2, fits))) IsUtf8-nil IsUtf8-nil IsUtf8-nil),
     )
 
-call_rows_are_wide : (mode : Mode) (passes : ℕ) (earlier calls : List Call) → passes ≤ 32 → length earlier + length calls < 2 ^ 64 → All (IsReported mode passes) calls → AllByRecursion IsWide (map seven (call_rows earlier calls))
+call_rows_are_wide : (version : Version) (mode : Mode) (passes : ℕ) (earlier calls : List Call) → passes ≤ 32 → length earlier + length calls < 2 ^ 64 → All (IsReported version mode passes) calls → AllByRecursion IsWide (map seven (call_rows earlier calls))
 unfolding call_rows
-call_rows_are_wide mode passes earlier [] few counted all = tt
-call_rows_are_wide mode passes earlier (call ∷ calls) few counted all =
-    let ok = All-head (IsReported mode passes) call calls all in
+call_rows_are_wide version mode passes earlier [] few counted all = tt
+call_rows_are_wide version mode passes earlier (call ∷ calls) few counted all =
+    let ok = All-head (IsReported version mode passes) call calls all in
     let bound = calls_by_bound call.client.0 earlier in
     let text = three_more (codes "call") (decimal call.client.0) (decimal (calls_by call.client.0 earlier)) (command_row call.command) (ascii (codes "call") refl) (number call.client.0 (omega (arith, ok.0, few))) (number (calls_by call.client.0 earlier) (omega (arith, bound, counted))) (command_is_text call.command ok.2) in
-    (call_is_wide call.client.0 (calls_by call.client.0 earlier) call.command text, call_rows_are_wide mode passes (call ∷ earlier) calls few (omega (arith, counted)) (All-tail (IsReported mode passes) call calls all))
+    (call_is_wide call.client.0 (calls_by call.client.0 earlier) call.command text, call_rows_are_wide version mode passes (call ∷ earlier) calls few (omega (arith, counted)) (All-tail (IsReported version mode passes) call calls all))
 
-line_rows_are_wide : (lines : List Line) → All IsSpelledLine lines → AllByRecursion IsWide (map seven (map line_row lines))
-line_rows_are_wide [] all = tt
-line_rows_are_wide (line ∷ lines) all =
-    let fits = All-head IsSpelledLine line lines all in
-    ((line_is_long line, line_is_text line fits), line_rows_are_wide lines (All-tail IsSpelledLine line lines all))
+line_rows_are_wide : (version : Version) (lines : List Line) → All (IsSpelledLine version) lines → AllByRecursion IsWide (map seven (map line_row lines))
+line_rows_are_wide version [] all = tt
+line_rows_are_wide version (line ∷ lines) all =
+    let fits = All-head (IsSpelledLine version) line lines all in
+    ((line_is_long line, line_is_text version line fits), line_rows_are_wide version lines (All-tail (IsSpelledLine version) line lines all))
 
 -- what holds of all rows here and there holds of all
 pub all_both : {X : Type 0} (P : X → Type 0) (xs ys : List X) → AllByRecursion P xs → AllByRecursion P ys → AllByRecursion P (xs ++ ys)
@@ -354,7 +368,7 @@ all_both P (x ∷ xs) ys p q = (p.0, all_both P xs ys p.1 q)
 -- all rows of a report
 pub report_is_wide : (rows : List (List (List ℕ))) → AreOfReport rows → AllByRecursion IsWide rows
 report_is_wide rows r =
-    let calls = call_rows_are_wide r.mode r.limits.passes [] r.calls r.admitted.accepted.passes (omega (arith, r.admitted.few)) r.admitted.reported in
-    let lines = line_rows_are_wide r.lines r.spelled in
+    let calls = call_rows_are_wide r.version r.mode r.limits.passes [] r.calls r.admitted.accepted.passes (omega (arith, r.admitted.few)) r.admitted.reported in
+    let lines = line_rows_are_wide r.version r.lines r.spelled in
     let tail = all_both IsWide (map seven (call_rows [] r.calls)) _ calls (all_both IsWide (map seven (map line_row r.lines)) (seven (report_end_row r.lines) ∷ []) lines (end_is_wide r.lines r.counted, tt)) in
-    subst (AllByRecursion IsWide) (sym (rows_in_parts r)) (title_is_wide r.mode, (limits_are_wide r.limits r.admitted.accepted, tail))
+    subst (AllByRecursion IsWide) (sym (rows_in_parts r)) (title_is_wide r.version r.mode, (limits_are_wide r.limits r.admitted.accepted, tail))

@@ -1,3 +1,4 @@
+pub mod Versions
 pub mod Words
 pub mod Spellings
 pub mod Answers

@@ -13,7 +13,10 @@ use Rattle.record.specs.declared.record.Line.{Line}
 use Rattle.record.specs.declared.record.Line.TheVariants.{Step, Log, Reply}
 use Rattle.record.specs.declared.record.Row.TheVariants.{Step as Made, Idle}
 use Rattle.report.specs.Answers.{answer_text}
+use Rattle.report.specs.Versions.{version_text}
 use Rattle.report.specs.Words.{word_text}
+use Rattle.report.specs.declared.version.Version.{Version}
+use Rattle.report.specs.declared.version.Version.TheVariants.{Two}
 use Rattle.texts.specs.Pages.{padded, rows_text}
 
 -- a row of a report: these fields, and empty ones after them
@@ -28,8 +31,12 @@ mode_text Tree = codes "tree"
 mode_text Records = codes "records"
 
 -- the first row: the format's version, and the mode
+abbrev pub title_in : Version → Mode → List (List ℕ)
+title_in version mode = codes "report" ∷ version_text version ∷ mode_text mode ∷ []
+
+-- as it is written: in the second version
 abbrev pub title_row : Mode → List (List ℕ)
-title_row mode = codes "report" ∷ decimal 1 ∷ mode_text mode ∷ []
+title_row mode = title_in Two mode
 
 -- a row's first field, which says what it is
 abbrev pub name_of : List (List ℕ) → List ℕ
@@ -107,25 +114,30 @@ report_end_row lines = counts_row (steps_in lines) (replies_in lines) (entries_i
 
 -- The whole
 
--- all rows of a report, in order: of this mode, within these limits, of these calls and lines
-abbrev pub rows_told : Mode → Limits → List Call → List Line → List (List (List ℕ))
-rows_told mode limits calls lines = title_row mode ∷ limits_row limits ∷ (call_rows [] calls ++ (map line_row lines ++ report_end_row lines ∷ []))
+-- all rows of a report, in order: in this version, of this mode, within these limits, of these calls
+-- and lines
+abbrev pub rows_told : Version → Mode → Limits → List Call → List Line → List (List (List ℕ))
+rows_told version mode limits calls lines = title_in version mode ∷ limits_row limits ∷ (call_rows [] calls ++ (map line_row lines ++ report_end_row lines ∷ []))
 
 -- the first two of them
-abbrev pub head_rows : Mode → Limits → List (List (List ℕ))
-head_rows mode limits = map seven (title_row mode ∷ limits_row limits ∷ [])
+abbrev pub head_rows : Version → Mode → Limits → List (List (List ℕ))
+head_rows version mode limits = map seven (title_in version mode ∷ limits_row limits ∷ [])
 
 -- those before the lines
-abbrev pub rows_of_calls : Mode → Limits → List Call → List (List (List ℕ))
-rows_of_calls mode limits calls = map seven (title_row mode ∷ limits_row limits ∷ call_rows [] calls)
+abbrev pub rows_of_calls : Version → Mode → Limits → List Call → List (List (List ℕ))
+rows_of_calls version mode limits calls = map seven (title_in version mode ∷ limits_row limits ∷ call_rows [] calls)
 
 -- those before the end
-abbrev pub rows_of_lines : Mode → Limits → List Call → List Line → List (List (List ℕ))
-rows_of_lines mode limits calls lines = rows_of_calls mode limits calls ++ map seven (map line_row lines)
+abbrev pub rows_of_lines : Version → Mode → Limits → List Call → List Line → List (List (List ℕ))
+rows_of_lines version mode limits calls lines = rows_of_calls version mode limits calls ++ map seven (map line_row lines)
 
--- the rows of the report of a script and of its run's lines
+-- the rows of the report of a script and of its run's lines, in a version
+abbrev pub rows_in : Version → Script → List Line → List (List (List ℕ))
+rows_in version script lines = rows_told version script.layout.mode script.limits script.calls.items lines
+
+-- as they are written
 abbrev pub report_rows : Script → List Line → List (List (List ℕ))
-report_rows script lines = rows_told script.layout.mode script.limits script.calls.items lines
+report_rows script lines = rows_in Two script lines
 
 -- the text of a report: its rows, one a line
 abbrev pub report_text : Script → List Line → List ℕ

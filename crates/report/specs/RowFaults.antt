@@ -4,30 +4,40 @@ use Rattle.arena.specs.Limits.{IsAccepted}
 use Rattle.arena.specs.declared.limits.Limits.{Limits}
 use Rattle.arena.specs.declared.limits.Mode.{Mode}
 use Rattle.script.specs.declared.call.Call.{Call}
+use Rattle.script.specs.declared.script.Script.{Script}
 use Rattle.record.specs.declared.record.Line.{Line}
 use Rattle.texts.specs.Texts.{AreRows, BeginWithRows}
-use Rattle.report.specs.Report.{rows_told, seven}
+use Rattle.report.specs.Report.{rows_in, rows_told, seven}
 use Rattle.report.specs.Spellings.{IsReported, IsSpelledLine}
 use Rattle.report.specs.declared.fault.ReportFault.{ReportFault}
 use Rattle.report.specs.declared.fault.ReportFault.TheVariants.{NoMemory, Read, NotLawful}
+use Rattle.report.specs.declared.version.Version.{Version}
 
--- limits that are accepted, and calls that a report of this mode may have within them
-pub record AreAdmitted (mode : Mode) (limits : Limits) (calls : List Call) : Type 0 where
+-- the bytes are the report of a script and of a run's lines, in a version that can spell them
+pub record IsReportOf (script : Script) (lines : List Line) (bytes : List ℕ) : Type 0 where
+  pub version : Version
+  pub rows : AreRows bytes (map seven (rows_in version script lines))
+  pub calls : All (IsReported version script.layout.mode script.layout.passes) script.calls.items
+  pub spelled : All (IsSpelledLine version) lines
+
+-- limits that are accepted, and calls that a report of this version and mode may have within them
+pub record AreAdmitted (version : Version) (mode : Mode) (limits : Limits) (calls : List Call) : Type 0 where
   pub accepted : IsAccepted limits
   pub few : length calls ≤ 65536
-  pub reported : All (IsReported mode limits.passes) calls
+  pub reported : All (IsReported version mode limits.passes) calls
 
--- these are the rows of some report: of any calls and lines that a report can spell, whether or not
--- a run has them
+-- these are the rows of some report: in either version, of any calls and lines that it can spell,
+-- whether or not a run has them
 pub record AreOfReport (rows : List (List (List ℕ))) : Type 0 where
+  pub version : Version
   pub mode : Mode
   pub limits : Limits
   pub calls : List Call
   pub lines : List Line
-  pub admitted : AreAdmitted mode limits calls
-  pub spelled : All IsSpelledLine lines
+  pub admitted : AreAdmitted version mode limits calls
+  pub spelled : All (IsSpelledLine version) lines
   pub counted : length lines < 2 ^ 64
-  pub are : rows ≡ map seven (rows_told mode limits calls lines)
+  pub are : rows ≡ map seven (rows_told version mode limits calls lines)
 
 -- some report begins with these rows
 abbrev pub BeginReport : List (List (List ℕ)) → Type 0

@@ -9,6 +9,7 @@ use crate::name::{blame_of, node_of};
 use crate::reply::{
     both_of, first_word_of, full_text, pairs_of, put_full, put_reply, reply_text, telling_reply_of,
 };
+use crate::version::Version;
 use arena::{Full, NodeNo, ScxNo};
 use ordered_map::Reply;
 use record::Answer;
@@ -84,39 +85,43 @@ pub fn answer_text(alloc: Global, answer: &Answer) -> Result<String, AllocError>
 
 /// An answer that a text spells: where two do, that of the map, and of these the one that tells of
 /// a value. The only error is want of memory.
-pub fn answer_of(alloc: Global, text: &str) -> Result<Option<Answer>, AllocError>
+pub fn answer_of(alloc: Global, text: &str, version: Version) -> Result<Option<Answer>, AllocError>
     ensures some { IfOk result (λ o. IfSome o (λ answer. text.now ≡ answer_text answer)) }
-    ensures spelled { IfOk result (λ o. IfSome o IsSpelledAnswer) }
-    ensures none { IfOk result (λ o. IfNone o ((answer : AnswerOf) → IsSpelledAnswer answer → text.now ≢ answer_text answer)) }
+    ensures spelled { IfOk result (λ o. IfSome o (IsSpelledAnswer version)) }
+    ensures none { IfOk result (λ o. IfNone o ((answer : AnswerOf) → IsSpelledAnswer version answer → text.now ≢ answer_text answer)) }
 {
-    match plain_answer_of(text) {
+    match plain_answer_of(text, version) {
         Some(answer) => Ok(Some(answer)),
-        None => pairs_answer_of(alloc, text),
+        None => pairs_answer_of(alloc, text, version),
     }
 }
 
 /// The answer of many pairs that a text spells.
-fn pairs_answer_of(alloc: Global, text: &str) -> Result<Option<Answer>, AllocError>
+fn pairs_answer_of(
+    alloc: Global,
+    text: &str,
+    version: Version,
+) -> Result<Option<Answer>, AllocError>
     ensures some { IfOk result (λ o. IfSome o (λ answer. text.now ≡ answer_text answer)) }
-    ensures spelled { IfOk result (λ o. IfSome o IsSpelledAnswer) }
-    ensures none { IfOk result (λ o. IfNone o ((answer : AnswerOf) → IsSpelledAnswer answer → TellsPairs answer →
+    ensures spelled { IfOk result (λ o. IfSome o (IsSpelledAnswer version)) }
+    ensures none { IfOk result (λ o. IfNone o ((answer : AnswerOf) → IsSpelledAnswer version answer → TellsPairs answer →
         text.now ≢ answer_text answer)) }
 {
     let (name, told) = first_word_of(text);
     if name != "pairs" {
         return Ok(None);
     }
-    match pairs_of(alloc, told)? {
+    match pairs_of(alloc, told, version)? {
         Some(reply) => Ok(Some(Answer::Map(reply))),
         None => Ok(None),
     }
 }
 
 /// The answer that a text spells which does not tell many pairs.
-fn plain_answer_of(text: &str) -> Option<Answer>
+fn plain_answer_of(text: &str, version: Version) -> Option<Answer>
     ensures some { IfSome result (λ answer. text.now ≡ answer_text answer) }
-    ensures spelled { IfSome result IsSpelledAnswer }
-    ensures none { IfNone result ((answer : AnswerOf) → IsSpelledAnswer answer → text.now ≡ answer_text answer → TellsPairs answer) }
+    ensures spelled { IfSome result (IsSpelledAnswer version) }
+    ensures none { IfNone result ((answer : AnswerOf) → IsSpelledAnswer version answer → text.now ≡ answer_text answer → TellsPairs answer) }
 {
     match text {
         "finalized" => Some(Answer::Finalized),
@@ -126,16 +131,16 @@ fn plain_answer_of(text: &str) -> Option<Answer>
         "no memory" => Some(Answer::Map(Reply::NoMemory)),
         _ => {
             let (name, told) = text.split_once(' ')?;
-            telling_answer_of(name, told)
+            telling_answer_of(name, told, version)
         }
     }
 }
 
 /// The answer of this name that tells this.
-fn telling_answer_of(name: &str, told: &str) -> Option<Answer>
+fn telling_answer_of(name: &str, told: &str, version: Version) -> Option<Answer>
     ensures some { IfSome result (λ answer. name.now ++ (codes " " ++ told.now) ≡ answer_text answer) }
-    ensures spelled { IfSome result IsSpelledAnswer }
-    ensures none { HasNoSpace name.now → IfNone result ((answer : AnswerOf) → IsTellingAnswer answer →
+    ensures spelled { IfSome result (IsSpelledAnswer version) }
+    ensures none { HasNoSpace name.now → IfNone result ((answer : AnswerOf) → IsTellingAnswer version answer →
         name.now ++ (codes " " ++ told.now) ≢ answer_text answer) }
 {
     match name {
@@ -161,6 +166,6 @@ fn telling_answer_of(name: &str, told: &str) -> Option<Answer>
         "unlinked" => Some(Answer::Unlinked {
             node: node_of(told)?,
         }),
-        _ => Some(Answer::Map(telling_reply_of(name, told)?)),
+        _ => Some(Answer::Map(telling_reply_of(name, told, version)?)),
     }
 }

@@ -2,6 +2,7 @@
 ghost use Rattle.std.specs.Prelude.{◌≡◌};
 ghost use Rattle.report.specs.Answers.{IsInForm, answer_text, cells_answer, fitted_to, map_answer, reply_text, reply_to};
 ghost use Rattle.report.specs.Spellings.{IsSpelledAnswer, IsSpelledReply};
+ghost use Rattle.report.specs.declared.version.Version.{Version};
 
 use arena::Full;
 use ordered_map::{Reply, Request};
@@ -13,7 +14,7 @@ pub fn fitted_to(command: Option<Command>, answer: Answer) -> Answer
     ensures form { result ≡ fitted_to command answer }
     ensures fits { IsInForm command result }
     ensures text { answer_text result ≡ answer_text answer }
-    ensures spelled { IsSpelledAnswer answer → IsSpelledAnswer result }
+    ensures spelled { (version : Version) → IsSpelledAnswer version answer → IsSpelledAnswer version result }
 {
     match command {
         Some(Command::Map(request)) => map_answer(&request, answer),
@@ -23,10 +24,10 @@ pub fn fitted_to(command: Option<Command>, answer: Answer) -> Answer
 }
 
 /// The answer of the map with the same text that answers a request, if there is one.
-fn map_answer(request: &Request<u64, u64>, answer: Answer) -> Answer
+fn map_answer(request: &Request<u64, u128>, answer: Answer) -> Answer
     ensures form { result ≡ map_answer request.now answer }
     ensures text { answer_text result ≡ answer_text answer }
-    ensures spelled { IsSpelledAnswer answer → IsSpelledAnswer result }
+    ensures spelled { (version : Version) → IsSpelledAnswer version answer → IsSpelledAnswer version result }
 {
     match answer {
         Answer::Full { what, left } => Answer::Map(Reply::Full(Full { what, left })),
@@ -39,7 +40,7 @@ fn map_answer(request: &Request<u64, u64>, answer: Answer) -> Answer
 fn cells_answer(answer: Answer) -> Answer
     ensures form { result ≡ cells_answer answer }
     ensures text { answer_text result ≡ answer_text answer }
-    ensures spelled { IsSpelledAnswer answer → IsSpelledAnswer result }
+    ensures spelled { (version : Version) → IsSpelledAnswer version answer → IsSpelledAnswer version result }
 {
     match answer {
         Answer::Map(Reply::Full(full)) => Answer::Full {
@@ -51,10 +52,10 @@ fn cells_answer(answer: Answer) -> Answer
 }
 
 /// The reply with the same text that answers a request.
-fn reply_to(request: &Request<u64, u64>, reply: Reply<u64, u64>) -> Reply<u64, u64>
+fn reply_to(request: &Request<u64, u128>, reply: Reply<u64, u128>) -> Reply<u64, u128>
     ensures form { result ≡ reply_to request.now reply }
     ensures text { reply_text result ≡ reply_text reply }
-    ensures spelled { IsSpelledReply reply → IsSpelledReply result }
+    ensures spelled { (version : Version) → IsSpelledReply version reply → IsSpelledReply version result }
 {
     match request {
         Request::Successor { key: _ } | Request::PopFirst => match reply {

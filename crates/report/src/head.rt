@@ -7,6 +7,7 @@ ghost use Rattle.texts.specs.Pages.{IsReady, line_of, page_row, page_text, rows_
 
 use crate::rows::Page;
 use crate::totals::Totals;
+use crate::version::Version;
 use arena::{Limits, Mode};
 use script::Script;
 use std::alloc::{AllocError, Global};
@@ -33,7 +34,7 @@ fn title_line(page: &mut Page, mode: Mode) -> Result<(), AllocError>
         Mode::Records => "records",
     };
     page.text("report")?;
-    page.number(1)?;
+    page.text(Version::Two.name())?;
     page.text(name)?;
     page.end_line()
 }

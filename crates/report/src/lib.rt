@@ -19,6 +19,7 @@ mod reply;
 mod rows;
 mod stream;
 mod totals;
+mod version;
 mod word;
 mod write;
 

@@ -22,8 +22,8 @@ const ROWS: usize = 64;
 pub fn write_outcome<W: Write>(
     alloc: Global,
     missed: bool,
-    replies: &[Vec<Reply<u64, u64>>],
-    pairs: &[(u64, u64)],
+    replies: &[Vec<Reply<u64, u128>>],
+    pairs: &[(u64, u128)],
     to: &mut Metered<W>,
 ) -> Result<(), WriteFault>
     ensures all { OnOk result (Appends (W.contents to.old.inner) (W.contents to.new.inner) (outcome_text missed replies.now pairs.now)) }
@@ -57,7 +57,7 @@ fn title_line(page: &mut Page<WIDTH>) -> Result<(), AllocError>
     ensures text { OnOk result (Appends (page_text page.old) (page_text page.new) (line_of 4 outcome_title_row)) }
 {
     page.text("outcome")?;
-    page.number(1)?;
+    page.number(1u64)?;
     page.end_line()
 }
 
@@ -77,7 +77,7 @@ fn gate_line(page: &mut Page<WIDTH>, missed: bool) -> Result<(), AllocError>
 /// Writes the lines of all replies, and answers how many there are.
 fn write_clients<W: Write>(
     alloc: Global,
-    replies: &[Vec<Reply<u64, u64>>],
+    replies: &[Vec<Reply<u64, u128>>],
     to: &mut Metered<W>,
 ) -> Result<u64, WriteFault>
     ensures all { OnOk result (Appends (W.contents to.old.inner) (W.contents to.new.inner) (rows_text 4 (client_rows 0 replies.now))) }
@@ -100,7 +100,7 @@ fn write_clients<W: Write>(
 fn write_replies<W: Write>(
     alloc: Global,
     client: u64,
-    replies: &[Reply<u64, u64>],
+    replies: &[Reply<u64, u128>],
     to: &mut Metered<W>,
 ) -> Result<(), WriteFault>
     ensures all { OnOk result (Appends (W.contents to.old.inner) (W.contents to.new.inner) (rows_text 4 (reply_rows client 0 replies.now))) }
@@ -122,7 +122,7 @@ fn replies_text(
     alloc: Global,
     client: u64,
     first: u64,
-    replies: &[Reply<u64, u64>],
+    replies: &[Reply<u64, u128>],
 ) -> Result<Vec<u8>, AllocError>
     ensures { first + length replies.now < 2 ^ 64 → IfOk result (λ text. text.items ≡ rows_text 4 (reply_rows client first replies.now)) }
 {
@@ -140,7 +140,7 @@ fn reply_line(
     page: &mut Page<WIDTH>,
     client: u64,
     call: u64,
-    reply: &Reply<u64, u64>,
+    reply: &Reply<u64, u128>,
 ) -> Result<(), AllocError>
     requires ready { IsReady page.old }
     requires row { page_row page.old ≡ [] }
@@ -158,7 +158,7 @@ fn reply_line(
 /// Writes the lines of the pairs.
 fn write_pairs<W: Write>(
     alloc: Global,
-    pairs: &[(u64, u64)],
+    pairs: &[(u64, u128)],
     to: &mut Metered<W>,
 ) -> Result<(), WriteFault>
     ensures all { OnOk result (Appends (W.contents to.old.inner) (W.contents to.new.inner) (rows_text 4 (map pair_row pairs.now))) }
@@ -174,7 +174,7 @@ fn write_pairs<W: Write>(
 }
 
 /// The lines of some pairs.
-fn pairs_text(alloc: Global, pairs: &[(u64, u64)]) -> Result<Vec<u8>, AllocError>
+fn pairs_text(alloc: Global, pairs: &[(u64, u128)]) -> Result<Vec<u8>, AllocError>
     ensures { IfOk result (λ text. text.items ≡ rows_text 4 (map pair_row pairs.now)) }
 {
     let mut page = Page::new(alloc);
@@ -184,7 +184,7 @@ fn pairs_text(alloc: Global, pairs: &[(u64, u64)]) -> Result<Vec<u8>, AllocError
     page.into_text()
 }
 
-fn pair_line(page: &mut Page<WIDTH>, pair: &(u64, u64)) -> Result<(), AllocError>
+fn pair_line(page: &mut Page<WIDTH>, pair: &(u64, u128)) -> Result<(), AllocError>
     requires ready { IsReady page.old }
     requires row { page_row page.old ≡ [] }
     ensures ready { OnOk result (IsReady page.new) }

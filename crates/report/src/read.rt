@@ -9,30 +9,31 @@ ghost use Rattle.report.specs.Answers.{HasForm};
 ghost use Rattle.report.specs.Numbered.{AreNumbered};
 ghost use Rattle.texts.specs.Reads.{HasRead, IsAtRow, last_row};
 ghost use Rattle.texts.specs.Texts.{AreRows, IfBad};
-ghost use Rattle.report.specs.Report.{BeginsBehindCalls, IsCallRow, name_of, report_end_row, report_rows, report_text, rows_of_calls, rows_of_lines, seven};
-ghost use Rattle.report.specs.RowFaults.{AreAdmitted, IfRefused, IsFirstBadRow};
+ghost use Rattle.report.specs.Report.{BeginsBehindCalls, IsCallRow, name_of, report_end_row, report_text, rows_of_calls, rows_of_lines, seven};
+ghost use Rattle.report.specs.RowFaults.{AreAdmitted, IfRefused, IsFirstBadRow, IsReportOf};
+ghost use Rattle.report.specs.declared.version.Version.{Version as VersionOf};
 ghost use Rattle.report.specs.Spellings.{IsReported, IsSpelledLine};
 
 use crate::fault::{NotLawful, ReportFault, RowFault};
 use crate::read_call::calls_of;
-use crate::read_head::{limits_of, mode_of};
+use crate::read_head::{limits_of, title_of};
 use crate::read_line::lines_of;
 use crate::rows::{advance, next_row, row_fields};
 use crate::totals::is_end_of;
+use crate::version::Version;
 use record::{Line, Record};
 use script::Script;
 use std::alloc::Global;
 use std::io::Read;
 use texts::{Metered, Rows, by_failure_count};
 
-/// Reads a report of either mode: its rows are those of the record, and no others. Whether the run
+/// Reads a report of either version and mode: its rows are those of the record, and no others. Whether the run
 /// is lawful is not asked here, only what a row says by itself, the numbers of the calls and the
 /// counts of the end row. Where two answers have one text, a reply gets the one that its call may
 /// give. Nothing is kept of a text that is refused. What was written of a record is read as one that
 /// has the same report.
 pub fn read_record<R: Read>(alloc: Global, from: &mut Metered<R>) -> Result<Record, ReportFault>
-    ensures rows { (bytes : List ℕ) → R.remaining from.old.inner ≡ Some bytes →
-        IfOk result (λ told. AreRows bytes (map seven (report_rows told.script told.lines.items))) }
+    ensures rows { (bytes : List ℕ) → R.remaining from.old.inner ≡ Some bytes → IfOk result (λ told. IsReportOf told.script told.lines.items bytes) }
     ensures again { (script : Script) (lines : List Line) → R.remaining from.old.inner ≡ Some (report_text script lines) →
         IfOk result (λ told. report_text told.script told.lines.items ≡ report_text script lines) }
     ensures calls { IfOk result (λ told. AreNumbered told.script.layout.passes (reverse told.lines.items)) }
@@ -52,8 +53,7 @@ pub fn read_record<R: Read>(alloc: Global, from: &mut Metered<R>) -> Result<Reco
 }
 
 fn record_of<R: Read>(alloc: Global, from: &mut Metered<R>) -> Result<Record, RowFault>
-    ensures rows { (bytes : List ℕ) → R.remaining from.old.inner ≡ Some bytes →
-        IfOk result (λ told. AreRows bytes (map seven (report_rows told.script told.lines.items))) }
+    ensures rows { (bytes : List ℕ) → R.remaining from.old.inner ≡ Some bytes → IfOk result (λ told. IsReportOf told.script told.lines.items bytes) }
     ensures again { (script : Script) (lines : List Line) → R.remaining from.old.inner ≡ Some (report_text script lines) →
         IfOk result (λ told. report_text told.script told.lines.items ≡ report_text script lines) }
     ensures calls { IfOk result (λ told. AreNumbered told.script.layout.passes (reverse told.lines.items)) }
@@ -61,30 +61,35 @@ fn record_of<R: Read>(alloc: Global, from: &mut Metered<R>) -> Result<Record, Ro
     ensures fault { (bytes : List ℕ) → R.remaining from.old.inner ≡ Some bytes → IfErr result (IfBad (λ row _. IsFirstBadRow bytes row)) }
 {
     let mut rows = Rows::new(alloc, from);
-    let script = script_of(alloc, &mut rows)?;
+    let (version, script) = script_of(alloc, &mut rows)?;
     let lines = lines_of(
         alloc,
         &mut rows,
         script.calls.as_slice(),
         script.layout.passes,
+        version,
     )?;
     end_of(&mut rows, lines.as_slice())?;
     Ok(Record { script, lines })
 }
 
-/// Reads the first two rows and the calls, and goes on to the row behind them.
-fn script_of<R: Read + Drop>(alloc: Global, rows: &mut Rows<R>) -> Result<Script, RowFault>
+/// Reads the first two rows and the calls, and goes on to the row behind them. It answers the
+/// version too.
+fn script_of<R: Read + Drop>(
+    alloc: Global,
+    rows: &mut Rows<R>,
+) -> Result<(Version, Script), RowFault>
     ensures rows { (bytes : List ℕ) → HasRead R.remaining bytes [] rows.old →
-        IfOk result (λ script. IsAtRow R.remaining bytes
-        (rows_of_calls script.layout.mode script.limits script.calls.items) 7 rows.new) }
-    ensures reported { IfOk result (λ script. All (IsReported script.layout.mode script.layout.passes) script.calls.items) }
+        IfOk result (λ told. IsAtRow R.remaining bytes
+        (rows_of_calls told.0 told.1.layout.mode told.1.limits told.1.calls.items) 7 rows.new) }
+    ensures reported { IfOk result (λ told. All (IsReported told.0 told.1.layout.mode told.1.layout.passes) told.1.calls.items) }
     ensures behind { (bytes : List ℕ) → HasRead R.remaining bytes [] rows.old → OnOk result (¬ (IsCallRow (last_row rows.new))) }
-    ensures number { rows.old.number ≡ 0 → IfOk result (λ script. rows.new.number ≡ 3 + length script.calls.items) }
+    ensures number { rows.old.number ≡ 0 → IfOk result (λ told. rows.new.number ≡ 3 + length told.1.calls.items) }
     ensures fault { (bytes : List ℕ) → HasRead R.remaining bytes [] rows.old → rows.old.number ≡ 0 →
         IfErr result (IfBad (λ row _. IsFirstBadRow bytes row)) }
 {
     next_row(rows)?;
-    let Some(mode) = mode_of(row_fields(rows)) else {
+    let Some((version, mode)) = title_of(row_fields(rows)) else {
         return Err(rows.fault(NotLawful));
     };
     next_row(rows)?;
@@ -92,20 +97,22 @@ fn script_of<R: Read + Drop>(alloc: Global, rows: &mut Rows<R>) -> Result<Script
         return Err(rows.fault(NotLawful));
     };
     next_row(rows)?;
-    let calls = calls_of(alloc, rows, layout)?;
-    Ok(Script {
+    let calls = calls_of(alloc, rows, layout, version)?;
+    let script = Script {
         limits,
         layout,
         calls,
-    })
+    };
+    Ok((version, script))
 }
 
 /// Tests the end row, and that no row follows.
 fn end_of<R: Read + Drop>(rows: &mut Rows<R>, lines: &[Line]) -> Result<(), RowFault>
     ensures rows { (bytes : List ℕ) (before : List (List (List ℕ))) → IsAtRow R.remaining bytes before 7 rows.old →
         OnOk result (AreRows bytes (before ++ seven (report_end_row lines.now) ∷ [])) }
-    ensures fault { (bytes : List ℕ) (mode : Mode) (limits : Limits) (calls : List Call) → AreAdmitted mode limits calls → All IsSpelledLine lines.now →
-        IsAtRow R.remaining bytes (rows_of_lines mode limits calls lines.now) 7 rows.old → BeginsBehindCalls lines.now (last_row rows.old) →
+    ensures fault { (bytes : List ℕ) (version : VersionOf) (mode : Mode) (limits : Limits) (calls : List Call) →
+        AreAdmitted version mode limits calls → All (IsSpelledLine version) lines.now →
+        IsAtRow R.remaining bytes (rows_of_lines version mode limits calls lines.now) 7 rows.old → BeginsBehindCalls lines.now (last_row rows.old) →
         name_of (last_row rows.old) ≡ codes "end" → rows.old.number ≡ 3 + length calls + length lines.now →
         length calls + length lines.now < 2 ^ 64 - 5 → IfErr result (IfBad (λ row _. IsFirstBadRow bytes row)) }
 {

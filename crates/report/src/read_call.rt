@@ -15,6 +15,7 @@ use crate::count::Counts;
 use crate::fault::{NotLawful, RowFault};
 use crate::name::client_of;
 use crate::rows::{next_row, row_fields};
+use crate::version::Version;
 use arena::Layout;
 use script::{Call, command_of};
 use std::alloc::Global;
@@ -29,22 +30,23 @@ pub fn calls_of<R: Read + Drop>(
     alloc: Global,
     rows: &mut Rows<R>,
     layout: Layout,
+    version: Version,
 ) -> Result<Vec<Call>, RowFault>
     ensures few { IfOk result (λ calls. vec_len calls ≤ 65536) }
-    ensures accepted { IfOk result (λ calls. All (IsReported layout.mode layout.passes) calls.items) }
+    ensures accepted { IfOk result (λ calls. All (IsReported version layout.mode layout.passes) calls.items) }
     ensures number { rows.old.number ≡ 3 → IfOk result (λ calls. rows.new.number ≡ 3 + vec_len calls) }
     ensures behind { (bytes : List ℕ) (before : List (List (List ℕ))) → IsAtRow R.remaining bytes before 7 rows.old →
         OnOk result (¬ (IsCallRow (last_row rows.new))) }
     ensures rows { (bytes : List ℕ) (before : List (List (List ℕ))) → IsAtRow R.remaining bytes before 7 rows.old →
         IfOk result (λ calls. IsAtRow R.remaining bytes (before ++ map seven (call_rows [] calls.items)) 7 rows.new) }
     ensures fault { (bytes : List ℕ) (limits : Limits) → IsAccepted limits → IsLayoutOf limits layout.mode layout →
-        IsAtRow R.remaining bytes (head_rows layout.mode limits) 7 rows.old → rows.old.number ≡ 3 →
+        IsAtRow R.remaining bytes (head_rows version layout.mode limits) 7 rows.old → rows.old.number ≡ 3 →
         IfErr result (IfBad (λ row _. IsFirstBadRow bytes row)) }
 {
     let mut calls = Vec::new(alloc);
     let mut counts = Counts::new(alloc);
     while row_fields(rows)[0] == "call" {
-        let call = next_call(rows, layout, &mut counts)?;
+        let call = next_call(rows, layout, version, &mut counts)?;
         if calls.len() == MOST_CALLS {
             return Err(rows.fault(NotLawful));
         }
@@ -60,18 +62,19 @@ pub fn calls_of<R: Read + Drop>(
 fn next_call<R: Read + Drop>(
     rows: &Rows<R>,
     layout: Layout,
+    version: Version,
     counts: &mut Counts,
 ) -> Result<Call, RowFault>
-    ensures accepted { IfOk result (IsReported layout.mode layout.passes) }
+    ensures accepted { IfOk result (IsReported version layout.mode layout.passes) }
     ensures row { (earlier : List Call) → HasCounted counts.old earlier → length (last_row rows.now) ≡ 7 →
         IfOk result (λ call. last_row rows.now ≡ seven (reported_call_row earlier call)) }
     ensures counted { (earlier : List Call) → HasCounted counts.old earlier → length earlier < 2 ^ 64 - 1 →
         IfOk result (λ call. HasCounted counts.new (call ∷ earlier)) }
     ensures none { (earlier : List Call) → HasCounted counts.old earlier → length earlier < 2 ^ 64 → length (last_row rows.now) ≡ 7 →
-        IfErr result (IfBad (λ row _. (row ≡ rows.now.number) × ((call : Call) → IsReported layout.mode layout.passes call →
+        IfErr result (IfBad (λ row _. (row ≡ rows.now.number) × ((call : Call) → IsReported version layout.mode layout.passes call →
         last_row rows.now ≢ seven (reported_call_row earlier call)))) }
 {
-    let Some((call, number)) = call_of(row_fields(rows), layout) else {
+    let Some((call, number)) = call_of(row_fields(rows), layout, version) else {
         return Err(rows.fault(NotLawful));
     };
     let Ok(before) = counts.count(call.client) else {
@@ -84,11 +87,11 @@ fn next_call<R: Read + Drop>(
 }
 
 /// The call that a row says, and its number among the client's calls.
-fn call_of(fields: [&str; 7], layout: Layout) -> Option<(Call, u64)>
-    ensures accepted { IfSome result (λ told. IsReported layout.mode layout.passes told.0) }
+fn call_of(fields: [&str; 7], layout: Layout, version: Version) -> Option<(Call, u64)>
+    ensures accepted { IfSome result (λ told. IsReported version layout.mode layout.passes told.0) }
     ensures fits { IfSome result (λ told. told.1 < 2 ^ 64) }
     ensures row { IfSome result (λ told. texts fields.entry ≡ codes "call" ∷ decimal told.0.client.0 ∷ decimal told.1 ∷ command_row told.0.command) }
-    ensures none { IfNone result ((call : Call) (number : ℕ) → IsReported layout.mode layout.passes call → number < 2 ^ 64 →
+    ensures none { IfNone result ((call : Call) (number : ℕ) → IsReported version layout.mode layout.passes call → number < 2 ^ 64 →
         texts fields.entry ≢ codes "call" ∷ decimal call.client.0 ∷ decimal number ∷ command_row call.command) }
 {
     let ["call", client, number, name, a, b, c] = fields else {
@@ -96,7 +99,7 @@ fn call_of(fields: [&str; 7], layout: Layout) -> Option<(Call, u64)>
     };
     let client = client_of(client)?;
     let number = number_of(number)?;
-    let command = command_of(layout.mode, name, [a, b, c]).ok()?;
+    let command = version.command(command_of(layout.mode, name, [a, b, c]).ok()?)?;
     if client.0 < layout.passes {
         Some((Call { client, command }, number))
     } else {

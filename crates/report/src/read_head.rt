@@ -5,25 +5,29 @@ ghost use Rattle.arena.specs.declared.limits.Limits.{Limits as LimitsOf};
 ghost use Rattle.arena.specs.declared.limits.Mode.{Mode as ModeOf};
 ghost use Rattle.script.specs.Rows.{limits_row};
 ghost use Rattle.script.specs.Commands.{texts};
-ghost use Rattle.report.specs.Report.{title_row, seven};
+ghost use Rattle.report.specs.Report.{mode_text, title_in, seven};
+ghost use Rattle.report.specs.declared.version.Version.{Version as VersionOf};
 
+use crate::version::Version;
 use arena::{Layout, Limits, Mode};
-use texts::{is_number, small_number_of};
+use texts::small_number_of;
 
-/// The version of the format.
-const VERSION: u64 = 1;
-
-/// The mode that the first row names.
-pub fn mode_of(fields: [&str; 7]) -> Option<Mode>
-    ensures { MatchOption result ((mode : ModeOf) → texts fields.entry ≢ seven (title_row mode)) (λ mode. texts fields.entry ≡ seven (title_row mode)) }
+/// The version and the mode that the first row names.
+pub fn title_of(fields: [&str; 7]) -> Option<(Version, Mode)>
+    ensures { MatchOption result ((version : VersionOf) (mode : ModeOf) → texts fields.entry ≢ seven (title_in version mode))
+        (λ title. texts fields.entry ≡ seven (title_in title.0 title.1)) }
 {
     let ["report", version, mode, "", "", "", ""] = fields else {
         return None;
     };
-    if !is_number(version, VERSION) {
-        return None;
-    }
-    match mode {
+    Some((Version::named(version)?, mode_of(mode)?))
+}
+
+/// The mode of this name.
+fn mode_of(name: &str) -> Option<Mode>
+    ensures { MatchOption result ((mode : ModeOf) → name.now ≢ mode_text mode) (λ mode. name.now ≡ mode_text mode) }
+{
+    match name {
         "tree" => Some(Mode::Tree),
         "records" => Some(Mode::Records),
         _ => None,

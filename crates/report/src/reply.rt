@@ -3,31 +3,32 @@ ghost use Rattle.std.specs.Prelude.{◌≡◌, ◌≢◌, ◌≤◌, ◌<◌, �
 ghost use Rattle.arena.specs.declared.fault.Resource.{Resource as ResourceOf};
 ghost use Rattle.ordered_map.specs.declared.reply.Reply.{Reply as ReplyOf};
 ghost use Rattle.report.specs.Answers.{both_text, full_text, reply_text, spaced_pairs, rest_text};
-ghost use Rattle.report.specs.Spellings.{HasNoSpace, IsSpelledReply, IsTelling, IsWordPair};
+ghost use Rattle.report.specs.Spellings.{HasNoSpace, IsSpelledPair, IsSpelledReply, IsTelling};
 ghost use Rattle.texts.specs.Sheets.{IsPlain, sheet_room, sheet_text};
 
 use crate::name::blame_of;
+use crate::version::Version;
 use arena::{Full, Resource};
 use ordered_map::Reply;
 use std::alloc::{AllocError, Global};
 use texts::{Sheet, number_of, small_number_of};
 
 /// Puts the text of a reply: its name, and what it tells.
-pub fn put_reply(sheet: &mut Sheet, reply: &Reply<u64, u64>) -> Result<(), AllocError>
+pub fn put_reply(sheet: &mut Sheet, reply: &Reply<u64, u128>) -> Result<(), AllocError>
     ensures text { OnOk result (sheet_text sheet.new ≡ sheet_text sheet.old ++ reply_text reply.now) }
     ensures plain { OnOk result (IsPlain (reply_text reply.now)) }
 {
-    sheet.make_room(64)?;
+    sheet.make_room(80)?;
     match reply {
         Reply::Value(Some(value)) => {
             sheet.put("some ");
-            sheet.number(*value);
+            sheet.wide_number(*value);
         }
         Reply::Pair(Some((key, value))) => {
             sheet.put("pair ");
             sheet.number(*key);
             sheet.put(" ");
-            sheet.number(*value);
+            sheet.wide_number(*value);
         }
         Reply::Value(None) | Reply::Pair(None) => sheet.put("none"),
         Reply::Pairs(pairs) => put_pairs(sheet, pairs.as_slice())?,
@@ -57,7 +58,7 @@ pub(crate) fn put_full(sheet: &mut Sheet, full: &Full)
 }
 
 /// Puts the text of a reply of many pairs: each is its key and its value.
-fn put_pairs(sheet: &mut Sheet, pairs: &[(u64, u64)]) -> Result<(), AllocError>
+fn put_pairs(sheet: &mut Sheet, pairs: &[(u64, u128)]) -> Result<(), AllocError>
     ensures text { OnOk result (sheet_text sheet.new ≡ sheet_text sheet.old ++ (codes "pairs" ++ spaced_pairs pairs.now)) }
     ensures plain { OnOk result (IsPlain (codes "pairs" ++ spaced_pairs pairs.now)) }
 {
@@ -70,21 +71,21 @@ fn put_pairs(sheet: &mut Sheet, pairs: &[(u64, u64)]) -> Result<(), AllocError>
 }
 
 /// Puts a key and its value, each behind a space.
-fn put_pair(sheet: &mut Sheet, key: u64, value: u64) -> Result<(), AllocError>
+fn put_pair(sheet: &mut Sheet, key: u64, value: u128) -> Result<(), AllocError>
     ensures text { OnOk result (sheet_text sheet.new ≡ sheet_text sheet.old ++ (codes " " ++ (decimal key ++ (codes " " ++ decimal value)))) }
     ensures key { OnOk result (IsPlain (decimal key)) }
     ensures value { OnOk result (IsPlain (decimal value)) }
 {
-    sheet.make_room(42)?;
+    sheet.make_room(61)?;
     sheet.put(" ");
     sheet.number(key);
     sheet.put(" ");
-    sheet.number(value);
+    sheet.wide_number(value);
     Ok(())
 }
 
 /// The text of a reply: its name, and what it tells.
-pub fn reply_text(alloc: Global, reply: &Reply<u64, u64>) -> Result<String, AllocError>
+pub fn reply_text(alloc: Global, reply: &Reply<u64, u128>) -> Result<String, AllocError>
     ensures { IfOk result (λ text. string_bytes text ≡ reply_text reply.now) }
 {
     match reply {
@@ -109,7 +110,7 @@ pub(crate) fn full_text(alloc: Global, full: &Full) -> Result<String, AllocError
 }
 
 /// The text of a reply of many pairs: each is its key and its value.
-fn pairs_text(alloc: Global, pairs: &[(u64, u64)]) -> Result<String, AllocError>
+fn pairs_text(alloc: Global, pairs: &[(u64, u128)]) -> Result<String, AllocError>
     ensures { IfOk result (λ text. string_bytes text ≡ codes "pairs" ++ spaced_pairs pairs.now) }
 {
     let mut text = format!(in alloc; "pairs")?;
@@ -124,15 +125,16 @@ fn pairs_text(alloc: Global, pairs: &[(u64, u64)]) -> Result<String, AllocError>
 pub(crate) fn pairs_of(
     alloc: Global,
     told: Option<&str>,
-) -> Result<Option<Reply<u64, u64>>, AllocError>
+    version: Version,
+) -> Result<Option<Reply<u64, u128>>, AllocError>
     ensures some { IfOk result (λ o. IfSome o (λ reply. codes "pairs" ++ rest_text told.entry ≡ reply_text reply)) }
-    ensures spelled { IfOk result (λ o. IfSome o IsSpelledReply) }
-    ensures none { IfOk result (λ o. IfNone o ((pairs : List (ℕ × ℕ)) → All IsWordPair pairs → rest_text told.entry ≢ spaced_pairs pairs)) }
+    ensures spelled { IfOk result (λ o. IfSome o (IsSpelledReply version)) }
+    ensures none { IfOk result (λ o. IfNone o ((pairs : List (ℕ × ℕ)) → All (IsSpelledPair version) pairs → rest_text told.entry ≢ spaced_pairs pairs)) }
 {
     let mut pairs = Vec::new(alloc);
     let mut left = told;
     while let Some(text) = left {
-        let Some((pair, rest)) = first_pair_of(text) else {
+        let Some((pair, rest)) = first_pair_of(text, version) else {
             return Ok(None);
         };
         pairs.push(pair)?;
@@ -142,16 +144,16 @@ pub(crate) fn pairs_of(
 }
 
 /// The pair at the head of a text, and what stands behind the next space.
-fn first_pair_of(text: &str) -> Option<((u64, u64), Option<&str>)>
+fn first_pair_of(text: &str, version: Version) -> Option<((u64, u128), Option<&str>)>
     ensures some { IfSome result (λ r. text.now ≡ decimal r.0.0 ++ (codes " " ++ (decimal r.0.1 ++ rest_text r.1))) }
-    ensures fits { IfSome result (λ r. IsWordPair r.0) }
-    ensures all { (pair : ℕ × ℕ) (more : List (ℕ × ℕ)) → IsWordPair pair →
+    ensures fits { IfSome result (λ r. IsSpelledPair version r.0) }
+    ensures all { (pair : ℕ × ℕ) (more : List (ℕ × ℕ)) → IsSpelledPair version pair →
         text.now ≡ decimal pair.0 ++ (codes " " ++ (decimal pair.1 ++ spaced_pairs more)) →
         MatchOption result ⊥ (λ r. rest_text r.1 ≡ spaced_pairs more) }
 {
     let (key, rest) = text.split_once(' ')?;
     let (value, rest) = first_word_of(rest);
-    Some(((number_of(key)?, number_of(value)?), rest))
+    Some(((number_of(key)?, version.value_of(value)?), rest))
 }
 
 /// What stands before the first space of a text, and behind it if there is one.
@@ -166,15 +168,15 @@ pub(crate) fn first_word_of(text: &str) -> (&str, Option<&str>)
 }
 
 /// The reply of this name that tells this, if it is not of many pairs.
-pub(crate) fn telling_reply_of(name: &str, told: &str) -> Option<Reply<u64, u64>>
+pub(crate) fn telling_reply_of(name: &str, told: &str, version: Version) -> Option<Reply<u64, u128>>
     ensures some { IfSome result (λ reply. name.now ++ (codes " " ++ told.now) ≡ reply_text reply) }
-    ensures spelled { IfSome result IsSpelledReply }
-    ensures none { HasNoSpace name.now → IfNone result ((reply : ReplyOf ℕ ℕ) → IsTelling reply →
+    ensures spelled { IfSome result (IsSpelledReply version) }
+    ensures none { HasNoSpace name.now → IfNone result ((reply : ReplyOf ℕ ℕ) → IsTelling version reply →
         name.now ++ (codes " " ++ told.now) ≢ reply_text reply) }
 {
     match name {
-        "some" => Some(Reply::Value(Some(number_of(told)?))),
-        "pair" => Some(Reply::Pair(Some(both_of(told)?))),
+        "some" => Some(Reply::Value(Some(version.value_of(told)?))),
+        "pair" => Some(Reply::Pair(Some(pair_of(told, version)?))),
         "contended" => {
             let (node, scx) = blame_of(told)?;
             Some(Reply::Contended { node, scx })
@@ -182,6 +184,16 @@ pub(crate) fn telling_reply_of(name: &str, told: &str) -> Option<Reply<u64, u64>
         "full" => Some(Reply::Full(full_of(told)?)),
         _ => None,
     }
+}
+
+/// A key and a value, parted by a space.
+fn pair_of(text: &str, version: Version) -> Option<(u64, u128)>
+    ensures some { IfSome result (λ pair. text.now ≡ both_text pair.0 pair.1) }
+    ensures fits { IfSome result (IsSpelledPair version) }
+    ensures none { IfNone result ((pair : ℕ × ℕ) → IsSpelledPair version pair → text.now ≢ both_text pair.0 pair.1) }
+{
+    let (key, value) = text.split_once(' ')?;
+    Some((number_of(key)?, version.value_of(value)?))
 }
 
 /// Two numbers, parted by a space.

@@ -25,7 +25,7 @@ use texts::{Metered, Sheet, WriteFault, send};
 use thiserror::Error;
 
 /// How much room the rows of one turn take at most: three rows, and in a reply 64 pairs of numbers.
-const ROOM: usize = 4096;
+const ROOM: usize = 4608;
 
 /// Why a part of a report did not go out.
 #[derive(Clone, Copy, Debug, PartialEq, Eq, Error)]

@@ -8,6 +8,7 @@ ghost use Rattle.report.specs.Words.{IsSpelled, node_part, scx_part, word_text};
 ghost use Rattle.texts.specs.Sheets.{IsPlain, sheet_room, sheet_text};
 
 use crate::name::{node_of, scx_of};
+use crate::version::Version;
 use arena::{NodeWord, ScxWord, SettledPart, Side, Slot, Word};
 use std::alloc::{AllocError, Global};
 use texts::Sheet;
@@ -110,13 +111,14 @@ fn node_part(part: NodeWord) -> &'static str
     }
 }
 
-/// The word of the table that a text names.
-pub fn word_of(text: &str) -> Option<Word>
-    ensures { MatchOption result ((word : WordOf) → IsSpelled word → text.now ≢ word_text word) (λ word. IsSpelled word × (text.now ≡ word_text word)) }
+/// The word of the table that a text names, if the version has it.
+pub fn word_of(text: &str, version: Version) -> Option<Word>
+    ensures { MatchOption result ((word : WordOf) → IsSpelled version word → text.now ≢ word_text word)
+        (λ word. IsSpelled version word × (text.now ≡ word_text word)) }
 {
     let (name, part) = text.split_once('.')?;
     match node_of(name) {
-        Some(node) => Some(Word::Node(node, node_part_of(part)?)),
+        Some(node) => Some(Word::Node(node, version.part(node_part_of(part)?)?)),
         None => Some(Word::Scx(scx_of(name)?, scx_part_of(part)?)),
     }
 }

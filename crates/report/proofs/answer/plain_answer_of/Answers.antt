@@ -9,5 +9,5 @@ returns-in_ok-name-in_default-clause-none c =
     let no = c.in_default in
     let front = front_has_no_space c.args.text.now (c.in_ok-name-in_default.name, c.in_ok-name-in_default.told) c.in_ok-name-in_default.ensures.cases in
     if_none c.telling_answer_of.result
-    (λ none. only_pairs c.args.text.now no.not-finalized no.not-done no.not-same no.not-none no.not-text (λ answer fits is. none answer fits (sym front.0 ∙ is)))
+    (λ none. only_pairs c.args.text.now no.not-finalized no.not-done no.not-same no.not-none no.not-text c.args.version (λ answer fits is. none answer fits (sym front.0 ∙ is)))
     (c.telling_answer_of.ensures.none front.1)

@@ -9,4 +9,4 @@ pub returns-in_err-telling_reply_of-in_default-clause-none : goal.returns-in_err
 returns-in_err-telling_reply_of-in_default-clause-none c free =
     let no = c.in_default in
     rw c.from_residual-in_err-telling_reply_of-in_default.ensures
-    (other_answer c.args.name.now c.args.told.now free no.not-snap no.not-fail no.not-lost no.not-changed no.not-unlinked (c.in_err-telling_reply_of-in_default.ensures.none free))
+    (other_answer c.args.name.now c.args.told.now free no.not-snap no.not-fail no.not-lost no.not-changed no.not-unlinked c.args.version (c.in_err-telling_reply_of-in_default.ensures.none free))

@@ -8,7 +8,7 @@ use Rattle.report.proofs.read_call.calls_of.Given as goal
 abbrev pub invariant-loop-layout : goal.invariant-loop-layout
 invariant-loop-layout g l = record {
   few : vec_len l.calls ≤ 65536;
-  accepted : All (IsReported l.layout.mode l.layout.passes) l.calls.items;
+  accepted : All (IsReported l.version l.layout.mode l.layout.passes) l.calls.items;
   counted : HasCounted l.counts (reverse l.calls.items);
   number : l.fn.rows.number ≡ 3 → l.rows.number ≡ 3 + vec_len l.calls;
   rows : (bytes : List ℕ) (before : List (List (List ℕ))) → IsAtRow g.R.Read.remaining bytes before 7 l.fn.rows

@@ -30,7 +30,7 @@ loop-alloc-preserved g c =
       counted = subst (λ all. HasCountedReplies c.next_line.new.replies c.args.passes all) newest (c.in_ok-line.ensures.counted (reverse lines) inv.counted few);
       forms = rw items (All-push (HasForm c.args.passes c.args.calls.now) lines line inv.forms (c.in_ok-line.ensures.form c.args.calls.now c.in-Ok.ensures));
       calls = subst (λ all. AreNumbered c.args.passes all) newest (numbered_more c.args.passes c.loop-alloc.replies (reverse lines) line inv.counted c.in_ok-line.ensures.call inv.calls);
-      spelled = rw items (All-push IsSpelledLine lines line inv.spelled c.in_ok-line.ensures.spelled);
+      spelled = rw items (All-push (IsSpelledLine c.args.version) lines line inv.spelled c.in_ok-line.ensures.spelled);
       number = λ start few. omega (arith, inv.number start few, c.next_row.ensures.number, rw pushed at c.push.ensures.len, c.loop-alloc.lines.small);
       behind = λ bytes before start other. subst (λ all. BeginsBehindCalls all (last_row c.next_row.new.rows)) (sym items) (some_behind lines line (last_row c.next_row.new.rows));
       rows = λ bytes before start.
@@ -50,14 +50,14 @@ returns-in_err-line-clause-fault g c = λ bytes mode limits admitted start other
     let inv = c.loop-alloc.invariant in
     let calls = c.args.calls.now in
     let lines = c.loop-alloc.lines.items in
-    let here = inv.rows bytes (rows_of_calls mode limits calls) start in
+    let here = inv.rows bytes (rows_of_calls c.args.version mode limits calls) start in
     let named = name g (goal.at.returns-in_err-line-clause-fault g c).After-row_fields here.row.0 in
     let no_end : IsNoEnd (last_row c.loop-alloc.rows) = λ end. let is : (get_or c.row_fields.result 0 blank).now ≡ codes "end" = sym named ∙ end in search rules in
-    let many = lines_counted mode limits calls lines (vec_len c.loop-alloc.lines) (omega (arith, c.loop-alloc.lines.ok.0)) in
+    let many = lines_counted c.args.version mode limits calls lines (vec_len c.loop-alloc.lines) (omega (arith, c.loop-alloc.lines.ok.0)) in
     passed_on c.next_line.result c.from_residual.result c.in_err-line.field-0.0 c.in_err-line.was (search rules)
-    (λ row cause why. bad_here bytes (rows_of_lines mode limits calls lines) (last_row c.loop-alloc.rows) row
-    (lines_begin mode limits calls lines admitted inv.spelled (omega (arith, c.loop-alloc.lines.ok.0, c.loop-alloc.lines.small))) (begins _ bytes _ _ here.read)
-    (no_line_row mode limits calls lines (last_row c.loop-alloc.rows) (inv.behind bytes (rows_of_calls mode limits calls) start other) no_end why.1)
+    (λ row cause why. bad_here bytes (rows_of_lines c.args.version mode limits calls lines) (last_row c.loop-alloc.rows) row
+    (lines_begin c.args.version mode limits calls lines admitted inv.spelled (omega (arith, c.loop-alloc.lines.ok.0, c.loop-alloc.lines.small))) (begins _ bytes _ _ here.read)
+    (no_line_row c.args.version mode limits calls lines (last_row c.loop-alloc.rows) (inv.behind bytes (rows_of_calls c.args.version mode limits calls) start other) no_end why.1)
     (omega (arith, why.0, inv.number counted admitted.few, many)))
     (c.next_line.ensures.none here.row.0)
 
@@ -67,17 +67,17 @@ returns-in_err-next_row-clause-fault g c = λ bytes mode limits admitted start o
     let calls = c.args.calls.now in
     let lines = c.loop-alloc.lines.items in
     let line = c.in_ok-line.line in
-    let before = rows_of_calls mode limits calls in
+    let before = rows_of_calls c.args.version mode limits calls in
     let here = inv.rows bytes before start in
     let row = line_read before lines line (last_row c.loop-alloc.rows) (c.in_ok-line.ensures.row here.row.0) in
     let read = subst (λ rows. HasRead g.R.Read.remaining bytes rows c.loop-alloc.rows) row here.read in
-    let many = lines_counted mode limits calls (lines ++ line ∷ []) (vec_len c.loop-alloc.lines + 1) (omega (arith, c.loop-alloc.lines.ok.0, length-append lines (line ∷ []))) in
+    let many = lines_counted c.args.version mode limits calls (lines ++ line ∷ []) (vec_len c.loop-alloc.lines + 1) (omega (arith, c.loop-alloc.lines.ok.0, length-append lines (line ∷ []))) in
     passed_on c.next_row.result c.from_residual-in_err-next_row.result c.in_err-next_row.field-0.0 c.in_err-next_row.was (search rules) (λ row cause why. why)
-    (c.next_row.ensures.fault bytes (rows_of_lines mode limits calls (lines ++ line ∷ [])) read
+    (c.next_row.ensures.fault bytes (rows_of_lines c.args.version mode limits calls (lines ++ line ∷ [])) read
     (omega (arith, inv.number counted admitted.few, many))
     (omega (arith, many, admitted.few, c.loop-alloc.lines.small))
-    (lines_begin mode limits calls (lines ++ line ∷ []) admitted (All-push IsSpelledLine lines line inv.spelled c.in_ok-line.ensures.spelled) (omega (arith, c.loop-alloc.lines.ok.0, c.loop-alloc.lines.small, length-append lines (line ∷ []))))
-    (lines_not_whole mode limits calls (lines ++ line ∷ [])))
+    (lines_begin c.args.version mode limits calls (lines ++ line ∷ []) admitted (All-push (IsSpelledLine c.args.version) lines line inv.spelled c.in_ok-line.ensures.spelled) (omega (arith, c.loop-alloc.lines.ok.0, c.loop-alloc.lines.small, length-append lines (line ∷ []))))
+    (lines_not_whole c.args.version mode limits calls (lines ++ line ∷ [])))
 
 pub returns-clause-ends : goal.returns-clause-ends
 returns-clause-ends g c = λ bytes before start.

@@ -12,7 +12,7 @@ invariant-loop-alloc g l = record {
   counted : HasCountedReplies l.replies l.fn.passes (reverse l.lines.items);
   forms : All (HasForm l.fn.passes l.fn.calls) l.lines.items;
   calls : AreNumbered l.fn.passes (reverse l.lines.items);
-  spelled : All IsSpelledLine l.lines.items;
+  spelled : All (IsSpelledLine l.version) l.lines.items;
   number : l.fn.rows.number ≡ 3 + length l.fn.calls → length l.fn.calls ≤ 65536 → l.rows.number ≡ 3 + length l.fn.calls + vec_len l.lines;
   behind : (bytes : List ℕ) (before : List (List (List ℕ))) → IsAtRow g.R.Read.remaining bytes before 7 l.fn.rows → ¬ (IsCallRow (last_row l.fn.rows))
       → BeginsBehindCalls l.lines.items (last_row l.rows);

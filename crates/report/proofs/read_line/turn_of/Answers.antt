@@ -7,4 +7,4 @@ use Rattle.report.proofs.read_line.turn_of.Goals as goal
 pub returns-in-idle-clause-none : goal.returns-in-idle-clause-none
 returns-in-idle-clause-none c =
     let kind : (get_or c.args.fields 3 blank).now ≡ codes "idle" = search rules in
-    if_none c.idle_of.result (only_idle c.args.fields (omega arith) kind) c.idle_of.ensures.none
+    if_none c.idle_of.result (λ none. only_idle c.args.fields (omega arith) kind none c.args.version) c.idle_of.ensures.none

@@ -6,7 +6,7 @@ use Rattle.prims.specs.Put.Known.{PutIsReady}
 use Rattle.prims.specs.Vlx.Known.{VlxIsReady}
 use Rattle.dict.specs.DictKnown.{DictIsReady}
 use Rattle.dict.specs.Laws.Dict.{dict_told}
-use Rattle.dict.specs.Words.{IsNumber}
+use Rattle.dict.specs.Words.{IsNumber, IsWideNumber}
 use Rattle.player.proofs.Shapes.{as_cells, as_numbers}
 use Rattle.player.proofs.run.Run.next.Goals as goal
 
@@ -63,17 +63,17 @@ returns-in-Done-next-2-clause-begins c none asks d h ready =
 pub returns-in-Ask-next-3-clause-turn : goal.returns-in-Ask-next-3-clause-turn
 returns-in-Ask-next-3-clause-turn c d h mode run ready =
     let tree : d.layout.mode ≡ Tree = rw c.in-Map.is at mode in
-    let r : DictIsReady IsNumber IsNumber c.in-Map.run' d h c.args.got = rw c.in-Map.is at ready in
+    let r : DictIsReady IsNumber IsWideNumber c.in-Map.run' d h c.args.got = rw c.in-Map.is at ready in
     c.in-Ask-next-3.ensures.turn d h (as_numbers d.layout h tree run) r
 
 pub returns-in-Done-next-3-clause-turn : goal.returns-in-Done-next-3-clause-turn
 returns-in-Done-next-3-clause-turn c d h mode run ready =
     let tree : d.layout.mode ≡ Tree = rw c.in-Map.is at mode in
-    let r : DictIsReady IsNumber IsNumber c.in-Map.run' d h c.args.got = rw c.in-Map.is at ready in
+    let r : DictIsReady IsNumber IsWideNumber c.in-Map.run' d h c.args.got = rw c.in-Map.is at ready in
     c.in-Done-next-3.ensures.turn d h (as_numbers d.layout h tree run) r
 
 pub returns-in-Ask-next-3-clause-nearer : goal.returns-in-Ask-next-3-clause-nearer
 returns-in-Ask-next-3-clause-nearer c d h nodes mode run ready few =
     let tree : d.layout.mode ≡ Tree = rw c.in-Map.is at mode in
-    let r : DictIsReady IsNumber IsNumber c.in-Map.run' d h c.args.got = rw c.in-Map.is at ready in
-    rw c.in-Map.is (c.in-Ask-next-3.ensures.nearer nodes (dict_told IsNumber IsNumber c.in-Map.run' d h c.args.got nodes (as_numbers d.layout h tree run) r few))
+    let r : DictIsReady IsNumber IsWideNumber c.in-Map.run' d h c.args.got = rw c.in-Map.is at ready in
+    rw c.in-Map.is (c.in-Ask-next-3.ensures.nearer nodes (dict_told IsNumber IsWideNumber c.in-Map.run' d h c.args.got nodes (as_numbers d.layout h tree run) r few))
