@@ -1,23 +1,28 @@
 -- Edits that are asked of lists of pairs: where one is made, and what leaves that hold them show.
-use Rattle.std.proofs.Common.{◌≡◌, ◌≢◌, ℕ, zero, suc, ◌+◌, ◌*◌, ◌^◌, ◌<◌, Bool, true, false, cond, ◌&&◌, eqb, ltb, ◌⊎◌, inl, inr, List, [], ◌∷◌, ◌++◌, Option, Some, None, insert as put_in, remove, refl, sym, ◌∙◌, ap, subst, arith, append-nil, lt-ltb, le-ltb, eq-eqb, ne_eqb}
-use Rattle.std.specs.Prelude.{IsSome}
+use Rattle.std.proofs.Common.{◌≡◌, ◌≢◌, ℕ, zero, suc, ◌+◌, ◌*◌, ◌^◌, ◌<◌, ◌≤◌, Bool, true, false, cond, ◌&&◌, eqb, ltb, ◌⊎◌, inl, inr, List, [], ◌∷◌, ◌++◌, Option, Some, None, insert as put_in, length, remove, refl, sym, ◌∙◌, ap, subst, arith, append-nil, append_assoc, lt-ltb, le-ltb, eq-eqb, ne_eqb}
 use Rattle.std.specs.Cmp.Lexicographic.{pointwise}
-use Rattle.std.proofs.lemmas.Bool.{and_parts, eqb-true, ltb-true}
+use Rattle.std.proofs.lemmas.Bool.{and_parts, eqb-true, ltb-true, ltb-false}
+use Rattle.std.proofs.lemmas.List.{map-append, length-append}
 use native.Mathlib.Decide.{ℕ_discrete}
+use Rattle.arena.specs.declared.word.NodeWord.TheVariants.{Settled}
+use Rattle.arena.specs.declared.word.SettledPart.TheVariants.{More}
+use Rattle.arena.specs.declared.word.Side.{Side}
 use Rattle.arena.specs.declared.word.Side.TheVariants.{Left, Right}
+use Rattle.arena.specs.declared.word.Slot.{Slot}
+use Rattle.arena.specs.declared.word.Slot.TheVariants.{First}
 use Rattle.arena.specs.declared.word.Word.{Word}
 use Rattle.arena.specs.History.{History, value}
 use Rattle.arena.specs.ScxRecords.{plan, member, new, old}
-use Rattle.arena.specs.Words.{node, child, first_key, first_value}
+use Rattle.arena.specs.Words.{node, child}
 use Rattle.ordered_map.specs.declared.pair.Pair.{Pair}
 use Rattle.ordered_map.specs.OrderedMap.{MapEdit, Insert, Delete, AllAbove, AllBelow, AllFrom, pair, edit_key, edited, first_pair}
-use Rattle.ordered_map.specs.Holding.{held_pairs, IsWellCounted}
-use Rattle.ordered_map.specs.TreeWords.{class, is_leaf, level, rank, leaf_items, leaf_pairs, toward}
+use Rattle.ordered_map.specs.Holding.{slot_behind, pair_in, held_from, held_behind, held_pairs, IsWellCounted}
+use Rattle.ordered_map.specs.TreeWords.{class, is_leaf, level, rank, leaf_items, leaf_pairs, said, toward}
 use Rattle.ordered_map.specs.Edits.{IsAlike, IsLowLeaf, IsLastLeaf, IsSplitBy, IsLeafEdit}
 use Rattle.ordered_map.specs.TreeShape.{EditsLeaf, leaf_plan}
-use Rattle.ordered_map.proofs.Lemmas.{edited_local, held_one, one_item, low_items, high_items, low_pairs, high_pairs}
+use Rattle.ordered_map.proofs.Lemmas.{edited_local, held_next, held_count, counted_few, low_items, high_items, low_pairs, high_pairs}
 use Rattle.record.specs.MapRecord.{number_pairs}
-use Rattle.audit.specs.Edits.{IsInFront, edit_to, key_in}
+use Rattle.audit.specs.Edits.{AreToward, IsInFront, edit_to, key_in}
 
 -- The place of an edit
 
@@ -100,18 +105,18 @@ pub first_at : (ps : List (ℕ × ℕ)) (key : ℕ) → key_in ps 0 ≡ Some key
 first_at [] key e = absurd (let z : None ≡ Some key = e in cc)
 first_at (p ∷ ps) key e = let same : Some p.0 ≡ Some key = e in let is : p.0 ≡ key = cc in (p.1, ap (λ (k : ℕ). Some (pair k p.1)) is)
 
--- an SCX-record with the plan of an edit of a leaf and the leaf as what it expects, by which the leaf
--- is so edited, makes the insert
-pub insert_of : (h : History) (s key : ℕ) (put : Option ℕ) → IsSome put → plan h s ≡ leaf_plan (toward (value h) (member h s 0) key) → old h s ≡ member h s 1 → IsLeafEdit (value h) (edit_to key put) (member h s 1) (new h s) → EditsLeaf h s (edit_to key put)
-insert_of h s key None some plan old edit = absurd (let z : false ≡ true = some in cc)
-insert_of h s key (Some v) some plan old edit = record { plan = plan; old = old; edit = edit; there = λ none. absurd (let z : Some v ≡ None = none in cc) }
-
--- Leaves
-
 -- the key of an edit, whatever it leaves to that
 pub key_of_edit : (key : ℕ) (value : Option ℕ) → edit_key (edit_to key value) ≡ key
 key_of_edit key None = refl
 key_of_edit key (Some v) = refl
+
+-- an SCX-record with the plan of an edit of a leaf, and the leaf as what it expects, edits this, if a
+-- delete finds its key there
+pub leaf_edit_of : (h : History) (s key : ℕ) (put : Option ℕ) → plan h s ≡ leaf_plan (toward (value h) (member h s 0) key) → old h s ≡ member h s 1 → (put ≡ None → said (value h) key (member h s 1) ≢ None) → IsLeafEdit (value h) (edit_to key put) (member h s 1) (new h s) → EditsLeaf h s (edit_to key put)
+leaf_edit_of h s key None plan old there edit = record { plan = plan; old = old; edit = edit; there = λ _. there refl }
+leaf_edit_of h s key (Some v) plan old there edit = record { plan = plan; old = old; edit = edit; there = λ none. absurd (let z : Some v ≡ None = none in cc) }
+
+-- Leaves
 
 module _ (f : Word → ℕ) where
   -- of a leaf of class 0 both lists are what it holds
@@ -132,24 +137,68 @@ module _ (f : Word → ℕ) where
           let above : AllAbove (edit_key e) (leaf_items f l) = subst (AllAbove (edit_key e)) (sym (high_items f l d)) (omega (arith, small, d), tt) in
           (λ i. first i ++ behind i) ∙ sym ((edited_local e).left [] (leaf_items f l) above)
 
-  -- what is on the left of a fork is below it
-  pub left_below : (n k : ℕ) → toward f n k ≡ Left → k < rank f n
+  -- what is on the left of a fork is below it, and what is on its right is not
+  left_below : (n k : ℕ) → toward f n k ≡ Left → k < rank f n
   left_below n k e = go (ltb k (rank f n)) refl e
     where
       go : (b : Bool) → ltb k (rank f n) ≡ b → cond b Left Right ≡ Left → k < rank f n
       go true is e = ltb-true k (rank f n) is
       go false is e = absurd (let z : Right ≡ Left = e in cc)
 
-  -- a leaf holds one pair
-  pub all_held : (n high : ℕ) → IsWellCounted f n → f (node n first_key) < high → AllBelow high (held_pairs f n)
-  all_held n high counted l = subst (AllBelow high) (sym (held_one f n counted)) (l, tt)
+  right_from : (n k : ℕ) → toward f n k ≡ Right → rank f n ≤ k
+  right_from n k e = go (ltb k (rank f n)) refl e
+    where
+      go : (b : Bool) → ltb k (rank f n) ≡ b → cond b Left Right ≡ Right → rank f n ≤ k
+      go true is e = absurd (let z : Left ≡ Right = e in cc)
+      go false is e = ltb-false k (rank f n) is
 
-  -- leaves of one pair that have the same key and value hold the same
-  pub same_held : (n m : ℕ) → IsWellCounted f n → IsWellCounted f m → f (node n first_key) ≡ f (node m first_key) → f (node n first_value) ≡ f (node m first_value) → held_pairs f n ≡ held_pairs f m
-  same_held n m one other key value = held_one f n one ∙ (λ i. pair (key i) (value i) ∷ []) ∙ sym (held_one f m other)
+  toward_small : (n : ℕ) (side : Side) (ps : List Pair) → AreToward f n side ps → AllBelow (2 ^ 64) ps
+  toward_small n side [] a = tt
+  toward_small n side (p ∷ ps) a = (a.0, toward_small n side ps a.2)
+
+  toward_left : (n : ℕ) (ps : List Pair) → AreToward f n Left ps → AllBelow (rank f n) ps
+  toward_left n [] a = tt
+  toward_left n (p ∷ ps) a = (left_below n p.key a.1, toward_left n ps a.2)
+
+  toward_right : (n : ℕ) (ps : List Pair) → AreToward f n Right ps → AllFrom (rank f n) ps
+  toward_right n [] a = tt
+  toward_right n (p ∷ ps) a = (right_from n p.key a.1, toward_right n ps a.2)
+
+  -- Slots
+
+  -- these pairs, of the slots that were read, are what the leaf holds in front of this slot
+  pub record AreReadTo (n : ℕ) (ps : List (ℕ × ℕ)) (next : Option Slot) : Type 0 where
+    pub all : number_pairs ps ++ held_behind f n next ≡ held_pairs f n
+    pub few : length ps + length (held_behind f n next) ≤ 4
+
+  pub read_none : (n : ℕ) → IsWellCounted f n → AreReadTo n [] (Some First)
+  read_none n counted = record { all = refl; few = let more = counted_few f n counted in omega (arith, held_count f n counted, more) }
+
+  -- one more, that of the slot
+  pub read_one : (n : ℕ) (ps qs : List (ℕ × ℕ)) (p : ℕ × ℕ) (slot : Slot) (next : Option Slot) → qs ≡ ps ++ p ∷ [] → pair p.0 p.1 ≡ pair_in f n slot → next ≡ slot_behind (f (node n (Settled More))) slot → AreReadTo n ps (Some slot) → AreReadTo n qs next
+  read_one n ps qs p slot next added is behind x = record { all = all; few = few }
+    where
+      here : held_from f n slot ≡ pair p.0 p.1 ∷ held_behind f n next
+      here = held_next f n slot ∙ (λ i. sym is i ∷ held_behind f n (sym behind i))
+
+      all : number_pairs qs ++ held_behind f n next ≡ held_pairs f n
+      all =
+          (λ i. (ap number_pairs added ∙ map-append number_pair ps (p ∷ [])) i ++ held_behind f n next)
+          ∙ append_assoc (number_pairs ps) (pair p.0 p.1 ∷ []) (held_behind f n next)
+          ∙ ap (λ rest. number_pairs ps ++ rest) (sym here)
+          ∙ x.all
+
+      few : length qs + length (held_behind f n next) ≤ 4
+      few = let was = x.few in let many = ap length added ∙ length-append ps (p ∷ []) in let rest = ap length here in omega (arith, was, many, rest)
+
+  pub read_room : (n : ℕ) (ps : List (ℕ × ℕ)) (slot : Slot) → AreReadTo n ps (Some slot) → length ps < 4
+  read_room n ps slot x = let few = x.few in let here = ap length (held_next f n slot) in omega (arith, few, here)
+
+  pub read_all : (n : ℕ) (ps : List (ℕ × ℕ)) → AreReadTo n ps None → (number_pairs ps ≡ held_pairs f n) × (length ps ≤ 4)
+  read_all n ps x = (sym (append-nil (number_pairs ps)) ∙ x.all, (let few = x.few in omega (arith, few)))
 
   -- a fork c over two leaves, x and y, which between them give the map what the edit makes of what the
-  -- leaf l gives it; the fork has the rank of y
+  -- leaf l gives it; the fork has the rank of y, and stands between their pairs
   pub record IsSplitOfPairs (e : MapEdit) (l c x y : ℕ) : Type 0 where
     pub leaf : is_leaf f l ≡ true
     pub fork : is_leaf f c ≡ false
@@ -157,13 +206,23 @@ module _ (f : Word → ℕ) where
     pub right : f (child c Right) ≡ y
     pub between : IsAlike f c y
     pub first : IsLowLeaf f x
-    pub small : AllBelow (2 ^ 64) (held_pairs f x)
-    pub before : AllBelow (rank f c) (held_pairs f x)
     pub last : IsLastLeaf f y l
     pub pairs : leaf_pairs f x ++ leaf_pairs f y ≡ edited e (leaf_pairs f l)
+    pub before : AreToward f c Left (leaf_pairs f x)
+    pub behind : AreToward f c Right (leaf_pairs f y)
     pub deep : level f c ≡ level f l
     pub low : level f x ≡ level f c + 1
     pub high : level f y ≡ level f c + 1
+
+  -- what is on the right of a fork of its own rank stands at it or above: above all keys it is one item
+  last_behind : (c y : ℕ) → IsAlike f c y → AreToward f c Right (leaf_pairs f y) → AllFrom (rank f c) (leaf_items f y)
+  last_behind c y alike right = go (ℕ_discrete (class f y) 0)
+    where
+      go : Dec (class f y ≡ 0) → AllFrom (rank f c) (leaf_items f y)
+      go (yes low) = subst (AllFrom (rank f c)) (sym (low_both y low)) (toward_right c (leaf_pairs f y) right)
+      go (no high) =
+          let same : rank f c ≡ rank f y = λ i. alike.class i * 2 ^ 64 + alike.key i in
+          subst (AllFrom (rank f c)) (sym (high_items f y high)) (omega (arith, same), tt)
 
   pub split_of : (key : ℕ) (value : Option ℕ) (l c x y : ℕ) → key < 2 ^ 64 → IsSplitOfPairs (edit_to key value) l c x y → IsSplitBy f (edit_to key value) l c x y
   split_of key value l c x y small s = record {
@@ -172,19 +231,13 @@ module _ (f : Word → ℕ) where
     left = s.left;
     right = s.right;
     first = s.first;
-    small = s.small;
+    small = subst (AllBelow (2 ^ 64)) (low_pairs f x s.first.class) (toward_small c Left (leaf_pairs f x) s.before);
     last = s.last;
     items = split_items (edit_to key value) l x y (rw (key_of_edit key value) small) s.first.class s.last s.pairs;
-    before = subst (AllBelow (rank f c)) (sym (low_items f x s.first.class)) s.before;
-    behind = subst (AllFrom (rank f c)) (sym item.1) (omega (arith, at_last), tt);
+    before = subst (AllBelow (rank f c)) (sym (low_both x s.first.class)) (toward_left c (leaf_pairs f x) s.before);
+    behind = last_behind c y s.between s.behind;
     above = λ d. record { class = s.between.class ∙ s.last.same_class; key = s.between.key ∙ s.last.key (λ z. d (s.between.class ∙ z)) };
     deep = s.deep;
     low = s.low;
     high = s.high;
   }
-    where
-      item : (v : ℕ) × (leaf_items f y ≡ pair (rank f y) v ∷ [])
-      item = one_item f y s.last.counted
-
-      at_last : rank f c ≡ rank f y
-      at_last = λ i. s.between.class i * 2 ^ 64 + s.between.key i

@@ -1,14 +1,16 @@
 -- Which edit of the map an SCX-record makes, and for which call.
-use Rattle.std.specs.Prelude.{◌≡◌, ◌≢◌, ℕ, ◌<◌, true, List, Option, Some, None, option_map, slice_get}
+use Rattle.std.specs.Prelude.{◌≡◌, ◌≢◌, ℕ, ◌^◌, ◌<◌, true, List, [], ◌∷◌, Option, Some, None, option_map, slice_get}
 use Rattle.arena.specs.declared.layout.Layout.{Layout}
 use Rattle.arena.specs.declared.step.Row.{Row}
+use Rattle.arena.specs.declared.word.Side.{Side}
 use Rattle.arena.specs.declared.word.Word.{Word}
 use Rattle.arena.specs.History.{History, ◌⊳◌, value, Extends}
 use Rattle.arena.specs.Shape.{IsBegin}
 use Rattle.ordered_map.specs.OrderedMap.{MapCall, MapEdit, Edit, Insert, Delete, PopFirst, ReplaceIf, edit_key, first_pair, pair}
 use Rattle.ordered_map.specs.Paths.{Passed}
 use Rattle.ordered_map.specs.TreeShape.{MayEdit, edit_leaf}
-use Rattle.ordered_map.specs.TreeWords.{is_leaf, leaf_pairs, said}
+use Rattle.ordered_map.specs.declared.pair.Pair.{Pair}
+use Rattle.ordered_map.specs.TreeWords.{is_leaf, leaf_pairs, said, toward}
 use Rattle.record.specs.MapRecord.{map_call}
 use Rattle.judge.specs.declared.judge.Judge.{Judge}
 use Rattle.judge.specs.Histories.{seen_history}
@@ -36,6 +38,11 @@ abbrev pub IsInFront : MapEdit → Option ℕ → Type 0
 IsInFront e None = ⊥
 IsInFront (Insert k v) (Some key) = key < k
 IsInFront (Delete k) (Some key) = key ≢ k
+
+-- the keys of these pairs are words, and all stand on this side of the fork n
+abbrev pub AreToward : (Word → ℕ) → ℕ → Side → List Pair → Type 0
+AreToward f n side [] = Unit {0}
+AreToward f n side (p ∷ ps) = (p.key < 2 ^ 64) × (toward f n p.key ≡ side) × AreToward f n side ps
 
 -- the call may make this edit: a pop takes out some key, a replacement gives its key its value
 abbrev pub IsEditBy : Option MapCall → MapEdit → Type 0

@@ -50,11 +50,11 @@ pub(crate) fn most_steps(command: &Command, limits: &Limits, taken: u64) -> u64
         Command::Scx(_) => 40,
         Command::Vlx { cells } => cells.as_slice().len() as u64,
         Command::Set { field: _, value: _ } => 104,
-        Command::Map(Request::Insert { key: _, value: _ }) => edit_steps(tries, levels, 178),
-        Command::Map(Request::Delete { key: _ }) => edit_steps(tries, levels, 301),
-        Command::Map(Request::PopFirst) => edit_steps(tries, levels, 301),
-        Command::Map(Request::ReplaceIf { .. }) => edit_steps(tries, levels, 178),
-        Command::Map(Request::Get { key: _ }) => levels.saturating_mul(3),
+        Command::Map(Request::Insert { key: _, value: _ }) => edit_steps(tries, levels, 207),
+        Command::Map(Request::Delete { key: _ }) => edit_steps(tries, levels, 328),
+        Command::Map(Request::PopFirst) => edit_steps(tries, levels, 328),
+        Command::Map(Request::ReplaceIf { .. }) => edit_steps(tries, levels, 207),
+        Command::Map(Request::Get { key: _ }) => levels.saturating_mul(3).saturating_add(5),
         Command::Map(Request::Successor { key: _ }) => tries.saturating_mul(levels.saturating_mul(
             137,
         )),
@@ -93,7 +93,7 @@ pub(crate) fn may_answer_at_once(command: &Command, answer: &Answer) -> bool
 }
 
 /// Whether a call of the map may give a reply in place of a first step.
-fn may_reply_at_once(request: &Request<u64, u64>, reply: &Reply<u64, u64>) -> bool
+fn may_reply_at_once(request: &Request<u64, u128>, reply: &Reply<u64, u128>) -> bool
     ensures { IsTrue result → MayAnswerAtOnce (MapCommand request.now) (MapAnswer reply.now) }
 {
     match request {
@@ -104,7 +104,7 @@ fn may_reply_at_once(request: &Request<u64, u64>, reply: &Reply<u64, u64>) -> bo
 }
 
 /// Whether a range may give a reply in place of a first step.
-fn is_range_at_once(low: u64, high: u64, most: u32, reply: &Reply<u64, u64>) -> bool
+fn is_range_at_once(low: u64, high: u64, most: u32, reply: &Reply<u64, u128>) -> bool
     ensures { IsTrue result → RangeAtOnce low high most (MapAnswer reply.now) }
 {
     match reply {
@@ -131,7 +131,7 @@ pub(crate) fn may_answer_after_step(command: &Command, answer: &Answer) -> bool
 }
 
 /// Whether a call of the map may give a reply after a step.
-fn may_reply_after_step(request: &Request<u64, u64>, reply: &Reply<u64, u64>) -> bool
+fn may_reply_after_step(request: &Request<u64, u128>, reply: &Reply<u64, u128>) -> bool
     ensures { IsTrue result → MayAnswerAfterStep (MapCommand request.now) (MapAnswer reply.now) }
 {
     match request {
@@ -163,7 +163,7 @@ fn is_of_set(answer: &Answer) -> bool
     }
 }
 
-fn is_of_edit(reply: &Reply<u64, u64>) -> bool
+fn is_of_edit(reply: &Reply<u64, u128>) -> bool
     ensures { IsTrue result → IsFormOfEdit (form_of reply.now) }
 {
     match reply {
@@ -172,7 +172,7 @@ fn is_of_edit(reply: &Reply<u64, u64>) -> bool
     }
 }
 
-fn is_of_pop(reply: &Reply<u64, u64>) -> bool
+fn is_of_pop(reply: &Reply<u64, u128>) -> bool
     ensures { IsTrue result → IsFormOfPop (form_of reply.now) }
 {
     match reply {
@@ -181,7 +181,7 @@ fn is_of_pop(reply: &Reply<u64, u64>) -> bool
     }
 }
 
-fn is_of_successor(reply: &Reply<u64, u64>) -> bool
+fn is_of_successor(reply: &Reply<u64, u128>) -> bool
     ensures { IsTrue result → IsFormOfSuccessor (form_of reply.now) }
 {
     match reply {
@@ -190,7 +190,7 @@ fn is_of_successor(reply: &Reply<u64, u64>) -> bool
     }
 }
 
-fn is_of_range(reply: &Reply<u64, u64>) -> bool
+fn is_of_range(reply: &Reply<u64, u128>) -> bool
     ensures { IsTrue result → IsFormOfRange (form_of reply.now) }
 {
     match reply {
@@ -214,7 +214,7 @@ pub(crate) fn enters(command: &Command, answer: &Answer) -> bool
 }
 
 /// Whether a reply says that an edit of the call is in the log.
-fn has_changed(request: &Request<u64, u64>, reply: &Reply<u64, u64>) -> bool
+fn has_changed(request: &Request<u64, u128>, reply: &Reply<u64, u128>) -> bool
     ensures { result ≡ enters (MapCommand request.now) (MapAnswer reply.now) }
 {
     match request {
@@ -227,7 +227,7 @@ fn has_changed(request: &Request<u64, u64>, reply: &Reply<u64, u64>) -> bool
 }
 
 /// Whether a reply tells this value.
-fn tells(reply: &Reply<u64, u64>, value: u64) -> bool
+fn tells(reply: &Reply<u64, u128>, value: u128) -> bool
     ensures { result ≡ has_replaced value (MapAnswer reply.now) }
 {
     match reply {

@@ -1,27 +1,27 @@
 //! Whether an SCX-record that begins makes the edit of its owner's call. What its leaves hold is read
 //! as lists of pairs, on which the edit is made.
-ghost use Rattle.std.specs.Prelude.{◌≡◌, ◌≢◌, ◌+◌, ◌^◌, ◌<◌, ◌≤◌, ◌↔◌, ℕ, true, false, ◌++◌, length, set, Some, None, IfSome, IsSome, IsTrue};
-ghost use Rattle.arena.specs.Heads.{head_of};
+ghost use Rattle.std.specs.Prelude.{◌≡◌, ◌≢◌, ◌==◌, ◌+◌, ◌^◌, ◌<◌, ◌≤◌, ◌↔◌, ℕ, true, false, [], ◌++◌, length, set, Some, None, IfSome, IsSome, IsTrue};
 ghost use Rattle.arena.specs.ScxRecords.{count, member as member_of, seen as seen_at, new};
 ghost use Rattle.arena.specs.Fills.{IsNamed};
-ghost use Rattle.arena.specs.Words.{first_key, first_value, node as node_of, child as child_of, info, scx as scx_of};
-ghost use Rattle.arena.specs.declared.word.NodeWord.TheVariants.{Settled};
-ghost use Rattle.arena.specs.declared.word.SettledPart.TheVariants.{Head as HeadWord};
+ghost use Rattle.arena.specs.Words.{child as child_of, info, scx as scx_of};
 ghost use Rattle.arena.specs.declared.word.Side.{Side as SideOf};
 ghost use Rattle.arena.specs.declared.word.Side.TheVariants.{Left, Right};
-ghost use Rattle.ordered_map.specs.Edits.{IsAlike, IsLowLeaf, IsLastLeaf, IsSwapBy, IsSplitBy, IsJoinBy, IsCopyOf, HasFieldsOf};
+ghost use Rattle.ordered_map.specs.Edits.{IsAlike, IsLastLeaf, IsSwapBy, IsSplitBy, IsJoinBy, IsCopyOf, HasFieldsOf};
 ghost use Rattle.ordered_map.specs.Holding.{held_pairs, IsWellCounted};
 ghost use Rattle.ordered_map.specs.Paths.{Passed};
 ghost use Rattle.ordered_map.specs.Runs.{IsTreeRun};
 ghost use Rattle.ordered_map.specs.TreeShape.{EditsLeaf, TakesLeafOut, IsEdit, leaf_plan, join_plan, leaf_place as leaf_place_of, sibling_place as sibling_place_of, edit_leaf};
-ghost use Rattle.ordered_map.specs.TreeWords.{class, is_leaf, level, rank, leaf_pairs, said, toward as toward_of};
-ghost use Rattle.ordered_map.specs.OrderedMap.{AllBelow, Delete, edited, first_pair, pair};
+ghost use Rattle.ordered_map.specs.TreeWords.{class, is_leaf, level, leaf_pairs, said, toward as toward_of};
+ghost use Rattle.ordered_map.specs.OrderedMap.{edit_key, edited, first_pair, pair};
 ghost use Rattle.record.specs.MapRecord.{map_call, number_pairs};
-ghost use Rattle.audit.specs.Edits.{IsEditBy, IsFirstLeaf, IsInFront, IsSuited, MayMakeEdit, edit_begun, key_in, word_now};
+ghost use Rattle.audit.specs.Edits.{AreToward, IsEditBy, IsFirstLeaf, IsInFront, IsSuited, MayMakeEdit, edit_begun, key_in, word_now};
 ghost use Rattle.judge.specs.Histories.{seen_history};
 
-use arena::{Head, NodeNo, NodeWord, Plan, ScxNo, ScxWord, SettledPart, Side, Slot, Word};
-use arrayvec::ArrayVec;
+use crate::leaves::{
+    Pairs, given, head, held, is_leaf_copy, is_low_leaf, is_readable, is_well_counted, key_of,
+    node_word, said, settled,
+};
+use arena::{NodeNo, NodeWord, Plan, ScxNo, ScxWord, SettledPart, Side, Word};
 use judge::Judge;
 use ordered_map::Request;
 use script::Command;
@@ -32,11 +32,8 @@ use script::Command;
 pub(crate) struct Begun {
     pub(crate) command: Command,
     pub(crate) key: u64,
-    pub(crate) value: Option<u64>,
+    pub(crate) value: Option<u128>,
 }
-
-/// Pairs by rising key, of two leaves at most, of which each holds four at most.
-type Pairs = ArrayVec<(u64, u64), 8>;
 
 /// The edit that an SCX-record is about to make for a call: below a fork on the search path of its
 /// key, and of a leaf that suits the call, unless it is a pop's that can win no more.
@@ -58,7 +55,7 @@ pub(crate) fn begun_for(judge: &Judge, scx: u64, command: &Command) -> Option<Be
 }
 
 /// The edit that a call with this command is to make by an SCX-record: a pop takes out the first key
-/// of the left one of the leaves.
+/// of its leaf.
 fn edit_for(judge: &Judge, scx: u64, command: &Command) -> Option<Begun>
     ensures command { IfSome result (λ begun. begun.command ≡ command.now) }
     ensures own { IfSome result (λ begun. IsEditBy (map_call (Some command.now)) (edit_begun begun)) }
@@ -68,7 +65,7 @@ fn edit_for(judge: &Judge, scx: u64, command: &Command) -> Option<Begun>
         Command::Map(Request::Insert { key, value }) => Some(leaving(command, key, Some(value))),
         Command::Map(Request::Delete { key }) => Some(leaving(command, key, None)),
         Command::Map(Request::PopFirst) => {
-            Some(leaving(command, key_of(judge, member(judge, scx, 2)), None))
+            Some(leaving(command, key_of(judge, popped_leaf(judge, scx)), None))
         }
         Command::Map(Request::ReplaceIf { key, value, .. }) => {
             Some(leaving(command, key, Some(value)))
@@ -77,7 +74,14 @@ fn edit_for(judge: &Judge, scx: u64, command: &Command) -> Option<Begun>
     }
 }
 
-fn leaving(command: &Command, key: u64, value: Option<u64>) -> Begun
+/// The leaf out of which a pop may take the first key by an SCX-record: of two nodes the second, of
+/// four the left child, which is the third.
+fn popped_leaf(judge: &Judge, scx: u64) -> u64 {
+    let place = if covers_two(judge, scx) { 1 } else { 2 };
+    member(judge, scx, place)
+}
+
+fn leaving(command: &Command, key: u64, value: Option<u128>) -> Begun
     ensures { result ≡ record { command = command.now; key = key; value = value } }
 {
     Begun {
@@ -110,11 +114,17 @@ pub(crate) fn suits(judge: &Judge, scx: u64, begun: &Begun) -> bool
 fn edit_leaf(judge: &Judge, scx: u64, begun: &Begun) -> u64
     ensures { result ≡ edit_leaf (seen_history judge.now) scx (edit_begun begun.now) }
 {
-    if Plan(scx_word(judge, scx, ScxWord::Plan)).count() == 2 {
+    if covers_two(judge, scx) {
         return member(judge, scx, 1);
     }
     let side = toward(judge, member(judge, scx, 1), begun.key);
     member(judge, scx, leaf_place(side))
+}
+
+fn covers_two(judge: &Judge, scx: u64) -> bool
+    ensures { result ≡ (count (seen_history judge.now) scx == 2) }
+{
+    Plan(scx_word(judge, scx, ScxWord::Plan)).count() == 2
 }
 
 /// Whether a node is the first leaf of the tree, and this is its first key.
@@ -137,69 +147,6 @@ fn is_first_key(judge: &Judge, leaf: u64, key: u64) -> bool
     key_in(pairs.as_slice(), 0) == Some(key)
 }
 
-/// What a leaf says of a key.
-fn said(judge: &Judge, leaf: u64, key: u64) -> Option<u64>
-    requires readable { class (word_now judge.now) leaf ≡ 0 → IsWellCounted (word_now judge.now) leaf }
-    ensures { result ≡ said (word_now judge.now) key leaf }
-{
-    for pair in given(judge, leaf).as_slice() {
-        if key == pair.0 {
-            return Some(pair.1);
-        }
-    }
-    None
-}
-
-/// What a leaf gives the map.
-fn given(judge: &Judge, leaf: u64) -> Pairs
-    requires readable { class (word_now judge.now) leaf ≡ 0 → IsWellCounted (word_now judge.now) leaf }
-    ensures pairs { number_pairs result.items ≡ leaf_pairs (word_now judge.now) leaf }
-    ensures few { length result.items ≤ 4 }
-{
-    if head(judge, leaf).class == 0 {
-        held(judge, leaf)
-    } else {
-        ArrayVec::new()
-    }
-}
-
-/// What a leaf holds: one pair.
-fn held(judge: &Judge, leaf: u64) -> Pairs
-    requires { IsWellCounted (word_now judge.now) leaf }
-    ensures pairs { number_pairs result.items ≡ held_pairs (word_now judge.now) leaf }
-    ensures few { length result.items ≤ 4 }
-{
-    let mut pairs = ArrayVec::new();
-    pairs.push((key_of(judge, leaf), value_of(judge, leaf)));
-    pairs
-}
-
-/// Whether what a leaf gives the map may be read: of class 0, it holds as many pairs as it may hold.
-fn is_readable(judge: &Judge, leaf: u64) -> bool
-    ensures { IsTrue result → class (word_now judge.now) leaf ≡ 0 → IsWellCounted (word_now judge.now) leaf }
-{
-    head(judge, leaf).class != 0 || is_well_counted(judge, leaf)
-}
-
-/// Whether a leaf of class 0 holds as many pairs as it may hold: one, with a value of one word.
-#[tactic(auto, using(ordered_map::proofs::Lemmas::counted_one))]
-fn is_well_counted(judge: &Judge, leaf: u64) -> bool
-    ensures { IsTrue result → IsWellCounted (word_now judge.now) leaf }
-{
-    is_zero(judge, leaf, SettledPart::More)
-        && is_zero(judge, leaf, SettledPart::High(Slot::First))
-        && is_zero(judge, leaf, SettledPart::High(Slot::Second))
-        && is_zero(judge, leaf, SettledPart::High(Slot::Third))
-        && is_zero(judge, leaf, SettledPart::High(Slot::Fourth))
-}
-
-/// Whether a settled word of a node is 0.
-fn is_zero(judge: &Judge, node: u64, part: SettledPart) -> bool
-    ensures { IsTrue result → word_now judge.now (node_of node (Settled part)) ≡ 0 }
-{
-    node_word(judge, node, NodeWord::Settled(part)) == 0
-}
-
 /// What the edit of an SCX-record makes of the pairs of a leaf.
 fn edited(begun: &Begun, mut pairs: Pairs) -> Pairs
     requires { length pairs.items ≤ 4 }
@@ -219,7 +166,7 @@ fn edited(begun: &Begun, mut pairs: Pairs) -> Pairs
 }
 
 /// The key of the pair at a place, if there is one.
-fn key_in(pairs: &[(u64, u64)], at: usize) -> Option<u64>
+fn key_in(pairs: &[(u64, u128)], at: usize) -> Option<u64>
     ensures key { result ≡ key_in pairs.now at }
     ensures inside { IsSome result → at < length pairs.now }
 {
@@ -251,12 +198,6 @@ fn joined(mut left: Pairs, right: &Pairs) -> Pairs
     left
 }
 
-fn node_word(judge: &Judge, node: u64, part: NodeWord) -> u64
-    ensures { result ≡ word_now judge.now (node_of node part) }
-{
-    judge.get(Word::Node(NodeNo(node), part))
-}
-
 fn scx_word(judge: &Judge, scx: u64, part: ScxWord) -> u64
     ensures { result ≡ word_now judge.now (scx_of scx part) }
 {
@@ -267,34 +208,6 @@ fn member(judge: &Judge, scx: u64, place: u8) -> u64
     ensures { result ≡ member_of (seen_history judge.now) scx place }
 {
     scx_word(judge, scx, ScxWord::Member(place))
-}
-
-/// What a node's head says.
-fn head(judge: &Judge, node: u64) -> Head
-    ensures { result ≡ head_of (word_now judge.now (node_of node (Settled HeadWord))) }
-{
-    Head::of(node_word(judge, node, NodeWord::Settled(SettledPart::Head)))
-}
-
-fn key_of(judge: &Judge, node: u64) -> u64
-    ensures key { result ≡ word_now judge.now (node_of node first_key) }
-    ensures small { result < 2 ^ 64 }
-{
-    node_word(
-        judge,
-        node,
-        NodeWord::Settled(SettledPart::Key(Slot::First)),
-    )
-}
-
-fn value_of(judge: &Judge, node: u64) -> u64
-    ensures { result ≡ word_now judge.now (node_of node first_value) }
-{
-    node_word(
-        judge,
-        node,
-        NodeWord::Settled(SettledPart::Value(Slot::First)),
-    )
 }
 
 fn child(judge: &Judge, node: u64, side: Side) -> u64
@@ -353,14 +266,7 @@ fn are_alike(judge: &Judge, one: u64, other: u64) -> bool
     head(judge, one).class == head(judge, other).class && key_of(judge, one) == key_of(judge, other)
 }
 
-/// Whether a node is a leaf of class 0, which holds as many pairs as it may hold.
-fn is_low_leaf(judge: &Judge, node: u64) -> bool
-    ensures { IsTrue result → IsLowLeaf (word_now judge.now) node }
-{
-    head(judge, node).leaf && head(judge, node).class == 0 && is_well_counted(judge, node)
-}
-
-/// Whether an SCX-record makes this edit.
+/// Whether an SCX-record makes this edit: it edits a leaf, or takes one out.
 fn is_edit(judge: &Judge, scx: u64, begun: &Begun) -> bool
     requires { begun.now.key < 2 ^ 64 }
     ensures edit { IsTrue result → IsEdit (seen_history judge.now) scx (edit_begun begun.now) }
@@ -369,17 +275,17 @@ fn is_edit(judge: &Judge, scx: u64, begun: &Begun) -> bool
         IsNamed judge.now.layout (seen_history judge.now)
         (word_now judge.now (child_of (new (seen_history judge.now) scx) side)) → ⊥ }
 {
-    match begun.value {
-        Some(_value) => edits_leaf(judge, scx, begun),
-        None => takes_leaf_out(judge, scx, begun),
+    if covers_two(judge, scx) {
+        edits_leaf(judge, scx, begun)
+    } else {
+        takes_leaf_out(judge, scx, begun)
     }
 }
 
 /// Whether an SCX-record covers a parent and a leaf, finalizes the leaf, and puts another leaf or a
 /// fork over two into the parent's field towards the key.
 fn edits_leaf(judge: &Judge, scx: u64, begun: &Begun) -> bool
-    requires small { begun.now.key < 2 ^ 64 }
-    requires put { IsSome begun.now.value }
+    requires { begun.now.key < 2 ^ 64 }
     ensures edit { IsTrue result → EditsLeaf (seen_history judge.now) scx (edit_begun begun.now) }
     ensures fresh { IsTrue result → is_leaf (word_now judge.now) (new (seen_history judge.now) scx) ≡ false → (side : SideOf) →
         IsNamed judge.now.layout (seen_history judge.now)
@@ -393,7 +299,16 @@ fn edits_leaf(judge: &Judge, scx: u64, begun: &Begun) -> bool
         && head(judge, leaf).leaf
         && head(judge, new).level == head(judge, leaf).level
         && is_readable(judge, leaf)
+        && may_edit(judge, leaf, begun)
         && (is_swap(judge, leaf, new, begun) || is_split(judge, leaf, new, begun))
+}
+
+/// Whether an edit may be made of a leaf: a delete finds its key there.
+fn may_edit(judge: &Judge, leaf: u64, begun: &Begun) -> bool
+    requires readable { class (word_now judge.now) leaf ≡ 0 → IsWellCounted (word_now judge.now) leaf }
+    ensures { IsTrue result → begun.now.value ≡ None → said (word_now judge.now) begun.now.key leaf ≢ None }
+{
+    begun.value.is_some() || said(judge, leaf, begun.key).is_some()
 }
 
 /// Whether a leaf is replaced by another one, which holds what the edit makes of its pairs.
@@ -430,17 +345,19 @@ fn is_split(judge: &Judge, leaf: u64, fork: u64, begun: &Begun) -> bool
         || !is_one_below(judge, left, fork)
         || !is_one_below(judge, right, fork)
         || !is_low_leaf(judge, left)
-        || !is_before(judge, left, fork)
         || !is_last_leaf(judge, right, leaf)
     {
         return false;
     }
-    let below = joined(given(judge, left), &given(judge, right));
-    below == edited(begun, given(judge, leaf))
+    let low = given(judge, left);
+    let high = given(judge, right);
+    are_toward(judge, fork, Side::Left, low.as_slice())
+        && are_toward(judge, fork, Side::Right, high.as_slice())
+        && joined(low, &high) == edited(begun, given(judge, leaf))
 }
 
 /// Whether a node is a leaf that may stand last in the place of another: of its class, and, above all
-/// keys, a copy of it.
+/// keys, of its key.
 fn is_last_leaf(judge: &Judge, node: u64, leaf: u64) -> bool
     ensures { IsTrue result → IsLastLeaf (word_now judge.now) node leaf }
 {
@@ -451,25 +368,20 @@ fn is_last_leaf(judge: &Judge, node: u64, leaf: u64) -> bool
     if class == 0 {
         is_well_counted(judge, node)
     } else {
-        are_pairs_same(judge, node, leaf)
+        key_of(judge, node) == key_of(judge, leaf)
     }
 }
 
-/// Whether the first pairs of two leaves are the same.
-fn are_pairs_same(judge: &Judge, one: u64, other: u64) -> bool
-    ensures key { IsTrue result → word_now judge.now (node_of one first_key) ≡ word_now judge.now (node_of other first_key) }
-    ensures value { IsTrue result → word_now judge.now (node_of one first_value) ≡ word_now judge.now (node_of other first_value) }
+/// Whether all keys of these pairs stand on this side of a fork.
+fn are_toward(judge: &Judge, fork: u64, side: Side, pairs: &[(u64, u128)]) -> bool
+    ensures { IsTrue result → AreToward (word_now judge.now) fork side (number_pairs pairs.now) }
 {
-    key_of(judge, one) == key_of(judge, other) && value_of(judge, one) == value_of(judge, other)
-}
-
-/// Whether what a leaf holds is before a fork.
-fn is_before(judge: &Judge, leaf: u64, fork: u64) -> bool
-    requires { IsWellCounted (word_now judge.now) leaf }
-    ensures before { IsTrue result → AllBelow (rank (word_now judge.now) fork) (held_pairs (word_now judge.now) leaf) }
-    ensures small { AllBelow (2 ^ 64) (held_pairs (word_now judge.now) leaf) }
-{
-    matches!(toward(judge, fork, key_of(judge, leaf)), Side::Left)
+    for pair in pairs {
+        if toward(judge, fork, pair.0) != side {
+            return false;
+        }
+    }
+    true
 }
 
 /// Whether the level of a node is just above that of a fork.
@@ -522,9 +434,8 @@ fn sibling_place(side: Side) -> u8
 /// Whether an SCX-record covers a grandparent, a parent and its two children, finalizes all but the
 /// first, and puts a copy of the other child into the grandparent's field towards the key.
 fn takes_leaf_out(judge: &Judge, scx: u64, begun: &Begun) -> bool
-    requires { begun.now.value ≡ None }
-    ensures { IsTrue result → TakesLeafOut (seen_history judge.now) scx (Delete begun.now.key)
-        (toward_of (word_now judge.now) (member_of (seen_history judge.now) scx 1) begun.now.key) }
+    ensures { IsTrue result → TakesLeafOut (seen_history judge.now) scx (edit_begun begun.now)
+        (toward_of (word_now judge.now) (member_of (seen_history judge.now) scx 1) (edit_key (edit_begun begun.now))) }
 {
     let plan = join_plan(toward(judge, member(judge, scx, 0), begun.key));
     let side = toward(judge, member(judge, scx, 1), begun.key);
@@ -537,8 +448,7 @@ fn takes_leaf_out(judge: &Judge, scx: u64, begun: &Begun) -> bool
 /// Whether the parent is a fork, the child on this side a leaf of whose pairs the edit leaves none,
 /// and `new` a copy of the other child.
 fn is_join(judge: &Judge, scx: u64, side: Side, begun: &Begun) -> bool
-    requires { begun.now.value ≡ None }
-    ensures edit { IsTrue result → IsJoinBy (word_now judge.now) (Delete begun.now.key)
+    ensures edit { IsTrue result → IsJoinBy (word_now judge.now) (edit_begun begun.now)
         (member_of (seen_history judge.now) scx 1) (member_of (seen_history judge.now) scx (leaf_place_of side))
         (member_of (seen_history judge.now) scx (sibling_place_of side)) (new (seen_history judge.now) scx) }
     ensures copied { IsTrue result → word_now judge.now
@@ -552,11 +462,19 @@ fn is_join(judge: &Judge, scx: u64, side: Side, begun: &Begun) -> bool
         scx_word(judge, scx, ScxWord::New),
         member(judge, scx, place),
     );
-    if head(judge, member(judge, scx, 1)).leaf || !is_low_leaf(judge, leaf) {
-        return false;
-    }
-    edited(begun, given(judge, leaf)).is_empty()
+    !head(judge, member(judge, scx, 1)).leaf
+        && is_low_leaf(judge, leaf)
+        && is_emptied(judge, leaf, begun)
         && is_copy(judge, new, sibling, is_as_seen(judge, scx, place))
+}
+
+/// Whether an edit leaves none of the pairs of a leaf of class 0.
+fn is_emptied(judge: &Judge, leaf: u64, begun: &Begun) -> bool
+    requires { IsWellCounted (word_now judge.now) leaf }
+    ensures { IsTrue result → edited (edit_begun begun.now) (held_pairs (word_now judge.now) leaf) ≡ [] }
+{
+    let left = edited(begun, held(judge, leaf));
+    left.is_empty()
 }
 
 /// Whether the parent's fields are the children, where it is as it was seen.
@@ -578,21 +496,11 @@ fn is_copy(judge: &Judge, one: u64, other: u64, looked_at: bool) -> bool
     ensures copy { IsTrue result → IsCopyOf (word_now judge.now) one other }
     ensures copied { IsTrue result → looked_at ≡ true → HasFieldsOf (word_now judge.now) one other }
 {
-    let head_of_other = node_word(judge, other, NodeWord::Settled(SettledPart::Head));
     let leaf = head(judge, other).leaf;
-    node_word(judge, one, NodeWord::Settled(SettledPart::Head)) == head_of_other
+    settled(judge, one, SettledPart::Head) == settled(judge, other, SettledPart::Head)
         && key_of(judge, one) == key_of(judge, other)
         && (leaf || !looked_at || has_fields_of(judge, one, other))
         && (!leaf || is_leaf_copy(judge, one, other))
-}
-
-/// Whether a leaf holds what another holds.
-fn is_leaf_copy(judge: &Judge, one: u64, other: u64) -> bool
-    ensures counted { IsTrue result → class (word_now judge.now) one ≡ 0 → IsWellCounted (word_now judge.now) one }
-    ensures other { IsTrue result → class (word_now judge.now) other ≡ 0 → IsWellCounted (word_now judge.now) other }
-    ensures value { IsTrue result → word_now judge.now (node_of one first_value) ≡ word_now judge.now (node_of other first_value) }
-{
-    is_readable(judge, one) && is_readable(judge, other) && are_pairs_same(judge, one, other)
 }
 
 fn has_fields_of(judge: &Judge, one: u64, other: u64) -> bool

@@ -69,8 +69,8 @@ pub(crate) fn is_right(
 fn is_placed(
     places: &Places,
     client: &Client,
-    request: &Request<u64, u64>,
-    told: &Reply<u64, u64>,
+    request: &Request<u64, u128>,
+    told: &Reply<u64, u128>,
     reply: &Finished,
 ) -> bool
     requires { reply.now.answer ≡ MapAnswer told.now }
@@ -91,8 +91,8 @@ fn is_placed(
 /// Whether a reply tells what the map replied to an edit just before a turn.
 fn had_before(
     places: &Places,
-    request: &Request<u64, u64>,
-    told: &Reply<u64, u64>,
+    request: &Request<u64, u128>,
+    told: &Reply<u64, u128>,
     turn: u64,
 ) -> bool
     ensures { (calls : List CallOf) (lines : List Line) → AreEntries calls lines (changes places.now) → IsTrue result →
@@ -107,7 +107,7 @@ fn had_before(
 }
 
 /// Whether a reply tells what a key has after a turn.
-fn tells_of(places: &Places, key: u64, told: &Reply<u64, u64>, turn: u64) -> bool
+fn tells_of(places: &Places, key: u64, told: &Reply<u64, u128>, turn: u64) -> bool
     ensures { (calls : List CallOf) (lines : List Line) → AreEntries calls lines (changes places.now) → IsTrue result →
         number_reply told.now ≡ Some (OneValue (get key (map_at calls lines turn))) }
 {
@@ -121,8 +121,8 @@ fn tells_of(places: &Places, key: u64, told: &Reply<u64, u64>, turn: u64) -> boo
 /// its answer.
 fn is_read(
     places: &Places,
-    request: &Request<u64, u64>,
-    told: &Reply<u64, u64>,
+    request: &Request<u64, u128>,
+    told: &Reply<u64, u128>,
     reply: &Finished,
 ) -> bool
     requires { reply.now.answer ≡ MapAnswer told.now }
@@ -145,7 +145,7 @@ fn is_read(
 
 /// Whether a call that tells what its key had took place in the greatest of its turns after which
 /// the map had that.
-fn is_read_of(places: &Places, key: u64, told: &Reply<u64, u64>, reply: &Finished) -> bool
+fn is_read_of(places: &Places, key: u64, told: &Reply<u64, u128>, reply: &Finished) -> bool
     requires { reply.now.answer ≡ MapAnswer told.now }
     ensures { (calls : List CallOf) (lines : List Line) → AreEntries calls lines (changes places.now) → IsTrue result → IsValueAt calls lines key reply.now }
 {
@@ -158,7 +158,7 @@ fn is_read_of(places: &Places, key: u64, told: &Reply<u64, u64>, reply: &Finishe
 }
 
 /// Whether a key has this value after a turn.
-fn has_at(places: &Places, key: u64, value: Option<u64>, turn: u64) -> bool
+fn has_at(places: &Places, key: u64, value: Option<u128>, turn: u64) -> bool
     ensures { (calls : List CallOf) (lines : List Line) → AreEntries calls lines (changes places.now) → IsTrue result →
         get key (map_at calls lines turn) ≡ value }
 {
@@ -169,8 +169,8 @@ fn has_at(places: &Places, key: u64, value: Option<u64>, turn: u64) -> bool
 /// answer.
 fn is_read_at(
     places: &Places,
-    request: &Request<u64, u64>,
-    told: &Reply<u64, u64>,
+    request: &Request<u64, u128>,
+    told: &Reply<u64, u128>,
     reply: &Finished,
 ) -> bool
     requires { reply.now.answer ≡ MapAnswer told.now }
@@ -184,7 +184,12 @@ fn is_read_at(
 }
 
 /// Whether an ordered read, or a pop, tells what the map replies to it after a turn.
-fn tells_at(places: &Places, request: &Request<u64, u64>, told: &Reply<u64, u64>, turn: u64) -> bool
+fn tells_at(
+    places: &Places,
+    request: &Request<u64, u128>,
+    told: &Reply<u64, u128>,
+    turn: u64,
+) -> bool
     ensures { (calls : List CallOf) (lines : List Line) → AreEntries calls lines (changes places.now) → IsTrue result →
         IsToldAt calls lines (MapCommand request.now) told.now turn }
 {
@@ -204,8 +209,8 @@ fn is_refused(
     places: &Places,
     client: &Client,
     tries: u32,
-    request: &Request<u64, u64>,
-    told: &Reply<u64, u64>,
+    request: &Request<u64, u128>,
+    told: &Reply<u64, u128>,
     reply: &Finished,
 ) -> bool
     requires pass { client.now.pass.0 < steps.now.judge.layout.passes }
@@ -233,7 +238,7 @@ fn is_refused(
 
 /// Whether the map had what an edit needs after some turn of a call: the key of a delete, a pair for
 /// a pop, the value that a replacement expects. An insert always has something to do.
-fn needed_something(places: &Places, request: &Request<u64, u64>, reply: &Finished) -> bool
+fn needed_something(places: &Places, request: &Request<u64, u128>, reply: &Finished) -> bool
     ensures { (calls : List CallOf) (lines : List Line) → AreEntries calls lines (changes places.now) → IsTrue result →
         NeededSomething calls lines request.now reply.now }
 {
@@ -252,7 +257,7 @@ fn is_full(
     steps: &Steps,
     places: &Places,
     client: &Client,
-    request: &Request<u64, u64>,
+    request: &Request<u64, u128>,
     reply: &Finished,
     full: (Resource, u32),
 ) -> bool
@@ -322,7 +327,7 @@ fn is_full_for_value(
     steps: &Steps,
     places: &Places,
     client: &Client,
-    pair: (u64, u64),
+    pair: (u64, u128),
     reply: &Finished,
     full: (Resource, u32),
 ) -> bool
@@ -370,7 +375,7 @@ fn had_some(places: &Places, key: u64, reply: &Finished) -> bool
 }
 
 /// Whether a key had this value, or none, after some turn of a call.
-fn had(places: &Places, key: u64, value: Option<u64>, reply: &Finished) -> bool
+fn had(places: &Places, key: u64, value: Option<u128>, reply: &Finished) -> bool
     ensures { (calls : List CallOf) (lines : List Line) → AreEntries calls lines (changes places.now) → IsTrue result →
         HadWithin calls lines key value reply.now.begin reply.now.end }
 {

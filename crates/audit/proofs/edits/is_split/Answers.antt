@@ -6,11 +6,11 @@ use Rattle.audit.specs.Edits.{edit_begun, word_now}
 use Rattle.audit.proofs.ListEdits.{same_pairs, split_of}
 use Rattle.audit.proofs.edits.is_split.Goals as goal
 
-pub returns-clause-edit : goal.returns-clause-edit
-returns-clause-edit c same =
+pub returns-then-are_toward-2-clause-edit : goal.returns-then-are_toward-2-clause-edit
+returns-then-are_toward-2-clause-edit c same =
     let f = word_now c.args.judge.now in
     let begun = c.args.begun.now in
-    let made = ap number_pairs (same_pairs c.joined-below.result.items c.edited.result.items (search rules)) in
+    let made = ap number_pairs (same_pairs c.joined.result.items c.edited.result.items (search rules)) in
     let pairs : leaf_pairs f c.child-left.result ++ leaf_pairs f c.child-right.result ≡ edited (edit_begun begun) (leaf_pairs f c.args.leaf) =
-    sym (c.joined-below.ensures ∙ (λ i. c.given.ensures.pairs i ++ c.given-2.ensures.pairs i)) ∙ made ∙ c.edited.ensures ∙ ap (edited (edit_begun begun)) c.given-3.ensures.pairs in
+    sym (c.joined.ensures ∙ (λ i. c.given-low.ensures.pairs i ++ c.given-high.ensures.pairs i)) ∙ made ∙ c.edited.ensures ∙ ap (edited (edit_begun begun)) c.given.ensures.pairs in
     (c.child-left.result, c.child-right.result, split_of f begun.key begun.value c.args.leaf c.args.fork c.child-left.result c.child-right.result c.requires.small (search rules))

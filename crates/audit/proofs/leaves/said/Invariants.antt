@@ -1,7 +1,7 @@
 use Rattle.std.proofs.Common.{◌≡◌, drop}
 use Rattle.ordered_map.specs.OrderedMap.{get}
 use Rattle.record.specs.MapRecord.{number_pairs}
-use Rattle.audit.proofs.edits.said.Given as goal
+use Rattle.audit.proofs.leaves.said.Given as goal
 
 -- what the pairs that are left say
 abbrev pub invariant-loop-pair : goal.invariant-loop-pair
