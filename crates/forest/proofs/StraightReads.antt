@@ -1,7 +1,6 @@
 -- From place to place of an ordered read, of whatever machine makes one.
 use Rattle.std.proofs.Common.{◌≡◌, ◌∙◌, ℕ, suc, ◌+◌, ◌-◌, ◌*◌, ◌<◌, ◌≤◌, Bool, List, None, Some, Result, Ok, length, [], refl, sym, ap, subst, arith}
 use Rattle.std.specs.Prelude.{Err}
-use Rattle.arena.specs.declared.head.Head.{Head as HeadParts}
 use Rattle.arena.specs.declared.machine.Turn.{Turn}
 use Rattle.arena.specs.declared.machine.Turn.TheVariants.{Ask, Done}
 use Rattle.arena.specs.declared.number.NodeNo.{NodeNo}
@@ -13,20 +12,22 @@ use Rattle.arena.specs.Heads.{head_of}
 use Rattle.arena.specs.History.{History}
 use Rattle.arena.specs.Machines.{Call, IsRun, MatchTurn, begun_at}
 use Rattle.arena.specs.Words.{info, marked, node, state}
-use Rattle.order.specs.Found.{BeginsAtRoot, BeginsSo, HasKey, HasLowHead, IsReading, Looks, Stands, WalksTo, head_at, key_at, value_at}
+use Rattle.order.specs.Found.{BeginsAtRoot, BeginsSo, IsReading, Looks, Stands, WalksTo, head_at}
 use Rattle.order.specs.Known.{IsSameRead, ReadAnswers, ReadGoes, ReadIsReady, ReadWaits}
 use Rattle.order.specs.Laws.Run.{read_told}
 use Rattle.order.specs.Meaning.{ReadMeaning}
-use Rattle.order.specs.Next.{GoesOnSo, MayDo}
-use Rattle.order.specs.Paths.{BeginsNear, ComesNearer, HeadFits}
-use Rattle.order.specs.Places.{GoesOn, MayGoOn, next_step, placed}
+use Rattle.order.specs.Loads.{load_value}
+use Rattle.order.specs.Next.{MayDo, MayLoad}
+use Rattle.order.specs.Paths.{BeginsNear, ComesNearer, HeadFits, LoadFits, load_left}
+use Rattle.order.specs.Places.{GoesOn, MayGoOn, RunComesNearer, next_step, placed}
 use Rattle.order.specs.Tries.{IsInTry}
 use Rattle.order.specs.Steps.{ReadFits, last_turn, phase_left, read_left, run_try_left, tries_left}
+use Rattle.order.specs.declared.load.ReadLoad.{ReadLoad}
 use Rattle.order.specs.declared.read.Children.{Children}
 use Rattle.order.specs.declared.read.Children.TheVariants.{Both}
 use Rattle.order.specs.declared.read.ReadBegin.TheVariants.{Walk as Walking, Root as AtRoot, Answer}
 use Rattle.order.specs.declared.read.ReadNext.{ReadNext}
-use Rattle.order.specs.declared.read.ReadNext.TheVariants.{Look as LookNext, Head as HeadNext, Key as KeyNext, Value as ValueNext, Validate as ValidateNext}
+use Rattle.order.specs.declared.read.ReadNext.TheVariants.{Load as LoadNext, Look as LookNext, Validate as ValidateNext}
 use Rattle.order.specs.declared.refused.Refused.{Refused}
 use Rattle.order.specs.declared.run.ReadAt.TheVariants.{Start, Look, Walk, Validate}
 use Rattle.order.specs.declared.run.ReadRun.{ReadRun}
@@ -54,6 +55,7 @@ use Rattle.forest.specs.StraightLlx.{llx_at, Looker, LookerSnaps}
 use Rattle.forest.specs.StraightReads.{Reader, ReaderBegins, ReaderEnds, ReaderLooksAgain, ReaderRoots, ReaderWaits, at_root, root_left}
 use Rattle.forest.specs.StraightVlx.{Validator}
 use Rattle.forest.specs.StraightWalk.{Walker, WalkerFinds, WalkerWaits}
+use Rattle.forest.specs.TableRule.{history_of}
 use Rattle.forest.specs.Traces.{shared_nodes}
 use Rattle.forest.proofs.Advances.{few_taken}
 use Rattle.forest.proofs.Hosts.{either_turn, told_on}
@@ -121,28 +123,9 @@ module _ {M R A : Type 0} {o : Calls M} {means : ReadMeaning R A} (r : Reader o 
     pub root_goes_on : (ps : List SeatedPass) (v : ℕ) (next : ReadNext) → Knows next (λ h. head_at h 0 ≡ head_of v) 0 → IsTold ps (at_root m) v → ReaderWaits r ps now next
     root_goes_on ps v next goes = on_to ps (at_root m) now next v is_same (λ h run y. let c = begun_at r.call y.0 in (y.0, y.1, (reads_on c h y.2, goes m.snaps.items c h y.2 y.3 y.4.0 (ap head_of y.4.1))))
 
-    pub head_goes_on : (ps : List SeatedPass) (above : ℕ) (n : NodeNo) (v : ℕ) (next : ReadNext) → Knows next (λ h. head_at h n.0 ≡ head_of v) n.0 → IsTold ps (placed m (HeadNext above n)) v → ReaderWaits r ps now next
-    head_goes_on ps above n v next goes = on_to ps (placed m (HeadNext above n)) now next v is_same (λ h run y. let c = begun_at r.call y.0 in (y.0, y.1, (reads_on c h y.2, goes m.snaps.items c h y.2 y.3 y.4.0 (ap head_of y.4.2))))
-
-    pub key_goes_on : (ps : List SeatedPass) (head : HeadParts) (n : NodeNo) (v : ℕ) (next : ReadNext) → ((snaps : List Snap) (c : Call) (h : History) → IsReading means m.read snaps c h → IsOwnMoment c h → Stands means m.read snaps c h n.0 → HasLowHead h n.0 head → key_at h n.0 ≡ v → MayDo means read snaps c h next) → IsTold ps (placed m (KeyNext head n)) v → ReaderWaits r ps now next
-    key_goes_on ps head n v next goes = on_to ps (placed m (KeyNext head n)) now next v is_same (λ h run y. let c = begun_at r.call y.0 in (y.0, y.1, (reads_on c h y.2, goes m.snaps.items c h y.2 y.3 y.4.0 y.4.1 y.4.2)))
-
-    -- what is known once it has taken a pair
-    abbrev Takes : Result ReadNext Refused → ℕ → ℕ → Type 0
-    Takes next key v = (snaps : List Snap) (c : Call) (h : History) (n : ℕ) → IsReading means m.read snaps c h → IsOwnMoment c h → HasKey means m.read snaps c h n key → value_at h n ≡ v → GoesOnSo means read snaps c h next
-
-    pub value_goes_on : (ps : List SeatedPass) (key : ℕ) (n : NodeNo) (v : ℕ) (next : ReadNext) → Takes (Ok next) key v → IsTold ps (placed m (ValueNext key n)) v → ReaderWaits r ps now next
-    value_goes_on ps key n v next goes = on_to ps (placed m (ValueNext key n)) now next v is_same (λ h run y. let c = begun_at r.call y.0 in (y.0, y.1, (reads_on c h y.2, goes m.snaps.items c h n.0 y.2 y.3 y.4.0 y.4.1)))
-
-    pub value_last : (ps : List SeatedPass) (key : ℕ) (n : NodeNo) (v : ℕ) (a : Refused) → Takes (Err a) key v → IsTold ps (placed m (ValueNext key n)) v → ReaderEnds r ps now (Err a)
-    value_last ps key n v a goes x = told_on r ps (placed m (ValueNext key n)) now (Some v) (Done (Err a)) is_same
-        (λ h run y. let c = begun_at r.call y.0 in ends_refused means now r.call y.0 h a m.tries y.1 (reads_on c h y.2, goes m.snaps.items c h n.0 y.2 y.3 y.4.0 y.4.1)) x
-
     -- and has fewer steps left
     some_left : (c : Call) (h : History) (next : ReadNext) (nodes n : ℕ) → MayDo means read m.snaps.items c h next → ComesNearer means read nodes next n → 0 < length m.snaps.items + n
-    some_left c h (HeadNext above l) nodes n y e = let i = e.0 in let j = e.1 in omega (arith, i, j)
-    some_left c h (KeyNext head l) nodes n y e = let i = e.0 in let j = e.1 in omega (arith, i, j)
-    some_left c h (ValueNext key l) nodes n y e = let j = e.1 in omega (arith, j)
+    some_left c h (LoadNext of) nodes n y e = let i = e.0 in let j = e.1 in omega (arith, i, j)
     some_left c h (LookNext children level l) nodes n y e = let j = e.1 in omega (arith, j)
     some_left c h ValidateNext nodes n y e = let i = y.some in omega (arith, i)
 
@@ -158,29 +141,36 @@ module _ {M R A : Type 0} {o : Calls M} {means : ReadMeaning R A} (r : Reader o 
         let p = lighter c _ next (shared_nodes o.layout) _ (goes m.snaps.items c _ y.2 y.3 y.4.0 (ap head_of y.4.1)) (near (shared_nodes o.layout) f) in
         omega (arith, i, p)
 
-    pub head_lighter : (ps : List SeatedPass) (above : ℕ) (n : NodeNo) (v : ℕ) (next : ReadNext) → Knows next (λ h. head_at h n.0 ≡ head_of v) n.0 → ((nodes : ℕ) → HeadFits (head_of v) nodes → ComesNearer means read nodes next (67 * (2 + nodes - (head_of v).level) - 1 + means.behind m.read nodes)) → IsTold ps (placed m (HeadNext above n)) v → read_left means (placed now next) (shared_nodes o.layout) < read_left means (placed m (HeadNext above n)) (shared_nodes o.layout)
-    head_lighter ps above n v next goes near x =
-        let y = r.tells (placed m (HeadNext above n)) _ (Some v) x.so.0 in
-        let c = begun_at r.call y.0 in
-        let f = told_fits ps (placed m (HeadNext above n)) v x in
-        let a = f.0 in let b = f.1.0 in
-        let p = lighter c _ next (shared_nodes o.layout) _ (goes m.snaps.items c _ y.2 y.3 y.4.0 (ap head_of y.4.2)) (near (shared_nodes o.layout) f.1) in
-        omega (arith, a, b, p)
+  -- Behind a load: the run has gone on
+  module _ (m now : ReadRun R) (of : ReadLoad) (is : IsSameRead means m now) (tries : now.tries ≡ m.tries) where
+    -- what is known of it then
+    abbrev Loads : ℕ → Result ReadNext Refused → Type 0
+    Loads v next = (c : Call) (h : History) → IsReading means m.read m.snaps.items c h → IsOwnMoment c h → MayLoad means m.read m.snaps.items c h of → load_value h of ≡ v → GoesOn means c h now next
 
-    pub key_lighter : (ps : List SeatedPass) (head : HeadParts) (n : NodeNo) (v : ℕ) (next : ReadNext) → ((snaps : List Snap) (c : Call) (h : History) → IsReading means m.read snaps c h → IsOwnMoment c h → Stands means m.read snaps c h n.0 → HasLowHead h n.0 head → key_at h n.0 ≡ v → MayDo means read snaps c h next) → ((nodes : ℕ) → HeadFits head nodes → ComesNearer means read nodes next (67 * (2 + nodes - head.level) - 2 + means.behind m.read nodes)) → IsTold ps (placed m (KeyNext head n)) v → read_left means (placed now next) (shared_nodes o.layout) < read_left means (placed m (KeyNext head n)) (shared_nodes o.layout)
-    key_lighter ps head n v next goes near x =
-        let y = r.tells (placed m (KeyNext head n)) _ (Some v) x.so.0 in
-        let c = begun_at r.call y.0 in
-        let f = told_fits ps (placed m (KeyNext head n)) v x in
-        let b = f.0 in
-        let p = lighter c _ next (shared_nodes o.layout) _ (goes m.snaps.items c _ y.2 y.3 y.4.0 y.4.1 y.4.2) (near (shared_nodes o.layout) f) in
-        omega (arith, b, p)
+    pub load_goes_on : (ps : List SeatedPass) (v : ℕ) (next : ReadNext) → Loads v (Ok next) → IsTold ps (placed m (LoadNext of)) v → ReaderWaits r ps now next
+    load_goes_on ps v next goes = on_to ps (placed m (LoadNext of)) now next v is (λ h run y. (y.0, rw (is.1, tries) y.1, goes (begun_at r.call y.0) h y.2 y.3 y.4.0 y.4.1))
 
-    pub value_lighter : (ps : List SeatedPass) (key : ℕ) (n : NodeNo) (v : ℕ) (next : ReadNext) → Takes (Ok next) key v → ((nodes : ℕ) → ComesNearer means read nodes next (means.behind m.read nodes)) → IsTold ps (placed m (ValueNext key n)) v → read_left means (placed now next) (shared_nodes o.layout) < read_left means (placed m (ValueNext key n)) (shared_nodes o.layout)
-    value_lighter ps key n v next goes near x =
-        let y = r.tells (placed m (ValueNext key n)) _ (Some v) x.so.0 in
-        let c = begun_at r.call y.0 in
-        lighter c _ next (shared_nodes o.layout) _ (goes m.snaps.items c _ n.0 y.2 y.3 y.4.0 y.4.1) (near (shared_nodes o.layout))
+    pub load_last : (ps : List SeatedPass) (v : ℕ) (a : Refused) → Loads v (Err a) → IsTold ps (placed m (LoadNext of)) v → ReaderEnds r ps now (Err a)
+    load_last ps v a goes x = told_on r ps (placed m (LoadNext of)) now (Some v) (Done (Err a)) is
+        (λ h run y. ends_refused means now r.call y.0 h a m.tries (rw is.1 y.1) (goes (begun_at r.call y.0) h y.2 y.3 y.4.0 y.4.1)) x
+
+    -- and has fewer steps left
+    some_then : (c : Call) (h : History) (next : ReadNext) (nodes n : ℕ) → GoesOn means c h now (Ok next) → RunComesNearer means now nodes next n → 0 < n
+    some_then c h (LoadNext then) nodes n y e = let i = e.0 in let j = e.1 in omega (arith, i, j)
+    some_then c h (LookNext children level l) nodes n y e = let j = e.1 in omega (arith, j)
+    some_then c h ValidateNext nodes n y e = let i = y.1.some in let j = e.1 in omega (arith, i, j)
+
+    pub load_lighter : (ps : List SeatedPass) (v : ℕ) (next : ReadNext) → Loads v (Ok next) → ((nodes : ℕ) → LoadFits v nodes of → RunComesNearer means now nodes next (length m.snaps.items + load_left means m.read nodes of - 1)) → IsTold ps (placed m (LoadNext of)) v → read_left means (placed now next) (shared_nodes o.layout) < read_left means (placed m (LoadNext of)) (shared_nodes o.layout)
+    load_lighter ps v next goes near x = subst (λ t. read_left means (placed now next) (shared_nodes o.layout) < t + (length m.snaps.items + load_left means m.read (shared_nodes o.layout) of - 1)) (λ i. tries i * means.try_left (is.0 i) (shared_nodes o.layout)) fewer
+      where
+        y : ReadIsReady means (placed m (LoadNext of)) r.call (history_of r.call.layout.mode x.known) (Some v)
+        y = r.tells (placed m (LoadNext of)) _ (Some v) x.so.0
+
+        nearer : RunComesNearer means now (shared_nodes o.layout) next (length m.snaps.items + load_left means m.read (shared_nodes o.layout) of - 1)
+        nearer = near (shared_nodes o.layout) (told_fits ps (placed m (LoadNext of)) v x)
+
+        fewer : read_left means (placed now next) (shared_nodes o.layout) < tries_left means now (shared_nodes o.layout) + (length m.snaps.items + load_left means m.read (shared_nodes o.layout) of - 1)
+        fewer = placed_nearer means now next (shared_nodes o.layout) _ (some_then (begun_at r.call y.0) _ next (shared_nodes o.layout) _ (goes (begun_at r.call y.0) _ y.2 y.3 y.4.0 y.4.1) nearer) nearer
 
   -- It looks
   module _ (m : ReadRun R) (children : Children) (level : ℕ) where
@@ -350,7 +340,7 @@ module _ {R A : Type 0} (means : ReadMeaning R A) (old m : ReadRun R) (is : IsSa
       (subst (λ n. after ≤ before + n) (λ i. tries i * means.try_left (is.0 i) nodes + means.try_left (is.0 i) nodes) few)
 
   -- its walk, and the rest
-  pub walk_in_try : (turn : NodeNo) (key mid : ℕ) → BeginsNear means m.read nodes (Walking key) → mid ≤ before + 3 * (2 + nodes) → after ≤ mid + suc (read_left means (placed m (LookNext Both 0 turn)) nodes) → after ≤ before + read_left means old nodes
+  pub walk_in_try : (turn : NodeNo) (key mid : ℕ) → BeginsNear means m.read nodes (Walking key) → mid ≤ before + (3 * (2 + nodes) + 5) → after ≤ mid + suc (read_left means (placed m (LookNext Both 0 turn)) nodes) → after ≤ before + read_left means old nodes
   walk_in_try turn key mid near walks rest = in_try (let e = ap length none in omega (arith, e, near, walks, rest))
 
   -- or all from the root on

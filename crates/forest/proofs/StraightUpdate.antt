@@ -1,15 +1,16 @@
 -- From place to place of an update, of whatever machine updates.
-use Rattle.std.proofs.Common.{◌≡◌, ℕ, suc, Bool, true, ap, subst, ◌+◌, ◌*◌, ◌<◌, ◌≤◌, List, None, Some, inl, refl, sym, arith, ◌∙◌}
-use Rattle.std.specs.Prelude.{Result, Ok, Err}
+use Rattle.std.proofs.Common.{◌≡◌, ℕ, suc, Bool, true, ap, subst, ◌+◌, ◌-◌, ◌*◌, ◌<◌, ◌≤◌, List, Option, None, Some, inl, refl, sym, arith, ◌∙◌}
+use Rattle.std.specs.Prelude.{Result, Ok, Err, IfSome}
 use Rattle.arena.specs.declared.fault.Full.{Full}
 use Rattle.arena.specs.declared.layout.Layout.{Layout}
 use Rattle.arena.specs.declared.machine.Turn.{Turn}
 use Rattle.arena.specs.declared.machine.Turn.TheVariants.{Ask, Done}
 use Rattle.arena.specs.declared.number.NodeNo.{NodeNo}
 use Rattle.arena.specs.declared.step.Kind.TheVariants.{LoadMarked, LoadSettled, LoadState}
-use Rattle.arena.specs.declared.word.NodeWord.TheVariants.{Settled, Child}
-use Rattle.arena.specs.declared.word.SettledPart.TheVariants.{Head}
-use Rattle.arena.specs.declared.word.Side.TheVariants.{Right}
+use Rattle.arena.specs.declared.word.NodeWord.TheVariants.{Settled}
+use Rattle.arena.specs.declared.word.SettledPart.{SettledPart}
+use Rattle.arena.specs.declared.word.SettledPart.TheVariants.{Head, High, Key, Value}
+use Rattle.arena.specs.declared.word.Slot.{Slot}
 use Rattle.arena.specs.declared.step.Access.TheVariants.{Store}
 use Rattle.arena.specs.declared.step.Kind.TheVariants.{Fill as FillKind}
 use Rattle.arena.specs.declared.word.NodeWord.{NodeWord}
@@ -22,20 +23,18 @@ use Rattle.prims.specs.declared.scx.Scx.TheVariants.{Done as ScxDone}
 use Rattle.prims.specs.declared.scx.ScxAt.TheVariants.{Plan as AtPlan, Help}
 use Rattle.prims.specs.declared.scx.ScxRun.{ScxRun}
 use Rattle.prims.proofs.Lemmas.{done_at}
-use Rattle.edits.specs.declared.edit.Need.{Need}
-use Rattle.edits.specs.declared.edit.Need.TheVariants.{Nothing, One, Three}
 use Rattle.edits.specs.declared.edit.Nth.{Nth}
-use Rattle.edits.specs.declared.edit.Nth.TheVariants.{First, Second, Third}
-use Rattle.edits.specs.declared.edit.Piece.{Piece}
-use Rattle.edits.specs.declared.edit.Piece.TheVariants.{Leaf, Fork}
-use Rattle.edits.specs.Pieces.{fills_behind, nth_node, part_behind, word_of, HasPlace}
+use Rattle.edits.specs.declared.edit.Nth.TheVariants.{First}
+use Rattle.edits.specs.declared.piece.Piece.{Piece}
+use Rattle.edits.specs.Pieces.{is_filled, is_leaf, nth_node, part_behind, word_of}
+use Rattle.edits.specs.Readings.{is_at_pair, next_read, read_with}
 use Rattle.edits.specs.Sound.{FillsWell, IsAtFound}
-use Rattle.edits.proofs.Lemmas.{fills_next, fills_word, joined_spends, placed_same, scx_asks, scx_done}
+use Rattle.edits.proofs.Lemmas.{behind_filled, fewer_fills, fills_next, fills_word, high_behind_value, joined_spends, key_behind_value, key_then_value, placed_same, scx_asks, scx_done, told_spends, told_turn, value_behind_key, value_then_high}
 use Rattle.forest.specs.declared.straight.scx.Change.{Change}
 use Rattle.forest.specs.StraightScx.{Changer, all_frozen_load, changing_at, scx_fill}
 use Rattle.arena.specs.History.{History, value}
 use Rattle.arena.specs.Machines.{Call, IsRun, MatchTurn, begun_at}
-use Rattle.arena.specs.Words.{marked, node, state, first_key, first_value}
+use Rattle.arena.specs.Words.{marked, node, state}
 use Rattle.arena.proofs.Lemmas.{ends_self}
 use Rattle.prims.specs.FoundThere.{HasFoundThere}
 use Rattle.prims.specs.Laws.FoundThere.{there_wider}
@@ -55,19 +54,19 @@ use Rattle.template.specs.declared.walk.WalkAt.TheVariants.{Start as WalkStart, 
 use Rattle.template.specs.declared.walk.WalkRun.{WalkRun}
 use Rattle.template.proofs.Lemmas.{own_since, walk_begins}
 use Rattle.edits.specs.Edits.{EditMeaning}
-use Rattle.edits.specs.Known.{MayBeginTry, CanFill, CanLook, IsFilledUpTo, IsNeeded, IsUntouched, Loads, Looks, IsFullFor, UpdateAnswers, UpdateIsReady, UpdateWaits, UpdateTurn, Walks, copied, done_at as done_with}
-use Rattle.edits.specs.Steps.{HasScxForFill, IsSpending, Spends, IsWanted, UpdateFits, fills_left, node_tries, scx_tries, try_left, update_left, works_after}
+use Rattle.edits.specs.Known.{MayBeginTry, CanFill, CanLook, IsFilledUpTo, IsUntouched, Looks, Reads, WorksAtNode, IsFullFor, UpdateAnswers, UpdateIsReady, UpdateWaits, UpdateTurn, Walks, done_at as done_with}
+use Rattle.edits.specs.Steps.{HasScxForFill, IsSpending, Spends, UpdateFits, node_tries, pieces_now, scx_tries, try_left, update_left}
 use Rattle.edits.specs.Tries.{IsTry, IsTryAt, HasFilledNone}
-use Rattle.edits.specs.Next.{IsSameUpdate, placed, standing, next_step, update_of, MayStop, UpdateGoesOn, HasSpentForNext, left_then}
+use Rattle.edits.specs.Next.{IsSameUpdate, told, placed, standing, next_step, fills, update_of, MayStop, UpdateGoesOn, HasSpentForNext, left_then}
 use Rattle.edits.specs.declared.update.Stop.{Stop}
 use Rattle.edits.specs.declared.update.Stop.TheVariants.{Nothing as NothingStop, Lost as LostStop, Full as FullStop}
 use Rattle.edits.specs.declared.update.Updated.TheVariants.{Done as DoneAnswer, Contended as ContendedAnswer, Full as FullAnswer}
 use Rattle.edits.specs.Laws.Entered.{none_filled_yet}
 use Rattle.edits.specs.Laws.Update.{update_scx_left, update_told}
 use Rattle.edits.specs.declared.update.Next.{Next}
-use Rattle.edits.specs.declared.update.Next.TheVariants.{Look as LookNext, Wait as WaitNext, Load as LoadNext, Fill as FillNext, Change as ChangeNext}
+use Rattle.edits.specs.declared.update.Next.TheVariants.{Look as LookNext, Wait as WaitNext, Read as ReadNext, Fill as FillNext, Change as ChangeNext}
 use Rattle.edits.specs.declared.update.UpdateAt.{UpdateAt}
-use Rattle.edits.specs.declared.update.UpdateAt.TheVariants.{Start, Walk, Look, Fill, Scx}
+use Rattle.edits.specs.declared.update.UpdateAt.TheVariants.{Start, Walk, Look, Read, Fill, Scx}
 use Rattle.edits.specs.declared.edit.Look.TheVariants.{At}
 use Rattle.prims.specs.declared.update.Update.{Update}
 use Rattle.arena.specs.declared.number.ScxNo.{ScxNo}
@@ -78,7 +77,7 @@ use Rattle.prims.specs.Laws.Idle.{IsQuietSince}
 use Rattle.forest.specs.declared.view.SeatedPass.{SeatedPass}
 use Rattle.forest.specs.StraightLlx.{llx_at, Looker, LookerSnaps}
 use Rattle.forest.specs.Hosts.{HostedEnds, HostedIsTold, HostedStands, HostedWaits}
-use Rattle.forest.specs.StraightUpdate.{Updater, HasUpdateGoneOn, inner_update, UpdaterBegins, UpdaterEnds, UpdaterGoesOn, UpdaterIsBlocked, UpdaterStops, UpdaterTries}
+use Rattle.forest.specs.StraightUpdate.{Updater, HasUpdateGoneOn, inner_update, UpdaterBegins, UpdaterEnds, UpdaterFills, UpdaterGoesOn, UpdaterIsBlocked, UpdaterStops, UpdaterTries, fills_then}
 use Rattle.forest.specs.StraightWalk.{Walker, WalkerWaits, WalkerFinds}
 use Rattle.forest.specs.TableRule.{history_of}
 use Rattle.forest.specs.Traces.{goes_on, shared_nodes, weight}
@@ -89,16 +88,6 @@ use Rattle.forest.proofs.Advances.{few_taken}
 -- an update is what its parts are
 pub update_is : (u : Update) (snaps : List Snap) (plan : PlanOf) (old fresh : NodeNo) → snaps ≡ u.snaps → plan ≡ u.plan → old ≡ u.old → fresh ≡ u.fresh → u ≡ record { snaps = snaps; plan = plan; old = old; fresh = fresh }
 update_is u snaps plan old fresh is_snaps is_plan is_old is_fresh i = record { snaps = sym is_snaps i; plan = sym is_plan i; old = sym is_old i; fresh = sym is_fresh i }
-
--- a fresh node that is needed has a place
-has_place : (need : Need) (nth : Nth) → IsNeeded need nth → HasPlace need nth
-has_place Nothing nth i = absurd i
-has_place One First i = tt
-has_place One Second i = absurd i
-has_place One Third i = absurd i
-has_place Three First i = tt
-has_place Three Second i = refl
-has_place Three Third i = refl
 
 -- a walk that is past the root is in its try
 try_past : (c : Call) (begin now : History) (limit left : ℕ) (at : WalkAt) → IsPastRoot at → IsTry c begin now limit left → IsTryAt c begin now limit left at
@@ -184,7 +173,7 @@ module _ {M E : Type 0} {o : Calls M} {e : EditMeaning E} (u : Updater o e) wher
   placed_tries : {A : Type 0} (m : UpdateRun E A) (f : Found) (next : Next) → (placed e m f next).tries ≡ m.tries
   placed_tries m f (LookNext n) = refl
   placed_tries m f (WaitNext n b scx) = refl
-  placed_tries m f (LoadNext nth part) = refl
+  placed_tries m f (ReadNext n part) = refl
   placed_tries m f (FillNext nth) = refl
   placed_tries m f (ChangeNext scx) = refl
 
@@ -321,7 +310,7 @@ module _ {M E : Type 0} {o : Calls M} {e : EditMeaning E} (u : Updater o e) wher
       there : (n : Next) → UpdaterTries u ps m f n → UpdaterTries u ps (standing m Start) f n
       there (LookNext k) y = y
       there (WaitNext k b scx) y = y
-      there (LoadNext nth part) y = y
+      there (ReadNext n part) y = y
       there (FillNext nth) y = y
       there (ChangeNext scx) y = y
 
@@ -344,7 +333,7 @@ module _ {M E : Type 0} {o : Calls M} {e : EditMeaning E} (u : Updater o e) wher
   goes_told ps m now v (Done a) is fewer spent x = record { edit = is.0; called = is.1; limit = is.2; tries = fewer; spends = spent (scx_is_left ps m v x) }
 
   -- what it is told fits the taken nodes
-  pub told_fits : (ps : List SeatedPass) (m : UpdateRun E UpdateAt) (v : ℕ) → HostedIsTold u ps m v → UpdateFits e m (Some v) (shared_nodes o.layout)
+  pub told_fits : (ps : List SeatedPass) (m : UpdateRun E UpdateAt) (v : ℕ) → HostedIsTold u ps m v → UpdateFits m (Some v) (shared_nodes o.layout)
   told_fits ps m v x = update_told e m u.call _ (Some v) (shared_nodes o.layout) (u.runs _ x.sound) (u.tells m _ (Some v) x.so.0) (few_taken o.allows o.layout u.call _ u.is_layout x.sound)
 
   -- its answer is that of the update that stands nowhere again
@@ -353,68 +342,73 @@ module _ {M E : Type 0} {o : Calls M} {e : EditMeaning E} (u : Updater o e) wher
 
   -- Loads and fills
 
-  -- what it wants is one of the words that it may want
-  pub wants_word : (ps : List SeatedPass) {A : Type 0} (m : UpdateRun E A) (f : Found) (nth : Nth) (part : NodeWord) → UpdaterTries u ps m f (LoadNext nth part) → IsWanted e m f nth part
-  wants_word ps m f nth part x = (loads.wanted, has_place (e.needs m.edit f) nth loads.works.need)
+  -- what it reads is the word that comes next in what is read
+  pub reads_next : (ps : List SeatedPass) {A : Type 0} (m : UpdateRun E A) (f : Found) (n : NodeNo) (part : SettledPart) → UpdaterTries u ps m f (ReadNext n part) → next_read m.read ≡ Some part
+  reads_next ps m f n part x = reads.next
     where
-      loads : Loads e (placed e m f (LoadNext nth part)) (begun_at u.call (u.opens (placed e m f (LoadNext nth part)) (history_of u.call.layout.mode x.known) (next_step e m f (LoadNext nth part)) x.so.0).0) (history_of u.call.layout.mode x.known) f nth part
-      loads = (u.opens (placed e m f (LoadNext nth part)) (history_of u.call.layout.mode x.known) (next_step e m f (LoadNext nth part)) x.so.0).3.0
+      reads : Reads e (placed e m f (ReadNext n part)) (begun_at u.call (u.opens (placed e m f (ReadNext n part)) (history_of u.call.layout.mode x.known) (next_step e m f (ReadNext n part)) x.so.0).0) (history_of u.call.layout.mode x.known) f n part
+      reads = (u.opens (placed e m f (ReadNext n part)) (history_of u.call.layout.mode x.known) (next_step e m f (ReadNext n part)) x.so.0).3.0
 
-  -- what is known of loads does not depend on the place of the update
-  loads_anywhere : {A : Type 0} (m : UpdateRun E A) (f : Found) (nth : Nth) (part : NodeWord) (c : Call) (h : History) → Loads e (placed e m f (LoadNext nth part)) c h f nth part → Loads e m c h f nth part
-  loads_anywhere m f nth part c h x = record {
-    works = record {
-      run = x.works.run;
-      since = x.works.since;
-      quiet = x.works.quiet;
-      looked = x.works.looked;
-      enough = x.works.enough;
-      need = x.works.need;
-      in_order = x.works.in_order;
-      some = x.works.some;
-      named = x.works.named;
-      inside = x.works.inside;
-      loaded = x.works.loaded;
-      before = x.works.before;
-    };
+  -- what is known of works does not depend on the place of the update
+  works_anywhere : {A B : Type 0} (m : UpdateRun E A) (at : B) (c : Call) (h : History) (f : Found) (nth : Nth) → WorksAtNode e (standing m at) c h f nth → WorksAtNode e m c h f nth
+  works_anywhere m at c h f nth x = record {
+    run = x.run;
+    since = x.since;
+    quiet = x.quiet;
+    looked = x.looked;
+    enough = x.enough;
+    need = x.need;
+    in_order = x.in_order;
+    some = x.some;
+  }
+
+  reads_anywhere : {A : Type 0} (m : UpdateRun E A) (f : Found) (n : NodeNo) (part : SettledPart) (c : Call) (h : History) → Reads e (placed e m f (ReadNext n part)) c h f n part → Reads e m c h f n part
+  reads_anywhere m f n part c h x = record {
+    works = works_anywhere m (Read f n part) c h f First x.works;
     full = x.full;
     hand = record { lowest = x.hand.lowest; highest = x.hand.highest };
     blank = x.blank;
-    wanted = x.wanted;
-    settled = x.settled;
+    from = x.from;
+    is = x.is;
+    read = x.read;
+    next = x.next;
   }
 
   -- with what the load has told it goes on as its turn says
-  pub loads_on : (ps : List SeatedPass) {A : Type 0} (m now : UpdateRun E A) (f : Found) (nth : Nth) (part : NodeWord) (v : ℕ) (next : Result Next Stop) → IsSameUpdate m now → now.tries ≡ m.tries → HasSpentForNext e m.share now f next m.tries (m.tries + 1)
-      → ((b h : History) → IsRun TreeAllows u.call.layout h → IsTry u.call b h m.limit m.tries → Loads e m (begun_at u.call b) h f nth part → value h (node (copied e m f) part) ≡ v → UpdateGoesOn e u.call h now f next)
-      → HostedIsTold u ps (placed e m f (LoadNext nth part)) v → UpdaterGoesOn u ps now f next
-  loads_on ps m now f nth part v next is tries spent goes x = goes_behind ps now f (placed e m f (LoadNext nth part)) v next is tries spent x (goes y.0 h (u.runs h x.sound) y.1 (loads_anywhere m f nth part (begun_at u.call y.0) h y.3.0) y.3.1)
+  pub reads_on : (ps : List SeatedPass) {A : Type 0} (m now : UpdateRun E A) (f : Found) (n : NodeNo) (part : SettledPart) (v : ℕ) (next : Result Next Stop) → IsSameUpdate m now → now.tries ≡ m.tries → HasSpentForNext e m.share now f next m.tries (m.tries + 1)
+      → ((b h : History) → IsRun TreeAllows u.call.layout h → IsTry u.call b h m.limit m.tries → Reads e m (begun_at u.call b) h f n part → value h (node n.0 (Settled part)) ≡ v → UpdateGoesOn e u.call h now f next)
+      → HostedIsTold u ps (placed e m f (ReadNext n part)) v → UpdaterGoesOn u ps now f next
+  reads_on ps m now f n part v next is tries spent goes x = goes_behind ps now f (placed e m f (ReadNext n part)) v next is tries spent x (goes y.0 h (u.runs h x.sound) y.1 (reads_anywhere m f n part (begun_at u.call y.0) h y.3.0) y.3.1)
     where
       h : History
       h = history_of u.call.layout.mode x.known
 
-      y : UpdateIsReady e (placed e m f (LoadNext nth part)) u.call h (Some v)
-      y = u.tells (placed e m f (LoadNext nth part)) h (Some v) x.so.0
+      y : UpdateIsReady e (placed e m f (ReadNext n part)) u.call h (Some v)
+      y = u.tells (placed e m f (ReadNext n part)) h (Some v) x.so.0
+
+  -- behind the load of a word it waits for the load of the next
+  reads_to : (ps : List SeatedPass) {A : Type 0} (m : UpdateRun E A) (f : Found) (n : NodeNo) (part next : SettledPart) (v : ℕ) → next_read (read_with m.read part v) ≡ Some next → HostedIsTold u ps (placed e m f (ReadNext n part)) v → UpdaterTries u ps (told m part v) f (ReadNext n next)
+  reads_to ps m f n part next v is x = reads_on ps m (told m part v) f n part v (Ok (ReadNext n next)) (refl, refl, refl) refl (told_spends e m f n part next v) (λ b h run try reads there. told_turn e m u.call b h f n part next v try reads there is) x
+
+  -- behind that of a pair's key for its value, and then for the high half
+  pub waits_value : (ps : List SeatedPass) {A : Type 0} (m : UpdateRun E A) (f : Found) (n : NodeNo) (slot : Slot) (v : ℕ) → is_at_pair m.read ≡ true → next_read m.read ≡ Some (Key slot) → HostedIsTold u ps (placed e m f (ReadNext n (Key slot))) v → UpdaterTries u ps (told m (Key slot) v) f (ReadNext n (Value slot))
+  waits_value ps m f n slot v at_pair is x = reads_to ps m f n (Key slot) (Value slot) v (key_then_value m.read slot v at_pair is) x
+
+  pub waits_high : (ps : List SeatedPass) {A : Type 0} (m : UpdateRun E A) (f : Found) (n : NodeNo) (slot : Slot) (v : ℕ) → next_read m.read ≡ Some (Value slot) → HostedIsTold u ps (placed e m f (ReadNext n (Value slot))) v → UpdaterTries u ps (told m (Value slot) v) f (ReadNext n (High slot))
+  waits_high ps m f n slot v is x = reads_to ps m f n (Value slot) (High slot) v (value_then_high m.read slot v is) x
 
   -- the update with a fill at a place
   abbrev pub filling : {A : Type 0} → UpdateRun E A → Found → Nth → NodeWord → UpdateRun E UpdateAt
   filling m f nth part = standing m (Fill f nth part)
 
-  -- an update whose try fills a node waits for the first fill
-  pub begins_fill : (ps : List SeatedPass) {A : Type 0} (m : UpdateRun E A) (f : Found) (nth : Nth) (p : Piece) (n : NodeNo) (v : ℕ) → p ≡ e.pieces m.edit f m.snaps.items m.nodes m.loaded nth → n ≡ nth_node m.nodes nth → v ≡ word_of p (Settled Head) → UpdaterTries u ps m f (FillNext nth) → HostedWaits u ps (filling m f nth (Settled Head)) record { kind = FillKind; word = NodeOf n (Settled Head); access = Store v }
-  begins_fill ps m f nth p n v is_p is_n is_v x = subst (λ s. HostedWaits u ps (filling m f nth (Settled Head)) s) asked x
-    where
-      asked : next_step e m f (FillNext nth) ≡ record { kind = FillKind; word = NodeOf n (Settled Head); access = Store v }
-      asked i = record { kind = FillKind; word = NodeOf (sym is_n i) (Settled Head); access = Store (sym (is_v ∙ ap (λ q. word_of q (Settled Head)) is_p) i) }
-
   -- behind a fill that is not a node's last it waits for the next
-  pub fills_on : (ps : List SeatedPass) {A : Type 0} (m : UpdateRun E A) (f : Found) (nth : Nth) (part next : NodeWord) (told : ℕ) (p : Piece) (n : NodeNo) (v : ℕ) → FillsWell e → part_behind p part ≡ Some next → p ≡ e.pieces m.edit f m.snaps.items m.nodes m.loaded nth → n ≡ nth_node m.nodes nth → v ≡ word_of p next → HostedIsTold u ps (filling m f nth part) told → HostedWaits u ps (filling m f nth next) record { kind = FillKind; word = NodeOf n next; access = Store v }
-  fills_on ps m f nth part next told p n v sound behind is_p is_n is_v x = record {
+  fills_next_word : (ps : List SeatedPass) {A : Type 0} (m : UpdateRun E A) (f : Found) (nth : Nth) (part next : NodeWord) (told : ℕ) → FillsWell e → part_behind (pieces_now e m f nth) part ≡ Some next → HostedIsTold u ps (filling m f nth part) told → HostedWaits u ps (filling m f nth next) (fills e m f nth next)
+  fills_next_word ps m f nth part next told sound behind x = record {
     known = x.known;
     is = x.is;
     sound = x.sound;
     so = (
-      u.turns (filling m f nth part) (filling m f nth next) h (Some told) _ (moves m (Fill f nth part) (Fill f nth next) refl refl) x.so.0 (y.0, y.1, tt, fills_word e (filling m f nth part) f nth next p n v (begun_at u.call y.0) h can is_p is_n is_v),
+      u.turns (filling m f nth part) (filling m f nth next) h (Some told) _ (moves m (Fill f nth part) (Fill f nth next) refl refl) x.so.0 (y.0, y.1, tt, fills_word e (filling m f nth part) f nth next (pieces_now e m f nth) (nth_node m.nodes nth) (word_of (pieces_now e m f nth) next) (begun_at u.call y.0) h can refl refl refl),
       goes_on (u.with_run (filling m f nth part)) (u.stays (filling m f nth part) (filling m f nth next) (moves m (Fill f nth part) (Fill f nth next) refl refl)) x.so.1,
     );
   }
@@ -426,29 +420,26 @@ module _ {M E : Type 0} {o : Calls M} {e : EditMeaning E} (u : Updater o e) wher
       y = u.tells (filling m f nth part) h (Some told) x.so.0
 
       can : CanFill e (filling m f nth part) (begun_at u.call y.0) h f nth next
-      can = fills_next e (filling m f nth part) (begun_at u.call y.0) h f nth part y.3 next sound (subst (λ q. part_behind q part ≡ Some next) is_p behind)
+      can = fills_next e (filling m f nth part) (begun_at u.call y.0) h f nth part y.3 next sound behind
+
+  -- and so it goes on behind a fill, to the next, or to the end
+  pub fills_on : (ps : List SeatedPass) {A : Type 0} (m : UpdateRun E A) (f : Found) (nth : Nth) (part : NodeWord) (next : Option NodeWord) (told : ℕ) → FillsWell e → part_behind (pieces_now e m f nth) part ≡ next → HostedIsTold u ps (filling m f nth part) told → UpdaterFills u ps m f nth next
+  fills_on ps m f nth part (Some next) told sound behind x = fills_next_word ps m f nth part next told sound behind x
+  fills_on ps m f nth part None told sound behind x = (part, told, behind, x)
+
+  -- the fill of a word, as this piece and this node have it
+  pub fill_as : {A : Type 0} (m : UpdateRun E A) (f : Found) (nth : Nth) (part : NodeWord) (p : Piece) (n : NodeNo) (v : ℕ) → p ≡ pieces_now e m f nth → n ≡ nth_node m.nodes nth → v ≡ word_of p part → fills e m f nth part ≡ record { kind = FillKind; word = NodeOf n part; access = Store v }
+  fill_as m f nth part p n v is_p is_n is_v i = record { kind = FillKind; word = NodeOf (sym is_n i) part; access = Store (sym (is_v ∙ ap (λ q. word_of q part) is_p) i) }
 
   -- what is known of fresh nodes does not depend on the place of the update
   filled_anywhere : {A : Type 0} (m : UpdateRun E A) (f : Found) (nth : Nth) (part : NodeWord) (c : Call) (h : History) → IsFilledUpTo e (filling m f nth part) c h f nth part → IsFilledUpTo e m c h f nth part
   filled_anywhere m f nth part c h x = (
     record {
-      works = record {
-        run = x.0.works.run;
-        since = x.0.works.since;
-        quiet = x.0.works.quiet;
-        looked = x.0.works.looked;
-        enough = x.0.works.enough;
-        need = x.0.works.need;
-        in_order = x.0.works.in_order;
-        some = x.0.works.some;
-        named = x.0.works.named;
-        inside = x.0.works.inside;
-        loaded = x.0.works.loaded;
-        before = x.0.works.before;
-      };
+      works = works_anywhere m (Fill f nth part) c h f nth x.0.works;
       full = x.0.full;
       hand = record { lowest = x.0.hand.lowest; highest = x.0.hand.highest };
-      done = x.0.done;
+      read = x.0.read;
+      whole = x.0.whole;
       part_is = x.0.part_is;
     },
     x.1,
@@ -543,38 +534,54 @@ look_nearer left tries looks works b = omega (arith, b)
 pub both_steps : (now then bound : ℕ) → now ≤ then → then ≤ bound → now ≤ bound
 both_steps now then bound a b = omega (arith, a, b)
 
+-- fewer words are left behind a fill
+pub fewer_fills_then : (p : Piece) (part : NodeWord) (next : Option NodeWord) → part_behind p part ≡ next → fills_then p next < fills_then p (Some part)
+fewer_fills_then p part None e = omega arith
+fewer_fills_then p part (Some next) e = let less = fewer_fills p part next e in omega (arith, less)
+
+-- and what is filled behind a word is to be filled
+pub filled_next : (p : Piece) (part : NodeWord) (next : Option NodeWord) → next ≡ part_behind p part → IfSome next (λ word. is_filled p word ≡ true)
+filled_next p part None e = tt
+filled_next p part (Some next) e = behind_filled p part next (sym e)
+
+-- a pair of which no high half is filled takes two fills, another one three
+pub fewer_by_two : (p : Piece) (slot : Slot) (next : Option NodeWord) → is_leaf p ≡ true → is_filled p (Settled (Key slot)) ≡ true → word_of p (Settled (High slot)) ≡ 0 → next ≡ part_behind p (Settled (High slot)) → suc (suc (fills_then p next)) ≤ fills_then p (Some (Settled (Key slot)))
+fewer_by_two p slot next leaf there zero e =
+    let a = fewer_fills_then p (Settled (Key slot)) (Some (Settled (Value slot))) (value_behind_key p slot leaf there) in
+    let b = fewer_fills_then p (Settled (Value slot)) next (key_behind_value p slot zero ∙ sym e) in
+    omega (arith, a, b)
+
+pub fewer_by_three : (p : Piece) (slot : Slot) (next : Option NodeWord) → is_leaf p ≡ true → is_filled p (Settled (Key slot)) ≡ true → 0 < word_of p (Settled (High slot)) → next ≡ part_behind p (Settled (High slot)) → suc (suc (suc (fills_then p next))) ≤ fills_then p (Some (Settled (Key slot)))
+fewer_by_three p slot next leaf there some e =
+    let a = fewer_fills_then p (Settled (Key slot)) (Some (Settled (Value slot))) (value_behind_key p slot leaf there) in
+    let b = fewer_fills_then p (Settled (Value slot)) (Some (Settled (High slot))) (high_behind_value p slot some) in
+    let d = fewer_fills_then p (Settled (High slot)) next (sym e) in
+    omega (arith, a, b, d)
+
+-- and a step is made for it
+pub fill_steps : (now old left before : ℕ) → now ≡ suc old → left < before → now + left ≤ old + before
+fill_steps now old left before one less = omega (arith, one, less)
+
 -- the steps of a fresh node are those that were left for it
-pub node_steps : (now old left tries n after head : ℕ) → now ≡ suc n + old → left ≤ tries + (after + 39) → head ≡ n + after → now + left ≤ old + suc (tries + (head + 39))
-node_steps now old left tries n after head a b c = omega (arith, a, b, c)
+pub node_steps : (now old left tries after head : ℕ) → now + 0 ≤ old + suc head → left ≤ tries + (after + 39) → now + left ≤ old + suc (tries + (head + after + 39))
+node_steps now old left tries after head a b = omega (arith, a, b)
 
-pub node_nearer : (left tries n after head : ℕ) → left ≤ tries + (after + 39) → head ≡ n + after → left < suc (tries + (head + 39))
-node_nearer left tries n after head b c = omega (arith, b, c)
+pub node_nearer : (left tries after head : ℕ) → left ≤ tries + (after + 39) → left < suc (tries + (head + after + 39))
+node_nearer left tries after head b = omega (arith, b)
 
--- a load is one of the works that were left
-pub load_steps : (now old left tries works : ℕ) → now ≡ suc old → left < tries + (works + 39) → now + suc left ≤ old + suc (tries + (works + 39))
-load_steps now old left tries works a b = omega (arith, a, b)
+-- a load is one of those that were left
+pub read_steps : (now old left tries reads fills : ℕ) → now ≡ suc old → left < tries + (reads - 1 + fills + 39) → now + suc left ≤ old + suc (tries + (reads - 1 + fills + 39))
+read_steps now old left tries reads fills a b = omega (arith, a, b)
 
-pub load_nearer : (left tries works : ℕ) → left < tries + (works + 39) → suc left < suc (tries + (works + 39))
-load_nearer left tries works b = omega (arith, b)
+-- three steps are made for the three words of a pair
+pub pair_steps : (start first second third left more most all : ℕ) → first ≡ suc start → second ≡ suc first → third ≡ suc second → left < more → more < most → most < all → third + suc left ≤ start + suc all
+pair_steps start first second third left more most all a b d i j k = omega (arith, a, b, d, i, j, k)
 
-pub head_next : (p : Piece) → part_behind p (Settled Head) ≡ Some first_key
-head_next (Leaf level class key v) = refl
-head_next (Fork level class key l r) = refl
+pub pair_nearer : (left more most all : ℕ) → left < more → more < most → most < all → suc left < suc all
+pair_nearer left more most all i j k = omega (arith, i, j, k)
 
-module _ {E : Type 0} (e : EditMeaning E) {A : Type 0} (m : UpdateRun E A) (f : Found) (nth : Nth) (p : Piece) (said : p ≡ e.pieces m.edit f m.snaps.items m.nodes m.loaded nth) where
-  -- a leaf has two words behind its head, a fork three
-  pub leaf_fewer : (level class key v : ℕ) → p ≡ Leaf level class key v → fills_left e m f nth (Settled Head) ≡ 2 + works_after e nth
-  leaf_fewer level class key v is = ap (λ q. fills_behind q (Settled Head) + works_after e nth) (sym said ∙ is)
-
-  pub fork_fewer : (level class key : ℕ) (l r : NodeNo) → p ≡ Fork level class key l r → fills_left e m f nth (Settled Head) ≡ 3 + works_after e nth
-  fork_fewer level class key l r is = ap (λ q. fills_behind q (Settled Head) + works_after e nth) (sym said ∙ is)
-
-  -- and none behind its last
-  pub leaf_ends : (level class key v : ℕ) → p ≡ Leaf level class key v → part_behind (e.pieces m.edit f m.snaps.items m.nodes m.loaded nth) first_value ≡ None
-  leaf_ends level class key v is = ap (λ q. part_behind q first_value) (sym said ∙ is)
-
-  pub fork_ends : (level class key : ℕ) (l r : NodeNo) → p ≡ Fork level class key l r → part_behind (e.pieces m.edit f m.snaps.items m.nodes m.loaded nth) (Child Right) ≡ None
-  fork_ends level class key l r is = ap (λ q. part_behind q (Child Right)) (sym said ∙ is)
+pub read_nearer : (left tries reads fills : ℕ) → left < tries + (reads - 1 + fills + 39) → suc left < suc (tries + (reads - 1 + fills + 39))
+read_nearer left tries reads fills b = omega (arith, b)
 
 module _ {E : Type 0} (e : EditMeaning E) {A : Type 0} (m : UpdateRun E A) (f : Found) (next same : Result Next Stop) (is : next ≡ same) (nodes : ℕ) where
   -- what is left of what comes next is left of its equal
@@ -591,7 +598,7 @@ left_there e m start now f next turn nodes is place asks = rw (place, asks, is) 
     there : (n : Next) → suc (update_left e (placed e (standing m Start) f n) nodes) ≡ suc (update_left e (placed e m f n) nodes)
     there (LookNext k) = refl
     there (WaitNext k b scx) = refl
-    there (LoadNext nth part) = refl
+    there (ReadNext n part) = refl
     there (FillNext nth) = refl
     there (ChangeNext scx) = refl
 

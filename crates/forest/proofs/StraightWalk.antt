@@ -1,5 +1,6 @@
 -- From place to place of a walk, of whatever machine walks.
-use Rattle.std.proofs.Common.{◌≡◌, ◌≢◌, ℕ, ◌+◌, ◌<◌, ◌≤◌, true, false, cond, ltb, List, None, Some, refl, subst, arith}
+use Rattle.std.specs.Prelude.{if◌then◌else◌}
+use Rattle.std.proofs.Common.{◌≡◌, ◌≢◌, ℕ, suc, ◌+◌, ◌<◌, ◌≤◌, ◌⊎◌, Bool, true, false, cond, ltb, List, None, Some, unwrap_or, refl, ap, subst, arith}
 use Rattle.arena.specs.declared.head.Head.{Head as HeadParts}
 use Rattle.arena.specs.declared.number.NodeNo.{NodeNo}
 use Rattle.arena.specs.declared.step.Kind.TheVariants.{LoadSettled, LoadChild}
@@ -7,11 +8,14 @@ use Rattle.arena.specs.declared.step.Step.{Step}
 use Rattle.arena.specs.declared.word.Side.{Side}
 use Rattle.arena.specs.declared.word.Side.TheVariants.{Left, Right}
 use Rattle.arena.specs.declared.word.NodeWord.TheVariants.{Settled, Child as ChildWord}
-use Rattle.arena.specs.declared.word.SettledPart.TheVariants.{Head as HeadWord}
+use Rattle.arena.specs.declared.word.SettledPart.TheVariants.{Head as HeadWord, More as MoreWord, Key as KeyWord, Value as ValueWord, High as HighWord}
+use Rattle.arena.specs.declared.word.Slot.{Slot}
+use Rattle.arena.specs.declared.word.Slot.TheVariants.{First, Second, Third, Fourth}
 use Rattle.arena.specs.Heads.{head_of}
 use Rattle.arena.specs.History.{History}
 use Rattle.arena.specs.Machines.{Call}
-use Rattle.arena.specs.Words.{node, first_key, first_value}
+use Rattle.arena.specs.Words.{node, first_key, slot_no}
+use Rattle.ordered_map.specs.Holding.{slot_behind, wide_value}
 use Rattle.order.specs.Steps.{last_turn}
 use Rattle.prims.specs.Llx.Known.{load}
 use Rattle.template.specs.FoundLeaf.{asked_key, path_key}
@@ -22,9 +26,9 @@ use Rattle.template.specs.Walk.Steps.{walk_left, WalkFitsAt}
 use Rattle.template.specs.declared.walk.Goal.{Goal}
 use Rattle.template.specs.declared.walk.Trail.{Trail}
 use Rattle.template.specs.declared.walk.WalkAt.{WalkAt}
-use Rattle.template.specs.declared.walk.WalkAt.TheVariants.{Start, Root, Head, Key, Child, Value}
+use Rattle.template.specs.declared.walk.WalkAt.TheVariants.{Start, Root, Head, Key, Child, More, Pair, Value, High}
 use Rattle.template.specs.declared.walk.WalkRun.{WalkRun}
-use Rattle.template.proofs.Lemmas.{head_to_key, head_ends, head_to_child, key_to_child, key_to_value, key_ends, value_ends, child_to_head}
+use Rattle.template.proofs.Lemmas.{head_to_key, head_to_more, head_ends, head_to_child, key_to_child, more_to_pair, pair_to_value, pair_to_pair, pair_ends, value_to_high, high_ends, child_to_head}
 use Rattle.forest.specs.declared.view.SeatedPass.{SeatedPass}
 use Rattle.forest.specs.StraightWalk.{Walker, WalkerWaits, WalkerIsTold, WalkerFinds}
 use Rattle.forest.specs.Traces.{shared_nodes}
@@ -38,26 +42,40 @@ module _ {M : Type 0} {o : Calls M} (w : Walker o) (ps : List SeatedPass) where
   goes m now turn v s past goal edge = goes_to w ps (m, turn) (now, last_turn now.at now.trail.node turn) v s (past, goal, refl) edge
 
   module _ (goal : Goal) (t : Trail) (turn : NodeNo) where
-    pub to_key : (p : WalkAt) (v : ℕ) (head : HeadParts) → LoadsHead p → head_of v ≡ head → asks_key goal head ≡ true → WalkerIsTold w ps (walk_at goal t p) turn v → WalkerWaits w ps (walk_at goal t (Key head)) turn (load LoadSettled (node t.node.0 first_key))
-    to_key p v head at is asks = goes (walk_at goal t p) (walk_at goal t (Key head)) turn v _ tt refl (λ d h x. head_to_key goal t d h p v head at is x asks)
+    module _ (p : WalkAt) (v : ℕ) (head : HeadParts) (at : LoadsHead p) (is : head_of v ≡ head) where
+      pub to_key : head.leaf ≡ false → asks_key goal head ≡ true → WalkerIsTold w ps (walk_at goal t p) turn v → WalkerWaits w ps (walk_at goal t (Key head)) turn (load LoadSettled (node t.node.0 first_key))
+      to_key fork asks = goes (walk_at goal t p) (walk_at goal t (Key head)) turn v _ tt refl (λ d h x. head_to_key goal t d h p v head at is x fork asks)
 
-    pub leaves : (p : WalkAt) (v : ℕ) (head : HeadParts) → LoadsHead p → head_of v ≡ head → asks_key goal head ≡ false → head.leaf ≡ true → WalkerIsTold w ps (walk_at goal t p) turn v → WalkerFinds w ps goal turn record { trail = t; head = head; key = 0; value = None }
-    leaves p v head at is asks leaf x = record { last = walk_at goal t p; is_goal = refl; told = v; finds = λ d h y. head_ends goal t d h p v head at is y asks leaf; so = x }
+      pub to_left : head.leaf ≡ false → asks_key goal head ≡ false → WalkerIsTold w ps (walk_at goal t p) turn v → WalkerWaits w ps (walk_at goal t (Child head.level Left)) t.node (load LoadChild (node t.node.0 (ChildWord Left)))
+      to_left fork asks = goes (walk_at goal t p) (walk_at goal t (Child head.level Left)) turn v _ tt refl (λ d h x. head_to_child goal t d h p v head at is x fork asks)
 
-    pub to_left : (p : WalkAt) (v : ℕ) (head : HeadParts) → LoadsHead p → head_of v ≡ head → asks_key goal head ≡ false → head.leaf ≡ false → WalkerIsTold w ps (walk_at goal t p) turn v → WalkerWaits w ps (walk_at goal t (Child head.level Left)) t.node (load LoadChild (node t.node.0 (ChildWord Left)))
-    to_left p v head at is asks fork = goes (walk_at goal t p) (walk_at goal t (Child head.level Left)) turn v _ tt refl (λ d h x. head_to_child goal t d h p v head at is x asks fork)
+      pub to_more : head.leaf ≡ true → head.class ≡ 0 → WalkerIsTold w ps (walk_at goal t p) turn v → WalkerWaits w ps (walk_at goal t (More head)) turn (load LoadSettled (node t.node.0 (Settled MoreWord)))
+      to_more leaf low = goes (walk_at goal t p) (walk_at goal t (More head)) turn v _ tt refl (λ d h x. head_to_more goal t d h p v head at is x leaf low)
 
-    pub to_side : (head : HeadParts) (low : ℕ) (side : Side) → side ≡ cond (ltb (path_key goal) low) Left Right → head.leaf ≡ false → WalkerIsTold w ps (walk_at goal t (Key head)) turn low → WalkerWaits w ps (walk_at goal t (Child head.level side)) (last_turn (Child head.level side) t.node turn) (load LoadChild (node t.node.0 (ChildWord side)))
-    to_side head low side is fork = goes (walk_at goal t (Key head)) (walk_at goal t (Child head.level side)) turn low _ tt refl (λ d h x. key_to_child goal t d h head low x side is fork)
+      pub finds_none : head.leaf ≡ true → head.class ≢ 0 → WalkerIsTold w ps (walk_at goal t p) turn v → WalkerFinds w ps goal turn record { trail = t; head = head; more = 0; key = asked_key goal 0; value = None }
+      finds_none leaf high x = record { last = walk_at goal t p; is_goal = refl; told = v; finds = λ d h y. head_ends goal t d h p v head at is y leaf high; so = x }
 
-    pub to_value : (head : HeadParts) (low : ℕ) → head.leaf ≡ true → asked_key goal low ≡ low → WalkerIsTold w ps (walk_at goal t (Key head)) turn low → WalkerWaits w ps (walk_at goal t (Value head low)) turn (load LoadSettled (node t.node.0 first_value))
-    to_value head low leaf is = goes (walk_at goal t (Key head)) (walk_at goal t (Value head low)) turn low _ tt refl (λ d h x. key_to_value goal t d h head low x leaf is)
+    pub to_side : (head : HeadParts) (low : ℕ) (side : Side) → side ≡ cond (ltb (path_key goal) low) Left Right → WalkerIsTold w ps (walk_at goal t (Key head)) turn low → WalkerWaits w ps (walk_at goal t (Child head.level side)) (last_turn (Child head.level side) t.node turn) (load LoadChild (node t.node.0 (ChildWord side)))
+    to_side head low side is = goes (walk_at goal t (Key head)) (walk_at goal t (Child head.level side)) turn low _ tt refl (λ d h x. key_to_child goal t d h head low side x is)
 
-    pub finds_other : (head : HeadParts) (low : ℕ) → head.leaf ≡ true → asked_key goal low ≢ low → WalkerIsTold w ps (walk_at goal t (Key head)) turn low → WalkerFinds w ps goal turn record { trail = t; head = head; key = low; value = None }
-    finds_other head low leaf other x = record { last = walk_at goal t (Key head); is_goal = refl; told = low; finds = λ d h y. key_ends goal t d h head low y leaf other; so = x }
+    pub to_first : (head : HeadParts) (more : ℕ) → WalkerIsTold w ps (walk_at goal t (More head)) turn more → WalkerWaits w ps (walk_at goal t (Pair head more First)) turn (load LoadSettled (node t.node.0 first_key))
+    to_first head more = goes (walk_at goal t (More head)) (walk_at goal t (Pair head more First)) turn more _ tt refl (λ d h x. more_to_pair goal t d h head more x)
 
-    pub finds_value : (head : HeadParts) (low v : ℕ) → WalkerIsTold w ps (walk_at goal t (Value head low)) turn v → WalkerFinds w ps goal turn record { trail = t; head = head; key = low; value = Some v }
-    finds_value head low v x = record { last = walk_at goal t (Value head low); is_goal = refl; told = v; finds = λ d h y. value_ends goal t d h head low v y; so = x }
+    module _ (head : HeadParts) (more : ℕ) (slot : Slot) (key : ℕ) where
+      pub to_next : asked_key goal key ≢ key → (next : Slot) → slot_behind more slot ≡ Some next → WalkerIsTold w ps (walk_at goal t (Pair head more slot)) turn key → WalkerWaits w ps (walk_at goal t (Pair head more next)) turn (load LoadSettled (node t.node.0 (Settled (KeyWord next))))
+      to_next other next behind = goes (walk_at goal t (Pair head more slot)) (walk_at goal t (Pair head more next)) turn key _ tt refl (λ d h x. pair_to_pair goal t d h head more slot key x other next behind)
+
+      pub finds_other : asked_key goal key ≢ key → (slot_behind more slot ≡ None) ⊎ (asked_key goal key < key) → WalkerIsTold w ps (walk_at goal t (Pair head more slot)) turn key → WalkerFinds w ps goal turn record { trail = t; head = head; more = more; key = asked_key goal key; value = None }
+      finds_other other none x = record { last = walk_at goal t (Pair head more slot); is_goal = refl; told = key; finds = λ d h y. pair_ends goal t d h head more slot key y other none; so = x }
+
+      pub to_value : asked_key goal key ≡ key → WalkerIsTold w ps (walk_at goal t (Pair head more slot)) turn key → WalkerWaits w ps (walk_at goal t (Value head more slot key)) turn (load LoadSettled (node t.node.0 (Settled (ValueWord slot))))
+      to_value same = goes (walk_at goal t (Pair head more slot)) (walk_at goal t (Value head more slot key)) turn key _ tt refl (λ d h x. pair_to_value goal t d h head more slot key x same)
+
+      pub to_high : (low : ℕ) → WalkerIsTold w ps (walk_at goal t (Value head more slot key)) turn low → WalkerWaits w ps (walk_at goal t (High head more slot key low)) turn (load LoadSettled (node t.node.0 (Settled (HighWord slot))))
+      to_high low = goes (walk_at goal t (Value head more slot key)) (walk_at goal t (High head more slot key low)) turn low _ tt refl (λ d h x. value_to_high goal t d h head more slot key low x)
+
+      pub finds_value : (low high : ℕ) → WalkerIsTold w ps (walk_at goal t (High head more slot key low)) turn high → WalkerFinds w ps goal turn record { trail = t; head = head; more = more; key = key; value = Some (wide_value low high) }
+      finds_value low high x = record { last = walk_at goal t (High head more slot key low); is_goal = refl; told = high; finds = λ d h y. high_ends goal t d h head more slot key low high y; so = x }
 
     pub to_head : (level : ℕ) (side : Side) (n : ℕ) → WalkerIsTold w ps (walk_at goal t (Child level side)) turn n → WalkerWaits w ps (walk_at goal (trail_below t side n) (Head level)) turn (load LoadSettled (node n (Settled HeadWord)))
     to_head level side n = goes (walk_at goal t (Child level side)) (walk_at goal (trail_below t side n) (Head level)) turn n _ tt refl (λ d h x. child_to_head goal t d h level side n x)
@@ -75,13 +93,36 @@ fewer (Head above) v nodes head x is fits deep = let rises : above < head.level 
 fewer Start v nodes head x is fits deep = absurd x
 fewer (Key k) v nodes head x is fits deep = absurd x
 fewer (Child low side) v nodes head x is fits deep = absurd x
-fewer (Value k low) v nodes head x is fits deep = absurd x
+fewer (More k) v nodes head x is fits deep = absurd x
+fewer (Pair k more slot) v nodes head x is fits deep = absurd x
+fewer (Value k more slot low) v nodes head x is fits deep = absurd x
+fewer (High k more slot low high) v nodes head x is fits deep = absurd x
 
--- and one node takes three
-pub some_left : (p : WalkAt) (v nodes : ℕ) → LoadsHead p → WalkFitsAt p v nodes → 2 ≤ walk_left p nodes
+-- a leaf takes at most seven behind its head
+pub some_left : (p : WalkAt) (v nodes : ℕ) → LoadsHead p → WalkFitsAt p v nodes → 7 ≤ walk_left p nodes
 some_left Root v nodes x fits = omega arith
 some_left (Head above) v nodes x fits = let a = fits.0 in let b = fits.1 in omega (arith, a, b)
 some_left Start v nodes x fits = absurd x
 some_left (Key k) v nodes x fits = absurd x
 some_left (Child low side) v nodes x fits = absurd x
-some_left (Value k low) v nodes x fits = absurd x
+some_left (More k) v nodes x fits = absurd x
+some_left (Pair k more slot) v nodes x fits = absurd x
+some_left (Value k more slot low) v nodes x fits = absurd x
+some_left (High k more slot low high) v nodes x fits = absurd x
+
+-- the slot behind one is the next, of four
+slot_after : (slot behind next : Slot) (t : Bool) → slot_no behind ≡ suc (slot_no slot) → (if t then Some behind else None) ≡ Some next → slot_no next ≡ suc (slot_no slot)
+slot_after slot behind next true e i = subst (λ s. slot_no s ≡ suc (slot_no slot)) (ap (λ o. unwrap_or o behind) i) e
+slot_after slot behind next false e i = absurd (let z : None ≡ Some next = i in cc)
+
+pub next_slot : (more : ℕ) (slot next : Slot) → slot_behind more slot ≡ Some next → slot_no next ≡ suc (slot_no slot)
+next_slot more First next e = slot_after First Second next (ltb 0 more) refl e
+next_slot more Second next e = slot_after Second Third next (ltb 1 more) refl e
+next_slot more Third next e = slot_after Third Fourth next (ltb 2 more) refl e
+next_slot more Fourth next e = absurd (let z : None ≡ Some next = e in cc)
+
+pub few_slots : (slot : Slot) → slot_no slot ≤ 3
+few_slots First = omega arith
+few_slots Second = omega arith
+few_slots Third = omega arith
+few_slots Fourth = omega arith

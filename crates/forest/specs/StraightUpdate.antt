@@ -1,16 +1,20 @@
 -- Calls of updates, of whatever machine updates: at a place of it, or before it has begun.
-use Rattle.std.specs.Prelude.{◌≡◌, ℕ, ◌+◌, ◌≤◌, List, Option, Result, Ok, Err}
+use Rattle.std.specs.Prelude.{◌≡◌, ℕ, suc, ◌+◌, ◌≤◌, List, Option, Some, None, Result, Ok, Err}
+use Rattle.arena.specs.declared.word.NodeWord.{NodeWord}
 use Rattle.arena.specs.History.{History}
 use Rattle.ordered_map.specs.TreeShape.{TreeAllows}
 use Rattle.edits.specs.Edits.{EditMeaning}
 use Rattle.edits.specs.Known.{UpdateIsReady, UpdateWaits, UpdateAnswers}
 use Rattle.template.specs.declared.walk.Found.{Found}
-use Rattle.edits.specs.Next.{placed, standing, next_step, update_of, MayStop}
-use Rattle.edits.specs.Steps.{Spends, node_tries, scx_tries}
+use Rattle.edits.specs.Next.{fills, placed, standing, next_step, update_of, MayStop}
+use Rattle.edits.specs.Pieces.{fills_behind, part_behind}
+use Rattle.edits.specs.Steps.{Spends, node_tries, pieces_now, scx_tries}
+use Rattle.edits.specs.declared.edit.Nth.{Nth}
+use Rattle.edits.specs.declared.piece.Piece.{Piece}
 use Rattle.edits.specs.declared.update.Next.{Next}
 use Rattle.edits.specs.declared.update.Stop.{Stop}
 use Rattle.edits.specs.declared.update.UpdateAt.{UpdateAt}
-use Rattle.edits.specs.declared.update.UpdateAt.TheVariants.{Start, Scx}
+use Rattle.edits.specs.declared.update.UpdateAt.TheVariants.{Start, Fill, Scx}
 use Rattle.edits.specs.declared.update.UpdateRun.{UpdateRun}
 use Rattle.edits.specs.declared.update.Updated.{Updated}
 use Rattle.arena.specs.declared.number.ScxNo.{ScxNo}
@@ -19,7 +23,7 @@ use Rattle.prims.specs.declared.scx.ScxAt.TheVariants.{Help}
 use Rattle.forest.specs.StraightScx.{all_frozen_load}
 use Rattle.forest.specs.declared.view.SeatedPass.{SeatedPass}
 use Rattle.forest.specs.CallKinds.{Calls}
-use Rattle.forest.specs.Hosts.{Host, HostedBegins, HostedEnds, HostedWaits, InnerCall}
+use Rattle.forest.specs.Hosts.{Host, HostedBegins, HostedEnds, HostedIsTold, HostedWaits, InnerCall}
 use Rattle.forest.specs.Traces.{Trace, HoldsForCall}
 
 -- The second run is the same update further on, which has given up one try at most. Of the share
@@ -43,6 +47,11 @@ inner_update e = record {
   goes = λ old now. HasUpdateGoneOn e old now (node_tries now now.at) (scx_tries now now.at);
   ends = λ old now. HasUpdateGoneOn e old now now.tries now.tries;
 }
+
+-- so many words of a piece are left to be filled, where this one is the next, if one is
+abbrev pub fills_then : Piece → Option NodeWord → ℕ
+fills_then p None = 0
+fills_then p (Some part) = suc (fills_behind p part)
 
 -- a call of a machine that updates
 abbrev pub Updater : {M E : Type 0} → Calls M → EditMeaning E → Type 0
@@ -80,6 +89,12 @@ module _ {M E : Type 0} {o : Calls M} {e : EditMeaning E} (u : Updater o e) (ps 
   abbrev pub UpdaterGoesOn : {A : Type 0} → UpdateRun E A → Found → Result Next Stop → Type 0
   UpdaterGoesOn m f (Ok next) = UpdaterTries m f next
   UpdaterGoesOn m f (Err stop) = UpdaterStops m f stop
+
+  -- its update waits for the fill of this word of the fresh node of this place; or, where there is
+  -- none, it has filled the last of them
+  abbrev pub UpdaterFills : {A : Type 0} → UpdateRun E A → Found → Nth → Option NodeWord → Type 0
+  UpdaterFills m f nth (Some part) = HostedWaits u ps (standing m (Fill f nth part)) (fills e m f nth part)
+  UpdaterFills m f nth None = (last : NodeWord) × (told : ℕ) × (part_behind (pieces_now e m f nth) last ≡ None) × HostedIsTold u ps (standing m (Fill f nth last)) told
 
   -- its SCX could not freeze a node, and waits to look whether all were frozen
   abbrev pub UpdaterIsBlocked : {A : Type 0} → UpdateRun E A → Found → ScxNo → HelpRun → Type 0

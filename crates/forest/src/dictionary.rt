@@ -22,7 +22,7 @@ use crate::pass::Pass;
 use crate::straight::hand::Hand;
 use crate::straight::{calls, walk};
 use arena::{Limits, Mode, NoMemory, Share};
-use dict::{Dict, DictRun, EditCall, Reply, Request, WordKey, WordValue, value_of};
+use dict::{Dict, DictRun, EditCall, Reply, Request, WordKey, WordValue, number_of, value_of};
 use std::alloc::Global;
 use std::mem::replace;
 use template::Goal;
@@ -107,7 +107,7 @@ impl<K: WordKey, V: WordValue> Forest<Dict<K, V>> {
     {
         key.valid();
         value.valid();
-        let (key, value) = (key.word(), value.word());
+        let (key, value) = (key.word(), number_of(&value));
         self.edit_at_key(pass, Insert { key, value })
     }
 
@@ -165,7 +165,7 @@ impl<K: WordKey, V: WordValue> Forest<Dict<K, V>> {
     {
         key.valid();
         value.valid();
-        let (key, expected, value) = (key.word(), expected.word(), value.word());
+        let (key, expected, value) = (key.word(), number_of(expected), number_of(&value));
         let edit = ReplaceIf {
             key,
             expected,

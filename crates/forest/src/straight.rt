@@ -10,6 +10,7 @@ pub(crate) mod helps;
 pub(crate) mod llx;
 pub(crate) mod ordered_read;
 pub(crate) mod put;
+pub(crate) mod reads;
 pub(crate) mod resume;
 pub(crate) mod scx;
 pub(crate) mod step;

@@ -24,7 +24,7 @@ use Rattle.record.specs.Commands.{commands}
 use Rattle.forest.specs.TableRule.{history_of}
 use Rattle.forest.specs.Passes.{Ground, PassView, AreNew, AreBegun, HoldsOfOwn, IsClosed, IsLook, new_pass, run_of, done_of}
 use Rattle.forest.specs.Shares.{entries_of}
-use Rattle.dict.specs.Words.{IsNumber}
+use Rattle.dict.specs.Words.{IsNumber, IsWideNumber}
 use Rattle.runner.specs.Calls.{NumbersAllow, HasCalled, HaveReplies, HaveWorked}
 use Rattle.runner.specs.Histories.{AreVersions}
 use Rattle.runner.specs.Outcomes.{IsClientOfRun, IsOutcome}
@@ -49,7 +49,7 @@ module _ (script : Script) (f : Ground) (layout : IsLayoutOf script.limits Tree 
   whole = history_of f.layout.mode closed.rows
 
   tree : IsTreeRun f.layout whole
-  tree = (layout.mode_is, typed_run IsNumber IsNumber f.layout whole closed.sound)
+  tree = (layout.mode_is, typed_run IsNumber IsWideNumber f.layout whole closed.sound)
 
   edits : (e : ℕ → MapEdit) × AreEdits e f.layout whole
   edits = log_edits f.layout whole tree

@@ -8,7 +8,7 @@ use Rattle.ordered_map.specs.OrderedMap.{MapCall}
 use Rattle.dict.specs.Calls.{AsksForPairs}
 use Rattle.ordered_map.specs.CallRules.{MayReply, form_of, most_steps}
 use Rattle.dict.specs.Typed.{TypedAllows}
-use Rattle.dict.specs.Words.{IsNumber}
+use Rattle.dict.specs.Words.{IsNumber, IsWideNumber}
 use Rattle.ordered_map.specs.Replies.{told_of}
 use Rattle.ordered_map.specs.declared.reply.Reply.{Reply}
 use Rattle.script.specs.declared.call.Call.{Call}
@@ -23,7 +23,7 @@ use Rattle.forest.specs.Traces.{shared_nodes}
 
 -- the shape of a dictionary of numbers: each SCX-record that begins makes an edit of numbers
 abbrev pub NumbersAllow : Layout → History → ℕ → Type 0
-NumbersAllow = TypedAllows IsNumber IsNumber
+NumbersAllow = TypedAllows IsNumber IsWideNumber
 
 -- The pass, which knew `old` as the call began and `new` at its end, has made the call, which may
 -- try so often, and has this reply: what the reply tells is right, and so is what it refuses. The

@@ -17,10 +17,10 @@ use script::Call;
 use std::alloc::Global;
 
 /// A dictionary of numbers.
-pub(crate) type Numbers = Dict<u64, u64>;
+pub(crate) type Numbers = Dict<u64, u128>;
 
 /// What a client's thread gives back: its pass, and the replies to its calls.
-pub(crate) type Worked = Result<(Pass<Numbers>, Vec<Reply<u64, u64>>), NoMemory>;
+pub(crate) type Worked = Result<(Pass<Numbers>, Vec<Reply<u64, u128>>), NoMemory>;
 
 /// Makes the calls of the pass's client among these, one after the other, and tells the gate of
 /// them. The only error is want of memory.
@@ -57,8 +57,8 @@ fn make_call<G: Gate>(
     gate: &G,
     number: u64,
     pass: Pass<Numbers>,
-    request: Request<u64, u64>,
-) -> (Pass<Numbers>, Reply<u64, u64>)
+    request: Request<u64, u128>,
+) -> (Pass<Numbers>, Reply<u64, u128>)
     requires pass { IsOf forest.now pass }
     requires few { AsksForFew request }
     ensures { HasCalled forest.now.tries pass result.0 (map_request request) result.1 }
@@ -78,7 +78,7 @@ fn make_steps<G: Gate>(
     gate: &G,
     client: PassNo,
     number: u64,
-    call: &mut OpenCall<u64, u64>,
+    call: &mut OpenCall<u64, u128>,
 )
     requires forest { IsOf forest.now call.old.began }
     requires goes { call.old.over ≡ false }

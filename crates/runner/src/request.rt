@@ -9,7 +9,7 @@ use dict::Request;
 use script::{Call, Command};
 
 /// The call of a dictionary that a call on the tree is.
-pub(crate) fn request_of(call: &Call) -> Request<u64, u64>
+pub(crate) fn request_of(call: &Call) -> Request<u64, u128>
     requires { mode_of call.now.command ≡ Tree }
     ensures call { map_call (Some call.now.command) ≡ Some (map_request result) }
     ensures few { AsksForFew result }

@@ -18,7 +18,7 @@ use std::snapshot::Snapshot;
 use std::thread::{Promise, PromisedHandle, Scope, Threads};
 
 /// What the threads give back: the passes, and the replies of their clients.
-pub(crate) type Works = Result<(Vec<Pass<Numbers>>, Vec<Vec<Reply<u64, u64>>>), NoMemory>;
+pub(crate) type Works = Result<(Vec<Pass<Numbers>>, Vec<Vec<Reply<u64, u128>>>), NoMemory>;
 
 /// A thread that makes the calls of a client.
 pub(crate) type Thread<'a> = PromisedHandle<Worked, Duty<'a>>;

@@ -37,7 +37,7 @@ const DEEP: usize = 32;
 
 /// What an edit that walks there replies where its leaf has this key, and tells this value.
 #[inline(always)]
-fn of_leaf<K: WordKey, V: WordValue>(goal: Goal, key: u64, value: Option<u64>) -> Reply<K, V>
+fn of_leaf<K: WordKey, V: WordValue>(goal: Goal, key: u64, value: Option<u128>) -> Reply<K, V>
     ensures valid { IsValidReply K.is_valid V.is_valid result }
     ensures says { IsTranslated K.is_valid K.word_of V.is_valid V.word_of (goal_reply goal key value) result }
     ensures form { HasFormOf (goal_reply goal key value) result }

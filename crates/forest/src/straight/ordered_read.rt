@@ -8,6 +8,7 @@ ghost use Rattle.forest.specs.Hosts.{Host, HostedEnds, HostedIsTold, HostedWaits
 ghost use Rattle.forest.specs.Seats.{StaysAtTable};
 ghost use Rattle.forest.specs.Traces.{seat_steps, shared_nodes};
 ghost use Rattle.order.specs.Steps.{read_left};
+ghost use Rattle.order.specs.declared.load.ReadLoad.{ReadLoad};
 ghost use Rattle.order.specs.declared.read.ReadNext.{ReadNext};
 ghost use Rattle.prims.specs.Llx.Known.{load};
 
@@ -19,34 +20,31 @@ use crate::straight::vlx::validate;
 use crate::straight::walk;
 use crate::view::SeatView;
 use arena::{
-    Access, Head, Kind, Machine, NodeNo, NodeWord, ScxNo, ScxWord, SettledPart, Shape, Slot, Step,
-    Turn, Word,
+    Access, Head, Kind, Machine, NodeNo, NodeWord, ScxNo, ScxWord, SettledPart, Shape, Step, Turn,
+    Word,
 };
 use atomic_table::Seat;
-use order::{Children, Read, ReadAt, ReadBegin, ReadNext, ReadRun, Refused};
-use ordered_map::Pair;
+use order::{Children, LeafPlace, Read, ReadAt, ReadBegin, ReadLoad, ReadNext, ReadRun, Refused};
 use prims::{LlxAt, LlxRun, Snap, SnapList};
 use template::{Goal, Tree};
 
-/// Loads a settled word of a node.
+/// Loads a settled word.
 #[inline(always)]
 pub(crate) fn read<S: Shape, M: Machine<S>, T: Shape, N: Machine<T>>(
     hand: Hand<S>,
     seat: &mut Seat<u8, SeatView>,
-    node: NodeNo,
-    part: NodeWord,
+    word: Word,
 ) -> u64
     requires table { IsAt hand seat.old }
     requires waits { (r : Host (hand_calls S.Shape M.Machine hand) (inner_machine T.Shape N.Machine)) × (m : N)
-        × HostedWaits r seat.old.me.0.passes m (load Kind.LoadSettled (Word.Node node part)) }
+        × HostedWaits r seat.old.me.0.passes m (load Kind.LoadSettled word) }
     ensures table { StaysAtTable seat.old seat.new }
     ensures one { seat_steps seat.new.me.0.passes ≡ suc (seat_steps seat.old.me.0.passes) }
     ensures told { (r : Host (hand_calls S.Shape M.Machine hand.entry) (inner_machine T.Shape N.Machine)) (m : N)
-        → HostedWaits r seat.old.me.0.passes m (load Kind.LoadSettled (Word.Node node part))
+        → HostedWaits r seat.old.me.0.passes m (load Kind.LoadSettled word)
         → HostedIsTold r seat.new.me.0.passes m result }
 {
-    let (kind, word) = (Kind::LoadSettled, Word::Node(node, part));
-    let access = Access::Load;
+    let (kind, access) = (Kind::LoadSettled, Access::Load);
     step::<S, M>(hand, seat, Step { kind, word, access })
 }
 
@@ -166,66 +164,164 @@ fn validate_on<S: Shape, M: Machine<S>, R: Read + Drop>(
     tell::<S, M, Tree, ReadRun<R>>(hand, seat, run, told)
 }
 
-/// Loads the value of a leaf whose pair is taken, and tells what comes behind that, or that
-/// there is no memory to keep its pair.
+/// Loads a word of a node, and tells what comes behind that, or that there is no memory to keep
+/// what is found. Where its caller knows which word that is, so does the compiler.
 #[inline(always)]
-fn read_value<S: Shape, M: Machine<S>, R: Read + Drop>(
+fn load_on<S: Shape, M: Machine<S>, R: Read + Drop>(
     hand: Hand<S>,
     seat: &mut Seat<u8, SeatView>,
     run: &mut ReadRun<R>,
-    key: u64,
-    node: NodeNo,
+    load: ReadLoad,
 ) -> Result<ReadNext, Result<R::Answer, Refused>>
     requires table { IsAt hand seat.old }
-    requires waits { (r : Reader (hand_calls S.Shape M.Machine hand) R.means) × ReaderWaits r seat.old.me.0.passes run.old (ReadNext.Value key node) }
+    requires waits { (r : Reader (hand_calls S.Shape M.Machine hand) R.means) × ReaderWaits r seat.old.me.0.passes run.old (ReadNext.Load load) }
     ensures table { StaysAtTable seat.old seat.new }
     ensures goes_on { (r : Reader (hand_calls S.Shape M.Machine hand.entry) R.means)
-        → ReaderWaits r seat.old.me.0.passes run.old (ReadNext.Value key node)
+        → ReaderWaits r seat.old.me.0.passes run.old (ReadNext.Load load)
         → ReaderGoesOn r seat.new.me.0.passes run.new result }
     ensures steps { seat_steps seat.new.me.0.passes + left_then R.means (shared_nodes hand.entry.layout.now) run.new result
-        ≤ seat_steps seat.old.me.0.passes + left_then R.means (shared_nodes hand.entry.layout.now) run.old (Ok (ReadNext.Value key node)) }
-    ensures nearer { left_then R.means (shared_nodes hand.entry.layout.now) run.new result < left_then R.means (shared_nodes hand.entry.layout.now) run.old (Ok (ReadNext.Value key node)) }
+        ≤ seat_steps seat.old.me.0.passes + left_then R.means (shared_nodes hand.entry.layout.now) run.old (Ok (ReadNext.Load load)) }
+    ensures nearer { left_then R.means (shared_nodes hand.entry.layout.now) run.new result
+        < left_then R.means (shared_nodes hand.entry.layout.now) run.old (Ok (ReadNext.Load load)) }
 {
-    let part = NodeWord::Settled(SettledPart::Value(Slot::First));
-    let value = read::<S, M, Tree, ReadRun<R>>(hand, seat, node, part);
-    match run.read.value_on(Pair { key, value }) {
+    let value = read::<S, M, Tree, ReadRun<R>>(hand, seat, load.word());
+    match run.loaded(load, value) {
         Ok(next) => Ok(next),
         Err(refused) => Err(Err(refused)),
     }
 }
 
-/// Loads the key of a node, and what it needs behind that but a look. What comes next is matched at
-/// once: handed round a loop, it would be packed and parted again at each turn.
+/// Loads the two words of a value that is taken.
 #[inline(always)]
-fn read_key<S: Shape, M: Machine<S>, R: Read + Drop>(
+fn read_value<S: Shape, M: Machine<S>, R: Read + Drop>(
     hand: Hand<S>,
     seat: &mut Seat<u8, SeatView>,
     run: &mut ReadRun<R>,
-    head: Head,
-    node: NodeNo,
+    place: LeafPlace,
+    key: u64,
 ) -> Result<ReadNext, Result<R::Answer, Refused>>
     requires table { IsAt hand seat.old }
-    requires waits { (r : Reader (hand_calls S.Shape M.Machine hand) R.means) × ReaderWaits r seat.old.me.0.passes run.old (ReadNext.Key head node) }
+    requires waits { (r : Reader (hand_calls S.Shape M.Machine hand) R.means) × ReaderWaits r seat.old.me.0.passes run.old (ReadNext.Load (ReadLoad.Value place key)) }
     ensures table { StaysAtTable seat.old seat.new }
     ensures goes_on { (r : Reader (hand_calls S.Shape M.Machine hand.entry) R.means)
-        → ReaderWaits r seat.old.me.0.passes run.old (ReadNext.Key head node)
+        → ReaderWaits r seat.old.me.0.passes run.old (ReadNext.Load (ReadLoad.Value place key))
         → ReaderGoesOn r seat.new.me.0.passes run.new result }
     ensures steps { seat_steps seat.new.me.0.passes + left_then R.means (shared_nodes hand.entry.layout.now) run.new result
-        ≤ seat_steps seat.old.me.0.passes + left_then R.means (shared_nodes hand.entry.layout.now) run.old (Ok (ReadNext.Key head node)) }
-    ensures nearer { left_then R.means (shared_nodes hand.entry.layout.now) run.new result < left_then R.means (shared_nodes hand.entry.layout.now) run.old (Ok (ReadNext.Key head node)) }
+        ≤ seat_steps seat.old.me.0.passes + left_then R.means (shared_nodes hand.entry.layout.now) run.old (Ok (ReadNext.Load (ReadLoad.Value place key))) }
+    ensures nearer { left_then R.means (shared_nodes hand.entry.layout.now) run.new result
+        < left_then R.means (shared_nodes hand.entry.layout.now) run.old (Ok (ReadNext.Load (ReadLoad.Value place key))) }
 {
-    let part = NodeWord::Settled(SettledPart::Key(Slot::First));
-    let key = read::<S, M, Tree, ReadRun<R>>(hand, seat, node, part);
-    let next = run.read.key_on(head, node, key);
+    let next = match load_on::<S, M, R>(hand, seat, run, ReadLoad::Value { place, key }) {
+        Ok(next) => next,
+        Err(told) => return Err(told),
+    };
     match next {
-        ReadNext::Value { key, node } => read_value::<S, M, R>(hand, seat, run, key, node),
+        ReadNext::Load(ReadLoad::High { place, key, low }) => {
+            let load = ReadLoad::High { place, key, low };
+            load_on::<S, M, R>(hand, seat, run, load)
+        }
         _ => Ok(next),
     }
 }
 
-/// Loads the head of a node, and what it needs behind that but a look.
+/// Loads the key at this place of a leaf, and the value of the pair that is taken.
 #[inline(always)]
-fn read_head<S: Shape, M: Machine<S>, R: Read + Drop>(
+fn read_pair<S: Shape, M: Machine<S>, R: Read + Drop>(
+    hand: Hand<S>,
+    seat: &mut Seat<u8, SeatView>,
+    run: &mut ReadRun<R>,
+    place: LeafPlace,
+) -> Result<ReadNext, Result<R::Answer, Refused>>
+    requires table { IsAt hand seat.old }
+    requires waits { (r : Reader (hand_calls S.Shape M.Machine hand) R.means) × ReaderWaits r seat.old.me.0.passes run.old (ReadNext.Load (ReadLoad.Pair place)) }
+    ensures table { StaysAtTable seat.old seat.new }
+    ensures goes_on { (r : Reader (hand_calls S.Shape M.Machine hand.entry) R.means)
+        → ReaderWaits r seat.old.me.0.passes run.old (ReadNext.Load (ReadLoad.Pair place))
+        → ReaderGoesOn r seat.new.me.0.passes run.new result }
+    ensures steps { seat_steps seat.new.me.0.passes + left_then R.means (shared_nodes hand.entry.layout.now) run.new result
+        ≤ seat_steps seat.old.me.0.passes + left_then R.means (shared_nodes hand.entry.layout.now) run.old (Ok (ReadNext.Load (ReadLoad.Pair place))) }
+    ensures nearer { left_then R.means (shared_nodes hand.entry.layout.now) run.new result
+        < left_then R.means (shared_nodes hand.entry.layout.now) run.old (Ok (ReadNext.Load (ReadLoad.Pair place))) }
+{
+    let next = match load_on::<S, M, R>(hand, seat, run, ReadLoad::Pair { place }) {
+        Ok(next) => next,
+        Err(told) => return Err(told),
+    };
+    match next {
+        ReadNext::Load(ReadLoad::Value { place, key }) => {
+            read_value::<S, M, R>(hand, seat, run, place, key)
+        }
+        _ => Ok(next),
+    }
+}
+
+/// Goes through the pairs of a leaf from this place on.
+#[inline(always)]
+fn read_pairs<S: Shape, M: Machine<S>, R: Read + Drop>(
+    hand: Hand<S>,
+    seat: &mut Seat<u8, SeatView>,
+    run: &mut ReadRun<R>,
+    first: LeafPlace,
+) -> Result<ReadNext, Result<R::Answer, Refused>>
+    requires table { IsAt hand seat.old }
+    requires waits { (r : Reader (hand_calls S.Shape M.Machine hand) R.means) × ReaderWaits r seat.old.me.0.passes run.old (ReadNext.Load (ReadLoad.Pair first)) }
+    ensures table { StaysAtTable seat.old seat.new }
+    ensures goes_on { (r : Reader (hand_calls S.Shape M.Machine hand.entry) R.means)
+        → ReaderWaits r seat.old.me.0.passes run.old (ReadNext.Load (ReadLoad.Pair first))
+        → ReaderGoesOn r seat.new.me.0.passes run.new result }
+    ensures steps { seat_steps seat.new.me.0.passes + left_then R.means (shared_nodes hand.entry.layout.now) run.new result
+        ≤ seat_steps seat.old.me.0.passes + left_then R.means (shared_nodes hand.entry.layout.now) run.old (Ok (ReadNext.Load (ReadLoad.Pair first))) }
+    ensures nearer { left_then R.means (shared_nodes hand.entry.layout.now) run.new result
+        < left_then R.means (shared_nodes hand.entry.layout.now) run.old (Ok (ReadNext.Load (ReadLoad.Pair first))) }
+{
+    let mut place = first;
+    loop {
+        let next = match read_pair::<S, M, R>(hand, seat, run, place) {
+            Ok(next) => next,
+            Err(told) => return Err(told),
+        };
+        match next {
+            ReadNext::Load(ReadLoad::Pair { place: behind }) => place = behind,
+            _ => return Ok(next),
+        }
+    }
+}
+
+/// Loads how many pairs a leaf has, and goes through these.
+#[inline(always)]
+fn read_leaf<S: Shape, M: Machine<S>, R: Read + Drop>(
+    hand: Hand<S>,
+    seat: &mut Seat<u8, SeatView>,
+    run: &mut ReadRun<R>,
+    node: NodeNo,
+) -> Result<ReadNext, Result<R::Answer, Refused>>
+    requires table { IsAt hand seat.old }
+    requires waits { (r : Reader (hand_calls S.Shape M.Machine hand) R.means) × ReaderWaits r seat.old.me.0.passes run.old (ReadNext.Load (ReadLoad.More node)) }
+    ensures table { StaysAtTable seat.old seat.new }
+    ensures goes_on { (r : Reader (hand_calls S.Shape M.Machine hand.entry) R.means)
+        → ReaderWaits r seat.old.me.0.passes run.old (ReadNext.Load (ReadLoad.More node))
+        → ReaderGoesOn r seat.new.me.0.passes run.new result }
+    ensures steps { seat_steps seat.new.me.0.passes + left_then R.means (shared_nodes hand.entry.layout.now) run.new result
+        ≤ seat_steps seat.old.me.0.passes + left_then R.means (shared_nodes hand.entry.layout.now) run.old (Ok (ReadNext.Load (ReadLoad.More node))) }
+    ensures nearer { left_then R.means (shared_nodes hand.entry.layout.now) run.new result
+        < left_then R.means (shared_nodes hand.entry.layout.now) run.old (Ok (ReadNext.Load (ReadLoad.More node))) }
+{
+    let next = match load_on::<S, M, R>(hand, seat, run, ReadLoad::More { node }) {
+        Ok(next) => next,
+        Err(told) => return Err(told),
+    };
+    match next {
+        ReadNext::Load(ReadLoad::Pair { place }) => {
+            read_pairs::<S, M, R>(hand, seat, run, place)
+        }
+        _ => Ok(next),
+    }
+}
+
+/// Loads the head of a node, and what it needs behind that but a look. What comes next is matched at
+/// once: handed round a loop, it would be packed and parted again at each turn.
+#[inline(always)]
+fn read_node<S: Shape, M: Machine<S>, R: Read + Drop>(
     hand: Hand<S>,
     seat: &mut Seat<u8, SeatView>,
     run: &mut ReadRun<R>,
@@ -233,20 +329,28 @@ fn read_head<S: Shape, M: Machine<S>, R: Read + Drop>(
     node: NodeNo,
 ) -> Result<ReadNext, Result<R::Answer, Refused>>
     requires table { IsAt hand seat.old }
-    requires waits { (r : Reader (hand_calls S.Shape M.Machine hand) R.means) × ReaderWaits r seat.old.me.0.passes run.old (ReadNext.Head above node) }
+    requires waits { (r : Reader (hand_calls S.Shape M.Machine hand) R.means) × ReaderWaits r seat.old.me.0.passes run.old (ReadNext.Load (ReadLoad.Head above node)) }
     ensures table { StaysAtTable seat.old seat.new }
     ensures goes_on { (r : Reader (hand_calls S.Shape M.Machine hand.entry) R.means)
-        → ReaderWaits r seat.old.me.0.passes run.old (ReadNext.Head above node)
+        → ReaderWaits r seat.old.me.0.passes run.old (ReadNext.Load (ReadLoad.Head above node))
         → ReaderGoesOn r seat.new.me.0.passes run.new result }
     ensures steps { seat_steps seat.new.me.0.passes + left_then R.means (shared_nodes hand.entry.layout.now) run.new result
-        ≤ seat_steps seat.old.me.0.passes + left_then R.means (shared_nodes hand.entry.layout.now) run.old (Ok (ReadNext.Head above node)) }
-    ensures nearer { left_then R.means (shared_nodes hand.entry.layout.now) run.new result < left_then R.means (shared_nodes hand.entry.layout.now) run.old (Ok (ReadNext.Head above node)) }
+        ≤ seat_steps seat.old.me.0.passes + left_then R.means (shared_nodes hand.entry.layout.now) run.old (Ok (ReadNext.Load (ReadLoad.Head above node))) }
+    ensures nearer { left_then R.means (shared_nodes hand.entry.layout.now) run.new result
+        < left_then R.means (shared_nodes hand.entry.layout.now) run.old (Ok (ReadNext.Load (ReadLoad.Head above node))) }
 {
-    let part = NodeWord::Settled(SettledPart::Head);
-    let word = read::<S, M, Tree, ReadRun<R>>(hand, seat, node, part);
-    let next = run.read.head_on(Head::of(word), node);
+    let next = match load_on::<S, M, R>(hand, seat, run, ReadLoad::Head { above, node }) {
+        Ok(next) => next,
+        Err(told) => return Err(told),
+    };
     match next {
-        ReadNext::Key { head, node } => read_key::<S, M, R>(hand, seat, run, head, node),
+        ReadNext::Load(ReadLoad::Key { level, node }) => {
+            load_on::<S, M, R>(hand, seat, run, ReadLoad::Key { level, node })
+        }
+        ReadNext::Load(ReadLoad::More { node }) => read_leaf::<S, M, R>(hand, seat, run, node),
+        ReadNext::Load(ReadLoad::Pair { place }) => {
+            read_pairs::<S, M, R>(hand, seat, run, place)
+        }
         _ => Ok(next),
     }
 }
@@ -298,9 +402,7 @@ fn visit_on<S: Shape, M: Machine<S>, R: Read + Drop>(
     ensures nearer { left_then R.means (shared_nodes hand.entry.layout.now) run.new result < left_then R.means (shared_nodes hand.entry.layout.now) run.old (Ok next) }
 {
     match next {
-        ReadNext::Head { above, node } => read_head::<S, M, R>(hand, seat, run, above, node),
-        ReadNext::Key { head, node } => read_key::<S, M, R>(hand, seat, run, head, node),
-        ReadNext::Value { key, node } => read_value::<S, M, R>(hand, seat, run, key, node),
+        ReadNext::Load(load) => load_on::<S, M, R>(hand, seat, run, load),
         ReadNext::Look {
             children,
             level,
@@ -357,8 +459,8 @@ fn go_on<S: Shape, M: Machine<S>, R: Read + Drop>(
     };
     loop {
         match next {
-            ReadNext::Head { above, node } => {
-                let behind = match read_head::<S, M, R>(hand, seat, run, above, node) {
+            ReadNext::Load(ReadLoad::Head { above, node }) => {
+                let behind = match read_node::<S, M, R>(hand, seat, run, above, node) {
                     Ok(behind) => behind,
                     Err(told) => return told,
                 };
@@ -391,8 +493,8 @@ fn from_root<S: Shape, M: Machine<S>, R: Read + Drop>(
     ensures steps { seat_steps seat.new.me.0.passes ≤ seat_steps seat.old.me.0.passes + suc (root_left R.means run.old (shared_nodes hand.entry.layout.now)) }
 {
     let root = NodeNo(0);
-    let part = NodeWord::Settled(SettledPart::Head);
-    let word = read::<S, M, Tree, ReadRun<R>>(hand, seat, root, part);
+    let asked = Word::Node(root, NodeWord::Settled(SettledPart::Head));
+    let word = read::<S, M, Tree, ReadRun<R>>(hand, seat, asked);
     let first = run.read.head_on(Head::of(word), root);
     go_on::<S, M, R>(hand, seat, run, first)
 }

@@ -9,9 +9,10 @@ ghost use Rattle.edits.specs.Steps.{update_left};
 ghost use Rattle.edits.specs.declared.update.Next.{Next};
 ghost use Rattle.edits.specs.declared.update.UpdateAt.{UpdateAt};
 
-use crate::straight::fresh_nodes::{fill_node, load};
+use crate::straight::fresh_nodes::fill_node;
 use crate::straight::hand::Hand;
 use crate::straight::llx::look;
+use crate::straight::reads::read;
 use crate::straight::scx::{self, Change};
 use crate::straight::{helps, resume, walk};
 use crate::view::SeatView;
@@ -135,8 +136,8 @@ fn work_on<S: Shape, M: Machine<S>, E: Edit + Copy>(
             Err(stop) => return Err(stop),
         };
         match now {
-            Next::Load { nth, part } => {
-                next = Ok(load::<S, M, E>(hand, seat, run, found, nth, part));
+            Next::Read { node, part } => {
+                next = Ok(read::<S, M, E>(hand, seat, run, found, node, part));
             }
             Next::Fill(nth) => {
                 next = fill_node::<S, M, E>(hand, seat, run, found, nth);

@@ -1,5 +1,5 @@
 //! Walks down the tree, of whatever machine walks.
-ghost use Rattle.std.specs.Prelude.{◌≡◌, ◌≤◌, ◌+◌, ◌*◌, ◌==◌, ℕ, suc, true, if◌then◌else◌, nat_lt, IfOk, IfErr};
+ghost use Rattle.std.specs.Prelude.{◌≡◌, ◌≤◌, ◌+◌, ◌*◌, ℕ, suc, true, if◌then◌else◌, nat_lt, IfOk, IfErr};
 ghost use Rattle.arena.specs.Heads.{head_of};
 ghost use Rattle.arena.specs.Layout.{node_start};
 ghost use Rattle.arena.specs.declared.number.NodeNo.{NodeNo};
@@ -21,6 +21,7 @@ use arena::{
     Access, Head, Kind, Machine, NodeNo, NodeWord, SettledPart, Shape, Side, Slot, Step, Word,
 };
 use atomic_table::Seat;
+use ordered_map::{slot_behind, wide_value};
 use template::{Found, Goal, Trail, WalkAt};
 
 /// Loads a word of a node that begins there.
@@ -73,29 +74,113 @@ fn is_leaf(word: u64) -> bool
     word / 4 % 2 == 1
 }
 
-/// Whether the walk loads the key of a node with the head in this word.
+/// Whether the walk loads the key of a fork with the head in this word.
 #[inline(always)]
 fn asks_key(goal: Goal, word: u64) -> bool
     ensures { result ≡ asks_key goal (head_of word) }
 {
     match goal {
         Goal::Key(_) => word % 4 == 0,
-        Goal::Least => word % 4 == 0 && is_leaf(word),
+        Goal::Least => false,
     }
 }
 
-/// Whether the walk tells the value of a leaf of class 0 with this key.
+/// The key of which the walk tells at a leaf, where this is the one that it has read there.
 #[inline(always)]
-fn asks_value(goal: Goal, key: u64) -> bool
-    ensures { result ≡ (asked_key goal key == key) }
+fn asked_key(goal: Goal, key: u64) -> u64
+    ensures { result ≡ asked_key goal key }
 {
     match goal {
-        Goal::Key(wanted) => wanted == key,
-        Goal::Least => true,
+        Goal::Key(wanted) => wanted,
+        Goal::Least => key,
     }
 }
 
-/// Ends at a leaf of class 0 that begins there and has this key.
+/// Ends at the pair in this slot of a leaf that begins there, of which it tells: with the two words
+/// of its value.
+#[inline(always)]
+fn end_with<S: Shape, M: Machine<S>>(
+    hand: Hand<S>,
+    seat: &mut Seat<u8, SeatView>,
+    goal: Goal,
+    trail: Trail,
+    start: usize,
+    head: Head,
+    more: u64,
+    slot: Slot,
+    key: u64,
+) -> Found
+    requires table { IsAt hand seat.old }
+    requires start { start ≡ node_start trail.node }
+    requires asked { asked_key goal key ≡ key }
+    requires told { (w : Walker (hand_calls S.Shape M.Machine hand)) × (turn : NodeNo)
+        × WalkerIsTold w seat.old.me.0.passes (walk_at goal trail (WalkAt.Pair head more slot)) turn key }
+    ensures table { StaysAtTable seat.old seat.new }
+    ensures steps { seat_steps seat.new.me.0.passes ≡ seat_steps seat.old.me.0.passes + 2 }
+    ensures finds { (w : Walker (hand_calls S.Shape M.Machine hand.entry)) (turn : NodeNo)
+        → WalkerIsTold w seat.old.me.0.passes (walk_at goal trail (WalkAt.Pair head more slot)) turn key
+        → WalkerFinds w seat.new.me.0.passes goal turn result }
+{
+    let kind = Kind::LoadSettled;
+    let part = NodeWord::Settled(SettledPart::Value(slot));
+    let low = read::<S, M>(hand, seat, kind, trail.node, start, part);
+    let part = NodeWord::Settled(SettledPart::High(slot));
+    let high = read::<S, M>(hand, seat, kind, trail.node, start, part);
+    Found {
+        trail,
+        head,
+        more,
+        key,
+        value: Some(wide_value(low, high)),
+    }
+}
+
+/// Ends at a leaf of class 0 that begins there and has so many pairs behind its first: it loads the
+/// keys in order up to the first that is not below the walk's, or the last.
+#[inline(always)]
+fn end_among<S: Shape, M: Machine<S>>(
+    hand: Hand<S>,
+    seat: &mut Seat<u8, SeatView>,
+    goal: Goal,
+    trail: Trail,
+    start: usize,
+    head: Head,
+    more: u64,
+) -> Found
+    requires table { IsAt hand seat.old }
+    requires start { start ≡ node_start trail.node }
+    requires told { (w : Walker (hand_calls S.Shape M.Machine hand)) × (turn : NodeNo)
+        × WalkerIsTold w seat.old.me.0.passes (walk_at goal trail (WalkAt.More head)) turn more }
+    ensures table { StaysAtTable seat.old seat.new }
+    ensures steps { seat_steps seat.new.me.0.passes ≤ seat_steps seat.old.me.0.passes + 6 }
+    ensures finds { (w : Walker (hand_calls S.Shape M.Machine hand.entry)) (turn : NodeNo)
+        → WalkerIsTold w seat.old.me.0.passes (walk_at goal trail (WalkAt.More head)) turn more
+        → WalkerFinds w seat.new.me.0.passes goal turn result }
+{
+    let mut slot = Slot::First;
+    loop {
+        let (kind, part) = (Kind::LoadSettled, NodeWord::Settled(SettledPart::Key(slot)));
+        let key = read::<S, M>(hand, seat, kind, trail.node, start, part);
+        let asked = asked_key(goal, key);
+        if asked == key {
+            return end_with::<S, M>(hand, seat, goal, trail, start, head, more, slot, key);
+        }
+        match slot_behind(more, slot) {
+            Some(next) if key < asked => slot = next,
+            _ => {
+                return Found {
+                    trail,
+                    head,
+                    more,
+                    key: asked,
+                    value: None,
+                };
+            }
+        }
+    }
+}
+
+/// Ends at a leaf that begins there: among its pairs, or at once where it is above all keys.
 #[inline(always)]
 fn end<S: Shape, M: Machine<S>>(
     hand: Hand<S>,
@@ -103,37 +188,32 @@ fn end<S: Shape, M: Machine<S>>(
     goal: Goal,
     trail: Trail,
     start: usize,
-    head: Head,
-    key: u64,
+    at: WalkAt,
+    word: u64,
 ) -> Found
+    requires place { LoadsHead at }
     requires table { IsAt hand seat.old }
     requires start { start ≡ node_start trail.node }
-    requires leaf { head.leaf ≡ true }
+    requires leaf { (head_of word).leaf ≡ true }
     requires told { (w : Walker (hand_calls S.Shape M.Machine hand)) × (turn : NodeNo)
-        × WalkerIsTold w seat.old.me.0.passes (walk_at goal trail (WalkAt.Key head)) turn key }
+        × WalkerIsTold w seat.old.me.0.passes (walk_at goal trail at) turn word }
     ensures table { StaysAtTable seat.old seat.new }
-    ensures steps { seat_steps seat.new.me.0.passes ≤ seat_steps seat.old.me.0.passes + 1 }
+    ensures steps { seat_steps seat.new.me.0.passes ≤ seat_steps seat.old.me.0.passes + 7 }
     ensures finds { (w : Walker (hand_calls S.Shape M.Machine hand.entry)) (turn : NodeNo)
-        → WalkerIsTold w seat.old.me.0.passes (walk_at goal trail (WalkAt.Key head)) turn key
+        → WalkerIsTold w seat.old.me.0.passes (walk_at goal trail at) turn word
         → WalkerFinds w seat.new.me.0.passes goal turn result }
 {
-    if asks_value(goal, key) {
-        let (kind, part) = (
-            Kind::LoadSettled,
-            NodeWord::Settled(SettledPart::Value(Slot::First)),
-        );
-        let value = read::<S, M>(hand, seat, kind, trail.node, start, part);
-        return Found {
-            trail,
-            head,
-            key,
-            value: Some(value),
-        };
+    let head = Head::of(word);
+    if head.class == 0 {
+        let (kind, part) = (Kind::LoadSettled, NodeWord::Settled(SettledPart::More));
+        let more = read::<S, M>(hand, seat, kind, trail.node, start, part);
+        return end_among::<S, M>(hand, seat, goal, trail, start, head, more);
     }
     Found {
         trail,
         head,
-        key,
+        more: 0,
+        key: asked_key(goal, 0),
         value: None,
     }
 }
@@ -157,7 +237,7 @@ fn pass<S: Shape, M: Machine<S>>(
         × WalkerIsTold w seat.old.me.0.passes (walk_at goal trail at) turn word }
     ensures table { StaysAtTable seat.old seat.new }
     ensures steps { IfOk result (λ _. seat_steps seat.new.me.0.passes ≤ seat_steps seat.old.me.0.passes + 1) }
-    ensures last_steps { IfErr result (λ _. seat_steps seat.new.me.0.passes ≤ seat_steps seat.old.me.0.passes + 2) }
+    ensures last_steps { IfErr result (λ _. seat_steps seat.new.me.0.passes ≤ seat_steps seat.old.me.0.passes + 7) }
     ensures down { IfOk result (λ side. (w : Walker (hand_calls S.Shape M.Machine hand.entry)) (turn : NodeNo)
         → WalkerIsTold w seat.old.me.0.passes (walk_at goal trail at) turn word
         → WalkerGoesDown w seat.new.me.0.passes goal trail (head_of word).level side turn) }
@@ -165,25 +245,16 @@ fn pass<S: Shape, M: Machine<S>>(
         → WalkerIsTold w seat.old.me.0.passes (walk_at goal trail at) turn word
         → WalkerFinds w seat.new.me.0.passes goal turn found) }
 {
-    let head = Head::of(word);
+    if is_leaf(word) {
+        return Err(end::<S, M>(hand, seat, goal, trail, start, at, word));
+    }
     if asks_key(goal, word) {
         let (kind, part) = (
             Kind::LoadSettled,
             NodeWord::Settled(SettledPart::Key(Slot::First)),
         );
         let key = read::<S, M>(hand, seat, kind, trail.node, start, part);
-        if is_leaf(word) {
-            return Err(end::<S, M>(hand, seat, goal, trail, start, head, key));
-        }
         return Ok(side_of(goal, key));
-    }
-    if is_leaf(word) {
-        return Err(Found {
-            trail,
-            head,
-            key: 0,
-            value: None,
-        });
     }
     Ok(Side::Left)
 }
@@ -212,7 +283,7 @@ pub(crate) fn call<S: Shape, M: Machine<S>>(
     requires table { IsAt hand seat.old }
     requires waits { (w : Walker (hand_calls S.Shape M.Machine hand)) × WalksFromRoot w seat.old.me.0.passes goal }
     ensures table { StaysAtTable seat.old seat.new }
-    ensures steps { seat_steps seat.new.me.0.passes ≤ seat_steps seat.old.me.0.passes + 3 * (2 + shared_nodes hand.entry.layout.now) }
+    ensures steps { seat_steps seat.new.me.0.passes ≤ seat_steps seat.old.me.0.passes + (3 * (2 + shared_nodes hand.entry.layout.now) + 5) }
     ensures finds { (w : Walker (hand_calls S.Shape M.Machine hand.entry))
         → WalksFromRoot w seat.old.me.0.passes goal
         → WalkerFinds w seat.new.me.0.passes goal result.1 result.0 }

@@ -27,7 +27,7 @@ invariant_of-pass g c =
     let begun = get_walks g.K.WordKey.is_valid g.K.WordKey.word_of g.V.WordValue.is_valid g.V.WordValue.word_of c.pass.inside c.pass.invariant c.self.inside.tries c.word.result c.taken-number.result c.self.inside.layout lay named small in
     let found = c.call.ensures.finds w begun in
     let m = getting c.pass.inside.share c.self.inside.tries c.word.result found.last in
-    let ended = get_has_ended g.K.WordKey.is_valid g.K.WordKey.word_of g.V.WordValue.is_valid g.V.WordValue.word_of c.pass.inside c.pass.invariant c.call.new.seat c.self.inside.tries c.word.result c.taken-number.result c.self.inside.layout lay named c.call.result.1 c.call.result.0 c.value_of.result c.value_of.ensures.valid c.value_of.ensures.word found in
+    let ended = get_has_ended g.K.WordKey.is_valid g.K.WordKey.word_of g.V.WordValue.is_valid g.V.WordValue.word_of c.pass.inside c.pass.invariant c.call.new.seat c.self.inside.tries c.word.result c.taken-number.result c.self.inside.layout lay named c.call.result.1 c.call.result.0 c.value_of.result c.value_of.ensures.valid c.value_of.ensures.number found in
     dict_pass g.K.WordKey.is_valid g.K.WordKey.word_of g.V.WordValue.is_valid g.V.WordValue.word_of c.pass.inside c.pass.invariant c.call.new.seat m (Value c.value_of.result) ended c.call.ensures.table.1
 
 pub returns-clause-goes_on : goal.returns-clause-goes_on
@@ -39,10 +39,10 @@ returns-clause-goes_on g c =
     let begun = get_walks g.K.WordKey.is_valid g.K.WordKey.word_of g.V.WordValue.is_valid g.V.WordValue.word_of c.pass.inside c.pass.invariant c.self.inside.tries c.word.result c.taken-number.result c.self.inside.layout lay named small in
     let found = c.call.ensures.finds w begun in
     let m = getting c.pass.inside.share c.self.inside.tries c.word.result found.last in
-    let ended = get_has_ended g.K.WordKey.is_valid g.K.WordKey.word_of g.V.WordValue.is_valid g.V.WordValue.word_of c.pass.inside c.pass.invariant c.call.new.seat c.self.inside.tries c.word.result c.taken-number.result c.self.inside.layout lay named c.call.result.1 c.call.result.0 c.value_of.result c.value_of.ensures.valid c.value_of.ensures.word found in
+    let ended = get_has_ended g.K.WordKey.is_valid g.K.WordKey.word_of g.V.WordValue.is_valid g.V.WordValue.word_of c.pass.inside c.pass.invariant c.call.new.seat c.self.inside.tries c.word.result c.taken-number.result c.self.inside.layout lay named c.call.result.1 c.call.result.0 c.value_of.result c.value_of.ensures.valid c.value_of.ensures.number found in
     let layout_is = ap (λ (f : Ground). f.layout) (sym c.self.view_is) in
     let nodes = shared_nodes c.self.inside.layout in
-    rw (← c.pass.view_is, layout_is) (dict_goes_on g.K.WordKey.is_valid g.K.WordKey.word_of g.V.WordValue.is_valid g.V.WordValue.word_of c.pass.inside c.pass.invariant c.call.new.seat m (Value c.value_of.result) ended (3 * (2 + nodes)) (3 * (2 + nodes)) c.call.ensures.table.0 c.call.ensures.steps (omega arith))
+    rw (← c.pass.view_is, layout_is) (dict_goes_on g.K.WordKey.is_valid g.K.WordKey.word_of g.V.WordValue.is_valid g.V.WordValue.word_of c.pass.inside c.pass.invariant c.call.new.seat m (Value c.value_of.result) ended (3 * (2 + nodes) + 5) (3 * (2 + nodes) + 5) c.call.ensures.table.0 c.call.ensures.steps (omega arith))
 
 pub returns-clause-spends : goal.returns-clause-spends
 returns-clause-spends g c =
@@ -53,7 +53,7 @@ returns-clause-spends g c =
     let begun = get_walks g.K.WordKey.is_valid g.K.WordKey.word_of g.V.WordValue.is_valid g.V.WordValue.word_of c.pass.inside c.pass.invariant c.self.inside.tries c.word.result c.taken-number.result c.self.inside.layout lay named small in
     let found = c.call.ensures.finds w begun in
     let m = getting c.pass.inside.share c.self.inside.tries c.word.result found.last in
-    let ended = get_has_ended g.K.WordKey.is_valid g.K.WordKey.word_of g.V.WordValue.is_valid g.V.WordValue.word_of c.pass.inside c.pass.invariant c.call.new.seat c.self.inside.tries c.word.result c.taken-number.result c.self.inside.layout lay named c.call.result.1 c.call.result.0 c.value_of.result c.value_of.ensures.valid c.value_of.ensures.word found in
+    let ended = get_has_ended g.K.WordKey.is_valid g.K.WordKey.word_of g.V.WordValue.is_valid g.V.WordValue.word_of c.pass.inside c.pass.invariant c.call.new.seat c.self.inside.tries c.word.result c.taken-number.result c.self.inside.layout lay named c.call.result.1 c.call.result.0 c.value_of.result c.value_of.ensures.valid c.value_of.ensures.number found in
     let tries_is = ap (λ (f : Ground). f.tries) (sym c.self.view_is) in
     rw (← c.pass.view_is, ← c.word.ensures, tries_is) (dict_spends g.K.WordKey.is_valid g.K.WordKey.word_of g.V.WordValue.is_valid g.V.WordValue.word_of c.pass.inside c.pass.invariant c.call.new.seat m (Value c.value_of.result) ended)
 
@@ -66,7 +66,7 @@ returns-clause-says g c =
     let begun = get_walks g.K.WordKey.is_valid g.K.WordKey.word_of g.V.WordValue.is_valid g.V.WordValue.word_of c.pass.inside c.pass.invariant c.self.inside.tries c.word.result c.taken-number.result c.self.inside.layout lay named small in
     let found = c.call.ensures.finds w begun in
     let m = getting c.pass.inside.share c.self.inside.tries c.word.result found.last in
-    let ended = get_has_ended g.K.WordKey.is_valid g.K.WordKey.word_of g.V.WordValue.is_valid g.V.WordValue.word_of c.pass.inside c.pass.invariant c.call.new.seat c.self.inside.tries c.word.result c.taken-number.result c.self.inside.layout lay named c.call.result.1 c.call.result.0 c.value_of.result c.value_of.ensures.valid c.value_of.ensures.word found in
+    let ended = get_has_ended g.K.WordKey.is_valid g.K.WordKey.word_of g.V.WordValue.is_valid g.V.WordValue.word_of c.pass.inside c.pass.invariant c.call.new.seat c.self.inside.tries c.word.result c.taken-number.result c.self.inside.layout lay named c.call.result.1 c.call.result.0 c.value_of.result c.value_of.ensures.valid c.value_of.ensures.number found in
     rw (← c.pass.view_is, ← c.word.ensures) (dict_tells g.K.WordKey.is_valid g.K.WordKey.word_of g.V.WordValue.is_valid g.V.WordValue.word_of c.pass.inside c.pass.invariant c.call.new.seat m (Value c.value_of.result) ended)
 
 pub returns-clause-kinds : goal.returns-clause-kinds
@@ -76,4 +76,4 @@ returns-clause-kinds g c =
     let small = subst (λ (n : ℕ). n < 2 ^ 64) (sym c.word.ensures) (g.met.K.WordKey.fits c.args.key.now c.valid.ensures) in
     let w = walker g.K.WordKey.is_valid g.K.WordKey.word_of g.V.WordValue.is_valid g.V.WordValue.word_of c.pass.inside.share c.self.inside.tries c.word.result (call_of c.pass.inside c.pass.invariant (taken_of (pass_view c.pass.inside))) c.self.inside.layout c.taken-number.result lay named in
     let begun = get_walks g.K.WordKey.is_valid g.K.WordKey.word_of g.V.WordValue.is_valid g.V.WordValue.word_of c.pass.inside c.pass.invariant c.self.inside.tries c.word.result c.taken-number.result c.self.inside.layout lay named small in
-    rw (← c.pass.view_is) (get_kinds g.K.WordKey.is_valid g.K.WordKey.word_of g.V.WordValue.is_valid g.V.WordValue.word_of c.pass.inside c.pass.invariant c.call.new.seat c.self.inside.tries c.word.result c.taken-number.result c.self.inside.layout lay named c.call.result.1 c.call.result.0 c.value_of.result c.value_of.ensures.valid c.value_of.ensures.word (c.call.ensures.finds w begun))
+    rw (← c.pass.view_is) (get_kinds g.K.WordKey.is_valid g.K.WordKey.word_of g.V.WordValue.is_valid g.V.WordValue.word_of c.pass.inside c.pass.invariant c.call.new.seat c.self.inside.tries c.word.result c.taken-number.result c.self.inside.layout lay named c.call.result.1 c.call.result.0 c.value_of.result c.value_of.ensures.valid c.value_of.ensures.number (c.call.ensures.finds w begun))

@@ -1,31 +1,29 @@
-use Rattle.std.proofs.Common.{◌<◌, arith}
-use Rattle.order.specs.Places.{placed}
-use Rattle.order.specs.declared.read.ReadNext.TheVariants.{Value}
-use Rattle.forest.specs.Traces.{shared_nodes}
-use Rattle.order.specs.Steps.{read_left}
-use Rattle.forest.proofs.StraightReads.{less_left, one_step, value_goes_on, value_last, value_lighter}
-use Rattle.forest.proofs.straight.ordered_read.read_value.Given.{Over}
-use Rattle.forest.proofs.straight.ordered_read.read_value.Goals.{In-Ok}
+use Rattle.std.proofs.Common.{◌∙◌, ap, arith}
+use Rattle.order.specs.declared.load.ReadLoad.TheVariants.{High}
+use Rattle.order.specs.declared.read.ReadNext.TheVariants.{Load}
+use Rattle.forest.proofs.StraightReads.{nearer_as, steps_as}
 use Rattle.forest.proofs.straight.ordered_read.read_value.Goals as goal
 
-pub read-value-requires-clause-waits : goal.read-value-requires-clause-waits
-read-value-requires-clause-waits g c = let w = c.requires.waits in (w.0, placed c.args.run.now (Value c.args.key c.args.node), w.1)
+pub load_on-requires-clause-waits : goal.load_on-requires-clause-waits
+load_on-requires-clause-waits g c = c.requires.waits
 
-pub returns-in-Ok-clause-goes_on : goal.returns-in-Ok-clause-goes_on
-returns-in-Ok-clause-goes_on g c = λ r x. value_goes_on r c.args.run.now c.value_on.new.self c.value_on.ensures.same _ c.args.key c.args.node c.read-value.result c.in-Ok.next (rw c.in-Ok.is at c.value_on.ensures.goes_on) (c.read-value.ensures.told r (placed c.args.run.now (Value c.args.key c.args.node)) x)
+pub load_on-requires-in-Load-High-clause-waits : goal.load_on-requires-in-Load-High-clause-waits
+load_on-requires-in-Load-High-clause-waits g c = let w = c.requires.waits in (w.0, rw (c.in-Load-High.is ∙ ap Load (rw c.in-Load-High.is at c.in-Load-High.field-0-is)) at (c.in-Ok.ensures.goes_on w.0 w.1))
 
--- behind its value it has fewer steps left
-lighter : (g : Over) (c : In-Ok g) → read_left g.R.Read.means (placed (record c.args.run.now { read = c.value_on.new.self }) c.in-Ok.next) (shared_nodes c.args.hand.layout.now) < read_left g.R.Read.means (placed c.args.run.now (Value c.args.key c.args.node)) (shared_nodes c.args.hand.layout.now)
-lighter g c = let w = c.requires.waits in value_lighter w.0 c.args.run.now c.value_on.new.self c.value_on.ensures.same _ c.args.key c.args.node c.read-value.result c.in-Ok.next (rw c.in-Ok.is at c.value_on.ensures.goes_on) (rw c.in-Ok.is at c.value_on.ensures.nearer) (c.read-value.ensures.told w.0 (placed c.args.run.now (Value c.args.key c.args.node)) w.1)
+pub returns-in-Load-High-clause-goes_on : goal.returns-in-Load-High-clause-goes_on
+returns-in-Load-High-clause-goes_on g c = λ r x. c.load_on-in-Load-High.ensures.goes_on r (rw (c.in-Load-High.is ∙ ap Load (rw c.in-Load-High.is at c.in-Load-High.field-0-is)) at (c.in-Ok.ensures.goes_on r x))
 
-pub returns-in-Ok-clause-steps : goal.returns-in-Ok-clause-steps
-returns-in-Ok-clause-steps g c = one_step _ _ _ _ c.read-value.ensures.one (lighter g (goal.at.returns-in-Ok-clause-steps g c).In-Ok)
+pub returns-in-Load-High-clause-steps : goal.returns-in-Load-High-clause-steps
+returns-in-Load-High-clause-steps g c = let a = c.in-Ok.ensures.steps in let b = steps_as g.R.Read.means c.load_on.new.run _ (Load (High c.in-Load-High.place c.in-Load-High.key c.in-Load-High.low)) _ _ _ (c.in-Load-High.is ∙ ap Load (rw c.in-Load-High.is at c.in-Load-High.field-0-is)) c.load_on-in-Load-High.ensures.steps in omega (arith, a, b)
 
-pub returns-in-Ok-clause-nearer : goal.returns-in-Ok-clause-nearer
-returns-in-Ok-clause-nearer g c = less_left _ _ (lighter g (goal.at.returns-in-Ok-clause-nearer g c).In-Ok)
+pub returns-in-Load-High-clause-nearer : goal.returns-in-Load-High-clause-nearer
+returns-in-Load-High-clause-nearer g c = let a = c.in-Ok.ensures.nearer in let b = nearer_as g.R.Read.means c.load_on.new.run _ (Load (High c.in-Load-High.place c.in-Load-High.key c.in-Load-High.low)) _ _ (c.in-Load-High.is ∙ ap Load (rw c.in-Load-High.is at c.in-Load-High.field-0-is)) c.load_on-in-Load-High.ensures.nearer in omega (arith, a, b)
 
-pub returns-in-Err-clause-goes_on : goal.returns-in-Err-clause-goes_on
-returns-in-Err-clause-goes_on g c = λ r x. value_last r c.args.run.now c.value_on.new.self c.value_on.ensures.same _ c.args.key c.args.node c.read-value.result c.in-Err.refused (rw c.in-Err.is at c.value_on.ensures.goes_on) (c.read-value.ensures.told r (placed c.args.run.now (Value c.args.key c.args.node)) x)
+pub returns-in_default-clause-goes_on : goal.returns-in_default-clause-goes_on
+returns-in_default-clause-goes_on g c = λ r x. c.in-Ok.ensures.goes_on r x
 
-pub returns-in-Err-clause-steps : goal.returns-in-Err-clause-steps
-returns-in-Err-clause-steps g c = let one = c.read-value.ensures.one in omega (arith, one)
+pub returns-in_default-clause-steps : goal.returns-in_default-clause-steps
+returns-in_default-clause-steps g c = c.in-Ok.ensures.steps
+
+pub returns-in_default-clause-nearer : goal.returns-in_default-clause-nearer
+returns-in_default-clause-nearer g c = c.in-Ok.ensures.nearer

@@ -1,22 +1,22 @@
 use Rattle.std.proofs.Common.{◌∙◌, ap, arith}
 use Rattle.std.specs.Prelude.{Ok, Err}
 use Rattle.forest.specs.Traces.{shared_nodes}
-use Rattle.edits.specs.declared.update.Next.TheVariants.{Load, Fill}
+use Rattle.edits.specs.declared.update.Next.TheVariants.{Read, Fill}
 use Rattle.forest.proofs.StraightUpdate.{goes_as, left_as, fewer_as}
 use Rattle.forest.proofs.straight.update.work_on.Goals as goal
 
-pub load-requires-clause-tries : goal.load-requires-clause-tries
-load-requires-clause-tries g c = let r = c.requires.goes_on in (r.0, (goes_as r.0 _ c.loop-next.run c.args.found.now c.loop-next.next (Ok (Load c.in-Load.nth c.in-Load.part)) (c.in-Ok.is ∙ ap (λ n. Ok n) c.in-Load.is) (c.loop-next.invariant.goes_on r.0 r.1)))
+pub read-requires-clause-tries : goal.read-requires-clause-tries
+read-requires-clause-tries g c = let r = c.requires.goes_on in (r.0, (goes_as r.0 _ c.loop-next.run c.args.found.now c.loop-next.next (Ok (Read c.in-Read.node c.in-Read.part)) (c.in-Ok.is ∙ ap (λ n. Ok n) c.in-Read.is) (c.loop-next.invariant.goes_on r.0 r.1)))
 
-pub loop-next-preserved-in-Load : goal.loop-next-preserved-in-Load
-loop-next-preserved-in-Load g c = record {
-  here = (c.load.ensures.table.0 ∙ c.loop-next.invariant.here.0, c.load.ensures.table.1 ∙ c.loop-next.invariant.here.1);
-  steps = left_as g.E.Edit.means c.loop-next.run c.args.found.now c.loop-next.next (Ok (Load c.in-Load.nth c.in-Load.part)) (c.in-Ok.is ∙ ap (λ n. Ok n) c.in-Load.is) (shared_nodes c.args.hand.layout.now) _ _ _ c.load.ensures.steps c.loop-next.invariant.steps;
-  goes_on = λ u x. c.load.ensures.goes_on u (goes_as u _ c.loop-next.run c.args.found.now c.loop-next.next (Ok (Load c.in-Load.nth c.in-Load.part)) (c.in-Ok.is ∙ ap (λ n. Ok n) c.in-Load.is) (c.loop-next.invariant.goes_on u x));
+pub loop-next-preserved-in-Read : goal.loop-next-preserved-in-Read
+loop-next-preserved-in-Read g c = record {
+  here = (c.read.ensures.table.0 ∙ c.loop-next.invariant.here.0, c.read.ensures.table.1 ∙ c.loop-next.invariant.here.1);
+  steps = left_as g.E.Edit.means c.loop-next.run c.args.found.now c.loop-next.next (Ok (Read c.in-Read.node c.in-Read.part)) (c.in-Ok.is ∙ ap (λ n. Ok n) c.in-Read.is) (shared_nodes c.args.hand.layout.now) _ _ _ c.read.ensures.steps c.loop-next.invariant.steps;
+  goes_on = λ u x. c.read.ensures.goes_on u (goes_as u _ c.loop-next.run c.args.found.now c.loop-next.next (Ok (Read c.in-Read.node c.in-Read.part)) (c.in-Ok.is ∙ ap (λ n. Ok n) c.in-Read.is) (c.loop-next.invariant.goes_on u x));
 }
 
-pub loop-next-smaller-in-Load : goal.loop-next-smaller-in-Load
-loop-next-smaller-in-Load g c = fewer_as g.E.Edit.means c.loop-next.run c.args.found.now c.loop-next.next (Ok (Load c.in-Load.nth c.in-Load.part)) (c.in-Ok.is ∙ ap (λ n. Ok n) c.in-Load.is) (shared_nodes c.args.hand.layout.now) _ c.load.ensures.nearer
+pub loop-next-smaller-in-Read : goal.loop-next-smaller-in-Read
+loop-next-smaller-in-Read g c = fewer_as g.E.Edit.means c.loop-next.run c.args.found.now c.loop-next.next (Ok (Read c.in-Read.node c.in-Read.part)) (c.in-Ok.is ∙ ap (λ n. Ok n) c.in-Read.is) (shared_nodes c.args.hand.layout.now) _ c.read.ensures.nearer
 
 pub fill_node-next-requires-clause-tries : goal.fill_node-next-requires-clause-tries
 fill_node-next-requires-clause-tries g c = let r = c.requires.goes_on in (r.0, (goes_as r.0 _ c.loop-next.run c.args.found.now c.loop-next.next (Ok (Fill c.in-Fill.nth)) (c.in-Ok.is ∙ ap (λ n. Ok n) c.in-Fill.is) (c.loop-next.invariant.goes_on r.0 r.1)))

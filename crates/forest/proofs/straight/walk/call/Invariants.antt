@@ -17,7 +17,7 @@ invariant-loop-side g l = record {
   here : (l.seat.table_id ≡ l.fn.seat.table_id) × (l.seat.me.1 ≡ l.fn.seat.me.1);
   place : LoadsHead l.at;
   start : l.start ≡ node_start l.trail.node;
-  steps : seat_steps l.seat.me.0.passes + suc (walk_left l.at (shared_nodes l.fn.hand.layout.now)) ≤ seat_steps l.fn.seat.me.0.passes + 3 * (2 + shared_nodes l.fn.hand.layout.now);
+  steps : seat_steps l.seat.me.0.passes + suc (walk_left l.at (shared_nodes l.fn.hand.layout.now)) ≤ seat_steps l.fn.seat.me.0.passes + (3 * (2 + shared_nodes l.fn.hand.layout.now) + 5);
   waits : (w : Walker (calls g.S.Shape g.M.Machine l.fn.hand.layout.now l.fn.hand.number))
       → WalksFromRoot w l.fn.seat.me.0.passes l.goal
       → WalkerWaits w l.seat.me.0.passes (walk_at l.goal l.trail l.at) l.turn (load LoadSettled (node l.trail.node.0 (Settled Head)));

@@ -1,22 +1,35 @@
-use Rattle.std.proofs.Common.{◌∙◌, eqb-true, sym}
-use Rattle.std.proofs.lemmas.Bool.{eqb-false}
-use Rattle.template.specs.FoundLeaf.{asked_key}
+use Rattle.std.proofs.Common.{◌≡◌, true, sym, arith}
+use Rattle.arena.specs.declared.number.NodeNo.{NodeNo}
 use Rattle.template.specs.Walk.Places.{walk_at}
-use Rattle.template.specs.declared.walk.WalkAt.TheVariants.{Value}
-use Rattle.forest.proofs.StraightWalk.{to_value, finds_other, finds_value}
+use Rattle.template.specs.declared.walk.WalkAt.TheVariants.{More}
+use Rattle.forest.specs.CallKinds.{calls}
+use Rattle.forest.specs.StraightWalk.{Walker, WalkerIsTold}
+use Rattle.forest.proofs.StraightWalk.{to_more, finds_none}
+use Rattle.forest.proofs.straight.walk.end.Given.{Over}
+use Rattle.forest.proofs.straight.walk.end.Goals.{After-of-head, After-read-more}
 use Rattle.forest.proofs.straight.walk.end.Goals as goal
 
-pub read-value-requires-clause-waits : goal.read-value-requires-clause-waits
-read-value-requires-clause-waits g c =
-    let r = c.requires.told in
-    let own = eqb-true (asked_key c.args.goal c.args.key) c.args.key (sym c.asks_value.ensures ∙ c.if-asks_value.true) in
-    (r.0, walk_at c.args.goal c.args.trail (Value c.args.head c.args.key), r.1, to_value r.0 _ c.args.goal c.args.trail r.1 c.args.head c.args.key c.requires.leaf own r.2)
+leaf : (g : Over) (c : After-of-head g) → c.of-head.result.leaf ≡ true
+leaf g c = rw c.of-head.ensures c.requires.leaf
 
-pub returns-then-asks_value-clause-finds : goal.returns-then-asks_value-clause-finds
-returns-then-asks_value-clause-finds g c = λ w turn x.
-    let own = eqb-true (asked_key c.args.goal c.args.key) c.args.key (sym c.asks_value.ensures ∙ c.if-asks_value.true) in
-    finds_value w _ c.args.goal c.args.trail turn c.args.head c.args.key c.read-value.result
-    (c.read-value.ensures.told w (walk_at c.args.goal c.args.trail (Value c.args.head c.args.key)) turn (to_value w _ c.args.goal c.args.trail turn c.args.head c.args.key c.requires.leaf own x))
+-- whichever call it is, the count has been told
+told : (g : Over) (c : After-read-more g) (w : Walker (calls g.S.Shape g.M.Machine c.args.hand.layout.now c.args.hand.number)) (turn : NodeNo)
+    → WalkerIsTold w c.args.seat.now.me.0.passes (walk_at c.args.goal c.args.trail c.args.at) turn c.args.word
+    → WalkerIsTold w c.read-more.new.seat.me.0.passes (walk_at c.args.goal c.args.trail (More c.of-head.result)) turn c.read-more.result
+told g c w turn x = c.read-more.ensures.told w (walk_at c.args.goal c.args.trail (More c.of-head.result)) turn (to_more w _ c.args.goal c.args.trail turn c.args.at c.args.word c.of-head.result c.requires.place (sym c.of-head.ensures) (leaf g (goal.at.read-more-requires-clause-waits g c.before).After-of-head) c.if-head-eq0.true x)
+
+pub read-more-requires-clause-waits : goal.read-more-requires-clause-waits
+read-more-requires-clause-waits g c = let r = c.requires.told in
+    (r.0, walk_at c.args.goal c.args.trail (More c.of-head.result), r.1, to_more r.0 _ c.args.goal c.args.trail r.1 c.args.at c.args.word c.of-head.result c.requires.place (sym c.of-head.ensures) (leaf g (goal.at.read-more-requires-clause-waits g c).After-of-head) c.if-head-eq0.true r.2)
+
+pub end_among-requires-clause-told : goal.end_among-requires-clause-told
+end_among-requires-clause-told g c = let r = c.requires.told in (r.0, r.1, told g (goal.at.end_among-requires-clause-told g c).After-read-more r.0 r.1 r.2)
+
+pub returns-then-head-eq0-clause-finds : goal.returns-then-head-eq0-clause-finds
+returns-then-head-eq0-clause-finds g c = λ w turn x. c.end_among.ensures.finds w turn (told g (goal.at.returns-then-head-eq0-clause-finds g c).After-read-more w turn x)
+
+pub returns-then-head-eq0-clause-steps : goal.returns-then-head-eq0-clause-steps
+returns-then-head-eq0-clause-steps g c = let one = c.read-more.ensures.one in let more = c.end_among.ensures.steps in omega (arith, one, more)
 
 pub returns-clause-finds : goal.returns-clause-finds
-returns-clause-finds g c = λ w turn x. finds_other w _ c.args.goal c.args.trail turn c.args.head c.args.key c.requires.leaf (eqb-false (asked_key c.args.goal c.args.key) c.args.key (sym c.asks_value.ensures ∙ c.if-asks_value.false)) x
+returns-clause-finds g c = λ w turn x. rw c.asked_key.ensures (finds_none w _ c.args.goal c.args.trail turn c.args.at c.args.word c.of-head.result c.requires.place (sym c.of-head.ensures) (leaf g (goal.at.returns-clause-finds g c).After-of-head) c.if-head-eq0.false x)

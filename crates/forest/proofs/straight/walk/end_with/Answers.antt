@@ -1,0 +1,28 @@
+use Rattle.template.specs.Walk.Places.{walk_at}
+use Rattle.template.specs.declared.walk.WalkAt.TheVariants.{Pair, Value, High}
+use Rattle.forest.specs.StraightWalk.{Walker, WalkerIsTold}
+use Rattle.forest.specs.CallKinds.{calls}
+use Rattle.arena.specs.declared.number.NodeNo.{NodeNo}
+use Rattle.forest.proofs.StraightWalk.{to_value, to_high, finds_value}
+use Rattle.forest.proofs.straight.walk.end_with.Given.{Over}
+use Rattle.forest.proofs.straight.walk.end_with.Goals.{After-read-low}
+use Rattle.forest.proofs.straight.walk.end_with.Goals as goal
+
+-- whichever call it is, the value has been told
+told_low : (g : Over) (c : After-read-low g) (w : Walker (calls g.S.Shape g.M.Machine c.args.hand.layout.now c.args.hand.number)) (turn : NodeNo)
+    → WalkerIsTold w c.args.seat.now.me.0.passes (walk_at c.args.goal c.args.trail (Pair c.args.head c.args.more c.args.slot)) turn c.args.key
+    → WalkerIsTold w c.read-low.new.seat.me.0.passes (walk_at c.args.goal c.args.trail (Value c.args.head c.args.more c.args.slot c.args.key)) turn c.read-low.result
+told_low g c w turn x = c.read-low.ensures.told w (walk_at c.args.goal c.args.trail (Value c.args.head c.args.more c.args.slot c.args.key)) turn (to_value w _ c.args.goal c.args.trail turn c.args.head c.args.more c.args.slot c.args.key c.requires.asked x)
+
+pub read-low-requires-clause-waits : goal.read-low-requires-clause-waits
+read-low-requires-clause-waits g c = let r = c.requires.told in
+    (r.0, walk_at c.args.goal c.args.trail (Value c.args.head c.args.more c.args.slot c.args.key), r.1, to_value r.0 _ c.args.goal c.args.trail r.1 c.args.head c.args.more c.args.slot c.args.key c.requires.asked r.2)
+
+pub read-high-requires-clause-waits : goal.read-high-requires-clause-waits
+read-high-requires-clause-waits g c = let r = c.requires.told in
+    (r.0, walk_at c.args.goal c.args.trail (High c.args.head c.args.more c.args.slot c.args.key c.read-low.result), r.1, to_high r.0 _ c.args.goal c.args.trail r.1 c.args.head c.args.more c.args.slot c.args.key c.read-low.result (told_low g (goal.at.read-high-requires-clause-waits g c).After-read-low r.0 r.1 r.2))
+
+pub returns-clause-finds : goal.returns-clause-finds
+returns-clause-finds g c = λ w turn x. rw c.wide_value.ensures
+    (finds_value w _ c.args.goal c.args.trail turn c.args.head c.args.more c.args.slot c.args.key c.read-low.result c.read-high.result
+    (c.read-high.ensures.told w (walk_at c.args.goal c.args.trail (High c.args.head c.args.more c.args.slot c.args.key c.read-low.result)) turn (to_high w _ c.args.goal c.args.trail turn c.args.head c.args.more c.args.slot c.args.key c.read-low.result (told_low g (goal.at.returns-clause-finds g c).After-read-low w turn x))))
