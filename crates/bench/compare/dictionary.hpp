@@ -5,8 +5,46 @@
 
 #include "forest.hpp"
 
+using Value = unsigned __int128;
+
 struct Pair {
-    Word key, value;
+    Word key;
+    Value value;
+};
+
+// The pairs of a leaf, by rising key, with room for one more than a leaf may hold.
+struct Pairs {
+    static constexpr Word MOST = 4;
+
+    Word count = 0;
+    Pair items[MOST + 1];
+
+    void push(Pair pair) { items[count++] = pair; }
+
+    // The same with the value of a key, of one that is there or of a new one.
+    Pairs with(Word key, Value value) const {
+        Pairs all;
+        Word index = 0;
+        for (; index < count && items[index].key < key; index++) all.push(items[index]);
+        all.push({key, value});
+        if (index < count && items[index].key == key) index++;
+        for (; index < count; index++) all.push(items[index]);
+        return all;
+    }
+
+    Pairs without(Word key) const {
+        Pairs all;
+        for (Word index = 0; index < count; index++)
+            if (items[index].key != key) all.push(items[index]);
+        return all;
+    }
+
+    // Those from one place to before another.
+    Pairs part(Word from, Word to) const {
+        Pairs all;
+        for (Word index = from; index < to; index++) all.push(items[index]);
+        return all;
+    }
 };
 
 // The head of a node says how deep it stands, whether it is a leaf, and its class: 0 for keys, 1 and 2
@@ -21,14 +59,18 @@ struct Head {
     Word class_() const { return word & 3; }
 };
 
-// What a walk ends with: the leaf, the two forks above it with the sides to which it went there, and
-// the value, where the leaf has the key.
+// What a walk ends with: the leaf, the two forks above it with the sides to which it went there, how many
+// pairs the leaf has behind its first, and the value, where the leaf has the key.
 struct Found {
     Word grand, parent, leaf;
     Side grand_side, side;
     Head head;
-    Word key, value;
+    Word more, key;
+    Value value;
     bool has;
+
+    // Whether a key that is not there goes into one more leaf beside this one.
+    bool full() const { return head.class_() != 0 || (!has && more + 1 == Pairs::MOST); }
 };
 
 enum class End { done, contended, full, no_memory };
@@ -54,30 +96,29 @@ public:
     Pass pass(Word number) const { return forest_.pass(number); }
 
     // The calls are not inlined into the loops of the works, as in `bench`.
-    [[gnu::noinline]] std::optional<Word> get(Word key) const {
+    [[gnu::noinline]] std::optional<Value> get(Word key) const {
         const Found found = walk(key);
         if (!found.has) return std::nullopt;
         return found.value;
     }
 
-    [[gnu::noinline]] Reply<std::optional<Word>> insert(Pass& pass, Word key, Word value) const {
+    [[gnu::noinline]] Reply<std::optional<Value>> insert(Pass& pass, Word key, Value value) const {
         const Word call = pass.taken();
         for (Word tried = 0; tried < tries_; tried++) {
             const Found found = walk(key);
-            if (pass.nodes < (found.has ? 1 : 3) || pass.scx == 0) return {End::full, {}};
-            const auto make = [&] { return found.has ? swap(pass, found, key, value) : split(pass, found, key, value); };
-            if (put(pass, found, call, make)) return told(found);
+            if (pass.nodes < (found.full() ? 3 : 1) || pass.scx == 0) return {End::full, {}};
+            if (put(pass, found, call, [&] { return grown(pass, found, key, value); })) return told(found);
         }
         return {End::contended, {}};
     }
 
-    [[gnu::noinline]] Reply<std::optional<Word>> remove(Pass& pass, Word key) const {
+    [[gnu::noinline]] Reply<std::optional<Value>> remove(Pass& pass, Word key) const {
         const Word call = pass.taken();
         for (Word tried = 0; tried < tries_; tried++) {
             const Found found = walk(key);
             if (!found.has) return told(found);
             if (pass.nodes < 1 || pass.scx == 0) return {End::full, {}};
-            if (unlink(pass, found, call)) return told(found);
+            if (taken_out(pass, found, call)) return told(found);
         }
         return {End::contended, {}};
     }
@@ -88,18 +129,18 @@ public:
             const Found found = walk_left();
             if (!found.has) return {End::done, std::nullopt};
             if (pass.nodes < 1 || pass.scx == 0) return {End::full, {}};
-            if (unlink(pass, found, call)) return {End::done, Pair{found.key, found.value}};
+            if (taken_out(pass, found, call)) return {End::done, Pair{found.key, found.value}};
         }
         return {End::contended, {}};
     }
 
-    [[gnu::noinline]] Reply<std::optional<Word>> replace_if(Pass& pass, Word key, Word expected, Word value) const {
+    [[gnu::noinline]] Reply<std::optional<Value>> replace_if(Pass& pass, Word key, Value expected, Value value) const {
         const Word call = pass.taken();
         for (Word tried = 0; tried < tries_; tried++) {
             const Found found = walk(key);
             if (!found.has || found.value != expected) return told(found);
             if (pass.nodes < 1 || pass.scx == 0) return {End::full, {}};
-            if (put(pass, found, call, [&] { return swap(pass, found, key, value); })) return told(found);
+            if (put(pass, found, call, [&] { return grown(pass, found, key, value); })) return told(found);
         }
         return {End::contended, {}};
     }
@@ -130,9 +171,31 @@ public:
     }
 
 private:
-    Word at(Word node, NodeWord word) const { return forest_.load(Forest::node(node, word)); }
+    Word at(Word node, Word word) const { return forest_.load(Forest::node(node, word)); }
 
-    static Reply<std::optional<Word>> told(const Found& found) {
+    // The words of the pair at a place of a leaf.
+    static Word key_word(Word index) { return index == 0 ? Word(KEY) : KEY1 + 2 * (index - 1); }
+    static Word value_word(Word index) { return index == 0 ? Word(VALUE) : VALUE1 + 2 * (index - 1); }
+
+    Word key_at(Word node, Word index) const { return at(node, key_word(index)); }
+
+    Value value_at(Word node, Word index) const {
+        const Word low = at(node, value_word(index));
+        const Word high = at(node, HIGH + index);
+        return Value(high) << 64 | low;
+    }
+
+    // All pairs of a leaf that has so many behind its first.
+    Pairs pairs_of(Word node, Word more) const {
+        Pairs pairs;
+        for (Word index = 0; index <= more; index++) {
+            const Word key = key_at(node, index);
+            pairs.push({key, value_at(node, index)});
+        }
+        return pairs;
+    }
+
+    static Reply<std::optional<Value>> told(const Found& found) {
         if (!found.has) return {End::done, std::nullopt};
         return {End::done, found.value};
     }
@@ -147,12 +210,12 @@ private:
         Side grand_side = LEFT_SIDE, side = LEFT_SIDE;
         for (;;) {
             const Head head(at(node, HEAD));
-            const Word found = head.class_() == 0 ? at(node, KEY) : 0;
             if (head.leaf()) {
-                const bool has = head.class_() == 0 && found == key;
-                const Word value = has ? at(node, VALUE) : 0;
-                return {grand, parent, node, grand_side, side, head, found, value, has};
+                Found found{grand, parent, node, grand_side, side, head, 0, 0, 0, false};
+                if (head.class_() == 0) find(found, key);
+                return found;
             }
+            const Word found = head.class_() == 0 ? at(node, KEY) : 0;
             const Side next = toward(key, head, found);
             const Word child = at(node, next == LEFT_SIDE ? LEFT : RIGHT);
             grand = parent;
@@ -163,6 +226,16 @@ private:
         }
     }
 
+    // Looks for a key in a leaf of class 0.
+    void find(Found& found, Word key) const {
+        found.more = at(found.leaf, MORE);
+        Word index = 0;
+        do found.key = key_at(found.leaf, index);
+        while (found.key < key && index++ < found.more);
+        found.has = found.key == key;
+        if (found.has) found.value = value_at(found.leaf, index);
+    }
+
     // The walk to the leaf of the least key, which reads no key on its way.
     Found walk_left() const {
         Word grand = 0, parent = 0, node = 0;
@@ -170,9 +243,10 @@ private:
             const Head head(at(node, HEAD));
             if (head.leaf()) {
                 const bool has = head.class_() == 0;
-                const Word key = has ? at(node, KEY) : 0;
-                const Word value = has ? at(node, VALUE) : 0;
-                return {grand, parent, node, LEFT_SIDE, LEFT_SIDE, head, key, value, has};
+                const Word more = has ? at(node, MORE) : 0;
+                const Word key = has ? key_at(node, 0) : 0;
+                const Value value = has ? value_at(node, 0) : 0;
+                return {grand, parent, node, LEFT_SIDE, LEFT_SIDE, head, more, key, value, has};
             }
             const Word child = at(node, LEFT);
             grand = parent;
@@ -194,6 +268,15 @@ private:
         return forest_.put(pass.record(), snaps, plan, fresh, found.leaf, call).done;
     }
 
+    // Takes the key out of its leaf, or the leaf out of the tree that has this key alone. False where the try
+    // is lost.
+    [[gnu::always_inline]] bool taken_out(Pass& pass, const Found& found, Word call) const {
+        if (found.more == 0) return unlink(pass, found, call);
+        return put(pass, found, call, [&] {
+            return low_leaf(pass, found.head.level(), pairs_of(found.leaf, found.more).without(found.key));
+        });
+    }
+
     // Puts a copy of the leaf's sibling in the place of their parent. False where the try is lost.
     [[gnu::always_inline]] bool unlink(Pass& pass, const Found& found, Word call) const {
         const Llx grand = forest_.llx(found.grand);
@@ -210,52 +293,67 @@ private:
         return forest_.put(pass.record(), snaps, plan, fresh, found.parent, call).done;
     }
 
-    void fill(Word node, NodeWord word, Word value) const { forest_.store(Forest::node(node, word), value); }
+    void fill(Word node, Word word, Word value) const { forest_.store(Forest::node(node, word), value); }
 
-    void fill_leaf(Word node, Word level, Word class_, Word key, Word value) const {
+    // A leaf above all keys.
+    Word high_leaf(Pass& pass, Word level, Word class_) const {
+        const Word node = pass.fresh();
         fill(node, HEAD, Head(level, true, class_).word);
-        fill(node, KEY, key);
-        fill(node, VALUE, value);
+        fill(node, KEY, 0);
+        fill(node, VALUE, 0);
+        return node;
     }
 
-    void fill_fork(Word node, Word level, Word class_, Word key, Word left, Word right) const {
+    // A leaf of these pairs. What is 0 in a fresh node is left as it is.
+    Word low_leaf(Pass& pass, Word level, const Pairs& pairs) const {
+        const Word node = pass.fresh();
+        fill(node, HEAD, Head(level, true, 0).word);
+        if (pairs.count > 1) fill(node, MORE, pairs.count - 1);
+        for (Word index = 0; index < pairs.count; index++) {
+            const Pair pair = pairs.items[index];
+            fill(node, key_word(index), pair.key);
+            fill(node, value_word(index), Word(pair.value));
+            if (const Word high = Word(pair.value >> 64)) fill(node, HIGH + index, high);
+        }
+        return node;
+    }
+
+    Word fork(Pass& pass, Word level, Word class_, Word key, Word left, Word right) const {
+        const Word node = pass.fresh();
         fill(node, HEAD, Head(level, false, class_).word);
         fill(node, KEY, key);
         fill(node, LEFT, left);
         fill(node, RIGHT, right);
+        return node;
     }
 
-    // A leaf of the key in the place of the one that has it.
-    Word swap(Pass& pass, const Found& found, Word key, Word value) const {
-        const Word fresh = pass.fresh();
-        fill_leaf(fresh, found.head.level(), 0, key, value);
-        return fresh;
-    }
-
-    // A leaf of the key beside a copy of the one that was found, and a fork over both.
-    Word split(Pass& pass, const Found& found, Word key, Word value) const {
-        const Word first = pass.fresh(), second = pass.fresh(), third = pass.fresh();
+    // What stands in the place of a leaf once it has the pair too: a leaf, or a fork over two.
+    Word grown(Pass& pass, const Found& found, Word key, Value value) const {
         const Word level = found.head.level(), class_ = found.head.class_();
-        fill_leaf(first, level + 1, 0, key, value);
-        const Word old = class_ == 0 ? at(found.leaf, VALUE) : 0;
-        fill_leaf(second, level + 1, class_, found.key, old);
-        if (class_ != 0 || key < found.key) fill_fork(third, level, class_, found.key, first, second);
-        else fill_fork(third, level, 0, key, second, first);
-        return third;
+        if (class_ != 0) {
+            Pairs one;
+            one.push({key, value});
+            const Word first = low_leaf(pass, level + 1, one);
+            const Word second = high_leaf(pass, level + 1, class_);
+            return fork(pass, level, class_, 0, first, second);
+        }
+        const Pairs pairs = pairs_of(found.leaf, found.more).with(key, value);
+        if (pairs.count <= Pairs::MOST) return low_leaf(pass, level, pairs);
+        const Word first = low_leaf(pass, level + 1, pairs.part(0, 2));
+        const Word second = low_leaf(pass, level + 1, pairs.part(2, pairs.count));
+        return fork(pass, level, 0, pairs.items[2].key, first, second);
     }
 
     // A copy of the sibling of a leaf that is removed.
     Word copy(Pass& pass, const Snap& sibling) const {
-        const Word fresh = pass.fresh();
         const Head head(at(sibling.node, HEAD));
-        const Word key = head.class_() == 0 ? at(sibling.node, KEY) : 0;
-        if (head.leaf()) {
-            const Word value = head.class_() == 0 ? at(sibling.node, VALUE) : 0;
-            fill_leaf(fresh, head.level(), head.class_(), key, value);
-        } else {
-            fill_fork(fresh, head.level(), head.class_(), key, sibling.left, sibling.right);
+        const Word level = head.level(), class_ = head.class_();
+        if (!head.leaf()) {
+            const Word key = class_ == 0 ? at(sibling.node, KEY) : 0;
+            return fork(pass, level, class_, key, sibling.left, sibling.right);
         }
-        return fresh;
+        if (class_ != 0) return high_leaf(pass, level, class_);
+        return low_leaf(pass, level, pairs_of(sibling.node, at(sibling.node, MORE)));
     }
 
     // Whether all nodes are still as they were found.
@@ -270,11 +368,12 @@ private:
         Word turn = 0, node = 0;
         for (;;) {
             const Head head(at(node, HEAD));
-            const Word found = head.class_() == 0 ? at(node, KEY) : 0;
             if (head.leaf()) {
-                if (head.class_() == 0 && found == key) at(node, VALUE);
+                Found found{0, 0, node, LEFT_SIDE, LEFT_SIDE, head, 0, 0, 0, false};
+                if (head.class_() == 0) find(found, key);
                 return turn;
             }
+            const Word found = head.class_() == 0 ? at(node, KEY) : 0;
             const Side next = toward(key, head, found);
             if (next == LEFT_SIDE) turn = node;
             node = at(node, next == LEFT_SIDE ? LEFT : RIGHT);
@@ -296,19 +395,22 @@ private:
             }
             const Head head(at(node, HEAD));
             fork = !head.leaf();
-            const bool asks_key = head.class_() == 0 && (along || head.leaf());
-            const Word here = asks_key ? at(node, KEY) : 0;
             if (fork) {
+                const Word here = along && head.class_() == 0 ? at(node, KEY) : 0;
                 side = along ? toward(key, head, here) : LEFT_SIDE;
-            } else if (head.class_() != 0) {
-                return true;
-            } else if (!along || key < here) {
-                found = Pair{here, at(node, VALUE)};
-                return true;
-            } else {
-                along = false;
-                node = right;
+                continue;
             }
+            if (head.class_() != 0) return true;
+            // Of the leaf behind the key's own the first pair is enough.
+            const Word more = along ? at(node, MORE) : 0;
+            for (Word index = 0; index <= more; index++) {
+                const Word here = key_at(node, index);
+                if (along && here <= key) continue;
+                found = Pair{here, value_at(node, index)};
+                return true;
+            }
+            along = false;
+            node = right;
         }
     }
 
@@ -318,8 +420,8 @@ private:
         Word leaves = most + 2;
         for (Word node = 0;;) {
             const Head head(at(node, HEAD));
-            const Word key = head.class_() == 0 ? at(node, KEY) : 0;
             if (!head.leaf()) {
+                const Word key = head.class_() == 0 ? at(node, KEY) : 0;
                 const bool left = head.class_() != 0 || low < key;
                 const bool right = head.class_() == 0 && key <= high;
                 const Llx looked = forest_.llx(node);
@@ -329,7 +431,13 @@ private:
                 node = left ? looked.snap.left : looked.snap.right;
                 continue;
             }
-            if (head.class_() == 0 && low <= key && key <= high) taken.push_back({key, at(node, VALUE)});
+            if (head.class_() == 0) {
+                const Word more = at(node, MORE);
+                for (Word index = 0; index <= more && taken.size() < most; index++) {
+                    const Word key = key_at(node, index);
+                    if (low <= key && key <= high) taken.push_back({key, value_at(node, index)});
+                }
+            }
             leaves--;
             if (taken.size() >= most || leaves == 0 || waiting.empty()) return true;
             node = waiting.back();

@@ -15,7 +15,7 @@ using Word = std::uint64_t;
 #define SHARED_WORD std::atomic<Word>
 #endif
 
-// A leaf has room for four pairs, with values of two words; here, as there, it holds one.
+// A leaf has room for four pairs, with values of two words.
 enum NodeWord : Word {
     HEAD, KEY, VALUE, LEFT, RIGHT, INFO, MARKED,
     MORE, KEY1, VALUE1, KEY2, VALUE2, KEY3, VALUE3, HIGH, HIGH1, HIGH2, HIGH3,

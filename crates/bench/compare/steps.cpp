@@ -41,7 +41,8 @@ namespace {
 constexpr Word FIRST_SCX_WORD = NODE_WORDS * (Dictionary::OPENING + SHARE);
 
 std::string name(Word at) {
-    constexpr const char* of_node[] = {"head", "key", "value", "left", "right", "info", "marked"};
+    constexpr const char* of_node[] = {"head", "key", "value", "left", "right", "info", "marked", "more", "key1",
+                                       "value1", "key2", "value2", "key3", "value3", "high", "high1", "high2", "high3"};
     constexpr const char* of_scx[] = {"state", "allfrozen", "plan", "new", "old", "v0",
                                       "v1", "v2", "v3", "i0", "i1", "i2", "i3", "call"};
     if (at < FIRST_SCX_WORD) return "n" + std::to_string(at / NODE_WORDS) + "." + of_node[at % NODE_WORDS];
@@ -49,19 +50,27 @@ std::string name(Word at) {
     return "s" + std::to_string(at / SCX_WORDS) + "." + of_scx[at % SCX_WORDS];
 }
 
+// A number of up to two words.
+Value number(const char* digits) {
+    Value value = 0;
+    for (; *digits; digits++) value = 10 * value + (*digits - '0');
+    return value;
+}
+
 // One row of a script. Other rows than calls of the tree do nothing.
 void make(const Dictionary& map, Pass& pass, const char* row) {
-    char command[16];
-    Word a = 0, b = 0, c = 0;
-    if (std::sscanf(row, "0,%15[a-z_],%ju,%ju,%ju", command, &a, &b, &c) < 1) return;
+    char command[16], first[40] = "", second[40] = "", third[40] = "";
+    if (std::sscanf(row, "0,%15[a-z_],%39[0-9],%39[0-9],%39[0-9]", command, first, second, third) < 1) return;
     const std::string word = command;
+    const Word a = Word(number(first));
+    const Value b = number(second), c = number(third);
     if (word == "get") map.get(a);
     if (word == "insert") map.insert(pass, a, b);
     if (word == "delete") map.remove(pass, a);
     if (word == "pop_first") map.pop_first(pass);
     if (word == "replace_if") map.replace_if(pass, a, b, c);
     if (word == "successor") map.successor(a);
-    if (word == "range") map.range(a, b, c);
+    if (word == "range") map.range(a, Word(b), Word(c));
 }
 
 }  // namespace

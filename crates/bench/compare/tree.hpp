@@ -80,7 +80,7 @@ inline void look_up(const Dictionary& map, Word key, Tally& tally) {
     tally.done++;
 }
 
-inline void count_value(Tally& tally, const Reply<std::optional<Word>>& reply) {
+inline void count_value(Tally& tally, const Reply<std::optional<Value>>& reply) {
     if (reply.end == End::done) tell(tally, reply.told);
     count(tally, reply.end);
 }

@@ -11,7 +11,7 @@ use dict::Dict;
 use forest::{Forest, OrderFault, Pass, UpdateFault};
 use std::alloc::Global;
 
-/// A dictionary of numbers.
+/// A dictionary of numbers of one word.
 pub type Numbers = Dict<u64, u64>;
 
 /// How many pairs a range tells at most.

@@ -14,8 +14,8 @@ use std::thread::{Threads, map_vec};
 /// From names of up to 8 characters to the pages that they stand on.
 type Index = Dict<Name8, u32>;
 
-/// A pass for each thread. A new name takes three nodes and an SCX-record, which are never given
-/// back.
+/// A pass for each thread. A new name takes three nodes at most and an SCX-record, which are never
+/// given back.
 const LIMITS: Limits = Limits {
     passes: 4,
     nodes: 300,

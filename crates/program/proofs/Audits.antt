@@ -1,14 +1,12 @@
 -- Faults of a report and of its audit are the program's faults.
-use Rattle.std.proofs.Common.{◌≡◌, ◌∙◌, inl, inr, ap, arith, refl, sym, List, ℕ, Err, map}
+use Rattle.std.proofs.Common.{◌≡◌, ◌∙◌, inl, inr, ap, arith, refl, sym, List, ℕ, Err}
 use Rattle.audit.specs.Faults.{MayBeAtFault}
 use Rattle.audit.specs.declared.fault.AuditFault.{AuditFault}
 use Rattle.audit.specs.declared.fault.AuditFault.TheVariants as audit
 use Rattle.record.specs.declared.record.Record.{Record}
-use Rattle.texts.specs.Texts.{AreRows}
 use Rattle.texts.specs.declared.fault.WriteFault.{WriteFault}
 use Rattle.texts.specs.declared.fault.WriteFault.TheVariants as write
-use Rattle.report.specs.Report.{report_rows, seven}
-use Rattle.report.specs.RowFaults.{IfRefused, IsFirstBadRow}
+use Rattle.report.specs.RowFaults.{IfRefused, IsFirstBadRow, IsReportOf}
 use Rattle.report.specs.declared.fault.ReportFault.{ReportFault}
 use Rattle.report.specs.declared.fault.ReportFault.TheVariants as report
 use Rattle.program.specs.Audited.{IsDeservedByReport, IsRefusedFor}
@@ -21,9 +19,9 @@ read_deserves text report.NoMemory bad = tt
 read_deserves text report.Read bad = tt
 read_deserves text (report.NotLawful row) bad = inl bad
 
-pub audit_deserves : (text : List ℕ) (told : Record) (fault : AuditFault) → AreRows text (map seven (report_rows told.script told.lines.items)) → ((row : ℕ) → fault ≡ audit.NotLawful row → MayBeAtFault told row) → IsDeservedByReport text (fault_of_audit fault)
-audit_deserves text told audit.NoMemory rows bad = tt
-audit_deserves text told (audit.NotLawful row) rows bad = inr (told, rows, bad row refl)
+pub audit_deserves : (text : List ℕ) (told : Record) (fault : AuditFault) → IsReportOf told.script told.lines.items text → ((row : ℕ) → fault ≡ audit.NotLawful row → MayBeAtFault told row) → IsDeservedByReport text (fault_of_audit fault)
+audit_deserves text told audit.NoMemory reported bad = tt
+audit_deserves text told (audit.NotLawful row) reported bad = inr (told, reported, bad row refl)
 
 pub write_deserves : (text : List ℕ) (fault : WriteFault) → IsDeservedByReport text (fault_of_write fault)
 write_deserves text write.NoMemory = tt

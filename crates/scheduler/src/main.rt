@@ -17,7 +17,8 @@ use std::thread::{Threads, map_vec};
 /// From when a job is due to how often it is still to run.
 type Queue = Dict<Due, u32>;
 
-/// A pass for each thread. A job that is put in takes three nodes, one that is taken out another.
+/// A pass for each thread. A job that is put in takes three nodes at most, one that is taken out
+/// another.
 const LIMITS: Limits = Limits {
     passes: 3,
     nodes: 1000,

@@ -10,7 +10,7 @@ returns-clause-lawful g c bytes tells =
     record {
       script = c.in_ok-record.record.script;
       lines = c.in_ok-record.record.lines.items;
-      rows = c.in_ok-record.ensures.rows bytes tells;
+      report = c.in_ok-record.ensures.rows bytes tells;
       run = c.in_ok-audit.ensures.lawful;
     }
 
