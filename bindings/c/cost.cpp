@@ -26,8 +26,9 @@ struct Draws {
 uint64_t checksum = 0;
 
 void tell(uint64_t reply) { checksum = checksum * 31 + reply; }
-void tell(regnubas_answer answer) { tell(answer.status == REGNUBAS_SOME ? answer.value + 1 : 0); }
-void tell(regnubas_answer answer, regnubas_pair pair) { tell(answer.status == REGNUBAS_SOME ? pair.key + pair.value + 1 : 0); }
+void tell(regnubas_answer answer) { tell(answer.status == REGNUBAS_SOME ? answer.value.low + 1 : 0); }
+void tell(uint32_t status, regnubas_pair pair) { tell(uint64_t(status == REGNUBAS_SOME ? pair.key + pair.value.low + 1 : 0)); }
+regnubas_value value(uint64_t low) { return {low, 0}; }
 
 template <typename Round> void rounds(uint32_t calls, Round round) {
     Draws draws(32);
@@ -47,17 +48,17 @@ int main(int argc, char **argv) {
     Draws draws(0);
     for (uint64_t left = KEYS / 2; left > 0;) {
         uint64_t key = draws.below(KEYS);
-        if (regnubas_get(&passes[1], key).status == REGNUBAS_NONE) left -= regnubas_insert(&passes[1], key, key).status == REGNUBAS_NONE;
+        if (regnubas_get(&passes[1], key).status == REGNUBAS_NONE) left -= regnubas_insert(&passes[1], key, value(key)).status == REGNUBAS_NONE;
     }
     if (work == "get") rounds(calls, [&](uint64_t key, uint64_t) { tell(regnubas_get(pass, key)); });
-    else if (work == "insert") rounds(calls, [&](uint64_t key, uint64_t call) { tell(regnubas_insert(pass, key, call)); });
-    else if (work == "replace") rounds(calls, [&](uint64_t key, uint64_t) { tell(regnubas_replace_if(pass, key, key, key)); });
+    else if (work == "insert") rounds(calls, [&](uint64_t key, uint64_t call) { tell(regnubas_insert(pass, key, value(call))); });
+    else if (work == "replace") rounds(calls, [&](uint64_t key, uint64_t) { tell(regnubas_replace_if(pass, key, value(key), value(key))); });
     else if (work == "pop") rounds(calls, [&](uint64_t, uint64_t) { tell(regnubas_pop_first(pass, &pair), pair); });
     else if (work == "succ") rounds(calls, [&](uint64_t key, uint64_t) { tell(regnubas_successor(pass, key, &pair), pair); });
     else if (work == "range64")
         rounds(calls, [&](uint64_t key, uint64_t) {
-            regnubas_answer answer = regnubas_range(pass, key, UINT64_MAX, pairs, 64);
-            for (uint64_t i = 0; i < answer.value; i++) tell(pairs[i].key + pairs[i].value + 1);
+            regnubas_count count = regnubas_range(pass, key, UINT64_MAX, pairs, 64);
+            for (uint64_t i = 0; i < count.pairs; i++) tell(pairs[i].key + pairs[i].value.low + 1);
         });
     else return 2;
     std::printf("%" PRIu64 "\n", checksum);

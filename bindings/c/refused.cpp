@@ -1,4 +1,5 @@
-// Each allocation of a story is refused in turn: the call answers NO_MEMORY, nothing leaks, and the
+// Each allocation of a story is refused in turn, alone and then with all behind it: the call answers
+// NO_MEMORY, or does without, as a range may that asks for room beforehand; nothing leaks, and the
 // dictionary is as it was. The heap here counts its blocks.
 #include "regnubas.h"
 
@@ -9,6 +10,12 @@
     do { if (!(what)) { std::fprintf(stderr, "%s:%d: %s (refusing %ld)\n", __FILE__, __LINE__, #what, refuse); std::abort(); } } while (0)
 
 static long refuse = 0, asked = 0, blocks = 0; // the refuse-th is refused; 0: none
+static bool onwards = false;                   // and those behind it
+
+static bool refused() {
+    asked++;
+    return refuse != 0 && (onwards ? asked >= refuse : asked == refuse);
+}
 
 struct tried {
     uint64_t ok;
@@ -17,14 +24,14 @@ struct tried {
 
 extern "C" tried rattle_alloc(size_t n, size_t a) {
     static char nowhere;
-    if (++asked == refuse) return {0, &nowhere};
+    if (refused()) return {0, &nowhere};
     blocks++;
     return {1, std::malloc(n != 0 ? n : a)};
 }
 
 extern "C" tried rattle_realloc(void *p, size_t, size_t n, size_t a) {
     static char nowhere;
-    if (++asked == refuse) return {0, &nowhere};
+    if (refused()) return {0, &nowhere};
     return {1, std::realloc(p, n != 0 ? n : a)};
 }
 
@@ -33,7 +40,7 @@ extern "C" void rattle_dealloc(void *p) {
     std::free(p);
 }
 
-// Whether nothing was refused.
+// Whether all was done.
 static bool story() {
     asked = 0;
     regnubas_pass passes[3] = {};
@@ -44,42 +51,44 @@ static bool story() {
         return false;
     }
     bool all = true;
-    for (uint64_t k = 0; k < 90; k++) CHECK(regnubas_insert(&passes[0], 2 * k, k).status == REGNUBAS_NONE);
-    CHECK(regnubas_insert(&passes[1], 1, 4).status == REGNUBAS_NONE);
-    CHECK(regnubas_replace_if(&passes[1], 1, 4, 5).value == 4);
-    CHECK(regnubas_delete(&passes[1], 1).value == 5);
-    for (uint64_t k = 0; k < 90; k += 9) CHECK(regnubas_get(&passes[1], 2 * k).value == k);
+    for (uint64_t k = 0; k < 90; k++) CHECK(regnubas_insert(&passes[0], 2 * k, {k, ~k}).status == REGNUBAS_NONE);
+    CHECK(regnubas_insert(&passes[1], 1, {4, 4}).status == REGNUBAS_NONE);
+    CHECK(regnubas_replace_if(&passes[1], 1, {4, 4}, {5, 6}).value.high == 4);
+    CHECK(regnubas_delete(&passes[1], 1).value.high == 6);
+    for (uint64_t k = 0; k < 90; k += 9) CHECK(regnubas_get(&passes[1], 2 * k).value.high == ~k);
     for (uint64_t k = 0; k < 90; k += 9) {
-        regnubas_pair pair = {7, 7};
-        regnubas_answer answer = regnubas_successor(&passes[1], 2 * k, &pair);
-        if (answer.status == REGNUBAS_NO_MEMORY) {
-            CHECK(pair.key == 7 && pair.value == 7);
+        regnubas_pair pair = {7, {7, 7}};
+        uint32_t status = regnubas_successor(&passes[1], 2 * k, &pair);
+        if (status == REGNUBAS_NO_MEMORY) {
+            CHECK(pair.key == 7 && pair.value.low == 7 && pair.value.high == 7);
             all = false;
         } else
-            CHECK(answer.status == REGNUBAS_SOME ? pair.key == 2 * k + 2 : k == 89);
+            CHECK(status == REGNUBAS_SOME ? pair.key == 2 * k + 2 : k == 89);
         regnubas_pair pairs[64] = {};
-        answer = regnubas_range(&passes[2], 2 * k, UINT64_MAX, pairs, 64);
-        if (answer.status == REGNUBAS_NO_MEMORY)
+        regnubas_count count = regnubas_range(&passes[2], 2 * k, UINT64_MAX, pairs, 64);
+        if (count.status == REGNUBAS_NO_MEMORY)
             all = false;
         else
-            CHECK(answer.status == REGNUBAS_SOME && answer.value == (90 - k < 64 ? 90 - k : 64) && pairs[0].key == 2 * k);
+            CHECK(count.status == REGNUBAS_SOME && count.pairs == (90 - k < 64 ? 90 - k : 64) && pairs[0].key == 2 * k);
     }
     regnubas_leave(&passes[0]);
     regnubas_leave(&passes[1]);
     regnubas_pair pairs[100] = {};
-    regnubas_answer closed = regnubas_close(&passes[2], pairs, 100);
+    regnubas_count closed = regnubas_close(&passes[2], pairs, 100);
     if (closed.status == REGNUBAS_NO_MEMORY)
         all = false;
     else
-        CHECK(closed.status == REGNUBAS_SOME && closed.value == 90 && pairs[89].value == 89);
+        CHECK(closed.status == REGNUBAS_SOME && closed.pairs == 90 && pairs[89].value.low == 89);
     CHECK(passes[2].at == nullptr && blocks == 0);
     return all;
 }
 
 int main() {
     CHECK(story());
-    long count = asked;
+    long count = asked, without = 0;
+    for (refuse = 1; refuse <= count; refuse++) without += story();
+    onwards = true;
     for (refuse = 1; refuse <= count; refuse++) CHECK(!story());
-    std::printf("ok: %ld allocations, each refused in turn\n", count);
+    std::printf("ok: %ld allocations, each refused in turn; %ld of them could be done without\n", count, without);
     return 0;
 }

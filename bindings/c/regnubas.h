@@ -1,4 +1,5 @@
-/* An ordered dictionary of 64-bit keys and values that many threads read and change without locks.
+/* An ordered dictionary that many threads read and change without locks. Its keys are numbers of 64
+ * bits, its values of 128.
  *
  * Each function is proved to do what is said of it here, for every caller that keeps four rules,
  * which no compiler checks:
@@ -34,20 +35,31 @@ typedef struct regnubas_pass {
 
 /* What each pass may take in the life of the dictionary. */
 typedef struct regnubas_limits {
-    uint32_t nodes; /* 0 to 32768: a new key takes 3 in a try, any other change 1 */
+    uint32_t nodes; /* 0 to 32768: a change takes 1 in a try; a new key, where its leaf is full, 3 */
     uint32_t scx;   /* 0 to 32768: a change takes 1 in a try */
     uint32_t tries; /* 1 to 1000: of a call */
 } regnubas_limits;
 
+/* A number of 128 bits: low + 2^64 * high. */
+typedef struct regnubas_value {
+    uint64_t low;
+    uint64_t high;
+} regnubas_value;
+
 typedef struct regnubas_pair {
     uint64_t key;
-    uint64_t value;
+    regnubas_value value;
 } regnubas_pair;
 
 typedef struct regnubas_answer {
-    uint64_t value;  /* 0 where nothing is said of it */
-    uint32_t status; /* one of those below */
+    regnubas_value value; /* 0 where nothing is said of it */
+    uint32_t status;      /* one of those below */
 } regnubas_answer;
+
+typedef struct regnubas_count {
+    uint64_t pairs;  /* 0 where nothing is said of it */
+    uint32_t status; /* one of those below */
+} regnubas_count;
 
 typedef struct regnubas_share {
     uint32_t nodes;
@@ -58,7 +70,7 @@ enum {
     REGNUBAS_NONE = 0,      /* done: there is no value or pair, or was none */
     REGNUBAS_SOME = 1,      /* done: there is a value, a pair, a number of pairs */
     REGNUBAS_CONTENDED = 2, /* not done: other passes were in the way in each try; ask again */
-    REGNUBAS_FULL = 3,      /* not done, now and ever: too little is left of the pass's share */
+    REGNUBAS_FULL = 3,      /* not done: too little is left of the pass's share, which never grows */
     REGNUBAS_NO_MEMORY = 4, /* not done: an allocation was refused */
     REGNUBAS_LIMITS = 5,    /* not made: a number is out of its range */
     REGNUBAS_NO_PASS = 6,   /* not done: there is no pass here */
@@ -74,27 +86,27 @@ regnubas_answer regnubas_get(regnubas_pass *pass, uint64_t key);
 
 /* Sets a key to a value; takes a key away. SOME with the value that the key had just before, or
  * NONE. CONTENDED, FULL: nothing has changed. */
-regnubas_answer regnubas_insert(regnubas_pass *pass, uint64_t key, uint64_t value);
+regnubas_answer regnubas_insert(regnubas_pass *pass, uint64_t key, regnubas_value value);
 regnubas_answer regnubas_delete(regnubas_pass *pass, uint64_t key);
 
 /* Sets a key to a value where it has the expected one. SOME with the value that the key had just
  * before: it was replaced where that is the one expected; NONE: the key had no value. CONTENDED,
  * FULL: nothing has changed. */
-regnubas_answer regnubas_replace_if(regnubas_pass *pass, uint64_t key, uint64_t expected,
-                                    uint64_t value);
+regnubas_answer regnubas_replace_if(regnubas_pass *pass, uint64_t key, regnubas_value expected,
+                                    regnubas_value value);
 
 /* Takes the pair with the least key away. SOME: it is at `pair`; NONE: there was none. CONTENDED,
  * FULL: nothing has changed. */
-regnubas_answer regnubas_pop_first(regnubas_pass *pass, regnubas_pair *pair);
+uint32_t regnubas_pop_first(regnubas_pass *pass, regnubas_pair *pair);
 
 /* SOME: the pair with the least key above this one is at `pair`; NONE: there is none. CONTENDED,
  * NO_MEMORY. */
-regnubas_answer regnubas_successor(regnubas_pass *pass, uint64_t key, regnubas_pair *pair);
+uint32_t regnubas_successor(regnubas_pass *pass, uint64_t key, regnubas_pair *pair);
 
 /* The first pairs by rising key, with keys from `low` to `high`, both with them, `count` at the
  * most and 64, all of one moment. SOME with the number of pairs written. CONTENDED, NO_MEMORY. */
-regnubas_answer regnubas_range(regnubas_pass *pass, uint64_t low, uint64_t high,
-                               regnubas_pair *pairs, size_t count);
+regnubas_count regnubas_range(regnubas_pass *pass, uint64_t low, uint64_t high,
+                              regnubas_pair *pairs, size_t count);
 
 /* What is left of the pass's share; zeros where there is no pass. */
 regnubas_share regnubas_left(regnubas_pass *pass);
@@ -103,9 +115,9 @@ regnubas_share regnubas_left(regnubas_pass *pass);
 void regnubas_leave(regnubas_pass *pass);
 
 /* Ends the dictionary, once all other passes have left, and writes its first pairs, `count` at the
- * most; room for passes * nodes / 3 is room for all. SOME with the number of all its pairs; SHARED:
+ * most; room for passes * nodes is room for all. SOME with the number of all its pairs; SHARED:
  * the pass is as it was; NO_MEMORY: the dictionary is gone. */
-regnubas_answer regnubas_close(regnubas_pass *pass, regnubas_pair *pairs, size_t count);
+regnubas_count regnubas_close(regnubas_pass *pass, regnubas_pair *pairs, size_t count);
 
 #ifdef __cplusplus
 }

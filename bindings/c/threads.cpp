@@ -1,6 +1,6 @@
 // Four threads on one dictionary, through the header: each sets keys of its own, reads another's and
 // takes a third of its own away, and all count in one key; four empty a queue. Before that each
-// status is met. `threads N` does so N times.
+// status is met. `threads N` does so N times. Values have bits in both their words.
 #include "regnubas.h"
 
 #include <algorithm>
@@ -16,59 +16,77 @@ namespace {
 
 constexpr uint32_t THREADS = 4;
 constexpr uint64_t KEYS = 3000, COUNTS = 500, COUNTER = UINT64_MAX;
+constexpr regnubas_value ZERO = {0, 0}, START = {UINT64_MAX - 99, 3}; // a count carries into the high word
 
 uint64_t key_of(uint64_t thread, uint64_t i) { return i * THREADS + thread; }
 
-template <typename Call> regnubas_answer again(Call call) {
+// The value that a key is given here.
+regnubas_value value_of(uint64_t key) { return {key + 7, ~key}; }
+
+regnubas_value plus(regnubas_value value, uint64_t more) {
+    uint64_t low = value.low + more;
+    return {low, value.high + (low < more)};
+}
+
+bool same(regnubas_value one, regnubas_value other) { return one.low == other.low && one.high == other.high; }
+
+uint32_t status_of(uint32_t status) { return status; }
+uint32_t status_of(regnubas_answer answer) { return answer.status; }
+uint32_t status_of(regnubas_count count) { return count.status; }
+
+template <typename Call> auto again(Call call) {
     for (;;) {
-        regnubas_answer answer = call();
-        if (answer.status != REGNUBAS_CONTENDED) return answer;
+        auto answer = call();
+        if (status_of(answer) != REGNUBAS_CONTENDED) return answer;
     }
 }
 
-bool is(regnubas_answer answer, uint32_t status, uint64_t value) { return answer.status == status && answer.value == value; }
+bool is(regnubas_answer answer, uint32_t status, regnubas_value value) { return answer.status == status && same(answer.value, value); }
+bool is(regnubas_count count, uint32_t status, uint64_t pairs) { return count.status == status && count.pairs == pairs; }
+bool has(regnubas_pair pair, uint64_t key, regnubas_value value) { return pair.key == key && same(pair.value, value); }
 
 void set_keys(regnubas_pass *pass, uint64_t number) {
     for (uint64_t i = 0; i < KEYS; i++) {
         uint64_t key = key_of(number, i), other = key_of((number + 1) % THREADS, i);
-        CHECK(is(again([&] { return regnubas_insert(pass, key, key + 7); }), REGNUBAS_NONE, 0));
-        CHECK(is(regnubas_get(pass, key), REGNUBAS_SOME, key + 7));
+        CHECK(is(again([&] { return regnubas_insert(pass, key, value_of(key)); }), REGNUBAS_NONE, ZERO));
+        CHECK(is(regnubas_get(pass, key), REGNUBAS_SOME, value_of(key)));
         regnubas_answer answer = regnubas_get(pass, other);
-        CHECK(is(answer, REGNUBAS_NONE, 0) || is(answer, REGNUBAS_SOME, other + 7));
+        CHECK(is(answer, REGNUBAS_NONE, ZERO) || is(answer, REGNUBAS_SOME, value_of(other)));
     }
 }
 
 void take_keys(regnubas_pass *pass, uint64_t number) {
     for (uint64_t i = 0; i < KEYS; i += 3) {
         uint64_t key = key_of(number, i);
-        CHECK(is(again([&] { return regnubas_delete(pass, key); }), REGNUBAS_SOME, key + 7));
-        CHECK(is(regnubas_get(pass, key), REGNUBAS_NONE, 0));
+        CHECK(is(again([&] { return regnubas_delete(pass, key); }), REGNUBAS_SOME, value_of(key)));
+        CHECK(is(regnubas_get(pass, key), REGNUBAS_NONE, ZERO));
         regnubas_pair pair = {}, pairs[16] = {};
-        regnubas_answer answer = again([&] { return regnubas_successor(pass, key, &pair); });
-        CHECK(is(answer, REGNUBAS_NONE, 0) || (is(answer, REGNUBAS_SOME, 0) && pair.key > key && pair.value == pair.key + 7));
-        answer = again([&] { return regnubas_range(pass, key, COUNTER - 1, pairs, 16); });
-        CHECK(answer.status == REGNUBAS_SOME && answer.value <= 16);
-        for (uint64_t j = 0; j < answer.value; j++)
-            CHECK(pairs[j].key > key && pairs[j].value == pairs[j].key + 7 && (j == 0 || pairs[j - 1].key < pairs[j].key));
+        uint32_t status = again([&] { return regnubas_successor(pass, key, &pair); });
+        CHECK(status == REGNUBAS_SOME && pair.key > key && (pair.key == COUNTER || same(pair.value, value_of(pair.key))));
+        regnubas_count count = again([&] { return regnubas_range(pass, key, COUNTER - 1, pairs, 16); });
+        CHECK(count.status == REGNUBAS_SOME && count.pairs <= 16);
+        for (uint64_t j = 0; j < count.pairs; j++)
+            CHECK(pairs[j].key > key && same(pairs[j].value, value_of(pairs[j].key)) && (j == 0 || pairs[j - 1].key < pairs[j].key));
     }
 }
 
 void count_up(regnubas_pass *pass) {
-    uint64_t seen = 0;
+    regnubas_value seen = START;
     for (uint64_t n = 0; n < COUNTS;) {
-        regnubas_answer answer = again([&] { return regnubas_replace_if(pass, COUNTER, seen, seen + 1); });
+        regnubas_answer answer = again([&] { return regnubas_replace_if(pass, COUNTER, seen, plus(seen, 1)); });
         CHECK(answer.status == REGNUBAS_SOME);
-        n += answer.value == seen;
-        seen = answer.value == seen ? seen + 1 : answer.value;
+        bool mine = same(answer.value, seen);
+        n += mine;
+        seen = mine ? plus(seen, 1) : answer.value;
     }
 }
 
 void pop_all(regnubas_pass *pass, std::vector<uint64_t> &taken) {
     for (;;) {
         regnubas_pair pair = {};
-        regnubas_answer answer = again([&] { return regnubas_pop_first(pass, &pair); });
-        if (answer.status == REGNUBAS_NONE) return;
-        CHECK(is(answer, REGNUBAS_SOME, 0) && pair.value == pair.key + 7 && (taken.empty() || taken.back() < pair.key));
+        uint32_t status = again([&] { return regnubas_pop_first(pass, &pair); });
+        if (status == REGNUBAS_NONE) return;
+        CHECK(status == REGNUBAS_SOME && has(pair, pair.key, value_of(pair.key)) && (taken.empty() || taken.back() < pair.key));
         taken.push_back(pair.key);
     }
 }
@@ -86,19 +104,19 @@ std::vector<regnubas_pair> close_all(regnubas_pass *passes) {
     for (uint64_t t = 1; t < THREADS; t++) {
         CHECK(is(regnubas_close(&passes[0], pairs.data(), pairs.size()), REGNUBAS_SHARED, 0));
         regnubas_leave(&passes[t]);
-        CHECK(is(regnubas_get(&passes[t], 1), REGNUBAS_NO_PASS, 0));
+        CHECK(is(regnubas_get(&passes[t], 1), REGNUBAS_NO_PASS, ZERO));
         regnubas_leave(&passes[t]); // twice: nothing
     }
-    regnubas_answer answer = regnubas_close(&passes[0], pairs.data(), pairs.size());
-    CHECK(answer.status == REGNUBAS_SOME && answer.value <= pairs.size());
-    pairs.resize(answer.value);
+    regnubas_count count = regnubas_close(&passes[0], pairs.data(), pairs.size());
+    CHECK(count.status == REGNUBAS_SOME && count.pairs <= pairs.size());
+    pairs.resize(count.pairs);
     return pairs;
 }
 
 void keys_and_counter() {
     regnubas_pass passes[THREADS] = {};
     CHECK(regnubas_make({32768, 32768, 1}, passes, THREADS) == REGNUBAS_NONE);
-    CHECK(is(regnubas_insert(&passes[0], COUNTER, 0), REGNUBAS_NONE, 0));
+    CHECK(is(regnubas_insert(&passes[0], COUNTER, START), REGNUBAS_NONE, ZERO));
     in_threads(passes, [](regnubas_pass *pass, uint64_t number) {
         set_keys(pass, number);
         take_keys(pass, number);
@@ -108,8 +126,8 @@ void keys_and_counter() {
     size_t n = 0;
     for (uint64_t i = 0; i < KEYS; i++)
         for (uint64_t t = 0; t < THREADS && i % 3 != 0; t++, n++)
-            CHECK(pairs[n].key == key_of(t, i) && pairs[n].value == key_of(t, i) + 7);
-    CHECK(pairs.size() == n + 1 && pairs[n].key == COUNTER && pairs[n].value == THREADS * COUNTS);
+            CHECK(has(pairs[n], key_of(t, i), value_of(key_of(t, i))));
+    CHECK(pairs.size() == n + 1 && has(pairs[n], COUNTER, plus(START, THREADS * COUNTS)));
 }
 
 void queue() {
@@ -117,7 +135,7 @@ void queue() {
     std::vector<uint64_t> taken[THREADS], all;
     CHECK(regnubas_make({32768, 32768, 1}, passes, THREADS) == REGNUBAS_NONE);
     for (uint64_t i = 0; i < KEYS; i++) // in an order that makes a tree and not a list
-        CHECK(is(regnubas_insert(&passes[i % THREADS], i * 1009 % KEYS, i * 1009 % KEYS + 7), REGNUBAS_NONE, 0));
+        CHECK(is(regnubas_insert(&passes[i % THREADS], i * 1009 % KEYS, value_of(i * 1009 % KEYS)), REGNUBAS_NONE, ZERO));
     in_threads(passes, [&taken](regnubas_pass *pass, uint64_t number) { pop_all(pass, taken[number]); });
     CHECK(close_all(passes).empty());
     for (std::vector<uint64_t> &keys : taken) all.insert(all.end(), keys.begin(), keys.end());
@@ -128,18 +146,18 @@ void queue() {
 
 void refusals() {
     regnubas_pass none = {};
-    regnubas_pair pair = {1, 2};
-    CHECK(is(regnubas_get(&none, 1), REGNUBAS_NO_PASS, 0));
-    CHECK(is(regnubas_insert(&none, 1, 1), REGNUBAS_NO_PASS, 0));
-    CHECK(is(regnubas_delete(&none, 1), REGNUBAS_NO_PASS, 0));
-    CHECK(is(regnubas_replace_if(&none, 1, 1, 1), REGNUBAS_NO_PASS, 0));
-    CHECK(is(regnubas_pop_first(&none, &pair), REGNUBAS_NO_PASS, 0));
-    CHECK(is(regnubas_successor(&none, 1, &pair), REGNUBAS_NO_PASS, 0));
+    regnubas_pair pair = {1, {2, 3}};
+    CHECK(is(regnubas_get(&none, 1), REGNUBAS_NO_PASS, ZERO));
+    CHECK(is(regnubas_insert(&none, 1, {1, 1}), REGNUBAS_NO_PASS, ZERO));
+    CHECK(is(regnubas_delete(&none, 1), REGNUBAS_NO_PASS, ZERO));
+    CHECK(is(regnubas_replace_if(&none, 1, {1, 1}, {1, 1}), REGNUBAS_NO_PASS, ZERO));
+    CHECK(regnubas_pop_first(&none, &pair) == REGNUBAS_NO_PASS);
+    CHECK(regnubas_successor(&none, 1, &pair) == REGNUBAS_NO_PASS);
     CHECK(is(regnubas_range(&none, 1, 1, &pair, 1), REGNUBAS_NO_PASS, 0));
     CHECK(is(regnubas_close(&none, &pair, 1), REGNUBAS_NO_PASS, 0));
     regnubas_leave(&none);
     regnubas_share share = regnubas_left(&none);
-    CHECK(share.nodes == 0 && share.scx == 0 && pair.key == 1 && pair.value == 2);
+    CHECK(share.nodes == 0 && share.scx == 0 && has(pair, 1, {2, 3}));
     std::vector<regnubas_pass> many(33);
     CHECK(regnubas_make({1, 1, 1}, many.data(), 33) == REGNUBAS_LIMITS);
     CHECK(regnubas_make({1, 1, 1}, many.data(), 0) == REGNUBAS_LIMITS);
@@ -154,23 +172,24 @@ void shares() {
     regnubas_pass passes[2] = {};
     regnubas_pair pair = {};
     CHECK(regnubas_make({6, 2, 1}, passes, 2) == REGNUBAS_NONE);
-    CHECK(is(regnubas_insert(&passes[0], UINT64_MAX, 5), REGNUBAS_NONE, 0));
-    CHECK(is(regnubas_insert(&passes[0], 0, 6), REGNUBAS_NONE, 0));
-    CHECK(is(regnubas_insert(&passes[0], 3, 6), REGNUBAS_FULL, 0));
-    CHECK(is(regnubas_replace_if(&passes[0], 0, 6, 7), REGNUBAS_FULL, 0));
-    CHECK(is(regnubas_replace_if(&passes[0], 0, 5, 7), REGNUBAS_SOME, 6)); // nothing to change
-    CHECK(is(regnubas_replace_if(&passes[0], 1, 5, 7), REGNUBAS_NONE, 0));
-    CHECK(is(regnubas_pop_first(&passes[0], &pair), REGNUBAS_FULL, 0));
+    CHECK(is(regnubas_insert(&passes[0], UINT64_MAX, {5, UINT64_MAX}), REGNUBAS_NONE, ZERO));
+    CHECK(is(regnubas_insert(&passes[0], 0, {6, 0}), REGNUBAS_NONE, ZERO));
+    CHECK(is(regnubas_insert(&passes[0], 3, {6, 0}), REGNUBAS_FULL, ZERO));
+    CHECK(is(regnubas_replace_if(&passes[0], 0, {6, 0}, {7, 0}), REGNUBAS_FULL, ZERO));
+    CHECK(is(regnubas_replace_if(&passes[0], 0, {6, 1}, {7, 0}), REGNUBAS_SOME, {6, 0})); // nothing to change
+    CHECK(is(regnubas_replace_if(&passes[0], 0, {0, 6}, {7, 0}), REGNUBAS_SOME, {6, 0}));
+    CHECK(is(regnubas_replace_if(&passes[0], 1, {5, 0}, {7, 0}), REGNUBAS_NONE, ZERO));
+    CHECK(regnubas_pop_first(&passes[0], &pair) == REGNUBAS_FULL);
+    CHECK(is(regnubas_get(&passes[1], UINT64_MAX), REGNUBAS_SOME, {5, UINT64_MAX}));
     regnubas_share share = regnubas_left(&passes[0]);
-    CHECK(share.nodes == 0 && share.scx == 0);
+    CHECK(share.scx == 0);
     share = regnubas_left(&passes[1]);
     CHECK(share.nodes == 6 && share.scx == 2);
-    CHECK(is(regnubas_get(&passes[1], UINT64_MAX), REGNUBAS_SOME, 5));
     regnubas_pass moved = passes[1]; // a pass may move
     passes[1].at = nullptr;
-    CHECK(is(regnubas_get(&moved, 0), REGNUBAS_SOME, 6));
+    CHECK(is(regnubas_get(&moved, 0), REGNUBAS_SOME, {6, 0}));
     regnubas_leave(&moved);
-    CHECK(is(regnubas_close(&passes[0], &pair, 1), REGNUBAS_SOME, 2) && pair.key == 0 && pair.value == 6);
+    CHECK(is(regnubas_close(&passes[0], &pair, 1), REGNUBAS_SOME, 2) && has(pair, 0, {6, 0}));
     CHECK(passes[0].at == nullptr);
 }
 
@@ -179,12 +198,28 @@ void two_dictionaries() {
     for (int time = 0; time < 2; time++) { // the second time over passes that are held
         CHECK(regnubas_make({9, 9, 1}, passes, 2) == REGNUBAS_NONE);
         CHECK(regnubas_make({9, 9, 1}, other, 2) == REGNUBAS_NONE);
-        CHECK(is(regnubas_insert(&passes[0], 1, 10), REGNUBAS_NONE, 0));
-        CHECK(is(regnubas_insert(&other[0], 1, 20), REGNUBAS_NONE, 0));
-        CHECK(is(regnubas_get(&passes[1], 1), REGNUBAS_SOME, 10) && is(regnubas_get(&other[1], 1), REGNUBAS_SOME, 20));
+        CHECK(is(regnubas_insert(&passes[0], 1, {10, 1}), REGNUBAS_NONE, ZERO));
+        CHECK(is(regnubas_insert(&other[0], 1, {20, 2}), REGNUBAS_NONE, ZERO));
+        CHECK(is(regnubas_get(&passes[1], 1), REGNUBAS_SOME, {10, 1}) && is(regnubas_get(&other[1], 1), REGNUBAS_SOME, {20, 2}));
     }
     for (regnubas_pass &pass : passes) regnubas_leave(&pass);
     for (regnubas_pass &pass : other) regnubas_leave(&pass);
+}
+
+// Each replacement takes six words and a room for the answer, so some of it comes by the stack.
+void both_words() {
+    regnubas_pass pass = {};
+    regnubas_value one = {1, UINT64_MAX}, two = {UINT64_MAX, 1};
+    CHECK(regnubas_make({30, 30, 1}, &pass, 1) == REGNUBAS_NONE);
+    CHECK(is(regnubas_insert(&pass, 5, one), REGNUBAS_NONE, ZERO));
+    CHECK(is(regnubas_replace_if(&pass, 5, {1, 1}, two), REGNUBAS_SOME, one));
+    CHECK(is(regnubas_replace_if(&pass, 5, {UINT64_MAX, UINT64_MAX}, two), REGNUBAS_SOME, one));
+    CHECK(is(regnubas_get(&pass, 5), REGNUBAS_SOME, one));
+    CHECK(is(regnubas_replace_if(&pass, 5, one, two), REGNUBAS_SOME, one));
+    CHECK(is(regnubas_insert(&pass, 5, one), REGNUBAS_SOME, two));
+    CHECK(is(regnubas_delete(&pass, 5), REGNUBAS_SOME, one));
+    regnubas_pair pair = {};
+    CHECK(is(regnubas_close(&pass, &pair, 1), REGNUBAS_SOME, 0));
 }
 
 } // namespace
@@ -192,6 +227,7 @@ void two_dictionaries() {
 int main(int argc, char **argv) {
     refusals();
     shares();
+    both_words();
     two_dictionaries();
     for (int rounds = argc > 1 ? std::atoi(argv[1]) : 1; rounds > 0; rounds--) {
         keys_and_counter();

@@ -1,4 +1,5 @@
-"""An ordered dictionary of 64-bit keys and values that many threads read and change without locks.
+"""An ordered dictionary that many threads read and change without locks. A key is a number below 2**64,
+a value one below 2**128.
 
     passes = regnubas.make(2, nodes=300, scx=100, tries=100)
     passes[0].insert(5, 50)      # None: the key had no value
@@ -21,12 +22,20 @@ class _Limits(Structure):
     _fields_ = [("nodes", c_uint32), ("scx", c_uint32), ("tries", c_uint32)]
 
 
+class _Value(Structure):
+    _fields_ = [("low", c_uint64), ("high", c_uint64)]
+
+
 class _Pair(Structure):
-    _fields_ = [("key", c_uint64), ("value", c_uint64)]
+    _fields_ = [("key", c_uint64), ("value", _Value)]
 
 
 class _Answer(Structure):
-    _fields_ = [("value", c_uint64), ("status", c_uint32)]
+    _fields_ = [("value", _Value), ("status", c_uint32)]
+
+
+class _Count(Structure):
+    _fields_ = [("pairs", c_uint64), ("status", c_uint32)]
 
 
 class _Share(Structure):
@@ -42,7 +51,7 @@ class Contended(Fault):
 
 
 class Full(Fault):
-    """Too little is left of the pass's share, now and ever."""
+    """Too little is left of the pass's share, which never grows."""
 
 
 class NoMemory(Fault, MemoryError):
@@ -71,15 +80,15 @@ def _load():
     for name, result, arguments in [
         ("make", c_uint32, [_Limits, one, c_size_t]),
         ("get", _Answer, [one, word]),
-        ("insert", _Answer, [one, word, word]),
+        ("insert", _Answer, [one, word, _Value]),
         ("delete", _Answer, [one, word]),
-        ("replace_if", _Answer, [one, word, word, word]),
-        ("pop_first", _Answer, [one, room]),
-        ("successor", _Answer, [one, word, room]),
-        ("range", _Answer, [one, word, word, room, c_size_t]),
+        ("replace_if", _Answer, [one, word, _Value, _Value]),
+        ("pop_first", c_uint32, [one, room]),
+        ("successor", c_uint32, [one, word, room]),
+        ("range", _Count, [one, word, word, room, c_size_t]),
         ("left", _Share, [one]),
         ("leave", None, [one]),
-        ("close", _Answer, [one, room, c_size_t]),
+        ("close", _Count, [one, room, c_size_t]),
     ]:
         call = getattr(library, "regnubas_" + name)
         call.restype, call.argtypes = result, arguments
@@ -96,17 +105,32 @@ def _word(number, bits=64):
     return number
 
 
+def _value(number):
+    """The number as C has it."""
+    number = _word(number, 128)
+    return _Value(number & (1 << 64) - 1, number >> 64)
+
+
+def _number(value):
+    return value.high << 64 | value.low
+
+
+def _tells(status):
+    """Whether the answer of this status tells something."""
+    if status in _FAULTS:
+        raise _FAULTS[status]
+    return status == _SOME
+
+
 def _told(answer):
-    if answer.status in _FAULTS:
-        raise _FAULTS[answer.status]
-    return answer.value if answer.status == _SOME else None
+    return _number(answer.value) if _tells(answer.status) else None
 
 
 class Pass:
     """What a thread needs to make calls; `make` makes it. One that is forgotten leaves."""
 
     def __init__(self, most):
-        # the most pairs that the dictionary may have: a new key takes three nodes
+        # `most`: the pairs that the dictionary may have, since a new key takes a node at least
         self._raw, self._most, self._lock = _Pass(), most, threading.Lock()
 
     def _call(self, call, *arguments):
@@ -119,7 +143,7 @@ class Pass:
 
     def insert(self, key, value):
         """Sets a key to a value, and tells the value that the key had just before, or None."""
-        return _told(self._call(_library.regnubas_insert, _word(key), _word(value)))
+        return _told(self._call(_library.regnubas_insert, _word(key), _value(value)))
 
     def delete(self, key):
         """Takes a key away, and tells the value that it had, or None."""
@@ -128,13 +152,13 @@ class Pass:
     def replace_if(self, key, expected, value):
         """Sets a key to a value where it has the expected one, and tells the value that it had just
         before: it was replaced where that is the one expected."""
-        words = _word(key), _word(expected), _word(value)
+        words = _word(key), _value(expected), _value(value)
         return _told(self._call(_library.regnubas_replace_if, *words))
 
     def _found(self, call, *arguments):
         pair = _Pair()
-        found = _told(self._call(call, *arguments, byref(pair)))
-        return None if found is None else (pair.key, pair.value)
+        found = _tells(self._call(call, *arguments, byref(pair)))
+        return (pair.key, _number(pair.value)) if found else None
 
     def pop_first(self):
         """Takes the pair with the least key away: it, or None."""
@@ -146,8 +170,9 @@ class Pass:
 
     def _listed(self, call, most, *arguments):
         room = (_Pair * most)()
-        count = _told(self._call(call, *arguments, room, most))
-        return [(pair.key, pair.value) for pair in room[:count]]
+        count = self._call(call, *arguments, room, most)
+        _tells(count.status)
+        return [(pair.key, _number(pair.value)) for pair in room[:count.pairs]]
 
     def range(self, low, high, most=64):
         """The first pairs by rising key from `low` to `high`, both with them, all of one moment: at
@@ -173,14 +198,13 @@ class Pass:
 
 def make(passes, nodes, scx, tries):
     """A dictionary with so many passes, 1 to 32. Each may take 0 to 32,768 nodes and as many
-    SCX-records, and tries a call 1 to 1,000 times. A new key takes three nodes and an SCX-record in
-    a try, any other change one of each."""
+    SCX-records, and tries a call 1 to 1,000 times. A change takes a node and an SCX-record in a try;
+    a new key, where its leaf is full, three nodes."""
     each = _Limits(_word(nodes, 32), _word(scx, 32), _word(tries, 32))
     raw = (_Pass * _word(passes, 16))()
     status = _library.regnubas_make(each, raw, passes)
-    if status in _FAULTS:
-        raise _FAULTS[status]
-    made = [Pass(passes * nodes // 3) for _ in range(passes)]
+    _tells(status)
+    made = [Pass(passes * nodes) for _ in range(passes)]
     for own, old in zip(made, raw):
         own._raw.at, old.at = old.at, None
     return made

@@ -3,7 +3,12 @@ import threading
 
 import regnubas
 
-THREADS, KEYS, MOST = 4, 1000, 2**64 - 1
+THREADS, KEYS, MOST, WIDEST = 4, 1000, 2**64 - 1, 2**128 - 1
+
+
+def value_of(key):
+    """The value that a key is given here: it has bits in both its words."""
+    return (MOST - key) << 64 | key + 7
 
 
 def again(call, *arguments):
@@ -25,11 +30,12 @@ def refused(fault, call, *arguments, **named):
 def work(number, one, failures):
     try:
         for key in range(number, KEYS * THREADS, THREADS):
-            assert again(one.insert, key, key) is None
-            assert again(one.replace_if, key, key, key + 7) == key
-            assert one.get(key) == key + 7
+            assert again(one.insert, key, WIDEST) is None
+            assert again(one.replace_if, key, MOST, 0) == WIDEST
+            assert again(one.replace_if, key, WIDEST, value_of(key)) == WIDEST
+            assert one.get(key) == value_of(key)
         for key in range(number, KEYS * THREADS, THREADS * 3):
-            assert again(one.delete, key) == key + 7
+            assert again(one.delete, key) == value_of(key)
             assert one.get(key) is None
             found = again(one.successor, key)
             assert found is None or found[0] > key
@@ -52,7 +58,7 @@ def four_threads_and_a_close():
     for one in passes[1:]:
         one.leave()
         refused(regnubas.NoPass, one.get, 1)
-    left = [(k, k + 7) for k in range(THREADS * KEYS) if (k // THREADS) % 3 != 0]
+    left = [(k, value_of(k)) for k in range(THREADS * KEYS) if (k // THREADS) % 3 != 0]
     assert passes[0].pop_first() == left[0]
     assert passes[0].close() == left[1:]
 
@@ -63,7 +69,11 @@ def what_is_refused():
     [one] = regnubas.make(1, nodes=3, scx=1, tries=1)
     assert one.pop_first() is None and one.left() == (3, 1)
     refused(OverflowError, one.insert, 2**64, 1)
-    assert one.insert(MOST, MOST) is None and one.get(MOST) == MOST
+    for value in 2**128, -1:
+        refused(OverflowError, one.insert, 1, value)
+        refused(OverflowError, one.replace_if, 1, value, 1)
+        refused(OverflowError, one.replace_if, 1, 1, value)
+    assert one.insert(MOST, WIDEST) is None and one.get(MOST) == WIDEST
     refused(regnubas.Full, one.delete, MOST)
 
 

@@ -1,11 +1,16 @@
 //! Four threads on one dictionary.
-use regnubas::{make, CloseFault, Fault, Limits, Pair, Pass};
+use regnubas::{make, CloseFault, Fault, Limits, Pass};
 
 const THREADS: u64 = 4;
 const KEYS: u64 = 3000;
 
 fn key_of(thread: u64, i: u64) -> u64 {
     i * THREADS + thread
+}
+
+/// The value that a key is given here: it has bits in both its words.
+fn value_of(key: u64) -> u128 {
+    u128::from(!key) << 64 | u128::from(key + 7)
 }
 
 fn again<T>(mut call: impl FnMut() -> Result<T, Fault>) -> Result<T, Fault> {
@@ -20,20 +25,21 @@ fn again<T>(mut call: impl FnMut() -> Result<T, Fault>) -> Result<T, Fault> {
 fn work(number: u64, mut pass: Pass) -> Pass {
     for i in 0..KEYS {
         let key = key_of(number, i);
-        assert_eq!(again(|| pass.insert(key, key)), Ok(None));
-        assert_eq!(again(|| pass.replace_if(key, key, key + 7)), Ok(Some(key)));
-        assert_eq!(pass.get(key), Some(key + 7));
+        assert_eq!(again(|| pass.insert(key, u128::MAX)), Ok(None));
+        assert_eq!(again(|| pass.replace_if(key, u128::from(u64::MAX), 0)), Ok(Some(u128::MAX)));
+        assert_eq!(again(|| pass.replace_if(key, u128::MAX, value_of(key))), Ok(Some(u128::MAX)));
+        assert_eq!(pass.get(key), Some(value_of(key)));
     }
     for i in (0..KEYS).step_by(3) {
         let key = key_of(number, i);
-        assert_eq!(again(|| pass.delete(key)), Ok(Some(key + 7)));
+        assert_eq!(again(|| pass.delete(key)), Ok(Some(value_of(key))));
         assert_eq!(pass.get(key), None);
-        if let Some(pair) = again(|| pass.successor(key)).unwrap() {
-            assert!(pair.key > key);
+        if let Some((next, _)) = again(|| pass.successor(key)).unwrap() {
+            assert!(next > key);
         }
-        let mut room = [Pair::default(); 16];
-        let pairs = again(|| pass.range(key, u64::MAX, &mut room).map(<[Pair]>::to_vec)).unwrap();
-        assert!(pairs.windows(2).all(|w| w[0].key < w[1].key) && pairs.iter().all(|p| p.key > key));
+        let pairs = again(|| pass.range(key, u64::MAX, 16)).unwrap();
+        assert!(pairs.len() <= 16 && pairs.iter().all(|pair| pair.0 > key));
+        assert!(pairs.windows(2).all(|two| two[0].0 < two[1].0));
     }
     pass
 }
@@ -47,10 +53,10 @@ fn four_threads_and_a_close() {
     let Err(CloseFault::Shared(mut last)) = last.close() else { panic!("closed while shared") };
     drop(passes);
     let least = key_of(0, 1);
-    assert_eq!(last.pop_first(), Ok(Some(Pair { key: least, value: least + 7 })));
+    assert_eq!(last.pop_first(), Ok(Some((least, value_of(least)))));
     let Ok(pairs) = last.close() else { panic!("not closed") };
     let keys: Vec<u64> = (0..KEYS).filter(|i| i % 3 != 0).flat_map(|i| (0..THREADS).map(move |t| key_of(t, i))).collect();
-    assert_eq!(pairs, keys[1..].iter().map(|&key| Pair { key, value: key + 7 }).collect::<Vec<_>>());
+    assert_eq!(pairs, keys[1..].iter().map(|&key| (key, value_of(key))).collect::<Vec<_>>());
 }
 
 #[test]

@@ -2,8 +2,10 @@
 use Rattle.std.specs.Prelude.{◌≡◌, ◌⊎◌, ◌^◌, ◌<◌, ℕ, Option, Some, None, Result, Ok, Err, List, length, vec_len, slice_get, take}
 use Rattle.std.specs.Arc.{arc_value}
 use Rattle.std.specs.Global.{Vec}
+use Rattle.std.specs.Option.{option_map}
 use Rattle.arena.specs.Limits.{IsAccepted}
 use Rattle.arena.specs.declared.limits.Limits.{Limits}
+use Rattle.ordered_map.specs.Holding.{wide_value}
 use Rattle.ordered_map.specs.OrderedMap.{MapCall, PopFirst, Get, Successor, Range, OneValue}
 use Rattle.forest.specs.declared.fault.OrderFault.{OrderFault}
 use Rattle.forest.specs.declared.fault.OrderFault.TheVariants as reads
@@ -13,95 +15,109 @@ use Rattle.forest.specs.Dictionary.{HasMadeCall, IsReading, UpdateSays, PopSays,
 use Rattle.capi.specs.Left.{AreLeft}
 use Rattle.capi.specs.Made.{AreMade}
 use Rattle.capi.specs.declared.answer.Answer.{Answer}
+use Rattle.capi.specs.declared.answer.Count.{Count}
 use Rattle.capi.specs.declared.answer.Left.{Left}
 use Rattle.capi.specs.declared.answer.Pair.{Pair}
 use Rattle.capi.specs.declared.answer.PassLimits.{PassLimits}
+use Rattle.capi.specs.declared.answer.Value.{Value}
 use Rattle.capi.specs.declared.client.Client.{Client}
 use Rattle.capi.specs.declared.handle.Place.{Place}
 
 -- Statuses are numbers here, as C has them: 0 none, 1 some, 2 contended, 3 full, 4 no memory,
 -- 5 limits, 6 no pass, 7 shared.
 
+-- the number of a value's words
+abbrev pub number : Value → ℕ
+number v = wide_value v.low v.high
+
 -- an answer with no value
 abbrev pub bare : ℕ → Answer
-bare status = record { value = 0; status = status }
+bare status = record { value = record { low = 0; high = 0 }; status = status }
+
+-- an answer with no number of pairs
+abbrev pub no_count : ℕ → Count
+no_count status = record { pairs = 0; status = status }
+
+-- the answer that there are so many pairs
+abbrev pub counted : ℕ → Count
+counted n = record { pairs = n; status = 1 }
 
 -- what `get` answers
-abbrev pub value_answer : Option ℕ → Answer
-value_answer None = bare 0
-value_answer (Some v) = record { value = v; status = 1 }
+abbrev pub IsValueAnswer : Option ℕ → Answer → Type 0
+IsValueAnswer None a = a ≡ bare 0
+IsValueAnswer (Some v) a = (number a.value ≡ v) × (a.status ≡ 1)
 
 -- why an edit was refused
-abbrev pub update_refusal : UpdateFault → Answer
-update_refusal (updates.Contended node scx) = bare 2
-update_refusal (updates.Full full) = bare 3
+abbrev pub update_status : UpdateFault → ℕ
+update_status (updates.Contended node scx) = 2
+update_status (updates.Full full) = 3
 
 -- why an ordered read was refused
-abbrev pub order_refusal : OrderFault → Answer
-order_refusal (reads.Contended node scx) = bare 2
-order_refusal reads.NoMemory = bare 4
+abbrev pub order_status : OrderFault → ℕ
+order_status (reads.Contended node scx) = 2
+order_status reads.NoMemory = 4
 
 -- what an edit of a key answers
-abbrev pub update_answer : Result (Option ℕ) UpdateFault → Answer
-update_answer (Ok old) = value_answer old
-update_answer (Err fault) = update_refusal fault
+abbrev pub IsUpdateAnswer : Result (Option ℕ) UpdateFault → Answer → Type 0
+IsUpdateAnswer (Ok old) a = IsValueAnswer old a
+IsUpdateAnswer (Err fault) a = a ≡ bare (update_status fault)
 
--- a pair as C has it
-abbrev pub pair_in_c : ℕ × ℕ → Pair
-pair_in_c p = record { key = p.0; value = p.1 }
+-- the pair that C has
+abbrev pub pair_of : Pair → ℕ × ℕ
+pair_of p = (p.key, number p.value)
 
 -- what a call that tells a pair leaves in its room, and answers
-abbrev pub IsPairAnswer : Option (ℕ × ℕ) → Pair → Answer → Type 0
-IsPairAnswer (Some p) room a = (room ≡ pair_in_c p) × (a ≡ bare 1)
-IsPairAnswer None room a = a ≡ bare 0
+abbrev pub IsPairAnswer : Option (ℕ × ℕ) → Pair → ℕ → Type 0
+IsPairAnswer (Some p) room status = (pair_of room ≡ p) × (status ≡ 1)
+IsPairAnswer None room status = status ≡ 0
 
 -- the same where such a call may be refused
-abbrev pub IsFoundAnswer : {F : Type 0} → (F → Answer) → Result (Option (ℕ × ℕ)) F → Pair → Answer → Type 0
-IsFoundAnswer refusal (Ok found) room a = IsPairAnswer found room a
-IsFoundAnswer refusal (Err fault) room a = a ≡ refusal fault
+abbrev pub IsFoundAnswer : {F : Type 0} → (F → ℕ) → Result (Option (ℕ × ℕ)) F → Pair → ℕ → Type 0
+IsFoundAnswer refusal (Ok found) room status = IsPairAnswer found room status
+IsFoundAnswer refusal (Err fault) room status = status ≡ refusal fault
 
 -- these pairs stand in the first places of the room
 abbrev pub StandIn : List (ℕ × ℕ) → List Pair → Type 0
-StandIn pairs room = (j : ℕ) (p : ℕ × ℕ) → slice_get pairs j ≡ Some p → slice_get room j ≡ Some (pair_in_c p)
+StandIn pairs room = (j : ℕ) (p : ℕ × ℕ) → slice_get pairs j ≡ Some p → option_map pair_of (slice_get room j) ≡ Some p
 
 -- what `range` leaves in its room, and answers
-abbrev pub IsAnswerOfRange : Result (Vec (ℕ × ℕ)) OrderFault → List Pair → Answer → Type 0
-IsAnswerOfRange (Ok found) room a = StandIn found.items room × (a ≡ record { value = vec_len found; status = 1 })
-IsAnswerOfRange (Err fault) room a = a ≡ order_refusal fault
+abbrev pub IsCountOfRange : Result (Vec (ℕ × ℕ)) OrderFault → List Pair → Count → Type 0
+IsCountOfRange (Ok found) room a = StandIn found.items room × (a ≡ counted (vec_len found))
+IsCountOfRange (Err fault) room a = a ≡ no_count (order_status fault)
 
 -- What a call says of the pass that has made it
 
 -- the pass has made this call, and blames these now: what it knows is lawful, and goes on from what
 -- it knew by no more steps of its own than such a call takes
 abbrev pub HasClientCalled : Client → Client → MapCall → List ℕ → Type 0
-HasClientCalled old new call blamed = HasMadeCall (λ k. k < 2 ^ 64) (λ k. k) (λ v. v < 2 ^ 64) (λ v. v) (arc_value old.forest).tries (arc_value old.forest).layout old.pass new.pass call blamed
+HasClientCalled old new call blamed = HasMadeCall (λ k. k < 2 ^ 64) (λ k. k) (λ v. v < 2 ^ 128) (λ v. v) (arc_value old.forest).tries (arc_value old.forest).layout old.pass new.pass call blamed
 
 -- what a handle held before and after a call, and what the call answered: with no pass nothing is
--- done; else the pass, which stays in its forest, has made this call
-abbrev pub CallSays : (Client → Client → Answer → Type 0) → Option Client → Option Client → Answer → Type 0
-CallSays made None after a = (after ≡ None) × (a ≡ bare 6)
-CallSays made (Some old) None a = ⊥
-CallSays made (Some old) (Some new) a = (new.forest ≡ old.forest) × made old new a
+-- done, and it answers this; else the pass, which stays in its forest, has made this call
+abbrev pub CallSays : {A : Type 0} → A → (Client → Client → A → Type 0) → Option Client → Option Client → A → Type 0
+CallSays no_pass made None after a = (after ≡ None) × (a ≡ no_pass)
+CallSays no_pass made (Some old) None a = ⊥
+CallSays no_pass made (Some old) (Some new) a = (new.forest ≡ old.forest) × made old new a
 
 -- what `get` says
 abbrev pub GetSays : ℕ → Client → Client → Answer → Type 0
-GetSays key old new a = (told : Option ℕ) × (a ≡ value_answer told) × HasClientCalled old new (Get key) old.pass.blamed × IsReading old.pass new.pass (Get key) (OneValue told)
+GetSays key old new a = (told : Option ℕ) × IsValueAnswer told a × HasClientCalled old new (Get key) old.pass.blamed × IsReading old.pass new.pass (Get key) (OneValue told)
 
 -- what an edit of a key says
 abbrev pub EditSays : MapCall → Client → Client → Answer → Type 0
-EditSays call old new a = (told : Result (Option ℕ) UpdateFault) × (a ≡ update_answer told) × HasClientCalled old new call (blamed_by_update told old.pass.blamed) × UpdateSays (λ v. v) (arc_value old.forest).tries old.pass new.pass call told
+EditSays call old new a = (told : Result (Option ℕ) UpdateFault) × IsUpdateAnswer told a × HasClientCalled old new call (blamed_by_update told old.pass.blamed) × UpdateSays (λ v. v) (arc_value old.forest).tries old.pass new.pass call told
 
 -- what `pop_first` says, which leaves the pair that it has taken in this room
-abbrev pub TakenSays : Pair → Client → Client → Answer → Type 0
-TakenSays room old new a = (told : Result (Option (ℕ × ℕ)) UpdateFault) × IsFoundAnswer update_refusal told room a × HasClientCalled old new PopFirst (blamed_by_update told old.pass.blamed) × PopSays (λ k. k) (λ v. v) (arc_value old.forest).tries old.pass new.pass told
+abbrev pub TakenSays : Pair → Client → Client → ℕ → Type 0
+TakenSays room old new status = (told : Result (Option (ℕ × ℕ)) UpdateFault) × IsFoundAnswer update_status told room status × HasClientCalled old new PopFirst (blamed_by_update told old.pass.blamed) × PopSays (λ k. k) (λ v. v) (arc_value old.forest).tries old.pass new.pass told
 
 -- what `successor` says
-abbrev pub NextSays : ℕ → Pair → Client → Client → Answer → Type 0
-NextSays key room old new a = (told : Result (Option (ℕ × ℕ)) OrderFault) × IsFoundAnswer order_refusal told room a × HasClientCalled old new (Successor key) (blamed_by_read told old.pass.blamed) × SuccessorSays (λ k. k) (λ v. v) (arc_value old.forest).tries old.pass new.pass key told
+abbrev pub NextSays : ℕ → Pair → Client → Client → ℕ → Type 0
+NextSays key room old new status = (told : Result (Option (ℕ × ℕ)) OrderFault) × IsFoundAnswer order_status told room status × HasClientCalled old new (Successor key) (blamed_by_read told old.pass.blamed) × SuccessorSays (λ k. k) (λ v. v) (arc_value old.forest).tries old.pass new.pass key told
 
 -- what `range` says, which may tell so many pairs, and leaves them in this room
-abbrev pub BetweenSays : ℕ → ℕ → ℕ → List Pair → Client → Client → Answer → Type 0
-BetweenSays low high most room old new a = (told : Result (Vec (ℕ × ℕ)) OrderFault) × IsAnswerOfRange told room a × HasClientCalled old new (Range low high most) (blamed_by_read told old.pass.blamed) × RangeSays (λ k. k) (λ v. v) (arc_value old.forest).tries old.pass new.pass low high most told
+abbrev pub BetweenSays : ℕ → ℕ → ℕ → List Pair → Client → Client → Count → Type 0
+BetweenSays low high most room old new a = (told : Result (Vec (ℕ × ℕ)) OrderFault) × IsCountOfRange told room a × HasClientCalled old new (Range low high most) (blamed_by_read told old.pass.blamed) × RangeSays (λ k. k) (λ v. v) (arc_value old.forest).tries old.pass new.pass low high most told
 
 -- what `left` tells
 abbrev pub LeftSays : Option Client → Left → Type 0
@@ -111,17 +127,17 @@ LeftSays (Some c) a = a ≡ record { nodes = c.pass.share.nodes; scx = c.pass.sh
 -- What `close` and `make` say
 
 -- the pairs that are left stand in the room, as far as they go in
-pub record HasClosed (c : Client) (room : List Pair) (a : Answer) : Type 0 where
+pub record HasClosed (c : Client) (room : List Pair) (a : Count) : Type 0 where
   pub pairs : List (ℕ × ℕ)
   pub left : AreLeft c.pass pairs
-  pub count : a ≡ record { value = length pairs; status = 1 }
+  pub count : a ≡ counted (length pairs)
   pub put : StandIn (take (length room) pairs) room
 
 -- what `close` answers, and leaves in the handle and in its room
-abbrev pub CloseSays : Option Client → Option Client → List Pair → Answer → Type 0
-CloseSays None after room a = (after ≡ None) × (a ≡ bare 6)
-CloseSays (Some c) (Some d) room a = (d ≡ c) × (a ≡ bare 7)
-CloseSays (Some c) None room a = (a ≡ bare 4) ⊎ HasClosed c room a
+abbrev pub CloseSays : Option Client → Option Client → List Pair → Count → Type 0
+CloseSays None after room a = (after ≡ None) × (a ≡ no_count 6)
+CloseSays (Some c) (Some d) room a = (d ≡ c) × (a ≡ no_count 7)
+CloseSays (Some c) None room a = (a ≡ no_count 4) ⊎ HasClosed c room a
 
 -- the limits of so many passes
 abbrev pub limits_of : PassLimits → ℕ → Limits

@@ -3,7 +3,7 @@ use Rattle.std.specs.Prelude.{◌≡◌, ℕ, List, map}
 use Rattle.arena.specs.History.{History, value, Extends}
 use Rattle.arena.specs.Machines.{IsRun}
 use Rattle.dict.specs.Typed.{TypedAllows}
-use Rattle.dict.specs.Words.{IsNumber}
+use Rattle.dict.specs.Words.{IsNumber, IsWideNumber}
 use Rattle.ordered_map.specs.Replies.{word_pair}
 use Rattle.ordered_map.specs.Spelled.{Spells}
 use Rattle.forest.specs.Passes.{PassView, run_of}
@@ -14,7 +14,7 @@ use Rattle.capi.specs.declared.client.Closing.TheVariants.{Pairs, NoMemory, Shar
 -- the pairs are those of the map at the end of a lawful run, which goes on from what the pass knew
 pub record AreLeft (p : PassView) (pairs : List (ℕ × ℕ)) : Type 0 where
   pub run : History
-  pub sound : IsRun (TypedAllows IsNumber IsNumber) p.layout run
+  pub sound : IsRun (TypedAllows IsNumber IsWideNumber) p.layout run
   pub goes_on : Extends run (run_of p)
   pub spelled : Spells p.layout (value run) (map (word_pair (λ k. k) (λ v. v)) pairs)
 

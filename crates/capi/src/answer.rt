@@ -1,7 +1,8 @@
 //! What calls take from C and answer to it.
 ghost use Rattle.std.specs.Prelude.{◌≡◌, ◌≤◌, length, vec_len, IfOk, take};
-ghost use Rattle.capi.specs.Answers.{value_answer, update_answer, update_refusal, order_refusal, IsPairAnswer, IsAnswerOfRange, StandIn};
+ghost use Rattle.capi.specs.Answers.{number, bare, no_count, counted, update_status, order_status, IsValueAnswer, IsUpdateAnswer, IsPairAnswer, IsCountOfRange, StandIn};
 
+use ordered_map::{halves, wide_value};
 use regnubas::{OrderFault, UpdateFault};
 
 /// Done: the key has no value, or had none.
@@ -28,12 +29,12 @@ pub const NO_PASS: u32 = 6;
 /// Not closed: other passes are still held.
 pub const SHARED: u32 = 7;
 
-/// A status, and what goes with it: a value, or a number of pairs.
+/// A value: a number of 128 bits as its two words.
 #[repr(C)]
 #[derive(Clone, Copy)]
-pub struct Answer {
-    pub value: u64,
-    pub status: u32,
+pub struct Value {
+    pub low: u64,
+    pub high: u64,
 }
 
 /// A key and its value.
@@ -41,7 +42,23 @@ pub struct Answer {
 #[derive(Clone, Copy)]
 pub struct Pair {
     pub key: u64,
-    pub value: u64,
+    pub value: Value,
+}
+
+/// A status, and the value that goes with it.
+#[repr(C)]
+#[derive(Clone, Copy)]
+pub struct Answer {
+    pub value: Value,
+    pub status: u32,
+}
+
+/// A status, and the number of pairs that goes with it.
+#[repr(C)]
+#[derive(Clone, Copy)]
+pub struct Count {
+    pub pairs: u64,
+    pub status: u32,
 }
 
 /// What each pass may take, and how often its calls try: `Limits` without the number of passes.
@@ -61,105 +78,137 @@ pub struct Left {
     pub scx: u32,
 }
 
+impl Value {
+    /// The words of a number.
+    pub(crate) fn of(value: u128) -> Value
+        ensures { number result ≡ value }
+    {
+        let (low, high) = halves(value);
+        Value { low, high }
+    }
+
+    /// The number of its words.
+    pub(crate) fn number(self) -> u128
+        ensures { result ≡ number self }
+    {
+        wide_value(self.low, self.high)
+    }
+}
+
+/// Why an edit was refused.
+pub(crate) fn status_of_edit(fault: UpdateFault) -> u32
+    ensures { result ≡ update_status fault }
+{
+    match fault {
+        UpdateFault::Contended { .. } => CONTENDED,
+        UpdateFault::Full(_) => FULL,
+    }
+}
+
+/// Why an ordered read was refused.
+pub(crate) fn status_of_read(fault: OrderFault) -> u32
+    ensures { result ≡ order_status fault }
+{
+    match fault {
+        OrderFault::Contended { .. } => CONTENDED,
+        OrderFault::NoMemory => NO_MEMORY,
+    }
+}
+
+/// What a call answers that tells a pair, and leaves at `room`.
+pub(crate) fn tell_pair(found: Option<(u64, u128)>, room: &mut Pair) -> u32
+    ensures { IsPairAnswer found room.new result }
+{
+    match found {
+        Some((key, value)) => {
+            *room = Pair {
+                key,
+                value: Value::of(value),
+            };
+            SOME
+        }
+        None => NONE,
+    }
+}
+
 impl Answer {
     /// An answer with no value.
     pub(crate) fn bare(status: u32) -> Answer
-        ensures { result ≡ record { value = 0; status = status } }
+        ensures { result ≡ bare status }
     {
-        Answer { value: 0, status }
+        Answer {
+            value: Value { low: 0, high: 0 },
+            status,
+        }
     }
 
     /// What `get` answers.
-    pub(crate) fn of_value(value: Option<u64>) -> Answer
-        ensures { result ≡ value_answer value }
+    pub(crate) fn of_value(value: Option<u128>) -> Answer
+        ensures { IsValueAnswer value result }
     {
         match value {
             Some(value) => Answer {
-                value,
+                value: Value::of(value),
                 status: SOME,
             },
             None => Answer::bare(NONE),
         }
     }
 
-    /// Why an edit was refused.
-    pub(crate) fn of_update_fault(fault: UpdateFault) -> Answer
-        ensures { result ≡ update_refusal fault }
-    {
-        match fault {
-            UpdateFault::Contended { .. } => Answer::bare(CONTENDED),
-            UpdateFault::Full(_) => Answer::bare(FULL),
-        }
-    }
-
-    /// Why an ordered read was refused.
-    pub(crate) fn of_order_fault(fault: OrderFault) -> Answer
-        ensures { result ≡ order_refusal fault }
-    {
-        match fault {
-            OrderFault::Contended { .. } => Answer::bare(CONTENDED),
-            OrderFault::NoMemory => Answer::bare(NO_MEMORY),
-        }
-    }
-
     /// What an edit of a key answers.
-    pub(crate) fn of_update(told: Result<Option<u64>, UpdateFault>) -> Answer
-        ensures { result ≡ update_answer told }
+    pub(crate) fn of_update(told: Result<Option<u128>, UpdateFault>) -> Answer
+        ensures { IsUpdateAnswer told result }
     {
         match told {
             Ok(old) => Answer::of_value(old),
-            Err(fault) => Answer::of_update_fault(fault),
+            Err(fault) => Answer::bare(status_of_edit(fault)),
         }
     }
+}
 
-    /// What a call answers that tells a pair, and leaves at `room`.
-    pub(crate) fn of_pair(found: Option<(u64, u64)>, room: &mut Pair) -> Answer
-        ensures { IsPairAnswer found room.new result }
+impl Count {
+    /// An answer with no number of pairs.
+    pub(crate) fn none(status: u32) -> Count
+        ensures { result ≡ no_count status }
     {
-        match found {
-            Some((key, value)) => {
-                *room = Pair { key, value };
-                Answer::bare(SOME)
-            }
-            None => Answer::bare(NONE),
-        }
+        Count { pairs: 0, status }
     }
 
     /// What `range` answers, and leaves in `room`.
-    pub(crate) fn of_range(told: Result<Vec<(u64, u64)>, OrderFault>, room: &mut [Pair]) -> Answer
+    pub(crate) fn of_range(told: Result<Vec<(u64, u128)>, OrderFault>, room: &mut [Pair]) -> Count
         requires { IfOk told (λ pairs. vec_len pairs ≤ length room.old) }
         ensures len { length room.new ≡ length room.old }
-        ensures says { IsAnswerOfRange told room.new result }
+        ensures says { IsCountOfRange told room.new result }
     {
         match told {
             Ok(pairs) => {
                 put(&pairs, room);
-                Answer {
-                    value: pairs.len() as u64,
+                Count {
+                    pairs: pairs.len() as u64,
                     status: SOME,
                 }
             }
-            Err(fault) => Answer::of_order_fault(fault),
+            Err(fault) => Count::none(status_of_read(fault)),
         }
     }
 
     /// What `close` answers, and leaves in `room`.
-    pub(crate) fn of_pairs(mut pairs: Vec<(u64, u64)>, room: &mut [Pair]) -> Answer
-        ensures count { result ≡ record { value = vec_len pairs; status = 1 } }
+    pub(crate) fn of_pairs(mut pairs: Vec<(u64, u128)>, room: &mut [Pair]) -> Count
+        ensures count { result ≡ counted (vec_len pairs) }
         ensures put { StandIn (take (length room.new) pairs.items) room.new }
     {
-        let value = pairs.len() as u64;
+        let all = pairs.len() as u64;
         pairs.truncate(room.len());
         put(&pairs, room);
-        Answer {
-            value,
+        Count {
+            pairs: all,
             status: SOME,
         }
     }
 }
 
 /// Writes pairs to the first places.
-fn put(pairs: &Vec<(u64, u64)>, room: &mut [Pair])
+fn put(pairs: &Vec<(u64, u128)>, room: &mut [Pair])
     requires { vec_len pairs.now ≤ length room.old }
     ensures len { length room.new ≡ length room.old }
     ensures put { StandIn pairs.now.items room.new }
@@ -167,6 +216,7 @@ fn put(pairs: &Vec<(u64, u64)>, room: &mut [Pair])
     let mut i = 0;
     while i < pairs.len() {
         let (key, value) = pairs[i];
+        let value = Value::of(value);
         room[i] = Pair { key, value };
         i += 1;
     }

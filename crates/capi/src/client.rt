@@ -5,13 +5,13 @@ ghost use Rattle.ordered_map.specs.OrderedMap.{Edit, Insert, Delete, PopFirst, R
 ghost use Rattle.forest.specs.Passes.{IsOf};
 ghost use Rattle.forest.specs.Dictionary.{IsReading, UpdateSays, PopSays, SuccessorSays, RangeSays, blamed_by_update, blamed_by_read};
 
-use crate::answer::{Answer, Pair};
+use crate::answer::{Count, Pair};
 use regnubas::{Dict, Forest, NoMemory, OrderFault, Pass, UpdateFault};
 use std::alloc::Global;
 use std::sync::Arc;
 
-/// A dictionary of numbers.
-pub type Numbers = Dict<u64, u64>;
+/// A dictionary from numbers of 64 bits to numbers of 128.
+pub type Numbers = Dict<u64, u128>;
 
 /// A pass, and one owner of its forest.
 #[derive(Drop)]
@@ -25,7 +25,7 @@ impl Client {
     ghost use Rattle.capi.specs.Answers.{HasClientCalled, BetweenSays};
 
     /// The value of a key.
-    pub fn get(&mut self, key: u64) -> Option<u64>
+    pub fn get(&mut self, key: u64) -> Option<u128>
         ensures same { self.new.forest ≡ self.old.forest }
         ensures called { HasClientCalled self.old self.new (Get key) self.old.pass.blamed }
         ensures says { IsReading self.old.pass self.new.pass (Get key) (OneValue result) }
@@ -34,7 +34,7 @@ impl Client {
     }
 
     /// Sets a key to a value.
-    pub fn insert(&mut self, key: u64, value: u64) -> Result<Option<u64>, UpdateFault>
+    pub fn insert(&mut self, key: u64, value: u128) -> Result<Option<u128>, UpdateFault>
         ensures same { self.new.forest ≡ self.old.forest }
         ensures called { HasClientCalled self.old self.new (Edit (Insert key value)) (blamed_by_update result self.old.pass.blamed) }
         ensures says { UpdateSays (λ v. v) (arc_value self.old.forest).tries self.old.pass self.new.pass (Edit (Insert key value)) result }
@@ -43,7 +43,7 @@ impl Client {
     }
 
     /// Takes a key away.
-    pub fn delete(&mut self, key: u64) -> Result<Option<u64>, UpdateFault>
+    pub fn delete(&mut self, key: u64) -> Result<Option<u128>, UpdateFault>
         ensures same { self.new.forest ≡ self.old.forest }
         ensures called { HasClientCalled self.old self.new (Edit (Delete key)) (blamed_by_update result self.old.pass.blamed) }
         ensures says { UpdateSays (λ v. v) (arc_value self.old.forest).tries self.old.pass self.new.pass (Edit (Delete key)) result }
@@ -52,7 +52,7 @@ impl Client {
     }
 
     /// Takes the pair with the least key away.
-    pub fn pop_first(&mut self) -> Result<Option<(u64, u64)>, UpdateFault>
+    pub fn pop_first(&mut self) -> Result<Option<(u64, u128)>, UpdateFault>
         ensures same { self.new.forest ≡ self.old.forest }
         ensures called { HasClientCalled self.old self.new PopFirst (blamed_by_update result self.old.pass.blamed) }
         ensures says { PopSays (λ k. k) (λ v. v) (arc_value self.old.forest).tries self.old.pass self.new.pass result }
@@ -64,9 +64,9 @@ impl Client {
     pub fn replace_if(
         &mut self,
         key: u64,
-        expected: u64,
-        value: u64,
-    ) -> Result<Option<u64>, UpdateFault>
+        expected: u128,
+        value: u128,
+    ) -> Result<Option<u128>, UpdateFault>
         ensures same { self.new.forest ≡ self.old.forest }
         ensures called { HasClientCalled self.old self.new (ReplaceIf key expected value) (blamed_by_update result self.old.pass.blamed) }
         ensures says { UpdateSays (λ v. v) (arc_value self.old.forest).tries self.old.pass self.new.pass (ReplaceIf key expected value) result }
@@ -76,7 +76,7 @@ impl Client {
     }
 
     /// The pair with the least key above this one.
-    pub fn successor(&mut self, alloc: Global, key: u64) -> Result<Option<(u64, u64)>, OrderFault>
+    pub fn successor(&mut self, alloc: Global, key: u64) -> Result<Option<(u64, u128)>, OrderFault>
         ensures same { self.new.forest ≡ self.old.forest }
         ensures called { HasClientCalled self.old self.new (Successor key) (blamed_by_read result self.old.pass.blamed) }
         ensures says { SuccessorSays (λ k. k) (λ v. v) (arc_value self.old.forest).tries self.old.pass self.new.pass key result }
@@ -92,7 +92,7 @@ impl Client {
         low: u64,
         high: u64,
         most: usize,
-    ) -> Result<Vec<(u64, u64)>, OrderFault>
+    ) -> Result<Vec<(u64, u128)>, OrderFault>
         requires few { most ≤ 64 }
         ensures few { IfOk result (λ pairs. vec_len pairs ≤ most) }
         ensures same { self.new.forest ≡ self.old.forest }
@@ -103,12 +103,12 @@ impl Client {
     }
 
     /// The first pairs from `low` to `high`, as many as there is room for, 64 at the most.
-    pub fn fill(&mut self, alloc: Global, low: u64, high: u64, room: &mut [Pair]) -> Answer
+    pub fn fill(&mut self, alloc: Global, low: u64, high: u64, room: &mut [Pair]) -> Count
         ensures same { self.new.forest ≡ self.old.forest }
         ensures says { BetweenSays low high (min 64 (length room.old)) room.new self.old self.new result }
     {
         let told = self.range(alloc, low, high, room.len().min(64));
-        Answer::of_range(told, room)
+        Count::of_range(told, room)
     }
 
     /// How many nodes and SCX-records are left of the pass's share.
@@ -122,7 +122,7 @@ impl Client {
 /// How a client closes.
 pub enum Closing {
     /// It was the last: the pairs of the dictionary.
-    Pairs(Vec<(u64, u64)>),
+    Pairs(Vec<(u64, u128)>),
     /// It was the last, and an allocation was refused: the dictionary is gone.
     NoMemory,
     /// Other clients share the forest.

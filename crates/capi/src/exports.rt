@@ -11,9 +11,12 @@
 //!    from a signal handler, or in the child of a fork of a process with threads.
 ghost use Rattle.std.specs.Prelude.{◌≡◌, None, length, min};
 ghost use Rattle.ordered_map.specs.OrderedMap.{Edit, Insert, Delete, ReplaceIf};
-ghost use Rattle.capi.specs.Answers.{CallSays, GetSays, EditSays, TakenSays, NextSays, BetweenSays, LeftSays, CloseSays, MakeSays};
+ghost use Rattle.capi.specs.Answers.{number, bare, no_count, CallSays, GetSays, EditSays, TakenSays, NextSays, BetweenSays, LeftSays, CloseSays, MakeSays};
 
-use crate::answer::{Answer, LIMITS, Left, NO_MEMORY, NO_PASS, NONE, Pair, PassLimits, SHARED};
+use crate::answer::{
+    Answer, Count, LIMITS, Left, NO_MEMORY, NO_PASS, NONE, Pair, PassLimits, SHARED, Value,
+    status_of_edit, status_of_read, tell_pair,
+};
 use crate::client::Closing;
 use crate::handle::Place;
 use crate::open::open;
@@ -47,7 +50,7 @@ pub extern "C" fn regnubas_make(alloc: Global, each: PassLimits, passes: &mut [P
 /// The value of a key.
 #[unsafe(no_mangle)]
 pub extern "C" fn regnubas_get(alloc: Global, pass: &mut Place, key: u64) -> Answer
-    ensures { CallSays (GetSays key) pass.old.handle.value pass.new.handle.value result }
+    ensures { CallSays (bare 6) (GetSays key) pass.old.handle.value pass.new.handle.value result }
 {
     let Some(mut client) = pass.handle.take(alloc) else {
         return Answer::bare(NO_PASS);
@@ -59,13 +62,13 @@ pub extern "C" fn regnubas_get(alloc: Global, pass: &mut Place, key: u64) -> Ans
 
 /// Sets a key to a value, and tells the value that it had.
 #[unsafe(no_mangle)]
-pub extern "C" fn regnubas_insert(alloc: Global, pass: &mut Place, key: u64, value: u64) -> Answer
-    ensures { CallSays (EditSays (Edit (Insert key value))) pass.old.handle.value pass.new.handle.value result }
+pub extern "C" fn regnubas_insert(alloc: Global, pass: &mut Place, key: u64, value: Value) -> Answer
+    ensures { CallSays (bare 6) (EditSays (Edit (Insert key (number value)))) pass.old.handle.value pass.new.handle.value result }
 {
     let Some(mut client) = pass.handle.take(alloc) else {
         return Answer::bare(NO_PASS);
     };
-    let answer = Answer::of_update(client.insert(key, value));
+    let answer = Answer::of_update(client.insert(key, value.number()));
     pass.handle.put(client);
     answer
 }
@@ -73,7 +76,7 @@ pub extern "C" fn regnubas_insert(alloc: Global, pass: &mut Place, key: u64, val
 /// Takes a key away, and tells the value that it had.
 #[unsafe(no_mangle)]
 pub extern "C" fn regnubas_delete(alloc: Global, pass: &mut Place, key: u64) -> Answer
-    ensures { CallSays (EditSays (Edit (Delete key))) pass.old.handle.value pass.new.handle.value result }
+    ensures { CallSays (bare 6) (EditSays (Edit (Delete key))) pass.old.handle.value pass.new.handle.value result }
 {
     let Some(mut client) = pass.handle.take(alloc) else {
         return Answer::bare(NO_PASS);
@@ -85,18 +88,18 @@ pub extern "C" fn regnubas_delete(alloc: Global, pass: &mut Place, key: u64) -> 
 
 /// Takes the pair with the least key away, and leaves it at `pair`.
 #[unsafe(no_mangle)]
-pub extern "C" fn regnubas_pop_first(alloc: Global, pass: &mut Place, pair: &mut Pair) -> Answer
-    ensures { CallSays (TakenSays pair.new) pass.old.handle.value pass.new.handle.value result }
+pub extern "C" fn regnubas_pop_first(alloc: Global, pass: &mut Place, pair: &mut Pair) -> u32
+    ensures { CallSays 6 (TakenSays pair.new) pass.old.handle.value pass.new.handle.value result }
 {
     let Some(mut client) = pass.handle.take(alloc) else {
-        return Answer::bare(NO_PASS);
+        return NO_PASS;
     };
-    let answer = match client.pop_first() {
-        Ok(taken) => Answer::of_pair(taken, pair),
-        Err(fault) => Answer::of_update_fault(fault),
+    let status = match client.pop_first() {
+        Ok(taken) => tell_pair(taken, pair),
+        Err(fault) => status_of_edit(fault),
     };
     pass.handle.put(client);
-    answer
+    status
 }
 
 /// Sets a key to a value where it has the expected one, and tells the value that it had.
@@ -105,15 +108,16 @@ pub extern "C" fn regnubas_replace_if(
     alloc: Global,
     pass: &mut Place,
     key: u64,
-    expected: u64,
-    value: u64,
+    expected: Value,
+    value: Value,
 ) -> Answer
-    ensures { CallSays (EditSays (ReplaceIf key expected value)) pass.old.handle.value pass.new.handle.value result }
+    ensures { CallSays (bare 6) (EditSays (ReplaceIf key (number expected) (number value))) pass.old.handle.value pass.new.handle.value result }
 {
     let Some(mut client) = pass.handle.take(alloc) else {
         return Answer::bare(NO_PASS);
     };
-    let answer = Answer::of_update(client.replace_if(key, expected, value));
+    let told = client.replace_if(key, expected.number(), value.number());
+    let answer = Answer::of_update(told);
     pass.handle.put(client);
     answer
 }
@@ -125,18 +129,18 @@ pub extern "C" fn regnubas_successor(
     pass: &mut Place,
     key: u64,
     pair: &mut Pair,
-) -> Answer
-    ensures { CallSays (NextSays key pair.new) pass.old.handle.value pass.new.handle.value result }
+) -> u32
+    ensures { CallSays 6 (NextSays key pair.new) pass.old.handle.value pass.new.handle.value result }
 {
     let Some(mut client) = pass.handle.take(alloc) else {
-        return Answer::bare(NO_PASS);
+        return NO_PASS;
     };
-    let answer = match client.successor(alloc, key) {
-        Ok(next) => Answer::of_pair(next, pair),
-        Err(fault) => Answer::of_order_fault(fault),
+    let status = match client.successor(alloc, key) {
+        Ok(next) => tell_pair(next, pair),
+        Err(fault) => status_of_read(fault),
     };
     pass.handle.put(client);
-    answer
+    status
 }
 
 /// The first pairs from `low` to `high`, as many as there is room for, 64 at the most.
@@ -147,11 +151,11 @@ pub extern "C" fn regnubas_range(
     low: u64,
     high: u64,
     room: &mut [Pair],
-) -> Answer
-    ensures { CallSays (BetweenSays low high (min 64 (length room.old)) room.new) pass.old.handle.value pass.new.handle.value result }
+) -> Count
+    ensures { CallSays (no_count 6) (BetweenSays low high (min 64 (length room.old)) room.new) pass.old.handle.value pass.new.handle.value result }
 {
     let Some(mut client) = pass.handle.take(alloc) else {
-        return Answer::bare(NO_PASS);
+        return Count::none(NO_PASS);
     };
     let answer = client.fill(alloc, low, high, room);
     pass.handle.put(client);
@@ -183,25 +187,25 @@ pub extern "C" fn regnubas_leave(alloc: Global, pass: &mut Place)
 /// Ends the dictionary by its last pass, and leaves its first pairs in `room`. It answers how many
 /// there are in all.
 #[unsafe(no_mangle)]
-pub extern "C" fn regnubas_close(alloc: Global, pass: &mut Place, room: &mut [Pair]) -> Answer
+pub extern "C" fn regnubas_close(alloc: Global, pass: &mut Place, room: &mut [Pair]) -> Count
     ensures { CloseSays pass.old.handle.value pass.new.handle.value room.new result }
 {
     let Some(client) = pass.handle.take(alloc) else {
-        return Answer::bare(NO_PASS);
+        return Count::none(NO_PASS);
     };
     if !client.is_last() {
         pass.handle.put(client);
-        return Answer::bare(SHARED);
+        return Count::none(SHARED);
     }
     match Box::into_inner(client).close(alloc) {
-        Closing::Pairs(pairs) => Answer::of_pairs(pairs, room),
-        Closing::NoMemory => Answer::bare(NO_MEMORY),
+        Closing::Pairs(pairs) => Count::of_pairs(pairs, room),
+        Closing::NoMemory => Count::none(NO_MEMORY),
         Closing::Shared(client) => match Box::new(alloc, client) {
             Ok(client) => {
                 pass.handle.put(client);
-                Answer::bare(SHARED)
+                Count::none(SHARED)
             }
-            Err(_) => Answer::bare(NO_MEMORY),
+            Err(_) => Count::none(NO_MEMORY),
         },
     }
 }

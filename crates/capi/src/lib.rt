@@ -11,6 +11,6 @@ mod open;
 #[cfg(test)]
 mod tests;
 
-pub use answer::{Answer, Left, Pair, PassLimits};
+pub use answer::{Answer, Count, Left, Pair, PassLimits, Value};
 pub use client::{Client, Closing, Numbers};
 pub use handle::{Handle, Place};

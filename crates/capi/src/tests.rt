@@ -1,5 +1,5 @@
 //! The functions that C calls, called from here.
-use crate::answer::{Answer, NO_PASS, NONE, Pair, PassLimits, SHARED, SOME};
+use crate::answer::{Answer, Count, NO_PASS, NONE, Pair, PassLimits, SHARED, SOME, Value};
 use crate::exports::{
     regnubas_close, regnubas_get, regnubas_insert, regnubas_leave, regnubas_make,
     regnubas_pop_first, regnubas_replace_if,
@@ -8,8 +8,26 @@ use crate::handle::{Handle, Place};
 use std::alloc::Global;
 use std::test::Fail;
 
-fn told(answer: Answer) -> (u32, u64) {
-    (answer.status, answer.value)
+const EACH: PassLimits = PassLimits {
+    nodes: 20,
+    scx: 20,
+    tries: 3,
+};
+
+const WIDE: Value = Value { low: 8, high: 3 };
+
+const OTHER: Value = Value { low: 8, high: 4 };
+
+fn told(answer: Answer) -> (u32, u64, u64) {
+    (answer.status, answer.value.low, answer.value.high)
+}
+
+fn counted(count: Count) -> (u32, u64) {
+    (count.status, count.pairs)
+}
+
+fn words(pair: Pair) -> (u64, u64, u64) {
+    (pair.key, pair.value.low, pair.value.high)
 }
 
 fn nowhere(alloc: Global) -> Place {
@@ -20,37 +38,30 @@ fn nowhere(alloc: Global) -> Place {
 fn the_last_pass_closes(rt: HostRuntime) -> Result<(), Fail> {
     let alloc = rt.alloc();
     let mut passes = [nowhere(alloc), nowhere(alloc)];
-    let mut room = [Pair { key: 0, value: 0 }; 4];
-    let each = PassLimits {
-        nodes: 20,
-        scx: 20,
-        tries: 3,
-    };
-    assert_eq!(rt; regnubas_make(alloc, each, &mut passes), NONE);
+    let mut room = [Pair {
+        key: 0,
+        value: OTHER,
+    }; 4];
+    assert_eq!(rt; regnubas_make(alloc, EACH, &mut passes), NONE);
     let [mut first, mut second] = passes;
-    assert_eq!(rt; told(regnubas_insert(alloc, &mut first, 7, 8)), (NONE, 0));
-    assert_eq!(rt; told(regnubas_insert(alloc, &mut first, 9, 1)), (NONE, 0));
-    assert_eq!(rt;
-        told(regnubas_replace_if(alloc, &mut second, 7, 8, 5)),
-        (SOME, 8)
-    );
-    assert_eq!(rt;
-        told(regnubas_pop_first(alloc, &mut first, &mut room[3])),
-        (SOME, 0)
-    );
-    assert_eq!(rt; (room[3].key, room[3].value), (7, 5));
-    assert_eq!(rt; told(regnubas_get(alloc, &mut second, 7)), (NONE, 0));
-    assert_eq!(rt;
-        told(regnubas_close(alloc, &mut first, &mut room)),
-        (SHARED, 0)
-    );
+    let new = regnubas_insert(alloc, &mut first, 7, WIDE);
+    assert_eq!(rt; told(new), (NONE, 0, 0));
+    let new = regnubas_insert(alloc, &mut first, 9, OTHER);
+    assert_eq!(rt; told(new), (NONE, 0, 0));
+    let kept = regnubas_replace_if(alloc, &mut second, 7, OTHER, OTHER);
+    assert_eq!(rt; told(kept), (SOME, 8, 3));
+    let replaced = regnubas_replace_if(alloc, &mut second, 7, WIDE, OTHER);
+    assert_eq!(rt; told(replaced), (SOME, 8, 3));
+    assert_eq!(rt; regnubas_pop_first(alloc, &mut first, &mut room[3]), SOME);
+    assert_eq!(rt; words(room[3]), (7, 8, 4));
+    assert_eq!(rt; told(regnubas_get(alloc, &mut second, 7)), (NONE, 0, 0));
+    let early = regnubas_close(alloc, &mut first, &mut room);
+    assert_eq!(rt; counted(early), (SHARED, 0));
     regnubas_leave(alloc, &mut second);
-    assert_eq!(rt; told(regnubas_get(alloc, &mut second, 9)), (NO_PASS, 0));
-    assert_eq!(rt;
-        told(regnubas_close(alloc, &mut first, &mut room)),
-        (SOME, 1)
-    );
-    assert_eq!(rt; (room[0].key, room[0].value), (9, 1));
-    assert_eq!(rt; told(regnubas_get(alloc, &mut first, 9)), (NO_PASS, 0));
+    let left = regnubas_get(alloc, &mut second, 9);
+    assert_eq!(rt; told(left), (NO_PASS, 0, 0));
+    let closed = regnubas_close(alloc, &mut first, &mut room);
+    assert_eq!(rt; counted(closed), (SOME, 1));
+    assert_eq!(rt; words(room[0]), (9, 8, 4));
     Ok(())
 }

@@ -4,7 +4,7 @@ use Rattle.arena.specs.History.{History, value, Extends}
 use Rattle.arena.specs.Machines.{IsRun}
 use Rattle.arena.specs.PlainWords.{Contents}
 use Rattle.dict.specs.Typed.{TypedAllows}
-use Rattle.dict.specs.Words.{IsNumber}
+use Rattle.dict.specs.Words.{IsNumber, IsWideNumber}
 use Rattle.ordered_map.specs.Replies.{word_pair}
 use Rattle.ordered_map.specs.Spelled.{Spells}
 use Rattle.forest.specs.Passes.{Ground, PassView, IsOf, IsClosed, run_of}
@@ -12,7 +12,7 @@ use Rattle.forest.specs.TableRule.{history_of}
 use Rattle.capi.specs.Left.{AreLeft}
 use Rattle.capi.proofs.client.Client.close.Goals as goal
 
-module _ (f : Ground) (p : PassView) (of : IsOf f p) (words : Contents) (closed : IsClosed (TypedAllows IsNumber IsNumber) f.layout (p ∷ []) words) where
+module _ (f : Ground) (p : PassView) (of : IsOf f p) (words : Contents) (closed : IsClosed (TypedAllows IsNumber IsWideNumber) f.layout (p ∷ []) words) where
   -- the run at the end
   abbrev run : History
   run = history_of f.layout.mode closed.rows
@@ -20,7 +20,7 @@ module _ (f : Ground) (p : PassView) (of : IsOf f p) (words : Contents) (closed 
   left : (pairs : List (ℕ × ℕ)) → Spells f.layout (value run) (map (word_pair (λ k. k) (λ v. v)) pairs) → AreLeft p pairs
   left pairs spelled = record {
     run = run;
-    sound = subst (λ (l : Layout). IsRun (TypedAllows IsNumber IsNumber) l run) (sym of.1) closed.sound;
+    sound = subst (λ (l : Layout). IsRun (TypedAllows IsNumber IsWideNumber) l run) (sym of.1) closed.sound;
     goes_on = subst (λ (l : Layout). Extends (history_of l.mode closed.rows) (run_of p)) of.1 closed.begun.0;
     spelled = subst (λ (l : Layout). Spells l (value run) (map (word_pair (λ k. k) (λ v. v)) pairs)) (sym of.1) spelled;
   }
