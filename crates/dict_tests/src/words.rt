@@ -22,7 +22,9 @@ fn words_are_those_of_the_types(rt: HostRuntime) -> Result<(), Fail> {
 fn words_of_no_value_are_refused(rt: HostRuntime) -> Result<(), Fail> {
     let beyond: Option<u32> = WordKey::from_word(4294967296);
     same(&rt, beyond, None);
-    let beyond: Option<u32> = WordValue::from_word(4294967296);
+    let beyond: Option<u32> = WordValue::from_words([0, 4294967296]);
+    same(&rt, beyond, None);
+    let beyond: Option<u64> = WordValue::from_words([1, 0]);
     same(&rt, beyond, None);
     let last: Option<u32> = WordKey::from_word(4294967295);
     same(&rt, last, Some(4294967295));
@@ -32,6 +34,16 @@ fn words_of_no_value_are_refused(rt: HostRuntime) -> Result<(), Fail> {
     same(&rt, text, Some(name("ab")?));
     let minus: Option<i64> = WordKey::from_word(9223372036854775807);
     same(&rt, minus, Some(-1));
+    Ok(())
+}
+
+#[test]
+fn the_high_word_of_a_value_comes_first(rt: HostRuntime) -> Result<(), Fail> {
+    let wide = 18446744073709551621u128;
+    same(&rt, wide.words(), [1, 5]);
+    let found: Option<u128> = WordValue::from_words([1, 5]);
+    same(&rt, found, Some(wide));
+    same(&rt, 5u64.words(), [0, 5]);
     Ok(())
 }
 

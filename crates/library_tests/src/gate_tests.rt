@@ -159,7 +159,7 @@ impl Gate for Steps {
     }
 }
 
-/// An insert makes 48 steps, a get 7, a replacement 45, a delete 72, a pop and a get of the empty map
+/// An insert makes 48 steps, a get 9, a replacement 50, a delete 74, a pop and a get of the empty map
 /// 3, and a range of no pairs none; the insert and the replacement freeze two nodes each, the delete
 /// four. Each call begins where the one before it was answered.
 #[test]
@@ -169,12 +169,12 @@ fn a_gate_is_told_of_each_step(rt: HostRuntime) -> Result<(), Fail> {
     let outcome = run(&rt, rt.alloc(), &script, &gate);
     assert!(rt; outcome.is_ok());
     let mut begin = 0;
-    for (call, end) in [48u64, 55, 100, 172, 175, 178, 178].iter().enumerate() {
+    for (call, end) in [48u64, 57, 107, 181, 184, 187, 187].iter().enumerate() {
         same(&rt, gate.began[call].load(Ordering::SeqCst), begin);
         same(&rt, gate.answered[call].load(Ordering::SeqCst), *end);
         begin = *end;
     }
-    same(&rt, gate.made.load(Ordering::SeqCst), 178);
+    same(&rt, gate.made.load(Ordering::SeqCst), 187);
     same(&rt, gate.freezes.load(Ordering::SeqCst), 8);
     Ok(())
 }

@@ -2,7 +2,7 @@
 
 use crate::same::same;
 use arena::NodeWord::{Child, Settled};
-use arena::SettledPart::{Head, Key, Value};
+use arena::SettledPart::{Head, High, Key, More, Value};
 use arena::Side::Left;
 use arena::Slot::First;
 use arena::{
@@ -61,13 +61,18 @@ fn plays<E: Edit + Drop>(
     (MOST_STEPS, None, run.into_share())
 }
 
-/// The tree that has 5 at 50 and 9 at 90, and what is left of the share.
-fn two_pairs(rt: &impl Abort, table: &mut PlainWords) -> Share {
-    let five = Insert { key: 5, value: 50 };
-    let share = share(rt, table);
-    let (_, _, share) = plays(table, five.run(share, 3, 0));
-    let nine = Insert { key: 9, value: 90 };
-    let (_, _, share) = plays(table, nine.run(share, 3, 1));
+/// Brings in these keys, each at ten times its number: what is left of the share.
+fn brings_in(rt: &impl Abort, table: &mut PlainWords, keys: &[u32]) -> Share {
+    let mut share = share(rt, table);
+    let mut call = 0u64;
+    for number in keys {
+        let key = u64::from(*number);
+        let value = 10 * u128::from(*number);
+        let insert = Insert { key, value };
+        let (_, _, left) = plays(table, insert.run(share, 3, call));
+        share = left;
+        call = call.saturating_add(1);
+    }
     share
 }
 
@@ -77,7 +82,7 @@ fn pops(table: &mut PlainWords, share: Share, call: u64) -> (u32, Option<Updated
 }
 
 /// The key and the value that an answer tells, if it tells a pair.
-fn pair(answer: Option<Updated>) -> Option<(u64, u64)> {
+fn pair(answer: Option<Updated>) -> Option<(u64, u128)> {
     match answer {
         Some(Updated::Done { key, value }) => Some((key, value?)),
         _ => None,
@@ -98,18 +103,20 @@ fn load(node: u64, part: NodeWord) -> Step {
 #[test]
 fn a_walk_to_the_least_key_loads_no_key_of_a_fork(rt: HostRuntime) -> Result<(), Fail> {
     let mut table = opening(rt.alloc())?;
-    two_pairs(&rt, &mut table);
-    // fork 8 has the key 9, over leaf 7 of the key 5
+    brings_in(&rt, &mut table, &[5, 6, 7, 8, 9]);
+    // fork 11 has the key 7, over leaf 9 of the keys 5 and 6
     let loads = [
         (0, Settled(Head)),
         (0, Child(Left)),
         (5, Settled(Head)),
         (5, Child(Left)),
-        (8, Settled(Head)),
-        (8, Child(Left)),
-        (7, Settled(Head)),
-        (7, Settled(Key(First))),
-        (7, Settled(Value(First))),
+        (11, Settled(Head)),
+        (11, Child(Left)),
+        (9, Settled(Head)),
+        (9, Settled(More)),
+        (9, Settled(Key(First))),
+        (9, Settled(Value(First))),
+        (9, Settled(High(First))),
     ];
     let mut walk = WalkRun::new(Goal::Least);
     let mut got = None;
@@ -129,7 +136,7 @@ fn a_walk_to_the_least_key_loads_no_key_of_a_fork(rt: HostRuntime) -> Result<(),
 #[test]
 fn the_least_pairs_are_taken_one_after_the_other(rt: HostRuntime) -> Result<(), Fail> {
     let mut table = opening(rt.alloc())?;
-    let share = two_pairs(&rt, &mut table);
+    let share = brings_in(&rt, &mut table, &[5, 9]);
     let (_, first, share) = pops(&mut table, share, 2);
     same(&rt, pair(first), Some((5, 50)));
     let (_, second, share) = pops(&mut table, share, 3);

@@ -104,7 +104,7 @@ fn listed(alloc: Global, pairs: &[(u64, u64)]) -> Result<Vec<Pair>, AllocError> 
     for (key, value) in pairs {
         list.push(Pair {
             key: *key,
-            value: *value,
+            value: u128::from(*value),
         })?;
     }
     Ok(list)

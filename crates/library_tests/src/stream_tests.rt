@@ -19,7 +19,7 @@ const GET: &str = "limits,1,10,10,3\n0,get,0,,\nend,1,,,\n";
 
 /// Its whole report, of which the first three lines come before the first turn.
 const REPORT_OF_GET: &str = "\
-    report,1,tree,,,,\n\
+    report,2,tree,,,,\n\
     limits,1,10,10,3,,\n\
     call,0,0,get,0,,\n\
     step,1,0,settled,n0.head,2,2\n\
@@ -32,7 +32,7 @@ const SET: &str = "limits,2,10,10,1\n0,set,1,left,70\n1,llx,1,,\nend,2,,,\n";
 
 /// The report of a set, and then another client's snapshot of the cell.
 const REPORT_OF_SET: &str = "\
-    report,1,records,,,,\n\
+    report,2,records,,,,\n\
     limits,2,10,10,1,,\n\
     call,0,0,set,1,left,70\n\
     call,1,0,llx,1,,\n\
@@ -83,7 +83,7 @@ const UNLINKED: &str = "\
 
 /// Their report, with turns that make no step.
 const REPORT_OF_UNLINKED: &str = "\
-    report,1,records,,,,\n\
+    report,2,records,,,,\n\
     limits,1,10,10,1,,\n\
     call,0,0,llx,1,,\n\
     call,0,1,scx,1 2,,1 left 5\n\
@@ -232,7 +232,7 @@ fn a_stream_whose_turn_was_not_written_has_ended(rt: HostRuntime) -> Result<(), 
     let second = turn(&rt, &mut stream, PassNo(0), &mut to).err();
     assert_eq!(rt; first, Some(StreamFault::Write));
     assert_eq!(rt; second, Some(StreamFault::Ended));
-    let beginning = "report,1,tree,,,,\nlimits,1,10,10,3,,\ncall,0,0,get,0,,\n";
+    let beginning = "report,2,tree,,,,\nlimits,1,10,10,3,,\ncall,0,0,get,0,,\n";
     assert_eq!(rt; to.inner.inner.as_slice(), beginning.as_bytes());
     Ok(())
 }

@@ -8,7 +8,7 @@ use std::alloc::AllocError;
 
 /// What a call on the tree does.
 #[derive(Clone, Copy, Debug, PartialEq, Eq)]
-pub(crate) struct MapCall(pub(crate) Request<u64, u64>);
+pub(crate) struct MapCall(pub(crate) Request<u64, u128>);
 
 impl MapCall {
     /// The call of this number of a client, if the script has it.

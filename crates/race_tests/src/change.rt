@@ -60,7 +60,7 @@ fn copied_answer(alloc: Global, answer: &Answer) -> Result<Answer, AllocError> {
     })
 }
 
-fn copied_told(alloc: Global, told: &Reply<u64, u64>) -> Result<Reply<u64, u64>, AllocError> {
+fn copied_told(alloc: Global, told: &Reply<u64, u128>) -> Result<Reply<u64, u128>, AllocError> {
     Ok(match told {
         Reply::Value(value) => Reply::Value(*value),
         Reply::Pair(pair) => Reply::Pair(*pair),
@@ -83,6 +83,19 @@ fn other_number(random: &mut Random, number: u64) -> u64 {
         5 => random.below(4),
         6 => random.below(50),
         _ => random.below(300),
+    }
+}
+
+/// The least number of two words.
+const BEYOND_A_WORD: u128 = 18446744073709551616;
+
+/// Another value, near this one or one word above it.
+fn other_value(random: &mut Random, value: u128) -> u128 {
+    match random.below(4) {
+        0 => value.saturating_add(1),
+        1 => value.saturating_sub(1),
+        2 => value.saturating_add(BEYOND_A_WORD),
+        _ => random_word(random),
     }
 }
 
@@ -115,11 +128,28 @@ fn other_kind(random: &mut Random) -> Kind {
     KINDS[place as usize]
 }
 
+fn other_slot(random: &mut Random) -> Slot {
+    match random.below(4) {
+        0 => Slot::First,
+        1 => Slot::Second,
+        2 => Slot::Third,
+        _ => Slot::Fourth,
+    }
+}
+
+fn other_part(random: &mut Random) -> SettledPart {
+    match random.below(5) {
+        0 => SettledPart::Head,
+        1 => SettledPart::More,
+        2 => SettledPart::Key(other_slot(random)),
+        3 => SettledPart::Value(other_slot(random)),
+        _ => SettledPart::High(other_slot(random)),
+    }
+}
+
 fn other_node_word(random: &mut Random) -> NodeWord {
     match random.below(7) {
-        0 => NodeWord::Settled(SettledPart::Head),
-        1 => NodeWord::Settled(SettledPart::Key(Slot::First)),
-        2 => NodeWord::Settled(SettledPart::Value(Slot::First)),
+        0..=2 => NodeWord::Settled(other_part(random)),
         3 => NodeWord::Child(Side::Left),
         4 => NodeWord::Child(Side::Right),
         5 => NodeWord::Info,
@@ -226,26 +256,36 @@ fn other_moment(random: &mut Random, moment: Option<u64>) -> Option<u64> {
     }
 }
 
-fn random_value(random: &mut Random) -> Option<u64> {
+/// A value, mostly of one word.
+fn random_word(random: &mut Random) -> u128 {
+    let low = u128::from(random.below(17));
+    if random.below(4) == 0 {
+        BEYOND_A_WORD.saturating_add(low)
+    } else {
+        low
+    }
+}
+
+fn random_value(random: &mut Random) -> Option<u128> {
     if random.below(3) == 0 {
         None
     } else {
-        Some(random.below(17))
+        Some(random_word(random))
     }
 }
 
-fn random_pair(random: &mut Random) -> Option<(u64, u64)> {
+fn random_pair(random: &mut Random) -> Option<(u64, u128)> {
     if random.below(6) == 0 {
         None
     } else {
-        Some((random.below(6), random.below(17)))
+        Some((random.below(6), random_word(random)))
     }
 }
 
-fn random_pairs(alloc: Global, random: &mut Random) -> Result<Vec<(u64, u64)>, AllocError> {
+fn random_pairs(alloc: Global, random: &mut Random) -> Result<Vec<(u64, u128)>, AllocError> {
     let mut pairs = Vec::new(alloc);
     for key in 0..random.below(4) {
-        pairs.push((key, random.below(17)))?;
+        pairs.push((key, random_word(random)))?;
     }
     Ok(pairs)
 }
@@ -259,7 +299,7 @@ fn random_full(random: &mut Random) -> Full {
     Full { what, left }
 }
 
-fn random_told(alloc: Global, random: &mut Random) -> Result<Reply<u64, u64>, AllocError> {
+fn random_told(alloc: Global, random: &mut Random) -> Result<Reply<u64, u128>, AllocError> {
     Ok(match random.below(8) {
         0 | 1 => Reply::Value(random_value(random)),
         2 => Reply::Pair(random_pair(random)),
@@ -330,14 +370,14 @@ fn told_otherwise(
 fn reply_otherwise(
     alloc: Global,
     random: &mut Random,
-    reply: &Reply<u64, u64>,
-) -> Result<Reply<u64, u64>, AllocError> {
+    reply: &Reply<u64, u128>,
+) -> Result<Reply<u64, u128>, AllocError> {
     Ok(match reply {
         Reply::Contended { node, scx } => Reply::Contended {
             node: NodeNo(other_number(random, node.0)),
             scx: *scx,
         },
-        Reply::Value(Some(value)) => Reply::Value(Some(other_number(random, *value))),
+        Reply::Value(Some(value)) => Reply::Value(Some(other_value(random, *value))),
         Reply::Full(full) => Reply::Full(Full {
             what: full.what,
             left: other_small(random, full.left),

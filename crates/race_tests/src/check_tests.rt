@@ -24,11 +24,11 @@ limits,2,20,20,3
 end,4,,,
 ";
 
-/// Turns 1 to 48, 49 to 89, 90 to 95, 96 to 99 with the update at 98, 100, and 101 to 107.
+/// Turns 1 to 48, 49 to 94, 95 to 101, 102 to 105 with the update at 104, 106 and 107, and 108 to 116.
 const GETS_SCHEDULE: &str = "\
 call,0,,
 until,0,mark,1
-step,1,,6
+step,1,,7
 call,0,,
 call,1,,
 call,1,,
@@ -48,8 +48,8 @@ limits,2,20,20,3
 end,4,,,
 ";
 
-/// Turns 1 and 2, 3 to 50 with the update at 49, 51, 52 to 96 with the update at 95, and 97 to 168
-/// with the update at 167.
+/// Turns 1 and 2, 3 to 50 with the update at 49, 51, 52 to 101 with the update at 100, and 102 to 175
+/// with the update at 174.
 const DELETES_SCHEDULE: &str = "\
 step,0,,2
 call,1,,
@@ -61,44 +61,52 @@ end,5,,
 
 const READS: Race = (READS_SCRIPT, READS_SCHEDULE);
 
-/// Client 0 brings in three keys. Client 1's range has taken the pair of key 5 when client 0 gives
-/// key 9 another value. It takes that too, and looks once more at all nodes but one; then client 0
-/// gives key 5 another value. So only between these changes the map was as it tells. Client 1's
-/// successor has looked once more at the node above key 5 when client 0 brings in a lesser key than
-/// the one that it tells.
+/// Client 0 brings in seven keys, which stand in three leaves: 4 and 5, 7 and 8, and 9 to 11. Client
+/// 1's range has taken the pair of key 5 when client 0 gives key 9 another value. It takes that too,
+/// and looks once more at all nodes but one; then client 0 gives key 5 another value. So only between
+/// these changes the map was as it tells. Client 1's successor has looked once more at the node above
+/// key 5 when client 0 brings in a lesser key than the one that it tells.
 const READS_SCRIPT: &str = "\
 limits,2,20,20,3
+0,insert,4,40,
 0,insert,5,50,
 0,insert,7,70,
+0,insert,8,80,
 0,insert,9,90,
+0,insert,10,100,
+0,insert,11,110,
 0,insert,9,91,
 0,insert,5,51,
 0,insert,6,60,
-1,range,0,9,64
+1,range,5,9,64
 1,successor,5,,
 1,range,9,5,3
 1,range,6,9,2
-end,10,,,
+end,14,,,
 ";
 
-/// Turns 1 to 48, 49 to 100 and 101 to 155; 156 to 183, 184 to 234 with the update at 233, 235 to
-/// 252, 253 to 300 with the update at 299, and 301; 302 to 332, 333 to 387 with the update at 386,
-/// and 388; 389, and 390 to 443.
+/// The keys take turns 1 to 438; 439 to 469, 470 to 536 with the update at 535, 537 to 563, 564 to 623
+/// with the update at 622, and 624; 625 to 661, 662 to 721 with the update at 720, and 722; 723, and
+/// 724 to 773.
 const READS_SCHEDULE: &str = "\
 call,0,,
 call,0,,
 call,0,,
-step,1,,28
 call,0,,
-step,1,,18
 call,0,,
-call,1,,
+call,0,,
+call,0,,
 step,1,,31
 call,0,,
+step,1,,27
+call,0,,
+call,1,,
+step,1,,37
+call,0,,
 call,1,,
 call,1,,
 call,1,,
-end,13,,
+end,17,,
 ";
 
 /// The race, what the check finds in its record and in which turn, and changes of the report: what
@@ -108,38 +116,38 @@ const CHANGED: &str = "\
 # The record as it is.
 gets;right;
 # Other moments.
-gets;Moment(99);reply,0,1,49,99,98,some 50;reply,0,1,49,99,97,some 50
-gets;Moment(99);reply,0,1,49,99,98,some 50;reply,0,1,49,99,99,some 50
-gets;Moment(99);reply,0,1,49,99,98,some 50;reply,0,1,49,99,,some 50
-gets;Moment(100);reply,1,0,90,100,97,some 50;reply,1,0,90,100,96,some 50
-gets;Moment(100);reply,1,0,90,100,97,some 50;reply,1,0,90,100,98,some 50
-gets;Moment(107);reply,1,1,101,107,107,some 51;reply,1,1,101,107,106,some 51
-gets;Moment(107);reply,1,1,101,107,107,some 51;reply,1,1,101,107,108,some 51
-gets;Moment(107);reply,1,1,101,107,107,some 51;reply,1,1,101,107,,some 51
+gets;Moment(105);reply,0,1,49,105,104,some 50;reply,0,1,49,105,103,some 50
+gets;Moment(105);reply,0,1,49,105,104,some 50;reply,0,1,49,105,105,some 50
+gets;Moment(105);reply,0,1,49,105,104,some 50;reply,0,1,49,105,,some 50
+gets;Moment(107);reply,1,0,95,107,103,some 50;reply,1,0,95,107,102,some 50
+gets;Moment(107);reply,1,0,95,107,103,some 50;reply,1,0,95,107,104,some 50
+gets;Moment(116);reply,1,1,108,116,116,some 51;reply,1,1,108,116,115,some 51
+gets;Moment(116);reply,1,1,108,116,116,some 51;reply,1,1,108,116,117,some 51
+gets;Moment(116);reply,1,1,108,116,116,some 51;reply,1,1,108,116,,some 51
 # A value that the key never had, none, one of another time, and refusals.
-gets;Answer(99);reply,0,1,49,99,98,some 50;reply,0,1,49,99,98,some 51
-gets;Answer(99);reply,0,1,49,99,98,some 50;reply,0,1,49,99,98,none
-gets;Answer(100);reply,1,0,90,100,97,some 50;reply,1,0,90,100,97,some 52
-gets;Answer(100);reply,1,0,90,100,97,some 50;reply,1,0,90,100,97,none
-gets;Moment(100);reply,1,0,90,100,97,some 50;reply,1,0,90,100,97,some 51
-gets;Answer(107);reply,1,1,101,107,107,some 51;reply,1,1,101,107,107,some 50
-gets;Entry(99);reply,0,1,49,99,98,some 50;reply,0,1,49,99,98,full nodes 2
-gets;Answer(107);reply,1,1,101,107,107,some 51;reply,1,1,101,107,107,full nodes 2
+gets;Answer(105);reply,0,1,49,105,104,some 50;reply,0,1,49,105,104,some 51
+gets;Answer(105);reply,0,1,49,105,104,some 50;reply,0,1,49,105,104,none
+gets;Answer(107);reply,1,0,95,107,103,some 50;reply,1,0,95,107,103,some 52
+gets;Answer(107);reply,1,0,95,107,103,some 50;reply,1,0,95,107,103,none
+gets;Moment(107);reply,1,0,95,107,103,some 50;reply,1,0,95,107,103,some 51
+gets;Answer(116);reply,1,1,108,116,116,some 51;reply,1,1,108,116,116,some 50
+gets;Entry(105);reply,0,1,49,105,104,some 50;reply,0,1,49,105,104,full nodes 2
+gets;Answer(116);reply,1,1,108,116,116,some 51;reply,1,1,108,116,116,full nodes 2
 # Lines that are left out, first and last turns, and steps: a finalized node changes, a load changes, a
 # load finds something else.
-gets;Entry(47);log,1,47,s1,0,0,;;end,107,4,2,,,;end,107,4,1,,,
-gets;Entry(98);log,2,98,s2,0,1,;;end,107,4,2,,,;end,107,4,1,,,
-gets;Entry(98);reply,0,0,1,48,47,none;;end,107,4,2,,,;end,107,3,2,,,
-gets;Reply(107);reply,1,0,90,100,97,some 50;;end,107,4,2,,,;end,107,3,2,,,
-gets;Reply(99);reply,0,1,49,99,98,some 50;reply,0,1,50,99,98,some 50
-gets;Reply(100);reply,1,0,90,100,97,some 50;reply,1,0,90,99,97,some 50
-gets;Word(101);step,101,1,settled,n0.head,2,2;step,101,1,fill,n3.value,50,51
-gets;Word(101);step,101,1,settled,n0.head,2,2;step,101,1,settled,n3.value,50,51
-gets;Word(101);step,101,1,settled,n0.head,2,2;step,101,1,settled,n3.value,51,51
+gets;Entry(47);log,1,47,s1,0,0,;;end,116,4,2,,,;end,116,4,1,,,
+gets;Entry(104);log,2,104,s2,0,1,;;end,116,4,2,,,;end,116,4,1,,,
+gets;Entry(104);reply,0,0,1,48,47,none;;end,116,4,2,,,;end,116,3,2,,,
+gets;Reply(116);reply,1,0,95,107,103,some 50;;end,116,4,2,,,;end,116,3,2,,,
+gets;Reply(105);reply,0,1,49,105,104,some 50;reply,0,1,50,105,104,some 50
+gets;Reply(107);reply,1,0,95,107,103,some 50;reply,1,0,95,106,103,some 50
+gets;Word(108);step,108,1,settled,n0.head,2,2;step,108,1,fill,n3.value,50,51
+gets;Word(108);step,108,1,settled,n0.head,2,2;step,108,1,settled,n3.value,50,51
+gets;Word(108);step,108,1,settled,n0.head,2,2;step,108,1,settled,n3.value,51,51
 # The answers of two calls are swapped: of two changes, of a change and a look, of two looks.
-gets;Answer(48);reply,0,0,1,48,47,none;reply,0,0,1,48,47,some 50;reply,0,1,49,99,98,some 50;reply,0,1,49,99,98,none
-gets;Answer(48);reply,0,0,1,48,47,none;reply,0,0,1,48,47,some 50;reply,1,0,90,100,97,some 50;reply,1,0,90,100,97,none
-gets;Moment(100);reply,1,0,90,100,97,some 50;reply,1,0,90,100,97,some 51;reply,1,1,101,107,107,some 51;reply,1,1,101,107,107,some 50
+gets;Answer(48);reply,0,0,1,48,47,none;reply,0,0,1,48,47,some 50;reply,0,1,49,105,104,some 50;reply,0,1,49,105,104,none
+gets;Answer(48);reply,0,0,1,48,47,none;reply,0,0,1,48,47,some 50;reply,1,0,95,107,103,some 50;reply,1,0,95,107,103,none
+gets;Moment(107);reply,1,0,95,107,103,some 50;reply,1,0,95,107,103,some 51;reply,1,1,108,116,116,some 51;reply,1,1,108,116,116,some 50
 # The record as it is.
 deletes;right;
 # A delete that finds none takes place before the key comes in, and a done one with its entry.
@@ -147,67 +155,67 @@ deletes;Moment(51);reply,0,0,1,51,48,none;reply,0,0,1,51,47,none
 deletes;Moment(51);reply,0,0,1,51,48,none;reply,0,0,1,51,49,none
 deletes;Moment(51);reply,0,0,1,51,48,none;reply,0,0,1,51,51,none
 deletes;Moment(51);reply,0,0,1,51,48,none;reply,0,0,1,51,,none
-deletes;Moment(168);reply,0,1,97,168,167,some 51;reply,0,1,97,168,166,some 51
-deletes;Moment(168);reply,0,1,97,168,167,some 51;reply,0,1,97,168,168,some 51
-deletes;Moment(168);reply,0,1,97,168,167,some 51;reply,0,1,97,168,,some 51
+deletes;Moment(175);reply,0,1,102,175,174,some 51;reply,0,1,102,175,173,some 51
+deletes;Moment(175);reply,0,1,102,175,174,some 51;reply,0,1,102,175,175,some 51
+deletes;Moment(175);reply,0,1,102,175,174,some 51;reply,0,1,102,175,,some 51
 # The value that comes in, one of another time, one that the key never had, none, and refusals; and an
 # entry is left out.
 deletes;Entry(51);reply,0,0,1,51,48,none;reply,0,0,1,51,48,some 50
 deletes;Moment(51);reply,0,0,1,51,48,none;reply,0,0,1,51,48,full scx 0
-deletes;Answer(168);reply,0,1,97,168,167,some 51;reply,0,1,97,168,167,some 50
-deletes;Answer(168);reply,0,1,97,168,167,some 51;reply,0,1,97,168,167,some 52
-deletes;Entry(168);reply,0,1,97,168,167,some 51;reply,0,1,97,168,167,none
-deletes;Entry(168);reply,0,1,97,168,167,some 51;reply,0,1,97,168,167,full scx 0
-deletes;Entry(167);log,3,167,s1,0,1,;;end,168,4,3,,,;end,168,4,2,,,
+deletes;Answer(175);reply,0,1,102,175,174,some 51;reply,0,1,102,175,174,some 50
+deletes;Answer(175);reply,0,1,102,175,174,some 51;reply,0,1,102,175,174,some 52
+deletes;Entry(175);reply,0,1,102,175,174,some 51;reply,0,1,102,175,174,none
+deletes;Entry(175);reply,0,1,102,175,174,some 51;reply,0,1,102,175,174,full scx 0
+deletes;Entry(174);log,3,174,s1,0,1,;;end,175,4,3,,,;end,175,4,2,,,
 # The record as it is.
 reads;right;
 # The pairs before both changes, and behind both, are those of other moments of the call. With 5 from
 # behind its change and 9 from before its own they are of none.
-reads;Moment(301);reply,1,0,156,301,298,pairs 5 50 7 70 9 91;reply,1,0,156,301,298,pairs 5 50 7 70 9 90
-reads;Moment(301);reply,1,0,156,301,298,pairs 5 50 7 70 9 91;reply,1,0,156,301,298,pairs 5 51 7 70 9 91
-reads;Answer(301);reply,1,0,156,301,298,pairs 5 50 7 70 9 91;reply,1,0,156,301,298,pairs 5 51 7 70 9 90
+reads;Moment(624);reply,1,0,439,624,621,pairs 5 50 7 70 8 80 9 91;reply,1,0,439,624,621,pairs 5 50 7 70 8 80 9 90
+reads;Moment(624);reply,1,0,439,624,621,pairs 5 50 7 70 8 80 9 91;reply,1,0,439,624,621,pairs 5 51 7 70 8 80 9 91
+reads;Answer(624);reply,1,0,439,624,621,pairs 5 50 7 70 8 80 9 91;reply,1,0,439,624,621,pairs 5 51 7 70 8 80 9 90
 # One pair too many, as of no moment and above `most`; too few; one below the least key, and one in its
 # place above the greatest; in another order; of a range that takes nothing; and refusals.
-reads;Answer(301);reply,1,0,156,301,298,pairs 5 50 7 70 9 91;reply,1,0,156,301,298,pairs 5 50 6 60 7 70 9 91
-reads;Answer(443);reply,1,3,390,443,443,pairs 6 60 7 70;reply,1,3,390,443,443,pairs 6 60 7 70 9 91
-reads;Answer(443);reply,1,3,390,443,443,pairs 6 60 7 70;reply,1,3,390,443,443,pairs 6 60
-reads;Answer(443);reply,1,3,390,443,443,pairs 6 60 7 70;reply,1,3,390,443,443,pairs 5 51 6 60
-reads;Answer(443);reply,1,3,390,443,443,pairs 6 60 7 70;reply,1,3,390,443,443,pairs 6 60 9 91
-reads;Answer(443);reply,1,3,390,443,443,pairs 6 60 7 70;reply,1,3,390,443,443,pairs 7 70 6 60
-reads;Answer(389);reply,1,2,389,389,389,pairs;reply,1,2,389,389,389,pairs 5 51
-reads;Answer(301);reply,1,0,156,301,298,pairs 5 50 7 70 9 91;reply,1,0,156,301,298,none
-reads;Moment(301);reply,1,0,156,301,298,pairs 5 50 7 70 9 91;reply,1,0,156,301,298,contended n0 s1
-reads;Moment(301);reply,1,0,156,301,298,pairs 5 50 7 70 9 91;reply,1,0,156,301,298,no memory
-reads;Answer(389);reply,1,2,389,389,389,pairs;reply,1,2,389,389,389,no memory
-reads;Answer(389);reply,1,2,389,389,389,pairs;reply,1,2,389,389,389,contended n0 s1
-reads;Answer(301);reply,1,0,156,301,298,pairs 5 50 7 70 9 91;reply,1,0,156,301,298,full nodes 2
+reads;Answer(624);reply,1,0,439,624,621,pairs 5 50 7 70 8 80 9 91;reply,1,0,439,624,621,pairs 5 50 6 60 7 70 8 80 9 91
+reads;Answer(773);reply,1,3,724,773,773,pairs 6 60 7 70;reply,1,3,724,773,773,pairs 6 60 7 70 8 80
+reads;Answer(773);reply,1,3,724,773,773,pairs 6 60 7 70;reply,1,3,724,773,773,pairs 6 60
+reads;Answer(773);reply,1,3,724,773,773,pairs 6 60 7 70;reply,1,3,724,773,773,pairs 5 51 6 60
+reads;Answer(773);reply,1,3,724,773,773,pairs 6 60 7 70;reply,1,3,724,773,773,pairs 6 60 9 91
+reads;Answer(773);reply,1,3,724,773,773,pairs 6 60 7 70;reply,1,3,724,773,773,pairs 7 70 6 60
+reads;Answer(723);reply,1,2,723,723,723,pairs;reply,1,2,723,723,723,pairs 5 51
+reads;Answer(624);reply,1,0,439,624,621,pairs 5 50 7 70 8 80 9 91;reply,1,0,439,624,621,none
+reads;Moment(624);reply,1,0,439,624,621,pairs 5 50 7 70 8 80 9 91;reply,1,0,439,624,621,contended n0 s1
+reads;Moment(624);reply,1,0,439,624,621,pairs 5 50 7 70 8 80 9 91;reply,1,0,439,624,621,no memory
+reads;Answer(723);reply,1,2,723,723,723,pairs;reply,1,2,723,723,723,no memory
+reads;Answer(723);reply,1,2,723,723,723,pairs;reply,1,2,723,723,723,contended n0 s1
+reads;Answer(624);reply,1,0,439,624,621,pairs 5 50 7 70 8 80 9 91;reply,1,0,439,624,621,full nodes 2
 # The pair of a later moment, one with the key of one moment and the value of another, the pair behind
 # the next one, that of the key itself, none, and refusals.
-reads;Moment(388);reply,1,1,302,388,385,pair 7 70;reply,1,1,302,388,385,pair 6 60
-reads;Answer(388);reply,1,1,302,388,385,pair 7 70;reply,1,1,302,388,385,pair 6 70
-reads;Answer(388);reply,1,1,302,388,385,pair 7 70;reply,1,1,302,388,385,pair 9 91
-reads;Answer(388);reply,1,1,302,388,385,pair 7 70;reply,1,1,302,388,385,pair 5 51
-reads;Answer(388);reply,1,1,302,388,385,pair 7 70;reply,1,1,302,388,385,none
-reads;Answer(388);reply,1,1,302,388,385,pair 7 70;reply,1,1,302,388,385,pairs 7 70
-reads;Moment(388);reply,1,1,302,388,385,pair 7 70;reply,1,1,302,388,385,contended n0 s1
-reads;Answer(388);reply,1,1,302,388,385,pair 7 70;reply,1,1,302,388,385,full scx 0
+reads;Moment(722);reply,1,1,625,722,719,pair 7 70;reply,1,1,625,722,719,pair 6 60
+reads;Answer(722);reply,1,1,625,722,719,pair 7 70;reply,1,1,625,722,719,pair 6 70
+reads;Answer(722);reply,1,1,625,722,719,pair 7 70;reply,1,1,625,722,719,pair 9 91
+reads;Answer(722);reply,1,1,625,722,719,pair 7 70;reply,1,1,625,722,719,pair 5 51
+reads;Answer(722);reply,1,1,625,722,719,pair 7 70;reply,1,1,625,722,719,none
+reads;Answer(722);reply,1,1,625,722,719,pair 7 70;reply,1,1,625,722,719,pairs 7 70
+reads;Moment(722);reply,1,1,625,722,719,pair 7 70;reply,1,1,625,722,719,contended n0 s1
+reads;Answer(722);reply,1,1,625,722,719,pair 7 70;reply,1,1,625,722,719,full scx 0
 # Other moments of reads.
-reads;Moment(301);reply,1,0,156,301,298,pairs 5 50 7 70 9 91;reply,1,0,156,301,297,pairs 5 50 7 70 9 91
-reads;Moment(301);reply,1,0,156,301,298,pairs 5 50 7 70 9 91;reply,1,0,156,301,299,pairs 5 50 7 70 9 91
-reads;Moment(301);reply,1,0,156,301,298,pairs 5 50 7 70 9 91;reply,1,0,156,301,301,pairs 5 50 7 70 9 91
-reads;Moment(301);reply,1,0,156,301,298,pairs 5 50 7 70 9 91;reply,1,0,156,301,,pairs 5 50 7 70 9 91
-reads;Moment(388);reply,1,1,302,388,385,pair 7 70;reply,1,1,302,388,384,pair 7 70
-reads;Moment(388);reply,1,1,302,388,385,pair 7 70;reply,1,1,302,388,386,pair 7 70
-reads;Moment(388);reply,1,1,302,388,385,pair 7 70;reply,1,1,302,388,388,pair 7 70
-reads;Moment(389);reply,1,2,389,389,389,pairs;reply,1,2,389,389,388,pairs
-reads;Moment(389);reply,1,2,389,389,389,pairs;reply,1,2,389,389,,pairs
-reads;Moment(443);reply,1,3,390,443,443,pairs 6 60 7 70;reply,1,3,390,443,442,pairs 6 60 7 70
+reads;Moment(624);reply,1,0,439,624,621,pairs 5 50 7 70 8 80 9 91;reply,1,0,439,624,620,pairs 5 50 7 70 8 80 9 91
+reads;Moment(624);reply,1,0,439,624,621,pairs 5 50 7 70 8 80 9 91;reply,1,0,439,624,622,pairs 5 50 7 70 8 80 9 91
+reads;Moment(624);reply,1,0,439,624,621,pairs 5 50 7 70 8 80 9 91;reply,1,0,439,624,624,pairs 5 50 7 70 8 80 9 91
+reads;Moment(624);reply,1,0,439,624,621,pairs 5 50 7 70 8 80 9 91;reply,1,0,439,624,,pairs 5 50 7 70 8 80 9 91
+reads;Moment(722);reply,1,1,625,722,719,pair 7 70;reply,1,1,625,722,718,pair 7 70
+reads;Moment(722);reply,1,1,625,722,719,pair 7 70;reply,1,1,625,722,720,pair 7 70
+reads;Moment(722);reply,1,1,625,722,719,pair 7 70;reply,1,1,625,722,722,pair 7 70
+reads;Moment(723);reply,1,2,723,723,723,pairs;reply,1,2,723,723,722,pairs
+reads;Moment(723);reply,1,2,723,723,723,pairs;reply,1,2,723,723,,pairs
+reads;Moment(773);reply,1,3,724,773,773,pairs 6 60 7 70;reply,1,3,724,773,772,pairs 6 60 7 70
 # The reply of a call that answers at once stands behind its turn.
-reads;Reply(389);reply,1,2,389,389,389,pairs;;end,443,10,6,,,;end,443,9,6,,,
-reads;Reply(389);reply,1,2,389,389,389,pairs;reply,1,2,388,389,389,pairs
-reads;Reply(389);reply,1,2,389,389,389,pairs;reply,1,2,389,390,389,pairs
-reads;Reply(388);reply,1,0,156,301,298,pairs 5 50 7 70 9 91;;end,443,10,6,,,;end,443,9,6,,,
-reads;Entry(299);log,5,299,s5,0,4,;;end,443,10,6,,,;end,443,10,5,,,
+reads;Reply(723);reply,1,2,723,723,723,pairs;;end,773,14,10,,,;end,773,13,10,,,
+reads;Reply(723);reply,1,2,723,723,723,pairs;reply,1,2,722,723,723,pairs
+reads;Reply(723);reply,1,2,723,723,723,pairs;reply,1,2,723,724,723,pairs
+reads;Reply(722);reply,1,0,439,624,621,pairs 5 50 7 70 8 80 9 91;;end,773,14,10,,,;end,773,13,10,,,
+reads;Entry(622);log,9,622,s9,0,8,;;end,773,14,10,,,;end,773,14,9,,,
 ";
 
 /// The report of the race of this name.

@@ -21,7 +21,7 @@ impl PlainMap {
         self.pairs.as_slice()
     }
 
-    pub(crate) fn get(&self, key: u64) -> Option<u64> {
+    pub(crate) fn get(&self, key: u64) -> Option<u128> {
         self.pairs
             .iter()
             .find(|pair| pair.key == key)
@@ -29,7 +29,7 @@ impl PlainMap {
     }
 
     /// The pair with the least key above this one.
-    pub(crate) fn successor(&self, key: u64) -> Option<(u64, u64)> {
+    pub(crate) fn successor(&self, key: u64) -> Option<(u64, u128)> {
         self.pairs
             .iter()
             .find(|pair| pair.key > key)
@@ -37,7 +37,11 @@ impl PlainMap {
     }
 
     /// The first pairs of those with keys between these, at most so many.
-    pub(crate) fn range(&self, keys: (u64, u64), most: u32) -> Result<Vec<(u64, u64)>, AllocError> {
+    pub(crate) fn range(
+        &self,
+        keys: (u64, u64),
+        most: u32,
+    ) -> Result<Vec<(u64, u128)>, AllocError> {
         let mut taken = Vec::new(self.alloc);
         for pair in self.pairs.iter() {
             let inside = keys.0 <= pair.key && pair.key <= keys.1;
@@ -49,7 +53,7 @@ impl PlainMap {
     }
 
     /// Gives a key a value, and tells the one that it had.
-    pub(crate) fn insert(&mut self, key: u64, value: u64) -> Result<Option<u64>, AllocError> {
+    pub(crate) fn insert(&mut self, key: u64, value: u128) -> Result<Option<u128>, AllocError> {
         let old = self.delete(key);
         self.pairs.push(Pair { key, value })?;
         self.pairs.sort_by_key(|pair| pair.key)?;
@@ -57,13 +61,14 @@ impl PlainMap {
     }
 
     /// Takes a key out, and tells the value that it had.
-    pub(crate) fn delete(&mut self, key: u64) -> Option<u64> {
+    pub(crate) fn delete(&mut self, key: u64) -> Option<u128> {
         let old = self.get(key);
         self.pairs.retain(|pair| pair.key != key);
         old
     }
+
     /// Takes the first pair out, and tells it.
-    pub(crate) fn pop_first(&mut self) -> Option<(u64, u64)> {
+    pub(crate) fn pop_first(&mut self) -> Option<(u64, u128)> {
         let first = self.pairs.first().copied()?;
         self.delete(first.key);
         Some((first.key, first.value))
@@ -73,9 +78,9 @@ impl PlainMap {
     pub(crate) fn replace_if(
         &mut self,
         key: u64,
-        expected: u64,
-        value: u64,
-    ) -> Result<Option<u64>, AllocError> {
+        expected: u128,
+        value: u128,
+    ) -> Result<Option<u128>, AllocError> {
         if self.get(key) == Some(expected) {
             return self.insert(key, value);
         }

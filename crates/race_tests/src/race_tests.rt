@@ -11,7 +11,7 @@ use std::test::Fail;
 
 const SEED: u64 = 20260723;
 
-const RACES: u64 = 400;
+const RACES: u64 = 1000;
 
 /// A few calls of so many clients on few keys, under tight limits. Half of the values are one of two, so
 /// that a replacement finds what it expects.

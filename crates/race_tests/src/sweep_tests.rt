@@ -10,9 +10,9 @@ use std::process::Abort;
 use std::test::Fail;
 
 /// A script of two clients, of which client 0 stops. By itself a client makes 48 steps for a key that
-/// comes into the empty map, 45 for another value of it, 72 to take it out again, by its name or as
-/// the first; 52 for a second key, 48 for another value of one of two, 34 for a range of both, 20 for
-/// the successor of one below both. On cells 7 for a snapshot, 22 for an SCX over two nodes with one
+/// comes into the empty map, 50 for another value of it, 74 to take it out again, by its name or as
+/// the first; 51 for a second key, 57 for another value of the greater of two, 26 for a range of both,
+/// 20 for the successor of one below both. On cells 7 for a snapshot, 22 for an SCX over two nodes with one
 /// to finalize, and 5 to find that one finalized.
 #[derive(Clone, Copy, Debug)]
 struct Race {
@@ -38,7 +38,7 @@ end,4,,,
 ",
     before: "",
     first: 1,
-    last: 48 + 45 + 45,
+    last: 48 + 50 + 50,
 };
 
 /// Each brings a key into the empty map.
@@ -67,7 +67,7 @@ end,3,,,
 ",
     before: "",
     first: 1,
-    last: 48 + 72,
+    last: 48 + 74,
 };
 
 /// Both take client 0's key out.
@@ -82,7 +82,7 @@ end,3,,,
 ",
     before: "",
     first: 1,
-    last: 48 + 72,
+    last: 48 + 74,
 };
 
 /// Client 0 reads in order, and gives a key a new value; client 1 takes one of the keys out that
@@ -103,7 +103,7 @@ end,8,,,
 ",
     before: "",
     first: 1,
-    last: 48 + 52 + 34 + 20 + 48,
+    last: 48 + 51 + 26 + 20 + 57,
 };
 
 /// Both take the first pair out, client 1 a second one if there is one.
@@ -120,7 +120,7 @@ end,5,,,
 ",
     before: "",
     first: 48,
-    last: 48 + 72,
+    last: 48 + 74,
 };
 
 /// Both replace one value, client 1 the one that client 0 brings in too.
@@ -136,7 +136,7 @@ end,4,,,
 ",
     before: "",
     first: 48,
-    last: 48 + 45,
+    last: 48 + 50,
 };
 
 /// Client 0 finalizes the cell of which client 1 has a snapshot, and client 1 wants to change it.
@@ -233,17 +233,17 @@ fn sweep_of_both(
 
 /// The other one stops too. Of inserts: behind its walk, in its look at the node above, just before
 /// the update that it helps to make, behind that, and just before its own. Of a delete that is
-/// helped, or beaten: it is made in the 31st step of the insert that helps it, which makes its own in
-/// the 81st; the delete that beats makes its own in the 71st. A pop does as a delete, a replacement as
-/// an insert of a present key. With two tries both may be lost.
+/// helped, or beaten: it is made in the 32nd step of the insert that helps it, which makes its own in
+/// the 82nd, and in the 34th of a delete; the delete that beats makes its own in the 73rd. A pop does
+/// as a delete, a replacement as an insert of a present key. With two tries both may be lost.
 #[test]
 fn each_of_two_stops(rt: HostRuntime) -> Result<(), Fail> {
     let stops = [
-        (INSERTS, [7, 12, 23, 26, 43]),
-        (DELETE_AND_INSERT, [6, 12, 30, 31, 80]),
-        (DELETES, [7, 12, 30, 31, 70]),
-        (POPS, [7, 12, 30, 31, 70]),
-        (REPLACEMENTS, [7, 12, 23, 26, 43]),
+        (INSERTS, [9, 14, 25, 28, 48]),
+        (DELETE_AND_INSERT, [7, 13, 31, 32, 81]),
+        (DELETES, [9, 14, 33, 34, 72]),
+        (POPS, [9, 14, 33, 34, 72]),
+        (REPLACEMENTS, [9, 14, 25, 28, 48]),
     ];
     for (race, places) in stops {
         for steps in places {
@@ -254,15 +254,15 @@ fn each_of_two_stops(rt: HostRuntime) -> Result<(), Fail> {
 }
 
 /// An insert of client 1 that helps makes no more steps.
-const HELPER_STEPS: u64 = 75;
+const HELPER_STEPS: u64 = 79;
 
 /// Client 0 stops with its second insert between the first freeze and the commit, so that client 1
 /// helps. It stops after each of its steps in turn.
 #[test]
 fn a_helper_that_stops_goes_on(rt: HostRuntime) -> Result<(), Fail> {
     let race = Race {
-        first: 84,
-        last: 92,
+        first: 89,
+        last: 97,
         ..INSERTS
     };
     for steps in 1..=HELPER_STEPS {

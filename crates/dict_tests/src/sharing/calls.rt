@@ -1,7 +1,7 @@
 //! Calls by two passes.
 ghost use Rattle.forest.specs.Passes.{IsOf};
 
-use super::answers::{delete, get, insert, meet, range, successor};
+use super::answers::{delete, get, insert, meet, pop_first, range, replace_if, successor};
 use super::{end_two, opened};
 use crate::same::{has, same};
 use dict::{Dict, Name8};
@@ -46,8 +46,50 @@ fn two_passes_have_one_map(rt: HostRuntime) -> Result<(), Fail> {
     same(&rt, delete(&forest, &mut first, b), Ok(Some(2)));
     same(&rt, get(&forest, &mut first, b), None);
     same(&rt, get(&forest, &mut first, ab), Some(1));
-    same(&rt, [first.left(), second.left()], [(16, 18), (17, 19)]);
+    same(&rt, [first.left(), second.left()], [(16, 18), (19, 19)]);
     let left = end_two(rt.alloc(), forest, first, second)?;
     assert!(rt; has(&left, &[(ab, 1)]));
+    Ok(())
+}
+
+/// A leaf has room for four pairs: three nodes for the first key, one for each of three more, and
+/// three for the fifth, which makes two leaves and a fork of one.
+#[test]
+fn a_fifth_key_parts_a_leaf(rt: HostRuntime) -> Result<(), Fail> {
+    let (forest, mut first, second) = opened::<u64, u64>(rt.alloc())?;
+    same(&rt, insert(&forest, &mut first, 4, 40), Ok(None));
+    same(&rt, insert(&forest, &mut first, 2, 20), Ok(None));
+    same(&rt, insert(&forest, &mut first, 5, 50), Ok(None));
+    same(&rt, insert(&forest, &mut first, 1, 10), Ok(None));
+    same(&rt, first.left(), (14, 16));
+    same(&rt, insert(&forest, &mut first, 3, 30), Ok(None));
+    same(&rt, first.left(), (11, 15));
+    let left = end_two(rt.alloc(), forest, first, second)?;
+    assert!(rt; has(&left, &[(1, 10), (2, 20), (3, 30), (4, 40), (5, 50)]));
+    Ok(())
+}
+
+/// Values beside 2^64 and at both ends, which differ in one of their two words alone.
+#[test]
+fn values_have_two_words(rt: HostRuntime) -> Result<(), Fail> {
+    let (forest, mut first, second) = opened::<u64, u128>(rt.alloc())?;
+    let (below, above) = (18446744073709551615, 18446744073709551616);
+    same(&rt, insert(&forest, &mut first, 1, above), Ok(None));
+    same(&rt, insert(&forest, &mut first, 2, u128::MAX), Ok(None));
+    same(&rt, get(&forest, &mut first, 1), Some(above));
+    same(
+        &rt,
+        replace_if(&forest, &mut first, 1, 0, 5),
+        Ok(Some(above)),
+    );
+    same(
+        &rt,
+        replace_if(&forest, &mut first, 1, above, below),
+        Ok(Some(above)),
+    );
+    same(&rt, get(&forest, &mut first, 1), Some(below));
+    same(&rt, pop_first(&forest, &mut first), Ok(Some((1, below))));
+    let left = end_two(rt.alloc(), forest, first, second)?;
+    assert!(rt; has(&left, &[(2, u128::MAX)]));
     Ok(())
 }

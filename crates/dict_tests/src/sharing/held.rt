@@ -175,7 +175,7 @@ fn an_insert_that_is_held_is_helped(rt: HostRuntime) -> Result<(), Fail> {
     same(&rt, value(&reply), Some(None));
     let walk = [LoadSettled, LoadChild, LoadSettled];
     assert!(rt; are(&kinds, &[&walk, &LOOKS, &[Fill; 10], &PUT]));
-    same(&rt, [first.left(), second.left()], [(17, 19), (17, 19)]);
+    same(&rt, [first.left(), second.left()], [(17, 19), (19, 19)]);
     let left = end_two(rt.alloc(), forest, first, second)?;
     assert!(rt; has(&left, &[(5, 50), (7, 70)]));
     Ok(())
@@ -194,7 +194,7 @@ fn frozen_insert(alloc: Global) -> Result<(Forest<Numbers>, Held, Pass<Numbers>)
     }
     let call = open_insert(alloc, &forest, first);
     let mut kinds = Vec::new(alloc);
-    let call = held(&forest, call, 43, &mut kinds)?;
+    let call = held(&forest, call, 42, &mut kinds)?;
     match kinds.last() {
         Some(Freeze) => Ok((forest, call, second)),
         _ => Err("no freeze".into()),
@@ -291,8 +291,10 @@ fn an_insert_that_is_held_too_long_tries_again(rt: HostRuntime) -> Result<(), Fa
         LoadChild,
         LoadSettled,
         LoadSettled,
+        LoadSettled,
     ];
-    let copy = [LoadSettled];
+    // The pair that is there is read, and both are put into one leaf.
+    let copy = [LoadSettled; 3];
     assert!(rt;
         are(
             &kinds,
@@ -304,14 +306,13 @@ fn an_insert_that_is_held_too_long_tries_again(rt: HostRuntime) -> Result<(), Fa
                 &lost,
                 &again,
                 &LOOKS,
-                &[Fill; 3],
                 &copy,
-                &[Fill; 7],
+                &[Fill; 6],
                 &PUT
             ]
         )
     );
-    same(&rt, [first.left(), second.left()], [(14, 18), (17, 19)]);
+    same(&rt, [first.left(), second.left()], [(16, 18), (17, 19)]);
     let left = end_two(rt.alloc(), forest, first, second)?;
     assert!(rt; has(&left, &[(5, 50), (7, 70)]));
     Ok(())
@@ -324,11 +325,11 @@ fn a_pop_that_is_held_takes_the_pair_that_is_first_then(rt: HostRuntime) -> Resu
     let mut kinds = Vec::new(rt.alloc());
     same(&rt, insert(&forest, &mut second, 7, 70), Ok(None));
     let call = forest.open(rt.alloc(), first, Request::PopFirst);
-    let call = held(&forest, call, 54, &mut kinds)?;
+    let call = held(&forest, call, 56, &mut kinds)?;
     same(&rt, insert(&forest, &mut second, 5, 50), Ok(None));
     let (first, reply) = rest(&forest, call, &mut kinds)?;
     same(&rt, pair(&reply), Some((5, 50)));
-    same(&rt, [first.left(), second.left()], [(18, 18), (14, 18)]);
+    same(&rt, [first.left(), second.left()], [(18, 18), (16, 18)]);
     let left = end_two(rt.alloc(), forest, first, second)?;
     assert!(rt; has(&left, &[(7, 70)]));
     Ok(())
@@ -351,6 +352,8 @@ fn a_get_that_is_held_reads_what_was(rt: HostRuntime) -> Result<(), Fail> {
         LoadChild,
         LoadSettled,
         LoadChild,
+        LoadSettled,
+        LoadSettled,
         LoadSettled,
         LoadSettled,
         LoadSettled,
