@@ -159,9 +159,9 @@ impl Gate for Steps {
     }
 }
 
-/// An insert makes 48 steps, a get 9, a replacement 50, a delete 74, a pop and a get of the empty map
-/// 3, and a range of no pairs none; the insert and the replacement freeze two nodes each, the delete
-/// four. Each call begins where the one before it was answered.
+/// An insert makes 48 steps, a get 9, a replacement 50, a delete 74, a pop and a get of the empty
+/// map 3, and a range of no pairs none; the insert and the replacement freeze two nodes each, the
+/// delete four. Each call begins where the one before it was answered.
 #[test]
 fn a_gate_is_told_of_each_step(rt: HostRuntime) -> Result<(), Fail> {
     let script = script_of(rt.alloc(), ALONE)?;

@@ -1,9 +1,9 @@
 use crate::same::same;
 use arena::NodeWord::{Child, Settled};
-use arena::SettledPart::{Head, Key, Value};
+use arena::SettledPart::{Head, High, Key, More, Value};
 use arena::Side::{Left, Right};
-use arena::Slot::First;
-use arena::{Access, Kind, Limits, Mode, NodeNo, NodeWord, PlainWords, Step, Word};
+use arena::Slot::{First, Fourth, Second, Third};
+use arena::{Access, Kind, Limits, Mode, NodeNo, NodeWord, PlainWords, SettledPart, Step, Word};
 use ordered_map::{Pair, laws_hold, map_laws_hold, spelled};
 use std::alloc::{AllocError, Global};
 use std::process::Abort;
@@ -66,17 +66,20 @@ fn fill(table: &mut PlainWords, word: Word, value: u64) {
     }
 }
 
-/// What the words spell where these nodes are written over the opening ones of a table of 15 nodes, one
-/// after another.
-fn found(alloc: Global, nodes: &[Node], changed: &[Node]) -> Result<Option<Vec<Pair>>, Fail> {
+/// The opening words of a table of 15 nodes.
+fn opening(alloc: Global) -> Result<PlainWords, Fail> {
     let limits = Limits {
         passes: 2,
         nodes: 6,
         scx: 1,
         tries: 1,
     };
-    let layout = limits.check(Mode::Tree)?;
-    let mut table = PlainWords::new(alloc, &layout)?;
+    Ok(PlainWords::new(alloc, &limits.check(Mode::Tree)?)?)
+}
+
+/// What the words spell where these nodes are written over the opening ones, one after another.
+fn found(alloc: Global, nodes: &[Node], changed: &[Node]) -> Result<Option<Vec<Pair>>, Fail> {
+    let mut table = opening(alloc)?;
     for node in nodes {
         write(&mut table, node);
     }
@@ -328,7 +331,113 @@ fn nodes_outside_of_the_table_spell_nothing(rt: HostRuntime) -> Result<(), Fail>
     each_breaks(&rt, rt.alloc(), &one_pair(), &changed)
 }
 
-/// The deepest tree of the largest table: half a million forks, each the left child of the one before.
+/// Fills settled words of leaf 4.
+fn fill_leaf(table: &mut PlainWords, words: &[(SettledPart, u64)]) {
+    for (part, value) in words {
+        fill(table, Word::Node(NodeNo(4), Settled(*part)), *value);
+    }
+}
+
+/// What a leaf of the key 7 at 70 has besides, if it has four pairs.
+const FULL: [(SettledPart, u64); 9] = [
+    (More, 3),
+    (High(First), 1),
+    (Key(Second), 8),
+    (Value(Second), 80),
+    (Key(Third), 9),
+    (High(Third), 2),
+    (Key(Fourth), u64::MAX),
+    (Value(Fourth), u64::MAX),
+    (High(Fourth), u64::MAX),
+];
+
+/// These four pairs, whose values have any halves.
+const FULL_PAIRS: [(u64, u128); 4] = [
+    (7, 0x1_0000_0000_0000_0046),
+    (8, 80),
+    (9, 0x2_0000_0000_0000_0000),
+    (u64::MAX, u128::MAX),
+];
+
+/// The tree of one leaf with these.
+fn full_leaf(alloc: Global) -> Result<PlainWords, Fail> {
+    let mut table = opening(alloc)?;
+    for node in &one_pair() {
+        write(&mut table, node);
+    }
+    fill_leaf(&mut table, &FULL);
+    Ok(table)
+}
+
+fn full_leaf_pairs(alloc: Global) -> Result<Vec<Pair>, AllocError> {
+    let mut list = Vec::new(alloc);
+    for (key, value) in &FULL_PAIRS {
+        list.push(Pair {
+            key: *key,
+            value: *value,
+        })?;
+    }
+    Ok(list)
+}
+
+#[test]
+fn a_leaf_spells_as_many_pairs_as_it_says(rt: HostRuntime) -> Result<(), Fail> {
+    let mut table = full_leaf(rt.alloc())?;
+    let mut want = full_leaf_pairs(rt.alloc())?;
+    for more in [3u64, 2, 1, 0] {
+        fill_leaf(&mut table, &[(More, more)]);
+        let Some(found) = spelled(rt.alloc(), &table)? else {
+            return Err("no map".into());
+        };
+        assert_eq!(rt; found.as_slice(), want.as_slice());
+        want.pop();
+    }
+    for more in [4u64, 5, u64::MAX] {
+        fill_leaf(&mut table, &[(More, more)]);
+        assert_eq!(rt; spelled(rt.alloc(), &table)?, None, "{more} more");
+    }
+    Ok(())
+}
+
+#[test]
+fn pairs_of_a_leaf_out_of_order_spell_nothing(rt: HostRuntime) -> Result<(), Fail> {
+    let changed = [
+        (Key(Second), 7),
+        (Key(Second), 9),
+        (Key(Third), 8),
+        (Key(Third), u64::MAX),
+        (Key(Fourth), 9),
+        (Key(Fourth), 0),
+    ];
+    for (place, word) in changed.iter().enumerate() {
+        let mut table = full_leaf(rt.alloc())?;
+        fill_leaf(&mut table, &[*word]);
+        assert_eq!(rt; spelled(rt.alloc(), &table)?, None, "change {place}");
+    }
+    Ok(())
+}
+
+/// A second pair stands where its key is below that of the fork on its right, and not at it.
+#[test]
+fn a_pair_of_a_leaf_beyond_its_fork_spells_nothing(rt: HostRuntime) -> Result<(), Fail> {
+    let mut table = opening(rt.alloc())?;
+    for node in &four_pairs() {
+        write(&mut table, node);
+    }
+    // leaf 9 of the key 3, left of the fork that is of the key 6 here
+    for node in [fork(8, 3, 0, 6, (9, 10)), leaf(10, 4, 0, 6, 60)] {
+        write(&mut table, &node);
+    }
+    fill(&mut table, Word::Node(NodeNo(9), Settled(More)), 1);
+    for (key, is_there) in [(4u64, true), (5, true), (6, false), (7, false)] {
+        fill(&mut table, Word::Node(NodeNo(9), Settled(Key(Second))), key);
+        same(&rt, spelled(rt.alloc(), &table)?.is_some(), is_there);
+    }
+    Ok(())
+}
+
+/// The deepest tree of the largest table: half a million forks, each the left child of the one
+/// before.
 #[test]
 fn the_deepest_tree_is_read(rt: HostRuntime) -> Result<(), Fail> {
     let limits = Limits {
