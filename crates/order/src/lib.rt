@@ -3,6 +3,7 @@
 #![tactic(auto)]
 
 mod alone;
+mod known_load;
 mod load;
 mod range;
 mod read;
@@ -11,6 +12,7 @@ mod run;
 mod successor;
 
 pub use alone::alone_holds;
+pub use known_load::{HeadLoad, HighLoad, KeyLoad, KnownLoad, MoreLoad, PairLoad, ValueLoad};
 pub use load::{LeafPlace, ReadLoad};
 pub use range::{Range, RangeRun};
 pub use read::{Children, Read, ReadBegin, ReadNext};

@@ -2,13 +2,13 @@
 ghost use Rattle.std.specs.Prelude.{◌≡◌};
 ghost use Rattle.order.specs.Steps.{last_turn};
 
-use crate::load::{LeafPlace, ReadLoad};
+use crate::known_load::{HeadLoad, HighLoad, KeyLoad, KnownLoad, MoreLoad, PairLoad, ValueLoad};
+use crate::load::ReadLoad;
 use crate::read::{Children, Read, ReadBegin, ReadNext};
 use crate::refused::Refused;
 use arena::{
     Access, Head, Kind, Machine, NodeNo, NodeWord, ScxNo, SettledPart, Side, Slot, Step, Turn, Word,
 };
-use ordered_map::{Pair, wide_value};
 use prims::{Llx, LlxAt, LlxRun, Snap, Vlx, VlxRun};
 use std::alloc::Global;
 use template::{Goal, Tree, WalkAt, WalkRun};
@@ -366,22 +366,12 @@ impl<R: Read + Drop> ReadRun<R> {
         ensures tries { self.new.tries ≡ self.old.tries }
     {
         match load {
-            ReadLoad::Head { above: _, node } => Ok(self.read.head_on(Head::of(value), node)),
-            ReadLoad::Key { level, node } => Ok(self.read.key_on(level, node, value)),
-            ReadLoad::More { node } => {
-                let (more, slot) = (value, Slot::First);
-                let place = LeafPlace { node, more, slot };
-                Ok(ReadNext::Load(ReadLoad::Pair { place }))
-            }
-            ReadLoad::Pair { place } => Ok(self.read.pair_on(place, value)),
-            ReadLoad::Value { place, key } => {
-                let low = value;
-                Ok(ReadNext::Load(ReadLoad::High { place, key, low }))
-            }
-            ReadLoad::High { place, key, low } => {
-                let value = wide_value(low, value);
-                self.read.value_on(place, Pair { key, value })
-            }
+            ReadLoad::Head { above, node } => HeadLoad { above, node }.found(self, value),
+            ReadLoad::Key { level, node } => KeyLoad { level, node }.found(self, value),
+            ReadLoad::More { node } => MoreLoad { node }.found(self, value),
+            ReadLoad::Pair { place } => PairLoad { place }.found(self, value),
+            ReadLoad::Value { place, key } => ValueLoad { place, key }.found(self, value),
+            ReadLoad::High { place, key, low } => HighLoad { place, key, low }.found(self, value),
         }
     }
 

@@ -24,7 +24,10 @@ use arena::{
     Word,
 };
 use atomic_table::Seat;
-use order::{Children, LeafPlace, Read, ReadAt, ReadBegin, ReadLoad, ReadNext, ReadRun, Refused};
+use order::{
+    Children, HeadLoad, HighLoad, KeyLoad, KnownLoad, LeafPlace, MoreLoad, PairLoad, Read, ReadAt,
+    ReadBegin, ReadLoad, ReadNext, ReadRun, Refused, ValueLoad,
+};
 use prims::{LlxAt, LlxRun, Snap, SnapList};
 use template::{Goal, Tree};
 
@@ -165,27 +168,27 @@ fn validate_on<S: Shape, M: Machine<S>, R: Read + Drop>(
 }
 
 /// Loads a word of a node, and tells what comes behind that, or that there is no memory to keep
-/// what is found. Where its caller knows which word that is, so does the compiler.
+/// what is found.
 #[inline(always)]
-fn load_on<S: Shape, M: Machine<S>, R: Read + Drop>(
+fn load_on<S: Shape, M: Machine<S>, R: Read + Drop, L: KnownLoad<R>>(
     hand: Hand<S>,
     seat: &mut Seat<u8, SeatView>,
     run: &mut ReadRun<R>,
-    load: ReadLoad,
+    load: &L,
 ) -> Result<ReadNext, Result<R::Answer, Refused>>
     requires table { IsAt hand seat.old }
-    requires waits { (r : Reader (hand_calls S.Shape M.Machine hand) R.means) × ReaderWaits r seat.old.me.0.passes run.old (ReadNext.Load load) }
+    requires waits { (r : Reader (hand_calls S.Shape M.Machine hand) R.means) × ReaderWaits r seat.old.me.0.passes run.old (ReadNext.Load (L.load load.now)) }
     ensures table { StaysAtTable seat.old seat.new }
     ensures goes_on { (r : Reader (hand_calls S.Shape M.Machine hand.entry) R.means)
-        → ReaderWaits r seat.old.me.0.passes run.old (ReadNext.Load load)
+        → ReaderWaits r seat.old.me.0.passes run.old (ReadNext.Load (L.load load.now))
         → ReaderGoesOn r seat.new.me.0.passes run.new result }
     ensures steps { seat_steps seat.new.me.0.passes + left_then R.means (shared_nodes hand.entry.layout.now) run.new result
-        ≤ seat_steps seat.old.me.0.passes + left_then R.means (shared_nodes hand.entry.layout.now) run.old (Ok (ReadNext.Load load)) }
+        ≤ seat_steps seat.old.me.0.passes + left_then R.means (shared_nodes hand.entry.layout.now) run.old (Ok (ReadNext.Load (L.load load.now))) }
     ensures nearer { left_then R.means (shared_nodes hand.entry.layout.now) run.new result
-        < left_then R.means (shared_nodes hand.entry.layout.now) run.old (Ok (ReadNext.Load load)) }
+        < left_then R.means (shared_nodes hand.entry.layout.now) run.old (Ok (ReadNext.Load (L.load load.now))) }
 {
     let value = read::<S, M, Tree, ReadRun<R>>(hand, seat, load.word());
-    match run.loaded(load, value) {
+    match load.found(run, value) {
         Ok(next) => Ok(next),
         Err(refused) => Err(Err(refused)),
     }
@@ -211,14 +214,14 @@ fn read_value<S: Shape, M: Machine<S>, R: Read + Drop>(
     ensures nearer { left_then R.means (shared_nodes hand.entry.layout.now) run.new result
         < left_then R.means (shared_nodes hand.entry.layout.now) run.old (Ok (ReadNext.Load (ReadLoad.Value place key))) }
 {
-    let next = match load_on::<S, M, R>(hand, seat, run, ReadLoad::Value { place, key }) {
+    let next = match load_on::<S, M, R, _>(hand, seat, run, &ValueLoad { place, key }) {
         Ok(next) => next,
         Err(told) => return Err(told),
     };
     match next {
         ReadNext::Load(ReadLoad::High { place, key, low }) => {
-            let load = ReadLoad::High { place, key, low };
-            load_on::<S, M, R>(hand, seat, run, load)
+            let load = HighLoad { place, key, low };
+            load_on::<S, M, R, _>(hand, seat, run, &load)
         }
         _ => Ok(next),
     }
@@ -243,7 +246,7 @@ fn read_pair<S: Shape, M: Machine<S>, R: Read + Drop>(
     ensures nearer { left_then R.means (shared_nodes hand.entry.layout.now) run.new result
         < left_then R.means (shared_nodes hand.entry.layout.now) run.old (Ok (ReadNext.Load (ReadLoad.Pair place))) }
 {
-    let next = match load_on::<S, M, R>(hand, seat, run, ReadLoad::Pair { place }) {
+    let next = match load_on::<S, M, R, _>(hand, seat, run, &PairLoad { place }) {
         Ok(next) => next,
         Err(told) => return Err(told),
     };
@@ -287,39 +290,7 @@ fn read_pairs<S: Shape, M: Machine<S>, R: Read + Drop>(
     }
 }
 
-/// Loads how many pairs a leaf has, and goes through these.
-#[inline(always)]
-fn read_leaf<S: Shape, M: Machine<S>, R: Read + Drop>(
-    hand: Hand<S>,
-    seat: &mut Seat<u8, SeatView>,
-    run: &mut ReadRun<R>,
-    node: NodeNo,
-) -> Result<ReadNext, Result<R::Answer, Refused>>
-    requires table { IsAt hand seat.old }
-    requires waits { (r : Reader (hand_calls S.Shape M.Machine hand) R.means) × ReaderWaits r seat.old.me.0.passes run.old (ReadNext.Load (ReadLoad.More node)) }
-    ensures table { StaysAtTable seat.old seat.new }
-    ensures goes_on { (r : Reader (hand_calls S.Shape M.Machine hand.entry) R.means)
-        → ReaderWaits r seat.old.me.0.passes run.old (ReadNext.Load (ReadLoad.More node))
-        → ReaderGoesOn r seat.new.me.0.passes run.new result }
-    ensures steps { seat_steps seat.new.me.0.passes + left_then R.means (shared_nodes hand.entry.layout.now) run.new result
-        ≤ seat_steps seat.old.me.0.passes + left_then R.means (shared_nodes hand.entry.layout.now) run.old (Ok (ReadNext.Load (ReadLoad.More node))) }
-    ensures nearer { left_then R.means (shared_nodes hand.entry.layout.now) run.new result
-        < left_then R.means (shared_nodes hand.entry.layout.now) run.old (Ok (ReadNext.Load (ReadLoad.More node))) }
-{
-    let next = match load_on::<S, M, R>(hand, seat, run, ReadLoad::More { node }) {
-        Ok(next) => next,
-        Err(told) => return Err(told),
-    };
-    match next {
-        ReadNext::Load(ReadLoad::Pair { place }) => {
-            read_pairs::<S, M, R>(hand, seat, run, place)
-        }
-        _ => Ok(next),
-    }
-}
-
-/// Loads the head of a node, and what it needs behind that but a look. What comes next is matched at
-/// once: handed round a loop, it would be packed and parted again at each turn.
+/// Loads the head of a node, and the key of a fork or how many pairs a leaf has.
 #[inline(always)]
 fn read_node<S: Shape, M: Machine<S>, R: Read + Drop>(
     hand: Hand<S>,
@@ -339,15 +310,40 @@ fn read_node<S: Shape, M: Machine<S>, R: Read + Drop>(
     ensures nearer { left_then R.means (shared_nodes hand.entry.layout.now) run.new result
         < left_then R.means (shared_nodes hand.entry.layout.now) run.old (Ok (ReadNext.Load (ReadLoad.Head above node))) }
 {
-    let next = match load_on::<S, M, R>(hand, seat, run, ReadLoad::Head { above, node }) {
+    let next = match load_on::<S, M, R, _>(hand, seat, run, &HeadLoad { above, node }) {
         Ok(next) => next,
         Err(told) => return Err(told),
     };
     match next {
         ReadNext::Load(ReadLoad::Key { level, node }) => {
-            load_on::<S, M, R>(hand, seat, run, ReadLoad::Key { level, node })
+            load_on::<S, M, R, _>(hand, seat, run, &KeyLoad { level, node })
         }
-        ReadNext::Load(ReadLoad::More { node }) => read_leaf::<S, M, R>(hand, seat, run, node),
+        ReadNext::Load(ReadLoad::More { node }) => {
+            load_on::<S, M, R, _>(hand, seat, run, &MoreLoad { node })
+        }
+        _ => Ok(next),
+    }
+}
+
+/// Goes through the pairs of a leaf, if these come next.
+#[inline(always)]
+fn pairs_next<S: Shape, M: Machine<S>, R: Read + Drop>(
+    hand: Hand<S>,
+    seat: &mut Seat<u8, SeatView>,
+    run: &mut ReadRun<R>,
+    next: ReadNext,
+) -> Result<ReadNext, Result<R::Answer, Refused>>
+    requires table { IsAt hand seat.old }
+    requires waits { (r : Reader (hand_calls S.Shape M.Machine hand) R.means) × ReaderWaits r seat.old.me.0.passes run.old next }
+    ensures table { StaysAtTable seat.old seat.new }
+    ensures goes_on { (r : Reader (hand_calls S.Shape M.Machine hand.entry) R.means)
+        → ReaderWaits r seat.old.me.0.passes run.old next
+        → ReaderGoesOn r seat.new.me.0.passes run.new result }
+    ensures steps { seat_steps seat.new.me.0.passes + left_then R.means (shared_nodes hand.entry.layout.now) run.new result
+        ≤ seat_steps seat.old.me.0.passes + left_then R.means (shared_nodes hand.entry.layout.now) run.old (Ok next) }
+    ensures no_farther { left_then R.means (shared_nodes hand.entry.layout.now) run.new result ≤ left_then R.means (shared_nodes hand.entry.layout.now) run.old (Ok next) }
+{
+    match next {
         ReadNext::Load(ReadLoad::Pair { place }) => {
             read_pairs::<S, M, R>(hand, seat, run, place)
         }
@@ -402,7 +398,7 @@ fn visit_on<S: Shape, M: Machine<S>, R: Read + Drop>(
     ensures nearer { left_then R.means (shared_nodes hand.entry.layout.now) run.new result < left_then R.means (shared_nodes hand.entry.layout.now) run.old (Ok next) }
 {
     match next {
-        ReadNext::Load(load) => load_on::<S, M, R>(hand, seat, run, load),
+        ReadNext::Load(load) => load_on::<S, M, R, ReadLoad>(hand, seat, run, &load),
         ReadNext::Look {
             children,
             level,
@@ -461,6 +457,10 @@ fn go_on<S: Shape, M: Machine<S>, R: Read + Drop>(
         match next {
             ReadNext::Load(ReadLoad::Head { above, node }) => {
                 let behind = match read_node::<S, M, R>(hand, seat, run, above, node) {
+                    Ok(behind) => behind,
+                    Err(told) => return told,
+                };
+                let behind = match pairs_next::<S, M, R>(hand, seat, run, behind) {
                     Ok(behind) => behind,
                     Err(told) => return told,
                 };
