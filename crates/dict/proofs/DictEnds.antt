@@ -3,7 +3,9 @@
 use Rattle.std.proofs.Common.{◌≡◌, ℕ, List, Option, Some, None, inl, inr, sym, subst}
 use Rattle.arena.specs.declared.limits.Mode.TheVariants.{Tree as TreeMode}
 use Rattle.arena.specs.History.{History, ◌⊳◌, value, Extends}
-use Rattle.arena.specs.Machines.{Call, IsRun}
+use Rattle.arena.specs.Machines.{Call, IsRun, MatchTurn}
+use Rattle.arena.specs.declared.machine.Turn.{Turn}
+use Rattle.arena.specs.declared.machine.Turn.TheVariants.{Ask, Done}
 use Rattle.arena.specs.Share.{Remaining}
 use Rattle.arena.proofs.Lemmas.{ends_self, ends_trans}
 use Rattle.ordered_map.specs.OrderedMap.{MapCall, MapEdit, MapReply, OneValue, ManyPairs, edit_of, pair_or_none, reply}
@@ -11,23 +13,20 @@ use Rattle.ordered_map.specs.Spelled.{Spells}
 use Rattle.ordered_map.specs.declared.pair.Pair.{Pair}
 use Rattle.edits.specs.Tries.{HasEnteredNone}
 use Rattle.dict.specs.Calls.{call_in, share_of}
-use Rattle.dict.specs.DictKnown.{DictRefuses, DictAnswers}
+use Rattle.dict.specs.DictKnown.{DictRefuses, DictWaits, DictAnswers}
 use Rattle.ordered_map.specs.CallRules.{MayReply, form_of}
-use Rattle.dict.specs.Forms.{word_form}
-use Rattle.dict.specs.Known.{MapAnswers}
+use Rattle.dict.specs.Known.{MapAnswers, MapWaits}
 use Rattle.dict.specs.Says.{HasMadeEdit, HasReadMap, HasTold, HasToldBy, KeepsLists, TellsOfMap, WordSays}
-use Rattle.dict.specs.Translated.{TellsTyped, SaysSame, IsTranslated, HasFormOf}
-use Rattle.dict.specs.Typed.{AreTyped, IsTypedReply, TypedAllows}
+use Rattle.dict.specs.Translated.{HasFormOf, IsReplyOf, MapReplies, SaysSame, TellsTyped}
+use Rattle.dict.specs.Typed.{AreTyped, IsTypedCall, IsTypedReply, TypedAllows}
 use Rattle.dict.specs.Laws.EachCall.{may_lack, reply_typed, tells_lists}
 use Rattle.dict.specs.Laws.TypedMaps.{typed_map, typed_since}
-use Rattle.dict.specs.WordReplies.{told_in}
-use Rattle.dict.specs.Words.{IsWordOf, IsValidReply}
+use Rattle.dict.specs.WordReplies.{WordReply, told_in, word_form}
+use Rattle.dict.specs.Words.{IsWordOf}
 use Rattle.ordered_map.specs.Replies.{told_of}
 use Rattle.dict.specs.declared.dict.DictRun.{DictRun}
 use Rattle.ordered_map.specs.declared.reply.Reply.{Reply}
 use Rattle.ordered_map.specs.declared.reply.Reply.TheVariants as replies
-use Rattle.dict.specs.declared.told.WordReply.{WordReply}
-use Rattle.dict.specs.declared.told.WordReply.TheVariants as words
 
 -- What is told of a map of typed words is typed
 
@@ -86,13 +85,13 @@ module _ (c : Call) (h : History) where
     tells_same r told e x = (subst (TellsOfMap c h call) (sym e) x, refuses_none r told e)
 
     pub says_right : (w : WordReply) (r : Reply K V) → SaysSame key value_of w r → WordSays c h call share tries w → Right r
-    says_right (words.Value told) r e x = tells_same r (OneValue told) e x.0
-    says_right (words.Pair found) r e x = tells_same r (pair_or_none found) e x.0
-    says_right (words.Pairs found) r (inl e) x = tells_same r (ManyPairs found.items) e x.0
-    says_right (words.Pairs found) r (inr e) x = subst Right (sym e) (tt, keeps call found.items x.0)
-    says_right (words.Contended node scx) r e x = subst Right (sym e) (tt, x.1)
-    says_right (words.Full full) r e x = subst Right (sym e) (tt, x.1)
-    says_right words.NoMemory r e x = subst Right (sym e) (tt, x.1)
+    says_right (WordReply.Value told) r e x = tells_same r (OneValue told) e x.0
+    says_right (WordReply.Pair found) r e x = tells_same r (pair_or_none found) e x.0
+    says_right (WordReply.Pairs found) r (inl e) x = tells_same r (ManyPairs found) e x.0
+    says_right (WordReply.Pairs found) r (inr e) x = subst Right (sym e) (tt, keeps call found x.0)
+    says_right (WordReply.Contended node scx) r e x = subst Right (sym e) (tt, x.1)
+    says_right (WordReply.Full full) r e x = subst Right (sym e) (tt, x.1)
+    says_right WordReply.NoMemory r e x = subst Right (sym e) (tt, x.1)
 
 -- so its reply is of a form that the call may give
 may_reply : {K V : Type 0} (call : MapCall) (w : WordReply) (r : Reply K V) → HasFormOf w r → MayReply call (word_form w) → MayReply call (form_of r)
@@ -100,8 +99,13 @@ may_reply call w r (inl e) x = subst (MayReply call) (sym e) x
 may_reply call w r (inr e) x = subst (MayReply call) (sym e.1) (may_lack call (subst (MayReply call) e.0 x))
 
 module _ {K V : Type 0} (valid_key : K → Type 0) (key : K → ℕ) (valid_value : V → Type 0) (value_of : V → ℕ) where
-  pub dict_ends : (m : DictRun K V) (c : Call) (h : History) (w : WordReply) (r : Reply K V) → c.layout.mode ≡ TreeMode → IsRun (TypedAllows (IsWordOf valid_key key) (IsWordOf valid_value value_of)) c.layout h → MapAnswers m.tries m.run c h w → IsValidReply valid_key valid_value r → IsTranslated valid_key key valid_value value_of w r → HasFormOf w r → DictAnswers valid_key key valid_value value_of m c h r
-  dict_ends m c h w r mode run x valid same forms =
-      let e : SaysSame key value_of w r = same (told_typed (IsWordOf valid_key key) (IsWordOf valid_value value_of) c h mode run (call_in m.run) (told_in w) x.says.0) in
+  pub dict_ends : (m : DictRun K V) (c : Call) (h : History) (w : WordReply) (r : Reply K V) → c.layout.mode ≡ TreeMode → IsRun (TypedAllows (IsWordOf valid_key key) (IsWordOf valid_value value_of)) c.layout h → MapAnswers m.tries m.run c h w → IsReplyOf valid_key key valid_value value_of w r → DictAnswers valid_key key valid_value value_of m c h r
+  dict_ends m c h w r mode run x of =
+      let e : SaysSame key value_of w r = of.says (told_typed (IsWordOf valid_key key) (IsWordOf valid_value value_of) c h mode run (call_in m.run) (told_in w) x.says.0) in
       let y = says_right c h key value_of (call_in m.run) (share_of m.run) m.tries w r e x.says in
-      record { rests = x.rests; spent = x.spent; form = may_reply (call_in m.run) w r forms x.form; valid = valid; tells = y.0; refuses = y.1 }
+      record { rests = x.rests; spent = x.spent; form = may_reply (call_in m.run) w r of.form x.form; valid = of.valid; tells = y.0; refuses = y.1 }
+
+  -- so is its turn, where that of the machine of words is
+  pub dict_turn : (m : DictRun K V) (c : Call) (h : History) (turn : Turn (Reply K V)) → c.layout.mode ≡ TreeMode → IsRun (TypedAllows (IsWordOf valid_key key) (IsWordOf valid_value value_of)) c.layout h → IsTypedCall (IsWordOf valid_key key) (IsWordOf valid_value value_of) (call_in m.run) → MatchTurn turn (MapWaits m.tries m.run c h) (MapReplies valid_key key valid_value value_of m.tries m.run c h) → MatchTurn turn (DictWaits (IsWordOf valid_key key) (IsWordOf valid_value value_of) m c h) (DictAnswers valid_key key valid_value value_of m c h)
+  dict_turn m c h (Ask step) mode run typed x = (typed, x)
+  dict_turn m c h (Done reply) mode run typed x = dict_ends m c h x.0 reply mode run x.1 x.2

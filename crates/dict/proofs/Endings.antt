@@ -41,8 +41,7 @@ use Rattle.dict.specs.Inner.{EditKind, ReadKind}
 use Rattle.dict.specs.Known.{HasRested, HasSpentSo}
 use Rattle.dict.specs.Says.{WordSays, IsRefusal, HasLost, HasMadeEdit, HasNeeded, HasReadMap, HasTold, HasToldBy, TellsOfMap}
 use Rattle.dict.specs.Laws.Kinds.{IsEditing, IsEditKind, IsReadKind}
-use Rattle.dict.specs.WordReplies.{goal_reply, edit_reply, read_reply, told_in}
-use Rattle.dict.specs.declared.told.WordReply.TheVariants as words
+use Rattle.dict.specs.WordReplies.{WordReply, goal_reply, edit_reply, read_reply, told_in}
 use Rattle.dict.proofs.Readings.{NeededAs, none_entered, answer_read, reply_read, always_read, leaf_read, leaf_needed, ran_out}
 
 -- what needs something needs some nodes
@@ -130,7 +129,7 @@ module _ (tries : ℕ) (c : Call) (h : History) where
     )
 
   -- a get has read what it tells
-  pub get_says : (m : GetRun) (share : Remaining) (a : Option ℕ) → HasRested c h share → GetAnswers m c h a → WordSays c h (Get m.key) share tries (words.Value a)
+  pub get_says : (m : GetRun) (share : Remaining) (a : Option ℕ) → HasRested c h share → GetAnswers m c h a → WordSays c h (Get m.key) share tries (WordReply.Value a)
   get_says m share a x y = (answer_read c h y.0.first m.key a y.0.own y.0.right y.0.none, tt)
 
   -- so has an ordered read, or it tells what every map replies

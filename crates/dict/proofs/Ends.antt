@@ -18,10 +18,9 @@ use Rattle.edits.specs.declared.update.UpdateRun.{UpdateRun}
 use Rattle.edits.specs.declared.update.Updated.{Updated}
 use Rattle.ordered_map.specs.CallRules.{most_nodes}
 use Rattle.dict.specs.Known.{HasRested, Goes, InnerAnswers}
-use Rattle.dict.specs.WordReplies.{edit_reply, read_reply}
+use Rattle.dict.specs.WordReplies.{WordReply, edit_reply, read_reply}
 use Rattle.dict.specs.Inner.{EditKind, ReadKind, Update, Get, Read}
 use Rattle.dict.specs.Laws.Kinds.{IsEditKind, IsReadKind}
-use Rattle.dict.specs.declared.told.WordReply.TheVariants as words
 use Rattle.dict.proofs.Endings.{edit_says, get_says, read_says, read_spent, edit_spends, edit_spent}
 
 -- Their way
@@ -50,7 +49,7 @@ module _ (tries : ℕ) (c : Call) (h : History) where
     says = edit_says tries c h k is now (goes.mode, run) (rw edit goes.small) a (call ∙ goes.number) (limit ∙ goes.limit) x.1;
   }
 
-  pub get_ends : (now : GetRun) (share : Remaining) (a : Option ℕ) → HasRested c h share → RestsWith c c.start share → GetAnswers now c h a → InnerAnswers tries (Get now share) c h (words.Value a)
+  pub get_ends : (now : GetRun) (share : Remaining) (a : Option ℕ) → HasRested c h share → RestsWith c c.start share → GetAnswers now c h a → InnerAnswers tries (Get now share) c h (WordReply.Value a)
   get_ends now share a x spent y = record { rests = x.now; spent = read_spent c h (GetOf now.key) tries share spent y.1; form = tt; says = get_says tries c h now share a x y }
 
   pub read_ends : (k : ReadKind) (is : IsReadKind k) (now : ReadRun k.R) (share : Remaining) (a : Result k.A Refused) → HasRested c h share → RestsWith c c.start share → now.limit ≡ tries → ReadAnswers k.means now c h a → InnerAnswers tries (Read k now share) c h (read_reply k.tells a)

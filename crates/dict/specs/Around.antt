@@ -10,7 +10,7 @@ use Rattle.dict.specs.Calls.{call_in, share_of, tries_behind}
 use Rattle.dict.specs.Inner.{EditKind, Update, inner}
 use Rattle.dict.specs.Known.{Goes, IsReadyInside, WaitsInside, StandsAtStart, InnerAnswers, IsUnbegun, MapAnswers}
 use Rattle.dict.specs.declared.run.MapRun.{MapRun}
-use Rattle.dict.specs.declared.told.WordReply.{WordReply}
+use Rattle.dict.specs.WordReplies.{WordReply}
 
 -- It is a machine of the call that such an edit serves, whose update stands as it does.
 pub record IsAround (k : EditKind) (around : UpdateRun k.E UpdateAt → MapRun) : Type 0 where

@@ -25,8 +25,7 @@ use Rattle.edits.specs.declared.update.UpdateAt.{UpdateAt}
 use Rattle.edits.specs.declared.update.UpdateRun.{UpdateRun}
 use Rattle.dict.specs.declared.run.MapRun.{MapRun}
 use Rattle.dict.specs.declared.run.MapRun.TheVariants as runs
-use Rattle.dict.specs.declared.told.WordReply.{WordReply}
-use Rattle.dict.specs.declared.told.WordReply.TheVariants as words
+use Rattle.dict.specs.WordReplies.{WordReply}
 
 -- a kind of edit: what it says to its machine, and which call of the map it serves
 pub record EditKind : Type 1 where
@@ -56,10 +55,10 @@ pub record ReadKind : Type 1 where
 
 -- those of the two calls that read in order
 abbrev pub successor_kind : ReadKind
-successor_kind = record { R = Successor; A = Option Pair; means = successor_means; tells = words.Pair }
+successor_kind = record { R = Successor; A = Option Pair; means = successor_means; tells = WordReply.Pair }
 
 abbrev pub range_kind : ReadKind
-range_kind = record { R = Range; A = Vec Pair Global; means = range_means; tells = words.Pairs }
+range_kind = record { R = Range; A = Vec Pair Global; means = range_means; tells = λ (found : Vec Pair Global). WordReply.Pairs found.items }
 
 -- the machine inside, and the share that lies beside that of a read
 pub data InnerRun : Type 1 where

@@ -17,11 +17,10 @@ use Rattle.edits.specs.Steps.{node_tries, scx_tries, Spends}
 use Rattle.edits.specs.declared.update.UpdateAt.TheVariants.{Start as UpdateStart}
 use Rattle.dict.specs.Calls.{call_in, inner_call, inner_share, AsksForPairs, IsFewCall, IsSmallCall, HasSpent}
 use Rattle.ordered_map.specs.CallRules.{MayReply, most_nodes}
-use Rattle.dict.specs.Forms.{word_form}
 use Rattle.dict.specs.Says.{WordSays}
 use Rattle.dict.specs.declared.run.MapRun.{MapRun}
 use Rattle.dict.specs.Inner.{InnerRun, Update, Get, Read, inner}
-use Rattle.dict.specs.declared.told.WordReply.{WordReply}
+use Rattle.dict.specs.WordReplies.{WordReply, word_form}
 
 -- A read rests all the way: its share is untouched, all its pass's SCX-records are finished, and
 -- none was in progress since the call began.

@@ -2,7 +2,6 @@ pub mod Names
 pub mod Words
 pub mod WordReplies
 pub mod Goals
-pub mod Forms
 pub mod Inner
 pub mod Calls
 pub mod Says

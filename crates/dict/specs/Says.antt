@@ -17,9 +17,7 @@ use Rattle.edits.specs.Known.{HasMade, IsUntouched}
 use Rattle.edits.specs.Tries.{HasEnteredNone, HasOnlyLooked}
 use Rattle.ordered_map.specs.CallRules.{most_nodes, need}
 use Rattle.dict.specs.Calls.{AsksForPairs}
-use Rattle.dict.specs.declared.told.WordReply.{WordReply}
-use Rattle.dict.specs.declared.told.WordReply.TheVariants as words
-use Rattle.dict.specs.WordReplies.{told_in}
+use Rattle.dict.specs.WordReplies.{WordReply, told_in}
 
 -- A change: the call has made this edit, and tells what the map just before replies.
 pub record HasMadeEdit (c : Call) (h : History) (call : MapCall) (told : MapReply) (edit : MapEdit) : Type 0 where
@@ -124,9 +122,9 @@ TellsOfMap c h call (Some told) = HasTold c h call told
 
 -- why there is none, where the call has this share left, and so many tries in all
 abbrev pub IsRefusal : Call → History → MapCall → Remaining → ℕ → WordReply → Type 0
-IsRefusal c h call share tries (words.Contended node scx) = HasLost c h call tries node.0 scx.0
-IsRefusal c h call share tries (words.Full full) = HasRunOut c h call share full
-IsRefusal c h call share tries words.NoMemory = KeepsLists call × HasEnteredNone c.layout c.pass h c.start
+IsRefusal c h call share tries (WordReply.Contended node scx) = HasLost c h call tries node.0 scx.0
+IsRefusal c h call share tries (WordReply.Full full) = HasRunOut c h call share full
+IsRefusal c h call share tries WordReply.NoMemory = KeepsLists call × HasEnteredNone c.layout c.pass h c.start
 IsRefusal c h call share tries _ = Unit {0}
 
 -- what the reply says

@@ -7,7 +7,6 @@ use Rattle.tree.specs.Get.Steps.{get_left, GetFits}
 use Rattle.edits.specs.Steps.{update_left, UpdateFits}
 use Rattle.dict.specs.declared.run.MapRun.{MapRun}
 use Rattle.dict.specs.Inner.{InnerRun, Update, Get, Read, inner}
-use Rattle.dict.specs.declared.told.WordReply.{WordReply}
 
 -- how many steps the inner machine may still ask for, where no more nodes than these are taken
 abbrev pub inner_left : InnerRun → ℕ → ℕ
@@ -30,5 +29,5 @@ abbrev pub MapFits : MapRun → Option ℕ → ℕ → Type 0
 MapFits m got nodes = InnerFits (inner m) got nodes
 
 -- where it asks for a step, fewer are left than before
-abbrev pub HasComeNearer : MapRun → MapRun → ℕ → Turn WordReply → Type 0
+abbrev pub HasComeNearer : {A : Type 0} → MapRun → MapRun → ℕ → Turn A → Type 0
 HasComeNearer old now nodes turn = MatchTurn turn (λ _. map_left now nodes < map_left old nodes) (λ _. Unit {0})

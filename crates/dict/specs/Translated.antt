@@ -1,18 +1,19 @@
 -- What a reply of keys and values has of one in words.
 use Rattle.std.specs.Prelude.{◌≡◌, ◌⊎◌, ℕ, map, All, List, Option, Some, None, IfSome}
 use Rattle.std.specs.Option.{option_map}
+use Rattle.arena.specs.History.{History}
+use Rattle.arena.specs.Machines.{Call}
 use Rattle.ordered_map.specs.OrderedMap.{MapReply}
 use Rattle.ordered_map.specs.declared.pair.Pair.{Pair}
 use Rattle.ordered_map.specs.CallRules.{Pairs, NoMemory, form_of}
-use Rattle.dict.specs.Forms.{word_form}
+use Rattle.dict.specs.Known.{MapAnswers}
 use Rattle.dict.specs.Typed.{AreTyped, IsTypedReply}
-use Rattle.dict.specs.Words.{IsWordOf, IsPairWord, IsValidPair}
+use Rattle.dict.specs.Words.{IsWordOf, IsPairWord, IsValidPair, IsValidReply}
 use Rattle.ordered_map.specs.Replies.{word_pair, told_of}
-use Rattle.dict.specs.WordReplies.{told_in}
+use Rattle.dict.specs.WordReplies.{WordReply, told_in, word_form}
+use Rattle.dict.specs.declared.run.MapRun.{MapRun}
 use Rattle.ordered_map.specs.declared.reply.Reply.{Reply}
 use Rattle.ordered_map.specs.declared.reply.Reply.TheVariants as replies
-use Rattle.dict.specs.declared.told.WordReply.{WordReply}
-use Rattle.dict.specs.declared.told.WordReply.TheVariants as words
 
 -- The pair has a key and a value of their types, and these are its words; and if these words are of
 -- such ones, there is the pair.
@@ -34,17 +35,24 @@ TellsTyped keys values (Some told) = IsTypedReply keys values told
 -- It refuses what the other refuses; or it tells the same of the map, or there was no memory for
 -- the pairs.
 abbrev pub SaysSame : {K V : Type 0} → (K → ℕ) → (V → ℕ) → WordReply → Reply K V → Type 0
-SaysSame key value (words.Contended node scx) reply = reply ≡ replies.Contended node scx
-SaysSame key value (words.Full full) reply = reply ≡ replies.Full full
-SaysSame key value words.NoMemory reply = reply ≡ replies.NoMemory
-SaysSame key value (words.Value told) reply = told_of key value reply ≡ told_in (words.Value told)
-SaysSame key value (words.Pair told) reply = told_of key value reply ≡ told_in (words.Pair told)
-SaysSame key value (words.Pairs told) reply = (told_of key value reply ≡ told_in (words.Pairs told)) ⊎ (reply ≡ replies.NoMemory)
-
--- it does so where the words that are told are of a key or of a value
-abbrev pub IsTranslated : {K V : Type 0} → (K → Type 0) → (K → ℕ) → (V → Type 0) → (V → ℕ) → WordReply → Reply K V → Type 0
-IsTranslated valid_key key valid_value value told reply = TellsTyped (IsWordOf valid_key key) (IsWordOf valid_value value) (told_in told) → SaysSame key value told reply
+SaysSame key value (WordReply.Contended node scx) reply = reply ≡ replies.Contended node scx
+SaysSame key value (WordReply.Full full) reply = reply ≡ replies.Full full
+SaysSame key value WordReply.NoMemory reply = reply ≡ replies.NoMemory
+SaysSame key value (WordReply.Value told) reply = told_of key value reply ≡ told_in (WordReply.Value told)
+SaysSame key value (WordReply.Pair told) reply = told_of key value reply ≡ told_in (WordReply.Pair told)
+SaysSame key value (WordReply.Pairs told) reply = (told_of key value reply ≡ told_in (WordReply.Pairs told)) ⊎ (reply ≡ replies.NoMemory)
 
 -- it is of the same form; or there was no memory for the pairs
 abbrev pub HasFormOf : {K V : Type 0} → WordReply → Reply K V → Type 0
 HasFormOf told reply = (form_of reply ≡ word_form told) ⊎ ((word_form told ≡ Pairs) × (form_of reply ≡ NoMemory))
+
+-- The reply has keys and values of their types, and is in place of this one in words.
+pub record IsReplyOf {K V : Type 0} (valid_key : K → Type 0) (key : K → ℕ) (valid_value : V → Type 0) (value : V → ℕ) (told : WordReply) (reply : Reply K V) : Type 0 where
+  pub valid : IsValidReply valid_key valid_value reply
+  -- it says the same where the words that are told are of a key or of a value
+  pub says : TellsTyped (IsWordOf valid_key key) (IsWordOf valid_value value) (told_in told) → SaysSame key value told reply
+  pub form : HasFormOf told reply
+
+-- it is in place of a right answer of the machine
+abbrev pub MapReplies : {K V : Type 0} → (K → Type 0) → (K → ℕ) → (V → Type 0) → (V → ℕ) → ℕ → MapRun → Call → History → Reply K V → Type 0
+MapReplies valid_key key valid_value value tries m c h reply = (told : WordReply) × MapAnswers tries m c h told × IsReplyOf valid_key key valid_value value told reply

@@ -12,7 +12,7 @@ ghost use Rattle.ordered_map.specs.Requests.{as_map_call};
 use crate::key::WordKey;
 use crate::run::MapRun;
 use crate::shape::Dict;
-use crate::translation::{number_of, translated};
+use crate::translation::number_of;
 use crate::value::WordValue;
 use arena::{Machine, Share, Turn};
 use ordered_map::{Reply, Request};
@@ -26,8 +26,6 @@ pub struct DictRun<K, V> {
     pub run: MapRun,
     /// How many tries it has in all.
     pub tries: u32,
-    /// With what the pairs of its reply grow; there is none where it takes no memory.
-    pub alloc: Option<Global>,
     pub types: PhantomData<(K, V)>,
 }
 
@@ -49,14 +47,12 @@ impl<K: WordKey, V: WordValue> DictRun<K, V> {
         ensures typed { IsTypedCall (IsWordOf K.is_valid K.word_of) (IsWordOf V.is_valid V.word_of) (call_in result.run) }
         ensures share { share_of result.run ≡ share }
         ensures tries { result.tries ≡ tries }
-        ensures alloc { result.alloc ≡ alloc }
         ensures fresh { 0 < tries → IsUnbegun result.run tries call }
         ensures steps { (nodes : ℕ) → 0 < tries → map_left result.run nodes ≤ most_steps (call_in result.run) tries nodes }
     {
         DictRun {
             run: MapRun::new(alloc, in_words(request), share, tries, call),
             tries,
-            alloc,
             types: PhantomData,
         }
     }
@@ -134,10 +130,7 @@ impl<K: WordKey, V: WordValue> Machine<Dict<K, V>> for DictRun<K, V> {
     ghost asks_first = { λ m. AsksFirst m.run };
 
     fn next(&mut self, got: Option<u64>) -> Turn<Reply<K, V>> {
-        match self.run.next(got) {
-            Turn::Ask(step) => Turn::Ask(step),
-            Turn::Done(reply) => Turn::Done(translated(self.alloc, reply)),
-        }
+        self.run.next(got)
     }
 
     ghost keeps = { dict_keeps (IsWordOf K.is_valid K.word_of) (IsWordOf V.is_valid V.word_of) };

@@ -22,6 +22,6 @@ pub use name::Name8;
 pub use ordered_map::{Reply, Request};
 pub use run::MapRun;
 pub use shape::Dict;
-pub use told::WordReply;
-pub use translation::{number_of, pair_of, pairs_of, translated, value_of};
+pub use told::{of_range, of_successor, of_update};
+pub use translation::{number_of, pairs_of, value_of};
 pub use value::WordValue;

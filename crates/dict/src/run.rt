@@ -4,16 +4,21 @@ ghost use Rattle.arena.specs.History.{History};
 ghost use Rattle.arena.specs.Machines.{Call, IsRun, MatchTurn};
 ghost use Rattle.ordered_map.specs.TreeShape.{TreeAllows};
 ghost use Rattle.dict.specs.Calls.{KeepsTriesButOne, call_in, share_of};
-ghost use Rattle.dict.specs.Known.{AsksFirst, IsUnbegun, MapIsReady, MapWaits, MapAnswers};
+ghost use Rattle.dict.specs.Known.{AsksFirst, IsUnbegun, MapIsReady, MapWaits};
 ghost use Rattle.dict.specs.Says.{KeepsLists};
 ghost use Rattle.ordered_map.specs.CallRules.{most_steps};
 ghost use Rattle.dict.specs.Steps.{map_left, MapFits, HasComeNearer};
+ghost use Rattle.dict.specs.Translated.{IsReplyOf, MapReplies};
+ghost use Rattle.dict.specs.WordReplies.{edit_reply};
 ghost use Rattle.ordered_map.specs.Requests.{as_map_call};
 
-use crate::told::WordReply;
+use crate::key::WordKey;
+use crate::told::{of_range, of_successor, of_update, of_value};
+use crate::value::WordValue;
 use arena::{Machine, Share, Turn};
+use edits::{Edit, Updated};
 use order::{Range, RangeRun, Successor, SuccessorRun};
-use ordered_map::Request;
+use ordered_map::{Reply, Request};
 use std::alloc::Global;
 use tree::{
     Delete, DeleteRun, GetRun, Insert, InsertRun, PopFirst, PopFirstRun, ReplaceIf, ReplaceIfRun,
@@ -90,9 +95,10 @@ impl MapRun {
     }
 
     /// Goes on with what the last step found, as the machine inside.
-    pub(crate) fn next(&mut self, got: Option<u64>) -> Turn<WordReply>
+    pub(crate) fn next<K: WordKey, V: WordValue>(&mut self, got: Option<u64>) -> Turn<Reply<K, V>>
         ensures turn { (tries : ℕ) (c : Call) (h : History) → IsRun TreeAllows c.layout h → MapIsReady tries self.old c h got
-            → MatchTurn result (MapWaits tries self.new c h) (MapAnswers tries self.new c h) }
+            → MatchTurn result (MapWaits tries self.new c h)
+            (MapReplies K.is_valid K.word_of V.is_valid V.word_of tries self.new c h) }
         ensures begins { got ≡ None → AsksFirst self.old → (tries : ℕ) (c : Call) (h : History) → MapIsReady tries self.old c h None
             → MatchTurn result (λ _. Unit {0}) (λ _. ⊥) }
         ensures same { call_in self.new ≡ call_in self.old }
@@ -102,31 +108,31 @@ impl MapRun {
         match self {
             MapRun::Insert(run) => match run.step(got) {
                 Turn::Ask(step) => Turn::Ask(step),
-                Turn::Done(updated) => Turn::Done(WordReply::of_update(updated)),
+                Turn::Done(updated) => Turn::Done(of_edit(&run.edit, updated)),
             },
             MapRun::Delete(run) => match run.step(got) {
                 Turn::Ask(step) => Turn::Ask(step),
-                Turn::Done(updated) => Turn::Done(WordReply::of_update(updated)),
+                Turn::Done(updated) => Turn::Done(of_edit(&run.edit, updated)),
             },
             MapRun::PopFirst(run) => match run.step(got) {
                 Turn::Ask(step) => Turn::Ask(step),
-                Turn::Done(updated) => Turn::Done(WordReply::of_pop(updated)),
+                Turn::Done(updated) => Turn::Done(of_edit(&run.edit, updated)),
             },
             MapRun::ReplaceIf(run) => match run.step(got) {
                 Turn::Ask(step) => Turn::Ask(step),
-                Turn::Done(updated) => Turn::Done(WordReply::of_update(updated)),
+                Turn::Done(updated) => Turn::Done(of_edit(&run.edit, updated)),
             },
             MapRun::Get { run, share: _ } => match Machine::<Tree>::next(run, got) {
                 Turn::Ask(step) => Turn::Ask(step),
-                Turn::Done(value) => Turn::Done(WordReply::Value(value)),
+                Turn::Done(value) => Turn::Done(of_value(value)),
             },
             MapRun::Successor { run, share: _ } => match run.step(got) {
                 Turn::Ask(step) => Turn::Ask(step),
-                Turn::Done(told) => Turn::Done(WordReply::of_successor(told)),
+                Turn::Done(told) => Turn::Done(of_successor(told)),
             },
             MapRun::Range { run, share: _ } => match run.step(got) {
                 Turn::Ask(step) => Turn::Ask(step),
-                Turn::Done(told) => Turn::Done(WordReply::of_range(told)),
+                Turn::Done(told) => Turn::Done(of_range(run.read.alloc, told)),
             },
         }
     }
@@ -152,4 +158,13 @@ impl MapRun {
             }
         }
     }
+}
+
+/// What an edit replies of what its update has answered. Out of line, so that a machine does not
+/// pay for its locals at each step.
+#[inline(never)]
+fn of_edit<K: WordKey, V: WordValue, E: Edit>(edit: &E, updated: Updated) -> Reply<K, V>
+    ensures { IsReplyOf K.is_valid K.word_of V.is_valid V.word_of (edit_reply (E.means.goal edit.now) updated) result }
+{
+    of_update(edit.goal(), updated)
 }

@@ -1,73 +1,75 @@
-//! What a call replies, in words.
-ghost use Rattle.std.specs.Prelude.{◌≡◌};
-ghost use Rattle.dict.specs.WordReplies.{word_reply, pop_reply, successor_reply, range_reply};
+//! What a call replies of what its machine has answered.
+ghost use Rattle.dict.specs.Translated.{IsReplyOf};
+ghost use Rattle.dict.specs.WordReplies.{WordReply, edit_reply, goal_reply, range_reply, successor_reply};
 
-use arena::{Full, NodeNo, ScxNo};
+use crate::key::WordKey;
+use crate::translation::{pair_of, pairs_of, value_of};
+use crate::value::WordValue;
+use arena::NoMemory;
 use edits::Updated;
 use order::Refused;
-use ordered_map::Pair;
+use ordered_map::{Pair, Reply};
+use std::alloc::Global;
+use template::Goal;
 
-/// What a call replies, in words, or why it replies nothing.
-#[derive(Debug, Drop, PartialEq, Eq)]
-pub enum WordReply {
-    /// What the key had, of an edit of a key, or has.
-    Value(Option<u128>),
-    /// The pair that is first, of a pop, or behind a key.
-    Pair(Option<Pair>),
-    /// The pairs between two keys.
-    Pairs(Vec<Pair>),
-    /// All tries were lost, one of them to this SCX-record over this node.
-    Contended { node: NodeNo, scx: ScxNo },
-    /// The share has too little left.
-    Full(Full),
-    /// A growth was refused.
-    NoMemory,
+/// What a call replies that finds this value.
+#[inline(always)]
+pub(crate) fn of_value<K: WordKey, V: WordValue>(value: Option<u128>) -> Reply<K, V>
+    ensures { IsReplyOf K.is_valid K.word_of V.is_valid V.word_of (WordReply.Value value) result }
+{
+    Reply::Value(value_of(value))
 }
 
-impl WordReply {
-    /// What an edit of a key has answered.
-    pub fn of_update(updated: Updated) -> WordReply
-        ensures { result ≡ word_reply updated }
-    {
-        match updated {
-            Updated::Done { key: _, value } => WordReply::Value(value),
-            Updated::Contended { node, scx } => WordReply::Contended { node, scx },
-            Updated::Full(full) => WordReply::Full(full),
-        }
+/// What an edit that walks there replies where its leaf has this key, and tells this value.
+#[inline(always)]
+fn of_leaf<K: WordKey, V: WordValue>(goal: Goal, key: u64, value: Option<u128>) -> Reply<K, V>
+    ensures { IsReplyOf K.is_valid K.word_of V.is_valid V.word_of (goal_reply goal key value) result }
+{
+    match goal {
+        Goal::Key(_) => of_value(value),
+        Goal::Least => Reply::Pair(pair_of(value.map(|value| Pair { key, value }))),
     }
+}
 
-    /// What a pop has answered.
-    pub fn of_pop(updated: Updated) -> WordReply
-        ensures { result ≡ pop_reply updated }
-    {
-        match updated {
-            Updated::Done { key, value } => {
-                WordReply::Pair(value.map(|value| Pair { key, value }))
-            }
-            Updated::Contended { node, scx } => WordReply::Contended { node, scx },
-            Updated::Full(full) => WordReply::Full(full),
-        }
+/// What an edit that walks there replies of what its update has answered.
+#[inline(always)]
+pub fn of_update<K: WordKey, V: WordValue>(goal: Goal, updated: Updated) -> Reply<K, V>
+    ensures { IsReplyOf K.is_valid K.word_of V.is_valid V.word_of (edit_reply goal updated) result }
+{
+    match updated {
+        Updated::Done { key, value } => of_leaf(goal, key, value),
+        Updated::Contended { node, scx } => Reply::Contended { node, scx },
+        Updated::Full(full) => Reply::Full(full),
     }
+}
 
-    /// What a successor has answered.
-    pub fn of_successor(told: Result<Option<Pair>, Refused>) -> WordReply
-        ensures { result ≡ successor_reply told }
-    {
-        match told {
-            Ok(found) => WordReply::Pair(found),
-            Err(Refused::Contended { node, scx }) => WordReply::Contended { node, scx },
-            Err(Refused::NoMemory) => WordReply::NoMemory,
-        }
+/// What a successor replies of what its machine has answered.
+#[inline(always)]
+pub fn of_successor<K: WordKey, V: WordValue>(told: Result<Option<Pair>, Refused>) -> Reply<K, V>
+    ensures { IsReplyOf K.is_valid K.word_of V.is_valid V.word_of (successor_reply told) result }
+{
+    match told {
+        Ok(pair) => Reply::Pair(pair_of(pair)),
+        Err(Refused::Contended { node, scx }) => Reply::Contended { node, scx },
+        Err(Refused::NoMemory) => Reply::NoMemory,
     }
+}
 
-    /// What a range has answered.
-    pub fn of_range(told: Result<Vec<Pair>, Refused>) -> WordReply
-        ensures { result ≡ range_reply told }
-    {
-        match told {
-            Ok(pairs) => WordReply::Pairs(pairs),
-            Err(Refused::Contended { node, scx }) => WordReply::Contended { node, scx },
-            Err(Refused::NoMemory) => WordReply::NoMemory,
-        }
+/// What a range replies of what its machine has answered. What it lists grows with this allocator.
+/// Out of line, so that a machine does not pay for its locals at each step.
+#[inline(never)]
+pub fn of_range<K: WordKey, V: WordValue>(
+    alloc: Global,
+    told: Result<Vec<Pair>, Refused>,
+) -> Reply<K, V>
+    ensures { IsReplyOf K.is_valid K.word_of V.is_valid V.word_of (range_reply told) result }
+{
+    match told {
+        Ok(words) => match pairs_of(alloc, &words) {
+            Ok(pairs) => Reply::Pairs(pairs),
+            Err(NoMemory) => Reply::NoMemory,
+        },
+        Err(Refused::Contended { node, scx }) => Reply::Contended { node, scx },
+        Err(Refused::NoMemory) => Reply::NoMemory,
     }
 }

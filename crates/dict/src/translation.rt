@@ -1,14 +1,13 @@
-//! Replies in words as replies of keys and values.
+//! Numbers as keys and values.
 ghost use Rattle.std.specs.Prelude.{◌≡◌, ◌≢◌, IfSome, IfOk, IsNone};
 ghost use Rattle.std.specs.Option.{option_map};
-ghost use Rattle.dict.specs.Words.{IsWordOf, IsValidReply};
-ghost use Rattle.dict.specs.Translated.{ArePairsOf, HasFormOf, IsPairOf, IsTranslated};
+ghost use Rattle.dict.specs.Words.{IsWordOf};
+ghost use Rattle.dict.specs.Translated.{ArePairsOf, IsPairOf};
 
 use crate::key::WordKey;
-use crate::told::WordReply;
 use crate::value::WordValue;
 use arena::NoMemory;
-use ordered_map::{Pair, Reply, halves, wide_value};
+use ordered_map::{Pair, halves, wide_value};
 use std::alloc::Global;
 
 /// The number of a value.
@@ -55,7 +54,7 @@ fn known_pair<K: WordKey, V: WordValue>(words: Pair) -> Option<(K, V)>
 
 /// The same, if there are two words.
 #[inline(always)]
-pub fn pair_of<K: WordKey, V: WordValue>(words: Option<Pair>) -> Option<(K, V)>
+pub(crate) fn pair_of<K: WordKey, V: WordValue>(words: Option<Pair>) -> Option<(K, V)>
     ensures { IsPairOf K.is_valid K.word_of V.is_valid V.word_of words result }
 {
     match words {
@@ -79,30 +78,6 @@ pub fn pairs_of<K: WordKey, V: WordValue>(
         }
     }
     Ok(pairs)
-}
-
-/// A reply in words as one of keys and values. Out of line, so that a machine does not pay for its
-/// locals at each step.
-#[inline(never)]
-pub fn translated<K: WordKey, V: WordValue>(alloc: Option<Global>, reply: WordReply) -> Reply<K, V>
-    ensures valid { IsValidReply K.is_valid V.is_valid result }
-    ensures says { IsTranslated K.is_valid K.word_of V.is_valid V.word_of reply result }
-    ensures form { HasFormOf reply result }
-{
-    match reply {
-        WordReply::Value(number) => Reply::Value(value_of(number)),
-        WordReply::Pair(words) => Reply::Pair(pair_of(words)),
-        WordReply::Pairs(words) => match alloc {
-            Some(alloc) => match pairs_of(alloc, &words) {
-                Ok(pairs) => Reply::Pairs(pairs),
-                Err(NoMemory) => Reply::NoMemory,
-            },
-            None => Reply::NoMemory,
-        },
-        WordReply::Contended { node, scx } => Reply::Contended { node, scx },
-        WordReply::Full(full) => Reply::Full(full),
-        WordReply::NoMemory => Reply::NoMemory,
-    }
 }
 
 ghost use Rattle.std.specs.Prelude.{Option};

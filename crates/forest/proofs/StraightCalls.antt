@@ -26,7 +26,7 @@ use Rattle.edits.specs.declared.update.UpdateRun.{UpdateRun}
 use Rattle.edits.specs.declared.update.Updated.{Updated}
 use Rattle.dict.specs.Typed.{IsTypedCall}
 use Rattle.dict.specs.Laws.TypedMaps.{typed_run}
-use Rattle.dict.specs.Words.{IsWordOf, IsValidReply}
+use Rattle.dict.specs.Words.{IsWordOf}
 use Rattle.dict.specs.declared.dict.DictRun.{DictRun}
 use Rattle.dict.specs.Around.{IsAround}
 use Rattle.dict.specs.Calls.{IsFewCall, IsSmallCall, KeepsTriesButOne, call_in, inner_call, inner_share}
@@ -35,10 +35,9 @@ use Rattle.dict.specs.Known.{Goes, HasRested, InnerAnswers, IsReadyInside, Stand
 use Rattle.dict.specs.Laws.Kinds.{IsEditKind, IsReadKind, range_is, successor_is}
 use Rattle.dict.specs.declared.run.MapRun.{MapRun}
 use Rattle.dict.specs.declared.run.MapRun.TheVariants.{Successor, Range}
-use Rattle.dict.specs.Translated.{IsTranslated, HasFormOf}
-use Rattle.dict.specs.WordReplies.{edit_reply, read_reply}
+use Rattle.dict.specs.Translated.{IsReplyOf}
+use Rattle.dict.specs.WordReplies.{WordReply, edit_reply, read_reply}
 use Rattle.ordered_map.specs.declared.reply.Reply.{Reply}
-use Rattle.dict.specs.declared.told.WordReply.{WordReply}
 use Rattle.dict.proofs.Lemmas.{edit_goes, edit_ends, read_ends, dict_ends}
 use Rattle.forest.specs.declared.view.SeatedPass.{SeatedPass}
 use Rattle.forest.specs.StraightCalls.{DictAllows, DictCallIsReady, DictCallWaits, IsSameDictCall, SeatDictBegins, SeatDictEnds, SeatWordEnds, IsFreshCall, SeatCallBegins, CallHasEnded}
@@ -193,12 +192,12 @@ module _ {K V : Type 0} (valid_key : K → Type 0) (key : K → ℕ) (valid_valu
           }
 
   -- a machine that has answered is told as a reply of keys and values
-  pub replies : (c : Call) (ps : List SeatedPass) (first m : DictRun K V) (w : WordReply) (r : Reply K V) → IsValidReply valid_key valid_value r → IsTranslated valid_key key valid_value value_word w r → HasFormOf w r → ends c ps first m w → SeatDictEnds valid_key key valid_value value_word c ps first m r
-  replies c ps first m w r valid says form x = record {
+  pub replies : (c : Call) (ps : List SeatedPass) (first m : DictRun K V) (w : WordReply) (r : Reply K V) → IsReplyOf valid_key key valid_value value_word w r → ends c ps first m w → SeatDictEnds valid_key key valid_value value_word c ps first m r
+  replies c ps first m w r of x = record {
     known = x.known;
     is = x.is;
     sound = x.sound;
-    so = (dict_ends valid_key key valid_value value_word m c _ w r x.so.0.0 x.sound x.so.0.1 valid says form, x.so.1);
+    so = (dict_ends valid_key key valid_value value_word m c _ w r x.so.0.0 x.sound x.so.0.1 of, x.so.1);
   }
 
 -- Machines that have not begun
@@ -209,7 +208,7 @@ all_tries left tries some is = omega (arith, some, is)
 module _ {K V A : Type 0} (k : EditKind) (around : UpdateRun k.E UpdateAt → MapRun) (is : IsAround k around) where
   -- the machine of an edit
   abbrev pub edit_machine : ℕ → UpdateRun k.E A → DictRun K V
-  edit_machine tries m = record { run = around (standing m Start); tries = tries; alloc = None; types = record {} }
+  edit_machine tries m = record { run = around (standing m Start); tries = tries; types = record {} }
 
   pub edit_fresh : (share : Remaining) (tries number : ℕ) → 0 < tries → (m : UpdateRun k.E A) (ed : k.E) → m.edit ≡ ed → m.share ≡ share → m.call ≡ number → m.tries ≡ tries - 1 → m.limit ≡ tries → IsSmallCall (k.call ed) → IsFreshCall (k.call ed) share tries number (edit_machine tries m)
   edit_fresh share tries number some m ed is_edit is_share is_call is_tries is_limit small = record {
@@ -222,7 +221,7 @@ module _ {K V A : Type 0} (k : EditKind) (around : UpdateRun k.E UpdateAt → Ma
 module _ {K V : Type 0} (d : DictRead) where
   -- the machine of an ordered read
   abbrev pub read_machine : ℕ → Remaining → ReadRun d.kind.R → DictRun K V
-  read_machine tries share m = record { run = d.around m share; tries = tries; alloc = None; types = record {} }
+  read_machine tries share m = record { run = d.around m share; tries = tries; types = record {} }
 
   pub read_fresh : (share : Remaining) (tries number : ℕ) (call : MapCall) → 0 < tries → (m : ReadRun d.kind.R) → d.kind.means.call m.read ≡ call → m.at ≡ ReadStart → m.snaps.items ≡ [] → m.tries ≡ tries - 1 → m.limit ≡ tries → (IsFewCall call → d.kind.means.suits call) → IsFreshCall call share tries number (read_machine tries share m)
   read_fresh share tries number call some m is_call at none is_tries is_limit suits = record {
@@ -240,13 +239,13 @@ module _ {K V : Type 0} (valid_key : K → Type 0) (key : K → ℕ) (valid_valu
   pub made_begins : (ps : List SeatedPass) → SeatCallBegins valid_key key valid_value value_word c ps call share tries number → ReaderBegins made_by ps m
   made_begins ps x = read_begins valid_key key valid_value value_word (read_machine d tries share m) c layout number is.0 is.1 d share ps m refl (x (read_machine d tries share m) fresh)
 
-  pub made_ended : (ps : List SeatedPass) (last : ReadRun d.kind.R) (a : Result d.kind.A Refused) (r : Reply K V) → IsValidReply valid_key valid_value r → IsTranslated valid_key key valid_value value_word (read_reply d.kind.tells a) r → HasFormOf (read_reply d.kind.tells a) r → ReaderEnds made_by ps last a → CallHasEnded valid_key key valid_value value_word c ps call share tries number share r
-  made_ended ps last a r valid says form x = record {
+  pub made_ended : (ps : List SeatedPass) (last : ReadRun d.kind.R) (a : Result d.kind.A Refused) (r : Reply K V) → IsReplyOf valid_key key valid_value value_word (read_reply d.kind.tells a) r → ReaderEnds made_by ps last a → CallHasEnded valid_key key valid_value value_word c ps call share tries number share r
+  made_ended ps last a r of x = record {
     first = read_machine d tries share m;
     last = read_machine d tries share last;
     fresh = fresh;
     is_left = ap inner_share (d.inside last share);
-    ends = replies valid_key key valid_value value_word c ps (read_machine d tries share m) (read_machine d tries share last) (read_reply d.kind.tells a) r valid says form (read_ended valid_key key valid_value value_word (read_machine d tries share m) c layout number is.0 is.1 d share ps last a x);
+    ends = replies valid_key key valid_value value_word c ps (read_machine d tries share m) (read_machine d tries share last) (read_reply d.kind.tells a) r of (read_ended valid_key key valid_value value_word (read_machine d tries share m) c layout number is.0 is.1 d share ps last a x);
   }
 
 -- a range that has not begun has no more steps left with other lists

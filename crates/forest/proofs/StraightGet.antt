@@ -31,8 +31,8 @@ use Rattle.dict.specs.DictKnown.{DictIsReady, DictWaits, DictAnswers}
 use Rattle.dict.specs.Typed.{IsTypedValue, TypedAllows}
 use Rattle.dict.specs.Words.{IsWordOf}
 use Rattle.dict.specs.declared.dict.DictRun.{DictRun}
+use Rattle.dict.specs.WordReplies.{WordReply}
 use Rattle.ordered_map.specs.declared.reply.Reply.TheVariants as replies
-use Rattle.dict.specs.declared.told.WordReply.TheVariants as words
 use Rattle.dict.proofs.Lemmas.{get_ends, dict_ends}
 use Rattle.forest.specs.declared.pass.Pass.TheInside.{Inside}
 use Rattle.forest.specs.declared.view.SeatedPass.{SeatedPass}
@@ -113,8 +113,8 @@ module _ {K V : Type 0} (valid_key : K → Type 0) (key : K → ℕ) (valid_valu
           let t : WalkIsTold x.last c h x.told = r.1.1.0.0 in
           let found : HasFoundGoal (ToKey wanted) c h f = x.finds c h t in
           let got : GetAnswers m c h f.value = (record { first = found.trail.node.first; own = found.trail.node.own; right = found_gives c h wanted f t.run (rw x.is_goal at t.small) found; none = none_quiet c.layout c.pass h c.start run.lawful r.1.1.0.2.quiet }, tried_one c.layout c.pass h c.start r.1.1.0.3) in
-          dict_ends valid_key key valid_value value_word (getting share tries wanted x.last) c h (words.Value f.value) (replies.Value v) mode run
-          (get_ends tries c h m share f.value r.1.1.1 r.1.0.spent got) valid (λ typed. same_told f.value v same_word typed) (inl refl)
+          dict_ends valid_key key valid_value value_word (getting share tries wanted x.last) c h (WordReply.Value f.value) (replies.Value v) mode run
+          (get_ends tries c h m share f.value r.1.1.1 r.1.0.spent got) record { valid = valid; says = λ typed. same_told f.value v same_word typed; form = inl refl }
 
   -- and so it has ended
   pub get_has_ended : {T : Type 0} (p : Inside T) (x : IsPass allows Tree p) (s : Seat ℕ SeatView) (tries wanted number : ℕ) (layout : Layout) (is_layout : p.layout ≡ layout) (is_number : taken_of (pass_view p) ≡ number) (turn : NodeNo) (f : Found) (v : Option V) → IfSome v valid_value → (IfSome f.value (IsWordOf valid_value value_word) → option_map value_word v ≡ f.value)

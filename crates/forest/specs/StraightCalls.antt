@@ -12,7 +12,7 @@ use Rattle.dict.specs.Known.{IsUnbegun, MapAnswers}
 use Rattle.dict.specs.Typed.{TypedAllows}
 use Rattle.dict.specs.Words.{IsWordOf}
 use Rattle.dict.specs.declared.dict.DictRun.{DictRun}
-use Rattle.dict.specs.declared.told.WordReply.{WordReply}
+use Rattle.dict.specs.WordReplies.{WordReply}
 use Rattle.ordered_map.specs.declared.reply.Reply.{Reply}
 use Rattle.ordered_map.specs.OrderedMap.{MapCall}
 use Rattle.forest.specs.declared.view.SeatedPass.{SeatedPass}

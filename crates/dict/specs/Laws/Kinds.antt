@@ -12,10 +12,11 @@ use Rattle.ordered_map.specs.FillOrder.{AreFilledInOrder, IsFillInOrder}
 use Rattle.order.specs.declared.refused.Refused.{Refused}
 use Rattle.order.specs.declared.refused.Refused.TheVariants as refused
 use Rattle.ordered_map.specs.CallRules.{TakesNothing, insert_nodes, delete_nodes, pop_nodes, replace_nodes, call_rules, most_nodes, most_scx, most_steps, need, MayReply}
-use Rattle.ordered_map.specs.OrderedMap.{MapCall, MapEdit, MapReply, Edit, PopFirst, ReplaceIf, Successor as SuccessorOf, Range as RangeOf, OneValue, OnePair, edit_of, first_pair, get, is_value, pair, pair_or_none, reply}
+use Rattle.ordered_map.specs.OrderedMap.{MapCall, MapEdit, MapReply, Edit, PopFirst, ReplaceIf, Successor as SuccessorOf, Range as RangeOf, OneValue, OnePair, edit_key, edit_of, first_pair, get, is_value, pair, pair_or_none, reply}
 use Rattle.ordered_map.specs.declared.pair.Pair.{Pair}
 use Rattle.template.specs.FoundLeaf.{path_key}
 use Rattle.template.specs.declared.walk.Found.{Found}
+use Rattle.template.specs.declared.walk.Goal.TheVariants.{Key as ToKey, Least}
 use Rattle.tree.specs.Delete.Means.{delete_need}
 use Rattle.tree.specs.Insert.Means.{has_room, insert_need, need_by}
 use Rattle.tree.proofs.Lemmas.{insert_in_order, delete_in_order, pop_in_order, replace_in_order}
@@ -30,10 +31,8 @@ use Rattle.edits.specs.declared.update.Updated.{Updated}
 use Rattle.edits.specs.declared.update.Updated.TheVariants.{Done, Contended, Full}
 use Rattle.dict.specs.Around.{IsAround}
 use Rattle.dict.specs.Calls.{AsksForPairs, IsSmallCall, most_tries}
-use Rattle.dict.specs.Forms.{word_form}
 use Rattle.dict.specs.Goals.{goal_told, leaf_told}
-use Rattle.dict.specs.WordReplies.{word_reply, pop_reply, edit_reply, read_reply, told_in}
-use Rattle.dict.specs.declared.told.WordReply.TheVariants as words
+use Rattle.dict.specs.WordReplies.{edit_reply, range_reply, read_reply, successor_reply, told_in, word_form}
 use Rattle.dict.specs.Inner.{EditKind, ReadKind, InnerRun, Update, Get, Read, insert_kind, delete_kind, pop_kind, replace_kind, successor_kind, range_kind, inner}
 use Rattle.dict.specs.Says.{IsRefusal, KeepsLists}
 use Rattle.dict.specs.declared.run.MapRun.{MapRun}
@@ -83,7 +82,7 @@ unfolding told_value
 same_value v w e = ap told_value e
 
 -- an edit of a key answers a value, or is refused
-value_form : (e : MapEdit) (a : Updated) → MayReply (Edit e) (word_form (word_reply a))
+value_form : (e : MapEdit) (a : Updated) → MayReply (Edit e) (word_form (edit_reply (ToKey (edit_key e)) a))
 value_form (MapEdit.Insert key value) (Done own told) = tt
 value_form (MapEdit.Insert key value) (Contended node scx) = tt
 value_form (MapEdit.Insert key value) (Full full) = tt
@@ -91,13 +90,13 @@ value_form (MapEdit.Delete key) (Done own told) = tt
 value_form (MapEdit.Delete key) (Contended node scx) = tt
 value_form (MapEdit.Delete key) (Full full) = tt
 
-replace_form : (key expected value : ℕ) (a : Updated) → MayReply (ReplaceIf key expected value) (word_form (word_reply a))
+replace_form : (key expected value : ℕ) (a : Updated) → MayReply (ReplaceIf key expected value) (word_form (edit_reply (ToKey key) a))
 replace_form key expected value (Done own told) = tt
 replace_form key expected value (Contended node scx) = tt
 replace_form key expected value (Full full) = tt
 
 -- and a pop a pair
-pop_form : (a : Updated) → MayReply PopFirst (word_form (pop_reply a))
+pop_form : (a : Updated) → MayReply PopFirst (word_form (edit_reply Least a))
 pop_form (Done own told) = tt
 pop_form (Contended node scx) = tt
 pop_form (Full full) = tt
@@ -247,7 +246,7 @@ pub record IsReadKind (k : ReadKind) : Type 0 where
   pub told : (a : k.A) → told_in (k.tells a) ≡ Some (k.means.told a)
   pub refuses : (c : Call) (h : History) (call : MapCall) (share : Remaining) (tries : ℕ) (a : k.A) → IsRefusal c h call share tries (k.tells a)
 
-successor_form : (key : ℕ) (a : Result (Option Pair) Refused) → MayReply (SuccessorOf key) (word_form (read_reply words.Pair a))
+successor_form : (key : ℕ) (a : Result (Option Pair) Refused) → MayReply (SuccessorOf key) (word_form (successor_reply a))
 successor_form key (Ok found) = tt
 successor_form key (Err (refused.Contended node scx)) = tt
 successor_form key (Err refused.NoMemory) = tt
@@ -268,7 +267,7 @@ successor_is = record {
   refuses = λ c h call share tries a. tt;
 }
 
-range_form : (low high most : ℕ) (a : Result (Vec Pair Global) Refused) → MayReply (RangeOf low high most) (word_form (read_reply words.Pairs a))
+range_form : (low high most : ℕ) (a : Result (Vec Pair Global) Refused) → MayReply (RangeOf low high most) (word_form (range_reply a))
 range_form low high most (Ok found) = tt
 range_form low high most (Err (refused.Contended node scx)) = tt
 range_form low high most (Err refused.NoMemory) = tt

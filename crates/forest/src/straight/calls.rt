@@ -6,9 +6,6 @@ ghost use Rattle.dict.specs.Calls.{AsksForPairs, IsSmallCall};
 ghost use Rattle.dict.specs.Says.{KeepsLists};
 ghost use Rattle.ordered_map.specs.CallRules.{most_steps};
 ghost use Rattle.ordered_map.specs.Requests.{as_map_call};
-ghost use Rattle.dict.specs.Translated.{HasFormOf, IsTranslated};
-ghost use Rattle.dict.specs.WordReplies.{edit_reply, goal_reply, range_reply, successor_reply};
-ghost use Rattle.dict.specs.Words.{IsValidReply};
 ghost use Rattle.order.specs.Range.{range_means, range_try_left};
 ghost use Rattle.order.specs.Steps.{read_left};
 ghost use Rattle.order.specs.declared.run.ReadAt.{ReadAt};
@@ -23,44 +20,14 @@ use crate::view::SeatView;
 use arena::Share;
 use atomic_table::Seat;
 use dict::{
-    Dict, DictRun, EditCall, Reply, Request, WordKey, WordReply, WordValue, pair_of, translated,
-    value_of,
+    Dict, DictRun, EditCall, Reply, Request, WordKey, WordValue, of_range, of_successor, of_update,
 };
-use edits::{UpdateRun, Updated};
-use order::{Range, RangeRun, Refused, Successor};
-use ordered_map::Pair;
+use edits::UpdateRun;
+use order::{Range, RangeRun, Successor};
 use std::alloc::Global;
-use template::Goal;
 
 /// The most forks that there are as a rule from the root to a leaf.
 const DEEP: usize = 32;
-
-/// What an edit that walks there replies where its leaf has this key, and tells this value.
-#[inline(always)]
-fn of_leaf<K: WordKey, V: WordValue>(goal: Goal, key: u64, value: Option<u128>) -> Reply<K, V>
-    ensures valid { IsValidReply K.is_valid V.is_valid result }
-    ensures says { IsTranslated K.is_valid K.word_of V.is_valid V.word_of (goal_reply goal key value) result }
-    ensures form { HasFormOf (goal_reply goal key value) result }
-{
-    match goal {
-        Goal::Key(_) => Reply::Value(value_of(value)),
-        Goal::Least => Reply::Pair(pair_of(value.map(|value| Pair { key, value }))),
-    }
-}
-
-/// What an edit that walks there replies of what its update has answered.
-#[inline(always)]
-fn of_update<K: WordKey, V: WordValue>(goal: Goal, updated: Updated) -> Reply<K, V>
-    ensures valid { IsValidReply K.is_valid V.is_valid result }
-    ensures says { IsTranslated K.is_valid K.word_of V.is_valid V.word_of (edit_reply goal updated) result }
-    ensures form { HasFormOf (edit_reply goal updated) result }
-{
-    match updated {
-        Updated::Done { key, value } => of_leaf(goal, key, value),
-        Updated::Contended { node, scx } => Reply::Contended { node, scx },
-        Updated::Full(full) => Reply::Full(full),
-    }
-}
 
 /// Makes an edit with so many tries and this share, and tells what is left of that.
 #[inline(always)]
@@ -86,33 +53,6 @@ pub(crate) fn make<K: WordKey, V: WordValue, E: EditCall>(
     let updated = update::call::<Dict<K, V>, DictRun<K, V>, E>(hand, seat, &mut run);
     let goal = run.edit.goal();
     (of_update(goal, updated), run.into_share())
-}
-
-/// What a successor replies of what its machine has answered.
-#[inline(always)]
-fn of_successor<K: WordKey, V: WordValue>(told: Result<Option<Pair>, Refused>) -> Reply<K, V>
-    ensures valid { IsValidReply K.is_valid V.is_valid result }
-    ensures says { IsTranslated K.is_valid K.word_of V.is_valid V.word_of (successor_reply told) result }
-    ensures form { HasFormOf (successor_reply told) result }
-{
-    match told {
-        Ok(pair) => Reply::Pair(pair_of(pair)),
-        Err(Refused::Contended { node, scx }) => Reply::Contended { node, scx },
-        Err(Refused::NoMemory) => Reply::NoMemory,
-    }
-}
-
-/// What a range replies of what its machine has answered. What it lists grows with this allocator.
-#[inline(always)]
-fn of_range<K: WordKey, V: WordValue>(
-    alloc: Global,
-    told: Result<Vec<Pair>, Refused>,
-) -> Reply<K, V>
-    ensures valid { IsValidReply K.is_valid V.is_valid result }
-    ensures says { IsTranslated K.is_valid K.word_of V.is_valid V.word_of (range_reply told) result }
-    ensures form { HasFormOf (range_reply told) result }
-{
-    translated(Some(alloc), WordReply::of_range(told))
 }
 
 /// A range that has not begun, with room for what it keeps as a rule: for its pairs, and for the

@@ -41,7 +41,7 @@ returns-clause-ends g c = λ call fits x. let k = (goal.at.returns-clause-ends g
   last = edit_machine (kind g) g.E.EditCall.around g.met.E.EditCall.is_around c.args.tries c.call-updated.new.run;
   fresh = is_fresh g k;
   is_left = g.met.E.EditCall.is_around.is_share _ ∙ sym c.into_share.ensures;
-  ends = replies g.K.WordKey.is_valid g.K.WordKey.word_of g.V.WordValue.is_valid g.V.WordValue.word_of call _ (first g k) (edit_machine (kind g) g.E.EditCall.around g.met.E.EditCall.is_around c.args.tries c.call-updated.new.run) (edit_reply c.goal-goal.result c.call-updated.result) c.of_update.result c.of_update.ensures.valid c.of_update.ensures.says c.of_update.ensures.form
+  ends = replies g.K.WordKey.is_valid g.K.WordKey.word_of g.V.WordValue.is_valid g.V.WordValue.word_of call _ (first g k) (edit_machine (kind g) g.E.EditCall.around g.met.E.EditCall.is_around c.args.tries c.call-updated.new.run) (edit_reply c.goal-goal.result c.call-updated.result) c.of_update.result c.of_update.ensures
       (rw c.goal-goal.ensures (edit_ended g.K.WordKey.is_valid g.K.WordKey.word_of g.V.WordValue.is_valid g.V.WordValue.word_of (first g k) call c.args.hand.layout.now c.args.hand.number fits.0 fits.1 (kind g) g.met.E.EditCall.is_kind g.E.EditCall.around g.met.E.EditCall.is_around _ c.call-updated.new.run c.call-updated.result
       (c.call-updated.ensures.ends (editor g.K.WordKey.is_valid g.K.WordKey.word_of g.V.WordValue.is_valid g.V.WordValue.word_of (first g k) call c.args.hand.layout.now c.args.hand.number fits.0 fits.1 (kind g) g.met.E.EditCall.is_kind g.E.EditCall.around g.met.E.EditCall.is_around) (may_begin g k call fits.0 fits.1 x))));
 }

@@ -21,7 +21,7 @@ call-told-requires-clause-begins g c =
 pub returns-in-Successor-clause-ends : goal.returns-in-Successor-clause-ends
 returns-in-Successor-clause-ends g c = λ call share fits x.
     let fresh = searches g (goal.at.returns-in-Successor-clause-ends g c).After-run-run share in
-    made_ended g.K.WordKey.is_valid g.K.WordKey.word_of g.V.WordValue.is_valid g.V.WordValue.word_of successors call c.args.hand.layout.now c.args.hand.number fits c.args.tries _ share c.run-run.result fresh _ c.call-told.new.run c.call-told.result c.of_successor.result c.of_successor.ensures.valid c.of_successor.ensures.says c.of_successor.ensures.form
+    made_ended g.K.WordKey.is_valid g.K.WordKey.word_of g.V.WordValue.is_valid g.V.WordValue.word_of successors call c.args.hand.layout.now c.args.hand.number fits c.args.tries _ share c.run-run.result fresh _ c.call-told.new.run c.call-told.result c.of_successor.result c.of_successor.ensures
     (c.call-told.ensures.ends (made_by g.K.WordKey.is_valid g.K.WordKey.word_of g.V.WordValue.is_valid g.V.WordValue.word_of successors call c.args.hand.layout.now c.args.hand.number fits c.args.tries _ share c.run-run.result fresh) (made_begins g.K.WordKey.is_valid g.K.WordKey.word_of g.V.WordValue.is_valid g.V.WordValue.word_of successors call c.args.hand.layout.now c.args.hand.number fits c.args.tries _ share c.run-run.result fresh _ x))
 
 -- of which keys a range is
@@ -42,5 +42,5 @@ call-told-requires-in-Range-clause-begins g c =
 pub returns-in-Range-clause-ends : goal.returns-in-Range-clause-ends
 returns-in-Range-clause-ends g c = λ call share fits x.
     let fresh = visits g (goal.at.returns-in-Range-clause-ends g c).After-range_run-run share in
-    made_ended g.K.WordKey.is_valid g.K.WordKey.word_of g.V.WordValue.is_valid g.V.WordValue.word_of ranges call c.args.hand.layout.now c.args.hand.number fits c.args.tries _ share c.range_run-run.result fresh _ c.call-told-in-Range.new.run c.call-told-in-Range.result c.of_range.result c.of_range.ensures.valid c.of_range.ensures.says c.of_range.ensures.form
+    made_ended g.K.WordKey.is_valid g.K.WordKey.word_of g.V.WordValue.is_valid g.V.WordValue.word_of ranges call c.args.hand.layout.now c.args.hand.number fits c.args.tries _ share c.range_run-run.result fresh _ c.call-told-in-Range.new.run c.call-told-in-Range.result c.of_range.result c.of_range.ensures
     (c.call-told-in-Range.ensures.ends (made_by g.K.WordKey.is_valid g.K.WordKey.word_of g.V.WordValue.is_valid g.V.WordValue.word_of ranges call c.args.hand.layout.now c.args.hand.number fits c.args.tries _ share c.range_run-run.result fresh) (made_begins g.K.WordKey.is_valid g.K.WordKey.word_of g.V.WordValue.is_valid g.V.WordValue.word_of ranges call c.args.hand.layout.now c.args.hand.number fits c.args.tries _ share c.range_run-run.result fresh _ x))
