@@ -128,13 +128,14 @@ impl Pairs {
             (Slot::Second, 1) => self.second = pair,
             (Slot::Third, 2) => self.third = pair,
             (Slot::Fourth, 3) => self.fourth = pair,
-            _ => return self.push_anywhere(pair),
+            _ => return self.push_anywhere(by_parts(pair)),
         }
         self.count += 1;
     }
 
-    /// The same without a guess.
-    #[inline(always)]
+    /// The same without a guess. Out of line, so that a right guess costs one comparison.
+    #[cold]
+    #[inline(never)]
     fn push_anywhere(&mut self, pair: Pair)
         ensures { self.new ≡ take 5 (self.old ++ pair ∷ []) }
     {
@@ -334,18 +335,30 @@ fn run(a: bool, b: bool, c: bool, d: bool, e: bool) -> usize
     }
 }
 
+/// The same pair, made from its parts. Copied as a whole it would take the bytes between them
+/// along.
+#[inline(always)]
+fn by_parts(pair: Pair) -> Pair
+    ensures { result ≡ pair }
+{
+    Pair {
+        key: pair.key,
+        value: pair.value,
+    }
+}
+
 /// What stands at a place where a new pair is put at the place `at`, before which `last` stands.
 #[inline(always)]
 fn moved_on(at: usize, place: usize, here: Pair, new: Pair, last: Pair) -> Pair
     ensures { result ≡ moved_on at place here new last }
 {
-    if place < at {
+    by_parts(if place < at {
         here
     } else if place == at {
         new
     } else {
         last
-    }
+    })
 }
 
 /// What stands at a place where the pair at the place `at` is taken out.
@@ -353,7 +366,7 @@ fn moved_on(at: usize, place: usize, here: Pair, new: Pair, last: Pair) -> Pair
 fn moved_back(at: usize, place: usize, here: Pair, next: Pair) -> Pair
     ensures { result ≡ moved_back at place here next }
 {
-    if place < at { here } else { next }
+    by_parts(if place < at { here } else { next })
 }
 
 /// What stands at a place where a pair is put in the stead of that at the place `at`.
@@ -361,5 +374,5 @@ fn moved_back(at: usize, place: usize, here: Pair, next: Pair) -> Pair
 fn replaced(at: usize, place: usize, here: Pair, new: Pair) -> Pair
     ensures { result ≡ replaced at place here new }
 {
-    if place == at { new } else { here }
+    by_parts(if place == at { new } else { here })
 }

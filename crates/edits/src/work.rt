@@ -11,11 +11,11 @@ use template::Found;
 
 impl<E: Edit + Drop, A: Drop> UpdateRun<E, A> {
     ghost use Rattle.std.specs.Prelude.{◌≡◌, ℕ, ◌<◌, ◌≤◌, ◌*◌, ◌+◌, ◌-◌, length};
-    ghost use Rattle.std.specs.Prelude.{◌≢◌, IfNone, IfSome, None, Some, Ok};
+    ghost use Rattle.std.specs.Prelude.{◌≢◌, IfNone, IfSome, None, Some, Ok, true};
     ghost use Rattle.template.specs.FoundLeaf.{HasFoundGoal};
     ghost use Rattle.edits.specs.Known.{HasNodesFor, IsShort, IsFilledUpTo, CanScx};
     ghost use Rattle.edits.specs.Pieces.{fills_after, part_behind, less_a_node};
-    ghost use Rattle.edits.specs.Readings.{next_read, reads_left};
+    ghost use Rattle.edits.specs.Readings.{is_at_pair, next_read, reads_left};
     ghost use Rattle.arena.specs.History.{History, value};
     ghost use Rattle.arena.specs.Machines.{Call, IsRun, begun_at};
     ghost use Rattle.prims.specs.FoundThere.{HasFoundThere};
@@ -314,6 +314,7 @@ impl<E: Edit + Drop, A: Drop> UpdateRun<E, A> {
             (self.old.tries * try_left E.means nodes + (reads_left (half_told self.old slot key low).read - 1 + E.means.most_fills + 39)) }
         ensures spends { HasSpentForNext E.means self.old.share self.new found.now (Ok result) self.old.tries (self.old.tries + 1) }
         ensures tries { self.new.tries ≡ self.old.tries }
+        ensures at_pair { is_at_pair self.old.read ≡ true → is_at_pair self.new.read ≡ true }
     {
         self.read.keep_pair(slot, key, low, high);
         match self.read.slot {

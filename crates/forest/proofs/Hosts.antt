@@ -1,19 +1,27 @@
 -- From place to place of a machine that is called inside another's call.
-use Rattle.std.proofs.Common.{◌≡◌, ℕ, List, Option}
+use Rattle.std.proofs.Common.{◌≡◌, ℕ, List, Option, refl, subst}
+use Rattle.arena.specs.declared.layout.Layout.{Layout}
 use Rattle.arena.specs.declared.machine.Turn.{Turn}
 use Rattle.arena.specs.declared.machine.Turn.TheVariants.{Ask, Done}
-use Rattle.arena.specs.History.{History}
-use Rattle.arena.specs.Machines.{Call, IsRun, MatchTurn}
+use Rattle.arena.specs.declared.step.Step.{Step}
+use Rattle.arena.specs.History.{History, ◌⊳◌}
+use Rattle.arena.specs.Layout.{IsWord}
+use Rattle.arena.specs.Machines.{Call, IsRun, MatchTurn, row_of}
 use Rattle.forest.specs.declared.view.SeatedPass.{SeatedPass}
 use Rattle.forest.specs.CallKinds.{Calls}
-use Rattle.forest.specs.Hosts.{InnerCall, Host, HostedEnds, HostedStands}
+use Rattle.forest.specs.Hosts.{InnerCall, Host, HostedEnds, HostedStands, HostedWaits}
 use Rattle.forest.specs.Traces.{Ends, HoldsForCall, Stands, Trace, goes_on}
+use Rattle.forest.proofs.Advances.{called_so, word_of}
 
 -- told what its step has found, or nothing yet, it stands as its turn says
 pub told_on : {M N A : Type 0} {o : Calls M} {i : InnerCall N A} (k : Host o i) (ps : List SeatedPass) (m now : N) (got : Option ℕ) (turn : Turn A) → MatchTurn turn (λ _. i.goes m now) (λ _. i.ends m now) → ((h : History) → IsRun i.allows k.call.layout h → i.ready m k.call h got → MatchTurn turn (i.waits now k.call h) (i.answers now k.call h))
     → HoldsForCall o.allows ps k.call (λ h. o.ready (k.with_run m) k.call h got × Trace o.allows o.waits o.same k.call k.first (k.with_run m) h) → HostedStands k ps now turn
 told_on k ps m now got (Ask s) goes next x = record { known = x.known; is = x.is; sound = x.sound; so = (k.turns m now _ got s goes x.so.0 (next _ (k.runs _ x.sound) (k.tells m _ got x.so.0)), goes_on (k.with_run m) (k.stays m now goes) x.so.1) }
 told_on k ps m now got (Done a) goes next x = record { known = x.known; is = x.is; sound = x.sound; so = record { old = m; got = got; was = x.so.0; goes = goes; answers = next _ (k.runs _ x.sound) (k.tells m _ got x.so.0); course = x.so.1 } }
+
+-- the word of the step for which it waits is one of the table
+pub hosted_word : {M N A : Type 0} {o : Calls M} {i : InnerCall N A} (k : Host o i) (ps : List SeatedPass) → ((m : M) (c : Call) (h : History) (s : Step) → IsRun o.allows c.layout h → o.waits m c h s → IsRun o.allows c.layout (row_of c s h ⊳ h)) → (m : N) (s : Step) → HostedWaits k ps m s → IsWord o.layout s.word
+hosted_word k ps lawful m s x = subst (λ (l : Layout). IsWord l s.word) k.is_layout (word_of _ k.call record { call = k.call.number; step = s } refl ps _ (λ h. lawful (k.with_run m) k.call h s) (called_so x))
 
 -- what is so whatever the turn is
 pub either_turn : {A : Type 0} (turn : Turn A) {P : Type 0} → P → MatchTurn turn (λ _. P) (λ _. P)

@@ -62,6 +62,7 @@ fn read_pair<S: Shape, M: Machine<S>, E: Edit + Copy>(
         × UpdaterTries u seat.old.me.0.passes run.old found.now (Next.Read node (SettledPart.Key slot)) }
     requires pair { is_at_pair run.old.read ≡ true }
     ensures table { StaysAtTable seat.old seat.new }
+    ensures pair { is_at_pair run.new.read ≡ true }
     ensures goes_on { (u : Updater (hand_calls S.Shape M.Machine hand.entry) E.means)
         → UpdaterTries u seat.old.me.0.passes run.old found.now (Next.Read node (SettledPart.Key slot))
         → UpdaterTries u seat.new.me.0.passes run.new found.now result }
@@ -93,7 +94,9 @@ fn read_next_pair<S: Shape, M: Machine<S>, E: Edit + Copy>(
     requires table { IsAt hand seat.old }
     requires tries { (u : Updater (hand_calls S.Shape M.Machine hand) E.means)
         × UpdaterTries u seat.old.me.0.passes run.old found.now next }
+    requires pair { is_at_pair run.old.read ≡ true }
     ensures table { StaysAtTable seat.old seat.new }
+    ensures pair { is_at_pair run.new.read ≡ true }
     ensures goes_on { (u : Updater (hand_calls S.Shape M.Machine hand.entry) E.means)
         → UpdaterTries u seat.old.me.0.passes run.old found.now next
         → UpdaterTries u seat.new.me.0.passes run.new found.now result }
@@ -106,9 +109,7 @@ fn read_next_pair<S: Shape, M: Machine<S>, E: Edit + Copy>(
         Next::Read {
             node,
             part: SettledPart::Key(at),
-        } if at == slot && run.read.is_at_pair() => {
-            read_pair::<S, M, E>(hand, seat, run, found, node, at)
-        }
+        } if at == slot => { read_pair::<S, M, E>(hand, seat, run, found, node, at) }
         _ => next,
     }
 }

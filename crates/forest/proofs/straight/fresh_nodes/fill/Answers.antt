@@ -6,7 +6,7 @@ pub put-requires-clause-said : goal.put-requires-clause-said
 put-requires-clause-said g c = c.requires.said
 
 pub put-requires-clause-value : goal.put-requires-clause-value
-put-requires-clause-value g c = c.word.ensures
+put-requires-clause-value g c = c.word-value.ensures
 
 pub put-requires-clause-fills : goal.put-requires-clause-fills
 put-requires-clause-fills g c = c.requires.fills

@@ -5,6 +5,7 @@ use Rattle.edits.proofs.Lemmas.{weighs_next}
 use Rattle.forest.specs.CallKinds.{calls}
 use Rattle.forest.specs.StraightUpdate.{Updater, UpdaterFills, UpdaterTries}
 use Rattle.forest.specs.Traces.{shared_nodes}
+use Rattle.forest.proofs.Hosts.{hosted_word}
 use Rattle.forest.proofs.StraightUpdate.{fills_end, node_steps, node_nearer}
 use Rattle.forest.proofs.straight.fresh_nodes.fill_node.Given.{Over}
 use Rattle.forest.proofs.straight.fresh_nodes.fill_node.Goals.{After-piece-piece, In_default}
@@ -13,6 +14,9 @@ use Rattle.forest.proofs.straight.fresh_nodes.fill_node.Goals as goal
 -- what the edit says of the node
 is_said : (g : Over) (c : After-piece-piece g) → c.piece-piece.result ≡ pieces_now g.E.Edit.means c.args.run.now c.args.found.now c.args.nth
 is_said g c = rw (← c.as_slice-snaps.ensures.value) c.piece-piece.ensures
+
+pub node_start-start-requires : goal.node_start-start-requires
+node_start-start-requires g c = let r = c.requires.tries in rw c.at.ensures (hosted_word r.0 _ g.met.M.Machine.lawful _ _ r.1)
 
 pub fill-next-requires-clause-said : goal.fill-next-requires-clause-said
 fill-next-requires-clause-said g c = is_said g (goal.at.fill-next-requires-clause-said g c).After-piece-piece
