@@ -10,7 +10,7 @@ ghost use Rattle.arena.specs.History.{History, value};
 ghost use Rattle.arena.specs.Lawful.{IsWin};
 ghost use Rattle.arena.specs.Log.{log, last, has, is_final, entry as entered};
 ghost use Rattle.arena.specs.ScxRecords.{plan as plan_of, member as member_of, new as new_of, side_of, field_index, plan_finalizes};
-ghost use Rattle.arena.specs.Words.{node as node_of, child, scx as scx_of};
+ghost use Rattle.arena.specs.Words.{child, scx as scx_of};
 ghost use Rattle.script.specs.declared.call.Call.{Call as CallOf};
 ghost use Rattle.record.specs.declared.record.Line.{Line};
 ghost use Rattle.record.specs.declared.record.Finished.{Finished};
@@ -33,6 +33,7 @@ ghost use Rattle.audit.specs.CellCalls.{AreSameAt, IsCallSeen, IsLookAt, IsOwnLo
 ghost use Rattle.audit.specs.Remembered.{AreStepsOf, AreRemembered, AreSnapshotsOf, IsLookOf};
 
 use crate::client::Client;
+use crate::leaves::node_word;
 use crate::memory::{Look, Memory};
 use crate::steps::Steps;
 use arena::{
@@ -102,12 +103,6 @@ fn scx_word(judge: &Judge, scx: ScxNo, part: ScxWord) -> u64
     ensures { result ≡ value (seen_history judge.now) (scx_of scx.0 part) }
 {
     judge.get(Word::Scx(scx, part))
-}
-
-fn node_word(judge: &Judge, node: u64, part: NodeWord) -> u64
-    ensures { result ≡ value (seen_history judge.now) (node_of node part) }
-{
-    judge.get(Word::Node(NodeNo(node), part))
 }
 
 /// What an SCX-record covers, finalizes and changes.

@@ -12,7 +12,7 @@ use record::Entry;
 use script::{Call, Command};
 
 /// What the lines so far say of a client.
-#[derive(Clone, Copy, Debug)]
+#[derive(Clone, Copy)]
 pub(crate) struct Client {
     pub(crate) pass: PassNo,
     /// Where its next call stands in the script, if it has one left.

@@ -28,7 +28,7 @@ use script::Command;
 
 /// An SCX-record that has begun: it makes an edit, which leaves this value to this key, for a call
 /// with this command.
-#[derive(Clone, Copy, Debug, PartialEq, Eq)]
+#[derive(Clone, Copy)]
 pub(crate) struct Begun {
     pub(crate) command: Command,
     pub(crate) key: u64,

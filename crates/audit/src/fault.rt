@@ -18,7 +18,7 @@ pub enum AuditFault {
 }
 
 /// Why a line is refused.
-#[derive(Clone, Copy, Debug, PartialEq, Eq)]
+#[derive(Clone, Copy)]
 pub(crate) enum Refused {
     /// An allocation was refused.
     NoMemory,

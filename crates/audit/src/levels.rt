@@ -1,17 +1,16 @@
 //! Whether levels rise from each fork that a field has ever held to its children.
 ghost use Rattle.std.specs.Prelude.{◌≡◌, ◌≢◌, ◌<◌, ◌⊎◌, false, true, IsTrue};
-ghost use Rattle.arena.specs.Heads.{head_of};
 ghost use Rattle.arena.specs.History.{◌⊳◌, value};
 ghost use Rattle.arena.specs.Lawful.{IsLawful};
-ghost use Rattle.arena.specs.Words.{node as node_of, child as child_of};
-ghost use Rattle.arena.specs.declared.word.NodeWord.TheVariants.{Settled};
+ghost use Rattle.arena.specs.Words.{child as child_of};
 ghost use Rattle.arena.specs.declared.word.SettledPart.TheVariants.{Head as HeadWord};
 ghost use Rattle.arena.specs.declared.word.Side.{Side as SideOf};
 ghost use Rattle.ordered_map.specs.FillOrder.{HasStoodInField, HasRisingLevels};
 ghost use Rattle.ordered_map.specs.TreeWords.{is_leaf, level};
 ghost use Rattle.judge.specs.Histories.{seen_history};
 
-use arena::{Head, NodeNo, NodeWord, Row, SettledPart, Side, Word};
+use crate::leaves::head;
+use arena::{NodeNo, NodeWord, Row, SettledPart, Side, Word};
 use judge::Judge;
 
 /// Whether levels still rise behind a lawful row that is to be made: where it stores a node into a
@@ -59,12 +58,6 @@ fn stands(judge: &Judge, node: u64) -> bool
     ensures { HasStoodInField (seen_history judge.now) node → IsTrue result }
 {
     node < 3 || judge.is_in_field(NodeNo(node))
-}
-
-fn head(judge: &Judge, node: u64) -> Head
-    ensures { result ≡ head_of (value (seen_history judge.now) (node_of node (Settled HeadWord))) }
-{
-    Head::of(judge.get(Word::Node(NodeNo(node), NodeWord::Settled(SettledPart::Head))))
 }
 
 /// Whether the level of a fork's child is above its own, if a field has ever held the fork.

@@ -9,7 +9,7 @@ use arena::{Kind, NodeNo, NodeWord, Row, SettledPart, Word};
 use script::Cell;
 
 /// A snapshot that a client keeps of a cell.
-#[derive(Clone, Copy, Debug)]
+#[derive(Clone, Copy)]
 pub(crate) struct Snapshot {
     /// How many steps there were up to it.
     pub(crate) steps: u64,
@@ -18,7 +18,7 @@ pub(crate) struct Snapshot {
 }
 
 /// What a step of a client has found in the info of a node.
-#[derive(Clone, Copy, Debug)]
+#[derive(Clone, Copy)]
 pub(crate) struct Look {
     /// How many steps there were with it.
     pub(crate) steps: u64,
@@ -29,7 +29,7 @@ pub(crate) struct Look {
 }
 
 /// The tries of a client's call.
-#[derive(Clone, Copy, Debug)]
+#[derive(Clone, Copy)]
 pub(crate) struct Tries {
     /// How many it has begun.
     pub(crate) many: u64,
@@ -74,7 +74,7 @@ fn begins_try(row: &Row) -> bool
 }
 
 /// What the steps so far say of a client's call.
-#[derive(Clone, Copy, Debug)]
+#[derive(Clone, Copy)]
 pub(crate) struct Memory {
     /// How many steps there were before the first turn of its call.
     pub(crate) begun: u64,

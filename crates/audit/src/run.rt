@@ -50,7 +50,6 @@ impl<'a> Run<'a> {
     ghost use Rattle.record.specs.declared.record.Line.{Line};
     ghost use Rattle.record.specs.declared.record.Entry.{Entry as EntryOf};
     ghost use Rattle.record.specs.declared.record.Row.{Row};
-    ghost use Rattle.record.specs.declared.record.Line.{Line as LineOf};
     ghost use Rattle.record.specs.Commands.{next_command};
     ghost use Rattle.record.specs.Steps.{IsStep, IsIdleTurn};
     ghost use Rattle.record.specs.Entries.{IsWinOf};
@@ -183,28 +182,25 @@ impl<'a> Run<'a> {
         ensures at { OnOk result (self.new.at ≡ suc self.old.at) }
         ensures record { self.new.record ≡ self.old.record }
     {
-        self.next_line()?;
+        let record = self.record;
+        let line = &record.lines[self.at];
+        self.next_line(line)?;
         self.at += 1;
         Ok(())
     }
 
-    /// The line behind those so far, if it fits them.
-    fn next_line(&mut self) -> Result<(), Refused>
+    /// This line behind those so far, if it fits them.
+    fn next_line(&mut self, line: &Line) -> Result<(), Refused>
         requires after { IsAfter self.old (lines_of self.old) }
         requires map { IsMapAfter self.old (lines_of self.old) }
         requires remembered { AreRememberedAfter self.old (lines_of self.old) }
-        requires more { self.old.at < vec_len self.old.record.now.lines }
-        ensures after { (line : LineOf) → slice_get self.old.record.now.lines.items self.old.at ≡ Some line →
-            OnOk result (IsAfter self.new (line ∷ lines_of self.old)) }
-        ensures map { (line : LineOf) → slice_get self.old.record.now.lines.items self.old.at ≡ Some line →
-            OnOk result (IsMapAfter self.new (line ∷ lines_of self.old)) }
-        ensures remembered { (line : LineOf) → slice_get self.old.record.now.lines.items self.old.at ≡ Some line →
-            OnOk result (AreRememberedAfter self.new (line ∷ lines_of self.old)) }
+        ensures after { OnOk result (IsAfter self.new (line.now ∷ lines_of self.old)) }
+        ensures map { OnOk result (IsMapAfter self.new (line.now ∷ lines_of self.old)) }
+        ensures remembered { OnOk result (AreRememberedAfter self.new (line.now ∷ lines_of self.old)) }
         ensures at { self.new.at ≡ self.old.at }
         ensures record { self.new.record ≡ self.old.record }
     {
-        let record = self.record;
-        match &record.lines[self.at] {
+        match line {
             Line::Step(Row::Step { number, row }) => self.step(*number, row),
             Line::Step(Row::Idle { number, client }) => self.idle(*number, *client),
             Line::Log(entry) => self.entry(entry),

@@ -5,6 +5,7 @@ ghost use Rattle.script.specs.Rows.{limits_row};
 ghost use Rattle.report.specs.Report.{counts_row, title_row};
 ghost use Rattle.texts.specs.Pages.{IsReady, line_of, page_row, page_text, rows_text};
 
+use crate::numbers::numbers_line;
 use crate::rows::Page;
 use crate::totals::Totals;
 use crate::version::Version;
@@ -46,23 +47,21 @@ fn limits_line(page: &mut Page, limits: &Limits) -> Result<(), AllocError>
     ensures row { OnOk result (page_row page.new ≡ []) }
     ensures text { OnOk result (Appends (page_text page.old) (page_text page.new) (line_of 7 (limits_row limits.now))) }
 {
-    page.text("limits")?;
-    page.number(u64::from(limits.passes))?;
-    page.number(u64::from(limits.nodes))?;
-    page.number(u64::from(limits.scx))?;
-    page.number(u64::from(limits.tries))?;
-    page.end_line()
+    let numbers = [
+        u64::from(limits.passes),
+        u64::from(limits.nodes),
+        u64::from(limits.scx),
+        u64::from(limits.tries),
+    ];
+    numbers_line(page, "limits", &numbers)
 }
 
 /// The line that counts the others by their kind.
 pub fn end_text(alloc: Global, totals: Totals) -> Result<Vec<u8>, AllocError>
     ensures { IfOk result (λ text. text.items ≡ rows_text 7 (counts_row totals.steps totals.replies totals.entries ∷ [])) }
 {
-    let mut page = Page::new(alloc);
-    page.text("end")?;
-    page.number(totals.steps)?;
-    page.number(totals.replies)?;
-    page.number(totals.entries)?;
-    page.end_line()?;
+    let mut page: Page = Page::new(alloc);
+    let counts = [totals.steps, totals.replies, totals.entries];
+    numbers_line(&mut page, "end", &counts)?;
     page.into_text()
 }

@@ -10,6 +10,7 @@ mod form;
 mod head;
 mod line;
 mod name;
+mod numbers;
 mod outcome;
 mod read;
 mod read_call;

@@ -4,6 +4,7 @@ ghost use Rattle.std.specs.Io.KnownBytes.{Appends};
 ghost use Rattle.report.specs.Outcome.{client_rows, gate_row, outcome_end_row, outcome_text, outcome_title_row, pair_row, replies_counted, reply_row, reply_rows};
 ghost use Rattle.texts.specs.Pages.{BeginsWith, IsReady, line_of, page_row, page_text, rows_text};
 
+use crate::numbers::numbers_line;
 use crate::reply::reply_text;
 use ordered_map::Reply;
 use std::alloc::{AllocError, Global};
@@ -203,9 +204,6 @@ fn closing_text(alloc: Global, replies: u64, pairs: u64) -> Result<Vec<u8>, Allo
     ensures { IfOk result (λ text. text.items ≡ rows_text 4 (outcome_end_row replies pairs ∷ [])) }
 {
     let mut page: Page<WIDTH> = Page::new(alloc);
-    page.text("end")?;
-    page.number(replies)?;
-    page.number(pairs)?;
-    page.end_line()?;
+    numbers_line(&mut page, "end", &[replies, pairs])?;
     page.into_text()
 }

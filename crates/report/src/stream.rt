@@ -215,10 +215,12 @@ impl Stream {
         ensures no_memory { IsErrOf result StreamFault.NoMemory → to.new.failures ≡ to.old.failures }
         ensures write { IsErrOf result StreamFault.Write → to.new.failures ≡ min (to.old.failures + 1) (2 ^ 64 - 1) }
     {
-        if self.ended {
+        let (alloc, totals, ended) = (self.alloc, self.totals, self.ended);
+        drop(self);
+        if ended {
             return Err(StreamFault::Ended);
         }
-        send(end_text(self.alloc, self.totals)?.as_slice(), to)?;
+        send(end_text(alloc, totals)?.as_slice(), to)?;
         flush(to)?;
         Ok(())
     }

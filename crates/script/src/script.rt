@@ -1,7 +1,8 @@
 //! Scripts of calls.
 ghost use Rattle.texts.specs.declared.fault.TextFault.{TextFault};
-ghost use Rattle.std.specs.Prelude.{◌≡◌, ◌≢◌, ◌≤◌, ◌<◌, ◌^◌, ◌-◌, ℕ, List, Some, IfOk, IfErr, IfSome, IfNone, OnOk, IsErrOf, All, length, vec_len};
-ghost use Rattle.script.specs.Grammars.{IsScriptFault, SayScript};
+ghost use Rattle.std.specs.Prelude.{◌≡◌, ◌≢◌, ◌≤◌, ◌<◌, ◌^◌, ◌-◌, ℕ, List, [], ◌∷◌, Some, IfOk, IfErr, IfSome, IfNone, OnOk, IsErrOf, All, length, vec_len};
+ghost use Rattle.script.specs.Grammars.{IsHeadFault, IsScriptFault, SayScript};
+ghost use Rattle.texts.specs.Reads.{HasRead};
 ghost use Rattle.texts.specs.Texts.{IfBad};
 ghost use Rattle.arena.specs.Limits.{IsAccepted, IsLayoutOf};
 ghost use Rattle.script.specs.Commands.{mode_of};
@@ -98,18 +99,31 @@ fn script_of<R: Read>(
     ensures fault { (bytes : List ℕ) → R.remaining from.old.inner ≡ Some bytes → IfErr result (IfBad (IsScriptFault mode bytes)) }
 {
     let mut rows = Rows::new(alloc, from);
+    let head = head_of(&mut rows, mode)?;
+    let calls = rows.entries(alloc, &CallRows { layout: head.1 })?;
+    Ok(Script {
+        limits: head.0,
+        layout: head.1,
+        calls,
+    })
+}
+
+/// Reads the first row.
+fn head_of<R: Read + Drop>(rows: &mut Rows<R>, mode: Mode) -> Result<(Limits, Layout), ScriptFault>
+    ensures accepted { IfOk result (λ head. IsAccepted head.0 × IsLayoutOf head.0 mode head.1) }
+    ensures says { (bytes : List ℕ) → HasRead R.remaining bytes [] rows.old → IfOk result
+        (λ head. HasRead R.remaining bytes (limits_row head.0 ∷ []) rows.new) }
+    ensures number { rows.old.number ≡ 0 → rows.new.number ≡ 1 }
+    ensures fault { (bytes : List ℕ) → HasRead R.remaining bytes [] rows.old → rows.old.number ≡ 0 → IfErr result
+        (IfBad (λ row cause. (row ≡ 1) × IsHeadFault bytes cause)) }
+{
     if !rows.advance(5)? {
         return Err(rows.fault(ScriptCause::End));
     }
-    let Some((limits, layout)) = limits_of(rows.row(), mode) else {
-        return Err(rows.fault(ScriptCause::Limits));
-    };
-    let calls = rows.entries(alloc, &CallRows { layout })?;
-    Ok(Script {
-        limits,
-        layout,
-        calls,
-    })
+    match limits_of(rows.row(), mode) {
+        Some(head) => Ok(head),
+        None => Err(rows.fault(ScriptCause::Limits)),
+    }
 }
 
 /// What the first row says.

@@ -21,3 +21,6 @@ pub returns-clause-row : goal.returns-clause-row
 returns-clause-row c = row_is c.args.fields (codes "reply") (decimal c.in_ok-client.client.0) (decimal c.in_ok-call.call) (decimal c.in_ok-number_of.field-0) (decimal c.in_ok-number_of-2.field-0) (moment_text c.in_ok-moment_of.field-0) (answer_text c.fitted_to.result) (omega arith)
     (search rules) c.in_ok-client.ensures.some c.in_ok-call.ensures c.in_ok-number_of.ensures c.in_ok-number_of-2.ensures c.in_ok-moment_of.ensures
     (sym (last_text c.args.fields (omega arith)) ∙ c.requires.text ∙ sym c.fitted_to.ensures.text)
+
+pub returns-clause-form : goal.returns-clause-form
+returns-clause-form c = λ passes calls has below. rw (← (c.get.ensures passes calls has below)) c.fitted_to.ensures.fits
