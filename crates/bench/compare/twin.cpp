@@ -51,6 +51,7 @@ constexpr WorkRow WORKS[] = {
     tree_row(tree::Work::mix50, "mix50", 40000, 20000),
     tree_row(tree::Work::mix0, "mix0", 20000, 20000),
     tree_row(tree::Work::insert, "insert", 10000, 10000),
+    tree_row(tree::Work::remove, "delete", SHARE, 400),
     tree_row(tree::Work::pop, "pop", SHARE, 400),
     tree_row(tree::Work::replace, "replace", SHARE, 20000),
     tree_row(tree::Work::succ, "succ", UINT32_MAX, 20000),

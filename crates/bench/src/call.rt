@@ -58,6 +58,7 @@ fn round(
         TreeWork::Get => told(Ok(forest.get(pass, key)), tally),
         TreeWork::Mix { looks } => told(mix(forest, pass, chance, pair, looks), tally),
         TreeWork::Insert => told(forest.insert(pass, pair.0, pair.1), tally),
+        TreeWork::Delete => told(forest.delete(pass, key), tally),
         TreeWork::Pop => told(pop(forest, pass), tally),
         TreeWork::Replace => told(forest.replace_if(pass, pair.0, key, pair.0), tally),
         TreeWork::Successor => told_pair(forest.successor(alloc, pass, key), tally),

@@ -163,6 +163,7 @@ fn call(
     match work {
         TreeWork::Mix { looks } => mix(map, chance, pair, looks),
         TreeWork::Insert => Ok(map.insert(key, value)?),
+        TreeWork::Delete => Ok(map.remove(&key)),
         TreeWork::Pop => Ok(map.pop_first().map(|(key, value)| key.wrapping_add(value))),
         TreeWork::Replace => Ok(replace(map, key)),
         _ => Ok(map.get(&key).copied()),

@@ -46,6 +46,8 @@ pub enum TreeWork {
     Mix { looks: u64 },
     /// It puts the key in.
     Insert,
+    /// It takes the key out.
+    Delete,
     /// It takes the first pair out.
     Pop,
     /// It gives the key the value that it has had from the start once more, if it is there.
@@ -77,7 +79,7 @@ pub struct Bounds {
 
 impl Work {
     /// Each work once.
-    pub const ALL: [Work; 28] = [
+    pub const ALL: [Work; 30] = [
         Work::Cells(CellWork::Llx),
         Work::Cells(CellWork::Own),
         Work::Cells(CellWork::Two),
@@ -87,6 +89,7 @@ impl Work {
         Work::Tree(TreeWork::Mix { looks: 50 }),
         Work::Tree(TreeWork::Mix { looks: 0 }),
         Work::Tree(TreeWork::Insert),
+        Work::Tree(TreeWork::Delete),
         Work::Tree(TreeWork::Pop),
         Work::Tree(TreeWork::Replace),
         Work::Tree(TreeWork::Successor),
@@ -102,6 +105,7 @@ impl Work {
         Work::Locked(TreeWork::Mix { looks: 50 }),
         Work::Locked(TreeWork::Mix { looks: 0 }),
         Work::Locked(TreeWork::Insert),
+        Work::Locked(TreeWork::Delete),
         Work::Locked(TreeWork::Pop),
         Work::Locked(TreeWork::Replace),
         Work::Locked(TreeWork::Successor),
@@ -196,6 +200,7 @@ impl TreeWork {
             TreeWork::Mix { looks: 50 } => "mix50",
             TreeWork::Mix { .. } => "mix0",
             TreeWork::Insert => "insert",
+            TreeWork::Delete => "delete",
             TreeWork::Pop => "pop",
             TreeWork::Replace => "replace",
             TreeWork::Successor => "succ",
@@ -231,7 +236,7 @@ impl TreeWork {
             TreeWork::Mix { looks: 50 } => (40_000, 20_000),
             TreeWork::Mix { .. } => (20_000, 20_000),
             TreeWork::Insert => (10_000, 10_000),
-            TreeWork::Pop => (Limits::MOST_RECORDS, 400),
+            TreeWork::Delete | TreeWork::Pop => (Limits::MOST_RECORDS, 400),
             TreeWork::Replace => (Limits::MOST_RECORDS, 20_000),
             TreeWork::Successor => (u32::MAX, 20_000),
             TreeWork::Range => (u32::MAX, 2_000),
