@@ -3,10 +3,11 @@ ghost use Rattle.std.specs.Prelude.{IfOk, IfSome};
 ghost use Rattle.std.specs.List.{All};
 ghost use Rattle.forest.specs.Passes.{IsOf};
 
-mod answers;
+mod call;
 mod calls;
 mod held;
 mod memory;
+mod rows;
 mod stopped;
 mod threads;
 

@@ -1,50 +1,51 @@
 //! Words of typed keys and values.
 use crate::same::same;
 use dict::{Name8, WordKey, WordValue};
+use std::fmt::Debug;
+use std::process::Abort;
 use std::test::Fail;
 
 fn name(text: &str) -> Result<Name8, Fail> {
     Ok(Name8::new(text).ok_or("no name")?)
 }
 
+/// The key has this word, and the word stands for it.
+fn are_one<K: WordKey + Debug>(rt: &impl Abort, key: K, word: u64) {
+    same(rt, (key.word(), K::from_word(word)), (word, Some(key)));
+}
+
+/// The value has these words, the high one first, and they stand for it.
+fn have_words<V: WordValue + PartialEq + Debug>(rt: &impl Abort, value: V, words: [u64; 2]) {
+    same(
+        rt,
+        (value.words(), V::from_words(words)),
+        (words, Some(value)),
+    );
+}
+
 #[test]
-fn words_are_those_of_the_types(rt: HostRuntime) -> Result<(), Fail> {
-    same(&rt, name("ab")?.word(), 7017171169396654080);
-    same(&rt, name("")?.word(), 0);
-    let minus = -1i64;
-    same(&rt, minus.word(), 9223372036854775807);
-    same(&rt, 0i64.word(), 9223372036854775808);
-    same(&rt, i64::MIN.word(), 0);
+fn words_stand_for_keys(rt: HostRuntime) -> Result<(), Fail> {
+    are_one(&rt, name("ab")?, 7017171169396654080);
+    are_one(&rt, name("")?, 0);
+    are_one(&rt, -1i64, 9223372036854775807);
+    are_one(&rt, 0i64, 9223372036854775808);
+    are_one(&rt, i64::MIN, 0);
+    are_one(&rt, 4294967295u32, 4294967295);
+    let beyond: Option<u32> = WordKey::from_word(4294967296);
+    same(&rt, beyond, None);
+    let small: Option<Name8> = WordKey::from_word(98);
+    same(&rt, small, None);
     Ok(())
 }
 
 #[test]
-fn words_of_no_value_are_refused(rt: HostRuntime) -> Result<(), Fail> {
-    let beyond: Option<u32> = WordKey::from_word(4294967296);
-    same(&rt, beyond, None);
+fn words_stand_for_values(rt: HostRuntime) {
+    have_words(&rt, 18446744073709551621u128, [1, 5]);
+    have_words(&rt, 5u64, [0, 5]);
     let beyond: Option<u32> = WordValue::from_words([0, 4294967296]);
     same(&rt, beyond, None);
     let beyond: Option<u64> = WordValue::from_words([1, 0]);
     same(&rt, beyond, None);
-    let last: Option<u32> = WordKey::from_word(4294967295);
-    same(&rt, last, Some(4294967295));
-    let small: Option<Name8> = WordKey::from_word(98);
-    same(&rt, small, None);
-    let text: Option<Name8> = WordKey::from_word(7017171169396654080);
-    same(&rt, text, Some(name("ab")?));
-    let minus: Option<i64> = WordKey::from_word(9223372036854775807);
-    same(&rt, minus, Some(-1));
-    Ok(())
-}
-
-#[test]
-fn the_high_word_of_a_value_comes_first(rt: HostRuntime) -> Result<(), Fail> {
-    let wide = 18446744073709551621u128;
-    same(&rt, wide.words(), [1, 5]);
-    let found: Option<u128> = WordValue::from_words([1, 5]);
-    same(&rt, found, Some(wide));
-    same(&rt, 5u64.words(), [0, 5]);
-    Ok(())
 }
 
 #[test]

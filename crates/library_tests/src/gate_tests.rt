@@ -2,16 +2,19 @@
 ghost use Rattle.std.specs.Prelude.{◌≡◌, IfOk};
 ghost use Rattle.arena.specs.declared.limits.Mode.TheVariants.{Tree};
 
+use self::Told::{Answered, Began, Made};
 use crate::same::same;
 use arena::{Kind, Mode, PassNo};
 use report::write_outcome;
-use runner::{Alternate, Freeze, Gate, Hold, Open, Outcome, run};
+use runner::{Alternate, Freeze, Gate, GateName, Hold, Open, run};
 use script::{Metered, Script, read_script};
 use std::alloc::Global;
 use std::array::from_fn;
+use std::process::Abort;
+use std::sync::Wait;
 use std::sync::atomic::{AtomicBool, AtomicU64, Ordering};
 use std::test::Fail;
-use std::thread::yield_now;
+use std::thread::{Threads, yield_now};
 
 /// A get of each of two clients.
 const TWO: &str = "limits,2,20,20,3\n0,get,1,,\n1,get,2,,\nend,2,,,\n";
@@ -84,13 +87,27 @@ impl Gate for Meet {
     }
 }
 
+/// A run under a gate leaves these pairs.
+fn leaves<R: Threads + Wait + Sync + Abort, G: Gate>(
+    rt: &R,
+    alloc: Global,
+    script: &Script,
+    gate: &G,
+    pairs: &[(u64, u128)],
+) -> Result<(), Fail>
+    requires { script.now.layout.mode ≡ Tree }
+{
+    let outcome = run(rt, alloc, script, gate)?;
+    same(rt, outcome.pairs.as_slice(), pairs);
+    Ok(())
+}
+
 #[test]
 fn two_clients_are_there_at_once(rt: HostRuntime) -> Result<(), Fail> {
     let script = script_of(rt.alloc(), TWO)?;
     let gate = Meet::new();
-    let outcome = run(&rt, rt.alloc(), &script, &gate);
-    assert!(rt; outcome.is_ok());
-    assert!(rt; !gate.missed());
+    leaves(&rt, rt.alloc(), &script, &gate, &[])?;
+    same(&rt, gate.missed(), false);
     Ok(())
 }
 
@@ -159,21 +176,28 @@ impl Gate for Steps {
     }
 }
 
-/// An insert makes 48 steps, a get 9, a replacement 50, a delete 74, a pop and a get of the empty map
-/// 3, and a range of no pairs none; the insert and the replacement freeze two nodes each, the delete
-/// four. Each call begins where the one before it was answered.
+/// How many steps there were as each call began.
+const BEGAN: [u64; CALLS] = [0, 48, 57, 107, 181, 184, 187];
+
+const ANSWERED: [u64; CALLS] = [48, 57, 107, 181, 184, 187, 187];
+
+/// The counts of all calls are these.
+fn are(rt: &impl Abort, counts: &[AtomicU64; CALLS], want: [u64; CALLS]) {
+    for (count, want) in counts.iter().zip(want) {
+        same(rt, count.load(Ordering::SeqCst), want);
+    }
+}
+
+/// An insert makes 48 steps, a get 9, a replacement 50, a delete 74, a pop and a get of the empty
+/// map 3, and a range of no pairs none; the insert and the replacement freeze two nodes each, the
+/// delete four. Each call begins where the one before it was answered.
 #[test]
 fn a_gate_is_told_of_each_step(rt: HostRuntime) -> Result<(), Fail> {
     let script = script_of(rt.alloc(), ALONE)?;
     let gate = Steps::new();
-    let outcome = run(&rt, rt.alloc(), &script, &gate);
-    assert!(rt; outcome.is_ok());
-    let mut begin = 0;
-    for (call, end) in [48u64, 57, 107, 181, 184, 187, 187].iter().enumerate() {
-        same(&rt, gate.began[call].load(Ordering::SeqCst), begin);
-        same(&rt, gate.answered[call].load(Ordering::SeqCst), *end);
-        begin = *end;
-    }
+    leaves(&rt, rt.alloc(), &script, &gate, &[])?;
+    are(&rt, &gate.began, BEGAN);
+    are(&rt, &gate.answered, ANSWERED);
     same(&rt, gate.made.load(Ordering::SeqCst), 187);
     same(&rt, gate.freezes.load(Ordering::SeqCst), 8);
     Ok(())
@@ -219,101 +243,158 @@ impl Gate for Frozen {
     }
 }
 
+impl Frozen {
+    fn new(script: &Script) -> Frozen {
+        Frozen {
+            gate: Freeze::new(script),
+            has_frozen: AtomicBool::new(false),
+            freezes: AtomicU64::new(0),
+            before: AtomicU64::new(0),
+        }
+    }
+}
+
 /// It has frozen one of the two nodes of its insert; client 1, which helps it, needs no other step
 /// of it. Then it freezes the second, as it would have.
 #[test]
 fn a_frozen_client_waits_for_its_helper(rt: HostRuntime) -> Result<(), Fail> {
     let text = "limits,2,20,20,3\n0,insert,5,50,\n1,insert,7,70,\nend,2,,,\n";
     let script = script_of(rt.alloc(), text)?;
-    let gate = Frozen {
-        gate: Freeze::new(&script),
-        has_frozen: AtomicBool::new(false),
-        freezes: AtomicU64::new(0),
-        before: AtomicU64::new(0),
-    };
-    let outcome = run(&rt, rt.alloc(), &script, &gate);
-    assert!(rt; outcome.is_ok_and(|o| o.pairs.as_slice() == [(5, 50), (7, 70)].as_slice()));
-    assert!(rt; !gate.missed());
+    let gate = Frozen::new(&script);
+    leaves(&rt, rt.alloc(), &script, &gate, &[(5, 50), (7, 70)])?;
+    same(&rt, gate.missed(), false);
     same(&rt, gate.before.load(Ordering::SeqCst), 1);
     same(&rt, gate.freezes.load(Ordering::SeqCst), 2);
     Ok(())
 }
 
-/// A call that waits for what does not come has waited in vain after so many looks. From then on
-/// every call goes.
+/// What a gate is told of a call of a client.
+#[derive(Clone, Copy)]
+enum Told {
+    Began(u32, u64),
+    Made(u32, u64, Kind),
+    Answered(u32, u64),
+}
+
+/// Whether a gate has waited in vain once it was told these, one after another.
+fn misses<G: Gate>(gate: &G, told: &[Told]) -> bool {
+    for one in told {
+        match *one {
+            Began(client, call) => gate.began(PassNo(client), call),
+            Made(client, call, kind) => gate.made(PassNo(client), call, kind),
+            Answered(client, call) => gate.answered(PassNo(client), call),
+        }
+    }
+    gate.missed()
+}
+
+/// A call that waits for what does not come has waited in vain after so many looks.
+const IN_VAIN: [(GateName, &[Told], bool); 5] = [
+    (GateName::Hold, &[], false),
+    (GateName::Hold, &[Began(0, 0)], true),
+    (GateName::Alternate, &[Began(1, 0)], true),
+    // a freeze of client 0's first call waits, and no other step
+    (
+        GateName::Freeze,
+        &[
+            Began(0, 0),
+            Made(0, 0, Kind::Fill),
+            Made(1, 0, Kind::Freeze),
+            Made(0, 1, Kind::Freeze),
+        ],
+        false,
+    ),
+    (
+        GateName::Freeze,
+        &[
+            Began(0, 0),
+            Made(0, 0, Kind::Fill),
+            Made(1, 0, Kind::Freeze),
+            Made(0, 1, Kind::Freeze),
+            Made(0, 0, Kind::Freeze),
+        ],
+        true,
+    ),
+];
+
+/// The same of the gate of this name, at which a call makes three looks.
+fn misses_soon(script: &Script, name: GateName, told: &[Told]) -> bool {
+    match name {
+        GateName::Open => misses(&Open::new(script), told),
+        GateName::Alternate => misses(&Alternate::with_looks(script, 3), told),
+        GateName::Hold => misses(&Hold::with_looks(script, 3), told),
+        GateName::Freeze => misses(&Freeze::with_looks(script, 3), told),
+    }
+}
+
 #[test]
 fn what_does_not_come_is_missed(rt: HostRuntime) -> Result<(), Fail> {
     let script = script_of(rt.alloc(), TWO)?;
-    let hold = Hold::with_looks(&script, 3);
-    assert!(rt; !hold.missed());
-    hold.began(PassNo(0), 0);
-    assert!(rt; hold.missed());
-    let alternate = Alternate::with_looks(&script, 3);
-    alternate.began(PassNo(1), 0);
-    assert!(rt; alternate.missed());
-    let outcome = run(&rt, rt.alloc(), &script, &alternate);
-    assert!(rt; outcome.is_ok());
-    assert!(rt; alternate.missed());
-    let freeze = Freeze::with_looks(&script, 3);
-    freeze.began(PassNo(0), 0);
-    freeze.made(PassNo(0), 0, Kind::Fill);
-    freeze.made(PassNo(1), 0, Kind::Freeze);
-    freeze.made(PassNo(0), 1, Kind::Freeze);
-    assert!(rt; !freeze.missed());
-    freeze.made(PassNo(0), 0, Kind::Freeze);
-    assert!(rt; freeze.missed());
+    for (place, (name, told, missed)) in IN_VAIN.iter().enumerate() {
+        let found = misses_soon(&script, *name, told);
+        same(&rt, (place, found), (place, *missed));
+    }
     Ok(())
 }
 
+#[test]
+fn every_call_goes_once_one_has_waited_in_vain(rt: HostRuntime) -> Result<(), Fail> {
+    let script = script_of(rt.alloc(), TWO)?;
+    let gate = Alternate::with_looks(&script, 3);
+    same(&rt, misses(&gate, &[Began(1, 0)]), true);
+    leaves(&rt, rt.alloc(), &script, &gate, &[])?;
+    same(&rt, gate.missed(), true);
+    Ok(())
+}
+
+/// Two gets of client 0; client 1 has no call.
+const ONE: &str = "limits,2,20,20,3\n0,get,1,,\n0,get,1,,\nend,2,,,\n";
+
 /// What is answered is waited for no more, and a client that has no such call is not waited for.
+const NO_WAIT: [(&str, GateName, &[Told]); 7] = [
+    (ONE, GateName::Hold, &[Began(0, 0)]),
+    (ONE, GateName::Freeze, &[Made(0, 0, Kind::Freeze)]),
+    (ONE, GateName::Alternate, &[Began(0, 1), Began(1, 5)]),
+    (TWO, GateName::Hold, &[Answered(1, 0), Began(0, 0)]),
+    (
+        TWO,
+        GateName::Freeze,
+        &[Answered(1, 0), Made(0, 0, Kind::Freeze)],
+    ),
+    (
+        TWO,
+        GateName::Alternate,
+        &[Began(0, 0), Answered(0, 0), Began(1, 0)],
+    ),
+    (TWO, GateName::Open, &[Began(0, 0)]),
+];
+
+/// The same of the gate of this name, at which a call looks as often as in the program.
+fn misses_late(script: &Script, name: GateName, told: &[Told]) -> bool {
+    match name {
+        GateName::Open => misses(&Open::new(script), told),
+        GateName::Alternate => misses(&Alternate::new(script), told),
+        GateName::Hold => misses(&Hold::new(script), told),
+        GateName::Freeze => misses(&Freeze::new(script), told),
+    }
+}
+
 #[test]
 fn what_is_answered_is_not_waited_for(rt: HostRuntime) -> Result<(), Fail> {
-    let one = script_of(
-        rt.alloc(),
-        "limits,2,20,20,3\n0,get,1,,\n0,get,1,,\nend,2,,,\n",
-    )?;
-    let hold = Hold::new(&one);
-    hold.began(PassNo(0), 0);
-    assert!(rt; !hold.missed());
-    let freeze = Freeze::new(&one);
-    freeze.made(PassNo(0), 0, Kind::Freeze);
-    assert!(rt; !freeze.missed());
-    let alternate = Alternate::new(&one);
-    alternate.began(PassNo(0), 1);
-    alternate.began(PassNo(1), 5);
-    assert!(rt; !alternate.missed());
-
-    let script = script_of(rt.alloc(), TWO)?;
-    let hold = Hold::new(&script);
-    hold.answered(PassNo(1), 0);
-    hold.began(PassNo(0), 0);
-    assert!(rt; !hold.missed());
-    let freeze = Freeze::new(&script);
-    freeze.answered(PassNo(1), 0);
-    freeze.made(PassNo(0), 0, Kind::Freeze);
-    assert!(rt; !freeze.missed());
-    let alternate = Alternate::new(&script);
-    alternate.began(PassNo(0), 0);
-    alternate.answered(PassNo(0), 0);
-    alternate.began(PassNo(1), 0);
-    assert!(rt; !alternate.missed());
-    let open = Open::new(&script);
-    open.began(PassNo(0), 0);
-    assert!(rt; !open.missed());
+    for (place, (text, name, told)) in NO_WAIT.iter().enumerate() {
+        let script = script_of(rt.alloc(), text)?;
+        let found = misses_late(&script, *name, told);
+        same(&rt, (place, found), (place, false));
+    }
     Ok(())
 }
 
 /// The outcome of no call, whose gate was missed.
 #[test]
-fn a_missed_gate_is_told(rt: HostRuntime) {
-    let outcome = Outcome {
-        replies: Vec::new(rt.alloc()),
-        pairs: Vec::new(rt.alloc()),
-    };
+fn a_missed_gate_is_told(rt: HostRuntime) -> Result<(), Fail> {
     let mut out = Metered::new(Vec::new(rt.alloc()));
-    let (replies, pairs) = (outcome.replies.as_slice(), outcome.pairs.as_slice());
-    let written = write_outcome(rt.alloc(), true, replies, pairs, &mut out);
-    assert!(rt; written.is_ok());
+    write_outcome(rt.alloc(), true, &[], &[], &mut out)?;
     let text = "outcome,1,,\ngate,missed,,\nend,0,0,\n";
     same(&rt, out.inner.as_slice(), text.as_bytes());
+    Ok(())
 }

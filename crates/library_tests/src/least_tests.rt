@@ -19,6 +19,17 @@ use tree::{Insert, PopFirst, Tree};
 /// No call of these tests has as many steps.
 const MOST_STEPS: u32 = 1000;
 
+/// The values of five keys, which have bits in both words.
+const FIVE: u128 = 0x5_0000_0000_0000_0050;
+
+const NINE: u128 = 0x9_0000_0000_0000_0090;
+
+const ELEVEN: u128 = 0xb_0000_0000_0000_0110;
+
+const THIRTEEN: u128 = 0xd_0000_0000_0000_0130;
+
+const FIFTEEN: u128 = 0xf_0000_0000_0000_0150;
+
 /// The opening tree of one pass.
 fn opening(alloc: Global) -> Result<PlainWords, Fail> {
     let limits = Limits {
@@ -46,7 +57,8 @@ fn made(table: &mut PlainWords, step: Step) -> Option<u64> {
     }
 }
 
-/// Runs an update by itself: how many steps it makes, what it answers, and what is left of its share.
+/// Runs an update by itself: how many steps it makes, what it answers, and what is left of its
+/// share.
 fn plays<E: Edit + Drop>(
     table: &mut PlainWords,
     mut run: UpdateRun<E, UpdateAt>,
@@ -61,17 +73,32 @@ fn plays<E: Edit + Drop>(
     (MOST_STEPS, None, run.into_share())
 }
 
-/// Brings in these keys, each at ten times its number: what is left of the share.
-fn brings_in(rt: &impl Abort, table: &mut PlainWords, keys: &[u32]) -> Share {
+/// Inserts a pair, in the call of this number.
+fn inserts(
+    table: &mut PlainWords,
+    share: Share,
+    call: u64,
+    pair: (u64, u128),
+) -> (u32, Option<Updated>, Share) {
+    let (key, value) = pair;
+    plays(table, Insert { key, value }.run(share, 3, call))
+}
+
+/// The tree that has five pairs, and what is left of the share: a fork with the key 11, over a leaf
+/// of two and a leaf of three. The fifth finds a leaf of four, which it splits.
+fn five_pairs(rt: &impl Abort, table: &mut PlainWords) -> Share {
     let mut share = share(rt, table);
-    let mut call = 0u64;
-    for number in keys {
-        let key = u64::from(*number);
-        let value = 10 * u128::from(*number);
-        let insert = Insert { key, value };
-        let (_, _, left) = plays(table, insert.run(share, 3, call));
+    for (steps, call, key, value) in [
+        (49u32, 0u64, 5u64, FIVE),
+        (53, 1, 9, NINE),
+        (60, 2, 11, ELEVEN),
+        (67, 3, 13, THIRTEEN),
+        (80, 4, 15, FIFTEEN),
+    ] {
+        let (made, answer, left) = inserts(table, share, call, (key, value));
+        same(rt, made, steps);
+        same(rt, answer, Some(Updated::Done { key, value: None }));
         share = left;
-        call = call.saturating_add(1);
     }
     share
 }
@@ -103,8 +130,8 @@ fn load(node: u64, part: NodeWord) -> Step {
 #[test]
 fn a_walk_to_the_least_key_loads_no_key_of_a_fork(rt: HostRuntime) -> Result<(), Fail> {
     let mut table = opening(rt.alloc())?;
-    brings_in(&rt, &mut table, &[5, 6, 7, 8, 9]);
-    // fork 11 has the key 7, over leaf 9 of the keys 5 and 6
+    five_pairs(&rt, &mut table);
+    // fork 11 has the key 11, over leaf 9 of the keys 5 and 9
     let loads = [
         (0, Settled(Head)),
         (0, Child(Left)),
@@ -129,22 +156,32 @@ fn a_walk_to_the_least_key_loads_no_key_of_a_fork(rt: HostRuntime) -> Result<(),
         Turn::Done(found) => Some(Updated::at(&found)),
         Turn::Ask(_) => None,
     };
-    same(&rt, pair(answer), Some((5, 50)));
+    same(&rt, pair(answer), Some((5, FIVE)));
     Ok(())
 }
 
+/// The second and the fifth pop find a leaf of one pair, and so put a copy of its sibling in its
+/// parent's place.
 #[test]
 fn the_least_pairs_are_taken_one_after_the_other(rt: HostRuntime) -> Result<(), Fail> {
     let mut table = opening(rt.alloc())?;
-    let share = brings_in(&rt, &mut table, &[5, 9]);
-    let (_, first, share) = pops(&mut table, share, 2);
-    same(&rt, pair(first), Some((5, 50)));
-    let (_, second, share) = pops(&mut table, share, 3);
-    same(&rt, pair(second), Some((9, 90)));
+    let mut share = five_pairs(&rt, &mut table);
+    for (steps, call, key, value) in [
+        (56u32, 5u64, 5u64, FIVE),
+        (94, 6, 9, NINE),
+        (61, 7, 11, ELEVEN),
+        (54, 8, 13, THIRTEEN),
+        (74, 9, 15, FIFTEEN),
+    ] {
+        let (made, taken, left) = pops(&mut table, share, call);
+        same(&rt, made, steps);
+        same(&rt, pair(taken), Some((key, value)));
+        share = left;
+    }
     // the root's head and field, and the head of the leaf above all keys
-    let (steps, third, _) = pops(&mut table, share, 4);
+    let (steps, none, _) = pops(&mut table, share, 10);
     same(&rt, steps, 3);
-    assert!(rt; matches!(third, Some(Updated::Done { .. })));
-    same(&rt, pair(third), None);
+    assert!(rt; matches!(none, Some(Updated::Done { .. })));
+    same(&rt, pair(none), None);
     Ok(())
 }

@@ -1,8 +1,10 @@
 //! Texts of the greatest length, and one row more.
+use crate::same::same;
 use arena::Mode;
 use program::play_over;
 use report::{ReportFault, read_record};
-use std::alloc::Global;
+use std::alloc::{AllocError, Global};
+use std::process::Abort;
 use std::test::Fail;
 use texts::Metered;
 
@@ -32,6 +34,13 @@ fn count_lines(text: &[u8]) -> usize {
     text.iter().filter(|byte| **byte == b'\n').count()
 }
 
+/// A play went well, with so many lines, of which these are the last.
+fn ends_well(rt: &impl Abort, ended: &Ended, end: &str, lines: usize) {
+    let out = ended.out.as_slice();
+    same(rt, out.ends_with(end.as_bytes()), true);
+    same(rt, (ended.status, count_lines(out)), (0, lines));
+}
+
 /// A first line, so many others, and a last one.
 fn long_text(
     alloc: Global,
@@ -48,38 +57,61 @@ fn long_text(
     Ok(text)
 }
 
+/// So many calls, each of a cell without a snapshot, and so one turn.
+fn long_script(alloc: Global, calls: u32) -> Result<String, Fail> {
+    let last = format!(in alloc; "end,{calls},,,\n")?;
+    long_text(
+        alloc,
+        "limits,1,0,0,1\n",
+        "0,vlx,1,,\n",
+        calls,
+        last.as_str(),
+    )
+}
+
+/// So many rows, each of which plays a call.
+fn long_schedule(alloc: Global, rows: u32) -> Result<String, Fail> {
+    let last = format!(in alloc; "end,{rows},,\n")?;
+    long_text(alloc, "", "call,0,,\n", rows, last.as_str())
+}
+
+/// The 65,536th row of each text is taken.
 #[test]
-fn longest_texts(rt: HostRuntime) -> Result<(), Fail> {
-    // Each call is of a cell without a snapshot, and so one turn. The 65,536th row of each text is
-    // taken, and the next one is named.
-    let alloc = rt.alloc();
-    let (limits, call, order) = ("limits,1,0,0,1\n", "0,vlx,1,,\n", "call,0,,\n");
-    let script = long_text(alloc, limits, call, 65536, "end,65536,,,\n")?;
-    let schedule = long_text(alloc, "", order, 65536, "end,65536,,\n")?;
-    let long_script = long_text(alloc, limits, call, 65537, "end,65537,,,\n")?;
-    let long_schedule = long_text(alloc, "", order, 65537, "end,65537,,\n")?;
+fn the_longest_texts_are_taken(rt: HostRuntime) -> Result<(), Fail> {
+    let script = long_script(rt.alloc(), 65536)?;
+    let schedule = long_schedule(rt.alloc(), 65536)?;
     let ended = played(rt.alloc(), script.as_str(), schedule.as_str());
     let end = "reply,0,65535,65536,65536,,unlinked n1\nend,65536,65536,0,,,\n";
-    assert!(rt; ended.out.as_slice().ends_with(end.as_bytes()));
-    assert_eq!(rt;
-        (ended.status, count_lines(ended.out.as_slice())),
-        (0, 3 * 65536 + 3)
-    );
-    let refused = [
-        (
-            played(rt.alloc(), long_script.as_str(), schedule.as_str()),
-            "bad script: row 65538: long\n",
-        ),
-        (
-            played(rt.alloc(), script.as_str(), long_schedule.as_str()),
-            "bad schedule: row 65537: long\n",
-        ),
-    ];
-    for (ended, line) in refused {
-        assert_eq!(rt; ended.err.as_slice(), line.as_bytes());
-        assert_eq!(rt; (ended.status, ended.out.len()), (1, 0));
-    }
+    ends_well(&rt, &ended, end, 3 * 65536 + 3);
     Ok(())
+}
+
+/// A script of so many calls is refused by a schedule of so many rows with this line.
+fn refuses(
+    rt: &impl Abort,
+    alloc: Global,
+    (calls, rows): (u32, u32),
+    line: &str,
+) -> Result<(), Fail> {
+    let script = long_script(alloc, calls)?;
+    let schedule = long_schedule(alloc, rows)?;
+    let ended = played(alloc, script.as_str(), schedule.as_str());
+    same(rt, ended.err.as_slice(), line.as_bytes());
+    same(rt, (ended.status, ended.out.len()), (1, 0));
+    Ok(())
+}
+
+/// The next one is named.
+#[test]
+fn longer_texts_are_refused(rt: HostRuntime) -> Result<(), Fail> {
+    let alloc = rt.alloc();
+    refuses(&rt, alloc, (65537, 65536), "bad script: row 65538: long\n")?;
+    refuses(
+        &rt,
+        alloc,
+        (65536, 65537),
+        "bad schedule: row 65537: long\n",
+    )
 }
 
 #[test]
@@ -93,15 +125,11 @@ fn million_idle_turns(rt: HostRuntime) {
     );
     let end = "\nreply,0,0,999991,999997,999997,snap 0 0\nstep,999998,0,idle,,,\n\
                step,999999,0,idle,,,\nstep,1000000,0,idle,,,\nend,1000000,1,0,,,\n";
-    assert!(rt; ended.out.as_slice().ends_with(end.as_bytes()));
-    assert_eq!(rt;
-        (ended.status, count_lines(ended.out.as_slice())),
-        (0, 1000005)
-    );
+    ends_well(&rt, &ended, end, 1000005);
 }
 
 /// A report of so many calls, which no one began.
-fn long_report(alloc: Global, calls: u64) -> Result<String, Fail> {
+fn long_report(alloc: Global, calls: u64) -> Result<String, AllocError> {
     let mut text = String::from_str(alloc, "report,1,records,,,,\nlimits,1,0,0,1,,\n")?;
     for number in 0..calls {
         text.push_str(format!(in alloc; "call,0,{number},vlx,8 1,,\n")?.as_str())?;
@@ -110,16 +138,19 @@ fn long_report(alloc: Global, calls: u64) -> Result<String, Fail> {
     Ok(text)
 }
 
+/// How many calls the report of so many has, once it is read.
+fn read_calls(alloc: Global, calls: u64) -> Result<Result<usize, ReportFault>, AllocError> {
+    let text = long_report(alloc, calls)?;
+    match read_record(alloc, &mut Metered::new(text.as_bytes())) {
+        Ok(record) => Ok(Ok(record.script.calls.len())),
+        Err(fault) => Ok(Err(fault)),
+    }
+}
+
 #[test]
 fn the_call_past_the_most_is_named(rt: HostRuntime) -> Result<(), Fail> {
-    let text = long_report(rt.alloc(), 65536)?;
-    let record = read_record(rt.alloc(), &mut Metered::new(text.as_bytes()))?;
-    assert_eq!(rt; record.script.calls.len(), 65536);
-    let text = long_report(rt.alloc(), 65537)?;
+    same(&rt, read_calls(rt.alloc(), 65536)?, Ok(65536));
     let fault = ReportFault::NotLawful { row: 65539 };
-    assert_eq!(rt;
-        read_record(rt.alloc(), &mut Metered::new(text.as_bytes())).err(),
-        Some(fault)
-    );
+    same(&rt, read_calls(rt.alloc(), 65537)?, Err(fault));
     Ok(())
 }

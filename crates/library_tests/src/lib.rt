@@ -22,3 +22,5 @@ mod same;
 mod spelling_tests;
 #[cfg(test)]
 mod stream_tests;
+#[cfg(test)]
+mod version_tests;

@@ -7,7 +7,7 @@ use script::{Command, Script};
 use std::alloc::AllocError;
 
 /// What a call on the tree does.
-#[derive(Clone, Copy, Debug, PartialEq, Eq)]
+#[derive(Clone, Copy)]
 pub(crate) struct MapCall(pub(crate) Request<u64, u128>);
 
 impl MapCall {
@@ -49,17 +49,17 @@ impl MapCall {
         }))
     }
 
-    /// Whether the call has changed the map, by an update, if it answers this: a delete or a pop that
-    /// found none has only looked, and so has a replacement that found another value.
+    /// Whether the call has changed the map, by an update, if it answers this: a delete or a pop
+    /// that found none has only looked, and so has a replacement that found another value.
     pub(crate) fn enters(self, answer: &Answer) -> bool {
-        match self.0 {
-            Request::Insert { .. } => true,
-            Request::Delete { .. } => *answer != Answer::Map(Reply::Value(None)),
-            Request::PopFirst => *answer != Answer::Map(Reply::Pair(None)),
-            Request::ReplaceIf { expected, .. } => {
-                *answer == Answer::Map(Reply::Value(Some(expected)))
+        match (self.0, answer) {
+            (Request::Delete { .. }, Answer::Map(Reply::Value(None))) => false,
+            (Request::PopFirst, Answer::Map(Reply::Pair(None))) => false,
+            (Request::ReplaceIf { expected, .. }, Answer::Map(Reply::Value(Some(value)))) => {
+                *value == expected
             }
-            _ => false,
+            (Request::ReplaceIf { .. }, _) => false,
+            _ => self.may_change(),
         }
     }
 

@@ -1,77 +1,82 @@
 //! Random changes of records.
 ghost use Rattle.std.specs.Prelude.{◌<◌};
 
+use crate::race::record_of;
 use crate::random::Random;
-use arena::{
-    Full, Kind, NodeNo, NodeWord, PassNo, Resource, ScxNo, ScxWord, SettledPart, Side, Slot, Word,
-};
+use arena::{Kind, NodeNo, NodeWord, PassNo, ScxNo, ScxWord, SettledPart, Side, Slot, Word};
 use ordered_map::Reply;
-use record::{Answer, Entry, Finished, Line, Record, Row};
+use record::{Answer, Entry, Finished, Line, Row};
 use std::alloc::{AllocError, Global};
 use std::test::Fail;
 
-/// A copy of a line.
-pub(crate) fn copied(alloc: Global, line: &Line) -> Result<Line, AllocError> {
-    Ok(match line {
-        Line::Step(row) => Line::Step(*row),
-        Line::Log(entry) => Line::Log(*entry),
-        Line::Reply(reply) => Line::Reply(copied_reply(alloc, reply)?),
-    })
-}
+/// Replies with answers of each form. Those of call 0 are of the map, and `none` of call 1 is a
+/// pair.
+const ANSWERS: &str = "\
+report,2,tree,,,,
+limits,1,1,1,1,,
+call,0,0,get,1,,
+call,0,1,successor,1,,
+reply,0,0,1,1,,none
+reply,0,0,1,1,,some 0
+reply,0,0,1,1,,some 1
+reply,0,0,1,1,,some 7
+reply,0,0,1,1,,some 16
+reply,0,0,1,1,,some 18446744073709551616
+reply,0,0,1,1,,some 18446744073709551625
+reply,0,1,1,1,,none
+reply,0,1,1,1,,pair 0 0
+reply,0,1,1,1,,pair 1 1
+reply,0,1,1,1,,pair 2 16
+reply,0,1,1,1,,pair 3 18446744073709551616
+reply,0,1,1,1,,pair 5 5
+reply,0,0,1,1,,pairs
+reply,0,0,1,1,,pairs 0 1
+reply,0,0,1,1,,pairs 0 0 1 18446744073709551620
+reply,0,0,1,1,,pairs 0 3 1 1 2 16
+reply,0,0,1,1,,contended n0 s1
+reply,0,0,1,1,,contended n2 s3
+reply,0,0,1,1,,contended n11 s49
+reply,0,0,1,1,,no memory
+reply,0,0,1,1,,full nodes 0
+reply,0,0,1,1,,full nodes 1
+reply,0,0,1,1,,full nodes 3
+reply,0,0,1,1,,full scx 0
+reply,0,0,1,1,,full scx 2
+reply,0,2,1,1,,snap 0 0
+reply,0,2,1,1,,snap 5 0
+reply,0,2,1,1,,finalized
+reply,0,2,1,1,,fail n1 s2
+reply,0,2,1,1,,fail n3 s20
+reply,0,2,1,1,,done
+reply,0,2,1,1,,lost n1 s2
+reply,0,2,1,1,,lost n2 s31
+reply,0,2,1,1,,same
+reply,0,2,1,1,,changed n2 s1
+reply,0,2,1,1,,changed n3 s20
+reply,0,2,1,1,,unlinked n1
+reply,0,2,1,1,,unlinked n3
+end,0,39,0,,,
+";
 
-fn copied_reply(alloc: Global, reply: &Finished) -> Result<Finished, AllocError> {
-    Ok(Finished {
-        client: reply.client,
-        call: reply.call,
-        begin: reply.begin,
-        end: reply.end,
-        moment: reply.moment,
-        answer: copied_answer(alloc, &reply.answer)?,
-    })
-}
+/// Replies of a call on cells, whose shares are too small.
+const REFUSALS: &str = "\
+report,2,records,,,,
+limits,1,1,1,1,,
+call,0,0,set,1,left,1
+reply,0,0,1,1,,full nodes 0
+reply,0,0,1,1,,full nodes 2
+reply,0,0,1,1,,full scx 0
+reply,0,0,1,1,,full scx 1
+end,0,4,0,,,
+";
 
-fn copied_answer(alloc: Global, answer: &Answer) -> Result<Answer, AllocError> {
-    Ok(match answer {
-        Answer::Snapshot { left, right } => Answer::Snapshot {
-            left: *left,
-            right: *right,
-        },
-        Answer::Finalized => Answer::Finalized,
-        Answer::Fail { node, scx } => Answer::Fail {
-            node: *node,
-            scx: *scx,
-        },
-        Answer::Done => Answer::Done,
-        Answer::Lost { node, scx } => Answer::Lost {
-            node: *node,
-            scx: *scx,
-        },
-        Answer::Same => Answer::Same,
-        Answer::Changed { node, scx } => Answer::Changed {
-            node: *node,
-            scx: *scx,
-        },
-        Answer::Unlinked { node } => Answer::Unlinked { node: *node },
-        Answer::Full { what, left } => Answer::Full {
-            what: *what,
-            left: *left,
-        },
-        Answer::Map(told) => Answer::Map(copied_told(alloc, told)?),
-    })
-}
-
-fn copied_told(alloc: Global, told: &Reply<u64, u128>) -> Result<Reply<u64, u128>, AllocError> {
-    Ok(match told {
-        Reply::Value(value) => Reply::Value(*value),
-        Reply::Pair(pair) => Reply::Pair(*pair),
-        Reply::Pairs(pairs) => Reply::Pairs(pairs.as_slice().to_vec(alloc)?),
-        Reply::Contended { node, scx } => Reply::Contended {
-            node: *node,
-            scx: *scx,
-        },
-        Reply::Full(full) => Reply::Full(*full),
-        Reply::NoMemory => Reply::NoMemory,
-    })
+/// Replies with answers of each kind, from which a changed reply gets its own.
+pub(crate) fn replies(alloc: Global) -> Result<Vec<Line>, Fail> {
+    let mut replies = record_of(alloc, ANSWERS)?.lines;
+    for reply in record_of(alloc, REFUSALS)?.lines {
+        replies.push(reply)?;
+    }
+    Ok(replies)
 }
 
 /// Another number, mostly near this one.
@@ -86,24 +91,21 @@ fn other_number(random: &mut Random, number: u64) -> u64 {
     }
 }
 
-/// The least number of two words.
-const BEYOND_A_WORD: u128 = 18446744073709551616;
+fn other_small(random: &mut Random, number: u32) -> u32 {
+    match random.below(3) {
+        0 => number.saturating_add(1),
+        1 => number.saturating_sub(1),
+        _ => random.below(4) as u32,
+    }
+}
 
 /// Another value, near this one or one word above it.
 fn other_value(random: &mut Random, value: u128) -> u128 {
     match random.below(4) {
         0 => value.saturating_add(1),
         1 => value.saturating_sub(1),
-        2 => value.saturating_add(BEYOND_A_WORD),
-        _ => random_word(random),
-    }
-}
-
-fn other_small(random: &mut Random, number: u32) -> u32 {
-    match random.below(3) {
-        0 => number.saturating_add(1),
-        1 => number.saturating_sub(1),
-        _ => random.below(4) as u32,
+        2 => value.saturating_add(1 << 64),
+        _ => u128::from(random.below(17)),
     }
 }
 
@@ -123,96 +125,90 @@ const KINDS: [Kind; 13] = [
     Kind::Abort,
 ];
 
-fn other_kind(random: &mut Random) -> Kind {
-    let place = random.below(13);
-    KINDS[place as usize]
-}
+const NODE_WORDS: [NodeWord; 18] = [
+    NodeWord::Settled(SettledPart::Head),
+    NodeWord::Settled(SettledPart::More),
+    NodeWord::Settled(SettledPart::Key(Slot::First)),
+    NodeWord::Settled(SettledPart::Key(Slot::Second)),
+    NodeWord::Settled(SettledPart::Key(Slot::Third)),
+    NodeWord::Settled(SettledPart::Key(Slot::Fourth)),
+    NodeWord::Settled(SettledPart::Value(Slot::First)),
+    NodeWord::Settled(SettledPart::Value(Slot::Second)),
+    NodeWord::Settled(SettledPart::Value(Slot::Third)),
+    NodeWord::Settled(SettledPart::Value(Slot::Fourth)),
+    NodeWord::Settled(SettledPart::High(Slot::First)),
+    NodeWord::Settled(SettledPart::High(Slot::Second)),
+    NodeWord::Settled(SettledPart::High(Slot::Third)),
+    NodeWord::Settled(SettledPart::High(Slot::Fourth)),
+    NodeWord::Child(Side::Left),
+    NodeWord::Child(Side::Right),
+    NodeWord::Info,
+    NodeWord::Marked,
+];
 
-fn other_slot(random: &mut Random) -> Slot {
-    match random.below(4) {
-        0 => Slot::First,
-        1 => Slot::Second,
-        2 => Slot::Third,
-        _ => Slot::Fourth,
-    }
-}
-
-fn other_part(random: &mut Random) -> SettledPart {
-    match random.below(5) {
-        0 => SettledPart::Head,
-        1 => SettledPart::More,
-        2 => SettledPart::Key(other_slot(random)),
-        3 => SettledPart::Value(other_slot(random)),
-        _ => SettledPart::High(other_slot(random)),
-    }
-}
-
-fn other_node_word(random: &mut Random) -> NodeWord {
-    match random.below(7) {
-        0..=2 => NodeWord::Settled(other_part(random)),
-        3 => NodeWord::Child(Side::Left),
-        4 => NodeWord::Child(Side::Right),
-        5 => NodeWord::Info,
-        _ => NodeWord::Marked,
-    }
-}
-
-fn other_scx_word(random: &mut Random) -> ScxWord {
-    match random.below(8) {
-        0 => ScxWord::State,
-        1 => ScxWord::AllFrozen,
-        2 => ScxWord::Plan,
-        3 => ScxWord::New,
-        4 => ScxWord::Old,
-        5 => ScxWord::Member(random.below(5) as u8),
-        6 => ScxWord::Seen(random.below(5) as u8),
-        _ => ScxWord::Call,
-    }
-}
+const SCX_WORDS: [ScxWord; 16] = [
+    ScxWord::State,
+    ScxWord::AllFrozen,
+    ScxWord::Plan,
+    ScxWord::New,
+    ScxWord::Old,
+    ScxWord::Member(0),
+    ScxWord::Member(1),
+    ScxWord::Member(2),
+    ScxWord::Member(3),
+    ScxWord::Member(4),
+    ScxWord::Seen(0),
+    ScxWord::Seen(1),
+    ScxWord::Seen(2),
+    ScxWord::Seen(3),
+    ScxWord::Seen(4),
+    ScxWord::Call,
+];
 
 fn other_word(random: &mut Random, word: Word) -> Word {
     match (word, random.below(2)) {
         (Word::Node(node, part), 0) => Word::Node(NodeNo(other_number(random, node.0)), part),
-        (Word::Node(node, _), _) => Word::Node(node, other_node_word(random)),
+        (Word::Node(node, _), _) => Word::Node(node, NODE_WORDS[random.below(18) as usize]),
         (Word::Scx(scx, part), 0) => Word::Scx(ScxNo(other_number(random, scx.0)), part),
-        (Word::Scx(scx, _), _) => Word::Scx(scx, other_scx_word(random)),
+        (Word::Scx(scx, _), _) => Word::Scx(scx, SCX_WORDS[random.below(16) as usize]),
     }
 }
 
 /// A turn with one thing said otherwise.
 fn other_row(random: &mut Random, row: Row) -> Row {
-    match row {
-        Row::Idle { number, client } => other_idle(random, number, client),
-        Row::Step { number, row } => other_step(random, number, row),
-    }
-}
-
-fn other_idle(random: &mut Random, number: u64, client: PassNo) -> Row {
-    if random.below(2) == 0 {
-        let number = other_number(random, number);
-        Row::Idle { number, client }
-    } else {
-        let client = PassNo(other_small(random, client.0));
-        Row::Idle { number, client }
+    match (row, random.below(2)) {
+        (Row::Idle { number, client }, 0) => Row::Idle {
+            number: other_number(random, number),
+            client,
+        },
+        (Row::Idle { number, client }, _) => Row::Idle {
+            number,
+            client: PassNo(other_small(random, client.0)),
+        },
+        (Row::Step { number, row }, _) => other_step(random, number, row),
     }
 }
 
 fn other_step(random: &mut Random, number: u64, row: arena::Row) -> Row {
     let mut row = row;
-    let mut number = number;
     match random.below(9) {
-        0 => number = other_number(random, number),
-        1 => row.pass = PassNo(other_small(random, row.pass.0)),
-        2 => row.kind = other_kind(random),
-        3 | 4 => row.word = other_word(random, row.word),
-        5 => row.before = other_number(random, row.before),
-        6 => row.call = other_number(random, row.call),
-        7 => {
+        0 => {
+            return Row::Step {
+                number: other_number(random, number),
+                row,
+            };
+        }
+        1 => {
             return Row::Idle {
                 number,
                 client: row.pass,
             };
         }
+        2 => row.kind = KINDS[random.below(13) as usize],
+        3 | 4 => row.word = other_word(random, row.word),
+        5 => row.before = other_number(random, row.before),
+        6 => row.call = other_number(random, row.call),
+        7 => row.pass = PassNo(other_small(random, row.pass.0)),
         _ => row.after = other_number(random, row.after),
     }
     Row::Step { number, row }
@@ -230,24 +226,6 @@ fn other_entry(random: &mut Random, entry: Entry) -> Entry {
     entry
 }
 
-fn other_reply(
-    alloc: Global,
-    random: &mut Random,
-    reply: &Finished,
-) -> Result<Finished, AllocError> {
-    let mut other = copied_reply(alloc, reply)?;
-    match random.below(9) {
-        0 => other.client = PassNo(other_small(random, reply.client.0)),
-        1 => other.call = other_number(random, reply.call),
-        2 => other.begin = other_number(random, reply.begin),
-        3 => other.end = other_number(random, reply.end),
-        4 => other.moment = other_moment(random, reply.moment),
-        5 | 6 => other.answer = told_otherwise(alloc, random, &reply.answer)?,
-        _ => other.answer = other_answer(alloc, random)?,
-    }
-    Ok(other)
-}
-
 fn other_moment(random: &mut Random, moment: Option<u64>) -> Option<u64> {
     match moment {
         Some(turn) if random.below(4) > 0 => Some(other_number(random, turn)),
@@ -256,227 +234,129 @@ fn other_moment(random: &mut Random, moment: Option<u64>) -> Option<u64> {
     }
 }
 
-/// A value, mostly of one word.
-fn random_word(random: &mut Random) -> u128 {
-    let low = u128::from(random.below(17));
-    if random.below(4) == 0 {
-        BEYOND_A_WORD.saturating_add(low)
-    } else {
-        low
-    }
-}
-
-fn random_value(random: &mut Random) -> Option<u128> {
-    if random.below(3) == 0 {
-        None
-    } else {
-        Some(random_word(random))
-    }
-}
-
-fn random_pair(random: &mut Random) -> Option<(u64, u128)> {
-    if random.below(6) == 0 {
-        None
-    } else {
-        Some((random.below(6), random_word(random)))
-    }
-}
-
-fn random_pairs(alloc: Global, random: &mut Random) -> Result<Vec<(u64, u128)>, AllocError> {
-    let mut pairs = Vec::new(alloc);
-    for key in 0..random.below(4) {
-        pairs.push((key, random_word(random)))?;
-    }
-    Ok(pairs)
-}
-
-fn random_full(random: &mut Random) -> Full {
-    let left = random.below(4) as u32;
-    let what = match random.below(2) {
-        0 => Resource::Nodes,
-        _ => Resource::Scx,
-    };
-    Full { what, left }
-}
-
-fn random_told(alloc: Global, random: &mut Random) -> Result<Reply<u64, u128>, AllocError> {
-    Ok(match random.below(8) {
-        0 | 1 => Reply::Value(random_value(random)),
-        2 => Reply::Pair(random_pair(random)),
-        3 => Reply::Pairs(random_pairs(alloc, random)?),
-        4 => Reply::Contended {
-            node: NodeNo(random.below(12)),
-            scx: ScxNo(random.below(50)),
-        },
-        5 | 6 => Reply::Full(random_full(random)),
-        _ => Reply::NoMemory,
-    })
-}
-
-fn other_answer(alloc: Global, random: &mut Random) -> Result<Answer, AllocError> {
-    let (node, scx) = (NodeNo(random.below(12)), ScxNo(random.below(50)));
-    Ok(match random.below(18) {
-        0 => Answer::Snapshot {
-            left: node,
-            right: NodeNo(0),
-        },
-        1 => Answer::Finalized,
-        2 => Answer::Fail { node, scx },
-        3 => Answer::Done,
-        4 => Answer::Lost { node, scx },
-        5 => Answer::Same,
-        6 => Answer::Changed { node, scx },
-        7 => Answer::Unlinked { node },
-        8 | 9 => {
-            let Full { what, left } = random_full(random);
-            Answer::Full { what, left }
+/// Says one thing of a reply otherwise.
+fn change_reply(
+    random: &mut Random,
+    reply: &mut Finished,
+    replies: &[Line],
+) -> Result<(), AllocError> {
+    match random.below(9) {
+        0 => reply.client = PassNo(other_small(random, reply.client.0)),
+        1 => reply.call = other_number(random, reply.call),
+        2 => reply.begin = other_number(random, reply.begin),
+        3 => reply.end = other_number(random, reply.end),
+        4 => reply.moment = other_moment(random, reply.moment),
+        5 | 6 if change_number(random, &mut reply.answer) => {}
+        _ => {
+            let at = random_below(random, replies.len());
+            if let Some(Line::Reply(other)) = replies.get(at) {
+                reply.answer = other.answer.clone()?;
+            }
         }
-        _ => Answer::Map(random_told(alloc, random)?),
-    })
-}
-
-/// The answer with one number of it said otherwise, or another one.
-fn told_otherwise(
-    alloc: Global,
-    random: &mut Random,
-    answer: &Answer,
-) -> Result<Answer, AllocError> {
-    Ok(match answer {
-        Answer::Snapshot { left, right } => Answer::Snapshot {
-            left: NodeNo(other_number(random, left.0)),
-            right: *right,
-        },
-        Answer::Fail { node, scx } => Answer::Fail {
-            node: *node,
-            scx: ScxNo(other_number(random, scx.0)),
-        },
-        Answer::Lost { node, scx } => Answer::Lost {
-            node: NodeNo(other_number(random, node.0)),
-            scx: *scx,
-        },
-        Answer::Changed { node, scx } => Answer::Changed {
-            node: *node,
-            scx: ScxNo(other_number(random, scx.0)),
-        },
-        Answer::Full { what, left } => Answer::Full {
-            what: *what,
-            left: other_small(random, *left),
-        },
-        Answer::Map(reply) => Answer::Map(reply_otherwise(alloc, random, reply)?),
-        _ => other_answer(alloc, random)?,
-    })
-}
-
-fn reply_otherwise(
-    alloc: Global,
-    random: &mut Random,
-    reply: &Reply<u64, u128>,
-) -> Result<Reply<u64, u128>, AllocError> {
-    Ok(match reply {
-        Reply::Contended { node, scx } => Reply::Contended {
-            node: NodeNo(other_number(random, node.0)),
-            scx: *scx,
-        },
-        Reply::Value(Some(value)) => Reply::Value(Some(other_value(random, *value))),
-        Reply::Full(full) => Reply::Full(Full {
-            what: full.what,
-            left: other_small(random, full.left),
-        }),
-        _ => random_told(alloc, random)?,
-    })
-}
-
-fn other_line(alloc: Global, random: &mut Random, line: &Line) -> Result<Line, AllocError> {
-    Ok(match line {
-        Line::Step(row) => Line::Step(other_row(random, *row)),
-        Line::Log(entry) => Line::Log(other_entry(random, *entry)),
-        Line::Reply(reply) => Line::Reply(other_reply(alloc, random, reply)?),
-    })
-}
-
-/// What is changed of a record.
-#[derive(Clone, Copy, Debug, PartialEq, Eq)]
-pub(crate) enum Change {
-    /// The line at this place says one thing otherwise.
-    Said(usize),
-    /// That line is left out.
-    LeftOut(usize),
-    /// That line is left out, which is a turn, and the later ones are numbered anew.
-    Skipped(usize, u64),
-    /// These two lines are exchanged.
-    Exchanged(usize, usize),
-}
-
-/// A random change of a record that has lines.
-pub(crate) fn random_change(random: &mut Random, record: &Record) -> Option<Change> {
-    let count = record.lines.len() as u64;
-    if count == 0 {
-        return None;
     }
-    let at = random_place(random, record, count);
-    let other = random.below(count) as usize;
-    Some(match random.below(10) {
-        0 => Change::LeftOut(at),
-        1 => Change::Exchanged(at, other),
-        2 => Change::Exchanged(at, at.saturating_add(1)),
-        3 | 4 => match record.lines.get(at) {
-            Some(Line::Step(Row::Step { number, .. })) => Change::Skipped(at, *number),
-            _ => Change::LeftOut(at),
-        },
-        _ => Change::Said(at),
-    })
+    Ok(())
+}
+
+/// Tells a number of an answer otherwise, if it has one.
+fn change_number(random: &mut Random, answer: &mut Answer) -> bool {
+    match answer {
+        Answer::Snapshot { left, right: _ } => left.0 = other_number(random, left.0),
+        Answer::Fail { node: _, scx } => scx.0 = other_number(random, scx.0),
+        Answer::Lost { node, scx: _ } => node.0 = other_number(random, node.0),
+        Answer::Changed { node: _, scx } => scx.0 = other_number(random, scx.0),
+        Answer::Full { what: _, left } => *left = other_small(random, *left),
+        Answer::Map(Reply::Contended { node, scx: _ }) => node.0 = other_number(random, node.0),
+        Answer::Map(Reply::Value(Some(value))) => *value = other_value(random, *value),
+        Answer::Map(Reply::Full(full)) => full.left = other_small(random, full.left),
+        _ => return false,
+    }
+    true
+}
+
+/// Makes a random change of the lines of a record: one says one thing otherwise, one is left out or
+/// with it its turn, or two are exchanged.
+pub(crate) fn change(
+    random: &mut Random,
+    lines: &mut Vec<Line>,
+    replies: &[Line],
+) -> Result<(), AllocError> {
+    let at = random_place(random, lines.as_slice());
+    match random.below(10) {
+        0 => leave_out(lines, at),
+        1 => {
+            let other = random_below(random, lines.len());
+            exchange(lines, at, other);
+        }
+        2 => exchange(lines, at, at.saturating_add(1)),
+        3 | 4 => skip(lines, at),
+        _ => change_line(random, lines.get_mut(at), replies)?,
+    }
+    Ok(())
+}
+
+/// Says one thing of a line otherwise.
+fn change_line(
+    random: &mut Random,
+    line: Option<&mut Line>,
+    replies: &[Line],
+) -> Result<(), AllocError> {
+    match line {
+        Some(Line::Step(row)) => *row = other_row(random, *row),
+        Some(Line::Log(entry)) => *entry = other_entry(random, *entry),
+        Some(Line::Reply(reply)) => change_reply(random, reply, replies)?,
+        None => {}
+    }
+    Ok(())
+}
+
+/// A number below this one, or 0.
+fn random_below(random: &mut Random, bound: usize) -> usize {
+    if bound == 0 {
+        return 0;
+    }
+    random.below(bound as u64) as usize
 }
 
 /// A place in a record, mostly of a reply, an entry or a change of a word.
-fn random_place(random: &mut Random, record: &Record, count: u64) -> usize
-    requires { 0 < count }
-{
+fn random_place(random: &mut Random, lines: &[Line]) -> usize {
     for _ in 0..8 {
-        let at = random.below(count) as usize;
-        let plain = match record.lines.get(at) {
-            Some(Line::Step(Row::Step { row, .. })) => row.before == row.after,
-            _ => false,
-        };
-        if !plain {
+        let at = random_below(random, lines.len());
+        if !is_plain(lines.get(at)) {
             return at;
         }
     }
-    random.below(count) as usize
+    random_below(random, lines.len())
 }
 
-/// The record with this change.
-pub(crate) fn changed(
-    alloc: Global,
-    random: &mut Random,
-    record: &Record,
-    change: Change,
-) -> Result<Record, Fail> {
-    let mut lines = Vec::new(alloc);
-    for (at, line) in record.lines.iter().enumerate() {
-        match change {
-            Change::Said(place) if place == at => lines.push(other_line(alloc, random, line)?)?,
-            Change::LeftOut(place) if place == at => {}
-            Change::Skipped(place, _) if place == at => {}
-            Change::Skipped(_, turn) => lines.push(numbered_anew(alloc, line, turn)?)?,
-            Change::Exchanged(one, other) => {
-                let from = exchanged(at, one, other);
-                let line = record.lines.get(from).unwrap_or(line);
-                lines.push(copied(alloc, line)?)?;
-            }
-            _ => lines.push(copied(alloc, line)?)?,
-        }
+/// Whether a line is a step that changes nothing.
+fn is_plain(line: Option<&Line>) -> bool {
+    match line {
+        Some(Line::Step(Row::Step { number: _, row })) => row.before == row.after,
+        _ => false,
     }
-    let script = record.script.copy(alloc)?;
-    Ok(Record { script, lines })
 }
 
-fn exchanged(at: usize, one: usize, other: usize) -> usize {
-    if at == one {
-        other
-    } else if at == other {
-        one
-    } else {
-        at
+fn leave_out(lines: &mut Vec<Line>, at: usize) {
+    if at < lines.len() {
+        lines.remove(at);
+    }
+}
+
+fn exchange(lines: &mut Vec<Line>, one: usize, other: usize) {
+    if one < lines.len() && other < lines.len() {
+        lines.swap(one, other);
+    }
+}
+
+/// Leaves a line out, and where it is a turn numbers the later ones anew.
+fn skip(lines: &mut Vec<Line>, at: usize) {
+    let out = match lines.get(at) {
+        Some(Line::Step(Row::Step { number, row: _ })) => *number,
+        _ => u64::MAX,
+    };
+    leave_out(lines, at);
+    for line in lines.iter_mut() {
+        number_anew(line, out);
     }
 }
 
@@ -489,27 +369,18 @@ fn anew(turn: u64, out: u64) -> u64 {
     }
 }
 
-/// A line, once this turn is left out.
-fn numbered_anew(alloc: Global, line: &Line, out: u64) -> Result<Line, AllocError> {
-    Ok(match line {
-        Line::Step(Row::Step { number, row }) => Line::Step(Row::Step {
-            number: anew(*number, out),
-            row: *row,
-        }),
-        Line::Step(Row::Idle { number, client }) => Line::Step(Row::Idle {
-            number: anew(*number, out),
-            client: *client,
-        }),
-        Line::Log(entry) => Line::Log(Entry {
-            step: anew(entry.step, out),
-            ..*entry
-        }),
+/// Numbers the turns of a line, once this one is left out.
+fn number_anew(line: &mut Line, out: u64) {
+    match line {
+        Line::Step(Row::Step { number, row: _ }) => *number = anew(*number, out),
+        Line::Step(Row::Idle { number, client: _ }) => *number = anew(*number, out),
+        Line::Log(entry) => entry.step = anew(entry.step, out),
         Line::Reply(reply) => {
-            let mut reply = copied_reply(alloc, reply)?;
             reply.begin = anew(reply.begin, out);
             reply.end = anew(reply.end, out);
-            reply.moment = reply.moment.map(|turn| anew(turn, out));
-            Line::Reply(reply)
+            if let Some(turn) = reply.moment {
+                reply.moment = Some(anew(turn, out));
+            }
         }
-    })
+    }
 }

@@ -50,11 +50,7 @@ struct Seen<'a> {
 pub(crate) fn check(alloc: Global, record: &Record) -> Result<(), Wrong> {
     let mut seen = Seen::new(alloc, &record.script)?;
     for line in record.lines.iter() {
-        match line {
-            Line::Step(row) => seen.step(row)?,
-            Line::Log(entry) => seen.entry(entry)?,
-            Line::Reply(reply) => seen.reply(reply)?,
-        }
+        seen.line(line)?;
     }
     seen.settle()?;
     seen.end()
@@ -72,6 +68,15 @@ impl<'a> Seen<'a> {
             owed: None,
             at_once: false,
         })
+    }
+
+    /// The next line is right behind those so far.
+    fn line(&mut self, line: &'a Line) -> Result<(), Wrong> {
+        match line {
+            Line::Step(row) => self.step(row),
+            Line::Log(entry) => self.entry(entry),
+            Line::Reply(reply) => self.reply(reply),
+        }
     }
 
     /// The turn before has the entry that it owes.
@@ -127,12 +132,13 @@ impl<'a> Seen<'a> {
     fn turn_of_call(&mut self, number: u64, client: PassNo, call: u64) -> Result<(), Wrong> {
         let script = self.script;
         let state = self.turn(number, client)?;
-        let next = MapCall::of(script, client, state.answered);
-        if call != state.answered || next.is_none_or(|next| next.takes_nothing()) {
-            return Err(Wrong::Turn(number));
+        match MapCall::of(script, client, state.answered) {
+            Some(next) if call == state.answered && !next.takes_nothing() => {
+                state.begun = state.begun.or(Some(number));
+                Ok(())
+            }
+            _ => Err(Wrong::Turn(number)),
         }
-        state.begun = state.begun.or(Some(number));
-        Ok(())
     }
 
     /// The next turn makes no step: its client has no call left, or its next call answers at once.
@@ -176,13 +182,16 @@ impl<'a> Seen<'a> {
         if self.owed.take() != Some(*entry) {
             return Err(wrong);
         }
-        let call = self.entering(entry).ok_or(wrong)?;
+        let Some(call) = self.entering(entry) else {
+            return Err(wrong);
+        };
         let turn = entry.step;
         self.past.change(turn, call)?;
         self.replay.finalize(entry.scx)?;
         self.entries = entry.place;
-        let client = self.clients.get_mut(entry.client.0 as usize).ok_or(wrong)?;
-        client.entered = Some(turn);
+        if let Some(client) = self.clients.get_mut(entry.client.0 as usize) {
+            client.entered = Some(turn);
+        }
         Ok(())
     }
 
@@ -193,22 +202,29 @@ impl<'a> Seen<'a> {
         if !runs || client.entered.is_some() {
             return None;
         }
-        MapCall::of(self.script, entry.client, entry.call).filter(|call| call.may_change())
+        match MapCall::of(self.script, entry.client, entry.call) {
+            Some(call) if call.may_change() => Some(call),
+            _ => None,
+        }
     }
 
     /// The reply is of the call that its client has made, and says how that went.
     fn reply(&mut self, reply: &'a Finished) -> Result<(), Wrong> {
         self.has_entry()?;
         let wrong = Wrong::Reply(self.turn);
-        let call = MapCall::of(self.script, reply.client, reply.call).ok_or(wrong)?;
-        let client = self.clients.get_mut(reply.client.0 as usize).ok_or(wrong)?;
+        let Some(call) = MapCall::of(self.script, reply.client, reply.call) else {
+            return Err(wrong);
+        };
+        let Some(client) = self.clients.get_mut(reply.client.0 as usize) else {
+            return Err(wrong);
+        };
         let said = (reply.call, Some(reply.begin), reply.end);
         if said != (client.answered, client.begun, self.turn) || client.last != self.turn {
             return Err(wrong);
         }
         let entered = client.entered.take();
         client.begun = None;
-        client.answered = client.answered.checked_add(1).ok_or(wrong)?;
+        client.answered = client.answered.saturating_add(1);
         self.answer(reply, call, entered)
     }
 

@@ -2,16 +2,13 @@
 use crate::call::MapCall;
 use crate::check::check;
 use crate::past::{Past, Place};
-use crate::race::{Race, played};
+use crate::race::{played, record_of, report_of};
 use crate::wrong::Wrong;
+use arena::Mode;
 use ordered_map::{Reply, Request};
 use record::Answer;
-use report::{read_record, write_record};
-use std::alloc::Global;
+use std::alloc::{AllocError, Global};
 use std::test::Fail;
-use texts::Metered;
-
-const GETS: Race = (GETS_SCRIPT, GETS_SCHEDULE);
 
 /// Client 0 gives key 5 the value 50 and then 51. Between the mark of the leaf that goes and its
 /// update, client 1 walks down to that leaf, and loads its value when it is out of the tree.
@@ -24,7 +21,8 @@ limits,2,20,20,3
 end,4,,,
 ";
 
-/// Turns 1 to 48, 49 to 94, 95 to 101, 102 to 105 with the update at 104, 106 and 107, and 108 to 116.
+/// Turns 1 to 48, 49 to 94, 95 to 101, 102 to 105 with the update at 104, 106 and 107, and 108 to
+/// 116.
 const GETS_SCHEDULE: &str = "\
 call,0,,
 until,0,mark,1
@@ -34,8 +32,6 @@ call,1,,
 call,1,,
 end,6,,
 ";
-
-const DELETES: Race = (DELETES_SCRIPT, DELETES_SCHEDULE);
 
 /// Client 0's first delete is about to look at the leaf of the empty map when client 1 gives key 5
 /// the value 50. It finds none, in the turn before that. Its second one takes 51 out.
@@ -48,8 +44,8 @@ limits,2,20,20,3
 end,4,,,
 ";
 
-/// Turns 1 and 2, 3 to 50 with the update at 49, 51, 52 to 101 with the update at 100, and 102 to 175
-/// with the update at 174.
+/// Turns 1 and 2, 3 to 50 with the update at 49, 51, 52 to 101 with the update at 100, and 102 to
+/// 175 with the update at 174.
 const DELETES_SCHEDULE: &str = "\
 step,0,,2
 call,1,,
@@ -59,13 +55,11 @@ call,0,,
 end,5,,
 ";
 
-const READS: Race = (READS_SCRIPT, READS_SCHEDULE);
-
-/// Client 0 brings in seven keys, which stand in three leaves: 4 and 5, 7 and 8, and 9 to 11. Client
-/// 1's range has taken the pair of key 5 when client 0 gives key 9 another value. It takes that too,
-/// and looks once more at all nodes but one; then client 0 gives key 5 another value. So only between
-/// these changes the map was as it tells. Client 1's successor has looked once more at the node above
-/// key 5 when client 0 brings in a lesser key than the one that it tells.
+/// Client 0 brings in seven keys, which stand in three leaves: 4 and 5, 7 and 8, and 9 to 11.
+/// Client 1's range has taken the pair of key 5 when client 0 gives key 9 another value. It takes
+/// that too, and looks once more at all nodes but one; then client 0 gives key 5 another value. So
+/// only between these changes the map was as it tells. Client 1's successor has looked once more at
+/// the node above key 5 when client 0 brings in a lesser key than the one that it tells.
 const READS_SCRIPT: &str = "\
 limits,2,20,20,3
 0,insert,4,40,
@@ -85,9 +79,9 @@ limits,2,20,20,3
 end,14,,,
 ";
 
-/// The keys take turns 1 to 438; 439 to 469, 470 to 536 with the update at 535, 537 to 563, 564 to 623
-/// with the update at 622, and 624; 625 to 661, 662 to 721 with the update at 720, and 722; 723, and
-/// 724 to 773.
+/// The keys take turns 1 to 438; 439 to 469, 470 to 536 with the update at 535, 537 to 563, 564 to
+/// 623 with the update at 622, and 624; 625 to 661, 662 to 721 with the update at 720, and 722;
+/// 723, and 724 to 773.
 const READS_SCHEDULE: &str = "\
 call,0,,
 call,0,,
@@ -110,8 +104,8 @@ end,17,,
 ";
 
 /// The race, what the check finds in its record and in which turn, and changes of the report: what
-/// stands there, and what is put in its place. A line that begins with `#` is a remark; a blank one in
-/// a report is none.
+/// stands there, and what is put in its place. A line that begins with `#` is a remark; a blank one
+/// in a report is none.
 const CHANGED: &str = "\
 # The record as it is.
 gets;right;
@@ -218,50 +212,59 @@ reads;Reply(722);reply,1,0,439,624,621,pairs 5 50 7 70 8 80 9 91;;end,773,14,10,
 reads;Entry(622);log,9,622,s9,0,8,;;end,773,14,10,,,;end,773,14,9,,,
 ";
 
-/// The report of the race of this name.
-fn report_of(alloc: Global, race: &str) -> Result<String, Fail> {
-    let (script, schedule) = match race {
-        "gets" => GETS,
-        "deletes" => DELETES,
-        _ => READS,
-    };
-    let record = played(alloc, script, schedule)?;
-    let mut to = Metered::new(Vec::new(alloc));
-    write_record(alloc, &record, &mut to)?;
-    Ok(String::from_utf8(to.inner).map_err(|_| "no text")?)
+/// The script and the schedule of the race of this name.
+fn race_of(name: &str) -> (&'static str, &'static str) {
+    match name {
+        "gets" => (GETS_SCRIPT, GETS_SCHEDULE),
+        "deletes" => (DELETES_SCRIPT, DELETES_SCHEDULE),
+        _ => (READS_SCRIPT, READS_SCHEDULE),
+    }
 }
 
-/// The text with these changes.
-fn changed(alloc: Global, mut text: String, changes: &str) -> Result<String, Fail> {
+/// The report of the race of this name, with these changes.
+fn report_with(alloc: Global, race: &str, changes: &str) -> Result<String, Fail> {
+    let (script, schedule) = race_of(race);
+    let mut text = report_of(alloc, &played(alloc, Mode::Tree, script, schedule)?)?;
     let mut parts = changes.split(';');
     while let (Some(old), Some(new)) = (parts.next(), parts.next()) {
-        let (front, back) = text.as_str().split_once(old).ok_or("no such row")?;
-        text = format!(in alloc; "{front}{new}{back}")?;
+        text = replaced(alloc, text.as_str(), old, new)?;
     }
     Ok(text)
 }
 
-/// What the check finds in a report.
-fn found(alloc: Global, report: &str) -> Result<String, Fail> {
-    let record = read_record(alloc, &mut Metered::new(report.as_bytes()))?;
-    Ok(match check(alloc, &record) {
-        Ok(()) => String::from_str(alloc, "right")?,
-        Err(wrong) => format!(in alloc; "{wrong:?}")?,
-    })
+/// The text with the first of these put otherwise, which it has.
+fn replaced(alloc: Global, text: &str, old: &str, new: &str) -> Result<String, Fail> {
+    match text.split_once(old) {
+        Some((front, back)) => Ok(format!(in alloc; "{front}{new}{back}")?),
+        None => Err("no such row".into()),
+    }
+}
+
+/// What was found, as a text.
+fn text_of(alloc: Global, found: Result<(), Wrong>) -> Result<String, AllocError> {
+    match found {
+        Ok(()) => format!(in alloc; "right"),
+        Err(wrong) => format!(in alloc; "{wrong:?}"),
+    }
+}
+
+/// Whether the check finds in a changed report what its line says.
+fn is_found(alloc: Global, line: &str) -> Result<bool, Fail> {
+    let mut parts = line.splitn(3, ';');
+    let (Some(race), Some(wrong), Some(changes)) = (parts.next(), parts.next(), parts.next()) else {
+        return Err("no change".into());
+    };
+    let report = report_with(alloc, race, changes)?;
+    let found = check(alloc, &record_of(alloc, report.as_str())?);
+    Ok(text_of(alloc, found)?.as_str() == wrong)
 }
 
 #[test]
 fn changed_records_are_found(rt: HostRuntime) -> Result<(), Fail> {
-    let alloc = rt.alloc();
     for line in CHANGED.lines() {
-        if line.starts_with('#') {
-            continue;
+        if !line.starts_with('#') {
+            assert!(rt; is_found(rt.alloc(), line)?, "{line}");
         }
-        let (race, rest) = line.split_once(';').ok_or("no race")?;
-        let (wrong, changes) = rest.split_once(';').ok_or("no change")?;
-        let report = changed(alloc, report_of(alloc, race)?, changes)?;
-        let found = found(alloc, report.as_str())?;
-        assert_eq!(rt; found.as_str(), wrong, "{line}");
     }
     Ok(())
 }
@@ -285,13 +288,11 @@ fn change_and_look(alloc: Global, looked: u64, told: &Answer) -> Result<(), Wron
 }
 
 #[test]
-fn a_change_comes_before_looks_of_its_turn(rt: HostRuntime) {
+fn a_change_comes_before_looks_of_its_turn(rt: HostRuntime) -> Result<(), Fail> {
     let told = Answer::Map(Reply::Value(Some(50)));
-    for (looked, found) in [(6, Err(Wrong::Order(6))), (7, Ok(())), (8, Ok(()))] {
-        assert_eq!(rt;
-            change_and_look(rt.alloc(), looked, &told),
-            found,
-            "looked in turn {looked}"
-        );
+    for (looked, wanted) in [(6, "Order(6)"), (7, "right"), (8, "right")] {
+        let found = text_of(rt.alloc(), change_and_look(rt.alloc(), looked, &told))?;
+        assert!(rt; found.as_str() == wanted, "looked in turn {looked}");
     }
+    Ok(())
 }

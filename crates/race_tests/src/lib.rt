@@ -6,17 +6,11 @@ mod answered_tests;
 #[cfg(test)]
 mod call;
 #[cfg(test)]
-mod cell_race_tests;
-#[cfg(test)]
 mod change;
-#[cfg(test)]
-mod changed_tests;
 #[cfg(test)]
 mod check;
 #[cfg(test)]
 mod check_tests;
-#[cfg(test)]
-mod counts;
 #[cfg(test)]
 mod past;
 #[cfg(test)]
@@ -28,8 +22,14 @@ mod race_tests;
 #[cfg(test)]
 mod random;
 #[cfg(test)]
+mod random_races;
+#[cfg(test)]
 mod replay;
 #[cfg(test)]
 mod sweep_tests;
+#[cfg(test)]
+mod sweeps;
+#[cfg(test)]
+mod told;
 #[cfg(test)]
 mod wrong;

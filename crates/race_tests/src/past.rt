@@ -6,7 +6,7 @@ use record::Answer;
 use std::alloc::Global;
 
 /// A call that took place.
-#[derive(Clone, Copy, Debug)]
+#[derive(Clone, Copy)]
 pub(crate) struct Place<'a> {
     /// The turn.
     pub(crate) moment: u64,
@@ -92,8 +92,9 @@ impl<'a> Past<'a> {
         let mut map = PlainMap::new(self.alloc);
         for place in places.iter() {
             let told = place.call.make(&mut map)?;
-            if place.told.is_some_and(|answer| *answer != told) {
-                return Err(Wrong::Order(place.moment));
+            match place.told {
+                Some(answer) if *answer != told => return Err(Wrong::Order(place.moment)),
+                _ => {}
             }
         }
         Ok(())

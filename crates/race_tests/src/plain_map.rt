@@ -22,18 +22,22 @@ impl PlainMap {
     }
 
     pub(crate) fn get(&self, key: u64) -> Option<u128> {
-        self.pairs
-            .iter()
-            .find(|pair| pair.key == key)
-            .map(|pair| pair.value)
+        for pair in self.pairs.iter() {
+            if pair.key == key {
+                return Some(pair.value);
+            }
+        }
+        None
     }
 
     /// The pair with the least key above this one.
     pub(crate) fn successor(&self, key: u64) -> Option<(u64, u128)> {
-        self.pairs
-            .iter()
-            .find(|pair| pair.key > key)
-            .map(|pair| (pair.key, pair.value))
+        for pair in self.pairs.iter() {
+            if pair.key > key {
+                return Some((pair.key, pair.value));
+            }
+        }
+        None
     }
 
     /// The first pairs of those with keys between these, at most so many.

@@ -1,28 +1,45 @@
-//! A script and a schedule as texts, and the record of their play.
+//! Scripts, schedules and reports as texts, and the records of their runs.
+use crate::check::check;
 use arena::Mode;
+use audit::audit;
 use player::play_by;
-use program::Fault;
 use record::Record;
+use report::{read_record, write_record};
 use script::{read_schedule, read_script};
 use std::alloc::Global;
+use std::test::Fail;
 use texts::Metered;
 
-/// A script and its schedule.
-pub(crate) type Race = (&'static str, &'static str);
-
-/// The record of a script on the tree by a schedule.
-pub(crate) fn played(alloc: Global, script: &str, schedule: &str) -> Result<Record, Fault> {
-    played_in(alloc, Mode::Tree, script, schedule)
-}
-
 /// The record of a script of a mode by a schedule.
-pub(crate) fn played_in(
+pub(crate) fn played(
     alloc: Global,
     mode: Mode,
     script: &str,
     schedule: &str,
-) -> Result<Record, Fault> {
+) -> Result<Record, Fail> {
     let script = read_script(alloc, mode, &mut Metered::new(script.as_bytes()))?;
     let schedule = read_schedule(alloc, &script, &mut Metered::new(schedule.as_bytes()))?;
     Ok(play_by(alloc, &script, &schedule)?)
+}
+
+/// The record of a report.
+pub(crate) fn record_of(alloc: Global, report: &str) -> Result<Record, Fail> {
+    Ok(read_record(alloc, &mut Metered::new(report.as_bytes()))?)
+}
+
+/// The report of a record.
+pub(crate) fn report_of(alloc: Global, record: &Record) -> Result<String, Fail> {
+    let mut to = Metered::new(Vec::new(alloc));
+    write_record(alloc, record, &mut to)?;
+    Ok(String::from_utf8(to.inner).map_err(|_| "no text")?)
+}
+
+/// Whether a record is lawful, and passes the check too, which knows calls on the tree alone.
+pub(crate) fn is_right(alloc: Global, record: &Record) -> bool {
+    audit(alloc, record).is_ok() && passes(alloc, record)
+}
+
+/// Whether a record on the tree passes the check.
+pub(crate) fn passes(alloc: Global, record: &Record) -> bool {
+    record.script.layout.mode == Mode::Records || check(alloc, record).is_ok()
 }

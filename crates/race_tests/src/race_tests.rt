@@ -1,101 +1,109 @@
-//! Random races: each record passes the check.
-ghost use Rattle.std.specs.Prelude.{◌<◌, ◌≤◌};
-
-use crate::check::check;
-use crate::counts::Counts;
-use crate::race::played;
+//! Random races: each record passes the check, and so does each changed one that the audit accepts.
+use crate::change::{change, replies};
+use crate::race::{is_right, passes};
 use crate::random::Random;
-use audit::audit;
-use std::alloc::{AllocError, Global};
+use crate::random_races::random_record;
+use crate::told::{ON_CELLS, ON_TREE, told};
+use arena::Mode;
+use audit::{AuditFault, audit};
+use judge::first_unlawful;
+use record::{Line, Record, Row};
+use std::alloc::Global;
+use std::process::Abort;
 use std::test::Fail;
 
-const SEED: u64 = 20260723;
-
-const RACES: u64 = 1000;
-
-/// A few calls of so many clients on few keys, under tight limits. Half of the values are one of two, so
-/// that a replacement finds what it expects.
-pub(crate) fn random_script(
+/// Makes random races of a mode from a seed, and so many changes of the record of each. It answers
+/// what the replies told, and how many changed records the audit has refused. Changes draw from
+/// numbers of their own, so that the races do not hang on what may be changed.
+fn race(
+    rt: &impl Abort,
     alloc: Global,
-    random: &mut Random,
-    clients: u64,
-) -> Result<String, AllocError>
-    requires { 0 < clients }
-{
-    let nodes = random.among([2, 6, 9, 40]);
-    let scx = random.among([1, 2, 5, 20]);
-    let tries = random.among([1, 1, 2, 3]);
-    let mut text = format!(in alloc; "limits,{clients},{nodes},{scx},{tries}\n")?;
-    let (calls, keys) = (2 + random.below(15), 1 + random.below(6));
-    for value in 1..=calls {
-        let (client, key) = (random.below(clients), random.below(keys));
-        let (other, most) = (random.below(keys), random.below(4));
-        let (expected, few) = (random.below(2), random.below(2));
-        let value = random.among([value, value, expected, few]);
-        let row = match random.below(13) {
-            0 => format!(in alloc; "{client},get,{key},,\n")?,
-            1 | 2 => format!(in alloc; "{client},delete,{key},,\n")?,
-            3 | 4 => format!(in alloc; "{client},successor,{key},,\n")?,
-            5 => format!(in alloc; "{client},range,{key},{other},{most}\n")?,
-            6 => format!(in alloc; "{client},range,0,9,64\n")?,
-            7 => format!(in alloc; "{client},pop_first,,,\n")?,
-            8 | 9 => format!(in alloc; "{client},replace_if,{key},{few},{value}\n")?,
-            _ => format!(in alloc; "{client},insert,{key},{value},\n")?,
-        };
-        text.push_str(row.as_str())?;
+    mode: Mode,
+    (seed, races, changes): (u64, u64, u64),
+) -> Result<(u64, u64), Fail> {
+    let (mut random, mut other) = (Random::new(seed), Random::new(seed));
+    let replies = replies(alloc)?;
+    let (mut seen, mut refused) = (0, 0u64);
+    for race in 0..races {
+        let record = random_record(alloc, mode, &mut random)?;
+        assert!(rt; is_right(alloc, &record), "race {race}");
+        seen |= told(&record);
+        for _ in 0..changes {
+            let is_refused = is_change_refused(
+                rt,
+                alloc,
+                &mut other,
+                (race, &record, replies.as_slice()),
+            )?;
+            refused = refused.saturating_add(u64::from(is_refused));
+        }
     }
-    text.push_str(format!(in alloc; "end,{calls},,,\n")?.as_str())?;
-    Ok(text)
+    Ok((seen, refused))
 }
 
-/// Turns of these clients, long ones or short ones. After half of the schedules no call is left.
-pub(crate) fn random_schedule(
+/// Whether the audit refuses a record with a random change. Where it does not, two others accept it
+/// too.
+fn is_change_refused(
+    rt: &impl Abort,
     alloc: Global,
     random: &mut Random,
-    clients: u64,
-) -> Result<String, AllocError>
-    requires some { 0 < clients }
-    requires few { clients ≤ 4 }
-{
-    let mut text = String::new(alloc);
-    let (rows, most) = (1 + random.below(60), 1 + random.below(60));
-    for _ in 0..rows {
-        let (client, turns) = (random.below(clients), 1 + random.below(most));
-        text.push_str(format!(in alloc; "step,{client},,{turns}\n")?.as_str())?;
+    (race, record, replies): (u64, &Record, &[Line]),
+) -> Result<bool, Fail> {
+    let other = changed(alloc, random, record, replies)?;
+    match audit(alloc, &other) {
+        Ok(()) => assert!(rt; is_accepted(alloc, &other)?, "race {race}"),
+        Err(AuditFault::NotLawful { row: _ }) => return Ok(true),
+        Err(AuditFault::NoMemory) => return Err("no memory".into()),
     }
-    let finished = if random.below(2) == 0 { 0 } else { clients };
-    for client in 0..finished {
-        text.push_str(format!(in alloc; "finish,{client},,\n")?.as_str())?;
-    }
-    let rows = rows + finished;
-    text.push_str(format!(in alloc; "end,{rows},,\n")?.as_str())?;
-    Ok(text)
+    Ok(false)
 }
 
-/// Among the answers are all kinds, of each edit but insert, of ordered reads and of other calls, so
-/// that each was checked.
+/// A record with a random change.
+fn changed(
+    alloc: Global,
+    random: &mut Random,
+    record: &Record,
+    replies: &[Line],
+) -> Result<Record, Fail> {
+    let mut other = record.clone()?;
+    change(random, &mut other.lines, replies)?;
+    Ok(other)
+}
+
+/// Whether two others accept a record: the check by means of its own, and the judge of rows.
+fn is_accepted(alloc: Global, record: &Record) -> Result<bool, Fail> {
+    let mut rows = Vec::new(alloc);
+    for line in record.lines.iter() {
+        if let Line::Step(Row::Step { number: _, row }) = line {
+            rows.push(*row)?;
+        }
+    }
+    let unlawful = first_unlawful(alloc, &record.script.layout, rows.as_slice())?;
+    Ok(unlawful.is_none() && passes(alloc, record))
+}
+
+/// Among the answers are all kinds, of each edit but insert, of ordered reads and of other calls,
+/// so that each was checked.
 #[test]
 fn random_races_pass(rt: HostRuntime) -> Result<(), Fail> {
-    let alloc = rt.alloc();
-    let mut random = Random::new(SEED);
-    let mut counts = Counts::default();
-    for race in 0..RACES {
-        let clients = 1 + random.below(4);
-        let script = random_script(alloc, &mut random, clients)?;
-        let schedule = random_schedule(alloc, &mut random, clients)?;
-        let record = played(alloc, script.as_str(), schedule.as_str())?;
-        assert_eq!(rt;
-            check(alloc, &record),
-            Ok(()),
-            "race {race}:\n{script}{schedule}"
-        );
-        assert_eq!(rt;
-            audit(alloc, &record),
-            Ok(()),
-            "race {race}:\n{script}{schedule}"
-        );
-        counts.count(&record);
-    }
-    assert!(rt; counts.each_occurred(), "{counts:?}");
+    let (told, _) = race(&rt, rt.alloc(), Mode::Tree, (20260723, 1000, 0))?;
+    assert!(rt; told & ON_TREE == ON_TREE, "{told}");
+    Ok(())
+}
+
+#[test]
+fn changes_are_found(rt: HostRuntime) -> Result<(), Fail> {
+    let (_, refused) = race(&rt, rt.alloc(), Mode::Tree, (20261124, 30, 100))?;
+    assert!(rt; refused > 1000, "{refused}");
+    Ok(())
+}
+
+#[test]
+fn races_on_cells_are_lawful(rt: HostRuntime) -> Result<(), Fail> {
+    let (told, refused) = race(&rt, rt.alloc(), Mode::Records, (20261125, 150, 20))?;
+    assert!(rt;
+        told & ON_CELLS == ON_CELLS && refused > 1000,
+        "{told} {refused}"
+    );
     Ok(())
 }

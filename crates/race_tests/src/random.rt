@@ -2,7 +2,7 @@
 ghost use Rattle.std.specs.Prelude.{◌<◌};
 
 /// Marsaglia's xorshift of 64 bits: the same numbers of the same seed, which is not 0.
-#[derive(Clone, Copy, Debug)]
+#[derive(Clone, Copy)]
 pub(crate) struct Random(u64);
 
 impl Random {

@@ -1,32 +1,18 @@
-//! Races in which a client stops after each of its steps in turn.
-use crate::answered_tests::counts;
-use crate::check::check;
-use crate::race::played_in;
+//! Sweeps over schedules: a client stops after each of its steps in turn.
+use crate::sweeps::{Race, Wanted, sweep};
 use arena::Mode;
-use audit::audit;
-use record::Record;
 use std::alloc::Global;
 use std::process::Abort;
 use std::test::Fail;
 
-/// A script of two clients, of which client 0 stops. By itself a client makes 48 steps for a key that
-/// comes into the empty map, 50 for another value of it, 74 to take it out again, by its name or as
-/// the first; 51 for a second key, 57 for another value of the greater of two, 26 for a range of both,
-/// 20 for the successor of one below both. On cells 7 for a snapshot, 22 for an SCX over two nodes with one
-/// to finalize, and 5 to find that one finalized.
-#[derive(Clone, Copy, Debug)]
-struct Race {
-    mode: Mode,
-    script: &'static str,
-    /// The orders that come first.
-    before: &'static str,
-    /// How many steps it makes before it stops, at the least and at the most.
-    first: u64,
-    last: u64,
-}
+// By itself a client makes 48 steps for a key that comes into the empty map, 50 for another value
+// of it, 74 to take it out again, by its name or as the first; 51 for a second key, 57 for another
+// value of the greater of two, 26 for a range of both, 20 for the successor of one below both. On
+// cells 7 for a snapshot, 22 for an SCX over two nodes with one to finalize, and 5 to find that one
+// finalized.
 
 /// Client 0 gives a key three values, client 1 a fourth.
-const INSERTS: Race = Race {
+const INSERTS: Race<'static> = Race {
     mode: Mode::Tree,
     script: "\
 limits,2,20,20,3
@@ -42,7 +28,7 @@ end,4,,,
 };
 
 /// Each brings a key into the empty map.
-const TWO_KEYS: Race = Race {
+const TWO_KEYS: Race<'static> = Race {
     mode: Mode::Tree,
     script: "\
 limits,2,20,20,3
@@ -56,7 +42,7 @@ end,2,,,
 };
 
 /// Client 0 takes its key out again, client 1 brings in another one.
-const DELETE_AND_INSERT: Race = Race {
+const DELETE_AND_INSERT: Race<'static> = Race {
     mode: Mode::Tree,
     script: "\
 limits,2,20,20,3
@@ -71,7 +57,7 @@ end,3,,,
 };
 
 /// Both take client 0's key out.
-const DELETES: Race = Race {
+const DELETES: Race<'static> = Race {
     mode: Mode::Tree,
     script: "\
 limits,2,20,20,2
@@ -87,7 +73,7 @@ end,3,,,
 
 /// Client 0 reads in order, and gives a key a new value; client 1 takes one of the keys out that
 /// client 0 has brought in, gives the other a new value, and reads in order too.
-const READS: Race = Race {
+const READS: Race<'static> = Race {
     mode: Mode::Tree,
     script: "\
 limits,2,20,20,2
@@ -107,7 +93,7 @@ end,8,,,
 };
 
 /// Both take the first pair out, client 1 a second one if there is one.
-const POPS: Race = Race {
+const POPS: Race<'static> = Race {
     mode: Mode::Tree,
     script: "\
 limits,2,20,20,2
@@ -124,7 +110,7 @@ end,5,,,
 };
 
 /// Both replace one value, client 1 the one that client 0 brings in too.
-const REPLACEMENTS: Race = Race {
+const REPLACEMENTS: Race<'static> = Race {
     mode: Mode::Tree,
     script: "\
 limits,2,20,20,2
@@ -140,7 +126,7 @@ end,4,,,
 };
 
 /// Client 0 finalizes the cell of which client 1 has a snapshot, and client 1 wants to change it.
-const FINALIZED: Race = Race {
+const FINALIZED: Race<'static> = Race {
     mode: Mode::Records,
     script: "\
 limits,2,10,10,1
@@ -157,7 +143,7 @@ end,6,,,
     last: 7 + 7 + 22 + 5,
 };
 
-const RACES: [Race; 8] = [
+const RACES: [Race<'static>; 8] = [
     INSERTS,
     TWO_KEYS,
     DELETE_AND_INSERT,
@@ -168,53 +154,17 @@ const RACES: [Race; 8] = [
     FINALIZED,
 ];
 
-/// The record of a race in which client 0 stops after so many steps, and then come these orders.
-fn stopped_after(alloc: Global, race: Race, steps: u64, then: &str) -> Result<Record, Fail> {
-    let before = race.before;
-    let mut schedule = format!(in alloc; "{before}step,0,,{steps}\n{then}")?;
-    let orders = count_lines(schedule.as_str());
-    schedule.push_str(format!(in alloc; "end,{orders},,\n")?.as_str())?;
-    Ok(played_in(alloc, race.mode, race.script, schedule.as_str())?)
-}
-
-fn count_lines(text: &str) -> usize {
-    text.bytes().filter(|byte| *byte == b'\n').count()
-}
-
-/// The record is lawful, and passes the check too, which knows calls on the tree alone.
-fn is_right(alloc: Global, race: Race, record: &Record) -> bool {
-    let is_checked = race.mode == Mode::Records || check(alloc, record).is_ok();
-    is_checked && audit(alloc, record).is_ok()
-}
-
-/// All calls are answered, and none is refused.
-fn are_all_answered(record: &Record) -> bool {
-    let (answers, refusals, _) = counts(record);
-    answers == record.script.calls.len() && refusals == 0
-}
-
-/// Client 0 stops after each of its steps in turn: each record is right, and where that is wanted
-/// all calls are answered.
-fn sweep(
-    rt: &impl Abort,
-    alloc: Global,
-    race: Race,
-    then: &str,
-    answered: bool,
-) -> Result<(), Fail> {
-    for steps in race.first..=race.last {
-        let record = stopped_after(alloc, race, steps, then)?;
-        let is_right = is_right(alloc, race, &record) && (!answered || are_all_answered(&record));
-        assert!(rt; is_right, "{race:?}\n{then} after {steps} steps");
-    }
-    Ok(())
-}
-
 #[test]
 fn a_stopped_client_is_left_or_goes_on(rt: HostRuntime) -> Result<(), Fail> {
-    for race in RACES {
-        sweep(&rt, rt.alloc(), race, "finish,1,,\n", false)?;
-        sweep(&rt, rt.alloc(), race, "finish,1,,\nfinish,0,,\n", true)?;
+    for race in &RACES {
+        sweep(&rt, rt.alloc(), race, "finish,1,,\n", Wanted::Right)?;
+        sweep(
+            &rt,
+            rt.alloc(),
+            race,
+            "finish,1,,\nfinish,0,,\n",
+            Wanted::Answered,
+        )?;
     }
     Ok(())
 }
@@ -223,50 +173,53 @@ fn a_stopped_client_is_left_or_goes_on(rt: HostRuntime) -> Result<(), Fail> {
 fn sweep_of_both(
     rt: &impl Abort,
     alloc: Global,
-    race: Race,
+    race: &Race,
     steps: u64,
-    answered: bool,
+    wanted: Wanted,
 ) -> Result<(), Fail> {
     let then = format!(in alloc; "step,1,,{steps}\nfinish,0,,\nfinish,1,,\n")?;
-    sweep(rt, alloc, race, then.as_str(), answered)
+    sweep(rt, alloc, race, then.as_str(), wanted)
 }
 
 /// The other one stops too. Of inserts: behind its walk, in its look at the node above, just before
 /// the update that it helps to make, behind that, and just before its own. Of a delete that is
-/// helped, or beaten: it is made in the 32nd step of the insert that helps it, which makes its own in
-/// the 82nd, and in the 34th of a delete; the delete that beats makes its own in the 73rd. A pop does
-/// as a delete, a replacement as an insert of a present key. With two tries both may be lost.
+/// helped, or beaten: it is made in the 32nd step of the insert that helps it, which makes its own
+/// in the 82nd, and in the 34th of a delete; the delete that beats makes its own in the 73rd. A pop
+/// does as a delete, a replacement as an insert of a present key. With two tries both may be lost.
+const STOPS: [(Race<'static>, [u64; 5]); 5] = [
+    (INSERTS, [9, 14, 25, 28, 48]),
+    (DELETE_AND_INSERT, [7, 13, 31, 32, 81]),
+    (DELETES, [9, 14, 33, 34, 72]),
+    (POPS, [9, 14, 33, 34, 72]),
+    (REPLACEMENTS, [9, 14, 25, 28, 48]),
+];
+
 #[test]
 fn each_of_two_stops(rt: HostRuntime) -> Result<(), Fail> {
-    let stops = [
-        (INSERTS, [9, 14, 25, 28, 48]),
-        (DELETE_AND_INSERT, [7, 13, 31, 32, 81]),
-        (DELETES, [9, 14, 33, 34, 72]),
-        (POPS, [9, 14, 33, 34, 72]),
-        (REPLACEMENTS, [9, 14, 25, 28, 48]),
-    ];
-    for (race, places) in stops {
+    for (race, places) in &STOPS {
         for steps in places {
-            sweep_of_both(&rt, rt.alloc(), race, steps, false)?;
+            sweep_of_both(&rt, rt.alloc(), race, *steps, Wanted::Right)?;
         }
     }
     Ok(())
 }
 
+/// Client 0 stops with its second insert between the first freeze and the commit, so that client 1
+/// helps.
+const HELPED: Race<'static> = Race {
+    first: 89,
+    last: 97,
+    ..INSERTS
+};
+
 /// An insert of client 1 that helps makes no more steps.
 const HELPER_STEPS: u64 = 79;
 
-/// Client 0 stops with its second insert between the first freeze and the commit, so that client 1
-/// helps. It stops after each of its steps in turn.
+/// The helper stops after each of its steps in turn.
 #[test]
 fn a_helper_that_stops_goes_on(rt: HostRuntime) -> Result<(), Fail> {
-    let race = Race {
-        first: 89,
-        last: 97,
-        ..INSERTS
-    };
     for steps in 1..=HELPER_STEPS {
-        sweep_of_both(&rt, rt.alloc(), race, steps, true)?;
+        sweep_of_both(&rt, rt.alloc(), &HELPED, steps, Wanted::Answered)?;
     }
     Ok(())
 }

@@ -3,7 +3,7 @@ use arena::NoMemory;
 use std::alloc::{AllocError, AllocFailed};
 
 /// The first thing that is wrong with a record, and the number of the turn where that is.
-#[derive(Clone, Copy, Debug, PartialEq, Eq)]
+#[derive(Clone, Copy, Debug)]
 pub(crate) enum Wrong {
     /// Nothing is known of the record: a growth was refused.
     NoMemory,

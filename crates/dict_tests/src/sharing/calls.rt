@@ -1,15 +1,15 @@
-//! Calls by two passes.
-ghost use Rattle.forest.specs.Passes.{IsOf};
-
-use super::answers::{delete, get, insert, meet, pop_first, range, replace_if, successor};
+//! Calls by passes that take turns.
+use super::call::Call::{Delete, Get, Insert, PopFirst, Range, ReplaceIf, Successor};
+use super::call::meet;
+use super::rows::Says::{Pair, Pairs, Value};
+use super::rows::{Row, make_all};
 use super::{end_two, opened};
-use crate::same::{has, same};
-use dict::{Dict, Name8};
-use forest::{Forest, Pass, UpdateFault};
+use crate::same::has;
+use dict::{Name8, WordKey, WordValue};
+use std::alloc::Global;
+use std::fmt::Debug;
+use std::process::Abort;
 use std::test::Fail;
-
-/// A dictionary of names and numbers.
-type Names = Dict<Name8, u32>;
 
 /// The names of the test: two keys, and the bounds of a range of all names of small letters.
 fn names() -> Option<[Name8; 4]> {
@@ -21,75 +21,118 @@ fn names() -> Option<[Name8; 4]> {
     ])
 }
 
-/// Sets the number of a name, and tells what it was; where that is refused, what it is.
-fn raise(board: &Forest<Names>, pass: &mut Pass<Names>, name: Name8, score: u32) -> Option<u32>
-    requires pass { IsOf board.now pass.old }
-    ensures { IsOf board.now pass.new }
-{
-    match insert(board, pass, name, score) {
-        Ok(old) => old,
-        Err(UpdateFault::Contended { .. } | UpdateFault::Full(_)) => get(board, pass, name),
-    }
-}
-
 #[test]
 fn two_passes_have_one_map(rt: HostRuntime) -> Result<(), Fail> {
-    let (forest, mut first, mut second) = opened::<Name8, u32>(rt.alloc())?;
+    let alloc = rt.alloc();
+    let (forest, mut first, mut second) = opened::<Name8, u32>(alloc)?;
     let [ab, b, low, high] = names().ok_or("no names")?;
-    same(&rt, insert(&forest, &mut first, b, 2), Ok(None));
-    same(&rt, raise(&forest, &mut second, ab, 1), None);
+    let begins: [Row<Name8, u32>; 1] = [(Insert(b, 2), Value(None), (17, 19))];
+    make_all(&rt, alloc, &forest, &mut first, &begins);
+    let goes_on: [Row<Name8, u32>; 2] = [
+        (Insert(ab, 1), Value(None), (19, 19)),
+        (Get(b), Value(Some(2)), (19, 19)),
+    ];
+    make_all(&rt, alloc, &forest, &mut second, &goes_on);
     meet(&forest, &mut first, &mut second);
-    let next = successor(rt.alloc(), &forest, &mut second, ab);
-    same(&rt, next, Ok(Some((b, 2))));
-    let all = range(rt.alloc(), &forest, &mut first, low, high);
-    assert!(rt; has(&all, &[(ab, 1), (b, 2)]));
-    same(&rt, delete(&forest, &mut first, b), Ok(Some(2)));
-    same(&rt, get(&forest, &mut first, b), None);
-    same(&rt, get(&forest, &mut first, ab), Some(1));
-    same(&rt, [first.left(), second.left()], [(16, 18), (19, 19)]);
-    let left = end_two(rt.alloc(), forest, first, second)?;
+    let looks: [Row<Name8, u32>; 1] = [(Successor(ab), Pair(Some((b, 2))), (19, 19))];
+    make_all(&rt, alloc, &forest, &mut second, &looks);
+    let ends: [Row<Name8, u32>; 4] = [
+        (Range(low, high, 64), Pairs(&[(ab, 1), (b, 2)]), (17, 19)),
+        (Delete(b), Value(Some(2)), (16, 18)),
+        (Get(b), Value(None), (16, 18)),
+        (Get(ab), Value(Some(1)), (16, 18)),
+    ];
+    make_all(&rt, alloc, &forest, &mut first, &ends);
+    let left = end_two(alloc, forest, first, second)?;
     assert!(rt; has(&left, &[(ab, 1)]));
+    Ok(())
+}
+
+/// A pass makes the calls of these rows, and these pairs are left.
+fn alone<K: WordKey + Debug, V: WordValue + PartialEq + Debug>(
+    rt: &impl Abort,
+    alloc: Global,
+    rows: &[Row<'_, K, V>],
+    pairs: &[(K, V)],
+) -> Result<(), Fail> {
+    let (forest, mut first, second) = opened::<K, V>(alloc)?;
+    make_all(rt, alloc, &forest, &mut first, rows);
+    let left = end_two(alloc, forest, first, second)?;
+    assert!(rt; has(&left, pairs));
     Ok(())
 }
 
 /// A leaf has room for four pairs: three nodes for the first key, one for each of three more, and
 /// three for the fifth, which makes two leaves and a fork of one.
+const FIVE_KEYS: [Row<'static, u64, u64>; 5] = [
+    (Insert(4, 40), Value(None), (17, 19)),
+    (Insert(2, 20), Value(None), (16, 18)),
+    (Insert(5, 50), Value(None), (15, 17)),
+    (Insert(1, 10), Value(None), (14, 16)),
+    (Insert(3, 30), Value(None), (11, 15)),
+];
+
 #[test]
 fn a_fifth_key_parts_a_leaf(rt: HostRuntime) -> Result<(), Fail> {
-    let (forest, mut first, second) = opened::<u64, u64>(rt.alloc())?;
-    same(&rt, insert(&forest, &mut first, 4, 40), Ok(None));
-    same(&rt, insert(&forest, &mut first, 2, 20), Ok(None));
-    same(&rt, insert(&forest, &mut first, 5, 50), Ok(None));
-    same(&rt, insert(&forest, &mut first, 1, 10), Ok(None));
-    same(&rt, first.left(), (14, 16));
-    same(&rt, insert(&forest, &mut first, 3, 30), Ok(None));
-    same(&rt, first.left(), (11, 15));
-    let left = end_two(rt.alloc(), forest, first, second)?;
-    assert!(rt; has(&left, &[(1, 10), (2, 20), (3, 30), (4, 40), (5, 50)]));
-    Ok(())
+    let pairs = [(1, 10), (2, 20), (3, 30), (4, 40), (5, 50)];
+    alone(&rt, rt.alloc(), &FIVE_KEYS, &pairs)
 }
 
-/// Values beside 2^64 and at both ends, which differ in one of their two words alone.
+/// Beside each other, and different in both words.
+const BELOW: u128 = 18446744073709551615;
+
+const ABOVE: u128 = 18446744073709551616;
+
+/// They differ in the high word alone, which is 0, 1 and 2.
+const NONE: u128 = 5;
+
+const ONE: u128 = 18446744073709551621;
+
+const TWO: u128 = 36893488147419103237;
+
+/// It differs from `ONE` in the low word alone.
+const NEXT: u128 = 18446744073709551622;
+
+/// What is expected is told apart from what is there by each of the two words.
+const TWO_WORDS: [Row<'static, u64, u128>; 30] = [
+    (Insert(1, ABOVE), Value(None), (17, 19)),
+    (Insert(2, u128::MAX), Value(None), (16, 18)),
+    (Get(1), Value(Some(ABOVE)), (16, 18)),
+    (ReplaceIf(1, 0, NONE), Value(Some(ABOVE)), (16, 18)),
+    (ReplaceIf(1, ABOVE, BELOW), Value(Some(ABOVE)), (15, 17)),
+    (Get(1), Value(Some(BELOW)), (15, 17)),
+    (Insert(3, NONE), Value(None), (14, 16)),
+    (Insert(3, ONE), Value(Some(NONE)), (13, 15)),
+    (Get(3), Value(Some(ONE)), (13, 15)),
+    (ReplaceIf(3, NONE, 6), Value(Some(ONE)), (13, 15)),
+    (ReplaceIf(3, TWO, 6), Value(Some(ONE)), (13, 15)),
+    (ReplaceIf(3, NEXT, 6), Value(Some(ONE)), (13, 15)),
+    (Get(3), Value(Some(ONE)), (13, 15)),
+    (ReplaceIf(3, ONE, NONE), Value(Some(ONE)), (12, 14)),
+    (ReplaceIf(3, ONE, 6), Value(Some(NONE)), (12, 14)),
+    (Get(3), Value(Some(NONE)), (12, 14)),
+    (ReplaceIf(3, NONE, TWO), Value(Some(NONE)), (11, 13)),
+    (Insert(4, NONE), Value(None), (10, 12)),
+    (Successor(2), Pair(Some((3, TWO))), (10, 12)),
+    (Successor(3), Pair(Some((4, NONE))), (10, 12)),
+    (
+        Range(2, 4, 64),
+        Pairs(&[(2, u128::MAX), (3, TWO), (4, NONE)]),
+        (10, 12),
+    ),
+    (Delete(3), Value(Some(TWO)), (9, 11)),
+    (Delete(4), Value(Some(NONE)), (8, 10)),
+    (PopFirst, Pair(Some((1, BELOW))), (7, 9)),
+    (Insert(1, ONE), Value(None), (6, 8)),
+    (PopFirst, Pair(Some((1, ONE))), (5, 7)),
+    (Insert(1, NONE), Value(None), (4, 6)),
+    (PopFirst, Pair(Some((1, NONE))), (3, 5)),
+    (Insert(3, ONE), Value(None), (2, 4)),
+    (Insert(4, NONE), Value(None), (1, 3)),
+];
+
 #[test]
 fn values_have_two_words(rt: HostRuntime) -> Result<(), Fail> {
-    let (forest, mut first, second) = opened::<u64, u128>(rt.alloc())?;
-    let (below, above) = (18446744073709551615, 18446744073709551616);
-    same(&rt, insert(&forest, &mut first, 1, above), Ok(None));
-    same(&rt, insert(&forest, &mut first, 2, u128::MAX), Ok(None));
-    same(&rt, get(&forest, &mut first, 1), Some(above));
-    same(
-        &rt,
-        replace_if(&forest, &mut first, 1, 0, 5),
-        Ok(Some(above)),
-    );
-    same(
-        &rt,
-        replace_if(&forest, &mut first, 1, above, below),
-        Ok(Some(above)),
-    );
-    same(&rt, get(&forest, &mut first, 1), Some(below));
-    same(&rt, pop_first(&forest, &mut first), Ok(Some((1, below))));
-    let left = end_two(rt.alloc(), forest, first, second)?;
-    assert!(rt; has(&left, &[(2, u128::MAX)]));
-    Ok(())
+    let pairs = [(2, u128::MAX), (3, ONE), (4, NONE)];
+    alone(&rt, rt.alloc(), &TWO_WORDS, &pairs)
 }

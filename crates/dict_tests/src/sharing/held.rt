@@ -2,17 +2,21 @@
 ghost use Rattle.std.specs.Prelude.{◌≡◌, true, false, IfOk};
 ghost use Rattle.forest.specs.Passes.{IsOf};
 
-use super::answers::{delete, get, insert, pop_first, range, replace_if, successor};
+use super::call::Call;
+use super::call::Call::{Delete, Get, Insert, PopFirst, Range, ReplaceIf, Successor};
+use super::rows::Says::{Pair, Pairs, Value};
+use super::rows::{Row, Told, make_all};
 use super::{end_two, opened};
 use crate::same::{has, same};
 use arena::Kind;
 use arena::Kind::{
-    Abort, Commit, Fill, Freeze, LoadAllFrozen, LoadChild, LoadInfo, LoadMarked, LoadSettled,
-    LoadState, Mark, SetFrozen, Update,
+    Abort as GiveUp, Commit, Fill, Freeze, LoadAllFrozen, LoadChild, LoadInfo, LoadMarked,
+    LoadSettled, LoadState, Mark, SetFrozen, Update,
 };
-use dict::{Dict, Reply, Request};
+use dict::{Dict, Reply};
 use forest::{Forest, OpenCall, Pass, Stepped};
 use std::alloc::{AllocError, Global};
+use std::process::Abort;
 use std::test::Fail;
 
 /// A dictionary of numbers.
@@ -21,14 +25,22 @@ pub(super) type Numbers = Dict<u64, u64>;
 /// A call of it that is held open.
 pub(super) type Held = OpenCall<u64, u64>;
 
+/// The walk to the only leaf.
+const WALK: &[Kind] = &[LoadSettled, LoadChild, LoadSettled];
+
 /// LLX of two nodes.
-const LOOKS: [Kind; 14] = [
+const LOOKS: &[Kind] = &[
     LoadMarked, LoadInfo, LoadState, LoadMarked, LoadChild, LoadChild, LoadInfo, LoadMarked,
     LoadInfo, LoadState, LoadMarked, LoadChild, LoadChild, LoadInfo,
 ];
 
-/// The fills of an SCX-record over two nodes, and the SCX, which finalizes one of them.
-const PUT: [Kind; 21] = [
+/// The fills of the nodes of the first key, and of a leaf of two pairs.
+const NODES: &[Kind] = &[Fill; 10];
+
+const LEAF: &[Kind] = &[Fill; 6];
+
+/// The fills of an SCX-record over two nodes, and what comes before its first freeze.
+const READY: &[Kind] = &[
     Fill,
     Fill,
     Fill,
@@ -40,6 +52,10 @@ const PUT: [Kind; 21] = [
     LoadSettled,
     LoadSettled,
     LoadSettled,
+];
+
+/// The SCX from that freeze on, which finalizes one of the nodes.
+const PUT: &[Kind] = &[
     Freeze,
     LoadSettled,
     LoadSettled,
@@ -50,6 +66,35 @@ const PUT: [Kind; 21] = [
     LoadSettled,
     Update,
     Commit,
+];
+
+/// That freeze finds another SCX-record there.
+const LOST: &[Kind] = &[Freeze, LoadAllFrozen, GiveUp];
+
+/// The walk to the leaf of one pair below a fork, whose pair is read.
+const AGAIN: &[Kind] = &[
+    LoadSettled,
+    LoadChild,
+    LoadSettled,
+    LoadChild,
+    LoadSettled,
+    LoadSettled,
+    LoadSettled,
+];
+
+const PAIR: &[Kind] = &[LoadSettled; 3];
+
+/// A get of it.
+const READ: &[Kind] = &[
+    LoadSettled,
+    LoadChild,
+    LoadSettled,
+    LoadChild,
+    LoadSettled,
+    LoadSettled,
+    LoadSettled,
+    LoadSettled,
+    LoadSettled,
 ];
 
 /// Makes so many steps of a call, or fewer where it is over before, and notes their kinds. It tells
@@ -72,15 +117,6 @@ pub(super) fn hold(
         }
     }
     Ok(true)
-}
-
-/// Begins the insert of (5, 50).
-fn open_insert(alloc: Global, forest: &Forest<Numbers>, pass: Pass<Numbers>) -> Held
-    requires { IsOf forest.now pass }
-    ensures forest { IsOf forest.now result.began }
-    ensures goes { result.over ≡ false }
-{
-    forest.open(alloc, pass, Request::Insert { key: 5, value: 50 })
 }
 
 /// Makes so many steps of a call, behind which it goes on.
@@ -124,30 +160,6 @@ pub(super) fn rest(
     }
 }
 
-/// The value that a reply tells, if it is one of an insert, a delete or a get.
-fn value(reply: &Reply<u64, u64>) -> Option<Option<u64>> {
-    match reply {
-        Reply::Value(old) => Some(*old),
-        _ => None,
-    }
-}
-
-/// The pair that a reply tells, if there is one.
-fn pair(reply: &Reply<u64, u64>) -> Option<(u64, u64)> {
-    match reply {
-        Reply::Pair(pair) => *pair,
-        _ => None,
-    }
-}
-
-/// The pairs that a reply tells, if it is one of a range.
-fn pairs(reply: Reply<u64, u64>) -> Option<Vec<(u64, u64)>> {
-    match reply {
-        Reply::Pairs(pairs) => Some(pairs),
-        _ => None,
-    }
-}
-
 /// Whether these are the kinds of the parts, one part behind the other.
 fn are(kinds: &[Kind], parts: &[&[Kind]]) -> bool {
     let mut left = kinds;
@@ -160,226 +172,180 @@ fn are(kinds: &[Kind], parts: &[&[Kind]]) -> bool {
     left.is_empty()
 }
 
-#[test]
-fn an_insert_that_is_held_is_helped(rt: HostRuntime) -> Result<(), Fail> {
-    let (forest, first, mut second) = opened::<u64, u64>(rt.alloc())?;
-    let mut kinds = Vec::new(rt.alloc());
-    let call = open_insert(rt.alloc(), &forest, first);
-    // Up to its first freeze.
-    let call = held(&forest, call, 39, &mut kinds)?;
-    same(&rt, kinds.last().copied(), Some(Freeze));
-    same(&rt, get(&forest, &mut second, 5), None);
-    same(&rt, insert(&forest, &mut second, 7, 70), Ok(None));
-    same(&rt, get(&forest, &mut second, 5), Some(50));
-    let (first, reply) = rest(&forest, call, &mut kinds)?;
-    same(&rt, value(&reply), Some(None));
-    let walk = [LoadSettled, LoadChild, LoadSettled];
-    assert!(rt; are(&kinds, &[&walk, &LOOKS, &[Fill; 10], &PUT]));
-    same(&rt, [first.left(), second.left()], [(17, 19), (19, 19)]);
-    let left = end_two(rt.alloc(), forest, first, second)?;
-    assert!(rt; has(&left, &[(5, 50), (7, 70)]));
-    Ok(())
+/// A call that the first pass holds open, while the second makes calls.
+#[derive(Clone, Copy)]
+struct Case {
+    /// What the second does before.
+    before: &'static [Row<'static, u64, u64>],
+    call: Call<u64, u64>,
+    /// Behind so many steps, of which the newest is of this kind, it is held.
+    steps: usize,
+    newest: Option<Kind>,
+    /// What the second does meanwhile.
+    meanwhile: &'static [Row<'static, u64, u64>],
+    /// What the call tells, and of which kinds its steps are.
+    told: Told<'static, u64, u64>,
+    kinds: Option<&'static [&'static [Kind]]>,
+    /// What the first does behind it.
+    behind: &'static [Row<'static, u64, u64>],
+    /// The shares at the end, and the pairs.
+    left: [(u32, u32); 2],
+    pairs: &'static [(u64, u64)],
 }
 
-/// A dictionary in which the second pass has put (7, 70), and the first holds an insert of (5, 50)
-/// behind its first freeze. A call of the second that comes to the frozen node has to help the
-/// insert, and so loses its first try.
-fn frozen_insert(alloc: Global) -> Result<(Forest<Numbers>, Held, Pass<Numbers>), Fail>
-    ensures held { IfOk result (λ t. IsOf t.0 t.1.began × (t.1.over ≡ false)) }
-    ensures second { IfOk result (λ t. IsOf t.0 t.2) }
-{
+/// An insert is held behind its first freeze, and the call that the second makes helps it first.
+const HELPED: Case = Case {
+    before: &[],
+    call: Insert(5, 50),
+    steps: 39,
+    newest: Some(Freeze),
+    meanwhile: &[
+        (Get(5), Value(None), (20, 20)),
+        (Insert(7, 70), Value(None), (19, 19)),
+        (Get(5), Value(Some(50)), (19, 19)),
+    ],
+    told: Value(None),
+    kinds: Some(&[WALK, LOOKS, NODES, READY, PUT]),
+    behind: &[],
+    left: [(17, 19), (19, 19)],
+    pairs: &[(5, 50), (7, 70)],
+};
+
+/// It is held just before that freeze, which then finds the SCX-record of the other insert. The pair
+/// that is there is read, and both are put into one leaf.
+const TOO_LATE: Case = Case {
+    steps: 38,
+    newest: Some(LoadSettled),
+    meanwhile: &[
+        (Insert(7, 70), Value(None), (17, 19)),
+        (Get(5), Value(None), (17, 19)),
+    ],
+    kinds: Some(&[
+        WALK, LOOKS, NODES, READY, LOST, AGAIN, LOOKS, PAIR, LEAF, READY, PUT,
+    ]),
+    left: [(16, 18), (17, 19)],
+    ..HELPED
+};
+
+/// A lesser key comes in just before the first freeze of a pop: it takes that one.
+const POP: Case = Case {
+    before: &[(Insert(7, 70), Value(None), (17, 19))],
+    call: PopFirst,
+    steps: 56,
+    newest: Some(LoadSettled),
+    meanwhile: &[(Insert(5, 50), Value(None), (16, 18))],
+    told: Pair(Some((5, 50))),
+    kinds: None,
+    left: [(18, 18), (16, 18)],
+    pairs: &[(7, 70)],
+    ..HELPED
+};
+
+/// A get has come to the leaf of 5, which the delete takes off: it reads what was.
+const GET: Case = Case {
+    before: &[(Insert(5, 50), Value(None), (17, 19))],
+    call: Get(5),
+    steps: 4,
+    newest: Some(LoadChild),
+    meanwhile: &[
+        (Delete(5), Value(Some(50)), (16, 18)),
+        (Get(5), Value(None), (16, 18)),
+    ],
+    told: Value(Some(50)),
+    kinds: Some(&[READ]),
+    behind: &[(Get(5), Value(None), (20, 20))],
+    left: [(20, 20), (16, 18)],
+    pairs: &[],
+};
+
+/// A range of no pairs makes no step.
+const NO_PAIRS: Case = Case {
+    before: &[],
+    call: Range(0, 9, 0),
+    steps: 0,
+    newest: None,
+    meanwhile: &[],
+    told: Pairs(&[]),
+    kinds: Some(&[]),
+    behind: &[],
+    left: [(20, 20), (20, 20)],
+    pairs: &[],
+};
+
+/// An insert of (5, 50) is held behind its first freeze, over the leaf of 7. A call that comes to
+/// the frozen node has to help it, and so loses its first try, which takes nothing of its share.
+const FROZEN: Case = Case {
+    before: &[(Insert(7, 70), Value(None), (17, 19))],
+    steps: 42,
+    kinds: None,
+    left: [(19, 19), (16, 18)],
+    ..HELPED
+};
+
+const DELETE: Case = Case {
+    meanwhile: &[(Delete(7), Value(Some(70)), (16, 18))],
+    pairs: &[(5, 50)],
+    ..FROZEN
+};
+
+const SECOND_POP: Case = Case {
+    meanwhile: &[(PopFirst, Pair(Some((5, 50))), (16, 18))],
+    pairs: &[(7, 70)],
+    ..FROZEN
+};
+
+const REPLACEMENT: Case = Case {
+    meanwhile: &[(ReplaceIf(7, 70, 71), Value(Some(70)), (16, 18))],
+    pairs: &[(5, 50), (7, 71)],
+    ..FROZEN
+};
+
+const SUCCESSOR: Case = Case {
+    meanwhile: &[(Successor(4), Pair(Some((5, 50))), (17, 19))],
+    left: [(19, 19), (17, 19)],
+    ..FROZEN
+};
+
+const RANGE: Case = Case {
+    meanwhile: &[(Range(0, 9, 64), Pairs(&[(5, 50), (7, 70)]), (17, 19))],
+    left: [(19, 19), (17, 19)],
+    ..FROZEN
+};
+
+/// Plays a case, up to its end.
+fn play(rt: &impl Abort, alloc: Global, case: &Case) -> Result<(), Fail> {
     let (forest, first, mut second) = opened::<u64, u64>(alloc)?;
-    if insert(&forest, &mut second, 7, 70) != Ok(None) {
-        return Err("7 has a value".into());
-    }
-    let call = open_insert(alloc, &forest, first);
+    make_all(rt, alloc, &forest, &mut second, case.before);
     let mut kinds = Vec::new(alloc);
-    let call = held(&forest, call, 42, &mut kinds)?;
-    match kinds.last() {
-        Some(Freeze) => Ok((forest, call, second)),
-        _ => Err("no freeze".into()),
-    }
-}
-
-/// Makes the rest of a held insert, which another call has helped, and ends the dictionary. It
-/// answers the pairs, if the insert has told that its key had no value.
-fn end_helped(
-    alloc: Global,
-    forest: Forest<Numbers>,
-    call: Held,
-    second: Pass<Numbers>,
-) -> Result<Option<Vec<(u64, u64)>>, AllocError>
-    requires held { IsOf forest call.began × (call.over ≡ false) }
-    requires second { IsOf forest second }
-{
-    let mut kinds = Vec::new(alloc);
-    let (first, reply) = rest(&forest, call, &mut kinds)?;
-    match value(&reply) {
-        Some(None) => end_two(alloc, forest, first, second),
-        _ => Ok(None),
-    }
-}
-
-#[test]
-fn a_delete_tries_again_behind_a_held_insert(rt: HostRuntime) -> Result<(), Fail> {
-    let (forest, call, mut second) = frozen_insert(rt.alloc())?;
-    same(&rt, delete(&forest, &mut second, 7), Ok(Some(70)));
-    same(&rt, second.left(), (16, 18));
-    let left = end_helped(rt.alloc(), forest, call, second)?;
-    assert!(rt; has(&left, &[(5, 50)]));
-    Ok(())
-}
-
-#[test]
-fn a_pop_tries_again_behind_a_held_insert(rt: HostRuntime) -> Result<(), Fail> {
-    let (forest, call, mut second) = frozen_insert(rt.alloc())?;
-    same(&rt, pop_first(&forest, &mut second), Ok(Some((5, 50))));
-    same(&rt, second.left(), (16, 18));
-    let left = end_helped(rt.alloc(), forest, call, second)?;
-    assert!(rt; has(&left, &[(7, 70)]));
-    Ok(())
-}
-
-#[test]
-fn a_replacement_tries_again_behind_a_held_insert(rt: HostRuntime) -> Result<(), Fail> {
-    let (forest, call, mut second) = frozen_insert(rt.alloc())?;
-    let old = replace_if(&forest, &mut second, 7, 70, 71);
-    same(&rt, old, Ok(Some(70)));
-    same(&rt, second.left(), (16, 18));
-    let left = end_helped(rt.alloc(), forest, call, second)?;
-    assert!(rt; has(&left, &[(5, 50), (7, 71)]));
-    Ok(())
-}
-
-#[test]
-fn a_successor_tries_again_behind_a_held_insert(rt: HostRuntime) -> Result<(), Fail> {
-    let (forest, call, mut second) = frozen_insert(rt.alloc())?;
-    let next = successor(rt.alloc(), &forest, &mut second, 4);
-    same(&rt, next, Ok(Some((5, 50))));
-    let left = end_helped(rt.alloc(), forest, call, second)?;
-    assert!(rt; has(&left, &[(5, 50), (7, 70)]));
-    Ok(())
-}
-
-#[test]
-fn a_range_tries_again_behind_a_held_insert(rt: HostRuntime) -> Result<(), Fail> {
-    let (forest, call, mut second) = frozen_insert(rt.alloc())?;
-    let found = range(rt.alloc(), &forest, &mut second, 0, 9);
-    assert!(rt; has(&found, &[(5, 50), (7, 70)]));
-    let left = end_helped(rt.alloc(), forest, call, second)?;
-    assert!(rt; has(&left, &[(5, 50), (7, 70)]));
-    Ok(())
-}
-
-#[test]
-fn an_insert_that_is_held_too_long_tries_again(rt: HostRuntime) -> Result<(), Fail> {
-    let (forest, first, mut second) = opened::<u64, u64>(rt.alloc())?;
-    let mut kinds = Vec::new(rt.alloc());
-    let call = open_insert(rt.alloc(), &forest, first);
-    // Up to just before its first freeze, which then finds the SCX-record of the other insert.
-    let call = held(&forest, call, 38, &mut kinds)?;
-    same(&rt, insert(&forest, &mut second, 7, 70), Ok(None));
-    same(&rt, get(&forest, &mut second, 5), None);
-    let (first, reply) = rest(&forest, call, &mut kinds)?;
-    same(&rt, value(&reply), Some(None));
-    let walk = [LoadSettled, LoadChild, LoadSettled];
-    let lost = [Freeze, LoadAllFrozen, Abort];
-    let again = [
-        LoadSettled,
-        LoadChild,
-        LoadSettled,
-        LoadChild,
-        LoadSettled,
-        LoadSettled,
-        LoadSettled,
-    ];
-    // The pair that is there is read, and both are put into one leaf.
-    let copy = [LoadSettled; 3];
-    assert!(rt;
-        are(
-            &kinds,
-            &[
-                &walk,
-                &LOOKS,
-                &[Fill; 10],
-                &PUT[..11],
-                &lost,
-                &again,
-                &LOOKS,
-                &copy,
-                &[Fill; 6],
-                &PUT
-            ]
-        )
-    );
-    same(&rt, [first.left(), second.left()], [(16, 18), (17, 19)]);
-    let left = end_two(rt.alloc(), forest, first, second)?;
-    assert!(rt; has(&left, &[(5, 50), (7, 70)]));
-    Ok(())
-}
-
-/// A lesser key comes in just before its first freeze: it takes that one.
-#[test]
-fn a_pop_that_is_held_takes_the_pair_that_is_first_then(rt: HostRuntime) -> Result<(), Fail> {
-    let (forest, first, mut second) = opened::<u64, u64>(rt.alloc())?;
-    let mut kinds = Vec::new(rt.alloc());
-    same(&rt, insert(&forest, &mut second, 7, 70), Ok(None));
-    let call = forest.open(rt.alloc(), first, Request::PopFirst);
-    let call = held(&forest, call, 56, &mut kinds)?;
-    same(&rt, insert(&forest, &mut second, 5, 50), Ok(None));
-    let (first, reply) = rest(&forest, call, &mut kinds)?;
-    same(&rt, pair(&reply), Some((5, 50)));
-    same(&rt, [first.left(), second.left()], [(18, 18), (16, 18)]);
-    let left = end_two(rt.alloc(), forest, first, second)?;
-    assert!(rt; has(&left, &[(7, 70)]));
-    Ok(())
-}
-
-#[test]
-fn a_get_that_is_held_reads_what_was(rt: HostRuntime) -> Result<(), Fail> {
-    let (forest, first, mut second) = opened::<u64, u64>(rt.alloc())?;
-    let mut kinds = Vec::new(rt.alloc());
-    same(&rt, insert(&forest, &mut second, 5, 50), Ok(None));
-    let call = forest.open(rt.alloc(), first, Request::Get { key: 5 });
-    // It has come to the leaf of 5, which the delete takes off.
-    let call = held(&forest, call, 4, &mut kinds)?;
-    same(&rt, delete(&forest, &mut second, 5), Ok(Some(50)));
-    same(&rt, get(&forest, &mut second, 5), None);
+    let call = forest.open(alloc, first, case.call.request());
+    let call = held(&forest, call, case.steps, &mut kinds)?;
+    same(rt, kinds.last().copied(), case.newest);
+    make_all(rt, alloc, &forest, &mut second, case.meanwhile);
     let (mut first, reply) = rest(&forest, call, &mut kinds)?;
-    same(&rt, value(&reply), Some(Some(50)));
-    let walk = [
-        LoadSettled,
-        LoadChild,
-        LoadSettled,
-        LoadChild,
-        LoadSettled,
-        LoadSettled,
-        LoadSettled,
-        LoadSettled,
-        LoadSettled,
-    ];
-    assert!(rt; are(&kinds, &[&walk]));
-    same(&rt, get(&forest, &mut first, 5), None);
-    same(&rt, [first.left(), second.left()], [(20, 20), (16, 18)]);
-    let left = end_two(rt.alloc(), forest, first, second)?;
-    assert!(rt; has(&left, &[]));
+    assert!(rt; case.told.is_of(&reply), "{reply:?}");
+    assert!(rt;
+        case.kinds.is_none_or(|parts| are(&kinds, parts)),
+        "{kinds:?}"
+    );
+    make_all(rt, alloc, &forest, &mut first, case.behind);
+    same(rt, [first.left(), second.left()], case.left);
+    let left = end_two(alloc, forest, first, second)?;
+    assert!(rt; has(&left, case.pairs), "{:?}", case.pairs);
     Ok(())
 }
 
 #[test]
-fn a_range_of_no_pairs_makes_no_step(rt: HostRuntime) -> Result<(), Fail> {
-    let (forest, first, second) = opened::<u64, u64>(rt.alloc())?;
-    let none = Request::Range {
-        low: 0,
-        high: 9,
-        most: 0,
-    };
-    let mut kinds = Vec::new(rt.alloc());
-    let call = forest.open(rt.alloc(), first, none);
-    let (first, reply) = rest(&forest, call, &mut kinds)?;
-    assert!(rt; kinds.is_empty());
-    assert!(rt; has(&pairs(reply), &[]));
-    let left = end_two(rt.alloc(), forest, first, second)?;
-    assert!(rt; has(&left, &[]));
+fn a_call_that_is_held_is_helped_or_tries_again(rt: HostRuntime) -> Result<(), Fail> {
+    for case in [HELPED, TOO_LATE, POP, GET, NO_PAIRS] {
+        play(&rt, rt.alloc(), &case)?;
+    }
+    Ok(())
+}
+
+#[test]
+fn a_call_tries_again_behind_a_held_insert(rt: HostRuntime) -> Result<(), Fail> {
+    for case in [DELETE, SECOND_POP, REPLACEMENT, SUCCESSOR, RANGE] {
+        play(&rt, rt.alloc(), &case)?;
+    }
     Ok(())
 }

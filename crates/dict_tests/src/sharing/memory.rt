@@ -3,10 +3,12 @@
 ghost use Rattle.std.specs.List.{All};
 ghost use Rattle.forest.specs.Passes.{IsOf};
 
-use super::answers::{insert, successor};
+use super::call::Call::{self, Insert, Range, Successor};
+use super::call::pairs_told;
 use super::held::Numbers;
 use super::{TRIES, closed, limits, two};
-use forest::{Forest, NewFault, OrderFault, Pass};
+use dict::Reply;
+use forest::{Forest, NewFault, Pass};
 use std::alloc::Global;
 use std::test::Fail;
 
@@ -14,12 +16,12 @@ use std::test::Fail;
 const LAST: u64 = 6;
 
 /// Puts them in, which takes no memory.
-fn put_all(forest: &Forest<Numbers>, pass: &mut Pass<Numbers>) -> bool
+fn put_all(alloc: Global, forest: &Forest<Numbers>, pass: &mut Pass<Numbers>) -> bool
     requires { IsOf forest.now pass.old }
     ensures { IsOf forest.now pass.new }
 {
     for key in 1..=LAST {
-        if insert(forest, pass, key, key) != Ok(None) {
+        if Insert(key, key).make(alloc, forest, pass) != Reply::Value(None) {
             return false;
         }
     }
@@ -33,17 +35,20 @@ fn are_all(pairs: &[(u64, u64)]) -> bool {
     many == LAST as usize && keyed.all(|(pair, key)| *pair == (key, key))
 }
 
-/// Whether a range of all has the pairs that were put in.
-fn look(
+/// Makes an ordered read, and once more where it had no memory.
+fn read(
     alloc: Global,
     forest: &Forest<Numbers>,
     pass: &mut Pass<Numbers>,
-) -> Result<bool, OrderFault>
+    call: Call<u64, u64>,
+) -> Reply<u64, u64>
     requires { IsOf forest.now pass.old }
     ensures { IsOf forest.now pass.new }
 {
-    let pairs = forest.range(alloc, pass, &0, &LAST, 64)?;
-    Ok(are_all(pairs.as_slice()))
+    match call.make(alloc, forest, pass) {
+        Reply::NoMemory => call.make(alloc, forest, pass),
+        reply => reply,
+    }
 }
 
 /// A successor tells the next pair, and a range all; where one of them had no memory, as soon as it
@@ -53,15 +58,11 @@ fn both_look(alloc: Global, forest: &Forest<Numbers>, pass: &mut Pass<Numbers>) 
     ensures { IsOf forest.now pass.new }
 {
     let left = pass.left();
-    let mut next = successor(alloc, forest, pass, 3);
-    if next == Err(OrderFault::NoMemory) {
-        next = successor(alloc, forest, pass, 3);
-    }
-    let mut all = look(alloc, forest, pass);
-    if all == Err(OrderFault::NoMemory) {
-        all = look(alloc, forest, pass);
-    }
-    next == Ok(Some((4, 4))) && all == Ok(true) && pass.left() == left
+    let next = read(alloc, forest, pass, Successor(3));
+    let all = pairs_told(read(alloc, forest, pass, Range(0, LAST, 64)));
+    next == Reply::Pair(Some((4, 4)))
+        && all.is_some_and(|pairs| are_all(pairs.as_slice()))
+        && pass.left() == left
 }
 
 /// The same of the pairs that are left.
@@ -96,7 +97,7 @@ fn a_refused_growth_leaves_all_as_it_was(rt: HostRuntime) -> Result<(), Fail> {
     let Some((forest, mut first, second)) = two(alloc, TRIES) else {
         return Ok(());
     };
-    assert!(rt; put_all(&forest, &mut first));
+    assert!(rt; put_all(alloc, &forest, &mut first));
     assert!(rt; both_look(alloc, &forest, &mut first));
     passes.push(first)?;
     passes.push(second)?;

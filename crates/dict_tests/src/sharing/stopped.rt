@@ -2,24 +2,19 @@
 ghost use Rattle.std.specs.Prelude.{◌≡◌, false, IfOk};
 ghost use Rattle.forest.specs.Passes.{IsOf};
 
-use super::answers::{delete, insert, pop_first, range, replace_if};
+use super::call::Call::{Delete, Insert, PopFirst, Range, ReplaceIf};
+use super::call::{Call, pairs_told};
 use super::held::{Held, Numbers, held, hold, rest};
 use super::{end_two, opened_with};
 use arena::ScxNo;
-use dict::{Reply, Request};
-use forest::{Forest, Pass, UpdateFault};
+use dict::Reply;
+use forest::{Forest, Pass};
 use std::alloc::{AllocError, Global};
 use std::process::Abort;
 use std::test::Fail;
 
 /// An edit of a dictionary of numbers.
-#[derive(Clone, Copy, Debug)]
-enum Edit {
-    Insert(u64, u64),
-    Delete(u64),
-    PopFirst,
-    ReplaceIf(u64, u64, u64),
-}
+type Edit = Call<u64, u64>;
 
 /// What is known of an edit that has begun.
 #[derive(Clone, Copy, Debug)]
@@ -40,61 +35,21 @@ type Made = (Edit, Answer);
 /// The values of the keys below 8.
 type Plain = [Option<u64>; 8];
 
-impl Edit {
-    /// Begins it.
-    fn open(self, alloc: Global, forest: &Forest<Numbers>, pass: Pass<Numbers>) -> Held
-        requires { IsOf forest.now pass }
-        ensures forest { IsOf forest.now result.began }
-        ensures goes { result.over ≡ false }
-    {
-        match self {
-            Edit::Insert(key, value) => forest.open(alloc, pass, Request::Insert { key, value }),
-            Edit::Delete(key) => forest.open(alloc, pass, Request::Delete { key }),
-            Edit::PopFirst => forest.open(alloc, pass, Request::PopFirst),
-            Edit::ReplaceIf(key, expected, value) => {
-                let request = Request::ReplaceIf {
-                    key,
-                    expected,
-                    value,
-                };
-                forest.open(alloc, pass, request)
+/// Makes an edit on plain values, and tells what its key had.
+fn make_plain(edit: Edit, values: &mut Plain) -> Option<u64> {
+    match edit {
+        Insert(key, value) => values.get_mut(key as usize)?.replace(value),
+        Delete(key) => values.get_mut(key as usize)?.take(),
+        PopFirst => take_first(values),
+        ReplaceIf(key, expected, value) => {
+            let slot = values.get_mut(key as usize)?;
+            let old = *slot;
+            if old == Some(expected) {
+                *slot = Some(value);
             }
+            old
         }
-    }
-
-    /// Makes it on a dictionary.
-    fn make(self, forest: &Forest<Numbers>, pass: &mut Pass<Numbers>) -> Answer
-        requires { IsOf forest.now pass.old }
-        ensures { IsOf forest.now pass.new }
-    {
-        match self {
-            Edit::Insert(key, value) => told(insert(forest, pass, key, value)),
-            Edit::Delete(key) => told(delete(forest, pass, key)),
-            Edit::PopFirst => match pop_first(forest, pass) {
-                Ok(pair) => told(Ok(pair.map(|(_, value)| value))),
-                Err(fault) => told(Err(fault)),
-            },
-            Edit::ReplaceIf(key, expected, value) => {
-                told(replace_if(forest, pass, key, expected, value))
-            }
-        }
-    }
-
-    /// Makes it on plain values, and tells what its key had.
-    fn make_plain(self, values: &mut Plain) -> Option<u64> {
-        match self {
-            Edit::Insert(key, value) => values.get_mut(key as usize)?.replace(value),
-            Edit::Delete(key) => values.get_mut(key as usize)?.take(),
-            Edit::PopFirst => take_first(values),
-            Edit::ReplaceIf(key, expected, value) => {
-                let slot = values.get_mut(key as usize)?;
-                let old = *slot;
-                if old == Some(expected) {
-                    *slot = Some(value);
-                }
-                old
-            }
-        }
+        _ => None,
     }
 }
 
@@ -108,16 +63,7 @@ fn take_first(values: &mut Plain) -> Option<u64> {
     None
 }
 
-/// What the caller of an edit was told.
-fn told(said: Result<Option<u64>, UpdateFault>) -> Answer {
-    match said {
-        Ok(old) => Answer::Told(old),
-        Err(UpdateFault::Contended { node: _, scx }) => Answer::Contended(scx),
-        Err(UpdateFault::Full(_)) => Answer::Other,
-    }
-}
-
-/// What a call that was open has told.
+/// What an edit has told.
 fn replied(reply: Reply<u64, u64>) -> Answer {
     match reply {
         Reply::Value(old) => Answer::Told(old),
@@ -130,13 +76,13 @@ fn replied(reply: Reply<u64, u64>) -> Answer {
 /// Makes an edit on plain values, if it tells so. One that was refused has changed nothing.
 fn follow(values: &mut Plain, (edit, answer): Made) -> Option<()> {
     match answer {
-        Answer::Told(old) => if edit.make_plain(values) == old {
+        Answer::Told(old) => if make_plain(edit, values) == old {
             Some(())
         } else {
             None
         },
         Answer::Left => {
-            edit.make_plain(values);
+            make_plain(edit, values);
             Some(())
         }
         Answer::Contended(_) => Some(()),
@@ -165,7 +111,7 @@ fn leave(own: &[Made], other: Made, place: usize, pairs: &[(u64, u64)]) -> bool 
     let Some(mut values) = replay(own, other, place) else {
         return false;
     };
-    let are_there = pairs.iter().all(|(key, value)| Edit::Delete(*key).make_plain(&mut values)
+    let are_there = pairs.iter().all(|(key, value)| make_plain(Delete(*key), &mut values)
         == Some(*value));
     are_there && values.iter().all(|value| value.is_none())
 }
@@ -181,40 +127,36 @@ struct Race {
 
 /// The first gives a key three values, the other a fourth.
 const INSERTS: Race = Race {
-    own: &[
-        Edit::Insert(5, 50),
-        Edit::Insert(5, 51),
-        Edit::Insert(5, 52),
-    ],
-    other: Edit::Insert(5, 90),
+    own: &[Insert(5, 50), Insert(5, 51), Insert(5, 52)],
+    other: Insert(5, 90),
     tries: 3,
 };
 
 /// The first takes its key out again, the other brings in another one.
 const DELETE_AND_INSERT: Race = Race {
-    own: &[Edit::Insert(5, 50), Edit::Delete(5)],
-    other: Edit::Insert(7, 70),
+    own: &[Insert(5, 50), Delete(5)],
+    other: Insert(7, 70),
     tries: 3,
 };
 
 /// Both take the key out.
 const DELETES: Race = Race {
-    own: &[Edit::Insert(5, 50), Edit::Delete(5)],
-    other: Edit::Delete(5),
+    own: &[Insert(5, 50), Delete(5)],
+    other: Delete(5),
     tries: 3,
 };
 
 /// Both take the first pair out.
 const POPS: Race = Race {
-    own: &[Edit::Insert(5, 50), Edit::PopFirst],
-    other: Edit::PopFirst,
+    own: &[Insert(5, 50), PopFirst],
+    other: PopFirst,
     tries: 3,
 };
 
 /// Both replace one value.
 const REPLACEMENTS: Race = Race {
-    own: &[Edit::Insert(5, 50), Edit::ReplaceIf(5, 50, 51)],
-    other: Edit::ReplaceIf(5, 50, 52),
+    own: &[Insert(5, 50), ReplaceIf(5, 50, 51)],
+    other: ReplaceIf(5, 50, 52),
     tries: 3,
 };
 
@@ -227,6 +169,7 @@ struct Stop {
 
 /// Makes these edits, one behind the other.
 fn make_all(
+    alloc: Global,
     forest: &Forest<Numbers>,
     pass: &mut Pass<Numbers>,
     edits: &[Edit],
@@ -236,41 +179,14 @@ fn make_all(
     ensures { IsOf forest.now pass.new }
 {
     for edit in edits {
-        let answer = edit.make(forest, pass);
-        own.push((*edit, answer))?;
+        let reply = edit.make(alloc, forest, pass);
+        own.push((*edit, replied(reply)))?;
     }
     Ok(())
 }
 
-/// A dictionary in which the first pass has made its edits up to the one of this number, which it
-/// holds open.
-fn opened_at(
-    alloc: Global,
-    race: Race,
-    number: usize,
-    own: &mut Vec<Made>,
-) -> Result<(Forest<Numbers>, Held, Pass<Numbers>), Fail>
-    ensures held { IfOk result (λ t. IsOf t.0 t.1.began × (t.1.over ≡ false)) }
-    ensures second { IfOk result (λ t. IsOf t.0 t.2) }
-{
-    let (forest, mut first, second) = opened_with::<u64, u64>(alloc, race.tries)?;
-    let Some((before, [edit, ..])) = race.own.split_at_checked(number) else {
-        return Err("no such edit".into());
-    };
-    make_all(&forest, &mut first, before, own)?;
-    let call = edit.open(alloc, &forest, first);
-    Ok((forest, call, second))
-}
-
-/// How many steps the edit of this number makes by itself.
-fn steps_alone(alloc: Global, race: Race, number: usize) -> Result<usize, Fail> {
-    let (mut own, mut kinds) = (Vec::new(alloc), Vec::new(alloc));
-    let (forest, call, _) = opened_at(alloc, race, number, &mut own)?;
-    rest(&forest, call, &mut kinds)?;
-    Ok(kinds.len())
-}
-
-/// The same, behind so many steps.
+/// A dictionary in which the first pass has made its edits up to the one in which it stops, and holds
+/// that one.
 fn stopped_after(
     alloc: Global,
     race: Race,
@@ -280,9 +196,22 @@ fn stopped_after(
     ensures held { IfOk result (λ t. IsOf t.0 t.1.began × (t.1.over ≡ false)) }
     ensures second { IfOk result (λ t. IsOf t.0 t.2) }
 {
-    let (forest, call, second) = opened_at(alloc, race, stop.number, own)?;
+    let (forest, mut first, second) = opened_with::<u64, u64>(alloc, race.tries)?;
+    let Some((before, [edit, ..])) = race.own.split_at_checked(stop.number) else {
+        return Err("no such edit".into());
+    };
+    make_all(alloc, &forest, &mut first, before, own)?;
+    let call = forest.open(alloc, first, edit.request());
     let call = held(&forest, call, stop.steps, &mut Vec::new(alloc))?;
     Ok((forest, call, second))
+}
+
+/// How many steps the edit of this number makes by itself.
+fn steps_alone(alloc: Global, race: Race, number: usize) -> Result<usize, Fail> {
+    let (mut own, mut kinds) = (Vec::new(alloc), Vec::new(alloc));
+    let (forest, call, _) = stopped_after(alloc, race, Stop { number, steps: 0 }, &mut own)?;
+    rest(&forest, call, &mut kinds)?;
+    Ok(kinds.len())
 }
 
 /// Makes the rest of the edit that was held, and those behind it.
@@ -301,7 +230,7 @@ fn go_on(
     let (mut pass, reply) = rest(forest, call, &mut Vec::new(alloc))?;
     if let Some((_, [edit, behind @ ..])) = race.own.split_at_checked(number) {
         own.push((*edit, replied(reply)))?;
-        make_all(forest, &mut pass, behind, own)?;
+        make_all(alloc, forest, &mut pass, behind, own)?;
     }
     Ok(pass)
 }
@@ -339,9 +268,10 @@ fn see(alloc: Global, forest: &Forest<Numbers>, pass: &mut Pass<Numbers>) -> Opt
     requires { IsOf forest.now pass.old }
     ensures { IsOf forest.now pass.new }
 {
-    match range(alloc, forest, pass, 0, 9) {
+    let all = Range(0, 9, 64);
+    match pairs_told(all.make(alloc, forest, pass)) {
         Some(pairs) => Some(pairs),
-        None => range(alloc, forest, pass, 0, 9),
+        None => pairs_told(all.make(alloc, forest, pass)),
     }
 }
 
@@ -350,7 +280,8 @@ fn see(alloc: Global, forest: &Forest<Numbers>, pass: &mut Pass<Numbers>) -> Opt
 fn is_right_when_left(alloc: Global, race: Race, stop: Stop) -> Result<bool, Fail> {
     let mut own = Vec::new(alloc);
     let (forest, call, mut second) = stopped_after(alloc, race, stop, &mut own)?;
-    let other = (race.other, race.other.make(&forest, &mut second));
+    let reply = race.other.make(alloc, &forest, &mut second);
+    let other = (race.other, replied(reply));
     drop(call);
     if !may_tell(race, other.1) {
         return Ok(false);
@@ -400,7 +331,8 @@ fn is_right_when_it_goes_on(
 ) -> Result<bool, Fail> {
     let mut own = Vec::new(alloc);
     let (forest, call, mut second) = stopped_after(alloc, race, stop, &mut own)?;
-    let other = (race.other, race.other.make(&forest, &mut second));
+    let reply = race.other.make(alloc, &forest, &mut second);
+    let other = (race.other, replied(reply));
     let first = go_on(alloc, &forest, call, race, stop.number, &mut own)?;
     *contended = contended.saturating_add(count_contended(&own, other));
     let places = (stop.number, stop.number.saturating_add(1));
@@ -417,7 +349,7 @@ fn is_right_when_both_stop(
 ) -> Result<Option<bool>, Fail> {
     let (mut own, mut kinds) = (Vec::new(alloc), Vec::new(alloc));
     let (forest, call, second) = stopped_after(alloc, race, stop, &mut own)?;
-    let mut helper = race.other.open(alloc, &forest, second);
+    let mut helper = forest.open(alloc, second, race.other.request());
     if !hold(&forest, &mut helper, steps, &mut kinds)? {
         return Ok(None);
     }

@@ -3,17 +3,16 @@ ghost use Rattle.std.specs.Prelude.{◌≡◌, IfOk, IfSome};
 ghost use Rattle.std.specs.List.{All};
 ghost use Rattle.forest.specs.Passes.{IsOf};
 
-use super::answers::{delete, get, insert, pop_first, range, replace_if};
+use super::call::Call::{self, Delete, Get, Insert, PopFirst, Range, ReplaceIf};
+use super::call::pairs_told;
+use super::held::Numbers;
 use super::{end, limits};
-use crate::same::same;
-use dict::Dict;
-use forest::{Forest, Pass, UpdateFault};
+use dict::Reply;
+use forest::{Forest, Pass};
 use std::alloc::{AllocError, Global};
+use std::process::Abort;
 use std::test::Fail;
 use std::thread::{Threads, map_vec};
-
-/// A dictionary of numbers.
-type Numbers = Dict<u64, u64>;
 
 /// How many rounds a thread makes.
 const ROUNDS: u64 = 1000;
@@ -50,91 +49,64 @@ type Out = Option<Option<u64>>;
 /// What came out in each round.
 type Outs = [Out; ROUNDS as usize];
 
-/// Puts in a pair, and answers what the key had.
-fn put(forest: &Forest<Numbers>, pass: &mut Pass<Numbers>, key: u64, value: u64) -> Out
-    requires { IsOf forest.now pass.old }
-    ensures { IsOf forest.now pass.new }
-{
-    for _ask in 0..MOST_ASKS {
-        match insert(forest, pass, key, value) {
-            Ok(old) => return Some(old),
-            Err(UpdateFault::Contended { .. }) => {}
-            Err(UpdateFault::Full(_)) => return None,
-        }
+/// What a key had, as a reply tells it; of a pop, whose values are their keys, the value.
+fn told(reply: Reply<u64, u64>) -> Out {
+    match reply {
+        Reply::Value(old) => Some(old),
+        Reply::Pair(None) => Some(None),
+        Reply::Pair(Some((key, value))) if key == value => Some(Some(value)),
+        _ => None,
     }
-    None
 }
 
-/// Takes out a key, and answers what it had.
-fn take(forest: &Forest<Numbers>, pass: &mut Pass<Numbers>, key: u64) -> Out
-    requires { IsOf forest.now pass.old }
-    ensures { IsOf forest.now pass.new }
-{
-    for _ask in 0..MOST_ASKS {
-        match delete(forest, pass, key) {
-            Ok(old) => return Some(old),
-            Err(UpdateFault::Contended { .. }) => {}
-            Err(UpdateFault::Full(_)) => return None,
-        }
-    }
-    None
+/// Whether this was told.
+fn is_told(out: Out, want: Option<u64>) -> Out {
+    if out? == want { Some(None) } else { None }
 }
 
-/// Takes out the first pair, and answers its value, which is its key.
-fn pop(forest: &Forest<Numbers>, pass: &mut Pass<Numbers>) -> Out
+/// Makes an edit, again where it was contended.
+fn ask(
+    alloc: Global,
+    forest: &Forest<Numbers>,
+    pass: &mut Pass<Numbers>,
+    edit: Call<u64, u64>,
+) -> Out
     requires { IsOf forest.now pass.old }
     ensures { IsOf forest.now pass.new }
 {
     for _ask in 0..MOST_ASKS {
-        match pop_first(forest, pass) {
-            Ok(Some((key, value))) if key == value => return Some(Some(value)),
-            Ok(None) => return Some(None),
-            Err(UpdateFault::Contended { .. }) => {}
-            Ok(Some(_)) | Err(UpdateFault::Full(_)) => return None,
+        match edit.make(alloc, forest, pass) {
+            Reply::Contended { .. } => {}
+            reply => return told(reply),
         }
     }
     None
 }
 
 /// Adds one to the value of the key 0, and answers what it was. Where another thread has changed it
-/// meanwhile, it is read again.
-fn count_up(forest: &Forest<Numbers>, pass: &mut Pass<Numbers>) -> Out
+/// meanwhile, or was in the way, it is read again.
+fn count_up(alloc: Global, forest: &Forest<Numbers>, pass: &mut Pass<Numbers>) -> Out
     requires { IsOf forest.now pass.old }
     ensures { IsOf forest.now pass.new }
 {
     for _ask in 0..MOST_ASKS {
-        let value = get(forest, pass, 0)?;
-        match replace_if(forest, pass, 0, value, value.wrapping_add(1)) {
-            Ok(old) if old == Some(value) => return Some(old),
-            Ok(_) | Err(UpdateFault::Contended { .. }) => {}
-            Err(UpdateFault::Full(_)) => return None,
+        let value = told(Get(0).make(alloc, forest, pass))??;
+        let edit = ReplaceIf(0, value, value.wrapping_add(1));
+        if told(edit.make(alloc, forest, pass)) == Some(Some(value)) {
+            return Some(Some(value));
         }
     }
     None
 }
 
-/// Puts in a fresh key.
-fn put_fresh(forest: &Forest<Numbers>, pass: &mut Pass<Numbers>, key: u64) -> Out
-    requires { IsOf forest.now pass.old }
-    ensures { IsOf forest.now pass.new }
-{
-    match put(forest, pass, key, key) {
-        Some(None) => Some(None),
-        _ => None,
-    }
-}
-
 /// Puts in the key behind the window's last, and takes out its first once there are enough.
-fn move_window(forest: &Forest<Numbers>, pass: &mut Pass<Numbers>, round: u64) -> Out
+fn move_window(alloc: Global, forest: &Forest<Numbers>, pass: &mut Pass<Numbers>, round: u64) -> Out
     requires { IsOf forest.now pass.old }
     ensures { IsOf forest.now pass.new }
 {
-    put_fresh(forest, pass, round)?;
+    is_told(ask(alloc, forest, pass, Insert(round, round)), None)?;
     match round.checked_sub(WINDOW) {
-        Some(first) => {
-            let old = take(forest, pass, first)?;
-            if old == Some(first) { Some(None) } else { None }
-        }
+        Some(first) => is_told(ask(alloc, forest, pass, Delete(first)), Some(first)),
         None => Some(None),
     }
 }
@@ -160,7 +132,7 @@ fn see_window(alloc: Global, forest: &Forest<Numbers>, pass: &mut Pass<Numbers>)
     requires { IsOf forest.now pass.old }
     ensures { IsOf forest.now pass.new }
 {
-    match range(alloc, forest, pass, 0, u64::MAX) {
+    match pairs_told(Range(0, u64::MAX, 64).make(alloc, forest, pass)) {
         Some(pairs) if is_window(&pairs) => Some(Some(pairs.len() as u64)),
         Some(_) => None,
         None => Some(None),
@@ -168,15 +140,12 @@ fn see_window(alloc: Global, forest: &Forest<Numbers>, pass: &mut Pass<Numbers>)
 }
 
 /// Puts in or takes out a key by turns. No two rounds of all threads put in the same value.
-fn mix(forest: &Forest<Numbers>, pass: &mut Pass<Numbers>, value: u64) -> Out
-    requires { IsOf forest.now pass.old }
-    ensures { IsOf forest.now pass.new }
-{
+fn mixed(value: u64) -> Call<u64, u64> {
     let key = value.wrapping_mul(11_400_714_819_323_198_485) / 65_536 % 100;
     if value % 2 == 0 {
-        put(forest, pass, key, value)
+        Insert(key, value)
     } else {
-        take(forest, pass, key)
+        Delete(key)
     }
 }
 
@@ -196,21 +165,22 @@ fn make_round(
         // In no order, so that the tree does not grow to one side.
         Work::Own => {
             let place = round.wrapping_mul(377) % ROUNDS;
-            put_fresh(forest, pass, (2 * place).wrapping_add(number))
+            let key = (2 * place).wrapping_add(number);
+            is_told(ask(alloc, forest, pass, Insert(key, key)), None)
         }
-        Work::Mixed => mix(
-            forest,
-            pass,
-            number.wrapping_mul(ROUNDS).wrapping_add(round),
-        ),
-        Work::Window if number == 0 => move_window(forest, pass, round),
+        Work::Mixed => {
+            let value = number.wrapping_mul(ROUNDS).wrapping_add(round);
+            ask(alloc, forest, pass, mixed(value))
+        }
+        Work::Window if number == 0 => move_window(alloc, forest, pass, round),
         Work::Window => see_window(alloc, forest, pass),
         Work::First { keys } if number == 0 && round < keys => {
-            put_fresh(forest, pass, round.wrapping_mul(377) % keys)
+            let key = round.wrapping_mul(377) % keys;
+            is_told(ask(alloc, forest, pass, Insert(key, key)), None)
         }
         Work::First { .. } => Some(None),
-        Work::Pop => pop(forest, pass),
-        Work::Count if round < COUNTS => count_up(forest, pass),
+        Work::Pop => ask(alloc, forest, pass, PopFirst),
+        Work::Count if round < COUNTS => count_up(alloc, forest, pass),
         Work::Count => Some(None),
     }
 }
@@ -230,20 +200,6 @@ fn make_rounds(
         outs[round as usize] = make_round(alloc, forest, work, &mut pass, round);
     }
     (pass, outs)
-}
-
-/// Each pass works in a thread of its own.
-fn crowd<R: Threads + Sync>(
-    rt: &R,
-    alloc: Global,
-    forest: &Forest<Numbers>,
-    work: Work,
-    passes: Vec<Pass<Numbers>>,
-) -> Result<Vec<(Pass<Numbers>, Outs)>, AllocError>
-    requires { All (IsOf forest.now) passes.items }
-    ensures { IfOk result (λ ws. All (λ w. IsOf forest.now w.0) ws.items) }
-{
-    map_vec(rt, passes, &|pass| make_rounds(alloc, forest, work, pass))
 }
 
 /// The passes, and what came out.
@@ -312,6 +268,50 @@ impl Ended {
                 *pair == (key, key)
             })
     }
+
+    /// These pairs are left.
+    fn have_left(&self, left: Left) -> bool {
+        match left {
+            Left::Keys(first, many) => self.has_keys(first, many),
+            Left::Count(value) => self.pairs.as_slice() == [(0, value)].as_slice(),
+            Left::Some => true,
+        }
+    }
+
+    /// All is right, and these pairs are left. So many values came out or are left, which rise by
+    /// this step from 0 on; if none is said, some came out.
+    fn is_as(
+        &self,
+        rt: &impl Abort,
+        alloc: Global,
+        left: Left,
+        steps: Option<(usize, u64)>,
+    ) -> Result<(), Fail> {
+        assert!(rt; self.are_right());
+        assert!(rt; self.have_left(left));
+        match steps {
+            Some(steps) => assert!(rt; are_steps(&self.values(alloc)?, steps)),
+            None => assert!(rt; self.have_come()),
+        }
+        Ok(())
+    }
+}
+
+/// The pairs that are left.
+#[derive(Clone, Copy)]
+enum Left {
+    /// So many keys from this one on, each with itself.
+    Keys(u64, usize),
+    /// The key 0, with this value.
+    Count(u64),
+    /// Any.
+    Some,
+}
+
+/// Whether these are so many numbers from 0 on, each by this step above the one before.
+fn are_steps(values: &[u64], (many, step): (usize, u64)) -> bool {
+    let mut places = values.iter().enumerate();
+    values.len() == many && places.all(|(place, value)| *value == step.wrapping_mul(place as u64))
 }
 
 /// The passes work, each in a thread of its own.
@@ -325,12 +325,13 @@ fn worked<R: Threads + Sync>(
     requires { All (IsOf forest.now) passes.items }
     ensures { IfOk result (λ r. All (IsOf forest.now) r.0.items) }
 {
-    part(alloc, forest, crowd(rt, alloc, forest, work, passes)?)
+    let workers = map_vec(rt, passes, &|pass| make_rounds(alloc, forest, work, pass))?;
+    part(alloc, forest, workers)
 }
 
 /// So many threads do these works, one after the other, and then the forest is closed. What came out
 /// is that of the second.
-fn race<R: Threads + Sync>(
+fn raced<R: Threads + Sync>(
     rt: &R,
     alloc: Global,
     threads: u32,
@@ -352,57 +353,30 @@ const NOTHING: Work = Work::First { keys: 0 };
 
 #[test]
 fn two_threads_put_in_keys_of_their_own(rt: HostRuntime) -> Result<(), Fail> {
-    let ended = race(&rt, rt.alloc(), 2, [NOTHING, Work::Own])?;
-    assert!(rt; ended.are_right());
-    assert!(rt; ended.has_keys(0, 2000));
-    Ok(())
+    let ended = raced(&rt, rt.alloc(), 2, [NOTHING, Work::Own])?;
+    ended.is_as(&rt, rt.alloc(), Left::Keys(0, 2000), Some((2000, 1)))
 }
 
 #[test]
 fn eight_threads_take_out_what_they_put_in(rt: HostRuntime) -> Result<(), Fail> {
-    let ended = race(&rt, rt.alloc(), 8, [NOTHING, Work::Mixed])?;
-    assert!(rt; ended.are_right());
-    let values = ended.values(rt.alloc())?;
-    same(&rt, values.len(), 4000);
-    let mut places = values.iter().enumerate();
-    assert!(rt; places.all(|(place, value)| *value % 2 == 0 && *value / 2 == place as u64));
-    Ok(())
+    let ended = raced(&rt, rt.alloc(), 8, [NOTHING, Work::Mixed])?;
+    ended.is_as(&rt, rt.alloc(), Left::Some, Some((4000, 2)))
 }
 
 #[test]
 fn three_threads_see_a_window_move(rt: HostRuntime) -> Result<(), Fail> {
-    let ended = race(&rt, rt.alloc(), 4, [NOTHING, Work::Window])?;
-    assert!(rt; ended.are_right());
-    assert!(rt; ended.have_come());
-    assert!(rt; ended.has_keys(980, 20));
-    Ok(())
-}
-
-/// Whether these are the numbers from 0 on.
-fn are_all(values: &[u64]) -> bool {
-    values
-        .iter()
-        .enumerate()
-        .all(|(place, value)| *value == place as u64)
+    let ended = raced(&rt, rt.alloc(), 4, [NOTHING, Work::Window])?;
+    ended.is_as(&rt, rt.alloc(), Left::Keys(980, 20), None)
 }
 
 #[test]
 fn two_threads_take_out_each_pair_once(rt: HostRuntime) -> Result<(), Fail> {
-    let works = [Work::First { keys: 1000 }, Work::Pop];
-    let ended = race(&rt, rt.alloc(), 2, works)?;
-    assert!(rt; ended.are_right());
-    assert!(rt; ended.pairs.is_empty());
-    let values = ended.values(rt.alloc())?;
-    assert!(rt; values.len() == 1000 && are_all(&values));
-    Ok(())
+    let ended = raced(&rt, rt.alloc(), 2, [Work::First { keys: 1000 }, Work::Pop])?;
+    ended.is_as(&rt, rt.alloc(), Left::Keys(0, 0), Some((1000, 1)))
 }
 
 #[test]
 fn eight_threads_count_up(rt: HostRuntime) -> Result<(), Fail> {
-    let ended = race(&rt, rt.alloc(), 8, [Work::First { keys: 1 }, Work::Count])?;
-    assert!(rt; ended.are_right());
-    assert!(rt; ended.pairs.as_slice() == [(0, 4000)].as_slice());
-    let values = ended.values(rt.alloc())?;
-    assert!(rt; values.len() == 4001 && are_all(&values));
-    Ok(())
+    let ended = raced(&rt, rt.alloc(), 8, [Work::First { keys: 1 }, Work::Count])?;
+    ended.is_as(&rt, rt.alloc(), Left::Count(4000), Some((4001, 1)))
 }

@@ -1,0 +1,202 @@
+//! The calls of a dictionary. What a call says of steps and runs is long, and a body with many calls
+//! is proved over all of it: so each is made in one place, and tests have rows of calls.
+ghost use Rattle.ordered_map.specs.Requests.{AsksForFew};
+ghost use Rattle.forest.specs.Passes.{IsOf};
+
+use dict::{Dict, Reply, Request, WordKey, WordValue};
+use forest::{Forest, OrderFault, Pass, UpdateFault};
+use std::alloc::Global;
+
+/// No range asks for more pairs.
+const MOST_PAIRS: u32 = 64;
+
+/// A call of a dictionary.
+#[derive(Clone, Copy, Debug)]
+pub(super) enum Call<K, V> {
+    Insert(K, V),
+    Delete(K),
+    PopFirst,
+    /// Of a key: the value that is expected, and the new one.
+    ReplaceIf(K, V, V),
+    Get(K),
+    Successor(K),
+    /// From a key to another, so many pairs, or 64.
+    Range(K, K, u32),
+}
+
+impl<K: WordKey, V: WordValue> Call<K, V> {
+    /// The call as one that is held open begins.
+    pub(super) fn request(self) -> Request<K, V>
+        ensures { AsksForFew result }
+    {
+        match self {
+            Call::Insert(key, value) => Request::Insert { key, value },
+            Call::Delete(key) => Request::Delete { key },
+            Call::PopFirst => Request::PopFirst,
+            Call::ReplaceIf(key, expected, value) => {
+                Request::ReplaceIf {
+                    key,
+                    expected,
+                    value,
+                }
+            }
+            Call::Get(key) => Request::Get { key },
+            Call::Successor(key) => Request::Successor { key },
+            Call::Range(low, high, most) => {
+                let most = most.min(MOST_PAIRS);
+                Request::Range { low, high, most }
+            }
+        }
+    }
+
+    /// Makes it, all at once.
+    pub(super) fn make(
+        self,
+        alloc: Global,
+        forest: &Forest<Dict<K, V>>,
+        pass: &mut Pass<Dict<K, V>>,
+    ) -> Reply<K, V>
+        requires { IsOf forest.now pass.old }
+        ensures { IsOf forest.now pass.new }
+    {
+        match self {
+            Call::Insert(key, value) => insert(forest, pass, key, value),
+            Call::Delete(key) => delete(forest, pass, key),
+            Call::PopFirst => pop_first(forest, pass),
+            Call::ReplaceIf(key, expected, value) => replace_if(forest, pass, key, expected, value),
+            Call::Get(key) => get(forest, pass, key),
+            Call::Successor(key) => successor(alloc, forest, pass, key),
+            Call::Range(low, high, most) => range(alloc, forest, pass, low, high, most),
+        }
+    }
+}
+
+/// The pairs that a reply tells, if it is one of a range.
+pub(super) fn pairs_told<K: WordKey, V: WordValue>(reply: Reply<K, V>) -> Option<Vec<(K, V)>> {
+    match reply {
+        Reply::Pairs(pairs) => Some(pairs),
+        _ => None,
+    }
+}
+
+fn insert<K: WordKey, V: WordValue>(
+    forest: &Forest<Dict<K, V>>,
+    pass: &mut Pass<Dict<K, V>>,
+    key: K,
+    value: V,
+) -> Reply<K, V>
+    requires { IsOf forest.now pass.old }
+    ensures { IsOf forest.now pass.new }
+{
+    match forest.insert(pass, key, value) {
+        Ok(old) => Reply::Value(old),
+        Err(UpdateFault::Contended { node, scx }) => Reply::Contended { node, scx },
+        Err(UpdateFault::Full(full)) => Reply::Full(full),
+    }
+}
+
+fn delete<K: WordKey, V: WordValue>(
+    forest: &Forest<Dict<K, V>>,
+    pass: &mut Pass<Dict<K, V>>,
+    key: K,
+) -> Reply<K, V>
+    requires { IsOf forest.now pass.old }
+    ensures { IsOf forest.now pass.new }
+{
+    match forest.delete(pass, &key) {
+        Ok(old) => Reply::Value(old),
+        Err(UpdateFault::Contended { node, scx }) => Reply::Contended { node, scx },
+        Err(UpdateFault::Full(full)) => Reply::Full(full),
+    }
+}
+
+fn pop_first<K: WordKey, V: WordValue>(
+    forest: &Forest<Dict<K, V>>,
+    pass: &mut Pass<Dict<K, V>>,
+) -> Reply<K, V>
+    requires { IsOf forest.now pass.old }
+    ensures { IsOf forest.now pass.new }
+{
+    match forest.pop_first(pass) {
+        Ok(pair) => Reply::Pair(pair),
+        Err(UpdateFault::Contended { node, scx }) => Reply::Contended { node, scx },
+        Err(UpdateFault::Full(full)) => Reply::Full(full),
+    }
+}
+
+fn replace_if<K: WordKey, V: WordValue>(
+    forest: &Forest<Dict<K, V>>,
+    pass: &mut Pass<Dict<K, V>>,
+    key: K,
+    expected: V,
+    value: V,
+) -> Reply<K, V>
+    requires { IsOf forest.now pass.old }
+    ensures { IsOf forest.now pass.new }
+{
+    match forest.replace_if(pass, key, &expected, value) {
+        Ok(old) => Reply::Value(old),
+        Err(UpdateFault::Contended { node, scx }) => Reply::Contended { node, scx },
+        Err(UpdateFault::Full(full)) => Reply::Full(full),
+    }
+}
+
+fn get<K: WordKey, V: WordValue>(
+    forest: &Forest<Dict<K, V>>,
+    pass: &mut Pass<Dict<K, V>>,
+    key: K,
+) -> Reply<K, V>
+    requires { IsOf forest.now pass.old }
+    ensures { IsOf forest.now pass.new }
+{
+    Reply::Value(forest.get(pass, &key))
+}
+
+fn successor<K: WordKey, V: WordValue>(
+    alloc: Global,
+    forest: &Forest<Dict<K, V>>,
+    pass: &mut Pass<Dict<K, V>>,
+    key: K,
+) -> Reply<K, V>
+    requires { IsOf forest.now pass.old }
+    ensures { IsOf forest.now pass.new }
+{
+    match forest.successor(alloc, pass, &key) {
+        Ok(pair) => Reply::Pair(pair),
+        Err(OrderFault::Contended { node, scx }) => Reply::Contended { node, scx },
+        Err(OrderFault::NoMemory) => Reply::NoMemory,
+    }
+}
+
+fn range<K: WordKey, V: WordValue>(
+    alloc: Global,
+    forest: &Forest<Dict<K, V>>,
+    pass: &mut Pass<Dict<K, V>>,
+    low: K,
+    high: K,
+    most: u32,
+) -> Reply<K, V>
+    requires { IsOf forest.now pass.old }
+    ensures { IsOf forest.now pass.new }
+{
+    let most = most.min(MOST_PAIRS) as usize;
+    match forest.range(alloc, pass, &low, &high, most) {
+        Ok(pairs) => Reply::Pairs(pairs),
+        Err(OrderFault::Contended { node, scx }) => Reply::Contended { node, scx },
+        Err(OrderFault::NoMemory) => Reply::NoMemory,
+    }
+}
+
+/// Two passes come to know what both knew.
+pub(super) fn meet<K: WordKey, V: WordValue>(
+    forest: &Forest<Dict<K, V>>,
+    one: &mut Pass<Dict<K, V>>,
+    other: &mut Pass<Dict<K, V>>,
+)
+    requires one { IsOf forest.now one.old }
+    requires other { IsOf forest.now other.old }
+    ensures one { IsOf forest.now one.new }
+    ensures other { IsOf forest.now other.new }
+{
+    forest.meet(one, other);
+}
