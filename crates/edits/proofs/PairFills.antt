@@ -7,14 +7,14 @@ use Rattle.arena.specs.declared.word.Slot.{Slot}
 use Rattle.edits.specs.declared.piece.Piece.{Piece}
 use Rattle.edits.specs.declared.piece.Piece.TheVariants.{Leaf, Fork}
 use Rattle.edits.specs.Laws.PieceFills.{next_word}
-use Rattle.edits.specs.Pieces.{is_filled, is_leaf, part_behind, word_of}
+use Rattle.edits.specs.Pieces.{is_filled, is_leaf_piece, part_behind, word_of}
 
 -- what is filled behind another word is filled
 pub behind_filled : (p : Piece) (part next : NodeWord) → part_behind p part ≡ Some next → is_filled p next ≡ true
 behind_filled p part next e = (next_word p part next e).is
 
 -- behind a leaf's key its value
-pub value_behind_key : (p : Piece) (slot : Slot) → is_leaf p ≡ true → is_filled p (Settled (Key slot)) ≡ true → part_behind p (Settled (Key slot)) ≡ Some (Settled (Value slot))
+pub value_behind_key : (p : Piece) (slot : Slot) → is_leaf_piece p ≡ true → is_filled p (Settled (Key slot)) ≡ true → part_behind p (Settled (Key slot)) ≡ Some (Settled (Value slot))
 value_behind_key (Leaf level class ps) slot leaf filled = rw filled refl
 value_behind_key (Fork level class key l r) slot leaf filled = absurd (let z : false ≡ true = leaf in cc)
 

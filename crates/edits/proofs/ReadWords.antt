@@ -329,7 +329,7 @@ last_true false b e = absurd (let z : false ≡ true = e in cc)
 module _ (r : Reading) (slot : Slot) (v : ℕ) where
   -- behind a key the value without its high half, where of that nothing is read yet
   pub key_then_value : is_at_pair r ≡ true → next_read r ≡ Some (Key slot) → next_read (read_with r (Key slot) v) ≡ Some (Value slot)
-  key_then_value at e = leaf_goes r (read_with r (Key slot) v) (Key slot) (Some (Value slot)) refl refl (λ q. cc) (λ q. cc) (λ fork d. let z : true ≡ false = sym (first_true (is_leaf_read r.head) (is_none r.low) at) ∙ fork in cc) (in_pair r.slot r.key r.low (last_true (is_leaf_read r.head) (is_none r.low) at)) e
+  key_then_value at e = leaf_goes r (read_with r (Key slot) v) (Key slot) (Some (Value slot)) refl refl (λ q. cc) (λ q. cc) (λ fork d. let z : true ≡ false = sym (first_true (is_leaf_read r.head) (is_none r.low) (first_true (is_leaf_read r.head && is_none r.low) (is_none r.key) at)) ∙ fork in cc) (in_pair r.slot r.key r.low (last_true (is_leaf_read r.head) (is_none r.low) (first_true (is_leaf_read r.head && is_none r.low) (is_none r.key) at))) e
     where
       in_pair : (s : Option Slot) (k l : Option ℕ) → is_none l ≡ true → next_in_pair s k l ≡ Some (Key slot) → next_in_pair s (Some v) l ≡ Some (Value slot)
       in_pair None k l free d = absurd (let z : None ≡ Some (Key slot) = d in cc)

@@ -46,9 +46,9 @@ word_of (Fork level class key l r) (Child Right) = r.0
 word_of _ _ = 0
 
 -- whether it is a leaf
-abbrev pub is_leaf : Piece → Bool
-is_leaf (Leaf level class pairs) = true
-is_leaf (Fork level class key l r) = false
+abbrev pub is_leaf_piece : Piece → Bool
+is_leaf_piece (Leaf level class pairs) = true
+is_leaf_piece (Fork level class key l r) = false
 
 -- whether the value in this slot has a high half that is not 0
 abbrev pub has_high : List Pair → Slot → Bool

@@ -13,6 +13,9 @@ use Rattle.arena.specs.Words.{node, slot_no}
 use Rattle.ordered_map.specs.declared.pair.Pair.{Pair}
 use Rattle.ordered_map.specs.Holding.{slot_behind, wide_value, held_behind, held_pairs}
 use Rattle.ordered_map.specs.OrderedMap.{pair}
+use Rattle.arena.specs.declared.number.NodeNo.{NodeNo}
+use Rattle.edits.specs.declared.reading.Known.{Known}
+use Rattle.edits.specs.declared.reading.Known.TheVariants.{Nothing, Leaf}
 use Rattle.edits.specs.declared.reading.Reading.{Reading}
 
 -- nothing is read
@@ -22,6 +25,16 @@ nothing_read = record { head = None; more = None; slot = Some First; key = None;
 -- of a leaf with this head and so many pairs behind its first, these two are
 abbrev pub leaf_begun : Head → ℕ → Reading
 leaf_begun head more = record { head = Some head; more = Some more; slot = Some First; key = None; low = None; pairs = [] }
+
+-- what is read of a node at first, where this is known of it
+abbrev pub known_reading : Known → Reading
+known_reading Nothing = nothing_read
+known_reading (Leaf head more) = leaf_begun head more
+
+-- the node that is read, if one is, and what is read of it at first
+abbrev pub known_reads : Option (NodeNo × Known) → Option (NodeNo × Reading)
+known_reads None = None
+known_reads (Some x) = Some (x.0, known_reading x.1)
 
 -- the word that is read next of the pair in this slot, if there is one
 abbrev pub next_in_pair : Option Slot → Option ℕ → Option ℕ → Option SettledPart
@@ -95,10 +108,10 @@ abbrev pub is_leaf_read : Option Head → Bool
 is_leaf_read None = false
 is_leaf_read (Some head) = head.leaf
 
--- whether it is a leaf that is read, and of the next pair no value: a key that is read next then
+-- whether it is a leaf that is read, and of the next pair nothing: a key that is read next then
 -- begins a pair, and no fork
 abbrev pub is_at_pair : Reading → Bool
-is_at_pair r = is_leaf_read r.head && is_none r.low
+is_at_pair r = is_leaf_read r.head && is_none r.low && is_none r.key
 
 -- the slot that is read, the first of a node that is none
 abbrev pub slot_read : Reading → Slot

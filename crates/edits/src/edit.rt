@@ -1,10 +1,11 @@
 //! Edits of the tree, as data for the machine that makes them.
 ghost use Rattle.std.specs.Prelude.{◌≡◌};
 ghost use Rattle.edits.specs.Edits.{EditMeaning};
+ghost use Rattle.edits.specs.Readings.{known_reads};
 ghost use Rattle.edits.specs.Sound.{EditLaws};
 
 use crate::piece::Piece;
-use crate::reading::Reading;
+use crate::reading::{Known, Reading};
 use arena::{NodeNo, ScxNo, Side};
 use prims::Snap;
 use template::{Found, Goal};
@@ -123,8 +124,8 @@ pub trait Edit {
 
     /// The node of which it reads settled words once all is looked at, if it reads any, and what is
     /// known of that by then.
-    fn reads(&self, found: &Found, snaps: &[Snap]) -> Option<(NodeNo, Reading)>
-        ensures { result ≡ means.reads self.now found.now snaps.now };
+    fn reads(&self, found: &Found, snaps: &[Snap]) -> Option<(NodeNo, Known)>
+        ensures { known_reads result ≡ means.reads self.now found.now snaps.now };
 
     /// What the fresh node of this place is to hold, once that is read.
     fn piece(&self, found: &Found, snaps: &[Snap], nodes: &Nodes, read: &Reading, nth: Nth) -> Piece

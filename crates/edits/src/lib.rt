@@ -13,5 +13,5 @@ pub use alone::alone_holds;
 pub use edit::{Edit, Look, Need, Nodes, Nth};
 pub use pairs::Pairs;
 pub use piece::Piece;
-pub use reading::Reading;
+pub use reading::{Known, Reading};
 pub use update::{Next, Stop, UpdateAt, UpdateRun, Updated, anew};

@@ -74,6 +74,16 @@ impl Pairs {
         }
     }
 
+    /// Takes all away.
+    #[inline(always)]
+    pub fn clear(&mut self)
+        ensures { self.new ≡ [] }
+    {
+        if self.count != 0 {
+            *self = Pairs::new();
+        }
+    }
+
     /// How many there are.
     #[inline(always)]
     pub fn len(&self) -> usize

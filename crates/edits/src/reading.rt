@@ -24,9 +24,18 @@ pub struct Reading {
     pub pairs: Pairs,
 }
 
+/// What is known of a node before its words are read.
+#[derive(Clone, Copy, Debug, PartialEq, Eq)]
+pub enum Known {
+    /// Nothing.
+    Nothing,
+    /// It is a leaf with this head and so many pairs behind its first.
+    Leaf { head: Head, more: u64 },
+}
+
 impl Reading {
-    ghost use Rattle.std.specs.Prelude.{◌≡◌};
-    ghost use Rattle.edits.specs.Readings.{nothing_read, leaf_begun, next_read, next_in_leaf, is_at_pair, read_with, pair_read_with};
+    ghost use Rattle.std.specs.Prelude.{◌≡◌, None};
+    ghost use Rattle.edits.specs.Readings.{known_reading, nothing_read, next_read, next_in_leaf, is_at_pair, read_with, pair_read_with};
 
     /// Nothing.
     #[inline(always)]
@@ -43,16 +52,25 @@ impl Reading {
         }
     }
 
-    /// Of a leaf with this head and so many pairs behind its first, these two.
+    /// Begins anew, with what is known.
     #[inline(always)]
-    pub fn of_leaf(head: Head, more: u64) -> Reading
-        ensures { result ≡ leaf_begun head more }
+    pub fn begin(&mut self, known: Known)
+        ensures { self.new ≡ known_reading known }
     {
-        Reading {
-            head: Some(head),
-            more: Some(more),
-            ..Reading::new()
+        match known {
+            Known::Nothing => {
+                self.head = None;
+                self.more = None;
+            }
+            Known::Leaf { head, more } => {
+                self.head = Some(head);
+                self.more = Some(more);
+            }
         }
+        self.slot = Some(Slot::First);
+        self.key = None;
+        self.low = None;
+        self.pairs.clear();
     }
 
     /// The word that is read next, none at the end.
@@ -85,14 +103,13 @@ impl Reading {
         next_in_pair(self.slot, self.key, self.low)
     }
 
-    /// Whether the word that is read next, if it is a key, begins a pair of a leaf of which nothing
-    /// is read.
+    /// Whether the word that is read next, if it is a key, begins a pair of a leaf.
     #[inline(always)]
     pub fn is_at_pair(&self) -> bool
         ensures { result ≡ is_at_pair self.now }
     {
         match self.head {
-            Some(head) => head.leaf && self.low.is_none(),
+            Some(head) => head.leaf && self.low.is_none() && self.key.is_none(),
             None => false,
         }
     }
@@ -109,19 +126,21 @@ impl Reading {
             SettledPart::Value(_) => self.low = Some(told),
             SettledPart::High(slot) => {
                 let (key, low) = (self.key.unwrap_or(0), self.low.unwrap_or(0));
+                self.key = None;
+                self.low = None;
                 self.keep_pair(slot, key, low, told);
             }
         }
     }
 
-    /// Keeps what the three words of the pair in this slot of a leaf have told.
+    /// Keeps what the three words of the pair in this slot of a leaf have told, of which nothing is
+    /// kept yet.
     #[inline(always)]
     pub fn keep_pair(&mut self, slot: Slot, key: u64, low: u64, high: u64)
+        requires none { (self.old.key ≡ None) × (self.old.low ≡ None) }
         ensures { self.new ≡ pair_read_with self.old slot key low high }
     {
         self.slot = slot_behind(self.more.unwrap_or(0), slot);
-        self.key = None;
-        self.low = None;
         let value = wide_value(low, high);
         self.pairs.push(slot, Pair { key, value });
     }

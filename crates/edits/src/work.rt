@@ -53,6 +53,7 @@ impl<E: Edit + Drop, A: Drop> UpdateRun<E, A> {
     }
 
     /// The same update, at this place or at none.
+    #[inline(always)]
     pub fn stand<B>(self, at: B) -> UpdateRun<E, B>
         ensures { result ≡ standing self at }
     {
@@ -253,8 +254,8 @@ impl<E: Edit + Drop, A: Drop> UpdateRun<E, A> {
         ensures tries { self.new.tries ≡ self.old.tries }
     {
         match self.edit.reads(found, self.snaps.as_slice()) {
-            Some((node, read)) => {
-                self.read = read;
+            Some((node, known)) => {
+                self.read.begin(known);
                 self.read_next(found, node)
             }
             None => Next::Fill(Nth::First),
@@ -305,6 +306,7 @@ impl<E: Edit + Drop, A: Drop> UpdateRun<E, A> {
         low: u64,
         high: u64,
     ) -> Next
+        requires pair { is_at_pair self.old.read ≡ true }
         ensures turn { (c : Call) (b h : History) → IsRun TreeAllows c.layout h → IsTry c b h self.old.limit self.old.tries
             → Reads E.means (half_told self.old slot key low) (begun_at c b) h found.now node (SettledPart.High slot)
             → value h (Word.Node node (NodeWord.Settled (SettledPart.High slot))) ≡ high → UpdateGoesOn E.means c h self.new found.now (Ok result) }
@@ -314,7 +316,7 @@ impl<E: Edit + Drop, A: Drop> UpdateRun<E, A> {
             (self.old.tries * try_left E.means nodes + (reads_left (half_told self.old slot key low).read - 1 + E.means.most_fills + 39)) }
         ensures spends { HasSpentForNext E.means self.old.share self.new found.now (Ok result) self.old.tries (self.old.tries + 1) }
         ensures tries { self.new.tries ≡ self.old.tries }
-        ensures at_pair { is_at_pair self.old.read ≡ true → is_at_pair self.new.read ≡ true }
+        ensures at_pair { is_at_pair self.new.read ≡ true }
     {
         self.read.keep_pair(slot, key, low, high);
         match self.read.slot {

@@ -3,7 +3,7 @@ ghost use Rattle.std.specs.Prelude.{◌≡◌};
 
 use crate::leaf;
 use arena::{Head, NodeNo, Share, Side};
-use edits::{Edit, Look, Need, Nodes, Nth, Pairs, Piece, Reading, UpdateAt, UpdateRun};
+use edits::{Edit, Known, Look, Need, Nodes, Nth, Pairs, Piece, Reading, UpdateAt, UpdateRun};
 use ordered_map::Pair;
 use prims::Snap;
 use template::{Found, Goal};
@@ -158,11 +158,11 @@ impl Edit for Delete {
     }
 
     #[inline(always)]
-    fn reads(&self, found: &Found, snaps: &[Snap]) -> Option<(NodeNo, Reading)> {
+    fn reads(&self, found: &Found, snaps: &[Snap]) -> Option<(NodeNo, Known)> {
         if 0 < found.more {
             Some(leaf::reads(found))
         } else {
-            Some((Delete::sibling(found, snaps).node, Reading::new()))
+            Some((Delete::sibling(found, snaps).node, Known::Nothing))
         }
     }
 

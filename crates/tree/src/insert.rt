@@ -3,7 +3,7 @@ ghost use Rattle.std.specs.Prelude.{◌≡◌};
 
 use crate::leaf;
 use arena::{NodeNo, Share, Side, Slot};
-use edits::{Edit, Look, Need, Nodes, Nth, Pairs, Piece, Reading, UpdateAt, UpdateRun};
+use edits::{Edit, Known, Look, Need, Nodes, Nth, Pairs, Piece, Reading, UpdateAt, UpdateRun};
 use ordered_map::Pair;
 use prims::Snap;
 use template::{Found, Goal};
@@ -153,7 +153,7 @@ impl Edit for Insert {
     }
 
     #[inline(always)]
-    fn reads(&self, found: &Found, snaps: &[Snap]) -> Option<(NodeNo, Reading)> {
+    fn reads(&self, found: &Found, snaps: &[Snap]) -> Option<(NodeNo, Known)> {
         if found.head.class == 0 {
             Some(leaf::reads(found))
         } else {

@@ -1,9 +1,10 @@
 //! What edits of one leaf look at and read.
-ghost use Rattle.std.specs.Prelude.{◌≡◌};
+ghost use Rattle.std.specs.Prelude.{◌≡◌, Some};
+ghost use Rattle.edits.specs.Readings.{known_reads};
 ghost use Rattle.tree.specs.LeafEdit.{leaf_looks, leaf_reads};
 
 use arena::NodeNo;
-use edits::{Look, Reading};
+use edits::{Known, Look};
 use prims::Snap;
 use template::Found;
 
@@ -30,8 +31,9 @@ pub(crate) fn look(found: &Found, snaps: &[Snap]) -> Look
 
 /// The leaf, whose head and count the walk has found.
 #[inline(always)]
-pub(crate) fn reads(found: &Found) -> (NodeNo, Reading)
-    ensures { result ≡ leaf_reads found.now }
+pub(crate) fn reads(found: &Found) -> (NodeNo, Known)
+    ensures { known_reads (Some result) ≡ Some (leaf_reads found.now) }
 {
-    (found.trail.node, Reading::of_leaf(found.head, found.more))
+    let (head, more) = (found.head, found.more);
+    (found.trail.node, Known::Leaf { head, more })
 }

@@ -3,7 +3,7 @@ ghost use Rattle.std.specs.Prelude.{◌≡◌};
 
 use crate::delete::Delete;
 use arena::{NodeNo, Share, Side};
-use edits::{Edit, Look, Need, Nodes, Nth, Piece, Reading, UpdateAt, UpdateRun};
+use edits::{Edit, Known, Look, Need, Nodes, Nth, Piece, Reading, UpdateAt, UpdateRun};
 use prims::Snap;
 use template::{Found, Goal};
 
@@ -70,7 +70,7 @@ impl Edit for PopFirst {
     }
 
     #[inline(always)]
-    fn reads(&self, found: &Found, snaps: &[Snap]) -> Option<(NodeNo, Reading)> {
+    fn reads(&self, found: &Found, snaps: &[Snap]) -> Option<(NodeNo, Known)> {
         PopFirst::delete(found).reads(found, snaps)
     }
 

@@ -3,7 +3,7 @@ ghost use Rattle.std.specs.Prelude.{◌≡◌};
 
 use crate::insert::Insert;
 use arena::{NodeNo, Share, Side};
-use edits::{Edit, Look, Need, Nodes, Nth, Piece, Reading, UpdateAt, UpdateRun};
+use edits::{Edit, Known, Look, Need, Nodes, Nth, Piece, Reading, UpdateAt, UpdateRun};
 use prims::Snap;
 use template::{Found, Goal};
 
@@ -80,7 +80,7 @@ impl Edit for ReplaceIf {
     }
 
     #[inline(always)]
-    fn reads(&self, found: &Found, snaps: &[Snap]) -> Option<(NodeNo, Reading)> {
+    fn reads(&self, found: &Found, snaps: &[Snap]) -> Option<(NodeNo, Known)> {
         self.insert().reads(found, snaps)
     }
 
