@@ -19,10 +19,10 @@ use Rattle.ordered_map.proofs.Lemmas.{same_pair, stood_settled, SameSettled, set
 use Rattle.template.specs.Trails.{IsOwnMoment}
 use Rattle.order.specs.Found.{AreThere, GoesTo, IsAtLowFork, IsReading, IsThere, Looks, Stands, StandsIn, TakesPair, WalksTo, head_at, key_at, place_key, more_at, place_pair}
 use Rattle.order.specs.Laws.Search.{IsFirstBehind}
-use Rattle.order.specs.Loads.{first_place, place_behind}
+use Rattle.order.specs.Loads.{first_in_leaf, place_behind}
 use Rattle.order.specs.Next.{MayLoad, MayValidate}
 use Rattle.order.specs.Reads.{HasStood, Whenever}
-use Rattle.order.specs.Successor.{GoesBeyond, IsNextLeaf, IsInLeaf, IsOnRoute, LooksOnRoute, TakesOnRoute, asks_key, behind_path, children_below, is_answer, leaf_load, route_below, second_path_left, successor_means}
+use Rattle.order.specs.Successor.{GoesBeyond, IsNextLeaf, IsInLeaf, IsOnRoute, LooksOnRoute, TakesOnRoute, asks_on_route, behind_path, children_below, is_answer, leaf_load, route_below, second_path_left, successor_means}
 use Rattle.order.specs.declared.load.LeafPlace.{LeafPlace}
 use Rattle.order.specs.declared.read.Children.{Children}
 use Rattle.order.specs.declared.read.Children.TheVariants.{Left, Right, Both}
@@ -157,10 +157,10 @@ module _ (r : Successor) (snaps : List Snap) (c : Call) (h : History) (n : ℕ) 
       go b same Beyond e y = (refl, y)
 
   -- of which it loads no key
-  pub high_looks : (head : HeadParts) → head_at h n ≡ head → asks_key r.route head ≡ false → head.leaf ≡ false → Looks successor_means r snaps c h (children_below r.route true) head.level n
-  high_looks head is e fork = looks_at true head.level (ap (λ (w : HeadParts). w.leaf) is ∙ fork) (ap (λ (w : HeadParts). w.level) is) (λ right on. inl (refl, above (subst (λ route. asks_key route head ≡ false) on e)))
+  pub high_looks : (head : HeadParts) → head_at h n ≡ head → asks_on_route r.route head ≡ false → head.leaf ≡ false → Looks successor_means r snaps c h (children_below r.route true) head.level n
+  high_looks head is e fork = looks_at true head.level (ap (λ (w : HeadParts). w.leaf) is ∙ fork) (ap (λ (w : HeadParts). w.level) is) (λ right on. inl (refl, above (subst (λ route. asks_on_route route head ≡ false) on e)))
     where
-      above : asks_key (Along record { 0 = 0 }) head ≡ false → r.key < rank (value h) n
+      above : asks_on_route (Along record { 0 = 0 }) head ≡ false → r.key < rank (value h) n
       above d =
           let high : class (value h) n ≢ 0 = λ z. asks_not head d (sym (ap (λ (w : HeadParts). w.class) is) ∙ z) in
           let s = reading.suits in
@@ -182,7 +182,7 @@ low_looks r snaps c h low n key reading x key_is = looks_at r snaps c h n readin
 
 module _ (r : Successor) (snaps : List Snap) (c : Call) (h : History) (n : NodeNo) (reading : IsReading successor_means r snaps c h) (x : Stands successor_means r snaps c h n.0) (leaf : is_leaf (value h) n.0 ≡ true) (low : class (value h) n.0 ≡ 0) where
   -- before its first place
-  starts_at : (more : ℕ) → Whenever c.layout h snaps (λ b. IsInLeaf r.route b r.key (first_place n more)) → StandsIn successor_means r snaps c h (first_place n more)
+  starts_at : (more : ℕ) → Whenever c.layout h snaps (λ b. IsInLeaf r.route b r.key (first_in_leaf n more)) → StandsIn successor_means r snaps c h (first_in_leaf n more)
   starts_at more here = record { stood = x.stood; asks = tt; some = some_taken successor_means r snaps c h reading n.0 x leaf; waits = x.waits; here = here }
 
   module _ (b : History) (run : IsTreeRun c.layout b) (e : Extends b h) where
@@ -195,13 +195,13 @@ module _ (r : Successor) (snaps : List Snap) (c : Call) (h : History) (n : NodeN
     low_then : class (value b) n.0 ≡ 0
     low_then = settled_class (value h) (value b) n.0 same_leaf ∙ low
 
-    in_path : (route : Route) → route ≢ Beyond → IsOnRoute route b r.key n.0 → IsInLeaf route b r.key (first_place n (more_at h n.0))
+    in_path : (route : Route) → route ≢ Beyond → IsOnRoute route b r.key n.0 → IsInLeaf route b r.key (first_in_leaf n (more_at h n.0))
     in_path Above d y = absurd y
     in_path (Along right) d y = searched_in b r.key n (more_at h n.0) right.0 y leaf_then low_then (same_leaf (Settled MoreWord) tt)
     in_path Beyond d y = absurd (d refl)
 
-    in_next : (route : Route) → route ≡ Beyond → IsOnRoute route b r.key n.0 → IsInLeaf route b r.key (first_place n 0)
-    in_next route is y = subst (λ (w : Route). IsInLeaf w b r.key (first_place n 0)) (sym is) record { first = subst (λ (w : Route). IsOnRoute w b r.key n.0) is y; leaf = leaf_then; low = low_then; slot = refl }
+    in_next : (route : Route) → route ≡ Beyond → IsOnRoute route b r.key n.0 → IsInLeaf route b r.key (first_in_leaf n 0)
+    in_next route is y = subst (λ (w : Route). IsInLeaf w b r.key (first_in_leaf n 0)) (sym is) record { first = subst (λ (w : Route). IsOnRoute w b r.key n.0) is y; leaf = leaf_then; low = low_then; slot = refl }
 
   pub starts_in : MayLoad successor_means r snaps c h (leaf_load r.route n)
   starts_in = go r.route refl

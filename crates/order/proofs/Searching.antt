@@ -16,7 +16,7 @@ use Rattle.ordered_map.specs.TreeWords.{Tree, Leaf, Fork, root, Shows, Passes, c
 use Rattle.ordered_map.proofs.Lemmas.{first_of, search_items, search_here, search_past, search_tells, leaf_tells, low_pair, low_items, low_pairs, high_pairs, held_next, successor_behind, successor_here}
 use Rattle.order.specs.Found.{place_key, more_at, place_pair, pairs_behind}
 use Rattle.order.specs.Laws.Search.{IsSearched, IsSearchedIn, IsFirstBehind, IsFirstIn, or_next}
-use Rattle.order.specs.Loads.{first_place, place_behind}
+use Rattle.order.specs.Loads.{first_in_leaf, place_behind}
 use Rattle.order.specs.declared.load.LeafPlace.{LeafPlace}
 use Rattle.order.proofs.Following.{no_leaf, one_tree}
 use Rattle.order.proofs.Placing.{behind_more, behind_none, behind_some, place_next}
@@ -179,10 +179,10 @@ leaf_finds f k n d = go (successor k (leaf_items f n)) refl
     go (Some p) e = rw e refl
 
 -- on the path of k it stands at the first place
-pub searched_in : (h : History) (k : ℕ) (n : NodeNo) (more right : ℕ) → IsSearched h k n.0 right → is_leaf (value h) n.0 ≡ true → class (value h) n.0 ≡ 0 → more_at h n.0 ≡ more → IsSearchedIn h k (first_place n more) right
+pub searched_in : (h : History) (k : ℕ) (n : NodeNo) (more right : ℕ) → IsSearched h k n.0 right → is_leaf (value h) n.0 ≡ true → class (value h) n.0 ≡ 0 → more_at h n.0 ≡ more → IsSearchedIn h k (first_in_leaf n more) right
 searched_in h k n more right x leaf low count = go x.part.tree x.part.low x.part.high x.part.shows x.part.is x.finds
   where
-    go : (p : Tree) (least high : ℕ) → Shows (value h) least high p → root p ≡ n.0 → search_items (value h) k x.tree None ≡ search_items (value h) k p (first_of (value h) x.behind.tree) → IsSearchedIn h k (first_place n more) right
+    go : (p : Tree) (least high : ℕ) → Shows (value h) least high p → root p ≡ n.0 → search_items (value h) k x.tree None ≡ search_items (value h) k p (first_of (value h) x.behind.tree) → IsSearchedIn h k (first_in_leaf n more) right
     go (Fork m a b) least high s e d = no_leaf (value h) n.0 _ leaf (rw e at s.0.fork)
     go (Leaf m) least high s e d = record {
       tree = x.tree;

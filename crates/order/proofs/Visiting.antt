@@ -15,7 +15,7 @@ use Rattle.ordered_map.specs.Spelled.{IsTree, Spells}
 use Rattle.ordered_map.specs.TreeWords.{Tree, Leaf, Fork, root, Shows, class, is_leaf, rank, pairs, leaf_items, leaf_pairs}
 use Rattle.ordered_map.proofs.Lemmas.{open_between, low_items, low_pairs, high_pairs, rank_from, rank_below}
 use Rattle.order.specs.Found.{place_key, more_at, place_pair, pairs_behind}
-use Rattle.order.specs.Loads.{first_place, place_behind}
+use Rattle.order.specs.Loads.{first_in_leaf, place_behind}
 use Rattle.order.specs.Visits.{Bounds, part_pairs, IsVisiting, IsVisitingIn, HasVisited, HasVisitedIn, IsRangeAt}
 use Rattle.order.specs.declared.load.LeafPlace.{LeafPlace}
 use Rattle.order.proofs.Following.{no_leaf, one_tree}
@@ -232,7 +232,7 @@ module _ (h : History) (w : Bounds) (n : ℕ) (taken : List Pair) (waiting : Lis
 -- In a leaf of class 0
 
 -- the visit begins at its first place
-pub visits_in : (h : History) (w : Bounds) (n : NodeNo) (more : ℕ) (taken : List Pair) (waiting : List NodeNo) (leaves : ℕ) → IsVisiting h w n.0 taken waiting leaves → is_leaf (value h) n.0 ≡ true → class (value h) n.0 ≡ 0 → more_at h n.0 ≡ more → IsVisitingIn h w (first_place n more) taken waiting leaves
+pub visits_in : (h : History) (w : Bounds) (n : NodeNo) (more : ℕ) (taken : List Pair) (waiting : List NodeNo) (leaves : ℕ) → IsVisiting h w n.0 taken waiting leaves → is_leaf (value h) n.0 ≡ true → class (value h) n.0 ≡ 0 → more_at h n.0 ≡ more → IsVisitingIn h w (first_in_leaf n more) taken waiting leaves
 visits_in h w n more taken waiting leaves x leaf low count = record {
   tree = x.tree;
   is_tree = x.is_tree;
@@ -248,7 +248,7 @@ visits_in h w n more taken waiting leaves x leaf low count = record {
     one : IsOneLeaf h w n.0 taken waiting leaves x leaf
     one = one_leaf h w n.0 taken waiting leaves x leaf
 
-    go : Dec (leaves ≡ w.most + 2) → (w.low < place_key h (first_place n more)) ⊎ (waiting ≢ [] → w.most + 1 ≤ leaves - 1 + length taken)
+    go : Dec (leaves ≡ w.most + 2) → (w.low < place_key h (first_in_leaf n more)) ⊎ (waiting ≢ [] → w.most + 1 ≤ leaves - 1 + length taken)
     go (yes e) = inr (λ d. omega (arith, e))
     go (no d) = inl (let a = x.behind d in let b = one.from in omega (arith, a, b, low))
 

@@ -18,7 +18,7 @@ use Rattle.ordered_map.specs.Paths.{IsOnPath}
 use Rattle.ordered_map.specs.Runs.{IsTreeRun}
 use Rattle.ordered_map.specs.Spelled.{Spells}
 use Rattle.ordered_map.specs.TreeWords.{class, is_leaf, level, toward}
-use Rattle.order.specs.Loads.{first_place}
+use Rattle.order.specs.Loads.{first_in_leaf}
 use Rattle.order.specs.Meaning.{ReadMeaning}
 use Rattle.order.specs.Reads.{Reads, Whenever, HasStood}
 use Rattle.order.specs.declared.load.LeafPlace.{LeafPlace}
@@ -124,7 +124,7 @@ module _ {R A : Type 0} (means : ReadMeaning R A) (r : R) where
 
     -- it is about to stand at the first place of a leaf, once it is told of its count
     abbrev pub StandsBefore : NodeNo → Type 0
-    StandsBefore n = StandsIn (first_place n (more_at h n.0))
+    StandsBefore n = StandsIn (first_in_leaf n (more_at h n.0))
 
     -- it takes the pair at a place of a leaf, which has this key
     pub record TakesPair (p : LeafPlace) (key : ℕ) : Type 0 where

@@ -24,8 +24,8 @@ abbrev pub place_behind : LeafPlace → Option LeafPlace
 place_behind p = place_in p (slot_behind p.more p.slot)
 
 -- the first place of a leaf of which so many slots behind the first may be read
-abbrev pub first_place : NodeNo → ℕ → LeafPlace
-first_place n more = record { node = n; more = more; slot = First }
+abbrev pub first_in_leaf : NodeNo → ℕ → LeafPlace
+first_in_leaf n more = record { node = n; more = more; slot = First }
 
 -- the node of which a word is loaded
 abbrev pub load_node : ReadLoad → NodeNo

@@ -12,7 +12,7 @@ use Rattle.ordered_map.specs.Paths.{IsOnPath}
 use Rattle.ordered_map.specs.TreeWords.{rank}
 use Rattle.template.specs.Trails.{IsOwnMoment}
 use Rattle.order.specs.Found.{AreThere}
-use Rattle.order.specs.Loads.{first_place}
+use Rattle.order.specs.Loads.{first_in_leaf}
 use Rattle.order.specs.Meaning.{ReadMeaning}
 use Rattle.order.specs.Laws.Search.{IsSearched, IsSearchedIn, IsFirstBehind, IsFirstIn}
 use Rattle.order.specs.Reads.{Whenever}
@@ -26,14 +26,14 @@ use Rattle.order.specs.declared.successor.Route.TheVariants.{Above, Along, Beyon
 use Rattle.order.specs.declared.successor.Successor.{Successor}
 
 -- whether it loads the key of a fork with this head
-abbrev pub asks_key : Route → HeadParts → Bool
-asks_key Beyond head = false
-asks_key _ head = head.class == 0
+abbrev pub asks_on_route : Route → HeadParts → Bool
+asks_on_route Beyond head = false
+asks_on_route _ head = head.class == 0
 
 -- what it loads first of a leaf of class 0: on the path of its key how many pairs that has, behind it
 -- the first pair alone
 abbrev pub leaf_load : Route → NodeNo → ReadLoad
-leaf_load Beyond n = PairLoad (first_place n 0)
+leaf_load Beyond n = PairLoad (first_in_leaf n 0)
 leaf_load _ n = More n
 
 -- whether the pair with this key at its leaf is the answer

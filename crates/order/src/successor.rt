@@ -60,7 +60,7 @@ impl Successor {
     ghost use Rattle.order.specs.Next.{MayDo};
     ghost use Rattle.order.specs.Paths.{ComesNearer};
     ghost use Rattle.order.specs.Steps.{read_left};
-    ghost use Rattle.order.specs.Successor.{GoesBeyond, asks_key, children_below, is_answer, leaf_load, second_path_left, successor_try_left, successor_means};
+    ghost use Rattle.order.specs.Successor.{GoesBeyond, asks_on_route, children_below, is_answer, leaf_load, second_path_left, successor_try_left, successor_means};
     ghost use Rattle.order.specs.declared.read.Children.{Children};
     ghost use Rattle.order.specs.declared.run.ReadAt.{ReadAt};
 
@@ -83,8 +83,8 @@ impl Successor {
     /// Whether it loads the key of a fork with this head: behind the path of its key it goes left at
     /// all forks.
     #[inline(always)]
-    fn asks_key(&self, head: Head) -> bool
-        ensures { result ≡ asks_key self.now.route head }
+    fn asks_on_route(&self, head: Head) -> bool
+        ensures { result ≡ asks_on_route self.now.route head }
     {
         match self.route {
             Route::Beyond => false,
@@ -190,7 +190,7 @@ impl Read for Successor {
             self.found = None;
             return ReadNext::Validate;
         }
-        if self.asks_key(head) {
+        if self.asks_on_route(head) {
             return ReadNext::Load(ReadLoad::Key { level, node });
         }
         let children = self.children(true);

@@ -10,7 +10,7 @@ use Rattle.csv.proofs.RoundTrip.{read-write-many, rows_text as csv_text}
 use Rattle.script.specs.declared.script.Script.{Script}
 use Rattle.record.specs.declared.record.Line.{Line}
 use Rattle.arena.specs.declared.limits.Mode.{Mode}
-use Rattle.report.specs.Report.{report_rows, report_text, rows_in, title_row, seven}
+use Rattle.report.specs.Report.{report_rows, report_text, version_rows, title_row, seven}
 use Rattle.report.specs.declared.version.Version.{Version}
 use Rattle.report.specs.declared.version.Version.TheVariants.{Two}
 use Rattle.texts.specs.Pages.{line_of, rows_text}
@@ -67,9 +67,9 @@ text_of_seven [] = refl
 text_of_seven (row ∷ rows) = ap (λ text. line_of 7 row ++ text) (text_of_seven rows)
 
 -- what is read from a report has that report: it is read in the version in which it was written
-pub same_report : (version : Version) (script told : Script) (lines others : List Line) → AreRecords default_config state.StartRecord (strip_bom (report_text script lines)) (map seven (rows_in version told others)) → report_text told others ≡ report_text script lines
+pub same_report : (version : Version) (script told : Script) (lines others : List Line) → AreRecords default_config state.StartRecord (strip_bom (report_text script lines)) (map seven (version_rows version told others)) → report_text told others ≡ report_text script lines
 same_report version script told lines others read =
     let rows = same_records default_config state.StartRecord (strip_bom (report_text script lines)) _ _ read (report_is_read script lines) in
     let named = ap (λ (all : List (List (List ℕ))). get_or (get_or all 0 []) 1 []) rows in
-    let written = subst (λ v. map seven (rows_in v told others) ≡ map seven (report_rows script lines)) (same_version version Two named) rows in
+    let written = subst (λ v. map seven (version_rows v told others) ≡ map seven (report_rows script lines)) (same_version version Two named) rows in
     text_of_seven (report_rows told others) ∙ ap csv_text written ∙ sym (text_of_seven (report_rows script lines))

@@ -132,12 +132,12 @@ abbrev pub rows_of_lines : Version → Mode → Limits → List Call → List Li
 rows_of_lines version mode limits calls lines = rows_of_calls version mode limits calls ++ map seven (map line_row lines)
 
 -- the rows of the report of a script and of its run's lines, in a version
-abbrev pub rows_in : Version → Script → List Line → List (List (List ℕ))
-rows_in version script lines = rows_told version script.layout.mode script.limits script.calls.items lines
+abbrev pub version_rows : Version → Script → List Line → List (List (List ℕ))
+version_rows version script lines = rows_told version script.layout.mode script.limits script.calls.items lines
 
 -- as they are written
 abbrev pub report_rows : Script → List Line → List (List (List ℕ))
-report_rows script lines = rows_in Two script lines
+report_rows script lines = version_rows Two script lines
 
 -- the text of a report: its rows, one a line
 abbrev pub report_text : Script → List Line → List ℕ

@@ -7,7 +7,7 @@ use Rattle.script.specs.declared.call.Call.{Call}
 use Rattle.script.specs.declared.script.Script.{Script}
 use Rattle.record.specs.declared.record.Line.{Line}
 use Rattle.texts.specs.Texts.{AreRows, BeginWithRows}
-use Rattle.report.specs.Report.{rows_in, rows_told, seven}
+use Rattle.report.specs.Report.{version_rows, rows_told, seven}
 use Rattle.report.specs.Spellings.{IsReported, IsSpelledLine}
 use Rattle.report.specs.declared.fault.ReportFault.{ReportFault}
 use Rattle.report.specs.declared.fault.ReportFault.TheVariants.{NoMemory, Read, NotLawful}
@@ -16,7 +16,7 @@ use Rattle.report.specs.declared.version.Version.{Version}
 -- the bytes are the report of a script and of a run's lines, in a version that can spell them
 pub record IsReportOf (script : Script) (lines : List Line) (bytes : List ℕ) : Type 0 where
   pub version : Version
-  pub rows : AreRows bytes (map seven (rows_in version script lines))
+  pub rows : AreRows bytes (map seven (version_rows version script lines))
   pub calls : All (IsReported version script.layout.mode script.layout.passes) script.calls.items
   pub spelled : All (IsSpelledLine version) lines
 

@@ -219,7 +219,8 @@ fn reply_of(fields: [&str; 7], answer: Answer, commands: &Commands) -> Option<Li
     ensures call { (calls : ℕ → ℕ) → IfSome result (IsOfNextCall calls) }
     ensures form { (passes : ℕ) (calls : List CallOf) → HasCommands commands.now passes calls → IfSome result (HasForm passes calls) }
     ensures spelled { (version : VersionOf) → IsSpelledAnswer version answer → IfSome result (IsSpelledLine version) }
-    ensures none { IfNone result ((version : VersionOf) (reply : FinishedOf) → IsSpelledFinished version reply → texts fields.entry ≢ seven (line_row (ReplyLine reply))) }
+    ensures none { IfNone result ((version : VersionOf) (reply : FinishedOf) → IsSpelledFinished version reply
+        → texts fields.entry ≢ seven (line_row (ReplyLine reply))) }
 {
     let ["reply", client, call, begin, end, moment, _] = fields else {
         return None;

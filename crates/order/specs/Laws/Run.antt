@@ -38,7 +38,7 @@ use Rattle.order.specs.Found.{AreThere, IsAtLowFork, Looks, StandsIn, TakesPair,
 use Rattle.order.specs.Known.{BeginsHere, IsLastTurn, ReadGoes, ReadIsReady, ReadIsToldAt, ReadWaits, ReadWaitsAt, RunStands, StandsInTry, Validates, Walks, WalksInTry}
 use Rattle.order.specs.Laws.Depth.{fork_depth, head_fits}
 use Rattle.order.specs.Laws.Kept.{begins_more, in_try_more, in_try_now, load_begins_none, reads_anew, root_there, stood_more, whenever_more, reads_more, settled_more}
-use Rattle.order.specs.Loads.{first_place, load_node, load_part, load_value, load_word}
+use Rattle.order.specs.Loads.{first_in_leaf, load_node, load_part, load_value, load_word}
 use Rattle.order.specs.Meaning.{ReadMeaning}
 use Rattle.order.specs.Next.{MayLoad}
 use Rattle.order.specs.Paths.{HeadFits, LoadFits}
@@ -126,7 +126,7 @@ module _ {R A : Type 0} (means : ReadMeaning R A) (m : ReadRun R) where
     load_more : (of : ReadLoad) → MayLoad means m.read m.snaps.items c h of → MayLoad means m.read m.snaps.items c (r ⊳ h) of
     load_more (loads.Head above n) x = (stands_more n.0 x.0, deeper_more above n.0 x.0.stood x.1)
     load_more (loads.Key low n) x = fork_more low n.0 x
-    load_more (loads.More n) x = subst (λ more. StandsIn means m.read m.snaps.items c (r ⊳ h) (first_place n more)) (sym (settled_more c h r run n.0 g x.stood (Settled MoreWord) tt)) (place_more (first_place n (more_at h n.0)) x)
+    load_more (loads.More n) x = subst (λ more. StandsIn means m.read m.snaps.items c (r ⊳ h) (first_in_leaf n more)) (sym (settled_more c h r run n.0 g x.stood (Settled MoreWord) tt)) (place_more (first_in_leaf n (more_at h n.0)) x)
     load_more (loads.Pair p) x = place_more p x
     load_more (loads.Value p key) x = pair_more p key x
     load_more (loads.High p key low) x = (pair_more p key x.0, settled_more c h r run p.node.0 g x.0.stands.stood (Settled (ValueWord p.slot)) tt ∙ x.1)

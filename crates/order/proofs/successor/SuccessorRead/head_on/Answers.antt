@@ -16,4 +16,4 @@ returns-then-head-2-clause-goes_on c snaps d h reading own x is =
     tells_nothing c.args.self.now snaps d h c.args.node.0 reading x own (ap (λ (w : HeadParts). w.leaf) is ∙ c.if-head-2.true) (λ z. high (sym (ap (λ (w : HeadParts). w.class) is) ∙ z))
 
 pub returns-clause-goes_on : goal.returns-clause-goes_on
-returns-clause-goes_on c snaps d h reading own x is = rw c.children-children.ensures (high_looks c.args.self.now snaps d h c.args.node.0 reading x c.args.head is (sym c.asks_key.ensures ∙ c.if-asks_key.false) c.if-head-2.false)
+returns-clause-goes_on c snaps d h reading own x is = rw c.children-children.ensures (high_looks c.args.self.now snaps d h c.args.node.0 reading x c.args.head is (sym c.asks_on_route.ensures ∙ c.if-asks_on_route.false) c.if-head-2.false)
