@@ -1,7 +1,7 @@
 -- Whole calls of a dictionary whose updates are straight.
 use Rattle.std.specs.Global.{Global}
 use Rattle.std.specs.Prelude.{Result, Vec}
-use Rattle.std.proofs.Common.{◌≡◌, ℕ, zero, suc, ◌+◌, ◌*◌, ◌-◌, ◌<◌, ◌≤◌, List, [], Option, None, refl, sym, subst, ap, arith, ◌∙◌}
+use Rattle.std.proofs.Common.{◌≡◌, ℕ, zero, suc, ◌+◌, ◌*◌, ◌-◌, ◌<◌, ◌≤◌, List, [], ◌∷◌, Bool, true, false, ◌==◌, if◌then◌else◌, Option, None, Some, refl, sym, subst, ap, arith, ◌∙◌, eq-eqb, eqb-true}
 use Rattle.arena.specs.declared.layout.Layout.{Layout}
 use Rattle.arena.specs.declared.step.Step.{Step}
 use Rattle.arena.specs.History.{History}
@@ -17,7 +17,7 @@ use Rattle.order.specs.declared.refused.Refused.{Refused}
 use Rattle.order.specs.declared.run.ReadAt.TheVariants.{Start as ReadStart}
 use Rattle.order.specs.declared.run.ReadRun.{ReadRun}
 use Rattle.ordered_map.specs.declared.pair.Pair.{Pair}
-use Rattle.ordered_map.specs.OrderedMap.{MapCall}
+use Rattle.ordered_map.specs.OrderedMap.{MapCall, MapReply, OneValue, pair, reply}
 use Rattle.edits.specs.Next.{standing}
 use Rattle.edits.specs.Steps.{node_tries, scx_tries}
 use Rattle.edits.specs.declared.update.UpdateAt.{UpdateAt}
@@ -30,6 +30,9 @@ use Rattle.dict.specs.Words.{IsWordOf}
 use Rattle.dict.specs.declared.dict.DictRun.{DictRun}
 use Rattle.dict.specs.Around.{IsAround}
 use Rattle.dict.specs.Calls.{IsFewCall, IsSmallCall, KeepsTriesButOne, call_in, inner_call, inner_share}
+use Rattle.template.specs.declared.walk.Goal.{Goal}
+use Rattle.template.specs.declared.walk.Goal.TheVariants.{Key as ToKey, Least}
+use Rattle.dict.specs.Goals.{goal_told}
 use Rattle.dict.specs.Inner.{EditKind, InnerRun, Read, ReadKind, Update, inner, range_kind, successor_kind}
 use Rattle.dict.specs.Known.{Goes, HasRested, InnerAnswers, IsReadyInside, StandsAtStart, WaitsInside}
 use Rattle.dict.specs.Laws.Kinds.{IsEditKind, IsReadKind, range_is, successor_is}
@@ -44,8 +47,9 @@ use Rattle.forest.specs.StraightCalls.{DictAllows, DictCallIsReady, DictCallWait
 use Rattle.forest.specs.StraightReads.{Reader, ReaderBegins, ReaderEnds}
 use Rattle.forest.specs.StraightUpdate.{Updater, HasUpdateGoneOn, UpdaterBegins, UpdaterEnds}
 use Rattle.forest.specs.TableRule.{history_of}
-use Rattle.forest.specs.Traces.{begins, goes_on}
+use Rattle.forest.specs.Traces.{Trace, begins, goes_on}
 use Rattle.forest.specs.CallKinds.{Calls}
+use Rattle.forest.proofs.Calls.{course_keeps}
 
 -- An ordered read of a dictionary: its kind, and the machine of a call of the map around it.
 pub record DictRead : Type 1 where
@@ -59,6 +63,29 @@ successors = record { kind = successor_kind; is = successor_is; around = λ m sh
 
 abbrev pub ranges : DictRead
 ranges = record { kind = range_kind; is = range_is; around = λ m share. Range m share; inside = λ m share. refl }
+
+-- Goals that are told the same of each map are the same: one of a key is told of a map of that key
+-- alone what no other is.
+
+is_one : MapReply → Type 0
+is_one (OneValue (Some v)) = Unit {0}
+is_one _ = ⊥
+
+same_key : (j k : ℕ) (b : Bool) → (j == k) ≡ b → is_one (OneValue (if b then Some 0 else None)) → k ≡ j
+unfolding is_one
+same_key j k true e x = sym (eqb-true j k e)
+same_key j k false e x = absurd x
+
+same_goal : (a b : Goal) → ((map : List Pair) → goal_told a map ≡ goal_told b map) → a ≡ b
+unfolding is_one
+same_goal (ToKey k) (ToKey j) e = ap (λ n. ToKey n) (same_key j k (j == k) refl (subst is_one (e (pair k 0 ∷ [])) (rw (eq-eqb k k refl) tt)))
+same_goal (ToKey k) Least e = absurd (subst is_one (e (pair k 0 ∷ [])) (rw (eq-eqb k k refl) tt))
+same_goal Least (ToKey j) e = absurd (subst is_one (sym (e (pair j 0 ∷ []))) (rw (eq-eqb j j refl) tt))
+same_goal Least Least e = refl
+
+-- edits of the same call walk to the same goal
+goal_of : (k : EditKind) → IsEditKind k → (a b : k.E) → k.call a ≡ k.call b → k.means.goal a ≡ k.means.goal b
+goal_of k kind a b e = same_goal _ _ (λ map. sym (kind.walks a map) ∙ ap (λ call. reply call map) e ∙ kind.walks b map)
 
 module _ {K V : Type 0} (valid_key : K → Type 0) (key : K → ℕ) (valid_value : V → Type 0) (value_word : V → ℕ) where
   abbrev allows : Layout → History → ℕ → Type 0
@@ -122,17 +149,22 @@ module _ {K V : Type 0} (valid_key : K → Type 0) (key : K → ℕ) (valid_valu
       unfolding editor
       edit_begins ps m same x = record { known = x.known; is = x.is; sound = x.sound; so = (subst (λ r. ready (record machine { run = r }) c (history_of c.layout.mode x.known) None) same x.so.1, begins (λ i. record machine { run = sym same i }) (sym x.so.0)) }
 
-      pub edit_ended : (ps : List SeatedPass) {A : Type 0} (m : UpdateRun k.E A) (a : Updated) → UpdaterEnds editor ps m a → ends c ps machine (editing (standing m Start)) (edit_reply (k.means.goal m.edit) a)
+      -- the call stays of the edit with which it began, and so it has walked to where that walks
+      same_walk : (h : History) (old : UpdateRun k.E UpdateAt) (ed : k.E) → call_in machine.run ≡ k.call ed → Trace allows waits same c machine (editing old) h → k.means.goal old.edit ≡ k.means.goal ed
+      same_walk h old ed of course = goal_of k kind old.edit ed (sym (is.is_call old) ∙ course_keeps (λ d. call_in d.run ≡ call_in machine.run) refl (λ before now s e. s.0 ∙ e) (editing old) h course ∙ of)
+
+      pub edit_ended : (ps : List SeatedPass) {A : Type 0} (m : UpdateRun k.E A) (a : Updated) (ed : k.E) (goal : Goal) → call_in machine.run ≡ k.call ed → goal ≡ k.means.goal ed → UpdaterEnds editor ps m a → ends c ps machine (editing (standing m Start)) (edit_reply goal a)
       unfolding editor
-      edit_ended ps m a x =
+      edit_ended ps m a ed goal of to x =
           let y = x.so in
           let went : Goes (Update k y.old) machine.tries c = is.goes_inside y.old machine.tries c y.was.1.0 in
+          let walk : k.means.goal m.edit ≡ goal = ap k.means.goal y.goes.edit ∙ same_walk _ y.old ed of y.course ∙ sym to in
           record {
             known = x.known;
             is = x.is;
             sound = x.sound;
             so = (
-              (went.mode, is.answers (standing m Start) machine.tries c _ (edit_reply (k.means.goal m.edit) a) (edit_ends machine.tries c _ k kind y.old (standing m Start) a (typed_run keys values c.layout _ x.sound) went y.goes.edit y.goes.called y.goes.limit y.goes.spends y.answers)),
+              (went.mode, is.answers (standing m Start) machine.tries c _ (edit_reply goal a) (subst (λ (w : Goal). InnerAnswers machine.tries (Update k (standing m Start)) c (history_of c.layout.mode x.known) (edit_reply w a)) walk (edit_ends machine.tries c _ k kind y.old (standing m Start) a (typed_run keys values c.layout _ x.sound) went y.goes.edit y.goes.called y.goes.limit y.goes.spends y.answers))),
               goes_on (editing y.old) (same_call y.old (standing m Start) y.goes.edit, refl, fewer y.old (standing m Start) y.goes.tries) y.course,
             );
           }

@@ -26,7 +26,7 @@ use Rattle.prims.proofs.Lemmas.{done_at}
 use Rattle.edits.specs.declared.edit.Nth.{Nth}
 use Rattle.edits.specs.declared.edit.Nth.TheVariants.{First}
 use Rattle.edits.specs.declared.piece.Piece.{Piece}
-use Rattle.edits.specs.Pieces.{is_filled, is_leaf, nth_node, part_behind, word_of}
+use Rattle.edits.specs.Pieces.{is_filled, is_leaf_piece, nth_node, part_behind, word_of}
 use Rattle.edits.specs.Readings.{is_at_pair, next_read, read_with}
 use Rattle.edits.specs.Sound.{FillsWell, IsAtFound}
 use Rattle.edits.proofs.Lemmas.{behind_filled, fewer_fills, fills_next, fills_word, high_behind_value, joined_spends, key_behind_value, key_then_value, placed_same, scx_asks, scx_done, told_spends, told_turn, value_behind_key, value_then_high}
@@ -303,25 +303,28 @@ module _ {M E : Type 0} {o : Calls M} {e : EditMeaning E} (u : Updater o e) wher
 
   -- Its machine goes on
 
-  -- once its machine has begun what comes next, it stands there
-  pub stands_there : (ps : List SeatedPass) {A : Type 0} (m : UpdateRun E A) (start now : UpdateRun E UpdateAt) (f : Found) (next : Next) (turn : Turn Updated) → start ≡ standing m Start → now ≡ placed e start f next → turn ≡ Ask (next_step e start f next) → UpdaterTries u ps m f next → HostedStands u ps now turn
-  stands_there ps m start now f next turn is place asks x = rw (place, asks, is) (there next x)
+  -- what comes next does not depend on the place of the update
+  pub goes_there : (ps : List SeatedPass) {A : Type 0} (m : UpdateRun E A) (start : UpdateRun E UpdateAt) (f : Found) (next : Result Next Stop) → start ≡ standing m Start → UpdaterGoesOn u ps m f next → UpdaterGoesOn u ps start f next
+  goes_there ps m start f next is x = subst (λ (r : UpdateRun E UpdateAt). UpdaterGoesOn u ps r f next) (sym is) (there next x)
     where
-      there : (n : Next) → UpdaterTries u ps m f n → UpdaterTries u ps (standing m Start) f n
-      there (LookNext k) y = y
-      there (WaitNext k b scx) y = y
-      there (ReadNext n part) y = y
-      there (FillNext nth) y = y
-      there (ChangeNext scx) y = y
+      there : (n : Result Next Stop) → UpdaterGoesOn u ps m f n → UpdaterGoesOn u ps (standing m Start) f n
+      there (Ok (LookNext k)) y = y
+      there (Ok (WaitNext k b scx)) y = y
+      there (Ok (ReadNext n part)) y = y
+      there (Ok (FillNext nth)) y = y
+      there (Ok (ChangeNext scx)) y = y
+      there (Err stop) y = record { known = y.known; is = y.is; sound = y.sound; so = let z = y.so in record { old = z.old; got = z.got; was = z.was; goes = gone_anywhere z.old m Start m.tries z.goes; tries = z.tries; may = may_stop_there e u.call _ m f stop z.may; course = z.course } }
 
-  -- so too where its try ends
-  pub stops_there : (ps : List SeatedPass) {A : Type 0} (m : UpdateRun E A) (start now : UpdateRun E UpdateAt) (f : Found) (stop : Stop) (turn : Turn Updated) → start ≡ standing m Start → IsSameUpdate start now → (start.tries ≤ now.tries + 1) × (now.tries ≤ start.tries) → IsSpending e turn start.share now start.tries start.tries → ((h : History) → IsRun TreeAllows u.call.layout h → MayStop e u.call h start f stop → UpdateTurn e u.call h now turn) → UpdaterStops u ps m f stop → HostedStands u ps now turn
-  stops_there ps m start now f stop turn is same_run fewer spent next x = stops ps start f now stop turn same_run fewer spent next (subst (λ (r : UpdateRun E UpdateAt). UpdaterStops u ps r f stop) (sym is)
-      record { known = x.known; is = x.is; sound = x.sound; so = let y = x.so in record { old = y.old; got = y.got; was = y.was; goes = gone_anywhere y.old m Start m.tries y.goes; tries = y.tries; may = may_stop_there e u.call _ m f stop y.may; course = y.course } })
+  pub blocked_there : (ps : List SeatedPass) {A : Type 0} (m : UpdateRun E A) (start : UpdateRun E UpdateAt) (f : Found) (scx : ScxNo) (help : HelpRun) → start ≡ standing m Start → UpdaterIsBlocked u ps m f scx help → UpdaterIsBlocked u ps start f scx help
+  blocked_there ps m start f scx help is x = subst (λ (r : UpdateRun E UpdateAt). UpdaterIsBlocked u ps r f scx help) (sym is) x
+
+  -- once its machine has begun what comes next, it stands there
+  pub stands_there : (ps : List SeatedPass) (m now : UpdateRun E UpdateAt) (f : Found) (next : Next) (turn : Turn Updated) → now ≡ placed e m f next → turn ≡ Ask (next_step e m f next) → UpdaterTries u ps m f next → HostedStands u ps now turn
+  stands_there ps m now f next turn place asks x = rw (place, asks) x
 
   -- so too where its SCX could not freeze a node
-  pub blocks_there : (ps : List SeatedPass) {A : Type 0} (m : UpdateRun E A) (start now : UpdateRun E UpdateAt) (f : Found) (scx : ScxNo) (help : HelpRun) (turn : Turn Updated) → start ≡ standing m Start → now ≡ standing start (Scx f record { scx = scx; call = start.call; update = update_of e start f; at = Help help }) → turn ≡ Ask (all_frozen_load scx) → UpdaterIsBlocked u ps m f scx help → HostedStands u ps now turn
-  blocks_there ps m start now f scx help turn is place asks x = rw (place, asks, is) x
+  pub blocks_there : (ps : List SeatedPass) (m now : UpdateRun E UpdateAt) (f : Found) (scx : ScxNo) (help : HelpRun) (turn : Turn Updated) → now ≡ standing m (Scx f record { scx = scx; call = m.call; update = update_of e m f; at = Help help }) → turn ≡ Ask (all_frozen_load scx) → UpdaterIsBlocked u ps m f scx help → HostedStands u ps now turn
+  blocks_there ps m now f scx help turn place asks x = rw (place, asks) x
 
   -- while it fills a fresh node there is an SCX-record left
   scx_is_left : (ps : List SeatedPass) (m : UpdateRun E UpdateAt) (v : ℕ) → HostedIsTold u ps m v → HasScxForFill m m.at
@@ -545,13 +548,13 @@ filled_next p part None e = tt
 filled_next p part (Some next) e = behind_filled p part next (sym e)
 
 -- a pair of which no high half is filled takes two fills, another one three
-pub fewer_by_two : (p : Piece) (slot : Slot) (next : Option NodeWord) → is_leaf p ≡ true → is_filled p (Settled (Key slot)) ≡ true → word_of p (Settled (High slot)) ≡ 0 → next ≡ part_behind p (Settled (High slot)) → suc (suc (fills_then p next)) ≤ fills_then p (Some (Settled (Key slot)))
+pub fewer_by_two : (p : Piece) (slot : Slot) (next : Option NodeWord) → is_leaf_piece p ≡ true → is_filled p (Settled (Key slot)) ≡ true → word_of p (Settled (High slot)) ≡ 0 → next ≡ part_behind p (Settled (High slot)) → suc (suc (fills_then p next)) ≤ fills_then p (Some (Settled (Key slot)))
 fewer_by_two p slot next leaf there zero e =
     let a = fewer_fills_then p (Settled (Key slot)) (Some (Settled (Value slot))) (value_behind_key p slot leaf there) in
     let b = fewer_fills_then p (Settled (Value slot)) next (key_behind_value p slot zero ∙ sym e) in
     omega (arith, a, b)
 
-pub fewer_by_three : (p : Piece) (slot : Slot) (next : Option NodeWord) → is_leaf p ≡ true → is_filled p (Settled (Key slot)) ≡ true → 0 < word_of p (Settled (High slot)) → next ≡ part_behind p (Settled (High slot)) → suc (suc (suc (fills_then p next))) ≤ fills_then p (Some (Settled (Key slot)))
+pub fewer_by_three : (p : Piece) (slot : Slot) (next : Option NodeWord) → is_leaf_piece p ≡ true → is_filled p (Settled (Key slot)) ≡ true → 0 < word_of p (Settled (High slot)) → next ≡ part_behind p (Settled (High slot)) → suc (suc (suc (fills_then p next))) ≤ fills_then p (Some (Settled (Key slot)))
 fewer_by_three p slot next leaf there some e =
     let a = fewer_fills_then p (Settled (Key slot)) (Some (Settled (Value slot))) (value_behind_key p slot leaf there) in
     let b = fewer_fills_then p (Settled (Value slot)) (Some (Settled (High slot))) (high_behind_value p slot some) in
@@ -591,20 +594,25 @@ module _ {E : Type 0} (e : EditMeaning E) {A : Type 0} (m : UpdateRun E A) (f : 
   pub fewer_as : (left : ℕ) → left < left_then e m f same nodes → left < left_then e m f next nodes
   fewer_as left i = subst (λ (n : Result Next Stop). left < left_then e m f n nodes) (sym is) i
 
--- so much is left where its machine stands once it has begun what comes next
-pub left_there : {E : Type 0} (e : EditMeaning E) {A : Type 0} (m : UpdateRun E A) (start now : UpdateRun E UpdateAt) (f : Found) (next : Next) (turn : Turn Updated) (nodes : ℕ) → start ≡ standing m Start → now ≡ placed e start f next → turn ≡ Ask (next_step e start f next) → weight turn (update_left e now nodes) ≡ left_then e m f (Ok next) nodes
-left_there e m start now f next turn nodes is place asks = rw (place, asks, is) (there next)
+-- what is left does not depend on the place of the update
+pub left_standing : {E : Type 0} (e : EditMeaning E) {A : Type 0} (m : UpdateRun E A) (start : UpdateRun E UpdateAt) (f : Found) (next : Result Next Stop) (nodes : ℕ) → start ≡ standing m Start → left_then e start f next nodes ≡ left_then e m f next nodes
+left_standing e m start f next nodes is = rw is (there next)
   where
-    there : (n : Next) → suc (update_left e (placed e (standing m Start) f n) nodes) ≡ suc (update_left e (placed e m f n) nodes)
-    there (LookNext k) = refl
-    there (WaitNext k b scx) = refl
-    there (ReadNext n part) = refl
-    there (FillNext nth) = refl
-    there (ChangeNext scx) = refl
+    there : (n : Result Next Stop) → left_then e (standing m Start) f n nodes ≡ left_then e m f n nodes
+    there (Ok (LookNext k)) = refl
+    there (Ok (WaitNext k b scx)) = refl
+    there (Ok (ReadNext n part)) = refl
+    there (Ok (FillNext nth)) = refl
+    there (Ok (ChangeNext scx)) = refl
+    there (Err stop) = refl
+
+-- so much is left where its machine stands once it has begun what comes next
+pub left_there : {E : Type 0} (e : EditMeaning E) (m now : UpdateRun E UpdateAt) (f : Found) (next : Next) (turn : Turn Updated) (nodes : ℕ) → now ≡ placed e m f next → turn ≡ Ask (next_step e m f next) → weight turn (update_left e now nodes) ≡ left_then e m f (Ok next) nodes
+left_there e m now f next turn nodes place asks = rw (place, asks) refl
 
 -- and where its SCX could not freeze a node
-pub left_blocked : {E : Type 0} (e : EditMeaning E) {A : Type 0} (m : UpdateRun E A) (start now : UpdateRun E UpdateAt) (f : Found) (scx : ScxNo) (help : HelpRun) (turn : Turn Updated) (nodes : ℕ) → start ≡ standing m Start → now ≡ standing start (Scx f record { scx = scx; call = start.call; update = update_of e start f; at = Help help }) → turn ≡ Ask (all_frozen_load scx) → weight turn (update_left e now nodes) ≡ suc (m.tries * try_left e nodes + scx_left (Help help))
-left_blocked e m start now f scx help turn nodes is place asks = rw (place, asks, is) refl
+pub left_blocked : {E : Type 0} (e : EditMeaning E) (m now : UpdateRun E UpdateAt) (f : Found) (scx : ScxNo) (help : HelpRun) (turn : Turn Updated) (nodes : ℕ) → now ≡ standing m (Scx f record { scx = scx; call = m.call; update = update_of e m f; at = Help help }) → turn ≡ Ask (all_frozen_load scx) → weight turn (update_left e now nodes) ≡ suc (m.tries * try_left e nodes + scx_left (Help help))
+left_blocked e m now f scx help turn nodes place asks = rw (place, asks) refl
 
 -- what is not more than something is not more than what that is not more than
 pub through : (a b c : ℕ) → a ≤ b → b ≤ c → a ≤ c

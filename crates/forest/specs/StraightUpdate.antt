@@ -1,13 +1,15 @@
 -- Calls of updates, of whatever machine updates: at a place of it, or before it has begun.
-use Rattle.std.specs.Prelude.{◌≡◌, ℕ, suc, ◌+◌, ◌≤◌, List, Option, Some, None, Result, Ok, Err}
+use Rattle.std.specs.Prelude.{◌≡◌, ℕ, suc, ◌+◌, ◌-◌, ◌≤◌, List, [], Option, Some, None, Result, Ok, Err}
 use Rattle.arena.specs.declared.word.NodeWord.{NodeWord}
 use Rattle.arena.specs.History.{History}
+use Rattle.arena.specs.Share.{Remaining}
 use Rattle.ordered_map.specs.TreeShape.{TreeAllows}
 use Rattle.edits.specs.Edits.{EditMeaning}
 use Rattle.edits.specs.Known.{UpdateIsReady, UpdateWaits, UpdateAnswers}
 use Rattle.template.specs.declared.walk.Found.{Found}
 use Rattle.edits.specs.Next.{fills, placed, standing, next_step, update_of, MayStop}
 use Rattle.edits.specs.Pieces.{fills_behind, part_behind}
+use Rattle.edits.specs.Readings.{nothing_read}
 use Rattle.edits.specs.Steps.{Spends, node_tries, pieces_now, scx_tries}
 use Rattle.edits.specs.declared.edit.Nth.{Nth}
 use Rattle.edits.specs.declared.piece.Piece.{Piece}
@@ -35,6 +37,20 @@ pub record HasUpdateGoneOn {E A : Type 0} (e : EditMeaning E) (old : UpdateRun E
   pub limit : now.limit ≡ old.limit
   pub tries : (old.tries ≤ now.tries + 1) × (now.tries ≤ old.tries)
   pub spends : Spends e.most_nodes old.share now.share (node_tries old old.at) nodes (scx_tries old old.at) scx
+
+-- an update of which nothing is made, in the call of this number
+abbrev pub new_update : {E : Type 0} → E → Remaining → ℕ → ℕ → UpdateRun E (Unit {0})
+new_update edit share tries call = record {
+  edit = edit;
+  share = share;
+  snaps = record { items = [] };
+  nodes = record { first = record { 0 = 0 }; second = record { 0 = 0 }; third = record { 0 = 0 } };
+  read = nothing_read;
+  tries = tries - 1;
+  limit = tries;
+  call = call;
+  at = tt;
+}
 
 -- An update that is called inside another call. Where it goes on with a step, its place says how
 -- many tries may still take of the share; where it has answered, those that are left may.
@@ -99,3 +115,7 @@ module _ {M E : Type 0} {o : Calls M} {e : EditMeaning E} (u : Updater o e) (ps 
   -- its SCX could not freeze a node, and waits to look whether all were frozen
   abbrev pub UpdaterIsBlocked : {A : Type 0} → UpdateRun E A → Found → ScxNo → HelpRun → Type 0
   UpdaterIsBlocked m f scx help = HostedWaits u ps (standing m (Scx f record { scx = scx; call = m.call; update = update_of e m f; at = Help help })) (all_frozen_load scx)
+
+  -- its update has answered, wherever it stands, and this is left of its share
+  abbrev pub UpdaterLeaves : Updated → Remaining → Type 0
+  UpdaterLeaves a share = (m : UpdateRun E (Unit {0})) × (m.share ≡ share) × UpdaterEnds m a

@@ -22,7 +22,6 @@ use atomic_table::Seat;
 use dict::{
     Dict, DictRun, EditCall, Reply, Request, WordKey, WordValue, of_range, of_successor, of_update,
 };
-use edits::UpdateRun;
 use order::{Range, RangeRun, Successor};
 use std::alloc::Global;
 
@@ -49,10 +48,11 @@ pub(crate) fn make<K: WordKey, V: WordValue, E: EditCall>(
         → CallHasEnded K.is_valid K.word_of V.is_valid V.word_of c seat.new.me.0.passes (E.call edit) share tries hand.entry.number result.1 result.0 }
     ensures steps { seat_steps seat.new.me.0.passes ≤ seat_steps seat.old.me.0.passes + most_steps (E.call edit) tries (shared_nodes hand.entry.layout.now) }
 {
-    let mut run = UpdateRun::new(edit, share, tries, hand.number, ());
-    let updated = update::call::<Dict<K, V>, DictRun<K, V>, E>(hand, seat, &mut run);
-    let goal = run.edit.goal();
-    (of_update(goal, updated), run.into_share())
+    let goal = edit.goal();
+    let (updated, share) = update::make::<Dict<K, V>, DictRun<K, V>, E>(
+        hand, seat, edit, share, tries,
+    );
+    (of_update(goal, updated), share)
 }
 
 /// A range that has not begun, with room for what it keeps as a rule: for its pairs, and for the

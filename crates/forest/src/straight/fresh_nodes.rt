@@ -8,7 +8,7 @@ ghost use Rattle.forest.specs.Traces.{seat_steps, shared_nodes};
 ghost use Rattle.forest.specs.StraightUpdate.{Updater, UpdaterFills, UpdaterTries, UpdaterGoesOn, fills_then};
 ghost use Rattle.edits.specs.Next.{left_then};
 ghost use Rattle.arena.specs.Layout.{node_start};
-ghost use Rattle.edits.specs.Pieces.{is_filled, is_leaf, nth_node, part_behind, word_of};
+ghost use Rattle.edits.specs.Pieces.{is_filled, is_leaf_piece, nth_node, part_behind, word_of};
 ghost use Rattle.edits.specs.Steps.{pieces_now};
 ghost use Rattle.edits.specs.declared.update.Next.{Next};
 
@@ -22,8 +22,8 @@ use template::Found;
 
 /// Whether it is a leaf.
 #[inline(always)]
-fn is_leaf(piece: &Piece) -> bool
-    ensures { result ≡ is_leaf piece.now }
+fn is_leaf_piece(piece: &Piece) -> bool
+    ensures { result ≡ is_leaf_piece piece.now }
 {
     match piece {
         Piece::Leaf { .. } => true,
@@ -114,13 +114,14 @@ fn fill_pair<S: Shape, M: Machine<S>, E: Edit + Copy>(
     requires said { piece.now ≡ pieces_now E.means run.now found.now node.nth }
     requires fills { (u : Updater (hand_calls S.Shape M.Machine hand) E.means)
         × UpdaterFills u seat.old.me.0.passes run.now found.now node.nth (Some (NodeWord.Settled (SettledPart.Key slot))) }
-    requires leaf { is_leaf piece.now ≡ true }
+    requires leaf { is_leaf_piece piece.now ≡ true }
     requires there { is_filled piece.now (NodeWord.Settled (SettledPart.Key slot)) ≡ true }
     ensures table { StaysAtTable seat.old seat.new }
     ensures goes_on { (u : Updater (hand_calls S.Shape M.Machine hand.entry) E.means)
         → UpdaterFills u seat.old.me.0.passes run.now found.now node.nth (Some (NodeWord.Settled (SettledPart.Key slot)))
         → UpdaterFills u seat.new.me.0.passes run.now found.now node.nth result }
-    ensures steps { seat_steps seat.new.me.0.passes + fills_then piece.now result ≤ seat_steps seat.old.me.0.passes + fills_then piece.now (Some (NodeWord.Settled (SettledPart.Key slot))) }
+    ensures steps { seat_steps seat.new.me.0.passes + fills_then piece.now result
+        ≤ seat_steps seat.old.me.0.passes + fills_then piece.now (Some (NodeWord.Settled (SettledPart.Key slot))) }
     ensures filled { IfSome result (λ next. is_filled piece.now next ≡ true) }
 {
     let (key, low, high) = piece.pair_words(slot);
@@ -195,7 +196,7 @@ fn fill_next_pair<S: Shape, M: Machine<S>, E: Edit + Copy>(
     ensures filled { IfSome result (λ part. is_filled piece.now part ≡ true) }
 {
     match next {
-        Some(NodeWord::Settled(SettledPart::Key(at))) if at == slot && is_leaf(piece) => {
+        Some(NodeWord::Settled(SettledPart::Key(at))) if at == slot && is_leaf_piece(piece) => {
             fill_pair::<S, M, E>(hand, seat, run, found, node, piece, at)
         }
         _ => next,

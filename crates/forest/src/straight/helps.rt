@@ -249,10 +249,11 @@ fn mark_all<S: Shape, M: Machine<S>, T: Shape>(
     mark::<S, M, T>(hand, seat, run, MemberIndex::Fourth);
 }
 
-/// Reads the plan of an SCX-record and freezes its nodes, by a run that has not begun; tells whether
-/// all are frozen. Where one could not be frozen the run waits to look whether all were.
+/// Reads the plan of an SCX-record and freezes its nodes, by a run that has not begun; tells
+/// whether all are frozen. Where one could not be frozen the run waits to look whether all were.
+/// Each edit `E` has its own copy, which the compiler puts in line.
 #[inline(always)]
-pub(crate) fn begin<S: Shape, M: Machine<S>, T: Shape>(
+pub(crate) fn begin<S: Shape, M: Machine<S>, T: Shape, E>(
     hand: Hand<S>,
     seat: &mut Seat<u8, SeatView>,
     start: usize,
@@ -334,7 +335,7 @@ pub(crate) fn call<S: Shape, M: Machine<S>, T: Shape>(
         → LoadsPlan k seat.old.me.0.passes run.old
         → LoadsFlag k seat.new.me.0.passes run.new }
 {
-    if !begin::<S, M, T>(hand, seat, start, run) {
+    if !begin::<S, M, T, ()>(hand, seat, start, run) {
         return false;
     }
     commit::<S, M, T>(hand, seat, start, run);

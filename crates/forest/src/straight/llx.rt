@@ -36,7 +36,11 @@ pub(crate) fn leaves(state: u64, marked: bool) -> bool
     ensures in_place { result ≡ true → (state ≡ 2) ⊎ ((state ≡ 1) × (marked ≡ false)) }
     ensures disturbs { result ≡ false → (state ≢ 2) × (state ≡ 1 → marked ≡ true) }
 {
-    state == ABORTED || state == COMMITTED && !marked
+    match state {
+        ABORTED => true,
+        COMMITTED => !marked,
+        _ => false,
+    }
 }
 
 /// Loads a word.

@@ -155,7 +155,8 @@ fn validate_on<S: Shape, M: Machine<S>, R: Read + Drop>(
     ensures ends { (r : Reader (hand_calls S.Shape M.Machine hand.entry) R.means)
         → ReaderWaits r seat.old.me.0.passes run.old ReadNext.Validate
         → ReaderEnds r seat.new.me.0.passes run.new result }
-    ensures steps { seat_steps seat.new.me.0.passes ≤ seat_steps seat.old.me.0.passes + left_then R.means (shared_nodes hand.entry.layout.now) run.old (Ok ReadNext.Validate) }
+    ensures steps { seat_steps seat.new.me.0.passes
+        ≤ seat_steps seat.old.me.0.passes + left_then R.means (shared_nodes hand.entry.layout.now) run.old (Ok ReadNext.Validate) }
 {
     let snaps = run.snaps.as_slice();
     let (asked, told) = validate::<S, M, &[Snap]>(hand, seat, snaps);
@@ -204,7 +205,8 @@ fn read_value<S: Shape, M: Machine<S>, R: Read + Drop>(
     key: u64,
 ) -> Result<ReadNext, Result<R::Answer, Refused>>
     requires table { IsAt hand seat.old }
-    requires waits { (r : Reader (hand_calls S.Shape M.Machine hand) R.means) × ReaderWaits r seat.old.me.0.passes run.old (ReadNext.Load (ReadLoad.Value place key)) }
+    requires waits { (r : Reader (hand_calls S.Shape M.Machine hand) R.means)
+        × ReaderWaits r seat.old.me.0.passes run.old (ReadNext.Load (ReadLoad.Value place key)) }
     ensures table { StaysAtTable seat.old seat.new }
     ensures goes_on { (r : Reader (hand_calls S.Shape M.Machine hand.entry) R.means)
         → ReaderWaits r seat.old.me.0.passes run.old (ReadNext.Load (ReadLoad.Value place key))
@@ -236,7 +238,8 @@ fn read_pair<S: Shape, M: Machine<S>, R: Read + Drop>(
     place: LeafPlace,
 ) -> Result<ReadNext, Result<R::Answer, Refused>>
     requires table { IsAt hand seat.old }
-    requires waits { (r : Reader (hand_calls S.Shape M.Machine hand) R.means) × ReaderWaits r seat.old.me.0.passes run.old (ReadNext.Load (ReadLoad.Pair place)) }
+    requires waits { (r : Reader (hand_calls S.Shape M.Machine hand) R.means)
+        × ReaderWaits r seat.old.me.0.passes run.old (ReadNext.Load (ReadLoad.Pair place)) }
     ensures table { StaysAtTable seat.old seat.new }
     ensures goes_on { (r : Reader (hand_calls S.Shape M.Machine hand.entry) R.means)
         → ReaderWaits r seat.old.me.0.passes run.old (ReadNext.Load (ReadLoad.Pair place))
@@ -267,7 +270,8 @@ fn read_pairs<S: Shape, M: Machine<S>, R: Read + Drop>(
     first: LeafPlace,
 ) -> Result<ReadNext, Result<R::Answer, Refused>>
     requires table { IsAt hand seat.old }
-    requires waits { (r : Reader (hand_calls S.Shape M.Machine hand) R.means) × ReaderWaits r seat.old.me.0.passes run.old (ReadNext.Load (ReadLoad.Pair first)) }
+    requires waits { (r : Reader (hand_calls S.Shape M.Machine hand) R.means)
+        × ReaderWaits r seat.old.me.0.passes run.old (ReadNext.Load (ReadLoad.Pair first)) }
     ensures table { StaysAtTable seat.old seat.new }
     ensures goes_on { (r : Reader (hand_calls S.Shape M.Machine hand.entry) R.means)
         → ReaderWaits r seat.old.me.0.passes run.old (ReadNext.Load (ReadLoad.Pair first))
@@ -300,7 +304,8 @@ fn read_node<S: Shape, M: Machine<S>, R: Read + Drop>(
     node: NodeNo,
 ) -> Result<ReadNext, Result<R::Answer, Refused>>
     requires table { IsAt hand seat.old }
-    requires waits { (r : Reader (hand_calls S.Shape M.Machine hand) R.means) × ReaderWaits r seat.old.me.0.passes run.old (ReadNext.Load (ReadLoad.Head above node)) }
+    requires waits { (r : Reader (hand_calls S.Shape M.Machine hand) R.means)
+        × ReaderWaits r seat.old.me.0.passes run.old (ReadNext.Load (ReadLoad.Head above node)) }
     ensures table { StaysAtTable seat.old seat.new }
     ensures goes_on { (r : Reader (hand_calls S.Shape M.Machine hand.entry) R.means)
         → ReaderWaits r seat.old.me.0.passes run.old (ReadNext.Load (ReadLoad.Head above node))
@@ -341,7 +346,8 @@ fn pairs_next<S: Shape, M: Machine<S>, R: Read + Drop>(
         → ReaderGoesOn r seat.new.me.0.passes run.new result }
     ensures steps { seat_steps seat.new.me.0.passes + left_then R.means (shared_nodes hand.entry.layout.now) run.new result
         ≤ seat_steps seat.old.me.0.passes + left_then R.means (shared_nodes hand.entry.layout.now) run.old (Ok next) }
-    ensures no_farther { left_then R.means (shared_nodes hand.entry.layout.now) run.new result ≤ left_then R.means (shared_nodes hand.entry.layout.now) run.old (Ok next) }
+    ensures no_farther { left_then R.means (shared_nodes hand.entry.layout.now) run.new result
+        ≤ left_then R.means (shared_nodes hand.entry.layout.now) run.old (Ok next) }
 {
     match next {
         ReadNext::Load(ReadLoad::Pair { place }) => {
@@ -367,7 +373,8 @@ fn look_next<S: Shape, M: Machine<S>, R: Read + Drop>(
         → ReaderGoesOn r seat.new.me.0.passes run.new result }
     ensures steps { seat_steps seat.new.me.0.passes + left_then R.means (shared_nodes hand.entry.layout.now) run.new result
         ≤ seat_steps seat.old.me.0.passes + left_then R.means (shared_nodes hand.entry.layout.now) run.old (Ok next) }
-    ensures no_farther { left_then R.means (shared_nodes hand.entry.layout.now) run.new result ≤ left_then R.means (shared_nodes hand.entry.layout.now) run.old (Ok next) }
+    ensures no_farther { left_then R.means (shared_nodes hand.entry.layout.now) run.new result
+        ≤ left_then R.means (shared_nodes hand.entry.layout.now) run.old (Ok next) }
 {
     match next {
         ReadNext::Look {
@@ -395,7 +402,8 @@ fn visit_on<S: Shape, M: Machine<S>, R: Read + Drop>(
         → ReaderGoesOn r seat.new.me.0.passes run.new result }
     ensures steps { seat_steps seat.new.me.0.passes + left_then R.means (shared_nodes hand.entry.layout.now) run.new result
         ≤ seat_steps seat.old.me.0.passes + left_then R.means (shared_nodes hand.entry.layout.now) run.old (Ok next) }
-    ensures nearer { left_then R.means (shared_nodes hand.entry.layout.now) run.new result < left_then R.means (shared_nodes hand.entry.layout.now) run.old (Ok next) }
+    ensures nearer { left_then R.means (shared_nodes hand.entry.layout.now) run.new result
+        < left_then R.means (shared_nodes hand.entry.layout.now) run.old (Ok next) }
 {
     match next {
         ReadNext::Load(load) => load_on::<S, M, R, ReadLoad>(hand, seat, run, &load),
@@ -423,7 +431,8 @@ fn rest<S: Shape, M: Machine<S>, R: Read + Drop>(
     ensures ends { (r : Reader (hand_calls S.Shape M.Machine hand.entry) R.means)
         → ReaderWaits r seat.old.me.0.passes run.old next
         → ReaderEnds r seat.new.me.0.passes run.new result }
-    ensures steps { seat_steps seat.new.me.0.passes ≤ seat_steps seat.old.me.0.passes + left_then R.means (shared_nodes hand.entry.layout.now) run.old (Ok next) }
+    ensures steps { seat_steps seat.new.me.0.passes
+        ≤ seat_steps seat.old.me.0.passes + left_then R.means (shared_nodes hand.entry.layout.now) run.old (Ok next) }
 {
     loop {
         match visit_on::<S, M, R>(hand, seat, run, next) {
@@ -447,7 +456,8 @@ fn go_on<S: Shape, M: Machine<S>, R: Read + Drop>(
     ensures ends { (r : Reader (hand_calls S.Shape M.Machine hand.entry) R.means)
         → ReaderWaits r seat.old.me.0.passes run.old first
         → ReaderEnds r seat.new.me.0.passes run.new result }
-    ensures steps { seat_steps seat.new.me.0.passes ≤ seat_steps seat.old.me.0.passes + left_then R.means (shared_nodes hand.entry.layout.now) run.old (Ok first) }
+    ensures steps { seat_steps seat.new.me.0.passes
+        ≤ seat_steps seat.old.me.0.passes + left_then R.means (shared_nodes hand.entry.layout.now) run.old (Ok first) }
 {
     let mut next = match look_next::<S, M, R>(hand, seat, run, first) {
         Ok(next) => next,

@@ -67,7 +67,8 @@ fn read_pair<S: Shape, M: Machine<S>, E: Edit + Copy>(
         → UpdaterTries u seat.old.me.0.passes run.old found.now (Next.Read node (SettledPart.Key slot))
         → UpdaterTries u seat.new.me.0.passes run.new found.now result }
     ensures steps { seat_steps seat.new.me.0.passes + left_then E.means run.new found.now (Ok result) (shared_nodes hand.entry.layout.now)
-        ≤ seat_steps seat.old.me.0.passes + left_then E.means run.old found.now (Ok (Next.Read node (SettledPart.Key slot))) (shared_nodes hand.entry.layout.now) }
+        ≤ seat_steps seat.old.me.0.passes
+        + left_then E.means run.old found.now (Ok (Next.Read node (SettledPart.Key slot))) (shared_nodes hand.entry.layout.now) }
     ensures nearer { left_then E.means run.new found.now (Ok result) (shared_nodes hand.entry.layout.now)
         < left_then E.means run.old found.now (Ok (Next.Read node (SettledPart.Key slot))) (shared_nodes hand.entry.layout.now) }
 {
@@ -132,7 +133,8 @@ fn read_pairs<S: Shape, M: Machine<S>, E: Edit + Copy>(
         → UpdaterTries u seat.old.me.0.passes run.old found.now (Next.Read node (SettledPart.Key Slot.First))
         → UpdaterTries u seat.new.me.0.passes run.new found.now result }
     ensures steps { seat_steps seat.new.me.0.passes + left_then E.means run.new found.now (Ok result) (shared_nodes hand.entry.layout.now)
-        ≤ seat_steps seat.old.me.0.passes + left_then E.means run.old found.now (Ok (Next.Read node (SettledPart.Key Slot.First))) (shared_nodes hand.entry.layout.now) }
+        ≤ seat_steps seat.old.me.0.passes
+        + left_then E.means run.old found.now (Ok (Next.Read node (SettledPart.Key Slot.First))) (shared_nodes hand.entry.layout.now) }
     ensures nearer { left_then E.means run.new found.now (Ok result) (shared_nodes hand.entry.layout.now)
         < left_then E.means run.old found.now (Ok (Next.Read node (SettledPart.Key Slot.First))) (shared_nodes hand.entry.layout.now) }
 {

@@ -16,13 +16,14 @@ use crate::straight::step::step;
 use crate::view::SeatView;
 use arena::{Layout, Machine, PassNo, ScxNo, Shape, Share, Turn};
 use atomic_table::Seat;
-use edits::{Edit, Next, Stop, UpdateAt, UpdateRun, Updated};
+use edits::{Edit, Next, Stop, UpdateAt, UpdateRun, Updated, anew};
 use help::HelpRun;
 use std::mem::replace;
 use template::Found;
 
 /// Takes an update out, to be put at a place. Until it comes back, another stands in for it, whose
 /// share nobody takes from: that of some pass, since a share is always one's.
+#[inline(always)]
 fn take_up<E: Edit + Copy>(run: &mut UpdateRun<E, ()>, layout: &Layout) -> UpdateRun<E, UpdateAt>
     requires some { 0 < layout.now.passes }
     ensures { result ≡ standing run.old Places.Start }
@@ -32,21 +33,21 @@ fn take_up<E: Edit + Copy>(run: &mut UpdateRun<E, ()>, layout: &Layout) -> Updat
     replace(run, other).stand(UpdateAt::Start)
 }
 
-/// Makes the rest of an update from this turn of its machine on, and puts it back.
+/// Makes the rest of an update from this turn of its machine on, and gives it back without a place.
 fn finish<S: Shape, M: Machine<S>, E: Edit + Copy>(
     hand: Hand<S>,
     seat: &mut Seat<u8, SeatView>,
-    run: &mut UpdateRun<E, ()>,
     mut machine: UpdateRun<E, UpdateAt>,
     mut turn: Turn<Updated>,
-) -> Updated
+) -> (Updated, UpdateRun<E, ()>)
     requires table { IsAt hand seat.old }
     requires stands { (u : Updater (hand_calls S.Shape M.Machine hand) E.means) × HostedStands u seat.old.me.0.passes machine turn }
     ensures table { StaysAtTable seat.old seat.new }
     ensures ends { (u : Updater (hand_calls S.Shape M.Machine hand.entry) E.means)
         → HostedStands u seat.old.me.0.passes machine turn
-        → UpdaterEnds u seat.new.me.0.passes run.new result }
-    ensures steps { seat_steps seat.new.me.0.passes ≤ seat_steps seat.old.me.0.passes + weight turn (update_left E.means machine (shared_nodes hand.entry.layout.now)) }
+        → UpdaterEnds u seat.new.me.0.passes result.1 result.0 }
+    ensures steps { seat_steps seat.new.me.0.passes
+        ≤ seat_steps seat.old.me.0.passes + weight turn (update_left E.means machine (shared_nodes hand.entry.layout.now)) }
 {
     loop {
         match turn {
@@ -55,8 +56,7 @@ fn finish<S: Shape, M: Machine<S>, E: Edit + Copy>(
                 turn = machine.step(Some(told));
             }
             Turn::Done(updated) => {
-                *run = machine.stand(());
-                return updated;
+                return (updated, machine.stand(()));
             }
         }
     }
@@ -68,27 +68,27 @@ fn finish<S: Shape, M: Machine<S>, E: Edit + Copy>(
 fn rest_from_next<S: Shape, M: Machine<S>, E: Edit + Copy>(
     hand: Hand<S>,
     seat: &mut Seat<u8, SeatView>,
-    run: &mut UpdateRun<E, ()>,
+    mut machine: UpdateRun<E, UpdateAt>,
     found: Found,
     next: Result<Next, Stop>,
-) -> Updated
+) -> (Updated, UpdateRun<E, ()>)
     requires table { IsAt hand seat.old }
-    requires goes_on { (u : Updater (hand_calls S.Shape M.Machine hand) E.means) × UpdaterGoesOn u seat.old.me.0.passes run.old found next }
+    requires goes_on { (u : Updater (hand_calls S.Shape M.Machine hand) E.means) × UpdaterGoesOn u seat.old.me.0.passes machine found next }
     ensures table { StaysAtTable seat.old seat.new }
     ensures ends { (u : Updater (hand_calls S.Shape M.Machine hand.entry) E.means)
-        → UpdaterGoesOn u seat.old.me.0.passes run.old found next
-        → UpdaterEnds u seat.new.me.0.passes run.new result }
-    ensures steps { seat_steps seat.new.me.0.passes ≤ seat_steps seat.old.me.0.passes + left_then E.means run.old found next (shared_nodes hand.entry.layout.now) }
+        → UpdaterGoesOn u seat.old.me.0.passes machine found next
+        → UpdaterEnds u seat.new.me.0.passes result.1 result.0 }
+    ensures steps { seat_steps seat.new.me.0.passes
+        ≤ seat_steps seat.old.me.0.passes + left_then E.means machine found next (shared_nodes hand.entry.layout.now) }
 {
-    let mut machine = take_up(run, hand.layout);
     match next {
         Ok(next) => {
             let turn = machine.begin(found, next);
-            finish::<S, M, E>(hand, seat, run, machine, turn)
+            finish::<S, M, E>(hand, seat, machine, turn)
         }
         Err(stop) => {
             let turn = machine.stop(&found, stop);
-            finish::<S, M, E>(hand, seat, run, machine, turn)
+            finish::<S, M, E>(hand, seat, machine, turn)
         }
     }
 }
@@ -109,9 +109,13 @@ pub(crate) fn from_next<S: Shape, M: Machine<S>, E: Edit + Copy>(
     ensures ends { (u : Updater (hand_calls S.Shape M.Machine hand.entry) E.means)
         → UpdaterGoesOn u seat.old.me.0.passes run.old found.now next
         → UpdaterEnds u seat.new.me.0.passes run.new result }
-    ensures steps { seat_steps seat.new.me.0.passes ≤ seat_steps seat.old.me.0.passes + left_then E.means run.old found.now next (shared_nodes hand.entry.layout.now) }
+    ensures steps { seat_steps seat.new.me.0.passes
+        ≤ seat_steps seat.old.me.0.passes + left_then E.means run.old found.now next (shared_nodes hand.entry.layout.now) }
 {
-    rest_from_next::<S, M, E>(hand, seat, run, *found, next)
+    let machine = take_up(run, hand.layout);
+    let (updated, rest) = rest_from_next::<S, M, E>(hand, seat, machine, anew(found), next);
+    *run = rest;
+    updated
 }
 
 /// Makes the rest of an update whose SCX could not freeze a node.
@@ -120,24 +124,23 @@ pub(crate) fn from_next<S: Shape, M: Machine<S>, E: Edit + Copy>(
 fn rest_from_block<S: Shape, M: Machine<S>, E: Edit + Copy>(
     hand: Hand<S>,
     seat: &mut Seat<u8, SeatView>,
-    run: &mut UpdateRun<E, ()>,
+    mut machine: UpdateRun<E, UpdateAt>,
     found: Found,
     scx: ScxNo,
     help: HelpRun,
-) -> Updated
+) -> (Updated, UpdateRun<E, ()>)
     requires table { IsAt hand seat.old }
     requires blocked { (u : Updater (hand_calls S.Shape M.Machine hand) E.means)
-        × UpdaterIsBlocked u seat.old.me.0.passes run.old found scx help }
+        × UpdaterIsBlocked u seat.old.me.0.passes machine found scx help }
     ensures table { StaysAtTable seat.old seat.new }
     ensures ends { (u : Updater (hand_calls S.Shape M.Machine hand.entry) E.means)
-        → UpdaterIsBlocked u seat.old.me.0.passes run.old found scx help
-        → UpdaterEnds u seat.new.me.0.passes run.new result }
+        → UpdaterIsBlocked u seat.old.me.0.passes machine found scx help
+        → UpdaterEnds u seat.new.me.0.passes result.1 result.0 }
     ensures steps { seat_steps seat.new.me.0.passes
-        ≤ seat_steps seat.old.me.0.passes + suc (run.old.tries * try_left E.means (shared_nodes hand.entry.layout.now) + scx_left (ScxAt.Help help)) }
+        ≤ seat_steps seat.old.me.0.passes + suc (machine.tries * try_left E.means (shared_nodes hand.entry.layout.now) + scx_left (ScxAt.Help help)) }
 {
-    let mut machine = take_up(run, hand.layout);
     let turn = machine.block(found, scx, help);
-    finish::<S, M, E>(hand, seat, run, machine, turn)
+    finish::<S, M, E>(hand, seat, machine, turn)
 }
 
 /// Makes the rest of an update whose SCX could not freeze a node, with copies as above.
@@ -160,5 +163,8 @@ pub(crate) fn from_block<S: Shape, M: Machine<S>, E: Edit + Copy>(
     ensures steps { seat_steps seat.new.me.0.passes
         ≤ seat_steps seat.old.me.0.passes + suc (run.old.tries * try_left E.means (shared_nodes hand.entry.layout.now) + scx_left (ScxAt.Help help.now)) }
 {
-    rest_from_block::<S, M, E>(hand, seat, run, *found, scx, *help)
+    let machine = take_up(run, hand.layout);
+    let (updated, rest) = rest_from_block::<S, M, E>(hand, seat, machine, anew(found), scx, *help);
+    *run = rest;
+    updated
 }

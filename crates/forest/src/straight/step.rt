@@ -33,7 +33,8 @@ pub(crate) fn step_from<S: Shape, M: Machine<S>>(
         → Waits S.allows M.waits M.same c seat.old.me.0.passes first m step
         → Told S.allows M.waits M.same c seat.new.me.0.passes first M.ready m result }
     ensures one { seat_steps seat.new.me.0.passes ≡ suc (seat_steps seat.old.me.0.passes) }
-    ensures row { (p : SeatedPass) × (seat.old.me.0.passes ≡ p ∷ []) × IsStepBehind p.known (known_of seat.new.me.0.passes) p.number.0 hand.entry.number step.kind }
+    ensures row { (p : SeatedPass) × (seat.old.me.0.passes ≡ p ∷ [])
+        × IsStepBehind p.known (known_of seat.new.me.0.passes) p.number.0 hand.entry.number step.kind }
 {
     let at = hand.layout.place_from(start, step.word);
     let asked = Asked {
@@ -58,7 +59,8 @@ pub(crate) fn step<S: Shape, M: Machine<S>>(
         → Waits S.allows M.waits M.same c seat.old.me.0.passes first m step
         → Told S.allows M.waits M.same c seat.new.me.0.passes first M.ready m result }
     ensures one { seat_steps seat.new.me.0.passes ≡ suc (seat_steps seat.old.me.0.passes) }
-    ensures row { (p : SeatedPass) × (seat.old.me.0.passes ≡ p ∷ []) × IsStepBehind p.known (known_of seat.new.me.0.passes) p.number.0 hand.entry.number step.kind }
+    ensures row { (p : SeatedPass) × (seat.old.me.0.passes ≡ p ∷ [])
+        × IsStepBehind p.known (known_of seat.new.me.0.passes) p.number.0 hand.entry.number step.kind }
 {
     let start = hand.layout.start_of(step.word);
     step_from::<S, M>(hand, seat, step, start)

@@ -3,7 +3,7 @@ ghost use Rattle.std.specs.Prelude.{◌≡◌, ◌≤◌, ◌<◌, ◌+◌, suc,
 ghost use Rattle.forest.specs.Hands.{IsAt, hand_calls};
 ghost use Rattle.forest.specs.Seats.{StaysAtTable};
 ghost use Rattle.forest.specs.Traces.{seat_steps, shared_nodes};
-ghost use Rattle.forest.specs.StraightUpdate.{Updater, UpdaterBegins, UpdaterEnds, UpdaterTries, UpdaterGoesOn};
+ghost use Rattle.forest.specs.StraightUpdate.{Updater, UpdaterBegins, UpdaterEnds, UpdaterLeaves, UpdaterTries, UpdaterGoesOn, new_update};
 ghost use Rattle.edits.specs.Next.{standing, left_then};
 ghost use Rattle.edits.specs.Steps.{update_left};
 ghost use Rattle.edits.specs.declared.update.Next.{Next};
@@ -16,19 +16,56 @@ use crate::straight::reads::read;
 use crate::straight::scx::{self, Change};
 use crate::straight::{helps, resume, walk};
 use crate::view::SeatView;
-use arena::{Machine, NodeNo, ScxNo, Shape};
+use arena::{Machine, NodeNo, ScxNo, Shape, Share};
+use arrayvec::ArrayVec;
 use atomic_table::Seat;
-use edits::{Edit, Next, Stop, UpdateRun, Updated, anew};
+use edits::{Edit, Next, Nodes, Reading, Stop, UpdateRun, Updated, anew};
 use help::HelpRun;
 use prims::Snap;
 use template::{Found, Tree};
 
-/// Makes an update: its first try in line, as long as nothing is in its way.
-/// Where something is, its machine goes on from there; until then the update has no place. It is a
+/// Makes an edit in so many tries out of this share, and tells what is left of that. It is a
 /// function of its own, since the compiler puts nothing into a function that would grow very large,
-/// as one with both edits would.
+/// as one with two edits would. It keeps the update's run to itself, so that the compiler knows
+/// what the run holds behind each step.
 #[inline(never)]
-pub(crate) fn call<S: Shape, M: Machine<S>, E: Edit + Copy>(
+pub(crate) fn make<S: Shape, M: Machine<S>, E: Edit + Copy>(
+    hand: Hand<S>,
+    seat: &mut Seat<u8, SeatView>,
+    edit: E,
+    share: Share,
+    tries: u32,
+) -> (Updated, Share)
+    requires table { IsAt hand seat.old }
+    requires begins { (u : Updater (hand_calls S.Shape M.Machine hand) E.means)
+        × UpdaterBegins u seat.old.me.0.passes (new_update edit share tries hand.number) }
+    ensures table { StaysAtTable seat.old seat.new }
+    ensures ends { (u : Updater (hand_calls S.Shape M.Machine hand.entry) E.means)
+        → UpdaterBegins u seat.old.me.0.passes (new_update edit share tries hand.entry.number)
+        → UpdaterLeaves u seat.new.me.0.passes result.0 result.1 }
+    ensures steps { seat_steps seat.new.me.0.passes
+        ≤ seat_steps seat.old.me.0.passes
+        + update_left E.means (standing (new_update edit share tries hand.entry.number) UpdateAt.Start) (shared_nodes hand.entry.layout.now) }
+{
+    let mut run = UpdateRun {
+        edit,
+        share,
+        snaps: ArrayVec::new(),
+        nodes: Nodes::default(),
+        read: Reading::new(),
+        tries: tries.saturating_sub(1),
+        limit: tries,
+        call: hand.number,
+        at: (),
+    };
+    let updated = call::<S, M, E>(hand, seat, &mut run);
+    (updated, run.into_share())
+}
+
+/// Makes an update: its first try in line, as long as nothing is in its way. Where something is,
+/// its machine goes on from there; until then the update has no place.
+#[inline(always)]
+fn call<S: Shape, M: Machine<S>, E: Edit + Copy>(
     hand: Hand<S>,
     seat: &mut Seat<u8, SeatView>,
     run: &mut UpdateRun<E, ()>,
@@ -63,10 +100,12 @@ fn try_on<S: Shape, M: Machine<S>, E: Edit + Copy>(
     ensures ends { (u : Updater (hand_calls S.Shape M.Machine hand.entry) E.means)
         → UpdaterGoesOn u seat.old.me.0.passes run.old found.now next
         → UpdaterEnds u seat.new.me.0.passes run.new result }
-    ensures steps { seat_steps seat.new.me.0.passes ≤ seat_steps seat.old.me.0.passes + left_then E.means run.old found.now next (shared_nodes hand.entry.layout.now) }
+    ensures steps { seat_steps seat.new.me.0.passes
+        ≤ seat_steps seat.old.me.0.passes + left_then E.means run.old found.now next (shared_nodes hand.entry.layout.now) }
 {
     let looked = look_on::<S, M, E>(hand, seat, run, found, next);
-    let worked = work_on::<S, M, E>(hand, seat, run, found, looked);
+    let loaded = read_on::<S, M, E>(hand, seat, run, found, looked);
+    let worked = fill_on::<S, M, E>(hand, seat, run, found, loaded);
     match worked {
         Ok(now) => match now {
             Next::Change(scx) => change::<S, M, E>(hand, seat, run, found, scx),
@@ -112,9 +151,9 @@ fn look_on<S: Shape, M: Machine<S>, E: Edit + Copy>(
     }
 }
 
-/// Makes the loads and fills that come next.
+/// Makes the loads that come next.
 #[inline(always)]
-fn work_on<S: Shape, M: Machine<S>, E: Edit + Copy>(
+fn read_on<S: Shape, M: Machine<S>, E: Edit + Copy>(
     hand: Hand<S>,
     seat: &mut Seat<u8, SeatView>,
     run: &mut UpdateRun<E, ()>,
@@ -139,6 +178,35 @@ fn work_on<S: Shape, M: Machine<S>, E: Edit + Copy>(
             Next::Read { node, part } => {
                 next = Ok(read::<S, M, E>(hand, seat, run, found, node, part));
             }
+            _ => return Ok(now),
+        }
+    }
+}
+
+/// Makes the fills that come next.
+#[inline(always)]
+fn fill_on<S: Shape, M: Machine<S>, E: Edit + Copy>(
+    hand: Hand<S>,
+    seat: &mut Seat<u8, SeatView>,
+    run: &mut UpdateRun<E, ()>,
+    found: &Found,
+    mut next: Result<Next, Stop>,
+) -> Result<Next, Stop>
+    requires table { IsAt hand seat.old }
+    requires goes_on { (u : Updater (hand_calls S.Shape M.Machine hand) E.means) × UpdaterGoesOn u seat.old.me.0.passes run.old found.now next }
+    ensures table { StaysAtTable seat.old seat.new }
+    ensures goes_on { (u : Updater (hand_calls S.Shape M.Machine hand.entry) E.means)
+        → UpdaterGoesOn u seat.old.me.0.passes run.old found.now next
+        → UpdaterGoesOn u seat.new.me.0.passes run.new found.now result }
+    ensures steps { seat_steps seat.new.me.0.passes + left_then E.means run.new found.now result (shared_nodes hand.entry.layout.now)
+        ≤ seat_steps seat.old.me.0.passes + left_then E.means run.old found.now next (shared_nodes hand.entry.layout.now) }
+{
+    loop {
+        let now = match next {
+            Ok(now) => now,
+            Err(stop) => return Err(stop),
+        };
+        match now {
             Next::Fill(nth) => {
                 next = fill_node::<S, M, E>(hand, seat, run, found, nth);
             }
@@ -211,7 +279,7 @@ fn change<S: Shape, M: Machine<S>, E: Edit + Copy>(
     let mut help = HelpRun::new(scx);
     let start = own.layout.scx_start(scx);
     scx::fill_all::<S, M, Tree, &[Snap]>(own, seat, &snaps, change, start);
-    if helps::begin::<S, M, Tree>(own, seat, start, &mut help) {
+    if helps::begin::<S, M, Tree, E>(own, seat, start, &mut help) {
         helps::commit::<S, M, Tree>(own, seat, start, &help);
         return Updated::at(found);
     }

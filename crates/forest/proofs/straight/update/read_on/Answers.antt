@@ -1,35 +1,22 @@
 use Rattle.std.proofs.Common.{◌∙◌, ap, arith}
 use Rattle.std.specs.Prelude.{Ok, Err}
 use Rattle.forest.specs.Traces.{shared_nodes}
-use Rattle.edits.specs.declared.update.Next.TheVariants.{Read, Fill}
+use Rattle.edits.specs.declared.update.Next.TheVariants.{Read}
 use Rattle.forest.proofs.StraightUpdate.{goes_as, left_as, fewer_as}
-use Rattle.forest.proofs.straight.update.work_on.Goals as goal
+use Rattle.forest.proofs.straight.update.read_on.Goals as goal
 
 pub read-requires-clause-tries : goal.read-requires-clause-tries
 read-requires-clause-tries g c = let r = c.requires.goes_on in (r.0, (goes_as r.0 _ c.loop-next.run c.args.found.now c.loop-next.next (Ok (Read c.in-Read.node c.in-Read.part)) (c.in-Ok.is ∙ ap (λ n. Ok n) c.in-Read.is) (c.loop-next.invariant.goes_on r.0 r.1)))
 
-pub loop-next-preserved-in-Read : goal.loop-next-preserved-in-Read
-loop-next-preserved-in-Read g c = record {
+pub loop-next-preserved : goal.loop-next-preserved
+loop-next-preserved g c = record {
   here = (c.read.ensures.table.0 ∙ c.loop-next.invariant.here.0, c.read.ensures.table.1 ∙ c.loop-next.invariant.here.1);
   steps = left_as g.E.Edit.means c.loop-next.run c.args.found.now c.loop-next.next (Ok (Read c.in-Read.node c.in-Read.part)) (c.in-Ok.is ∙ ap (λ n. Ok n) c.in-Read.is) (shared_nodes c.args.hand.layout.now) _ _ _ c.read.ensures.steps c.loop-next.invariant.steps;
   goes_on = λ u x. c.read.ensures.goes_on u (goes_as u _ c.loop-next.run c.args.found.now c.loop-next.next (Ok (Read c.in-Read.node c.in-Read.part)) (c.in-Ok.is ∙ ap (λ n. Ok n) c.in-Read.is) (c.loop-next.invariant.goes_on u x));
 }
 
-pub loop-next-smaller-in-Read : goal.loop-next-smaller-in-Read
-loop-next-smaller-in-Read g c = fewer_as g.E.Edit.means c.loop-next.run c.args.found.now c.loop-next.next (Ok (Read c.in-Read.node c.in-Read.part)) (c.in-Ok.is ∙ ap (λ n. Ok n) c.in-Read.is) (shared_nodes c.args.hand.layout.now) _ c.read.ensures.nearer
-
-pub fill_node-next-requires-clause-tries : goal.fill_node-next-requires-clause-tries
-fill_node-next-requires-clause-tries g c = let r = c.requires.goes_on in (r.0, (goes_as r.0 _ c.loop-next.run c.args.found.now c.loop-next.next (Ok (Fill c.in-Fill.nth)) (c.in-Ok.is ∙ ap (λ n. Ok n) c.in-Fill.is) (c.loop-next.invariant.goes_on r.0 r.1)))
-
-pub loop-next-preserved : goal.loop-next-preserved
-loop-next-preserved g c = record {
-  here = (c.fill_node-next.ensures.table.0 ∙ c.loop-next.invariant.here.0, c.fill_node-next.ensures.table.1 ∙ c.loop-next.invariant.here.1);
-  steps = left_as g.E.Edit.means c.loop-next.run c.args.found.now c.loop-next.next (Ok (Fill c.in-Fill.nth)) (c.in-Ok.is ∙ ap (λ n. Ok n) c.in-Fill.is) (shared_nodes c.args.hand.layout.now) _ _ _ c.fill_node-next.ensures.steps c.loop-next.invariant.steps;
-  goes_on = λ u x. c.fill_node-next.ensures.goes_on u (goes_as u _ c.loop-next.run c.args.found.now c.loop-next.next (Ok (Fill c.in-Fill.nth)) (c.in-Ok.is ∙ ap (λ n. Ok n) c.in-Fill.is) (c.loop-next.invariant.goes_on u x));
-}
-
 pub loop-next-smaller : goal.loop-next-smaller
-loop-next-smaller g c = fewer_as g.E.Edit.means c.loop-next.run c.args.found.now c.loop-next.next (Ok (Fill c.in-Fill.nth)) (c.in-Ok.is ∙ ap (λ n. Ok n) c.in-Fill.is) (shared_nodes c.args.hand.layout.now) _ c.fill_node-next.ensures.nearer
+loop-next-smaller g c = fewer_as g.E.Edit.means c.loop-next.run c.args.found.now c.loop-next.next (Ok (Read c.in-Read.node c.in-Read.part)) (c.in-Ok.is ∙ ap (λ n. Ok n) c.in-Read.is) (shared_nodes c.args.hand.layout.now) _ c.read.ensures.nearer
 
 pub returns-in_default-clause-goes_on : goal.returns-in_default-clause-goes_on
 returns-in_default-clause-goes_on g c = λ u x. goes_as u _ c.loop-next.run c.args.found.now c.loop-next.next (Ok c.in-Ok.now) c.in-Ok.is (c.loop-next.invariant.goes_on u x)

@@ -3,7 +3,7 @@ use Rattle.forest.specs.StraightUpdate.{Updater, UpdaterGoesOn}
 use Rattle.forest.specs.Traces.{seat_steps, shared_nodes}
 use Rattle.forest.specs.CallKinds.{calls}
 use Rattle.edits.specs.Next.{left_then}
-use Rattle.forest.proofs.straight.update.work_on.Given as goal
+use Rattle.forest.proofs.straight.update.read_on.Given as goal
 
 abbrev pub invariant-loop-next : goal.invariant-loop-next
 invariant-loop-next g l = record {

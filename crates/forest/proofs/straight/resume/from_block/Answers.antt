@@ -1,0 +1,24 @@
+use Rattle.std.proofs.Common.{arith, sym, subst}
+use Rattle.template.specs.declared.walk.Found.{Found}
+use Rattle.forest.specs.StraightUpdate.{Updater, UpdaterIsBlocked}
+use Rattle.forest.specs.CallKinds.{calls}
+use Rattle.forest.proofs.StraightUpdate.{blocked_there, has_passes}
+use Rattle.forest.proofs.straight.resume.from_block.Given.{Over}
+use Rattle.forest.proofs.straight.resume.from_block.Goals.{After-anew}
+use Rattle.forest.proofs.straight.resume.from_block.Goals as goal
+
+-- taken up it waits as before
+blocked : (g : Over) (c : After-anew g) (u : Updater (calls g.S.Shape g.M.Machine c.args.hand.layout.now c.args.hand.number) g.E.Edit.means) → UpdaterIsBlocked u c.args.seat.now.me.0.passes c.args.run.now c.args.found.now c.args.scx c.args.help.now → UpdaterIsBlocked u c.args.seat.now.me.0.passes c.take_up-machine.result c.anew.result c.args.scx c.args.help.now
+blocked g c u x = subst (λ (f : Found). UpdaterIsBlocked u c.args.seat.now.me.0.passes c.take_up-machine.result f c.args.scx c.args.help.now) (sym c.anew.ensures) (blocked_there u _ c.args.run.now c.take_up-machine.result c.args.found.now c.args.scx c.args.help.now c.take_up-machine.ensures x)
+
+pub take_up-machine-requires : goal.take_up-machine-requires
+take_up-machine-requires g c = record { some = has_passes c.requires.blocked.0 }
+
+pub rest_from_block-updated-requires-clause-blocked : goal.rest_from_block-updated-requires-clause-blocked
+rest_from_block-updated-requires-clause-blocked g c = let r = c.requires.blocked in (r.0, blocked g (goal.at.rest_from_block-updated-requires-clause-blocked g c).After-anew r.0 r.1)
+
+pub returns-clause-ends : goal.returns-clause-ends
+returns-clause-ends g c = λ u x. c.rest_from_block-updated.ensures.ends u (blocked g (goal.at.returns-clause-ends g c).After-anew u x)
+
+pub returns-clause-steps : goal.returns-clause-steps
+returns-clause-steps g c = let s = rw c.take_up-machine.ensures at c.rest_from_block-updated.ensures.steps in omega (arith, s)
