@@ -178,7 +178,8 @@ impl<R: Read + Drop> ReadRun<R> {
         ensures same { IsSameRead R.means self.old self.new }
         ensures nearer { (nodes : ℕ) → WalkFits walk got nodes
             → ReadIsNearer R.means self.new nodes result
-            (tries_left R.means self.old nodes + (walk_left walk.at nodes + length self.old.snaps.items + path_left nodes + R.means.behind self.old.read nodes)) }
+            (tries_left R.means self.old nodes
+            + (walk_left walk.at nodes + length self.old.snaps.items + path_left nodes + R.means.behind self.old.read nodes)) }
         ensures tries { self.new.tries ≡ self.old.tries }
     {
         match Machine::<Tree>::next(&mut walk, got) {

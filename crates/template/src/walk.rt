@@ -151,7 +151,8 @@ impl WalkRun {
     }
 
     fn load_settled(&mut self, at: WalkAt, part: SettledPart) -> Turn<Found>
-        ensures { WalkAsks self.old self.new result at record { kind = Kind.LoadSettled; word = Word.Node self.old.trail.node (Settled part); access = Access.Load } }
+        ensures { WalkAsks self.old self.new result at
+            record { kind = Kind.LoadSettled; word = Word.Node self.old.trail.node (Settled part); access = Access.Load } }
     {
         self.load(at, Kind::LoadSettled, NodeWord::Settled(part))
     }

@@ -95,7 +95,8 @@ pub(crate) fn read<K: WordKey, V: WordValue>(
     ensures table { StaysAtTable seat.old seat.new }
     ensures ends { (c : Call) (share : Remaining) → IsCallOf hand.entry c
         → SeatCallBegins K.is_valid K.word_of V.is_valid V.word_of c seat.old.me.0.passes (as_map_call K.word_of V.word_of request) share tries hand.entry.number
-        → CallHasEnded K.is_valid K.word_of V.is_valid V.word_of c seat.new.me.0.passes (as_map_call K.word_of V.word_of request) share tries hand.entry.number share result }
+        → CallHasEnded K.is_valid K.word_of V.is_valid V.word_of c seat.new.me.0.passes
+        (as_map_call K.word_of V.word_of request) share tries hand.entry.number share result }
     ensures steps { seat_steps seat.new.me.0.passes
         ≤ seat_steps seat.old.me.0.passes + most_steps (as_map_call K.word_of V.word_of request) tries (shared_nodes hand.entry.layout.now) }
     ensures nothing { ¬ AsksForPairs (as_map_call K.word_of V.word_of request) → seat.new ≡ seat.old }

@@ -102,7 +102,8 @@ fn complete_blocked<S: Shape>(
     ensures steps { seat_steps seat.new.me.0.passes
         ≤ seat_steps seat.old.me.0.passes + suc (put_left (standing_put snaps.now put hand.entry.number (ScxAt.Help help.now) PutAt.Scx)) }
     ensures ends { (c : Call) (first : PutRun) → IsCallOf hand.entry c
-        → SeatPutWaits S.allows c seat.old.me.0.passes first (standing_put snaps.now put hand.entry.number (ScxAt.Help help.now) PutAt.Scx) (all_frozen_load put.scx)
+        → SeatPutWaits S.allows c seat.old.me.0.passes first
+        (standing_put snaps.now put hand.entry.number (ScxAt.Help help.now) PutAt.Scx) (all_frozen_load put.scx)
         → (m : PutRun) × SeatPutEnds S.allows c seat.new.me.0.passes first m result }
 {
     let (words, copy, number) = (hand.words, *hand.layout, hand.number);
