@@ -303,6 +303,11 @@ deleted_at k (p ∷ ps) = go (deleted_at k ps) (ℕ_discrete k p.key)
     go rest (yes e) = rw (eq-eqb k p.key e, eq-eqb p.key k (sym e)) refl
     go rest (no d) = rw (ne_eqb k p.key d, ne_eqb p.key k (λ e. d (sym e))) (ap (λ qs. p ∷ qs) rest)
 
+-- and the first where that has the key
+pub deleted_first : (k : ℕ) (ps : List Pair) → has_at k 0 ps ≡ true → remove ps 0 ≡ delete k ps
+deleted_first k [] t = cc
+deleted_first k (p ∷ ps) t = ap (λ is. remove (p ∷ ps) (if not is then suc (before k ps) else 0)) (sym t) ∙ sym (deleted_at k (p ∷ ps))
+
 -- a list that is short enough is taken whole
 pub take_whole : (n : ℕ) (ps : List Pair) → length ps ≤ n → take n ps ≡ ps
 take_whole zero [] i = refl

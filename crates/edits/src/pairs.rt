@@ -181,6 +181,10 @@ impl Pairs {
     pub fn delete(self, key: u64) -> Pairs
         ensures { result ≡ delete key self }
     {
+        // So it is of a pop, where nothing is searched and all move back.
+        if self.has_at(0, key) {
+            return self.without(0);
+        }
         let at = self.before(key);
         self.without(at)
     }

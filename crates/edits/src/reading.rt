@@ -63,7 +63,12 @@ impl Reading {
                 self.more = None;
             }
             Known::Leaf { head, more } => {
-                self.head = Some(head);
+                // By its parts: copied as a whole it would take the bytes between them along.
+                self.head = Some(Head {
+                    level: head.level,
+                    leaf: head.leaf,
+                    class: head.class,
+                });
                 self.more = Some(more);
             }
         }
@@ -134,15 +139,18 @@ impl Reading {
     }
 
     /// Keeps what the three words of the pair in this slot of a leaf have told, of which nothing is
-    /// kept yet.
+    /// kept yet; tells the slot of the pair that is read next, none behind the last.
     #[inline(always)]
-    pub fn keep_pair(&mut self, slot: Slot, key: u64, low: u64, high: u64)
+    pub fn keep_pair(&mut self, slot: Slot, key: u64, low: u64, high: u64) -> Option<Slot>
         requires none { (self.old.key ≡ None) × (self.old.low ≡ None) }
-        ensures { self.new ≡ pair_read_with self.old slot key low high }
+        ensures kept { self.new ≡ pair_read_with self.old slot key low high }
+        ensures next { result ≡ self.new.slot }
     {
-        self.slot = slot_behind(self.more.unwrap_or(0), slot);
+        let next = slot_behind(self.more.unwrap_or(0), slot);
+        self.slot = next;
         let value = wide_value(low, high);
         self.pairs.push(slot, Pair { key, value });
+        next
     }
 }
 

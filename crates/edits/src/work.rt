@@ -318,8 +318,7 @@ impl<E: Edit + Drop, A: Drop> UpdateRun<E, A> {
         ensures tries { self.new.tries ≡ self.old.tries }
         ensures at_pair { is_at_pair self.new.read ≡ true }
     {
-        self.read.keep_pair(slot, key, low, high);
-        match self.read.slot {
+        match self.read.keep_pair(slot, key, low, high) {
             Some(slot) => {
                 let part = SettledPart::Key(slot);
                 Next::Read { node, part }

@@ -1,4 +1,4 @@
-use Rattle.std.proofs.Common.{◌≡◌, ◌<◌, Some, None, refl}
+use Rattle.std.proofs.Common.{◌≡◌, ◌<◌, ◌∙◌, Some, None, refl, sym}
 use Rattle.arena.specs.declared.word.SettledPart.TheVariants.{High, Key}
 use Rattle.arena.specs.History.{History, value}
 use Rattle.arena.specs.Machines.{Call, begun_at}
@@ -16,7 +16,7 @@ use Rattle.edits.proofs.update.UpdateRun.read_pair.Goals as goal
 
 -- it may go on to read, once the pair is kept
 goes : (g : Over) (c : After-keep_pair g) (d : Call) (b h : History) → Reads g.E.Edit.means (half_told c.args.self.now c.args.slot c.args.key c.args.low) (begun_at d b) h c.args.found.now c.args.node (High c.args.slot) → value h (node c.args.node.0 (Settled (High c.args.slot))) ≡ c.args.high → CanRead g.E.Edit.means (record c.args.self.now { read = c.keep_pair.new.self }) (begun_at d b) h c.args.found.now c.args.node
-goes g c d b h x told = rw c.keep_pair.ensures (goes_reading g.E.Edit.means (half_told c.args.self.now c.args.slot c.args.key c.args.low) (begun_at d b) h c.args.found.now c.args.node (High c.args.slot) c.args.high x told)
+goes g c d b h x told = rw c.keep_pair.ensures.kept (goes_reading g.E.Edit.means (half_told c.args.self.now c.args.slot c.args.key c.args.low) (begun_at d b) h c.args.found.now c.args.node (High c.args.slot) c.args.high x told)
 
 pub returns-in-Some-clause-turn : goal.returns-in-Some-clause-turn
 returns-in-Some-clause-turn g c d b h run try x told = (
@@ -24,12 +24,12 @@ returns-in-Some-clause-turn g c d b h run try x told = (
   try,
   tt,
   reads_word g.E.Edit.means (record c.args.self.now { read = c.keep_pair.new.self }) (begun_at d b) h c.args.found.now c.args.node (Key c.in-Some.slot) (goes g (goal.at.returns-in-Some-clause-turn g c).After-keep_pair d b h x told)
-      (pair_goes c.args.self.now.read c.keep_pair.new.self c.args.slot c.args.key c.args.low c.args.high (Some c.in-Some.slot) c.keep_pair.ensures c.in-Some.is x.next),
+      (pair_goes c.args.self.now.read c.keep_pair.new.self c.args.slot c.args.key c.args.low c.args.high (Some c.in-Some.slot) c.keep_pair.ensures.kept (sym c.keep_pair.ensures.next ∙ c.in-Some.is) x.next),
 )
 
 pub returns-in-None-clause-turn : goal.returns-in-None-clause-turn
 returns-in-None-clause-turn g c d b h run try x told =
-    let whole : next_read c.keep_pair.new.self ≡ None = pair_goes c.args.self.now.read c.keep_pair.new.self c.args.slot c.args.key c.args.low c.args.high None c.keep_pair.ensures c.in-None.is x.next in
+    let whole : next_read c.keep_pair.new.self ≡ None = pair_goes c.args.self.now.read c.keep_pair.new.self c.args.slot c.args.key c.args.low c.args.high None c.keep_pair.ensures.kept (sym c.keep_pair.ensures.next ∙ c.in-None.is) x.next in
     let m = record c.args.self.now { read = c.keep_pair.new.self } in
     let can = fills_head g.E.Edit.means m (begun_at d b) h c.args.found.now _ (all_read g.E.Edit.means m (begun_at d b) h c.args.found.now c.args.node (goes g (goal.at.returns-in-None-clause-turn g c).After-keep_pair d b h x told) whole) in
     (b, try, tt, fills_word g.E.Edit.means m c.args.found.now _ _ _ _ _ (begun_at d b) h can refl refl refl)
@@ -37,8 +37,8 @@ returns-in-None-clause-turn g c d b h run try x told =
 pub returns-in-Some-clause-nearer : goal.returns-in-Some-clause-nearer
 returns-in-Some-clause-nearer g c nodes next =
     let half = (half_told c.args.self.now c.args.slot c.args.key c.args.low).read in
-    let then_next : next_read c.keep_pair.new.self ≡ Some (Key c.in-Some.slot) = pair_goes c.args.self.now.read c.keep_pair.new.self c.args.slot c.args.key c.args.low c.args.high (Some c.in-Some.slot) c.keep_pair.ensures c.in-Some.is next in
-    let fewer : reads_left c.keep_pair.new.self < reads_left half = rw c.keep_pair.ensures (reads_fewer half c.args.high (High c.args.slot) next) in
+    let then_next : next_read c.keep_pair.new.self ≡ Some (Key c.in-Some.slot) = pair_goes c.args.self.now.read c.keep_pair.new.self c.args.slot c.args.key c.args.low c.args.high (Some c.in-Some.slot) c.keep_pair.ensures.kept (sym c.keep_pair.ensures.next ∙ c.in-Some.is) next in
+    let fewer : reads_left c.keep_pair.new.self < reads_left half = rw c.keep_pair.ensures.kept (reads_fewer half c.args.high (High c.args.slot) next) in
     to_next_read _ _ _ _ (some_left _ _ (reads_fewer c.keep_pair.new.self 0 (Key c.in-Some.slot) then_next)) fewer
 
 pub returns-in-None-clause-nearer : goal.returns-in-None-clause-nearer
