@@ -1,6 +1,8 @@
 -- From place to place of an update, of whatever machine updates.
 use Rattle.std.proofs.Common.{◌≡◌, ℕ, suc, Bool, true, ap, subst, ◌+◌, ◌-◌, ◌*◌, ◌<◌, ◌≤◌, List, Option, None, Some, inl, refl, sym, arith, ◌∙◌}
 use Rattle.std.specs.Prelude.{Result, Ok, Err, IfSome}
+use Rattle.std.specs.Result.{IsErrAnd}
+use Rattle.std.proofs.lemmas.Result.{err_from_is_err_and}
 use Rattle.arena.specs.declared.fault.Full.{Full}
 use Rattle.arena.specs.declared.layout.Layout.{Layout}
 use Rattle.arena.specs.declared.machine.Turn.{Turn}
@@ -585,6 +587,10 @@ pair_nearer left more most all i j k = omega (arith, i, j, k)
 
 pub read_nearer : (left tries reads fills : ℕ) → left < tries + (reads - 1 + fills + 39) → suc left < suc (tries + (reads - 1 + fills + 39))
 read_nearer left tries reads fills b = omega (arith, b)
+
+-- what stops a try is handed on as it is
+pub handed_on : (r : Result Next Stop) (stop : Stop) → IsErrAnd r (λ other. other ≡ stop) → r ≡ Err stop
+handed_on r stop x = let y = err_from_is_err_and r x in y.1 ∙ ap (λ s. Err s) y.2
 
 module _ {E : Type 0} (e : EditMeaning E) {A : Type 0} (m : UpdateRun E A) (f : Found) (next same : Result Next Stop) (is : next ≡ same) (nodes : ℕ) where
   -- what is left of what comes next is left of its equal

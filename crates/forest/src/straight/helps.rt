@@ -136,23 +136,15 @@ fn freeze<S: Shape, M: Machine<S>, T: Shape>(
     let scx = run.scx;
     let number = j.number();
     let part = ScxWord::Member(number);
-    let member = read::<S, M, T>(hand, seat, scx, start, part);
-    let index = j.index();
-    run.members[index] = NodeNo(member);
+    let member = NodeNo(read::<S, M, T>(hand, seat, scx, start, part));
+    run.members[j.index()] = member;
     let part = ScxWord::Seen(number);
     let seen = read::<S, M, T>(hand, seat, scx, start, part);
     let freeze = Access::Exchange {
         expected: seen,
         new: scx.0,
     };
-    let found = act::<S, M, T>(
-        hand,
-        seat,
-        run.members[index],
-        NodeWord::Info,
-        Kind::Freeze,
-        freeze,
-    );
+    let found = act::<S, M, T>(hand, seat, member, NodeWord::Info, Kind::Freeze, freeze);
     if !is_frozen(found, seen, scx) {
         run.at = HelpAt::AllFrozen { j, found };
         return false;

@@ -126,7 +126,7 @@ fn look_on<S: Shape, M: Machine<S>, E: Edit + Copy>(
     seat: &mut Seat<u8, SeatView>,
     run: &mut UpdateRun<E, ()>,
     found: &Found,
-    mut next: Result<Next, Stop>,
+    next: Result<Next, Stop>,
 ) -> Result<Next, Stop>
     requires table { IsAt hand seat.old }
     requires goes_on { (u : Updater (hand_calls S.Shape M.Machine hand) E.means) × UpdaterGoesOn u seat.old.me.0.passes run.old found.now next }
@@ -137,18 +137,11 @@ fn look_on<S: Shape, M: Machine<S>, E: Edit + Copy>(
     ensures steps { seat_steps seat.new.me.0.passes + left_then E.means run.new found.now result (shared_nodes hand.entry.layout.now)
         ≤ seat_steps seat.old.me.0.passes + left_then E.means run.old found.now next (shared_nodes hand.entry.layout.now) }
 {
-    loop {
-        let now = match next {
-            Ok(now) => now,
-            Err(stop) => return Err(stop),
-        };
-        match now {
-            Next::Look(node) => {
-                next = look_at::<S, M, E>(hand, seat, run, found, node);
-            }
-            _ => return Ok(now),
-        }
+    let mut now = next?;
+    while let Next::Look(node) = now {
+        now = look_at::<S, M, E>(hand, seat, run, found, node)?;
     }
+    Ok(now)
 }
 
 /// Makes the loads that come next.
@@ -158,7 +151,7 @@ fn read_on<S: Shape, M: Machine<S>, E: Edit + Copy>(
     seat: &mut Seat<u8, SeatView>,
     run: &mut UpdateRun<E, ()>,
     found: &Found,
-    mut next: Result<Next, Stop>,
+    next: Result<Next, Stop>,
 ) -> Result<Next, Stop>
     requires table { IsAt hand seat.old }
     requires goes_on { (u : Updater (hand_calls S.Shape M.Machine hand) E.means) × UpdaterGoesOn u seat.old.me.0.passes run.old found.now next }
@@ -169,18 +162,11 @@ fn read_on<S: Shape, M: Machine<S>, E: Edit + Copy>(
     ensures steps { seat_steps seat.new.me.0.passes + left_then E.means run.new found.now result (shared_nodes hand.entry.layout.now)
         ≤ seat_steps seat.old.me.0.passes + left_then E.means run.old found.now next (shared_nodes hand.entry.layout.now) }
 {
-    loop {
-        let now = match next {
-            Ok(now) => now,
-            Err(stop) => return Err(stop),
-        };
-        match now {
-            Next::Read { node, part } => {
-                next = Ok(read::<S, M, E>(hand, seat, run, found, node, part));
-            }
-            _ => return Ok(now),
-        }
+    let mut now = next?;
+    while let Next::Read { node, part } = now {
+        now = read::<S, M, E>(hand, seat, run, found, node, part);
     }
+    Ok(now)
 }
 
 /// Makes the fills that come next.
@@ -190,7 +176,7 @@ fn fill_on<S: Shape, M: Machine<S>, E: Edit + Copy>(
     seat: &mut Seat<u8, SeatView>,
     run: &mut UpdateRun<E, ()>,
     found: &Found,
-    mut next: Result<Next, Stop>,
+    next: Result<Next, Stop>,
 ) -> Result<Next, Stop>
     requires table { IsAt hand seat.old }
     requires goes_on { (u : Updater (hand_calls S.Shape M.Machine hand) E.means) × UpdaterGoesOn u seat.old.me.0.passes run.old found.now next }
@@ -201,18 +187,11 @@ fn fill_on<S: Shape, M: Machine<S>, E: Edit + Copy>(
     ensures steps { seat_steps seat.new.me.0.passes + left_then E.means run.new found.now result (shared_nodes hand.entry.layout.now)
         ≤ seat_steps seat.old.me.0.passes + left_then E.means run.old found.now next (shared_nodes hand.entry.layout.now) }
 {
-    loop {
-        let now = match next {
-            Ok(now) => now,
-            Err(stop) => return Err(stop),
-        };
-        match now {
-            Next::Fill(nth) => {
-                next = fill_node::<S, M, E>(hand, seat, run, found, nth);
-            }
-            _ => return Ok(now),
-        }
+    let mut now = next?;
+    while let Next::Fill(nth) = now {
+        now = fill_node::<S, M, E>(hand, seat, run, found, nth)?;
     }
+    Ok(now)
 }
 
 /// Looks at a node.

@@ -1,4 +1,6 @@
-use Rattle.std.proofs.Common.{ℕ, arith}
+use Rattle.std.proofs.Common.{◌≡◌, ℕ, ap, arith, subst}
+use Rattle.std.proofs.lemmas.List.{get_or-set_same}
+use Rattle.arena.specs.declared.number.NodeNo.{NodeNo}
 use Rattle.std.specs.Prelude.{slice_set}
 use Rattle.arena.specs.MemberIndex.{member_index}
 use Rattle.arena.specs.Words.{info}
@@ -20,37 +22,38 @@ abbrev with_node : HelpRun → ℕ → ℕ → HelpRun
 with_node run place node = record run { members = slice_set run.members place record { 0 = node } }
 
 -- whichever call waited for the node, it goes from load to load, and to the exchange
-at_freeze : (g : Over) (c : After-read-seen g) (k : Helper g.T.Shape.allows (calls g.S.Shape g.M.Machine c.args.hand.layout.now c.args.hand.number)) → LoadsMember k c.args.seat.now.me.0.passes c.args.run.now c.args.j → let m = (with_node c.args.run.now (member_index c.args.j) c.read-member.result) in InnerWaits k c.read-seen.new.seat.me.0.passes (record m { at = AtFreeze c.args.j c.read-seen.result }) record { kind = Freeze; word = info (node_at m.members (member_index c.args.j)); access = Exchange c.read-seen.result m.scx.0 }
-at_freeze g c k x = let m = (with_node c.args.run.now (member_index c.args.j) c.read-member.result) in
-    to_freeze k _ m c.args.j c.read-seen.result (c.read-seen.ensures.told k (record m { at = AtSeen c.args.j }) (rw c.number-number.ensures.value
-    (to_seen k _ c.args.run.now c.args.j c.read-member.result (let i = c.index-index.ensures.small in let e = c.index-index.ensures.value in omega arith) (c.read-member.ensures.told k (record c.args.run.now { at = AtMember c.args.j }) (rw c.number-number.ensures.value x)))))
+at_freeze : (g : Over) (c : After-read-seen g) (k : Helper g.T.Shape.allows (calls g.S.Shape g.M.Machine c.args.hand.layout.now c.args.hand.number)) → LoadsMember k c.args.seat.now.me.0.passes c.args.run.now c.args.j → let m = (with_node c.args.run.now (member_index c.args.j) c.read.result) in InnerWaits k c.read-seen.new.seat.me.0.passes (record m { at = AtFreeze c.args.j c.read-seen.result }) record { kind = Freeze; word = info c.read.result; access = Exchange c.read-seen.result m.scx.0 }
+at_freeze g c k x = let m = (with_node c.args.run.now (member_index c.args.j) c.read.result) in
+    let kept : node_at m.members (member_index c.args.j) ≡ c.read.result = ap (λ (n : NodeNo). n.0) (get_or-set_same c.args.run.now.members (member_index c.args.j) record { 0 = c.read.result } record { 0 = 0 } (let i = c.index.ensures.small in let e = c.index.ensures.value in omega arith)) in
+    subst (λ (n : ℕ). InnerWaits k c.read-seen.new.seat.me.0.passes (record m { at = AtFreeze c.args.j c.read-seen.result }) record { kind = Freeze; word = info n; access = Exchange c.read-seen.result m.scx.0 }) kept (to_freeze k _ m c.args.j c.read-seen.result (c.read-seen.ensures.told k (record m { at = AtSeen c.args.j }) (rw c.number-number.ensures.value
+    (to_seen k _ c.args.run.now c.args.j c.read.result (let i = c.index.ensures.small in let e = c.index.ensures.value in omega arith) (c.read.ensures.told k (record c.args.run.now { at = AtMember c.args.j }) (rw c.number-number.ensures.value x))))))
 
 -- the exchange is made
-found : (g : Over) (c : After-act-found g) (k : Helper g.T.Shape.allows (calls g.S.Shape g.M.Machine c.args.hand.layout.now c.args.hand.number)) → LoadsMember k c.args.seat.now.me.0.passes c.args.run.now c.args.j → InnerIsTold k c.act-found.new.seat.me.0.passes (record (with_node c.args.run.now (member_index c.args.j) c.read-member.result) { at = AtFreeze c.args.j c.read-seen.result }) c.act-found.result
-found g c k x = let m = (with_node c.args.run.now (member_index c.args.j) c.read-member.result) in
-    c.act-found.ensures.told k (record m { at = AtFreeze c.args.j c.read-seen.result }) (rw c.index-index.ensures.value (at_freeze g (goal.at.act-found-requires-clause-waits g c.before).After-read-seen k x))
+found : (g : Over) (c : After-act-found g) (k : Helper g.T.Shape.allows (calls g.S.Shape g.M.Machine c.args.hand.layout.now c.args.hand.number)) → LoadsMember k c.args.seat.now.me.0.passes c.args.run.now c.args.j → InnerIsTold k c.act-found.new.seat.me.0.passes (record (with_node c.args.run.now (member_index c.args.j) c.read.result) { at = AtFreeze c.args.j c.read-seen.result }) c.act-found.result
+found g c k x = let m = (with_node c.args.run.now (member_index c.args.j) c.read.result) in
+    c.act-found.ensures.told k (record m { at = AtFreeze c.args.j c.read-seen.result }) (at_freeze g (goal.at.act-found-requires-clause-waits g c.before).After-read-seen k x)
 
-pub read-member-requires-clause-waits : goal.read-member-requires-clause-waits
-read-member-requires-clause-waits g c = let r = c.requires.waits in (r.0, record c.args.run.now { at = AtMember c.args.j }, rw c.number-number.ensures.value r.1)
+pub read-requires-clause-waits : goal.read-requires-clause-waits
+read-requires-clause-waits g c = let r = c.requires.waits in (r.0, record c.args.run.now { at = AtMember c.args.j }, rw c.number-number.ensures.value r.1)
 
 pub read-seen-requires-clause-waits : goal.read-seen-requires-clause-waits
 read-seen-requires-clause-waits g c = let r = c.requires.waits in (
   r.0,
-  record (with_node c.args.run.now (member_index c.args.j) c.read-member.result) { at = AtSeen c.args.j },
+  record (with_node c.args.run.now (member_index c.args.j) c.read.result) { at = AtSeen c.args.j },
   rw c.number-number.ensures.value
-      (to_seen r.0 _ c.args.run.now c.args.j c.read-member.result (let i = c.index-index.ensures.small in let e = c.index-index.ensures.value in omega arith) (c.read-member.ensures.told r.0 (record c.args.run.now { at = AtMember c.args.j }) (rw c.number-number.ensures.value r.1))),
+      (to_seen r.0 _ c.args.run.now c.args.j c.read.result (let i = c.index.ensures.small in let e = c.index.ensures.value in omega arith) (c.read.ensures.told r.0 (record c.args.run.now { at = AtMember c.args.j }) (rw c.number-number.ensures.value r.1))),
 )
 
 pub act-found-requires-clause-waits : goal.act-found-requires-clause-waits
-act-found-requires-clause-waits g c = let r = c.requires.waits in (r.0, record (with_node c.args.run.now (member_index c.args.j) c.read-member.result) { at = AtFreeze c.args.j c.read-seen.result }, rw c.index-index.ensures.value (at_freeze g (goal.at.act-found-requires-clause-waits g c).After-read-seen r.0 r.1))
+act-found-requires-clause-waits g c = let r = c.requires.waits in (r.0, record (with_node c.args.run.now (member_index c.args.j) c.read.result) { at = AtFreeze c.args.j c.read-seen.result }, at_freeze g (goal.at.act-found-requires-clause-waits g c).After-read-seen r.0 r.1)
 
 pub returns-then-not-is_frozen-clause-blocked : goal.returns-then-not-is_frozen-clause-blocked
 returns-then-not-is_frozen-clause-blocked g c = λ no k x.
     let other = c.is_frozen.ensures.other c.if-not-is_frozen.true in
-    rw c.index-index.ensures.value (to_all_frozen k _ (with_node c.args.run.now (member_index c.args.j) c.read-member.result) c.args.j c.read-seen.result c.act-found.result other.0 other.1 (found g (goal.at.returns-then-not-is_frozen-clause-blocked g c).After-act-found k x))
+    rw c.index.ensures.value (to_all_frozen k _ (with_node c.args.run.now (member_index c.args.j) c.read.result) c.args.j c.read-seen.result c.act-found.result other.0 other.1 (found g (goal.at.returns-then-not-is_frozen-clause-blocked g c).After-act-found k x))
 
 pub returns-clause-next : goal.returns-clause-next
-returns-clause-next g c = λ yes next is within k x. rw c.index-index.ensures.value (to_next k _ (with_node c.args.run.now (member_index c.args.j) c.read-member.result) c.args.j next c.read-seen.result c.act-found.result (c.is_frozen.ensures.frozen c.if-not-is_frozen.false) (omega (arith, is)) within (found g (goal.at.returns-clause-next g c).After-act-found k x))
+returns-clause-next g c = λ yes next is within k x. rw c.index.ensures.value (to_next k _ (with_node c.args.run.now (member_index c.args.j) c.read.result) c.args.j next c.read-seen.result c.act-found.result (c.is_frozen.ensures.frozen c.if-not-is_frozen.false) (omega (arith, is)) within (found g (goal.at.returns-clause-next g c).After-act-found k x))
 
 pub returns-clause-last : goal.returns-clause-last
-returns-clause-last g c = λ yes none k x. rw c.index-index.ensures.value (to_set_frozen k _ (with_node c.args.run.now (member_index c.args.j) c.read-member.result) c.args.j c.read-seen.result c.act-found.result (c.is_frozen.ensures.frozen c.if-not-is_frozen.false) (λ y. none (y.0, let w = y.1 in omega (arith, w))) (found g (goal.at.returns-clause-last g c).After-act-found k x))
+returns-clause-last g c = λ yes none k x. rw c.index.ensures.value (to_set_frozen k _ (with_node c.args.run.now (member_index c.args.j) c.read.result) c.args.j c.read-seen.result c.act-found.result (c.is_frozen.ensures.frozen c.if-not-is_frozen.false) (λ y. none (y.0, let w = y.1 in omega (arith, w))) (found g (goal.at.returns-clause-last g c).After-act-found k x))

@@ -1,31 +1,26 @@
-use Rattle.std.proofs.Common.{◌∙◌, ap, arith}
-use Rattle.std.specs.Prelude.{Ok, Err}
+use Rattle.std.proofs.Common.{◌∙◌, ap, arith, refl}
+use Rattle.std.specs.Prelude.{Ok}
 use Rattle.forest.specs.Traces.{shared_nodes}
 use Rattle.edits.specs.declared.update.Next.TheVariants.{Read}
 use Rattle.forest.proofs.StraightUpdate.{goes_as, left_as, fewer_as}
 use Rattle.forest.proofs.straight.update.read_on.Goals as goal
 
-pub read-requires-clause-tries : goal.read-requires-clause-tries
-read-requires-clause-tries g c = let r = c.requires.goes_on in (r.0, (goes_as r.0 _ c.loop-next.run c.args.found.now c.loop-next.next (Ok (Read c.in-Read.node c.in-Read.part)) (c.in-Ok.is ∙ ap (λ n. Ok n) c.in-Read.is) (c.loop-next.invariant.goes_on r.0 r.1)))
-
-pub loop-next-preserved : goal.loop-next-preserved
-loop-next-preserved g c = record {
-  here = (c.read.ensures.table.0 ∙ c.loop-next.invariant.here.0, c.read.ensures.table.1 ∙ c.loop-next.invariant.here.1);
-  steps = left_as g.E.Edit.means c.loop-next.run c.args.found.now c.loop-next.next (Ok (Read c.in-Read.node c.in-Read.part)) (c.in-Ok.is ∙ ap (λ n. Ok n) c.in-Read.is) (shared_nodes c.args.hand.layout.now) _ _ _ c.read.ensures.steps c.loop-next.invariant.steps;
-  goes_on = λ u x. c.read.ensures.goes_on u (goes_as u _ c.loop-next.run c.args.found.now c.loop-next.next (Ok (Read c.in-Read.node c.in-Read.part)) (c.in-Ok.is ∙ ap (λ n. Ok n) c.in-Read.is) (c.loop-next.invariant.goes_on u x));
+pub loop-now-init : goal.loop-now-init
+loop-now-init g c = record {
+  here = (refl, refl);
+  steps = rw c.in_ok-now.was (omega arith);
+  goes_on = λ u x. goes_as u _ c.args.run.now c.args.found.now c.args.next (Ok c.in_ok-now.now) c.in_ok-now.was x;
 }
 
-pub loop-next-smaller : goal.loop-next-smaller
-loop-next-smaller g c = fewer_as g.E.Edit.means c.loop-next.run c.args.found.now c.loop-next.next (Ok (Read c.in-Read.node c.in-Read.part)) (c.in-Ok.is ∙ ap (λ n. Ok n) c.in-Read.is) (shared_nodes c.args.hand.layout.now) _ c.read.ensures.nearer
+pub read-now-requires-clause-tries : goal.read-now-requires-clause-tries
+read-now-requires-clause-tries g c = let r = c.requires.goes_on in (r.0, goes_as r.0 _ c.loop-now.run c.args.found.now (Ok c.loop-now.now) (Ok (Read c.in-Read.node c.in-Read.part)) (ap (λ n. Ok n) c.in-Read.is) (c.loop-now.invariant.goes_on r.0 r.1))
 
-pub returns-in_default-clause-goes_on : goal.returns-in_default-clause-goes_on
-returns-in_default-clause-goes_on g c = λ u x. goes_as u _ c.loop-next.run c.args.found.now c.loop-next.next (Ok c.in-Ok.now) c.in-Ok.is (c.loop-next.invariant.goes_on u x)
+pub loop-now-smaller : goal.loop-now-smaller
+loop-now-smaller g c = fewer_as g.E.Edit.means c.loop-now.run c.args.found.now (Ok c.loop-now.now) (Ok (Read c.in-Read.node c.in-Read.part)) (ap (λ n. Ok n) c.in-Read.is) (shared_nodes c.args.hand.layout.now) _ c.read-now.ensures.nearer
 
-pub returns-in_default-clause-steps : goal.returns-in_default-clause-steps
-returns-in_default-clause-steps g c = left_as g.E.Edit.means c.loop-next.run c.args.found.now c.loop-next.next (Ok c.in-Ok.now) c.in-Ok.is (shared_nodes c.args.hand.layout.now) _ _ _ (omega arith) c.loop-next.invariant.steps
-
-pub returns-in-Err-clause-goes_on : goal.returns-in-Err-clause-goes_on
-returns-in-Err-clause-goes_on g c = λ u x. goes_as u _ c.loop-next.run c.args.found.now c.loop-next.next (Err c.in-Err.stop) c.in-Err.is (c.loop-next.invariant.goes_on u x)
-
-pub returns-in-Err-clause-steps : goal.returns-in-Err-clause-steps
-returns-in-Err-clause-steps g c = left_as g.E.Edit.means c.loop-next.run c.args.found.now c.loop-next.next (Err c.in-Err.stop) c.in-Err.is (shared_nodes c.args.hand.layout.now) _ _ _ (omega arith) c.loop-next.invariant.steps
+pub loop-now-preserved : goal.loop-now-preserved
+loop-now-preserved g c = record {
+  here = (c.read-now.ensures.table.0 ∙ c.loop-now.invariant.here.0, c.read-now.ensures.table.1 ∙ c.loop-now.invariant.here.1);
+  steps = left_as g.E.Edit.means c.loop-now.run c.args.found.now (Ok c.loop-now.now) (Ok (Read c.in-Read.node c.in-Read.part)) (ap (λ n. Ok n) c.in-Read.is) (shared_nodes c.args.hand.layout.now) _ _ _ c.read-now.ensures.steps c.loop-now.invariant.steps;
+  goes_on = λ u x. c.read-now.ensures.goes_on u (goes_as u _ c.loop-now.run c.args.found.now (Ok c.loop-now.now) (Ok (Read c.in-Read.node c.in-Read.part)) (ap (λ n. Ok n) c.in-Read.is) (c.loop-now.invariant.goes_on u x));
+}
