@@ -1,11 +1,11 @@
 -- The words of texts are names'.
-use Rattle.std.proofs.Common.{◌≡◌, ℕ, zero, suc, ◌+◌, ◌-◌, ◌<◌, ◌≤◌, ◌==◌, Bool, true, false, cond, ◌&&◌, List, [], ◌∷◌, ◌++◌, length, get_or, drop, refl, ap, ◌∙◌, arith, w64}
+use Rattle.std.proofs.Common.{◌≡◌, ℕ, zero, suc, ◌+◌, ◌-◌, ◌<◌, ◌≤◌, ◌==◌, Bool, true, false, cond, ◌&&◌, List, [], ◌∷◌, ◌++◌, length, get_or, drop, refl, sym, ap, ◌∙◌, arith, w64, ◌^◌}
 use Rattle.std.specs.List.{list_all, repeat}
 use Rattle.std.specs.Char.{is_ascii_graphic}
 use Rattle.std.specs.Int.{from_be_bytes, to_be_bytes}
 use Rattle.std.proofs.lemmas.Bool.Decides.{nat_tests}
-use Rattle.std.proofs.lemmas.Nat.{be_bytes_8}
-use Rattle.dict.specs.Names.{zero_padded, is_padded, is_name_word, name_word}
+use Rattle.std.proofs.lemmas.Nat.{be_bytes_8, from_be_bytes-to_be_bytes_8}
+use Rattle.dict.specs.Names.{IsName, zero_padded, is_padded, is_name_word, name_word}
 
 zeros_are_zeros : (n : ℕ) → list_all (λ c. c == 0) (repeat n (0 ∷ [])) ≡ true
 zeros_are_zeros zero = refl
@@ -79,3 +79,43 @@ word_spells bs w few letters below e =
 pub tells_names : (w : ℕ) (bytes : List ℕ) (b : Bool) → bytes ≡ to_be_bytes w64 w → b ≡ is_padded bytes → b ≡ is_name_word w
 unfolding is_name_word
 tells_names w bytes b e told = told ∙ ap is_padded e
+
+-- Back from the bytes of a word to a text.
+
+-- these bytes are visible characters, and zeros behind them
+record IsPadded (cs : List ℕ) : Type 0 where
+  letters : List ℕ
+  visible : list_all is_ascii_graphic letters ≡ true
+  zeros : ℕ
+  bytes : cs ≡ letters ++ repeat zeros (0 ∷ [])
+
+all_zeros : (cs : List ℕ) → list_all (λ c. c == 0) cs ≡ true → cs ≡ repeat (length cs) (0 ∷ [])
+all_zeros [] h = refl
+all_zeros (zero ∷ cs) h = ap (λ zs. 0 ∷ zs) (all_zeros cs h)
+all_zeros (suc c ∷ cs) h = absurd (grind arith)
+
+-- one more byte in front
+in_front : (b : ℕ) (cs : List ℕ) (z a p : Bool) → (b == 0) ≡ z → is_ascii_graphic b ≡ a → is_padded cs ≡ p →
+    cond z (list_all (λ c. c == 0) cs) (a && p) ≡ true → (is_padded cs ≡ true → IsPadded cs) → IsPadded (b ∷ cs)
+in_front zero cs true a p z e f h more = record { letters = []; visible = refl; zeros = suc (length cs); bytes = ap (λ zs. 0 ∷ zs) (all_zeros cs h) }
+in_front (suc b) cs true a p z e f h more = absurd (grind arith)
+in_front b cs false true true z e f h more =
+    let rest = more f in
+    record { letters = b ∷ rest.letters; visible = rw e rest.visible; zeros = rest.zeros; bytes = ap (λ bs. b ∷ bs) rest.bytes }
+in_front b cs false true false z e f h more = absurd (grind arith)
+in_front b cs false false p z e f h more = absurd (grind arith)
+
+padded : (cs : List ℕ) → is_padded cs ≡ true → IsPadded cs
+padded [] h = record { letters = []; visible = refl; zeros = 0; bytes = refl }
+padded (b ∷ cs) h = in_front b cs (b == 0) (is_ascii_graphic b) (is_padded cs) refl refl refl h (padded cs)
+
+-- a word of a name has a text of which it is the word
+pub spelled_text : (w : ℕ) → w < 2 ^ 64 → is_padded (to_be_bytes w64 w) ≡ true → (bs : List ℕ) × IsName bs × (w ≡ name_word bs)
+unfolding name_word
+spelled_text w few h =
+    let it = padded (to_be_bytes w64 w) h in
+    let long = length_behind it.letters it.zeros in
+    let eight = ap length it.bytes in
+    let zeros : it.zeros ≡ 8 - length it.letters = omega arith in
+    let bytes : to_be_bytes w64 w ≡ zero_padded it.letters = it.bytes ∙ ap (λ n. it.letters ++ repeat n (0 ∷ [])) zeros in
+    (it.letters, (omega arith, it.visible), sym (from_be_bytes-to_be_bytes_8 w few) ∙ ap (from_be_bytes w64) bytes)

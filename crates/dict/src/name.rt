@@ -1,5 +1,5 @@
 //! Short names.
-ghost use Rattle.std.specs.Prelude.{◌≡◌, ◌≢◌, ◌↔◌, true, IsSome, IsNone, IfSome};
+ghost use Rattle.std.specs.Prelude.{◌≡◌, ◌≢◌, ◌↔◌, ℕ, true, List, IsSome, IsNone, IfSome};
 ghost use Rattle.std.specs.List.{list_all};
 ghost use Rattle.std.specs.Char.{is_ascii_graphic};
 ghost use Rattle.dict.specs.Names.{IsName, is_padded, is_name_word, name_word};
@@ -32,9 +32,10 @@ impl Name8 {
         })
     }
 
-    /// The name of this word, if it is one's.
+    /// The name of this word, if it is one's: then it is the word of a text that `new` takes.
     pub(crate) fn of_word(word: u64) -> Option<Name8>
         ensures some { IfSome result (λ n. n.word ≡ word) }
+        ensures text { IfSome result (λ n. (bs : List ℕ) × IsName bs × (n.word ≡ name_word bs)) }
         ensures none { IsNone result → is_name_word word ≢ true }
     {
         if !is_padded(word.to_be_bytes().as_slice()) {
