@@ -33,21 +33,22 @@ module _ (lay : Layout) (tries : ℕ) (calls : List Call) where
       older (reverse more.0) (reverse (take i lines)) (subst (AreLines lay tries calls) (ap reverse more.1 ∙ reverse-append (take i lines) more.0) fit)
 
 -- what is said of a row that a fault names, where so many lines were found to fit
-fault_at : (r : Record) (at row : ℕ) → row ≤ first_row r + length r.lines.items → row ≤ first_row r + at → AreLines r.script.layout r.script.limits.tries r.script.calls.items (reverse (take at r.lines.items)) → MayBeAtFault r row
-fault_at r at row within less fit = record {
+fault_at : (r : Record) (at row : ℕ) → first_row r ≤ row → row ≤ first_row r + length r.lines.items → row ≤ first_row r + at → AreLines r.script.layout r.script.limits.tries r.script.calls.items (reverse (take at r.lines.items)) → MayBeAtFault r row
+fault_at r at row from within less fit = record {
+  of_line = from;
   within = within;
   fit = earlier_fit r.script.layout r.script.limits.tries r.script.calls.items r.lines.items (row - first_row r) at (omega (arith, less)) fit;
 }
 
 -- where none was looked at
-pub fault_before : (r : Record) (row : ℕ) → row ≤ first_row r → MayBeAtFault r row
-fault_before r row less = fault_at r 0 row (omega (arith, less)) (omega (arith, less)) (none_fit r.script.layout r.script.limits.tries r.script.calls.items)
+pub fault_before : (r : Record) (row : ℕ) → first_row r ≤ row → row ≤ first_row r + 0 → MayBeAtFault r row
+fault_before r row from less = fault_at r 0 row from (omega (arith, less)) (omega (arith, less)) (none_fit r.script.layout r.script.limits.tries r.script.calls.items)
 
 -- and behind the lines that a run has passed
-pub fault_behind : (run : Run) (r : Record) (at row : ℕ) → run.record.now ≡ r → run.at ≡ at → IsAfter run (lines_of run) → row ≤ first_row r + length r.lines.items → row ≤ first_row r + at → MayBeAtFault r row
-fault_behind run r at row same is after within less =
-    subst (λ (k : Record). row ≤ first_row k + length k.lines.items → row ≤ first_row k + at → MayBeAtFault k row) same
-    (subst (λ n. row ≤ first_row run.record.now + length run.record.now.lines.items → row ≤ first_row run.record.now + n → MayBeAtFault run.record.now row) is (λ some few. fault_at run.record.now run.at row some few after.in_order)) within less
+pub fault_behind : (run : Run) (r : Record) (at row : ℕ) → run.record.now ≡ r → run.at ≡ at → IsAfter run (lines_of run) → first_row r ≤ row → row ≤ first_row r + length r.lines.items → row ≤ first_row r + at → MayBeAtFault r row
+fault_behind run r at row same is after from within less =
+    subst (λ (k : Record). first_row k ≤ row → row ≤ first_row k + length k.lines.items → row ≤ first_row k + at → MayBeAtFault k row) same
+    (subst (λ n. first_row run.record.now ≤ row → row ≤ first_row run.record.now + length run.record.now.lines.items → row ≤ first_row run.record.now + n → MayBeAtFault run.record.now row) is (λ first some few. fault_at run.record.now run.at row first some few after.in_order)) from within less
 
 -- one fault is no other
 pub err_same : {A B : Type 0} (x y : B) (a : Result A B) → a ≡ Err x → a ≡ Err y → x ≡ y

@@ -8,7 +8,8 @@ use Rattle.record.specs.LawfulRun.{AreLines}
 abbrev pub first_row : Record → ℕ
 first_row r = length r.script.calls.items + 3
 
--- The row is one of the record's report, the last at most, and all lines of the run before it fit.
+-- The row is that of a line of the run, or the one behind the last, and all lines before it fit.
 pub record MayBeAtFault (r : Record) (row : ℕ) : Type 0 where
+  pub of_line : first_row r ≤ row
   pub within : row ≤ first_row r + length r.lines.items
   pub fit : AreLines r.script.layout r.script.limits.tries r.script.calls.items (reverse (take (row - first_row r) r.lines.items))

@@ -1,5 +1,5 @@
 //! What an audit finds wrong.
-ghost use Rattle.std.specs.Prelude.{◌≡◌, ◌≤◌, ℕ, true, OnOk};
+ghost use Rattle.std.specs.Prelude.{◌≡◌, ◌≤◌, ◌+◌, ℕ, true, OnOk};
 ghost use Rattle.audit.specs.declared.fault.Refused.TheVariants as refused;
 
 use arena::NoMemory;
@@ -30,16 +30,18 @@ pub(crate) enum Refused {
 }
 
 impl Refused {
-    /// The fault of a record whose row of this number is refused.
-    pub(crate) fn at(self, row: u64) -> AuditFault
-        ensures { (named : ℕ) → result ≡ AuditFault.NotLawful named → named ≤ row }
+    /// The fault of a record that is refused at the line of this index, where the line of index 0
+    /// stands in row `first` of its report.
+    pub(crate) fn at(self, first: u64, line: usize) -> AuditFault
+        ensures { (row : ℕ) → result ≡ AuditFault.NotLawful row → (first ≤ row) × (row ≤ first + line) }
     {
-        match self {
-            Refused::NoMemory => AuditFault::NoMemory,
-            Refused::NotLawful => AuditFault::NotLawful { row },
-            Refused::Unexplained => AuditFault::NotLawful {
-                row: row.saturating_sub(1),
-            },
+        let back = match self {
+            Refused::NoMemory => return AuditFault::NoMemory,
+            Refused::NotLawful => 0,
+            Refused::Unexplained => 1,
+        };
+        AuditFault::NotLawful {
+            row: first.saturating_add(line.saturating_sub(back) as u64),
         }
     }
 }

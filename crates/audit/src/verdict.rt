@@ -1,5 +1,5 @@
 //! The audit of a record.
-ghost use Rattle.std.specs.Prelude.{◌≡◌, ◌≤◌, ◌+◌, ℕ, Err, OnOk, length, reverse};
+ghost use Rattle.std.specs.Prelude.{◌≡◌, ◌+◌, ℕ, Err, OnOk, length, reverse};
 ghost use Rattle.audit.specs.Faults.{MayBeAtFault};
 ghost use Rattle.record.specs.LawfulRun.{IsLawfulRun};
 ghost use Rattle.record.specs.Turns.{clients};
@@ -20,32 +20,26 @@ pub fn audit(alloc: Global, record: &Record) -> Result<(), AuditFault>
     // No line before the row that a fault names is at fault.
     ensures fault { (row : ℕ) → result ≡ Err (AuditFault.NotLawful row) → MayBeAtFault «record».now row }
 {
-    let before = rows_before(&record.script);
+    let first = first_row(&record.script);
     let mut run = match Run::new(alloc, record) {
         Ok(run) => run,
-        Err(refused) => return Err(refused.at(before)),
+        Err(refused) => return Err(refused.at(first, 0)),
     };
     for at in 0..record.lines.len() {
         if let Err(refused) = run.line() {
-            return Err(refused.at(row_of(before, at)));
+            return Err(refused.at(first, at));
         }
     }
     if let Err(refused) = run.finish() {
-        return Err(refused.at(row_of(before, record.lines.len())));
+        return Err(refused.at(first, record.lines.len()));
     }
     Ok(())
 }
 
-/// How many rows of a report stand before the lines of the run: its head, the limits and the calls.
-fn rows_before(script: &Script) -> u64
-    ensures { result ≤ length script.now.calls.items + 2 }
+/// The row of a report in which the first line of the run stands: behind its head, the limits and
+/// the calls.
+fn first_row(script: &Script) -> u64
+    ensures { result ≡ length script.now.calls.items + 3 }
 {
-    (script.calls.len() as u64).saturating_add(2)
-}
-
-/// The row of a report in which the line stands that comes behind so many.
-fn row_of(before: u64, lines: usize) -> u64
-    ensures { result ≤ before + lines + 1 }
-{
-    before.saturating_add(lines as u64).saturating_add(1)
+    (script.calls.len() as u64).saturating_add(3)
 }

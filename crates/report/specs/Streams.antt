@@ -5,7 +5,7 @@ use Rattle.texts.specs.Pages.{BeginsWith, rows_text}
 use Rattle.script.specs.Rows.{limits_row}
 use Rattle.record.specs.declared.record.Line.{Line}
 use Rattle.player.specs.Core.{IsNextTurn, StandsAt, with_lines}
-use Rattle.player.specs.Player.{PlayerView}
+use Rattle.player.specs.Player.{IsPlayed, PlayerView}
 use Rattle.report.specs.Report.{call_rows, entries_in, line_row, replies_in, steps_in, title_row}
 use Rattle.report.specs.declared.stream.Stream.{Stream}
 use Rattle.report.specs.declared.totals.Totals.{Totals}
@@ -29,8 +29,10 @@ pub record HasWritten (stream : Stream) (old new : Option (List ℕ)) (p : Playe
   pub totals : AreTotals stream.totals (reverse p.lines)
   pub text : Appends old new (text_so_far p)
 
--- behind the old bytes stands a beginning of the report so far, with one turn more of client i
+-- behind the old bytes stands a beginning of the report so far, with one turn more of client i, which
+-- is a lawful run with that turn too
 pub record IsCutAt (old new : Option (List ℕ)) (p : PlayerView) (i : ℕ) : Type 0 where
   pub more : List Line
   pub turn : IsNextTurn p i more
+  pub played : IsPlayed (with_lines p more)
   pub text : BeginsWith old new (text_so_far (with_lines p more))

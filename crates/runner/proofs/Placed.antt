@@ -12,6 +12,7 @@ use Rattle.ordered_map.specs.declared.reply.Reply.{Reply}
 use Rattle.ordered_map.specs.declared.reply.Reply.TheVariants as replies
 use Rattle.script.specs.declared.command.Command.{Command}
 use Rattle.ordered_map.specs.CallRules.{most_steps}
+use Rattle.edits.specs.Tries.{HasOnlyLooked}
 use Rattle.dict.specs.Says.{HasMadeRow}
 use Rattle.forest.specs.Dictionary.{IsVersion, IsChange, IsChangeOrReading, IsReading, IsRefusalOf, IsToldOf}
 use Rattle.forest.specs.Passes.{PassView, run_of, steps_of}
@@ -35,6 +36,7 @@ module _ (lay : Layout) (tries : ℕ) (run : History) (versions : History → Li
           since = read.since;
           own = λ asks. subst (λ (c : ℕ). HasMadeRow c (run_of old) read.moment) same (read.own asks);
           gives = ap (reply call) (sym (version_is read.moment read.map read.within read.spelled)) ∙ read.gives;
+          only_looked = λ some. subst (λ (c : ℕ). HasOnlyLooked c (run_of new) (run_of old)) same (read.only_looked some);
           done = x.done;
         }
 

@@ -1,5 +1,5 @@
 -- The one history in which all calls of a run stand.
-use Rattle.std.specs.Prelude.{◌≡◌, ℕ, ◌+◌, ◌≤◌, List, [], ◌∷◌, Option, Some, None}
+use Rattle.std.specs.Prelude.{◌<◌, ◌≡◌, ℕ, ◌+◌, ◌≤◌, List, [], ◌∷◌, Option, Some, None}
 use Rattle.arena.specs.declared.layout.Layout.{Layout}
 use Rattle.arena.specs.declared.step.Row.{Row}
 use Rattle.arena.specs.History.{History, Start, ◌⊳◌, value, Extends}
@@ -9,7 +9,8 @@ use Rattle.ordered_map.specs.OrderedMap.{MapCall, MapEdit, MapReply, after, repl
 use Rattle.ordered_map.specs.Runs.{Makes}
 use Rattle.ordered_map.specs.Spelled.{Spells}
 use Rattle.dict.specs.Calls.{AsksForPairs}
-use Rattle.ordered_map.specs.CallRules.{MayReply, form_of, most_steps}
+use Rattle.ordered_map.specs.CallRules.{MayReply, form_of, most_nodes, most_steps}
+use Rattle.edits.specs.Tries.{HasOnlyLooked}
 use Rattle.dict.specs.Says.{HasMadeRow}
 use Rattle.ordered_map.specs.Replies.{told_of}
 use Rattle.ordered_map.specs.declared.reply.Reply.{Reply}
@@ -50,13 +51,15 @@ pub record IsEnteredCall (lay : Layout) (versions : History → List Pair) (old 
   pub leaves : versions (row ⊳ before) ≡ after call (versions before)
 
 -- A reading call has no entry; its reply is that of the version at a moment from its first own row to
--- its end. A range that takes no pair makes no row, and replies what every map does.
+-- its end. A range that takes no pair makes no row, and replies what every map does. A call that may
+-- take nodes has only looked in its newest try.
 pub record IsReadCall (versions : History → List Pair) (old new : PassView) (call : MapCall) (told : MapReply) : Type 0 where
   pub moment : History
   pub within : Extends (run_of new) moment
   pub since : Extends moment (run_of old)
   pub own : AsksForPairs call → HasMadeRow old.number (run_of old) moment
   pub gives : reply call (versions moment) ≡ told
+  pub only_looked : 0 < most_nodes call → HasOnlyLooked old.number (run_of new) (run_of old)
   pub done : done_of new ≡ done_of old
 
 -- the call has changed the map by this edit, or has read it

@@ -16,20 +16,20 @@ finish-requires-clause-all c =
 
 pub returns-in-Err-clause-fault : goal.returns-in-Err-clause-fault
 returns-in-Err-clause-fault c = λ row e.
-    let before = c.rows_before-before.ensures in
-    let less = c.at.ensures row (err_same _ _ _ refl e) in
-    fault_before c.args.«record».now row (omega (arith, before, less))
+    let first = c.first_row-first.ensures in
+    let at = c.at.ensures row (err_same _ _ _ refl e) in
+    fault_before c.args.«record».now row (rw first at at.0) (rw first at at.1)
 
 pub returns-in-Err-line-clause-fault : goal.returns-in-Err-line-clause-fault
 returns-in-Err-line-clause-fault c = λ row e.
     let inv = c.loop-at.invariant in
     let more = c.loop-at-test.true in
     let many = c.len-at-end.ensures in
-    let all = c.args.«record».now.lines.ok.0 in
-    let before = c.rows_before-before.ensures in
-    let there = c.row_of.ensures in
-    let less = c.at-in-Err-line.ensures row (err_same _ _ _ refl e) in
-    fault_behind c.loop-at.run c.args.«record».now c.loop-at.at row inv.same inv.at inv.after (omega (arith, more, many, all, before, there, less)) (omega (arith, before, there, less))
+    let first = c.first_row-first.ensures in
+    let at = c.at-in-Err-line.ensures row (err_same _ _ _ refl e) in
+    let from = at.0 in
+    let to = at.1 in
+    fault_behind c.loop-at.run c.args.«record».now c.loop-at.at row inv.same inv.at inv.after (omega (arith, first, from)) (omega (arith, more, many, first, to)) (omega (arith, first, to))
 
 pub returns-in-Err-finish-clause-fault : goal.returns-in-Err-finish-clause-fault
 returns-in-Err-finish-clause-fault c = λ row e.
@@ -37,8 +37,8 @@ returns-in-Err-finish-clause-fault c = λ row e.
     let over = c.loop-at-test.false in
     let end = c.len-at-end.ensures in
     let many = c.len.ensures in
-    let all = c.args.«record».now.lines.ok.0 in
-    let before = c.rows_before-before.ensures in
-    let there = c.row_of-in-Err-finish.ensures in
-    let less = c.at-in-Err-finish.ensures row (err_same _ _ _ refl e) in
-    fault_behind c.loop-at.run c.args.«record».now c.loop-at.at row inv.same inv.at inv.after (omega (arith, many, all, before, there, less)) (omega (arith, over, end, many, before, there, less))
+    let first = c.first_row-first.ensures in
+    let at = c.at-in-Err-finish.ensures row (err_same _ _ _ refl e) in
+    let from = at.0 in
+    let to = at.1 in
+    fault_behind c.loop-at.run c.args.«record».now c.loop-at.at row inv.same inv.at inv.after (omega (arith, first, from)) (omega (arith, many, first, to)) (omega (arith, over, end, many, first, to))

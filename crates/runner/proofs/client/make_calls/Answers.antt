@@ -7,7 +7,7 @@ use Rattle.runner.proofs.client.make_calls.Goals as goal
 pub loop-call-preserved : goal.loop-call-preserved
 loop-call-preserved g c =
     let client = c.call-item.result.client.0 in
-    let number : c.eq.result ≡ eqb client c.args.pass.number = c.eq.ensures ∙ ap (eqb client) c.number-client.ensures in
+    let number : c.eq.result ≡ eqb client c.args.pass.number = c.eq.ensures ∙ ap (eqb client) c.number-client.ensures.is in
     let inv = c.loop-call.invariant in
     elim c.if-eq.branch [
       | then-eq+in_ok-push w ↦

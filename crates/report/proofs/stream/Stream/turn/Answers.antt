@@ -18,6 +18,7 @@ returns-in_err-put_lines-clause-cut g c = λ start p x.
     (λ ended. record {
       more = c.step_into.new.more.items;
       turn = c.in_ok-step_into.ensures.turn p x.stands;
+      played = stands_played _ _ (c.in_ok-step_into.ensures.stands p x.stands);
       text = first_of_both _ _ _ (text_more p c.step_into.new.more.items) _ _ x.text;
     })
 
@@ -28,6 +29,7 @@ returns-in_err-send-clause-cut g c = λ start p x.
     (λ ended. record {
       more = c.step_into.new.more.items;
       turn = c.in_ok-step_into.ensures.turn p x.stands;
+      played = stands_played _ _ (c.in_ok-step_into.ensures.stands p x.stands);
       text = part_of_second _ _ _ (text_more p c.step_into.new.more.items) _ _ _ x.text (rw rows at c.in_err-send.ensures.beginning);
     })
 
@@ -38,6 +40,7 @@ returns-in_err-flush-clause-cut g c = λ start p x.
     (λ ended. record {
       more = c.step_into.new.more.items;
       turn = c.in_ok-step_into.ensures.turn p x.stands;
+      played = stands_played _ _ (c.in_ok-step_into.ensures.stands p x.stands);
       text = all_begins _ _ _ (then_kept _ _ _ _ (both_out _ _ _ (text_more p c.step_into.new.more.items) _ _ _ x.text (rw rows at c.in_ok-send.ensures.all)) c.flush.ensures.bytes);
     })
 
