@@ -56,7 +56,8 @@ impl<S: Shape> Pass<S> {
 
     /// Which of the forest's passes it is.
     pub fn number(&self) -> PassNo
-        ensures { result.0 ≡ self.now.number }
+        ensures is { result.0 ≡ self.now.number }
+        ensures inside { result.0 < self.now.layout.passes }
     {
         self.number
     }

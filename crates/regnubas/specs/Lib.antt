@@ -1,17 +1,28 @@
--- What the contracts of the crate's items cite, passed on from one place. Declares nothing.
+-- What the contracts of the crate's items cite, passed on from one place.
+pub mod Types
+pub mod Versions
 pub use Rattle.arena.specs.History
+pub use Rattle.arena.specs.Lawful
 pub use Rattle.arena.specs.Layout
 pub use Rattle.arena.specs.Limits
 pub use Rattle.arena.specs.Log
+pub use Rattle.arena.specs.Machines
 pub use Rattle.arena.specs.PlainWords
 pub use Rattle.arena.specs.Share
+pub use Rattle.arena.specs.TakenNodes
+pub use Rattle.arena.specs.Words as TableWords
 pub use Rattle.prims.specs.Cells
 pub use Rattle.prims.specs.Snaps
 pub use Rattle.ordered_map.specs.CallRules
+pub use Rattle.ordered_map.specs.Laws
+pub use Rattle.ordered_map.specs.MapLaws
 pub use Rattle.ordered_map.specs.OrderedMap
+pub use Rattle.ordered_map.specs.Paths
 pub use Rattle.ordered_map.specs.Replies
 pub use Rattle.ordered_map.specs.Requests
+pub use Rattle.ordered_map.specs.Runs
 pub use Rattle.ordered_map.specs.Spelled
+pub use Rattle.ordered_map.specs.TreeWords
 pub use Rattle.dict.specs.Calls
 pub use Rattle.dict.specs.Names
 pub use Rattle.dict.specs.Says
@@ -20,5 +31,7 @@ pub use Rattle.dict.specs.Words
 pub use Rattle.forest.specs.Dictionary
 pub use Rattle.forest.specs.Opened
 pub use Rattle.forest.specs.Passes
+pub use Rattle.forest.specs.Shares
 pub use Rattle.forest.specs.StepKinds
+pub use Rattle.forest.specs.TableRule
 pub use Rattle.forest.specs.Traces

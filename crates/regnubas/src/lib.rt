@@ -37,9 +37,13 @@
 //!                                               // Scx::Done: its left field is the fresh cell 9
 //!     cells.close(passes).cell(NodeNo(1))       // Some((9, 0))
 
+mod laws;
+
 pub use arena::{
     BadLimits, Full, Kind, Limits, NoMemory, NodeNo, PassNo, Resource, ScxNo, Shape, Side,
 };
 pub use dict::{Dict, Name8, Reply, Request, WordKey, WordValue};
 pub use forest::{Closed, Forest, NewFault, OpenCall, OrderFault, Pass, Stepped, UpdateFault};
+pub use laws::version_laws_hold;
+pub use ordered_map::{laws_hold, map_laws_hold};
 pub use prims::{Cells, Llx, Scx, Snap, Vlx};

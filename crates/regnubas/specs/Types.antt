@@ -1,0 +1,13 @@
+-- The types that contracts name, passed on from one place. Declares nothing.
+pub use Rattle.arena.specs.declared.layout.Layout.{Layout}
+pub use Rattle.arena.specs.declared.limits.Mode.{Mode}
+pub use Rattle.arena.specs.declared.limits.Mode.TheVariants.{Tree, Records}
+pub use Rattle.arena.specs.declared.step.Row.{Row}
+pub use Rattle.arena.specs.declared.word.Side.{Side}
+pub use Rattle.arena.specs.declared.word.Side.TheVariants.{Left, Right}
+pub use Rattle.arena.specs.declared.word.Word.{Word}
+pub use Rattle.prims.specs.declared.snap.Snap.{Snap}
+pub use Rattle.ordered_map.specs.declared.pair.Pair.{Pair}
+pub use Rattle.forest.specs.declared.fault.NewFault.{NewFault}
+pub use Rattle.forest.specs.declared.fault.OrderFault.{OrderFault}
+pub use Rattle.forest.specs.declared.fault.UpdateFault.{UpdateFault}

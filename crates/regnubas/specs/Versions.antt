@@ -1,0 +1,37 @@
+-- What follows from several calls of a dictionary together: where no pass has made an entry, the map
+-- is the same.
+use Rattle.std.specs.Prelude.{◌≡◌, ◌<◌, ℕ, List}
+use Rattle.arena.specs.declared.layout.Layout.{Layout}
+use Rattle.arena.specs.declared.limits.Mode.TheVariants.{Tree}
+use Rattle.arena.specs.History.{History, ◌⊳◌, value, Extends}
+use Rattle.arena.specs.Lawful.{Lawful}
+use Rattle.arena.specs.Log.{log}
+use Rattle.arena.specs.Machines.{IsRun}
+use Rattle.ordered_map.specs.declared.pair.Pair.{Pair}
+use Rattle.ordered_map.specs.OrderedMap.{MapCall, MapEdit, MapReply}
+use Rattle.ordered_map.specs.Runs.{IsTreeRun}
+use Rattle.ordered_map.specs.Spelled.{Spells}
+use Rattle.forest.specs.Dictionary.{IsChange}
+use Rattle.forest.specs.Passes.{PassView, IsLaterView, run_of}
+use Rattle.forest.specs.Shares.{entries_of}
+
+-- from the one moment to the later one pass c has made no entry
+abbrev pub IsQuiet : Layout → ℕ → History → History → Type 0
+IsQuiet lay c later before = entries_of c (log lay later) ≡ entries_of c (log lay before)
+
+-- what a caller may conclude of a dictionary, whose calls say of a run what it allows
+pub record VersionLaws (allows : Layout → History → ℕ → Type 0) : Type 0 where
+  -- its run is one of the tree, of which `laws_hold` speaks
+  pub runs : (lay : Layout) (h : History) → lay.mode ≡ Tree → IsRun allows lay h → IsTreeRun lay h
+  -- a call that has changed the map has made no other entry
+  pub newest : (old new : PassView) (call : MapCall) (told : MapReply) (edit : MapEdit) → Lawful new.layout (run_of new) → IsLaterView old new
+      → (c : IsChange old new call told edit) → IsQuiet new.layout new.number (run_of new) (c.row ⊳ c.before)
+  -- who has made no entry between two moments has made none before one that lies between them, nor
+  -- behind it
+  pub earlier : (lay : Layout) (c : ℕ) (h moment before : History) → Lawful lay h → Extends h moment → Extends moment before
+      → IsQuiet lay c h before → IsQuiet lay c moment before
+  pub later : (lay : Layout) (c : ℕ) (h moment before : History) → Lawful lay h → Extends h moment → Extends moment before
+      → IsQuiet lay c h before → IsQuiet lay c h moment
+  -- between two moments of a run at which no pass has made an entry the map stays
+  pub stays : (lay : Layout) (h moment before : History) → IsTreeRun lay h → Extends h moment → Extends moment before
+      → ((c : ℕ) → c < lay.passes → IsQuiet lay c moment before) → (m n : List Pair) → Spells lay (value before) m → Spells lay (value moment) n → n ≡ m
