@@ -199,7 +199,7 @@ class Pass:
 def make(passes, nodes, scx, tries):
     """A dictionary with so many passes, 1 to 32. Each may take 0 to 32,768 nodes and as many
     SCX-records, and tries a call 1 to 1,000 times. A change takes a node and an SCX-record in a try;
-    a new key, where its leaf is full, three nodes."""
+    the first key, or a new one in a full leaf, three nodes."""
     each = _Limits(_word(nodes, 32), _word(scx, 32), _word(tries, 32))
     raw = (_Pass * _word(passes, 16))()
     status = _library.regnubas_make(each, raw, passes)

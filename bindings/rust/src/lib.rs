@@ -19,8 +19,8 @@ use std::fmt;
 use std::ptr::null_mut;
 
 /// What each pass may take in the life of the dictionary: 0 to 32,768 nodes and as many SCX-records;
-/// and how often a call tries, 1 to 1,000. A change takes a node and an SCX-record in a try; a new
-/// key, where its leaf is full, three nodes.
+/// and how often a call tries, 1 to 1,000. A change takes a node and an SCX-record in a try; the
+/// first key, or a new one in a full leaf, three nodes.
 #[repr(C)]
 #[derive(Clone, Copy, Debug, PartialEq, Eq)]
 pub struct Limits {

@@ -11,7 +11,9 @@ use Rattle.forest.specs.declared.fault.OrderFault.{OrderFault}
 use Rattle.forest.specs.declared.fault.OrderFault.TheVariants as reads
 use Rattle.forest.specs.declared.fault.UpdateFault.{UpdateFault}
 use Rattle.forest.specs.declared.fault.UpdateFault.TheVariants as updates
-use Rattle.forest.specs.Dictionary.{HasMadeCall, IsReading, UpdateSays, PopSays, SuccessorSays, RangeSays, blamed_by_update, blamed_by_read}
+use Rattle.dict.specs.Calls.{AsksForPairs}
+use Rattle.forest.specs.StepKinds.{HasKeptToKinds}
+use Rattle.forest.specs.Dictionary.{HasMadeCall, HasSpentAtMost, IsReading, UpdateSays, PopSays, SuccessorSays, RangeSays, blamed_by_update, blamed_by_read}
 use Rattle.capi.specs.Left.{AreLeft}
 use Rattle.capi.specs.Made.{AreMade}
 use Rattle.capi.specs.declared.answer.Answer.{Answer}
@@ -87,10 +89,18 @@ IsCountOfRange (Err fault) room a = a ≡ no_count (order_status fault)
 
 -- What a call says of the pass that has made it
 
--- the pass has made this call, and blames these now: what it knows is lawful, and goes on from what
--- it knew by no more steps of its own than such a call takes
-abbrev pub HasClientCalled : Client → Client → MapCall → List ℕ → Type 0
-HasClientCalled old new call blamed = HasMadeCall (λ k. k < 2 ^ 64) (λ k. k) (λ v. v < 2 ^ 128) (λ v. v) (arc_value old.forest).tries (arc_value old.forest).layout old.pass new.pass call blamed
+-- the pass has made this call, and blames these now
+pub record HasClientCalled (old new : Client) (call : MapCall) (blamed : List ℕ) : Type 0 where
+  -- what it knows is lawful, and goes on from what it knew by no more steps of its own than such a
+  -- call takes
+  pub goes_on : HasMadeCall (λ k. k < 2 ^ 64) (λ k. k) (λ v. v < 2 ^ 128) (λ v. v) (arc_value old.forest).tries (arc_value old.forest).layout old.pass new.pass call blamed
+  -- it has begun a try only once all before it were lost to other passes, and of its share no more is
+  -- gone than the tries that it has begun may take
+  pub spends : HasSpentAtMost old.pass new.pass call (arc_value old.forest).tries
+  -- its steps are of the kinds that such a call makes
+  pub kinds : HasKeptToKinds old.pass new.pass call
+  -- a range that asks for no pairs has left the pass as it was
+  pub nothing : ¬ AsksForPairs call → new.pass ≡ old.pass
 
 -- what a handle held before and after a call, and what the call answered: with no pass nothing is
 -- done, and it answers this; else the pass, which stays in its forest, has made this call

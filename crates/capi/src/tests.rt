@@ -46,7 +46,7 @@ fn the_last_pass_closes(rt: HostRuntime) -> Result<(), Fail> {
     let [mut first, mut second] = passes;
     let new = regnubas_insert(alloc, &mut first, 7, WIDE);
     assert_eq!(rt; told(new), (NONE, 0, 0));
-    let new = regnubas_insert(alloc, &mut first, 9, OTHER);
+    let new = regnubas_insert(alloc, &mut second, 9, OTHER);
     assert_eq!(rt; told(new), (NONE, 0, 0));
     let kept = regnubas_replace_if(alloc, &mut second, 7, OTHER, OTHER);
     assert_eq!(rt; told(kept), (SOME, 8, 3));
