@@ -5,7 +5,7 @@ use crate::files::list_of;
 use crate::finding::Finding;
 use crate::refusal::Refusal;
 use crate::words::Words;
-use anyhow::Result;
+use anyhow::{Context, Result};
 use std::rt::Files;
 use std::sync::Wait;
 use std::thread::Threads;
@@ -34,11 +34,35 @@ impl Told {
         rt: &R,
     ) -> Result<()> {
         for line in list_of(rt, "cases.txt")?.as_str().lines() {
-            if !line.starts_with('#') {
+            if let Some(rest) = line.strip_prefix("all ") {
+                let (count, case) = rest.split_once(' ').context(line)?;
+                let finding = self.numbered(rt, count.parse().ok().context(line)?, case)?;
+                self.tell(rt, line, finding)?;
+            } else if !line.starts_with('#') {
                 self.tell(rt, line, Case::of(line)?.find(rt)?)?;
             }
         }
         Ok(())
+    }
+
+    /// So many in folders of this case's folder, from `000` on: how the last one ends that does not end
+    /// as it has to. Tells of each such one.
+    fn numbered<R: Files + Print + AllocGlobal + Threads + Wait + Sync>(
+        &mut self,
+        rt: &R,
+        count: u32,
+        case: &str,
+    ) -> Result<Finding> {
+        let mut found = Finding::AsExpected;
+        for number in 0..count {
+            let line = format!(in rt.alloc(); "{case}/{number:03}")?;
+            let finding = Case::of(line.as_str())?.find(rt)?;
+            if finding != Finding::AsExpected {
+                self.tell(rt, line.as_str(), finding)?;
+                found = finding;
+            }
+        }
+        Ok(found)
     }
 
     /// Texts that are refused.
